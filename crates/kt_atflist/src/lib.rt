@@ -1,0 +1,10 @@
+//! What asking an ATF program for its list of test cases gives.
+#![tactic(auto)]
+
+mod list_bytes;
+mod listing;
+#[cfg(test)]
+mod tests;
+
+pub use list_bytes::ListBytes;
+pub use listing::Listing;

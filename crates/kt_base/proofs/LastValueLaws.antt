@@ -1,0 +1,121 @@
+-- The laws of names with their last values.
+use Rattle.std.proofs.Common.{◌≡◌, ℕ, Bool, true, false, not, List, [], ◌∷◌, ◌++◌, refl, sym, ap, ◌∙◌, subst, Option, Some, None, append-nil}
+use Rattle.std.specs.Prelude.{if◌then◌else◌, unwrap_or, IsSome}
+use Rattle.std.specs.Str.{bytes_eq}
+use Rattle.std.proofs.lemmas.List.Elements.{filter-append}
+use Rattle.kt_base.specs.declared.variable.Variable.{Variable}
+use Rattle.kt_base.specs.LastValues.{is_named, later, value_of, without, last_values, IsReplaced}
+use Rattle.kt_base.proofs.Names.{same, same-flip, later-none, later-some, unwrap-later, value_of-append, without-same, without-other, without-twice, last_values-without}
+
+-- what a pair that stands first is in the last values
+abbrev first_of : Variable → List Variable → Variable
+first_of pair pairs = record { name = pair.name; value = unwrap_or (value_of pair.name pairs) pair.value }
+
+-- a name's value
+value_next : (name : List ℕ) (x : Variable) (xs : List Variable) → value_of name (last_values xs) ≡ value_of name xs
+    → (b : Bool) → is_named name x ≡ b → value_of name (last_values (x ∷ xs)) ≡ value_of name (x ∷ xs)
+value_next name x xs h true e =
+    let n : name ≡ x.name = same name x.name e in
+    let gone : value_of name (without x.name (last_values xs)) ≡ None = subst (λ (m : List ℕ). value_of name (without m (last_values xs)) ≡ None) n (without-same name (last_values xs)) in
+    rw (gone, e) (ap (λ (m : List ℕ). Some (unwrap_or (value_of m xs) x.value)) (sym n) ∙ sym (later-some (value_of name xs) x.value))
+value_next name x xs h false e = rw (without-other name x.name (last_values xs) e, e, h) refl
+
+pub value_is : (name : List ℕ) (xs : List Variable) → value_of name (last_values xs) ≡ value_of name xs
+value_is name [] = refl
+value_is name (x ∷ xs) = value_next name x xs (value_is name xs) (is_named name x) refl
+
+-- one list laid over another
+pub overlaid : (under over : List Variable) → last_values (last_values under ++ last_values over) ≡ last_values (under ++ over)
+overlaid [] [] = refl
+overlaid [] (y ∷ ys) =
+    rw (without-same y.name (last_values ys), last_values-without y.name (last_values ys), without-twice y.name (last_values (last_values ys)), overlaid [] ys) refl
+overlaid (x ∷ xs) over =
+    let rest : value_of x.name (without x.name (last_values xs) ++ last_values over) ≡ value_of x.name over
+    = value_of-append x.name (without x.name (last_values xs)) (last_values over)
+    ∙ ap (λ (o : Option (List ℕ)). later (value_of x.name (last_values over)) o) (without-same x.name (last_values xs))
+    ∙ later-none (value_of x.name (last_values over)) ∙ value_is x.name over in
+    let head : unwrap_or (value_of x.name (without x.name (last_values xs) ++ last_values over)) (unwrap_or (value_of x.name xs) x.value) ≡ unwrap_or (value_of x.name (xs ++ over)) x.value
+    = ap (λ (o : Option (List ℕ)). unwrap_or o (unwrap_or (value_of x.name xs) x.value)) rest
+    ∙ sym (unwrap-later (value_of x.name over) (value_of x.name xs) x.value)
+    ∙ ap (λ (o : Option (List ℕ)). unwrap_or o x.value) (sym (value_of-append x.name xs over)) in
+    let tail : without x.name (last_values (without x.name (last_values xs) ++ last_values over)) ≡ without x.name (last_values (xs ++ over))
+    = sym (last_values-without x.name (without x.name (last_values xs) ++ last_values over))
+    ∙ ap last_values (filter-append (λ pair. not (is_named x.name pair)) (without x.name (last_values xs)) (last_values over)
+    ∙ ap (λ (ps : List Variable). ps ++ without x.name (last_values over)) (without-twice x.name (last_values xs))
+    ∙ sym (filter-append (λ pair. not (is_named x.name pair)) (last_values xs) (last_values over)))
+    ∙ last_values-without x.name (last_values xs ++ last_values over)
+    ∙ ap (without x.name) (overlaid xs over) in
+    rw (head, tail) refl
+
+-- a further pair does not change the value of another name
+value_of-further : (name : List ℕ) (xs : List Variable) (pair : Variable) → bytes_eq name pair.name ≡ false → value_of name (xs ++ pair ∷ []) ≡ value_of name xs
+value_of-further name xs pair other = value_of-append name xs (pair ∷ []) ∙ rw other refl
+
+-- it does not show where its name is taken out
+without-further : (name : List ℕ) (xs : List Variable) (pair : Variable) → bytes_eq name pair.name ≡ true → without name (xs ++ pair ∷ []) ≡ without name xs
+without-further name xs pair e = filter-append (λ p. not (is_named name p)) xs (pair ∷ []) ∙ rw e (append-nil (without name xs))
+
+-- a first pair of another name stays as it is
+first-further : (x pair : Variable) (xs : List Variable) → bytes_eq x.name pair.name ≡ false → first_of x (xs ++ pair ∷ []) ≡ first_of x xs
+first-further x pair xs other = rw (value_of-further x.name xs pair other) refl
+
+none-parts : (a b : Option (List ℕ)) → later a b ≡ None → (a ≡ None) × (b ≡ None)
+none-parts None b e = (refl, e)
+none-parts (Some value) b e = absurd (cc)
+
+not_first : (b : Bool) (value : List ℕ) → (if b then Some value else None) ≡ None → b ≡ false
+not_first true value e = absurd (cc)
+not_first false value e = refl
+
+pub appended : (xs : List Variable) (pair : Variable) → value_of pair.name xs ≡ None → last_values (xs ++ pair ∷ []) ≡ last_values xs ++ pair ∷ []
+appended [] pair none = refl
+appended (x ∷ xs) pair none =
+    let parts = none-parts (value_of pair.name xs) (if is_named pair.name x then Some x.value else None) none in
+    let other : bytes_eq x.name pair.name ≡ false = same-flip x.name pair.name ∙ not_first (is_named pair.name x) x.value parts.1 in
+    rw (value_of-further x.name xs pair other, appended xs pair parts.0, filter-append (λ p. not (is_named x.name p)) (last_values xs) (pair ∷ []), other) refl
+
+some_left : (a : Option (List ℕ)) → IsSome (later a None) → IsSome a
+some_left None s = s
+some_left (Some value) s = refl
+
+replaced_here : (x pair : Variable) (xs : List Variable) → is_named pair.name x ≡ true → IsReplaced pair (last_values (x ∷ xs)) (last_values (x ∷ xs ++ pair ∷ []))
+replaced_here x pair xs e =
+    let n : pair.name ≡ x.name = same pair.name x.name e in
+    let f : bytes_eq x.name pair.name ≡ true = same-flip x.name pair.name ∙ e in
+    let value : value_of x.name (xs ++ pair ∷ []) ≡ Some pair.value = value_of-append x.name xs (pair ∷ []) ∙ rw f refl in
+    let tail : without x.name (last_values (xs ++ pair ∷ [])) ≡ without x.name (last_values xs)
+    = sym (last_values-without x.name (xs ++ pair ∷ [])) ∙ ap last_values (without-further x.name xs pair f) ∙ last_values-without x.name xs in
+    record {
+      front = [];
+      back = without x.name (last_values xs);
+      before = first_of x xs;
+      name = sym n;
+      old_is = refl;
+      new_is = rw (value, tail, ← n) refl;
+    }
+
+replaced_later : (x pair : Variable) (xs : List Variable) → bytes_eq x.name pair.name ≡ false → IsReplaced pair (last_values xs) (last_values (xs ++ pair ∷ []))
+    → IsReplaced pair (last_values (x ∷ xs)) (last_values (x ∷ xs ++ pair ∷ []))
+replaced_later x pair xs other r =
+    let split : (p : Variable) → p.name ≡ pair.name → without x.name (r.front ++ p ∷ r.back) ≡ without x.name r.front ++ p ∷ without x.name r.back
+    = λ p n. filter-append (λ q. not (is_named x.name q)) r.front (p ∷ r.back) ∙ rw (ap (bytes_eq x.name) n ∙ other) refl in
+    record {
+      front = first_of x xs ∷ without x.name r.front;
+      back = without x.name r.back;
+      before = r.before;
+      name = r.name;
+      old_is = ap (λ (ps : List Variable). first_of x xs ∷ ps) (ap (without x.name) r.old_is ∙ split r.before r.name);
+      new_is = ap (λ (v : Variable). v ∷ without x.name (last_values (xs ++ pair ∷ []))) (first-further x pair xs other)
+          ∙ ap (λ (ps : List Variable). first_of x xs ∷ ps) (ap (without x.name) r.new_is ∙ split pair refl);
+    }
+
+replaced_cases : (x pair : Variable) (xs : List Variable) (b : Bool) → is_named pair.name x ≡ b → IsSome (later (value_of pair.name xs) (if is_named pair.name x then Some x.value else None))
+    → (IsSome (value_of pair.name xs) → IsReplaced pair (last_values xs) (last_values (xs ++ pair ∷ []))) → IsReplaced pair (last_values (x ∷ xs)) (last_values (x ∷ xs ++ pair ∷ []))
+replaced_cases x pair xs true e s go = replaced_here x pair xs e
+replaced_cases x pair xs false e s go =
+    let t : IsSome (later (value_of pair.name xs) None) = rw e at s in
+    replaced_later x pair xs (same-flip x.name pair.name ∙ e) (go (some_left (value_of pair.name xs) t))
+
+pub replaced : (xs : List Variable) (pair : Variable) → IsSome (value_of pair.name xs) → IsReplaced pair (last_values xs) (last_values (xs ++ pair ∷ []))
+replaced [] pair s = absurd (cc)
+replaced (x ∷ xs) pair s = replaced_cases x pair xs (is_named pair.name x) refl s (λ t. replaced xs pair t)

@@ -1,0 +1,99 @@
+-- Pairs by their names.
+use Rattle.std.proofs.Common.{◌≡◌, ℕ, Bool, true, false, List, [], ◌∷◌, ◌++◌, refl, sym, ap, ◌∙◌, subst, Option, Some, None}
+use Rattle.std.specs.Prelude.{if◌then◌else◌, unwrap_or}
+use Rattle.std.specs.Str.{bytes_eq}
+use Rattle.std.proofs.lemmas.Slice.Eq.{bytes_eq-Decides}
+use Rattle.kt_base.specs.declared.variable.Variable.{Variable}
+use Rattle.kt_base.specs.LastValues.{is_named, later, value_of, without, last_values}
+
+pub same : (m n : List ℕ) → bytes_eq m n ≡ true → m ≡ n
+same m n e = (bytes_eq-Decides m n).0 e
+
+pub same-refl : (n : List ℕ) → bytes_eq n n ≡ true
+same-refl n = (bytes_eq-Decides n n).1 refl
+
+flipped : (m n : List ℕ) (b c : Bool) → bytes_eq m n ≡ b → bytes_eq n m ≡ c → b ≡ c
+flipped m n true true e f = refl
+flipped m n false false e f = refl
+flipped m n true false e f = absurd (let g : n ≡ m = sym (same m n e) in let h : bytes_eq n m ≡ true = subst (λ (x : List ℕ). bytes_eq n x ≡ true) g (same-refl n) in cc)
+flipped m n false true e f = absurd (let g : m ≡ n = sym (same n m f) in let h : bytes_eq m n ≡ true = subst (λ (x : List ℕ). bytes_eq m x ≡ true) g (same-refl m) in cc)
+
+pub same-flip : (m n : List ℕ) → bytes_eq m n ≡ bytes_eq n m
+same-flip m n = flipped m n (bytes_eq m n) (bytes_eq n m) refl refl
+
+pub later-none : (o : Option (List ℕ)) → later o None ≡ o
+later-none None = refl
+later-none (Some value) = refl
+
+pub later-later : (a b c : Option (List ℕ)) → later a (later b c) ≡ later (later a b) c
+later-later None b c = refl
+later-later (Some value) b c = refl
+
+pub later-some : (o : Option (List ℕ)) (value : List ℕ) → later o (Some value) ≡ Some (unwrap_or o value)
+later-some None value = refl
+later-some (Some v) value = refl
+
+pub unwrap-later : (a b : Option (List ℕ)) (value : List ℕ) → unwrap_or (later a b) value ≡ unwrap_or a (unwrap_or b value)
+unwrap-later None b value = refl
+unwrap-later (Some v) b value = refl
+
+-- the value in two lists
+pub value_of-append : (name : List ℕ) (xs ys : List Variable) → value_of name (xs ++ ys) ≡ later (value_of name ys) (value_of name xs)
+value_of-append name [] ys = sym (later-none (value_of name ys))
+value_of-append name (x ∷ xs) ys =
+    ap (λ (o : Option (List ℕ)). later o (if is_named name x then Some x.value else None)) (value_of-append name xs ys)
+    ∙ sym (later-later (value_of name ys) (value_of name xs) (if is_named name x then Some x.value else None))
+
+-- the value of the name that was taken out, and of another
+without-same-next : (name : List ℕ) (x : Variable) (xs : List Variable) → value_of name (without name xs) ≡ None → (b : Bool) → is_named name x ≡ b → value_of name (without name (x ∷ xs)) ≡ None
+without-same-next name x xs h true e = rw e h
+without-same-next name x xs h false e = rw (e, h, e) refl
+
+pub without-same : (name : List ℕ) (xs : List Variable) → value_of name (without name xs) ≡ None
+without-same name [] = refl
+without-same name (x ∷ xs) = without-same-next name x xs (without-same name xs) (is_named name x) refl
+
+-- another name keeps its value
+without-other-next : (m n : List ℕ) (x : Variable) (xs : List Variable) → bytes_eq m n ≡ false → value_of m (without n xs) ≡ value_of m xs
+    → (b : Bool) → is_named n x ≡ b → value_of m (without n (x ∷ xs)) ≡ value_of m (x ∷ xs)
+without-other-next m n x xs other h true e =
+    let not_m : is_named m x ≡ false = subst (λ (y : List ℕ). bytes_eq m y ≡ false) (same n x.name e) other in
+    rw (e, not_m, h) (sym (later-none (value_of m xs)))
+without-other-next m n x xs other h false e = rw (e, h) refl
+
+pub without-other : (m n : List ℕ) (xs : List Variable) → bytes_eq m n ≡ false → value_of m (without n xs) ≡ value_of m xs
+without-other m n [] other = refl
+without-other m n (x ∷ xs) other = without-other-next m n x xs other (without-other m n xs other) (is_named n x) refl
+
+-- taken out twice, or one name and then another
+without-twice-next : (name : List ℕ) (x : Variable) (xs : List Variable) → without name (without name xs) ≡ without name xs
+    → (b : Bool) → is_named name x ≡ b → without name (without name (x ∷ xs)) ≡ without name (x ∷ xs)
+without-twice-next name x xs h true e = rw e h
+without-twice-next name x xs h false e = rw (e, e, h) refl
+
+pub without-twice : (name : List ℕ) (xs : List Variable) → without name (without name xs) ≡ without name xs
+without-twice name [] = refl
+without-twice name (x ∷ xs) = without-twice-next name x xs (without-twice name xs) (is_named name x) refl
+
+without-swap-next : (m n : List ℕ) (x : Variable) (xs : List Variable) → without m (without n xs) ≡ without n (without m xs)
+    → (a b : Bool) → is_named m x ≡ a → is_named n x ≡ b → without m (without n (x ∷ xs)) ≡ without n (without m (x ∷ xs))
+without-swap-next m n x xs h true true d e = rw (e, d) h
+without-swap-next m n x xs h true false d e = rw (d, e, d) h
+without-swap-next m n x xs h false true d e = rw (d, e) h
+without-swap-next m n x xs h false false d e = rw (d, e, d) (ap (λ (ps : List Variable). x ∷ ps) h)
+
+pub without-swap : (m n : List ℕ) (xs : List Variable) → without m (without n xs) ≡ without n (without m xs)
+without-swap m n [] = refl
+without-swap m n (x ∷ xs) = without-swap-next m n x xs (without-swap m n xs) (is_named m x) (is_named n x) refl refl
+
+last_values-without-next : (name : List ℕ) (x : Variable) (xs : List Variable) → last_values (without name xs) ≡ without name (last_values xs)
+    → (b : Bool) → is_named name x ≡ b → last_values (without name (x ∷ xs)) ≡ without name (last_values (x ∷ xs))
+last_values-without-next name x xs h true e =
+    rw e (h ∙ sym (without-twice name (last_values xs)) ∙ ap (λ (n : List ℕ). without name (without n (last_values xs))) (same name x.name e))
+last_values-without-next name x xs h false e =
+    let other : bytes_eq x.name name ≡ false = same-flip x.name name ∙ e in
+    rw (e, without-other x.name name xs other, h, without-swap x.name name (last_values xs)) refl
+
+pub last_values-without : (name : List ℕ) (xs : List Variable) → last_values (without name xs) ≡ without name (last_values xs)
+last_values-without name [] = refl
+last_values-without name (x ∷ xs) = last_values-without-next name x xs (last_values-without name xs) (is_named name x) refl

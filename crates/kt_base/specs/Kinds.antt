@@ -1,0 +1,20 @@
+-- The kinds of verdicts.
+use Rattle.std.specs.Prelude.{ℕ, Bool, true, false, List, codes}
+use Rattle.kt_base.specs.declared.kind.Kind.{Kind}
+use Rattle.kt_base.specs.declared.kind.Kind.TheVariants.{Passed, Skipped, ExpectedFailure, Failed, Broken}
+
+-- a kind that counts as a success
+abbrev pub good : Kind → Bool
+good Passed = true
+good Skipped = true
+good ExpectedFailure = true
+good Failed = false
+good Broken = false
+
+-- the word by which a report names a kind
+abbrev pub word : Kind → List ℕ
+word Passed = codes "passed"
+word Skipped = codes "skipped"
+word ExpectedFailure = codes "expected_failure"
+word Failed = codes "failed"
+word Broken = codes "broken"

@@ -1,0 +1,37 @@
+-- Names with their last values.
+use Rattle.std.specs.Prelude.{◌≡◌, ℕ, Bool, not, List, [], ◌∷◌, ◌++◌, Option, Some, None, unwrap_or, if◌then◌else◌}
+use Rattle.std.specs.List.{filter}
+use Rattle.std.specs.Str.{bytes_eq}
+use Rattle.kt_base.specs.declared.variable.Variable.{Variable}
+
+-- whether a pair has this name
+abbrev pub is_named : List ℕ → Variable → Bool
+is_named name pair = bytes_eq name pair.name
+
+-- the later of two values, where it is there
+abbrev pub later : Option (List ℕ) → Option (List ℕ) → Option (List ℕ)
+later None earlier = earlier
+later (Some value) earlier = Some value
+
+-- the value of the last pair with a name
+abbrev pub value_of : List ℕ → List Variable → Option (List ℕ)
+value_of name [] = None
+value_of name (pair ∷ pairs) = later (value_of name pairs) (if is_named name pair then Some pair.value else None)
+
+-- the pairs without those of a name
+abbrev pub without : List ℕ → List Variable → List Variable
+without name pairs = filter (λ pair. not (is_named name pair)) pairs
+
+-- each name once, in the order of first occurrence, with its last value
+abbrev pub last_values : List Variable → List Variable
+last_values [] = []
+last_values (pair ∷ pairs) = record { name = pair.name; value = unwrap_or (value_of pair.name pairs) pair.value } ∷ without pair.name (last_values pairs)
+
+-- a pair stands in the place of the one with its name
+pub record IsReplaced (pair : Variable) (old new : List Variable) : Type 0 where
+  pub front : List Variable
+  pub back : List Variable
+  pub before : Variable
+  pub name : before.name ≡ pair.name
+  pub old_is : old ≡ front ++ before ∷ back
+  pub new_is : new ≡ front ++ pair ∷ back

@@ -1,0 +1,9 @@
+pub mod Kinds
+pub mod LastValues
+pub mod Lossy
+pub mod Parts
+pub mod Phrases
+pub mod Reasons
+pub mod Shows
+pub mod Utf8
+pub mod Verdicts

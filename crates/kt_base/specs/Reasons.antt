@@ -1,0 +1,37 @@
+-- The texts of reasons.
+use Rattle.std.specs.Prelude.{ℕ, Bool, true, false, List, [], ◌++◌, codes}
+use Rattle.std.specs.Fmt.{decimal}
+use Rattle.kt_base.specs.declared.outcome.Outcome.{Outcome}
+use Rattle.kt_base.specs.declared.outcome.Outcome.TheVariants.{Exited, Signaled}
+use Rattle.kt_base.specs.declared.phrase.Phrase.{Phrase}
+use Rattle.kt_base.specs.declared.phrase.Phrase.TheVariants.{OtherExitCode, OtherSignal, TestsFailed, MemoryNeeded, DiskNeeded}
+use Rattle.kt_base.specs.declared.reason.Reason.{Reason}
+use Rattle.kt_base.specs.declared.reason.Reason.TheVariants.{Nothing, Fixed, Ended, Counted, Owned}
+use Rattle.kt_base.specs.Phrases.{phrase_text}
+
+abbrev pub core_text : Bool → List ℕ
+core_text false = []
+core_text true = codes " (core dumped)"
+
+-- how a process ended by itself
+abbrev pub ending_text : Outcome → List ℕ
+ending_text (Exited code) = codes "exited with code " ++ decimal code
+ending_text (Signaled signal core) = codes "received signal " ++ decimal signal ++ core_text core
+ending_text _ = []
+
+-- a phrase with its numbers; most have one
+abbrev pub counted_text : Phrase → ℕ → ℕ → List ℕ
+counted_text OtherExitCode due got = codes "Expected exit code " ++ decimal due ++ codes " but got " ++ decimal got
+counted_text OtherSignal due got = codes "Expected signal " ++ decimal due ++ codes " but got " ++ decimal got
+counted_text TestsFailed some all = decimal some ++ codes " of " ++ decimal all ++ codes " tests failed"
+counted_text MemoryNeeded due there = codes "Requires " ++ decimal due ++ codes " bytes of physical memory but only " ++ decimal there ++ codes " available"
+counted_text DiskNeeded due there = codes "Requires " ++ decimal due ++ codes " bytes of free disk space but only " ++ decimal there ++ codes " available"
+counted_text phrase n _ = phrase_text phrase ++ decimal n
+
+-- the text of a reason
+abbrev pub reason_text : Reason → List ℕ
+reason_text Nothing = []
+reason_text (Fixed phrase) = phrase_text phrase
+reason_text (Ended phrase ending) = phrase_text phrase ++ ending_text ending
+reason_text (Counted phrase m n) = counted_text phrase m n
+reason_text (Owned text) = text

@@ -1,0 +1,207 @@
+use crate::emission::emit;
+use crate::no_memory::NoMemory;
+use crate::number::emit_number;
+use crate::outcome::Outcome;
+use crate::output_fault::OutputFault;
+use crate::phrase::Phrase;
+use crate::text::Text;
+use std::io::Write;
+
+/// The text of a reason, cut so that each part is written without memory.
+#[derive(Clone, Copy, Debug)]
+pub struct Parts<'a> {
+    pub head: &'a str,
+    pub lead: &'static str,
+    pub first: Option<u64>,
+    pub between: &'static str,
+    pub second: Option<u64>,
+    pub tail: &'static str,
+}
+
+impl Parts<'_> {
+    ghost use Rattle.std.specs.Prelude.{◌≡◌, ◌++◌, OnOk, OnErr, is_err};
+    ghost use Rattle.std.specs.Str.{chars};
+    ghost use Rattle.kt_base.specs.Parts.{parts_text};
+    ghost use Rattle.kt_base.specs.Phrases.{phrase_text};
+    ghost use Rattle.kt_base.specs.Reasons.{counted_text, ending_text};
+    ghost use Rattle.kt_base.specs.Shows.{Shows};
+    ghost use Rattle.kt_base.specs.Utf8.{utf8};
+
+    /// Words without numbers.
+    pub fn words(head: &str) -> Parts<'_>
+        ensures { parts_text result ≡ chars head.now }
+    {
+        Parts {
+            head,
+            lead: "",
+            first: None,
+            between: "",
+            second: None,
+            tail: "",
+        }
+    }
+
+    /// A phrase, and how a process ended by itself.
+    pub fn ended(phrase: Phrase, ending: Outcome) -> Parts<'static>
+        ensures { parts_text result ≡ phrase_text phrase ++ ending_text ending }
+    {
+        match ending {
+            Outcome::Exited(code) => one_number(
+                phrase.text(),
+                "exited with code ",
+                code as u64,
+                "",
+            ),
+            Outcome::Signaled(signal, core) => {
+                one_number(
+                    phrase.text(),
+                    "received signal ",
+                    signal as u64,
+                    core_words(core),
+                )
+            }
+            _ => Parts::words(phrase.text()),
+        }
+    }
+
+    /// A phrase with its number or its two numbers.
+    pub fn counted(phrase: Phrase, m: u64, n: u64) -> Parts<'static>
+        ensures { parts_text result ≡ counted_text phrase m n }
+    {
+        match phrase {
+            Phrase::OtherExitCode => two_numbers("Expected exit code ", m, " but got ", n, ""),
+            Phrase::OtherSignal => two_numbers("Expected signal ", m, " but got ", n, ""),
+            Phrase::TestsFailed => two_numbers("", m, " of ", n, " tests failed"),
+            Phrase::MemoryNeeded => two_numbers(
+                "Requires ",
+                m,
+                " bytes of physical memory but only ",
+                n,
+                " available",
+            ),
+            Phrase::DiskNeeded => two_numbers(
+                "Requires ",
+                m,
+                " bytes of free disk space but only ",
+                n,
+                " available",
+            ),
+            _ => one_number(phrase.text(), "", m, ""),
+        }
+    }
+
+    /// Appends the parts; where memory was refused, some of them.
+    pub fn push_onto(&self, text: &mut Text) -> Result<(), NoMemory>
+        ensures { OnOk result (text.new ≡ text.old ++ parts_text self.now) }
+    {
+        text.push_str(self.head)?;
+        text.push_str(self.lead)?;
+        push_number(self.first, text)?;
+        text.push_str(self.between)?;
+        push_number(self.second, text)?;
+        text.push_str(self.tail)
+    }
+
+    /// Writes the parts, or a prefix of them where a write failed.
+    pub fn print<W: Write>(&self, out: &mut W) -> Result<(), OutputFault>
+        ensures { Shows (W.contents out.old) (W.contents out.new) (is_err result) (utf8 (parts_text self.now)) }
+    {
+        print_words(self.head, out)?;
+        print_numbered(self.lead, self.first, out)?;
+        print_numbered(self.between, self.second, out)?;
+        print_words(self.tail, out)
+    }
+}
+
+ghost use Rattle.std.specs.Prelude.{◌≡◌, ◌++◌, Option, OnOk, OnErr, is_err};
+ghost use Rattle.std.specs.Str.{chars};
+ghost use Rattle.std.specs.Fmt.{decimal};
+ghost use Rattle.kt_base.specs.Parts.{number_text, parts_text};
+ghost use Rattle.kt_base.specs.Reasons.{core_text};
+ghost use Rattle.kt_base.specs.Shows.{Shows};
+ghost use Rattle.kt_base.specs.Utf8.{utf8};
+
+fn push_digits(n: u64, text: &mut Text) -> Result<(), NoMemory>
+    ensures { OnOk result (text.new ≡ text.old ++ decimal n) }
+{
+    let digits = n.to_string(text.allocator())?;
+    text.push_str(digits.as_str())
+}
+
+fn push_number(number: Option<u64>, text: &mut Text) -> Result<(), NoMemory>
+    ensures { OnOk result (text.new ≡ text.old ++ number_text number) }
+{
+    match number {
+        None => Ok(()),
+        Some(n) => push_digits(n, text),
+    }
+}
+
+fn print_words<W: Write>(words: &str, out: &mut W) -> Result<(), OutputFault>
+    ensures { Shows (W.contents out.old) (W.contents out.new) (is_err result) (utf8 (chars words.now)) }
+{
+    emit(words.as_bytes(), out)
+}
+
+fn print_number<W: Write>(number: Option<u64>, out: &mut W) -> Result<(), OutputFault>
+    ensures { Shows (W.contents out.old) (W.contents out.new) (is_err result) (utf8 (number_text number)) }
+{
+    match number {
+        None => Ok(()),
+        Some(n) => emit_number(n, out),
+    }
+}
+
+fn print_numbered<W: Write>(
+    words: &str,
+    number: Option<u64>,
+    out: &mut W,
+) -> Result<(), OutputFault>
+    ensures { Shows (W.contents out.old) (W.contents out.new) (is_err result) (utf8 (chars words.now ++ number_text number)) }
+{
+    print_words(words, out)?;
+    print_number(number, out)
+}
+
+fn core_words(core: bool) -> &'static str
+    ensures { chars result.now ≡ core_text core }
+{
+    if core { " (core dumped)" } else { "" }
+}
+
+fn one_number(
+    head: &'static str,
+    lead: &'static str,
+    first: u64,
+    tail: &'static str,
+) -> Parts<'static>
+    ensures { parts_text result ≡ chars head.now ++ (chars lead.now ++ (decimal first ++ chars tail.now)) }
+{
+    Parts {
+        head,
+        lead,
+        first: Some(first),
+        between: "",
+        second: None,
+        tail,
+    }
+}
+
+fn two_numbers(
+    head: &'static str,
+    first: u64,
+    between: &'static str,
+    second: u64,
+    tail: &'static str,
+) -> Parts<'static>
+    ensures { parts_text result ≡ chars head.now ++ (decimal first ++ (chars between.now ++ (decimal second ++ chars tail.now))) }
+{
+    Parts {
+        head,
+        lead: "",
+        first: Some(first),
+        between,
+        second: Some(second),
+        tail,
+    }
+}

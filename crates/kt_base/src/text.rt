@@ -1,0 +1,105 @@
+ghost use Rattle.std.specs.Prelude.{◌≡◌, [], ◌∷◌, ◌++◌, List, ℕ, IfOk, OnOk, OnErr};
+ghost use Rattle.std.specs.Str.{chars};
+ghost use Rattle.std.specs.String.{string_bytes};
+ghost use Rattle.kt_base.specs.Utf8.{utf8};
+
+use crate::no_memory::NoMemory;
+use std::alloc::Global;
+use std::marker::Model;
+
+/// A text. Contracts see the list of its characters; `utf8` gives the bytes by which it is written.
+#[derive(Debug, Drop)]
+pub struct Text {
+    string: String,
+}
+
+impl Model for Text {
+    ghost Value = { List ℕ };
+
+    ghost view = { λ t. chars (string_bytes t.string) };
+}
+
+impl Text {
+    /// The empty text, which takes no memory.
+    pub fn new(alloc: Global) -> Text
+        ensures { result ≡ [] }
+    {
+        Text {
+            string: String::new(alloc),
+        }
+    }
+
+    /// The text of a slice.
+    pub fn from_str(alloc: Global, text: &str) -> Result<Text, NoMemory>
+        ensures { IfOk result (λ t. t ≡ chars text.now) }
+    {
+        Ok(Text {
+            string: String::from_str(alloc, text)?,
+        })
+    }
+
+    /// The text of a string, which is kept as it is.
+    pub fn from_string(string: String) -> Text
+        ensures { result ≡ chars (string_bytes string) }
+    {
+        Text { string }
+    }
+
+    /// The text of these characters.
+    pub fn from_characters(alloc: Global, characters: &[char]) -> Result<Text, NoMemory>
+        ensures { IfOk result (λ t. t ≡ characters.now) }
+    {
+        let mut text = Text::new(alloc);
+        for c in characters {
+            text.push(*c)?;
+        }
+        Ok(text)
+    }
+
+    /// The string, which is given back as it is.
+    pub fn into_string(self) -> String
+        ensures { string_bytes result ≡ utf8 self }
+    {
+        self.string
+    }
+
+    /// The text as a slice of the standard library.
+    pub fn as_str(&self) -> &str
+        ensures characters { chars result.now ≡ self.now }
+        ensures bytes { result.now ≡ utf8 self.now }
+    {
+        self.string.as_str()
+    }
+
+    /// An equal text with memory of its own.
+    pub fn copy(&self) -> Result<Text, NoMemory>
+        ensures { IfOk result (λ t. t ≡ self.now) }
+    {
+        Ok(Text {
+            string: self.string.clone()?,
+        })
+    }
+
+    /// Appends a character.
+    pub fn push(&mut self, c: char) -> Result<(), NoMemory>
+        ensures ok { OnOk result (self.new ≡ self.old ++ c ∷ []) }
+        ensures err { OnErr result (self.new ≡ self.old) }
+    {
+        self.string.push(c)?;
+        Ok(())
+    }
+
+    /// Appends a text.
+    pub fn push_str(&mut self, more: &str) -> Result<(), NoMemory>
+        ensures ok { OnOk result (self.new ≡ self.old ++ chars more.now) }
+        ensures err { OnErr result (self.new ≡ self.old) }
+    {
+        self.string.push_str(more)?;
+        Ok(())
+    }
+
+    /// The allocator that the text takes its memory from.
+    pub(crate) fn allocator(&self) -> Global {
+        *self.string.allocator()
+    }
+}

@@ -1,0 +1,23 @@
+use crate::no_memory::NoMemory;
+use crate::text::Text;
+
+/// A name with its value, such as a variable of a test suite.
+#[derive(Debug, Drop)]
+pub struct Variable {
+    pub name: Text,
+    pub value: Text,
+}
+
+impl Variable {
+    ghost use Rattle.std.specs.Prelude.{◌≡◌, IfOk};
+
+    /// An equal pair with memory of its own.
+    pub fn copy(&self) -> Result<Variable, NoMemory>
+        ensures { IfOk result (λ v. v ≡ self.now) }
+    {
+        Ok(Variable {
+            name: self.name.copy()?,
+            value: self.value.copy()?,
+        })
+    }
+}

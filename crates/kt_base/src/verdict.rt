@@ -1,0 +1,116 @@
+use crate::kind::Kind;
+use crate::no_memory::NoMemory;
+use crate::output_fault::OutputFault;
+use crate::reason::Reason;
+use crate::text::Text;
+use std::io::Write;
+use std::marker::Model;
+
+/// What became of a case, and why. Contracts see the kind and the text of the reason.
+#[derive(Debug, Drop)]
+pub struct Verdict {
+    kind: Kind,
+    reason: Reason,
+}
+
+impl Model for Verdict {
+    ghost use Rattle.std.specs.Prelude.{◌≡◌, []};
+    ghost use Rattle.kt_base.specs.declared.kind.Kind.TheVariants.{Passed};
+    ghost use Rattle.kt_base.specs.Reasons.{reason_text};
+    ghost use Rattle.kt_base.specs.Verdicts.{Judged};
+
+    ghost Value = { Judged };
+
+    ghost view = { λ v. record { kind = v.kind; reason = reason_text v.reason } };
+
+    ghost invariant = { λ v. v.kind ≡ Passed → reason_text v.reason ≡ [] };
+}
+
+impl Verdict {
+    ghost use Rattle.std.specs.Prelude.{◌≡◌, [], ◌++◌, OnOk, OnErr, is_err};
+    ghost use Rattle.kt_base.specs.declared.kind.Kind.TheVariants.{Passed};
+    ghost use Rattle.kt_base.specs.Reasons.{reason_text};
+    ghost use Rattle.kt_base.specs.Shows.{Shows};
+    ghost use Rattle.kt_base.specs.Utf8.{utf8};
+    ghost use Rattle.kt_base.specs.Verdicts.{passed, skipped, expected_failure, failed, broken};
+
+    /// The case did what it was to do. It needs no reason.
+    pub fn passed() -> Verdict
+        ensures { result ≡ passed }
+    {
+        Verdict {
+            kind: Kind::Passed,
+            reason: Reason::Nothing,
+        }
+    }
+
+    /// The case did not apply here.
+    pub fn skipped(reason: Reason) -> Verdict
+        ensures { result ≡ skipped (reason_text reason) }
+    {
+        Verdict {
+            kind: Kind::Skipped,
+            reason,
+        }
+    }
+
+    /// The case failed as it was expected to.
+    pub fn expected_failure(reason: Reason) -> Verdict
+        ensures { result ≡ expected_failure (reason_text reason) }
+    {
+        Verdict {
+            kind: Kind::ExpectedFailure,
+            reason,
+        }
+    }
+
+    /// The case did not do what it was to do.
+    pub fn failed(reason: Reason) -> Verdict
+        ensures { result ≡ failed (reason_text reason) }
+    {
+        Verdict {
+            kind: Kind::Failed,
+            reason,
+        }
+    }
+
+    /// The case could not be judged by what it was to do.
+    pub fn broken(reason: Reason) -> Verdict
+        ensures { result ≡ broken (reason_text reason) }
+    {
+        Verdict {
+            kind: Kind::Broken,
+            reason,
+        }
+    }
+
+    pub fn kind(&self) -> Kind
+        ensures { result ≡ self.now.kind }
+    {
+        self.kind
+    }
+
+    /// A theorem: no verdict says why a case passed.
+    pub fn passed_without_reason(&self)
+        ensures { self.now.kind ≡ Passed → self.now.reason ≡ [] }
+    {
+        let _ = &self.kind;
+    }
+
+    /// Appends the text of the reason.
+    pub fn write_reason(&self, out: &mut Text) -> Result<(), NoMemory>
+        ensures ok { OnOk result (out.new ≡ out.old ++ self.now.reason) }
+        ensures err { OnErr result (out.new ≡ out.old) }
+    {
+        let mut text = Text::new(out.allocator());
+        self.reason.parts().push_onto(&mut text)?;
+        out.push_str(text.as_str())
+    }
+
+    /// Writes the text of the reason, or a prefix of it where a write failed. It takes no memory.
+    pub fn print_reason<W: Write>(&self, out: &mut W) -> Result<(), OutputFault>
+        ensures { Shows (W.contents out.old) (W.contents out.new) (is_err result) (utf8 self.now.reason) }
+    {
+        self.reason.parts().print(out)
+    }
+}

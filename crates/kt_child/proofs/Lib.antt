@@ -1,0 +1,4 @@
+pub mod Chains
+pub mod Mapped
+pub mod Outcomes
+pub mod PartSteps

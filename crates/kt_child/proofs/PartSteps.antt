@@ -1,0 +1,66 @@
+-- A file that is read in parts: what is known after some of them.
+use Rattle.std.proofs.Common.{◌≡◌, ℕ, suc, ◌+◌, List, [], ◌∷◌, ◌++◌, Result, refl, sym, subst, arith, append_assoc, zero-add}
+use Rattle.kt_child.specs.declared.os_fault.OsFault.{OsFault}
+use Rattle.kt_child.specs.declared.file_read.FileRead.{FileRead}
+use Rattle.kt_child.specs.declared.whole.Whole.{Whole}
+use Rattle.kt_child.specs.declared.next_part.NextPart.{NextPart}
+use Rattle.kt_child.specs.declared.next_part.NextPart.TheVariants.{More}
+use Rattle.kt_child.specs.Calls.{Call, Chain}
+use Rattle.kt_child.specs.Parts.{After, IsNext, Reads, next_part}
+use Rattle.kt_child.specs.Reads.{bytes_of}
+use Rattle.kt_child.proofs.Chains.{chain_append}
+
+-- what is known after some parts: whatever the rest of the reading is, it is the rest of the whole reading
+abbrev pub Reading : {O : Type 0} → (O → Call → O → Type 0) → List ℕ → ℕ → ℕ → O → O → List ℕ → Type 0
+Reading leads path part limit start now got =
+    (k : ℕ) × (calls : List Call) × Chain leads start calls now
+    × ((n : ℕ) (more : List Call) (whole : Whole) → Reads n path part limit got more whole
+    → Reads (k + n) path part limit [] (calls ++ more) whole)
+
+pub reading_none : {O : Type 0} (leads : O → Call → O → Type 0) (path : List ℕ) (part limit : ℕ) (start : O)
+    → Reading leads path part limit start start []
+reading_none leads path part limit start = (
+  0,
+  [],
+  refl,
+  λ n more whole h.
+      let P : ℕ → Type 0 = λ m. Reads m path part limit [] more whole in
+      subst P (sym (zero-add n)) h,
+)
+
+pub reading_more : {O : Type 0} (leads : O → Call → O → Type 0) (path : List ℕ) (part limit : ℕ) (start now new : O)
+    (got got' : List ℕ) (answer : Result FileRead OsFault)
+    → Reading leads path part limit start now got
+    → leads now (next_part path part limit got answer) new
+    → IsNext limit got answer More
+    → got' ≡ got ++ bytes_of answer
+    → Reading leads path part limit start new got'
+reading_more leads path part limit start now new got got' answer (k, calls, chain, on) led next e =
+    let call : Call = next_part path part limit got answer in (
+      k + 1,
+      calls ++ call ∷ [],
+      chain_append leads start now new calls (call ∷ []) chain (new, led, refl),
+      λ n more whole h.
+          let Q : List ℕ → Type 0 = λ t. Reads n path part limit t more whole in
+          let one : Reads (suc n) path part limit got (call ∷ more) whole = (answer, More, next, (more, refl, subst Q e h)) in
+          let P : ℕ → Type 0 = λ m. Reads m path part limit [] ((calls ++ call ∷ []) ++ more) whole in
+          let R : List Call → Type 0 = λ cs. Reads (k + suc n) path part limit [] cs whole in
+          let same : k + suc n ≡ (k + 1) + n = omega arith in
+          subst P same (subst R (sym (append_assoc calls (call ∷ []) more)) (on (suc n) (call ∷ more) whole one)),
+    )
+
+pub reading_over : {O : Type 0} (leads : O → Call → O → Type 0) (path : List ℕ) (part limit : ℕ) (start now new : O)
+    (got : List ℕ) (answer : Result FileRead OsFault) (next : NextPart) (whole : Whole)
+    → Reading leads path part limit start now got
+    → leads now (next_part path part limit got answer) new
+    → IsNext limit got answer next
+    → After next (got ++ bytes_of answer) (next_part path part limit got answer) (next_part path part limit got answer ∷ []) whole
+    (λ more. Reads 0 path part limit (got ++ bytes_of answer) more whole)
+    → (parts : ℕ) × (calls : List Call) × Chain leads start calls new × Reads parts path part limit [] calls whole
+reading_over leads path part limit start now new got answer next whole (k, calls, chain, on) led is after =
+    let call : Call = next_part path part limit got answer in (
+      k + 1,
+      calls ++ call ∷ [],
+      chain_append leads start now new calls (call ∷ []) chain (new, led, refl),
+      on 1 (call ∷ []) whole (answer, next, is, after),
+    )

@@ -1,0 +1,25 @@
+-- What is asked of the system, and what it answers.
+use Rattle.std.specs.Prelude.{◌≡◌, ℕ, List, [], ◌∷◌, Bool, Result}
+use Rattle.kt_child.specs.declared.child.Child.{Child}
+use Rattle.kt_child.specs.declared.polled.Polled.{Polled}
+use Rattle.kt_child.specs.declared.os_fault.OsFault.{OsFault}
+use Rattle.kt_child.specs.declared.file_read.FileRead.{FileRead}
+use Rattle.kt_child.specs.declared.env.EnvPlan.{EnvPlan}
+
+-- one question with its answer; where the answer is a truth value, it tells whether the call succeeded
+pub data Call : Type 0 where
+  MakeDir : (path : List ℕ) (done : Bool) → Call
+  RemoveTree : (path : List ℕ) (done : Bool) → Call
+  OpenOutput : (child : Child) (path : List ℕ) (done : Bool) → Call
+  Spawn : (child : Child) (program : List ℕ) (words : List (List ℕ)) (env : EnvPlan) (dir : List ℕ) (done : Bool) → Call
+  Poll : (child : Child) (answer : Result Polled OsFault) → Call
+  Kill : (child : Child) (done : Bool) → Call
+  Pause : (done : Bool) → Call
+  ReadFile : (path : List ℕ) (limit : ℕ) (answer : Result FileRead OsFault) → Call
+  ReadPart : (path : List ℕ) (from : ℕ) (limit : ℕ) (answer : Result FileRead OsFault) → Call
+  Now : (answer : Result ℕ OsFault) → Call
+
+-- these questions with their answers lead from one state to another, one after the other
+abbrev pub Chain : {O : Type 0} → (O → Call → O → Type 0) → O → List Call → O → Type 0
+Chain leads old [] new = new ≡ old
+Chain {O} leads old (call ∷ calls) new = (mid : O) × leads old call mid × Chain leads mid calls new

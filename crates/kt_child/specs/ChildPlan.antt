@@ -1,0 +1,74 @@
+-- What a child is given: its paths, its environment and its words.
+use Rattle.std.specs.Prelude.{ℕ, List, [], ◌∷◌, ◌++◌, map, codes}
+use Rattle.std.specs.Fmt.{decimal}
+use Rattle.kt_base.specs.declared.interface.Interface.{Interface}
+use Rattle.kt_base.specs.declared.interface.Interface.TheVariants.{Atf, Tap, Plain}
+use Rattle.kt_base.specs.declared.variable.Variable.{Variable}
+use Rattle.kt_child.specs.declared.paths.Paths.{Paths}
+use Rattle.kt_child.specs.declared.env.EnvPlan.{EnvPlan}
+use Rattle.kt_child.specs.declared.want.Want.{Want}
+use Rattle.kt_child.specs.declared.want.Want.TheVariants.{List as Listing, Body, Cleanup}
+
+-- the directory of an attempt
+abbrev pub attempt_dir : List ℕ → ℕ → List ℕ
+attempt_dir root number = root ++ codes "/" ++ decimal number
+
+-- a name in the directory of an attempt
+abbrev pub below : List ℕ → ℕ → List ℕ → List ℕ
+below root number name = attempt_dir root number ++ codes "/" ++ name
+
+-- the paths of an attempt
+abbrev pub paths_of : List ℕ → ℕ → Paths
+paths_of root number =
+    record {
+      dir = attempt_dir root number;
+      work = below root number (codes "work");
+      result = below root number (codes "result");
+      out = below root number (codes "out");
+      err = below root number (codes "err");
+      cleanup_out = below root number (codes "cleanup.out");
+      cleanup_err = below root number (codes "cleanup.err");
+    }
+
+-- the word that hands a variable to an ATF program
+abbrev pub variable_word : Variable → List ℕ
+variable_word v = codes "-v" ++ v.name ++ codes "=" ++ v.value
+
+-- the words behind a program's path, by its interface and what it is started for
+abbrev pub words_of : Interface → Want → List ℕ → List ℕ → List Variable → List ℕ → List (List ℕ)
+words_of Atf Listing result source variables case_name = map variable_word variables ++ codes "-l" ∷ []
+words_of Atf Body result source variables case_name =
+    ((codes "-r" ++ result) ∷ (codes "-s" ++ source) ∷ []) ++ map variable_word variables ++ case_name ∷ []
+words_of Atf Cleanup result source variables case_name =
+    ((codes "-s" ++ source) ∷ []) ++ map variable_word variables ++ (case_name ++ codes ":cleanup") ∷ []
+words_of Tap want result source variables case_name = []
+words_of Plain want result source variables case_name = []
+
+-- a variable by its name and value
+abbrev pub variable : List ℕ → List ℕ → Variable
+variable name value = record { name = name; value = value }
+
+-- the variables of the runner's environment that no child gets
+abbrev pub removed_names : List (List ℕ)
+removed_names =
+    codes "LANG" ∷ codes "LC_ALL" ∷ codes "LC_COLLATE" ∷ codes "LC_CTYPE" ∷ codes "LC_MESSAGES" ∷ codes "LC_MONETARY"
+    ∷ codes "LC_NUMERIC" ∷ codes "LC_TIME" ∷ []
+
+-- a variable of the suite, as a TAP or plain program sees it
+abbrev pub test_variable : Variable → Variable
+test_variable v = variable (codes "TEST_ENV_" ++ v.name) v.value
+
+-- the variables that every child gets
+abbrev pub common_variables : List ℕ → List Variable
+common_variables work = variable (codes "TZ") (codes "UTC") ∷ variable (codes "HOME") work ∷ variable (codes "TMPDIR") work ∷ []
+
+-- the variables that a child of an interface gets beside those
+abbrev pub own_variables : Interface → List Variable → List Variable
+own_variables Atf variables = variable (codes "__RUNNING_INSIDE_ATF_RUN") (codes "internal-yes-value") ∷ []
+own_variables Tap variables = map test_variable variables
+own_variables Plain variables = map test_variable variables
+
+-- the environment of a child, by its interface, its suite's variables and its work directory
+abbrev pub env_of : Interface → List Variable → List ℕ → EnvPlan
+env_of interface variables work =
+    record { removed = removed_names; set = common_variables work ++ own_variables interface variables }

@@ -1,0 +1,9 @@
+pub mod Calls
+pub mod ChildOutcome
+pub mod ChildPlan
+pub mod Moments
+pub mod Parts
+pub mod Polls
+pub mod Reads
+pub mod Roots
+pub mod Starts

@@ -1,0 +1,51 @@
+-- One poll of a child: what is asked, what it means, and what is kept.
+use Rattle.std.specs.Prelude.{◌≡◌, ℕ, ◌+◌, ◌*◌, ◌<◌, ◌==◌, List, [], ◌∷◌, Bool, true, false, not, ◌&&◌, Result, Ok, Err, if◌then◌else◌}
+use Rattle.kt_base.specs.declared.outcome.Outcome.TheVariants.{Exited, Signaled, TimedOut, WaitFailed}
+use Rattle.kt_child.specs.declared.child.Child.{Child}
+use Rattle.kt_child.specs.declared.polled.Polled.{Polled}
+use Rattle.kt_child.specs.declared.polled.Polled.TheVariants.{Running, Exited as PolledExit, Signaled as PolledSignal}
+use Rattle.kt_child.specs.declared.os_fault.OsFault.{OsFault}
+use Rattle.kt_child.specs.declared.watch.Watch.{Watch}
+use Rattle.kt_child.specs.declared.turn.Turn.{Turn}
+use Rattle.kt_child.specs.declared.turn.Turn.TheVariants.{More, Ended}
+use Rattle.kt_child.specs.Calls.{Call, Poll, Kill}
+
+-- a child that is not over: fewer than 100 polls a second of its limit before a kill, fewer than 500 after it
+abbrev pub IsShort : Bool → ℕ → ℕ → ℕ → Type 0
+IsShort true limit before after = after < 500
+IsShort false limit before after = (before < 100 * limit) × (after ≡ 0)
+
+-- what is kept of a child with this limit in seconds that is not over
+abbrev pub IsWatched : ℕ → Watch → Type 0
+IsWatched limit w = IsShort w.killed limit w.before w.after
+
+-- one more answer `running` is the last one before the deadline
+abbrev pub is_due : ℕ → Watch → Bool
+is_due limit w = not w.killed && (w.before + 1 == 100 * limit)
+
+-- a poll with this answer is followed by a kill
+abbrev pub is_killed : ℕ → Watch → Result Polled OsFault → Bool
+is_killed limit w (Err _) = true
+is_killed limit w (Ok Running) = is_due limit w
+is_killed limit w (Ok (PolledExit code)) = false
+is_killed limit w (Ok (PolledSignal signal core)) = false
+
+-- what a poll asks, by its answers
+abbrev pub asked_by_poll : Child → ℕ → Watch → Result Polled OsFault → Bool → List Call
+asked_by_poll child limit w answer done =
+    if is_killed limit w answer then Poll child answer ∷ Kill child done ∷ [] else Poll child answer ∷ []
+
+-- what a poll makes of a child, by its answers
+abbrev pub turn_of : ℕ → Watch → Result Polled OsFault → Bool → Turn
+turn_of limit w (Err _) done = Ended WaitFailed
+turn_of limit w (Ok (PolledExit code)) done = Ended (if w.killed then TimedOut else Exited code)
+turn_of limit w (Ok (PolledSignal signal core)) done = Ended (if w.killed then TimedOut else Signaled signal core)
+turn_of limit w (Ok Running) done =
+    if w.killed then (if w.after + 1 == 500 then Ended WaitFailed else More)
+    else (if w.before + 1 == 100 * limit then (if done then More else Ended WaitFailed) else More)
+
+-- what the driver keeps after a poll that ends nothing
+abbrev pub watch_after : ℕ → Watch → Watch
+watch_after limit w =
+    if w.killed then record { before = w.before; killed = true; after = w.after + 1 }
+    else record { before = w.before + 1; killed = w.before + 1 == 100 * limit; after = w.after }

@@ -1,0 +1,14 @@
+/// What follows a part of a file.
+#[derive(Clone, Copy, Debug, PartialEq, Eq)]
+pub enum NextPart {
+    /// Another part.
+    More,
+    /// Nothing: the file was read whole.
+    All,
+    /// Nothing: there is no file.
+    Absent,
+    /// Nothing: the read failed.
+    Failed,
+    /// Nothing: the limit was reached.
+    Past,
+}

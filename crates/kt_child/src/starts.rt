@@ -1,0 +1,80 @@
+ghost use Rattle.std.specs.Prelude.{◌≡◌, ◌≤◌, List, IfOk};
+ghost use Rattle.kt_child.specs.Calls.{Call, Chain};
+ghost use Rattle.kt_child.specs.Starts.{Settles, Started, StartedAfresh, Tried, child_asks, furnish_asks};
+
+use crate::moments::moment;
+use crate::os::Os;
+use crate::spawning::Spawning;
+use kt_base::{LATEST_MOMENT, Refused, Text};
+
+/// Opens the two outputs and spawns the child.
+fn open_and_spawn<O: Os>(os: &mut O, plan: &Spawning) -> Result<(), Refused>
+    ensures { (calls : List Call) × Chain O.leads os.old calls os.new × Tried (child_asks plan.now) calls result }
+{
+    if os.open_output(plan.child, &plan.out).is_err() {
+        return Err(Refused::Output);
+    }
+    if os.open_output(plan.child, &plan.err).is_err() {
+        return Err(Refused::Output);
+    }
+    if os
+        .spawn(
+            plan.child,
+            &plan.program,
+            &plan.words,
+            &plan.env,
+            &plan.work,
+        )
+        .is_err()
+    {
+        return Err(Refused::Spawn);
+    }
+    Ok(())
+}
+
+/// Makes the work directory, and then as above.
+fn furnish<O: Os>(os: &mut O, plan: &Spawning) -> Result<(), Refused>
+    ensures { (calls : List Call) × Chain O.leads os.old calls os.new × Tried (furnish_asks plan.now) calls result }
+{
+    if os.make_dir(&plan.work).is_err() {
+        return Err(Refused::Directory);
+    }
+    open_and_spawn(os, plan)
+}
+
+/// Asks for the moment of a start that succeeded, and for the removal after one that was refused.
+fn settle<O: Os>(os: &mut O, dir: &Text, tried: Result<(), Refused>) -> Result<u64, Refused>
+    ensures settled { (last : Call) × O.leads os.old last os.new × Settles dir.now tried last result }
+    ensures range { IfOk result (λ moment. moment ≤ LATEST_MOMENT) }
+{
+    match tried {
+        Ok(()) => Ok(moment(os)),
+        Err(cause) => {
+            let _ = os.remove_tree(dir);
+            Err(cause)
+        }
+    }
+}
+
+/// Starts a body or a list in a new directory, and answers the moment, in milliseconds since 1970 in UTC.
+pub fn start_body<O: Os>(os: &mut O, dir: &Text, plan: &Spawning) -> Result<u64, Refused>
+    ensures asked { (calls : List Call) × Chain O.leads os.old calls os.new
+        × StartedAfresh (furnish_asks plan.now) dir.now calls result }
+    ensures range { IfOk result (λ moment. moment ≤ LATEST_MOMENT) }
+{
+    if os.make_dir(dir).is_err() {
+        return Err(Refused::Directory);
+    }
+    let tried = furnish(os, plan);
+    settle(os, dir, tried)
+}
+
+/// Starts a cleanup in the directory of its body, and answers the moment, in milliseconds since 1970 in UTC.
+pub fn start_cleanup<O: Os>(os: &mut O, dir: &Text, plan: &Spawning) -> Result<u64, Refused>
+    ensures asked { (calls : List Call) × Chain O.leads os.old calls os.new
+        × Started (child_asks plan.now) dir.now calls result }
+    ensures range { IfOk result (λ moment. moment ≤ LATEST_MOMENT) }
+{
+    let tried = open_and_spawn(os, plan);
+    settle(os, dir, tried)
+}

@@ -1,0 +1,9 @@
+use kt_base::Outcome;
+
+/// What a poll makes of a child.
+#[derive(Clone, Copy, Debug, PartialEq, Eq)]
+pub enum Turn {
+    /// It is not over.
+    More,
+    Ended(Outcome),
+}

@@ -1,0 +1,89 @@
+-- The lines before the first bail out, and their counts.
+use Rattle.std.proofs.Common.{◌≡◌, ℕ, ◌+◌, ◌≤◌, Bool, true, false, cond, List, [], ◌∷◌, ◌++◌, length, Option, Some, None, Result, Ok, Err, refl, ap, ◌∙◌, arith}
+use Rattle.std.specs.Prelude.{◌&&◌, ◌||◌, is_some, IfOk, codes}
+use Rattle.std.specs.List.{list_any, filter, filter_map, cons_option}
+use Rattle.std.specs.Str.{chars}
+use Rattle.std.proofs.lemmas.Bool.{false≢true}
+use Rattle.kt_claim.specs.TapStream.{is_bail, plan, or_else, count, heard, skip_reason}
+use Rattle.kt_claim.specs.TapReading.{one, first, has_second}
+use Rattle.kt_claim.proofs.Truth.{or_left, or_right, or_assoc, or_false}
+
+pub no_reason : chars (codes "No reason given") ≡ codes "No reason given"
+unfolding chars
+no_reason = refl
+
+pub given : {E : Type 0} (r : Result (List ℕ) E) (reason : List ℕ) → length reason ≡ 0 → IfOk r (λ t. t ≡ chars (codes "No reason given")) → IfOk r (λ t. t ≡ skip_reason reason)
+given (Ok t) [] e h = h ∙ no_reason
+given (Ok t) (b ∷ reason) e h = absurd (omega (arith, e))
+given (Err x) reason e h = tt
+
+-- ---- the lines before the first bail out
+
+pub any-snoc : (p : List ℕ → Bool) (xs : List (List ℕ)) (x : List ℕ) → list_any p (xs ++ x ∷ []) ≡ (list_any p xs || p x)
+any-snoc p [] x = or_false (p x)
+any-snoc p (y ∷ xs) x = ap (λ (b : Bool). p y || b) (any-snoc p xs x) ∙ or_assoc (p y) (list_any p xs) (p x)
+
+pub stops_at : (t : Bool) (y x : List ℕ) (ys : List (List ℕ)) → is_bail y ≡ t → (list_any is_bail ys ≡ true → heard (ys ++ x ∷ []) ≡ heard ys)
+    → (t || list_any is_bail ys) ≡ true → heard ((y ∷ ys) ++ x ∷ []) ≡ heard (y ∷ ys)
+stops_at true y x ys is so_far h = rw is refl
+stops_at false y x ys is so_far h = rw is (ap (λ (zs : List (List ℕ)). y ∷ zs) (so_far h))
+
+-- behind a bail out nothing is heard
+pub heard_none : (ys : List (List ℕ)) (x : List ℕ) → list_any is_bail ys ≡ true → heard (ys ++ x ∷ []) ≡ heard ys
+heard_none [] x h = absurd (false≢true h)
+heard_none (y ∷ ys) x h = stops_at (is_bail y) y x ys refl (heard_none ys x) h
+
+pub heard_bail : (ys : List (List ℕ)) (x : List ℕ) → list_any is_bail ys ≡ false → is_bail x ≡ true → heard (ys ++ x ∷ []) ≡ heard ys
+heard_bail [] x none is = rw is refl
+heard_bail (y ∷ ys) x none is =
+    rw (or_left (is_bail y) (list_any is_bail ys) none) (ap (λ (zs : List (List ℕ)). y ∷ zs) (heard_bail ys x (or_right (is_bail y) (list_any is_bail ys) none) is))
+
+pub heard_more : (ys : List (List ℕ)) (x : List ℕ) → list_any is_bail ys ≡ false → is_bail x ≡ false → heard (ys ++ x ∷ []) ≡ heard ys ++ x ∷ []
+heard_more [] x none isnt = rw isnt refl
+heard_more (y ∷ ys) x none isnt =
+    rw (or_left (is_bail y) (list_any is_bail ys) none) (ap (λ (zs : List (List ℕ)). y ∷ zs) (heard_more ys x (or_right (is_bail y) (list_any is_bail ys) none) isnt))
+
+pub heard-le : (ys : List (List ℕ)) → length (heard ys) ≤ length ys
+heard-le [] = omega arith
+heard-le (y ∷ ys) = omega (arith, heard-le ys, cut (is_bail y) y (heard ys)) where
+  cut : (t : Bool) (y : List ℕ) (zs : List (List ℕ)) → length (cond t [] (y ∷ zs)) ≤ 1 + length zs
+  cut true y zs = omega arith
+  cut false y zs = omega arith
+
+-- ---- counts
+
+pub counted_by : (b : Bool) (y : List ℕ) (ys : List (List ℕ)) → length (cond b (y ∷ ys) ys) ≡ one b + length ys
+counted_by true y ys = omega arith
+counted_by false y ys = omega arith
+
+pub count-snoc : (p : List ℕ → Bool) (xs : List (List ℕ)) (x : List ℕ) → count p (xs ++ x ∷ []) ≡ count p xs + one (p x)
+count-snoc p [] x = omega (arith, counted_by (p x) x [])
+count-snoc p (y ∷ xs) x = omega (arith, counted_by (p y) y (filter p (xs ++ x ∷ [])), counted_by (p y) y (filter p xs), count-snoc p xs x)
+
+pub one-le : (b : Bool) → one b ≤ 1
+one-le true = omega arith
+one-le false = omega arith
+
+pub count-le : (p : List ℕ → Bool) (xs : List (List ℕ)) → count p xs ≤ length xs
+count-le p [] = omega arith
+count-le p (y ∷ xs) = omega (arith, counted_by (p y) y (filter p xs), count-le p xs, one-le (p y))
+
+pub joined : (o : Option (ℕ × List ℕ)) (xs ys : List (ℕ × List ℕ)) → cons_option o (xs ++ ys) ≡ cons_option o xs ++ ys
+joined None xs ys = refl
+joined (Some x) xs ys = refl
+
+pub plans-snoc : (xs : List (List ℕ)) (x : List ℕ) → filter_map plan (xs ++ x ∷ []) ≡ filter_map plan xs ++ cons_option (plan x) []
+plans-snoc [] x = refl
+plans-snoc (y ∷ xs) x = ap (cons_option (plan y)) (plans-snoc xs x) ∙ joined (plan y) (filter_map plan xs) (cons_option (plan x) [])
+
+pub first-snoc : (xs : List (ℕ × List ℕ)) (o : Option (ℕ × List ℕ)) → first (xs ++ cons_option o []) ≡ or_else (first xs) o
+first-snoc [] None = refl
+first-snoc [] (Some x) = refl
+first-snoc (y ∷ xs) o = refl
+
+pub second-snoc : (xs : List (ℕ × List ℕ)) (o : Option (ℕ × List ℕ)) → has_second (xs ++ cons_option o []) ≡ (has_second xs || (is_some (first xs) && is_some o))
+second-snoc [] None = refl
+second-snoc [] (Some x) = refl
+second-snoc (y ∷ []) None = refl
+second-snoc (y ∷ []) (Some x) = refl
+second-snoc (y ∷ z ∷ xs) o = refl

@@ -1,0 +1,14 @@
+pub mod Claims
+pub mod Counts
+pub mod FirstWords
+pub mod LineParts
+pub mod Lines
+pub mod Numbers
+pub mod Parts
+pub mod Pieces
+pub mod ReadFiles
+pub mod Reasons
+pub mod Tallies
+pub mod TooLong
+pub mod Truth
+pub mod Words

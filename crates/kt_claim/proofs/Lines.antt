@@ -1,0 +1,122 @@
+-- The lines of a text that comes in pieces.
+use Rattle.std.proofs.Common.{◌≡◌, ℕ, ◌≤◌, ◌<◌, ◌^◌, Bool, true, false, List, [], ◌∷◌, ◌++◌, map, length, refl, ap, sym, ◌∙◌, append_assoc, arith}
+use Rattle.std.specs.List.{list_any}
+use Rattle.std.proofs.lemmas.List.{append-nil, length-append}
+use Rattle.kt_claim.specs.Bytes.{is_newline}
+use Rattle.kt_claim.specs.TapStream.{limit, lines, onto, without_return, trimmed, tap_of_lines, lines_of}
+use Rattle.kt_claim.specs.LineStates.{LineState, held_before, facts_of, facts_of_kind, told, is_reason, KeepsFor, Knows}
+use Rattle.kt_claim.specs.TapReading.{IsTally, HasLines}
+use Rattle.kt_claim.specs.declared.tally.Tally.{Tally}
+use Rattle.kt_claim.specs.declared.tap.Tap.{Tap}
+use Rattle.kt_claim.specs.declared.begun.Begun.{Begun}
+use Rattle.kt_claim.specs.declared.begun.Begun.TheVariants as begun
+use Rattle.kt_claim.specs.declared.line_kind.LineKind.{LineKind}
+use Rattle.kt_claim.specs.declared.line_kind.LineKind.TheVariants.{Plan}
+use Rattle.kt_claim.proofs.Tallies.{quiet}
+use Rattle.kt_claim.proofs.Truth.{or_left, or_right}
+use Rattle.kt_claim.proofs.Tallies.{quiet}
+
+-- a line, and then its newline
+pub lines-line : (line rest : List ℕ) → list_any is_newline line ≡ false → lines (line ++ 10 ∷ rest) ≡ line ∷ lines rest
+lines-line [] rest none = refl
+lines-line (b ∷ line) rest none =
+    rw (or_left (is_newline b) (list_any is_newline line) none, lines-line line rest (or_right (is_newline b) (list_any is_newline line) none)) refl
+
+-- a last line without newline
+pub lines-last : (b : ℕ) (line : List ℕ) → list_any is_newline (b ∷ line) ≡ false → lines (b ∷ line) ≡ (b ∷ line) ∷ []
+lines-last b [] none = rw (or_left (is_newline b) false none) refl
+lines-last b (c ∷ line) none =
+    rw (or_left (is_newline b) (list_any is_newline (c ∷ line)) none) (ap (onto b) (lines-last c line (or_right (is_newline b) (list_any is_newline (c ∷ line)) none)))
+
+pub map-snoc : (xs : List (List ℕ)) (x : List ℕ) → map without_return (xs ++ x ∷ []) ≡ map without_return xs ++ without_return x ∷ []
+map-snoc [] x = refl
+map-snoc (y ∷ xs) x = ap (λ (ys : List (List ℕ)). without_return y ∷ ys) (map-snoc xs x)
+
+pub length-map : (xs : List (List ℕ)) → length (map without_return xs) ≡ length xs
+length-map [] = refl
+length-map (y ∷ xs) = omega (arith, length-map xs)
+
+-- the kind of a line that has ended
+abbrev pub Ends : LineState → LineKind → Type 0
+Ends line kind = (is_reason line.begun ≡ false → (kept : List ℕ) → facts_of_kind kind [] ≡ told line.begun kept []) × (is_reason line.begun ≡ true → kind ≡ Plan 0)
+
+-- nothing is kept unless a reason was begun
+pub ends_at : (b : Begun) (kept : List ℕ) (kind : LineKind) → KeepsFor b kept
+    → (is_reason b ≡ false → (k : List ℕ) → facts_of_kind kind [] ≡ told b k []) → (is_reason b ≡ true → kind ≡ Plan 0)
+    → told b kept [] ≡ facts_of_kind kind (trimmed kept)
+ends_at begun.Reason kept kind keeps plain reason =
+    ap (λ (xs : List ℕ). facts_of_kind (Plan 0) (trimmed xs)) (append-nil kept) ∙ ap (λ (k : LineKind). facts_of_kind k (trimmed kept)) (sym (reason refl))
+ends_at b kept kind keeps plain reason = sym (plain refl kept) ∙ ap (λ (xs : List ℕ). facts_of_kind kind (trimmed xs)) (sym keeps)
+
+pub no_more : (held : Bool) (b : Begun) (kept : List ℕ) → told b kept (without_return (held_before held [])) ≡ told b kept []
+no_more true b kept = refl
+no_more false b kept = refl
+
+-- what a line is that has ended
+pub line_is : (line : LineState) (kind : LineKind) (came : List ℕ) → Ends line kind → Knows line.begun line.kept line.held came → facts_of (without_return came) ≡ facts_of_kind kind (trimmed line.kept)
+line_is line kind came ends k =
+    ap (λ (xs : List ℕ). facts_of (without_return xs)) (sym (append-nil came)) ∙ k.tells [] ∙ no_more line.held line.begun line.kept ∙ ends_at line.begun line.kept kind k.keeps ends.0 ends.1
+
+-- one line more is counted
+abbrev pub Adds : Tally → Tally → LineKind → List ℕ → Type 0
+Adds old new kind reason = (line : List ℕ) (ls : List (List ℕ)) → facts_of line ≡ facts_of_kind kind reason → length ls < 2 ^ 32 → IsTally old ls → IsTally new (ls ++ line ∷ [])
+
+-- nothing came
+pub none_read : (tally : Tally) (kept : List ℕ) → IsTally tally [] → kept ≡ [] → HasLines tally (record { begun = begun.Nothing; kept = kept; held = false }) []
+none_read tally kept t none = record {
+  whole = [];
+  open_line = [];
+  tallied = t;
+  one_line = refl;
+  rest = λ more. refl;
+  fits = omega arith;
+  known = record { keeps = none; tells = λ more. refl };
+}
+
+pub line_ends : (old new : Tally) (line : LineState) (kind : LineKind) (fed : List ℕ) → Ends line kind → Adds old new kind (trimmed line.kept)
+    → length fed < limit → HasLines old line fed → HasLines new (record { begun = begun.Nothing; kept = []; held = false }) (fed ++ 10 ∷ [])
+line_ends old new line kind fed ends adds short h = record {
+  whole = h.whole ++ h.open_line ∷ [];
+  open_line = [];
+  tallied = rw (map-snoc h.whole h.open_line) (adds (without_return h.open_line) (map without_return h.whole) (line_is line kind h.open_line ends h.known)
+      (omega (arith, length-map h.whole, h.fits, short)) h.tallied);
+  one_line = refl;
+  rest = λ more. ap lines (append_assoc fed (10 ∷ []) more) ∙ h.rest (10 ∷ more) ∙ ap (λ (ls : List (List ℕ)). h.whole ++ ls) (lines-line h.open_line more h.one_line)
+      ∙ sym (append_assoc h.whole (h.open_line ∷ []) (lines more));
+  fits = omega (arith, h.fits, length-append h.whole (h.open_line ∷ []), length-append fed (10 ∷ []));
+  known = record { keeps = refl; tells = λ more. refl };
+}
+
+pub any-append : (xs ys : List ℕ) → list_any is_newline xs ≡ false → list_any is_newline ys ≡ false → list_any is_newline (xs ++ ys) ≡ false
+any-append [] ys a b = b
+any-append (x ∷ xs) ys a b =
+    rw (or_left (is_newline x) (list_any is_newline xs) a) (any-append xs ys (or_right (is_newline x) (list_any is_newline xs) a) b)
+
+pub line_goes_on : (tally : Tally) (line new : LineState) (part fed : List ℕ) → list_any is_newline part ≡ false
+    → ((came : List ℕ) → Knows line.begun line.kept line.held came → Knows new.begun new.kept new.held (came ++ part)) → HasLines tally line fed → HasLines tally new (fed ++ part)
+line_goes_on tally line new part fed none goes h = record {
+  whole = h.whole;
+  open_line = h.open_line ++ part;
+  tallied = h.tallied;
+  one_line = any-append h.open_line part h.one_line none;
+  rest = λ more. ap lines (append_assoc fed part more) ∙ h.rest (part ++ more) ∙ ap (λ (t : List ℕ). h.whole ++ lines t) (sym (append_assoc h.open_line part more));
+  fits = omega (arith, h.fits, length-append h.open_line part, length-append fed part);
+  known = goes h.open_line h.known;
+}
+
+pub all_lines : (tally : Tally) (line : LineState) (fed : List ℕ) (h : HasLines tally line fed) → lines fed ≡ h.whole ++ lines h.open_line
+all_lines tally line fed h = ap lines (sym (append-nil fed)) ∙ h.rest [] ∙ ap (λ (t : List ℕ). h.whole ++ lines t) (append-nil h.open_line)
+
+-- the last line, which may be empty
+pub last_line : (tap : Tap) (whole : List (List ℕ)) (came : List ℕ) → list_any is_newline came ≡ false → tap ≡ tap_of_lines (map without_return whole ++ without_return came ∷ [])
+    → tap ≡ tap_of_lines (map without_return (whole ++ lines came))
+last_line tap whole [] none is = is ∙ quiet (map without_return whole) ∙ ap (λ (ls : List (List ℕ)). tap_of_lines (map without_return ls)) (sym (append-nil whole))
+last_line tap whole (b ∷ came) none is = is ∙ ap tap_of_lines (sym (map-snoc whole (b ∷ came)) ∙ ap (λ (ls : List (List ℕ)). map without_return (whole ++ ls)) (sym (lines-last b came none)))
+
+pub tap_at_end : (old new : Tally) (line : LineState) (kind : LineKind) (tap : Tap) (fed : List ℕ) → Ends line kind → Adds old new kind (trimmed line.kept)
+    → ((ls : List (List ℕ)) → IsTally new ls → tap ≡ tap_of_lines ls) → length fed ≤ limit → HasLines old line fed → tap ≡ tap_of_lines (lines_of fed)
+tap_at_end old new line kind tap fed ends adds says short h =
+    last_line tap h.whole h.open_line h.one_line
+    (says (map without_return h.whole ++ without_return h.open_line ∷ [])
+    (adds (without_return h.open_line) (map without_return h.whole) (line_is line kind h.open_line ends h.known) (omega (arith, length-map h.whole, h.fits, short)) h.tallied))
+    ∙ ap (λ (ls : List (List ℕ)). tap_of_lines (map without_return ls)) (sym (all_lines old line fed h))

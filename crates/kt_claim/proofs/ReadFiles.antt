@@ -1,0 +1,60 @@
+-- Reading from the left finds the claim of a file.
+use Rattle.std.proofs.Common.{◌≡◌, ℕ, ◌-◌, ◌≤◌, true, false, not, List, [], ◌∷◌, ◌++◌, length, take, drop, Option, Some, None, refl, ap, sym, subst, ◌∙◌, append_assoc, inl, inr, arith}
+use Rattle.std.specs.Prelude.{◌==◌, nat_eq, nat_lt, MatchOption}
+use Rattle.std.specs.List.{prefix_len, ends_with, list_any, find}
+use Rattle.std.proofs.lemmas.Bool.{ltb-false}
+use Rattle.std.proofs.lemmas.List.{take-append-drop}
+use Rattle.std.proofs.lemmas.Slice.Eq.{bytes_eq-Decides}
+use Rattle.kt_claim.specs.Bytes.{newline, is_newline, is_word_byte}
+use Rattle.kt_claim.specs.ResultFile.{limit, Says, line, fits_line, fault_of, IsClaimOf}
+use Rattle.kt_claim.specs.ResultFile.{word as first_word, after_word as behind_word}
+use Rattle.kt_claim.specs.ResultReading.{word_of, after_known, claim_of_line, claim_of}
+use Rattle.kt_claim.specs.declared.claim.Claim.TheVariants as claim
+use Rattle.kt_claim.specs.declared.claim_fault.ClaimFault.{ClaimFault}
+use Rattle.kt_claim.specs.declared.claim_fault.ClaimFault.TheVariants.{TooLong, Empty, NoNewline, SeveralLines, UnknownWord, BadNumber, UnexpectedReason, NoReason}
+use Rattle.kt_claim.proofs.Truth.{not_false}
+use Rattle.kt_claim.proofs.Reasons.{row, under}
+use Rattle.kt_claim.proofs.Words.{any_right}
+use Rattle.kt_claim.proofs.FirstWords.{Read, read_word}
+
+-- ---- whole files
+
+pub line_and_newline : (file : List ℕ) → ends_with nat_eq file newline ≡ true → line file ++ newline ≡ file
+line_and_newline file e = ap (λ (xs : List ℕ). line file ++ xs) ((bytes_eq-Decides newline (drop (length file - 1) file)).0 e) ∙ take-append-drop (length file - 1) file
+
+pub drop_clean : (n : ℕ) (xs : List ℕ) → list_any is_newline xs ≡ false → list_any is_newline (drop n xs) ≡ false
+drop_clean n xs none = any_right (take n xs) (drop n xs) (ap (list_any is_newline) (take-append-drop n xs) ∙ none)
+
+-- the line of a file that is no longer than the limit
+pub line_in_file : (file : List ℕ) → ends_with nat_eq file newline ≡ true → length file ≤ limit → Read (behind_word file) (first_word file)
+    → MatchOption (find (fits_line (first_word file) (behind_word file)) (UnknownWord ∷ BadNumber ∷ UnexpectedReason ∷ NoReason ∷ []))
+    ((length file ≤ limit) × Says file (after_known (word_of (first_word file)) (behind_word file))) (λ g. after_known (word_of (first_word file)) (behind_word file) ≡ claim.Malformed g)
+line_in_file file ends short found =
+    under (find (fits_line (first_word file) (behind_word file)) (UnknownWord ∷ BadNumber ∷ UnexpectedReason ∷ NoReason ∷ [])) (after_known (word_of (first_word file)) (behind_word file))
+    (Says (first_word file ++ (behind_word file ++ newline)) (after_known (word_of (first_word file)) (behind_word file)))
+    ((length file ≤ limit) × Says file (after_known (word_of (first_word file)) (behind_word file)))
+    (λ said. (
+      short,
+      subst (λ (xs : List ℕ). Says xs (after_known (word_of (first_word file)) (behind_word file)))
+          (sym (append_assoc (first_word file) (behind_word file) newline) ∙ ap (λ (xs : List ℕ). xs ++ newline) (take-append-drop (prefix_len is_word_byte (line file)) (line file))
+          ∙ line_and_newline file ends) said,
+    ))
+    found
+
+pub read_file : (file : List ℕ) → MatchOption (fault_of file) ((length file ≤ limit) × Says file (claim_of file)) (λ g. claim_of file ≡ claim.Malformed g)
+unfolding claim_of claim_of_line
+read_file file =
+    row (nat_lt limit (length file)) TooLong _ _ (λ c. (length file ≤ limit) × Says file c) (λ short.
+    row (length file == 0) Empty _ _ (λ c. (length file ≤ limit) × Says file c) (λ some.
+    row (not (ends_with nat_eq file newline)) NoNewline _ _ (λ c. (length file ≤ limit) × Says file c) (λ ends.
+    row (list_any is_newline (line file)) SeveralLines _ _ (λ c. (length file ≤ limit) × Says file c) (λ one.
+    line_in_file file (not_false (ends_with nat_eq file newline) ends) (omega (arith, ltb-false limit (length file) short))
+    (read_word (first_word file) (behind_word file) (drop_clean (prefix_len is_word_byte (line file)) (line file) one))))))
+
+pub claims_at : (o : Option ClaimFault) (file : List ℕ) → fault_of file ≡ o → MatchOption o ((length file ≤ limit) × Says file (claim_of file)) (λ g. claim_of file ≡ claim.Malformed g) → IsClaimOf file (claim_of file)
+claims_at None file e h = inl h
+claims_at (Some g) file e h = inr (g, e, h)
+
+-- the claim that is read is the file's
+pub claims : (file : List ℕ) → IsClaimOf file (claim_of file)
+claims file = claims_at (fault_of file) file refl (read_file file)

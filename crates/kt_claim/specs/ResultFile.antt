@@ -1,0 +1,121 @@
+-- The claim of a result file.
+use Rattle.std.specs.Prelude.{◌≡◌, ℕ, ◌-◌, ◌<◌, ◌≤◌, ◌⊎◌, Bool, true, false, not, ◌&&◌, ◌||◌, ◌==◌, nat_eq, nat_lt, if◌then◌else◌, List, [], ◌∷◌, ◌++◌, length, take, drop, codes, bytes_eq, Option, Some, None}
+use Rattle.std.specs.List.{prefix_len, starts_with, ends_with, list_any, list_all, find}
+use Rattle.kt_base.specs.Lossy.{lossy}
+use Rattle.kt_claim.specs.Bytes.{newline, is_newline, is_digit, is_word_byte, number}
+use Rattle.kt_claim.specs.declared.claim.Claim.{Claim}
+use Rattle.kt_claim.specs.declared.claim.Claim.TheVariants.{Malformed, Passed, Failed, Skipped, ExpectedFailure, ExpectedDeath, ExpectedTimeout, ExpectedExit, ExpectedSignal}
+use Rattle.kt_claim.specs.declared.claim_fault.ClaimFault.{ClaimFault}
+use Rattle.kt_claim.specs.declared.claim_fault.ClaimFault.TheVariants.{TooLong, Empty, NoNewline, SeveralLines, UnknownWord, BadNumber, UnexpectedReason, NoReason}
+
+abbrev pub limit : ℕ
+limit = 65536
+
+-- ---- files that make a claim
+
+-- one byte or more, none of them a newline
+abbrev pub IsReason : List ℕ → Type 0
+IsReason reason = (0 < length reason) × (list_any is_newline reason ≡ false)
+
+-- the decimal number of an exit status or of a signal
+abbrev pub IsNumber : List ℕ → Type 0
+IsNumber digits = (0 < length digits) × (list_all is_digit digits ≡ true) × (number digits < 256)
+
+-- what follows the word: a colon, a space, the reason and the newline
+abbrev pub with_reason : List ℕ → List ℕ
+with_reason reason = codes ": " ++ reason ++ newline
+
+-- a number in round brackets before it
+abbrev pub with_number : List ℕ → List ℕ → List ℕ
+with_number digits reason = codes "(" ++ digits ++ codes ")" ++ with_reason reason
+
+-- the file is one line, and this is its claim
+pub data Says : List ℕ → Claim → Type 0 where
+  passed : Says (codes "passed" ++ newline) Passed
+  failed : (r : List ℕ) → IsReason r → Says (codes "failed" ++ with_reason r) (Failed (lossy r))
+  skipped : (r : List ℕ) → IsReason r → Says (codes "skipped" ++ with_reason r) (Skipped (lossy r))
+  expected_death : (r : List ℕ) → IsReason r → Says (codes "expected_death" ++ with_reason r) (ExpectedDeath (lossy r))
+  expected_failure : (r : List ℕ) → IsReason r → Says (codes "expected_failure" ++ with_reason r) (ExpectedFailure (lossy r))
+  expected_timeout : (r : List ℕ) → IsReason r → Says (codes "expected_timeout" ++ with_reason r) (ExpectedTimeout (lossy r))
+  expected_exit : (r : List ℕ) → IsReason r → Says (codes "expected_exit" ++ with_reason r) (ExpectedExit None (lossy r))
+  expected_signal : (r : List ℕ) → IsReason r → Says (codes "expected_signal" ++ with_reason r) (ExpectedSignal None (lossy r))
+  expected_exit_of : (n r : List ℕ) → IsNumber n → IsReason r → Says (codes "expected_exit" ++ with_number n r) (ExpectedExit (Some (number n)) (lossy r))
+  expected_signal_of : (n r : List ℕ) → IsNumber n → IsReason r → Says (codes "expected_signal" ++ with_number n r) (ExpectedSignal (Some (number n)) (lossy r))
+
+-- ---- files that make none
+
+-- a file without its last byte
+abbrev pub line : List ℕ → List ℕ
+line file = take (length file - 1) file
+
+-- the small letters and low lines that a file begins with, and what follows them on the line
+abbrev pub word : List ℕ → List ℕ
+word file = take (prefix_len is_word_byte (line file)) (line file)
+
+abbrev pub after_word : List ℕ → List ℕ
+after_word file = drop (prefix_len is_word_byte (line file)) (line file)
+
+abbrev pub is : List ℕ → List ℕ → Bool
+is expected found = bytes_eq found expected
+
+abbrev pub takes_number : List ℕ → Bool
+takes_number w = is (codes "expected_exit") w || is (codes "expected_signal") w
+
+abbrev pub is_known : List ℕ → Bool
+is_known w =
+    is (codes "passed") w || is (codes "failed") w || is (codes "skipped") w || is (codes "expected_death") w
+    || is (codes "expected_failure") w || is (codes "expected_timeout") w || takes_number w
+
+abbrev pub has_bracket : List ℕ → Bool
+has_bracket [] = false
+has_bracket (b ∷ rest) = b == 40
+
+abbrev pub closes : List ℕ → Bool
+closes [] = false
+closes (b ∷ rest) = b == 41
+
+-- the digits behind the bracket
+abbrev pub digits : List ℕ → List ℕ
+digits rest = take (prefix_len is_digit (drop 1 rest)) (drop 1 rest)
+
+abbrev pub after_digits : List ℕ → List ℕ
+after_digits rest = drop (prefix_len is_digit (drop 1 rest)) (drop 1 rest)
+
+-- a number in round brackets
+abbrev pub has_number : List ℕ → Bool
+has_number rest = nat_lt 0 (length (digits rest)) && nat_lt (number (digits rest)) 256 && closes (after_digits rest)
+
+abbrev pub after_number : List ℕ → List ℕ
+after_number rest = if has_bracket rest then drop 1 (after_digits rest) else rest
+
+abbrev pub has_reason : List ℕ → Bool
+has_reason rest = starts_with nat_eq rest (codes ": ") && nat_lt 2 (length rest)
+
+-- whether a fault's row fits a line that begins with this word and goes on so
+abbrev pub fits_line : List ℕ → List ℕ → ClaimFault → Bool
+fits_line w rest UnknownWord = not (is_known w)
+fits_line w rest BadNumber = has_bracket rest && not (takes_number w && has_number rest)
+fits_line w rest UnexpectedReason = is (codes "passed") w && nat_lt 0 (length rest)
+fits_line w rest NoReason = not (is (codes "passed") w) && not (has_reason (after_number rest))
+fits_line w rest _ = false
+
+-- whether a fault's row fits a file in which no row above it fits
+abbrev pub fits : List ℕ → ClaimFault → Bool
+fits file TooLong = nat_lt limit (length file)
+fits file Empty = length file == 0
+fits file NoNewline = not (ends_with nat_eq file newline)
+fits file SeveralLines = list_any is_newline (line file)
+fits file fault = fits_line (word file) (after_word file) fault
+
+abbrev pub rows : List ClaimFault
+rows = TooLong ∷ Empty ∷ NoNewline ∷ SeveralLines ∷ UnknownWord ∷ BadNumber ∷ UnexpectedReason ∷ NoReason ∷ []
+
+-- the first row that fits
+abbrev pub fault_of : List ℕ → Option ClaimFault
+fault_of file = find (fits file) rows
+
+-- ---- both
+
+-- the file is no longer than the limit and says so; or it is malformed by the first row that fits
+abbrev pub IsClaimOf : List ℕ → Claim → Type 0
+IsClaimOf file claim = ((length file ≤ limit) × Says file claim) ⊎ ((fault : ClaimFault) × (fault_of file ≡ Some fault) × (claim ≡ Malformed fault))

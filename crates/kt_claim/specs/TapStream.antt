@@ -1,0 +1,201 @@
+-- What a TAP stream says.
+use Rattle.std.specs.Prelude.{ℕ, Bool, true, false, not, ◌&&◌, ◌||◌, ◌==◌, nat_lt, if◌then◌else◌, List, [], ◌∷◌, map, length, drop, codes, Option, Some, None, is_some, option_map}
+use Rattle.std.specs.Char.{to_ascii_lowercase}
+use Rattle.std.specs.List.{list_any, filter, filter_map}
+use Rattle.kt_base.specs.Lossy.{lossy}
+use Rattle.kt_claim.specs.Bytes.{is_newline, is_digit, is_blank, number_from}
+use Rattle.kt_claim.specs.declared.tap.Tap.{Tap}
+use Rattle.kt_claim.specs.declared.tap.Tap.TheVariants.{Invalid, BailedOut, SkipAll, Counted}
+use Rattle.kt_claim.specs.declared.tap_fault.TapFault.TheVariants.{TooLong, NoPlan, SecondPlan, PlanDiffers}
+
+-- the most bytes of a stream
+abbrev pub limit : ℕ
+limit = 16777216
+
+-- ---- lines
+
+-- a byte before the first of the lines
+abbrev pub onto : ℕ → List (List ℕ) → List (List ℕ)
+onto b [] = (b ∷ []) ∷ []
+onto b (line ∷ lines) = (b ∷ line) ∷ lines
+
+-- the lines of a text; a last one without newline counts
+abbrev pub lines : List ℕ → List (List ℕ)
+lines [] = []
+lines (b ∷ text) = if is_newline b then [] ∷ lines text else onto b (lines text)
+
+-- a line without the carriage return at its end
+abbrev pub without_return : List ℕ → List ℕ
+without_return [] = []
+without_return (b ∷ []) = if b == 13 then [] else b ∷ []
+without_return (b ∷ c ∷ rest) = b ∷ without_return (c ∷ rest)
+
+abbrev pub lines_of : List ℕ → List (List ℕ)
+lines_of text = map without_return (lines text)
+
+-- ---- words
+
+-- whether a text begins with this word
+abbrev pub begins : List ℕ → List ℕ → Bool
+begins [] text = true
+begins (c ∷ word) [] = false
+begins (c ∷ word) (b ∷ text) = b == c && begins word text
+
+-- whether a text begins with this word of small letters, in any case
+abbrev pub says : List ℕ → List ℕ → Bool
+says [] text = true
+says (c ∷ word) [] = false
+says (c ∷ word) (b ∷ text) = to_ascii_lowercase b == c && says word text
+
+-- a text from its first byte on that fails a test
+abbrev pub past : (ℕ → Bool) → List ℕ → List ℕ
+past test [] = []
+past test (b ∷ text) = if test b then past test text else b ∷ text
+
+-- a text up to its first byte that fails a test
+abbrev pub front : (ℕ → Bool) → List ℕ → List ℕ
+front test [] = []
+front test (b ∷ text) = if test b then b ∷ front test text else []
+
+abbrev pub not_blank : ℕ → Bool
+not_blank b = not (is_blank b)
+
+-- a text up to its last byte that is no blank
+abbrev pub trimmed : List ℕ → List ℕ
+trimmed [] = []
+trimmed (b ∷ rest) = if is_blank b && length (trimmed rest) == 0 then [] else b ∷ trimmed rest
+
+-- ---- what a line is
+
+abbrev pub is_bail : List ℕ → Bool
+is_bail line = begins (codes "Bail out!") line
+
+-- the end, or a blank
+abbrev pub is_gap : List ℕ → Bool
+is_gap [] = true
+is_gap (b ∷ rest) = is_blank b
+
+-- a word at the beginning of a line, with a gap behind it
+abbrev pub begins_with_word : List ℕ → List ℕ → Bool
+begins_with_word word line = begins word line && is_gap (drop (length word) line)
+
+abbrev pub is_not_ok : List ℕ → Bool
+is_not_ok line = begins_with_word (codes "not ok") line
+
+abbrev pub is_test : List ℕ → Bool
+is_test line = begins_with_word (codes "ok") line || is_not_ok line
+
+-- ---- directives
+
+-- whether it skips, and the bytes of its reason
+abbrev pub Directive : Type 0
+Directive = Bool × List ℕ
+
+-- what follows the four letters of a directive: its reason
+abbrev pub reason_of : List ℕ → List ℕ
+reason_of text = trimmed (past is_blank (past not_blank text))
+
+-- the directive that begins here
+abbrev pub directive_at : List ℕ → Option Directive
+directive_at text =
+    if says (codes "todo") text then Some (false, reason_of (drop 4 text))
+    else if says (codes "skip") text then Some (true, reason_of (drop 4 text))
+    else None
+
+abbrev pub or_else : {T : Type 0} → Option T → Option T → Option T
+or_else None other = other
+or_else (Some x) other = Some x
+
+-- a hash that no backslash precedes, blanks, and a directive
+abbrev pub behind_hash : Bool → ℕ → List ℕ → Option Directive
+behind_hash escaped b rest = if b == 35 && not escaped then directive_at (past is_blank rest) else None
+
+-- the first directive of a text, before which a backslash may stand
+abbrev pub directive_behind : Bool → List ℕ → Option Directive
+directive_behind escaped [] = None
+directive_behind escaped (b ∷ rest) = or_else (behind_hash escaped b rest) (directive_behind (b == 92) rest)
+
+-- the directive of a line
+abbrev pub directive : List ℕ → Option Directive
+directive line = directive_behind false line
+
+-- a test that failed, and no directive excuses it
+abbrev pub is_unexcused : List ℕ → Bool
+is_unexcused line = is_not_ok line && not (is_some (directive line))
+
+-- ---- plans
+
+-- the end, or a hash and anything
+abbrev pub ends_plan : List ℕ → Bool
+ends_plan [] = true
+ends_plan (b ∷ rest) = b == 35
+
+abbrev pub below_limit : ℕ → Option ℕ
+below_limit n = if nat_lt n 1000000000 then Some n else None
+
+-- the value of decimal digits behind those of a value; one digit or more
+abbrev pub value_from : Option ℕ → List ℕ → Option ℕ
+value_from None [] = None
+value_from None (d ∷ digits) = below_limit (number_from 0 (d ∷ digits))
+value_from (Some n) digits = below_limit (number_from n digits)
+
+-- digits, then blanks, then the end or a hash
+abbrev pub planned_from : Option ℕ → List ℕ → Option ℕ
+planned_from value text = if ends_plan (past is_blank (past is_digit text)) then value_from value (front is_digit text) else None
+
+-- how many tests a line plans
+abbrev pub planned : List ℕ → Option ℕ
+planned line = if begins (codes "1..") line then planned_from None (drop 3 line) else None
+
+-- the bytes of the reason of a directive that skips; none where there is no such directive
+abbrev pub skips : Option Directive → List ℕ
+skips (Some (true, reason)) = reason
+skips _ = []
+
+-- the reason of a skipped program
+abbrev pub skip_reason : List ℕ → List ℕ
+skip_reason [] = codes "No reason given"
+skip_reason (b ∷ reason) = lossy (b ∷ reason)
+
+-- a plan of no tests has a reason
+abbrev pub why : ℕ → List ℕ → List ℕ
+why n reason = if n == 0 then skip_reason reason else []
+
+abbrev pub plan_for : List ℕ → ℕ → ℕ × List ℕ
+plan_for reason n = (n, why n reason)
+
+-- a plan: how many tests, and the reason if there are none
+abbrev pub plan : List ℕ → Option (ℕ × List ℕ)
+plan line = option_map (plan_for (skips (directive line))) (planned line)
+
+-- ---- the stream
+
+-- the lines before the first bail out
+abbrev pub heard : List (List ℕ) → List (List ℕ)
+heard [] = []
+heard (line ∷ lines) = if is_bail line then [] else line ∷ heard lines
+
+abbrev pub count : (List ℕ → Bool) → List (List ℕ) → ℕ
+count test lines = length (filter test lines)
+
+-- so many tests, where so many were planned
+abbrev pub compared : ℕ → List ℕ → ℕ → ℕ → Tap
+compared planned reason tests failures =
+    if not (planned == tests) then Invalid PlanDiffers
+    else if tests == 0 then SkipAll reason
+    else Counted failures tests
+
+-- by the plans, the number of tests and the number of failures that nothing excuses
+abbrev pub by_plans : List (ℕ × List ℕ) → ℕ → ℕ → Tap
+by_plans [] tests failures = Invalid NoPlan
+by_plans ((planned, reason) ∷ []) tests failures = compared planned reason tests failures
+by_plans (one ∷ other ∷ more) tests failures = Invalid SecondPlan
+
+-- where no line bails out, all lines count
+abbrev pub tap_of_lines : List (List ℕ) → Tap
+tap_of_lines lines =
+    if list_any is_bail lines then BailedOut
+    else by_plans (filter_map plan (heard lines)) (count is_test (heard lines)) (count is_unexcused (heard lines))
+
+abbrev pub tap_of : List ℕ → Tap
+tap_of text = if nat_lt limit (length text) then Invalid TooLong else tap_of_lines (lines_of text)

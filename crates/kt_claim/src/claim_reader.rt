@@ -1,0 +1,106 @@
+ghost use Rattle.std.specs.Prelude.{◌≡◌, IfOk};
+ghost use Rattle.kt_claim.specs.ResultFile.{IsClaimOf};
+ghost use Rattle.kt_claim.specs.ResultReading.{claim_of};
+ghost use Rattle.kt_claim.specs.declared.claim.Claim.{Claim};
+
+use crate::claim::Claim;
+use crate::claim_fault::ClaimFault;
+use crate::result_file::{LIMIT, claim_of};
+use kt_base::NoMemory;
+use std::alloc::Global;
+use std::marker::Model;
+
+/// Reads a result file that comes in pieces. It keeps no more than the limit, 65,536 bytes.
+#[derive(Drop)]
+pub struct ClaimReader {
+    alloc: Global,
+    bytes: Vec<u8>,
+    too_long: bool,
+    failed: bool,
+}
+
+impl Model for ClaimReader {
+    ghost use Rattle.std.specs.Prelude.{◌≤◌, length};
+    ghost use Rattle.kt_claim.specs.ClaimReading.{ClaimReading};
+    ghost use Rattle.kt_claim.specs.ResultFile.{limit};
+
+    ghost Value = { ClaimReading };
+
+    ghost view = { λ r. record { kept = r.bytes.items; too_long = r.too_long; failed = r.failed } };
+
+    ghost invariant = { λ r. length r.bytes.items ≤ limit };
+}
+
+impl ClaimReader {
+    ghost use Rattle.std.specs.Prelude.{◌≤◌, length, ◌≡◌, ℕ, List, [], ◌++◌, true, IfOk, OnOk, OnErr, IsErr};
+    ghost use Rattle.kt_claim.specs.ClaimReading.{HasRead};
+    ghost use Rattle.kt_claim.specs.ResultFile.{limit, IsClaimOf};
+    ghost use Rattle.kt_claim.specs.ResultReading.{claim_of};
+    ghost use Rattle.kt_claim.specs.declared.claim.Claim.{Claim};
+
+    pub fn new(alloc: Global) -> Self
+        ensures { HasRead result [] }
+    {
+        ClaimReader {
+            alloc,
+            bytes: Vec::new(alloc),
+            too_long: false,
+            failed: false,
+        }
+    }
+
+    /// Takes the next piece. Once memory has run out, each later call answers so.
+    pub fn feed(&mut self, piece: &[u8]) -> Result<(), NoMemory>
+        ensures ok { OnOk result ((fed : List ℕ) → HasRead self.old fed → HasRead self.new (fed ++ piece.now)) }
+        ensures bounded { length self.new.kept ≤ limit }
+        ensures err { OnErr result (self.new.failed ≡ true) }
+        ensures failed { self.old.failed ≡ true → IsErr result }
+    {
+        if self.failed {
+            return Err(NoMemory);
+        }
+        if self.too_long || piece.len() > LIMIT - self.bytes.len() {
+            self.too_long = true;
+            return Ok(());
+        }
+        if self.bytes.extend_from_slice(piece).is_err() {
+            self.failed = true;
+            return Err(NoMemory);
+        }
+        Ok(())
+    }
+
+    fn read(self) -> Result<Claim, NoMemory>
+        ensures read { (fed : List ℕ) → HasRead self fed → IfOk result (λ claim. claim ≡ claim_of fed) }
+        ensures failed { self.failed ≡ true → IsErr result }
+    {
+        if self.failed {
+            return Err(NoMemory);
+        }
+        if self.too_long {
+            return Ok(Claim::Malformed(ClaimFault::TooLong));
+        }
+        claim_of(self.alloc, &self.bytes)
+    }
+
+    /// The claim of the pieces joined (this profile).
+    pub fn finish(self) -> Result<Claim, NoMemory>
+        ensures value { (fed : List ℕ) → HasRead self fed → IfOk result (λ claim. IsClaimOf fed claim) }
+        ensures only { (fed : List ℕ) → HasRead self fed → (claim : Claim) → IsClaimOf fed claim → IfOk result (λ c. c ≡ claim) }
+        ensures read { (fed : List ℕ) → HasRead self fed → IfOk result (λ claim. claim ≡ claim_of fed) }
+        ensures failed { self.failed ≡ true → IsErr result }
+    {
+        self.read()
+    }
+}
+
+/// The claim of a result file (this profile).
+pub fn read_claim(alloc: Global, file: &[u8]) -> Result<Claim, NoMemory>
+    ensures value { IfOk result (λ claim. IsClaimOf file.now claim) }
+    ensures only { (claim : Claim) → IsClaimOf file.now claim → IfOk result (λ c. c ≡ claim) }
+    ensures read { IfOk result (λ claim. claim ≡ claim_of file.now) }
+{
+    let mut reader = ClaimReader::new(alloc);
+    reader.feed(file)?;
+    reader.finish()
+}

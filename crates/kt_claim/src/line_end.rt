@@ -1,0 +1,97 @@
+//! What a line is once it has ended.
+
+ghost use Rattle.std.specs.Prelude.{◌≡◌, None, [], ℕ, List, false, true};
+ghost use Rattle.kt_claim.specs.TapStream.{trimmed};
+ghost use Rattle.kt_claim.specs.LineStates.{behind_opening, directed, facts_of_kind, told, is_reason};
+
+use crate::begun::Begun;
+use crate::line_kind::LineKind;
+use crate::line_steps::{LIMIT, is_blank};
+use crate::opening::Opening;
+use crate::purpose::Purpose;
+
+/// The text up to its last byte that is no blank.
+pub fn trimmed(text: &[u8]) -> &[u8]
+    ensures { result.now ≡ trimmed text.now }
+{
+    let mut rest = text;
+    while let Some((b, front)) = rest.split_last() {
+        if !is_blank(*b) {
+            break;
+        }
+        rest = front;
+    }
+    rest
+}
+
+/// A line that is nothing but a word.
+fn lone(opening: Opening) -> LineKind
+    ensures { facts_of_kind result [] ≡ behind_opening opening [] }
+{
+    match opening {
+        Opening::BailOut => LineKind::Bail,
+        Opening::Ok => LineKind::Test,
+        Opening::NotOk => LineKind::Failure,
+        Opening::Plan => LineKind::Other,
+    }
+}
+
+/// A line that began with a word and may lack some of it.
+fn opened(opening: Opening, lacks: &'static [u8]) -> LineKind
+    ensures { (kept : List ℕ) → facts_of_kind result [] ≡ told (Begun.Opened opening lacks.entry) kept [] }
+{
+    if lacks.is_empty() {
+        lone(opening)
+    } else {
+        LineKind::Other
+    }
+}
+
+fn planned(tests: u64) -> LineKind
+    ensures { (kept : List ℕ) → facts_of_kind result [] ≡ told (Begun.Blanks tests) kept [] }
+{
+    if tests < LIMIT {
+        LineKind::Plan(tests)
+    } else {
+        LineKind::Other
+    }
+}
+
+fn counted(value: Option<u64>) -> LineKind
+    ensures { (kept : List ℕ) → facts_of_kind result [] ≡ told (Begun.Digits value) kept [] }
+{
+    match value {
+        None => LineKind::Other,
+        Some(tests) => planned(tests),
+    }
+}
+
+/// No directive came.
+fn undirected(purpose: Purpose) -> LineKind
+    ensures { facts_of_kind result [] ≡ directed purpose None }
+{
+    match purpose {
+        Purpose::Excuse => LineKind::Failure,
+        Purpose::Explain => LineKind::Plan(0),
+    }
+}
+
+/// What the line is; a reason that was begun is not looked at.
+pub fn ended(begun: Begun) -> LineKind
+    ensures plain { is_reason begun ≡ false → (kept : List ℕ) → facts_of_kind result [] ≡ told begun kept [] }
+    ensures reason { is_reason begun ≡ true → result ≡ LineKind.Plan 0 }
+{
+    match begun {
+        Begun::Nothing => LineKind::Other,
+        Begun::Opened(opening, lacks) => opened(opening, lacks),
+        Begun::Digits(value) => counted(value),
+        Begun::Blanks(tests) => planned(tests),
+        Begun::Looking(purpose, _) => undirected(purpose),
+        Begun::Hash(purpose) => undirected(purpose),
+        Begun::Lettered(purpose, _) => undirected(purpose),
+        Begun::Word => LineKind::Plan(0),
+        Begun::Gap => LineKind::Plan(0),
+        Begun::Reason => LineKind::Plan(0),
+        Begun::Decided(kind) => kind,
+    }
+}

@@ -1,0 +1,8 @@
+/// The words with which the lines that count begin.
+#[derive(Clone, Copy, Debug)]
+pub enum Opening {
+    BailOut,
+    Ok,
+    NotOk,
+    Plan,
+}

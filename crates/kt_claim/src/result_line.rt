@@ -1,0 +1,170 @@
+//! The one line of a result file.
+
+ghost use Rattle.std.specs.Prelude.{◌≡◌, ◌≤◌, ◌<◌, length, IfOk, IfSome, MatchOption, option_map};
+ghost use Rattle.std.specs.List.{prefix_len};
+ghost use Rattle.kt_claim.specs.Bytes.{is_digit, is_word_byte, number_from};
+ghost use Rattle.kt_claim.specs.ResultReading.{below_256, value_of, number_in, reason_in, with_reason_in, with_number_in, numbered, claim_with, after_bracket, plainly, after_word, claim_of_line};
+
+use crate::claim::Claim;
+use crate::claim_fault::ClaimFault;
+use crate::word::Word;
+use kt_base::{NoMemory, Text, lossy};
+use std::alloc::Global;
+
+fn is_word_byte(b: u8) -> bool
+    ensures { result ≡ is_word_byte b }
+{
+    matches!(b, b'a'..=b'z' | b'_')
+}
+
+fn word_length(text: &[u8]) -> usize
+    ensures value { result ≡ prefix_len is_word_byte text.now }
+    ensures within { result ≤ length text.now }
+{
+    text.iter().take_while(|b| is_word_byte(**b)).count()
+}
+
+fn is_digit(b: u8) -> bool
+    ensures { result ≡ is_digit b }
+{
+    b.is_ascii_digit()
+}
+
+fn digits_length(text: &[u8]) -> usize
+    ensures value { result ≡ prefix_len is_digit text.now }
+    ensures within { result ≤ length text.now }
+{
+    text.iter().take_while(|b| is_digit(**b)).count()
+}
+
+/// The value of decimal digits, if it is below 256.
+fn below_256(digits: &[u8]) -> Option<u8>
+    ensures { result ≡ below_256 (number_from 0 digits.now) }
+{
+    let mut value = 0u8;
+    let mut rest = digits;
+    while let Some((b, after)) = rest.split_first() {
+        let next = 10 * value as u32 + b.saturating_sub(b'0') as u32;
+        if next > 255 {
+            return None;
+        }
+        value = next as u8;
+        rest = after;
+    }
+    Some(value)
+}
+
+fn value_of(digits: &[u8]) -> Option<u8>
+    ensures { result ≡ value_of digits.now }
+{
+    match digits {
+        [] => None,
+        _ => below_256(digits),
+    }
+}
+
+/// The number behind a bracket, and what follows the bracket that closes it.
+#[tactic(auto, unfolding(crate::specs::ResultReading::number_in))]
+fn number(rest: &[u8]) -> Option<(u8, &[u8])>
+    ensures { option_map (λ x. (x.0, x.1.now)) result ≡ number_in rest.now }
+{
+    let (digits, rest) = rest.split_at(digits_length(rest));
+    let value = value_of(digits)?;
+    let (b, rest) = rest.split_first()?;
+    if *b == b')' {
+        Some((value, rest))
+    } else {
+        None
+    }
+}
+
+fn reason(rest: &[u8]) -> Option<&[u8]>
+    ensures { option_map (λ x. x.now) result ≡ reason_in rest.now }
+{
+    if rest.starts_with(b": ") && rest.len() > 2 {
+        Some(&rest[2..])
+    } else {
+        None
+    }
+}
+
+fn claim_with(word: Word, reason: Text) -> Claim
+    ensures { result ≡ claim_with word reason }
+{
+    match word {
+        Word::Passed => Claim::Passed,
+        Word::Failed => Claim::Failed(reason),
+        Word::Skipped => Claim::Skipped(reason),
+        Word::ExpectedDeath => Claim::ExpectedDeath(reason),
+        Word::ExpectedFailure => Claim::ExpectedFailure(reason),
+        Word::ExpectedTimeout => Claim::ExpectedTimeout(reason),
+        Word::ExpectedExit => Claim::ExpectedExit(None, reason),
+        Word::ExpectedSignal => Claim::ExpectedSignal(None, reason),
+    }
+}
+
+fn numbered(word: Word, number: u8, reason: Text) -> Claim
+    ensures { result ≡ numbered word number reason }
+{
+    match word {
+        Word::ExpectedExit => Claim::ExpectedExit(Some(number), reason),
+        Word::ExpectedSignal => Claim::ExpectedSignal(Some(number), reason),
+        _ => Claim::Malformed(ClaimFault::BadNumber),
+    }
+}
+
+fn after_bracket(alloc: Global, word: Word, rest: &[u8]) -> Result<Claim, NoMemory>
+    ensures { IfOk result (λ claim. claim ≡ after_bracket word rest.now) }
+{
+    if !word.may_have_number() {
+        return Ok(Claim::Malformed(ClaimFault::BadNumber));
+    }
+    let Some((number, rest)) = number(rest) else {
+        return Ok(Claim::Malformed(ClaimFault::BadNumber));
+    };
+    let Some(reason) = reason(rest) else {
+        return Ok(Claim::Malformed(ClaimFault::NoReason));
+    };
+    Ok(numbered(word, number, lossy(alloc, reason)?))
+}
+
+fn plainly(alloc: Global, word: Word, rest: &[u8]) -> Result<Claim, NoMemory>
+    ensures { IfOk result (λ claim. claim ≡ plainly word rest.now) }
+{
+    if word == Word::Passed {
+        return Ok(if rest.is_empty() {
+            Claim::Passed
+        } else {
+            Claim::Malformed(ClaimFault::UnexpectedReason)
+        });
+    }
+    let Some(reason) = reason(rest) else {
+        return Ok(Claim::Malformed(ClaimFault::NoReason));
+    };
+    Ok(claim_with(word, lossy(alloc, reason)?))
+}
+
+fn after_word(alloc: Global, word: Word, rest: &[u8]) -> Result<Claim, NoMemory>
+    ensures { IfOk result (λ claim. claim ≡ after_word word rest.now) }
+{
+    let Some((b, after)) = rest.split_first() else {
+        return plainly(alloc, word, rest);
+    };
+    if *b == b'(' {
+        after_bracket(alloc, word, after)
+    } else {
+        plainly(alloc, word, rest)
+    }
+}
+
+/// The claim of a line.
+#[tactic(auto, unfolding(crate::specs::ResultReading::claim_of_line))]
+pub fn claim_of_line(alloc: Global, text: &[u8]) -> Result<Claim, NoMemory>
+    ensures { IfOk result (λ claim. claim ≡ claim_of_line text.now) }
+{
+    let (word, rest) = text.split_at(word_length(text));
+    let Some(word) = Word::of(word) else {
+        return Ok(Claim::Malformed(ClaimFault::UnknownWord));
+    };
+    after_word(alloc, word, rest)
+}

@@ -1,0 +1,150 @@
+ghost use Rattle.std.specs.Prelude.{◌≡◌, ◌<◌, ◌^◌, ◌++◌, [], ◌∷◌, ℕ, List, true, false, length, IfOk};
+ghost use Rattle.std.specs.Prelude.{◌+◌};
+ghost use Rattle.kt_claim.specs.TapStream.{skip_reason, why, tap_of_lines};
+ghost use Rattle.kt_claim.specs.LineStates.{facts_of, facts_of_kind};
+
+use crate::line_kind::LineKind;
+use crate::tap::Tap;
+use crate::tap_fault::TapFault;
+use kt_base::{NoMemory, Text, lossy};
+use std::alloc::Global;
+
+/// Counts of the lines of a stream before its first bail out.
+#[derive(Debug, Drop)]
+pub struct Tally {
+    pub bailed: bool,
+    /// The first plan: how many tests, and the reason if there are none.
+    pub plan: Option<(u64, Text)>,
+    /// There is a second plan.
+    pub second: bool,
+    pub tests: u64,
+    pub failures: u64,
+}
+
+fn skip_reason(alloc: Global, reason: &[u8]) -> Result<Text, NoMemory>
+    ensures { IfOk result (λ text. text ≡ skip_reason reason.now) }
+{
+    if reason.is_empty() {
+        return Text::from_str(alloc, "No reason given");
+    }
+    lossy(alloc, reason)
+}
+
+/// A plan of no tests has a reason.
+fn why(alloc: Global, tests: u64, reason: &[u8]) -> Result<Text, NoMemory>
+    ensures { IfOk result (λ text. text ≡ why tests reason.now) }
+{
+    if tests == 0 {
+        skip_reason(alloc, reason)
+    } else {
+        Ok(Text::new(alloc))
+    }
+}
+
+fn one_more(n: u64) -> u64
+    ensures { n < 2 ^ 32 → result ≡ n + 1 }
+{
+    n.saturating_add(1)
+}
+
+impl Tally {
+    ghost use Rattle.kt_claim.specs.TapReading.{IsTally, with_plan};
+
+    pub fn new() -> Tally
+        ensures { IsTally result [] }
+    {
+        Tally {
+            bailed: false,
+            plan: None,
+            second: false,
+            tests: 0,
+            failures: 0,
+        }
+    }
+
+    fn with_bail(self) -> Tally
+        ensures { result ≡ record self { bailed = true } }
+    {
+        Tally {
+            bailed: true,
+            ..self
+        }
+    }
+
+    fn with_test(self) -> Tally
+        ensures { self.tests < 2 ^ 32 → result ≡ record self { tests = self.tests + 1 } }
+    {
+        Tally {
+            tests: one_more(self.tests),
+            ..self
+        }
+    }
+
+    fn with_failure(self) -> Tally
+        ensures { self.failures < 2 ^ 32 → result ≡ record self { failures = self.failures + 1 } }
+    {
+        Tally {
+            failures: one_more(self.failures),
+            ..self
+        }
+    }
+
+    fn with_plan(self, alloc: Global, tests: u64, reason: &[u8]) -> Result<Tally, NoMemory>
+        ensures { IfOk result (λ after. after ≡ with_plan self tests (why tests reason.now)) }
+    {
+        if self.plan.is_some() {
+            return Ok(Tally {
+                second: true,
+                ..self
+            });
+        }
+        let reason = why(alloc, tests, reason)?;
+        let plan = Some((tests, reason));
+        Ok(Tally { plan, ..self })
+    }
+
+    /// Counts one more line of this kind; the reason is that of a plan of no tests. Lines behind a bail out do not count.
+    pub fn add(self, alloc: Global, kind: LineKind, reason: &[u8]) -> Result<Tally, NoMemory>
+        ensures { IfOk result (λ after. (line : List ℕ) (lines : List (List ℕ)) → facts_of line ≡ facts_of_kind kind reason.now → length lines < 2 ^ 32 → IsTally self lines → IsTally after (lines ++ line ∷ [])) }
+    {
+        if self.bailed {
+            return Ok(self);
+        }
+        match kind {
+            LineKind::Other => Ok(self),
+            LineKind::Bail => Ok(self.with_bail()),
+            LineKind::Test => Ok(self.with_test()),
+            LineKind::Failure => Ok(self.with_test().with_failure()),
+            LineKind::Plan(tests) => self.with_plan(alloc, tests, reason),
+        }
+    }
+
+    /// What the lines say.
+    pub fn tap(self) -> Tap
+        ensures { (lines : List (List ℕ)) → IsTally self lines → result ≡ tap_of_lines lines }
+    {
+        let Tally {
+            bailed,
+            plan,
+            second,
+            tests,
+            failures,
+        } = self;
+        if bailed {
+            return Tap::BailedOut;
+        }
+        let Some((planned, reason)) = plan else {
+            return Tap::Invalid(TapFault::NoPlan);
+        };
+        if second {
+            return Tap::Invalid(TapFault::SecondPlan);
+        }
+        if planned != tests {
+            return Tap::Invalid(TapFault::PlanDiffers);
+        }
+        if tests == 0 {
+            return Tap::SkipAll(reason);
+        }
+        Tap::Counted(failures, tests)
+    }
+}

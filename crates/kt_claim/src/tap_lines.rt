@@ -1,0 +1,74 @@
+//! The lines of a TAP stream that comes in pieces.
+
+ghost use Rattle.std.specs.Prelude.{◌≡◌, ◌<◌, ◌≤◌, ◌+◌, ◌++◌, ◌∷◌, [], not, false, ℕ, List, length, IfOk, OnOk};
+ghost use Rattle.std.specs.List.{list_any, prefix_len};
+ghost use Rattle.kt_claim.specs.Bytes.{is_newline};
+ghost use Rattle.kt_claim.specs.TapStream.{limit, tap_of_lines, lines_of};
+ghost use Rattle.kt_claim.specs.TapReading.{state_of, HasLines};
+ghost use Rattle.kt_claim.specs.declared.tally.Tally.{Tally};
+
+use crate::begun::Begun;
+use crate::line_end::{ended, trimmed};
+use crate::line_parts::go_on;
+use crate::open_line::OpenLine;
+use crate::tally::Tally;
+use crate::tap::Tap;
+use kt_base::NoMemory;
+use std::alloc::Global;
+
+fn line_length(text: &[u8]) -> usize
+    ensures value { result ≡ prefix_len (λ b. not (is_newline b)) text.now }
+    ensures within { result ≤ length text.now }
+{
+    text.iter().take_while(|b| **b != b'\n').count()
+}
+
+/// Goes on with the line that was begun.
+fn take_part(line: &mut OpenLine, part: &[u8]) -> Result<(), NoMemory>
+    ensures { OnOk result (list_any is_newline part.now ≡ false → (tally : Tally) (fed : List ℕ) → HasLines tally (state_of line.old) fed → HasLines tally (state_of line.new) (fed ++ part.now)) }
+{
+    go_on(line, part)?;
+    Ok(())
+}
+
+/// Counts the line that was begun and now has its newline.
+fn end_line(alloc: Global, tally: Tally, line: &mut OpenLine) -> Result<Tally, NoMemory>
+    ensures { IfOk result (λ after. (fed : List ℕ) → length fed < limit → HasLines tally (state_of line.old) fed → HasLines after (state_of line.new) (fed ++ 10 ∷ [])) }
+{
+    let after = tally.add(alloc, ended(line.begun), trimmed(&line.kept))?;
+    line.begun = Begun::Nothing;
+    line.kept.clear();
+    line.held = false;
+    Ok(after)
+}
+
+/// What the lines say, the last one too.
+pub fn tap_at_end(alloc: Global, tally: Tally, line: &OpenLine) -> Result<Tap, NoMemory>
+    ensures { IfOk result (λ tap. (fed : List ℕ) → length fed ≤ limit → HasLines tally (state_of line.now) fed → tap ≡ tap_of_lines (lines_of fed)) }
+{
+    let tally = tally.add(alloc, ended(line.begun), trimmed(&line.kept))?;
+    Ok(tally.tap())
+}
+
+/// Counts the lines that end in a piece, and begins the last.
+pub fn read(
+    alloc: Global,
+    tally: Tally,
+    line: &mut OpenLine,
+    piece: &[u8],
+) -> Result<Tally, NoMemory>
+    ensures { IfOk result (λ after. (fed : List ℕ) → length fed + length piece.now ≤ limit → HasLines tally (state_of line.old) fed → HasLines after (state_of line.new) (fed ++ piece.now)) }
+{
+    let mut tally = tally;
+    let mut rest = piece;
+    while !rest.is_empty() {
+        let (part, after) = rest.split_at(line_length(rest));
+        take_part(line, part)?;
+        let Some((_, after)) = after.split_first() else {
+            return Ok(tally);
+        };
+        tally = end_line(alloc, tally, line)?;
+        rest = after;
+    }
+    Ok(tally)
+}

@@ -1,0 +1,112 @@
+ghost use Rattle.std.specs.Prelude.{◌≡◌, IfOk};
+ghost use Rattle.kt_claim.specs.TapStream.{tap_of};
+
+use crate::begun::Begun;
+use crate::open_line::OpenLine;
+use crate::tally::Tally;
+use crate::tap::Tap;
+use crate::tap_fault::TapFault;
+use crate::tap_lines::{read, tap_at_end};
+use kt_base::NoMemory;
+use std::alloc::Global;
+use std::marker::Model;
+use std::mem;
+
+/// The most bytes of a stream.
+const LIMIT: usize = 16_777_216;
+
+/// Reads a TAP stream that comes in pieces. It keeps counts, the first plan, and of the line that was begun how far it
+/// has come; no bytes but those of a plan's reason.
+#[derive(Drop)]
+pub struct TapReader {
+    alloc: Global,
+    tally: Tally,
+    line: OpenLine,
+    length: usize,
+    too_long: bool,
+    failed: bool,
+}
+
+impl Model for TapReader {
+    ghost use Rattle.std.specs.Prelude.{◌≤◌};
+    ghost use Rattle.kt_claim.specs.StreamReading.{StreamReading};
+    ghost use Rattle.kt_claim.specs.TapReading.{state_of};
+    ghost use Rattle.kt_claim.specs.TapStream.{limit};
+
+    ghost Value = { StreamReading };
+
+    ghost view = { λ r. record { tally = r.tally; line = state_of r.line; length = r.length; too_long = r.too_long; failed = r.failed } };
+
+    ghost invariant = { λ r. r.length ≤ limit };
+}
+
+impl TapReader {
+    ghost use Rattle.std.specs.Prelude.{false, ◌≡◌, ◌++◌, ℕ, List, [], true, IfOk, OnOk, OnErr, IsErr};
+    ghost use Rattle.kt_claim.specs.StreamReading.{HasStream, KeepsLittle};
+    ghost use Rattle.kt_claim.specs.TapStream.{tap_of};
+
+    /// A reader that has read nothing.
+    pub fn new(alloc: Global) -> Self
+        ensures { HasStream result [] }
+    {
+        TapReader {
+            alloc,
+            tally: Tally::new(),
+            line: OpenLine {
+                begun: Begun::Nothing,
+                kept: Vec::new(alloc),
+                held: false,
+            },
+            length: 0,
+            too_long: false,
+            failed: false,
+        }
+    }
+
+    /// Takes the next piece. Once memory has run out, each later call answers so.
+    pub fn feed(&mut self, piece: &[u8]) -> Result<(), NoMemory>
+        ensures ok { OnOk result ((fed : List ℕ) → HasStream self.old fed → HasStream self.new (fed ++ piece.now)) }
+        ensures bounded { (fed : List ℕ) → HasStream self.new fed → self.new.too_long ≡ false → KeepsLittle self.new.line fed }
+        ensures err { OnErr result (self.new.failed ≡ true) }
+        ensures failed { self.old.failed ≡ true → IsErr result }
+    {
+        if self.failed {
+            return Err(NoMemory);
+        }
+        if self.too_long || piece.len() > LIMIT - self.length {
+            self.too_long = true;
+            return Ok(());
+        }
+        let tally = mem::replace(&mut self.tally, Tally::new());
+        let Ok(tally) = read(self.alloc, tally, &mut self.line, piece) else {
+            self.failed = true;
+            return Err(NoMemory);
+        };
+        self.tally = tally;
+        self.length += piece.len();
+        Ok(())
+    }
+
+    /// What the pieces joined say.
+    pub fn finish(self) -> Result<Tap, NoMemory>
+        ensures value { (fed : List ℕ) → HasStream self fed → IfOk result (λ tap. tap ≡ tap_of fed) }
+        ensures failed { self.failed ≡ true → IsErr result }
+    {
+        if self.failed {
+            return Err(NoMemory);
+        }
+        if self.too_long {
+            return Ok(Tap::Invalid(TapFault::TooLong));
+        }
+        tap_at_end(self.alloc, self.tally, &self.line)
+    }
+}
+
+/// What a TAP stream says.
+pub fn read_tap(alloc: Global, text: &[u8]) -> Result<Tap, NoMemory>
+    ensures { IfOk result (λ tap. tap ≡ tap_of text.now) }
+{
+    let mut reader = TapReader::new(alloc);
+    reader.feed(text)?;
+    reader.finish()
+}

@@ -1,0 +1,12 @@
+pub mod Saying
+pub mod FaultWords
+pub mod Listed
+pub mod PlanLaws
+pub mod ResultTexts
+pub mod RunLaws
+pub mod Recorders
+pub mod Gainings
+pub mod LastRuns
+pub mod PlanRuns
+pub mod Testings
+pub mod Plays

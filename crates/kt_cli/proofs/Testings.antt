@@ -1,0 +1,114 @@
+-- A command over a world.
+use Rattle.std.specs.Prelude.{Option, Ok, Err, Bool, false, if◌then◌else◌}
+use Rattle.std.proofs.Common.{◌≡◌, ℕ, List, [], ◌∷◌, refl, sym, ap, ◌∙◌, subst, ◌⊎◌, inl, inr}
+use Rattle.kt_base.specs.Utf8.{utf8}
+use Rattle.kt_base.specs.Shows.{Shows}
+use Rattle.kt_base.specs.declared.role.Role.{Role}
+use Rattle.kt_base.specs.declared.run.Run.{Run}
+use Rattle.kt_sched.specs.Children.{Child, IsIdle}
+use Rattle.kt_sched.specs.declared.job.Job.{Job}
+use Rattle.kt_sched.specs.declared.start_answer.StartAnswer.{StartAnswer}
+use Rattle.kt_sched.specs.declared.ended.Ended.{Ended}
+use Rattle.kt_sched.specs.Trace.{NoEvent}
+use Rattle.kt_suite.specs.declared.program.Program.{Program}
+use Rattle.kt_suite.specs.declared.fault.SuiteFault.{SuiteFault}
+use Rattle.kt_suite.specs.Answers.{Asked, Chain, Answered}
+use Rattle.kt_suite.specs.Paths.{name_in}
+use Rattle.kt_suite.specs.Registered.{Outcome, Registered, no_memory}
+use Rattle.kt_cli.specs.declared.command.Command.{Command}
+use Rattle.kt_cli.specs.declared.command.Command.TheVariants as command
+use Rattle.kt_cli.specs.FaultLines.{memory_line, fault_line}
+use Rattle.kt_cli.specs.Listings.{listing, listing_exit, Listed}
+use Rattle.kt_cli.specs.Meaning.{Seen, Means, listed, untested, tested, CutShort, no_memory as short, cut, Did, RanPlan, IsTreeAlone, IsBegun}
+use Rattle.kt_cli.specs.Pages.{Printed, Says}
+use Rattle.kt_cli.specs.Plans.{plan_of}
+use Rattle.kt_cli.specs.Told.{Told, Now}
+
+-- what no question changes, many don't
+still : {S Q X : Type 0} (leads : S → Q → S → Type 0) (view : S → X) → ((s t : S) (q : Q) → leads s q t → view t ≡ view s) → (qs : List Q) (a b : S) → Chain leads qs a b → view b ≡ view a
+still leads view keeps [] a b h = ap view h
+still leads view keeps (q ∷ qs) a b h = still leads view keeps qs h.0 b h.2 ∙ keeps a h.0 q h.1
+
+module _ {W : Type 0} (asks : W → Asked → W → Type 0) (tells : W → Told → W → Type 0) (starts : W → Job → Role → StartAnswer → W → Type 0) (waits : W → Ended → W → Type 0) where
+  -- a world is idle as before, after questions to its tree and one to its host
+  pub idle_on : (running : W → ℕ → Role → Option Child) (pending : W → ℕ → Bool)
+      → ((s t : W) (q : Asked) → asks s q t → (k : ℕ) (r : Role) → running t k r ≡ running s k r) → ((s t : W) (q : Asked) → asks s q t → (k : ℕ) → pending t k ≡ pending s k)
+      → ((s t : W) (q : Told) → tells s q t → (k : ℕ) (r : Role) → running t k r ≡ running s k r) → ((s t : W) (q : Told) → tells s q t → (k : ℕ) → pending t k ≡ pending s k)
+      → (old mid new : W) (qs : List Asked) (m : Told) → Chain asks qs old mid → tells mid m new → IsIdle (running old) (pending old) → IsIdle (running new) (pending new)
+  idle_on running pending a b d e old mid new qs m h t i = record {
+    runs = λ k r. d mid new m t k r ∙ still asks (λ s. running s k r) (λ s u q x. a s u q x k r) qs old mid h ∙ i.runs k r;
+    pends = λ k. e mid new m t k ∙ still asks (λ s. pending s k) (λ s u q x. b s u q x k) qs old mid h ∙ i.pends k;
+  }
+
+  tree_alone : List Asked → Seen
+  tree_alone asked = record { asked = asked; told = []; plan = []; trace = NoEvent }
+
+  done_with_tree : (c : Command) (old new : W) (runs : List Run) (was now : Option (List ℕ)) (exit : ℕ) (asked : List Asked) (text : List ℕ) (due : ℕ) → Chain asks asked old new
+      → Means (record { asked = asked; told = []; plan = []; trace = NoEvent }) runs c (record { runs = runs; text = text; exit = due }) ⊎ CutShort (record { asked = asked; told = []; plan = []; trace = NoEvent }) runs c (record { runs = runs; text = text; exit = due })
+      → Printed was now exit text due → Did asks tells starts waits c old new runs runs was now exit
+  done_with_tree c old new runs was now exit asked text due h m p = record {
+    seen = record { asked = asked; told = []; plan = []; trace = NoEvent };
+    course = record { loaded = new; begun = new; asked = h; told = refl; ran = refl };
+    deed = record { runs = runs; text = text; exit = due };
+    means = m;
+    keeps = refl;
+    printed = p;
+  }
+
+  alone : (asked : List Asked) → IsTreeAlone (record { asked = asked; told = []; plan = []; trace = NoEvent })
+  alone asked = record { told = refl; trace = refl }
+
+  of_listing : (kyuafile : List ℕ) (runs : List Run) (asked : List Asked) (outcome : Outcome) → (outcome ≡ Err no_memory) ⊎ Registered asked (name_in kyuafile) outcome
+      → (Means (record { asked = asked; told = []; plan = []; trace = NoEvent }) runs (command.List kyuafile) (record { runs = runs; text = listing outcome; exit = listing_exit outcome }))
+      ⊎ (CutShort (record { asked = asked; told = []; plan = []; trace = NoEvent }) runs (command.List kyuafile) (record { runs = runs; text = listing outcome; exit = listing_exit outcome }))
+  of_listing kyuafile runs asked outcome (inl e) =
+      inr (subst (λ (o : Outcome). CutShort (record { asked = asked; told = []; plan = []; trace = NoEvent }) runs (command.List kyuafile) (record { runs = runs; text = listing o; exit = listing_exit o })) (sym e) (short (command.List kyuafile) (alone asked)))
+  of_listing kyuafile runs asked outcome (inr r) = inl (listed kyuafile outcome r (alone asked))
+
+  -- `list` is a command
+  pub did_list : (kyuafile : List ℕ) (old new : W) (runs : List Run) (was now : Option (List ℕ)) (exit : ℕ) → Listed asks kyuafile old new was now exit → Did asks tells starts waits (command.List kyuafile) old new runs runs was now exit
+  did_list kyuafile old new runs was now exit l =
+      done_with_tree (command.List kyuafile) old new runs was now exit l.asked (listing l.outcome) (listing_exit l.outcome) l.chain (of_listing kyuafile runs l.asked l.outcome l.registered) l.printed
+
+  of_fault : (kyuafile : List ℕ) (runs : List Run) (asked : List Asked) (fault : SuiteFault) → ◌≡◌ {A = Outcome} (Err fault) (Err no_memory) ⊎ Registered asked (name_in kyuafile) (Err fault)
+      → (Means (record { asked = asked; told = []; plan = []; trace = NoEvent }) runs (command.Test kyuafile) (record { runs = runs; text = fault_line fault; exit = 2 }))
+      ⊎ (CutShort (record { asked = asked; told = []; plan = []; trace = NoEvent }) runs (command.Test kyuafile) (record { runs = runs; text = fault_line fault; exit = 2 }))
+  of_fault kyuafile runs asked fault (inl e) =
+      inr (subst (λ (o : Outcome). CutShort (record { asked = asked; told = []; plan = []; trace = NoEvent }) runs (command.Test kyuafile) (record { runs = runs; text = listing o; exit = 2 })) (sym e) (short (command.Test kyuafile) (alone asked)))
+  of_fault kyuafile runs asked fault (inr r) = inl (untested kyuafile fault r (alone asked))
+
+  -- a fault of the tree
+  pub did_fault : (kyuafile : List ℕ) (old new : W) (runs : List Run) (was now : Option (List ℕ)) (exit : ℕ) (fault : SuiteFault) (f : Bool) → Answered asks old new (λ asked. ◌≡◌ {A = Outcome} (Err fault) (Err no_memory) ⊎ Registered asked (name_in kyuafile) (Err fault))
+      → Shows was now f (utf8 (fault_line fault)) → exit ≡ (if f then 2 else 2) → Did asks tells starts waits (command.Test kyuafile) old new runs runs was now exit
+  did_fault kyuafile old new runs was now exit fault f a s e =
+      done_with_tree (command.Test kyuafile) old new runs was now exit a.asked (fault_line fault) 2 a.chain (of_fault kyuafile runs a.asked fault a.holds) (record { failed = f; shows = s; exits = e })
+
+  -- memory ran out before a plan was made
+  pub did_short : (kyuafile : List ℕ) (old new : W) (runs : List Run) (was now : Option (List ℕ)) (exit : ℕ) (Holds : List Asked → Type 0) (f : Bool) → Answered asks old new Holds
+      → Says was false now f (utf8 memory_line) → exit ≡ (if f then 2 else 2) → Did asks tells starts waits (command.Test kyuafile) old new runs runs was now exit
+  did_short kyuafile old new runs was now exit Holds f a s e =
+      done_with_tree (command.Test kyuafile) old new runs was now exit a.asked memory_line 2 a.chain (inr (short (command.Test kyuafile) (alone a.asked))) (record { failed = f; shows = s.more; exits = e })
+
+  ok_is : (programs : List Program) (asked : List Asked) (root : List ℕ) → ◌≡◌ {A = Outcome} (Ok programs) (Err no_memory) ⊎ Registered asked root (Ok programs) → Registered asked root (Ok programs)
+  ok_is programs asked root (inl e) = absurd (cc)
+  ok_is programs asked root (inr r) = r
+
+  -- a plan was run
+  pub did_test : (kyuafile : List ℕ) (old loaded begun new : W) (runs after : List Run) (was now : Option (List ℕ)) (exit : ℕ) (programs : List Program) (plan : List Job) (moment : ℕ)
+      → Answered asks old loaded (λ asked. ◌≡◌ {A = Outcome} (Ok programs) (Err no_memory) ⊎ Registered asked (name_in kyuafile) (Ok programs)) → plan ≡ plan_of programs → tells loaded (Now moment) begun
+      → RanPlan starts waits plan moment begun new runs after was now exit → Did asks tells starts waits (command.Test kyuafile) old new runs after was now exit
+  did_test kyuafile old loaded begun new runs after was now exit programs plan moment a p t r =
+      let seen : Seen = record { asked = a.asked; told = Now moment ∷ []; plan = plan; trace = r.trace } in
+      let begin : IsBegun seen kyuafile moment = record { programs = programs; registered = ok_is programs a.asked (name_in kyuafile) a.holds; told = refl; plan = p } in
+      let either : Means seen runs (command.Test kyuafile) r.deed ⊎ CutShort seen runs (command.Test kyuafile) r.deed = elim r.means [ inl m ↦ inl (tested kyuafile moment r.deed begin m) | inr m ↦ inr (cut kyuafile moment r.deed begin m) ] in
+      record {
+        seen = seen;
+        course = record { loaded = loaded; begun = begun; asked = a.chain; told = (begun, t, refl); ran = r.leads };
+        deed = r.deed;
+        means = either;
+        keeps = r.keeps;
+        printed = r.printed;
+      }
+
+  pub did_as : (c d : Command) (old new : W) (runs after : List Run) (was now : Option (List ℕ)) (exit : ℕ) → c ≡ d → Did asks tells starts waits d old new runs after was now exit → Did asks tells starts waits c old new runs after was now exit
+  did_as c d old new runs after was now exit e h = subst (λ (x : Command). Did asks tells starts waits x old new runs after was now exit) (sym e) h

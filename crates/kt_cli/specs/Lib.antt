@@ -1,0 +1,12 @@
+pub mod Commands
+pub mod EntryLines
+pub mod FaultLines
+pub mod Listings
+pub mod Meaning
+pub mod OneChild
+pub mod Pages
+pub mod Plans
+pub mod Recording
+pub mod Recordings
+pub mod Runs
+pub mod Told

@@ -1,0 +1,35 @@
+//! The commands of kyua(1), over a world, recorded runs and a writer, and what reads a command line and the host's files.
+#![tactic(auto)]
+
+mod command;
+mod command_fault;
+mod entry_line;
+mod execution;
+mod exit;
+mod fault_line;
+mod host_world;
+mod listing;
+mod mem_runs;
+mod page;
+mod planning;
+mod programs;
+mod reading;
+mod recorder;
+mod run_head;
+mod runs_fault;
+mod testing;
+mod world;
+
+pub use command::Command;
+pub use command_fault::CommandFault;
+pub use execution::execute;
+pub use exit::Exit;
+pub use host_world::HostWorld;
+pub use mem_runs::MemRuns;
+pub use reading::read_command;
+pub use run_head::RunHead;
+pub use runs_fault::RunsFault;
+pub use world::World;
+
+#[cfg(test)]
+mod tests;

@@ -1,0 +1,41 @@
+ghost use Rattle.std.specs.Prelude.{chars};
+ghost use Rattle.std.specs.Fmt.{decimal};
+ghost use Rattle.kt_base.specs.Utf8.{utf8};
+ghost use Rattle.kt_cli.specs.Pages.{Says};
+
+use kt_base::{Text, emit, emit_number};
+use std::io::Write;
+
+/// Gives bytes to a writer, unless it failed before. Answers whether it has failed now.
+fn say<O: Write>(failed: bool, bytes: &[u8], out: &mut O) -> bool
+    ensures { Says (O.contents out.old) failed (O.contents out.new) result bytes.now }
+{
+    if failed {
+        return true;
+    }
+    emit(bytes, out).is_err()
+}
+
+/// Gives words to a writer.
+pub fn say_words<O: Write>(failed: bool, words: &str, out: &mut O) -> bool
+    ensures { Says (O.contents out.old) failed (O.contents out.new) result (utf8 (chars words.now)) }
+{
+    say(failed, words.as_bytes(), out)
+}
+
+/// Gives a text to a writer.
+pub fn say_text<O: Write>(failed: bool, text: &Text, out: &mut O) -> bool
+    ensures { Says (O.contents out.old) failed (O.contents out.new) result (utf8 text.now) }
+{
+    say(failed, text.as_str().as_bytes(), out)
+}
+
+/// Gives a number in decimal to a writer.
+pub fn say_number<O: Write>(failed: bool, n: u64, out: &mut O) -> bool
+    ensures { Says (O.contents out.old) failed (O.contents out.new) result (utf8 (decimal n)) }
+{
+    if failed {
+        return true;
+    }
+    emit_number(n, out).is_err()
+}

@@ -1,0 +1,276 @@
+use super::*;
+
+mod play;
+mod refusals;
+
+use kt_base::{Interface, Outcome, Text};
+use play::Play;
+use std::alloc::Global;
+use std::io;
+use std::io::{ErrorKind, Write};
+use std::test::Fail;
+
+/// A writer that keeps what it is given, and fails once it was called so often.
+#[derive(Drop)]
+struct Page {
+    kept: Vec<u8>,
+    calls: usize,
+}
+
+impl Write for Page {
+    fn write(&mut self, buf: &[u8]) -> io::Result<usize> {
+        if self.calls == 0 {
+            return Err(io::Error::from(ErrorKind::BrokenPipe));
+        }
+        self.calls -= 1;
+        self.kept.extend_from_slice(buf)?;
+        Ok(buf.len())
+    }
+
+    fn flush(&mut self) -> io::Result<()> {
+        Ok(())
+    }
+}
+
+/// What a command writes, its status, and the runs it leaves, with a writer that takes so many calls.
+fn played(
+    alloc: Global,
+    command: &Command,
+    kyuafile: Option<&[u8]>,
+    ends: &[Option<Outcome>],
+    calls: usize,
+) -> (Vec<u8>, u8, MemRuns) {
+    let mut world = Play {
+        alloc,
+        kyuafile,
+        ends,
+        moments: &[500, 1_000, 1_012],
+        runs: false,
+        position: 0,
+        interface: Interface::Plain,
+        next: Outcome::Exited(0),
+    };
+    let mut page = Page {
+        kept: Vec::new(alloc),
+        calls,
+    };
+    let mut runs = MemRuns::new(alloc);
+    let exit = execute(alloc, command, &mut world, &mut runs, &mut page);
+    (page.kept, exit.status, runs)
+}
+
+/// What `list` writes, and its status.
+fn listed(
+    alloc: Global,
+    file: &str,
+    kyuafile: Option<&[u8]>,
+    calls: usize,
+) -> Result<(Vec<u8>, u8), Fail> {
+    let command = Command::List(Text::from_str(alloc, file)?);
+    let (kept, status, _) = played(alloc, &command, kyuafile, &[], calls);
+    Ok((kept, status))
+}
+
+const TWO: &[u8] =
+    b"syntax(2)\ntest_suite('s')\nplain_test_program{name='b'}\nplain_test_program{name='a'}\nplain_test_program{name='b'}\n";
+
+#[test]
+fn cases_are_listed_in_the_order_of_the_kyuafile(rt: HostRuntime) -> Result<(), Fail> {
+    for (file, text) in [("Kyuafile", TWO), ("d/e/Kyuafile", TWO)] {
+        let (kept, status) = listed(rt.alloc(), file, Some(text), 100)?;
+        assert_eq!(rt; kept.as_slice(), b"b:main\na:main\nb:main\n".as_slice());
+        assert_eq!(rt; status, 0);
+    }
+    let (kept, status) = listed(rt.alloc(), "Kyuafile", Some(b"syntax(2)\n"), 100)?;
+    assert!(rt; kept.is_empty());
+    assert_eq!(rt; status, 0);
+    Ok(())
+}
+
+const LINES: [(&[u8], &[u8]); 12] = [
+    (b"", b"kyua: E: Kyuafile:1: syntax(2) expected\n"),
+    (
+        b"syntax(10)",
+        b"kyua: E: Kyuafile:1: syntax 10 not supported\n",
+    ),
+    (b"syntax(2)\n\nf(1)", b"kyua: E: Kyuafile:3: unknown call\n"),
+    (
+        b"syntax(2) plain_test_program{x=1}",
+        b"kyua: E: Kyuafile:1: unknown property\n",
+    ),
+    (
+        b"syntax(2) test_suite('')",
+        b"kyua: E: Kyuafile:1: bad value\n",
+    ),
+    (
+        b"syntax(2) plain_test_program{name='a'}",
+        b"kyua: E: Kyuafile:1: no test suite\n",
+    ),
+    (
+        b"syntax(2) plain_test_program{name='x/a'}",
+        b"kyua: E: Kyuafile:1: program name has a directory\n",
+    ),
+    (
+        b"syntax(2) plain_test_program{name='c', test_suite='s'}",
+        b"kyua: E: Kyuafile:1: program not found\n",
+    ),
+    (b"\xff", b"kyua: E: Kyuafile:0: not UTF-8\n"),
+    (b"\n\n@", b"kyua: E: Kyuafile:3: bad token\n"),
+    (
+        b"f{1}",
+        b"kyua: E: Kyuafile:1: not in the literal profile\n",
+    ),
+    (
+        b"f('a",
+        b"kyua: E: Kyuafile:1: unclosed string, comment or bracket\n",
+    ),
+];
+
+#[test]
+fn a_fault_is_told_on_one_line(rt: HostRuntime) -> Result<(), Fail> {
+    for (text, line) in LINES {
+        let (kept, status) = listed(rt.alloc(), "Kyuafile", Some(text), 100)?;
+        assert_eq!(rt; kept.as_slice(), line, "at {text:?}");
+        assert_eq!(rt; status, 2);
+    }
+    let (kept, status) = listed(rt.alloc(), "e/Kyuafile", None, 100)?;
+    assert_eq!(rt;
+        kept.as_slice(),
+        b"kyua: E: Kyuafile:0: file could not be read\n".as_slice()
+    );
+    assert_eq!(rt; status, 2);
+    Ok(())
+}
+
+#[test]
+fn a_failed_writer_holds_a_prefix(rt: HostRuntime) -> Result<(), Fail> {
+    let (whole, _) = listed(rt.alloc(), "Kyuafile", Some(TWO), 100)?;
+    for (text, calls) in [(TWO, 6), (b"\n\n@", 7)] {
+        let (whole, _) = listed(rt.alloc(), "Kyuafile", Some(text), calls)?;
+        for k in 0..calls {
+            let (kept, status) = listed(rt.alloc(), "Kyuafile", Some(text), k)?;
+            assert_eq!(rt; status, 2, "at {k}");
+            assert!(rt;
+                kept.len() < whole.len() && whole.as_slice().starts_with(kept.as_slice()),
+                "at {k}"
+            );
+        }
+    }
+    assert_eq!(rt; whole.len(), 21);
+    Ok(())
+}
+
+const ONE: &[u8] = b"syntax(2)\ntest_suite('s')\nplain_test_program{name='a'}\n";
+
+/// A Kyuafile, how its programs end, and what `test` is to write, its status and the entries of its run.
+struct Row {
+    kyuafile: &'static [u8],
+    ends: &'static [Option<Outcome>],
+    text: &'static [u8],
+    status: u8,
+    entries: usize,
+}
+
+const ROWS: [Row; 6] = [
+    Row {
+        kyuafile: b"syntax(2)\n",
+        ends: &[],
+        text: b"\n0/0 passed (0 failed)\n",
+        status: 0,
+        entries: 0,
+    },
+    Row {
+        kyuafile: ONE,
+        ends: &[Some(Outcome::Exited(0))],
+        text: b"a:main  ->  passed  [0.012s]\n\n1/1 passed (0 failed)\n",
+        status: 0,
+        entries: 1,
+    },
+    Row {
+        kyuafile: ONE,
+        ends: &[Some(Outcome::Exited(255))],
+        text: b"a:main  ->  failed: Returned non-success exit status 255  [0.012s]\n\n0/1 passed (1 failed)\n",
+        status: 1,
+        entries: 1,
+    },
+    Row {
+        kyuafile: ONE,
+        ends: &[Some(Outcome::Signaled(11, true))],
+        text: b"a:main  ->  broken: Received signal 11  [0.012s]\n\n0/1 passed (1 failed)\n",
+        status: 1,
+        entries: 1,
+    },
+    Row {
+        kyuafile: ONE,
+        ends: &[],
+        text: b"a:main  ->  broken: Work directory could not be made  [0.000s]\n\n0/1 passed (1 failed)\n",
+        status: 1,
+        entries: 1,
+    },
+    Row {
+        kyuafile: TWO,
+        ends: &[
+            Some(Outcome::Exited(0)),
+            Some(Outcome::Exited(3)),
+            Some(Outcome::Exited(0)),
+        ],
+        text: b"b:main  ->  passed  [0.012s]\na:main  ->  failed: Returned non-success exit status 3  [0.000s]\nb:main  ->  passed  [0.000s]\n\n2/3 passed (1 failed)\n",
+        status: 1,
+        entries: 3,
+    },
+];
+
+#[test]
+fn each_case_is_recorded_and_told(rt: HostRuntime) -> Result<(), Fail> {
+    let command = Command::Test(Text::from_str(rt.alloc(), "Kyuafile")?);
+    for row in &ROWS {
+        let (kept, status, runs) = played(rt.alloc(), &command, Some(row.kyuafile), row.ends, 100);
+        assert_eq!(rt; kept.as_slice(), row.text);
+        assert_eq!(rt; status, row.status);
+        let heads = runs.runs(rt.alloc())?;
+        assert!(rt; heads.len() == 1 && heads.as_slice()[0].finished);
+        if let Ok(entries) = runs.entries(1) {
+            assert_eq!(rt; entries.len(), row.entries);
+        }
+    }
+    Ok(())
+}
+
+#[test]
+fn no_run_begins_for_a_faulty_kyuafile(rt: HostRuntime) -> Result<(), Fail> {
+    let command = Command::Test(Text::from_str(rt.alloc(), "Kyuafile")?);
+    let (kept, status, runs) = played(rt.alloc(), &command, None, &[], 100);
+    assert_eq!(rt;
+        kept.as_slice(),
+        b"kyua: E: Kyuafile:0: file could not be read\n".as_slice()
+    );
+    assert_eq!(rt; status, 2);
+    assert!(rt; runs.runs(rt.alloc())?.is_empty());
+    Ok(())
+}
+
+#[test]
+fn a_writer_that_fails_stops_no_case(rt: HostRuntime) -> Result<(), Fail> {
+    let command = Command::Test(Text::from_str(rt.alloc(), "Kyuafile")?);
+    let (whole, _, _) = played(
+        rt.alloc(),
+        &command,
+        Some(ONE),
+        &[Some(Outcome::Exited(0))],
+        100,
+    );
+    for k in 0..100 {
+        let (kept, status, runs) = played(
+            rt.alloc(),
+            &command,
+            Some(ONE),
+            &[Some(Outcome::Exited(0))],
+            k,
+        );
+        assert!(rt; whole.as_slice().starts_with(kept.as_slice()), "at {k}");
+        assert_eq!(rt; status == 2, kept.len() < whole.len(), "at {k}");
+        let heads = runs.runs(rt.alloc())?;
+        assert!(rt; heads.len() == 1 && heads.as_slice()[0].finished, "at {k}");
+    }
+    Ok(())
+}

@@ -1,0 +1,4 @@
+pub mod Days
+pub mod EscapeSteps
+pub mod LineSteps
+pub mod Tellings

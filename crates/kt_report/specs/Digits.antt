@@ -1,0 +1,19 @@
+-- Numbers with a fixed count of digits, and durations.
+use Rattle.std.specs.Prelude.{ℕ, ◌+◌, ◌/◌, ◌%◌, List, [], ◌∷◌, ◌++◌, codes}
+use Rattle.std.specs.Fmt.{decimal}
+
+abbrev pub digit : ℕ → ℕ
+digit n = 48 + n % 10
+
+abbrev pub two_digits : ℕ → List ℕ
+two_digits n = digit (n / 10) ∷ digit n ∷ []
+
+abbrev pub three_digits : ℕ → List ℕ
+three_digits n = digit (n / 100) ∷ digit (n / 10) ∷ digit n ∷ []
+
+abbrev pub four_digits : ℕ → List ℕ
+four_digits n = digit (n / 1000) ∷ digit (n / 100) ∷ digit (n / 10) ∷ digit n ∷ []
+
+-- milliseconds as seconds with three digits behind the point
+abbrev pub seconds : ℕ → List ℕ
+seconds millis = decimal (millis / 1000) ++ codes "." ++ three_digits (millis % 1000)

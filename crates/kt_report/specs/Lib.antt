@@ -1,0 +1,7 @@
+pub mod Cases
+pub mod Digits
+pub mod Escapes
+pub mod Junits
+pub mod Lines
+pub mod Telling
+pub mod Texts

@@ -1,0 +1,87 @@
+-- The text report of a run.
+use Rattle.std.specs.Prelude.{ℕ, ◌/◌, ◌%◌, Bool, true, false, if◌then◌else◌, List, [], ◌∷◌, ◌++◌, codes, length, flat_map, sum_by, ℤ, pos, unsigned_abs, min, ◌≡◌}
+use Rattle.std.specs.List.{filter, list_any}
+use Rattle.std.specs.Fmt.{decimal}
+use Rattle.jiff_core.specs.declared.civil.date.Date.{Date}
+use Rattle.jiff_core.specs.Date.{epoch_day}
+use Rattle.kt_base.specs.declared.kind.Kind.{Kind}
+use Rattle.kt_base.specs.declared.kind.Kind.TheVariants.{Passed, Skipped, ExpectedFailure, Failed, Broken}
+use Rattle.kt_base.specs.declared.entry.Entry.{Entry}
+use Rattle.kt_base.specs.declared.run.Run.{Run}
+use Rattle.kt_report.specs.Digits.{two_digits, three_digits, four_digits, seconds}
+use Rattle.kt_report.specs.Lines.{line_bytes}
+
+abbrev pub same_kind : Kind → Kind → Bool
+same_kind Passed Passed = true
+same_kind Skipped Skipped = true
+same_kind ExpectedFailure ExpectedFailure = true
+same_kind Failed Failed = true
+same_kind Broken Broken = true
+same_kind _ _ = false
+
+-- whether an entry has this kind
+abbrev pub is_of : Kind → Entry → Bool
+is_of kind e = same_kind kind e.verdict.kind
+
+-- the entries of a kind, by position
+abbrev pub entries_of : Kind → List Entry → List Entry
+entries_of kind entries = filter (is_of kind) entries
+
+abbrev pub title : Kind → List ℕ
+title Passed = codes "Passed tests"
+title Skipped = codes "Skipped tests"
+title ExpectedFailure = codes "Expected failures"
+title Broken = codes "Broken tests"
+title Failed = codes "Failed tests"
+
+-- a title over lines, where there is a line
+abbrev pub titled : List ℕ → List Entry → List ℕ
+titled title [] = []
+titled title (e ∷ entries) = codes "===> " ++ title ++ codes "\n" ++ flat_map line_bytes (e ∷ entries)
+
+-- the section of a kind, where it is chosen
+abbrev pub section : List Kind → List Entry → Kind → List ℕ
+section kinds entries kind = if list_any (same_kind kind) kinds then titled (title kind) (entries_of kind entries) else []
+
+abbrev pub sections : List Kind → List Entry → List ℕ
+sections kinds entries = section kinds entries Passed ++ section kinds entries Skipped ++ section kinds entries ExpectedFailure ++ section kinds entries Broken ++ section kinds entries Failed
+
+-- the latest moment that is told
+abbrev pub told_moment : ℕ → ℕ
+told_moment moment = min moment 253402300799999
+
+-- the civil date of a moment, in UTC
+abbrev pub IsDateOf : ℕ → Date → Type 0
+IsDateOf moment date = epoch_day date ≡ pos (told_moment moment / 86400000)
+
+-- the time of day of so many milliseconds since midnight
+abbrev pub clock_bytes : ℕ → List ℕ
+clock_bytes millis = two_digits (millis / 3600000) ++ codes ":" ++ two_digits (millis / 60000 % 60) ++ codes ":" ++ two_digits (millis / 1000 % 60) ++ codes "." ++ three_digits (millis % 1000)
+
+-- a moment on its date
+abbrev pub moment_bytes : Date → ℕ → List ℕ
+moment_bytes date moment =
+    four_digits (unsigned_abs date.year) ++ codes "-" ++ two_digits date.month ++ codes "-" ++ two_digits date.day ++ codes "T" ++ clock_bytes (told_moment moment % 86400000) ++ codes "Z"
+
+abbrev pub unfinished_bytes : Bool → List ℕ
+unfinished_bytes true = []
+unfinished_bytes false = codes ", unfinished"
+
+abbrev pub count_bytes : Kind → List Entry → List ℕ
+count_bytes kind entries = decimal (length (entries_of kind entries))
+
+abbrev pub started_bytes : Date → Run → List ℕ
+started_bytes date run = codes "===> Summary\nRun " ++ decimal run.number ++ codes ", started " ++ moment_bytes date run.started ++ unfinished_bytes run.finished
+
+abbrev pub counts_bytes : List Entry → List ℕ
+counts_bytes entries =
+    codes "\nTest cases: " ++ decimal (length entries) ++ codes " total, " ++ count_bytes Skipped entries ++ codes " skipped, " ++ count_bytes ExpectedFailure entries ++ codes " expected failures, "
+    ++ count_bytes Broken entries ++ codes " broken, " ++ count_bytes Failed entries ++ codes " failed\n"
+
+-- the run, the counts of its recorded entries, and the sum of their times
+abbrev pub summary : Date → Run → List ℕ
+summary date run = started_bytes date run ++ counts_bytes run.entries ++ codes "Total time: " ++ seconds (sum_by (λ e. e.millis) run.entries) ++ codes "s\n"
+
+-- the chosen sections, and the summary
+abbrev pub text_bytes : Date → List Kind → Run → List ℕ
+text_bytes date kinds run = sections kinds run.entries ++ summary date run

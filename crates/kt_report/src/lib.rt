@@ -1,0 +1,22 @@
+//! The texts of a run: the line of an entry, the text report and the JUnit report.
+#![tactic(auto)]
+
+mod case_texts;
+mod digits;
+mod entry_line;
+mod escaping;
+mod junit_report;
+mod moments;
+mod report_fault;
+mod sections;
+mod summary;
+mod telling;
+mod text_report;
+
+pub use entry_line::line;
+pub use junit_report::junit;
+pub use report_fault::ReportFault;
+pub use text_report::text;
+
+#[cfg(test)]
+mod tests;

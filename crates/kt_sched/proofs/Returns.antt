@@ -1,0 +1,66 @@
+-- what the run loop has done where it is over
+use Rattle.std.specs.Prelude.{Option, Some, None, is_some, Result, Ok, Err}
+use Rattle.std.proofs.Common.{ℕ, Bool, List, length, take, sym, ◌∙◌, ap, subst, arith}
+use Rattle.kt_base.specs.declared.role.Role.{Role}
+use Rattle.kt_base.specs.declared.entry.Entry.{Entry}
+use Rattle.kt_sched.specs.declared.job.Job.{Job}
+use Rattle.kt_sched.specs.declared.start_answer.StartAnswer.{StartAnswer}
+use Rattle.kt_sched.specs.declared.ended.Ended.{Ended}
+use Rattle.kt_sched.specs.declared.next.Next.TheVariants as next
+use Rattle.kt_sched.specs.declared.sink_fault.SinkFault.{SinkFault}
+use Rattle.kt_sched.specs.declared.totals.Totals.{Totals}
+use Rattle.kt_sched.specs.declared.run_fault.RunFault.TheVariants.{SinkFailed}
+use Rattle.kt_sched.specs.Children.{Child}
+use Rattle.kt_sched.specs.Plan.{IsPlan, IsWidth}
+use Rattle.kt_sched.specs.RecordOrder.{recorded}
+use Rattle.kt_sched.specs.EntryOf.{AreEntries}
+use Rattle.kt_sched.specs.Fed.{Fed}
+use Rattle.kt_sched.specs.Next.{IsNext, Follows}
+use Rattle.kt_sched.specs.Run.{Ran}
+use Rattle.kt_sched.proofs.Going.{Going}
+use Rattle.kt_sched.proofs.Gaining.{Gained, gained_all}
+use Rattle.kt_sched.proofs.Ending.{goes_legal, goes_stopped, four_calls, named_once}
+
+gained_are : {S : Type 0} (puts : S → Entry → Result (Unit {0}) SinkFault → S → Type 0) (entries : S → List Entry) (plan : List Job) (n : ℕ) (fed : Fed) (totals : Totals) (fault : Option SinkFault) (before after : S) → (k : Gained puts entries plan n fed totals fault before after) → AreEntries plan fed.trace (take (length k.gained) (recorded plan n fed.trace)) k.gained
+gained_are puts entries plan n fed totals fault before after k =
+    subst (λ (m : ℕ). AreEntries plan fed.trace (take m (recorded plan n fed.trace)) k.gained) (sym k.count) k.are
+
+-- no put failed
+pub ran_well : {L S : Type 0} (running : L → ℕ → Role → Option Child) (pending : L → ℕ → Bool) (starts : L → Job → Role → StartAnswer → L → Type 0) (waits : L → Ended → L → Type 0) (puts : S → Entry → Result (Unit {0}) SinkFault → S → Type 0) (entries : S → List Entry) (plan : List Job) (n : ℕ) (fed : Fed) (totals : Totals) (old new : L) (before after : S)
+    → IsPlan plan → IsWidth n → Going running pending starts waits plan n fed old new → IsNext plan n fed next.Done → Follows plan fed next.Done → Gained puts entries plan n fed totals None before after → Ran starts waits puts entries plan n old new before after (Ok totals)
+ran_well running pending starts waits puts entries plan n fed totals old new before after p w h x f k =
+    let o = ap is_some k.gains.0 in
+    let once = named_once plan n fed.trace p (omega (arith, w.positive)) (f.1 o) k.recorded in
+    record {
+      trace = fed.trace;
+      leads = h.leads;
+      fits = h.fits;
+      calls = four_calls plan fed.trace p f.0 h.beyond;
+      gained = k.gained;
+      are = gained_are puts entries plan n fed totals None before after k;
+      kept = k.kept;
+      ends = record {
+        legal = goes_legal running pending starts waits plan n fed old new k.gains.0 h f;
+        once = once;
+        all = gained_all puts entries plan n fed totals None before after (x.0 o) k ∙ once.all;
+        gains = k.gains.1;
+        counts = k.counts;
+      };
+    }
+
+-- one put failed
+pub ran_short : {L S : Type 0} (running : L → ℕ → Role → Option Child) (pending : L → ℕ → Bool) (starts : L → Job → Role → StartAnswer → L → Type 0) (waits : L → Ended → L → Type 0) (puts : S → Entry → Result (Unit {0}) SinkFault → S → Type 0) (entries : S → List Entry) (plan : List Job) (n : ℕ) (fed : Fed) (totals : Totals) (fault : SinkFault) (old new : L) (before after : S)
+    → IsPlan plan → Going running pending starts waits plan n fed old new → Follows plan fed next.Done → Gained puts entries plan n fed totals (Some fault) before after → Ran starts waits puts entries plan n old new before after (Err (SinkFailed fault))
+ran_short running pending starts waits puts entries plan n fed totals fault old new before after p h f k = record {
+  trace = fed.trace;
+  leads = h.leads;
+  fits = h.fits;
+  calls = four_calls plan fed.trace p f.0 h.beyond;
+  gained = k.gained;
+  are = gained_are puts entries plan n fed totals (Some fault) before after k;
+  kept = k.kept;
+  ends = record {
+    failed = k.gains.0;
+    stopped = goes_stopped running pending starts waits plan n k.gains.0.next.after fed old new k.gains.1 h f;
+  };
+}

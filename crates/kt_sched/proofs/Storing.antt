@@ -1,0 +1,59 @@
+-- the moments of an entry
+use Rattle.std.specs.Prelude.{slice_get, Some, None, if◌then◌else◌, ◌==◌, ⊤}
+use Rattle.std.proofs.Common.{◌≡◌, ℕ, ◌-◌, ◌≤◌, Bool, true, false, List, [], ◌∷◌, ◌++◌, refl, sym, subst, arith}
+use Rattle.kt_base.specs.declared.role.Role.TheVariants.{Body, Cleanup}
+use Rattle.kt_base.specs.declared.entry.Entry.{Entry}
+use Rattle.kt_base.specs.Verdicts.{Judged}
+use Rattle.kt_sched.specs.declared.job.Job.{Job}
+use Rattle.kt_sched.specs.declared.start_answer.StartAnswer.TheVariants.{Started, Refused}
+use Rattle.kt_sched.specs.Trace.{Event, Start, End, Trace, NoEvent, Then, position_of, of}
+use Rattle.kt_sched.specs.ScheduleRules.{Each}
+use Rattle.kt_sched.specs.EntryOf.{entry_of, IsEntryOf}
+use Rattle.kt_sched.specs.Moments.{IsMoment, HasMoment, IsStorable}
+use Rattle.kt_sched.specs.Run.{FitsAt}
+use Rattle.kt_sched.proofs.Turns.{some_is}
+
+abbrev HasGoodMoment : Event → Type 0
+HasGoodMoment (Start i role answer) = HasMoment answer
+HasGoodMoment (End ended) = IsMoment ended.moment
+
+abbrev AreTimely : List Event → Type 0
+AreTimely [] = ⊤
+AreTimely (e ∷ es) = HasGoodMoment e × AreTimely es
+
+timely_more : (es : List Event) (e : Event) → AreTimely es → HasGoodMoment e → AreTimely (es ++ e ∷ [])
+timely_more [] e h g = (g, tt)
+timely_more (x ∷ es) e h g = (h.0, timely_more es e h.1 g)
+
+good_moment : (plan : List Job) (T : Trace) (e : Event) → FitsAt plan T e → HasGoodMoment e
+good_moment plan T (Start i role answer) f = f
+good_moment plan T (End ended) f = f.0
+
+timely_of : (plan : List Job) (i : ℕ) (T : Trace) → Each (FitsAt plan) T → AreTimely (of i T)
+timely_of plan i NoEvent h = tt
+timely_of plan i (Then T e) h = by (position_of e == i) (timely_of plan i T h.0)
+  where
+    by : (b : Bool) → AreTimely (of i T) → AreTimely (if b then of i T ++ e ∷ [] else of i T)
+    by true g = timely_more (of i T) e g (good_moment plan T e h.1)
+    by false g = g
+
+storable : (job : Job) (es : List Event) (entry : Entry) → entry_of job es ≡ Some entry → AreTimely es → IsStorable entry
+storable job [] entry e t = by job.decided refl
+  where
+    by : (o : _) → job.decided ≡ o → IsStorable entry
+    by None d = absurd (cc (Rattle.std.proofs.Common.ap (λ (o : Rattle.std.specs.Prelude.Option Judged). entry_of (record job { decided = o }) []) d, e))
+    by (Some v) d =
+        subst IsStorable (some_is _ entry (Rattle.std.proofs.Common.◌∙◌ (sym (Rattle.std.proofs.Common.ap (λ (o : Rattle.std.specs.Prelude.Option Judged). entry_of (record job { decided = o }) []) d)) e))
+        (record { started = omega arith; millis = omega arith })
+storable job (Start i Body (Refused cause) ∷ []) entry e t = subst IsStorable (some_is _ entry e) (record { started = omega arith; millis = omega arith })
+storable job (Start i Body (Started m) ∷ End x ∷ []) entry e t =
+    subst IsStorable (some_is _ entry e) (record { started = t.0; millis = omega (arith, t.1.0) })
+storable job (Start i Body (Started m) ∷ End x ∷ Start j Cleanup (Refused cause) ∷ []) entry e t =
+    subst IsStorable (some_is _ entry e) (record { started = t.0; millis = omega (arith, t.1.0) })
+storable job (Start i Body (Started m) ∷ End x ∷ Start j Cleanup (Started k) ∷ End y ∷ []) entry e t =
+    subst IsStorable (some_is _ entry e) (record { started = t.0; millis = omega (arith, t.1.1.1.0) })
+storable job other entry e t = absurd (cc)
+
+-- an entry of a trace whose moments lie in the range can be stored
+pub storable_entry : (plan : List Job) (T : Trace) (i : ℕ) (entry : Entry) → Each (FitsAt plan) T → IsEntryOf plan T i entry → IsStorable entry
+storable_entry plan T i entry f w = storable w.job (of i T) entry w.entry_is (timely_of plan i T f)

@@ -1,0 +1,284 @@
+-- The core's state, and what it stands for.
+use Rattle.std.specs.Prelude.{ℕ, Bool, true, false, List, [], ◌∷◌, ◌++◌, ◌==◌, ◌≡◌, ◌≢◌, ◌<◌, ◌≤◌, ◌⊎◌, Option, Some, None, map, take, drop, filter, nat_lt, count_by, sum_by, length, slice_get, is_some, is_none, ⊤, if◌then◌else◌}
+use Rattle.kt_base.specs.declared.role.Role.{Role}
+use Rattle.kt_base.specs.declared.role.Role.TheVariants.{Body, Cleanup}
+use Rattle.kt_base.specs.Verdicts.{Judged}
+use Rattle.kt_base.specs.declared.entry.Entry.{Entry}
+use Rattle.kt_sched.specs.declared.job.Job.{Job}
+use Rattle.kt_sched.specs.declared.start_answer.StartAnswer.TheVariants as told
+use Rattle.kt_sched.specs.declared.ended.Ended.{Ended}
+use Rattle.kt_sched.specs.declared.next.Next.{Next}
+use Rattle.kt_sched.specs.declared.next.Next.TheVariants as next
+use Rattle.kt_sched.specs.declared.answer.Answer.{Answer}
+use Rattle.kt_sched.specs.declared.stage.Stage.{Stage}
+use Rattle.kt_sched.specs.declared.stage.Stage.TheVariants.{Waiting, Decided, Running, Owing, Cleaning, Finished, Taken}
+use Rattle.kt_sched.specs.declared.case.Case.{Case}
+use Rattle.kt_sched.specs.declared.tale.Tale.{Tale}
+use Rattle.kt_sched.specs.Trace.{Event, Start, End, Trace, of}
+use Rattle.kt_sched.specs.History.{mark_of, is_whole}
+use Rattle.kt_sched.specs.TurnOrder.{body_starts, turns}
+use Rattle.kt_sched.specs.ScheduleRules.{owed}
+use Rattle.kt_sched.specs.RecordOrder.{is_open, was_open, recorded}
+use Rattle.kt_sched.specs.EntryOf.{entry_of, body_of, no_output}
+use Rattle.kt_sched.specs.Plan.{IsPlan}
+use Rattle.kt_sched.specs.Fed.{Fed, has_failed, IsAnswerTo}
+
+-- the core's state
+pub record Board : Type 0 where
+  pub cases : List Case
+  pub order : List ℕ
+  pub turn : ℕ
+  pub active : ℕ
+  pub width : ℕ
+  pub pending : Option ℕ
+  pub ready : Option ℕ
+  pub asked : Next
+  pub failed : Bool
+
+-- a case that waits for its turn
+abbrev pub is_fresh : Stage → Bool
+is_fresh Waiting = true
+is_fresh Decided = true
+is_fresh _ = false
+
+-- whether a stage runs in a role
+abbrev pub stage_runs : Role → Stage → Bool
+stage_runs Body (Running m) = true
+stage_runs Cleanup (Cleaning b) = true
+stage_runs role other = false
+
+-- whether a stage is that of an active case
+abbrev pub is_active_stage : Stage → Bool
+is_active_stage (Running m) = true
+is_active_stage (Owing b) = true
+is_active_stage (Cleaning b) = true
+is_active_stage _ = false
+
+-- how many answers a case may still take
+abbrev pub stage_work : Stage → ℕ
+stage_work Waiting = 5
+stage_work Decided = 1
+stage_work (Running m) = 4
+stage_work (Owing b) = 3
+stage_work (Cleaning b) = 2
+stage_work (Finished t) = 1
+stage_work Taken = 0
+
+-- how many answers all cases may still take
+abbrev pub work : List Case → ℕ
+work cases = sum_by (λ c. stage_work c.stage) cases
+
+-- how much work is left: an answer to a put leaves it, each other takes some away
+abbrev pub Works : Next → ℕ → ℕ → Type 0
+Works (next.Put i) old new = new ≡ old
+Works (next.Start i role) old new = new < old
+Works next.Wait old new = new < old
+Works next.Done old new = ⊤
+
+-- the stage before the first answer
+abbrev pub first_stage : Option Judged → Stage
+first_stage None = Waiting
+first_stage (Some verdict) = Decided
+
+-- a case before the first answer
+abbrev pub first_case : Job → Case
+first_case job = record { job = job; stage = first_stage job.decided }
+
+-- what is told of a decided case
+abbrev pub decided_tale : Judged → Tale
+decided_tale verdict = record { verdict = verdict; started = 0; millis = 0; body = no_output; cleanup = no_output }
+
+-- what is told of a case by its decided verdict, if it has one
+abbrev pub decided_tale_of : Option Judged → Option Tale
+decided_tale_of None = None
+decided_tale_of (Some verdict) = Some (decided_tale verdict)
+
+-- what there is to tell of a case
+abbrev pub tale_in : Job → Stage → Option Tale
+tale_in job (Finished t) = Some t
+tale_in job Decided = decided_tale_of job.decided
+tale_in job _ = None
+
+-- the entry of a job of which this is told
+abbrev pub entry_with : Job → Tale → Entry
+entry_with job t = record {
+  position = job.position;
+  program = job.program;
+  case_name = job.case_name;
+  verdict = t.verdict;
+  started = t.started;
+  millis = t.millis;
+  body = t.body;
+  cleanup = t.cleanup;
+}
+
+-- how a stage stands for the events of its case
+abbrev pub IsStage : ℕ → Job → Stage → List Event → Type 0
+IsStage i job Waiting es = (es ≡ []) × (job.decided ≡ None)
+IsStage i job Decided es = (es ≡ []) × (is_some job.decided ≡ true)
+IsStage i job (Running m) es = (es ≡ Start i Body (told.Started m) ∷ []) × (job.decided ≡ None)
+IsStage i job (Owing b) es =
+    (e : Ended) × (es ≡ Start i Body (told.Started b.started) ∷ End e ∷ []) × (e.role ≡ Body) × (job.cleanup ≡ true)
+    × (b ≡ record { started = b.started; ended = e.moment; verdict = body_of e; output = e.output }) × (job.decided ≡ None)
+IsStage i job (Cleaning b) es =
+    (e : Ended) × (m : ℕ) × (es ≡ Start i Body (told.Started b.started) ∷ End e ∷ Start i Cleanup (told.Started m) ∷ []) × (e.role ≡ Body) × (job.cleanup ≡ true)
+    × (b ≡ record { started = b.started; ended = e.moment; verdict = body_of e; output = e.output }) × (job.decided ≡ None)
+IsStage i job (Finished t) es = (is_whole job (map mark_of es) ≡ true) × (entry_of job es ≡ Some (entry_with job t))
+IsStage i job Taken es = is_whole job (map mark_of es) ≡ true
+
+-- how a case stands for the events of a trace
+pub record CaseStands (T : Trace) (i : ℕ) (job : Job) (cases : List Case) : Type 0 where
+  pub case : Case
+  pub found : slice_get cases i ≡ Some case
+  pub stage : IsStage i job case.stage (of i T)
+  pub kept : case.stage ≢ Taken → case.job ≡ job
+
+-- the position that is ready, as a list
+abbrev pub listed : Option ℕ → List ℕ
+listed None = []
+listed (Some i) = i ∷ []
+
+-- whether a case is exclusive
+abbrev pub HasExclusive : List Case → ℕ → Bool → Type 0
+HasExclusive cases i flag = (c : Case) × (slice_get cases i ≡ Some c) × (c.job.exclusive ≡ flag)
+
+-- a case that isn't exclusive
+abbrev pub IsOrdinary : List Case → ℕ → Type 0
+IsOrdinary cases i = HasExclusive cases i false
+
+-- a case that is
+abbrev pub IsExclusive : List Case → ℕ → Type 0
+IsExclusive cases i = HasExclusive cases i true
+
+-- whether a case that waits for its turn is decided
+abbrev pub is_decided_stage : Stage → Bool
+is_decided_stage Decided = true
+is_decided_stage _ = false
+
+-- whether a case waits for its turn to be put
+abbrev pub HasDecided : List Case → ℕ → Bool → Type 0
+HasDecided cases i flag = (c : Case) × (slice_get cases i ≡ Some c) × (is_decided_stage c.stage ≡ flag)
+
+-- the case whose turn it is, where there is room for it
+abbrev pub HasTurn : Board → ℕ → Type 0
+HasTurn b i = (b.failed ≡ false) × (slice_get b.order b.turn ≡ Some i) × (b.active < b.width) × (b.active ≡ 0 ⊎ IsOrdinary b.cases i)
+
+-- there is no such case
+abbrev pub IsHeld : Board → Type 0
+IsHeld b =
+    (b.failed ≡ true) ⊎ ((length b.order ≤ b.turn) ⊎ ((b.width ≤ b.active) ⊎ ((0 < b.active) × ((i : ℕ) × (slice_get b.order b.turn ≡ Some i) × IsExclusive b.cases i))))
+
+-- the case whose turn it is, if there is room for one
+abbrev pub IsTurn : Board → Option ℕ → Type 0
+IsTurn b None = IsHeld b
+IsTurn b (Some i) = HasTurn b i
+
+-- no decided case can be put
+abbrev pub IsSettled : Board → Type 0
+IsSettled b = b.ready ≡ None → (i : ℕ) → HasTurn b i → HasDecided b.cases i false
+
+-- what was asked last fits the state
+abbrev pub IsAsked : Board → Next → Type 0
+IsAsked b (next.Start i Body) = (b.ready ≡ None) × (b.pending ≡ None) × HasTurn b i × IsSettled b
+IsAsked b (next.Start i Cleanup) = (b.ready ≡ None) × (b.pending ≡ Some i) × IsSettled b
+IsAsked b next.Wait = (b.ready ≡ None) × (b.pending ≡ None) × (0 < b.active) × IsSettled b
+IsAsked b (next.Put i) = (b.failed ≡ false) × (b.ready ≡ Some i)
+IsAsked b next.Done = ⊤
+
+-- what is chosen in a state
+abbrev pub IsChosen : Board → Next → Type 0
+IsChosen b (next.Put i) = b.ready ≡ Some i
+IsChosen b (next.Start i Cleanup) = (b.ready ≡ None) × (b.pending ≡ Some i)
+IsChosen b (next.Start i Body) = (b.ready ≡ None) × (b.pending ≡ None) × HasTurn b i
+IsChosen b next.Wait = (b.ready ≡ None) × (b.pending ≡ None) × (0 < b.active) × IsHeld b
+IsChosen b next.Done = (b.ready ≡ None) × (b.pending ≡ None) × (b.active ≡ 0) × IsHeld b
+
+-- a case whose entry can be taken
+abbrev pub IsTold : List Case → ℕ → Type 0
+IsTold cases i = (c : Case) × (t : Tale) × (slice_get cases i ≡ Some c) × (tale_in c.job c.stage ≡ Some t)
+
+-- a case that is not yet taken
+abbrev pub IsUntaken : List Case → ℕ → Type 0
+IsUntaken cases i = (c : Case) × (slice_get cases i ≡ Some c) × (c.stage ≢ Taken)
+
+-- how many answers may still be taken
+abbrev pub work_left : Board → ℕ
+work_left b = work b.cases
+
+-- the entry of this case can be taken
+abbrev pub HoldsEntry : Board → ℕ → Type 0
+HoldsEntry b i = IsTold b.cases i
+
+-- the job of this case can be lent
+abbrev pub CanLend : Board → ℕ → Type 0
+CanLend b i = IsUntaken b.cases i
+
+-- whether a verdict is decided
+abbrev pub is_decided : Job → Bool
+is_decided job = is_some job.decided
+
+-- whether none is
+abbrev pub is_undecided : Job → Bool
+is_undecided job = is_none job.decided
+
+-- whether there is room for a decided case beside so many active ones
+abbrev pub room_in : ℕ → ℕ → Job → Bool
+room_in a n job = if job.exclusive then a == 0 else nat_lt a n
+
+-- the longest run of decided ones with room, from the first on
+abbrev pub run_of : {X : Type 0} → (X → Bool) → (X → Bool) → List X → List X
+run_of decided room [] = []
+run_of decided room (x ∷ xs) = if decided x then (if room x then x ∷ run_of decided room xs else []) else []
+
+-- the decided cases that can be put at a turn, beside so many active ones
+abbrev pub opened : List Job → ℕ → ℕ → ℕ → List Job
+opened plan n a turn = run_of is_decided (room_in a n) (drop turn (turns plan))
+
+-- the positions of jobs
+abbrev pub positions : List Job → List ℕ
+positions jobs = map (λ (job : Job). job.position) jobs
+
+-- the bodies that were started are the undecided ones before a turn
+abbrev pub HasStarted : List Job → Trace → ℕ → Type 0
+HasStarted plan T turn = body_starts T ≡ positions (filter is_undecided (take turn (turns plan)))
+
+-- the decided cases before a turn had their due, those from there on have it now or not yet
+pub record AreGone (plan : List Job) (n : ℕ) (T : Trace) (turn : ℕ) : Type 0 where
+  pub gone : (k : ℕ) (job : Job) → k < turn → slice_get (turns plan) k ≡ Some job → is_decided job ≡ true → was_open plan n T job ≡ true
+  pub due : (k : ℕ) (job : Job) → turn ≤ k → slice_get (turns plan) k ≡ Some job → was_open plan n T job ≡ is_open plan n T job
+
+-- the state stands for a plan, a width and the answers fed so far
+pub record Stands (plan : List Job) (n : ℕ) (fed : Fed) (b : Board) : Type 0 where
+  pub is_plan : IsPlan plan
+  pub room : 0 < n
+  pub count : length b.cases ≡ length plan
+  pub cases : (i : ℕ) (job : Job) → slice_get plan i ≡ Some job → CaseStands fed.trace i job b.cases
+  pub beyond : (i : ℕ) → length plan ≤ i → of i fed.trace ≡ []
+  pub width : b.width ≡ n
+  pub active : b.active ≡ count_by (λ c. is_active_stage c.stage) b.cases
+  pub most : b.active ≤ n
+  pub starts : HasStarted plan fed.trace b.turn
+  pub walk : b.order ≡ positions (turns plan)
+  pub within : b.turn ≤ length b.order
+  pub waiting : (k i : ℕ) (c : Case) → slice_get b.order k ≡ Some i → slice_get b.cases i ≡ Some c → b.turn ≤ k → is_fresh c.stage ≡ true
+  pub begun : (k i : ℕ) (c : Case) → slice_get b.order k ≡ Some i → slice_get b.cases i ≡ Some c → k < b.turn → c.stage ≢ Waiting
+  pub lone : (k : ℕ) (j : Job) (c : Case) → slice_get plan k ≡ Some j → slice_get b.cases k ≡ Some c → j.exclusive ≡ true → is_active_stage c.stage ≡ true → b.active ≡ 1
+  pub pending : b.pending ≡ owed plan fed.trace
+  pub owing : (i : ℕ) (c : Case) → slice_get b.cases i ≡ Some c → (b : _) → c.stage ≡ Owing b → owed plan fed.trace ≡ Some i
+  pub owes : (i : ℕ) → owed plan fed.trace ≡ Some i → (had : Job) × (o : _) × (slice_get b.cases i ≡ Some (record { job = had; stage = Owing o }))
+  pub told : (i : ℕ) → b.ready ≡ Some i → b.asked ≡ next.Done → IsTold b.cases i
+  pub ripe : (i m : ℕ) → b.ready ≡ Some i → slice_get b.order m ≡ Some i → m < b.turn
+  pub gone : has_failed fed ≡ false → AreGone plan n fed.trace b.turn
+  pub stored : fed.stored ≤ length (recorded plan n fed.trace)
+  pub ready : has_failed fed ≡ false → drop fed.stored (recorded plan n fed.trace) ≡ listed b.ready ++ positions (opened plan n b.active b.turn)
+  pub stopped : b.failed ≡ true → b.ready ≡ None
+  pub failed : b.failed ≡ has_failed fed
+  pub asked : IsAsked b b.asked
+
+-- the state stands for some plan, width and answers
+abbrev pub IsStanding : Board → Type 0
+IsStanding b = (plan : List Job) × (n : ℕ) × (fed : Fed) × Stands plan n fed b
+
+-- the answer fits what was asked last
+abbrev pub IsAnswer : Board → Answer → Type 0
+IsAnswer b answer = (plan : List Job) × (n : ℕ) × (fed : Fed) × Stands plan n fed b × IsAnswerTo fed.trace b.asked answer

@@ -1,0 +1,112 @@
+-- What the steps of the core do to its cases.
+use Rattle.std.specs.Prelude.{ℕ, Bool, true, false, List, ◌++◌, ◌≡◌, ◌-◌, Option, Some, None, filter, map, drop, not, slice_get, slice_set, is_some, if◌then◌else◌}
+use Rattle.kt_base.specs.declared.entry.Entry.{Entry}
+use Rattle.kt_status.specs.declared.cleanup_end.CleanupEnd.{CleanupEnd}
+use Rattle.kt_base.specs.declared.output.Output.{Output}
+use Rattle.kt_base.specs.declared.refused.Refused.{Refused}
+use Rattle.kt_status.specs.Verdicts.{verdict_of_refusal, verdict_after_cleanup}
+use Rattle.kt_sched.specs.declared.job.Job.{Job}
+use Rattle.kt_sched.specs.declared.ended.Ended.{Ended}
+use Rattle.kt_sched.specs.declared.stage.Stage.{Stage}
+use Rattle.kt_sched.specs.declared.stage.Stage.TheVariants.{Running, Owing, Cleaning, Taken}
+use Rattle.kt_sched.specs.declared.case.Case.{Case}
+use Rattle.kt_sched.specs.declared.ended_body.EndedBody.{EndedBody}
+use Rattle.kt_sched.specs.declared.tale.Tale.{Tale}
+use Rattle.kt_sched.specs.EntryOf.{body_of, no_output}
+use Rattle.kt_sched.specs.Board.{entry_with, tale_in, decided_tale}
+
+-- the case at i has this stage in place of that one, and nothing else is changed
+pub record Replaced (old new : List Case) (i : ℕ) (stage was : Stage) : Type 0 where
+  pub job : Job
+  pub found : slice_get old i ≡ Some (record { job = job; stage = was })
+  pub changed : new ≡ slice_set old i (record { job = job; stage = stage })
+
+-- the body that a stage tells of
+abbrev pub body_in : Stage → Option EndedBody
+body_in (Owing b) = Some b
+body_in (Cleaning b) = Some b
+body_in _ = None
+
+-- a case that has such a body
+pub record HasBody (cases : List Case) (i : ℕ) : Type 0 where
+  pub case : Case
+  pub found : slice_get cases i ≡ Some case
+  pub is : is_some (body_in case.stage) ≡ true
+
+-- its body was taken out
+pub record TookBody (old new : List Case) (i : ℕ) (body : EndedBody) : Type 0 where
+  pub was : Stage
+  pub is : body_in was ≡ Some body
+  pub replaced : Replaced old new i Taken was
+
+-- the moment since which a stage runs a body
+abbrev pub since : Stage → Option ℕ
+since (Running m) = Some m
+since _ = None
+
+-- a case whose body runs, with the moment
+pub record RunsSince (cases : List Case) (i m : ℕ) : Type 0 where
+  pub case : Case
+  pub found : slice_get cases i ≡ Some case
+  pub is : since case.stage ≡ Some m
+
+-- whether a case declares a cleanup
+pub record Declares (cases : List Case) (i : ℕ) (flag : Bool) : Type 0 where
+  pub case : Case
+  pub found : slice_get cases i ≡ Some case
+  pub is : flag ≡ case.job.cleanup
+
+-- position and names are kept
+pub record KeepsNames (old new : Job) : Type 0 where
+  pub position : new.position ≡ old.position
+  pub program : new.program ≡ old.program
+  pub case_name : new.case_name ≡ old.case_name
+
+-- the entry tells of this case
+abbrev pub TellsOf : Case → Entry → Type 0
+TellsOf case entry = (t : Tale) × (tale_in case.job case.stage ≡ Some t) × (entry ≡ entry_with case.job t)
+
+-- the entry of a case was taken
+pub record TookEntry (old new : List Case) (i : ℕ) (entry : Entry) : Type 0 where
+  pub had : Job
+  pub was : Stage
+  pub left : Job
+  pub tale : Tale
+  pub found : slice_get old i ≡ Some (record { job = had; stage = was })
+  pub told : tale_in had was ≡ Some tale
+  pub is : entry ≡ entry_with had tale
+  pub changed : new ≡ slice_set old i (record { job = left; stage = Taken })
+
+-- what is told of a case whose body was refused
+abbrev pub refused_tale : Refused → Tale
+refused_tale cause = decided_tale (verdict_of_refusal cause)
+
+-- what is told of a case after its cleanup came out so at the last moment
+abbrev pub tale_of : EndedBody → CleanupEnd → ℕ → Output → Tale
+tale_of body end last output =
+    record { verdict = verdict_after_cleanup body.verdict end; started = body.started; millis = last - body.started; body = body.output; cleanup = output }
+
+-- what is told of a case without a declared cleanup
+abbrev pub plain_tale : ℕ → Ended → Tale
+plain_tale started e = record { verdict = body_of e; started = started; millis = e.moment - started; body = e.output; cleanup = no_output }
+
+-- a body that ended, of a case that isn't over
+abbrev pub ended_body : ℕ → Ended → EndedBody
+ended_body started e = record { started = started; ended = e.moment; verdict = body_of e; output = e.output }
+
+-- a position to put, unless a put failed
+abbrev pub unless : Bool → ℕ → Option ℕ
+unless failed i = if failed then None else Some i
+
+-- whether two flags are the same
+abbrev pub same_flag : Bool → Bool → Bool
+same_flag true b = b
+same_flag false b = not b
+
+-- the positions of the cases that are exclusive, or of those that aren't
+abbrev pub positions_where : Bool → List Job → List ℕ
+positions_where flag jobs = map (λ (job : Job). job.position) (filter (λ (job : Job). same_flag flag job.exclusive) jobs)
+
+-- so many jobs of a plan are gone through
+abbrev pub GoneThrough : Bool → List Job → List ℕ → ℕ → List ℕ → Type 0
+GoneThrough flag plan old i order = old ++ positions_where flag plan ≡ order ++ positions_where flag (drop i plan)

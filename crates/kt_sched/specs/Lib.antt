@@ -1,0 +1,15 @@
+pub mod Plan
+pub mod Moments
+pub mod Children
+pub mod Trace
+pub mod History
+pub mod TurnOrder
+pub mod ScheduleRules
+pub mod RecordOrder
+pub mod EntryOf
+pub mod Fed
+pub mod Next
+pub mod Board
+pub mod Cases
+pub mod Run
+pub mod Shown

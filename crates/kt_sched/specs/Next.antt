@@ -1,0 +1,58 @@
+-- What is to be done next.
+use Rattle.std.specs.Prelude.{ℕ, true, false, List, [], ◌∷◌, ◌≡◌, ◌<◌, ◌⊎◌, Some, None, slice_get, ⊤}
+use Rattle.std.specs.List.{list_all}
+use Rattle.kt_base.specs.declared.role.Role.{Role}
+use Rattle.kt_base.specs.declared.role.Role.TheVariants.{Body, Cleanup}
+use Rattle.kt_sched.specs.declared.job.Job.{Job}
+use Rattle.kt_sched.specs.declared.next.Next.{Next}
+use Rattle.kt_sched.specs.declared.next.Next.TheVariants as next
+use Rattle.kt_sched.specs.Trace.{Trace, of}
+use Rattle.kt_sched.specs.History.{BodyStarted, BodyEnded, history, is_whole, has_whole_history, active}
+use Rattle.kt_sched.specs.TurnOrder.{next_to_start}
+use Rattle.kt_sched.specs.ScheduleRules.{owed, IsBusy, AloneAtStart}
+use Rattle.kt_sched.specs.RecordOrder.{recorded}
+use Rattle.kt_sched.specs.Fed.{Fed, has_failed, runs}
+
+-- each position of the record order is stored
+abbrev pub IsUpToDate : List Job → ℕ → Fed → Type 0
+IsUpToDate plan n fed = slice_get (recorded plan n fed.trace) fed.stored ≡ None
+
+-- the next body in turn order may be started: width and exclusiveness allow it
+pub record MayBegin (plan : List Job) (n : ℕ) (T : Trace) (i : ℕ) : Type 0 where
+  pub job : Job
+  pub next : next_to_start plan T ≡ Some job
+  pub place : job.position ≡ i
+  pub room : active plan T < n
+  pub alone : AloneAtStart plan T i Body
+
+-- what is to be done after these answers: the first that holds; after a failed put nothing is put and no body started
+abbrev pub IsNext : List Job → ℕ → Fed → Next → Type 0
+IsNext plan n fed (next.Put i) = (has_failed fed ≡ false) × (slice_get (recorded plan n fed.trace) fed.stored ≡ Some i)
+IsNext plan n fed (next.Start i Cleanup) = (has_failed fed ≡ false → IsUpToDate plan n fed) × (owed plan fed.trace ≡ Some i)
+IsNext plan n fed (next.Start i Body) =
+    (has_failed fed ≡ false) × IsUpToDate plan n fed × (owed plan fed.trace ≡ None) × MayBegin plan n fed.trace i
+IsNext plan n fed next.Wait =
+    (has_failed fed ≡ false → IsUpToDate plan n fed) × (owed plan fed.trace ≡ None) × (has_failed fed ≡ false → IsBusy plan n fed.trace)
+    × ((i : ℕ) × (role : Role) × (runs i role fed.trace ≡ true))
+IsNext plan n fed next.Done =
+    (has_failed fed ≡ false → IsUpToDate plan n fed) × (owed plan fed.trace ≡ None) × (has_failed fed ≡ false → IsBusy plan n fed.trace)
+    × ((i : ℕ) (role : Role) → runs i role fed.trace ≡ false)
+
+-- what is known of the case that is to be started
+pub record MayStartNow (plan : List Job) (T : Trace) (i : ℕ) (role : Role) : Type 0 where
+  pub job : Job
+  pub place : slice_get plan i ≡ Some job
+  pub unfinished : is_whole job (history i T) ≡ false
+  pub alone : AloneAtStart plan T i role
+
+-- each case that has an event has a whole history
+abbrev pub AreWhole : List Job → Trace → Type 0
+AreWhole plan T = (i : ℕ) (job : Job) → slice_get plan i ≡ Some job → (of i T ≡ []) ⊎ (has_whole_history T job ≡ true)
+
+-- what follows where this is to be done
+abbrev pub Follows : List Job → Fed → Next → Type 0
+Follows plan fed (next.Put i) = ⊤
+Follows plan fed (next.Start i Body) = MayStartNow plan fed.trace i Body × (history i fed.trace ≡ [])
+Follows plan fed (next.Start i Cleanup) = MayStartNow plan fed.trace i Cleanup × (history i fed.trace ≡ BodyStarted ∷ BodyEnded ∷ [])
+Follows plan fed next.Wait = (i : ℕ) × (role : Role) × (job : Job) × (runs i role fed.trace ≡ true) × (slice_get plan i ≡ Some job)
+Follows plan fed next.Done = AreWhole plan fed.trace × (has_failed fed ≡ false → list_all (has_whole_history fed.trace) plan ≡ true)

@@ -1,0 +1,92 @@
+-- What a run did to its launcher and its sink.
+use Rattle.std.specs.Prelude.{ℕ, List, [], ◌++◌, ◌==◌, ◌≡◌, ◌<◌, ◌≤◌, ◌+◌, Result, Ok, Err, slice_get, Some, length, take, count_by, cond, not}
+use Rattle.kt_base.specs.declared.role.Role.{Role}
+use Rattle.kt_base.specs.declared.kind.Kind.{Kind}
+use Rattle.kt_base.specs.declared.entry.Entry.{Entry}
+use Rattle.kt_base.specs.Kinds.{good as is_good}
+use Rattle.kt_sched.specs.declared.job.Job.{Job}
+use Rattle.kt_sched.specs.declared.start_answer.StartAnswer.{StartAnswer}
+use Rattle.kt_sched.specs.declared.ended.Ended.{Ended}
+use Rattle.kt_sched.specs.declared.sink_fault.SinkFault.{SinkFault}
+use Rattle.kt_sched.specs.declared.totals.Totals.{Totals}
+use Rattle.kt_sched.specs.declared.run_fault.RunFault.{RunFault}
+use Rattle.kt_sched.specs.declared.run_fault.RunFault.TheVariants.{NoMemory, SinkFailed}
+use Rattle.kt_sched.specs.Trace.{Event, Start, End, Trace, NoEvent, Leads, of}
+use Rattle.kt_sched.specs.ScheduleRules.{Each, Legal, Stopped}
+use Rattle.kt_sched.specs.RecordOrder.{Due, dues, recorded}
+use Rattle.kt_sched.specs.EntryOf.{Gains, IsEntryOf, AreEntries}
+use Rattle.kt_sched.specs.Children.{IsEvidence}
+use Rattle.kt_sched.specs.Moments.{IsMoment, HasMoment}
+
+-- the moment lies in the range, and the evidence is of the job's interface
+abbrev pub FitsAt : List Job → Trace → Event → Type 0
+FitsAt plan T (Start i role answer) = HasMoment answer
+FitsAt plan T (End ended) =
+    IsMoment ended.moment × ((job : Job) × (slice_get plan ended.position ≡ Some job) × IsEvidence job.interface ended.role ended.evidence)
+
+-- how many entries there are, and how many of them are good and bad
+pub record Counts (entries : List Entry) (t : Totals) : Type 0 where
+  pub total : t.total ≡ length entries
+  pub good : t.good ≡ count_by (λ (e : Entry). is_good e.verdict.kind) entries
+  pub bad : t.bad ≡ count_by (λ (e : Entry). not (is_good e.verdict.kind)) entries
+
+-- one entry more is counted
+abbrev pub counted : Totals → Kind → Totals
+counted t kind = record { total = t.total + 1; good = t.good + cond (is_good kind) 1 0; bad = t.bad + cond (not (is_good kind)) 1 0 }
+
+-- there is room to count one more
+pub record CanCount (t : Totals) (limit : ℕ) : Type 0 where
+  pub total : t.total + 1 ≤ limit
+  pub good : t.good ≤ t.total
+  pub bad : t.bad ≤ t.total
+
+-- each position of the plan stands in the list once, and nothing else does
+pub record NamesEachOnce (plan : List Job) (positions : List ℕ) : Type 0 where
+  pub all : length positions ≡ length plan
+  pub once : (i : ℕ) → i < length plan → count_by (λ p. p == i) positions ≡ 1
+
+-- after these entries, the put of the next one failed
+pub record FailedPut {S : Type 0} (puts : S → Entry → Result (Unit {0}) SinkFault → S → Type 0) (plan : List Job) (n : ℕ) (T : Trace) (gained : List Entry) (fault : SinkFault) (before after : S) : Type 0 where
+  pub next : Due
+  pub is_next : slice_get (dues plan n T) (length gained) ≡ Some next
+  pub refused : Entry
+  pub refused_is : IsEntryOf plan T next.position refused
+  pub mid : S
+  pub gains : Gains puts gained before mid
+  pub fails : puts mid refused (Err fault) after
+
+-- no put failed: the trace is legal, and the sink gained the entry of each case, in record order
+pub record RanWell {S : Type 0} (puts : S → Entry → Result (Unit {0}) SinkFault → S → Type 0) (plan : List Job) (n : ℕ) (T : Trace) (gained : List Entry) (before after : S) (totals : Totals) : Type 0 where
+  pub legal : Legal plan n T
+  pub once : NamesEachOnce plan (recorded plan n T)
+  pub all : length gained ≡ length plan
+  pub gains : Gains puts gained before after
+  pub counts : Counts gained totals
+
+-- one put failed, and it was the last; the trace was stopped where its entry was due
+pub record RanShort {S : Type 0} (puts : S → Entry → Result (Unit {0}) SinkFault → S → Type 0) (plan : List Job) (n : ℕ) (T : Trace) (gained : List Entry) (before after : S) (fault : SinkFault) : Type 0 where
+  pub failed : FailedPut puts plan n T gained fault before after
+  pub stopped : Stopped plan n T failed.next.after
+
+-- nothing was started and nothing put
+pub record RanNot {S : Type 0} (T : Trace) (gained : List Entry) (before after : S) : Type 0 where
+  pub events : T ≡ NoEvent
+  pub entries : gained ≡ []
+  pub same : after ≡ before
+
+-- what the answer says
+abbrev pub EndsAs : {S : Type 0} → (S → Entry → Result (Unit {0}) SinkFault → S → Type 0) → List Job → ℕ → Trace → List Entry → S → S → Result Totals RunFault → Type 0
+EndsAs puts plan n T gained before after (Ok totals) = RanWell puts plan n T gained before after totals
+EndsAs puts plan n T gained before after (Err (SinkFailed fault)) = RanShort puts plan n T gained before after fault
+EndsAs puts plan n T gained before after (Err NoMemory) = RanNot T gained before after
+
+-- at every exit: the launcher's answers as a trace, and the entries that the sink gained, those of the first cases in record order
+pub record Ran {L S : Type 0} (starts : L → Job → Role → StartAnswer → L → Type 0) (waits : L → Ended → L → Type 0) (puts : S → Entry → Result (Unit {0}) SinkFault → S → Type 0) (entries : S → List Entry) (plan : List Job) (n : ℕ) (old new : L) (before after : S) (result : Result Totals RunFault) : Type 0 where
+  pub trace : Trace
+  pub leads : Leads starts waits plan trace old new
+  pub fits : Each (FitsAt plan) trace
+  pub calls : (i : ℕ) → length (of i trace) ≤ 4
+  pub gained : List Entry
+  pub are : AreEntries plan trace (take (length gained) (recorded plan n trace)) gained
+  pub kept : entries after ≡ entries before ++ gained
+  pub ends : EndsAs puts plan n trace gained before after result

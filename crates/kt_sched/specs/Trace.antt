@@ -1,0 +1,44 @@
+-- Traces: the answers of a launcher, one after the other.
+use Rattle.std.specs.Prelude.{ℕ, List, [], ◌∷◌, ◌++◌, ◌==◌, ◌≡◌, ◌+◌, Some, slice_get, nat_le, if◌then◌else◌}
+use Rattle.kt_base.specs.declared.role.Role.{Role}
+use Rattle.kt_sched.specs.declared.job.Job.{Job}
+use Rattle.kt_sched.specs.declared.start_answer.StartAnswer.{StartAnswer}
+use Rattle.kt_sched.specs.declared.ended.Ended.{Ended}
+
+-- one answer of a launcher
+pub data Event : Type 0 where
+  Start : (position : ℕ) (role : Role) (answer : StartAnswer) → Event
+  End : (ended : Ended) → Event
+
+-- a launcher's answers, one after the other
+pub data Trace : Type 0 where
+  NoEvent : Trace
+  Then : (before : Trace) (event : Event) → Trace
+
+-- the answers lead a launcher from the first state to the second; each start was lent the plan's job
+abbrev pub Leads : {L : Type 0} → (L → Job → Role → StartAnswer → L → Type 0) → (L → Ended → L → Type 0) → List Job → Trace → L → L → Type 0
+Leads starts waits plan NoEvent old new = new ≡ old
+Leads {L} starts waits plan (Then T (Start i role answer)) old new =
+    (mid : L) × (job : Job) × Leads starts waits plan T old mid × (slice_get plan i ≡ Some job) × starts mid job role answer new
+Leads {L} starts waits plan (Then T (End ended)) old new =
+    (mid : L) × Leads starts waits plan T old mid × waits mid ended new
+
+-- how many events there are
+abbrev pub event_count : Trace → ℕ
+event_count NoEvent = 0
+event_count (Then T e) = event_count T + 1
+
+-- the first k events
+abbrev pub first : ℕ → Trace → Trace
+first k NoEvent = NoEvent
+first k (Then T e) = if nat_le (event_count T + 1) k then Then T e else first k T
+
+-- the position of an event's case
+abbrev pub position_of : Event → ℕ
+position_of (Start i role answer) = i
+position_of (End ended) = ended.position
+
+-- the events of case i, in order
+abbrev pub of : ℕ → Trace → List Event
+of i NoEvent = []
+of i (Then T e) = if position_of e == i then of i T ++ e ∷ [] else of i T

@@ -1,0 +1,25 @@
+ghost use Rattle.std.specs.Prelude.{◌≡◌, ◌-◌, ◌^◌};
+ghost use Rattle.kt_sched.specs.Run.{CanCount, counted};
+
+use crate::totals::Totals;
+use kt_base::Kind;
+
+/// Counts one entry more.
+pub fn counted(totals: Totals, kind: Kind) -> Totals
+    requires { CanCount totals (2 ^ 64 - 1) }
+    ensures { result ≡ counted totals kind }
+{
+    if kind.good() {
+        Totals {
+            total: totals.total + 1,
+            good: totals.good + 1,
+            bad: totals.bad,
+        }
+    } else {
+        Totals {
+            total: totals.total + 1,
+            good: totals.good,
+            bad: totals.bad + 1,
+        }
+    }
+}

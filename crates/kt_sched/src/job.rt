@@ -1,0 +1,22 @@
+use kt_base::{Interface, Text, Variables, Verdict};
+
+/// One test case of a plan.
+#[derive(Debug, Drop)]
+pub struct Job {
+    /// The place in the plan, counted from 0.
+    pub position: u32,
+    pub interface: Interface,
+    /// The path of the test program, relative to the directory of the root Kyuafile.
+    pub program: Text,
+    pub case_name: Text,
+    /// The configuration variables of the case's test suite, in order.
+    pub vars: Variables,
+    /// In seconds, 1 to 1,000,000.
+    pub timeout: u32,
+    /// Whether no other case may run beside it (`is_exclusive` of kyuafile(5)).
+    pub exclusive: bool,
+    /// Whether a cleanup is declared (`has.cleanup` of atf-test-case(4)).
+    pub cleanup: bool,
+    /// The verdict of a case that is not to be started: its requirements are not met, or its program's list failed.
+    pub decided: Option<Verdict>,
+}

@@ -1,0 +1,84 @@
+ghost use Rattle.kt_sched.specs.Children.{IsIdle};
+ghost use Rattle.kt_sched.specs.Plan.{IsPlan, IsWidth};
+ghost use Rattle.kt_sched.specs.Fed.{answer_of};
+ghost use Rattle.kt_sched.specs.Run.{Ran};
+ghost use Rattle.std.specs.Prelude.{◌≡◌};
+
+use crate::answer::Answer;
+use crate::count::counted;
+use crate::job::Job;
+use crate::launcher::Launcher;
+use crate::next::Next;
+use crate::run_fault::RunFault;
+use crate::sched::Sched;
+use crate::sink::Sink;
+use crate::sink_fault::SinkFault;
+use crate::start_answer::StartAnswer;
+use crate::totals::Totals;
+use kt_base::Items;
+use std::alloc::Global;
+
+/// Runs the cases of a plan over a launcher, at most `width` at once, and puts the entry of each into a sink.
+///
+/// After its first launcher call it takes no memory of its own.
+pub fn run_cases<L: Launcher, S: Sink>(
+    alloc: Global,
+    plan: Items<Job>,
+    width: u32,
+    launcher: &mut L,
+    sink: &mut S,
+) -> Result<Totals, RunFault>
+    requires plan { IsPlan plan }
+    requires width { IsWidth width }
+    requires idle { IsIdle (L.running launcher.old) (L.pending launcher.old) }
+    ensures { Ran L.starts L.waits S.puts S.entries plan width launcher.old launcher.new sink.old sink.new result }
+{
+    let mut sched = match Sched::new(alloc, plan, width) {
+        Ok(sched) => sched,
+        Err(_) => return Err(RunFault::NoMemory),
+    };
+    let mut totals = Totals::new();
+    let mut fault: Option<SinkFault> = None;
+    loop {
+        match sched.next() {
+            Next::Start(i, role) => {
+                let told = launcher.start(sched.job(i), role);
+                sched.feed(answer_of(told));
+            }
+            Next::Wait => {
+                let ended = launcher.wait();
+                sched.feed(Answer::Ended(ended));
+            }
+            Next::Put(i) => {
+                let entry = sched.take(i);
+                let more = counted(totals, entry.verdict.kind());
+                match sink.put(entry) {
+                    Ok(()) => {
+                        sched.feed(Answer::Stored);
+                        totals = more;
+                    }
+                    Err(cause) => {
+                        sched.feed(Answer::StoreFailed);
+                        fault = Some(cause);
+                    }
+                }
+            }
+            Next::Done => {
+                return match fault {
+                    None => Ok(totals),
+                    Some(cause) => Err(RunFault::SinkFailed(cause)),
+                };
+            }
+        }
+    }
+}
+
+/// What the core is told of a start.
+fn answer_of(told: StartAnswer) -> Answer
+    ensures { result ≡ answer_of told }
+{
+    match told {
+        StartAnswer::Started(moment) => Answer::Started(moment),
+        StartAnswer::Refused(cause) => Answer::Refused(cause),
+    }
+}

@@ -1,0 +1,54 @@
+ghost use Rattle.std.specs.Prelude.{OnOk, ◌++◌, ◌≡◌, map, IfOk};
+ghost use Rattle.kt_sched.specs.TurnOrder.{turns};
+ghost use Rattle.kt_sched.specs.Board.{first_case, positions};
+ghost use Rattle.kt_sched.specs.Cases.{positions_where};
+
+use crate::case::Case;
+use crate::job::Job;
+use crate::stage::Stage;
+use kt_base::NoMemory;
+use std::alloc::Global;
+
+/// A case that waits for its turn.
+fn first_case(job: Job) -> Case
+    ensures { result ≡ first_case job }
+{
+    let stage = match &job.decided {
+        None => Stage::Waiting,
+        Some(_) => Stage::Decided,
+    };
+    Case { job, stage }
+}
+
+/// The cases of a plan, none of them begun.
+pub fn first_cases(alloc: Global, plan: Vec<Job>) -> Result<Vec<Case>, NoMemory>
+    ensures { IfOk result (λ cases. cases.items ≡ map first_case plan.items) }
+{
+    let cases = plan.into_iter().map(|job| first_case(job)).collect(alloc)?;
+    Ok(cases)
+}
+
+/// The positions of a plan's cases in turn order: ordinary ones, then exclusive ones.
+pub fn turn_order(alloc: Global, plan: &Vec<Job>) -> Result<Vec<u32>, NoMemory>
+    ensures { IfOk result (λ order. order.items ≡ positions (turns plan.now.items)) }
+{
+    let mut order: Vec<u32> = Vec::new(alloc);
+    add_positions(plan, false, &mut order)?;
+    add_positions(plan, true, &mut order)?;
+    Ok(order)
+}
+
+/// Adds the positions of the cases that are exclusive, or of those that are not.
+fn add_positions(plan: &Vec<Job>, exclusive: bool, order: &mut Vec<u32>) -> Result<(), NoMemory>
+    ensures { OnOk result (order.new.items ≡ order.old.items ++ positions_where exclusive plan.now.items) }
+{
+    let mut i = 0;
+    while i < plan.len() {
+        let job = &plan[i];
+        if job.exclusive == exclusive {
+            order.push(job.position)?;
+        }
+        i += 1;
+    }
+    Ok(())
+}

@@ -1,0 +1,9 @@
+use kt_base::Refused;
+
+/// What a launcher answered to a start.
+#[derive(Clone, Copy, Debug, PartialEq, Eq)]
+pub enum StartAnswer {
+    /// With the moment, in milliseconds since 1970 in UTC.
+    Started(u64),
+    Refused(Refused),
+}

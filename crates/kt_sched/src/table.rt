@@ -1,0 +1,117 @@
+ghost use Rattle.std.specs.Prelude.{◌≡◌, ◌<◌, ℕ, length, Some, IsSome};
+ghost use Rattle.kt_sched.specs.declared.stage.Stage.TheVariants.{Taken};
+ghost use Rattle.kt_sched.specs.Board.{tale_in, IsTold, HasExclusive, HasDecided};
+ghost use Rattle.kt_sched.specs.Cases.{TellsOf, KeepsNames, Replaced, HasBody, TookBody, RunsSince, Declares, TookEntry};
+
+use crate::case::Case;
+use crate::ended_body::EndedBody;
+use crate::stage::Stage;
+use crate::tale::Tale;
+use crate::tales::decided_tale;
+use kt_base::{Entry, Text};
+use std::alloc::Global;
+use std::mem;
+
+/// Gives a case another stage, and answers the one before.
+pub fn replace_stage(cases: &mut Vec<Case>, i: u32, stage: Stage) -> Stage
+    requires { i < length cases.old.items }
+    ensures { Replaced cases.old.items cases.new.items i stage result }
+{
+    let case = &mut cases[i as usize];
+    mem::replace(&mut case.stage, stage)
+}
+
+/// Takes out the body that a case tells of.
+pub fn take_body(cases: &mut Vec<Case>, i: u32) -> EndedBody
+    requires { HasBody cases.old.items i }
+    ensures { TookBody cases.old.items cases.new.items i result }
+{
+    match replace_stage(cases, i, Stage::Taken) {
+        Stage::Owing(body) => body,
+        Stage::Cleaning(body) => body,
+        _ => unreachable!(),
+    }
+}
+
+/// The moment since which a case's body runs.
+pub fn running_since(cases: &Vec<Case>, i: u32) -> u64
+    requires { (m : ℕ) × RunsSince cases.now.items i m }
+    ensures { RunsSince cases.now.items i result }
+{
+    match &cases[i as usize].stage {
+        Stage::Running(moment) => *moment,
+        _ => unreachable!(),
+    }
+}
+
+/// Whether a case declares a cleanup.
+pub fn declares_cleanup(cases: &Vec<Case>, i: u32) -> bool
+    requires { i < length cases.now.items }
+    ensures { Declares cases.now.items i result }
+{
+    cases[i as usize].job.cleanup
+}
+
+/// Whether a case is exclusive.
+pub fn is_exclusive(cases: &Vec<Case>, i: u32) -> bool
+    requires { i < length cases.now.items }
+    ensures { HasExclusive cases.now.items i result }
+{
+    cases[i as usize].job.exclusive
+}
+
+/// Whether a case waits for its turn to be put with its decided verdict.
+pub fn is_decided(cases: &Vec<Case>, i: u32) -> bool
+    requires { i < length cases.now.items }
+    ensures { HasDecided cases.now.items i result }
+{
+    match &cases[i as usize].stage {
+        Stage::Decided => true,
+        _ => false,
+    }
+}
+
+/// Takes out what there is to tell of a case.
+fn take_tale(alloc: Global, case: &mut Case) -> Tale
+    requires { IsSome (tale_in case.old.job case.old.stage) }
+    ensures tale { tale_in case.old.job case.old.stage ≡ Some result }
+    ensures taken { case.new.stage ≡ Taken }
+    ensures kept { KeepsNames case.old.job case.new.job }
+{
+    match mem::replace(&mut case.stage, Stage::Taken) {
+        Stage::Finished(tale) => tale,
+        Stage::Decided => match mem::replace(&mut case.job.decided, None) {
+            Some(verdict) => decided_tale(alloc, verdict),
+            None => unreachable!(),
+        },
+        _ => unreachable!(),
+    }
+}
+
+/// Takes the entry out of a case that is over. Names, reason and outputs are moved.
+fn entry_from(alloc: Global, case: &mut Case) -> Entry
+    requires { IsSome (tale_in case.old.job case.old.stage) }
+    ensures entry { TellsOf case.old result }
+    ensures taken { case.new.stage ≡ Taken }
+{
+    let tale = take_tale(alloc, case);
+    Entry {
+        position: case.job.position,
+        program: mem::replace(&mut case.job.program, Text::new(alloc)),
+        case_name: mem::replace(&mut case.job.case_name, Text::new(alloc)),
+        verdict: tale.verdict,
+        started: tale.started,
+        millis: tale.millis,
+        body: tale.body,
+        cleanup: tale.cleanup,
+    }
+}
+
+/// Takes out the entry of a case that is over.
+pub fn take_entry(alloc: Global, cases: &mut Vec<Case>, i: u32) -> Entry
+    requires { IsTold cases.old.items i }
+    ensures { TookEntry cases.old.items cases.new.items i result }
+{
+    let case = &mut cases[i as usize];
+    entry_from(alloc, case)
+}

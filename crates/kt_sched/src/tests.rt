@@ -1,0 +1,6 @@
+mod plain;
+mod plans;
+mod property;
+mod rows;
+mod script;
+mod shelf;

@@ -1,0 +1,45 @@
+-- From the characters' tokens to the text.
+use Rattle.std.proofs.Common.{◌≡◌, ℕ, ◌≤◌, List, length, Result, Ok, Err, sym, subst, inr}
+use Rattle.std.specs.Prelude.{IfOk, IsUtf8}
+use Rattle.kt_script.specs.declared.fault.ScriptFault.{ScriptFault}
+use Rattle.kt_script.specs.declared.fault.ScriptFault.TheVariants.{NoMemory, NotUtf8, BadToken, NotLiteral, Unclosed, TooLong}
+use Rattle.kt_script.specs.declared.syntax.Stmt.{Stmt}
+use Rattle.kt_script.specs.Grammar.{Script}
+use Rattle.kt_script.specs.Faults.{IfFault, IsFaultOf}
+use Rattle.kt_script.specs.Tokens.{tokens}
+use Rattle.kt_script.specs.Spelling.{limit, Spells, IsDue, Answers}
+use Rattle.kt_script.proofs.Sound.{one_script}
+
+pub spelled : (r : Result (List Stmt) ScriptFault) (text cs : List ℕ) → length text ≤ limit → IsUtf8 text → cs ≡ text
+    → IfOk r (λ stmts. Script (tokens 1 0 cs) stmts) → IfOk r (λ stmts. Spells text stmts)
+spelled (Ok stmts) text cs short utf8 is script = record { short = short; utf8 = utf8; script = subst (λ (xs : List ℕ). Script (tokens 1 0 xs) stmts) is script }
+spelled (Err f) text cs short utf8 is script = tt
+
+answers_ok : (stmts others : List Stmt) (text cs : List ℕ) → cs ≡ text → Script (tokens 1 0 cs) stmts → Spells text others → stmts ≡ others
+answers_ok stmts others text cs is script s = one_script (tokens 1 0 text) stmts others (subst (λ (xs : List ℕ). Script (tokens 1 0 xs) stmts) is script) s.script
+
+never : (f : ScriptFault) (others : List Stmt) (text cs : List ℕ) → cs ≡ text → IsFaultOf (tokens 1 0 cs) f → Spells text others → ⊥
+never f others text cs is fault s = fault.no_script others (subst (λ (xs : List ℕ). Script (tokens 1 0 xs) others) (sym is) s.script)
+
+pub only_answer : (r : Result (List Stmt) ScriptFault) (text cs : List ℕ) → cs ≡ text → IfOk r (λ stmts. Script (tokens 1 0 cs) stmts)
+    → IfFault r (λ f. IsFaultOf (tokens 1 0 cs) f) → (others : List Stmt) → Spells text others → Answers r others
+only_answer (Ok stmts) text cs is script fault others s = answers_ok stmts others text cs is script s
+only_answer (Err NoMemory) text cs is script fault others s = tt
+only_answer (Err NotUtf8) text cs is script fault others s = never NotUtf8 others text cs is fault s
+only_answer (Err (BadToken n)) text cs is script fault others s = never (BadToken n) others text cs is fault s
+only_answer (Err (NotLiteral n)) text cs is script fault others s = never (NotLiteral n) others text cs is fault s
+only_answer (Err (Unclosed n)) text cs is script fault others s = never (Unclosed n) others text cs is fault s
+only_answer (Err TooLong) text cs is script fault others s = never TooLong others text cs is fault s
+
+for_tokens : (f : ScriptFault) (text cs : List ℕ) → length text ≤ limit → IsUtf8 text → cs ≡ text → IsFaultOf (tokens 1 0 cs) f → IsDue text f
+for_tokens f text cs short utf8 is fault = inr (inr (short, utf8, subst (λ (xs : List ℕ). IsFaultOf (tokens 1 0 xs) f) is fault))
+
+pub refused : (r : Result (List Stmt) ScriptFault) (text cs : List ℕ) → length text ≤ limit → IsUtf8 text → cs ≡ text
+    → IfFault r (λ f. IsFaultOf (tokens 1 0 cs) f) → IfFault r (λ f. IsDue text f)
+refused (Ok stmts) text cs short utf8 is fault = tt
+refused (Err NoMemory) text cs short utf8 is fault = tt
+refused (Err NotUtf8) text cs short utf8 is fault = for_tokens NotUtf8 text cs short utf8 is fault
+refused (Err (BadToken n)) text cs short utf8 is fault = for_tokens (BadToken n) text cs short utf8 is fault
+refused (Err (NotLiteral n)) text cs short utf8 is fault = for_tokens (NotLiteral n) text cs short utf8 is fault
+refused (Err (Unclosed n)) text cs short utf8 is fault = for_tokens (Unclosed n) text cs short utf8 is fault
+refused (Err TooLong) text cs short utf8 is fault = for_tokens TooLong text cs short utf8 is fault

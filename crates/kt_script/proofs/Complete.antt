@@ -1,0 +1,199 @@
+-- The code's steps go through each script, to its statements.
+use Rattle.std.proofs.Common.{◌≡◌, ℕ, true, false, List, [], ◌∷◌, ◌++◌, Option, Some, None, refl, ap, sym, ◌∙◌, append_assoc}
+use Rattle.std.specs.Prelude.{option_map, option_and_then}
+use Rattle.std.proofs.lemmas.List.{append-nil}
+use Rattle.kt_script.specs.declared.token.Token.{Token}
+use Rattle.kt_script.specs.declared.token.Kind.{Kind}
+use Rattle.kt_script.specs.declared.token.Kind.TheVariants.{Name, Quoted, OpenParen, CloseParen, OpenBrace, CloseBrace, Equals, Semicolon}
+use Rattle.kt_script.specs.declared.place.Place.{Place}
+use Rattle.kt_script.specs.declared.place.Place.TheVariants.{Start, Whole, Within}
+use Rattle.kt_script.specs.declared.syntax.Pair.{Pair}
+use Rattle.kt_script.specs.declared.syntax.Stmt.{Stmt}
+use Rattle.kt_script.specs.declared.literal.Literal.{Literal}
+use Rattle.kt_script.specs.declared.literal.Literal.TheVariants as literal
+use Rattle.kt_script.specs.declared.syntax.Arg.TheVariants as arg
+use Rattle.kt_script.specs.declared.syntax.Action.{Action}
+use Rattle.kt_script.specs.declared.syntax.Action.TheVariants.{Call, Assign}
+use Rattle.kt_script.specs.declared.state.Table.{Table}
+use Rattle.kt_script.specs.declared.state.State.{State}
+use Rattle.kt_script.specs.declared.state.State.TheVariants.{Named, Pairs, Paired, Path}
+use Rattle.kt_script.specs.declared.state.Step.{Step}
+use Rattle.kt_script.specs.declared.state.Step.TheVariants.{To, Ends}
+use Rattle.kt_script.specs.Grammar as grammar
+use Rattle.kt_script.specs.Grammar.{token_of, pair, Key, by_name, by_text, Separator, comma, semicolon, no_pairs, last_pair, pair_and, Parts, no_parts, named_part, quoted_part, Statement, call, call_table, call_text, bare_table, assign, kinds, placed, Script, no_stmts, stmt_and, ended_and}
+use Rattle.kt_script.specs.Automaton.{value_of, closed, with_pair, step, next, landed, listed, run, IsResting}
+
+-- where the rest of a statement leads
+abbrev pub walk : Step → List Kind → Option Step
+walk s [] = Some s
+walk (To q) (k ∷ ks) = option_and_then (λ s. walk s ks) (step q k)
+walk (Ends a) (k ∷ ks) = None
+
+value_of-token_of : (v : Literal) → value_of (token_of v) ≡ Some v
+value_of-token_of (literal.Text t) = refl
+value_of-token_of (literal.Number n) = refl
+value_of-token_of (literal.Truth b) = refl
+
+-- ---- tables
+
+abbrev with_pairs : Table → List Pair → Table
+with_pairs t pairs = record t { pairs = t.pairs ++ pairs }
+
+pair_walks : (words : List Kind) (key : List ℕ) → Key words key → (t : Table) (v : Literal) (rest : List Kind)
+    → walk (To (Pairs t)) ((words ++ Equals ∷ token_of v ∷ []) ++ rest) ≡ walk (To (Paired (with_pair t key v))) rest
+pair_walks words key (by_name n) t v rest = rw value_of-token_of refl
+pair_walks words key (by_text n) t v rest = rw value_of-token_of refl
+
+separator_walks : (s : Kind) → Separator s → (t : Table) (rest : List Kind) → walk (To (Paired t)) (s ∷ rest) ≡ walk (To (Pairs t)) rest
+separator_walks s comma t rest = refl
+separator_walks s semicolon t rest = refl
+
+pairs_walk : (words : List Kind) (pairs : List Pair) → grammar.Pairs words pairs → (t : Table) (rest : List Kind)
+    → walk (To (Pairs t)) (words ++ CloseBrace ∷ rest) ≡ walk (closed (with_pairs t pairs)) rest
+pairs_walk words pairs no_pairs t rest = ap (λ (ps : List Pair). walk (closed (record t { pairs = ps })) rest) (sym (append-nil t.pairs))
+pairs_walk words pairs (last_pair {words = w} {key = key} is v) t rest = pair_walks w key is t v (CloseBrace ∷ rest)
+pairs_walk words pairs (pair_and {words = w} {rest = others} {key = key} {s = s} {pairs = ps} is v sep more) t rest =
+    let regrouped : (w ++ Equals ∷ token_of v ∷ s ∷ others) ++ CloseBrace ∷ rest ≡ (w ++ Equals ∷ token_of v ∷ []) ++ s ∷ (others ++ CloseBrace ∷ rest) = simp append_assoc in
+    ap (walk (To (Pairs t))) regrouped
+    ∙ pair_walks w key is t v (s ∷ (others ++ CloseBrace ∷ rest))
+    ∙ separator_walks s sep (with_pair t key v) (others ++ CloseBrace ∷ rest)
+    ∙ pairs_walk others ps more (with_pair t key v) rest
+    ∙ ap (λ (all : List Pair). walk (closed (record t { pairs = all })) rest) (append_assoc t.pairs (pair key v ∷ []) ps)
+
+-- ---- paths
+
+parts_walk : (words : List Kind) (parts : List (List ℕ)) → Parts words parts → (path : List (List ℕ)) (v : Literal)
+    → walk (To (Path path)) (words ++ Equals ∷ token_of v ∷ []) ≡ Some (Ends (Assign (path ++ parts) v))
+parts_walk words parts no_parts path v = rw value_of-token_of (ap (λ (all : List (List ℕ)). Some (Ends (Assign all v))) (sym (append-nil path)))
+parts_walk words parts (named_part {words = w} {parts = ps} n more) path v = parts_walk w ps more (path ++ n ∷ []) v ∙ ap (λ (all : List (List ℕ)). Some (Ends (Assign all v))) (append_assoc path (n ∷ []) ps)
+parts_walk words parts (quoted_part {words = w} {parts = ps} t more) path v = parts_walk w ps more (path ++ t ∷ []) v ∙ ap (λ (all : List (List ℕ)). Some (Ends (Assign all v))) (append_assoc path (t ∷ []) ps)
+
+-- a path's first name leads where a path does
+first_part_walks : (words : List Kind) (parts : List (List ℕ)) → Parts words parts → (n : List ℕ) (v : Literal)
+    → walk (To (Named n)) (words ++ Equals ∷ token_of v ∷ []) ≡ walk (To (Path (n ∷ []))) (words ++ Equals ∷ token_of v ∷ [])
+first_part_walks words parts no_parts n v = refl
+first_part_walks words parts (named_part m more) n v = refl
+first_part_walks words parts (quoted_part m more) n v = refl
+
+-- ---- statements
+
+-- a statement is a name, and words that lead from it to the end
+pub record Walks (words : List Kind) (a : Action) : Type 0 where
+  pub name : List ℕ
+  pub rest : List Kind
+  pub parts : words ≡ Name name ∷ rest
+  pub ends : walk (To (Named name)) rest ≡ Some (Ends a)
+
+call_walks : (n : List ℕ) (v : Literal) → walk (To (Named n)) (OpenParen ∷ token_of v ∷ CloseParen ∷ []) ≡ Some (Ends (Call n (arg.Value v)))
+call_walks n (literal.Text t) = refl
+call_walks n (literal.Number m) = refl
+call_walks n (literal.Truth b) = refl
+
+pub statement_walks : (words : List Kind) (a : Action) → Statement words a → Walks words a
+statement_walks words a (call n v) = record { name = n; rest = OpenParen ∷ token_of v ∷ CloseParen ∷ []; parts = refl; ends = call_walks n v }
+statement_walks words a (call_table {words = w} {pairs = ps} n table) =
+    record { name = n; rest = OpenParen ∷ OpenBrace ∷ w ++ CloseBrace ∷ CloseParen ∷ []; parts = refl; ends = pairs_walk w ps table (record { name = n; in_parens = true; pairs = [] }) (CloseParen ∷ []) }
+statement_walks words a (call_text n t) = record { name = n; rest = Quoted t ∷ []; parts = refl; ends = refl }
+statement_walks words a (bare_table {words = w} {pairs = ps} n table) =
+    record { name = n; rest = OpenBrace ∷ w ++ CloseBrace ∷ []; parts = refl; ends = pairs_walk w ps table (record { name = n; in_parens = false; pairs = [] }) [] }
+statement_walks words a (assign {words = w} {parts = ps} n more v) =
+    record { name = n; rest = w ++ Equals ∷ token_of v ∷ []; parts = refl; ends = first_part_walks w ps more n v ∙ parts_walk w ps more (n ∷ []) v }
+
+-- ---- tokens
+
+abbrev pub joined : List Stmt → Place × List Stmt → Place × List Stmt
+joined front end = (end.0, front ++ end.1)
+
+pub some_is : {A : Type 0} (x y : A) → Some x ≡ Some y → x ≡ y
+some_is x y e = cc
+
+pub ends_is : (b a : Action) (rest : List Kind) → walk (Ends b) rest ≡ Some (Ends a) → (rest ≡ []) × (b ≡ a)
+ends_is b a [] e = (refl, cc)
+ends_is b a (k ∷ rest) e = absurd cc
+
+pub kinds-nil : (ts : List Token) → kinds ts ≡ [] → ts ≡ []
+kinds-nil [] e = refl
+kinds-nil (t ∷ ts) e = absurd cc
+
+pub bind_some : {A B : Type 0} (o : Option A) (f : A → Option B) (y : B) → option_and_then f o ≡ Some y → (x : A) × (o ≡ Some x) × (f x ≡ Some y)
+bind_some None f y e = absurd cc
+bind_some (Some x) f y e = (x, refl, e)
+
+pub map_some : {A B : Type 0} (o : Option A) (f : A → B) (y : B) → option_map f o ≡ Some y → (x : A) × (o ≡ Some x) × (f x ≡ y)
+map_some None f y e = absurd cc
+map_some (Some x) f y e = (x, refl, cc)
+
+-- the rest of a statement, as tokens
+within_step : (to : Step) (ts : List Token) (line : ℕ) (a : Action)
+    → ((r : State) → walk (To r) (kinds ts) ≡ Some (Ends a) → run (Within line r) ts ≡ Some (Whole, record { line = line; action = a } ∷ []))
+    → walk to (kinds ts) ≡ Some (Ends a)
+    → option_map (joined (listed (landed line to).1)) (run (landed line to).0 ts) ≡ Some (Whole, record { line = line; action = a } ∷ [])
+within_step (To r) ts line a later h = rw (later r h) refl
+within_step (Ends b) ts line a later h = let d = ends_is b a (kinds ts) h in rw (kinds-nil ts d.0, d.1) refl
+
+within_runs : (ts : List Token) (line : ℕ) (q : State) (a : Action) → walk (To q) (kinds ts) ≡ Some (Ends a)
+    → run (Within line q) ts ≡ Some (Whole, record { line = line; action = a } ∷ [])
+within_runs [] line q a e = absurd cc
+within_runs (t ∷ ts) line q a e =
+    let b = bind_some (step q t.kind) (λ s. walk s (kinds ts)) (Ends a) e in
+    rw b.1 (within_step b.0 ts line a (λ r h. within_runs ts line r a h) b.2)
+
+joined_twice : (xs ys : List Stmt) (o : Option (Place × List Stmt)) → option_map (joined xs) (option_map (joined ys) o) ≡ option_map (joined (xs ++ ys)) o
+joined_twice xs ys None = refl
+joined_twice xs ys (Some end) = ap (λ (zs : List Stmt). Some (end.0, zs)) (sym (append_assoc xs ys end.1))
+
+joined_none : (o : Option (Place × List Stmt)) → option_map (joined []) o ≡ o
+joined_none None = refl
+joined_none (Some end) = refl
+
+pub run-append : (xs : List Token) (p q : Place) (ys : List Token) (ss : List Stmt) → run p xs ≡ Some (q, ss) → run p (xs ++ ys) ≡ option_map (joined ss) (run q ys)
+run-append [] p q ys ss e =
+    let same = some_is (p, []) (q, ss) e in
+    sym (joined_none (run p ys)) ∙ ap (λ (x : Place × List Stmt). option_map (joined x.1) (run x.0 ys)) same
+run-append (t ∷ xs) p q ys ss e =
+    let b = bind_some (next p t) (λ to. option_map (joined (listed to.1)) (run to.0 xs)) (q, ss) e in
+    let m = map_some (run b.0.0 xs) (joined (listed b.0.1)) (q, ss) b.2 in
+    let later = run-append xs b.0.0 m.0.0 ys m.0.1 m.1 in
+    rw b.1 (ap (option_map (joined (listed b.0.1))) later ∙ joined_twice (listed b.0.1) m.0.1 (run m.0.0 ys)
+    ∙ ap (λ (x : Place × List Stmt). option_map (joined x.1) (run x.0 ys)) m.2)
+
+-- ---- scripts
+
+pub name_from_resting : (p : Place) (t : Token) (n : List ℕ) → IsResting p → t.kind ≡ Name n → next p t ≡ Some (Within t.line (Named n), None)
+name_from_resting Start t n r e = rw e refl
+name_from_resting Whole t n r e = rw e refl
+name_from_resting (Within line q) t n r e = elim r [ ]
+
+named_runs : (t : Token) (ts : List Token) (p : Place) (a : Action) (n : List ℕ) (rest : List Kind) → IsResting p
+    → t.kind ≡ Name n → kinds ts ≡ rest → walk (To (Named n)) rest ≡ Some (Ends a) → run p (t ∷ ts) ≡ Some (Whole, placed (t ∷ ts) a ∷ [])
+named_runs t ts p a n rest r first others ends =
+    rw (name_from_resting p t n r first, within_runs ts t.line (Named n) a (ap (walk (To (Named n))) others ∙ ends)) refl
+
+phrase_runs : (phrase : List Token) (p : Place) (a : Action) → IsResting p → Statement (kinds phrase) a → run p phrase ≡ Some (Whole, placed phrase a ∷ [])
+phrase_runs [] p a r st = let w = statement_walks [] a st in let e = w.parts in absurd cc
+phrase_runs (t ∷ ts) p a r st =
+    let w = statement_walks (kinds (t ∷ ts)) a st in
+    let parts = w.parts in
+    named_runs t ts p a w.name w.rest r (cc) (cc) w.ends
+
+-- some resting place is where a script leads
+pub record Rests (p : Place) (ts : List Token) (stmts : List Stmt) : Type 0 where
+  pub place : Place
+  pub rests : IsResting place
+  pub runs : run p ts ≡ Some (place, stmts)
+
+semicolon_after : (t : Token) → t.kind ≡ Semicolon → next Whole t ≡ Some (Start, None)
+semicolon_after t e = rw e refl
+
+pub script_runs : (ts : List Token) (stmts : List Stmt) → Script ts stmts → (p : Place) → IsResting p → Rests p ts stmts
+script_runs ts stmts no_stmts p r = record { place = p; rests = r; runs = refl }
+script_runs ts stmts (stmt_and phrase {rest = rest} {a = a} {stmts = others} st more) p r =
+    let later = script_runs rest others more Whole tt in
+    record { place = later.place; rests = later.rests; runs = run-append phrase p Whole rest (placed phrase a ∷ []) (phrase_runs phrase p a r st) ∙ rw later.runs refl }
+script_runs ts stmts (ended_and phrase {rest = rest} {a = a} {stmts = others} t st is more) p r =
+    let later = script_runs rest others more Start tt in
+    record {
+      place = later.place;
+      rests = later.rests;
+      runs = run-append phrase p Whole (t ∷ rest) (placed phrase a ∷ []) (phrase_runs phrase p a r st) ∙ rw (semicolon_after t is, later.runs) refl;
+    }

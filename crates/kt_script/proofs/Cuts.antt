@@ -1,0 +1,70 @@
+-- Where a text may be cut: after a piece, the rest is UTF-8 again.
+use Rattle.std.proofs.Common.{◌≡◌, ℕ, zero, suc, ◌+◌, ◌<◌, ◌≤◌, Bool, true, false, eqb, leb, ◌&&◌, ◌||◌, List, ◌∷◌, length, drop, get_or, refl, ap, sym, subst, ◌∙◌, arith, inl, inr}
+use Rattle.std.specs.Prelude.{IsUtf8}
+use Rattle.std.specs.Str.{IsCharBoundary}
+use Rattle.std.specs.List.{prefix_len}
+use Rattle.std.proofs.lemmas.Bool.{eqb-true, leb-true, and_parts, or_cases, cases_lt}
+use Rattle.std.proofs.lemmas.List.Sums.{prefix_len-le-length, prefix_len_passes, prefix_len_stops}
+use Rattle.std.proofs.lemmas.Str.{IsCharBoundary-start, IsCharBoundary-end, IsCharBoundary-before_ascii, IsCharBoundary-after_ascii}
+use Rattle.kt_script.specs.Letters.{is_space, is_letter, is_digit, is_word}
+
+-- ---- runs of bytes
+
+-- after bytes that are all ASCII
+ascii_cut : (bs : List ℕ) (n : ℕ) → IsUtf8 bs → n ≤ length bs → ((k : ℕ) → k < n → get_or bs k 0 < 128) → IsCharBoundary bs n
+ascii_cut bs zero u le small = IsCharBoundary-start bs u
+ascii_cut bs (suc n) u le small =
+    let last = IsCharBoundary-after_ascii bs n u (omega arith) (small n (omega arith)) in
+    let e : n + 1 ≡ suc n = omega arith in
+    subst (IsCharBoundary bs) e last
+
+-- after bytes of an ASCII class
+pub passing_cut : (p : ℕ → Bool) → ((c : ℕ) → p c ≡ true → c < 128) → (bs : List ℕ) → IsUtf8 bs → IsCharBoundary bs (prefix_len p bs)
+passing_cut p small bs u = ascii_cut bs (prefix_len p bs) u (prefix_len-le-length p bs) (λ k lt. small (get_or bs k 0) (prefix_len_passes p bs k 0 lt))
+
+-- before the first byte of an ASCII class, or at the end
+pub stopping_cut : (p : ℕ → Bool) → ((c : ℕ) → p c ≡ false → c < 128) → (bs : List ℕ) → IsCharBoundary bs (prefix_len p bs)
+stopping_cut p small bs =
+    elim (cases_lt (prefix_len p bs) (length bs)) [
+      | inl lt ↦ IsCharBoundary-before_ascii bs (prefix_len p bs) lt (small (get_or bs (prefix_len p bs) 0) (prefix_len_stops p bs 0 lt))
+      | inr le ↦ let e : length bs ≡ prefix_len p bs = omega (arith, prefix_len-le-length p bs) in subst (IsCharBoundary bs) e (IsCharBoundary-end bs)
+    ]
+
+-- after one ASCII byte
+pub first_cut : (c : ℕ) (cs : List ℕ) → IsUtf8 (c ∷ cs) → c < 128 → IsCharBoundary (c ∷ cs) 1
+first_cut c cs u small = let e : 0 + 1 ≡ 1 = refl in subst (IsCharBoundary (c ∷ cs)) e (IsCharBoundary-after_ascii (c ∷ cs) 0 u (omega arith) small)
+
+-- ---- classes
+
+pub digit_small : (c : ℕ) → is_digit c ≡ true → c < 128
+digit_small c e = omega (arith, leb-true c 57 (and_parts (leb 48 c) (leb c 57) e).1)
+
+pub space_small : (c : ℕ) → is_space c ≡ true → c < 128
+space_small c e =
+    elim (or_cases (eqb c 32) (leb 9 c && leb c 13) e) [
+      | inl one ↦ omega (arith, eqb-true c 32 one)
+      | inr two ↦ omega (arith, leb-true c 13 (and_parts (leb 9 c) (leb c 13) two).1)
+    ]
+
+cased_small : (c : ℕ) → (leb 97 c && leb c 122) || (leb 65 c && leb c 90) ≡ true → c < 128
+cased_small c e =
+    elim (or_cases (leb 97 c && leb c 122) (leb 65 c && leb c 90) e) [
+      | inl low ↦ omega (arith, leb-true c 122 (and_parts (leb 97 c) (leb c 122) low).1)
+      | inr up ↦ omega (arith, leb-true c 90 (and_parts (leb 65 c) (leb c 90) up).1)
+    ]
+
+pub letter_small : (c : ℕ) → is_letter c ≡ true → c < 128
+letter_small c e =
+    elim (or_cases ((leb 97 c && leb c 122) || (leb 65 c && leb c 90)) (eqb c 95) e) [ inl cased ↦ cased_small c cased | inr line ↦ omega (arith, eqb-true c 95 line) ]
+
+pub word_small : (c : ℕ) → is_word c ≡ true → c < 128
+word_small c e = elim (or_cases (is_letter c) (is_digit c) e) [ inl letter ↦ letter_small c letter | inr digit ↦ digit_small c digit ]
+
+pub passing_cut_at : (p : ℕ → Bool) → ((c : ℕ) → p c ≡ true → c < 128) → (text bs : List ℕ) (n : ℕ) → n ≡ prefix_len p bs → bs ≡ text → IsUtf8 text → IsCharBoundary text n
+passing_cut_at p small text bs n value same u = subst (IsCharBoundary text) (sym (value ∙ ap (prefix_len p) same)) (passing_cut p small text u)
+
+pub stopping_cut_at : (p : ℕ → Bool) → ((c : ℕ) → p c ≡ false → c < 128) → (text bs : List ℕ) (n : ℕ) → n ≡ prefix_len p bs → bs ≡ text → IsCharBoundary text n
+stopping_cut_at p small text bs n value same = subst (IsCharBoundary text) (sym (value ∙ ap (prefix_len p) same)) (stopping_cut p small text)
+
+pub first_cut_of : (c : ℕ) (text : List ℕ) → text ≡ c ∷ drop 1 text → IsUtf8 text → c < 128 → IsCharBoundary text 1
+first_cut_of c text parts u small = subst (λ (xs : List ℕ). IsCharBoundary xs 1) (sym parts) (first_cut c (drop 1 text) (subst IsUtf8 parts u) small)

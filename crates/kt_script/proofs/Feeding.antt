@@ -1,0 +1,31 @@
+-- What a parser has read after one token more.
+use Rattle.std.proofs.Common.{◌≡◌, ℕ, List, [], ◌∷◌, ◌++◌, Option, Some, None, refl, ap, sym, ◌∙◌}
+use Rattle.kt_script.specs.declared.token.Token.{Token}
+use Rattle.kt_script.specs.declared.place.Place.{Place}
+use Rattle.kt_script.specs.declared.parser.Parser.{Parser}
+use Rattle.kt_script.specs.declared.syntax.Stmt.{Stmt}
+use Rattle.kt_script.specs.Faults.{after_bracket, open_lines}
+use Rattle.kt_script.specs.Automaton.{next, listed, place_of, ended_by}
+use Rattle.kt_script.specs.Reading.{HasRead}
+use Rattle.kt_script.proofs.Complete.{some_is}
+use Rattle.kt_script.proofs.Sound.{run-push}
+
+open_lines-push : (lines : List ℕ) (ts : List Token) (t : Token) → open_lines lines (ts ++ t ∷ []) ≡ after_bracket (open_lines lines ts) t.line t.kind
+open_lines-push lines [] t = refl
+open_lines-push lines (s ∷ ts) t = open_lines-push (after_bracket lines s.line s.kind) ts t
+
+reads_on : (old new : Parser) (place after : Place) (read : List Token) (t : Token) (to : Place × Option Stmt) → HasRead place old read → next place t ≡ Some to
+    → to.0 ≡ after → new.statements ≡ old.statements ++ listed to.1 → new.brackets.items ≡ after_bracket old.brackets.items t.line t.kind → HasRead after new (read ++ t ∷ [])
+reads_on old new place after read t to h step leads statements brackets = record {
+  runs = rw (← leads, statements) (run-push read t place old.statements to h.runs step);
+  brackets = brackets ∙ ap (λ (lines : List ℕ). after_bracket lines t.line t.kind) h.brackets ∙ sym (open_lines-push [] read t);
+}
+
+pub fed : (old new : Parser) (place after : Place) (t : Token) (o : Option (Place × Option Stmt)) → next place t ≡ o → Some after ≡ place_of o → new.statements ≡ old.statements ++ ended_by o
+    → new.brackets.items ≡ after_bracket old.brackets.items t.line t.kind → (read : List Token) → HasRead place old read → HasRead after new (read ++ t ∷ [])
+fed old new place after t None step leads statements brackets read h = absurd cc
+fed old new place after t (Some to) step leads statements brackets read h = reads_on old new place after read t to h step (sym (some_is after to.0 leads)) statements brackets
+
+pub unfit : (o : Option (Place × Option Stmt)) → None ≡ place_of o → o ≡ None
+unfit None e = refl
+unfit (Some to) e = absurd cc

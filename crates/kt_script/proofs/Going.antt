@@ -1,0 +1,109 @@
+-- What is read of a text, and what is left of it.
+use Rattle.std.proofs.Common.{◌≡◌, ℕ, ◌+◌, ◌<◌, ◌≤◌, List, [], ◌∷◌, ◌++◌, length, take, drop, Option, Some, None, Result, Ok, Err, refl, ap, sym, ◌∙◌, subst, append_assoc, arith, length-take, length-drop}
+use Rattle.std.specs.Prelude.{IfOk, IfErr}
+use Rattle.std.proofs.lemmas.List.{append-nil, nil_from_length}
+use Rattle.kt_script.specs.declared.fault.ScriptFault.{ScriptFault}
+use Rattle.kt_script.specs.declared.fault.ScriptFault.TheVariants.{NoMemory, NotUtf8, BadToken, NotLiteral, Unclosed, TooLong}
+use Rattle.kt_script.specs.declared.token.Token.{Token}
+use Rattle.kt_script.specs.declared.token.Kind.{Kind}
+use Rattle.kt_script.specs.declared.piece.Piece.{Piece}
+use Rattle.kt_script.specs.declared.place.Place.{Place}
+use Rattle.kt_script.specs.declared.place.Place.TheVariants.{Start, Whole, Within}
+use Rattle.kt_script.specs.declared.parser.Parser.{Parser}
+use Rattle.kt_script.specs.declared.state.State.{State}
+use Rattle.kt_script.specs.declared.syntax.Stmt.{Stmt}
+use Rattle.kt_script.specs.Grammar.{Script}
+use Rattle.kt_script.specs.Automaton.{run, IsResting}
+use Rattle.kt_script.specs.Faults.{IfFault, IsFaultOf, last, open_lines, end_fault}
+use Rattle.kt_script.specs.Places.{IsWithin}
+use Rattle.kt_script.specs.Reading.{HasRead, IsMisfit}
+use Rattle.kt_script.specs.Tokens.{piece_at, tokens, tokens_in, line_past}
+use Rattle.kt_script.proofs.Sound.{accepted, misfit, unfinished}
+use Rattle.kt_script.proofs.PieceTokens.{tokens-piece, tokens-end}
+
+-- the parser has read the tokens before this place
+pub record GoesOn (place : Place) (parser : Parser) (line : ℕ) (rest text : List ℕ) : Type 0 where
+  pub read : List Token
+  pub has_read : HasRead place parser read
+  pub all : read ++ tokens line 0 rest ≡ tokens 1 0 text
+  pub lines : line + length rest ≤ 1 + length text
+
+pub begins : (place : Place) (parser : Parser) (text : List ℕ) → HasRead place parser [] → GoesOn place parser 1 text text
+begins place parser text h = record { read = []; has_read = h; all = refl; lines = omega arith }
+
+pub goes_on : (place to : Place) (parser after : Parser) (line next : ℕ) (rest left text : List ℕ) (piece : Piece) → GoesOn place parser line rest text → piece ≡ piece_at rest
+    → 0 < piece.length → piece.length ≤ length rest
+    → ((read : List Token) → HasRead place parser read → HasRead to after (read ++ tokens_in line piece.kind))
+    → left ≡ drop piece.length rest → next ≡ line_past line (take piece.length rest) → next ≤ line + length (take piece.length rest)
+    → GoesOn to after next left text
+goes_on place to parser after line next rest left text piece h is some fits reads left_is next_is next_le =
+    let cut = tokens-piece line rest piece is some fits in
+    record {
+      read = h.read ++ tokens_in line piece.kind;
+      has_read = reads h.read h.has_read;
+      all = rw (left_is, next_is) (append_assoc h.read (tokens_in line piece.kind) _ ∙ ap (λ (ts : List Token). h.read ++ ts) (sym cut) ∙ h.all);
+      lines = rw left_is (omega (arith, h.lines, next_le, length-take piece.length rest, length-drop piece.length rest));
+    }
+
+pub some_fault : (T : Type 0) (f : ScriptFault) (P : ScriptFault → Type 0) → P f → IfFault {T = T} (Err f) P
+some_fault T NoMemory P h = tt
+some_fault T NotUtf8 P h = h
+some_fault T (BadToken n) P h = h
+some_fault T (NotLiteral n) P h = h
+some_fault T (Unclosed n) P h = h
+some_fault T TooLong P h = h
+
+misfit_at : (place : Place) (parser : Parser) (line : ℕ) (rest text : List ℕ) (piece : Piece) (kind : Option Kind) (f : ScriptFault) → kind ≡ piece.kind → GoesOn place parser line rest text
+    → piece ≡ piece_at rest → 0 < piece.length → piece.length ≤ length rest → IsMisfit place line kind f → IsFaultOf (tokens 1 0 text) f
+misfit_at place parser line rest text piece None f same h is some fits m = elim m [ ]
+misfit_at place parser line rest text piece (Some kind) f same h is some fits m =
+    let token : Token = record { line = line; kind = kind } in
+    let cut = tokens-piece line rest piece is some fits in
+    let later : List Token = tokens (line_past line (take piece.length rest)) 0 (drop piece.length rest) in
+    let parts : h.read ++ token ∷ later ≡ tokens 1 0 text = ap (λ (k : Option Kind). h.read ++ (tokens_in line k ++ later)) same ∙ ap (λ (ts : List Token). h.read ++ ts) (sym cut) ∙ h.all in
+    let fault = misfit h.read token later place parser.statements h.has_read.runs m.1 in
+    rw (← parts, m.0) fault
+
+-- a token that has no place
+pub stops : (T U : Type 0) (f : ScriptFault) (place : Place) (parser : Parser) (line : ℕ) (rest text : List ℕ) (piece : Piece) → GoesOn place parser line rest text
+    → piece ≡ piece_at rest → 0 < piece.length → piece.length ≤ length rest
+    → IfFault {T = T} (Err f) (λ f. IsMisfit place line piece.kind f) → IfFault {T = U} (Err f) (λ f. IsFaultOf (tokens 1 0 text) f)
+stops T U NoMemory place parser line rest text piece h is some fits m = tt
+stops T U NotUtf8 place parser line rest text piece h is some fits m = misfit_at place parser line rest text piece piece.kind NotUtf8 refl h is some fits m
+stops T U (BadToken n) place parser line rest text piece h is some fits m = misfit_at place parser line rest text piece piece.kind (BadToken n) refl h is some fits m
+stops T U (NotLiteral n) place parser line rest text piece h is some fits m = misfit_at place parser line rest text piece piece.kind (NotLiteral n) refl h is some fits m
+stops T U (Unclosed n) place parser line rest text piece h is some fits m = misfit_at place parser line rest text piece piece.kind (Unclosed n) refl h is some fits m
+stops T U TooLong place parser line rest text piece h is some fits m = misfit_at place parser line rest text piece piece.kind TooLong refl h is some fits m
+
+-- ---- the end
+
+all_read : (place : Place) (parser : Parser) (line : ℕ) (rest text : List ℕ) → GoesOn place parser line rest text → rest ≡ [] → HasRead place parser (tokens 1 0 text)
+all_read place parser line rest text h none =
+    let end : tokens line 0 rest ≡ [] = ap (tokens line 0) none ∙ tokens-end line in
+    let all : h.read ≡ tokens 1 0 text = sym (append-nil h.read) ∙ ap (λ (ts : List Token). h.read ++ ts) (sym end) ∙ h.all in
+    subst (λ (ts : List Token). HasRead place parser ts) all h.has_read
+
+pub ends_ok : (r : Result (List Stmt) ScriptFault) (place : Place) (parser : Parser) (line : ℕ) (rest text : List ℕ) → GoesOn place parser line rest text → rest ≡ []
+    → IfOk r (λ stmts. IsResting place × (stmts ≡ parser.statements)) → IfOk r (λ stmts. Script (tokens 1 0 text) stmts)
+ends_ok (Ok stmts) place parser line rest text h none given =
+    rw given.1 (accepted (tokens 1 0 text) place parser.statements (all_read place parser line rest text h none).runs given.0)
+ends_ok (Err f) place parser line rest text h none given = tt
+
+within_is : (p : Place) (n : ℕ) → IsWithin p n → (q : State) × (p ≡ Within n q)
+within_is Start n h = elim h [ ]
+within_is Whole n h = elim h [ ]
+within_is (Within line q) n h = (q, ap (λ (k : ℕ). Within k q) h)
+
+pub ends_fault : (r : Result (List Stmt) ScriptFault) (place : Place) (parser : Parser) (line : ℕ) (rest text : List ℕ) → GoesOn place parser line rest text → rest ≡ []
+    → IfErr r (λ f. (n : ℕ) × IsWithin place n × (f ≡ end_fault (last parser.brackets.items) n)) → IfFault r (λ f. IsFaultOf (tokens 1 0 text) f)
+ends_fault (Ok stmts) place parser line rest text h none given = tt
+ends_fault (Err f) place parser line rest text h none given =
+    let done = all_read place parser line rest text h none in
+    let w = within_is place given.0 given.1 in
+    let runs : run Start (tokens 1 0 text) ≡ Some (Within given.0 w.0, parser.statements) = done.runs ∙ ap (λ (p : Place). Some (p, parser.statements)) w.1 in
+    let fault = unfinished (tokens 1 0 text) given.0 w.0 parser.statements runs in
+    let same : end_fault (last (open_lines [] (tokens 1 0 text))) given.0 ≡ f = sym (given.2 ∙ ap (λ (lines : List ℕ). end_fault (last lines) given.0) done.brackets) in
+    some_fault (List Stmt) f (λ f. IsFaultOf (tokens 1 0 text) f) (subst (λ (x : ScriptFault). IsFaultOf (tokens 1 0 text) x) same fault)
+
+pub none_left : (rest : List ℕ) → length rest ≡ 0 → rest ≡ []
+none_left rest e = nil_from_length rest e

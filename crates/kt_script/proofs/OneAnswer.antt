@@ -1,0 +1,98 @@
+-- Each text has one answer: its statements or its fault.
+use Rattle.std.proofs.Common.{◌≡◌, ℕ, ◌≤◌, List, [], ◌∷◌, ◌++◌, length, Option, Some, None, Result, Ok, Err, refl, ap, sym, ◌∙◌, subst, append_assoc, arith, inl, inr}
+use Rattle.std.specs.Prelude.{IfOk, IsUtf8}
+use Rattle.std.specs.Str.{is_utf8}
+use Rattle.std.proofs.lemmas.Bool.{cases_lt, cases_Bool, false≢true}
+use Rattle.std.proofs.lemmas.List.{append-nil}
+use Rattle.std.proofs.lemmas.Str.{IsUtf8-from_is_utf8, is_utf8-from_IsUtf8}
+use Rattle.kt_script.specs.declared.fault.ScriptFault.{ScriptFault}
+use Rattle.kt_script.specs.declared.fault.ScriptFault.TheVariants.{NoMemory, NotUtf8, BadToken, NotLiteral, Unclosed, TooLong}
+use Rattle.kt_script.specs.declared.token.Token.{Token}
+use Rattle.kt_script.specs.declared.place.Place.{Place}
+use Rattle.kt_script.specs.declared.place.Place.TheVariants.{Start, Whole, Within}
+use Rattle.kt_script.specs.declared.syntax.Stmt.{Stmt}
+use Rattle.kt_script.specs.Grammar.{Script}
+use Rattle.kt_script.specs.Faults.{IfFault, IsFaultOf, fault_of}
+use Rattle.kt_script.specs.Automaton.{next, listed, run}
+use Rattle.kt_script.specs.Spelling.{limit, tokens_of, Spells, IsDue, Refuses, IsAnswer}
+use Rattle.kt_script.proofs.Sound.{accepted, misfit, unfinished, one_script, run-push}
+use Rattle.kt_script.proofs.OneFault.{one_fault}
+
+-- ---- one at the most
+
+two_due : (text : List ℕ) (f g : ScriptFault) → IsDue text f → IsDue text g → f ≡ g
+two_due text f g (inl x) (inl y) = x.1 ∙ sym y.1
+two_due text f g (inl x) (inr (inl y)) = absurd (omega arith)
+two_due text f g (inl x) (inr (inr y)) = absurd (omega arith)
+two_due text f g (inr (inl x)) (inl y) = absurd (omega arith)
+two_due text f g (inr (inl x)) (inr (inl y)) = x.2 ∙ sym y.2
+two_due text f g (inr (inl x)) (inr (inr y)) = absurd (x.1 y.1)
+two_due text f g (inr (inr x)) (inl y) = absurd (omega arith)
+two_due text f g (inr (inr x)) (inr (inl y)) = absurd (y.1 x.1)
+two_due text f g (inr (inr x)) (inr (inr y)) = one_fault (tokens_of text) f g x.2 y.2
+
+not_both : (text : List ℕ) (stmts : List Stmt) (f : ScriptFault) → Spells text stmts → IsDue text f → ⊥
+not_both text stmts f s (inl x) = omega (arith, s.short, x.0)
+not_both text stmts f s (inr (inl x)) = x.1 s.utf8
+not_both text stmts f s (inr (inr x)) = x.2.no_script stmts s.script
+
+pub one_answer : (text : List ℕ) (a b : Result (List Stmt) ScriptFault) → IsAnswer text a → IsAnswer text b → a ≡ b
+one_answer text (Ok x) (Ok y) p q = ap Ok (one_script (tokens_of text) x y p.script q.script)
+one_answer text (Ok x) (Err g) p q = absurd (not_both text x g p q)
+one_answer text (Err f) (Ok y) p q = absurd (not_both text y f q p)
+one_answer text (Err f) (Err g) p q = ap Err (two_due text f g p q)
+
+-- ---- one at the least
+
+-- what tokens give: the statements of a script, or their fault
+pub TokensGive : List Token → Result (List Stmt) ScriptFault → Type 0
+TokensGive ts (Ok stmts) = Script ts stmts
+TokensGive ts (Err fault) = IsFaultOf ts fault
+
+at_end : (ts : List Token) (p : Place) (ss : List Stmt) → run Start ts ≡ Some (p, ss) → (a : Result (List Stmt) ScriptFault) × TokensGive ts a
+unfolding TokensGive
+at_end ts Start ss e = (Ok ss, accepted ts Start ss e tt)
+at_end ts Whole ss e = (Ok ss, accepted ts Whole ss e tt)
+at_end ts (Within line q) ss e = (Err _, unfinished ts line q ss e)
+
+goes_through : (ts front : List Token) (p : Place) (ss : List Stmt) → run Start front ≡ Some (p, ss) → (a : Result (List Stmt) ScriptFault) × TokensGive (front ++ ts) a
+unfolding TokensGive
+goes_through [] front p ss e = at_end (front ++ []) p ss (ap (run Start) (append-nil front) ∙ e)
+goes_through (t ∷ ts) front p ss e = at_token t ts front p ss e (λ q rs h. goes_through ts (front ++ t ∷ []) q rs h) (next p t) refl
+  where
+    at_token : (t : Token) (ts front : List Token) (p : Place) (ss : List Stmt) → run Start front ≡ Some (p, ss)
+        → ((q : Place) (rs : List Stmt) → run Start (front ++ t ∷ []) ≡ Some (q, rs) → (a : Result (List Stmt) ScriptFault) × TokensGive ((front ++ t ∷ []) ++ ts) a)
+        → (o : Option (Place × Option Stmt)) → next p t ≡ o → (a : Result (List Stmt) ScriptFault) × TokensGive (front ++ t ∷ ts) a
+    at_token t ts front p ss e later None stuck = (Err (fault_of t), misfit front t ts p ss e stuck)
+    at_token t ts front p ss e later (Some to) step =
+        let h = later to.0 (ss ++ listed to.1) (run-push front t p ss to e step) in
+        (h.0, subst (λ (xs : List Token). TokensGive xs h.0) (append_assoc front (t ∷ []) ts) h.1)
+
+answer_of_tokens : (text : List ℕ) → length text ≤ limit → IsUtf8 text → (a : Result (List Stmt) ScriptFault) → TokensGive (tokens_of text) a → IsAnswer text a
+unfolding TokensGive
+answer_of_tokens text short utf8 (Ok stmts) h = record { short = short; utf8 = utf8; script = h }
+answer_of_tokens text short utf8 (Err f) h = inr (inr (short, utf8, h))
+
+pub some_answer : (text : List ℕ) → (a : Result (List Stmt) ScriptFault) × IsAnswer text a
+some_answer text =
+    elim (cases_lt limit (length text)) [
+      | inl long ↦ (Err TooLong, inl (long, refl))
+      | inr short ↦ elim (cases_Bool (is_utf8 text)) [
+        | inl utf8 ↦
+            let u = IsUtf8-from_is_utf8 text utf8 in
+            let h = goes_through (tokens_of text) [] Start [] refl in
+            (h.0, answer_of_tokens text short u h.0 h.1)
+        | inr other ↦ (Err NotUtf8, inr (inl (short, λ u. false≢true (sym other ∙ is_utf8-from_IsUtf8 text u), refl)))
+      ]
+    ]
+
+-- ---- what is refused
+
+pub refuses : (r : Result (List Stmt) ScriptFault) (text : List ℕ) → IfOk r (λ stmts. Spells text stmts) → IfFault r (λ f. IsDue text f) → (fault : ScriptFault) → IsDue text fault → Refuses r fault
+refuses (Ok stmts) text ok is fault due = not_both text stmts fault ok due
+refuses (Err NoMemory) text ok is fault due = tt
+refuses (Err NotUtf8) text ok is fault due = two_due text NotUtf8 fault is due
+refuses (Err (BadToken n)) text ok is fault due = two_due text (BadToken n) fault is due
+refuses (Err (NotLiteral n)) text ok is fault due = two_due text (NotLiteral n) fault is due
+refuses (Err (Unclosed n)) text ok is fault due = two_due text (Unclosed n) fault is due
+refuses (Err TooLong) text ok is fault due = two_due text TooLong fault is due

@@ -1,0 +1,129 @@
+-- Tokens that are no script have one fault.
+use Rattle.std.proofs.Common.{◌≡◌, ℕ, List, [], ◌∷◌, ◌++◌, Option, Some, refl, ap, sym, ◌∙◌, subst, append_assoc, ◌⊎◌, inl, inr}
+use Rattle.std.specs.Prelude.{option_map}
+use Rattle.std.proofs.lemmas.List.{append-nil}
+use Rattle.kt_script.specs.declared.fault.ScriptFault.{ScriptFault}
+use Rattle.kt_script.specs.declared.token.Token.{Token}
+use Rattle.kt_script.specs.declared.place.Place.{Place}
+use Rattle.kt_script.specs.declared.place.Place.TheVariants.{Start, Within}
+use Rattle.kt_script.specs.declared.syntax.Stmt.{Stmt}
+use Rattle.kt_script.specs.declared.syntax.Action.{Action}
+use Rattle.kt_script.specs.declared.state.State.{State}
+use Rattle.kt_script.specs.declared.state.State.TheVariants.{Named}
+use Rattle.kt_script.specs.declared.state.Step.{Step}
+use Rattle.kt_script.specs.declared.state.Step.TheVariants.{To, Ends}
+use Rattle.kt_script.specs.Grammar.{Statement, kinds, first_line, placed, Script}
+use Rattle.kt_script.specs.Faults.{Begins, fault_of, last, open_lines, end_fault, Misfit, Unfinished, IsFaultOf}
+use Rattle.kt_script.specs.Automaton.{step, landed, listed, run, IsResting}
+use Rattle.kt_script.proofs.Complete.{walk, bind_some, joined, run-append, ends_is, name_from_resting, statement_walks, script_runs}
+use Rattle.kt_script.proofs.Standing.{Script-append, one_stmt, begins_from}
+
+-- ---- a token without a place
+
+-- of two places in one list, one is before the other, unless they are the same
+splits : (xs ys : List Token) (s t : Token) (xr yr : List Token) → xs ++ s ∷ xr ≡ ys ++ t ∷ yr
+    → ((xs ≡ ys) × (s ≡ t)) ⊎ (((m : List Token) × (ys ≡ xs ++ s ∷ m)) ⊎ ((m : List Token) × (xs ≡ ys ++ t ∷ m)))
+splits [] [] s t xr yr e = inl (refl, cc)
+splits [] (y ∷ ys) s t xr yr e = inr (inl (ys, cc))
+splits (x ∷ xs) [] s t xr yr e = inr (inr (xs, cc))
+splits (x ∷ xs) (y ∷ ys) s t xr yr e =
+    let tails : xs ++ s ∷ xr ≡ ys ++ t ∷ yr = cc in
+    let heads : x ≡ y = cc in
+    elim (splits xs ys s t xr yr tails) [
+      | inl same ↦ inl (cc, same.1)
+      | inr (inl before) ↦ inr (inl (before.0, cc))
+      | inr (inr after) ↦ inr (inr (after.0, cc))
+    ]
+
+begins_less : (front : List Token) (t : Token) (m : List Token) → Begins (front ++ t ∷ m) → Begins (front ++ t ∷ [])
+begins_less front t m b =
+    let e : (front ++ t ∷ m) ++ b.0 ≡ (front ++ t ∷ []) ++ (m ++ b.0) = simp append_assoc in
+    (m ++ b.0, b.1, subst (λ (xs : List Token). Script xs b.1) e b.2)
+
+-- a script that begins so does not come to the token
+no_further : (ts : List Token) (f : ScriptFault) (m : Misfit ts f) (more : List Token) → Begins (m.front ++ m.token ∷ more) → ⊥
+no_further ts f m more b = m.unfit (begins_less m.front m.token more b)
+
+two_misfits : (ts : List Token) (f g : ScriptFault) → Misfit ts f → Misfit ts g → f ≡ g
+two_misfits ts f g m n =
+    elim (splits m.front n.front m.token n.token m.rest n.rest (sym m.parts ∙ n.parts)) [
+      | inl same ↦ m.is ∙ ap fault_of same.1 ∙ sym n.is
+      | inr (inl before) ↦ absurd (no_further ts f m before.0 (subst Begins before.1 n.begins))
+      | inr (inr after) ↦ absurd (no_further ts g n after.0 (subst Begins after.1 m.begins))
+    ]
+
+misfit_unfinished : (ts : List Token) (f g : ScriptFault) → Misfit ts f → Unfinished ts g → ⊥
+misfit_unfinished ts f g m u = no_further ts f m m.rest (subst Begins m.parts (begins_from u.whole u.begun ts u.more u.stmts u.action u.parts u.script u.statement))
+
+-- ---- the end within a statement
+
+not_nil : (b : List Token) (m : Token) (ms : List Token) → kinds (b ++ m ∷ ms) ≡ [] → ⊥
+not_nil [] m ms e = cc
+not_nil (t ∷ b) m ms e = cc
+
+one_step : (line : ℕ) (q : State) (t : Token) (b : List Token) (s : Step) (end : Option (Place × List Stmt)) → step q t.kind ≡ Some s
+    → option_map (joined (listed (landed line s).1)) (run (landed line s).0 b) ≡ end → run (Within line q) (t ∷ b) ≡ end
+one_step line q t b s end is rest = rw is rest
+
+-- the beginning of a statement leads to a place within it
+inside : (b : List Token) (m : Token) (ms : List Token) (line : ℕ) (q : State) (a : Action) → walk (To q) (kinds (b ++ m ∷ ms)) ≡ Some (Ends a)
+    → (r : State) × (run (Within line q) b ≡ Some (Within line r, []))
+inside [] m ms line q a e = (q, refl)
+inside (t ∷ b) m ms line q a e =
+    let s = bind_some (step q t.kind) (λ s. walk s (kinds (b ++ m ∷ ms))) (Ends a) e in
+    let r = after s.0 b m ms line a (λ p h. inside b m ms line p a h) s.2 in
+    (r.0, one_step line q t b s.0 (Some (Within line r.0, [])) s.1 r.1)
+  where
+    after : (s : Step) (b : List Token) (m : Token) (ms : List Token) (line : ℕ) (a : Action) → ((p : State) → walk (To p) (kinds (b ++ m ∷ ms)) ≡ Some (Ends a) → (r : State) × (run (Within line p) b ≡ Some (Within line r, [])))
+        → walk s (kinds (b ++ m ∷ ms)) ≡ Some (Ends a) → (r : State) × (option_map (joined (listed (landed line s).1)) (run (landed line s).0 b) ≡ Some (Within line r, []))
+    after (To p) b m ms line a later e = let r = later p e in (r.0, rw r.1 refl)
+    after (Ends c) b m ms line a later e = absurd (not_nil b m ms (ends_is c a (kinds (b ++ m ∷ ms)) e).0)
+
+-- where tokens that end within a statement lead
+pub record Leads (ts : List Token) (line : ℕ) : Type 0 where
+  pub state : State
+  pub done : List Stmt
+  pub runs : run Start ts ≡ Some (Within line state, done)
+
+phrase_leads : (t : Token) (b : List Token) (m : Token) (ms : List Token) (p : Place) (a : Action) → IsResting p → Statement (kinds ((t ∷ b) ++ m ∷ ms)) a
+    → (r : State) × (run p (t ∷ b) ≡ Some (Within t.line r, []))
+phrase_leads t b m ms p a rests st =
+    let w = statement_walks (kinds ((t ∷ b) ++ m ∷ ms)) a st in
+    let parts = w.parts in
+    let others : kinds (b ++ m ∷ ms) ≡ w.rest = cc in
+    let r = inside b m ms t.line (Named w.name) a (ap (walk (To (Named w.name))) others ∙ w.ends) in
+    (r.0, rw (name_from_resting p t w.name rests (cc), r.1) refl)
+
+leads : (ts : List Token) (g : ScriptFault) (u : Unfinished ts g) → ((stmts : List Stmt) → Script ts stmts → ⊥) → (begun more : List Token) → u.begun ≡ begun → u.more ≡ more → Leads ts (first_line begun)
+leads ts g u never [] more none is =
+    absurd (never u.stmts (let e : u.whole ≡ ts = sym (append-nil u.whole) ∙ sym (u.parts ∙ ap (λ (xs : List Token). u.whole ++ xs) none) in subst (λ (xs : List Token). Script xs u.stmts) e u.script))
+leads ts g u never (t ∷ b) [] begun is =
+    let st : Statement (kinds u.begun) u.action = subst (λ (xs : List Token). Statement (kinds xs) u.action) (ap (λ (xs : List Token). u.begun ++ xs) is ∙ append-nil u.begun) u.statement in
+    absurd (never (u.stmts ++ placed u.begun u.action ∷ []) (subst (λ (xs : List Token). Script xs (u.stmts ++ placed u.begun u.action ∷ [])) (sym u.parts)
+    (Script-append u.whole u.begun u.stmts (placed u.begun u.action ∷ []) u.script (one_stmt u.begun u.action st))))
+leads ts g u never (t ∷ b) (m ∷ ms) begun is =
+    let s = script_runs u.whole u.stmts u.script Start tt in
+    let st : Statement (kinds ((t ∷ b) ++ m ∷ ms)) u.action = rw (begun, is) at u.statement in
+    let r = phrase_leads t b m ms s.place u.action s.rests st in
+    let all : run Start (u.whole ++ t ∷ b) ≡ Some (Within t.line r.0, u.stmts ++ []) = run-append u.whole Start s.place (t ∷ b) u.stmts s.runs ∙ ap (option_map (joined u.stmts)) r.1 in
+    let whole : ts ≡ u.whole ++ t ∷ b = u.parts ∙ ap (λ (xs : List Token). u.whole ++ xs) begun in
+    record { state = r.0; done = u.stmts ++ []; runs = ap (run Start) whole ∙ all }
+
+line_of : Option (Place × List Stmt) → ℕ
+line_of (Some (Within line q, done)) = line
+line_of _ = 0
+
+two_unfinished : (ts : List Token) (f g : ScriptFault) → ((stmts : List Stmt) → Script ts stmts → ⊥) → Unfinished ts f → Unfinished ts g → f ≡ g
+unfolding line_of
+two_unfinished ts f g never u v =
+    let x = leads ts f u never u.begun u.more refl refl in
+    let y = leads ts g v never v.begun v.more refl refl in
+    let same : first_line u.begun ≡ first_line v.begun = ap line_of (sym x.runs ∙ y.runs) in
+    u.is ∙ ap (end_fault (last (open_lines [] ts))) same ∙ sym v.is
+
+pub one_fault : (ts : List Token) (f g : ScriptFault) → IsFaultOf ts f → IsFaultOf ts g → f ≡ g
+one_fault ts f g x y =
+    elim x.is [
+      | inl m ↦ elim y.is [ inl n ↦ two_misfits ts f g m n | inr v ↦ absurd (misfit_unfinished ts f g m v) ]
+      | inr u ↦ elim y.is [ inl n ↦ absurd (misfit_unfinished ts g f n u) | inr v ↦ two_unfinished ts f g x.no_script u v ]
+    ]

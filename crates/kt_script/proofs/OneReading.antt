@@ -1,0 +1,102 @@
+-- A text has no other tokens than those that are read.
+use Rattle.std.proofs.Common.{◌≡◌, ℕ, suc, ◌+◌, ◌-◌, ◌<◌, Bool, true, false, cond, List, [], ◌∷◌, ◌++◌, length, drop, Option, Some, None, refl, ap, sym, subst, ◌∙◌, arith, length-append}
+use Rattle.std.specs.List.{prefix_len}
+use Rattle.std.proofs.Math.Seq.{take-append_seam, drop-append_seam}
+use Rattle.std.proofs.lemmas.List.{append-nil}
+use Rattle.kt_script.specs.declared.token.Flaw.{Flaw}
+use Rattle.kt_script.specs.declared.token.Kind.{Kind}
+use Rattle.kt_script.specs.declared.token.Kind.TheVariants.{OpenParen, CloseParen, OpenBrace, CloseBrace, OpenBracket, CloseBracket, Equals, Comma, Semicolon, Dot}
+use Rattle.kt_script.specs.declared.token.Token.{Token}
+use Rattle.std.specs.Prelude.{IfSome}
+use Rattle.std.proofs.lemmas.Bool.{eqb-true}
+use Rattle.std.proofs.Common.{eqb}
+use Rattle.kt_script.specs.Letters.{is_space}
+use Rattle.kt_script.specs.Pieces.{token, broken}
+use Rattle.kt_script.specs.Words.{decimal_from, begins_with_letter}
+use Rattle.kt_script.specs.Tokens.{mark_of, piece_at, tokens, tokens_in, line_after, line_past}
+use Rattle.kt_script.specs.TokenRules.{Blank, space, line_comment, long_comment, HasFlaw, large_number, lettered_number, endless_string, bad_escape, endless_comment, leveled_comment, lone_dash, strange, Word, a_name, a_number, a_string, a_mark, no_word, IsTokens, the_end, blank_and, word_and}
+use Rattle.kt_script.proofs.PieceTokens.{tokens-piece}
+use Rattle.kt_script.proofs.ReadWords.{at_strange, name_is, digits_are, number_is, large_is, lettered_is}
+use Rattle.kt_script.proofs.ReadStrings.{string_is, endless_is, bad_escape_is, long_is, endless_comment_is, leveled_is, line_is, dash_is}
+
+-- these bytes are read as this token
+record IsRead (bytes after : List ℕ) (kind : Option Kind) : Type 0 where
+  pub piece : piece_at (bytes ++ after) ≡ record { length = length bytes; kind = kind }
+  pub some : 0 < length bytes
+
+flaw_read : (text : List ℕ) (flaw : Flaw) → HasFlaw text flaw → (piece_at text ≡ broken text flaw) × (0 < length text)
+flaw_read text flaw (large_number c cs after each stop large) =
+    (digits_are c cs after each stop ∙ large_is ((c ∷ cs) ++ after) (length (c ∷ cs)) (begins_with_letter after) (decimal_from 0 (c ∷ cs)) large, omega arith)
+flaw_read text flaw (lettered_number c d cs after each letter) = (lettered_is c d cs after each letter, omega arith)
+flaw_read text flaw (endless_string {quote = q} {words = w} {bytes = b} after quote inside stop) = (endless_is q w b after quote inside stop, omega arith)
+flaw_read text flaw (bad_escape {quote = q} {words = w} {bytes = b} after quote inside none) = (bad_escape_is q w b after quote inside none, omega arith)
+flaw_read text flaw (endless_comment {text = t} never) = (endless_comment_is t never, omega arith)
+flaw_read text flaw (leveled_comment {text = t} long level) = (leveled_is t long level, omega arith)
+flaw_read text flaw (lone_dash {text = t} other) = (dash_is t other, omega arith)
+flaw_read text flaw (strange {c = c} {cs = cs} is) = (at_strange c cs is, omega arith)
+
+-- each mark
+test_mark : (c n : ℕ) (after : List ℕ) (k : Kind) (b : Bool) (o : Option Kind) → eqb c n ≡ b → piece_at (n ∷ after) ≡ token 1 k → IfSome o (λ kind. piece_at (c ∷ after) ≡ token 1 kind)
+    → IfSome (cond b (Some k) o) (λ kind. piece_at (c ∷ after) ≡ token 1 kind)
+test_mark c n after k true o e is rest = ap (λ (x : ℕ). piece_at (x ∷ after)) (eqb-true c n e) ∙ is
+test_mark c n after k false o e is rest = rest
+
+marks_read : (c : ℕ) (after : List ℕ) → IfSome (mark_of c) (λ kind. piece_at (c ∷ after) ≡ token 1 kind)
+unfolding piece_at
+marks_read c after =
+    test_mark c 40 after OpenParen (eqb c 40) _ refl refl (test_mark c 41 after CloseParen (eqb c 41) _ refl refl
+    (test_mark c 123 after OpenBrace (eqb c 123) _ refl refl (test_mark c 125 after CloseBrace (eqb c 125) _ refl refl
+    (test_mark c 91 after OpenBracket (eqb c 91) _ refl refl (test_mark c 93 after CloseBracket (eqb c 93) _ refl refl
+    (test_mark c 61 after Equals (eqb c 61) _ refl refl (test_mark c 44 after Comma (eqb c 44) _ refl refl
+    (test_mark c 59 after Semicolon (eqb c 59) _ refl refl (test_mark c 46 after Dot (eqb c 46) None refl refl tt)))))))))
+
+word_read : (bytes after : List ℕ) (kind : Kind) → Word bytes after kind → IsRead bytes after (Some kind)
+word_read bytes after kind (a_name {c = c} {cs = cs} {after = rest} letter each stop) = record { piece = name_is c cs rest letter each stop; some = omega arith }
+word_read bytes after kind (a_number {c = c} {cs = cs} {after = rest} each stop small) = record { piece = number_is c cs rest each stop small; some = omega arith }
+word_read bytes after kind (a_string {quote = q} {words = w} {bytes = b} {after = rest} quote inside) = record { piece = string_is q w b rest quote inside; some = omega arith }
+word_read bytes after kind (a_mark {c = c} {kind = k} {after = rest} is) = record { piece = subst (λ (o : Option Kind). IfSome o (λ x. piece_at (c ∷ rest) ≡ token 1 x)) is (marks_read c rest); some = omega arith }
+word_read bytes after kind (no_word {text = t} {flaw = f} flaw) =
+    let r = flaw_read t f flaw in
+    record { piece = ap piece_at (append-nil t) ∙ r.0; some = r.1 }
+
+-- ---- tokens
+
+read_step : (line : ℕ) (bytes after : List ℕ) (kind : Option Kind) → IsRead bytes after kind → tokens line 0 (bytes ++ after) ≡ tokens_in line kind ++ tokens (line_past line bytes) 0 after
+read_step line bytes after kind r =
+    tokens-piece line (bytes ++ after) (record { length = length bytes; kind = kind }) (sym r.piece) r.some (omega (arith, length-append bytes after))
+    ∙ ap (λ (xs : List ℕ). tokens_in line kind ++ tokens (line_past line xs) 0 (drop (length bytes) (bytes ++ after))) (take-append_seam bytes after)
+    ∙ ap (λ (xs : List ℕ). tokens_in line kind ++ tokens (line_past line bytes) 0 xs) (drop-append_seam bytes after)
+
+spaces_step : (line : ℕ) (cs : List ℕ) → tokens line (prefix_len is_space cs) cs ≡ tokens line 0 cs
+unfolding tokens piece_at
+spaces_step line [] = refl
+spaces_step line (c ∷ cs) = by_space line c cs (is_space c) refl
+  where
+    by_space : (line c : ℕ) (cs : List ℕ) (b : Bool) → is_space c ≡ b → tokens line (cond b (1 + prefix_len is_space cs) 0) (c ∷ cs) ≡ tokens line 0 (c ∷ cs)
+    by_space line c cs false e = refl
+    by_space line c cs true e =
+        let m : 1 + prefix_len is_space cs ≡ suc (prefix_len is_space cs) = omega arith in
+        let less : (1 + prefix_len is_space cs) - 1 ≡ prefix_len is_space cs = omega arith in
+        ap (λ (n : ℕ). tokens line n (c ∷ cs)) m ∙ sym (rw (e, less) refl)
+
+pub space_step : (line c : ℕ) (cs : List ℕ) → is_space c ≡ true → tokens line 0 (c ∷ cs) ≡ tokens (line_after line c) 0 cs
+unfolding tokens piece_at
+space_step line c cs e =
+    let less : (1 + prefix_len is_space cs) - 1 ≡ prefix_len is_space cs = omega arith in
+    let here : tokens line 0 (c ∷ cs) ≡ tokens (line_after line c) (prefix_len is_space cs) cs = rw (e, less) refl in
+    here ∙ spaces_step (line_after line c) cs
+
+blank_step : (line : ℕ) (bytes after : List ℕ) → Blank bytes after → tokens line 0 (bytes ++ after) ≡ tokens (line_past line bytes) 0 after
+blank_step line bytes after (space {c = c} {after = rest} is) = space_step line c rest is
+blank_step line bytes after (line_comment {words = w} {after = rest} long level each stop) = read_step line (45 ∷ 45 ∷ w) rest None (record { piece = line_is w rest long level each stop; some = omega arith })
+blank_step line bytes after (long_comment {words = w} {after = rest} closes) = read_step line (45 ∷ 45 ∷ 91 ∷ 91 ∷ w) rest None (record { piece = long_is w rest closes; some = omega arith })
+
+tokens-none : (line : ℕ) → tokens line 0 [] ≡ []
+unfolding tokens
+tokens-none line = refl
+
+pub one_reading : (line : ℕ) (text : List ℕ) (ts : List Token) → IsTokens line text ts → ts ≡ tokens line 0 text
+one_reading line text ts the_end = sym (tokens-none line)
+one_reading line text ts (blank_and {blank = b} {rest = rest} {ts = us} is more) = one_reading (line_past line b) rest us more ∙ sym (blank_step line b rest is)
+one_reading line text ts (word_and {bytes = w} {rest = rest} {kind = k} {ts = us} is more) =
+    ap (λ (xs : List Token). record { line = line; kind = k } ∷ xs) (one_reading (line_past line w) rest us more) ∙ sym (read_step line w rest (Some k) (word_read w rest k is))

@@ -1,0 +1,176 @@
+-- The reading of a string: what was read of it and what is left.
+use Rattle.std.proofs.Common.{◌≡◌, ℕ, zero, suc, ◌+◌, ◌-◌, ◌<◌, ◌≤◌, Bool, true, false, cond, eqb, not, ◌&&◌, ◌||◌, List, [], ◌∷◌, ◌++◌, length, take, drop, Option, Some, None, Ok, Err, refl, ap, sym, ◌∙◌, subst, arith, length-drop, inl, inr}
+use Rattle.std.specs.Prelude.{IsUtf8, chars}
+use Rattle.std.specs.Str.{IsAscii, IsCharBoundary}
+use Rattle.std.specs.List.{prefix_len}
+use Rattle.std.proofs.lemmas.Bool.{and_cases, not-false, eqb-true, or_cases}
+use Rattle.std.proofs.lemmas.List.{append-nil}
+use Rattle.std.proofs.lemmas.List.Sums.{prefix_len-le-length}
+use Rattle.std.proofs.lemmas.Str.{chars-nil, chars-append, chars-IsAscii, IsUtf8-nil, IsUtf8-append, IsUtf8-from_ascii, IsUtf8-take, IsUtf8-drop, IsCharBoundary-after_ascii}
+use Rattle.kt_script.proofs.Cuts.{stopping_cut_at}
+use Rattle.kt_script.specs.declared.token.Flaw.{Flaw}
+use Rattle.kt_script.specs.declared.token.Flaw.TheVariants.{Endless}
+use Rattle.kt_script.specs.declared.quotation.Stop.{Stop}
+use Rattle.kt_script.specs.declared.quotation.Stop.TheVariants.{Quote, Escape, Flawed}
+use Rattle.kt_script.specs.Strings.{with_front, escape_of, escape_stop, escape_at, stop_at, string_at, decoded, is_plain}
+use Rattle.kt_script.proofs.StringRuns.{with_front_twice, with_front_none, plain_run, no_more, after_stop, stops}
+
+-- ---- the reading of a string
+
+-- the text's bytes before the rest are the string so far
+pub record ReadsOn (quote : ℕ) (string rest text : List ℕ) : Type 0 where
+  pub front : List ℕ
+  pub utf8 : IsUtf8 front
+  pub is : string ≡ chars front
+  pub count : ℕ
+  pub so_far : with_front front count (string_at quote false rest) ≡ string_at quote false text
+  pub len : count + length rest ≡ length text
+
+pub begins : (quote : ℕ) (text : List ℕ) → ReadsOn quote [] text text
+begins quote text = record { front = []; utf8 = IsUtf8-nil; is = sym chars-nil; count = 0; so_far = with_front_none (string_at quote false text); len = omega arith }
+
+pub reads_run : (quote : ℕ) (string rest text new plain after : List ℕ) (n : ℕ) → ReadsOn quote string rest text → n ≡ prefix_len (is_plain quote) rest
+    → plain ≡ take n rest → after ≡ drop n rest → IsUtf8 plain → new ≡ string ++ chars plain → ReadsOn quote new after text
+reads_run quote string rest text new plain after n h n_is plain_is after_is utf8 pushed =
+    let le : n ≤ length rest = omega (arith, prefix_len-le-length (is_plain quote) rest) in
+    let run : string_at quote false rest ≡ with_front plain n (string_at quote false after) =
+    subst (λ (m : ℕ). string_at quote false rest ≡ with_front (take m rest) m (string_at quote false (drop m rest))) (sym n_is) (plain_run quote rest)
+    ∙ ap (λ (xs : List ℕ). with_front xs n (string_at quote false (drop n rest))) (sym plain_is) ∙ ap (λ (xs : List ℕ). with_front plain n (string_at quote false xs)) (sym after_is) in
+    record {
+      front = h.front ++ plain;
+      utf8 = IsUtf8-append h.front plain h.utf8 utf8;
+      is = pushed ∙ ap (λ (xs : List ℕ). xs ++ chars plain) h.is ∙ sym (chars-append h.front plain h.utf8);
+      count = h.count + n;
+      so_far = sym (with_front_twice h.front plain h.count n (string_at quote false after)) ∙ ap (with_front h.front h.count) (sym run) ∙ h.so_far;
+      len = omega (arith, h.len, ap length after_is, length-drop n rest);
+    }
+
+escape_small : (c d : ℕ) → escape_of c ≡ Some d → d < 128
+escape_small c d e = escape_cases c d (eqb c 110) (eqb c 116) (eqb c 92 || eqb c 39 || eqb c 34) refl e
+  where
+    escape_cases : (c d : ℕ) (n t q : Bool) → (eqb c 92 || eqb c 39 || eqb c 34) ≡ q → cond n (Some 10) (cond t (Some 9) (cond q (Some c) None)) ≡ Some d → d < 128
+    escape_cases c d true t q is e = let same : 10 ≡ d = cc in omega arith
+    escape_cases c d false true q is e = let same : 9 ≡ d = cc in omega arith
+    escape_cases c d false false true is e =
+        let same : c ≡ d = cc in
+        elim (or_cases (eqb c 92 || eqb c 39) (eqb c 34) is) [
+          | inl two ↦ elim (or_cases (eqb c 92) (eqb c 39) two) [ inl slash ↦ omega (arith, eqb-true c 92 slash) | inr tick ↦ omega (arith, eqb-true c 39 tick) ]
+          | inr double ↦ omega (arith, eqb-true c 34 double)
+        ]
+    escape_cases c d false false false is e = absurd cc
+
+-- the byte after a backslash
+letter_small : (e d : ℕ) → escape_of e ≡ Some d → e < 128
+letter_small e d is = letter_cases e d (eqb e 110) (eqb e 116) (eqb e 92 || eqb e 39 || eqb e 34) refl refl refl is
+  where
+    letter_cases : (e d : ℕ) (n t q : Bool) → eqb e 110 ≡ n → eqb e 116 ≡ t → (eqb e 92 || eqb e 39 || eqb e 34) ≡ q → cond n (Some 10) (cond t (Some 9) (cond q (Some e) None)) ≡ Some d → e < 128
+    letter_cases e d true t q x y z is = omega (arith, eqb-true e 110 x)
+    letter_cases e d false true q x y z is = omega (arith, eqb-true e 116 y)
+    letter_cases e d false false true x y z is =
+        elim (or_cases (eqb e 92 || eqb e 39) (eqb e 34) z) [
+          | inl two ↦ elim (or_cases (eqb e 92) (eqb e 39) two) [ inl slash ↦ omega (arith, eqb-true e 92 slash) | inr tick ↦ omega (arith, eqb-true e 39 tick) ]
+          | inr double ↦ omega (arith, eqb-true e 34 double)
+        ]
+    letter_cases e d false false false x y z is = absurd cc
+
+-- a text begins with a backslash and a byte that stand for a character
+pub record IsEscape (text : List ℕ) (d : ℕ) : Type 0 where
+  pub slash : ℕ
+  pub letter : ℕ
+  pub rest : List ℕ
+  pub parts : text ≡ slash ∷ letter ∷ rest
+  pub stands : escape_of letter ≡ Some d
+
+some_escape : (slash letter d : ℕ) (rest : List ℕ) (o : Option ℕ) → escape_of letter ≡ o → escape_stop o ≡ Escape d → IsEscape (slash ∷ letter ∷ rest) d
+some_escape slash letter d rest None is e = absurd cc
+some_escape slash letter d rest (Some x) is e = let same : x ≡ d = cc in record { slash = slash; letter = letter; rest = rest; parts = refl; stands = is ∙ ap Some same }
+
+at_slash : (slash d : ℕ) (cs : List ℕ) → escape_at cs ≡ Escape d → IsEscape (slash ∷ cs) d
+at_slash slash d [] e = absurd cc
+at_slash slash d (letter ∷ rest) e = some_escape slash letter d rest (escape_of letter) refl e
+
+at_stop : (c d : ℕ) (cs : List ℕ) (a b : Bool) → cond a Quote (cond b (escape_at cs) (Flawed Endless)) ≡ Escape d → IsEscape (c ∷ cs) d
+at_stop c d cs true b e = absurd cc
+at_stop c d cs false true e = at_slash c d cs e
+at_stop c d cs false false e = absurd cc
+
+escape_is : (quote d : ℕ) (text : List ℕ) → stop_at quote text ≡ Escape d → IsEscape text d
+escape_is quote d [] e = absurd cc
+escape_is quote d (c ∷ cs) e = at_stop c d cs (eqb c quote) (eqb c 92) e
+
+pub escape_cut : (quote d : ℕ) (text : List ℕ) → IsUtf8 text → stop_at quote text ≡ Escape d → IsCharBoundary text 2
+escape_cut quote d text u e =
+    let is = escape_is quote d text e in
+    let two : IsUtf8 (is.slash ∷ is.letter ∷ is.rest) = subst IsUtf8 is.parts u in
+    subst (λ (xs : List ℕ). IsCharBoundary xs 2) (sym is.parts) (IsCharBoundary-after_ascii (is.slash ∷ is.letter ∷ is.rest) 1 two (omega arith) (letter_small is.letter d is.stands))
+
+pub reads_escape : (quote d : ℕ) (string after text new left : List ℕ) → ReadsOn quote string after text → prefix_len (is_plain quote) after ≡ 0 → stop_at quote after ≡ Escape d
+    → new ≡ string ++ d ∷ [] → left ≡ drop 2 after → ReadsOn quote new left text
+reads_escape quote d string after text new left h none stop pushed left_is =
+    let is = escape_is quote d after stop in
+    let small = escape_small is.letter d is.stands in
+    let ascii : IsAscii (d ∷ []) = one_ascii d small in
+    let here : string_at quote false after ≡ with_front (d ∷ []) 2 (string_at quote false left) =
+    stops quote after none ∙ ap (after_stop quote after) stop ∙ ap (λ (xs : List ℕ). with_front (d ∷ []) 2 (string_at quote false xs)) (sym left_is) in
+    record {
+      front = h.front ++ d ∷ [];
+      utf8 = IsUtf8-append h.front (d ∷ []) h.utf8 (IsUtf8-from_ascii (d ∷ []) ascii);
+      is = pushed ∙ ap (λ (xs : List ℕ). xs ++ d ∷ []) h.is ∙ ap (λ (xs : List ℕ). chars h.front ++ xs) (sym (chars-IsAscii (d ∷ []) ascii)) ∙ sym (chars-append h.front (d ∷ []) h.utf8);
+      count = h.count + 2;
+      so_far = sym (with_front_twice h.front (d ∷ []) h.count 2 (string_at quote false left)) ∙ ap (with_front h.front h.count) (sym here) ∙ h.so_far;
+      len = omega (arith, h.len, ap length left_is, ap length is.parts, length-drop 2 after);
+    }
+  where
+    one_ascii : (d : ℕ) → d < 128 → IsAscii (d ∷ [])
+    one_ascii d small zero = small
+    one_ascii d small (suc k) = omega arith
+
+pub reads_end : (quote n : ℕ) (string after text : List ℕ) → ReadsOn quote string after text → prefix_len (is_plain quote) after ≡ 0 → stop_at quote after ≡ Quote
+    → n ≡ length text - length after + 1 → Ok (string, n) ≡ decoded (string_at quote false text)
+reads_end quote n string after text h none stop n_is =
+    let here : string_at quote false after ≡ Ok ([], 1) = stops quote after none ∙ ap (after_stop quote after) stop in
+    let all : Ok (h.front ++ [], h.count + 1) ≡ string_at quote false text = sym (ap (with_front h.front h.count) here) ∙ h.so_far in
+    let end : n ≡ h.count + 1 = omega (arith, h.len, n_is) in
+    ap (λ (xs : List ℕ). Ok (xs, n)) (h.is ∙ ap chars (sym (append-nil h.front))) ∙ ap (λ (m : ℕ). Ok (chars (h.front ++ []), m)) end ∙ ap decoded all
+
+pub reads_flaw : (quote : ℕ) (string after text : List ℕ) (flaw : Flaw) → ReadsOn quote string after text → prefix_len (is_plain quote) after ≡ 0 → stop_at quote after ≡ Flawed flaw
+    → Err flaw ≡ decoded (string_at quote false text)
+reads_flaw quote string after text flaw h none stop =
+    let here : string_at quote false after ≡ Err flaw = stops quote after none ∙ ap (after_stop quote after) stop in
+    ap decoded (sym (ap (with_front h.front h.count) here) ∙ h.so_far)
+
+-- ---- the code's steps
+
+plain_stops : (quote : ℕ) → quote < 128 → (c : ℕ) → is_plain quote c ≡ false → c < 128
+plain_stops quote small c e =
+    elim (and_cases (not (eqb c quote) && not (eqb c 10)) (not (eqb c 92)) e) [
+      | inl two ↦ elim (and_cases (not (eqb c quote)) (not (eqb c 10)) two) [
+        | inl one ↦ omega (arith, eqb-true c quote (not-false (eqb c quote) one))
+        | inr newline ↦ omega (arith, eqb-true c 10 (not-false (eqb c 10) newline))
+      ]
+      | inr slash ↦ omega (arith, eqb-true c 92 (not-false (eqb c 92) slash))
+    ]
+
+pub plain_cut : (quote n : ℕ) (rest bytes : List ℕ) → quote < 128 → n ≡ prefix_len (is_plain quote) bytes → bytes ≡ rest → IsCharBoundary rest n
+plain_cut quote n rest bytes small n_is same = stopping_cut_at (is_plain quote) (plain_stops quote small) rest bytes n n_is same
+
+-- the bytes that stand for themselves were read
+pub record Stops (quote : ℕ) (string after text : List ℕ) (stop : Stop) : Type 0 where
+  pub reads : ReadsOn quote string after text
+  pub none : prefix_len (is_plain quote) after ≡ 0
+  pub utf8 : IsUtf8 after
+  pub stands : stop_at quote after ≡ stop
+
+pub comes_to : (quote n : ℕ) (string rest text new plain after bytes front : List ℕ) (stop told : Stop) → quote < 128 → ReadsOn quote string rest text → IsUtf8 rest
+    → n ≡ prefix_len (is_plain quote) bytes → bytes ≡ rest → plain ≡ take n rest → after ≡ drop n rest → new ≡ string ++ chars plain
+    → told ≡ stop_at quote front → front ≡ after → told ≡ stop → Stops quote new after text stop
+comes_to quote n string rest text new plain after bytes front stop told small h u n_is same plain_is after_is pushed told_is front_is is =
+    let cut = plain_cut quote n rest bytes small n_is same in
+    let n_at : n ≡ prefix_len (is_plain quote) rest = n_is ∙ ap (prefix_len (is_plain quote)) same in
+    let plain_utf8 : IsUtf8 plain = subst IsUtf8 (sym plain_is) (IsUtf8-take rest n u cut) in
+    record {
+      reads = reads_run quote string rest text new plain after n h n_at plain_is after_is plain_utf8 pushed;
+      none = ap (prefix_len (is_plain quote)) after_is ∙ ap (λ (m : ℕ). prefix_len (is_plain quote) (drop m rest)) n_at ∙ no_more (is_plain quote) rest;
+      utf8 = subst IsUtf8 (sym after_is) (IsUtf8-drop rest n u cut);
+      stands = ap (stop_at quote) (sym front_is) ∙ sym told_is ∙ is;
+    }

@@ -1,0 +1,117 @@
+-- Each text has tokens by the rules, and they are those that are read.
+use Rattle.std.proofs.Common.{◌≡◌, ℕ, zero, suc, ◌≤◌, Bool, true, false, eqb, ◌&&◌, List, [], ◌∷◌, ◌++◌, length, drop, Option, Some, None, refl, ap, sym, subst, ◌∙◌, arith, length-append, ◌⊎◌, inl, inr}
+use Rattle.std.specs.Prelude.{nat_eq, codes}
+use Rattle.std.specs.List.{starts_with}
+use Rattle.std.proofs.lemmas.Bool.{cases_Bool, eqb-true}
+use Rattle.kt_script.specs.declared.token.Flaw.TheVariants.{Bad, Leveled, Endless}
+use Rattle.kt_script.specs.declared.token.Kind.{Kind}
+use Rattle.kt_script.specs.declared.token.Token.{Token}
+use Rattle.kt_script.specs.Letters.{is_space, is_letter, is_digit}
+use Rattle.kt_script.specs.Tokens.{mark_of, tokens, line_past}
+use Rattle.kt_script.specs.TokenRules.{is_quote, in_line, Closes, closed, not_yet, NeverCloses, opens_long, opens_level, space, line_comment, long_comment, endless_comment, leveled_comment, lone_dash, strange, a_mark, IsTokens, the_end, blank_and, word_and}
+use Rattle.kt_script.proofs.PieceCuts.{begins_with}
+use Rattle.kt_script.proofs.OneReading.{one_reading}
+use Rattle.kt_script.proofs.WordsFirst.{BlankFirst, WordFirst, run, flawed, name_first, number_then, quotation, string_first}
+
+-- ---- comments
+
+record Closing (text : List ℕ) : Type 0 where
+  pub front : List ℕ
+  pub rest : List ℕ
+  pub parts : text ≡ front ++ rest
+  pub is : Closes front rest
+
+closing : (text : List ℕ) → Closing text ⊎ NeverCloses text
+closing [] = inr tt
+closing (c ∷ cs) =
+    elim (cases_Bool (starts_with nat_eq (c ∷ cs) (codes "]]"))) [
+      | inl here ↦ inl (record { front = 93 ∷ 93 ∷ []; rest = drop 2 (c ∷ cs); parts = begins_with (c ∷ cs) (codes "]]") here; is = closed })
+      | inr other ↦ elim (closing cs) [
+        | inl h ↦
+            let all : c ∷ cs ≡ (c ∷ h.front) ++ h.rest = ap (λ (xs : List ℕ). c ∷ xs) h.parts in
+            inl (record { front = c ∷ h.front; rest = h.rest; parts = all; is = not_yet (ap (λ (xs : List ℕ). starts_with nat_eq xs (codes "]]")) (sym all) ∙ other) h.is })
+        | inr never ↦ inr (other, never)
+      ]
+    ]
+
+-- a comment of a line, and what follows it
+comment_first : (text : List ℕ) → BlankFirst (45 ∷ 45 ∷ text) ⊎ WordFirst (45 ∷ 45 ∷ text)
+comment_first text =
+    elim (cases_Bool (opens_long text)) [
+      | inl long ↦
+          let parts : 45 ∷ 45 ∷ text ≡ 45 ∷ 45 ∷ 91 ∷ 91 ∷ drop 2 text = ap (λ (xs : List ℕ). 45 ∷ 45 ∷ xs) (begins_with text (codes "[[") long) in
+          elim (closing (drop 2 text)) [
+            | inl h ↦ inl (record { front = 45 ∷ 45 ∷ 91 ∷ 91 ∷ h.front; rest = h.rest; parts = parts ∙ ap (λ (xs : List ℕ). 45 ∷ 45 ∷ 91 ∷ 91 ∷ xs) h.parts; some = omega arith; is = long_comment h.is })
+            | inr never ↦ inr (flawed (45 ∷ 45 ∷ text) (45 ∷ 45 ∷ 91 ∷ 91 ∷ drop 2 text) Endless parts (omega arith) (endless_comment never))
+          ]
+      | inr short ↦ elim (cases_Bool (opens_level text)) [
+        | inl level ↦ inr (flawed (45 ∷ 45 ∷ text) (45 ∷ 45 ∷ text) Leveled refl (omega arith) (leveled_comment short level))
+        | inr plain ↦
+            let r = run in_line text in
+            inl (record {
+              front = 45 ∷ 45 ∷ r.front;
+              rest = r.rest;
+              parts = ap (λ (xs : List ℕ). 45 ∷ 45 ∷ xs) r.parts;
+              some = omega arith;
+              is = line_comment (ap opens_long (sym r.parts) ∙ short) (ap opens_level (sym r.parts) ∙ plain) r.each r.stop;
+            })
+      ]
+    ]
+
+dash_first : (cs : List ℕ) → BlankFirst (45 ∷ cs) ⊎ WordFirst (45 ∷ cs)
+dash_first [] = inr (flawed (45 ∷ []) (45 ∷ []) Bad refl (omega arith) (lone_dash refl))
+dash_first (c ∷ cs) = by_dash c cs (eqb 45 c) refl
+  where
+    by_dash : (c : ℕ) (cs : List ℕ) (b : Bool) → eqb 45 c ≡ b → BlankFirst (45 ∷ c ∷ cs) ⊎ WordFirst (45 ∷ c ∷ cs)
+    by_dash c cs true is = subst (λ (n : ℕ). BlankFirst (45 ∷ n ∷ cs) ⊎ WordFirst (45 ∷ n ∷ cs)) (eqb-true 45 c is) (comment_first cs)
+    by_dash c cs false is = inr (flawed (45 ∷ c ∷ cs) (45 ∷ c ∷ cs) Bad refl (omega arith) (lone_dash (ap (λ (b : Bool). b && true) is)))
+
+-- ---- any text
+
+mark_first : (c : ℕ) (cs : List ℕ) (o : Option Kind) → mark_of c ≡ o → is_space c ≡ false → is_letter c ≡ false → is_digit c ≡ false → is_quote c ≡ false → eqb c 45 ≡ false → WordFirst (c ∷ cs)
+mark_first c cs None m s l d q h = flawed (c ∷ cs) (c ∷ cs) Bad refl (omega arith) (strange (record { no_space = s; no_letter = l; no_digit = d; no_quote = q; no_dash = h; no_mark = m }))
+mark_first c cs (Some k) m s l d q h = record { front = c ∷ []; rest = cs; parts = refl; some = omega arith; kind = k; is = a_mark m }
+
+something_first : (c : ℕ) (cs : List ℕ) → BlankFirst (c ∷ cs) ⊎ WordFirst (c ∷ cs)
+something_first c cs =
+    elim (cases_Bool (is_space c)) [
+      | inl s ↦ inl (record { front = c ∷ []; rest = cs; parts = refl; some = omega arith; is = space s })
+      | inr s ↦ elim (cases_Bool (is_letter c)) [
+        | inl l ↦ inr (name_first c cs l)
+        | inr l ↦ elim (cases_Bool (is_digit c)) [
+          | inl d ↦ inr (let r = run is_digit cs in number_then c cs r.front r.rest r.parts (d, r.each) r.stop)
+          | inr d ↦ elim (cases_Bool (is_quote c)) [
+            | inl q ↦ inr (string_first c cs q (quotation c cs))
+            | inr q ↦ elim (cases_Bool (eqb c 45)) [
+              | inl h ↦ subst (λ (n : ℕ). BlankFirst (n ∷ cs) ⊎ WordFirst (n ∷ cs)) (sym (eqb-true c 45 h)) (dash_first cs)
+              | inr h ↦ inr (mark_first c cs (mark_of c) refl s l d q h)
+            ]
+          ]
+        ]
+      ]
+    ]
+
+-- ---- the tokens
+
+record Reading (line : ℕ) (text : List ℕ) : Type 0 where
+  pub tokens : List Token
+  pub are : IsTokens line text tokens
+
+reading : (n line : ℕ) (text : List ℕ) → length text ≤ n → Reading line text
+reading n line [] le = record { tokens = []; are = the_end }
+reading zero line (c ∷ cs) le = absurd (omega arith)
+reading (suc n) line (c ∷ cs) le =
+    elim (something_first c cs) [
+      | inl b ↦
+          let r = reading n (line_past line b.front) b.rest (omega (arith, le, b.some, ap length b.parts, length-append b.front b.rest)) in
+          record { tokens = r.tokens; are = subst (λ (xs : List ℕ). IsTokens line xs r.tokens) (sym b.parts) (blank_and b.is r.are) }
+      | inr w ↦
+          let r = reading n (line_past line w.front) w.rest (omega (arith, le, w.some, ap length w.parts, length-append w.front w.rest)) in
+          let ts : List Token = record { line = line; kind = w.kind } ∷ r.tokens in
+          record { tokens = ts; are = subst (λ (xs : List ℕ). IsTokens line xs ts) (sym w.parts) (word_and w.is r.are) }
+    ]
+
+pub some_reading : (line : ℕ) (text : List ℕ) → IsTokens line text (tokens line 0 text)
+some_reading line text =
+    let r = reading (length text) line text (omega arith) in
+    subst (IsTokens line text) (one_reading line text r.tokens r.are) r.are

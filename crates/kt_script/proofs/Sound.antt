@@ -1,0 +1,93 @@
+-- Where the code's steps lead, a script is or begins; where they don't go on, none does.
+use Rattle.std.proofs.Common.{◌≡◌, ℕ, List, [], ◌∷◌, ◌++◌, Option, Some, None, refl, ap, sym, ◌∙◌, subst, append_assoc, inl, inr}
+use Rattle.std.specs.Prelude.{option_map}
+use Rattle.std.proofs.lemmas.List.{append-nil}
+use Rattle.kt_script.specs.declared.token.Token.{Token}
+use Rattle.kt_script.specs.declared.place.Place.{Place}
+use Rattle.kt_script.specs.declared.place.Place.TheVariants.{Start, Whole, Within}
+use Rattle.kt_script.specs.declared.syntax.Stmt.{Stmt}
+use Rattle.kt_script.specs.declared.state.State.{State}
+use Rattle.kt_script.specs.Grammar.{Script}
+use Rattle.kt_script.specs.Faults.{fault_of, last, open_lines, end_fault, IsFaultOf}
+use Rattle.kt_script.specs.Automaton.{step, next, listed, run, IsResting}
+use Rattle.kt_script.proofs.Complete.{some_is, joined, run-append, script_runs}
+use Rattle.kt_script.proofs.Standing.{Stands, whole_script, from_start, finished, stands_begins}
+
+-- ---- the laws
+
+resting_script : (p : Place) (ss : List Stmt) (ts : List Token) → IsResting p → Stands p ss ts → Script ts ss
+resting_script Start ss ts r h = h
+resting_script Whole ss ts r h = whole_script ss ts h
+resting_script (Within line q) ss ts r h = elim r [ ]
+
+-- what is accepted is spelled
+pub accepted : (ts : List Token) (p : Place) (ss : List Stmt) → run Start ts ≡ Some (p, ss) → IsResting p → Script ts ss
+accepted ts p ss e r = resting_script p ss ts r (from_start ts p ss e)
+
+-- a script leads to rest, with its statements
+pub only : (ts : List Token) (p : Place) (ss rs : List Stmt) → run Start ts ≡ Some (p, ss) → Script ts rs → IsResting p × (rs ≡ ss)
+only ts p ss rs e script =
+    let s = script_runs ts rs script Start tt in
+    let same : (s.place, rs) ≡ (p, ss) = some_is (s.place, rs) (p, ss) (sym s.runs ∙ e) in
+    let place : s.place ≡ p = ap (λ (x : Place × List Stmt). x.0) same in
+    (subst IsResting place s.rests, ap (λ (x : Place × List Stmt). x.1) same)
+
+-- tokens are one script at most
+pub one_script : (ts : List Token) (ss rs : List Stmt) → Script ts ss → Script ts rs → ss ≡ rs
+one_script ts ss rs first second =
+    let s = script_runs ts ss first Start tt in
+    sym (only ts s.place ss rs s.runs second).1
+
+-- no script goes on with a token that leads nowhere
+no_way_on : (front : List Token) (t : Token) (rest : List Token) (p : Place) (ss rs : List Stmt) → run Start front ≡ Some (p, ss) → next p t ≡ None
+    → Script (front ++ t ∷ rest) rs → ⊥
+no_way_on front t rest p ss rs e stuck script =
+    let s = script_runs (front ++ t ∷ rest) rs script Start tt in
+    let goes = run-append front Start p (t ∷ rest) ss e in
+    let none : run p (t ∷ rest) ≡ None = rw stuck refl in
+    let never : run Start (front ++ t ∷ rest) ≡ None = goes ∙ ap (option_map (joined ss)) none in
+    let both = sym s.runs ∙ never in
+    cc
+
+-- the first token that leads nowhere
+pub misfit : (front : List Token) (t : Token) (rest : List Token) (p : Place) (ss : List Stmt) → run Start front ≡ Some (p, ss) → next p t ≡ None
+    → IsFaultOf (front ++ t ∷ rest) (fault_of t)
+misfit front t rest p ss e stuck = record {
+  no_script = λ rs script. no_way_on front t rest p ss rs e stuck script;
+  is = inl (record {
+    front = front;
+    token = t;
+    rest = rest;
+    parts = refl;
+    begins = stands_begins p ss front (from_start front p ss e);
+    unfit = λ b. let again : Script (front ++ t ∷ b.0) b.1 = rw append_assoc at b.2 in no_way_on front t b.0 p ss b.1 e stuck again;
+    is = refl;
+  });
+}
+
+-- the tokens lead into a statement
+pub unfinished : (ts : List Token) (line : ℕ) (q : State) (ss : List Stmt) → run Start ts ≡ Some (Within line q, ss)
+    → IsFaultOf ts (end_fault (last (open_lines [] ts)) line)
+unfinished ts line q ss e =
+    let w = from_start ts (Within line q) ss e in
+    let f = finished line q ss ts w in
+    record {
+      no_script = λ rs script. (only ts (Within line q) ss rs e script).0;
+      is = inr (record {
+        whole = w.before;
+        begun = w.first ∷ w.others;
+        parts = w.parts;
+        stmts = ss;
+        script = w.script;
+        more = f.0;
+        action = f.1;
+        statement = f.2;
+        is = ap (end_fault (last (open_lines [] ts))) (sym w.line_is);
+      });
+    }
+
+-- one token more
+pub run-push : (front : List Token) (t : Token) (p : Place) (ss : List Stmt) (to : Place × Option Stmt) → run Start front ≡ Some (p, ss) → next p t ≡ Some to
+    → run Start (front ++ t ∷ []) ≡ Some (to.0, ss ++ listed to.1)
+run-push front t p ss to e step =
+    run-append front Start p (t ∷ []) ss e ∙ rw (step, append-nil) refl

@@ -1,0 +1,96 @@
+-- A string, run by run of bytes that stand for themselves.
+use Rattle.std.proofs.Common.{◌≡◌, ℕ, suc, ◌+◌, Bool, true, false, cond, eqb, not, ◌&&◌, List, [], ◌∷◌, ◌++◌, take, drop, Option, Some, None, Result, Ok, Err, refl, ap, sym, ◌∙◌, subst, append_assoc, arith, inl, inr}
+use Rattle.std.specs.List.{prefix_len}
+use Rattle.std.proofs.lemmas.Bool.{cases_Bool, and_parts, not-true, eqb-true}
+use Rattle.kt_script.specs.declared.token.Flaw.{Flaw}
+use Rattle.kt_script.specs.declared.quotation.Stop.{Stop}
+use Rattle.kt_script.specs.declared.quotation.Stop.TheVariants.{Quote, Escape, Flawed}
+use Rattle.kt_script.specs.Strings.{with_front, escape_of, escaped, escape_stop, escape_at, stop_at, string_at, is_plain}
+
+pub with_front_twice : (xs ys : List ℕ) (n m : ℕ) (r : Result (List ℕ × ℕ) Flaw) → with_front xs n (with_front ys m r) ≡ with_front (xs ++ ys) (n + m) r
+with_front_twice xs ys n m (Ok x) =
+    let e : n + (m + x.1) ≡ (n + m) + x.1 = omega arith in
+    rw (e, append_assoc) refl
+with_front_twice xs ys n m (Err f) = refl
+
+pub with_front_none : (r : Result (List ℕ × ℕ) Flaw) → with_front [] 0 r ≡ r
+with_front_none (Ok x) = let e : 0 + x.1 ≡ x.1 = omega arith in rw e refl
+with_front_none (Err f) = refl
+
+-- ---- bytes that stand for themselves
+
+pub plain_is : (quote c : ℕ) → is_plain quote c ≡ true → (eqb c quote ≡ false) × (eqb c 10 ≡ false) × (eqb c 92 ≡ false)
+plain_is quote c e =
+    let outer = and_parts (not (eqb c quote) && not (eqb c 10)) (not (eqb c 92)) e in
+    let inner = and_parts (not (eqb c quote)) (not (eqb c 10)) outer.0 in
+    (not-true (eqb c quote) inner.0, not-true (eqb c 10) inner.1, not-true (eqb c 92) outer.1)
+
+one_more : (c : ℕ) (cs : List ℕ) (n : ℕ) (r : Result (List ℕ × ℕ) Flaw) → with_front (c ∷ take n cs) (1 + n) r ≡ with_front (take (1 + n) (c ∷ cs)) (1 + n) r
+one_more c cs n r = let e : 1 + n ≡ suc n = omega arith in rw e refl
+
+one_less : (c : ℕ) (cs : List ℕ) (n : ℕ) → drop (1 + n) (c ∷ cs) ≡ drop n cs
+one_less c cs n = let e : 1 + n ≡ suc n = omega arith in rw e refl
+
+-- a string from here on is the bytes that stand for themselves, and what is after them
+pub plain_run : (quote : ℕ) (text : List ℕ)
+    → string_at quote false text ≡ with_front (take (prefix_len (is_plain quote) text) text) (prefix_len (is_plain quote) text) (string_at quote false (drop (prefix_len (is_plain quote) text) text))
+plain_run quote [] = refl
+plain_run quote (c ∷ cs) =
+    elim (cases_Bool (is_plain quote c)) [
+      | inl yes_plain ↦
+          let tests = plain_is quote c yes_plain in
+          let n : ℕ = prefix_len (is_plain quote) cs in
+          let here : string_at quote false (c ∷ cs) ≡ with_front (c ∷ []) 1 (string_at quote false cs) = rw (tests.0, tests.1, tests.2) refl in
+          let all : string_at quote false (c ∷ cs) ≡ with_front (take (1 + n) (c ∷ cs)) (1 + n) (string_at quote false (drop (1 + n) (c ∷ cs))) =
+          here ∙ ap (with_front (c ∷ []) 1) (plain_run quote cs) ∙ with_front_twice (c ∷ []) (take n cs) 1 n (string_at quote false (drop n cs)) ∙ one_more c cs n (string_at quote false (drop n cs))
+          ∙ ap (λ (left : List ℕ). with_front (take (1 + n) (c ∷ cs)) (1 + n) (string_at quote false left)) (sym (one_less c cs n)) in
+          subst (λ (b : Bool). string_at quote false (c ∷ cs) ≡ with_front (take (cond b (1 + n) 0) (c ∷ cs)) (cond b (1 + n) 0) (string_at quote false (drop (cond b (1 + n) 0) (c ∷ cs)))) (sym yes_plain) all
+      | inr other ↦
+          subst (λ (b : Bool). string_at quote false (c ∷ cs) ≡ with_front (take (cond b (1 + prefix_len (is_plain quote) cs) 0) (c ∷ cs)) (cond b (1 + prefix_len (is_plain quote) cs) 0) (string_at quote false (drop (cond b (1 + prefix_len (is_plain quote) cs) 0) (c ∷ cs)))) (sym other) (sym (with_front_none (string_at quote false (c ∷ cs))))
+    ]
+
+-- no byte that stands for itself is left
+pub no_more : (p : ℕ → Bool) (text : List ℕ) → prefix_len p (drop (prefix_len p text) text) ≡ 0
+no_more p [] = refl
+no_more p (c ∷ cs) =
+    elim (cases_Bool (p c)) [
+      | inl passes ↦ subst (λ (b : Bool). prefix_len p (drop (cond b (1 + prefix_len p cs) 0) (c ∷ cs)) ≡ 0) (sym passes) (ap (prefix_len p) (one_less c cs (prefix_len p cs)) ∙ no_more p cs)
+      | inr fails ↦ subst (λ (b : Bool). prefix_len p (drop (cond b (1 + prefix_len p cs) 0) (c ∷ cs)) ≡ 0) (sym fails) (ap (λ (b : Bool). cond b (1 + prefix_len p cs) 0) fails)
+    ]
+
+-- ---- what stands after them
+
+-- what a string is from a stop on
+abbrev pub after_stop : ℕ → List ℕ → Stop → Result (List ℕ × ℕ) Flaw
+after_stop quote text Quote = Ok ([], 1)
+after_stop quote text (Flawed flaw) = Err flaw
+after_stop quote text (Escape c) = with_front (c ∷ []) 2 (string_at quote false (drop 2 text))
+
+escape_follows : (quote c d : ℕ) (ds : List ℕ) (o : Option ℕ) → with_front [] 1 (escaped o (string_at quote false ds)) ≡ after_stop quote (c ∷ d ∷ ds) (escape_stop o)
+escape_follows quote c d ds None = refl
+escape_follows quote c d ds (Some e) = with_front_twice [] (e ∷ []) 1 1 (string_at quote false ds)
+
+slash_follows : (quote c : ℕ) (cs : List ℕ) → with_front [] 1 (string_at quote true cs) ≡ after_stop quote (c ∷ cs) (escape_at cs)
+slash_follows quote c [] = refl
+slash_follows quote c (d ∷ ds) = escape_follows quote c d ds (escape_of d)
+
+-- each of the three tests
+by_tests : (quote c : ℕ) (cs : List ℕ) (a b d : Bool) → eqb c quote ≡ a → eqb c 10 ≡ b → eqb c 92 ≡ d → is_plain quote c ≡ false
+    → string_at quote false (c ∷ cs) ≡ after_stop quote (c ∷ cs) (stop_at quote (c ∷ cs))
+by_tests quote c cs true b d x y z other = rw x refl
+by_tests quote c cs false true d x y z other =
+    let no_slash : eqb c 92 ≡ false = ap (λ (n : ℕ). eqb n 92) (eqb-true c 10 y) in
+    rw (x, y, no_slash) refl
+by_tests quote c cs false false true x y z other = rw (x, y, z) (slash_follows quote c cs)
+by_tests quote c cs false false false x y z other =
+    let plain : is_plain quote c ≡ true = rw (x, y, z) refl in
+    let both : true ≡ false = sym plain ∙ other in
+    absurd cc
+
+pub stops : (quote : ℕ) (text : List ℕ) → prefix_len (is_plain quote) text ≡ 0 → string_at quote false text ≡ after_stop quote text (stop_at quote text)
+stops quote [] none = refl
+stops quote (c ∷ cs) none =
+    elim (cases_Bool (is_plain quote c)) [
+      | inl plain ↦ let e : 1 + prefix_len (is_plain quote) cs ≡ 0 = subst (λ (b : Bool). cond b (1 + prefix_len (is_plain quote) cs) 0 ≡ 0) plain none in absurd (omega arith)
+      | inr other ↦ by_tests quote c cs (eqb c quote) (eqb c 10) (eqb c 92) refl refl refl other
+    ]

@@ -1,0 +1,114 @@
+-- What a text begins with, where that is a name, a number or a string.
+use Rattle.std.proofs.Common.{◌≡◌, ℕ, ◌<◌, ◌^◌, Bool, true, false, eqb, not, ◌||◌, List, [], ◌∷◌, ◌++◌, length, Option, Some, None, refl, ap, sym, subst, ◌∙◌, arith, append_assoc, inl, inr}
+use Rattle.std.proofs.lemmas.Bool.{cases_Bool, cases_lt, eqb-true}
+use Rattle.std.proofs.lemmas.List.{append-nil}
+use Rattle.kt_script.specs.declared.token.Flaw.{Flaw}
+use Rattle.kt_script.specs.declared.token.Flaw.TheVariants.{Bad, Endless}
+use Rattle.kt_script.specs.declared.token.Kind.{Kind}
+use Rattle.kt_script.specs.declared.token.Kind.TheVariants.{Broken}
+use Rattle.kt_script.specs.Letters.{is_letter, is_digit, is_word}
+use Rattle.kt_script.specs.Words.{decimal_from}
+use Rattle.kt_script.specs.Strings.{escape_of, is_plain}
+use Rattle.kt_script.specs.TokenRules.{Each, StopsAt, is_quote, in_line, Inside, nothing, itself, escape, NoEscape, Blank, HasFlaw, large_number, lettered_number, endless_string, bad_escape, Word, a_name, a_number, a_string, no_word}
+
+-- ---- what a text begins with
+
+pub record BlankFirst (text : List ℕ) : Type 0 where
+  pub front : List ℕ
+  pub rest : List ℕ
+  pub parts : text ≡ front ++ rest
+  pub some : 0 < length front
+  pub is : Blank front rest
+
+pub record WordFirst (text : List ℕ) : Type 0 where
+  pub front : List ℕ
+  pub rest : List ℕ
+  pub parts : text ≡ front ++ rest
+  pub some : 0 < length front
+  pub kind : Kind
+  pub is : Word front rest kind
+
+-- bytes of a class, and what follows them
+pub record Run (p : ℕ → Bool) (text : List ℕ) : Type 0 where
+  pub front : List ℕ
+  pub rest : List ℕ
+  pub parts : text ≡ front ++ rest
+  pub each : Each p front
+  pub stop : StopsAt p rest
+
+pub run : (p : ℕ → Bool) (text : List ℕ) → Run p text
+run p [] = record { front = []; rest = []; parts = refl; each = tt; stop = tt }
+run p (c ∷ cs) =
+    elim (cases_Bool (p c)) [
+      | inl passes ↦ let r = run p cs in record { front = c ∷ r.front; rest = r.rest; parts = ap (λ (xs : List ℕ). c ∷ xs) r.parts; each = (passes, r.each); stop = r.stop }
+      | inr fails ↦ record { front = []; rest = c ∷ cs; parts = refl; each = tt; stop = fails }
+    ]
+
+pub flawed : (text whole : List ℕ) (flaw : Flaw) → text ≡ whole → 0 < length whole → HasFlaw whole flaw → WordFirst text
+flawed text whole flaw parts some h = record { front = whole; rest = []; parts = parts ∙ sym (append-nil whole); some = some; kind = Broken flaw; is = no_word h }
+
+-- ---- names and numbers
+
+pub name_first : (c : ℕ) (cs : List ℕ) → is_letter c ≡ true → WordFirst (c ∷ cs)
+name_first c cs letter =
+    let r = run is_word cs in
+    record { front = c ∷ r.front; rest = r.rest; parts = ap (λ (xs : List ℕ). c ∷ xs) r.parts; some = omega arith; kind = _; is = a_name letter r.each r.stop }
+
+pub number_then : (c : ℕ) (cs front rest : List ℕ) → cs ≡ front ++ rest → Each is_digit (c ∷ front) → StopsAt is_digit rest → WordFirst (c ∷ cs)
+number_then c cs front rest parts each stop =
+    let all : c ∷ cs ≡ (c ∷ front) ++ rest = ap (λ (xs : List ℕ). c ∷ xs) parts in
+    elim (cases_lt (decimal_from 0 (c ∷ front)) (2 ^ 64)) [
+      | inl small ↦ small_then c cs front rest all each stop small
+      | inr large ↦ flawed (c ∷ cs) ((c ∷ front) ++ rest) Bad all (omega arith) (large_number c front rest each stop large)
+    ]
+  where
+    small_then : (c : ℕ) (cs front rest : List ℕ) → c ∷ cs ≡ (c ∷ front) ++ rest → Each is_digit (c ∷ front) → StopsAt is_digit rest → decimal_from 0 (c ∷ front) < 2 ^ 64 → WordFirst (c ∷ cs)
+    small_then c cs front [] all each stop small = record { front = c ∷ front; rest = []; parts = all; some = omega arith; kind = _; is = a_number each tt small }
+    small_then c cs front (d ∷ ds) all each stop small =
+        elim (cases_Bool (is_letter d)) [
+          | inl letter ↦ flawed (c ∷ cs) ((c ∷ front) ++ d ∷ ds) Bad all (omega arith) (lettered_number c d front ds each letter)
+          | inr other ↦
+              let no_word_byte : is_word d ≡ false = ap (λ (b : Bool). b || is_digit d) other ∙ stop in
+              record { front = c ∷ front; rest = d ∷ ds; parts = all; some = omega arith; kind = _; is = a_number each no_word_byte small }
+        ]
+
+-- ---- strings
+
+-- how a string goes on, to its quote or to what is wrong with it
+pub data Quotation (quote : ℕ) : List ℕ → Type 0 where
+  ends : {words bytes : List ℕ} (after : List ℕ) → Inside quote words bytes → Quotation quote (words ++ quote ∷ after)
+  meets_line : {words bytes : List ℕ} (after : List ℕ) → Inside quote words bytes → StopsAt in_line after → Quotation quote (words ++ after)
+  meets_escape : {words bytes : List ℕ} (after : List ℕ) → Inside quote words bytes → NoEscape after → Quotation quote (words ++ 92 ∷ after)
+
+push_plain : (quote c : ℕ) (cs : List ℕ) → is_plain quote c ≡ true → Quotation quote cs → Quotation quote (c ∷ cs)
+push_plain quote c cs plain (ends after inside) = ends after (itself plain inside)
+push_plain quote c cs plain (meets_line after inside stop) = meets_line after (itself plain inside) stop
+push_plain quote c cs plain (meets_escape after inside none) = meets_escape after (itself plain inside) none
+
+push_escape : (quote e d : ℕ) (cs : List ℕ) → escape_of e ≡ Some d → Quotation quote cs → Quotation quote (92 ∷ e ∷ cs)
+push_escape quote e d cs stands (ends after inside) = ends after (escape stands inside)
+push_escape quote e d cs stands (meets_line after inside stop) = meets_line after (escape stands inside) stop
+push_escape quote e d cs stands (meets_escape after inside none) = meets_escape after (escape stands inside) none
+
+slash_then : (quote e : ℕ) (cs : List ℕ) (o : Option ℕ) → escape_of e ≡ o → Quotation quote cs → Quotation quote (92 ∷ e ∷ cs)
+slash_then quote e cs None none later = meets_escape (e ∷ cs) nothing none
+slash_then quote e cs (Some d) stands later = push_escape quote e d cs stands later
+
+byte_then : (quote c : ℕ) (cs : List ℕ) (a b d : Bool) → eqb c quote ≡ a → eqb c 10 ≡ b → eqb c 92 ≡ d → Quotation quote cs → Quotation quote (92 ∷ cs) → Quotation quote (c ∷ cs)
+byte_then quote c cs true b d x y z later slash =
+    let end : Quotation quote (quote ∷ cs) = ends cs nothing in
+    subst (λ (n : ℕ). Quotation quote (n ∷ cs)) (sym (eqb-true c quote x)) end
+byte_then quote c cs false true d x y z later slash = meets_line (c ∷ cs) nothing (ap not y)
+byte_then quote c cs false false true x y z later slash = subst (λ (n : ℕ). Quotation quote (n ∷ cs)) (sym (eqb-true c 92 z)) slash
+byte_then quote c cs false false false x y z later slash = push_plain quote c cs (rw (x, y, z) refl) later
+
+pub quotation : (quote : ℕ) (text : List ℕ) → Quotation quote text
+quotation quote [] = meets_line [] nothing tt
+quotation quote (c ∷ []) = byte_then quote c [] (eqb c quote) (eqb c 10) (eqb c 92) refl refl refl (quotation quote []) (meets_escape [] nothing tt)
+quotation quote (c ∷ e ∷ cs) = byte_then quote c (e ∷ cs) (eqb c quote) (eqb c 10) (eqb c 92) refl refl refl (quotation quote (e ∷ cs)) (slash_then quote e cs (escape_of e) refl (quotation quote cs))
+
+pub string_first : (quote : ℕ) (cs : List ℕ) → is_quote quote ≡ true → Quotation quote cs → WordFirst (quote ∷ cs)
+string_first quote cs q (ends {words = w} after inside) =
+    record { front = quote ∷ w ++ quote ∷ []; rest = after; parts = ap (λ (xs : List ℕ). quote ∷ xs) (sym (append_assoc w (quote ∷ []) after)); some = omega arith; kind = _; is = a_string q inside }
+string_first quote cs q (meets_line {words = w} after inside stop) = flawed (quote ∷ cs) (quote ∷ w ++ after) Endless refl (omega arith) (endless_string after q inside stop)
+string_first quote cs q (meets_escape {words = w} after inside none) = flawed (quote ∷ cs) (quote ∷ w ++ 92 ∷ after) Bad refl (omega arith) (bad_escape after q inside none)

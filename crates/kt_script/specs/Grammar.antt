@@ -1,0 +1,74 @@
+-- The grammar, by cases.
+use Rattle.std.specs.Prelude.{◌≡◌, ℕ, List, [], ◌∷◌, ◌++◌, map}
+use Rattle.kt_script.specs.declared.token.Token.{Token}
+use Rattle.kt_script.specs.declared.token.Kind.{Kind}
+use Rattle.kt_script.specs.declared.token.Kind.TheVariants.{Name, Quoted, Number, Truth, OpenParen, CloseParen, OpenBrace, CloseBrace, OpenBracket, CloseBracket, Equals, Comma, Semicolon, Dot}
+use Rattle.kt_script.specs.declared.syntax.Pair.{Pair}
+use Rattle.kt_script.specs.declared.syntax.Stmt.{Stmt}
+use Rattle.kt_script.specs.declared.literal.Literal.{Literal}
+use Rattle.kt_script.specs.declared.literal.Literal.TheVariants as literal
+use Rattle.kt_script.specs.declared.syntax.Arg.TheVariants.{Value, Table}
+use Rattle.kt_script.specs.declared.syntax.Action.{Action}
+use Rattle.kt_script.specs.declared.syntax.Action.TheVariants.{Call, Assign}
+
+-- value = string | number | "true" | "false": a value is one token
+abbrev pub token_of : Literal → Kind
+token_of (literal.Text t) = Quoted t
+token_of (literal.Number n) = Number n
+token_of (literal.Truth b) = Truth b
+
+-- name | "[" string "]"
+pub data Key : List Kind → List ℕ → Type 0 where
+  by_name : (n : List ℕ) → Key (Name n ∷ []) n
+  by_text : (t : List ℕ) → Key (OpenBracket ∷ Quoted t ∷ CloseBracket ∷ []) t
+
+abbrev pub pair : List ℕ → Literal → Pair
+pair key v = record { name = key; value = v }
+
+-- "," | ";"
+pub data Separator : Kind → Type 0 where
+  comma : Separator Comma
+  semicolon : Separator Semicolon
+
+-- [ pair { ("," | ";") pair } [ "," | ";" ] ], where pair = (name | "[" string "]") "=" value
+pub data Pairs : List Kind → List Pair → Type 0 where
+  no_pairs : Pairs [] []
+  last_pair : {words : List Kind} {key : List ℕ} → Key words key → (v : Literal) → Pairs (words ++ Equals ∷ token_of v ∷ []) (pair key v ∷ [])
+  pair_and : {words rest : List Kind} {key : List ℕ} {s : Kind} {pairs : List Pair} → Key words key → (v : Literal) → Separator s → Pairs rest pairs
+      → Pairs (words ++ Equals ∷ token_of v ∷ s ∷ rest) (pair key v ∷ pairs)
+
+-- { "." name | "[" string "]" }
+pub data Parts : List Kind → List (List ℕ) → Type 0 where
+  no_parts : Parts [] []
+  named_part : {words : List Kind} {parts : List (List ℕ)} (n : List ℕ) → Parts words parts → Parts (Dot ∷ Name n ∷ words) (n ∷ parts)
+  quoted_part : {words : List Kind} {parts : List (List ℕ)} (t : List ℕ) → Parts words parts → Parts (OpenBracket ∷ Quoted t ∷ CloseBracket ∷ words) (t ∷ parts)
+
+-- stmt = name "(" (value | table) ")" | name string | name table | path "=" value
+pub data Statement : List Kind → Action → Type 0 where
+  call : (n : List ℕ) (v : Literal) → Statement (Name n ∷ OpenParen ∷ token_of v ∷ CloseParen ∷ []) (Call n (Value v))
+  call_table : {words : List Kind} {pairs : List Pair} (n : List ℕ) → Pairs words pairs
+      → Statement (Name n ∷ OpenParen ∷ OpenBrace ∷ words ++ CloseBrace ∷ CloseParen ∷ []) (Call n (Table pairs))
+  call_text : (n t : List ℕ) → Statement (Name n ∷ Quoted t ∷ []) (Call n (Value (literal.Text t)))
+  bare_table : {words : List Kind} {pairs : List Pair} (n : List ℕ) → Pairs words pairs
+      → Statement (Name n ∷ OpenBrace ∷ words ++ CloseBrace ∷ []) (Call n (Table pairs))
+  assign : {words : List Kind} {parts : List (List ℕ)} (n : List ℕ) → Parts words parts → (v : Literal)
+      → Statement (Name n ∷ words ++ Equals ∷ token_of v ∷ []) (Assign (n ∷ parts) v)
+
+abbrev pub kinds : List Token → List Kind
+kinds ts = map (λ t. t.kind) ts
+
+-- the line on which tokens begin
+abbrev pub first_line : List Token → ℕ
+first_line [] = 0
+first_line (t ∷ ts) = t.line
+
+-- a statement with the line on which it begins
+abbrev pub placed : List Token → Action → Stmt
+placed phrase a = record { line = first_line phrase; action = a }
+
+-- script = { stmt [";"] }
+pub data Script : List Token → List Stmt → Type 0 where
+  no_stmts : Script [] []
+  stmt_and : (phrase : List Token) {rest : List Token} {a : Action} {stmts : List Stmt} → Statement (kinds phrase) a → Script rest stmts → Script (phrase ++ rest) (placed phrase a ∷ stmts)
+  ended_and : (phrase : List Token) {rest : List Token} {a : Action} {stmts : List Stmt} (t : Token) → Statement (kinds phrase) a → t.kind ≡ Semicolon → Script rest stmts
+      → Script (phrase ++ t ∷ rest) (placed phrase a ∷ stmts)

@@ -1,0 +1,14 @@
+pub mod Letters
+pub mod Pieces
+pub mod Words
+pub mod Strings
+pub mod Comments
+pub mod Tokens
+pub mod Grammar
+pub mod Automaton
+pub mod Faults
+pub mod Places
+pub mod Reading
+pub mod Spelling
+pub mod TokenRules
+pub mod LiteralText

@@ -1,0 +1,99 @@
+-- The tokens of a text, by rules: white space, comments and tokens one after the other, to its end.
+use Rattle.std.specs.Prelude.{◌≡◌, ℕ, ◌<◌, ◌≤◌, ◌^◌, ◌==◌, ◌||◌, ◌&&◌, Bool, true, false, not, nat_eq, codes, List, [], ◌∷◌, ◌++◌, drop, Some, None, chars}
+use Rattle.std.specs.List.{starts_with}
+use Rattle.kt_script.specs.declared.token.Flaw.{Flaw}
+use Rattle.kt_script.specs.declared.token.Flaw.TheVariants.{Bad, Leveled, Endless}
+use Rattle.kt_script.specs.declared.token.Kind.{Kind}
+use Rattle.kt_script.specs.declared.token.Kind.TheVariants.{Quoted, Number, Broken}
+use Rattle.kt_script.specs.declared.token.Token.{Token}
+use Rattle.kt_script.specs.Letters.{is_space, is_letter, is_digit, is_word}
+use Rattle.kt_script.specs.Words.{word, decimal_from}
+use Rattle.kt_script.specs.Strings.{is_plain, escape_of}
+use Rattle.kt_script.specs.Comments.{is_level}
+use Rattle.kt_script.specs.Tokens.{mark_of, line_past}
+
+-- each of these bytes passes
+abbrev pub Each : (ℕ → Bool) → List ℕ → Type 0
+Each p [] = Unit {0}
+Each p (c ∷ cs) = (p c ≡ true) × Each p cs
+
+-- the first byte, if there is one, does not
+abbrev pub StopsAt : (ℕ → Bool) → List ℕ → Type 0
+StopsAt p [] = Unit {0}
+StopsAt p (c ∷ cs) = p c ≡ false
+
+abbrev pub is_quote : ℕ → Bool
+is_quote c = c == 34 || c == 39
+
+abbrev pub in_line : ℕ → Bool
+in_line c = not (c == 10)
+
+-- what stands between a string's quotes, and the bytes that it stands for
+pub data Inside (quote : ℕ) : List ℕ → List ℕ → Type 0 where
+  nothing : Inside quote [] []
+  itself : {c : ℕ} {cs bytes : List ℕ} → is_plain quote c ≡ true → Inside quote cs bytes → Inside quote (c ∷ cs) (c ∷ bytes)
+  escape : {c d : ℕ} {cs bytes : List ℕ} → escape_of c ≡ Some d → Inside quote cs bytes → Inside quote (92 ∷ c ∷ cs) (d ∷ bytes)
+
+-- after a backslash: no byte that makes an escape with it
+abbrev pub NoEscape : List ℕ → Type 0
+NoEscape [] = Unit {0}
+NoEscape (c ∷ cs) = escape_of c ≡ None
+
+-- bytes up to the first `]]`, and with it, and what follows them
+pub data Closes : List ℕ → List ℕ → Type 0 where
+  closed : {after : List ℕ} → Closes (93 ∷ 93 ∷ []) after
+  not_yet : {c : ℕ} {cs after : List ℕ} → starts_with nat_eq ((c ∷ cs) ++ after) (codes "]]") ≡ false → Closes cs after → Closes (c ∷ cs) after
+
+-- there is no `]]`
+abbrev pub NeverCloses : List ℕ → Type 0
+NeverCloses [] = Unit {0}
+NeverCloses (c ∷ cs) = (starts_with nat_eq (c ∷ cs) (codes "]]") ≡ false) × NeverCloses cs
+
+-- `[[`, behind `--`
+abbrev pub opens_long : List ℕ → Bool
+opens_long text = starts_with nat_eq text (codes "[[")
+
+-- `[`, one or more `=`, and `[`, behind `--`
+abbrev pub opens_level : List ℕ → Bool
+opens_level text = starts_with nat_eq text (codes "[") && is_level (drop 1 text)
+
+-- bytes that are no token, and what follows them: a byte of white space, and both kinds of comment
+pub data Blank : List ℕ → List ℕ → Type 0 where
+  space : {c : ℕ} {after : List ℕ} → is_space c ≡ true → Blank (c ∷ []) after
+  line_comment : {words after : List ℕ} → opens_long (words ++ after) ≡ false → opens_level (words ++ after) ≡ false → Each in_line words → StopsAt in_line after → Blank (45 ∷ 45 ∷ words) after
+  long_comment : {words after : List ℕ} → Closes words after → Blank (45 ∷ 45 ∷ 91 ∷ 91 ∷ words) after
+
+-- a byte that nothing begins with
+pub record IsStrange (c : ℕ) : Type 0 where
+  pub no_space : is_space c ≡ false
+  pub no_letter : is_letter c ≡ false
+  pub no_digit : is_digit c ≡ false
+  pub no_quote : is_quote c ≡ false
+  pub no_dash : c == 45 ≡ false
+  pub no_mark : mark_of c ≡ None
+
+-- a text that begins with no token, and what is wrong there
+pub data HasFlaw : List ℕ → Flaw → Type 0 where
+  large_number : (c : ℕ) (cs after : List ℕ) → Each is_digit (c ∷ cs) → StopsAt is_digit after → 2 ^ 64 ≤ decimal_from 0 (c ∷ cs) → HasFlaw ((c ∷ cs) ++ after) Bad
+  lettered_number : (c d : ℕ) (cs after : List ℕ) → Each is_digit (c ∷ cs) → is_letter d ≡ true → HasFlaw ((c ∷ cs) ++ d ∷ after) Bad
+  endless_string : {quote : ℕ} {words bytes : List ℕ} (after : List ℕ) → is_quote quote ≡ true → Inside quote words bytes → StopsAt in_line after → HasFlaw (quote ∷ words ++ after) Endless
+  bad_escape : {quote : ℕ} {words bytes : List ℕ} (after : List ℕ) → is_quote quote ≡ true → Inside quote words bytes → NoEscape after → HasFlaw (quote ∷ words ++ 92 ∷ after) Bad
+  endless_comment : {text : List ℕ} → NeverCloses text → HasFlaw (45 ∷ 45 ∷ 91 ∷ 91 ∷ text) Endless
+  leveled_comment : {text : List ℕ} → opens_long text ≡ false → opens_level text ≡ true → HasFlaw (45 ∷ 45 ∷ text) Leveled
+  lone_dash : {text : List ℕ} → starts_with nat_eq text (codes "-") ≡ false → HasFlaw (45 ∷ text) Bad
+  strange : {c : ℕ} {cs : List ℕ} → IsStrange c → HasFlaw (c ∷ cs) Bad
+
+-- the bytes of a token, and what follows them
+pub data Word : List ℕ → List ℕ → Kind → Type 0 where
+  a_name : {c : ℕ} {cs after : List ℕ} → is_letter c ≡ true → Each is_word cs → StopsAt is_word after → Word (c ∷ cs) after (word (c ∷ cs))
+  a_number : {c : ℕ} {cs after : List ℕ} → Each is_digit (c ∷ cs) → StopsAt is_word after → decimal_from 0 (c ∷ cs) < 2 ^ 64 → Word (c ∷ cs) after (Number (decimal_from 0 (c ∷ cs)))
+  a_string : {quote : ℕ} {words bytes after : List ℕ} → is_quote quote ≡ true → Inside quote words bytes → Word (quote ∷ words ++ quote ∷ []) after (Quoted (chars bytes))
+  a_mark : {c : ℕ} {kind : Kind} {after : List ℕ} → mark_of c ≡ Some kind → Word (c ∷ []) after kind
+  no_word : {text : List ℕ} {flaw : Flaw} → HasFlaw text flaw → Word text [] (Broken flaw)
+
+-- the tokens of a text that begins on this line
+pub data IsTokens : ℕ → List ℕ → List Token → Type 0 where
+  the_end : {line : ℕ} → IsTokens line [] []
+  blank_and : {line : ℕ} {blank rest : List ℕ} {ts : List Token} → Blank blank rest → IsTokens (line_past line blank) rest ts → IsTokens line (blank ++ rest) ts
+  word_and : {line : ℕ} {bytes rest : List ℕ} {kind : Kind} {ts : List Token} → Word bytes rest kind → IsTokens (line_past line bytes) rest ts
+      → IsTokens line (bytes ++ rest) (record { line = line; kind = kind } ∷ ts)

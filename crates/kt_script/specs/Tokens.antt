@@ -1,0 +1,56 @@
+-- The tokens of a text, with their lines.
+use Rattle.std.specs.Prelude.{ℕ, zero, suc, ◌+◌, ◌-◌, ◌==◌, ◌||◌, List, [], ◌∷◌, ◌++◌, Option, Some, None, if◌then◌else◌}
+use Rattle.std.specs.List.{prefix_len}
+use Rattle.kt_script.specs.declared.token.Flaw.TheVariants.{Bad}
+use Rattle.kt_script.specs.declared.token.Kind.{Kind}
+use Rattle.kt_script.specs.declared.token.Kind.TheVariants.{OpenParen, CloseParen, OpenBrace, CloseBrace, OpenBracket, CloseBracket, Equals, Comma, Semicolon, Dot}
+use Rattle.kt_script.specs.declared.token.Token.{Token}
+use Rattle.kt_script.specs.declared.piece.Piece.{Piece}
+use Rattle.kt_script.specs.Letters.{is_space, is_letter, is_digit}
+use Rattle.kt_script.specs.Pieces.{blank, token, broken}
+use Rattle.kt_script.specs.Words.{name_at, number_at}
+use Rattle.kt_script.specs.Strings.{quoted_at}
+use Rattle.kt_script.specs.Comments.{comment_at}
+
+-- `( ) { } [ ] = , ; .`
+abbrev pub mark_of : ℕ → Option Kind
+mark_of c =
+    if c == 40 then Some OpenParen else if c == 41 then Some CloseParen
+    else if c == 123 then Some OpenBrace else if c == 125 then Some CloseBrace
+    else if c == 91 then Some OpenBracket else if c == 93 then Some CloseBracket
+    else if c == 61 then Some Equals else if c == 44 then Some Comma
+    else if c == 59 then Some Semicolon else if c == 46 then Some Dot
+    else None
+
+abbrev pub marked : List ℕ → Option Kind → Piece
+marked text None = broken text Bad
+marked text (Some kind) = token 1 kind
+
+-- what begins here
+unfoldable pub piece_at : List ℕ → Piece
+piece_at [] = blank 0
+piece_at (c ∷ cs) =
+    if is_space c then blank (prefix_len is_space (c ∷ cs))
+    else if is_letter c then name_at (c ∷ cs)
+    else if is_digit c then number_at (c ∷ cs)
+    else if c == 34 || c == 39 then quoted_at c (c ∷ cs)
+    else if c == 45 then comment_at (c ∷ cs)
+    else marked (c ∷ cs) (mark_of c)
+
+abbrev pub tokens_in : ℕ → Option Kind → List Token
+tokens_in line None = []
+tokens_in line (Some kind) = record { line = line; kind = kind } ∷ []
+
+abbrev pub line_after : ℕ → ℕ → ℕ
+line_after line c = if c == 10 then line + 1 else line
+
+-- the tokens of a text that begins on this line, where so many of its bytes belong to the piece before
+unfoldable pub tokens : ℕ → ℕ → List ℕ → List Token
+tokens line n [] = []
+tokens line zero (c ∷ cs) = let piece = piece_at (c ∷ cs) in tokens_in line piece.kind ++ tokens (line_after line c) (piece.length - 1) cs
+tokens line (suc n) (c ∷ cs) = tokens (line_after line c) n cs
+
+-- the line that these bytes lead to
+abbrev pub line_past : ℕ → List ℕ → ℕ
+line_past line [] = line
+line_past line (c ∷ cs) = line_past (line_after line c) cs

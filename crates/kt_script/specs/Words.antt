@@ -1,0 +1,40 @@
+-- Names and numbers.
+use Rattle.std.specs.Prelude.{ℕ, ◌+◌, ◌*◌, ◌-◌, ◌^◌, Bool, true, false, nat_lt, bytes_eq, codes, List, [], ◌∷◌, take, drop, Option, Some, None, chars, if◌then◌else◌}
+use Rattle.std.specs.List.{prefix_len}
+use Rattle.kt_script.specs.declared.token.Flaw.TheVariants.{Bad}
+use Rattle.kt_script.specs.declared.token.Kind.{Kind}
+use Rattle.kt_script.specs.declared.token.Kind.TheVariants.{Name, Number, Truth}
+use Rattle.kt_script.specs.declared.piece.Piece.{Piece}
+use Rattle.kt_script.specs.Letters.{is_letter, is_digit, is_word}
+use Rattle.kt_script.specs.Pieces.{token, broken}
+
+-- a name, where it is not `true` or `false`
+abbrev pub word : List ℕ → Kind
+word letters = if bytes_eq letters (codes "true") then Truth true else if bytes_eq letters (codes "false") then Truth false else Name (chars letters)
+
+-- the longest name that the text begins with
+abbrev pub name_at : List ℕ → Piece
+name_at text = token (prefix_len is_word text) (word (take (prefix_len is_word text) text))
+
+-- the value of decimal digits that follow those of v
+abbrev pub decimal_from : ℕ → List ℕ → ℕ
+decimal_from v [] = v
+decimal_from v (c ∷ cs) = decimal_from (10 * v + (c - 48)) cs
+
+-- the number, if it is below 2^64
+abbrev pub fits : ℕ → Option ℕ
+fits v = if nat_lt v (2 ^ 64) then Some v else None
+
+abbrev pub begins_with_letter : List ℕ → Bool
+begins_with_letter [] = false
+begins_with_letter (c ∷ cs) = is_letter c
+
+-- a number of so many digits, unless a letter follows directly or it is too large
+abbrev pub number : List ℕ → ℕ → Bool → Option ℕ → Piece
+number text n true v = broken text Bad
+number text n false None = broken text Bad
+number text n false (Some v) = token n (Number v)
+
+-- the longest number that the text begins with
+abbrev pub number_at : List ℕ → Piece
+number_at text = let n = prefix_len is_digit text in number text n (begins_with_letter (drop n text)) (fits (decimal_from 0 (take n text)))

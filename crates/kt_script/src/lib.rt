@@ -1,0 +1,27 @@
+//! The literal profile of Lua: scripts of calls and assignments whose values are written out.
+#![tactic(auto)]
+
+mod comment;
+mod fault;
+mod laws;
+mod letter;
+mod lexer;
+mod literal;
+mod parser;
+mod piece;
+mod place;
+mod quotation;
+mod script;
+mod state;
+mod syntax;
+mod token;
+mod words;
+
+pub use fault::ScriptFault;
+pub use laws::{law_of_one_answer, law_of_tokens};
+pub use literal::Literal;
+pub use script::parse;
+pub use syntax::{Action, Arg, Pair, Stmt};
+
+#[cfg(test)]
+mod tests;

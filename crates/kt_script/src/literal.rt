@@ -1,0 +1,38 @@
+ghost use Rattle.std.specs.Prelude.{◌≡◌, IfOk};
+ghost use Rattle.std.specs.Fmt.{decimal};
+
+use kt_base::{NoMemory, Text};
+use std::alloc::Global;
+
+/// A value that is written out (kyuafile(5): strings, numbers and truth values).
+#[derive(Debug, Drop)]
+pub enum Literal {
+    /// The characters of a string, its escapes replaced.
+    Text(Text),
+    /// A decimal number, 0 to 2^64 - 1.
+    Number(u64),
+    /// `true` or `false`.
+    Truth(bool),
+}
+
+impl Literal {
+    ghost use Rattle.kt_script.specs.LiteralText.{text_of};
+
+    /// The value as a property's text (this profile): `007` is `7`, and a truth value is its word.
+    pub fn text(&self, alloc: Global) -> Result<Text, NoMemory>
+        ensures { IfOk result (λ text. text ≡ text_of self.now) }
+    {
+        match self {
+            Literal::Text(text) => text.copy(),
+            Literal::Number(number) => number_text(alloc, *number),
+            Literal::Truth(true) => Text::from_characters(alloc, &['t', 'r', 'u', 'e']),
+            Literal::Truth(false) => Text::from_characters(alloc, &['f', 'a', 'l', 's', 'e']),
+        }
+    }
+}
+
+fn number_text(alloc: Global, number: u64) -> Result<Text, NoMemory>
+    ensures { IfOk result (λ text. text ≡ decimal number) }
+{
+    Ok(Text::from_string(number.to_string(alloc)?))
+}

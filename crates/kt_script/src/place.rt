@@ -1,0 +1,79 @@
+//! Where in a script the reading stands.
+
+ghost use Rattle.std.specs.Prelude.{◌≡◌, ◌++◌, IfOk, OnOk, MatchOption};
+ghost use Rattle.kt_script.specs.Automaton.{begin, go_on, next, place_of, ended_by, IsResting};
+
+use crate::state::{State, Step};
+use crate::syntax::Stmt;
+use crate::token::{Kind, Token};
+use kt_base::{Items, NoMemory};
+use std::alloc::Global;
+
+/// Where in a script the tokens so far lead.
+#[derive(Drop)]
+pub enum Place {
+    /// Before a statement.
+    Start,
+    /// After a statement, which a `;` may end.
+    Whole,
+    /// Within the statement that begins on a line.
+    Within(u32, State),
+}
+
+fn begin(line: u32, kind: Kind) -> Option<Place>
+    ensures { result ≡ place_of (begin line kind) }
+{
+    match kind {
+        Kind::Name(name) => Some(Place::Within(line, State::Named(name))),
+        _ => None,
+    }
+}
+
+fn go_on(line: u32, kind: Kind) -> Option<Place>
+    ensures { result ≡ place_of (go_on line kind) }
+{
+    match kind {
+        Kind::Name(name) => Some(Place::Within(line, State::Named(name))),
+        Kind::Semicolon => Some(Place::Start),
+        _ => None,
+    }
+}
+
+impl Place {
+    ghost use Rattle.kt_script.specs.Places.{IsWithin};
+
+    /// The line of the statement that was begun.
+    pub fn line(&self) -> Option<u32>
+        ensures { MatchOption result (IsResting self.now) (λ line. IsWithin self.now line) }
+    {
+        match self {
+            Place::Start | Place::Whole => None,
+            Place::Within(line, _) => Some(*line),
+        }
+    }
+
+    /// Where a token leads, or `None` where it doesn't fit. The statement that it ends goes last in the list.
+    pub fn next(
+        self,
+        alloc: Global,
+        token: Token,
+        statements: &mut Items<Stmt>,
+    ) -> Result<Option<Place>, NoMemory>
+        ensures place { IfOk result (λ to. to ≡ place_of (next self token)) }
+        ensures ended { OnOk result (statements.new ≡ statements.old ++ ended_by (next self token)) }
+    {
+        let (line, state) = match self {
+            Place::Start => return Ok(begin(token.line, token.kind)),
+            Place::Whole => return Ok(go_on(token.line, token.kind)),
+            Place::Within(line, state) => (line, state),
+        };
+        match state.step(alloc, token.kind)? {
+            None => Ok(None),
+            Some(Step::To(state)) => Ok(Some(Place::Within(line, state))),
+            Some(Step::Ends(action)) => {
+                statements.push(Stmt { line, action })?;
+                Ok(Some(Place::Whole))
+            }
+        }
+    }
+}

@@ -1,0 +1,103 @@
+//! Strings.
+
+ghost use Rattle.std.specs.Prelude.{◌≡◌, ℕ, ◌+◌, ◌<◌, ◌≤◌, ◌∷◌, false, length, drop, IfOk};
+ghost use Rattle.std.specs.Str.{IsCharBoundary};
+ghost use Rattle.std.specs.List.{prefix_len};
+ghost use Rattle.kt_script.specs.Strings.{is_plain, escape_of, stop_at, escape_at, string_at, decoded, quoted_at};
+
+use crate::piece::Piece;
+use crate::token::{Flaw, Kind};
+use kt_base::{NoMemory, Text};
+use std::alloc::Global;
+
+/// Where the bytes of a string that stand for themselves end.
+#[derive(Drop)]
+enum Stop {
+    /// The string's last quote.
+    Quote,
+    /// A backslash, and the character that it stands for with the byte after it.
+    Escape(char),
+    Flawed(Flaw),
+}
+
+fn escape(c: u8) -> Option<char>
+    ensures { result ≡ escape_of c }
+{
+    match c {
+        b'n' => Some('\n'),
+        b't' => Some('\t'),
+        b'\\' | b'\'' | b'"' => Some(c as char),
+        _ => None,
+    }
+}
+
+/// Up to the first byte that may not stand for itself.
+fn plain_length(quote: u8, text: &[u8]) -> usize
+    ensures value { result ≡ prefix_len (is_plain quote) text.now }
+    ensures within { result ≤ length text.now }
+{
+    text.iter()
+        .take_while(|c| **c != quote && **c != b'\n' && **c != b'\\')
+        .count()
+}
+
+fn next_stop(quote: u8, text: &[u8]) -> Stop
+    ensures { result ≡ stop_at quote text.now }
+{
+    let Some((c, after)) = text.split_first() else {
+        return Stop::Flawed(Flaw::Endless);
+    };
+    if *c == quote {
+        return Stop::Quote;
+    }
+    if *c == b'\\' {
+        return escape_stop(after);
+    }
+    Stop::Flawed(Flaw::Endless)
+}
+
+fn escape_stop(text: &[u8]) -> Stop
+    ensures { result ≡ escape_at text.now }
+{
+    let Some((c, _)) = text.split_first() else {
+        return Stop::Flawed(Flaw::Bad);
+    };
+    match escape(*c) {
+        None => Stop::Flawed(Flaw::Bad),
+        Some(c) => Stop::Escape(c),
+    }
+}
+
+/// What a string holds after its first quote, and how many bytes it takes there, with its last quote.
+fn string(alloc: Global, quote: u8, text: &str) -> Result<Result<(Text, usize), Flaw>, NoMemory>
+    requires { quote < 128 }
+    ensures value { IfOk result (λ read. read ≡ decoded (string_at quote false text.now)) }
+    ensures within { IfOk result (λ read. IfOk read (λ x. x.1 ≤ length text.now)) }
+{
+    let mut string = Text::new(alloc);
+    let mut rest = text;
+    'runs: loop {
+        let (plain, after) = rest.split_at(plain_length(quote, rest.as_bytes()));
+        string.push_str(plain)?;
+        match next_stop(quote, after.as_bytes()) {
+            Stop::Quote => return Ok(Ok((string, text.len() - after.len() + 1))),
+            Stop::Flawed(flaw) => return Ok(Err(flaw)),
+            Stop::Escape(c) => {
+                string.push(c)?;
+                rest = &after[2..];
+            }
+        }
+    }
+}
+
+/// The string that begins here, with this quote.
+pub fn quoted(alloc: Global, quote: u8, text: &str) -> Result<Piece, NoMemory>
+    requires first { text.now ≡ quote ∷ drop 1 text.now }
+    requires small { quote < 128 }
+    ensures { IfOk result (λ piece. piece ≡ quoted_at quote text.now) }
+{
+    Ok(match string(alloc, quote, &text[1..])? {
+        Ok((string, length)) => Piece::token(length + 1, Kind::Quoted(string)),
+        Err(flaw) => Piece::broken(text.as_bytes(), flaw),
+    })
+}

@@ -1,0 +1,96 @@
+//! The reading of a script.
+
+ghost use Rattle.std.specs.Prelude.{◌≡◌, ◌+◌, ◌≤◌, ◌<◌, ◌^◌, ◌++◌, List, length, IfOk};
+ghost use Rattle.kt_script.specs.Faults.{IfFault, IsFaultOf};
+ghost use Rattle.kt_script.specs.Grammar.{Script};
+ghost use Rattle.kt_script.specs.Tokens.{tokens, tokens_in, line_past};
+ghost use Rattle.kt_script.specs.Spelling.{limit, Spells, IsDue, Answers, Refuses};
+ghost use Rattle.kt_script.specs.declared.fault.ScriptFault.{ScriptFault};
+ghost use Rattle.kt_script.specs.Reading.{HasRead, IsMisfit};
+ghost use Rattle.kt_script.specs.declared.syntax.Stmt.{Stmt};
+ghost use Rattle.kt_script.specs.declared.token.Token.{Token};
+
+use crate::fault::ScriptFault;
+use crate::lexer::next_piece;
+use crate::parser::Parser;
+use crate::place::Place;
+use crate::syntax::Stmt;
+use crate::token::{Kind, Token};
+use kt_base::Items;
+use std::alloc::Global;
+
+/// The greatest length of a script, in bytes.
+const LIMIT: usize = 1_048_576;
+
+/// The line after some bytes.
+fn line_past(from: u32, text: &[u8]) -> u32
+    requires { from + length text.now < 2 ^ 32 }
+    ensures value { result ≡ line_past from text.now }
+    ensures within { result ≤ from + length text.now }
+{
+    let mut line = from;
+    let mut rest = text;
+    while let Some((c, after)) = rest.split_first() {
+        if *c == b'\n' {
+            line += 1;
+        }
+        rest = after;
+    }
+    line
+}
+
+/// Reads the token of a piece, if it is one, at a place.
+fn feed_piece(
+    alloc: Global,
+    parser: &mut Parser,
+    place: Place,
+    line: u32,
+    kind: Option<Kind>,
+) -> Result<Place, ScriptFault>
+    ensures ok { IfOk result (λ after. (read : List Token) → HasRead place parser.old read → HasRead after parser.new (read ++ tokens_in line kind)) }
+    ensures fault { IfFault result (λ fault. IsMisfit place line kind fault) }
+{
+    match kind {
+        None => Ok(place),
+        Some(kind) => parser.feed(alloc, place, Token { line, kind }),
+    }
+}
+
+fn statements(alloc: Global, text: &str) -> Result<Items<Stmt>, ScriptFault>
+    requires { length text.now ≤ limit }
+    ensures ok { IfOk result (λ stmts. Script (tokens 1 0 text.now) stmts) }
+    ensures fault { IfFault result (λ fault. IsFaultOf (tokens 1 0 text.now) fault) }
+{
+    let mut parser = Parser::new(alloc);
+    let mut place = Place::Start;
+    let mut line = 1;
+    let mut rest = text;
+    while !rest.is_empty() {
+        let piece = next_piece(alloc, rest)?;
+        let (read, after) = rest.split_at(piece.length);
+        place = feed_piece(alloc, &mut parser, place, line, piece.kind)?;
+        line = line_past(line, read.as_bytes());
+        rest = after;
+    }
+    parser.finish(&place)
+}
+
+/// The statements that a text spells (kyuafile(5), Lua's calls and assignments of values that are written out).
+pub fn parse(alloc: Global, text: &[u8]) -> Result<Items<Stmt>, ScriptFault>
+    // What is accepted is spelled.
+    ensures accepted { IfOk result (λ stmts. Spells text.now stmts) }
+    // What is spelled is accepted, unless memory runs out.
+    ensures only { (stmts : List Stmt) → Spells text.now stmts → Answers result stmts }
+    // What is refused for another reason than memory has this fault.
+    ensures refused { IfFault result (λ fault. IsDue text.now fault) }
+    // What has a fault is refused for it, unless memory runs out.
+    ensures due { (fault : ScriptFault) → IsDue text.now fault → Refuses result fault }
+{
+    if text.len() > LIMIT {
+        return Err(ScriptFault::TooLong);
+    }
+    let Ok(text) = str::from_utf8(text) else {
+        return Err(ScriptFault::NotUtf8);
+    };
+    statements(alloc, text)
+}

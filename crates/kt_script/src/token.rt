@@ -1,0 +1,58 @@
+ghost use Rattle.std.specs.Prelude.{◌≡◌};
+
+use crate::fault::ScriptFault;
+use kt_base::Text;
+
+/// What is wrong with a token by itself.
+#[derive(Clone, Copy)]
+pub enum Flaw {
+    /// No token of the profile.
+    Bad,
+    /// A long bracket with a level.
+    Leveled,
+    /// A string or a comment without its end.
+    Endless,
+}
+
+/// What a token is.
+#[derive(Drop)]
+pub enum Kind {
+    Name(Text),
+    Quoted(Text),
+    Number(u64),
+    Truth(bool),
+    OpenParen,
+    CloseParen,
+    OpenBrace,
+    CloseBrace,
+    OpenBracket,
+    CloseBracket,
+    Equals,
+    Comma,
+    Semicolon,
+    Dot,
+    /// No token of a script: no rule of the grammar mentions it.
+    Broken(Flaw),
+}
+
+/// A token, and the line on which it begins.
+#[derive(Drop)]
+pub struct Token {
+    pub line: u32,
+    pub kind: Kind,
+}
+
+impl Token {
+    ghost use Rattle.kt_script.specs.Faults.{fault_of};
+
+    /// What is wrong where the token doesn't fit.
+    pub fn fault(&self) -> ScriptFault
+        ensures { result ≡ fault_of self.now }
+    {
+        match self.kind {
+            Kind::Broken(Flaw::Bad) => ScriptFault::BadToken(self.line),
+            Kind::Broken(Flaw::Endless) => ScriptFault::Unclosed(self.line),
+            _ => ScriptFault::NotLiteral(self.line),
+        }
+    }
+}

@@ -1,0 +1,87 @@
+//! Names and numbers.
+
+ghost use Rattle.std.specs.Prelude.{◌≡◌, ℕ, ◌+◌, ◌<◌, ◌≤◌, length, IfOk, take, drop};
+ghost use Rattle.std.specs.List.{prefix_len};
+ghost use Rattle.kt_script.specs.Letters.{is_letter, is_digit, is_word};
+ghost use Rattle.kt_script.specs.Words.{word, decimal_from, fits, begins_with_letter, name_at, number_at};
+
+use crate::letter::{is_digit, is_letter, is_word};
+use crate::piece::Piece;
+use crate::token::{Flaw, Kind};
+use kt_base::{NoMemory, Text};
+use std::alloc::Global;
+
+fn word_length(text: &[u8]) -> usize
+    ensures value { result ≡ prefix_len is_word text.now }
+    ensures within { result ≤ length text.now }
+{
+    text.iter().take_while(|c| is_word(**c)).count()
+}
+
+fn digits_length(text: &[u8]) -> usize
+    ensures value { result ≡ prefix_len is_digit text.now }
+    ensures within { result ≤ length text.now }
+{
+    text.iter().take_while(|c| is_digit(**c)).count()
+}
+
+fn word(alloc: Global, letters: &str) -> Result<Kind, NoMemory>
+    ensures { IfOk result (λ kind. kind ≡ word letters.now) }
+{
+    if letters.as_bytes() == b"true".as_slice() {
+        return Ok(Kind::Truth(true));
+    }
+    if letters.as_bytes() == b"false".as_slice() {
+        return Ok(Kind::Truth(false));
+    }
+    Ok(Kind::Name(Text::from_str(alloc, letters)?))
+}
+
+/// The name or the truth value that begins here.
+pub fn name(alloc: Global, text: &str) -> Result<Piece, NoMemory>
+    ensures { IfOk result (λ piece. piece ≡ name_at text.now) }
+{
+    let length = word_length(text.as_bytes());
+    Ok(Piece::token(length, word(alloc, &text[..length])?))
+}
+
+/// The value of decimal digits, if it is below 2^64.
+fn decimal(digits: &[u8]) -> Option<u64>
+    ensures { result ≡ fits (decimal_from 0 digits.now) }
+{
+    let mut value = 0u64;
+    let mut rest = digits;
+    while let Some((c, after)) = rest.split_first() {
+        let next = 10 * value as u128 + c.saturating_sub(b'0') as u128;
+        if next > u64::MAX as u128 {
+            return None;
+        }
+        value = next as u64;
+        rest = after;
+    }
+    Some(value)
+}
+
+fn begins_with_letter(text: &[u8]) -> bool
+    ensures { result ≡ begins_with_letter text.now }
+{
+    match text.first() {
+        None => false,
+        Some(c) => is_letter(*c),
+    }
+}
+
+/// The number that begins here.
+pub fn number(text: &[u8]) -> Piece
+    ensures { result ≡ number_at text.now }
+{
+    let length = digits_length(text);
+    let (digits, after) = text.split_at(length);
+    if begins_with_letter(after) {
+        return Piece::broken(text, Flaw::Bad);
+    }
+    match decimal(digits) {
+        None => Piece::broken(text, Flaw::Bad),
+        Some(value) => Piece::token(length, Kind::Number(value)),
+    }
+}

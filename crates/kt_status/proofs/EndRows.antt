@@ -1,0 +1,95 @@
+-- The tables of refused starts and of cleanups.
+use Rattle.std.proofs.Common.{◌≡◌, ℕ, ◌<◌, Bool, true, false, refl, sym, subst, arith}
+use Rattle.std.specs.Prelude.{codes, nat_eq, if◌then◌else◌}
+use Rattle.kt_base.specs.declared.outcome.Outcome.{Outcome}
+use Rattle.kt_base.specs.declared.outcome.Outcome.TheVariants.{Exited, Signaled, TimedOut, WaitFailed}
+use Rattle.kt_base.specs.declared.refused.Refused.{Refused}
+use Rattle.kt_base.specs.declared.refused.Refused.TheVariants as refused
+use Rattle.kt_base.specs.Kinds.{good}
+use Rattle.kt_base.specs.Verdicts as verdict
+use Rattle.kt_base.specs.Verdicts.{Judged}
+use Rattle.kt_status.specs.Tables as row
+use Rattle.kt_status.specs.Tables.{Ends, AtfRow, PlainRow, TapRow, RefusalRow, CleanupRow, FirstOf, IsVerdict, IsVerdictOfRefusal, IsVerdictAfter}
+use Rattle.kt_status.specs.Verdicts.{verdict_of_refusal, cleaned, verdict_after_cleanup}
+use Rattle.kt_status.specs.declared.cleanup_end.CleanupEnd.{CleanupEnd}
+use Rattle.kt_status.specs.declared.cleanup_end.CleanupEnd.TheVariants as cleanup
+use Rattle.kt_status.proofs.RowOrder.{at_or_next, at_equal, Least, next, here, found, alone}
+
+-- ---- starts that were refused
+
+abbrev pub refusal_row : Refused → ℕ
+refusal_row refused.Directory = 1
+refusal_row refused.Output = 2
+refusal_row refused.Spawn = 3
+refusal_row refused.Memory = 4
+
+pub refusal_fits : (r : Refused) → RefusalRow (refusal_row r) r (verdict_of_refusal r)
+refusal_fits refused.Directory = row.no_directory
+refusal_fits refused.Output = row.no_output
+refusal_fits refused.Spawn = row.not_spawned
+refusal_fits refused.Memory = row.no_memory
+
+pub refusal_least : (n : ℕ) (r : Refused) (v : Judged) → RefusalRow n r v → Least (refusal_row r) (verdict_of_refusal r) n v
+refusal_least _ _ _ row.no_directory = here _ _
+refusal_least _ _ _ row.no_output = here _ _
+refusal_least _ _ _ row.not_spawned = here _ _
+refusal_least _ _ _ row.no_memory = here _ _
+
+pub refusal_found : (r : Refused) → IsVerdictOfRefusal r (verdict_of_refusal r)
+refusal_found r = found (λ n v. RefusalRow n r v) (refusal_row r) (verdict_of_refusal r) (refusal_fits r) (λ m other h. refusal_least m r other h)
+
+pub refusal_alone : (r : Refused) (other : Judged) → IsVerdictOfRefusal r other → verdict_of_refusal r ≡ other
+refusal_alone r other h = alone (λ n v. RefusalRow n r v) (refusal_row r) (verdict_of_refusal r) other (refusal_fits r) (λ m x f. refusal_least m r x f) h
+
+-- ---- cleanups
+
+abbrev pub end_row : CleanupEnd → ℕ
+end_row (cleanup.Ended (Exited code)) = at_or_next (nat_eq code 0) 2 4
+end_row (cleanup.Ended TimedOut) = 3
+end_row (cleanup.Ended (Signaled s core)) = 4
+end_row (cleanup.Ended WaitFailed) = 4
+end_row cleanup.Refused = 5
+
+abbrev pub cleanup_row : Judged → CleanupEnd → ℕ
+cleanup_row body end = if good body.kind then end_row end else 1
+
+pub end_fits : (body : Judged) (end : CleanupEnd) → CleanupRow (end_row end) body end (cleaned body end)
+end_fits body (cleanup.Ended (Exited code)) = at_equal 2 4 code 0 _ _ (λ n v. CleanupRow n body (cleanup.Ended (Exited code)) v)
+    (λ is. subst (λ (x : ℕ). CleanupRow 2 body (cleanup.Ended (Exited x)) body) (sym is) (row.cleaned_up body)) (row.cleanup_failed body (Exited code))
+end_fits body (cleanup.Ended TimedOut) = row.cleanup_late body
+end_fits body (cleanup.Ended (Signaled s core)) = row.cleanup_failed body (Signaled s core)
+end_fits body (cleanup.Ended WaitFailed) = row.cleanup_failed body WaitFailed
+end_fits body cleanup.Refused = row.cleanup_not_started body
+
+pub cleanup_fits_at : (t : Bool) (body : Judged) (end : CleanupEnd) → good body.kind ≡ t → CleanupRow (if t then end_row end else 1) body end (if t then cleaned body end else body)
+cleanup_fits_at true body end e = end_fits body end
+cleanup_fits_at false body end e = row.bad_already body end e
+
+pub end_least : (body : Judged) (ending : Outcome) → Least (end_row (cleanup.Ended ending)) (cleaned body (cleanup.Ended ending)) 4 (verdict.broken (codes "Test case cleanup did not terminate successfully"))
+end_least body (Exited code) = next 2 4 code 0 _ _ (omega arith)
+end_least body TimedOut = (omega arith, λ e. absurd (omega arith))
+end_least body (Signaled s core) = here _ _
+end_least body WaitFailed = here _ _
+
+-- a row of a good verdict, whether this one is good or not
+pub if_good : (t : Bool) (first n : ℕ) (x body v : Judged) → 1 < n → Least first x n v → Least (if t then first else 1) (if t then x else body) n v
+if_good true first n x body v lt h = h
+if_good false first n x body v lt h = (omega arith, λ e. absurd (omega arith))
+
+pub bad_row : (body : Judged) (end : CleanupEnd) → good body.kind ≡ false → Least (cleanup_row body end) (verdict_after_cleanup body end) 1 body
+bad_row body end e = rw e (here 1 body)
+
+pub cleanup_least : (n : ℕ) (body : Judged) (end : CleanupEnd) (v : Judged) → CleanupRow n body end v → Least (cleanup_row body end) (verdict_after_cleanup body end) n v
+cleanup_least _ _ _ _ (row.bad_already body end bad) = bad_row body end bad
+cleanup_least _ _ _ _ (row.cleaned_up body) = if_good (good body.kind) 2 2 body body body (omega arith) (here 2 body)
+cleanup_least _ _ _ _ (row.cleanup_late body) = if_good (good body.kind) 3 3 _ body _ (omega arith) (here 3 _)
+cleanup_least _ _ _ _ (row.cleanup_failed body ending) = if_good (good body.kind) (end_row (cleanup.Ended ending)) 4 _ body _ (omega arith) (end_least body ending)
+cleanup_least _ _ _ _ (row.cleanup_not_started body) = if_good (good body.kind) 5 5 _ body _ (omega arith) (here 5 _)
+
+pub cleanup_found : (body : Judged) (end : CleanupEnd) → IsVerdictAfter body end (verdict_after_cleanup body end)
+cleanup_found body end =
+    found (λ n v. CleanupRow n body end v) (cleanup_row body end) (verdict_after_cleanup body end) (cleanup_fits_at (good body.kind) body end refl) (λ m other h. cleanup_least m body end other h)
+
+pub cleanup_alone : (body : Judged) (end : CleanupEnd) (other : Judged) → IsVerdictAfter body end other → verdict_after_cleanup body end ≡ other
+cleanup_alone body end other h =
+    alone (λ n v. CleanupRow n body end v) (cleanup_row body end) (verdict_after_cleanup body end) other (cleanup_fits_at (good body.kind) body end refl) (λ m x f. cleanup_least m body end x f) h

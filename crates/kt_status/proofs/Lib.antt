@@ -1,0 +1,4 @@
+pub mod AtfRows
+pub mod BodyRows
+pub mod EndRows
+pub mod RowOrder

@@ -1,0 +1,48 @@
+-- The first row that fits.
+use Rattle.std.proofs.Common.{◌≡◌, ℕ, ◌<◌, ◌≤◌, Bool, true, false, refl, sym, arith}
+use Rattle.std.specs.Prelude.{nat_eq, if◌then◌else◌}
+use Rattle.std.proofs.lemmas.Bool.{eqb-true, eq-eqb}
+use Rattle.kt_base.specs.Verdicts.{Judged}
+use Rattle.kt_status.specs.Tables.{FirstOf}
+
+-- ---- numbers of rows
+
+-- of two rows in a row the first, where a test passes
+abbrev pub at_or_next : Bool → ℕ → ℕ → ℕ
+at_or_next t n m = if t then n else m
+
+-- ---- two rows and a test
+
+-- a row's case below a test: the test's own row, or the next
+pub at_equal : (n m a b : ℕ) (x y : Judged) (P : ℕ → Judged → Type 0) → (a ≡ b → P n x) → P m y → P (at_or_next (nat_eq a b) n m) (if nat_eq a b then x else y)
+at_equal n m a b x y P here next = at_test (nat_eq a b) (λ e. here (eqb-true a b e)) next where
+  at_test : (t : Bool) → (t ≡ true → P n x) → P m y → P (at_or_next t n m) (if t then x else y)
+  at_test true here next = here refl
+  at_test false here next = next
+
+-- a row is no earlier than the first that fits, and if it is that one it gives the verdict
+abbrev pub Least : ℕ → Judged → ℕ → Judged → Type 0
+Least first verdict n v = (first ≤ n) × (n ≡ first → v ≡ verdict)
+
+-- the row of the test, where the test passes
+pub passes : (n m a b : ℕ) (x y : Judged) → a ≡ b → Least (at_or_next (nat_eq a b) n m) (if nat_eq a b then x else y) n x
+passes n m a b x y is = rw (eq-eqb a b is) (omega arith, λ e. refl)
+
+-- the row behind it
+pub next : (n m a b : ℕ) (x y : Judged) → n < m → Least (at_or_next (nat_eq a b) n m) (if nat_eq a b then x else y) m y
+next n m a b x y lt = at_test (nat_eq a b) n m x y lt where
+  at_test : (t : Bool) (n m : ℕ) (x y : Judged) → n < m → Least (at_or_next t n m) (if t then x else y) m y
+  at_test true n m x y lt = (omega arith, λ e. absurd (omega arith))
+  at_test false n m x y lt = (omega arith, λ e. refl)
+
+-- a row that is the first gives the verdict at once
+pub here : (n : ℕ) (v : Judged) → Least n v n v
+here n v = (omega arith, λ e. refl)
+
+-- ---- from rows to verdicts
+
+pub found : (Row : ℕ → Judged → Type 0) (n : ℕ) (v : Judged) → Row n v → ((m : ℕ) (other : Judged) → Row m other → Least n v m other) → FirstOf Row v
+found Row n v fits least = record { number = n; fits = fits; first = λ m other h. (least m other h).0 }
+
+pub alone : (Row : ℕ → Judged → Type 0) (n : ℕ) (v other : Judged) → Row n v → ((m : ℕ) (x : Judged) → Row m x → Least n v m x) → FirstOf Row other → v ≡ other
+alone Row n v other fits least h = sym ((least h.number other h.fits).1 (omega (arith, h.first n v fits, (least h.number other h.fits).0)))

@@ -1,0 +1,113 @@
+-- The verdict tables, row by row: a relation for each table, with a case for each row.
+use Rattle.std.specs.Prelude.{◌≡◌, ℕ, ◌<◌, ◌≤◌, Bool, false, List, ◌++◌, codes, Option, Some, None}
+use Rattle.std.specs.Fmt.{decimal}
+use Rattle.kt_base.specs.declared.outcome.Outcome.{Outcome}
+use Rattle.kt_base.specs.declared.outcome.Outcome.TheVariants.{Exited, Signaled, TimedOut, WaitFailed}
+use Rattle.kt_base.specs.declared.refused.Refused.{Refused}
+use Rattle.kt_base.specs.declared.refused.Refused.TheVariants as refused
+use Rattle.kt_base.specs.Reasons.{ending_text}
+use Rattle.kt_base.specs.Kinds.{good}
+use Rattle.kt_base.specs.Verdicts as verdict
+use Rattle.kt_base.specs.Verdicts.{Judged}
+use Rattle.kt_claim.specs.declared.claim.Claim.{Claim}
+use Rattle.kt_claim.specs.declared.claim.Claim.TheVariants.{Missing, Unreadable, Malformed, Passed, Failed, Skipped, ExpectedFailure, ExpectedDeath, ExpectedTimeout, ExpectedExit, ExpectedSignal}
+use Rattle.kt_claim.specs.declared.claim_fault.ClaimFault.{ClaimFault}
+use Rattle.kt_claim.specs.declared.tap.Tap.{Tap}
+use Rattle.kt_claim.specs.declared.tap.Tap.TheVariants.{Invalid, BailedOut, SkipAll, Counted}
+use Rattle.kt_claim.specs.declared.tap_fault.TapFault.{TapFault}
+use Rattle.kt_claim.specs.declared.evidence.Evidence.{Evidence}
+use Rattle.kt_claim.specs.declared.evidence.Evidence.TheVariants as evidence
+use Rattle.kt_status.specs.Verdicts.{claim_fault_text, tap_fault_text}
+use Rattle.kt_status.specs.declared.cleanup_end.CleanupEnd.{CleanupEnd}
+use Rattle.kt_status.specs.declared.cleanup_end.CleanupEnd.TheVariants as cleanup
+
+-- the process ended by itself
+pub data Ends : Outcome → Type 0 where
+  exited : (code : ℕ) → Ends (Exited code)
+  signaled : (signal : ℕ) (core : Bool) → Ends (Signaled signal core)
+
+-- the rows of the ATF table: what the result file claims, how the body ended, and the verdict
+pub data AtfRow : ℕ → Claim → Outcome → Judged → Type 0 where
+  not_waited_for : (c : Claim) → AtfRow 1 c WaitFailed (verdict.broken (codes "Test case could not be waited for"))
+  late_as_expected : (r : List ℕ) → AtfRow 2 (ExpectedTimeout r) TimedOut (verdict.expected_failure r)
+  late : (c : Claim) → AtfRow 3 c TimedOut (verdict.broken (codes "Test case body timed out"))
+  no_file : (e : Outcome) → Ends e → AtfRow 4 Missing e (verdict.broken (codes "Premature exit; test case " ++ ending_text e))
+  no_reading : (e : Outcome) → Ends e → AtfRow 5 Unreadable e (verdict.broken (codes "Results file could not be read"))
+  no_claim : (f : ClaimFault) (e : Outcome) → Ends e → AtfRow 6 (Malformed f) e (verdict.broken (codes "Invalid result file: " ++ claim_fault_text f))
+  passed : AtfRow 7 Passed (Exited 0) verdict.passed
+  skipped : (r : List ℕ) → AtfRow 7 (Skipped r) (Exited 0) (verdict.skipped r)
+  failed_as_expected : (r : List ℕ) → AtfRow 7 (ExpectedFailure r) (Exited 0) (verdict.expected_failure r)
+  not_passed : (e : Outcome) → Ends e → AtfRow 8 Passed e (verdict.broken (codes "Passed test case should have reported success but " ++ ending_text e))
+  not_skipped : (r : List ℕ) (e : Outcome) → Ends e → AtfRow 9 (Skipped r) e (verdict.broken (codes "Skipped test case should have reported success but " ++ ending_text e))
+  not_excused : (r : List ℕ) (e : Outcome) → Ends e → AtfRow 10 (ExpectedFailure r) e (verdict.broken (codes "Expected failure should have reported success but " ++ ending_text e))
+  failed : (r : List ℕ) → AtfRow 11 (Failed r) (Exited 1) (verdict.failed r)
+  not_failed : (r : List ℕ) (e : Outcome) → Ends e → AtfRow 12 (Failed r) e (verdict.broken (codes "Failed test case should have reported failure but " ++ ending_text e))
+  died_as_expected : (r : List ℕ) (e : Outcome) → Ends e → AtfRow 13 (ExpectedDeath r) e (verdict.expected_failure r)
+  exited_as_expected : (r : List ℕ) (code : ℕ) → AtfRow 14 (ExpectedExit None r) (Exited code) (verdict.expected_failure r)
+  exited_so : (due : ℕ) (r : List ℕ) → AtfRow 14 (ExpectedExit (Some due) r) (Exited due) (verdict.expected_failure r)
+  exited_otherwise : (due : ℕ) (r : List ℕ) (code : ℕ)
+      → AtfRow 15 (ExpectedExit (Some due) r) (Exited code) (verdict.failed (codes "Expected exit code " ++ decimal due ++ codes " but got " ++ decimal code))
+  not_exited : (due : Option ℕ) (r : List ℕ) (signal : ℕ) (core : Bool)
+      → AtfRow 16 (ExpectedExit due r) (Signaled signal core) (verdict.broken (codes "Expected clean exit but " ++ ending_text (Signaled signal core)))
+  signaled_as_expected : (r : List ℕ) (signal : ℕ) (core : Bool) → AtfRow 17 (ExpectedSignal None r) (Signaled signal core) (verdict.expected_failure r)
+  signaled_so : (due : ℕ) (r : List ℕ) (core : Bool) → AtfRow 17 (ExpectedSignal (Some due) r) (Signaled due core) (verdict.expected_failure r)
+  signaled_otherwise : (due : ℕ) (r : List ℕ) (signal : ℕ) (core : Bool)
+      → AtfRow 18 (ExpectedSignal (Some due) r) (Signaled signal core) (verdict.failed (codes "Expected signal " ++ decimal due ++ codes " but got " ++ decimal signal))
+  not_signaled : (due : Option ℕ) (r : List ℕ) (code : ℕ) → AtfRow 19 (ExpectedSignal due r) (Exited code) (verdict.broken (codes "Expected signal but " ++ ending_text (Exited code)))
+  not_late : (r : List ℕ) (e : Outcome) → Ends e → AtfRow 20 (ExpectedTimeout r) e (verdict.broken (codes "Expected timeout but " ++ ending_text e))
+
+-- the rows of the table of plain programs
+pub data PlainRow : ℕ → Outcome → Judged → Type 0 where
+  plain_not_waited_for : PlainRow 1 WaitFailed (verdict.broken (codes "Test case could not be waited for"))
+  plain_late : PlainRow 2 TimedOut (verdict.broken (codes "Test case timed out"))
+  plain_signaled : (signal : ℕ) (core : Bool) → PlainRow 3 (Signaled signal core) (verdict.broken (codes "Received signal " ++ decimal signal))
+  plain_passed : PlainRow 4 (Exited 0) verdict.passed
+  plain_failed : (code : ℕ) → PlainRow 5 (Exited code) (verdict.failed (codes "Returned non-success exit status " ++ decimal code))
+
+-- the rows of the TAP table
+pub data TapRow : ℕ → Tap → Outcome → Judged → Type 0 where
+  tap_not_waited_for : (t : Tap) → TapRow 1 t WaitFailed (verdict.broken (codes "Test case could not be waited for"))
+  tap_late : (t : Tap) → TapRow 2 t TimedOut (verdict.broken (codes "Test case timed out"))
+  tap_signaled : (t : Tap) (signal : ℕ) (core : Bool) → TapRow 3 t (Signaled signal core) (verdict.broken (codes "Received signal " ++ decimal signal))
+  tap_bailed_out : (code : ℕ) → TapRow 4 BailedOut (Exited code) (verdict.failed (codes "Bailed out"))
+  tap_invalid : (f : TapFault) (code : ℕ) → TapRow 5 (Invalid f) (Exited code) (verdict.broken (codes "TAP test program yielded invalid data: " ++ tap_fault_text f))
+  tap_skipped : (r : List ℕ) (code : ℕ) → TapRow 6 (SkipAll r) (Exited code) (verdict.skipped r)
+  tap_failed : (some all code : ℕ) → 0 < some → TapRow 7 (Counted some all) (Exited code) (verdict.failed (decimal some ++ codes " of " ++ decimal all ++ codes " tests failed"))
+  tap_passed : (some all : ℕ) → TapRow 8 (Counted some all) (Exited 0) verdict.passed
+  tap_dubious : (some all code : ℕ)
+      → TapRow 9 (Counted some all) (Exited code) (verdict.broken (codes "Dubious test program: reported all tests as passed but returned exit code " ++ decimal code))
+
+-- the rows of starts that were refused
+pub data RefusalRow : ℕ → Refused → Judged → Type 0 where
+  no_directory : RefusalRow 1 refused.Directory (verdict.broken (codes "Work directory could not be made"))
+  no_output : RefusalRow 2 refused.Output (verdict.broken (codes "Output files could not be made"))
+  not_spawned : RefusalRow 3 refused.Spawn (verdict.broken (codes "Test program could not be started"))
+  no_memory : RefusalRow 4 refused.Memory (verdict.broken (codes "Test case could not be started for want of memory"))
+
+-- the rows of cleanups: the verdict on the body, how the cleanup ended, and the verdict on the case
+pub data CleanupRow : ℕ → Judged → CleanupEnd → Judged → Type 0 where
+  bad_already : (body : Judged) (end : CleanupEnd) → good body.kind ≡ false → CleanupRow 1 body end body
+  cleaned_up : (body : Judged) → CleanupRow 2 body (cleanup.Ended (Exited 0)) body
+  cleanup_late : (body : Judged) → CleanupRow 3 body (cleanup.Ended TimedOut) (verdict.broken (codes "Test case cleanup timed out"))
+  cleanup_failed : (body : Judged) (ending : Outcome) → CleanupRow 4 body (cleanup.Ended ending) (verdict.broken (codes "Test case cleanup did not terminate successfully"))
+  cleanup_not_started : (body : Judged) → CleanupRow 5 body cleanup.Refused (verdict.broken (codes "Test case cleanup could not be started"))
+
+-- the verdict of the first row that fits
+pub record FirstOf (Row : ℕ → Judged → Type 0) (verdict : Judged) : Type 0 where
+  pub number : ℕ
+  pub fits : Row number verdict
+  pub first : (m : ℕ) (other : Judged) → Row m other → number ≤ m
+
+-- the verdict on a body, by the table of its interface
+abbrev pub IsVerdict : Evidence → Outcome → Judged → Type 0
+IsVerdict (evidence.Atf claim) ending verdict = FirstOf (λ n v. AtfRow n claim ending v) verdict
+IsVerdict (evidence.Tap tap) ending verdict = FirstOf (λ n v. TapRow n tap ending v) verdict
+IsVerdict evidence.Plain ending verdict = FirstOf (λ n v. PlainRow n ending v) verdict
+
+-- the verdict on a start that was refused
+abbrev pub IsVerdictOfRefusal : Refused → Judged → Type 0
+IsVerdictOfRefusal refused verdict = FirstOf (λ n v. RefusalRow n refused v) verdict
+
+-- the verdict on a case after its cleanup
+abbrev pub IsVerdictAfter : Judged → CleanupEnd → Judged → Type 0
+IsVerdictAfter body end verdict = FirstOf (λ n v. CleanupRow n body end v) verdict

@@ -1,0 +1,140 @@
+ghost use Rattle.std.specs.Prelude.{◌≡◌, ◌++◌, codes, if◌then◌else◌};
+ghost use Rattle.kt_base.specs.Reasons.{ending_text};
+ghost use Rattle.kt_base.specs.Phrases.{phrase_text};
+ghost use Rattle.kt_base.specs.Verdicts.{broken};
+ghost use Rattle.kt_status.specs.Verdicts.{claim_fault_text, exits_with, expected_exit, expected_signal, atf_ended, atf_late, atf_verdict};
+
+use kt_base::{Outcome, Phrase, Reason, Text, Verdict};
+use kt_claim::{Claim, ClaimFault};
+
+fn fault_phrase(fault: ClaimFault) -> Phrase
+    ensures { phrase_text result ≡ codes "Invalid result file: " ++ claim_fault_text fault }
+{
+    match fault {
+        ClaimFault::TooLong => Phrase::ResultTooLong,
+        ClaimFault::Empty => Phrase::ResultEmpty,
+        ClaimFault::NoNewline => Phrase::ResultNoNewline,
+        ClaimFault::SeveralLines => Phrase::ResultSeveralLines,
+        ClaimFault::UnknownWord => Phrase::ResultUnknownWord,
+        ClaimFault::BadNumber => Phrase::ResultBadNumber,
+        ClaimFault::UnexpectedReason => Phrase::ResultUnexpectedReason,
+        ClaimFault::NoReason => Phrase::ResultNoReason,
+    }
+}
+
+/// A claim of a certain end, which did not come.
+fn belied(phrase: Phrase, ending: Outcome) -> Verdict
+    ensures { result ≡ broken (phrase_text phrase ++ ending_text ending) }
+{
+    Verdict::broken(Reason::Ended(phrase, ending))
+}
+
+fn exits_with(code: u8, ending: Outcome) -> bool
+    ensures { result ≡ exits_with code ending }
+{
+    match ending {
+        Outcome::Exited(found) => found == code,
+        _ => false,
+    }
+}
+
+fn expected_exit(due: Option<u8>, reason: Text, ending: Outcome) -> Verdict
+    ensures { result ≡ expected_exit due reason ending }
+{
+    let Outcome::Exited(code) = ending else {
+        return belied(Phrase::NoCleanExit, ending);
+    };
+    match due {
+        None => Verdict::expected_failure(Reason::Owned(reason)),
+        Some(due) if due == code => Verdict::expected_failure(Reason::Owned(reason)),
+        Some(due) => Verdict::failed(Reason::Counted(
+            Phrase::OtherExitCode,
+            due as u64,
+            code as u64,
+        )),
+    }
+}
+
+fn expected_signal(due: Option<u8>, reason: Text, ending: Outcome) -> Verdict
+    ensures { result ≡ expected_signal due reason ending }
+{
+    let Outcome::Signaled(signal, _) = ending else {
+        return belied(Phrase::NoSignal, ending);
+    };
+    match due {
+        None => Verdict::expected_failure(Reason::Owned(reason)),
+        Some(due) if due == signal => Verdict::expected_failure(Reason::Owned(reason)),
+        Some(due) => Verdict::failed(Reason::Counted(
+            Phrase::OtherSignal,
+            due as u64,
+            signal as u64,
+        )),
+    }
+}
+
+/// A claim that asks for an exit with a code, which the process may not have had.
+fn settled(verdict: Verdict, due: bool, phrase: Phrase, ending: Outcome) -> Verdict
+    ensures { result ≡ (if due then verdict else broken (phrase_text phrase ++ ending_text ending)) }
+{
+    if due { verdict } else { belied(phrase, ending) }
+}
+
+/// The body ended by itself.
+fn ended(claim: Claim, ending: Outcome) -> Verdict
+    ensures { result ≡ atf_ended claim ending }
+{
+    match claim {
+        Claim::Missing => belied(Phrase::PrematureExit, ending),
+        Claim::Unreadable => Verdict::broken(Reason::Fixed(Phrase::ResultsUnreadable)),
+        Claim::Malformed(fault) => Verdict::broken(Reason::Fixed(fault_phrase(fault))),
+        Claim::Passed => settled(
+            Verdict::passed(),
+            exits_with(0, ending),
+            Phrase::PassedButNoSuccess,
+            ending,
+        ),
+        Claim::Skipped(reason) => settled(
+            Verdict::skipped(Reason::Owned(reason)),
+            exits_with(0, ending),
+            Phrase::SkippedButNoSuccess,
+            ending,
+        ),
+        Claim::ExpectedFailure(reason) => settled(
+            Verdict::expected_failure(Reason::Owned(reason)),
+            exits_with(0, ending),
+            Phrase::ExpectedFailureButNoSuccess,
+            ending,
+        ),
+        Claim::Failed(reason) => settled(
+            Verdict::failed(Reason::Owned(reason)),
+            exits_with(1, ending),
+            Phrase::FailedButNoFailure,
+            ending,
+        ),
+        Claim::ExpectedDeath(reason) => Verdict::expected_failure(Reason::Owned(reason)),
+        Claim::ExpectedExit(due, reason) => expected_exit(due, reason, ending),
+        Claim::ExpectedSignal(due, reason) => expected_signal(due, reason, ending),
+        Claim::ExpectedTimeout(_) => belied(Phrase::NoTimeout, ending),
+    }
+}
+
+/// The body was killed because its time had come.
+fn late(claim: Claim) -> Verdict
+    ensures { result ≡ atf_late claim }
+{
+    match claim {
+        Claim::ExpectedTimeout(reason) => Verdict::expected_failure(Reason::Owned(reason)),
+        _ => Verdict::broken(Reason::Fixed(Phrase::BodyTimedOut)),
+    }
+}
+
+/// The verdict on an ATF case.
+pub fn atf_verdict(claim: Claim, ending: Outcome) -> Verdict
+    ensures { result ≡ atf_verdict claim ending }
+{
+    match ending {
+        Outcome::WaitFailed => Verdict::broken(Reason::Fixed(Phrase::CaseNotWaitedFor)),
+        Outcome::TimedOut => late(claim),
+        Outcome::Exited(_) | Outcome::Signaled(_, _) => ended(claim, ending),
+    }
+}

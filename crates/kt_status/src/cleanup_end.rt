@@ -1,0 +1,8 @@
+use kt_base::Outcome;
+
+/// What became of a declared cleanup.
+#[derive(Clone, Copy, Debug, PartialEq, Eq)]
+pub enum CleanupEnd {
+    Refused,
+    Ended(Outcome),
+}

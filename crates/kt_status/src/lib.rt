@@ -1,0 +1,17 @@
+//! The one verdict on a case, from what it said of itself and how it ended.
+#![tactic(auto)]
+
+mod atf;
+mod cleanup;
+mod cleanup_end;
+mod plain;
+mod refusal;
+mod tap;
+#[cfg(test)]
+mod tests;
+mod verdict;
+
+pub use cleanup::with_cleanup;
+pub use cleanup_end::CleanupEnd;
+pub use refusal::refused_verdict;
+pub use verdict::body_verdict;

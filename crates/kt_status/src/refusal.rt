@@ -1,0 +1,27 @@
+ghost use Rattle.std.specs.Prelude.{◌≡◌};
+ghost use Rattle.kt_base.specs.Verdicts.{Judged};
+ghost use Rattle.kt_status.specs.Tables.{IsVerdictOfRefusal};
+ghost use Rattle.kt_status.specs.Verdicts.{verdict_of_refusal};
+
+use kt_base::{Phrase, Reason, Refused, Verdict};
+
+/// The verdict on a case whose body, or whose program's list, could not be started.
+pub fn refused_verdict(refused: Refused) -> Verdict
+    ensures row { IsVerdictOfRefusal refused result }
+    ensures only { (verdict : Judged) → IsVerdictOfRefusal refused verdict → result ≡ verdict }
+    ensures value { result ≡ verdict_of_refusal refused }
+{
+    refusal(refused)
+}
+
+fn refusal(refused: Refused) -> Verdict
+    ensures { result ≡ verdict_of_refusal refused }
+{
+    let phrase = match refused {
+        Refused::Directory => Phrase::NoDirectory,
+        Refused::Output => Phrase::NoOutput,
+        Refused::Spawn => Phrase::NotSpawned,
+        Refused::Memory => Phrase::NoMemoryToStart,
+    };
+    Verdict::broken(Reason::Fixed(phrase))
+}

@@ -1,0 +1,29 @@
+ghost use Rattle.std.specs.Prelude.{◌≡◌};
+ghost use Rattle.kt_base.specs.Verdicts.{Judged};
+ghost use Rattle.kt_status.specs.Tables.{IsVerdict};
+ghost use Rattle.kt_status.specs.Verdicts.{verdict_of};
+
+use crate::atf::atf_verdict;
+use crate::plain::plain_verdict;
+use crate::tap::tap_verdict;
+use kt_base::{Outcome, Verdict};
+use kt_claim::Evidence;
+
+/// The verdict on a case, from what it said of itself and how its body ended.
+pub fn body_verdict(evidence: Evidence, ending: Outcome) -> Verdict
+    ensures row { IsVerdict evidence ending result }
+    ensures only { (verdict : Judged) → IsVerdict evidence ending verdict → result ≡ verdict }
+    ensures value { result ≡ verdict_of evidence ending }
+{
+    judged(evidence, ending)
+}
+
+fn judged(evidence: Evidence, ending: Outcome) -> Verdict
+    ensures { result ≡ verdict_of evidence ending }
+{
+    match evidence {
+        Evidence::Atf(claim) => atf_verdict(claim, ending),
+        Evidence::Tap(tap) => tap_verdict(tap, ending),
+        Evidence::Plain => plain_verdict(ending),
+    }
+}

@@ -1,0 +1,58 @@
+-- What a query leaves of a connection that stands for runs, whatever its text.
+use Rattle.std.proofs.Common.{◌≡◌, ℕ, List, IsTrue, sym, ap, subst, ◌∙◌}
+use Rattle.sqlite.specs.Order.{Row}
+use Rattle.sqlite.specs.Tree.{Trees}
+use Rattle.sqlite.specs.Store.{Ghosts}
+use Rattle.sqlite.specs.Held.{Held, state}
+use Rattle.sqlite.specs.Listing.{understood}
+use Rattle.sqlite.specs.Given.{IsPlain}
+use Rattle.sqlite.specs.Effect.{Database}
+use Rattle.sqlite.specs.State.{State, HasCleanDisk, Survives, IsUnchanged, Shown, ShowsRows}
+use Rattle.sqlite.specs.Clock.{timed}
+use Rattle.sqlite.proofs.Callers.{never_commits, unchanged_then}
+use Rattle.sqlite.proofs.StateLemmas.{survives_weaker}
+use Rattle.kt_base.specs.declared.run.Run.{Run}
+use Rattle.kt_store.specs.Tables.{schema_1}
+use Rattle.kt_store.specs.Stands.{IsStore, StandsFor}
+use Rattle.kt_store.specs.Ask.{Asked, MayShow}
+use Rattle.kt_store.proofs.StepLemmas.{same_store}
+
+shown_same : (sql : List ℕ) (params : Row) (old new : State) (rows : List Row) → IsPlain (understood old.now.schema sql) → Shown sql params old new rows → IsUnchanged old new
+unfolding Shown
+shown_same sql params old new rows plain h =
+    let none = (subst IsPlain h.1.is plain).0 in (subst (ShowsRows old new sql h.0 (timed params h.0.formats h.1.now) rows) none h.2).3
+
+module _ {S : Type 0} (g : Ghosts S) (old new : Held S) (runs : List Run) (has : StandsFor (state g old) runs) (survives : HasCleanDisk (state g new) → HasCleanDisk (state g old))
+    (sql : List ℕ) (plain : IsPlain (understood schema_1 sql)) (params : Row) where
+  pub asked_mid : (rows : List Row) → HasCleanDisk (state g new) → (it : Asked g sql params old new rows) → IsStore (state g it.mid) runs
+  asked_mid rows clean it = same_store (state g old) (state g it.mid) runs (has (survives clean) it.same.0.was_open) it.same
+
+  pub asked_stands : (rows : List Row) → (HasCleanDisk (state g new) → Asked g sql params old new rows) → StandsFor (state g new) runs
+  asked_stands rows asked clean opened =
+      let it = asked clean in
+      let mid = asked_mid rows clean it in
+      same_store (state g it.mid) (state g new) runs mid (shown_same sql params (state g it.mid) (state g new) rows (subst (λ s. IsPlain (understood s sql)) (sym mid.tables.schema) plain) it.shown)
+
+  never_shown : HasCleanDisk (state g new) → (trees : Trees) → ¬ MayShow g sql params old trees
+  never_shown clean trees it =
+      let mid = same_store (state g old) (state g it.0) runs (has (survives clean) it.1.0.was_open) it.1 in
+      never_commits sql params (state g it.0) trees (subst (λ s. IsPlain (understood s sql)) (sym mid.tables.schema) plain) it.2
+
+  pub asked_survives : Survives (state g old) (state g new) (MayShow g sql params old) → Survives (state g old) (state g new) (λ _. ⊥)
+  asked_survives h = survives_weaker (state g old) (state g new) (MayShow g sql params old) (λ _. ⊥) never_shown h
+
+-- the same where only the schema is known
+module _ {S : Type 0} (g : Ghosts S) (old new : Held S) (schema : HasCleanDisk (state g old) → IsTrue (state g old).is_open → (state g old).now.schema ≡ schema_1) (survives : HasCleanDisk (state g new) → HasCleanDisk (state g old))
+    (sql : List ℕ) (plain : IsPlain (understood schema_1 sql)) (params : Row) where
+  mid_plain : HasCleanDisk (state g new) → (mid : Held S) → IsUnchanged (state g old) (state g mid) → IsPlain (understood (state g mid).now.schema sql)
+  mid_plain clean mid same = subst (λ s. IsPlain (understood s sql)) (sym (ap (λ (db : Database). db.schema) same.0.now_is ∙ schema (survives clean) same.0.was_open)) plain
+
+  pub asked_unchanged : (rows : List Row) → HasCleanDisk (state g new) → Asked g sql params old new rows → IsUnchanged (state g old) (state g new)
+  asked_unchanged rows clean it =
+      unchanged_then (state g old) (state g it.mid) (state g new) it.same (shown_same sql params (state g it.mid) (state g new) rows (mid_plain clean it.mid it.same) it.shown)
+
+  shows_nothing : HasCleanDisk (state g new) → (trees : Trees) → ¬ MayShow g sql params old trees
+  shows_nothing clean trees it = never_commits sql params (state g it.0) trees (mid_plain clean it.0 it.1) it.2
+
+  pub asked_leaves : Survives (state g old) (state g new) (MayShow g sql params old) → Survives (state g old) (state g new) (λ _. ⊥)
+  asked_leaves h = survives_weaker (state g old) (state g new) (MayShow g sql params old) (λ _. ⊥) shows_nothing h

@@ -1,0 +1,158 @@
+-- A run is finished.
+use Rattle.std.proofs.Common.{◌≡◌, ◌==◌, nat_lt, min, ℕ, zero, suc, ◌+◌, ◌<◌, ◌≤◌, pos, List, [], ◌∷◌, ◌++◌, length, map, drop, Bool, true, false, cond, Some, None, Option, Ok, slice_get, refl, sym, ap, subst, ◌∙◌, arith, IsPermutation, IsTrue}
+use Rattle.std.proofs.lemmas.Bool.Decides.{nat_tests}
+use Rattle.std.specs.List.{AllByRecursion}
+use Rattle.sqlite.specs.declared.types.Value.TheVariants.{Int}
+use Rattle.sqlite.specs.Tree.{Trees}
+use Rattle.sqlite_trees.specs.Tree.{IsAscending}
+use Rattle.sqlite.specs.declared.run.Mode.{Mode}
+use Rattle.sqlite.specs.Command.TheVariants.{Update}
+use Rattle.sqlite_schema.specs.declared.schema.Keys.TheVariants.{Enforced}
+use Rattle.sqlite.specs.Does.{Tally, Does}
+use Rattle.sqlite.specs.Effect.{Database, IsDatabase}
+use Rattle.sqlite.specs.Store.{Ghosts}
+use Rattle.sqlite.specs.Held.{Held, state}
+use Rattle.sqlite.specs.State.{HasCleanDisk}
+use Rattle.kt_base.specs.declared.run.Run.{Run}
+use Rattle.kt_base.specs.declared.entry.Entry.{Entry}
+use Rattle.kt_store.specs.declared.store_fault.StoreFault.TheVariants.{RunClosed, Incomplete}
+use Rattle.kt_store.specs.Tables.{finish_text}
+use Rattle.kt_store.specs.Runs.{Tables, Keeps, IsRun, AreRuns, AreNumbered, run_at, entries_of, entry_row, entry_rows, finish, finish_refusal, finish_refusal_of}
+use Rattle.kt_store.specs.Stands.{IsStore, StandsFor}
+use Rattle.kt_store.specs.Ask.{Told, MayTell}
+use Rattle.kt_store.proofs.SqlFacts.{finish_is}
+use Rattle.kt_store.proofs.CountLemmas.{most}
+use Rattle.kt_store.proofs.FinishLemmas.{finish_program, finish_writes, finished_rows}
+use Rattle.kt_store.proofs.WriteLemmas.{told_update, crash_update}
+
+same_entries : (run : ℕ) (runs : List Run) → entry_rows (finish run runs) ≡ entry_rows runs
+same_entries run [] = refl
+same_entries run (r ∷ runs) = go (r.number == run) (same_entries run runs)
+  where
+    go : (b : Bool) → entry_rows (finish run runs) ≡ entry_rows runs → entry_rows (cond b (record r { finished = true } ∷ runs) (r ∷ finish run runs)) ≡ map (entry_row r.number) r.entries ++ entry_rows runs
+    go true more = refl
+    go false more = ap (λ l. map (entry_row r.number) r.entries ++ l) more
+
+same_numbers : (run from : ℕ) (runs : List Run) → AreNumbered from runs → AreNumbered from (finish run runs)
+same_numbers run from [] h = tt
+same_numbers run from (r ∷ runs) h = go (r.number == run) (same_numbers run (suc from) runs h.1)
+  where
+    go : (b : Bool) → AreNumbered (suc from) (finish run runs) → AreNumbered from (cond b (record r { finished = true } ∷ runs) (r ∷ finish run runs))
+    go true more = (h.0, h.1)
+    go false more = (h.0, more)
+
+as_many : (run : ℕ) (runs : List Run) → length (finish run runs) ≡ length runs
+as_many run [] = refl
+as_many run (r ∷ runs) = go (r.number == run) (as_many run runs)
+  where
+    go : (b : Bool) → length (finish run runs) ≡ length runs → length (cond b (record r { finished = true } ∷ runs) (r ∷ finish run runs)) ≡ suc (length runs)
+    go true more = refl
+    go false more = ap suc more
+
+whole_run : (r : Run) → IsRun r → length r.entries ≡ r.total → IsRun (record r { finished = true })
+whole_run r is whole = record { small = is.small; ordered = is.ordered; below = is.below; sound = is.sound; whole = λ done. whole }
+
+each_from : (from k : ℕ) (runs : List Run) (r : Run) → AreNumbered from runs → AllByRecursion IsRun runs → slice_get runs k ≡ Some r → length r.entries ≡ r.total → AllByRecursion IsRun (finish (from + k) runs)
+each_from from k [] r h valid there whole = absurd cc
+each_from from zero (x ∷ runs) r h valid there whole =
+    let same : x ≡ r = cc in
+    let number : (x.number == from + 0) ≡ true = grind (arith, nat_tests, h.0) in
+    rw number (subst (λ (y : Run). IsRun (record y { finished = true })) (sym same) (whole_run r (subst IsRun same valid.0) whole), valid.1)
+each_from from (suc k) (x ∷ runs) r h valid there whole =
+    let place : suc from + k ≡ from + suc k = omega arith in
+    let apart : (x.number == from + suc k) ≡ false = grind (arith, nat_tests, h.0) in
+    rw apart (valid.0, subst (λ n. AllByRecursion IsRun (finish n runs)) place (each_from (suc from) k runs r h.1 valid.1 there whole))
+
+pub finish_step : (runs : List Run) (k : ℕ) (r : Run) → run_at runs (suc k) ≡ Some r → length r.entries ≡ r.total
+    → (limit : Option ℕ) (mode : Mode) (db after : Database) (text : List ℕ) (tally : Tally) → mode.keys ≡ Enforced → Tables db runs
+    → Does limit mode (Int (pos (suc k)) ∷ []) db text None (Update 1 finish_program) (Ok (tally, after)) → Tables after (finish (suc k) runs)
+finish_step runs k r there whole limit mode db after text tally enforced has does =
+    let did = finish_writes limit mode (suc k) db after text tally runs r enforced has there does in
+    let place : 1 + k ≡ suc k = omega arith in
+    record {
+      schema = did.0;
+      marked = ap (map (drop 1)) (did.1.tables.0 (λ e. cc)) ∙ has.marked;
+      runs_are = finished_rows k db.trees after.trees runs r has.valid.numbered has.runs_are there did.1;
+      entries_are = subst (λ l. IsPermutation l (map (drop 1) (after.trees 3))) (sym (same_entries (suc k) runs))
+          (subst (λ l. IsPermutation (entry_rows runs) (map (drop 1) l)) (sym (did.1.tables.1.1.0 (λ e. cc))) has.entries_are);
+      valid = record {
+        numbered = same_numbers (suc k) 1 runs has.valid.numbered;
+        each = subst (λ n. AllByRecursion IsRun (finish n runs)) place (each_from 1 k runs r has.valid.numbered has.valid.each there whole);
+        few = omega (arith, has.valid.few, as_many (suc k) runs);
+      };
+    }
+
+module _ {S : Type 0} (g : Ghosts S) (old new : Held S) (runs : List Run) (run : ℕ) (has : StandsFor (state g old) runs) (earlier : HasCleanDisk (state g new) → HasCleanDisk (state g old)) where
+  abbrev pub Closes : Type 0
+  Closes = HasCleanDisk (state g old) → (k : ℕ) × (r : Run) × (run ≡ suc k) × (run_at runs run ≡ Some r) × (length r.entries ≡ r.total)
+
+  told_at : (k n : ℕ) (r : Run) → n ≡ suc k → run_at runs n ≡ Some r → length r.entries ≡ r.total → HasCleanDisk (state g new) → Told g finish_text (Int (pos n) ∷ []) old new
+      → IsStore (state g new) (finish n runs) × IsTrue (state g new).is_open × IsDatabase (state g new).now
+  told_at k n r is there whole clean it =
+      subst (λ m. run_at runs m ≡ Some r → Told g finish_text (Int (pos m) ∷ []) old new → IsStore (state g new) (finish m runs) × IsTrue (state g new).is_open × IsDatabase (state g new).now) (sym is)
+      (λ there it. told_update finish_text (Int (pos (suc k)) ∷ []) 1 finish_program finish_is.0 finish_is.1 runs (finish (suc k) runs) (finish_step runs k r there whole) g old new has earlier clean it) there it
+
+  crash_at : (k n : ℕ) (r : Run) → n ≡ suc k → run_at runs n ≡ Some r → length r.entries ≡ r.total → HasCleanDisk (state g new) → (trees : Trees) → MayTell g finish_text (Int (pos n) ∷ []) old trees → Keeps (finish n runs) trees
+  crash_at k n r is there whole clean trees it =
+      subst (λ m. run_at runs m ≡ Some r → MayTell g finish_text (Int (pos m) ∷ []) old trees → Keeps (finish m runs) trees) (sym is)
+      (λ there it. crash_update finish_text (Int (pos (suc k)) ∷ []) 1 finish_program finish_is.0 finish_is.1 runs (finish (suc k) runs) (finish_step runs k r there whole) g old new has earlier clean trees it) there it
+
+  pub told_finish : Closes → HasCleanDisk (state g new) → Told g finish_text (Int (pos run) ∷ []) old new → IsStore (state g new) (finish run runs) × IsTrue (state g new).is_open × IsDatabase (state g new).now
+  told_finish closes clean it = let f = closes (earlier clean) in told_at f.0 run f.1 f.2 f.3 f.4 clean it
+
+  pub crash_finish : Closes → HasCleanDisk (state g new) → (trees : Trees) → MayTell g finish_text (Int (pos run) ∷ []) old trees → Keeps (finish run runs) trees
+  crash_finish closes clean trees it = let f = closes (earlier clean) in crash_at f.0 run f.1 f.2 f.3 f.4 clean trees it
+
+all_from : (x : Entry) (es : List Entry) → AllByRecursion (λ (e : Entry). x.position < e.position) es → AllByRecursion (λ (e : Entry). suc x.position ≤ e.position) es
+all_from x [] h = tt
+all_from x (e ∷ es) h = (omega (arith, h.0), all_from x es h.1)
+
+-- positions that ascend below a bound are no more than it
+no_more : (from top : ℕ) (es : List Entry) → from ≤ top → AllByRecursion (λ (e : Entry). from ≤ e.position) es → IsAscending (λ (a b : Entry). a.position < b.position) es
+    → AllByRecursion (λ (e : Entry). e.position < top) es → from + length es ≤ top
+no_more from top [] low above up below = omega (arith, low)
+no_more from top (e ∷ es) low above up below = omega (arith, above.0, no_more (suc e.position) top es (omega (arith, below.0)) (all_from e es up.0) up.1 below.1)
+
+all_zero : (es : List Entry) → AllByRecursion (λ (e : Entry). 0 ≤ e.position) es
+all_zero [] = tt
+all_zero (e ∷ es) = (omega arith, all_zero es)
+
+at_most : (r : Run) → IsRun r → length r.entries ≤ r.total
+at_most r is = omega (arith, no_more 0 r.total r.entries (omega arith) (all_zero r.entries) is.ordered is.below)
+
+is_of : (from k : ℕ) (runs : List Run) (r : Run) → AllByRecursion IsRun runs → slice_get runs k ≡ Some r → IsRun r
+is_of from k [] r valid there = absurd cc
+is_of from zero (x ∷ runs) r valid there = let same : x ≡ r = cc in subst IsRun same valid.0
+is_of from (suc k) (x ∷ runs) r valid there = is_of from k runs r valid.1 there
+
+pub run_of : (run : ℕ) (runs : List Run) (r : Run) → AreRuns runs → run_at runs run ≡ Some r → IsRun r
+run_of zero runs r valid there = absurd cc
+run_of (suc k) runs r valid there = is_of 0 k runs r valid.each there
+
+least_most : (n m : ℕ) → n < most → m ≡ min n most → m ≡ n
+least_most n m low is = omega (arith, low, is)
+
+module _ (runs : List Run) (run : ℕ) (r : Run) (there : run_at runs run ≡ Some r) where
+  pub closed_already : r.finished ≡ true → finish_refusal runs run ≡ Some RunClosed
+  closed_already done = ap finish_refusal_of there ∙ rw done refl
+
+  module _ (unclosed : r.finished ≡ false) (valid : AreRuns runs) (n : ℕ) (is : n ≡ min (length (entries_of (run_at runs run))) most) where
+    counted : n ≡ length r.entries
+    counted =
+        let sound = run_of run runs r valid there in
+        least_most (length r.entries) n (omega (arith, at_most r sound, sound.small)) (is ∙ ap (λ o. min (length (entries_of o)) most) there)
+
+    pub lacks_some : n < r.total → finish_refusal runs run ≡ Some Incomplete
+    lacks_some low =
+        let few : nat_lt (length r.entries) r.total ≡ true = grind (arith, nat_tests, low, counted) in
+        ap finish_refusal_of there ∙ rw (unclosed, few) refl
+
+    pub lacks_none : r.total ≤ n → (finish_refusal runs run ≡ None) × (k : ℕ) × (s : Run) × (run ≡ suc k) × (run_at runs run ≡ Some s) × (length s.entries ≡ s.total)
+    lacks_none high =
+        let all : nat_lt (length r.entries) r.total ≡ false = grind (arith, nat_tests, high, counted) in
+        let f = place run there in
+        (ap finish_refusal_of there ∙ rw (unclosed, all) refl, f.0, r, f.1, there, omega (arith, high, counted, at_most r (run_of run runs r valid there)))
+      where
+        place : (run : ℕ) → run_at runs run ≡ Some r → (k : ℕ) × (run ≡ suc k)
+        place zero there = absurd cc
+        place (suc k) there = (k, refl)

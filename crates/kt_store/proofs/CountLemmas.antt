@@ -1,0 +1,122 @@
+-- How many entries a run has, as its query tells.
+use Rattle.std.proofs.Common.{◌≡◌, ◌==◌, ◌&&◌, ℕ, ◌<◌, min, pos, List, [], ◌∷◌, length, map, drop, filter, Bool, true, false, Some, refl, sym, ap, subst, ◌∙◌, arith, IsPermutation}
+use Rattle.std.proofs.lemmas.List.Sorted.{length_permutation}
+use Rattle.std.proofs.lemmas.List.{length-map}
+use Rattle.std.specs.List.{list_all, flat_map, AllZip}
+use Rattle.sqlite.specs.declared.types.Value.TheVariants.{Null, Int}
+use Rattle.sqlite.specs.Order.{Row}
+use Rattle.sqlite.specs.Tree.{Trees}
+use Rattle.sqlite_value.specs.Order.{column}
+use Rattle.std.specs.Prelude.{unsigned_abs, Result, slice_get}
+use Rattle.kt_store.specs.declared.store_fault.StoreFault.{StoreFault}
+use Rattle.std.proofs.Common.{ℤ, Ok}
+use Rattle.sqlite.specs.Term.{Term, Env, lit, col, holds}
+use Rattle.sqlite.specs.Ops.{is_true, from_truth, binary}
+use Rattle.sqlite.specs.Query.{inner, end, matches_as, IsAnswerAs, IsSureAnswer, Output, output}
+use Rattle.sqlite_sql.specs.Group.{Grouping, IsSummary, value_over}
+use Rattle.sqlite_sql.specs.declared.aggregate.AggregateOp.TheVariants.{CountRows}
+use Rattle.sqlite.specs.Collation.TheVariants.{Binary}
+use Rattle.sqlite.specs.Program.{overlay}
+use Rattle.sqlite.specs.Store.{Ghosts}
+use Rattle.sqlite.specs.Held.{Held, state}
+use Rattle.sqlite.specs.State.{State, Shown, HasCleanDisk}
+use Rattle.sqlite.proofs.Callers.{reads_as, one_permutation}
+use Rattle.kt_base.specs.declared.run.Run.{Run}
+use Rattle.kt_base.specs.declared.entry.Entry.{Entry}
+use Rattle.kt_store.specs.Tables.{count_text, schema_1}
+use Rattle.kt_store.specs.Runs.{entry_row, entries_of, run_at}
+use Rattle.kt_store.specs.Stands.{IsStore, StandsFor}
+use Rattle.kt_store.specs.Ask.{Asked}
+use Rattle.kt_store.proofs.SqlFacts.{count_is, count_query, is}
+use Rattle.kt_store.proofs.QueryLemmas.{found, overlay_none}
+use Rattle.kt_store.proofs.EntryLemmas.{back, of_entries, of_run, same_test, one_truth}
+use Rattle.kt_store.proofs.AskLemmas.{asked_mid}
+
+abbrev tests : List Term
+tests = is (col 1 1) (col 0 0) ∷ []
+
+abbrev passes : Row → Row → Bool
+passes params r = list_all (holds (params ∷ r ∷ [])) tests
+
+abbrev pub most : ℕ
+most = 9223372036854775807
+
+abbrev counting : Grouping
+counting = record { keys = []; collations = []; aggregates = record { op = CountRows; distinct = false; collation = Binary; argument = lit Null } ∷ []; having = [] }
+
+-- the row of the one group
+one_value : (order : List Env) (values : Row) → AllZip (λ a v. value_over order a ≡ Some v) counting.aggregates values → values ≡ Int (pos (min (length order) most)) ∷ []
+one_value order [] h = absurd h
+one_value order (v ∷ []) h =
+    let same : v ≡ Int (pos (min (length (map (λ (e : Env). Null) order)) most)) = let e = h.0 in cc in
+    ap (λ x. x ∷ []) (same ∙ ap (λ n. Int (pos (min n most))) (length-map order (λ (e : Env). Null)))
+one_value order (v ∷ w ∷ rest) h = absurd h.1
+
+one_row : (order : List Env) (rows : List Row) → AllZip (IsSummary counting) (order ∷ []) rows → rows ≡ (Int (pos (min (length order) most)) ∷ []) ∷ []
+one_row order [] h = absurd h
+one_row order (r ∷ []) h = ap (λ x. x ∷ []) (h.0.2 ∙ one_value order h.0.0 h.0.1)
+one_row order (r ∷ s ∷ rest) h = absurd h.1
+
+module _ (db : Trees) (params : Row) (rows : List Row) (sure : IsSureAnswer count_query (overlay db []) params rows) where
+  abbrev a : IsAnswerAs Null count_query (overlay db []) params rows
+  a = sure Null
+
+  abbrev all : List Env
+  all = matches_as Null (overlay db []) tests (inner 3 end) (params ∷ [])
+
+  as_many : length all ≡ length (filter (passes params) (db 3))
+  as_many = ap (λ l. length (flat_map (λ r. matches_as Null (overlay db []) tests end (params ∷ r ∷ [])) l)) (overlay_none db 3) ∙ ap length (found 3 tests [] [] db params (db 3))
+      ∙ length-map (filter (passes params) (db 3)) (λ r. params ∷ r ∷ [])
+
+  abbrev number : Row
+  number = Int (pos (min (length all) most)) ∷ []
+
+  pub counted : rows ≡ (Int (pos (min (length (filter (passes params) (db 3))) most)) ∷ []) ∷ []
+  counted =
+      let order = a.grouped.grouping.0 in
+      let summary = one_row order a.grouped.rows (subst (λ groups. AllZip (IsSummary counting) groups a.grouped.rows) a.grouped.grouping.2 a.grouped.summaries) in
+      let long : length order ≡ length all = length_permutation all order a.grouped.grouping.1 in
+      let row : a.grouped.rows ≡ number ∷ [] = summary ∙ ap (λ n. (Int (pos (min n most)) ∷ []) ∷ []) long in
+      let staged : a.staged ≡ (params ∷ number ∷ []) ∷ [] = a.grouped.having ∙ rw row refl in
+      let kept : a.kept ≡ output count_query (params ∷ number ∷ []) ∷ [] = a.distinct ∙ ap (map (output count_query)) staged in
+      let ordered : a.ordered ≡ output count_query (params ∷ number ∷ []) ∷ [] = one_permutation _ a.ordered (subst (λ k. IsPermutation k a.ordered) kept a.same) in
+      a.shown ∙ ap (map (λ (o : Output). o.1)) ordered ∙ ap (λ n. (Int (pos (min n most)) ∷ []) ∷ []) as_many
+
+same_passes : (params r : Row) → passes params r ≡ passes params (back (drop 1 r))
+same_passes params [] = refl
+same_passes params (x ∷ r) = refl
+
+each : (n m : ℕ) (e : Entry) → passes (Int (pos n) ∷ []) (back (entry_row m e)) ≡ (m == n) && true
+unfolding binary
+each n m e = ap (λ a. is_true (from_truth (Some a)) && true) (same_test m n) ∙ one_truth (m == n)
+
+no_row : Row
+no_row = []
+
+all_pass : (es : List Entry) → filter (λ (e : Entry). true) es ≡ es
+all_pass [] = refl
+all_pass (e ∷ es) = ap (λ l. e ∷ l) (all_pass es)
+
+pub tells_count : (old new : State) (runs : List Run) (n : ℕ) (rows : List Row) → IsStore old runs → Shown count_text (Int (pos n) ∷ []) old new rows
+    → rows ≡ (Int (pos (min (length (entries_of (run_at runs n))) most)) ∷ []) ∷ []
+tells_count old new runs n rows has h =
+    let params : Row = Int (pos n) ∷ [] in
+    let reads = reads_as count_text params old new schema_1 has.tables.schema _ count_is.0 count_is.2 count_is.1 rows h in
+    let is = counted old.now.trees params rows reads.answer in
+    let from = of_entries old.now.trees runs has.tables.entries_are (passes params) (λ r. no_row) (same_passes params) (λ r. refl) in
+    let of_one = of_run (λ r. passes params (back r)) (λ (e : Entry). true) n runs (each n) has.tables.valid.numbered in
+    let long : length (filter (passes params) (old.now.trees 3)) ≡ length (entries_of (run_at runs n)) =
+    sym (length-map _ (λ (r : Row). no_row)) ∙ length_permutation _ _ from ∙ length-map _ _ ∙ ap length of_one ∙ length-map _ (entry_row n) ∙ ap length (all_pass (entries_of (run_at runs n))) in
+    is ∙ ap (λ k. (Int (pos (min k most)) ∷ []) ∷ []) long
+
+module _ {S : Type 0} (g : Ghosts S) (old new : Held S) (runs : List Run) (has : StandsFor (state g old) runs) (earlier : HasCleanDisk (state g new) → HasCleanDisk (state g old)) where
+  pub asked_count : (n : ℕ) (rows : List Row) → HasCleanDisk (state g new) → Asked g count_text (Int (pos n) ∷ []) old new rows → rows ≡ (Int (pos (min (length (entries_of (run_at runs n))) most)) ∷ []) ∷ []
+  asked_count n rows clean it = tells_count (state g it.mid) (state g new) runs n rows (asked_mid g old new runs has earlier count_text count_is.2 (Int (pos n) ∷ []) rows clean it) it.shown
+
+pub only_number : (n : ℕ) (rows : List Row) (first : Row) (read : ℕ) → rows ≡ (Int (pos n) ∷ []) ∷ [] → slice_get rows 0 ≡ Some first
+    → ((z : ℤ) → 0 < length first → column first 0 ≡ Int z → ◌≡◌ {A = Result ℕ StoreFault} (Ok read) (Ok (unsigned_abs z))) → read ≡ n
+only_number n rows row read are first reads =
+    let e : Some (Int (pos n) ∷ []) ≡ Some row = sym (ap (λ l. slice_get l 0) are) ∙ first in
+    let same : row ≡ Int (pos n) ∷ [] = cc in
+    let got = reads (pos n) (subst (λ r. 0 < length r) (sym same) (omega arith)) (ap (λ r. column r 0) same) in
+    cc

@@ -1,0 +1,103 @@
+-- What the statements that make the tables do.
+use Rattle.std.proofs.Common.{◌≡◌, ℕ, pos, List, [], ◌∷◌, map, drop, codes, false, None, Ok, refl, sym, ap, subst, ◌∙◌, IsPermutation, arith}
+use Rattle.std.proofs.lemmas.List.Sorted.{IsPermutation-refl}
+use Rattle.sqlite.specs.declared.types.Value.TheVariants.{Int, Text}
+use Rattle.sqlite.specs.Order.{Row}
+use Rattle.sqlite.specs.Tree.{Trees}
+use Rattle.sqlite.specs.Table.{Table}
+use Rattle.sqlite.specs.Schema.{Schema}
+use Rattle.sqlite.specs.Compile.{table_defined_by}
+use Rattle.sqlite.specs.Command.TheVariants.{CreateTable, Insert}
+use Rattle.sqlite.specs.Source.TheVariants.{Values}
+use Rattle.sqlite.specs.Rowids.TheVariants.{Chosen}
+use Rattle.sqlite.specs.Edit.{edit_of}
+use Rattle.sqlite_rules.specs.Edit.{taken_by}
+use Rattle.sqlite_rules.specs.Action.{works}
+use Rattle.sqlite_schema.specs.declared.schema.Keys.TheVariants.{Enforced}
+use Rattle.sqlite.specs.Change.{created, next_tree, KeepsRows}
+use Rattle.sqlite.specs.Does.{Tally, lacks_sequence}
+use Rattle.sqlite.specs.Listing.{understood}
+use Rattle.sqlite.specs.Effect.{Database, IsDatabase, value_rows}
+use Rattle.sqlite.specs.State.{State, mode_of, Writes, Executes}
+use Rattle.sqlite.proofs.Callers.{IsPlain, command_of, statement_of, runs_as}
+use Rattle.sqlite_tied.specs.Compute.{everything}
+use Rattle.kt_store.specs.Tables.{no_schema, schema_1, meta, runs, entries, meta_1, create_meta, create_runs, create_entries, mark_text}
+use Rattle.kt_store.specs.Runs.{Tables}
+use Rattle.kt_store.proofs.SqlFacts.{mark_is, mark_terms}
+use Rattle.kt_store.proofs.InsertLemmas.{went, same_value, changed}
+use Rattle.kt_store.proofs.BeginLemmas.{cast_null, cast_int}
+
+abbrev pub schema_a : Schema
+schema_a = created no_schema meta
+
+abbrev pub schema_b : Schema
+schema_b = created schema_a runs
+
+abbrev pub IsCreate : Schema → List ℕ → Table → Type 0
+IsCreate schema sql table = (command_of (understood schema sql) ≡ CreateTable) × (statement_of sql (understood schema sql) ≡ sql) × IsPlain (understood schema sql) × (table_defined_by sql ≡ Ok table) × (lacks_sequence (created schema table) ≡ false)
+
+pub meta_create : IsCreate no_schema create_meta meta
+unfolding understood everything
+meta_create = (refl, refl, (refl, refl), refl, refl)
+
+pub runs_create : IsCreate schema_a create_runs runs
+unfolding understood everything
+runs_create = (refl, refl, (refl, refl), refl, refl)
+
+pub entries_create : IsCreate schema_b create_entries entries
+unfolding understood everything
+entries_create = (refl, refl, (refl, refl), refl, refl)
+
+pub record Makes (schema : Schema) (table : Table) (old new : State) : Type 0 where
+  pub schema_is : new.now.schema ≡ created schema table
+  pub empty : new.now.trees (next_tree schema) ≡ []
+  pub others : KeepsRows schema.tables old.now.trees new.now.trees
+
+pub makes : (schema : Schema) (sql : List ℕ) (table : Table) → IsCreate schema sql table → (old new : State) (count : ℕ) → old.now.schema ≡ schema → Executes sql [] old new (Ok count) → Makes schema table old new
+makes schema sql table is old new count has h =
+    let w = subst (λ t. Writes old new None CreateTable t [] count) is.1 (runs_as sql [] old new schema has CreateTable is.0 is.2 count h) in
+    let all = went w.changed in
+    let first = went all.1 in
+    let made = first.1 in
+    let both : Ok made.table ≡ Ok table = sym made.defined ∙ is.3 in
+    let same : made.table ≡ table = same_value both in
+    let schema_now : first.0.schema ≡ created schema table = made.is ∙ ap (λ s. created s made.table) has ∙ ap (created schema) same in
+    let plain : lacks_sequence first.0.schema ≡ false = ap lacks_sequence schema_now ∙ is.4 in
+    let now : new.now ≡ first.0 = ap (λ (p : Tally × Database). p.1) (same_value all.2) ∙ same_value (rw plain at first.2) in
+    record {
+      schema_is = ap (λ (d : Database). d.schema) now ∙ schema_now;
+      empty = ap (λ (d : Database). d.trees (next_tree schema)) now ∙ subst (λ s. first.0.trees (next_tree s) ≡ []) has made.empty;
+      others = subst (λ (d : Database). KeepsRows schema.tables old.now.trees d.trees) (sym now) (subst (λ s. KeepsRows s.tables old.now.trees first.0.trees) has made.others);
+    }
+
+abbrev mark_command : Rattle.sqlite.specs.Command.Command
+mark_command = Insert 0 (Values mark_terms 3)
+
+abbrev mark_rows : List Row
+mark_rows = value_rows [] 3 1 mark_terms
+
+mark_works : (params : Row) (trees : Trees) → let edit = edit_of trees meta_1 [] Chosen 0 (value_rows params 3 1 mark_terms) in works schema_1 Enforced 0 edit.table.tree (taken_by trees edit) edit.news ≡ []
+mark_works params trees = refl
+
+-- the four statements, in turn
+pub made_all : (a b c d e : State) (i j k l : ℕ) → a.now.schema ≡ no_schema → Executes create_meta [] a b (Ok i) → Executes create_runs [] b c (Ok j) → Executes create_entries [] c d (Ok k) → Executes mark_text [] d e (Ok l)
+    → Tables e.now [] × IsDatabase e.now
+made_all a b c d e i j k l has one two three four =
+    let first = makes no_schema create_meta meta meta_create a b i has one in
+    let second = makes schema_a create_runs runs runs_create b c j first.schema_is two in
+    let third = makes schema_b create_entries entries entries_create c d k second.schema_is three in
+    let text = statement_of mark_text (understood schema_1 mark_text) in
+    let w : Writes d e None mark_command text [] l = runs_as mark_text [] d e schema_1 third.schema_is mark_command mark_is.0 mark_is.1 l four in
+    let did = changed schema_1 0 meta_1 mark_terms 3 refl refl refl mark_works d.step_limit (mode_of d) [] d.now e.now text w.tally refl third.schema_is w.changed in
+    let meta_empty : d.now.trees 0 ≡ [] = third.others.0 ∙ second.others.0 ∙ first.empty in
+    let runs_empty : d.now.trees 2 ≡ [] = third.others.1.0 ∙ second.empty in
+    let marked : e.now.trees 0 ≡ (Int (pos 1) ∷ Text (codes "schema") ∷ Int (pos 1) ∷ []) ∷ [] = did.applies.rows ∙ rw (meta_empty, cast_null, cast_int (pos 1)) refl in (
+      record {
+        schema = did.schema_is;
+        marked = ap (map (drop 1)) marked;
+        runs_are = did.applies.tables.1.0 (λ e. cc) ∙ runs_empty;
+        entries_are = subst (λ rows. IsPermutation {X = Row} [] (map (drop 1) rows)) (sym (did.applies.tables.1.1.0 (λ e. cc) ∙ third.empty)) (IsPermutation-refl []);
+        valid = record { numbered = tt; each = tt; few = omega arith };
+      },
+      w.sound,
+    )

@@ -1,0 +1,103 @@
+-- The number of the schema, as its query tells.
+use Rattle.std.proofs.Common.{◌≡◌, ◌≢◌, ℤ, pos, List, [], ◌∷◌, map, filter, drop, codes, Bool, true, Some, None, slice_get, refl, sym, ap, subst, ◌∙◌, IsPermutation}
+use Rattle.std.specs.List.{list_all}
+use Rattle.sqlite.specs.declared.types.Value.TheVariants.{Int, Text}
+use Rattle.sqlite.specs.declared.types.Value.{Value}
+use Rattle.sqlite.specs.Effect.{Database}
+use Rattle.sqlite.specs.Schema.{Schema}
+use Rattle.sqlite.specs.Order.{Row}
+use Rattle.sqlite_value.specs.Order.{column, value_cmp}
+use Rattle.sqlite.specs.Term.{Term, lit, col, holds}
+use Rattle.sqlite.specs.Ops.{binary}
+use Rattle.sqlite.specs.Store.{Ghosts}
+use Rattle.sqlite.specs.Held.{Held, state}
+use Rattle.sqlite.specs.State.{State, Shown, HasCleanDisk, IsUnchanged}
+use Rattle.sqlite.proofs.Callers.{reads_as, one_permutation}
+use Rattle.kt_base.specs.declared.run.Run.{Run}
+use Rattle.kt_store.specs.Tables.{meta_text, schema_1}
+use Rattle.kt_store.specs.Stands.{StandsFor, SaysSchema, IsEmpty}
+use Rattle.kt_store.specs.Ask.{Asked}
+use Rattle.kt_store.proofs.StepLemmas.{same_store}
+use Rattle.kt_store.proofs.SqlFacts.{meta_select_is, is}
+use Rattle.kt_store.proofs.QueryLemmas.{answered}
+
+abbrev tests : List Term
+tests = is (col 1 1) (lit (Text (codes "schema"))) ∷ []
+
+abbrev passes : Row → Bool
+passes r = list_all (holds ([] ∷ r ∷ [])) tests
+
+abbrev shows : Row → Row
+shows r = column r 2 ∷ []
+
+passes_it : (n : ℤ) (x : Value) → passes (x ∷ Text (codes "schema") ∷ Int n ∷ []) ≡ true
+unfolding binary value_cmp lib.Ieee.is_nan lib.Ieee.lt
+passes_it n x = refl
+
+one_shown : (n : ℤ) (rows : List Row) → map (drop 1) rows ≡ (Text (codes "schema") ∷ Int n ∷ []) ∷ [] → map shows (filter passes rows) ≡ (Int n ∷ []) ∷ []
+one_shown n [] h = absurd cc
+one_shown n ([] ∷ rows) h = absurd cc
+one_shown n ((x ∷ r) ∷ []) h =
+    let same : r ≡ Text (codes "schema") ∷ Int n ∷ [] = cc in
+    subst (λ l. map shows (filter passes ((x ∷ l) ∷ [])) ≡ (Int n ∷ []) ∷ []) (sym same) (rw (passes_it n x) refl)
+one_shown n ((x ∷ r) ∷ s ∷ rows) h = absurd cc
+
+pub tells_meta : (old new : State) (n : ℤ) (rows : List Row) → old.now.schema ≡ schema_1 → map (drop 1) (old.now.trees 0) ≡ (Text (codes "schema") ∷ Int n ∷ []) ∷ [] → Shown meta_text [] old new rows → rows ≡ (Int n ∷ []) ∷ []
+tells_meta old new n rows schema marked h =
+    let reads = reads_as meta_text [] old new schema_1 schema _ meta_select_is.0 meta_select_is.2 meta_select_is.1 rows h in
+    let all = answered 0 tests (col 1 2 ∷ []) [] old.now.trees [] rows reads.answer in
+    one_permutation (Int n ∷ []) rows (subst (λ l. IsPermutation l rows) (one_shown n (old.now.trees 0) marked) all)
+
+module _ {S : Type 0} (g : Ghosts S) (old new : Held S) (earlier : HasCleanDisk (state g new) → HasCleanDisk (state g old)) where
+  pub asked_meta : (n : ℤ) (rows : List Row) → SaysSchema n (state g old) → HasCleanDisk (state g new) → Asked g meta_text [] old new rows → rows ≡ (Int n ∷ []) ∷ []
+  asked_meta n rows says clean it =
+      let same = it.same.0.now_is in
+      let has = says (earlier clean) it.same.0.was_open in
+      tells_meta (state g it.mid) (state g new) n rows (ap (λ (db : Database). db.schema) same ∙ has.0) (ap (λ (db : Database). map (drop 1) (db.trees 0)) same ∙ has.1) it.shown
+
+pub says_one : (s : State) (runs : List Run) → StandsFor s runs → SaysSchema (pos 1) s
+says_one s runs has clean opened = ((has clean opened).tables.schema, (has clean opened).tables.marked)
+
+-- what was read is the number
+pub read_it : (n m : ℤ) (rows : List Row) (first : Row) → rows ≡ (Int n ∷ []) ∷ [] → slice_get rows 0 ≡ Some first → column first 0 ≡ Int m → m ≡ n
+read_it n m rows row are first read =
+    let e : Some (Int n ∷ []) ≡ Some row = sym (ap (λ l. slice_get l 0) are) ∙ first in
+    let same : row ≡ Int n ∷ [] = cc in
+    let got : Int n ≡ Int m = sym (ap (λ r. column r 0) same) ∙ read in
+    cc
+
+pub some_row : (n : ℤ) (rows : List Row) → rows ≡ (Int n ∷ []) ∷ [] → slice_get rows 0 ≢ None
+some_row n rows are none = let e : Some (Int n ∷ []) ≡ None = sym (ap (λ l. slice_get l 0) are) ∙ none in cc
+
+-- what was so before the connection was found open
+module _ (old mid : State) (earlier : HasCleanDisk mid → HasCleanDisk old) (same : HasCleanDisk mid → IsUnchanged old mid) where
+  pub still_says : (n : ℤ) → SaysSchema n old → SaysSchema n mid
+  still_says n says clean opened =
+      let it = same clean in
+      let has = says (earlier clean) it.0.was_open in
+      (ap (λ (db : Database). db.schema) it.0.now_is ∙ has.0, ap (λ (db : Database). map (drop 1) (db.trees 0)) it.0.now_is ∙ has.1)
+
+  pub still_empty : IsEmpty old → IsEmpty mid
+  still_empty empty clean opened =
+      let it = same clean in
+      let has = empty (earlier clean) it.0.was_open in
+      record {
+        autocommit = it.0.mode ∙ has.autocommit;
+        settled = it.0.committed_is ∙ has.settled ∙ sym it.0.now_is;
+        blank = ap (λ (db : Database). db.schema) it.0.now_is ∙ has.blank;
+      }
+
+  pub still_stands : (runs : List Run) → StandsFor old runs → StandsFor mid runs
+  still_stands runs has clean opened = same_store old mid runs (has (earlier clean) (same clean).0.was_open) (same clean)
+
+  pub says_filled : (n : ℤ) → SaysSchema n old → HasCleanDisk mid → mid.now.schema.tables ≢ []
+  says_filled n says clean none =
+      let it = same clean in
+      let has = says (earlier clean) it.0.was_open in
+      let e : schema_1.tables ≡ [] = sym (ap (λ (db : Database). db.schema.tables) it.0.now_is ∙ ap (λ (s : Schema). s.tables) has.0) ∙ none in
+      cc
+
+  pub empty_blank : IsEmpty old → HasCleanDisk mid → mid.now.schema.tables ≡ []
+  empty_blank empty clean =
+      let it = same clean in
+      ap (λ (db : Database). db.schema.tables) it.0.now_is ∙ ap (λ (s : Schema). s.tables) (empty (earlier clean) it.0.was_open).blank

@@ -1,0 +1,76 @@
+-- What a query of one table answers.
+use Rattle.std.proofs.Common.{◌≡◌, ℕ, pos, negsuc, ◌^◌, nat_le, List, [], ◌∷◌, ◌++◌, map, filter, Bool, true, false, cond, None, refl, sym, ap, subst, ◌∙◌, IsPermutation, Less, unwrap_or}
+use Rattle.std.specs.List.{list_all, flat_map}
+use Rattle.std.proofs.lemmas.List.Sorted.{IsPermutation-map, IsPermutation-trans}
+use Rattle.sqlite.specs.declared.types.Value.TheVariants.{Null, Int}
+use Rattle.sqlite.specs.Order.{Row}
+use Rattle.sqlite.specs.Tree.{Trees}
+use Rattle.sqlite_trees.specs.Tree.{IsAscending}
+use Rattle.sqlite.specs.Term.{Term, lit, eval_all, holds}
+use Rattle.sqlite_value.specs.declared.keys.Key.{Key}
+use Rattle.sqlite.specs.Query.{Query, inner, end, matches_as, IsAnswerAs, IsSureAnswer, Output, output, output_cmp}
+use Rattle.sqlite.specs.Program.{overlay}
+use Rattle.sqlite_sql.proofs.QueryLemmas.{output_cmp_total}
+use Rattle.sqlite_keyed.proofs.SortLemmas.{sorted_unique}
+use Rattle.sqlite_keyed.proofs.ListLemmas.{map-map, ascending-map}
+
+abbrev pub selects : ℕ → List Term → List Term → List (Term × Key) → Query
+selects t tests project order = record { from = inner t end; filter = tests; group = None; project = project; distinct = false; collations = []; order = order; limit = lit (Int (negsuc 0)); offset = lit (Int (pos 0)) }
+
+pub overlay_none : (db : Trees) (t : ℕ) → overlay db [] t ≡ db t
+overlay_none db t = go (nat_le (2 ^ 31) t)
+  where
+    go : (b : Bool) → unwrap_or (cond b None None) (db t) ≡ db t
+    go true = refl
+    go false = refl
+
+module _ (t : ℕ) (tests project : List Term) (order : List (Term × Key)) (db : Trees) (params : Row) where
+  abbrev pub passes : Row → Bool
+  passes r = list_all (holds (params ∷ r ∷ [])) tests
+
+  abbrev pub picked : List Row
+  picked = filter passes (db t)
+
+  abbrev pub show : Row → Row
+  show r = eval_all project (params ∷ r ∷ [])
+
+  abbrev pub q : Query
+  q = selects t tests project order
+
+  pub found : (rows : List Row) → flat_map (λ r. matches_as Null (overlay db []) tests end (params ∷ r ∷ [])) rows ≡ map (λ r. params ∷ r ∷ []) (filter passes rows)
+  found [] = refl
+  found (r ∷ rows) = go (passes r) (found rows)
+    where
+      go : (b : Bool) → flat_map (λ x. matches_as Null (overlay db []) tests end (params ∷ x ∷ [])) rows ≡ map (λ x. params ∷ x ∷ []) (filter passes rows)
+          → cond b ((params ∷ r ∷ []) ∷ []) [] ++ flat_map (λ x. matches_as Null (overlay db []) tests end (params ∷ x ∷ [])) rows ≡ map (λ x. params ∷ x ∷ []) (cond b (r ∷ filter passes rows) (filter passes rows))
+      go true more = ap (λ l. (params ∷ r ∷ []) ∷ l) more
+      go false more = more
+
+  abbrev pub outputs : List Row → List Output
+  outputs rows = map (λ r. output q (params ∷ r ∷ [])) rows
+
+  module _ (rows : List Row) (sure : IsSureAnswer q (overlay db []) params rows) where
+    abbrev a : IsAnswerAs Null q (overlay db []) params rows
+    a = sure Null
+
+    kept : a.kept ≡ outputs picked
+    kept = a.distinct ∙ ap (map (output q)) (a.grouped ∙ ap (flat_map (λ r. matches_as Null (overlay db []) tests end (params ∷ r ∷ []))) (overlay_none db t) ∙ found (db t)) ∙ map-map _ _ picked
+
+    -- the rows that pass, in some order
+    pub answered : IsPermutation (map show picked) rows
+    answered = subst (λ l. IsPermutation l rows) (map-map (λ (o : Output). o.1) (λ r. output q (params ∷ r ∷ [])) picked)
+        (subst (λ l. IsPermutation (map (λ (o : Output). o.1) (outputs picked)) l) (sym a.shown) (IsPermutation-map (λ (o : Output). o.1) (outputs picked) a.ordered (subst (λ k. IsPermutation k a.ordered) kept a.same)))
+
+    -- and in this order, where ORDER BY has no ties
+    pub answered_in_order : IsAscending (λ x y. output_cmp q (output q (params ∷ x ∷ [])) (output q (params ∷ y ∷ [])) ≡ Less) picked → rows ≡ map show picked
+    answered_in_order rises =
+        let ordered : a.ordered ≡ outputs picked = sorted_unique (output_cmp q) (output_cmp_total q) (outputs picked) a.ordered (ascending-map (λ x y. output_cmp q x y ≡ Less) (λ r. output q (params ∷ r ∷ [])) picked rises)
+        (subst (λ k. IsPermutation k a.ordered) kept a.same) a.sorted in
+        a.shown ∙ ap (map (λ (o : Output). o.1)) ordered ∙ map-map (λ (o : Output). o.1) (λ r. output q (params ∷ r ∷ [])) picked
+
+    -- the rows in an order without ties, wherever it is from
+    pub answered_sorted : (outs : List Output) → IsPermutation outs (outputs picked) → IsAscending (λ x y. output_cmp q x y ≡ Less) outs → rows ≡ map (λ (o : Output). o.1) outs
+    answered_sorted outs same rises =
+        let ordered : a.ordered ≡ outs = sorted_unique (output_cmp q) (output_cmp_total q) outs a.ordered rises
+        (IsPermutation-trans _ _ _ same (subst (λ k. IsPermutation k a.ordered) kept a.same)) a.sorted in
+        a.shown ∙ ap (map (λ (o : Output). o.1)) ordered

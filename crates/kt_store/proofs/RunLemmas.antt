@@ -1,0 +1,79 @@
+-- What the query for one run answers.
+use Rattle.std.proofs.Common.{Bool, true, false, nat_lt, ◌≡◌, ℕ, pos, List, [], ◌∷◌, length, map, filter, slice_get, Some, None, Option, Ok, Result, option_map, ap₂, arith, arith, refl, sym, ap, subst, ◌∙◌, IsPermutation}
+use Rattle.std.proofs.lemmas.List.Sorted.{length_permutation}
+use Rattle.std.specs.List.{list_all}
+use Rattle.std.specs.Option.{option_to_list}
+use Rattle.sqlite.specs.declared.types.Value.TheVariants.{Int}
+use Rattle.sqlite.specs.Order.{Row}
+use Rattle.sqlite.specs.Tree.{Trees}
+use Rattle.sqlite.specs.Term.{col, holds}
+use Rattle.sqlite.specs.Store.{Ghosts}
+use Rattle.sqlite.specs.Held.{Held, state}
+use Rattle.sqlite.specs.State.{State, Shown, HasCleanDisk}
+use Rattle.sqlite.proofs.Callers.{reads_as, one_permutation}
+use Rattle.std.specs.Prelude.{unsigned_abs}
+use Rattle.kt_store.specs.declared.store_fault.StoreFault.{StoreFault}
+use Rattle.kt_base.specs.declared.run.Run.{Run}
+use Rattle.kt_store.specs.Tables.{run_text, schema_1}
+use Rattle.kt_store.specs.Runs.{run_row, run_at, flag}
+use Rattle.kt_store.specs.Stands.{IsStore, StandsFor}
+use Rattle.kt_store.specs.Ask.{Asked}
+use Rattle.kt_store.proofs.SqlFacts.{run_is, is}
+use Rattle.kt_store.proofs.QueryLemmas.{answered, show, picked}
+use Rattle.kt_store.proofs.FindLemmas.{picked_run}
+use Rattle.kt_store.proofs.AskLemmas.{asked_mid}
+
+abbrev pub head_row : Run → Row
+head_row r = Int (pos r.total) ∷ Int (flag r.finished) ∷ []
+
+none_left : (rows : List Row) → length rows ≡ 0 → rows ≡ []
+none_left [] h = refl
+none_left (r ∷ rows) h = absurd (omega (arith, h))
+
+at_most_one : (o : Option Run) (rows : List Row) → IsPermutation (map head_row (option_to_list o)) rows → rows ≡ map head_row (option_to_list o)
+at_most_one None rows h = none_left rows (length_permutation [] rows h)
+at_most_one (Some r) rows h = one_permutation (head_row r) rows h
+
+shown_rows : (trees : Trees) (n : ℕ) (o : Option Run) (rows : List Row)
+    → IsPermutation (map (show 2 (is (col 1 0) (col 0 0) ∷ []) (col 1 3 ∷ col 1 4 ∷ []) [] trees (Int (pos n) ∷ [])) (map run_row (option_to_list o))) rows → IsPermutation (map head_row (option_to_list o)) rows
+shown_rows trees n None rows h = h
+shown_rows trees n (Some r) rows h = h
+
+pub tells_run : (old new : State) (runs : List Run) (n : ℕ) (rows : List Row) → IsStore old runs → Shown run_text (Int (pos n) ∷ []) old new rows → rows ≡ map head_row (option_to_list (run_at runs n))
+tells_run old new runs n rows has h =
+    let params = Int (pos n) ∷ [] in
+    let reads = reads_as run_text params old new schema_1 has.tables.schema _ run_is.0 run_is.2 run_is.1 rows h in
+    let tests = is (col 1 0) (col 0 0) ∷ [] in
+    let project = col 1 3 ∷ col 1 4 ∷ [] in
+    let all = answered 2 tests project [] old.now.trees params rows reads.answer in
+    let found : picked 2 tests project [] old.now.trees params ≡ map run_row (option_to_list (run_at runs n)) =
+    ap (filter (λ r. list_all (holds (params ∷ r ∷ [])) tests)) has.tables.runs_are ∙ picked_run n (col 0 0) params (λ r. refl) runs has.tables.valid.numbered in
+    at_most_one (run_at runs n) rows (shown_rows old.now.trees n (run_at runs n) rows (subst (λ l. IsPermutation (map (show 2 tests project [] old.now.trees params) l) rows) found all))
+
+module _ {S : Type 0} (g : Ghosts S) (old new : Held S) (runs : List Run) (has : StandsFor (state g old) runs) (earlier : HasCleanDisk (state g new) → HasCleanDisk (state g old)) where
+  pub asked_run : (n : ℕ) (rows : List Row) → HasCleanDisk (state g new) → Asked g run_text (Int (pos n) ∷ []) old new rows → rows ≡ map head_row (option_to_list (run_at runs n))
+  asked_run n rows clean it = tells_run (state g it.mid) (state g new) runs n rows (asked_mid g old new runs has earlier run_text run_is.2 (Int (pos n) ∷ []) rows clean it) it.shown
+
+abbrev pub head : Run → ℕ × ℕ
+head r = (r.total, unsigned_abs (flag r.finished))
+
+pub none_there : (o : Option Run) (rows : List Row) → rows ≡ map head_row (option_to_list o) → slice_get rows 0 ≡ None → None ≡ option_map head o
+none_there None rows are none = refl
+none_there (Some r) rows are none = absurd (let e : Some (head_row r) ≡ None = sym (ap (λ l. slice_get l 0) are) ∙ none in cc)
+
+pub some_there : (o : Option Run) (rows : List Row) (row : Row) → rows ≡ map head_row (option_to_list o) → slice_get rows 0 ≡ Some row → (r : Run) × (o ≡ Some r) × (row ≡ head_row r)
+some_there None rows row are some = absurd (let e : None ≡ Some row = sym (ap (λ l. slice_get l 0) are) ∙ some in cc)
+some_there (Some r) rows row are some = let e : Some (head_row r) ≡ Some row = sym (ap (λ l. slice_get l 0) are) ∙ some in let same : row ≡ head_row r = cc in (r, refl, same)
+
+pub both_read : (o : Option Run) (r : Run) (total finished : ℕ) → o ≡ Some r → ◌≡◌ {A = Result ℕ StoreFault} (Ok total) (Ok r.total) → ◌≡◌ {A = Result ℕ StoreFault} (Ok finished) (Ok (unsigned_abs (flag r.finished))) → Some (total, finished) ≡ option_map head o
+both_read o r total finished is a b = let x : total ≡ r.total = cc in let y : finished ≡ unsigned_abs (flag r.finished) = cc in ap₂ (λ p q. Some (p, q)) x y ∙ ap (option_map head) (sym is)
+
+pub set : (b : Bool) → nat_lt 0 (unsigned_abs (flag b)) ≡ b
+set true = refl
+set false = refl
+
+pub one_found : (o : Option Run) (total finished : ℕ) → Some (total, finished) ≡ option_map head o → (r : Run) × (o ≡ Some r) × (total ≡ r.total) × (nat_lt 0 finished ≡ r.finished)
+one_found None total finished h = absurd cc
+one_found (Some r) total finished h =
+    let both : (total, finished) ≡ head r = cc in
+    (r, refl, ap (λ (p : ℕ × ℕ). p.0) both, ap (λ (p : ℕ × ℕ). nat_lt 0 p.1) both ∙ set r.finished)

@@ -1,0 +1,127 @@
+-- What the texts mean.
+use Rattle.std.proofs.Common.{◌≡◌, ℕ, pos, negsuc, List, [], ◌∷◌, codes, false, Some, None, Ok, refl}
+use Rattle.sqlite.specs.declared.types.Value.TheVariants.{Null, Int, Text}
+use Rattle.sqlite.specs.Compile.{table_defined_by}
+use Rattle.sqlite.specs.Collation.TheVariants.{Binary}
+use Rattle.sqlite.specs.Term.{Term, lit, col, op2}
+use Rattle.sqlite.specs.Query.{Query, inner, end}
+use Rattle.sqlite_sql.specs.declared.aggregate.AggregateOp.TheVariants.{CountRows}
+use Rattle.sqlite_value.specs.Keys.{ascending}
+use Rattle.sqlite.specs.Source.TheVariants.{Values}
+use Rattle.sqlite.specs.Command.{Command}
+use Rattle.sqlite.specs.Command.TheVariants.{Insert, Select, Update}
+use Rattle.sqlite.specs.Change.{created}
+use Rattle.sqlite.specs.Listing.{understood, reads_listing}
+use Rattle.sqlite.proofs.Callers.{IsPlain, command_of}
+use Rattle.sqlite_sql.specs.declared.ops.BinaryOp.TheVariants.{Compare}
+use Rattle.sqlite_sql.specs.declared.ops.CompareOp.TheVariants.{Eq}
+use Rattle.sqlite_tied.specs.Compute.{everything}
+use Rattle.kt_store.specs.Tables.{create_meta, create_runs, create_entries, meta, runs, entries, no_schema, schema_1, full_text, begin_text, run_text, count_text, finish_text, runs_text, there_text, put_text, entries_text, meta_text, mark_text}
+
+pub meta_is : table_defined_by create_meta ≡ Ok meta
+unfolding everything
+meta_is = refl
+
+pub runs_is : table_defined_by create_runs ≡ Ok runs
+unfolding everything
+runs_is = refl
+
+pub entries_is : table_defined_by create_entries ≡ Ok entries
+unfolding everything
+entries_is = refl
+
+schema_is : created (created (created no_schema meta) runs) entries ≡ schema_1
+schema_is = refl
+
+abbrev pub query : Query
+query = record { from = end; filter = []; group = None; project = []; distinct = false; collations = []; order = []; limit = lit (Int (negsuc 0)); offset = lit (Int (pos 0)) }
+
+abbrev pub select : Query → List (List ℕ) → Command
+select q names = Select (record { lets = []; body = q }) names
+
+abbrev pub is : Term → Term → Term
+is a b = op2 (Compare Eq Binary) a b
+
+abbrev pub full_query : Query
+full_query = record query { from = inner 2 end; filter = is (col 1 0) (lit (Int (pos 1000000))) ∷ []; project = col 1 0 ∷ [] }
+
+pub full_is : (command_of (understood schema_1 full_text) ≡ select full_query (codes "id" ∷ [])) × (reads_listing schema_1 full_text ≡ false) × IsPlain (understood schema_1 full_text)
+unfolding understood everything
+full_is = (refl, refl, (refl, refl))
+
+abbrev pub begin_terms : List Term
+begin_terms = lit Null ∷ lit Null ∷ col 0 0 ∷ col 0 1 ∷ lit (Int (pos 0)) ∷ []
+
+pub begin_is : (command_of (understood schema_1 begin_text) ≡ Insert 1 (Values begin_terms 5)) × IsPlain (understood schema_1 begin_text)
+unfolding understood everything
+begin_is = (refl, (refl, refl))
+
+abbrev pub run_query : Query
+run_query = record query { from = inner 2 end; filter = is (col 1 0) (col 0 0) ∷ []; project = col 1 3 ∷ col 1 4 ∷ [] }
+
+pub run_is : (command_of (understood schema_1 run_text) ≡ select run_query (codes "total" ∷ codes "finished" ∷ [])) × (reads_listing schema_1 run_text ≡ false) × IsPlain (understood schema_1 run_text)
+unfolding understood everything
+run_is = (refl, refl, (refl, refl))
+
+abbrev pub count_query : Query
+count_query = record query { from = inner 3 end; filter = is (col 1 1) (col 0 0) ∷ []; group = Some (record { keys = []; collations = []; aggregates = record { op = CountRows; distinct = false; collation = Binary; argument = lit Null } ∷ []; having = [] }); project = col 1 0 ∷ [] }
+
+pub count_is : (command_of (understood schema_1 count_text) ≡ select count_query (codes "count(*)" ∷ [])) × (reads_listing schema_1 count_text ≡ false) × IsPlain (understood schema_1 count_text)
+unfolding understood everything
+count_is = (refl, refl, (refl, refl))
+
+abbrev pub finish_query : Query
+finish_query = record query { from = inner 2 end; filter = is (col 1 0) (col 0 0) ∷ []; project = col 1 0 ∷ col 1 0 ∷ lit Null ∷ col 1 2 ∷ col 1 3 ∷ lit (Int (pos 1)) ∷ [] }
+
+pub finish_is : (command_of (understood schema_1 finish_text) ≡ Update 1 (record { lets = []; body = finish_query })) × IsPlain (understood schema_1 finish_text)
+unfolding understood everything
+finish_is = (refl, (refl, refl))
+
+abbrev pub runs_query : Query
+runs_query = record query { from = inner 2 end; project = col 1 0 ∷ col 1 2 ∷ col 1 3 ∷ col 1 4 ∷ []; order = (col 1 0, ascending Binary) ∷ [] }
+
+pub runs_select_is : (command_of (understood schema_1 runs_text) ≡ select runs_query (codes "id" ∷ codes "started" ∷ codes "total" ∷ codes "finished" ∷ [])) × (reads_listing schema_1 runs_text ≡ false) × IsPlain (understood schema_1 runs_text)
+unfolding understood everything
+runs_select_is = (refl, refl, (refl, refl))
+
+abbrev pub there_query : Query
+there_query = record query { from = inner 3 end; filter = is (col 1 1) (col 0 0) ∷ is (col 1 2) (col 0 1) ∷ []; project = col 1 2 ∷ [] }
+
+pub there_is : (command_of (understood schema_1 there_text) ≡ select there_query (codes "position" ∷ [])) × (reads_listing schema_1 there_text ≡ false) × IsPlain (understood schema_1 there_text)
+unfolding understood everything
+there_is = (refl, refl, (refl, refl))
+
+abbrev pub put_terms : List Term
+put_terms = lit Null ∷ col 0 0 ∷ col 0 1 ∷ col 0 2 ∷ col 0 3 ∷ col 0 4 ∷ col 0 5 ∷ col 0 6 ∷ col 0 7 ∷ col 0 8 ∷ col 0 9 ∷ col 0 10 ∷ col 0 11 ∷ []
+
+pub put_is : (command_of (understood schema_1 put_text) ≡ Insert 2 (Values put_terms 13)) × IsPlain (understood schema_1 put_text)
+unfolding understood everything
+put_is = (refl, (refl, refl))
+
+abbrev pub entries_query : Query
+entries_query = record query {
+  from = inner 3 end;
+  filter = is (col 1 1) (col 0 0) ∷ [];
+  project = col 1 2 ∷ col 1 3 ∷ col 1 4 ∷ col 1 5 ∷ col 1 6 ∷ col 1 7 ∷ col 1 8 ∷ col 1 9 ∷ col 1 10 ∷ col 1 11 ∷ col 1 12 ∷ [];
+  order = (col 1 2, ascending Binary) ∷ [];
+}
+
+pub entries_select_is : (command_of (understood schema_1 entries_text)
+    ≡ select entries_query (codes "position" ∷ codes "program" ∷ codes "case_name" ∷ codes "kind" ∷ codes "reason" ∷ codes "started" ∷ codes "millis" ∷ codes "body_out" ∷ codes "body_err" ∷ codes "clean_out" ∷ codes "clean_err" ∷ []))
+    × (reads_listing schema_1 entries_text ≡ false) × IsPlain (understood schema_1 entries_text)
+unfolding understood everything
+entries_select_is = (refl, refl, (refl, refl))
+
+abbrev pub meta_query : Query
+meta_query = record query { from = inner 0 end; filter = is (col 1 1) (lit (Text (codes "schema"))) ∷ []; project = col 1 2 ∷ [] }
+
+pub meta_select_is : (command_of (understood schema_1 meta_text) ≡ select meta_query (codes "value" ∷ [])) × (reads_listing schema_1 meta_text ≡ false) × IsPlain (understood schema_1 meta_text)
+unfolding understood everything
+meta_select_is = (refl, refl, (refl, refl))
+
+abbrev pub mark_terms : List Term
+mark_terms = lit Null ∷ lit (Text (codes "schema")) ∷ lit (Int (pos 1)) ∷ []
+
+pub mark_is : (command_of (understood schema_1 mark_text) ≡ Insert 0 (Values mark_terms 3)) × IsPlain (understood schema_1 mark_text)
+unfolding understood everything
+mark_is = (refl, (refl, refl))

@@ -1,0 +1,84 @@
+-- What a statement leaves of a connection that stands for runs.
+use Rattle.std.proofs.Common.{◌≡◌, inl, inr, ℕ, List, false, IsTrue, Some, None, Option, Err, sym, ap, subst, subst₂, ◌∙◌, append-nil}
+use Rattle.sqlite.specs.Order.{Row}
+use Rattle.sqlite.specs.Tree.{Trees}
+use Rattle.sqlite.specs.Schema.{Schema}
+use Rattle.sqlite.specs.Command.{Command}
+use Rattle.sqlite.specs.declared.error.Error.{Error}
+use Rattle.sqlite.specs.Listing.{understood}
+use Rattle.std.proofs.lemmas.Bool.{cases_Bool}
+use Rattle.sqlite_resolve.specs.declared.compiled.Compiled.{Compiled}
+use Rattle.sqlite_schema.specs.declared.command.Returning.{Returning}
+use Rattle.sqlite.specs.State.{State, HasCleanDisk, IsUnchanged, IsRolledBack, IsNotRun, Executes, ExecutesIn, RunsCommand, shows_rows, FailsToQuery, FailsToShow, CommitsBy, MayCommit}
+use Rattle.sqlite.proofs.Callers.{IsPlain, command_of, statement_of, unchanged_then}
+use Rattle.kt_base.specs.declared.run.Run.{Run}
+use Rattle.kt_store.specs.Runs.{Tables}
+use Rattle.kt_store.specs.Ask.{Rests}
+use Rattle.kt_store.specs.Stands.{IsStore, StandsFor}
+
+-- whatever a refused statement is, the connection is as it was or is rolled back
+pub not_run : (old new : State) (sql : List ℕ) (params : Row) (e : Error) → IsNotRun old new sql params e → Rests old new
+unfolding IsNotRun
+not_run old new sql params e (inl h) = inl h.1
+not_run old new sql params e (inr h) = inr h.3
+
+command_refused : (old new : State) (sql : List ℕ) (c : Compiled) (params : Row) (e : Error) → RunsCommand old new sql c params (Err e) → Rests old new
+command_refused old new sql c params e (inl h) = inl h.1
+command_refused old new sql c params e (inr h) = inr h.3
+
+pub refused : (old new : State) (sql : List ℕ) (params : Row) (e : Error) → Executes sql params old new (Err e) → Rests old new
+unfolding ExecutesIn
+refused old new sql params e (inl h) = not_run old new sql params e h
+refused old new sql params e (inr h) = elim (cases_Bool (shows_rows false h.0)) [
+  | inl shows ↦ inl (rw shows at h.2).1
+  | inr runs ↦ command_refused old new sql h.0 _ e (rw runs at h.2)
+]
+
+show_refused : (old new : State) (sql : List ℕ) (c : Compiled) (params : Row) (e : Error) (what : Option Returning) → FailsToShow old new sql c params e what → Rests old new
+show_refused old new sql c params e None h = inl h.3
+show_refused old new sql c params e (Some what) h = command_refused old new sql c params e h
+
+pub query_refused : (old new : State) (sql : List ℕ) (params : Row) (e : Error) → FailsToQuery sql params old new e → Rests old new
+unfolding FailsToQuery
+query_refused old new sql params e (inl h) = not_run old new sql params e h
+query_refused old new sql params e (inr h) = show_refused old new sql h.0 _ e h.0.returning h.2
+
+pub same_store : (old new : State) (runs : List Run) → IsStore old runs → IsUnchanged old new → IsStore new runs
+same_store old new runs has same = record {
+  autocommit = same.0.mode ∙ has.autocommit;
+  settled = same.0.committed_is ∙ has.settled ∙ sym same.0.now_is;
+  tables = subst (λ db. Tables db runs) (sym same.0.now_is) has.tables;
+}
+
+pub undone_store : (old new : State) (runs : List Run) → IsStore old runs → IsRolledBack old new → IsTrue new.is_open → IsStore new runs
+undone_store old new runs has undone opened = record {
+  autocommit = undone.autocommit;
+  settled = (undone.undone opened).1 ∙ sym (undone.undone opened).0;
+  tables = subst (λ db. Tables db runs) (sym ((undone.undone opened).0 ∙ has.settled)) has.tables;
+}
+
+-- so a refusal changes nothing
+pub rests : (old new : State) (runs : List Run) → StandsFor old runs → (HasCleanDisk new → HasCleanDisk old) → (HasCleanDisk new → Rests old new) → StandsFor new runs
+rests old new runs has earlier left clean opened = elim (left clean) [
+  | inl same ↦ same_store old new runs (has (earlier clean) same.0.was_open) same
+  | inr undone ↦ undone_store old new runs (has (earlier clean) (undone.was_open opened)) undone opened
+]
+
+module _ (sql : List ℕ) (params : Row) (old : State) (schema : Schema) (has : old.now.schema ≡ schema) (command : Command) (is : command_of (understood schema sql) ≡ command)
+    (plain : IsPlain (understood schema sql)) where
+  pub commits_as : (db : Trees) → CommitsBy sql params old db → MayCommit old None command (statement_of sql (understood schema sql)) params db
+  unfolding CommitsBy
+  commits_as db h =
+      let known = sym h.1.is ∙ ap (λ s. understood s sql) has in
+      let bare = subst IsPlain (sym known) plain in
+      subst₂ (λ k t. MayCommit old None k t params db) (ap command_of known ∙ is) (ap (statement_of sql) known) (rw (bare.0, bare.1, append-nil params) at h.2)
+
+pub rests_then : (a b c : State) → IsUnchanged a b → Rests b c → Rests a c
+rests_then a b c same (inl more) = inl (unchanged_then a b c same more)
+rests_then a b c same (inr undone) = inr (record {
+  was_open = λ opened. same.0.was_open;
+  undone = λ opened. ((undone.undone opened).0 ∙ same.0.committed_is, (undone.undone opened).1 ∙ same.0.committed_is);
+  autocommit = undone.autocommit;
+  unmarked = undone.unmarked;
+  counts = record { changes = undone.counts.changes ∙ same.1.changes; last_rowid = undone.counts.last_rowid ∙ same.1.last_rowid };
+})

@@ -1,0 +1,101 @@
+-- When a run takes an entry.
+use Rattle.std.proofs.Common.{◌≡◌, ◌==◌, ◌||◌, inl, inr, nat_lt, nat_le, ℕ, zero, suc, ◌+◌, ◌<◌, ◌≤◌, List, [], ◌∷◌, length, Bool, true, false, cond, Some, None, slice_get, refl, sym, ap, subst, ◌∙◌, arith}
+use Rattle.std.proofs.lemmas.Bool.{cases_Bool}
+use Rattle.std.proofs.lemmas.Bool.Decides.{nat_tests}
+use Rattle.std.specs.List.{AllByRecursion}
+use Rattle.sqlite_trees.specs.Tree.{IsAscending}
+use Rattle.kt_base.specs.declared.run.Run.{Run}
+use Rattle.kt_base.specs.declared.entry.Entry.{Entry}
+use Rattle.kt_store.specs.declared.store_fault.StoreFault.TheVariants.{RunClosed, BadPosition, RepeatedPosition}
+use Rattle.kt_store.specs.Runs.{AreRuns, put_refusal, put_refusal_of, entries_of, IsRun, IsEntry, insert_at, with_entry, has_position, run_at, AreNumbered}
+
+abbrev lower : Entry → Entry → Type 0
+lower a b = a.position < b.position
+
+all_insert : (P : Entry → Type 0) (e : Entry) (es : List Entry) → P e → AllByRecursion P es → AllByRecursion P (insert_at e es)
+all_insert P e [] h hs = (h, tt)
+all_insert P e (x ∷ es) h hs = go (nat_lt e.position x.position) (all_insert P e es h hs.1)
+  where
+    go : (b : Bool) → AllByRecursion P (insert_at e es) → AllByRecursion P (cond b (e ∷ x ∷ es) (x ∷ insert_at e es))
+    go true more = (h, (hs.0, hs.1))
+    go false more = (hs.0, more)
+
+all_lower : (a b : Entry) (es : List Entry) → lower a b → AllByRecursion (lower b) es → AllByRecursion (lower a) es
+all_lower a b [] h hs = tt
+all_lower a b (x ∷ es) h hs = (omega (arith, h, hs.0), all_lower a b es h hs.1)
+
+no_first : (a b : Bool) → (a || b) ≡ false → a ≡ false
+no_first true b h = h
+no_first false b h = refl
+
+no_rest : (a b : Bool) → (a || b) ≡ false → b ≡ false
+no_rest true b h = absurd (let e : true ≡ false = h in cc)
+no_rest false b h = h
+
+ascends : (e : Entry) (es : List Entry) → IsAscending lower es → has_position e.position es ≡ false → IsAscending lower (insert_at e es)
+ascends e [] h free = (tt, tt)
+ascends e (x ∷ es) h free = elim (cases_Bool (nat_lt e.position x.position)) [
+  | inl before ↦ let low : lower e x = grind (arith, nat_tests, before) in rw before ((low, all_lower e x es low h.0), (h.0, h.1))
+  | inr after ↦
+      let other : (x.position == e.position) ≡ false = no_first (x.position == e.position) (has_position e.position es) free in
+      let high : lower x e = grind (arith, nat_tests, after, other) in
+      rw after (all_insert (lower x) e es high h.0, ascends e es h.1 (no_rest (x.position == e.position) (has_position e.position es) free))
+]
+
+pub run_takes : (e : Entry) (r : Run) → IsEntry e → IsRun r → r.finished ≡ false → e.position < r.total → has_position e.position r.entries ≡ false → IsRun (record r { entries = insert_at e r.entries })
+run_takes e r sound is unclosed low free = record {
+  small = is.small;
+  ordered = ascends e r.entries is.ordered free;
+  below = all_insert (λ (x : Entry). x.position < r.total) e r.entries low is.below;
+  sound = all_insert IsEntry e r.entries sound is.sound;
+  whole = λ done. absurd (let e : true ≡ false = sym done ∙ unclosed in cc);
+}
+
+takes_from : (from k : ℕ) (e : Entry) (runs : List Run) (r : Run) → IsEntry e → AreNumbered from runs → AllByRecursion IsRun runs → slice_get runs k ≡ Some r → r.finished ≡ false → e.position < r.total
+    → has_position e.position r.entries ≡ false → (k < length runs) × AllByRecursion IsRun (with_entry (from + k) e runs)
+takes_from from k e [] r sound h valid there unclosed low free = absurd cc
+takes_from from zero e (x ∷ runs) r sound h valid there unclosed low free =
+    let same : x ≡ r = cc in
+    let number : (x.number == from + 0) ≡ true = grind (arith, nat_tests, h.0) in
+    (omega arith, rw number (subst (λ (y : Run). IsRun (record y { entries = insert_at e y.entries })) (sym same) (run_takes e r sound (subst IsRun same valid.0) unclosed low free), valid.1))
+takes_from from (suc k) e (x ∷ runs) r sound h valid there unclosed low free =
+    let place : suc from + k ≡ from + suc k = omega arith in
+    let apart : (x.number == from + suc k) ≡ false = grind (arith, nat_tests, h.0) in
+    let rest = takes_from (suc from) k e runs r sound h.1 valid.1 there unclosed low free in
+    (omega (arith, rest.0), rw apart (valid.0, subst (λ n. AllByRecursion IsRun (with_entry n e runs)) place rest.1))
+
+pub takes : (k : ℕ) (e : Entry) (runs : List Run) (r : Run) → IsEntry e → AreNumbered 1 runs → AllByRecursion IsRun runs → run_at runs (suc k) ≡ Some r → r.finished ≡ false → e.position < r.total
+    → has_position e.position r.entries ≡ false → (k < length runs) × AllByRecursion IsRun (with_entry (suc k) e runs)
+takes k e runs r sound h valid there unclosed low free =
+    let place : 1 + k ≡ suc k = omega arith in
+    subst (λ n. (k < length runs) × AllByRecursion IsRun (with_entry n e runs)) place (takes_from 1 k e runs r sound h valid there unclosed low free)
+
+module _ (runs : List Run) (run : ℕ) (e : Entry) (r : Run) (there : run_at runs run ≡ Some r) where
+  pub refused_closed : r.finished ≡ true → put_refusal runs run e ≡ Some RunClosed
+  refused_closed done = ap (λ o. put_refusal_of o e) there ∙ rw done refl
+
+  module _ (unclosed : r.finished ≡ false) where
+    pub refused_past : r.total ≤ e.position → put_refusal runs run e ≡ Some BadPosition
+    refused_past high =
+        let past : nat_le r.total e.position ≡ true = grind (arith, nat_tests, high) in
+        ap (λ o. put_refusal_of o e) there ∙ rw (unclosed, past) refl
+
+    module _ (low : e.position < r.total) where
+      under : nat_le r.total e.position ≡ false
+      under = grind (arith, nat_tests, low)
+
+      pub refused_repeated : has_position e.position (entries_of (run_at runs run)) ≡ true → put_refusal runs run e ≡ Some RepeatedPosition
+      refused_repeated here =
+          let is : has_position e.position r.entries ≡ true = ap (λ o. has_position e.position (entries_of o)) (sym there) ∙ here in
+          ap (λ o. put_refusal_of o e) there ∙ rw (unclosed, under, is) refl
+
+      pub taken : IsEntry e → AreRuns runs → has_position e.position (entries_of (run_at runs run)) ≡ false
+          → (put_refusal runs run e ≡ None) × (k : ℕ) × (run ≡ suc k) × (k < length runs) × AllByRecursion IsRun (with_entry run e runs)
+      taken sound valid free =
+          let is : has_position e.position r.entries ≡ false = ap (λ o. has_position e.position (entries_of o)) (sym there) ∙ free in
+          let f = fits run there valid is in
+          (ap (λ o. put_refusal_of o e) there ∙ rw (unclosed, under, is) refl, f.0, f.1, f.2, f.3)
+        where
+          fits : (run : ℕ) → run_at runs run ≡ Some r → AreRuns runs → has_position e.position r.entries ≡ false → (k : ℕ) × (run ≡ suc k) × (k < length runs) × AllByRecursion IsRun (with_entry run e runs)
+          fits zero there valid is = absurd cc
+          fits (suc k) there valid is = let both = takes k e runs r sound valid.numbered valid.each there unclosed low is in (k, refl, both.0, both.1)

@@ -1,0 +1,72 @@
+-- Whether a run has an entry at a position, as its query tells.
+use Rattle.std.proofs.Common.{◌≡◌, ◌==◌, ◌&&◌, ◌||◌, ℕ, pos, List, [], ◌∷◌, length, drop, filter, nat_lt, Bool, true, false, cond, refl, sym, ap, Some, ap₂, ◌∙◌, arith}
+use Rattle.std.proofs.lemmas.Bool.Decides.{nat_tests}
+use Rattle.std.proofs.lemmas.List.Sorted.{length_permutation}
+use Rattle.std.proofs.lemmas.List.{length-map}
+use Rattle.std.specs.List.{list_all}
+use Rattle.sqlite.specs.declared.types.Value.TheVariants.{Int}
+use Rattle.sqlite.specs.Order.{Row}
+use Rattle.sqlite.specs.Term.{Term, col, holds}
+use Rattle.sqlite.specs.Ops.{is_true, from_truth, binary}
+use Rattle.sqlite.specs.Store.{Ghosts}
+use Rattle.sqlite.specs.Held.{Held, state}
+use Rattle.sqlite.specs.State.{State, Shown, HasCleanDisk}
+use Rattle.sqlite.proofs.Callers.{reads_as}
+use Rattle.kt_base.specs.declared.run.Run.{Run}
+use Rattle.kt_base.specs.declared.entry.Entry.{Entry}
+use Rattle.kt_store.specs.Tables.{there_text, schema_1}
+use Rattle.kt_store.specs.Runs.{entry_row, entries_of, run_at, has_position}
+use Rattle.kt_store.specs.Stands.{IsStore, StandsFor}
+use Rattle.kt_store.specs.Ask.{Asked}
+use Rattle.kt_store.proofs.SqlFacts.{there_is, is}
+use Rattle.kt_store.proofs.QueryLemmas.{answered, show}
+use Rattle.kt_store.proofs.EntryLemmas.{back, of_entries, of_run, same_test, two_truths}
+use Rattle.kt_store.proofs.AskLemmas.{asked_mid}
+
+no_row : Row
+no_row = []
+
+abbrev there_params : ℕ → ℕ → Row
+there_params n p = Int (pos n) ∷ Int (pos p) ∷ []
+
+abbrev there_tests : List Term
+there_tests = is (col 1 1) (col 0 0) ∷ is (col 1 2) (col 0 1) ∷ []
+
+abbrev passes : Row → Row → Bool
+passes params r = list_all (holds (params ∷ r ∷ [])) there_tests
+
+same_passes : (params r : Row) → passes params r ≡ passes params (back (drop 1 r))
+same_passes params [] = refl
+same_passes params (x ∷ r) = refl
+
+each : (n p m : ℕ) (e : Entry) → passes (there_params n p) (back (entry_row m e)) ≡ (m == n) && (e.position == p)
+unfolding binary
+each n p m e =
+    ap₂ (λ a b. is_true (from_truth (Some a)) && (is_true (from_truth (Some b)) && true)) (same_test m n) (same_test e.position p) ∙ two_truths (m == n) (e.position == p)
+
+any_left : (p : ℕ) (es : List Entry) → nat_lt 0 (length (filter (λ (e : Entry). e.position == p) es)) ≡ has_position p es
+any_left p [] = refl
+any_left p (e ∷ es) = go (e.position == p) (any_left p es)
+  where
+    go : (b : Bool) → nat_lt 0 (length (filter (λ (e : Entry). e.position == p) es)) ≡ has_position p es
+        → nat_lt 0 (length (cond b (e ∷ filter (λ (e : Entry). e.position == p) es) (filter (λ (e : Entry). e.position == p) es))) ≡ (b || has_position p es)
+    go true more = grind (arith, nat_tests)
+    go false more = more
+
+pub tells_there : (old new : State) (runs : List Run) (n p : ℕ) (rows : List Row) → IsStore old runs → Shown there_text (there_params n p) old new rows → nat_lt 0 (length rows) ≡ has_position p (entries_of (run_at runs n))
+tells_there old new runs n p rows has h =
+    let params = there_params n p in
+    let project = col 1 2 ∷ [] in
+    let reads = reads_as there_text params old new schema_1 has.tables.schema _ there_is.0 there_is.2 there_is.1 rows h in
+    let all = answered 3 there_tests project [] old.now.trees params rows reads.answer in
+    let from = of_entries old.now.trees runs has.tables.entries_are (passes params) (λ r. no_row) (same_passes params) (λ r. refl) in
+    let counted = length_permutation _ _ from in
+    let of_one = of_run (λ r. passes params (back r)) (λ (e : Entry). e.position == p) n runs (each n p) has.tables.valid.numbered in
+    let rows_are : length rows ≡ length (filter (λ (e : Entry). e.position == p) (entries_of (run_at runs n))) =
+    length_permutation _ rows all ∙ length-map _ (show 3 there_tests project [] old.now.trees params) ∙ sym (length-map _ (λ (r : Row). no_row))
+    ∙ counted ∙ length-map _ _ ∙ ap length of_one ∙ length-map _ (entry_row n) in
+    ap (nat_lt 0) rows_are ∙ any_left p (entries_of (run_at runs n))
+
+module _ {S : Type 0} (g : Ghosts S) (old new : Held S) (runs : List Run) (has : StandsFor (state g old) runs) (earlier : HasCleanDisk (state g new) → HasCleanDisk (state g old)) where
+  pub asked_there : (n p : ℕ) (rows : List Row) → HasCleanDisk (state g new) → Asked g there_text (there_params n p) old new rows → nat_lt 0 (length rows) ≡ has_position p (entries_of (run_at runs n))
+  asked_there n p rows clean it = tells_there (state g it.mid) (state g new) runs n p rows (asked_mid g old new runs has earlier there_text there_is.2 (there_params n p) rows clean it) it.shown

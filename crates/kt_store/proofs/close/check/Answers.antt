@@ -1,0 +1,49 @@
+use Rattle.std.proofs.Common.{inr, ◌∙◌, sym, arith}
+use Rattle.sqlite.specs.Held.{state}
+use Rattle.sqlite.specs.State.{HasCleanDisk}
+use Rattle.sqlite.proofs.StateLemmas.{survives_then}
+use Rattle.kt_store.proofs.CloseLemmas.{closed_already, lacks_some, lacks_none}
+use Rattle.kt_store.proofs.close.check.Goals as goal
+
+pub returns-then-finished-clause-refused : goal.returns-then-finished-clause-refused
+returns-then-finished-clause-refused g c runs has clean =
+    let it = c.in_ok-total.ensures.found runs has clean in
+    inr (closed_already runs c.args.run it.0 it.1 (sym it.3 ∙ c.if-finished.true))
+
+pub returns-then-entries-total-clause-refused : goal.returns-then-entries-total-clause-refused
+returns-then-entries-total-clause-refused g c runs has clean =
+    let stands = c.look.ensures.stands runs has in
+    let early : HasCleanDisk (state g.S.Store c.look.new.conn) = omega (arith, clean, (c.count.ensures.crash runs stands).clean) in
+    let it = c.in_ok-total.ensures.found runs has early in
+    inr (lacks_some runs c.args.run it.0 it.1 (sym it.3 ∙ c.if-finished.false) it.4 c.in_ok-entries.entries (c.in_ok-entries.ensures.found runs stands clean) (omega (arith, c.if-entries-total.true, it.2)))
+
+pub returns-clause-taken : goal.returns-clause-taken
+returns-clause-taken g c runs has clean =
+    let stands = c.look.ensures.stands runs has in
+    let early : HasCleanDisk (state g.S.Store c.look.new.conn) = omega (arith, clean, (c.count.ensures.crash runs stands).clean) in
+    let it = c.in_ok-total.ensures.found runs has early in
+    lacks_none runs c.args.run it.0 it.1 (sym it.3 ∙ c.if-finished.false) it.4 c.in_ok-entries.entries (c.in_ok-entries.ensures.found runs stands clean) (omega (arith, c.if-entries-total.false, it.2))
+
+pub returns-in_err-entries-clause-stands : goal.returns-in_err-entries-clause-stands
+returns-in_err-entries-clause-stands g c runs has = c.count.ensures.stands runs (c.look.ensures.stands runs has)
+
+pub returns-in_err-entries-clause-crash : goal.returns-in_err-entries-clause-crash
+returns-in_err-entries-clause-crash g c runs has =
+    survives_then (state g.S.Store c.args.conn.now) (state g.S.Store c.look.new.conn) (state g.S.Store c.count.new.conn) (λ _. ⊥) (λ _. ⊥) (λ _. ⊥) (λ _ db none. none) (λ _ db none. none)
+    (c.look.ensures.crash runs has) (c.count.ensures.crash runs (c.look.ensures.stands runs has))
+
+pub returns-then-entries-total-clause-stands : goal.returns-then-entries-total-clause-stands
+returns-then-entries-total-clause-stands g c runs has = c.count.ensures.stands runs (c.look.ensures.stands runs has)
+
+pub returns-then-entries-total-clause-crash : goal.returns-then-entries-total-clause-crash
+returns-then-entries-total-clause-crash g c runs has =
+    survives_then (state g.S.Store c.args.conn.now) (state g.S.Store c.look.new.conn) (state g.S.Store c.count.new.conn) (λ _. ⊥) (λ _. ⊥) (λ _. ⊥) (λ _ db none. none) (λ _ db none. none)
+    (c.look.ensures.crash runs has) (c.count.ensures.crash runs (c.look.ensures.stands runs has))
+
+pub returns-clause-stands : goal.returns-clause-stands
+returns-clause-stands g c runs has = c.count.ensures.stands runs (c.look.ensures.stands runs has)
+
+pub returns-clause-crash : goal.returns-clause-crash
+returns-clause-crash g c runs has =
+    survives_then (state g.S.Store c.args.conn.now) (state g.S.Store c.look.new.conn) (state g.S.Store c.count.new.conn) (λ _. ⊥) (λ _. ⊥) (λ _. ⊥) (λ _ db none. none) (λ _ db none. none)
+    (c.look.ensures.crash runs has) (c.count.ensures.crash runs (c.look.ensures.stands runs has))

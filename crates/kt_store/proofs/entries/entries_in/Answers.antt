@@ -1,0 +1,20 @@
+use Rattle.std.proofs.Common.{rules, ◌≡◌, ◌∙◌, ◌<◌, ◌+◌, suc, [], ◌∷◌, ◌++◌, map, take, get_or, length, refl, sym, ap, subst, arith}
+use Rattle.std.proofs.lemmas.List.{length-map}
+use Rattle.kt_base.specs.declared.entry.Entry.{Entry}
+use Rattle.kt_store.specs.Heads.{entry_columns}
+use Rattle.kt_store.specs.Runs.{IsEntry}
+use Rattle.kt_store.proofs.EntriesLemmas.{all_taken, one_sound}
+use Rattle.kt_store.proofs.entries.entries_in.Goals as goal
+
+pub loop-row-preserved : goal.loop-row-preserved
+loop-row-preserved c es sound are =
+    let pushed : c.push.new.self.items ≡ c.loop-row.entries.items ++ c.in_ok-entry.entry ∷ [] = search rules in
+    let low : c.loop-row.row-index < length es = omega (arith, c.loop-row-test.true, ap length are, length-map es entry_columns) in
+    let it = one_sound IsEntry entry_columns (λ (e : Entry). e) es c.loop-row.row-index c.row-item.result sound low (subst (λ l. c.row-item.result ≡ get_or l c.loop-row.row-index c.row-item.result) are c.row-item.is) in
+    let entry : c.in_ok-entry.entry ≡ it.0 = c.in_ok-entry.ensures.entry it.0 it.1 it.2 in
+    let more : map (λ (e : Entry). e) (take (suc c.loop-row.row-index) es) ≡ c.loop-row.entries.items ++ c.in_ok-entry.entry ∷ [] = it.3 ∙ rw (entry, c.loop-row.invariant es sound are) refl in
+    let place : suc c.loop-row.row-index ≡ c.loop-row.row-index + 1 = omega arith in
+    pushed ∙ sym more ∙ ap (λ k. map (λ (e : Entry). e) (take k es)) place
+
+pub returns-clause-entries : goal.returns-clause-entries
+returns-clause-entries c es sound are = all_taken es c.loop-row.entries.items c.loop-row.row-index (c.loop-row.invariant es sound are) (omega (arith, c.loop-row-test.false, ap length are, length-map es entry_columns))

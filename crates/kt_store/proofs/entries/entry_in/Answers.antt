@@ -1,0 +1,20 @@
+use Rattle.std.proofs.Common.{◌≡◌, ◌∙◌, pos, refl, sym, ap}
+use Rattle.sqlite_value.specs.Order.{column}
+use Rattle.kt_store.specs.Runs.{kind_code}
+use Rattle.sqlite.specs.declared.types.Value.TheVariants.{Int}
+use Rattle.kt_store.proofs.entries.entry_in.Goals as goal
+
+pub returns-clause-entry : goal.returns-clause-entry
+returns-clause-entry c e sound is =
+    let position : c.in_ok-position.position ≡ e.position = let q : Int (pos c.in_ok-position.position) ≡ Int (pos e.position) = sym c.in_ok-position.ensures.number ∙ ap (λ l. column l 0) is in cc in
+    let program : c.in_ok-program.program ≡ e.program = c.in_ok-program.ensures.text e.program sound.program (ap (λ l. column l 1) is) in
+    let case_name : c.in_ok-case_name.case_name ≡ e.case_name = c.in_ok-case_name.ensures.text e.case_name sound.case_name (ap (λ l. column l 2) is) in
+    let code : c.in_ok-code.code ≡ kind_code e.verdict.kind = let q : Int (pos c.in_ok-code.code) ≡ Int (pos (kind_code e.verdict.kind)) = sym c.in_ok-code.ensures.number ∙ ap (λ l. column l 3) is in cc in
+    let kind : c.in_ok-kind.kind ≡ e.verdict.kind = c.in_ok-kind.ensures.kind e.verdict.kind code in
+    let reason : c.in_ok-reason.reason ≡ e.verdict.reason = c.in_ok-reason.ensures.text e.verdict.reason sound.reason (ap (λ l. column l 4) is) in
+    let verdict : c.verdict_of.result ≡ e.verdict = c.verdict_of.ensures (λ passed. reason ∙ sound.passed (sym kind ∙ passed)) ∙ rw (kind, reason) refl in
+    let started : c.in_ok-started.started ≡ e.started = let q : Int (pos c.in_ok-started.started) ≡ Int (pos e.started) = sym c.in_ok-started.ensures.number ∙ ap (λ l. column l 5) is in cc in
+    let millis : c.in_ok-millis.millis ≡ e.millis = let q : Int (pos c.in_ok-millis.millis) ≡ Int (pos e.millis) = sym c.in_ok-millis.ensures.number ∙ ap (λ l. column l 6) is in cc in
+    let body : c.in_ok-body.body ≡ e.body = c.in_ok-body.ensures.output e.body (ap (λ l. column l 7) is) (ap (λ l. column l 8) is) in
+    let cleanup : c.in_ok-cleanup.cleanup ≡ e.cleanup = c.in_ok-cleanup.ensures.output e.cleanup (ap (λ l. column l 9) is) (ap (λ l. column l 10) is) in
+    rw (position, program, case_name, verdict, started, millis, body, cleanup) refl

@@ -1,0 +1,7 @@
+use Rattle.std.proofs.Common.{◌≡◌, List, map, take}
+use Rattle.kt_base.specs.declared.run.Run.{Run}
+use Rattle.kt_store.specs.Heads.{head_columns, head_of}
+use Rattle.kt_store.proofs.heads.heads_in.Given as goal
+
+abbrev pub invariant-loop-row : goal.invariant-loop-row
+invariant-loop-row l = (runs : List Run) → l.rows ≡ map head_columns runs → l.heads.items ≡ map head_of (take l.row-index runs)

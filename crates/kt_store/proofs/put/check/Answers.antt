@@ -1,0 +1,54 @@
+use Rattle.std.proofs.Common.{inr, ◌∙◌, sym, arith}
+use Rattle.sqlite.specs.Held.{state}
+use Rattle.sqlite.specs.State.{HasCleanDisk}
+use Rattle.sqlite.proofs.StateLemmas.{survives_then}
+use Rattle.kt_store.proofs.TakesLemmas.{refused_closed, refused_past, refused_repeated, taken}
+use Rattle.kt_store.proofs.put.check.Goals as goal
+
+pub returns-then-finished-clause-refused : goal.returns-then-finished-clause-refused
+returns-then-finished-clause-refused g c runs has clean =
+    let it = c.in_ok-total.ensures.found runs has clean in
+    inr (refused_closed runs c.args.run c.args.entry.now it.0 it.1 (sym it.3 ∙ c.if-finished.true))
+
+pub returns-then-from-total-clause-refused : goal.returns-then-from-total-clause-refused
+returns-then-from-total-clause-refused g c runs has clean =
+    let it = c.in_ok-total.ensures.found runs has clean in
+    inr (refused_past runs c.args.run c.args.entry.now it.0 it.1 (sym it.3 ∙ c.if-finished.false) (omega (arith, c.if-from-total.true, c.from.ensures, it.2)))
+
+pub returns-then-branch-clause-refused : goal.returns-then-branch-clause-refused
+returns-then-branch-clause-refused g c runs has clean =
+    let stands = c.look.ensures.stands runs has in
+    let early : HasCleanDisk (state g.S.Store c.look.new.conn) = omega (arith, clean, (c.there.ensures.crash runs stands).clean) in
+    let it = c.in_ok-total.ensures.found runs has early in
+    inr (refused_repeated runs c.args.run c.args.entry.now it.0 it.1 (sym it.3 ∙ c.if-finished.false) (omega (arith, c.if-from-total.false, c.from.ensures, it.2)) (sym (c.in_ok-there.ensures.found runs stands clean) ∙ c.if-branch.true))
+
+pub returns-clause-taken : goal.returns-clause-taken
+returns-clause-taken g c runs has clean sound =
+    let stands = c.look.ensures.stands runs has in
+    let early : HasCleanDisk (state g.S.Store c.look.new.conn) = omega (arith, clean, (c.there.ensures.crash runs stands).clean) in
+    let it = c.in_ok-total.ensures.found runs has early in
+    taken runs c.args.run c.args.entry.now it.0 it.1 (sym it.3 ∙ c.if-finished.false) (omega (arith, c.if-from-total.false, c.from.ensures, it.2)) sound it.4 (sym (c.in_ok-there.ensures.found runs stands clean) ∙ c.if-branch.false)
+
+pub returns-in_err-there-clause-stands : goal.returns-in_err-there-clause-stands
+returns-in_err-there-clause-stands g c runs has = c.there.ensures.stands runs (c.look.ensures.stands runs has)
+
+pub returns-in_err-there-clause-crash : goal.returns-in_err-there-clause-crash
+returns-in_err-there-clause-crash g c runs has =
+    survives_then (state g.S.Store c.args.conn.now) (state g.S.Store c.look.new.conn) (state g.S.Store c.there.new.conn) (λ _. ⊥) (λ _. ⊥) (λ _. ⊥) (λ _ db none. none) (λ _ db none. none)
+    (c.look.ensures.crash runs has) (c.there.ensures.crash runs (c.look.ensures.stands runs has))
+
+pub returns-then-branch-clause-stands : goal.returns-then-branch-clause-stands
+returns-then-branch-clause-stands g c runs has = c.there.ensures.stands runs (c.look.ensures.stands runs has)
+
+pub returns-then-branch-clause-crash : goal.returns-then-branch-clause-crash
+returns-then-branch-clause-crash g c runs has =
+    survives_then (state g.S.Store c.args.conn.now) (state g.S.Store c.look.new.conn) (state g.S.Store c.there.new.conn) (λ _. ⊥) (λ _. ⊥) (λ _. ⊥) (λ _ db none. none) (λ _ db none. none)
+    (c.look.ensures.crash runs has) (c.there.ensures.crash runs (c.look.ensures.stands runs has))
+
+pub returns-clause-stands : goal.returns-clause-stands
+returns-clause-stands g c runs has = c.there.ensures.stands runs (c.look.ensures.stands runs has)
+
+pub returns-clause-crash : goal.returns-clause-crash
+returns-clause-crash g c runs has =
+    survives_then (state g.S.Store c.args.conn.now) (state g.S.Store c.look.new.conn) (state g.S.Store c.there.new.conn) (λ _. ⊥) (λ _. ⊥) (λ _. ⊥) (λ _ db none. none) (λ _ db none. none)
+    (c.look.ensures.crash runs has) (c.there.ensures.crash runs (c.look.ensures.stands runs has))

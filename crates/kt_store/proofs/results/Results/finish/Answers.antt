@@ -1,0 +1,46 @@
+use Rattle.std.proofs.Common.{arith}
+use Rattle.sqlite.specs.Held.{state}
+use Rattle.sqlite.specs.State.{HasCleanDisk}
+use Rattle.sqlite.proofs.StateLemmas.{survives_then, survives_weaker}
+use Rattle.kt_store.specs.Runs.{Keeps, finish}
+use Rattle.kt_store.specs.Stands.{StandsFor}
+use Rattle.kt_store.proofs.ViewLemmas.{inside_stands, seen_survives}
+use Rattle.kt_store.proofs.results.Results.finish.Goals as goal
+
+pub returns-in_err-check-clause-crash : goal.returns-in_err-check-clause-crash
+returns-in_err-check-clause-crash g c runs has =
+    let held : StandsFor (state g.S.Store c.self.inside.conn) runs = inside_stands g.S.Store c.self.inside.conn c.args.self.now c.self.view_is runs has in
+    seen_survives g.S.Store c.self.inside.conn c.args.self.now c.self.view_is c.check.new.conn (Keeps (finish c.args.run runs)) (
+    survives_weaker (state g.S.Store c.self.inside.conn) (state g.S.Store c.check.new.conn) (λ _. ⊥) (Keeps (finish c.args.run runs)) (λ _ db none. absurd none) (c.check.ensures.crash runs held))
+
+pub returns-clause-finished : goal.returns-clause-finished
+returns-clause-finished g c runs has =
+    let held : StandsFor (state g.S.Store c.self.inside.conn) runs = inside_stands g.S.Store c.self.inside.conn c.args.self.now c.self.view_is runs has in
+    c.in_ok-mark.ensures.marked runs (c.check.ensures.stands runs held) (λ k. let t = c.in_ok-check.ensures.taken runs held k in (t.1, t.2, t.3, t.4, t.5))
+
+pub returns-clause-allowed : goal.returns-clause-allowed
+returns-clause-allowed g c runs has clean =
+    let held : StandsFor (state g.S.Store c.self.inside.conn) runs = inside_stands g.S.Store c.self.inside.conn c.args.self.now c.self.view_is runs has in
+    let early : HasCleanDisk (state g.S.Store c.check.new.conn) = omega (arith, clean, (c.in_ok-mark.ensures.crash runs (c.check.ensures.stands runs held) (λ k. let t = c.in_ok-check.ensures.taken runs held k in (t.1, t.2, t.3, t.4, t.5))).clean) in
+    (c.in_ok-check.ensures.taken runs held early).0
+
+pub returns-clause-durable : goal.returns-clause-durable
+returns-clause-durable g c runs has =
+    let held : StandsFor (state g.S.Store c.self.inside.conn) runs = inside_stands g.S.Store c.self.inside.conn c.args.self.now c.self.view_is runs has in
+    c.in_ok-mark.ensures.durable runs (c.check.ensures.stands runs held) (λ k. let t = c.in_ok-check.ensures.taken runs held k in (t.1, t.2, t.3, t.4, t.5))
+
+pub returns-in_err-mark-clause-crash : goal.returns-in_err-mark-clause-crash
+returns-in_err-mark-clause-crash g c runs has =
+    let held : StandsFor (state g.S.Store c.self.inside.conn) runs = inside_stands g.S.Store c.self.inside.conn c.args.self.now c.self.view_is runs has in
+    seen_survives g.S.Store c.self.inside.conn c.args.self.now c.self.view_is c.mark.new.conn (Keeps (finish c.args.run runs)) (
+    let more = Keeps (finish c.args.run runs) in
+    survives_then (state g.S.Store c.self.inside.conn) (state g.S.Store c.check.new.conn) (state g.S.Store c.mark.new.conn) (λ _. ⊥) more more (λ _ db none. absurd none) (λ _ db kept. kept)
+    (c.check.ensures.crash runs held) (c.mark.ensures.crash runs (c.check.ensures.stands runs held) (λ k. let t = c.in_ok-check.ensures.taken runs held k in (t.1, t.2, t.3, t.4, t.5))))
+
+pub returns-clause-crash : goal.returns-clause-crash
+returns-clause-crash g c runs has =
+    let held : StandsFor (state g.S.Store c.self.inside.conn) runs = inside_stands g.S.Store c.self.inside.conn c.args.self.now c.self.view_is runs has in
+    seen_survives g.S.Store c.self.inside.conn c.args.self.now c.self.view_is c.mark.new.conn (Keeps (finish c.args.run runs)) (
+    let more = Keeps (finish c.args.run runs) in
+    survives_then (state g.S.Store c.self.inside.conn) (state g.S.Store c.check.new.conn) (state g.S.Store c.mark.new.conn) (λ _. ⊥) more more (λ _ db none. absurd none) (λ _ db kept. kept)
+    (c.check.ensures.crash runs held) (c.mark.ensures.crash runs (c.check.ensures.stands runs held) (λ k. let t = c.in_ok-check.ensures.taken runs held k in (t.1, t.2, t.3, t.4, t.5))))

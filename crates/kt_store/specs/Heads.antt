@@ -1,0 +1,20 @@
+-- The heads of runs, and the columns that they are read from.
+use Rattle.std.specs.Prelude.{pos, [], ◌∷◌}
+use Rattle.sqlite.specs.declared.types.Value.TheVariants.{Int, Text, Blob}
+use Rattle.sqlite.specs.Order.{Row}
+use Rattle.kt_base.specs.declared.run.Run.{Run}
+use Rattle.kt_store.specs.declared.run_head.RunHead.{RunHead}
+use Rattle.kt_base.specs.declared.entry.Entry.{Entry}
+use Rattle.kt_base.specs.Utf8.{utf8}
+use Rattle.kt_store.specs.Runs.{flag, kind_code}
+
+abbrev pub head_columns : Run → Row
+head_columns r = Int (pos r.number) ∷ Int (pos r.started) ∷ Int (pos r.total) ∷ Int (flag r.finished) ∷ []
+
+abbrev pub head_of : Run → RunHead
+head_of r = record { number = r.number; started = r.started; total = r.total; finished = r.finished }
+
+abbrev pub entry_columns : Entry → Row
+entry_columns e =
+    Int (pos e.position) ∷ Text (utf8 e.program) ∷ Text (utf8 e.case_name) ∷ Int (pos (kind_code e.verdict.kind)) ∷ Text (utf8 e.verdict.reason) ∷ Int (pos e.started) ∷ Int (pos e.millis)
+    ∷ Blob e.body.out ∷ Blob e.body.err ∷ Blob e.cleanup.out ∷ Blob e.cleanup.err ∷ []

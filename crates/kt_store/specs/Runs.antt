@@ -1,0 +1,128 @@
+-- The rows of a list of runs.
+use Rattle.std.specs.Prelude.{◌≡◌, ℕ, zero, suc, nat_lt, nat_le, ◌==◌, slice_get, Option, None, ◌<◌, ◌≤◌, ℤ, pos, Bool, true, false, if◌then◌else◌, List, [], ◌∷◌, length, map, drop, flat_map, Some, codes, IsPermutation, ⊤}
+use Rattle.std.specs.List.{AllByRecursion, list_any}
+use Rattle.sqlite.specs.declared.types.Value.TheVariants.{Null, Int, Text, Blob}
+use Rattle.sqlite.specs.Order.{Row}
+use Rattle.sqlite.specs.Effect.{Database, IsDatabase}
+use Rattle.sqlite.specs.Tree.{Trees}
+use Rattle.sqlite_trees.specs.Tree.{IsAscending}
+use Rattle.kt_base.specs.declared.kind.Kind.{Kind}
+use Rattle.kt_base.specs.declared.kind.Kind.TheVariants.{Passed, Skipped, ExpectedFailure, Failed, Broken}
+use Rattle.kt_base.specs.declared.entry.Entry.{Entry}
+use Rattle.kt_base.specs.declared.run.Run.{Run}
+use Rattle.kt_store.specs.declared.store_fault.StoreFault.{StoreFault}
+use Rattle.kt_store.specs.declared.store_fault.StoreFault.TheVariants.{NoRun, RunClosed, BadPosition, RepeatedPosition, Incomplete}
+use Rattle.kt_store.specs.Tables.{schema_1}
+use Rattle.kt_base.specs.Utf8.{utf8}
+use Rattle.std.specs.Str.{chars}
+
+abbrev pub kind_code : Kind → ℕ
+kind_code Passed = 0
+kind_code Skipped = 1
+kind_code ExpectedFailure = 2
+kind_code Failed = 3
+kind_code Broken = 4
+
+abbrev pub flag : Bool → ℤ
+flag finished = if finished then pos 1 else pos 0
+
+-- as it is stored: the rowid, NULL in its own column, and the other columns
+abbrev pub run_row : Run → Row
+run_row r = Int (pos r.number) ∷ Null ∷ Int (pos r.started) ∷ Int (pos r.total) ∷ Int (flag r.finished) ∷ []
+
+-- the columns of an entry of this run
+abbrev pub entry_row : ℕ → Entry → Row
+entry_row run e =
+    Int (pos run) ∷ Int (pos e.position) ∷ Text (utf8 e.program) ∷ Text (utf8 e.case_name) ∷ Int (pos (kind_code e.verdict.kind)) ∷ Text (utf8 e.verdict.reason) ∷ Int (pos e.started) ∷ Int (pos e.millis)
+    ∷ Blob e.body.out ∷ Blob e.body.err ∷ Blob e.cleanup.out ∷ Blob e.cleanup.err ∷ []
+
+abbrev pub entry_rows : List Run → List Row
+entry_rows runs = flat_map (λ r. map (entry_row r.number) r.entries) runs
+
+-- numbered from here on, by place
+abbrev pub AreNumbered : ℕ → List Run → Type 0
+AreNumbered n [] = ⊤
+AreNumbered n (r ∷ runs) = (r.number ≡ n) × AreNumbered (suc n) runs
+
+-- characters that UTF-8 has, so that its bytes spell the text again
+abbrev pub IsText : List ℕ → Type 0
+IsText text = chars (utf8 text) ≡ text
+
+-- its texts are texts, and a passed case has the empty reason
+pub record IsEntry (e : Entry) : Type 0 where
+  pub program : IsText e.program
+  pub case_name : IsText e.case_name
+  pub reason : IsText e.verdict.reason
+  pub passed : e.verdict.kind ≡ Passed → e.verdict.reason ≡ []
+
+-- entries by position, none twice, all below the total; a finished run has them all
+pub record IsRun (r : Run) : Type 0 where
+  pub small : r.total < 4294967296
+  pub ordered : IsAscending (λ (a b : Entry). a.position < b.position) r.entries
+  pub below : AllByRecursion (λ (e : Entry). e.position < r.total) r.entries
+  pub sound : AllByRecursion IsEntry r.entries
+  pub whole : r.finished ≡ true → length r.entries ≡ r.total
+
+pub record AreRuns (runs : List Run) : Type 0 where
+  pub numbered : AreNumbered 1 runs
+  pub each : AllByRecursion IsRun runs
+  pub few : length runs ≤ 1000000
+
+-- the database is the tables of schema 1, and their rows are exactly those of these runs
+pub record Tables (db : Database) (runs : List Run) : Type 0 where
+  pub schema : db.schema ≡ schema_1
+  pub marked : map (drop 1) (db.trees 0) ≡ (Text (codes "schema") ∷ Int (pos 1) ∷ []) ∷ []
+  pub runs_are : db.trees 2 ≡ map run_row runs
+  pub entries_are : IsPermutation (entry_rows runs) (map (drop 1) (db.trees 3))
+  pub valid : AreRuns runs
+
+-- what a crash left opens as a database with these runs
+abbrev pub Keeps : List Run → Trees → Type 0
+Keeps runs trees = (db : Database) × IsDatabase db × (trees ≡ db.trees) × Tables db runs
+
+abbrev pub new_run : List Run → ℕ → ℕ → Run
+new_run runs total started = record { number = suc (length runs); started = started; total = total; finished = false; entries = [] }
+
+-- the run with this number
+abbrev pub run_at : List Run → ℕ → Option Run
+run_at runs zero = None
+run_at runs (suc k) = slice_get runs k
+
+-- an entry among entries by position
+abbrev pub insert_at : Entry → List Entry → List Entry
+insert_at e [] = e ∷ []
+insert_at e (x ∷ es) = if nat_lt e.position x.position then e ∷ x ∷ es else x ∷ insert_at e es
+
+-- the run with this number has one more entry
+abbrev pub with_entry : ℕ → Entry → List Run → List Run
+with_entry run e [] = []
+with_entry run e (r ∷ runs) = if r.number == run then record r { entries = insert_at e r.entries } ∷ runs else r ∷ with_entry run e runs
+
+-- the run with this number is finished
+abbrev pub finish : ℕ → List Run → List Run
+finish run [] = []
+finish run (r ∷ runs) = if r.number == run then record r { finished = true } ∷ runs else r ∷ finish run runs
+
+abbrev pub entries_of : Option Run → List Entry
+entries_of None = []
+entries_of (Some r) = r.entries
+
+-- whether an entry has this position
+abbrev pub has_position : ℕ → List Entry → Bool
+has_position position es = list_any (λ (e : Entry). e.position == position) es
+
+-- why the run takes no such entry, in this order
+abbrev pub put_refusal_of : Option Run → Entry → Option StoreFault
+put_refusal_of None e = Some NoRun
+put_refusal_of (Some r) e = if r.finished then Some RunClosed else if nat_le r.total e.position then Some BadPosition else if has_position e.position r.entries then Some RepeatedPosition else None
+
+abbrev pub put_refusal : List Run → ℕ → Entry → Option StoreFault
+put_refusal runs run e = put_refusal_of (run_at runs run) e
+
+-- why the run does not close, in this order
+abbrev pub finish_refusal_of : Option Run → Option StoreFault
+finish_refusal_of None = Some NoRun
+finish_refusal_of (Some r) = if r.finished then Some RunClosed else if nat_lt (length r.entries) r.total then Some Incomplete else None
+
+abbrev pub finish_refusal : List Run → ℕ → Option StoreFault
+finish_refusal runs run = finish_refusal_of (run_at runs run)

@@ -1,0 +1,139 @@
+-- The tables as sqlite understands them.
+use Rattle.std.specs.Prelude.{true, false, [], ◌∷◌, Some, None, codes, List, ℕ, pos, Bool, slice_index_or}
+use Rattle.sqlite.specs.Collation.TheVariants.{Binary}
+use Rattle.sqlite.specs.declared.types.Value.TheVariants.{Null, Int}
+use Rattle.sqlite.specs.Table.{Table}
+use Rattle.sqlite.specs.Schema.{Schema}
+use Rattle.sqlite.specs.Kind.{Kind}
+use Rattle.sqlite.specs.Kind.TheVariants.{Integer, Text, Blob}
+use Rattle.sqlite_schema.specs.declared.schema.Column.{Column}
+use Rattle.sqlite_schema.specs.declared.schema.Stamps.{Stamps}
+use Rattle.sqlite_schema.specs.declared.schema.Action.TheVariants.{NoAction}
+use Rattle.sqlite_schema.specs.declared.schema.Index.{Index}
+use Rattle.sqlite_catalog.specs.Listing.{automatic}
+use Rattle.sqlite_value.specs.Keys.{plain}
+use Rattle.sqlite.specs.Term.{Term, lit, col, op2}
+use Rattle.sqlite_sql.specs.declared.ops.BinaryOp.TheVariants.{Compare, And, Or}
+use Rattle.sqlite_sql.specs.declared.ops.CompareOp.TheVariants.{Eq, Ge, Le}
+
+abbrev pub no_schema : Schema
+no_schema = record { tables = []; indexes = []; views = [] }
+
+abbrev pub create_meta : List ℕ
+create_meta = codes "CREATE TABLE meta (name TEXT PRIMARY KEY, value INTEGER NOT NULL) STRICT"
+
+abbrev pub create_runs : List ℕ
+create_runs = codes "CREATE TABLE runs (id INTEGER PRIMARY KEY, started INTEGER NOT NULL, total INTEGER NOT NULL, finished INTEGER NOT NULL CHECK (finished IN (0, 1))) STRICT"
+
+abbrev pub create_entries : List ℕ
+create_entries = codes "CREATE TABLE entries (run INTEGER NOT NULL REFERENCES runs (id), position INTEGER NOT NULL, program TEXT NOT NULL, case_name TEXT NOT NULL, kind INTEGER NOT NULL CHECK (kind BETWEEN 0 AND 4), reason TEXT NOT NULL, started INTEGER NOT NULL, millis INTEGER NOT NULL, body_out BLOB NOT NULL, body_err BLOB NOT NULL, clean_out BLOB NOT NULL, clean_err BLOB NOT NULL, PRIMARY KEY (run, position)) STRICT"
+
+abbrev pub column : List ℕ → Kind → Bool → Column
+column name kind not_null = record { name = name; kind = kind; is_strict = true; not_null = not_null; default = Null; collation = Binary }
+
+abbrev pub no_stamps : Stamps
+no_stamps = record { places = []; terms = []; formats = [] }
+
+abbrev pub meta : Table
+meta = record {
+  name = codes "meta";
+  tree = 0;
+  columns = column (codes "name") Text true ∷ column (codes "value") Integer true ∷ [];
+  key = None;
+  primary = 1 ∷ [];
+  uniques = (1 ∷ []) ∷ [];
+  orders = plain ∷ [];
+  checks = [];
+  references = [];
+  computed = [];
+  stamps = no_stamps;
+  is_counted = false;
+}
+
+abbrev pub finished_check : Term
+finished_check = op2 Or (op2 (Compare Eq Binary) (col 1 4) (lit (Int (pos 0)))) (op2 (Compare Eq Binary) (col 1 4) (lit (Int (pos 1))))
+
+abbrev pub runs : Table
+runs = record {
+  name = codes "runs";
+  tree = 0;
+  columns = column (codes "id") Integer false ∷ column (codes "started") Integer true ∷ column (codes "total") Integer true ∷ column (codes "finished") Integer true ∷ [];
+  key = Some 0;
+  primary = 0 ∷ [];
+  uniques = [];
+  orders = [];
+  checks = finished_check ∷ [];
+  references = [];
+  computed = [];
+  stamps = no_stamps;
+  is_counted = false;
+}
+
+abbrev pub kind_check : Term
+kind_check = op2 And (op2 (Compare Ge Binary) (col 1 5) (lit (Int (pos 0)))) (op2 (Compare Le Binary) (col 1 5) (lit (Int (pos 4))))
+
+abbrev pub entries : Table
+entries = record {
+  name = codes "entries";
+  tree = 0;
+  columns = column (codes "run") Integer true ∷ column (codes "position") Integer true ∷ column (codes "program") Text true ∷ column (codes "case_name") Text true
+      ∷ column (codes "kind") Integer true ∷ column (codes "reason") Text true ∷ column (codes "started") Integer true ∷ column (codes "millis") Integer true
+      ∷ column (codes "body_out") Blob true ∷ column (codes "body_err") Blob true ∷ column (codes "clean_out") Blob true ∷ column (codes "clean_err") Blob true ∷ [];
+  key = None;
+  primary = 1 ∷ 2 ∷ [];
+  uniques = (1 ∷ 2 ∷ []) ∷ [];
+  orders = plain ∷ [];
+  checks = kind_check ∷ [];
+  references = record { columns = 1 ∷ []; parent = codes "runs"; parent_columns = codes "id" ∷ []; on_delete = NoAction; on_update = NoAction; is_deferred = false } ∷ [];
+  computed = [];
+  stamps = no_stamps;
+  is_counted = false;
+}
+
+abbrev pub index_of : Table → ℕ → Index
+index_of table tree = automatic table 0 (slice_index_or table.uniques 0 []) tree
+
+abbrev pub meta_1 : Table
+meta_1 = record meta { tree = 0 }
+
+abbrev pub runs_1 : Table
+runs_1 = record runs { tree = 2 }
+
+abbrev pub entries_1 : Table
+entries_1 = record entries { tree = 3 }
+
+abbrev pub schema_1 : Schema
+schema_1 = record { tables = meta_1 ∷ runs_1 ∷ entries_1 ∷ []; indexes = index_of meta_1 1 ∷ index_of entries_1 4 ∷ []; views = [] }
+
+abbrev pub full_text : List ℕ
+full_text = codes "SELECT id FROM runs WHERE id = 1000000"
+
+abbrev pub begin_text : List ℕ
+begin_text = codes "INSERT INTO runs (started, total, finished) VALUES (?1, ?2, 0)"
+
+abbrev pub run_text : List ℕ
+run_text = codes "SELECT total, finished FROM runs WHERE id = ?1"
+
+abbrev pub count_text : List ℕ
+count_text = codes "SELECT count(*) FROM entries WHERE run = ?1"
+
+abbrev pub finish_text : List ℕ
+finish_text = codes "UPDATE runs SET finished = 1 WHERE id = ?1"
+
+abbrev pub runs_text : List ℕ
+runs_text = codes "SELECT id, started, total, finished FROM runs ORDER BY id"
+
+abbrev pub there_text : List ℕ
+there_text = codes "SELECT position FROM entries WHERE run = ?1 AND position = ?2"
+
+abbrev pub put_text : List ℕ
+put_text = codes "INSERT INTO entries (run, position, program, case_name, kind, reason, started, millis, body_out, body_err, clean_out, clean_err) VALUES (?1, ?2, ?3, ?4, ?5, ?6, ?7, ?8, ?9, ?10, ?11, ?12)"
+
+abbrev pub entries_text : List ℕ
+entries_text = codes "SELECT position, program, case_name, kind, reason, started, millis, body_out, body_err, clean_out, clean_err FROM entries WHERE run = ?1 ORDER BY position"
+
+abbrev pub meta_text : List ℕ
+meta_text = codes "SELECT value FROM meta WHERE name = 'schema'"
+
+abbrev pub mark_text : List ℕ
+mark_text = codes "INSERT INTO meta (name, value) VALUES ('schema', 1)"

@@ -1,0 +1,49 @@
+ghost use Rattle.std.specs.Prelude.{◌≡◌, ◌<◌, ◌≤◌, ◌++◌, suc, [], ◌∷◌, length, true, false, IfOk, OnOk, OnErr, IfErr};
+ghost use Rattle.sqlite.specs.State.{HasCleanDisk, Survives};
+ghost use Rattle.sqlite.specs.Held.{state};
+ghost use Rattle.kt_store.specs.Ask.{IsStoreFault};
+ghost use Rattle.kt_store.specs.Runs.{new_run, Keeps};
+ghost use Rattle.kt_store.specs.Stands.{StandsFor, Leaves};
+
+use crate::statements::{ask, has_rows, tell};
+use crate::store_fault::StoreFault;
+use crate::value::{int, magnitude};
+use sqlite::{Alter, Connection};
+
+/// Whether there are as many runs as may be.
+pub(crate) fn is_full<S: Alter>(conn: &mut Connection<S>) -> Result<bool, StoreFault>
+    ensures full { (runs : _) → StandsFor (state S.Store conn.old) runs → HasCleanDisk (state S.Store conn.new)
+        → IfOk result (λ full. (full ≡ true → 1000000 ≤ length runs) × (full ≡ false → length runs < 1000000)) }
+    ensures stands { (runs : _) → StandsFor (state S.Store conn.old) runs → StandsFor (state S.Store conn.new) runs }
+    ensures failed { IfErr result IsStoreFault }
+    ensures crash { (runs : _) → StandsFor (state S.Store conn.old) runs → Survives (state S.Store conn.old) (state S.Store conn.new) (λ _. ⊥) }
+{
+    let rows = ask(conn, "SELECT id FROM runs WHERE id = 1000000", &[])?;
+    Ok(has_rows(&rows))
+}
+
+/// Adds the run after the last one, and answers its number.
+pub(crate) fn add_run<S: Alter>(
+    conn: &mut Connection<S>,
+    total: u32,
+    moment: u64,
+) -> Result<u64, StoreFault>
+    requires { moment ≤ 253402300799999 }
+    ensures number { (runs : _) → StandsFor (state S.Store conn.old) runs → (HasCleanDisk (state S.Store conn.old) → length runs < 1000000) → HasCleanDisk (state S.Store conn.new)
+        → IfOk result (λ n. n ≡ suc (length runs)) }
+    ensures added { (runs : _) → StandsFor (state S.Store conn.old) runs → (HasCleanDisk (state S.Store conn.old) → length runs < 1000000)
+        → OnOk result (StandsFor (state S.Store conn.new) (runs ++ new_run runs total moment ∷ [])) }
+    ensures kept { (runs : _) → StandsFor (state S.Store conn.old) runs → OnErr result (StandsFor (state S.Store conn.new) runs) }
+    ensures failed { IfErr result IsStoreFault }
+    ensures crash { (runs : _) → StandsFor (state S.Store conn.old) runs → (HasCleanDisk (state S.Store conn.old) → length runs < 1000000)
+        → Survives (state S.Store conn.old) (state S.Store conn.new) (Keeps (runs ++ new_run runs total moment ∷ [])) }
+    ensures durable { (runs : _) → StandsFor (state S.Store conn.old) runs → (HasCleanDisk (state S.Store conn.old) → length runs < 1000000)
+        → OnOk result (Leaves (state S.Store conn.new) (Keeps (runs ++ new_run runs total moment ∷ []))) }
+{
+    tell(
+        conn,
+        "INSERT INTO runs (started, total, finished) VALUES (?1, ?2, 0)",
+        &[int(moment), int(u64::from(total))],
+    )?;
+    Ok(magnitude(conn.last_insert_rowid()))
+}

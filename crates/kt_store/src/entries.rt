@@ -1,0 +1,166 @@
+ghost use Rattle.std.specs.Prelude.{◌≡◌, ◌<◌, ◌^◌, pos, map, List, Some, IfOk, IfErr};
+ghost use Rattle.kt_base.specs.declared.entry.Entry.{Entry as Stored};
+ghost use Rattle.kt_base.specs.declared.kind.Kind.{Kind as Sort};
+ghost use Rattle.kt_base.specs.declared.kind.Kind.TheVariants.{Passed};
+ghost use Rattle.kt_base.specs.Utf8.{utf8};
+ghost use Rattle.std.specs.Prelude.{ℕ, []};
+ghost use Rattle.std.specs.List.{AllByRecursion};
+ghost use Rattle.kt_base.specs.declared.output.Output.{Output as Pair};
+ghost use Rattle.sqlite_value.specs.Order.{column};
+ghost use Rattle.sqlite_value.specs.declared.value.Value.TheVariants.{Int, Text as Words, Blob};
+ghost use Rattle.sqlite.specs.State.{HasCleanDisk, Survives};
+ghost use Rattle.sqlite.specs.Held.{state};
+ghost use Rattle.kt_store.specs.Ask.{IsStoreFault};
+ghost use Rattle.kt_store.specs.Runs.{IsEntry, IsText, kind_code, run_at, entries_of};
+ghost use Rattle.kt_store.specs.Heads.{entry_columns};
+ghost use Rattle.kt_store.specs.Stands.{StandsFor};
+
+use crate::statements::ask;
+use crate::store_fault::{StoreFault, fault};
+use crate::value::int;
+use kt_base::{Bytes, Entry, Kind, Output, Reason, Text, Verdict};
+use sqlite::{Alter, Connection, Row};
+use std::alloc::Global;
+
+pub(crate) fn large_in(row: &Row, at: usize) -> Result<u64, StoreFault>
+    ensures number { IfOk result (λ n. column row.now at ≡ Int (pos n)) }
+    ensures failed { IfErr result IsStoreFault }
+{
+    match row.get::<u64>(at) {
+        Ok(number) => Ok(number),
+        Err(error) => Err(fault(error)),
+    }
+}
+
+pub(crate) fn place_in(row: &Row, at: usize) -> Result<u32, StoreFault>
+    ensures number { IfOk result (λ n. column row.now at ≡ Int (pos n)) }
+    ensures failed { IfErr result IsStoreFault }
+{
+    match row.get::<u32>(at) {
+        Ok(number) => Ok(number),
+        Err(error) => Err(fault(error)),
+    }
+}
+
+pub(crate) fn text_in(row: &Row, at: usize) -> Result<Text, StoreFault>
+    ensures text { (t : List ℕ) → IsText t → column row.now at ≡ Words (utf8 t) → IfOk result (λ x. x ≡ t) }
+    ensures failed { IfErr result IsStoreFault }
+{
+    match row.get::<String>(at) {
+        Ok(string) => Ok(Text::from_string(string)),
+        Err(error) => Err(fault(error)),
+    }
+}
+
+pub(crate) fn bytes_in(row: &Row, at: usize) -> Result<Bytes, StoreFault>
+    ensures bytes { IfOk result (λ b. column row.now at ≡ Blob b) }
+    ensures failed { IfErr result IsStoreFault }
+{
+    match row.get::<Vec<u8>>(at) {
+        Ok(items) => Ok(Bytes::from_vec(items)),
+        Err(error) => Err(fault(error)),
+    }
+}
+
+/// The kind that is kept as this number.
+pub(crate) fn kind_of(code: u64) -> Result<Kind, StoreFault>
+    ensures kind { (k : Sort) → code ≡ kind_code k → IfOk result (λ x. x ≡ k) }
+    ensures failed { IfErr result IsStoreFault }
+{
+    match code {
+        0 => Ok(Kind::Passed),
+        1 => Ok(Kind::Skipped),
+        2 => Ok(Kind::ExpectedFailure),
+        3 => Ok(Kind::Failed),
+        4 => Ok(Kind::Broken),
+        _ => Err(StoreFault::Store),
+    }
+}
+
+/// The verdict of this kind and reason. A passed case has none.
+pub(crate) fn verdict_of(kind: Kind, reason: Text) -> Verdict
+    ensures { (kind ≡ Passed → reason ≡ []) → result ≡ record { kind = kind; reason = reason } }
+{
+    match kind {
+        Kind::Passed => Verdict::passed(),
+        Kind::Skipped => Verdict::skipped(Reason::Owned(reason)),
+        Kind::ExpectedFailure => Verdict::expected_failure(Reason::Owned(reason)),
+        Kind::Failed => Verdict::failed(Reason::Owned(reason)),
+        Kind::Broken => Verdict::broken(Reason::Owned(reason)),
+    }
+}
+
+pub(crate) fn output_in(row: &Row, out: usize, err: usize) -> Result<Output, StoreFault>
+    ensures output { (o : Pair) → column row.now out ≡ Blob o.out → column row.now err ≡ Blob o.err → IfOk result (λ x. x ≡ o) }
+    ensures failed { IfErr result IsStoreFault }
+{
+    let first = bytes_in(row, out)?;
+    let second = bytes_in(row, err)?;
+    Ok(Output {
+        out: first,
+        err: second,
+    })
+}
+
+/// The entry in a row.
+pub(crate) fn entry_in(row: &Row) -> Result<Entry, StoreFault>
+    ensures entry { (e : Stored) → IsEntry e → row.now ≡ entry_columns e → IfOk result (λ x. x ≡ e) }
+    ensures failed { IfErr result IsStoreFault }
+{
+    let position = place_in(row, 0)?;
+    let program = text_in(row, 1)?;
+    let case_name = text_in(row, 2)?;
+    let code = large_in(row, 3)?;
+    let kind = kind_of(code)?;
+    let reason = text_in(row, 4)?;
+    let started = large_in(row, 5)?;
+    let millis = large_in(row, 6)?;
+    let body = output_in(row, 7, 8)?;
+    let cleanup = output_in(row, 9, 10)?;
+    Ok(Entry {
+        position,
+        program,
+        case_name,
+        verdict: verdict_of(kind, reason),
+        started,
+        millis,
+        body,
+        cleanup,
+    })
+}
+
+/// The entries in the rows.
+pub(crate) fn entries_in(alloc: Global, rows: &[Row]) -> Result<Vec<Entry>, StoreFault>
+    ensures entries { (es : List Stored) → AllByRecursion IsEntry es → rows.now ≡ map entry_columns es → IfOk result (λ found. found.items ≡ es) }
+    ensures failed { IfErr result IsStoreFault }
+{
+    let mut entries = Vec::new(alloc);
+    for row in rows {
+        let entry = entry_in(row)?;
+        if entries.push(entry).is_err() {
+            return Err(StoreFault::NoMemory);
+        }
+    }
+    Ok(entries)
+}
+
+/// The entries of a run, by position.
+pub(crate) fn all_entries<S: Alter>(
+    conn: &mut Connection<S>,
+    alloc: Global,
+    run: u64,
+) -> Result<Vec<Entry>, StoreFault>
+    requires { run < 2 ^ 63 }
+    ensures all { (runs : _) → StandsFor (state S.Store conn.old) runs → HasCleanDisk (state S.Store conn.new) → IfOk result (λ found. found.items ≡ entries_of (run_at runs run)) }
+    ensures failed { IfErr result IsStoreFault }
+    ensures stands { (runs : _) → StandsFor (state S.Store conn.old) runs → StandsFor (state S.Store conn.new) runs }
+    ensures crash { (runs : _) → StandsFor (state S.Store conn.old) runs → Survives (state S.Store conn.old) (state S.Store conn.new) (λ _. ⊥) }
+{
+    let rows = ask(
+        conn,
+        "SELECT position, program, case_name, kind, reason, started, millis, body_out, body_err, clean_out, clean_err FROM entries WHERE run = ?1 ORDER BY position",
+        &[int(run)],
+    )?;
+    let entries = entries_in(alloc, &rows)?;
+    Ok(entries)
+}

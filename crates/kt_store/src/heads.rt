@@ -1,0 +1,79 @@
+ghost use Rattle.std.specs.Prelude.{◌≡◌, ℕ, ◌<◌, pos, length, map, List, IfOk, IfErr};
+ghost use Rattle.kt_base.specs.declared.run.Run.{Run as Stored};
+ghost use Rattle.sqlite_value.specs.Order.{column};
+ghost use Rattle.sqlite_value.specs.declared.value.Value.TheVariants.{Int};
+ghost use Rattle.sqlite.specs.State.{HasCleanDisk, Survives};
+ghost use Rattle.sqlite.specs.Held.{state};
+ghost use Rattle.kt_store.specs.Ask.{IsStoreFault};
+ghost use Rattle.kt_store.specs.Heads.{head_columns, head_of};
+ghost use Rattle.kt_store.specs.Stands.{StandsFor};
+
+use crate::read::number_in;
+use crate::run_head::RunHead;
+use crate::statements::ask;
+use crate::store_fault::StoreFault;
+use sqlite::{Alter, Connection, Row};
+use std::alloc::Global;
+
+/// A small number of a row.
+pub(crate) fn small_in(row: &Row, at: usize) -> Result<u32, StoreFault>
+    ensures number { (n : ℕ) → at < length row.now → column row.now at ≡ Int (pos n) → IfOk result (λ k. k ≡ n) }
+    ensures failed { IfErr result IsStoreFault }
+{
+    let number = number_in(row, at)?;
+    if number > 4294967295 {
+        return Err(StoreFault::Store);
+    }
+    Ok(number as u32)
+}
+
+/// The head in a row.
+pub(crate) fn head_in(row: &Row) -> Result<RunHead, StoreFault>
+    ensures head { (r : Stored) → row.now ≡ head_columns r → IfOk result (λ h. h ≡ head_of r) }
+    ensures failed { IfErr result IsStoreFault }
+{
+    let number = number_in(row, 0)?;
+    let started = number_in(row, 1)?;
+    let total = small_in(row, 2)?;
+    let finished = number_in(row, 3)?;
+    Ok(RunHead {
+        number,
+        started,
+        total,
+        finished: finished > 0,
+    })
+}
+
+/// The heads in the rows.
+pub(crate) fn heads_in(alloc: Global, rows: &[Row]) -> Result<Vec<RunHead>, StoreFault>
+    ensures heads { (runs : List Stored) → rows.now ≡ map head_columns runs → IfOk result (λ heads. heads.items ≡ map head_of runs) }
+    ensures failed { IfErr result IsStoreFault }
+{
+    let mut heads = Vec::new(alloc);
+    for row in rows {
+        let head = head_in(row)?;
+        if heads.push(head).is_err() {
+            return Err(StoreFault::NoMemory);
+        }
+    }
+    Ok(heads)
+}
+
+/// The heads of all runs, by number.
+pub(crate) fn all_heads<S: Alter>(
+    conn: &mut Connection<S>,
+    alloc: Global,
+) -> Result<Vec<RunHead>, StoreFault>
+    ensures all { (runs : _) → StandsFor (state S.Store conn.old) runs → HasCleanDisk (state S.Store conn.new) → IfOk result (λ heads. heads.items ≡ map head_of runs) }
+    ensures failed { IfErr result IsStoreFault }
+    ensures stands { (runs : _) → StandsFor (state S.Store conn.old) runs → StandsFor (state S.Store conn.new) runs }
+    ensures crash { (runs : _) → StandsFor (state S.Store conn.old) runs → Survives (state S.Store conn.old) (state S.Store conn.new) (λ _. ⊥) }
+{
+    let rows = ask(
+        conn,
+        "SELECT id, started, total, finished FROM runs ORDER BY id",
+        &[],
+    )?;
+    let heads = heads_in(alloc, &rows)?;
+    Ok(heads)
+}

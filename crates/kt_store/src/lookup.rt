@@ -1,0 +1,88 @@
+ghost use Rattle.std.specs.Prelude.{◌≡◌, ◌⊎◌, ◌<◌, ◌≤◌, ◌^◌, IfOk, IfErr, OnOk, Some, None, option_map, unsigned_abs};
+ghost use Rattle.sqlite.specs.State.{HasCleanDisk, Survives};
+ghost use Rattle.sqlite.specs.Held.{state};
+ghost use Rattle.kt_store.specs.Ask.{IsStoreFault};
+ghost use Rattle.kt_store.specs.Runs.{run_at, flag, AreRuns, entries_of, has_position};
+ghost use Rattle.kt_store.specs.Stands.{StandsFor};
+
+use crate::read::number_in;
+use crate::statements::{ask, has_rows};
+use crate::store_fault::StoreFault;
+use crate::value::int;
+use sqlite::{Alter, Connection};
+
+/// The total of a run, and 1 where it is finished.
+pub(crate) fn find<S: Alter>(
+    conn: &mut Connection<S>,
+    run: u64,
+) -> Result<Option<(u64, u64)>, StoreFault>
+    requires { run < 2 ^ 63 }
+    ensures failed { IfErr result IsStoreFault }
+    ensures crash { (runs : _) → StandsFor (state S.Store conn.old) runs → Survives (state S.Store conn.old) (state S.Store conn.new) (λ _. ⊥) }
+    ensures valid { (runs : _) → StandsFor (state S.Store conn.old) runs → HasCleanDisk (state S.Store conn.new) → OnOk result (AreRuns runs) }
+    ensures kept { (runs : _) → StandsFor (state S.Store conn.old) runs → StandsFor (state S.Store conn.new) runs }
+    ensures found { (runs : _) → StandsFor (state S.Store conn.old) runs → HasCleanDisk (state S.Store conn.new)
+        → IfOk result (λ o. o ≡ option_map (λ r. (r.total, unsigned_abs (flag r.finished))) (run_at runs run)) }
+{
+    let rows = ask(
+        conn,
+        "SELECT total, finished FROM runs WHERE id = ?1",
+        &[int(run)],
+    )?;
+    let Some(row) = rows.first() else {
+        return Ok(None);
+    };
+    let total = number_in(row, 0)?;
+    let finished = number_in(row, 1)?;
+    Ok(Some((total, finished)))
+}
+
+/// A number that SQL takes: the run's own, or 0 for one past the last that may be.
+pub(crate) fn key(run: u64) -> u64
+    ensures low { result ≤ 1000000 }
+    ensures same { run ≤ 1000000 → result ≡ run }
+    ensures none { 1000000 < run → result ≡ 0 }
+{
+    if run <= 1000000 { run } else { 0 }
+}
+
+/// The total of a run that is there, and whether it is finished.
+pub(crate) fn look<S: Alter>(conn: &mut Connection<S>, run: u64) -> Result<(u64, bool), StoreFault>
+    ensures small { OnOk result (run ≤ 1000000) }
+    ensures stands { (runs : _) → StandsFor (state S.Store conn.old) runs → StandsFor (state S.Store conn.new) runs }
+    ensures crash { (runs : _) → StandsFor (state S.Store conn.old) runs → Survives (state S.Store conn.old) (state S.Store conn.new) (λ _. ⊥) }
+    ensures found { (runs : _) → StandsFor (state S.Store conn.old) runs → HasCleanDisk (state S.Store conn.new)
+        → IfOk result (λ p. (r : _) × (run_at runs run ≡ Some r) × (p.0 ≡ r.total) × (p.1 ≡ r.finished) × AreRuns runs) }
+    ensures refused { (runs : _) → StandsFor (state S.Store conn.old) runs → HasCleanDisk (state S.Store conn.new)
+        → IfErr result (λ e. IsStoreFault e ⊎ ((e ≡ StoreFault.NoRun) × (run_at runs run ≡ None))) }
+{
+    let number = key(run);
+    let Some((total, finished)) = find(conn, number)? else {
+        return Err(StoreFault::NoRun);
+    };
+    if number != run {
+        return Err(StoreFault::NoRun);
+    }
+    Ok((total, finished > 0))
+}
+
+/// Whether the run has an entry with this position.
+pub(crate) fn there<S: Alter>(
+    conn: &mut Connection<S>,
+    run: u64,
+    position: u32,
+) -> Result<bool, StoreFault>
+    requires { run < 2 ^ 63 }
+    ensures failed { IfErr result IsStoreFault }
+    ensures stands { (runs : _) → StandsFor (state S.Store conn.old) runs → StandsFor (state S.Store conn.new) runs }
+    ensures crash { (runs : _) → StandsFor (state S.Store conn.old) runs → Survives (state S.Store conn.old) (state S.Store conn.new) (λ _. ⊥) }
+    ensures found { (runs : _) → StandsFor (state S.Store conn.old) runs → HasCleanDisk (state S.Store conn.new)
+        → IfOk result (λ b. b ≡ has_position position (entries_of (run_at runs run))) }
+{
+    let rows = ask(
+        conn,
+        "SELECT position FROM entries WHERE run = ?1 AND position = ?2",
+        &[int(run), int(u64::from(position))],
+    )?;
+    Ok(has_rows(&rows))
+}

@@ -1,0 +1,10 @@
+pub mod Texts
+pub mod Adding
+pub mod Directories
+pub mod Tables
+pub mod Stepping
+pub mod Following
+pub mod Opening
+pub mod ScriptLaws
+pub mod SteadyTrees
+pub mod Limits

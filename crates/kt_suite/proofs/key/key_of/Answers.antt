@@ -1,0 +1,15 @@
+use Rattle.std.proofs.Common.{rules}
+use Rattle.std.specs.Str.{chars}
+use Rattle.kt_suite.proofs.key.key_of.Goals as goal
+
+pub returns-then-is_word : goal.returns-then-is_word
+unfolding chars
+returns-then-is_word c = search rules
+
+pub returns-then-is_word-2 : goal.returns-then-is_word-2
+unfolding chars
+returns-then-is_word-2 c = search rules
+
+pub returns-else-is_word-2 : goal.returns-else-is_word-2
+unfolding chars
+returns-else-is_word-2 c = search rules

@@ -1,0 +1,96 @@
+-- What one statement of a Kyuafile means, before the tree is asked.
+use Rattle.std.specs.Prelude.{ℕ, List, [], ◌∷◌, ◌==◌, Option, Some, None, if◌then◌else◌}
+use Rattle.kt_base.specs.declared.interface.Interface.{Interface}
+use Rattle.kt_script.specs.declared.syntax.Action.{Action}
+use Rattle.kt_script.specs.declared.syntax.Action.TheVariants.{Call, Assign}
+use Rattle.kt_script.specs.declared.syntax.Arg.{Arg}
+use Rattle.kt_script.specs.declared.syntax.Arg.TheVariants.{Value, Table}
+use Rattle.kt_script.specs.declared.literal.Literal.TheVariants.{Text, Number, Truth}
+use Rattle.kt_script.specs.declared.syntax.Pair.{Pair}
+use Rattle.kt_script.specs.LiteralText.{text_of}
+use Rattle.kt_suite.specs.declared.call.Call.{Call as CallKind}
+use Rattle.kt_suite.specs.declared.call.Call.TheVariants as call
+use Rattle.kt_suite.specs.declared.key.Key.{Key}
+use Rattle.kt_suite.specs.declared.key.Key.TheVariants as key
+use Rattle.kt_suite.specs.declared.cause.SuiteCause.{SuiteCause}
+use Rattle.kt_suite.specs.declared.cause.SuiteCause.TheVariants.{NoSyntax, WrongSyntax, UnknownCall, UnknownProperty, BadValue, NoSuite, PathHasDirectory}
+use Rattle.kt_suite.specs.declared.meaning.Meaning.{Meaning}
+use Rattle.kt_suite.specs.declared.meaning.Meaning.TheVariants as meaning
+use Rattle.kt_suite.specs.declared.program_table.ProgramTable.{ProgramTable}
+use Rattle.kt_suite.specs.Calls.{call_named, key_named}
+use Rattle.kt_suite.specs.Paths.{is_empty, has_directory}
+
+-- the argument of `syntax` is refused for this
+abbrev pub version_fault : Arg → Option SuiteCause
+version_fault (Value (Number n)) = if n == 2 then None else Some (WrongSyntax n)
+version_fault (Value (Text t)) = Some BadValue
+version_fault (Value (Truth b)) = Some BadValue
+version_fault (Table pairs) = Some BadValue
+
+abbrev pub first_call_fault : CallKind → Arg → Option SuiteCause
+first_call_fault call.Syntax arg = version_fault arg
+first_call_fault call.TestSuite arg = Some NoSyntax
+first_call_fault (call.Program interface) arg = Some NoSyntax
+first_call_fault call.Unknown arg = Some NoSyntax
+
+-- a first statement is refused for this; `syntax(2)` isn't
+abbrev pub opening_fault : Action → Option SuiteCause
+opening_fault (Call name arg) = first_call_fault (call_named name) arg
+opening_fault (Assign parts value) = Some NoSyntax
+
+-- a text that may not be empty is the suite from here on
+abbrev pub new_suite : List ℕ → Meaning
+new_suite text = if is_empty text then meaning.Wrong BadValue else meaning.Suite text
+
+abbrev pub suite_meaning : Arg → Meaning
+suite_meaning (Value v) = new_suite (text_of v)
+suite_meaning (Table pairs) = meaning.Wrong BadValue
+
+-- the later of two values, where there is one
+abbrev pub later : Option (List ℕ) → Option (List ℕ) → Option (List ℕ)
+later old None = old
+later old (Some new) = Some new
+
+-- a pair more in front: what is said later stands
+abbrev pub with_pair : Key → List ℕ → Option ProgramTable → Option ProgramTable
+with_pair key.Name text None = None
+with_pair key.TestSuite text None = None
+with_pair key.Unknown text declared = None
+with_pair key.Name text (Some d) = Some (record d { name = later (Some text) d.name })
+with_pair key.TestSuite text (Some d) = Some (record d { suite = later (Some text) d.suite })
+
+-- what the pairs of a table say last for each key, where each key is known
+abbrev pub declared : List Pair → Option ProgramTable
+declared [] = Some (record { name = None; suite = None })
+declared (pair ∷ pairs) = with_pair (key_named pair.name) (text_of pair.value) (declared pairs)
+
+-- the program's own suite, else the file's
+abbrev pub suited : Interface → List ℕ → Option (List ℕ) → Option (List ℕ) → Meaning
+suited interface name file (Some own) = if is_empty own then meaning.Wrong BadValue else meaning.Program interface name own
+suited interface name (Some suite) None = meaning.Program interface name suite
+suited interface name None None = meaning.Wrong NoSuite
+
+-- a name is there, isn't empty and has no directory
+abbrev pub named : Interface → Option (List ℕ) → Option (List ℕ) → Option (List ℕ) → Meaning
+named interface file own None = meaning.Wrong BadValue
+named interface file own (Some name) =
+    if is_empty name then meaning.Wrong BadValue else if has_directory name then meaning.Wrong PathHasDirectory else suited interface name file own
+
+abbrev pub declared_meaning : Interface → Option (List ℕ) → Option ProgramTable → Meaning
+declared_meaning interface file None = meaning.Wrong UnknownProperty
+declared_meaning interface file (Some d) = named interface file d.suite d.name
+
+abbrev pub program_meaning : Interface → Option (List ℕ) → Arg → Meaning
+program_meaning interface file (Value v) = meaning.Wrong BadValue
+program_meaning interface file (Table pairs) = declared_meaning interface file (declared pairs)
+
+abbrev pub call_meaning : Option (List ℕ) → CallKind → Arg → Meaning
+call_meaning file call.Syntax arg = meaning.Wrong UnknownCall
+call_meaning file call.TestSuite arg = suite_meaning arg
+call_meaning file (call.Program interface) arg = program_meaning interface file arg
+call_meaning file call.Unknown arg = meaning.Wrong UnknownCall
+
+-- a statement after the first, in a file that has named this suite so far
+abbrev pub meaning_of : Option (List ℕ) → Action → Meaning
+meaning_of file (Call name arg) = call_meaning file (call_named name) arg
+meaning_of file (Assign parts value) = meaning.Wrong UnknownCall

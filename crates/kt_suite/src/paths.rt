@@ -1,0 +1,65 @@
+ghost use Rattle.std.specs.Prelude.{◌≡◌, IfOk};
+ghost use Rattle.std.specs.List.{list_any};
+ghost use Rattle.kt_suite.specs.Paths.{directory_of, name_in, beside, has_directory, is_slash};
+
+use crate::words::is_word;
+use kt_base::{NoMemory, Text};
+use std::alloc::Global;
+
+fn characters(alloc: Global, text: &Text) -> Result<Vec<char>, NoMemory>
+    ensures { IfOk result (λ characters. characters.items ≡ text.now) }
+{
+    Ok(text.as_str().chars().collect(alloc)?)
+}
+
+/// A path up to its last slash, and with it.
+fn directory(path: &[char]) -> &[char]
+    ensures { result.now ≡ directory_of path.now }
+{
+    let mut rest = path;
+    while let Some((last, before)) = rest.split_last() {
+        if *last == '/' {
+            return rest;
+        }
+        rest = before;
+    }
+    rest
+}
+
+/// The directory of a path, with its last slash, and the name after it.
+pub fn split_path(alloc: Global, path: &Text) -> Result<(Text, Text), NoMemory>
+    ensures directory { IfOk result (λ parts. parts.0 ≡ directory_of path.now) }
+    ensures name { IfOk result (λ parts. parts.1 ≡ name_in path.now) }
+{
+    let path = characters(alloc, path)?;
+    let front = directory(&path);
+    let name = &path[front.len()..];
+    Ok((
+        Text::from_characters(alloc, front)?,
+        Text::from_characters(alloc, name)?,
+    ))
+}
+
+/// The path of a name in the directory of a file.
+pub fn path_beside(alloc: Global, file: &Text, name: &Text) -> Result<Text, NoMemory>
+    ensures { IfOk result (λ path. path ≡ beside file.now name.now) }
+{
+    let file = characters(alloc, file)?;
+    let mut path = Text::from_characters(alloc, directory(&file))?;
+    path.push_str(name.as_str())?;
+    Ok(path)
+}
+
+fn has_slash(name: &[char]) -> bool
+    ensures { result ≡ list_any is_slash name.now }
+{
+    name.iter().any(|c| *c == '/')
+}
+
+/// Whether a name leads out of the directory in which it is looked up.
+pub fn leads_away(alloc: Global, name: &Text) -> Result<bool, NoMemory>
+    ensures { IfOk result (λ away. away ≡ has_directory name.now) }
+{
+    let characters = characters(alloc, name)?;
+    Ok(has_slash(&characters) || is_word(name, ".") || is_word(name, ".."))
+}

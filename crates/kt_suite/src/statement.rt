@@ -1,0 +1,134 @@
+ghost use Rattle.std.specs.Prelude.{◌≡◌, IfOk, List, ℕ, Option};
+ghost use Rattle.kt_suite.specs.Meanings.{version_fault, first_call_fault, opening_fault, suite_meaning, suited, named, declared_meaning, program_meaning, call_meaning, meaning_of};
+
+use crate::call::{Call, call_of};
+use crate::cause::SuiteCause;
+use crate::meaning::Meaning;
+use crate::paths::leads_away;
+use crate::program_table::ProgramTable;
+use crate::table::read_table;
+use crate::words::is_empty;
+use kt_base::{Interface, NoMemory, Text};
+use kt_script::{Action, Arg, Literal};
+use std::alloc::Global;
+
+/// Why a first statement with this argument is refused, if it is.
+pub fn wrong_opening(action: &Action) -> Option<SuiteCause>
+    ensures { result ≡ opening_fault action.now }
+{
+    match action {
+        Action::Call(name, arg) => match call_of(name) {
+            Call::Syntax => wrong_version(arg),
+            _ => Some(SuiteCause::NoSyntax),
+        },
+        Action::Assign(_, _) => Some(SuiteCause::NoSyntax),
+    }
+}
+
+fn wrong_version(arg: &Arg) -> Option<SuiteCause>
+    ensures { result ≡ version_fault arg.now }
+{
+    match arg {
+        Arg::Value(Literal::Number(n)) => if *n == 2 {
+            None
+        } else {
+            Some(SuiteCause::WrongSyntax(*n))
+        },
+        _ => Some(SuiteCause::BadValue),
+    }
+}
+
+fn read_suite(alloc: Global, arg: &Arg) -> Result<Meaning, NoMemory>
+    ensures { IfOk result (λ found. found ≡ suite_meaning arg.now) }
+{
+    match arg {
+        Arg::Table(_) => Ok(Meaning::Wrong(SuiteCause::BadValue)),
+        Arg::Value(value) => {
+            let text = value.text(alloc)?;
+            if is_empty(&text) {
+                return Ok(Meaning::Wrong(SuiteCause::BadValue));
+            }
+            Ok(Meaning::Suite(text))
+        }
+    }
+}
+
+fn with_suite(
+    interface: Interface,
+    name: Text,
+    file: &Option<Text>,
+    own: Option<Text>,
+) -> Result<Meaning, NoMemory>
+    ensures { IfOk result (λ found. found ≡ suited interface name file.now own) }
+{
+    match own {
+        Some(suite) => {
+            if is_empty(&suite) {
+                return Ok(Meaning::Wrong(SuiteCause::BadValue));
+            }
+            Ok(Meaning::Program(interface, name, suite))
+        }
+        None => match file {
+            None => Ok(Meaning::Wrong(SuiteCause::NoSuite)),
+            Some(suite) => Ok(Meaning::Program(interface, name, suite.copy()?)),
+        },
+    }
+}
+
+fn with_name(
+    alloc: Global,
+    interface: Interface,
+    file: &Option<Text>,
+    found: ProgramTable,
+) -> Result<Meaning, NoMemory>
+    ensures { IfOk result (λ meaning. meaning ≡ named interface file.now found.suite found.name) }
+{
+    let ProgramTable { name, suite } = found;
+    match name {
+        None => Ok(Meaning::Wrong(SuiteCause::BadValue)),
+        Some(name) => {
+            if is_empty(&name) {
+                return Ok(Meaning::Wrong(SuiteCause::BadValue));
+            }
+            if leads_away(alloc, &name)? {
+                return Ok(Meaning::Wrong(SuiteCause::PathHasDirectory));
+            }
+            with_suite(interface, name, file, suite)
+        }
+    }
+}
+
+fn read_program(
+    alloc: Global,
+    interface: Interface,
+    file: &Option<Text>,
+    arg: &Arg,
+) -> Result<Meaning, NoMemory>
+    ensures { IfOk result (λ found. found ≡ program_meaning interface file.now arg.now) }
+{
+    match arg {
+        Arg::Value(_) => Ok(Meaning::Wrong(SuiteCause::BadValue)),
+        Arg::Table(pairs) => match read_table(alloc, pairs.as_slice())? {
+            None => Ok(Meaning::Wrong(SuiteCause::UnknownProperty)),
+            Some(found) => with_name(alloc, interface, file, found),
+        },
+    }
+}
+
+/// What a statement after the first asks for, in a file with this suite.
+pub fn read_statement(
+    alloc: Global,
+    file: &Option<Text>,
+    action: &Action,
+) -> Result<Meaning, NoMemory>
+    ensures { IfOk result (λ found. found ≡ meaning_of file.now action.now) }
+{
+    match action {
+        Action::Assign(_, _) => Ok(Meaning::Wrong(SuiteCause::UnknownCall)),
+        Action::Call(name, arg) => match call_of(name) {
+            Call::TestSuite => read_suite(alloc, arg),
+            Call::Program(interface) => read_program(alloc, interface, file, arg),
+            Call::Syntax | Call::Unknown => Ok(Meaning::Wrong(SuiteCause::UnknownCall)),
+        },
+    }
+}
