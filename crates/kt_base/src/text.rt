@@ -60,7 +60,8 @@ impl Text {
     pub fn into_string(self) -> String
         ensures { string_bytes result ≡ utf8 self }
     {
-        self.string
+        let Text { string } = self;
+        string
     }
 
     /// The text as a slice of the standard library.
