@@ -34,3 +34,5 @@ pub mod Ending
 pub mod Storing
 pub mod Only
 pub mod Returns
+pub mod PastSteps
+pub mod Saying

@@ -13,3 +13,4 @@ pub mod Board
 pub mod Cases
 pub mod Run
 pub mod Shown
+pub mod Past

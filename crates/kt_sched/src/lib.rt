@@ -10,6 +10,7 @@ mod job;
 mod launcher;
 mod limits;
 mod next;
+mod plain;
 mod run;
 mod run_fault;
 mod sched;

@@ -1,6 +1,7 @@
-mod plain;
+mod call;
 mod plans;
 mod property;
+mod replay;
 mod rows;
 mod script;
 mod shelf;

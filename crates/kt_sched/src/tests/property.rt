@@ -1,11 +1,12 @@
 ghost use Rattle.kt_sched.specs.Plan.{IsWidth};
 
-use super::plain::Plain;
 use super::plans::plan_of;
+use super::replay::is_plain;
 use super::script::Script;
 use super::shelf::Shelf;
 use crate::run::run_cases;
 use std::alloc::Global;
+use std::cell::Cell;
 use std::process::Abort;
 use std::test::Fail;
 
@@ -13,10 +14,13 @@ use std::test::Fail;
 /// with a cleanup); capitals are exclusive.
 const LETTERS: &[u8; 14] = b"pcrtqdfPCRTQDF";
 
-/// By turns, which of the children that run ends.
-const PICKS: &[(usize, usize); 6] = &[(0, 0), (1, 1), (2, 2), (0, 1), (1, 0), (2, 0)];
+/// By turns, which of two children that run ends.
+const PAIRS: &[(usize, usize); 4] = &[(0, 0), (1, 1), (0, 1), (1, 0)];
 
-/// Whether the core's trace and entries are those of the plain schedule.
+/// By turns, which of three.
+const THREES: &[(usize, usize); 6] = &[(0, 0), (1, 1), (2, 2), (0, 1), (1, 0), (2, 0)];
+
+/// Whether the core's calls and puts are those of the plain schedule, step by step.
 fn agrees<R: Abort>(
     rt: &R,
     alloc: Global,
@@ -27,18 +31,7 @@ fn agrees<R: Abort>(
 ) -> Result<(), Fail>
     requires { IsWidth width }
 {
-    let mut plain = Plain {
-        jobs,
-        width: width as usize,
-        failing,
-        picks,
-        events: Vec::new(alloc),
-        recorded: Vec::new(alloc),
-        stored: 0,
-        failed: false,
-        log: String::new(alloc),
-    };
-    assert!(rt; plain.run(alloc, 100)?, "endless at {jobs:?}");
+    let count = Cell::new(0);
     let mut script = Script {
         rt,
         jobs,
@@ -48,43 +41,39 @@ fn agrees<R: Abort>(
         steps: Vec::new(alloc),
         owed: Vec::new(alloc),
         log: String::new(alloc),
+        calls: Vec::new(alloc),
+        count: &count,
     };
     let mut shelf = Shelf {
         entries: Vec::new(alloc),
         failing,
+        count: &count,
+        puts: Vec::new(alloc),
     };
     let result = run_cases(alloc, plan_of(alloc, jobs)?, width, &mut script, &mut shelf);
-    assert_eq!(rt;
+    let plan = plan_of(alloc, jobs)?.into_vec();
+    assert!(rt;
+        is_plain(alloc, &plan, width, &script.calls, &shelf)?,
+        "at {jobs:?}, {width}, {failing}, {picks:?}: {}, {:?}",
         script.log.as_str(),
-        plain.log.as_str(),
-        "at {jobs:?}, {width}, {failing}, {picks:?}"
+        shelf.puts
     );
     assert_eq!(rt;
         result.is_ok(),
-        !plain.failed,
+        shelf.entries.len() == jobs.len(),
         "at {jobs:?}, {width}, {failing}, {picks:?}"
     );
-    assert_eq!(rt;
-        shelf.entries.len(),
-        plain.stored,
-        "at {jobs:?}, {width}, {failing}, {picks:?}"
-    );
-    for (entry, position) in shelf.entries.iter().zip(&plain.recorded) {
-        assert_eq!(rt;
-            entry.position as usize,
-            *position,
-            "at {jobs:?}, {width}, {failing}, {picks:?}"
-        );
-    }
     Ok(())
 }
 
 /// Whether a plan goes as the plain schedule at each width, with each put failing or none, and the children ending in several orders.
 fn agrees_always<R: Abort>(rt: &R, alloc: Global, jobs: &[u8]) -> Result<(), Fail> {
-    for failing in 0..5usize {
+    for failing in 0..=jobs.len() {
         agrees(rt, alloc, jobs, 1, failing, (0, 0))?;
-        for picks in PICKS {
+        for picks in PAIRS {
             agrees(rt, alloc, jobs, 2, failing, *picks)?;
+        }
+        for picks in THREES {
             agrees(rt, alloc, jobs, 3, failing, *picks)?;
         }
     }
@@ -93,16 +82,13 @@ fn agrees_always<R: Abort>(rt: &R, alloc: Global, jobs: &[u8]) -> Result<(), Fai
 
 /// Whether each plan of up to four cases with this first letter goes as the plain schedule.
 fn plans_from<R: Abort>(rt: &R, alloc: Global, first: u8) -> Result<(), Fail> {
-    for number in 0..2744u32 {
-        let mut jobs = [first; 4];
-        let mut rest = number;
-        for job in &mut jobs[1..] {
-            *job = LETTERS[(rest % 14) as usize];
-            rest /= 14;
-        }
-        for (length, below) in [(1usize, 1u32), (2, 14), (3, 196), (4, 2744)] {
-            if number < below {
-                agrees_always(rt, alloc, &jobs[..length])?;
+    agrees_always(rt, alloc, &[first])?;
+    for second in LETTERS {
+        agrees_always(rt, alloc, &[first, *second])?;
+        for third in LETTERS {
+            agrees_always(rt, alloc, &[first, *second, *third])?;
+            for fourth in LETTERS {
+                agrees_always(rt, alloc, &[first, *second, *third, *fourth])?;
             }
         }
     }

@@ -6,6 +6,7 @@ use crate::run_fault::RunFault;
 use crate::sink_fault::SinkFault;
 use crate::totals::Totals;
 use kt_base::{Kind, Text};
+use std::cell::Cell;
 use std::process::Abort;
 use std::test::Fail;
 
@@ -208,6 +209,7 @@ fn worked_rows(rt: HostRuntime) -> Result<(), Fail> {
     for row in &ROWS {
         assert!(rt; row.width >= 1 && row.width <= 64);
         let plan = plan_of(alloc, row.jobs)?;
+        let count = Cell::new(0);
         let mut script = Script {
             rt: &rt,
             jobs: row.jobs,
@@ -217,9 +219,13 @@ fn worked_rows(rt: HostRuntime) -> Result<(), Fail> {
             steps: Vec::new(alloc),
             owed: Vec::new(alloc),
             log: String::new(alloc),
+            calls: Vec::new(alloc),
+            count: &count,
         };
         let mut shelf = Shelf {
             entries: Vec::new(alloc),
+            count: &count,
+            puts: Vec::new(alloc),
             failing: row.failing,
         };
         let result = run_cases(alloc, plan, row.width, &mut script, &mut shelf);
@@ -298,6 +304,7 @@ const TOLD: [Told; 6] = [
 fn entries_tell_of_their_own_events(rt: HostRuntime) -> Result<(), Fail> {
     let alloc = rt.alloc();
     for told in &TOLD {
+        let count = Cell::new(0);
         let mut script = Script {
             rt: &rt,
             jobs: told.job,
@@ -307,9 +314,13 @@ fn entries_tell_of_their_own_events(rt: HostRuntime) -> Result<(), Fail> {
             steps: Vec::new(alloc),
             owed: Vec::new(alloc),
             log: String::new(alloc),
+            calls: Vec::new(alloc),
+            count: &count,
         };
         let mut shelf = Shelf {
             entries: Vec::new(alloc),
+            count: &count,
+            puts: Vec::new(alloc),
             failing: 0,
         };
         let result = run_cases(alloc, plan_of(alloc, told.job)?, 1, &mut script, &mut shelf);

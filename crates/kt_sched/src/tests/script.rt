@@ -5,6 +5,7 @@ ghost use Rattle.kt_sched.specs.Children.{IsEvidence, same_role, pending_after_s
 ghost use Rattle.kt_sched.specs.declared.start_answer.StartAnswer.TheVariants.{Started};
 ghost use Rattle.kt_sched.specs.Shown.{shown, owed_in, child_of_pair};
 
+use super::call::Call;
 use super::plans::refuses;
 use crate::ended::Ended;
 use crate::job::Job;
@@ -12,6 +13,7 @@ use crate::launcher::Launcher;
 use crate::start_answer::StartAnswer;
 use kt_base::{Bytes, Interface, LATEST_MOMENT, Outcome, Output, Refused, Role};
 use kt_claim::{Claim, Evidence, Tap};
+use std::cell::Cell;
 use std::process::Abort;
 
 /// Position, role, whether it begins, interface, and whether a cleanup is declared.
@@ -32,6 +34,10 @@ pub struct Script<'a, R: Abort> {
     pub steps: Vec<Step>,
     pub owed: Vec<(u32, bool)>,
     pub log: String,
+    /// The calls, with their answers.
+    pub calls: Vec<Call>,
+    /// How many calls there were, for the sink to read.
+    pub count: &'a Cell<usize>,
 }
 
 /// What is known of the child that runs at a position in a role.
@@ -184,10 +190,13 @@ impl<R: Abort> Launcher for Script<'_, R> {
         note(&mut self.log, "start", job.position, role);
         let moment = next_moment(&mut self.moments);
         ask(self.rt, &mut self.owed, job.position, role);
+        self.count.set(self.count.get().wrapping_add(1));
         if is_refused(self.jobs, job.position, role) {
+            assert!(self.rt; self.calls.push(Call::Refused(job.position, role)).is_ok());
             return StartAnswer::Refused(Refused::Output);
         }
         begin(self.rt, &mut self.steps, job, role);
+        assert!(self.rt; self.calls.push(Call::Started(job.position, role)).is_ok());
         StartAnswer::Started(moment.min(LATEST_MOMENT))
     }
 
@@ -199,6 +208,8 @@ impl<R: Abort> Launcher for Script<'_, R> {
             panic!(self.rt; "no child runs at {position}");
         };
         note(&mut self.log, "end", position, role);
+        self.count.set(self.count.get().wrapping_add(1));
+        assert!(self.rt; self.calls.push(Call::Ended(position, role)).is_ok());
         let moment = next_moment(&mut self.moments);
         finish(self.rt, &mut self.steps, position, role);
         owe(self.rt, &mut self.owed, position, role, cleanup);
