@@ -1,4 +1,9 @@
 pub mod Chains
+pub mod EndSteps
 pub mod Mapped
 pub mod Outcomes
 pub mod PartSteps
+pub mod TurnSteps
+pub mod WaitSteps
+pub mod WaitedOnSteps
+pub mod WidthSteps

@@ -1,6 +1,7 @@
 pub mod Calls
 pub mod ChildOutcome
 pub mod ChildPlan
+pub mod Ends
 pub mod Gathering
 pub mod Moments
 pub mod Parts
@@ -8,3 +9,6 @@ pub mod Polls
 pub mod Reads
 pub mod Roots
 pub mod Starts
+pub mod Turns
+pub mod Waits
+pub mod Width
