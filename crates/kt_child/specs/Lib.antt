@@ -1,3 +1,5 @@
+pub mod Begins
+pub mod Board
 pub mod Calls
 pub mod ChildOutcome
 pub mod ChildPlan
