@@ -5,6 +5,9 @@ pub mod ChildOutcome
 pub mod ChildPlan
 pub mod Ends
 pub mod Gathering
+pub mod JobPlan
+pub mod Launches
+pub mod Lists
 pub mod Moments
 pub mod Parts
 pub mod Polls

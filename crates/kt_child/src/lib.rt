@@ -3,12 +3,18 @@
 
 mod case;
 mod child;
+mod driver;
 mod driver_fault;
 mod ends;
 mod env;
 mod environment;
 mod file_read;
 mod gathering;
+mod jobs;
+mod launches;
+mod list_start;
+mod lists;
+mod locations;
 mod moments;
 mod next_part;
 mod open_turn;
@@ -42,6 +48,7 @@ mod workdir;
 
 pub use case::Case;
 pub use child::Child;
+pub use driver::Driver;
 pub use driver_fault::DriverFault;
 pub use ends::leave;
 pub use env::EnvPlan;
