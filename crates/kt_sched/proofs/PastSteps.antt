@@ -3,15 +3,14 @@ use Rattle.std.specs.Prelude.{map, filter, not, ◌&&◌, ◌||◌, ◌==◌, if
 use Rattle.std.proofs.Common.{◌≡◌, ℕ, Bool, true, false, List, [], ◌∷◌, ◌++◌, refl, sym, ◌∙◌, ap, subst, append_assoc}
 use Rattle.std.proofs.lemmas.List.{map-append}
 use Rattle.kt_sched.specs.declared.job.Job.{Job}
-use Rattle.kt_sched.specs.declared.plain.happening.Happening.{Happening}
 use Rattle.kt_sched.specs.declared.plain.past.Past.{Past}
 use Rattle.kt_sched.specs.declared.plain.past.Past.TheVariants as past
 use Rattle.kt_sched.specs.Trace.{Event, Trace, NoEvent, Then, position_of, of}
 use Rattle.kt_sched.specs.History.{Mark, mark_of, history}
-use Rattle.kt_sched.specs.TurnOrder.{turns, body_start_of, body_starts}
+use Rattle.kt_sched.specs.TurnOrder.{turns}
 use Rattle.kt_sched.specs.RecordOrder.{is_open, was_open, recorded}
 use Rattle.kt_sched.specs.Board.{positions}
-use Rattle.kt_sched.specs.Past.{trace_of, event_of, marks_at, opens, finishes, some_runs}
+use Rattle.kt_sched.specs.Past.{trace_of, marks_at, opens, finishes}
 use Rattle.kt_sched.proofs.Steps.{recorded_more, put_at_positions}
 
 -- the history after one event more

@@ -9,11 +9,10 @@ use Rattle.kt_sched.specs.declared.job.Job.{Job}
 use Rattle.kt_sched.specs.declared.next.Next.{Next}
 use Rattle.kt_sched.specs.declared.next.Next.TheVariants as next
 use Rattle.kt_sched.specs.Plan.{IsPlan}
-use Rattle.kt_sched.specs.Trace.{Event, Trace, NoEvent, Then, position_of, of}
-use Rattle.kt_sched.specs.History.{mark_of, history, is_active, active, has_whole_history}
+use Rattle.kt_sched.specs.Trace.{Trace, NoEvent, Then, position_of, of}
+use Rattle.kt_sched.specs.History.{mark_of, history, is_active, active}
 use Rattle.kt_sched.specs.TurnOrder.{turns, body_starts, next_to_start}
 use Rattle.kt_sched.specs.ScheduleRules.{owed, IsBusy, IsQuiet, AloneAtStart}
-use Rattle.kt_sched.specs.RecordOrder.{recorded}
 use Rattle.kt_sched.specs.Fed.{Fed, has_failed, runs}
 use Rattle.kt_sched.specs.Next.{IsNext, IsUpToDate, MayBegin}
 use Rattle.kt_sched.specs.Past.{some_runs, none_exclusive, ordinary_whole, is_quiet, is_alone, may_begin, is_busy_before, rest_of, next_after_failure, next_before, SaysNext}
