@@ -1,6 +1,7 @@
 pub mod Calls
 pub mod ChildOutcome
 pub mod ChildPlan
+pub mod HostAnswers
 pub mod Moments
 pub mod Parts
 pub mod Polls
