@@ -1,4 +1,12 @@
+pub mod BoardSteps
 pub mod Chains
+pub mod EndSteps
 pub mod Mapped
 pub mod Outcomes
+pub mod Parents
 pub mod PartSteps
+pub mod RowWaits
+pub mod TurnSteps
+pub mod WaitSteps
+pub mod WaitedOnSteps
+pub mod WidthSteps

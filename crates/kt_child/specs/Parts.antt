@@ -1,29 +1,36 @@
 -- A file that is read in parts.
-use Rattle.std.specs.Prelude.{◌≡◌, ℕ, zero, suc, ◌-◌, min, List, [], ◌∷◌, ◌++◌, length, true, false, Result, Ok, Err, ◌⊎◌, leb, if◌then◌else◌}
+use Rattle.std.specs.Prelude.{◌≡◌, ℕ, zero, suc, ◌+◌, ◌-◌, min, List, [], ◌∷◌, ◌++◌, length, true, false, Result, Ok, Err, ◌⊎◌, leb, if◌then◌else◌}
 use Rattle.kt_child.specs.declared.os_fault.OsFault.{OsFault}
 use Rattle.kt_child.specs.declared.file_read.FileRead.{FileRead}
 use Rattle.kt_child.specs.declared.file_read.FileRead.TheVariants.{Missing as NoFile, Part}
-use Rattle.kt_child.specs.declared.whole.Whole.{Whole}
-use Rattle.kt_child.specs.declared.whole.Whole.TheVariants.{Missing, Unreadable, TooLong, Bytes}
 use Rattle.kt_child.specs.declared.next_part.NextPart.{NextPart}
 use Rattle.kt_child.specs.declared.next_part.NextPart.TheVariants.{More, All, Absent, Failed, Past}
+use Rattle.kt_child.specs.declared.read_end.ReadEnd.{ReadEnd}
+use Rattle.kt_child.specs.declared.read_end.ReadEnd.TheVariants as read_end
 use Rattle.kt_child.specs.Reads.{bytes_of}
 use Rattle.kt_child.specs.Calls.{Call, ReadPart}
 
--- what is asked next, after these bytes
-abbrev pub next_part : List ℕ → ℕ → ℕ → List ℕ → Result FileRead OsFault → Call
-next_part path part limit got answer = ReadPart path (length got) (min part (limit - length got)) answer
+-- what reading a file in parts gives
+pub data Whole : Type 0 where
+  Missing : Whole
+  Unreadable : Whole
+  TooLong : Whole
+  Bytes : (bytes : List ℕ) → Whole
 
--- what a part makes of the bytes so far
-abbrev pub next_of : ℕ → List ℕ → FileRead → NextPart
-next_of limit [] NoFile = Absent
-next_of limit (x ∷ got) NoFile = Failed
+-- what is asked next, after so many bytes
+abbrev pub next_part : List ℕ → ℕ → ℕ → ℕ → Result FileRead OsFault → Call
+next_part path part limit got answer = ReadPart path got (min part (limit - got)) answer
+
+-- what a part makes of a file of which so many bytes were read
+abbrev pub next_of : ℕ → ℕ → FileRead → NextPart
+next_of limit zero NoFile = Absent
+next_of limit (suc got) NoFile = Failed
 next_of limit got (Part bytes false) = All
 next_of limit got (Part [] true) = Failed
-next_of limit got (Part (b ∷ bytes) true) = if leb limit (length (got ++ b ∷ bytes)) then Past else More
+next_of limit got (Part (b ∷ bytes) true) = if leb limit (got + length (b ∷ bytes)) then Past else More
 
 -- Any part that can't be kept for want of memory counts as a failed read.
-abbrev pub IsNext : ℕ → List ℕ → Result FileRead OsFault → NextPart → Type 0
+abbrev pub IsNext : ℕ → ℕ → Result FileRead OsFault → NextPart → Type 0
 IsNext limit got (Err fault) next = next ≡ Failed
 IsNext limit got (Ok read) next = (next ≡ Failed) ⊎ (next ≡ next_of limit got read)
 
@@ -38,6 +45,17 @@ After Past got call calls whole Rest = (calls ≡ call ∷ []) × (whole ≡ Too
 abbrev pub Reads : ℕ → List ℕ → ℕ → ℕ → List ℕ → List Call → Whole → Type 0
 Reads zero path part limit got calls whole = ⊥
 Reads (suc n) path part limit got calls whole =
-    (answer : Result FileRead OsFault) × (next : NextPart) × IsNext limit got answer next
-    × After next (got ++ bytes_of answer) (next_part path part limit got answer) calls whole
+    (answer : Result FileRead OsFault) × (next : NextPart) × IsNext limit (length got) answer next
+    × After next (got ++ bytes_of answer) (next_part path part limit (length got) answer) calls whole
     (λ more. Reads n path part limit (got ++ bytes_of answer) more whole)
+
+-- a reader that has taken some bytes has taken these behind them
+abbrev pub Takes : {R : Type 0} → (R → List ℕ → Type 0) → R → R → List ℕ → Type 0
+Takes has_taken old new bytes = (taken : List ℕ) → has_taken old taken → has_taken new (taken ++ bytes)
+
+-- a reading that ended so gave this, and the reader has taken a file that was read whole
+abbrev pub Tells : {R : Type 0} → (R → List ℕ → Type 0) → R → ReadEnd → Whole → Type 0
+Tells has_taken reader read_end.Missing whole = whole ≡ Missing
+Tells has_taken reader read_end.Unreadable whole = whole ≡ Unreadable
+Tells has_taken reader read_end.TooLong whole = whole ≡ TooLong
+Tells has_taken reader read_end.Complete whole = (bytes : List ℕ) × (whole ≡ Bytes bytes) × has_taken reader bytes

@@ -1,87 +1,123 @@
-ghost use Rattle.std.specs.Prelude.{◌≡◌, ℕ, ◌<◌, ◌≤◌, ◌++◌, List, [], Result, length, Ok};
+ghost use Rattle.std.specs.Prelude.{◌≡◌, ℕ, ◌+◌, ◌<◌, List, [], Result, length, Ok, true};
 ghost use Rattle.kt_child.specs.declared.file_read.FileRead.{FileRead};
 ghost use Rattle.kt_child.specs.declared.os_fault.OsFault.{OsFault};
 ghost use Rattle.kt_child.specs.Calls.{Call, Chain};
 ghost use Rattle.kt_child.specs.Reads.{bytes_of};
-ghost use Rattle.kt_child.specs.Parts.{IsNext, Reads, next_part};
+ghost use Rattle.kt_child.specs.Parts.{IsNext, Reads, Takes, Tells, Whole, next_part};
 
 use crate::file_read::FileRead;
 use crate::next_part::NextPart;
 use crate::os::Os;
-use crate::whole::Whole;
+use crate::part_reader::PartReader;
+use crate::read_end::ReadEnd;
 use kt_base::{Bytes, Text};
-use std::alloc::Global;
 
-/// Keeps the bytes of a part.
-fn keep_part(got: &mut Bytes, bytes: &Bytes, follows: bool, limit: u64) -> NextPart
-    ensures next { IsNext limit got.old (Ok (FileRead.Part bytes.now follows)) result }
-    ensures all { result ≡ NextPart.All → got.new ≡ got.old ++ bytes.now }
-    ensures more { result ≡ NextPart.More → (got.new ≡ got.old ++ bytes.now) × (length got.old < length got.new) × (length got.new < limit) }
+/// What follows a part behind which more bytes follow.
+fn count_part(got: &mut u64, bytes: &Bytes, limit: u64) -> NextPart
+    requires { got.old < limit }
+    ensures next { IsNext limit got.old (Ok (FileRead.Part bytes.now true)) result }
+    ensures all { result ≡ NextPart.All → ⊥ }
+    ensures more { result ≡ NextPart.More → (got.new ≡ got.old + length bytes.now) × (got.old < got.new) × (got.new < limit) }
 {
-    if got.append(bytes.as_slice()).is_err() {
+    if bytes.is_empty() {
+        return NextPart::Failed;
+    }
+    let count = bytes.len() as u64;
+    if count >= limit - *got {
+        return NextPart::Past;
+    }
+    *got += count;
+    NextPart::More
+}
+
+/// Hands the bytes of a part to the reader.
+fn take_part<R: PartReader>(
+    reader: &mut R,
+    got: &mut u64,
+    bytes: &Bytes,
+    follows: bool,
+    limit: u64,
+) -> NextPart
+    requires { got.old < limit }
+    ensures next { IsNext limit got.old (Ok (FileRead.Part bytes.now follows)) result }
+    ensures all { result ≡ NextPart.All → Takes R.has_taken reader.old reader.new bytes.now }
+    ensures taken { result ≡ NextPart.More → Takes R.has_taken reader.old reader.new bytes.now }
+    ensures more { result ≡ NextPart.More → (got.new ≡ got.old + length bytes.now) × (got.old < got.new) × (got.new < limit) }
+{
+    if reader.take(bytes.as_slice()).is_err() {
         return NextPart::Failed;
     }
     if !follows {
         return NextPart::All;
     }
-    if bytes.is_empty() {
-        return NextPart::Failed;
-    }
-    if got.len() as u64 >= limit {
-        return NextPart::Past;
-    }
-    NextPart::More
+    count_part(got, bytes, limit)
 }
 
-fn keep(got: &mut Bytes, read: FileRead, limit: u64) -> NextPart
+fn take<R: PartReader>(reader: &mut R, got: &mut u64, read: FileRead, limit: u64) -> NextPart
+    requires { got.old < limit }
     ensures next { IsNext limit got.old (Ok read) result }
-    ensures all { result ≡ NextPart.All → got.new ≡ got.old ++ bytes_of (Ok read) }
-    ensures more { result ≡ NextPart.More → (got.new ≡ got.old ++ bytes_of (Ok read)) × (length got.old < length got.new) × (length got.new < limit) }
+    ensures all { result ≡ NextPart.All → Takes R.has_taken reader.old reader.new (bytes_of (Ok read)) }
+    ensures taken { result ≡ NextPart.More → Takes R.has_taken reader.old reader.new (bytes_of (Ok read)) }
+    ensures more { result ≡ NextPart.More → (got.new ≡ got.old + length (bytes_of (Ok read))) × (got.old < got.new) × (got.new < limit) }
 {
     match read {
         FileRead::Missing => {
-            if got.is_empty() {
+            if *got == 0 {
                 NextPart::Absent
             } else {
                 NextPart::Failed
             }
         }
-        FileRead::Part(bytes, follows) => keep_part(got, &bytes, follows, limit),
+        FileRead::Part(bytes, follows) => take_part(reader, got, &bytes, follows, limit),
     }
 }
 
-/// Asks for the next part, and keeps it.
-fn read_next<O: Os>(os: &mut O, path: &Text, part: u64, limit: u64, got: &mut Bytes) -> NextPart
-    requires { length got.old < limit }
+/// Asks for the next part.
+fn read_next<O: Os, R: PartReader>(
+    os: &mut O,
+    path: &Text,
+    part: u64,
+    limit: u64,
+    reader: &mut R,
+    got: &mut u64,
+) -> NextPart
+    requires { got.old < limit }
     ensures asked { (answer : Result FileRead OsFault)
         × O.leads os.old (next_part path.now part limit got.old answer) os.new
         × IsNext limit got.old answer result
-        × (result ≡ NextPart.All → got.new ≡ got.old ++ bytes_of answer)
-        × (result ≡ NextPart.More → got.new ≡ got.old ++ bytes_of answer) }
-    ensures more { result ≡ NextPart.More → (length got.old < length got.new) × (length got.new < limit) }
+        × (result ≡ NextPart.All → Takes R.has_taken reader.old reader.new (bytes_of answer))
+        × (result ≡ NextPart.More → Takes R.has_taken reader.old reader.new (bytes_of answer))
+        × (result ≡ NextPart.More → got.new ≡ got.old + length (bytes_of answer)) }
+    ensures more { result ≡ NextPart.More → (got.old < got.new) × (got.new < limit) }
 {
-    let from = got.len() as u64;
-    let room = limit - from;
-    match os.read_part(path, from, part.min(room)) {
-        Ok(read) => keep(got, read, limit),
+    let room = limit - *got;
+    match os.read_part(path, *got, part.min(room)) {
+        Ok(read) => take(reader, got, read, limit),
         Err(_) => NextPart::Failed,
     }
 }
 
-/// Reads a file in parts of at most `part` bytes, as far as `limit` bytes.
-pub fn read_whole<O: Os>(alloc: Global, os: &mut O, path: &Text, part: u64, limit: u64) -> Whole
-    requires { 0 < limit }
-    ensures { (parts : ℕ) × (calls : List Call) × Chain O.leads os.old calls os.new
-        × Reads parts path.now part limit [] calls result }
+/// Reads a file in parts of at most `part` bytes, as far as `limit` bytes, into a reader that has taken none.
+pub(super) fn read_in_parts<O: Os, R: PartReader>(
+    os: &mut O,
+    path: &Text,
+    part: u64,
+    limit: u64,
+    reader: &mut R,
+) -> ReadEnd
+    requires some { 0 < limit }
+    requires none { R.has_taken reader.old [] }
+    ensures { (parts : ℕ) × (calls : List Call) × (whole : Whole) × Chain O.leads os.old calls os.new
+        × Reads parts path.now part limit [] calls whole × Tells R.has_taken reader.new result whole }
 {
-    let mut got = Bytes::new(alloc);
+    let mut got = 0;
     'parts: loop {
-        match read_next(os, path, part, limit, &mut got) {
+        match read_next(os, path, part, limit, reader, &mut got) {
             NextPart::More => {}
-            NextPart::All => return Whole::Bytes(got),
-            NextPart::Absent => return Whole::Missing,
-            NextPart::Failed => return Whole::Unreadable,
-            NextPart::Past => return Whole::TooLong,
+            NextPart::All => return ReadEnd::Complete,
+            NextPart::Absent => return ReadEnd::Missing,
+            NextPart::Failed => return ReadEnd::Unreadable,
+            NextPart::Past => return ReadEnd::TooLong,
         }
     }
 }

@@ -33,7 +33,7 @@ fn open_and_spawn<O: Os>(os: &mut O, plan: &Spawning) -> Result<(), Refused>
 }
 
 /// Makes the work directory, and then as above.
-fn furnish<O: Os>(os: &mut O, plan: &Spawning) -> Result<(), Refused>
+pub(super) fn furnish<O: Os>(os: &mut O, plan: &Spawning) -> Result<(), Refused>
     ensures { (calls : List Call) × Chain O.leads os.old calls os.new × Tried (furnish_asks plan.now) calls result }
 {
     if os.make_dir(&plan.work).is_err() {

@@ -1,13 +1,12 @@
-use kt_base::Bytes;
-
-/// What reading a file in parts gives.
-#[derive(Debug, Drop)]
-pub enum Whole {
+/// How the reading of a file in parts ended.
+#[derive(Clone, Copy, Debug, PartialEq, Eq)]
+pub enum ReadEnd {
     /// There is no such file.
     Missing,
     /// A read failed, or a part could not be kept.
     Unreadable,
     /// The limit was reached, and more followed.
     TooLong,
-    Bytes(Bytes),
+    /// The file was read whole.
+    Complete,
 }

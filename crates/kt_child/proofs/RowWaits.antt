@@ -1,0 +1,94 @@
+-- What a wait makes of a board.
+use Rattle.std.proofs.Common.{◌≡◌, ℕ, suc, ◌+◌, ◌<◌, ◌≤◌, List, ◌++◌, length, slice_get, take, drop, Bool, true, Option, Some, None, refl, sym, ◌∙◌, ap, subst, arith, ◌==◌, ◌&&◌, if◌then◌else◌}
+use Rattle.std.specs.Prelude.{remove, All}
+use Rattle.std.proofs.lemmas.List.{take_at}
+use Rattle.std.proofs.lemmas.List.Edits.{length-remove}
+use Rattle.std.proofs.lemmas.List.Elements.{All-append, All-take, All-drop}
+use Rattle.kt_base.specs.declared.role.Role.{Role}
+use Rattle.kt_base.specs.declared.role.Role.TheVariants.{Body}
+use Rattle.kt_base.specs.declared.outcome.Outcome.{Outcome}
+use Rattle.kt_claim.specs.declared.evidence.Evidence.{Evidence}
+use Rattle.kt_child.specs.declared.watched.Watched.{Watched}
+use Rattle.kt_child.specs.declared.open_turn.OpenTurn.{OpenTurn}
+use Rattle.kt_child.specs.declared.case.Case.{Case}
+use Rattle.kt_sched.specs.declared.ended.Ended.{Ended}
+use Rattle.kt_child.specs.Calls.{Call, Chain}
+use Rattle.kt_child.specs.Turns.{IsOn}
+use Rattle.kt_child.specs.Waits.{WaitedOn}
+use Rattle.kt_sched.specs.Children.{Child as Shown, IsEvidence, same_role, running_after_end, pending_after_end, with_cleanup_declared}
+use Rattle.kt_child.specs.Board.{Board, IsBoard, Waited, count_at, is_among, one_if, pending_with, shown, shown_at}
+use Rattle.kt_child.specs.Ends.{Leaves}
+use Rattle.kt_child.proofs.Chains.{chain_append}
+use Rattle.kt_child.proofs.BoardSteps.{among_owed, count_owed, count_remove, shown_remove, shown_there}
+
+pub same_children : (n : ℕ) (children rest : List Watched) → length children ≡ n → take n (children ++ rest) ≡ children
+same_children n children rest h = take_at children rest n h
+
+once_there : (cases pending : List Case) (c : Case) → ((i : ℕ) → count_at i cases + count_at i pending ≤ 1) → count_at c.position cases ≤ 1
+once_there cases pending c h = let m : count_at c.position cases + count_at c.position pending ≤ 1 = h c.position in omega arith
+
+pub board_after : (children after children' : List Watched) (cases cases' pending pending' : List Case) (going going' : OpenTurn) (p : ℕ) (c : Case)
+    → IsBoard children cases going pending → slice_get cases p ≡ Some c → p < length children
+    → All IsOn after → length after ≡ length children → going'.from + going'.unpolled < length children → going'.over < 8
+    → children' ≡ remove after p → cases' ≡ remove cases p → pending' ≡ pending_with c pending
+    → IsBoard children' cases' going' pending'
+board_after children after children' cases cases' pending pending' going going' p c b at lt on same within few e f q =
+    let la : length (remove after p) + 1 ≡ length after = length-remove after p (omega arith) in
+    let ltc : p < length cases = let s = b.same in omega arith in
+    let lc : length (remove cases p) + 1 ≡ length cases = length-remove cases p ltc in
+    let le : length children' ≡ length (remove after p) = ap length e in
+    let lf : length cases' ≡ length (remove cases p) = ap length f in
+    let s = b.same in
+    record {
+      on = subst (All IsOn) (sym e) (All-append IsOn (take p after) (drop (suc p) after) (All-take IsOn p after on) (All-drop IsOn (suc p) after on));
+      same = omega arith;
+      within = omega arith;
+      few = few;
+      once = λ i.
+          let h : count_at i (remove cases p) + one_if (i == c.position) ≡ count_at i cases = count_remove cases p c i at in
+          let o = count_owed pending c i in
+          let n = b.once i in
+          let x : count_at i cases' ≡ count_at i (remove cases p) = ap (count_at i) f in
+          let y : count_at i pending' ≡ count_at i (pending_with c pending) = ap (count_at i) q in
+          omega (arith, h, o, n, x, y);
+    }
+
+pub waited_one : (cases pending : List Case) (p : ℕ) (c : Case) (position : ℕ) (role : Role) (evidence : Evidence)
+    → ((i : ℕ) → count_at i cases + count_at i pending ≤ 1) → slice_get cases p ≡ Some c
+    → position ≡ c.position → role ≡ c.role → IsEvidence c.interface role evidence
+    → (s : Shown) × (shown_at cases position role ≡ Some s) × IsEvidence s.interface role evidence
+waited_one cases pending p c position role evidence once at e f fits =
+    let P : ℕ → Type 0 = λ n. shown_at cases n role ≡ Some (shown c) in
+    let Q : Role → Type 0 = λ r. shown_at cases c.position r ≡ Some (shown c) in
+    (shown c, subst P (sym e) (subst Q (sym f) (shown_there cases p c at (once_there cases pending c once))), fits)
+
+pub waited_running : (cases cases' pending : List Case) (p : ℕ) (c : Case) (e : Ended)
+    → ((i : ℕ) → count_at i cases + count_at i pending ≤ 1) → slice_get cases p ≡ Some c
+    → e.position ≡ c.position → e.role ≡ c.role → cases' ≡ remove cases p
+    → (k : ℕ) (r : Role) → shown_at cases' k r ≡ running_after_end (shown_at cases) e k r
+waited_running cases cases' pending p c e once at x y f k r =
+    let A : ℕ → Option Shown = λ n. if k == n && same_role r c.role then None else shown_at cases k r in
+    let B : Role → Option Shown = λ q. if k == e.position && same_role r q then None else shown_at cases k r in
+    ap (λ t. shown_at t k r) f ∙ shown_remove cases p c k r at (once_there cases pending c once) ∙ ap A (sym x) ∙ ap B (sym y)
+
+pub waited_pending : (cases pending pending' : List Case) (p : ℕ) (c : Case) (e : Ended)
+    → ((i : ℕ) → count_at i cases + count_at i pending ≤ 1) → slice_get cases p ≡ Some c
+    → e.position ≡ c.position → e.role ≡ c.role → pending' ≡ pending_with c pending
+    → (k : ℕ) → is_among pending' k ≡ pending_after_end (shown_at cases) (is_among pending) e k
+waited_pending cases pending pending' p c e once at x y f k =
+    let A : ℕ → Bool = λ n. if k == n && (same_role c.role Body && with_cleanup_declared (shown_at cases n Body)) then true else is_among pending k in
+    let B : Role → Bool = λ q. if k == e.position && (same_role q Body && with_cleanup_declared (shown_at cases e.position Body)) then true else is_among pending k in
+    ap (λ t. is_among t k) f ∙ among_owed cases pending c k (shown_there cases p c at (once_there cases pending c once)) ∙ ap A (sym x) ∙ ap B (sym y)
+
+pub waited_all : {O : Type 0} (leads : O → Call → O → Type 0) (a b d : O) (old new : Board) (children after : List Watched) (place : ℕ) (outcome : Outcome) (c : Case) (e : Ended)
+    → (calls : List Call) × Chain leads a calls b × WaitedOn old.going children calls place outcome after new.going
+    → (calls : List Call) × Chain leads b calls d × Leaves c calls outcome e
+    → children ≡ old.children → slice_get old.cases place ≡ Some c
+    → new.children ≡ remove after place → new.cases ≡ remove old.cases place → new.pending ≡ pending_with c old.pending
+    → (calls : List Call) × Chain leads a calls d × Waited old calls e new
+waited_all leads a b d old new children after place outcome c e (xs, p, w) (ys, q, l) same at f g i =
+    let P : List Watched → Type 0 = λ t. WaitedOn old.going t xs place outcome after new.going in
+    (xs ++ ys, chain_append leads a b d xs ys p q, (xs, ys, place, outcome, after, c, refl, subst P same w, at, l, f, g, i))
+
+pub once_owed : (cases pending : List Case) (c : Case) → ((i : ℕ) → count_at i cases + count_at i pending ≤ 1) → count_at c.position pending ≤ 1
+once_owed cases pending c h = let m : count_at c.position cases + count_at c.position pending ≤ 1 = h c.position in omega arith

@@ -1,0 +1,27 @@
+-- Turns where one child runs at a time.
+use Rattle.std.proofs.Common.{◌≡◌, ℕ, zero, suc, List, [], ◌∷◌, ◌++◌, take, drop, refl, sym, ◌∙◌, ap, subst, inl, inr}
+use Rattle.kt_base.specs.declared.outcome.Outcome.{Outcome}
+use Rattle.kt_child.specs.declared.watched.Watched.{Watched}
+use Rattle.kt_child.specs.Calls.{Call}
+use Rattle.kt_child.specs.Turns.{PolledUntil, WaitedUntil}
+use Rattle.kt_child.specs.Width.{PlainLoop}
+
+-- no child is over in an empty row
+none_over : (i : ℕ) (calls : List Call) (outcome : Outcome) → PolledUntil [] i calls outcome → ⊥
+none_over zero calls outcome (before, last, e, p, q) = q
+none_over (suc i) calls outcome (before, last, e, p, q) = q
+
+-- a row that is cut and joined
+take_drop : (n : ℕ) (children : List Watched) → take n children ++ drop n children ≡ children
+take_drop zero children = refl
+take_drop (suc n) [] = refl
+take_drop (suc n) (k ∷ children) = ap (λ t. k ∷ t) (take_drop n children)
+
+-- the law
+pub plain_loop : PlainLoop
+plain_loop from over children calls place outcome after turn (inl (i, members, until, at, same, n, turned)) = absurd (none_over i calls outcome until)
+plain_loop from over children calls place outcome after turn (inr (rest, more, turns, members, e, polled, waited, same, n, turned)) =
+    let P : List Watched → Type 0 = λ t. WaitedUntil turns t more place outcome in
+    let Q : List Call → Type 0 = λ t. WaitedUntil turns children t place outcome in
+    let f : calls ≡ more = e ∙ ap (λ t. t ++ more) polled in
+    (turns, members, subst Q (sym f) (subst P (take_drop from children) waited), n, turned)

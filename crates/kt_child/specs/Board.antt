@@ -1,0 +1,69 @@
+-- The running children of a driver, and the cases whose cleanup is owed.
+use Rattle.std.specs.Prelude.{ℕ, Bool, true, false, ◌==◌, ◌&&◌, ◌≡◌, ◌+◌, ◌<◌, ◌≤◌, List, [], ◌∷◌, ◌++◌, length, Option, Some, None, All, remove, slice_get, if◌then◌else◌}
+use Rattle.kt_base.specs.declared.role.Role.{Role}
+use Rattle.kt_base.specs.declared.outcome.Outcome.{Outcome}
+use Rattle.kt_sched.specs.declared.ended.Ended.{Ended}
+use Rattle.kt_sched.specs.Children.{Child as Shown, same_role}
+use Rattle.kt_child.specs.declared.watched.Watched.{Watched}
+use Rattle.kt_child.specs.declared.open_turn.OpenTurn.{OpenTurn}
+use Rattle.kt_child.specs.declared.case.Case.{Case}
+use Rattle.kt_child.specs.Calls.{Call}
+use Rattle.kt_child.specs.Turns.{IsOn}
+use Rattle.kt_child.specs.Waits.{WaitedOn}
+use Rattle.kt_child.specs.Ends.{Leaves, is_over}
+
+-- The running children in the order of their start, each with its case; the turn that goes on; and the cases whose
+-- cleanup is owed.
+pub record Board : Type 0 where
+  pub children : List Watched
+  pub cases : List Case
+  pub going : OpenTurn
+  pub pending : List Case
+
+-- nothing runs, and nothing is owed
+abbrev pub empty_board : Board
+empty_board = record { children = []; cases = []; going = record { from = 0; unpolled = 0; over = 0 }; pending = [] }
+
+-- what is shown of a case's child
+abbrev pub shown : Case → Shown
+shown c = record { interface = c.interface; cleanup = c.cleanup }
+
+-- what is shown of the first of these cases at a position in a role
+abbrev pub shown_at : List Case → ℕ → Role → Option Shown
+shown_at [] k r = None
+shown_at (c ∷ cases) k r = if k == c.position && same_role r c.role then Some (shown c) else shown_at cases k r
+
+-- whether one of these cases has this position
+abbrev pub is_among : List Case → ℕ → Bool
+is_among [] k = false
+is_among (c ∷ cases) k = if k == c.position then true else is_among cases k
+
+abbrev pub one_if : Bool → ℕ
+one_if true = 1
+one_if false = 0
+
+-- how many of these cases have this position
+abbrev pub count_at : ℕ → List Case → ℕ
+count_at i [] = 0
+count_at i (c ∷ cases) = one_if (i == c.position) + count_at i cases
+
+-- each child is on and has its case, the turn lies within the row, and no case stands there twice
+pub record IsBoard (children : List Watched) (cases : List Case) (going : OpenTurn) (pending : List Case) : Type 0 where
+  pub on : All IsOn children
+  pub same : length children ≡ length cases
+  pub within : going.from + going.unpolled ≤ length children
+  pub few : going.over < 8
+  pub once : (i : ℕ) → count_at i cases + count_at i pending ≤ 1
+
+-- the cases whose cleanup is owed, after the end of a child of this case
+abbrev pub pending_with : Case → List Case → List Case
+pending_with c pending = if is_over c then pending else pending ++ c ∷ []
+
+-- a wait that asks this and ends so leads from one board to another
+abbrev pub Waited : Board → List Call → Ended → Board → Type 0
+Waited old calls e new =
+    (polls : List Call) × (rest : List Call) × (place : ℕ) × (outcome : Outcome) × (after : List Watched) × (c : Case)
+    × (calls ≡ polls ++ rest) × WaitedOn old.going old.children polls place outcome after new.going
+    × (slice_get old.cases place ≡ Some c) × Leaves c rest outcome e
+    × (new.children ≡ remove after place) × (new.cases ≡ remove old.cases place)
+    × (new.pending ≡ pending_with c old.pending)

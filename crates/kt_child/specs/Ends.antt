@@ -1,0 +1,43 @@
+-- What follows the last poll of a child.
+use Rattle.std.specs.Prelude.{◌≡◌, ℕ, Bool, true, false, ◌&&◌, List, [], ◌∷◌, ◌++◌, Result, if◌then◌else◌}
+use Rattle.kt_base.specs.declared.role.Role.{Role}
+use Rattle.kt_base.specs.declared.role.Role.TheVariants.{Body, Cleanup}
+use Rattle.kt_base.specs.declared.outcome.Outcome.{Outcome}
+use Rattle.kt_sched.specs.declared.ended.Ended.{Ended}
+use Rattle.kt_sched.specs.Children.{same_role}
+use Rattle.kt_child.specs.declared.os_fault.OsFault.{OsFault}
+use Rattle.kt_child.specs.declared.file_read.FileRead.{FileRead}
+use Rattle.kt_child.specs.declared.paths.Paths.{Paths}
+use Rattle.kt_child.specs.declared.case.Case.{Case}
+use Rattle.kt_child.specs.Calls.{Call, Now, ReadFile, RemoveTree}
+use Rattle.kt_child.specs.Moments.{moment_of}
+use Rattle.kt_child.specs.Reads.{bytes_of}
+use Rattle.kt_child.specs.Gathering.{Gathers}
+
+-- the file of a child's output
+abbrev pub out_of : Role → Paths → List ℕ
+out_of Body paths = paths.out
+out_of Cleanup paths = paths.cleanup_out
+
+-- the file of a child's errors
+abbrev pub err_of : Role → Paths → List ℕ
+err_of Body paths = paths.err
+err_of Cleanup paths = paths.cleanup_err
+
+-- the case is over with the end of this child: no cleanup follows
+abbrev pub is_over : Case → Bool
+is_over c = if same_role c.role Body && c.cleanup then false else true
+
+-- the directory is removed where the case is over
+abbrev pub Removes : Bool → List ℕ → List Call → Type 0
+Removes true dir calls = (done : Bool) × (calls ≡ RemoveTree dir done ∷ [])
+Removes false dir calls = calls ≡ []
+
+-- the moment is asked, then the evidence is read, then the output and the errors, and then comes the removal; the end is told by their answers
+abbrev pub Leaves : Case → List Call → Outcome → Ended → Type 0
+Leaves c calls outcome e =
+    (now : Result ℕ OsFault) × (reads : List Call) × (out : Result FileRead OsFault) × (err : Result FileRead OsFault) × (last : List Call)
+    × (calls ≡ Now now ∷ (reads ++ ReadFile (out_of c.role c.paths) 65536 out ∷ ReadFile (err_of c.role c.paths) 65536 err ∷ last))
+    × Gathers c.interface c.role c.paths reads e.evidence × Removes (is_over c) c.paths.dir last
+    × (e.position ≡ c.position) × (e.role ≡ c.role) × (e.outcome ≡ outcome)
+    × (e.output.out ≡ bytes_of out) × (e.output.err ≡ bytes_of err) × (e.moment ≡ moment_of now)

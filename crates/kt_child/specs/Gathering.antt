@@ -1,0 +1,49 @@
+-- The evidence that a child left.
+use Rattle.std.specs.Prelude.{◌≡◌, ℕ, List, [], ◌⊎◌}
+use Rattle.kt_base.specs.declared.role.Role.{Role}
+use Rattle.kt_base.specs.declared.role.Role.TheVariants.{Body, Cleanup}
+use Rattle.kt_base.specs.declared.interface.Interface.{Interface}
+use Rattle.kt_base.specs.declared.interface.Interface.TheVariants as interface
+use Rattle.kt_claim.specs.declared.evidence.Evidence.{Evidence}
+use Rattle.kt_claim.specs.declared.evidence.Evidence.TheVariants as evidence
+use Rattle.kt_claim.specs.declared.claim.Claim.{Claim}
+use Rattle.kt_claim.specs.declared.claim.Claim.TheVariants as claim
+use Rattle.kt_claim.specs.declared.claim_fault.ClaimFault.TheVariants as claim_fault
+use Rattle.kt_claim.specs.declared.tap.Tap.{Tap}
+use Rattle.kt_claim.specs.declared.tap.Tap.TheVariants as tap
+use Rattle.kt_claim.specs.declared.tap_fault.TapFault.TheVariants as tap_fault
+use Rattle.kt_claim.specs.ResultFile.{IsClaimOf}
+use Rattle.kt_claim.specs.TapStream.{tap_of}
+use Rattle.kt_child.specs.declared.paths.Paths.{Paths}
+use Rattle.kt_child.specs.Calls.{Call}
+use Rattle.kt_child.specs.Parts.{Whole, Missing, Unreadable, TooLong, Bytes, Reads}
+
+-- The claim of a result file that was read so. Where memory is refused it counts as a file that can't be read.
+abbrev pub IsClaim : Whole → Claim → Type 0
+IsClaim Missing told = told ≡ claim.Missing
+IsClaim Unreadable told = told ≡ claim.Unreadable
+IsClaim TooLong told = told ≡ claim.Malformed claim_fault.TooLong
+IsClaim (Bytes bytes) told = (told ≡ claim.Unreadable) ⊎ IsClaimOf bytes told
+
+-- What an output that was read so says, as a TAP stream. Where memory is refused it counts as one that can't be read.
+abbrev pub IsTap : Whole → Tap → Type 0
+IsTap Missing told = told ≡ tap.Invalid tap_fault.Unreadable
+IsTap Unreadable told = told ≡ tap.Invalid tap_fault.Unreadable
+IsTap TooLong told = told ≡ tap.Invalid tap_fault.TooLong
+IsTap (Bytes bytes) told = (told ≡ tap.Invalid tap_fault.Unreadable) ⊎ (told ≡ tap_of bytes)
+
+-- a result file was read, and claims this
+abbrev pub ReadsClaim : List ℕ → List Call → Claim → Type 0
+ReadsClaim path calls told = (parts : ℕ) × (whole : Whole) × Reads parts path 4096 65536 [] calls whole × IsClaim whole told
+
+-- an output was read as a TAP stream, and says this
+abbrev pub ReadsTap : List ℕ → List Call → Tap → Type 0
+ReadsTap path calls told = (parts : ℕ) × (whole : Whole) × Reads parts path 65536 16777216 [] calls whole × IsTap whole told
+
+-- An ATF body leaves its result file, a TAP body its output. Of other children nothing is asked.
+abbrev pub Gathers : Interface → Role → Paths → List Call → Evidence → Type 0
+Gathers interface.Atf Body paths calls (evidence.Atf told) = ReadsClaim paths.result calls told
+Gathers interface.Tap Body paths calls (evidence.Tap told) = ReadsTap paths.out calls told
+Gathers interface.Plain Body paths calls evidence.Plain = calls ≡ []
+Gathers kind Cleanup paths calls evidence.Plain = calls ≡ []
+Gathers kind role paths calls other = ⊥

@@ -1,0 +1,62 @@
+-- What a job's child is started with.
+use Rattle.std.specs.Prelude.{ℕ, List, [], ◌∷◌, ◌++◌, codes, if◌then◌else◌}
+use Rattle.std.specs.List.{list_any}
+use Rattle.kt_base.specs.declared.role.Role.{Role}
+use Rattle.kt_base.specs.declared.role.Role.TheVariants.{Body, Cleanup}
+use Rattle.kt_suite.specs.Paths.{is_slash}
+use Rattle.kt_sched.specs.declared.job.Job.{Job}
+use Rattle.kt_child.specs.declared.paths.Paths.{Paths}
+use Rattle.kt_child.specs.declared.want.Want.{Want}
+use Rattle.kt_child.specs.declared.want.Want.TheVariants as want
+use Rattle.kt_child.specs.declared.spawning.Spawning.{Spawning}
+use Rattle.kt_child.specs.declared.watched.Watched.{Watched}
+use Rattle.kt_child.specs.declared.case.Case.{Case}
+use Rattle.kt_child.specs.ChildPlan.{env_of, words_of}
+use Rattle.kt_child.specs.ChildOutcome.{fresh}
+use Rattle.kt_child.specs.Ends.{err_of, out_of}
+
+-- the absolute path of a program, by the directory of the root Kyuafile
+abbrev pub program_path : List ℕ → List ℕ → List ℕ
+program_path source program = source ++ codes "/" ++ program
+
+-- what stands before the last slash of a path
+abbrev pub parent_of : List ℕ → List ℕ
+parent_of [] = []
+parent_of (c ∷ cs) = if list_any is_slash cs then c ∷ parent_of cs else []
+
+-- what a child of a case is started for
+abbrev pub want_of : Role → Want
+want_of Body = want.Body
+want_of Cleanup = want.Cleanup
+
+-- the limit of a job's child, in seconds
+abbrev pub limit_of : Job → Role → ℕ
+limit_of job Body = job.timeout
+limit_of job Cleanup = 60
+
+-- what a job's child is started with, by the directory of the root Kyuafile, its number and its paths
+abbrev pub spawning_of : List ℕ → Job → Role → ℕ → Paths → Spawning
+spawning_of source job role attempt paths =
+    record {
+      child = record { attempt = attempt; role = role };
+      program = program_path source job.program;
+      words = words_of job.interface (want_of role) paths.result (parent_of (program_path source job.program)) job.vars job.case_name;
+      env = env_of job.interface job.vars paths.work;
+      work = paths.work;
+      out = out_of role paths;
+      err = err_of role paths;
+    }
+
+-- a job's child that was just spawned
+abbrev pub watched_of : Job → Role → ℕ → Watched
+watched_of job role attempt = record { child = record { attempt = attempt; role = role }; limit = limit_of job role; watch = fresh }
+
+-- the case of a body
+abbrev pub case_of : Job → ℕ → Paths → Case
+case_of job attempt paths =
+    record { position = job.position; attempt = attempt; role = Body; interface = job.interface; cleanup = job.cleanup; paths = paths }
+
+-- the case of a cleanup, which has the number and the paths of its body
+abbrev pub cleaning : Case → Job → Case
+cleaning c job =
+    record { position = c.position; attempt = c.attempt; role = Cleanup; interface = job.interface; cleanup = job.cleanup; paths = c.paths }

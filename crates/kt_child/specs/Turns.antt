@@ -1,0 +1,68 @@
+-- Turns over the running children.
+use Rattle.std.specs.Prelude.{◌≡◌, ℕ, zero, suc, ◌≤◌, List, [], ◌∷◌, ◌++◌, Bool, Option, Some, None, Result, take, slice_get, map, ◌+◌, ◌-◌, ◌*◌}
+use Rattle.kt_base.specs.declared.outcome.Outcome.{Outcome}
+use Rattle.kt_child.specs.declared.polled.Polled.{Polled}
+use Rattle.kt_child.specs.declared.os_fault.OsFault.{OsFault}
+use Rattle.kt_child.specs.declared.turn.Turn.TheVariants.{More, Ended}
+use Rattle.kt_child.specs.declared.watched.Watched.{Watched}
+use Rattle.kt_child.specs.Calls.{Call, Pause}
+use Rattle.kt_child.specs.Polls.{IsWatched, asked_by_poll, turn_of, watch_after}
+
+-- a child that isn't over, within the greatest limit
+abbrev pub IsOn : Watched → Type 0
+IsOn k = IsWatched k.limit k.watch × (k.limit ≤ 1000000)
+
+-- a child after one more Running answer
+abbrev pub advanced : Watched → Watched
+advanced k = record { child = k.child; limit = k.limit; watch = watch_after k.limit k.watch }
+
+-- the first of these children have answered Running once more
+abbrev pub advanced_below : ℕ → List Watched → List Watched
+advanced_below zero children = children
+advanced_below (suc n) [] = []
+advanced_below (suc n) (k ∷ children) = advanced k ∷ advanced_below n children
+
+-- each of these children was polled once, in order, and none is over
+abbrev pub PolledAll : List Watched → List Call → Type 0
+PolledAll [] calls = calls ≡ []
+PolledAll (k ∷ children) calls =
+    (answer : Result Polled OsFault) × (done : Bool) × (more : List Call)
+    × (calls ≡ asked_by_poll k.child k.limit k.watch answer done ++ more)
+    × (turn_of k.limit k.watch answer done ≡ More)
+    × PolledAll children more
+
+-- one poll of this child, which ends it
+abbrev pub PolledLast : Option Watched → List Call → Outcome → Type 0
+PolledLast None calls outcome = ⊥
+PolledLast (Some k) calls outcome =
+    (answer : Result Polled OsFault) × (done : Bool)
+    × (calls ≡ asked_by_poll k.child k.limit k.watch answer done)
+    × (turn_of k.limit k.watch answer done ≡ Ended outcome)
+
+-- the children before this one were polled and aren't over, and then this one is
+abbrev pub PolledUntil : List Watched → ℕ → List Call → Outcome → Type 0
+PolledUntil children i calls outcome =
+    (before : List Call) × (last : List Call) × (calls ≡ before ++ last)
+    × PolledAll (take i children) before × PolledLast (slice_get children i) last outcome
+
+-- the children after this many turns in which all answered Running
+abbrev pub after_turns : ℕ → List Watched → List Watched
+after_turns zero children = children
+after_turns (suc n) children = after_turns n (map advanced children)
+
+-- this many turns in which no child is over, each with a pause after it
+abbrev pub Rounds : ℕ → List Watched → List Call → Type 0
+Rounds zero children calls = calls ≡ []
+Rounds (suc n) children calls =
+    (turn : List Call) × (done : Bool) × (more : List Call)
+    × (calls ≡ turn ++ Pause done ∷ more) × PolledAll children turn × Rounds n (map advanced children) more
+
+-- those turns, and then one in which this child is over
+abbrev pub WaitedUntil : ℕ → List Watched → List Call → ℕ → Outcome → Type 0
+WaitedUntil turns children calls place outcome =
+    (before : List Call) × (last : List Call) × (calls ≡ before ++ last)
+    × Rounds turns children before × PolledUntil (after_turns turns children) place last outcome
+
+-- the polls that a child has left
+abbrev pub polls_left : Watched → ℕ
+polls_left k = (100 * k.limit - k.watch.before) + (500 - k.watch.after)

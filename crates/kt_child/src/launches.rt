@@ -1,0 +1,83 @@
+ghost use Rattle.std.specs.Prelude.{◌≡◌, ℕ};
+ghost use Rattle.kt_base.specs.declared.role.Role.{Role};
+ghost use Rattle.kt_sched.specs.Children.{MayStart, pending_after_start, running_after_start};
+ghost use Rattle.kt_sched.specs.Moments.{HasMoment};
+ghost use Rattle.kt_sched.specs.Plan.{IsFit};
+ghost use Rattle.kt_child.specs.Board.{is_among, shown_at};
+ghost use Rattle.kt_child.specs.Launches.{BodyStarts, CleanupStarts};
+
+use crate::case::Case;
+use crate::jobs::{fresh_child, plan_body, spawning};
+use crate::os::Os;
+use crate::row::Row;
+use kt_base::{Refused, Role, Text};
+use kt_sched::{Job, StartAnswer};
+use std::alloc::Global;
+
+/// Starts the body of a job with the next number.
+pub(super) fn begin_body<O: Os>(
+    alloc: Global,
+    os: &mut O,
+    source: &Text,
+    root: &Text,
+    next: &mut u64,
+    row: &mut Row,
+    job: &Job,
+) -> StartAnswer
+    requires fit { IsFit job.now }
+    requires may { MayStart (shown_at row.old.cases) (is_among row.old.pending) job.now.position Role.Body }
+    ensures starts { BodyStarts O.leads source.now root.now job.now os.old next.old row.old result os.new next.new row.new }
+    ensures moment { HasMoment result }
+    ensures running { (k : ℕ) (r : Role) → shown_at row.new.cases k r ≡ running_after_start (shown_at row.old.cases) job.now Role.Body result k r }
+    ensures pending { row.new.pending ≡ row.old.pending }
+{
+    if *next == u64::MAX {
+        return StartAnswer::Refused(Refused::Directory);
+    }
+    let attempt = *next;
+    *next += 1;
+    match plan_body(alloc, source, root, attempt, job) {
+        Err(_) => StartAnswer::Refused(Refused::Memory),
+        Ok(planned) => {
+            let child = fresh_child(job, Role::Body, attempt);
+            row.start_body(os, child, planned.case, &planned.plan)
+        }
+    }
+}
+
+/// Starts the cleanup of a job, which is owed.
+pub(super) fn begin_cleanup<O: Os>(
+    alloc: Global,
+    os: &mut O,
+    source: &Text,
+    next: u64,
+    row: &mut Row,
+    job: &Job,
+) -> StartAnswer
+    requires fit { IsFit job.now }
+    requires may { MayStart (shown_at row.old.cases) (is_among row.old.pending) job.now.position Role.Cleanup }
+    ensures starts { CleanupStarts O.leads source.now job.now os.old next row.old result os.new next row.new }
+    ensures moment { HasMoment result }
+    ensures running { (k : ℕ) (r : Role) → shown_at row.new.cases k r ≡ running_after_start (shown_at row.old.cases) job.now Role.Cleanup result k r }
+    ensures pending { (k : ℕ) → is_among row.new.pending k ≡ pending_after_start (is_among row.old.pending) job.now.position Role.Cleanup k }
+{
+    let owed = row.take_owed(job.position);
+    match spawning(alloc, source, job, Role::Cleanup, owed.attempt, &owed.paths) {
+        Err(_) => {
+            let _ = os.remove_tree(&owed.paths.dir);
+            StartAnswer::Refused(Refused::Memory)
+        }
+        Ok(plan) => {
+            let child = fresh_child(job, Role::Cleanup, owed.attempt);
+            let case = Case {
+                position: owed.position,
+                attempt: owed.attempt,
+                role: Role::Cleanup,
+                interface: job.interface,
+                cleanup: job.cleanup,
+                paths: owed.paths,
+            };
+            row.start_cleanup(os, child, case, &plan)
+        }
+    }
+}
