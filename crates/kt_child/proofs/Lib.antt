@@ -3,6 +3,7 @@ pub mod Chains
 pub mod EndSteps
 pub mod Mapped
 pub mod Outcomes
+pub mod NumberSteps
 pub mod Parents
 pub mod PartSteps
 pub mod RowWaits

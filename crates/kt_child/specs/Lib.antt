@@ -10,6 +10,7 @@ pub mod JobPlan
 pub mod Launches
 pub mod Lists
 pub mod Moments
+pub mod Numbers
 pub mod Parts
 pub mod Polls
 pub mod Reads
