@@ -5,6 +5,7 @@ pub mod ChildOutcome
 pub mod ChildPlan
 pub mod Ends
 pub mod Gathering
+pub mod HostAnswers
 pub mod JobPlan
 pub mod Launches
 pub mod Lists

@@ -1,7 +1,9 @@
+ghost use Rattle.std.specs.Prelude.{◌≡◌};
+
 use crate::world::World;
-use kt_base::{Bytes, LATEST_MOMENT, NoMemory, Refused, Role, Text};
+use kt_base::{Bytes, LATEST_MOMENT, Role, Text};
 use kt_sched::{Ended, Job, Launcher, StartAnswer};
-use kt_suite::{ReadFault, Tree, split_path};
+use kt_suite::{ReadFault, Tree};
 use std::alloc::Global;
 use std::fs::File;
 use std::io::{ErrorKind, Read};
@@ -18,13 +20,15 @@ const PIECE: usize = 8_192;
 /// The longest path that the host takes, in bytes.
 const LONGEST: usize = 4_095;
 
-/// The files below a directory of the host, and its clock. Links are followed; only a regular file counts as one.
-/// It starts no test program.
+/// The files below a directory of the host, its clock, and a launcher. Links are followed; only a regular file counts
+/// as one.
 #[derive(Drop)]
-pub struct HostWorld<'a, R> {
+pub struct HostWorld<'a, R, L> {
     rt: &'a R,
     /// It ends with a slash, or is empty for the working directory.
     directory: Text,
+    /// What starts the test programs.
+    pub launcher: L,
 }
 
 /// What is told of a system call that failed.
@@ -55,11 +59,16 @@ fn read_start<F: Read>(alloc: Global, file: &mut F) -> Result<Bytes, ReadFault> 
     Ok(bytes)
 }
 
-impl<'a, R: Files<File = File> + Clock + AllocGlobal> HostWorld<'a, R> {
-    /// The world whose root is the directory of this Kyuafile.
-    pub fn of(rt: &'a R, kyuafile: &Text) -> Result<HostWorld<'a, R>, NoMemory> {
-        let (directory, _) = split_path(rt.alloc(), kyuafile)?;
-        Ok(HostWorld { rt, directory })
+impl<'a, R: Files<File = File> + Clock + AllocGlobal, L: Launcher> HostWorld<'a, R, L> {
+    /// The world whose root is this directory, which ends with a slash or is empty for the working directory.
+    pub fn new(rt: &'a R, directory: Text, launcher: L) -> HostWorld<'a, R, L>
+        ensures { result.launcher ≡ launcher }
+    {
+        HostWorld {
+            rt,
+            directory,
+            launcher,
+        }
     }
 
     /// Where a path of the tree is, written into this room; it takes no memory.
@@ -83,9 +92,11 @@ impl<'a, R: Files<File = File> + Clock + AllocGlobal> HostWorld<'a, R> {
     }
 }
 
-impl<R: Files<File = File> + Clock + AllocGlobal> Tree for HostWorld<'_, R> {
+impl<R: Files<File = File> + Clock + AllocGlobal, L: Launcher> Tree for HostWorld<'_, R, L> {
+    ghost use Rattle.std.specs.Prelude.{◌≡◌};
+
     // Nothing is said of what a real file holds.
-    ghost asks = { λ _ _ _. Unit {0} };
+    ghost asks = { λ s _ t. t.launcher ≡ s.launcher };
 
     fn read(&mut self, path: &Text) -> Result<Bytes, ReadFault> {
         let mut room = [0u8; LONGEST];
@@ -110,33 +121,30 @@ impl<R: Files<File = File> + Clock + AllocGlobal> Tree for HostWorld<'_, R> {
     }
 }
 
-impl<R: Files<File = File> + Clock + AllocGlobal> Launcher for HostWorld<'_, R> {
-    ghost use Rattle.std.specs.Prelude.{◌≡◌, None, false};
-    ghost use Rattle.kt_sched.specs.declared.start_answer.StartAnswer.TheVariants as answer;
-    ghost use Rattle.kt_base.specs.declared.refused.Refused.TheVariants as cause;
+impl<R, L: Launcher> Launcher for HostWorld<'_, R, L> {
+    ghost running = { λ s k r. L.running s.launcher k r };
 
-    ghost running = { λ s k r. None };
+    ghost pending = { λ s k. L.pending s.launcher k };
 
-    ghost pending = { λ s k. false };
+    ghost starts = { λ s job role a t. L.starts s.launcher job role a t.launcher };
 
-    ghost starts = { λ s job role a t. a ≡ answer.Refused cause.Spawn };
+    ghost waits = { λ s e t. L.waits s.launcher e t.launcher };
 
-    ghost waits = { λ s e t. ⊥ };
-
-    fn start(&mut self, _job: &Job, _role: Role) -> StartAnswer {
-        StartAnswer::Refused(Refused::Spawn)
+    fn start(&mut self, job: &Job, role: Role) -> StartAnswer {
+        self.launcher.start(job, role)
     }
 
     fn wait(&mut self) -> Ended {
-        unreachable!()
+        self.launcher.wait()
     }
 }
 
-impl<R: Files<File = File> + Clock + AllocGlobal> World for HostWorld<'_, R> {
-    ghost use Rattle.std.specs.Prelude.{refl};
+impl<R: Files<File = File> + Clock + AllocGlobal, L: Launcher> World for HostWorld<'_, R, L> {
+    ghost use Rattle.std.specs.Prelude.{◌≡◌};
+    ghost use Rattle.std.proofs.Common.{ap};
 
     // Nothing is said of the real time.
-    ghost tells = { λ _ _ _. Unit {0} };
+    ghost tells = { λ s _ t. t.launcher ≡ s.launcher };
 
     fn now(&mut self) -> u64 {
         let Ok(now) = SystemTime::now(self.rt) else {
@@ -151,11 +159,11 @@ impl<R: Files<File = File> + Clock + AllocGlobal> World for HostWorld<'_, R> {
         }
     }
 
-    ghost runs_on = { λ s t q h k r. refl };
+    ghost runs_on = { λ s t q h k r. ap (λ l. L.running l k r) h };
 
-    ghost pends_on = { λ s t q h k. refl };
+    ghost pends_on = { λ s t q h k. ap (λ l. L.pending l k) h };
 
-    ghost runs_told = { λ s t q h k r. refl };
+    ghost runs_told = { λ s t q h k r. ap (λ l. L.running l k r) h };
 
-    ghost pends_told = { λ s t q h k. refl };
+    ghost pends_told = { λ s t q h k. ap (λ l. L.pending l k) h };
 }

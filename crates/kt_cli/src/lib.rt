@@ -3,14 +3,17 @@
 
 mod command;
 mod command_fault;
+mod command_line;
 mod entry_line;
 mod execution;
 mod exit;
 mod fault_line;
+mod host_execution;
 mod host_world;
 mod listing;
 mod mem_runs;
 mod page;
+mod place;
 mod planning;
 mod programs;
 mod reading;
@@ -22,8 +25,10 @@ mod world;
 
 pub use command::Command;
 pub use command_fault::CommandFault;
+pub use command_line::CommandLine;
 pub use execution::execute;
 pub use exit::Exit;
+pub use host_execution::execute_on_host;
 pub use host_world::HostWorld;
 pub use mem_runs::MemRuns;
 pub use reading::read_command;

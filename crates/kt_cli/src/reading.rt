@@ -1,12 +1,20 @@
 use crate::command::Command;
 use crate::command_fault::CommandFault;
+use crate::command_line::CommandLine;
 use clap::error::ErrorKind;
 use clap::{Arg, ArgAction, ArgMatches, Error};
 use kt_base::Text;
 use std::alloc::{AllocError, Global};
 
-/// `list [-k FILE]`, as kyua-list(1) has it.
-fn list_words<'a>(alloc: Global) -> Result<clap::Command<'a>, AllocError> {
+/// Where work directories lie unless `--work` says otherwise (this profile).
+const WORK: &str = "/tmp";
+
+/// A command over a Kyuafile, with the options `-k FILE` and `--work=DIR`, as kyua(1) has them.
+fn suite_words<'a>(
+    alloc: Global,
+    name: &'a str,
+    about: &'a str,
+) -> Result<clap::Command<'a>, AllocError> {
     let kyuafile = Arg::new(alloc, "kyuafile")
         .short('k')
         .long("kyuafile")
@@ -14,9 +22,16 @@ fn list_words<'a>(alloc: Global) -> Result<clap::Command<'a>, AllocError> {
         .default_value("Kyuafile")
         .action(ArgAction::Set)
         .help("The Kyuafile to read");
-    clap::Command::new(alloc, "list")
-        .about("Lists the test cases that a Kyuafile registers")
-        .arg(kyuafile)
+    let work = Arg::new(alloc, "work")
+        .long("work")
+        .value_name("DIR")
+        .default_value(WORK)
+        .action(ArgAction::Set)
+        .help("The directory that work directories are made in");
+    clap::Command::new(alloc, name)
+        .about(about)
+        .arg(kyuafile)?
+        .arg(work)
 }
 
 /// The whole command line, without the program's own name.
@@ -26,7 +41,16 @@ fn all_words<'a>(alloc: Global) -> Result<clap::Command<'a>, AllocError> {
         .no_binary_name(true)
         .subcommand_required(true)
         .disable_help_subcommand(true)
-        .subcommand(list_words(alloc)?)
+        .subcommand(suite_words(
+            alloc,
+            "list",
+            "Lists the test cases that a Kyuafile registers",
+        )?)?
+        .subcommand(suite_words(
+            alloc,
+            "test",
+            "Runs the test cases that a Kyuafile registers",
+        )?)
 }
 
 fn usage(alloc: Global, error: Error) -> CommandFault {
@@ -39,17 +63,22 @@ fn usage(alloc: Global, error: Error) -> CommandFault {
     }
 }
 
-fn kyuafile_of<'a>(alloc: Global, matches: &ArgMatches<'a>) -> Result<Text, CommandFault> {
-    let file = matches.get_str("kyuafile").unwrap_or("Kyuafile");
-    match Text::from_str(alloc, file) {
-        Ok(file) => Ok(file),
+/// The value of an option, which has this one by default.
+fn value_of<'a>(
+    alloc: Global,
+    matches: &ArgMatches<'a>,
+    option: &str,
+    default: &str,
+) -> Result<Text, CommandFault> {
+    match Text::from_str(alloc, matches.get_str(option).unwrap_or(default)) {
+        Ok(value) => Ok(value),
         Err(_) => Err(CommandFault::NoMemory),
     }
 }
 
-/// The command of a command line (kyua(1)), without the program's own name.
+/// The command line (kyua(1)) of these words, without the program's own name.
 /// Which words are which command is `clap`'s, and shown by tests.
-pub fn read_command<'a>(alloc: Global, words: &'a [String]) -> Result<Command, CommandFault> {
+pub fn read_command<'a>(alloc: Global, words: &'a [String]) -> Result<CommandLine, CommandFault> {
     let command = match all_words(alloc) {
         Ok(command) => command,
         Err(_) => return Err(CommandFault::NoMemory),
@@ -58,8 +87,21 @@ pub fn read_command<'a>(alloc: Global, words: &'a [String]) -> Result<Command, C
         Ok(matches) => matches,
         Err(error) => return Err(usage(alloc, error)),
     };
-    match matches.subcommand_matches("list") {
-        Some(list) => Ok(Command::List(kyuafile_of(alloc, list)?)),
-        None => Err(CommandFault::Usage(Text::new(alloc))),
+    if let Some(list) = matches.subcommand_matches("list") {
+        let kyuafile = value_of(alloc, list, "kyuafile", "Kyuafile")?;
+        let work = value_of(alloc, list, "work", WORK)?;
+        return Ok(CommandLine {
+            command: Command::List(kyuafile),
+            work,
+        });
     }
+    if let Some(test) = matches.subcommand_matches("test") {
+        let kyuafile = value_of(alloc, test, "kyuafile", "Kyuafile")?;
+        let work = value_of(alloc, test, "work", WORK)?;
+        return Ok(CommandLine {
+            command: Command::Test(kyuafile),
+            work,
+        });
+    }
+    Err(CommandFault::Usage(Text::new(alloc)))
 }

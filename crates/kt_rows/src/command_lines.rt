@@ -1,4 +1,4 @@
-use kt_cli::{CommandFault, read_command};
+use kt_cli::{Command, CommandFault, read_command};
 use std::alloc::Global;
 use std::test::Fail;
 
@@ -11,48 +11,74 @@ fn words(alloc: Global, line: &[&str]) -> Result<Vec<String>, Fail> {
     Ok(words)
 }
 
-/// A command line, and the Kyuafile that it has listed; none for a wrong one.
+/// A command line, and what is read of it.
 struct Row {
     line: &'static [&'static str],
-    kyuafile: Option<&'static str>,
+    command: &'static str,
+    kyuafile: &'static str,
+    work: &'static str,
 }
 
-const ROWS: [Row; 9] = [
+const ROWS: [Row; 10] = [
     Row {
         line: &["list"],
-        kyuafile: Some("Kyuafile"),
+        command: "list",
+        kyuafile: "Kyuafile",
+        work: "/tmp",
     },
     Row {
         line: &["list", "-k", "d/K"],
-        kyuafile: Some("d/K"),
+        command: "list",
+        kyuafile: "d/K",
+        work: "/tmp",
     },
     Row {
         line: &["list", "--kyuafile", "d/K"],
-        kyuafile: Some("d/K"),
+        command: "list",
+        kyuafile: "d/K",
+        work: "/tmp",
     },
     Row {
         line: &["list", "--kyuafile=d/K"],
-        kyuafile: Some("d/K"),
+        command: "list",
+        kyuafile: "d/K",
+        work: "/tmp",
     },
     Row {
-        line: &[],
-        kyuafile: None,
+        line: &["list", "-k", "K", "--work=/w"],
+        command: "list",
+        kyuafile: "K",
+        work: "/w",
     },
     Row {
         line: &["test"],
-        kyuafile: None,
+        command: "test",
+        kyuafile: "Kyuafile",
+        work: "/tmp",
     },
     Row {
-        line: &["--help"],
-        kyuafile: None,
+        line: &["test", "--kyuafile=K"],
+        command: "test",
+        kyuafile: "K",
+        work: "/tmp",
     },
     Row {
-        line: &["list", "--help"],
-        kyuafile: None,
+        line: &["test", "--work=/w", "-k", "d/K"],
+        command: "test",
+        kyuafile: "d/K",
+        work: "/w",
     },
     Row {
-        line: &["list", "-k"],
-        kyuafile: None,
+        line: &["test", "--work", "w"],
+        command: "test",
+        kyuafile: "Kyuafile",
+        work: "w",
+    },
+    Row {
+        line: &["list", "--work="],
+        command: "list",
+        kyuafile: "Kyuafile",
+        work: "",
     },
 ];
 
@@ -60,22 +86,46 @@ const ROWS: [Row; 9] = [
 fn command_lines_are_read(rt: HostRuntime) -> Result<(), Fail> {
     for row in &ROWS {
         let words = words(rt.alloc(), row.line)?;
+        let Ok(line) = read_command(rt.alloc(), words.as_slice()) else {
+            return Err(Fail::new(format_args!("at {:?}", row.line)));
+        };
+        let command = match &line.command {
+            Command::List(_) => "list",
+            Command::Test(_) => "test",
+        };
+        assert_eq!(rt; command, row.command, "at {:?}", row.line);
+        assert_eq!(rt;
+            line.command.kyuafile().as_str(),
+            row.kyuafile,
+            "at {:?}",
+            row.line
+        );
+        assert_eq!(rt; line.work.as_str(), row.work, "at {:?}", row.line);
+    }
+    Ok(())
+}
+
+const WRONG: [&[&str]; 7] = [
+    &[],
+    &["lost"],
+    &["--help"],
+    &["list", "--help"],
+    &["list", "-k"],
+    &["test", "--work"],
+    &["test", "-w", "/w"],
+];
+
+#[test]
+fn a_wrong_command_line_is_told(rt: HostRuntime) -> Result<(), Fail> {
+    for line in &WRONG {
+        let words = words(rt.alloc(), line)?;
         match read_command(rt.alloc(), words.as_slice()) {
-            Ok(command) => {
-                assert!(rt;
-                    row.kyuafile == Some(command.kyuafile().as_str()),
-                    "at {:?}",
-                    row.line
-                );
-            }
-            Err(CommandFault::Usage(text)) => {
-                assert!(rt;
-                    row.kyuafile.is_none() && !text.as_str().is_empty(),
-                    "at {:?}",
-                    row.line
-                );
-            }
-            Err(CommandFault::NoMemory) => assert!(rt; false),
+            Err(CommandFault::Usage(text)) => assert!(rt;
+                !text.as_str().is_empty(),
+                "at {:?}",
+                line
+            ),
+            _ => return Err(Fail::new(format_args!("at {:?}", line))),
         }
     }
     Ok(())

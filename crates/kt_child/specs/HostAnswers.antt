@@ -1,0 +1,26 @@
+-- What the host may answer, whatever the system does.
+use Rattle.std.specs.Prelude.{◌≡◌, ◌≤◌, ℕ, length, true, false, Result, Ok, Err}
+use Rattle.kt_child.specs.declared.os_fault.OsFault.{OsFault}
+use Rattle.kt_child.specs.declared.file_read.FileRead.{FileRead}
+use Rattle.kt_child.specs.declared.file_read.FileRead.TheVariants.{Missing, Part}
+use Rattle.kt_child.specs.Calls.{Call, MakeDir, RemoveTree, OpenOutput, Spawn, Poll, Kill, Pause, ReadFile, ReadPart, Now}
+
+-- a read with this limit answers no more bytes, and so many where more follow
+abbrev pub IsHostRead : ℕ → Result FileRead OsFault → Type 0
+IsHostRead limit (Err _) = Unit {0}
+IsHostRead limit (Ok Missing) = Unit {0}
+IsHostRead limit (Ok (Part bytes true)) = length bytes ≡ limit
+IsHostRead limit (Ok (Part bytes false)) = length bytes ≤ limit
+
+-- an answer of the host keeps to the limit of its read; of the other calls nothing is said
+abbrev pub IsHostAnswer : Call → Type 0
+IsHostAnswer (MakeDir path done) = Unit {0}
+IsHostAnswer (RemoveTree path done) = Unit {0}
+IsHostAnswer (OpenOutput child path done) = Unit {0}
+IsHostAnswer (Spawn child program words env dir done) = Unit {0}
+IsHostAnswer (Poll child answer) = Unit {0}
+IsHostAnswer (Kill child done) = Unit {0}
+IsHostAnswer (Pause done) = Unit {0}
+IsHostAnswer (ReadFile path limit answer) = IsHostRead limit answer
+IsHostAnswer (ReadPart path from limit answer) = IsHostRead limit answer
+IsHostAnswer (Now answer) = Unit {0}

@@ -1,0 +1,14 @@
+ghost use Rattle.std.specs.Prelude.{◌≡◌, Ok, IfOk};
+
+use crate::os_fault::OsFault;
+use std::io;
+
+/// An answer of the library, whose error is not told.
+pub(super) fn or_fault<T: Drop>(answer: io::Result<T>) -> Result<T, OsFault>
+    ensures { IfOk result (λ value. answer ≡ Ok value) }
+{
+    match answer {
+        Ok(value) => Ok(value),
+        Err(_) => Err(OsFault),
+    }
+}

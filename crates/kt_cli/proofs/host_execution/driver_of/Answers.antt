@@ -1,0 +1,11 @@
+use Rattle.std.proofs.Common.{rules, ◌≡◌, refl, subst, sym}
+use Rattle.kt_sched.specs.Children.{IsIdle}
+use Rattle.kt_child.specs.Board.{Board, empty_board, is_among, shown_at}
+use Rattle.kt_cli.proofs.host_execution.driver_of.Goals as goal
+
+-- where the board is empty nothing runs
+idle : (b : Board) → b ≡ empty_board → IsIdle (shown_at b.cases) (is_among b.pending)
+idle b e = subst (λ (x : Board). IsIdle (shown_at x.cases) (is_among x.pending)) (sym e) (record { runs = λ k r. refl; pends = λ k. refl })
+
+pub returns-in-Ok-new : goal.returns-in-Ok-new
+returns-in-Ok-new g c = idle c.in-Ok-new.driver.row (search rules)

@@ -1,0 +1,75 @@
+ghost use Rattle.std.specs.Prelude.{IfOk};
+ghost use Rattle.kt_sched.specs.Children.{IsIdle};
+ghost use Rattle.kt_child.specs.Board.{is_among, shown_at};
+
+use crate::command::Command;
+use crate::command_line::CommandLine;
+use crate::execution::execute;
+use crate::exit::Exit;
+use crate::host_world::HostWorld;
+use crate::mem_runs::MemRuns;
+use crate::place::source_of;
+use kt_base::Text;
+use kt_child::{Driver, DriverFault, Os};
+use kt_sched::Launcher;
+use kt_suite::split_path;
+use std::alloc::Global;
+use std::fs::File;
+use std::io::Write;
+use std::rt::{Clock, Files};
+
+/// Makes the driver of a command over this system. `here` is the absolute working directory.
+fn driver_of<O: Os + Drop>(
+    alloc: Global,
+    os: O,
+    here: &str,
+    line: &CommandLine,
+) -> Result<Driver<O>, DriverFault>
+    ensures { IfOk result (λ driver. IsIdle (shown_at driver.row.cases) (is_among driver.row.pending)) }
+{
+    if !line.work.as_str().starts_with('/') {
+        return Err(DriverFault::NoWorkDirectory);
+    }
+    let Ok(source) = source_of(alloc, here, line.command.kyuafile()) else {
+        return Err(DriverFault::NoMemory);
+    };
+    match Driver::new(alloc, os, &line.work, source) {
+        Ok(driver) => Ok(driver),
+        Err((fault, _)) => Err(fault),
+    }
+}
+
+/// Does a command over the files of a directory and a launcher, which is given back.
+fn execute_over<R: Files<File = File> + Clock + AllocGlobal, L: Launcher, W: Write>(
+    rt: &R,
+    directory: Text,
+    launcher: L,
+    command: &Command,
+    results: &mut MemRuns,
+    out: &mut W,
+) -> (Exit, L)
+    requires { IsIdle (L.running launcher) (L.pending launcher) }
+{
+    let mut world = HostWorld::new(rt, directory, launcher);
+    let exit = execute(rt.alloc(), command, &mut world, results, out);
+    (exit, world.launcher)
+}
+
+/// Does a command line over the host's files and this system, with work directories of its own, which are removed at the
+/// end. `here` is the absolute working directory. Where no root directory can be made, nothing is written.
+pub fn execute_on_host<R: Files<File = File> + Clock + AllocGlobal, O: Os + Drop, W: Write>(
+    rt: &R,
+    os: O,
+    here: &str,
+    line: &CommandLine,
+    results: &mut MemRuns,
+    out: &mut W,
+) -> Result<Exit, DriverFault> {
+    let Ok((directory, _)) = split_path(rt.alloc(), line.command.kyuafile()) else {
+        return Err(DriverFault::NoMemory);
+    };
+    let driver = driver_of(rt.alloc(), os, here, line)?;
+    let (exit, driver) = execute_over(rt, directory, driver, &line.command, results, out);
+    let _ = driver.close();
+    Ok(exit)
+}
