@@ -1,4 +1,5 @@
-use kt_cli::{CommandFault, read_command};
+use kt_base::Kind;
+use kt_cli::{Command, CommandFault, CommandLine, read_command};
 use std::alloc::Global;
 use std::test::Fail;
 
@@ -11,72 +12,111 @@ fn words(alloc: Global, line: &[&str]) -> Result<Vec<String>, Fail> {
     Ok(words)
 }
 
-/// A command line, and the Kyuafile that it has listed; none for a wrong one.
-struct Row {
-    line: &'static [&'static str],
-    kyuafile: Option<&'static str>,
+/// What is read: a command in short, or why it was refused.
+#[derive(Clone, Copy, Debug, PartialEq, Eq)]
+enum Read {
+    /// The Kyuafile.
+    List(&'static str),
+    /// The file of the results, the run, and how many kinds.
+    Report(&'static str, Option<u64>, usize),
+    ReportJunit(&'static str, Option<u64>),
+    Usage,
+    BadKind,
+    BadRun,
 }
 
-const ROWS: [Row; 9] = [
-    Row {
-        line: &["list"],
-        kyuafile: Some("Kyuafile"),
-    },
-    Row {
-        line: &["list", "-k", "d/K"],
-        kyuafile: Some("d/K"),
-    },
-    Row {
-        line: &["list", "--kyuafile", "d/K"],
-        kyuafile: Some("d/K"),
-    },
-    Row {
-        line: &["list", "--kyuafile=d/K"],
-        kyuafile: Some("d/K"),
-    },
-    Row {
-        line: &[],
-        kyuafile: None,
-    },
-    Row {
-        line: &["test"],
-        kyuafile: None,
-    },
-    Row {
-        line: &["--help"],
-        kyuafile: None,
-    },
-    Row {
-        line: &["list", "--help"],
-        kyuafile: None,
-    },
-    Row {
-        line: &["list", "-k"],
-        kyuafile: None,
-    },
+const ROWS: [(&[&str], Read); 23] = [
+    (&["list"], Read::List("Kyuafile")),
+    (&["list", "-k", "d/K"], Read::List("d/K")),
+    (&["list", "--kyuafile", "d/K"], Read::List("d/K")),
+    (&["list", "--kyuafile=d/K"], Read::List("d/K")),
+    (&[], Read::Usage),
+    (&["lost"], Read::Usage),
+    (&["--help"], Read::Usage),
+    (&["list", "--help"], Read::Usage),
+    (&["list", "-k"], Read::Usage),
+    (&["list", "--run=1"], Read::Usage),
+    (&["report"], Read::Report("kyua.db", None, 4)),
+    (
+        &["report", "--run=1000000", "--results-filter=xfail,failed"],
+        Read::Report("kyua.db", Some(1_000_000), 2),
+    ),
+    (
+        &["report", "-r", "R", "--results-filter=passed"],
+        Read::Report("R", None, 1),
+    ),
+    (&["report", "--run=007"], Read::Report("kyua.db", Some(7), 4)),
+    (&["report", "--run=0"], Read::BadRun),
+    (&["report", "--run=1000001"], Read::BadRun),
+    (&["report", "--run=+1"], Read::BadRun),
+    (&["report", "--run=18446744073709551617"], Read::BadRun),
+    (&["report", "--results-filter=bad"], Read::BadKind),
+    (
+        &["report", "--run=0", "--results-filter=failed,"],
+        Read::BadKind,
+    ),
+    (
+        &["report-junit", "--results-file=R", "--run=1"],
+        Read::ReportJunit("R", Some(1)),
+    ),
+    (&["report-junit"], Read::ReportJunit("kyua.db", None)),
+    (&["report-junit", "--results-filter=failed"], Read::Usage),
 ];
+
+/// Whether a command line is the one of a row.
+fn is_read(line: &CommandLine, row: Read) -> bool {
+    let results = match &line.results {
+        Some(file) => file.as_str(),
+        None => "",
+    };
+    match (&line.command, row) {
+        (Command::List(kyuafile), Read::List(file)) => {
+            kyuafile.as_str() == file && line.results.is_none()
+        }
+        (Command::Report { run, kinds }, Read::Report(file, number, count)) => {
+            results == file && *run == number && kinds.len() == count
+        }
+        (Command::ReportJunit { run }, Read::ReportJunit(file, number)) => {
+            results == file && *run == number
+        }
+        _ => false,
+    }
+}
 
 #[test]
 fn command_lines_are_read(rt: HostRuntime) -> Result<(), Fail> {
-    for row in &ROWS {
-        let words = words(rt.alloc(), row.line)?;
-        match read_command(rt.alloc(), words.as_slice()) {
-            Ok(command) => {
-                assert!(rt;
-                    row.kyuafile == Some(command.kyuafile().as_str()),
-                    "at {:?}",
-                    row.line
-                );
+    for (line, row) in &ROWS {
+        let words = words(rt.alloc(), line)?;
+        let same = match read_command(rt.alloc(), words.as_slice()) {
+            Ok(read) => is_read(&read, *row),
+            Err(CommandFault::Usage(text)) => *row == Read::Usage && !text.as_str().is_empty(),
+            Err(CommandFault::BadKind) => *row == Read::BadKind,
+            Err(CommandFault::BadRun) => *row == Read::BadRun,
+            Err(CommandFault::NoMemory) => false,
+        };
+        assert!(rt; same, "at {line:?}");
+    }
+    Ok(())
+}
+
+#[test]
+fn a_report_shows_all_but_passed(rt: HostRuntime) -> Result<(), Fail> {
+    let words = words(rt.alloc(), &["report"])?;
+    match read_command(rt.alloc(), words.as_slice()) {
+        Ok(CommandLine {
+            command: Command::Report { kinds, .. },
+            ..
+        }) => {
+            for kind in [
+                Kind::Skipped,
+                Kind::ExpectedFailure,
+                Kind::Broken,
+                Kind::Failed,
+            ] {
+                assert!(rt; kinds.as_slice().contains(&kind), "at {kind:?}");
             }
-            Err(CommandFault::Usage(text)) => {
-                assert!(rt;
-                    row.kyuafile.is_none() && !text.as_str().is_empty(),
-                    "at {:?}",
-                    row.line
-                );
-            }
-            Err(CommandFault::NoMemory) => assert!(rt; false),
         }
+        _ => assert!(rt; false),
     }
     Ok(())
 }

@@ -1,12 +1,14 @@
 //! The program `kyua`: words in, a command done over the host, an exit status out.
 #![tactic(auto)]
 
-use kt_cli::{Command, CommandFault, HostWorld, MemRuns, execute, read_command};
-use std::env::Env;
-use std::fs::File;
+use kt_base::Text;
+use kt_cli::{
+    Command, CommandFault, CommandLine, HostWorld, MemRuns, ResultStore, execute, read_command,
+};
+use kt_store::{Results, StoreFault};
+use sqlite::{Connection, Error, ErrorCode, File as StoreFile, FileStore};
 use std::io::{BufWriter, ErrorKind, Write};
 use std::process::ExitCode;
-use std::rt::{Clock, Files};
 use std::{env, io};
 
 /// The status where something failed.
@@ -16,33 +18,80 @@ const FAILED: u8 = 2;
 const WRONG_WORDS: u8 = 3;
 
 /// Tells that memory ran out.
-fn out_of_memory<R: Print>(rt: &R) -> u8 {
+fn out_of_memory(rt: &HostRuntime) -> u8 {
     let _ = print!(rt; "kyua: E: out of memory\n");
     FAILED
 }
 
-/// Does a command over the host's files, and writes its text on standard output.
-fn perform<R: Files<File = File> + Clock + Print + AllocGlobal>(rt: &R, command: &Command) -> u8 {
-    let Ok(mut world) = HostWorld::of(rt, command.kyuafile()) else {
+/// Tells that the results can't be opened.
+fn store_failed(rt: &HostRuntime, fault: StoreFault) -> u8 {
+    if fault == StoreFault::NoMemory {
+        return out_of_memory(rt);
+    }
+    let _ = print!(rt; "kyua: E: results store failed\n");
+    FAILED
+}
+
+/// What is told of a file that can't be opened.
+fn fault_of(error: Error) -> StoreFault {
+    match error {
+        Error::SqliteFailure(ErrorCode::OutOfMemory) => StoreFault::NoMemory,
+        _ => StoreFault::Store,
+    }
+}
+
+/// Opens the results in a file, and makes them where there is none.
+fn open_results(
+    rt: &HostRuntime,
+    file: &Text,
+) -> Result<Results<FileStore<StoreFile>>, StoreFault> {
+    let connection = match Connection::open(rt, file.as_str()) {
+        Ok(connection) => connection,
+        Err(error) => return Err(fault_of(error)),
+    };
+    if !connection.is_autocommit() {
+        return Err(StoreFault::Store);
+    }
+    match Results::attach(rt.alloc(), connection) {
+        Ok(results) => Ok(results),
+        Err((fault, _)) => Err(fault),
+    }
+}
+
+/// Does a command over the host's files and a store, and writes its text on standard output.
+fn perform<R: ResultStore>(rt: &HostRuntime, command: &Command, results: &mut R) -> u8 {
+    let nowhere = Text::new(rt.alloc());
+    let kyuafile = command.kyuafile().unwrap_or(&nowhere);
+    let Ok(mut world) = HostWorld::of(rt, kyuafile) else {
         return out_of_memory(rt);
     };
     let Ok(mut out) = BufWriter::new(rt.alloc(), io::writer(rt)) else {
         return out_of_memory(rt);
     };
-    let mut results = MemRuns::new(rt.alloc());
-    let exit = execute(rt.alloc(), command, &mut world, &mut results, &mut out);
+    let exit = execute(rt.alloc(), command, &mut world, results, &mut out);
     match out.flush() {
         Ok(()) => exit.status,
         Err(_) => FAILED,
     }
 }
 
+/// Does the command of a line over its own store: that of its file, or an empty one in memory.
+fn perform_line(rt: &HostRuntime, line: &CommandLine) -> u8 {
+    let Some(file) = &line.results else {
+        return perform(rt, &line.command, &mut MemRuns::new(rt.alloc()));
+    };
+    match open_results(rt, file) {
+        Ok(mut results) => perform(rt, &line.command, &mut results),
+        Err(fault) => store_failed(rt, fault),
+    }
+}
+
 /// The words after the program's own name.
-fn words<R: Env + AllocGlobal>(rt: &R) -> io::Result<Vec<String>> {
+fn words(rt: &HostRuntime) -> io::Result<Vec<String>> {
     Ok(env::args(rt)?.skip(1).collect(rt.alloc())?)
 }
 
-fn run<R: Env + Files<File = File> + Clock + Print + Eprint + AllocGlobal>(rt: &R) -> u8 {
+fn run(rt: &HostRuntime) -> u8 {
     let words = match words(rt) {
         Ok(words) => words,
         Err(error) if error.kind() == ErrorKind::OutOfMemory => return out_of_memory(rt),
@@ -50,10 +99,18 @@ fn run<R: Env + Files<File = File> + Clock + Print + Eprint + AllocGlobal>(rt: &
         Err(_) => Vec::new(rt.alloc()),
     };
     match read_command(rt.alloc(), words.as_slice()) {
-        Ok(command) => perform(rt, &command),
+        Ok(line) => perform_line(rt, &line),
         Err(CommandFault::NoMemory) => out_of_memory(rt),
         Err(CommandFault::Usage(text)) => {
             let _ = eprint!(rt; "{}", text.as_str());
+            WRONG_WORDS
+        }
+        Err(CommandFault::BadKind) => {
+            let _ = eprint!(rt; "kyua: E: bad results filter\n");
+            WRONG_WORDS
+        }
+        Err(CommandFault::BadRun) => {
+            let _ = eprint!(rt; "kyua: E: bad run number\n");
             WRONG_WORDS
         }
     }

@@ -1,0 +1,10 @@
+use crate::command::Command;
+use kt_base::Text;
+
+/// A command line of kyua(1).
+#[derive(Debug, Drop)]
+pub struct CommandLine {
+    pub command: Command,
+    /// The file of the results, for a command that reads or writes them.
+    pub results: Option<Text>,
+}
