@@ -1,12 +1,13 @@
+pub mod Answering
 pub mod Saying
 pub mod FaultWords
 pub mod Listed
 pub mod PlanLaws
-pub mod ResultTexts
-pub mod RunLaws
-pub mod Recorders
+pub mod Numbered
+pub mod MemoryLaws
 pub mod Gainings
-pub mod LastRuns
+pub mod NewRuns
 pub mod PlanRuns
+pub mod ShownRuns
 pub mod Testings
 pub mod Plays

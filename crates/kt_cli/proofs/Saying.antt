@@ -30,9 +30,13 @@ says_both a b d f g h xs ys p q = record {
   more = subst (λ (zs : List ℕ). SaysMore a f d h zs) (sym (utf8-append xs ys)) (says_bytes a b d f g h (utf8 xs) (utf8 ys) p.more q.more);
 }
 
-pub says_nothing : (a : Option (List ℕ)) (f : Bool) → Says a f a f (utf8 [])
-says_nothing a false = record { more = appends_none a }
-says_nothing a true = record { more = (refl, refl) }
+pub tells_nothing : (a : Option (List ℕ)) (f : Bool) → Says a f a f []
+tells_nothing a false = record { more = appends_none a }
+tells_nothing a true = record { more = (refl, refl) }
+
+-- bytes are said, and then others
+pub tells_both : (a b d : Option (List ℕ)) (f g h : Bool) (xs ys : List ℕ) → Says a f b g xs → Says b g d h ys → Says a f d h (xs ++ ys)
+tells_both a b d f g h xs ys p q = record { more = says_bytes a b d f g h xs ys p.more q.more }
 
 -- what was said, and what is still to be listed
 pub record Lists (a b : Option (List ℕ)) (failed : Bool) (programs rest : List Program) : Type 0 where

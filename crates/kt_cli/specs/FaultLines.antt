@@ -8,8 +8,8 @@ use Rattle.kt_sched.specs.declared.sink_fault.SinkFault.TheVariants as sink
 use Rattle.kt_suite.specs.declared.cause.SuiteCause.{SuiteCause}
 use Rattle.kt_suite.specs.declared.cause.SuiteCause.TheVariants as cause
 use Rattle.kt_suite.specs.declared.fault.SuiteFault.{SuiteFault}
-use Rattle.kt_cli.specs.declared.runs_fault.RunsFault.{RunsFault}
-use Rattle.kt_cli.specs.declared.runs_fault.RunsFault.TheVariants as runs
+use Rattle.kt_store.specs.declared.store_fault.StoreFault.{StoreFault}
+use Rattle.kt_store.specs.declared.store_fault.StoreFault.TheVariants as store
 
 abbrev pub script_text : ScriptFault → List ℕ
 script_text script.NoMemory = codes "out of memory"
@@ -45,7 +45,7 @@ error_mark = codes "kyua: E: "
 abbrev pub memory_line : List ℕ
 memory_line = codes "kyua: E: out of memory\n"
 
--- the recorded runs refused a call
+-- the store refused a call
 abbrev pub store_line : List ℕ
 store_line = codes "kyua: E: results store failed\n"
 
@@ -65,7 +65,7 @@ abbrev pub put_line : SinkFault → List ℕ
 put_line sink.Memory = memory_line
 put_line sink.Other = store_line
 
--- a call that the recorded runs refused
-abbrev pub runs_line : RunsFault → List ℕ
-runs_line runs.NoMemory = memory_line
-runs_line other = store_line
+-- a call that the store refused
+abbrev pub refusal_line : StoreFault → List ℕ
+refusal_line store.NoMemory = memory_line
+refusal_line other = store_line

@@ -1,12 +1,15 @@
 pub mod Commands
-pub mod EntryLines
 pub mod FaultLines
 pub mod Listings
 pub mod Meaning
+pub mod MemoryRuns
 pub mod OneChild
 pub mod Pages
 pub mod Plans
 pub mod Recording
 pub mod Recordings
-pub mod Runs
+pub mod Reports
+pub mod Shown
+pub mod Stores
 pub mod Told
+pub mod Totals

@@ -1,5 +1,6 @@
 -- What `list` prints, and its exit.
 use Rattle.std.specs.Prelude.{ℕ, List, ◌++◌, ◌≡◌, ◌⊎◌, Option, Ok, Err, flat_map, codes}
+use Rattle.kt_base.specs.Utf8.{utf8}
 use Rattle.kt_suite.specs.declared.program.Program.{Program}
 use Rattle.kt_suite.specs.Answers.{Asked, Chain}
 use Rattle.kt_suite.specs.Paths.{name_in}
@@ -29,4 +30,4 @@ pub record Listed {T : Type 0} (asks : T → Asked → T → Type 0) (kyuafile :
   pub chain : Chain asks asked old new
   pub outcome : Outcome
   pub registered : (outcome ≡ Err no_memory) ⊎ Registered asked (name_in kyuafile) outcome
-  pub printed : Printed was now exit (listing outcome) (listing_exit outcome)
+  pub printed : Printed was now exit (utf8 (listing outcome)) (listing_exit outcome)

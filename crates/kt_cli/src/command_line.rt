@@ -5,6 +5,8 @@ use kt_base::Text;
 #[derive(Debug, Drop)]
 pub struct CommandLine {
     pub command: Command,
-    /// The directory that the root directory of the runner is made in.
-    pub work: Text,
+    /// The directory that the root directory of the runner is made in, for a command that reads a Kyuafile.
+    pub work: Option<Text>,
+    /// The file of the results, for a command that reads or writes them.
+    pub results: Option<Text>,
 }

@@ -4,25 +4,29 @@ ghost use Rattle.kt_cli.specs.Meaning.{Did};
 use crate::command::Command;
 use crate::exit::Exit;
 use crate::listing::list;
-use crate::mem_runs::MemRuns;
+use crate::reporting::{report, report_junit};
+use crate::result_store::ResultStore;
 use crate::testing::test;
 use crate::world::World;
 use std::alloc::Global;
 use std::io::Write;
 
-/// Does a command over a world and the recorded runs, and writes its text.
-pub fn execute<W: World, O: Write>(
+/// Does a command over a world and a store of runs, and writes its text.
+pub fn execute<W: World, R: ResultStore, O: Write>(
     alloc: Global,
     command: &Command,
     world: &mut W,
-    results: &mut MemRuns,
+    results: &mut R,
     out: &mut O,
 ) -> Exit
     requires { IsIdle (W.running world.old) (W.pending world.old) }
-    ensures { Did W.asks W.tells W.starts W.waits command.now world.old world.new results.old results.new (O.contents out.old) (O.contents out.new) result.status }
+    ensures did { Did W.asks W.tells W.starts W.waits R.stands R.sound command.now world.old world.new results.old results.new (O.contents out.old) (O.contents out.new) result.status }
+    ensures idle { IsIdle (W.running world.new) (W.pending world.new) }
 {
     match command {
         Command::List(kyuafile) => list(alloc, kyuafile, world, out),
         Command::Test(kyuafile) => test(alloc, kyuafile, world, results, out),
+        Command::Report { run, kinds, .. } => report(*run, kinds.as_slice(), results, out),
+        Command::ReportJunit { run, .. } => report_junit(alloc, *run, results, out),
     }
 }

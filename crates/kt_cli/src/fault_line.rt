@@ -2,12 +2,13 @@ ghost use Rattle.std.specs.Prelude.{◌≡◌};
 ghost use Rattle.kt_base.specs.Utf8.{utf8};
 ghost use Rattle.kt_base.specs.Shows.{Shows};
 ghost use Rattle.kt_cli.specs.Pages.{Says};
-ghost use Rattle.kt_cli.specs.FaultLines.{script_text, fixed_text, cause_text, memory_line, store_line, put_line, placed_line, fault_line};
+ghost use Rattle.kt_cli.specs.FaultLines.{script_text, fixed_text, cause_text, memory_line, store_line, put_line, placed_line, fault_line, refusal_line};
 ghost use Rattle.kt_suite.specs.declared.cause.SuiteCause.TheVariants.{WrongSyntax};
 
 use crate::page::{say_number, say_text, say_words};
 use kt_sched::SinkFault;
 use kt_script::ScriptFault;
+use kt_store::StoreFault;
 use kt_suite::{SuiteCause, SuiteFault};
 use std::io::Write;
 
@@ -69,8 +70,8 @@ pub fn say_memory<O: Write>(failed: bool, out: &mut O) -> bool
     say_words(failed, "kyua: E: out of memory\n", out)
 }
 
-/// Tells that the recorded runs refused a call.
-pub fn say_store<O: Write>(failed: bool, out: &mut O) -> bool
+/// Tells that the store refused a call.
+fn say_store<O: Write>(failed: bool, out: &mut O) -> bool
     ensures { Says (O.contents out.old) failed (O.contents out.new) result (utf8 store_line) }
 {
     say_words(failed, "kyua: E: results store failed\n", out)
@@ -83,6 +84,16 @@ pub fn say_put<O: Write>(failed: bool, fault: SinkFault, out: &mut O) -> bool
     match fault {
         SinkFault::Memory => say_memory(failed, out),
         SinkFault::Other => say_store(failed, out),
+    }
+}
+
+/// Tells a call that the store refused.
+pub fn say_refusal<O: Write>(failed: bool, fault: StoreFault, out: &mut O) -> bool
+    ensures { Says (O.contents out.old) failed (O.contents out.new) result (utf8 (refusal_line fault)) }
+{
+    match fault {
+        StoreFault::NoMemory => say_memory(failed, out),
+        _ => say_store(failed, out),
     }
 }
 

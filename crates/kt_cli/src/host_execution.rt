@@ -7,8 +7,9 @@ use crate::command_line::CommandLine;
 use crate::execution::execute;
 use crate::exit::Exit;
 use crate::host_world::HostWorld;
-use crate::mem_runs::MemRuns;
 use crate::place::source_of;
+use crate::reporting::{report, report_junit};
+use crate::result_store::ResultStore;
 use kt_base::Text;
 use kt_child::{Driver, DriverFault, Os};
 use kt_sched::Launcher;
@@ -23,29 +24,35 @@ fn driver_of<O: Os + Drop>(
     alloc: Global,
     os: O,
     here: &str,
-    line: &CommandLine,
+    work: &Text,
+    kyuafile: &Text,
 ) -> Result<Driver<O>, DriverFault>
     ensures { IfOk result (λ driver. IsIdle (shown_at driver.row.cases) (is_among driver.row.pending)) }
 {
-    if !line.work.as_str().starts_with('/') {
+    if !work.as_str().starts_with('/') {
         return Err(DriverFault::NoWorkDirectory);
     }
-    let Ok(source) = source_of(alloc, here, line.command.kyuafile()) else {
+    let Ok(source) = source_of(alloc, here, kyuafile) else {
         return Err(DriverFault::NoMemory);
     };
-    match Driver::new(alloc, os, &line.work, source) {
+    match Driver::new(alloc, os, work, source) {
         Ok(driver) => Ok(driver),
         Err((fault, _)) => Err(fault),
     }
 }
 
 /// Does a command over the files of a directory and a launcher, which is given back.
-fn execute_over<R: Files<File = File> + Clock + AllocGlobal, L: Launcher, W: Write>(
+fn execute_over<
+    R: Files<File = File> + Clock + AllocGlobal,
+    L: Launcher,
+    S: ResultStore,
+    W: Write,
+>(
     rt: &R,
     directory: Text,
     launcher: L,
     command: &Command,
-    results: &mut MemRuns,
+    results: &mut S,
     out: &mut W,
 ) -> (Exit, L)
     requires { IsIdle (L.running launcher) (L.pending launcher) }
@@ -55,21 +62,54 @@ fn execute_over<R: Files<File = File> + Clock + AllocGlobal, L: Launcher, W: Wri
     (exit, world.launcher)
 }
 
-/// Does a command line over the host's files and this system, with work directories of its own, which are removed at the
-/// end. `here` is the absolute working directory. Where no root directory can be made, nothing is written.
-pub fn execute_on_host<R: Files<File = File> + Clock + AllocGlobal, O: Os + Drop, W: Write>(
+/// Does a command over a Kyuafile of the host and this system, with work directories of its own, which are removed at the
+/// end.
+fn execute_over_files<
+    R: Files<File = File> + Clock + AllocGlobal,
+    O: Os + Drop,
+    S: ResultStore,
+    W: Write,
+>(
     rt: &R,
     os: O,
     here: &str,
     line: &CommandLine,
-    results: &mut MemRuns,
+    kyuafile: &Text,
+    results: &mut S,
     out: &mut W,
 ) -> Result<Exit, DriverFault> {
-    let Ok((directory, _)) = split_path(rt.alloc(), line.command.kyuafile()) else {
+    let Some(work) = &line.work else {
+        return Err(DriverFault::NoWorkDirectory);
+    };
+    let Ok((directory, _)) = split_path(rt.alloc(), kyuafile) else {
         return Err(DriverFault::NoMemory);
     };
-    let driver = driver_of(rt.alloc(), os, here, line)?;
+    let driver = driver_of(rt.alloc(), os, here, work, kyuafile)?;
     let (exit, driver) = execute_over(rt, directory, driver, &line.command, results, out);
     let _ = driver.close();
     Ok(exit)
+}
+
+/// Does a command line over the host's files, this system and a store of runs. `here` is the absolute working directory.
+/// Where no root directory can be made, nothing is written; a report needs none.
+pub fn execute_on_host<
+    R: Files<File = File> + Clock + AllocGlobal,
+    O: Os + Drop,
+    S: ResultStore,
+    W: Write,
+>(
+    rt: &R,
+    os: O,
+    here: &str,
+    line: &CommandLine,
+    results: &mut S,
+    out: &mut W,
+) -> Result<Exit, DriverFault> {
+    match &line.command {
+        Command::List(kyuafile) | Command::Test(kyuafile) => {
+            execute_over_files(rt, os, here, line, kyuafile, results, out)
+        }
+        Command::Report { run, kinds, .. } => Ok(report(*run, kinds.as_slice(), results, out)),
+        Command::ReportJunit { run, .. } => Ok(report_junit(rt.alloc(), *run, results, out)),
+    }
 }

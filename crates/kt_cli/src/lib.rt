@@ -4,23 +4,26 @@
 mod command;
 mod command_fault;
 mod command_line;
-mod entry_line;
+mod copies;
 mod execution;
 mod exit;
 mod fault_line;
 mod host_execution;
 mod host_world;
+mod kept_results;
 mod listing;
 mod mem_runs;
+mod not_shown;
 mod page;
 mod place;
 mod planning;
 mod programs;
 mod reading;
 mod recorder;
-mod run_head;
-mod runs_fault;
+mod reporting;
+mod result_store;
 mod testing;
+mod totals;
 mod world;
 
 pub use command::Command;
@@ -32,8 +35,7 @@ pub use host_execution::execute_on_host;
 pub use host_world::HostWorld;
 pub use mem_runs::MemRuns;
 pub use reading::read_command;
-pub use run_head::RunHead;
-pub use runs_fault::RunsFault;
+pub use result_store::ResultStore;
 pub use world::World;
 
 #[cfg(test)]

@@ -1,16 +1,19 @@
-use crate::run_head::RunHead;
-use crate::runs_fault::RunsFault;
+use crate::copies::{copy_of_entries, copy_of_entry};
+use crate::result_store::ResultStore;
 use kt_base::{Entry, Items, NoMemory, Run};
+use kt_store::{RunHead, StoreFault};
 use std::alloc::Global;
 use std::marker::Model;
+use std::mem;
 
 /// The most runs that are recorded.
 const RUN_LIMIT: usize = 1_000_000;
 
 /// Recorded runs in memory. Contracts see their list; a run's number is its place in it, counted from 1.
-#[derive(Debug, Drop)]
+#[derive(Drop)]
 pub struct MemRuns {
     runs: Vec<Run>,
+    alloc: Global,
 }
 
 impl Model for MemRuns {
@@ -23,9 +26,12 @@ impl Model for MemRuns {
 }
 
 impl MemRuns {
-    ghost use Rattle.std.specs.Prelude.{◌≡◌, [], map, IfOk};
-    ghost use Rattle.std.specs.Option.{option_copied};
-    ghost use Rattle.kt_cli.specs.Runs.{head_of, newest_of, run_at, BeginsRun, FindsRun, PutsEntry, FinishesRun, ReadsEntries};
+    ghost use Rattle.std.specs.Prelude.{◌≡◌, ◌⊎◌, [], map, IfOk, IfErr, Some, None};
+    ghost use Rattle.kt_base.specs.declared.run.Run.{Run as Recorded};
+    ghost use Rattle.kt_store.specs.Ask.{IsStoreFault};
+    ghost use Rattle.kt_store.specs.Heads.{head_of};
+    ghost use Rattle.kt_store.specs.Runs.{run_at};
+    ghost use Rattle.kt_cli.specs.MemoryRuns.{BeginsRun, FindsPlace, PutsEntry, FinishesRun};
 
     /// No runs, which take no memory.
     pub fn new(alloc: Global) -> MemRuns
@@ -33,17 +39,16 @@ impl MemRuns {
     {
         MemRuns {
             runs: Vec::new(alloc),
+            alloc,
         }
     }
 
-    /// Begins a run of so many cases, and answers its number.
-    /// The moment is in milliseconds since 1970 in UTC.
-    pub fn begin(&mut self, alloc: Global, total: u32, moment: u64) -> Result<u64, RunsFault>
+    fn add_run(&mut self, total: u32, moment: u64) -> Result<u64, StoreFault>
         ensures { BeginsRun self.old total moment result self.new }
     {
         let count = self.runs.len();
         if count >= RUN_LIMIT {
-            return Err(RunsFault::StoreFull);
+            return Err(StoreFault::StoreFull);
         }
         let number = count as u64 + 1;
         let run = Run {
@@ -51,71 +56,43 @@ impl MemRuns {
             started: moment,
             total,
             finished: false,
-            entries: Items::new(alloc),
+            entries: Items::new(self.alloc),
         };
         match self.runs.push(run) {
             Ok(()) => Ok(number),
-            Err(_) => Err(RunsFault::NoMemory),
+            Err(_) => Err(StoreFault::NoMemory),
         }
     }
 
     /// The place of a run in the list.
-    fn place(&self, number: u64) -> Result<usize, RunsFault>
-        ensures { FindsRun self.now number result }
+    fn place(&self, number: u64) -> Result<usize, StoreFault>
+        ensures { FindsPlace self.now number result }
     {
         if number == 0 || number > self.runs.len() as u64 {
-            return Err(RunsFault::NoRun);
+            return Err(StoreFault::NoRun);
         }
         Ok((number - 1) as usize)
     }
 
-    /// Records an entry in a run, after those that were recorded there.
-    pub fn put(&mut self, number: u64, entry: Entry) -> Result<(), RunsFault>
-        ensures { PutsEntry self.old number entry result self.new }
+    fn put_entry(&mut self, number: u64, entry: &Entry) -> Result<(), StoreFault>
+        ensures { PutsEntry self.old number entry.now result self.new }
     {
         let place = match self.place(number) {
             Ok(place) => place,
             Err(fault) => return Err(fault),
         };
+        let alloc = self.alloc;
         let run = &mut self.runs[place];
         if let Some(fault) = refused_entry(run, entry.position) {
             return Err(fault);
         }
-        if run.entries.push(entry).is_err() {
-            return Err(RunsFault::NoMemory);
+        if add_copy(alloc, &mut run.entries, entry).is_err() {
+            return Err(StoreFault::NoMemory);
         }
         Ok(())
     }
 
-    /// All runs in order, without their entries.
-    pub fn runs(&self, alloc: Global) -> Result<Items<RunHead>, NoMemory>
-        ensures { IfOk result (λ heads. heads ≡ map head_of self.now) }
-    {
-        heads(alloc, &self.runs)
-    }
-
-    /// The entries of a run, in the order in which they were recorded.
-    pub fn entries(&self, number: u64) -> Result<&[Entry], RunsFault>
-        ensures { ReadsEntries self.now number result }
-    {
-        match self.place(number) {
-            Ok(place) => Ok(self.runs[place].entries.as_slice()),
-            Err(fault) => Err(fault),
-        }
-    }
-
-    /// The entry of a run that was recorded last.
-    pub fn newest(&self, number: u64) -> Option<&Entry>
-        ensures { option_copied result ≡ newest_of (run_at self.now number) }
-    {
-        match self.place(number) {
-            Ok(place) => self.runs[place].entries.as_slice().last(),
-            Err(_) => None,
-        }
-    }
-
-    /// Finishes a run that has all its entries.
-    pub fn finish(&mut self, number: u64) -> Result<(), RunsFault>
+    fn end_run(&mut self, number: u64) -> Result<(), StoreFault>
         ensures { FinishesRun self.old number result self.new }
     {
         let place = match self.place(number) {
@@ -129,10 +106,72 @@ impl MemRuns {
         run.finished = true;
         Ok(())
     }
+
+    fn entries_of(&self, number: u64) -> Result<Vec<Entry>, StoreFault>
+        ensures found { IfOk result (λ found. (run : Recorded) × (run_at self.now number ≡ Some run) × (found.items ≡ run.entries)) }
+        ensures refused { IfErr result (λ e. IsStoreFault e ⊎ ((e ≡ StoreFault.NoRun) × (run_at self.now number ≡ None))) }
+    {
+        let place = match self.place(number) {
+            Ok(place) => place,
+            Err(fault) => return Err(fault),
+        };
+        match copy_of_entries(self.alloc, self.runs[place].entries.as_slice()) {
+            Ok(entries) => Ok(entries),
+            Err(_) => Err(StoreFault::NoMemory),
+        }
+    }
+
+    fn heads(&self) -> Result<Vec<RunHead>, StoreFault>
+        ensures all { IfOk result (λ heads. heads.items ≡ map head_of self.now) }
+        ensures failed { IfErr result IsStoreFault }
+    {
+        match heads(self.alloc, &self.runs) {
+            Ok(heads) => Ok(heads),
+            Err(_) => Err(StoreFault::NoMemory),
+        }
+    }
 }
 
-ghost use Rattle.std.specs.Prelude.{◌≡◌, map, IfOk};
-ghost use Rattle.kt_cli.specs.Runs.{head_of, has_position, entry_refusal, closing_refusal};
+impl ResultStore for MemRuns {
+    ghost use Rattle.std.specs.Prelude.{◌≡◌, ⊤};
+    ghost use Rattle.kt_store.specs.Runs.{AreNumbered};
+
+    ghost stands = { λ m runs. (m ≡ runs) × AreNumbered 1 runs };
+
+    ghost sound = { λ m. ⊤ };
+
+    fn begin(&mut self, total: u32, moment: u64) -> Result<u64, StoreFault> {
+        let number = self.add_run(total, moment)?;
+        Ok(number)
+    }
+
+    fn put(&mut self, run: u64, entry: &Entry) -> Result<(), StoreFault> {
+        self.put_entry(run, entry)?;
+        Ok(())
+    }
+
+    fn finish(&mut self, run: u64) -> Result<(), StoreFault> {
+        self.end_run(run)?;
+        Ok(())
+    }
+
+    fn runs(&mut self) -> Result<Vec<RunHead>, StoreFault> {
+        let heads = self.heads()?;
+        Ok(heads)
+    }
+
+    fn entries(&mut self, run: u64) -> Result<Vec<Entry>, StoreFault> {
+        let entries = self.entries_of(run)?;
+        Ok(entries)
+    }
+
+    ghost numbered = { λ m runs h. h.1 };
+}
+
+ghost use Rattle.std.specs.Prelude.{◌≡◌, ◌≤◌, length, map, insert, OnOk, OnErr, IfOk};
+ghost use Rattle.kt_store.specs.Heads.{head_of};
+ghost use Rattle.kt_store.specs.Runs.{has_position, insert_at};
+ghost use Rattle.kt_cli.specs.MemoryRuns.{entry_refusal, closing_refusal, place_among};
 
 fn head(run: &Run) -> RunHead
     ensures { result ≡ head_of run.now }
@@ -145,16 +184,57 @@ fn head(run: &Run) -> RunHead
     }
 }
 
-fn heads(alloc: Global, runs: &[Run]) -> Result<Items<RunHead>, NoMemory>
-    ensures { IfOk result (λ heads. heads ≡ map head_of runs.now) }
+fn heads(alloc: Global, runs: &[Run]) -> Result<Vec<RunHead>, NoMemory>
+    ensures { IfOk result (λ heads. heads.items ≡ map head_of runs.now) }
 {
-    let mut heads = Items::new(alloc);
+    let mut heads = Vec::new(alloc);
     let mut rest = runs;
     while let Some((run, after)) = rest.split_first() {
         heads.push(head(run))?;
         rest = after;
     }
     Ok(heads)
+}
+
+/// How many entries stand before one at this position.
+fn place_among(entries: &[Entry], position: u32) -> usize
+    ensures { result ≡ place_among position entries.now }
+{
+    let mut place = 0;
+    let mut rest = entries;
+    while let Some((entry, after)) = rest.split_first() {
+        if position < entry.position {
+            return place;
+        }
+        place += 1;
+        rest = after;
+    }
+    place
+}
+
+/// Adds an entry at its position.
+fn insert_entry(alloc: Global, entries: &mut Items<Entry>, entry: Entry) -> Result<(), NoMemory>
+    ensures ok { OnOk result (entries.new ≡ insert_at entry entries.old) }
+    ensures err { OnErr result (entries.new ≡ entries.old) }
+{
+    let mut kept = mem::replace(entries, Items::new(alloc)).into_vec();
+    let place = place_among(&kept, entry.position);
+    let failed = kept.insert(place, entry).is_err();
+    *entries = Items::from_vec(kept);
+    if failed {
+        return Err(NoMemory);
+    }
+    Ok(())
+}
+
+/// Adds a copy of an entry at its position.
+fn add_copy(alloc: Global, entries: &mut Items<Entry>, entry: &Entry) -> Result<(), NoMemory>
+    ensures ok { OnOk result (entries.new ≡ insert_at entry.now entries.old) }
+    ensures err { OnErr result (entries.new ≡ entries.old) }
+{
+    let copy = copy_of_entry(alloc, entry)?;
+    insert_entry(alloc, entries, copy)?;
+    Ok(())
 }
 
 fn has_position(entries: &[Entry], position: u32) -> bool
@@ -164,30 +244,30 @@ fn has_position(entries: &[Entry], position: u32) -> bool
 }
 
 /// Why an entry at this position may not be put into a run.
-fn refused_entry(run: &Run, position: u32) -> Option<RunsFault>
+fn refused_entry(run: &Run, position: u32) -> Option<StoreFault>
     ensures { result ≡ entry_refusal run.now position }
 {
     if run.finished {
-        return Some(RunsFault::RunClosed);
+        return Some(StoreFault::RunClosed);
     }
     if run.total <= position {
-        return Some(RunsFault::BadPosition);
+        return Some(StoreFault::BadPosition);
     }
     if has_position(run.entries.as_slice(), position) {
-        return Some(RunsFault::RepeatedPosition);
+        return Some(StoreFault::RepeatedPosition);
     }
     None
 }
 
 /// Why a run may not be finished.
-fn refused_end(run: &Run) -> Option<RunsFault>
+fn refused_end(run: &Run) -> Option<StoreFault>
     ensures { result ≡ closing_refusal run.now }
 {
     if run.finished {
-        return Some(RunsFault::RunClosed);
+        return Some(StoreFault::RunClosed);
     }
     if run.entries.len() < run.total as usize {
-        return Some(RunsFault::Incomplete);
+        return Some(StoreFault::Incomplete);
     }
     None
 }

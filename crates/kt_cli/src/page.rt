@@ -1,9 +1,11 @@
 ghost use Rattle.std.specs.Prelude.{chars};
 ghost use Rattle.std.specs.Fmt.{decimal};
 ghost use Rattle.kt_base.specs.Utf8.{utf8};
+ghost use Rattle.kt_report.specs.Lines.{line_bytes};
 ghost use Rattle.kt_cli.specs.Pages.{Says};
 
-use kt_base::{Text, emit, emit_number};
+use kt_base::{Entry, Text, emit, emit_number};
+use kt_report::line;
 use std::io::Write;
 
 /// Gives bytes to a writer, unless it failed before. Answers whether it has failed now.
@@ -38,4 +40,14 @@ pub fn say_number<O: Write>(failed: bool, n: u64, out: &mut O) -> bool
         return true;
     }
     emit_number(n, out).is_err()
+}
+
+/// Gives the line of an entry to a writer. It takes no memory.
+pub fn say_line<O: Write>(failed: bool, entry: &Entry, out: &mut O) -> bool
+    ensures { Says (O.contents out.old) failed (O.contents out.new) result (line_bytes entry.now) }
+{
+    if failed {
+        return true;
+    }
+    line(entry, out).is_err()
 }

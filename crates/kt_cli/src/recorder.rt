@@ -1,17 +1,17 @@
 ghost use Rattle.std.specs.Prelude.{◌≡◌};
 ghost use Rattle.kt_cli.specs.Recording.{sink_fault_of};
 
-use crate::entry_line::say_entry;
-use crate::mem_runs::MemRuns;
-use crate::runs_fault::RunsFault;
+use crate::page::say_line;
+use crate::result_store::ResultStore;
 use kt_base::Entry;
 use kt_sched::{Sink, SinkFault};
+use kt_store::StoreFault;
 use std::io::Write;
 
-/// Puts entries into a run, and then tells each on a line.
+/// Puts entries into a run of a store, and then tells each on a line.
 #[derive(Drop)]
-pub struct Recorder<'a, O> {
-    pub runs: &'a mut MemRuns,
+pub struct Recorder<'a, R, O> {
+    pub results: &'a mut R,
     pub out: &'a mut O,
     /// The number of the run.
     pub number: u64,
@@ -20,32 +20,30 @@ pub struct Recorder<'a, O> {
 }
 
 /// What a scheduler is told of a refused put.
-fn sink_fault(fault: RunsFault) -> SinkFault
+fn sink_fault(fault: StoreFault) -> SinkFault
     ensures { result ≡ sink_fault_of fault }
 {
     match fault {
-        RunsFault::NoMemory => SinkFault::Memory,
+        StoreFault::NoMemory => SinkFault::Memory,
         _ => SinkFault::Other,
     }
 }
 
-impl<O: Write> Sink for Recorder<'_, O> {
+impl<R: ResultStore, O: Write> Sink for Recorder<'_, R, O> {
     ghost use Rattle.std.specs.Prelude.{◌≡◌};
-    ghost use Rattle.kt_cli.specs.Recording.{Recorded, entries_at};
+    ghost use Rattle.kt_cli.specs.Recording.{Recorded, Took};
 
-    ghost entries = { λ s. entries_at s.number s.runs.now };
+    ghost entries = { λ s put. Took R.stands s.number s.results.now put };
 
-    ghost puts = { λ s e r t. (t.runs.ghost_name ≡ s.runs.ghost_name) × (t.out.ghost_name ≡ s.out.ghost_name)
-        × Recorded s.number s.runs.now s.failed (O.contents s.out.now) e r t.number t.runs.now t.failed (O.contents t.out.now) };
+    ghost puts = { λ s e r t. (t.results.ghost_name ≡ s.results.ghost_name) × (t.out.ghost_name ≡ s.out.ghost_name)
+        × Recorded R.stands R.sound s.number s.results.now s.failed (O.contents s.out.now) e r t.number t.results.now t.failed (O.contents t.out.now) };
 
     fn put(&mut self, entry: Entry) -> Result<(), SinkFault> {
         // The entry is recorded before its line is told.
-        if let Err(fault) = self.runs.put(self.number, entry) {
+        if let Err(fault) = self.results.put(self.number, &entry) {
             return Err(sink_fault(fault));
         }
-        if let Some(entry) = self.runs.newest(self.number) {
-            self.failed = say_entry(self.failed, entry, self.out);
-        }
+        self.failed = say_line(self.failed, &entry, self.out);
         Ok(())
     }
 }

@@ -2,6 +2,8 @@ use super::*;
 
 mod play;
 mod refusals;
+mod reports;
+mod tiring;
 
 use kt_base::{Interface, Outcome, Text};
 use play::Play;
@@ -57,6 +59,11 @@ fn played(
     let mut runs = MemRuns::new(alloc);
     let exit = execute(alloc, command, &mut world, &mut runs, &mut page);
     (page.kept, exit.status, runs)
+}
+
+/// Whether one run is recorded, and finished.
+fn is_finished(runs: &mut MemRuns) -> bool {
+    matches!(runs.runs(), Ok(heads) if heads.len() == 1 && heads[0].finished)
 }
 
 /// What `list` writes, and its status.
@@ -224,11 +231,16 @@ const ROWS: [Row; 6] = [
 fn each_case_is_recorded_and_told(rt: HostRuntime) -> Result<(), Fail> {
     let command = Command::Test(Text::from_str(rt.alloc(), "Kyuafile")?);
     for row in &ROWS {
-        let (kept, status, runs) = played(rt.alloc(), &command, Some(row.kyuafile), row.ends, 100);
+        let (kept, status, mut runs) = played(
+            rt.alloc(),
+            &command,
+            Some(row.kyuafile),
+            row.ends,
+            100,
+        );
         assert_eq!(rt; kept.as_slice(), row.text);
         assert_eq!(rt; status, row.status);
-        let heads = runs.runs(rt.alloc())?;
-        assert!(rt; heads.len() == 1 && heads.as_slice()[0].finished);
+        assert!(rt; is_finished(&mut runs));
         if let Ok(entries) = runs.entries(1) {
             assert_eq!(rt; entries.len(), row.entries);
         }
@@ -239,13 +251,13 @@ fn each_case_is_recorded_and_told(rt: HostRuntime) -> Result<(), Fail> {
 #[test]
 fn no_run_begins_for_a_faulty_kyuafile(rt: HostRuntime) -> Result<(), Fail> {
     let command = Command::Test(Text::from_str(rt.alloc(), "Kyuafile")?);
-    let (kept, status, runs) = played(rt.alloc(), &command, None, &[], 100);
+    let (kept, status, mut runs) = played(rt.alloc(), &command, None, &[], 100);
     assert_eq!(rt;
         kept.as_slice(),
         b"kyua: E: Kyuafile:0: file could not be read\n".as_slice()
     );
     assert_eq!(rt; status, 2);
-    assert!(rt; runs.runs(rt.alloc())?.is_empty());
+    assert!(rt; matches!(runs.runs(), Ok(heads) if heads.is_empty()));
     Ok(())
 }
 
@@ -260,7 +272,7 @@ fn a_writer_that_fails_stops_no_case(rt: HostRuntime) -> Result<(), Fail> {
         100,
     );
     for k in 0..100 {
-        let (kept, status, runs) = played(
+        let (kept, status, mut runs) = played(
             rt.alloc(),
             &command,
             Some(ONE),
@@ -269,8 +281,7 @@ fn a_writer_that_fails_stops_no_case(rt: HostRuntime) -> Result<(), Fail> {
         );
         assert!(rt; whole.as_slice().starts_with(kept.as_slice()), "at {k}");
         assert_eq!(rt; status == 2, kept.len() < whole.len(), "at {k}");
-        let heads = runs.runs(rt.alloc())?;
-        assert!(rt; heads.len() == 1 && heads.as_slice()[0].finished, "at {k}");
+        assert!(rt; is_finished(&mut runs), "at {k}");
     }
     Ok(())
 }

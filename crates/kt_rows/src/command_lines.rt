@@ -1,4 +1,5 @@
-use kt_cli::{Command, CommandFault, read_command};
+use kt_base::{Kind, Text};
+use kt_cli::{Command, CommandFault, CommandLine, read_command};
 use std::alloc::Global;
 use std::test::Fail;
 
@@ -11,122 +12,141 @@ fn words(alloc: Global, line: &[&str]) -> Result<Vec<String>, Fail> {
     Ok(words)
 }
 
-/// A command line, and what is read of it.
-struct Row {
-    line: &'static [&'static str],
-    command: &'static str,
-    kyuafile: &'static str,
-    work: &'static str,
+/// What is read: a command in short, or why it was refused.
+#[derive(Clone, Copy, Debug, PartialEq, Eq)]
+enum Read {
+    /// The Kyuafile, and the directory for work directories.
+    List(&'static str, &'static str),
+    /// Those, and the file of the results.
+    Test(&'static str, &'static str, &'static str),
+    /// The file of the results, the run, and how many kinds.
+    Report(&'static str, Option<u64>, usize),
+    ReportJunit(&'static str, Option<u64>),
+    Usage,
+    BadKind,
+    BadRun,
 }
 
-const ROWS: [Row; 10] = [
-    Row {
-        line: &["list"],
-        command: "list",
-        kyuafile: "Kyuafile",
-        work: "/tmp",
-    },
-    Row {
-        line: &["list", "-k", "d/K"],
-        command: "list",
-        kyuafile: "d/K",
-        work: "/tmp",
-    },
-    Row {
-        line: &["list", "--kyuafile", "d/K"],
-        command: "list",
-        kyuafile: "d/K",
-        work: "/tmp",
-    },
-    Row {
-        line: &["list", "--kyuafile=d/K"],
-        command: "list",
-        kyuafile: "d/K",
-        work: "/tmp",
-    },
-    Row {
-        line: &["list", "-k", "K", "--work=/w"],
-        command: "list",
-        kyuafile: "K",
-        work: "/w",
-    },
-    Row {
-        line: &["test"],
-        command: "test",
-        kyuafile: "Kyuafile",
-        work: "/tmp",
-    },
-    Row {
-        line: &["test", "--kyuafile=K"],
-        command: "test",
-        kyuafile: "K",
-        work: "/tmp",
-    },
-    Row {
-        line: &["test", "--work=/w", "-k", "d/K"],
-        command: "test",
-        kyuafile: "d/K",
-        work: "/w",
-    },
-    Row {
-        line: &["test", "--work", "w"],
-        command: "test",
-        kyuafile: "Kyuafile",
-        work: "w",
-    },
-    Row {
-        line: &["list", "--work="],
-        command: "list",
-        kyuafile: "Kyuafile",
-        work: "",
-    },
+const ROWS: [(&[&str], Read); 33] = [
+    (&["list"], Read::List("Kyuafile", "/tmp")),
+    (&["list", "-k", "d/K"], Read::List("d/K", "/tmp")),
+    (&["list", "--kyuafile", "d/K"], Read::List("d/K", "/tmp")),
+    (&["list", "--kyuafile=d/K"], Read::List("d/K", "/tmp")),
+    (&["list", "-k", "K", "--work=/w"], Read::List("K", "/w")),
+    (&["list", "--work="], Read::List("Kyuafile", "")),
+    (&["test"], Read::Test("Kyuafile", "/tmp", "kyua.db")),
+    (
+        &["test", "--kyuafile=K", "-r", "R"],
+        Read::Test("K", "/tmp", "R"),
+    ),
+    (
+        &["test", "--work=/w", "-k", "d/K", "--results-file=R"],
+        Read::Test("d/K", "/w", "R"),
+    ),
+    (
+        &["test", "--work", "w"],
+        Read::Test("Kyuafile", "w", "kyua.db"),
+    ),
+    (&["test", "--work"], Read::Usage),
+    (&["test", "-w", "/w"], Read::Usage),
+    (&["list", "-r", "R"], Read::Usage),
+    (&["report", "--work=/w"], Read::Usage),
+    (&[], Read::Usage),
+    (&["lost"], Read::Usage),
+    (&["--help"], Read::Usage),
+    (&["list", "--help"], Read::Usage),
+    (&["list", "-k"], Read::Usage),
+    (&["list", "--run=1"], Read::Usage),
+    (&["report"], Read::Report("kyua.db", None, 4)),
+    (
+        &["report", "--run=1000000", "--results-filter=xfail,failed"],
+        Read::Report("kyua.db", Some(1_000_000), 2),
+    ),
+    (
+        &["report", "-r", "R", "--results-filter=passed"],
+        Read::Report("R", None, 1),
+    ),
+    (&["report", "--run=007"], Read::Report("kyua.db", Some(7), 4)),
+    (&["report", "--run=0"], Read::BadRun),
+    (&["report", "--run=1000001"], Read::BadRun),
+    (&["report", "--run=+1"], Read::BadRun),
+    (&["report", "--run=18446744073709551617"], Read::BadRun),
+    (&["report", "--results-filter=bad"], Read::BadKind),
+    (
+        &["report", "--run=0", "--results-filter=failed,"],
+        Read::BadKind,
+    ),
+    (
+        &["report-junit", "--results-file=R", "--run=1"],
+        Read::ReportJunit("R", Some(1)),
+    ),
+    (&["report-junit"], Read::ReportJunit("kyua.db", None)),
+    (&["report-junit", "--results-filter=failed"], Read::Usage),
 ];
+
+/// The value of an option, or the empty text where the command has no such option.
+fn value(option: &Option<Text>) -> &str {
+    match option {
+        Some(value) => value.as_str(),
+        None => "",
+    }
+}
+
+/// Whether a command line is the one of a row.
+fn is_read(line: &CommandLine, row: Read) -> bool {
+    let results = value(&line.results);
+    let work = value(&line.work);
+    match (&line.command, row) {
+        (Command::List(kyuafile), Read::List(file, dir)) => {
+            kyuafile.as_str() == file && work == dir && line.results.is_none()
+        }
+        (Command::Test(kyuafile), Read::Test(file, dir, kept)) => {
+            kyuafile.as_str() == file && work == dir && results == kept
+        }
+        (Command::Report { run, kinds }, Read::Report(file, number, count)) => {
+            results == file && *run == number && kinds.len() == count && line.work.is_none()
+        }
+        (Command::ReportJunit { run }, Read::ReportJunit(file, number)) => {
+            results == file && *run == number && line.work.is_none()
+        }
+        _ => false,
+    }
+}
 
 #[test]
 fn command_lines_are_read(rt: HostRuntime) -> Result<(), Fail> {
-    for row in &ROWS {
-        let words = words(rt.alloc(), row.line)?;
-        let Ok(line) = read_command(rt.alloc(), words.as_slice()) else {
-            return Err(Fail::new(format_args!("at {:?}", row.line)));
+    for (line, row) in &ROWS {
+        let words = words(rt.alloc(), line)?;
+        let same = match read_command(rt.alloc(), words.as_slice()) {
+            Ok(read) => is_read(&read, *row),
+            Err(CommandFault::Usage(text)) => *row == Read::Usage && !text.as_str().is_empty(),
+            Err(CommandFault::BadKind) => *row == Read::BadKind,
+            Err(CommandFault::BadRun) => *row == Read::BadRun,
+            Err(CommandFault::NoMemory) => false,
         };
-        let command = match &line.command {
-            Command::List(_) => "list",
-            Command::Test(_) => "test",
-        };
-        assert_eq!(rt; command, row.command, "at {:?}", row.line);
-        assert_eq!(rt;
-            line.command.kyuafile().as_str(),
-            row.kyuafile,
-            "at {:?}",
-            row.line
-        );
-        assert_eq!(rt; line.work.as_str(), row.work, "at {:?}", row.line);
+        assert!(rt; same, "at {line:?}");
     }
     Ok(())
 }
 
-const WRONG: [&[&str]; 7] = [
-    &[],
-    &["lost"],
-    &["--help"],
-    &["list", "--help"],
-    &["list", "-k"],
-    &["test", "--work"],
-    &["test", "-w", "/w"],
-];
-
 #[test]
-fn a_wrong_command_line_is_told(rt: HostRuntime) -> Result<(), Fail> {
-    for line in &WRONG {
-        let words = words(rt.alloc(), line)?;
-        match read_command(rt.alloc(), words.as_slice()) {
-            Err(CommandFault::Usage(text)) => assert!(rt;
-                !text.as_str().is_empty(),
-                "at {:?}",
-                line
-            ),
-            _ => return Err(Fail::new(format_args!("at {:?}", line))),
+fn a_report_shows_all_but_passed(rt: HostRuntime) -> Result<(), Fail> {
+    let words = words(rt.alloc(), &["report"])?;
+    match read_command(rt.alloc(), words.as_slice()) {
+        Ok(CommandLine {
+            command: Command::Report { kinds, .. },
+            ..
+        }) => {
+            for kind in [
+                Kind::Skipped,
+                Kind::ExpectedFailure,
+                Kind::Broken,
+                Kind::Failed,
+            ] {
+                assert!(rt; kinds.as_slice().contains(&kind), "at {kind:?}");
+            }
         }
+        _ => assert!(rt; false),
     }
     Ok(())
 }

@@ -3,3 +3,7 @@
 
 #[cfg(test)]
 mod command_lines;
+#[cfg(test)]
+mod nowhere;
+#[cfg(test)]
+mod results;

@@ -35,12 +35,12 @@ GainsUpTo puts plan n fed gained (Some fault) before after =
     (f : FailedPut puts plan n fed.trace gained fault before after) × (fed.stopped ≡ Some f.next.after)
 
 -- what the sink gained so far
-pub record Gained {S : Type 0} (puts : S → Entry → Result (Unit {0}) SinkFault → S → Type 0) (entries : S → List Entry) (plan : List Job) (n : ℕ) (fed : Fed) (totals : Totals) (fault : Option SinkFault) (before after : S) : Type 0 where
+pub record Gained {S : Type 0} (puts : S → Entry → Result (Unit {0}) SinkFault → S → Type 0) (entries : S → List Entry → Type 0) (plan : List Job) (n : ℕ) (fed : Fed) (totals : Totals) (fault : Option SinkFault) (before after : S) : Type 0 where
   pub gained : List Entry
   pub count : length gained ≡ fed.stored
   pub within : fed.stored ≤ length (recorded plan n fed.trace)
   pub are : AreEntries plan fed.trace (take fed.stored (recorded plan n fed.trace)) gained
-  pub kept : entries after ≡ entries before ++ gained
+  pub kept : (put : List Entry) → entries before put → entries after (put ++ gained)
   pub gains : GainsUpTo puts plan n fed gained fault before after
   pub counts : Counts gained totals
   pub recorded : Recorded plan n fed.trace
@@ -66,7 +66,7 @@ up_to_event puts plan n fed ev i gained (Some fault) before after z q w g = (
   g.1,
 )
 
-pub gained_event : {S : Type 0} (puts : S → Entry → Result (Unit {0}) SinkFault → S → Type 0) (entries : S → List Entry) (plan : List Job) (n : ℕ) (fed : Fed) (ev : Event) (totals : Totals) (fault : Option SinkFault) (before after : S) → IsPlan plan → (has_failed fed ≡ false → IsUpToDate plan n fed) → NotWhole plan fed.trace (position_of ev) → Gained puts entries plan n fed totals fault before after → Gained puts entries plan n (with_event fed ev) totals fault before after
+pub gained_event : {S : Type 0} (puts : S → Entry → Result (Unit {0}) SinkFault → S → Type 0) (entries : S → List Entry → Type 0) (plan : List Job) (n : ℕ) (fed : Fed) (ev : Event) (totals : Totals) (fault : Option SinkFault) (before after : S) → IsPlan plan → (has_failed fed ≡ false → IsUpToDate plan n fed) → NotWhole plan fed.trace (position_of ev) → Gained puts entries plan n fed totals fault before after → Gained puts entries plan n (with_event fed ev) totals fault before after
 gained_event puts entries plan n fed ev totals fault before after p z h g =
     let xs = recorded plan n fed.trace in
     let m = positions_more plan n fed.trace ev in
@@ -86,13 +86,13 @@ pub more_gains : {S : Type 0} (puts : S → Entry → Result (Unit {0}) SinkFaul
 more_gains puts plan n fed es e None before mid after f p g = (g.0, gains_more puts es e before mid after g.1 p, λ j q l x. g.2 j q (omega (arith, l)) x)
 more_gains puts plan n fed es e (Some fault) before mid after f p g = absurd (cc (f, ap is_some g.1))
 
-pub gained_put : {S : Type 0} (puts : S → Entry → Result (Unit {0}) SinkFault → S → Type 0) (entries : S → List Entry) (plan : List Job) (n : ℕ) (fed : Fed) (i : ℕ) (e : Entry) (totals : Totals) (fault : Option SinkFault) (before mid after : S) → IsNext plan n fed (next.Put i) → IsEntryOf plan fed.trace i e → puts mid e (Ok tt) after → entries after ≡ entries mid ++ e ∷ [] → Gained puts entries plan n fed totals fault before mid → Gained puts entries plan n (record fed { stored = fed.stored + 1 }) (counted totals e.verdict.kind) fault before after
+pub gained_put : {S : Type 0} (puts : S → Entry → Result (Unit {0}) SinkFault → S → Type 0) (entries : S → List Entry → Type 0) (plan : List Job) (n : ℕ) (fed : Fed) (i : ℕ) (e : Entry) (totals : Totals) (fault : Option SinkFault) (before mid after : S) → IsNext plan n fed (next.Put i) → IsEntryOf plan fed.trace i e → puts mid e (Ok tt) after → ((put : List Entry) → entries mid put → entries after (put ++ e ∷ [])) → Gained puts entries plan n fed totals fault before mid → Gained puts entries plan n (record fed { stored = fed.stored + 1 }) (counted totals e.verdict.kind) fault before after
 gained_put puts entries plan n fed i e totals fault before mid after x w p k g = record {
   gained = g.gained ++ e ∷ [];
   count = length-append g.gained (e ∷ []) ∙ ap (λ k. k + 1) g.count;
   within = omega (arith, slice_get_within (recorded plan n fed.trace) fed.stored i x.1);
   are = subst (λ (ps : List ℕ). AreEntries plan fed.trace ps (g.gained ++ e ∷ [])) (sym (take_snoc (recorded plan n fed.trace) fed.stored i x.1)) (entries_more plan fed.trace (take fed.stored (recorded plan n fed.trace)) g.gained i e g.are w);
-  kept = k ∙ (ap (λ es. es ++ e ∷ []) g.kept ∙ append_assoc (entries before) g.gained (e ∷ []));
+  kept = λ put h. subst (entries after) (append_assoc put g.gained (e ∷ [])) (k (put ++ g.gained) (g.kept put h));
   gains = more_gains puts plan n fed g.gained e fault before mid after x.0 p g.gains;
   counts = counts_more g.gained e totals g.counts;
   recorded = g.recorded;
@@ -114,25 +114,25 @@ failed_gains puts plan n fed i es e cause None before mid after l x w p g =
     )
 failed_gains puts plan n fed i es e cause (Some fault) before mid after l x w p g = absurd (cc (x.0, ap is_some g.1))
 
-pub gained_failed : {S : Type 0} (puts : S → Entry → Result (Unit {0}) SinkFault → S → Type 0) (entries : S → List Entry) (plan : List Job) (n : ℕ) (fed : Fed) (i : ℕ) (e : Entry) (cause : SinkFault) (totals : Totals) (fault : Option SinkFault) (before mid after : S) → IsNext plan n fed (next.Put i) → IsEntryOf plan fed.trace i e → puts mid e (Err cause) after → entries after ≡ entries mid → Gained puts entries plan n fed totals fault before mid → Gained puts entries plan n (record fed { stopped = Some (event_count fed.trace) }) totals (Some cause) before after
+pub gained_failed : {S : Type 0} (puts : S → Entry → Result (Unit {0}) SinkFault → S → Type 0) (entries : S → List Entry → Type 0) (plan : List Job) (n : ℕ) (fed : Fed) (i : ℕ) (e : Entry) (cause : SinkFault) (totals : Totals) (fault : Option SinkFault) (before mid after : S) → IsNext plan n fed (next.Put i) → IsEntryOf plan fed.trace i e → puts mid e (Err cause) after → ((put : List Entry) → entries mid put → entries after put) → Gained puts entries plan n fed totals fault before mid → Gained puts entries plan n (record fed { stopped = Some (event_count fed.trace) }) totals (Some cause) before after
 gained_failed puts entries plan n fed i e cause totals fault before mid after x w p k g = record {
   gained = g.gained;
   count = g.count;
   within = g.within;
   are = g.are;
-  kept = k ∙ g.kept;
+  kept = λ put h. k (put ++ g.gained) (g.kept put h);
   gains = failed_gains puts plan n fed i g.gained e cause fault before mid after g.count x w p g.gains;
   counts = g.counts;
   recorded = g.recorded;
 }
 
 -- where a put is next, there is room to count it
-pub room_to_count : {S : Type 0} (puts : S → Entry → Result (Unit {0}) SinkFault → S → Type 0) (entries : S → List Entry) (plan : List Job) (n : ℕ) (fed : Fed) (i : ℕ) (totals : Totals) (fault : Option SinkFault) (before after : S) → IsNext plan n fed (next.Put i) → length plan < 2 ^ 64 → Gained puts entries plan n fed totals fault before after → CanCount totals (2 ^ 64 - 1)
+pub room_to_count : {S : Type 0} (puts : S → Entry → Result (Unit {0}) SinkFault → S → Type 0) (entries : S → List Entry → Type 0) (plan : List Job) (n : ℕ) (fed : Fed) (i : ℕ) (totals : Totals) (fault : Option SinkFault) (before after : S) → IsNext plan n fed (next.Put i) → length plan < 2 ^ 64 → Gained puts entries plan n fed totals fault before after → CanCount totals (2 ^ 64 - 1)
 room_to_count puts entries plan n fed i totals fault before after x l g =
     can_count g.gained totals (2 ^ 64 - 1) g.counts (omega (arith, l, g.count, slice_get_within (recorded plan n fed.trace) fed.stored i x.1, recorded_most plan n fed.trace g.recorded))
 
 -- at the end every position is stored
-pub gained_all : {S : Type 0} (puts : S → Entry → Result (Unit {0}) SinkFault → S → Type 0) (entries : S → List Entry) (plan : List Job) (n : ℕ) (fed : Fed) (totals : Totals) (fault : Option SinkFault) (before after : S) → IsUpToDate plan n fed → (g : Gained puts entries plan n fed totals fault before after) → length g.gained ≡ length (recorded plan n fed.trace)
+pub gained_all : {S : Type 0} (puts : S → Entry → Result (Unit {0}) SinkFault → S → Type 0) (entries : S → List Entry → Type 0) (plan : List Job) (n : ℕ) (fed : Fed) (totals : Totals) (fault : Option SinkFault) (before after : S) → IsUpToDate plan n fed → (g : Gained puts entries plan n fed totals fault before after) → length g.gained ≡ length (recorded plan n fed.trace)
 gained_all puts entries plan n fed totals fault before after u g = omega (arith, g.count, g.within, past_end (recorded plan n fed.trace) fed.stored u)
   where
     past_end : (xs : List ℕ) (k : ℕ) → slice_get xs k ≡ None → length xs ≤ k
@@ -149,13 +149,13 @@ take_zero (x ∷ xs) = refl
 pub due_first : (plan : List Job) (n : ℕ) → AreDue plan n nothing_fed
 due_first plan n j p l g = due_put_at 0 _ j p g
 
-pub gained_first : {S : Type 0} (puts : S → Entry → Result (Unit {0}) SinkFault → S → Type 0) (entries : S → List Entry) (plan : List Job) (n : ℕ) (before : S) → IsPlan plan → Gained puts entries plan n nothing_fed (record { total = 0; good = 0; bad = 0 }) None before before
+pub gained_first : {S : Type 0} (puts : S → Entry → Result (Unit {0}) SinkFault → S → Type 0) (entries : S → List Entry → Type 0) (plan : List Job) (n : ℕ) (before : S) → IsPlan plan → Gained puts entries plan n nothing_fed (record { total = 0; good = 0; bad = 0 }) None before before
 gained_first puts entries plan n before p = record {
   gained = [];
   count = refl;
   within = omega arith;
   are = subst (λ (ps : List ℕ). AreEntries plan NoEvent ps []) (sym (take_zero (recorded plan n NoEvent))) tt;
-  kept = sym (append-nil (entries before));
+  kept = λ put h. subst (entries before) (sym (append-nil put)) h;
   gains = (refl, refl, due_first plan n);
   counts = record { total = refl; good = refl; bad = refl };
   recorded = recorded_first plan n p;

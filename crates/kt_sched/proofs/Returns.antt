@@ -1,5 +1,5 @@
 -- what the run loop has done where it is over
-use Rattle.std.specs.Prelude.{Option, Some, None, is_some, Result, Ok, Err}
+use Rattle.std.specs.Prelude.{Option, Some, None, is_some, Result, Ok, Err, if◌then◌else◌}
 use Rattle.std.proofs.Common.{ℕ, Bool, List, length, take, sym, ◌∙◌, ap, subst, arith}
 use Rattle.kt_base.specs.declared.role.Role.{Role}
 use Rattle.kt_base.specs.declared.entry.Entry.{Entry}
@@ -10,23 +10,24 @@ use Rattle.kt_sched.specs.declared.next.Next.TheVariants as next
 use Rattle.kt_sched.specs.declared.sink_fault.SinkFault.{SinkFault}
 use Rattle.kt_sched.specs.declared.totals.Totals.{Totals}
 use Rattle.kt_sched.specs.declared.run_fault.RunFault.TheVariants.{SinkFailed}
-use Rattle.kt_sched.specs.Children.{Child}
+use Rattle.kt_sched.specs.Children.{Child, IsIdle}
 use Rattle.kt_sched.specs.Plan.{IsPlan, IsWidth}
 use Rattle.kt_sched.specs.RecordOrder.{recorded}
 use Rattle.kt_sched.specs.EntryOf.{AreEntries}
 use Rattle.kt_sched.specs.Fed.{Fed}
 use Rattle.kt_sched.specs.Next.{IsNext, Follows}
 use Rattle.kt_sched.specs.Run.{Ran}
+use Rattle.kt_sched.proofs.Runs.{child_at, is_owed}
 use Rattle.kt_sched.proofs.Going.{Going}
 use Rattle.kt_sched.proofs.Gaining.{Gained, gained_all}
 use Rattle.kt_sched.proofs.Ending.{goes_legal, goes_stopped, four_calls, named_once}
 
-gained_are : {S : Type 0} (puts : S → Entry → Result (Unit {0}) SinkFault → S → Type 0) (entries : S → List Entry) (plan : List Job) (n : ℕ) (fed : Fed) (totals : Totals) (fault : Option SinkFault) (before after : S) → (k : Gained puts entries plan n fed totals fault before after) → AreEntries plan fed.trace (take (length k.gained) (recorded plan n fed.trace)) k.gained
+gained_are : {S : Type 0} (puts : S → Entry → Result (Unit {0}) SinkFault → S → Type 0) (entries : S → List Entry → Type 0) (plan : List Job) (n : ℕ) (fed : Fed) (totals : Totals) (fault : Option SinkFault) (before after : S) → (k : Gained puts entries plan n fed totals fault before after) → AreEntries plan fed.trace (take (length k.gained) (recorded plan n fed.trace)) k.gained
 gained_are puts entries plan n fed totals fault before after k =
     subst (λ (m : ℕ). AreEntries plan fed.trace (take m (recorded plan n fed.trace)) k.gained) (sym k.count) k.are
 
 -- no put failed
-pub ran_well : {L S : Type 0} (running : L → ℕ → Role → Option Child) (pending : L → ℕ → Bool) (starts : L → Job → Role → StartAnswer → L → Type 0) (waits : L → Ended → L → Type 0) (puts : S → Entry → Result (Unit {0}) SinkFault → S → Type 0) (entries : S → List Entry) (plan : List Job) (n : ℕ) (fed : Fed) (totals : Totals) (old new : L) (before after : S)
+pub ran_well : {L S : Type 0} (running : L → ℕ → Role → Option Child) (pending : L → ℕ → Bool) (starts : L → Job → Role → StartAnswer → L → Type 0) (waits : L → Ended → L → Type 0) (puts : S → Entry → Result (Unit {0}) SinkFault → S → Type 0) (entries : S → List Entry → Type 0) (plan : List Job) (n : ℕ) (fed : Fed) (totals : Totals) (old new : L) (before after : S)
     → IsPlan plan → IsWidth n → Going running pending starts waits plan n fed old new → IsNext plan n fed next.Done → Follows plan fed next.Done → Gained puts entries plan n fed totals None before after → Ran starts waits puts entries plan n old new before after (Ok totals)
 ran_well running pending starts waits puts entries plan n fed totals old new before after p w h x f k =
     let o = ap is_some k.gains.0 in
@@ -49,7 +50,7 @@ ran_well running pending starts waits puts entries plan n fed totals old new bef
     }
 
 -- one put failed
-pub ran_short : {L S : Type 0} (running : L → ℕ → Role → Option Child) (pending : L → ℕ → Bool) (starts : L → Job → Role → StartAnswer → L → Type 0) (waits : L → Ended → L → Type 0) (puts : S → Entry → Result (Unit {0}) SinkFault → S → Type 0) (entries : S → List Entry) (plan : List Job) (n : ℕ) (fed : Fed) (totals : Totals) (fault : SinkFault) (old new : L) (before after : S)
+pub ran_short : {L S : Type 0} (running : L → ℕ → Role → Option Child) (pending : L → ℕ → Bool) (starts : L → Job → Role → StartAnswer → L → Type 0) (waits : L → Ended → L → Type 0) (puts : S → Entry → Result (Unit {0}) SinkFault → S → Type 0) (entries : S → List Entry → Type 0) (plan : List Job) (n : ℕ) (fed : Fed) (totals : Totals) (fault : SinkFault) (old new : L) (before after : S)
     → IsPlan plan → Going running pending starts waits plan n fed old new → Follows plan fed next.Done → Gained puts entries plan n fed totals (Some fault) before after → Ran starts waits puts entries plan n old new before after (Err (SinkFailed fault))
 ran_short running pending starts waits puts entries plan n fed totals fault old new before after p h f k = record {
   trace = fed.trace;
@@ -63,4 +64,11 @@ ran_short running pending starts waits puts entries plan n fed totals fault old 
     failed = k.gains.0;
     stopped = goes_stopped running pending starts waits plan n k.gains.0.next.after fed old new k.gains.1 h f;
   };
+}
+
+-- where it is done nothing runs and no cleanup is pending
+pub goes_idle : {L : Type 0} (running : L → ℕ → Role → Option Child) (pending : L → ℕ → Bool) (starts : L → Job → Role → StartAnswer → L → Type 0) (waits : L → Ended → L → Type 0) (plan : List Job) (n : ℕ) (fed : Fed) (old new : L) → Going running pending starts waits plan n fed old new → IsNext plan n fed next.Done → IsIdle (running new) (pending new)
+goes_idle running pending starts waits plan n fed old new h x = record {
+  runs = λ k r. h.runs k r ∙ ap (λ (b : Bool). if b then child_at plan k else None) (x.3 k r);
+  pends = λ k. h.owes k ∙ ap (λ (o : Option ℕ). is_owed o k) x.1;
 }

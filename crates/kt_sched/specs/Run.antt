@@ -81,12 +81,12 @@ EndsAs puts plan n T gained before after (Err (SinkFailed fault)) = RanShort put
 EndsAs puts plan n T gained before after (Err NoMemory) = RanNot T gained before after
 
 -- at every exit: the launcher's answers as a trace, and the entries that the sink gained, those of the first cases in record order
-pub record Ran {L S : Type 0} (starts : L → Job → Role → StartAnswer → L → Type 0) (waits : L → Ended → L → Type 0) (puts : S → Entry → Result (Unit {0}) SinkFault → S → Type 0) (entries : S → List Entry) (plan : List Job) (n : ℕ) (old new : L) (before after : S) (result : Result Totals RunFault) : Type 0 where
+pub record Ran {L S : Type 0} (starts : L → Job → Role → StartAnswer → L → Type 0) (waits : L → Ended → L → Type 0) (puts : S → Entry → Result (Unit {0}) SinkFault → S → Type 0) (entries : S → List Entry → Type 0) (plan : List Job) (n : ℕ) (old new : L) (before after : S) (result : Result Totals RunFault) : Type 0 where
   pub trace : Trace
   pub leads : Leads starts waits plan trace old new
   pub fits : Each (FitsAt plan) trace
   pub calls : (i : ℕ) → length (of i trace) ≤ 4
   pub gained : List Entry
   pub are : AreEntries plan trace (take (length gained) (recorded plan n trace)) gained
-  pub kept : entries after ≡ entries before ++ gained
+  pub kept : (put : List Entry) → entries before put → entries after (put ++ gained)
   pub ends : EndsAs puts plan n trace gained before after result

@@ -1,15 +1,16 @@
 use crate::sink_fault::SinkFault;
 use kt_base::Entry;
 
-/// Where entries go. A put that fails leaves those that were put.
+/// Where entries go, in the order in which they are recorded. How a sink keeps them is its own. A put that fails leaves
+/// those that were put.
 pub trait Sink {
-    ghost use Rattle.std.specs.Prelude.{Result, OnErr, OnOk, ◌≡◌, ◌++◌, [], ◌∷◌, List};
+    ghost use Rattle.std.specs.Prelude.{Result, OnErr, OnOk, ◌++◌, [], ◌∷◌, List};
     ghost use Rattle.kt_base.specs.declared.entry.Entry.{Entry};
     ghost use Rattle.kt_sched.specs.declared.sink_fault.SinkFault.{SinkFault};
     ghost use Rattle.kt_sched.specs.Moments.{IsStorable};
 
-    /// The entries that were put.
-    ghost entries: { Self → List Entry };
+    /// Whether these are the entries that were put, in the order of the puts.
+    ghost entries: { Self → List Entry → Type 0 };
 
     /// Whether a put of this entry, answered so, leads from the first state to the second.
     ghost puts: { Self → Entry → Result (Unit {0}) SinkFault → Self → Type 0 };
@@ -18,6 +19,6 @@ pub trait Sink {
     fn put(&mut self, entry: Entry) -> Result<(), SinkFault>
         requires { IsStorable entry }
         ensures leads { puts self.old entry result self.new }
-        ensures ok { OnOk result (entries self.new ≡ entries self.old ++ entry ∷ []) }
-        ensures err { OnErr result (entries self.new ≡ entries self.old) };
+        ensures ok { (put : List Entry) → entries self.old put → OnOk result (entries self.new (put ++ entry ∷ [])) }
+        ensures err { (put : List Entry) → entries self.old put → OnErr result (entries self.new put) };
 }

@@ -1,15 +1,20 @@
+ghost use Rattle.std.specs.Prelude.{◌≤◌, IfOk};
+
 use super::{Page, Play, TWO};
 use crate::mem_runs::MemRuns;
 use crate::planning::make_plan;
 use crate::programs::programs_of;
 use crate::recorder::Recorder;
-use crate::runs_fault::RunsFault;
+use crate::result_store::ResultStore;
 use kt_base::{Bytes, Entry, Interface, Outcome, Output, Text, Verdict};
 use kt_sched::{RunFault, SinkFault, run_cases};
+use kt_store::StoreFault;
 use std::alloc::Global;
 use std::test::Fail;
 
-fn entry(alloc: Global, position: u32) -> Result<Entry, Fail> {
+fn entry(alloc: Global, position: u32) -> Result<Entry, Fail>
+    ensures { IfOk result (λ e. (e.started ≤ 253402300799999) × (e.millis ≤ 253402300799999)) }
+{
     Ok(Entry {
         position,
         program: Text::from_str(alloc, "a")?,
@@ -32,27 +37,27 @@ fn entry(alloc: Global, position: u32) -> Result<Entry, Fail> {
 fn each_call_on_runs_has_its_refusals(rt: HostRuntime) -> Result<(), Fail> {
     let alloc = rt.alloc();
     let mut runs = MemRuns::new(alloc);
-    assert_eq!(rt; runs.begin(alloc, 1, 0), Ok(1));
-    assert_eq!(rt; runs.finish(1), Err(RunsFault::Incomplete));
+    assert_eq!(rt; runs.begin(1, 0), Ok(1));
+    assert_eq!(rt; runs.finish(1), Err(StoreFault::Incomplete));
     for (number, position, answer) in [
-        (1, 1, Err(RunsFault::BadPosition)),
+        (1, 1, Err(StoreFault::BadPosition)),
         (1, 0, Ok(())),
-        (1, 0, Err(RunsFault::RepeatedPosition)),
-        (2, 0, Err(RunsFault::NoRun)),
-        (0, 0, Err(RunsFault::NoRun)),
+        (1, 0, Err(StoreFault::RepeatedPosition)),
+        (2, 0, Err(StoreFault::NoRun)),
+        (0, 0, Err(StoreFault::NoRun)),
     ] {
         assert_eq!(rt;
-            runs.put(number, entry(alloc, position)?),
+            runs.put(number, &entry(alloc, position)?),
             answer,
             "at {number}, {position}"
         );
     }
     assert_eq!(rt; runs.finish(1), Ok(()));
-    assert_eq!(rt; runs.put(1, entry(alloc, 0)?), Err(RunsFault::RunClosed));
-    assert_eq!(rt; runs.finish(1), Err(RunsFault::RunClosed));
-    assert_eq!(rt; runs.finish(2), Err(RunsFault::NoRun));
+    assert_eq!(rt; runs.put(1, &entry(alloc, 0)?), Err(StoreFault::RunClosed));
+    assert_eq!(rt; runs.finish(1), Err(StoreFault::RunClosed));
+    assert_eq!(rt; runs.finish(2), Err(StoreFault::NoRun));
     assert!(rt; runs.entries(2).is_err());
-    assert_eq!(rt; runs.runs(alloc)?.len(), 1);
+    assert!(rt; matches!(runs.runs(), Ok(heads) if heads.len() == 1));
     Ok(())
 }
 
@@ -92,9 +97,9 @@ fn recorded_into(alloc: Global, total: u32) -> Result<(Vec<u8>, bool, usize), Fa
         calls: 100,
     };
     let mut runs = MemRuns::new(alloc);
-    let number = runs.begin(alloc, total, 0).map_err(|_| "no run")?;
+    let number = runs.begin(total, 0).map_err(|_| "no run")?;
     let mut recorder = Recorder {
-        runs: &mut runs,
+        results: &mut runs,
         out: &mut page,
         number,
         failed: false,

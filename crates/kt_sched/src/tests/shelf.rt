@@ -15,11 +15,11 @@ pub struct Shelf<'a> {
 }
 
 impl Sink for Shelf<'_> {
-    ghost use Rattle.std.specs.Prelude.{◌≡◌, ◌++◌, ◌∷◌, [], OnOk};
+    ghost use Rattle.std.specs.Prelude.{◌≡◌, ◌++◌, ◌∷◌, [], OnOk, OnErr};
 
-    ghost entries = { λ s. s.entries.items };
+    ghost entries = { λ s put. s.entries.items ≡ put };
 
-    ghost puts = { λ s e r t. OnOk r (t.entries.items ≡ s.entries.items ++ e ∷ []) };
+    ghost puts = { λ s e r t. OnOk r (t.entries.items ≡ s.entries.items ++ e ∷ []) × OnErr r (t.entries.items ≡ s.entries.items) };
 
     fn put(&mut self, entry: Entry) -> Result<(), SinkFault> {
         if self.puts.push((entry.position, self.count.get())).is_err() {

@@ -1,16 +1,26 @@
 use Rattle.std.proofs.Common.{ap, ◌∙◌}
 use Rattle.kt_cli.specs.Plans.{plan_of}
 use Rattle.kt_cli.proofs.PlanLaws.{plan_runs, plan_few}
-use Rattle.kt_cli.proofs.Testings.{idle_on, did_fault, did_short, did_test}
+use Rattle.kt_cli.proofs.Testings.{idle_after, idle_on, did_fault, did_short, did_test}
 use Rattle.kt_cli.proofs.testing.test.Goals as goal
 
-pub returns-in-Err : goal.returns-in-Err
-returns-in-Err g c =
-    did_fault g.W.Tree.asks g.W.World.tells g.W.Launcher.starts g.W.Launcher.waits _ _ _ _ _ _ _ c.in-Err.fault _ c.in-Err.ensures.loaded c.say_fault.ensures c.ended.ensures
+pub returns-in-Err-clause-did : goal.returns-in-Err-clause-did
+returns-in-Err-clause-did g c =
+    did_fault g.W.Tree.asks g.W.World.tells g.W.Launcher.starts g.W.Launcher.waits g.R.ResultStore.stands g.R.ResultStore.sound _ _ _ _ _ _ _ c.in-Err.fault _ c.in-Err.ensures.loaded c.say_fault.ensures c.ended.ensures
 
-pub returns-in-Err-make_plan : goal.returns-in-Err-make_plan
-returns-in-Err-make_plan g c =
-    did_short g.W.Tree.asks g.W.World.tells g.W.Launcher.starts g.W.Launcher.waits _ _ _ _ _ _ _ _ _ c.in-Ok.ensures.loaded c.say_memory.ensures c.ended-in-Err-make_plan.ensures
+pub returns-in-Err-clause-idle : goal.returns-in-Err-clause-idle
+returns-in-Err-clause-idle g c =
+    let a = c.in-Err.ensures.loaded in
+    idle_after g.W.Tree.asks g.W.World.tells g.W.Launcher.starts g.W.Launcher.waits g.W.Launcher.running g.W.Launcher.pending g.met.W.World.runs_on g.met.W.World.pends_on _ _ a.asked a.chain c.requires
+
+pub returns-in-Err-make_plan-clause-did : goal.returns-in-Err-make_plan-clause-did
+returns-in-Err-make_plan-clause-did g c =
+    did_short g.W.Tree.asks g.W.World.tells g.W.Launcher.starts g.W.Launcher.waits g.R.ResultStore.stands g.R.ResultStore.sound _ _ _ _ _ _ _ _ _ c.in-Ok.ensures.loaded c.say_memory.ensures c.ended-in-Err-make_plan.ensures
+
+pub returns-in-Err-make_plan-clause-idle : goal.returns-in-Err-make_plan-clause-idle
+returns-in-Err-make_plan-clause-idle g c =
+    let a = c.in-Ok.ensures.loaded in
+    idle_after g.W.Tree.asks g.W.World.tells g.W.Launcher.starts g.W.Launcher.waits g.W.Launcher.running g.W.Launcher.pending g.met.W.World.runs_on g.met.W.World.pends_on _ _ a.asked a.chain c.requires
 
 pub run_plan-requires-clause-plan : goal.run_plan-requires-clause-plan
 run_plan-requires-clause-plan g c = plan_runs _ _ c.in-Ok-make_plan.ensures
@@ -23,6 +33,6 @@ run_plan-requires-clause-idle g c =
     let a = c.in-Ok.ensures.loaded in
     idle_on g.W.Tree.asks g.W.World.tells g.W.Launcher.starts g.W.Launcher.waits g.W.Launcher.running g.W.Launcher.pending g.met.W.World.runs_on g.met.W.World.pends_on g.met.W.World.runs_told g.met.W.World.pends_told _ _ _ a.asked _ a.chain c.now-moment.ensures.told c.requires
 
-pub returns : goal.returns
-returns g c =
-    did_test g.W.Tree.asks g.W.World.tells g.W.Launcher.starts g.W.Launcher.waits _ _ _ _ _ _ _ _ _ _ c.in-Ok.programs c.in-Ok-make_plan.plan _ c.in-Ok.ensures.loaded (c.in-Ok-make_plan.ensures ∙ ap plan_of c.as_slice.ensures) c.now-moment.ensures.told c.run_plan.ensures
+pub returns-clause-did : goal.returns-clause-did
+returns-clause-did g c =
+    did_test g.W.Tree.asks g.W.World.tells g.W.Launcher.starts g.W.Launcher.waits g.R.ResultStore.stands g.R.ResultStore.sound _ _ _ _ _ _ _ _ _ _ c.in-Ok.programs c.in-Ok-make_plan.plan _ c.in-Ok.ensures.loaded (c.in-Ok-make_plan.ensures ∙ ap plan_of c.as_slice.ensures) c.now-moment.ensures.told c.run_plan.ensures.ran

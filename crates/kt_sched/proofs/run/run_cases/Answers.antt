@@ -13,7 +13,7 @@ use Rattle.kt_sched.specs.Run.{Ran, counted}
 use Rattle.kt_sched.proofs.Runs.{child_runs}
 use Rattle.kt_sched.proofs.Goes.{may_start, goes_start, goes_end, goes_stored, goes_failed, goes_first, fed_start, ended_one}
 use Rattle.kt_sched.proofs.Gaining.{Gained, gained_event, gained_put, gained_failed, gained_first, room_to_count, start_not_whole, end_not_whole, nothing_due}
-use Rattle.kt_sched.proofs.Returns.{ran_well, ran_short}
+use Rattle.kt_sched.proofs.Returns.{ran_well, ran_short, goes_idle}
 use Rattle.kt_sched.proofs.Storing.{storable_entry}
 use Rattle.kt_sched.proofs.run.run_cases.Goals as goal
 use Rattle.kt_sched.proofs.run.run_cases.Goals.{in-None, in-Some}
@@ -190,8 +190,8 @@ loop-i-preserved g c =
       c.feed-in-Err-put.ensures.asked,
     )
 
-pub returns-in-Done : goal.returns-in-Done
-returns-in-Done g c =
+pub returns-in-Done-clause-ran : goal.returns-in-Done-clause-ran
+returns-in-Done-clause-ran g c =
     let plan = c.args.plan in
     let n = c.args.width in
     let fed = c.loop-i.invariant.0 in
@@ -212,3 +212,12 @@ returns-in-Done g c =
       | in-None w ↦ subst T (sym w.result-is) (ran_well R P S W U E plan n fed c.loop-i.totals c.args.launcher.now c.loop-i.launcher c.args.sink.now c.loop-i.sink c.requires.plan c.requires.width h x f (subst K w.in-None.is k))
       | in-Some w ↦ subst T (sym w.result-is) (ran_short R P S W U E plan n fed c.loop-i.totals w.in-Some.cause c.args.launcher.now c.loop-i.launcher c.args.sink.now c.loop-i.sink c.requires.plan h f (subst K w.in-Some.is k))
     ]
+
+pub returns-in-Done-clause-idle : goal.returns-in-Done-clause-idle
+returns-in-Done-clause-idle g c =
+    let plan = c.args.plan in
+    let n = c.args.width in
+    let fed = c.loop-i.invariant.0 in
+    let s = c.loop-i.invariant.1 in
+    let h = c.loop-i.invariant.2 in
+    goes_idle g.L.Launcher.running g.L.Launcher.pending g.L.Launcher.starts g.L.Launcher.waits plan n fed c.args.launcher.now c.loop-i.launcher h (c.in-Done.ensures.next plan n fed s)

@@ -1,20 +1,19 @@
-use Rattle.std.proofs.Common.{refl}
-use Rattle.kt_cli.proofs.Recorders.{told, not_newest, entries_more, refused_put, refused_as}
+use Rattle.std.proofs.Common.{refl, sym, subst, List}
+use Rattle.kt_base.specs.declared.run.Run.{Run}
+use Rattle.kt_cli.proofs.Numbered.{put_more}
 use Rattle.kt_cli.proofs.recorder.RecorderSink.put.Goals as goal
 
+pub put-requires : goal.put-requires
+put-requires g c = (c.requires.started, c.requires.millis)
+
 pub returns-in-Err-clause-leads : goal.returns-in-Err-clause-leads
-returns-in-Err-clause-leads g c =
-    let r = refused_put _ _ _ _ _ c.in-Err.ensures in
-    (refl, refl, (refl, r.0, refl, refl, refused_as _ _ _ _ _ c.sink_fault.ensures r.1))
+returns-in-Err-clause-leads g c = (refl, refl, (refl, record { moved = c.in-Err.ensures.kept; earlier = c.in-Err.ensures.earlier }, refl, refl))
 
-pub returns-in-Some-clause-leads : goal.returns-in-Some-clause-leads
-returns-in-Some-clause-leads g c = (refl, refl, (refl, c.in_default.ensures, told _ _ _ _ _ _ _ _ _ c.in_default.ensures c.in-Some.ensures c.say_entry-self.ensures))
+pub returns-in-Err-clause-err : goal.returns-in-Err-clause-err
+returns-in-Err-clause-err g c put h = (h.0, c.in-Err.ensures.kept _ h.1)
 
-pub returns-in-Some-clause-ok : goal.returns-in-Some-clause-ok
-returns-in-Some-clause-ok g c = entries_more _ _ _ _ c.in_default.ensures
+pub returns-clause-leads : goal.returns-clause-leads
+returns-clause-leads g c = (refl, refl, (refl, record { moved = c.in_default.ensures.added; earlier = c.in_default.ensures.earlier }, c.say_line-self.ensures))
 
-pub returns-in_default-newest-clause-leads : goal.returns-in_default-newest-clause-leads
-returns-in_default-newest-clause-leads g c = absurd (not_newest _ _ _ _ c.in_default.ensures c.in_default-newest.ensures)
-
-pub returns-in_default-newest-clause-ok : goal.returns-in_default-newest-clause-ok
-returns-in_default-newest-clause-ok g c = absurd (not_newest _ _ _ _ c.in_default.ensures c.in_default-newest.ensures)
+pub returns-clause-ok : goal.returns-clause-ok
+returns-clause-ok g c put h = (h.0, subst (λ (rs : List Run). g.R.ResultStore.stands c.put.new.self rs) (sym (put_more c.args.self.now.number put c.args.entry h.0)) (c.in_default.ensures.added _ h.1))

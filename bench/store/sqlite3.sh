@@ -1,0 +1,43 @@
+#!/bin/sh
+# Says whether kyua and the real sqlite3 read each other's files: one made by sqlite3 with the same tables is shown by
+# kyua, and is whole afterwards. The program is crates/kyua/out/kyua, unless another one is named.
+set -eu
+here=$(cd "$(dirname "$0")/../.." && pwd)
+kyua=${1:-$here/crates/kyua/out/kyua}
+scratch=$(mktemp -d)
+trap 'rm -rf "$scratch"' EXIT
+cd "$scratch"
+
+sqlite3 made.db <<'SQL'
+CREATE TABLE meta (name TEXT PRIMARY KEY, value INTEGER NOT NULL) STRICT;
+CREATE TABLE runs (id INTEGER PRIMARY KEY, started INTEGER NOT NULL, total INTEGER NOT NULL, finished INTEGER NOT NULL CHECK (finished IN (0, 1))) STRICT;
+CREATE TABLE entries (run INTEGER NOT NULL REFERENCES runs (id), position INTEGER NOT NULL, program TEXT NOT NULL, case_name TEXT NOT NULL, kind INTEGER NOT NULL CHECK (kind BETWEEN 0 AND 4), reason TEXT NOT NULL, started INTEGER NOT NULL, millis INTEGER NOT NULL, body_out BLOB NOT NULL, body_err BLOB NOT NULL, clean_out BLOB NOT NULL, clean_err BLOB NOT NULL, PRIMARY KEY (run, position)) STRICT;
+INSERT INTO meta (name, value) VALUES ('schema', 1);
+INSERT INTO runs VALUES (1, 1700000000123, 1, 1);
+INSERT INTO entries VALUES (1, 0, 'a', 'main', 3, 'x<y', 1700000000123, 12, X'68690A', X'', X'', X'');
+SQL
+
+cat > wanted <<'TEXT'
+===> Failed tests
+a:main  ->  failed: x<y  [0.012s]
+===> Summary
+Run 1, started 2023-11-14T22:13:20.123Z
+Test cases: 1 total, 0 skipped, 0 expected failures, 0 broken, 1 failed
+Total time: 0.012s
+TEXT
+"$kyua" report -r made.db > shown
+cmp wanted shown
+test "$(sqlite3 made.db 'PRAGMA integrity_check')" = ok
+
+# a new file, made by kyua
+"$kyua" report -r new.db > told && exit 1 || test $? = 2
+test "$(cat told)" = 'kyua: E: no runs'
+test "$(sqlite3 new.db 'PRAGMA integrity_check')" = ok
+test "$(sqlite3 new.db 'SELECT name, value FROM meta')" = 'schema|1'
+test "$(sqlite3 new.db 'SELECT count(*) FROM runs')" = 0
+
+# a file of another schema
+sqlite3 new.db 'UPDATE meta SET value = 9'
+"$kyua" report -r new.db > told && exit 1 || test $? = 2
+test "$(cat told)" = 'kyua: E: results store failed'
+echo 'sqlite3 and kyua agree'

@@ -1,0 +1,69 @@
+-- Runs in memory are looked up and changed.
+use Rattle.std.specs.Prelude.{Option, Some, None, Ok, Err, Bool, true, false, slice_get, nat_lt, insert, if◌then◌else◌}
+use Rattle.std.proofs.Common.{◌≡◌, ℕ, zero, suc, ◌<◌, ◌≤◌, List, [], ◌∷◌, length, arith, refl, sym, ap, ◌∙◌, get_or, set, inl, inr}
+use Rattle.std.proofs.lemmas.List.{set-get_or}
+use Rattle.kt_base.specs.declared.entry.Entry.{Entry}
+use Rattle.kt_base.specs.declared.run.Run.{Run}
+use Rattle.kt_store.specs.declared.store_fault.StoreFault.{StoreFault}
+use Rattle.kt_store.specs.declared.store_fault.StoreFault.TheVariants.{NoMemory}
+use Rattle.kt_store.specs.Runs.{insert_at, run_at, put_refusal_of, finish_refusal_of}
+use Rattle.kt_cli.specs.MemoryRuns.{PutsEntry, FinishesRun, FindsPlace, entry_refusal, closing_refusal, place_among}
+use Rattle.kt_cli.proofs.Numbered.{entry_placed, finish_placed}
+
+read_there : (runs : List Run) (place : ℕ) (run : Run) → place < length runs → run ≡ get_or runs place run → slice_get runs place ≡ Some run
+read_there [] place run f e = absurd (omega (arith, f))
+read_there (x ∷ runs) zero run f e = ap Some (sym e)
+read_there (x ∷ runs) (suc place) run f e = read_there runs place run (omega (arith, f)) e
+
+pub found : (runs : List Run) (number place : ℕ) (run : Run) → FindsPlace runs number (Ok place) → run ≡ get_or runs place run → run_at runs number ≡ Some run
+found runs number place run f e = ap (λ (k : ℕ). run_at runs k) f.0 ∙ read_there runs place run f.1 e
+
+same_list : (xs old : List Run) (place : ℕ) (run : Run) → xs ≡ old → run ≡ get_or xs place run → set xs place run ≡ old
+same_list xs old place run s e = ap (λ (r : Run). set xs place r) e ∙ set-get_or xs place run ∙ s
+
+moved : (xs old : List Run) (place : ℕ) (run : Run) → xs ≡ old → run ≡ get_or xs place run → run ≡ get_or old place run
+moved xs old place run s e = e ∙ ap (λ (l : List Run). get_or l place run) s
+
+module _ (old xs : List Run) (number place : ℕ) (run : Run) (s : xs ≡ old) (f : FindsPlace old number (Ok place)) (r : run ≡ get_or xs place run) where
+  there : run_at old number ≡ Some run
+  there = found old number place run f (moved xs old place run s r)
+
+  -- a put that the run refuses
+  pub put_refused : (e : Entry) (fault : StoreFault) → Some fault ≡ entry_refusal run e.position → PutsEntry old number e (Err fault) (set xs place run)
+  put_refused e fault h = (inr (ap (λ (o : Option Run). put_refusal_of o e) there ∙ sym h), same_list xs old place run s r)
+
+  pub put_short : (e : Entry) (entries : List Entry) → entries ≡ run.entries → PutsEntry old number e (Err NoMemory) (set xs place (record run { entries = entries }))
+  put_short e entries k = (inl (inl refl), ap (λ (es : List Entry). set xs place (record run { entries = es })) k ∙ same_list xs old place run s r)
+
+  pub put_well : (e : Entry) (entries : List Entry) → None ≡ entry_refusal run e.position → entries ≡ insert_at e run.entries → PutsEntry old number e (Ok tt) (set xs place (record run { entries = entries }))
+  put_well e entries h k = (
+    ap (λ (o : Option Run). put_refusal_of o e) there ∙ sym h,
+    λ n. ap (λ (es : List Entry). set xs place (record run { entries = es })) k ∙ ap (λ (l : List Run). set l place (record run { entries = insert_at e run.entries })) s
+        ∙ entry_placed 1 place number old run e n (f.0 ∙ omega arith) (read_there old place run f.1 (moved xs old place run s r)),
+  )
+
+  pub end_refused : (fault : StoreFault) → Some fault ≡ closing_refusal run → FinishesRun old number (Err fault) (set xs place run)
+  end_refused fault h = (ap finish_refusal_of there ∙ sym h, same_list xs old place run s r)
+
+  pub end_well : None ≡ closing_refusal run → FinishesRun old number (Ok tt) (set xs place (record run { finished = true }))
+  end_well h = (
+    ap finish_refusal_of there ∙ sym h,
+    λ n. ap (λ (l : List Run). set l place (record run { finished = true })) s ∙ finish_placed 1 place number old run n (f.0 ∙ omega arith) (read_there old place run f.1 (moved xs old place run s r)),
+  )
+
+-- an entry is inserted at its place
+pub inserted : (e : Entry) (es : List Entry) → insert es (place_among e.position es) e ≡ insert_at e es
+inserted e [] = refl
+inserted e (x ∷ es) = by (nat_lt e.position x.position) (inserted e es)
+  where
+    by : (b : Bool) → insert es (place_among e.position es) e ≡ insert_at e es → insert (x ∷ es) (if b then 0 else suc (place_among e.position es)) e ≡ (if b then e ∷ x ∷ es else x ∷ insert_at e es)
+    by true more = refl
+    by false more = ap (λ (l : List Entry). x ∷ l) more
+
+pub place_within : (p : ℕ) (es : List Entry) → place_among p es ≤ length es
+place_within p [] = omega arith
+place_within p (x ∷ es) = by (nat_lt p x.position) (place_within p es)
+  where
+    by : (b : Bool) → place_among p es ≤ length es → (if b then 0 else suc (place_among p es)) ≤ suc (length es)
+    by true more = omega arith
+    by false more = omega (arith, more)

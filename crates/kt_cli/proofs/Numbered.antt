@@ -1,0 +1,85 @@
+-- Runs stay numbered by place.
+use Rattle.std.specs.Prelude.{Some, Bool, true, false, slice_get, slice_set, if◌then◌else◌}
+use Rattle.std.proofs.Common.{◌≡◌, ℕ, zero, suc, ◌+◌, ◌==◌, List, [], ◌∷◌, ◌++◌, length, arith, refl, sym, ap, ◌∙◌}
+use Rattle.std.proofs.lemmas.Bool.Decides.{nat_tests}
+use Rattle.kt_base.specs.declared.entry.Entry.{Entry}
+use Rattle.kt_base.specs.declared.run.Run.{Run}
+use Rattle.kt_store.specs.Runs.{AreNumbered, new_run, insert_at, with_entry, finish}
+use Rattle.kt_cli.specs.Stores.{put_all, put_among}
+
+pub numbers_more : (n : ℕ) (runs : List Run) (r : Run) → AreNumbered n runs → r.number ≡ n + length runs → AreNumbered n (runs ++ r ∷ [])
+numbers_more n [] r h e = (e ∙ omega arith, tt)
+numbers_more n (x ∷ runs) r h e = (h.0, numbers_more (suc n) runs r h.1 (e ∙ omega arith))
+
+pub numbers_new : (runs : List Run) (total moment : ℕ) → AreNumbered 1 runs → AreNumbered 1 (runs ++ new_run runs total moment ∷ [])
+numbers_new runs total moment h = numbers_more 1 runs (new_run runs total moment) h (omega arith)
+
+numbers_of : (n : ℕ) (r s : Run) (runs more : List Run) (b : Bool) → r.number ≡ n → s.number ≡ n → AreNumbered (suc n) runs → AreNumbered (suc n) more → AreNumbered n (if b then s ∷ runs else r ∷ more)
+numbers_of n r s runs more true p q h k = (q, h)
+numbers_of n r s runs more false p q h k = (p, k)
+
+pub numbers_entry : (k : ℕ) (e : Entry) (n : ℕ) (runs : List Run) → AreNumbered n runs → AreNumbered n (with_entry k e runs)
+numbers_entry k e n [] h = tt
+numbers_entry k e n (r ∷ runs) h = numbers_of n r (record r { entries = insert_at e r.entries }) runs (with_entry k e runs) (r.number == k) h.0 h.0 h.1 (numbers_entry k e (suc n) runs h.1)
+
+pub numbers_finish : (k n : ℕ) (runs : List Run) → AreNumbered n runs → AreNumbered n (finish k runs)
+numbers_finish k n [] h = tt
+numbers_finish k n (r ∷ runs) h = numbers_of n r (record r { finished = true }) runs (finish k runs) (r.number == k) h.0 h.0 h.1 (numbers_finish k (suc n) runs h.1)
+
+-- the number of the run at a place
+pub number_at : (n k : ℕ) (runs : List Run) (r : Run) → AreNumbered n runs → slice_get runs k ≡ Some r → r.number ≡ n + k
+number_at n k [] r h there = absurd cc
+number_at n zero (x ∷ runs) r h there = let same : x ≡ r = cc in ap (λ (y : Run). y.number) (sym same) ∙ omega (arith, h.0)
+number_at n (suc k) (x ∷ runs) r h there = number_at (suc n) k runs r h.1 there ∙ omega arith
+
+is_same : (a b : ℕ) → a ≡ b → (a == b) ≡ true
+is_same a b e = grind (arith, nat_tests)
+
+is_other : (a b n k : ℕ) → a ≡ n → b ≡ n + suc k → (a == b) ≡ false
+is_other a b n k e f = grind (arith, nat_tests)
+
+-- the run at a place is the one of its number
+pub entry_placed : (n k number : ℕ) (runs : List Run) (r : Run) (e : Entry) → AreNumbered n runs → number ≡ n + k → slice_get runs k ≡ Some r → slice_set runs k (record r { entries = insert_at e r.entries }) ≡ with_entry number e runs
+entry_placed n k number [] r e h i there = absurd cc
+entry_placed n zero number (x ∷ runs) r e h i there =
+    let same : r ≡ x = cc in
+    ap (λ (y : Run). (record y { entries = insert_at e y.entries }) ∷ runs) same
+    ∙ sym (ap (λ (b : Bool). if b then (record x { entries = insert_at e x.entries }) ∷ runs else x ∷ with_entry number e runs) (is_same x.number number (h.0 ∙ omega (arith, i))))
+entry_placed n (suc k) number (x ∷ runs) r e h i there =
+    ap (λ (xs : List Run). x ∷ xs) (entry_placed (suc n) k number runs r e h.1 (i ∙ omega arith) there)
+    ∙ sym (ap (λ (b : Bool). if b then (record x { entries = insert_at e x.entries }) ∷ runs else x ∷ with_entry number e runs) (is_other x.number number n k h.0 i))
+
+pub finish_placed : (n k number : ℕ) (runs : List Run) (r : Run) → AreNumbered n runs → number ≡ n + k → slice_get runs k ≡ Some r → slice_set runs k (record r { finished = true }) ≡ finish number runs
+finish_placed n k number [] r h i there = absurd cc
+finish_placed n zero number (x ∷ runs) r h i there =
+    let same : r ≡ x = cc in
+    ap (λ (y : Run). (record y { finished = true }) ∷ runs) same
+    ∙ sym (ap (λ (b : Bool). if b then (record x { finished = true }) ∷ runs else x ∷ finish number runs) (is_same x.number number (h.0 ∙ omega (arith, i))))
+finish_placed n (suc k) number (x ∷ runs) r h i there =
+    ap (λ (xs : List Run). x ∷ xs) (finish_placed (suc n) k number runs r h.1 (i ∙ omega arith) there)
+    ∙ sym (ap (λ (b : Bool). if b then (record x { finished = true }) ∷ runs else x ∷ finish number runs) (is_other x.number number n k h.0 i))
+
+-- an entry is put into the last run
+entry_last : (n : ℕ) (runs : List Run) (run : Run) (number : ℕ) (e : Entry) → AreNumbered n runs → run.number ≡ n + length runs → number ≡ n + length runs → with_entry number e (runs ++ run ∷ []) ≡ runs ++ (record run { entries = insert_at e run.entries }) ∷ []
+entry_last n [] run number e h r i =
+    ap (λ (b : Bool). if b then (record run { entries = insert_at e run.entries }) ∷ [] else run ∷ []) (is_same run.number number (r ∙ sym i))
+entry_last n (x ∷ runs) run number e h r i =
+    ap (λ (b : Bool). if b then (record x { entries = insert_at e x.entries }) ∷ (runs ++ run ∷ []) else x ∷ with_entry number e (runs ++ run ∷ [])) (is_other x.number number n (length runs) h.0 i)
+    ∙ ap (λ (xs : List Run). x ∷ xs) (entry_last (suc n) runs run number e h.1 (r ∙ omega arith) (i ∙ omega arith))
+
+pub finish_last : (n : ℕ) (runs : List Run) (run : Run) (number : ℕ) → AreNumbered n runs → run.number ≡ n + length runs → number ≡ n + length runs → finish number (runs ++ run ∷ []) ≡ runs ++ (record run { finished = true }) ∷ []
+finish_last n [] run number h r i = ap (λ (b : Bool). if b then (record run { finished = true }) ∷ [] else run ∷ []) (is_same run.number number (r ∙ sym i))
+finish_last n (x ∷ runs) run number h r i =
+    ap (λ (b : Bool). if b then (record x { finished = true }) ∷ (runs ++ run ∷ []) else x ∷ finish number (runs ++ run ∷ [])) (is_other x.number number n (length runs) h.0 i)
+    ∙ ap (λ (xs : List Run). x ∷ xs) (finish_last (suc n) runs run number h.1 (r ∙ omega arith) (i ∙ omega arith))
+
+-- entries are put into the last run
+pub entries_last : (runs : List Run) (run : Run) (number : ℕ) (es : List Entry) → AreNumbered 1 runs → run.number ≡ 1 + length runs → number ≡ 1 + length runs → put_all number es (runs ++ run ∷ []) ≡ runs ++ (record run { entries = put_among run.entries es }) ∷ []
+entries_last runs run number [] h r i = refl
+entries_last runs run number (e ∷ es) h r i =
+    ap (λ (xs : List Run). put_all number es xs) (entry_last 1 runs run number e h r i) ∙ entries_last runs (record run { entries = insert_at e run.entries }) number es h r i
+
+-- one entry more
+pub put_more : (number : ℕ) (es : List Entry) (e : Entry) (runs : List Run) → put_all number (es ++ e ∷ []) runs ≡ with_entry number e (put_all number es runs)
+put_more number [] e runs = refl
+put_more number (x ∷ es) e runs = put_more number es e (with_entry number x runs)
