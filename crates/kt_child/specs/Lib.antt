@@ -7,6 +7,7 @@ pub mod Ends
 pub mod Gathering
 pub mod JobPlan
 pub mod Launches
+pub mod Lives
 pub mod Lists
 pub mod Moments
 pub mod Numbers
@@ -14,6 +15,7 @@ pub mod Parts
 pub mod Polls
 pub mod Reads
 pub mod Roots
+pub mod ScriptLog
 pub mod Starts
 pub mod Turns
 pub mod Waits
