@@ -3,9 +3,11 @@ pub mod Chains
 pub mod EndSteps
 pub mod Mapped
 pub mod Outcomes
+pub mod LifeSteps
 pub mod NumberSteps
 pub mod Parents
 pub mod PartSteps
+pub mod Places
 pub mod RowWaits
 pub mod TurnSteps
 pub mod WaitSteps

@@ -8,6 +8,7 @@ pub mod Gathering
 pub mod HostAnswers
 pub mod JobPlan
 pub mod Launches
+pub mod Lives
 pub mod Lists
 pub mod Moments
 pub mod Numbers
@@ -15,6 +16,7 @@ pub mod Parts
 pub mod Polls
 pub mod Reads
 pub mod Roots
+pub mod ScriptLog
 pub mod Starts
 pub mod Turns
 pub mod Waits

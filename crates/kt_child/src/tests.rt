@@ -1,3 +1,7 @@
+mod lists;
+mod plan;
 mod plans;
+mod runs;
 mod script;
+mod shelf;
 mod steps;

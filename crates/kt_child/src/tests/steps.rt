@@ -1,22 +1,13 @@
-use super::script::Script;
+use super::script::{Scene, Script, script_of};
 use crate::{
-    Child, DriverFault, FileRead, Spawning, Turn, Want, Watch, argv_plan, env_plan, find_root,
+    Child, DriverFault, Polled, Spawning, Turn, Want, Watch, argv_plan, env_plan, find_root,
     poll_once, read_kept, read_list, start_body, start_cleanup, workdir_plan,
 };
 use kt_atflist::ListBytes;
-use kt_base::{Bytes, Interface, Outcome, Refused, Role, Text, Variables};
+use kt_base::{Interface, Outcome, Refused, Role, Text, Variables};
 use std::alloc::Global;
+use std::process::Abort;
 use std::test::Fail;
-
-fn script(alloc: Global, failing: (u32, u32), running: u32) -> Script {
-    Script {
-        asked: String::new(alloc),
-        calls: 0,
-        failing,
-        running,
-        file: None,
-    }
-}
 
 const CHILD: Child = Child {
     attempt: 0,
@@ -24,7 +15,7 @@ const CHILD: Child = Child {
 };
 
 /// The outcome of a child with a limit of one second, and the poll that told it, counted from 0.
-fn outcome_of(os: &mut Script) -> (u32, Outcome) {
+fn outcome_of<R: Abort>(os: &mut Script<'_, R>) -> (u32, Outcome) {
     let mut watch = Watch {
         before: 0,
         killed: false,
@@ -43,13 +34,19 @@ fn outcome_of(os: &mut Script) -> (u32, Outcome) {
 fn a_limit_of_one_second_is_a_hundred_polls(rt: HostRuntime) -> Result<(), Fail> {
     let alloc = rt.alloc();
     for (running, failing, at, told) in [
-        (99, (0, 0), 99, Outcome::Exited(0)),
-        (100, (0, 0), 100, Outcome::TimedOut),
-        (600, (0, 0), 599, Outcome::WaitFailed),
-        (100, (100, 101), 99, Outcome::WaitFailed),
-        (100, (50, 51), 50, Outcome::WaitFailed),
+        (99, None, 99, Outcome::Exited(0)),
+        (100, None, 100, Outcome::TimedOut),
+        (600, None, 599, Outcome::WaitFailed),
+        (100, Some(100), 99, Outcome::WaitFailed),
+        (100, Some(50), 50, Outcome::WaitFailed),
     ] {
-        let mut os = script(alloc, failing, running);
+        let lives = [(running, Polled::Exited(0))];
+        let scene = match failing {
+            None => Scene::of(&lives, &[]),
+            Some(call) => Scene::of(&lives, &[]).failing(call),
+        };
+        let mut os = script_of(&rt, alloc, scene);
+        os.children.push((CHILD, 0))?;
         let (poll, outcome) = outcome_of(&mut os);
         assert_eq!(rt; outcome, told);
         assert_eq!(rt; poll, at);
@@ -61,18 +58,29 @@ fn a_limit_of_one_second_is_a_hundred_polls(rt: HostRuntime) -> Result<(), Fail>
 fn the_least_root_that_can_be_made_is_taken(rt: HostRuntime) -> Result<(), Fail> {
     let alloc = rt.alloc();
     let base = Text::from_str(alloc, "/tmp")?;
-    let mut os = script(alloc, (0, 1), 0);
+    let mut os = script_of(&rt, alloc, Scene::of(&[], &[]).failing(0));
     match find_root(alloc, &mut os, &base) {
         Ok(root) => assert_eq!(rt; root.as_str(), "/tmp/kyua.1"),
         Err(_) => assert!(rt; false),
     }
-    let mut os = script(alloc, (0, 1000), 0);
+    let mut os = script_of(&rt, alloc, Scene::of(&[], &[]).failing_at_first(1000));
     match find_root(alloc, &mut os, &base) {
         Ok(_) => assert!(rt; false),
         Err(fault) => assert_eq!(rt; fault, DriverFault::NoWorkDirectory),
     }
     assert_eq!(rt; os.calls, 1000);
     Ok(())
+}
+
+/// The first letters of the lines of a log.
+pub(super) fn letters(alloc: Global, log: &Text) -> Result<String, Fail> {
+    let mut letters = String::new(alloc);
+    for line in log.as_str().split('\n') {
+        if let Some(letter) = line.chars().next() {
+            letters.push(letter)?;
+        }
+    }
+    Ok(letters)
 }
 
 #[test]
@@ -110,12 +118,13 @@ fn a_start_is_refused_at_the_call_that_failed(rt: HostRuntime) -> Result<(), Fai
         (Role::Cleanup, 1, "oor", Err(Refused::Output)),
         (Role::Cleanup, 2, "oosr", Err(Refused::Spawn)),
     ] {
-        let mut os = script(alloc, (fails, fails + 1), 0);
+        let mut os = script_of(&rt, alloc, Scene::of(&[], &[]).failing(fails));
+        os.moment = 6;
         let started = match role {
             Role::Body => start_body(&mut os, &paths.dir, &plan),
             Role::Cleanup => start_cleanup(&mut os, &paths.dir, &plan),
         };
-        assert_eq!(rt; os.asked.as_str(), asked);
+        assert_eq!(rt; letters(alloc, &os.log)?.as_str(), asked);
         assert_eq!(rt; started, answer);
     }
     Ok(())
@@ -124,17 +133,22 @@ fn a_start_is_refused_at_the_call_that_failed(rt: HostRuntime) -> Result<(), Fai
 #[test]
 fn an_output_is_kept_and_a_list_is_whole(rt: HostRuntime) -> Result<(), Fail> {
     let alloc = rt.alloc();
-    let path = Text::from_str(alloc, "out")?;
-    for (failing, more, kept, list) in [
-        ((0, 0), false, 3, 3),
-        ((0, 0), true, 3, 101),
-        ((0, 9), false, 0, 100),
+    let mut long: Vec<u8> = Vec::new(alloc);
+    for _ in 0..65_537 {
+        long.push(b'x')?;
+    }
+    let files: [(&str, &[u8]); 2] = [("out", b"abc"), ("long", &long)];
+    for (path, failing, kept, list) in [
+        ("out", 9, 3, 3),
+        ("long", 9, 65_536, 65_537),
+        ("none", 9, 0, 100),
+        ("out", 0, 0, 100),
     ] {
-        let mut os = script(alloc, failing, 0);
-        os.file = Some(FileRead::Part(Bytes::from_slice(alloc, b"abc")?, more));
+        let path = Text::from_str(alloc, path)?;
+        let scene = Scene::of(&[], &files);
+        let mut os = script_of(&rt, alloc, scene.failing(failing));
         assert_eq!(rt; read_kept(alloc, &mut os, &path).len(), kept, "kept {kept}");
-        let mut os = script(alloc, failing, 0);
-        os.file = Some(FileRead::Part(Bytes::from_slice(alloc, b"abc")?, more));
+        let mut os = script_of(&rt, alloc, scene.failing(failing));
         let told = match read_list(&mut os, &path) {
             ListBytes::Read(bytes) => bytes.len(),
             ListBytes::Unreadable => 100,
@@ -142,7 +156,5 @@ fn an_output_is_kept_and_a_list_is_whole(rt: HostRuntime) -> Result<(), Fail> {
         };
         assert_eq!(rt; told, list, "list {list}");
     }
-    let mut os = script(alloc, (0, 0), 0);
-    assert_eq!(rt; read_kept(alloc, &mut os, &path).len(), 0);
     Ok(())
 }

@@ -1,0 +1,16 @@
+-- What stands at a place of two joined lists.
+use Rattle.std.proofs.Common.{◌≡◌, ℕ, zero, suc, ◌+◌, ◌⊎◌, List, [], ◌∷◌, ◌++◌, length, inl, inr, arith}
+use Rattle.std.specs.Prelude.{slice_get, Some}
+
+pub some_is : {X : Type 0} (x y : X) → Some x ≡ Some y → x ≡ y
+some_is x y e = cc
+
+pub in_append : {X : Type 0} (xs ys : List X) (k : ℕ) (a : X) → slice_get (xs ++ ys) k ≡ Some a
+    → (slice_get xs k ≡ Some a) ⊎ ((m : ℕ) × (k ≡ length xs + m) × (slice_get ys m ≡ Some a))
+in_append [] ys k a g = inr (k, omega arith, g)
+in_append (x ∷ xs) ys zero a g = inl g
+in_append (x ∷ xs) ys (suc k) a g = later (in_append xs ys k a g)
+  where
+    later : (slice_get xs k ≡ Some a) ⊎ ((m : ℕ) × (k ≡ length xs + m) × (slice_get ys m ≡ Some a)) → (slice_get (x ∷ xs) (suc k) ≡ Some a) ⊎ ((m : ℕ) × (suc k ≡ length (x ∷ xs) + m) × (slice_get ys m ≡ Some a))
+    later (inl h) = inl h
+    later (inr w) = inr (w.0, omega (arith, w.1), w.2)

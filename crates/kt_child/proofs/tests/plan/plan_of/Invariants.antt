@@ -1,0 +1,7 @@
+use Rattle.std.proofs.Common.{◌≡◌, length}
+use Rattle.kt_sched.specs.Plan.{IsPlan}
+use Rattle.kt_child.proofs.tests.plan.plan_of.Given as goal
+
+-- the jobs so far are a plan
+abbrev pub invariant-loop-letter : goal.invariant-loop-letter
+invariant-loop-letter l = record { plan : IsPlan l.jobs.items; count : length l.jobs.items ≡ l.position }
