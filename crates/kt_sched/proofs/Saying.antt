@@ -198,3 +198,8 @@ next_is_failed plan n fed f = at (owed plan fed.trace) refl
     at : (z : Option ℕ) → owed plan fed.trace ≡ z → IsNext plan n fed (elim z [ Some i ↦ next.Start i Cleanup | None ↦ rest_of fed.trace ])
     at (Some i) e = ((λ q. absurd (cc (f, q))), e)
     at None e = rest_is plan n fed (λ q. absurd (cc (f, q))) e (λ q. absurd (cc (f, q)))
+
+-- what is said to be next is the one that is
+pub said_is : (plan : List Job) (n : ℕ) (fed : Fed) (said : Option Next) (x : Next) → SaysNext plan n fed said → IsNext plan n fed x → ((y : Next) → IsNext plan n fed y → y ≡ x) → said ≡ Some x
+said_is plan n fed (Some y) x s h only = ap Some (only y s)
+said_is plan n fed None x s h only = absurd (s x h)
