@@ -14,8 +14,8 @@ use Rattle.kt_sched.specs.History.{mark_of, history, is_active, active}
 use Rattle.kt_sched.specs.TurnOrder.{turns, body_starts, next_to_start}
 use Rattle.kt_sched.specs.ScheduleRules.{owed, IsBusy, IsQuiet, AloneAtStart}
 use Rattle.kt_sched.specs.Fed.{Fed, has_failed, runs}
-use Rattle.kt_sched.specs.Next.{IsNext, IsUpToDate, MayBegin}
-use Rattle.kt_sched.specs.Past.{some_runs, none_exclusive, ordinary_whole, is_quiet, is_alone, may_begin, is_busy_before, rest_of, next_after_failure, next_before, SaysNext}
+use Rattle.kt_sched.specs.Next.{IsNext, MayBegin}
+use Rattle.kt_sched.specs.Past.{some_runs, none_exclusive, ordinary_whole, is_quiet, is_alone, may_begin, is_busy_before, IsRest, IsBodyTurn, SaysNext}
 use Rattle.kt_sched.proofs.Turns.{some_is, filter_in, turn_inside}
 use Rattle.kt_sched.proofs.Words.{empty_quiet, list_all_from}
 use Rattle.kt_sched.proofs.Steps.{of_other}
@@ -87,12 +87,18 @@ none_runs T h i role = by (some_runs_not T T h i role)
     by (inr e) = e
 
 -- a wait or the end, where nothing else is due
-pub rest_is : (plan : List Job) (n : ℕ) (fed : Fed) → (has_failed fed ≡ false → IsUpToDate plan n fed) → owed plan fed.trace ≡ None → (has_failed fed ≡ false → IsBusy plan n fed.trace) → IsNext plan n fed (rest_of fed.trace)
-rest_is plan n fed u o y = by (some_runs fed.trace fed.trace) refl
-  where
-    by : (b : Bool) → some_runs fed.trace fed.trace ≡ b → IsNext plan n fed (if b then next.Wait else next.Done)
-    by true h = (u, o, y, some_runs_is fed.trace fed.trace h)
-    by false h = (u, o, y, none_runs fed.trace h)
+pub rest_waits : (plan : List Job) (n : ℕ) (fed : Fed) (T : Trace) → fed.trace ≡ T → IsRest plan n fed → some_runs T T ≡ true → IsNext plan n fed next.Wait
+rest_waits plan n fed T e h b = (h.put, h.cleanup, h.body, some_runs_is fed.trace fed.trace (ap (λ (x : Trace). some_runs x x) e ∙ b))
+
+pub rest_ends : (plan : List Job) (n : ℕ) (fed : Fed) (T : Trace) → fed.trace ≡ T → IsRest plan n fed → some_runs T T ≡ false → IsNext plan n fed next.Done
+rest_ends plan n fed T e h b = (h.put, h.cleanup, h.body, none_runs fed.trace (ap (λ (x : Trace). some_runs x x) e ∙ b))
+
+-- after a failed put
+pub failed_cleanup : (plan : List Job) (n : ℕ) (fed : Fed) (T : Trace) (i : ℕ) → fed.trace ≡ T → has_failed fed ≡ true → owed plan T ≡ Some i → IsNext plan n fed (next.Start i Cleanup)
+failed_cleanup plan n fed T i e f o = ((λ q. absurd (cc (f, q))), ap (owed plan) e ∙ o)
+
+pub failed_rest : (plan : List Job) (n : ℕ) (fed : Fed) (T : Trace) → fed.trace ≡ T → has_failed fed ≡ true → owed plan T ≡ None → IsRest plan n fed
+failed_rest plan n fed T e f o = record { put = λ q. absurd (cc (f, q)); cleanup = ap (owed plan) e ∙ o; body = λ q. absurd (cc (f, q)) }
 
 -- what every element of a list passes, each does
 all_at : {X : Type 0} (p : X → Bool) (xs : List X) → list_all p xs ≡ true → (k : ℕ) (x : X) → slice_get xs k ≡ Some x → p x ≡ true
@@ -140,61 +146,64 @@ next_inside plan T job p e =
     let t = filter_in (λ (job : Job). Rattle.std.specs.Prelude.is_none job.decided) (turns plan) (Rattle.std.proofs.Common.length (body_starts T)) job e in
     turn_inside plan p.placed t.0 job t.1
 
--- what is said before the start of a body is next
-pub next_is_before : (plan : List Job) (n : ℕ) (fed : Fed) → IsPlan plan → has_failed fed ≡ false → IsUpToDate plan n fed → owed plan fed.trace ≡ None → SaysNext plan n fed (next_before plan n fed.trace (next_to_start plan fed.trace))
-next_is_before plan n fed p f u o = at (next_to_start plan fed.trace) refl
+-- what is known of the next body
+pub record IsBefore (plan : List Job) (n : ℕ) (fed : Fed) (job : Job) : Type 0 where
+  pub is_plan : IsPlan plan
+  pub turn : IsBodyTurn plan n fed
+  pub is : next_to_start plan fed.trace ≡ Some job
+
+-- the start of the body
+pub begins : (plan : List Job) (n : ℕ) (fed : Fed) (job : Job) → IsBefore plan n fed job → may_begin plan n fed.trace job.exclusive ≡ true → IsNext plan n fed (next.Start job.position Body)
+begins plan n fed job b h = (
+  b.turn.unfailed,
+  b.turn.put,
+  b.turn.cleanup,
+  record {
+    job = job;
+    next = b.is;
+    place = refl;
+    room = lt_is (active plan fed.trace) n (and_left (nat_lt (active plan fed.trace) n) (is_alone plan fed.trace job.exclusive) h);
+    alone = alone_is plan fed.trace job (next_inside plan fed.trace job b.is_plan b.is) (and_right (nat_lt (active plan fed.trace) n) (is_alone plan fed.trace job.exclusive) h);
+  },
+)
+
+-- no body is left, or the next one has to wait
+pub none_left : (plan : List Job) (n : ℕ) (fed : Fed) → IsBodyTurn plan n fed → next_to_start plan fed.trace ≡ None → IsRest plan n fed
+none_left plan n fed t e =
+    let P : Option Job → Type 0 = λ y. (active plan fed.trace ≡ n) ⊎ MatchOption y ⊤ (λ job. (job.exclusive ≡ true) × (0 < active plan fed.trace)) in
+    record { put = λ q. t.put; cleanup = t.cleanup; body = λ q. subst P (sym e) (inr tt) }
+
+pub waits_busy : (plan : List Job) (n : ℕ) (fed : Fed) (job : Job) → IsBefore plan n fed job → is_busy_before plan n fed.trace job.exclusive ≡ true → IsRest plan n fed
+waits_busy plan n fed job b h = record { put = λ q. b.turn.put; cleanup = b.turn.cleanup; body = λ q. by (active plan fed.trace == n) refl h }
   where
-    busy : (z : Option Job) → next_to_start plan fed.trace ≡ z → ((active plan fed.trace ≡ n) ⊎ MatchOption z ⊤ (λ job. (job.exclusive ≡ true) × (0 < active plan fed.trace))) → IsBusy plan n fed.trace
-    busy z e h = subst (λ (y : Option Job). (active plan fed.trace ≡ n) ⊎ MatchOption y ⊤ (λ job. (job.exclusive ≡ true) × (0 < active plan fed.trace))) (sym e) h
+    by : (v : Bool) → (active plan fed.trace == n) ≡ v → (v || (job.exclusive && nat_lt 0 (active plan fed.trace))) ≡ true → IsBusy plan n fed.trace
+    by true q h = inl (eq_is (active plan fed.trace) n q)
+    by false q h =
+        let Q : Option Job → Type 0 = λ y. (active plan fed.trace ≡ n) ⊎ MatchOption y ⊤ (λ job. (job.exclusive ≡ true) × (0 < active plan fed.trace)) in
+        subst Q (sym b.is) (inr (and_left job.exclusive (nat_lt 0 (active plan fed.trace)) h, lt_is 0 (active plan fed.trace) (and_right job.exclusive (nat_lt 0 (active plan fed.trace)) h)))
 
-    busy_is : (job : Job) → is_busy_before plan n fed.trace job.exclusive ≡ true → ((active plan fed.trace ≡ n) ⊎ ((job.exclusive ≡ true) × (0 < active plan fed.trace)))
-    busy_is job h = by (active plan fed.trace == n) refl h
-      where
-        by : (b : Bool) → (active plan fed.trace == n) ≡ b → (b || (job.exclusive && nat_lt 0 (active plan fed.trace))) ≡ true → ((active plan fed.trace ≡ n) ⊎ ((job.exclusive ≡ true) × (0 < active plan fed.trace)))
-        by true q h = inl (eq_is (active plan fed.trace) n q)
-        by false q h = inr (and_left job.exclusive (nat_lt 0 (active plan fed.trace)) h, lt_is 0 (active plan fed.trace) (and_right job.exclusive (nat_lt 0 (active plan fed.trace)) h))
+begin_so : (plan : List Job) (n : ℕ) (fed : Fed) (job : Job) (i : ℕ) → IsBefore plan n fed job → MayBegin plan n fed.trace i → may_begin plan n fed.trace job.exclusive ≡ true
+begin_so plan n fed job i b m =
+    let s : m.job ≡ job = some_is m.job job (sym m.next ∙ b.is) in
+    let q : i ≡ job.position = sym m.place ∙ ap (λ (z : Job). z.position) s in
+    both (nat_lt (active plan fed.trace) n) (is_alone plan fed.trace job.exclusive) (is_lt (active plan fed.trace) n m.room)
+    (is_alone_so plan fed.trace job (next_inside plan fed.trace job b.is_plan b.is) (subst (λ (k : ℕ). AloneAtStart plan fed.trace k Body) q m.alone))
 
-    busy_not : (job : Job) → next_to_start plan fed.trace ≡ Some job → is_busy_before plan n fed.trace job.exclusive ≡ false → IsBusy plan n fed.trace → ⊥
-    busy_not job e h (inl q) = absurd (cc (or_left (active plan fed.trace == n) (job.exclusive && nat_lt 0 (active plan fed.trace)) h, is_eq (active plan fed.trace) n q))
-    busy_not job e h (inr m) =
-        let w = subst (λ (y : Option Job). MatchOption y ⊤ (λ job. (job.exclusive ≡ true) × (0 < active plan fed.trace))) e m in
-        absurd (cc (or_right (active plan fed.trace == n) (job.exclusive && nat_lt 0 (active plan fed.trace)) h, both job.exclusive (nat_lt 0 (active plan fed.trace)) w.0 (is_lt 0 (active plan fed.trace) w.1)))
+busy_not : (plan : List Job) (n : ℕ) (fed : Fed) (job : Job) → next_to_start plan fed.trace ≡ Some job → is_busy_before plan n fed.trace job.exclusive ≡ false → IsBusy plan n fed.trace → ⊥
+busy_not plan n fed job e h (inl q) = absurd (cc (or_left (active plan fed.trace == n) (job.exclusive && nat_lt 0 (active plan fed.trace)) h, is_eq (active plan fed.trace) n q))
+busy_not plan n fed job e h (inr m) =
+    let w = subst (λ (y : Option Job). MatchOption y ⊤ (λ job. (job.exclusive ≡ true) × (0 < active plan fed.trace))) e m in
+    absurd (cc (or_right (active plan fed.trace == n) (job.exclusive && nat_lt 0 (active plan fed.trace)) h, both job.exclusive (nat_lt 0 (active plan fed.trace)) w.0 (is_lt 0 (active plan fed.trace) w.1)))
 
-    begin_is : (job : Job) → next_to_start plan fed.trace ≡ Some job → may_begin plan n fed.trace job.exclusive ≡ true → MayBegin plan n fed.trace job.position
-    begin_is job e h = record {
-      job = job;
-      next = e;
-      place = refl;
-      room = lt_is (active plan fed.trace) n (and_left (nat_lt (active plan fed.trace) n) (is_alone plan fed.trace job.exclusive) h);
-      alone = alone_is plan fed.trace job (next_inside plan fed.trace job p e) (and_right (nat_lt (active plan fed.trace) n) (is_alone plan fed.trace job.exclusive) h);
-    }
+-- a body that may neither start nor wait
+pub nothing_next : (plan : List Job) (n : ℕ) (fed : Fed) (job : Job) → IsBefore plan n fed job → may_begin plan n fed.trace job.exclusive ≡ false → is_busy_before plan n fed.trace job.exclusive ≡ false → (x : Next) → IsNext plan n fed x → ⊥
+nothing_next plan n fed job b m h (next.Put i) y = absurd (cc (y.1, b.turn.put))
+nothing_next plan n fed job b m h (next.Start i Cleanup) y = absurd (cc (y.1, b.turn.cleanup))
+nothing_next plan n fed job b m h (next.Start i Body) y = absurd (cc (begin_so plan n fed job i b y.3, m))
+nothing_next plan n fed job b m h next.Wait y = busy_not plan n fed job b.is h (y.2 b.turn.unfailed)
+nothing_next plan n fed job b m h next.Done y = busy_not plan n fed job b.is h (y.2 b.turn.unfailed)
 
-    begin_so : (job : Job) (i : ℕ) → next_to_start plan fed.trace ≡ Some job → MayBegin plan n fed.trace i → may_begin plan n fed.trace job.exclusive ≡ true
-    begin_so job i e m =
-        let s : m.job ≡ job = some_is m.job job (sym m.next ∙ e) in
-        let q : i ≡ job.position = sym m.place ∙ ap (λ (z : Job). z.position) s in
-        both (nat_lt (active plan fed.trace) n) (is_alone plan fed.trace job.exclusive) (is_lt (active plan fed.trace) n m.room) (is_alone_so plan fed.trace job (next_inside plan fed.trace job p e) (subst (λ (k : ℕ). AloneAtStart plan fed.trace k Body) q m.alone))
-
-    none : (job : Job) → next_to_start plan fed.trace ≡ Some job → may_begin plan n fed.trace job.exclusive ≡ false → is_busy_before plan n fed.trace job.exclusive ≡ false → (x : Next) → IsNext plan n fed x → ⊥
-    none job e b h (next.Put i) y = absurd (cc (y.1, u))
-    none job e b h (next.Start i Cleanup) y = absurd (cc (y.1, o))
-    none job e b h (next.Start i Body) y = absurd (cc (begin_so job i e y.3, b))
-    none job e b h next.Wait y = busy_not job e h (y.2 f)
-    none job e b h next.Done y = busy_not job e h (y.2 f)
-
-    of_job : (job : Job) → next_to_start plan fed.trace ≡ Some job → (b : Bool) → may_begin plan n fed.trace job.exclusive ≡ b → (c : Bool) → is_busy_before plan n fed.trace job.exclusive ≡ c → SaysNext plan n fed (if b then Some (next.Start job.position Body) else (if c then Some (rest_of fed.trace) else None))
-    of_job job e true b c h = (f, u, o, begin_is job e b)
-    of_job job e false b true h = rest_is plan n fed (λ q. u) o (λ q. busy (Some job) e (busy_is job h))
-    of_job job e false b false h = none job e b h
-
-    at : (z : Option Job) → next_to_start plan fed.trace ≡ z → SaysNext plan n fed (next_before plan n fed.trace z)
-    at None e = rest_is plan n fed (λ q. u) o (λ q. busy None e (inr tt))
-    at (Some job) e = of_job job e (may_begin plan n fed.trace job.exclusive) refl (is_busy_before plan n fed.trace job.exclusive) refl
-
--- what is said after a failed put is next
-pub next_is_failed : (plan : List Job) (n : ℕ) (fed : Fed) → has_failed fed ≡ true → IsNext plan n fed (next_after_failure plan fed.trace)
-next_is_failed plan n fed f = at (owed plan fed.trace) refl
-  where
-    at : (z : Option ℕ) → owed plan fed.trace ≡ z → IsNext plan n fed (elim z [ Some i ↦ next.Start i Cleanup | None ↦ rest_of fed.trace ])
-    at (Some i) e = ((λ q. absurd (cc (f, q))), e)
-    at None e = rest_is plan n fed (λ q. absurd (cc (f, q))) e (λ q. absurd (cc (f, q)))
+-- what is said to be next is the one that is
+pub said_is : (plan : List Job) (n : ℕ) (fed : Fed) (said : Option Next) (x : Next) → SaysNext plan n fed said → IsNext plan n fed x → ((y : Next) → IsNext plan n fed y → y ≡ x) → said ≡ Some x
+said_is plan n fed (Some y) x s h only = ap Some (only y s)
+said_is plan n fed None x s h only = absurd (s x h)

@@ -1,12 +1,11 @@
 -- Histories that are stored, and the words by which the plain schedule reads them.
-use Rattle.std.specs.Prelude.{ℕ, Bool, true, false, List, [], ◌∷◌, ◌==◌, ◌&&◌, ◌||◌, Option, Some, None, map, not, nat_lt, is_none, if◌then◌else◌}
+use Rattle.std.specs.Prelude.{ℕ, Bool, true, false, List, [], ◌∷◌, ◌==◌, ◌&&◌, ◌||◌, ◌≡◌, Option, Some, None, map, not, nat_lt, is_none, if◌then◌else◌}
 use Rattle.std.specs.List.{list_all}
 use Rattle.std.specs.Borrow.{Bor}
 use Rattle.kt_base.specs.declared.role.Role.TheVariants.{Body, Cleanup}
 use Rattle.kt_sched.specs.declared.job.Job.{Job}
 use Rattle.kt_sched.specs.declared.ended.Ended.{Ended}
 use Rattle.kt_sched.specs.declared.next.Next.{Next}
-use Rattle.kt_sched.specs.declared.next.Next.TheVariants as next
 use Rattle.kt_sched.specs.declared.plain.sign.Sign.{Sign}
 use Rattle.kt_sched.specs.declared.plain.sign.Sign.TheVariants as sign
 use Rattle.kt_sched.specs.declared.plain.happening.Happening.{Happening}
@@ -16,10 +15,10 @@ use Rattle.kt_sched.specs.declared.plain.past.Past.TheVariants as past
 use Rattle.kt_sched.specs.Children.{same_role}
 use Rattle.kt_sched.specs.Trace.{Event, Start, End, Trace, NoEvent, Then, position_of}
 use Rattle.kt_sched.specs.History.{Mark, BodyStarted, BodyRefused, BodyEnded, CleanupStarted, CleanupRefused, CleanupEnded, mark_of, has_whole_history, is_active, active}
-use Rattle.kt_sched.specs.ScheduleRules.{declares, owed}
+use Rattle.kt_sched.specs.ScheduleRules.{declares, owed, IsBusy}
 use Rattle.kt_sched.specs.RecordOrder.{is_open, was_open}
-use Rattle.kt_sched.specs.Fed.{Fed, runs}
-use Rattle.kt_sched.specs.Next.{IsNext}
+use Rattle.kt_sched.specs.Fed.{Fed, has_failed, runs}
+use Rattle.kt_sched.specs.Next.{IsNext, IsUpToDate}
 
 -- the event of an answer
 abbrev pub event_of : Happening → Event
@@ -104,20 +103,17 @@ opens plan n (Then T e) job = is_open plan n (Then T e) job && not (was_open pla
 abbrev pub finishes : Trace → Trace → ℕ → Job → Bool
 finishes before after i job = job.position == i && (is_none job.decided && (has_whole_history after job && not (has_whole_history before job)))
 
--- what is next where nothing is put or started
-abbrev pub rest_of : Trace → Next
-rest_of T = if some_runs T T then next.Wait else next.Done
+-- nothing is to be put or started
+pub record IsRest (plan : List Job) (n : ℕ) (fed : Fed) : Type 0 where
+  pub put : has_failed fed ≡ false → IsUpToDate plan n fed
+  pub cleanup : owed plan fed.trace ≡ None
+  pub body : has_failed fed ≡ false → IsBusy plan n fed.trace
 
--- the start of an owed cleanup, or else what is next
-abbrev pub next_after_failure : List Job → Trace → Next
-next_after_failure plan T = elim (owed plan T) [ Some i ↦ next.Start i Cleanup | None ↦ rest_of T ]
-
--- what is next before the start of this body, where nothing is put and no cleanup owed
-abbrev pub next_before : List Job → ℕ → Trace → Option Job → Option Next
-next_before plan n T None = Some (rest_of T)
-next_before plan n T (Some job) =
-    if may_begin plan n T job.exclusive then Some (next.Start job.position Body)
-    else (if is_busy_before plan n T job.exclusive then Some (rest_of T) else None)
+-- no put failed, nothing is to be put and no cleanup owed
+pub record IsBodyTurn (plan : List Job) (n : ℕ) (fed : Fed) : Type 0 where
+  pub unfailed : has_failed fed ≡ false
+  pub put : IsUpToDate plan n fed
+  pub cleanup : owed plan fed.trace ≡ None
 
 -- what was told: a stored history, so many stored entries, and whether a put failed
 abbrev pub told : Past → ℕ → Option ℕ → Fed

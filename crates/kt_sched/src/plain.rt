@@ -1,5 +1,6 @@
 //! The plain schedule: the definitions of what is next, word by word, as slow functions over a stored history.
 
+mod agreement;
 mod happening;
 mod histories;
 mod next_to_start;

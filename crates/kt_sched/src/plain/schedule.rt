@@ -1,10 +1,10 @@
-ghost use Rattle.std.specs.Prelude.{IfOk, ◌≡◌, ℕ, Option, None, is_some, slice_get};
+ghost use Rattle.std.specs.Prelude.{IfOk, ◌≡◌, ℕ, List, Option, is_some, slice_get, true};
+ghost use Rattle.kt_sched.specs.declared.job.Job.{Job};
 ghost use Rattle.kt_sched.specs.Plan.{IsPlan};
-ghost use Rattle.kt_sched.specs.Trace.{Trace};
-ghost use Rattle.kt_sched.specs.TurnOrder.{next_to_start};
-ghost use Rattle.kt_sched.specs.ScheduleRules.{owed};
 ghost use Rattle.kt_sched.specs.RecordOrder.{recorded};
-ghost use Rattle.kt_sched.specs.Past.{trace_of, rest_of, next_before, next_after_failure, SaysNext, told};
+ghost use Rattle.kt_sched.specs.Fed.{Fed, has_failed};
+ghost use Rattle.kt_sched.specs.Next.{IsNext};
+ghost use Rattle.kt_sched.specs.Past.{trace_of, told, IsRest, IsBodyTurn, SaysNext};
 
 use crate::job::Job;
 use crate::next::Next;
@@ -35,7 +35,7 @@ fn due(
 
 /// What is next where nothing may be put or started.
 fn rest_of(alloc: Global, past: &Past) -> Result<Next, NoMemory>
-    ensures { IfOk result (λ next. next ≡ rest_of (trace_of past.now)) }
+    ensures { (plan : List Job) (n : ℕ) (fed : Fed) → fed.trace ≡ trace_of past.now → IsRest plan n fed → IfOk result (IsNext plan n fed) }
 {
     if some_runs(alloc, past, past)? {
         Ok(Next::Wait)
@@ -46,7 +46,7 @@ fn rest_of(alloc: Global, past: &Past) -> Result<Next, NoMemory>
 
 /// What is next after a failed put.
 fn next_after_failure(alloc: Global, plan: &[Job], past: &Past) -> Result<Next, NoMemory>
-    ensures { IfOk result (λ next. next ≡ next_after_failure plan.now (trace_of past.now)) }
+    ensures { (n : ℕ) (fed : Fed) → fed.trace ≡ trace_of past.now → has_failed fed ≡ true → IfOk result (IsNext plan.now n fed) }
 {
     match owed(plan, past) {
         Some(i) => Ok(Next::Start(i, Role::Cleanup)),
@@ -64,7 +64,8 @@ fn next_before(
     width: u32,
     past: &Past,
 ) -> Result<Option<Next>, NoMemory>
-    ensures { IfOk result (λ next. next ≡ next_before plan.now width (trace_of past.now) (next_to_start plan.now (trace_of past.now))) }
+    requires { IsPlan plan.now }
+    ensures { (fed : Fed) → fed.trace ≡ trace_of past.now → IsBodyTurn plan.now width fed → IfOk result (SaysNext plan.now width fed) }
 {
     match next_to_start(alloc, plan, past)? {
         None => {
@@ -95,7 +96,7 @@ pub fn plain_next(
     failed: bool,
 ) -> Result<Option<Next>, NoMemory>
     requires { IsPlan plan.now }
-    ensures { (stopped : Option ℕ) → is_some stopped ≡ failed → IfOk result (λ next. SaysNext plan.now width (told past.now stored stopped) next) }
+    ensures { (stopped : Option ℕ) → is_some stopped ≡ failed → IfOk result (SaysNext plan.now width (told past.now stored stopped)) }
 {
     if failed {
         let next = next_after_failure(alloc, plan, past)?;

@@ -36,7 +36,7 @@ start-told-requires-clause-may g c =
     let s = c.loop-i.invariant.1 in
     let h = c.loop-i.invariant.2 in
     let j = c.job.ensures plan n fed (c.in-Start.ensures.stands plan n fed s) in
-    subst (λ i. MayStart (g.L.Launcher.running c.loop-i.launcher) (g.L.Launcher.pending c.loop-i.launcher) i c.in-Start.role) (sym (c.requires.plan.placed c.in-Start.i c.job.result.now j))
+    subst (λ i. MayStart (g.L.Launcher.running c.loop-i.launcher) (g.L.Launcher.pending c.loop-i.launcher) i c.in-Start.role) (cc (c.requires.plan.placed c.in-Start.i c.job.result.now j))
     (may_start g.L.Launcher.running g.L.Launcher.pending g.L.Launcher.starts g.L.Launcher.waits plan n fed c.args.launcher.now c.loop-i.launcher c.in-Start.i c.in-Start.role h (c.in-Start.ensures.next plan n fed s) (c.in-Start.ensures.follows plan n fed s))
 
 pub wait-ended-requires : goal.wait-ended-requires
