@@ -20,6 +20,7 @@ mod reading;
 mod recorder;
 mod reporting;
 mod result_store;
+mod sequence;
 mod testing;
 mod totals;
 mod world;
@@ -33,6 +34,7 @@ pub use host_world::HostWorld;
 pub use mem_runs::MemRuns;
 pub use reading::read_command;
 pub use result_store::ResultStore;
+pub use sequence::execute_all;
 pub use world::World;
 
 #[cfg(test)]
