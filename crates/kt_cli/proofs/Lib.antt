@@ -11,3 +11,4 @@ pub mod PlanRuns
 pub mod ShownRuns
 pub mod Testings
 pub mod Plays
+pub mod Sequencing

@@ -9,6 +9,7 @@ pub mod Plans
 pub mod Recording
 pub mod Recordings
 pub mod Reports
+pub mod Sequences
 pub mod Shown
 pub mod Stores
 pub mod Told

@@ -22,6 +22,7 @@ mod reading;
 mod recorder;
 mod reporting;
 mod result_store;
+mod sequence;
 mod testing;
 mod totals;
 mod world;
@@ -36,6 +37,7 @@ pub use host_world::HostWorld;
 pub use mem_runs::MemRuns;
 pub use reading::read_command;
 pub use result_store::ResultStore;
+pub use sequence::execute_all;
 pub use world::World;
 
 #[cfg(test)]

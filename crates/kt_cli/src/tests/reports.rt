@@ -3,6 +3,7 @@ use super::{ONE, Page, Play, TWO};
 use crate::command::Command;
 use crate::execution::execute;
 use crate::mem_runs::MemRuns;
+use crate::sequence::execute_all;
 use kt_base::{Interface, Items, Kind, Outcome, Text};
 use std::alloc::Global;
 use std::test::Fail;
@@ -202,5 +203,45 @@ fn a_report_over_a_failed_writer_holds_a_prefix(rt: HostRuntime) -> Result<(), F
             );
         }
     }
+    Ok(())
+}
+
+#[test]
+fn commands_follow_one_another(rt: HostRuntime) -> Result<(), Fail> {
+    let alloc = rt.alloc();
+    let mut commands = Vec::new(alloc);
+    commands.push(test(alloc)?)?;
+    commands.push(report(alloc, None, &[])?)?;
+    commands.push(report(alloc, Some(2), &[])?)?;
+    let mut world = Play {
+        alloc,
+        kyuafile: Some(ONE),
+        ends: &PASSES,
+        moments: &[500, 1_000, 1_012],
+        runs: false,
+        position: 0,
+        interface: Interface::Plain,
+        next: Outcome::Exited(0),
+    };
+    let mut page = Page {
+        kept: Vec::new(alloc),
+        calls: 1_000,
+    };
+    let mut results = MemRuns::new(alloc);
+    let exits = execute_all(
+        alloc,
+        commands.as_slice(),
+        &mut world,
+        &mut results,
+        &mut page,
+    )?;
+    assert!(rt;
+        page.kept.as_slice().starts_with(
+            b"a:main  ->  passed  [0.012s]\n\n1/1 passed (0 failed)\n===> Summary\nRun 1, started"
+        )
+    );
+    assert!(rt; page.kept.as_slice().ends_with(b"s\nkyua: E: no run 2\n"));
+    assert!(rt; exits.len() == 3);
+    assert!(rt; exits[0].status == 0 && exits[1].status == 0 && exits[2].status == 2);
     Ok(())
 }

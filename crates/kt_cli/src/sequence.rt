@@ -1,0 +1,39 @@
+ghost use Rattle.std.specs.Prelude.{IfOk, OnErr, ◌≡◌};
+ghost use Rattle.kt_sched.specs.Children.{IsIdle};
+ghost use Rattle.kt_cli.specs.Sequences.{DidAll};
+
+use crate::command::Command;
+use crate::execution::execute;
+use crate::exit::Exit;
+use crate::result_store::ResultStore;
+use crate::world::World;
+use kt_base::NoMemory;
+use std::alloc::Global;
+use std::io::Write;
+
+/// Does commands one after the other, and answers how each ended. The memory for the answers is taken before the first
+/// command.
+pub fn execute_all<W: World, R: ResultStore, O: Write>(
+    alloc: Global,
+    commands: &[Command],
+    world: &mut W,
+    results: &mut R,
+    out: &mut O,
+) -> Result<Vec<Exit>, NoMemory>
+    requires { IsIdle (W.running world.old) (W.pending world.old) }
+    ensures did { IfOk result (λ exits. DidAll W.asks W.tells W.starts W.waits R.stands R.sound commands.now world.old world.new results.old results.new (O.contents out.old) (O.contents out.new) exits.items) }
+    ensures idle { IsIdle (W.running world.new) (W.pending world.new) }
+    ensures unasked { OnErr result ((world.new ≡ world.old) × (results.new ≡ results.old) × (O.contents out.new ≡ O.contents out.old)) }
+{
+    let mut exits = Vec::with_capacity(alloc, commands.len())?;
+    let mut rest = commands;
+    while let Some((command, after)) = rest.split_first() {
+        let exit = execute(alloc, command, world, results, out);
+        if exits.push(exit).is_err() {
+            // There is room for each.
+            unreachable!()
+        }
+        rest = after;
+    }
+    Ok(exits)
+}
