@@ -1,6 +1,7 @@
 #!/bin/sh
 # Says what a put costs in a real file, each one durable, beside the same inserts by the C sqlite3 with a log and full
-# sync on the same disk, and what a run of 10,000 and 100,000 entries costs to put, to read and to show.
+# sync on the same disk, and what a run of 500 and of 2,000 entries in memory costs to put, to read and
+# to show.
 # It works in a scratch copy and runs the program as `rt try` does, without a proof. The folder for the files is the
 # working directory.
 set -eu
