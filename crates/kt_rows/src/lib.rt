@@ -3,3 +3,15 @@
 
 #[cfg(test)]
 mod command_lines;
+#[cfg(test)]
+mod folders;
+#[cfg(test)]
+mod host_os;
+#[cfg(test)]
+mod pacing;
+#[cfg(test)]
+mod plans;
+#[cfg(test)]
+mod real_children;
+#[cfg(test)]
+mod runs;
