@@ -66,7 +66,10 @@ const ROWS: [(&[&str], Read); 33] = [
         &["report", "-r", "R", "--results-filter=passed"],
         Read::Report("R", None, 1),
     ),
-    (&["report", "--run=007"], Read::Report("kyua.db", Some(7), 4)),
+    (
+        &["report", "--run=007"],
+        Read::Report("kyua.db", Some(7), 4),
+    ),
     (&["report", "--run=0"], Read::BadRun),
     (&["report", "--run=1000001"], Read::BadRun),
     (&["report", "--run=+1"], Read::BadRun),
@@ -133,10 +136,12 @@ fn command_lines_are_read(rt: HostRuntime) -> Result<(), Fail> {
 fn a_report_shows_all_but_passed(rt: HostRuntime) -> Result<(), Fail> {
     let words = words(rt.alloc(), &["report"])?;
     match read_command(rt.alloc(), words.as_slice()) {
-        Ok(CommandLine {
-            command: Command::Report { kinds, .. },
-            ..
-        }) => {
+        Ok(
+            CommandLine {
+                command: Command::Report { kinds, .. },
+                ..
+            },
+        ) => {
             for kind in [
                 Kind::Skipped,
                 Kind::ExpectedFailure,

@@ -4,6 +4,16 @@
 #[cfg(test)]
 mod command_lines;
 #[cfg(test)]
-mod nowhere;
+mod folders;
+#[cfg(test)]
+mod host_os;
+#[cfg(test)]
+mod pacing;
+#[cfg(test)]
+mod plans;
+#[cfg(test)]
+mod real_children;
 #[cfg(test)]
 mod results;
+#[cfg(test)]
+mod runs;

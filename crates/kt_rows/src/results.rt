@@ -1,9 +1,11 @@
-use crate::nowhere::Nowhere;
 use kt_base::{Bytes, Entry, Items, Kind, Output, Reason, Text, Verdict};
-use kt_cli::{Command, ResultStore, execute};
+use kt_child::{HostOs, Os};
+use kt_cli::{Command, CommandLine, ResultStore, execute_on_host};
 use kt_store::{Results, StoreFault};
 use sqlite::{Connection, MemStore};
 use std::alloc::Global;
+use std::fs::File;
+use std::rt::{Clock, Files};
 use std::test::Fail;
 
 fn entry(alloc: Global) -> Result<Entry, Fail> {
@@ -37,11 +39,23 @@ fn record<R: ResultStore>(results: &mut R, only: &Entry) -> Result<(), StoreFaul
     Ok(())
 }
 
-/// What a command writes, and its status.
-fn done<R: ResultStore>(alloc: Global, command: &Command, results: &mut R) -> (Vec<u8>, u8) {
-    let mut kept = Vec::new(alloc);
-    let exit = execute(alloc, command, &mut Nowhere {}, results, &mut kept);
-    (kept, exit.status)
+/// What a report writes, and its status.
+fn done<H: Files<File = File> + Clock + AllocGlobal, O: Os + Drop, R: ResultStore>(
+    rt: &H,
+    os: O,
+    command: Command,
+    results: &mut R,
+) -> Result<(Vec<u8>, u8), Fail> {
+    let mut kept = Vec::new(rt.alloc());
+    let line = CommandLine {
+        command,
+        work: None,
+        results: None,
+    };
+    match execute_on_host(rt, os, "/", &line, results, &mut kept) {
+        Ok(exit) => Ok((kept, exit.status)),
+        Err(_) => Err("no driver".into()),
+    }
 }
 
 fn attached(alloc: Global) -> Result<Results<MemStore>, Fail> {
@@ -55,11 +69,14 @@ fn attached(alloc: Global) -> Result<Results<MemStore>, Fail> {
     }
 }
 
-const FIRST: &[u8] = b"===> Failed tests\na:main  ->  failed: x<y  [0.012s]\n===> Summary\nRun 1, started 2023-11-14T22:13:20.123Z\nTest cases: 1 total, 0 skipped, 0 expected failures, 0 broken, 1 failed\nTotal time: 0.012s\n";
+const FIRST: &[u8] =
+    b"===> Failed tests\na:main  ->  failed: x<y  [0.012s]\n===> Summary\nRun 1, started 2023-11-14T22:13:20.123Z\nTest cases: 1 total, 0 skipped, 0 expected failures, 0 broken, 1 failed\nTotal time: 0.012s\n";
 
-const LAST: &[u8] = b"===> Summary\nRun 2, started 1970-01-01T00:00:00.000Z, unfinished\nTest cases: 0 total, 0 skipped, 0 expected failures, 0 broken, 0 failed\nTotal time: 0.000s\n";
+const LAST: &[u8] =
+    b"===> Summary\nRun 2, started 1970-01-01T00:00:00.000Z, unfinished\nTest cases: 0 total, 0 skipped, 0 expected failures, 0 broken, 0 failed\nTotal time: 0.000s\n";
 
-const JUNIT: &[u8] = b"<?xml version=\"1.0\" encoding=\"utf-8\"?>\n<testsuite tests=\"1\" failures=\"1\" errors=\"0\" skipped=\"0\">\n<testcase classname=\"a\" name=\"main\" time=\"0.012\">\n<failure message=\"x&lt;y\"/>\n<system-out>hi\n</system-out>\n</testcase>\n</testsuite>\n";
+const JUNIT: &[u8] =
+    b"<?xml version=\"1.0\" encoding=\"utf-8\"?>\n<testsuite tests=\"1\" failures=\"1\" errors=\"0\" skipped=\"0\">\n<testcase classname=\"a\" name=\"main\" time=\"0.012\">\n<failure message=\"x&lt;y\"/>\n<system-out>hi\n</system-out>\n</testcase>\n</testsuite>\n";
 
 #[test]
 fn runs_in_tables_are_shown(rt: HostRuntime) -> Result<(), Fail> {
@@ -73,11 +90,13 @@ fn runs_in_tables_are_shown(rt: HostRuntime) -> Result<(), Fail> {
     ] {
         let mut kinds = Items::new(alloc);
         kinds.push(Kind::Failed)?;
-        let (kept, exit) = done(alloc, &Command::Report { run, kinds }, &mut results);
+        let report = Command::Report { run, kinds };
+        let (kept, exit) = done(&rt, HostOs::new(&rt), report, &mut results)?;
         assert_eq!(rt; kept.as_slice(), text, "at {run:?}");
         assert_eq!(rt; exit, status, "at {run:?}");
     }
-    let (kept, exit) = done(alloc, &Command::ReportJunit { run: Some(1) }, &mut results);
+    let report = Command::ReportJunit { run: Some(1) };
+    let (kept, exit) = done(&rt, HostOs::new(&rt), report, &mut results)?;
     assert_eq!(rt; kept.as_slice(), JUNIT);
     assert_eq!(rt; exit, 0);
     Ok(())
