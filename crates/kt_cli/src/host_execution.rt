@@ -42,12 +42,7 @@ fn driver_of<O: Os + Drop>(
 }
 
 /// Does a command over the files of a directory and a launcher, which is given back.
-fn execute_over<
-    R: Files<File = File> + Clock + AllocGlobal,
-    L: Launcher,
-    S: ResultStore,
-    W: Write,
->(
+fn execute_over<R: Files<File = File> + Clock + AllocGlobal, L: Launcher, S: ResultStore, W: Write>(
     rt: &R,
     directory: Text,
     launcher: L,
