@@ -8,11 +8,11 @@ pub(super) struct Shelf {
 }
 
 impl Sink for Shelf {
-    ghost use Rattle.std.specs.Prelude.{◌≡◌, ◌++◌, ◌∷◌, [], OnOk};
+    ghost use Rattle.std.specs.Prelude.{◌≡◌, ◌++◌, ◌∷◌, [], OnOk, OnErr};
 
-    ghost entries = { λ s. s.entries.items };
+    ghost entries = { λ s put. s.entries.items ≡ put };
 
-    ghost puts = { λ s e r t. OnOk r (t.entries.items ≡ s.entries.items ++ e ∷ []) };
+    ghost puts = { λ s e r t. OnOk r (t.entries.items ≡ s.entries.items ++ e ∷ []) × OnErr r (t.entries.items ≡ s.entries.items) };
 
     fn put(&mut self, entry: Entry) -> Result<(), SinkFault> {
         match self.entries.push(entry) {
