@@ -4,11 +4,15 @@ pub mod EndSteps
 pub mod Mapped
 pub mod Outcomes
 pub mod LifeSteps
+pub mod NamedSteps
 pub mod NumberSteps
 pub mod Parents
 pub mod PartSteps
 pub mod Places
+pub mod RowNames
 pub mod RowWaits
+pub mod SeveralSteps
+pub mod SeveralWaits
 pub mod TurnSteps
 pub mod WaitSteps
 pub mod WaitedOnSteps

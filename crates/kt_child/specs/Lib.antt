@@ -16,6 +16,7 @@ pub mod Polls
 pub mod Reads
 pub mod Roots
 pub mod ScriptLog
+pub mod SeveralLives
 pub mod Starts
 pub mod Turns
 pub mod Waits
