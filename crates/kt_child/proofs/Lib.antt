@@ -5,6 +5,8 @@ pub mod Mapped
 pub mod Outcomes
 pub mod LifeSteps
 pub mod NamedSteps
+pub mod NameCounts
+pub mod NameSteps
 pub mod NumberSteps
 pub mod Parents
 pub mod PartSteps

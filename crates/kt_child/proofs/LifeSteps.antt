@@ -50,7 +50,7 @@ both_true : (a b : Bool) → a ≡ true → b ≡ true → (a && b) ≡ true
 both_true true b p q = q
 both_true false b p q = p
 
-child_is_own : (c : Child) → same_child c c ≡ true
+pub child_is_own : (c : Child) → same_child c c ≡ true
 child_is_own c = both_true (c.attempt == c.attempt) (same_role c.role c.role) (number_is_own c.attempt) (role_is_own c.role)
 
 -- by whether a poll is followed by a kill

@@ -28,7 +28,7 @@ pub names_turns : (n : ℕ) (ks : List Watched) → map name_of (after_turns n k
 names_turns zero ks = refl
 names_turns (suc n) ks = names_turns n (map advanced ks) ∙ names_turn ks
 
-names_append : (xs ys : List Watched) → map name_of (xs ++ ys) ≡ map name_of xs ++ map name_of ys
+pub names_append : (xs ys : List Watched) → map name_of (xs ++ ys) ≡ map name_of xs ++ map name_of ys
 names_append [] ys = refl
 names_append (x ∷ xs) ys = ap (λ t. x.child ∷ t) (names_append xs ys)
 

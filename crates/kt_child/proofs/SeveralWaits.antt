@@ -11,7 +11,7 @@ use Rattle.kt_child.specs.Lives.{heard_by, same_child}
 use Rattle.kt_child.specs.Polls.{is_killed}
 use Rattle.kt_child.specs.SeveralLives.{GoesOn, LivesOut, Share, WaitShares, WaitsFor, WaitsTell, kept, name_of, named}
 use Rattle.kt_child.specs.Turns.{PolledAll, PolledLast, advanced, advanced_below, after_turns}
-use Rattle.kt_child.specs.Waits.{EndsInTurn, EndsLater, gone_on, later_of, unpolled_of}
+use Rattle.kt_child.specs.Waits.{EndsInTurn, EndsLater, WaitedOn, gone_on, later_of, unpolled_of}
 use Rattle.kt_child.proofs.LifeSteps.{append_none, heard_append}
 use Rattle.kt_child.proofs.NamedSteps.{at_place, in_parts, is_last, named_append, named_map}
 use Rattle.kt_child.proofs.RowNames.{name_at, names_below, names_part, names_turn, names_turns, part_at, share_removed}
@@ -90,7 +90,7 @@ Given c k children calls place outcome after =
     (over : Child) × (slice_get (map name_of children) place ≡ Some over)
     × Share c (same_child over c) k (heard_by c calls) outcome (remove after place)
 
-cut : (f u : ℕ) (ks : List Watched) → take f ks ++ (take u (drop f ks) ++ drop u (drop f ks)) ≡ ks
+pub cut : (f u : ℕ) (ks : List Watched) → take f ks ++ (take u (drop f ks) ++ drop u (drop f ks)) ≡ ks
 cut f u ks = ap (λ t. take f ks ++ t) (take_drop u (drop f ks)) ∙ take_drop f ks
 
 in_turn : (going : OpenTurn) (children : List Watched) (calls : List Call) (place : ℕ) (outcome : Outcome) (after : List Watched) (going' : OpenTurn)
@@ -146,6 +146,19 @@ later going children calls place outcome after going' c k e (rest, more, turns, 
       share_removed (same_child o.child c) c o.child k (heard_by c calls) outcome after place refl
           (ap (λ t. slice_get t place) (ap (map name_of) same ∙ names_below place row) ∙ at) (subst P (sym heard) both),
     )
+
+-- a wait keeps the names of the row
+pub names_waited : (going : OpenTurn) (children : List Watched) (calls : List Call) (place : ℕ) (outcome : Outcome) (after : List Watched) (going' : OpenTurn)
+    → WaitedOn going children calls place outcome after going' → map name_of after ≡ map name_of children
+names_waited going children calls place outcome after going' (inl (i, members, until, at, same, n, turned)) =
+    let us : List Watched = unpolled_of going children in
+    ap (map name_of) same ∙ names_part (take going.from children) (advanced_below i us) us (later_of going children) (names_below i us)
+    ∙ ap (map name_of) (cut going.from going.unpolled children)
+names_waited going children calls place outcome after going' (inr (rest, more, turns, members, eq, polled, waited, same, n, turned)) =
+    let us : List Watched = unpolled_of going children in
+    ap (map name_of) same ∙ names_below place (after_turns turns (gone_on going children)) ∙ names_turns turns (gone_on going children)
+    ∙ names_part (take going.from children) (map advanced us) us (later_of going children) (names_turn us)
+    ∙ ap (map name_of) (cut going.from going.unpolled children)
 
 pub wait_shares : WaitShares
 wait_shares going children calls place outcome after going' c k e (inl h) = in_turn going children calls place outcome after going' c k e h
