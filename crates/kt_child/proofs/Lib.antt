@@ -1,5 +1,6 @@
 pub mod BoardSteps
 pub mod Chains
+pub mod EndSilence
 pub mod EndSteps
 pub mod Mapped
 pub mod Outcomes

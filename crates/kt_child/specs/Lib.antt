@@ -3,6 +3,7 @@ pub mod Board
 pub mod Calls
 pub mod ChildOutcome
 pub mod ChildPlan
+pub mod EndShares
 pub mod Ends
 pub mod Gathering
 pub mod JobPlan
