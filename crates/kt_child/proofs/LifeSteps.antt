@@ -22,7 +22,7 @@ own_append true h xs ys = refl
 own_append false h xs ys = refl
 
 -- what is heard in calls that are joined
-heard_append : (c : Child) (xs ys : List Call) → heard_by c (xs ++ ys) ≡ heard_by c xs ++ heard_by c ys
+pub heard_append : (c : Child) (xs ys : List Call) → heard_by c (xs ++ ys) ≡ heard_by c xs ++ heard_by c ys
 heard_append c [] ys = refl
 heard_append c (Poll other answer ∷ xs) ys =
     ap (own (same_child other c) (HeardPoll answer)) (heard_append c xs ys)
@@ -50,7 +50,7 @@ both_true : (a b : Bool) → a ≡ true → b ≡ true → (a && b) ≡ true
 both_true true b p q = q
 both_true false b p q = p
 
-child_is_own : (c : Child) → same_child c c ≡ true
+pub child_is_own : (c : Child) → same_child c c ≡ true
 child_is_own c = both_true (c.attempt == c.attempt) (same_role c.role c.role) (number_is_own c.attempt) (role_is_own c.role)
 
 -- by whether a poll is followed by a kill
@@ -68,7 +68,7 @@ heard_own : (c : Child) (limit : ℕ) (w : Watch) (answer : Result Polled OsFaul
     → heard_by c (asked_by_poll c limit w answer done) ≡ heard_of limit w answer done
 heard_own c limit w answer done = asked_one (is_killed limit w answer) true c answer done (child_is_own c) refl
 
-append_none : (xs : List Heard) → xs ++ [] ≡ xs
+pub append_none : (xs : List Heard) → xs ++ [] ≡ xs
 append_none [] = refl
 append_none (x ∷ xs) = ap (λ t. x ∷ t) (append_none xs)
 

@@ -12,7 +12,7 @@ none_over zero calls outcome (before, last, e, p, q) = q
 none_over (suc i) calls outcome (before, last, e, p, q) = q
 
 -- a row that is cut and joined
-take_drop : (n : ℕ) (children : List Watched) → take n children ++ drop n children ≡ children
+pub take_drop : (n : ℕ) (children : List Watched) → take n children ++ drop n children ≡ children
 take_drop zero children = refl
 take_drop (suc n) [] = refl
 take_drop (suc n) (k ∷ children) = ap (λ t. k ∷ t) (take_drop n children)

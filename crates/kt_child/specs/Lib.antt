@@ -3,6 +3,7 @@ pub mod Board
 pub mod Calls
 pub mod ChildOutcome
 pub mod ChildPlan
+pub mod EndShares
 pub mod Ends
 pub mod Gathering
 pub mod HostAnswers
@@ -17,6 +18,7 @@ pub mod Polls
 pub mod Reads
 pub mod Roots
 pub mod ScriptLog
+pub mod SeveralLives
 pub mod Starts
 pub mod Turns
 pub mod Waits

@@ -5,7 +5,7 @@ ghost use Rattle.kt_sched.specs.Run.{Ran};
 ghost use Rattle.kt_child.specs.Calls.{Call, Chain};
 ghost use Rattle.kt_child.specs.Board.{Waited, is_among, shown_at};
 ghost use Rattle.kt_child.specs.Launches.{StartsBy};
-ghost use Rattle.kt_child.specs.Numbers.{NumbersDiffer};
+ghost use Rattle.kt_child.specs.Numbers.{NamesDiffer, NumbersDiffer};
 ghost use Rattle.kt_child.specs.declared.driver.Driver.{Driver};
 
 use crate::driver::Driver;
@@ -38,6 +38,15 @@ pub fn run_driver<O: Os + Drop, S: Sink>(
 /// The law of numbers: no two starts of bodies by a driver have the same number.
 pub fn law_of_numbers<O: Os + Drop>()
     ensures { NumbersDiffer {D = Driver O} (λ d. d.next)
+        (λ d job role answer e. StartsBy O.leads d.source d.root job role d.os d.next d.row answer e.os e.next e.row
+        × (e.source ≡ d.source) × (e.root ≡ d.root))
+        (λ d ended e. ((calls : List Call) × Chain O.leads d.os calls e.os × Waited d.row calls ended e.row)
+        × (e.source ≡ d.source) × (e.root ≡ d.root) × (e.next ≡ d.next)) }
+{}
+
+/// The law of names: where nothing ran and nothing was owed at first, the name of each child that runs is its own.
+pub fn law_of_names<O: Os + Drop>()
+    ensures { NamesDiffer {D = Driver O} (λ d. d.row)
         (λ d job role answer e. StartsBy O.leads d.source d.root job role d.os d.next d.row answer e.os e.next e.row
         × (e.source ≡ d.source) × (e.root ≡ d.root))
         (λ d ended e. ((calls : List Call) × Chain O.leads d.os calls e.os × Waited d.row calls ended e.row)

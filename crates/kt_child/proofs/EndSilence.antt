@@ -1,0 +1,87 @@
+-- What follows the last poll of a child is no poll.
+use Rattle.std.proofs.Common.{◌≡◌, ℕ, zero, suc, List, [], ◌∷◌, ◌++◌, Bool, true, false, Result, sym, ◌∙◌, ap, subst}
+use Rattle.kt_base.specs.declared.role.Role.{Role}
+use Rattle.kt_base.specs.declared.role.Role.TheVariants.{Body, Cleanup}
+use Rattle.kt_base.specs.declared.outcome.Outcome.{Outcome}
+use Rattle.kt_base.specs.declared.interface.Interface.{Interface}
+use Rattle.kt_base.specs.declared.interface.Interface.TheVariants as interface
+use Rattle.kt_claim.specs.declared.evidence.Evidence.{Evidence}
+use Rattle.kt_claim.specs.declared.evidence.Evidence.TheVariants as evidence
+use Rattle.kt_sched.specs.declared.ended.Ended.{Ended}
+use Rattle.kt_child.specs.declared.child.Child.{Child}
+use Rattle.kt_child.specs.declared.os_fault.OsFault.{OsFault}
+use Rattle.kt_child.specs.declared.file_read.FileRead.{FileRead}
+use Rattle.kt_child.specs.declared.paths.Paths.{Paths}
+use Rattle.kt_child.specs.declared.case.Case.{Case}
+use Rattle.kt_child.specs.declared.watched.Watched.{Watched}
+use Rattle.kt_child.specs.declared.next_part.NextPart.{NextPart}
+use Rattle.kt_child.specs.declared.next_part.NextPart.TheVariants.{More, All, Absent, Failed, Past}
+use Rattle.kt_child.specs.Calls.{Call, ReadFile, ReadPart}
+use Rattle.kt_child.specs.ChildOutcome.{Heard}
+use Rattle.kt_child.specs.EndShares.{EndShares}
+use Rattle.kt_child.specs.Ends.{Leaves, Removes, err_of, is_over, out_of}
+use Rattle.kt_child.specs.Gathering.{Gathers}
+use Rattle.kt_child.specs.Lives.{heard_by, same_child}
+use Rattle.kt_child.specs.Parts.{After, Reads, Whole}
+use Rattle.kt_child.specs.Reads.{bytes_of}
+use Rattle.kt_child.specs.SeveralLives.{Share}
+use Rattle.kt_child.proofs.LifeSteps.{append_none, heard_append}
+use Rattle.kt_child.proofs.SeveralWaits.{wait_shares}
+
+part_silent : (c : Child) (next : NextPart) (got path : List ℕ) (from limit : ℕ) (answer : Result FileRead OsFault) (calls : List Call) (whole : Whole) (Rest : List Call → Type 0)
+    → ((more : List Call) → Rest more → heard_by c more ≡ [])
+    → After next got (ReadPart path from limit answer) calls whole Rest → heard_by c calls ≡ []
+part_silent c More got path from limit answer calls whole Rest h (more, e, r) = ap (heard_by c) e ∙ h more r
+part_silent c All got path from limit answer calls whole Rest h (e, w) = ap (heard_by c) e
+part_silent c Absent got path from limit answer calls whole Rest h (e, w) = ap (heard_by c) e
+part_silent c Failed got path from limit answer calls whole Rest h (e, w) = ap (heard_by c) e
+part_silent c Past got path from limit answer calls whole Rest h (e, w) = ap (heard_by c) e
+
+reads_silent : (c : Child) (n : ℕ) (path : List ℕ) (part limit : ℕ) (got : List ℕ) (calls : List Call) (whole : Whole)
+    → Reads n path part limit got calls whole → heard_by c calls ≡ []
+reads_silent c zero path part limit got calls whole h = absurd h
+reads_silent c (suc n) path part limit got calls whole (answer, next, is, after) =
+    part_silent c next (got ++ bytes_of answer) path _ _ answer calls whole (λ more. Reads n path part limit (got ++ bytes_of answer) more whole)
+    (λ more r. reads_silent c n path part limit (got ++ bytes_of answer) more whole r) after
+
+gathers_silent : (c : Child) (kind : Interface) (role : Role) (paths : Paths) (calls : List Call) (told : Evidence)
+    → Gathers kind role paths calls told → heard_by c calls ≡ []
+gathers_silent c interface.Atf Body paths calls (evidence.Atf t) (parts, whole, r, is) = reads_silent c parts _ _ _ [] calls whole r
+gathers_silent c interface.Atf Body paths calls (evidence.Tap t) h = absurd h
+gathers_silent c interface.Atf Body paths calls evidence.Plain h = absurd h
+gathers_silent c interface.Tap Body paths calls (evidence.Atf t) h = absurd h
+gathers_silent c interface.Tap Body paths calls (evidence.Tap t) (parts, whole, r, is) = reads_silent c parts _ _ _ [] calls whole r
+gathers_silent c interface.Tap Body paths calls evidence.Plain h = absurd h
+gathers_silent c interface.Plain Body paths calls (evidence.Atf t) h = absurd h
+gathers_silent c interface.Plain Body paths calls (evidence.Tap t) h = absurd h
+gathers_silent c interface.Plain Body paths calls evidence.Plain h = ap (heard_by c) h
+gathers_silent c interface.Atf Cleanup paths calls (evidence.Atf t) h = absurd h
+gathers_silent c interface.Atf Cleanup paths calls (evidence.Tap t) h = absurd h
+gathers_silent c interface.Atf Cleanup paths calls evidence.Plain h = ap (heard_by c) h
+gathers_silent c interface.Tap Cleanup paths calls (evidence.Atf t) h = absurd h
+gathers_silent c interface.Tap Cleanup paths calls (evidence.Tap t) h = absurd h
+gathers_silent c interface.Tap Cleanup paths calls evidence.Plain h = ap (heard_by c) h
+gathers_silent c interface.Plain Cleanup paths calls (evidence.Atf t) h = absurd h
+gathers_silent c interface.Plain Cleanup paths calls (evidence.Tap t) h = absurd h
+gathers_silent c interface.Plain Cleanup paths calls evidence.Plain h = ap (heard_by c) h
+
+removes_silent : (c : Child) (b : Bool) (dir : List ℕ) (calls : List Call) → Removes b dir calls → heard_by c calls ≡ []
+removes_silent c true dir calls (done, e) = ap (heard_by c) e
+removes_silent c false dir calls e = ap (heard_by c) e
+
+leaves_silent : (c : Child) (case : Case) (calls : List Call) (outcome : Outcome) (ended : Ended) → Leaves case calls outcome ended → heard_by c calls ≡ []
+leaves_silent c case calls outcome ended (now, reads, out, err, last, e, gathers, removes, position, role, over, o, r, moment) =
+    ap (heard_by c) e
+    ∙ heard_append c reads (ReadFile (out_of case.role case.paths) 65536 out ∷ ReadFile (err_of case.role case.paths) 65536 err ∷ last)
+    ∙ ap (λ t. t ++ heard_by c last) (gathers_silent c case.interface case.role case.paths reads ended.evidence gathers)
+    ∙ removes_silent c (is_over case) case.paths.dir last removes
+
+pub end_shares : EndShares
+end_shares old new calls e c k own (polls, rest, place, outcome, after, case, eq, waited, at, leaves, ch, ca, pe) =
+    let w = wait_shares old.going old.children polls place outcome after new.going c k own waited in
+    let f : heard_by c calls ≡ heard_by c polls =
+    ap (heard_by c) eq ∙ heard_append c polls rest ∙ ap (λ t. heard_by c polls ++ t) (leaves_silent c case rest outcome e leaves) ∙ append_none (heard_by c polls) in
+    let P : List Heard → Type 0 = λ t. Share c (same_child w.0 c) k t e.outcome new.children in
+    let Q : Outcome → Type 0 = λ t. Share c (same_child w.0 c) k (heard_by c polls) t new.children in
+    let R : List Watched → Type 0 = λ t. Share c (same_child w.0 c) k (heard_by c polls) outcome t in
+    (place, w.0, case, w.1, at, leaves.8, leaves.9, subst P (sym f) (subst Q (sym leaves.10) (subst R (sym ch) w.2)))

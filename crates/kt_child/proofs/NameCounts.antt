@@ -1,0 +1,105 @@
+-- How often a number stands among cases, and what a name of its own follows from.
+use Rattle.std.proofs.Common.{◌≡◌, ℕ, zero, suc, ◌+◌, ◌≤◌, ◌==◌, ◌&&◌, List, [], ◌∷◌, ◌++◌, Bool, true, false, Some, ◌⊎◌, map, slice_get, refl, sym, ◌∙◌, ap, arith, inl, inr}
+use Rattle.std.specs.Prelude.{remove}
+use Rattle.std.proofs.lemmas.Bool.Decides.{nat_tests}
+use Rattle.kt_sched.specs.Children.{same_role}
+use Rattle.kt_child.specs.declared.child.Child.{Child}
+use Rattle.kt_child.specs.declared.watched.Watched.{Watched}
+use Rattle.kt_child.specs.declared.case.Case.{Case}
+use Rattle.kt_child.specs.Board.{one_if}
+use Rattle.kt_child.specs.Lives.{same_child}
+use Rattle.kt_child.specs.SeveralLives.{kept, name_of, named}
+use Rattle.kt_child.proofs.LifeSteps.{child_is_own}
+use Rattle.kt_child.proofs.Places.{some_is}
+
+-- the name of a case's child
+abbrev pub case_name : Case → Child
+case_name c = record { attempt = c.attempt; role = c.role }
+
+-- how many of these cases have this number
+abbrev pub numbered : ℕ → List Case → ℕ
+numbered n [] = 0
+numbered n (c ∷ cases) = one_if (n == c.attempt) + numbered n cases
+
+pub numbered_more : (n : ℕ) (cases : List Case) (c : Case) → numbered n (cases ++ c ∷ []) ≡ numbered n cases + one_if (n == c.attempt)
+numbered_more n [] c = omega arith
+numbered_more n (x ∷ cases) c = let h = numbered_more n cases c in omega (arith, h)
+
+pub numbered_less : (n : ℕ) (cases : List Case) (place : ℕ) (c : Case) → slice_get cases place ≡ Some c
+    → numbered n (remove cases place) + one_if (n == c.attempt) ≡ numbered n cases
+numbered_less n [] place c at = let no : ⊥ = cc in absurd no
+numbered_less n (x ∷ cases) zero c at =
+    let same : x ≡ c = cc in
+    let f : one_if (n == x.attempt) ≡ one_if (n == c.attempt) = ap (λ t. one_if (n == t.attempt)) same in
+    omega (arith, f)
+numbered_less n (x ∷ cases) (suc place) c at = let h = numbered_less n cases place c at in omega (arith, h)
+
+pub one_or : (a b : ℕ) → (one_if (a == b) ≡ 0) ⊎ ((one_if (a == b) ≡ 1) × (a ≡ b))
+one_or a b = by (a == b) refl
+  where
+    by : (t : Bool) → (a == b) ≡ t → (one_if (a == b) ≡ 0) ⊎ ((one_if (a == b) ≡ 1) × (a ≡ b))
+    by true e = inr (ap one_if e, grind (arith, nat_tests))
+    by false e = inl (ap one_if e)
+
+own_number : (n : ℕ) → one_if (n == n) ≡ 1
+own_number n = let e : (n == n) ≡ true = grind (arith, nat_tests) in ap one_if e
+
+apart : (a b : ℕ) → one_if (a == b) ≡ 0 → (b == a) ≡ false
+apart a b h = by (a == b) refl
+  where
+    by : (t : Bool) → (a == b) ≡ t → (b == a) ≡ false
+    by true e = let one : one_if (a == b) ≡ 1 = ap one_if e in absurd (omega (arith, one, h))
+    by false e = grind (arith, nat_tests)
+
+names_head : (x y : Child) (xs ys : List Child) → x ∷ xs ≡ y ∷ ys → x ≡ y
+names_head x y xs ys e = cc
+
+names_tail : (x y : Child) (xs ys : List Child) → x ∷ xs ≡ y ∷ ys → xs ≡ ys
+names_tail x y xs ys e = cc
+
+-- a child of another number has another name
+other_name : (a d : Child) (n : ℕ) → d.attempt ≡ n → one_if (a.attempt == n) ≡ 0 → same_child d a ≡ false
+other_name a d n e h =
+    let f : (d.attempt == a.attempt) ≡ false = ap (λ t. t == a.attempt) e ∙ apart a.attempt n h in
+    ap (λ t. t && same_role d.role a.role) f
+
+none_named : (a : Child) (ks : List Watched) (cs : List Case) → map name_of ks ≡ map case_name cs → numbered a.attempt cs ≡ 0 → named a ks ≡ []
+none_named a [] cs e h = refl
+none_named a (k ∷ ks) [] e h = let no : ⊥ = cc in absurd no
+none_named a (k ∷ ks) (c ∷ cs) e h =
+    let f : k.child ≡ case_name c = names_head k.child (case_name c) (map name_of ks) (map case_name cs) e in
+    let g : same_child k.child a ≡ false = other_name a k.child c.attempt (ap (λ t. t.attempt) f) (omega (arith, h)) in
+    ap (λ t. kept t k (named a ks)) g ∙ none_named a ks cs (names_tail k.child (case_name c) (map name_of ks) (map case_name cs) e) (omega (arith, h))
+
+counted : (i : ℕ) (ks : List Watched) (cs : List Case) (k : Watched) → map name_of ks ≡ map case_name cs → slice_get ks i ≡ Some k
+    → 1 ≤ numbered k.child.attempt cs
+counted i [] cs k e at = let no : ⊥ = cc in absurd no
+counted i (j ∷ ks) [] k e at = let no : ⊥ = cc in absurd no
+counted zero (j ∷ ks) (c ∷ cs) k e at =
+    let f : j.child ≡ case_name c = names_head j.child (case_name c) (map name_of ks) (map case_name cs) e in
+    let g : k.child.attempt ≡ c.attempt = ap (λ t. t.child.attempt) (sym (some_is j k at)) ∙ ap (λ t. t.attempt) f in
+    let one : one_if (k.child.attempt == c.attempt) ≡ 1 = ap (λ t. one_if (k.child.attempt == t)) (sym g) ∙ own_number k.child.attempt in
+    omega (arith, one)
+counted (suc i) (j ∷ ks) (c ∷ cs) k e at =
+    let h = counted i ks cs k (names_tail j.child (case_name c) (map name_of ks) (map case_name cs) e) at in
+    omega (arith, h)
+
+-- a child whose number stands once has a name of its own
+pub own_named : (i : ℕ) (ks : List Watched) (cs : List Case) (k : Watched) → map name_of ks ≡ map case_name cs → slice_get ks i ≡ Some k
+    → numbered k.child.attempt cs ≤ 1 → named k.child ks ≡ k ∷ []
+own_named i [] cs k e at h = let no : ⊥ = cc in absurd no
+own_named i (j ∷ ks) [] k e at h = let no : ⊥ = cc in absurd no
+own_named zero (j ∷ ks) (c ∷ cs) k e at h =
+    let f : j.child ≡ case_name c = names_head j.child (case_name c) (map name_of ks) (map case_name cs) e in
+    let s : j ≡ k = some_is j k at in
+    let g : k.child.attempt ≡ c.attempt = ap (λ t. t.child.attempt) (sym s) ∙ ap (λ t. t.attempt) f in
+    let one : one_if (k.child.attempt == c.attempt) ≡ 1 = ap (λ t. one_if (k.child.attempt == t)) (sym g) ∙ own_number k.child.attempt in
+    let none : named k.child ks ≡ [] = none_named k.child ks cs (names_tail j.child (case_name c) (map name_of ks) (map case_name cs) e) (omega (arith, one, h)) in
+    let own : same_child j.child k.child ≡ true = ap (λ t. same_child t.child k.child) s ∙ child_is_own k.child in
+    ap (λ t. kept t j (named k.child ks)) own ∙ ap (λ t. j ∷ t) none ∙ ap (λ t. t ∷ []) s
+own_named (suc i) (j ∷ ks) (c ∷ cs) k e at h =
+    let f : j.child ≡ case_name c = names_head j.child (case_name c) (map name_of ks) (map case_name cs) e in
+    let t : map name_of ks ≡ map case_name cs = names_tail j.child (case_name c) (map name_of ks) (map case_name cs) e in
+    let m = counted i ks cs k t at in
+    let g : same_child j.child k.child ≡ false = other_name k.child j.child c.attempt (ap (λ u. u.attempt) f) (omega (arith, m, h)) in
+    ap (λ u. kept u j (named k.child ks)) g ∙ own_named i ks cs k t at (omega (arith, h))

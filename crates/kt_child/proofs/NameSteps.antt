@@ -1,0 +1,146 @@
+-- The names of a driver's row stay apart.
+use Rattle.std.proofs.Common.{◌≡◌, ℕ, zero, suc, ◌+◌, ◌≤◌, ◌==◌, List, [], ◌∷◌, ◌++◌, Bool, true, false, Some, ◌⊎◌, map, slice_get, refl, sym, ◌∙◌, ap, subst, arith, inl, inr, if◌then◌else◌}
+use Rattle.std.specs.Prelude.{remove}
+use Rattle.kt_base.specs.declared.role.Role.{Role}
+use Rattle.kt_base.specs.declared.role.Role.TheVariants.{Body, Cleanup}
+use Rattle.kt_sched.specs.declared.job.Job.{Job}
+use Rattle.kt_sched.specs.declared.start_answer.StartAnswer.{StartAnswer}
+use Rattle.kt_sched.specs.declared.start_answer.StartAnswer.TheVariants.{Started as StartedAt, Refused as RefusedFor}
+use Rattle.kt_sched.specs.declared.ended.Ended.{Ended}
+use Rattle.kt_sched.specs.Trace.{Trace, NoEvent, Then, Start, End, Leads}
+use Rattle.kt_child.specs.declared.paths.Paths.{Paths}
+use Rattle.kt_child.specs.declared.watched.Watched.{Watched}
+use Rattle.kt_child.specs.declared.case.Case.{Case}
+use Rattle.kt_child.specs.Calls.{Call}
+use Rattle.kt_child.specs.Board.{Board, Waited, one_if, pending_with}
+use Rattle.kt_child.specs.Begins.{board_after_start}
+use Rattle.kt_child.specs.Ends.{is_over}
+use Rattle.kt_child.specs.JobPlan.{case_of, cleaning, watched_of}
+use Rattle.kt_child.specs.ChildPlan.{paths_of}
+use Rattle.kt_child.specs.Launches.{StartsBy}
+use Rattle.kt_child.specs.Numbers.{IsBare, NamesDiffer}
+use Rattle.kt_child.specs.SeveralLives.{name_of}
+use Rattle.kt_child.proofs.NameCounts.{case_name, numbered, numbered_less, numbered_more, one_or, own_named}
+use Rattle.kt_child.proofs.RowNames.{names_append}
+use Rattle.kt_child.proofs.SeveralWaits.{names_waited}
+
+-- each child is that of its case, each number stands once at most, and none from the next on
+abbrev pub Apart : ℕ → Board → Type 0
+Apart next b =
+    (map name_of b.children ≡ map case_name b.cases)
+    × ((n : ℕ) → (numbered n b.cases + numbered n b.pending ≤ 1) × (next ≤ n → numbered n b.cases + numbered n b.pending ≡ 0))
+
+cases_append : (xs ys : List Case) → map case_name (xs ++ ys) ≡ map case_name xs ++ map case_name ys
+cases_append [] ys = refl
+cases_append (x ∷ xs) ys = ap (λ t. case_name x ∷ t) (cases_append xs ys)
+
+names_more : (ks : List Watched) (cs : List Case) (k : Watched) (c : Case) → map name_of ks ≡ map case_name cs → k.child ≡ case_name c
+    → map name_of (ks ++ k ∷ []) ≡ map case_name (cs ++ c ∷ [])
+names_more ks cs k c e f =
+    names_append ks (k ∷ []) ∙ ap (λ t. t ++ k.child ∷ []) e ∙ ap (λ t. map case_name cs ++ t ∷ []) f ∙ sym (cases_append cs (c ∷ []))
+
+-- a body that takes the next number
+body_more : (next : ℕ) (b : Board) (job : Job) (p : Paths) (answer : StartAnswer) → Apart next b
+    → Apart (next + 1) (board_after_start b (watched_of job Body next) (case_of job next p) answer)
+body_more next b job p (RefusedFor cause) (e, h) = (e, λ n. let m = h n in (m.0, λ le. m.1 (omega arith)))
+body_more next b job p (StartedAt moment) (e, h) =
+    (names_more b.children b.cases (watched_of job Body next) (case_of job next p) e refl, λ n. count n (one_or n next))
+  where
+    count : (n : ℕ) → (one_if (n == next) ≡ 0) ⊎ ((one_if (n == next) ≡ 1) × (n ≡ next))
+        → (numbered n (b.cases ++ case_of job next p ∷ []) + numbered n b.pending ≤ 1)
+        × (next + 1 ≤ n → numbered n (b.cases ++ case_of job next p ∷ []) + numbered n b.pending ≡ 0)
+    count n (inl z) =
+        let s = numbered_more n b.cases (case_of job next p) in
+        let m = h n in
+        let l = m.0 in
+        (omega (arith, s, z, l), λ le. let y = m.1 (omega arith) in omega (arith, s, z, y))
+    count n (inr (z, same)) =
+        let s = numbered_more n b.cases (case_of job next p) in
+        let m = h n in
+        let y = m.1 (omega arith) in
+        (omega (arith, s, z, y), λ le. absurd (omega (arith, le, same)))
+
+-- a cleanup, which has the number that was owed
+cleanup_more : (next : ℕ) (b : Board) (job : Job) (place : ℕ) (c : Case) (answer : StartAnswer) → slice_get b.pending place ≡ Some c → Apart next b
+    → Apart next (board_after_start (record { children = b.children; cases = b.cases; going = b.going; pending = remove b.pending place })
+    (watched_of job Cleanup c.attempt) (cleaning c job) answer)
+cleanup_more next b job place c (RefusedFor cause) at (e, h) =
+    (e, λ n. let s = numbered_less n b.pending place c at in let m = h n in let l = m.0 in (omega (arith, s, l), λ le. let y = m.1 le in omega (arith, s, y)))
+cleanup_more next b job place c (StartedAt moment) at (e, h) = (
+  names_more b.children b.cases (watched_of job Cleanup c.attempt) (cleaning c job) e refl,
+  λ n.
+      let r = numbered_less n b.pending place c at in
+      let s = numbered_more n b.cases (cleaning c job) in
+      let m = h n in
+      let l = m.0 in
+      (omega (arith, r, s, l), λ le. let y = m.1 le in omega (arith, r, s, y)),
+)
+
+pub start_apart : {O : Type 0} (leads : O → Call → O → Type 0) (source root : List ℕ) (job : Job) (role : Role) (os : O) (next : ℕ) (b : Board) (answer : StartAnswer) (os' : O) (next' : ℕ) (b' : Board)
+    → StartsBy leads source root job role os next b answer os' next' b' → Apart next b → Apart next' b'
+start_apart leads source root job Body os next b answer os' next' b' (inl (e, told, s, f, same)) h =
+    let P : Board → Type 0 = λ t. Apart next' t in
+    let Q : ℕ → Type 0 = λ t. Apart t b in
+    subst P (sym same) (subst Q (sym f) h)
+start_apart leads source root job Body os next b answer os' next' b' (inr (l, e, more, same)) h =
+    let P : Board → Type 0 = λ t. Apart (next + 1) t in
+    let Q : ℕ → Type 0 = λ t. Apart t b' in
+    subst Q (sym e) (subst P (sym same) (body_more next b job (paths_of root next) answer h))
+start_apart leads source root job Cleanup os next b answer os' next' b' (place, c, at, position, e, more, same) h =
+    let P : Board → Type 0 = λ t. Apart next t in
+    let Q : ℕ → Type 0 = λ t. Apart t b' in
+    subst Q (sym e) (subst P (sym same) (cleanup_more next b job place c answer at h))
+
+map_remove : {X Y : Type 0} (f : X → Y) (xs : List X) (i : ℕ) → map f (remove xs i) ≡ remove (map f xs) i
+map_remove f [] zero = refl
+map_remove f [] (suc i) = refl
+map_remove f (x ∷ xs) zero = refl
+map_remove f (x ∷ xs) (suc i) = ap (λ t. f x ∷ t) (map_remove f xs i)
+
+-- what is owed after an end has the number once more at most
+owed : (n : ℕ) (c : Case) (pending : List Case) → numbered n (pending_with c pending) ≤ numbered n pending + one_if (n == c.attempt)
+owed n c pending = by (is_over c)
+  where
+    by : (t : Bool) → numbered n (if t then pending else pending ++ c ∷ []) ≤ numbered n pending + one_if (n == c.attempt)
+    by true = omega arith
+    by false = let s = numbered_more n pending c in omega (arith, s)
+
+pub wait_apart : (old new : Board) (calls : List Call) (ended : Ended) (next : ℕ) → Waited old calls ended new → Apart next old → Apart next new
+wait_apart old new calls ended next (polls, rest, place, outcome, after, c, eq, waited, at, leaves, ch, ca, pe) (e, h) =
+    let names : map name_of after ≡ map name_of old.children = names_waited old.going old.children polls place outcome after new.going waited in
+    let l : map name_of new.children ≡ remove (map name_of old.children) place = ap (map name_of) ch ∙ map_remove name_of after place ∙ ap (λ t. remove t place) names in
+    let r : map case_name new.cases ≡ remove (map case_name old.cases) place = ap (map case_name) ca ∙ map_remove case_name old.cases place in (
+      l ∙ ap (λ t. remove t place) e ∙ sym r,
+      λ n.
+          let s = numbered_less n old.cases place c at in
+          let a = ap (numbered n) ca in
+          let p = ap (numbered n) pe in
+          let o = owed n c old.pending in
+          let m = h n in
+          let one = m.0 in
+          (omega (arith, s, a, p, o, one), λ le. let y = m.1 le in omega (arith, s, a, p, o, y)),
+    )
+
+trace_apart : {D : Type 0} (next : D → ℕ) (row : D → Board) (starts : D → Job → Role → StartAnswer → D → Type 0) (waits : D → Ended → D → Type 0)
+    → ((d e : D) (job : Job) (role : Role) (answer : StartAnswer) → starts d job role answer e → Apart (next d) (row d) → Apart (next e) (row e))
+    → ((d e : D) (ended : Ended) → waits d ended e → Apart (next d) (row d) → Apart (next e) (row e))
+    → (plan : List Job) (T : Trace) (d e : D) → Leads starts waits plan T d e → Apart (next d) (row d) → Apart (next e) (row e)
+trace_apart {D} next row starts waits s w plan NoEvent d e h a = let P : D → Type 0 = λ t. Apart (next t) (row t) in subst P (sym h) a
+trace_apart next row starts waits s w plan (Then T (Start i role answer)) d e (mid, job, led, at, started) a =
+    s mid e job role answer started (trace_apart next row starts waits s w plan T d mid led a)
+trace_apart next row starts waits s w plan (Then T (End ended)) d e (mid, led, waited) a =
+    w mid e ended waited (trace_apart next row starts waits s w plan T d mid led a)
+
+none_yet : (next : ℕ) (b : Board) → IsBare b → Apart next b
+none_yet next b (x, y, z) =
+    (ap (map name_of) x ∙ sym (ap (map case_name) y), λ n. let p = ap (numbered n) y in let q = ap (numbered n) z in (omega (arith, p, q), λ le. omega (arith, p, q)))
+
+pub names_differ : {D : Type 0} (next : D → ℕ) (row : D → Board) (starts : D → Job → Role → StartAnswer → D → Type 0) (waits : D → Ended → D → Type 0)
+    → ((d e : D) (job : Job) (role : Role) (answer : StartAnswer) → starts d job role answer e → Apart (next d) (row d) → Apart (next e) (row e))
+    → ((d e : D) (ended : Ended) → waits d ended e → Apart (next d) (row d) → Apart (next e) (row e))
+    → NamesDiffer row starts waits
+names_differ next row starts waits s w plan T d e place k bare led at =
+    let a : Apart (next e) (row e) = trace_apart next row starts waits s w plan T d e led (none_yet (next d) (row d) bare) in
+    let m = a.1 k.child.attempt in
+    let one = m.0 in
+    own_named place (row e).children (row e).cases k a.0 at (omega (arith, one))

@@ -1,0 +1,70 @@
+-- The names of a row, which polls keep.
+use Rattle.std.proofs.Common.{◌≡◌, ℕ, zero, suc, ◌+◌, List, [], ◌∷◌, ◌++◌, Bool, true, false, Some, map, take, drop, slice_get, refl, sym, ◌∙◌, ap, arith}
+use Rattle.std.specs.Prelude.{remove}
+use Rattle.kt_base.specs.declared.outcome.Outcome.{Outcome}
+use Rattle.kt_child.specs.declared.child.Child.{Child}
+use Rattle.kt_child.specs.declared.watched.Watched.{Watched}
+use Rattle.kt_child.specs.ChildOutcome.{Heard}
+use Rattle.kt_child.specs.Lives.{same_child}
+use Rattle.kt_child.specs.SeveralLives.{Share, kept, name_of, named}
+use Rattle.kt_child.specs.Turns.{advanced, advanced_below, after_turns}
+use Rattle.kt_child.proofs.Places.{some_is}
+
+pub name_at : (i : ℕ) (ks : List Watched) (o : Watched) → slice_get ks i ≡ Some o → slice_get (map name_of ks) i ≡ Some o.child
+name_at i [] o e = let no : ⊥ = cc in absurd no
+name_at zero (k ∷ ks) o e = ap (λ t. Some (name_of t)) (some_is k o e)
+name_at (suc i) (k ∷ ks) o e = name_at i ks o e
+
+pub names_below : (n : ℕ) (ks : List Watched) → map name_of (advanced_below n ks) ≡ map name_of ks
+names_below zero ks = refl
+names_below (suc n) [] = refl
+names_below (suc n) (k ∷ ks) = ap (λ t. k.child ∷ t) (names_below n ks)
+
+pub names_turn : (ks : List Watched) → map name_of (map advanced ks) ≡ map name_of ks
+names_turn [] = refl
+names_turn (k ∷ ks) = ap (λ t. k.child ∷ t) (names_turn ks)
+
+pub names_turns : (n : ℕ) (ks : List Watched) → map name_of (after_turns n ks) ≡ map name_of ks
+names_turns zero ks = refl
+names_turns (suc n) ks = names_turns n (map advanced ks) ∙ names_turn ks
+
+pub names_append : (xs ys : List Watched) → map name_of (xs ++ ys) ≡ map name_of xs ++ map name_of ys
+names_append [] ys = refl
+names_append (x ∷ xs) ys = ap (λ t. x.child ∷ t) (names_append xs ys)
+
+-- a row with another part of the same names
+pub names_part : (hs us vs ls : List Watched) → map name_of us ≡ map name_of vs → map name_of (hs ++ (us ++ ls)) ≡ map name_of (hs ++ (vs ++ ls))
+names_part hs us vs ls e =
+    names_append hs (us ++ ls)
+    ∙ ap (λ t. map name_of hs ++ t) (names_append us ls ∙ ap (λ t. t ++ map name_of ls) e ∙ sym (names_append vs ls))
+    ∙ sym (names_append hs (vs ++ ls))
+
+taken_at : (u : ℕ) (ks : List Watched) (i : ℕ) (o : Watched) → slice_get (take u ks) i ≡ Some o → slice_get ks i ≡ Some o
+taken_at zero ks i o e = let no : ⊥ = cc in absurd no
+taken_at (suc u) [] i o e = e
+taken_at (suc u) (k ∷ ks) zero o e = e
+taken_at (suc u) (k ∷ ks) (suc i) o e = taken_at u ks i o e
+
+dropped_at : (f : ℕ) (ks : List Watched) (i : ℕ) (o : Watched) → slice_get (drop f ks) i ≡ Some o → slice_get ks (f + i) ≡ Some o
+dropped_at zero ks i o e = let s : zero + i ≡ i = omega arith in ap (slice_get ks) s ∙ e
+dropped_at (suc f) [] i o e = let no : ⊥ = cc in absurd no
+dropped_at (suc f) (k ∷ ks) i o e = let s : suc f + i ≡ suc (f + i) = omega arith in ap (slice_get (k ∷ ks)) s ∙ dropped_at f ks i o e
+
+-- where a child of a part stands in the row
+pub part_at : (f u : ℕ) (ks : List Watched) (i : ℕ) (o : Watched) → slice_get (take u (drop f ks)) i ≡ Some o → slice_get ks (f + i) ≡ Some o
+part_at f u ks i o e = dropped_at f ks i o (taken_at u (drop f ks) i o e)
+
+-- a row without a child of another name
+removed : (c over : Child) (row : List Watched) (place : ℕ) → slice_get (map name_of row) place ≡ Some over → same_child over c ≡ false
+    → named c (remove row place) ≡ named c row
+removed c over [] place at other = let no : ⊥ = cc in absurd no
+removed c over (k ∷ row) zero at other =
+    let same : k.child ≡ over = cc in
+    sym (ap (λ t. kept t k (named c row)) (ap (λ t. same_child t c) same ∙ other))
+removed c over (k ∷ row) (suc place) at other = ap (kept (same_child k.child c) k) (removed c over row place at other)
+
+pub share_removed : (b : Bool) (c over : Child) (k : Watched) (heard : List Heard) (outcome : Outcome) (row : List Watched) (place : ℕ)
+    → same_child over c ≡ b → slice_get (map name_of row) place ≡ Some over
+    → Share c b k heard outcome row → Share c b k heard outcome (remove row place)
+share_removed true c over k heard outcome row place same at h = h
+share_removed false c over k heard outcome row place same at (new, g, e) = (new, g, removed c over row place at same ∙ e)
