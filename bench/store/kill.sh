@@ -26,6 +26,7 @@ printf "syntax(2)\ntest_suite('s')\nplain_test_program{name='c0'}\n" > One
 "$kyua" report -r x.db --run=1 --results-filter=passed > before
 
 for wanted in 1 20 90 150; do
+    : > lines
     "$kyua" test -k Kyuafile -r x.db > lines &
     pid=$!
     until [ "$(wc -l < lines)" -ge $wanted ]; do
