@@ -3,23 +3,9 @@
 # file, the older run stays as it was, and the killed one is unfinished.
 # The program is crates/kyua/out/kyua, unless another one is named.
 set -eu
-here=$(cd "$(dirname "$0")/../.." && pwd)
-kyua=${1:-$here/crates/kyua/out/kyua}
-scratch=$(mktemp -d)
-trap 'rm -rf "$scratch"' EXIT
-cd "$scratch"
+. "$(dirname "$0")/common.sh"
 
-{
-    echo 'syntax(2)'
-    echo "test_suite('s')"
-    i=0
-    while [ $i -lt 200 ]; do
-        printf '#!/bin/sh\nexit 0\n' > "c$i"
-        chmod +x "c$i"
-        echo "plain_test_program{name='c$i'}"
-        i=$((i + 1))
-    done
-} > Kyuafile
+make_suite 200
 printf "syntax(2)\ntest_suite('s')\nplain_test_program{name='c0'}\n" > One
 
 "$kyua" test -k One -r x.db > first

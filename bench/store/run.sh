@@ -3,23 +3,9 @@
 # in how much memory runs of 1,000, 10,000 and 100,000 entries are reported.
 # The program is crates/kyua/out/kyua, unless another one is named. It wants sqlite3 and GNU time.
 set -eu
-here=$(cd "$(dirname "$0")/../.." && pwd)
-kyua=${1:-$here/crates/kyua/out/kyua}
-scratch=$(mktemp -d)
-trap 'rm -rf "$scratch"' EXIT
-cd "$scratch"
+. "$(dirname "$0")/common.sh"
 
-{
-    echo 'syntax(2)'
-    echo "test_suite('s')"
-    i=0
-    while [ $i -lt 1000 ]; do
-        printf '#!/bin/sh\nexit 0\n' > "c$i"
-        chmod +x "c$i"
-        echo "plain_test_program{name='c$i'}"
-        i=$((i + 1))
-    done
-} > Kyuafile
+make_suite 1000
 /usr/bin/time -f 'a recorded run of 1,000 programs: %e s, %U s and %S s of a processor, %M KiB' "$kyua" test -r x.db > told
 
 {

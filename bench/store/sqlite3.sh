@@ -2,11 +2,7 @@
 # Says whether kyua and the real sqlite3 read each other's files: one made by sqlite3 with the same tables is shown by
 # kyua, and is whole afterwards. The program is crates/kyua/out/kyua, unless another one is named.
 set -eu
-here=$(cd "$(dirname "$0")/../.." && pwd)
-kyua=${1:-$here/crates/kyua/out/kyua}
-scratch=$(mktemp -d)
-trap 'rm -rf "$scratch"' EXIT
-cd "$scratch"
+. "$(dirname "$0")/common.sh"
 
 sqlite3 made.db <<'SQL'
 CREATE TABLE meta (name TEXT PRIMARY KEY, value INTEGER NOT NULL) STRICT;
