@@ -1,5 +1,5 @@
 -- The rows of a list of runs.
-use Rattle.std.specs.Prelude.{◌≡◌, ℕ, zero, suc, nat_lt, nat_le, ◌==◌, slice_get, Option, None, ◌<◌, ◌≤◌, ℤ, pos, Bool, true, false, if◌then◌else◌, List, [], ◌∷◌, length, map, drop, flat_map, Some, codes, IsPermutation, ⊤}
+use Rattle.std.specs.Prelude.{◌≡◌, ℕ, zero, suc, nat_lt, nat_le, ◌==◌, slice_get, Option, None, ◌<◌, ◌≤◌, ℤ, pos, Bool, true, false, if◌then◌else◌, List, [], ◌∷◌, length, map, drop, flat_map, Some, codes, IsPermutation, ⊤, ◌⊎◌}
 use Rattle.std.specs.List.{AllByRecursion, list_any}
 use Rattle.sqlite.specs.declared.types.Value.TheVariants.{Null, Int, Text, Blob}
 use Rattle.sqlite.specs.Order.{Row}
@@ -79,6 +79,11 @@ pub record Tables (db : Database) (runs : List Run) : Type 0 where
 -- what a crash left opens as a database with these runs
 abbrev pub Keeps : List Run → Trees → Type 0
 Keeps runs trees = (db : Database) × IsDatabase db × (trees ≡ db.trees) × Tables db runs
+
+-- with the runs of one of these lists
+abbrev pub KeepsOne : List (List Run) → Trees → Type 0
+KeepsOne [] trees = ⊥
+KeepsOne (runs ∷ others) trees = Keeps runs trees ⊎ KeepsOne others trees
 
 abbrev pub new_run : List Run → ℕ → ℕ → Run
 new_run runs total started = record { number = suc (length runs); started = started; total = total; finished = false; entries = [] }

@@ -130,6 +130,7 @@ pub(crate) fn settle<S: Alter>(conn: &mut Connection<S>) -> Result<(), StoreFaul
     requires { conn.old.in_transaction ≡ false }
     ensures made { IsEmpty (state S.Store conn.old) → OnOk result (StandsFor (state S.Store conn.new) []) }
     ensures made_kept { IsEmpty (state S.Store conn.old) → OnErr result (IsEmpty (state S.Store conn.new)) }
+    ensures made_taken { IsEmpty (state S.Store conn.old) → HasCleanDisk (state S.Store conn.new) → IfErr result IsStoreFault }
     ensures stands { (runs : _) → StandsFor (state S.Store conn.old) runs → StandsFor (state S.Store conn.new) runs }
     ensures made_crash { IsEmpty (state S.Store conn.old) → Survives (state S.Store conn.old) (state S.Store conn.new) (Keeps []) }
     ensures crash { (runs : _) → StandsFor (state S.Store conn.old) runs → Survives (state S.Store conn.old) (state S.Store conn.new) (λ _. ⊥) }

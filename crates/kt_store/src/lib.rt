@@ -4,6 +4,7 @@
 mod attach;
 mod begin;
 mod close;
+mod crashes;
 mod entries;
 mod heads;
 mod lookup;
@@ -15,6 +16,7 @@ mod statements;
 mod store_fault;
 mod value;
 
+pub use crashes::law_of_crashes;
 pub use results::Results;
 pub use run_head::RunHead;
 pub use store_fault::StoreFault;

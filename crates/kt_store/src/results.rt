@@ -60,6 +60,7 @@ impl<S: Alter> Results<S> {
         ensures made_crash_err { IsEmpty (state S.Store connection) → IfErr result (λ e. Survives (state S.Store connection) (state S.Store e.1) (Keeps [])) }
         ensures durable { IsEmpty (state S.Store connection) → IfOk result (λ r. Leaves (state S.Store r) (Keeps [])) }
         ensures made_kept { IsEmpty (state S.Store connection) → IfErr result (λ e. IsEmpty (state S.Store e.1)) }
+        ensures made_taken { IsEmpty (state S.Store connection) → IfErr result (λ e. HasCleanDisk (state S.Store e.1) → IsStoreFault e.0) }
         // Tables that say another number are refused.
         ensures unknown { (n : ℤ) → SaysSchema n (state S.Store connection) → n ≢ pos 1 → IfOk result (λ r. HasCleanDisk (state S.Store r) → ⊥) }
         ensures untouched { (n : ℤ) → SaysSchema n (state S.Store connection) → IfErr result (λ e. HasCleanDisk (state S.Store e.1) → Rests (state S.Store connection) (state S.Store e.1)) }

@@ -138,13 +138,16 @@ fn refusals_come_in_their_order_and_entries_come_back(rt: HostRuntime) -> Result
     Ok(())
 }
 
-fn open(alloc: Global, files: Files<Fused>) -> Option<Connection<FileStore<Fused>>>
+/// Opens files whose log is copied into the database file once it has so many frames.
+fn open(alloc: Global, files: Files<Fused>, frames: usize) -> Option<Connection<FileStore<Fused>>>
     ensures { IfSome result (λ c. c.in_transaction ≡ false) }
 {
     if !files.may_be_used() {
         return None;
     }
-    match Connection::open_files(alloc, files, Options::new(1)) {
+    let mut options = Options::new(1);
+    options.checkpoint_frames = frames;
+    match Connection::open_files(alloc, files, options) {
         Ok(conn) => Some(conn),
         Err(_) => None,
     }
@@ -156,30 +159,44 @@ fn crashed(mut files: Files<Fused>) -> Files<Fused> {
     files
 }
 
-/// Attaches, begins, puts and finishes up to the first refusal: how many calls were done, and what they left.
-fn worked(alloc: Global, files: Files<Fused>) -> Result<Option<(i64, Files<Fused>)>, Fail> {
-    let Some(conn) = open(alloc, files) else {
+/// Begins a run, puts its entry and finishes it, up to the first refusal: how many calls were done before it.
+fn work<S: Alter>(results: &mut Results<S>, only: &Entry) -> Result<(), (i64, StoreFault)>
+    requires { (only.now.started ≤ 253402300799999) × (only.now.millis ≤ 253402300799999) }
+{
+    if let Err(fault) = results.begin(1, 5) {
+        return Err((1, fault));
+    }
+    if let Err(fault) = results.put(1, only) {
+        return Err((2, fault));
+    }
+    if let Err(fault) = results.finish(1) {
+        return Err((3, fault));
+    }
+    Ok(())
+}
+
+/// Attaches and works: how many calls were done, why the next was refused, and what they left.
+fn worked(
+    alloc: Global,
+    files: Files<Fused>,
+    frames: usize,
+) -> Result<Option<(i64, Option<StoreFault>, Files<Fused>)>, Fail> {
+    let Some(conn) = open(alloc, files, frames) else {
         return Ok(None);
     };
     let mut results = match Results::attach(alloc, conn) {
         Ok(results) => results,
-        Err((_, conn)) => return Ok(Some((0, conn.into_store().close()))),
+        Err((fault, conn)) => return Ok(Some((0, Some(fault), conn.into_store().close()))),
     };
     let only = entry(alloc, 0)?;
-    let mut done = 1;
-    if results.begin(1, 5).is_ok() {
-        done = 2;
-        if results.put(1, &only).is_ok() {
-            done = 3;
-            if results.finish(1).is_ok() {
-                done = 4;
-            }
-        }
-    }
-    Ok(Some((done, results.detach().into_store().close())))
+    let (done, fault) = match work(&mut results, &only) {
+        Ok(()) => (4, None),
+        Err((done, fault)) => (done, Some(fault)),
+    };
+    Ok(Some((done, fault, results.detach().into_store().close())))
 }
 
-/// How many of those calls the database shows.
+/// How many of those calls the tables show.
 fn shown<S: Alter>(conn: &mut Connection<S>) -> Result<i64, Error> {
     let tables = number(
         conn,
@@ -194,33 +211,86 @@ fn shown<S: Alter>(conn: &mut Connection<S>) -> Result<i64, Error> {
     )
 }
 
+/// How many of those calls the store tells, once it is attached again.
+fn told<S: Alter>(alloc: Global, conn: Connection<S>) -> Result<i64, Fail> {
+    if !conn.is_autocommit() {
+        return Err("a transaction is open".into());
+    }
+    let Ok(mut results) = Results::attach(alloc, conn) else {
+        return Err("it is attached again".into());
+    };
+    let Ok(heads) = results.runs() else {
+        return Err("its runs are told".into());
+    };
+    let Some(head) = heads.first() else {
+        return Ok(1);
+    };
+    match results.entries(1) {
+        Ok(entries) if entries.is_empty() => Ok(2),
+        Ok(_) if head.finished => Ok(4),
+        Ok(_) => Ok(3),
+        Err(_) => Err("its entries are told".into()),
+    }
+}
+
+/// How many calls are done over these files before their fuse blows; none where they can't be opened. A crash then leaves the
+/// runs from before the refused call or from after it, and all calls where none was refused.
+fn reached(alloc: Global, files: Files<Fused>, frames: usize) -> Result<Option<i64>, Fail> {
+    let Some((done, fault, left)) = worked(alloc, files, frames)? else {
+        return Ok(None);
+    };
+    if done < 4 && fault != Some(StoreFault::Store) {
+        return Err("it is refused for the disk".into());
+    }
+    let mut conn = open(alloc, crashed(left), frames).ok_or("it opens again")?;
+    let stage = shown(&mut conn)?;
+    let is_next = done < 4 && stage > done && stage - 1 == done;
+    if stage != done && !is_next {
+        return Err("the runs are from before the call or after it".into());
+    }
+    if told(alloc, conn)? != stage.max(1) {
+        return Err("the store tells what its tables show".into());
+    }
+    Ok(Some(done))
+}
+
+/// Files whose log or whose database file fails after so many calls.
+fn fused(alloc: Global, in_log: bool, calls: u64) -> Files<Fused> {
+    let (log, db) = if in_log {
+        (calls, u64::MAX)
+    } else {
+        (u64::MAX, calls)
+    };
+    Files {
+        log: Fuse::new(Memory::new(alloc), log),
+        db: Fuse::new(Memory::new(alloc), db),
+    }
+}
+
 #[test]
 fn a_crash_leaves_the_runs_from_before_the_call_or_after_it(rt: HostRuntime) -> Result<(), Fail> {
     let alloc = rt.alloc();
-    let mut seen = [0u32; 5];
-    for calls in 0..400u64 {
-        let files = Files {
-            log: Fuse::new(Memory::new(alloc), calls),
-            db: Fuse::new(Memory::new(alloc), u64::MAX),
-        };
-        let Some((done, left)) = worked(alloc, files)? else {
-            continue;
-        };
-        let mut conn = open(alloc, crashed(left)).ok_or("it opens again")?;
-        let stage = shown(&mut conn)?;
+    for (in_log, frames) in [(true, 1000), (true, 2), (false, 2)] {
+        let mut seen = [0u32; 5];
+        for calls in 0..400u64 {
+            let done = reached(alloc, fused(alloc, in_log, calls), frames)?;
+            if let Some(times) = done
+                .and_then(|done| usize::try_from(done).ok())
+                .and_then(|at| seen.get_mut(at))
+            {
+                *times = times.saturating_add(1);
+            }
+            if done == Some(4) {
+                break;
+            }
+        }
+        // The calls of attaching to a new file write its log alone.
+        let [attach, begin, put, finish, all] = seen;
+        assert!(rt; attach > 0 || !in_log, "{in_log} {frames}");
         assert!(rt;
-            stage == done || (stage > done && stage - 1 == done),
-            "at {calls}"
+            begin > 0 && put > 0 && finish > 0 && all > 0,
+            "{in_log} {frames}"
         );
-        if let Some(times) = usize::try_from(done).ok().and_then(|at| seen.get_mut(at)) {
-            *times = times.saturating_add(1);
-        }
-        if done == 4 {
-            break;
-        }
-    }
-    for times in seen {
-        assert!(rt; times > 0);
     }
     Ok(())
 }

@@ -45,6 +45,11 @@ returns-clause-crash g c runs has =
 pub returns-in_err-known-clause-taken : goal.returns-in_err-known-clause-taken
 returns-in_err-known-clause-taken g c runs has clean = let told = c.in_err-known.ensures.taken runs (still_stands (state g.S.Store c.args.conn.now) (state g.S.Store c.probe.new.conn) (λ k. omega (arith, k, c.probe.ensures.survives.clean)) (λ k. c.in_ok-probe.ensures.same k) runs has) clean in search rules
 
+pub returns-in_err-known-clause-made_taken : goal.returns-in_err-known-clause-made_taken
+returns-in_err-known-clause-made_taken g c empty clean =
+    let none : StandsFor (state g.S.Store c.probe.new.conn) [] = (λ clean opened. absurd (c.is_blank.ensures.filled c.if-is_blank.false (empty_blank (state g.S.Store c.args.conn.now) (state g.S.Store c.probe.new.conn) (λ k. omega (arith, k, c.probe.ensures.survives.clean)) (λ k. c.in_ok-probe.ensures.same k) empty clean))) in
+    let told = c.in_err-known.ensures.taken [] none clean in search rules
+
 pub returns-in_err-known-clause-made_kept : goal.returns-in_err-known-clause-made_kept
 returns-in_err-known-clause-made_kept g c empty =
     let none : StandsFor (state g.S.Store c.probe.new.conn) [] = (λ clean opened. absurd (c.is_blank.ensures.filled c.if-is_blank.false (empty_blank (state g.S.Store c.args.conn.now) (state g.S.Store c.probe.new.conn) (λ k. omega (arith, k, c.probe.ensures.survives.clean)) (λ k. c.in_ok-probe.ensures.same k) empty clean))) in
