@@ -2,10 +2,10 @@
 # Says how long 1,000, 10,000 and 100,000 entries take to be put into a new file, each durable before the next, and what as many
 # durable inserts take the real sqlite3 on the same disk. It works in a scratch copy, where it proves what isn't proved yet in
 # the crates' own out/. It wants the headers of sqlite3 and a C compiler.
-# The scratch folder lies beside this checkout, so that the files do too; SCRATCH names another place.
+# The files lie in the scratch folder, where TMPDIR says: that is the disk that is measured.
 set -eu
 here=$(cd "$(dirname "$0")/../.." && pwd)
-scratch=$(mktemp -d -p "${SCRATCH:-$(dirname "$here")}")
+scratch=$(mktemp -d)
 trap 'rm -rf "$scratch"' EXIT
 mkdir -p "$scratch/crates/store_bench/src"
 cp "$here/HANDLES" "$scratch/"

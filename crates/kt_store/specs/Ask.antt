@@ -8,6 +8,7 @@ use Rattle.sqlite.specs.State.{State, IsUnchanged, IsRolledBack, Shown, Executes
 use Rattle.kt_store.specs.declared.store_fault.StoreFault.{StoreFault}
 use Rattle.kt_store.specs.declared.store_fault.StoreFault.TheVariants.{NoMemory, Store}
 
+-- the database is as it was, or as its last commit left it, which is the same where no transaction is open
 abbrev pub Rests : State → State → Type 0
 Rests old new = IsUnchanged old new ⊎ IsRolledBack old new
 

@@ -212,15 +212,15 @@ fn shown<S: Alter>(conn: &mut Connection<S>) -> Result<i64, Error> {
 }
 
 /// How many of those calls the store tells, once it is attached again.
-fn told<S: Alter>(alloc: Global, conn: Connection<S>) -> Result<i64, Fail> {
+fn told<S: Alter + Drop>(alloc: Global, conn: Connection<S>) -> Result<i64, Fail> {
     if !conn.is_autocommit() {
         return Err("a transaction is open".into());
     }
     let Ok(mut results) = Results::attach(alloc, conn) else {
-        return Err("it is attached again".into());
+        return Err("it can not be attached again".into());
     };
     let Ok(heads) = results.runs() else {
-        return Err("its runs are told".into());
+        return Err("its runs can not be told".into());
     };
     let Some(head) = heads.first() else {
         return Ok(1);
@@ -229,7 +229,7 @@ fn told<S: Alter>(alloc: Global, conn: Connection<S>) -> Result<i64, Fail> {
         Ok(entries) if entries.is_empty() => Ok(2),
         Ok(_) if head.finished => Ok(4),
         Ok(_) => Ok(3),
-        Err(_) => Err("its entries are told".into()),
+        Err(_) => Err("its entries can not be told".into()),
     }
 }
 
@@ -240,16 +240,16 @@ fn reached(alloc: Global, files: Files<Fused>, frames: usize) -> Result<Option<i
         return Ok(None);
     };
     if done < 4 && fault != Some(StoreFault::Store) {
-        return Err("it is refused for the disk".into());
+        return Err("it was refused for another reason than the disk".into());
     }
-    let mut conn = open(alloc, crashed(left), frames).ok_or("it opens again")?;
+    let mut conn = open(alloc, crashed(left), frames).ok_or("it does not open again")?;
     let stage = shown(&mut conn)?;
     let is_next = done < 4 && stage > done && stage - 1 == done;
     if stage != done && !is_next {
-        return Err("the runs are from before the call or after it".into());
+        return Err("the runs are neither from before the call nor from after it".into());
     }
     if told(alloc, conn)? != stage.max(1) {
-        return Err("the store tells what its tables show".into());
+        return Err("the store tells other runs than its tables show".into());
     }
     Ok(Some(done))
 }
@@ -267,30 +267,44 @@ fn fused(alloc: Global, in_log: bool, calls: u64) -> Files<Fused> {
     }
 }
 
+/// Blows the fuse at each call in turn until none is refused: how often each count of calls was reached.
+fn sweep(alloc: Global, in_log: bool, frames: usize) -> Result<[u32; 5], Fail> {
+    let mut seen = [0u32; 5];
+    for calls in 0..400u64 {
+        let done = reached(alloc, fused(alloc, in_log, calls), frames)?;
+        if let Some(times) = done
+            .and_then(|done| usize::try_from(done).ok())
+            .and_then(|at| seen.get_mut(at))
+        {
+            *times = times.saturating_add(1);
+        }
+        if done == Some(4) {
+            break;
+        }
+    }
+    Ok(seen)
+}
+
 #[test]
 fn a_crash_leaves_the_runs_from_before_the_call_or_after_it(rt: HostRuntime) -> Result<(), Fail> {
-    let alloc = rt.alloc();
-    for (in_log, frames) in [(true, 1000), (true, 2), (false, 2)] {
-        let mut seen = [0u32; 5];
-        for calls in 0..400u64 {
-            let done = reached(alloc, fused(alloc, in_log, calls), frames)?;
-            if let Some(times) = done
-                .and_then(|done| usize::try_from(done).ok())
-                .and_then(|at| seen.get_mut(at))
-            {
-                *times = times.saturating_add(1);
-            }
-            if done == Some(4) {
-                break;
-            }
-        }
-        // The calls of attaching to a new file write its log alone.
-        let [attach, begin, put, finish, all] = seen;
-        assert!(rt; attach > 0 || !in_log, "{in_log} {frames}");
-        assert!(rt;
-            begin > 0 && put > 0 && finish > 0 && all > 0,
-            "{in_log} {frames}"
-        );
+    for times in sweep(rt.alloc(), true, 1000)? {
+        assert!(rt; times > 0);
     }
+    Ok(())
+}
+
+#[test]
+fn a_crash_leaves_them_also_while_the_log_is_copied(rt: HostRuntime) -> Result<(), Fail> {
+    for times in sweep(rt.alloc(), true, 1)? {
+        assert!(rt; times > 0);
+    }
+    Ok(())
+}
+
+#[test]
+fn a_crash_leaves_them_also_where_the_database_file_fails(rt: HostRuntime) -> Result<(), Fail> {
+    // In a new file the tables are made in the log alone.
+    let [_, begin, put, finish, all] = sweep(rt.alloc(), false, 1)?;
+    assert!(rt; begin > 0 && put > 0 && finish > 0 && all > 0);
     Ok(())
 }
