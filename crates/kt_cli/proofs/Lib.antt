@@ -1,4 +1,5 @@
 pub mod Answering
+pub mod Crashing
 pub mod Saying
 pub mod FaultWords
 pub mod Listed

@@ -9,7 +9,7 @@ use Rattle.kt_store.specs.declared.store_fault.StoreFault.{StoreFault}
 use Rattle.kt_store.specs.declared.store_fault.StoreFault.TheVariants.{Incomplete}
 use Rattle.kt_store.specs.Runs.{AreNumbered, new_run, insert_at, run_at, finish, finish_refusal, finish_refusal_of}
 use Rattle.kt_cli.specs.Meaning.{with_new}
-use Rattle.kt_cli.specs.Stores.{put_all, put_among, by_position}
+use Rattle.kt_cli.specs.Stores.{put_all, put_among, by_position, put_beside, beside_puts}
 use Rattle.kt_cli.proofs.Numbered.{entries_last, finish_last}
 
 abbrev new_one : List Run → ℕ → ℕ → Bool → List Entry → Run
@@ -50,3 +50,11 @@ finishes runs number moment plan es fault n l f =
     let none : finish_refusal (with_new runs moment plan false es) number ≡ None =
     ap finish_refusal_of there ∙ ap (λ (b : Bool). if b then Some Incomplete else None) (not_less (length (by_position es)) (length plan) (among_length [] es ∙ omega (arith, l))) in
     let z = sym none ∙ f in absurd (cc)
+
+-- nothing stands beside the runs after puts that were done
+pub none_beside : (es : List Entry) → put_beside es [] ≡ []
+none_beside [] = refl
+none_beside (e ∷ es) = none_beside es
+
+pub settled : (number : ℕ) (es refused : List Entry) (runs : List Run) → refused ≡ [] → beside_puts number es refused runs [] ≡ []
+settled number es refused runs e = ap (λ (xs : List Entry). beside_puts number es xs runs []) e ∙ none_beside es

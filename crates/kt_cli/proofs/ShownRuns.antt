@@ -86,45 +86,45 @@ none_found number runs heads NoRuns e f m = (not_chosen number runs heads e f, m
 none_found number runs heads (NoRun n) e f m = (not_chosen number runs heads e f, m)
 none_found number runs heads (Refused fault) e f m = absurd m
 
-module _ {R : Type 0} (Stands : R → List Run → Type 0) (Sound : R → Type 0) (old new : R) (was now : Option (List ℕ)) (exit : ℕ) (runs : List Run) (h : Stands old runs) (m : Moves Stands Sound old new (λ runs. runs)) where
+module _ {R : Type 0} (Stands : R → List Run → Type 0) (Sound : R → Type 0) (Leaves : R → List (List Run) → Type 0) (old new : R) (was now : Option (List ℕ)) (exit : ℕ) (runs : List Run) (h : Stands old runs) (m : Moves Stands Sound Leaves old new (λ runs. runs) (λ runs may. may)) where
   -- a report leaves the runs
-  left_by : (P : Deed → Type 0) (f : Bool) (bytes : List ℕ) (due : ℕ) → (Sound new → P (record { runs = runs; bytes = bytes; exit = due })) → Shows was now f bytes → exit ≡ (if f then 2 else due) → Left Stands Sound old new was now exit P
+  left_by : (P : Deed → Type 0) (f : Bool) (bytes : List ℕ) (due : ℕ) → (Sound new → P (record { runs = runs; bytes = bytes; exit = due; beside = λ may. may })) → Shows was now f bytes → exit ≡ (if f then 2 else due) → Left Stands Sound Leaves runs old new was now exit P
   left_by P f bytes due p s e = record {
     left = runs;
     stands = m.moved runs h;
     earlier = m.earlier runs h;
-    done = λ sound. record { deed = record { runs = runs; bytes = bytes; exit = due }; is = p sound; keeps = refl; printed = record { failed = f; shows = s; exits = e } };
+    done = λ sound. record { deed = record { runs = runs; bytes = bytes; exit = due; beside = λ may. may }; is = p sound; keeps = refl; crash = λ may l. m.crash runs may h l; printed = record { failed = f; shows = s; exits = e } };
   }
 
   pub left_told : (number : Option ℕ) (kinds : List Kind) (run : Run) (f : Bool) → (Sound new → chosen number runs ≡ Some run) → ((date : Date) × IsDateOf run.started date × Shows was now f (text_bytes date kinds run)) → exit ≡ (if f then 2 else 0)
-      → Left Stands Sound old new was now exit (λ deed. Reported number kinds runs deed ⊎ ReportCut runs deed)
+      → Left Stands Sound Leaves runs old new was now exit (λ deed. Reported number kinds runs deed ⊎ ReportCut runs deed)
   left_told number kinds run f c d e = left_by (λ deed. Reported number kinds runs deed ⊎ ReportCut runs deed) f (text_bytes d.0 kinds run) 0 (λ sound. inl (told run d.0 (c sound) d.1)) d.2 e
 
   not_told : (number : Option ℕ) (kinds : List Kind) (why : NotShown) → IsNotShown number runs why
-      → (Reported number kinds runs (record { runs = runs; bytes = utf8 (not_shown_line why); exit = 2 })) ⊎ (ReportCut runs (record { runs = runs; bytes = utf8 (not_shown_line why); exit = 2 }))
-  not_told number kinds NoRuns n = inl (subst (λ (xs : List ℕ). Reported number kinds runs (record { runs = runs; bytes = utf8 xs; exit = 2 })) n.1 (no_run n.0))
-  not_told number kinds (NoRun k) n = inl (subst (λ (xs : List ℕ). Reported number kinds runs (record { runs = runs; bytes = utf8 xs; exit = 2 })) n.1 (no_run n.0))
+      → (Reported number kinds runs (record { runs = runs; bytes = utf8 (not_shown_line why); exit = 2; beside = λ may. may })) ⊎ (ReportCut runs (record { runs = runs; bytes = utf8 (not_shown_line why); exit = 2; beside = λ may. may }))
+  not_told number kinds NoRuns n = inl (subst (λ (xs : List ℕ). Reported number kinds runs (record { runs = runs; bytes = utf8 xs; exit = 2; beside = λ may. may })) n.1 (no_run n.0))
+  not_told number kinds (NoRun k) n = inl (subst (λ (xs : List ℕ). Reported number kinds runs (record { runs = runs; bytes = utf8 xs; exit = 2; beside = λ may. may })) n.1 (no_run n.0))
   not_told number kinds (Refused fault) n = inr (unread fault n)
 
   pub left_untold : (number : Option ℕ) (kinds : List Kind) (why : NotShown) (f : Bool) → (Sound new → IsNotShown number runs why) → Shows was now f (utf8 (not_shown_line why)) → exit ≡ (if f then 2 else 2)
-      → Left Stands Sound old new was now exit (λ deed. Reported number kinds runs deed ⊎ ReportCut runs deed)
+      → Left Stands Sound Leaves runs old new was now exit (λ deed. Reported number kinds runs deed ⊎ ReportCut runs deed)
   left_untold number kinds why f n s e = left_by (λ deed. Reported number kinds runs deed ⊎ ReportCut runs deed) f (utf8 (not_shown_line why)) 2 (λ sound. not_told number kinds why (n sound)) s e
 
-  pub left_junit : (number : Option ℕ) (run : Run) (f : Bool) → (Sound new → chosen number runs ≡ Some run) → Shows was now f (junit_bytes run) → exit ≡ (if f then 2 else 0) → Left Stands Sound old new was now exit (λ deed. ReportedJunit number runs deed ⊎ ReportCut runs deed)
+  pub left_junit : (number : Option ℕ) (run : Run) (f : Bool) → (Sound new → chosen number runs ≡ Some run) → Shows was now f (junit_bytes run) → exit ≡ (if f then 2 else 0) → Left Stands Sound Leaves runs old new was now exit (λ deed. ReportedJunit number runs deed ⊎ ReportCut runs deed)
   left_junit number run f c s e = left_by (λ deed. ReportedJunit number runs deed ⊎ ReportCut runs deed) f (junit_bytes run) 0 (λ sound. inl (told_junit run (c sound))) s e
 
   no_junit_of : (number : Option ℕ) (why : NotShown) → IsNotShown number runs why
-      → (ReportedJunit number runs (record { runs = runs; bytes = utf8 (not_shown_line why); exit = 2 })) ⊎ (ReportCut runs (record { runs = runs; bytes = utf8 (not_shown_line why); exit = 2 }))
-  no_junit_of number NoRuns n = inl (subst (λ (xs : List ℕ). ReportedJunit number runs (record { runs = runs; bytes = utf8 xs; exit = 2 })) n.1 (no_junit n.0))
-  no_junit_of number (NoRun k) n = inl (subst (λ (xs : List ℕ). ReportedJunit number runs (record { runs = runs; bytes = utf8 xs; exit = 2 })) n.1 (no_junit n.0))
+      → (ReportedJunit number runs (record { runs = runs; bytes = utf8 (not_shown_line why); exit = 2; beside = λ may. may })) ⊎ (ReportCut runs (record { runs = runs; bytes = utf8 (not_shown_line why); exit = 2; beside = λ may. may }))
+  no_junit_of number NoRuns n = inl (subst (λ (xs : List ℕ). ReportedJunit number runs (record { runs = runs; bytes = utf8 xs; exit = 2; beside = λ may. may })) n.1 (no_junit n.0))
+  no_junit_of number (NoRun k) n = inl (subst (λ (xs : List ℕ). ReportedJunit number runs (record { runs = runs; bytes = utf8 xs; exit = 2; beside = λ may. may })) n.1 (no_junit n.0))
   no_junit_of number (Refused fault) n = inr (unread fault n)
 
   pub left_no_junit : (number : Option ℕ) (why : NotShown) (f : Bool) → (Sound new → IsNotShown number runs why) → Shows was now f (utf8 (not_shown_line why)) → exit ≡ (if f then 2 else 2)
-      → Left Stands Sound old new was now exit (λ deed. ReportedJunit number runs deed ⊎ ReportCut runs deed)
+      → Left Stands Sound Leaves runs old new was now exit (λ deed. ReportedJunit number runs deed ⊎ ReportCut runs deed)
   left_no_junit number why f n s e = left_by (λ deed. ReportedJunit number runs deed ⊎ ReportCut runs deed) f (utf8 (not_shown_line why)) 2 (λ sound. no_junit_of number why (n sound)) s e
 
   -- memory ran out in the middle
   pub left_cut : (number : Option ℕ) (run : Run) (mid : Option (List ℕ)) (f : Bool) → Shows was mid true (junit_bytes run) → Says mid false now f (utf8 memory_line) → exit ≡ (if f then 2 else 2)
-      → Left Stands Sound old new was now exit (λ deed. ReportedJunit number runs deed ⊎ ReportCut runs deed)
+      → Left Stands Sound Leaves runs old new was now exit (λ deed. ReportedJunit number runs deed ⊎ ReportCut runs deed)
   left_cut number run mid f p s e =
       left_by (λ deed. ReportedJunit number runs deed ⊎ ReportCut runs deed) f (p.0 ++ utf8 memory_line) 2 (λ sound. inr (cut run p.0 p.1 p.2)) (shows_both was mid now f p.0 (utf8 memory_line) p.3 s.more) e

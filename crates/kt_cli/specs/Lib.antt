@@ -1,10 +1,12 @@
 pub mod Commands
+pub mod Crashes
 pub mod FaultLines
 pub mod Listings
 pub mod Meaning
 pub mod MemoryRuns
 pub mod OneChild
 pub mod Pages
+pub mod Places
 pub mod Plans
 pub mod Recording
 pub mod Recordings

@@ -60,17 +60,17 @@ results_exit entries = if bad_count entries == 0 then 0 else 1
 
 -- a plan was run: each case is recorded in a new run, and told in the order of recording
 pub data Tested (plan : List Job) (moment : ℕ) (T : Trace) (runs : List Run) : Deed → Type 0 where
-  recorded : (entries : List Entry) → AllRecorded plan T entries → Tested plan moment T runs (record { runs = with_new runs moment plan true entries; bytes = results entries; exit = results_exit entries })
+  recorded : (entries : List Entry) → AllRecorded plan T entries → Tested plan moment T runs (record { runs = with_new runs moment plan true entries; bytes = results entries; exit = results_exit entries; beside = λ may. [] })
 
--- what is left of a plan that memory or the store cut short
+-- what is left of a plan that memory or the store cut short; a crash may leave the change of a call that was refused
 pub data TestCut (plan : List Job) (moment : ℕ) (T : Trace) (runs : List Run) : Deed → Type 0 where
   not_begun : (fault : StoreFault) → IsStoreFault fault ⊎ ((fault ≡ StoreFull) × (1000000 ≤ length runs)) → T ≡ NoEvent
-      → TestCut plan moment T runs (record { runs = runs; bytes = utf8 (refusal_line fault); exit = 2 })
-  not_run : T ≡ NoEvent → TestCut plan moment T runs (record { runs = with_new runs moment plan false []; bytes = utf8 memory_line; exit = 2 })
+      → TestCut plan moment T runs (record { runs = runs; bytes = utf8 (refusal_line fault); exit = 2; beside = λ may. with_new runs moment plan false [] ∷ may })
+  not_run : T ≡ NoEvent → TestCut plan moment T runs (record { runs = with_new runs moment plan false []; bytes = utf8 memory_line; exit = 2; beside = λ may. [] })
   not_put : (entries : List Entry) (refused : Entry) (fault : SinkFault) → IsStopped plan T entries refused
-      → TestCut plan moment T runs (record { runs = with_new runs moment plan false entries; bytes = lines entries ++ utf8 (put_line fault); exit = 2 })
+      → TestCut plan moment T runs (record { runs = with_new runs moment plan false entries; bytes = lines entries ++ utf8 (put_line fault); exit = 2; beside = λ may. with_new runs moment plan false (entries ++ refused ∷ []) ∷ [] })
   not_finished : (entries : List Entry) (fault : StoreFault) → AllRecorded plan T entries → IsStoreFault fault
-      → TestCut plan moment T runs (record { runs = with_new runs moment plan false entries; bytes = lines entries ++ utf8 (refusal_line fault); exit = 2 })
+      → TestCut plan moment T runs (record { runs = with_new runs moment plan false entries; bytes = lines entries ++ utf8 (refusal_line fault); exit = 2; beside = λ may. with_new runs moment plan true entries ∷ [] })
 
 -- the tree registers these programs, whose plan it is, and the host told one moment
 pub record IsBegun (seen : Seen) (kyuafile : List ℕ) (moment : ℕ) : Type 0 where
@@ -93,9 +93,9 @@ pub record IsUnasked (seen : Seen) : Type 0 where
 -- what one command means
 pub data Means (seen : Seen) (runs : List Run) : Command → Deed → Type 0 where
   listed : (kyuafile : List ℕ) (outcome : Outcome) → Registered seen.asked (name_in kyuafile) outcome → IsTreeAlone seen
-      → Means seen runs (command.List kyuafile) (record { runs = runs; bytes = utf8 (listing outcome); exit = listing_exit outcome })
+      → Means seen runs (command.List kyuafile) (record { runs = runs; bytes = utf8 (listing outcome); exit = listing_exit outcome; beside = λ may. may })
   untested : (kyuafile : List ℕ) (fault : SuiteFault) → Registered seen.asked (name_in kyuafile) (Err fault) → IsTreeAlone seen
-      → Means seen runs (command.Test kyuafile) (record { runs = runs; bytes = utf8 (fault_line fault); exit = 2 })
+      → Means seen runs (command.Test kyuafile) (record { runs = runs; bytes = utf8 (fault_line fault); exit = 2; beside = λ may. may })
   tested : (kyuafile : List ℕ) (moment : ℕ) (deed : Deed) → IsBegun seen kyuafile moment → Tested seen.plan moment seen.trace runs deed
       → Means seen runs (command.Test kyuafile) deed
   reported : (number : Option ℕ) (kinds : List Kind) (deed : Deed) → IsUnasked seen → Reported number kinds runs deed
@@ -105,19 +105,19 @@ pub data Means (seen : Seen) (runs : List Run) : Command → Deed → Type 0 whe
 
 -- what a command leaves that memory or the store cut short
 pub data CutShort (seen : Seen) (runs : List Run) : Command → Deed → Type 0 where
-  no_memory : (c : Command) → IsTreeAlone seen → CutShort seen runs c (record { runs = runs; bytes = utf8 memory_line; exit = 2 })
+  no_memory : (c : Command) → IsTreeAlone seen → CutShort seen runs c (record { runs = runs; bytes = utf8 memory_line; exit = 2; beside = λ may. may })
   cut : (kyuafile : List ℕ) (moment : ℕ) (deed : Deed) → IsBegun seen kyuafile moment → TestCut seen.plan moment seen.trace runs deed
       → CutShort seen runs (command.Test kyuafile) deed
   report_cut : (c : Command) (deed : Deed) → IsReport c → IsUnasked seen → ReportCut runs deed → CutShort seen runs c deed
 
 -- what `execute` did: the command's deed, or one that memory or the store cut short; a failed writer holds a prefix of its bytes
-pub record Did {W R : Type 0} (asks : W → Asked → W → Type 0) (tells : W → Told → W → Type 0) (starts : W → Job → Role → StartAnswer → W → Type 0) (waits : W → Ended → W → Type 0) (Stands : R → List Run → Type 0) (Sound : R → Type 0) (c : Command) (old new : W) (store after : R) (was now : Option (List ℕ)) (exit : ℕ) : Type 0 where
+pub record Did {W R : Type 0} (asks : W → Asked → W → Type 0) (tells : W → Told → W → Type 0) (starts : W → Job → Role → StartAnswer → W → Type 0) (waits : W → Ended → W → Type 0) (Stands : R → List Run → Type 0) (Sound : R → Type 0) (Leaves : R → List (List Run) → Type 0) (c : Command) (old new : W) (store after : R) (was now : Option (List ℕ)) (exit : ℕ) : Type 0 where
   pub seen : Seen
   pub course : Course asks tells starts waits seen old new
-  pub left : (runs : List Run) → Stands store runs → Left Stands Sound store after was now exit (λ deed. Means seen runs c deed ⊎ CutShort seen runs c deed)
+  pub left : (runs : List Run) → Stands store runs → Left Stands Sound Leaves runs store after was now exit (λ deed. Means seen runs c deed ⊎ CutShort seen runs c deed)
 
 -- what was done with a plan
-pub record RanPlan {L R : Type 0} (starts : L → Job → Role → StartAnswer → L → Type 0) (waits : L → Ended → L → Type 0) (Stands : R → List Run → Type 0) (Sound : R → Type 0) (plan : List Job) (moment : ℕ) (old new : L) (store after : R) (was now : Option (List ℕ)) (exit : ℕ) : Type 0 where
+pub record RanPlan {L R : Type 0} (starts : L → Job → Role → StartAnswer → L → Type 0) (waits : L → Ended → L → Type 0) (Stands : R → List Run → Type 0) (Sound : R → Type 0) (Leaves : R → List (List Run) → Type 0) (plan : List Job) (moment : ℕ) (old new : L) (store after : R) (was now : Option (List ℕ)) (exit : ℕ) : Type 0 where
   pub trace : Trace
   pub leads : Leads starts waits plan trace old new
-  pub left : (runs : List Run) → Stands store runs → Left Stands Sound store after was now exit (λ deed. Tested plan moment trace runs deed ⊎ TestCut plan moment trace runs deed)
+  pub left : (runs : List Run) → Stands store runs → Left Stands Sound Leaves runs store after was now exit (λ deed. Tested plan moment trace runs deed ⊎ TestCut plan moment trace runs deed)

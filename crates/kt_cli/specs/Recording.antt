@@ -1,5 +1,5 @@
 -- An entry is put into a run, and then its line is told.
-use Rattle.std.specs.Prelude.{ℕ, Bool, List, ◌≡◌, Option, Result, Ok, Err}
+use Rattle.std.specs.Prelude.{ℕ, Bool, List, [], ◌∷◌, ◌≡◌, Option, Result, Ok, Err}
 use Rattle.kt_base.specs.declared.entry.Entry.{Entry}
 use Rattle.kt_base.specs.declared.run.Run.{Run}
 use Rattle.kt_report.specs.Lines.{line_bytes}
@@ -20,6 +20,6 @@ abbrev pub Took : {R : Type 0} → (R → List Run → Type 0) → ℕ → R →
 Took Stands number store put = (first : List Run) × Stands store (put_all number put first)
 
 -- the run has the entry and its line was given to the writer, or nothing changed
-abbrev pub Recorded : {R : Type 0} → (R → List Run → Type 0) → (R → Type 0) → ℕ → R → Bool → Option (List ℕ) → Entry → Result (Unit {0}) SinkFault → ℕ → R → Bool → Option (List ℕ) → Type 0
-Recorded Stands Sound number store failed held e (Ok x) number' store' failed' held' = (number' ≡ number) × Moves Stands Sound store store' (with_entry number e) × Says held failed held' failed' (line_bytes e)
-Recorded Stands Sound number store failed held e (Err f) number' store' failed' held' = (number' ≡ number) × Moves Stands Sound store store' (λ runs. runs) × (failed' ≡ failed) × (held' ≡ held)
+abbrev pub Recorded : {R : Type 0} → (R → List Run → Type 0) → (R → Type 0) → (R → List (List Run) → Type 0) → ℕ → R → Bool → Option (List ℕ) → Entry → Result (Unit {0}) SinkFault → ℕ → R → Bool → Option (List ℕ) → Type 0
+Recorded Stands Sound Leaves number store failed held e (Ok x) number' store' failed' held' = (number' ≡ number) × Moves Stands Sound Leaves store store' (with_entry number e) (λ runs may. []) × Says held failed held' failed' (line_bytes e)
+Recorded Stands Sound Leaves number store failed held e (Err f) number' store' failed' held' = (number' ≡ number) × Moves Stands Sound Leaves store store' (λ runs. runs) (λ runs may. with_entry number e runs ∷ may) × (failed' ≡ failed) × (held' ≡ held)

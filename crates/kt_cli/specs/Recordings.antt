@@ -1,5 +1,5 @@
 -- What became of a plan's cases: which were recorded and told, and how it ended.
-use Rattle.std.specs.Prelude.{ℕ, Bool, false, List, [], ◌≡◌, Option, Result, Ok, Err, Some, length, take, slice_get}
+use Rattle.std.specs.Prelude.{ℕ, Bool, false, List, [], ◌∷◌, ◌≡◌, Option, Result, Ok, Err, Some, length, take, slice_get}
 use Rattle.kt_base.specs.declared.entry.Entry.{Entry}
 use Rattle.kt_base.specs.declared.role.Role.{Role}
 use Rattle.kt_base.specs.declared.run.Run.{Run}
@@ -15,7 +15,7 @@ use Rattle.kt_sched.specs.Run.{Counts, NamesEachOnce}
 use Rattle.kt_sched.specs.ScheduleRules.{Legal, Stopped}
 use Rattle.kt_sched.specs.Trace.{Trace, NoEvent, Leads}
 use Rattle.kt_cli.specs.Pages.{Says}
-use Rattle.kt_cli.specs.Stores.{Moves, put_all}
+use Rattle.kt_cli.specs.Stores.{Moves, put_all, beside_puts}
 use Rattle.kt_cli.specs.Totals.{lines}
 
 -- the trace is legal at width 1, and each case is recorded once with the verdict of its own events
@@ -33,30 +33,34 @@ pub record IsStopped (plan : List Job) (T : Trace) (entries : List Entry) (refus
   pub stopped : Stopped plan 1 T due.after
 
 -- every case was recorded, and counted
-pub record RecordedAll (plan : List Job) (T : Trace) (entries : List Entry) (totals : Totals) : Type 0 where
+pub record RecordedAll (plan : List Job) (T : Trace) (entries refused : List Entry) (totals : Totals) : Type 0 where
   pub all : AllRecorded plan T entries
   pub whole : length entries ≡ length plan
   pub counts : Counts entries totals
+  pub taken : refused ≡ []
 
 -- the put of the next entry was refused
-pub record RecordedSome (plan : List Job) (T : Trace) (entries : List Entry) : Type 0 where
-  pub refused : Entry
-  pub stopped : IsStopped plan T entries refused
+pub record RecordedSome (plan : List Job) (T : Trace) (entries refused : List Entry) : Type 0 where
+  pub entry : Entry
+  pub one : refused ≡ entry ∷ []
+  pub stopped : IsStopped plan T entries entry
 
-pub record RecordedNone (T : Trace) (entries : List Entry) : Type 0 where
+pub record RecordedNone (T : Trace) (entries refused : List Entry) : Type 0 where
   pub events : T ≡ NoEvent
   pub none : entries ≡ []
+  pub taken : refused ≡ []
 
-abbrev pub RecordEnds : List Job → Trace → List Entry → Result Totals RunFault → Type 0
-RecordEnds plan T entries (Ok totals) = RecordedAll plan T entries totals
-RecordEnds plan T entries (Err (SinkFailed fault)) = RecordedSome plan T entries
-RecordEnds plan T entries (Err NoMemory) = RecordedNone T entries
+abbrev pub RecordEnds : List Job → Trace → List Entry → List Entry → Result Totals RunFault → Type 0
+RecordEnds plan T entries refused (Ok totals) = RecordedAll plan T entries refused totals
+RecordEnds plan T entries refused (Err (SinkFailed fault)) = RecordedSome plan T entries refused
+RecordEnds plan T entries refused (Err NoMemory) = RecordedNone T entries refused
 
--- the launcher's answers, and the entries that were put into the run of a number and told, in the order of the puts
-pub record Records {L R : Type 0} (starts : L → Job → Role → StartAnswer → L → Type 0) (waits : L → Ended → L → Type 0) (Stands : R → List Run → Type 0) (Sound : R → Type 0) (plan : List Job) (number : ℕ) (old new : L) (store after : R) (was now : Option (List ℕ)) (answer : Result Totals RunFault) (failed : Bool) : Type 0 where
+-- the launcher's answers, and the entries that were put into the run of a number and told, in the order of the puts, and the one whose put was refused
+pub record Records {L R : Type 0} (starts : L → Job → Role → StartAnswer → L → Type 0) (waits : L → Ended → L → Type 0) (Stands : R → List Run → Type 0) (Sound : R → Type 0) (Leaves : R → List (List Run) → Type 0) (plan : List Job) (number : ℕ) (old new : L) (store after : R) (was now : Option (List ℕ)) (answer : Result Totals RunFault) (failed : Bool) : Type 0 where
   pub trace : Trace
   pub leads : Leads starts waits plan trace old new
   pub entries : List Entry
-  pub puts : Moves Stands Sound store after (put_all number entries)
+  pub refused : List Entry
+  pub puts : Moves Stands Sound Leaves store after (put_all number entries) (beside_puts number entries refused)
   pub says : Says was false now failed (lines entries)
-  pub ends : RecordEnds plan trace entries answer
+  pub ends : RecordEnds plan trace entries refused answer

@@ -18,23 +18,31 @@ chosen None xs = slice_get xs (length xs - 1)
 chosen (Some zero) xs = None
 chosen (Some (suc k)) xs = slice_get xs k
 
+-- there is no run
+abbrev pub no_runs_line : List ℕ
+no_runs_line = codes "kyua: E: no runs\n"
+
+-- there are runs, but none of this number
+abbrev pub no_run_line : ℕ → List ℕ
+no_run_line number = codes "kyua: E: no run " ++ decimal number ++ codes "\n"
+
 -- why no run is shown
 abbrev pub missing_line : Option ℕ → List Run → List ℕ
-missing_line number [] = codes "kyua: E: no runs\n"
-missing_line None (run ∷ runs) = codes "kyua: E: no runs\n"
-missing_line (Some number) (run ∷ runs) = codes "kyua: E: no run " ++ decimal number ++ codes "\n"
+missing_line number [] = no_runs_line
+missing_line None (run ∷ runs) = no_runs_line
+missing_line (Some number) (run ∷ runs) = no_run_line number
 
 -- `report`: the text of the chosen run, on the date of its start
 pub data Reported (number : Option ℕ) (kinds : List Kind) (runs : List Run) : Deed → Type 0 where
-  told : (run : Run) (date : Date) → chosen number runs ≡ Some run → IsDateOf run.started date → Reported number kinds runs (record { runs = runs; bytes = text_bytes date kinds run; exit = 0 })
-  no_run : chosen number runs ≡ None → Reported number kinds runs (record { runs = runs; bytes = utf8 (missing_line number runs); exit = 2 })
+  told : (run : Run) (date : Date) → chosen number runs ≡ Some run → IsDateOf run.started date → Reported number kinds runs (record { runs = runs; bytes = text_bytes date kinds run; exit = 0; beside = λ may. may })
+  no_run : chosen number runs ≡ None → Reported number kinds runs (record { runs = runs; bytes = utf8 (missing_line number runs); exit = 2; beside = λ may. may })
 
 -- `report-junit`: the JUnit report of the chosen run
 pub data ReportedJunit (number : Option ℕ) (runs : List Run) : Deed → Type 0 where
-  told : (run : Run) → chosen number runs ≡ Some run → ReportedJunit number runs (record { runs = runs; bytes = junit_bytes run; exit = 0 })
-  no_run : chosen number runs ≡ None → ReportedJunit number runs (record { runs = runs; bytes = utf8 (missing_line number runs); exit = 2 })
+  told : (run : Run) → chosen number runs ≡ Some run → ReportedJunit number runs (record { runs = runs; bytes = junit_bytes run; exit = 0; beside = λ may. may })
+  no_run : chosen number runs ≡ None → ReportedJunit number runs (record { runs = runs; bytes = utf8 (missing_line number runs); exit = 2; beside = λ may. may })
 
 -- the store refused to be read, or memory ran out in the middle of a JUnit report
 pub data ReportCut (runs : List Run) : Deed → Type 0 where
-  unread : (fault : StoreFault) → IsStoreFault fault → ReportCut runs (record { runs = runs; bytes = utf8 (refusal_line fault); exit = 2 })
-  cut : (run : Run) (front rest : List ℕ) → junit_bytes run ≡ front ++ rest → ReportCut runs (record { runs = runs; bytes = front ++ utf8 memory_line; exit = 2 })
+  unread : (fault : StoreFault) → IsStoreFault fault → ReportCut runs (record { runs = runs; bytes = utf8 (refusal_line fault); exit = 2; beside = λ may. may })
+  cut : (run : Run) (front rest : List ℕ) → junit_bytes run ≡ front ++ rest → ReportCut runs (record { runs = runs; bytes = front ++ utf8 memory_line; exit = 2; beside = λ may. may })

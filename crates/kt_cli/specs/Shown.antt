@@ -1,16 +1,15 @@
 -- Why no run is shown, as the code tells it.
-use Rattle.std.specs.Prelude.{ℕ, List, ◌++◌, ◌≡◌, Option, Some, None, Result, Ok, Err, codes}
-use Rattle.std.specs.Fmt.{decimal}
+use Rattle.std.specs.Prelude.{ℕ, List, ◌≡◌, Option, Some, None, Result, Ok, Err}
 use Rattle.kt_base.specs.declared.run.Run.{Run}
 use Rattle.kt_store.specs.Ask.{IsStoreFault}
 use Rattle.kt_cli.specs.declared.not_shown.NotShown.{NotShown}
 use Rattle.kt_cli.specs.declared.not_shown.NotShown.TheVariants.{NoRuns, NoRun, Refused}
 use Rattle.kt_cli.specs.FaultLines.{refusal_line}
-use Rattle.kt_cli.specs.Reports.{chosen, missing_line}
+use Rattle.kt_cli.specs.Reports.{chosen, missing_line, no_runs_line, no_run_line}
 
 abbrev pub not_shown_line : NotShown → List ℕ
-not_shown_line NoRuns = codes "kyua: E: no runs\n"
-not_shown_line (NoRun number) = codes "kyua: E: no run " ++ decimal number ++ codes "\n"
+not_shown_line NoRuns = no_runs_line
+not_shown_line (NoRun number) = no_run_line number
 not_shown_line (Refused fault) = refusal_line fault
 
 -- no run is the chosen one

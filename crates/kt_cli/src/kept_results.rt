@@ -7,11 +7,14 @@ impl<S: Alter> ResultStore for Results<S> {
     ghost use Rattle.sqlite.specs.Held.{state};
     ghost use Rattle.sqlite.specs.State.{HasCleanDisk};
     ghost use Rattle.kt_store.specs.Runs.{AreNumbered};
-    ghost use Rattle.kt_store.specs.Stands.{StandsFor};
+    ghost use Rattle.kt_store.specs.Stands.{StandsFor, Leaves};
+    ghost use Rattle.kt_cli.specs.Crashes.{KeepsOne};
 
     ghost stands = { λ s runs. StandsFor (state S.Store s) runs × AreNumbered 1 runs };
 
     ghost sound = { λ s. HasCleanDisk (state S.Store s) };
+
+    ghost leaves = { λ s may. Leaves (state S.Store s) (KeepsOne may) };
 
     fn begin(&mut self, total: u32, moment: u64) -> Result<u64, StoreFault> {
         self.begin(total, moment)

@@ -140,6 +140,9 @@ impl ResultStore for MemRuns {
 
     ghost sound = { λ m. ⊤ };
 
+    // A crash leaves nothing of them, so it leaves no others.
+    ghost leaves = { λ m may. ⊤ };
+
     fn begin(&mut self, total: u32, moment: u64) -> Result<u64, StoreFault> {
         let number = self.add_run(total, moment)?;
         Ok(number)

@@ -1,18 +1,59 @@
+ghost use Rattle.std.specs.Prelude.{◌≡◌, IfOk};
+ghost use Rattle.std.specs.Str.{chars};
+ghost use Rattle.kt_cli.specs.Places.{is_absolute, absolute, without_last, source_directory};
+
 use kt_base::{NoMemory, Text};
+use kt_suite::split_path;
 use std::alloc::Global;
 
+/// Whether a path begins at the root of the host.
+fn is_absolute(path: &[char]) -> bool
+    ensures { result ≡ is_absolute path.now }
+{
+    match path.first() {
+        Some(c) => *c == '/',
+        None => false,
+    }
+}
+
+/// The characters of a path.
+fn characters(alloc: Global, path: &Text) -> Result<Vec<char>, NoMemory>
+    ensures { IfOk result (λ characters. characters.items ≡ path.now) }
+{
+    Ok(path.as_str().chars().collect(alloc)?)
+}
+
+/// A path, seen from a directory.
+fn absolute(alloc: Global, here: &str, path: &Text) -> Result<Text, NoMemory>
+    ensures { IfOk result (λ whole. whole ≡ absolute (chars here.now) path.now) }
+{
+    if is_absolute(&characters(alloc, path)?) {
+        return Ok(path.copy()?);
+    }
+    let mut whole = Text::from_str(alloc, here)?;
+    whole.push('/')?;
+    whole.push_str(path.as_str())?;
+    Ok(whole)
+}
+
+/// A path without its last character.
+fn without_last(alloc: Global, path: &Text) -> Result<Text, NoMemory>
+    ensures { IfOk result (λ front. front ≡ without_last path.now) }
+{
+    let characters = characters(alloc, path)?;
+    match characters.split_last() {
+        Some((_, front)) => Ok(Text::from_characters(alloc, front)?),
+        None => Ok(Text::new(alloc)),
+    }
+}
+
 /// The absolute directory of a Kyuafile, without a slash at its end. `here` is the absolute working directory.
-pub fn source_of(alloc: Global, here: &str, kyuafile: &Text) -> Result<Text, NoMemory> {
-    let mut path = Text::new(alloc);
-    if !kyuafile.as_str().starts_with('/') {
-        path.push_str(here)?;
-        path.push('/')?;
-    }
-    path.push_str(kyuafile.as_str())?;
-    match path.as_str().rsplit_once('/') {
-        Some((directory, _)) => Text::from_str(alloc, directory),
-        None => Ok(path),
-    }
+pub fn source_of(alloc: Global, here: &str, kyuafile: &Text) -> Result<Text, NoMemory>
+    ensures { IfOk result (λ source. source ≡ source_directory (chars here.now) kyuafile.now) }
+{
+    let path = absolute(alloc, here, kyuafile)?;
+    let (directory, _) = split_path(alloc, &path)?;
+    Ok(without_last(alloc, &directory)?)
 }
 
 #[cfg(test)]

@@ -44,7 +44,7 @@ fn missing(number: Option<u64>, heads: &[RunHead]) -> NotShown
 
 /// The run that is asked for, or else the last one, with its entries.
 fn read_run<R: ResultStore>(number: Option<u64>, results: &mut R) -> Result<Run, NotShown>
-    ensures moves { Moves R.stands R.sound results.old results.new (λ runs. runs) }
+    ensures moves { Moves R.stands R.sound R.leaves results.old results.new (λ runs. runs) (λ runs may. may) }
     ensures finds { (runs : List Recorded) → R.stands results.old runs → R.sound results.new → FindsRun number runs result }
 {
     let heads = match results.runs() {
@@ -98,7 +98,7 @@ pub fn report<R: ResultStore, O: Write>(
     results: &mut R,
     out: &mut O,
 ) -> Exit
-    ensures { (runs : List Recorded) → R.stands results.old runs → Left R.stands R.sound results.old results.new (O.contents out.old) (O.contents out.new) result.status (λ deed. Reported number kinds.now runs deed ⊎ ReportCut runs deed) }
+    ensures { (runs : List Recorded) → R.stands results.old runs → Left R.stands R.sound R.leaves runs results.old results.new (O.contents out.old) (O.contents out.new) result.status (λ deed. Reported number kinds.now runs deed ⊎ ReportCut runs deed) }
 {
     match read_run(number, results) {
         Ok(run) => match text(&run, kinds, out) {
@@ -116,7 +116,7 @@ pub fn report_junit<R: ResultStore, O: Write>(
     results: &mut R,
     out: &mut O,
 ) -> Exit
-    ensures { (runs : List Recorded) → R.stands results.old runs → Left R.stands R.sound results.old results.new (O.contents out.old) (O.contents out.new) result.status (λ deed. ReportedJunit number runs deed ⊎ ReportCut runs deed) }
+    ensures { (runs : List Recorded) → R.stands results.old runs → Left R.stands R.sound R.leaves runs results.old results.new (O.contents out.old) (O.contents out.new) result.status (λ deed. ReportedJunit number runs deed ⊎ ReportCut runs deed) }
 {
     let run = match read_run(number, results) {
         Ok(run) => run,

@@ -32,7 +32,7 @@ fn record_cases<L: Launcher, R: ResultStore, O: Write>(
 ) -> (Result<Totals, RunFault>, bool)
     requires plan { IsPlan plan }
     requires idle { IsIdle (L.running launcher.old) (L.pending launcher.old) }
-    ensures records { Records L.starts L.waits R.stands R.sound plan number launcher.old launcher.new results.old results.new (O.contents out.old) (O.contents out.new) result.0 result.1 }
+    ensures records { Records L.starts L.waits R.stands R.sound R.leaves plan number launcher.old launcher.new results.old results.new (O.contents out.old) (O.contents out.new) result.0 result.1 }
     ensures idle { IsIdle (L.running launcher.new) (L.pending launcher.new) }
 {
     let mut recorder = Recorder {
@@ -67,7 +67,7 @@ fn run_plan<L: Launcher, R: ResultStore, O: Write>(
     requires few { length plan ≤ program_limit }
     requires moment { IsMoment moment }
     requires idle { IsIdle (L.running launcher.old) (L.pending launcher.old) }
-    ensures ran { RanPlan L.starts L.waits R.stands R.sound plan moment launcher.old launcher.new results.old results.new (O.contents out.old) (O.contents out.new) result.status }
+    ensures ran { RanPlan L.starts L.waits R.stands R.sound R.leaves plan moment launcher.old launcher.new results.old results.new (O.contents out.old) (O.contents out.new) result.status }
     ensures idle { IsIdle (L.running launcher.new) (L.pending launcher.new) }
 {
     let total = plan.len() as u32;
@@ -98,7 +98,7 @@ pub fn test<W: World, R: ResultStore, O: Write>(
     out: &mut O,
 ) -> Exit
     requires { IsIdle (W.running world.old) (W.pending world.old) }
-    ensures did { Did W.asks W.tells W.starts W.waits R.stands R.sound (command.Test kyuafile.now) world.old world.new results.old results.new (O.contents out.old) (O.contents out.new) result.status }
+    ensures did { Did W.asks W.tells W.starts W.waits R.stands R.sound R.leaves (command.Test kyuafile.now) world.old world.new results.old results.new (O.contents out.old) (O.contents out.new) result.status }
     ensures idle { IsIdle (W.running world.new) (W.pending world.new) }
 {
     let programs = match programs_of(alloc, kyuafile, world) {

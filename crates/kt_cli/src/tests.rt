@@ -150,6 +150,36 @@ fn a_fault_is_told_on_one_line(rt: HostRuntime) -> Result<(), Fail> {
 }
 
 #[test]
+fn a_fault_of_a_whole_file_is_told(rt: HostRuntime) -> Result<(), Fail> {
+    let alloc = rt.alloc();
+    let long = vec![in alloc; b' '; 1_048_577]?;
+    let mut many = Vec::new(alloc);
+    many.extend_from_slice(b"syntax(2)\ntest_suite('s')\n")?;
+    for _ in 0..10_001 {
+        many.extend_from_slice(b"plain_test_program{name='a'}\n")?;
+    }
+    for (file, text, line) in [
+        (
+            "Kyuafile",
+            long.as_slice(),
+            b"kyua: E: Kyuafile:0: file too long\n".as_slice(),
+        ),
+        (
+            "Kyuafile",
+            many.as_slice(),
+            b"kyua: E: Kyuafile:10003: too many programs or files\n".as_slice(),
+        ),
+        ("x/lost", b"", b"kyua: E: lost:0: file could not be read\n"),
+        ("memory", b"", b"kyua: E: out of memory\n"),
+    ] {
+        let (kept, status) = listed(alloc, file, Some(text), 100)?;
+        assert_eq!(rt; kept.as_slice(), line);
+        assert_eq!(rt; status, 2);
+    }
+    Ok(())
+}
+
+#[test]
 fn a_failed_writer_holds_a_prefix(rt: HostRuntime) -> Result<(), Fail> {
     let (whole, _) = listed(rt.alloc(), "Kyuafile", Some(TWO), 100)?;
     for (text, calls) in [(TWO, 6), (b"\n\n@", 7)] {

@@ -5,7 +5,8 @@ use kt_sched::{Ended, Job, Launcher, StartAnswer};
 use kt_suite::{ReadFault, Tree};
 use std::alloc::Global;
 
-/// A world of one Kyuafile with the programs `a` and `b`, whose bodies are refused or end as they are told.
+/// A world of one Kyuafile with the programs `a` and `b`, whose bodies are refused or end as they are told. For a file that is
+/// named `memory` it has no memory.
 #[derive(Drop)]
 pub struct Play<'a> {
     pub alloc: Global,
@@ -41,6 +42,9 @@ impl Tree for Play<'_> {
         let Some(bytes) = self.kyuafile else {
             return Err(ReadFault::Missing);
         };
+        if path.as_str() == "memory" {
+            return Err(ReadFault::Memory);
+        }
         if path.as_str() != "Kyuafile" {
             return Err(ReadFault::Failed);
         }

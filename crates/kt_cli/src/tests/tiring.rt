@@ -33,6 +33,8 @@ impl ResultStore for Tiring {
 
     ghost sound = { λ s. ⊤ };
 
+    ghost leaves = { λ s may. ⊤ };
+
     fn begin(&mut self, total: u32, moment: u64) -> Result<u64, StoreFault> {
         if self.is_tired() {
             return Err(StoreFault::Store);

@@ -6,8 +6,8 @@ use Rattle.kt_cli.proofs.execution.execute.Goals as goal
 pub returns-in-List-clause-did : goal.returns-in-List-clause-did
 returns-in-List-clause-did g c =
     let e : c.args.command.now ≡ command.List c.in-List.kyuafile = search rules in
-    did_as g.W.Tree.asks g.W.World.tells g.W.Launcher.starts g.W.Launcher.waits g.R.ResultStore.stands g.R.ResultStore.sound _ _ _ _ _ _ _ _ _ e
-    (did_list g.W.Tree.asks g.W.World.tells g.W.Launcher.starts g.W.Launcher.waits g.R.ResultStore.stands g.R.ResultStore.sound _ _ _ _ _ _ _ c.list.ensures)
+    did_as g.W.Tree.asks g.W.World.tells g.W.Launcher.starts g.W.Launcher.waits g.R.ResultStore.stands g.R.ResultStore.sound g.R.ResultStore.leaves _ _ _ _ _ _ _ _ _ e
+    (did_list g.W.Tree.asks g.W.World.tells g.W.Launcher.starts g.W.Launcher.waits g.R.ResultStore.stands g.R.ResultStore.sound g.R.ResultStore.leaves _ _ _ _ _ _ _ c.list.ensures)
 
 pub returns-in-List-clause-idle : goal.returns-in-List-clause-idle
 returns-in-List-clause-idle g c =
@@ -17,11 +17,11 @@ returns-in-List-clause-idle g c =
 pub returns-in-Report-clause-did : goal.returns-in-Report-clause-did
 returns-in-Report-clause-did g c =
     let e : c.args.command.now ≡ command.Report c.in-Report.run' c.as_slice.result.now = search rules in
-    did_as g.W.Tree.asks g.W.World.tells g.W.Launcher.starts g.W.Launcher.waits g.R.ResultStore.stands g.R.ResultStore.sound _ _ _ _ _ _ _ _ _ e
-    (did_report g.W.Tree.asks g.W.World.tells g.W.Launcher.starts g.W.Launcher.waits g.R.ResultStore.stands g.R.ResultStore.sound _ _ _ _ _ _ _ _ c.report.ensures)
+    did_as g.W.Tree.asks g.W.World.tells g.W.Launcher.starts g.W.Launcher.waits g.R.ResultStore.stands g.R.ResultStore.sound g.R.ResultStore.leaves _ _ _ _ _ _ _ _ _ e
+    (did_report g.W.Tree.asks g.W.World.tells g.W.Launcher.starts g.W.Launcher.waits g.R.ResultStore.stands g.R.ResultStore.sound g.R.ResultStore.leaves _ _ _ _ _ _ _ _ c.report.ensures)
 
 pub returns-in-ReportJunit-clause-did : goal.returns-in-ReportJunit-clause-did
 returns-in-ReportJunit-clause-did g c =
     let e : c.args.command.now ≡ command.ReportJunit c.in-ReportJunit.run' = search rules in
-    did_as g.W.Tree.asks g.W.World.tells g.W.Launcher.starts g.W.Launcher.waits g.R.ResultStore.stands g.R.ResultStore.sound _ _ _ _ _ _ _ _ _ e
-    (did_junit g.W.Tree.asks g.W.World.tells g.W.Launcher.starts g.W.Launcher.waits g.R.ResultStore.stands g.R.ResultStore.sound _ _ _ _ _ _ _ c.report_junit.ensures)
+    did_as g.W.Tree.asks g.W.World.tells g.W.Launcher.starts g.W.Launcher.waits g.R.ResultStore.stands g.R.ResultStore.sound g.R.ResultStore.leaves _ _ _ _ _ _ _ _ _ e
+    (did_junit g.W.Tree.asks g.W.World.tells g.W.Launcher.starts g.W.Launcher.waits g.R.ResultStore.stands g.R.ResultStore.sound g.R.ResultStore.leaves _ _ _ _ _ _ _ c.report_junit.ensures)

@@ -6,7 +6,7 @@ use Rattle.kt_cli.proofs.testing.test.Goals as goal
 
 pub returns-in-Err-clause-did : goal.returns-in-Err-clause-did
 returns-in-Err-clause-did g c =
-    did_fault g.W.Tree.asks g.W.World.tells g.W.Launcher.starts g.W.Launcher.waits g.R.ResultStore.stands g.R.ResultStore.sound _ _ _ _ _ _ _ c.in-Err.fault _ c.in-Err.ensures.loaded c.say_fault.ensures c.ended.ensures
+    did_fault g.W.Tree.asks g.W.World.tells g.W.Launcher.starts g.W.Launcher.waits g.R.ResultStore.stands g.R.ResultStore.sound g.R.ResultStore.leaves _ _ _ _ _ _ _ c.in-Err.fault _ c.in-Err.ensures.loaded c.say_fault.ensures c.ended.ensures
 
 pub returns-in-Err-clause-idle : goal.returns-in-Err-clause-idle
 returns-in-Err-clause-idle g c =
@@ -15,7 +15,7 @@ returns-in-Err-clause-idle g c =
 
 pub returns-in-Err-make_plan-clause-did : goal.returns-in-Err-make_plan-clause-did
 returns-in-Err-make_plan-clause-did g c =
-    did_short g.W.Tree.asks g.W.World.tells g.W.Launcher.starts g.W.Launcher.waits g.R.ResultStore.stands g.R.ResultStore.sound _ _ _ _ _ _ _ _ _ c.in-Ok.ensures.loaded c.say_memory.ensures c.ended-in-Err-make_plan.ensures
+    did_short g.W.Tree.asks g.W.World.tells g.W.Launcher.starts g.W.Launcher.waits g.R.ResultStore.stands g.R.ResultStore.sound g.R.ResultStore.leaves _ _ _ _ _ _ _ _ _ c.in-Ok.ensures.loaded c.say_memory.ensures c.ended-in-Err-make_plan.ensures
 
 pub returns-in-Err-make_plan-clause-idle : goal.returns-in-Err-make_plan-clause-idle
 returns-in-Err-make_plan-clause-idle g c =
@@ -35,4 +35,4 @@ run_plan-requires-clause-idle g c =
 
 pub returns-clause-did : goal.returns-clause-did
 returns-clause-did g c =
-    did_test g.W.Tree.asks g.W.World.tells g.W.Launcher.starts g.W.Launcher.waits g.R.ResultStore.stands g.R.ResultStore.sound _ _ _ _ _ _ _ _ _ _ c.in-Ok.programs c.in-Ok-make_plan.plan _ c.in-Ok.ensures.loaded (c.in-Ok-make_plan.ensures ∙ ap plan_of c.as_slice.ensures) c.now-moment.ensures.told c.run_plan.ensures.ran
+    did_test g.W.Tree.asks g.W.World.tells g.W.Launcher.starts g.W.Launcher.waits g.R.ResultStore.stands g.R.ResultStore.sound g.R.ResultStore.leaves _ _ _ _ _ _ _ _ _ _ c.in-Ok.programs c.in-Ok-make_plan.plan _ c.in-Ok.ensures.loaded (c.in-Ok-make_plan.ensures ∙ ap plan_of c.as_slice.ensures) c.now-moment.ensures.told c.run_plan.ensures.ran

@@ -7,13 +7,13 @@ pub put-requires : goal.put-requires
 put-requires g c = (c.requires.started, c.requires.millis)
 
 pub returns-in-Err-clause-leads : goal.returns-in-Err-clause-leads
-returns-in-Err-clause-leads g c = (refl, refl, (refl, record { moved = c.in-Err.ensures.kept; earlier = c.in-Err.ensures.earlier }, refl, refl))
+returns-in-Err-clause-leads g c = (refl, refl, (refl, record { moved = c.in-Err.ensures.kept; earlier = c.in-Err.ensures.earlier; crash = c.in-Err.ensures.crash }, refl, refl))
 
 pub returns-in-Err-clause-err : goal.returns-in-Err-clause-err
 returns-in-Err-clause-err g c put h = (h.0, c.in-Err.ensures.kept _ h.1)
 
 pub returns-clause-leads : goal.returns-clause-leads
-returns-clause-leads g c = (refl, refl, (refl, record { moved = c.in_default.ensures.added; earlier = c.in_default.ensures.earlier }, c.say_line-self.ensures))
+returns-clause-leads g c = (refl, refl, (refl, record { moved = c.in_default.ensures.added; earlier = c.in_default.ensures.earlier; crash = λ runs may h l. c.in_default.ensures.durable runs h }, c.say_line-self.ensures))
 
 pub returns-clause-ok : goal.returns-clause-ok
 returns-clause-ok g c put h = (h.0, subst (λ (rs : List Run). g.R.ResultStore.stands c.put.new.self rs) (sym (put_more c.args.self.now.number put c.args.entry h.0)) (c.in_default.ensures.added _ h.1))

@@ -1,0 +1,86 @@
+// Refuses one allocation of a program, for a preload: the one of the number in REFUSE, counted from 1.
+// Once it has refused one, it makes the file that REFUSED names. The program's children are left alone.
+#define _GNU_SOURCE
+#include <dlfcn.h>
+#include <errno.h>
+#include <fcntl.h>
+#include <stddef.h>
+#include <stdlib.h>
+#include <string.h>
+#include <unistd.h>
+
+static void *(*real_malloc)(size_t);
+static void *(*real_calloc)(size_t, size_t);
+static void *(*real_realloc)(void *, size_t);
+static void *(*real_aligned_alloc)(size_t, size_t);
+static int (*real_posix_memalign)(void **, size_t, size_t);
+
+static long count, wanted;
+static char told[4096];
+
+// Of what the loader asks for before it runs this, nothing is refused.
+__attribute__((constructor)) static void begin(void)
+{
+    real_malloc = dlsym(RTLD_NEXT, "malloc");
+    real_calloc = dlsym(RTLD_NEXT, "calloc");
+    real_realloc = dlsym(RTLD_NEXT, "realloc");
+    real_aligned_alloc = dlsym(RTLD_NEXT, "aligned_alloc");
+    real_posix_memalign = dlsym(RTLD_NEXT, "posix_memalign");
+    const char *number = getenv("REFUSE"), *file = getenv("REFUSED");
+    if (file)
+        strncpy(told, file, sizeof told - 1);
+    wanted = number ? atol(number) : 0;
+    unsetenv("LD_PRELOAD");
+    unsetenv("REFUSE");
+    unsetenv("REFUSED");
+}
+
+static int is_refused(void)
+{
+    if (!wanted || ++count != wanted)
+        return 0;
+    int file = open(told, O_CREAT | O_WRONLY, 0600);
+    if (file >= 0)
+        close(file);
+    errno = ENOMEM;
+    return 1;
+}
+
+// What the loader takes by calloc before there is a real one.
+static char room[65536];
+static size_t taken;
+
+void *malloc(size_t size)
+{
+    if (!real_malloc)
+        real_malloc = dlsym(RTLD_NEXT, "malloc");
+    return is_refused() ? NULL : real_malloc(size);
+}
+
+void *calloc(size_t n, size_t size)
+{
+    if (!real_calloc) {
+        size_t want = (n * size + 15) & ~(size_t)15;
+        void *given = want <= sizeof room - taken ? room + taken : NULL;
+        taken += given ? want : 0;
+        return given;
+    }
+    return is_refused() ? NULL : real_calloc(n, size);
+}
+
+void *realloc(void *old, size_t size)
+{
+    if (!real_realloc)
+        real_realloc = dlsym(RTLD_NEXT, "realloc");
+    return is_refused() ? NULL : real_realloc(old, size);
+}
+
+void *aligned_alloc(size_t align, size_t size)
+{
+    return is_refused() ? NULL : real_aligned_alloc(align, size);
+}
+
+int posix_memalign(void **out, size_t align, size_t size)
+{
+    return is_refused() ? ENOMEM : real_posix_memalign(out, align, size);
+}
