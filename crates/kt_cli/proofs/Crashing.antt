@@ -4,9 +4,8 @@ use Rattle.std.proofs.Common.{◌≡◌, ℕ, ◌≤◌, List, [], ◌∷◌, �
 use Rattle.sqlite.specs.Tree.{Trees}
 use Rattle.sqlite.specs.State.{State, Survives}
 use Rattle.kt_base.specs.declared.run.Run.{Run}
-use Rattle.kt_store.specs.Runs.{Keeps}
+use Rattle.kt_store.specs.Runs.{Keeps, KeepsOne}
 use Rattle.kt_store.specs.Stands.{Leaves}
-use Rattle.kt_cli.specs.Crashes.{KeepsOne}
 
 was_none : (a b : ℕ) → a ≤ b → b ≡ 0 → a ≡ 0
 was_none a b h e = omega (arith, h, e)

@@ -1,5 +1,4 @@
 pub mod Commands
-pub mod Crashes
 pub mod FaultLines
 pub mod Listings
 pub mod Meaning

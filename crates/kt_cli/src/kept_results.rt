@@ -6,9 +6,8 @@ use sqlite::Alter;
 impl<S: Alter> ResultStore for Results<S> {
     ghost use Rattle.sqlite.specs.Held.{state};
     ghost use Rattle.sqlite.specs.State.{HasCleanDisk};
-    ghost use Rattle.kt_store.specs.Runs.{AreNumbered};
+    ghost use Rattle.kt_store.specs.Runs.{AreNumbered, KeepsOne};
     ghost use Rattle.kt_store.specs.Stands.{StandsFor, Leaves};
-    ghost use Rattle.kt_cli.specs.Crashes.{KeepsOne};
 
     ghost stands = { λ s runs. StandsFor (state S.Store s) runs × AreNumbered 1 runs };
 
