@@ -1,5 +1,6 @@
 -- What follows the last poll of a child is no poll.
-use Rattle.std.proofs.Common.{◌≡◌, ℕ, zero, suc, List, [], ◌∷◌, ◌++◌, Bool, true, false, Result, sym, ◌∙◌, ap, subst}
+use Rattle.std.proofs.Common.{◌≡◌, ℕ, zero, suc, List, [], ◌∷◌, ◌++◌, Bool, true, false, Some, Result, map, slice_get, sym, ◌∙◌, ap, subst}
+use Rattle.std.specs.Prelude.{remove}
 use Rattle.kt_base.specs.declared.role.Role.{Role}
 use Rattle.kt_base.specs.declared.role.Role.TheVariants.{Body, Cleanup}
 use Rattle.kt_base.specs.declared.outcome.Outcome.{Outcome}
@@ -16,6 +17,7 @@ use Rattle.kt_child.specs.declared.case.Case.{Case}
 use Rattle.kt_child.specs.declared.watched.Watched.{Watched}
 use Rattle.kt_child.specs.declared.next_part.NextPart.{NextPart}
 use Rattle.kt_child.specs.declared.next_part.NextPart.TheVariants.{More, All, Absent, Failed, Past}
+use Rattle.kt_child.specs.Board.{Board}
 use Rattle.kt_child.specs.Calls.{Call, ReadFile, ReadPart}
 use Rattle.kt_child.specs.ChildOutcome.{Heard}
 use Rattle.kt_child.specs.EndShares.{EndShares}
@@ -24,7 +26,8 @@ use Rattle.kt_child.specs.Gathering.{Gathers}
 use Rattle.kt_child.specs.Lives.{heard_by, same_child}
 use Rattle.kt_child.specs.Parts.{After, Reads, Whole}
 use Rattle.kt_child.specs.Reads.{bytes_of}
-use Rattle.kt_child.specs.SeveralLives.{Share}
+use Rattle.kt_child.specs.SeveralLives.{Share, name_of, named}
+use Rattle.kt_child.specs.Waits.{WaitedOn}
 use Rattle.kt_child.proofs.LifeSteps.{append_none, heard_append}
 use Rattle.kt_child.proofs.SeveralWaits.{wait_shares}
 
@@ -69,19 +72,30 @@ removes_silent : (c : Child) (b : Bool) (dir : List ℕ) (calls : List Call) →
 removes_silent c true dir calls (done, e) = ap (heard_by c) e
 removes_silent c false dir calls e = ap (heard_by c) e
 
-leaves_silent : (c : Child) (case : Case) (calls : List Call) (outcome : Outcome) (ended : Ended) → Leaves case calls outcome ended → heard_by c calls ≡ []
+pub leaves_silent : (c : Child) (case : Case) (calls : List Call) (outcome : Outcome) (ended : Ended) → Leaves case calls outcome ended → heard_by c calls ≡ []
 leaves_silent c case calls outcome ended (now, reads, out, err, last, e, gathers, removes, position, role, over, o, r, moment) =
     ap (heard_by c) e
     ∙ heard_append c reads (ReadFile (out_of case.role case.paths) 65536 out ∷ ReadFile (err_of case.role case.paths) 65536 err ∷ last)
     ∙ ap (λ t. t ++ heard_by c last) (gathers_silent c case.interface case.role case.paths reads ended.evidence gathers)
     ∙ removes_silent c (is_over case) case.paths.dir last removes
 
-pub end_shares : EndShares
-end_shares old new calls e c k own (polls, rest, place, outcome, after, case, eq, waited, at, leaves, ch, ca, pe) =
+-- what a wait that ends at a place is for each child whose name is its own
+pub shares_at : (old new : Board) (polls rest : List Call) (place : ℕ) (outcome : Outcome) (after : List Watched) (case : Case) (e : Ended) (c : Child) (k : Watched)
+    → named c old.children ≡ k ∷ [] → WaitedOn old.going old.children polls place outcome after new.going
+    → Leaves case rest outcome e → new.children ≡ remove after place
+    → (over : Child) × (slice_get (map name_of old.children) place ≡ Some over)
+    × Share c (same_child over c) k (heard_by c (polls ++ rest)) e.outcome new.children
+shares_at old new polls rest place outcome after case e c k own waited leaves ch =
     let w = wait_shares old.going old.children polls place outcome after new.going c k own waited in
-    let f : heard_by c calls ≡ heard_by c polls =
-    ap (heard_by c) eq ∙ heard_append c polls rest ∙ ap (λ t. heard_by c polls ++ t) (leaves_silent c case rest outcome e leaves) ∙ append_none (heard_by c polls) in
+    let f : heard_by c (polls ++ rest) ≡ heard_by c polls =
+    heard_append c polls rest ∙ ap (λ t. heard_by c polls ++ t) (leaves_silent c case rest outcome e leaves) ∙ append_none (heard_by c polls) in
     let P : List Heard → Type 0 = λ t. Share c (same_child w.0 c) k t e.outcome new.children in
     let Q : Outcome → Type 0 = λ t. Share c (same_child w.0 c) k (heard_by c polls) t new.children in
     let R : List Watched → Type 0 = λ t. Share c (same_child w.0 c) k (heard_by c polls) outcome t in
-    (place, w.0, case, w.1, at, leaves.8, leaves.9, subst P (sym f) (subst Q (sym leaves.10) (subst R (sym ch) w.2)))
+    (w.0, w.1, subst P (sym f) (subst Q (sym leaves.10) (subst R (sym ch) w.2)))
+
+pub end_shares : EndShares
+end_shares old new calls e c k own (polls, rest, place, outcome, after, case, eq, waited, at, leaves, ch, ca, pe) =
+    let w = shares_at old new polls rest place outcome after case e c k own waited leaves ch in
+    let P : List Call → Type 0 = λ t. Share c (same_child w.0 c) k (heard_by c t) e.outcome new.children in
+    (place, w.0, case, w.1, at, leaves.8, leaves.9, subst P (sym eq) w.2)

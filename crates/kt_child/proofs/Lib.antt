@@ -1,7 +1,10 @@
 pub mod BoardSteps
+pub mod CaseCounts
+pub mod CasePlaces
 pub mod Chains
 pub mod EndSilence
 pub mod EndSteps
+pub mod IdleRows
 pub mod Mapped
 pub mod Outcomes
 pub mod LifeSteps
@@ -9,6 +12,7 @@ pub mod NamedSteps
 pub mod NameCounts
 pub mod NameSteps
 pub mod NumberSteps
+pub mod OwedCases
 pub mod Parents
 pub mod PartSteps
 pub mod Places
@@ -16,7 +20,16 @@ pub mod RowNames
 pub mod RowWaits
 pub mod SeveralSteps
 pub mod SeveralWaits
+pub mod ShownCases
+pub mod StartLeavings
+pub mod StartSilence
+pub mod TraceEnds
+pub mod TraceFacts
+pub mod TraceStarts
+pub mod TraceTells
+pub mod TraceWaits
 pub mod TurnSteps
+pub mod WaitSilence
 pub mod WaitSteps
 pub mod WaitedOnSteps
 pub mod WidthSteps

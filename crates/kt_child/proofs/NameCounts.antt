@@ -41,7 +41,7 @@ one_or a b = by (a == b) refl
     by true e = inr (ap one_if e, grind (arith, nat_tests))
     by false e = inl (ap one_if e)
 
-own_number : (n : ℕ) → one_if (n == n) ≡ 1
+pub own_number : (n : ℕ) → one_if (n == n) ≡ 1
 own_number n = let e : (n == n) ≡ true = grind (arith, nat_tests) in ap one_if e
 
 apart : (a b : ℕ) → one_if (a == b) ≡ 0 → (b == a) ≡ false
@@ -51,19 +51,19 @@ apart a b h = by (a == b) refl
     by true e = let one : one_if (a == b) ≡ 1 = ap one_if e in absurd (omega (arith, one, h))
     by false e = grind (arith, nat_tests)
 
-names_head : (x y : Child) (xs ys : List Child) → x ∷ xs ≡ y ∷ ys → x ≡ y
+pub names_head : (x y : Child) (xs ys : List Child) → x ∷ xs ≡ y ∷ ys → x ≡ y
 names_head x y xs ys e = cc
 
-names_tail : (x y : Child) (xs ys : List Child) → x ∷ xs ≡ y ∷ ys → xs ≡ ys
+pub names_tail : (x y : Child) (xs ys : List Child) → x ∷ xs ≡ y ∷ ys → xs ≡ ys
 names_tail x y xs ys e = cc
 
 -- a child of another number has another name
-other_name : (a d : Child) (n : ℕ) → d.attempt ≡ n → one_if (a.attempt == n) ≡ 0 → same_child d a ≡ false
+pub other_name : (a d : Child) (n : ℕ) → d.attempt ≡ n → one_if (a.attempt == n) ≡ 0 → same_child d a ≡ false
 other_name a d n e h =
     let f : (d.attempt == a.attempt) ≡ false = ap (λ t. t == a.attempt) e ∙ apart a.attempt n h in
     ap (λ t. t && same_role d.role a.role) f
 
-none_named : (a : Child) (ks : List Watched) (cs : List Case) → map name_of ks ≡ map case_name cs → numbered a.attempt cs ≡ 0 → named a ks ≡ []
+pub none_named : (a : Child) (ks : List Watched) (cs : List Case) → map name_of ks ≡ map case_name cs → numbered a.attempt cs ≡ 0 → named a ks ≡ []
 none_named a [] cs e h = refl
 none_named a (k ∷ ks) [] e h = let no : ⊥ = cc in absurd no
 none_named a (k ∷ ks) (c ∷ cs) e h =

@@ -98,7 +98,7 @@ map_remove f (x ∷ xs) zero = refl
 map_remove f (x ∷ xs) (suc i) = ap (λ t. f x ∷ t) (map_remove f xs i)
 
 -- what is owed after an end has the number once more at most
-owed : (n : ℕ) (c : Case) (pending : List Case) → numbered n (pending_with c pending) ≤ numbered n pending + one_if (n == c.attempt)
+pub owed : (n : ℕ) (c : Case) (pending : List Case) → numbered n (pending_with c pending) ≤ numbered n pending + one_if (n == c.attempt)
 owed n c pending = by (is_over c)
   where
     by : (t : Bool) → numbered n (if t then pending else pending ++ c ∷ []) ≤ numbered n pending + one_if (n == c.attempt)
@@ -131,7 +131,7 @@ trace_apart next row starts waits s w plan (Then T (Start i role answer)) d e (m
 trace_apart next row starts waits s w plan (Then T (End ended)) d e (mid, led, waited) a =
     w mid e ended waited (trace_apart next row starts waits s w plan T d mid led a)
 
-none_yet : (next : ℕ) (b : Board) → IsBare b → Apart next b
+pub none_yet : (next : ℕ) (b : Board) → IsBare b → Apart next b
 none_yet next b (x, y, z) =
     (ap (map name_of) x ∙ sym (ap (map case_name) y), λ n. let p = ap (numbered n) y in let q = ap (numbered n) z in (omega (arith, p, q), λ le. omega (arith, p, q)))
 

@@ -31,18 +31,18 @@ at_place i [] o e = let no : ⊥ = cc in absurd no
 at_place zero (k ∷ ks) o e = let f : k ≡ o = some_is k o e in (ap (λ t. t ∷ ks) f, ap (λ t. t ∷ ks) f)
 at_place (suc i) (k ∷ ks) o e = let h = at_place i ks o e in (ap (λ t. k ∷ t) h.0, ap (λ t. advanced k ∷ t) h.1)
 
-none_left : (xs ys : List Watched) → xs ++ ys ≡ [] → xs ≡ []
+pub none_left : (xs ys : List Watched) → xs ++ ys ≡ [] → xs ≡ []
 none_left [] ys e = refl
 none_left (x ∷ xs) ys e = let no : ⊥ = cc in absurd no
 
-none_right : (xs ys : List Watched) → xs ++ ys ≡ [] → ys ≡ []
+pub none_right : (xs ys : List Watched) → xs ++ ys ≡ [] → ys ≡ []
 none_right [] ys e = e
 none_right (x ∷ xs) ys e = let no : ⊥ = cc in absurd no
 
 tail_is : (x y : Watched) (xs ys : List Watched) → x ∷ xs ≡ y ∷ ys → xs ≡ ys
 tail_is x y xs ys e = cc
 
-head_is : (x y : Watched) (xs ys : List Watched) → x ∷ xs ≡ y ∷ ys → x ≡ y
+pub head_is : (x y : Watched) (xs ys : List Watched) → x ∷ xs ≡ y ∷ ys → x ≡ y
 head_is x y xs ys e = cc
 
 -- where a single child stands in three parts of a row: in the middle, or not

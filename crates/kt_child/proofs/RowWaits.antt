@@ -19,7 +19,9 @@ use Rattle.kt_sched.specs.Children.{Child as Shown, IsEvidence, same_role, runni
 use Rattle.kt_child.specs.Board.{Board, IsBoard, Waited, count_at, is_among, one_if, pending_with, shown, shown_at}
 use Rattle.kt_child.specs.Ends.{Leaves}
 use Rattle.kt_child.proofs.Chains.{chain_append}
-use Rattle.kt_child.proofs.BoardSteps.{among_owed, count_owed, count_remove, shown_remove, shown_there}
+use Rattle.kt_child.proofs.CaseCounts.{count_owed, count_remove}
+use Rattle.kt_child.proofs.OwedCases.{among_owed}
+use Rattle.kt_child.proofs.ShownCases.{shown_remove, shown_there}
 
 pub same_children : (n : ℕ) (children rest : List Watched) → length children ≡ n → take n (children ++ rest) ≡ children
 same_children n children rest h = take_at children rest n h

@@ -19,7 +19,7 @@ use Rattle.kt_child.proofs.Outcomes.{told}
 use Rattle.kt_child.proofs.SeveralSteps.{heard_none, heard_one, lives_join, one_turn, share_join, silent, whole_turns}
 use Rattle.kt_child.proofs.WidthSteps.{take_drop}
 
-last_of : (x : Option Watched) (last : List Call) (outcome : Outcome) → PolledLast x last outcome
+pub last_of : (x : Option Watched) (last : List Call) (outcome : Outcome) → PolledLast x last outcome
     → (o : Watched) × (x ≡ Some o) × PolledLast (Some o) last outcome
 last_of None last outcome h = absurd h
 last_of (Some o) last outcome h = (o, refl, h)
@@ -33,7 +33,7 @@ last_own c o last outcome same (answer, done, asked, ended) =
     (suc zero, (answer, done, [], f ∙ sym (append_none (heard_of o.limit o.watch answer done)), inl (ended, refl)))
 
 -- and another child hears nothing of it
-last_other : (c : Child) (o : Watched) (last : List Call) (outcome : Outcome) → same_child o.child c ≡ false → PolledLast (Some o) last outcome
+pub last_other : (c : Child) (o : Watched) (last : List Call) (outcome : Outcome) → same_child o.child c ≡ false → PolledLast (Some o) last outcome
     → heard_by c last ≡ []
 last_other c o last outcome other (answer, done, asked, ended) =
     ap (heard_by c) asked ∙ heard_none (is_killed o.limit o.watch answer) o.child c answer done other

@@ -20,6 +20,7 @@ pub mod Roots
 pub mod ScriptLog
 pub mod SeveralLives
 pub mod Starts
+pub mod TraceLives
 pub mod Turns
 pub mod Waits
 pub mod Width

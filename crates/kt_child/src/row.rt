@@ -118,6 +118,13 @@ impl Row {
         }
     }
 
+    /// Says that each child has its case. It does nothing when it runs.
+    pub(super) fn paired(&self)
+        ensures { length self.now.children ≡ length self.now.cases }
+    {
+        let _ = &self.cases;
+    }
+
     /// Takes a case whose cleanup is owed.
     pub fn take_owed(&mut self, position: u32) -> Case
         requires { is_among self.old.pending position ≡ true }

@@ -2,10 +2,14 @@ ghost use Rattle.std.specs.Prelude.{◌≡◌, List};
 ghost use Rattle.kt_sched.specs.Children.{IsIdle};
 ghost use Rattle.kt_sched.specs.Plan.{IsPlan, IsWidth};
 ghost use Rattle.kt_sched.specs.Run.{Ran};
+ghost use Rattle.kt_sched.specs.ScheduleRules.{Each};
+ghost use Rattle.kt_sched.specs.Trace.{Trace, Leads};
 ghost use Rattle.kt_child.specs.Calls.{Call, Chain};
 ghost use Rattle.kt_child.specs.Board.{Waited, is_among, shown_at};
 ghost use Rattle.kt_child.specs.Launches.{StartsBy};
-ghost use Rattle.kt_child.specs.Numbers.{NamesDiffer, NumbersDiffer};
+ghost use Rattle.kt_child.specs.Lists.{ListsBy};
+ghost use Rattle.kt_child.specs.Numbers.{AttemptsDiffer, NamesDiffer, NumbersDiffer, Serves};
+ghost use Rattle.kt_child.specs.TraceLives.{EndsAreTold, ToldAt};
 ghost use Rattle.kt_child.specs.declared.driver.Driver.{Driver};
 
 use crate::driver::Driver;
@@ -25,28 +29,53 @@ pub fn run_driver<O: Os + Drop, S: Sink>(
     requires plan { IsPlan plan }
     requires width { IsWidth width }
     requires idle { IsIdle (shown_at driver.old.row.cases) (is_among driver.old.row.pending) }
-    ensures { Ran
+    ensures ran { Ran
         (λ d job role answer e. StartsBy O.leads d.source d.root job role d.os d.next d.row answer e.os e.next e.row
         × (e.source ≡ d.source) × (e.root ≡ d.root))
         (λ d ended e. ((calls : List Call) × Chain O.leads d.os calls e.os × Waited d.row calls ended e.row)
         × (e.source ≡ d.source) × (e.root ≡ d.root) × (e.next ≡ d.next))
         S.puts S.entries plan width driver.old driver.new sink.old sink.new result }
+    ensures told { (T : Trace) → Leads
+        (λ d job role answer e. StartsBy O.leads d.source d.root job role d.os d.next d.row answer e.os e.next e.row
+        × (e.source ≡ d.source) × (e.root ≡ d.root))
+        (λ d ended e. ((calls : List Call) × Chain O.leads d.os calls e.os × Waited d.row calls ended e.row)
+        × (e.source ≡ d.source) × (e.root ≡ d.root) × (e.next ≡ d.next))
+        plan T driver.old driver.new
+        → (calls : List Call) × Chain O.leads driver.old.os calls driver.new.os × Each (ToldAt plan driver.old.next calls) T }
 {
+    driver.row.paired();
     run_cases(alloc, plan, width, driver, sink)
 }
 
-/// The law of numbers: no two starts of bodies by a driver have the same number.
+/// The law of numbers: no two attempts of a driver, which are the starts of bodies and the lists, have the same number.
 pub fn law_of_numbers<O: Os + Drop>()
-    ensures { NumbersDiffer {D = Driver O} (λ d. d.next)
+    ensures starts { NumbersDiffer {D = Driver O} (λ d. d.next)
+        (λ d job role answer e. StartsBy O.leads d.source d.root job role d.os d.next d.row answer e.os e.next e.row
+        × (e.source ≡ d.source) × (e.root ≡ d.root))
+        (λ d ended e. ((calls : List Call) × Chain O.leads d.os calls e.os × Waited d.row calls ended e.row)
+        × (e.source ≡ d.source) × (e.root ≡ d.root) × (e.next ≡ d.next)) }
+    ensures attempts { AttemptsDiffer {D = Driver O} (λ d. d.next) (Serves {D = Driver O}
+        (λ d job role answer e. StartsBy O.leads d.source d.root job role d.os d.next d.row answer e.os e.next e.row
+        × (e.source ≡ d.source) × (e.root ≡ d.root))
+        (λ d ended e. ((calls : List Call) × Chain O.leads d.os calls e.os × Waited d.row calls ended e.row)
+        × (e.source ≡ d.source) × (e.root ≡ d.root) × (e.next ≡ d.next))
+        (λ d program variables answer e. ListsBy O.leads d.source d.root program variables d.os d.next answer e.os e.next
+        × (e.row ≡ d.row) × (e.source ≡ d.source) × (e.root ≡ d.root))) }
+{}
+
+/// The law of names: where nothing ran and nothing was owed at first, the name of each child that runs is its own.
+pub fn law_of_names<O: Os + Drop>()
+    ensures { NamesDiffer {D = Driver O} (λ d. d.row)
         (λ d job role answer e. StartsBy O.leads d.source d.root job role d.os d.next d.row answer e.os e.next e.row
         × (e.source ≡ d.source) × (e.root ≡ d.root))
         (λ d ended e. ((calls : List Call) × Chain O.leads d.os calls e.os × Waited d.row calls ended e.row)
         × (e.source ≡ d.source) × (e.root ≡ d.root) × (e.next ≡ d.next)) }
 {}
 
-/// The law of names: where nothing ran and nothing was owed at first, the name of each child that runs is its own.
-pub fn law_of_names<O: Os + Drop>()
-    ensures { NamesDiffer {D = Driver O} (λ d. d.row)
+/// The law of traces: from a bare row on, the polls and kills of each child, of all that is asked of the system, are one
+/// life, and its end has the outcome that the outcome table tells of them.
+pub fn law_of_traces<O: Os + Drop>()
+    ensures { EndsAreTold {D = Driver O} O.leads (λ d. d.os) (λ d. d.next) (λ d. d.row)
         (λ d job role answer e. StartsBy O.leads d.source d.root job role d.os d.next d.row answer e.os e.next e.row
         × (e.source ≡ d.source) × (e.root ≡ d.root))
         (λ d ended e. ((calls : List Call) × Chain O.leads d.os calls e.os × Waited d.row calls ended e.row)

@@ -8,7 +8,7 @@ use Rattle.kt_child.specs.ChildPlan.{paths_of}
 use Rattle.kt_child.specs.Begins.{BegunBody, board_after_start}
 use Rattle.kt_child.specs.JobPlan.{watched_of}
 use Rattle.kt_child.specs.Board.{Board, count_at}
-use Rattle.kt_child.proofs.BoardSteps.{none_among, none_shown}
+use Rattle.kt_child.proofs.CaseCounts.{none_among, none_shown}
 use Rattle.kt_child.proofs.launches.begin_body.Goals as goal
 
 pub start_body-requires-clause-free : goal.start_body-requires-clause-free

@@ -1,4 +1,4 @@
-use Rattle.kt_child.proofs.BoardSteps.{among_end}
+use Rattle.kt_child.proofs.OwedCases.{among_end}
 use Rattle.kt_child.proofs.row.place_of.Goals as goal
 
 pub unreachable-requires : goal.unreachable-requires

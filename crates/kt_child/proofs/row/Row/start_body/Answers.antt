@@ -1,7 +1,8 @@
 use Rattle.std.proofs.Common.{rules, ◌==◌, ◌&&◌, Option, Some, if◌then◌else◌, ◌≡◌, ◌∙◌, ◌+◌, ◌++◌, ◌∷◌, [], ap, sym, subst, arith}
 use Rattle.kt_child.specs.Board.{Board, count_at, shown, shown_at}
 use Rattle.kt_sched.specs.Children.{Child as Shown, same_role}
-use Rattle.kt_child.proofs.BoardSteps.{board_started, shown_append}
+use Rattle.kt_child.proofs.BoardSteps.{board_started}
+use Rattle.kt_child.proofs.ShownCases.{shown_append}
 use Rattle.kt_child.proofs.row.Row.start_body.Goals as goal
 
 pub invariant_of-self-in-Ok : goal.invariant_of-self-in-Ok

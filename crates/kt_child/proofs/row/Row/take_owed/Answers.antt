@@ -3,7 +3,8 @@ use Rattle.std.specs.Prelude.{remove}
 use Rattle.std.proofs.lemmas.Option.{slice_get-get_or}
 use Rattle.kt_child.specs.declared.case.Case.{Case}
 use Rattle.kt_child.specs.Board.{Board, count_at, is_among}
-use Rattle.kt_child.proofs.BoardSteps.{among_remove, board_taken, free_taken}
+use Rattle.kt_child.proofs.BoardSteps.{board_taken, free_taken}
+use Rattle.kt_child.proofs.OwedCases.{among_remove}
 use Rattle.kt_child.proofs.RowWaits.{once_owed}
 use Rattle.kt_child.proofs.row.Row.take_owed.Goals as goal
 

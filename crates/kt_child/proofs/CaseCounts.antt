@@ -1,0 +1,139 @@
+-- How many cases have a position.
+use Rattle.std.proofs.Common.{◌≡◌, ℕ, zero, suc, ◌+◌, ◌<◌, ◌≤◌, ◌==◌, ◌&&◌, List, [], ◌∷◌, ◌++◌, slice_get, Bool, true, false, Option, Some, None, refl, sym, subst, arith, if◌then◌else◌}
+use Rattle.std.specs.Prelude.{remove}
+use Rattle.std.proofs.lemmas.Bool.Decides.{nat_tests}
+use Rattle.kt_base.specs.declared.role.Role.{Role}
+use Rattle.kt_base.specs.declared.role.Role.TheVariants.{Body, Cleanup}
+use Rattle.kt_child.specs.declared.case.Case.{Case}
+use Rattle.kt_sched.specs.Children.{Child as Shown, same_role}
+use Rattle.kt_child.specs.Board.{count_at, is_among, one_if, pending_with, shown, shown_at}
+use Rattle.kt_child.specs.Ends.{is_over}
+
+-- the first of two tests that hold
+pub and_left : (a b : Bool) → (a && b) ≡ true → a ≡ true
+and_left true b h = refl
+and_left false b h = h
+
+-- a test beside one that fails
+pub and_false : (a : Bool) → (a && false) ≡ false
+and_false true = refl
+and_false false = refl
+
+-- a role is the same as itself
+pub own_role : (r : Role) → same_role r r ≡ true
+own_role Body = refl
+own_role Cleanup = refl
+
+-- a number is the same as itself
+pub same_number : (n : ℕ) → (n == n) ≡ true
+same_number n = grind (arith, nat_tests)
+
+-- where one case stands already, another one does not
+pub other : (i j k n : ℕ) → one_if (i == j) + n ≤ 1 → 0 < n → (k == j) ≡ true → (k == i) ≡ true → ⊥
+other i j k n h lt p q =
+    let e : (i == j) ≡ true = grind (arith, nat_tests) in
+    let P : Bool → Type 0 = λ b. one_if b + n ≤ 1 in
+    let m : 1 + n ≤ 1 = subst P e h in
+    absurd (omega arith)
+
+-- where no case stands, none is found
+pub none_there : (i j k n : ℕ) → one_if (i == j) + n ≡ 0 → (k == j) ≡ true → (k == i) ≡ true → ⊥
+none_there i j k n h p q =
+    let e : (i == j) ≡ true = grind (arith, nat_tests) in
+    let P : Bool → Type 0 = λ b. one_if b + n ≡ 0 in
+    let m : 1 + n ≡ 0 = subst P e h in
+    absurd (omega arith)
+
+-- one case more of which neither child is shown
+count_step : (b : Bool) (role : Role) (s : Shown) (x y : Option Shown) (n : ℕ)
+    → (x ≡ None → y ≡ None → n ≡ 0)
+    → (if b && same_role Body role then Some s else x) ≡ None
+    → (if b && same_role Cleanup role then Some s else y) ≡ None → one_if b + n ≡ 0
+count_step true Body s x y n h p q = absurd (cc (p))
+count_step true Cleanup s x y n h p q = absurd (cc (q))
+count_step false role s x y n h p q = let m : n ≡ 0 = h p q in omega arith
+
+-- a position at which nothing is shown has no case
+pub none_shown : (cases : List Case) (i : ℕ) → shown_at cases i Body ≡ None → shown_at cases i Cleanup ≡ None → count_at i cases ≡ 0
+none_shown [] i p q = refl
+none_shown (c ∷ cases) i p q =
+    count_step (i == c.position) c.role (shown c) (shown_at cases i Body) (shown_at cases i Cleanup) (count_at i cases) (none_shown cases i) p q
+
+-- one case more that is not at a position
+among_step : (b x : Bool) (n : ℕ) → (x ≡ false → n ≡ 0) → (if b then true else x) ≡ false → one_if b + n ≡ 0
+among_step true x n h p = absurd (cc (p))
+among_step false x n h p = let m : n ≡ 0 = h p in omega arith
+
+-- a position at which no case is has none
+pub none_among : (cases : List Case) (i : ℕ) → is_among cases i ≡ false → count_at i cases ≡ 0
+none_among [] i p = refl
+none_among (c ∷ cases) i p = among_step (i == c.position) (is_among cases i) (count_at i cases) (none_among cases i) p
+
+-- one case more, one of which is at a position
+some_step : (b x : Bool) (n : ℕ) → (x ≡ true → 0 < n) → (if b then true else x) ≡ true → 0 < one_if b + n
+some_step true x n h p = omega arith
+some_step false x n h p = let m : 0 < n = h p in omega arith
+
+-- a position at which a case is has one
+pub some_among : (cases : List Case) (i : ℕ) → is_among cases i ≡ true → 0 < count_at i cases
+some_among [] i p = absurd (cc (p))
+some_among (c ∷ cases) i p = some_step (i == c.position) (is_among cases i) (count_at i cases) (some_among cases i) p
+
+-- a case behind the others
+pub count_append : (cases : List Case) (c : Case) (i : ℕ) → count_at i (cases ++ c ∷ []) ≡ count_at i cases + one_if (i == c.position)
+count_append [] c i = omega arith
+count_append (d ∷ cases) c i = let h = count_append cases c i in omega (arith, h)
+
+-- a case taken from the others
+pub count_remove : (cases : List Case) (p : ℕ) (c : Case) (i : ℕ) → slice_get cases p ≡ Some c
+    → count_at i (remove cases p) + one_if (i == c.position) ≡ count_at i cases
+count_remove [] p c i h = absurd (cc (h))
+count_remove (d ∷ cases) zero c i h =
+    let e : d ≡ c = cc (h) in
+    let P : Case → Type 0 = λ t. count_at i cases + one_if (i == t.position) ≡ one_if (i == d.position) + count_at i cases in
+    let q : count_at i cases + one_if (i == d.position) ≡ one_if (i == d.position) + count_at i cases = omega arith in
+    subst P e q
+count_remove (d ∷ cases) (suc p) c i h = let q = count_remove cases p c i h in omega (arith, q)
+
+-- a case among them counts
+pub count_there : (cases : List Case) (p : ℕ) (c : Case) → slice_get cases p ≡ Some c → 0 < count_at c.position cases
+count_there cases p c h =
+    let P : Bool → Type 0 = λ b. count_at c.position (remove cases p) + one_if b ≡ count_at c.position cases in
+    let q : count_at c.position (remove cases p) + 1 ≡ count_at c.position cases =
+    subst P (same_number c.position) (count_remove cases p c c.position h) in
+    omega arith
+
+-- a bound for two lists holds for either
+count_if : (b : Bool) (xs ys : List Case) (i n : ℕ) → count_at i xs ≤ n → count_at i ys ≤ n → count_at i (if b then xs else ys) ≤ n
+count_if true xs ys i n p q = p
+count_if false xs ys i n p q = q
+
+-- what is owed after an end has a position once more at most
+pub count_owed : (pending : List Case) (c : Case) (i : ℕ) → count_at i (pending_with c pending) ≤ count_at i pending + one_if (i == c.position)
+count_owed pending c i =
+    let n : ℕ = count_at i pending + one_if (i == c.position) in
+    let e = count_append pending c i in
+    let p : count_at i pending ≤ n = omega arith in
+    let q : count_at i (pending ++ c ∷ []) ≤ n = omega (arith, e) in
+    count_if (is_over c) pending (pending ++ c ∷ []) i n p q
+
+-- positions that a test calls the same are
+pub same_position : (a b : ℕ) → (a == b) ≡ true → a ≡ b
+same_position a b h = grind (arith, nat_tests)
+
+-- positions that differ fail the test
+pub other_position : (a b : ℕ) → (b ≡ a → ⊥) → (a == b) ≡ false
+other_position a b h = by_test (a == b) refl
+  where
+    by_test : (t : Bool) → (a == b) ≡ t → (a == b) ≡ false
+    by_test true e = absurd (h (sym (same_position a b e)))
+    by_test false e = e
+
+-- a position without a case has none among them
+pub count_none : (cases : List Case) (k : ℕ) → count_at k cases ≡ 0 → is_among cases k ≡ false
+count_none [] k h = refl
+count_none (c ∷ cases) k h = step (k == c.position) (is_among cases k) (count_at k cases) h (count_none cases k)
+  where
+    step : (b x : Bool) (n : ℕ) → one_if b + n ≡ 0 → (n ≡ 0 → x ≡ false) → (if b then true else x) ≡ false
+    step true x n h f = absurd (omega arith)
+    step false x n h f = f (omega arith)

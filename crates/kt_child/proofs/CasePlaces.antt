@@ -1,0 +1,115 @@
+-- Cases and their children at the places of a row.
+use Rattle.std.proofs.Common.{◌≡◌, ℕ, zero, suc, ◌+◌, ◌≤◌, ◌==◌, ◌&&◌, List, [], ◌∷◌, ◌++◌, length, Bool, true, false, Some, ◌⊎◌, map, slice_get, refl, sym, ◌∙◌, ap, subst, arith, inl, inr}
+use Rattle.std.specs.Prelude.{remove}
+use Rattle.kt_sched.specs.Children.{same_role}
+use Rattle.kt_child.specs.declared.child.Child.{Child}
+use Rattle.kt_child.specs.declared.watched.Watched.{Watched}
+use Rattle.kt_child.specs.declared.case.Case.{Case}
+use Rattle.kt_child.specs.Board.{one_if}
+use Rattle.kt_child.specs.Lives.{same_child}
+use Rattle.kt_child.specs.SeveralLives.{kept, name_of, named}
+use Rattle.kt_child.proofs.LifeSteps.{child_is_own}
+use Rattle.kt_child.proofs.NameCounts.{case_name, names_head, names_tail, none_named, numbered, other_name, own_named, own_number}
+use Rattle.kt_child.proofs.NamedSteps.{named_append}
+use Rattle.kt_child.proofs.Places.{in_append, some_is}
+
+-- what holds of each of these
+abbrev pub Every : {X : Type 0} → (X → Type 0) → List X → Type 0
+Every {X} P xs = (i : ℕ) (x : X) → slice_get xs i ≡ Some x → P x
+
+pub every_push : {X : Type 0} (P : X → Type 0) (xs : List X) (x : X) → Every P xs → P x → Every P (xs ++ x ∷ [])
+every_push {X} P xs x h p i y at = by (in_append xs (x ∷ []) i y at)
+  where
+    last : (m : ℕ) → slice_get (x ∷ []) m ≡ Some y → P y
+    last zero e = subst P (some_is x y e) p
+    last (suc m) e = let no : ⊥ = cc in absurd no
+
+    by : (slice_get xs i ≡ Some y) ⊎ ((m : ℕ) × (i ≡ length xs + m) × (slice_get (x ∷ []) m ≡ Some y)) → P y
+    by (inl there) = h i y there
+    by (inr (m, e, there)) = last m there
+
+-- what is left after one was taken stood there before
+pub left_at : {X : Type 0} (xs : List X) (place i : ℕ) (x : X) → slice_get (remove xs place) i ≡ Some x → (k : ℕ) × (slice_get xs k ≡ Some x)
+left_at [] zero i x e = let no : ⊥ = cc in absurd no
+left_at [] (suc place) i x e = let no : ⊥ = cc in absurd no
+left_at (y ∷ xs) zero i x e = (suc i, e)
+left_at (y ∷ xs) (suc place) zero x e = (zero, e)
+left_at (y ∷ xs) (suc place) (suc i) x e = let h = left_at xs place i x e in (suc h.0, h.1)
+
+pub every_left : {X : Type 0} (P : X → Type 0) (xs : List X) (place : ℕ) → Every P xs → Every P (remove xs place)
+every_left P xs place h i x e = let k = left_at xs place i x e in h k.0 x k.1
+
+-- no case at any place has a number that none of them has
+pub at_none : (n : ℕ) (cases : List Case) → numbered n cases ≡ 0 → Every (λ c. one_if (n == c.attempt) ≡ 0) cases
+at_none n [] h i c e = let no : ⊥ = cc in absurd no
+at_none n (x ∷ cases) h zero c e =
+    let f : one_if (n == x.attempt) ≡ one_if (n == c.attempt) = ap (λ t. one_if (n == t.attempt)) (some_is x c e) in
+    omega (arith, h, f)
+at_none n (x ∷ cases) h (suc i) c e = at_none n cases (omega (arith, h)) i c e
+
+-- the number of a case stands among them
+pub at_some : (cases : List Case) (i : ℕ) (c : Case) → slice_get cases i ≡ Some c → 1 ≤ numbered c.attempt cases
+at_some [] i c e = let no : ⊥ = cc in absurd no
+at_some (x ∷ cases) zero c e =
+    let one : one_if (c.attempt == x.attempt) ≡ 1 = ap (λ t. one_if (c.attempt == t.attempt)) (some_is x c e) ∙ own_number c.attempt in
+    omega (arith, one)
+at_some (x ∷ cases) (suc i) c e = let h = at_some cases i c e in omega (arith, h)
+
+-- the child of a case
+pub child_at : (i : ℕ) (ks : List Watched) (cs : List Case) (c : Case) → map name_of ks ≡ map case_name cs → slice_get cs i ≡ Some c
+    → (k : Watched) × (slice_get ks i ≡ Some k) × (k.child ≡ case_name c)
+child_at i ks [] c e at = let no : ⊥ = cc in absurd no
+child_at i [] (d ∷ cs) c e at = let no : ⊥ = cc in absurd no
+child_at zero (k ∷ ks) (d ∷ cs) c e at = (k, refl, names_head k.child (case_name d) (map name_of ks) (map case_name cs) e ∙ ap case_name (some_is d c at))
+child_at (suc i) (k ∷ ks) (d ∷ cs) c e at = child_at i ks cs c (names_tail k.child (case_name d) (map name_of ks) (map case_name cs) e) at
+
+-- a case whose number stands once has a child whose name is its own
+pub own_child : (i : ℕ) (ks : List Watched) (cs : List Case) (c : Case) → map name_of ks ≡ map case_name cs → slice_get cs i ≡ Some c
+    → numbered c.attempt cs ≤ 1 → (k : Watched) × (slice_get ks i ≡ Some k) × (k.child ≡ case_name c) × (named (case_name c) ks ≡ k ∷ [])
+own_child i ks cs c e at h =
+    let k = child_at i ks cs c e at in
+    let n : ℕ → Type 0 = λ t. numbered t cs ≤ 1 in
+    let P : Child → Type 0 = λ t. named t ks ≡ k.0 ∷ [] in
+    (k.0, k.1, k.2, subst P k.2 (own_named i ks cs k.0 e k.1 (subst n (sym (ap (λ t. t.attempt) k.2)) h)))
+
+-- and the other name of its number isn't there
+pub other_absent : (i : ℕ) (ks : List Watched) (cs : List Case) (c : Case) (a : Child) → map name_of ks ≡ map case_name cs → slice_get cs i ≡ Some c
+    → numbered c.attempt cs ≤ 1 → a.attempt ≡ c.attempt → same_child (case_name c) a ≡ false → named a ks ≡ []
+other_absent i ks [] c a e at h n o = let no : ⊥ = cc in absurd no
+other_absent i [] (d ∷ cs) c a e at h n o = refl
+other_absent zero (k ∷ ks) (d ∷ cs) c a e at h n o =
+    let f : k.child ≡ case_name d = names_head k.child (case_name d) (map name_of ks) (map case_name cs) e in
+    let s : d ≡ c = some_is d c at in
+    let one : one_if (c.attempt == d.attempt) ≡ 1 = ap (λ t. one_if (c.attempt == t.attempt)) s ∙ own_number c.attempt in
+    let rest : numbered c.attempt cs ≡ 0 = omega (arith, one, h) in
+    let g : same_child k.child a ≡ false = ap (λ t. same_child t a) (f ∙ ap case_name s) ∙ o in
+    ap (λ t. kept t k (named a ks)) g
+    ∙ none_named a ks cs (names_tail k.child (case_name d) (map name_of ks) (map case_name cs) e) (ap (λ t. numbered t cs) n ∙ rest)
+other_absent (suc i) (k ∷ ks) (d ∷ cs) c a e at h n o =
+    let f : k.child ≡ case_name d = names_head k.child (case_name d) (map name_of ks) (map case_name cs) e in
+    let m = at_some cs i c at in
+    let z : one_if (c.attempt == d.attempt) ≡ 0 = omega (arith, m, h) in
+    let g : same_child k.child a ≡ false = other_name a k.child d.attempt (ap (λ t. t.attempt) f) (ap (λ t. one_if (t == d.attempt)) n ∙ z) in
+    ap (λ t. kept t k (named a ks)) g
+    ∙ other_absent i ks cs c a (names_tail k.child (case_name d) (map name_of ks) (map case_name cs) e) at (omega (arith, h)) n o
+
+not_one : (t : Bool) → one_if t ≡ 0 → t ≡ false
+not_one true h = absurd (omega (arith, h))
+not_one false h = refl
+
+-- two names with different numbers
+pub other_number : (d a : Child) → one_if (d.attempt == a.attempt) ≡ 0 → same_child d a ≡ false
+other_number d a h = ap (λ t. t && same_role d.role a.role) (not_one (d.attempt == a.attempt) h)
+
+append_nil : (xs : List Watched) → xs ++ [] ≡ xs
+append_nil [] = refl
+append_nil (x ∷ xs) = ap (λ t. x ∷ t) (append_nil xs)
+
+-- a child of another name behind a row
+pub named_past : (a : Child) (row : List Watched) (k : Watched) → same_child k.child a ≡ false → named a (row ++ k ∷ []) ≡ named a row
+named_past a row k h = named_append a row (k ∷ []) ∙ ap (λ t. named a row ++ kept t k []) h ∙ append_nil (named a row)
+
+-- a child behind a row in which its name isn't
+pub named_last : (row : List Watched) (k : Watched) → named k.child row ≡ [] → named k.child (row ++ k ∷ []) ≡ k ∷ []
+named_last row k h =
+    named_append k.child row (k ∷ []) ∙ ap (λ t. t ++ kept (same_child k.child k.child) k []) h ∙ ap (λ t. kept t k []) (child_is_own k.child)

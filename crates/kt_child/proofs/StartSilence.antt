@@ -1,0 +1,72 @@
+-- A start asks neither poll nor kill.
+use Rattle.std.proofs.Common.{◌≡◌, ℕ, List, [], ◌∷◌, ◌++◌, Bool, true, false, Result, Ok, Err, refl, ◌∙◌, ap, inl, inr}
+use Rattle.std.specs.Prelude.{⊤}
+use Rattle.kt_base.specs.declared.role.Role.{Role}
+use Rattle.kt_base.specs.declared.role.Role.TheVariants.{Body, Cleanup}
+use Rattle.kt_base.specs.declared.refused.Refused.{Refused}
+use Rattle.kt_sched.specs.declared.job.Job.{Job}
+use Rattle.kt_sched.specs.declared.start_answer.StartAnswer.{StartAnswer}
+use Rattle.kt_child.specs.declared.child.Child.{Child}
+use Rattle.kt_child.specs.declared.spawning.Spawning.{Spawning}
+use Rattle.kt_child.specs.Begins.{BegunBody, BegunCleanup}
+use Rattle.kt_child.specs.Board.{Board}
+use Rattle.kt_child.specs.Calls.{Call, Chain}
+use Rattle.kt_child.specs.Launches.{StartsBy}
+use Rattle.kt_child.specs.Lives.{heard_by}
+use Rattle.kt_child.specs.Starts.{Ask, Settles, Started, StartedAfresh, Tried, child_asks, furnish_asks}
+use Rattle.kt_child.proofs.LifeSteps.{heard_append}
+
+-- questions that are no polls and no kills of a child
+abbrev AllUnheard : Child → List Ask → Type 0
+AllUnheard c [] = ⊤
+AllUnheard c (ask ∷ asks) = ((done : Bool) (more : List Call) → heard_by c (ask.call done ∷ more) ≡ heard_by c more) × AllUnheard c asks
+
+-- such questions, up to the one that isn't done
+tried_silent : (c : Child) (asks : List Ask) (calls : List Call) (r : Result (Unit {0}) Refused) → AllUnheard c asks → Tried asks calls r → heard_by c calls ≡ []
+tried_silent c [] [] (Ok done) u h = refl
+tried_silent c [] [] (Err cause) u h = absurd h
+tried_silent c [] (x ∷ calls) r u h = absurd h
+tried_silent c (ask ∷ asks) [] r u h = absurd h
+tried_silent c (ask ∷ asks) (x ∷ calls) (Ok done) u (e, h) = ap (λ t. heard_by c (t ∷ calls)) e ∙ u.0 true calls ∙ tried_silent c asks calls (Ok done) u.1 h
+tried_silent c (ask ∷ asks) (x ∷ calls) (Err cause) u (inl (e, none, f)) = ap (λ t. heard_by c (t ∷ calls)) e ∙ u.0 false calls ∙ ap (heard_by c) none
+tried_silent c (ask ∷ asks) (x ∷ calls) (Err cause) u (inr (e, h)) = ap (λ t. heard_by c (t ∷ calls)) e ∙ u.0 true calls ∙ tried_silent c asks calls (Err cause) u.1 h
+
+-- the last question of a start
+settles_silent : (c : Child) (dir : List ℕ) (tried : Result (Unit {0}) Refused) (last : Call) (r : Result ℕ Refused) → Settles dir tried last r → heard_by c (last ∷ []) ≡ []
+settles_silent c dir (Ok done) last r (answer, e, f) = ap (λ t. heard_by c (t ∷ [])) e
+settles_silent c dir (Err cause) last r (removed, e, f) = ap (λ t. heard_by c (t ∷ [])) e
+
+-- a start in a directory that is there
+started_silent : (c : Child) (asks : List Ask) (dir : List ℕ) (calls : List Call) (r : Result ℕ Refused) → AllUnheard c asks → Started asks dir calls r → heard_by c calls ≡ []
+started_silent c asks dir calls r u (tried, before, last, t, s, e) =
+    ap (heard_by c) e ∙ heard_append c before (last ∷ []) ∙ ap (λ x. x ++ heard_by c (last ∷ [])) (tried_silent c asks before tried u t)
+    ∙ settles_silent c dir tried last r s
+
+-- a start that makes its directory
+afresh_silent : (c : Child) (asks : List Ask) (dir : List ℕ) (calls : List Call) (r : Result ℕ Refused) → AllUnheard c asks → StartedAfresh asks dir calls r → heard_by c calls ≡ []
+afresh_silent c asks dir calls r u (inl (e, f)) = ap (heard_by c) e
+afresh_silent c asks dir calls r u (inr (more, e, s)) = ap (heard_by c) e ∙ started_silent c asks dir more r u s
+
+child_unheard : (c : Child) (p : Spawning) → AllUnheard c (child_asks p)
+child_unheard c p = (λ done more. refl, (λ done more. refl, (λ done more. refl, tt)))
+
+furnish_unheard : (c : Child) (p : Spawning) → AllUnheard c (furnish_asks p)
+furnish_unheard c p = (λ done more. refl, child_unheard c p)
+
+body_silent : (c : Child) (p : Spawning) (dir : List ℕ) (calls : List Call) (answer : StartAnswer) → BegunBody p dir calls answer → heard_by c calls ≡ []
+body_silent c p dir calls answer (inl (e, f)) = ap (heard_by c) e
+body_silent c p dir calls answer (inr (r, s, f)) = afresh_silent c (furnish_asks p) dir calls r (furnish_unheard c p) s
+
+cleanup_silent : (c : Child) (p : Spawning) (dir : List ℕ) (calls : List Call) (answer : StartAnswer) → BegunCleanup p dir calls answer → heard_by c calls ≡ []
+cleanup_silent c p dir calls answer (inl (done, e, f)) = ap (heard_by c) e
+cleanup_silent c p dir calls answer (inr (r, s, f)) = started_silent c (child_asks p) dir calls r (child_unheard c p) s
+
+-- what a start of a driver asks, which no child hears
+pub start_silent : {O : Type 0} (leads : O → Call → O → Type 0) (source root : List ℕ) (job : Job) (role : Role) (os : O) (next : ℕ) (b : Board) (answer : StartAnswer) (os' : O) (next' : ℕ) (b' : Board)
+    → StartsBy leads source root job role os next b answer os' next' b'
+    → (calls : List Call) × Chain leads os calls os' × ((c : Child) → heard_by c calls ≡ [])
+start_silent leads source root job Body os next b answer os' next' b' (inl (e, told, s, f, same)) = ([], s, λ c. refl)
+start_silent leads source root job Body os next b answer os' next' b' (inr (l, e, (calls, chain, begun), same)) =
+    (calls, chain, λ c. body_silent c _ _ calls answer begun)
+start_silent leads source root job Cleanup os next b answer os' next' b' (place, c, at, position, e, (calls, chain, begun), same) =
+    (calls, chain, λ a. cleanup_silent a _ _ calls answer begun)

@@ -1,0 +1,129 @@
+-- A wait keeps what is known of a driver's children, and the end that it tells is that of a life.
+use Rattle.std.proofs.Common.{◌≡◌, ℕ, ◌<◌, ◌≤◌, ◌==◌, ◌&&◌, List, [], ◌∷◌, ◌++◌, Bool, true, false, Some, slice_get, refl, sym, ◌∙◌, ap, subst, arith}
+use Rattle.std.specs.Prelude.{remove}
+use Rattle.kt_base.specs.declared.outcome.Outcome.{Outcome}
+use Rattle.kt_base.specs.declared.role.Role.{Role}
+use Rattle.kt_base.specs.declared.role.Role.TheVariants.{Body, Cleanup}
+use Rattle.kt_sched.specs.declared.job.Job.{Job}
+use Rattle.kt_sched.specs.declared.ended.Ended.{Ended}
+use Rattle.kt_sched.specs.Children.{same_role}
+use Rattle.kt_sched.specs.Plan.{IsPlan}
+use Rattle.kt_sched.specs.Trace.{Trace, Then, End}
+use Rattle.kt_child.specs.declared.child.Child.{Child}
+use Rattle.kt_child.specs.declared.watched.Watched.{Watched}
+use Rattle.kt_child.specs.declared.case.Case.{Case}
+use Rattle.kt_child.specs.Board.{Board, Waited, one_if}
+use Rattle.kt_child.specs.Calls.{Call}
+use Rattle.kt_child.specs.ChildOutcome.{Heard, Told}
+use Rattle.kt_child.specs.Ends.{Leaves}
+use Rattle.kt_child.specs.JobPlan.{limit_of, watched_of}
+use Rattle.kt_child.specs.Lives.{heard_by, same_child}
+use Rattle.kt_child.specs.SeveralLives.{GoesOn, LivesOut, Share, named}
+use Rattle.kt_child.specs.TraceLives.{IsNumberOf}
+use Rattle.kt_child.specs.Waits.{WaitedOn}
+use Rattle.kt_child.proofs.CasePlaces.{other_absent, other_number, own_child}
+use Rattle.kt_child.proofs.EndSilence.{shares_at}
+use Rattle.kt_child.proofs.LifeSteps.{append_none, child_is_own}
+use Rattle.kt_child.proofs.NameCounts.{case_name, numbered}
+use Rattle.kt_child.proofs.NameSteps.{Apart}
+use Rattle.kt_child.proofs.NamedSteps.{head_is}
+use Rattle.kt_child.proofs.Outcomes.{told}
+use Rattle.kt_child.proofs.Places.{some_is}
+use Rattle.kt_child.proofs.RowNames.{name_at}
+use Rattle.kt_child.proofs.SeveralSteps.{goes_join, lives_join}
+use Rattle.kt_child.proofs.TraceFacts.{EndedSo, IsGone, RunsSo, cleaner}
+use Rattle.kt_child.proofs.WaitSilence.{wait_silent}
+
+-- what each name has heard after these calls
+abbrev pub heard_after : (Child → List Heard) → List Call → Child → List Heard
+heard_after heard calls c = heard c ++ heard_by c calls
+
+-- a name that hears nothing of a wait
+pub unheard : (heard : Child → List Heard) (c : Child) (old new : Board) (calls : List Call) (e : Ended) → named c old.children ≡ [] → Waited old calls e new
+    → heard_after heard calls c ≡ heard c
+unheard heard c old new calls e none w = ap (λ t. heard c ++ t) (wait_silent c old new calls e none w) ∙ append_none (heard c)
+
+-- the share of a child in a wait that ends with the child of this case
+share_of : (old new : Board) (calls polls rest : List Call) (place : ℕ) (outcome : Outcome) (after : List Watched) (d : Case) (e : Ended) (next : ℕ) (c : Child) (k : Watched)
+    → Apart next old → slice_get old.cases place ≡ Some d → calls ≡ polls ++ rest
+    → WaitedOn old.going old.children polls place outcome after new.going → Leaves d rest outcome e → new.children ≡ remove after place
+    → named c old.children ≡ k ∷ [] → Share c (same_child (case_name d) c) k (heard_by c calls) e.outcome new.children
+share_of old new calls polls rest place outcome after d e next c k apart at eq waited leaves ch own =
+    let m = apart.1 d.attempt in
+    let most = m.0 in
+    let o = own_child place old.children old.cases d apart.0 at (omega (arith, most)) in
+    let s = shares_at old new polls rest place outcome after d e c k own waited leaves ch in
+    let over : s.0 ≡ case_name d = some_is s.0 (case_name d) (sym s.1 ∙ name_at place old.children o.0 o.1 ∙ ap (λ t. Some t) o.2) in
+    let P : Child → Type 0 = λ t. Share c (same_child t c) k (heard_by c calls) e.outcome new.children in
+    let Q : List Call → Type 0 = λ t. Share c (same_child s.0 c) k (heard_by c t) e.outcome new.children in
+    subst P over (subst Q (sym eq) s.2)
+
+share_goes : (b : Bool) (c : Child) (start k m : Watched) (xs ys : List Heard) (outcome : Outcome) (row : List Watched) → b ≡ false
+    → GoesOn start xs k → Share c b k ys outcome row → named c row ≡ m ∷ [] → GoesOn start (xs ++ ys) m
+share_goes true c start k m xs ys outcome row no' g s e = let no : ⊥ = cc in absurd no
+share_goes false c start k m xs ys outcome row b g (new, h, f) e =
+    let same : new ≡ m = head_is new m [] [] (sym f ∙ e) in
+    let P : Watched → Type 0 = λ t. GoesOn start (xs ++ ys) t in
+    subst P same (goes_join start k new xs ys g h)
+
+share_ends : (b : Bool) (c : Child) (start k : Watched) (xs ys : List Heard) (outcome : Outcome) (row : List Watched) → b ≡ true
+    → GoesOn start xs k → Share c b k ys outcome row → LivesOut start (xs ++ ys) outcome
+share_ends true c start k xs ys outcome row b g s = lives_join start k xs ys outcome g s
+share_ends false c start k xs ys outcome row no' g s = let no : ⊥ = cc in absurd no
+
+positive : (plan : List Job) (i : ℕ) (job : Job) (role : Role) → IsPlan plan → slice_get plan i ≡ Some job → 0 < limit_of job role
+positive plan i job Body is at = let f = is.fit i job at in let t = f.timed in omega (arith, t)
+positive plan i job Cleanup is at = omega arith
+
+-- a case that goes on running
+pub still_runs : (plan : List Job) (base : ℕ) (T : Trace) (heard : Child → List Heard) (next : ℕ) (old new : Board) (calls polls rest : List Call) (place : ℕ) (outcome : Outcome) (after : List Watched) (d : Case) (e : Ended)
+    → Apart next old → slice_get old.cases place ≡ Some d → calls ≡ polls ++ rest
+    → WaitedOn old.going old.children polls place outcome after new.going → Leaves d rest outcome e → new.children ≡ remove after place
+    → Waited old calls e new
+    → (i : ℕ) (c : Case) → slice_get old.cases i ≡ Some c → one_if (d.attempt == c.attempt) ≡ 0
+    → RunsSo plan base T heard old.children c → RunsSo plan base (Then T (End e)) (heard_after heard calls) new.children c
+still_runs plan base T heard next old new calls polls rest place outcome after d e apart at eq waited leaves ch w i c there z r =
+    let m = apart.1 c.attempt in
+    let most = m.0 in
+    let most' : numbered c.attempt old.cases ≤ 1 = omega (arith, most) in
+    let o = own_child i old.children old.cases c apart.0 there most' in (
+      r.0,
+      λ b.
+          unheard heard (cleaner c.attempt) old new calls e
+          (other_absent i old.children old.cases c (cleaner c.attempt) apart.0 there most' refl
+          (ap (λ t. (c.attempt == c.attempt) && same_role t Cleanup) b ∙ and_false (c.attempt == c.attempt))) w
+          ∙ r.1 b,
+      (
+        r.2.0,
+        r.2.1,
+        λ k own.
+            share_goes (same_child (case_name d) (case_name c)) (case_name c) (watched_of r.2.0 c.role c.attempt) o.0 k (heard (case_name c)) (heard_by (case_name c) calls) e.outcome new.children
+            (other_number (case_name d) (case_name c) z) (r.2.2 o.0 o.3)
+            (share_of old new calls polls rest place outcome after d e next (case_name c) o.0 apart at eq waited leaves ch o.3) own,
+      ),
+    )
+  where
+    and_false : (a : Bool) → (a && false) ≡ false
+    and_false true = refl
+    and_false false = refl
+
+-- the end of a case's child
+pub ends_so : (plan : List Job) (base : ℕ) (T : Trace) (heard : Child → List Heard) (next : ℕ) (old new : Board) (calls polls rest : List Call) (place : ℕ) (outcome : Outcome) (after : List Watched) (d : Case) (e : Ended)
+    → IsPlan plan → Apart next old → slice_get old.cases place ≡ Some d → calls ≡ polls ++ rest
+    → WaitedOn old.going old.children polls place outcome after new.going → Leaves d rest outcome e → new.children ≡ remove after place
+    → IsGone next new (case_name d) → e.position ≡ d.position → e.role ≡ d.role
+    → RunsSo plan base T heard old.children d → EndedSo plan base (heard_after heard calls) next new T (End e)
+ends_so plan base T heard next old new calls polls rest place outcome after d e is apart at eq waited leaves ch gone position role r =
+    let m = apart.1 d.attempt in
+    let most = m.0 in
+    let name : Child = case_name d in
+    let job : Job = r.2.0 in
+    let o = own_child place old.children old.cases d apart.0 at (omega (arith, most)) in
+    let life = share_ends (same_child name name) name (watched_of job d.role d.attempt) o.0 (heard name) (heard_by name calls) e.outcome new.children
+    (child_is_own name) (r.2.2 o.0 o.3) (share_of old new calls polls rest place outcome after d e next name o.0 apart at eq waited leaves ch o.3) in
+    let table : Told (limit_of job d.role) (heard_after heard calls name) e.outcome =
+    told life.0 (limit_of job d.role) (heard_after heard calls name) e.outcome (positive plan d.position job d.role is r.2.1) life.1 in
+    let N : ℕ → Type 0 = λ t. IsNumberOf base T t d.attempt in
+    let P : Role → Type 0 = λ t. Told (limit_of job t) (heard_after heard calls (record { attempt = d.attempt; role = t })) e.outcome in
+    let Q : Role → Type 0 = λ t. IsGone next new (record { attempt = d.attempt; role = t }) in
+    (d.attempt, subst N (sym position) r.0, (job, ap (slice_get plan) position ∙ r.2.1, subst P (sym role) table), subst Q (sym role) gone)

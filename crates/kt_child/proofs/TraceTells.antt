@@ -1,0 +1,105 @@
+-- Over a whole trace the answers of each child are one life, which tells its end.
+use Rattle.std.proofs.Common.{◌≡◌, ℕ, List, [], ◌++◌, refl, sym, ◌∙◌, ap, subst}
+use Rattle.std.specs.Prelude.{Some, slice_get}
+use Rattle.kt_base.specs.declared.role.Role.{Role}
+use Rattle.kt_sched.specs.declared.job.Job.{Job}
+use Rattle.kt_sched.specs.declared.start_answer.StartAnswer.{StartAnswer}
+use Rattle.kt_sched.specs.declared.ended.Ended.{Ended}
+use Rattle.kt_sched.specs.Plan.{IsPlan}
+use Rattle.kt_sched.specs.ScheduleRules.{Each}
+use Rattle.kt_sched.specs.Trace.{Trace, NoEvent, Then, Event, Start, End, Leads}
+use Rattle.kt_child.specs.declared.child.Child.{Child}
+use Rattle.kt_child.specs.Board.{Board, Waited}
+use Rattle.kt_child.specs.Calls.{Call, Chain}
+use Rattle.kt_child.specs.ChildOutcome.{Heard, Told}
+use Rattle.kt_child.specs.JobPlan.{limit_of}
+use Rattle.kt_child.specs.Launches.{StartsBy}
+use Rattle.kt_child.specs.Lives.{heard_by}
+use Rattle.kt_child.specs.Numbers.{IsBare}
+use Rattle.kt_child.specs.TraceLives.{EndsAreTold, ToldAt}
+use Rattle.kt_child.proofs.CasePlaces.{Every}
+use Rattle.kt_child.proofs.Chains.{chain_append}
+use Rattle.kt_child.proofs.LifeSteps.{append_none, heard_append}
+use Rattle.kt_child.proofs.NameSteps.{none_yet}
+use Rattle.kt_child.proofs.StartSilence.{start_silent}
+use Rattle.kt_child.proofs.TraceEnds.{heard_after}
+use Rattle.kt_child.proofs.TraceFacts.{EndedSo, Stands}
+use Rattle.kt_child.proofs.TraceStarts.{start_stands}
+use Rattle.kt_child.proofs.TraceWaits.{wait_stands}
+
+none_at : {X : Type 0} (P : X → Type 0) (xs : List X) → xs ≡ [] → Every P xs
+none_at {X} P xs e i x at = let f : slice_get [] i ≡ Some x = subst (λ t. slice_get t i ≡ Some x) e at in none i f
+  where
+    none : (k : ℕ) → slice_get [] k ≡ Some x → P x
+    none k f = let no : ⊥ = cc in absurd no
+
+-- before the first answer
+bare_stands : (plan : List Job) (next : ℕ) (b : Board) → IsBare b → Stands plan next NoEvent (λ c. []) next b
+bare_stands plan next b (x, y, z) =
+    record {
+      counted = refl;
+      apart = none_yet next b (x, y, z);
+      run = none_at _ b.cases y;
+      owed = none_at _ b.pending z;
+      unborn = λ n r le. refl;
+      ended = tt;
+    }
+
+told_one : (plan : List Job) (base : ℕ) (heard : Child → List Heard) (next : ℕ) (b : Board) (calls : List Call) (T : Trace) (event : Event)
+    → ((c : Child) → heard_by c calls ≡ heard c) → EndedSo plan base heard next b T event → ToldAt plan base calls T event
+told_one plan base heard next b calls T (Start i role answer) f h = tt
+told_one plan base heard next b calls T (End ended) f (n, is, (job, at, told), gone) =
+    let P : List Heard → Type 0 = λ t. Told (limit_of job ended.role) t ended.outcome in
+    record { number = n; numbered = is; job = job; place = at; told = subst P (sym (f (record { attempt = n; role = ended.role }))) told }
+
+told_each : (plan : List Job) (base : ℕ) (heard : Child → List Heard) (next : ℕ) (b : Board) (calls : List Call) (T : Trace)
+    → ((c : Child) → heard_by c calls ≡ heard c) → Each (EndedSo plan base heard next b) T → Each (ToldAt plan base calls) T
+told_each plan base heard next b calls NoEvent f h = tt
+told_each plan base heard next b calls (Then T event) f (h, e) =
+    (told_each plan base heard next b calls T f h, told_one plan base heard next b calls T event f e)
+
+-- what a trace leaves: the calls that it asked, what each name heard of them, and what is known by it
+abbrev Left : {D O : Type 0} → (O → Call → O → Type 0) → (D → O) → (D → ℕ) → (D → Board) → List Job → Trace → D → D → Type 0
+Left leads os next row plan T d e =
+    (calls : List Call) × (heard : Child → List Heard) × Chain leads (os d) calls (os e)
+    × ((c : Child) → heard_by c calls ≡ heard c) × Stands plan (next d) T heard (next e) (row e)
+
+trace_left : {D O : Type 0} (leads : O → Call → O → Type 0) (os : D → O) (next : D → ℕ) (row : D → Board) (source root : D → List ℕ)
+    (starts : D → Job → Role → StartAnswer → D → Type 0) (waits : D → Ended → D → Type 0)
+    → ((d e : D) (job : Job) (role : Role) (answer : StartAnswer) → starts d job role answer e → StartsBy leads (source d) (root d) job role (os d) (next d) (row d) answer (os e) (next e) (row e))
+    → ((d e : D) (ended : Ended) → waits d ended e → (calls : List Call) × Chain leads (os d) calls (os e) × Waited (row d) calls ended (row e) × (next e ≡ next d))
+    → (plan : List Job) (T : Trace) (d e : D) → IsPlan plan → IsBare (row d) → Leads starts waits plan T d e → Left leads os next row plan T d e
+trace_left {D} leads os next row source root starts waits s w plan NoEvent d e is bare led =
+    let P : D → Type 0 = λ t. Stands plan (next d) NoEvent (λ c. []) (next t) (row t) in
+    ([], λ c. [], ap os led, λ c. refl, subst P (sym led) (bare_stands plan (next d) (row d) bare))
+trace_left leads os next row source root starts waits s w plan (Then T (Start i role answer)) d e is bare (mid, job, led, at, started) =
+    let l = trace_left leads os next row source root starts waits s w plan T d mid is bare led in
+    let by = s mid e job role answer started in
+    let q = start_silent leads (source mid) (root mid) job role (os mid) (next mid) (row mid) answer (os e) (next e) (row e) by in (
+      l.0 ++ q.0,
+      l.1,
+      chain_append leads (os d) (os mid) (os e) l.0 q.0 l.2 q.1,
+      λ c. heard_append c l.0 q.0 ∙ ap (λ t. heard_by c l.0 ++ t) (q.2 c) ∙ append_none (heard_by c l.0) ∙ l.3 c,
+      start_stands leads (source mid) (root mid) job role (os mid) (next mid) (row mid) answer (os e) (next e) (row e) plan (next d) T l.1 i is at by l.4,
+    )
+trace_left leads os next row source root starts waits s w plan (Then T (End ended)) d e is bare (mid, led, waited) =
+    let l = trace_left leads os next row source root starts waits s w plan T d mid is bare led in
+    let q = w mid e ended waited in
+    let P : ℕ → Type 0 = λ t. Stands plan (next d) (Then T (End ended)) (heard_after l.1 q.0) t (row e) in (
+      l.0 ++ q.0,
+      heard_after l.1 q.0,
+      chain_append leads (os d) (os mid) (os e) l.0 q.0 l.2 q.1,
+      λ c. heard_append c l.0 q.0 ∙ ap (λ t. t ++ heard_by c q.0) (l.3 c),
+      subst P (sym q.3) (wait_stands plan (next d) T l.1 (next mid) (row mid) (row e) q.0 ended is q.2 l.4),
+    )
+
+-- the law
+pub ends_are_told : {D O : Type 0} (leads : O → Call → O → Type 0) (os : D → O) (next : D → ℕ) (row : D → Board) (source root : D → List ℕ)
+    (starts : D → Job → Role → StartAnswer → D → Type 0) (waits : D → Ended → D → Type 0)
+    → ((d e : D) (job : Job) (role : Role) (answer : StartAnswer) → starts d job role answer e → StartsBy leads (source d) (root d) job role (os d) (next d) (row d) answer (os e) (next e) (row e))
+    → ((d e : D) (ended : Ended) → waits d ended e → (calls : List Call) × Chain leads (os d) calls (os e) × Waited (row d) calls ended (row e) × (next e ≡ next d))
+    → EndsAreTold leads os next row starts waits
+ends_are_told leads os next row source root starts waits s w plan T d e is bare led =
+    let l = trace_left leads os next row source root starts waits s w plan T d e is bare led in
+    let k = l.4 in
+    (l.0, l.2, told_each plan (next d) l.1 (next e) (row e) l.0 T l.3 k.ended)

@@ -1,0 +1,147 @@
+-- What is known of a driver's children after a wait.
+use Rattle.std.proofs.Common.{◌≡◌, ℕ, zero, suc, ◌<◌, ◌≤◌, ◌==◌, ◌&&◌, List, [], ◌∷◌, ◌++◌, Bool, true, false, Some, ◌⊎◌, slice_get, refl, sym, ◌∙◌, ap, subst, arith, inl, inr, if◌then◌else◌}
+use Rattle.std.specs.Prelude.{remove}
+use Rattle.kt_base.specs.declared.role.Role.{Role}
+use Rattle.kt_base.specs.declared.role.Role.TheVariants.{Body, Cleanup}
+use Rattle.kt_sched.specs.declared.job.Job.{Job}
+use Rattle.kt_sched.specs.declared.ended.Ended.{Ended}
+use Rattle.kt_sched.specs.Children.{same_role}
+use Rattle.kt_sched.specs.Plan.{IsPlan}
+use Rattle.kt_sched.specs.Trace.{Trace, Then, End}
+use Rattle.kt_child.specs.declared.child.Child.{Child}
+use Rattle.kt_child.specs.declared.case.Case.{Case}
+use Rattle.kt_child.specs.Board.{Board, Waited, pending_with}
+use Rattle.kt_child.specs.Calls.{Call}
+use Rattle.kt_child.specs.ChildOutcome.{Heard}
+use Rattle.kt_child.specs.Ends.{is_over}
+use Rattle.kt_child.proofs.CasePlaces.{Every, at_none, at_some, every_push, left_at, other_absent}
+use Rattle.kt_child.proofs.NameCounts.{case_name, none_named, numbered, numbered_less, own_number}
+use Rattle.kt_child.proofs.NameSteps.{Apart, owed, wait_apart}
+use Rattle.kt_child.proofs.TraceEnds.{ends_so, heard_after, still_runs, unheard}
+use Rattle.kt_child.proofs.TraceFacts.{IsGone, OwedSo, RunsSo, Stands, cleaner, ended_kept}
+use Rattle.kt_child.proofs.WaitSilence.{wait_none}
+
+less_or : (a b : ℕ) → (a < b) ⊎ (b ≤ a)
+less_or a zero = inr (omega arith)
+less_or zero (suc b) = inl (omega arith)
+less_or (suc a) (suc b) = by (less_or a b)
+  where
+    by : (a < b) ⊎ (b ≤ a) → (suc a < suc b) ⊎ (suc b ≤ suc a)
+    by (inl h) = inl (omega (arith, h))
+    by (inr h) = inr (omega (arith, h))
+
+-- the number of a case is below the next one
+below_next : (next : ℕ) (b : Board) (i : ℕ) (c : Case) → Apart next b → slice_get b.cases i ≡ Some c → c.attempt < next
+below_next next b i c apart at = by (less_or c.attempt next)
+  where
+    by : (c.attempt < next) ⊎ (next ≤ c.attempt) → c.attempt < next
+    by (inl h) = h
+    by (inr h) = let m = apart.1 c.attempt in let z = m.1 h in let one = at_some b.cases i c at in absurd (omega (arith, z, one))
+
+is_cleanup_over : (c : Case) → c.role ≡ Cleanup → is_over c ≡ true
+is_cleanup_over c e = ap (λ r. if same_role r Body && c.cleanup then false else true) e
+
+-- only a body has a cleanup that is owed
+is_body : (c : Case) (r : Role) → c.role ≡ r → is_over c ≡ false → c.role ≡ Body
+is_body c Body e h = e
+is_body c Cleanup e h = let f = is_cleanup_over c e in let no : ⊥ = cc in absurd no
+
+-- a name that is gone stays so in a wait
+gone_wait : (next : ℕ) (old new : Board) (calls : List Call) (e : Ended) → Waited old calls e new → (c : Child) → IsGone next old c → IsGone next new c
+gone_wait next old new calls e (polls, rest, place, outcome, after, d, eq, waited, at, leaves, ch, ca, pe) c (lt, none, h) =
+    let s = numbered_less c.attempt old.cases place d at in
+    let a = ap (numbered c.attempt) ca in
+    let p = ap (numbered c.attempt) pe in
+    let o = owed c.attempt d old.pending in
+    (lt, wait_none c old new calls e none (polls, rest, place, outcome, after, d, eq, waited, at, leaves, ch, ca, pe), λ r. let z = h r in omega (arith, s, a, p, o, z))
+
+-- the name of the child that is over is gone
+gone_over : (next : ℕ) (old new : Board) (calls : List Call) (e : Ended) (place : ℕ) (d : Case) → Apart next old → Apart next new
+    → slice_get old.cases place ≡ Some d → new.cases ≡ remove old.cases place → new.pending ≡ pending_with d old.pending → IsGone next new (case_name d)
+gone_over next old new calls e place d apart apart' at ca pe =
+    let s = numbered_less d.attempt old.cases place d at in
+    let one = own_number d.attempt in
+    let a = ap (numbered d.attempt) ca in
+    let m = apart.1 d.attempt in
+    let most = m.0 in
+    let none : numbered d.attempt new.cases ≡ 0 = omega (arith, s, one, a, most) in (
+      below_next next old place d apart at,
+      none_named (case_name d) new.children new.cases apart'.0 none,
+      λ r.
+          let f = ap (numbered d.attempt) (pe ∙ ap (λ t. if t then old.pending else old.pending ++ d ∷ []) (is_cleanup_over d r)) in
+          omega (arith, none, f, s, one, most),
+    )
+
+-- what is owed after an end
+owed_wait : (base : ℕ) (T : Trace) (heard : Child → List Heard) (next : ℕ) (old new : Board) (calls : List Call) (e : Ended) (place : ℕ) (d : Case) → Apart next old
+    → slice_get old.cases place ≡ Some d → Waited old calls e new
+    → OwedSo base T heard d ⊎ (is_over d ≡ true)
+    → Every (OwedSo base T heard) old.pending → (t : Bool) → is_over d ≡ t
+    → Every (OwedSo base (Then T (End e)) (heard_after heard calls)) (if t then old.pending else old.pending ++ d ∷ [])
+owed_wait base T heard next old new calls e place d apart at w given h t is = by t is
+  where
+    before : Every (OwedSo base (Then T (End e)) (heard_after heard calls)) old.pending
+    before i c there =
+        let r = h i c there in
+        let m = apart.1 c.attempt in
+        let most = m.0 in
+        let one = at_some old.pending i c there in
+        let none = none_named (cleaner c.attempt) old.children old.cases apart.0 (omega (arith, most, one)) in
+        (r.0, unheard heard (cleaner c.attempt) old new calls e none w ∙ r.1)
+
+    last : OwedSo base T heard d ⊎ (is_over d ≡ true) → is_over d ≡ false → OwedSo base (Then T (End e)) (heard_after heard calls) d
+    last (inr over) f = let no : ⊥ = cc in absurd no
+    last (inl r) f =
+        let m = apart.1 d.attempt in
+        let most = m.0 in
+        let body = is_body d d.role refl f in
+        let other = ap (λ x. (d.attempt == d.attempt) && same_role x Cleanup) body ∙ and_false (d.attempt == d.attempt) in
+        let none = other_absent place old.children old.cases d (cleaner d.attempt) apart.0 at (omega (arith, most)) refl other in
+        (r.0, unheard heard (cleaner d.attempt) old new calls e none w ∙ r.1)
+      where
+        and_false : (a : Bool) → (a && false) ≡ false
+        and_false true = refl
+        and_false false = refl
+
+    by : (u : Bool) → is_over d ≡ u → Every (OwedSo base (Then T (End e)) (heard_after heard calls)) (if u then old.pending else old.pending ++ d ∷ [])
+    by true f = before
+    by false f = every_push (OwedSo base (Then T (End e)) (heard_after heard calls)) old.pending d before (last given f)
+
+given_of : (plan : List Job) (base : ℕ) (T : Trace) (heard : Child → List Heard) (b : Board) (d : Case) → RunsSo plan base T heard b.children d
+    → (t : Bool) → is_over d ≡ t → OwedSo base T heard d ⊎ (is_over d ≡ true)
+given_of plan base T heard b d r true e = inr e
+given_of plan base T heard b d r false e = inl (r.0, r.1 (is_body d d.role refl e))
+
+pub wait_stands : (plan : List Job) (base : ℕ) (T : Trace) (heard : Child → List Heard) (next : ℕ) (old new : Board) (calls : List Call) (e : Ended)
+    → IsPlan plan → Waited old calls e new → Stands plan base T heard next old
+    → Stands plan base (Then T (End e)) (heard_after heard calls) next new
+wait_stands plan base T heard next old new calls e is (polls, rest, place, outcome, after, d, eq, waited, at, leaves, ch, ca, pe) s =
+    let w : Waited old calls e new = (polls, rest, place, outcome, after, d, eq, waited, at, leaves, ch, ca, pe) in
+    let a = s.apart in
+    let apart' = wait_apart old new calls e next w a in
+    let less = numbered_less d.attempt old.cases place d at in
+    let one = own_number d.attempt in
+    let m = a.1 d.attempt in
+    let most = m.0 in
+    let none : numbered d.attempt (remove old.cases place) ≡ 0 = omega (arith, less, one, most) in
+    let r = s.run place d at in
+    let P : List Case → Type 0 = λ t. Every (RunsSo plan base (Then T (End e)) (heard_after heard calls) new.children) t in
+    let Q : List Case → Type 0 = λ t. Every (OwedSo base (Then T (End e)) (heard_after heard calls)) t in
+    record {
+      counted = s.counted;
+      apart = apart';
+      run = subst P (sym ca) (λ i c there.
+          let k = left_at old.cases place i c there in
+          still_runs plan base T heard next old new calls polls rest place outcome after d e a at eq waited leaves ch w k.0 c k.1
+          (at_none d.attempt (remove old.cases place) none i c there) (s.run k.0 c k.1));
+      owed = subst Q (sym pe) (owed_wait base T heard next old new calls e place d a at w (given_of plan base T heard old d r (is_over d) refl) s.owed (is_over d) refl);
+      unborn = λ n role le.
+          let u = a.1 n in
+          unheard heard (record { attempt = n; role = role }) old new calls e (none_named (record { attempt = n; role = role }) old.children old.cases a.0 (let z = u.1 le in omega (arith, z))) w
+          ∙ s.unborn n role le;
+      ended = (
+        ended_kept plan base heard (heard_after heard calls) next next old new T (λ c g. (unheard heard c old new calls e g.1 w, gone_wait next old new calls e w c g)) s.ended,
+        ends_so plan base T heard next old new calls polls rest place outcome after d e is a at eq waited leaves ch
+            (gone_over next old new calls e place d a apart' at ca pe) leaves.8 leaves.9 r,
+      );
+    }

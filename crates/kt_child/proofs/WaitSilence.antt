@@ -1,0 +1,99 @@
+-- A child that doesn't run hears nothing in a wait.
+use Rattle.std.proofs.Common.{◌≡◌, ℕ, zero, suc, List, [], ◌∷◌, ◌++◌, Bool, true, false, map, take, drop, slice_get, refl, sym, ◌∙◌, ap, inl, inr}
+use Rattle.std.specs.Prelude.{remove}
+use Rattle.kt_base.specs.declared.outcome.Outcome.{Outcome}
+use Rattle.kt_sched.specs.declared.ended.Ended.{Ended}
+use Rattle.kt_child.specs.declared.child.Child.{Child}
+use Rattle.kt_child.specs.declared.open_turn.OpenTurn.{OpenTurn}
+use Rattle.kt_child.specs.declared.watched.Watched.{Watched}
+use Rattle.kt_child.specs.Board.{Board, Waited}
+use Rattle.kt_child.specs.Calls.{Call, Pause}
+use Rattle.kt_child.specs.Lives.{heard_by, same_child}
+use Rattle.kt_child.specs.SeveralLives.{kept, name_of, named}
+use Rattle.kt_child.specs.Turns.{PolledUntil, Rounds, advanced, after_turns}
+use Rattle.kt_child.specs.Waits.{WaitedOn, gone_on, later_of, unpolled_of}
+use Rattle.kt_child.proofs.EndSilence.{leaves_silent}
+use Rattle.kt_child.proofs.LifeSteps.{heard_append}
+use Rattle.kt_child.proofs.NameCounts.{names_head, names_tail}
+use Rattle.kt_child.proofs.NamedSteps.{at_place, named_append, named_map, none_left, none_right}
+use Rattle.kt_child.proofs.RowNames.{names_part, names_turn, names_turns}
+use Rattle.kt_child.proofs.SeveralSteps.{silent}
+use Rattle.kt_child.proofs.SeveralWaits.{cut, last_of, last_other, names_waited}
+
+kept_none : (b : Bool) (k : Watched) (ks : List Watched) → kept b k ks ≡ [] → (b ≡ false) × (ks ≡ [])
+kept_none true k ks e = let no : ⊥ = cc in absurd no
+kept_none false k ks e = (refl, e)
+
+-- a name that isn't in a row isn't in another of the same names
+pub none_by_names : (c : Child) (xs ys : List Watched) → map name_of xs ≡ map name_of ys → named c ys ≡ [] → named c xs ≡ []
+none_by_names c [] ys e h = refl
+none_by_names c (x ∷ xs) [] e h = let no : ⊥ = cc in absurd no
+none_by_names c (x ∷ xs) (y ∷ ys) e h =
+    let f : x.child ≡ y.child = names_head x.child y.child (map name_of xs) (map name_of ys) e in
+    let g = names_tail x.child y.child (map name_of xs) (map name_of ys) e in
+    let p = kept_none (same_child y.child c) y (named c ys) h in
+    ap (λ t. kept t x (named c xs)) (ap (λ t. same_child t c) f ∙ p.0) ∙ none_by_names c xs ys g p.1
+
+-- nor in a row from which a child was taken
+none_removed : (c : Child) (row : List Watched) (place : ℕ) → named c row ≡ [] → named c (remove row place) ≡ []
+none_removed c [] zero h = refl
+none_removed c [] (suc place) h = refl
+none_removed c (k ∷ row) zero h = let p = kept_none (same_child k.child c) k (named c row) h in p.1
+none_removed c (k ∷ row) (suc place) h =
+    let p = kept_none (same_child k.child c) k (named c row) h in
+    ap (λ t. kept t k (named c (remove row place))) p.0 ∙ none_removed c row place p.1
+
+until_silent : (c : Child) (ks : List Watched) (i : ℕ) (calls : List Call) (outcome : Outcome) → named c ks ≡ [] → PolledUntil ks i calls outcome → heard_by c calls ≡ []
+until_silent c ks i calls outcome e (before, last, eq, polled, final) =
+    let l = last_of (slice_get ks i) last outcome final in
+    let o : Watched = l.0 in
+    let p = at_place i ks o l.1 in
+    let parts : named c (take i ks) ++ kept (same_child o.child c) o (named c (drop (suc i) ks)) ≡ [] =
+    sym (named_append c (take i ks) (o ∷ drop (suc i) ks)) ∙ ap (named c) (sym p.0) ∙ e in
+    let here = none_left (named c (take i ks)) (kept (same_child o.child c) o (named c (drop (suc i) ks))) parts in
+    let there = none_right (named c (take i ks)) (kept (same_child o.child c) o (named c (drop (suc i) ks))) parts in
+    let other = kept_none (same_child o.child c) o (named c (drop (suc i) ks)) there in
+    ap (heard_by c) eq ∙ heard_append c before last ∙ ap (λ t. t ++ heard_by c last) (silent c (take i ks) before here polled)
+    ∙ last_other c o last outcome other.0 l.2
+
+rounds_silent : (n : ℕ) (c : Child) (ks : List Watched) (calls : List Call) → named c ks ≡ [] → Rounds n ks calls → heard_by c calls ≡ []
+rounds_silent zero c ks calls e h = ap (heard_by c) h
+rounds_silent (suc n) c ks calls e (turn, done, more, eq, polled, rounds) =
+    ap (heard_by c) eq ∙ heard_append c turn (Pause done ∷ more) ∙ ap (λ t. t ++ heard_by c more) (silent c ks turn e polled)
+    ∙ rounds_silent n c (map advanced ks) more (named_map c ks ∙ ap (map advanced) e) rounds
+
+part_none : (c : Child) (hs ms ls : List Watched) → named c (hs ++ (ms ++ ls)) ≡ [] → named c ms ≡ []
+part_none c hs ms ls e =
+    let f : named c hs ++ named c (ms ++ ls) ≡ [] = sym (named_append c hs (ms ++ ls)) ∙ e in
+    let g = none_right (named c hs) (named c (ms ++ ls)) f in
+    none_left (named c ms) (named c ls) (sym (named_append c ms ls) ∙ g)
+
+-- the polls of a wait
+on_silent : (c : Child) (going : OpenTurn) (children : List Watched) (calls : List Call) (place : ℕ) (outcome : Outcome) (after : List Watched) (going' : OpenTurn)
+    → named c children ≡ [] → WaitedOn going children calls place outcome after going' → heard_by c calls ≡ []
+on_silent c going children calls place outcome after going' e (inl (i, members, until, at, same, n, turned)) =
+    let us = part_none c (take going.from children) (unpolled_of going children) (later_of going children) (ap (named c) (cut going.from going.unpolled children) ∙ e) in
+    until_silent c (unpolled_of going children) i calls outcome us until
+on_silent c going children calls place outcome after going' e (inr (rest, more, turns, members, eq, polled, (rounds, last, eq2, waited, until), same, n, turned)) =
+    let us = part_none c (take going.from children) (unpolled_of going children) (later_of going children) (ap (named c) (cut going.from going.unpolled children) ∙ e) in
+    let names : map name_of (gone_on going children) ≡ map name_of children =
+    names_part (take going.from children) (map advanced (unpolled_of going children)) (unpolled_of going children) (later_of going children) (names_turn (unpolled_of going children))
+    ∙ ap (map name_of) (cut going.from going.unpolled children) in
+    let gone : named c (gone_on going children) ≡ [] = none_by_names c (gone_on going children) children names e in
+    let turned_on : named c (after_turns turns (gone_on going children)) ≡ [] =
+    none_by_names c (after_turns turns (gone_on going children)) (gone_on going children) (names_turns turns (gone_on going children)) gone in
+    ap (heard_by c) eq ∙ heard_append c rest more ∙ ap (λ t. t ++ heard_by c more) (silent c (unpolled_of going children) rest us polled)
+    ∙ ap (heard_by c) eq2 ∙ heard_append c rounds last ∙ ap (λ t. t ++ heard_by c last) (rounds_silent turns c (gone_on going children) rounds gone waited)
+    ∙ until_silent c (after_turns turns (gone_on going children)) place last outcome turned_on until
+
+-- all that a wait of a driver asks
+pub wait_silent : (c : Child) (old new : Board) (calls : List Call) (e : Ended) → named c old.children ≡ [] → Waited old calls e new → heard_by c calls ≡ []
+wait_silent c old new calls e none (polls, rest, place, outcome, after, case, eq, waited, at, leaves, ch, ca, pe) =
+    ap (heard_by c) eq ∙ heard_append c polls rest
+    ∙ ap (λ t. t ++ heard_by c rest) (on_silent c old.going old.children polls place outcome after new.going none waited)
+    ∙ leaves_silent c case rest outcome e leaves
+
+-- and the child isn't in the row after it
+pub wait_none : (c : Child) (old new : Board) (calls : List Call) (e : Ended) → named c old.children ≡ [] → Waited old calls e new → named c new.children ≡ []
+wait_none c old new calls e none (polls, rest, place, outcome, after, case, eq, waited, at, leaves, ch, ca, pe) =
+    ap (named c) ch ∙ none_removed c after place (none_by_names c after old.children (names_waited old.going old.children polls place outcome after new.going waited) none)
