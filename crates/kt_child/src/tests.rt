@@ -1,7 +1,11 @@
+mod failures;
 mod lists;
+mod moments;
 mod plan;
 mod plans;
+mod plays;
 mod runs;
 mod script;
 mod shelf;
 mod steps;
+mod wrong_bodies;

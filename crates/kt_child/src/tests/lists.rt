@@ -64,8 +64,10 @@ fn a_list_is_read_and_its_directory_removed(rt: HostRuntime) -> Result<(), Fail>
         (5, Outcome::WaitFailed, 1003, "mmmoosrr"),
         (6, Outcome::WaitFailed, 9, "mmmoospkfrr"),
         (7, Outcome::Exited(0), 9, "mmmoospwpfrr"),
+        (8, Outcome::WaitFailed, 9, "mmmoospwpkfrr"),
         (9, Outcome::Exited(0), 1005, "mmmoospwpfrr"),
         (10, Outcome::Exited(0), 9, "mmmoospwpfrr"),
+        (11, Outcome::Exited(0), 9, "mmmoospwpfrr"),
     ] {
         // Where no root can be made there is no list.
         let scene = if failing == 0 {

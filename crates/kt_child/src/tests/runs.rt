@@ -1,59 +1,9 @@
-ghost use Rattle.kt_sched.specs.Plan.{IsWidth};
-
-use super::plan::plan_of;
-use super::script::{Oddity, Scene, script_of};
-use super::shelf::Shelf;
-use crate::{Driver, Polled, run_driver};
-use kt_base::{Entry, NoMemory, Text};
+use super::plays::{EXIT, count_of, passed, play};
+use super::script::{Oddity, Scene};
+use crate::Polled;
+use kt_base::{NoMemory, Text};
 use std::alloc::Global;
-use std::process::Abort;
 use std::test::Fail;
-
-const EXIT: Polled = Polled::Exited(0);
-
-/// The lines of entries: position, kind and reason.
-fn lines_of(alloc: Global, entries: &[Entry]) -> Result<Text, NoMemory> {
-    let mut lines = Text::new(alloc);
-    for entry in entries {
-        let digits = entry.position.to_string(alloc)?;
-        lines.push_str(digits.as_str())?;
-        lines.push(' ')?;
-        lines.push_str(entry.verdict.kind().word())?;
-        lines.push(' ')?;
-        entry.verdict.write_reason(&mut lines)?;
-        lines.push('\n')?;
-    }
-    Ok(lines)
-}
-
-/// Runs a plan over a scripted system, and answers the lines of its calls and those of its entries.
-fn play<R: Abort>(
-    rt: &R,
-    alloc: Global,
-    scene: Scene<'_>,
-    letters: &[u8],
-    width: u32,
-) -> Result<(Text, Text), NoMemory>
-    requires { IsWidth width }
-{
-    let plan = plan_of(alloc, letters)?;
-    let base = Text::new(alloc);
-    let source = Text::from_str(alloc, "/t")?;
-    let mut shelf = Shelf {
-        entries: Vec::new(alloc),
-    };
-    let os = script_of(rt, alloc, scene);
-    match Driver::new(alloc, os, &base, source) {
-        Err(_) => Ok((Text::new(alloc), Text::new(alloc))),
-        Ok(driver) => {
-            let mut driver = driver;
-            let ran = run_driver(alloc, plan, width, &mut driver, &mut shelf);
-            assert!(rt; ran.is_ok());
-            let os = driver.close();
-            Ok((os.log, lines_of(alloc, &shelf.entries)?))
-        }
-    }
-}
 
 /// Adds the lines of a body's start that is done.
 fn push_start(lines: &mut Text, number: &str) -> Result<(), NoMemory> {
@@ -219,101 +169,6 @@ fn evidence_is_that_of_the_interface(rt: HostRuntime) -> Result<(), Fail> {
     Ok(())
 }
 
-/// How many directories were made that are to be removed, and how many removals were asked for.
-fn made_and_removed(log: &Text) -> (u32, u32) {
-    let mut made: u32 = 0;
-    let mut removed: u32 = 0;
-    for line in log.as_str().split('\n') {
-        if line.starts_with('m') && line.ends_with('+') && !line.ends_with("/work+") {
-            made = made.saturating_add(1);
-        }
-        if line.starts_with('r') {
-            removed = removed.saturating_add(1);
-        }
-    }
-    (made, removed)
-}
-
-/// The first letter of the call that failed.
-fn failed(log: &Text) -> Option<char> {
-    for line in log.as_str().split('\n') {
-        if line.ends_with('-') {
-            return line.chars().next();
-        }
-    }
-    None
-}
-
-/// How many cases passed of those that are told.
-fn passed(entries: &Text) -> (u32, u32) {
-    let mut all: u32 = 0;
-    let mut good: u32 = 0;
-    for line in entries.as_str().split('\n') {
-        if !line.is_empty() {
-            all = all.saturating_add(1);
-            if line.ends_with(" passed ") {
-                good = good.saturating_add(1);
-            }
-        }
-    }
-    (good, all)
-}
-
-/// What is told of the case whose call failed, for a body and for a cleanup; nothing where it passes.
-fn reasons(letter: char) -> (&'static str, &'static str) {
-    match letter {
-        'm' => ("Work directory could not be made", "?"),
-        'o' => (
-            "Output files could not be made",
-            "Test case cleanup could not be started",
-        ),
-        's' => (
-            "Test program could not be started",
-            "Test case cleanup could not be started",
-        ),
-        'p' => ("Test case could not be waited for", "?"),
-        'q' => ("Test case cleanup did not terminate successfully", "?"),
-        'a' => ("Results file could not be read", "?"),
-        _ => ("", ""),
-    }
-}
-
-/// Lets a call fail, and answers whether there was such a call.
-fn fails<R: Abort>(rt: &R, alloc: Global, call: u32) -> Result<bool, NoMemory> {
-    let lives = [(1, EXIT), (2, EXIT), (3, EXIT), (1, EXIT)];
-    let files: [(&str, &[u8]); 1] = [("/kyua.0/0/result", b"passed\n")];
-    let scene = Scene::of(&lives, &files).failing(call);
-    let (log, entries) = play(rt, alloc, scene, b"cpp", 3)?;
-    let (made, removed) = made_and_removed(&log);
-    assert_eq!(rt; made, removed, "at {call}");
-    let (of_body, of_cleanup) = match failed(&log) {
-        None => ("", ""),
-        Some(letter) => reasons(letter),
-    };
-    let told = entries.as_str();
-    assert!(rt;
-        told.contains(of_body) || told.contains(of_cleanup),
-        "at {call}"
-    );
-    let good = if of_body.is_empty() { 3 } else { 2 };
-    assert_eq!(rt; passed(&entries), (good, 3), "at {call}");
-    Ok(failed(&log).is_some())
-}
-
-#[test]
-fn one_failing_call_is_told_of_its_case_and_the_others_pass(rt: HostRuntime) -> Result<(), Fail> {
-    let mut failures: u32 = 0;
-    for call in 1..60 {
-        if fails(&rt, rt.alloc(), call)? {
-            failures = failures.saturating_add(1);
-        }
-    }
-    // Six calls of each start, four of the cleanup's, and what is asked until all are over.
-    assert!(rt; failures > 45);
-    assert!(rt; failures < 59);
-    Ok(())
-}
-
 #[test]
 fn eight_ends_are_a_turn(rt: HostRuntime) -> Result<(), Fail> {
     let alloc = rt.alloc();
@@ -339,16 +194,6 @@ fn eight_ends_are_a_turn(rt: HostRuntime) -> Result<(), Fail> {
     Ok(())
 }
 
-fn kills_in(log: &Text) -> u32 {
-    let mut kills: u32 = 0;
-    for line in log.as_str().split('\n') {
-        if line.starts_with('k') {
-            kills = kills.saturating_add(1);
-        }
-    }
-    kills
-}
-
 #[test]
 fn a_child_past_its_limit_is_killed(rt: HostRuntime) -> Result<(), Fail> {
     let alloc = rt.alloc();
@@ -362,7 +207,7 @@ fn a_child_past_its_limit_is_killed(rt: HostRuntime) -> Result<(), Fail> {
         let lives = [(running, EXIT)];
         let (log, entries) = play(&rt, alloc, Scene::of(&lives, &[]).failing(failing), b"p", 1)?;
         assert_eq!(rt; entries.as_str(), entry);
-        assert_eq!(rt; kills_in(&log), kills);
+        assert_eq!(rt; count_of(&log, 'k'), kills);
     }
     Ok(())
 }

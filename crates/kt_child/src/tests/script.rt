@@ -37,6 +37,8 @@ pub(super) struct Scene<'a> {
     /// The calls from the first number on, counted from 0, below the second, fail.
     pub(super) failing: (u32, u32),
     pub(super) oddity: Oddity,
+    /// The moment that is told first; each later one is a millisecond later.
+    pub(super) moment: u64,
 }
 
 impl<'a> Scene<'a> {
@@ -47,37 +49,34 @@ impl<'a> Scene<'a> {
             files,
             failing: (0, 0),
             oddity: Oddity::None,
+            moment: 1,
         }
     }
 
     /// This call fails, counted from 0.
     pub(super) fn failing(self, call: u32) -> Scene<'a> {
         Scene {
-            lives: self.lives,
-            files: self.files,
             failing: (call, call.saturating_add(1)),
-            oddity: self.oddity,
+            ..self
         }
     }
 
     /// The first so many calls fail.
     pub(super) fn failing_at_first(self, calls: u32) -> Scene<'a> {
         Scene {
-            lives: self.lives,
-            files: self.files,
             failing: (0, calls),
-            oddity: self.oddity,
+            ..self
         }
     }
 
     /// It does not keep its word.
     pub(super) fn odd(self, oddity: Oddity) -> Scene<'a> {
-        Scene {
-            lives: self.lives,
-            files: self.files,
-            failing: self.failing,
-            oddity,
-        }
+        Scene { oddity, ..self }
+    }
+
+    /// Its clock begins at this moment.
+    pub(super) fn from(self, moment: u64) -> Scene<'a> {
+        Scene { moment, ..self }
     }
 }
 
@@ -91,8 +90,8 @@ pub(super) struct Script<'a, R: Abort> {
     pub(super) calls: u32,
     /// The children that were started, and how often each has answered that it runs.
     pub(super) children: Vec<(Child, u32)>,
-    /// The moment that was told last.
-    pub(super) moment: u64,
+    /// The moment that is told next.
+    moment: u64,
 }
 
 pub(super) fn script_of<'a, R: Abort>(rt: &'a R, alloc: Global, scene: Scene<'a>) -> Script<'a, R> {
@@ -103,7 +102,7 @@ pub(super) fn script_of<'a, R: Abort>(rt: &'a R, alloc: Global, scene: Scene<'a>
         log: Text::new(alloc),
         calls: 0,
         children: Vec::new(alloc),
-        moment: 0,
+        moment: scene.moment,
     }
 }
 
@@ -352,7 +351,8 @@ impl<R: Abort> Os for Script<'_, R> {
     fn now(&mut self) -> Result<u64, OsFault> {
         let done = goes(&mut self.calls, self.scene.failing);
         note_bare(self.rt, &mut self.log, 'n', done);
-        self.moment = self.moment.saturating_add(1);
-        if done { Ok(self.moment) } else { Err(OsFault) }
+        let moment = self.moment;
+        self.moment = moment.saturating_add(1);
+        if done { Ok(moment) } else { Err(OsFault) }
     }
 }

@@ -1,6 +1,6 @@
 use super::script::{Scene, Script, script_of};
 use crate::{
-    Child, DriverFault, Polled, Spawning, Turn, Want, Watch, argv_plan, env_plan, find_root,
+    Child, Driver, DriverFault, Polled, Spawning, Turn, Want, Watch, argv_plan, env_plan,
     poll_once, read_kept, read_list, start_body, start_cleanup, workdir_plan,
 };
 use kt_atflist::ListBytes;
@@ -58,17 +58,25 @@ fn a_limit_of_one_second_is_a_hundred_polls(rt: HostRuntime) -> Result<(), Fail>
 fn the_least_root_that_can_be_made_is_taken(rt: HostRuntime) -> Result<(), Fail> {
     let alloc = rt.alloc();
     let base = Text::from_str(alloc, "/tmp")?;
-    let mut os = script_of(&rt, alloc, Scene::of(&[], &[]).failing(0));
-    match find_root(alloc, &mut os, &base) {
-        Ok(root) => assert_eq!(rt; root.as_str(), "/tmp/kyua.1"),
-        Err(_) => assert!(rt; false),
+    for (taken, root) in [
+        (0, "/tmp/kyua.0"),
+        (1, "/tmp/kyua.1"),
+        (999, "/tmp/kyua.999"),
+    ] {
+        let os = script_of(&rt, alloc, Scene::of(&[], &[]).failing_at_first(taken));
+        match Driver::new(alloc, os, &base, base.copy()?) {
+            Ok(driver) => assert_eq!(rt; driver.root.as_str(), root),
+            Err(_fault) => assert!(rt; false, "at {root}"),
+        }
     }
-    let mut os = script_of(&rt, alloc, Scene::of(&[], &[]).failing_at_first(1000));
-    match find_root(alloc, &mut os, &base) {
-        Ok(_) => assert!(rt; false),
-        Err(fault) => assert_eq!(rt; fault, DriverFault::NoWorkDirectory),
+    let os = script_of(&rt, alloc, Scene::of(&[], &[]).failing_at_first(1000));
+    match Driver::new(alloc, os, &base, base.copy()?) {
+        Ok(_driver) => assert!(rt; false),
+        Err((fault, os)) => {
+            assert_eq!(rt; fault, DriverFault::NoWorkDirectory);
+            assert_eq!(rt; os.calls, 1000);
+        }
     }
-    assert_eq!(rt; os.calls, 1000);
     Ok(())
 }
 
@@ -118,8 +126,8 @@ fn a_start_is_refused_at_the_call_that_failed(rt: HostRuntime) -> Result<(), Fai
         (Role::Cleanup, 1, "oor", Err(Refused::Output)),
         (Role::Cleanup, 2, "oosr", Err(Refused::Spawn)),
     ] {
-        let mut os = script_of(&rt, alloc, Scene::of(&[], &[]).failing(fails));
-        os.moment = 6;
+        let scene = Scene::of(&[], &[]).failing(fails).from(7);
+        let mut os = script_of(&rt, alloc, scene);
         let started = match role {
             Role::Body => start_body(&mut os, &paths.dir, &plan),
             Role::Cleanup => start_cleanup(&mut os, &paths.dir, &plan),
