@@ -1,8 +1,10 @@
 -- What the host may answer, whatever the system does.
-use Rattle.std.specs.Prelude.{◌≡◌, ◌≤◌, ℕ, length, true, false, Result, Ok, Err}
+use Rattle.std.specs.Prelude.{◌≡◌, ◌≢◌, ◌≤◌, ◌/◌, ◌%◌, ℕ, length, true, false, Result, Ok, Err}
 use Rattle.kt_child.specs.declared.os_fault.OsFault.{OsFault}
 use Rattle.kt_child.specs.declared.file_read.FileRead.{FileRead}
 use Rattle.kt_child.specs.declared.file_read.FileRead.TheVariants.{Missing, Part}
+use Rattle.kt_child.specs.declared.polled.Polled.{Polled}
+use Rattle.kt_child.specs.declared.polled.Polled.TheVariants.{Running, Exited, Signaled}
 use Rattle.kt_child.specs.Calls.{Call, MakeDir, RemoveTree, OpenOutput, Spawn, Poll, Kill, Pause, ReadFile, ReadPart, Now}
 
 -- a read with this limit answers no more bytes, and so many where more follow
@@ -24,3 +26,11 @@ IsHostAnswer (Pause done) = Unit {0}
 IsHostAnswer (ReadFile path limit answer) = IsHostRead limit answer
 IsHostAnswer (ReadPart path from limit answer) = IsHostRead limit answer
 IsHostAnswer (Now answer) = Unit {0}
+
+-- What the wait status of a child tells: its low 7 bits are 0 of one that exited, with the next 8 as its exit code, and
+-- else the signal that ended it; 127 is that of one which has not ended.
+abbrev pub IsPolledOf : ℕ → Result Polled OsFault → Type 0
+IsPolledOf bits (Ok Running) = ⊥
+IsPolledOf bits (Ok (Exited code)) = (bits % 128 ≡ 0) × (code ≡ bits / 256 % 256)
+IsPolledOf bits (Ok (Signaled signal core)) = (signal ≡ bits % 128) × (bits % 128 ≢ 0) × (bits % 128 ≢ 127)
+IsPolledOf bits (Err _) = bits % 128 ≡ 127

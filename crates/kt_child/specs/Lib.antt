@@ -7,6 +7,7 @@ pub mod EndShares
 pub mod Ends
 pub mod Gathering
 pub mod HostAnswers
+pub mod HostCommands
 pub mod JobPlan
 pub mod Launches
 pub mod Lives

@@ -1,4 +1,5 @@
-ghost use Rattle.kt_child.specs.HostAnswers.{IsHostAnswer};
+ghost use Rattle.std.specs.Process.{status_bits};
+ghost use Rattle.kt_child.specs.HostAnswers.{IsHostAnswer, IsPolledOf};
 
 use crate::child::Child;
 use crate::env::EnvPlan;
@@ -39,7 +40,9 @@ pub struct HostOs<R: Processes> {
 }
 
 /// How a child ended. A status that tells neither an exit nor a signal is a fault.
-fn polled(status: ExitStatus) -> Result<Polled, OsFault> {
+fn polled(status: ExitStatus) -> Result<Polled, OsFault>
+    ensures { IsPolledOf (status_bits status) result }
+{
     if let Some(code) = status.code() {
         let code = u8::try_from(code).map_err(|_| OsFault)?;
         return Ok(Polled::Exited(code));
