@@ -1,6 +1,7 @@
 pub mod Commands
 pub mod Crashes
 pub mod FaultLines
+pub mod Hosts
 pub mod Listings
 pub mod Meaning
 pub mod MemoryRuns
