@@ -13,3 +13,5 @@ pub mod ShownRuns
 pub mod Testings
 pub mod Plays
 pub mod Sequencing
+pub mod Hosting
+pub mod HostCommands

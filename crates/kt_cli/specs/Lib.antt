@@ -1,5 +1,6 @@
 pub mod Commands
 pub mod FaultLines
+pub mod Hosts
 pub mod Listings
 pub mod Meaning
 pub mod MemoryRuns

@@ -1,6 +1,9 @@
-ghost use Rattle.std.specs.Prelude.{IfOk};
+ghost use Rattle.std.specs.Prelude.{◌≡◌, IfOk, OnErr};
+ghost use Rattle.std.specs.Str.{chars};
 ghost use Rattle.kt_sched.specs.Children.{IsIdle};
 ghost use Rattle.kt_child.specs.Board.{is_among, shown_at};
+ghost use Rattle.kt_cli.specs.Hosts.{IsStill, IsMade, OnDriver, DidOnHost};
+ghost use Rattle.kt_cli.specs.Meaning.{Did};
 
 use crate::command::Command;
 use crate::command_line::CommandLine;
@@ -27,7 +30,8 @@ fn driver_of<O: Os + Drop>(
     work: &Text,
     kyuafile: &Text,
 ) -> Result<Driver<O>, DriverFault>
-    ensures { IfOk result (λ driver. IsIdle (shown_at driver.row.cases) (is_among driver.row.pending)) }
+    ensures made { IfOk result (λ driver. IsMade O.leads os (chars here.now) work.now kyuafile.now driver) }
+    ensures idle { IfOk result (λ driver. IsIdle (shown_at driver.row.cases) (is_among driver.row.pending)) }
 {
     if !work.as_str().starts_with('/') {
         return Err(DriverFault::NoWorkDirectory);
@@ -51,6 +55,8 @@ fn execute_over<R: Files<File = File> + Clock + AllocGlobal, L: Launcher, S: Res
     out: &mut W,
 ) -> (Exit, L)
     requires { IsIdle (L.running launcher) (L.pending launcher) }
+    ensures did { Did IsStill IsStill L.starts L.waits S.stands S.sound S.leaves command.now launcher result.1 results.old results.new (W.contents out.old) (W.contents out.new) result.0.status }
+    ensures idle { IsIdle (L.running result.1) (L.pending result.1) }
 {
     let mut world = HostWorld::new(rt, directory, launcher);
     let exit = execute(rt.alloc(), command, &mut world, results, out);
@@ -72,7 +78,10 @@ fn execute_over_files<
     kyuafile: &Text,
     results: &mut S,
     out: &mut W,
-) -> Result<Exit, DriverFault> {
+) -> Result<Exit, DriverFault>
+    ensures did { IfOk result (λ exit. OnDriver O.leads os (chars here.now) line.now.work kyuafile.now S.stands S.sound S.leaves line.now.command results.old results.new (W.contents out.old) (W.contents out.new) exit.status) }
+    ensures unasked { OnErr result ((results.new ≡ results.old) × (W.contents out.new ≡ W.contents out.old)) }
+{
     let Some(work) = &line.work else {
         return Err(DriverFault::NoWorkDirectory);
     };
@@ -99,10 +108,18 @@ pub fn execute_on_host<
     line: &CommandLine,
     results: &mut S,
     out: &mut W,
-) -> Result<Exit, DriverFault> {
+) -> Result<Exit, DriverFault>
+    ensures did { IfOk result (λ exit. DidOnHost O.leads os (chars here.now) line.now.work S.stands S.sound S.leaves line.now.command results.old results.new (W.contents out.old) (W.contents out.new) exit.status) }
+    ensures unasked { OnErr result ((results.new ≡ results.old) × (W.contents out.new ≡ W.contents out.old)) }
+{
     match &line.command {
-        Command::List(kyuafile) | Command::Test(kyuafile) => {
-            execute_over_files(rt, os, here, line, kyuafile, results, out)
+        Command::List(kyuafile) => {
+            let exit = execute_over_files(rt, os, here, line, kyuafile, results, out)?;
+            Ok(exit)
+        }
+        Command::Test(kyuafile) => {
+            let exit = execute_over_files(rt, os, here, line, kyuafile, results, out)?;
+            Ok(exit)
         }
         Command::Report { run, kinds, .. } => Ok(report(*run, kinds.as_slice(), results, out)),
         Command::ReportJunit { run, .. } => Ok(report_junit(rt.alloc(), *run, results, out)),

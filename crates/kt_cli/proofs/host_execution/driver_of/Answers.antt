@@ -1,4 +1,4 @@
-use Rattle.std.proofs.Common.{rules, ◌≡◌, refl, subst, sym}
+use Rattle.std.proofs.Common.{rules, ◌≡◌, ◌∙◌, refl, subst, sym}
 use Rattle.kt_sched.specs.Children.{IsIdle}
 use Rattle.kt_child.specs.Board.{Board, empty_board, is_among, shown_at}
 use Rattle.kt_cli.proofs.host_execution.driver_of.Goals as goal
@@ -7,5 +7,10 @@ use Rattle.kt_cli.proofs.host_execution.driver_of.Goals as goal
 idle : (b : Board) → b ≡ empty_board → IsIdle (shown_at b.cases) (is_among b.pending)
 idle b e = subst (λ (x : Board). IsIdle (shown_at x.cases) (is_among x.pending)) (sym e) (record { runs = λ k r. refl; pends = λ k. refl })
 
-pub returns-in-Ok-new : goal.returns-in-Ok-new
-returns-in-Ok-new g c = idle c.in-Ok-new.driver.row (search rules)
+pub returns-in-Ok-new-clause-idle : goal.returns-in-Ok-new-clause-idle
+returns-in-Ok-new-clause-idle g c = idle c.in-Ok-new.driver.row (search rules)
+
+pub returns-in-Ok-new-clause-made : goal.returns-in-Ok-new-clause-made
+returns-in-Ok-new-clause-made g c =
+    let e = c.in-Ok-new.ensures in
+    record { calls = e.0.0; asked = e.0.1; found = e.0.2; source = e.1 ∙ c.in-Ok.ensures; first = e.2; none_runs = e.3 }
