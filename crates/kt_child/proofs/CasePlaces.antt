@@ -17,6 +17,7 @@ use Rattle.kt_child.proofs.Places.{in_append, some_is}
 abbrev pub Every : {X : Type 0} → (X → Type 0) → List X → Type 0
 Every {X} P xs = (i : ℕ) (x : X) → slice_get xs i ≡ Some x → P x
 
+-- one more behind them
 pub every_push : {X : Type 0} (P : X → Type 0) (xs : List X) (x : X) → Every P xs → P x → Every P (xs ++ x ∷ [])
 every_push {X} P xs x h p i y at = by (in_append xs (x ∷ []) i y at)
   where
@@ -36,6 +37,7 @@ left_at (y ∷ xs) zero i x e = (suc i, e)
 left_at (y ∷ xs) (suc place) zero x e = (zero, e)
 left_at (y ∷ xs) (suc place) (suc i) x e = let h = left_at xs place i x e in (suc h.0, h.1)
 
+-- and of those that are left
 pub every_left : {X : Type 0} (P : X → Type 0) (xs : List X) (place : ℕ) → Every P xs → Every P (remove xs place)
 every_left P xs place h i x e = let k = left_at xs place i x e in h k.0 x k.1
 
@@ -93,6 +95,7 @@ other_absent (suc i) (k ∷ ks) (d ∷ cs) c a e at h n o =
     ap (λ t. kept t k (named a ks)) g
     ∙ other_absent i ks cs c a (names_tail k.child (case_name d) (map name_of ks) (map case_name cs) e) at (omega (arith, h)) n o
 
+-- a test that does not count fails
 not_one : (t : Bool) → one_if t ≡ 0 → t ≡ false
 not_one true h = absurd (omega (arith, h))
 not_one false h = refl
@@ -101,6 +104,7 @@ not_one false h = refl
 pub other_number : (d a : Child) → one_if (d.attempt == a.attempt) ≡ 0 → same_child d a ≡ false
 other_number d a h = ap (λ t. t && same_role d.role a.role) (not_one (d.attempt == a.attempt) h)
 
+-- nothing behind a row
 append_nil : (xs : List Watched) → xs ++ [] ≡ xs
 append_nil [] = refl
 append_nil (x ∷ xs) = ap (λ t. x ∷ t) (append_nil xs)

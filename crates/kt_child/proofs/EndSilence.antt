@@ -31,6 +31,7 @@ use Rattle.kt_child.specs.Waits.{WaitedOn}
 use Rattle.kt_child.proofs.LifeSteps.{append_none, heard_append}
 use Rattle.kt_child.proofs.SeveralWaits.{wait_shares}
 
+-- one part of a reading
 part_silent : (c : Child) (next : NextPart) (got path : List ℕ) (from limit : ℕ) (answer : Result FileRead OsFault) (calls : List Call) (whole : Whole) (Rest : List Call → Type 0)
     → ((more : List Call) → Rest more → heard_by c more ≡ [])
     → After next got (ReadPart path from limit answer) calls whole Rest → heard_by c calls ≡ []
@@ -40,6 +41,7 @@ part_silent c Absent got path from limit answer calls whole Rest h (e, w) = ap (
 part_silent c Failed got path from limit answer calls whole Rest h (e, w) = ap (heard_by c) e
 part_silent c Past got path from limit answer calls whole Rest h (e, w) = ap (heard_by c) e
 
+-- a reading in parts
 reads_silent : (c : Child) (n : ℕ) (path : List ℕ) (part limit : ℕ) (got : List ℕ) (calls : List Call) (whole : Whole)
     → Reads n path part limit got calls whole → heard_by c calls ≡ []
 reads_silent c zero path part limit got calls whole h = absurd h
@@ -47,6 +49,7 @@ reads_silent c (suc n) path part limit got calls whole (answer, next, is, after)
     part_silent c next (got ++ bytes_of answer) path _ _ answer calls whole (λ more. Reads n path part limit (got ++ bytes_of answer) more whole)
     (λ more r. reads_silent c n path part limit (got ++ bytes_of answer) more whole r) after
 
+-- the evidence
 gathers_silent : (c : Child) (kind : Interface) (role : Role) (paths : Paths) (calls : List Call) (told : Evidence)
     → Gathers kind role paths calls told → heard_by c calls ≡ []
 gathers_silent c interface.Atf Body paths calls (evidence.Atf t) (parts, whole, r, is) = reads_silent c parts _ _ _ [] calls whole r
@@ -68,10 +71,12 @@ gathers_silent c interface.Plain Cleanup paths calls (evidence.Atf t) h = absurd
 gathers_silent c interface.Plain Cleanup paths calls (evidence.Tap t) h = absurd h
 gathers_silent c interface.Plain Cleanup paths calls evidence.Plain h = ap (heard_by c) h
 
+-- the removal
 removes_silent : (c : Child) (b : Bool) (dir : List ℕ) (calls : List Call) → Removes b dir calls → heard_by c calls ≡ []
 removes_silent c true dir calls (done, e) = ap (heard_by c) e
 removes_silent c false dir calls e = ap (heard_by c) e
 
+-- all that follows the last poll
 pub leaves_silent : (c : Child) (case : Case) (calls : List Call) (outcome : Outcome) (ended : Ended) → Leaves case calls outcome ended → heard_by c calls ≡ []
 leaves_silent c case calls outcome ended (now, reads, out, err, last, e, gathers, removes, position, role, over, o, r, moment) =
     ap (heard_by c) e
@@ -94,6 +99,7 @@ shares_at old new polls rest place outcome after case e c k own waited leaves ch
     let R : List Watched → Type 0 = λ t. Share c (same_child w.0 c) k (heard_by c polls) outcome t in
     (w.0, w.1, subst P (sym f) (subst Q (sym leaves.10) (subst R (sym ch) w.2)))
 
+-- the law of ends
 pub end_shares : EndShares
 end_shares old new calls e c k own (polls, rest, place, outcome, after, case, eq, waited, at, leaves, ch, ca, pe) =
     let w = shares_at old new polls rest place outcome after case e c k own waited leaves ch in

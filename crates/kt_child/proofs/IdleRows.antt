@@ -25,10 +25,12 @@ no_pending (c ∷ cases) h =
     let some = count_there (c ∷ cases) zero c refl in
     absurd (omega (arith, none, some))
 
+-- no child, where none is counted
 no_children : (children : List Watched) → length children ≡ 0 → children ≡ []
 no_children [] h = refl
 no_children (k ∷ children) h = absurd (omega arith)
 
+-- so where nothing runs and nothing is owed the row is bare
 pub bare_idle : (b : Board) → length b.children ≡ length b.cases → IsIdle (shown_at b.cases) (is_among b.pending) → IsBare b
 bare_idle b same idle =
     let cases = no_cases b.cases idle.runs in

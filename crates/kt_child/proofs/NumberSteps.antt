@@ -14,11 +14,13 @@ use Rattle.kt_child.specs.Launches.{BodyStarts, StartsBy}
 use Rattle.kt_child.specs.Lists.{ListsBy}
 use Rattle.kt_child.specs.Numbers.{AttemptsDiffer, NumbersDiffer, Request, Start as Asked, Wait, ListOf, Serves, ServesAll, is_attempt}
 
+-- a body takes the next number
 pub body_rises : {O : Type 0} (leads : O → Call → O → Type 0) (source root : List ℕ) (job : Job) (os : O) (next : ℕ) (b : Board) (answer : StartAnswer) (os' : O) (next' : ℕ) (b' : Board)
     → next < 2 ^ 64 - 1 → BodyStarts leads source root job os next b answer os' next' b' → next < next'
 body_rises leads source root job os next b answer os' next' b' lt (inl (e, told, s, f, h)) = absurd (omega arith)
 body_rises leads source root job os next b answer os' next' b' lt (inr (l, e, more, b2)) = omega arith
 
+-- a start never lets the number fall
 pub start_rises : {O : Type 0} (leads : O → Call → O → Type 0) (source root : List ℕ) (job : Job) (role : Role) (os : O) (next : ℕ) (b : Board) (answer : StartAnswer) (os' : O) (next' : ℕ) (b' : Board)
     → StartsBy leads source root job role os next b answer os' next' b' → next ≤ next'
 start_rises leads source root job Body os next b answer os' next' b' (inl (e, told, s, f, h)) = omega arith
@@ -40,6 +42,7 @@ trace_rises next starts waits s w plan (Then T (End ended)) d e (mid, led, waite
     let b = w mid e ended waited in
     omega (arith, a, b)
 
+-- the law of numbers, of bodies
 pub numbers_differ : {D : Type 0} (next : D → ℕ) (starts : D → Job → Role → StartAnswer → D → Type 0) (waits : D → Ended → D → Type 0)
     → ((d e : D) (job : Job) (role : Role) (answer : StartAnswer) → starts d job role answer e → next d ≤ next e)
     → ((d e : D) (ended : Ended) → waits d ended e → next d ≤ next e)
@@ -74,6 +77,7 @@ requests_rise next serves s (request ∷ requests) d e (mid, first, rest) =
     let b = requests_rise next serves s requests mid e rest in
     omega (arith, a, b)
 
+-- and of all attempts
 pub attempts_differ : {D : Type 0} (next : D → ℕ) (starts : D → Job → Role → StartAnswer → D → Type 0) (waits : D → Ended → D → Type 0) (lists : D → List ℕ → List Variable → Listing → D → Type 0)
     → ((d e : D) (job : Job) (role : Role) (answer : StartAnswer) → starts d job role answer e → next d ≤ next e)
     → ((d e : D) (ended : Ended) → waits d ended e → next d ≤ next e)

@@ -32,15 +32,18 @@ taken b place = record { children = b.children; cases = b.cases; going = b.going
 abbrev pub Grows : ℕ → Trace → Trace → Type 0
 Grows base T T' = (i n : ℕ) → IsNumberOf base T i n → IsNumberOf base T' i n
 
+-- so it is after a start
 pub grows_start : (base : ℕ) (T : Trace) (i : ℕ) (role : Role) (answer : StartAnswer) → Grows base T (Then T (Start i role answer))
 grows_start base T i Body (StartedAt moment) k n h = inr h
 grows_start base T i Body (RefusedFor cause) k n h = h
 grows_start base T i Cleanup answer k n h = h
 
+-- the cases that run
 pub run_kept : (plan : List Job) (base : ℕ) (T T' : Trace) (heard : Child → List Heard) (row : List Watched) (cases : List Case) → Grows base T T'
     → Every (RunsSo plan base T heard row) cases → Every (RunsSo plan base T' heard row) cases
 run_kept plan base T T' heard row cases g h i c at = let r = h i c at in (g c.position c.attempt r.0, r.1, r.2)
 
+-- the cases that are owed their cleanup
 pub owed_kept : (base : ℕ) (T T' : Trace) (heard : Child → List Heard) (pending : List Case) → Grows base T T'
     → Every (OwedSo base T heard) pending → Every (OwedSo base T' heard) pending
 owed_kept base T T' heard pending g h i c at = let r = h i c at in (g c.position c.attempt r.0, r.1)
@@ -64,6 +67,7 @@ run_fresh plan base T heard row c job is silent at none unheard =
     let k : Watched = watched_of job c.role c.attempt in
     (is, silent, (job, at, λ m e. (zero, (unheard, sym (head_is k m [] [] (sym (named_last row k none) ∙ e))))))
 
+-- numbers that differ
 unequal : (a b : ℕ) → (a ≡ b → ⊥) → one_if (a == b) ≡ 0
 unequal a b f = by (one_or a b)
   where
@@ -82,6 +86,7 @@ gone_body next next' b job p (StartedAt moment) le c (lt, none, h) =
     let s = numbered_more c.attempt b.cases (case_of job next p) in
     (omega arith, named_past c b.children k (other_number k.child c z) ∙ none, λ r. let o = h r in omega (arith, s, y, o))
 
+-- a test beside one that fails
 and_false : (a : Bool) → (a && false) ≡ false
 and_false true = refl
 and_false false = refl
@@ -93,6 +98,7 @@ cleaner_apart next b n c one (lt, none, h) Cleanup e =
     let o = h e in
     other_number (cleaner n) c (unequal n c.attempt (λ f. let g = ap (λ t. numbered t b.pending) f in omega (arith, one, g, o)))
 
+-- and where a cleanup is started
 pub gone_cleanup : (next : ℕ) (b : Board) (job : Job) (place : ℕ) (d : Case) (answer : StartAnswer) → slice_get b.pending place ≡ Some d → (c : Child) → IsGone next b c
     → IsGone next (board_after_start (taken b place)
     (watched_of job Cleanup d.attempt) (cleaning d job) answer) c

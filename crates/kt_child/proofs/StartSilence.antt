@@ -47,16 +47,20 @@ afresh_silent : (c : Child) (asks : List Ask) (dir : List ℕ) (calls : List Cal
 afresh_silent c asks dir calls r u (inl (e, f)) = ap (heard_by c) e
 afresh_silent c asks dir calls r u (inr (more, e, s)) = ap (heard_by c) e ∙ started_silent c asks dir more r u s
 
+-- the outputs and the spawn
 child_unheard : (c : Child) (p : Spawning) → AllUnheard c (child_asks p)
 child_unheard c p = (λ done more. refl, (λ done more. refl, (λ done more. refl, tt)))
 
+-- the work directory before them
 furnish_unheard : (c : Child) (p : Spawning) → AllUnheard c (furnish_asks p)
 furnish_unheard c p = (λ done more. refl, child_unheard c p)
 
+-- a body's start
 body_silent : (c : Child) (p : Spawning) (dir : List ℕ) (calls : List Call) (answer : StartAnswer) → BegunBody p dir calls answer → heard_by c calls ≡ []
 body_silent c p dir calls answer (inl (e, f)) = ap (heard_by c) e
 body_silent c p dir calls answer (inr (r, s, f)) = afresh_silent c (furnish_asks p) dir calls r (furnish_unheard c p) s
 
+-- a cleanup's start
 cleanup_silent : (c : Child) (p : Spawning) (dir : List ℕ) (calls : List Call) (answer : StartAnswer) → BegunCleanup p dir calls answer → heard_by c calls ≡ []
 cleanup_silent c p dir calls answer (inl (done, e, f)) = ap (heard_by c) e
 cleanup_silent c p dir calls answer (inr (r, s, f)) = started_silent c (child_asks p) dir calls r (child_unheard c p) s

@@ -58,6 +58,7 @@ share_of old new calls polls rest place outcome after d e next c k apart at eq w
     let Q : List Call → Type 0 = λ t. Share c (same_child s.0 c) k (heard_by c t) e.outcome new.children in
     subst P over (subst Q (sym eq) s.2)
 
+-- a share of a wait that ends with another
 share_goes : (b : Bool) (c : Child) (start k m : Watched) (xs ys : List Heard) (outcome : Outcome) (row : List Watched) → b ≡ false
     → GoesOn start xs k → Share c b k ys outcome row → named c row ≡ m ∷ [] → GoesOn start (xs ++ ys) m
 share_goes true c start k m xs ys outcome row no' g s e = let no : ⊥ = cc in absurd no
@@ -66,11 +67,13 @@ share_goes false c start k m xs ys outcome row b g (new, h, f) e =
     let P : Watched → Type 0 = λ t. GoesOn start (xs ++ ys) t in
     subst P same (goes_join start k new xs ys g h)
 
+-- a share of the wait that ends with the child
 share_ends : (b : Bool) (c : Child) (start k : Watched) (xs ys : List Heard) (outcome : Outcome) (row : List Watched) → b ≡ true
     → GoesOn start xs k → Share c b k ys outcome row → LivesOut start (xs ++ ys) outcome
 share_ends true c start k xs ys outcome row b g s = lives_join start k xs ys outcome g s
 share_ends false c start k xs ys outcome row no' g s = let no : ⊥ = cc in absurd no
 
+-- each child has a limit
 positive : (plan : List Job) (i : ℕ) (job : Job) (role : Role) → IsPlan plan → slice_get plan i ≡ Some job → 0 < limit_of job role
 positive plan i job Body is at = let f = is.fit i job at in let t = f.timed in omega (arith, t)
 positive plan i job Cleanup is at = omega arith

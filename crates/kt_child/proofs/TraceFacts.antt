@@ -57,6 +57,7 @@ pub record Stands (plan : List Job) (base : ℕ) (T : Trace) (heard : Child → 
   pub unborn : (n : ℕ) (r : Role) → next ≤ n → heard (record { attempt = n; role = r }) ≡ []
   pub ended : Each (EndedSo plan base heard next b) T
 
+-- one child that is gone
 ended_one : (plan : List Job) (base : ℕ) (heard heard' : Child → List Heard) (next next' : ℕ) (b b' : Board) (T : Trace) (event : Event)
     → ((c : Child) → IsGone next b c → (heard' c ≡ heard c) × IsGone next' b' c)
     → EndedSo plan base heard next b T event → EndedSo plan base heard' next' b' T event
@@ -74,14 +75,18 @@ ended_kept plan base heard heard' next next' b b' NoEvent f h = tt
 ended_kept plan base heard heard' next next' b b' (Then T event) f (h, e) =
     (ended_kept plan base heard heard' next next' b b' T f h, ended_one plan base heard heard' next next' b b' T event f e)
 
+-- a number below another is not the same
 below_last : (n m : ℕ) → n < m → (n == m) ≡ false
 below_last n m h = grind (arith, nat_tests)
 
+-- a number is the same as its equal
 at_last : (n m : ℕ) → n ≡ m → (n == m) ≡ true
 at_last n m h = grind (arith, nat_tests)
 
+-- the number behind one that is not the last
 pub following_more : (n : ℕ) → n < 2 ^ 64 - 1 → following n ≡ n + 1
 following_more n h = ap (λ t. if t then n else n + 1) (below_last n (2 ^ 64 - 1) h)
 
+-- none is behind the last
 pub following_last : (n : ℕ) → n ≡ 2 ^ 64 - 1 → following n ≡ n
 following_last n h = ap (λ t. if t then n else n + 1) (at_last n (2 ^ 64 - 1) h)

@@ -63,6 +63,7 @@ body_stands plan base T heard next next' b job i p (StartedAt moment) is at e le
       ended = (ended_kept plan base heard heard next next' b (board_after_start b k c (StartedAt moment)) T (λ d g. (refl, gone_body next next' b job p (StartedAt moment) le d g)) s.ended, tt);
     }
 
+-- a cleanup is no body
 not_body : Cleanup ≡ Body → ⊥
 not_body e = let P : Role → Type 0 = λ r. same_role r Cleanup ≡ true in let no : false ≡ true = subst P e refl in cc
 

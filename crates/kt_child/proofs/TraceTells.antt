@@ -27,6 +27,7 @@ use Rattle.kt_child.proofs.TraceFacts.{EndedSo, Stands}
 use Rattle.kt_child.proofs.TraceStarts.{start_stands}
 use Rattle.kt_child.proofs.TraceWaits.{wait_stands}
 
+-- nothing stands in an empty list
 none_at : {X : Type 0} (P : X → Type 0) (xs : List X) → xs ≡ [] → Every P xs
 none_at {X} P xs e i x at = let f : slice_get [] i ≡ Some x = subst (λ t. slice_get t i ≡ Some x) e at in none i f
   where
@@ -45,6 +46,7 @@ bare_stands plan next b (x, y, z) =
       ended = tt;
     }
 
+-- one end
 told_one : (plan : List Job) (base : ℕ) (heard : Child → List Heard) (next : ℕ) (b : Board) (calls : List Call) (T : Trace) (event : Event)
     → ((c : Child) → heard_by c calls ≡ heard c) → EndedSo plan base heard next b T event → ToldAt plan base calls T event
 told_one plan base heard next b calls T (Start i role answer) f h = tt
@@ -52,6 +54,7 @@ told_one plan base heard next b calls T (End ended) f (n, is, (job, at, told), g
     let P : List Heard → Type 0 = λ t. Told (limit_of job ended.role) t ended.outcome in
     record { number = n; numbered = is; job = job; place = at; told = subst P (sym (f (record { attempt = n; role = ended.role }))) told }
 
+-- each end
 told_each : (plan : List Job) (base : ℕ) (heard : Child → List Heard) (next : ℕ) (b : Board) (calls : List Call) (T : Trace)
     → ((c : Child) → heard_by c calls ≡ heard c) → Each (EndedSo plan base heard next b) T → Each (ToldAt plan base calls) T
 told_each plan base heard next b calls NoEvent f h = tt
@@ -64,6 +67,7 @@ Left leads os next row plan T d e =
     (calls : List Call) × (heard : Child → List Heard) × Chain leads (os d) calls (os e)
     × ((c : Child) → heard_by c calls ≡ heard c) × Stands plan (next d) T heard (next e) (row e)
 
+-- each trace leaves that
 trace_left : {D O : Type 0} (leads : O → Call → O → Type 0) (os : D → O) (next : D → ℕ) (row : D → Board) (source root : D → List ℕ)
     (starts : D → Job → Role → StartAnswer → D → Type 0) (waits : D → Ended → D → Type 0)
     → ((d e : D) (job : Job) (role : Role) (answer : StartAnswer) → starts d job role answer e → StartsBy leads (source d) (root d) job role (os d) (next d) (row d) answer (os e) (next e) (row e))

@@ -21,6 +21,7 @@ use Rattle.kt_child.proofs.TraceEnds.{ends_so, heard_after, still_runs, unheard}
 use Rattle.kt_child.proofs.TraceFacts.{IsGone, OwedSo, RunsSo, Stands, cleaner, ended_kept}
 use Rattle.kt_child.proofs.WaitSilence.{wait_none}
 
+-- a number is below another, or not
 less_or : (a b : ℕ) → (a < b) ⊎ (b ≤ a)
 less_or a zero = inr (omega arith)
 less_or zero (suc b) = inl (omega arith)
@@ -38,6 +39,7 @@ below_next next b i c apart at = by (less_or c.attempt next)
     by (inl h) = h
     by (inr h) = let m = apart.1 c.attempt in let z = m.1 h in let one = at_some b.cases i c at in absurd (omega (arith, z, one))
 
+-- a case is over with the end of its cleanup
 is_cleanup_over : (c : Case) → c.role ≡ Cleanup → is_over c ≡ true
 is_cleanup_over c e = ap (λ r. if same_role r Body && c.cleanup then false else true) e
 
@@ -107,11 +109,13 @@ owed_wait base T heard next old new calls e place d apart at w given h t is = by
     by true f = before
     by false f = every_push (OwedSo base (Then T (End e)) (heard_after heard calls)) old.pending d before (last given f)
 
+-- what is known of the case of an end, if its cleanup is owed
 given_of : (plan : List Job) (base : ℕ) (T : Trace) (heard : Child → List Heard) (b : Board) (d : Case) → RunsSo plan base T heard b.children d
     → (t : Bool) → is_over d ≡ t → OwedSo base T heard d ⊎ (is_over d ≡ true)
 given_of plan base T heard b d r true e = inr e
 given_of plan base T heard b d r false e = inl (r.0, r.1 (is_body d d.role refl e))
 
+-- a wait of a driver
 pub wait_stands : (plan : List Job) (base : ℕ) (T : Trace) (heard : Child → List Heard) (next : ℕ) (old new : Board) (calls : List Call) (e : Ended)
     → IsPlan plan → Waited old calls e new → Stands plan base T heard next old
     → Stands plan base (Then T (End e)) (heard_after heard calls) next new

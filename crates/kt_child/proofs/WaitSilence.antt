@@ -20,6 +20,7 @@ use Rattle.kt_child.proofs.RowNames.{names_part, names_turn, names_turns}
 use Rattle.kt_child.proofs.SeveralSteps.{silent}
 use Rattle.kt_child.proofs.SeveralWaits.{cut, last_of, last_other, names_waited}
 
+-- a child that stands before a row in which no name is left does not count
 kept_none : (b : Bool) (k : Watched) (ks : List Watched) → kept b k ks ≡ [] → (b ≡ false) × (ks ≡ [])
 kept_none true k ks e = let no : ⊥ = cc in absurd no
 kept_none false k ks e = (refl, e)
@@ -43,6 +44,7 @@ none_removed c (k ∷ row) (suc place) h =
     let p = kept_none (same_child k.child c) k (named c row) h in
     ap (λ t. kept t k (named c (remove row place))) p.0 ∙ none_removed c row place p.1
 
+-- the polls of a turn up to its end
 until_silent : (c : Child) (ks : List Watched) (i : ℕ) (calls : List Call) (outcome : Outcome) → named c ks ≡ [] → PolledUntil ks i calls outcome → heard_by c calls ≡ []
 until_silent c ks i calls outcome e (before, last, eq, polled, final) =
     let l = last_of (slice_get ks i) last outcome final in
@@ -56,12 +58,14 @@ until_silent c ks i calls outcome e (before, last, eq, polled, final) =
     ap (heard_by c) eq ∙ heard_append c before last ∙ ap (λ t. t ++ heard_by c last) (silent c (take i ks) before here polled)
     ∙ last_other c o last outcome other.0 l.2
 
+-- whole turns
 rounds_silent : (n : ℕ) (c : Child) (ks : List Watched) (calls : List Call) → named c ks ≡ [] → Rounds n ks calls → heard_by c calls ≡ []
 rounds_silent zero c ks calls e h = ap (heard_by c) h
 rounds_silent (suc n) c ks calls e (turn, done, more, eq, polled, rounds) =
     ap (heard_by c) eq ∙ heard_append c turn (Pause done ∷ more) ∙ ap (λ t. t ++ heard_by c more) (silent c ks turn e polled)
     ∙ rounds_silent n c (map advanced ks) more (named_map c ks ∙ ap (map advanced) e) rounds
 
+-- a part of a row in which the name is not
 part_none : (c : Child) (hs ms ls : List Watched) → named c (hs ++ (ms ++ ls)) ≡ [] → named c ms ≡ []
 part_none c hs ms ls e =
     let f : named c hs ++ named c (ms ++ ls) ≡ [] = sym (named_append c hs (ms ++ ls)) ∙ e in
