@@ -1,4 +1,4 @@
-/* A plain spawn loop: runs a program so often, one after the other, with its outputs in /dev/null, and waits for each. */
+/* A plain spawn loop: runs a program so often, so many at once, with its outputs in /dev/null, and waits for each. */
 #include <fcntl.h>
 #include <spawn.h>
 #include <stdlib.h>
@@ -8,19 +8,26 @@ extern char **environ;
 
 int main(int count, char **words)
 {
-    if (count != 3)
+    if (count != 4)
         return 2;
     char *program[] = {words[1], NULL};
     posix_spawn_file_actions_t files;
     posix_spawn_file_actions_init(&files);
     posix_spawn_file_actions_addopen(&files, 1, "/dev/null", O_WRONLY, 0);
-    for (long left = atol(words[2]); left > 0; left--) {
-        pid_t child;
-        int status;
-        if (posix_spawn(&child, words[1], &files, NULL, program, environ) != 0)
-            return 2;
-        if (waitpid(child, &status, 0) != child || status != 0)
-            return 1;
+    long left = atol(words[2]), width = atol(words[3]), running = 0;
+    while (left > 0 || running > 0) {
+        if (left > 0 && running < width) {
+            pid_t child;
+            if (posix_spawn(&child, words[1], &files, NULL, program, environ) != 0)
+                return 2;
+            left--;
+            running++;
+        } else {
+            int status;
+            if (waitpid(-1, &status, 0) < 0 || status != 0)
+                return 1;
+            running--;
+        }
     }
     return 0;
 }
