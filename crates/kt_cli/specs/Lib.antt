@@ -10,6 +10,7 @@ pub mod Places
 pub mod Plans
 pub mod Recording
 pub mod Recordings
+pub mod Refused
 pub mod Reports
 pub mod Sequences
 pub mod Shown

@@ -23,6 +23,7 @@ mod recorder;
 mod reporting;
 mod result_store;
 mod sequence;
+mod telling;
 mod testing;
 mod totals;
 mod world;
@@ -38,6 +39,7 @@ pub use mem_runs::MemRuns;
 pub use reading::read_command;
 pub use result_store::ResultStore;
 pub use sequence::execute_all;
+pub use telling::{tell_command_fault, tell_driver_fault, tell_store_fault};
 pub use world::World;
 
 #[cfg(test)]

@@ -1,5 +1,6 @@
 use super::*;
 
+mod faults;
 mod play;
 mod refusals;
 mod reports;

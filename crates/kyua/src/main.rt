@@ -3,7 +3,10 @@
 
 use kt_base::Text;
 use kt_child::{DriverFault, HostOs};
-use kt_cli::{CommandFault, CommandLine, MemRuns, ResultStore, execute_on_host, read_command};
+use kt_cli::{
+    CommandFault, CommandLine, MemRuns, ResultStore, execute_on_host, read_command,
+    tell_command_fault, tell_driver_fault, tell_store_fault,
+};
 use kt_store::{Results, StoreFault};
 use sqlite::{Connection, Error, ErrorCode, File as StoreFile, FileStore};
 use std::io::{ErrorKind, LineWriter, Write};
@@ -12,26 +15,6 @@ use std::{env, io};
 
 /// The status where something failed.
 const FAILED: u8 = 2;
-
-/// The status of a wrong command line.
-const WRONG_WORDS: u8 = 3;
-
-/// Tells that memory ran out.
-fn out_of_memory(rt: &HostRuntime) -> u8 {
-    let _ = print!(rt; "kyua: E: out of memory\n");
-    FAILED
-}
-
-/// Tells why there is no driver.
-fn no_driver(rt: &HostRuntime, fault: DriverFault) -> u8 {
-    match fault {
-        DriverFault::NoMemory => out_of_memory(rt),
-        DriverFault::NoWorkDirectory => {
-            let _ = print!(rt; "kyua: E: no work directory\n");
-            FAILED
-        }
-    }
-}
 
 /// The absolute working directory, for a command that makes work directories.
 fn here(rt: &HostRuntime, line: &CommandLine) -> Result<Text, DriverFault> {
@@ -43,15 +26,6 @@ fn here(rt: &HostRuntime, line: &CommandLine) -> Result<Text, DriverFault> {
         Err(error) if error.kind() == ErrorKind::OutOfMemory => Err(DriverFault::NoMemory),
         Err(_) => Err(DriverFault::NoWorkDirectory),
     }
-}
-
-/// Tells that the results can't be opened.
-fn store_failed(rt: &HostRuntime, fault: StoreFault) -> u8 {
-    if fault == StoreFault::NoMemory {
-        return out_of_memory(rt);
-    }
-    let _ = print!(rt; "kyua: E: results store failed\n");
-    FAILED
 }
 
 /// What is told of a file that can't be opened.
@@ -81,31 +55,38 @@ fn open_results(
 }
 
 /// Does a command line over the host and a store, and writes its text on standard output, line for line.
-fn perform<S: ResultStore>(rt: &HostRuntime, line: &CommandLine, results: &mut S) -> u8 {
-    let here = match here(rt, line) {
-        Ok(here) => here,
-        Err(fault) => return no_driver(rt, fault),
-    };
+fn perform<S: ResultStore>(
+    rt: &HostRuntime,
+    line: &CommandLine,
+    results: &mut S,
+) -> Result<u8, DriverFault> {
+    let here = here(rt, line)?;
     let Ok(mut out) = LineWriter::new(rt.alloc(), io::writer(rt)) else {
-        return out_of_memory(rt);
+        return Err(DriverFault::NoMemory);
     };
-    match execute_on_host(rt, HostOs::new(rt), here.as_str(), line, results, &mut out) {
-        Ok(exit) => match out.flush() {
-            Ok(()) => exit.status,
-            Err(_) => FAILED,
-        },
-        Err(fault) => no_driver(rt, fault),
+    let exit = execute_on_host(rt, HostOs::new(rt), here.as_str(), line, results, &mut out)?;
+    match out.flush() {
+        Ok(()) => Ok(exit.status),
+        Err(_) => Ok(FAILED),
+    }
+}
+
+/// Does a command line over a store, or tells why there is no driver for it.
+fn perform_over<S: ResultStore>(rt: &HostRuntime, line: &CommandLine, results: &mut S) -> u8 {
+    match perform(rt, line, results) {
+        Ok(status) => status,
+        Err(fault) => tell_driver_fault(fault, &mut io::writer(rt)).status,
     }
 }
 
 /// Does a command line over its own store: that of its file, or an empty one in memory.
 fn perform_line(rt: &HostRuntime, line: &CommandLine) -> u8 {
     let Some(file) = &line.results else {
-        return perform(rt, line, &mut MemRuns::new(rt.alloc()));
+        return perform_over(rt, line, &mut MemRuns::new(rt.alloc()));
     };
     match open_results(rt, file) {
-        Ok(mut results) => perform(rt, line, &mut results),
-        Err(fault) => store_failed(rt, fault),
+        Ok(mut results) => perform_over(rt, line, &mut results),
+        Err(fault) => tell_store_fault(fault, &mut io::writer(rt)).status,
     }
 }
 
@@ -114,28 +95,31 @@ fn words(rt: &HostRuntime) -> io::Result<Vec<String>> {
     Ok(env::args(rt)?.skip(1).collect(rt.alloc())?)
 }
 
-fn run(rt: &HostRuntime) -> u8 {
+/// The command line that the words are.
+fn read_line(rt: &HostRuntime) -> Result<CommandLine, CommandFault> {
     let words = match words(rt) {
         Ok(words) => words,
-        Err(error) if error.kind() == ErrorKind::OutOfMemory => return out_of_memory(rt),
+        Err(error) if error.kind() == ErrorKind::OutOfMemory => {
+            return Err(CommandFault::NoMemory);
+        }
         // Words that can't be read are a wrong command line, as no word at all is.
         Err(_) => Vec::new(rt.alloc()),
     };
-    match read_command(rt.alloc(), words.as_slice()) {
+    read_command(rt.alloc(), words.as_slice())
+}
+
+/// Tells of a wrong command line on standard error; want of memory goes where all else goes.
+fn refuse(rt: &HostRuntime, fault: &CommandFault) -> u8 {
+    match fault {
+        CommandFault::NoMemory => tell_command_fault(fault, &mut io::writer(rt)).status,
+        _ => tell_command_fault(fault, &mut rt.stderr()).status,
+    }
+}
+
+fn run(rt: &HostRuntime) -> u8 {
+    match read_line(rt) {
         Ok(line) => perform_line(rt, &line),
-        Err(CommandFault::NoMemory) => out_of_memory(rt),
-        Err(CommandFault::Usage(text)) => {
-            let _ = eprint!(rt; "{}", text.as_str());
-            WRONG_WORDS
-        }
-        Err(CommandFault::BadKind) => {
-            let _ = eprint!(rt; "kyua: E: bad results filter\n");
-            WRONG_WORDS
-        }
-        Err(CommandFault::BadRun) => {
-            let _ = eprint!(rt; "kyua: E: bad run number\n");
-            WRONG_WORDS
-        }
+        Err(fault) => refuse(rt, &fault),
     }
 }
 
