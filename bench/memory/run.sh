@@ -1,7 +1,7 @@
 #!/usr/bin/env bash
 # Refuses each allocation of `list`, `test`, `report` and `report-junit` in turn, and says whether the program invents nothing:
-# it tells the whole text, or it ends with 2 after the line that tells so, or a case is broken for want of memory; what is
-# recorded is what was told. Each sweep goes on until a run has come to its end with nothing refused.
+# it tells the whole text, or it ends with 2 after the line that tells so, or a case is broken since it could not be started;
+# what is recorded is what was told. Each sweep goes on until a run has come to its end with nothing refused.
 # KYUA names the program; else kyua.sh builds this checkout's. Nothing is written but in a scratch folder.
 set -eu
 here=$(cd "$(dirname "$0")/../.." && pwd)
@@ -18,7 +18,9 @@ cp "$here"/examples/* .
 mkdir work
 
 memory='kyua: E: out of memory'
-unstarted='broken: Test case could not be started for want of memory'
+# What a case is broken for where memory was refused before it ran: a call of the system that had none is one that failed.
+unstarted=('Test case could not be started for want of memory' 'Work directory could not be made' 'Output files could not be made'
+  'Test program could not be started')
 all=passed,skipped,xfail,broken,failed
 
 fail() {
@@ -61,13 +63,22 @@ sweep_text() {
   echo "$name: $((n - 1)) allocations, $refused told as want of memory, $((whole - 1)) without effect"
 }
 
-# Whether the lines that were told are those of the cases, each as it is or broken for want of memory.
+# Whether a line tells that this case could not be started.
+is_unstarted() {
+  local reason
+  for reason in "${unstarted[@]}"; do
+    [ "$1" = "$2  ->  broken: $reason  [T]" ] && return 0
+  done
+  return 1
+}
+
+# Whether the lines that were told are those of the cases, each as it is or broken since it could not be started.
 are_lines() {
   local i=0 line case
   while IFS= read -r line; do
     i=$((i + 1))
     case=$(sed -n "${i}p" cases)
-    [ "$line" = "$case" ] || [ "$line" = "${case%%  ->  *}  ->  $unstarted  [T]" ] || return 1
+    [ "$line" = "$case" ] || is_unstarted "$line" "${case%%  ->  *}" || return 1
   done < "$1"
 }
 
