@@ -4,6 +4,8 @@
 #[cfg(test)]
 mod command_lines;
 #[cfg(test)]
+mod commands;
+#[cfg(test)]
 mod folders;
 #[cfg(test)]
 mod host_os;
