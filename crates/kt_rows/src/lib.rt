@@ -10,6 +10,8 @@ mod folders;
 #[cfg(test)]
 mod host_os;
 #[cfg(test)]
+mod one_program;
+#[cfg(test)]
 mod pacing;
 #[cfg(test)]
 mod plans;
@@ -19,3 +21,5 @@ mod real_children;
 mod results;
 #[cfg(test)]
 mod runs;
+#[cfg(test)]
+mod tables;
