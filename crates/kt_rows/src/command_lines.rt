@@ -4,7 +4,7 @@ use std::alloc::Global;
 use std::test::Fail;
 
 /// The words of a command line.
-fn words(alloc: Global, line: &[&str]) -> Result<Vec<String>, Fail> {
+pub(super) fn words(alloc: Global, line: &[&str]) -> Result<Vec<String>, Fail> {
     let mut words = Vec::new(alloc);
     for word in line {
         words.push(String::from_str(alloc, word)?)?;

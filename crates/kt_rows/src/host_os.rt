@@ -6,7 +6,7 @@ use kt_child::{Child, HostOs, Os, Polled, env_plan};
 use std::process::Abort;
 use std::rt::Clock;
 use std::test::Fail;
-use std::time::Instant;
+use std::time::{Instant, SystemTime};
 
 const CLEANUP: Child = Child {
     attempt: 0,
@@ -30,7 +30,26 @@ fn a_child_has_its_files_its_directory_its_environment_and_no_input<R: Abort + A
     let err = whole(os, &below(&folder, "work.err")?)?;
     assert_eq!(rt; err.as_slice(), work.as_str().as_bytes());
     assert!(rt; os.poll(CHILD).is_err());
-    assert!(rt; os.now()? > 1_700_000_000_000);
+    Ok(())
+}
+
+/// The moment, by the clock.
+fn moment<C: Clock>(clock: &C) -> Result<u128, Fail> {
+    Ok(
+        SystemTime::now(clock)?
+            .duration_since(SystemTime::UNIX_EPOCH)?
+            .as_millis(),
+    )
+}
+
+fn a_moment_is_the_clocks<R: Abort + Clock, O: Os>(rt: &R, os: &mut O) -> Result<(), Fail> {
+    let before = moment(rt)?;
+    let told = os.now()? as u128;
+    let after = moment(rt)?;
+    assert!(rt;
+        before <= told && told <= after,
+        "{told} from {before} to {after}"
+    );
     Ok(())
 }
 
@@ -131,6 +150,30 @@ fn a_long_output_is_read_to_the_limit<R: Abort + AllocGlobal, O: Os>(
     Ok(())
 }
 
+fn a_part_is_read_from_its_place<R: Abort + AllocGlobal, O: Os>(
+    rt: &R,
+    os: &mut O,
+    here: &Text,
+) -> Result<(), Fail> {
+    let folder = folder(os, here, "parts")?;
+    start(rt.alloc(), os, &folder, "printf 0123456789")?;
+    assert_eq!(rt; end(os)?, Polled::Exited(0));
+    let out = below(&folder, "work.out")?;
+    for (from, limit, bytes, follows) in [
+        (0, 4, b"0123".as_slice(), true),
+        (3, 4, b"3456".as_slice(), true),
+        (8, 2, b"89".as_slice(), false),
+        (9, 4, b"9".as_slice(), false),
+    ] {
+        let Some((read, more)) = part(os.read_part(&out, from, limit)?) else {
+            return Err(Fail::new("missing"));
+        };
+        assert_eq!(rt; read.as_slice(), bytes, "from {from}");
+        assert_eq!(rt; more, follows, "from {from}");
+    }
+    Ok(())
+}
+
 fn a_removal_follows_no_link<R: Abort + AllocGlobal, O: Os>(
     rt: &R,
     os: &mut O,
@@ -177,20 +220,25 @@ fn answers_that_a_child_runs_keep_to_its_real_time<R: Abort + Clock + AllocGloba
     Err(Fail::new("it runs on"))
 }
 
-fn a_killed_child_is_told_by_its_signal<R: Abort + AllocGlobal, O: Os>(
-    rt: &R,
-    os: &mut O,
-    here: &Text,
-) -> Result<(), Fail> {
+fn a_pause_lasts_while_a_child_runs_and_a_killed_child_is_told_by_its_signal<
+    R: Abort + Clock + AllocGlobal,
+    O: Os,
+>(rt: &R, os: &mut O, here: &Text) -> Result<(), Fail> {
     let folder = folder(os, here, "killed")?;
     start(rt.alloc(), os, &folder, "exec sleep 60")?;
     assert_eq!(rt; os.poll(CHILD)?, Polled::Running);
+    let begun = Instant::now(rt)?;
+    for _ in 0..30 {
+        os.pause()?;
+    }
+    let millis = begun.elapsed(rt)?.as_millis();
+    assert!(rt; 290 <= millis, "30 pauses in {millis}");
     os.kill(CHILD)?;
     assert_eq!(rt; end(os)?, Polled::Signaled(9, false));
     Ok(())
 }
 
-fn the_host_asks_as_it_should<R: Abort + Clock + AllocGlobal, O: Os>(
+fn nothing_is_invented<R: Abort + Clock + AllocGlobal, O: Os>(
     rt: &R,
     os: &mut O,
     here: &Text,
@@ -200,14 +248,18 @@ fn the_host_asks_as_it_should<R: Abort + Clock + AllocGlobal, O: Os>(
     pipes_links_and_directories_are_not_read(rt, os, here)?;
     an_output_is_a_new_file(rt, os, here)?;
     a_long_output_is_read_to_the_limit(rt, os, here)?;
+    a_part_is_read_from_its_place(rt, os, here)?;
     a_removal_follows_no_link(rt, os, here)?;
     answers_that_a_child_runs_keep_to_its_real_time(rt, os, here)?;
-    a_killed_child_is_told_by_its_signal(rt, os, here)
+    a_pause_lasts_while_a_child_runs_and_a_killed_child_is_told_by_its_signal(rt, os, here)?;
+    a_moment_is_the_clocks(rt, os)
 }
 
+/// A host that invents an answer, in place of asking the system, fails here: what each of its calls does is seen from
+/// the other side, by a child, by a file or by the clock.
 #[test]
-fn the_host_asks_the_system_as_it_should(rt: HostRuntime) -> Result<(), Fail> {
+fn host_invents_answers(rt: HostRuntime) -> Result<(), Fail> {
     let here = here(&rt)?;
     let mut os = HostOs::new(&rt);
-    the_host_asks_as_it_should(&rt, &mut os, &here)
+    nothing_is_invented(&rt, &mut os, &here)
 }

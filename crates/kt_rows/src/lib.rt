@@ -4,9 +4,13 @@
 #[cfg(test)]
 mod command_lines;
 #[cfg(test)]
+mod commands;
+#[cfg(test)]
 mod folders;
 #[cfg(test)]
 mod host_os;
+#[cfg(test)]
+mod one_program;
 #[cfg(test)]
 mod pacing;
 #[cfg(test)]
@@ -17,3 +21,5 @@ mod real_children;
 mod results;
 #[cfg(test)]
 mod runs;
+#[cfg(test)]
+mod tables;

@@ -69,7 +69,7 @@ fn a_limit_is_over_in_time<R: Abort + Clock + AllocGlobal, O: Os + Drop>(
         let (entries, after) = run(alloc, os, &folder, cases.as_slice(), 8)?;
         os = after;
         let millis = begun.elapsed(rt)?.as_millis();
-        assert!(rt; 1_800 <= millis && millis < 25_000, "{name} after {millis}");
+        assert!(rt; 1_800 <= millis, "{name} after {millis}");
         assert_eq!(rt; entries.len(), short.saturating_add(1));
         for entry in entries.as_slice() {
             let result = if entry.position == 0 {
@@ -83,6 +83,10 @@ fn a_limit_is_over_in_time<R: Abort + Clock + AllocGlobal, O: Os + Drop>(
                 "at {}",
                 entry.position
             );
+            if entry.position == 0 {
+                let own = entry.millis;
+                assert!(rt; 1_800 <= own && own < 25_000, "{name} after {own}");
+            }
         }
     }
     Ok(os)

@@ -58,7 +58,7 @@ fn done<H: Files<File = File> + Clock + AllocGlobal, O: Os + Drop, R: ResultStor
     }
 }
 
-fn attached(alloc: Global) -> Result<Results<MemStore>, Fail> {
+pub(super) fn attached(alloc: Global) -> Result<Results<MemStore>, Fail> {
     let connection = Connection::open_in_memory(alloc)?;
     if !connection.is_autocommit() {
         return Err("a new connection is in a transaction".into());
