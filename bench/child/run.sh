@@ -7,16 +7,9 @@
 # built in a scratch checkout over what this one has proved. COUNT and ROUNDS may say how many programs, and how often.
 # It wants cc and GNU time. Nothing is written but in a scratch folder and in this checkout's crates/*/out.
 set -eu
-here=$(cd "$(dirname "$0")/../.." && pwd)
+. "$(dirname "$0")/../program.sh"
 count=${COUNT:-1000}
 rounds=${ROUNDS:-3}
-program=${KYUA:-}
-if [ -z "$program" ]; then
-  "$here/kyua.sh" list -k "$here/examples/Kyuafile" > /dev/null
-  program=$here/crates/kyua/out/kyua
-fi
-scratch=$(mktemp -d)
-trap 'rm -rf "$scratch"' EXIT
 
 # Builds the program of main.txt, whose plans are those of the tests.
 build() {

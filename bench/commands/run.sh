@@ -4,14 +4,7 @@
 # directories and results that can't be made.
 # KYUA names the program; else kyua.sh builds this checkout's. Nothing is written but in a scratch folder.
 set -eu
-here=$(cd "$(dirname "$0")/../.." && pwd)
-program=${KYUA:-}
-if [ -z "$program" ]; then
-  "$here/kyua.sh" list -k "$here/examples/Kyuafile" > /dev/null
-  program=$here/crates/kyua/out/kyua
-fi
-scratch=$(mktemp -d)
-trap 'rm -rf "$scratch"' EXIT
+. "$(dirname "$0")/../program.sh"
 cd "$scratch"
 lines=0
 

@@ -4,14 +4,7 @@
 # what is recorded is what was told. Each sweep goes on until a run has come to its end with nothing refused.
 # KYUA names the program; else kyua.sh builds this checkout's. Nothing is written but in a scratch folder.
 set -eu
-here=$(cd "$(dirname "$0")/../.." && pwd)
-program=${KYUA:-}
-if [ -z "$program" ]; then
-  "$here/kyua.sh" list -k "$here/examples/Kyuafile" > /dev/null
-  program=$here/crates/kyua/out/kyua
-fi
-scratch=$(mktemp -d)
-trap 'rm -rf "$scratch"' EXIT
+. "$(dirname "$0")/../program.sh"
 cd "$scratch"
 cc -O2 -shared -fPIC -o refuse.so "$here/bench/memory/refuse.c" -ldl
 cp "$here"/examples/* .
