@@ -1,9 +1,6 @@
-# What the scripts of this folder share: the program as $kyua (crates/kyua/out/kyua, unless the first word names another), a
-# scratch folder to work in, and a Kyuafile of short programs.
-here=$(cd "$(dirname "$0")/../.." && pwd)
-kyua=${1:-$here/crates/kyua/out/kyua}
-scratch=$(mktemp -d)
-trap 'rm -rf "$scratch"' EXIT
+# What the scripts of this folder share beside program.sh's: they work in the scratch folder, and make a Kyuafile of short
+# programs there.
+. "$(dirname "$0")/../program.sh"
 cd "$scratch"
 
 # Makes so many programs that return 0, c0 and up, and the Kyuafile that registers them.

@@ -1,12 +1,11 @@
 #!/bin/sh
 # Says how long a recorded run of 1,000 plain programs takes beside 1,000 durable inserts by the real sqlite3, and how long and
-# in how much memory runs of 1,000, 10,000 and 100,000 entries are reported.
-# The program is crates/kyua/out/kyua, unless another one is named. It wants sqlite3 and GNU time.
+# in how much memory runs of 1,000, 10,000 and 100,000 entries are reported. It wants sqlite3 and GNU time.
 set -eu
 . "$(dirname "$0")/common.sh"
 
 make_suite 1000
-/usr/bin/time -f 'a recorded run of 1,000 programs: %e s, %U s and %S s of a processor, %M KiB' "$kyua" test -r x.db > told
+/usr/bin/time -f 'a recorded run of 1,000 programs: %e s, %U s and %S s of a processor, %M KiB' "$program" test -r x.db > told
 
 {
     echo 'PRAGMA journal_mode=WAL; PRAGMA synchronous=FULL; CREATE TABLE t (a INTEGER PRIMARY KEY, b TEXT) STRICT;'
@@ -29,6 +28,6 @@ WITH RECURSIVE c(x) AS (SELECT 0 UNION ALL SELECT x + 1 FROM c WHERE x + 1 < $co
 INSERT INTO entries SELECT 1, x, 'program' || x, 'main', 3, 'it went wrong', 1700000000123, 12, X'68690A', X'', X'', X'' FROM c;
 SQL
     for command in report report-junit; do
-        /usr/bin/time -f "$command of $count entries: %e s, %M KiB" "$kyua" "$command" -r "$count.db" > out
+        /usr/bin/time -f "$command of $count entries: %e s, %M KiB" "$program" "$command" -r "$count.db" > out
     done
 done

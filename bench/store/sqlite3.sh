@@ -1,6 +1,6 @@
 #!/bin/sh
 # Says whether kyua and the real sqlite3 read each other's files: one made by sqlite3 with the same tables is shown by
-# kyua, and is whole afterwards. The program is crates/kyua/out/kyua, unless another one is named.
+# kyua, and is whole afterwards. It wants sqlite3.
 set -eu
 . "$(dirname "$0")/common.sh"
 
@@ -21,12 +21,12 @@ Run 1, started 2023-11-14T22:13:20.123Z
 Test cases: 1 total, 0 skipped, 0 expected failures, 0 broken, 1 failed
 Total time: 0.012s
 TEXT
-"$kyua" report -r made.db > shown
+"$program" report -r made.db > shown
 cmp wanted shown
 test "$(sqlite3 made.db 'PRAGMA integrity_check')" = ok
 
 # a new file, made by kyua
-"$kyua" report -r new.db > told && exit 1 || test $? = 2
+"$program" report -r new.db > told && exit 1 || test $? = 2
 test "$(cat told)" = 'kyua: E: no runs'
 test "$(sqlite3 new.db 'PRAGMA integrity_check')" = ok
 test "$(sqlite3 new.db 'SELECT name, value FROM meta')" = 'schema|1'
@@ -34,6 +34,6 @@ test "$(sqlite3 new.db 'SELECT count(*) FROM runs')" = 0
 
 # a file of another schema
 sqlite3 new.db 'UPDATE meta SET value = 9'
-"$kyua" report -r new.db > told && exit 1 || test $? = 2
+"$program" report -r new.db > told && exit 1 || test $? = 2
 test "$(cat told)" = 'kyua: E: results store failed'
 echo 'sqlite3 and kyua agree'

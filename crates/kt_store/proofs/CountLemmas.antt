@@ -7,9 +7,7 @@ use Rattle.sqlite.specs.declared.types.Value.TheVariants.{Null, Int}
 use Rattle.sqlite.specs.Order.{Row}
 use Rattle.sqlite.specs.Tree.{Trees}
 use Rattle.sqlite_value.specs.Order.{column}
-use Rattle.std.specs.Prelude.{unsigned_abs, Result, slice_get}
-use Rattle.kt_store.specs.declared.store_fault.StoreFault.{StoreFault}
-use Rattle.std.proofs.Common.{ℤ, Ok}
+use Rattle.std.specs.Prelude.{slice_get}
 use Rattle.sqlite.specs.Term.{Term, Env, lit, col, holds}
 use Rattle.sqlite.specs.Ops.{is_true, from_truth, binary}
 use Rattle.sqlite.specs.Query.{inner, end, matches_as, IsAnswerAs, IsSureAnswer, Output, output}
@@ -114,9 +112,9 @@ module _ {S : Type 0} (g : Ghosts S) (old new : Held S) (runs : List Run) (has :
   asked_count n rows clean it = tells_count (state g it.mid) (state g new) runs n rows (asked_mid g old new runs has earlier count_text count_is.2 (Int (pos n) ∷ []) rows clean it) it.shown
 
 pub only_number : (n : ℕ) (rows : List Row) (first : Row) (read : ℕ) → rows ≡ (Int (pos n) ∷ []) ∷ [] → slice_get rows 0 ≡ Some first
-    → ((z : ℤ) → 0 < length first → column first 0 ≡ Int z → ◌≡◌ {A = Result ℕ StoreFault} (Ok read) (Ok (unsigned_abs z))) → read ≡ n
+    → column first 0 ≡ Int (pos read) → read ≡ n
 only_number n rows row read are first reads =
     let e : Some (Int (pos n) ∷ []) ≡ Some row = sym (ap (λ l. slice_get l 0) are) ∙ first in
     let same : row ≡ Int (pos n) ∷ [] = cc in
-    let got = reads (pos n) (subst (λ r. 0 < length r) (sym same) (omega arith)) (ap (λ r. column r 0) same) in
+    let got : Int (pos read) ≡ Int (pos n) = sym reads ∙ ap (λ r. column r 0) same in
     cc

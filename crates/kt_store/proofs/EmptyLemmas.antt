@@ -8,7 +8,6 @@ use Rattle.sqlite.specs.Store.{Ghosts}
 use Rattle.sqlite.specs.Held.{Held, state}
 use Rattle.sqlite.specs.State.{State, HasCleanDisk, KeepsCommit, IsRolledBack, ExecutesInside}
 use Rattle.sqlite.proofs.InsideLemmas.{inside_keeps}
-use Rattle.kt_store.specs.Ask.{Rests}
 use Rattle.kt_store.specs.Stands.{IsEmpty}
 
 -- a statement inside a transaction commits nothing
@@ -31,15 +30,3 @@ undone_empty old mid new empty earlier was_open same left clean opened =
       settled = (undone.undone opened).1 ∙ sym (undone.undone opened).0;
       blank = ap (λ (db : Database). db.schema) ((undone.undone opened).0 ∙ same clean open_mid ∙ has.settled) ∙ has.blank;
     }
-
-pub rests_empty : (old new : State) → IsEmpty old → (HasCleanDisk new → HasCleanDisk old) → (HasCleanDisk new → Rests old new) → IsEmpty new
-rests_empty old new empty earlier left clean opened = elim (left clean) [
-  | inl same ↦
-      let has = empty (earlier clean) same.0.was_open in
-      record {
-        autocommit = same.0.mode ∙ has.autocommit;
-        settled = same.0.committed_is ∙ has.settled ∙ sym same.0.now_is;
-        blank = ap (λ (db : Database). db.schema) same.0.now_is ∙ has.blank;
-      }
-  | inr undone ↦ undone_empty old old new empty earlier (λ k h. h) (λ k h. refl) (λ k. undone) clean opened
-]

@@ -1,10 +1,11 @@
 -- What the query for one run answers.
-use Rattle.std.proofs.Common.{Bool, true, false, nat_lt, ◌≡◌, ℕ, pos, List, [], ◌∷◌, length, map, filter, slice_get, Some, None, Option, Ok, Result, option_map, ap₂, arith, arith, refl, sym, ap, subst, ◌∙◌, IsPermutation}
+use Rattle.std.proofs.Common.{Bool, true, false, nat_lt, ◌≡◌, ℕ, pos, List, [], ◌∷◌, length, map, filter, slice_get, Some, None, Option, option_map, ap₂, arith, arith, refl, sym, ap, subst, ◌∙◌, IsPermutation}
 use Rattle.std.proofs.lemmas.List.Sorted.{length_permutation}
 use Rattle.std.specs.List.{list_all}
 use Rattle.std.specs.Option.{option_to_list}
 use Rattle.sqlite.specs.declared.types.Value.TheVariants.{Int}
 use Rattle.sqlite.specs.Order.{Row}
+use Rattle.sqlite_value.specs.Order.{column}
 use Rattle.sqlite.specs.Tree.{Trees}
 use Rattle.sqlite.specs.Term.{col, holds}
 use Rattle.sqlite.specs.Store.{Ghosts}
@@ -12,7 +13,6 @@ use Rattle.sqlite.specs.Held.{Held, state}
 use Rattle.sqlite.specs.State.{State, Shown, HasCleanDisk}
 use Rattle.sqlite.proofs.Callers.{reads_as, one_permutation}
 use Rattle.std.specs.Prelude.{unsigned_abs}
-use Rattle.kt_store.specs.declared.store_fault.StoreFault.{StoreFault}
 use Rattle.kt_base.specs.declared.run.Run.{Run}
 use Rattle.kt_store.specs.Tables.{run_text, schema_1}
 use Rattle.kt_store.specs.Runs.{run_row, run_at, flag}
@@ -65,8 +65,16 @@ pub some_there : (o : Option Run) (rows : List Row) (row : Row) → rows ≡ map
 some_there None rows row are some = absurd (let e : None ≡ Some row = sym (ap (λ l. slice_get l 0) are) ∙ some in cc)
 some_there (Some r) rows row are some = let e : Some (head_row r) ≡ Some row = sym (ap (λ l. slice_get l 0) are) ∙ some in let same : row ≡ head_row r = cc in (r, refl, same)
 
-pub both_read : (o : Option Run) (r : Run) (total finished : ℕ) → o ≡ Some r → ◌≡◌ {A = Result ℕ StoreFault} (Ok total) (Ok r.total) → ◌≡◌ {A = Result ℕ StoreFault} (Ok finished) (Ok (unsigned_abs (flag r.finished))) → Some (total, finished) ≡ option_map head o
-both_read o r total finished is a b = let x : total ≡ r.total = cc in let y : finished ≡ unsigned_abs (flag r.finished) = cc in ap₂ (λ p q. Some (p, q)) x y ∙ ap (option_map head) (sym is)
+-- a number that was read from the column that tells whether a run is finished
+pub flag_read : (n : ℕ) (finished : Bool) → Int (pos n) ≡ Int (flag finished) → n ≡ unsigned_abs (flag finished)
+flag_read n finished is = let same : pos n ≡ flag finished = cc in ap unsigned_abs same
+
+pub both_read : (o : Option Run) (r : Run) (cells : Row) (total finished : ℕ) → o ≡ Some r → cells ≡ head_row r → column cells 0 ≡ Int (pos total) → column cells 1 ≡ Int (pos finished) → Some (total, finished) ≡ option_map head o
+both_read o r cells total finished is same first second =
+    let a : Int (pos total) ≡ Int (pos r.total) = sym first ∙ ap (λ l. column l 0) same in
+    let x : total ≡ r.total = cc in
+    let y = flag_read finished r.finished (sym second ∙ ap (λ l. column l 1) same) in
+    ap₂ (λ p q. Some (p, q)) x y ∙ ap (option_map head) (sym is)
 
 pub set : (b : Bool) → nat_lt 0 (unsigned_abs (flag b)) ≡ b
 set true = refl

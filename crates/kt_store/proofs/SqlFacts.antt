@@ -1,7 +1,6 @@
 -- What the texts mean.
 use Rattle.std.proofs.Common.{◌≡◌, ℕ, pos, negsuc, List, [], ◌∷◌, codes, false, Some, None, Ok, refl}
 use Rattle.sqlite.specs.declared.types.Value.TheVariants.{Null, Int, Text}
-use Rattle.sqlite.specs.Compile.{table_defined_by}
 use Rattle.sqlite.specs.Collation.TheVariants.{Binary}
 use Rattle.sqlite.specs.Term.{Term, lit, col, op2}
 use Rattle.sqlite.specs.Query.{Query, inner, end}
@@ -10,28 +9,12 @@ use Rattle.sqlite_value.specs.Keys.{ascending}
 use Rattle.sqlite.specs.Source.TheVariants.{Values}
 use Rattle.sqlite.specs.Command.{Command}
 use Rattle.sqlite.specs.Command.TheVariants.{Insert, Select, Update}
-use Rattle.sqlite.specs.Change.{created}
 use Rattle.sqlite.specs.Listing.{understood, reads_listing}
 use Rattle.sqlite.proofs.Callers.{IsPlain, command_of}
 use Rattle.sqlite_sql.specs.declared.ops.BinaryOp.TheVariants.{Compare}
 use Rattle.sqlite_sql.specs.declared.ops.CompareOp.TheVariants.{Eq}
 use Rattle.sqlite_tied.specs.Compute.{everything}
-use Rattle.kt_store.specs.Tables.{create_meta, create_runs, create_entries, meta, runs, entries, no_schema, schema_1, full_text, begin_text, run_text, count_text, finish_text, runs_text, there_text, put_text, entries_text, meta_text, mark_text}
-
-pub meta_is : table_defined_by create_meta ≡ Ok meta
-unfolding everything
-meta_is = refl
-
-pub runs_is : table_defined_by create_runs ≡ Ok runs
-unfolding everything
-runs_is = refl
-
-pub entries_is : table_defined_by create_entries ≡ Ok entries
-unfolding everything
-entries_is = refl
-
-schema_is : created (created (created no_schema meta) runs) entries ≡ schema_1
-schema_is = refl
+use Rattle.kt_store.specs.Tables.{no_schema, schema_1, full_text, begin_text, run_text, count_text, finish_text, runs_text, there_text, put_text, entries_text, meta_text, mark_text}
 
 abbrev pub query : Query
 query = record { from = end; filter = []; group = None; project = []; distinct = false; collations = []; order = []; limit = lit (Int (negsuc 0)); offset = lit (Int (pos 0)) }

@@ -1,5 +1,5 @@
 -- What a statement leaves of a connection that stands for runs.
-use Rattle.std.proofs.Common.{◌≡◌, inl, inr, ℕ, List, false, IsTrue, Some, None, Option, Err, sym, ap, subst, subst₂, ◌∙◌, append-nil}
+use Rattle.std.proofs.Common.{◌≡◌, inl, inr, ℕ, List, false, IsTrue, Some, None, Option, Err, sym, ap, subst, subst₂, ◌∙◌, append-nil, arith}
 use Rattle.sqlite.specs.Order.{Row}
 use Rattle.sqlite.specs.Tree.{Trees}
 use Rattle.sqlite.specs.Schema.{Schema}
@@ -9,12 +9,12 @@ use Rattle.sqlite.specs.Listing.{understood}
 use Rattle.std.proofs.lemmas.Bool.{cases_Bool}
 use Rattle.sqlite_resolve.specs.declared.compiled.Compiled.{Compiled}
 use Rattle.sqlite_schema.specs.declared.command.Returning.{Returning}
-use Rattle.sqlite.specs.State.{State, HasCleanDisk, IsUnchanged, IsRolledBack, IsNotRun, Executes, ExecutesIn, RunsCommand, shows_rows, FailsToQuery, FailsToShow, CommitsBy, MayCommit}
+use Rattle.sqlite.specs.State.{State, HasCleanDisk, IsUnchanged, IsRolledBack, IsNotRun, Executes, ExecutesIn, RunsCommand, shows_rows, FailsToQuery, FailsToShow, CommitsBy, MayCommit, Survives}
 use Rattle.sqlite.proofs.Callers.{IsPlain, command_of, statement_of, unchanged_then}
 use Rattle.kt_base.specs.declared.run.Run.{Run}
 use Rattle.kt_store.specs.Runs.{Tables}
 use Rattle.kt_store.specs.Ask.{Rests}
-use Rattle.kt_store.specs.Stands.{IsStore, StandsFor}
+use Rattle.kt_store.specs.Stands.{IsStore, StandsFor, Leaves}
 
 -- whatever a refused statement is, the connection is as it was or is rolled back
 pub not_run : (old new : State) (sql : List ℕ) (params : Row) (e : Error) → IsNotRun old new sql params e → Rests old new
@@ -82,3 +82,10 @@ rests_then a b c same (inr undone) = inr (record {
   unmarked = undone.unmarked;
   counts = record { changes = undone.counts.changes ∙ same.1.changes; last_rowid = undone.counts.last_rowid ∙ same.1.last_rowid };
 })
+
+-- what calls that commit nothing leave of what a crash may leave
+pub outlives : (old new : State) (P : Trees → Type 0) → Survives old new (λ _. ⊥) → Leaves old P → Leaves new P
+outlives old new P it left clean trees may = elim (it.crash clean trees may) [
+  | inl earlier ↦ left (omega (arith, clean, it.clean)) trees earlier
+  | inr none ↦ absurd none
+]

@@ -93,6 +93,13 @@ pub(crate) fn is_blank<S: Alter>(conn: &Connection<S>) -> bool
     schema.tables.len() == 0
 }
 
+/// A theorem: a crash leaves the runs that an open connection stands for.
+pub(crate) fn leaves_its_runs<S: Alter>(conn: &Connection<S>)
+    ensures { (runs : _) → StandsFor (state S.Store conn.now) runs → IsTrue (state S.Store conn.now).is_open → Leaves (state S.Store conn.now) (Keeps runs) }
+{
+    let _ = conn.schema();
+}
+
 /// A number of a row, which may be negative.
 pub(crate) fn signed_in(row: &Row, at: usize) -> Result<i64, StoreFault>
     ensures number { IfOk result (λ n. column row.now at ≡ Int n) }
@@ -135,6 +142,7 @@ pub(crate) fn settle<S: Alter>(conn: &mut Connection<S>) -> Result<(), StoreFaul
     ensures made_crash { IsEmpty (state S.Store conn.old) → Survives (state S.Store conn.old) (state S.Store conn.new) (Keeps []) }
     ensures crash { (runs : _) → StandsFor (state S.Store conn.old) runs → Survives (state S.Store conn.old) (state S.Store conn.new) (λ _. ⊥) }
     ensures durable { IsEmpty (state S.Store conn.old) → OnOk result (Leaves (state S.Store conn.new) (Keeps [])) }
+    ensures was_open { (runs : _) → StandsFor (state S.Store conn.old) runs → HasCleanDisk (state S.Store conn.new) → OnOk result (IsTrue (state S.Store conn.old).is_open) }
     ensures unknown { (n : ℤ) → SaysSchema n (state S.Store conn.old) → n ≢ pos 1 → HasCleanDisk (state S.Store conn.new) → OnOk result ⊥ }
     ensures untouched { (n : ℤ) → SaysSchema n (state S.Store conn.old) → HasCleanDisk (state S.Store conn.new) → OnErr result (Rests (state S.Store conn.old) (state S.Store conn.new)) }
     ensures unknown_crash { (n : ℤ) → SaysSchema n (state S.Store conn.old) → OnErr result (Survives (state S.Store conn.old) (state S.Store conn.new) (λ _. ⊥)) }

@@ -1,13 +1,12 @@
-ghost use Rattle.std.specs.Prelude.{◌≡◌, ◌<◌, ◌^◌, pos, map, List, Some, IfOk, IfErr};
+ghost use Rattle.std.specs.Prelude.{◌≡◌, ◌<◌, ◌^◌, ℕ, map, List, [], IfOk, IfErr};
 ghost use Rattle.kt_base.specs.declared.entry.Entry.{Entry as Stored};
 ghost use Rattle.kt_base.specs.declared.kind.Kind.{Kind as Sort};
 ghost use Rattle.kt_base.specs.declared.kind.Kind.TheVariants.{Passed};
 ghost use Rattle.kt_base.specs.Utf8.{utf8};
-ghost use Rattle.std.specs.Prelude.{ℕ, []};
 ghost use Rattle.std.specs.List.{AllByRecursion};
 ghost use Rattle.kt_base.specs.declared.output.Output.{Output as Pair};
 ghost use Rattle.sqlite_value.specs.Order.{column};
-ghost use Rattle.sqlite_value.specs.declared.value.Value.TheVariants.{Int, Text as Words, Blob};
+ghost use Rattle.sqlite_value.specs.declared.value.Value.TheVariants.{Text as Words, Blob};
 ghost use Rattle.sqlite.specs.State.{HasCleanDisk, Survives};
 ghost use Rattle.sqlite.specs.Held.{state};
 ghost use Rattle.kt_store.specs.Ask.{IsStoreFault};
@@ -15,32 +14,13 @@ ghost use Rattle.kt_store.specs.Runs.{IsEntry, IsText, kind_code, run_at, entrie
 ghost use Rattle.kt_store.specs.Heads.{entry_columns};
 ghost use Rattle.kt_store.specs.Stands.{StandsFor};
 
+use crate::read::{number_in, small_in};
 use crate::statements::ask;
 use crate::store_fault::{StoreFault, fault};
 use crate::value::int;
 use kt_base::{Bytes, Entry, Kind, Output, Reason, Text, Verdict};
 use sqlite::{Alter, Connection, Row};
 use std::alloc::Global;
-
-pub(crate) fn large_in(row: &Row, at: usize) -> Result<u64, StoreFault>
-    ensures number { IfOk result (λ n. column row.now at ≡ Int (pos n)) }
-    ensures failed { IfErr result IsStoreFault }
-{
-    match row.get::<u64>(at) {
-        Ok(number) => Ok(number),
-        Err(error) => Err(fault(error)),
-    }
-}
-
-pub(crate) fn place_in(row: &Row, at: usize) -> Result<u32, StoreFault>
-    ensures number { IfOk result (λ n. column row.now at ≡ Int (pos n)) }
-    ensures failed { IfErr result IsStoreFault }
-{
-    match row.get::<u32>(at) {
-        Ok(number) => Ok(number),
-        Err(error) => Err(fault(error)),
-    }
-}
 
 pub(crate) fn text_in(row: &Row, at: usize) -> Result<Text, StoreFault>
     ensures text { (t : List ℕ) → IsText t → column row.now at ≡ Words (utf8 t) → IfOk result (λ x. x ≡ t) }
@@ -107,14 +87,14 @@ pub(crate) fn entry_in(row: &Row) -> Result<Entry, StoreFault>
     ensures entry { (e : Stored) → IsEntry e → row.now ≡ entry_columns e → IfOk result (λ x. x ≡ e) }
     ensures failed { IfErr result IsStoreFault }
 {
-    let position = place_in(row, 0)?;
+    let position = small_in(row, 0)?;
     let program = text_in(row, 1)?;
     let case_name = text_in(row, 2)?;
-    let code = large_in(row, 3)?;
+    let code = number_in(row, 3)?;
     let kind = kind_of(code)?;
     let reason = text_in(row, 4)?;
-    let started = large_in(row, 5)?;
-    let millis = large_in(row, 6)?;
+    let started = number_in(row, 5)?;
+    let millis = number_in(row, 6)?;
     let body = output_in(row, 7, 8)?;
     let cleanup = output_in(row, 9, 10)?;
     Ok(Entry {

@@ -1,31 +1,17 @@
-ghost use Rattle.std.specs.Prelude.{◌≡◌, ℕ, ◌<◌, pos, length, map, List, IfOk, IfErr};
+ghost use Rattle.std.specs.Prelude.{◌≡◌, map, List, IfOk, IfErr};
 ghost use Rattle.kt_base.specs.declared.run.Run.{Run as Stored};
-ghost use Rattle.sqlite_value.specs.Order.{column};
-ghost use Rattle.sqlite_value.specs.declared.value.Value.TheVariants.{Int};
 ghost use Rattle.sqlite.specs.State.{HasCleanDisk, Survives};
 ghost use Rattle.sqlite.specs.Held.{state};
 ghost use Rattle.kt_store.specs.Ask.{IsStoreFault};
 ghost use Rattle.kt_store.specs.Heads.{head_columns, head_of};
 ghost use Rattle.kt_store.specs.Stands.{StandsFor};
 
-use crate::read::number_in;
+use crate::read::{number_in, small_in};
 use crate::run_head::RunHead;
 use crate::statements::ask;
 use crate::store_fault::StoreFault;
 use sqlite::{Alter, Connection, Row};
 use std::alloc::Global;
-
-/// A small number of a row.
-pub(crate) fn small_in(row: &Row, at: usize) -> Result<u32, StoreFault>
-    ensures number { (n : ℕ) → at < length row.now → column row.now at ≡ Int (pos n) → IfOk result (λ k. k ≡ n) }
-    ensures failed { IfErr result IsStoreFault }
-{
-    let number = number_in(row, at)?;
-    if number > 4294967295 {
-        return Err(StoreFault::Store);
-    }
-    Ok(number as u32)
-}
 
 /// The head in a row.
 pub(crate) fn head_in(row: &Row) -> Result<RunHead, StoreFault>

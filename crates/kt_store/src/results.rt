@@ -1,4 +1,4 @@
-ghost use Rattle.std.specs.Prelude.{◌≡◌, false, ◌≢◌, ℤ, pos, Some, None, ◌⊎◌, ◌<◌, ◌≤◌, ◌++◌, suc, [], ◌∷◌, length, map, IfOk, OnOk, OnErr, IfErr};
+ghost use Rattle.std.specs.Prelude.{◌≡◌, false, ◌≢◌, ℤ, pos, Some, None, ◌⊎◌, ◌<◌, ◌≤◌, ◌++◌, suc, [], ◌∷◌, length, map, IfOk, OnOk, OnErr, IfErr, IsTrue};
 ghost use Rattle.sqlite.specs.State.{HasCleanDisk, Survives};
 ghost use Rattle.sqlite.specs.Held.{state};
 ghost use Rattle.kt_store.specs.Ask.{IsStoreFault, Rests};
@@ -6,7 +6,7 @@ ghost use Rattle.kt_store.specs.Runs.{new_run, run_at, with_entry, put_refusal, 
 ghost use Rattle.kt_store.specs.Heads.{head_of};
 ghost use Rattle.kt_store.specs.Stands.{IsEmpty, StandsFor, SaysSchema, Leaves};
 
-use crate::attach::settle;
+use crate::attach::{leaves_its_runs, settle};
 use crate::begin::{add_run, is_full};
 use crate::close::{self, mark};
 use crate::entries::all_entries;
@@ -54,6 +54,9 @@ impl<S: Alter> Results<S> {
         ensures taken { (runs : _) → StandsFor (state S.Store connection) runs → IfErr result (λ e. HasCleanDisk (state S.Store e.1) → IsStoreFault e.0) }
         ensures crash { (runs : _) → StandsFor (state S.Store connection) runs → IfOk result (λ r. Survives (state S.Store connection) (state S.Store r) (λ _. ⊥)) }
         ensures crash_err { (runs : _) → StandsFor (state S.Store connection) runs → IfErr result (λ e. Survives (state S.Store connection) (state S.Store e.1) (λ _. ⊥)) }
+        // A crash leaves them too, also where the connection was opened just now; where the call is refused, if it was open.
+        ensures lasting { (runs : _) → StandsFor (state S.Store connection) runs → IfOk result (λ r. Leaves (state S.Store r) (Keeps runs)) }
+        ensures lasting_err { (runs : _) → StandsFor (state S.Store connection) runs → IsTrue (state S.Store connection).is_open → IfErr result (λ e. Leaves (state S.Store e.1) (Keeps runs)) }
         // An empty one then has no run; a crash leaves what it left before, or the tables with no run.
         ensures made { IsEmpty (state S.Store connection) → IfOk result (λ r. StandsFor (state S.Store r) []) }
         ensures made_crash { IsEmpty (state S.Store connection) → IfOk result (λ r. Survives (state S.Store connection) (state S.Store r) (Keeps [])) }
@@ -68,6 +71,7 @@ impl<S: Alter> Results<S> {
         ensures refused { IfErr result (λ e. IsStoreFault e.0 ⊎ (e.0 ≡ StoreFault.UnknownSchema)) }
     {
         let mut conn = connection;
+        leaves_its_runs(&conn);
         match settle(&mut conn) {
             Ok(()) => Ok(Results { conn, alloc }),
             Err(error) => Err((error, conn)),

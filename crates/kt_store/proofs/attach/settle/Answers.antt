@@ -19,6 +19,11 @@ returns-clause-durable g c empty clean =
     let early : HasCleanDisk (state g.S.Store c.probe.new.conn) = omega (arith, clean, (c.known.ensures.crash [] none).clean) in
     absurd (c.is_blank.ensures.filled c.if-is_blank.false (empty_blank (state g.S.Store c.args.conn.now) (state g.S.Store c.probe.new.conn) (λ k. omega (arith, k, c.probe.ensures.survives.clean)) (λ k. c.in_ok-probe.ensures.same k) empty early))
 
+pub returns-clause-was_open : goal.returns-clause-was_open
+returns-clause-was_open g c runs has clean =
+    let mid : StandsFor (state g.S.Store c.probe.new.conn) runs = still_stands (state g.S.Store c.args.conn.now) (state g.S.Store c.probe.new.conn) (λ k. omega (arith, k, c.probe.ensures.survives.clean)) (λ k. c.in_ok-probe.ensures.same k) runs has in
+    (c.in_ok-probe.ensures.same (omega (arith, clean, (c.known.ensures.crash runs mid).clean))).0.was_open
+
 pub returns-clause-unknown : goal.returns-clause-unknown
 returns-clause-unknown g c n says other clean = c.in_ok-known.ensures.unknown n (still_says (state g.S.Store c.args.conn.now) (state g.S.Store c.probe.new.conn) (λ k. omega (arith, k, c.probe.ensures.survives.clean)) (λ k. c.in_ok-probe.ensures.same k) n says) other clean
 

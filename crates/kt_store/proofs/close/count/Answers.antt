@@ -12,7 +12,7 @@ pub returns-clause-found : goal.returns-clause-found
 returns-clause-found g c runs has clean =
     let are = asked_count g.S.Store c.args.conn.now c.ask.new.conn runs has (λ k. omega (arith, k, c.ask.ensures.survives.clean)) c.args.run c.in_ok-rows.rows.items clean (rw c.int.ensures at (c.in_ok-rows.ensures.rows clean)) in
     only_number (min (length (entries_of (run_at runs c.args.run))) 9223372036854775807) c.in_ok-rows.rows.items c.in-Some.row.now c.in_ok-number.number are
-    (ap (λ l. slice_get l 0) (sym c.deref.ensures.value) ∙ sym c.first.ensures.value ∙ ap option_copied c.in-Some.is) (λ z. c.in_ok-number.ensures.number z)
+    (ap (λ l. slice_get l 0) (sym c.deref.ensures.value) ∙ sym c.first.ensures.value ∙ ap option_copied c.in-Some.is) c.in_ok-number.ensures.number
 
 pub returns-in_default-clause-stands : goal.returns-in_default-clause-stands
 returns-in_default-clause-stands g c runs has =

@@ -1,7 +1,6 @@
-use Rattle.std.proofs.Common.{◌<◌, ◌∙◌, pos, [], ◌∷◌, length, slice_get, sym, ap, subst, arith}
+use Rattle.std.proofs.Common.{◌∙◌, pos, [], ◌∷◌, slice_get, sym, ap, arith}
 use Rattle.std.specs.Option.{option_copied}
-use Rattle.sqlite_value.specs.Order.{column}
-use Rattle.kt_store.specs.Runs.{run_at, flag}
+use Rattle.kt_store.specs.Runs.{run_at}
 use Rattle.kt_store.proofs.RunLemmas.{asked_run, none_there, some_there, both_read}
 use Rattle.kt_store.specs.Tables.{run_text}
 use Rattle.kt_store.proofs.SqlFacts.{run_is}
@@ -20,9 +19,7 @@ returns-clause-found g c runs has clean =
     let items = c.in_ok-rows.rows.items in
     let are = asked_run g.S.Store c.args.conn.now c.ask.new.conn runs has (λ k. omega (arith, k, c.ask.ensures.survives.clean)) c.args.run items clean (rw c.int.ensures at (c.in_ok-rows.ensures.rows clean)) in
     let it = some_there (run_at runs c.args.run) items c.in-Some.row.now are (ap (λ l. slice_get l 0) (sym c.deref.ensures.value) ∙ sym c.first.ensures.value ∙ ap option_copied c.in-Some.is) in
-    both_read (run_at runs c.args.run) it.0 c.in_ok-total.total c.in_ok-finished.finished it.1
-    (c.in_ok-total.ensures.number (pos it.0.total) (subst (λ r. 0 < length r) (sym it.2) (omega arith)) (ap (λ r. column r 0) it.2))
-    (c.in_ok-finished.ensures.number (flag it.0.finished) (subst (λ r. 1 < length r) (sym it.2) (omega arith)) (ap (λ r. column r 1) it.2))
+    both_read (run_at runs c.args.run) it.0 c.in-Some.row.now c.in_ok-total.total c.in_ok-finished.finished it.1 it.2 c.in_ok-total.ensures.number c.in_ok-finished.ensures.number
 
 pub returns-in_default-clause-kept : goal.returns-in_default-clause-kept
 returns-in_default-clause-kept g c runs has =

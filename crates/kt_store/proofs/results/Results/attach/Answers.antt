@@ -1,0 +1,16 @@
+use Rattle.sqlite.specs.Held.{state}
+use Rattle.kt_store.specs.Runs.{Keeps}
+use Rattle.kt_store.proofs.StepLemmas.{outlives}
+use Rattle.std.proofs.Common.{arith}
+use Rattle.kt_store.proofs.results.Results.attach.Goals as goal
+
+pub returns-in-Ok-clause-lasting : goal.returns-in-Ok-clause-lasting
+returns-in-Ok-clause-lasting g c runs has clean =
+    let it = c.settle.ensures.crash runs has in
+    outlives (state g.S.Store c.args.connection) (state g.S.Store c.settle.new.conn) (Keeps runs) it
+    (c.leaves_its_runs.ensures runs has (c.in-Ok.ensures.was_open runs has clean)) clean
+
+pub returns-in-Err-clause-lasting_err : goal.returns-in-Err-clause-lasting_err
+returns-in-Err-clause-lasting_err g c runs has opened =
+    outlives (state g.S.Store c.args.connection) (state g.S.Store c.settle.new.conn) (Keeps runs) (c.settle.ensures.crash runs has)
+    (c.leaves_its_runs.ensures runs has opened)
