@@ -6,6 +6,7 @@ use Rattle.std.specs.Str.{chars, is_utf8}
 abbrev pub front : List ℕ → ℕ → Option (List ℕ)
 front bytes n = if nat_le n (length bytes) && is_utf8 (take n bytes) then Some (take n bytes) else None
 
+-- the first of two, if it is there, else the second
 abbrev pub or_else : Option (List ℕ) → Option (List ℕ) → Option (List ℕ)
 or_else None o = o
 or_else (Some bytes) o = Some bytes

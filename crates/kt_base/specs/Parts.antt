@@ -4,6 +4,7 @@ use Rattle.std.specs.Str.{chars}
 use Rattle.std.specs.Fmt.{decimal}
 use Rattle.kt_base.specs.declared.parts.Parts.{Parts}
 
+-- a number in decimal, if there is one
 abbrev pub number_text : Option ℕ → List ℕ
 number_text None = []
 number_text (Some n) = decimal n

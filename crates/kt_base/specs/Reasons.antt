@@ -9,6 +9,7 @@ use Rattle.kt_base.specs.declared.reason.Reason.{Reason}
 use Rattle.kt_base.specs.declared.reason.Reason.TheVariants.{Nothing, Fixed, Ended, Counted, Owned}
 use Rattle.kt_base.specs.Phrases.{phrase_text}
 
+-- what follows a signal that left a core file
 abbrev pub core_text : Bool → List ℕ
 core_text false = []
 core_text true = codes " (core dumped)"

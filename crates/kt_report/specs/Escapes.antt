@@ -11,5 +11,6 @@ escaped attribute c =
     if c == 38 then codes "&amp;" else if c == 60 then codes "&lt;" else if c == 62 then codes "&gt;" else if c == 34 then codes "&quot;" else if c == 13 then codes "&#13;"
     else if c == 9 then (if attribute then codes "&#9;" else c ∷ []) else if c == 10 then (if attribute then codes "&#10;" else c ∷ []) else other c
 
+-- each character of a text in turn, in content or in an attribute
 abbrev pub escapes : Bool → List ℕ → List ℕ
 escapes attribute text = flat_map (escaped attribute) text

@@ -34,6 +34,7 @@ element texts kind millis =
 abbrev pub case_bytes : Entry → List ℕ
 case_bytes e = element (case_texts e) e.verdict.kind e.millis
 
+-- what stands before the cases
 abbrev pub heading : Run → List ℕ
 heading run =
     codes "<?xml version=\"1.0\" encoding=\"utf-8\"?>\n<testsuite tests=\"" ++ decimal (length run.entries) ++ codes "\" failures=\"" ++ count_bytes Failed run.entries ++ codes "\" errors=\"" ++ count_bytes Broken run.entries

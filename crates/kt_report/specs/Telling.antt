@@ -7,5 +7,6 @@ abbrev pub TellsFrom : Bool → Option (List ℕ) → Option (List ℕ) → Bool
 TellsFrom false old new failed bytes = Shows old new failed bytes
 TellsFrom true old new failed bytes = (new ≡ old) × (failed ≡ true)
 
+-- bytes are told to a writer that had failed or not before; where it failed it holds a prefix
 pub record Tells (old : Option (List ℕ)) (before : Bool) (new : Option (List ℕ)) (failed : Bool) (bytes : List ℕ) : Type 0 where
   pub told : TellsFrom before old new failed bytes

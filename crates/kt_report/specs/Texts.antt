@@ -11,6 +11,7 @@ use Rattle.kt_base.specs.declared.run.Run.{Run}
 use Rattle.kt_report.specs.Digits.{two_digits, three_digits, four_digits, seconds}
 use Rattle.kt_report.specs.Lines.{line_bytes}
 
+-- whether two kinds are one
 abbrev pub same_kind : Kind → Kind → Bool
 same_kind Passed Passed = true
 same_kind Skipped Skipped = true
@@ -27,6 +28,7 @@ is_of kind e = same_kind kind e.verdict.kind
 abbrev pub entries_of : Kind → List Entry → List Entry
 entries_of kind entries = filter (is_of kind) entries
 
+-- the title of a kind's section
 abbrev pub title : Kind → List ℕ
 title Passed = codes "Passed tests"
 title Skipped = codes "Skipped tests"
@@ -43,6 +45,7 @@ titled title (e ∷ entries) = codes "===> " ++ title ++ codes "\n" ++ flat_map 
 abbrev pub section : List Kind → List Entry → Kind → List ℕ
 section kinds entries kind = if list_any (same_kind kind) kinds then titled (title kind) (entries_of kind entries) else []
 
+-- the sections of the chosen kinds, in their order
 abbrev pub sections : List Kind → List Entry → List ℕ
 sections kinds entries = section kinds entries Passed ++ section kinds entries Skipped ++ section kinds entries ExpectedFailure ++ section kinds entries Broken ++ section kinds entries Failed
 
@@ -63,16 +66,20 @@ abbrev pub moment_bytes : Date → ℕ → List ℕ
 moment_bytes date moment =
     four_digits (unsigned_abs date.year) ++ codes "-" ++ two_digits date.month ++ codes "-" ++ two_digits date.day ++ codes "T" ++ clock_bytes (told_moment moment % 86400000) ++ codes "Z"
 
+-- what tells that a run is not finished
 abbrev pub unfinished_bytes : Bool → List ℕ
 unfinished_bytes true = []
 unfinished_bytes false = codes ", unfinished"
 
+-- how many entries have a kind
 abbrev pub count_bytes : Kind → List Entry → List ℕ
 count_bytes kind entries = decimal (length (entries_of kind entries))
 
+-- the number of a run and when it was started
 abbrev pub started_bytes : Date → Run → List ℕ
 started_bytes date run = codes "===> Summary\nRun " ++ decimal run.number ++ codes ", started " ++ moment_bytes date run.started ++ unfinished_bytes run.finished
 
+-- how many entries there are, and how many of each kind but passed
 abbrev pub counts_bytes : List Entry → List ℕ
 counts_bytes entries =
     codes "\nTest cases: " ++ decimal (length entries) ++ codes " total, " ++ count_bytes Skipped entries ++ codes " skipped, " ++ count_bytes ExpectedFailure entries ++ codes " expected failures, "

@@ -8,12 +8,15 @@ use Rattle.kt_base.specs.declared.entry.Entry.{Entry}
 use Rattle.kt_base.specs.Utf8.{utf8}
 use Rattle.kt_store.specs.Runs.{flag, kind_code}
 
+-- the columns of a run, as the query for all runs shows them
 abbrev pub head_columns : Run → Row
 head_columns r = Int (pos r.number) ∷ Int (pos r.started) ∷ Int (pos r.total) ∷ Int (flag r.finished) ∷ []
 
+-- a run without its entries
 abbrev pub head_of : Run → RunHead
 head_of r = record { number = r.number; started = r.started; total = r.total; finished = r.finished }
 
+-- the columns of an entry, as the query for a run's entries shows them
 abbrev pub entry_columns : Entry → Row
 entry_columns e =
     Int (pos e.position) ∷ Text (utf8 e.program) ∷ Text (utf8 e.case_name) ∷ Int (pos (kind_code e.verdict.kind)) ∷ Text (utf8 e.verdict.reason) ∷ Int (pos e.started) ∷ Int (pos e.millis)

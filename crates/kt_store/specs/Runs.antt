@@ -16,6 +16,7 @@ use Rattle.kt_store.specs.Tables.{schema_1}
 use Rattle.kt_base.specs.Utf8.{utf8}
 use Rattle.std.specs.Str.{chars}
 
+-- the number by which a kind is stored
 abbrev pub kind_code : Kind → ℕ
 kind_code Passed = 0
 kind_code Skipped = 1
@@ -23,6 +24,7 @@ kind_code ExpectedFailure = 2
 kind_code Failed = 3
 kind_code Broken = 4
 
+-- whether a run is finished, as it is stored
 abbrev pub flag : Bool → ℤ
 flag finished = if finished then pos 1 else pos 0
 
@@ -36,6 +38,7 @@ entry_row run e =
     Int (pos run) ∷ Int (pos e.position) ∷ Text (utf8 e.program) ∷ Text (utf8 e.case_name) ∷ Int (pos (kind_code e.verdict.kind)) ∷ Text (utf8 e.verdict.reason) ∷ Int (pos e.started) ∷ Int (pos e.millis)
     ∷ Blob e.body.out ∷ Blob e.body.err ∷ Blob e.cleanup.out ∷ Blob e.cleanup.err ∷ []
 
+-- the rows of all entries of these runs
 abbrev pub entry_rows : List Run → List Row
 entry_rows runs = flat_map (λ r. map (entry_row r.number) r.entries) runs
 
@@ -63,6 +66,7 @@ pub record IsRun (r : Run) : Type 0 where
   pub sound : AllByRecursion IsEntry r.entries
   pub whole : r.finished ≡ true → length r.entries ≡ r.total
 
+-- numbered from 1 by place, each of them sound, and no more than there may be
 pub record AreRuns (runs : List Run) : Type 0 where
   pub numbered : AreNumbered 1 runs
   pub each : AllByRecursion IsRun runs
@@ -85,6 +89,7 @@ abbrev pub KeepsOne : List (List Run) → Trees → Type 0
 KeepsOne [] trees = ⊥
 KeepsOne (runs ∷ others) trees = Keeps runs trees ⊎ KeepsOne others trees
 
+-- the run that begins behind these: unfinished, without entries
 abbrev pub new_run : List Run → ℕ → ℕ → Run
 new_run runs total started = record { number = suc (length runs); started = started; total = total; finished = false; entries = [] }
 
@@ -108,6 +113,7 @@ abbrev pub finish : ℕ → List Run → List Run
 finish run [] = []
 finish run (r ∷ runs) = if r.number == run then record r { finished = true } ∷ runs else r ∷ finish run runs
 
+-- the entries of a run, if there is one
 abbrev pub entries_of : Option Run → List Entry
 entries_of None = []
 entries_of (Some r) = r.entries
@@ -121,6 +127,7 @@ abbrev pub put_refusal_of : Option Run → Entry → Option StoreFault
 put_refusal_of None e = Some NoRun
 put_refusal_of (Some r) e = if r.finished then Some RunClosed else if nat_le r.total e.position then Some BadPosition else if has_position e.position r.entries then Some RepeatedPosition else None
 
+-- why these runs take no such entry
 abbrev pub put_refusal : List Run → ℕ → Entry → Option StoreFault
 put_refusal runs run e = put_refusal_of (run_at runs run) e
 
@@ -129,5 +136,6 @@ abbrev pub finish_refusal_of : Option Run → Option StoreFault
 finish_refusal_of None = Some NoRun
 finish_refusal_of (Some r) = if r.finished then Some RunClosed else if nat_lt (length r.entries) r.total then Some Incomplete else None
 
+-- why the run with this number does not close
 abbrev pub finish_refusal : List Run → ℕ → Option StoreFault
 finish_refusal runs run = finish_refusal_of (run_at runs run)

@@ -7,28 +7,30 @@ use Rattle.kt_base.specs.declared.run.Run.{Run}
 use Rattle.kt_store.specs.Tables.{no_schema, schema_1}
 use Rattle.kt_store.specs.Runs.{Tables}
 
+-- no transaction is open, the last commit is what is seen, and the tables hold these runs
 pub record IsStore (s : State) (runs : List Run) : Type 0 where
   pub autocommit : s.in_transaction ≡ false
   pub settled : s.committed ≡ s.now
   pub tables : Tables s.now runs
 
--- While the disk returns what was written and the connection is open, the tables stand for these runs.
+-- while the disk returns what was written and the connection is open, the tables stand for these runs
 abbrev pub StandsFor : State → List Run → Type 0
 StandsFor s runs = HasCleanDisk s → IsTrue s.is_open → IsStore s runs
 
--- A crash at this moment leaves trees with P.
+-- a crash at this moment leaves trees with P
 abbrev pub Leaves : State → (Trees → Type 0) → Type 0
 Leaves s P = HasCleanDisk s → (trees : Trees) → s.may_leave trees → P trees
 
+-- no transaction is open, the last commit is what is seen, and there is no table
 pub record IsBlank (s : State) : Type 0 where
   pub autocommit : s.in_transaction ≡ false
   pub settled : s.committed ≡ s.now
   pub blank : s.now.schema ≡ no_schema
 
--- The same for a database with no table yet.
+-- the same for a database with no table yet
 abbrev pub IsEmpty : State → Type 0
 IsEmpty s = HasCleanDisk s → IsTrue s.is_open → IsBlank s
 
--- The tables are those of schema 1, but they say another number.
+-- the tables are those of schema 1, but they say another number
 abbrev pub SaysSchema : ℤ → State → Type 0
 SaysSchema n s = HasCleanDisk s → IsTrue s.is_open → (s.now.schema ≡ schema_1) × (map (drop 1) (s.now.trees 0) ≡ (Text (codes "schema") ∷ Int n ∷ []) ∷ [])

@@ -16,24 +16,31 @@ use Rattle.sqlite.specs.Term.{Term, lit, col, op2}
 use Rattle.sqlite_sql.specs.declared.ops.BinaryOp.TheVariants.{Compare, And, Or}
 use Rattle.sqlite_sql.specs.declared.ops.CompareOp.TheVariants.{Eq, Ge, Le}
 
+-- of a database without tables
 abbrev pub no_schema : Schema
 no_schema = record { tables = []; indexes = []; views = [] }
 
+-- the text that makes the table of the schema's number
 abbrev pub create_meta : List ℕ
 create_meta = codes "CREATE TABLE meta (name TEXT PRIMARY KEY, value INTEGER NOT NULL) STRICT"
 
+-- the text that makes the table of runs
 abbrev pub create_runs : List ℕ
 create_runs = codes "CREATE TABLE runs (id INTEGER PRIMARY KEY, started INTEGER NOT NULL, total INTEGER NOT NULL, finished INTEGER NOT NULL CHECK (finished IN (0, 1))) STRICT"
 
+-- the text that makes the table of entries
 abbrev pub create_entries : List ℕ
 create_entries = codes "CREATE TABLE entries (run INTEGER NOT NULL REFERENCES runs (id), position INTEGER NOT NULL, program TEXT NOT NULL, case_name TEXT NOT NULL, kind INTEGER NOT NULL CHECK (kind BETWEEN 0 AND 4), reason TEXT NOT NULL, started INTEGER NOT NULL, millis INTEGER NOT NULL, body_out BLOB NOT NULL, body_err BLOB NOT NULL, clean_out BLOB NOT NULL, clean_err BLOB NOT NULL, PRIMARY KEY (run, position)) STRICT"
 
+-- a column of this name and kind, which takes NULL or not
 abbrev pub column : List ℕ → Kind → Bool → Column
 column name kind not_null = record { name = name; kind = kind; is_strict = true; not_null = not_null; default = Null; collation = Binary }
 
+-- no generated columns and no defaults
 abbrev pub no_stamps : Stamps
 no_stamps = record { places = []; terms = []; formats = [] }
 
+-- the table of the schema's number
 abbrev pub meta : Table
 meta = record {
   name = codes "meta";
@@ -50,9 +57,11 @@ meta = record {
   is_counted = false;
 }
 
+-- the check that a run is finished or not
 abbrev pub finished_check : Term
 finished_check = op2 Or (op2 (Compare Eq Binary) (col 1 4) (lit (Int (pos 0)))) (op2 (Compare Eq Binary) (col 1 4) (lit (Int (pos 1))))
 
+-- the table of runs
 abbrev pub runs : Table
 runs = record {
   name = codes "runs";
@@ -69,9 +78,11 @@ runs = record {
   is_counted = false;
 }
 
+-- the check that a kind is one of five
 abbrev pub kind_check : Term
 kind_check = op2 And (op2 (Compare Ge Binary) (col 1 5) (lit (Int (pos 0)))) (op2 (Compare Le Binary) (col 1 5) (lit (Int (pos 4))))
 
+-- the table of entries
 abbrev pub entries : Table
 entries = record {
   name = codes "entries";
@@ -90,50 +101,66 @@ entries = record {
   is_counted = false;
 }
 
+-- the index of a table's key
 abbrev pub index_of : Table → ℕ → Index
 index_of table tree = automatic table 0 (slice_index_or table.uniques 0 []) tree
 
+-- the table of the schema's number in its place
 abbrev pub meta_1 : Table
 meta_1 = record meta { tree = 0 }
 
+-- the table of runs in its place
 abbrev pub runs_1 : Table
 runs_1 = record runs { tree = 2 }
 
+-- the table of entries in its place
 abbrev pub entries_1 : Table
 entries_1 = record entries { tree = 3 }
 
+-- the three tables
 abbrev pub schema_1 : Schema
 schema_1 = record { tables = meta_1 ∷ runs_1 ∷ entries_1 ∷ []; indexes = index_of meta_1 1 ∷ index_of entries_1 4 ∷ []; views = [] }
 
+-- whether there are as many runs as there may be
 abbrev pub full_text : List ℕ
 full_text = codes "SELECT id FROM runs WHERE id = 1000000"
 
+-- a new run
 abbrev pub begin_text : List ℕ
 begin_text = codes "INSERT INTO runs (started, total, finished) VALUES (?1, ?2, 0)"
 
+-- the total of a run, and whether it is finished
 abbrev pub run_text : List ℕ
 run_text = codes "SELECT total, finished FROM runs WHERE id = ?1"
 
+-- how many entries a run has
 abbrev pub count_text : List ℕ
 count_text = codes "SELECT count(*) FROM entries WHERE run = ?1"
 
+-- a run is finished
 abbrev pub finish_text : List ℕ
 finish_text = codes "UPDATE runs SET finished = 1 WHERE id = ?1"
 
+-- all runs by number
 abbrev pub runs_text : List ℕ
 runs_text = codes "SELECT id, started, total, finished FROM runs ORDER BY id"
 
+-- whether a run has an entry at a position
 abbrev pub there_text : List ℕ
 there_text = codes "SELECT position FROM entries WHERE run = ?1 AND position = ?2"
 
+-- a new entry
 abbrev pub put_text : List ℕ
 put_text = codes "INSERT INTO entries (run, position, program, case_name, kind, reason, started, millis, body_out, body_err, clean_out, clean_err) VALUES (?1, ?2, ?3, ?4, ?5, ?6, ?7, ?8, ?9, ?10, ?11, ?12)"
 
+-- the entries of a run by position
 abbrev pub entries_text : List ℕ
 entries_text = codes "SELECT position, program, case_name, kind, reason, started, millis, body_out, body_err, clean_out, clean_err FROM entries WHERE run = ?1 ORDER BY position"
 
+-- the schema's number
 abbrev pub meta_text : List ℕ
 meta_text = codes "SELECT value FROM meta WHERE name = 'schema'"
 
+-- the schema's number is set
 abbrev pub mark_text : List ℕ
 mark_text = codes "INSERT INTO meta (name, value) VALUES ('schema', 1)"
