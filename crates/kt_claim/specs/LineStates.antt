@@ -20,18 +20,23 @@ pub record Facts : Type 0 where
   pub fails : Bool
   pub plans : Option (ℕ × List ℕ)
 
+-- what counts of a whole line
 abbrev pub facts_of : List ℕ → Facts
 facts_of line = record { bails = is_bail line; tests = is_test line; fails = is_unexcused line; plans = plan line }
 
+-- of a line that is neither a test nor a plan
 abbrev pub nothing : Facts
 nothing = record { bails = false; tests = false; fails = false; plans = None }
 
+-- of a line that bails out
 abbrev pub bailing : Facts
 bailing = record { bails = true; tests = false; fails = false; plans = None }
 
+-- of a line that may be a test, which failed or not
 abbrev pub testing : Bool → Bool → Facts
 testing tests fails = record { bails = false; tests = tests; fails = fails; plans = None }
 
+-- of a line that may be a plan
 abbrev pub planning : Option (ℕ × List ℕ) → Facts
 planning plans = record { bails = false; tests = false; fails = false; plans = plans }
 
@@ -69,6 +74,7 @@ lacking S = codes "kip"
 lacking Sk = codes "ip"
 lacking Ski = codes "p"
 
+-- whether the letters begin a directive that skips
 abbrev pub is_skip : Letters → Bool
 is_skip S = true
 is_skip Sk = true
@@ -100,14 +106,17 @@ is_kept begun.Reason b = true
 is_kept begun.Gap b = not (is_blank b)
 is_kept _ b = false
 
+-- whether the reason of a plan of no tests is being read
 abbrev pub is_reason : Begun → Bool
 is_reason begun.Reason = true
 is_reason _ = false
 
+-- whether no byte that follows counts
 abbrev pub is_decided : Begun → Bool
 is_decided (begun.Decided k) = true
 is_decided _ = false
 
+-- what is kept, if anything may be
 abbrev pub KeepsIf : Bool → List ℕ → Type 0
 KeepsIf true kept = Unit {0}
 KeepsIf false kept = kept ≡ []

@@ -8,6 +8,7 @@ use Rattle.kt_claim.specs.declared.claim.Claim.TheVariants.{Malformed, Passed, F
 use Rattle.kt_claim.specs.declared.claim_fault.ClaimFault.{ClaimFault}
 use Rattle.kt_claim.specs.declared.claim_fault.ClaimFault.TheVariants.{TooLong, Empty, NoNewline, SeveralLines, UnknownWord, BadNumber, UnexpectedReason, NoReason}
 
+-- the most bytes of a result file
 abbrev pub limit : ℕ
 limit = 65536
 
@@ -52,24 +53,30 @@ line file = take (length file - 1) file
 abbrev pub word : List ℕ → List ℕ
 word file = take (prefix_len is_word_byte (line file)) (line file)
 
+-- what follows that word on the line
 abbrev pub after_word : List ℕ → List ℕ
 after_word file = drop (prefix_len is_word_byte (line file)) (line file)
 
+-- whether a word is the one expected
 abbrev pub is : List ℕ → List ℕ → Bool
 is expected found = bytes_eq found expected
 
+-- whether a word may have a number
 abbrev pub takes_number : List ℕ → Bool
 takes_number w = is (codes "expected_exit") w || is (codes "expected_signal") w
 
+-- whether a word begins a claim
 abbrev pub is_known : List ℕ → Bool
 is_known w =
     is (codes "passed") w || is (codes "failed") w || is (codes "skipped") w || is (codes "expected_death") w
     || is (codes "expected_failure") w || is (codes "expected_timeout") w || takes_number w
 
+-- whether a number in round brackets begins
 abbrev pub has_bracket : List ℕ → Bool
 has_bracket [] = false
 has_bracket (b ∷ rest) = b == 40
 
+-- whether a closing bracket is next
 abbrev pub closes : List ℕ → Bool
 closes [] = false
 closes (b ∷ rest) = b == 41
@@ -78,6 +85,7 @@ closes (b ∷ rest) = b == 41
 abbrev pub digits : List ℕ → List ℕ
 digits rest = take (prefix_len is_digit (drop 1 rest)) (drop 1 rest)
 
+-- what follows those digits
 abbrev pub after_digits : List ℕ → List ℕ
 after_digits rest = drop (prefix_len is_digit (drop 1 rest)) (drop 1 rest)
 
@@ -85,9 +93,11 @@ after_digits rest = drop (prefix_len is_digit (drop 1 rest)) (drop 1 rest)
 abbrev pub has_number : List ℕ → Bool
 has_number rest = nat_lt 0 (length (digits rest)) && nat_lt (number (digits rest)) 256 && closes (after_digits rest)
 
+-- what follows the word and its number
 abbrev pub after_number : List ℕ → List ℕ
 after_number rest = if has_bracket rest then drop 1 (after_digits rest) else rest
 
+-- a colon, a space and a reason
 abbrev pub has_reason : List ℕ → Bool
 has_reason rest = starts_with nat_eq rest (codes ": ") && nat_lt 2 (length rest)
 
@@ -107,6 +117,7 @@ fits file NoNewline = not (ends_with nat_eq file newline)
 fits file SeveralLines = list_any is_newline (line file)
 fits file fault = fits_line (word file) (after_word file) fault
 
+-- the faults, in the order in which they are told
 abbrev pub rows : List ClaimFault
 rows = TooLong ∷ Empty ∷ NoNewline ∷ SeveralLines ∷ UnknownWord ∷ BadNumber ∷ UnexpectedReason ∷ NoReason ∷ []
 

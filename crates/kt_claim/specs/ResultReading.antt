@@ -10,6 +10,7 @@ use Rattle.kt_claim.specs.declared.claim_fault.ClaimFault.TheVariants.{TooLong, 
 use Rattle.kt_claim.specs.declared.word.Word.{Word}
 use Rattle.kt_claim.specs.declared.word.Word.TheVariants.{Passed, Failed, Skipped, ExpectedDeath, ExpectedFailure, ExpectedTimeout, ExpectedExit, ExpectedSignal}
 
+-- the word that a line begins with, if it is one of the eight
 unfoldable pub word_of : List ℕ → Option Word
 word_of w =
     if bytes_eq w (codes "passed") then Some Passed
@@ -43,6 +44,7 @@ numbered _ n r = claim.Malformed BadNumber
 abbrev pub reason_in : List ℕ → Option (List ℕ)
 reason_in rest = if starts_with nat_eq rest (codes ": ") && nat_lt 2 (length rest) then Some (drop 2 rest) else None
 
+-- the claim with the reason that is given; none without one
 abbrev pub with_reason_in : (List ℕ → Claim) → Option (List ℕ) → Claim
 with_reason_in make None = claim.Malformed NoReason
 with_reason_in make (Some reason) = make (lossy reason)
@@ -53,25 +55,31 @@ closed None rest = None
 closed (Some n) [] = None
 closed (Some n) (b ∷ rest) = if b == 41 then Some (n, rest) else None
 
+-- a number, if it is one of an exit status or of a signal
 abbrev pub below_256 : ℕ → Option ℕ
 below_256 n = if nat_lt n 256 then Some n else None
 
+-- the value of digits, if there are some and it is below 256
 abbrev pub value_of : List ℕ → Option ℕ
 value_of [] = None
 value_of (d ∷ digits) = below_256 (number (d ∷ digits))
 
+-- the number behind an opening bracket, and what follows its closing one
 unfoldable pub number_in : List ℕ → Option (ℕ × List ℕ)
 number_in rest = closed (value_of (take (prefix_len is_digit rest) rest)) (drop (prefix_len is_digit rest) rest)
 
+-- the claim of a word with the number that is given
 abbrev pub with_number_in : Word → Option (ℕ × List ℕ) → Claim
 with_number_in w None = claim.Malformed BadNumber
 with_number_in w (Some found) = with_reason_in (numbered w found.0) (reason_in found.1)
 
+-- whether a word may have a number
 abbrev pub may_have_number : Word → Bool
 may_have_number ExpectedExit = true
 may_have_number ExpectedSignal = true
 may_have_number _ = false
 
+-- what follows the word, where a bracket does
 abbrev pub after_bracket : Word → List ℕ → Claim
 after_bracket w rest = if may_have_number w then with_number_in w (number_in rest) else claim.Malformed BadNumber
 
@@ -81,17 +89,21 @@ plainly Passed [] = claim.Passed
 plainly Passed (_ ∷ _) = claim.Malformed UnexpectedReason
 plainly w rest = with_reason_in (claim_with w) (reason_in rest)
 
+-- what follows the word
 abbrev pub after_word : Word → List ℕ → Claim
 after_word w [] = plainly w []
 after_word w (b ∷ rest) = if b == 40 then after_bracket w rest else plainly w (b ∷ rest)
 
+-- the claim of a line with this word
 abbrev pub after_known : Option Word → List ℕ → Claim
 after_known None rest = claim.Malformed UnknownWord
 after_known (Some w) rest = after_word w rest
 
+-- the claim of a line
 unfoldable pub claim_of_line : List ℕ → Claim
 claim_of_line text = after_known (word_of (take (prefix_len is_word_byte text) text)) (drop (prefix_len is_word_byte text) text)
 
+-- the claim of a file
 unfoldable pub claim_of : List ℕ → Claim
 claim_of file =
     if nat_lt limit (length file) then claim.Malformed TooLong

@@ -7,14 +7,17 @@ use Rattle.kt_claim.specs.TapStream.{is_bail, is_test, is_unexcused, plan, count
 use Rattle.kt_claim.specs.declared.open_line.OpenLine.{OpenLine}
 use Rattle.kt_claim.specs.declared.tally.Tally.{Tally}
 
+-- 1 for what is so
 abbrev pub one : Bool → ℕ
 one true = 1
 one false = 0
 
+-- the first, if there is one
 abbrev pub first : {T : Type 0} → List T → Option T
 first [] = None
 first (x ∷ xs) = Some x
 
+-- whether there are two or more
 abbrev pub has_second : {T : Type 0} → List T → Bool
 has_second (x ∷ y ∷ xs) = true
 has_second _ = false
@@ -27,6 +30,7 @@ pub record IsTally (tally : Tally) (lines : List (List ℕ)) : Type 0 where
   pub tests : tally.tests ≡ count is_test (heard lines)
   pub failures : tally.failures ≡ count is_unexcused (heard lines)
 
+-- what is kept of a line, as a reader keeps it
 abbrev pub state_of : OpenLine → LineState
 state_of line = record { begun = line.begun; kept = line.kept.items; held = line.held }
 

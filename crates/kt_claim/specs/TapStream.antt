@@ -30,6 +30,7 @@ without_return [] = []
 without_return (b ∷ []) = if b == 13 then [] else b ∷ []
 without_return (b ∷ c ∷ rest) = b ∷ without_return (c ∷ rest)
 
+-- the lines of a text, without their carriage returns
 abbrev pub lines_of : List ℕ → List (List ℕ)
 lines_of text = map without_return (lines text)
 
@@ -57,6 +58,7 @@ abbrev pub front : (ℕ → Bool) → List ℕ → List ℕ
 front test [] = []
 front test (b ∷ text) = if test b then b ∷ front test text else []
 
+-- neither a space nor a tab
 abbrev pub not_blank : ℕ → Bool
 not_blank b = not (is_blank b)
 
@@ -67,6 +69,7 @@ trimmed (b ∷ rest) = if is_blank b && length (trimmed rest) == 0 then [] else 
 
 -- ---- what a line is
 
+-- a line that bails out
 abbrev pub is_bail : List ℕ → Bool
 is_bail line = begins (codes "Bail out!") line
 
@@ -79,9 +82,11 @@ is_gap (b ∷ rest) = is_blank b
 abbrev pub begins_with_word : List ℕ → List ℕ → Bool
 begins_with_word word line = begins word line && is_gap (drop (length word) line)
 
+-- a test that failed
 abbrev pub is_not_ok : List ℕ → Bool
 is_not_ok line = begins_with_word (codes "not ok") line
 
+-- a test
 abbrev pub is_test : List ℕ → Bool
 is_test line = begins_with_word (codes "ok") line || is_not_ok line
 
@@ -102,6 +107,7 @@ directive_at text =
     else if says (codes "skip") text then Some (true, reason_of (drop 4 text))
     else None
 
+-- the first of two, if it is there, else the second
 abbrev pub or_else : {T : Type 0} → Option T → Option T → Option T
 or_else None other = other
 or_else (Some x) other = Some x
@@ -130,6 +136,7 @@ abbrev pub ends_plan : List ℕ → Bool
 ends_plan [] = true
 ends_plan (b ∷ rest) = b == 35
 
+-- a number of tests, if so many may be planned
 abbrev pub below_limit : ℕ → Option ℕ
 below_limit n = if nat_lt n 1000000000 then Some n else None
 
@@ -161,6 +168,7 @@ skip_reason (b ∷ reason) = lossy (b ∷ reason)
 abbrev pub why : ℕ → List ℕ → List ℕ
 why n reason = if n == 0 then skip_reason reason else []
 
+-- a plan of so many tests, with the reason that is kept of it
 abbrev pub plan_for : List ℕ → ℕ → ℕ × List ℕ
 plan_for reason n = (n, why n reason)
 
@@ -175,6 +183,7 @@ abbrev pub heard : List (List ℕ) → List (List ℕ)
 heard [] = []
 heard (line ∷ lines) = if is_bail line then [] else line ∷ heard lines
 
+-- how many lines pass a test
 abbrev pub count : (List ℕ → Bool) → List (List ℕ) → ℕ
 count test lines = length (filter test lines)
 
@@ -197,5 +206,6 @@ tap_of_lines lines =
     if list_any is_bail lines then BailedOut
     else by_plans (filter_map plan (heard lines)) (count is_test (heard lines)) (count is_unexcused (heard lines))
 
+-- what a stream says
 abbrev pub tap_of : List ℕ → Tap
 tap_of text = if nat_lt limit (length text) then Invalid TooLong else tap_of_lines (lines_of text)

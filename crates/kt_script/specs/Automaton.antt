@@ -18,12 +18,14 @@ use Rattle.kt_script.specs.declared.state.State.TheVariants.{Named, Opened, Clos
 use Rattle.kt_script.specs.declared.state.Step.{Step}
 use Rattle.kt_script.specs.declared.state.Step.TheVariants.{To, Ends}
 
+-- the literal that a token is, if it is one
 abbrev pub value_of : Kind → Option Literal
 value_of (Quoted t) = Some (literal.Text t)
 value_of (Number n) = Some (literal.Number n)
 value_of (Truth b) = Some (literal.Truth b)
 value_of _ = None
 
+-- behind a statement's name
 abbrev pub after_name : List ℕ → Kind → Option Step
 after_name n (Quoted t) = Some (Ends (Call n (arg.Value (literal.Text t))))
 after_name n OpenParen = Some (To (Opened n))
@@ -33,6 +35,7 @@ after_name n OpenBracket = Some (To (PathOpened (n ∷ [])))
 after_name n Equals = Some (To (PathEquals (n ∷ [])))
 after_name n _ = None
 
+-- behind the parenthesis that opens a call
 abbrev pub after_paren : List ℕ → Kind → Option Step
 after_paren n OpenBrace = Some (To (Pairs (record { name = n; in_parens = true; pairs = [] })))
 after_paren n (Quoted t) = Some (To (Closing (Call n (arg.Value (literal.Text t)))))
@@ -40,6 +43,7 @@ after_paren n (Number m) = Some (To (Closing (Call n (arg.Value (literal.Number 
 after_paren n (Truth b) = Some (To (Closing (Call n (arg.Value (literal.Truth b)))))
 after_paren n _ = None
 
+-- behind the argument of a call in parentheses
 abbrev pub after_arg : Action → Kind → Option Step
 after_arg a CloseParen = Some (Ends a)
 after_arg a _ = None
@@ -48,20 +52,24 @@ after_arg a _ = None
 abbrev pub closed : Table → Step
 closed t = if t.in_parens then To (Closing (Call t.name (arg.Table t.pairs))) else Ends (Call t.name (arg.Table t.pairs))
 
+-- behind a table's brace, a comma or a semicolon
 abbrev pub after_comma : Table → Kind → Option Step
 after_comma t (Name n) = Some (To (Keyed t n))
 after_comma t OpenBracket = Some (To (KeyOpened t))
 after_comma t CloseBrace = Some (closed t)
 after_comma t _ = None
 
+-- behind the bracket that opens a key
 abbrev pub after_key_opened : Table → Kind → Option Step
 after_key_opened t (Quoted key) = Some (To (KeyQuoted t key))
 after_key_opened t _ = None
 
+-- behind the string of a key in brackets
 abbrev pub after_key_quoted : Table → List ℕ → Kind → Option Step
 after_key_quoted t key CloseBracket = Some (To (Keyed t key))
 after_key_quoted t key _ = None
 
+-- behind a key
 abbrev pub after_key : Table → List ℕ → Kind → Option Step
 after_key t key Equals = Some (To (KeyEquals t key))
 after_key t key _ = None
@@ -70,36 +78,44 @@ after_key t key _ = None
 abbrev pub with_pair : Table → List ℕ → Literal → Table
 with_pair t key v = record t { pairs = t.pairs ++ pair key v ∷ [] }
 
+-- behind the equals sign of a pair
 abbrev pub after_key_equals : Table → List ℕ → Kind → Option Step
 after_key_equals t key k = option_map (λ v. To (Paired (with_pair t key v))) (value_of k)
 
+-- behind a pair
 abbrev pub after_pair : Table → Kind → Option Step
 after_pair t Comma = Some (To (Pairs t))
 after_pair t Semicolon = Some (To (Pairs t))
 after_pair t CloseBrace = Some (closed t)
 after_pair t _ = None
 
+-- behind a dot of a path
 abbrev pub after_dot : List (List ℕ) → Kind → Option Step
 after_dot path (Name n) = Some (To (Path (path ++ n ∷ [])))
 after_dot path _ = None
 
+-- behind the bracket that opens a part of a path
 abbrev pub after_path_opened : List (List ℕ) → Kind → Option Step
 after_path_opened path (Quoted t) = Some (To (PathQuoted (path ++ t ∷ [])))
 after_path_opened path _ = None
 
+-- behind the string of a part of a path
 abbrev pub after_path_quoted : List (List ℕ) → Kind → Option Step
 after_path_quoted path CloseBracket = Some (To (Path path))
 after_path_quoted path _ = None
 
+-- behind a path of two parts or more
 abbrev pub after_path : List (List ℕ) → Kind → Option Step
 after_path path Dot = Some (To (Dotted path))
 after_path path OpenBracket = Some (To (PathOpened path))
 after_path path Equals = Some (To (PathEquals path))
 after_path path _ = None
 
+-- behind the equals sign of an assignment
 abbrev pub after_path_equals : List (List ℕ) → Kind → Option Step
 after_path_equals path k = option_map (λ v. Ends (Assign path v)) (value_of k)
 
+-- where a token leads within a statement
 abbrev pub step : State → Kind → Option Step
 step (Named n) k = after_name n k
 step (Opened n) k = after_paren n k
@@ -116,6 +132,7 @@ step (PathQuoted path) k = after_path_quoted path k
 step (Path path) k = after_path path k
 step (PathEquals path) k = after_path_equals path k
 
+-- where a token leads before any statement
 abbrev pub begin : ℕ → Kind → Option (Place × Option Stmt)
 begin line (Name n) = Some (Within line (Named n), None)
 begin line _ = None
@@ -126,6 +143,7 @@ go_on line (Name n) = Some (Within line (Named n), None)
 go_on line Semicolon = Some (Start, None)
 go_on line _ = None
 
+-- where a step leads, and the statement that it ends
 abbrev pub landed : ℕ → Step → Place × Option Stmt
 landed line (To q) = (Within line q, None)
 landed line (Ends a) = (Whole, Some (record { line = line; action = a }))
@@ -136,6 +154,7 @@ next Start t = begin t.line t.kind
 next Whole t = go_on t.line t.kind
 next (Within line q) t = option_map (landed line) (step q t.kind)
 
+-- the statement, if there is one
 abbrev pub listed : Option Stmt → List Stmt
 listed None = []
 listed (Some s) = s ∷ []

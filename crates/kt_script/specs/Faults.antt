@@ -20,6 +20,7 @@ IfFault (Err fault) P = P fault
 abbrev pub Begins : List Token → Type 0
 Begins ts = (more : List Token) × (stmts : List Stmt) × Script (ts ++ more) stmts
 
+-- what a token is told as that is broken or doesn't fit
 abbrev pub own_fault : ℕ → Kind → ScriptFault
 own_fault line (Broken Bad) = BadToken line
 own_fault line (Broken Endless) = Unclosed line
@@ -39,12 +40,15 @@ pub record Misfit (ts : List Token) (fault : ScriptFault) : Type 0 where
   pub unfit : ¬ Begins (front ++ token ∷ [])
   pub is : fault ≡ fault_of token
 
+-- the last of some lines
 abbrev pub last : List ℕ → Option ℕ
 last lines = slice_get lines (length lines - 1)
 
+-- some lines without the last
 abbrev pub without_last : List ℕ → List ℕ
 without_last lines = take (length lines - 1) lines
 
+-- the lines of the open brackets, behind one token more
 abbrev pub after_bracket : List ℕ → ℕ → Kind → List ℕ
 after_bracket lines line OpenParen = lines ++ line ∷ []
 after_bracket lines line OpenBrace = lines ++ line ∷ []

@@ -22,6 +22,7 @@ pub data Key : List Kind → List ℕ → Type 0 where
   by_name : (n : List ℕ) → Key (Name n ∷ []) n
   by_text : (t : List ℕ) → Key (OpenBracket ∷ Quoted t ∷ CloseBracket ∷ []) t
 
+-- a key with its value
 abbrev pub pair : List ℕ → Literal → Pair
 pair key v = record { name = key; value = v }
 
@@ -54,6 +55,7 @@ pub data Statement : List Kind → Action → Type 0 where
   assign : {words : List Kind} {parts : List (List ℕ)} (n : List ℕ) → Parts words parts → (v : Literal)
       → Statement (Name n ∷ words ++ Equals ∷ token_of v ∷ []) (Assign (n ∷ parts) v)
 
+-- the kinds of tokens
 abbrev pub kinds : List Token → List Kind
 kinds ts = map (λ t. t.kind) ts
 

@@ -48,6 +48,7 @@ quoted_at quote text = quoted text (decoded (string_at quote false (drop 1 text)
 abbrev pub is_plain : ℕ → ℕ → Bool
 is_plain quote c = not (c == quote) && not (c == 10) && not (c == 92)
 
+-- what a backslash is by the byte that it stands for, if there is one
 abbrev pub escape_stop : Option ℕ → Stop
 escape_stop None = stop.Flawed Bad
 escape_stop (Some c) = stop.Escape c

@@ -22,9 +22,11 @@ abbrev pub StopsAt : (ℕ → Bool) → List ℕ → Type 0
 StopsAt p [] = Unit {0}
 StopsAt p (c ∷ cs) = p c ≡ false
 
+-- a double or a single quote
 abbrev pub is_quote : ℕ → Bool
 is_quote c = c == 34 || c == 39
 
+-- any byte but the newline
 abbrev pub in_line : ℕ → Bool
 in_line c = not (c == 10)
 

@@ -22,6 +22,7 @@ mark_of c =
     else if c == 59 then Some Semicolon else if c == 46 then Some Dot
     else None
 
+-- the token of a mark, if the byte is one
 abbrev pub marked : List ℕ → Option Kind → Piece
 marked text None = broken text Bad
 marked text (Some kind) = token 1 kind
@@ -37,10 +38,12 @@ piece_at (c ∷ cs) =
     else if c == 45 then comment_at (c ∷ cs)
     else marked (c ∷ cs) (mark_of c)
 
+-- the token of a piece, if it is one
 abbrev pub tokens_in : ℕ → Option Kind → List Token
 tokens_in line None = []
 tokens_in line (Some kind) = record { line = line; kind = kind } ∷ []
 
+-- the line behind a byte
 abbrev pub line_after : ℕ → ℕ → ℕ
 line_after line c = if c == 10 then line + 1 else line
 

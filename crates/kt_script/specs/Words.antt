@@ -25,6 +25,7 @@ decimal_from v (c ∷ cs) = decimal_from (10 * v + (c - 48)) cs
 abbrev pub fits : ℕ → Option ℕ
 fits v = if nat_lt v (2 ^ 64) then Some v else None
 
+-- whether a letter is next
 abbrev pub begins_with_letter : List ℕ → Bool
 begins_with_letter [] = false
 begins_with_letter (c ∷ cs) = is_letter c

@@ -40,6 +40,7 @@ tap_fault_text stream.NoPlan = codes "no plan"
 tap_fault_text stream.SecondPlan = codes "second plan"
 tap_fault_text stream.PlanDiffers = codes "plan differs from tests"
 
+-- whether a process exited with this code
 abbrev pub exits_with : ℕ → Outcome → Bool
 exits_with n (Exited code) = nat_eq code n
 exits_with n _ = false
@@ -108,6 +109,7 @@ tap_verdict tap TimedOut = broken (codes "Test case timed out")
 tap_verdict tap (Signaled signal _) = broken (codes "Received signal " ++ decimal signal)
 tap_verdict tap (Exited code) = tap_exited tap code
 
+-- the verdict of a body, by the table of its interface
 abbrev pub verdict_of : Evidence → Outcome → Judged
 verdict_of (evidence.Atf claim) ending = atf_verdict claim ending
 verdict_of (evidence.Tap tap) ending = tap_verdict tap ending
