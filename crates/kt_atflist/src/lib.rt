@@ -3,8 +3,6 @@
 
 mod list_bytes;
 mod listing;
-#[cfg(test)]
-mod tests;
 
 pub use list_bytes::ListBytes;
 pub use listing::Listing;
