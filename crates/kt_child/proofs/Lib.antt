@@ -9,6 +9,7 @@ pub mod IdleRows
 pub mod Mapped
 pub mod Outcomes
 pub mod LifeSteps
+pub mod LoneChildren
 pub mod NamedSteps
 pub mod NameCounts
 pub mod NameSteps

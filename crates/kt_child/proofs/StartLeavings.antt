@@ -15,7 +15,7 @@ use Rattle.kt_child.specs.declared.case.Case.{Case}
 use Rattle.kt_child.specs.Begins.{board_after_start}
 use Rattle.kt_child.specs.Board.{Board, one_if}
 use Rattle.kt_child.specs.ChildOutcome.{Heard}
-use Rattle.kt_child.specs.JobPlan.{case_of, cleaning, watched_of}
+use Rattle.kt_child.specs.JobPlan.{case_in, case_of, cleaning, watched_of}
 use Rattle.kt_child.specs.Lives.{same_child}
 use Rattle.kt_child.specs.SeveralLives.{named}
 use Rattle.kt_child.specs.TraceLives.{IsNumberOf}
@@ -39,33 +39,33 @@ grows_start base T i Body (RefusedFor cause) k n h = h
 grows_start base T i Cleanup answer k n h = h
 
 -- the cases that run
-pub run_kept : (plan : List Job) (base : ℕ) (T T' : Trace) (heard : Child → List Heard) (row : List Watched) (cases : List Case) → Grows base T T'
-    → Every (RunsSo plan base T heard row) cases → Every (RunsSo plan base T' heard row) cases
-run_kept plan base T T' heard row cases g h i c at = let r = h i c at in (g c.position c.attempt r.0, r.1, r.2)
+pub run_kept : (plan : List Job) (root : List ℕ) (base : ℕ) (T T' : Trace) (heard : Child → List Heard) (row : List Watched) (cases : List Case) → Grows base T T'
+    → Every (RunsSo plan root base T heard row) cases → Every (RunsSo plan root base T' heard row) cases
+run_kept plan root base T T' heard row cases g h i c at = let r = h i c at in (g c.position c.attempt r.0, r.1, r.2)
 
 -- the cases that are owed their cleanup
-pub owed_kept : (base : ℕ) (T T' : Trace) (heard : Child → List Heard) (pending : List Case) → Grows base T T'
-    → Every (OwedSo base T heard) pending → Every (OwedSo base T' heard) pending
-owed_kept base T T' heard pending g h i c at = let r = h i c at in (g c.position c.attempt r.0, r.1)
+pub owed_kept : (root : List ℕ) (base : ℕ) (T T' : Trace) (heard : Child → List Heard) (pending : List Case) → Grows base T T'
+    → Every (OwedSo root base T heard) pending → Every (OwedSo root base T' heard) pending
+owed_kept root base T T' heard pending g h i c at = let r = h i c at in (g c.position c.attempt r.0, r.1, r.2)
 
 -- a child of a number that no case has, behind the row
-pub run_more : (plan : List Job) (base : ℕ) (T T' : Trace) (heard : Child → List Heard) (row : List Watched) (cases : List Case) (k : Watched) → Grows base T T'
+pub run_more : (plan : List Job) (root : List ℕ) (base : ℕ) (T T' : Trace) (heard : Child → List Heard) (row : List Watched) (cases : List Case) (k : Watched) → Grows base T T'
     → numbered k.child.attempt cases ≡ 0
-    → Every (RunsSo plan base T heard row) cases → Every (RunsSo plan base T' heard (row ++ k ∷ [])) cases
-run_more plan base T T' heard row cases k g none h i c at =
+    → Every (RunsSo plan root base T heard row) cases → Every (RunsSo plan root base T' heard (row ++ k ∷ [])) cases
+run_more plan root base T T' heard row cases k g none h i c at =
     let r = h i c at in
     let z : one_if (k.child.attempt == c.attempt) ≡ 0 = at_none k.child.attempt cases none i c at in
     let past : named (case_name c) (row ++ k ∷ []) ≡ named (case_name c) row = named_past (case_name c) row k (other_number k.child (case_name c) z) in
-    (g c.position c.attempt r.0, r.1, (r.2.0, r.2.1, λ m e. r.2.2 m (sym past ∙ e)))
+    (g c.position c.attempt r.0, r.1, (r.2.0, r.2.1, λ m e. r.2.2 m (sym past ∙ e), r.2.3))
 
 -- a child that was just started
-pub run_fresh : (plan : List Job) (base : ℕ) (T : Trace) (heard : Child → List Heard) (row : List Watched) (c : Case) (job : Job)
+pub run_fresh : (plan : List Job) (root : List ℕ) (base : ℕ) (T : Trace) (heard : Child → List Heard) (row : List Watched) (c : Case) (job : Job)
     → IsNumberOf base T c.position c.attempt → (c.role ≡ Body → heard (cleaner c.attempt) ≡ []) → slice_get plan c.position ≡ Some job
-    → named (case_name c) row ≡ [] → heard (case_name c) ≡ []
-    → RunsSo plan base T heard (row ++ watched_of job c.role c.attempt ∷ []) c
-run_fresh plan base T heard row c job is silent at none unheard =
+    → named (case_name c) row ≡ [] → heard (case_name c) ≡ [] → c ≡ case_in root job c.role c.attempt
+    → RunsSo plan root base T heard (row ++ watched_of job c.role c.attempt ∷ []) c
+run_fresh plan root base T heard row c job is silent at none unheard same =
     let k : Watched = watched_of job c.role c.attempt in
-    (is, silent, (job, at, λ m e. (zero, (unheard, sym (head_is k m [] [] (sym (named_last row k none) ∙ e))))))
+    (is, silent, (job, at, λ m e. (zero, (unheard, sym (head_is k m [] [] (sym (named_last row k none) ∙ e)))), same))
 
 -- numbers that differ
 unequal : (a b : ℕ) → (a ≡ b → ⊥) → one_if (a == b) ≡ 0

@@ -1,5 +1,5 @@
--- A start asks neither poll nor kill.
-use Rattle.std.proofs.Common.{◌≡◌, ℕ, List, [], ◌∷◌, ◌++◌, Bool, true, false, Result, Ok, Err, refl, ◌∙◌, ap, inl, inr}
+-- What a start asks, which is neither poll nor kill.
+use Rattle.std.proofs.Common.{◌≡◌, ℕ, List, [], ◌∷◌, ◌++◌, Bool, true, false, Some, slice_get, Result, Ok, Err, refl, ◌∙◌, ap, inl, inr}
 use Rattle.std.specs.Prelude.{⊤}
 use Rattle.kt_base.specs.declared.role.Role.{Role}
 use Rattle.kt_base.specs.declared.role.Role.TheVariants.{Body, Cleanup}
@@ -8,12 +8,15 @@ use Rattle.kt_sched.specs.declared.job.Job.{Job}
 use Rattle.kt_sched.specs.declared.start_answer.StartAnswer.{StartAnswer}
 use Rattle.kt_child.specs.declared.child.Child.{Child}
 use Rattle.kt_child.specs.declared.spawning.Spawning.{Spawning}
+use Rattle.kt_child.specs.declared.case.Case.{Case}
 use Rattle.kt_child.specs.Begins.{BegunBody, BegunCleanup}
 use Rattle.kt_child.specs.Board.{Board}
 use Rattle.kt_child.specs.Calls.{Call, Chain}
+use Rattle.kt_child.specs.JobPlan.{spawning_of}
 use Rattle.kt_child.specs.Launches.{StartsBy}
 use Rattle.kt_child.specs.Lives.{heard_by}
 use Rattle.kt_child.specs.Starts.{Ask, Settles, Started, StartedAfresh, Tried, child_asks, furnish_asks}
+use Rattle.kt_child.specs.TraceLives.{BodyAsks}
 use Rattle.kt_child.proofs.LifeSteps.{heard_append}
 
 -- questions that are no polls and no kills of a child
@@ -65,12 +68,19 @@ cleanup_silent : (c : Child) (p : Spawning) (dir : List ℕ) (calls : List Call)
 cleanup_silent c p dir calls answer (inl (done, e, f)) = ap (heard_by c) e
 cleanup_silent c p dir calls answer (inr (r, s, f)) = started_silent c (child_asks p) dir calls r (child_unheard c p) s
 
--- what a start of a driver asks, which no child hears
+-- what a start of a driver asks
+abbrev pub StartAsks : List ℕ → List ℕ → Job → Role → ℕ → Board → List Call → StartAnswer → Type 0
+StartAsks source root job Body next b calls answer = BodyAsks source root job next calls answer
+StartAsks source root job Cleanup next b calls answer =
+    (place : ℕ) × (c : Case) × (slice_get b.pending place ≡ Some c) × (c.position ≡ job.position)
+    × BegunCleanup (spawning_of source job Cleanup c.attempt c.paths) c.paths.dir calls answer
+
+-- no child hears it
 pub start_silent : {O : Type 0} (leads : O → Call → O → Type 0) (source root : List ℕ) (job : Job) (role : Role) (os : O) (next : ℕ) (b : Board) (answer : StartAnswer) (os' : O) (next' : ℕ) (b' : Board)
     → StartsBy leads source root job role os next b answer os' next' b'
-    → (calls : List Call) × Chain leads os calls os' × ((c : Child) → heard_by c calls ≡ [])
-start_silent leads source root job Body os next b answer os' next' b' (inl (e, told, s, f, same)) = ([], s, λ c. refl)
+    → (calls : List Call) × Chain leads os calls os' × ((c : Child) → heard_by c calls ≡ []) × StartAsks source root job role next b calls answer
+start_silent leads source root job Body os next b answer os' next' b' (inl (e, told, s, f, same)) = ([], s, λ c. refl, inl (e, refl, told))
 start_silent leads source root job Body os next b answer os' next' b' (inr (l, e, (calls, chain, begun), same)) =
-    (calls, chain, λ c. body_silent c _ _ calls answer begun)
+    (calls, chain, λ c. body_silent c _ _ calls answer begun, inr begun)
 start_silent leads source root job Cleanup os next b answer os' next' b' (place, c, at, position, e, (calls, chain, begun), same) =
-    (calls, chain, λ a. cleanup_silent a _ _ calls answer begun)
+    (calls, chain, λ a. cleanup_silent a _ _ calls answer begun, (place, c, at, position, begun))

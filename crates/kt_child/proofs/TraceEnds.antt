@@ -16,10 +16,10 @@ use Rattle.kt_child.specs.Board.{Board, Waited, one_if}
 use Rattle.kt_child.specs.Calls.{Call}
 use Rattle.kt_child.specs.ChildOutcome.{Heard, Told}
 use Rattle.kt_child.specs.Ends.{Leaves}
-use Rattle.kt_child.specs.JobPlan.{limit_of, watched_of}
+use Rattle.kt_child.specs.JobPlan.{case_in, limit_of, watched_of}
 use Rattle.kt_child.specs.Lives.{heard_by, same_child}
 use Rattle.kt_child.specs.SeveralLives.{GoesOn, LivesOut, Share, named}
-use Rattle.kt_child.specs.TraceLives.{IsNumberOf}
+use Rattle.kt_child.specs.TraceLives.{IsNumberOf, LeavesAtLast}
 use Rattle.kt_child.specs.Waits.{WaitedOn}
 use Rattle.kt_child.proofs.CasePlaces.{other_absent, other_number, own_child}
 use Rattle.kt_child.proofs.EndSilence.{shares_at}
@@ -31,7 +31,7 @@ use Rattle.kt_child.proofs.Outcomes.{told}
 use Rattle.kt_child.proofs.Places.{some_is}
 use Rattle.kt_child.proofs.RowNames.{name_at}
 use Rattle.kt_child.proofs.SeveralSteps.{goes_join, lives_join}
-use Rattle.kt_child.proofs.TraceFacts.{EndedSo, IsGone, RunsSo, cleaner}
+use Rattle.kt_child.proofs.TraceFacts.{IsGone, PastSo, RunsSo, cleaner}
 use Rattle.kt_child.proofs.WaitSilence.{wait_silent}
 
 -- what each name has heard after these calls
@@ -79,13 +79,13 @@ positive plan i job Body is at = let f = is.fit i job at in let t = f.timed in o
 positive plan i job Cleanup is at = omega arith
 
 -- a case that goes on running
-pub still_runs : (plan : List Job) (base : ℕ) (T : Trace) (heard : Child → List Heard) (next : ℕ) (old new : Board) (calls polls rest : List Call) (place : ℕ) (outcome : Outcome) (after : List Watched) (d : Case) (e : Ended)
+pub still_runs : (plan : List Job) (root : List ℕ) (base : ℕ) (T : Trace) (heard : Child → List Heard) (next : ℕ) (old new : Board) (calls polls rest : List Call) (place : ℕ) (outcome : Outcome) (after : List Watched) (d : Case) (e : Ended)
     → Apart next old → slice_get old.cases place ≡ Some d → calls ≡ polls ++ rest
     → WaitedOn old.going old.children polls place outcome after new.going → Leaves d rest outcome e → new.children ≡ remove after place
     → Waited old calls e new
     → (i : ℕ) (c : Case) → slice_get old.cases i ≡ Some c → one_if (d.attempt == c.attempt) ≡ 0
-    → RunsSo plan base T heard old.children c → RunsSo plan base (Then T (End e)) (heard_after heard calls) new.children c
-still_runs plan base T heard next old new calls polls rest place outcome after d e apart at eq waited leaves ch w i c there z r =
+    → RunsSo plan root base T heard old.children c → RunsSo plan root base (Then T (End e)) (heard_after heard calls) new.children c
+still_runs plan root base T heard next old new calls polls rest place outcome after d e apart at eq waited leaves ch w i c there z r =
     let m = apart.1 c.attempt in
     let most = m.0 in
     let most' : numbered c.attempt old.cases ≤ 1 = omega (arith, most) in
@@ -103,6 +103,7 @@ still_runs plan base T heard next old new calls polls rest place outcome after d
             share_goes (same_child (case_name d) (case_name c)) (case_name c) (watched_of r.2.0 c.role c.attempt) o.0 k (heard (case_name c)) (heard_by (case_name c) calls) e.outcome new.children
             (other_number (case_name d) (case_name c) z) (r.2.2 o.0 o.3)
             (share_of old new calls polls rest place outcome after d e next (case_name c) o.0 apart at eq waited leaves ch o.3) own,
+        r.2.3,
       ),
     )
   where
@@ -110,13 +111,22 @@ still_runs plan base T heard next old new calls polls rest place outcome after d
     and_false true = refl
     and_false false = refl
 
+-- what follows the last poll of a case's child
+left_so : (root : List ℕ) (job : Job) (d : Case) (polls rest calls : List Call) (outcome : Outcome) (e : Ended)
+    → calls ≡ polls ++ rest → Leaves d rest outcome e → d ≡ case_in root job d.role d.attempt → LeavesAtLast (case_in root job e.role d.attempt) calls e
+left_so root job d polls rest calls outcome e eq leaves same =
+    let O : Outcome → Type 0 = λ t. Leaves d rest t e in
+    let C : Case → Type 0 = λ t. Leaves t rest e.outcome e in
+    let R : Role → Type 0 = λ t. Leaves (case_in root job t d.attempt) rest e.outcome e in
+    (polls, rest, eq, subst R (sym leaves.9) (subst C same (subst O (sym leaves.10) leaves)))
+
 -- the end of a case's child
-pub ends_so : (plan : List Job) (base : ℕ) (T : Trace) (heard : Child → List Heard) (next : ℕ) (old new : Board) (calls polls rest : List Call) (place : ℕ) (outcome : Outcome) (after : List Watched) (d : Case) (e : Ended)
+pub ends_so : (plan : List Job) (source root : List ℕ) (base : ℕ) (T : Trace) (heard : Child → List Heard) (next : ℕ) (old new : Board) (calls polls rest : List Call) (place : ℕ) (outcome : Outcome) (after : List Watched) (d : Case) (e : Ended)
     → IsPlan plan → Apart next old → slice_get old.cases place ≡ Some d → calls ≡ polls ++ rest
     → WaitedOn old.going old.children polls place outcome after new.going → Leaves d rest outcome e → new.children ≡ remove after place
     → IsGone next new (case_name d) → e.position ≡ d.position → e.role ≡ d.role
-    → RunsSo plan base T heard old.children d → EndedSo plan base (heard_after heard calls) next new T (End e)
-ends_so plan base T heard next old new calls polls rest place outcome after d e is apart at eq waited leaves ch gone position role r =
+    → RunsSo plan root base T heard old.children d → PastSo plan source root base (heard_after heard calls) next new calls T (End e)
+ends_so plan source root base T heard next old new calls polls rest place outcome after d e is apart at eq waited leaves ch gone position role r =
     let m = apart.1 d.attempt in
     let most = m.0 in
     let name : Child = case_name d in
@@ -129,4 +139,4 @@ ends_so plan base T heard next old new calls polls rest place outcome after d e 
     let N : ℕ → Type 0 = λ t. IsNumberOf base T t d.attempt in
     let P : Role → Type 0 = λ t. Told (limit_of job t) (heard_after heard calls (record { attempt = d.attempt; role = t })) e.outcome in
     let Q : Role → Type 0 = λ t. IsGone next new (record { attempt = d.attempt; role = t }) in
-    (d.attempt, subst N (sym position) r.0, (job, ap (slice_get plan) position ∙ r.2.1, subst P (sym role) table), subst Q (sym role) gone)
+    (d.attempt, subst N (sym position) r.0, (job, ap (slice_get plan) position ∙ r.2.1, subst P (sym role) table, left_so root job d polls rest calls outcome e eq leaves r.2.3), subst Q (sym role) gone)

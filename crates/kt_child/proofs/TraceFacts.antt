@@ -1,20 +1,20 @@
--- What is known of a driver's children after a trace, by what each name answered.
+-- What is known of a driver's children after a trace, by what each name answered, and of each answer by its calls.
 use Rattle.std.proofs.Common.{◌≡◌, ℕ, ◌+◌, ◌-◌, ◌^◌, ◌<◌, ◌≤◌, ◌==◌, List, [], ◌∷◌, true, false, Some, slice_get, sym, ap, subst, arith, if◌then◌else◌}
-use Rattle.std.specs.Prelude.{⊤}
 use Rattle.std.proofs.lemmas.Bool.Decides.{nat_tests}
 use Rattle.kt_base.specs.declared.role.Role.{Role}
 use Rattle.kt_base.specs.declared.role.Role.TheVariants.{Body, Cleanup}
 use Rattle.kt_sched.specs.declared.job.Job.{Job}
 use Rattle.kt_sched.specs.Trace.{Trace, NoEvent, Then, Event, Start, End}
-use Rattle.kt_sched.specs.ScheduleRules.{Each}
 use Rattle.kt_child.specs.declared.child.Child.{Child}
 use Rattle.kt_child.specs.declared.watched.Watched.{Watched}
 use Rattle.kt_child.specs.declared.case.Case.{Case}
 use Rattle.kt_child.specs.Board.{Board}
 use Rattle.kt_child.specs.ChildOutcome.{Heard, Told}
-use Rattle.kt_child.specs.JobPlan.{limit_of, watched_of}
+use Rattle.kt_child.specs.Calls.{Call}
+use Rattle.kt_child.specs.ChildPlan.{paths_of}
+use Rattle.kt_child.specs.JobPlan.{case_in, limit_of, watched_of}
 use Rattle.kt_child.specs.SeveralLives.{GoesOn, named}
-use Rattle.kt_child.specs.TraceLives.{IsNumberOf, following, next_after}
+use Rattle.kt_child.specs.TraceLives.{BegunAt, EachWith, IsNumberOf, LeavesAtLast, following, next_after}
 use Rattle.kt_child.proofs.CasePlaces.{Every}
 use Rattle.kt_child.proofs.NameCounts.{case_name, numbered}
 use Rattle.kt_child.proofs.NameSteps.{Apart}
@@ -23,57 +23,68 @@ use Rattle.kt_child.proofs.NameSteps.{Apart}
 abbrev pub cleaner : ℕ → Child
 cleaner n = record { attempt = n; role = Cleanup }
 
--- a case whose child runs: its number is that of its body, its cleanup was not yet heard, and its child went on since its start
-abbrev pub RunsSo : List Job → ℕ → Trace → (Child → List Heard) → List Watched → Case → Type 0
-RunsSo plan base T heard row c =
+-- a case whose child runs: its number is that of its body and names its paths, its cleanup was not yet heard, and its
+-- child went on since its start
+abbrev pub RunsSo : List Job → List ℕ → ℕ → Trace → (Child → List Heard) → List Watched → Case → Type 0
+RunsSo plan root base T heard row c =
     IsNumberOf base T c.position c.attempt
     × (c.role ≡ Body → heard (cleaner c.attempt) ≡ [])
     × ((job : Job) × (slice_get plan c.position ≡ Some job)
-    × ((k : Watched) → named (case_name c) row ≡ k ∷ [] → GoesOn (watched_of job c.role c.attempt) (heard (case_name c)) k))
+    × ((k : Watched) → named (case_name c) row ≡ k ∷ [] → GoesOn (watched_of job c.role c.attempt) (heard (case_name c)) k)
+    × (c ≡ case_in root job c.role c.attempt))
 
 -- a case whose cleanup is owed
-abbrev pub OwedSo : ℕ → Trace → (Child → List Heard) → Case → Type 0
-OwedSo base T heard c = IsNumberOf base T c.position c.attempt × (heard (cleaner c.attempt) ≡ [])
+abbrev pub OwedSo : List ℕ → ℕ → Trace → (Child → List Heard) → Case → Type 0
+OwedSo root base T heard c =
+    IsNumberOf base T c.position c.attempt × (heard (cleaner c.attempt) ≡ []) × (c.paths ≡ paths_of root c.attempt)
 
 -- a name that no child will have again
 abbrev pub IsGone : ℕ → Board → Child → Type 0
 IsGone next b c = (c.attempt < next) × (named c b.children ≡ []) × (c.role ≡ Cleanup → numbered c.attempt b.cases + numbered c.attempt b.pending ≡ 0)
 
--- the end of a child that is gone, as its answers tell it
-abbrev pub EndedSo : List Job → ℕ → (Child → List Heard) → ℕ → Board → Trace → Event → Type 0
-EndedSo plan base heard next b T (Start i role answer) = ⊤
-EndedSo plan base heard next b T (End ended) =
+-- an answer by its own calls: a start as it was begun, and the end of a child that is gone, as its answers tell it
+abbrev pub PastSo : List Job → List ℕ → List ℕ → ℕ → (Child → List Heard) → ℕ → Board → List Call → Trace → Event → Type 0
+PastSo plan source root base heard next b asked T (Start i role answer) = BegunAt plan source root base asked T i role answer
+PastSo plan source root base heard next b asked T (End ended) =
     (n : ℕ) × IsNumberOf base T ended.position n
     × ((job : Job) × (slice_get plan ended.position ≡ Some job)
-    × Told (limit_of job ended.role) (heard (record { attempt = n; role = ended.role })) ended.outcome)
+    × Told (limit_of job ended.role) (heard (record { attempt = n; role = ended.role })) ended.outcome
+    × LeavesAtLast (case_in root job ended.role n) asked ended)
     × IsGone next b (record { attempt = n; role = ended.role })
 
 -- all of that
-pub record Stands (plan : List Job) (base : ℕ) (T : Trace) (heard : Child → List Heard) (next : ℕ) (b : Board) : Type 0 where
+pub record Stands (plan : List Job) (source root : List ℕ) (base : ℕ) (T : Trace) (heard : Child → List Heard) (next : ℕ) (b : Board) (past : List Call) : Type 0 where
   pub counted : next ≡ next_after base T
   pub apart : Apart next b
-  pub run : Every (RunsSo plan base T heard b.children) b.cases
-  pub owed : Every (OwedSo base T heard) b.pending
+  pub run : Every (RunsSo plan root base T heard b.children) b.cases
+  pub owed : Every (OwedSo root base T heard) b.pending
   pub unborn : (n : ℕ) (r : Role) → next ≤ n → heard (record { attempt = n; role = r }) ≡ []
-  pub ended : Each (EndedSo plan base heard next b) T
+  pub each : EachWith (PastSo plan source root base heard next b) T past
 
--- one child that is gone
-ended_one : (plan : List Job) (base : ℕ) (heard heard' : Child → List Heard) (next next' : ℕ) (b b' : Board) (T : Trace) (event : Event)
+-- what holds of each answer with its own calls
+pub each_map : (P Q : List Call → Trace → Event → Type 0) → ((asked : List Call) (T : Trace) (event : Event) → P asked T event → Q asked T event)
+    → (T : Trace) (calls : List Call) → EachWith P T calls → EachWith Q T calls
+each_map P Q f NoEvent calls h = h
+each_map P Q f (Then T event) calls (before, asked, e, h, p) = (before, asked, e, each_map P Q f T before h, f asked T event p)
+
+-- one answer
+past_one : (plan : List Job) (source root : List ℕ) (base : ℕ) (heard heard' : Child → List Heard) (next next' : ℕ) (b b' : Board)
     → ((c : Child) → IsGone next b c → (heard' c ≡ heard c) × IsGone next' b' c)
-    → EndedSo plan base heard next b T event → EndedSo plan base heard' next' b' T event
-ended_one plan base heard heard' next next' b b' T (Start i role answer) f h = tt
-ended_one plan base heard heard' next next' b b' T (End ended) f (n, is, (job, at, told), gone) =
+    → (asked : List Call) (T : Trace) (event : Event)
+    → PastSo plan source root base heard next b asked T event → PastSo plan source root base heard' next' b' asked T event
+past_one plan source root base heard heard' next next' b b' f asked T (Start i role answer) h = h
+past_one plan source root base heard heard' next next' b b' f asked T (End ended) (n, is, (job, at, told, left), gone) =
     let m = f (record { attempt = n; role = ended.role }) gone in
     let P : List Heard → Type 0 = λ t. Told (limit_of job ended.role) t ended.outcome in
-    (n, is, (job, at, subst P (sym m.0) told), m.1)
+    (n, is, (job, at, subst P (sym m.0) told, left), m.1)
 
 -- children that are gone stay so, and hear nothing more
-pub ended_kept : (plan : List Job) (base : ℕ) (heard heard' : Child → List Heard) (next next' : ℕ) (b b' : Board) (T : Trace)
+pub past_kept : (plan : List Job) (source root : List ℕ) (base : ℕ) (heard heard' : Child → List Heard) (next next' : ℕ) (b b' : Board) (T : Trace) (past : List Call)
     → ((c : Child) → IsGone next b c → (heard' c ≡ heard c) × IsGone next' b' c)
-    → Each (EndedSo plan base heard next b) T → Each (EndedSo plan base heard' next' b') T
-ended_kept plan base heard heard' next next' b b' NoEvent f h = tt
-ended_kept plan base heard heard' next next' b b' (Then T event) f (h, e) =
-    (ended_kept plan base heard heard' next next' b b' T f h, ended_one plan base heard heard' next next' b b' T event f e)
+    → EachWith (PastSo plan source root base heard next b) T past → EachWith (PastSo plan source root base heard' next' b') T past
+past_kept plan source root base heard heard' next next' b b' T past f h =
+    each_map (PastSo plan source root base heard next b) (PastSo plan source root base heard' next' b')
+    (past_one plan source root base heard heard' next next' b b' f) T past h
 
 -- a number below another is not the same
 below_last : (n m : ℕ) → n < m → (n == m) ≡ false

@@ -1,4 +1,4 @@
--- A start keeps what is known of a driver's children.
+-- A start keeps what is known of a driver's children, and is known by its own calls.
 use Rattle.std.proofs.Common.{◌≡◌, ℕ, ◌≤◌, List, [], ◌∷◌, ◌++◌, true, false, Some, slice_get, refl, sym, ◌∙◌, ap, subst, arith, inl, inr}
 use Rattle.kt_base.specs.declared.role.Role.{Role}
 use Rattle.kt_base.specs.declared.role.Role.TheVariants.{Body, Cleanup}
@@ -12,39 +12,47 @@ use Rattle.kt_child.specs.declared.child.Child.{Child}
 use Rattle.kt_child.specs.declared.paths.Paths.{Paths}
 use Rattle.kt_child.specs.declared.watched.Watched.{Watched}
 use Rattle.kt_child.specs.declared.case.Case.{Case}
-use Rattle.kt_child.specs.Begins.{board_after_start}
+use Rattle.kt_child.specs.Begins.{BegunCleanup, board_after_start}
 use Rattle.kt_child.specs.Board.{Board}
 use Rattle.kt_child.specs.Calls.{Call}
 use Rattle.kt_child.specs.ChildOutcome.{Heard}
 use Rattle.kt_child.specs.ChildPlan.{paths_of}
-use Rattle.kt_child.specs.JobPlan.{case_of, cleaning, watched_of}
+use Rattle.kt_child.specs.JobPlan.{case_in, case_of, cleaning, spawning_of, watched_of}
 use Rattle.kt_child.specs.Launches.{StartsBy}
-use Rattle.kt_child.specs.TraceLives.{following}
+use Rattle.kt_child.specs.TraceLives.{BegunAt, BodyAsks, IsNumberOf, following}
 use Rattle.kt_child.proofs.CasePlaces.{at_some, every_left, every_push}
 use Rattle.kt_child.proofs.NameCounts.{case_name, none_named, numbered}
 use Rattle.kt_child.proofs.NameSteps.{Apart, start_apart}
-use Rattle.kt_child.proofs.TraceFacts.{OwedSo, RunsSo, Stands, ended_kept, following_last, following_more}
+use Rattle.kt_child.proofs.StartSilence.{StartAsks}
+use Rattle.kt_child.proofs.TraceFacts.{OwedSo, RunsSo, Stands, following_last, following_more, past_kept}
 use Rattle.kt_child.proofs.StartLeavings.{gone_body, gone_cleanup, grows_start, owed_kept, run_fresh, run_kept, run_more, taken}
 
 -- a body's start
-body_stands : (plan : List Job) (base : ℕ) (T : Trace) (heard : Child → List Heard) (next next' : ℕ) (b : Board) (job : Job) (i : ℕ) (p : Paths) (answer : StartAnswer)
+body_stands : (plan : List Job) (source root : List ℕ) (base : ℕ) (T : Trace) (heard : Child → List Heard) (next next' : ℕ) (b : Board) (past : List Call) (job : Job) (i : ℕ) (answer : StartAnswer) (asked : List Call)
     → IsPlan plan → slice_get plan i ≡ Some job → next' ≡ following next → next ≤ next'
-    → Apart next' (board_after_start b (watched_of job Body next) (case_of job next p) answer)
-    → Stands plan base T heard next b
-    → Stands plan base (Then T (Start i Body answer)) heard next' (board_after_start b (watched_of job Body next) (case_of job next p) answer)
-body_stands plan base T heard next next' b job i p (RefusedFor cause) is at e le apart s =
+    → Apart next' (board_after_start b (watched_of job Body next) (case_of job next (paths_of root next)) answer)
+    → BegunAt plan source root base asked T i Body answer
+    → Stands plan source root base T heard next b past
+    → Stands plan source root base (Then T (Start i Body answer)) heard next' (board_after_start b (watched_of job Body next) (case_of job next (paths_of root next)) answer) (past ++ asked)
+body_stands plan source root base T heard next next' b past job i (RefusedFor cause) asked is at e le apart begun s =
     let T' : Trace = Then T (Start i Body (RefusedFor cause)) in
     record {
       counted = e ∙ ap following s.counted;
       apart = apart;
-      run = run_kept plan base T T' heard b.children b.cases (grows_start base T i Body (RefusedFor cause)) s.run;
-      owed = owed_kept base T T' heard b.pending (grows_start base T i Body (RefusedFor cause)) s.owed;
+      run = run_kept plan root base T T' heard b.children b.cases (grows_start base T i Body (RefusedFor cause)) s.run;
+      owed = owed_kept root base T T' heard b.pending (grows_start base T i Body (RefusedFor cause)) s.owed;
       unborn = λ n r l. s.unborn n r (omega (arith, l, le));
-      ended = (ended_kept plan base heard heard next next' b b T (λ c g. (refl, gone_body next next' b job p (RefusedFor cause) le c g)) s.ended, tt);
+      each = (
+        past,
+        asked,
+        refl,
+        past_kept plan source root base heard heard next next' b b T past (λ c g. (refl, gone_body next next' b job (paths_of root next) (RefusedFor cause) le c g)) s.each,
+        begun,
+      );
     }
-body_stands plan base T heard next next' b job i p (StartedAt moment) is at e le apart s =
+body_stands plan source root base T heard next next' b past job i (StartedAt moment) asked is at e le apart begun s =
     let k : Watched = watched_of job Body next in
-    let c : Case = case_of job next p in
+    let c : Case = case_of job next (paths_of root next) in
     let a = s.apart in
     let m = a.1 next in
     let free = m.1 (omega arith) in
@@ -54,39 +62,60 @@ body_stands plan base T heard next next' b job i p (StartedAt moment) is at e le
     record {
       counted = e ∙ ap following s.counted;
       apart = apart;
-      run = every_push (RunsSo plan base T' heard (b.children ++ k ∷ [])) b.cases c
-          (run_more plan base T T' heard b.children b.cases k (grows_start base T i Body (StartedAt moment)) none s.run)
-          (run_fresh plan base T' heard b.children c job (inl (sym placed, s.counted)) (λ r. s.unborn next Cleanup (omega arith))
-          (ap (slice_get plan) placed ∙ at) (none_named (case_name c) b.children b.cases a.0 none) (s.unborn next Body (omega arith)));
-      owed = owed_kept base T T' heard b.pending (grows_start base T i Body (StartedAt moment)) s.owed;
+      run = every_push (RunsSo plan root base T' heard (b.children ++ k ∷ [])) b.cases c
+          (run_more plan root base T T' heard b.children b.cases k (grows_start base T i Body (StartedAt moment)) none s.run)
+          (run_fresh plan root base T' heard b.children c job (inl (sym placed, s.counted)) (λ r. s.unborn next Cleanup (omega arith))
+          (ap (slice_get plan) placed ∙ at) (none_named (case_name c) b.children b.cases a.0 none) (s.unborn next Body (omega arith)) refl);
+      owed = owed_kept root base T T' heard b.pending (grows_start base T i Body (StartedAt moment)) s.owed;
       unborn = λ n r l. s.unborn n r (omega (arith, l, le));
-      ended = (ended_kept plan base heard heard next next' b (board_after_start b k c (StartedAt moment)) T (λ d g. (refl, gone_body next next' b job p (StartedAt moment) le d g)) s.ended, tt);
+      each = (
+        past,
+        asked,
+        refl,
+        past_kept plan source root base heard heard next next' b (board_after_start b k c (StartedAt moment)) T past
+            (λ d g. (refl, gone_body next next' b job (paths_of root next) (StartedAt moment) le d g)) s.each,
+        begun,
+      );
     }
 
 -- a cleanup is no body
 not_body : Cleanup ≡ Body → ⊥
 not_body e = let P : Role → Type 0 = λ r. same_role r Cleanup ≡ true in let no : false ≡ true = subst P e refl in cc
 
+-- the case of a cleanup is that of its job, in the directory of its body's number
+cleaning_in : (root : List ℕ) (d : Case) (job : Job) → d.position ≡ job.position → d.paths ≡ paths_of root d.attempt → cleaning d job ≡ case_in root job Cleanup d.attempt
+cleaning_in root d job e f =
+    let P : ℕ → Case = λ t. record { position = t; attempt = d.attempt; role = Cleanup; interface = job.interface; cleanup = job.cleanup; paths = d.paths } in
+    let Q : Paths → Case = λ t. record { position = job.position; attempt = d.attempt; role = Cleanup; interface = job.interface; cleanup = job.cleanup; paths = t } in
+    ap P e ∙ ap Q f
+
 -- a cleanup's start
-cleanup_stands : (plan : List Job) (base : ℕ) (T : Trace) (heard : Child → List Heard) (next : ℕ) (b : Board) (job : Job) (i : ℕ) (place : ℕ) (d : Case) (answer : StartAnswer)
+cleanup_stands : (plan : List Job) (source root : List ℕ) (base : ℕ) (T : Trace) (heard : Child → List Heard) (next : ℕ) (b : Board) (past : List Call) (job : Job) (i : ℕ) (place : ℕ) (d : Case) (answer : StartAnswer) (asked : List Call)
     → IsPlan plan → slice_get plan i ≡ Some job → slice_get b.pending place ≡ Some d → d.position ≡ job.position
     → Apart next (board_after_start (taken b place)
     (watched_of job Cleanup d.attempt) (cleaning d job) answer)
-    → Stands plan base T heard next b
-    → Stands plan base (Then T (Start i Cleanup answer)) heard next
+    → BegunAt plan source root base asked T i Cleanup answer
+    → Stands plan source root base T heard next b past
+    → Stands plan source root base (Then T (Start i Cleanup answer)) heard next
     (board_after_start (taken b place)
-    (watched_of job Cleanup d.attempt) (cleaning d job) answer)
-cleanup_stands plan base T heard next b job i place d (RefusedFor cause) is at there position apart s =
+    (watched_of job Cleanup d.attempt) (cleaning d job) answer) (past ++ asked)
+cleanup_stands plan source root base T heard next b past job i place d (RefusedFor cause) asked is at there position apart begun s =
     let T' : Trace = Then T (Start i Cleanup (RefusedFor cause)) in
     record {
       counted = s.counted;
       apart = apart;
-      run = run_kept plan base T T' heard b.children b.cases (grows_start base T i Cleanup (RefusedFor cause)) s.run;
-      owed = every_left (OwedSo base T' heard) b.pending place (owed_kept base T T' heard b.pending (grows_start base T i Cleanup (RefusedFor cause)) s.owed);
+      run = run_kept plan root base T T' heard b.children b.cases (grows_start base T i Cleanup (RefusedFor cause)) s.run;
+      owed = every_left (OwedSo root base T' heard) b.pending place (owed_kept root base T T' heard b.pending (grows_start base T i Cleanup (RefusedFor cause)) s.owed);
       unborn = s.unborn;
-      ended = (ended_kept plan base heard heard next next b (taken b place) T (λ c g. (refl, gone_cleanup next b job place d (RefusedFor cause) there c g)) s.ended, tt);
+      each = (
+        past,
+        asked,
+        refl,
+        past_kept plan source root base heard heard next next b (taken b place) T past (λ c g. (refl, gone_cleanup next b job place d (RefusedFor cause) there c g)) s.each,
+        begun,
+      );
     }
-cleanup_stands plan base T heard next b job i place d (StartedAt moment) is at there position apart s =
+cleanup_stands plan source root base T heard next b past job i place d (StartedAt moment) asked is at there position apart begun s =
     let k : Watched = watched_of job Cleanup d.attempt in
     let c : Case = cleaning d job in
     let a = s.apart in
@@ -100,35 +129,58 @@ cleanup_stands plan base T heard next b job i place d (StartedAt moment) is at t
     record {
       counted = s.counted;
       apart = apart;
-      run = every_push (RunsSo plan base T' heard (b.children ++ k ∷ [])) b.cases c
-          (run_more plan base T T' heard b.children b.cases k (grows_start base T i Cleanup (StartedAt moment)) none s.run)
-          (run_fresh plan base T' heard b.children c job o.0 (λ r. absurd (not_body r))
-          (ap (slice_get plan) placed ∙ at) (none_named (case_name c) b.children b.cases a.0 none) o.1);
-      owed = every_left (OwedSo base T' heard) b.pending place (owed_kept base T T' heard b.pending (grows_start base T i Cleanup (StartedAt moment)) s.owed);
+      run = every_push (RunsSo plan root base T' heard (b.children ++ k ∷ [])) b.cases c
+          (run_more plan root base T T' heard b.children b.cases k (grows_start base T i Cleanup (StartedAt moment)) none s.run)
+          (run_fresh plan root base T' heard b.children c job o.0 (λ r. absurd (not_body r))
+          (ap (slice_get plan) placed ∙ at) (none_named (case_name c) b.children b.cases a.0 none) o.1 (cleaning_in root d job position o.2));
+      owed = every_left (OwedSo root base T' heard) b.pending place (owed_kept root base T T' heard b.pending (grows_start base T i Cleanup (StartedAt moment)) s.owed);
       unborn = s.unborn;
-      ended = (ended_kept plan base heard heard next next b (board_after_start (taken b place) k c (StartedAt moment)) T (λ e g. (refl, gone_cleanup next b job place d (StartedAt moment) there e g)) s.ended, tt);
+      each = (
+        past,
+        asked,
+        refl,
+        past_kept plan source root base heard heard next next b (board_after_start (taken b place) k c (StartedAt moment)) T past
+            (λ e g. (refl, gone_cleanup next b job place d (StartedAt moment) there e g)) s.each,
+        begun,
+      );
     }
+
+-- a start by its own calls
+begun_at : (plan : List Job) (source root : List ℕ) (base : ℕ) (T : Trace) (heard : Child → List Heard) (next : ℕ) (b : Board) (past : List Call) (job : Job) (i : ℕ) (role : Role) (answer : StartAnswer) (asked : List Call)
+    → IsPlan plan → slice_get plan i ≡ Some job → StartAsks source root job role next b asked answer
+    → Stands plan source root base T heard next b past → BegunAt plan source root base asked T i role answer
+begun_at plan source root base T heard next b past job i Body answer asked is at asks s =
+    let P : ℕ → Type 0 = λ t. BodyAsks source root job t asked answer in
+    (job, at, subst P s.counted asks)
+begun_at plan source root base T heard next b past job i Cleanup answer asked is at (place, d, there, position, begun) s =
+    let o = s.owed place d there in
+    let N : ℕ → Type 0 = λ t. IsNumberOf base T t d.attempt in
+    let P : Paths → Type 0 = λ t. BegunCleanup (spawning_of source job Cleanup d.attempt t) t.dir asked answer in
+    (job, d.attempt, at, subst N (position ∙ is.placed i job at) o.0, subst P o.2 begun)
 
 -- a start of a driver
 pub start_stands : {O : Type 0} (leads : O → Call → O → Type 0) (source root : List ℕ) (job : Job) (role : Role) (os : O) (next : ℕ) (b : Board) (answer : StartAnswer) (os' : O) (next' : ℕ) (b' : Board)
-    (plan : List Job) (base : ℕ) (T : Trace) (heard : Child → List Heard) (i : ℕ)
+    (plan : List Job) (base : ℕ) (T : Trace) (heard : Child → List Heard) (i : ℕ) (past asked : List Call)
     → IsPlan plan → slice_get plan i ≡ Some job → StartsBy leads source root job role os next b answer os' next' b'
-    → Stands plan base T heard next b → Stands plan base (Then T (Start i role answer)) heard next' b'
-start_stands leads source root job Body os next b answer os' next' b' plan base T heard i is at (inl (e, told, same, f, g)) s =
+    → StartAsks source root job role next b asked answer
+    → Stands plan source root base T heard next b past → Stands plan source root base (Then T (Start i role answer)) heard next' b' (past ++ asked)
+start_stands leads source root job Body os next b answer os' next' b' plan base T heard i past asked is at (inl (e, told, same, f, g)) asks s =
     let p : Paths = paths_of root next in
     let after : b' ≡ board_after_start b (watched_of job Body next) (case_of job next p) answer =
     g ∙ sym (ap (board_after_start b (watched_of job Body next) (case_of job next p)) told) in
-    let P : Board → Type 0 = λ t. Stands plan base (Then T (Start i Body answer)) heard next' t in
+    let P : Board → Type 0 = λ t. Stands plan source root base (Then T (Start i Body answer)) heard next' t (past ++ asked) in
     let apart = start_apart leads source root job Body os next b answer os' next' b' (inl (e, told, same, f, g)) s.apart in
-    subst P (sym after) (body_stands plan base T heard next next' b job i p answer is at (f ∙ sym (following_last next e)) (omega arith) (subst (Apart next') after apart) s)
-start_stands leads source root job Body os next b answer os' next' b' plan base T heard i is at (inr (l, e, begun, after)) s =
-    let p : Paths = paths_of root next in
-    let P : Board → Type 0 = λ t. Stands plan base (Then T (Start i Body answer)) heard next' t in
+    subst P (sym after) (body_stands plan source root base T heard next next' b past job i answer asked is at (f ∙ sym (following_last next e)) (omega arith) (subst (Apart next') after apart)
+    (begun_at plan source root base T heard next b past job i Body answer asked is at asks s) s)
+start_stands leads source root job Body os next b answer os' next' b' plan base T heard i past asked is at (inr (l, e, begun, after)) asks s =
+    let P : Board → Type 0 = λ t. Stands plan source root base (Then T (Start i Body answer)) heard next' t (past ++ asked) in
     let apart = start_apart leads source root job Body os next b answer os' next' b' (inr (l, e, begun, after)) s.apart in
-    subst P (sym after) (body_stands plan base T heard next next' b job i p answer is at (e ∙ sym (following_more next l)) (omega arith) (subst (Apart next') after apart) s)
-start_stands leads source root job Cleanup os next b answer os' next' b' plan base T heard i is at (place, d, there, position, e, begun, after) s =
-    let P : Board → Type 0 = λ t. Stands plan base (Then T (Start i Cleanup answer)) heard next t in
-    let N : ℕ → Type 0 = λ t. Stands plan base (Then T (Start i Cleanup answer)) heard t b' in
+    subst P (sym after) (body_stands plan source root base T heard next next' b past job i answer asked is at (e ∙ sym (following_more next l)) (omega arith) (subst (Apart next') after apart)
+    (begun_at plan source root base T heard next b past job i Body answer asked is at asks s) s)
+start_stands leads source root job Cleanup os next b answer os' next' b' plan base T heard i past asked is at (place, d, there, position, e, begun, after) asks s =
+    let P : Board → Type 0 = λ t. Stands plan source root base (Then T (Start i Cleanup answer)) heard next t (past ++ asked) in
+    let N : ℕ → Type 0 = λ t. Stands plan source root base (Then T (Start i Cleanup answer)) heard t b' (past ++ asked) in
     let M : ℕ → Type 0 = λ t. Apart t b' in
     let apart : Apart next b' = subst M e (start_apart leads source root job Cleanup os next b answer os' next' b' (place, d, there, position, e, begun, after) s.apart) in
-    subst N (sym e) (subst P (sym after) (cleanup_stands plan base T heard next b job i place d answer is at there position (subst (Apart next) after apart) s))
+    subst N (sym e) (subst P (sym after) (cleanup_stands plan source root base T heard next b past job i place d answer asked is at there position (subst (Apart next) after apart)
+    (begun_at plan source root base T heard next b past job i Cleanup answer asked is at asks s) s))

@@ -18,7 +18,7 @@ use Rattle.kt_child.proofs.CasePlaces.{Every, at_none, at_some, every_push, left
 use Rattle.kt_child.proofs.NameCounts.{case_name, none_named, numbered, numbered_less, own_number}
 use Rattle.kt_child.proofs.NameSteps.{Apart, owed, wait_apart}
 use Rattle.kt_child.proofs.TraceEnds.{ends_so, heard_after, still_runs, unheard}
-use Rattle.kt_child.proofs.TraceFacts.{IsGone, OwedSo, RunsSo, Stands, cleaner, ended_kept}
+use Rattle.kt_child.proofs.TraceFacts.{IsGone, OwedSo, RunsSo, Stands, cleaner, past_kept}
 use Rattle.kt_child.proofs.WaitSilence.{wait_none}
 
 -- a number is below another, or not
@@ -75,23 +75,23 @@ gone_over next old new calls e place d apart apart' at ca pe =
     )
 
 -- what is owed after an end
-owed_wait : (base : ℕ) (T : Trace) (heard : Child → List Heard) (next : ℕ) (old new : Board) (calls : List Call) (e : Ended) (place : ℕ) (d : Case) → Apart next old
+owed_wait : (root : List ℕ) (base : ℕ) (T : Trace) (heard : Child → List Heard) (next : ℕ) (old new : Board) (calls : List Call) (e : Ended) (place : ℕ) (d : Case) → Apart next old
     → slice_get old.cases place ≡ Some d → Waited old calls e new
-    → OwedSo base T heard d ⊎ (is_over d ≡ true)
-    → Every (OwedSo base T heard) old.pending → (t : Bool) → is_over d ≡ t
-    → Every (OwedSo base (Then T (End e)) (heard_after heard calls)) (if t then old.pending else old.pending ++ d ∷ [])
-owed_wait base T heard next old new calls e place d apart at w given h t is = by t is
+    → OwedSo root base T heard d ⊎ (is_over d ≡ true)
+    → Every (OwedSo root base T heard) old.pending → (t : Bool) → is_over d ≡ t
+    → Every (OwedSo root base (Then T (End e)) (heard_after heard calls)) (if t then old.pending else old.pending ++ d ∷ [])
+owed_wait root base T heard next old new calls e place d apart at w given h t is = by t is
   where
-    before : Every (OwedSo base (Then T (End e)) (heard_after heard calls)) old.pending
+    before : Every (OwedSo root base (Then T (End e)) (heard_after heard calls)) old.pending
     before i c there =
         let r = h i c there in
         let m = apart.1 c.attempt in
         let most = m.0 in
         let one = at_some old.pending i c there in
         let none = none_named (cleaner c.attempt) old.children old.cases apart.0 (omega (arith, most, one)) in
-        (r.0, unheard heard (cleaner c.attempt) old new calls e none w ∙ r.1)
+        (r.0, unheard heard (cleaner c.attempt) old new calls e none w ∙ r.1, r.2)
 
-    last : OwedSo base T heard d ⊎ (is_over d ≡ true) → is_over d ≡ false → OwedSo base (Then T (End e)) (heard_after heard calls) d
+    last : OwedSo root base T heard d ⊎ (is_over d ≡ true) → is_over d ≡ false → OwedSo root base (Then T (End e)) (heard_after heard calls) d
     last (inr over) f = let no : ⊥ = cc in absurd no
     last (inl r) f =
         let m = apart.1 d.attempt in
@@ -99,27 +99,27 @@ owed_wait base T heard next old new calls e place d apart at w given h t is = by
         let body = is_body d d.role refl f in
         let other = ap (λ x. (d.attempt == d.attempt) && same_role x Cleanup) body ∙ and_false (d.attempt == d.attempt) in
         let none = other_absent place old.children old.cases d (cleaner d.attempt) apart.0 at (omega (arith, most)) refl other in
-        (r.0, unheard heard (cleaner d.attempt) old new calls e none w ∙ r.1)
+        (r.0, unheard heard (cleaner d.attempt) old new calls e none w ∙ r.1, r.2)
       where
         and_false : (a : Bool) → (a && false) ≡ false
         and_false true = refl
         and_false false = refl
 
-    by : (u : Bool) → is_over d ≡ u → Every (OwedSo base (Then T (End e)) (heard_after heard calls)) (if u then old.pending else old.pending ++ d ∷ [])
+    by : (u : Bool) → is_over d ≡ u → Every (OwedSo root base (Then T (End e)) (heard_after heard calls)) (if u then old.pending else old.pending ++ d ∷ [])
     by true f = before
-    by false f = every_push (OwedSo base (Then T (End e)) (heard_after heard calls)) old.pending d before (last given f)
+    by false f = every_push (OwedSo root base (Then T (End e)) (heard_after heard calls)) old.pending d before (last given f)
 
 -- what is known of the case of an end, if its cleanup is owed
-given_of : (plan : List Job) (base : ℕ) (T : Trace) (heard : Child → List Heard) (b : Board) (d : Case) → RunsSo plan base T heard b.children d
-    → (t : Bool) → is_over d ≡ t → OwedSo base T heard d ⊎ (is_over d ≡ true)
-given_of plan base T heard b d r true e = inr e
-given_of plan base T heard b d r false e = inl (r.0, r.1 (is_body d d.role refl e))
+given_of : (plan : List Job) (root : List ℕ) (base : ℕ) (T : Trace) (heard : Child → List Heard) (b : Board) (d : Case) → RunsSo plan root base T heard b.children d
+    → (t : Bool) → is_over d ≡ t → OwedSo root base T heard d ⊎ (is_over d ≡ true)
+given_of plan root base T heard b d r true e = inr e
+given_of plan root base T heard b d r false e = inl (r.0, r.1 (is_body d d.role refl e), ap (λ t. t.paths) r.2.3)
 
 -- a wait of a driver
-pub wait_stands : (plan : List Job) (base : ℕ) (T : Trace) (heard : Child → List Heard) (next : ℕ) (old new : Board) (calls : List Call) (e : Ended)
-    → IsPlan plan → Waited old calls e new → Stands plan base T heard next old
-    → Stands plan base (Then T (End e)) (heard_after heard calls) next new
-wait_stands plan base T heard next old new calls e is (polls, rest, place, outcome, after, d, eq, waited, at, leaves, ch, ca, pe) s =
+pub wait_stands : (plan : List Job) (source root : List ℕ) (base : ℕ) (T : Trace) (heard : Child → List Heard) (next : ℕ) (old new : Board) (past calls : List Call) (e : Ended)
+    → IsPlan plan → Waited old calls e new → Stands plan source root base T heard next old past
+    → Stands plan source root base (Then T (End e)) (heard_after heard calls) next new (past ++ calls)
+wait_stands plan source root base T heard next old new past calls e is (polls, rest, place, outcome, after, d, eq, waited, at, leaves, ch, ca, pe) s =
     let w : Waited old calls e new = (polls, rest, place, outcome, after, d, eq, waited, at, leaves, ch, ca, pe) in
     let a = s.apart in
     let apart' = wait_apart old new calls e next w a in
@@ -129,23 +129,26 @@ wait_stands plan base T heard next old new calls e is (polls, rest, place, outco
     let most = m.0 in
     let none : numbered d.attempt (remove old.cases place) ≡ 0 = omega (arith, less, one, most) in
     let r = s.run place d at in
-    let P : List Case → Type 0 = λ t. Every (RunsSo plan base (Then T (End e)) (heard_after heard calls) new.children) t in
-    let Q : List Case → Type 0 = λ t. Every (OwedSo base (Then T (End e)) (heard_after heard calls)) t in
+    let P : List Case → Type 0 = λ t. Every (RunsSo plan root base (Then T (End e)) (heard_after heard calls) new.children) t in
+    let Q : List Case → Type 0 = λ t. Every (OwedSo root base (Then T (End e)) (heard_after heard calls)) t in
     record {
       counted = s.counted;
       apart = apart';
       run = subst P (sym ca) (λ i c there.
           let k = left_at old.cases place i c there in
-          still_runs plan base T heard next old new calls polls rest place outcome after d e a at eq waited leaves ch w k.0 c k.1
+          still_runs plan root base T heard next old new calls polls rest place outcome after d e a at eq waited leaves ch w k.0 c k.1
           (at_none d.attempt (remove old.cases place) none i c there) (s.run k.0 c k.1));
-      owed = subst Q (sym pe) (owed_wait base T heard next old new calls e place d a at w (given_of plan base T heard old d r (is_over d) refl) s.owed (is_over d) refl);
+      owed = subst Q (sym pe) (owed_wait root base T heard next old new calls e place d a at w (given_of plan root base T heard old d r (is_over d) refl) s.owed (is_over d) refl);
       unborn = λ n role le.
           let u = a.1 n in
           unheard heard (record { attempt = n; role = role }) old new calls e (none_named (record { attempt = n; role = role }) old.children old.cases a.0 (let z = u.1 le in omega (arith, z))) w
           ∙ s.unborn n role le;
-      ended = (
-        ended_kept plan base heard (heard_after heard calls) next next old new T (λ c g. (unheard heard c old new calls e g.1 w, gone_wait next old new calls e w c g)) s.ended,
-        ends_so plan base T heard next old new calls polls rest place outcome after d e is a at eq waited leaves ch
+      each = (
+        past,
+        calls,
+        refl,
+        past_kept plan source root base heard (heard_after heard calls) next next old new T past (λ c g. (unheard heard c old new calls e g.1 w, gone_wait next old new calls e w c g)) s.each,
+        ends_so plan source root base T heard next old new calls polls rest place outcome after d e is a at eq waited leaves ch
             (gone_over next old new calls e place d a apart' at ca pe) leaves.8 leaves.9 r,
       );
     }

@@ -1,10 +1,12 @@
 -- Turns where one child runs at a time.
-use Rattle.std.proofs.Common.{◌≡◌, ℕ, zero, suc, List, [], ◌∷◌, ◌++◌, take, drop, refl, sym, ◌∙◌, ap, subst, inl, inr}
+use Rattle.std.proofs.Common.{◌≡◌, ℕ, zero, suc, ◌+◌, ◌==◌, Bool, true, false, if◌then◌else◌, List, [], ◌∷◌, ◌++◌, take, drop, refl, sym, ◌∙◌, ap, subst, arith, inl, inr}
 use Rattle.kt_base.specs.declared.outcome.Outcome.{Outcome}
 use Rattle.kt_child.specs.declared.watched.Watched.{Watched}
+use Rattle.kt_child.specs.declared.open_turn.OpenTurn.{OpenTurn}
 use Rattle.kt_child.specs.Calls.{Call}
 use Rattle.kt_child.specs.Turns.{PolledUntil, WaitedUntil}
-use Rattle.kt_child.specs.Width.{PlainLoop}
+use Rattle.kt_child.specs.Waits.{going_on}
+use Rattle.kt_child.specs.Width.{NoneLeft, PlainLoop}
 
 -- no child is over in an empty row
 none_over : (i : ℕ) (calls : List Call) (outcome : Outcome) → PolledUntil [] i calls outcome → ⊥
@@ -25,3 +27,22 @@ plain_loop from over children calls place outcome after turn (inr (rest, more, t
     let Q : List Call → Type 0 = λ t. WaitedUntil turns children t place outcome in
     let f : calls ≡ more = e ∙ ap (λ t. t ++ more) polled in
     (turns, members, subst Q (sym f) (subst P (take_drop from children) waited), n, turned)
+
+-- one of two turns without members
+of_two : (t : Bool) (a b : OpenTurn) → a.unpolled ≡ 0 → b.unpolled ≡ 0 → (if t then a else b).unpolled ≡ 0
+of_two true a b f g = f
+of_two false a b f g = g
+
+-- a turn goes on without members
+going_none : (over place members : ℕ) → members ≡ 0 → (going_on over place members).unpolled ≡ 0
+going_none over place members z =
+    let a : OpenTurn = record { from = place; unpolled = 0; over = 0 } in
+    let b : OpenTurn = record { from = place; unpolled = members; over = over } in
+    of_two (over == 8) a b refl z
+
+-- the law of an only child
+pub none_left : NoneLeft
+none_left turn children calls place outcome after turn' one le (inl (i, members, until, at, same, n, turned)) =
+    ap (λ t. t.unpolled) turned ∙ going_none (turn.over + 1) place members (omega (arith, n, le))
+none_left turn children calls place outcome after turn' one le (inr (rest, more, turns, members, e, polled, waited, same, n, turned)) =
+    ap (λ t. t.unpolled) turned ∙ going_none 1 place members (omega (arith, n, one))

@@ -11,7 +11,7 @@ use Rattle.kt_child.specs.declared.want.Want.TheVariants as want
 use Rattle.kt_child.specs.declared.spawning.Spawning.{Spawning}
 use Rattle.kt_child.specs.declared.watched.Watched.{Watched}
 use Rattle.kt_child.specs.declared.case.Case.{Case}
-use Rattle.kt_child.specs.ChildPlan.{env_of, words_of}
+use Rattle.kt_child.specs.ChildPlan.{env_of, paths_of, words_of}
 use Rattle.kt_child.specs.ChildOutcome.{fresh}
 use Rattle.kt_child.specs.Ends.{err_of, out_of}
 
@@ -60,3 +60,8 @@ case_of job attempt paths =
 abbrev pub cleaning : Case → Job → Case
 cleaning c job =
     record { position = c.position; attempt = c.attempt; role = Cleanup; interface = job.interface; cleanup = job.cleanup; paths = c.paths }
+
+-- the case of a job's child, in the directory of its body's start with this number
+abbrev pub case_in : List ℕ → Job → Role → ℕ → Case
+case_in root job role number =
+    record { position = job.position; attempt = number; role = role; interface = job.interface; cleanup = job.cleanup; paths = paths_of root number }

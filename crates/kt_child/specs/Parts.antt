@@ -1,5 +1,5 @@
 -- A file that is read in parts.
-use Rattle.std.specs.Prelude.{◌≡◌, ℕ, zero, suc, ◌+◌, ◌-◌, min, List, [], ◌∷◌, ◌++◌, length, true, false, Result, Ok, Err, ◌⊎◌, leb, if◌then◌else◌}
+use Rattle.std.specs.Prelude.{◌≡◌, ℕ, zero, suc, ◌+◌, ◌-◌, ◌<◌, ◌==◌, min, List, [], ◌∷◌, ◌++◌, length, true, false, Result, Ok, Err, ◌⊎◌, leb, if◌then◌else◌}
 use Rattle.kt_child.specs.declared.os_fault.OsFault.{OsFault}
 use Rattle.kt_child.specs.declared.file_read.FileRead.{FileRead}
 use Rattle.kt_child.specs.declared.file_read.FileRead.TheVariants.{Missing as NoFile, Part}
@@ -23,16 +23,18 @@ next_part path part limit got answer = ReadPart path got (min part (limit - got)
 
 -- what a part makes of a file of which so many bytes were read
 abbrev pub next_of : ℕ → ℕ → FileRead → NextPart
-next_of limit zero NoFile = Absent
-next_of limit (suc got) NoFile = Failed
+next_of limit got NoFile = if got == 0 then Absent else Failed
 next_of limit got (Part bytes false) = All
 next_of limit got (Part [] true) = Failed
 next_of limit got (Part (b ∷ bytes) true) = if leb limit (got + length (b ∷ bytes)) then Past else More
 
--- Any part that can't be kept for want of memory counts as a failed read.
+-- What follows an answer. A part that has bytes counts as a failed read where there is no memory to keep them; nothing
+-- else takes memory.
 abbrev pub IsNext : ℕ → ℕ → Result FileRead OsFault → NextPart → Type 0
 IsNext limit got (Err fault) next = next ≡ Failed
-IsNext limit got (Ok read) next = (next ≡ Failed) ⊎ (next ≡ next_of limit got read)
+IsNext limit got (Ok NoFile) next = next ≡ next_of limit got NoFile
+IsNext limit got (Ok (Part bytes follows)) next =
+    ((0 < length bytes) × (next ≡ Failed)) ⊎ (next ≡ next_of limit got (Part bytes follows))
 
 -- The rest of a reading of this many parts, after these bytes: its questions, and the result.
 abbrev pub After : NextPart → List ℕ → Call → List Call → Whole → (List Call → Type 0) → Type 0

@@ -1,18 +1,22 @@
--- What the children of a driver answer over a whole trace.
-use Rattle.std.specs.Prelude.{◌≡◌, ℕ, ◌+◌, ◌-◌, ◌^◌, ◌==◌, ◌⊎◌, List, Some, slice_get, if◌then◌else◌, ⊤}
+-- What is asked over a whole trace of a driver, answer by answer, and what its children answer.
+use Rattle.std.specs.Prelude.{◌≡◌, ℕ, ◌+◌, ◌-◌, ◌^◌, ◌==◌, ◌⊎◌, List, [], ◌++◌, Some, slice_get, if◌then◌else◌}
 use Rattle.kt_base.specs.declared.role.Role.{Role}
 use Rattle.kt_base.specs.declared.role.Role.TheVariants.{Body, Cleanup}
+use Rattle.kt_base.specs.declared.refused.Refused.TheVariants.{Directory}
 use Rattle.kt_sched.specs.declared.job.Job.{Job}
 use Rattle.kt_sched.specs.declared.start_answer.StartAnswer.{StartAnswer}
 use Rattle.kt_sched.specs.declared.start_answer.StartAnswer.TheVariants.{Started, Refused}
 use Rattle.kt_sched.specs.declared.ended.Ended.{Ended}
 use Rattle.kt_sched.specs.Plan.{IsPlan}
 use Rattle.kt_sched.specs.Trace.{Trace, NoEvent, Then, Event, Start, End, Leads}
-use Rattle.kt_sched.specs.ScheduleRules.{Each}
+use Rattle.kt_child.specs.declared.case.Case.{Case}
+use Rattle.kt_child.specs.Begins.{BegunBody, BegunCleanup}
 use Rattle.kt_child.specs.Board.{Board}
 use Rattle.kt_child.specs.Calls.{Call, Chain}
 use Rattle.kt_child.specs.ChildOutcome.{Told}
-use Rattle.kt_child.specs.JobPlan.{limit_of}
+use Rattle.kt_child.specs.ChildPlan.{attempt_dir, paths_of}
+use Rattle.kt_child.specs.Ends.{Leaves}
+use Rattle.kt_child.specs.JobPlan.{case_in, limit_of, spawning_of}
 use Rattle.kt_child.specs.Lives.{heard_by}
 use Rattle.kt_child.specs.Numbers.{IsBare}
 
@@ -35,23 +39,56 @@ IsNumberOf next (Then T (Start k Body (Refused cause))) i n = IsNumberOf next T 
 IsNumberOf next (Then T (Start k Cleanup answer)) i n = IsNumberOf next T i n
 IsNumberOf next (Then T (End ended)) i n = IsNumberOf next T i n
 
+-- these calls are those of the answers, one after the other, and this holds of each answer with its own calls
+abbrev pub EachWith : (List Call → Trace → Event → Type 0) → Trace → List Call → Type 0
+EachWith P NoEvent calls = calls ≡ []
+EachWith P (Then T event) calls =
+    (before : List Call) × (asked : List Call) × (calls ≡ before ++ asked) × EachWith P T before × P asked T event
+
+-- a body is started in the directory of the number that it takes; with the last number nothing is asked
+abbrev pub BodyAsks : List ℕ → List ℕ → Job → ℕ → List Call → StartAnswer → Type 0
+BodyAsks source root job number asked answer =
+    ((number ≡ 2 ^ 64 - 1) × (asked ≡ []) × (answer ≡ Refused Directory))
+    ⊎ BegunBody (spawning_of source job Body number (paths_of root number)) (attempt_dir root number) asked answer
+
+-- a cleanup is started in the directory of its body's number
+abbrev pub CleanupAsks : List ℕ → List ℕ → Job → ℕ → List Call → StartAnswer → Type 0
+CleanupAsks source root job number asked answer =
+    BegunCleanup (spawning_of source job Cleanup number (paths_of root number)) (attempt_dir root number) asked answer
+
+-- what a start asks for its case: a body takes the next number, a cleanup has that of its body
+abbrev pub BegunAt : List Job → List ℕ → List ℕ → ℕ → List Call → Trace → ℕ → Role → StartAnswer → Type 0
+BegunAt plan source root next asked T i Body answer =
+    (job : Job) × (slice_get plan i ≡ Some job) × BodyAsks source root job (next_after next T) asked answer
+BegunAt plan source root next asked T i Cleanup answer =
+    (job : Job) × (number : ℕ) × (slice_get plan i ≡ Some job) × IsNumberOf next T i number
+    × CleanupAsks source root job number asked answer
+
+-- the last of these calls are those that follow the last poll of this case's child, and they tell its end
+abbrev pub LeavesAtLast : Case → List Call → Ended → Type 0
+LeavesAtLast c asked ended =
+    (polls : List Call) × (leaving : List Call) × (asked ≡ polls ++ leaving) × Leaves c leaving ended.outcome ended
+
 -- An end is that of a child of this case: of all these calls its own polls and kills are one life, and its outcome is
--- the row of the outcome table that they are, for its limit.
-pub record IsTold (plan : List Job) (next : ℕ) (calls : List Call) (T : Trace) (ended : Ended) : Type 0 where
+-- the row of the outcome table that they are, for its limit. The wait that tells it asks at last for the moment, the
+-- evidence, the outputs and, where the case is over, the removal, all in the directory of its body's number.
+pub record IsTold (plan : List Job) (root : List ℕ) (next : ℕ) (calls asked : List Call) (T : Trace) (ended : Ended) : Type 0 where
   pub number : ℕ
   pub numbered : IsNumberOf next T ended.position number
   pub job : Job
   pub place : slice_get plan ended.position ≡ Some job
   pub told : Told (limit_of job ended.role) (heard_by (record { attempt = number; role = ended.role }) calls) ended.outcome
+  pub left : LeavesAtLast (case_in root job ended.role number) asked ended
 
--- each end is told by the calls
-abbrev pub ToldAt : List Job → ℕ → List Call → Trace → Event → Type 0
-ToldAt plan next calls T (Start i role answer) = ⊤
-ToldAt plan next calls T (End ended) = IsTold plan next calls T ended
+-- of all these calls an answer has its own: a start is asked by them, an end is told
+abbrev pub ToldAt : List Job → List ℕ → List ℕ → ℕ → List Call → List Call → Trace → Event → Type 0
+ToldAt plan source root next calls asked T (Start i role answer) = BegunAt plan source root next asked T i role answer
+ToldAt plan source root next calls asked T (End ended) = IsTold plan root next calls asked T ended
 
--- whatever is started and waited for from a bare row on, the calls that are asked of the system tell each end
-abbrev pub EndsAreTold : {D O : Type 0} → (O → Call → O → Type 0) → (D → O) → (D → ℕ) → (D → Board) → (D → Job → Role → StartAnswer → D → Type 0) → (D → Ended → D → Type 0) → Type 0
-EndsAreTold {D} leads os next row starts waits =
+-- whatever is started and waited for from a bare row on, the calls that are asked of the system are those of the
+-- answers, and tell each end
+abbrev pub EndsAreTold : {D O : Type 0} → (O → Call → O → Type 0) → (D → O) → (D → List ℕ) → (D → List ℕ) → (D → ℕ) → (D → Board) → (D → Job → Role → StartAnswer → D → Type 0) → (D → Ended → D → Type 0) → Type 0
+EndsAreTold {D} leads os source root next row starts waits =
     (plan : List Job) (T : Trace) (d e : D)
     → IsPlan plan → IsBare (row d) → Leads starts waits plan T d e
-    → (calls : List Call) × Chain leads (os d) calls (os e) × Each (ToldAt plan (next d) calls) T
+    → (calls : List Call) × Chain leads (os d) calls (os e) × EachWith (ToldAt plan (source d) (root d) (next d) calls) T calls

@@ -74,7 +74,7 @@ pub use polls::poll_once;
 pub use reads::{read_kept, read_list};
 pub use roots::find_root;
 pub use row::Row;
-pub use run::{law_of_names, law_of_numbers, law_of_traces, run_driver};
+pub use run::{law_of_lone_children, law_of_names, law_of_numbers, law_of_traces, run_driver};
 pub use several::law_of_several_children;
 pub use spawning::Spawning;
 pub use starts::{start_body, start_cleanup};

@@ -1,24 +1,26 @@
-ghost use Rattle.std.specs.Prelude.{◌≡◌, ℕ, ◌+◌, ◌<◌, List, [], Result, length, Ok, true};
+ghost use Rattle.std.specs.Prelude.{◌≡◌, ℕ, ◌+◌, ◌<◌, List, [], Result, length, Ok, OnOk, OnErr};
 ghost use Rattle.kt_child.specs.declared.file_read.FileRead.{FileRead};
 ghost use Rattle.kt_child.specs.declared.os_fault.OsFault.{OsFault};
 ghost use Rattle.kt_child.specs.Calls.{Call, Chain};
 ghost use Rattle.kt_child.specs.Reads.{bytes_of};
-ghost use Rattle.kt_child.specs.Parts.{IsNext, Reads, Takes, Tells, Whole, next_part};
+ghost use Rattle.kt_child.specs.Parts.{IsNext, Reads, Takes, Tells, Whole, next_of, next_part};
 
 use crate::file_read::FileRead;
 use crate::next_part::NextPart;
 use crate::os::Os;
 use crate::part_reader::PartReader;
 use crate::read_end::ReadEnd;
-use kt_base::{Bytes, Text};
+use kt_base::{Bytes, NoMemory, Text};
 
-/// What follows a part behind which more bytes follow.
-fn count_part(got: &mut u64, bytes: &Bytes, limit: u64) -> NextPart
+/// What follows a part that was kept.
+fn count_part(got: &mut u64, bytes: &Bytes, follows: bool, limit: u64) -> NextPart
     requires { got.old < limit }
-    ensures next { IsNext limit got.old (Ok (FileRead.Part bytes.now true)) result }
-    ensures all { result ≡ NextPart.All → ⊥ }
+    ensures next { result ≡ next_of limit got.old (FileRead.Part bytes.now follows) }
     ensures more { result ≡ NextPart.More → (got.new ≡ got.old + length bytes.now) × (got.old < got.new) × (got.new < limit) }
 {
+    if !follows {
+        return NextPart::All;
+    }
     if bytes.is_empty() {
         return NextPart::Failed;
     }
@@ -28,6 +30,18 @@ fn count_part(got: &mut u64, bytes: &Bytes, limit: u64) -> NextPart
     }
     *got += count;
     NextPart::More
+}
+
+/// Hands bytes to the reader. Where there are none it is left as it is, which takes no memory.
+fn hand<R: PartReader>(reader: &mut R, bytes: &Bytes) -> Result<(), NoMemory>
+    ensures ok { OnOk result (Takes R.has_taken reader.old reader.new bytes.now) }
+    ensures err { OnErr result (0 < length bytes.now) }
+{
+    if bytes.is_empty() {
+        return Ok(());
+    }
+    reader.take(bytes.as_slice())?;
+    Ok(())
 }
 
 /// Hands the bytes of a part to the reader.
@@ -44,13 +58,10 @@ fn take_part<R: PartReader>(
     ensures taken { result ≡ NextPart.More → Takes R.has_taken reader.old reader.new bytes.now }
     ensures more { result ≡ NextPart.More → (got.new ≡ got.old + length bytes.now) × (got.old < got.new) × (got.new < limit) }
 {
-    if reader.take(bytes.as_slice()).is_err() {
-        return NextPart::Failed;
+    match hand(reader, bytes) {
+        Err(_) => NextPart::Failed,
+        Ok(()) => count_part(got, bytes, follows, limit),
     }
-    if !follows {
-        return NextPart::All;
-    }
-    count_part(got, bytes, limit)
 }
 
 fn take<R: PartReader>(reader: &mut R, got: &mut u64, read: FileRead, limit: u64) -> NextPart

@@ -2,14 +2,14 @@ ghost use Rattle.std.specs.Prelude.{◌≡◌, List};
 ghost use Rattle.kt_sched.specs.Children.{IsIdle};
 ghost use Rattle.kt_sched.specs.Plan.{IsPlan, IsWidth};
 ghost use Rattle.kt_sched.specs.Run.{Ran};
-ghost use Rattle.kt_sched.specs.ScheduleRules.{Each};
 ghost use Rattle.kt_sched.specs.Trace.{Trace, Leads};
 ghost use Rattle.kt_child.specs.Calls.{Call, Chain};
 ghost use Rattle.kt_child.specs.Board.{Waited, is_among, shown_at};
 ghost use Rattle.kt_child.specs.Launches.{StartsBy};
 ghost use Rattle.kt_child.specs.Lists.{ListsBy};
 ghost use Rattle.kt_child.specs.Numbers.{AttemptsDiffer, NamesDiffer, NumbersDiffer, Serves};
-ghost use Rattle.kt_child.specs.TraceLives.{EndsAreTold, ToldAt};
+ghost use Rattle.kt_child.specs.TraceLives.{EachWith, EndsAreTold, ToldAt};
+ghost use Rattle.kt_child.specs.Width.{AloneIsPlain};
 ghost use Rattle.kt_child.specs.declared.driver.Driver.{Driver};
 
 use crate::driver::Driver;
@@ -41,7 +41,7 @@ pub fn run_driver<O: Os + Drop, S: Sink>(
         (λ d ended e. ((calls : List Call) × Chain O.leads d.os calls e.os × Waited d.row calls ended e.row)
         × (e.source ≡ d.source) × (e.root ≡ d.root) × (e.next ≡ d.next))
         plan T driver.old driver.new
-        → (calls : List Call) × Chain O.leads driver.old.os calls driver.new.os × Each (ToldAt plan driver.old.next calls) T }
+        → (calls : List Call) × Chain O.leads driver.old.os calls driver.new.os × EachWith (ToldAt plan driver.old.source driver.old.root driver.old.next calls) T calls }
 {
     driver.row.paired();
     run_cases(alloc, plan, width, driver, sink)
@@ -73,9 +73,20 @@ pub fn law_of_names<O: Os + Drop>()
 {}
 
 /// The law of traces: from a bare row on, the polls and kills of each child, of all that is asked of the system, are one
-/// life, and its end has the outcome that the outcome table tells of them.
+/// life, and its end has the outcome that the outcome table tells of them. Each start and each end has its own calls in
+/// the directory of its body's number: the start, what is read behind the last poll, and the removal.
 pub fn law_of_traces<O: Os + Drop>()
-    ensures { EndsAreTold {D = Driver O} O.leads (λ d. d.os) (λ d. d.next) (λ d. d.row)
+    ensures { EndsAreTold {D = Driver O} O.leads (λ d. d.os) (λ d. d.source) (λ d. d.root) (λ d. d.next) (λ d. d.row)
+        (λ d job role answer e. StartsBy O.leads d.source d.root job role d.os d.next d.row answer e.os e.next e.row
+        × (e.source ≡ d.source) × (e.root ≡ d.root))
+        (λ d ended e. ((calls : List Call) × Chain O.leads d.os calls e.os × Waited d.row calls ended e.row)
+        × (e.source ≡ d.source) × (e.root ≡ d.root) × (e.next ≡ d.next)) }
+{}
+
+/// The law of lone children: from an empty row on, where each wait is for an only child no member is ever left of a
+/// turn, so that each wait is the plain loop of `law_of_one_child`.
+pub fn law_of_lone_children<O: Os + Drop>()
+    ensures { AloneIsPlain {D = Driver O} (λ d. d.row)
         (λ d job role answer e. StartsBy O.leads d.source d.root job role d.os d.next d.row answer e.os e.next e.row
         × (e.source ≡ d.source) × (e.root ≡ d.root))
         (λ d ended e. ((calls : List Call) × Chain O.leads d.os calls e.os × Waited d.row calls ended e.row)

@@ -146,6 +146,28 @@ fn a_result_file_is_read_in_parts(rt: HostRuntime) -> Result<(), Fail> {
 }
 
 #[test]
+fn a_body_without_its_result_file_ended_too_early(rt: HostRuntime) -> Result<(), Fail> {
+    let alloc = rt.alloc();
+    for (status, entry) in [
+        (
+            Polled::Exited(0),
+            "0 broken Premature exit; test case exited with code 0\n",
+        ),
+        (
+            Polled::Signaled(6, true),
+            "0 broken Premature exit; test case received signal 6 (core dumped)\n",
+        ),
+    ] {
+        let lives = [(1, status)];
+        let (log, entries) = play(&rt, alloc, Scene::of(&lives, &[]), b"a", 1)?;
+        assert_eq!(rt; entries.as_str(), entry);
+        // The file was looked for once.
+        assert_eq!(rt; count_of(&log, 'a'), 1);
+    }
+    Ok(())
+}
+
+#[test]
 fn evidence_is_that_of_the_interface(rt: HostRuntime) -> Result<(), Fail> {
     let alloc = rt.alloc();
     let files: [(&str, &[u8]); 2] = [
