@@ -14,4 +14,6 @@ pub mod Testings
 pub mod Plays
 pub mod Sequencing
 pub mod Hosting
+pub mod PathStarts
+pub mod Refusing
 pub mod HostCommands

@@ -1,8 +1,8 @@
-ghost use Rattle.std.specs.Prelude.{◌≡◌, IfOk, OnErr};
+ghost use Rattle.std.specs.Prelude.{◌≡◌, Some, IfOk, IfErr, OnErr};
 ghost use Rattle.std.specs.Str.{chars};
 ghost use Rattle.kt_sched.specs.Children.{IsIdle};
 ghost use Rattle.kt_child.specs.Board.{is_among, shown_at};
-ghost use Rattle.kt_cli.specs.Hosts.{IsStill, IsMade, OnDriver, DidOnHost};
+ghost use Rattle.kt_cli.specs.Hosts.{IsStill, IsMade, NoRoot, OnDriver, NoDriver, DidOnHost};
 ghost use Rattle.kt_cli.specs.Meaning.{Did};
 
 use crate::command::Command;
@@ -10,7 +10,7 @@ use crate::command_line::CommandLine;
 use crate::execution::execute;
 use crate::exit::Exit;
 use crate::host_world::HostWorld;
-use crate::place::source_of;
+use crate::place::{is_absolute, source_of};
 use crate::reporting::{report, report_junit};
 use crate::result_store::ResultStore;
 use kt_base::Text;
@@ -32,8 +32,9 @@ fn driver_of<O: Os + Drop>(
 ) -> Result<Driver<O>, DriverFault>
     ensures made { IfOk result (λ driver. IsMade O.leads os (chars here.now) work.now kyuafile.now driver) }
     ensures idle { IfOk result (λ driver. IsIdle (shown_at driver.row.cases) (is_among driver.row.pending)) }
+    ensures refused { IfErr result (λ e. NoRoot O.leads os (Some work.now) e) }
 {
-    if !work.as_str().starts_with('/') {
+    if !is_absolute(work) {
         return Err(DriverFault::NoWorkDirectory);
     }
     let Ok(source) = source_of(alloc, here, kyuafile) else {
@@ -80,6 +81,7 @@ fn execute_over_files<
     out: &mut W,
 ) -> Result<Exit, DriverFault>
     ensures did { IfOk result (λ exit. OnDriver O.leads os (chars here.now) line.now.work kyuafile.now S.stands S.sound S.leaves line.now.command results.old results.new (W.contents out.old) (W.contents out.new) exit.status) }
+    ensures refused { IfErr result (λ e. NoRoot O.leads os line.now.work e) }
     ensures unasked { OnErr result ((results.new ≡ results.old) × (W.contents out.new ≡ W.contents out.old)) }
 {
     let Some(work) = &line.work else {
@@ -88,14 +90,18 @@ fn execute_over_files<
     let Ok((directory, _)) = split_path(rt.alloc(), kyuafile) else {
         return Err(DriverFault::NoMemory);
     };
-    let driver = driver_of(rt.alloc(), os, here, work, kyuafile)?;
+    let driver = match driver_of(rt.alloc(), os, here, work, kyuafile) {
+        Ok(driver) => driver,
+        Err(fault) => return Err(fault),
+    };
     let (exit, driver) = execute_over(rt, directory, driver, &line.command, results, out);
+    // The root directory goes, whatever was done.
     let _ = driver.close();
     Ok(exit)
 }
 
 /// Does a command line over the host's files, this system and a store of runs. `here` is the absolute working directory.
-/// Where no root directory can be made, nothing is written; a report needs none.
+/// Where no root directory can be made, nothing is written; a report needs none and is never refused.
 pub fn execute_on_host<
     R: Files<File = File> + Clock + AllocGlobal,
     O: Os + Drop,
@@ -110,6 +116,7 @@ pub fn execute_on_host<
     out: &mut W,
 ) -> Result<Exit, DriverFault>
     ensures did { IfOk result (λ exit. DidOnHost O.leads os (chars here.now) line.now.work S.stands S.sound S.leaves line.now.command results.old results.new (W.contents out.old) (W.contents out.new) exit.status) }
+    ensures refused { IfErr result (λ e. NoDriver O.leads os line.now.work line.now.command e) }
     ensures unasked { OnErr result ((results.new ≡ results.old) × (W.contents out.new ≡ W.contents out.old)) }
 {
     match &line.command {
