@@ -1,4 +1,5 @@
--- What a command does over the host: a driver that is made for it, and files and a clock of which nothing is known.
+-- What a command does over the host: a driver that is made for it, files of which no more than their front is read, and a clock of
+-- which nothing is known.
 use Rattle.std.specs.Prelude.{ℕ, Bool, false, List, ◌≡◌, Option, Some, None, Ok, Err}
 use Rattle.kt_base.specs.declared.role.Role.{Role}
 use Rattle.kt_base.specs.declared.run.Run.{Run}
@@ -15,10 +16,11 @@ use Rattle.kt_child.specs.Roots.{FindsRoot}
 use Rattle.kt_cli.specs.declared.command.Command.{Command}
 use Rattle.kt_cli.specs.declared.command.Command.TheVariants as command
 use Rattle.kt_cli.specs.Commands.{kyuafile_of}
+use Rattle.kt_cli.specs.HostFiles.{IsLook}
 use Rattle.kt_cli.specs.Meaning.{Did}
 use Rattle.kt_cli.specs.Places.{is_absolute, source_directory}
 
--- a question that leaves a launcher as it is, whatever was answered
+-- a question to the clock leaves a launcher as it is, whatever was answered
 abbrev pub IsStill : {L Q : Type 0} → L → Q → L → Type 0
 IsStill old question new = new ≡ old
 
@@ -38,7 +40,7 @@ pub record OnDriver {O R : Type 0} (leads : O → Call → O → Type 0) (os : O
   pub old : Driver O
   pub new : Driver O
   pub made : IsMade leads os here base kyuafile old
-  pub did : Did IsStill IsStill
+  pub did : Did IsLook IsStill
       (λ (d : Driver O) (job : Job) (role : Role) (answer : StartAnswer) (e : Driver O). StartsBy leads d.source d.root job role d.os d.next d.row answer e.os e.next e.row × (e.source ≡ d.source) × (e.root ≡ d.root))
       (λ (d : Driver O) (ended : Ended) (e : Driver O). ((calls : List Call) × Chain leads d.os calls e.os × Waited d.row calls ended e.row) × (e.source ≡ d.source) × (e.root ≡ d.root) × (e.next ≡ d.next))
       Stands Sound Leaves c old new store after was now exit
@@ -62,7 +64,7 @@ pub record NoDriver {O : Type 0} (leads : O → Call → O → Type 0) (os : O) 
 -- a command was done that starts nothing
 abbrev pub DidAlone : {R : Type 0} → (R → List Run → Type 0) → (R → Type 0) → (R → List (List Run) → Type 0) → Command → R → R → Option (List ℕ) → Option (List ℕ) → ℕ → Type 0
 DidAlone Stands Sound Leaves c store after was now exit =
-    Did {W = Unit {0}} IsStill IsStill (λ s job role answer t. ⊥) (λ s ended t. ⊥) Stands Sound Leaves c tt tt store after was now exit
+    Did {W = Unit {0}} IsLook IsStill (λ s job role answer t. ⊥) (λ s ended t. ⊥) Stands Sound Leaves c tt tt store after was now exit
 
 -- what a command line did: one that reads a Kyuafile has a driver over the system
 abbrev pub DidOnHost : {O R : Type 0} → (O → Call → O → Type 0) → O → List ℕ → Option (List ℕ) → (R → List Run → Type 0) → (R → Type 0) → (R → List (List Run) → Type 0) → Command → R → R → Option (List ℕ) → Option (List ℕ) → ℕ → Type 0

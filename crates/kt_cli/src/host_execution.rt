@@ -2,6 +2,7 @@ ghost use Rattle.std.specs.Prelude.{◌≡◌, Some, IfOk, IfErr, OnErr};
 ghost use Rattle.std.specs.Str.{chars};
 ghost use Rattle.kt_sched.specs.Children.{IsIdle};
 ghost use Rattle.kt_child.specs.Board.{is_among, shown_at};
+ghost use Rattle.kt_cli.specs.HostFiles.{IsLook};
 ghost use Rattle.kt_cli.specs.Hosts.{IsStill, IsMade, NoRoot, OnDriver, NoDriver, DidOnHost};
 ghost use Rattle.kt_cli.specs.Meaning.{Did};
 
@@ -56,7 +57,7 @@ fn execute_over<R: Files<File = File> + Clock + AllocGlobal, L: Launcher, S: Res
     out: &mut W,
 ) -> (Exit, L)
     requires { IsIdle (L.running launcher) (L.pending launcher) }
-    ensures did { Did IsStill IsStill L.starts L.waits S.stands S.sound S.leaves command.now launcher result.1 results.old results.new (W.contents out.old) (W.contents out.new) result.0.status }
+    ensures did { Did IsLook IsStill L.starts L.waits S.stands S.sound S.leaves command.now launcher result.1 results.old results.new (W.contents out.old) (W.contents out.new) result.0.status }
     ensures idle { IsIdle (L.running result.1) (L.pending result.1) }
 {
     let mut world = HostWorld::new(rt, directory, launcher);
