@@ -13,5 +13,8 @@ pub mod ShownRuns
 pub mod Testings
 pub mod Plays
 pub mod Sequencing
+pub mod HostReads
 pub mod Hosting
+pub mod PathStarts
+pub mod Refusing
 pub mod HostCommands

@@ -23,7 +23,7 @@ use Rattle.kt_cli.specs.declared.not_shown.NotShown.{NotShown}
 use Rattle.kt_cli.specs.declared.not_shown.NotShown.TheVariants.{NoRuns, NoRun, Refused}
 use Rattle.kt_cli.specs.FaultLines.{memory_line}
 use Rattle.kt_cli.specs.Pages.{Says}
-use Rattle.kt_cli.specs.Reports.{chosen, Reported, told, no_run, ReportedJunit, told as told_junit, no_run as no_junit, ReportCut, unread, cut}
+use Rattle.kt_cli.specs.Reports.{chosen, Reported, told, no_run, ReportedJunit, told as told_junit, no_run as no_junit, Unread, unread, JunitCut, cut}
 use Rattle.kt_cli.specs.Shown.{IsMissing, IsNotShown, not_shown_line}
 use Rattle.kt_cli.specs.Stores.{Deed, Moves, Left}
 use Rattle.kt_cli.proofs.Numbered.{number_at}
@@ -97,34 +97,35 @@ module _ {R : Type 0} (Stands : R → List Run → Type 0) (Sound : R → Type 0
   }
 
   pub left_told : (number : Option ℕ) (kinds : List Kind) (run : Run) (f : Bool) → (Sound new → chosen number runs ≡ Some run) → ((date : Date) × IsDateOf run.started date × Shows was now f (text_bytes date kinds run)) → exit ≡ (if f then 2 else 0)
-      → Left Stands Sound Leaves runs old new was now exit (λ deed. Reported number kinds runs deed ⊎ ReportCut runs deed)
-  left_told number kinds run f c d e = left_by (λ deed. Reported number kinds runs deed ⊎ ReportCut runs deed) f (text_bytes d.0 kinds run) 0 (λ sound. inl (told run d.0 (c sound) d.1)) d.2 e
+      → Left Stands Sound Leaves runs old new was now exit (λ deed. Reported number kinds runs deed ⊎ Unread runs deed)
+  left_told number kinds run f c d e = left_by (λ deed. Reported number kinds runs deed ⊎ Unread runs deed) f (text_bytes d.0 kinds run) 0 (λ sound. inl (told run d.0 (c sound) d.1)) d.2 e
 
   not_told : (number : Option ℕ) (kinds : List Kind) (why : NotShown) → IsNotShown number runs why
-      → (Reported number kinds runs (record { runs = runs; bytes = utf8 (not_shown_line why); exit = 2; beside = λ may. may })) ⊎ (ReportCut runs (record { runs = runs; bytes = utf8 (not_shown_line why); exit = 2; beside = λ may. may }))
+      → (Reported number kinds runs (record { runs = runs; bytes = utf8 (not_shown_line why); exit = 2; beside = λ may. may })) ⊎ (Unread runs (record { runs = runs; bytes = utf8 (not_shown_line why); exit = 2; beside = λ may. may }))
   not_told number kinds NoRuns n = inl (subst (λ (xs : List ℕ). Reported number kinds runs (record { runs = runs; bytes = utf8 xs; exit = 2; beside = λ may. may })) n.1 (no_run n.0))
   not_told number kinds (NoRun k) n = inl (subst (λ (xs : List ℕ). Reported number kinds runs (record { runs = runs; bytes = utf8 xs; exit = 2; beside = λ may. may })) n.1 (no_run n.0))
   not_told number kinds (Refused fault) n = inr (unread fault n)
 
   pub left_untold : (number : Option ℕ) (kinds : List Kind) (why : NotShown) (f : Bool) → (Sound new → IsNotShown number runs why) → Shows was now f (utf8 (not_shown_line why)) → exit ≡ (if f then 2 else 2)
-      → Left Stands Sound Leaves runs old new was now exit (λ deed. Reported number kinds runs deed ⊎ ReportCut runs deed)
-  left_untold number kinds why f n s e = left_by (λ deed. Reported number kinds runs deed ⊎ ReportCut runs deed) f (utf8 (not_shown_line why)) 2 (λ sound. not_told number kinds why (n sound)) s e
+      → Left Stands Sound Leaves runs old new was now exit (λ deed. Reported number kinds runs deed ⊎ Unread runs deed)
+  left_untold number kinds why f n s e = left_by (λ deed. Reported number kinds runs deed ⊎ Unread runs deed) f (utf8 (not_shown_line why)) 2 (λ sound. not_told number kinds why (n sound)) s e
 
-  pub left_junit : (number : Option ℕ) (run : Run) (f : Bool) → (Sound new → chosen number runs ≡ Some run) → Shows was now f (junit_bytes run) → exit ≡ (if f then 2 else 0) → Left Stands Sound Leaves runs old new was now exit (λ deed. ReportedJunit number runs deed ⊎ ReportCut runs deed)
-  left_junit number run f c s e = left_by (λ deed. ReportedJunit number runs deed ⊎ ReportCut runs deed) f (junit_bytes run) 0 (λ sound. inl (told_junit run (c sound))) s e
+  pub left_junit : (number : Option ℕ) (run : Run) (f : Bool) → (Sound new → chosen number runs ≡ Some run) → Shows was now f (junit_bytes run) → exit ≡ (if f then 2 else 0) → Left Stands Sound Leaves runs old new was now exit (λ deed. ReportedJunit number runs deed ⊎ (Unread runs deed ⊎ JunitCut number runs deed))
+  left_junit number run f c s e = left_by (λ deed. ReportedJunit number runs deed ⊎ (Unread runs deed ⊎ JunitCut number runs deed)) f (junit_bytes run) 0 (λ sound. inl (told_junit run (c sound))) s e
 
   no_junit_of : (number : Option ℕ) (why : NotShown) → IsNotShown number runs why
-      → (ReportedJunit number runs (record { runs = runs; bytes = utf8 (not_shown_line why); exit = 2; beside = λ may. may })) ⊎ (ReportCut runs (record { runs = runs; bytes = utf8 (not_shown_line why); exit = 2; beside = λ may. may }))
+      → (ReportedJunit number runs (record { runs = runs; bytes = utf8 (not_shown_line why); exit = 2; beside = λ may. may }))
+      ⊎ ((Unread runs (record { runs = runs; bytes = utf8 (not_shown_line why); exit = 2; beside = λ may. may })) ⊎ (JunitCut number runs (record { runs = runs; bytes = utf8 (not_shown_line why); exit = 2; beside = λ may. may })))
   no_junit_of number NoRuns n = inl (subst (λ (xs : List ℕ). ReportedJunit number runs (record { runs = runs; bytes = utf8 xs; exit = 2; beside = λ may. may })) n.1 (no_junit n.0))
   no_junit_of number (NoRun k) n = inl (subst (λ (xs : List ℕ). ReportedJunit number runs (record { runs = runs; bytes = utf8 xs; exit = 2; beside = λ may. may })) n.1 (no_junit n.0))
-  no_junit_of number (Refused fault) n = inr (unread fault n)
+  no_junit_of number (Refused fault) n = inr (inl (unread fault n))
 
   pub left_no_junit : (number : Option ℕ) (why : NotShown) (f : Bool) → (Sound new → IsNotShown number runs why) → Shows was now f (utf8 (not_shown_line why)) → exit ≡ (if f then 2 else 2)
-      → Left Stands Sound Leaves runs old new was now exit (λ deed. ReportedJunit number runs deed ⊎ ReportCut runs deed)
-  left_no_junit number why f n s e = left_by (λ deed. ReportedJunit number runs deed ⊎ ReportCut runs deed) f (utf8 (not_shown_line why)) 2 (λ sound. no_junit_of number why (n sound)) s e
+      → Left Stands Sound Leaves runs old new was now exit (λ deed. ReportedJunit number runs deed ⊎ (Unread runs deed ⊎ JunitCut number runs deed))
+  left_no_junit number why f n s e = left_by (λ deed. ReportedJunit number runs deed ⊎ (Unread runs deed ⊎ JunitCut number runs deed)) f (utf8 (not_shown_line why)) 2 (λ sound. no_junit_of number why (n sound)) s e
 
   -- memory ran out in the middle
-  pub left_cut : (number : Option ℕ) (run : Run) (mid : Option (List ℕ)) (f : Bool) → Shows was mid true (junit_bytes run) → Says mid false now f (utf8 memory_line) → exit ≡ (if f then 2 else 2)
-      → Left Stands Sound Leaves runs old new was now exit (λ deed. ReportedJunit number runs deed ⊎ ReportCut runs deed)
-  left_cut number run mid f p s e =
-      left_by (λ deed. ReportedJunit number runs deed ⊎ ReportCut runs deed) f (p.0 ++ utf8 memory_line) 2 (λ sound. inr (cut run p.0 p.1 p.2)) (shows_both was mid now f p.0 (utf8 memory_line) p.3 s.more) e
+  pub left_cut : (number : Option ℕ) (run : Run) (mid : Option (List ℕ)) (f : Bool) → (Sound new → chosen number runs ≡ Some run) → Shows was mid true (junit_bytes run) → Says mid false now f (utf8 memory_line) → exit ≡ (if f then 2 else 2)
+      → Left Stands Sound Leaves runs old new was now exit (λ deed. ReportedJunit number runs deed ⊎ (Unread runs deed ⊎ JunitCut number runs deed))
+  left_cut number run mid f c p s e =
+      left_by (λ deed. ReportedJunit number runs deed ⊎ (Unread runs deed ⊎ JunitCut number runs deed)) f (p.0 ++ utf8 memory_line) 2 (λ sound. inr (inr (cut run p.0 p.1 (c sound) p.2))) (shows_both was mid now f p.0 (utf8 memory_line) p.3 s.more) e

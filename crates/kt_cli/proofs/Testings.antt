@@ -20,10 +20,10 @@ use Rattle.kt_cli.specs.declared.command.Command.{Command}
 use Rattle.kt_cli.specs.declared.command.Command.TheVariants as command
 use Rattle.kt_cli.specs.FaultLines.{memory_line, fault_line}
 use Rattle.kt_cli.specs.Listings.{listing, listing_exit, Listed}
-use Rattle.kt_cli.specs.Meaning.{Seen, Means, listed, untested, tested, reported, reported_junit, CutShort, no_memory as short, cut, report_cut, Did, RanPlan, Tested, TestCut, IsTreeAlone, IsUnasked, IsBegun}
+use Rattle.kt_cli.specs.Meaning.{Seen, Means, listed, untested, tested, reported, reported_junit, CutShort, no_memory as short, cut, report_cut, junit_cut, Did, RanPlan, Tested, TestCut, IsTreeAlone, IsUnasked, IsBegun}
 use Rattle.kt_cli.specs.Pages.{Printed, Says}
 use Rattle.kt_cli.specs.Plans.{plan_of}
-use Rattle.kt_cli.specs.Reports.{Reported, ReportedJunit, ReportCut}
+use Rattle.kt_cli.specs.Reports.{Reported, ReportedJunit, Unread, JunitCut}
 use Rattle.kt_cli.specs.Stores.{Deed, Left}
 use Rattle.kt_cli.specs.Told.{Told, Now}
 
@@ -78,7 +78,7 @@ module _ {W : Type 0} (asks : W → Asked → W → Type 0) (tells : W → Told 
         → (Means (record { asked = asked; told = []; plan = []; trace = NoEvent }) runs (command.List kyuafile) (record { runs = runs; bytes = utf8 (listing outcome); exit = listing_exit outcome; beside = λ may. may }))
         ⊎ (CutShort (record { asked = asked; told = []; plan = []; trace = NoEvent }) runs (command.List kyuafile) (record { runs = runs; bytes = utf8 (listing outcome); exit = listing_exit outcome; beside = λ may. may }))
     of_listing kyuafile runs asked outcome (inl e) =
-        inr (subst (λ (o : Outcome). CutShort (record { asked = asked; told = []; plan = []; trace = NoEvent }) runs (command.List kyuafile) (record { runs = runs; bytes = utf8 (listing o); exit = listing_exit o; beside = λ may. may })) (sym e) (short (command.List kyuafile) (alone asked)))
+        inr (subst (λ (o : Outcome). CutShort (record { asked = asked; told = []; plan = []; trace = NoEvent }) runs (command.List kyuafile) (record { runs = runs; bytes = utf8 (listing o); exit = listing_exit o; beside = λ may. may })) (sym e) (short (command.List kyuafile) kyuafile refl (alone asked)))
     of_listing kyuafile runs asked outcome (inr r) = inl (listed kyuafile outcome r (alone asked))
 
     -- `list` is a command
@@ -90,7 +90,7 @@ module _ {W : Type 0} (asks : W → Asked → W → Type 0) (tells : W → Told 
         → (Means (record { asked = asked; told = []; plan = []; trace = NoEvent }) runs (command.Test kyuafile) (record { runs = runs; bytes = utf8 (fault_line fault); exit = 2; beside = λ may. may }))
         ⊎ (CutShort (record { asked = asked; told = []; plan = []; trace = NoEvent }) runs (command.Test kyuafile) (record { runs = runs; bytes = utf8 (fault_line fault); exit = 2; beside = λ may. may }))
     of_fault kyuafile runs asked fault (inl e) =
-        inr (subst (λ (o : Outcome). CutShort (record { asked = asked; told = []; plan = []; trace = NoEvent }) runs (command.Test kyuafile) (record { runs = runs; bytes = utf8 (listing o); exit = 2; beside = λ may. may })) (sym e) (short (command.Test kyuafile) (alone asked)))
+        inr (subst (λ (o : Outcome). CutShort (record { asked = asked; told = []; plan = []; trace = NoEvent }) runs (command.Test kyuafile) (record { runs = runs; bytes = utf8 (listing o); exit = 2; beside = λ may. may })) (sym e) (short (command.Test kyuafile) kyuafile refl (alone asked)))
     of_fault kyuafile runs asked fault (inr r) = inl (untested kyuafile fault r (alone asked))
 
     -- a fault of the tree
@@ -103,7 +103,7 @@ module _ {W : Type 0} (asks : W → Asked → W → Type 0) (tells : W → Told 
     pub did_short : (kyuafile : List ℕ) (old new : W) (Holds : List Asked → Type 0) (f : Bool) → Answered asks old new Holds
         → Says was false now f (utf8 memory_line) → exit ≡ (if f then 2 else 2) → Did asks tells starts waits Stands Sound Leaves (command.Test kyuafile) old new store store was now exit
     did_short kyuafile old new Holds f a s e =
-        done_with_tree (command.Test kyuafile) old new a.asked (utf8 memory_line) 2 a.chain (λ runs. inr (short (command.Test kyuafile) (alone a.asked))) (record { failed = f; shows = s.more; exits = e })
+        done_with_tree (command.Test kyuafile) old new a.asked (utf8 memory_line) 2 a.chain (λ runs. inr (short (command.Test kyuafile) kyuafile refl (alone a.asked))) (record { failed = f; shows = s.more; exits = e })
 
     ok_is : (programs : List Program) (asked : List Asked) (root : List ℕ) → ◌≡◌ {A = Outcome} (Ok programs) (Err no_memory) ⊎ Registered asked root (Ok programs) → Registered asked root (Ok programs)
     ok_is programs asked root (inl e) = absurd (cc)
@@ -127,7 +127,7 @@ module _ {W : Type 0} (asks : W → Asked → W → Type 0) (tells : W → Told 
     unasked = record { asked = refl; told = refl; trace = refl }
 
     -- `report` is a command
-    pub did_report : (after : R) (number : Option ℕ) (kinds : List Kind) (world : W) → ((runs : List Run) → Stands store runs → Left Stands Sound Leaves runs store after was now exit (λ deed. Reported number kinds runs deed ⊎ ReportCut runs deed))
+    pub did_report : (after : R) (number : Option ℕ) (kinds : List Kind) (world : W) → ((runs : List Run) → Stands store runs → Left Stands Sound Leaves runs store after was now exit (λ deed. Reported number kinds runs deed ⊎ Unread runs deed))
         → Did asks tells starts waits Stands Sound Leaves (command.Report number kinds) world world store after was now exit
     did_report after number kinds world l =
         let seen : Seen = record { asked = []; told = []; plan = []; trace = NoEvent } in
@@ -135,12 +135,12 @@ module _ {W : Type 0} (asks : W → Asked → W → Type 0) (tells : W → Told 
         record {
           seen = seen;
           course = record { loaded = world; begun = world; asked = refl; told = refl; ran = refl };
-          left = λ runs h. left_as Stands Sound Leaves runs store after was now exit (λ deed. Reported number kinds runs deed ⊎ ReportCut runs deed) (λ deed. Means seen runs c deed ⊎ CutShort seen runs c deed)
-              (λ deed m. elim m [ inl x ↦ inl (reported number kinds deed unasked x) | inr x ↦ inr (report_cut c deed tt unasked x) ]) (l runs h);
+          left = λ runs h. left_as Stands Sound Leaves runs store after was now exit (λ deed. Reported number kinds runs deed ⊎ Unread runs deed) (λ deed. Means seen runs c deed ⊎ CutShort seen runs c deed)
+              (λ deed m. elim m [ inl x ↦ inl (reported number kinds deed unasked x) | inr x ↦ inr (report_cut number kinds deed unasked x) ]) (l runs h);
         }
 
     -- `report-junit` is a command
-    pub did_junit : (after : R) (number : Option ℕ) (world : W) → ((runs : List Run) → Stands store runs → Left Stands Sound Leaves runs store after was now exit (λ deed. ReportedJunit number runs deed ⊎ ReportCut runs deed))
+    pub did_junit : (after : R) (number : Option ℕ) (world : W) → ((runs : List Run) → Stands store runs → Left Stands Sound Leaves runs store after was now exit (λ deed. ReportedJunit number runs deed ⊎ (Unread runs deed ⊎ JunitCut number runs deed)))
         → Did asks tells starts waits Stands Sound Leaves (command.ReportJunit number) world world store after was now exit
     did_junit after number world l =
         let seen : Seen = record { asked = []; told = []; plan = []; trace = NoEvent } in
@@ -148,8 +148,8 @@ module _ {W : Type 0} (asks : W → Asked → W → Type 0) (tells : W → Told 
         record {
           seen = seen;
           course = record { loaded = world; begun = world; asked = refl; told = refl; ran = refl };
-          left = λ runs h. left_as Stands Sound Leaves runs store after was now exit (λ deed. ReportedJunit number runs deed ⊎ ReportCut runs deed) (λ deed. Means seen runs c deed ⊎ CutShort seen runs c deed)
-              (λ deed m. elim m [ inl x ↦ inl (reported_junit number deed unasked x) | inr x ↦ inr (report_cut c deed tt unasked x) ]) (l runs h);
+          left = λ runs h. left_as Stands Sound Leaves runs store after was now exit (λ deed. ReportedJunit number runs deed ⊎ (Unread runs deed ⊎ JunitCut number runs deed)) (λ deed. Means seen runs c deed ⊎ CutShort seen runs c deed)
+              (λ deed m. elim m [ inl x ↦ inl (reported_junit number deed unasked x) | inr x ↦ inr (junit_cut number deed unasked x) ]) (l runs h);
         }
 
     pub did_as : (c d : Command) (old new : W) (after : R) → c ≡ d → Did asks tells starts waits Stands Sound Leaves d old new store after was now exit → Did asks tells starts waits Stands Sound Leaves c old new store after was now exit

@@ -14,9 +14,3 @@ abbrev pub HasRunNumber : Command → Type 0
 HasRunNumber (command.Report run kinds) = IfSome run (λ n. (1 ≤ n) × (n ≤ 1000000))
 HasRunNumber (command.ReportJunit run) = IfSome run (λ n. (1 ≤ n) × (n ≤ 1000000))
 HasRunNumber other = ⊤
-
--- commands that show a run
-abbrev pub IsReport : Command → Type 0
-IsReport (command.Report run kinds) = ⊤
-IsReport (command.ReportJunit run) = ⊤
-IsReport other = ⊥

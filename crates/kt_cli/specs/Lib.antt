@@ -1,5 +1,6 @@
 pub mod Commands
 pub mod FaultLines
+pub mod HostFiles
 pub mod Hosts
 pub mod Listings
 pub mod Meaning

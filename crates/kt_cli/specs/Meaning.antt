@@ -1,5 +1,5 @@
 -- What a command means: for what was seen and the runs before it, the runs, the bytes and the exit.
-use Rattle.std.specs.Prelude.{ℕ, suc, Bool, true, false, List, [], ◌∷◌, ◌++◌, ◌≡◌, ◌≤◌, ◌==◌, ◌⊎◌, Option, Ok, Err, length, if◌then◌else◌}
+use Rattle.std.specs.Prelude.{ℕ, suc, Bool, true, false, List, [], ◌∷◌, ◌++◌, ◌≡◌, ◌≤◌, ◌==◌, ◌⊎◌, Option, Some, Ok, Err, length, if◌then◌else◌}
 use Rattle.kt_base.specs.declared.entry.Entry.{Entry}
 use Rattle.kt_base.specs.declared.kind.Kind.{Kind}
 use Rattle.kt_base.specs.declared.role.Role.{Role}
@@ -20,12 +20,12 @@ use Rattle.kt_suite.specs.Paths.{name_in}
 use Rattle.kt_suite.specs.Registered.{Outcome, Registered}
 use Rattle.kt_cli.specs.declared.command.Command.{Command}
 use Rattle.kt_cli.specs.declared.command.Command.TheVariants as command
-use Rattle.kt_cli.specs.Commands.{IsReport}
+use Rattle.kt_cli.specs.Commands.{kyuafile_of}
 use Rattle.kt_cli.specs.FaultLines.{memory_line, fault_line, put_line, refusal_line}
 use Rattle.kt_cli.specs.Listings.{listing, listing_exit}
 use Rattle.kt_cli.specs.Plans.{plan_of}
 use Rattle.kt_cli.specs.Recordings.{AllRecorded, IsStopped}
-use Rattle.kt_cli.specs.Reports.{Reported, ReportedJunit, ReportCut}
+use Rattle.kt_cli.specs.Reports.{Reported, ReportedJunit, Unread, JunitCut}
 use Rattle.kt_cli.specs.Stores.{Deed, Left, by_position}
 use Rattle.kt_cli.specs.Told.{Told, Now}
 use Rattle.kt_cli.specs.Totals.{lines, totals_text, good_count, bad_count}
@@ -105,10 +105,11 @@ pub data Means (seen : Seen) (runs : List Run) : Command → Deed → Type 0 whe
 
 -- what a command leaves that memory or the store cut short
 pub data CutShort (seen : Seen) (runs : List Run) : Command → Deed → Type 0 where
-  no_memory : (c : Command) → IsTreeAlone seen → CutShort seen runs c (record { runs = runs; bytes = utf8 memory_line; exit = 2; beside = λ may. may })
+  no_memory : (c : Command) (kyuafile : List ℕ) → kyuafile_of c ≡ Some kyuafile → IsTreeAlone seen → CutShort seen runs c (record { runs = runs; bytes = utf8 memory_line; exit = 2; beside = λ may. may })
   cut : (kyuafile : List ℕ) (moment : ℕ) (deed : Deed) → IsBegun seen kyuafile moment → TestCut seen.plan moment seen.trace runs deed
       → CutShort seen runs (command.Test kyuafile) deed
-  report_cut : (c : Command) (deed : Deed) → IsReport c → IsUnasked seen → ReportCut runs deed → CutShort seen runs c deed
+  report_cut : (number : Option ℕ) (kinds : List Kind) (deed : Deed) → IsUnasked seen → Unread runs deed → CutShort seen runs (command.Report number kinds) deed
+  junit_cut : (number : Option ℕ) (deed : Deed) → IsUnasked seen → Unread runs deed ⊎ JunitCut number runs deed → CutShort seen runs (command.ReportJunit number) deed
 
 -- what `execute` did: the command's deed, or one that memory or the store cut short; a failed writer holds a prefix of its bytes
 pub record Did {W R : Type 0} (asks : W → Asked → W → Type 0) (tells : W → Told → W → Type 0) (starts : W → Job → Role → StartAnswer → W → Type 0) (waits : W → Ended → W → Type 0) (Stands : R → List Run → Type 0) (Sound : R → Type 0) (Leaves : R → List (List Run) → Type 0) (c : Command) (old new : W) (store after : R) (was now : Option (List ℕ)) (exit : ℕ) : Type 0 where

@@ -42,7 +42,10 @@ pub data ReportedJunit (number : Option ℕ) (runs : List Run) : Deed → Type 0
   told : (run : Run) → chosen number runs ≡ Some run → ReportedJunit number runs (record { runs = runs; bytes = junit_bytes run; exit = 0; beside = λ may. may })
   no_run : chosen number runs ≡ None → ReportedJunit number runs (record { runs = runs; bytes = utf8 (missing_line number runs); exit = 2; beside = λ may. may })
 
--- the store refused to be read, or memory ran out in the middle of a JUnit report
-pub data ReportCut (runs : List Run) : Deed → Type 0 where
-  unread : (fault : StoreFault) → IsStoreFault fault → ReportCut runs (record { runs = runs; bytes = utf8 (refusal_line fault); exit = 2; beside = λ may. may })
-  cut : (run : Run) (front rest : List ℕ) → junit_bytes run ≡ front ++ rest → ReportCut runs (record { runs = runs; bytes = front ++ utf8 memory_line; exit = 2; beside = λ may. may })
+-- the store refused to be read
+pub data Unread (runs : List Run) : Deed → Type 0 where
+  unread : (fault : StoreFault) → IsStoreFault fault → Unread runs (record { runs = runs; bytes = utf8 (refusal_line fault); exit = 2; beside = λ may. may })
+
+-- memory ran out in the middle of the JUnit report of the chosen run
+pub data JunitCut (number : Option ℕ) (runs : List Run) : Deed → Type 0 where
+  cut : (run : Run) (front rest : List ℕ) → chosen number runs ≡ Some run → junit_bytes run ≡ front ++ rest → JunitCut number runs (record { runs = runs; bytes = front ++ utf8 memory_line; exit = 2; beside = λ may. may })

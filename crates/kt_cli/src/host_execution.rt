@@ -1,8 +1,9 @@
-ghost use Rattle.std.specs.Prelude.{◌≡◌, IfOk, OnErr};
+ghost use Rattle.std.specs.Prelude.{◌≡◌, Some, IfOk, IfErr, OnErr};
 ghost use Rattle.std.specs.Str.{chars};
 ghost use Rattle.kt_sched.specs.Children.{IsIdle};
 ghost use Rattle.kt_child.specs.Board.{is_among, shown_at};
-ghost use Rattle.kt_cli.specs.Hosts.{IsStill, IsMade, OnDriver, DidOnHost};
+ghost use Rattle.kt_cli.specs.HostFiles.{IsLook};
+ghost use Rattle.kt_cli.specs.Hosts.{IsStill, IsMade, NoRoot, OnDriver, NoDriver, DidOnHost};
 ghost use Rattle.kt_cli.specs.Meaning.{Did};
 
 use crate::command::Command;
@@ -10,7 +11,7 @@ use crate::command_line::CommandLine;
 use crate::execution::execute;
 use crate::exit::Exit;
 use crate::host_world::HostWorld;
-use crate::place::source_of;
+use crate::place::{is_absolute, source_of};
 use crate::reporting::{report, report_junit};
 use crate::result_store::ResultStore;
 use kt_base::Text;
@@ -32,8 +33,9 @@ fn driver_of<O: Os + Drop>(
 ) -> Result<Driver<O>, DriverFault>
     ensures made { IfOk result (λ driver. IsMade O.leads os (chars here.now) work.now kyuafile.now driver) }
     ensures idle { IfOk result (λ driver. IsIdle (shown_at driver.row.cases) (is_among driver.row.pending)) }
+    ensures refused { IfErr result (λ e. NoRoot O.leads os (Some work.now) e) }
 {
-    if !work.as_str().starts_with('/') {
+    if !is_absolute(work) {
         return Err(DriverFault::NoWorkDirectory);
     }
     let Ok(source) = source_of(alloc, here, kyuafile) else {
@@ -55,7 +57,7 @@ fn execute_over<R: Files<File = File> + Clock + AllocGlobal, L: Launcher, S: Res
     out: &mut W,
 ) -> (Exit, L)
     requires { IsIdle (L.running launcher) (L.pending launcher) }
-    ensures did { Did IsStill IsStill L.starts L.waits S.stands S.sound S.leaves command.now launcher result.1 results.old results.new (W.contents out.old) (W.contents out.new) result.0.status }
+    ensures did { Did IsLook IsStill L.starts L.waits S.stands S.sound S.leaves command.now launcher result.1 results.old results.new (W.contents out.old) (W.contents out.new) result.0.status }
     ensures idle { IsIdle (L.running result.1) (L.pending result.1) }
 {
     let mut world = HostWorld::new(rt, directory, launcher);
@@ -80,6 +82,7 @@ fn execute_over_files<
     out: &mut W,
 ) -> Result<Exit, DriverFault>
     ensures did { IfOk result (λ exit. OnDriver O.leads os (chars here.now) line.now.work kyuafile.now S.stands S.sound S.leaves line.now.command results.old results.new (W.contents out.old) (W.contents out.new) exit.status) }
+    ensures refused { IfErr result (λ e. NoRoot O.leads os line.now.work e) }
     ensures unasked { OnErr result ((results.new ≡ results.old) × (W.contents out.new ≡ W.contents out.old)) }
 {
     let Some(work) = &line.work else {
@@ -88,14 +91,18 @@ fn execute_over_files<
     let Ok((directory, _)) = split_path(rt.alloc(), kyuafile) else {
         return Err(DriverFault::NoMemory);
     };
-    let driver = driver_of(rt.alloc(), os, here, work, kyuafile)?;
+    let driver = match driver_of(rt.alloc(), os, here, work, kyuafile) {
+        Ok(driver) => driver,
+        Err(fault) => return Err(fault),
+    };
     let (exit, driver) = execute_over(rt, directory, driver, &line.command, results, out);
+    // The root directory goes, whatever was done.
     let _ = driver.close();
     Ok(exit)
 }
 
 /// Does a command line over the host's files, this system and a store of runs. `here` is the absolute working directory.
-/// Where no root directory can be made, nothing is written; a report needs none.
+/// Where no root directory can be made, nothing is written; a report needs none and is never refused.
 pub fn execute_on_host<
     R: Files<File = File> + Clock + AllocGlobal,
     O: Os + Drop,
@@ -110,6 +117,7 @@ pub fn execute_on_host<
     out: &mut W,
 ) -> Result<Exit, DriverFault>
     ensures did { IfOk result (λ exit. DidOnHost O.leads os (chars here.now) line.now.work S.stands S.sound S.leaves line.now.command results.old results.new (W.contents out.old) (W.contents out.new) exit.status) }
+    ensures refused { IfErr result (λ e. NoDriver O.leads os line.now.work line.now.command e) }
     ensures unasked { OnErr result ((results.new ≡ results.old) × (W.contents out.new ≡ W.contents out.old)) }
 {
     match &line.command {

@@ -1,4 +1,5 @@
-ghost use Rattle.std.specs.Prelude.{◌≡◌};
+ghost use Rattle.std.specs.Prelude.{◌≡◌, ◌≤◌, ◌<◌, Some, IfSome, IfOk, OnOk, length, take, drop};
+ghost use Rattle.kt_cli.specs.HostFiles.{read_limit, TakesPiece};
 
 use crate::world::World;
 use kt_base::{Bytes, LATEST_MOMENT, Role, Text};
@@ -40,20 +41,39 @@ fn fault_of(error: io::Error) -> ReadFault {
     }
 }
 
+/// Appends what one read gives, as far as there is room, and answers how many bytes it gave: none at the end. An interrupted
+/// read is a fault too.
+fn read_piece<F: Read>(file: &mut F, room: &mut [u8], bytes: &mut Bytes) -> Result<usize, ReadFault>
+    requires { 0 < length room.old }
+    ensures { IfOk result (λ count. TakesPiece (F.remaining file.old) (F.remaining file.new) (length room.old) bytes.old bytes.new count) }
+{
+    let count = match file.read(room) {
+        Ok(count) => count,
+        Err(_) => return Err(ReadFault::Failed),
+    };
+    match bytes.append(&room[..count]) {
+        Ok(()) => Ok(count),
+        Err(_) => Err(ReadFault::Memory),
+    }
+}
+
 /// Reads to the end of a file, to the limit, or to the first fault.
-fn read_start<F: Read>(alloc: Global, file: &mut F) -> Result<Bytes, ReadFault> {
+fn read_start<F: Read>(alloc: Global, file: &mut F) -> Result<Bytes, ReadFault>
+    ensures few { IfOk result (λ bytes. length bytes ≤ read_limit) }
+    // Of a file whose bytes are known, the front is read, and the rest is left.
+    ensures front { IfOk result (λ bytes. IfSome (F.remaining file.old) (λ all. bytes ≡ take read_limit all)) }
+    ensures rest { OnOk result (IfSome (F.remaining file.old) (λ all. F.remaining file.new ≡ Some (drop read_limit all))) }
+{
     let mut bytes = Bytes::new(alloc);
     let mut buffer = [0u8; PIECE];
     while bytes.len() < READ_LIMIT {
         let want = PIECE.min(READ_LIMIT - bytes.len());
-        let Ok(count) = file.read(&mut buffer[..want]) else {
-            return Err(ReadFault::Failed);
+        let count = match read_piece(file, &mut buffer[..want], &mut bytes) {
+            Ok(count) => count,
+            Err(fault) => return Err(fault),
         };
         if count == 0 {
-            break;
-        }
-        if bytes.append(&buffer[..count]).is_err() {
-            return Err(ReadFault::Memory);
+            return Ok(bytes);
         }
     }
     Ok(bytes)
@@ -94,9 +114,10 @@ impl<'a, R: Files<File = File> + Clock + AllocGlobal, L: Launcher> HostWorld<'a,
 
 impl<R: Files<File = File> + Clock + AllocGlobal, L: Launcher> Tree for HostWorld<'_, R, L> {
     ghost use Rattle.std.specs.Prelude.{◌≡◌};
+    ghost use Rattle.kt_cli.specs.HostFiles.{IsWorldAnswer};
 
-    // Nothing is said of what a real file holds.
-    ghost asks = { λ s _ t. t.launcher ≡ s.launcher };
+    // Of what a real file holds only the length is said.
+    ghost asks = { λ s q t. (t.launcher ≡ s.launcher) × IsWorldAnswer q };
 
     fn read(&mut self, path: &Text) -> Result<Bytes, ReadFault> {
         let mut room = [0u8; LONGEST];
@@ -159,11 +180,79 @@ impl<R: Files<File = File> + Clock + AllocGlobal, L: Launcher> World for HostWor
         }
     }
 
-    ghost runs_on = { λ s t q h k r. ap (λ l. L.running l k r) h };
+    ghost runs_on = { λ s t q h k r. ap (λ l. L.running l k r) h.0 };
 
-    ghost pends_on = { λ s t q h k. ap (λ l. L.pending l k) h };
+    ghost pends_on = { λ s t q h k. ap (λ l. L.pending l k) h.0 };
 
     ghost runs_told = { λ s t q h k r. ap (λ l. L.running l k r) h };
 
     ghost pends_told = { λ s t q h k. ap (λ l. L.pending l k) h };
+}
+
+#[cfg(test)]
+mod tests {
+    use super::read_start;
+    use kt_suite::ReadFault;
+    use std::io;
+    use std::io::{ErrorKind, Read};
+    use std::test::Fail;
+
+    /// A file that never ends, which gives so many bytes at a time and fails at a read.
+    #[derive(Drop)]
+    struct Endless {
+        piece: usize,
+        /// The reads that are left to the fault, and what it is.
+        reads: u32,
+        fault: ErrorKind,
+        /// How many bytes were given.
+        given: usize,
+        /// How many reads failed.
+        failed: u32,
+    }
+
+    impl Read for Endless {
+        fn read(&mut self, buffer: &mut [u8]) -> io::Result<usize> {
+            if self.reads == 0 {
+                self.failed = self.failed.saturating_add(1);
+                return Err(io::Error::from(self.fault));
+            }
+            self.reads -= 1;
+            let count = self.piece.min(buffer.len());
+            self.given = self.given.saturating_add(count);
+            Ok(count)
+        }
+    }
+
+    fn file_of(piece: usize, reads: u32, fault: ErrorKind) -> Endless {
+        Endless {
+            piece,
+            reads,
+            fault,
+            given: 0,
+            failed: 0,
+        }
+    }
+
+    #[test]
+    fn a_read_ends_at_its_first_fault_or_at_its_limit(rt: HostRuntime) -> Result<(), Fail> {
+        let alloc = rt.alloc();
+        for fault in [ErrorKind::Interrupted, ErrorKind::Other] {
+            for reads in [0, 1, 3] {
+                let mut file = file_of(100, reads, fault);
+                let read = read_start(alloc, &mut file);
+                assert!(rt; matches!(read, Err(ReadFault::Failed)), "after {reads}");
+                assert_eq!(rt; file.failed, 1, "after {reads}");
+            }
+        }
+        for piece in [100, 8_192, 9_999] {
+            let mut file = file_of(piece, 99_999, ErrorKind::Other);
+            let read = read_start(alloc, &mut file);
+            assert!(rt;
+                matches!(read, Ok(bytes) if bytes.len() == 1_048_577),
+                "at {piece}"
+            );
+            assert_eq!(rt; file.given, 1_048_577, "at {piece}");
+        }
+        Ok(())
+    }
 }

@@ -7,11 +7,11 @@ use kt_suite::split_path;
 use std::alloc::Global;
 
 /// Whether a path begins at the root of the host.
-fn is_absolute(path: &[char]) -> bool
+pub fn is_absolute(path: &Text) -> bool
     ensures { result ≡ is_absolute path.now }
 {
-    match path.first() {
-        Some(c) => *c == '/',
+    match path.as_str().chars().next() {
+        Some(c) => c == '/',
         None => false,
     }
 }
@@ -27,7 +27,7 @@ fn characters(alloc: Global, path: &Text) -> Result<Vec<char>, NoMemory>
 fn absolute(alloc: Global, here: &str, path: &Text) -> Result<Text, NoMemory>
     ensures { IfOk result (λ whole. whole ≡ absolute (chars here.now) path.now) }
 {
-    if is_absolute(&characters(alloc, path)?) {
+    if is_absolute(path) {
         return Ok(path.copy()?);
     }
     let mut whole = Text::from_str(alloc, here)?;

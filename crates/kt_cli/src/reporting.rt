@@ -3,7 +3,7 @@ ghost use Rattle.kt_base.specs.declared.run.Run.{Run as Recorded};
 ghost use Rattle.kt_base.specs.Utf8.{utf8};
 ghost use Rattle.kt_base.specs.Shows.{Shows};
 ghost use Rattle.kt_store.specs.Heads.{head_of};
-ghost use Rattle.kt_cli.specs.Reports.{chosen, Reported, ReportedJunit, ReportCut};
+ghost use Rattle.kt_cli.specs.Reports.{chosen, Reported, ReportedJunit, Unread, JunitCut};
 ghost use Rattle.kt_cli.specs.Shown.{FindsRun, IsMissing, not_shown_line};
 ghost use Rattle.kt_cli.specs.Stores.{Left, Moves};
 
@@ -98,7 +98,7 @@ pub fn report<R: ResultStore, O: Write>(
     results: &mut R,
     out: &mut O,
 ) -> Exit
-    ensures { (runs : List Recorded) → R.stands results.old runs → Left R.stands R.sound R.leaves runs results.old results.new (O.contents out.old) (O.contents out.new) result.status (λ deed. Reported number kinds.now runs deed ⊎ ReportCut runs deed) }
+    ensures { (runs : List Recorded) → R.stands results.old runs → Left R.stands R.sound R.leaves runs results.old results.new (O.contents out.old) (O.contents out.new) result.status (λ deed. Reported number kinds.now runs deed ⊎ Unread runs deed) }
 {
     match read_run(number, results) {
         Ok(run) => match text(&run, kinds, out) {
@@ -116,7 +116,7 @@ pub fn report_junit<R: ResultStore, O: Write>(
     results: &mut R,
     out: &mut O,
 ) -> Exit
-    ensures { (runs : List Recorded) → R.stands results.old runs → Left R.stands R.sound R.leaves runs results.old results.new (O.contents out.old) (O.contents out.new) result.status (λ deed. ReportedJunit number runs deed ⊎ ReportCut runs deed) }
+    ensures { (runs : List Recorded) → R.stands results.old runs → Left R.stands R.sound R.leaves runs results.old results.new (O.contents out.old) (O.contents out.new) result.status (λ deed. ReportedJunit number runs deed ⊎ (Unread runs deed ⊎ JunitCut number runs deed)) }
 {
     let run = match read_run(number, results) {
         Ok(run) => run,

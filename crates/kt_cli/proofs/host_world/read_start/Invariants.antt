@@ -1,5 +1,11 @@
 use Rattle.std.proofs.Common.{◌-◌, length}
+use Rattle.kt_cli.specs.HostFiles.{read_limit}
+use Rattle.kt_cli.proofs.HostReads.{HasRead}
 use Rattle.kt_cli.proofs.host_world.read_start.Given as goal
 
+-- the bytes so far are the front of the file
+abbrev pub invariant-loop-buffer : goal.invariant-loop-buffer
+invariant-loop-buffer g l = HasRead read_limit (g.F.Read.remaining l.initial.file) (g.F.Read.remaining l.file) l.bytes
+
 abbrev pub decreases-loop-buffer : goal.decreases-loop-buffer
-decreases-loop-buffer g l = 1048577 - length l.bytes
+decreases-loop-buffer g l = read_limit - length l.bytes

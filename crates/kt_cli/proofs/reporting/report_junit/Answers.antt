@@ -16,4 +16,4 @@ returns-in-Err-Output g c runs h =
 
 pub returns : goal.returns
 returns g c runs h =
-    left_cut g.R.ResultStore.stands g.R.ResultStore.sound g.R.ResultStore.leaves _ _ _ _ _ runs h c.in-Ok.ensures.moves c.args.number c.in-Ok.run' _ _ c.in-Err-NoMemory.ensures c.say_memory.ensures c.ended-in-Err-NoMemory.ensures
+    left_cut g.R.ResultStore.stands g.R.ResultStore.sound g.R.ResultStore.leaves _ _ _ _ _ runs h c.in-Ok.ensures.moves c.args.number c.in-Ok.run' _ _ (λ s. c.in-Ok.ensures.finds runs h s) c.in-Err-NoMemory.ensures c.say_memory.ensures c.ended-in-Err-NoMemory.ensures
