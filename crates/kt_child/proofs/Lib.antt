@@ -13,6 +13,7 @@ pub mod LoneChildren
 pub mod NamedSteps
 pub mod NameCounts
 pub mod NameSteps
+pub mod NewStarts
 pub mod NumberSteps
 pub mod OwedCases
 pub mod Parents

@@ -1,8 +1,7 @@
 -- A program's list of test cases, asked of the program itself.
-use Rattle.std.specs.Prelude.{◌≡◌, ◌<◌, ◌+◌, ◌-◌, ◌^◌, ◌⊎◌, ℕ, List, [], ◌∷◌, ◌++◌, Bool, true, false, Result, Ok, Err}
+use Rattle.std.specs.Prelude.{◌≡◌, ◌<◌, ◌+◌, ◌-◌, ◌^◌, ◌⊎◌, ℕ, List, [], ◌∷◌, ◌++◌, Bool, Result, Ok, Err}
 use Rattle.kt_base.specs.declared.role.Role.TheVariants.{Body}
 use Rattle.kt_base.specs.declared.interface.Interface.TheVariants.{Atf}
-use Rattle.kt_base.specs.declared.refused.Refused.{Refused}
 use Rattle.kt_base.specs.declared.refused.Refused.TheVariants.{Memory, Directory}
 use Rattle.kt_base.specs.declared.outcome.Outcome.{Outcome}
 use Rattle.kt_base.specs.declared.variable.Variable.{Variable}
@@ -15,11 +14,11 @@ use Rattle.kt_child.specs.declared.file_read.FileRead.{FileRead}
 use Rattle.kt_child.specs.declared.paths.Paths.{Paths}
 use Rattle.kt_child.specs.declared.want.Want.TheVariants as want
 use Rattle.kt_child.specs.declared.spawning.Spawning.{Spawning}
-use Rattle.kt_child.specs.Calls.{Call, Chain, MakeDir, ReadFile, RemoveTree}
+use Rattle.kt_child.specs.Calls.{Call, Chain, ReadFile, RemoveTree}
 use Rattle.kt_child.specs.ChildPlan.{env_of, paths_of, words_of}
 use Rattle.kt_child.specs.ChildOutcome.{fresh}
 use Rattle.kt_child.specs.JobPlan.{parent_of, program_path}
-use Rattle.kt_child.specs.Starts.{Ask, Tried, furnish_asks}
+use Rattle.kt_child.specs.Starts.{SetUp, furnish_asks}
 use Rattle.kt_child.specs.Turns.{WaitedUntil}
 use Rattle.kt_child.specs.Reads.{list_of}
 
@@ -36,13 +35,6 @@ listing_of source program variables attempt paths =
       err = paths.err;
     }
 
--- The start of a list in a new directory, which asks for no moment. Where it is refused the directory is removed if it was made.
-abbrev pub ListStarts : List Ask → List ℕ → List Call → Result (Unit {0}) Refused → Type 0
-ListStarts asks dir calls (Ok done) = (tried : List Call) × (calls ≡ MakeDir dir true ∷ tried) × Tried asks tried (Ok done)
-ListStarts asks dir calls (Err cause) =
-    ((calls ≡ MakeDir dir false ∷ []) × (cause ≡ Directory))
-    ⊎ ((tried : List Call) × (removed : Bool) × (calls ≡ MakeDir dir true ∷ (tried ++ RemoveTree dir removed ∷ [])) × Tried asks tried (Err cause))
-
 -- a list that was started: whole turns with a limit of 300 seconds, its output, and the removal
 abbrev pub WatchedList : Child → Paths → List Call → Outcome → ListBytes → Type 0
 WatchedList child paths calls outcome bytes =
@@ -53,10 +45,10 @@ WatchedList child paths calls outcome bytes =
 
 -- a list from its start to the removal of its directory
 abbrev pub RanList : Spawning → Paths → List Call → Listing → Type 0
-RanList plan paths calls (RefusedFor cause) = ListStarts (furnish_asks plan) paths.dir calls (Err cause)
+RanList plan paths calls (RefusedFor cause) = SetUp (furnish_asks plan) paths.dir calls (Err cause)
 RanList plan paths calls (Ended outcome bytes) =
     (start : List Call) × (more : List Call) × (calls ≡ start ++ more)
-    × ListStarts (furnish_asks plan) paths.dir start (Ok _) × WatchedList plan.child paths more outcome bytes
+    × SetUp (furnish_asks plan) paths.dir start (Ok _) × WatchedList plan.child paths more outcome bytes
 
 -- A list takes the next number, whatever its answer; where none is left it is refused. Where memory is refused nothing is asked.
 abbrev pub ListsBy : {O : Type 0} → (O → Call → O → Type 0) → List ℕ → List ℕ → List ℕ → List Variable → O → ℕ → Listing → O → ℕ → Type 0

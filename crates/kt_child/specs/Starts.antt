@@ -45,6 +45,14 @@ Started asks dir calls result =
     (tried : Result (Unit {0}) Refused) × (before : List Call) × (last : Call)
     × Tried asks before tried × Settles dir tried last result × (calls ≡ before ++ last ∷ [])
 
+-- A start that makes its directory, but for the moment of one that succeeded. Where it is refused the directory is
+-- removed if it was made.
+abbrev pub SetUp : List Ask → List ℕ → List Call → Result (Unit {0}) Refused → Type 0
+SetUp asks dir calls (Ok done) = (tried : List Call) × (calls ≡ MakeDir dir true ∷ tried) × Tried asks tried (Ok done)
+SetUp asks dir calls (Err cause) =
+    ((calls ≡ MakeDir dir false ∷ []) × (cause ≡ Directory))
+    ⊎ ((tried : List Call) × (removed : Bool) × (calls ≡ MakeDir dir true ∷ (tried ++ RemoveTree dir removed ∷ [])) × Tried asks tried (Err cause))
+
 -- a start that makes its directory: where that fails nothing else is asked
 abbrev pub StartedAfresh : List Ask → List ℕ → List Call → Result ℕ Refused → Type 0
 StartedAfresh asks dir calls result =

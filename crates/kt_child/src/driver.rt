@@ -13,16 +13,16 @@ use std::alloc::Global;
 /// Starts children in directories below its own root directory, watches them and cleans up after them.
 #[derive(Drop)]
 pub struct Driver<O: Os + Drop> {
-    pub os: O,
+    pub(super) os: O,
     alloc: Global,
     /// The absolute directory of the root Kyuafile.
-    pub source: Text,
+    pub(super) source: Text,
     /// The root directory.
-    pub root: Text,
+    pub(super) root: Text,
     /// The number of the next start of a body or a list.
-    pub next: u64,
+    pub(super) next: u64,
     /// What runs and what is owed.
-    pub row: Row,
+    pub(super) row: Row,
 }
 
 impl<O: Os + Drop> Launcher for Driver<O> {

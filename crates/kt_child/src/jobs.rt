@@ -12,7 +12,7 @@ use crate::locations::{absolute_path, parent_path};
 use crate::paths::Paths;
 use crate::spawning::Spawning;
 use crate::want::Want;
-use crate::watch::Watch;
+use crate::watch::fresh_watch;
 use crate::watched::Watched;
 use crate::words::argv_plan;
 use crate::workdir::workdir_plan;
@@ -121,10 +121,6 @@ pub(super) fn fresh_child(job: &Job, role: Role, attempt: u64) -> Watched
     Watched {
         child: Child { attempt, role },
         limit: limit(job, role),
-        watch: Watch {
-            before: 0,
-            killed: false,
-            after: 0,
-        },
+        watch: fresh_watch(),
     }
 }

@@ -5,15 +5,15 @@ ghost use Rattle.kt_child.specs.Lists.{ListsBy, RanList, WatchedList, listing_of
 
 use crate::child::Child;
 use crate::environment::env_plan;
-use crate::list_start::start_list;
 use crate::locations::{absolute_path, parent_path};
+use crate::new_starts::set_up;
 use crate::os::Os;
 use crate::paths::Paths;
 use crate::reads::read_list;
 use crate::spawning::Spawning;
 use crate::turns::wait;
 use crate::want::Want;
-use crate::watch::Watch;
+use crate::watch::fresh_watch;
 use crate::watched::Watched;
 use crate::words::argv_plan;
 use crate::workdir::workdir_plan;
@@ -31,11 +31,7 @@ fn watch_list<O: Os>(os: &mut O, child: Child, paths: &Paths) -> (Outcome, ListB
     let mut children = [Watched {
         child,
         limit: LIST_LIMIT,
-        watch: Watch {
-            before: 0,
-            killed: false,
-            after: 0,
-        },
+        watch: fresh_watch(),
     }];
     let over = wait(os, &mut children);
     let bytes = read_list(os, &paths.out);
@@ -46,7 +42,7 @@ fn watch_list<O: Os>(os: &mut O, child: Child, paths: &Paths) -> (Outcome, ListB
 fn run_list<O: Os>(os: &mut O, plan: &Spawning, paths: &Paths) -> Listing
     ensures { (calls : List Call) × Chain O.leads os.old calls os.new × RanList plan.now paths.now calls result }
 {
-    match start_list(os, &paths.dir, plan) {
+    match set_up(os, &paths.dir, plan) {
         Err(cause) => Listing::Refused(cause),
         Ok(()) => {
             let (outcome, bytes) = watch_list(os, plan.child, paths);

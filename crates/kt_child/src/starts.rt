@@ -1,8 +1,11 @@
-ghost use Rattle.std.specs.Prelude.{◌≡◌, ◌≤◌, List, IfOk};
-ghost use Rattle.kt_child.specs.Calls.{Call, Chain};
+ghost use Rattle.std.specs.Prelude.{◌≡◌, ◌≤◌, ℕ, List, Result, Ok, IfOk};
+ghost use Rattle.kt_child.specs.declared.os_fault.OsFault.{OsFault};
+ghost use Rattle.kt_child.specs.Calls.{Call, Chain, Now};
+ghost use Rattle.kt_child.specs.Moments.{moment_of};
 ghost use Rattle.kt_child.specs.Starts.{Settles, Started, StartedAfresh, Tried, child_asks, furnish_asks};
 
 use crate::moments::moment;
+use crate::new_starts::set_up;
 use crate::os::Os;
 use crate::spawning::Spawning;
 use kt_base::{LATEST_MOMENT, Refused, Text};
@@ -42,13 +45,21 @@ pub(super) fn furnish<O: Os>(os: &mut O, plan: &Spawning) -> Result<(), Refused>
     open_and_spawn(os, plan)
 }
 
+/// Asks for the moment of a start that succeeded.
+fn stamp<O: Os>(os: &mut O) -> Result<u64, Refused>
+    ensures asked { (answer : Result ℕ OsFault) × O.leads os.old (Now answer) os.new × (result ≡ Ok (moment_of answer)) }
+    ensures range { IfOk result (λ moment. moment ≤ LATEST_MOMENT) }
+{
+    Ok(moment(os))
+}
+
 /// Asks for the moment of a start that succeeded, and for the removal after one that was refused.
 fn settle<O: Os>(os: &mut O, dir: &Text, tried: Result<(), Refused>) -> Result<u64, Refused>
     ensures settled { (last : Call) × O.leads os.old last os.new × Settles dir.now tried last result }
     ensures range { IfOk result (λ moment. moment ≤ LATEST_MOMENT) }
 {
     match tried {
-        Ok(()) => Ok(moment(os)),
+        Ok(()) => stamp(os),
         Err(cause) => {
             let _ = os.remove_tree(dir);
             Err(cause)
@@ -56,17 +67,16 @@ fn settle<O: Os>(os: &mut O, dir: &Text, tried: Result<(), Refused>) -> Result<u
     }
 }
 
-/// Starts a body or a list in a new directory, and answers the moment, in milliseconds since 1970 in UTC.
+/// Starts a body in a new directory, and answers the moment, in milliseconds since 1970 in UTC.
 pub fn start_body<O: Os>(os: &mut O, dir: &Text, plan: &Spawning) -> Result<u64, Refused>
     ensures asked { (calls : List Call) × Chain O.leads os.old calls os.new
         × StartedAfresh (furnish_asks plan.now) dir.now calls result }
     ensures range { IfOk result (λ moment. moment ≤ LATEST_MOMENT) }
 {
-    if os.make_dir(dir).is_err() {
-        return Err(Refused::Directory);
+    match set_up(os, dir, plan) {
+        Ok(()) => stamp(os),
+        Err(cause) => Err(cause),
     }
-    let tried = furnish(os, plan);
-    settle(os, dir, tried)
 }
 
 /// Starts a cleanup in the directory of its body, and answers the moment, in milliseconds since 1970 in UTC.

@@ -1,7 +1,8 @@
 use super::script::{Scene, Script, script_of};
+use crate::watch::fresh_watch;
 use crate::{
-    Child, Driver, DriverFault, Polled, Spawning, Turn, Want, Watch, argv_plan, env_plan,
-    poll_once, read_kept, read_list, start_body, start_cleanup, workdir_plan,
+    Child, Driver, DriverFault, Polled, Spawning, Turn, Want, argv_plan, env_plan, poll_once,
+    read_kept, read_list, start_body, start_cleanup, workdir_plan,
 };
 use kt_atflist::ListBytes;
 use kt_base::{Interface, Outcome, Refused, Role, Text, Variables};
@@ -16,11 +17,7 @@ const CHILD: Child = Child {
 
 /// The outcome of a child with a limit of one second, and the poll that told it, counted from 0.
 fn outcome_of<R: Abort>(os: &mut Script<'_, R>) -> (u32, Outcome) {
-    let mut watch = Watch {
-        before: 0,
-        killed: false,
-        after: 0,
-    };
+    let mut watch = fresh_watch();
     for poll in 0..1000 {
         match poll_once(os, CHILD, 1, &mut watch) {
             Turn::More => {}

@@ -1,16 +1,20 @@
-use Rattle.std.proofs.Common.{rules, [], ◌∷◌, ◌++◌, true, false, refl, inr}
-use Rattle.kt_child.specs.Calls.{MakeDir}
+use Rattle.std.proofs.Common.{[], ◌∷◌, ◌++◌, refl}
+use Rattle.kt_child.specs.Calls.{Now}
+use Rattle.kt_child.specs.Starts.{furnish_asks}
 use Rattle.kt_child.proofs.Chains.{chain_append}
+use Rattle.kt_child.proofs.NewStarts.{afresh_done, afresh_refused}
 use Rattle.kt_child.proofs.starts.start_body.Goals as goal
 
-pub returns-then-is_err-clause-asked : goal.returns-then-is_err-clause-asked
-returns-then-is_err-clause-asked g c = (MakeDir c.args.dir.now false ∷ [], search rules, search rules)
-
-pub returns-clause-asked : goal.returns-clause-asked
-returns-clause-asked g c =
-    let before = c.furnish-tried.ensures.0 in
-    let last = c.settle.ensures.settled.0 in (
-      MakeDir c.args.dir.now true ∷ (before ++ last ∷ []),
-      (_, search rules, chain_append g.O.Os.leads _ _ _ before (last ∷ []) c.furnish-tried.ensures.1 (_, c.settle.ensures.settled.1, refl)),
-      inr (before ++ last ∷ [], refl, (_, before, last, c.furnish-tried.ensures.2, c.settle.ensures.settled.2, refl)),
+pub returns-in-Ok-clause-asked : goal.returns-in-Ok-clause-asked
+returns-in-Ok-clause-asked g c =
+    let f = c.in-Ok.ensures in
+    let s = c.stamp.ensures.asked in (
+      f.0 ++ Now s.0 ∷ [],
+      chain_append g.O.Os.leads _ _ _ f.0 (Now s.0 ∷ []) f.1 (_, s.1, refl),
+      afresh_done (furnish_asks c.args.plan.now) c.args.dir.now f.0 _ s.0 c.stamp.result f.2 s.2,
     )
+
+pub returns-in-Err-clause-asked : goal.returns-in-Err-clause-asked
+returns-in-Err-clause-asked g c =
+    let f = c.in-Err.ensures in
+    (f.0, f.1, afresh_refused (furnish_asks c.args.plan.now) c.args.dir.now f.0 _ f.2)

@@ -1,7 +1,7 @@
 use Rattle.std.proofs.Common.{rules, [], ◌∷◌, ◌++◌, true, false, refl, inr, is_ok}
 use Rattle.kt_child.specs.Calls.{MakeDir, RemoveTree}
 use Rattle.kt_child.proofs.Chains.{chain_append}
-use Rattle.kt_child.proofs.list_start.start_list.Goals as goal
+use Rattle.kt_child.proofs.new_starts.set_up.Goals as goal
 
 pub returns-then-is_err : goal.returns-then-is_err
 returns-then-is_err g c = (MakeDir c.args.dir.now false ∷ [], search rules, search rules)

@@ -1,16 +1,15 @@
 ghost use Rattle.std.specs.Prelude.{List};
 ghost use Rattle.kt_child.specs.Calls.{Call, Chain};
-ghost use Rattle.kt_child.specs.Lists.{ListStarts};
-ghost use Rattle.kt_child.specs.Starts.{furnish_asks};
+ghost use Rattle.kt_child.specs.Starts.{SetUp, furnish_asks};
 
 use crate::os::Os;
 use crate::spawning::Spawning;
 use crate::starts::furnish;
 use kt_base::{Refused, Text};
 
-/// Starts a list in a new directory. It asks for no moment.
-pub(super) fn start_list<O: Os>(os: &mut O, dir: &Text, plan: &Spawning) -> Result<(), Refused>
-    ensures { (calls : List Call) × Chain O.leads os.old calls os.new × ListStarts (furnish_asks plan.now) dir.now calls result }
+/// Starts a body or a list in a new directory. It asks for no moment.
+pub(super) fn set_up<O: Os>(os: &mut O, dir: &Text, plan: &Spawning) -> Result<(), Refused>
+    ensures { (calls : List Call) × Chain O.leads os.old calls os.new × SetUp (furnish_asks plan.now) dir.now calls result }
 {
     if os.make_dir(dir).is_err() {
         return Err(Refused::Directory);
