@@ -11,6 +11,7 @@ use Rattle.kt_suite.specs.declared.fault.SuiteFault.{SuiteFault}
 use Rattle.kt_store.specs.declared.store_fault.StoreFault.{StoreFault}
 use Rattle.kt_store.specs.declared.store_fault.StoreFault.TheVariants as store
 
+-- the words of a script's fault
 abbrev pub script_text : ScriptFault → List ℕ
 script_text script.NoMemory = codes "out of memory"
 script_text script.NotUtf8 = codes "not UTF-8"
@@ -34,10 +35,12 @@ fixed_text cause.Unreadable = codes "file could not be read"
 fixed_text cause.TooMany = codes "too many programs or files"
 fixed_text (cause.Script fault) = script_text fault
 
+-- the words of a cause
 abbrev pub cause_text : SuiteCause → List ℕ
 cause_text (cause.WrongSyntax n) = codes "syntax " ++ decimal n ++ codes " not supported"
 cause_text other = fixed_text other
 
+-- what begins each line of a fault
 abbrev pub error_mark : List ℕ
 error_mark = codes "kyua: E: "
 
@@ -49,9 +52,11 @@ memory_line = codes "kyua: E: out of memory\n"
 abbrev pub store_line : List ℕ
 store_line = codes "kyua: E: results store failed\n"
 
+-- a fault that has a place: its file, its line and its cause
 abbrev pub placed_line : SuiteFault → List ℕ
 placed_line fault = error_mark ++ fault.path ++ codes ":" ++ decimal fault.line ++ codes ": " ++ cause_text fault.cause ++ codes "\n"
 
+-- a fault by its cause: want of memory has no place
 abbrev pub line_by : SuiteCause → SuiteFault → List ℕ
 line_by cause.NoMemory fault = memory_line
 line_by _ fault = placed_line fault

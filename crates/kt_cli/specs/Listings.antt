@@ -12,6 +12,7 @@ use Rattle.kt_cli.specs.Pages.{Printed}
 abbrev pub main_name : List ℕ
 main_name = codes "main"
 
+-- the line of a program's one case
 abbrev pub case_line : Program → List ℕ
 case_line program = program.path ++ (codes ":" ++ main_name ++ codes "\n")
 
@@ -20,6 +21,7 @@ abbrev pub listing : Outcome → List ℕ
 listing (Ok programs) = flat_map case_line programs
 listing (Err fault) = fault_line fault
 
+-- the exit of a listing: 2 where the tree has a fault
 abbrev pub listing_exit : Outcome → ℕ
 listing_exit (Ok programs) = 0
 listing_exit (Err fault) = 2

@@ -7,9 +7,9 @@ use Rattle.kt_store.specs.Runs.{AreNumbered, new_run, run_at, with_entry, has_po
 use Rattle.kt_store.specs.declared.store_fault.StoreFault.{StoreFault}
 use Rattle.kt_store.specs.declared.store_fault.StoreFault.TheVariants.{StoreFull, NoRun, RunClosed, BadPosition, RepeatedPosition, Incomplete}
 
--- a new run is the last one
+-- a new run is the last one, and none is begun where the runs are as many as may be
 abbrev pub BeginsRun : List Run → ℕ → ℕ → Result ℕ StoreFault → List Run → Type 0
-BeginsRun old total moment (Ok number) new = (number ≡ suc (length old)) × (new ≡ old ++ new_run old total moment ∷ [])
+BeginsRun old total moment (Ok number) new = (number ≡ suc (length old)) × (length old < 1000000) × (new ≡ old ++ new_run old total moment ∷ [])
 BeginsRun old total moment (Err fault) new = (IsStoreFault fault ⊎ ((fault ≡ StoreFull) × (1000000 ≤ length old))) × (new ≡ old)
 
 -- an entry is put exactly where nothing refuses it

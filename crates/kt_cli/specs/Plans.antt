@@ -22,6 +22,7 @@ job_of i program = record {
   decided = None;
 }
 
+-- a job for each program, the first at this position
 abbrev pub plan_from : ℕ → List Program → List Job
 plan_from i [] = []
 plan_from i (program ∷ programs) = job_of i program ∷ plan_from (suc i) programs

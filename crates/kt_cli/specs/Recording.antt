@@ -11,6 +11,7 @@ use Rattle.kt_store.specs.Runs.{with_entry}
 use Rattle.kt_cli.specs.Pages.{Says}
 use Rattle.kt_cli.specs.Stores.{Moves, put_all}
 
+-- what a scheduler is told of a store's refusal
 abbrev pub sink_fault_of : StoreFault → SinkFault
 sink_fault_of NoMemory = Memory
 sink_fault_of other = Other

@@ -45,11 +45,13 @@ pub record RecordedSome (plan : List Job) (T : Trace) (entries refused : List En
   pub one : refused ≡ entry ∷ []
   pub stopped : IsStopped plan T entries entry
 
+-- memory ran out before the first call, and nothing was recorded
 pub record RecordedNone (T : Trace) (entries refused : List Entry) : Type 0 where
   pub events : T ≡ NoEvent
   pub none : entries ≡ []
   pub taken : refused ≡ []
 
+-- how a recording ended, by its answer
 abbrev pub RecordEnds : List Job → Trace → List Entry → List Entry → Result Totals RunFault → Type 0
 RecordEnds plan T entries refused (Ok totals) = RecordedAll plan T entries refused totals
 RecordEnds plan T entries refused (Err (SinkFailed fault)) = RecordedSome plan T entries refused

@@ -39,6 +39,7 @@ failure_exit = 2
 abbrev pub wrong_words_exit : ℕ
 wrong_words_exit = 3
 
+-- the exit of a command line that was refused
 abbrev pub command_exit : CommandFault → ℕ
 command_exit command.NoMemory = failure_exit
 command_exit other = wrong_words_exit

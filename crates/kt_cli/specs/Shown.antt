@@ -7,6 +7,7 @@ use Rattle.kt_cli.specs.declared.not_shown.NotShown.TheVariants.{NoRuns, NoRun, 
 use Rattle.kt_cli.specs.FaultLines.{refusal_line}
 use Rattle.kt_cli.specs.Reports.{chosen, missing_line, no_runs_line, no_run_line}
 
+-- the line that tells why no run is shown
 abbrev pub not_shown_line : NotShown → List ℕ
 not_shown_line NoRuns = no_runs_line
 not_shown_line (NoRun number) = no_run_line number

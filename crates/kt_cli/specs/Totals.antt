@@ -5,9 +5,11 @@ use Rattle.kt_base.specs.Kinds.{good as is_good}
 use Rattle.kt_base.specs.declared.entry.Entry.{Entry}
 use Rattle.kt_report.specs.Lines.{line_bytes}
 
+-- how many entries are good
 abbrev pub good_count : List Entry → ℕ
 good_count entries = count_by (λ (e : Entry). is_good e.verdict.kind) entries
 
+-- how many entries are bad
 abbrev pub bad_count : List Entry → ℕ
 bad_count entries = count_by (λ (e : Entry). not (is_good e.verdict.kind)) entries
 

@@ -4,7 +4,7 @@ use kt_store::{RunHead, StoreFault};
 /// Where runs are recorded. Each call's refusals come in a stated order and change nothing; `NoMemory` and `Store` come
 /// where memory or the store itself failed. What was read is right while the store is sound.
 pub trait ResultStore {
-    ghost use Rattle.std.specs.Prelude.{ℕ, suc, List, [], ◌∷◌, ◌++◌, Some, None, ◌≡◌, ◌≤◌, ◌⊎◌, length, map, OnOk, OnErr, IfOk, IfErr};
+    ghost use Rattle.std.specs.Prelude.{ℕ, suc, List, [], ◌∷◌, ◌++◌, Some, None, ◌≡◌, ◌≤◌, ◌<◌, ◌⊎◌, length, map, OnOk, OnErr, IfOk, IfErr};
     ghost use Rattle.kt_base.specs.declared.run.Run.{Run};
     ghost use Rattle.kt_store.specs.Ask.{IsStoreFault};
     ghost use Rattle.kt_store.specs.Heads.{head_of};
@@ -26,6 +26,7 @@ pub trait ResultStore {
         requires { moment ≤ 253402300799999 }
         ensures added { (runs : List Run) → stands self.old runs → OnOk result (stands self.new (runs ++ new_run runs total moment ∷ [])) }
         ensures number { (runs : List Run) → stands self.old runs → sound self.new → IfOk result (λ n. n ≡ suc (length runs)) }
+        ensures allowed { (runs : List Run) → stands self.old runs → sound self.new → OnOk result (length runs < 1000000) }
         ensures kept { (runs : List Run) → stands self.old runs → OnErr result (stands self.new runs) }
         ensures refused { (runs : List Run) → stands self.old runs → sound self.new → IfErr result (λ e. IsStoreFault e ⊎ ((e ≡ StoreFull) × (1000000 ≤ length runs))) }
         ensures earlier { (runs : List Run) → stands self.old runs → sound self.new → sound self.old }

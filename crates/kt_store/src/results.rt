@@ -93,6 +93,7 @@ impl<S: Alter> Results<S> {
         // The runs are then those from before with the new one.
         ensures added { (runs : _) → StandsFor (state S.Store self.old) runs → OnOk result (StandsFor (state S.Store self.new) (runs ++ new_run runs total moment ∷ [])) }
         ensures number { (runs : _) → StandsFor (state S.Store self.old) runs → HasCleanDisk (state S.Store self.new) → IfOk result (λ n. n ≡ suc (length runs)) }
+        ensures allowed { (runs : _) → StandsFor (state S.Store self.old) runs → HasCleanDisk (state S.Store self.new) → OnOk result (length runs < 1000000) }
         // A refusal changes nothing.
         ensures kept { (runs : _) → StandsFor (state S.Store self.old) runs → OnErr result (StandsFor (state S.Store self.new) runs) }
         ensures refused { (runs : _) → StandsFor (state S.Store self.old) runs → HasCleanDisk (state S.Store self.new)

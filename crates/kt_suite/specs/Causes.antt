@@ -15,6 +15,7 @@ cause_of_read Missing = Unreadable
 cause_of_read Failed = Unreadable
 cause_of_read Memory = NoMemory
 
+-- a script that can't be read is refused for this; want of memory is one cause, wherever it comes
 abbrev pub cause_of_script : ScriptFault → SuiteCause
 cause_of_script script.NoMemory = NoMemory
 cause_of_script script.NotUtf8 = Script script.NotUtf8

@@ -27,6 +27,7 @@ version_fault (Value (Text t)) = Some BadValue
 version_fault (Value (Truth b)) = Some BadValue
 version_fault (Table pairs) = Some BadValue
 
+-- a call that stands first is refused for this
 abbrev pub first_call_fault : CallKind → Arg → Option SuiteCause
 first_call_fault call.Syntax arg = version_fault arg
 first_call_fault call.TestSuite arg = Some NoSyntax
@@ -42,6 +43,7 @@ opening_fault (Assign parts value) = Some NoSyntax
 abbrev pub new_suite : List ℕ → Meaning
 new_suite text = if is_empty text then meaning.Wrong BadValue else meaning.Suite text
 
+-- `test_suite` names the suite from here on
 abbrev pub suite_meaning : Arg → Meaning
 suite_meaning (Value v) = new_suite (text_of v)
 suite_meaning (Table pairs) = meaning.Wrong BadValue
@@ -76,14 +78,17 @@ named interface file own None = meaning.Wrong BadValue
 named interface file own (Some name) =
     if is_empty name then meaning.Wrong BadValue else if has_directory name then meaning.Wrong PathHasDirectory else suited interface name file own
 
+-- a program by what its table declares, which is nothing where a key is unknown
 abbrev pub declared_meaning : Interface → Option (List ℕ) → Option ProgramTable → Meaning
 declared_meaning interface file None = meaning.Wrong UnknownProperty
 declared_meaning interface file (Some d) = named interface file d.suite d.name
 
+-- a program by its table
 abbrev pub program_meaning : Interface → Option (List ℕ) → Arg → Meaning
 program_meaning interface file (Value v) = meaning.Wrong BadValue
 program_meaning interface file (Table pairs) = declared_meaning interface file (declared pairs)
 
+-- a call that stands after the first
 abbrev pub call_meaning : Option (List ℕ) → CallKind → Arg → Meaning
 call_meaning file call.Syntax arg = meaning.Wrong UnknownCall
 call_meaning file call.TestSuite arg = suite_meaning arg

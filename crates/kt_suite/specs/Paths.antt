@@ -2,10 +2,12 @@
 use Rattle.std.specs.Prelude.{ℕ, Bool, true, false, List, [], ◌∷◌, ◌++◌, ◌==◌, ◌||◌, drop, length, codes, bytes_eq, if◌then◌else◌}
 use Rattle.std.specs.List.{list_any}
 
+-- a text has no character
 abbrev pub is_empty : List ℕ → Bool
 is_empty [] = true
 is_empty (c ∷ cs) = false
 
+-- a character parts a path
 abbrev pub is_slash : ℕ → Bool
 is_slash c = c == 47
 

@@ -19,6 +19,7 @@ use Rattle.kt_suite.specs.Answers.{Asked, Read, Exists}
 use Rattle.kt_suite.specs.Paths.{beside}
 use Rattle.kt_suite.specs.Meanings.{meaning_of, opening_fault}
 
+-- the most programs that a tree may register
 abbrev pub program_limit : ℕ
 program_limit = 10000
 
@@ -26,6 +27,7 @@ program_limit = 10000
 abbrev pub Outcome : Type 0
 Outcome = Result (List Program) SuiteFault
 
+-- a fault of a file, told on a line
 abbrev pub fault_at : List ℕ → ℕ → SuiteCause → SuiteFault
 fault_at file line cause = record { cause = cause; path = file; line = line }
 

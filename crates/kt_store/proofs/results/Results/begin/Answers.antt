@@ -1,5 +1,7 @@
-use Rattle.std.proofs.Common.{◌++◌, ◌∷◌, []}
+use Rattle.std.proofs.Common.{◌++◌, ◌∷◌, [], ◌<◌, length, arith}
+use Rattle.std.proofs.lemmas.Result.{on_ok_weaker}
 use Rattle.sqlite.specs.Held.{state}
+use Rattle.sqlite.specs.State.{HasCleanDisk}
 use Rattle.sqlite.proofs.StateLemmas.{survives_then, survives_weaker}
 use Rattle.kt_store.specs.Runs.{Keeps, new_run}
 use Rattle.kt_store.specs.Stands.{StandsFor}
@@ -27,6 +29,14 @@ pub returns-clause-number : goal.returns-clause-number
 returns-clause-number g c runs has =
     let held : StandsFor (state g.S.Store c.self.inside.conn) runs = inside_stands g.S.Store c.self.inside.conn c.args.self.now c.self.view_is runs has in
     c.add_run.ensures.number runs (c.is_full.ensures.stands runs held) (λ clean. (c.in_ok-is_full.ensures.full runs held clean).1 c.if-branch.false)
+
+pub returns-clause-allowed : goal.returns-clause-allowed
+returns-clause-allowed g c runs has clean =
+    let held : StandsFor (state g.S.Store c.self.inside.conn) runs = inside_stands g.S.Store c.self.inside.conn c.args.self.now c.self.view_is runs has in
+    let mid = c.is_full.ensures.stands runs held in
+    let room : HasCleanDisk (state g.S.Store c.is_full.new.conn) → length runs < 1000000 = λ k. (c.in_ok-is_full.ensures.full runs held k).1 c.if-branch.false in
+    let added = c.add_run.ensures.crash runs mid room in
+    on_ok_weaker _ (λ _. room (omega (arith, clean, added.clean))) (c.add_run.ensures.added runs mid room)
 
 pub returns-clause-crash : goal.returns-clause-crash
 returns-clause-crash g c runs has =
