@@ -1,5 +1,5 @@
 -- What the host may answer, whatever the system does.
-use Rattle.std.specs.Prelude.{◌≡◌, ◌≢◌, ◌≤◌, ◌/◌, ◌%◌, ℕ, length, true, false, Result, Ok, Err}
+use Rattle.std.specs.Prelude.{◌≡◌, ◌≢◌, ◌≤◌, ◌/◌, ◌%◌, ◌==◌, ℕ, length, true, false, Result, Ok, Err}
 use Rattle.kt_child.specs.declared.os_fault.OsFault.{OsFault}
 use Rattle.kt_child.specs.declared.file_read.FileRead.{FileRead}
 use Rattle.kt_child.specs.declared.file_read.FileRead.TheVariants.{Missing, Part}
@@ -28,9 +28,10 @@ IsHostAnswer (ReadPart path from limit answer) = IsHostRead limit answer
 IsHostAnswer (Now answer) = Unit {0}
 
 -- What the wait status of a child tells: its low 7 bits are 0 of one that exited, with the next 8 as its exit code, and
--- else the signal that ended it; 127 is that of one which has not ended.
+-- else the signal that ended it; 127 is that of one which has not ended. The bit above them tells of a core dump.
 abbrev pub IsPolledOf : ℕ → Result Polled OsFault → Type 0
 IsPolledOf bits (Ok Running) = ⊥
 IsPolledOf bits (Ok (Exited code)) = (bits % 128 ≡ 0) × (code ≡ bits / 256 % 256)
-IsPolledOf bits (Ok (Signaled signal core)) = (signal ≡ bits % 128) × (bits % 128 ≢ 0) × (bits % 128 ≢ 127)
+IsPolledOf bits (Ok (Signaled signal core)) =
+    (signal ≡ bits % 128) × (bits % 128 ≢ 0) × (bits % 128 ≢ 127) × (core ≡ (bits / 128 % 2 == 1))
 IsPolledOf bits (Err _) = bits % 128 ≡ 127

@@ -1,3 +1,4 @@
+ghost use Rattle.std.specs.Prelude.{◌≡◌, ◌==◌, ◌/◌, ◌%◌};
 ghost use Rattle.std.specs.Process.{status_bits};
 ghost use Rattle.kt_child.specs.HostAnswers.{IsHostAnswer, IsPolledOf};
 
@@ -39,6 +40,13 @@ pub struct HostOs<R: Processes> {
     quiet: u32,
 }
 
+/// Whether a wait status tells of a core dump.
+fn has_core(status: ExitStatus) -> bool
+    ensures { result ≡ (status_bits status / 128 % 2 == 1) }
+{
+    status.into_raw().cast_unsigned() / 128 % 2 == 1
+}
+
 /// How a child ended. A status that tells neither an exit nor a signal is a fault.
 fn polled(status: ExitStatus) -> Result<Polled, OsFault>
     ensures { IsPolledOf (status_bits status) result }
@@ -49,7 +57,7 @@ fn polled(status: ExitStatus) -> Result<Polled, OsFault>
     }
     if let Some(signal) = status.signal() {
         let signal = u8::try_from(signal).map_err(|_| OsFault)?;
-        return Ok(Polled::Signaled(signal, status.core_dumped()));
+        return Ok(Polled::Signaled(signal, has_core(status)));
     }
     Err(OsFault)
 }
