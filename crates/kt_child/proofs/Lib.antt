@@ -4,6 +4,7 @@ pub mod CasePlaces
 pub mod Chains
 pub mod EndSilence
 pub mod EndSteps
+pub mod HostFronts
 pub mod HostSteps
 pub mod IdleRows
 pub mod Mapped

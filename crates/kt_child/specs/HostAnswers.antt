@@ -1,5 +1,7 @@
 -- What the host may answer, whatever the system does.
-use Rattle.std.specs.Prelude.{◌≡◌, ◌≢◌, ◌≤◌, ◌/◌, ◌%◌, ◌==◌, ℕ, length, true, false, Result, Ok, Err}
+use Rattle.std.specs.Prelude.{◌≡◌, ◌≢◌, ◌≤◌, ◌/◌, ◌%◌, ◌==◌, ◌<◌, ℕ, List, length, take, true, false, Result, Ok, Err}
+use Rattle.std.specs.declared.io.ErrorKind.{ErrorKind}
+use Rattle.std.specs.declared.io.ErrorKind.TheVariants.{NotFound}
 use Rattle.kt_child.specs.declared.os_fault.OsFault.{OsFault}
 use Rattle.kt_child.specs.declared.file_read.FileRead.{FileRead}
 use Rattle.kt_child.specs.declared.file_read.FileRead.TheVariants.{Missing, Part}
@@ -13,6 +15,26 @@ IsHostRead limit (Err _) = Unit {0}
 IsHostRead limit (Ok Missing) = Unit {0}
 IsHostRead limit (Ok (Part bytes true)) = length bytes ≡ limit
 IsHostRead limit (Ok (Part bytes false)) = length bytes ≤ limit
+
+-- A read with this limit of a file that has these bytes left: the first of them, as many as the limit, and whether more
+-- follow.
+abbrev pub IsFront : ℕ → List ℕ → Result FileRead OsFault → Type 0
+IsFront limit xs (Err _) = Unit {0}
+IsFront limit xs (Ok Missing) = ⊥
+IsFront limit xs (Ok (Part bytes true)) = (bytes ≡ take limit xs) × (limit < length xs)
+IsFront limit xs (Ok (Part bytes false)) = (bytes ≡ xs) × (length xs ≤ limit)
+
+-- a read of a file that was opened never answers that there is none
+abbrev pub IsOpened : Result FileRead OsFault → Type 0
+IsOpened (Err _) = Unit {0}
+IsOpened (Ok Missing) = ⊥
+IsOpened (Ok (Part bytes follows)) = Unit {0}
+
+-- where it can't be opened, there is none exactly where the system said so
+abbrev pub IsUnopened : ErrorKind → Result FileRead OsFault → Type 0
+IsUnopened kind (Err _) = kind ≢ NotFound
+IsUnopened kind (Ok Missing) = kind ≡ NotFound
+IsUnopened kind (Ok (Part bytes follows)) = ⊥
 
 -- an answer of the host keeps to the limit of its read; of the other calls nothing is said
 abbrev pub IsHostAnswer : Call → Type 0
