@@ -7,14 +7,19 @@ use Rattle.kt_child.specs.declared.file_read.FileRead.{FileRead}
 use Rattle.kt_child.specs.declared.file_read.FileRead.TheVariants.{Missing, Part}
 use Rattle.kt_child.specs.declared.polled.Polled.{Polled}
 use Rattle.kt_child.specs.declared.polled.Polled.TheVariants.{Running, Exited, Signaled}
+use Rattle.kt_child.specs.Reads.{IsReadWithin}
 use Rattle.kt_child.specs.Calls.{Call, MakeDir, RemoveTree, OpenOutput, Spawn, Poll, Kill, Pause, ReadFile, ReadPart, Now}
+
+-- where more bytes follow, a read has as many as its limit
+abbrev pub IsFilled : ℕ → Result FileRead OsFault → Type 0
+IsFilled limit (Err _) = Unit {0}
+IsFilled limit (Ok Missing) = Unit {0}
+IsFilled limit (Ok (Part bytes true)) = length bytes ≡ limit
+IsFilled limit (Ok (Part bytes false)) = Unit {0}
 
 -- a read with this limit answers no more bytes, and so many where more follow
 abbrev pub IsHostRead : ℕ → Result FileRead OsFault → Type 0
-IsHostRead limit (Err _) = Unit {0}
-IsHostRead limit (Ok Missing) = Unit {0}
-IsHostRead limit (Ok (Part bytes true)) = length bytes ≡ limit
-IsHostRead limit (Ok (Part bytes false)) = length bytes ≤ limit
+IsHostRead limit answer = IsReadWithin limit answer × IsFilled limit answer
 
 -- A read with this limit of a file that has these bytes left: the first of them, as many as the limit, and whether more
 -- follow.
