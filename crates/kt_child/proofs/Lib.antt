@@ -5,6 +5,9 @@ pub mod Chains
 pub mod EndSilence
 pub mod EndSteps
 pub mod HostFronts
+pub mod HostNames
+pub mod HostPlaces
+pub mod HostStandings
 pub mod HostSteps
 pub mod IdleRows
 pub mod Mapped

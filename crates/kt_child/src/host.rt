@@ -6,6 +6,7 @@ use crate::child::Child;
 use crate::env::EnvPlan;
 use crate::file_read::FileRead;
 use crate::host_child::HostChild;
+use crate::host_children;
 use crate::host_command::command_of;
 use crate::host_faults::or_fault;
 use crate::host_reads::read_regular;
@@ -14,9 +15,8 @@ use crate::os_fault::OsFault;
 use crate::polled::Polled;
 use kt_base::{Items, Text};
 use std::fs::{File, OpenOptions};
-use std::io::ErrorKind;
 use std::os::unix::process::ExitStatusExt;
-use std::process::{ExitStatus, OpenProcess, Processes};
+use std::process::{ExitStatus, Processes};
 use std::rt::{Clock, Files};
 use std::time::{Duration, SystemTime};
 use std::{fs, io, thread};
@@ -62,14 +62,6 @@ fn polled(status: ExitStatus) -> Result<Polled, OsFault>
     Err(OsFault)
 }
 
-fn named<P: OpenProcess>(
-    children: &mut Vec<HostChild<P>>,
-    child: Child,
-) -> Option<&mut HostChild<P>> {
-    let at = children.iter().position(|held| held.child == child)?;
-    children.get_mut(at)
-}
-
 impl<R: Processes + AllocGlobal + Drop> HostOs<R> {
     /// The system, with no child.
     pub fn new(rt: R) -> HostOs<R> {
@@ -80,38 +72,13 @@ impl<R: Processes + AllocGlobal + Drop> HostOs<R> {
             quiet: 0,
         }
     }
-
-    fn forget(&mut self, child: Child) {
-        self.children.retain(|held| held.child != child);
-    }
-
-    /// Keeps the file of an output: that of the errors where the other is there, else the first of a new child.
-    fn keep_output(&mut self, child: Child, file: File) -> Result<(), OsFault> {
-        if let Some(held) = named(&mut self.children, child) {
-            if held.wants_errors() {
-                held.keep_errors(file);
-                return Ok(());
-            }
-        }
-        self.forget(child);
-        match self.children.push(HostChild::new(child, file)) {
-            Ok(()) => Ok(()),
-            Err(_) => Err(OsFault),
-        }
-    }
-
-    /// Whether a child has ended since the last pause looked.
-    fn has_new_end(&mut self) -> bool {
-        for held in self.children.iter_mut() {
-            if held.has_new_end() {
-                return true;
-            }
-        }
-        false
-    }
 }
 
 impl<R: Processes + Files<File = File> + Clock + AllocGlobal + Drop> HostOs<R> {
+    ghost use Rattle.std.specs.Prelude.{IsSome, OnOk};
+    ghost use Rattle.kt_child.specs.HostStands.{OthersStay, stand_in};
+
+    /// Starts a program for a child of which the files were opened.
     fn launch(
         &mut self,
         child: Child,
@@ -119,12 +86,12 @@ impl<R: Processes + Files<File = File> + Clock + AllocGlobal + Drop> HostOs<R> {
         words: &Items<Text>,
         env: &EnvPlan,
         dir: &Text,
-    ) -> io::Result<()> {
+    ) -> io::Result<()>
+        ensures started { OnOk result (IsSome (stand_in self.new.children.items child)) }
+        ensures others { OthersStay child (stand_in self.old.children.items) (stand_in self.new.children.items) }
+    {
         let mut command = command_of(self.rt.alloc(), program, words, env, dir)?;
-        match named(&mut self.children, child) {
-            Some(held) => held.launch(&self.rt, &mut command),
-            None => Err(io::Error::from(ErrorKind::NotFound)),
-        }
+        host_children::launch(&mut self.children, child, &self.rt, &mut command)
     }
 }
 
@@ -146,9 +113,9 @@ impl<R: Processes + Files<File = File> + Clock + AllocGlobal + Drop> Os for Host
             .create_new(true)
             .open(&self.rt, path.as_str());
         match opened {
-            Ok(file) => self.keep_output(child, file),
+            Ok(file) => host_children::keep_output(&mut self.children, child, file),
             Err(_) => {
-                self.forget(child);
+                host_children::forget(&mut self.children, child);
                 Err(OsFault)
             }
         }
@@ -162,30 +129,29 @@ impl<R: Processes + Files<File = File> + Clock + AllocGlobal + Drop> Os for Host
         env: &EnvPlan,
         dir: &Text,
     ) -> Result<(), OsFault> {
-        let answer = self.launch(child, program, words, env, dir);
-        if answer.is_err() {
-            self.forget(child);
+        match self.launch(child, program, words, env, dir) {
+            Ok(()) => Ok(()),
+            Err(_) => {
+                host_children::forget(&mut self.children, child);
+                Err(OsFault)
+            }
         }
-        or_fault(answer)
     }
 
     fn poll(&mut self, child: Child) -> Result<Polled, OsFault> {
-        let Some(held) = named(&mut self.children, child) else {
-            return Err(OsFault);
-        };
-        let Some(status) = held.poll(&self.rt)? else {
-            return Ok(Polled::Running);
-        };
-        self.forget(child);
-        self.quiet = 0;
-        polled(status)
+        match host_children::poll(&mut self.children, child, &self.rt) {
+            Err(fault) => Err(fault),
+            Ok(None) => Ok(Polled::Running),
+            Ok(Some(status)) => {
+                host_children::forget(&mut self.children, child);
+                self.quiet = 0;
+                polled(status)
+            }
+        }
     }
 
     fn kill(&mut self, child: Child) -> Result<(), OsFault> {
-        match named(&mut self.children, child) {
-            Some(held) => held.kill(),
-            None => Err(OsFault),
-        }
+        host_children::kill(&mut self.children, child)
     }
 
     fn pause(&mut self) -> Result<(), OsFault> {
@@ -193,14 +159,9 @@ impl<R: Processes + Files<File = File> + Clock + AllocGlobal + Drop> Os for Host
             thread::sleep(&self.rt, Duration::from_millis(PAUSE));
             return Ok(());
         }
-        self.quiet += 1;
-        for _ in 0..PAUSE {
-            thread::sleep(&self.rt, Duration::from_millis(1));
-            if self.has_new_end() {
-                self.quiet = 0;
-                break;
-            }
-        }
+        let quiet = self.quiet + 1;
+        let ended = host_children::await_end(&mut self.children, &self.rt, PAUSE);
+        self.quiet = if ended { 0 } else { quiet };
         Ok(())
     }
 

@@ -12,6 +12,7 @@ mod file_read;
 mod gathering;
 mod host;
 mod host_child;
+mod host_children;
 mod host_command;
 mod host_faults;
 mod host_reads;
