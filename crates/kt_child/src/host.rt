@@ -1,6 +1,6 @@
 ghost use Rattle.std.specs.Prelude.{◌≡◌, ◌==◌, ◌/◌, ◌%◌};
 ghost use Rattle.std.specs.Process.{status_bits};
-ghost use Rattle.kt_child.specs.HostAnswers.{IsHostAnswer, IsPolledOf};
+ghost use Rattle.kt_child.specs.HostAnswers.{IsPolledOf};
 
 use crate::child::Child;
 use crate::env::EnvPlan;
@@ -63,8 +63,14 @@ fn polled(status: ExitStatus) -> Result<Polled, OsFault>
 }
 
 impl<R: Processes + AllocGlobal + Drop> HostOs<R> {
+    ghost use Rattle.std.specs.Prelude.{◌≡◌, None};
+    ghost use Rattle.kt_child.specs.declared.child.Child.{Child as Name};
+    ghost use Rattle.kt_child.specs.HostStands.{stand_in};
+
     /// The system, with no child.
-    pub fn new(rt: R) -> HostOs<R> {
+    pub fn new(rt: R) -> HostOs<R>
+        ensures { (c : Name) → stand_in result.children.items c ≡ None }
+    {
         let children = Vec::new(rt.alloc());
         HostOs {
             rt,
@@ -96,8 +102,12 @@ impl<R: Processes + Files<File = File> + Clock + AllocGlobal + Drop> HostOs<R> {
 }
 
 impl<R: Processes + Files<File = File> + Clock + AllocGlobal + Drop> Os for HostOs<R> {
-    // Of the system itself nothing is said.
-    ghost leads = { λ _ call _. IsHostAnswer call };
+    // What the system does with its files, its processes and its clock is not said: how the children stand that are
+    // kept here is, and that what is told of them and of a file is what the library answered.
+    ghost use Rattle.kt_child.specs.HostStands.{stand_in};
+    ghost use Rattle.kt_child.specs.HostAnswers.{HostLeads};
+
+    ghost leads = { λ old call new. HostLeads (stand_in old.children.items) call (stand_in new.children.items) };
 
     fn make_dir(&mut self, path: &Text) -> Result<(), OsFault> {
         or_fault(fs::create_dir(&self.rt, path.as_str()))
