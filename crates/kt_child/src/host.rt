@@ -9,12 +9,13 @@ use crate::host_child::HostChild;
 use crate::host_children;
 use crate::host_command::command_of;
 use crate::host_faults::or_fault;
+use crate::host_outputs::create_output;
 use crate::host_reads::read_regular;
 use crate::os::Os;
 use crate::os_fault::OsFault;
 use crate::polled::Polled;
 use kt_base::{Items, Text};
-use std::fs::{File, OpenOptions};
+use std::fs::File;
 use std::os::unix::process::ExitStatusExt;
 use std::process::{ExitStatus, Processes};
 use std::rt::{Clock, Files};
@@ -118,11 +119,7 @@ impl<R: Processes + Files<File = File> + Clock + AllocGlobal + Drop> Os for Host
     }
 
     fn open_output(&mut self, child: Child, path: &Text) -> Result<(), OsFault> {
-        let opened = OpenOptions::new()
-            .write(true)
-            .create_new(true)
-            .open(&self.rt, path.as_str());
-        match opened {
+        match create_output(&self.rt, path.as_str()) {
             Ok(file) => host_children::keep_output(&mut self.children, child, file),
             Err(_) => {
                 host_children::forget(&mut self.children, child);

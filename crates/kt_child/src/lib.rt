@@ -15,6 +15,7 @@ mod host_child;
 mod host_children;
 mod host_command;
 mod host_faults;
+mod host_outputs;
 mod host_reads;
 mod jobs;
 mod launches;
