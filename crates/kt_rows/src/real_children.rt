@@ -124,14 +124,18 @@ fn each_program_has_its_verdict_at_each_width<R: Abort + AllocGlobal, O: Os + Dr
                 "at {}",
                 program.case.program
             );
-            let (out, err) = match program.case.program {
-                "three" => (5, 6),
-                "tap" => (19, 0),
-                "long" => (65_536, 0),
-                _ => (0, 0),
-            };
-            assert_eq!(rt; entry.body.out.len(), out, "at {}", program.case.program);
-            assert_eq!(rt; entry.body.err.len(), err, "at {}", program.case.program);
+            assert_eq!(rt;
+                entry.body.out.len(),
+                program.out,
+                "at {}",
+                program.case.program
+            );
+            assert_eq!(rt;
+                entry.body.err.len(),
+                program.err,
+                "at {}",
+                program.case.program
+            );
         }
     }
     Ok(os)
