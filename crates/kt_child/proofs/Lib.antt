@@ -4,6 +4,10 @@ pub mod CasePlaces
 pub mod Chains
 pub mod EndSilence
 pub mod EndSteps
+pub mod HostFronts
+pub mod HostNames
+pub mod HostPlaces
+pub mod HostStandings
 pub mod HostSteps
 pub mod IdleRows
 pub mod Mapped

@@ -1,5 +1,5 @@
 -- What follows the last poll of a child.
-use Rattle.std.specs.Prelude.{◌≡◌, ℕ, Bool, true, false, ◌&&◌, List, [], ◌∷◌, ◌++◌, Result, if◌then◌else◌}
+use Rattle.std.specs.Prelude.{◌≡◌, ◌≤◌, ℕ, Bool, true, false, ◌&&◌, List, [], ◌∷◌, ◌++◌, length, Result, if◌then◌else◌}
 use Rattle.kt_base.specs.declared.role.Role.{Role}
 use Rattle.kt_base.specs.declared.role.Role.TheVariants.{Body, Cleanup}
 use Rattle.kt_base.specs.declared.outcome.Outcome.{Outcome}
@@ -33,7 +33,8 @@ abbrev pub Removes : Bool → List ℕ → List Call → Type 0
 Removes true dir calls = (done : Bool) × (calls ≡ RemoveTree dir done ∷ [])
 Removes false dir calls = calls ≡ []
 
--- the moment is asked, then the evidence is read, then the output and the errors, and then comes the removal; the end is told by their answers
+-- The moment is asked, then the evidence is read, then the output and the errors, and then comes the removal; the end
+-- is told by their answers, with no more than 65,536 bytes of each output.
 abbrev pub Leaves : Case → List Call → Outcome → Ended → Type 0
 Leaves c calls outcome e =
     (now : Result ℕ OsFault) × (reads : List Call) × (out : Result FileRead OsFault) × (err : Result FileRead OsFault) × (last : List Call)
@@ -41,3 +42,4 @@ Leaves c calls outcome e =
     × Gathers c.interface c.role c.paths reads e.evidence × Removes (is_over c) c.paths.dir last
     × (e.position ≡ c.position) × (e.role ≡ c.role) × (e.outcome ≡ outcome)
     × (e.output.out ≡ bytes_of out) × (e.output.err ≡ bytes_of err) × (e.moment ≡ moment_of now)
+    × (length e.output.out ≤ 65536) × (length e.output.err ≤ 65536)

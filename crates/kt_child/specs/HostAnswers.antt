@@ -1,36 +1,87 @@
 -- What the host may answer, whatever the system does.
-use Rattle.std.specs.Prelude.{◌≡◌, ◌≢◌, ◌≤◌, ◌/◌, ◌%◌, ℕ, length, true, false, Result, Ok, Err}
+use Rattle.std.specs.Prelude.{◌≡◌, ◌≢◌, ◌≤◌, ◌/◌, ◌%◌, ◌==◌, ◌<◌, ℕ, List, length, take, true, false, Some, None, IsSome, ◌⊎◌, Result, Ok, Err}
+use Rattle.std.specs.Process.{status_bits}
+use Rattle.std.specs.declared.process.status.ExitStatus.{ExitStatus}
+use Rattle.std.specs.declared.io.ErrorKind.{ErrorKind}
+use Rattle.std.specs.declared.io.ErrorKind.TheVariants.{NotFound}
 use Rattle.kt_child.specs.declared.os_fault.OsFault.{OsFault}
 use Rattle.kt_child.specs.declared.file_read.FileRead.{FileRead}
 use Rattle.kt_child.specs.declared.file_read.FileRead.TheVariants.{Missing, Part}
 use Rattle.kt_child.specs.declared.polled.Polled.{Polled}
 use Rattle.kt_child.specs.declared.polled.Polled.TheVariants.{Running, Exited, Signaled}
+use Rattle.kt_child.specs.declared.child.Child.{Child}
+use Rattle.kt_child.specs.HostStands.{Stand, Proceeds, AllProceed, AllStay, OthersStay}
+use Rattle.kt_child.specs.Reads.{IsReadWithin}
 use Rattle.kt_child.specs.Calls.{Call, MakeDir, RemoveTree, OpenOutput, Spawn, Poll, Kill, Pause, ReadFile, ReadPart, Now}
+
+-- where more bytes follow, a read has as many as its limit
+abbrev pub IsFilled : ℕ → Result FileRead OsFault → Type 0
+IsFilled limit (Err _) = Unit {0}
+IsFilled limit (Ok Missing) = Unit {0}
+IsFilled limit (Ok (Part bytes true)) = length bytes ≡ limit
+IsFilled limit (Ok (Part bytes false)) = Unit {0}
 
 -- a read with this limit answers no more bytes, and so many where more follow
 abbrev pub IsHostRead : ℕ → Result FileRead OsFault → Type 0
-IsHostRead limit (Err _) = Unit {0}
-IsHostRead limit (Ok Missing) = Unit {0}
-IsHostRead limit (Ok (Part bytes true)) = length bytes ≡ limit
-IsHostRead limit (Ok (Part bytes false)) = length bytes ≤ limit
+IsHostRead limit answer = IsReadWithin limit answer × IsFilled limit answer
 
--- an answer of the host keeps to the limit of its read; of the other calls nothing is said
-abbrev pub IsHostAnswer : Call → Type 0
-IsHostAnswer (MakeDir path done) = Unit {0}
-IsHostAnswer (RemoveTree path done) = Unit {0}
-IsHostAnswer (OpenOutput child path done) = Unit {0}
-IsHostAnswer (Spawn child program words env dir done) = Unit {0}
-IsHostAnswer (Poll child answer) = Unit {0}
-IsHostAnswer (Kill child done) = Unit {0}
-IsHostAnswer (Pause done) = Unit {0}
-IsHostAnswer (ReadFile path limit answer) = IsHostRead limit answer
-IsHostAnswer (ReadPart path from limit answer) = IsHostRead limit answer
-IsHostAnswer (Now answer) = Unit {0}
+-- A read with this limit of a file that has these bytes left: the first of them, as many as the limit, and whether more
+-- follow.
+abbrev pub IsFront : ℕ → List ℕ → Result FileRead OsFault → Type 0
+IsFront limit xs (Err _) = Unit {0}
+IsFront limit xs (Ok Missing) = ⊥
+IsFront limit xs (Ok (Part bytes true)) = (bytes ≡ take limit xs) × (limit < length xs)
+IsFront limit xs (Ok (Part bytes false)) = (bytes ≡ xs) × (length xs ≤ limit)
+
+-- a read of a file that was opened never answers that there is none
+abbrev pub IsOpened : Result FileRead OsFault → Type 0
+IsOpened (Err _) = Unit {0}
+IsOpened (Ok Missing) = ⊥
+IsOpened (Ok (Part bytes follows)) = Unit {0}
+
+-- where it can't be opened, there is none exactly where the system said so
+abbrev pub IsUnopened : ErrorKind → Result FileRead OsFault → Type 0
+IsUnopened kind (Err _) = kind ≢ NotFound
+IsUnopened kind (Ok Missing) = kind ≡ NotFound
+IsUnopened kind (Ok (Part bytes follows)) = ⊥
 
 -- What the wait status of a child tells: its low 7 bits are 0 of one that exited, with the next 8 as its exit code, and
--- else the signal that ended it; 127 is that of one which has not ended.
+-- else the signal that ended it; 127 is that of one which has not ended. The bit above them tells of a core dump.
 abbrev pub IsPolledOf : ℕ → Result Polled OsFault → Type 0
 IsPolledOf bits (Ok Running) = ⊥
 IsPolledOf bits (Ok (Exited code)) = (bits % 128 ≡ 0) × (code ≡ bits / 256 % 256)
-IsPolledOf bits (Ok (Signaled signal core)) = (signal ≡ bits % 128) × (bits % 128 ≢ 0) × (bits % 128 ≢ 127)
+IsPolledOf bits (Ok (Signaled signal core)) =
+    (signal ≡ bits % 128) × (bits % 128 ≢ 0) × (bits % 128 ≢ 127) × (core ≡ (bits / 128 % 2 == 1))
 IsPolledOf bits (Err _) = bits % 128 ≡ 127
+
+-- The end of a child is told by the status of its process, which it had: that of the end that was seen, if one was. Then
+-- the child is forgotten.
+abbrev pub TellsEnd : Child → (Child → Stand) → Result Polled OsFault → (Child → Stand) → Type 0
+TellsEnd child old answer new =
+    (status : ExitStatus) × IsSome (old child) × Proceeds (old child) (Some (Some status)) × IsPolledOf (status_bits status) answer
+    × (new child ≡ None) × OthersStay child old new
+
+-- A child is told to run only where it has a process of which no end was seen. A poll that fails forgets it at the most.
+abbrev pub HostPolls : Child → (Child → Stand) → Result Polled OsFault → (Child → Stand) → Type 0
+HostPolls child old (Ok Running) new = (old child ≡ Some None) × AllStay old new
+HostPolls child old (Ok (Exited code)) new = TellsEnd child old (Ok (Exited code)) new
+HostPolls child old (Ok (Signaled signal core)) new = TellsEnd child old (Ok (Signaled signal core)) new
+HostPolls child old (Err fault) new = (Proceeds (old child) (new child) ⊎ (new child ≡ None)) × OthersStay child old new
+
+-- An answer of the host, by how its children stand before and after. An output is opened for a child that has no process
+-- then; a start gives it one, and one that fails leaves none; only what has a process is killed; in a pause ends are seen;
+-- a read keeps to its limit. Of the answer itself nothing is said where it tells only whether the system did it, and
+-- nothing of a moment.
+abbrev pub HostLeads : (Child → Stand) → Call → (Child → Stand) → Type 0
+HostLeads old (MakeDir path done) new = AllStay old new
+HostLeads old (RemoveTree path done) new = AllStay old new
+HostLeads old (OpenOutput child path done) new = (new child ≡ None) × OthersStay child old new
+HostLeads old (Spawn child program words env dir true) new = IsSome (new child) × OthersStay child old new
+HostLeads old (Spawn child program words env dir false) new = (new child ≡ None) × OthersStay child old new
+HostLeads old (Poll child answer) new = HostPolls child old answer new
+HostLeads old (Kill child true) new = IsSome (old child) × AllStay old new
+HostLeads old (Kill child false) new = AllStay old new
+HostLeads old (Pause done) new = AllProceed old new
+HostLeads old (ReadFile path limit answer) new = IsHostRead limit answer × AllStay old new
+HostLeads old (ReadPart path from limit answer) new = IsHostRead limit answer × AllStay old new
+HostLeads old (Now answer) new = AllStay old new

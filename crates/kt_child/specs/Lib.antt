@@ -8,6 +8,7 @@ pub mod Ends
 pub mod Gathering
 pub mod HostAnswers
 pub mod HostCommands
+pub mod HostStands
 pub mod JobPlan
 pub mod Launches
 pub mod Lives

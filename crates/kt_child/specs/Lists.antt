@@ -20,7 +20,7 @@ use Rattle.kt_child.specs.ChildOutcome.{fresh}
 use Rattle.kt_child.specs.JobPlan.{parent_of, program_path}
 use Rattle.kt_child.specs.Starts.{SetUp, furnish_asks}
 use Rattle.kt_child.specs.Turns.{WaitedUntil}
-use Rattle.kt_child.specs.Reads.{list_of}
+use Rattle.kt_child.specs.Reads.{IsListWithin, list_of}
 
 -- what a list is started with, by the directory of the root Kyuafile, its number and its paths
 abbrev pub listing_of : List ℕ → List ℕ → List Variable → ℕ → Paths → Spawning
@@ -35,13 +35,13 @@ listing_of source program variables attempt paths =
       err = paths.err;
     }
 
--- a list that was started: whole turns with a limit of 300 seconds, its output, and the removal
+-- a list that was started: whole turns with a limit of 300 seconds, its output, no more than 1,048,576 bytes, and the removal
 abbrev pub WatchedList : Child → Paths → List Call → Outcome → ListBytes → Type 0
 WatchedList child paths calls outcome bytes =
     (turns : ℕ) × (place : ℕ) × (polls : List Call) × (read : Result FileRead OsFault) × (done : Bool)
     × (calls ≡ polls ++ ReadFile paths.out 1048576 read ∷ RemoveTree paths.dir done ∷ [])
     × WaitedUntil turns (record { child = child; limit = 300; watch = fresh } ∷ []) polls place outcome
-    × (bytes ≡ list_of read)
+    × (bytes ≡ list_of read) × IsListWithin bytes
 
 -- a list from its start to the removal of its directory
 abbrev pub RanList : Spawning → Paths → List Call → Listing → Type 0

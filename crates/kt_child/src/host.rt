@@ -1,21 +1,23 @@
+ghost use Rattle.std.specs.Prelude.{◌≡◌, ◌==◌, ◌/◌, ◌%◌};
 ghost use Rattle.std.specs.Process.{status_bits};
-ghost use Rattle.kt_child.specs.HostAnswers.{IsHostAnswer, IsPolledOf};
+ghost use Rattle.kt_child.specs.HostAnswers.{IsPolledOf};
 
 use crate::child::Child;
 use crate::env::EnvPlan;
 use crate::file_read::FileRead;
 use crate::host_child::HostChild;
+use crate::host_children;
 use crate::host_command::command_of;
 use crate::host_faults::or_fault;
+use crate::host_outputs::create_output;
 use crate::host_reads::read_regular;
 use crate::os::Os;
 use crate::os_fault::OsFault;
 use crate::polled::Polled;
 use kt_base::{Items, Text};
-use std::fs::{File, OpenOptions};
-use std::io::ErrorKind;
+use std::fs::File;
 use std::os::unix::process::ExitStatusExt;
-use std::process::{ExitStatus, OpenProcess, Processes};
+use std::process::{ExitStatus, Processes};
 use std::rt::{Clock, Files};
 use std::time::{Duration, SystemTime};
 use std::{fs, io, thread};
@@ -39,6 +41,13 @@ pub struct HostOs<R: Processes> {
     quiet: u32,
 }
 
+/// Whether a wait status tells of a core dump.
+fn has_core(status: ExitStatus) -> bool
+    ensures { result ≡ (status_bits status / 128 % 2 == 1) }
+{
+    status.into_raw().cast_unsigned() / 128 % 2 == 1
+}
+
 /// How a child ended. A status that tells neither an exit nor a signal is a fault.
 fn polled(status: ExitStatus) -> Result<Polled, OsFault>
     ensures { IsPolledOf (status_bits status) result }
@@ -49,22 +58,20 @@ fn polled(status: ExitStatus) -> Result<Polled, OsFault>
     }
     if let Some(signal) = status.signal() {
         let signal = u8::try_from(signal).map_err(|_| OsFault)?;
-        return Ok(Polled::Signaled(signal, status.core_dumped()));
+        return Ok(Polled::Signaled(signal, has_core(status)));
     }
     Err(OsFault)
 }
 
-fn named<P: OpenProcess>(
-    children: &mut Vec<HostChild<P>>,
-    child: Child,
-) -> Option<&mut HostChild<P>> {
-    let at = children.iter().position(|held| held.child == child)?;
-    children.get_mut(at)
-}
-
 impl<R: Processes + AllocGlobal + Drop> HostOs<R> {
+    ghost use Rattle.std.specs.Prelude.{◌≡◌, None};
+    ghost use Rattle.kt_child.specs.declared.child.Child.{Child as Name};
+    ghost use Rattle.kt_child.specs.HostStands.{stand_in};
+
     /// The system, with no child.
-    pub fn new(rt: R) -> HostOs<R> {
+    pub fn new(rt: R) -> HostOs<R>
+        ensures { (c : Name) → stand_in result.children.items c ≡ None }
+    {
         let children = Vec::new(rt.alloc());
         HostOs {
             rt,
@@ -72,38 +79,13 @@ impl<R: Processes + AllocGlobal + Drop> HostOs<R> {
             quiet: 0,
         }
     }
-
-    fn forget(&mut self, child: Child) {
-        self.children.retain(|held| held.child != child);
-    }
-
-    /// Keeps the file of an output: that of the errors where the other is there, else the first of a new child.
-    fn keep_output(&mut self, child: Child, file: File) -> Result<(), OsFault> {
-        if let Some(held) = named(&mut self.children, child) {
-            if held.wants_errors() {
-                held.keep_errors(file);
-                return Ok(());
-            }
-        }
-        self.forget(child);
-        match self.children.push(HostChild::new(child, file)) {
-            Ok(()) => Ok(()),
-            Err(_) => Err(OsFault),
-        }
-    }
-
-    /// Whether a child has ended since the last pause looked.
-    fn has_new_end(&mut self) -> bool {
-        for held in self.children.iter_mut() {
-            if held.has_new_end() {
-                return true;
-            }
-        }
-        false
-    }
 }
 
 impl<R: Processes + Files<File = File> + Clock + AllocGlobal + Drop> HostOs<R> {
+    ghost use Rattle.std.specs.Prelude.{IsSome, OnOk};
+    ghost use Rattle.kt_child.specs.HostStands.{OthersStay, stand_in};
+
+    /// Starts a program for a child of which the files were opened.
     fn launch(
         &mut self,
         child: Child,
@@ -111,18 +93,22 @@ impl<R: Processes + Files<File = File> + Clock + AllocGlobal + Drop> HostOs<R> {
         words: &Items<Text>,
         env: &EnvPlan,
         dir: &Text,
-    ) -> io::Result<()> {
+    ) -> io::Result<()>
+        ensures started { OnOk result (IsSome (stand_in self.new.children.items child)) }
+        ensures others { OthersStay child (stand_in self.old.children.items) (stand_in self.new.children.items) }
+    {
         let mut command = command_of(self.rt.alloc(), program, words, env, dir)?;
-        match named(&mut self.children, child) {
-            Some(held) => held.launch(&self.rt, &mut command),
-            None => Err(io::Error::from(ErrorKind::NotFound)),
-        }
+        host_children::launch(&mut self.children, child, &self.rt, &mut command)
     }
 }
 
 impl<R: Processes + Files<File = File> + Clock + AllocGlobal + Drop> Os for HostOs<R> {
-    // Of the system itself nothing is said.
-    ghost leads = { λ _ call _. IsHostAnswer call };
+    // What the system does with its files, its processes and its clock is not said: how the children stand that are
+    // kept here is, and that what is told of them and of a file is what the library answered.
+    ghost use Rattle.kt_child.specs.HostStands.{stand_in};
+    ghost use Rattle.kt_child.specs.HostAnswers.{HostLeads};
+
+    ghost leads = { λ old call new. HostLeads (stand_in old.children.items) call (stand_in new.children.items) };
 
     fn make_dir(&mut self, path: &Text) -> Result<(), OsFault> {
         or_fault(fs::create_dir(&self.rt, path.as_str()))
@@ -133,14 +119,10 @@ impl<R: Processes + Files<File = File> + Clock + AllocGlobal + Drop> Os for Host
     }
 
     fn open_output(&mut self, child: Child, path: &Text) -> Result<(), OsFault> {
-        let opened = OpenOptions::new()
-            .write(true)
-            .create_new(true)
-            .open(&self.rt, path.as_str());
-        match opened {
-            Ok(file) => self.keep_output(child, file),
+        match create_output(&self.rt, path.as_str()) {
+            Ok(file) => host_children::keep_output(&mut self.children, child, file),
             Err(_) => {
-                self.forget(child);
+                host_children::forget(&mut self.children, child);
                 Err(OsFault)
             }
         }
@@ -154,30 +136,29 @@ impl<R: Processes + Files<File = File> + Clock + AllocGlobal + Drop> Os for Host
         env: &EnvPlan,
         dir: &Text,
     ) -> Result<(), OsFault> {
-        let answer = self.launch(child, program, words, env, dir);
-        if answer.is_err() {
-            self.forget(child);
+        match self.launch(child, program, words, env, dir) {
+            Ok(()) => Ok(()),
+            Err(_) => {
+                host_children::forget(&mut self.children, child);
+                Err(OsFault)
+            }
         }
-        or_fault(answer)
     }
 
     fn poll(&mut self, child: Child) -> Result<Polled, OsFault> {
-        let Some(held) = named(&mut self.children, child) else {
-            return Err(OsFault);
-        };
-        let Some(status) = held.poll(&self.rt)? else {
-            return Ok(Polled::Running);
-        };
-        self.forget(child);
-        self.quiet = 0;
-        polled(status)
+        match host_children::poll(&mut self.children, child, &self.rt) {
+            Err(fault) => Err(fault),
+            Ok(None) => Ok(Polled::Running),
+            Ok(Some(status)) => {
+                host_children::forget(&mut self.children, child);
+                self.quiet = 0;
+                polled(status)
+            }
+        }
     }
 
     fn kill(&mut self, child: Child) -> Result<(), OsFault> {
-        match named(&mut self.children, child) {
-            Some(held) => held.kill(),
-            None => Err(OsFault),
-        }
+        host_children::kill(&mut self.children, child)
     }
 
     fn pause(&mut self) -> Result<(), OsFault> {
@@ -185,14 +166,9 @@ impl<R: Processes + Files<File = File> + Clock + AllocGlobal + Drop> Os for Host
             thread::sleep(&self.rt, Duration::from_millis(PAUSE));
             return Ok(());
         }
-        self.quiet += 1;
-        for _ in 0..PAUSE {
-            thread::sleep(&self.rt, Duration::from_millis(1));
-            if self.has_new_end() {
-                self.quiet = 0;
-                break;
-            }
-        }
+        let quiet = self.quiet + 1;
+        let ended = host_children::await_end(&mut self.children, &self.rt, PAUSE);
+        self.quiet = if ended { 0 } else { quiet };
         Ok(())
     }
 

@@ -1,11 +1,11 @@
-ghost use Rattle.std.specs.Prelude.{◌≡◌, Ok, IfOk};
+ghost use Rattle.std.specs.Prelude.{◌≡◌, Ok, IsErr, MatchResult};
 
 use crate::os_fault::OsFault;
 use std::io;
 
 /// An answer of the library, whose error is not told.
 pub(super) fn or_fault<T: Drop>(answer: io::Result<T>) -> Result<T, OsFault>
-    ensures { IfOk result (λ value. answer ≡ Ok value) }
+    ensures { MatchResult result (λ value. answer ≡ Ok value) (λ _. IsErr answer) }
 {
     match answer {
         Ok(value) => Ok(value),

@@ -1,5 +1,6 @@
-ghost use Rattle.std.specs.Prelude.{◌≡◌};
-ghost use Rattle.kt_child.specs.HostAnswers.{IsHostRead};
+ghost use Rattle.std.specs.Prelude.{◌≡◌, ◌≢◌, ◌+◌, ◌≤◌, length, MatchResult, IfOk, IfSome, IsSomeAnd};
+ghost use Rattle.std.specs.IoError.{error_kind};
+ghost use Rattle.kt_child.specs.HostAnswers.{IsFront, IsHostRead, IsOpened, IsUnopened};
 
 use crate::file_read::FileRead;
 use crate::host_faults::or_fault;
@@ -16,7 +17,10 @@ const PIECE: usize = 8_192;
 
 /// Reads to the end, to the first fault, or one byte past the limit.
 fn read_front<F: Read>(alloc: Global, file: &mut F, limit: u64) -> Result<FileRead, OsFault>
-    ensures { IsHostRead limit result }
+    ensures within { IsHostRead limit result }
+    ensures opened { IsOpened result }
+    ensures front { IfSome (F.remaining file.old) (λ xs. IsFront limit xs result) }
+    ensures past { IfSome (F.remaining file.old) (λ xs. IsSomeAnd (F.remaining file.new) (λ ys. length xs ≤ length ys + limit + 1)) }
 {
     let mut bytes = Bytes::new(alloc);
     let mut buffer = [0u8; PIECE];
@@ -52,6 +56,50 @@ fn open_regular<R: Files>(rt: &R, path: &str) -> io::Result<R::File> {
     File::open(rt, path)
 }
 
+/// What a file answers that can't be opened.
+fn unopened(error: &io::Error) -> Result<FileRead, OsFault>
+    ensures { IsUnopened (error_kind error.now) result }
+{
+    match error.kind() {
+        ErrorKind::NotFound => Ok(FileRead::Missing),
+        _ => Err(OsFault),
+    }
+}
+
+/// Reads a file from the byte `from` on.
+fn read_from<F: Read + Seek>(
+    alloc: Global,
+    file: &mut F,
+    from: u64,
+    limit: u64,
+) -> Result<FileRead, OsFault>
+    ensures within { IsHostRead limit result }
+    ensures opened { IsOpened result }
+    ensures front { from ≡ 0 → IfSome (F.remaining file.old) (λ xs. IsFront limit xs result) }
+{
+    if from > 0 {
+        or_fault(file.seek(SeekFrom::Start(from)))?;
+    }
+    read_front(alloc, file, limit)
+}
+
+/// Reads a file from the byte `from` on, if it could be opened.
+fn read_opened<F: Read + Seek + Drop>(
+    alloc: Global,
+    opened: io::Result<F>,
+    from: u64,
+    limit: u64,
+) -> Result<FileRead, OsFault>
+    ensures within { IsHostRead limit result }
+    ensures opened { MatchResult opened (λ _. IsOpened result) (λ error. IsUnopened (error_kind error) result) }
+    ensures front { from ≡ 0 → IfOk opened (λ file. IfSome (F.remaining file) (λ xs. IsFront limit xs result)) }
+{
+    match opened {
+        Ok(mut file) => read_from(alloc, &mut file, from, limit),
+        Err(error) => unopened(&error),
+    }
+}
+
 /// Reads a regular file from the byte `from` on.
 pub(super) fn read_regular<R: Files + AllocGlobal>(
     rt: &R,
@@ -61,15 +109,7 @@ pub(super) fn read_regular<R: Files + AllocGlobal>(
 ) -> Result<FileRead, OsFault>
     ensures { IsHostRead limit result }
 {
-    let mut file = match open_regular(rt, path.as_str()) {
-        Ok(file) => file,
-        Err(error) if error.kind() == ErrorKind::NotFound => return Ok(FileRead::Missing),
-        Err(_) => return Err(OsFault),
-    };
-    if from > 0 {
-        or_fault(file.seek(SeekFrom::Start(from)))?;
-    }
-    read_front(rt.alloc(), &mut file, limit)
+    read_opened(rt.alloc(), open_regular(rt, path.as_str()), from, limit)
 }
 
 #[cfg(test)]

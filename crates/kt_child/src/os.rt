@@ -10,6 +10,7 @@ use kt_base::{Items, Text};
 pub trait Os {
     ghost use Rattle.std.specs.Prelude.{◌≡◌, ℕ, is_ok};
     ghost use Rattle.kt_child.specs.Calls.{Call, Kill, MakeDir, Now, OpenOutput, Pause, Poll, ReadFile, ReadPart, RemoveTree, Spawn};
+    ghost use Rattle.kt_child.specs.Reads.{IsReadWithin};
 
     /// Whether a question with its answer leads from the first state to the second.
     ghost leads: { Self → Call → Self → Type 0 };
@@ -52,11 +53,13 @@ pub trait Os {
 
     /// Reads the front of a file, `limit` bytes at the most.
     fn read_file(&mut self, path: &Text, limit: u64) -> Result<FileRead, OsFault>
-        ensures { leads self.old (ReadFile path.now limit result) self.new };
+        ensures asked { leads self.old (ReadFile path.now limit result) self.new }
+        ensures within { IsReadWithin limit result };
 
     /// Reads from the byte `from` of a file on, counted from 0, `limit` bytes at the most.
     fn read_part(&mut self, path: &Text, from: u64, limit: u64) -> Result<FileRead, OsFault>
-        ensures { leads self.old (ReadPart path.now from limit result) self.new };
+        ensures asked { leads self.old (ReadPart path.now from limit result) self.new }
+        ensures within { IsReadWithin limit result };
 
     /// The moment, in milliseconds since 1970 in UTC.
     fn now(&mut self) -> Result<u64, OsFault>

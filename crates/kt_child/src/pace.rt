@@ -1,4 +1,5 @@
-ghost use Rattle.std.specs.Prelude.{◌≡◌, ◌↔◌, ◌≤◌, ◌+◌, ◌/◌, IsTrue};
+ghost use Rattle.std.specs.Prelude.{◌≡◌, ◌↔◌, ◌≤◌, ◌+◌, ◌-◌, ◌/◌, ◌^◌, min, None, IsSomeAnd, IsTrue};
+ghost use Rattle.std.specs.Time.{instant_nanos};
 
 use std::rt::Clock;
 use std::time::Instant;
@@ -7,7 +8,7 @@ use std::time::Instant;
 const AHEAD: u64 = 16;
 
 /// The milliseconds for each answer.
-const PERIOD: u64 = 10;
+const PERIOD: u128 = 10;
 
 /// The real time of a child, and how often it was told to be running.
 #[derive(Clone, Copy)]
@@ -19,15 +20,18 @@ pub(super) struct Pace {
 
 /// Whether one more answer `running` would come too early after these milliseconds: one is due in each 10 of them,
 /// and 16 may come ahead.
-fn is_too_early(told: u64, millis: u64) -> bool
+fn is_too_early(told: u64, millis: u128) -> bool
     ensures { IsTrue result ↔ (millis / 10 + 16 ≤ told) }
 {
-    told >= millis / PERIOD + AHEAD
+    told >= AHEAD && millis / PERIOD <= u128::from(told - AHEAD)
 }
 
 impl Pace {
     /// The pace of a child that does not run.
-    pub(super) fn unknown() -> Pace {
+    pub(super) fn unknown() -> Pace
+        ensures started { result.started ≡ None }
+        ensures told { result.told ≡ 0 }
+    {
         Pace {
             started: None,
             told: 0,
@@ -35,29 +39,38 @@ impl Pace {
     }
 
     /// The pace of a child that was just started.
-    pub(super) fn starting<C: Clock>(clock: &C) -> Pace {
+    pub(super) fn starting<C: Clock>(clock: &C) -> Pace
+        ensures { result.told ≡ 0 }
+    {
         Pace {
             started: Instant::now(clock).ok(),
             told: 0,
         }
     }
 
+    /// Whether one more answer `running` would come too early at this time, by the nanoseconds since the start.
+    fn is_early_at(&self, now: Instant) -> bool
+        ensures { IsTrue result ↔ IsSomeAnd self.now.started (λ start. (instant_nanos now - instant_nanos start) / 1000000 / 10 + 16 ≤ self.now.told) }
+    {
+        match self.started {
+            Some(started) => is_too_early(self.told, now.duration_since(started).as_millis()),
+            None => false,
+        }
+    }
+
     /// Whether one more answer `running` would come too early.
     pub(super) fn is_early<C: Clock>(&self, clock: &C) -> bool {
-        let Some(started) = self.started else {
-            return false;
-        };
-        match started.elapsed(clock) {
-            Ok(time) => is_too_early(
-                self.told,
-                u64::try_from(time.as_millis()).unwrap_or(u64::MAX),
-            ),
+        match Instant::now(clock) {
+            Ok(now) => self.is_early_at(now),
             Err(_) => false,
         }
     }
 
     /// Counts an answer `running`.
-    pub(super) fn tell(&mut self) {
+    pub(super) fn tell(&mut self)
+        ensures told { self.new.told ≡ min (self.old.told + 1) (2 ^ 64 - 1) }
+        ensures started { self.new.started ≡ self.old.started }
+    {
         self.told = self.told.saturating_add(1);
     }
 }

@@ -1,8 +1,8 @@
-ghost use Rattle.std.specs.Prelude.{◌≡◌, Result};
+ghost use Rattle.std.specs.Prelude.{◌≡◌, ◌≤◌, Result, length};
 ghost use Rattle.kt_child.specs.declared.file_read.FileRead.{FileRead};
 ghost use Rattle.kt_child.specs.declared.os_fault.OsFault.{OsFault};
 ghost use Rattle.kt_child.specs.Calls.{ReadFile};
-ghost use Rattle.kt_child.specs.Reads.{bytes_of, list_of};
+ghost use Rattle.kt_child.specs.Reads.{IsListWithin, bytes_of, list_of};
 
 use crate::file_read::FileRead;
 use crate::os::Os;
@@ -18,8 +18,9 @@ const LIST_LIMIT: u64 = 1_048_576;
 
 /// What is kept of an output: its first 65,536 bytes, none where they can't be read.
 pub fn read_kept<O: Os>(alloc: Global, os: &mut O, path: &Text) -> Bytes
-    ensures { (answer : Result FileRead OsFault) × O.leads os.old (ReadFile path.now 65536 answer) os.new
+    ensures asked { (answer : Result FileRead OsFault) × O.leads os.old (ReadFile path.now 65536 answer) os.new
         × (result ≡ bytes_of answer) }
+    ensures within { length result ≤ 65536 }
 {
     match os.read_file(path, KEPT) {
         Ok(FileRead::Part(bytes, _)) => bytes,
@@ -29,8 +30,9 @@ pub fn read_kept<O: Os>(alloc: Global, os: &mut O, path: &Text) -> Bytes
 
 /// The list that a program wrote to its output.
 pub fn read_list<O: Os>(os: &mut O, path: &Text) -> ListBytes
-    ensures { (answer : Result FileRead OsFault) × O.leads os.old (ReadFile path.now 1048576 answer) os.new
+    ensures asked { (answer : Result FileRead OsFault) × O.leads os.old (ReadFile path.now 1048576 answer) os.new
         × (result ≡ list_of answer) }
+    ensures within { IsListWithin result }
 {
     match os.read_file(path, LIST_LIMIT) {
         Ok(FileRead::Part(bytes, false)) => ListBytes::Read(bytes),

@@ -108,7 +108,7 @@ fn an_output_is_a_new_file<R: Abort + AllocGlobal, O: Os>(
         rt.alloc(),
         os,
         &folder,
-        "echo kept > ../outside; ln -s outside ../link",
+        "echo kept > ../outside; ln -s outside ../link; mkdir ../stays; ln -s stays ../way",
     )?;
     assert_eq!(rt; end(os)?, Polled::Exited(0));
     for name in ["outside", "link", "work"] {
@@ -119,6 +119,8 @@ fn an_output_is_a_new_file<R: Abort + AllocGlobal, O: Os>(
     let kept = whole(os, &below(&folder, "outside")?)?;
     assert_eq!(rt; kept.as_slice(), b"kept\n".as_slice());
     os.open_output(CLEANUP, &below(&folder, "new")?)?;
+    assert!(rt; os.open_output(CLEANUP, &below(&folder, "way/new")?).is_err());
+    assert!(rt; part(os.read_file(&below(&folder, "stays/new")?, 9)?).is_none());
     Ok(())
 }
 

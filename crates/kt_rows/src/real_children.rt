@@ -1,5 +1,5 @@
 //! Real programs over the child driver: what becomes of each, and what is recorded.
-use crate::folders::{below, folder, here, whole, write_script};
+use crate::folders::{below, folder, here, part, whole, write_script};
 use crate::plans::{Sketch, atf, plain, tap};
 use crate::runs::{driver_over, run, told};
 use kt_atflist::{ListBytes, Listing};
@@ -124,14 +124,18 @@ fn each_program_has_its_verdict_at_each_width<R: Abort + AllocGlobal, O: Os + Dr
                 "at {}",
                 program.case.program
             );
-            let (out, err) = match program.case.program {
-                "three" => (5, 6),
-                "tap" => (19, 0),
-                "long" => (65_536, 0),
-                _ => (0, 0),
-            };
-            assert_eq!(rt; entry.body.out.len(), out, "at {}", program.case.program);
-            assert_eq!(rt; entry.body.err.len(), err, "at {}", program.case.program);
+            assert_eq!(rt;
+                entry.body.out.len(),
+                program.out,
+                "at {}",
+                program.case.program
+            );
+            assert_eq!(rt;
+                entry.body.err.len(),
+                program.err,
+                "at {}",
+                program.case.program
+            );
         }
     }
     Ok(os)
@@ -151,6 +155,9 @@ case $name in
   t:cleanup) echo cleaned; echo "$__RUNNING_INSIDE_ATF_RUN" > "$source/mark" ;;
   pipe) mkfifo "$result" ;;
   link) echo passed > "$result"; ln -s "$source/outside" ../cleanup.out ;;
+  moved)
+    mkdir "$source/elsewhere" && echo passed > "$source/elsewhere/result"
+    own=${PWD%/work} && mv "$own" "$own.away" && ln -s "$source/elsewhere" "$own" ;;
 esac
 "#;
 
@@ -167,10 +174,12 @@ fn an_atf_program_has_its_words_its_result_file_and_its_cleanup<
         atf("atf", "pipe", false),
         atf("atf", "t", true),
         atf("atf", "link", true),
+        atf("atf", "moved", true),
     ];
     let results = [
         "broken: Results file could not be read",
         "passed",
+        "broken: Test case cleanup could not be started",
         "broken: Test case cleanup could not be started",
     ];
     let (entries, mut os) = run(alloc, os, &folder, &cases, 1)?;
@@ -178,7 +187,7 @@ fn an_atf_program_has_its_words_its_result_file_and_its_cleanup<
     for (entry, result) in entries.as_slice().iter().zip(results) {
         assert_eq!(rt; told(alloc, entry)?.as_str(), result);
     }
-    if let [_, case, _] = entries.as_slice() {
+    if let [_, case, _, _] = entries.as_slice() {
         assert_eq!(rt; case.body.out.as_slice(), b"body\n".as_slice());
         assert_eq!(rt; case.cleanup.out.as_slice(), b"cleaned\n".as_slice());
     }
@@ -186,6 +195,10 @@ fn an_atf_program_has_its_words_its_result_file_and_its_cleanup<
     assert_eq!(rt; mark.as_slice(), b"internal-yes-value\n".as_slice());
     let kept = whole(&mut os, &below(&folder, "outside")?)?;
     assert_eq!(rt; kept.as_slice(), b"kept".as_slice());
+    for name in ["elsewhere/cleanup.out", "elsewhere/cleanup.err"] {
+        let path = below(&folder, name)?;
+        assert!(rt; part(os.read_file(&path, 9)?).is_none(), "{name}");
+    }
     Ok(os)
 }
 

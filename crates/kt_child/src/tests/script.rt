@@ -1,6 +1,7 @@
 ghost use Rattle.std.specs.Prelude.{◌≡◌, ◌++◌, ◌∷◌, [], is_ok};
 ghost use Rattle.std.specs.Str.{chars};
 ghost use Rattle.std.specs.Fmt.{decimal};
+ghost use Rattle.kt_child.specs.Reads.{IsReadWithin};
 ghost use Rattle.kt_child.specs.ScriptLog.{letter_of_poll, mark, sign};
 
 use crate::child::Child;
@@ -212,6 +213,17 @@ fn status(lives: &[Life], children: &mut [(Child, u32)], child: Child) -> Polled
     Polled::Exited(99)
 }
 
+/// The front of these bytes.
+fn front(alloc: Global, rest: &[u8], limit: u64) -> Result<FileRead, OsFault>
+    ensures { IsReadWithin limit result }
+{
+    let count = rest.len().min(limit as usize);
+    match Bytes::from_slice(alloc, &rest[..count]) {
+        Ok(part) => Ok(FileRead::Part(part, count < rest.len())),
+        Err(_) => Err(OsFault),
+    }
+}
+
 /// What a file holds from a byte on.
 fn read(
     alloc: Global,
@@ -219,16 +231,12 @@ fn read(
     path: &Text,
     from: u64,
     limit: u64,
-) -> Result<FileRead, OsFault> {
+) -> Result<FileRead, OsFault>
+    ensures { IsReadWithin limit result }
+{
     for (name, bytes) in files {
         if *name == path.as_str() {
-            let rest = bytes.get(from as usize..).unwrap_or(&[]);
-            let count = rest.len().min(limit as usize);
-            let part = rest.get(..count).unwrap_or(&[]);
-            return match Bytes::from_slice(alloc, part) {
-                Ok(part) => Ok(FileRead::Part(part, count < rest.len())),
-                Err(_) => Err(OsFault),
-            };
+            return front(alloc, bytes.get(from as usize..).unwrap_or(&[]), limit);
         }
     }
     Ok(FileRead::Missing)
@@ -242,7 +250,9 @@ fn read_oddly(
     path: &Text,
     from: u64,
     limit: u64,
-) -> Result<FileRead, OsFault> {
+) -> Result<FileRead, OsFault>
+    ensures { IsReadWithin limit result }
+{
     if from == 0 {
         return read(alloc, files, path, from, limit);
     }
@@ -251,6 +261,13 @@ fn read_oddly(
         Oddity::EmptyPart => Ok(FileRead::Part(Bytes::new(alloc), true)),
         Oddity::Gone => Ok(FileRead::Missing),
     }
+}
+
+/// What a read answers, which fails where it is not done.
+fn if_done(done: bool, limit: u64, read: Result<FileRead, OsFault>) -> Result<FileRead, OsFault>
+    ensures { IsReadWithin limit read → IsReadWithin limit result }
+{
+    if done { read } else { Err(OsFault) }
 }
 
 impl<R: Abort> Os for Script<'_, R> {
@@ -321,29 +338,23 @@ impl<R: Abort> Os for Script<'_, R> {
 
     fn read_file(&mut self, path: &Text, limit: u64) -> Result<FileRead, OsFault> {
         let done = goes(&mut self.calls, self.scene.failing);
-        let read = if done {
-            read(self.alloc, self.scene.files, path, 0, limit)
-        } else {
-            Err(OsFault)
-        };
+        let found = read(self.alloc, self.scene.files, path, 0, limit);
+        let read = if_done(done, limit, found);
         note(self.rt, &mut self.log, 'f', path.as_str(), read.is_ok());
         read
     }
 
     fn read_part(&mut self, path: &Text, from: u64, limit: u64) -> Result<FileRead, OsFault> {
         let done = goes(&mut self.calls, self.scene.failing);
-        let read = if done {
-            read_oddly(
-                self.alloc,
-                self.scene.oddity,
-                self.scene.files,
-                path,
-                from,
-                limit,
-            )
-        } else {
-            Err(OsFault)
-        };
+        let found = read_oddly(
+            self.alloc,
+            self.scene.oddity,
+            self.scene.files,
+            path,
+            from,
+            limit,
+        );
+        let read = if_done(done, limit, found);
         note(self.rt, &mut self.log, 'a', path.as_str(), read.is_ok());
         read
     }

@@ -1,0 +1,47 @@
+-- How the children of the host stand.
+use Rattle.std.specs.Prelude.{◌≡◌, ℕ, zero, suc, Bool, true, false, not, Option, Some, None, IsSome, option_map, List, [], ◌∷◌, if◌then◌else◌}
+use Rattle.std.specs.Process.{child_status}
+use Rattle.std.specs.declared.process.status.ExitStatus.{ExitStatus}
+use Rattle.kt_child.specs.declared.child.Child.{Child}
+use Rattle.kt_child.specs.declared.host_child.HostChild.{HostChild}
+use Rattle.kt_child.specs.Lives.{same_child}
+
+-- How a child stands: no process was started for it; it has one of which no end was seen; or the status of the end that
+-- was seen.
+abbrev pub Stand : Type 0
+Stand = Option (Option ExitStatus)
+
+abbrev pub stand_of : {P I O E : Type 0} → HostChild P I O E → Stand
+stand_of h = option_map child_status h.process
+
+-- how the first of these children with a name stands; one that isn't among them has no process
+abbrev pub stand_in : {P I O E : Type 0} → List (HostChild P I O E) → Child → Stand
+stand_in [] c = None
+stand_in (h ∷ held) c = if same_child h.child c then stand_of h else stand_in held c
+
+-- a child has another name
+abbrev pub is_other : {P I O E : Type 0} → Child → HostChild P I O E → Bool
+is_other c h = not (same_child h.child c)
+
+-- the first of these children with a name stands at this place
+abbrev pub IsPlaceOf : {P I O E : Type 0} → Child → List (HostChild P I O E) → ℕ → Type 0
+IsPlaceOf c [] place = ⊥
+IsPlaceOf c (h ∷ held) zero = same_child h.child c ≡ true
+IsPlaceOf c (h ∷ held) (suc place) = (same_child h.child c ≡ false) × IsPlaceOf c held place
+
+-- A child proceeds: none has a process that had none, a process stays, and so does an end that was seen.
+abbrev pub Proceeds : Stand → Stand → Type 0
+Proceeds None new = new ≡ None
+Proceeds (Some None) new = IsSome new
+Proceeds (Some (Some status)) new = new ≡ Some (Some status)
+
+abbrev pub AllProceed : (Child → Stand) → (Child → Stand) → Type 0
+AllProceed old new = (c : Child) → Proceeds (old c) (new c)
+
+-- each child stands as it did
+abbrev pub AllStay : (Child → Stand) → (Child → Stand) → Type 0
+AllStay old new = (c : Child) → new c ≡ old c
+
+-- and so does each but one
+abbrev pub OthersStay : Child → (Child → Stand) → (Child → Stand) → Type 0
+OthersStay child old new = (c : Child) → same_child child c ≡ false → new c ≡ old c
