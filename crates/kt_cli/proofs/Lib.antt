@@ -15,3 +15,4 @@ pub mod Plays
 pub mod Sequencing
 pub mod Hosting
 pub mod HostCommands
+pub mod LineBytes

@@ -1,6 +1,7 @@
 pub mod Commands
 pub mod FaultLines
 pub mod Hosts
+pub mod LineOutputs
 pub mod Listings
 pub mod Meaning
 pub mod MemoryRuns

@@ -1,6 +1,7 @@
 use super::*;
 
 mod faults;
+mod lines;
 mod play;
 mod refusals;
 mod reports;
