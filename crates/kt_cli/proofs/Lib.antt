@@ -16,3 +16,4 @@ pub mod Sequencing
 pub mod Hosting
 pub mod HostCommands
 pub mod LineBytes
+pub mod WordLaws

@@ -1,3 +1,4 @@
+pub mod CommandLines
 pub mod Commands
 pub mod FaultLines
 pub mod Hosts
@@ -18,3 +19,4 @@ pub mod Shown
 pub mod Stores
 pub mod Told
 pub mod Totals
+pub mod Words

@@ -1,6 +1,7 @@
 //! The commands of kyua(1), over a world, recorded runs and a writer, and what reads a command line and the host's files.
 #![tactic(auto)]
 
+mod arguments;
 mod command;
 mod command_fault;
 mod command_line;
@@ -8,6 +9,7 @@ mod copies;
 mod execution;
 mod exit;
 mod fault_line;
+mod filter;
 mod held_bytes;
 mod host_execution;
 mod host_world;
@@ -16,6 +18,7 @@ mod line_output;
 mod listing;
 mod mem_runs;
 mod not_shown;
+mod numbers;
 mod page;
 mod place;
 mod planning;
