@@ -18,3 +18,5 @@ pub mod Hosting
 pub mod PathStarts
 pub mod Refusing
 pub mod HostCommands
+pub mod LineBytes
+pub mod WordLaws

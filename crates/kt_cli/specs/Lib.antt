@@ -1,7 +1,9 @@
+pub mod CommandLines
 pub mod Commands
 pub mod FaultLines
 pub mod HostFiles
 pub mod Hosts
+pub mod LineOutputs
 pub mod Listings
 pub mod Meaning
 pub mod MemoryRuns
@@ -18,3 +20,4 @@ pub mod Shown
 pub mod Stores
 pub mod Told
 pub mod Totals
+pub mod Words

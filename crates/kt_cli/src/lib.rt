@@ -1,6 +1,7 @@
 //! The commands of kyua(1), over a world, recorded runs and a writer, and what reads a command line and the host's files.
 #![tactic(auto)]
 
+mod arguments;
 mod command;
 mod command_fault;
 mod command_line;
@@ -8,12 +9,16 @@ mod copies;
 mod execution;
 mod exit;
 mod fault_line;
+mod filter;
+mod held_bytes;
 mod host_execution;
 mod host_world;
 mod kept_results;
+mod line_output;
 mod listing;
 mod mem_runs;
 mod not_shown;
+mod numbers;
 mod page;
 mod place;
 mod planning;
@@ -35,6 +40,7 @@ pub use execution::execute;
 pub use exit::Exit;
 pub use host_execution::execute_on_host;
 pub use host_world::HostWorld;
+pub use line_output::LineOutput;
 pub use mem_runs::MemRuns;
 pub use reading::read_command;
 pub use result_store::ResultStore;

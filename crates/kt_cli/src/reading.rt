@@ -1,117 +1,17 @@
-ghost use Rattle.std.specs.Prelude.{◌≡◌, ◌≤◌, IfOk, IfSome};
+ghost use Rattle.std.specs.Prelude.{◌≡◌, ◌≤◌, false, true, is_some, IfOk, IfSome};
+ghost use Rattle.kt_cli.specs.CommandLines.{HasItsOptions};
 ghost use Rattle.kt_cli.specs.Commands.{HasRunNumber};
 
+use crate::arguments::all_words;
 use crate::command::Command;
 use crate::command_fault::CommandFault;
 use crate::command_line::CommandLine;
+use crate::filter::{default_kinds, kinds_in};
+use crate::numbers::run_number;
 use clap::error::ErrorKind;
-use clap::{Arg, ArgAction, ArgMatches, Error};
-use kt_base::{Items, Kind, NoMemory, Text};
-use std::alloc::{AllocError, Global};
-
-/// The Kyuafile, unless `-k` names another.
-const KYUAFILE: &str = "Kyuafile";
-
-/// Where work directories lie, unless `--work` says otherwise (this profile).
-const WORK: &str = "/tmp";
-
-/// The file of the results, unless `-r` names another (this profile).
-const RESULTS: &str = "kyua.db";
-
-/// The greatest number of a run.
-const LAST_RUN: u64 = 1_000_000;
-
-fn kyuafile_word<'a>(alloc: Global) -> Arg<'a> {
-    Arg::new(alloc, "kyuafile")
-        .short('k')
-        .long("kyuafile")
-        .value_name("FILE")
-        .default_value(KYUAFILE)
-        .action(ArgAction::Set)
-        .help("The Kyuafile to read")
-}
-
-fn work_word<'a>(alloc: Global) -> Arg<'a> {
-    Arg::new(alloc, "work")
-        .long("work")
-        .value_name("DIR")
-        .default_value(WORK)
-        .action(ArgAction::Set)
-        .help("The directory that work directories are made in")
-}
-
-fn results_word<'a>(alloc: Global) -> Arg<'a> {
-    Arg::new(alloc, "results")
-        .short('r')
-        .long("results-file")
-        .value_name("FILE")
-        .default_value(RESULTS)
-        .action(ArgAction::Set)
-        .help("The file of the results")
-}
-
-fn run_word<'a>(alloc: Global) -> Arg<'a> {
-    Arg::new(alloc, "run")
-        .long("run")
-        .value_name("N")
-        .action(ArgAction::Set)
-        .help("The number of the run, 1 to 1000000; else the last one")
-}
-
-fn kinds_word<'a>(alloc: Global) -> Arg<'a> {
-    Arg::new(alloc, "kinds")
-        .long("results-filter")
-        .value_name("K,..")
-        .action(ArgAction::Set)
-        .help("The results to show: passed, skipped, xfail, broken, failed; else all but passed")
-}
-
-/// `list [-k FILE] [--work=DIR]`, as kyua-list(1) has it but for `--work`.
-fn list_words<'a>(alloc: Global) -> Result<clap::Command<'a>, AllocError> {
-    clap::Command::new(alloc, "list")
-        .about("Lists the test cases that a Kyuafile registers")
-        .arg(kyuafile_word(alloc))?
-        .arg(work_word(alloc))
-}
-
-/// `test [-k FILE] [-r FILE] [--work=DIR]`, as kyua-test(1) has it but for `--work`.
-fn test_words<'a>(alloc: Global) -> Result<clap::Command<'a>, AllocError> {
-    clap::Command::new(alloc, "test")
-        .about("Runs the test cases that a Kyuafile registers")
-        .arg(kyuafile_word(alloc))?
-        .arg(results_word(alloc))?
-        .arg(work_word(alloc))
-}
-
-/// `report [-r FILE] [--run=N] [--results-filter=K,..]`, as kyua-report(1) has it but for `--run`.
-fn report_words<'a>(alloc: Global) -> Result<clap::Command<'a>, AllocError> {
-    clap::Command::new(alloc, "report")
-        .about("Shows a run as a text")
-        .arg(results_word(alloc))?
-        .arg(run_word(alloc))?
-        .arg(kinds_word(alloc))
-}
-
-/// `report-junit [-r FILE] [--run=N]`, as kyua-report-junit(1) has it but for `--run`.
-fn junit_words<'a>(alloc: Global) -> Result<clap::Command<'a>, AllocError> {
-    clap::Command::new(alloc, "report-junit")
-        .about("Shows a run as a JUnit report")
-        .arg(results_word(alloc))?
-        .arg(run_word(alloc))
-}
-
-/// The whole command line, without the program's own name.
-fn all_words<'a>(alloc: Global) -> Result<clap::Command<'a>, AllocError> {
-    clap::Command::new(alloc, "kyua")
-        .about("Runs test programs and tells their results")
-        .no_binary_name(true)
-        .subcommand_required(true)
-        .disable_help_subcommand(true)
-        .subcommand(list_words(alloc)?)?
-        .subcommand(test_words(alloc)?)?
-        .subcommand(report_words(alloc)?)?
-        .subcommand(junit_words(alloc)?)
-}
+use clap::{ArgMatches, Error};
+use kt_base::{Items, Kind, Text};
+use std::alloc::Global;
 
 fn usage(alloc: Global, error: Error) -> CommandFault {
     if error.kind() == ErrorKind::OutOfMemory {
@@ -123,39 +23,15 @@ fn usage(alloc: Global, error: Error) -> CommandFault {
     }
 }
 
-fn text_of<'a>(
-    alloc: Global,
-    matches: &ArgMatches<'a>,
-    name: &str,
-    default: &str,
-) -> Result<Text, CommandFault> {
-    let word = matches.get_str(name).unwrap_or(default);
+/// The value of an option that always has one, since `clap` gives it its default.
+fn text_of<'a>(alloc: Global, matches: &ArgMatches<'a>, name: &str) -> Result<Text, CommandFault> {
+    let Some(word) = matches.get_str(name) else {
+        return Err(CommandFault::Usage(Text::new(alloc)));
+    };
     match Text::from_str(alloc, word) {
         Ok(text) => Ok(text),
         Err(_) => Err(CommandFault::NoMemory),
     }
-}
-
-/// The number of a run: decimal digits.
-fn run_number(word: &str) -> Option<u64>
-    ensures { IfSome result (λ n. (1 ≤ n) × (n ≤ 1000000)) }
-{
-    if word.is_empty() {
-        return None;
-    }
-    let mut number: u64 = 0;
-    for digit in word.as_bytes() {
-        if !digit.is_ascii_digit() {
-            return None;
-        }
-        number = number
-            .saturating_mul(10)
-            .saturating_add(u64::from(digit.wrapping_sub(b'0')));
-    }
-    if number == 0 || number > LAST_RUN {
-        return None;
-    }
-    Some(number)
 }
 
 /// The run that is asked for, if one is.
@@ -165,50 +41,15 @@ fn run_of<'a>(matches: &ArgMatches<'a>) -> Result<Option<u64>, CommandFault>
     let Some(word) = matches.get_str("run") else {
         return Ok(None);
     };
-    match run_number(word) {
+    match run_number(word.as_bytes()) {
         Some(number) => Ok(Some(number)),
         None => Err(CommandFault::BadRun),
     }
 }
 
-/// The kind that is named so in a filter.
-fn kind_of(word: &str) -> Option<Kind> {
-    match word {
-        "passed" => Some(Kind::Passed),
-        "skipped" => Some(Kind::Skipped),
-        "xfail" => Some(Kind::ExpectedFailure),
-        "broken" => Some(Kind::Broken),
-        "failed" => Some(Kind::Failed),
-        _ => None,
-    }
-}
-
-fn kinds_in(alloc: Global, words: &str) -> Result<Items<Kind>, CommandFault> {
-    let mut kinds = Items::new(alloc);
-    for word in words.split(',') {
-        let Some(kind) = kind_of(word) else {
-            return Err(CommandFault::BadKind);
-        };
-        if kinds.push(kind).is_err() {
-            return Err(CommandFault::NoMemory);
-        }
-    }
-    Ok(kinds)
-}
-
-/// All kinds but passed.
-fn default_kinds(alloc: Global) -> Result<Items<Kind>, NoMemory> {
-    let mut kinds = Items::new(alloc);
-    kinds.push(Kind::Skipped)?;
-    kinds.push(Kind::ExpectedFailure)?;
-    kinds.push(Kind::Broken)?;
-    kinds.push(Kind::Failed)?;
-    Ok(kinds)
-}
-
 fn kinds_of<'a>(alloc: Global, matches: &ArgMatches<'a>) -> Result<Items<Kind>, CommandFault> {
     match matches.get_str("kinds") {
-        Some(words) => kinds_in(alloc, words),
+        Some(words) => kinds_in(alloc, words.as_bytes()),
         None => match default_kinds(alloc) {
             Ok(kinds) => Ok(kinds),
             Err(_) => Err(CommandFault::NoMemory),
@@ -222,9 +63,11 @@ fn with_results<'a>(
     matches: &ArgMatches<'a>,
     command: Command,
 ) -> Result<CommandLine, CommandFault>
-    ensures { IfOk result (λ line. line.command ≡ command) }
+    ensures command { IfOk result (λ line. line.command ≡ command) }
+    ensures work { IfOk result (λ line. is_some line.work ≡ false) }
+    ensures results { IfOk result (λ line. is_some line.results ≡ true) }
 {
-    let results = text_of(alloc, matches, "results", RESULTS)?;
+    let results = text_of(alloc, matches, "results")?;
     Ok(CommandLine {
         command,
         work: None,
@@ -233,7 +76,8 @@ fn with_results<'a>(
 }
 
 fn read_report<'a>(alloc: Global, matches: &ArgMatches<'a>) -> Result<CommandLine, CommandFault>
-    ensures { IfOk result (λ line. HasRunNumber line.command) }
+    ensures number { IfOk result (λ line. HasRunNumber line.command) }
+    ensures options { IfOk result (λ line. HasItsOptions line) }
 {
     let kinds = kinds_of(alloc, matches)?;
     let run = run_of(matches)?;
@@ -242,7 +86,8 @@ fn read_report<'a>(alloc: Global, matches: &ArgMatches<'a>) -> Result<CommandLin
 }
 
 fn read_junit<'a>(alloc: Global, matches: &ArgMatches<'a>) -> Result<CommandLine, CommandFault>
-    ensures { IfOk result (λ line. HasRunNumber line.command) }
+    ensures number { IfOk result (λ line. HasRunNumber line.command) }
+    ensures options { IfOk result (λ line. HasItsOptions line) }
 {
     let run = run_of(matches)?;
     let line = with_results(alloc, matches, Command::ReportJunit { run })?;
@@ -250,10 +95,11 @@ fn read_junit<'a>(alloc: Global, matches: &ArgMatches<'a>) -> Result<CommandLine
 }
 
 fn read_list<'a>(alloc: Global, matches: &ArgMatches<'a>) -> Result<CommandLine, CommandFault>
-    ensures { IfOk result (λ line. HasRunNumber line.command) }
+    ensures number { IfOk result (λ line. HasRunNumber line.command) }
+    ensures options { IfOk result (λ line. HasItsOptions line) }
 {
-    let kyuafile = text_of(alloc, matches, "kyuafile", KYUAFILE)?;
-    let work = text_of(alloc, matches, "work", WORK)?;
+    let kyuafile = text_of(alloc, matches, "kyuafile")?;
+    let work = text_of(alloc, matches, "work")?;
     Ok(CommandLine {
         command: Command::List(kyuafile),
         work: Some(work),
@@ -262,11 +108,12 @@ fn read_list<'a>(alloc: Global, matches: &ArgMatches<'a>) -> Result<CommandLine,
 }
 
 fn read_test<'a>(alloc: Global, matches: &ArgMatches<'a>) -> Result<CommandLine, CommandFault>
-    ensures { IfOk result (λ line. HasRunNumber line.command) }
+    ensures number { IfOk result (λ line. HasRunNumber line.command) }
+    ensures options { IfOk result (λ line. HasItsOptions line) }
 {
-    let kyuafile = text_of(alloc, matches, "kyuafile", KYUAFILE)?;
-    let work = text_of(alloc, matches, "work", WORK)?;
-    let results = text_of(alloc, matches, "results", RESULTS)?;
+    let kyuafile = text_of(alloc, matches, "kyuafile")?;
+    let work = text_of(alloc, matches, "work")?;
+    let results = text_of(alloc, matches, "results")?;
     Ok(CommandLine {
         command: Command::Test(kyuafile),
         work: Some(work),
@@ -275,7 +122,8 @@ fn read_test<'a>(alloc: Global, matches: &ArgMatches<'a>) -> Result<CommandLine,
 }
 
 fn read_matches<'a>(alloc: Global, matches: &ArgMatches<'a>) -> Result<CommandLine, CommandFault>
-    ensures { IfOk result (λ line. HasRunNumber line.command) }
+    ensures number { IfOk result (λ line. HasRunNumber line.command) }
+    ensures options { IfOk result (λ line. HasItsOptions line) }
 {
     if let Some(list) = matches.subcommand_matches("list") {
         let line = read_list(alloc, list)?;
@@ -300,7 +148,8 @@ fn read_matches<'a>(alloc: Global, matches: &ArgMatches<'a>) -> Result<CommandLi
 /// wrong results filter, and that before a wrong run number. Which words are which command is `clap`'s, and shown by
 /// tests.
 pub fn read_command<'a>(alloc: Global, words: &'a [String]) -> Result<CommandLine, CommandFault>
-    ensures { IfOk result (λ line. HasRunNumber line.command) }
+    ensures number { IfOk result (λ line. HasRunNumber line.command) }
+    ensures options { IfOk result (λ line. HasItsOptions line) }
 {
     let command = match all_words(alloc) {
         Ok(command) => command,

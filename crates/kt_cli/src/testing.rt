@@ -42,6 +42,7 @@ fn record_cases<L: Launcher, R: ResultStore, O: Write>(
         failed: false,
     };
     let answer = run_cases(alloc, plan, 1, launcher, &mut recorder);
+    // No effect when it runs: from these uses the proof reads what was lent to the recorder.
     let _ = &*recorder.results;
     let _ = &*recorder.out;
     (answer, recorder.failed)

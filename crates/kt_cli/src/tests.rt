@@ -1,7 +1,9 @@
 use super::*;
 
 mod faults;
+mod lines;
 mod play;
+mod recording;
 mod refusals;
 mod reports;
 mod tiring;
@@ -35,19 +37,20 @@ impl Write for Page {
     }
 }
 
-/// What a command writes, its status, and the runs it leaves, with a writer that takes so many calls.
-fn played(
+/// What a command writes, its status, and the runs it leaves, at these moments, with a writer that takes so many calls.
+fn played_at(
     alloc: Global,
     command: &Command,
     kyuafile: Option<&[u8]>,
     ends: &[Option<Outcome>],
+    moments: &[u64],
     calls: usize,
 ) -> (Vec<u8>, u8, MemRuns) {
     let mut world = Play {
         alloc,
         kyuafile,
         ends,
-        moments: &[500, 1_000, 1_012],
+        moments,
         runs: false,
         position: 0,
         interface: Interface::Plain,
@@ -60,6 +63,17 @@ fn played(
     let mut runs = MemRuns::new(alloc);
     let exit = execute(alloc, command, &mut world, &mut runs, &mut page);
     (page.kept, exit.status, runs)
+}
+
+/// The same where the first program runs from 1,000 to 1,012.
+fn played(
+    alloc: Global,
+    command: &Command,
+    kyuafile: Option<&[u8]>,
+    ends: &[Option<Outcome>],
+    calls: usize,
+) -> (Vec<u8>, u8, MemRuns) {
+    played_at(alloc, command, kyuafile, ends, &[500, 1_000, 1_012], calls)
 }
 
 /// Whether one run is recorded, and finished.
@@ -78,6 +92,8 @@ fn listed(
     let (kept, status, _) = played(alloc, &command, kyuafile, &[], calls);
     Ok((kept, status))
 }
+
+const ONE: &[u8] = b"syntax(2)\ntest_suite('s')\nplain_test_program{name='a'}\n";
 
 const TWO: &[u8] =
     b"syntax(2)\ntest_suite('s')\nplain_test_program{name='b'}\nplain_test_program{name='a'}\nplain_test_program{name='b'}\n";
@@ -195,124 +211,5 @@ fn a_failed_writer_holds_a_prefix(rt: HostRuntime) -> Result<(), Fail> {
         }
     }
     assert_eq!(rt; whole.len(), 21);
-    Ok(())
-}
-
-const ONE: &[u8] = b"syntax(2)\ntest_suite('s')\nplain_test_program{name='a'}\n";
-
-/// A Kyuafile, how its programs end, and what `test` is to write, its status and the entries of its run.
-struct Row {
-    kyuafile: &'static [u8],
-    ends: &'static [Option<Outcome>],
-    text: &'static [u8],
-    status: u8,
-    entries: usize,
-}
-
-const ROWS: [Row; 6] = [
-    Row {
-        kyuafile: b"syntax(2)\n",
-        ends: &[],
-        text: b"\n0/0 passed (0 failed)\n",
-        status: 0,
-        entries: 0,
-    },
-    Row {
-        kyuafile: ONE,
-        ends: &[Some(Outcome::Exited(0))],
-        text: b"a:main  ->  passed  [0.012s]\n\n1/1 passed (0 failed)\n",
-        status: 0,
-        entries: 1,
-    },
-    Row {
-        kyuafile: ONE,
-        ends: &[Some(Outcome::Exited(255))],
-        text: b"a:main  ->  failed: Returned non-success exit status 255  [0.012s]\n\n0/1 passed (1 failed)\n",
-        status: 1,
-        entries: 1,
-    },
-    Row {
-        kyuafile: ONE,
-        ends: &[Some(Outcome::Signaled(11, true))],
-        text: b"a:main  ->  broken: Received signal 11  [0.012s]\n\n0/1 passed (1 failed)\n",
-        status: 1,
-        entries: 1,
-    },
-    Row {
-        kyuafile: ONE,
-        ends: &[],
-        text: b"a:main  ->  broken: Work directory could not be made  [0.000s]\n\n0/1 passed (1 failed)\n",
-        status: 1,
-        entries: 1,
-    },
-    Row {
-        kyuafile: TWO,
-        ends: &[
-            Some(Outcome::Exited(0)),
-            Some(Outcome::Exited(3)),
-            Some(Outcome::Exited(0)),
-        ],
-        text: b"b:main  ->  passed  [0.012s]\na:main  ->  failed: Returned non-success exit status 3  [0.000s]\nb:main  ->  passed  [0.000s]\n\n2/3 passed (1 failed)\n",
-        status: 1,
-        entries: 3,
-    },
-];
-
-#[test]
-fn each_case_is_recorded_and_told(rt: HostRuntime) -> Result<(), Fail> {
-    let command = Command::Test(Text::from_str(rt.alloc(), "Kyuafile")?);
-    for row in &ROWS {
-        let (kept, status, mut runs) = played(
-            rt.alloc(),
-            &command,
-            Some(row.kyuafile),
-            row.ends,
-            100,
-        );
-        assert_eq!(rt; kept.as_slice(), row.text);
-        assert_eq!(rt; status, row.status);
-        assert!(rt; is_finished(&mut runs));
-        if let Ok(entries) = runs.entries(1) {
-            assert_eq!(rt; entries.len(), row.entries);
-        }
-    }
-    Ok(())
-}
-
-#[test]
-fn no_run_begins_for_a_faulty_kyuafile(rt: HostRuntime) -> Result<(), Fail> {
-    let command = Command::Test(Text::from_str(rt.alloc(), "Kyuafile")?);
-    let (kept, status, mut runs) = played(rt.alloc(), &command, None, &[], 100);
-    assert_eq!(rt;
-        kept.as_slice(),
-        b"kyua: E: Kyuafile:0: file could not be read\n".as_slice()
-    );
-    assert_eq!(rt; status, 2);
-    assert!(rt; matches!(runs.runs(), Ok(heads) if heads.is_empty()));
-    Ok(())
-}
-
-#[test]
-fn a_writer_that_fails_stops_no_case(rt: HostRuntime) -> Result<(), Fail> {
-    let command = Command::Test(Text::from_str(rt.alloc(), "Kyuafile")?);
-    let (whole, _, _) = played(
-        rt.alloc(),
-        &command,
-        Some(ONE),
-        &[Some(Outcome::Exited(0))],
-        100,
-    );
-    for k in 0..100 {
-        let (kept, status, mut runs) = played(
-            rt.alloc(),
-            &command,
-            Some(ONE),
-            &[Some(Outcome::Exited(0))],
-            k,
-        );
-        assert!(rt; whole.as_slice().starts_with(kept.as_slice()), "at {k}");
-        assert_eq!(rt; status == 2, kept.len() < whole.len(), "at {k}");
-        assert!(rt; is_finished(&mut runs), "at {k}");
-    }
     Ok(())
 }

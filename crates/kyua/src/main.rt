@@ -4,12 +4,12 @@
 use kt_base::Text;
 use kt_child::{DriverFault, HostOs};
 use kt_cli::{
-    CommandFault, CommandLine, MemRuns, ResultStore, execute_on_host, read_command,
+    CommandFault, CommandLine, LineOutput, MemRuns, ResultStore, execute_on_host, read_command,
     tell_command_fault, tell_driver_fault, tell_store_fault,
 };
 use kt_store::{Results, StoreFault};
 use sqlite::{Connection, Error, ErrorCode, File as StoreFile, FileStore};
-use std::io::{ErrorKind, LineWriter, Write};
+use std::io::{ErrorKind, Write};
 use std::process::ExitCode;
 use std::{env, io};
 
@@ -61,9 +61,7 @@ fn perform<S: ResultStore>(
     results: &mut S,
 ) -> Result<u8, DriverFault> {
     let here = here(rt, line)?;
-    let Ok(mut out) = LineWriter::new(rt.alloc(), io::writer(rt)) else {
-        return Err(DriverFault::NoMemory);
-    };
+    let mut out = LineOutput::new(io::writer(rt));
     let exit = execute_on_host(rt, HostOs::new(rt), here.as_str(), line, results, &mut out)?;
     match out.flush() {
         Ok(()) => Ok(exit.status),

@@ -1,0 +1,10 @@
+use Rattle.std.proofs.Common.{◌-◌, ◌≤◌, length, take}
+use Rattle.std.specs.Io.KnownBytes.{Appends}
+use Rattle.kt_cli.proofs.line_output.send.Given as goal
+
+-- so much of the bytes is in the writer
+abbrev pub invariant-loop-sent : goal.invariant-loop-sent
+invariant-loop-sent g l = (l.sent ≤ length l.bytes) × Appends (g.W.Write.contents l.fn.out) (g.W.Write.contents l.out) (take l.sent l.bytes)
+
+abbrev pub decreases-loop-sent : goal.decreases-loop-sent
+decreases-loop-sent g l = length l.bytes - l.sent
