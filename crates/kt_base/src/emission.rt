@@ -1,21 +1,37 @@
-ghost use Rattle.std.specs.Prelude.{is_err};
+ghost use Rattle.std.specs.Prelude.{◌≡◌, ◌≤◌, false, is_err, length, take};
+ghost use Rattle.std.specs.Io.KnownBytes.{Appends};
 ghost use Rattle.kt_base.specs.Shows.{Shows};
 
 use crate::output_fault::OutputFault;
 use std::io::Write;
 
+/// Writes until all the bytes are written or a write fails. An interrupted write is a failed one, and so is one that takes
+/// no byte. Answers how many bytes were written, and whether a write failed. All output of the runner goes through this
+/// loop.
+pub fn send<W: Write>(bytes: &[u8], out: &mut W) -> (usize, bool)
+    ensures bound { result.0 ≤ length bytes.now }
+    ensures all { result.1 ≡ false → result.0 ≡ length bytes.now }
+    ensures sent { Appends (W.contents out.old) (W.contents out.new) (take result.0 bytes.now) }
+{
+    let mut sent = 0;
+    while sent < bytes.len() {
+        match out.write(&bytes[sent..]) {
+            Ok(0) => return (sent, true),
+            Ok(n) => sent += n,
+            Err(_fault) => return (sent, true),
+        }
+    }
+    (sent, false)
+}
+
 /// Writes all the bytes, or a prefix of them where a write failed. An interrupted write is a failed one, and so is one
-/// that takes no byte. All output of the runner goes through this loop.
+/// that takes no byte.
 pub fn emit<W: Write>(bytes: &[u8], out: &mut W) -> Result<(), OutputFault>
     ensures { Shows (W.contents out.old) (W.contents out.new) (is_err result) bytes.now }
 {
-    let mut rest = bytes;
-    while !rest.is_empty() {
-        match out.write(rest) {
-            Ok(0) => return Err(OutputFault),
-            Ok(n) => rest = &rest[n..],
-            Err(_fault) => return Err(OutputFault),
-        }
+    let (_, failed) = send(bytes, out);
+    if failed {
+        return Err(OutputFault);
     }
     Ok(())
 }

@@ -1,7 +1,5 @@
-ghost use Rattle.std.specs.Prelude.{◌≡◌, ◌≤◌, false, length, take};
-ghost use Rattle.std.specs.Io.KnownBytes.{Appends};
-
 use crate::held_bytes::{HeldBytes, ROOM};
+use kt_base::send;
 use std::io;
 use std::io::{ErrorKind, Write};
 
@@ -13,24 +11,6 @@ pub struct LineOutput<W> {
     out: W,
     held: HeldBytes,
     failed: bool,
-}
-
-/// Writes until all is written or a write fails, as `emit` does, and counts what is written.
-/// Answers the count, and whether a write failed.
-fn send<W: Write>(bytes: &[u8], out: &mut W) -> (usize, bool)
-    ensures bound { result.0 ≤ length bytes.now }
-    ensures all { result.1 ≡ false → result.0 ≡ length bytes.now }
-    ensures sent { Appends (W.contents out.old) (W.contents out.new) (take result.0 bytes.now) }
-{
-    let mut sent = 0;
-    while sent < bytes.len() {
-        match out.write(&bytes[sent..]) {
-            Ok(0) => return (sent, true),
-            Ok(n) => sent += n,
-            Err(_fault) => return (sent, true),
-        }
-    }
-    (sent, false)
 }
 
 /// What is told of a write behind one that failed.

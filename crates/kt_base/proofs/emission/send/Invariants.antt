@@ -1,6 +1,6 @@
 use Rattle.std.proofs.Common.{◌-◌, ◌≤◌, length, take}
 use Rattle.std.specs.Io.KnownBytes.{Appends}
-use Rattle.kt_cli.proofs.line_output.send.Given as goal
+use Rattle.kt_base.proofs.emission.send.Given as goal
 
 -- so much of the bytes is in the writer
 abbrev pub invariant-loop-sent : goal.invariant-loop-sent
