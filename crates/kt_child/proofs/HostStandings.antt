@@ -1,6 +1,6 @@
 -- How the children of the host stand, where one of them changes, is forgotten or is new.
 use Rattle.std.proofs.Common.{◌≡◌, ℕ, zero, suc, ◌<◌, Bool, true, false, Some, None, List, [], ◌∷◌, ◌++◌, length, get_or, refl, sym, ◌∙◌, ap, subst, arith, if◌then◌else◌}
-use Rattle.std.specs.Prelude.{IsSome, filter, not, slice_set}
+use Rattle.std.specs.Prelude.{IsSome, filter, not, remove, slice_set}
 use Rattle.kt_child.specs.declared.child.Child.{Child}
 use Rattle.kt_child.specs.declared.host_child.HostChild.{HostChild}
 use Rattle.kt_child.specs.Lives.{same_child}
@@ -74,6 +74,27 @@ all_stay child old new own others c = by (same_child child c) refl
         let here : child ≡ c = same_child_is child c e in
         ap new (sym here) ∙ own ∙ ap old here
     by false e = others c e
+
+-- the first child of a name is taken out: the others stay
+pub removed : {P I O E : Type 0} (held : List (HostChild P I O E)) (place : ℕ) (child : Child) → IsPlaceOf child held place
+    → OthersStay child (stand_in held) (stand_in (remove held place))
+removed [] place child at c other = absurd at
+removed (h ∷ held) zero child at c other =
+    let own : h.child ≡ child = same_child_is h.child child at in
+    sym (ap (λ (t : Bool). pick t (stand_of h) (stand_in held c)) (ap (λ (d : Child). same_child d c) own ∙ other))
+removed (h ∷ held) (suc place) child at c other = ap (λ (t : Stand). pick (same_child h.child c) (stand_of h) t) (removed held place child at.1 c other)
+
+-- it, and how those stand among which it was sought
+pub taken_out : {P I O E : Type 0} (held seen left new : List (HostChild P I O E)) (place : ℕ) (h : HostChild P I O E) (child : Child) → seen ≡ held
+    → IsPlaceOf child seen place → h ≡ get_or held place h → left ≡ remove held place → OthersStay child (stand_in left) (stand_in new)
+    → (h.child ≡ child) × (stand_of h ≡ stand_in held child) × OthersStay child (stand_in held) (stand_in new)
+taken_out {P} {I} {O} {E} held seen left new place h child same first e rest others =
+    let at : IsPlaceOf child held place = subst (λ (t : List (HostChild P I O E)). IsPlaceOf child t place) same first in
+    let was = at_place held place h child at e in (
+      was.0,
+      sym was.1,
+      λ c other. others c other ∙ ap (λ (t : List (HostChild P I O E)). stand_in t c) rest ∙ removed held place child at c other,
+    )
 
 pub proceeds_same : (a b : Stand) → b ≡ a → Proceeds a b
 proceeds_same None b e = e

@@ -55,33 +55,33 @@ IsPolledOf bits (Ok (Signaled signal core)) =
 IsPolledOf bits (Err _) = bits % 128 ≡ 127
 
 -- The end of a child is told by the status of its process, which it had: that of the end that was seen, if one was. Then
--- the child is forgotten.
-abbrev pub TellsEnd : Child → (Child → Stand) → Result Polled OsFault → (Child → Stand) → Type 0
-TellsEnd child old answer new =
+-- it is the last child whose end was told, and is not among the children any more.
+abbrev pub TellsEnd : Child → (Child → Stand) → Result Polled OsFault → (Child → Stand) → (Child → ExitStatus → Type 0) → Type 0
+TellsEnd child old answer new IsLast =
     (status : ExitStatus) × IsSome (old child) × Proceeds (old child) (Some (Some status)) × IsPolledOf (status_bits status) answer
-    × (new child ≡ None) × OthersStay child old new
+    × IsLast child status × (new child ≡ None) × OthersStay child old new
 
 -- A child is told to run only where it has a process of which no end was seen. A poll that fails forgets it at the most.
-abbrev pub HostPolls : Child → (Child → Stand) → Result Polled OsFault → (Child → Stand) → Type 0
-HostPolls child old (Ok Running) new = (old child ≡ Some None) × AllStay old new
-HostPolls child old (Ok (Exited code)) new = TellsEnd child old (Ok (Exited code)) new
-HostPolls child old (Ok (Signaled signal core)) new = TellsEnd child old (Ok (Signaled signal core)) new
-HostPolls child old (Err fault) new = (Proceeds (old child) (new child) ⊎ (new child ≡ None)) × OthersStay child old new
+abbrev pub HostPolls : Child → (Child → Stand) → Result Polled OsFault → (Child → Stand) → (Child → ExitStatus → Type 0) → Type 0
+HostPolls child old (Ok Running) new IsLast = (old child ≡ Some None) × AllStay old new
+HostPolls child old (Ok (Exited code)) new IsLast = TellsEnd child old (Ok (Exited code)) new IsLast
+HostPolls child old (Ok (Signaled signal core)) new IsLast = TellsEnd child old (Ok (Signaled signal core)) new IsLast
+HostPolls child old (Err fault) new IsLast = (Proceeds (old child) (new child) ⊎ (new child ≡ None)) × OthersStay child old new
 
--- An answer of the host, by how its children stand before and after. An output is opened for a child that has no process
+-- An answer of the host, by how its children stand before and after, and the last end that was told. An output is opened for a child that has no process
 -- then; a start gives it one, and one that fails leaves none; only what has a process is killed; in a pause ends are seen;
 -- a read keeps to its limit. Of the answer itself nothing is said where it tells only whether the system did it, and
 -- nothing of a moment.
-abbrev pub HostLeads : (Child → Stand) → Call → (Child → Stand) → Type 0
-HostLeads old (MakeDir path done) new = AllStay old new
-HostLeads old (RemoveTree path done) new = AllStay old new
-HostLeads old (OpenOutput child path done) new = (new child ≡ None) × OthersStay child old new
-HostLeads old (Spawn child program words env dir true) new = IsSome (new child) × OthersStay child old new
-HostLeads old (Spawn child program words env dir false) new = (new child ≡ None) × OthersStay child old new
-HostLeads old (Poll child answer) new = HostPolls child old answer new
-HostLeads old (Kill child true) new = IsSome (old child) × AllStay old new
-HostLeads old (Kill child false) new = AllStay old new
-HostLeads old (Pause done) new = AllProceed old new
-HostLeads old (ReadFile path limit answer) new = IsHostRead limit answer × AllStay old new
-HostLeads old (ReadPart path from limit answer) new = IsHostRead limit answer × AllStay old new
-HostLeads old (Now answer) new = AllStay old new
+abbrev pub HostLeads : (Child → Stand) → Call → (Child → Stand) → (Child → ExitStatus → Type 0) → Type 0
+HostLeads old (MakeDir path done) new IsLast = AllStay old new
+HostLeads old (RemoveTree path done) new IsLast = AllStay old new
+HostLeads old (OpenOutput child path done) new IsLast = (new child ≡ None) × OthersStay child old new
+HostLeads old (Spawn child program words env dir true) new IsLast = IsSome (new child) × OthersStay child old new
+HostLeads old (Spawn child program words env dir false) new IsLast = (new child ≡ None) × OthersStay child old new
+HostLeads old (Poll child answer) new IsLast = HostPolls child old answer new IsLast
+HostLeads old (Kill child true) new IsLast = IsSome (old child) × AllStay old new
+HostLeads old (Kill child false) new IsLast = AllStay old new
+HostLeads old (Pause done) new IsLast = AllProceed old new
+HostLeads old (ReadFile path limit answer) new IsLast = IsHostRead limit answer × AllStay old new
+HostLeads old (ReadPart path from limit answer) new IsLast = IsHostRead limit answer × AllStay old new
+HostLeads old (Now answer) new IsLast = AllStay old new

@@ -1,5 +1,5 @@
 -- How the children of the host stand.
-use Rattle.std.specs.Prelude.{◌≡◌, ℕ, zero, suc, Bool, true, false, not, Option, Some, None, IsSome, option_map, List, [], ◌∷◌, if◌then◌else◌}
+use Rattle.std.specs.Prelude.{◌≡◌, ℕ, zero, suc, Bool, true, false, not, Option, Some, None, IsSome, IsSomeAnd, option_map, List, [], ◌∷◌, if◌then◌else◌}
 use Rattle.std.specs.Process.{child_status}
 use Rattle.std.specs.declared.process.status.ExitStatus.{ExitStatus}
 use Rattle.kt_child.specs.declared.child.Child.{Child}
@@ -28,6 +28,10 @@ abbrev pub IsPlaceOf : {P I O E : Type 0} → Child → List (HostChild P I O E)
 IsPlaceOf c [] place = ⊥
 IsPlaceOf c (h ∷ held) zero = same_child h.child c ≡ true
 IsPlaceOf c (h ∷ held) (suc place) = (same_child h.child c ≡ false) × IsPlaceOf c held place
+
+-- The child whose end was told last: it has this name, and a process that has this status.
+abbrev pub IsLastEnd : {P I O E : Type 0} → Option (HostChild P I O E) → Child → ExitStatus → Type 0
+IsLastEnd last child status = IsSomeAnd last (λ h. (h.child ≡ child) × (stand_of h ≡ Some (Some status)))
 
 -- A child proceeds: none has a process that had none, a process stays, and so does an end that was seen.
 abbrev pub Proceeds : Stand → Stand → Type 0

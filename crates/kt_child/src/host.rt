@@ -37,6 +37,8 @@ const QUIET_PAUSES: u32 = 20;
 pub struct HostOs<R: Processes> {
     rt: R,
     children: Vec<HostChild<R::Started>>,
+    /// The child whose end was told last, so that this end can be said to be its own.
+    last: Option<HostChild<R::Started>>,
     /// The pauses since a child was last seen to end.
     quiet: u32,
 }
@@ -76,6 +78,7 @@ impl<R: Processes + AllocGlobal + Drop> HostOs<R> {
         HostOs {
             rt,
             children,
+            last: None,
             quiet: 0,
         }
     }
@@ -105,10 +108,10 @@ impl<R: Processes + Files<File = File> + Clock + AllocGlobal + Drop> HostOs<R> {
 impl<R: Processes + Files<File = File> + Clock + AllocGlobal + Drop> Os for HostOs<R> {
     // What the system does with its files, its processes and its clock is not said: how the children stand that are
     // kept here is, and that what is told of them and of a file is what the library answered.
-    ghost use Rattle.kt_child.specs.HostStands.{stand_in};
+    ghost use Rattle.kt_child.specs.HostStands.{IsLastEnd, stand_in};
     ghost use Rattle.kt_child.specs.HostAnswers.{HostLeads};
 
-    ghost leads = { λ old call new. HostLeads (stand_in old.children.items) call (stand_in new.children.items) };
+    ghost leads = { λ old call new. HostLeads (stand_in old.children.items) call (stand_in new.children.items) (IsLastEnd new.last) };
 
     fn make_dir(&mut self, path: &Text) -> Result<(), OsFault> {
         or_fault(fs::create_dir(&self.rt, path.as_str()))
@@ -150,7 +153,7 @@ impl<R: Processes + Files<File = File> + Clock + AllocGlobal + Drop> Os for Host
             Err(fault) => Err(fault),
             Ok(None) => Ok(Polled::Running),
             Ok(Some(status)) => {
-                host_children::forget(&mut self.children, child);
+                self.last = host_children::take_out(&mut self.children, child);
                 self.quiet = 0;
                 polled(status)
             }

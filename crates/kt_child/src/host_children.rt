@@ -1,7 +1,7 @@
 ghost use Rattle.std.specs.Prelude.{◌≡◌, ◌<◌, length, filter, None, Some, IsSome, IfSome, OnSome, IfNone, IfOk, OnOk};
 ghost use Rattle.kt_sched.specs.Children.{same_role};
 ghost use Rattle.kt_child.specs.Lives.{same_child};
-ghost use Rattle.kt_child.specs.HostStands.{AllProceed, AllStay, IsPlaceOf, OthersStay, Proceeds, is_other, stand_in};
+ghost use Rattle.kt_child.specs.HostStands.{AllProceed, AllStay, IsPlaceOf, OthersStay, Proceeds, is_other, stand_in, stand_of};
 
 use crate::child::Child;
 use crate::host_child::HostChild;
@@ -56,6 +56,26 @@ pub(super) fn forget<P: OpenProcess + Drop>(children: &mut Vec<HostChild<P>>, ch
     ensures others { OthersStay child (stand_in children.old.items) (stand_in children.new.items) }
 {
     children.retain(|held| !same_name(held.child, child));
+}
+
+/// Takes a child out.
+pub(super) fn take_out<P: OpenProcess + Drop>(
+    children: &mut Vec<HostChild<P>>,
+    child: Child,
+) -> Option<HostChild<P>>
+    ensures own { IfSome result (λ held. (held.child ≡ child) × (stand_of held ≡ stand_in children.old.items child)) }
+    ensures none { IfNone result (stand_in children.old.items child ≡ None) }
+    ensures forgotten { stand_in children.new.items child ≡ None }
+    ensures others { OthersStay child (stand_in children.old.items) (stand_in children.new.items) }
+{
+    match place_of(children, child) {
+        Some(place) => {
+            let held = children.remove(place);
+            forget(children, child);
+            Some(held)
+        }
+        None => None,
+    }
 }
 
 /// The place of a child of which only the file of its errors is still to come.
