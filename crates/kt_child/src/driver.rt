@@ -13,16 +13,16 @@ use std::alloc::Global;
 /// Starts children in directories below its own root directory, watches them and cleans up after them.
 #[derive(Drop)]
 pub struct Driver<O: Os + Drop> {
-    pub(super) os: O,
+    pub os: O,
     alloc: Global,
     /// The absolute directory of the root Kyuafile.
-    pub(super) source: Text,
+    pub source: Text,
     /// The root directory.
-    pub(super) root: Text,
+    pub root: Text,
     /// The number of the next start of a body or a list.
-    pub(super) next: u64,
+    pub next: u64,
     /// What runs and what is owed.
-    pub(super) row: Row,
+    pub row: Row,
 }
 
 impl<O: Os + Drop> Launcher for Driver<O> {
