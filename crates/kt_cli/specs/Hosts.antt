@@ -14,7 +14,6 @@ use Rattle.kt_child.specs.Calls.{Call, Chain, RemoveTree}
 use Rattle.kt_child.specs.Launches.{StartsBy}
 use Rattle.kt_child.specs.Roots.{FindsRoot}
 use Rattle.kt_cli.specs.declared.command.Command.{Command}
-use Rattle.kt_cli.specs.declared.command.Command.TheVariants as command
 use Rattle.kt_cli.specs.Commands.{kyuafile_of}
 use Rattle.kt_cli.specs.HostFiles.{IsLook}
 use Rattle.kt_cli.specs.Meaning.{Did}
@@ -66,9 +65,11 @@ abbrev pub DidAlone : {R : Type 0} → (R → List Run → Type 0) → (R → Ty
 DidAlone Stands Sound Leaves c store after was now exit =
     Did {W = Unit {0}} IsLook IsStill (λ s job role answer t. ⊥) (λ s ended t. ⊥) Stands Sound Leaves c tt tt store after was now exit
 
--- what a command line did: one that reads a Kyuafile has a driver over the system
+-- what a command line did: one that reads this Kyuafile has a driver over the system, one that reads none starts nothing
+abbrev pub DidReading : {O R : Type 0} → (O → Call → O → Type 0) → O → List ℕ → Option (List ℕ) → Option (List ℕ) → (R → List Run → Type 0) → (R → Type 0) → (R → List (List Run) → Type 0) → Command → R → R → Option (List ℕ) → Option (List ℕ) → ℕ → Type 0
+DidReading leads os here work (Some kyuafile) Stands Sound Leaves c store after was now exit = OnDriver leads os here work kyuafile Stands Sound Leaves c store after was now exit
+DidReading leads os here work None Stands Sound Leaves c store after was now exit = DidAlone Stands Sound Leaves c store after was now exit
+
+-- what a command line did, by the Kyuafile that its command reads
 abbrev pub DidOnHost : {O R : Type 0} → (O → Call → O → Type 0) → O → List ℕ → Option (List ℕ) → (R → List Run → Type 0) → (R → Type 0) → (R → List (List Run) → Type 0) → Command → R → R → Option (List ℕ) → Option (List ℕ) → ℕ → Type 0
-DidOnHost leads os here work Stands Sound Leaves (command.List kyuafile) store after was now exit = OnDriver leads os here work kyuafile Stands Sound Leaves (command.List kyuafile) store after was now exit
-DidOnHost leads os here work Stands Sound Leaves (command.Test kyuafile) store after was now exit = OnDriver leads os here work kyuafile Stands Sound Leaves (command.Test kyuafile) store after was now exit
-DidOnHost leads os here work Stands Sound Leaves (command.Report number kinds) store after was now exit = DidAlone Stands Sound Leaves (command.Report number kinds) store after was now exit
-DidOnHost leads os here work Stands Sound Leaves (command.ReportJunit number) store after was now exit = DidAlone Stands Sound Leaves (command.ReportJunit number) store after was now exit
+DidOnHost leads os here work Stands Sound Leaves c store after was now exit = DidReading leads os here work (kyuafile_of c) Stands Sound Leaves c store after was now exit

@@ -120,16 +120,13 @@ pub fn execute_on_host<
     ensures refused { IfErr result (λ e. NoDriver O.leads os line.now.work line.now.command e) }
     ensures unasked { OnErr result ((results.new ≡ results.old) × (W.contents out.new ≡ W.contents out.old)) }
 {
+    if let Some(kyuafile) = line.command.kyuafile() {
+        let exit = execute_over_files(rt, os, here, line, kyuafile, results, out)?;
+        return Ok(exit);
+    }
     match &line.command {
-        Command::List(kyuafile) => {
-            let exit = execute_over_files(rt, os, here, line, kyuafile, results, out)?;
-            Ok(exit)
-        }
-        Command::Test(kyuafile) => {
-            let exit = execute_over_files(rt, os, here, line, kyuafile, results, out)?;
-            Ok(exit)
-        }
         Command::Report { run, kinds, .. } => Ok(report(*run, kinds.as_slice(), results, out)),
         Command::ReportJunit { run, .. } => Ok(report_junit(rt.alloc(), *run, results, out)),
+        Command::List(_) | Command::Test(_) => unreachable!(),
     }
 }

@@ -192,6 +192,7 @@ impl<R: Files<File = File> + Clock + AllocGlobal, L: Launcher> World for HostWor
 #[cfg(test)]
 mod tests {
     use super::read_start;
+    use kt_base::Bytes;
     use kt_suite::ReadFault;
     use std::io;
     use std::io::{ErrorKind, Read};
@@ -233,24 +234,29 @@ mod tests {
         }
     }
 
+    /// How many bytes were read.
+    fn told(read: Result<Bytes, ReadFault>) -> Result<usize, ReadFault> {
+        match read {
+            Ok(bytes) => Ok(bytes.len()),
+            Err(fault) => Err(fault),
+        }
+    }
+
     #[test]
     fn a_read_ends_at_its_first_fault_or_at_its_limit(rt: HostRuntime) -> Result<(), Fail> {
         let alloc = rt.alloc();
         for fault in [ErrorKind::Interrupted, ErrorKind::Other] {
             for reads in [0, 1, 3] {
                 let mut file = file_of(100, reads, fault);
-                let read = read_start(alloc, &mut file);
-                assert!(rt; matches!(read, Err(ReadFault::Failed)), "after {reads}");
+                let read = told(read_start(alloc, &mut file));
+                assert_eq!(rt; read, Err(ReadFault::Failed), "after {reads}");
                 assert_eq!(rt; file.failed, 1, "after {reads}");
             }
         }
         for piece in [100, 8_192, 9_999] {
             let mut file = file_of(piece, 99_999, ErrorKind::Other);
-            let read = read_start(alloc, &mut file);
-            assert!(rt;
-                matches!(read, Ok(bytes) if bytes.len() == 1_048_577),
-                "at {piece}"
-            );
+            let read = told(read_start(alloc, &mut file));
+            assert_eq!(rt; read, Ok(1_048_577), "at {piece}");
             assert_eq!(rt; file.given, 1_048_577, "at {piece}");
         }
         Ok(())

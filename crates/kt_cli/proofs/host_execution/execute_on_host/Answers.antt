@@ -1,8 +1,12 @@
 use Rattle.std.specs.Str.{chars}
 use Rattle.std.proofs.Common.{rules, ◌≡◌}
 use Rattle.kt_cli.specs.declared.command.Command.TheVariants as command
-use Rattle.kt_cli.proofs.HostCommands.{alone_report, alone_junit}
+use Rattle.kt_cli.proofs.HostCommands.{on_driver, alone_report, alone_junit}
 use Rattle.kt_cli.proofs.host_execution.execute_on_host.Goals as goal
+
+pub returns-in-Some-clause-did : goal.returns-in-Some-clause-did
+returns-in-Some-clause-did g c =
+    on_driver g.O.Os.leads c.args.os (chars c.args.here.now) c.args.line.now.work g.S.ResultStore.stands g.S.ResultStore.sound g.S.ResultStore.leaves c.args.line.now.command _ _ _ _ _ c.in-Some.kyuafile.now c.in-Some.ensures c.in_ok-exit.ensures.did
 
 pub returns-in-Report-clause-did : goal.returns-in-Report-clause-did
 returns-in-Report-clause-did g c =
