@@ -1,4 +1,4 @@
-use kt_base::Text;
+use kt_base::{Kind, Text};
 use kt_cli::{Command, CommandFault, CommandLine, read_command};
 use std::alloc::Global;
 use std::test::Fail;
@@ -19,15 +19,24 @@ enum Read {
     List(&'static str, &'static str),
     /// Those, and the file of the results.
     Test(&'static str, &'static str, &'static str),
-    /// The file of the results, the run, and how many kinds.
-    Report(&'static str, Option<u64>, usize),
+    /// The file of the results, the run, and the kinds that are shown.
+    Report(&'static str, Option<u64>, &'static [Kind]),
     ReportJunit(&'static str, Option<u64>),
     Usage,
     BadKind,
     BadRun,
 }
 
-const ROWS: [(&[&str], Read); 33] = [
+/// The kinds that are shown without a filter.
+const USUAL: &[Kind] = &[
+    Kind::Skipped,
+    Kind::ExpectedFailure,
+    Kind::Broken,
+    Kind::Failed,
+];
+
+/// Command lines that are read.
+const ACCEPTED: [(&[&str], Read); 18] = [
     (&["list"], Read::List("Kyuafile", "/tmp")),
     (&["list", "-k", "d/K"], Read::List("d/K", "/tmp")),
     (&["list", "--kyuafile", "d/K"], Read::List("d/K", "/tmp")),
@@ -47,44 +56,93 @@ const ROWS: [(&[&str], Read); 33] = [
         &["test", "--work", "w"],
         Read::Test("Kyuafile", "w", "kyua.db"),
     ),
-    (&["test", "--work"], Read::Usage),
-    (&["test", "-w", "/w"], Read::Usage),
-    (&["list", "-r", "R"], Read::Usage),
-    (&["report", "--work=/w"], Read::Usage),
-    (&[], Read::Usage),
-    (&["lost"], Read::Usage),
-    (&["--help"], Read::Usage),
-    (&["list", "--help"], Read::Usage),
-    (&["list", "-k"], Read::Usage),
-    (&["list", "--run=1"], Read::Usage),
-    (&["report"], Read::Report("kyua.db", None, 4)),
+    (&["report"], Read::Report("kyua.db", None, USUAL)),
     (
         &["report", "--run=1000000", "--results-filter=xfail,failed"],
-        Read::Report("kyua.db", Some(1_000_000), 2),
+        Read::Report(
+            "kyua.db",
+            Some(1_000_000),
+            &[Kind::ExpectedFailure, Kind::Failed],
+        ),
     ),
     (
         &["report", "-r", "R", "--results-filter=passed"],
-        Read::Report("R", None, 1),
+        Read::Report("R", None, &[Kind::Passed]),
+    ),
+    (
+        &[
+            "report",
+            "--results-filter",
+            "failed,broken,xfail,skipped,passed,failed",
+        ],
+        Read::Report(
+            "kyua.db",
+            None,
+            &[
+                Kind::Failed,
+                Kind::Broken,
+                Kind::ExpectedFailure,
+                Kind::Skipped,
+                Kind::Passed,
+                Kind::Failed,
+            ],
+        ),
     ),
     (
         &["report", "--run=007"],
-        Read::Report("kyua.db", Some(7), 4),
-    ),
-    (&["report", "--run=0"], Read::BadRun),
-    (&["report", "--run=1000001"], Read::BadRun),
-    (&["report", "--run=+1"], Read::BadRun),
-    (&["report", "--run=18446744073709551617"], Read::BadRun),
-    (&["report", "--results-filter=bad"], Read::BadKind),
-    (
-        &["report", "--run=0", "--results-filter=failed,"],
-        Read::BadKind,
+        Read::Report("kyua.db", Some(7), USUAL),
     ),
     (
         &["report-junit", "--results-file=R", "--run=1"],
         Read::ReportJunit("R", Some(1)),
     ),
     (&["report-junit"], Read::ReportJunit("kyua.db", None)),
+    (
+        &["report-junit", "--run", "999999"],
+        Read::ReportJunit("kyua.db", Some(999_999)),
+    ),
+];
+
+/// Command lines that are refused.
+const REFUSED: [(&[&str], Read); 25] = [
+    (&[], Read::Usage),
+    (&["lost"], Read::Usage),
+    (&["--help"], Read::Usage),
+    (&["list", "--help"], Read::Usage),
+    (&["list", "-k"], Read::Usage),
+    (&["list", "--run=1"], Read::Usage),
+    (&["list", "-r", "R"], Read::Usage),
+    (&["test", "--work"], Read::Usage),
+    (&["test", "-w", "/w"], Read::Usage),
+    (&["report", "--work=/w"], Read::Usage),
     (&["report-junit", "--results-filter=failed"], Read::Usage),
+    (&["report", "--results-filter=bad"], Read::BadKind),
+    (&["report", "--results-filter="], Read::BadKind),
+    (&["report", "--results-filter=failed,,xfail"], Read::BadKind),
+    (
+        &["report", "--results-filter=expected_failure"],
+        Read::BadKind,
+    ),
+    (&["report", "--results-filter=failed, xfail"], Read::BadKind),
+    (&["report", "--run=0"], Read::BadRun),
+    (&["report", "--run=1000001"], Read::BadRun),
+    (&["report", "--run=+1"], Read::BadRun),
+    (&["report", "--run="], Read::BadRun),
+    (&["report", "--run=18446744073709551617"], Read::BadRun),
+    (&["report-junit", "--run=1x"], Read::BadRun),
+    // A wrong command line is told before a wrong filter, and that before a wrong number.
+    (
+        &["report", "--run=0", "--results-filter=bad", "lost"],
+        Read::Usage,
+    ),
+    (
+        &["report", "--run=0", "--results-filter=failed,"],
+        Read::BadKind,
+    ),
+    (
+        &["report", "--results-filter=failed", "--run=0"],
+        Read::BadRun,
+    ),
 ];
 
 /// The value of an option, or the empty text where the command has no such option.
@@ -106,8 +164,8 @@ fn is_read(line: &CommandLine, row: Read) -> bool {
         (Command::Test(kyuafile), Read::Test(file, dir, kept)) => {
             kyuafile.as_str() == file && work == dir && results == kept
         }
-        (Command::Report { run, kinds }, Read::Report(file, number, count)) => {
-            results == file && *run == number && kinds.len() == count && line.work.is_none()
+        (Command::Report { run, kinds }, Read::Report(file, number, shown)) => {
+            results == file && *run == number && kinds.as_slice() == shown && line.work.is_none()
         }
         (Command::ReportJunit { run }, Read::ReportJunit(file, number)) => {
             results == file && *run == number && line.work.is_none()
@@ -116,43 +174,31 @@ fn is_read(line: &CommandLine, row: Read) -> bool {
     }
 }
 
+/// Whether these words are read as a row says.
+fn reads(alloc: Global, line: &[&str], row: Read) -> Result<bool, Fail> {
+    let words = words(alloc, line)?;
+    Ok(match read_command(alloc, words.as_slice()) {
+        Ok(read) => is_read(&read, row),
+        Err(CommandFault::Usage(text)) => row == Read::Usage && !text.as_str().is_empty(),
+        Err(CommandFault::BadKind) => row == Read::BadKind,
+        Err(CommandFault::BadRun) => row == Read::BadRun,
+        Err(CommandFault::NoMemory) => false,
+    })
+}
+
+/// A `read_command` that refuses all but one line, or some of them, fails this test.
 #[test]
-fn command_lines_are_read(rt: HostRuntime) -> Result<(), Fail> {
-    for (line, row) in &ROWS {
-        let words = words(rt.alloc(), line)?;
-        let same = match read_command(rt.alloc(), words.as_slice()) {
-            Ok(read) => is_read(&read, *row),
-            Err(CommandFault::Usage(text)) => *row == Read::Usage && !text.as_str().is_empty(),
-            Err(CommandFault::BadKind) => *row == Read::BadKind,
-            Err(CommandFault::BadRun) => *row == Read::BadRun,
-            Err(CommandFault::NoMemory) => false,
-        };
-        assert!(rt; same, "at {line:?}");
+fn nearly_every_command_line_refused(rt: HostRuntime) -> Result<(), Fail> {
+    for (line, row) in &ACCEPTED {
+        assert!(rt; reads(rt.alloc(), line, *row)?, "at {line:?}");
     }
     Ok(())
 }
 
-/// The kinds that a report shows, each with a space behind it.
-fn shown(alloc: Global, line: &CommandLine) -> Result<Text, Fail> {
-    let mut text = Text::new(alloc);
-    if let Command::Report { kinds, .. } = &line.command {
-        for kind in kinds.as_slice() {
-            text.push_str(kind.word())?;
-            text.push(' ')?;
-        }
-    }
-    Ok(text)
-}
-
 #[test]
-fn a_report_shows_all_but_passed(rt: HostRuntime) -> Result<(), Fail> {
-    let words = words(rt.alloc(), &["report"])?;
-    let Ok(line) = read_command(rt.alloc(), words.as_slice()) else {
-        return Err("no command".into());
-    };
-    assert_eq!(rt;
-        shown(rt.alloc(), &line)?.as_str(),
-        "skipped expected_failure broken failed "
-    );
+fn wrong_command_lines_are_refused(rt: HostRuntime) -> Result<(), Fail> {
+    for (line, row) in &REFUSED {
+        assert!(rt; reads(rt.alloc(), line, *row)?, "at {line:?}");
+    }
     Ok(())
 }

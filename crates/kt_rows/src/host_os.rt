@@ -34,7 +34,7 @@ fn a_child_has_its_files_its_directory_its_environment_and_no_input<R: Abort + A
 }
 
 /// The moment, by the clock.
-fn moment<C: Clock>(clock: &C) -> Result<u128, Fail> {
+pub(super) fn moment<C: Clock>(clock: &C) -> Result<u128, Fail> {
     Ok(
         SystemTime::now(clock)?
             .duration_since(SystemTime::UNIX_EPOCH)?

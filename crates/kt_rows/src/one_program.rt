@@ -8,13 +8,14 @@ use kt_sched::{Ended, Job, Launcher, StartAnswer};
 use kt_suite::{ReadFault, Tree};
 use std::alloc::Global;
 
-/// The one Kyuafile of the world.
-const KYUAFILE: &[u8] = b"syntax(2)\ntest_suite('s')\nplain_test_program{name='a'}\n";
-
-/// A world whose one program runs from 1,000 to 1,012 and ends with status 0.
+/// A world with the one program `a`, which is started at 1,000 and ends with status 0.
 #[derive(Drop)]
-pub(super) struct OneProgram {
+pub(super) struct OneProgram<'a> {
     pub(super) alloc: Global,
+    /// The one Kyuafile of the world.
+    pub(super) kyuafile: &'a [u8],
+    /// When the program ends.
+    pub(super) end: u64,
     /// What the host's clock shows.
     pub(super) moment: u64,
     pub(super) runs: bool,
@@ -23,7 +24,7 @@ pub(super) struct OneProgram {
     pub(super) interface: Interface,
 }
 
-impl Tree for OneProgram {
+impl Tree for OneProgram<'_> {
     ghost use Rattle.std.specs.Prelude.{◌≡◌};
 
     ghost asks = { λ s q t. (t.runs ≡ s.runs) × (t.position ≡ s.position) × (t.interface ≡ s.interface) };
@@ -32,7 +33,7 @@ impl Tree for OneProgram {
         if path.as_str() != "Kyuafile" {
             return Err(ReadFault::Missing);
         }
-        Bytes::from_slice(self.alloc, KYUAFILE).map_err(|_| ReadFault::Memory)
+        Bytes::from_slice(self.alloc, self.kyuafile).map_err(|_| ReadFault::Memory)
     }
 
     fn exists(&mut self, path: &Text) -> bool {
@@ -50,7 +51,7 @@ fn evidence_of(interface: Interface) -> Evidence
     }
 }
 
-impl Launcher for OneProgram {
+impl Launcher for OneProgram<'_> {
     ghost use Rattle.std.specs.Prelude.{false};
     ghost use Rattle.kt_cli.specs.OneChild.{one_child};
 
@@ -83,12 +84,12 @@ impl Launcher for OneProgram {
                 out: Bytes::new(self.alloc),
                 err: Bytes::new(self.alloc),
             },
-            moment: 1_012,
+            moment: self.end.min(LATEST_MOMENT),
         }
     }
 }
 
-impl World for OneProgram {
+impl World for OneProgram<'_> {
     ghost use Rattle.std.specs.Prelude.{◌≡◌, refl};
     ghost use Rattle.kt_cli.specs.OneChild.{same_child};
 

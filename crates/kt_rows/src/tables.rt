@@ -6,14 +6,21 @@ use crate::one_program::OneProgram;
 use crate::results::attached;
 use kt_base::{Bytes, Entry, Interface, Output, Text, Verdict};
 use kt_cli::{ResultStore, execute, read_command};
+use kt_store::RunHead;
 use std::alloc::Global;
 use std::process::Abort;
 use std::test::Fail;
 
-/// What a command writes where the host's clock shows a moment, and its status.
+/// A Kyuafile with the program once.
+const ONCE: &[u8] = b"syntax(2)\ntest_suite('s')\nplain_test_program{name='a'}\n";
+
+/// What a command over a Kyuafile writes where the program ends at one moment and the host's clock shows another, and its
+/// status.
 fn done<R: ResultStore>(
     alloc: Global,
+    kyuafile: &[u8],
     line: &[&str],
+    end: u64,
     moment: u64,
     results: &mut R,
 ) -> Result<(Vec<u8>, u8), Fail> {
@@ -23,6 +30,8 @@ fn done<R: ResultStore>(
     };
     let mut world = OneProgram {
         alloc,
+        kyuafile,
+        end,
         moment,
         runs: false,
         position: 0,
@@ -67,7 +76,7 @@ fn a_run_that_lacks_an_entry_is_unfinished<A: Abort + AllocGlobal, R: ResultStor
         return Err(Fail::new("no run"));
     };
     assert!(rt; results.put(run, &entry).is_ok());
-    let (written, status) = done(rt.alloc(), &["report"], 0, results)?;
+    let (written, status) = done(rt.alloc(), ONCE, &["report"], 0, 0, results)?;
     assert_eq!(rt; written.as_slice(), UNFINISHED);
     assert_eq!(rt; status, 0);
     Ok(())
@@ -95,9 +104,53 @@ fn runs_of_a_test_are_reported<A: Abort + AllocGlobal, R: ResultStore>(
     results: &mut R,
 ) -> Result<(), Fail> {
     for (line, moment, text, exit) in ROWS {
-        let (written, status) = done(rt.alloc(), line, moment, results)?;
+        let (written, status) = done(rt.alloc(), ONCE, line, 1_012, moment, results)?;
         assert_eq!(rt; written.as_slice(), text, "at {line:?}");
         assert_eq!(rt; status, exit, "at {line:?}");
+    }
+    Ok(())
+}
+
+/// A Kyuafile that registers so many cases, and what `test` writes of them where they take no time.
+const TOTALS: [(&[u8], u32, &[u8]); 2] = [
+    (b"syntax(2)\n", 0, b"\n0/0 passed (0 failed)\n"),
+    (
+        b"syntax(2)\ntest_suite('s')\nplain_test_program{name='a'}\nplain_test_program{name='a'}\n",
+        2,
+        b"a:main  ->  passed  [0.000s]\na:main  ->  passed  [0.000s]\n\n2/2 passed (0 failed)\n",
+    ),
+];
+
+fn each_registered_case_is_recorded<A: Abort + AllocGlobal, R: ResultStore>(
+    rt: &A,
+    results: &mut R,
+) -> Result<(), Fail> {
+    let mut number: u64 = 0;
+    for (kyuafile, total, text) in TOTALS {
+        let (written, status) = done(rt.alloc(), kyuafile, &["test"], 1_000, 500, results)?;
+        assert_eq!(rt; written.as_slice(), text, "of {total}");
+        assert_eq!(rt; status, 0, "of {total}");
+        let Ok(heads) = results.runs() else {
+            return Err(Fail::new("no runs"));
+        };
+        let Some(head) = heads.last() else {
+            return Err(Fail::new("no run"));
+        };
+        number = number.saturating_add(1);
+        let due = RunHead {
+            number,
+            started: 500,
+            total,
+            finished: true,
+        };
+        assert_eq!(rt; *head, due);
+        let Ok(entries) = results.entries(number) else {
+            return Err(Fail::new("no entries"));
+        };
+        assert_eq!(rt; entries.len(), total as usize);
+        for (place, entry) in entries.iter().enumerate() {
+            assert_eq!(rt; entry.position as usize, place, "of {total}");
+        }
     }
     Ok(())
 }
@@ -107,5 +160,7 @@ fn commands_are_done_over_tables(rt: HostRuntime) -> Result<(), Fail> {
     let mut results = attached(rt.alloc())?;
     a_run_that_lacks_an_entry_is_unfinished(&rt, &mut results)?;
     let mut results = attached(rt.alloc())?;
-    runs_of_a_test_are_reported(&rt, &mut results)
+    runs_of_a_test_are_reported(&rt, &mut results)?;
+    let mut results = attached(rt.alloc())?;
+    each_registered_case_is_recorded(&rt, &mut results)
 }
