@@ -119,7 +119,10 @@ fn an_output_is_a_new_file<R: Abort + AllocGlobal, O: Os>(
     let kept = whole(os, &below(&folder, "outside")?)?;
     assert_eq!(rt; kept.as_slice(), b"kept\n".as_slice());
     os.open_output(CLEANUP, &below(&folder, "new")?)?;
-    assert!(rt; os.open_output(CLEANUP, &below(&folder, "way/new")?).is_err());
+    assert!(rt;
+        os.open_output(CLEANUP, &below(&folder, "way/new")?)
+            .is_err()
+    );
     assert!(rt; part(os.read_file(&below(&folder, "stays/new")?, 9)?).is_none());
     Ok(())
 }
