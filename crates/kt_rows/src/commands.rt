@@ -142,31 +142,43 @@ const ROWS: [(&str, &str, &str, u8); 11] = [
     ("list", "long", "kyua: E: long:0: file too long\n", 2),
 ];
 
-#[test]
-fn programs_of_a_kyuafile_are_listed_and_run(rt: HostRuntime) -> Result<(), Fail> {
-    let alloc = rt.alloc();
-    let mut os = HostOs::new(&rt);
-    let folder = suite(alloc, &mut os, &here(&rt)?)?;
+fn each_row_is_told(rt: &HostRuntime, folder: &Text) -> Result<(), Fail> {
     for (command, kyuafile, written, exit) in ROWS {
-        let line = line_of(alloc, command, &folder, kyuafile, folder.as_str())?;
-        let (shown, status) = done(&rt, HostOs::new(&rt), &line)?;
-        assert_eq!(rt; shown.as_str(), written, "at {command} of {kyuafile}");
-        assert_eq!(rt; status, Ok(exit), "at {command} of {kyuafile}");
-    }
-    let lost = below(&folder, "lost")?;
-    for command in ["list", "test"] {
-        for work in ["", "work", lost.as_str()] {
-            let line = line_of(alloc, command, &folder, "Kyuafile", work)?;
-            let (shown, status) = done(&rt, HostOs::new(&rt), &line)?;
-            assert_eq!(rt; shown.as_str(), "", "at {command} in {work}");
-            assert_eq!(rt;
-                status,
-                Err(DriverFault::NoWorkDirectory),
-                "at {command} in {work}"
-            );
+        let line = line_of(rt.alloc(), command, folder, kyuafile, folder.as_str())?;
+        let (shown, status) = done(rt, HostOs::new(rt), &line)?;
+        if shown.as_str() != written || status != Ok(exit) {
+            return Err(Fail::new(kyuafile));
         }
     }
-    let line = line_of(alloc, "test", &folder, "Kyuafile", folder.as_str())?;
+    Ok(())
+}
+
+fn a_work_directory_is_wanted(rt: &HostRuntime, folder: &Text) -> Result<(), Fail> {
+    let lost = below(folder, "lost")?;
+    for (command, work) in [
+        ("list", ""),
+        ("test", ""),
+        ("list", "work"),
+        ("test", "work"),
+        ("list", lost.as_str()),
+        ("test", lost.as_str()),
+    ] {
+        let line = line_of(rt.alloc(), command, folder, "Kyuafile", work)?;
+        let (shown, status) = done(rt, HostOs::new(rt), &line)?;
+        if !shown.as_str().is_empty() || status != Err(DriverFault::NoWorkDirectory) {
+            return Err(Fail::new("a work directory is not wanted"));
+        }
+    }
+    Ok(())
+}
+
+#[test]
+fn programs_of_a_kyuafile_are_listed_and_run(rt: HostRuntime) -> Result<(), Fail> {
+    let mut os = HostOs::new(&rt);
+    let folder = suite(rt.alloc(), &mut os, &here(&rt)?)?;
+    each_row_is_told(&rt, &folder)?;
+    a_work_directory_is_wanted(&rt, &folder)?;
+    let line = line_of(rt.alloc(), "test", &folder, "Kyuafile", folder.as_str())?;
     a_run_begins_when_it_is_begun(&rt, HostOs::new(&rt), &line)?;
     // It can't be made while it is there.
     os.make_dir(&below(&folder, "kyua.0")?)?;
