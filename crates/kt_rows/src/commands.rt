@@ -57,31 +57,112 @@ fn done<H: Files<File = File> + Clock + AllocGlobal, O: Os + Drop>(
     Ok((shown, exit))
 }
 
+/// The run that a `test` begins has a moment between those that the clock shows before it and after it.
+fn a_run_begins_when_it_is_begun<H: Files<File = File> + Clock + AllocGlobal + Abort, O: Os + Drop>(
+    rt: &H,
+    os: O,
+    line: &CommandLine,
+) -> Result<(), Fail> {
+    let mut written: Vec<u8> = Vec::new(rt.alloc());
+    let mut runs = MemRuns::new(rt.alloc());
+    let before = moment(rt)?;
+    let exit = execute_on_host(rt, os, "/", line, &mut runs, &mut written);
+    let after = moment(rt)?;
+    assert!(rt; exit.is_ok());
+    let Ok(heads) = runs.runs() else {
+        return Err(Fail::new("no runs"));
+    };
+    assert_eq!(rt; heads.len(), 1);
+    for head in &heads {
+        let begun = head.started as u128;
+        assert!(rt;
+            before <= begun && begun <= after,
+            "{begun} from {before} to {after}"
+        );
+    }
+    Ok(())
+}
+
+const LISTED: &str = "good:main\nthree:main\n";
+
+const TOLD: &str =
+    "good:main  ->  passed\nthree:main  ->  failed: Returned non-success exit status 3\n\n1/2 passed (1 failed)\n";
+
+const MISSING: &str = "kyua: E: missing:3: program not found\n";
+
+/// A command, its Kyuafile, what it writes and its status.
+const ROWS: [(&str, &str, &str, u8); 11] = [
+    ("list", "Kyuafile", LISTED, 0),
+    ("test", "Kyuafile", TOLD, 1),
+    ("list", "link", LISTED, 0),
+    ("test", "link", TOLD, 1),
+    ("list", "missing", MISSING, 2),
+    ("test", "missing", MISSING, 2),
+    (
+        "list",
+        "pipe",
+        "kyua: E: pipe:0: file could not be read\n",
+        2,
+    ),
+    (
+        "test",
+        "pipe",
+        "kyua: E: pipe:0: file could not be read\n",
+        2,
+    ),
+    (
+        "list",
+        "directory",
+        "kyua: E: directory:0: file could not be read\n",
+        2,
+    ),
+    (
+        "list",
+        "lost",
+        "kyua: E: lost:0: file could not be read\n",
+        2,
+    ),
+    ("list", "long", "kyua: E: long:0: file too long\n", 2),
+];
+
+fn each_row_is_told(rt: &HostRuntime, folder: &Text) -> Result<(), Fail> {
+    for (command, kyuafile, written, exit) in ROWS {
+        let line = line_of(rt.alloc(), command, folder, kyuafile, folder.as_str())?;
+        let (shown, status) = done(rt, HostOs::new(rt), &line)?;
+        if shown.as_str() != written || status != Ok(exit) {
+            return Err(Fail::new(kyuafile));
+        }
+    }
+    Ok(())
+}
+
+fn a_work_directory_is_wanted(rt: &HostRuntime, folder: &Text) -> Result<(), Fail> {
+    let lost = below(folder, "lost")?;
+    for (command, work) in [
+        ("list", ""),
+        ("test", ""),
+        ("list", "work"),
+        ("test", "work"),
+        ("list", lost.as_str()),
+        ("test", lost.as_str()),
+    ] {
+        let line = line_of(rt.alloc(), command, folder, "Kyuafile", work)?;
+        let (shown, status) = done(rt, HostOs::new(rt), &line)?;
+        if !shown.as_str().is_empty() || status != Err(DriverFault::NoWorkDirectory) {
+            return Err(Fail::new("a work directory is not wanted"));
+        }
+    }
+    Ok(())
+}
+
 #[test]
 fn programs_of_a_kyuafile_are_listed_and_run(rt: HostRuntime) -> Result<(), Fail> {
-    let alloc = rt.alloc();
     let mut os = HostOs::new(&rt);
-    let folder = suite(alloc, &mut os, &here(&rt)?)?;
-    let lost = below(&folder, "lost")?;
-    let listed = "good:main\nthree:main\n";
-    let told =
-        "good:main  ->  passed\nthree:main  ->  failed: Returned non-success exit status 3\n\n1/2 passed (1 failed)\n";
-    let refused = Err(DriverFault::NoWorkDirectory);
-    for (command, work, written, exit) in [
-        ("list", folder.as_str(), listed, Ok(0)),
-        ("test", folder.as_str(), told, Ok(1)),
-        ("list", "", "", refused),
-        ("test", "", "", refused),
-        ("list", "work", "", refused),
-        ("test", "work", "", refused),
-        ("list", lost.as_str(), "", refused),
-        ("test", lost.as_str(), "", refused),
-    ] {
-        let line = line_of(alloc, command, &folder, work)?;
-        let (shown, status) = done(&rt, HostOs::new(&rt), &line)?;
-        assert_eq!(rt; shown.as_str(), written, "at {command} in {work}");
-        assert_eq!(rt; status, exit, "at {command} in {work}");
-    }
+    let folder = suite(rt.alloc(), &mut os, &here(&rt)?)?;
+    each_row_is_told(&rt, &folder)?;
+    a_work_directory_is_wanted(&rt, &folder)?;
+    let line = line_of(rt.alloc(), "test", &folder, "Kyuafile", folder.as_str())?;
+    a_run_begins_when_it_is_begun(&rt, HostOs::new(&rt), &line)?;
     // It can't be made while it is there.
     os.make_dir(&below(&folder, "kyua.0")?)?;
     Ok(())
