@@ -1,14 +1,17 @@
 //! Command lines over the host: what is written of real programs, and the exit status.
-use crate::folders::{below, folder, here, write_script};
+use crate::folders::{below, end, folder, here, start, write_script};
+use crate::host_os::moment;
 use kt_base::Text;
-use kt_child::{DriverFault, HostOs, Os};
-use kt_cli::{CommandLine, MemRuns, execute_on_host, read_command};
+use kt_child::{DriverFault, HostOs, Os, Polled};
+use kt_cli::{CommandLine, MemRuns, ResultStore, execute_on_host, read_command};
 use std::alloc::Global;
 use std::fs::File;
+use std::process::Abort;
 use std::rt::{Clock, Files};
 use std::test::Fail;
 
-/// A Kyuafile with two programs in a new folder.
+/// Makes a folder with a Kyuafile of two programs, a link to it, a Kyuafile whose program isn't there, and files that are no
+/// Kyuafiles: a pipe, a directory and a file that is too long.
 fn suite<O: Os>(alloc: Global, os: &mut O, here: &Text) -> Result<Text, Fail> {
     let folder = folder(os, here, "commands")?;
     write_script(alloc, os, &folder, "good", "#!/bin/sh\nexit 0\n")?;
@@ -16,16 +19,30 @@ fn suite<O: Os>(alloc: Global, os: &mut O, here: &Text) -> Result<Text, Fail> {
     let kyuafile =
         "syntax(2)\ntest_suite('s')\nplain_test_program{name='good'}\nplain_test_program{name='three'}\n";
     write_script(alloc, os, &folder, "Kyuafile", kyuafile)?;
-    Ok(folder)
+    let missing = "syntax(2)\ntest_suite('s')\nplain_test_program{name='lost'}\n";
+    write_script(alloc, os, &folder, "missing", missing)?;
+    let others =
+        "cd .. && ln -s Kyuafile link && mkfifo pipe && mkdir directory && head -c 1048577 /dev/zero | tr '\\0' ' ' > long";
+    start(alloc, os, &folder, others)?;
+    match end(os)? {
+        Polled::Exited(0) => Ok(folder),
+        _ => Err(Fail::new("no files")),
+    }
 }
 
-/// The command line of a command with the Kyuafile of a folder and a directory for work directories.
-fn line_of(alloc: Global, command: &str, folder: &Text, work: &str) -> Result<CommandLine, Fail> {
+/// The command line of a command with a Kyuafile of a folder and a directory for work directories.
+fn line_of(
+    alloc: Global,
+    command: &str,
+    folder: &Text,
+    kyuafile: &str,
+    work: &str,
+) -> Result<CommandLine, Fail> {
     let mut words = Vec::new(alloc);
     for word in [
         command,
         "-k",
-        below(folder, "Kyuafile")?.as_str(),
+        below(folder, kyuafile)?.as_str(),
         "--work",
         work,
     ] {
