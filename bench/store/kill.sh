@@ -8,12 +8,13 @@ set -eu
 make_suite 200
 printf "syntax(2)\ntest_suite('s')\nplain_test_program{name='c0'}\n" > One
 
-"$program" test -k One -r x.db > first
+"$program" test -k One -r x.db --work="$scratch" > first
 "$program" report -r x.db --run=1 --results-filter=passed > before
 
+killed=0
 for wanted in 1 20 90 150; do
     : > lines
-    "$program" test -k Kyuafile -r x.db > lines &
+    "$program" test -k Kyuafile -r x.db --work="$scratch" > lines &
     pid=$!
     until [ "$(wc -l < lines)" -ge $wanted ]; do
         kill -0 $pid 2>/dev/null || break
@@ -37,6 +38,7 @@ for wanted in 1 20 90 150; do
     test "$kept" -ge "$told"
     test "$kept" -le $((told + 1))
     if [ "$finished" = 0 ]; then
+        killed=$((killed + 1))
         grep -q ', unfinished$' shown
     else
         test "$kept" = 200
@@ -44,3 +46,7 @@ for wanted in 1 20 90 150; do
     "$program" report -r x.db --run=1 --results-filter=passed | cmp - before
     echo "killed after $told lines: $kept entries, finished $finished"
 done
+if [ $killed = 0 ]; then
+    echo 'each run was over before it was killed' >&2
+    exit 1
+fi

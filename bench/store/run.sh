@@ -5,7 +5,7 @@ set -eu
 . "$(dirname "$0")/common.sh"
 
 make_suite 1000
-/usr/bin/time -f 'a recorded run of 1,000 programs: %e s, %U s and %S s of a processor, %M KiB' "$program" test -r x.db > told
+/usr/bin/time -f 'a recorded run of 1,000 programs: %e s, %U s and %S s of a processor, %M KiB' "$program" test -r x.db --work="$scratch" > told
 
 {
     echo 'PRAGMA journal_mode=WAL; PRAGMA synchronous=FULL; CREATE TABLE t (a INTEGER PRIMARY KEY, b TEXT) STRICT;'

@@ -1,9 +1,15 @@
 -- What a writer holds goes on.
 use Rattle.std.specs.Prelude.{Option, Some, None}
-use Rattle.std.proofs.Common.{ℕ, Bool, true, false, List, [], ◌++◌, ap, ◌∙◌, sym, append_assoc}
+use Rattle.std.proofs.Common.{◌≡◌, ℕ, Bool, true, false, List, [], ◌++◌, ap, ◌∙◌, sym, append_assoc}
 use Rattle.std.proofs.lemmas.List.{append-nil}
+use Rattle.std.proofs.lemmas.Str.{encodes-append}
 use Rattle.std.specs.Io.KnownBytes.{Appends, Keeps}
 use Rattle.kt_base.specs.Shows.{Shows}
+use Rattle.kt_base.specs.Utf8.{utf8}
+
+-- the bytes of a text, and of another behind it
+pub utf8-append : (xs ys : List ℕ) → utf8 (xs ++ ys) ≡ utf8 xs ++ utf8 ys
+utf8-append xs ys = encodes-append xs ys
 
 pub appends_none : (old : Option (List ℕ)) → Appends old old []
 appends_none None = tt

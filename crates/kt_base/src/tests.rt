@@ -395,10 +395,14 @@ fn a_failed_write_leaves_the_bytes_before_it(rt: HostRuntime) -> Result<(), Fail
             assert_eq!(rt; emit(text, &mut out), Err(OutputFault), "at {fails_at}");
             assert_eq!(rt; out.taken.as_slice(), &text[..fails_at]);
         }
+        let mut part = Scripted::new(rt.alloc(), 1, fails_at)?;
+        assert_eq!(rt; send(text, &mut part), (fails_at, true));
     }
     let mut none = Scripted::new(rt.alloc(), 0, usize::MAX)?;
     assert_eq!(rt; emit(text, &mut none), Err(OutputFault));
     assert_eq!(rt; emit(b"", &mut none), Ok(()));
+    let mut whole = Scripted::new(rt.alloc(), 7, usize::MAX)?;
+    assert_eq!(rt; send(text, &mut whole), (text.len(), false));
     let mut all = Scripted::new(rt.alloc(), 1, usize::MAX)?;
     assert_eq!(rt; emit(text, &mut all), Ok(()));
     assert_eq!(rt; emit_number(0, &mut all), Ok(()));

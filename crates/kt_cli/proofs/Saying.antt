@@ -1,16 +1,12 @@
 -- A page goes on.
 use Rattle.std.specs.Prelude.{Option, flat_map}
 use Rattle.std.proofs.Common.{◌≡◌, ℕ, Bool, true, false, List, [], ◌∷◌, ◌++◌, length, refl, sym, ap, ◌∙◌, subst, append_assoc, append-nil, arith}
-use Rattle.std.proofs.lemmas.Str.{encodes-append}
 use Rattle.kt_base.specs.Shows.{Shows}
 use Rattle.kt_base.specs.Utf8.{utf8}
-use Rattle.kt_base.proofs.Showing.{shows_both, shows_more, appends_none}
+use Rattle.kt_base.proofs.Showing.{shows_both, shows_more, appends_none, utf8-append}
 use Rattle.kt_suite.specs.declared.program.Program.{Program}
 use Rattle.kt_cli.specs.Pages.{Says, SaysMore}
 use Rattle.kt_cli.specs.Listings.{case_line}
-
-pub utf8-append : (xs ys : List ℕ) → utf8 (xs ++ ys) ≡ utf8 xs ++ utf8 ys
-utf8-append xs ys = encodes-append xs ys
 
 -- more is said on a page
 says_more : (a b d : Option (List ℕ)) (f g : Bool) (xs ys : List ℕ) → Shows a b f xs → SaysMore b f d g ys → Shows a d g (xs ++ ys)

@@ -137,6 +137,19 @@ fn refusals_come_in_their_order_and_entries_come_back(rt: HostRuntime) -> Result
     Ok(())
 }
 
+/// A store whose calls all answer `Store` meets its contracts, and fails this test.
+#[test]
+fn every_store_call_fails(rt: HostRuntime) -> Result<(), Fail> {
+    let alloc = rt.alloc();
+    let first = entry(alloc, 0)?;
+    let mut results = attached(alloc, Connection::open_in_memory(alloc)?)?;
+    assert_eq!(rt; results.begin(1, 0), Ok(1));
+    assert_eq!(rt; results.put(1, &first), Ok(()));
+    assert_eq!(rt; results.finish(1), Ok(()));
+    assert!(rt; comes_back(alloc, &mut results)?);
+    Ok(())
+}
+
 /// Whether the runs, and the entries of the first, are refused where something else wrote negative moments.
 fn refuses_negative_moments(
     alloc: Global,

@@ -11,7 +11,7 @@ use std::alloc::Global;
 pub struct Play<'a> {
     pub alloc: Global,
     pub kyuafile: Option<&'a [u8]>,
-    /// How the bodies end, one after the other; none is a refused start.
+    /// How the bodies end, one after the other; none is a refused start, and behind the last all are refused.
     pub ends: &'a [Option<Outcome>],
     /// The moments of its answers; the last one stays.
     pub moments: &'a [u64],
@@ -82,10 +82,13 @@ impl Launcher for Play<'_> {
         if self.runs || job.cleanup || role == Role::Cleanup {
             return StartAnswer::Refused(Refused::Spawn);
         }
-        let Some((Some(outcome), ends)) = self.ends.split_first() else {
+        let Some((end, ends)) = self.ends.split_first() else {
             return StartAnswer::Refused(Refused::Directory);
         };
         self.ends = ends;
+        let Some(outcome) = end else {
+            return StartAnswer::Refused(Refused::Directory);
+        };
         self.next = *outcome;
         self.runs = true;
         self.position = job.position;

@@ -16,7 +16,7 @@ struct Row {
     entries: usize,
 }
 
-const ROWS: [Row; 6] = [
+const ROWS: [Row; 7] = [
     Row {
         kyuafile: b"syntax(2)\n",
         ends: &[],
@@ -56,6 +56,14 @@ const ROWS: [Row; 6] = [
         text: b"a:main  ->  broken: Work directory could not be made  [0.000s]\n\n0/1 passed (1 failed)\n",
         status: 1,
         entries: 1,
+    },
+    Row {
+        kyuafile: TWO,
+        ends: &[Some(Outcome::Exited(0)), None, Some(Outcome::Exited(0))],
+        moments: &[500, 1_000, 1_012],
+        text: b"b:main  ->  passed  [0.012s]\na:main  ->  broken: Work directory could not be made  [0.000s]\nb:main  ->  passed  [0.000s]\n\n2/3 passed (1 failed)\n",
+        status: 1,
+        entries: 3,
     },
     Row {
         kyuafile: TWO,
@@ -110,24 +118,17 @@ fn no_run_begins_for_a_faulty_kyuafile(rt: HostRuntime) -> Result<(), Fail> {
 #[test]
 fn a_writer_that_fails_stops_no_case(rt: HostRuntime) -> Result<(), Fail> {
     let command = Command::Test(Text::from_str(rt.alloc(), "Kyuafile")?);
-    let (whole, _, _) = played(
-        rt.alloc(),
-        &command,
-        Some(ONE),
-        &[Some(Outcome::Exited(0))],
-        100,
-    );
+    let ends = [Some(Outcome::Exited(0)); 3];
+    let (whole, _, _) = played(rt.alloc(), &command, Some(TWO), &ends, 100);
     for k in 0..100 {
-        let (kept, status, mut runs) = played(
-            rt.alloc(),
-            &command,
-            Some(ONE),
-            &[Some(Outcome::Exited(0))],
-            k,
-        );
+        let (kept, status, mut runs) = played(rt.alloc(), &command, Some(TWO), &ends, k);
         assert!(rt; whole.as_slice().starts_with(kept.as_slice()), "at {k}");
         assert_eq!(rt; status == 2, kept.len() < whole.len(), "at {k}");
         assert!(rt; is_finished(&mut runs), "at {k}");
+        let Ok(entries) = runs.entries(1) else {
+            return Err("no entries".into());
+        };
+        assert_eq!(rt; entries.len(), 3, "at {k}");
     }
     Ok(())
 }

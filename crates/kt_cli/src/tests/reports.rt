@@ -39,6 +39,7 @@ fn store(alloc: Global, calls: usize) -> Tiring {
     Tiring {
         runs: MemRuns::new(alloc),
         calls,
+        wants_memory: false,
     }
 }
 
@@ -131,7 +132,11 @@ fn filters_choose_kinds_in_any_order(rt: HostRuntime) -> Result<(), Fail> {
     Ok(())
 }
 
-const FAILED: &[u8] = b"kyua: E: results store failed\n";
+/// Whether a store that fails wants memory, and what is told of it.
+const FAULTS: [(bool, &[u8]); 2] = [
+    (false, b"kyua: E: results store failed\n"),
+    (true, b"kyua: E: out of memory\n"),
+];
 
 #[test]
 fn a_failed_put_leaves_an_unfinished_run(rt: HostRuntime) -> Result<(), Fail> {
@@ -155,17 +160,20 @@ fn a_failed_put_leaves_an_unfinished_run(rt: HostRuntime) -> Result<(), Fail> {
 }
 
 #[test]
-fn every_store_call_fails(rt: HostRuntime) -> Result<(), Fail> {
+fn a_store_that_fails_at_once_is_told(rt: HostRuntime) -> Result<(), Fail> {
     let alloc = rt.alloc();
     for command in [
         test(alloc)?,
         report(alloc, None, &[])?,
         Command::ReportJunit { run: None },
     ] {
-        let mut results = store(alloc, 0);
-        let (kept, exit) = done(alloc, &command, &THREE, 0, &mut results, 100);
-        assert_eq!(rt; kept.as_slice(), FAILED, "at {command:?}");
-        assert_eq!(rt; exit, 2, "at {command:?}");
+        for (wants_memory, line) in FAULTS {
+            let mut results = store(alloc, 0);
+            results.wants_memory = wants_memory;
+            let (kept, exit) = done(alloc, &command, &THREE, 0, &mut results, 100);
+            assert_eq!(rt; kept.as_slice(), line, "at {command:?}");
+            assert_eq!(rt; exit, 2, "at {command:?}");
+        }
     }
     Ok(())
 }
@@ -173,13 +181,16 @@ fn every_store_call_fails(rt: HostRuntime) -> Result<(), Fail> {
 #[test]
 fn a_store_that_fails_late_is_told_at_the_end(rt: HostRuntime) -> Result<(), Fail> {
     let alloc = rt.alloc();
-    for calls in 0..5 {
-        let mut results = store(alloc, calls);
-        let (kept, exit) = done(alloc, &test(alloc)?, &THREE, 0, &mut results, 100);
-        assert_eq!(rt; exit, 2, "at {calls}");
-        assert!(rt; kept.as_slice().ends_with(FAILED), "at {calls}");
-        let lines = kept.iter().filter(|byte| **byte == b'\n').count();
-        assert_eq!(rt; lines, calls.max(1), "at {calls}");
+    for (wants_memory, line) in FAULTS {
+        for calls in 0..5 {
+            let mut results = store(alloc, calls);
+            results.wants_memory = wants_memory;
+            let (kept, exit) = done(alloc, &test(alloc)?, &THREE, 0, &mut results, 100);
+            assert_eq!(rt; exit, 2, "at {calls}");
+            assert!(rt; kept.as_slice().ends_with(line), "at {calls}");
+            let lines = kept.iter().filter(|byte| **byte == b'\n').count();
+            assert_eq!(rt; lines, calls.max(1), "at {calls}");
+        }
     }
     Ok(())
 }

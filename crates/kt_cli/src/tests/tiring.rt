@@ -8,10 +8,24 @@ use kt_store::{RunHead, StoreFault};
 pub struct Tiring {
     pub runs: MemRuns,
     pub calls: usize,
+    /// Whether it wants memory then.
+    pub wants_memory: bool,
 }
 
 impl Tiring {
     ghost use Rattle.std.specs.Prelude.{◌≡◌};
+    ghost use Rattle.kt_store.specs.Ask.{IsStoreFault};
+
+    /// What a call answers that fails.
+    fn fault(&self) -> StoreFault
+        ensures { IsStoreFault result }
+    {
+        if self.wants_memory {
+            StoreFault::NoMemory
+        } else {
+            StoreFault::Store
+        }
+    }
 
     /// Whether the call fails.
     fn is_tired(&mut self) -> bool
@@ -37,7 +51,7 @@ impl ResultStore for Tiring {
 
     fn begin(&mut self, total: u32, moment: u64) -> Result<u64, StoreFault> {
         if self.is_tired() {
-            return Err(StoreFault::Store);
+            return Err(self.fault());
         }
         let number = self.runs.begin(total, moment)?;
         Ok(number)
@@ -45,7 +59,7 @@ impl ResultStore for Tiring {
 
     fn put(&mut self, run: u64, entry: &Entry) -> Result<(), StoreFault> {
         if self.is_tired() {
-            return Err(StoreFault::Store);
+            return Err(self.fault());
         }
         self.runs.put(run, entry)?;
         Ok(())
@@ -53,7 +67,7 @@ impl ResultStore for Tiring {
 
     fn finish(&mut self, run: u64) -> Result<(), StoreFault> {
         if self.is_tired() {
-            return Err(StoreFault::Store);
+            return Err(self.fault());
         }
         self.runs.finish(run)?;
         Ok(())
@@ -61,7 +75,7 @@ impl ResultStore for Tiring {
 
     fn runs(&mut self) -> Result<Vec<RunHead>, StoreFault> {
         if self.is_tired() {
-            return Err(StoreFault::Store);
+            return Err(self.fault());
         }
         let heads = self.runs.runs()?;
         Ok(heads)
@@ -69,7 +83,7 @@ impl ResultStore for Tiring {
 
     fn entries(&mut self, run: u64) -> Result<Vec<Entry>, StoreFault> {
         if self.is_tired() {
-            return Err(StoreFault::Store);
+            return Err(self.fault());
         }
         let entries = self.runs.entries(run)?;
         Ok(entries)
