@@ -1,12 +1,16 @@
 #!/usr/bin/env bash
-# Builds the program kyua where it isn't built yet, and runs it with the words given, in the caller's directory.
-# Building proves every crate first: all processors work, and standard error gets a line for each crate.
+# Builds the program kyua if it isn't built yet, and runs it with the words given, in the caller's directory.
+# Building proves every crate below it first: all processors work, and standard error gets a line for each crate.
 # rt is taken from PATH, else from the kit that RATTLE_KIT names.
 set -eu -o pipefail
 top=$(cd "$(dirname "$0")" && pwd)
 program=$top/crates/kyua/out/kyua
 log=$top/crates/kyua/out/build.log
 begun=$top/crates/kyua/out/begun
+# These wait for one another, so each is proved alone, by all processors. All others are proved side by side before.
+chain='kt_sched kt_child kt_cli'
+# These are no part of the program.
+apart='kt_play kt_rows'
 
 is_built() {
   [ -x "$program" ] && [ -z "$(find "$top/crates.txt" "$top"/crates/*/src "$top"/crates/*/specs "$top"/crates/*/proofs \
@@ -18,23 +22,56 @@ give_up() {
   exit 2
 }
 
+# The lines of crates.txt whose crates are not named.
+lines_without() {
+  local names=" $* " name
+  while IFS= read -r line; do
+    name=${line%%[ :]*}
+    case $line in '#'*|'') continue ;; esac
+    case $names in *" $name "*) ;; *) printf '%s\n' "$line" ;; esac
+  done < "$top/crates.txt"
+}
+
+# Proves the crates that don't wait for a long one, side by side, in a copy of the checkout, and takes over what rt made there.
+prove_side_by_side() {
+  local room=$top/crates/kyua/out/low name status=0
+  rm -rf "$room"
+  mkdir -p "$room/crates"
+  # shellcheck disable=SC2086
+  lines_without $chain $apart kyua > "$room/crates.txt"
+  cp "$top/HANDLES" "$room"
+  sed 's/[ :].*//' "$room/crates.txt" | while IFS= read -r name; do
+    cp -a "$top/crates/$name" "$room/crates/$name"
+  done
+  (cd "$room" && rt all check --jobs "$(nproc)" </dev/null) 2>&1 | tee -a "$log" |
+    sed -un -e '/^== summary/d' -e 's/^== \(.*\)/kyua.sh: proved \1/p' >&2 || status=1
+  sed 's/[ :].*//' "$room/crates.txt" | while IFS= read -r name; do
+    rm -rf "$top/crates/$name/out"
+    mv "$room/crates/$name/out" "$top/crates/$name/out"
+  done
+  rm -rf "$room"
+  return $status
+}
+
 build() {
+  local name
   if ! command -v rt >/dev/null 2>&1; then
     PATH="${RATTLE_KIT:?neither rt on PATH nor RATTLE_KIT is there}/bin:$PATH"
     export PATH
   fi
   mkdir -p "$top/crates/kyua/out"
-  # Where this build fails, no older program stands in for it.
+  # If this build fails, no older program stands in for it.
   rm -f "$program"
+  : > "$log"
   touch "$begun"
-  cd "$top"
-  if ! rt all check --jobs "$(nproc)" </dev/null 2>&1 | tee "$log" | sed -un -e '/^== summary/d' -e 's/^== \(.*\)/kyua.sh: proving \1/p' >&2; then
-    give_up
-  fi
-  cd "$top/crates/kyua"
-  echo 'kyua.sh: linking kyua' >&2
+  prove_side_by_side || give_up
+  for name in $chain; do
+    echo "kyua.sh: proving $name" >&2
+    (cd "$top/crates/$name" && rt lib --jobs "$(nproc)") </dev/null >>"$log" 2>&1 || give_up
+  done
+  echo 'kyua.sh: proving and linking kyua' >&2
   # rt runs what it linked, without words: the status of that run says nothing here.
-  rt run </dev/null >>"$log" 2>&1 || true
+  (cd "$top/crates/kyua" && rt run --jobs "$(nproc)") </dev/null >>"$log" 2>&1 || true
   [ -x "$program" ] || give_up
   # What is edited while this works is newer than the program.
   touch -r "$begun" "$program"

@@ -1,0 +1,33 @@
+#!/usr/bin/env bash
+# Tests this repository from nothing: every proof, the edits that must be refused, the rows of data and the program by `rt ci`,
+# and then the runner's own suite with the program that was proved. The last line is 'N passed, M failed', over both.
+# rt is taken from PATH, else from the kit that RATTLE_KIT names.
+set -u -o pipefail
+cd "$(dirname "$0")" || exit 2
+if ! command -v rt >/dev/null 2>&1; then
+  PATH="${RATTLE_KIT:?neither rt on PATH nor RATTLE_KIT is there}/bin:$PATH"
+  export PATH
+fi
+room=$(mktemp -d)
+trap 'rm -rf "$room"' EXIT
+counts='^\([0-9]*\) passed, \([0-9]*\) failed$'
+passed=0
+failed=0
+
+# Runs a part of the test, printing all but its counts, which are added up. A part that fails without saying so, or that has
+# no counts, counts as a failure.
+part() {
+  local name=$1 status=0 line
+  shift
+  "$@" 2>&1 | tee "$room/log" | sed -u "s/$counts/$name: \1 passed and \2 failed/" || status=$?
+  line=$(sed -n "s/$counts/\1 \2/p" "$room/log" | tail -n 1)
+  [ -n "$line" ] || line='0 1'
+  [ "$status" = 0 ] || [ "${line#* }" != 0 ] || line="${line% *} 1"
+  passed=$((passed + ${line% *}))
+  failed=$((failed + ${line#* }))
+}
+
+part 'proofs, edits and rows' rt ci
+part 'the suite' tests/run.sh
+echo "$passed passed, $failed failed"
+[ "$failed" = 0 ]
