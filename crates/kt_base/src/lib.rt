@@ -49,6 +49,3 @@ pub use text::Text;
 pub use variable::Variable;
 pub use variables::Variables;
 pub use verdict::Verdict;
-
-#[cfg(test)]
-mod tests;

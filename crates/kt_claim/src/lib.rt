@@ -21,8 +21,6 @@ mod tap;
 mod tap_fault;
 mod tap_lines;
 mod tap_reader;
-#[cfg(test)]
-mod tests;
 mod word;
 
 pub use claim::Claim;

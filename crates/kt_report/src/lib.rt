@@ -17,6 +17,3 @@ pub use entry_line::line;
 pub use junit_report::junit;
 pub use report_fault::ReportFault;
 pub use text_report::text;
-
-#[cfg(test)]
-mod tests;

@@ -94,12 +94,6 @@ take_snoc (x ∷ xs) (suc k) i g =
     let q : suc k + 1 ≡ suc (k + 1) = omega arith in
     ap (λ j. take j (x ∷ xs)) q ∙ ap (λ ys. x ∷ ys) (take_snoc xs k i g)
 
-pub take_past : (xs : List ℕ) (k : ℕ) → slice_get xs k ≡ None → take k xs ≡ xs
-take_past [] zero g = refl
-take_past [] (suc k) g = refl
-take_past (x ∷ xs) zero g = absurd (cc)
-take_past (x ∷ xs) (suc k) g = ap (λ ys. x ∷ ys) (take_past xs k g)
-
 pub count_snoc : {X : Type 0} (p : X → Bool) (xs : List X) (x : X) → count_by p (xs ++ x ∷ []) ≡ count_by p xs + cond (p x) 1 0
 count_snoc p [] x = count-cons p x [] ∙ swap (cond (p x) 1 0)
   where

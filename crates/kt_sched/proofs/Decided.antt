@@ -29,9 +29,6 @@ and_right : (b : Bool) → (b && false) ≡ false
 and_right true = refl
 and_right false = refl
 
-both_false : (d s l r : Bool) → d ≡ false → s ≡ false → ((d && l) && r) ≡ false
-both_false d s l r e f = ap (λ b. (b && l) && r) e
-
 -- a list all of which is closed
 none_open_after : {X : Type 0} (decided started room opens : X → Bool) (x : X) (xs : List X) → OpensAlong decided started room opens (x ∷ xs) → decided x ≡ false → started x ≡ false → filter opens (x ∷ xs) ≡ []
 none_open_after {X} decided started room opens x xs h d s = filter_none opens (x ∷ xs) each

@@ -1,6 +1,5 @@
 pub mod Lists
 pub mod Turns
-pub mod Positions
 pub mod Steps
 pub mod Histories
 pub mod Decided
@@ -34,5 +33,3 @@ pub mod Ending
 pub mod Storing
 pub mod Only
 pub mod Returns
-pub mod PastSteps
-pub mod Saying

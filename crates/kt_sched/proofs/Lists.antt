@@ -12,6 +12,14 @@ slice_get-drop [] (suc k) = refl
 slice_get-drop (x ∷ xs) zero = refl
 slice_get-drop (x ∷ xs) (suc k) = slice_get-drop xs k
 
+-- what is left of a list from an element on
+pub drop_at : {X : Type 0} (xs : List X) (i : ℕ) (x : X) → slice_get xs i ≡ Some x → drop i xs ≡ x ∷ drop (i + 1) xs
+drop_at [] i x g = absurd (cc)
+drop_at (y ∷ ys) zero x g = let e : y ≡ x = cc in ap (λ z. z ∷ ys) e
+drop_at {X} (y ∷ ys) (suc i) x g =
+    let q : suc i + 1 ≡ suc (i + 1) = omega arith in
+    drop_at ys i x g ∙ ap (λ k. x ∷ drop k (y ∷ ys)) (sym q)
+
 pub within_some : {X : Type 0} (xs : List X) (i : ℕ) → i < length xs → (x : X) × (slice_get xs i ≡ Some x)
 within_some [] i h = absurd (omega arith)
 within_some (x ∷ xs) zero h = (x, refl)
@@ -63,11 +71,7 @@ count_alike p q (x ∷ xs) (y ∷ ys) e h =
     let r : count_by p xs ≡ count_by q ys = count_alike p q xs ys (omega arith) (λ i a b g k. h (suc i) a b g k) in
     omega (arith, count-cons p x xs, count-cons q y ys, r, ap (λ (b : Bool). cond {A = ℕ} b 1 0) (h 0 x y refl refl))
 
--- a filter that every element passes, and one that none does
-pub filter_all : {X : Type 0} (p : X → Bool) (xs : List X) → ((i : ℕ) (x : X) → slice_get xs i ≡ Some x → p x ≡ true) → filter p xs ≡ xs
-filter_all p [] h = refl
-filter_all p (x ∷ xs) h = rw (h 0 x refl, filter_all p xs (λ i y g. h (suc i) y g))
-
+-- a filter that no element passes
 pub filter_none : {X : Type 0} (p : X → Bool) (xs : List X) → ((i : ℕ) (x : X) → slice_get xs i ≡ Some x → p x ≡ false) → filter p xs ≡ []
 filter_none p [] h = refl
 filter_none p (x ∷ xs) h = rw (h 0 x refl) (filter_none p xs (λ i y g. h (suc i) y g))

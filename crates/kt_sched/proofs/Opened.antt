@@ -16,11 +16,11 @@ use Rattle.kt_sched.specs.History.{active}
 use Rattle.kt_sched.specs.TurnOrder.{turns}
 use Rattle.kt_sched.specs.RecordOrder.{was_open}
 use Rattle.kt_sched.specs.Fed.{Fed, has_failed}
-use Rattle.kt_sched.specs.Board.{Board, Stands, IsStage, IsTold, IsHeld, HasTurn, HasDecided, IsSettled, IsOrdinary, AreGone, is_decided, is_undecided, is_decided_stage, decided_tale_of, decided_tale, tale_in, listed, positions, opened, room_in, run_of}
+use Rattle.kt_sched.specs.Board.{Board, Stands, IsStage, IsTold, HasTurn, HasDecided, AreGone, is_decided, is_undecided, is_decided_stage, decided_tale_of, decided_tale, tale_in, listed, positions, opened, room_in, run_of}
+use Rattle.kt_sched.proofs.Lists.{drop_at}
 use Rattle.kt_sched.proofs.Turns.{some_is, filter_step}
 use Rattle.kt_sched.proofs.Stages.{turn_at, one_place, active_is}
 use Rattle.kt_sched.proofs.Alone.{none_else}
-use Rattle.kt_sched.proofs.Positions.{drop_at}
 use Rattle.kt_sched.proofs.Recording.{open_at}
 
 take_filter_past : {X : Type 0} (p : X → Bool) (xs : List X) (k : ℕ) (x : X) → slice_get xs k ≡ Some x → p x ≡ false → filter p (take (k + 1) xs) ≡ filter p (take k xs)
@@ -155,28 +155,3 @@ stands_opened plan n fed b i h e t d = record {
         let s : c ≡ r.case = some_is c r.case (sym x ∙ (ap (slice_get b.cases) m ∙ r.found)) in
         absurd (cc (ap (λ (y : Case). y.stage) s, r.stage, w))
     begun_now k j c g x l (inr q) w = h.begun k j c g x (omega (arith, l, q)) w
-
--- where no case has its turn, nothing is open
-pub settled_held : (b : Board) → IsHeld b → IsSettled b
-settled_held b h r i t = absurd (none h)
-  where
-    none : IsHeld b → ⊥
-    none (inl e) = absurd (cc (t.0))
-    none (inr (inl l)) = absurd (omega (arith, slice_get_within b.order b.turn i t.1))
-    none (inr (inr (inl l))) = absurd (omega (arith, t.2))
-    none (inr (inr (inr w))) = alone t.3
-      where
-        alone : (b.active ≡ 0 ⊎ IsOrdinary b.cases i) → ⊥
-        alone (inl z) = absurd (omega (arith, w.0))
-        alone (inr z) =
-            let m : w.1.0 ≡ i = some_is w.1.0 i (sym w.1.1 ∙ t.1) in
-            let x = w.1.2 in
-            let s : x.0 ≡ z.0 = some_is x.0 z.0 (sym x.1 ∙ (ap (slice_get b.cases) m ∙ z.1)) in
-            absurd (cc (ap (λ (c : Case). c.job.exclusive) s, x.2, z.2))
-
--- where the case that has its turn isn't decided, nothing is open
-pub settled_turn : (b : Board) (i : ℕ) → HasTurn b i → HasDecided b.cases i false → IsSettled b
-settled_turn b i t d r j u = subst (λ (k : ℕ). HasDecided b.cases k false) (some_is i j (sym t.1 ∙ u.1)) d
-
-pub settled_ready : (b : Board) (i : ℕ) → b.ready ≡ Some i → IsSettled b
-settled_ready b i e r j u = absurd (cc)

@@ -61,9 +61,6 @@ after_other : (running : ℕ → Role → Option Child) (job : Job) (role r : Ro
 after_other running job role r (told.Started m) i k p d = ap (λ b. if b && same_role r role then Some (child_of job) else running k r) (ap (λ j. k == j) p ∙ other_is_not k i d)
 after_other running job role r (told.Refused c) i k p d = refl
 
-start_position : (i : ℕ) (role : Role) (a : StartAnswer) → position_of (Start i role a) ≡ i
-start_position i role a = refl
-
 pub start_runs : (plan : List Job) (T : Trace) (running : ℕ → Role → Option Child) (i : ℕ) (job : Job) (role r : Role) (a : StartAnswer) (k : ℕ) → slice_get plan i ≡ Some job → job.position ≡ i → history i T ≡ history_before role → ((j : ℕ) (s : Role) → running j s ≡ running_of plan T j s) → (k ≡ i) ⊎ (k ≢ i) → running_after_start running job role a k r ≡ running_of plan (Then T (Start i role a)) k r
 start_runs plan T running i job role r a k g p w h (inl q) =
     let P : ℕ → Type 0 = λ j. running_after_start running job role a j r ≡ running_of plan (Then T (Start i role a)) j r in

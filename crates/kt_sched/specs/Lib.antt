@@ -12,5 +12,3 @@ pub mod Next
 pub mod Board
 pub mod Cases
 pub mod Run
-pub mod Shown
-pub mod Past

@@ -10,7 +10,6 @@ mod job;
 mod launcher;
 mod limits;
 mod next;
-mod plain;
 mod run;
 mod run_fault;
 mod sched;
@@ -22,8 +21,6 @@ mod start_answer;
 mod table;
 mod tale;
 mod tales;
-#[cfg(test)]
-mod tests;
 mod totals;
 
 pub use answer::Answer;

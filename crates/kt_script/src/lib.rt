@@ -22,6 +22,3 @@ pub use laws::{law_of_one_answer, law_of_tokens};
 pub use literal::Literal;
 pub use script::parse;
 pub use syntax::{Action, Arg, Pair, Stmt};
-
-#[cfg(test)]
-mod tests;

@@ -7,8 +7,6 @@ mod cleanup_end;
 mod plain;
 mod refusal;
 mod tap;
-#[cfg(test)]
-mod tests;
 mod verdict;
 
 pub use cleanup::with_cleanup;

@@ -27,6 +27,3 @@ pub use program::Program;
 pub use read_fault::ReadFault;
 pub use steady::registers_once;
 pub use tree::Tree;
-
-#[cfg(test)]
-mod tests;

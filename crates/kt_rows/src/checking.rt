@@ -1,0 +1,74 @@
+use crate::answer;
+use crate::messages::mismatch_lines;
+use crate::row::Row;
+use crate::row_fault::RowFault;
+use crate::row_file::read_rows;
+use std::alloc::Global;
+use std::{env, fs, io};
+
+/// Compares the answer to a row with the one wanted, and returns what is printed if they differ.
+fn mismatch(
+    alloc: Global,
+    file: &str,
+    subject: &str,
+    row: &Row<'_>,
+) -> Result<Option<String>, RowFault> {
+    let wanted = row.wanted(alloc)?;
+    let found = answer(alloc, subject, row)?;
+    if found.as_bytes() == wanted.as_slice() {
+        return Ok(None);
+    }
+    Ok(Some(mismatch_lines(alloc, file, row.line, &wanted, &found)?))
+}
+
+/// Prints why a line of a file has no answer.
+fn print_fault(rt: &HostRuntime, file: &str, line: u64, fault: RowFault) -> io::Result<()> {
+    let text = fault.text();
+    eprintln!(rt; "{file}:{line}: {text}")
+}
+
+/// Checks a row, and returns whether its answer is the one wanted.
+fn check_row(rt: &HostRuntime, file: &str, subject: &str, row: &Row<'_>) -> io::Result<bool> {
+    match mismatch(rt.alloc(), file, subject, row) {
+        Ok(None) => return Ok(true),
+        Ok(Some(lines)) => rt.eprintln(lines)?,
+        Err(fault) => print_fault(rt, file, row.line, fault)?,
+    }
+    Ok(false)
+}
+
+/// Checks the rows of a file and prints how many there are.
+fn check_rows(rt: &HostRuntime, file: &str, rows: &[Row<'_>]) -> io::Result<bool> {
+    let subject = file.strip_suffix(".rows").unwrap_or(file);
+    let mut is_good = true;
+    for row in rows {
+        if !check_row(rt, file, subject, row)? {
+            is_good = false;
+        }
+    }
+    let count = rows.len();
+    println!(rt; "{file}: {count} rows")?;
+    Ok(is_good)
+}
+
+fn check_file(rt: &HostRuntime, file: &str) -> io::Result<bool> {
+    let text = fs::read_to_string(rt, file)?;
+    match read_rows(rt.alloc(), text.as_str()) {
+        Ok(rows) => check_rows(rt, file, rows.as_slice()),
+        Err((line, fault)) => {
+            print_fault(rt, file, line, fault)?;
+            Ok(false)
+        }
+    }
+}
+
+/// Checks the files that the arguments name, and returns whether each row has the answer that it wants.
+pub fn check_files(rt: &HostRuntime) -> io::Result<bool> {
+    let mut is_good = true;
+    for file in env::args(rt)?.skip(1) {
+        if !check_file(rt, file.as_str())? {
+            is_good = false;
+        }
+    }
+    Ok(is_good)
+}

@@ -1,0 +1,49 @@
+use crate::kinds::kinds_of;
+use crate::printing::{Printed, printed_text};
+use crate::recorded::run_of;
+use crate::row::Row;
+use crate::row_fault::RowFault;
+use kt_base::Run;
+use std::alloc::Global;
+
+/// The lines of a run's entries.
+fn lines_text(alloc: Global, run: &Run) -> Result<String, RowFault> {
+    let mut out = String::new(alloc);
+    for entry in run.entries.as_slice() {
+        out.push_str(printed_text(alloc, Printed::Line(entry))?.as_str())?;
+    }
+    Ok(out)
+}
+
+/// The text report, with the sections of `kinds WORDS` or of all kinds.
+fn report_text(alloc: Global, row: &Row<'_>, run: &Run) -> Result<String, RowFault> {
+    let words = row.text("kinds");
+    let kinds = kinds_of(
+        alloc,
+        words.unwrap_or("failed broken expected_failure skipped passed"),
+    )?;
+    printed_text(alloc, Printed::Text(run, &kinds))
+}
+
+/// The moment at which a run began, as its text report has it.
+fn moment_text(alloc: Global, run: &Run) -> Result<String, RowFault> {
+    let report = printed_text(alloc, Printed::Text(run, &[]))?;
+    let rest = report.as_str().split_once("started ");
+    let moment = rest.and_then(|(_, rest)| rest.split_once('\n'));
+    match moment {
+        Some((moment, _)) => Ok(String::from_str(alloc, moment)?),
+        None => Ok(report),
+    }
+}
+
+/// A report of the run in the row: `report line`, `report text`, `report junit` or `report moment`.
+pub fn answer(alloc: Global, row: &Row<'_>) -> Result<String, RowFault> {
+    let run = run_of(alloc, row)?;
+    match row.text("report") {
+        Some("line") => lines_text(alloc, &run),
+        Some("text") => report_text(alloc, row, &run),
+        Some("junit") => printed_text(alloc, Printed::Junit(alloc, &run)),
+        Some("moment") => moment_text(alloc, &run),
+        _ => Err(RowFault::Misspelled("no such report")),
+    }
+}

@@ -1,0 +1,306 @@
+use crate::row_fault::RowFault;
+use kt_base::Role;
+use kt_play::{Call, is_refused};
+use std::alloc::Global;
+
+/// How far a case is.
+#[derive(Clone, Copy, PartialEq, Eq)]
+enum Stage {
+    Waiting,
+    Body,
+    Owed,
+    Cleanup,
+    Over,
+}
+
+/// A schedule as docs/formats/schedule.md has it, played over the stages of all cases: each rule is a search through the
+/// whole plan. It shares nothing with kt_sched.
+#[derive(Drop)]
+pub struct Simulation<'a> {
+    letters: &'a [u8],
+    /// How many cases there are.
+    count: u32,
+    width: u32,
+    ends: &'a [u32],
+    /// The put that fails, counted from 1; 0 if none does.
+    failing: usize,
+    stages: Vec<Stage>,
+    pub calls: Vec<Call>,
+    pub puts: Vec<u32>,
+    pub failed: bool,
+}
+
+fn is_decided(letter: u8) -> bool {
+    matches!(letter.to_ascii_lowercase(), b'd' | b'f')
+}
+
+fn has_cleanup(letter: u8) -> bool {
+    matches!(letter.to_ascii_lowercase(), b'c' | b'f' | b'q' | b't')
+}
+
+fn is_active(stage: Stage) -> bool {
+    matches!(stage, Stage::Body | Stage::Owed | Stage::Cleanup)
+}
+
+impl<'a> Simulation<'a> {
+    pub fn new(
+        alloc: Global,
+        letters: &'a [u8],
+        width: u32,
+        ends: &'a [u32],
+        failing: usize,
+    ) -> Result<Simulation<'a>, RowFault> {
+        let Ok(count) = u32::try_from(letters.len()) else {
+            return Err(RowFault::Misspelled("a plan too long"));
+        };
+        let mut stages = Vec::new(alloc);
+        stages.resize(letters.len(), Stage::Waiting)?;
+        Ok(Simulation {
+            letters,
+            count,
+            width,
+            ends,
+            failing,
+            stages,
+            calls: Vec::new(alloc),
+            puts: Vec::new(alloc),
+            failed: false,
+        })
+    }
+
+    fn letter(&self, i: u32) -> u8 {
+        self.letters.get(i as usize).copied().unwrap_or(b'p')
+    }
+
+    fn stage(&self, i: u32) -> Stage {
+        self.stages.get(i as usize).copied().unwrap_or(Stage::Over)
+    }
+
+    fn set(&mut self, i: u32, stage: Stage) {
+        if let Some(place) = self.stages.get_mut(i as usize) {
+            *place = stage;
+        }
+    }
+
+    fn is_exclusive(&self, i: u32) -> bool {
+        self.letter(i).is_ascii_uppercase()
+    }
+
+    /// How many cases are active.
+    fn active(&self) -> u32 {
+        let mut count = 0u32;
+        for stage in self.stages.iter() {
+            if is_active(*stage) {
+                count = count.wrapping_add(1);
+            }
+        }
+        count
+    }
+
+    /// Whether one case comes before another in turn order.
+    fn is_before(&self, i: u32, j: u32) -> bool {
+        match (self.is_exclusive(i), self.is_exclusive(j)) {
+            (false, true) => true,
+            (true, false) => false,
+            _ => i < j,
+        }
+    }
+
+    /// Whether each undecided case before this one in turn order had its body started.
+    fn has_its_turn(&self, i: u32) -> bool {
+        for j in 0..self.count {
+            if self.is_before(j, i)
+                && !is_decided(self.letter(j))
+                && self.stage(j) == Stage::Waiting
+            {
+                return false;
+            }
+        }
+        true
+    }
+
+    /// Whether there is room for a case: none active beside an exclusive one, else fewer than the width.
+    fn has_room(&self, i: u32) -> bool {
+        if self.is_exclusive(i) {
+            self.active() == 0
+        } else {
+            self.active() < self.width
+        }
+    }
+
+    /// Whether an exclusive case is active.
+    fn is_reserved(&self) -> bool {
+        for i in 0..self.count {
+            if self.is_exclusive(i) && is_active(self.stage(i)) {
+                return true;
+            }
+        }
+        false
+    }
+
+    /// Puts the entry of a case, unless a put failed before.
+    fn put(&mut self, i: u32) -> Result<(), RowFault> {
+        if self.failed {
+            return Ok(());
+        }
+        if self.puts.len().wrapping_add(1) == self.failing {
+            self.failed = true;
+            return Ok(());
+        }
+        self.puts.push(i)?;
+        Ok(())
+    }
+
+    /// The decided case that is due next, in turn order.
+    fn due(&self) -> Option<u32> {
+        let mut found: Option<u32> = None;
+        for i in 0..self.count {
+            let is_due = is_decided(self.letter(i))
+                && self.stage(i) == Stage::Waiting
+                && self.has_its_turn(i)
+                && self.has_room(i);
+            let is_first = match found {
+                None => true,
+                Some(j) => self.is_before(i, j),
+            };
+            if is_due && is_first {
+                found = Some(i);
+            }
+        }
+        found
+    }
+
+    /// Puts the decided cases that are due.
+    fn put_decided(&mut self) -> Result<(), RowFault> {
+        for _ in 0..self.count {
+            if let Some(i) = self.due() {
+                self.set(i, Stage::Over);
+                self.put(i)?;
+            }
+        }
+        Ok(())
+    }
+
+    /// Finishes a case and puts its entry.
+    fn finish(&mut self, i: u32) -> Result<(), RowFault> {
+        self.set(i, Stage::Over);
+        self.put(i)
+    }
+
+    fn start_body(&mut self, i: u32) -> Result<(), RowFault> {
+        if is_refused(self.letters, i, Role::Body) {
+            self.calls.push(Call::Refused(i, Role::Body))?;
+            return self.finish(i);
+        }
+        self.calls.push(Call::Started(i, Role::Body))?;
+        self.set(i, Stage::Body);
+        Ok(())
+    }
+
+    fn start_cleanup(&mut self, i: u32) -> Result<(), RowFault> {
+        if is_refused(self.letters, i, Role::Cleanup) {
+            self.calls.push(Call::Refused(i, Role::Cleanup))?;
+            return self.finish(i);
+        }
+        self.calls.push(Call::Started(i, Role::Cleanup))?;
+        self.set(i, Stage::Cleanup);
+        Ok(())
+    }
+
+    fn end(&mut self, i: u32) -> Result<(), RowFault> {
+        if self.stage(i) == Stage::Cleanup {
+            self.calls.push(Call::Ended(i, Role::Cleanup))?;
+            return self.finish(i);
+        }
+        self.calls.push(Call::Ended(i, Role::Body))?;
+        if has_cleanup(self.letter(i)) {
+            self.set(i, Stage::Owed);
+            return Ok(());
+        }
+        self.finish(i)
+    }
+
+    /// The first case at a stage.
+    fn first_at(&self, stage: Stage) -> Option<u32> {
+        for i in 0..self.count {
+            if self.stage(i) == stage {
+                return Some(i);
+            }
+        }
+        None
+    }
+
+    /// The first case of which a child runs.
+    fn first_running(&self) -> Option<u32> {
+        for i in 0..self.count {
+            if matches!(self.stage(i), Stage::Body | Stage::Cleanup) {
+                return Some(i);
+            }
+        }
+        None
+    }
+
+    /// The case whose child ends next: the one that the script names, if its child runs, or else the first.
+    fn next_end(&mut self) -> Option<u32> {
+        let first = self.first_running();
+        if first.is_none() {
+            return None;
+        }
+        match self.ends.split_first() {
+            None => first,
+            Some((i, rest)) => {
+                self.ends = rest;
+                if matches!(self.stage(*i), Stage::Body | Stage::Cleanup) {
+                    Some(*i)
+                } else {
+                    first
+                }
+            }
+        }
+    }
+
+    /// The case whose body starts next, if one may start now.
+    fn next_body(&self) -> Option<u32> {
+        for i in 0..self.count {
+            let waits = self.stage(i) == Stage::Waiting && !is_decided(self.letter(i));
+            if waits && self.has_its_turn(i) && self.has_room(i) {
+                let may_start = self.active() < self.width && !self.is_reserved();
+                return if may_start && !self.failed {
+                    Some(i)
+                } else {
+                    None
+                };
+            }
+        }
+        None
+    }
+
+    /// Makes the next call, and returns whether there was one.
+    fn step(&mut self) -> Result<bool, RowFault> {
+        if let Some(i) = self.first_at(Stage::Owed) {
+            self.start_cleanup(i)?;
+            return Ok(true);
+        }
+        if let Some(i) = self.next_body() {
+            self.start_body(i)?;
+            return Ok(true);
+        }
+        if let Some(i) = self.next_end() {
+            self.end(i)?;
+            return Ok(true);
+        }
+        Ok(false)
+    }
+
+    /// Plays the schedule to its end.
+    pub fn play(&mut self) -> Result<(), RowFault> {
+        self.put_decided()?;
+        for _ in 0..self.count.saturating_mul(4) {
+            if !self.step()? {
+                return Ok(());
+            }
+            self.put_decided()?;
+        }
+        Ok(())
+    }
+}

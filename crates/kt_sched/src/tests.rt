@@ -1,7 +1,0 @@
-mod call;
-mod plans;
-mod property;
-mod replay;
-mod rows;
-mod script;
-mod shelf;
