@@ -1,0 +1,10 @@
+pub mod Decimals
+pub mod Encodings
+pub mod Entries
+pub mod Fronts
+pub mod Joining
+pub mod KeyLaws
+pub mod Puttings
+pub mod Rows
+pub mod WordLaws
+pub mod WordsEnding

@@ -1,0 +1,24 @@
+-- The first row that fits.
+use Rattle.std.proofs.Common.{◌≡◌, ℕ, List, ◌∷◌, ◌++◌, sym, ap, ◌∙◌, refl, Option, Some, None}
+use Rattle.std.specs.Option.{option_map}
+use Rattle.kt_base.specs.declared.reason.Reason.{Reason}
+use Rattle.kt_base.specs.Reasons.{reason_text}
+use Rattle.kt_metadata.specs.Requirements.{around, first_reason}
+
+-- a row that fits
+pub first_here : (row : Option (List ℕ)) (rest : List (Option (List ℕ))) (found : Option Reason) (reason : Reason)
+    → option_map reason_text found ≡ row → found ≡ Some reason → Some (reason_text reason) ≡ first_reason (row ∷ rest)
+first_here row rest found reason e f =
+    let g : Some (reason_text reason) ≡ row = sym (ap (option_map reason_text) f) ∙ e in
+    ap (λ (r : Option (List ℕ)). first_reason (r ∷ rest)) g
+
+-- one that doesn't
+pub first_later : (row : Option (List ℕ)) (rest : List (Option (List ℕ))) (found : Option Reason)
+    → option_map reason_text found ≡ row → found ≡ None → first_reason (row ∷ rest) ≡ first_reason rest
+first_later row rest found e f =
+    let g : None ≡ row = sym (ap (option_map reason_text) f) ∙ e in
+    ap (λ (r : Option (List ℕ)). first_reason (r ∷ rest)) (sym g)
+
+-- a word that is found stands in the reason
+pub around_found : (front back word text : List ℕ) (found : Option (List ℕ)) → found ≡ Some word → text ≡ front ++ (word ++ back) → Some text ≡ around front back found
+around_found front back word text found e f = ap (λ (t : List ℕ). Some t) f ∙ sym (ap (around front back) e)
