@@ -8,9 +8,9 @@ use Rattle.kt_base.specs.Utf8.{utf8}
 use Rattle.kt_base.specs.Reasons.{counted_text}
 use Rattle.kt_base.specs.declared.phrase.Phrase.{Phrase}
 use Rattle.kt_base.specs.declared.phrase.Phrase.TheVariants.{MemoryNeeded, DiskNeeded}
+use Rattle.kt_config.specs.Values.{Values}
 use Rattle.kt_metadata.specs.declared.meta.Meta.{Meta}
 use Rattle.kt_metadata.specs.declared.host.Host.{Host}
-use Rattle.kt_metadata.specs.declared.settings.Settings.{Settings}
 use Rattle.kt_metadata.specs.declared.user.User.{User}
 use Rattle.kt_metadata.specs.declared.user.User.TheVariants.{Any, Root, Unprivileged}
 use Rattle.kt_metadata.specs.Configured.{is_undefined, architecture_of, platform_of}
@@ -28,21 +28,21 @@ abbrev pub is_allowed : List (List ℕ) → List ℕ → Bool
 is_allowed listed word = length listed == 0 || list_any (λ w. bytes_eq w word) listed
 
 -- the first configuration word that isn't a variable of the suite
-abbrev pub config_row : Meta → Settings → List ℕ → Option (List ℕ)
-config_row meta settings suite =
-    around (codes "Required configuration property '") (codes "' not defined") (find (is_undefined settings suite) meta.required_configs)
+abbrev pub config_row : Meta → Values → List ℕ → Option (List ℕ)
+config_row meta config suite =
+    around (codes "Required configuration property '") (codes "' not defined") (find (is_undefined config suite) meta.required_configs)
 
 -- architectures are listed, and the configured one isn't among them
-abbrev pub architecture_row : Meta → Settings → Option (List ℕ)
-architecture_row meta settings =
-    if is_allowed meta.allowed_architectures (architecture_of settings) then None
-    else Some (codes "Current architecture '" ++ (architecture_of settings ++ codes "' not supported"))
+abbrev pub architecture_row : Meta → Values → Option (List ℕ)
+architecture_row meta config =
+    if is_allowed meta.allowed_architectures (architecture_of config) then None
+    else Some (codes "Current architecture '" ++ (architecture_of config ++ codes "' not supported"))
 
 -- platforms are listed, and the configured one isn't among them
-abbrev pub platform_row : Meta → Settings → Option (List ℕ)
-platform_row meta settings =
-    if is_allowed meta.allowed_platforms (platform_of settings) then None
-    else Some (codes "Current platform '" ++ (platform_of settings ++ codes "' not supported"))
+abbrev pub platform_row : Meta → Values → Option (List ℕ)
+platform_row meta config =
+    if is_allowed meta.allowed_platforms (platform_of config) then None
+    else Some (codes "Current platform '" ++ (platform_of config ++ codes "' not supported"))
 
 -- a case for root, and the host isn't root
 abbrev pub root_row : User → Bool → Option (List ℕ)
@@ -75,10 +75,10 @@ host_rows meta host =
     ∷ amount_row MemoryNeeded meta.required_memory host.memory ∷ amount_row DiskNeeded meta.required_disk_space host.disk ∷ []
 
 -- all nine rows in their order, each with its reason if it is unmet
-abbrev pub rows : Meta → Settings → List ℕ → Host → List (Option (List ℕ))
-rows meta settings suite host =
-    config_row meta settings suite ∷ architecture_row meta settings
-    ∷ platform_row meta settings ∷ host_rows meta host
+abbrev pub rows : Meta → Values → List ℕ → Host → List (Option (List ℕ))
+rows meta config suite host =
+    config_row meta config suite ∷ architecture_row meta config
+    ∷ platform_row meta config ∷ host_rows meta host
 
 -- the reason of the first row that has one
 abbrev pub first_reason : List (Option (List ℕ)) → Option (List ℕ)

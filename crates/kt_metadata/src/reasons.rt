@@ -6,9 +6,9 @@ ghost use Rattle.kt_metadata.specs.Requirements.{config_row, architecture_row, p
 use crate::host::Host;
 use crate::meta::Meta;
 use crate::searches::{first_missing, first_undefined, is_allowed};
-use crate::settings::{Settings, architecture, platform};
 use crate::user::User;
 use kt_base::{NoMemory, Phrase, Reason, Text};
+use kt_config::Config;
 use std::alloc::Global;
 
 fn about(alloc: Global, front: &str, word: &str, back: &str) -> Result<Reason, NoMemory>
@@ -24,12 +24,12 @@ fn about(alloc: Global, front: &str, word: &str, back: &str) -> Result<Reason, N
 pub fn config_reason(
     alloc: Global,
     meta: &Meta,
-    settings: &Settings,
+    config: &Config,
     suite: &Text,
 ) -> Result<Option<Reason>, NoMemory>
-    ensures { IfOk result (λ reason. option_map reason_text reason ≡ config_row meta.now settings.now suite.now) }
+    ensures { IfOk result (λ reason. option_map reason_text reason ≡ config_row meta.now config.now suite.now) }
 {
-    match first_undefined(meta.required_configs.as_slice(), settings, suite) {
+    match first_undefined(meta.required_configs.as_slice(), config, suite) {
         None => Ok(None),
         Some(word) => {
             let reason = about(
@@ -47,11 +47,11 @@ pub fn config_reason(
 pub fn architecture_reason(
     alloc: Global,
     meta: &Meta,
-    settings: &Settings,
+    config: &Config,
 ) -> Result<Option<Reason>, NoMemory>
-    ensures { IfOk result (λ reason. option_map reason_text reason ≡ architecture_row meta.now settings.now) }
+    ensures { IfOk result (λ reason. option_map reason_text reason ≡ architecture_row meta.now config.now) }
 {
-    let architecture = architecture(settings);
+    let architecture = config.architecture();
     if is_allowed(meta.allowed_architectures.as_slice(), architecture) {
         return Ok(None);
     }
@@ -68,11 +68,11 @@ pub fn architecture_reason(
 pub fn platform_reason(
     alloc: Global,
     meta: &Meta,
-    settings: &Settings,
+    config: &Config,
 ) -> Result<Option<Reason>, NoMemory>
-    ensures { IfOk result (λ reason. option_map reason_text reason ≡ platform_row meta.now settings.now) }
+    ensures { IfOk result (λ reason. option_map reason_text reason ≡ platform_row meta.now config.now) }
 {
-    let platform = platform(settings);
+    let platform = config.platform();
     if is_allowed(meta.allowed_platforms.as_slice(), platform) {
         return Ok(None);
     }

@@ -9,8 +9,8 @@ use crate::reasons::{
     amount_reason, architecture_reason, config_reason, file_reason, platform_reason,
     program_reason, root_reason, unprivileged_reason,
 };
-use crate::settings::Settings;
 use kt_base::{NoMemory, Phrase, Reason, Text};
+use kt_config::Config;
 use std::alloc::Global;
 
 fn host_reason(alloc: Global, meta: &Meta, host: &Host) -> Result<Option<Reason>, NoMemory>
@@ -38,19 +38,19 @@ fn host_reason(alloc: Global, meta: &Meta, host: &Host) -> Result<Option<Reason>
 pub fn unmet(
     alloc: Global,
     meta: &Meta,
-    settings: &Settings,
+    config: &Config,
     suite: &Text,
     host: &Host,
 ) -> Result<Option<Reason>, NoMemory>
-    ensures { IfOk result (λ reason. option_map reason_text reason ≡ first_reason (rows meta.now settings.now suite.now host.now)) }
+    ensures { IfOk result (λ reason. option_map reason_text reason ≡ first_reason (rows meta.now config.now suite.now host.now)) }
 {
-    if let Some(reason) = config_reason(alloc, meta, settings, suite)? {
+    if let Some(reason) = config_reason(alloc, meta, config, suite)? {
         return Ok(Some(reason));
     }
-    if let Some(reason) = architecture_reason(alloc, meta, settings)? {
+    if let Some(reason) = architecture_reason(alloc, meta, config)? {
         return Ok(Some(reason));
     }
-    if let Some(reason) = platform_reason(alloc, meta, settings)? {
+    if let Some(reason) = platform_reason(alloc, meta, config)? {
         return Ok(Some(reason));
     }
     host_reason(alloc, meta, host)

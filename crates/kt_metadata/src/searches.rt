@@ -4,10 +4,19 @@ ghost use Rattle.std.specs.Option.{option_copied};
 ghost use Rattle.kt_metadata.specs.Configured.{is_undefined};
 ghost use Rattle.kt_metadata.specs.Requirements.{is_missing, is_allowed};
 
-use crate::settings::{Settings, is_undefined};
 use crate::texts::is_text;
 use kt_base::Text;
+use kt_config::Config;
 use std::collections::BTreeSet;
+
+fn is_undefined(config: &Config, suite: &Text, name: &Text) -> bool
+    ensures { result ≡ is_undefined config.now suite.now name.now }
+{
+    match config.suite_vars(suite) {
+        None => true,
+        Some(variables) => !variables.is_defined(name),
+    }
+}
 
 fn is_missing(found: &BTreeSet<String>, word: &Text) -> bool
     ensures { result ≡ is_missing found.now word.now }
@@ -16,12 +25,12 @@ fn is_missing(found: &BTreeSet<String>, word: &Text) -> bool
 }
 
 /// The first word that isn't a variable of a suite.
-pub fn first_undefined<'a>(words: &'a [Text], settings: &Settings, suite: &Text) -> Option<&'a Text>
-    ensures { option_copied result ≡ find (is_undefined settings.now suite.now) words.now }
+pub fn first_undefined<'a>(words: &'a [Text], config: &Config, suite: &Text) -> Option<&'a Text>
+    ensures { option_copied result ≡ find (is_undefined config.now suite.now) words.now }
 {
     words
         .iter()
-        .find(|word| is_undefined(settings, suite, *word))
+        .find(|word| is_undefined(config, suite, *word))
 }
 
 /// The first word that isn't among those that were found.
