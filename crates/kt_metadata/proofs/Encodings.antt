@@ -1,18 +1,9 @@
 -- A text's characters and its bytes tell it apart from other texts alike.
-use Rattle.std.proofs.Common.{◌≡◌, ℕ, List, [], ◌∷◌, ◌++◌, length, Some, None, bytes_eq, chars, ap, sym, refl, ◌∙◌, arith}
+use Rattle.std.proofs.Common.{◌≡◌, ℕ, List, [], ◌∷◌, length, Some, None, chars, ap, sym, refl, arith}
 use Rattle.std.specs.Str.{IsUtf8}
 use Rattle.std.proofs.lemmas.Str.{chars-nil, encodes-chars}
-use Rattle.std.proofs.lemmas.Slice.Eq.{bytes_eq-Decides}
-use Rattle.std.proofs.lemmas.Bool.Decides.{same_from_decides, Decides-like}
 use Rattle.std.specs.Prelude.{encode_utf8_all}
 use Rattle.kt_metadata.specs.Properties.{filled}
-
-from_chars : (a b : List ℕ) → IsUtf8 a → IsUtf8 b → chars a ≡ chars b → a ≡ b
-from_chars a b u v e = sym (encodes-chars a u) ∙ ap encode_utf8_all e ∙ encodes-chars b v
-
-pub bytes_eq-chars : (a b : List ℕ) → IsUtf8 a → IsUtf8 b → bytes_eq a b ≡ bytes_eq (chars a) (chars b)
-bytes_eq-chars a b u v =
-    same_from_decides (bytes_eq a b) (bytes_eq (chars a) (chars b)) (Decides-like (bytes_eq a b) (λ e. ap chars e) (λ e. from_chars a b u v e) (bytes_eq-Decides a b)) (bytes_eq-Decides (chars a) (chars b))
 
 -- a text with bytes has characters
 pub filled-empty : (bs : List ℕ) → length bs ≡ 0 → filled (chars bs) ≡ None

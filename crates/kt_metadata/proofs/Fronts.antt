@@ -1,6 +1,6 @@
 -- What follows a front.
 use Rattle.std.proofs.Common.{◌≡◌, ℕ, Bool, true, false, List, [], ◌∷◌, ◌++◌, refl, sym, ap, ◌∙◌, Option, Some, None, chars}
-use Rattle.std.specs.Prelude.{if◌then◌else◌, option_and_then, encode_utf8_all, ◌==◌}
+use Rattle.std.specs.Prelude.{option_and_then, encode_utf8_all, ◌==◌}
 use Rattle.std.specs.Str.{IsUtf8}
 use Rattle.std.proofs.lemmas.Str.{encodes-chars, chars-append, encodes-append}
 use Rattle.std.proofs.lemmas.Bool.{eq-eqb, eqb-true}

@@ -1,8 +1,7 @@
 -- Keys and the names of the properties that they stand for.
 use Rattle.std.proofs.Common.{◌≡◌, ◌≢◌, ℕ, true, false, List, [], ◌∷◌, ◌++◌, refl, sym, ap, ◌∙◌, subst, Option, Some, None, bytes_eq}
-use Rattle.std.specs.Prelude.{◌&&◌, Bool, codes, IfSome, IsSome, if◌then◌else◌, option_and_then}
+use Rattle.std.specs.Prelude.{◌&&◌, Bool, codes, IfSome, IsSome, option_and_then}
 use Rattle.std.specs.List.{list_all}
-use Rattle.std.specs.Option.{option_map}
 use Rattle.std.proofs.lemmas.Slice.Eq.{bytes_eq-Decides}
 use Rattle.kt_metadata.specs.declared.property.Property.{Property}
 use Rattle.kt_metadata.specs.declared.property.Property.TheVariants.{AllowedArchitectures, AllowedPlatforms, Description, HasCleanup, IsExclusive, RequiredConfigs, RequiredDiskSpace, RequiredFiles, RequiredMemory, RequiredPrograms, RequiredUser, Timeout, Custom}

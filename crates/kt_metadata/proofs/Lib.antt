@@ -1,10 +1,9 @@
 pub mod Decimals
 pub mod Encodings
-pub mod Entries
 pub mod Fronts
 pub mod Joining
 pub mod KeyLaws
-pub mod Puttings
+pub mod Overlaying
 pub mod Rows
 pub mod WordLaws
 pub mod WordsEnding

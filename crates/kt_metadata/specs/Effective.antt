@@ -11,6 +11,10 @@ use Rattle.kt_metadata.specs.Properties.{property_name}
 use Rattle.kt_metadata.specs.Words.{words}
 use Rattle.kt_metadata.specs.Values.{truth_of, user_of, size_of, timeout_of}
 
+-- the value that some definitions give to a property
+abbrev pub given : Property → List Variable → Option (List ℕ)
+given property definitions = value_of (property_name property) definitions
+
 -- no words by default
 abbrev pub words_value : Option (List ℕ) → List (List ℕ)
 words_value None = []

@@ -2,7 +2,7 @@ pub mod Words
 pub mod Values
 pub mod Properties
 pub mod ListKeys
-pub mod Putting
+pub mod Overlays
 pub mod Effective
 pub mod Listing
 pub mod Configured

@@ -1,5 +1,5 @@
 -- The keys of properties in a list of ATF cases.
-use Rattle.std.specs.Prelude.{◌≡◌, ◌≢◌, ℕ, bytes_eq, codes, List, [], ◌∷◌, ◌++◌, Option, Some, None, if◌then◌else◌}
+use Rattle.std.specs.Prelude.{◌≢◌, ℕ, bytes_eq, codes, List, [], ◌∷◌, ◌++◌, Option, Some, None, if◌then◌else◌}
 use Rattle.std.specs.Option.{option_map}
 use Rattle.kt_metadata.specs.declared.property.Property.{Property}
 use Rattle.kt_metadata.specs.declared.property.Property.TheVariants.{AllowedArchitectures, AllowedPlatforms, Description, HasCleanup, IsExclusive, RequiredConfigs, RequiredDiskSpace, RequiredFiles, RequiredMemory, RequiredPrograms, RequiredUser, Timeout, Custom}

@@ -61,8 +61,14 @@ is_valued pair = not (bytes_eq pair.value [])
 abbrev pub is_custom_pair : Variable → Bool
 is_custom_pair pair = is_custom pair.name
 
--- the effective properties by the table, then the custom ones in the order of their definitions, all without empty values
+-- these properties in their order, without those whose values are empty
+abbrev pub shown_pairs : Meta → List Property → List Variable
+shown_pairs meta properties = filter is_valued (map (shown_pair meta) properties)
+
+-- the custom ones among these pairs in their order, without those whose values are empty
+abbrev pub custom_pairs : List Variable → List Variable
+custom_pairs pairs = filter is_valued (filter is_custom_pair pairs)
+
+-- the effective properties in the order of the table, then the custom ones in the order of their definitions
 abbrev pub listing : List Variable → List Variable
-listing definitions =
-    filter is_valued (map (shown_pair (effective definitions)) all_properties)
-    ++ filter is_valued (filter is_custom_pair (last_values definitions))
+listing definitions = shown_pairs (effective definitions) all_properties ++ custom_pairs (last_values definitions)

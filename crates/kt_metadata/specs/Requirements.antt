@@ -5,15 +5,20 @@ use Rattle.std.specs.Option.{option_map}
 use Rattle.std.specs.BTreeSet.{BTreeSet, contains_text}
 use Rattle.std.specs.declared.string.String.{String}
 use Rattle.kt_base.specs.Utf8.{utf8}
-use Rattle.kt_base.specs.Reasons.{counted_text}
+use Rattle.kt_base.specs.Reasons.{counted_text, reason_text}
+use Rattle.kt_base.specs.declared.reason.Reason.{Reason}
 use Rattle.kt_base.specs.declared.phrase.Phrase.{Phrase}
 use Rattle.kt_base.specs.declared.phrase.Phrase.TheVariants.{MemoryNeeded, DiskNeeded}
 use Rattle.kt_config.specs.Values.{Values}
 use Rattle.kt_metadata.specs.declared.meta.Meta.{Meta}
 use Rattle.kt_metadata.specs.declared.host.Host.{Host}
 use Rattle.kt_metadata.specs.declared.user.User.{User}
-use Rattle.kt_metadata.specs.declared.user.User.TheVariants.{Any, Root, Unprivileged}
+use Rattle.kt_metadata.specs.declared.user.User.TheVariants.{Root, Unprivileged}
 use Rattle.kt_metadata.specs.Configured.{is_undefined, architecture_of, platform_of}
+
+-- the text of a reason, if there is one
+abbrev pub text_in : Option Reason → Option (List ℕ)
+text_in reason = option_map reason_text reason
 
 -- a text with a word in it, if there is one
 abbrev pub around : List ℕ → List ℕ → Option (List ℕ) → Option (List ℕ)

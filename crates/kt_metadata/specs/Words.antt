@@ -16,7 +16,7 @@ abbrev pub IsBreak : List ℕ → Type 0
 IsBreak [] = Unit {0}
 IsBreak (c ∷ cs) = is_space c ≡ true
 
--- these are the words of a text, in its order: what white space leaves, cut only where white space or the end follows
+-- these are the words of a text, in its order: what white space leaves, cut where white space or the end follows
 pub data AreWords : List ℕ → List (List ℕ) → Type 0 where
   over : AreWords [] []
   blank : (c : ℕ) (text : List ℕ) (found : List (List ℕ)) → is_space c ≡ true → AreWords text found → AreWords (c ∷ text) found

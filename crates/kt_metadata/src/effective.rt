@@ -1,10 +1,8 @@
 ghost use Rattle.std.specs.Prelude.{◌≡◌, ◌≤◌, List, IfOk};
 ghost use Rattle.kt_base.specs.declared.variable.Variable.{Variable};
-ghost use Rattle.kt_base.specs.LastValues.{last_values};
-ghost use Rattle.kt_metadata.specs.Properties.{property_name};
-ghost use Rattle.kt_metadata.specs.Putting.{first_value};
+ghost use Rattle.kt_base.specs.LastValues.{value_of, last_values};
 ghost use Rattle.kt_metadata.specs.Values.{longest_timeout};
-ghost use Rattle.kt_metadata.specs.Effective.{words_value, text_value, truth_value, size_value, user_value, timeout_value, meta_of, effective};
+ghost use Rattle.kt_metadata.specs.Effective.{given, words_value, text_value, truth_value, size_value, user_value, timeout_value, meta_of, effective};
 
 use crate::meta::Meta;
 use crate::numbers::{size, timeout};
@@ -22,7 +20,7 @@ const DEFAULT_TIMEOUT: u32 = 300;
 
 impl Props {
     fn words_of(&self, property: Property) -> Result<Items<Text>, NoMemory>
-        ensures { IfOk result (λ found. found ≡ words_value (first_value (property_name property) self.now)) }
+        ensures { IfOk result (λ found. found ≡ words_value (given property self.now)) }
     {
         let alloc = self.allocator();
         match self.value(property) {
@@ -32,7 +30,7 @@ impl Props {
     }
 
     fn text_of(&self, property: Property) -> Result<Text, NoMemory>
-        ensures { IfOk result (λ text. text ≡ text_value (first_value (property_name property) self.now)) }
+        ensures { IfOk result (λ text. text ≡ text_value (given property self.now)) }
     {
         match self.value(property) {
             None => Ok(Text::new(self.allocator())),
@@ -41,7 +39,7 @@ impl Props {
     }
 
     fn truth_of(&self, property: Property) -> bool
-        ensures { result ≡ truth_value (first_value (property_name property) self.now) }
+        ensures { result ≡ truth_value (given property self.now) }
     {
         match self.value(property) {
             None => false,
@@ -50,7 +48,7 @@ impl Props {
     }
 
     fn size_of(&self, property: Property) -> Result<u64, NoMemory>
-        ensures { IfOk result (λ bytes. bytes ≡ size_value (first_value (property_name property) self.now)) }
+        ensures { IfOk result (λ bytes. bytes ≡ size_value (given property self.now)) }
     {
         match self.value(property) {
             None => Ok(0),
@@ -62,7 +60,7 @@ impl Props {
     }
 
     fn user_of(&self, property: Property) -> User
-        ensures { result ≡ user_value (first_value (property_name property) self.now) }
+        ensures { result ≡ user_value (given property self.now) }
     {
         match self.value(property) {
             None => User::Any,
@@ -71,7 +69,7 @@ impl Props {
     }
 
     fn timeout_of(&self, property: Property) -> Result<u32, NoMemory>
-        ensures { IfOk result (λ seconds. seconds ≡ timeout_value (first_value (property_name property) self.now)) }
+        ensures { IfOk result (λ seconds. seconds ≡ timeout_value (given property self.now)) }
     {
         match self.value(property) {
             None => Ok(DEFAULT_TIMEOUT),
@@ -83,7 +81,7 @@ impl Props {
     }
 
     fn meta(&self) -> Result<Meta, NoMemory>
-        ensures { IfOk result (λ meta. meta ≡ meta_of (λ name. first_value name self.now)) }
+        ensures { IfOk result (λ meta. meta ≡ meta_of (λ name. value_of name self.now)) }
     {
         Ok(Meta {
             allowed_architectures: self.words_of(Property::AllowedArchitectures)?,
@@ -103,7 +101,8 @@ impl Props {
 
     /// Each property by its value, else by its default. The timeout 0 is the longest.
     pub fn effective(&self) -> Result<Meta, NoMemory>
-        ensures value { (definitions : List Variable) → self.now ≡ last_values definitions → IfOk result (λ meta. meta ≡ effective definitions) }
+        ensures value { (definitions : List Variable) → self.now ≡ last_values definitions
+            → IfOk result (λ meta. meta ≡ effective definitions) }
         ensures timeout { IfOk result (λ meta. (1 ≤ meta.timeout) × (meta.timeout ≤ longest_timeout)) }
     {
         let meta = self.meta()?;

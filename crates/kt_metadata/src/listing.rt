@@ -1,8 +1,7 @@
-ghost use Rattle.std.specs.Prelude.{◌≡◌, ◌++◌, ◌∷◌, [], List, map, IfOk, OnOk};
-ghost use Rattle.std.specs.List.{filter};
+ghost use Rattle.std.specs.Prelude.{◌≡◌, ◌++◌, ◌∷◌, [], List, IfOk, OnOk};
 ghost use Rattle.kt_base.specs.declared.variable.Variable.{Variable};
 ghost use Rattle.kt_base.specs.LastValues.{last_values};
-ghost use Rattle.kt_metadata.specs.Listing.{is_valued, shown_pair, listing};
+ghost use Rattle.kt_metadata.specs.Listing.{shown_pairs, listing};
 
 use crate::meta::Meta;
 use crate::pairs::add;
@@ -18,7 +17,7 @@ fn add_shown(
     meta: &Meta,
     property: Property,
 ) -> Result<(), NoMemory>
-    ensures { OnOk result (pairs.new ≡ pairs.old ++ filter is_valued (shown_pair meta.now property ∷ [])) }
+    ensures { OnOk result (pairs.new ≡ pairs.old ++ shown_pairs meta.now (property ∷ [])) }
 {
     let name = Text::from_str(alloc, property.name())?;
     let value = shown_value(alloc, meta, property)?;
@@ -32,7 +31,7 @@ fn add_all_shown(
     meta: &Meta,
     properties: &[Property],
 ) -> Result<(), NoMemory>
-    ensures { OnOk result (pairs.new ≡ pairs.old ++ filter is_valued (map (shown_pair meta.now) properties.now)) }
+    ensures { OnOk result (pairs.new ≡ pairs.old ++ shown_pairs meta.now properties.now) }
 {
     let mut rest = properties;
     while let Some((property, after)) = rest.split_first() {
@@ -47,7 +46,8 @@ impl Props {
     /// custom ones in the order of their first definitions. Words are joined by one space, numbers are decimal, and a
     /// property with an empty value is left out.
     pub fn listing(&self) -> Result<Variables, NoMemory>
-        ensures { (definitions : List Variable) → self.now ≡ last_values definitions → IfOk result (λ pairs. pairs ≡ listing definitions) }
+        ensures { (definitions : List Variable) → self.now ≡ last_values definitions
+            → IfOk result (λ pairs. pairs ≡ listing definitions) }
     {
         let alloc = self.allocator();
         let meta = self.effective()?;

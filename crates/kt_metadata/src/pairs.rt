@@ -1,6 +1,7 @@
 ghost use Rattle.std.specs.Prelude.{◌≡◌, ◌++◌, ◌∷◌, [], chars, OnOk};
 ghost use Rattle.std.specs.List.{filter};
-ghost use Rattle.kt_metadata.specs.Listing.{is_valued, is_custom_pair};
+ghost use Rattle.kt_metadata.specs.Listing.{is_valued, custom_pairs};
+ghost use Rattle.kt_metadata.specs.Overlays.{a_pair};
 
 use crate::property::is_custom;
 use crate::texts::is_text;
@@ -9,7 +10,7 @@ use std::alloc::Global;
 
 /// Appends a pair, unless its value is empty.
 pub fn add(pairs: &mut Variables, name: Text, value: Text) -> Result<(), NoMemory>
-    ensures { OnOk result (pairs.new ≡ pairs.old ++ filter is_valued (record { name = name; value = value } ∷ [])) }
+    ensures { OnOk result (pairs.new ≡ pairs.old ++ filter is_valued (a_pair name value ∷ [])) }
 {
     if is_text(&value, "") {
         return Ok(());
@@ -25,7 +26,7 @@ pub fn add_if_custom(
     name: &str,
     value: &Text,
 ) -> Result<(), NoMemory>
-    ensures { OnOk result (pairs.new ≡ pairs.old ++ filter is_valued (filter is_custom_pair (record { name = chars name.now; value = value.now } ∷ []))) }
+    ensures { OnOk result (pairs.new ≡ pairs.old ++ custom_pairs (a_pair (chars name.now) value.now ∷ [])) }
 {
     if !is_custom(name) {
         return Ok(());

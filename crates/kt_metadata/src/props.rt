@@ -1,12 +1,12 @@
-ghost use Rattle.std.specs.Prelude.{◌≡◌, [], ◌∷◌, ◌++◌, List, map, chars, None, Some, IfOk, OnOk, OnErr};
-ghost use Rattle.std.specs.List.{filter};
+ghost use Rattle.std.specs.Prelude.{◌≡◌, [], ◌∷◌, ◌++◌, List, map, None, Some, IfOk, OnOk, OnErr};
 ghost use Rattle.std.specs.Option.{option_copied};
-ghost use Rattle.std.specs.String.{string_bytes};
 ghost use Rattle.kt_base.specs.declared.variable.Variable.{Variable};
 ghost use Rattle.kt_base.specs.LastValues.{last_values, value_of};
-ghost use Rattle.kt_metadata.specs.Properties.{property_name, definition_fault, IfFault};
-ghost use Rattle.kt_metadata.specs.Putting.{definition, put, put_all, first_value};
-ghost use Rattle.kt_metadata.specs.Listing.{is_valued, is_custom_pair};
+ghost use Rattle.kt_config.specs.Values.{variable_in};
+ghost use Rattle.kt_metadata.specs.Properties.{definition_fault, IfFault};
+ghost use Rattle.kt_metadata.specs.Overlays.{a_pair, taken};
+ghost use Rattle.kt_metadata.specs.Effective.{given};
+ghost use Rattle.kt_metadata.specs.Listing.{custom_pairs};
 
 use crate::definition::fault_of;
 use crate::fault::PropFault;
@@ -27,7 +27,11 @@ pub struct Props {
 impl Model for Props {
     ghost Value = { List Variable };
 
-    ghost view = { λ p. map definition p.values.entries };
+    ghost view = { λ p. map variable_in p.values.entries };
+
+    // Each name stands once.
+    ghost invariant = { λ p. map variable_in p.values.entries
+        ≡ last_values (map variable_in p.values.entries) };
 }
 
 impl Props {
@@ -42,14 +46,15 @@ impl Props {
 
     /// The last value that was given to a name. It takes no memory.
     pub fn get(&self, key: &Text) -> Option<&Text>
-        ensures { (definitions : List Variable) → self.now ≡ last_values definitions → option_copied result ≡ value_of key.now definitions }
+        ensures { (definitions : List Variable) → self.now ≡ last_values definitions
+            → option_copied result ≡ value_of key.now definitions }
     {
         self.values.get(key.as_str())
     }
 
     /// The value of a property with one name.
     pub(crate) fn value(&self, property: Property) -> Option<&Text>
-        ensures { option_copied result ≡ first_value (property_name property) self.now }
+        ensures { option_copied result ≡ given property self.now }
     {
         self.values.get(property.name())
     }
@@ -62,7 +67,7 @@ impl Props {
     /// Gives a property a value, in the place of an earlier one. A refused call changes nothing.
     pub fn set(&mut self, key: &Text, text: &Text) -> Result<(), PropFault>
         ensures ok { (definitions : List Variable) → self.old ≡ last_values definitions
-            → OnOk result (self.new ≡ last_values (definitions ++ record { name = key.now; value = text.now } ∷ [])) }
+            → OnOk result (self.new ≡ last_values (definitions ++ a_pair key.now text.now ∷ [])) }
         ensures err { OnErr result (self.new ≡ self.old) }
         ensures accepted { OnOk result (definition_fault key.now text.now ≡ None) }
         ensures refused { IfFault result (λ fault. definition_fault key.now text.now ≡ Some fault) }
@@ -78,7 +83,7 @@ impl Props {
     }
 
     fn define(&mut self, alloc: Global, key: &Text, text: &Text) -> Result<(), NoMemory>
-        ensures ok { OnOk result (self.new ≡ put self.old (record { name = key.now; value = text.now })) }
+        ensures ok { OnOk result (self.new ≡ last_values (self.old ++ a_pair key.now text.now ∷ [])) }
         ensures err { OnErr result (self.new ≡ self.old) }
     {
         let name = String::from_str(alloc, key.as_str())?;
@@ -88,7 +93,7 @@ impl Props {
     }
 
     fn put(&mut self, name: String, value: Text) -> Result<(), NoMemory>
-        ensures ok { OnOk result (self.new ≡ put self.old (record { name = chars (string_bytes name); value = value })) }
+        ensures ok { OnOk result (self.new ≡ last_values (self.old ++ variable_in (name, value) ∷ [])) }
         ensures err { OnErr result (self.new ≡ self.old) }
     {
         self.values.insert(name, value)?;
@@ -96,7 +101,7 @@ impl Props {
     }
 
     fn put_all(&mut self, more: &Props) -> Result<(), NoMemory>
-        ensures { OnOk result (self.new ≡ put_all self.old more.now) }
+        ensures { OnOk result (self.new ≡ taken self.old more.now) }
     {
         let mut rest = more.values.as_slice();
         while let Some(((name, value), after)) = rest.split_first() {
@@ -108,7 +113,8 @@ impl Props {
 
     /// A program's properties, with a case's own over them.
     pub fn overlay(program: &Props, case: &Props) -> Result<Props, NoMemory>
-        ensures { (under : List Variable) → (over : List Variable) → program.now ≡ last_values under → case.now ≡ last_values over
+        ensures { (under : List Variable) → (over : List Variable)
+            → program.now ≡ last_values under → case.now ≡ last_values over
             → IfOk result (λ props. props ≡ last_values (under ++ over)) }
     {
         let mut props = Props::new(*program.values.allocator());
@@ -119,7 +125,7 @@ impl Props {
 
     /// Appends the custom properties that have a value.
     pub(crate) fn add_custom(&self, pairs: &mut Variables) -> Result<(), NoMemory>
-        ensures { OnOk result (pairs.new ≡ pairs.old ++ filter is_valued (filter is_custom_pair self.now)) }
+        ensures { OnOk result (pairs.new ≡ pairs.old ++ custom_pairs self.now) }
     {
         let alloc = self.allocator();
         let mut rest = self.values.as_slice();

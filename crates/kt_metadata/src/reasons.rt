@@ -1,7 +1,6 @@
 ghost use Rattle.std.specs.Prelude.{◌≡◌, ◌++◌, chars, IfOk};
-ghost use Rattle.std.specs.Option.{option_map};
 ghost use Rattle.kt_base.specs.Reasons.{reason_text};
-ghost use Rattle.kt_metadata.specs.Requirements.{config_row, architecture_row, platform_row, root_row, unprivileged_row, file_row, program_row, amount_row};
+ghost use Rattle.kt_metadata.specs.Requirements.{text_in, config_row, architecture_row, platform_row, root_row, unprivileged_row, file_row, program_row, amount_row};
 
 use crate::host::Host;
 use crate::meta::Meta;
@@ -12,7 +11,8 @@ use kt_config::Config;
 use std::alloc::Global;
 
 fn about(alloc: Global, front: &str, word: &str, back: &str) -> Result<Reason, NoMemory>
-    ensures { IfOk result (λ reason. reason_text reason ≡ chars front.now ++ (chars word.now ++ chars back.now)) }
+    ensures { IfOk result (λ reason. reason_text reason
+        ≡ chars front.now ++ (chars word.now ++ chars back.now)) }
 {
     let mut text = Text::from_str(alloc, front)?;
     text.push_str(word)?;
@@ -27,7 +27,7 @@ pub fn config_reason(
     config: &Config,
     suite: &Text,
 ) -> Result<Option<Reason>, NoMemory>
-    ensures { IfOk result (λ reason. option_map reason_text reason ≡ config_row meta.now config.now suite.now) }
+    ensures { IfOk result (λ reason. text_in reason ≡ config_row meta.now config.now suite.now) }
 {
     match first_undefined(meta.required_configs.as_slice(), config, suite) {
         None => Ok(None),
@@ -49,7 +49,7 @@ pub fn architecture_reason(
     meta: &Meta,
     config: &Config,
 ) -> Result<Option<Reason>, NoMemory>
-    ensures { IfOk result (λ reason. option_map reason_text reason ≡ architecture_row meta.now config.now) }
+    ensures { IfOk result (λ reason. text_in reason ≡ architecture_row meta.now config.now) }
 {
     let architecture = config.architecture();
     if is_allowed(meta.allowed_architectures.as_slice(), architecture) {
@@ -70,7 +70,7 @@ pub fn platform_reason(
     meta: &Meta,
     config: &Config,
 ) -> Result<Option<Reason>, NoMemory>
-    ensures { IfOk result (λ reason. option_map reason_text reason ≡ platform_row meta.now config.now) }
+    ensures { IfOk result (λ reason. text_in reason ≡ platform_row meta.now config.now) }
 {
     let platform = config.platform();
     if is_allowed(meta.allowed_platforms.as_slice(), platform) {
@@ -82,7 +82,7 @@ pub fn platform_reason(
 
 /// A case for root on a host that isn't root.
 pub fn root_reason(user: User, root: bool) -> Option<Reason>
-    ensures { option_map reason_text result ≡ root_row user root }
+    ensures { text_in result ≡ root_row user root }
 {
     match user {
         User::Root => if root {
@@ -96,7 +96,7 @@ pub fn root_reason(user: User, root: bool) -> Option<Reason>
 
 /// A case for another user than root on a host that is root.
 pub fn unprivileged_reason(user: User, root: bool) -> Option<Reason>
-    ensures { option_map reason_text result ≡ unprivileged_row user root }
+    ensures { text_in result ≡ unprivileged_row user root }
 {
     match user {
         User::Unprivileged => if root {
@@ -110,7 +110,7 @@ pub fn unprivileged_reason(user: User, root: bool) -> Option<Reason>
 
 /// A file that wasn't found.
 pub fn file_reason(alloc: Global, meta: &Meta, host: &Host) -> Result<Option<Reason>, NoMemory>
-    ensures { IfOk result (λ reason. option_map reason_text reason ≡ file_row meta.now host.now) }
+    ensures { IfOk result (λ reason. text_in reason ≡ file_row meta.now host.now) }
 {
     match first_missing(meta.required_files.as_slice(), &host.files) {
         None => Ok(None),
@@ -123,7 +123,7 @@ pub fn file_reason(alloc: Global, meta: &Meta, host: &Host) -> Result<Option<Rea
 
 /// A program that wasn't found.
 pub fn program_reason(alloc: Global, meta: &Meta, host: &Host) -> Result<Option<Reason>, NoMemory>
-    ensures { IfOk result (λ reason. option_map reason_text reason ≡ program_row meta.now host.now) }
+    ensures { IfOk result (λ reason. text_in reason ≡ program_row meta.now host.now) }
 {
     match first_missing(meta.required_programs.as_slice(), &host.programs) {
         None => Ok(None),
@@ -136,7 +136,7 @@ pub fn program_reason(alloc: Global, meta: &Meta, host: &Host) -> Result<Option<
 
 /// Less memory or disk space than is required.
 pub fn amount_reason(phrase: Phrase, due: u64, there: Option<u64>) -> Option<Reason>
-    ensures { option_map reason_text result ≡ amount_row phrase due there }
+    ensures { text_in result ≡ amount_row phrase due there }
 {
     match there {
         None => None,

@@ -1,7 +1,5 @@
 ghost use Rattle.std.specs.Prelude.{◌≡◌, IfOk};
-ghost use Rattle.std.specs.Option.{option_map};
-ghost use Rattle.kt_base.specs.Reasons.{reason_text};
-ghost use Rattle.kt_metadata.specs.Requirements.{rows, host_rows, first_reason};
+ghost use Rattle.kt_metadata.specs.Requirements.{text_in, rows, host_rows, first_reason};
 
 use crate::host::Host;
 use crate::meta::Meta;
@@ -14,7 +12,7 @@ use kt_config::Config;
 use std::alloc::Global;
 
 fn host_reason(alloc: Global, meta: &Meta, host: &Host) -> Result<Option<Reason>, NoMemory>
-    ensures { IfOk result (λ reason. option_map reason_text reason ≡ first_reason (host_rows meta.now host.now)) }
+    ensures { IfOk result (λ reason. text_in reason ≡ first_reason (host_rows meta.now host.now)) }
 {
     if let Some(reason) = root_reason(meta.required_user, host.root) {
         return Ok(Some(reason));
@@ -42,7 +40,8 @@ pub fn unmet(
     suite: &Text,
     host: &Host,
 ) -> Result<Option<Reason>, NoMemory>
-    ensures { IfOk result (λ reason. option_map reason_text reason ≡ first_reason (rows meta.now config.now suite.now host.now)) }
+    ensures { IfOk result (λ reason. text_in reason
+        ≡ first_reason (rows meta.now config.now suite.now host.now)) }
 {
     if let Some(reason) = config_reason(alloc, meta, config, suite)? {
         return Ok(Some(reason));

@@ -28,9 +28,7 @@ fn is_missing(found: &BTreeSet<String>, word: &Text) -> bool
 pub fn first_undefined<'a>(words: &'a [Text], config: &Config, suite: &Text) -> Option<&'a Text>
     ensures { option_copied result ≡ find (is_undefined config.now suite.now) words.now }
 {
-    words
-        .iter()
-        .find(|word| is_undefined(config, suite, *word))
+    words.iter().find(|word| is_undefined(config, suite, *word))
 }
 
 /// The first word that isn't among those that were found.

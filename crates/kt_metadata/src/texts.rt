@@ -30,7 +30,8 @@ fn filled(text: &str) -> Option<&str>
 
 /// What follows a front, in a text that goes on after it.
 pub fn own_part<'a>(text: &'a str, front: &str) -> Option<&'a str>
-    ensures { option_map (λ part. chars part.now) result ≡ own_part (chars front.now) (chars text.now) }
+    ensures { option_map (λ part. chars part.now) result
+        ≡ own_part (chars front.now) (chars text.now) }
 {
     match text.strip_prefix(front) {
         None => None,

@@ -11,4 +11,4 @@ unfolding chars
 returns c =
     let word = chars c.architecture-architecture.result.now in
     unlisted_told (codes "Current architecture '") (codes "' not supported") word (architecture_of c.args.config.now) _ c.args.meta.now.allowed_architectures c.is_allowed.result
-        c.architecture-architecture.ensures (c.is_allowed.ensures ∙ ap (λ (ws : List (List ℕ)). is_allowed ws word) c.as_slice.ensures) c.if-is_allowed.false c.in_ok-reason.ensures
+    c.architecture-architecture.ensures (c.is_allowed.ensures ∙ ap (λ (ws : List (List ℕ)). is_allowed ws word) c.as_slice.ensures) c.if-is_allowed.false c.in_ok-reason.ensures

@@ -11,4 +11,4 @@ unfolding chars
 returns c =
     let word = chars c.platform-platform.result.now in
     unlisted_told (codes "Current platform '") (codes "' not supported") word (platform_of c.args.config.now) _ c.args.meta.now.allowed_platforms c.is_allowed.result
-        c.platform-platform.ensures (c.is_allowed.ensures ∙ ap (λ (ws : List (List ℕ)). is_allowed ws word) c.as_slice.ensures) c.if-is_allowed.false c.in_ok-reason.ensures
+    c.platform-platform.ensures (c.is_allowed.ensures ∙ ap (λ (ws : List (List ℕ)). is_allowed ws word) c.as_slice.ensures) c.if-is_allowed.false c.in_ok-reason.ensures

@@ -1,4 +1,4 @@
-use Rattle.std.proofs.Common.{sym, arith, eqb-true}
+use Rattle.std.proofs.Common.{sym, arith}
 use Rattle.kt_metadata.proofs.Encodings.{filled-empty, filled-some}
 use Rattle.kt_metadata.proofs.texts.filled.Goals as goal
 

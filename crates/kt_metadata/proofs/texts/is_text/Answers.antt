@@ -1,5 +1,5 @@
 use Rattle.std.proofs.Common.{◌∙◌, bytes_eq, ap, List, ℕ, chars}
-use Rattle.kt_metadata.proofs.Encodings.{bytes_eq-chars}
+use Rattle.kt_config.proofs.Texts.{bytes_eq-chars}
 use Rattle.kt_metadata.proofs.texts.is_text.Goals as goal
 
 pub returns : goal.returns
