@@ -143,10 +143,7 @@ impl Config {
     {
         match parse(alloc, text) {
             Err(fault) => Err(script_fault(fault)),
-            Ok(stmts) => match read_script(alloc, stmts.as_slice()) {
-                Err(refusal) => Err(ConfigFault::NoMemory(refusal)),
-                Ok(outcome) => outcome,
-            },
+            Ok(stmts) => read_script(alloc, stmts.as_slice())?,
         }
     }
 }
