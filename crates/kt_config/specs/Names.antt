@@ -57,3 +57,7 @@ in_front c (part ∷ parts) = (c ∷ part) ∷ parts
 abbrev pub dotted : List ℕ → List (List ℕ)
 dotted [] = [] ∷ []
 dotted (c ∷ cs) = if c == 46 then [] ∷ dotted cs else in_front c (dotted cs)
+
+-- a value for a name with dots
+abbrev pub definition_named : List ℕ → List ℕ → Meaning
+definition_named name value = definition_of (dotted name) value

@@ -1,8 +1,9 @@
 -- What a configuration is seen as.
-use Rattle.std.specs.Prelude.{ℕ, List, [], ◌∷◌, chars, Option, Some, None, bytes_eq, if◌then◌else◌}
+use Rattle.std.specs.Prelude.{ℕ, ◌≡◌, List, [], ◌∷◌, map, chars, Option, Some, None, bytes_eq, if◌then◌else◌}
 use Rattle.std.specs.String.{string_bytes}
 use Rattle.std.specs.declared.string.String.{String}
 use Rattle.kt_base.specs.declared.variable.Variable.{Variable}
+use Rattle.kt_base.specs.LastValues.{last_values}
 
 -- a suite with its variables
 pub record Group : Type 0 where
@@ -24,6 +25,14 @@ variables_of suite (group ∷ groups) = if bytes_eq suite group.suite then Some 
 -- an entry of a map as a variable
 abbrev pub variable_in : {Z : Type 0} → String Z × List ℕ → Variable
 variable_in entry = record { name = chars (string_bytes entry.0); value = entry.1 }
+
+-- the entries of a map as variables
+abbrev pub variables_in : {Z : Type 0} → List (String Z × List ℕ) → List Variable
+variables_in entries = map variable_in entries
+
+-- each name stands once, so these are their own last values
+abbrev pub IsSettled : List Variable → Type 0
+IsSettled variables = variables ≡ last_values variables
 
 -- an entry of a map as a suite
 abbrev pub group_in : {Z : Type 0} → String Z × List Variable → Group

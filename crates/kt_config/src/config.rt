@@ -1,12 +1,11 @@
-ghost use Rattle.std.specs.Prelude.{◌≡◌, ◌≤◌, [], List, OnOk, OnErr, IfOk, Ok, None, unwrap_or, codes, chars};
+ghost use Rattle.std.specs.Prelude.{◌≡◌, ◌≤◌, [], List, OnOk, OnErr, IfOk, Ok, Err, unwrap_or, codes, chars};
 ghost use Rattle.std.specs.Option.{option_copied};
 ghost use Rattle.kt_script.specs.Spelling.{Spells};
 ghost use Rattle.kt_script.specs.declared.syntax.Stmt.{Stmt};
 ghost use Rattle.kt_config.specs.declared.definition.Definition.{Definition};
 ghost use Rattle.kt_config.specs.declared.fault.ConfigFault.{ConfigFault};
-ghost use Rattle.kt_config.specs.declared.fault.ConfigFault.TheVariants as fault;
 ghost use Rattle.kt_config.specs.Forms.{greatest_width};
-ghost use Rattle.kt_config.specs.Names.{dotted, definition_of};
+ghost use Rattle.kt_config.specs.Names.{definition_named};
 ghost use Rattle.kt_config.specs.Values.{Values, variables_of};
 ghost use Rattle.kt_config.specs.Holding.{Holds, Adds};
 ghost use Rattle.kt_config.specs.Reading.{outcome_of, IsDue, IsRead, IfFault, Answers, Refuses, Becomes};
@@ -38,7 +37,12 @@ pub struct Config {
 impl Model for Config {
     ghost Value = { Values };
 
-    ghost view = { λ c. record { architecture = c.architecture; platform = c.platform; parallelism = c.parallelism; suites = c.suites } };
+    ghost view = { λ c. record {
+      architecture = c.architecture;
+      platform = c.platform;
+      parallelism = c.parallelism;
+      suites = c.suites;
+    } };
 }
 
 impl Config {
@@ -119,8 +123,8 @@ impl Config {
     /// Gives a variable a value, by its name, whose parts stand between dots (kyua(1), `--variable`). A refused call
     /// changes nothing.
     pub fn set(&mut self, name: &Text, value: &Text) -> Result<(), ConfigFault>
-        ensures ok { OnOk result (Becomes self.old self.new (definition_of (dotted name.now) value.now)) }
-        ensures refused { IfFault result (λ fault. definition_of (dotted name.now) value.now ≡ Err fault) }
+        ensures ok { OnOk result (Becomes self.old self.new (definition_named name.now value.now)) }
+        ensures refused { IfFault result (λ fault. definition_named name.now value.now ≡ Err fault) }
         ensures err { OnErr result (self.new ≡ self.old) }
     {
         let parts = dotted(self.alloc, name)?;
@@ -143,10 +147,7 @@ impl Config {
     {
         match parse(alloc, text) {
             Err(fault) => Err(script_fault(fault)),
-            Ok(stmts) => match read_script(alloc, stmts.as_slice()) {
-                Err(refusal) => Err(ConfigFault::NoMemory(refusal)),
-                Ok(outcome) => outcome,
-            },
+            Ok(stmts) => read_script(alloc, stmts.as_slice())?,
         }
     }
 }

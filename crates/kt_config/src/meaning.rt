@@ -63,7 +63,8 @@ fn suite_definition(
     name: &Text,
     value: Text,
 ) -> Result<Result<Definition, ConfigFault>, NoMemory>
-    ensures { IfOk result (λ meaning. meaning ≡ suite_definition root.now suite.now name.now value) }
+    ensures { IfOk result (λ meaning.
+        meaning ≡ suite_definition root.now suite.now name.now value) }
 {
     if !is_suite_variable(root, suite, name) {
         return Ok(Err(ConfigFault::UnknownVariable));

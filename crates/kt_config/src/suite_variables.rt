@@ -1,8 +1,8 @@
-ghost use Rattle.std.specs.Prelude.{◌≡◌, [], ◌∷◌, ◌++◌, List, map, is_some, IfOk, OnOk, OnErr};
+ghost use Rattle.std.specs.Prelude.{◌≡◌, [], ◌∷◌, ◌++◌, List, is_some, IfOk, OnOk, OnErr};
 ghost use Rattle.std.specs.Option.{option_copied};
 ghost use Rattle.kt_base.specs.declared.variable.Variable.{Variable};
 ghost use Rattle.kt_base.specs.LastValues.{value_of, last_values};
-ghost use Rattle.kt_config.specs.Values.{variable_in};
+ghost use Rattle.kt_config.specs.Values.{variables_in, IsSettled};
 
 use crate::words::key_of;
 use indexmap::IndexMap;
@@ -20,9 +20,9 @@ pub struct SuiteVariables {
 impl Model for SuiteVariables {
     ghost Value = { List Variable };
 
-    ghost view = { λ v. map variable_in v.values.entries };
+    ghost view = { λ v. variables_in v.values.entries };
 
-    ghost invariant = { λ v. map variable_in v.values.entries ≡ last_values (map variable_in v.values.entries) };
+    ghost invariant = { λ v. IsSettled (variables_in v.values.entries) };
 }
 
 impl SuiteVariables {

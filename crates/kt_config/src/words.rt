@@ -49,6 +49,7 @@ pub fn is_variable(name: &Text) -> bool
 pub fn key_of(text: Text) -> String
     ensures { chars (string_bytes result) ≡ text }
 {
+    // That its bytes are those of its characters is known of a slice.
     let _characters = text.as_str();
     text.into_string()
 }
