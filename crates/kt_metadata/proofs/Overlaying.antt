@@ -16,7 +16,7 @@ overlaid-under under over =
     sym (overlaid (last_values under) over) ∙ ap (λ (vs : List Variable). last_values (vs ++ last_values over)) (twice under) ∙ overlaid under over
 
 -- what was taken over is the last values of all
-taken-last : (over under : List Variable) → taken (last_values under) over ≡ last_values (under ++ over)
+pub taken-last : (over under : List Variable) → taken (last_values under) over ≡ last_values (under ++ over)
 taken-last [] under = ap last_values (sym (append-nil under))
 taken-last (p ∷ ps) under =
     ap (λ (old : List Variable). taken old ps) (overlaid-under under (p ∷ [])) ∙ taken-last ps (under ++ p ∷ []) ∙ ap last_values (append_assoc under (p ∷ []) ps)

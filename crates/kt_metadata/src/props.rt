@@ -113,9 +113,10 @@ impl Props {
 
     /// A program's properties, with a case's own over them.
     pub fn overlay(program: &Props, case: &Props) -> Result<Props, NoMemory>
-        ensures { (under : List Variable) → (over : List Variable)
+        ensures overlaid { (under : List Variable) → (over : List Variable)
             → program.now ≡ last_values under → case.now ≡ last_values over
             → IfOk result (λ props. props ≡ last_values (under ++ over)) }
+        ensures value { IfOk result (λ props. props ≡ last_values (program.now ++ case.now)) }
     {
         let mut props = Props::new(*program.values.allocator());
         props.put_all(program)?;
