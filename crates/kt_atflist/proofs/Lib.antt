@@ -1,0 +1,11 @@
+pub mod Blocks
+pub mod FirstLines
+pub mod Keys
+pub mod LineCases
+pub mod Lists
+pub mod NextLines
+pub mod OneListing
+pub mod ProgramCases
+pub mod ReadListings
+pub mod Texts
+pub mod Utf8

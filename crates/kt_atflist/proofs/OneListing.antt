@@ -1,0 +1,85 @@
+-- A listing comes to one thing, and a program has one list of cases.
+use Rattle.std.specs.Prelude.{Result, Ok, Err}
+use Rattle.std.proofs.Common.{◌≡◌, ℕ, List, [], ◌∷◌, Option, Some, None, map, refl, ap, sym, ◌∙◌}
+use Rattle.kt_base.specs.declared.interface.Interface.{Interface}
+use Rattle.kt_base.specs.declared.no_memory.NoMemory.{NoMemory}
+use Rattle.kt_base.specs.declared.phrase.Phrase.{Phrase}
+use Rattle.kt_base.specs.declared.reason.Reason.{Reason}
+use Rattle.kt_base.specs.declared.reason.Reason.TheVariants.{Counted}
+use Rattle.kt_base.specs.declared.variable.Variable.{Variable}
+use Rattle.kt_atflist.specs.Cases.{over_program, list_case, AreCases, tap, plain, listed, unlisted}
+use Rattle.kt_atflist.specs.Listings.{fault_phrase, ended_reason, IsRead, no_list, listed as read_list, Lists, unstarted, unlisted as unread, unreadable, too_long, read}
+use Rattle.kt_atflist.specs.Reading.{Outcome}
+use Rattle.kt_atflist.specs.declared.case_def.CaseDef.{CaseDef}
+use Rattle.kt_atflist.specs.declared.list_fault.ListFault.{ListFault}
+use Rattle.kt_atflist.specs.declared.listing.Listing.{Listing}
+use Rattle.kt_atflist.proofs.Lists.{one_answer}
+
+-- what a listing comes to
+abbrev Found : Type 0
+Found = Result (List CaseDef) Reason
+
+abbrev fault_in : Outcome → ListFault → ListFault
+fault_in (Ok cases) other = other
+fault_in (Err fault) other = fault
+
+abbrev cases_in : Outcome → List CaseDef → List CaseDef
+cases_in (Ok cases) other = cases
+cases_in (Err fault) other = other
+
+abbrev phrase_in : Result Phrase NoMemory → Phrase → Phrase
+phrase_in (Ok phrase) other = phrase
+phrase_in (Err refusal) other = other
+
+same_fault : (text : List ℕ) (f g : ListFault) (p q : Phrase) → f ≡ g → fault_phrase f.cause ≡ Ok p → fault_phrase g.cause ≡ Ok q → ◌≡◌ {A = Found} (Err (Counted p f.line 0)) (Err (Counted q g.line 0))
+same_fault text f g p q e h i =
+    let same : p ≡ q = ap (λ (r : Result Phrase NoMemory). phrase_in r p) (sym h ∙ ap (λ (x : ListFault). fault_phrase x.cause) e ∙ i) in
+    ap (λ (x : Phrase). Err (Counted x f.line 0)) same ∙ ap (λ (x : ListFault). Err (Counted q x.line 0)) e
+
+read_once : (text : List ℕ) (a b : Found) → IsRead text a → IsRead text b → a ≡ b
+read_once text a b (no_list f p d h) (no_list g q e i) = same_fault text f g p q (ap (λ (o : Outcome). fault_in o f) (one_answer text (Err f) (Err g) d e)) h i
+read_once text a b (no_list f p d h) (read_list cases s) = let z = one_answer text (Err f) (Ok cases) d s in absurd (cc)
+read_once text a b (read_list cases s) (no_list g q e i) = let z = one_answer text (Ok cases) (Err g) s e in absurd (cc)
+read_once text a b (read_list cases s) (read_list others t) = ap (λ (o : Outcome). Ok (cases_in o cases)) (one_answer text (Ok cases) (Ok others) s t)
+
+abbrev reason_in : Option Reason → Reason → Reason
+reason_in (Some reason) other = reason
+reason_in None other = other
+
+same_reason : (o : Option Reason) (r s : Reason) → o ≡ Some r → o ≡ Some s → ◌≡◌ {A = Found} (Err r) (Err s)
+same_reason o r s e f = ap (λ (x : Option Reason). Err (reason_in x r)) (sym e ∙ f)
+
+no_reason : (o : Option Reason) (r : Reason) → o ≡ Some r → o ≡ None → ⊥
+no_reason o r e f = let z = sym e ∙ f in absurd (cc)
+
+lists_once : (listing : Listing) (a b : Found) → Lists listing a → Lists listing b → a ≡ b
+lists_once listing a b (unstarted r) (unstarted _) = refl
+lists_once listing a b (unread o bs r e) (unread _ _ s f) = same_reason (ended_reason o) r s e f
+lists_once listing a b (unread o bs r e) (unreadable _ f) = absurd (no_reason (ended_reason o) r e f)
+lists_once listing a b (unread o bs r e) (too_long _ f) = absurd (no_reason (ended_reason o) r e f)
+lists_once listing a b (unread o bs r e) (read _ text found f h) = absurd (no_reason (ended_reason o) r e f)
+lists_once listing a b (unreadable o e) (unread _ _ s f) = absurd (no_reason (ended_reason o) s f e)
+lists_once listing a b (unreadable o e) (unreadable _ f) = refl
+lists_once listing a b (too_long o e) (unread _ _ s f) = absurd (no_reason (ended_reason o) s f e)
+lists_once listing a b (too_long o e) (too_long _ f) = refl
+lists_once listing a b (read o text found e h) (unread _ _ s f) = absurd (no_reason (ended_reason o) s f e)
+lists_once listing a b (read o text found e h) (read _ _ other f i) = read_once text found other h i
+
+abbrev found_in : Found → List CaseDef → List CaseDef
+found_in (Ok cases) other = cases
+found_in (Err reason) other = other
+
+abbrev why_in : Found → Reason → Reason
+why_in (Ok cases) other = other
+why_in (Err reason) other = reason
+
+pub cases_once : (props : List Variable) (interface : Interface) (listing : Option Listing) (first second : List CaseDef) → AreCases props interface listing first → AreCases props interface listing second
+    → first ≡ second
+cases_once props interface listing first second (tap _) (tap _) = refl
+cases_once props interface listing first second (plain _) (plain _) = refl
+cases_once props interface listing first second (listed l cases h) (listed _ others i) =
+    ap (λ (f : Found). map (over_program props) (found_in f cases)) (lists_once l (Ok cases) (Ok others) h i)
+cases_once props interface listing first second (listed l cases h) (unlisted _ reason i) = let z = lists_once l (Ok cases) (Err reason) h i in absurd (cc)
+cases_once props interface listing first second (unlisted l reason h) (listed _ others i) = let z = lists_once l (Err reason) (Ok others) h i in absurd (cc)
+cases_once props interface listing first second (unlisted l reason h) (unlisted _ other i) =
+    ap (λ (f : Found). over_program props (list_case (why_in f reason)) ∷ []) (lists_once l (Err reason) (Err other) h i)

@@ -1,0 +1,29 @@
+-- The test cases of a program, by its interface and by what its listing came to.
+use Rattle.std.specs.Prelude.{Result, Ok, Err}
+use Rattle.std.proofs.Common.{◌≡◌, List, [], ◌∷◌, Option, Some, map, sym, subst}
+use Rattle.kt_base.specs.declared.interface.Interface.{Interface}
+use Rattle.kt_base.specs.declared.interface.Interface.TheVariants.{Atf, Tap, Plain}
+use Rattle.kt_base.specs.declared.reason.Reason.{Reason}
+use Rattle.kt_base.specs.declared.variable.Variable.{Variable}
+use Rattle.kt_atflist.specs.Cases.{over_program, main_case, list_case, AreCases, tap, plain, listed, unlisted}
+use Rattle.kt_atflist.specs.Listings.{Lists}
+use Rattle.kt_atflist.specs.declared.case_def.CaseDef.{CaseDef}
+use Rattle.kt_atflist.specs.declared.listing.Listing.{Listing}
+
+pub listed_by : (props : List Variable) (listing : Listing) (found : Result (List CaseDef) Reason) (own cases : List CaseDef) → Lists listing found → found ≡ Ok own
+    → cases ≡ map (over_program props) own → AreCases props Atf (Some listing) cases
+listed_by props listing found own cases l e f = subst (AreCases props Atf (Some listing)) (sym f) (listed listing own (subst (Lists listing) e l))
+
+pub unlisted_by : (props : List Variable) (listing : Listing) (found : Result (List CaseDef) Reason) (reason : Reason) (cases : List CaseDef) → Lists listing found → found ≡ Err reason
+    → cases ≡ over_program props (list_case reason) ∷ [] → AreCases props Atf (Some listing) cases
+unlisted_by props listing found reason cases l e f = subst (AreCases props Atf (Some listing)) (sym f) (unlisted listing reason (subst (Lists listing) e l))
+
+pub tap_by : (props : List Variable) (interface : Interface) (listing : Option Listing) (cases : List CaseDef) → interface ≡ Tap → cases ≡ over_program props main_case ∷ []
+    → AreCases props interface listing cases
+tap_by props interface listing cases e f =
+    subst (λ (i : Interface). AreCases props i listing cases) (sym e) (subst (AreCases props Tap listing) (sym f) (tap listing))
+
+pub plain_by : (props : List Variable) (interface : Interface) (listing : Option Listing) (cases : List CaseDef) → interface ≡ Plain → cases ≡ over_program props main_case ∷ []
+    → AreCases props interface listing cases
+plain_by props interface listing cases e f =
+    subst (λ (i : Interface). AreCases props i listing cases) (sym e) (subst (AreCases props Plain listing) (sym f) (plain listing))

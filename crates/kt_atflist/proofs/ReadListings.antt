@@ -1,0 +1,54 @@
+-- What the bytes of a listing give.
+use Rattle.std.specs.Prelude.{Result, Ok, Err}
+use Rattle.std.proofs.Common.{◌≡◌, ◌⊎◌, ℕ, List, Some, None, ap, sym, subst, ◌∙◌, inl, inr}
+use Rattle.kt_base.specs.declared.outcome.Outcome.{Outcome as Ending}
+use Rattle.kt_base.specs.declared.phrase.Phrase.{Phrase}
+use Rattle.kt_base.specs.declared.phrase.Phrase.TheVariants.{ListUnreadable, ListTooLong}
+use Rattle.kt_base.specs.declared.reason.Reason.{Reason}
+use Rattle.kt_base.specs.declared.reason.Reason.TheVariants.{Fixed, Counted}
+use Rattle.kt_base.specs.declared.refused.Refused.{Refused}
+use Rattle.kt_atflist.specs.Listings.{refused_reason, ended_reason, fault_phrase, IsRead, no_list, listed, Lists, unstarted, unlisted, unreadable, too_long, read}
+use Rattle.kt_atflist.specs.Reading.{Outcome, IsOutOfMemory, fault_at}
+use Rattle.kt_atflist.specs.Spelling.{IsAnswer}
+use Rattle.kt_atflist.specs.declared.list_bytes.ListBytes.{ListBytes}
+use Rattle.kt_atflist.specs.declared.list_bytes.ListBytes.TheVariants as bytes
+use Rattle.kt_atflist.specs.declared.listing.Listing.{Listing}
+use Rattle.kt_atflist.specs.declared.listing.Listing.TheVariants as listing
+use Rattle.kt_base.specs.declared.no_memory.NoMemory.{NoMemory}
+use Rattle.kt_atflist.specs.declared.list_cause.ListCause.TheVariants as cause
+use Rattle.kt_atflist.specs.declared.list_fault.ListFault.{ListFault}
+use Rattle.kt_atflist.specs.declared.case_def.CaseDef.{CaseDef}
+
+-- cases are no refusal of memory
+pub cases_read : (slice text : List ℕ) (cases : List CaseDef) → slice ≡ text → IsOutOfMemory (Ok cases) ⊎ IsAnswer slice (Ok cases) → IsRead text (Ok cases)
+cases_read slice text cases e (inl (refusal, n)) = absurd (cc)
+cases_read slice text cases e (inr a) = listed cases (subst (λ (t : List ℕ). IsAnswer t (Ok cases)) e a)
+
+fault_in : Outcome → ListFault → ListFault
+fault_in (Ok cases) d = d
+fault_in (Err fault) d = fault
+
+pub fault_read : (slice text : List ℕ) (fault : ListFault) (phrase : Phrase) → slice ≡ text → IsOutOfMemory (Err fault) ⊎ IsAnswer slice (Err fault)
+    → Ok phrase ≡ fault_phrase fault.cause → IsRead text (Err (Counted phrase fault.line 0))
+unfolding fault_in
+fault_read slice text fault phrase e (inl (refusal, n)) p =
+    let same : fault ≡ fault_at (cause.NoMemory refusal) 0 = ap (λ (o : Outcome). fault_in o fault) n in
+    let z : ◌≡◌ {A = Result Phrase NoMemory} (Ok phrase) (Err refusal) = p ∙ ap (λ (f : ListFault). fault_phrase f.cause) same in
+    absurd (cc)
+fault_read slice text fault phrase e (inr a) p = no_list fault phrase (subst (λ (t : List ℕ). IsAnswer t (Err fault)) e a) (sym p)
+
+pub refused_by : (l : Listing) (r : Refused) (reason : Reason) → l ≡ listing.Refused r → reason ≡ refused_reason r → Lists l (Err reason)
+refused_by l r reason e f = subst (λ (x : Listing). Lists x (Err reason)) (sym e) (subst (λ (x : Reason). Lists (listing.Refused r) (Err x)) (sym f) (unstarted r))
+
+pub ended_by : (l : Listing) (outcome : Ending) (b : ListBytes) (reason : Reason) → l ≡ listing.Ended outcome b → Some reason ≡ ended_reason outcome → Lists l (Err reason)
+ended_by l outcome b reason e f = subst (λ (x : Listing). Lists x (Err reason)) (sym e) (unlisted outcome b reason (sym f))
+
+pub unreadable_by : (l : Listing) (outcome : Ending) (b : ListBytes) → l ≡ listing.Ended outcome b → None ≡ ended_reason outcome → b ≡ bytes.Unreadable → Lists l (Err (Fixed ListUnreadable))
+unreadable_by l outcome b e f g = subst (λ (x : Listing). Lists x (Err (Fixed ListUnreadable))) (sym (e ∙ ap (listing.Ended outcome) g)) (unreadable outcome (sym f))
+
+pub too_long_by : (l : Listing) (outcome : Ending) (b : ListBytes) → l ≡ listing.Ended outcome b → None ≡ ended_reason outcome → b ≡ bytes.TooLong → Lists l (Err (Fixed ListTooLong))
+too_long_by l outcome b e f g = subst (λ (x : Listing). Lists x (Err (Fixed ListTooLong))) (sym (e ∙ ap (listing.Ended outcome) g)) (too_long outcome (sym f))
+
+pub read_by : (l : Listing) (outcome : Ending) (b : ListBytes) (text : List ℕ) (found : Result (List CaseDef) Reason) → l ≡ listing.Ended outcome b → None ≡ ended_reason outcome → b ≡ bytes.Read text
+    → IsRead text found → Lists l found
+read_by l outcome b text found e f g h = subst (λ (x : Listing). Lists x found) (sym (e ∙ ap (listing.Ended outcome) g)) (read outcome text found (sym f) h)

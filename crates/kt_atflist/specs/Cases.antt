@@ -1,0 +1,30 @@
+-- The test cases of a program.
+use Rattle.std.specs.Prelude.{List, [], ◌∷◌, ◌++◌, Option, Some, Ok, Err, map, codes}
+use Rattle.kt_base.specs.LastValues.{last_values}
+use Rattle.kt_base.specs.declared.interface.Interface.{Interface}
+use Rattle.kt_base.specs.declared.interface.Interface.TheVariants.{Atf, Tap, Plain}
+use Rattle.kt_base.specs.declared.reason.Reason.{Reason}
+use Rattle.kt_base.specs.declared.variable.Variable.{Variable}
+use Rattle.kt_atflist.specs.Listings.{Lists}
+use Rattle.kt_atflist.specs.Reading.{named}
+use Rattle.kt_atflist.specs.declared.case_def.CaseDef.{CaseDef}
+use Rattle.kt_atflist.specs.declared.listing.Listing.{Listing}
+
+-- a case with its own properties over its program's
+abbrev pub over_program : List Variable → CaseDef → CaseDef
+over_program props case = record { name = case.name; props = last_values (props ++ case.props); fault = case.fault }
+
+-- the case that stands for a program without a list
+abbrev pub main_case : CaseDef
+main_case = named (codes "main")
+
+-- the case that stands for a list that can't be used
+abbrev pub list_case : Reason → CaseDef
+list_case reason = record { name = codes "__test_cases_list__"; props = []; fault = Some reason }
+
+-- a program of this interface with these properties has these cases
+pub data AreCases (props : List Variable) : Interface → Option Listing → List CaseDef → Type 0 where
+  tap : (listing : Option Listing) → AreCases props Tap listing (over_program props main_case ∷ [])
+  plain : (listing : Option Listing) → AreCases props Plain listing (over_program props main_case ∷ [])
+  listed : (listing : Listing) (found : List CaseDef) → Lists listing (Ok found) → AreCases props Atf (Some listing) (map (over_program props) found)
+  unlisted : (listing : Listing) (reason : Reason) → Lists listing (Err reason) → AreCases props Atf (Some listing) (over_program props (list_case reason) ∷ [])

@@ -1,0 +1,18 @@
+-- Names of cases, and the keys of a set of names.
+use Rattle.std.specs.Prelude.{ℕ, List, [], ◌∷◌, ◌++◌, Option, Some, None, chars, map}
+use Rattle.std.specs.String.{string_bytes}
+use Rattle.std.specs.declared.string.String.{String}
+use Rattle.kt_atflist.specs.declared.case_def.CaseDef.{CaseDef}
+
+-- the characters of a key
+abbrev pub characters : {Z : Type 0} → String Z → List ℕ
+characters key = chars (string_bytes key)
+
+-- the name of a case
+abbrev pub name_of : CaseDef → List ℕ
+name_of case = case.name
+
+-- the names of cases, and of one that may follow
+abbrev pub names_of : List CaseDef → Option CaseDef → List (List ℕ)
+names_of cases None = map name_of cases
+names_of cases (Some case) = map name_of cases ++ case.name ∷ []

@@ -1,0 +1,62 @@
+-- What a listing gives: cases, or the reason why it can't be used.
+use Rattle.std.specs.Prelude.{◌≡◌, ℕ, ◌==◌, if◌then◌else◌, List, Option, Some, None, Result, Ok, Err}
+use Rattle.kt_base.specs.declared.no_memory.NoMemory.{NoMemory}
+use Rattle.kt_base.specs.declared.outcome.Outcome.{Outcome}
+use Rattle.kt_base.specs.declared.outcome.Outcome.TheVariants.{Exited, Signaled, TimedOut, WaitFailed}
+use Rattle.kt_base.specs.declared.phrase.Phrase.{Phrase}
+use Rattle.kt_base.specs.declared.phrase.Phrase.TheVariants.{NoDirectory, NoOutput, NotSpawned, NoMemoryToStart, ListTimedOut, ListNotWaitedFor, NoList, ListUnreadable, ListTooLong, ListBadHeader, ListBadLine, ListNoIdent, ListRepeatedKey, ListRepeatedIdent, ListUnknownKey, ListBadValue, ListEmpty, ListNotUtf8}
+use Rattle.kt_base.specs.declared.reason.Reason.{Reason}
+use Rattle.kt_base.specs.declared.reason.Reason.TheVariants.{Fixed, Ended, Counted}
+use Rattle.kt_base.specs.declared.refused.Refused.{Refused}
+use Rattle.kt_base.specs.declared.refused.Refused.TheVariants.{Directory, Output, Spawn, Memory}
+use Rattle.kt_atflist.specs.declared.list_bytes.ListBytes.{ListBytes}
+use Rattle.kt_atflist.specs.declared.list_bytes.ListBytes.TheVariants as bytes
+use Rattle.kt_atflist.specs.declared.list_cause.ListCause.{ListCause}
+use Rattle.kt_atflist.specs.declared.list_cause.ListCause.TheVariants as cause
+use Rattle.kt_atflist.specs.declared.list_cause.ListCause.TheVariants.{BadHeader, BadLine, NoIdent, RepeatedKey, RepeatedIdent, UnknownKey, BadValue, EmptyList, NotUtf8}
+use Rattle.kt_atflist.specs.declared.list_fault.ListFault.{ListFault}
+use Rattle.kt_atflist.specs.declared.case_def.CaseDef.{CaseDef}
+use Rattle.kt_atflist.specs.declared.listing.Listing.{Listing}
+use Rattle.kt_atflist.specs.declared.listing.Listing.TheVariants as listing
+use Rattle.kt_atflist.specs.Spelling.{Spells, IsDue}
+
+-- why a program was not started
+abbrev pub refused_reason : Refused → Reason
+refused_reason Directory = Fixed NoDirectory
+refused_reason Output = Fixed NoOutput
+refused_reason Spawn = Fixed NotSpawned
+refused_reason Memory = Fixed NoMemoryToStart
+
+-- why a program that ended so did not list its cases
+abbrev pub ended_reason : Outcome → Option Reason
+ended_reason TimedOut = Some (Fixed ListTimedOut)
+ended_reason WaitFailed = Some (Fixed ListNotWaitedFor)
+ended_reason (Exited code) = if code == 0 then None else Some (Ended NoList (Exited code))
+ended_reason (Signaled signal core) = Some (Ended NoList (Signaled signal core))
+
+-- the words for a fault; out of memory has none
+abbrev pub fault_phrase : ListCause → Result Phrase NoMemory
+fault_phrase (cause.NoMemory refusal) = Err refusal
+fault_phrase BadHeader = Ok ListBadHeader
+fault_phrase BadLine = Ok ListBadLine
+fault_phrase NoIdent = Ok ListNoIdent
+fault_phrase RepeatedKey = Ok ListRepeatedKey
+fault_phrase RepeatedIdent = Ok ListRepeatedIdent
+fault_phrase UnknownKey = Ok ListUnknownKey
+fault_phrase BadValue = Ok ListBadValue
+fault_phrase EmptyList = Ok ListEmpty
+fault_phrase NotUtf8 = Ok ListNotUtf8
+
+-- what the bytes of a list give
+pub data IsRead (text : List ℕ) : Result (List CaseDef) Reason → Type 0 where
+  no_list : (fault : ListFault) (phrase : Phrase) → IsDue text fault → fault_phrase fault.cause ≡ Ok phrase → IsRead text (Err (Counted phrase fault.line 0))
+  listed : (cases : List CaseDef) → Spells text cases → IsRead text (Ok cases)
+
+-- what a listing gives
+pub data Lists : Listing → Result (List CaseDef) Reason → Type 0 where
+  unstarted : (refused : Refused) → Lists (listing.Refused refused) (Err (refused_reason refused))
+  unlisted : (outcome : Outcome) (bytes : ListBytes) (reason : Reason) → ended_reason outcome ≡ Some reason → Lists (listing.Ended outcome bytes) (Err reason)
+  unreadable : (outcome : Outcome) → ended_reason outcome ≡ None → Lists (listing.Ended outcome bytes.Unreadable) (Err (Fixed ListUnreadable))
+  too_long : (outcome : Outcome) → ended_reason outcome ≡ None → Lists (listing.Ended outcome bytes.TooLong) (Err (Fixed ListTooLong))
+  read : (outcome : Outcome) (text : List ℕ) (found : Result (List CaseDef) Reason) → ended_reason outcome ≡ None → IsRead text found
+      → Lists (listing.Ended outcome (bytes.Read text)) found

@@ -1,0 +1,113 @@
+-- Which cases a list of test cases spells, and which fault is due to a text that is no list.
+use Rattle.std.specs.Prelude.{◌≡◌, ◌⊎◌, ℕ, ◌+◌, Bool, true, false, not, ◌||◌, List, [], ◌∷◌, ◌++◌, codes, bytes_eq, Option, Some, None, Result, Ok, Err, is_some}
+use Rattle.std.specs.List.{find}
+use Rattle.std.specs.Str.{IsUtf8}
+use Rattle.kt_base.specs.Lossy.{lossy}
+use Rattle.kt_base.specs.declared.variable.Variable.{Variable}
+use Rattle.kt_atflist.specs.Lines.{lines, header, is_empty, ident_in, is_name, key_in, value_in}
+use Rattle.kt_metadata.specs.ListKeys.{name_of_key}
+use Rattle.kt_atflist.specs.Reading.{is_listed, is_given, named, with_property, is_good, fault_at}
+use Rattle.kt_atflist.specs.declared.list_cause.ListCause.{ListCause}
+use Rattle.kt_atflist.specs.declared.list_cause.ListCause.TheVariants.{BadHeader, BadLine, NoIdent, RepeatedKey, RepeatedIdent, UnknownKey, BadValue, EmptyList, NotUtf8}
+use Rattle.kt_atflist.specs.declared.list_fault.ListFault.{ListFault}
+use Rattle.kt_atflist.specs.declared.case_def.CaseDef.{CaseDef}
+use Rattle.kt_atflist.specs.Read.{Read}
+
+-- ---- lines that fit
+
+-- behind these cases, with this block begun or none, a line leads to these cases and this block
+pub data Goes (cases : List CaseDef) (line : List ℕ) : Option CaseDef → Read → Type 0 where
+  begins : (name : List ℕ) → ident_in line ≡ Some name → is_name name ≡ true → is_listed cases (lossy name) ≡ false
+      → Goes cases line None (record { cases = cases; block = Some (named (lossy name)) })
+  gives : (block : CaseDef) (value : List ℕ) (property : List ℕ) → is_empty line ≡ false → value_in line ≡ Some value → is_empty (key_in line) ≡ false
+      → bytes_eq (lossy (key_in line)) (codes "ident") ≡ false → name_of_key (lossy (key_in line)) ≡ Some property
+      → is_given block.props property ≡ false → is_good property (lossy value) ≡ true
+      → Goes cases line (Some block) (record { cases = cases; block = Some (with_property block property (lossy value)) })
+  ends : (block : CaseDef) → is_empty line ≡ true → Goes cases line (Some block) (record { cases = cases ++ block ∷ []; block = None })
+
+-- behind these cases, with this block begun or none, the lines spell these cases in all
+pub data Spelled : List CaseDef → Option CaseDef → List (List ℕ) → List CaseDef → Type 0 where
+  no_block : (cases : List CaseDef) → Spelled cases None [] cases
+  last_block : (cases : List CaseDef) (block : CaseDef) → Spelled cases (Some block) [] (cases ++ block ∷ [])
+  line : (cases : List CaseDef) (block : Option CaseDef) (first : List ℕ) (rest : List (List ℕ)) (next : Read) (all : List CaseDef)
+      → Goes cases first block next → Spelled next.cases next.block rest all → Spelled cases block (first ∷ rest) all
+
+-- ---- lines that don't
+
+-- a property was given before
+abbrev pub gives_again : List Variable → Option (List ℕ) → Bool
+gives_again pairs None = false
+gives_again pairs (Some property) = is_given pairs property
+
+-- a property may not have this value
+abbrev pub is_bad : Option (List ℕ) → List ℕ → Bool
+is_bad None value = false
+is_bad (Some property) value = not (is_good property value)
+
+-- whether a fault fits the first line of a block, which has this ident
+abbrev pub fits_first : List CaseDef → Option (List ℕ) → ListCause → Bool
+fits_first cases None NoIdent = true
+fits_first cases (Some name) BadValue = not (is_name name)
+fits_first cases (Some name) RepeatedIdent = is_listed cases (lossy name)
+fits_first cases ident _ = false
+
+-- whether a fault fits a further line of a block, which has this key and this value
+abbrev pub fits_further : CaseDef → List ℕ → Option (List ℕ) → ListCause → Bool
+fits_further block key None BadLine = true
+fits_further block key (Some value) BadLine = is_empty key
+fits_further block key (Some value) RepeatedKey = bytes_eq (lossy key) (codes "ident") || gives_again block.props (name_of_key (lossy key))
+fits_further block key (Some value) UnknownKey = not (is_some (name_of_key (lossy key)))
+fits_further block key (Some value) BadValue = is_bad (name_of_key (lossy key)) (lossy value)
+fits_further block key value _ = false
+
+-- the faults of a first line, in the order in which they are told
+abbrev pub first_rows : List ListCause
+first_rows = NoIdent ∷ BadValue ∷ RepeatedIdent ∷ []
+
+-- the faults of a further line, in the order in which they are told
+abbrev pub further_rows : List ListCause
+further_rows = BadLine ∷ RepeatedKey ∷ UnknownKey ∷ BadValue ∷ []
+
+-- behind these cases, with this block begun or none, this is the first fault that fits a line; an empty one ends its block
+pub data Fails (cases : List CaseDef) (line : List ℕ) : Option CaseDef → ListCause → Type 0 where
+  first : (cause : ListCause) → find (fits_first cases (ident_in line)) first_rows ≡ Some cause → Fails cases line None cause
+  further : (block : CaseDef) (cause : ListCause) → is_empty line ≡ false → find (fits_further block (key_in line) (value_in line)) further_rows ≡ Some cause
+      → Fails cases line (Some block) cause
+
+-- the fault of the first of these lines that has one, counted from the n-th
+pub data Faulty : ℕ → List CaseDef → Option CaseDef → List (List ℕ) → ListFault → Type 0 where
+  here : (n : ℕ) (cases : List CaseDef) (block : Option CaseDef) (first : List ℕ) (rest : List (List ℕ)) (cause : ListCause)
+      → Fails cases first block cause → Faulty n cases block (first ∷ rest) (fault_at cause n)
+  later : (n : ℕ) (cases : List CaseDef) (block : Option CaseDef) (first : List ℕ) (rest : List (List ℕ)) (next : Read) (fault : ListFault)
+      → Goes cases first block next → Faulty (n + 1) next.cases next.block rest fault → Faulty n cases block (first ∷ rest) fault
+
+-- ---- whole texts
+
+-- the header, an empty line, and one block or more
+pub data IsList : List (List ℕ) → List CaseDef → Type 0 where
+  list : (first second third : List ℕ) (rest : List (List ℕ)) (cases : List CaseDef) → bytes_eq first header ≡ true → is_empty second ≡ true
+      → Spelled [] None (third ∷ rest) cases → IsList (first ∷ second ∷ third ∷ rest) cases
+
+-- the fault of the first faulty line
+pub data IsFault : List (List ℕ) → ListFault → Type 0 where
+  no_first : IsFault [] (fault_at BadHeader 1)
+  other_first : (first : List ℕ) (rest : List (List ℕ)) → bytes_eq first header ≡ false → IsFault (first ∷ rest) (fault_at BadHeader 1)
+  no_second : (first : List ℕ) → bytes_eq first header ≡ true → IsFault (first ∷ []) (fault_at BadHeader 2)
+  other_second : (first second : List ℕ) (rest : List (List ℕ)) → bytes_eq first header ≡ true → is_empty second ≡ false
+      → IsFault (first ∷ second ∷ rest) (fault_at BadHeader 2)
+  no_third : (first second : List ℕ) → bytes_eq first header ≡ true → is_empty second ≡ true → IsFault (first ∷ second ∷ []) (fault_at EmptyList 3)
+  in_blocks : (first second third : List ℕ) (rest : List (List ℕ)) (fault : ListFault) → bytes_eq first header ≡ true → is_empty second ≡ true
+      → Faulty 3 [] None (third ∷ rest) fault → IsFault (first ∷ second ∷ third ∷ rest) fault
+
+-- the text is a list of these cases
+abbrev pub Spells : List ℕ → List CaseDef → Type 0
+Spells text cases = IsUtf8 text × IsList (lines text) cases
+
+-- the text is no list, and this is why: it isn't UTF-8, or else by its first faulty line
+abbrev pub IsDue : List ℕ → ListFault → Type 0
+IsDue text fault = (¬ (IsUtf8 text) × (fault ≡ fault_at NotUtf8 0)) ⊎ (IsUtf8 text × IsFault (lines text) fault)
+
+-- what a text is answered: its cases, or the fault that is due
+abbrev pub IsAnswer : List ℕ → Result (List CaseDef) ListFault → Type 0
+IsAnswer text (Ok cases) = Spells text cases
+IsAnswer text (Err fault) = IsDue text fault

@@ -1,0 +1,70 @@
+ghost use Rattle.std.specs.Prelude.{◌≡◌, Bool, false, None, Some, IfOk, OnOk, OnErr};
+ghost use Rattle.kt_metadata.specs.Properties.{definition_fault, IfFault};
+ghost use Rattle.kt_atflist.specs.Reading.{is_given, named, with_property};
+
+use crate::case_def::CaseDef;
+use kt_base::Text;
+use kt_metadata::{PropFault, Props};
+use std::alloc::Global;
+use std::marker::Model;
+
+/// The case of a block that has begun. Contracts see the case.
+#[derive(Drop)]
+pub struct Block {
+    name: Text,
+    props: Props,
+}
+
+impl Model for Block {
+    ghost use Rattle.std.specs.Prelude.{◌≡◌, None};
+    ghost use Rattle.kt_base.specs.LastValues.{last_values};
+    ghost use Rattle.kt_atflist.specs.declared.case_def.CaseDef.{CaseDef};
+
+    ghost Value = { CaseDef };
+
+    ghost view = { λ b. record { name = b.name; props = b.props; fault = None } };
+
+    // Each property was given once.
+    ghost invariant = { λ b. b.props ≡ last_values b.props };
+}
+
+impl Block {
+    /// A block that has given no property.
+    pub fn new(alloc: Global, name: Text) -> Block
+        ensures { result ≡ named name }
+    {
+        Block {
+            name,
+            props: Props::new(alloc),
+        }
+    }
+
+    /// Whether the block has given the property of this name.
+    pub fn has(&self, name: &Text) -> bool
+        ensures { result ≡ is_given self.now.props name.now }
+    {
+        self.props.get(name).is_some()
+    }
+
+    /// Gives a property that the block has not given before.
+    pub fn set(&mut self, name: &Text, value: &Text) -> Result<(), PropFault>
+        requires { is_given self.old.props name.now ≡ false }
+        ensures ok { OnOk result (self.new ≡ with_property self.old name.now value.now) }
+        ensures err { OnErr result (self.new ≡ self.old) }
+        ensures accepted { OnOk result (definition_fault name.now value.now ≡ None) }
+        ensures refused { IfFault result (λ fault. definition_fault name.now value.now ≡ Some fault) }
+    {
+        self.props.set(name, value)
+    }
+
+    /// The case, at the end of its block.
+    pub fn into_case(self) -> CaseDef
+        ensures { result ≡ self }
+    {
+        CaseDef {
+            name: self.name,
+            props: self.props,
+            fault: None,
+        }
+    }
+}

@@ -1,0 +1,90 @@
+//! What a listing gives.
+
+ghost use Rattle.std.specs.Prelude.{◌≡◌, IfOk};
+ghost use Rattle.kt_atflist.specs.Listings.{refused_reason, ended_reason, fault_phrase, IsRead, Lists};
+
+use crate::case_def::CaseDef;
+use crate::list_bytes::ListBytes;
+use crate::list_cause::ListCause;
+use crate::listing::Listing;
+use crate::reader::parse_list;
+use kt_base::{Bytes, Items, NoMemory, Outcome, Phrase, Reason, Refused};
+use std::alloc::Global;
+
+fn refused_reason(refused: Refused) -> Reason
+    ensures { result ≡ refused_reason refused }
+{
+    match refused {
+        Refused::Directory => Reason::Fixed(Phrase::NoDirectory),
+        Refused::Output => Reason::Fixed(Phrase::NoOutput),
+        Refused::Spawn => Reason::Fixed(Phrase::NotSpawned),
+        Refused::Memory => Reason::Fixed(Phrase::NoMemoryToStart),
+    }
+}
+
+fn ended_reason(outcome: Outcome) -> Option<Reason>
+    ensures { result ≡ ended_reason outcome }
+{
+    match outcome {
+        Outcome::TimedOut => Some(Reason::Fixed(Phrase::ListTimedOut)),
+        Outcome::WaitFailed => Some(Reason::Fixed(Phrase::ListNotWaitedFor)),
+        Outcome::Exited(code) => if code == 0 {
+            None
+        } else {
+            Some(Reason::Ended(Phrase::NoList, outcome))
+        },
+        Outcome::Signaled(_, _) => Some(Reason::Ended(Phrase::NoList, outcome)),
+    }
+}
+
+fn fault_phrase(cause: ListCause) -> Result<Phrase, NoMemory>
+    ensures { result ≡ fault_phrase cause }
+{
+    match cause {
+        ListCause::NoMemory(refusal) => Err(refusal),
+        ListCause::BadHeader => Ok(Phrase::ListBadHeader),
+        ListCause::BadLine => Ok(Phrase::ListBadLine),
+        ListCause::NoIdent => Ok(Phrase::ListNoIdent),
+        ListCause::RepeatedKey => Ok(Phrase::ListRepeatedKey),
+        ListCause::RepeatedIdent => Ok(Phrase::ListRepeatedIdent),
+        ListCause::UnknownKey => Ok(Phrase::ListUnknownKey),
+        ListCause::BadValue => Ok(Phrase::ListBadValue),
+        ListCause::EmptyList => Ok(Phrase::ListEmpty),
+        ListCause::NotUtf8 => Ok(Phrase::ListNotUtf8),
+    }
+}
+
+fn read_bytes(alloc: Global, text: &Bytes) -> Result<Result<Items<CaseDef>, Reason>, NoMemory>
+    ensures { IfOk result (λ found. IsRead text.now found) }
+{
+    match parse_list(alloc, text.as_slice()) {
+        Ok(cases) => Ok(Ok(cases)),
+        Err(fault) => {
+            let phrase = fault_phrase(fault.cause)?;
+            Ok(Err(Reason::Counted(phrase, fault.line, 0)))
+        }
+    }
+}
+
+/// The cases that a listing gives, or the reason why it can't be used.
+pub fn listed_cases(
+    alloc: Global,
+    listing: &Listing,
+) -> Result<Result<Items<CaseDef>, Reason>, NoMemory>
+    ensures { IfOk result (λ found. Lists listing.now found) }
+{
+    match listing {
+        Listing::Refused(refused) => Ok(Err(refused_reason(*refused))),
+        Listing::Ended(outcome, bytes) => match ended_reason(*outcome) {
+            Some(reason) => Ok(Err(reason)),
+            None => match bytes {
+                ListBytes::Unreadable => Ok(Err(Reason::Fixed(Phrase::ListUnreadable))),
+                ListBytes::TooLong => Ok(Err(Reason::Fixed(Phrase::ListTooLong))),
+                ListBytes::Read(text) => {
+                    let found = read_bytes(alloc, text)?;
+                    Ok(found)
+                }
+            },
+        },
+    }
+}

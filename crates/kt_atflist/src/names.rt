@@ -1,0 +1,50 @@
+ghost use Rattle.std.specs.Prelude.{◌≡◌, ℕ, List, [], ◌∷◌, ◌++◌, Bool, false, bytes_eq, map, OnOk, OnErr};
+ghost use Rattle.std.specs.List.{list_any};
+
+use indexmap::IndexSet;
+use kt_base::{NoMemory, Text};
+use std::alloc::Global;
+use std::marker::Model;
+
+/// Names, each looked up in constant time. Contracts see them in the order in which they came.
+#[derive(Drop)]
+pub struct Names {
+    keys: IndexSet<String>,
+}
+
+impl Model for Names {
+    ghost use Rattle.std.specs.Prelude.{ℕ, List, map};
+    ghost use Rattle.kt_atflist.specs.Keys.{characters};
+
+    ghost Value = { List (List ℕ) };
+
+    ghost view = { λ names. map characters names.keys.keys };
+}
+
+impl Names {
+    pub fn new(alloc: Global) -> Names
+        ensures { result ≡ [] }
+    {
+        Names {
+            keys: IndexSet::new(alloc),
+        }
+    }
+
+    /// Whether a name is among these.
+    pub fn has(&self, name: &Text) -> bool
+        ensures { result ≡ list_any (bytes_eq name.now) self.now }
+    {
+        self.keys.contains(name.as_str())
+    }
+
+    /// Adds a name that is not among these.
+    pub fn push(&mut self, alloc: Global, name: &Text) -> Result<(), NoMemory>
+        requires { list_any (bytes_eq name.now) self.old ≡ false }
+        ensures ok { OnOk result (self.new ≡ self.old ++ name.now ∷ []) }
+        ensures err { OnErr result (self.new ≡ self.old) }
+    {
+        let key = String::from_str(alloc, name.as_str())?;
+        self.keys.insert(key)?;
+        Ok(())
+    }
+}

@@ -1,0 +1,127 @@
+//! The test cases of a program.
+
+ghost use Rattle.std.specs.Prelude.{◌≡◌, ◌∷◌, [], List, map, chars, Some, None, IfOk, IsSome};
+ghost use Rattle.kt_base.specs.declared.interface.Interface.TheVariants.{Atf};
+ghost use Rattle.kt_base.specs.declared.variable.Variable.{Variable};
+ghost use Rattle.kt_atflist.specs.Cases.{over_program, main_case, list_case, AreCases};
+
+use crate::case_def::CaseDef;
+use crate::listed_cases::listed_cases;
+use crate::listing::Listing;
+use kt_base::{Interface, Items, NoMemory, Reason, Text};
+use kt_metadata::Props;
+use std::alloc::Global;
+
+/// The case of a program without a list of cases.
+const MAIN: &str = "main";
+
+/// The case that stands for a list that can't be used.
+const LIST: &str = "__test_cases_list__";
+
+fn with_program(props: &Props, case: CaseDef) -> Result<CaseDef, NoMemory>
+    ensures { IfOk result (λ whole. whole ≡ over_program props.now case) }
+{
+    let CaseDef {
+        name,
+        props: own,
+        fault,
+    } = case;
+    let props = Props::overlay(props, &own)?;
+    Ok(CaseDef { name, props, fault })
+}
+
+fn all_with_program(
+    alloc: Global,
+    props: &Props,
+    found: Items<CaseDef>,
+) -> Result<Items<CaseDef>, NoMemory>
+    ensures { IfOk result (λ cases. cases ≡ map (over_program props.now) found) }
+{
+    let mut cases = Items::new(alloc);
+    for case in found.into_vec() {
+        let whole = with_program(props, case)?;
+        cases.push(whole)?;
+    }
+    Ok(cases)
+}
+
+/// The one case of a program.
+fn one_case(
+    alloc: Global,
+    name: &str,
+    props: &Props,
+    fault: Option<Reason>,
+) -> Result<Items<CaseDef>, NoMemory>
+    ensures { IfOk result (λ cases. cases ≡ over_program props.now (record { name = chars name.now; props = []; fault = fault }) ∷ []) }
+{
+    let case = CaseDef {
+        name: Text::from_str(alloc, name)?,
+        props: Props::new(alloc),
+        fault,
+    };
+    let whole = with_program(props, case)?;
+    let mut cases = Items::new(alloc);
+    cases.push(whole)?;
+    Ok(cases)
+}
+
+fn main_of(alloc: Global, props: &Props) -> Result<Items<CaseDef>, NoMemory>
+    ensures { IfOk result (λ cases. cases ≡ over_program props.now main_case ∷ []) }
+{
+    let cases = one_case(alloc, MAIN, props, None)?;
+    Ok(cases)
+}
+
+fn list_of(alloc: Global, props: &Props, reason: Reason) -> Result<Items<CaseDef>, NoMemory>
+    ensures { IfOk result (λ cases. cases ≡ over_program props.now (list_case reason) ∷ []) }
+{
+    let cases = one_case(alloc, LIST, props, Some(reason))?;
+    Ok(cases)
+}
+
+fn listed(alloc: Global, props: &Props, listing: &Listing) -> Result<Items<CaseDef>, NoMemory>
+    ensures { IfOk result (λ cases. AreCases props.now Atf (Some listing.now) cases) }
+{
+    let found = listed_cases(alloc, listing)?;
+    match found {
+        Ok(found) => {
+            let cases = all_with_program(alloc, props, found)?;
+            Ok(cases)
+        }
+        Err(reason) => {
+            let cases = list_of(alloc, props, reason)?;
+            Ok(cases)
+        }
+    }
+}
+
+/// The test cases of a program, in order. A TAP or plain program has the one case `main`. An ATF program has the cases of
+/// its listing; if the listing can't be used, it has the one case `__test_cases_list__`, whose fault says why. A case's own
+/// properties stand over the program's.
+pub fn cases(
+    alloc: Global,
+    interface: Interface,
+    props: &Props,
+    listing: &Option<Listing>,
+) -> Result<Items<CaseDef>, NoMemory>
+    requires { interface ≡ Atf → IsSome listing.now }
+    ensures { IfOk result (λ cases. AreCases props.now interface listing.now cases) }
+{
+    match interface {
+        Interface::Tap => {
+            let cases = main_of(alloc, props)?;
+            Ok(cases)
+        }
+        Interface::Plain => {
+            let cases = main_of(alloc, props)?;
+            Ok(cases)
+        }
+        Interface::Atf => match listing {
+            None => unreachable!(),
+            Some(listing) => {
+                let cases = listed(alloc, props, listing)?;
+                Ok(cases)
+            }
+        },
+    }
+}

@@ -1,0 +1,184 @@
+//! Where a line of a list leads.
+
+ghost use Rattle.std.specs.Prelude.{◌≡◌, ◌∷◌, ◌++◌, [], List, ℕ, None, Some, IfOk};
+ghost use Rattle.kt_atflist.specs.Keys.{names_of};
+ghost use Rattle.kt_atflist.specs.Reading.{begin_named, begin_with, set_property, set_key, go_on_with, go_on, step_of, finished};
+ghost use Rattle.kt_atflist.specs.Lines.{ident_in, key_in, value_in};
+
+use crate::block::Block;
+use crate::case_def::CaseDef;
+use crate::list_cause::ListCause;
+use crate::list_line::{ident_in, is_empty, is_name, key_in, value_in};
+use crate::names::Names;
+use crate::reading::Reading;
+use crate::step::Step;
+use crate::words::is_word;
+use kt_base::{Items, NoMemory, Text, lossy};
+use kt_metadata::{PropFault, property_of_key};
+use std::alloc::Global;
+
+fn begin_named(
+    alloc: Global,
+    cases: Items<CaseDef>,
+    mut names: Names,
+    name: Text,
+) -> Result<Step, NoMemory>
+    requires { names ≡ names_of cases None }
+    ensures { IfOk result (λ step. step ≡ begin_named cases name) }
+{
+    if names.has(&name) {
+        return Ok(Step::Wrong(ListCause::RepeatedIdent));
+    }
+    names.push(alloc, &name)?;
+    Ok(Step::To(Reading {
+        cases,
+        names,
+        block: Some(Block::new(alloc, name)),
+    }))
+}
+
+/// The first line of a block.
+fn begin(alloc: Global, cases: Items<CaseDef>, names: Names, line: &[u8]) -> Result<Step, NoMemory>
+    requires { names ≡ names_of cases None }
+    ensures { IfOk result (λ step. step ≡ begin_with cases (ident_in line.now)) }
+{
+    match ident_in(line) {
+        None => Ok(Step::Wrong(ListCause::NoIdent)),
+        Some(name) => {
+            if !is_name(name) {
+                return Ok(Step::Wrong(ListCause::BadValue));
+            }
+            let name = lossy(alloc, name)?;
+            let step = begin_named(alloc, cases, names, name)?;
+            Ok(step)
+        }
+    }
+}
+
+fn set_property(
+    cases: Items<CaseDef>,
+    names: Names,
+    mut block: Block,
+    name: Option<Text>,
+    value: Text,
+) -> Result<Step, NoMemory>
+    requires { names ≡ names_of cases (Some block) }
+    ensures { IfOk result (λ step. step ≡ set_property cases block name value) }
+{
+    match name {
+        None => Ok(Step::Wrong(ListCause::UnknownKey)),
+        Some(name) => {
+            if block.has(&name) {
+                return Ok(Step::Wrong(ListCause::RepeatedKey));
+            }
+            match block.set(&name, &value) {
+                Err(PropFault::NoMemory(refusal)) => Err(refusal),
+                Err(_fault) => Ok(Step::Wrong(ListCause::BadValue)),
+                Ok(()) => {
+                    Ok(Step::To(Reading {
+                        cases,
+                        names,
+                        block: Some(block),
+                    }))
+                }
+            }
+        }
+    }
+}
+
+fn set_key(
+    alloc: Global,
+    cases: Items<CaseDef>,
+    names: Names,
+    block: Block,
+    key: Text,
+    value: Text,
+) -> Result<Step, NoMemory>
+    requires { names ≡ names_of cases (Some block) }
+    ensures { IfOk result (λ step. step ≡ set_key cases block key value) }
+{
+    if is_word(&key, "ident") {
+        return Ok(Step::Wrong(ListCause::RepeatedKey));
+    }
+    let name = property_of_key(alloc, &key)?;
+    set_property(cases, names, block, name, value)
+}
+
+fn go_on_with(
+    alloc: Global,
+    cases: Items<CaseDef>,
+    names: Names,
+    block: Block,
+    line: &[u8],
+) -> Result<Step, NoMemory>
+    requires { names ≡ names_of cases (Some block) }
+    ensures { IfOk result (λ step. step ≡ go_on_with cases block (key_in line.now) (value_in line.now)) }
+{
+    match value_in(line) {
+        None => Ok(Step::Wrong(ListCause::BadLine)),
+        Some(value) => {
+            let key = key_in(line);
+            if is_empty(key) {
+                return Ok(Step::Wrong(ListCause::BadLine));
+            }
+            let key = lossy(alloc, key)?;
+            let value = lossy(alloc, value)?;
+            set_key(alloc, cases, names, block, key, value)
+        }
+    }
+}
+
+/// A further line of a block.
+fn go_on(
+    alloc: Global,
+    mut cases: Items<CaseDef>,
+    names: Names,
+    block: Block,
+    line: &[u8],
+) -> Result<Step, NoMemory>
+    requires { names ≡ names_of cases (Some block) }
+    ensures { IfOk result (λ step. step ≡ go_on cases block line.now) }
+{
+    if !is_empty(line) {
+        return go_on_with(alloc, cases, names, block, line);
+    }
+    cases.push(block.into_case())?;
+    Ok(Step::To(Reading {
+        cases,
+        names,
+        block: None,
+    }))
+}
+
+/// One line more.
+pub fn step(alloc: Global, reading: Reading, line: &[u8]) -> Result<Step, NoMemory>
+    ensures { IfOk result (λ step. step ≡ step_of reading line.now) }
+{
+    let Reading {
+        cases,
+        names,
+        block,
+    } = reading;
+    match block {
+        None => begin(alloc, cases, names, line),
+        Some(block) => go_on(alloc, cases, names, block, line),
+    }
+}
+
+/// The cases, at the end of the text.
+pub fn finish(reading: Reading) -> Result<Items<CaseDef>, NoMemory>
+    ensures { IfOk result (λ cases. cases ≡ finished reading) }
+{
+    let Reading {
+        mut cases,
+        block,
+        ..
+    } = reading;
+    match block {
+        None => Ok(cases),
+        Some(block) => {
+            cases.push(block.into_case())?;
+            Ok(cases)
+        }
+    }
+}

@@ -1,0 +1,156 @@
+-- A file's values, or its one fault.
+use Rattle.std.specs.Prelude.{Result, Ok, Err, IfOk}
+use Rattle.std.proofs.Common.{◌≡◌, ℕ, List, [], ◌∷◌, ◌++◌, refl, sym, ap, ◌∙◌, subst, inl, inr, append-nil, append_assoc}
+use Rattle.kt_script.specs.declared.fault.ScriptFault.{ScriptFault}
+use Rattle.kt_script.specs.declared.fault.ScriptFault.TheVariants as script
+use Rattle.kt_script.specs.declared.syntax.Stmt.{Stmt}
+use Rattle.kt_script.specs.Spelling.{Spells, IsDue as IsScriptDue, Answers as ScriptAnswers, Refuses as ScriptRefuses}
+use Rattle.kt_config.specs.declared.definition.Definition.{Definition}
+use Rattle.kt_config.specs.declared.fault.ConfigFault.{ConfigFault}
+use Rattle.kt_config.specs.declared.fault.ConfigFault.TheVariants.{NoMemory, UnknownVariable, BadValue, Script, NoSyntax, NotAssignment}
+use Rattle.kt_config.specs.Names.{Meaning}
+use Rattle.kt_config.specs.Values.{Values}
+use Rattle.kt_config.specs.Holding.{Holds, Adds}
+use Rattle.kt_config.specs.Reading.{Outcome, with_first, with_meaning, meaning_of, definitions_in, outcome_of, IsDue, IsRead, IfFault, Answers, Refuses, Gives, fault_of_script}
+use Rattle.kt_config.proofs.ScriptLaws.{one_script, not_both}
+
+-- ---- statement by statement
+
+-- definitions in front of those of the rest
+abbrev pub behind : List Definition → Outcome → Outcome
+behind before (Ok definitions) = Ok (before ++ definitions)
+behind before (Err fault) = Err fault
+
+-- a configuration has the values of the statements that were read
+pub record HasRead (config : Values) (stmts rest : List Stmt) : Type 0 where
+  pub before : List Definition
+  pub holds : Holds config before
+  pub all : definitions_in stmts ≡ behind before (definitions_in rest)
+
+none_behind : (o : Outcome) → o ≡ behind [] o
+none_behind (Ok definitions) = refl
+none_behind (Err fault) = refl
+
+pub nothing_read : (config : Values) (stmts : List Stmt) → Holds config [] → HasRead config stmts stmts
+nothing_read config stmts h = record { before = []; holds = h; all = none_behind (definitions_in stmts) }
+
+first_behind : (before : List Definition) (d : Definition) (o : Outcome) → behind before (with_first d o) ≡ behind (before ++ d ∷ []) o
+first_behind before d (Ok ds) = ap (λ (xs : List Definition). Ok xs) (sym (append_assoc before (d ∷ []) ds))
+first_behind before d (Err fault) = refl
+
+-- one more
+pub one_read : (config next : Values) (stmts rest after : List Stmt) (stmt : Stmt) (d : Definition) → HasRead config stmts rest → rest ≡ stmt ∷ after
+    → Ok d ≡ meaning_of stmt.action → Adds d config next → HasRead next stmts after
+one_read config next stmts rest after stmt d r parts m adds = record {
+  before = r.before ++ d ∷ [];
+  holds = adds r.before r.holds;
+  all = r.all ∙ ap (λ (ss : List Stmt). behind r.before (definitions_in ss)) parts
+      ∙ ap (λ (meaning : Meaning). behind r.before (with_meaning meaning (definitions_in after))) (sym m)
+      ∙ first_behind r.before d (definitions_in after);
+}
+
+-- a fault
+pub fault_read : (config : Values) (stmts rest after : List Stmt) (stmt : Stmt) (fault : ConfigFault) → HasRead config stmts rest → rest ≡ stmt ∷ after
+    → Err fault ≡ meaning_of stmt.action → Gives (Err fault) (definitions_in stmts)
+fault_read config stmts rest after stmt fault r parts m =
+    let e : definitions_in stmts ≡ Err fault
+    = r.all ∙ ap (λ (ss : List Stmt). behind r.before (definitions_in ss)) parts
+    ∙ ap (λ (meaning : Meaning). behind r.before (with_meaning meaning (definitions_in after))) (sym m) in
+    subst (λ (o : Outcome). Gives (Err fault) o) (sym e) refl
+
+-- the end
+pub all_read : (config : Values) (stmts rest : List Stmt) → HasRead config stmts rest → rest ≡ [] → Gives (Ok config) (definitions_in stmts)
+all_read config stmts rest r end =
+    let e : definitions_in stmts ≡ Ok r.before
+    = r.all ∙ ap (λ (ss : List Stmt). behind r.before (definitions_in ss)) end ∙ ap (λ (xs : List Definition). Ok xs) (append-nil r.before) in
+    subst (λ (o : Outcome). Gives (Ok config) o) (sym e) r.holds
+
+-- ---- faults by their kinds
+
+fault_in : (fault : ConfigFault) (P : ConfigFault → Type 0) → P fault → IfFault {T = Values} (Err fault) P
+fault_in (NoMemory refusal) P p = tt
+fault_in UnknownVariable P p = p
+fault_in BadValue P p = p
+fault_in (Script cause) P p = p
+fault_in NoSyntax P p = p
+fault_in NotAssignment P p = p
+
+refuses_same : (found fault : ConfigFault) → found ≡ fault → Refuses {T = Values} (Err found) fault
+refuses_same (NoMemory refusal) fault e = tt
+refuses_same UnknownVariable fault e = e
+refuses_same BadValue fault e = e
+refuses_same (Script cause) fault e = e
+refuses_same NoSyntax fault e = e
+refuses_same NotAssignment fault e = e
+
+-- ---- a file that is a script
+
+same_err : {a b : ConfigFault} → a ≡ b → ◌≡◌ {A = Outcome} (Err a) (Err b)
+same_err e = ap (λ (x : ConfigFault). Err x) e
+
+abbrev definitions_or : Outcome → List Definition → List Definition
+definitions_or (Ok ds) d = ds
+definitions_or (Err fault) d = d
+
+abbrev fault_or : Outcome → ConfigFault → ConfigFault
+fault_or (Ok ds) d = d
+fault_or (Err fault) d = fault
+
+ok_cases : (text : List ℕ) (stmts : List Stmt) (r : Result Values ConfigFault) (o : Outcome) → Spells text stmts → outcome_of stmts ≡ o → Gives r o → IfOk r (λ config. IsRead text config)
+ok_cases text stmts (Ok config) (Ok ds) s e g = (stmts, ds, s, e, g)
+ok_cases text stmts (Ok config) (Err fault) s e g = absurd g
+ok_cases text stmts (Err found) o s e g = tt
+
+only_cases : (r : Result Values ConfigFault) (o : Outcome) (ds : List Definition) → Gives r o → o ≡ Ok ds → Answers r ds
+only_cases (Ok config) (Ok found) ds g e = subst (λ (xs : List Definition). Holds config xs) (ap (λ (x : Outcome). definitions_or x found) e) g
+only_cases (Ok config) (Err fault) ds g e = absurd g
+only_cases (Err found) (Ok other) ds g e = absurd g
+only_cases (Err found) (Err fault) ds g e = absurd (cc)
+
+fault_cases : (text : List ℕ) (stmts : List Stmt) (r : Result Values ConfigFault) (o : Outcome) → Spells text stmts → outcome_of stmts ≡ o → Gives r o → IfFault r (λ fault. IsDue text fault)
+fault_cases text stmts (Ok config) o s e g = tt
+fault_cases text stmts (Err found) (Ok ds) s e g = absurd g
+fault_cases text stmts (Err found) (Err fault) s e g =
+    fault_in found (λ x. IsDue text x) (inr (stmts, s, e ∙ same_err (sym g)))
+
+due_cases : (r : Result Values ConfigFault) (o : Outcome) (fault : ConfigFault) → Gives r o → o ≡ Err fault → Refuses r fault
+due_cases (Ok config) (Ok ds) fault g e = absurd (cc)
+due_cases (Ok config) (Err other) fault g e = absurd g
+due_cases (Err found) (Ok ds) fault g e = absurd g
+due_cases (Err found) (Err other) fault g e = refuses_same found fault (g ∙ ap (λ (x : Outcome). fault_or x other) e)
+
+pub right_ok : (text : List ℕ) (stmts : List Stmt) → Spells text stmts → (r : Result Values ConfigFault) → Gives r (outcome_of stmts) → IfOk r (λ config. IsRead text config)
+right_ok text stmts s r g = ok_cases text stmts r (outcome_of stmts) s refl g
+
+pub right_only : (text : List ℕ) (stmts : List Stmt) → Spells text stmts → (r : Result Values ConfigFault) → Gives r (outcome_of stmts)
+    → (others : List Stmt) → (ds : List Definition) → Spells text others → outcome_of others ≡ Ok ds → Answers r ds
+right_only text stmts s r g = λ others ds t o. only_cases r (outcome_of stmts) ds g (ap outcome_of (one_script text stmts others s t) ∙ o)
+
+pub right_fault : (text : List ℕ) (stmts : List Stmt) → Spells text stmts → (r : Result Values ConfigFault) → Gives r (outcome_of stmts) → IfFault r (λ fault. IsDue text fault)
+right_fault text stmts s r g = fault_cases text stmts r (outcome_of stmts) s refl g
+
+due_of : (text : List ℕ) (stmts : List Stmt) → Spells text stmts → (r : Result Values ConfigFault) → Gives r (outcome_of stmts) → (fault : ConfigFault) → IsDue text fault → Refuses r fault
+due_of text stmts s r g fault (inl d) = absurd (not_both text stmts d.0 s d.1)
+due_of text stmts s r g fault (inr d) = due_cases r (outcome_of stmts) fault g (ap outcome_of (one_script text stmts d.0 s d.1) ∙ d.2)
+
+pub right_due : (text : List ℕ) (stmts : List Stmt) → Spells text stmts → (r : Result Values ConfigFault) → Gives r (outcome_of stmts) → (fault : ConfigFault) → IsDue text fault → Refuses r fault
+right_due text stmts s r g = λ fault d. due_of text stmts s r g fault d
+
+-- ---- a file that is no script
+
+by_cause : (text : List ℕ) (cause : ScriptFault) (fault : ConfigFault) → ((f : ScriptFault) → IsScriptDue text f → cause ≡ f) → ((stmts : List Stmt) → Spells text stmts → ⊥) → IsDue text fault → Script cause ≡ fault
+by_cause text cause fault due none (inl d) = ap Script (due d.0 d.1) ∙ sym d.2
+by_cause text cause fault due none (inr d) = absurd (none d.0 d.1)
+
+due_in : (text : List ℕ) (cause : ScriptFault) (fault : ConfigFault) → ((f : ScriptFault) → IsScriptDue text f → ScriptRefuses (Err cause) f)
+    → ((stmts : List Stmt) → Spells text stmts → ScriptAnswers (Err cause) stmts) → IsDue text fault → Refuses {T = Values} (Err (fault_of_script cause)) fault
+due_in text script.NoMemory fault due none d = tt
+due_in text script.NotUtf8 fault due none d = by_cause text script.NotUtf8 fault due none d
+due_in text (script.BadToken line) fault due none d = by_cause text (script.BadToken line) fault due none d
+due_in text (script.NotLiteral line) fault due none d = by_cause text (script.NotLiteral line) fault due none d
+due_in text (script.Unclosed line) fault due none d = by_cause text (script.Unclosed line) fault due none d
+due_in text script.TooLong fault due none d = by_cause text script.TooLong fault due none d
+
+pub script_due : (text : List ℕ) (cause : ScriptFault) (found : ConfigFault) → found ≡ fault_of_script cause → ((f : ScriptFault) → IsScriptDue text f → ScriptRefuses (Err cause) f)
+    → ((stmts : List Stmt) → Spells text stmts → ScriptAnswers (Err cause) stmts) → (fault : ConfigFault) → IsDue text fault → Refuses {T = Values} (Err found) fault
+script_due text cause found e due none fault d = subst (λ (x : ConfigFault). Refuses {T = Values} (Err x) fault) (sym e) (due_in text cause fault due none d)

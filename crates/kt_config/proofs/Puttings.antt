@@ -1,0 +1,106 @@
+-- Last values that are kept in place.
+use Rattle.std.proofs.Common.{◌≡◌, ℕ, Bool, true, false, not, List, [], ◌∷◌, ◌++◌, refl, sym, ap, ◌∙◌, subst, Option, Some, None, append-nil}
+use Rattle.std.specs.Prelude.{if◌then◌else◌, unwrap_or}
+use Rattle.std.specs.Str.{bytes_eq}
+use Rattle.std.proofs.lemmas.List.Elements.{filter-append}
+use Rattle.kt_base.specs.declared.variable.Variable.{Variable}
+use Rattle.kt_base.specs.LastValues.{is_named, value_of, without, last_values}
+use Rattle.kt_base.proofs.Names.{same, same-flip, later-none, later-some, value_of-append, last_values-without}
+use Rattle.kt_base.proofs.LastValueLaws.{overlaid}
+
+-- a variable takes the place of the one with its name, or goes last
+abbrev pub put : List Variable → Variable → List Variable
+put [] pair = pair ∷ []
+put (first ∷ rest) pair = if is_named pair.name first then record { name = first.name; value = pair.value } ∷ rest else first ∷ put rest pair
+
+-- the value of the first variable with a name
+abbrev pub first_value : List ℕ → List Variable → Option (List ℕ)
+first_value name [] = None
+first_value name (first ∷ rest) = if is_named name first then Some first.value else first_value name rest
+
+-- what a pair that stands first is in the last values
+abbrev first_of : Variable → List Variable → Variable
+first_of pair pairs = record { name = pair.name; value = unwrap_or (value_of pair.name pairs) pair.value }
+
+-- a put under another name
+put-without-next : (n : List ℕ) (p y : Variable) (ys : List Variable) → bytes_eq n p.name ≡ false → put (without n ys) p ≡ without n (put ys p)
+    → (b d : Bool) → is_named p.name y ≡ b → is_named n y ≡ d → put (without n (y ∷ ys)) p ≡ without n (put (y ∷ ys) p)
+put-without-next n p y ys other h true true e f =
+    absurd (let g : bytes_eq n p.name ≡ true = subst (λ (m : List ℕ). bytes_eq n m ≡ true) (sym (same p.name y.name e)) f in cc)
+put-without-next n p y ys other h false true e f = rw (f, e, f) h
+put-without-next n p y ys other h true false e f = rw (f, e, f) refl
+put-without-next n p y ys other h false false e f = rw (f, e, f) (ap (λ (ps : List Variable). y ∷ ps) h)
+
+put-without : (n : List ℕ) (p : Variable) (ys : List Variable) → bytes_eq n p.name ≡ false → put (without n ys) p ≡ without n (put ys p)
+put-without n p [] other = rw other refl
+put-without n p (y ∷ ys) other = put-without-next n p y ys other (put-without n p ys other) (is_named p.name y) (is_named n y) refl refl
+
+-- a further pair doesn't change the value of another name, nor show where its own name is taken out
+value_of-further : (name : List ℕ) (xs : List Variable) (pair : Variable) → bytes_eq name pair.name ≡ false → value_of name (xs ++ pair ∷ []) ≡ value_of name xs
+value_of-further name xs pair other = value_of-append name xs (pair ∷ []) ∙ rw other refl
+
+without-further : (name : List ℕ) (xs : List Variable) (pair : Variable) → bytes_eq name pair.name ≡ true → without name (xs ++ pair ∷ []) ≡ without name xs
+without-further name xs pair e = filter-append (λ p. not (is_named name p)) xs (pair ∷ []) ∙ rw e (append-nil (without name xs))
+
+first-further : (x pair : Variable) (xs : List Variable) → bytes_eq x.name pair.name ≡ false → first_of x (xs ++ pair ∷ []) ≡ first_of x xs
+first-further x pair xs other = rw (value_of-further x.name xs pair other) refl
+
+put-last-next : (x p : Variable) (xs : List Variable) → put (last_values xs) p ≡ last_values (xs ++ p ∷ [])
+    → (b : Bool) → is_named p.name x ≡ b → put (last_values (x ∷ xs)) p ≡ last_values (x ∷ xs ++ p ∷ [])
+put-last-next x p xs h true e =
+    let f : bytes_eq x.name p.name ≡ true = same-flip x.name p.name ∙ e in
+    let value : value_of x.name (xs ++ p ∷ []) ≡ Some p.value = value_of-append x.name xs (p ∷ []) ∙ rw f refl in
+    let tail : without x.name (last_values (xs ++ p ∷ [])) ≡ without x.name (last_values xs)
+    = sym (last_values-without x.name (xs ++ p ∷ [])) ∙ ap last_values (without-further x.name xs p f) ∙ last_values-without x.name xs in
+    rw (e, value, tail) refl
+put-last-next x p xs h false e =
+    let f : bytes_eq x.name p.name ≡ false = same-flip x.name p.name ∙ e in
+    let tail : put (without x.name (last_values xs)) p ≡ without x.name (last_values (xs ++ p ∷ []))
+    = put-without x.name p (last_values xs) f ∙ ap (without x.name) h in
+    rw e (ap (λ (ps : List Variable). first_of x xs ∷ ps) tail ∙ ap (λ (v : Variable). v ∷ without x.name (last_values (xs ++ p ∷ []))) (sym (first-further x p xs f)))
+
+-- a put is one pair more
+put-last : (xs : List Variable) (p : Variable) → put (last_values xs) p ≡ last_values (xs ++ p ∷ [])
+put-last [] p = refl
+put-last (x ∷ xs) p = put-last-next x p xs (put-last xs p) (is_named p.name x) refl
+
+-- last values are their own last values
+pub twice : (xs : List Variable) → last_values (last_values xs) ≡ last_values xs
+twice xs = overlaid [] xs
+
+-- a put into last values
+pub put-settled : (old new : List Variable) (p : Variable) → old ≡ last_values old → new ≡ put old p → new ≡ last_values (old ++ p ∷ [])
+put-settled old new p settled e = e ∙ ap (λ (xs : List Variable). put xs p) settled ∙ put-last old p
+
+pub settled-put : (old new : List Variable) (p : Variable) → old ≡ last_values old → new ≡ put old p → new ≡ last_values new
+settled-put old new p settled e =
+    let n : new ≡ last_values (old ++ p ∷ []) = put-settled old new p settled e in
+    n ∙ sym (twice (old ++ p ∷ [])) ∙ ap last_values (sym n)
+
+-- one more of what came before the last values
+pub put-twice : (xs : List Variable) (p : Variable) → last_values (last_values xs ++ p ∷ []) ≡ last_values (xs ++ p ∷ [])
+put-twice xs p = overlaid xs (p ∷ [])
+
+-- the first value of a name among last values
+first-other-next : (m n : List ℕ) (y : Variable) (ys : List Variable) → bytes_eq m n ≡ false → first_value m (without n ys) ≡ first_value m ys
+    → (d : Bool) → is_named n y ≡ d → first_value m (without n (y ∷ ys)) ≡ first_value m (y ∷ ys)
+first-other-next m n y ys other h true f =
+    let g : is_named m y ≡ false = subst (λ (k : List ℕ). bytes_eq m k ≡ false) (same n y.name f) other in rw (f, g) h
+first-other-next m n y ys other h false f = rw f (ap (λ (o : Option (List ℕ)). if is_named m y then Some y.value else o) h)
+
+first-other : (m n : List ℕ) (ys : List Variable) → bytes_eq m n ≡ false → first_value m (without n ys) ≡ first_value m ys
+first-other m n [] other = refl
+first-other m n (y ∷ ys) other = first-other-next m n y ys other (first-other m n ys other) (is_named n y) refl
+
+first-last-next : (name : List ℕ) (x : Variable) (xs : List Variable) → first_value name (last_values xs) ≡ value_of name xs
+    → (b : Bool) → is_named name x ≡ b → first_value name (last_values (x ∷ xs)) ≡ value_of name (x ∷ xs)
+first-last-next name x xs h true e =
+    rw (e) (ap (λ (m : List ℕ). Some (unwrap_or (value_of m xs) x.value)) (sym (same name x.name e)) ∙ sym (later-some (value_of name xs) x.value))
+first-last-next name x xs h false e = rw e (first-other name x.name (last_values xs) e ∙ h ∙ sym (later-none (value_of name xs)))
+
+first-last : (name : List ℕ) (xs : List Variable) → first_value name (last_values xs) ≡ value_of name xs
+first-last name [] = refl
+first-last name (x ∷ xs) = first-last-next name x xs (first-last name xs) (is_named name x) refl
+
+pub first-settled : (name : List ℕ) (xs : List Variable) → xs ≡ last_values xs → first_value name xs ≡ value_of name xs
+first-settled name xs settled = ap (first_value name) settled ∙ first-last name xs

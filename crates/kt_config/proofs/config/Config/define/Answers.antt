@@ -1,0 +1,19 @@
+use Rattle.std.proofs.Common.{refl}
+use Rattle.kt_config.proofs.Adding.{adds, adds-none, adds-suite}
+use Rattle.kt_config.proofs.config.Config.define.Goals as goal
+
+pub returns-in-Architecture-clause-ok : goal.returns-in-Architecture-clause-ok
+returns-in-Architecture-clause-ok c = rw (c.in-Architecture.is, ← c.self.view_is) (adds _ _ _ refl refl refl (adds-none _ _ _ refl (λ suite. refl)))
+
+pub returns-in-Platform-clause-ok : goal.returns-in-Platform-clause-ok
+returns-in-Platform-clause-ok c = rw (c.in-Platform.is, ← c.self.view_is) (adds _ _ _ refl refl refl (adds-none _ _ _ refl (λ suite. refl)))
+
+pub returns-in-Parallelism-clause-ok : goal.returns-in-Parallelism-clause-ok
+returns-in-Parallelism-clause-ok c = rw (c.in-Parallelism.is, ← c.self.view_is) (adds _ _ _ refl refl refl (adds-none _ _ _ refl (λ suite. refl)))
+
+pub returns-in-UnprivilegedUser-clause-ok : goal.returns-in-UnprivilegedUser-clause-ok
+returns-in-UnprivilegedUser-clause-ok c = rw c.in-UnprivilegedUser.is (adds _ _ _ refl refl refl (adds-none _ _ _ refl (λ suite. refl)))
+
+pub returns-in_ok-put-in-OfSuite-clause-ok : goal.returns-in_ok-put-in-OfSuite-clause-ok
+returns-in_ok-put-in-OfSuite-clause-ok c =
+    rw (c.in-OfSuite.is, ← c.self.view_is) (adds _ _ _ refl refl refl (adds-suite _ _ _ _ c.in_ok-put-in-OfSuite.ensures.ok))

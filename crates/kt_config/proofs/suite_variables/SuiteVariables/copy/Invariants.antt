@@ -1,0 +1,10 @@
+use Rattle.std.proofs.Common.{◌≡◌, ◌++◌, map, length}
+use Rattle.kt_config.specs.Values.{variable_in}
+use Rattle.kt_config.proofs.suite_variables.SuiteVariables.copy.Given as goal
+
+-- what was copied, and what is left
+abbrev pub invariant-loop-name : goal.invariant-loop-name
+invariant-loop-name l = l.variables ++ map variable_in l.rest ≡ l.self
+
+abbrev pub decreases-loop-name : goal.decreases-loop-name
+decreases-loop-name l = length l.rest

@@ -1,0 +1,29 @@
+use Rattle.std.proofs.Common.{rules, ◌≡◌, ◌∙◌, ap, map, sym, List, [], ◌∷◌, ◌++◌, Some}
+use Rattle.std.specs.String.{string_eq}
+use Rattle.indexmap.specs.IndexMap.{insert_entry}
+use Rattle.kt_base.specs.declared.variable.Variable.{Variable}
+use Rattle.kt_base.specs.LastValues.{last_values}
+use Rattle.kt_config.specs.Values.{group_in}
+use Rattle.kt_config.proofs.Entries.{unwritten, adds-there, adds-new}
+use Rattle.kt_config.proofs.suites.Suites.put.Goals as goal
+
+pub returns-in_err-put-clause-err : goal.returns-in_err-put-clause-err
+returns-in_err-put-clause-err c =
+    let e : map group_in (c.get_mut.follows.lender c.put.new.self).entries ≡ c.args.self.now
+    = ap (λ es. map group_in es) ((c.get_mut.follows.holds c.put.new.self).0)
+    ∙ unwritten c.as_str.result.now c.put.new.self c.self.inside.groups.entries (sym c.in-Some.ensures.value ∙ ap Some (sym c.in_err-put.ensures.err))
+    ∙ c.self.view_is in
+    search (rules, e)
+
+pub returns-in-Some-clause-ok : goal.returns-in-Some-clause-ok
+returns-in-Some-clause-ok c = adds-there c.as_str.result.now c.args.suite c.args.variable c.in-Some.variables.now c.put.new.self
+    c.self.inside.groups.entries (c.get_mut.follows.lender c.put.new.self).entries c.args.self.now c.as_str.utf8 c.as_str.ensures.characters
+    c.self.view_is (sym c.in-Some.ensures.value) c.in_ok-put.ensures.ok ((c.get_mut.follows.holds c.put.new.self).0)
+
+pub returns-clause-ok : goal.returns-clause-ok
+returns-clause-ok c =
+    let one = c.in_ok-put-2.ensures.ok ∙ ap (λ (xs : List Variable). last_values (xs ++ c.args.variable ∷ [])) c.new-variables.ensures in
+    let entries = c.in_ok-insert.ensures.entries ∙ ap (λ m. insert_entry string_eq m.entries c.key_of.result c.put-2.new.self) c.get_mut.follows.holds-at-none in
+    adds-new c.as_str.result.now c.args.suite c.key_of.result c.args.variable c.put-2.new.self
+    c.self.inside.groups.entries c.insert.new.self.entries c.args.self.now c.as_str.utf8 c.as_str.ensures.characters
+    c.self.view_is (sym c.in_default.ensures.value) c.key_of.ensures one entries

@@ -1,0 +1,54 @@
+-- Which values and names are accepted.
+use Rattle.std.specs.Prelude.{ℕ, Bool, true, false, nat_le, not, ◌+◌, ◌*◌, ◌-◌, ◌==◌, ◌&&◌, ◌||◌, List, [], ◌∷◌, Option, Some, None, if◌then◌else◌}
+use Rattle.std.specs.List.{list_any}
+use Rattle.kt_base.specs.Utf8.{utf8}
+
+-- the greatest number of cases that may run at once
+abbrev pub greatest_width : ℕ
+greatest_width = 256
+
+-- a text has no character
+abbrev pub is_empty : List ℕ → Bool
+is_empty [] = true
+is_empty (c ∷ cs) = false
+
+-- 0 to 9
+abbrev pub is_digit : ℕ → Bool
+is_digit c = nat_le 48 c && nat_le c 57
+
+-- any byte but 0 to 9
+abbrev pub is_no_digit : ℕ → Bool
+is_no_digit c = not (is_digit c)
+
+-- the zero byte
+abbrev pub is_zero : ℕ → Bool
+is_zero c = c == 0
+
+-- a byte that is no letter, no digit, no `_` and no `-`
+abbrev pub is_strange : ℕ → Bool
+is_strange c = not ((nat_le 97 c && nat_le c 122) || (nat_le 65 c && nat_le c 90) || is_digit c || c == 95 || c == 45)
+
+-- the text has a zero byte
+abbrev pub has_zero : List ℕ → Bool
+has_zero value = list_any is_zero (utf8 value)
+
+-- the name of a suite's variable: letters, digits, `_` and `-`, one or more
+abbrev pub is_variable : List ℕ → Bool
+is_variable name = not (is_empty name) && not (list_any is_strange (utf8 name))
+
+-- the number of decimal digits that follow those of v
+abbrev pub decimal_from : ℕ → List ℕ → ℕ
+decimal_from v [] = v
+decimal_from v (c ∷ cs) = decimal_from (10 * v + (c - 48)) cs
+
+-- the number, if so many cases may run at once
+abbrev pub in_range : ℕ → Option ℕ
+in_range n = if nat_le 1 n && nat_le n greatest_width then Some n else None
+
+-- the width that bytes spell in decimal, leading zeros allowed
+abbrev pub width_in : List ℕ → Option ℕ
+width_in bytes = if list_any is_no_digit bytes then None else in_range (decimal_from 0 bytes)
+
+-- the width that a text spells
+abbrev pub width_of : List ℕ → Option ℕ
+width_of value = width_in (utf8 value)

@@ -1,0 +1,5 @@
+pub mod Forms
+pub mod Names
+pub mod Values
+pub mod Holding
+pub mod Reading

@@ -1,0 +1,63 @@
+-- Which variable a name stands for, and what a value for it means.
+use Rattle.std.specs.Prelude.{ℕ, Bool, true, false, not, ◌==◌, ◌&&◌, List, [], ◌∷◌, Option, Some, None, Result, Ok, Err, bytes_eq, codes, if◌then◌else◌}
+use Rattle.kt_config.specs.declared.definition.Definition.{Definition}
+use Rattle.kt_config.specs.declared.definition.Definition.TheVariants.{Architecture, Platform, Parallelism, UnprivilegedUser, OfSuite}
+use Rattle.kt_config.specs.declared.fault.ConfigFault.{ConfigFault}
+use Rattle.kt_config.specs.declared.fault.ConfigFault.TheVariants.{UnknownVariable, BadValue}
+use Rattle.kt_config.specs.Forms.{is_empty, has_zero, is_variable, width_of}
+
+-- a definition, or the fault of its name or value
+abbrev pub Meaning : Type 0
+Meaning = Result Definition ConfigFault
+
+-- a definition whose value may be any text but the empty one
+abbrev pub unless_empty : Bool → Definition → Meaning
+unless_empty true definition = Err BadValue
+unless_empty false definition = Ok definition
+
+-- a definition of the width
+abbrev pub of_width : Option ℕ → Meaning
+of_width None = Err BadValue
+of_width (Some width) = Ok (Parallelism width)
+
+-- a value for a name without dots: a variable of the runner itself
+abbrev pub runner_definition : List ℕ → List ℕ → Meaning
+runner_definition name value =
+    if bytes_eq name (codes "architecture") then unless_empty (is_empty value) (Architecture value)
+    else if bytes_eq name (codes "platform") then unless_empty (is_empty value) (Platform value)
+    else if bytes_eq name (codes "unprivileged_user") then unless_empty (is_empty value) UnprivilegedUser
+    else if bytes_eq name (codes "parallelism") then of_width (width_of value)
+    else Err UnknownVariable
+
+-- these three parts name a variable of a suite
+abbrev pub is_suite_variable : List ℕ → List ℕ → List ℕ → Bool
+is_suite_variable root suite name = bytes_eq root (codes "test_suites") && not (is_empty suite) && is_variable name
+
+-- a value for a name of three parts: a variable of a suite, which may be any text without a zero byte
+abbrev pub suite_definition : List ℕ → List ℕ → List ℕ → List ℕ → Meaning
+suite_definition root suite name value =
+    if is_suite_variable root suite name
+    then if has_zero value then Err BadValue else Ok (OfSuite suite (record { name = name; value = value }))
+    else Err UnknownVariable
+
+-- a value for a name in parts
+abbrev pub definition_of : List (List ℕ) → List ℕ → Meaning
+definition_of [] value = Err UnknownVariable
+definition_of (name ∷ []) value = runner_definition name value
+definition_of (root ∷ suite ∷ []) value = Err UnknownVariable
+definition_of (root ∷ suite ∷ name ∷ []) value = suite_definition root suite name value
+definition_of (root ∷ suite ∷ name ∷ more ∷ rest) value = Err UnknownVariable
+
+-- a character more in front of the first part
+abbrev pub in_front : ℕ → List (List ℕ) → List (List ℕ)
+in_front c [] = []
+in_front c (part ∷ parts) = (c ∷ part) ∷ parts
+
+-- the parts of a name between its dots
+abbrev pub dotted : List ℕ → List (List ℕ)
+dotted [] = [] ∷ []
+dotted (c ∷ cs) = if c == 46 then [] ∷ dotted cs else in_front c (dotted cs)
+
+-- a value for a name with dots
+abbrev pub definition_named : List ℕ → List ℕ → Meaning
+definition_named name value = definition_of (dotted name) value

@@ -1,0 +1,110 @@
+-- What a configuration file defines, and what a call answers.
+use Rattle.std.specs.Prelude.{ℕ, ◌≡◌, Bool, false, ◌==◌, ◌&&◌, List, [], ◌∷◌, Result, Ok, Err, bytes_eq, codes, if◌then◌else◌, ◌⊎◌}
+use Rattle.kt_script.specs.declared.fault.ScriptFault.{ScriptFault}
+use Rattle.kt_script.specs.declared.fault.ScriptFault.TheVariants as script
+use Rattle.kt_script.specs.declared.syntax.Action.{Action}
+use Rattle.kt_script.specs.declared.syntax.Action.TheVariants.{Call, Assign}
+use Rattle.kt_script.specs.declared.syntax.Arg.{Arg}
+use Rattle.kt_script.specs.declared.syntax.Arg.TheVariants.{Value, Table}
+use Rattle.kt_script.specs.declared.syntax.Stmt.{Stmt}
+use Rattle.kt_script.specs.declared.literal.Literal.TheVariants.{Text, Number, Truth}
+use Rattle.kt_script.specs.LiteralText.{text_of}
+use Rattle.kt_script.specs.Spelling.{Spells, IsDue as IsScriptDue}
+use Rattle.kt_config.specs.declared.definition.Definition.{Definition}
+use Rattle.kt_config.specs.declared.fault.ConfigFault.{ConfigFault}
+use Rattle.kt_config.specs.declared.fault.ConfigFault.TheVariants.{NoMemory, NotAssignment, NoSyntax, Script}
+use Rattle.kt_config.specs.Names.{Meaning, definition_of}
+use Rattle.kt_config.specs.Values.{Values}
+use Rattle.kt_config.specs.Holding.{Holds, Adds}
+
+-- the argument of `syntax(2)`
+abbrev pub is_version : Arg → Bool
+is_version (Value (Number n)) = n == 2
+is_version (Value (Text t)) = false
+is_version (Value (Truth b)) = false
+is_version (Table pairs) = false
+
+-- the statement is `syntax(2)`
+abbrev pub is_opening : Action → Bool
+is_opening (Call name arg) = bytes_eq name (codes "syntax") && is_version arg
+is_opening (Assign parts value) = false
+
+-- what a statement after the first means
+abbrev pub meaning_of : Action → Meaning
+meaning_of (Call name arg) = Err NotAssignment
+meaning_of (Assign parts value) = definition_of parts (text_of value)
+
+-- the definitions of a file in order, or its first fault
+abbrev pub Outcome : Type 0
+Outcome = Result (List Definition) ConfigFault
+
+-- a definition more in front
+abbrev pub with_first : Definition → Outcome → Outcome
+with_first definition (Ok definitions) = Ok (definition ∷ definitions)
+with_first definition (Err fault) = Err fault
+
+-- a statement more in front: behind its fault nothing counts
+abbrev pub with_meaning : Meaning → Outcome → Outcome
+with_meaning (Ok definition) rest = with_first definition rest
+with_meaning (Err fault) rest = Err fault
+
+-- what the statements after the first define
+abbrev pub definitions_in : List Stmt → Outcome
+definitions_in [] = Ok []
+definitions_in (stmt ∷ stmts) = with_meaning (meaning_of stmt.action) (definitions_in stmts)
+
+-- what a script defines, whose first statement must be `syntax(2)`
+abbrev pub outcome_of : List Stmt → Outcome
+outcome_of [] = Err NoSyntax
+outcome_of (stmt ∷ stmts) = if is_opening stmt.action then definitions_in stmts else Err NoSyntax
+
+-- this fault is due to a text: its script's, or else that of its statements
+abbrev pub IsDue : List ℕ → ConfigFault → Type 0
+IsDue text fault =
+    ((cause : ScriptFault) × IsScriptDue text cause × (fault ≡ Script cause))
+    ⊎ ((stmts : List Stmt) × Spells text stmts × (outcome_of stmts ≡ Err fault))
+
+-- a text is a configuration file with these values
+abbrev pub IsRead : List ℕ → Values → Type 0
+IsRead text config =
+    (stmts : List Stmt) × (definitions : List Definition)
+    × Spells text stmts × (outcome_of stmts ≡ Ok definitions) × Holds config definitions
+
+-- a refusal for another reason than memory
+abbrev pub IfFault : {T : Type 0} → Result T ConfigFault → (ConfigFault → Type 0) → Type 0
+IfFault (Ok x) P = Unit {0}
+IfFault (Err (NoMemory refusal)) P = Unit {0}
+IfFault (Err fault) P = P fault
+
+-- the answer is a configuration with the values of these definitions, unless memory ran out
+abbrev pub Answers : Result Values ConfigFault → List Definition → Type 0
+Answers (Ok config) definitions = Holds config definitions
+Answers (Err (NoMemory refusal)) definitions = Unit {0}
+Answers (Err fault) definitions = ⊥
+
+-- the refusal is for this fault, unless memory ran out
+abbrev pub Refuses : {T : Type 0} → Result T ConfigFault → ConfigFault → Type 0
+Refuses (Ok x) fault = ⊥
+Refuses (Err (NoMemory refusal)) fault = Unit {0}
+Refuses (Err found) fault = found ≡ fault
+
+-- a configuration with the values of what a script defines, or the script's fault
+abbrev pub Gives : Result Values ConfigFault → Outcome → Type 0
+Gives (Ok config) (Ok definitions) = Holds config definitions
+Gives (Ok config) (Err fault) = ⊥
+Gives (Err found) (Ok definitions) = ⊥
+Gives (Err found) (Err fault) = found ≡ fault
+
+-- a value was set by what it means
+abbrev pub Becomes : Values → Values → Meaning → Type 0
+Becomes old new (Ok definition) = Adds definition old new
+Becomes old new (Err fault) = ⊥
+
+-- the fault of a file that is no script; memory that runs out is one fault, wherever it comes
+abbrev pub fault_of_script : ScriptFault → ConfigFault
+fault_of_script script.NoMemory = NoMemory (record {})
+fault_of_script script.NotUtf8 = Script script.NotUtf8
+fault_of_script (script.BadToken line) = Script (script.BadToken line)
+fault_of_script (script.NotLiteral line) = Script (script.NotLiteral line)
+fault_of_script (script.Unclosed line) = Script (script.Unclosed line)
+fault_of_script script.TooLong = Script script.TooLong

@@ -1,0 +1,153 @@
+ghost use Rattle.std.specs.Prelude.{◌≡◌, ◌≤◌, [], List, OnOk, OnErr, IfOk, Ok, Err, unwrap_or, codes, chars};
+ghost use Rattle.std.specs.Option.{option_copied};
+ghost use Rattle.kt_script.specs.Spelling.{Spells};
+ghost use Rattle.kt_script.specs.declared.syntax.Stmt.{Stmt};
+ghost use Rattle.kt_config.specs.declared.definition.Definition.{Definition};
+ghost use Rattle.kt_config.specs.declared.fault.ConfigFault.{ConfigFault};
+ghost use Rattle.kt_config.specs.Forms.{greatest_width};
+ghost use Rattle.kt_config.specs.Names.{definition_named};
+ghost use Rattle.kt_config.specs.Values.{Values, variables_of};
+ghost use Rattle.kt_config.specs.Holding.{Holds, Adds};
+ghost use Rattle.kt_config.specs.Reading.{outcome_of, IsDue, IsRead, IfFault, Answers, Refuses, Becomes};
+
+use crate::definition::Definition;
+use crate::fault::ConfigFault;
+use crate::meaning::definition_of;
+use crate::names::dotted;
+use crate::reading::{read_script, script_fault};
+use crate::suite_variables::SuiteVariables;
+use crate::suites::Suites;
+use crate::width::Width;
+use kt_base::{NoMemory, Text};
+use kt_script::parse;
+use std::alloc::Global;
+use std::marker::Model;
+
+/// The variables of the runner and of the test suites, each with the last value that it was given. Contracts see the
+/// values; `Holds` says which definitions they are the last ones of.
+#[derive(Drop)]
+pub struct Config {
+    alloc: Global,
+    architecture: Option<Text>,
+    platform: Option<Text>,
+    parallelism: Width,
+    suites: Suites,
+}
+
+impl Model for Config {
+    ghost Value = { Values };
+
+    ghost view = { λ c. record {
+      architecture = c.architecture;
+      platform = c.platform;
+      parallelism = c.parallelism;
+      suites = c.suites;
+    } };
+}
+
+impl Config {
+    /// No definitions, which take no memory.
+    pub fn new(alloc: Global) -> Config
+        ensures { Holds result [] }
+    {
+        Config {
+            alloc,
+            architecture: None,
+            platform: None,
+            parallelism: Width::one(),
+            suites: Suites::new(alloc),
+        }
+    }
+
+    /// Takes a definition over those that stood before.
+    pub(crate) fn define(&mut self, definition: Definition) -> Result<(), NoMemory>
+        ensures ok { OnOk result (Adds definition self.old self.new) }
+        ensures err { OnErr result (self.new ≡ self.old) }
+    {
+        match definition {
+            Definition::Architecture(value) => {
+                self.architecture = Some(value);
+                Ok(())
+            }
+            Definition::Platform(value) => {
+                self.platform = Some(value);
+                Ok(())
+            }
+            Definition::Parallelism(width) => {
+                self.parallelism = width;
+                Ok(())
+            }
+            Definition::UnprivilegedUser => Ok(()),
+            Definition::OfSuite(suite, variable) => {
+                self.suites.put(suite, variable)?;
+                Ok(())
+            }
+        }
+    }
+
+    /// The variables of a suite, if it has any. It takes constant time and no memory.
+    pub fn suite_vars(&self, suite: &Text) -> Option<&SuiteVariables>
+        ensures { option_copied result ≡ variables_of suite.now self.now.suites }
+    {
+        self.suites.get(suite)
+    }
+
+    /// The machine's architecture, `unknown` if none was given. It takes no memory.
+    pub fn architecture(&self) -> &str
+        ensures { chars result.now ≡ unwrap_or self.now.architecture (codes "unknown") }
+    {
+        match &self.architecture {
+            Some(value) => value.as_str(),
+            None => "unknown",
+        }
+    }
+
+    /// The platform, `unknown` if none was given. It takes no memory.
+    pub fn platform(&self) -> &str
+        ensures { chars result.now ≡ unwrap_or self.now.platform (codes "unknown") }
+    {
+        match &self.platform {
+            Some(value) => value.as_str(),
+            None => "unknown",
+        }
+    }
+
+    /// How many cases may run at once, 1 if nothing was given. It takes no memory.
+    pub fn parallelism(&self) -> u32
+        ensures value { result ≡ self.now.parallelism }
+        ensures within { (1 ≤ result) × (result ≤ greatest_width) }
+    {
+        self.parallelism.cases()
+    }
+
+    /// Gives a variable a value, by its name, whose parts stand between dots (kyua(1), `--variable`). A refused call
+    /// changes nothing.
+    pub fn set(&mut self, name: &Text, value: &Text) -> Result<(), ConfigFault>
+        ensures ok { OnOk result (Becomes self.old self.new (definition_named name.now value.now)) }
+        ensures refused { IfFault result (λ fault. definition_named name.now value.now ≡ Err fault) }
+        ensures err { OnErr result (self.new ≡ self.old) }
+    {
+        let parts = dotted(self.alloc, name)?;
+        let definition = definition_of(parts.as_slice(), value.copy()?)??;
+        self.define(definition)?;
+        Ok(())
+    }
+
+    /// The configuration that a file spells (this profile's kyua.conf(5)).
+    pub fn read(alloc: Global, text: &[u8]) -> Result<Config, ConfigFault>
+        // A file with these values.
+        ensures accepted { IfOk result (λ config. IsRead text.now config) }
+        // Each such file, unless memory runs out.
+        ensures only { (stmts : List Stmt) → (definitions : List Definition) → Spells text.now stmts
+            → outcome_of stmts ≡ Ok definitions → Answers result definitions }
+        // The fault of a text that is none.
+        ensures refused { IfFault result (λ fault. IsDue text.now fault) }
+        // Each text with a fault, unless memory runs out.
+        ensures due { (fault : ConfigFault) → IsDue text.now fault → Refuses result fault }
+    {
+        match parse(alloc, text) {
+            Err(fault) => Err(script_fault(fault)),
+            Ok(stmts) => read_script(alloc, stmts.as_slice())?,
+        }
+    }
+}

@@ -1,0 +1,17 @@
+//! The configuration of the runner and of its test suites: the last value of each variable.
+#![tactic(auto)]
+
+mod config;
+mod definition;
+mod fault;
+mod meaning;
+mod names;
+mod reading;
+mod suite_variables;
+mod suites;
+mod width;
+mod words;
+
+pub use config::Config;
+pub use fault::ConfigFault;
+pub use suite_variables::SuiteVariables;

@@ -1,0 +1,81 @@
+ghost use Rattle.std.specs.Prelude.{◌≡◌, IfOk};
+ghost use Rattle.kt_config.specs.Reading.{is_version, is_opening, meaning_of, definitions_in, outcome_of, fault_of_script, Gives};
+
+use crate::config::Config;
+use crate::definition::Definition;
+use crate::fault::ConfigFault;
+use crate::meaning::definition_of;
+use crate::words::is_word;
+use kt_base::NoMemory;
+use kt_script::{Action, Arg, Literal, ScriptFault, Stmt};
+use std::alloc::Global;
+
+/// The fault of a file that is no script.
+pub fn script_fault(fault: ScriptFault) -> ConfigFault
+    ensures { result ≡ fault_of_script fault }
+{
+    match fault {
+        ScriptFault::NoMemory => ConfigFault::NoMemory(NoMemory),
+        _ => ConfigFault::Script(fault),
+    }
+}
+
+fn is_version(arg: &Arg) -> bool
+    ensures { result ≡ is_version arg.now }
+{
+    match arg {
+        Arg::Value(Literal::Number(n)) => *n == 2,
+        _ => false,
+    }
+}
+
+/// Whether a statement is `syntax(2)`.
+fn is_opening(action: &Action) -> bool
+    ensures { result ≡ is_opening action.now }
+{
+    match action {
+        Action::Call(name, arg) => is_word(name, "syntax") && is_version(arg),
+        Action::Assign(_, _) => false,
+    }
+}
+
+/// What a statement after the first means.
+fn meaning_of(alloc: Global, action: &Action) -> Result<Result<Definition, ConfigFault>, NoMemory>
+    ensures { IfOk result (λ meaning. meaning ≡ meaning_of action.now) }
+{
+    match action {
+        Action::Call(_, _) => Ok(Err(ConfigFault::NotAssignment)),
+        Action::Assign(parts, value) => definition_of(parts.as_slice(), value.text(alloc)?),
+    }
+}
+
+/// Reads the statements after the first, up to the first fault.
+fn read_statements(alloc: Global, stmts: &[Stmt]) -> Result<Result<Config, ConfigFault>, NoMemory>
+    ensures { IfOk result (λ outcome. Gives outcome (definitions_in stmts.now)) }
+{
+    let mut config = Config::new(alloc);
+    let mut rest = stmts;
+    while let Some((stmt, after)) = rest.split_first() {
+        match meaning_of(alloc, &stmt.action)? {
+            Err(fault) => return Ok(Err(fault)),
+            Ok(definition) => config.define(definition)?,
+        }
+        rest = after;
+    }
+    Ok(Ok(config))
+}
+
+/// Reads a script, whose first statement must be `syntax(2)`.
+pub fn read_script(alloc: Global, stmts: &[Stmt]) -> Result<Result<Config, ConfigFault>, NoMemory>
+    ensures { IfOk result (λ outcome. Gives outcome (outcome_of stmts.now)) }
+{
+    match stmts.split_first() {
+        None => Ok(Err(ConfigFault::NoSyntax)),
+        Some((first, rest)) => {
+            if is_opening(&first.action) {
+                return read_statements(alloc, rest);
+            }
+            Ok(Err(ConfigFault::NoSyntax))
+        }
+    }
+}

@@ -1,0 +1,56 @@
+ghost use Rattle.std.specs.Prelude.{◌≡◌, [], List, map, OnOk, OnErr};
+ghost use Rattle.std.specs.Option.{option_copied};
+ghost use Rattle.kt_config.specs.Values.{Group, group_in, variables_of};
+ghost use Rattle.kt_config.specs.Holding.{AddsToSuite};
+
+use crate::suite_variables::SuiteVariables;
+use crate::words::key_of;
+use indexmap::IndexMap;
+use kt_base::{NoMemory, Text, Variable};
+use std::alloc::Global;
+use std::marker::Model;
+
+/// The test suites that have variables, in the order of their first definitions.
+#[derive(Drop)]
+pub struct Suites {
+    groups: IndexMap<String, SuiteVariables>,
+}
+
+impl Model for Suites {
+    ghost Value = { List Group };
+
+    ghost view = { λ s. map group_in s.groups.entries };
+}
+
+impl Suites {
+    /// No suites, which take no memory.
+    pub fn new(alloc: Global) -> Suites
+        ensures { result ≡ [] }
+    {
+        Suites {
+            groups: IndexMap::new(alloc),
+        }
+    }
+
+    /// The variables of a suite, if it has any.
+    pub fn get(&self, suite: &Text) -> Option<&SuiteVariables>
+        ensures { option_copied result ≡ variables_of suite.now self.now }
+    {
+        self.groups.get(suite.as_str())
+    }
+
+    /// Gives a variable of a suite its value.
+    pub fn put(&mut self, suite: Text, variable: Variable) -> Result<(), NoMemory>
+        ensures ok { OnOk result (AddsToSuite suite variable self.old self.new) }
+        ensures err { OnErr result (self.new ≡ self.old) }
+    {
+        if let Some(variables) = self.groups.get_mut(suite.as_str()) {
+            variables.put(variable)?;
+            return Ok(());
+        }
+        let mut variables = SuiteVariables::new(*self.groups.allocator());
+        variables.put(variable)?;
+        self.groups.insert(key_of(suite), variables)?;
+        Ok(())
+    }
+}

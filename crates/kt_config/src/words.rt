@@ -1,0 +1,55 @@
+ghost use Rattle.std.specs.Prelude.{◌≡◌, bytes_eq, chars};
+ghost use Rattle.std.specs.List.{list_any};
+ghost use Rattle.std.specs.String.{string_bytes};
+ghost use Rattle.kt_config.specs.Forms.{is_empty, is_zero, is_strange, has_zero, is_variable};
+
+use kt_base::Text;
+
+/// Whether a text is this word.
+pub fn is_word(text: &Text, word: &str) -> bool
+    ensures { result ≡ bytes_eq text.now (chars word.now) }
+{
+    text.as_str() == word
+}
+
+/// Whether a text has no character.
+pub fn is_empty(text: &Text) -> bool
+    ensures { result ≡ is_empty text.now }
+{
+    text.as_str().is_empty()
+}
+
+/// Whether a text has a zero byte.
+pub fn has_zero(text: &Text) -> bool
+    ensures { result ≡ has_zero text.now }
+{
+    text.as_str().as_bytes().iter().any(|c| *c == 0)
+}
+
+fn is_strange(c: u8) -> bool
+    ensures { result ≡ is_strange c }
+{
+    !matches!(c, b'a'..=b'z' | b'A'..=b'Z' | b'0'..=b'9' | b'_' | b'-')
+}
+
+fn has_strange(bytes: &[u8]) -> bool
+    ensures { result ≡ list_any is_strange bytes.now }
+{
+    bytes.iter().any(|c| is_strange(*c))
+}
+
+/// Whether a variable of a suite may have this name: letters, digits, `_` and `-`, one or more.
+pub fn is_variable(name: &Text) -> bool
+    ensures { result ≡ is_variable name.now }
+{
+    !is_empty(name) && !has_strange(name.as_str().as_bytes())
+}
+
+/// The string of a text, by whose characters it is known as a key.
+pub fn key_of(text: Text) -> String
+    ensures { chars (string_bytes result) ≡ text }
+{
+    // That its bytes are those of its characters is known of a slice.
+    let _characters = text.as_str();
+    text.into_string()
+}

@@ -1,0 +1,18 @@
+-- A text's characters and its bytes tell it apart from other texts alike.
+use Rattle.std.proofs.Common.{◌≡◌, ℕ, List, [], ◌∷◌, length, Some, None, chars, ap, sym, refl, arith}
+use Rattle.std.specs.Str.{IsUtf8}
+use Rattle.std.proofs.lemmas.Str.{chars-nil, encodes-chars}
+use Rattle.std.specs.Prelude.{encode_utf8_all}
+use Rattle.kt_metadata.specs.Properties.{filled}
+
+-- a text with bytes has characters
+pub filled-empty : (bs : List ℕ) → length bs ≡ 0 → filled (chars bs) ≡ None
+filled-empty [] e = ap filled chars-nil
+filled-empty (b ∷ bs) e = absurd (omega (arith, e))
+
+filled-some_next : (cs bs : List ℕ) → encode_utf8_all cs ≡ bs → (length bs ≡ 0 → ⊥) → filled cs ≡ Some cs
+filled-some_next [] bs e full = absurd (full (ap length (sym e)))
+filled-some_next (c ∷ cs) bs e full = refl
+
+pub filled-some : (bs : List ℕ) → IsUtf8 bs → (length bs ≡ 0 → ⊥) → filled (chars bs) ≡ Some (chars bs)
+filled-some bs u full = filled-some_next (chars bs) bs (encodes-chars bs u) full

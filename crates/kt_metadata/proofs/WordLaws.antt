@@ -1,0 +1,77 @@
+-- The walk over a text finds its words, and no others are its words.
+use Rattle.std.proofs.Common.{◌≡◌, ℕ, Bool, true, false, not, List, [], ◌∷◌, ◌++◌, refl, sym, ap, ◌∙◌, subst, append_assoc, append-nil}
+use Rattle.std.specs.List.{list_any}
+use Rattle.std.proofs.lemmas.List.Folds.{list_any-append}
+use Rattle.kt_metadata.specs.Words.{is_space, is_word, IsBreak, AreWords, ended, words_from, words}
+use Rattle.kt_metadata.specs.Words as rule
+
+-- characters without white space, of which a word has at least one
+word-solid : (c : ℕ) (cs : List ℕ) → list_any is_space (c ∷ cs) ≡ false → is_word (c ∷ cs) ≡ true
+word-solid c cs e = ap not e
+
+not-true : (b : Bool) → not b ≡ true → b ≡ false
+not-true true e = sym e
+not-true false e = refl
+
+solid-word : (word : List ℕ) → is_word word ≡ true → list_any is_space word ≡ false
+solid-word [] e = refl
+solid-word (c ∷ cs) e = not-true (list_any is_space (c ∷ cs)) e
+
+-- one character more
+solid-more : (word : List ℕ) (c : ℕ) → list_any is_space word ≡ false → is_space c ≡ false → list_any is_space (word ++ c ∷ []) ≡ false
+solid-more word c w e = list_any-append is_space word (c ∷ []) ∙ rw (w, e) refl
+
+-- a begun word is over at the end
+found-end : (word : List ℕ) → list_any is_space word ≡ false → AreWords (word ++ []) (ended word [])
+found-end [] e = rule.over
+found-end (c ∷ cs) e = rule.one (c ∷ cs) [] [] (word-solid c cs e) tt rule.over
+
+-- and at white space
+found-space : (word : List ℕ) (c : ℕ) (cs : List ℕ) (more : List (List ℕ)) → list_any is_space word ≡ false → is_space c ≡ true → AreWords cs more
+    → AreWords (word ++ c ∷ cs) (ended word more)
+found-space [] c cs more e space rest = rule.blank c cs more space rest
+found-space (d ∷ ds) c cs more e space rest = rule.one (d ∷ ds) (c ∷ cs) more (word-solid d ds e) space (rule.blank c cs more space rest)
+
+found-next : (word : List ℕ) (c : ℕ) (cs : List ℕ) → list_any is_space word ≡ false
+    → AreWords cs (words_from [] cs)
+    → (list_any is_space (word ++ c ∷ []) ≡ false → AreWords ((word ++ c ∷ []) ++ cs) (words_from (word ++ c ∷ []) cs))
+    → (b : Bool) → is_space c ≡ b → AreWords (word ++ c ∷ cs) (words_from word (c ∷ cs))
+found-next word c cs e rest on true space =
+    rw space (found-space word c cs (words_from [] cs) e space rest)
+found-next word c cs e rest on false other =
+    rw other (subst (λ (t : List ℕ). AreWords t (words_from (word ++ c ∷ []) cs)) (append_assoc word (c ∷ []) cs) (on (solid-more word c e other)))
+
+-- what the walk finds are words
+found : (word text : List ℕ) → list_any is_space word ≡ false → AreWords (word ++ text) (words_from word text)
+found word [] e = found-end word e
+found word (c ∷ cs) e = found-next word c cs e (found [] cs refl) (λ solid. found (word ++ c ∷ []) cs solid) (is_space c) refl
+
+pub are-words : (text : List ℕ) → AreWords text (words text)
+are-words text = found [] text refl
+
+-- a word in front of a text
+through-next : (word : List ℕ) (c : ℕ) (cs text : List ℕ) → list_any is_space (c ∷ cs) ≡ false
+    → (list_any is_space cs ≡ false → words_from (word ++ c ∷ []) (cs ++ text) ≡ words_from ((word ++ c ∷ []) ++ cs) text)
+    → (b : Bool) → is_space c ≡ b → words_from word (c ∷ (cs ++ text)) ≡ words_from (word ++ c ∷ cs) text
+through-next word c cs text e on true space = absurd (let f : true ≡ false = rw space at e in cc)
+through-next word c cs text e on false other =
+    let f : list_any is_space cs ≡ false = rw other at e in
+    rw other (on f ∙ ap (λ (w : List ℕ). words_from w text) (append_assoc word (c ∷ []) cs))
+
+through : (word first text : List ℕ) → list_any is_space first ≡ false → words_from word (first ++ text) ≡ words_from (word ++ first) text
+through word [] text e = ap (λ (w : List ℕ). words_from w text) (sym (append-nil word))
+through word (c ∷ cs) text e = through-next word c cs text e (λ f. through (word ++ c ∷ []) cs text f) (is_space c) refl
+
+-- a word that is begun and then over
+over-next : (first text : List ℕ) → is_word first ≡ true → IsBreak text → words_from first text ≡ first ∷ words text
+over-next [] text e b = absurd (cc)
+over-next (c ∷ cs) [] e b = refl
+over-next (c ∷ cs) (d ∷ ds) e b = rw b refl
+
+-- a text has no other words
+pub no-others : (text : List ℕ) (found : List (List ℕ)) → AreWords text found → found ≡ words text
+no-others _ _ rule.over = refl
+no-others _ _ (rule.blank c text found space rest) = no-others text found rest ∙ sym (rw space refl)
+no-others _ _ (rule.one first text found is break rest) =
+    ap (λ (ws : List (List ℕ)). first ∷ ws) (no-others text found rest)
+    ∙ sym (through [] first text (solid-word first is) ∙ over-next first text is break)

@@ -1,0 +1,7 @@
+use Rattle.std.proofs.Common.{rules}
+use Rattle.std.specs.Str.{chars}
+use Rattle.kt_metadata.proofs.list_keys.custom_name.Goals as goal
+
+pub returns : goal.returns
+unfolding chars
+returns c = search rules

@@ -1,0 +1,10 @@
+use Rattle.std.proofs.Common.{◌≡◌, ◌++◌, length}
+use Rattle.kt_metadata.specs.Listing.{shown_pairs}
+use Rattle.kt_metadata.proofs.listing.add_all_shown.Given as goal
+
+-- the pairs so far, and those of what is left
+abbrev pub invariant-loop-property : goal.invariant-loop-property
+invariant-loop-property l = l.pairs ++ shown_pairs l.meta l.rest ≡ l.initial.pairs ++ shown_pairs l.meta l.properties
+
+abbrev pub decreases-loop-property : goal.decreases-loop-property
+decreases-loop-property l = length l.rest

@@ -1,0 +1,9 @@
+pub mod Words
+pub mod Values
+pub mod Properties
+pub mod ListKeys
+pub mod Overlays
+pub mod Effective
+pub mod Listing
+pub mod Configured
+pub mod Requirements

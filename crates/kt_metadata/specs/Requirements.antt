@@ -1,0 +1,92 @@
+-- The requirements of a case, row by row.
+use Rattle.std.specs.Prelude.{ℕ, Bool, true, false, not, nat_lt, ◌==◌, ◌||◌, bytes_eq, codes, length, List, [], ◌∷◌, ◌++◌, Option, Some, None, if◌then◌else◌}
+use Rattle.std.specs.List.{list_any, find}
+use Rattle.std.specs.Option.{option_map}
+use Rattle.std.specs.BTreeSet.{BTreeSet, contains_text}
+use Rattle.std.specs.declared.string.String.{String}
+use Rattle.kt_base.specs.Utf8.{utf8}
+use Rattle.kt_base.specs.Reasons.{counted_text, reason_text}
+use Rattle.kt_base.specs.declared.reason.Reason.{Reason}
+use Rattle.kt_base.specs.declared.phrase.Phrase.{Phrase}
+use Rattle.kt_base.specs.declared.phrase.Phrase.TheVariants.{MemoryNeeded, DiskNeeded}
+use Rattle.kt_config.specs.Values.{Values}
+use Rattle.kt_metadata.specs.declared.meta.Meta.{Meta}
+use Rattle.kt_metadata.specs.declared.host.Host.{Host}
+use Rattle.kt_metadata.specs.declared.user.User.{User}
+use Rattle.kt_metadata.specs.declared.user.User.TheVariants.{Root, Unprivileged}
+use Rattle.kt_metadata.specs.Configured.{is_undefined, architecture_of, platform_of}
+
+-- the text of a reason, if there is one
+abbrev pub text_in : Option Reason → Option (List ℕ)
+text_in reason = option_map reason_text reason
+
+-- a text with a word in it, if there is one
+abbrev pub around : List ℕ → List ℕ → Option (List ℕ) → Option (List ℕ)
+around front back word = option_map (λ w. front ++ (w ++ back)) word
+
+-- a word isn't among those that were found
+abbrev pub is_missing : {Z : Type 0} → BTreeSet (String Z) → List ℕ → Bool
+is_missing found word = not (contains_text found (utf8 word))
+
+-- nothing is listed, or this word is
+abbrev pub is_allowed : List (List ℕ) → List ℕ → Bool
+is_allowed listed word = length listed == 0 || list_any (λ w. bytes_eq w word) listed
+
+-- the first configuration word that isn't a variable of the suite
+abbrev pub config_row : Meta → Values → List ℕ → Option (List ℕ)
+config_row meta config suite =
+    around (codes "Required configuration property '") (codes "' not defined") (find (is_undefined config suite) meta.required_configs)
+
+-- architectures are listed, and the configured one isn't among them
+abbrev pub architecture_row : Meta → Values → Option (List ℕ)
+architecture_row meta config =
+    if is_allowed meta.allowed_architectures (architecture_of config) then None
+    else Some (codes "Current architecture '" ++ (architecture_of config ++ codes "' not supported"))
+
+-- platforms are listed, and the configured one isn't among them
+abbrev pub platform_row : Meta → Values → Option (List ℕ)
+platform_row meta config =
+    if is_allowed meta.allowed_platforms (platform_of config) then None
+    else Some (codes "Current platform '" ++ (platform_of config ++ codes "' not supported"))
+
+-- a case for root, and the host isn't root
+abbrev pub root_row : User → Bool → Option (List ℕ)
+root_row Root false = Some (codes "Requires root privileges")
+root_row user root = None
+
+-- a case for another user than root, and the host is root
+abbrev pub unprivileged_row : User → Bool → Option (List ℕ)
+unprivileged_row Unprivileged true = Some (codes "Requires an unprivileged user")
+unprivileged_row user root = None
+
+-- the first file that wasn't found
+abbrev pub file_row : Meta → Host → Option (List ℕ)
+file_row meta host = around (codes "Required file '") (codes "' not found") (find (is_missing host.files) meta.required_files)
+
+-- the first program that wasn't found
+abbrev pub program_row : Meta → Host → Option (List ℕ)
+program_row meta host = around (codes "Required program '") (codes "' not found") (find (is_missing host.programs) meta.required_programs)
+
+-- the host tells that it has less than is required; one that doesn't tell has enough
+abbrev pub amount_row : Phrase → ℕ → Option ℕ → Option (List ℕ)
+amount_row phrase due None = None
+amount_row phrase due (Some there) = if nat_lt there due then Some (counted_text phrase due there) else None
+
+-- the rows that only the host decides, in their order
+abbrev pub host_rows : Meta → Host → List (Option (List ℕ))
+host_rows meta host =
+    root_row meta.required_user host.root ∷ unprivileged_row meta.required_user host.root
+    ∷ file_row meta host ∷ program_row meta host
+    ∷ amount_row MemoryNeeded meta.required_memory host.memory ∷ amount_row DiskNeeded meta.required_disk_space host.disk ∷ []
+
+-- all nine rows in their order, each with its reason if it is unmet
+abbrev pub rows : Meta → Values → List ℕ → Host → List (Option (List ℕ))
+rows meta config suite host =
+    config_row meta config suite ∷ architecture_row meta config
+    ∷ platform_row meta config ∷ host_rows meta host
+
+-- the reason of the first row that has one
+abbrev pub first_reason : List (Option (List ℕ)) → Option (List ℕ)
+first_reason [] = None
+first_reason (None ∷ rest) = first_reason rest
+first_reason (Some reason ∷ rest) = Some reason

@@ -1,0 +1,94 @@
+-- Truth values, users, sizes, timeouts and paths, as they are written.
+use Rattle.std.specs.Prelude.{ℕ, ◌+◌, ◌*◌, ◌-◌, ◌^◌, ◌==◌, ◌||◌, ◌&&◌, Bool, true, false, not, nat_le, nat_lt, bytes_eq, codes, List, [], ◌∷◌, take, drop, Option, Some, None, if◌then◌else◌}
+use Rattle.std.specs.List.{list_any, prefix_len}
+use Rattle.kt_metadata.specs.declared.user.User.{User}
+use Rattle.kt_metadata.specs.declared.user.User.TheVariants.{Any, Root, Unprivileged}
+
+-- a truth value
+abbrev pub truth_of : List ℕ → Option Bool
+truth_of text = if bytes_eq text (codes "true") then Some true else if bytes_eq text (codes "yes") then Some true
+    else if bytes_eq text (codes "false") then Some false else if bytes_eq text (codes "no") then Some false else None
+
+-- the user that a case asks for
+abbrev pub user_of : List ℕ → Option User
+user_of text = if bytes_eq text [] then Some Any else if bytes_eq text (codes "root") then Some Root
+    else if bytes_eq text (codes "unprivileged") then Some Unprivileged else None
+
+-- 0 to 9
+abbrev pub is_digit : ℕ → Bool
+is_digit c = nat_le 48 c && nat_le c 57
+
+-- the decimal number whose first digits have the value v
+abbrev pub decimal_from : ℕ → List ℕ → ℕ
+decimal_from v [] = v
+decimal_from v (c ∷ cs) = decimal_from (10 * v + (c - 48)) cs
+
+-- a number below 2^64
+abbrev pub fits : ℕ → Option ℕ
+fits v = if nat_lt v (2 ^ 64) then Some v else None
+
+-- the number of one or more digits
+abbrev pub number_of : List ℕ → Option ℕ
+number_of [] = None
+number_of (c ∷ cs) = fits (decimal_from 0 (c ∷ cs))
+
+-- the digits at the front of a text
+abbrev pub digits_of : List ℕ → List ℕ
+digits_of text = take (prefix_len is_digit text) text
+
+-- what follows them
+abbrev pub after_digits : List ℕ → List ℕ
+after_digits text = drop (prefix_len is_digit text) text
+
+-- the factor of K, M, G and T, in either case
+abbrev pub unit_of : ℕ → Option ℕ
+unit_of c =
+    if c == 75 || c == 107 then Some 1024 else if c == 77 || c == 109 then Some (1024 ^ 2)
+    else if c == 71 || c == 103 then Some (1024 ^ 3) else if c == 84 || c == 116 then Some (1024 ^ 4) else None
+
+-- the factor after the digits of a size: 1, or that of a single letter
+abbrev pub factor_of : List ℕ → Option ℕ
+factor_of [] = Some 1
+factor_of (c ∷ []) = unit_of c
+factor_of (c ∷ d ∷ cs) = None
+
+-- a number times a factor
+abbrev pub scaled : Option ℕ → Option ℕ → Option ℕ
+scaled None factor = None
+scaled (Some v) None = None
+scaled (Some v) (Some factor) = fits (v * factor)
+
+-- a size in bytes
+abbrev pub size_of : List ℕ → Option ℕ
+size_of text = scaled (number_of (digits_of text)) (factor_of (after_digits text))
+
+-- the longest timeout, in seconds
+abbrev pub longest_timeout : ℕ
+longest_timeout = 1000000
+
+-- a number with nothing after it as a timeout in seconds; 0 stands for the longest
+abbrev pub limited : Option ℕ → List ℕ → Option ℕ
+limited (Some v) [] = if v == 0 then Some longest_timeout else if nat_le v longest_timeout then Some v else None
+limited (Some v) (c ∷ cs) = None
+limited None rest = None
+
+-- a timeout in seconds
+abbrev pub timeout_of : List ℕ → Option ℕ
+timeout_of text = limited (number_of (digits_of text)) (after_digits text)
+
+-- a slash
+abbrev pub is_slash : ℕ → Bool
+is_slash c = c == 47
+
+-- a path that begins with a slash
+abbrev pub is_absolute : List ℕ → Bool
+is_absolute [] = false
+is_absolute (c ∷ cs) = is_slash c
+
+-- a word that doesn't name a required file: it isn't absolute
+abbrev pub is_no_file : List ℕ → Bool
+is_no_file word = not (is_absolute word)
+
+-- a word that doesn't name a required program: a relative path with a slash
+abbrev pub is_no_program : List ℕ → Bool
+is_no_program word = if is_absolute word then false else list_any is_slash word

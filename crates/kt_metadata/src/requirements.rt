@@ -1,0 +1,56 @@
+ghost use Rattle.std.specs.Prelude.{◌≡◌, IfOk};
+ghost use Rattle.kt_metadata.specs.Requirements.{text_in, rows, host_rows, first_reason};
+
+use crate::host::Host;
+use crate::meta::Meta;
+use crate::reasons::{
+    amount_reason, architecture_reason, config_reason, file_reason, platform_reason,
+    program_reason, root_reason, unprivileged_reason,
+};
+use kt_base::{NoMemory, Phrase, Reason, Text};
+use kt_config::Config;
+use std::alloc::Global;
+
+fn host_reason(alloc: Global, meta: &Meta, host: &Host) -> Result<Option<Reason>, NoMemory>
+    ensures { IfOk result (λ reason. text_in reason ≡ first_reason (host_rows meta.now host.now)) }
+{
+    if let Some(reason) = root_reason(meta.required_user, host.root) {
+        return Ok(Some(reason));
+    }
+    if let Some(reason) = unprivileged_reason(meta.required_user, host.root) {
+        return Ok(Some(reason));
+    }
+    if let Some(reason) = file_reason(alloc, meta, host)? {
+        return Ok(Some(reason));
+    }
+    if let Some(reason) = program_reason(alloc, meta, host)? {
+        return Ok(Some(reason));
+    }
+    if let Some(reason) = amount_reason(Phrase::MemoryNeeded, meta.required_memory, host.memory) {
+        return Ok(Some(reason));
+    }
+    Ok(amount_reason(Phrase::DiskNeeded, meta.required_disk_space, host.disk))
+}
+
+/// Why a case of a suite isn't run: the first requirement that is unmet, in the order of this profile.
+pub fn unmet(
+    alloc: Global,
+    meta: &Meta,
+    config: &Config,
+    suite: &Text,
+    host: &Host,
+) -> Result<Option<Reason>, NoMemory>
+    ensures { IfOk result (λ reason. text_in reason
+        ≡ first_reason (rows meta.now config.now suite.now host.now)) }
+{
+    if let Some(reason) = config_reason(alloc, meta, config, suite)? {
+        return Ok(Some(reason));
+    }
+    if let Some(reason) = architecture_reason(alloc, meta, config)? {
+        return Ok(Some(reason));
+    }
+    if let Some(reason) = platform_reason(alloc, meta, config)? {
+        return Ok(Some(reason));
+    }
+    host_reason(alloc, meta, host)
+}

@@ -1,0 +1,52 @@
+ghost use Rattle.std.specs.Prelude.{◌≡◌, bytes_eq, chars};
+ghost use Rattle.std.specs.List.{list_any, find};
+ghost use Rattle.std.specs.Option.{option_copied};
+ghost use Rattle.kt_metadata.specs.Configured.{is_undefined};
+ghost use Rattle.kt_metadata.specs.Requirements.{is_missing, is_allowed};
+
+use crate::texts::is_text;
+use kt_base::Text;
+use kt_config::Config;
+use std::collections::BTreeSet;
+
+fn is_undefined(config: &Config, suite: &Text, name: &Text) -> bool
+    ensures { result ≡ is_undefined config.now suite.now name.now }
+{
+    match config.suite_vars(suite) {
+        None => true,
+        Some(variables) => !variables.is_defined(name),
+    }
+}
+
+fn is_missing(found: &BTreeSet<String>, word: &Text) -> bool
+    ensures { result ≡ is_missing found.now word.now }
+{
+    !found.contains(word.as_str())
+}
+
+/// The first word that isn't a variable of a suite.
+pub fn first_undefined<'a>(words: &'a [Text], config: &Config, suite: &Text) -> Option<&'a Text>
+    ensures { option_copied result ≡ find (is_undefined config.now suite.now) words.now }
+{
+    words.iter().find(|word| is_undefined(config, suite, *word))
+}
+
+/// The first word that isn't among those that were found.
+pub fn first_missing<'a>(words: &'a [Text], found: &BTreeSet<String>) -> Option<&'a Text>
+    ensures { option_copied result ≡ find (is_missing found.now) words.now }
+{
+    words.iter().find(|word| is_missing(found, *word))
+}
+
+fn is_listed(words: &[Text], word: &str) -> bool
+    ensures { result ≡ list_any (λ w. bytes_eq w (chars word.now)) words.now }
+{
+    words.iter().any(|listed| is_text(listed, word))
+}
+
+/// Whether nothing is listed, or this word is.
+pub fn is_allowed(words: &[Text], word: &str) -> bool
+    ensures { result ≡ is_allowed words.now (chars word.now) }
+{
+    words.is_empty() || is_listed(words, word)
+}
