@@ -128,10 +128,17 @@ fn go_on_with(
     }
 }
 
+fn with_block(mut cases: Items<CaseDef>, block: Block) -> Result<Items<CaseDef>, NoMemory>
+    ensures { IfOk result (λ all. all ≡ cases ++ block ∷ []) }
+{
+    cases.push(block.into_case())?;
+    Ok(cases)
+}
+
 /// A further line of a block.
 fn go_on(
     alloc: Global,
-    mut cases: Items<CaseDef>,
+    cases: Items<CaseDef>,
     names: Names,
     block: Block,
     line: &[u8],
@@ -142,7 +149,7 @@ fn go_on(
     if !is_empty(line) {
         return go_on_with(alloc, cases, names, block, line);
     }
-    cases.push(block.into_case())?;
+    let cases = with_block(cases, block)?;
     Ok(Step::To(Reading {
         cases,
         names,
@@ -169,16 +176,12 @@ pub fn step(alloc: Global, reading: Reading, line: &[u8]) -> Result<Step, NoMemo
 pub fn finish(reading: Reading) -> Result<Items<CaseDef>, NoMemory>
     ensures { IfOk result (λ cases. cases ≡ finished reading) }
 {
-    let Reading {
-        mut cases,
-        block,
-        ..
-    } = reading;
+    let Reading { cases, block, .. } = reading;
     match block {
         None => Ok(cases),
         Some(block) => {
-            cases.push(block.into_case())?;
-            Ok(cases)
+            let all = with_block(cases, block)?;
+            Ok(all)
         }
     }
 }

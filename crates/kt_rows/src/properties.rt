@@ -30,7 +30,7 @@ fn number_of(raw: &str) -> Result<u64, RowFault> {
 }
 
 /// `NAME=VALUE`, cut at the first `=`.
-fn pair_of(alloc: Global, raw: &str) -> Result<Variable, RowFault> {
+pub fn pair_of(alloc: Global, raw: &str) -> Result<Variable, RowFault> {
     let Some((name, value)) = raw.split_once('=') else {
         return Err(RowFault::Misspelled("a value stands after `=`"));
     };
