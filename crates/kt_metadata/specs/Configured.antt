@@ -5,7 +5,8 @@ use Rattle.kt_config.specs.Values.{Values, variables_of}
 
 -- a suite has no variable of this name
 abbrev pub is_undefined : Values → List ℕ → List ℕ → Bool
-is_undefined config suite name = not (is_some (option_and_then (value_of name) (variables_of suite config.suites)))
+is_undefined config suite name =
+    not (is_some (option_and_then (value_of name) (variables_of suite config.suites)))
 
 -- the architecture of the runner
 abbrev pub architecture_of : Values → List ℕ

@@ -10,8 +10,9 @@ use Rattle.kt_metadata.specs.Values.{truth_of, user_of, size_of, timeout_of, is_
 
 -- the properties with one name, in the order in which they are listed
 abbrev pub all_properties : List Property
-all_properties = AllowedArchitectures ∷ AllowedPlatforms ∷ Description ∷ HasCleanup ∷ IsExclusive ∷ RequiredConfigs ∷ RequiredDiskSpace
-    ∷ RequiredFiles ∷ RequiredMemory ∷ RequiredPrograms ∷ RequiredUser ∷ Timeout ∷ []
+all_properties =
+    AllowedArchitectures ∷ AllowedPlatforms ∷ Description ∷ HasCleanup ∷ IsExclusive ∷ RequiredConfigs
+    ∷ RequiredDiskSpace ∷ RequiredFiles ∷ RequiredMemory ∷ RequiredPrograms ∷ RequiredUser ∷ Timeout ∷ []
 
 -- the name of a property; the front of a custom one
 abbrev pub property_name : Property → List ℕ

@@ -35,7 +35,8 @@ is_allowed listed word = length listed == 0 || list_any (λ w. bytes_eq w word) 
 -- the first configuration word that isn't a variable of the suite
 abbrev pub config_row : Meta → Values → List ℕ → Option (List ℕ)
 config_row meta config suite =
-    around (codes "Required configuration property '") (codes "' not defined") (find (is_undefined config suite) meta.required_configs)
+    around (codes "Required configuration property '") (codes "' not defined")
+    (find (is_undefined config suite) meta.required_configs)
 
 -- architectures are listed, and the configured one isn't among them
 abbrev pub architecture_row : Meta → Values → Option (List ℕ)
@@ -61,23 +62,27 @@ unprivileged_row user root = None
 
 -- the first file that wasn't found
 abbrev pub file_row : Meta → Host → Option (List ℕ)
-file_row meta host = around (codes "Required file '") (codes "' not found") (find (is_missing host.files) meta.required_files)
+file_row meta host =
+    around (codes "Required file '") (codes "' not found") (find (is_missing host.files) meta.required_files)
 
 -- the first program that wasn't found
 abbrev pub program_row : Meta → Host → Option (List ℕ)
-program_row meta host = around (codes "Required program '") (codes "' not found") (find (is_missing host.programs) meta.required_programs)
+program_row meta host =
+    around (codes "Required program '") (codes "' not found") (find (is_missing host.programs) meta.required_programs)
 
 -- the host tells that it has less than is required; one that doesn't tell has enough
 abbrev pub amount_row : Phrase → ℕ → Option ℕ → Option (List ℕ)
 amount_row phrase due None = None
-amount_row phrase due (Some there) = if nat_lt there due then Some (counted_text phrase due there) else None
+amount_row phrase due (Some there) =
+    if nat_lt there due then Some (counted_text phrase due there) else None
 
 -- the rows that only the host decides, in their order
 abbrev pub host_rows : Meta → Host → List (Option (List ℕ))
 host_rows meta host =
     root_row meta.required_user host.root ∷ unprivileged_row meta.required_user host.root
     ∷ file_row meta host ∷ program_row meta host
-    ∷ amount_row MemoryNeeded meta.required_memory host.memory ∷ amount_row DiskNeeded meta.required_disk_space host.disk ∷ []
+    ∷ amount_row MemoryNeeded meta.required_memory host.memory
+    ∷ amount_row DiskNeeded meta.required_disk_space host.disk ∷ []
 
 -- all nine rows in their order, each with its reason if it is unmet
 abbrev pub rows : Meta → Values → List ℕ → Host → List (Option (List ℕ))

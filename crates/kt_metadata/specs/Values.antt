@@ -6,8 +6,10 @@ use Rattle.kt_metadata.specs.declared.user.User.TheVariants.{Any, Root, Unprivil
 
 -- a truth value
 abbrev pub truth_of : List ℕ → Option Bool
-truth_of text = if bytes_eq text (codes "true") then Some true else if bytes_eq text (codes "yes") then Some true
-    else if bytes_eq text (codes "false") then Some false else if bytes_eq text (codes "no") then Some false else None
+truth_of text =
+    if bytes_eq text (codes "true") then Some true else if bytes_eq text (codes "yes") then Some true
+    else if bytes_eq text (codes "false") then Some false else if bytes_eq text (codes "no") then Some false
+    else None
 
 -- the user that a case asks for
 abbrev pub user_of : List ℕ → Option User

@@ -19,7 +19,8 @@ IsBreak (c ∷ cs) = is_space c ≡ true
 -- these are the words of a text, in its order: what white space leaves, cut where white space or the end follows
 pub data AreWords : List ℕ → List (List ℕ) → Type 0 where
   over : AreWords [] []
-  blank : (c : ℕ) (text : List ℕ) (found : List (List ℕ)) → is_space c ≡ true → AreWords text found → AreWords (c ∷ text) found
+  blank : (c : ℕ) (text : List ℕ) (found : List (List ℕ)) → is_space c ≡ true → AreWords text found
+      → AreWords (c ∷ text) found
   one : (first text : List ℕ) (found : List (List ℕ)) → is_word first ≡ true → IsBreak text → AreWords text found
       → AreWords (first ++ text) (first ∷ found)
 

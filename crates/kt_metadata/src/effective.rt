@@ -103,7 +103,8 @@ impl Props {
     pub fn effective(&self) -> Result<Meta, NoMemory>
         ensures value { (definitions : List Variable) → self.now ≡ last_values definitions
             → IfOk result (λ meta. meta ≡ effective definitions) }
-        ensures timeout { IfOk result (λ meta. (1 ≤ meta.timeout) × (meta.timeout ≤ longest_timeout)) }
+        ensures timeout { IfOk result (λ meta. (1 ≤ meta.timeout)
+            × (meta.timeout ≤ longest_timeout)) }
     {
         let meta = self.meta()?;
         Ok(meta)

@@ -73,11 +73,12 @@ fn name_of_key(alloc: Global, key: &Text) -> Result<Option<Text>, NoMemory>
     }
 }
 
-/// The name of the property that a key in a list of ATF cases stands for, as `Props::set` takes it: `require.arch`
-/// stands for `allowed_architectures`, and `X-NAME` for `custom.NAME`.
+/// The name of the property that a key in a list of ATF cases stands for, as `Props::set` takes it:
+/// `require.arch` stands for `allowed_architectures`, and `X-NAME` for `custom.NAME`.
 pub fn property_of_key(alloc: Global, key: &Text) -> Result<Option<Text>, NoMemory>
     ensures stands { IfOk result (λ found. IfSome found (λ name. StandsFor key.now name)) }
-    ensures only { (name : List ℕ) → StandsFor key.now name → IfOk result (λ found. found ≡ Some name) }
+    ensures only { (name : List ℕ) → StandsFor key.now name
+        → IfOk result (λ found. found ≡ Some name) }
 
     // No name is unknown to `set`.
     ensures known { IfOk result (λ found. IfSome found (λ name. IsSome (property_named name))) }

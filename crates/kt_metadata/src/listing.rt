@@ -42,9 +42,9 @@ fn add_all_shown(
 }
 
 impl Props {
-    /// The properties as names with texts: the effective ones by the table, without the custom ones, and then the
-    /// custom ones in the order of their first definitions. Words are joined by one space, numbers are decimal, and a
-    /// property with an empty value is left out.
+    /// The properties as names with texts: the effective ones in the order of the table, then the
+    /// custom ones in the order of their first definitions. Words are joined by one space, numbers
+    /// are decimal, and a property with an empty value is left out.
     pub fn listing(&self) -> Result<Variables, NoMemory>
         ensures { (definitions : List Variable) → self.now ≡ last_values definitions
             → IfOk result (λ pairs. pairs ≡ listing definitions) }

@@ -26,7 +26,8 @@ pub fn add_if_custom(
     name: &str,
     value: &Text,
 ) -> Result<(), NoMemory>
-    ensures { OnOk result (pairs.new ≡ pairs.old ++ custom_pairs (a_pair (chars name.now) value.now ∷ [])) }
+    ensures { OnOk result (pairs.new
+        ≡ pairs.old ++ custom_pairs (a_pair (chars name.now) value.now ∷ [])) }
 {
     if !is_custom(name) {
         return Ok(());

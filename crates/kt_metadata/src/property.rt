@@ -101,7 +101,8 @@ fn named_among(name: &Text, properties: &[Property]) -> Option<Property>
     None
 }
 
-/// Whether a Kyuafile may set the property of this name. `has_cleanup` is set by a list of ATF cases alone.
+/// Whether a Kyuafile may set the property of this name. A list of ATF cases alone sets
+/// `has_cleanup`.
 pub fn is_kyuafile_property(name: &Text) -> bool
     ensures { result ≡ is_kyuafile_property name.now }
 {

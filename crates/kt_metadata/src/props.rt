@@ -1,8 +1,8 @@
-ghost use Rattle.std.specs.Prelude.{◌≡◌, [], ◌∷◌, ◌++◌, List, map, None, Some, IfOk, OnOk, OnErr};
+ghost use Rattle.std.specs.Prelude.{◌≡◌, [], ◌∷◌, ◌++◌, List, None, Some, IfOk, OnOk, OnErr};
 ghost use Rattle.std.specs.Option.{option_copied};
 ghost use Rattle.kt_base.specs.declared.variable.Variable.{Variable};
 ghost use Rattle.kt_base.specs.LastValues.{last_values, value_of};
-ghost use Rattle.kt_config.specs.Values.{variable_in};
+ghost use Rattle.kt_config.specs.Values.{variable_in, variables_in, IsSettled};
 ghost use Rattle.kt_metadata.specs.Properties.{definition_fault, IfFault};
 ghost use Rattle.kt_metadata.specs.Overlays.{a_pair, taken};
 ghost use Rattle.kt_metadata.specs.Effective.{given};
@@ -17,8 +17,8 @@ use kt_base::{NoMemory, Text, Variables};
 use std::alloc::Global;
 use std::marker::Model;
 
-/// Properties with their values as texts. Contracts see the last values of the accepted definitions, in the order of
-/// the first ones.
+/// Properties with their values as texts. Contracts see the last values of the accepted definitions,
+/// in the order of the first ones.
 #[derive(Drop)]
 pub struct Props {
     values: IndexMap<String, Text>,
@@ -27,11 +27,9 @@ pub struct Props {
 impl Model for Props {
     ghost Value = { List Variable };
 
-    ghost view = { λ p. map variable_in p.values.entries };
+    ghost view = { λ p. variables_in p.values.entries };
 
-    // Each name stands once.
-    ghost invariant = { λ p. map variable_in p.values.entries
-        ≡ last_values (map variable_in p.values.entries) };
+    ghost invariant = { λ p. IsSettled (variables_in p.values.entries) };
 }
 
 impl Props {
@@ -83,7 +81,8 @@ impl Props {
     }
 
     fn define(&mut self, alloc: Global, key: &Text, text: &Text) -> Result<(), NoMemory>
-        ensures ok { OnOk result (self.new ≡ last_values (self.old ++ a_pair key.now text.now ∷ [])) }
+        ensures ok { OnOk result (self.new
+            ≡ last_values (self.old ++ a_pair key.now text.now ∷ [])) }
         ensures err { OnErr result (self.new ≡ self.old) }
     {
         let name = String::from_str(alloc, key.as_str())?;
@@ -93,7 +92,8 @@ impl Props {
     }
 
     fn put(&mut self, name: String, value: Text) -> Result<(), NoMemory>
-        ensures ok { OnOk result (self.new ≡ last_values (self.old ++ variable_in (name, value) ∷ [])) }
+        ensures ok { OnOk result (self.new
+            ≡ last_values (self.old ++ variable_in (name, value) ∷ [])) }
         ensures err { OnErr result (self.new ≡ self.old) }
     {
         self.values.insert(name, value)?;

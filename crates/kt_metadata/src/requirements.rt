@@ -32,7 +32,7 @@ fn host_reason(alloc: Global, meta: &Meta, host: &Host) -> Result<Option<Reason>
     Ok(amount_reason(Phrase::DiskNeeded, meta.required_disk_space, host.disk))
 }
 
-/// Why a case of a suite isn't run: the first requirement that is unmet, in the order of this profile.
+/// Why a case of a suite isn't run: the first unmet requirement, in the order of this profile.
 pub fn unmet(
     alloc: Global,
     meta: &Meta,
