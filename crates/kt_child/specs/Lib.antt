@@ -19,7 +19,6 @@ pub mod Parts
 pub mod Polls
 pub mod Reads
 pub mod Roots
-pub mod ScriptLog
 pub mod SeveralLives
 pub mod Starts
 pub mod TraceLives

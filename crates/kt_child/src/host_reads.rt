@@ -15,8 +15,8 @@ use std::{fs, io};
 /// The size of the pieces in which a file is read, in bytes.
 const PIECE: usize = 8_192;
 
-/// Reads to the end, to the first fault, or one byte past the limit.
-fn read_front<F: Read>(alloc: Global, file: &mut F, limit: u64) -> Result<FileRead, OsFault>
+/// Reads to the end, to the first fault, or one byte past the limit. An interrupted read is a fault too.
+pub fn read_front<F: Read>(alloc: Global, file: &mut F, limit: u64) -> Result<FileRead, OsFault>
     ensures within { IsHostRead limit result }
     ensures opened { IsOpened result }
     ensures front { IfSome (F.remaining file.old) (λ xs. IsFront limit xs result) }
@@ -110,85 +110,4 @@ pub(super) fn read_regular<R: Files + AllocGlobal>(
     ensures { IsHostRead limit result }
 {
     read_opened(rt.alloc(), open_regular(rt, path.as_str()), from, limit)
-}
-
-#[cfg(test)]
-mod tests {
-    use super::read_front;
-    use crate::file_read::FileRead;
-    use crate::os_fault::OsFault;
-    use std::io;
-    use std::io::{ErrorKind, Read};
-    use std::test::Fail;
-
-    /// A file that never ends, which gives so many bytes at a time and fails at a read.
-    #[derive(Drop)]
-    struct Endless {
-        piece: usize,
-        /// The reads that are left to the fault, and what it is.
-        reads: u32,
-        fault: ErrorKind,
-        /// How many bytes were given.
-        given: usize,
-        /// How many reads failed.
-        failed: u32,
-    }
-
-    impl Read for Endless {
-        fn read(&mut self, buffer: &mut [u8]) -> io::Result<usize> {
-            if self.reads == 0 {
-                self.failed = self.failed.saturating_add(1);
-                return Err(io::Error::from(self.fault));
-            }
-            self.reads -= 1;
-            let count = self.piece.min(buffer.len());
-            self.given = self.given.saturating_add(count);
-            Ok(count)
-        }
-    }
-
-    fn file_of(piece: usize, reads: u32, fault: ErrorKind) -> Endless {
-        Endless {
-            piece,
-            reads,
-            fault,
-            given: 0,
-            failed: 0,
-        }
-    }
-
-    /// How many bytes were read, and whether more follow.
-    fn told(read: Result<FileRead, OsFault>) -> Option<(usize, bool)> {
-        match read {
-            Ok(FileRead::Part(bytes, follows)) => Some((bytes.len(), follows)),
-            Ok(FileRead::Missing) | Err(_) => None,
-        }
-    }
-
-    #[test]
-    fn a_read_ends_at_its_first_fault_or_one_byte_past_its_limit(
-        rt: HostRuntime,
-    ) -> Result<(), Fail> {
-        let alloc = rt.alloc();
-        for fault in [ErrorKind::Interrupted, ErrorKind::Other] {
-            for reads in [0, 1, 3] {
-                let mut file = file_of(100, reads, fault);
-                assert_eq!(rt; told(read_front(alloc, &mut file, 9_999)), None);
-                assert_eq!(rt; file.failed, 1, "after {reads}");
-            }
-        }
-        for (piece, limit, given) in [
-            (1, 0, 1),
-            (1, 5, 6),
-            (100, 99, 100),
-            (100, 100, 101),
-            (9_999, 65_536, 65_537),
-        ] {
-            let mut file = file_of(piece, 999, ErrorKind::Other);
-            let read = told(read_front(alloc, &mut file, limit));
-            assert_eq!(rt; read, Some((limit as usize, true)), "at {limit}");
-            assert_eq!(rt; file.given, given, "at {limit}");
-        }
-        Ok(())
-    }
 }

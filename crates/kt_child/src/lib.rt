@@ -43,8 +43,6 @@ mod several;
 mod spawning;
 mod spelling;
 mod starts;
-#[cfg(test)]
-mod tests;
 mod told;
 mod turn;
 mod turns;
@@ -66,6 +64,7 @@ pub use environment::env_plan;
 pub use file_read::FileRead;
 pub use gathering::gather;
 pub use host::HostOs;
+pub use host_reads::read_front;
 pub use open_turn::OpenTurn;
 pub use os::Os;
 pub use os_fault::OsFault;

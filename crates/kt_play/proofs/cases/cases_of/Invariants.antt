@@ -1,6 +1,6 @@
 use Rattle.std.proofs.Common.{◌≡◌, length}
 use Rattle.kt_sched.specs.Plan.{IsPlan}
-use Rattle.kt_child.proofs.tests.plan.plan_of.Given as goal
+use Rattle.kt_play.proofs.cases.cases_of.Given as goal
 
 -- the jobs so far are a plan
 abbrev pub invariant-loop-letter : goal.invariant-loop-letter

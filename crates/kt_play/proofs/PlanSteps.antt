@@ -1,12 +1,12 @@
+-- A plan with one job more.
 use Rattle.std.specs.Prelude.{slice_get, Some}
-use Rattle.std.proofs.Common.{refl, length-append, ◌≡◌, ℕ, zero, suc, ◌+◌, ◌⊎◌, List, [], ◌∷◌, ◌++◌, length, inl, inr, sym, ◌∙◌, ap, subst, arith}
+use Rattle.std.proofs.Common.{refl, ◌≡◌, ℕ, zero, suc, ◌+◌, ◌⊎◌, List, [], ◌∷◌, ◌++◌, length, inl, inr, sym, ◌∙◌, ap, subst, arith}
 use Rattle.kt_sched.specs.declared.job.Job.{Job}
 use Rattle.kt_sched.specs.Plan.{IsPlan, IsFit}
-use Rattle.kt_child.proofs.Places.{in_append, some_is}
-use Rattle.kt_child.proofs.tests.plan.plan_of.Goals as goal
+use Rattle.kt_sched.proofs.Turns.{in_append, some_is}
 
--- a plan with one job more
-plan_more : (jobs : List Job) (job : Job) → IsPlan jobs → job.position ≡ length jobs → IsFit job → IsPlan (jobs ++ job ∷ [])
+-- a plan with one job more is a plan
+pub plan_more : (jobs : List Job) (job : Job) → IsPlan jobs → job.position ≡ length jobs → IsFit job → IsPlan (jobs ++ job ∷ [])
 plan_more jobs job h p f = record {
   placed = λ i j g. placed i j (in_append jobs (job ∷ []) i j g);
   fit = λ i j g. fits i j (in_append jobs (job ∷ []) i j g);
@@ -25,12 +25,3 @@ plan_more jobs job h p f = record {
     fits : (i : ℕ) (j : Job) → (slice_get jobs i ≡ Some j) ⊎ ((m : ℕ) × (i ≡ length jobs + m) × (slice_get (job ∷ []) m ≡ Some j)) → IsFit j
     fits i j (inl g) = h.fit i j g
     fits i j (inr w) = subst IsFit (last w.0 j w.2).1 f
-
-pub loop-letter-preserved : goal.loop-letter-preserved
-loop-letter-preserved c =
-    let e = c.in_ok-push.ensures.items in
-    let v = c.loop-letter.invariant in
-    record {
-      plan = subst IsPlan (sym e) (plan_more c.loop-letter.jobs.items c.in_ok-job_of.field-0 v.plan (c.in_ok-job_of.ensures.place ∙ sym v.count) c.in_ok-job_of.ensures.fit);
-      count = omega (arith, ap (λ (xs : List Job). length xs) e, length-append c.loop-letter.jobs.items (c.in_ok-job_of.field-0 ∷ []), v.count);
-    }

@@ -1,0 +1,111 @@
+//! Each call of a run failing in turn.
+
+use crate::lines::push_line;
+use crate::row::Row;
+use crate::row_fault::RowFault;
+use crate::system_runs::{Driven, run_plan};
+use crate::system_texts::marks;
+use kt_base::Entry;
+use kt_play::{Scene, ScriptedSystem};
+use std::alloc::Global;
+
+/// The most calls that are tried.
+const LIMIT: u32 = 10_000;
+
+/// The marks of the case at a position, or a text without a verdict.
+fn marks_at(alloc: Global, entries: &[Entry], position: u32) -> Result<String, RowFault> {
+    for entry in entries {
+        if entry.position == position {
+            return marks(alloc, entry);
+        }
+    }
+    Ok(String::from_str(alloc, "no entry")?)
+}
+
+/// How many calls of a log begin with a word.
+fn count_of(log: &str, word: &str) -> usize {
+    let mut count: usize = 0;
+    for line in log.lines() {
+        if line.starts_with(word) {
+            count = count.saturating_add(1);
+        }
+    }
+    count
+}
+
+/// How many directories were made that are to be removed: all but work directories, which lie in them.
+fn made(log: &str) -> usize {
+    let mut count: usize = 0;
+    for line in log.lines() {
+        let is_kept = line.ends_with("/work") || line.ends_with(" failed");
+        if line.starts_with("make ") && !is_kept {
+            count = count.saturating_add(1);
+        }
+    }
+    count
+}
+
+fn has_failed(log: &str) -> bool {
+    log.lines().any(|line| line.ends_with(" failed"))
+}
+
+/// Tells what a failing call changes: the cases with other marks, a kill, and directories that were not removed.
+fn push_changes(
+    alloc: Global,
+    out: &mut String,
+    call: u32,
+    sound: &[Entry],
+    run: &Driven<ScriptedSystem<'_>>,
+) -> Result<(), RowFault> {
+    for entry in sound {
+        let position = entry.position;
+        let due = marks(alloc, entry)?;
+        let told = marks_at(alloc, run.entries.as_slice(), position)?;
+        if due.as_str() != told.as_str() {
+            let line = format!(in alloc; "at {call}: {position} {told}")?;
+            push_line(out, line.as_str())?;
+        }
+    }
+    let log = run.os.log.as_str();
+    if count_of(log, "kill ") > 0 {
+        out.push_str(", killed")?;
+    }
+    let made = made(log);
+    let removed = count_of(log, "remove ");
+    if made != removed {
+        let line = format!(in alloc; "at {call}: {made} made, {removed} removed")?;
+        push_line(out, line.as_str())?;
+    }
+    Ok(())
+}
+
+fn push_sound(alloc: Global, out: &mut String, sound: &[Entry]) -> Result<(), RowFault> {
+    for entry in sound {
+        let position = entry.position;
+        let told = marks(alloc, entry)?;
+        push_line(out, format!(in alloc; "{position} {told}")?.as_str())?;
+    }
+    Ok(())
+}
+
+/// The entries where no call fails, then, for each failing call, what is otherwise, and how many calls there are.
+pub fn each_failing<'a>(
+    alloc: Global,
+    row: &Row<'a>,
+    scene: Scene<'a>,
+) -> Result<String, RowFault> {
+    let mut scene = scene;
+    let sound = run_plan(alloc, row, &scene)?.entries;
+    let mut out = String::new(alloc);
+    push_sound(alloc, &mut out, sound.as_slice())?;
+    for call in 1..LIMIT {
+        scene.failing = (call, call.saturating_add(1));
+        let run = run_plan(alloc, row, &scene)?;
+        if !has_failed(run.os.log.as_str()) {
+            push_line(&mut out, format!(in alloc; "{call} calls")?.as_str())?;
+            return Ok(out);
+        }
+        push_changes(alloc, &mut out, call, sound.as_slice(), &run)?;
+    }
+    Ok(out)
+}

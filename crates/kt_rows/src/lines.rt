@@ -1,0 +1,10 @@
+use std::alloc::AllocError;
+
+/// Appends a line: behind the first, with a newline before it.
+pub fn push_line(out: &mut String, line: &str) -> Result<(), AllocError> {
+    if !out.is_empty() {
+        out.push('\n')?;
+    }
+    out.push_str(line)?;
+    Ok(())
+}

@@ -1,0 +1,95 @@
+use crate::endings::ending_of;
+use crate::escapes::unescaped;
+use crate::numbers::{count, number, numbers};
+use crate::row::Row;
+use crate::row_fault::RowFault;
+use kt_base::Outcome;
+use kt_child::Polled;
+use kt_play::{Holding, Life, Oddity, Scene};
+use std::alloc::Global;
+
+/// How a child ended, as a poll tells it.
+fn polled_of(text: &str) -> Result<Polled, RowFault> {
+    match ending_of(text)? {
+        Outcome::Exited(code) => Ok(Polled::Exited(code)),
+        Outcome::Signaled(signal, core) => Ok(Polled::Signaled(signal, core)),
+        _ => Err(RowFault::Misspelled("a child exits or is ended by a signal")),
+    }
+}
+
+/// A life: an ending, or `running x99, ` and an ending.
+fn life_of(text: &str) -> Result<Life, RowFault> {
+    let Some(rest) = text.strip_prefix("running x") else {
+        return Ok(Life {
+            running: 0,
+            ending: polled_of(text)?,
+        });
+    };
+    match rest.split_once(", ") {
+        None => Err(RowFault::Misspelled("a life is `running xN, ` and an ending")),
+        Some((running, ending)) => Ok(Life {
+            running: count(running)?,
+            ending: polled_of(ending)?,
+        }),
+    }
+}
+
+/// A file: its path, and what it holds.
+pub fn holding_of<'a>(alloc: Global, text: &'a str) -> Result<Holding<'a>, RowFault> {
+    let (path, raw) = text.split_once(' ').unwrap_or((text, ""));
+    Ok(Holding {
+        path,
+        bytes: unescaped(alloc, raw)?,
+    })
+}
+
+/// The calls that fail: none, `N` alone, or `N M` for those from `N` to `M`.
+fn failing_of(text: Option<&str>) -> Result<(u32, u32), RowFault> {
+    match text {
+        None | Some("each") => Ok((0, 0)),
+        Some(text) => {
+            let (first, last) = text.split_once(' ').unwrap_or((text, text));
+            Ok((count(first)?, count(last)?.saturating_add(1)))
+        }
+    }
+}
+
+fn oddity_of(text: Option<&str>) -> Result<Oddity, RowFault> {
+    match text {
+        None => Ok(Oddity::None),
+        Some("empty part") => Ok(Oddity::EmptyPart),
+        Some("gone") => Ok(Oddity::Gone),
+        Some(_) => Err(RowFault::Misspelled("there is no such oddity")),
+    }
+}
+
+/// The moments that are told, and how much later each further one is.
+fn clock_of(alloc: Global, row: &Row<'_>) -> Result<(Vec<u64>, u64), RowFault> {
+    if let Some(moments) = row.text("moments") {
+        return Ok((numbers(alloc, moments)?, 0));
+    }
+    let mut moments = Vec::new(alloc);
+    moments.push(number(row.text("clock").unwrap_or("1"))?)?;
+    Ok((moments, 1))
+}
+
+/// The scene of a row: `life LIFE` each, `holds PATH TEXT` each, `clock N` or `moments NUMBERS`, `fails CALLS`, `odd WHAT`.
+pub fn scene_of<'a>(alloc: Global, row: &Row<'a>) -> Result<Scene<'a>, RowFault> {
+    let (moments, step) = clock_of(alloc, row)?;
+    let mut scene = Scene {
+        lives: Vec::new(alloc),
+        files: Vec::new(alloc),
+        failing: failing_of(row.text("fails"))?,
+        oddity: oddity_of(row.text("odd"))?,
+        moments,
+        step,
+    };
+    for entry in row.entries.as_slice() {
+        match entry.word {
+            "life" => scene.lives.push(life_of(entry.text)?)?,
+            "holds" => scene.files.push(holding_of(alloc, entry.text)?)?,
+            _ => {}
+        }
+    }
+    Ok(scene)
+}

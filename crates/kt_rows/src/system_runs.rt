@@ -1,0 +1,85 @@
+ghost use Rattle.kt_sched.specs.Plan.{IsPlan, IsWidth};
+
+use crate::numbers::limit_of;
+use crate::row::Row;
+use crate::row_fault::RowFault;
+use crate::schedules::{failing_of, width_of};
+use kt_base::{Entry, Items, Text, Variable, Variables};
+use kt_child::{Driver, Os, run_driver};
+use kt_play::{Scene, ScriptedSystem, MemorySink, cases_of};
+use kt_sched::Job;
+use std::alloc::Global;
+
+/// What a run leaves: its system, its entries in the order of recording, and whether it ended well.
+#[derive(Drop)]
+pub struct Driven<O: Drop> {
+    pub os: O,
+    pub entries: Vec<Entry>,
+    pub done: bool,
+}
+
+/// The variables of the suite: `variable NAME=VALUE` each.
+pub fn variables_of(alloc: Global, row: &Row<'_>) -> Result<Variables, RowFault> {
+    let mut variables = Variables::new(alloc);
+    for entry in row.entries.as_slice() {
+        if entry.word == "variable" {
+            let (name, value) = entry.text.split_once('=').unwrap_or((entry.text, ""));
+            variables.push(Variable {
+                name: Text::from_str(alloc, name)?,
+                value: Text::from_str(alloc, value)?,
+            })?;
+        }
+    }
+    Ok(variables)
+}
+
+/// Runs a plan over a driver of its own.
+fn drive<O: Os + Drop>(
+    alloc: Global,
+    os: O,
+    plan: Items<Job>,
+    width: u32,
+    base: &Text,
+    source: Text,
+    sink: MemorySink,
+) -> Driven<O>
+    requires plan { IsPlan plan }
+    requires width { IsWidth width }
+{
+    let mut sink = sink;
+    match Driver::new(alloc, os, base, source) {
+        Err((_fault, os)) => Driven {
+            os,
+            entries: sink.entries,
+            done: false,
+        },
+        Ok(driver) => {
+            let mut driver = driver;
+            let done = run_driver(alloc, plan, width, &mut driver, &mut sink).is_ok();
+            Driven {
+                os: driver.close(),
+                entries: sink.entries,
+                done,
+            }
+        }
+    }
+}
+
+/// Runs the plan of a row over a scripted system: `plan LETTERS`, perhaps `limit SECONDS`, `width N`, `failing PUT`, `base PATH` and
+/// `variable NAME=VALUE` each.
+pub fn run_plan<'a>(
+    alloc: Global,
+    row: &Row<'_>,
+    scene: &'a Scene<'a>,
+) -> Result<Driven<ScriptedSystem<'a>>, RowFault> {
+    let letters = row.bytes(alloc, "plan")?.unwrap_or(Vec::new(alloc));
+    let variables = variables_of(alloc, row)?;
+    let limit = limit_of(row.text("limit"))?;
+    let plan = cases_of(alloc, letters.as_slice(), limit, &variables)?;
+    let width = width_of(row.text("width"))?;
+    let base = Text::from_str(alloc, row.text("base").unwrap_or(""))?;
+    let source = Text::from_str(alloc, "/t")?;
+    let sink = MemorySink::new(alloc, failing_of(row.text("failing"))?);
+    let os = ScriptedSystem::new(alloc, scene);
+    Ok(drive(alloc, os, plan, width, &base, source, sink))
+}

@@ -1,0 +1,81 @@
+use crate::failures::each_failing;
+use crate::lines::push_line;
+use crate::row::Row;
+use crate::row_fault::RowFault;
+use crate::scenes::scene_of;
+use crate::system_runs::{Driven, run_plan};
+use crate::system_texts::{calls, entries, moments, outputs, totals, watching, words};
+use crate::{readers, system_plans, system_steps};
+use kt_play::{Scene, ScriptedSystem};
+use std::alloc::Global;
+
+/// What is shown of a run by a word.
+fn shown_by(
+    alloc: Global,
+    word: &str,
+    run: &Driven<ScriptedSystem<'_>>,
+) -> Result<String, RowFault> {
+    let log = run.os.log.as_str();
+    match word {
+        "calls" => calls(alloc, log),
+        "words" => words(alloc, log),
+        "watching" => watching(alloc, log),
+        "spawns" => Ok(String::from_str(alloc, run.os.spawned.as_str().trim())?),
+        "spawned" => {
+            let count = run.os.spawned.as_str().lines().count();
+            Ok(format!(in alloc; "{count} spawned")?)
+        }
+        "entries" => entries(alloc, run.entries.as_slice()),
+        "moments" => moments(alloc, run.entries.as_slice()),
+        "outputs" => outputs(alloc, run.entries.as_slice()),
+        "totals" => totals(alloc, run.entries.as_slice()),
+        _ => Err(RowFault::Misspelled("no such thing is shown")),
+    }
+}
+
+/// What is shown of a run: its entries, where the row doesn't say.
+fn shown(
+    alloc: Global,
+    row: &Row<'_>,
+    run: &Driven<ScriptedSystem<'_>>,
+) -> Result<String, RowFault> {
+    let mut out = String::new(alloc);
+    for word in row.text("show").unwrap_or("entries").split_whitespace() {
+        push_line(&mut out, shown_by(alloc, word, run)?.as_str())?;
+    }
+    if !run.done {
+        push_line(&mut out, "failed")?;
+    }
+    Ok(out)
+}
+
+/// What becomes of the cases of a plan.
+fn plan(alloc: Global, row: &Row<'_>, scene: Scene<'_>) -> Result<String, RowFault> {
+    if row.text("fails") == Some("each") {
+        return each_failing(alloc, row, scene);
+    }
+    let run = run_plan(alloc, row, &scene)?;
+    shown(alloc, row, &run)
+}
+
+/// What is asked of a scripted system, and what it comes to. The first line says for what: `plan LETTERS`, `poll`, `start ROLE`,
+/// `read PATH`, `list`, `root BASE`, `words INTERFACE WANT`, `environment INTERFACE`, `paths` or `reader`.
+pub fn answer(alloc: Global, row: &Row<'_>) -> Result<String, RowFault> {
+    let scene = scene_of(alloc, row)?;
+    let Some(first) = row.entries.first() else {
+        return Err(RowFault::Misspelled("the row is empty"));
+    };
+    match first.word {
+        "plan" => plan(alloc, row, scene),
+        "poll" => system_steps::polls(alloc, row, &scene),
+        "start" => system_steps::starts(alloc, first.text, &scene),
+        "read" => system_steps::reads(alloc, first.text, &scene),
+        "list" => system_steps::lists(alloc, row, &scene),
+        "root" => system_steps::roots(alloc, first.text, &scene),
+        "words" => system_plans::words(alloc, row, first.text),
+        "environment" => system_plans::environment(alloc, row, first.text),
+        "paths" => system_plans::paths(alloc, row),
+        "reader" => readers::system_read(alloc, row),
+        _ => Err(RowFault::Misspelled("nothing like that is asked of a system")),
+    }
+}
