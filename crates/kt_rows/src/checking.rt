@@ -1,20 +1,33 @@
 use crate::answer;
 use crate::messages::mismatch_lines;
+use crate::programs;
 use crate::row::Row;
 use crate::row_fault::RowFault;
 use crate::row_file::read_rows;
-use std::alloc::Global;
+use kt_child::HostOs;
 use std::{env, fs, io};
+
+/// The answer to a row: of real programs over the host, of all else by the crates alone.
+fn found(rt: &HostRuntime, subject: &str, row: &Row<'_>) -> Result<String, RowFault> {
+    if subject != "programs" {
+        return answer(rt.alloc(), subject, row);
+    }
+    match env::current_dir(rt) {
+        Ok(here) => programs::answer(rt.alloc(), HostOs::new(rt), here.as_str(), row),
+        Err(_) => Err(RowFault::Misspelled("no working directory")),
+    }
+}
 
 /// Compares the answer to a row with the one wanted, and returns what is printed if they differ.
 fn mismatch(
-    alloc: Global,
+    rt: &HostRuntime,
     file: &str,
     subject: &str,
     row: &Row<'_>,
 ) -> Result<Option<String>, RowFault> {
+    let alloc = rt.alloc();
     let wanted = row.wanted(alloc)?;
-    let found = answer(alloc, subject, row)?;
+    let found = found(rt, subject, row)?;
     if found.as_bytes() == wanted.as_slice() {
         return Ok(None);
     }
@@ -29,7 +42,7 @@ fn print_fault(rt: &HostRuntime, file: &str, line: u64, fault: RowFault) -> io::
 
 /// Checks a row, and returns whether its answer is the one wanted.
 fn check_row(rt: &HostRuntime, file: &str, subject: &str, row: &Row<'_>) -> io::Result<bool> {
-    match mismatch(rt.alloc(), file, subject, row) {
+    match mismatch(rt, file, subject, row) {
         Ok(None) => return Ok(true),
         Ok(Some(lines)) => rt.eprintln(lines)?,
         Err(fault) => print_fault(rt, file, row.line, fault)?,

@@ -143,7 +143,7 @@ pub fn reads(alloc: Global, path: &str, scene: &Scene<'_>) -> Result<String, Row
     Ok(format!(in alloc; "kept {kept} bytes, list {list}")?)
 }
 
-fn listing_text(alloc: Global, listing: &Listing) -> Result<String, RowFault> {
+pub fn listing_text(alloc: Global, listing: &Listing) -> Result<String, RowFault> {
     match listing {
         Listing::Refused(cause) => Ok(String::from_str(alloc, refusal_text(*cause))?),
         Listing::Ended(outcome, bytes) => {
@@ -156,14 +156,14 @@ fn listing_text(alloc: Global, listing: &Listing) -> Result<String, RowFault> {
 }
 
 /// Asks a driver of its own for the list of a program.
-fn listed<O: Os + Drop>(
+pub fn listed<O: Os + Drop>(
     alloc: Global,
     os: O,
     base: &Text,
+    source: Text,
     program: &Program,
     variables: &Variables,
 ) -> Result<(O, Option<Listing>), RowFault> {
-    let source = Text::from_str(alloc, "/t")?;
     match Driver::new(alloc, os, base, source) {
         Err((_fault, os)) => Ok((os, None)),
         Ok(driver) => {
@@ -183,7 +183,14 @@ pub fn lists(alloc: Global, row: &Row<'_>, scene: &Scene<'_>) -> Result<String, 
         suite: Text::from_str(alloc, "s")?,
     };
     let os = ScriptedSystem::new(alloc, scene);
-    let (os, listing) = listed(alloc, os, &base, &program, &variables_of(alloc, row)?)?;
+    let (os, listing) = listed(
+        alloc,
+        os,
+        &base,
+        Text::from_str(alloc, "/t")?,
+        &program,
+        &variables_of(alloc, row)?,
+    )?;
     let mut out = words(alloc, os.log.as_str())?;
     if row.text("show") == Some("spawns") {
         push_line(&mut out, os.spawned.as_str().trim())?;

@@ -1,0 +1,14 @@
+use Rattle.std.proofs.Common.{length-append, List, [], ◌∷◌, length, sym, ◌∙◌, ap, subst, arith}
+use Rattle.kt_sched.specs.declared.job.Job.{Job}
+use Rattle.kt_sched.specs.Plan.{IsPlan}
+use Rattle.kt_play.proofs.PlanSteps.{plan_more}
+use Rattle.kt_rows.proofs.program_plans.plan_of.Goals as goal
+
+pub loop-case-preserved : goal.loop-case-preserved
+loop-case-preserved c =
+    let e = c.in_ok-push.ensures.items in
+    let v = c.loop-case.invariant in
+    record {
+      plan = subst IsPlan (sym e) (plan_more c.loop-case.jobs.items c.in_ok-job_of.field-0 v.plan (c.in_ok-job_of.ensures.place ∙ sym v.count) c.in_ok-job_of.ensures.fit);
+      count = omega (arith, ap (λ (xs : List Job). length xs) e, length-append c.loop-case.jobs.items (c.in_ok-job_of.field-0 ∷ []), v.count);
+    }
