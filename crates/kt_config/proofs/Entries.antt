@@ -74,7 +74,7 @@ written : {Z : Type 0} (q : List ℕ) → IsUtf8 q → (x w : List Variable) (es
 written q u x w [] there = absurd (cc)
 written q u x w (e ∷ es) there = written-next q x w e es (λ l. written q u x w es l) (bytes_eq q (string_bytes e.0)) refl (sym (key-chars q u e.0)) there
 
--- another suite then
+-- the other suites keep their variables
 beside-next : {Z : Type 0} (q other : List ℕ) (w : List Variable) (e : String Z × List Variable) (es : List (String Z × List Variable)) → bytes_eq other (chars q) ≡ false
     → variables_of other (map group_in (set_value (λ k. bytes_eq q (string_bytes k)) es w)) ≡ variables_of other (map group_in es)
     → (b : Bool) → bytes_eq q (string_bytes e.0) ≡ b → bytes_eq (chars q) (chars (string_bytes e.0)) ≡ b
@@ -89,7 +89,7 @@ beside : {Z : Type 0} (q : List ℕ) → IsUtf8 q → (other : List ℕ) (w : Li
 beside q u other w [] apart = refl
 beside q u other w (e ∷ es) apart = beside-next q other w e es apart (beside q u other w es apart) (bytes_eq q (string_bytes e.0)) refl (sym (key-chars q u e.0))
 
--- nothing is written where the same variables are
+-- writing the same variables changes nothing
 unwritten-next : {Z : Type 0} (q : List ℕ) (x : List Variable) (e : String Z × List Variable) (es : List (String Z × List Variable))
     → (lookup (λ k. bytes_eq q (string_bytes k)) es ≡ Some x → map group_in (set_value (λ k. bytes_eq q (string_bytes k)) es x) ≡ map group_in es)
     → (b : Bool) → bytes_eq q (string_bytes e.0) ≡ b → lookup (λ k. bytes_eq q (string_bytes k)) (e ∷ es) ≡ Some x
@@ -118,7 +118,7 @@ new_suite : {Z : Type 0} (k : String Z) (w : List Variable) (es : List (String Z
 new_suite k w [] = rw (same-refl (chars (string_bytes k))) refl
 new_suite k w (e ∷ es) = new-next k w e es (new_suite k w es) (string_eq k e.0) refl (sym (key-chars (string_bytes k) (IsUtf8-string_bytes k) e.0))
 
--- another suite then
+-- the other suites keep their variables
 old-next : {Z : Type 0} (k : String Z) (other : List ℕ) (w : List Variable) (e : String Z × List Variable) (es : List (String Z × List Variable)) → bytes_eq other (chars (string_bytes k)) ≡ false
     → variables_of other (map group_in (insert_entry string_eq es k w)) ≡ variables_of other (map group_in es)
     → (b : Bool) → string_eq k e.0 ≡ b → bytes_eq (chars (string_bytes k)) (chars (string_bytes e.0)) ≡ b
@@ -135,7 +135,7 @@ old_suite k other w (e ∷ es) apart = old-next k other w e es apart (old_suite 
 
 -- ---- a variable of a suite
 
--- of one that has variables
+-- a suite that has variables gets one more
 pub adds-there : {Z : Type 0} (q suite : List ℕ) (v : Variable) (x w : List Variable) (es fs : List (String Z × List Variable)) (old : List Group) → IsUtf8 q → chars q ≡ suite
     → map group_in es ≡ old → lookup (λ k. bytes_eq q (string_bytes k)) es ≡ Some x → w ≡ last_values (x ++ v ∷ []) → fs ≡ set_value (λ k. bytes_eq q (string_bytes k)) es w
     → AddsToSuite suite v old (map group_in fs)
@@ -148,7 +148,7 @@ adds-there q suite v x w es fs old u c m there e f =
           ∙ beside q u other w es (ap (bytes_eq other) c ∙ apart) ∙ ap (variables_of other) m;
     }
 
--- of one that has none yet
+-- a suite that has none gets its first
 pub adds-new : {Z : Type 0} (q suite : List ℕ) (k : String Z) (v : Variable) (w : List Variable) (es fs : List (String Z × List Variable)) (old : List Group) → IsUtf8 q → chars q ≡ suite
     → map group_in es ≡ old → lookup (λ k. bytes_eq q (string_bytes k)) es ≡ None → chars (string_bytes k) ≡ suite → w ≡ last_values (v ∷ []) → fs ≡ insert_entry string_eq es k w
     → AddsToSuite suite v old (map group_in fs)

@@ -59,7 +59,7 @@ impl Config {
         }
     }
 
-    /// Takes a definition over those that stood before.
+    /// Adds a definition: its value is the last one of its variable.
     pub(crate) fn define(&mut self, definition: Definition) -> Result<(), NoMemory>
         ensures ok { OnOk result (Adds definition self.old self.new) }
         ensures err { OnErr result (self.new ≡ self.old) }
@@ -120,8 +120,7 @@ impl Config {
         self.parallelism.cases()
     }
 
-    /// Gives a variable a value, by its name, whose parts stand between dots (kyua(1), `--variable`). A refused call
-    /// changes nothing.
+    /// Gives a variable a value by its name, whose parts stand between dots (kyua(1), `--variable`).
     pub fn set(&mut self, name: &Text, value: &Text) -> Result<(), ConfigFault>
         ensures ok { OnOk result (Becomes self.old self.new (definition_named name.now value.now)) }
         ensures refused { IfFault result (λ fault. definition_named name.now value.now ≡ Err fault) }
@@ -135,14 +134,14 @@ impl Config {
 
     /// The configuration that a file spells (this profile's kyua.conf(5)).
     pub fn read(alloc: Global, text: &[u8]) -> Result<Config, ConfigFault>
-        // A file with these values.
+        // What is accepted is a file with these values.
         ensures accepted { IfOk result (λ config. IsRead text.now config) }
-        // Each such file, unless memory runs out.
+        // Each such file is accepted, unless memory runs out.
         ensures only { (stmts : List Stmt) → (definitions : List Definition) → Spells text.now stmts
             → outcome_of stmts ≡ Ok definitions → Answers result definitions }
-        // The fault of a text that is none.
+        // What is refused has this fault.
         ensures refused { IfFault result (λ fault. IsDue text.now fault) }
-        // Each text with a fault, unless memory runs out.
+        // Each text with a fault is refused for it, unless memory runs out.
         ensures due { (fault : ConfigFault) → IsDue text.now fault → Refuses result fault }
     {
         match parse(alloc, text) {

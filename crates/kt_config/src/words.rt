@@ -45,11 +45,11 @@ pub fn is_variable(name: &Text) -> bool
     !is_empty(name) && !has_strange(name.as_str().as_bytes())
 }
 
-/// The string of a text, by whose characters it is known as a key.
+/// The string of a text, as the key of a map. Its characters are those of the text.
 pub fn key_of(text: Text) -> String
     ensures { chars (string_bytes result) ≡ text }
 {
-    // That its bytes are those of its characters is known of a slice.
+    // A slice shows that the bytes are those of the characters.
     let _characters = text.as_str();
     text.into_string()
 }
