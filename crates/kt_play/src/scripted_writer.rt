@@ -1,0 +1,58 @@
+use std::alloc::Global;
+use std::io;
+use std::io::{ErrorKind, Write};
+
+/// How a write fails.
+#[derive(Clone, Copy, Debug, PartialEq, Eq)]
+pub enum WriteFault {
+    Broken,
+    Interrupted,
+    /// It takes no byte.
+    Nothing,
+}
+
+/// A writer that keeps what it is given, takes a few bytes at a time, and fails from one of its writes on.
+#[derive(Drop)]
+pub struct ScriptedWriter {
+    pub kept: Vec<u8>,
+    /// How many bytes a write takes at the most.
+    pub at_most: usize,
+    /// How many writes there were.
+    pub writes: u64,
+    /// The first write that fails, counted from 1; 0 for none.
+    pub failing: u64,
+    pub fault: WriteFault,
+}
+
+impl ScriptedWriter {
+    /// A writer that takes all before its first write that fails, counted from 1; 0 for none.
+    pub fn new(alloc: Global, failing: u64) -> ScriptedWriter {
+        ScriptedWriter {
+            kept: Vec::new(alloc),
+            at_most: usize::MAX,
+            writes: 0,
+            failing,
+            fault: WriteFault::Broken,
+        }
+    }
+}
+
+impl Write for ScriptedWriter {
+    fn write(&mut self, bytes: &[u8]) -> io::Result<usize> {
+        self.writes = self.writes.saturating_add(1);
+        if self.failing > 0 && self.writes >= self.failing {
+            return match self.fault {
+                WriteFault::Broken => Err(io::Error::from(ErrorKind::BrokenPipe)),
+                WriteFault::Interrupted => Err(io::Error::from(ErrorKind::Interrupted)),
+                WriteFault::Nothing => Ok(0),
+            };
+        }
+        let taken = bytes.len().min(self.at_most);
+        self.kept.extend_from_slice(&bytes[..taken])?;
+        Ok(taken)
+    }
+
+    fn flush(&mut self) -> io::Result<()> {
+        Ok(())
+    }
+}
