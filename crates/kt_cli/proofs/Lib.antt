@@ -11,7 +11,6 @@ pub mod NewRuns
 pub mod PlanRuns
 pub mod ShownRuns
 pub mod Testings
-pub mod Plays
 pub mod Sequencing
 pub mod HostReads
 pub mod Hosting

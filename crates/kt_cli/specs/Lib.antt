@@ -7,7 +7,6 @@ pub mod LineOutputs
 pub mod Listings
 pub mod Meaning
 pub mod MemoryRuns
-pub mod OneChild
 pub mod Pages
 pub mod Places
 pub mod Plans

@@ -57,8 +57,8 @@ fn read_piece<F: Read>(file: &mut F, room: &mut [u8], bytes: &mut Bytes) -> Resu
     }
 }
 
-/// Reads to the end of a file, to the limit, or to the first fault.
-fn read_start<F: Read>(alloc: Global, file: &mut F) -> Result<Bytes, ReadFault>
+/// Reads to the end of a file, to the limit, or to the first fault. An interrupted read is a fault too.
+pub fn read_start<F: Read>(alloc: Global, file: &mut F) -> Result<Bytes, ReadFault>
     ensures few { IfOk result (λ bytes. length bytes ≤ read_limit) }
     // Of a file whose bytes are known, the front is read, and the rest is left.
     ensures front { IfOk result (λ bytes. IfSome (F.remaining file.old) (λ all. bytes ≡ take read_limit all)) }
@@ -187,78 +187,4 @@ impl<R: Files<File = File> + Clock + AllocGlobal, L: Launcher> World for HostWor
     ghost runs_told = { λ s t q h k r. ap (λ l. L.running l k r) h };
 
     ghost pends_told = { λ s t q h k. ap (λ l. L.pending l k) h };
-}
-
-#[cfg(test)]
-mod tests {
-    use super::read_start;
-    use kt_base::Bytes;
-    use kt_suite::ReadFault;
-    use std::io;
-    use std::io::{ErrorKind, Read};
-    use std::test::Fail;
-
-    /// A file that never ends, which gives so many bytes at a time and fails at a read.
-    #[derive(Drop)]
-    struct Endless {
-        piece: usize,
-        /// The reads that are left to the fault, and what it is.
-        reads: u32,
-        fault: ErrorKind,
-        /// How many bytes were given.
-        given: usize,
-        /// How many reads failed.
-        failed: u32,
-    }
-
-    impl Read for Endless {
-        fn read(&mut self, buffer: &mut [u8]) -> io::Result<usize> {
-            if self.reads == 0 {
-                self.failed = self.failed.saturating_add(1);
-                return Err(io::Error::from(self.fault));
-            }
-            self.reads -= 1;
-            let count = self.piece.min(buffer.len());
-            self.given = self.given.saturating_add(count);
-            Ok(count)
-        }
-    }
-
-    fn file_of(piece: usize, reads: u32, fault: ErrorKind) -> Endless {
-        Endless {
-            piece,
-            reads,
-            fault,
-            given: 0,
-            failed: 0,
-        }
-    }
-
-    /// How many bytes were read.
-    fn told(read: Result<Bytes, ReadFault>) -> Result<usize, ReadFault> {
-        match read {
-            Ok(bytes) => Ok(bytes.len()),
-            Err(fault) => Err(fault),
-        }
-    }
-
-    #[test]
-    fn a_read_ends_at_its_first_fault_or_at_its_limit(rt: HostRuntime) -> Result<(), Fail> {
-        let alloc = rt.alloc();
-        for fault in [ErrorKind::Interrupted, ErrorKind::Other] {
-            for reads in [0, 1, 3] {
-                let mut file = file_of(100, reads, fault);
-                let read = told(read_start(alloc, &mut file));
-                assert_eq!(rt; read, Err(ReadFault::Failed), "after {reads}");
-                assert_eq!(rt; file.failed, 1, "after {reads}");
-            }
-        }
-        for piece in [100, 8_192, 9_999] {
-            let mut file = file_of(piece, 99_999, ErrorKind::Other);
-            let read = told(read_start(alloc, &mut file));
-            assert_eq!(rt; read, Ok(1_048_577), "at {piece}");
-            assert_eq!(rt; file.given, 1_048_577, "at {piece}");
-        }
-        Ok(())
-    }
 }

@@ -39,14 +39,12 @@ pub use command_line::CommandLine;
 pub use execution::execute;
 pub use exit::Exit;
 pub use host_execution::execute_on_host;
-pub use host_world::HostWorld;
+pub use host_world::{HostWorld, read_start};
 pub use line_output::LineOutput;
 pub use mem_runs::MemRuns;
+pub use place::source_of;
 pub use reading::read_command;
 pub use result_store::ResultStore;
 pub use sequence::execute_all;
 pub use telling::{tell_command_fault, tell_driver_fault, tell_store_fault};
 pub use world::World;
-
-#[cfg(test)]
-mod tests;

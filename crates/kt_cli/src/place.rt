@@ -55,25 +55,3 @@ pub fn source_of(alloc: Global, here: &str, kyuafile: &Text) -> Result<Text, NoM
     let (directory, _) = split_path(alloc, &path)?;
     Ok(without_last(alloc, &directory)?)
 }
-
-#[cfg(test)]
-mod tests {
-    use super::*;
-    use std::test::Fail;
-
-    #[test]
-    fn the_directory_of_a_kyuafile_is_absolute(rt: HostRuntime) -> Result<(), Fail> {
-        for (kyuafile, source) in [
-            ("Kyuafile", "/h/me"),
-            ("d/e/Kyuafile", "/h/me/d/e"),
-            ("../Kyuafile", "/h/me/.."),
-            ("/x/y/K", "/x/y"),
-            ("/K", ""),
-        ] {
-            let kyuafile = Text::from_str(rt.alloc(), kyuafile)?;
-            let told = source_of(rt.alloc(), "/h/me", &kyuafile)?;
-            assert_eq!(rt; told.as_str(), source);
-        }
-        Ok(())
-    }
-}

@@ -4,6 +4,7 @@ use crate::numbers::number;
 use crate::row::Row;
 use crate::row_fault::RowFault;
 use kt_child::{FileRead, read_front};
+use kt_cli::read_start;
 use kt_play::EndlessReader;
 use std::alloc::Global;
 
@@ -37,6 +38,19 @@ pub fn system_read(alloc: Global, row: &Row<'_>) -> Result<String, RowFault> {
             let length = bytes.len();
             let more = if follows { "more follow" } else { "no more" };
             format!(in alloc; "{length} bytes, {more}")?
+        }
+    };
+    counts_text(alloc, read.as_str(), &file)
+}
+
+/// What a world's read answers.
+pub fn world_read(alloc: Global, row: &Row<'_>) -> Result<String, RowFault> {
+    let mut file = reader_of(row)?;
+    let read = match read_start(alloc, &mut file) {
+        Err(_) => String::from_str(alloc, "failed")?,
+        Ok(bytes) => {
+            let length = bytes.len();
+            format!(in alloc; "{length} bytes")?
         }
     };
     counts_text(alloc, read.as_str(), &file)

@@ -20,6 +20,3 @@ pub use crashes::law_of_crashes;
 pub use results::Results;
 pub use run_head::RunHead;
 pub use store_fault::StoreFault;
-
-#[cfg(test)]
-mod tests;

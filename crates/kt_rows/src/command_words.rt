@@ -1,0 +1,41 @@
+use crate::escapes::unescaped;
+use crate::row::Row;
+use crate::row_fault::RowFault;
+use kt_cli::{Command, CommandFault, CommandLine, read_command};
+use std::alloc::Global;
+
+/// The words of a line, which have spaces between them.
+fn words_of(alloc: Global, line: &str) -> Result<Vec<String>, RowFault> {
+    let mut words = Vec::new(alloc);
+    for word in line.split_whitespace() {
+        let bytes = unescaped(alloc, word)?;
+        match str::from_utf8(&bytes) {
+            Ok(text) => words.push(String::from_str(alloc, text)?)?,
+            Err(_) => return Err(RowFault::Misspelled("a word is UTF-8")),
+        }
+    }
+    Ok(words)
+}
+
+/// The command line that a line spells, or why it is none.
+pub fn read_line(
+    alloc: Global,
+    line: &str,
+) -> Result<Result<CommandLine, CommandFault>, RowFault> {
+    let words = words_of(alloc, line)?;
+    Ok(read_command(alloc, words.as_slice()))
+}
+
+/// The commands of a row: `do COMMAND LINE` each.
+pub fn commands_of(alloc: Global, row: &Row<'_>) -> Result<Vec<Command>, RowFault> {
+    let mut commands = Vec::new(alloc);
+    for entry in row.entries.as_slice() {
+        if entry.word == "do" {
+            match read_line(alloc, entry.text)? {
+                Ok(line) => commands.push(line.command)?,
+                Err(_) => return Err(RowFault::Misspelled("there is no such command")),
+            }
+        }
+    }
+    Ok(commands)
+}

@@ -1,0 +1,85 @@
+ghost use Rattle.kt_sched.specs.Children.{IsIdle};
+
+use crate::numbers::{number, numbers};
+use crate::row::Row;
+use crate::row_fault::RowFault;
+use crate::scenes::holding_of;
+use kt_base::{NoMemory, Text};
+use kt_child::{Driver, Os};
+use kt_cli::{Command, Exit, ResultStore, execute_all};
+use kt_play::{RefusingStore, ScriptedWorld, Stage};
+use kt_sched::Launcher;
+use std::alloc::Global;
+use std::io::Write;
+
+/// The world of a row: `holds PATH TEXT`, `program PATH`, `locked PATH`, `dear PATH` each, and `now MOMENTS`.
+pub fn stage_of<'a>(alloc: Global, row: &Row<'a>) -> Result<Stage<'a>, RowFault> {
+    let mut stage = Stage {
+        files: Vec::new(alloc),
+        programs: Vec::new(alloc),
+        locked: Vec::new(alloc),
+        dear: Vec::new(alloc),
+        moments: numbers(alloc, row.text("now").unwrap_or("0"))?,
+    };
+    for entry in row.entries.as_slice() {
+        match entry.word {
+            "holds" => stage.files.push(holding_of(alloc, entry.text)?)?,
+            "program" => stage.programs.push(entry.text)?,
+            "locked" => stage.locked.push(entry.text)?,
+            "dear" => stage.dear.push(entry.text)?,
+            _ => {}
+        }
+    }
+    Ok(stage)
+}
+
+/// The first and the last call that is refused, of `N` or `N M`, counted from 1.
+fn calls_of(text: &str) -> Result<(u64, u64), RowFault> {
+    let (first, last) = text.split_once(' ').unwrap_or((text, text));
+    Ok((number(first)?, number(last)?))
+}
+
+/// The store of a row, in memory: `refused CALLS`, or `refused-memory CALLS`.
+pub fn store_of(alloc: Global, row: &Row<'_>) -> Result<RefusingStore, RowFault> {
+    if let Some(calls) = row.text("refused-memory") {
+        return Ok(RefusingStore::new(alloc, calls_of(calls)?, true));
+    }
+    let calls = calls_of(row.text("refused").unwrap_or("0"))?;
+    Ok(RefusingStore::new(alloc, calls, false))
+}
+
+/// Does commands over a world with this launcher.
+pub fn over_launcher<L: Launcher + Drop, R: ResultStore, W: Write>(
+    alloc: Global,
+    commands: &[Command],
+    stage: &Stage<'_>,
+    launcher: L,
+    results: &mut R,
+    out: &mut W,
+) -> Result<(Vec<Exit>, L), NoMemory>
+    requires { IsIdle (L.running launcher) (L.pending launcher) }
+{
+    let mut world = ScriptedWorld::new(alloc, stage, launcher);
+    let exits = execute_all(alloc, commands, &mut world, results, out)?;
+    Ok((exits, world.launcher))
+}
+
+/// Does commands over a world with a driver of its own over this system.
+pub fn over_system<O: Os + Drop, R: ResultStore, W: Write>(
+    alloc: Global,
+    commands: &[Command],
+    stage: &Stage<'_>,
+    os: O,
+    results: &mut R,
+    out: &mut W,
+) -> Result<Vec<Exit>, RowFault> {
+    let source = Text::from_str(alloc, "/t")?;
+    match Driver::new(alloc, os, &Text::new(alloc), source) {
+        Err((_fault, _os)) => Err(RowFault::Misspelled("there is no driver")),
+        Ok(driver) => {
+            let (exits, driver) = over_launcher(alloc, commands, stage, driver, results, out)?;
+            let _ = driver.close();
+            Ok(exits)
+        }
+    }
+}

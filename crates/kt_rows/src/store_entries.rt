@@ -1,0 +1,97 @@
+ghost use Rattle.std.specs.Prelude.{◌≤◌, IfOk};
+
+use crate::escapes::unescaped;
+use crate::lines::push_line;
+use crate::numbers::number;
+use crate::row::Row;
+use crate::row_fault::RowFault;
+use crate::verdicts;
+use kt_base::{Bytes, Entry, LATEST_MOMENT, Output, Reason, Text, Verdict};
+use std::alloc::Global;
+
+fn text_of(alloc: Global, raw: &str) -> Result<Text, RowFault> {
+    let bytes = unescaped(alloc, raw)?;
+    match str::from_utf8(&bytes) {
+        Ok(text) => Ok(Text::from_str(alloc, text)?),
+        Err(_) => Err(RowFault::Misspelled("a text is UTF-8")),
+    }
+}
+
+/// A verdict: `passed`, or a kind, `: ` and a reason.
+fn verdict_of(alloc: Global, text: &str) -> Result<Verdict, RowFault> {
+    if text == "passed" {
+        return Ok(Verdict::passed());
+    }
+    let (kind, reason) = text.split_once(": ").unwrap_or((text, ""));
+    let reason = Reason::Owned(text_of(alloc, reason)?);
+    match kind {
+        "skipped" => Ok(Verdict::skipped(reason)),
+        "expected_failure" => Ok(Verdict::expected_failure(reason)),
+        "failed" => Ok(Verdict::failed(reason)),
+        "broken" => Ok(Verdict::broken(reason)),
+        _ => Err(RowFault::Misspelled("there is no such kind")),
+    }
+}
+
+/// A moment or a time in milliseconds, which is another one where the row has none.
+pub fn millis_of(text: Option<&str>, other: u64) -> Result<u64, RowFault>
+    ensures { IfOk result (λ n. n ≤ 253402300799999) }
+{
+    match text {
+        None => Ok(other.min(LATEST_MOMENT)),
+        Some(text) => Ok(number(text)?.min(LATEST_MOMENT)),
+    }
+}
+
+fn output_of(alloc: Global, row: &Row<'_>, out: &str, err: &str) -> Result<Output, RowFault> {
+    Ok(Output {
+        out: Bytes::from_vec(row.bytes(alloc, out)?.unwrap_or(Vec::new(alloc))),
+        err: Bytes::from_vec(row.bytes(alloc, err)?.unwrap_or(Vec::new(alloc))),
+    })
+}
+
+/// An entry of the case `main` of the program `é`: its verdict, and of the row `started N`, `took N`, `out TEXT`, `err TEXT`,
+/// `cleanup-out TEXT` and `cleanup-err TEXT`.
+pub fn entry_of(
+    alloc: Global,
+    row: &Row<'_>,
+    position: u32,
+    verdict: &str,
+) -> Result<Entry, RowFault>
+    ensures { IfOk result (λ e. (e.started ≤ 253402300799999) × (e.millis ≤ 253402300799999)) }
+{
+    let started = millis_of(row.text("started"), 1_700_000_000_123)?;
+    let millis = millis_of(row.text("took"), 12)?;
+    Ok(Entry {
+        position,
+        program: Text::from_str(alloc, "é")?,
+        case_name: Text::from_str(alloc, "main")?,
+        verdict: verdict_of(alloc, verdict)?,
+        started,
+        millis,
+        body: output_of(alloc, row, "out", "err")?,
+        cleanup: output_of(alloc, row, "cleanup-out", "cleanup-err")?,
+    })
+}
+
+fn entry_text(alloc: Global, entry: &Entry) -> Result<String, RowFault> {
+    let position = entry.position;
+    let program = entry.program.as_str();
+    let case_name = entry.case_name.as_str();
+    let verdict = verdicts::shown(alloc, &entry.verdict)?;
+    let verdict = verdict.as_str();
+    let started = entry.started;
+    let millis = entry.millis;
+    Ok(
+        format!(in alloc; "{position} {program}:{case_name} {verdict}, started {started}, took {millis}")?,
+    )
+}
+
+/// Entries, a line each.
+pub fn entries_text(alloc: Global, entries: &[Entry]) -> Result<String, RowFault> {
+    let mut out = String::new(alloc);
+    for entry in entries {
+        push_line(&mut out, entry_text(alloc, entry)?.as_str())?;
+    }
+    Ok(out)
+}

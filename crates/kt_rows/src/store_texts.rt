@@ -1,0 +1,52 @@
+use crate::lines::push_line;
+use crate::row_fault::RowFault;
+use kt_cli::ResultStore;
+use kt_store::{RunHead, StoreFault};
+use std::alloc::Global;
+
+/// Why a store refuses a call.
+pub fn store_fault_text(fault: StoreFault) -> &'static str {
+    match fault {
+        StoreFault::NoMemory => "no memory",
+        StoreFault::Store => "store failed",
+        StoreFault::NoRun => "no run",
+        StoreFault::RunClosed => "run closed",
+        StoreFault::RepeatedPosition => "repeated position",
+        StoreFault::StoreFull => "store full",
+        StoreFault::UnknownSchema => "unknown schema",
+        StoreFault::BadPosition => "bad position",
+        StoreFault::Incomplete => "incomplete",
+    }
+}
+
+/// A run with the number of its entries: `run 1 at 500: 2 of 3, unfinished`.
+fn run_text<R: ResultStore>(
+    alloc: Global,
+    results: &mut R,
+    head: &RunHead,
+) -> Result<String, RowFault> {
+    let number = head.number;
+    let started = head.started;
+    let total = head.total;
+    let state = if head.finished { "finished" } else { "unfinished" };
+    match results.entries(number) {
+        Ok(entries) => {
+            let count = entries.len();
+            Ok(format!(in alloc; "run {number} at {started}: {count} of {total}, {state}")?)
+        }
+        Err(fault) => Ok(String::from_str(alloc, store_fault_text(fault))?),
+    }
+}
+
+/// The runs of a store, a line each.
+pub fn runs_text<R: ResultStore>(alloc: Global, results: &mut R) -> Result<String, RowFault> {
+    let heads = match results.runs() {
+        Ok(heads) => heads,
+        Err(fault) => return Ok(String::from_str(alloc, store_fault_text(fault))?),
+    };
+    let mut out = String::new(alloc);
+    for head in heads.as_slice() {
+        push_line(&mut out, run_text(alloc, results, head)?.as_str())?;
+    }
+    Ok(out)
+}
