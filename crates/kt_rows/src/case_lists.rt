@@ -33,7 +33,8 @@ fn shown_fault(alloc: Global, fault: ListFault) -> Result<String, RowFault> {
 
 fn is_among(pairs: &Variables, pair: &Variable) -> bool {
     for other in pairs.as_slice() {
-        if other.name.as_str() == pair.name.as_str() && other.value.as_str() == pair.value.as_str()
+        if other.name.as_str() == pair.name.as_str()
+            && other.value.as_str() == pair.value.as_str()
         {
             return true;
         }

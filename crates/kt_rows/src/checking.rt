@@ -1,9 +1,8 @@
-use crate::answer;
 use crate::messages::mismatch_lines;
-use crate::programs;
 use crate::row::Row;
 use crate::row_fault::RowFault;
 use crate::row_file::read_rows;
+use crate::{answer, programs};
 use kt_child::HostOs;
 use std::{env, fs, io};
 

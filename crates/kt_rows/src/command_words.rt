@@ -18,10 +18,7 @@ fn words_of(alloc: Global, line: &str) -> Result<Vec<String>, RowFault> {
 }
 
 /// The command line that a line spells, or why it is none.
-pub fn read_line(
-    alloc: Global,
-    line: &str,
-) -> Result<Result<CommandLine, CommandFault>, RowFault> {
+pub fn read_line(alloc: Global, line: &str) -> Result<Result<CommandLine, CommandFault>, RowFault> {
     let words = words_of(alloc, line)?;
     Ok(read_command(alloc, words.as_slice()))
 }

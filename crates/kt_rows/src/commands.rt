@@ -24,18 +24,20 @@ struct Played {
 }
 
 /// Does the commands of a row, of whose writes one fails, counted from 1.
-fn play(
-    alloc: Global,
-    row: &Row<'_>,
-    scene: &Scene<'_>,
-    failing: u64,
-) -> Result<Played, RowFault> {
+fn play(alloc: Global, row: &Row<'_>, scene: &Scene<'_>, failing: u64) -> Result<Played, RowFault> {
     let commands = commands_of(alloc, row)?;
     let stage = stage_of(alloc, row)?;
     let mut results = store_of(alloc, row)?;
     let mut page = ScriptedWriter::new(alloc, failing);
     let os = ScriptedSystem::new(alloc, scene);
-    let exits = over_system(alloc, commands.as_slice(), &stage, os, &mut results, &mut page)?;
+    let exits = over_system(
+        alloc,
+        commands.as_slice(),
+        &stage,
+        os,
+        &mut results,
+        &mut page,
+    )?;
     let runs = runs_text(alloc, &mut results)?;
     Ok(Played { page, exits, runs })
 }
@@ -89,7 +91,10 @@ fn each_failing(alloc: Global, row: &Row<'_>, scene: &Scene<'_>) -> Result<Strin
             break;
         }
         if let Some(what) = wrong(&whole, &cut) {
-            push_line(&mut out, format!(in alloc; "at write {failing}: {what}")?.as_str())?;
+            push_line(
+                &mut out,
+                format!(in alloc; "at write {failing}: {what}")?.as_str(),
+            )?;
         }
     }
     Ok(out)

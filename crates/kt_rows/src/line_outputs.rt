@@ -70,7 +70,10 @@ fn push_failures(
         let mut cut = writer(alloc, whole.at_most, failing, fault);
         let well = given(&mut cut, pieces, true);
         if let Some(what) = wrong(whole.kept.as_slice(), &cut, well) {
-            push_line(out, format!(in alloc; "at write {failing}: {what}")?.as_str())?;
+            push_line(
+                out,
+                format!(in alloc; "at write {failing}: {what}")?.as_str(),
+            )?;
         }
     }
     Ok(())

@@ -63,7 +63,7 @@ fn time_line(alloc: Global, range: &str, entries: &[Entry]) -> Result<String, Ro
 }
 
 /// Tells if the root of the work directories is still there.
-fn push_left<O: Os>(out: &mut String, mut os: O, root: &Text) -> Result<(), RowFault> {
+fn push_left<O: Os + Drop>(out: &mut String, mut os: O, root: &Text) -> Result<(), RowFault> {
     if os.make_dir(root).is_err() {
         push_line(out, "a work directory is left")?;
     }
@@ -128,6 +128,14 @@ pub fn answer<O: Os + Drop>(
     let limit = limit_of(row.text("limit"))?;
     let plan = plan_of_row(alloc, row, limit)?;
     let width = width_of(row.text("width"))?;
-    let run = drive(alloc, os, plan, width, &base, source, MemorySink::new(alloc, 0));
+    let run = drive(
+        alloc,
+        os,
+        plan,
+        width,
+        &base,
+        source,
+        MemorySink::new(alloc, 0),
+    );
     shown(alloc, row, run, here)
 }

@@ -170,12 +170,7 @@ fn fused(alloc: Global, in_log: bool, calls: u64) -> Files<Fused> {
 }
 
 /// Lets the disk fail at each call in turn until none is refused: after how many calls on the store it failed, each number once.
-fn sweep(
-    alloc: Global,
-    row: &Row<'_>,
-    in_log: bool,
-    frames: usize,
-) -> Result<String, RowFault> {
+fn sweep(alloc: Global, row: &Row<'_>, in_log: bool, frames: usize) -> Result<String, RowFault> {
     let mut out = String::from_str(alloc, "refused after")?;
     let mut last = -1;
     for calls in 0..LIMIT {

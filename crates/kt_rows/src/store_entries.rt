@@ -82,9 +82,9 @@ fn entry_text(alloc: Global, entry: &Entry) -> Result<String, RowFault> {
     let verdict = verdict.as_str();
     let started = entry.started;
     let millis = entry.millis;
-    Ok(
-        format!(in alloc; "{position} {program}:{case_name} {verdict}, started {started}, took {millis}")?,
-    )
+    Ok(format!(in alloc;
+        "{position} {program}:{case_name} {verdict}, started {started}, took {millis}"
+    )?)
 }
 
 /// Entries, a line each.

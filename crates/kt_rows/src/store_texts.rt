@@ -28,7 +28,11 @@ fn run_text<R: ResultStore>(
     let number = head.number;
     let started = head.started;
     let total = head.total;
-    let state = if head.finished { "finished" } else { "unfinished" };
+    let state = if head.finished {
+        "finished"
+    } else {
+        "unfinished"
+    };
     match results.entries(number) {
         Ok(entries) => {
             let count = entries.len();

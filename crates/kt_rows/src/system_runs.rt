@@ -6,7 +6,7 @@ use crate::row_fault::RowFault;
 use crate::schedules::{failing_of, width_of};
 use kt_base::{Entry, Items, Text, Variable, Variables};
 use kt_child::{Driver, Os, run_driver};
-use kt_play::{Scene, ScriptedSystem, MemorySink, cases_of};
+use kt_play::{MemorySink, Scene, ScriptedSystem, cases_of};
 use kt_sched::Job;
 use std::alloc::Global;
 
