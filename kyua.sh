@@ -34,19 +34,22 @@ lines_without() {
 
 # Proves the crates that don't wait for a long one, side by side, in a copy of the checkout, and takes over what rt made there.
 prove_side_by_side() {
-  local room=$top/crates/kyua/out/low name status=0
+  local room=$top/crates/kyua/out/low name part status=0
   rm -rf "$room"
   mkdir -p "$room/crates"
   # shellcheck disable=SC2086
   lines_without $chain $apart kyua > "$room/crates.txt"
   cp "$top/HANDLES" "$room"
   sed 's/[ :].*//' "$room/crates.txt" | while IFS= read -r name; do
-    cp -a "$top/crates/$name" "$room/crates/$name"
+    mkdir "$room/crates/$name"
+    for part in "$top/crates/$name"/*; do
+      # What rt kept moves along: it is large.
+      if [ "${part##*/}" = out ]; then mv "$part" "$room/crates/$name"; else cp -a "$part" "$room/crates/$name"; fi
+    done
   done
   (cd "$room" && rt all check --jobs "$(nproc)" </dev/null) 2>&1 | tee -a "$log" |
     sed -un -e '/^== summary/d' -e 's/^== \(.*\)/kyua.sh: proved \1/p' >&2 || status=1
   sed 's/[ :].*//' "$room/crates.txt" | while IFS= read -r name; do
-    rm -rf "$top/crates/$name/out"
     mv "$room/crates/$name/out" "$top/crates/$name/out"
   done
   rm -rf "$room"
