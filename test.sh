@@ -28,6 +28,7 @@ part() {
 }
 
 part 'proofs, edits and rows' rt ci
+# rt ci leaves the program that it proved. If a proof failed there is none, and the suite fails too.
 part 'the suite' tests/run.sh
 echo "$passed passed, $failed failed"
 [ "$failed" = 0 ]

@@ -4,12 +4,15 @@
 # this checkout built. The last line says how many cases passed, and how many failed or were recorded wrongly.
 set -eu
 suite=$(cd "$(dirname "$0")" && pwd)
-KYUA=$(realpath "${KYUA:-$suite/../crates/kyua/out/kyua}")
+KYUA=$(realpath -m "${KYUA:-$suite/../crates/kyua/out/kyua}")
 export KYUA
+[ -x "$KYUA" ] || { echo "tests: there is no program $KYUA" >&2; echo '0 passed, 1 failed'; exit 1; }
 room=$(mktemp -d)
 trap 'rm -rf "$room"' EXIT
 passed=0
 failed=0
+# No core dump makes a signal another result. (dash and bash have this limit, though POSIX doesn't name it.)
+# shellcheck disable=SC3045
 ulimit -c 0
 
 # wrong WORD..: counts a failure and says what it is.
