@@ -1,23 +1,50 @@
-ghost use Rattle.std.specs.Prelude.{◌≡◌};
-
 use std::alloc::{AllocError, AllocFailed};
+use std::io;
+use std::io::ErrorKind;
 
-/// A growth was refused for want of memory. The call that answers it changed nothing that was lent to it.
+/// Memory ran out. Only a refusal of the allocator makes this value (`From`), or an error of the system that says so
+/// (`in_error`), so no code can claim one that didn't happen; `?` hands it on. The call that answers it changed nothing that was lent to it.
 #[derive(Clone, Copy, Debug, PartialEq, Eq)]
-pub struct NoMemory;
+pub struct NoMemory {
+    refusal: Refusal,
+}
+
+/// A type of this module alone, so that no other can write a `NoMemory`.
+#[derive(Clone, Copy, Debug, PartialEq, Eq)]
+struct Refusal;
+
+impl NoMemory {
+    ghost use Rattle.std.specs.Prelude.{◌≡◌, is_some, true};
+    ghost use Rattle.std.specs.IoError.{error_kind};
+
+    /// What an error of the system says of memory: nothing if it has another cause.
+    pub fn in_error(error: &io::Error) -> Option<NoMemory>
+        ensures told { error_kind error.now ≡ ErrorKind.OutOfMemory → is_some result ≡ true }
+        ensures only { is_some result ≡ true → error_kind error.now ≡ ErrorKind.OutOfMemory }
+    {
+        if error.kind() == ErrorKind::OutOfMemory {
+            return Some(NoMemory { refusal: Refusal });
+        }
+        None
+    }
+}
 
 impl From<AllocError> for NoMemory {
-    ghost from_gives = { λ _ e. e ≡ record {} };
+    ghost use Rattle.std.specs.Prelude.{◌≡◌};
+
+    ghost from_gives = { λ _ e. e ≡ record { refusal = record {} } };
 
     fn from(_error: AllocError) -> NoMemory {
-        NoMemory
+        NoMemory { refusal: Refusal }
     }
 }
 
 impl<T: Drop> From<AllocFailed<T>> for NoMemory {
-    ghost from_gives = { λ _ e. e ≡ record {} };
+    ghost use Rattle.std.specs.Prelude.{◌≡◌};
+
+    ghost from_gives = { λ _ e. e ≡ record { refusal = record {} } };
 
     fn from(_error: AllocFailed<T>) -> NoMemory {
-        NoMemory
+        NoMemory { refusal: Refusal }
     }
 }

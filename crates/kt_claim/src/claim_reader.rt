@@ -16,17 +16,17 @@ pub struct ClaimReader {
     alloc: Global,
     bytes: Vec<u8>,
     too_long: bool,
-    failed: bool,
+    failed: Option<NoMemory>,
 }
 
 impl Model for ClaimReader {
-    ghost use Rattle.std.specs.Prelude.{◌≤◌, length};
+    ghost use Rattle.std.specs.Prelude.{◌≤◌, length, is_some};
     ghost use Rattle.kt_claim.specs.ClaimReading.{ClaimReading};
     ghost use Rattle.kt_claim.specs.ResultFile.{limit};
 
     ghost Value = { ClaimReading };
 
-    ghost view = { λ r. record { kept = r.bytes.items; too_long = r.too_long; failed = r.failed } };
+    ghost view = { λ r. record { kept = r.bytes.items; too_long = r.too_long; failed = is_some r.failed } };
 
     ghost invariant = { λ r. length r.bytes.items ≤ limit };
 }
@@ -45,7 +45,7 @@ impl ClaimReader {
             alloc,
             bytes: Vec::new(alloc),
             too_long: false,
-            failed: false,
+            failed: None,
         }
     }
 
@@ -56,16 +56,17 @@ impl ClaimReader {
         ensures err { OnErr result (self.new.failed ≡ true) }
         ensures failed { self.old.failed ≡ true → IsErr result }
     {
-        if self.failed {
-            return Err(NoMemory);
+        if let Some(refusal) = self.failed {
+            return Err(refusal);
         }
         if self.too_long || piece.len() > LIMIT - self.bytes.len() {
             self.too_long = true;
             return Ok(());
         }
-        if self.bytes.extend_from_slice(piece).is_err() {
-            self.failed = true;
-            return Err(NoMemory);
+        if let Err(error) = self.bytes.extend_from_slice(piece) {
+            let refusal = NoMemory::from(error);
+            self.failed = Some(refusal);
+            return Err(refusal);
         }
         Ok(())
     }
@@ -74,8 +75,8 @@ impl ClaimReader {
         ensures read { (fed : List ℕ) → HasRead self fed → IfOk result (λ claim. claim ≡ claim_of fed) }
         ensures failed { self.failed ≡ true → IsErr result }
     {
-        if self.failed {
-            return Err(NoMemory);
+        if let Some(refusal) = self.failed {
+            return Err(refusal);
         }
         if self.too_long {
             return Ok(Claim::Malformed(ClaimFault::TooLong));

@@ -24,18 +24,18 @@ pub struct TapReader {
     line: OpenLine,
     length: usize,
     too_long: bool,
-    failed: bool,
+    failed: Option<NoMemory>,
 }
 
 impl Model for TapReader {
-    ghost use Rattle.std.specs.Prelude.{◌≤◌};
+    ghost use Rattle.std.specs.Prelude.{◌≤◌, is_some};
     ghost use Rattle.kt_claim.specs.StreamReading.{StreamReading};
     ghost use Rattle.kt_claim.specs.TapReading.{state_of};
     ghost use Rattle.kt_claim.specs.TapStream.{limit};
 
     ghost Value = { StreamReading };
 
-    ghost view = { λ r. record { tally = r.tally; line = state_of r.line; length = r.length; too_long = r.too_long; failed = r.failed } };
+    ghost view = { λ r. record { tally = r.tally; line = state_of r.line; length = r.length; too_long = r.too_long; failed = is_some r.failed } };
 
     ghost invariant = { λ r. r.length ≤ limit };
 }
@@ -59,7 +59,7 @@ impl TapReader {
             },
             length: 0,
             too_long: false,
-            failed: false,
+            failed: None,
         }
     }
 
@@ -70,19 +70,21 @@ impl TapReader {
         ensures err { OnErr result (self.new.failed ≡ true) }
         ensures failed { self.old.failed ≡ true → IsErr result }
     {
-        if self.failed {
-            return Err(NoMemory);
+        if let Some(refusal) = self.failed {
+            return Err(refusal);
         }
         if self.too_long || piece.len() > LIMIT - self.length {
             self.too_long = true;
             return Ok(());
         }
         let tally = mem::replace(&mut self.tally, Tally::new());
-        let Ok(tally) = read(self.alloc, tally, &mut self.line, piece) else {
-            self.failed = true;
-            return Err(NoMemory);
-        };
-        self.tally = tally;
+        match read(self.alloc, tally, &mut self.line, piece) {
+            Ok(tally) => self.tally = tally,
+            Err(refusal) => {
+                self.failed = Some(refusal);
+                return Err(refusal);
+            }
+        }
         self.length += piece.len();
         Ok(())
     }
@@ -92,8 +94,8 @@ impl TapReader {
         ensures value { (fed : List ℕ) → HasStream self fed → IfOk result (λ tap. tap ≡ tap_of fed) }
         ensures failed { self.failed ≡ true → IsErr result }
     {
-        if self.failed {
-            return Err(NoMemory);
+        if let Some(refusal) = self.failed {
+            return Err(refusal);
         }
         if self.too_long {
             return Ok(Tap::Invalid(TapFault::TooLong));

@@ -144,7 +144,7 @@ by_cause text cause fault due none (inr d) = absurd (none d.0 d.1)
 
 due_in : (text : List ℕ) (cause : ScriptFault) (fault : ConfigFault) → ((f : ScriptFault) → IsScriptDue text f → ScriptRefuses (Err cause) f)
     → ((stmts : List Stmt) → Spells text stmts → ScriptAnswers (Err cause) stmts) → IsDue text fault → Refuses {T = Values} (Err (fault_of_script cause)) fault
-due_in text script.NoMemory fault due none d = tt
+due_in text (script.NoMemory refusal) fault due none d = tt
 due_in text script.NotUtf8 fault due none d = by_cause text script.NotUtf8 fault due none d
 due_in text (script.BadToken line) fault due none d = by_cause text (script.BadToken line) fault due none d
 due_in text (script.NotLiteral line) fault due none d = by_cause text (script.NotLiteral line) fault due none d

@@ -102,7 +102,7 @@ Becomes old new (Err fault) = ⊥
 
 -- the fault of a file that is no script; memory that runs out is one fault, wherever it comes
 abbrev pub fault_of_script : ScriptFault → ConfigFault
-fault_of_script script.NoMemory = NoMemory (record {})
+fault_of_script (script.NoMemory refusal) = NoMemory refusal
 fault_of_script script.NotUtf8 = Script script.NotUtf8
 fault_of_script (script.BadToken line) = Script (script.BadToken line)
 fault_of_script (script.NotLiteral line) = Script (script.NotLiteral line)

@@ -17,7 +17,7 @@ pub enum ConfigFault {
     #[error("bad value")]
     BadValue,
     /// The file is no script.
-    #[error("{}", script_text(.0))]
+    #[error(transparent)]
     Script(ScriptFault),
     /// The first statement of the file isn't `syntax(2)`.
     #[error("syntax(2) expected")]
@@ -25,18 +25,6 @@ pub enum ConfigFault {
     /// A later statement of the file is a call.
     #[error("not an assignment")]
     NotAssignment,
-}
-
-/// The text of a script's fault, which doesn't tell its line.
-fn script_text(fault: &ScriptFault) -> &'static str {
-    match fault {
-        ScriptFault::NoMemory => "out of memory",
-        ScriptFault::NotUtf8 => "not UTF-8",
-        ScriptFault::BadToken(_) => "bad token",
-        ScriptFault::NotLiteral(_) => "not in the literal profile",
-        ScriptFault::Unclosed(_) => "unclosed string, comment or bracket",
-        ScriptFault::TooLong => "file too long",
-    }
 }
 
 impl From<NoMemory> for ConfigFault {

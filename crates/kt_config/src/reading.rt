@@ -15,7 +15,7 @@ pub fn script_fault(fault: ScriptFault) -> ConfigFault
     ensures { result ≡ fault_of_script fault }
 {
     match fault {
-        ScriptFault::NoMemory => ConfigFault::NoMemory(NoMemory),
+        ScriptFault::NoMemory(refusal) => ConfigFault::NoMemory(refusal),
         _ => ConfigFault::Script(fault),
     }
 }

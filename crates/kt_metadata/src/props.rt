@@ -1,4 +1,4 @@
-ghost use Rattle.std.specs.Prelude.{◌≡◌, [], ◌∷◌, ◌++◌, List, None, Some, IfOk, OnOk, OnErr};
+ghost use Rattle.std.specs.Prelude.{◌≡◌, ◌≢◌, true, false, [], ◌∷◌, ◌++◌, List, None, Some, IfOk, OnOk, OnErr};
 ghost use Rattle.std.specs.Option.{option_copied};
 ghost use Rattle.kt_base.specs.declared.variable.Variable.{Variable};
 ghost use Rattle.kt_base.specs.LastValues.{last_values, value_of};
@@ -40,6 +40,14 @@ impl Props {
         Props {
             values: IndexMap::new(alloc),
         }
+    }
+
+    /// Whether no property has a value.
+    pub fn is_empty(&self) -> bool
+        ensures empty { result ≡ true → self.now ≡ [] }
+        ensures set { result ≡ false → self.now ≢ [] }
+    {
+        self.values.is_empty()
     }
 
     /// The last value that was given to a name. It takes no memory.

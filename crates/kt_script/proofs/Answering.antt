@@ -24,7 +24,7 @@ never f others text cs is fault s = fault.no_script others (subst (λ (xs : List
 pub only_answer : (r : Result (List Stmt) ScriptFault) (text cs : List ℕ) → cs ≡ text → IfOk r (λ stmts. Script (tokens 1 0 cs) stmts)
     → IfFault r (λ f. IsFaultOf (tokens 1 0 cs) f) → (others : List Stmt) → Spells text others → Answers r others
 only_answer (Ok stmts) text cs is script fault others s = answers_ok stmts others text cs is script s
-only_answer (Err NoMemory) text cs is script fault others s = tt
+only_answer (Err (NoMemory refusal)) text cs is script fault others s = tt
 only_answer (Err NotUtf8) text cs is script fault others s = never NotUtf8 others text cs is fault s
 only_answer (Err (BadToken n)) text cs is script fault others s = never (BadToken n) others text cs is fault s
 only_answer (Err (NotLiteral n)) text cs is script fault others s = never (NotLiteral n) others text cs is fault s
@@ -37,7 +37,7 @@ for_tokens f text cs short utf8 is fault = inr (inr (short, utf8, subst (λ (xs 
 pub refused : (r : Result (List Stmt) ScriptFault) (text cs : List ℕ) → length text ≤ limit → IsUtf8 text → cs ≡ text
     → IfFault r (λ f. IsFaultOf (tokens 1 0 cs) f) → IfFault r (λ f. IsDue text f)
 refused (Ok stmts) text cs short utf8 is fault = tt
-refused (Err NoMemory) text cs short utf8 is fault = tt
+refused (Err (NoMemory refusal)) text cs short utf8 is fault = tt
 refused (Err NotUtf8) text cs short utf8 is fault = for_tokens NotUtf8 text cs short utf8 is fault
 refused (Err (BadToken n)) text cs short utf8 is fault = for_tokens (BadToken n) text cs short utf8 is fault
 refused (Err (NotLiteral n)) text cs short utf8 is fault = for_tokens (NotLiteral n) text cs short utf8 is fault

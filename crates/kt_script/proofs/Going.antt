@@ -46,7 +46,7 @@ goes_on place to parser after line next rest left text piece h is some fits read
     }
 
 pub some_fault : (T : Type 0) (f : ScriptFault) (P : ScriptFault → Type 0) → P f → IfFault {T = T} (Err f) P
-some_fault T NoMemory P h = tt
+some_fault T (NoMemory refusal) P h = tt
 some_fault T NotUtf8 P h = h
 some_fault T (BadToken n) P h = h
 some_fault T (NotLiteral n) P h = h
@@ -68,7 +68,7 @@ misfit_at place parser line rest text piece (Some kind) f same h is some fits m 
 pub stops : (T U : Type 0) (f : ScriptFault) (place : Place) (parser : Parser) (line : ℕ) (rest text : List ℕ) (piece : Piece) → GoesOn place parser line rest text
     → piece ≡ piece_at rest → 0 < piece.length → piece.length ≤ length rest
     → IfFault {T = T} (Err f) (λ f. IsMisfit place line piece.kind f) → IfFault {T = U} (Err f) (λ f. IsFaultOf (tokens 1 0 text) f)
-stops T U NoMemory place parser line rest text piece h is some fits m = tt
+stops T U (NoMemory refusal) place parser line rest text piece h is some fits m = tt
 stops T U NotUtf8 place parser line rest text piece h is some fits m = misfit_at place parser line rest text piece piece.kind NotUtf8 refl h is some fits m
 stops T U (BadToken n) place parser line rest text piece h is some fits m = misfit_at place parser line rest text piece piece.kind (BadToken n) refl h is some fits m
 stops T U (NotLiteral n) place parser line rest text piece h is some fits m = misfit_at place parser line rest text piece piece.kind (NotLiteral n) refl h is some fits m

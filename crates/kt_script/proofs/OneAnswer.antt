@@ -90,7 +90,7 @@ some_answer text =
 
 pub refuses : (r : Result (List Stmt) ScriptFault) (text : List ℕ) → IfOk r (λ stmts. Spells text stmts) → IfFault r (λ f. IsDue text f) → (fault : ScriptFault) → IsDue text fault → Refuses r fault
 refuses (Ok stmts) text ok is fault due = not_both text stmts fault ok due
-refuses (Err NoMemory) text ok is fault due = tt
+refuses (Err (NoMemory refusal)) text ok is fault due = tt
 refuses (Err NotUtf8) text ok is fault due = two_due text NotUtf8 fault is due
 refuses (Err (BadToken n)) text ok is fault due = two_due text (BadToken n) fault is due
 refuses (Err (NotLiteral n)) text ok is fault due = two_due text (NotLiteral n) fault is due

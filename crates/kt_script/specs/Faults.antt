@@ -13,7 +13,7 @@ use Rattle.kt_script.specs.Grammar.{Statement, Script, kinds, first_line}
 -- a refusal for another reason than memory
 abbrev pub IfFault : {T : Type 0} → Result T ScriptFault → (ScriptFault → Type 0) → Type 0
 IfFault (Ok x) P = Unit {0}
-IfFault (Err NoMemory) P = Unit {0}
+IfFault (Err (NoMemory refusal)) P = Unit {0}
 IfFault (Err fault) P = P fault
 
 -- some script begins with these tokens

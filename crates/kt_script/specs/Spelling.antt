@@ -32,13 +32,13 @@ IsDue text fault =
 -- the answer is these statements, unless memory ran out
 abbrev pub Answers : Result (List Stmt) ScriptFault → List Stmt → Type 0
 Answers (Ok found) stmts = found ≡ stmts
-Answers (Err NoMemory) stmts = Unit {0}
+Answers (Err (NoMemory refusal)) stmts = Unit {0}
 Answers (Err fault) stmts = ⊥
 
 -- the refusal is for this fault, unless memory ran out
 abbrev pub Refuses : Result (List Stmt) ScriptFault → ScriptFault → Type 0
 Refuses (Ok stmts) fault = ⊥
-Refuses (Err NoMemory) fault = Unit {0}
+Refuses (Err (NoMemory refusal)) fault = Unit {0}
 Refuses (Err found) fault = found ≡ fault
 
 -- what a text is answered: its statements, or the fault that is due

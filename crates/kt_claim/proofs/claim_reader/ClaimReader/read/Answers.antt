@@ -3,6 +3,6 @@ use Rattle.kt_claim.specs.ClaimReading.{ClaimReading}
 use Rattle.kt_claim.proofs.TooLong.{long}
 use Rattle.kt_claim.proofs.claim_reader.ClaimReader.read.Goals as goal
 
-pub returns-then-self-2-clause-read : goal.returns-then-self-2-clause-read
-returns-then-self-2-clause-read c = λ fed h. long c.args.self.too_long c.args.self.kept fed
-    (sym (ap (λ (r : ClaimReading). r.too_long) c.self.view_is) ∙ c.if-self-2.true) h.1
+pub returns-then-self-clause-read : goal.returns-then-self-clause-read
+returns-then-self-clause-read c = λ fed h. long c.args.self.too_long c.args.self.kept fed
+    (sym (ap (λ (r : ClaimReading). r.too_long) c.self.view_is) ∙ c.if-self.true) h.1
