@@ -1,138 +1,120 @@
 -- A tree that doesn't change has one meaning.
-use Rattle.std.specs.Prelude.{Option, Some, None, Result, Ok, Err, Bool, true, false}
+use Rattle.std.specs.Prelude.{Option, Some, None, Ok, Err}
 use Rattle.std.specs.List.{Contains}
-use Rattle.std.proofs.Common.{◌≡◌, ◌≢◌, ℕ, List, [], ◌∷◌, ◌++◌, arith, refl, sym, subst, ap, ◌∙◌}
-use Rattle.kt_script.specs.declared.fault.ScriptFault.{ScriptFault}
-use Rattle.kt_script.specs.declared.syntax.Action.{Action}
-use Rattle.kt_script.specs.declared.syntax.Stmt.{Stmt}
-use Rattle.kt_script.specs.Spelling.{Spells, IsDue}
-use Rattle.kt_suite.specs.declared.read_fault.ReadFault.{ReadFault}
-use Rattle.kt_suite.specs.declared.read_fault.ReadFault.TheVariants.{Missing, Failed}
-use Rattle.kt_suite.specs.declared.cause.SuiteCause.{SuiteCause}
-use Rattle.kt_suite.specs.declared.cause.SuiteCause.TheVariants.{Script}
-use Rattle.kt_suite.specs.declared.meaning.Meaning.{Meaning}
+use Rattle.std.proofs.Common.{◌≡◌, ◌≤◌, ◌<◌, ◌+◌, ℕ, List, [], ◌∷◌, ◌++◌, length, arith, refl, sym, subst, ap, ◌∙◌}
+use Rattle.std.proofs.lemmas.List.Elements.{Contains-push, Contains-append_left, Contains-append_right}
+use Rattle.kt_suite.specs.declared.fault.SuiteFault.{SuiteFault}
 use Rattle.kt_suite.specs.declared.meaning.Meaning.TheVariants as meaning
 use Rattle.kt_suite.specs.declared.program.Program.{Program}
-use Rattle.kt_suite.specs.declared.registry.Registry.{Registry}
-use Rattle.kt_suite.specs.Answers.{Asked, Read, Exists, IsSteady}
-use Rattle.kt_suite.specs.Paths.{beside}
-use Rattle.kt_suite.specs.Registered.{Outcome, fault_at, nothing_read, script_line, Adds, missing, too_many, added, Does, wrong, suite, program, Registers, all_read, stops, goes_on, Opens, no_statement, unopened, opened, Registered, no_file, not_read, no_script, file}
-use Rattle.kt_suite.proofs.Following.{extends_left, extends_right}
-use Rattle.kt_suite.proofs.Opening.{registered_in}
-use Rattle.kt_suite.proofs.ScriptLaws.{one_script, one_fault, not_both}
+use Rattle.kt_suite.specs.Answers.{Asked, SameQuestion, IsSteady}
+use Rattle.kt_suite.specs.Marks.{Site, Mark, Asks, File, Listed, Fault, one, TreeGives}
+use Rattle.kt_suite.specs.Registered.{file_limit, program_limit, Outcome, questions_in, files_in, programs_in, faults_in, Decides, is_fault, file_too_many, program_too_many, Registered, all, stopped}
+use Rattle.kt_suite.proofs.Agreement.{Agree, both_end, same_mark, both_ask, trees_agree}
 
-abbrev answer_of : Asked → Result (List ℕ) ReadFault → Result (List ℕ) ReadFault
-answer_of (Read p a) d = a
-answer_of (Exists p a) d = d
+-- marks up to the one that decides, behind so many files and programs: the questions, the programs and the fault
+data Cut : ℕ → ℕ → List Mark → List Asked → List Program → Option SuiteFault → Type 0 where
+  c_end : (n k : ℕ) → Cut n k [] [] [] None
+  c_asks : (n k : ℕ) (q : Asked) (ms : List Mark) (qs : List Asked) (ps : List Program) (f : Option SuiteFault) → Cut n k ms qs ps f → Cut n k (Asks q ∷ ms) (q ∷ qs) ps f
+  c_file : (n k : ℕ) (at : Site) (ms : List Mark) (qs : List Asked) (ps : List Program) (f : Option SuiteFault) → n < file_limit → Cut (n + 1) k ms qs ps f → Cut n k (File at ∷ ms) qs ps f
+  c_listed : (n k : ℕ) (at : Site) (p : Program) (ms : List Mark) (qs : List Asked) (ps : List Program) (f : Option SuiteFault) → k < program_limit → Cut n (k + 1) ms qs ps f → Cut n k (Listed at p ∷ ms) qs (p ∷ ps) f
+  c_stop : (n k : ℕ) (m : Mark) (ms : List Mark) (fault : SuiteFault) → Decides n k m fault → Cut n k (m ∷ ms) [] [] (Some fault)
 
-abbrev exists_of : Asked → Bool → Bool
-exists_of (Read p a) d = d
-exists_of (Exists p a) d = a
+abbrev pub outcome_of : List Program → Option SuiteFault → Outcome
+outcome_of ps None = Ok ps
+outcome_of ps (Some fault) = Err fault
 
-one_answer : (asked : List Asked) (root : List ℕ) (a b : Result (List ℕ) ReadFault) → IsSteady asked → Contains asked (Read root a) → Contains asked (Read root b) → a ≡ b
-one_answer asked root a b s p q = ap (λ (x : Asked). answer_of x a) (s (Read root a) (Read root b) p q refl)
+-- where two lists of answers come to the same question at the same place, it has one answer
+abbrev Alike : List Asked → List Asked → Type 0
+Alike [] rs = Unit {0}
+Alike (q ∷ qs) [] = Unit {0}
+Alike (q ∷ qs) (r ∷ rs) = (SameQuestion q r → q ≡ r) × Alike qs rs
 
-there_or_not : (asked : List Asked) (path : List ℕ) → IsSteady asked → Contains asked (Exists path false) → Contains asked (Exists path true) → ⊥
-there_or_not asked path s p q = let e : false ≡ true = ap (λ (x : Asked). exists_of x true) (s (Exists path false) (Exists path true) p q refl) in absurd (cc)
+head_of : (q : Asked) (qs : List Asked) → Contains (q ∷ qs) q
+head_of q qs = Contains-append_left (q ∷ []) qs q (Contains-push [] q)
 
-adds_once : (asked : List Asked) (r : Registry) (p : Program) (x y : Result Registry SuiteCause) → IsSteady asked → Adds asked r p x → Adds asked r p y → x ≡ y
-adds_once asked r p x y s (missing h) (missing k) = refl
-adds_once asked r p x y s (missing h) (too_many k n) = absurd (there_or_not asked p.path s h k)
-adds_once asked r p x y s (missing h) (added k n) = absurd (there_or_not asked p.path s h k)
-adds_once asked r p x y s (too_many h n) (missing k) = absurd (there_or_not asked p.path s k h)
-adds_once asked r p x y s (too_many h n) (too_many k m) = refl
-adds_once asked r p x y s (too_many h n) (added k m) = absurd (omega arith)
-adds_once asked r p x y s (added h n) (missing k) = absurd (there_or_not asked p.path s k h)
-adds_once asked r p x y s (added h n) (too_many k m) = absurd (omega arith)
-adds_once asked r p x y s (added h n) (added k m) = refl
+tail_of : (q x : Asked) (qs : List Asked) → Contains qs x → Contains (q ∷ qs) x
+tail_of q x qs h = Contains-append_right (q ∷ []) qs x h
 
-abbrev cause_in : Meaning → SuiteCause → SuiteCause
-cause_in (meaning.Wrong cause) d = cause
-cause_in (meaning.Suite name) d = d
-cause_in (meaning.Program interface name named) d = d
+alike_sure : (qs rs : List Asked) → ((x y : Asked) → Contains qs x → Contains rs y → SameQuestion x y → x ≡ y) → Alike qs rs
+alike_sure [] rs s = tt
+alike_sure (q ∷ qs) [] s = tt
+alike_sure (q ∷ qs) (r ∷ rs) s = (λ e. s q r (head_of q qs) (head_of r rs) e, alike_sure qs rs (λ x y h k e. s x y (tail_of q x qs h) (tail_of r y rs k) e))
 
-abbrev suite_in : Meaning → List ℕ → List ℕ
-suite_in (meaning.Wrong cause) d = d
-suite_in (meaning.Suite name) d = name
-suite_in (meaning.Program interface name named) d = d
+alike_same : (qs : List Asked) → Alike qs qs
+alike_same [] = tt
+alike_same (q ∷ qs) = (λ e. refl, alike_same qs)
 
-abbrev program_in : List ℕ → Meaning → Program → Program
-program_in path (meaning.Wrong cause) d = d
-program_in path (meaning.Suite name) d = d
-program_in path (meaning.Program interface name named) d = record { interface = interface; path = beside path name; suite = named }
+decides_once : (n k : ℕ) (m : Mark) (f g : SuiteFault) → Decides n k m f → Decides n k m g → f ≡ g
+decides_once n k _ _ _ (is_fault f) (is_fault _) = refl
+decides_once n k _ _ _ (file_too_many at h) (file_too_many _ i) = refl
+decides_once n k _ _ _ (program_too_many at p h) (program_too_many _ _ i) = refl
 
--- which of the three meanings
-abbrev kind_of : Meaning → ℕ
-kind_of (meaning.Wrong cause) = 0
-kind_of (meaning.Suite name) = 1
-kind_of (meaning.Program interface name named) = 2
+abbrev SameEnd : List Program → Option SuiteFault → List Program → Option SuiteFault → Type 0
+SameEnd ps f os g = (ps ≡ os) × (f ≡ g)
 
-differ : (m a b : Meaning) → m ≡ a → m ≡ b → kind_of a ≢ kind_of b → ⊥
-differ m a b e f n = n (ap kind_of (sym e ∙ f))
+with_program : (p : Program) (ps os : List Program) (f g : Option SuiteFault) → SameEnd ps f os g → SameEnd (p ∷ ps) f (p ∷ os) g
+with_program p ps os f g e = (ap (λ (xs : List Program). p ∷ xs) e.0, e.1)
 
-does_once : (asked : List Asked) (path : List ℕ) (r : Registry) (action : Action) (x y : Result Registry SuiteCause) → IsSteady asked → Does asked path r action x → Does asked path r action y → x ≡ y
-does_once asked path r action x y s (wrong a e) (wrong b f) = ap (λ (m : Meaning). Err (cause_in m a)) (sym e ∙ f)
-does_once asked path r action x y s (wrong a e) (suite b f) = absurd (differ _ _ _ e f (omega arith))
-does_once asked path r action x y s (wrong a e) (program i n k _ f h) = absurd (differ _ _ _ e f (omega arith))
-does_once asked path r action x y s (suite a e) (wrong b f) = absurd (differ _ _ _ e f (omega arith))
-does_once asked path r action x y s (suite a e) (suite b f) = ap (λ (m : Meaning). Ok (record r { suite = Some (suite_in m a) })) (sym e ∙ f)
-does_once asked path r action x y s (suite a e) (program i n k _ f h) = absurd (differ _ _ _ e f (omega arith))
-does_once asked path r action x y s (program i n k _ e h) (wrong b f) = absurd (differ _ _ _ e f (omega arith))
-does_once asked path r action x y s (program i n k _ e h) (suite b f) = absurd (differ _ _ _ e f (omega arith))
-does_once asked path r action x y s (program i n k _ e h) (program j m l _ f g) =
-    adds_once asked r (record { interface = i; path = beside path n; suite = k }) x y s h
-    (subst (λ (p : Program). Adds asked r p y) (ap (λ (z : Meaning). program_in path z (record { interface = i; path = beside path n; suite = k })) (sym f ∙ e)) g)
+cuts_same : (n k : ℕ) (ms ns : List Mark) (qs rs : List Asked) (ps os : List Program) (f g : Option SuiteFault) → Agree ms ns → Alike qs rs → Cut n k ms qs ps f → Cut n k ns rs os g → SameEnd ps f os g
+cuts_same n k _ _ _ _ _ _ _ _ both_end s (c_end _ _) (c_end _ _) = (refl, refl)
+cuts_same n k _ _ _ _ ps os f g (same_mark _ _ _ a) s (c_asks _ _ q ms qs _ _ c) (c_asks _ _ _ ns rs _ _ d) = cuts_same n k ms ns qs rs ps os f g a s.1 c d
+cuts_same n k _ _ _ _ ps _ f _ (same_mark _ _ _ a) s (c_asks _ _ q ms qs _ _ c) (c_stop _ _ _ ns y d) = elim d [ ]
+cuts_same n k _ _ qs rs ps os f g (same_mark _ _ _ a) s (c_file _ _ at ms _ _ _ l c) (c_file _ _ _ ns _ _ _ h d) = cuts_same (n + 1) k ms ns qs rs ps os f g a s c d
+cuts_same n k _ _ qs _ ps _ f _ (same_mark _ _ _ a) s (c_file _ _ at ms _ _ _ l c) (c_stop _ _ _ ns _ (file_too_many _ h)) = absurd (omega (arith, l, h))
+cuts_same n k _ _ qs rs _ _ f g (same_mark _ _ _ a) s (c_listed _ _ at p ms _ ps _ l c) (c_listed _ _ _ _ ns _ os _ h d) = with_program p ps os f g (cuts_same n (k + 1) ms ns qs rs ps os f g a s c d)
+cuts_same n k _ _ qs _ _ _ f _ (same_mark _ _ _ a) s (c_listed _ _ at p ms _ ps _ l c) (c_stop _ _ _ ns _ (program_too_many _ _ h)) = absurd (omega (arith, l, h))
+cuts_same n k _ _ _ _ _ os _ g (same_mark _ _ _ a) s (c_stop _ _ _ ms x d) (c_asks _ _ q ns rs _ _ c) = elim d [ ]
+cuts_same n k _ _ _ rs _ os _ g (same_mark _ _ _ a) s (c_stop _ _ _ ms _ (file_too_many _ h)) (c_file _ _ at ns _ _ _ l c) = absurd (omega (arith, l, h))
+cuts_same n k _ _ _ rs _ _ _ g (same_mark _ _ _ a) s (c_stop _ _ _ ms _ (program_too_many _ _ h)) (c_listed _ _ at p ns _ os _ l c) = absurd (omega (arith, l, h))
+cuts_same n k _ _ _ _ _ _ _ _ (same_mark m _ _ a) s (c_stop _ _ _ ms x d) (c_stop _ _ _ ns y e) = (refl, ap Some (decides_once n k m x y d e))
+cuts_same n k _ _ _ _ ps os f g (both_ask q r _ _ e a) s (c_asks _ _ _ ms qs _ _ c) (c_asks _ _ _ ns rs _ _ d) =
+    cuts_same n k ms ns qs rs ps os f g (a (s.0 e)) s.1 c d
+cuts_same n k _ _ _ _ ps _ f _ (both_ask q r _ _ e a) s (c_asks _ _ _ ms qs _ _ c) (c_stop _ _ _ ns y d) = elim d [ ]
+cuts_same n k _ _ _ _ _ os _ g (both_ask q r _ _ e a) s (c_stop _ _ _ ms x d) (c_asks _ _ _ ns rs _ _ c) = elim d [ ]
+cuts_same n k _ _ _ _ _ _ _ _ (both_ask q r _ _ e a) s (c_stop _ _ _ ms x d) (c_stop _ _ _ ns y h) = elim d [ ]
 
-registers_same : (asked : List Asked) (path : List ℕ) (stmts : List Stmt) (r : Registry) (x y : Outcome) → IsSteady asked → Registers asked path stmts r x → Registers asked path stmts r y → x ≡ y
-registers_same asked path [] r x y s (all_read _) (all_read _) = refl
-registers_same asked path (stmt ∷ rest) r x y s (stops _ _ _ a d) (stops _ _ _ b e) =
-    ap (λ (z : Result Registry SuiteCause). Err (fault_at path stmt.line (elim z [ Ok q ↦ a | Err cause ↦ cause ]))) (does_once asked path r stmt.action (Err a) (Err b) s d e)
-registers_same asked path (stmt ∷ rest) r x y s (stops _ _ _ a d) (goes_on _ _ _ after _ e h) =
-    let z = does_once asked path r stmt.action (Err a) (Ok after) s d e in absurd (cc)
-registers_same asked path (stmt ∷ rest) r x y s (goes_on _ _ _ after _ d h) (stops _ _ _ b e) =
-    let z = does_once asked path r stmt.action (Ok after) (Err b) s d e in absurd (cc)
-registers_same asked path (stmt ∷ rest) r x y s (goes_on _ _ _ after _ d h) (goes_on _ _ _ later _ e k) =
-    registers_same asked path rest after x y s h
-    (subst (λ (z : Registry). Registers asked path rest z y) (ap (λ (z : Result Registry SuiteCause). elim z [ Ok q ↦ q | Err cause ↦ after ]) (does_once asked path r stmt.action (Ok later) (Ok after) s e d)) k)
+no_fault : (f : SuiteFault) (fs : List SuiteFault) → f ∷ fs ≡ [] → ⊥
+no_fault f fs e = absurd (cc)
 
-opens_same : (asked : List Asked) (path : List ℕ) (stmts : List Stmt) (x y : Outcome) → IsSteady asked → Opens asked path stmts x → Opens asked path stmts y → x ≡ y
-opens_same asked path [] x y s no_statement no_statement = refl
-opens_same asked path (stmt ∷ rest) x y s (unopened _ _ a e) (unopened _ _ b f) =
-    ap (λ (z : Option SuiteCause). Err (fault_at path stmt.line (elim z [ None ↦ a | Some cause ↦ cause ]))) (sym e ∙ f)
-opens_same asked path (stmt ∷ rest) x y s (unopened _ _ a e) (opened _ _ _ f h) = let z = sym e ∙ f in absurd (cc)
-opens_same asked path (stmt ∷ rest) x y s (opened _ _ _ e h) (unopened _ _ b f) = let z = sym e ∙ f in absurd (cc)
-opens_same asked path (stmt ∷ rest) x y s (opened _ _ _ e h) (opened _ _ _ f k) = registers_same asked path rest nothing_read x y s h k
+cut_all : (n k : ℕ) (ms : List Mark) → faults_in ms ≡ [] → n + files_in ms ≤ file_limit → k + length (programs_in ms) ≤ program_limit → Cut n k ms (questions_in ms) (programs_in ms) None
+cut_all n k [] e f p = c_end n k
+cut_all n k (Asks q ∷ ms) e f p = c_asks n k q ms _ _ _ (cut_all n k ms e f p)
+cut_all n k (File at ∷ ms) e f p = c_file n k at ms _ _ _ (omega (arith, f)) (cut_all (n + 1) k ms e (omega (arith, f)) p)
+cut_all n k (Listed at x ∷ ms) e f p = c_listed n k at x ms _ _ _ (omega (arith, p)) (cut_all n (k + 1) ms e f (omega (arith, p)))
+cut_all n k (Fault x ∷ ms) e f p = absurd (no_fault x (faults_in ms) e)
 
-abbrev text_in : Result (List ℕ) ReadFault → List ℕ → List ℕ
-text_in (Ok x) d = x
-text_in (Err e) d = d
+cut_front : (n k : ℕ) (ms back : List Mark) (m : Mark) (fault : SuiteFault) (u v : ℕ) → u ≡ n + files_in ms → v ≡ k + length (programs_in ms) → faults_in ms ≡ [] → u ≤ file_limit → v ≤ program_limit → Decides u v m fault
+    → (ps : List Program) × Cut n k (ms ++ m ∷ back) (questions_in ms) ps (Some fault)
+cut_front n k [] back m fault u v a b e f p d =
+    let a' : u ≡ n = omega (arith, a) in
+    let b' : v ≡ k = omega (arith, b) in
+    ([], c_stop n k m back fault (subst (λ (y : ℕ). Decides n y m fault) b' (subst (λ (x : ℕ). Decides x v m fault) a' d)))
+cut_front n k (Asks q ∷ ms) back m fault u v a b e f p d = let c = cut_front n k ms back m fault u v a b e f p d in (c.0, c_asks n k q _ _ _ _ c.1)
+cut_front n k (File at ∷ ms) back m fault u v a b e f p d = let c = cut_front (n + 1) k ms back m fault u v (omega (arith, a)) b e f p d in (c.0, c_file n k at _ _ _ _ (omega (arith, a, f)) c.1)
+cut_front n k (Listed at x ∷ ms) back m fault u v a b e f p d = let c = cut_front n (k + 1) ms back m fault u v a (omega (arith, b)) e f p d in (x ∷ c.0, c_listed n k at x _ _ _ _ (omega (arith, b, p)) c.1)
+cut_front n k (Fault x ∷ ms) back m fault u v a b e f p d = absurd (no_fault x (faults_in ms) e)
 
-same_text : (asked : List Asked) (root a b : List ℕ) → IsSteady asked → Contains asked (Read root (Ok a)) → Contains asked (Read root (Ok b)) → a ≡ b
-same_text asked root a b s p q = ap (λ (x : Result (List ℕ) ReadFault). text_in x a) (one_answer asked root (Ok a) (Ok b) s p q)
+-- what is registered comes from a cut of what the tree gives
+data Comes (asked : List Asked) (root : List ℕ) : Outcome → Type 0 where
+  comes : (ms : List Mark) (ps : List Program) (f : Option SuiteFault) → TreeGives root ms → Cut 0 0 ms asked ps f → Comes asked root (outcome_of ps f)
 
-read_or_not : (asked : List Asked) (root text : List ℕ) (fault : ReadFault) → IsSteady asked → Contains asked (Read root (Ok text)) → Contains asked (Read root (Err fault)) → ⊥
-read_or_not asked root text fault s p q = let e = one_answer asked root (Ok text) (Err fault) s p q in absurd (cc)
+comes_from : (asked : List Asked) (root : List ℕ) (x : Outcome) → Registered asked root x → Comes asked root x
+comes_from asked root _ (all ms g u e) =
+    let f = u.files in
+    let p = u.programs in
+    comes ms (programs_in ms) None g (subst (λ (qs : List Asked). Cut 0 0 ms qs (programs_in ms) None) (sym e) (cut_all 0 0 ms u.faultless (omega (arith, f)) (omega (arith, p))))
+comes_from asked root _ (stopped front back m fault g u d e) =
+    let c = cut_front 0 0 front back m fault (files_in front) (length (programs_in front)) (omega arith) (omega arith) u.faultless u.files u.programs d in
+    comes (front ++ m ∷ back) c.0 (Some fault) g (subst (λ (qs : List Asked). Cut 0 0 (front ++ m ∷ back) qs c.0 (Some fault)) (sym e) c.1)
 
-pub one_meaning : (asked : List Asked) (root : List ℕ) (x y : Outcome) → IsSteady asked → Registered asked root x → Registered asked root y → x ≡ y
-one_meaning asked root x y s (no_file h) (no_file k) = refl
-one_meaning asked root x y s (no_file h) (not_read k) = refl
-one_meaning asked root x y s (no_file h) (no_script t f k i) = absurd (read_or_not asked root t Missing s k h)
-one_meaning asked root x y s (no_file h) (file t u _ k i o) = absurd (read_or_not asked root t Missing s k h)
-one_meaning asked root x y s (not_read h) (no_file k) = refl
-one_meaning asked root x y s (not_read h) (not_read k) = refl
-one_meaning asked root x y s (not_read h) (no_script t f k i) = absurd (read_or_not asked root t Failed s k h)
-one_meaning asked root x y s (not_read h) (file t u _ k i o) = absurd (read_or_not asked root t Failed s k h)
-one_meaning asked root x y s (no_script t f h i) (no_file k) = absurd (read_or_not asked root t Missing s h k)
-one_meaning asked root x y s (no_script t f h i) (not_read k) = absurd (read_or_not asked root t Failed s h k)
-one_meaning asked root x y s (no_script t f h i) (no_script v g k j) =
-    ap (λ (z : ScriptFault). Err (fault_at root (script_line z) (Script z))) (one_fault t f g i (subst (λ (z : List ℕ). IsDue z g) (same_text asked root v t s k h) j))
-one_meaning asked root x y s (no_script t f h i) (file v u _ k j o) = absurd (not_both t u f (subst (λ (z : List ℕ). Spells z u) (same_text asked root v t s k h) j) i)
-one_meaning asked root x y s (file t u _ h i o) (no_file k) = absurd (read_or_not asked root t Missing s h k)
-one_meaning asked root x y s (file t u _ h i o) (not_read k) = absurd (read_or_not asked root t Failed s h k)
-one_meaning asked root x y s (file t u _ h i o) (no_script v g k j) = absurd (not_both t u g i (subst (λ (z : List ℕ). IsDue z g) (same_text asked root v t s k h) j))
-one_meaning asked root x y s (file t u _ h i o) (file v w _ k j q) =
-    opens_same asked root u x y s o (subst (λ (z : List Stmt). Opens asked root z y) (one_script t w u (subst (λ (z : List ℕ). Spells z w) (same_text asked root v t s k h) j) i) q)
+one_end : (first second : List Asked) (root : List ℕ) (x y : Outcome) → Alike first second → Comes first root x → Comes second root y → x ≡ y
+one_end first second root _ _ s (comes ms ps f g c) (comes ns os h i d) =
+    let e = cuts_same 0 0 ms ns first second ps os f h (trees_agree root ms ns g i) s c d in
+    ap (λ (z : List Program). outcome_of z f) e.0 ∙ ap (λ (z : Option SuiteFault). outcome_of os z) e.1
 
 pub one_meaning_twice : (first second : List Asked) (root : List ℕ) (x y : Outcome) → IsSteady (first ++ second) → Registered first root x → Registered second root y → x ≡ y
 one_meaning_twice first second root x y s h k =
-    one_meaning (first ++ second) root x y s (registered_in first (first ++ second) root x (extends_left first second) h) (registered_in second (first ++ second) root y (extends_right first second) k)
+    one_end first second root x y (alike_sure first second (λ p q i j e. s p q (Contains-append_left first second p i) (Contains-append_right first second q j) e)) (comes_from first root x h) (comes_from second root y k)
+
+pub one_meaning : (asked : List Asked) (root : List ℕ) (x y : Outcome) → Registered asked root x → Registered asked root y → x ≡ y
+one_meaning asked root x y h k = one_end asked asked root x y (alike_same asked) (comes_from asked root x h) (comes_from asked root y k)

@@ -1,8 +1,126 @@
--- What the rest of a table says goes over what was found before it.
-use Rattle.std.specs.Prelude.{Option, Some, None}
+-- A table with one definition more.
+use Rattle.std.specs.Prelude.{codes, cond, Option, Some, None, Result, Ok, Err, if◌then◌else◌}
+use Rattle.std.proofs.Common.{◌≡◌, ℕ, Bool, true, false, List, [], ◌∷◌, ◌++◌, bytes_eq, refl, sym, ap, ◌∙◌}
+use Rattle.std.specs.List.{filter}
+use mathlib.Core.List.{append-nil}
+use Rattle.std.proofs.lemmas.List.Elements.{filter-append}
+use Rattle.kt_base.specs.declared.variable.Variable.{Variable}
+use Rattle.kt_base.specs.LastValues.{is_named, later, value_of, last_values}
+use Rattle.kt_base.proofs.Names.{same, same-flip, value_of-append}
+use Rattle.kt_script.specs.declared.syntax.Pair.{Pair}
+use Rattle.kt_script.specs.LiteralText.{text_of}
+use Rattle.kt_metadata.specs.Properties.{is_kyuafile_property, definition_fault}
+use Rattle.kt_suite.specs.declared.cause.SuiteCause.{SuiteCause}
+use Rattle.kt_suite.specs.declared.cause.SuiteCause.TheVariants.{UnknownProperty}
+use Rattle.kt_suite.specs.declared.key.Key.{Key}
+use Rattle.kt_suite.specs.declared.key.Key.TheVariants as key
 use Rattle.kt_suite.specs.declared.program_table.ProgramTable.{ProgramTable}
-use Rattle.kt_suite.specs.Meanings.{later}
+use Rattle.kt_suite.specs.Calls.{key_named}
+use Rattle.kt_suite.specs.Tables.{definition, is_property, value_cause, key_fault, pair_fault, table_of, unless, props_with, table_with}
 
-abbrev pub over : ProgramTable → Option ProgramTable → Option ProgramTable
-over found None = None
-over found (Some rest) = Some (record { name = later found.name rest.name; suite = later found.suite rest.suite })
+-- the properties in two lists
+properties-append : (pairs more : List Variable) → filter is_property (pairs ++ more) ≡ filter is_property pairs ++ filter is_property more
+properties-append pairs more = filter-append is_property pairs more
+
+-- a name that isn't a word has no value for it
+other_value : (word : List ℕ) (pair : Variable) → bytes_eq pair.name word ≡ false → value_of word (pair ∷ []) ≡ None
+other_value word pair e = ap (λ (b : Bool). later None (if b then Some pair.value else None)) (same-flip word pair.name ∙ e)
+
+property_key : (n : List ℕ) (a b c : Bool) → bytes_eq n (codes "name") ≡ a → bytes_eq n (codes "test_suite") ≡ b → is_kyuafile_property n ≡ c
+    → key.Property ≡ (if a then key.Name else if b then key.TestSuite else if c then key.Property else key.Unknown) → (bytes_eq n (codes "name") ≡ false) × (bytes_eq n (codes "test_suite") ≡ false) × (is_kyuafile_property n ≡ true)
+property_key n true b c e f g h = absurd (cc)
+property_key n false true c e f g h = absurd (cc)
+property_key n false false true e f g h = (e, f, g)
+property_key n false false false e f g h = absurd (cc)
+
+name_key : (n : List ℕ) (a b c : Bool) → bytes_eq n (codes "name") ≡ a → key.Name ≡ (if a then key.Name else if b then key.TestSuite else if c then key.Property else key.Unknown) → n ≡ codes "name"
+name_key n true b c e h = same n (codes "name") e
+name_key n false true c e h = absurd (cc)
+name_key n false false true e h = absurd (cc)
+name_key n false false false e h = absurd (cc)
+
+suite_key : (n : List ℕ) (a b c : Bool) → bytes_eq n (codes "test_suite") ≡ b → key.TestSuite ≡ (if a then key.Name else if b then key.TestSuite else if c then key.Property else key.Unknown) → n ≡ codes "test_suite"
+suite_key n true b c f h = absurd (cc)
+suite_key n false true c f h = same n (codes "test_suite") f
+suite_key n false false true f h = absurd (cc)
+suite_key n false false false f h = absurd (cc)
+
+-- the parts of a table with a definition more
+three_parts : (before : List Variable) (pair : Variable) (name suite : Option (List ℕ)) (props : List Variable)
+    → value_of (codes "name") (before ++ pair ∷ []) ≡ name → value_of (codes "test_suite") (before ++ pair ∷ []) ≡ suite → filter is_property (before ++ pair ∷ []) ≡ props
+    → table_of (before ++ pair ∷ []) ≡ record { name = name; suite = suite; props = last_values props }
+three_parts before pair name suite props n s p =
+    ap (λ (x : Option (List ℕ)). record { name = x; suite = value_of (codes "test_suite") (before ++ pair ∷ []); props = last_values (filter is_property (before ++ pair ∷ [])) }) n
+    ∙ ap (λ (x : Option (List ℕ)). record { name = name; suite = x; props = last_values (filter is_property (before ++ pair ∷ [])) }) s
+    ∙ ap (λ (x : List Variable). record { name = name; suite = suite; props = last_values x }) p
+
+-- a name more
+push_name : (before : List Variable) (text : List ℕ) → table_of (before ++ (record { name = codes "name"; value = text }) ∷ []) ≡ record (table_of before) { name = Some text }
+push_name before text =
+    let pair : Variable = record { name = codes "name"; value = text } in
+    three_parts before pair (Some text) (value_of (codes "test_suite") before) (filter is_property before) (value_of-append (codes "name") before (pair ∷ [])) (value_of-append (codes "test_suite") before (pair ∷ []))
+    (properties-append before (pair ∷ []) ∙ append-nil (filter is_property before))
+
+-- a suite more
+push_suite : (before : List Variable) (text : List ℕ) → table_of (before ++ (record { name = codes "test_suite"; value = text }) ∷ []) ≡ record (table_of before) { suite = Some text }
+push_suite before text =
+    let pair : Variable = record { name = codes "test_suite"; value = text } in
+    three_parts before pair (value_of (codes "name") before) (Some text) (filter is_property before) (value_of-append (codes "name") before (pair ∷ [])) (value_of-append (codes "test_suite") before (pair ∷ []))
+    (properties-append before (pair ∷ []) ∙ append-nil (filter is_property before))
+
+one_kept : (p : Variable → Bool) (pair : Variable) → p pair ≡ true → filter p (pair ∷ []) ≡ pair ∷ []
+one_kept p pair e = ap (λ (b : Bool). cond b (pair ∷ []) []) e
+
+-- a property more
+push_property : (before : List Variable) (pair : Variable) → (bytes_eq pair.name (codes "name") ≡ false) × (bytes_eq pair.name (codes "test_suite") ≡ false) × (is_kyuafile_property pair.name ≡ true)
+    → table_of (before ++ pair ∷ []) ≡ record (table_of before) { props = last_values (filter is_property before ++ pair ∷ []) }
+push_property before pair k =
+    three_parts before pair (value_of (codes "name") before) (value_of (codes "test_suite") before) (filter is_property before ++ pair ∷ [])
+    (value_of-append (codes "name") before (pair ∷ []) ∙ ap (λ (o : Option (List ℕ)). later o (value_of (codes "name") before)) (other_value (codes "name") pair k.0))
+    (value_of-append (codes "test_suite") before (pair ∷ []) ∙ ap (λ (o : Option (List ℕ)). later o (value_of (codes "test_suite") before)) (other_value (codes "test_suite") pair k.1))
+    (properties-append before (pair ∷ []) ∙ ap (λ (ps : List Variable). filter is_property before ++ ps) (one_kept is_property pair k.2))
+
+-- a definition with this key
+by_key : (before : List Variable) (pair : Variable) (k : Key) (table : ProgramTable) → k ≡ key_named pair.name → table_of (before ++ pair ∷ []) ≡ table → unless (key_fault k pair) table ≡ table_with before pair
+by_key before pair k table e t = ap (λ (x : Key). unless (key_fault x pair) table) e ∙ ap (λ (x : ProgramTable). unless (pair_fault pair) x) (sym t)
+
+pub takes_unknown : (before : List Variable) (pair : Pair) → key.Unknown ≡ key_named pair.name → ◌≡◌ {A = Result ProgramTable SuiteCause} (Err UnknownProperty) (table_with before (definition pair))
+takes_unknown before pair e = by_key before (definition pair) key.Unknown (table_of (before ++ definition pair ∷ [])) e refl
+
+pub takes_name : (before : List Variable) (pair : Pair) (found : ProgramTable) (text : List ℕ) → key.Name ≡ key_named pair.name → text ≡ text_of pair.value → found ≡ table_of before
+    → ◌≡◌ {A = Result ProgramTable SuiteCause} (Ok (record found { name = Some text })) (table_with before (definition pair))
+takes_name before pair found text e t f =
+    let n : pair.name ≡ codes "name" = name_key pair.name (bytes_eq pair.name (codes "name")) (bytes_eq pair.name (codes "test_suite")) (is_kyuafile_property pair.name) refl e in
+    let d : ◌≡◌ {A = Variable} (definition pair) (record { name = codes "name"; value = text }) = ap (λ (x : List ℕ). record { name = x; value = text_of pair.value }) n ∙ ap (λ (x : List ℕ). record { name = codes "name"; value = x }) (sym t) in
+    let made : table_of (before ++ definition pair ∷ []) ≡ record found { name = Some text } =
+    ap (λ (x : Variable). table_of (before ++ x ∷ [])) d ∙ push_name before text ∙ ap (λ (x : ProgramTable). record x { name = Some text }) (sym f) in
+    by_key before (definition pair) key.Name (record found { name = Some text }) e made
+
+pub takes_suite : (before : List Variable) (pair : Pair) (found : ProgramTable) (text : List ℕ) → key.TestSuite ≡ key_named pair.name → text ≡ text_of pair.value → found ≡ table_of before
+    → ◌≡◌ {A = Result ProgramTable SuiteCause} (Ok (record found { suite = Some text })) (table_with before (definition pair))
+takes_suite before pair found text e t f =
+    let n : pair.name ≡ codes "test_suite" = suite_key pair.name (bytes_eq pair.name (codes "name")) (bytes_eq pair.name (codes "test_suite")) (is_kyuafile_property pair.name) refl e in
+    let d : ◌≡◌ {A = Variable} (definition pair) (record { name = codes "test_suite"; value = text }) = ap (λ (x : List ℕ). record { name = x; value = text_of pair.value }) n ∙ ap (λ (x : List ℕ). record { name = codes "test_suite"; value = x }) (sym t) in
+    let made : table_of (before ++ definition pair ∷ []) ≡ record found { suite = Some text } =
+    ap (λ (x : Variable). table_of (before ++ x ∷ [])) d ∙ push_suite before text ∙ ap (λ (x : ProgramTable). record x { suite = Some text }) (sym f) in
+    by_key before (definition pair) key.TestSuite (record found { suite = Some text }) e made
+
+-- what a property's value comes to, in the table
+abbrev pub with_props : ProgramTable → Result (List Variable) SuiteCause → Result ProgramTable SuiteCause
+with_props found (Ok props) = Ok (record found { props = props })
+with_props found (Err cause) = Err cause
+
+unless_props : (found : ProgramTable) (fault : Option SuiteCause) (props : List Variable) → with_props found (unless fault props) ≡ unless fault (record found { props = props })
+unless_props found None props = refl
+unless_props found (Some cause) props = refl
+
+pub takes_property : (before : List Variable) (pair : Pair) (found : ProgramTable) (text : List ℕ) (next : Result (List Variable) SuiteCause) → key.Property ≡ key_named pair.name → text ≡ text_of pair.value → found ≡ table_of before
+    → next ≡ props_with (filter is_property before) (record { name = pair.name; value = text }) → with_props found next ≡ table_with before (definition pair)
+takes_property before pair found text next e t f h =
+    let k = property_key pair.name (bytes_eq pair.name (codes "name")) (bytes_eq pair.name (codes "test_suite")) (is_kyuafile_property pair.name) refl refl refl e in
+    let d : ◌≡◌ {A = Variable} (record { name = pair.name; value = text }) (definition pair) = ap (λ (x : List ℕ). record { name = pair.name; value = x }) t in
+    let made : table_of (before ++ definition pair ∷ []) ≡ record found { props = last_values (filter is_property before ++ definition pair ∷ []) } =
+    push_property before (definition pair) k ∙ ap (λ (x : ProgramTable). record x { props = last_values (filter is_property before ++ definition pair ∷ []) }) (sym f) in
+    ap (λ (x : Result (List Variable) SuiteCause). with_props found x) (h ∙ ap (λ (x : Variable). props_with (filter is_property before) x) d)
+    ∙ unless_props found (value_cause (definition_fault pair.name (text_of pair.value))) (last_values (filter is_property before ++ definition pair ∷ []))
+    ∙ by_key before (definition pair) key.Property (record found { props = last_values (filter is_property before ++ definition pair ∷ []) }) e made

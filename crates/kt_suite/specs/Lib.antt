@@ -1,6 +1,13 @@
 pub mod Answers
 pub mod Calls
 pub mod Paths
+pub mod Tables
 pub mod Meanings
+pub mod Faults
+pub mod Marks
 pub mod Registered
-pub mod Causes
+pub mod Walks
+pub mod Matching
+pub mod Filters
+pub mod Disjoint
+pub mod Selecting

@@ -1,24 +1,23 @@
 -- What one statement of a Kyuafile means, before the tree is asked.
-use Rattle.std.specs.Prelude.{ℕ, List, [], ◌∷◌, ◌==◌, Option, Some, None, if◌then◌else◌}
+use Rattle.std.specs.Prelude.{ℕ, List, ◌==◌, Option, Some, None, Result, Ok, Err, if◌then◌else◌}
 use Rattle.kt_base.specs.declared.interface.Interface.{Interface}
+use Rattle.kt_base.specs.declared.variable.Variable.{Variable}
 use Rattle.kt_script.specs.declared.syntax.Action.{Action}
 use Rattle.kt_script.specs.declared.syntax.Action.TheVariants.{Call, Assign}
 use Rattle.kt_script.specs.declared.syntax.Arg.{Arg}
 use Rattle.kt_script.specs.declared.syntax.Arg.TheVariants.{Value, Table}
 use Rattle.kt_script.specs.declared.literal.Literal.TheVariants.{Text, Number, Truth}
-use Rattle.kt_script.specs.declared.syntax.Pair.{Pair}
 use Rattle.kt_script.specs.LiteralText.{text_of}
 use Rattle.kt_suite.specs.declared.call.Call.{Call as CallKind}
 use Rattle.kt_suite.specs.declared.call.Call.TheVariants as call
-use Rattle.kt_suite.specs.declared.key.Key.{Key}
-use Rattle.kt_suite.specs.declared.key.Key.TheVariants as key
 use Rattle.kt_suite.specs.declared.cause.SuiteCause.{SuiteCause}
-use Rattle.kt_suite.specs.declared.cause.SuiteCause.TheVariants.{NoSyntax, WrongSyntax, UnknownCall, UnknownProperty, BadValue, NoSuite, PathHasDirectory}
+use Rattle.kt_suite.specs.declared.cause.SuiteCause.TheVariants.{NoSyntax, WrongSyntax, UnknownCall, BadValue, NoSuite, PathHasDirectory, BadInclude}
 use Rattle.kt_suite.specs.declared.meaning.Meaning.{Meaning}
 use Rattle.kt_suite.specs.declared.meaning.Meaning.TheVariants as meaning
 use Rattle.kt_suite.specs.declared.program_table.ProgramTable.{ProgramTable}
-use Rattle.kt_suite.specs.Calls.{call_named, key_named}
-use Rattle.kt_suite.specs.Paths.{is_empty, has_directory}
+use Rattle.kt_suite.specs.Calls.{call_named}
+use Rattle.kt_suite.specs.Tables.{declared}
+use Rattle.kt_suite.specs.Paths.{is_empty, has_directory, leads_down}
 
 -- the argument of `syntax` is refused for this
 abbrev pub version_fault : Arg → Option SuiteCause
@@ -31,6 +30,7 @@ version_fault (Table pairs) = Some BadValue
 abbrev pub first_call_fault : CallKind → Arg → Option SuiteCause
 first_call_fault call.Syntax arg = version_fault arg
 first_call_fault call.TestSuite arg = Some NoSyntax
+first_call_fault call.Include arg = Some NoSyntax
 first_call_fault (call.Program interface) arg = Some NoSyntax
 first_call_fault call.Unknown arg = Some NoSyntax
 
@@ -48,50 +48,45 @@ abbrev pub suite_meaning : Arg → Meaning
 suite_meaning (Value v) = new_suite (text_of v)
 suite_meaning (Table pairs) = meaning.Wrong BadValue
 
--- the later of two values, where there is one
-abbrev pub later : Option (List ℕ) → Option (List ℕ) → Option (List ℕ)
-later old None = old
-later old (Some new) = Some new
-
--- a pair more in front: what is said later stands
-abbrev pub with_pair : Key → List ℕ → Option ProgramTable → Option ProgramTable
-with_pair key.Name text None = None
-with_pair key.TestSuite text None = None
-with_pair key.Unknown text declared = None
-with_pair key.Name text (Some d) = Some (record d { name = later (Some text) d.name })
-with_pair key.TestSuite text (Some d) = Some (record d { suite = later (Some text) d.suite })
-
--- what the pairs of a table say last for each key, where each key is known
-abbrev pub declared : List Pair → Option ProgramTable
-declared [] = Some (record { name = None; suite = None })
-declared (pair ∷ pairs) = with_pair (key_named pair.name) (text_of pair.value) (declared pairs)
-
 -- the program's own suite, else the file's
-abbrev pub suited : Interface → List ℕ → Option (List ℕ) → Option (List ℕ) → Meaning
-suited interface name file (Some own) = if is_empty own then meaning.Wrong BadValue else meaning.Program interface name own
-suited interface name (Some suite) None = meaning.Program interface name suite
-suited interface name None None = meaning.Wrong NoSuite
+abbrev pub suited : Interface → List ℕ → Option (List ℕ) → Option (List ℕ) → List Variable → Meaning
+suited interface name file (Some own) props =
+    if is_empty own then meaning.Wrong BadValue else meaning.Program interface name own props
+suited interface name (Some suite) None props = meaning.Program interface name suite props
+suited interface name None None props = meaning.Wrong NoSuite
 
 -- a name is there, isn't empty and has no directory
-abbrev pub named : Interface → Option (List ℕ) → Option (List ℕ) → Option (List ℕ) → Meaning
-named interface file own None = meaning.Wrong BadValue
-named interface file own (Some name) =
-    if is_empty name then meaning.Wrong BadValue else if has_directory name then meaning.Wrong PathHasDirectory else suited interface name file own
+abbrev pub named : Interface → Option (List ℕ) → Option (List ℕ) → List Variable → Option (List ℕ) → Meaning
+named interface file own props None = meaning.Wrong BadValue
+named interface file own props (Some name) =
+    if is_empty name then meaning.Wrong BadValue
+    else if has_directory name then meaning.Wrong PathHasDirectory
+    else suited interface name file own props
 
--- a program by what its table declares, which is nothing where a key is unknown
-abbrev pub declared_meaning : Interface → Option (List ℕ) → Option ProgramTable → Meaning
-declared_meaning interface file None = meaning.Wrong UnknownProperty
-declared_meaning interface file (Some d) = named interface file d.suite d.name
+-- a program by what its table declares
+abbrev pub declared_meaning : Interface → Option (List ℕ) → Result ProgramTable SuiteCause → Meaning
+declared_meaning interface file (Err cause) = meaning.Wrong cause
+declared_meaning interface file (Ok table) = named interface file table.suite table.props table.name
 
 -- a program by its table
 abbrev pub program_meaning : Interface → Option (List ℕ) → Arg → Meaning
 program_meaning interface file (Value v) = meaning.Wrong BadValue
 program_meaning interface file (Table pairs) = declared_meaning interface file (declared pairs)
 
+-- a text that leads down is the path of a file to include
+abbrev pub new_include : List ℕ → Meaning
+new_include text = if leads_down text then meaning.Include text else meaning.Wrong BadInclude
+
+-- `include` names a file
+abbrev pub include_meaning : Arg → Meaning
+include_meaning (Value v) = new_include (text_of v)
+include_meaning (Table pairs) = meaning.Wrong BadInclude
+
 -- a call that stands after the first
 abbrev pub call_meaning : Option (List ℕ) → CallKind → Arg → Meaning
 call_meaning file call.Syntax arg = meaning.Wrong UnknownCall
 call_meaning file call.TestSuite arg = suite_meaning arg
+call_meaning file call.Include arg = include_meaning arg
 call_meaning file (call.Program interface) arg = program_meaning interface file arg
 call_meaning file call.Unknown arg = meaning.Wrong UnknownCall
 

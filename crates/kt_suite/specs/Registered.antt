@@ -1,23 +1,15 @@
--- What a tree registers. A question without an answer has no case here.
-use Rattle.std.specs.Prelude.{ℕ, true, false, List, [], ◌∷◌, ◌++◌, ◌≡◌, ◌<◌, ◌≤◌, length, Some, None, Result, Ok, Err}
-use Rattle.std.specs.List.{Contains}
-use Rattle.kt_script.specs.declared.fault.ScriptFault.{ScriptFault}
-use Rattle.kt_script.specs.declared.fault.ScriptFault.TheVariants.{NotUtf8, BadToken, NotLiteral, Unclosed, TooLong}
-use Rattle.kt_script.specs.declared.fault.ScriptFault.TheVariants as script
-use Rattle.kt_script.specs.declared.syntax.Action.{Action}
-use Rattle.kt_script.specs.declared.syntax.Stmt.{Stmt}
-use Rattle.kt_script.specs.Spelling.{Spells, IsDue}
-use Rattle.kt_base.specs.declared.interface.Interface.{Interface}
-use Rattle.kt_suite.specs.declared.read_fault.ReadFault.TheVariants.{Missing, Failed}
-use Rattle.kt_suite.specs.declared.cause.SuiteCause.{SuiteCause}
-use Rattle.kt_suite.specs.declared.cause.SuiteCause.TheVariants.{NoMemory, NoSyntax, MissingProgram, Unreadable, TooMany, Script}
+-- What a tree registers, and which questions this takes.
+use Rattle.std.specs.Prelude.{ℕ, List, [], ◌∷◌, ◌++◌, ◌≡◌, ◌≤◌, ◌+◌, length, Result, Ok, Err}
+use Rattle.kt_suite.specs.declared.cause.SuiteCause.TheVariants.{TooMany}
 use Rattle.kt_suite.specs.declared.fault.SuiteFault.{SuiteFault}
 use Rattle.kt_suite.specs.declared.program.Program.{Program}
-use Rattle.kt_suite.specs.declared.meaning.Meaning.TheVariants as meaning
-use Rattle.kt_suite.specs.declared.registry.Registry.{Registry}
-use Rattle.kt_suite.specs.Answers.{Asked, Read, Exists}
-use Rattle.kt_suite.specs.Paths.{beside}
-use Rattle.kt_suite.specs.Meanings.{meaning_of, opening_fault}
+use Rattle.kt_suite.specs.Answers.{Asked, SameQuestion}
+use Rattle.kt_suite.specs.Faults.{IsNoMemory}
+use Rattle.kt_suite.specs.Marks.{Site, told, Mark, Asks, File, Listed, Fault, TreeGives}
+
+-- the most files that are read
+abbrev pub file_limit : ℕ
+file_limit = 10000
 
 -- the most programs that a tree may register
 abbrev pub program_limit : ℕ
@@ -27,61 +19,75 @@ program_limit = 10000
 abbrev pub Outcome : Type 0
 Outcome = Result (List Program) SuiteFault
 
--- a fault of a file, told on a line
-abbrev pub fault_at : List ℕ → ℕ → SuiteCause → SuiteFault
-fault_at file line cause = record { cause = cause; path = file; line = line }
+-- the questions among marks
+abbrev pub questions_in : List Mark → List Asked
+questions_in [] = []
+questions_in (Asks question ∷ marks) = question ∷ questions_in marks
+questions_in (File at ∷ marks) = questions_in marks
+questions_in (Listed at program ∷ marks) = questions_in marks
+questions_in (Fault fault ∷ marks) = questions_in marks
 
--- memory ran out
-abbrev pub no_memory : SuiteFault
-no_memory = fault_at [] 0 NoMemory
+-- the number of files among marks
+abbrev pub files_in : List Mark → ℕ
+files_in [] = 0
+files_in (Asks question ∷ marks) = files_in marks
+files_in (File at ∷ marks) = 1 + files_in marks
+files_in (Listed at program ∷ marks) = files_in marks
+files_in (Fault fault ∷ marks) = files_in marks
 
--- what is read before the first statement: no suite, no program
-abbrev pub nothing_read : Registry
-nothing_read = record { suite = None; programs = [] }
+-- the programs among marks
+abbrev pub programs_in : List Mark → List Program
+programs_in [] = []
+programs_in (Asks question ∷ marks) = programs_in marks
+programs_in (File at ∷ marks) = programs_in marks
+programs_in (Listed at program ∷ marks) = program ∷ programs_in marks
+programs_in (Fault fault ∷ marks) = programs_in marks
 
--- what becomes of a program that a statement registers: it is looked up, and then counted
-pub data Adds (asked : List Asked) (r : Registry) (p : Program) : Result Registry SuiteCause → Type 0 where
-  missing : Contains asked (Exists p.path false) → Adds asked r p (Err MissingProgram)
-  too_many : Contains asked (Exists p.path true) → program_limit ≤ length r.programs → Adds asked r p (Err TooMany)
-  added : Contains asked (Exists p.path true) → length r.programs < program_limit → Adds asked r p (Ok (record r { programs = r.programs ++ p ∷ [] }))
+-- the faults among marks
+abbrev pub faults_in : List Mark → List SuiteFault
+faults_in [] = []
+faults_in (Asks question ∷ marks) = faults_in marks
+faults_in (File at ∷ marks) = faults_in marks
+faults_in (Listed at program ∷ marks) = faults_in marks
+faults_in (Fault fault ∷ marks) = fault ∷ faults_in marks
 
--- what a statement of a file does to what was read so far
-pub data Does (asked : List Asked) (file : List ℕ) (r : Registry) (action : Action) : Result Registry SuiteCause → Type 0 where
-  wrong : (cause : SuiteCause) → meaning_of r.suite action ≡ meaning.Wrong cause → Does asked file r action (Err cause)
-  suite : (name : List ℕ) → meaning_of r.suite action ≡ meaning.Suite name → Does asked file r action (Ok (record r { suite = Some name }))
-  program : (interface : Interface) (name named : List ℕ) (result : Result Registry SuiteCause) → meaning_of r.suite action ≡ meaning.Program interface name named
-      → Adds asked r (record { interface = interface; path = beside file name; suite = named }) result → Does asked file r action result
+-- no mark decides: there is no fault, and neither a file nor a program is one too many
+pub record IsUndecided (marks : List Mark) : Type 0 where
+  pub faultless : faults_in marks ≡ []
+  pub files : files_in marks ≤ file_limit
+  pub programs : length (programs_in marks) ≤ program_limit
 
--- what the statements of a file register after what was read so far
-pub data Registers (asked : List Asked) (file : List ℕ) : List Stmt → Registry → Outcome → Type 0 where
-  all_read : (r : Registry) → Registers asked file [] r (Ok r.programs)
-  stops : (stmt : Stmt) (rest : List Stmt) (r : Registry) (cause : SuiteCause) → Does asked file r stmt.action (Err cause)
-      → Registers asked file (stmt ∷ rest) r (Err (fault_at file stmt.line cause))
-  goes_on : (stmt : Stmt) (rest : List Stmt) (r after : Registry) (outcome : Outcome) → Does asked file r stmt.action (Ok after)
-      → Registers asked file rest after outcome → Registers asked file (stmt ∷ rest) r outcome
+-- a mark decides after so many files and programs, by this fault
+pub data Decides (files programs : ℕ) : Mark → SuiteFault → Type 0 where
+  is_fault : (fault : SuiteFault) → Decides files programs (Fault fault) fault
+  file_too_many : (at : Site) → file_limit ≤ files → Decides files programs (File at) (told at TooMany)
+  program_too_many : (at : Site) (program : Program) → program_limit ≤ programs
+      → Decides files programs (Listed at program) (told at TooMany)
 
--- what a file registers, whose first statement is `syntax(2)`
-pub data Opens (asked : List Asked) (file : List ℕ) : List Stmt → Outcome → Type 0 where
-  no_statement : Opens asked file [] (Err (fault_at file 1 NoSyntax))
-  unopened : (stmt : Stmt) (rest : List Stmt) (cause : SuiteCause) → opening_fault stmt.action ≡ Some cause
-      → Opens asked file (stmt ∷ rest) (Err (fault_at file stmt.line cause))
-  opened : (stmt : Stmt) (rest : List Stmt) (outcome : Outcome) → opening_fault stmt.action ≡ None
-      → Registers asked file rest nothing_read outcome → Opens asked file (stmt ∷ rest) outcome
-
--- the line of a script's fault, 0 where it has none
-abbrev pub script_line : ScriptFault → ℕ
-script_line script.NoMemory = 0
-script_line NotUtf8 = 0
-script_line (BadToken line) = line
-script_line (NotLiteral line) = line
-script_line (Unclosed line) = line
-script_line TooLong = 0
-
--- what the root file registers
+-- what a tree registers by these answers; the questions are exactly those before the mark that decides
 pub data Registered (asked : List Asked) (root : List ℕ) : Outcome → Type 0 where
-  no_file : Contains asked (Read root (Err Missing)) → Registered asked root (Err (fault_at root 0 Unreadable))
-  not_read : Contains asked (Read root (Err Failed)) → Registered asked root (Err (fault_at root 0 Unreadable))
-  no_script : (text : List ℕ) (fault : ScriptFault) → Contains asked (Read root (Ok text)) → IsDue text fault
-      → Registered asked root (Err (fault_at root (script_line fault) (Script fault)))
-  file : (text : List ℕ) (stmts : List Stmt) (outcome : Outcome) → Contains asked (Read root (Ok text)) → Spells text stmts
-      → Opens asked root stmts outcome → Registered asked root outcome
+  all : (marks : List Mark) → TreeGives root marks → IsUndecided marks → asked ≡ questions_in marks
+      → Registered asked root (Ok (programs_in marks))
+  stopped : (front back : List Mark) (mark : Mark) (fault : SuiteFault)
+      → TreeGives root (front ++ mark ∷ back) → IsUndecided front
+      → Decides (files_in front) (length (programs_in front)) mark fault → asked ≡ questions_in front
+      → Registered asked root (Err fault)
+
+-- of the marks to come no question was asked, or the next one, whose answer decided nothing
+pub data IsNext : List Mark → List Asked → Type 0 where
+  no_question : (marks : List Mark) → IsNext marks []
+  thrown_away : (question other : Asked) (marks : List Mark) → SameQuestion question other
+      → IsNext (Asks other ∷ marks) (question ∷ [])
+
+-- memory ran out before a mark decided: the questions are the first ones of the same list
+pub record Unfinished (asked : List Asked) (root : List ℕ) (outcome : Outcome) : Type 0 where
+  pub fault : SuiteFault
+  pub no_memory : IsNoMemory fault
+  pub refused : outcome ≡ Err fault
+  pub front : List Mark
+  pub back : List Mark
+  pub more : List Asked
+  pub gives : TreeGives root (front ++ back)
+  pub undecided : IsUndecided front
+  pub next : IsNext back more
+  pub is : asked ≡ questions_in front ++ more

@@ -3,12 +3,15 @@ ghost use Rattle.kt_suite.specs.Calls.{key_named};
 
 use crate::words::is_word;
 use kt_base::Text;
+use kt_metadata::is_kyuafile_property;
 
-/// What a key in the table of a program says.
+/// What a key in the table of a program declares.
 #[derive(Clone, Copy, Debug)]
 pub enum Key {
     Name,
     TestSuite,
+    /// A property that a Kyuafile may set.
+    Property,
     Unknown,
 }
 
@@ -20,6 +23,8 @@ pub fn key_of(name: &Text) -> Key
         Key::Name
     } else if is_word(name, "test_suite") {
         Key::TestSuite
+    } else if is_kyuafile_property(name) {
+        Key::Property
     } else {
         Key::Unknown
     }

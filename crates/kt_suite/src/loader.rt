@@ -1,135 +1,105 @@
-ghost use Rattle.std.specs.Prelude.{◌≡◌, ◌⊎◌, ◌≤◌, length, IfOk, Err};
+ghost use Rattle.std.specs.Prelude.{◌≡◌, ◌⊎◌, ◌≤◌, ◌-◌, ◌++◌, [], ◌∷◌, List, ℕ, length, take, drop, IfOk};
 ghost use Rattle.kt_suite.specs.Answers.{Answered};
-ghost use Rattle.kt_suite.specs.Registered.{no_memory, nothing_read, script_line, program_limit, Registers, Opens, Registered};
-ghost use Rattle.kt_suite.specs.Causes.{cause_of_read, cause_of_script, Blames};
+ghost use Rattle.kt_suite.specs.Registered.{program_limit, Unfinished, Registered};
+ghost use Rattle.kt_suite.specs.Walks.{Walked, FileGives};
 
-use crate::cause::SuiteCause;
+use crate::blame::no_memory;
 use crate::fault::SuiteFault;
+use crate::opening::open_file;
 use crate::program::Program;
-use crate::read_fault::ReadFault;
 use crate::registry::Registry;
-use crate::statement::wrong_opening;
-use crate::step::step;
+use crate::step::Step;
+use crate::stepping::step;
 use crate::tree::Tree;
-use kt_base::{Items, Text};
-use kt_script::{ScriptFault, Stmt, parse};
+use kt_base::{Items, NoMemory, Text};
 use std::alloc::Global;
 
-/// The fault of a file's statement; want of memory is of no file.
-fn fault_from(alloc: Global, file: Text, line: u32, cause: SuiteCause) -> SuiteFault
-    ensures { Blames file line cause result }
+/// Opens a file within the open ones.
+fn begin(registry: Registry, file: &Text) -> Result<Registry, NoMemory>
+    ensures { IfOk result (λ next. next
+        ≡ (record registry { reading = registry.reading ++ file.now ∷ [] })) }
 {
-    match cause {
-        SuiteCause::NoMemory => SuiteFault {
-            cause,
-            path: Text::new(alloc),
-            line: 0,
-        },
-        _ => SuiteFault {
-            cause,
-            path: file,
-            line,
-        },
+    let mut registry = registry;
+    registry.reading.push(file.copy()?)?;
+    Ok(registry)
+}
+
+/// Closes the file that was opened last.
+fn end(registry: Registry) -> Registry
+    ensures { result ≡ (record registry {
+      reading = take (length registry.reading - 1) registry.reading;
+    }) }
+{
+    let mut files = registry.reading.into_vec();
+    let _ = files.pop();
+    Registry {
+        reading: Items::from_vec(files),
+        files: registry.files,
+        programs: registry.programs,
     }
 }
 
-/// Reads the statements after the first.
-fn read_statements<T: Tree>(
-    alloc: Global,
-    tree: &mut T,
-    file: Text,
-    stmts: &[Stmt],
-) -> Result<Items<Program>, SuiteFault>
-    ensures { Answered T.asks tree.old tree.new (λ asked. (result ≡ Err no_memory) ⊎ Registers asked file stmts.now nothing_read result) }
-{
-    let mut registry = Registry {
-        suite: None,
-        programs: Items::new(alloc),
-    };
-    let mut rest = stmts;
-    while let Some((stmt, after)) = rest.split_first() {
-        match step(alloc, tree, &file, registry, &stmt.action) {
-            Ok(next) => registry = next,
-            Err(cause) => return Err(fault_from(alloc, file, stmt.line, cause)),
-        }
-        rest = after;
-    }
-    Ok(registry.programs)
-}
-
-/// Reads a file that is a script.
+/// Reads a file and all that it includes, at most 32 deep. The file was counted before.
 fn read_file<T: Tree>(
     alloc: Global,
     tree: &mut T,
-    file: Text,
-    stmts: &[Stmt],
-) -> Result<Items<Program>, SuiteFault>
-    ensures { Answered T.asks tree.old tree.new (λ asked. (result ≡ Err no_memory) ⊎ Opens asked file stmts.now result) }
+    registry: Registry,
+    file: &Text,
+) -> Result<Registry, SuiteFault>
+    ensures { Walked T.asks tree.old tree.new (FileGives registry.reading file.now)
+        registry result }
 {
-    match stmts.split_first() {
-        None => Err(SuiteFault {
-            cause: SuiteCause::NoSyntax,
-            path: file,
-            line: 1,
-        }),
-        Some((first, rest)) => match wrong_opening(&first.action) {
-            Some(cause) => Err(SuiteFault {
-                cause,
-                path: file,
-                line: first.line,
-            }),
-            None => read_statements(alloc, tree, file, rest),
-        },
+    let stmts = match open_file(alloc, tree, file) {
+        Ok(stmts) => stmts,
+        Err(fault) => return Err(fault),
+    };
+    let mut registry = match begin(registry, file) {
+        Ok(registry) => registry,
+        Err(refusal) => return Err(no_memory(alloc, refusal)),
+    };
+    let mut suite = None;
+    let mut rest = &stmts.as_slice()[1..];
+    while let Some((stmt, after)) = rest.split_first() {
+        let turn = match step(alloc, tree, file, registry, suite, stmt) {
+            Ok(turn) => turn,
+            Err(fault) => return Err(fault),
+        };
+        match turn {
+            Step::Next(next, named) => {
+                registry = next;
+                suite = named;
+            }
+            Step::Enter(next, named, path) => {
+                registry = match read_file(alloc, tree, next, &path) {
+                    Ok(next) => next,
+                    Err(fault) => return Err(fault),
+                };
+                suite = named;
+            }
+        }
+        rest = after;
     }
+    Ok(end(registry))
 }
 
-/// What a file that can't be read is refused for.
-fn read_cause(fault: ReadFault) -> SuiteCause
-    ensures { result ≡ cause_of_read fault }
-{
-    match fault {
-        ReadFault::Memory => SuiteCause::NoMemory,
-        ReadFault::Missing | ReadFault::Failed => SuiteCause::Unreadable,
-    }
-}
-
-/// What a file that is no script is refused for.
-fn script_cause(fault: ScriptFault) -> SuiteCause
-    ensures { result ≡ cause_of_script fault }
-{
-    match fault {
-        ScriptFault::NoMemory => SuiteCause::NoMemory,
-        _ => SuiteCause::Script(fault),
-    }
-}
-
-/// The line of a script's fault, 0 where it has none.
-fn line_of(fault: ScriptFault) -> u32
-    ensures { result ≡ script_line fault }
-{
-    match fault {
-        ScriptFault::BadToken(line) | ScriptFault::NotLiteral(line) | ScriptFault::Unclosed(line) =>
-            line,
-        ScriptFault::NoMemory | ScriptFault::NotUtf8 | ScriptFault::TooLong => 0,
-    }
-}
-
-/// The programs that the root Kyuafile registers, in order, or its first fault.
-/// `root` is its path in the tree.
+/// Registers the programs of a tree of Kyuafiles, in the order of their statements, or tells its first fault.
+///
+/// `root` is the path of the root Kyuafile. An included file's programs stand in the place of the `include`, and its
+/// suite neither begins as that of the including file nor goes back to it. Files are read at most 32 deep, with the
+/// root as 1; at most 10,000 files are read and 10,000 programs registered (this profile).
 pub fn load<T: Tree>(alloc: Global, tree: &mut T, root: &Text) -> Result<Items<Program>, SuiteFault>
-    // What was asked leads to the tree's new state, and it registers this, unless memory ran out.
-    ensures loaded { Answered T.asks tree.old tree.new (λ asked. (result ≡ Err no_memory) ⊎ Registered asked root.now result) }
+    // The tree was asked what decides the result, in this order, and nothing else.
+    ensures loaded { Answered T.asks tree.old tree.new (λ asked. Registered asked root.now result
+        ⊎ Unfinished asked root.now result) }
     ensures few { IfOk result (λ programs. length programs ≤ program_limit) }
 {
-    let file = match root.copy() {
-        Ok(file) => file,
-        Err(_) => return Err(fault_from(alloc, Text::new(alloc), 0, SuiteCause::NoMemory)),
+    let registry = Registry {
+        reading: Items::new(alloc),
+        files: 1,
+        programs: Items::new(alloc),
     };
-    match tree.read(root) {
-        Err(fault) => Err(fault_from(alloc, file, 0, read_cause(fault))),
-        Ok(text) => match parse(alloc, text.as_slice()) {
-            Err(fault) => Err(fault_from(alloc, file, line_of(fault), script_cause(fault))),
-            Ok(stmts) => read_file(alloc, tree, file, stmts.as_slice()),
-        },
+    match read_file(alloc, tree, registry, root) {
+        Err(fault) => Err(fault),
+        Ok(registry) => Ok(registry.programs),
     }
 }

@@ -1,12 +1,15 @@
 use crate::cause::SuiteCause;
 use kt_base::{Interface, Text};
+use kt_metadata::Props;
 
 /// What a statement asks for.
-#[derive(Debug, Drop)]
+#[derive(Drop)]
 pub enum Meaning {
     /// The suite of the programs after it.
     Suite(Text),
-    /// A program's name in this directory, and its suite.
-    Program(Interface, Text, Text),
+    /// The path of a file below this directory.
+    Include(Text),
+    /// A program's interface, its name in this directory, its suite and its properties.
+    Program(Interface, Text, Text, Props),
     Wrong(SuiteCause),
 }

@@ -1,6 +1,6 @@
 ghost use Rattle.std.specs.Prelude.{◌≡◌, IfOk};
-ghost use Rattle.std.specs.List.{list_any};
-ghost use Rattle.kt_suite.specs.Paths.{directory_of, name_in, beside, has_directory, is_slash};
+ghost use Rattle.std.specs.List.{list_any, list_all, slice_split};
+ghost use Rattle.kt_suite.specs.Paths.{directory_of, name_in, beside, has_directory, is_slash, is_component, leads_down};
 
 use crate::words::is_word;
 use kt_base::{NoMemory, Text};
@@ -12,7 +12,7 @@ fn characters(alloc: Global, text: &Text) -> Result<Vec<char>, NoMemory>
     Ok(text.as_str().chars().collect(alloc)?)
 }
 
-/// A path up to its last slash, and with it.
+/// A path up to and with its last slash.
 fn directory(path: &[char]) -> &[char]
     ensures { result.now ≡ directory_of path.now }
 {
@@ -62,4 +62,24 @@ pub fn leads_away(alloc: Global, name: &Text) -> Result<bool, NoMemory>
 {
     let characters = characters(alloc, name)?;
     Ok(has_slash(&characters) || is_word(name, ".") || is_word(name, ".."))
+}
+
+fn is_component(part: &[char]) -> bool
+    ensures { result ≡ is_component part.now }
+{
+    !matches!(part, [] | ['.'] | ['.', '.'])
+}
+
+fn are_components(path: &[char]) -> bool
+    ensures { result ≡ list_all is_component (slice_split is_slash path.now) }
+{
+    path.split(|c| *c == '/').all(|part| is_component(part))
+}
+
+/// Whether a text is a relative path of one or more components, none of them empty, `.` or `..`.
+pub fn leads_down(alloc: Global, path: &Text) -> Result<bool, NoMemory>
+    ensures { IfOk result (λ down. down ≡ leads_down path.now) }
+{
+    let characters = characters(alloc, path)?;
+    Ok(are_components(&characters))
 }

@@ -1,10 +1,12 @@
 use crate::program::Program;
 use kt_base::{Items, Text};
 
-/// What was read of a Kyuafile so far.
-#[derive(Debug, Drop)]
+/// What was read of a tree so far.
+#[derive(Drop)]
 pub struct Registry {
-    /// The suite of the programs that come next, where the file has named one.
-    pub suite: Option<Text>,
+    /// The open files: the root first, each included by the one before it.
+    pub reading: Items<Text>,
+    /// The number of files that were opened.
+    pub files: usize,
     pub programs: Items<Program>,
 }

@@ -1,18 +1,19 @@
 ghost use Rattle.std.specs.Prelude.{◌≡◌, IfOk, List, ℕ, Option};
-ghost use Rattle.kt_suite.specs.Meanings.{version_fault, first_call_fault, opening_fault, suite_meaning, suited, named, declared_meaning, program_meaning, call_meaning, meaning_of};
+ghost use Rattle.kt_suite.specs.Meanings.{version_fault, first_call_fault, opening_fault, suite_meaning, suited, named, declared_meaning, program_meaning, new_include, include_meaning, call_meaning, meaning_of};
 
 use crate::call::{Call, call_of};
 use crate::cause::SuiteCause;
 use crate::meaning::Meaning;
-use crate::paths::leads_away;
+use crate::paths::{leads_away, leads_down};
 use crate::program_table::ProgramTable;
 use crate::table::read_table;
 use crate::words::is_empty;
 use kt_base::{Interface, NoMemory, Text};
+use kt_metadata::Props;
 use kt_script::{Action, Arg, Literal};
 use std::alloc::Global;
 
-/// Why a first statement with this argument is refused, if it is.
+/// Why a first statement is refused; `syntax(2)` isn't.
 pub fn wrong_opening(action: &Action) -> Option<SuiteCause>
     ensures { result ≡ opening_fault action.now }
 {
@@ -58,19 +59,20 @@ fn with_suite(
     name: Text,
     file: &Option<Text>,
     own: Option<Text>,
+    props: Props,
 ) -> Result<Meaning, NoMemory>
-    ensures { IfOk result (λ found. found ≡ suited interface name file.now own) }
+    ensures { IfOk result (λ found. found ≡ suited interface name file.now own props) }
 {
     match own {
         Some(suite) => {
             if is_empty(&suite) {
                 return Ok(Meaning::Wrong(SuiteCause::BadValue));
             }
-            Ok(Meaning::Program(interface, name, suite))
+            Ok(Meaning::Program(interface, name, suite, props))
         }
         None => match file {
             None => Ok(Meaning::Wrong(SuiteCause::NoSuite)),
-            Some(suite) => Ok(Meaning::Program(interface, name, suite.copy()?)),
+            Some(suite) => Ok(Meaning::Program(interface, name, suite.copy()?, props)),
         },
     }
 }
@@ -81,9 +83,10 @@ fn with_name(
     file: &Option<Text>,
     found: ProgramTable,
 ) -> Result<Meaning, NoMemory>
-    ensures { IfOk result (λ meaning. meaning ≡ named interface file.now found.suite found.name) }
+    ensures { IfOk result (λ meaning. meaning
+        ≡ named interface file.now found.suite found.props found.name) }
 {
-    let ProgramTable { name, suite } = found;
+    let ProgramTable { name, suite, props } = found;
     match name {
         None => Ok(Meaning::Wrong(SuiteCause::BadValue)),
         Some(name) => {
@@ -93,7 +96,7 @@ fn with_name(
             if leads_away(alloc, &name)? {
                 return Ok(Meaning::Wrong(SuiteCause::PathHasDirectory));
             }
-            with_suite(interface, name, file, suite)
+            with_suite(interface, name, file, suite, props)
         }
     }
 }
@@ -109,13 +112,28 @@ fn read_program(
     match arg {
         Arg::Value(_) => Ok(Meaning::Wrong(SuiteCause::BadValue)),
         Arg::Table(pairs) => match read_table(alloc, pairs.as_slice())? {
-            None => Ok(Meaning::Wrong(SuiteCause::UnknownProperty)),
-            Some(found) => with_name(alloc, interface, file, found),
+            Err(cause) => Ok(Meaning::Wrong(cause)),
+            Ok(found) => with_name(alloc, interface, file, found),
         },
     }
 }
 
-/// What a statement after the first asks for, in a file with this suite.
+fn read_include(alloc: Global, arg: &Arg) -> Result<Meaning, NoMemory>
+    ensures { IfOk result (λ found. found ≡ include_meaning arg.now) }
+{
+    match arg {
+        Arg::Table(_) => Ok(Meaning::Wrong(SuiteCause::BadInclude)),
+        Arg::Value(value) => {
+            let text = value.text(alloc)?;
+            if leads_down(alloc, &text)? {
+                return Ok(Meaning::Include(text));
+            }
+            Ok(Meaning::Wrong(SuiteCause::BadInclude))
+        }
+    }
+}
+
+/// What a statement after the first asks for, in a file that has named this suite so far.
 pub fn read_statement(
     alloc: Global,
     file: &Option<Text>,
@@ -127,6 +145,7 @@ pub fn read_statement(
         Action::Assign(_, _) => Ok(Meaning::Wrong(SuiteCause::UnknownCall)),
         Action::Call(name, arg) => match call_of(name) {
             Call::TestSuite => read_suite(alloc, arg),
+            Call::Include => read_include(alloc, arg),
             Call::Program(interface) => read_program(alloc, interface, file, arg),
             Call::Syntax | Call::Unknown => Ok(Meaning::Wrong(SuiteCause::UnknownCall)),
         },

@@ -1,28 +1,83 @@
-ghost use Rattle.std.specs.Prelude.{◌≡◌, IfOk};
-ghost use Rattle.kt_suite.specs.Meanings.{declared};
+ghost use Rattle.std.specs.Prelude.{◌≡◌, ◌∷◌, ◌++◌, [], List, IfOk};
+ghost use Rattle.kt_base.specs.declared.variable.Variable.{Variable};
+ghost use Rattle.kt_base.specs.LastValues.{last_values};
+ghost use Rattle.kt_suite.specs.Tables.{definition, props_with, table_of, table_with, declared};
 
+use crate::cause::SuiteCause;
 use crate::key::{Key, key_of};
 use crate::program_table::ProgramTable;
-use kt_base::NoMemory;
+use kt_base::{NoMemory, Text};
+use kt_metadata::{PropFault, Props};
 use kt_script::Pair;
 use std::alloc::Global;
 
-/// What the pairs say, the last one for each key; none where a key is unknown.
-pub fn read_table(alloc: Global, pairs: &[Pair]) -> Result<Option<ProgramTable>, NoMemory>
+/// Properties with one definition more, or why it is refused.
+fn set_property(
+    props: Props,
+    name: &Text,
+    value: &Text,
+) -> Result<Result<Props, SuiteCause>, NoMemory>
+    ensures { (before : List Variable) → props ≡ last_values before
+        → IfOk result (λ next. next
+        ≡ props_with before (record { name = name.now; value = value.now })) }
+{
+    let mut props = props;
+    match props.set(name, value) {
+        Err(PropFault::NoMemory(refusal)) => Err(refusal),
+        Err(_fault) => Ok(Err(SuiteCause::BadValue)),
+        Ok(()) => Ok(Ok(props)),
+    }
+}
+
+/// A table with one pair more, or why the pair is refused.
+fn take_pair(
+    alloc: Global,
+    found: ProgramTable,
+    pair: &Pair,
+) -> Result<Result<ProgramTable, SuiteCause>, NoMemory>
+    ensures { (before : List Variable) → found ≡ table_of before
+        → IfOk result (λ next. next ≡ table_with before (definition pair.now)) }
+{
+    let ProgramTable { name, suite, props } = found;
+    let value = pair.value.text(alloc)?;
+    match key_of(&pair.name) {
+        Key::Unknown => Ok(Err(SuiteCause::UnknownProperty)),
+        Key::Name => Ok(Ok(ProgramTable {
+            name: Some(value),
+            suite,
+            props,
+        })),
+        Key::TestSuite => Ok(Ok(ProgramTable {
+            name,
+            suite: Some(value),
+            props,
+        })),
+        Key::Property => match set_property(props, &pair.name, &value)? {
+            Err(cause) => Ok(Err(cause)),
+            Ok(props) => Ok(Ok(ProgramTable { name, suite, props })),
+        },
+    }
+}
+
+/// What the pairs of a table declare, or why the first refused pair is refused.
+pub fn read_table(
+    alloc: Global,
+    pairs: &[Pair],
+) -> Result<Result<ProgramTable, SuiteCause>, NoMemory>
     ensures { IfOk result (λ found. found ≡ declared pairs.now) }
 {
     let mut found = ProgramTable {
         name: None,
         suite: None,
+        props: Props::new(alloc),
     };
     let mut rest = pairs;
     while let Some((pair, after)) = rest.split_first() {
-        match key_of(&pair.name) {
-            Key::Unknown => return Ok(None),
-            Key::Name => found.name = Some(pair.value.text(alloc)?),
-            Key::TestSuite => found.suite = Some(pair.value.text(alloc)?),
+        match take_pair(alloc, found, pair)? {
+            Ok(next) => found = next,
+            Err(cause) => return Ok(Err(cause)),
         }
         rest = after;
     }
-    Ok(Some(found))
+    Ok(Ok(found))
 }

@@ -10,6 +10,10 @@ pub returns-then-is_word-2 : goal.returns-then-is_word-2
 unfolding chars
 returns-then-is_word-2 c = search rules
 
-pub returns-else-is_word-2 : goal.returns-else-is_word-2
+pub returns-then-is_kyuafile_property : goal.returns-then-is_kyuafile_property
 unfolding chars
-returns-else-is_word-2 c = search rules
+returns-then-is_kyuafile_property c = search rules
+
+pub returns-else-is_kyuafile_property : goal.returns-else-is_kyuafile_property
+unfolding chars
+returns-else-is_kyuafile_property c = search rules

@@ -1,0 +1,132 @@
+-- One statement more is read.
+use Rattle.std.specs.Prelude.{Bool, true, false, Option, Some, None, Result, Ok, Err}
+use Rattle.std.proofs.Common.{◌≡◌, ◌≤◌, ◌<◌, ◌+◌, ℕ, List, [], ◌∷◌, ◌++◌, length, refl, sym, subst, ◌⊎◌, inl, inr}
+use Rattle.kt_base.specs.declared.interface.Interface.{Interface}
+use Rattle.kt_base.specs.declared.variable.Variable.{Variable}
+use Rattle.kt_suite.specs.declared.cause.SuiteCause.{SuiteCause}
+use Rattle.kt_suite.specs.declared.cause.SuiteCause.TheVariants.{MissingProgram, TooMany}
+use Rattle.kt_suite.specs.declared.fault.SuiteFault.{SuiteFault}
+use Rattle.kt_suite.specs.declared.meaning.Meaning.{Meaning}
+use Rattle.kt_suite.specs.declared.meaning.Meaning.TheVariants as meaning
+use Rattle.kt_suite.specs.declared.program.Program.{Program}
+use Rattle.kt_suite.specs.declared.registry.Registry.{Registry}
+use Rattle.kt_suite.specs.declared.read_fault.ReadFault.TheVariants.{Missing}
+use Rattle.kt_suite.specs.declared.step.Step.{Step}
+use Rattle.kt_suite.specs.declared.step.Step.TheVariants.{Next, Enter}
+use Rattle.kt_suite.specs.Answers.{Asked, Exists}
+use Rattle.kt_suite.specs.Faults.{IsNoMemory}
+use Rattle.kt_suite.specs.Paths.{beside}
+use Rattle.kt_suite.specs.Marks.{Site, told, looked_up, Mark, Asks, File, Listed, Fault, said, unread, entry_fault, Unfolds, end, says, refused, entered}
+use Rattle.kt_suite.specs.Registered.{file_limit, program_limit, is_fault, file_too_many, program_too_many, no_question}
+use Rattle.kt_suite.specs.Walks.{Walked, through, stops, short, Adds, Enters, refuses, exceeds, counts, scant, MeaningGives, Stepped, goes, enters, fails}
+use Rattle.kt_suite.proofs.Unfolding.{some_file, some_marks}
+
+-- what holds of an out-of-memory fault and of another one
+pub blamed : (P : SuiteFault → Type 0) (other fault : SuiteFault) → (IsNoMemory fault → P fault) → P other → IsNoMemory fault ⊎ (fault ≡ other) → P fault
+blamed P other fault p q (inl n) = p n
+blamed P other fault p q (inr e) = subst P (sym e) q
+
+-- the program isn't there
+pub adds_missing : {S : Type 0} (leads : S → Asked → S → Type 0) (old new : S) (at : Site) (r : Registry) (p : Program) (there : Bool) (fault : SuiteFault) → leads old (Exists p.path there) new → there ≡ false
+    → IsNoMemory fault ⊎ (fault ≡ told at MissingProgram) → Adds leads old new at r p (Err fault)
+adds_missing leads old new at r p there fault h e b =
+    let asked = subst (λ (x : Bool). leads old (Exists p.path x) new) e h in
+    blamed (λ f. Adds leads old new at r p (Err f)) (told at MissingProgram) fault
+    (short (Asks (Exists p.path false) ∷ []) (Fault (told at MissingProgram) ∷ []) [] r fault (false, refl) (no_question _) (new, asked, refl) refl)
+    (stops (Asks (Exists p.path false) ∷ []) [] (Fault (told at MissingProgram)) r (told at MissingProgram) (false, refl) (new, asked, refl) refl (is_fault (told at MissingProgram))) b
+
+-- it is one too many
+pub adds_too_many : {S : Type 0} (leads : S → Asked → S → Type 0) (old new : S) (at : Site) (r : Registry) (p : Program) (there : Bool) (fault : SuiteFault) → leads old (Exists p.path there) new → there ≡ true → program_limit ≤ length r.programs
+    → IsNoMemory fault ⊎ (fault ≡ told at TooMany) → Adds leads old new at r p (Err fault)
+adds_too_many leads old new at r p there fault h e n b =
+    let asked = subst (λ (x : Bool). leads old (Exists p.path x) new) e h in
+    blamed (λ f. Adds leads old new at r p (Err f)) (told at TooMany) fault
+    (short (Asks (Exists p.path true) ∷ []) (Listed at p ∷ []) [] r fault (true, refl) (no_question _) (new, asked, refl) refl)
+    (stops (Asks (Exists p.path true) ∷ []) [] (Listed at p) r (told at TooMany) (true, refl) (new, asked, refl) refl (program_too_many at p n)) b
+
+pub adds_short : {S : Type 0} (leads : S → Asked → S → Type 0) (old new : S) (at : Site) (r : Registry) (p : Program) (there : Bool) (fault : SuiteFault) → leads old (Exists p.path there) new → IsNoMemory fault → Adds leads old new at r p (Err fault)
+adds_short leads old new at r p there fault h n = short (Asks (Exists p.path there) ∷ []) (looked_up at p there ∷ []) [] r fault (there, refl) (no_question _) (new, h, refl) refl n
+
+pub adds_one : {S : Type 0} (leads : S → Asked → S → Type 0) (old new : S) (at : Site) (r after : Registry) (p : Program) (there : Bool) → leads old (Exists p.path there) new → there ≡ true → length r.programs < program_limit
+    → after ≡ (record r { programs = r.programs ++ p ∷ [] }) → Adds leads old new at r p (Ok after)
+adds_one leads old new at r after p there h e n a =
+    through (Asks (Exists p.path true) ∷ Listed at p ∷ []) after (true, refl) (new, subst (λ (x : Bool). leads old (Exists p.path x) new) e h, refl) (n, a)
+
+-- an include
+pub enters_refused : (at : Site) (r : Registry) (path : List ℕ) (cause : SuiteCause) (fault : SuiteFault) → Some cause ≡ entry_fault r.reading path → IsNoMemory fault ⊎ (fault ≡ told at cause) → Enters at r path (Err fault)
+enters_refused at r path cause fault e b = blamed (λ f. Enters at r path (Err f)) (told at cause) fault (scant fault) (refuses cause (sym e)) b
+
+pub enters_too_many : (at : Site) (r : Registry) (path : List ℕ) (fault : SuiteFault) → None ≡ entry_fault r.reading path → file_limit ≤ r.files → IsNoMemory fault ⊎ (fault ≡ told at TooMany) → Enters at r path (Err fault)
+enters_too_many at r path fault e n b = blamed (λ f. Enters at r path (Err f)) (told at TooMany) fault (scant fault) (exceeds (sym e) n) b
+
+pub enters_well : (at : Site) (r after : Registry) (path : List ℕ) → None ≡ entry_fault r.reading path → r.files < file_limit → after ≡ (record r { files = r.files + 1 }) → Enters at r path (Ok after)
+enters_well at r after path e n a = subst (λ (x : Registry). Enters at r path (Ok x)) (sym a) (counts (sym e) n)
+
+-- statements
+at_once : {S : Type 0} (leads : S → Asked → S → Type 0) (old : S) (r : Registry) (at : Site) (m : Meaning) (fault : SuiteFault) → IsNoMemory fault → Walked leads old old (MeaningGives r.reading at m) r (Err fault)
+at_once leads old r at m fault n = let some = some_marks r.reading (said at true m) in short [] some.0 [] r fault (record { there = true; unfolds = some.1 }) (no_question _) refl refl n
+
+pub step_short : {S : Type 0} (leads : S → Asked → S → Type 0) (old : S) (r : Registry) (at : Site) (suite : Option (List ℕ)) (m : Meaning) (fault : SuiteFault) → IsNoMemory fault → Stepped leads old old r at suite m (Err fault)
+step_short leads old r at suite m fault n = fails fault (at_once leads old r at m fault n)
+
+pub step_wrong : {S : Type 0} (leads : S → Asked → S → Type 0) (old : S) (r : Registry) (at : Site) (suite : Option (List ℕ)) (m : Meaning) (cause : SuiteCause) (fault : SuiteFault) → meaning.Wrong cause ≡ m
+    → IsNoMemory fault ⊎ (fault ≡ told at cause) → Stepped leads old old r at suite m (Err fault)
+step_wrong leads old r at suite m cause fault e b =
+    subst (λ (x : Meaning). Stepped leads old old r at suite x (Err fault)) e
+    (blamed (λ f. Stepped leads old old r at suite (meaning.Wrong cause) (Err f)) (told at cause) fault
+    (λ n. fails fault (at_once leads old r at (meaning.Wrong cause) fault n))
+    (fails (told at cause) (stops [] [] (Fault (told at cause)) r (told at cause) (record { there = true; unfolds = says _ _ _ _ (end _) }) refl refl (is_fault (told at cause)))) b)
+
+pub step_suite : {S : Type 0} (leads : S → Asked → S → Type 0) (old : S) (r : Registry) (at : Site) (suite : Option (List ℕ)) (m : Meaning) (name : List ℕ) → meaning.Suite name ≡ m → Stepped leads old old r at suite m (Ok (Next r (Some name)))
+step_suite leads old r at suite m name e =
+    subst (λ (x : Meaning). Stepped leads old old r at suite x (Ok (Next r (Some name)))) e
+    (goes r (through [] r (record { there = true; unfolds = end _ }) refl refl))
+
+step_enter_at : {S : Type 0} (leads : S → Asked → S → Type 0) (old : S) (r : Registry) (at : Site) (suite : Option (List ℕ)) (name : List ℕ) (result : Result Registry SuiteFault) → Enters at r (beside at.file name) result
+    → Stepped leads old old r at suite (meaning.Include name) (elim result as (λ _. Result Step SuiteFault) [ Ok next ↦ Ok (Enter next suite (beside at.file name)) | Err fault ↦ Err fault ])
+step_enter_at leads old r at suite name _ (refuses cause e) =
+    fails (told at cause) (stops [] [] (Fault (told at cause)) r (told at cause) (record { there = true; unfolds = refused _ _ _ _ _ _ e (end _) }) refl refl (is_fault (told at cause)))
+step_enter_at leads old r at suite name _ (exceeds e n) =
+    fails (told at TooMany) (stops [] _ (File at) r (told at TooMany) (record { there = true; unfolds = entered _ _ _ _ _ _ _ e (unread Missing) (some_file _ _) (end _) }) refl refl (file_too_many at n))
+step_enter_at leads old r at suite name _ (counts e n) = enters (beside at.file name) refl e n refl
+step_enter_at leads old r at suite name _ (scant fault n) = fails fault (at_once leads old r at (meaning.Include name) fault n)
+
+pub step_entered : {S : Type 0} (leads : S → Asked → S → Type 0) (old : S) (r next : Registry) (at : Site) (suite : Option (List ℕ)) (m : Meaning) (name path : List ℕ) → meaning.Include name ≡ m → path ≡ beside at.file name → Enters at r path (Ok next)
+    → Stepped leads old old r at suite m (Ok (Enter next suite path))
+step_entered leads old r next at suite m name path e p h =
+    subst (λ (x : Meaning). Stepped leads old old r at suite x (Ok (Enter next suite path))) e
+    (subst (λ (x : List ℕ). Stepped leads old old r at suite (meaning.Include name) (Ok (Enter next suite x))) (sym p)
+    (step_enter_at leads old r at suite name (Ok next) (subst (λ (x : List ℕ). Enters at r x (Ok next)) p h)))
+
+pub step_not_entered : {S : Type 0} (leads : S → Asked → S → Type 0) (old : S) (r : Registry) (at : Site) (suite : Option (List ℕ)) (m : Meaning) (name path : List ℕ) (fault : SuiteFault) → meaning.Include name ≡ m → path ≡ beside at.file name → Enters at r path (Err fault)
+    → Stepped leads old old r at suite m (Err fault)
+step_not_entered leads old r at suite m name path fault e p h =
+    subst (λ (x : Meaning). Stepped leads old old r at suite x (Err fault)) e
+    (step_enter_at leads old r at suite name (Err fault) (subst (λ (x : List ℕ). Enters at r x (Err fault)) p h))
+
+-- what a program's marks are, its statement gives
+walk_program : {S : Type 0} (leads : S → Asked → S → Type 0) (old new : S) (r : Registry) (at : Site) (interface : Interface) (name own : List ℕ) (props : List Variable) (result : Result Registry SuiteFault)
+    → Adds leads old new at r (record { interface = interface; path = beside at.file name; suite = own; props = props }) result
+    → Walked leads old new (MeaningGives r.reading at (meaning.Program interface name own props)) r result
+walk_program leads old new r at interface name own props _ (through marks after g c k) =
+    through marks after (record { there = g.0; unfolds = subst (λ (ms : List Mark). Unfolds r.reading (said at g.0 (meaning.Program interface name own props)) ms) (sym g.1) (says _ _ _ _ (says _ _ _ _ (end _))) }) c k
+walk_program leads old new r at interface name own props _ (stops front back mark mid fault g c k d) =
+    stops front back mark mid fault (record { there = g.0; unfolds = subst (λ (ms : List Mark). Unfolds r.reading (said at g.0 (meaning.Program interface name own props)) ms) (sym g.1) (says _ _ _ _ (says _ _ _ _ (end _))) }) c k d
+walk_program leads old new r at interface name own props _ (short front back more mid fault g l c k n) =
+    short front back more mid fault (record { there = g.0; unfolds = subst (λ (ms : List Mark). Unfolds r.reading (said at g.0 (meaning.Program interface name own props)) ms) (sym g.1) (says _ _ _ _ (says _ _ _ _ (end _))) }) l c k n
+
+pub step_added : {S : Type 0} (leads : S → Asked → S → Type 0) (old new : S) (r next : Registry) (at : Site) (suite : Option (List ℕ)) (m : Meaning) (interface : Interface) (name own : List ℕ) (props : List Variable) (path : List ℕ)
+    → meaning.Program interface name own props ≡ m → path ≡ beside at.file name → Adds leads old new at r (record { interface = interface; path = path; suite = own; props = props }) (Ok next)
+    → Stepped leads old new r at suite m (Ok (Next next suite))
+step_added leads old new r next at suite m interface name own props path e p a =
+    subst (λ (x : Meaning). Stepped leads old new r at suite x (Ok (Next next suite))) e
+    (goes next (walk_program leads old new r at interface name own props (Ok next)
+    (subst (λ (x : List ℕ). Adds leads old new at r (record { interface = interface; path = x; suite = own; props = props }) (Ok next)) p a)))
+
+pub step_not_added : {S : Type 0} (leads : S → Asked → S → Type 0) (old new : S) (r : Registry) (at : Site) (suite : Option (List ℕ)) (m : Meaning) (interface : Interface) (name own : List ℕ) (props : List Variable) (path : List ℕ) (fault : SuiteFault)
+    → meaning.Program interface name own props ≡ m → path ≡ beside at.file name → Adds leads old new at r (record { interface = interface; path = path; suite = own; props = props }) (Err fault)
+    → Stepped leads old new r at suite m (Err fault)
+step_not_added leads old new r at suite m interface name own props path fault e p a =
+    subst (λ (x : Meaning). Stepped leads old new r at suite x (Err fault)) e
+    (fails fault (walk_program leads old new r at interface name own props (Err fault)
+    (subst (λ (x : List ℕ). Adds leads old new at r (record { interface = interface; path = x; suite = own; props = props }) (Err fault)) p a)))

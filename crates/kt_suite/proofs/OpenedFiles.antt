@@ -1,0 +1,34 @@
+-- A file was asked for, and perhaps opened.
+use Rattle.std.specs.Prelude.{Result, Ok, Err}
+use Rattle.std.proofs.Common.{◌<◌, ◌+◌, ◌-◌, ℕ, List, [], ◌∷◌, ◌++◌, length, arith, refl}
+use Rattle.kt_script.specs.declared.syntax.Stmt.{Stmt}
+use Rattle.kt_suite.specs.declared.read_fault.ReadFault.{ReadFault}
+use Rattle.kt_suite.specs.declared.read_fault.ReadFault.TheVariants.{Missing}
+use Rattle.kt_suite.specs.declared.fault.SuiteFault.{SuiteFault}
+use Rattle.kt_suite.specs.declared.registry.Registry.{Registry}
+use Rattle.kt_suite.specs.Answers.{Asked, Read}
+use Rattle.kt_suite.specs.Faults.{read_fault, IsNoMemory}
+use Rattle.kt_suite.specs.Marks.{Asks, Fault, Says, unread, opened, end, says}
+use Rattle.kt_suite.specs.Registered.{is_fault, thrown_away}
+use Rattle.kt_suite.specs.Walks.{Walked, stops, short, FileGives, Opened, opens, declines, lacks}
+use Rattle.kt_suite.proofs.Unfolding.{some_file}
+
+-- memory ran out with the answer for a file's bytes
+file_short : {T : Type 0} (asks : T → Asked → T → Type 0) (old new : T) (r : Registry) (file : List ℕ) (answer : Result (List ℕ) ReadFault) (fault : SuiteFault) → asks old (Read file answer) new → IsNoMemory fault → Walked asks old new (FileGives r.reading file) r (Err fault)
+file_short asks old new r file answer fault h n =
+    short [] (Asks (Read file (Err Missing)) ∷ Fault (read_fault file Missing) ∷ []) (Read file answer ∷ []) r fault
+    (record { parts = Says (Asks (Read file (Err Missing))) ∷ Says (Fault (read_fault file Missing)) ∷ []; says = unread Missing; unfolds = some_file (r.reading ++ file ∷ []) file })
+    (thrown_away (Read file answer) (Read file (Err Missing)) (Fault (read_fault file Missing) ∷ []) refl) (new, h, refl) refl n
+
+-- the file wasn't opened
+pub unopened_file : {T : Type 0} (asks : T → Asked → T → Type 0) (old new : T) (r : Registry) (file : List ℕ) (fault : SuiteFault) → Opened asks old new file (Err fault) → Walked asks old new (FileGives r.reading file) r (Err fault)
+unopened_file asks old new r file _ (declines answer fault h s) =
+    stops (Asks (Read file answer) ∷ []) [] (Fault fault) r fault (record { parts = _; says = s; unfolds = says _ _ _ _ (says _ _ _ _ (end _)) }) (new, h, refl) refl (is_fault fault)
+unopened_file asks old new r file _ (lacks answer fault h n) = file_short asks old new r file answer fault h n
+
+-- it was, and memory ran out
+pub opened_short : {T : Type 0} (asks : T → Asked → T → Type 0) (old new : T) (r : Registry) (file : List ℕ) (stmts : List Stmt) (fault : SuiteFault) → Opened asks old new file (Ok stmts) → IsNoMemory fault → Walked asks old new (FileGives r.reading file) r (Err fault)
+opened_short asks old new r file _ fault (opens text first rest h s w) n = file_short asks old new r file (Ok text) fault h n
+
+pub opened_some : {T : Type 0} (asks : T → Asked → T → Type 0) (old new : T) (file : List ℕ) (stmts : List Stmt) → Opened asks old new file (Ok stmts) → 0 < length stmts
+opened_some asks old new file _ (opens text first rest h s w) = omega arith

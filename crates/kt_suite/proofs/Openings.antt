@@ -1,0 +1,66 @@
+-- A file is asked for and opened.
+use Rattle.std.specs.Prelude.{Some, None, Result, Ok, Err}
+use Rattle.std.proofs.Common.{◌≡◌, ℕ, List, [], ◌∷◌, length, arith, refl, sym, subst, ◌⊎◌, inl, inr}
+use Rattle.kt_script.specs.declared.fault.ScriptFault.{ScriptFault}
+use Rattle.kt_script.specs.declared.fault.ScriptFault.TheVariants as script
+use Rattle.kt_script.specs.declared.syntax.Stmt.{Stmt}
+use Rattle.kt_script.specs.Faults.{IfFault}
+use Rattle.kt_script.specs.Spelling.{Spells, IsDue}
+use Rattle.kt_suite.specs.declared.read_fault.ReadFault.{ReadFault}
+use Rattle.kt_suite.specs.declared.cause.SuiteCause.{SuiteCause}
+use Rattle.kt_suite.specs.declared.cause.SuiteCause.TheVariants.{NoSyntax, Script}
+use Rattle.kt_suite.specs.declared.fault.SuiteFault.{SuiteFault}
+use Rattle.kt_suite.specs.Answers.{Asked, Read}
+use Rattle.kt_suite.specs.Faults.{fault_at, read_fault, script_line, IsText, IsNoMemory, Blames}
+use Rattle.kt_suite.specs.Meanings.{opening_fault}
+use Rattle.kt_suite.specs.Marks.{unread, no_script, no_statement, unopened}
+use Rattle.kt_suite.specs.Walks.{WellOpened, well, empty, badly, unclear, Opened, opens, declines, lacks}
+
+nothing : {X : Type 0} (xs : List X) → length xs ≡ 0 → xs ≡ []
+nothing [] e = refl
+nothing (x ∷ xs) e = absurd (omega (arith, e))
+
+pub well_empty : (file : List ℕ) (stmts : List Stmt) (fault : SuiteFault) → length stmts ≡ 0 → Blames file 1 NoSyntax fault → WellOpened file stmts (Err fault)
+well_empty file stmts fault e (inl n) = unclear fault n
+well_empty file stmts fault e (inr f) = subst (λ (f : SuiteFault). WellOpened file stmts (Err f)) (sym f) (empty (nothing stmts e))
+
+pub well_wrong : (file : List ℕ) (stmts : List Stmt) (first : Stmt) (rest : List Stmt) (cause : SuiteCause) (fault : SuiteFault) → stmts ≡ first ∷ rest → Some cause ≡ opening_fault first.action
+    → Blames file first.line cause fault → WellOpened file stmts (Err fault)
+well_wrong file stmts first rest cause fault e w (inl n) = unclear fault n
+well_wrong file stmts first rest cause fault e w (inr f) = subst (λ (f : SuiteFault). WellOpened file stmts (Err f)) (sym f) (badly first rest cause e (sym w))
+
+pub well_right : (file : List ℕ) (stmts : List Stmt) (first : Stmt) (rest : List Stmt) → stmts ≡ first ∷ rest → None ≡ opening_fault first.action → WellOpened file stmts (Ok stmts)
+well_right file stmts first rest e w = well first rest e (sym w)
+
+pub opens_unread : {S : Type 0} (leads : S → Asked → S → Type 0) (old new : S) (file : List ℕ) (why : ReadFault) (fault : SuiteFault) → leads old (Read file (Err why)) new
+    → IsNoMemory fault ⊎ (fault ≡ read_fault file why) → Opened leads old new file (Err fault)
+opens_unread leads old new file why fault h (inl n) = lacks (Err why) fault h n
+opens_unread leads old new file why fault h (inr e) = subst (λ (f : SuiteFault). Opened leads old new file (Err f)) (sym e) (declines (Err why) (read_fault file why) h (unread why))
+
+is_due : (text : List ℕ) (why : ScriptFault) → IsText why → IfFault {T = List Stmt} (Err why) (λ f. IsDue text f) → IsDue text why
+is_due text (script.NoMemory refusal) n i = absurd n
+is_due text script.NotUtf8 n i = i
+is_due text (script.BadToken line) n i = i
+is_due text (script.NotLiteral line) n i = i
+is_due text (script.Unclosed line) n i = i
+is_due text script.TooLong n i = i
+
+pub opens_no_script : {S : Type 0} (leads : S → Asked → S → Type 0) (old new : S) (file text : List ℕ) (answer : Result (List ℕ) ReadFault) (why : ScriptFault) (fault : SuiteFault) → leads old (Read file answer) new → answer ≡ Ok text
+    → IfFault {T = List Stmt} (Err why) (λ f. IsDue text f) → IsNoMemory fault ⊎ (IsText why × (fault ≡ fault_at file (script_line why) (Script why))) → Opened leads old new file (Err fault)
+opens_no_script leads old new file text answer why fault h a i (inl n) = lacks answer fault h n
+opens_no_script leads old new file text answer why fault h a i (inr e) =
+    subst (λ (f : SuiteFault). Opened leads old new file (Err f)) (sym e.1)
+    (declines (Ok text) (fault_at file (script_line why) (Script why)) (subst (λ (x : Result (List ℕ) ReadFault). leads old (Read file x) new) a h) (no_script text why (is_due text why e.0 i)))
+
+opens_by : {S : Type 0} (leads : S → Asked → S → Type 0) (old new : S) (file text : List ℕ) (stmts : List Stmt) (result : Result (List Stmt) SuiteFault) → leads old (Read file (Ok text)) new → Spells text stmts
+    → WellOpened file stmts result → Opened leads old new file result
+opens_by leads old new file text stmts _ h s (well first rest e w) =
+    subst (λ (xs : List Stmt). Opened leads old new file (Ok xs)) (sym e) (opens text first rest h (subst (λ (xs : List Stmt). Spells text xs) e s) w)
+opens_by leads old new file text stmts _ h s (empty e) = declines (Ok text) (fault_at file 1 NoSyntax) h (no_statement text (subst (λ (xs : List Stmt). Spells text xs) e s))
+opens_by leads old new file text stmts _ h s (badly first rest cause e w) =
+    declines (Ok text) (fault_at file first.line cause) h (unopened text first rest cause (subst (λ (xs : List Stmt). Spells text xs) e s) w)
+opens_by leads old new file text stmts _ h s (unclear fault n) = lacks (Ok text) fault h n
+
+pub opens_script : {S : Type 0} (leads : S → Asked → S → Type 0) (old new : S) (file text : List ℕ) (answer : Result (List ℕ) ReadFault) (stmts : List Stmt) (result : Result (List Stmt) SuiteFault) → leads old (Read file answer) new → answer ≡ Ok text
+    → Spells text stmts → WellOpened file stmts result → Opened leads old new file result
+opens_script leads old new file text answer stmts result h a s w = opens_by leads old new file text stmts result (subst (λ (x : Result (List ℕ) ReadFault). leads old (Read file x) new) a h) s w

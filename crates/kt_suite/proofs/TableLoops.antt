@@ -1,0 +1,61 @@
+-- The pairs of a table are taken one by one.
+use Rattle.std.specs.Prelude.{Option, Some, None, Result, Ok, Err}
+use Rattle.std.proofs.Common.{◌≡◌, List, [], ◌∷◌, ◌++◌, length, arith, refl, sym, ap, ◌∙◌}
+use mathlib.Core.List.{append_assoc, append-nil}
+use Rattle.kt_base.specs.declared.variable.Variable.{Variable}
+use Rattle.kt_script.specs.declared.syntax.Pair.{Pair}
+use Rattle.kt_suite.specs.declared.cause.SuiteCause.{SuiteCause}
+use Rattle.kt_suite.specs.declared.program_table.ProgramTable.{ProgramTable}
+use Rattle.kt_suite.specs.Tables.{definition, definitions, pair_fault, earlier, first_fault, table_of, unless, declared, table_with}
+
+-- none of the pairs so far is refused, and they are what was found
+pub record TableSoFar (found : ProgramTable) (rest pairs : List Pair) : Type 0 where
+  pub before : List Variable
+  pub is : found ≡ table_of before
+  pub whole : before ++ definitions rest ≡ definitions pairs
+  pub fault : first_fault (definitions rest) ≡ first_fault (definitions pairs)
+
+pub table_first : (found : ProgramTable) (pairs : List Pair) → found ≡ table_of [] → TableSoFar found pairs pairs
+table_first found pairs e = record { before = []; is = e; whole = refl; fault = refl }
+
+ok_unless : (fault : Option SuiteCause) (next table : ProgramTable) → ◌≡◌ {A = Result ProgramTable SuiteCause} (Ok next) (unless fault table) → (fault ≡ None) × (next ≡ table)
+ok_unless None next table e = (refl, ap (λ (r : Result ProgramTable SuiteCause). elim r [ Ok t ↦ t | Err cause ↦ next ]) e)
+ok_unless (Some cause) next table e = absurd (cc)
+
+err_unless : (fault : Option SuiteCause) (cause : SuiteCause) (table : ProgramTable) → ◌≡◌ {A = Result ProgramTable SuiteCause} (Err cause) (unless fault table) → fault ≡ Some cause
+err_unless None cause table e = absurd (cc)
+err_unless (Some other) cause table e = ap (λ (r : Result ProgramTable SuiteCause). elim r [ Ok t ↦ Some other | Err c ↦ Some c ]) (sym e)
+
+-- the faults of the pairs that are left, the next of them first
+left_fault : (pair : Pair) (after rest pairs : List Pair) → rest ≡ pair ∷ after → first_fault (definitions rest) ≡ first_fault (definitions pairs)
+    → earlier (pair_fault (definition pair)) (first_fault (definitions after)) ≡ first_fault (definitions pairs)
+left_fault pair after rest pairs e f = ap (λ (ps : List Pair). first_fault (definitions ps)) (sym e) ∙ f
+
+pub table_next : (found next : ProgramTable) (pair : Pair) (after rest pairs : List Pair) → rest ≡ pair ∷ after → (s : TableSoFar found rest pairs)
+    → ◌≡◌ {A = Result ProgramTable SuiteCause} (Ok next) (table_with s.before (definition pair)) → TableSoFar next after pairs
+table_next found next pair after rest pairs e s h =
+    let u = ok_unless (pair_fault (definition pair)) next (table_of (s.before ++ definition pair ∷ [])) h in
+    record {
+      before = s.before ++ definition pair ∷ [];
+      is = u.1;
+      whole = append_assoc s.before (definition pair ∷ []) (definitions after) ∙ ap (λ (ps : List Pair). s.before ++ definitions ps) (sym e) ∙ s.whole;
+      fault = ap (λ (f : Option SuiteCause). earlier f (first_fault (definitions after))) (sym u.0) ∙ left_fault pair after rest pairs e s.fault;
+    }
+
+pub table_stops : (found : ProgramTable) (cause : SuiteCause) (pair : Pair) (after rest pairs : List Pair) → rest ≡ pair ∷ after → (s : TableSoFar found rest pairs)
+    → ◌≡◌ {A = Result ProgramTable SuiteCause} (Err cause) (table_with s.before (definition pair)) → ◌≡◌ {A = Result ProgramTable SuiteCause} (Err cause) (declared pairs)
+table_stops found cause pair after rest pairs e s h =
+    let u = err_unless (pair_fault (definition pair)) cause (table_of (s.before ++ definition pair ∷ [])) h in
+    ap (λ (f : Option SuiteCause). unless f (table_of (definitions pairs)))
+    (ap (λ (f : Option SuiteCause). earlier f (first_fault (definitions after))) (sym u) ∙ left_fault pair after rest pairs e s.fault)
+
+none_left : (rest : List Pair) → length rest ≡ 0 → rest ≡ []
+none_left [] e = refl
+none_left (x ∷ xs) e = absurd (omega (arith, e))
+
+pub table_all : (found : ProgramTable) (rest pairs : List Pair) → length rest ≡ 0 → TableSoFar found rest pairs → ◌≡◌ {A = Result ProgramTable SuiteCause} (Ok found) (declared pairs)
+table_all found rest pairs e s =
+    let n = none_left rest e in
+    let whole : s.before ≡ definitions pairs = sym (append-nil s.before) ∙ ap (λ (ps : List Pair). s.before ++ definitions ps) (sym n) ∙ s.whole in
+    ap (λ (t : ProgramTable). Ok t) (s.is ∙ ap table_of whole)
+    ∙ ap (λ (f : Option SuiteCause). unless f (table_of (definitions pairs))) (ap (λ (ps : List Pair). first_fault (definitions ps)) (sym n) ∙ s.fault)

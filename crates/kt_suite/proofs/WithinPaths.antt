@@ -1,0 +1,62 @@
+-- Paths that lie within others, and their bytes.
+use Rattle.std.proofs.Common.{◌≡◌, ℕ, Bool, true, false, List, [], ◌∷◌, ◌++◌, refl, sym, ap, ◌∙◌, chars, arith, drop, length}
+use Rattle.std.specs.Prelude.{encode_utf8_all, ◌==◌}
+use Rattle.std.specs.Str.{IsUtf8}
+use Rattle.std.proofs.lemmas.Str.{encodes-chars, chars-append, encodes-append, encode_ascii}
+use Rattle.std.proofs.lemmas.List.Prefix.{front_rest}
+use Rattle.std.proofs.lemmas.Bool.{eq-eqb, eqb-true, and_parts}
+use Rattle.kt_suite.specs.Matching.{is_within}
+
+-- a path that begins with the directory
+pub within-append : (directory rest : List ℕ) → is_within directory (directory ++ rest) ≡ is_within [] rest
+within-append [] rest = refl
+within-append (c ∷ directory) rest = rw (eq-eqb c c refl) (within-append directory rest)
+
+-- a path within a directory begins with it
+pub append-within : (directory path : List ℕ) → is_within directory path ≡ true → (rest : List ℕ) × (path ≡ directory ++ rest)
+append-within [] path e = (path, refl)
+append-within (d ∷ directory) [] e = absurd (cc)
+append-within (d ∷ directory) (c ∷ path) e =
+    let parts : (d == c ≡ true) × (is_within directory path ≡ true) = and_parts (d == c) (is_within directory path) e in
+    let after : (rest : List ℕ) × (path ≡ directory ++ rest) = append-within directory path parts.1 in
+    (after.0, ap (λ (x : ℕ). x ∷ path) (sym (eqb-true d c parts.0)) ∙ ap (λ (xs : List ℕ). d ∷ xs) after.1)
+
+-- bytes that begin with those of the directory
+pub within-found : (directory path rest : List ℕ) → IsUtf8 directory → path ≡ directory ++ rest → is_within [] (chars rest) ≡ is_within (chars directory) (chars path)
+within-found directory path rest u e =
+    sym (ap (λ (p : List ℕ). is_within (chars directory) p) (ap chars e ∙ chars-append directory rest u) ∙ within-append (chars directory) (chars rest))
+
+none-next : (directory path : List ℕ) → IsUtf8 directory → IsUtf8 path → ((rest : List ℕ) → path ≡ directory ++ rest → ⊥)
+    → (b : Bool) → is_within (chars directory) (chars path) ≡ b → false ≡ is_within (chars directory) (chars path)
+none-next directory path u v lacks false e = sym e
+none-next directory path u v lacks true e =
+    let parts : (rest : List ℕ) × (chars path ≡ chars directory ++ rest) = append-within (chars directory) (chars path) e in
+    absurd (lacks (encode_utf8_all parts.0)
+    (sym (encodes-chars path v) ∙ ap encode_utf8_all parts.1 ∙ encodes-append (chars directory) parts.0 ∙ ap (λ (bs : List ℕ). bs ++ encode_utf8_all parts.0) (encodes-chars directory u)))
+
+-- bytes that don't
+pub within-none : (directory path : List ℕ) → IsUtf8 directory → IsUtf8 path → ((rest : List ℕ) → path ≡ directory ++ rest → ⊥) → false ≡ is_within (chars directory) (chars path)
+within-none directory path u v lacks = none-next directory path u v lacks (is_within (chars directory) (chars path)) refl
+
+-- a path that is over or goes on with a slash, in bytes
+ends-encoded : (rest : List ℕ) → is_within [] rest ≡ true → is_within [] (encode_utf8_all rest) ≡ true
+ends-encoded [] e = refl
+ends-encoded (c ∷ rest) e =
+    let slash : c ≡ 47 = eqb-true c 47 e in
+    ap (λ (x : ℕ). is_within [] (encode_utf8_all (x ∷ rest))) slash ∙ ap (λ (bs : List ℕ). is_within [] (bs ++ encode_utf8_all rest)) (encode_ascii 47 (omega arith))
+
+past-next : (directory path : List ℕ) → IsUtf8 directory → IsUtf8 path → is_within [] (drop (length directory) path) ≡ false
+    → (b : Bool) → is_within (chars directory) (chars path) ≡ b → false ≡ is_within (chars directory) (chars path)
+past-next directory path u v goes false e = sym e
+past-next directory path u v goes true e =
+    let parts : (rest : List ℕ) × (chars path ≡ chars directory ++ rest) = append-within (chars directory) (chars path) e in
+    let over : is_within [] parts.0 ≡ true = sym (within-append (chars directory) parts.0) ∙ ap (λ (p : List ℕ). is_within (chars directory) p) (sym parts.1) ∙ e in
+    let bytes : path ≡ directory ++ encode_utf8_all parts.0 =
+    sym (encodes-chars path v) ∙ ap encode_utf8_all parts.1 ∙ encodes-append (chars directory) parts.0 ∙ ap (λ (bs : List ℕ). bs ++ encode_utf8_all parts.0) (encodes-chars directory u) in
+    let true_too : is_within [] (drop (length directory) path) ≡ true =
+    ap (λ (bs : List ℕ). is_within [] bs) (front_rest path directory (encode_utf8_all parts.0) bytes) ∙ ends-encoded parts.0 over in
+    absurd (let n : false ≡ true = sym goes ∙ true_too in cc)
+
+-- a path that goes on otherwise behind as many bytes as the directory has
+pub within-past : (directory path : List ℕ) → IsUtf8 directory → IsUtf8 path → is_within [] (drop (length directory) path) ≡ false → false ≡ is_within (chars directory) (chars path)
+within-past directory path u v goes = past-next directory path u v goes (is_within (chars directory) (chars path)) refl

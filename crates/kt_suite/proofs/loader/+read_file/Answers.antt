@@ -1,0 +1,45 @@
+use Rattle.std.specs.Prelude.{List, drop}
+use Rattle.std.proofs.Common.{rules, ◌≡◌, ◌<◌, ◌-◌, length, ◌∷◌, refl, ap, ◌∙◌}
+use Rattle.std.proofs.lemmas.List.{take_rest}
+use Rattle.kt_script.specs.declared.syntax.Stmt.{Stmt}
+use Rattle.kt_suite.proofs.Inclusions.{step_stops, step_next, step_inner, step_inner_stops, deeper}
+use Rattle.kt_suite.proofs.OpenedFiles.{unopened_file, opened_short}
+use Rattle.kt_suite.proofs.Reading.{reading_first, reading_all}
+use Rattle.kt_suite.proofs.loader.+read_file.Goals as goal
+
+pub returns-in-Err : goal.returns-in-Err
+returns-in-Err g n c = unopened_file g.T.Tree.asks _ _ c.args.registry _ _ c.in-Err.ensures
+
+pub returns-in-Err-begin : goal.returns-in-Err-begin
+returns-in-Err-begin g n c = opened_short g.T.Tree.asks _ _ c.args.registry _ _ _ c.in-Ok.ensures (c.in-Err-begin.refusal, c.no_memory.ensures)
+
+pub loop-stmt-init : goal.loop-stmt-init
+loop-stmt-init g n c = reading_first g.T.Tree.asks _ _ c.args.registry _ _ _ _ _ c.in-Ok.ensures c.in-Ok-begin.ensures (take_rest c.as_slice.result.now 1 ∙ ap (λ (xs : List Stmt). drop 1 xs) c.as_slice.ensures) refl
+
+pub returns-in-Err-step : goal.returns-in-Err-step
+returns-in-Err-step g n c =
+    let e : c.loop-stmt.rest.now ≡ c.in-Some.stmt.now ∷ c.in-Some.after.now = search rules in
+    step_stops g.T.Tree.asks _ _ _ c.args.registry _ _ _ _ _ _ _ e c.loop-stmt.invariant c.in-Err-step.ensures
+
+pub returns-in-Err-read_file : goal.returns-in-Err-read_file
+returns-in-Err-read_file g n c =
+    let e : c.loop-stmt.rest.now ≡ c.in-Some.stmt.now ∷ c.in-Some.after.now = search rules in
+    step_inner_stops g.T.Tree.asks _ _ _ _ c.args.registry _ _ _ _ _ _ _ _ _ _ _ e c.in-Enter.is c.loop-stmt.invariant c.in-Ok-step.ensures c.in-Err-read_file.ensures
+
+pub loop-stmt-preserved-in-Next : goal.loop-stmt-preserved-in-Next
+loop-stmt-preserved-in-Next g n c =
+    let e : c.loop-stmt.rest.now ≡ c.in-Some.stmt.now ∷ c.in-Some.after.now = search rules in
+    step_next g.T.Tree.asks _ _ _ c.args.registry _ _ _ _ _ _ _ _ _ e c.in-Next.is c.loop-stmt.invariant c.in-Ok-step.ensures
+
+pub loop-stmt-preserved : goal.loop-stmt-preserved
+loop-stmt-preserved g n c =
+    let e : c.loop-stmt.rest.now ≡ c.in-Some.stmt.now ∷ c.in-Some.after.now = search rules in
+    step_inner g.T.Tree.asks _ _ _ _ c.args.registry _ _ _ _ _ _ _ _ _ _ _ e c.in-Enter.is c.loop-stmt.invariant c.in-Ok-step.ensures c.in-Ok-read_file.ensures
+
+pub returns : goal.returns
+returns g n c = reading_all g.T.Tree.asks _ _ c.args.registry _ _ _ _ _ c.in_default.ensures.cases c.loop-stmt.invariant c.end.ensures
+
+pub read_file-requires : goal.read_file-requires
+read_file-requires g n c =
+    let d : 32 - length c.in-Enter.next.reading < 32 - length c.args.registry.reading = deeper g.T.Tree.asks _ _ _ c.args.registry _ _ _ _ _ _ _ _ _ _ c.in-Enter.is c.loop-stmt.invariant c.in-Ok-step.ensures in
+    search rules

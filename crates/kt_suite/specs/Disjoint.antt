@@ -1,0 +1,60 @@
+-- Which filters share a case.
+use Rattle.std.specs.Prelude.{ℕ, ◌≡◌, ◌<◌, Bool, true, false, ◌&&◌, ◌||◌, IsTrue, List, Option, Some, None, take, find, slice_get, option_map, bytes_eq, if◌then◌else◌}
+use Rattle.kt_suite.specs.declared.filter.Filter.{Filter}
+use Rattle.kt_suite.specs.declared.filter_fault.FilterFault.{FilterFault}
+use Rattle.kt_suite.specs.declared.filter_fault.FilterFault.TheVariants.{Repeated, NotDisjoint}
+use Rattle.kt_suite.specs.Matching.{is_within, matches}
+
+-- a case part is this one
+abbrev pub is_case_part : List ℕ → Option (List ℕ) → Bool
+is_case_part own None = false
+is_case_part own (Some other) = bytes_eq own other
+
+-- two case parts are the same
+abbrev pub same_case_part : Option (List ℕ) → Option (List ℕ) → Bool
+same_case_part None None = true
+same_case_part None (Some other) = false
+same_case_part (Some own) other = is_case_part own other
+
+-- two filters are the same
+abbrev pub is_same_filter : Filter → Filter → Bool
+is_same_filter filter other = bytes_eq filter.program other.program && same_case_part filter.case_name other.case_name
+
+-- without a case part all filters of programs within the path are covered, else the same filter alone
+abbrev pub parts_cover : List ℕ → Option (List ℕ) → Filter → Bool
+parts_cover program None other = is_within program other.program
+parts_cover program (Some own) other = bytes_eq program other.program && is_case_part own other.case_name
+
+-- the first filter matches all that the second matches
+abbrev pub covers : Filter → Filter → Bool
+covers filter other = parts_cover filter.program filter.case_name other
+
+-- one of two filters covers the other
+abbrev pub overlap : Filter → Filter → Bool
+overlap filter other = covers filter other || covers other filter
+
+-- two filters match the same case of some program
+abbrev pub ShareCase : Filter → Filter → Type 0
+ShareCase filter other = (path case_name : List ℕ) × IsTrue (matches filter path case_name) × IsTrue (matches other path case_name)
+
+-- what is wrong with a filter at a position that overlaps with an earlier one
+abbrev pub clash : ℕ → Filter → Filter → FilterFault
+clash position filter earlier = if is_same_filter filter earlier then Repeated position else NotDisjoint position
+
+-- what is wrong with a filter behind these: the first of them that it overlaps with decides
+abbrev pub fault_behind : List Filter → ℕ → Option Filter → Option FilterFault
+fault_behind earlier position None = None
+fault_behind earlier position (Some filter) = option_map (clash position filter) (find (overlap filter) earlier)
+
+-- what is wrong with the filter at a position
+abbrev pub fault_at : List Filter → ℕ → Option FilterFault
+fault_at filters position = fault_behind (take position filters) position (slice_get filters position)
+
+-- nothing is wrong with any filter
+abbrev pub IsDisjoint : List Filter → Type 0
+IsDisjoint filters = (position : ℕ) → fault_at filters position ≡ None
+
+-- this is wrong at some position, and nothing before
+abbrev pub IsFirstFault : List Filter → FilterFault → Type 0
+IsFirstFault filters fault =
+    (position : ℕ) × (fault_at filters position ≡ Some fault) × ((before : ℕ) → before < position → fault_at filters before ≡ None)

@@ -1,0 +1,80 @@
+-- What a text says as a filter.
+use Rattle.std.specs.Prelude.{ℕ, ◌≡◌, Bool, not, ◌==◌, ◌&&◌, List, [], ◌∷◌, ◌++◌, Option, Some, None, Result, Ok, Err, filter, bytes_eq, codes, if◌then◌else◌}
+use Rattle.std.specs.List.{slice_split, join_with_byte}
+use Rattle.kt_suite.specs.declared.filter.Filter.{Filter}
+use Rattle.kt_suite.specs.declared.filter_fault.FilterFault.{FilterFault}
+use Rattle.kt_suite.specs.declared.filter_fault.FilterFault.TheVariants.{NoMemory, Empty, Absolute, EmptyCase}
+use Rattle.kt_suite.specs.Paths.{is_empty}
+
+-- a text up to its first colon
+abbrev pub before_colon : List ℕ → List ℕ
+before_colon [] = []
+before_colon (c ∷ text) = if c == 58 then [] else c ∷ before_colon text
+
+-- what follows its first colon, if it has one
+abbrev pub after_colon : List ℕ → Option (List ℕ)
+after_colon [] = None
+after_colon (c ∷ text) = if c == 58 then Some text else after_colon text
+
+-- a character separates components
+abbrev pub is_separator : ℕ → Bool
+is_separator c = c == 47
+
+-- a component counts if it is neither empty nor `.`
+abbrev pub counts : List ℕ → Bool
+counts component = not (is_empty component) && not (bytes_eq component (codes "."))
+
+-- the components of a path that count
+abbrev pub components : List ℕ → List (List ℕ)
+components path = filter counts (slice_split is_separator path)
+
+-- a path with single slashes and without `.`
+abbrev pub plain_path : List ℕ → List ℕ
+plain_path path = join_with_byte 47 (components path)
+
+-- a path with a component more
+abbrev pub joined : List ℕ → List ℕ → List ℕ
+joined [] component = component
+joined (c ∷ path) component = c ∷ path ++ 47 ∷ component
+
+-- the same if it counts
+abbrev pub with_component : List ℕ → List ℕ → List ℕ
+with_component path component = if counts component then joined path component else path
+
+-- a case part may not be empty
+abbrev pub case_fault : Option (List ℕ) → Option FilterFault
+case_fault None = None
+case_fault (Some name) = if is_empty name then Some EmptyCase else None
+
+-- the first thing that is wrong with the two parts of a filter as they are written
+abbrev pub parts_fault : List ℕ → Option (List ℕ) → Option FilterFault
+parts_fault [] case_name = Some Empty
+parts_fault (c ∷ path) case_name = if c == 47 then Some Absolute else case_fault case_name
+
+-- a filter, or why a text is none
+abbrev pub Meaning : Type 0
+Meaning = Result Filter FilterFault
+
+-- a filter has a component
+abbrev pub filter_of : List ℕ → Option (List ℕ) → Meaning
+filter_of [] case_name = Err Empty
+filter_of (c ∷ path) case_name = Ok (record { program = c ∷ path; case_name = case_name })
+
+-- what was wrong before decides
+abbrev pub unless_wrong : Option FilterFault → Meaning → Meaning
+unless_wrong None meaning = meaning
+unless_wrong (Some fault) meaning = Err fault
+
+-- a filter by its two parts as they are written
+abbrev pub meaning_of_parts : List ℕ → Option (List ℕ) → Meaning
+meaning_of_parts path case_name = unless_wrong (parts_fault path case_name) (filter_of (plain_path path) case_name)
+
+-- what a text says as a filter
+abbrev pub filter_meaning : List ℕ → Meaning
+filter_meaning text = meaning_of_parts (before_colon text) (after_colon text)
+
+-- memory ran out, or this was answered
+abbrev pub Answers : Result Filter FilterFault → Meaning → Type 0
+Answers (Ok found) meaning = Ok found ≡ meaning
+Answers (Err (NoMemory refusal)) meaning = Unit {0}
+Answers (Err fault) meaning = Err fault ≡ meaning

@@ -1,0 +1,109 @@
+-- What is met as a tree of Kyuafiles is read, in order.
+use Rattle.std.specs.Prelude.{ℕ, Bool, true, false, List, [], ◌∷◌, ◌++◌, ◌≡◌, length, nat_le, bytes_eq, Option, Some, None, Ok, Err, if◌then◌else◌}
+use Rattle.std.specs.List.{list_any}
+use Rattle.kt_script.specs.declared.fault.ScriptFault.{ScriptFault}
+use Rattle.kt_script.specs.declared.syntax.Stmt.{Stmt}
+use Rattle.kt_script.specs.Spelling.{Spells, IsDue}
+use Rattle.kt_suite.specs.declared.read_fault.ReadFault.{ReadFault}
+use Rattle.kt_suite.specs.declared.cause.SuiteCause.{SuiteCause}
+use Rattle.kt_suite.specs.declared.cause.SuiteCause.TheVariants.{NoSyntax, MissingProgram, IncludeLoop, TooDeep, Script}
+use Rattle.kt_suite.specs.declared.fault.SuiteFault.{SuiteFault}
+use Rattle.kt_suite.specs.declared.program.Program.{Program}
+use Rattle.kt_suite.specs.declared.meaning.Meaning.{Meaning}
+use Rattle.kt_suite.specs.declared.meaning.Meaning.TheVariants as meaning
+use Rattle.kt_suite.specs.Answers.{Asked, Read, Exists}
+use Rattle.kt_suite.specs.Faults.{fault_at, read_fault, script_line}
+use Rattle.kt_suite.specs.Meanings.{meaning_of, opening_fault}
+use Rattle.kt_suite.specs.Paths.{beside}
+
+-- the most files of which each includes the next
+abbrev pub depth_limit : ℕ
+depth_limit = 32
+
+-- where a statement stands
+pub record Site : Type 0 where
+  pub file : List ℕ
+  pub line : ℕ
+
+-- a fault of a statement
+abbrev pub told : Site → SuiteCause → SuiteFault
+told at cause = fault_at at.file at.line cause
+
+-- what is met: a question with its answer, a file that is to be read, a program, a fault
+pub data Mark : Type 0 where
+  Asks : Asked → Mark
+  File : Site → Mark
+  Listed : Site → Program → Mark
+  Fault : SuiteFault → Mark
+
+-- a part of what one file says: a mark, or an include of the file with this path
+pub data Part : Type 0 where
+  Says : Mark → Part
+  Includes : Site → List ℕ → Part
+
+-- a program that a statement registers is there or missing
+abbrev pub looked_up : Site → Program → Bool → Mark
+looked_up at program true = Listed at program
+looked_up at program false = Fault (told at MissingProgram)
+
+-- a statement says this by its meaning, and by whether its program is there
+abbrev pub said : Site → Bool → Meaning → List Part
+said at there (meaning.Wrong cause) = Says (Fault (told at cause)) ∷ []
+said at there (meaning.Suite name) = []
+said at there (meaning.Include name) = Includes at (beside at.file name) ∷ []
+said at there (meaning.Program interface name suite props) =
+    Says (Asks (Exists (beside at.file name) there))
+    ∷ Says (looked_up at (record { interface = interface; path = beside at.file name; suite = suite; props = props }) there) ∷ []
+
+-- the suite of the programs after a statement
+abbrev pub suite_after : Option (List ℕ) → Meaning → Option (List ℕ)
+suite_after suite (meaning.Wrong cause) = suite
+suite_after suite (meaning.Suite name) = Some name
+suite_after suite (meaning.Include name) = suite
+suite_after suite (meaning.Program interface name own props) = suite
+
+-- what the statements of a file say, if it has named this suite so far
+pub data StatementsSay (file : List ℕ) : Option (List ℕ) → List Stmt → List Part → Type 0 where
+  none : (suite : Option (List ℕ)) → StatementsSay file suite [] []
+  one : (suite : Option (List ℕ)) (stmt : Stmt) (rest : List Stmt) (there : Bool) (parts : List Part)
+      → StatementsSay file (suite_after suite (meaning_of suite stmt.action)) rest parts
+      → StatementsSay file suite (stmt ∷ rest)
+      (said (record { file = file; line = stmt.line }) there (meaning_of suite stmt.action) ++ parts)
+
+-- what a file says by itself, under an answer to the question for its bytes
+pub data FileSays (file : List ℕ) : List Part → Type 0 where
+  unread : (why : ReadFault)
+      → FileSays file (Says (Asks (Read file (Err why))) ∷ Says (Fault (read_fault file why)) ∷ [])
+  no_script : (text : List ℕ) (why : ScriptFault) → IsDue text why
+      → FileSays file (Says (Asks (Read file (Ok text))) ∷ Says (Fault (fault_at file (script_line why) (Script why))) ∷ [])
+  no_statement : (text : List ℕ) → Spells text []
+      → FileSays file (Says (Asks (Read file (Ok text))) ∷ Says (Fault (fault_at file 1 NoSyntax)) ∷ [])
+  unopened : (text : List ℕ) (first : Stmt) (rest : List Stmt) (cause : SuiteCause)
+      → Spells text (first ∷ rest) → opening_fault first.action ≡ Some cause
+      → FileSays file (Says (Asks (Read file (Ok text))) ∷ Says (Fault (fault_at file first.line cause)) ∷ [])
+  opened : (text : List ℕ) (first : Stmt) (rest : List Stmt) (parts : List Part)
+      → Spells text (first ∷ rest) → opening_fault first.action ≡ None → StatementsSay file None rest parts
+      → FileSays file (Says (Asks (Read file (Ok text))) ∷ parts)
+
+-- why a file isn't included while these are open, the root first: it is one of them, or they are 32
+abbrev pub entry_fault : List (List ℕ) → List ℕ → Option SuiteCause
+entry_fault files path =
+    if list_any (bytes_eq path) files then Some IncludeLoop
+    else if nat_le depth_limit (length files) then Some TooDeep else None
+
+-- an include stands for its fault, or for a file and all that this file gives; `files` are the open ones
+pub data Unfolds : List (List ℕ) → List Part → List Mark → Type 0 where
+  end : (files : List (List ℕ)) → Unfolds files [] []
+  says : (files : List (List ℕ)) (mark : Mark) (parts : List Part) (marks : List Mark)
+      → Unfolds files parts marks → Unfolds files (Says mark ∷ parts) (mark ∷ marks)
+  refused : (files : List (List ℕ)) (at : Site) (path : List ℕ) (cause : SuiteCause) (parts : List Part) (marks : List Mark)
+      → entry_fault files path ≡ Some cause → Unfolds files parts marks
+      → Unfolds files (Includes at path ∷ parts) (Fault (told at cause) ∷ marks)
+  entered : (files : List (List ℕ)) (at : Site) (path : List ℕ) (own : List Part) (inner : List Mark)
+      (parts : List Part) (marks : List Mark)
+      → entry_fault files path ≡ None → FileSays path own → Unfolds (files ++ path ∷ []) own inner → Unfolds files parts marks
+      → Unfolds files (Includes at path ∷ parts) (File at ∷ (inner ++ marks))
+
+-- what a tree gives: its root is included by no other file
+abbrev pub TreeGives : List ℕ → List Mark → Type 0
+TreeGives root marks = Unfolds [] (Includes (record { file = root; line = 0 }) root ∷ []) marks

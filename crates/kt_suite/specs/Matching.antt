@@ -1,0 +1,27 @@
+-- Which cases a filter matches.
+use Rattle.std.specs.Prelude.{ℕ, ◌≡◌, Bool, true, false, ◌==◌, ◌&&◌, ◌⊎◌, IsTrue, List, [], ◌∷◌, ◌++◌, Option, Some, None, bytes_eq}
+use Rattle.kt_suite.specs.declared.filter.Filter.{Filter}
+
+-- a path is this one, or goes on behind it with a slash
+abbrev pub is_within : List ℕ → List ℕ → Bool
+is_within [] [] = true
+is_within [] (c ∷ path) = c == 47
+is_within (d ∷ directory) [] = false
+is_within (d ∷ directory) (c ∷ path) = d == c && is_within directory path
+
+-- the same as a fact
+abbrev pub IsWithin : List ℕ → List ℕ → Type 0
+IsWithin directory path = (path ≡ directory) ⊎ ((rest : List ℕ) × (path ≡ directory ++ 47 ∷ rest))
+
+-- without a case part the program and all programs under it, else this case of this program
+abbrev pub parts_match : List ℕ → Option (List ℕ) → List ℕ → List ℕ → Bool
+parts_match program None path case_name = is_within program path
+parts_match program (Some own) path case_name = bytes_eq path program && bytes_eq case_name own
+
+-- a filter matches a case of a program
+abbrev pub matches : Filter → List ℕ → List ℕ → Bool
+matches filter path case_name = parts_match filter.program filter.case_name path case_name
+
+-- a filter matches some case that a program could have
+abbrev pub MayMatch : Filter → List ℕ → Type 0
+MayMatch filter path = (case_name : List ℕ) × IsTrue (matches filter path case_name)

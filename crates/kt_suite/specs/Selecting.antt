@@ -1,0 +1,53 @@
+-- Which cases some filters select.
+use Rattle.std.specs.Prelude.{ℕ, Bool, true, false, not, Option, Some, None, slice_get, ◌+◌, List, [], ◌∷◌, if◌then◌else◌}
+use Rattle.std.specs.List.{list_any}
+use Rattle.kt_suite.specs.declared.filter.Filter.{Filter}
+use Rattle.kt_suite.specs.declared.item.Item.{Item}
+use Rattle.kt_suite.specs.Matching.{matches}
+
+-- the most items to select from
+abbrev pub most_items : ℕ
+most_items = 100000
+
+-- the positions of the elements that pass a test, counted from a number
+abbrev pub places : {A : Type 0} → (A → Bool) → ℕ → List A → List ℕ
+places test n [] = []
+places test n (x ∷ xs) = if test x then n ∷ places test (n + 1) xs else places test (n + 1) xs
+
+-- a filter matches an item
+abbrev pub matches_item : Item → Filter → Bool
+matches_item item filter = matches filter item.path item.case_name
+
+-- some filter matches an item
+abbrev pub is_matched : List Filter → Item → Bool
+is_matched filters item = list_any (matches_item item) filters
+
+-- an item is selected if some filter matches it, or if there is no filter
+abbrev pub is_selected : List Filter → Item → Bool
+is_selected [] item = true
+is_selected (filter ∷ filters) item = is_matched (filter ∷ filters) item
+
+-- the positions of the selected items
+abbrev pub selected_places : List Item → List Filter → List ℕ
+selected_places items filters = places (is_selected filters) 0 items
+
+-- an item is among those of a filter
+abbrev pub is_item_of : Filter → Item → Bool
+is_item_of filter item = matches_item item filter
+
+-- the same of an item that may be there
+abbrev pub is_some_item_of : Filter → Option Item → Bool
+is_some_item_of filter None = false
+is_some_item_of filter (Some item) = is_item_of filter item
+
+-- the item at a position, if there is one, is among those of a filter
+abbrev pub is_place_of : List Item → Filter → ℕ → Bool
+is_place_of items filter place = is_some_item_of filter (slice_get items place)
+
+-- a filter matches no item
+abbrev pub is_idle : List Item → Filter → Bool
+is_idle items filter = not (list_any (is_item_of filter) items)
+
+-- the positions of the filters that match no item
+abbrev pub idle_places : List Item → List Filter → List ℕ
+idle_places items filters = places (is_idle items) 0 filters

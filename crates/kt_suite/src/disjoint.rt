@@ -1,0 +1,83 @@
+ghost use Rattle.std.specs.Prelude.{◌≡◌, ◌↔◌, List, ℕ, IfErr, IsTrue, OnOk, option_copied, find, slice_get, take};
+ghost use Rattle.kt_suite.specs.declared.filter.Filter.{Filter as OneFilter};
+ghost use Rattle.kt_suite.specs.Matching.{is_within, IsWithin};
+ghost use Rattle.kt_suite.specs.Disjoint.{same_case_part, is_same_filter, covers, overlap, ShareCase, fault_at, IsDisjoint, IsFirstFault};
+
+use crate::filter::Filter;
+use crate::filter_fault::FilterFault;
+use crate::within::is_within;
+use crate::words::is_same;
+use kt_base::Text;
+
+fn same_case_part(own: &Option<Text>, other: &Option<Text>) -> bool
+    ensures { result ≡ same_case_part own.now other.now }
+{
+    match own {
+        None => other.is_none(),
+        Some(own) => match other {
+            None => false,
+            Some(other) => is_same(own, other),
+        },
+    }
+}
+
+fn is_same_filter(filter: &Filter, other: &Filter) -> bool
+    ensures { result ≡ is_same_filter filter.now other.now }
+{
+    is_same(&filter.program, &other.program) && same_case_part(&filter.case_name, &other.case_name)
+}
+
+fn covers(filter: &Filter, other: &Filter) -> bool
+    ensures { result ≡ covers filter.now other.now }
+{
+    match &filter.case_name {
+        None => is_within(&filter.program, &other.program),
+        Some(_) => is_same_filter(filter, other),
+    }
+}
+
+fn overlap(filter: &Filter, other: &Filter) -> bool
+    ensures { result ≡ overlap filter.now other.now }
+{
+    covers(filter, other) || covers(other, filter)
+}
+
+fn first_overlap<'a>(filter: &Filter, earlier: &'a [Filter]) -> Option<&'a Filter>
+    ensures { option_copied result ≡ find (overlap filter.now) earlier.now }
+{
+    earlier.iter().find(|other| overlap(filter, *other))
+}
+
+/// What is wrong with the filter at a position.
+fn fault_at(filters: &[Filter], position: usize) -> Option<FilterFault>
+    ensures { result ≡ fault_at filters.now position }
+{
+    let filter = filters.get(position)?;
+    let earlier = first_overlap(filter, &filters[..position])?;
+    if is_same_filter(filter, earlier) {
+        return Some(FilterFault::Repeated(position));
+    }
+    Some(FilterFault::NotDisjoint(position))
+}
+
+/// Whether no case is named by two filters. If not, it says which filter is the first that shares a case with an earlier one,
+/// and the first of these decides whether it is repeated. It takes no memory.
+pub fn check_disjoint(filters: &[Filter]) -> Result<(), FilterFault>
+    ensures ok { OnOk result (IsDisjoint filters.now) }
+    ensures first { IfErr result (IsFirstFault filters.now) }
+{
+    for position in 0..filters.len() {
+        if let Some(fault) = fault_at(filters, position) {
+            return Err(fault);
+        }
+    }
+    Ok(())
+}
+
+/// What the words of filters mean: a path lies within a directory if it is its own or begins with it and a slash, equal filters
+/// are equal in both parts, and two filters overlap exactly if there is a case that both select.
+pub fn filter_laws()
+    ensures within { (directory path : List ℕ) → IsTrue (is_within directory path) ↔ IsWithin directory path }
+    ensures same { (filter other : OneFilter) → IsTrue (is_same_filter filter other) ↔ (filter ≡ other) }
+    ensures overlap { (filter other : OneFilter) → IsTrue (overlap filter other) ↔ ShareCase filter other }
+{}

@@ -1,0 +1,108 @@
+ghost use Rattle.std.specs.Prelude.{◌≡◌, IfOk, OnOk};
+ghost use Rattle.kt_suite.specs.Filters.{before_colon, after_colon, counts, joined, with_component, plain_path, case_fault, parts_fault};
+
+use crate::filter_fault::FilterFault;
+use crate::words::{is_empty, is_word};
+use kt_base::{NoMemory, Text};
+use std::alloc::Global;
+
+fn characters(alloc: Global, text: &Text) -> Result<Vec<char>, NoMemory>
+    ensures { IfOk result (λ characters. characters.items ≡ text.now) }
+{
+    Ok(text.as_str().chars().collect(alloc)?)
+}
+
+/// A text up to its first colon, and what follows the colon.
+pub fn split_at_colon(alloc: Global, text: &Text) -> Result<(Text, Option<Text>), NoMemory>
+    ensures path { IfOk result (λ parts. parts.0 ≡ before_colon text.now) }
+    ensures case_name { IfOk result (λ parts. parts.1 ≡ after_colon text.now) }
+{
+    let characters = characters(alloc, text)?;
+    let mut path = Text::new(alloc);
+    let mut rest = characters.as_slice();
+    while let Some((c, after)) = rest.split_first() {
+        if *c == ':' {
+            return Ok((path, Some(Text::from_characters(alloc, after)?)));
+        }
+        path.push(*c)?;
+        rest = after;
+    }
+    Ok((path, None))
+}
+
+/// What is wrong with a case part.
+fn case_fault(case_name: &Option<Text>) -> Option<FilterFault>
+    ensures { result ≡ case_fault case_name.now }
+{
+    match case_name {
+        None => None,
+        Some(name) => {
+            if is_empty(name) {
+                return Some(FilterFault::EmptyCase);
+            }
+            None
+        }
+    }
+}
+
+/// The first thing that is wrong with the two parts of a filter as they are written.
+pub fn parts_fault(path: &Text, case_name: &Option<Text>) -> Option<FilterFault>
+    ensures { result ≡ parts_fault path.now case_name.now }
+{
+    match path.as_str().chars().next() {
+        None => Some(FilterFault::Empty),
+        Some('/') => Some(FilterFault::Absolute),
+        Some(_) => case_fault(case_name),
+    }
+}
+
+/// Whether a component is neither empty nor `.`.
+fn counts(component: &Text) -> bool
+    ensures { result ≡ counts component.now }
+{
+    !is_empty(component) && !is_word(component, ".")
+}
+
+/// Appends a component that counts.
+fn push_component(path: &mut Text, component: &Text) -> Result<(), NoMemory>
+    ensures { OnOk result (path.new ≡ joined path.old component.now) }
+{
+    if is_empty(path) {
+        path.push_str(component.as_str())?;
+        return Ok(());
+    }
+    path.push('/')?;
+    path.push_str(component.as_str())?;
+    Ok(())
+}
+
+/// Appends a component if it counts.
+fn add_component(path: &mut Text, component: &Text) -> Result<(), NoMemory>
+    ensures { OnOk result (path.new ≡ with_component path.old component.now) }
+{
+    if counts(component) {
+        push_component(path, component)?;
+    }
+    Ok(())
+}
+
+/// A path with single slashes and without `.`.
+pub fn plain_path(alloc: Global, path: &Text) -> Result<Text, NoMemory>
+    ensures { IfOk result (λ plain. plain ≡ plain_path path.now) }
+{
+    let characters = characters(alloc, path)?;
+    let mut plain = Text::new(alloc);
+    let mut component = Text::new(alloc);
+    let mut rest = characters.as_slice();
+    while let Some((c, after)) = rest.split_first() {
+        if *c == '/' {
+            add_component(&mut plain, &component)?;
+            component = Text::new(alloc);
+        } else {
+            component.push(*c)?;
+        }
+        rest = after;
+    }
+    add_component(&mut plain, &component)?;
+    Ok(plain)
+}

@@ -1,0 +1,139 @@
+ghost use Rattle.std.specs.Prelude.{◌≡◌};
+ghost use Rattle.std.specs.List.{list_any};
+ghost use Rattle.std.specs.Str.{bytes_eq};
+ghost use Rattle.kt_suite.specs.Marks.{entry_fault};
+ghost use Rattle.kt_suite.specs.Meanings.{meaning_of};
+ghost use Rattle.kt_suite.specs.Walks.{Adds, Enters, Stepped};
+
+use crate::blame::{blame, no_memory};
+use crate::cause::SuiteCause;
+use crate::fault::SuiteFault;
+use crate::meaning::Meaning;
+use crate::paths::path_beside;
+use crate::program::Program;
+use crate::registry::Registry;
+use crate::statement::read_statement;
+use crate::step::Step;
+use crate::tree::Tree;
+use crate::words::is_same;
+use kt_base::Text;
+use kt_script::Stmt;
+use std::alloc::Global;
+
+/// The most programs that a tree may register.
+const PROGRAM_LIMIT: usize = 10_000;
+
+/// The most files that are read.
+const FILE_LIMIT: usize = 10_000;
+
+/// The most files that are open at once, each included by the one before.
+const DEPTH_LIMIT: usize = 32;
+
+/// Registers a program, if it is there and not one too many.
+fn add<T: Tree>(
+    alloc: Global,
+    tree: &mut T,
+    file: &Text,
+    line: u32,
+    registry: Registry,
+    program: Program,
+) -> Result<Registry, SuiteFault>
+    ensures { Adds T.asks tree.old tree.new (record { file = file.now; line = line })
+        registry program result }
+{
+    let mut registry = registry;
+    if !tree.exists(&program.path) {
+        return Err(blame(file, alloc, line, SuiteCause::MissingProgram));
+    }
+    if registry.programs.len() >= PROGRAM_LIMIT {
+        return Err(blame(file, alloc, line, SuiteCause::TooMany));
+    }
+    match registry.programs.push(program) {
+        Err(refusal) => Err(no_memory(alloc, refusal)),
+        Ok(()) => Ok(registry),
+    }
+}
+
+fn is_among(files: &[Text], path: &Text) -> bool
+    ensures { result ≡ list_any (bytes_eq path.now) files.now }
+{
+    files.iter().any(|file| is_same(path, file))
+}
+
+/// Why a file may not be included while these are open.
+fn wrong_entry(files: &[Text], path: &Text) -> Option<SuiteCause>
+    ensures { result ≡ entry_fault files.now path.now }
+{
+    if is_among(files, path) {
+        Some(SuiteCause::IncludeLoop)
+    } else if files.len() >= DEPTH_LIMIT {
+        Some(SuiteCause::TooDeep)
+    } else {
+        None
+    }
+}
+
+/// Counts a file that is to be read next, if it may be included here.
+fn enter(
+    alloc: Global,
+    file: &Text,
+    line: u32,
+    registry: Registry,
+    path: &Text,
+) -> Result<Registry, SuiteFault>
+    ensures { Enters (record { file = file.now; line = line }) registry path.now result }
+{
+    if let Some(cause) = wrong_entry(registry.reading.as_slice(), path) {
+        return Err(blame(file, alloc, line, cause));
+    }
+    if registry.files >= FILE_LIMIT {
+        return Err(blame(file, alloc, line, SuiteCause::TooMany));
+    }
+    Ok(Registry {
+        reading: registry.reading,
+        files: registry.files + 1,
+        programs: registry.programs,
+    })
+}
+
+/// Carries out one statement of a file, after its first.
+pub fn step<T: Tree>(
+    alloc: Global,
+    tree: &mut T,
+    file: &Text,
+    registry: Registry,
+    suite: Option<Text>,
+    stmt: &Stmt,
+) -> Result<Step, SuiteFault>
+    ensures { Stepped T.asks tree.old tree.new registry
+        (record { file = file.now; line = stmt.now.line }) suite
+        (meaning_of suite stmt.now.action) result }
+{
+    match read_statement(alloc, &suite, &stmt.action) {
+        Err(refusal) => Err(no_memory(alloc, refusal)),
+        Ok(Meaning::Wrong(cause)) => Err(blame(file, alloc, stmt.line, cause)),
+        Ok(Meaning::Suite(name)) => Ok(Step::Next(registry, Some(name))),
+        Ok(Meaning::Include(name)) => match path_beside(alloc, file, &name) {
+            Err(refusal) => Err(no_memory(alloc, refusal)),
+            Ok(path) => match enter(alloc, file, stmt.line, registry, &path) {
+                Err(fault) => Err(fault),
+                Ok(next) => Ok(Step::Enter(next, suite, path)),
+            },
+        },
+        Ok(Meaning::Program(interface, name, own, props)) => match path_beside(alloc, file, &name) {
+            Err(refusal) => Err(no_memory(alloc, refusal)),
+            Ok(path) => {
+                let program = Program {
+                    interface,
+                    path,
+                    suite: own,
+                    props,
+                };
+                match add(alloc, tree, file, stmt.line, registry, program) {
+                    Err(fault) => Err(fault),
+                    Ok(next) => Ok(Step::Next(next, suite)),
+                }
+            }
+        },
+    }
+}
