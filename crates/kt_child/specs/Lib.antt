@@ -18,6 +18,7 @@ pub mod Numbers
 pub mod Parts
 pub mod Polls
 pub mod Reads
+pub mod Removals
 pub mod Roots
 pub mod SeveralLives
 pub mod Starts

@@ -18,5 +18,5 @@ failed_roots base (suc n) = failed_roots base n ++ MakeDir (root_of base n) fals
 abbrev pub FindsRoot : List ℕ → List Call → Result (List ℕ) DriverFault → Type 0
 FindsRoot base calls (Ok root) =
     (n : ℕ) × (n < 1000) × (calls ≡ failed_roots base n ++ MakeDir (root_of base n) true ∷ []) × (root ≡ root_of base n)
-FindsRoot base calls (Err NoMemory) = (n : ℕ) × (n < 1000) × (calls ≡ failed_roots base n)
+FindsRoot base calls (Err (NoMemory refusal)) = (n : ℕ) × (n < 1000) × (calls ≡ failed_roots base n)
 FindsRoot base calls (Err NoWorkDirectory) = calls ≡ failed_roots base 1000

@@ -1,7 +1,12 @@
-/// Why there is no driver.
-#[derive(Clone, Copy, Debug, PartialEq, Eq)]
+use kt_base::NoMemory;
+use thiserror::Error;
+
+/// Why there is no driver. `Display` is the text of the fault line (this profile).
+#[derive(Clone, Copy, Debug, PartialEq, Eq, Error)]
 pub enum DriverFault {
-    NoMemory,
+    #[error("out of memory")]
+    NoMemory(NoMemory),
     /// None of the 1,000 root directories could be made.
+    #[error("no work directory")]
     NoWorkDirectory,
 }

@@ -6,23 +6,23 @@ use crate::child::Child;
 use crate::env::EnvPlan;
 use crate::file_read::FileRead;
 use crate::host_child::HostChild;
-use crate::host_children;
 use crate::host_command::command_of;
 use crate::host_faults::or_fault;
-use crate::host_outputs::create_output;
+use crate::host_outputs::{create_directory, create_output};
 use crate::host_reads::read_regular;
 use crate::os::Os;
 use crate::os_fault::OsFault;
 use crate::polled::Polled;
+use crate::{host_children, host_removal};
 use kt_base::{Items, Text};
 use std::fs::File;
 use std::os::unix::process::ExitStatusExt;
 use std::process::{ExitStatus, Processes};
 use std::rt::{Clock, Files};
+use std::thread;
 use std::time::{Duration, SystemTime};
-use std::{fs, io, thread};
 
-/// How long a pause lasts at the most, in milliseconds.
+/// How long a pause lasts at the most, in milliseconds. The slices of `await_end` are as long.
 const PAUSE: u64 = 10;
 
 /// After so many pauses in which no child ended, a pause looks for an end no more.
@@ -30,9 +30,10 @@ const QUIET_PAUSES: u32 = 20;
 
 /// The system itself: the processes, files and clocks of the standard library.
 ///
-/// It keeps the real time of its children. A pause sleeps in slices of a millisecond and is over when a child has
-/// ended, at the latest after 10 milliseconds; where nothing has ended for a while it sleeps in one piece. A poll
-/// whose answer `running` would come too early sleeps a little first.
+/// It keeps the real time of its children. A pause sleeps in slices, the first of 50 microseconds and each twice as long as
+/// the one before, up to a millisecond. It is over when a child has ended, at the latest after 10 milliseconds; where
+/// nothing has ended for a while it sleeps in one piece. A poll whose answer `running` would come too early sleeps a little
+/// first.
 #[derive(Drop)]
 pub struct HostOs<R: Processes> {
     rt: R,
@@ -96,16 +97,16 @@ impl<R: Processes + Files<File = File> + Clock + AllocGlobal + Drop> HostOs<R> {
         words: &Items<Text>,
         env: &EnvPlan,
         dir: &Text,
-    ) -> io::Result<()>
+    ) -> Result<(), OsFault>
         ensures started { OnOk result (IsSome (stand_in self.new.children.items child)) }
         ensures others { OthersStay child (stand_in self.old.children.items) (stand_in self.new.children.items) }
     {
         let mut command = command_of(self.rt.alloc(), program, words, env, dir)?;
-        host_children::launch(&mut self.children, child, &self.rt, &mut command)
+        or_fault(host_children::launch(&mut self.children, child, &self.rt, &mut command))
     }
 }
 
-impl<R: Processes + Files<File = File> + Clock + AllocGlobal + Drop> Os for HostOs<R> {
+impl<R: Processes + Files<File = File> + Clock + AllocGlobal + Clone + Drop> Os for HostOs<R> {
     // What the system does with its files, its processes and its clock is not said: how the children stand that are
     // kept here is, and that what is told of them and of a file is what the library answered.
     ghost use Rattle.kt_child.specs.HostStands.{IsLastEnd, stand_in};
@@ -114,11 +115,11 @@ impl<R: Processes + Files<File = File> + Clock + AllocGlobal + Drop> Os for Host
     ghost leads = { λ old call new. HostLeads (stand_in old.children.items) call (stand_in new.children.items) (IsLastEnd new.last) };
 
     fn make_dir(&mut self, path: &Text) -> Result<(), OsFault> {
-        or_fault(fs::create_dir(&self.rt, path.as_str()))
+        or_fault(create_directory(&self.rt, path.as_str()))
     }
 
     fn remove_tree(&mut self, path: &Text) -> Result<(), OsFault> {
-        or_fault(fs::remove_dir_all(&self.rt, path.as_str()))
+        host_removal::remove_tree(&self.rt, path)
     }
 
     fn open_output(&mut self, child: Child, path: &Text) -> Result<(), OsFault> {
@@ -141,9 +142,9 @@ impl<R: Processes + Files<File = File> + Clock + AllocGlobal + Drop> Os for Host
     ) -> Result<(), OsFault> {
         match self.launch(child, program, words, env, dir) {
             Ok(()) => Ok(()),
-            Err(_) => {
+            Err(fault) => {
                 host_children::forget(&mut self.children, child);
-                Err(OsFault)
+                Err(fault)
             }
         }
     }
@@ -170,7 +171,7 @@ impl<R: Processes + Files<File = File> + Clock + AllocGlobal + Drop> Os for Host
             return Ok(());
         }
         let quiet = self.quiet + 1;
-        let ended = host_children::await_end(&mut self.children, &self.rt, PAUSE);
+        let ended = host_children::await_end(&mut self.children, &self.rt);
         self.quiet = if ended { 0 } else { quiet };
         Ok(())
     }

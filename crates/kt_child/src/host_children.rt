@@ -14,6 +14,11 @@ use std::rt::Clock;
 use std::time::Duration;
 use std::{io, thread};
 
+/// The slices of a pause, in microseconds: 10 milliseconds in all. Short ones come first, for a short case.
+const SLICES: [u64; 14] = [
+    50, 100, 200, 400, 800, 1000, 1000, 1000, 1000, 1000, 1000, 1000, 1000, 450,
+];
+
 fn same_role(a: Role, b: Role) -> bool
     ensures { result ≡ same_role a b }
 {
@@ -195,16 +200,15 @@ fn has_new_end<P: OpenProcess + Drop>(children: &mut Vec<HostChild<P>>) -> bool
     false
 }
 
-/// Sleeps so many slices of a millisecond, or until a child has ended, and tells whether one has.
+/// Sleeps until a child has ended, at the latest after all slices, and returns whether one has.
 pub(super) fn await_end<P: OpenProcess + Drop, C: Clock>(
     children: &mut Vec<HostChild<P>>,
     clock: &C,
-    slices: u64,
 ) -> bool
     ensures { AllProceed (stand_in children.old.items) (stand_in children.new.items) }
 {
-    for _ in 0..slices {
-        thread::sleep(clock, Duration::from_millis(1));
+    for slice in &SLICES {
+        thread::sleep(clock, Duration::from_micros(*slice));
         if has_new_end(children) {
             return true;
         }

@@ -4,12 +4,12 @@ ghost use Rattle.kt_base.specs.Utf8.{utf8};
 ghost use Rattle.kt_child.specs.HostCommands.{IsCommandOf, after_removed, after_set};
 
 use crate::env::EnvPlan;
-use kt_base::{Items, Text, Variable, Variables};
-use std::alloc::{AllocError, Global};
+use kt_base::{Items, NoMemory, Text, Variable, Variables};
+use std::alloc::Global;
 use std::process::Command;
 
 /// Appends words.
-fn push_words(command: &mut Command, words: &Items<Text>) -> Result<(), AllocError>
+fn push_words(command: &mut Command, words: &Items<Text>) -> Result<(), NoMemory>
     ensures args { OnOk result (command_args command.new ≡ command_args command.old ++ map utf8 words.now) }
     ensures program { OnOk result (command_program command.new ≡ command_program command.old) }
     ensures env { OnOk result (SameEnv command.old command.new) }
@@ -22,7 +22,7 @@ fn push_words(command: &mut Command, words: &Items<Text>) -> Result<(), AllocErr
 }
 
 /// Removes a variable from what a child gets of the runner's environment.
-fn remove_variable(command: &mut Command, name: &Text) -> Result<(), AllocError>
+fn remove_variable(command: &mut Command, name: &Text) -> Result<(), NoMemory>
     ensures removed { OnOk result (command_var command.new (utf8 name.now) ≡ (if clears_env command.old then None else Some None)) }
     ensures others { OnOk result (SameOtherVars command.old command.new (utf8 name.now)) }
     ensures inherits { OnOk result (clears_env command.new ≡ clears_env command.old) }
@@ -34,7 +34,7 @@ fn remove_variable(command: &mut Command, name: &Text) -> Result<(), AllocError>
 }
 
 /// Removes the variables of these names from what a child gets of the runner's environment.
-fn remove_variables(command: &mut Command, names: &Items<Text>) -> Result<(), AllocError>
+fn remove_variables(command: &mut Command, names: &Items<Text>) -> Result<(), NoMemory>
     requires { clears_env command.old ≡ false }
     ensures variables { OnOk result ((name : List ℕ) → command_var command.new name ≡ after_removed names.now name (command_var command.old name)) }
     ensures inherits { OnOk result (clears_env command.new ≡ false) }
@@ -48,7 +48,7 @@ fn remove_variables(command: &mut Command, names: &Items<Text>) -> Result<(), Al
 }
 
 /// Sets a variable.
-fn set_variable(command: &mut Command, variable: &Variable) -> Result<(), AllocError>
+fn set_variable(command: &mut Command, variable: &Variable) -> Result<(), NoMemory>
     ensures set { OnOk result (command_var command.new (utf8 variable.now.name) ≡ Some (Some (utf8 variable.now.value))) }
     ensures others { OnOk result (SameOtherVars command.old command.new (utf8 variable.now.name)) }
     ensures inherits { OnOk result (clears_env command.new ≡ clears_env command.old) }
@@ -60,7 +60,7 @@ fn set_variable(command: &mut Command, variable: &Variable) -> Result<(), AllocE
 }
 
 /// Sets variables, of which the last one of a name counts.
-fn set_variables(command: &mut Command, set: &Variables) -> Result<(), AllocError>
+fn set_variables(command: &mut Command, set: &Variables) -> Result<(), NoMemory>
     ensures variables { OnOk result ((name : List ℕ) → command_var command.new name ≡ after_set set.now name (command_var command.old name)) }
     ensures inherits { OnOk result (clears_env command.new ≡ clears_env command.old) }
     ensures call { OnOk result (SameProgramAndArgs command.old command.new) }
@@ -79,7 +79,7 @@ pub(super) fn command_of(
     words: &Items<Text>,
     env: &EnvPlan,
     dir: &Text,
-) -> Result<Command, AllocError>
+) -> Result<Command, NoMemory>
     ensures { IfOk result (λ command. IsCommandOf program.now words.now env.now dir.now command) }
 {
     let mut command = Command::new(alloc, program.as_str())?;

@@ -9,6 +9,7 @@ ghost use Rattle.kt_child.specs.Launches.{BodyStarts, CleanupStarts};
 use crate::case::Case;
 use crate::jobs::{fresh_child, plan_body, spawning};
 use crate::os::Os;
+use crate::refusals::memory_refusal;
 use crate::row::Row;
 use kt_base::{Refused, Role, Text};
 use kt_sched::{Job, StartAnswer};
@@ -37,7 +38,7 @@ pub(super) fn begin_body<O: Os>(
     let attempt = *next;
     *next += 1;
     match plan_body(alloc, source, root, attempt, job) {
-        Err(_) => StartAnswer::Refused(Refused::Memory),
+        Err(refusal) => StartAnswer::Refused(memory_refusal(refusal)),
         Ok(planned) => {
             let child = fresh_child(job, Role::Body, attempt);
             row.start_body(os, child, planned.case, &planned.plan)
@@ -63,9 +64,9 @@ pub(super) fn begin_cleanup<O: Os>(
 {
     let owed = row.take_owed(job.position);
     match spawning(alloc, source, job, Role::Cleanup, owed.attempt, &owed.paths) {
-        Err(_) => {
+        Err(refusal) => {
             let _ = os.remove_tree(&owed.paths.dir);
-            StartAnswer::Refused(Refused::Memory)
+            StartAnswer::Refused(memory_refusal(refusal))
         }
         Ok(plan) => {
             let child = fresh_child(job, Role::Cleanup, owed.attempt);

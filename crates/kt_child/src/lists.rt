@@ -10,6 +10,7 @@ use crate::new_starts::set_up;
 use crate::os::Os;
 use crate::paths::Paths;
 use crate::reads::read_list;
+use crate::refusals::memory_refusal;
 use crate::spawning::Spawning;
 use crate::turns::wait;
 use crate::want::Want;
@@ -134,7 +135,7 @@ pub(super) fn list_by<O: Os>(
     let attempt = *next;
     *next += 1;
     match plan_list(alloc, source, root, attempt, program, variables) {
-        Err(_) => Listing::Refused(Refused::Memory),
+        Err(refusal) => Listing::Refused(memory_refusal(refusal)),
         Ok(planned) => run_list(os, &planned.plan, &planned.paths),
     }
 }

@@ -1,3 +1,15 @@
+use kt_base::NoMemory;
+
 /// A call to the system that failed. Why it failed changes nothing, so it is not told.
 #[derive(Clone, Copy, Debug, PartialEq, Eq)]
 pub struct OsFault;
+
+impl From<NoMemory> for OsFault {
+    ghost use Rattle.std.specs.Prelude.{◌≡◌};
+
+    ghost from_gives = { λ _ fault. fault ≡ record {} };
+
+    fn from(_refusal: NoMemory) -> OsFault {
+        OsFault
+    }
+}

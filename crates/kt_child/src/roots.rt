@@ -8,7 +8,8 @@ use crate::spelling::number_text;
 use kt_base::{NoMemory, Text};
 use std::alloc::Global;
 
-fn root_path(alloc: Global, base: &Text, number: u64) -> Result<Text, NoMemory>
+/// A root directory by its number.
+pub(super) fn root_path(alloc: Global, base: &Text, number: u64) -> Result<Text, NoMemory>
     ensures { IfOk result (λ path. path ≡ root_of base.now number) }
 {
     let digits = number_text(alloc, number)?;
@@ -25,7 +26,7 @@ pub fn find_root<O: Os>(alloc: Global, os: &mut O, base: &Text) -> Result<Text, 
 {
     for number in 0..1000 {
         match root_path(alloc, base, number) {
-            Err(_) => return Err(DriverFault::NoMemory),
+            Err(refusal) => return Err(DriverFault::NoMemory(refusal)),
             Ok(root) => {
                 if os.make_dir(&root).is_ok() {
                     return Ok(root);

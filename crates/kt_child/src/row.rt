@@ -7,11 +7,12 @@ use crate::case::Case;
 use crate::ends::{leave, over};
 use crate::open_turn::OpenTurn;
 use crate::os::Os;
+use crate::refusals::memory_refusal;
 use crate::spawning::Spawning;
 use crate::starts::{start_body, start_cleanup};
 use crate::waits::wait_on;
 use crate::watched::Watched;
-use kt_base::{NoMemory, Refused};
+use kt_base::NoMemory;
 use kt_sched::{Ended, StartAnswer};
 use std::alloc::Global;
 use std::marker::Model;
@@ -154,8 +155,8 @@ impl Row {
         ensures board { self.new ≡ board_after_start self.old child case result }
         ensures running { (k : ℕ) (r : Role) → shown_at self.new.cases k r ≡ shown_after (shown_at self.old.cases) case result k r }
     {
-        if make_room(&mut self.children, &mut self.cases, &mut self.pending).is_err() {
-            return StartAnswer::Refused(Refused::Memory);
+        if let Err(refusal) = make_room(&mut self.children, &mut self.cases, &mut self.pending) {
+            return StartAnswer::Refused(memory_refusal(refusal));
         }
         match start_body(os, &case.paths.dir, plan) {
             Err(cause) => StartAnswer::Refused(cause),
@@ -182,9 +183,9 @@ impl Row {
         ensures board { self.new ≡ board_after_start self.old child case result }
         ensures running { (k : ℕ) (r : Role) → shown_at self.new.cases k r ≡ shown_after (shown_at self.old.cases) case result k r }
     {
-        if make_room(&mut self.children, &mut self.cases, &mut self.pending).is_err() {
+        if let Err(refusal) = make_room(&mut self.children, &mut self.cases, &mut self.pending) {
             let _ = os.remove_tree(&case.paths.dir);
-            return StartAnswer::Refused(Refused::Memory);
+            return StartAnswer::Refused(memory_refusal(refusal));
         }
         match start_cleanup(os, &case.paths.dir, plan) {
             Err(cause) => StartAnswer::Refused(cause),

@@ -8,7 +8,7 @@ use kt_base::{NoMemory, Text};
 use std::alloc::Global;
 
 /// The directory of an attempt.
-fn attempt_path(alloc: Global, root: &Text, number: u64) -> Result<Text, NoMemory>
+pub(super) fn attempt_path(alloc: Global, root: &Text, number: u64) -> Result<Text, NoMemory>
     ensures { IfOk result (λ path. path ≡ attempt_dir root.now number) }
 {
     let digits = number_text(alloc, number)?;

@@ -78,7 +78,7 @@ pub record RanNot {S : Type 0} (T : Trace) (gained : List Entry) (before after :
 abbrev pub EndsAs : {S : Type 0} → (S → Entry → Result (Unit {0}) SinkFault → S → Type 0) → List Job → ℕ → Trace → List Entry → S → S → Result Totals RunFault → Type 0
 EndsAs puts plan n T gained before after (Ok totals) = RanWell puts plan n T gained before after totals
 EndsAs puts plan n T gained before after (Err (SinkFailed fault)) = RanShort puts plan n T gained before after fault
-EndsAs puts plan n T gained before after (Err NoMemory) = RanNot T gained before after
+EndsAs puts plan n T gained before after (Err (NoMemory refusal)) = RanNot T gained before after
 
 -- at every exit: the launcher's answers as a trace, and the entries that the sink gained, those of the first cases in record order
 pub record Ran {L S : Type 0} (starts : L → Job → Role → StartAnswer → L → Type 0) (waits : L → Ended → L → Type 0) (puts : S → Entry → Result (Unit {0}) SinkFault → S → Type 0) (entries : S → List Entry → Type 0) (plan : List Job) (n : ℕ) (old new : L) (before after : S) (result : Result Totals RunFault) : Type 0 where

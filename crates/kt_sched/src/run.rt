@@ -36,7 +36,7 @@ pub fn run_cases<L: Launcher, S: Sink>(
 {
     let mut sched = match Sched::new(alloc, plan, width) {
         Ok(sched) => sched,
-        Err(_) => return Err(RunFault::NoMemory),
+        Err(refusal) => return Err(RunFault::NoMemory(refusal)),
     };
     let mut totals = Totals::new();
     let mut fault: Option<SinkFault> = None;

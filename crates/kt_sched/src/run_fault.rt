@@ -1,10 +1,14 @@
 use crate::sink_fault::SinkFault;
+use kt_base::NoMemory;
+use thiserror::Error;
 
 /// Why a run did not record all of its cases.
-#[derive(Clone, Copy, Debug, PartialEq, Eq)]
+#[derive(Clone, Copy, Debug, PartialEq, Eq, Error)]
 pub enum RunFault {
-    /// Memory was refused before the first launcher call.
-    NoMemory,
+    /// Memory ran out before the first launcher call.
+    #[error("out of memory")]
+    NoMemory(NoMemory),
     /// A put failed. Every child that ran was waited for, and each declared cleanup asked for.
+    #[error(transparent)]
     SinkFailed(SinkFault),
 }

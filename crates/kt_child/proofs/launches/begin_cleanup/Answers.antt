@@ -1,5 +1,6 @@
 use Rattle.std.proofs.Common.{◌∙◌, List, [], ◌∷◌, refl, subst, ap, inl, is_ok}
 use Rattle.kt_base.specs.declared.role.Role.TheVariants.{Cleanup}
+use Rattle.kt_sched.specs.declared.start_answer.StartAnswer.TheVariants.{Refused as RefusedFor}
 use Rattle.kt_child.specs.declared.watched.Watched.{Watched}
 use Rattle.kt_child.specs.declared.spawning.Spawning.{Spawning}
 use Rattle.kt_child.specs.Calls.{Call, Chain, RemoveTree}
@@ -17,7 +18,7 @@ returns-in-Err-clause-starts g c =
       t.1,
       c.take_owed-owed.ensures.position,
       refl,
-      (RemoveTree owed.paths.dir (is_ok c.remove_tree.result) ∷ [], (_, c.remove_tree.ensures, refl), inl (_, refl, refl)),
+      (RemoveTree owed.paths.dir (is_ok c.remove_tree.result) ∷ [], (_, c.remove_tree.ensures, refl), inl (_, refl, ap RefusedFor c.memory_refusal.ensures)),
       t.2,
     )
 

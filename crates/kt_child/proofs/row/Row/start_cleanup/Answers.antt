@@ -1,4 +1,5 @@
 use Rattle.std.proofs.Common.{rules, ◌==◌, ◌&&◌, Option, Some, if◌then◌else◌, ◌≡◌, ◌∙◌, ◌+◌, ◌++◌, ◌∷◌, [], ap, sym, subst, arith, is_ok, refl, inl}
+use Rattle.kt_sched.specs.declared.start_answer.StartAnswer.TheVariants.{Refused as RefusedFor}
 use Rattle.kt_child.specs.Calls.{RemoveTree}
 use Rattle.kt_child.specs.Board.{Board, count_at, shown, shown_at}
 use Rattle.kt_sched.specs.Children.{Child as Shown, same_role}
@@ -29,6 +30,6 @@ returns-in-Ok-clause-running g c k r =
     let e = c.push_reserved-in-Ok.ensures.items ∙ ap (λ t. t ++ o) c.make_room.ensures.cases in
     ap (λ t. shown_at t k r) e ∙ shown_append c.self.inside.cases.items c.args.case k r (omega (arith, free)) ∙ ap Q c.self.view_is
 
-pub returns-then-is_err-clause-begun : goal.returns-then-is_err-clause-begun
-returns-then-is_err-clause-begun g c =
-    (RemoveTree c.args.case.paths.dir (is_ok c.remove_tree.result) ∷ [], (_, c.remove_tree.ensures, refl), inl (_, refl, refl))
+pub returns-in-Err-clause-begun : goal.returns-in-Err-clause-begun
+returns-in-Err-clause-begun g c =
+    (RemoveTree c.args.case.paths.dir (is_ok c.remove_tree.result) ∷ [], (_, c.remove_tree.ensures, refl), inl (_, refl, ap RefusedFor c.memory_refusal.ensures))
