@@ -1,20 +1,22 @@
 ghost use Rattle.std.specs.Prelude.{◌≡◌};
-ghost use Rattle.kt_report.specs.declared.report_fault.ReportFault.TheVariants.{NoMemory as OutOfMemory};
+ghost use Rattle.kt_report.specs.declared.report_fault.ReportFault.TheVariants as fault;
 
 use kt_base::NoMemory;
+use thiserror::Error;
 
 /// Why a report ends early. A prefix of its text was written.
-#[derive(Clone, Copy, Debug, PartialEq, Eq)]
+#[derive(Clone, Copy, Debug, PartialEq, Eq, Error)]
 pub enum ReportFault {
-    NoMemory,
-    /// A write failed.
+    #[error("out of memory")]
+    NoMemory(NoMemory),
+    #[error("output could not be written")]
     Output,
 }
 
 impl From<NoMemory> for ReportFault {
-    ghost from_gives = { λ _ e. e ≡ OutOfMemory };
+    ghost from_gives = { λ refusal e. e ≡ fault.NoMemory refusal };
 
-    fn from(_error: NoMemory) -> ReportFault {
-        ReportFault::NoMemory
+    fn from(refusal: NoMemory) -> ReportFault {
+        ReportFault::NoMemory(refusal)
     }
 }

@@ -1,5 +1,5 @@
 -- What a query leaves of a connection that stands for runs, whatever its text.
-use Rattle.std.proofs.Common.{◌≡◌, ℕ, List, IsTrue, sym, ap, subst, ◌∙◌}
+use Rattle.std.proofs.Common.{ℕ, List, IsTrue, sym, ap, subst}
 use Rattle.sqlite.specs.Order.{Row}
 use Rattle.sqlite.specs.Tree.{Trees}
 use Rattle.sqlite.specs.Store.{Ghosts}
@@ -41,11 +41,11 @@ module _ {S : Type 0} (g : Ghosts S) (old new : Held S) (runs : List Run) (has :
   pub asked_survives : Survives (state g old) (state g new) (MayShow g sql params old) → Survives (state g old) (state g new) (λ _. ⊥)
   asked_survives h = survives_weaker (state g old) (state g new) (MayShow g sql params old) (λ _. ⊥) never_shown h
 
--- the same where only the schema is known
-module _ {S : Type 0} (g : Ghosts S) (old new : Held S) (schema : HasCleanDisk (state g old) → IsTrue (state g old).is_open → (state g old).now.schema ≡ schema_1) (survives : HasCleanDisk (state g new) → HasCleanDisk (state g old))
-    (sql : List ℕ) (plain : IsPlain (understood schema_1 sql)) (params : Row) where
+-- the same where only the statement is known
+module _ {S : Type 0} (g : Ghosts S) (old new : Held S) (survives : HasCleanDisk (state g new) → HasCleanDisk (state g old))
+    (sql : List ℕ) (plain : HasCleanDisk (state g old) → IsTrue (state g old).is_open → IsPlain (understood (state g old).now.schema sql)) (params : Row) where
   mid_plain : HasCleanDisk (state g new) → (mid : Held S) → IsUnchanged (state g old) (state g mid) → IsPlain (understood (state g mid).now.schema sql)
-  mid_plain clean mid same = subst (λ s. IsPlain (understood s sql)) (sym (ap (λ (db : Database). db.schema) same.0.now_is ∙ schema (survives clean) same.0.was_open)) plain
+  mid_plain clean mid same = subst (λ s. IsPlain (understood s sql)) (sym (ap (λ (db : Database). db.schema) same.0.now_is)) (plain (survives clean) same.0.was_open)
 
   pub asked_unchanged : (rows : List Row) → HasCleanDisk (state g new) → Asked g sql params old new rows → IsUnchanged (state g old) (state g new)
   asked_unchanged rows clean it =

@@ -1,5 +1,5 @@
 -- How many entries a run has, as its query tells.
-use Rattle.std.proofs.Common.{◌≡◌, ◌==◌, ◌&&◌, ℕ, ◌<◌, min, pos, List, [], ◌∷◌, length, map, drop, filter, Bool, true, false, Some, refl, sym, ap, subst, ◌∙◌, arith, IsPermutation}
+use Rattle.std.proofs.Common.{◌≡◌, ◌==◌, ◌&&◌, ℕ, min, pos, List, [], ◌∷◌, length, map, drop, filter, Bool, true, false, Some, refl, sym, ap, subst, ◌∙◌, IsPermutation}
 use Rattle.std.proofs.lemmas.List.Sorted.{length_permutation}
 use Rattle.std.proofs.lemmas.List.{length-map}
 use Rattle.std.specs.List.{list_all, flat_map, AllZip}

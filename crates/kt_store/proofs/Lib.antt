@@ -1,4 +1,6 @@
 pub mod SqlFacts
+pub mod FaultLemmas
+pub mod MetaFacts
 pub mod BeginLemmas
 pub mod InsertLemmas
 pub mod StepLemmas
@@ -21,3 +23,5 @@ pub mod EntriesLemmas
 pub mod MetaLemmas
 pub mod EmptyLemmas
 pub mod ViewLemmas
+pub mod Numbered
+pub mod Crashing

@@ -1,5 +1,5 @@
 -- The number of the schema, as its query tells.
-use Rattle.std.proofs.Common.{◌≡◌, ◌≢◌, ℤ, pos, List, [], ◌∷◌, map, filter, drop, codes, Bool, true, Some, None, slice_get, refl, sym, ap, subst, ◌∙◌, IsPermutation}
+use Rattle.std.proofs.Common.{◌≡◌, ◌≢◌, ℤ, pos, List, IsTrue, [], ◌∷◌, map, filter, drop, codes, Bool, true, Some, None, slice_get, refl, sym, ap, subst, ◌∙◌, IsPermutation}
 use Rattle.std.specs.List.{list_all}
 use Rattle.sqlite.specs.declared.types.Value.TheVariants.{Int, Text}
 use Rattle.sqlite.specs.declared.types.Value.{Value}
@@ -14,11 +14,14 @@ use Rattle.sqlite.specs.Held.{Held, state}
 use Rattle.sqlite.specs.State.{State, Shown, HasCleanDisk, IsUnchanged}
 use Rattle.sqlite.proofs.Callers.{reads_as, one_permutation}
 use Rattle.kt_base.specs.declared.run.Run.{Run}
-use Rattle.kt_store.specs.Tables.{meta_text, schema_1}
-use Rattle.kt_store.specs.Stands.{StandsFor, SaysSchema, IsEmpty}
+use Rattle.kt_store.specs.Tables.{meta_text, meta_1, runs_1, entries_1, index_of, beside_meta}
+use Rattle.kt_store.specs.Stands.{StandsFor, SaysSchema, SaysNumber, IsEmpty}
 use Rattle.kt_store.specs.Ask.{Asked}
 use Rattle.kt_store.proofs.StepLemmas.{same_store}
-use Rattle.kt_store.proofs.SqlFacts.{meta_select_is, is}
+use Rattle.kt_store.proofs.SqlFacts.{is}
+use Rattle.kt_store.proofs.MetaFacts.{meta_any}
+use Rattle.sqlite.specs.Listing.{understood}
+use Rattle.sqlite.specs.Given.{IsPlain}
 use Rattle.kt_store.proofs.QueryLemmas.{answered}
 
 abbrev tests : List Term
@@ -42,21 +45,42 @@ one_shown n ((x ∷ r) ∷ []) h =
     subst (λ l. map shows (filter passes ((x ∷ l) ∷ [])) ≡ (Int n ∷ []) ∷ []) (sym same) (rw (passes_it n x) refl)
 one_shown n ((x ∷ r) ∷ s ∷ rows) h = absurd cc
 
-pub tells_meta : (old new : State) (n : ℤ) (rows : List Row) → old.now.schema ≡ schema_1 → map (drop 1) (old.now.trees 0) ≡ (Text (codes "schema") ∷ Int n ∷ []) ∷ [] → Shown meta_text [] old new rows → rows ≡ (Int n ∷ []) ∷ []
-tells_meta old new n rows schema marked h =
-    let reads = reads_as meta_text [] old new schema_1 schema _ meta_select_is.0 meta_select_is.2 meta_select_is.1 rows h in
+pub tells_meta : (old new : State) (n : ℤ) (rows : List Row) → SaysNumber n old → Shown meta_text [] old new rows → rows ≡ (Int n ∷ []) ∷ []
+tells_meta old new n rows it h =
+    let means = meta_any it.others it.indexes it.views in
+    let reads = reads_as meta_text [] old new (beside_meta it.others it.indexes it.views) it.schema _ means.0 means.2 means.1 rows h in
     let all = answered 0 tests (col 1 2 ∷ []) [] old.now.trees [] rows reads.answer in
-    one_permutation (Int n ∷ []) rows (subst (λ l. IsPermutation l rows) (one_shown n (old.now.trees 0) marked) all)
+    one_permutation (Int n ∷ []) rows (subst (λ l. IsPermutation l rows) (one_shown n (old.now.trees 0) it.marked) all)
+
+says_then : (old mid : State) (n : ℤ) → mid.now ≡ old.now → SaysNumber n old → SaysNumber n mid
+says_then old mid n same has = record {
+  others = has.others;
+  indexes = has.indexes;
+  views = has.views;
+  schema = ap (λ (db : Database). db.schema) same ∙ has.schema;
+  marked = ap (λ (db : Database). map (drop 1) (db.trees 0)) same ∙ has.marked;
+}
+
+pub says_plain : (n : ℤ) (s : State) → SaysSchema n s → HasCleanDisk s → IsTrue s.is_open → IsPlain (understood s.now.schema meta_text)
+says_plain n s says clean opened =
+    let it = says clean opened in
+    subst (λ schema. IsPlain (understood schema meta_text)) (sym it.schema) (meta_any it.others it.indexes it.views).2
 
 module _ {S : Type 0} (g : Ghosts S) (old new : Held S) (earlier : HasCleanDisk (state g new) → HasCleanDisk (state g old)) where
   pub asked_meta : (n : ℤ) (rows : List Row) → SaysSchema n (state g old) → HasCleanDisk (state g new) → Asked g meta_text [] old new rows → rows ≡ (Int n ∷ []) ∷ []
   asked_meta n rows says clean it =
       let same = it.same.0.now_is in
       let has = says (earlier clean) it.same.0.was_open in
-      tells_meta (state g it.mid) (state g new) n rows (ap (λ (db : Database). db.schema) same ∙ has.0) (ap (λ (db : Database). map (drop 1) (db.trees 0)) same ∙ has.1) it.shown
+      tells_meta (state g it.mid) (state g new) n rows (says_then (state g old) (state g it.mid) n same has) it.shown
 
 pub says_one : (s : State) (runs : List Run) → StandsFor s runs → SaysSchema (pos 1) s
-says_one s runs has clean opened = ((has clean opened).tables.schema, (has clean opened).tables.marked)
+says_one s runs has clean opened = record {
+  others = runs_1 ∷ entries_1 ∷ [];
+  indexes = index_of meta_1 1 ∷ index_of entries_1 4 ∷ [];
+  views = [];
+  schema = (has clean opened).tables.schema;
+  marked = (has clean opened).tables.marked;
+}
 
 -- what was read is the number
 pub read_it : (n m : ℤ) (rows : List Row) (first : Row) → rows ≡ (Int n ∷ []) ∷ [] → slice_get rows 0 ≡ Some first → column first 0 ≡ Int m → m ≡ n
@@ -75,7 +99,7 @@ module _ (old mid : State) (earlier : HasCleanDisk mid → HasCleanDisk old) (sa
   still_says n says clean opened =
       let it = same clean in
       let has = says (earlier clean) it.0.was_open in
-      (ap (λ (db : Database). db.schema) it.0.now_is ∙ has.0, ap (λ (db : Database). map (drop 1) (db.trees 0)) it.0.now_is ∙ has.1)
+      says_then old mid n it.0.now_is has
 
   pub still_empty : IsEmpty old → IsEmpty mid
   still_empty empty clean opened =
@@ -94,7 +118,7 @@ module _ (old mid : State) (earlier : HasCleanDisk mid → HasCleanDisk old) (sa
   says_filled n says clean none =
       let it = same clean in
       let has = says (earlier clean) it.0.was_open in
-      let e : schema_1.tables ≡ [] = sym (ap (λ (db : Database). db.schema.tables) it.0.now_is ∙ ap (λ (s : Schema). s.tables) has.0) ∙ none in
+      let e : meta_1 ∷ has.others ≡ [] = sym (ap (λ (db : Database). db.schema.tables) it.0.now_is ∙ ap (λ (s : Schema). s.tables) has.schema) ∙ none in
       cc
 
   pub empty_blank : IsEmpty old → HasCleanDisk mid → mid.now.schema.tables ≡ []

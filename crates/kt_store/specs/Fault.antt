@@ -1,11 +1,11 @@
--- The refusal that an error of a statement is told as.
+-- The refusal that an error of SQLite is told as.
+use Rattle.std.specs.Prelude.{◌≡◌, ◌≢◌, ◌⊎◌}
 use Rattle.sqlite.specs.declared.error.ErrorCode.TheVariants as code
 use Rattle.sqlite.specs.declared.error.Error.{Error}
 use Rattle.sqlite.specs.declared.error.Error.TheVariants.{SqliteFailure}
 use Rattle.kt_store.specs.declared.store_fault.StoreFault.{StoreFault}
-use Rattle.kt_store.specs.declared.store_fault.StoreFault.TheVariants.{NoMemory, Store}
+use Rattle.kt_store.specs.Ask.{IsNoMemory, IsFailure}
 
--- what a failed statement is told as: want of memory, or that the store failed
-abbrev pub fault_of : Error → StoreFault
-fault_of (SqliteFailure code.OutOfMemory) = NoMemory
-fault_of _ = Store
+-- an error is told as a lack of memory if that is what SQLite says, and else as a failed statement
+abbrev pub Tells : Error → StoreFault → Type 0
+Tells error fault = (IsNoMemory fault × (error ≡ SqliteFailure code.OutOfMemory)) ⊎ (IsFailure fault × (error ≢ SqliteFailure code.OutOfMemory))

@@ -14,7 +14,7 @@ use Rattle.kt_store.specs.declared.store_fault.StoreFault.{StoreFault}
 use Rattle.kt_store.specs.declared.store_fault.StoreFault.TheVariants.{NoRun, RunClosed, BadPosition, RepeatedPosition, Incomplete}
 use Rattle.kt_store.specs.Tables.{schema_1}
 use Rattle.kt_base.specs.Utf8.{utf8}
-use Rattle.std.specs.Str.{chars}
+use Rattle.std.specs.Str.{chars, IsUtf8}
 
 -- the number by which a kind is stored
 abbrev pub kind_code : Kind → ℕ
@@ -49,7 +49,7 @@ AreNumbered n (r ∷ runs) = (r.number ≡ n) × AreNumbered (suc n) runs
 
 -- characters that UTF-8 has, so that its bytes spell the text again
 abbrev pub IsText : List ℕ → Type 0
-IsText text = chars (utf8 text) ≡ text
+IsText text = (chars (utf8 text) ≡ text) × IsUtf8 (utf8 text)
 
 -- its texts are texts, and a passed case has the empty reason
 pub record IsEntry (e : Entry) : Type 0 where

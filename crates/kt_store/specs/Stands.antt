@@ -4,7 +4,10 @@ use Rattle.sqlite.specs.declared.types.Value.TheVariants.{Int, Text}
 use Rattle.sqlite.specs.Tree.{Trees}
 use Rattle.sqlite.specs.State.{State, HasCleanDisk}
 use Rattle.kt_base.specs.declared.run.Run.{Run}
-use Rattle.kt_store.specs.Tables.{no_schema, schema_1}
+use Rattle.sqlite.specs.Table.{Table}
+use Rattle.sqlite_schema.specs.declared.schema.Index.{Index}
+use Rattle.sqlite_schema.specs.declared.schema.View.{View}
+use Rattle.kt_store.specs.Tables.{no_schema, beside_meta}
 use Rattle.kt_store.specs.Runs.{Tables}
 
 -- no transaction is open, the last commit is what is seen, and the tables hold these runs
@@ -31,6 +34,14 @@ pub record IsBlank (s : State) : Type 0 where
 abbrev pub IsEmpty : State → Type 0
 IsEmpty s = HasCleanDisk s → IsTrue s.is_open → IsBlank s
 
--- the tables are those of schema 1, but they say another number
+-- the first table is that of the schema's number, whatever stands beside it, and it says this number
+pub record SaysNumber (n : ℤ) (s : State) : Type 0 where
+  pub others : List Table
+  pub indexes : List Index
+  pub views : List View
+  pub schema : s.now.schema ≡ beside_meta others indexes views
+  pub marked : map (drop 1) (s.now.trees 0) ≡ (Text (codes "schema") ∷ Int n ∷ []) ∷ []
+
+-- the same while the disk returns what was written and the connection is open
 abbrev pub SaysSchema : ℤ → State → Type 0
-SaysSchema n s = HasCleanDisk s → IsTrue s.is_open → (s.now.schema ≡ schema_1) × (map (drop 1) (s.now.trees 0) ≡ (Text (codes "schema") ∷ Int n ∷ []) ∷ [])
+SaysSchema n s = HasCleanDisk s → IsTrue s.is_open → SaysNumber n s

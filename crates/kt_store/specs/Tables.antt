@@ -10,6 +10,7 @@ use Rattle.sqlite_schema.specs.declared.schema.Column.{Column}
 use Rattle.sqlite_schema.specs.declared.schema.Stamps.{Stamps}
 use Rattle.sqlite_schema.specs.declared.schema.Action.TheVariants.{NoAction}
 use Rattle.sqlite_schema.specs.declared.schema.Index.{Index}
+use Rattle.sqlite_schema.specs.declared.schema.View.{View}
 use Rattle.sqlite_catalog.specs.Listing.{automatic}
 use Rattle.sqlite_value.specs.Keys.{plain}
 use Rattle.sqlite.specs.Term.{Term, lit, col, op2}
@@ -120,6 +121,10 @@ entries_1 = record entries { tree = 3 }
 -- the three tables
 abbrev pub schema_1 : Schema
 schema_1 = record { tables = meta_1 ∷ runs_1 ∷ entries_1 ∷ []; indexes = index_of meta_1 1 ∷ index_of entries_1 4 ∷ []; views = [] }
+
+-- a schema whose first table is that of the schema's number, whatever stands beside it
+abbrev pub beside_meta : List Table → List Index → List View → Schema
+beside_meta others indexes views = record { tables = meta_1 ∷ others; indexes = indexes; views = views }
 
 -- whether there are as many runs as there may be
 abbrev pub full_text : List ℕ

@@ -10,7 +10,7 @@ ghost use Rattle.kt_store.specs.Stands.{IsEmpty, StandsFor, SaysSchema, Leaves};
 ghost use Rattle.kt_store.specs.Tables.{no_schema};
 
 use crate::statements::ask;
-use crate::store_fault::{StoreFault, fault};
+use crate::store_fault::StoreFault;
 use sqlite::{Alter, Connection, Row, Transaction};
 
 /// One statement of a transaction.
@@ -22,10 +22,8 @@ pub(crate) fn step<S: Alter>(tx: &mut Transaction<'_, S>, sql: &str) -> Result<(
     ensures failed { IfErr result IsStoreFault }
     ensures survives { Survives (state S.Store tx.old.conn.now) (state S.Store tx.new.conn.now) (λ _. ⊥) }
 {
-    match tx.execute(sql, &[]) {
-        Ok(_) => Ok(()),
-        Err(error) => Err(fault(error)),
-    }
+    let count = tx.execute(sql, &[])?;
+    Ok(())
 }
 
 /// Makes the tables, inside a transaction.
@@ -64,10 +62,8 @@ pub(crate) fn create<S: Alter>(conn: &mut Connection<S>) -> Result<(), StoreFaul
 {
     let mut tx = conn.transaction();
     make(&mut tx)?;
-    match tx.commit() {
-        Ok(()) => Ok(()),
-        Err(error) => Err(fault(error)),
-    }
+    tx.commit()?;
+    Ok(())
 }
 
 /// Asks whether the connection is open.
@@ -78,9 +74,7 @@ pub(crate) fn probe<S: Alter>(conn: &mut Connection<S>) -> Result<(), StoreFault
     ensures failed { IfErr result IsStoreFault }
     ensures survives { Survives (state S.Store conn.old) (state S.Store conn.new) (λ _. ⊥) }
 {
-    if let Err(error) = conn.prepare("SELECT 1") {
-        return Err(fault(error));
-    }
+    let statement = conn.prepare("SELECT 1")?;
     Ok(())
 }
 
@@ -105,10 +99,8 @@ pub(crate) fn signed_in(row: &Row, at: usize) -> Result<i64, StoreFault>
     ensures number { IfOk result (λ n. column row.now at ≡ Int n) }
     ensures failed { IfErr result IsStoreFault }
 {
-    match row.get::<i64>(at) {
-        Ok(number) => Ok(number),
-        Err(error) => Err(fault(error)),
-    }
+    let number = row.get::<i64>(at)?;
+    Ok(number)
 }
 
 /// Asks whether the tables are those of schema 1.

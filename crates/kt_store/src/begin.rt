@@ -1,9 +1,11 @@
-ghost use Rattle.std.specs.Prelude.{◌≡◌, ◌<◌, ◌≤◌, ◌++◌, suc, [], ◌∷◌, length, true, false, IfOk, OnOk, OnErr, IfErr};
+ghost use Rattle.std.specs.Prelude.{◌≡◌, ◌<◌, ◌≤◌, ◌++◌, suc, [], ◌∷◌, length, true, false, IfOk, OnOk, OnErr, IfErr, pos};
 ghost use Rattle.sqlite.specs.State.{HasCleanDisk, Survives};
 ghost use Rattle.sqlite.specs.Held.{state};
-ghost use Rattle.kt_store.specs.Ask.{IsStoreFault};
+ghost use Rattle.kt_store.specs.Ask.{IsStoreFault, IsCaused};
 ghost use Rattle.kt_store.specs.Runs.{new_run, Keeps};
 ghost use Rattle.kt_store.specs.Stands.{StandsFor, Leaves};
+ghost use Rattle.kt_store.specs.Tables.{full_text, begin_text};
+ghost use Rattle.sqlite_value.specs.declared.value.Value.TheVariants.{Int};
 
 use crate::statements::{ask, has_rows, tell};
 use crate::store_fault::StoreFault;
@@ -16,6 +18,7 @@ pub(crate) fn is_full<S: Alter>(conn: &mut Connection<S>) -> Result<bool, StoreF
         → IfOk result (λ full. (full ≡ true → 1000000 ≤ length runs) × (full ≡ false → length runs < 1000000)) }
     ensures stands { (runs : _) → StandsFor (state S.Store conn.old) runs → StandsFor (state S.Store conn.new) runs }
     ensures failed { IfErr result IsStoreFault }
+    ensures cause { (runs : _) → StandsFor (state S.Store conn.old) runs → HasCleanDisk (state S.Store conn.new) → IfErr result (IsCaused S.Store ((full_text, []) ∷ []) conn.new) }
     ensures crash { (runs : _) → StandsFor (state S.Store conn.old) runs → Survives (state S.Store conn.old) (state S.Store conn.new) (λ _. ⊥) }
 {
     let rows = ask(conn, "SELECT id FROM runs WHERE id = 1000000", &[])?;
@@ -35,6 +38,7 @@ pub(crate) fn add_run<S: Alter>(
         → OnOk result (StandsFor (state S.Store conn.new) (runs ++ new_run runs total moment ∷ [])) }
     ensures kept { (runs : _) → StandsFor (state S.Store conn.old) runs → OnErr result (StandsFor (state S.Store conn.new) runs) }
     ensures failed { IfErr result IsStoreFault }
+    ensures cause { (runs : _) → StandsFor (state S.Store conn.old) runs → HasCleanDisk (state S.Store conn.new) → IfErr result (IsCaused S.Store ((begin_text, Int (pos moment) ∷ Int (pos total) ∷ []) ∷ []) conn.new) }
     ensures crash { (runs : _) → StandsFor (state S.Store conn.old) runs → (HasCleanDisk (state S.Store conn.old) → length runs < 1000000)
         → Survives (state S.Store conn.old) (state S.Store conn.new) (Keeps (runs ++ new_run runs total moment ∷ [])) }
     ensures durable { (runs : _) → StandsFor (state S.Store conn.old) runs → (HasCleanDisk (state S.Store conn.old) → length runs < 1000000)

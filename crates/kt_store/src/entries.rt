@@ -1,4 +1,4 @@
-ghost use Rattle.std.specs.Prelude.{◌≡◌, ◌<◌, ◌^◌, ℕ, map, List, [], IfOk, IfErr};
+ghost use Rattle.std.specs.Prelude.{◌≡◌, ◌<◌, ◌^◌, ℕ, pos, length, map, List, [], ◌∷◌, Ok, IfOk, IfErr};
 ghost use Rattle.kt_base.specs.declared.entry.Entry.{Entry as Stored};
 ghost use Rattle.kt_base.specs.declared.kind.Kind.{Kind as Sort};
 ghost use Rattle.kt_base.specs.declared.kind.Kind.TheVariants.{Passed};
@@ -6,45 +6,45 @@ ghost use Rattle.kt_base.specs.Utf8.{utf8};
 ghost use Rattle.std.specs.List.{AllByRecursion};
 ghost use Rattle.kt_base.specs.declared.output.Output.{Output as Pair};
 ghost use Rattle.sqlite_value.specs.Order.{column};
-ghost use Rattle.sqlite_value.specs.declared.value.Value.TheVariants.{Text as Words, Blob};
+ghost use Rattle.sqlite_value.specs.declared.value.Value.TheVariants.{Int, Text as Words, Blob};
 ghost use Rattle.sqlite.specs.State.{HasCleanDisk, Survives};
 ghost use Rattle.sqlite.specs.Held.{state};
-ghost use Rattle.kt_store.specs.Ask.{IsStoreFault};
+ghost use Rattle.kt_store.specs.Ask.{IsNoMemory, IsStoreFault, IsCaused};
 ghost use Rattle.kt_store.specs.Runs.{IsEntry, IsText, kind_code, run_at, entries_of};
 ghost use Rattle.kt_store.specs.Heads.{entry_columns};
 ghost use Rattle.kt_store.specs.Stands.{StandsFor};
+ghost use Rattle.kt_store.specs.Tables.{entries_text};
 
+use crate::growth::add;
 use crate::read::{number_in, small_in};
 use crate::statements::ask;
-use crate::store_fault::{StoreFault, fault};
+use crate::store_fault::StoreFault;
 use crate::value::int;
 use kt_base::{Bytes, Entry, Kind, Output, Reason, Text, Verdict};
-use sqlite::{Alter, Connection, Row};
+use sqlite::{Alter, Connection, Error, Row};
 use std::alloc::Global;
 
 pub(crate) fn text_in(row: &Row, at: usize) -> Result<Text, StoreFault>
     ensures text { (t : List ℕ) → IsText t → column row.now at ≡ Words (utf8 t) → IfOk result (λ x. x ≡ t) }
+    ensures read { (t : List ℕ) → IsText t → at < length row.now → column row.now at ≡ Words (utf8 t) → IfErr result IsNoMemory }
     ensures failed { IfErr result IsStoreFault }
 {
-    match row.get::<String>(at) {
-        Ok(string) => Ok(Text::from_string(string)),
-        Err(error) => Err(fault(error)),
-    }
+    let string = row.get::<String>(at)?;
+    Ok(Text::from_string(string))
 }
 
 pub(crate) fn bytes_in(row: &Row, at: usize) -> Result<Bytes, StoreFault>
     ensures bytes { IfOk result (λ b. column row.now at ≡ Blob b) }
+    ensures read { (b : List ℕ) → at < length row.now → column row.now at ≡ Blob b → IfErr result IsNoMemory }
     ensures failed { IfErr result IsStoreFault }
 {
-    match row.get::<Vec<u8>>(at) {
-        Ok(items) => Ok(Bytes::from_vec(items)),
-        Err(error) => Err(fault(error)),
-    }
+    let items = row.get::<Vec<u8>>(at)?;
+    Ok(Bytes::from_vec(items))
 }
 
 /// The kind that is kept as this number.
 pub(crate) fn kind_of(code: u64) -> Result<Kind, StoreFault>
-    ensures kind { (k : Sort) → code ≡ kind_code k → IfOk result (λ x. x ≡ k) }
+    ensures kind { (k : Sort) → code ≡ kind_code k → result ≡ Ok k }
     ensures failed { IfErr result IsStoreFault }
 {
     match code {
@@ -53,7 +53,7 @@ pub(crate) fn kind_of(code: u64) -> Result<Kind, StoreFault>
         2 => Ok(Kind::ExpectedFailure),
         3 => Ok(Kind::Failed),
         4 => Ok(Kind::Broken),
-        _ => Err(StoreFault::Store),
+        _ => Err(StoreFault::from(Error::IntegralValueOutOfRange(3))),
     }
 }
 
@@ -72,6 +72,7 @@ pub(crate) fn verdict_of(kind: Kind, reason: Text) -> Verdict
 
 pub(crate) fn output_in(row: &Row, out: usize, err: usize) -> Result<Output, StoreFault>
     ensures output { (o : Pair) → column row.now out ≡ Blob o.out → column row.now err ≡ Blob o.err → IfOk result (λ x. x ≡ o) }
+    ensures read { (o : Pair) → out < length row.now → err < length row.now → column row.now out ≡ Blob o.out → column row.now err ≡ Blob o.err → IfErr result IsNoMemory }
     ensures failed { IfErr result IsStoreFault }
 {
     let first = bytes_in(row, out)?;
@@ -85,6 +86,7 @@ pub(crate) fn output_in(row: &Row, out: usize, err: usize) -> Result<Output, Sto
 /// The entry in a row.
 pub(crate) fn entry_in(row: &Row) -> Result<Entry, StoreFault>
     ensures entry { (e : Stored) → IsEntry e → row.now ≡ entry_columns e → IfOk result (λ x. x ≡ e) }
+    ensures read { (e : Stored) → IsEntry e → e.position < 2 ^ 32 → row.now ≡ entry_columns e → IfErr result IsNoMemory }
     ensures failed { IfErr result IsStoreFault }
 {
     let position = small_in(row, 0)?;
@@ -112,14 +114,13 @@ pub(crate) fn entry_in(row: &Row) -> Result<Entry, StoreFault>
 /// The entries in the rows.
 pub(crate) fn entries_in(alloc: Global, rows: &[Row]) -> Result<Vec<Entry>, StoreFault>
     ensures entries { (es : List Stored) → AllByRecursion IsEntry es → rows.now ≡ map entry_columns es → IfOk result (λ found. found.items ≡ es) }
+    ensures read { (es : List Stored) → AllByRecursion IsEntry es → AllByRecursion (λ (e : Stored). e.position < 2 ^ 32) es → rows.now ≡ map entry_columns es → IfErr result IsNoMemory }
     ensures failed { IfErr result IsStoreFault }
 {
     let mut entries = Vec::new(alloc);
     for row in rows {
         let entry = entry_in(row)?;
-        if entries.push(entry).is_err() {
-            return Err(StoreFault::NoMemory);
-        }
+        add(&mut entries, entry)?;
     }
     Ok(entries)
 }
@@ -133,6 +134,7 @@ pub(crate) fn all_entries<S: Alter>(
     requires { run < 2 ^ 63 }
     ensures all { (runs : _) → StandsFor (state S.Store conn.old) runs → HasCleanDisk (state S.Store conn.new) → IfOk result (λ found. found.items ≡ entries_of (run_at runs run)) }
     ensures failed { IfErr result IsStoreFault }
+    ensures cause { (runs : _) → StandsFor (state S.Store conn.old) runs → HasCleanDisk (state S.Store conn.new) → IfErr result (IsCaused S.Store ((entries_text, Int (pos run) ∷ []) ∷ []) conn.new) }
     ensures stands { (runs : _) → StandsFor (state S.Store conn.old) runs → StandsFor (state S.Store conn.new) runs }
     ensures crash { (runs : _) → StandsFor (state S.Store conn.old) runs → Survives (state S.Store conn.old) (state S.Store conn.new) (λ _. ⊥) }
 {

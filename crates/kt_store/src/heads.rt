@@ -1,11 +1,14 @@
-ghost use Rattle.std.specs.Prelude.{◌≡◌, map, List, IfOk, IfErr};
+ghost use Rattle.std.specs.Prelude.{◌≡◌, ◌<◌, ◌^◌, map, List, IfOk, IfErr};
+ghost use Rattle.std.specs.List.{AllByRecursion};
 ghost use Rattle.kt_base.specs.declared.run.Run.{Run as Stored};
 ghost use Rattle.sqlite.specs.State.{HasCleanDisk, Survives};
 ghost use Rattle.sqlite.specs.Held.{state};
-ghost use Rattle.kt_store.specs.Ask.{IsStoreFault};
+ghost use Rattle.kt_store.specs.Ask.{IsNoMemory, IsStoreFault, IsCaused};
 ghost use Rattle.kt_store.specs.Heads.{head_columns, head_of};
 ghost use Rattle.kt_store.specs.Stands.{StandsFor};
+ghost use Rattle.kt_store.specs.Calls.{runs_statements};
 
+use crate::growth::add;
 use crate::read::{number_in, small_in};
 use crate::run_head::RunHead;
 use crate::statements::ask;
@@ -16,6 +19,7 @@ use std::alloc::Global;
 /// The head in a row.
 pub(crate) fn head_in(row: &Row) -> Result<RunHead, StoreFault>
     ensures head { (r : Stored) → row.now ≡ head_columns r → IfOk result (λ h. h ≡ head_of r) }
+    ensures read { (r : Stored) → r.total < 2 ^ 32 → row.now ≡ head_columns r → IfErr result IsNoMemory }
     ensures failed { IfErr result IsStoreFault }
 {
     let number = number_in(row, 0)?;
@@ -33,14 +37,13 @@ pub(crate) fn head_in(row: &Row) -> Result<RunHead, StoreFault>
 /// The heads in the rows.
 pub(crate) fn heads_in(alloc: Global, rows: &[Row]) -> Result<Vec<RunHead>, StoreFault>
     ensures heads { (runs : List Stored) → rows.now ≡ map head_columns runs → IfOk result (λ heads. heads.items ≡ map head_of runs) }
+    ensures read { (runs : List Stored) → AllByRecursion (λ (r : Stored). r.total < 2 ^ 32) runs → rows.now ≡ map head_columns runs → IfErr result IsNoMemory }
     ensures failed { IfErr result IsStoreFault }
 {
     let mut heads = Vec::new(alloc);
     for row in rows {
         let head = head_in(row)?;
-        if heads.push(head).is_err() {
-            return Err(StoreFault::NoMemory);
-        }
+        add(&mut heads, head)?;
     }
     Ok(heads)
 }
@@ -51,6 +54,7 @@ pub(crate) fn all_heads<S: Alter>(
     alloc: Global,
 ) -> Result<Vec<RunHead>, StoreFault>
     ensures all { (runs : _) → StandsFor (state S.Store conn.old) runs → HasCleanDisk (state S.Store conn.new) → IfOk result (λ heads. heads.items ≡ map head_of runs) }
+    ensures cause { (runs : _) → StandsFor (state S.Store conn.old) runs → HasCleanDisk (state S.Store conn.new) → IfErr result (IsCaused S.Store runs_statements conn.new) }
     ensures failed { IfErr result IsStoreFault }
     ensures stands { (runs : _) → StandsFor (state S.Store conn.old) runs → StandsFor (state S.Store conn.new) runs }
     ensures crash { (runs : _) → StandsFor (state S.Store conn.old) runs → Survives (state S.Store conn.old) (state S.Store conn.new) (λ _. ⊥) }

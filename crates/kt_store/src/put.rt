@@ -2,9 +2,10 @@ ghost use Rattle.std.specs.Prelude.{◌≡◌, ◌⊎◌, Some, None, IfOk, ◌<
 ghost use Rattle.std.specs.List.{AllByRecursion};
 ghost use Rattle.sqlite.specs.State.{HasCleanDisk, Survives};
 ghost use Rattle.sqlite.specs.Held.{state};
-ghost use Rattle.kt_store.specs.Ask.{IsStoreFault};
+ghost use Rattle.kt_store.specs.Ask.{IsNoMemory, IsStoreFault, IsCaused};
 ghost use Rattle.kt_store.specs.Runs.{IsRun, IsEntry, IsText, with_entry, Keeps, kind_code, put_refusal, run_at, AreRuns, entries_of, has_position};
 ghost use Rattle.kt_store.specs.Stands.{StandsFor, Leaves};
+ghost use Rattle.kt_store.specs.Calls.{put_statements};
 
 use crate::lookup::{look, there};
 use crate::statements::tell;
@@ -38,12 +39,10 @@ fn text_is_spelled(text: &Text)
 pub(crate) fn reason_of(alloc: Global, entry: &Entry) -> Result<Text, StoreFault>
     ensures text { IfOk result (λ t. t ≡ entry.now.verdict.reason) }
     ensures sound { OnOk result (IsEntry entry.now) }
-    ensures failed { IfErr result IsStoreFault }
+    ensures failed { IfErr result IsNoMemory }
 {
     let mut reason = Text::new(alloc);
-    if entry.verdict.write_reason(&mut reason).is_err() {
-        return Err(StoreFault::NoMemory);
-    }
+    entry.verdict.write_reason(&mut reason)?;
     entry.verdict.passed_without_reason();
     text_is_spelled(&entry.program);
     text_is_spelled(&entry.case_name);
@@ -65,6 +64,7 @@ pub(crate) fn add_entry<S: Alter>(
         → OnOk result (StandsFor (state S.Store conn.new) (with_entry run entry.now runs)) }
     ensures kept { (runs : _) → StandsFor (state S.Store conn.old) runs → OnErr result (StandsFor (state S.Store conn.new) runs) }
     ensures failed { IfErr result IsStoreFault }
+    ensures cause { (runs : _) → StandsFor (state S.Store conn.old) runs → HasCleanDisk (state S.Store conn.new) → IfErr result (IsCaused S.Store (put_statements run entry.now) conn.new) }
     ensures crash { (runs : _) → StandsFor (state S.Store conn.old) runs → (HasCleanDisk (state S.Store conn.old) → (k : _) × (run ≡ suc k) × (k < length runs) × AllByRecursion IsRun (with_entry run entry.now runs))
         → Survives (state S.Store conn.old) (state S.Store conn.new) (Keeps (with_entry run entry.now runs)) }
     ensures durable { (runs : _) → StandsFor (state S.Store conn.old) runs → (HasCleanDisk (state S.Store conn.old) → (k : _) × (run ≡ suc k) × (k < length runs) × AllByRecursion IsRun (with_entry run entry.now runs))
@@ -98,6 +98,7 @@ pub(crate) fn check<S: Alter>(
     entry: &Entry,
 ) -> Result<(), StoreFault>
     ensures small { OnOk result (run ≤ 1000000) }
+    ensures cause { (runs : _) → StandsFor (state S.Store conn.old) runs → HasCleanDisk (state S.Store conn.new) → IfErr result (IsCaused S.Store (put_statements run entry.now) conn.new) }
     ensures stands { (runs : _) → StandsFor (state S.Store conn.old) runs → StandsFor (state S.Store conn.new) runs }
     ensures crash { (runs : _) → StandsFor (state S.Store conn.old) runs → Survives (state S.Store conn.old) (state S.Store conn.new) (λ _. ⊥) }
     ensures refused { (runs : _) → StandsFor (state S.Store conn.old) runs → HasCleanDisk (state S.Store conn.new)

@@ -1,8 +1,9 @@
 ghost use Rattle.std.specs.Prelude.{◌≡◌, false, ◌≢◌, ℤ, pos, Some, None, ◌⊎◌, ◌<◌, ◌≤◌, ◌++◌, suc, [], ◌∷◌, length, map, IfOk, OnOk, OnErr, IfErr, IsTrue};
 ghost use Rattle.sqlite.specs.State.{HasCleanDisk, Survives};
 ghost use Rattle.sqlite.specs.Held.{state};
-ghost use Rattle.kt_store.specs.Ask.{IsStoreFault, Rests};
+ghost use Rattle.kt_store.specs.Ask.{IsStoreFault, IsCaused, Rests};
 ghost use Rattle.kt_store.specs.Runs.{new_run, run_at, with_entry, put_refusal, finish, finish_refusal, Keeps};
+ghost use Rattle.kt_store.specs.Calls.{begin_statements, put_statements, finish_statements, runs_statements, entries_statements};
 ghost use Rattle.kt_store.specs.Heads.{head_of};
 ghost use Rattle.kt_store.specs.Stands.{IsEmpty, StandsFor, SaysSchema, Leaves};
 
@@ -98,6 +99,8 @@ impl<S: Alter> Results<S> {
         ensures kept { (runs : _) → StandsFor (state S.Store self.old) runs → OnErr result (StandsFor (state S.Store self.new) runs) }
         ensures refused { (runs : _) → StandsFor (state S.Store self.old) runs → HasCleanDisk (state S.Store self.new)
             → IfErr result (λ e. IsStoreFault e ⊎ ((e ≡ StoreFault.StoreFull) × (1000000 ≤ length runs))) }
+        // `Store` comes only if one of the call's own statements failed.
+        ensures cause { (runs : _) → StandsFor (state S.Store self.old) runs → HasCleanDisk (state S.Store self.new) → IfErr result (IsCaused S.Store (begin_statements total moment) self.new) }
         // A crash leaves what it left before the call, or the runs with the new one; after Ok nothing else.
         ensures crash { (runs : _) → StandsFor (state S.Store self.old) runs
             → Survives (state S.Store self.old) (state S.Store self.new) (Keeps (runs ++ new_run runs total moment ∷ [])) }
@@ -122,6 +125,8 @@ impl<S: Alter> Results<S> {
         ensures kept { (runs : _) → StandsFor (state S.Store self.old) runs → OnErr result (StandsFor (state S.Store self.new) runs) }
         ensures refused { (runs : _) → StandsFor (state S.Store self.old) runs → HasCleanDisk (state S.Store self.new)
             → IfErr result (λ e. IsStoreFault e ⊎ (put_refusal runs run entry.now ≡ Some e)) }
+        // `Store` comes only if one of the call's own statements failed.
+        ensures cause { (runs : _) → StandsFor (state S.Store self.old) runs → HasCleanDisk (state S.Store self.new) → IfErr result (IsCaused S.Store (put_statements run entry.now) self.new) }
         // A crash leaves what it left before the call, or the runs with the entry; after Ok nothing else.
         ensures crash { (runs : _) → StandsFor (state S.Store self.old) runs
             → Survives (state S.Store self.old) (state S.Store self.new) (Keeps (with_entry run entry.now runs)) }
@@ -144,6 +149,8 @@ impl<S: Alter> Results<S> {
         ensures kept { (runs : _) → StandsFor (state S.Store self.old) runs → OnErr result (StandsFor (state S.Store self.new) runs) }
         ensures refused { (runs : _) → StandsFor (state S.Store self.old) runs → HasCleanDisk (state S.Store self.new)
             → IfErr result (λ e. IsStoreFault e ⊎ (finish_refusal runs run ≡ Some e)) }
+        // `Store` comes only if one of the call's own statements failed.
+        ensures cause { (runs : _) → StandsFor (state S.Store self.old) runs → HasCleanDisk (state S.Store self.new) → IfErr result (IsCaused S.Store (finish_statements run) self.new) }
         // A crash leaves what it left before the call, or the runs with this one finished; after Ok nothing else.
         ensures crash { (runs : _) → StandsFor (state S.Store self.old) runs
             → Survives (state S.Store self.old) (state S.Store self.new) (Keeps (finish run runs)) }
@@ -159,6 +166,8 @@ impl<S: Alter> Results<S> {
     pub fn runs(&mut self) -> Result<Vec<RunHead>, StoreFault>
         ensures all { (runs : _) → StandsFor (state S.Store self.old) runs → HasCleanDisk (state S.Store self.new) → IfOk result (λ heads. heads.items ≡ map head_of runs) }
         ensures failed { IfErr result IsStoreFault }
+        // `Store` comes only if one of the call's own statements failed.
+        ensures cause { (runs : _) → StandsFor (state S.Store self.old) runs → HasCleanDisk (state S.Store self.new) → IfErr result (IsCaused S.Store runs_statements self.new) }
         // Nothing changes, and a crash leaves what it left before.
         ensures kept { (runs : _) → StandsFor (state S.Store self.old) runs → StandsFor (state S.Store self.new) runs }
         ensures crash { (runs : _) → StandsFor (state S.Store self.old) runs → Survives (state S.Store self.old) (state S.Store self.new) (λ _. ⊥) }
@@ -174,6 +183,8 @@ impl<S: Alter> Results<S> {
             → IfOk result (λ found. (r : _) × (run_at runs run ≡ Some r) × (found.items ≡ r.entries)) }
         ensures refused { (runs : _) → StandsFor (state S.Store self.old) runs → HasCleanDisk (state S.Store self.new)
             → IfErr result (λ e. IsStoreFault e ⊎ ((e ≡ StoreFault.NoRun) × (run_at runs run ≡ None))) }
+        // `Store` comes only if one of the call's own statements failed.
+        ensures cause { (runs : _) → StandsFor (state S.Store self.old) runs → HasCleanDisk (state S.Store self.new) → IfErr result (IsCaused S.Store (entries_statements run) self.new) }
         // Nothing changes, and a crash leaves what it left before.
         ensures kept { (runs : _) → StandsFor (state S.Store self.old) runs → StandsFor (state S.Store self.new) runs }
         ensures crash { (runs : _) → StandsFor (state S.Store self.old) runs → Survives (state S.Store self.old) (state S.Store self.new) (λ _. ⊥) }

@@ -2,9 +2,9 @@ ghost use Rattle.std.specs.Prelude.{◌≡◌, IfOk, OnOk, OnErr, IfErr, nat_lt,
 ghost use Rattle.sqlite.specs.Values.{bound};
 ghost use Rattle.sqlite.specs.State.{HasCleanDisk, Survives};
 ghost use Rattle.sqlite.specs.Held.{state};
-ghost use Rattle.kt_store.specs.Ask.{Rests, IsStoreFault, Asked, Told, MayShow, MayTell};
+ghost use Rattle.kt_store.specs.Ask.{Rests, Asked, Told, MayFail, MayShow, MayTell, IsStoreFault};
 
-use crate::store_fault::{StoreFault, fault};
+use crate::store_fault::StoreFault;
 use sqlite::{Alter, Connection, Row};
 use sqlite_value::value::ValueRef;
 
@@ -15,18 +15,14 @@ pub(crate) fn ask<S: Alter>(
     params: &[ValueRef<'_>],
 ) -> Result<Vec<Row>, StoreFault>
     ensures rows { HasCleanDisk (state S.Store conn.new) → IfOk result (λ rows. Asked S.Store sql.now (bound params.now) conn.old conn.new rows.items) }
+    ensures cause { HasCleanDisk (state S.Store conn.new) → IfErr result (MayFail S.Store sql.now (bound params.now) conn.old conn.new) }
     ensures rests { HasCleanDisk (state S.Store conn.new) → OnErr result (Rests (state S.Store conn.old) (state S.Store conn.new)) }
     ensures failed { IfErr result IsStoreFault }
     ensures survives { Survives (state S.Store conn.old) (state S.Store conn.new) (MayShow S.Store sql.now (bound params.now) conn.old) }
 {
-    let statement = match conn.prepare(sql) {
-        Ok(statement) => statement,
-        Err(error) => return Err(fault(error)),
-    };
-    match statement.query_all(conn, params) {
-        Ok(rows) => Ok(rows),
-        Err(error) => Err(fault(error)),
-    }
+    let statement = conn.prepare(sql)?;
+    let rows = statement.query_all(conn, params)?;
+    Ok(rows)
 }
 
 /// Runs a statement that is no query.
@@ -36,18 +32,14 @@ pub(crate) fn tell<S: Alter>(
     params: &[ValueRef<'_>],
 ) -> Result<(), StoreFault>
     ensures told { HasCleanDisk (state S.Store conn.new) → OnOk result (Told S.Store sql.now (bound params.now) conn.old conn.new) }
+    ensures cause { HasCleanDisk (state S.Store conn.new) → IfErr result (MayFail S.Store sql.now (bound params.now) conn.old conn.new) }
     ensures rests { HasCleanDisk (state S.Store conn.new) → OnErr result (Rests (state S.Store conn.old) (state S.Store conn.new)) }
     ensures failed { IfErr result IsStoreFault }
     ensures survives { Survives (state S.Store conn.old) (state S.Store conn.new) (MayTell S.Store sql.now (bound params.now) conn.old) }
 {
-    let statement = match conn.prepare(sql) {
-        Ok(statement) => statement,
-        Err(error) => return Err(fault(error)),
-    };
-    match statement.execute(conn, params) {
-        Ok(_) => Ok(()),
-        Err(error) => Err(fault(error)),
-    }
+    let statement = conn.prepare(sql)?;
+    let count = statement.execute(conn, params)?;
+    Ok(())
 }
 
 pub(crate) fn has_rows(rows: &Vec<Row>) -> bool

@@ -4,7 +4,7 @@ use Rattle.std.proofs.lemmas.Int.{to_z-of_z}
 use Rattle.kt_store.specs.Tables.{meta_text}
 use Rattle.kt_store.proofs.SqlFacts.{meta_select_is}
 use Rattle.kt_store.proofs.AskLemmas.{asked_stands, asked_survives, asked_unchanged, asked_leaves}
-use Rattle.kt_store.proofs.MetaLemmas.{asked_meta, says_one, read_it, some_row}
+use Rattle.kt_store.proofs.MetaLemmas.{asked_meta, says_one, says_plain, read_it, some_row}
 use Rattle.kt_store.proofs.attach.known.Goals as goal
 
 pub returns-in_default-clause-taken : goal.returns-in_default-clause-taken
@@ -60,36 +60,36 @@ returns-clause-crash g c runs has =
 
 pub returns-in_default-clause-untouched : goal.returns-in_default-clause-untouched
 returns-in_default-clause-untouched g c n says clean =
-    inl (asked_unchanged g.S.Store c.args.conn.now c.ask.new.conn (λ k opened. (says k opened).0) (λ k. omega (arith, k, c.ask.ensures.survives.clean)) meta_text meta_select_is.2 [] c.in_ok-rows.rows.items clean (c.in_ok-rows.ensures.rows clean))
+    inl (asked_unchanged g.S.Store c.args.conn.now c.ask.new.conn (λ k. omega (arith, k, c.ask.ensures.survives.clean)) meta_text (says_plain n _ says) [] c.in_ok-rows.rows.items clean (c.in_ok-rows.ensures.rows clean))
 
 pub returns-in_err-number-clause-untouched : goal.returns-in_err-number-clause-untouched
 returns-in_err-number-clause-untouched g c n says clean =
-    inl (asked_unchanged g.S.Store c.args.conn.now c.ask.new.conn (λ k opened. (says k opened).0) (λ k. omega (arith, k, c.ask.ensures.survives.clean)) meta_text meta_select_is.2 [] c.in_ok-rows.rows.items clean (c.in_ok-rows.ensures.rows clean))
+    inl (asked_unchanged g.S.Store c.args.conn.now c.ask.new.conn (λ k. omega (arith, k, c.ask.ensures.survives.clean)) meta_text (says_plain n _ says) [] c.in_ok-rows.rows.items clean (c.in_ok-rows.ensures.rows clean))
 
 pub returns-then-number-ne1-clause-untouched : goal.returns-then-number-ne1-clause-untouched
 returns-then-number-ne1-clause-untouched g c n says clean =
-    inl (asked_unchanged g.S.Store c.args.conn.now c.ask.new.conn (λ k opened. (says k opened).0) (λ k. omega (arith, k, c.ask.ensures.survives.clean)) meta_text meta_select_is.2 [] c.in_ok-rows.rows.items clean (c.in_ok-rows.ensures.rows clean))
+    inl (asked_unchanged g.S.Store c.args.conn.now c.ask.new.conn (λ k. omega (arith, k, c.ask.ensures.survives.clean)) meta_text (says_plain n _ says) [] c.in_ok-rows.rows.items clean (c.in_ok-rows.ensures.rows clean))
 
 pub returns-clause-untouched : goal.returns-clause-untouched
 returns-clause-untouched g c n says clean =
-    inl (asked_unchanged g.S.Store c.args.conn.now c.ask.new.conn (λ k opened. (says k opened).0) (λ k. omega (arith, k, c.ask.ensures.survives.clean)) meta_text meta_select_is.2 [] c.in_ok-rows.rows.items clean (c.in_ok-rows.ensures.rows clean))
+    inl (asked_unchanged g.S.Store c.args.conn.now c.ask.new.conn (λ k. omega (arith, k, c.ask.ensures.survives.clean)) meta_text (says_plain n _ says) [] c.in_ok-rows.rows.items clean (c.in_ok-rows.ensures.rows clean))
 
 pub returns-in_err-rows-clause-unknown_crash : goal.returns-in_err-rows-clause-unknown_crash
 returns-in_err-rows-clause-unknown_crash g c n says =
-    asked_leaves g.S.Store c.args.conn.now c.ask.new.conn (λ k opened. (says k opened).0) (λ k. omega (arith, k, c.ask.ensures.survives.clean)) meta_text meta_select_is.2 [] c.ask.ensures.survives
+    asked_leaves g.S.Store c.args.conn.now c.ask.new.conn (λ k. omega (arith, k, c.ask.ensures.survives.clean)) meta_text (says_plain n _ says) [] c.ask.ensures.survives
 
 pub returns-in_default-clause-unknown_crash : goal.returns-in_default-clause-unknown_crash
 returns-in_default-clause-unknown_crash g c n says =
-    asked_leaves g.S.Store c.args.conn.now c.ask.new.conn (λ k opened. (says k opened).0) (λ k. omega (arith, k, c.ask.ensures.survives.clean)) meta_text meta_select_is.2 [] c.ask.ensures.survives
+    asked_leaves g.S.Store c.args.conn.now c.ask.new.conn (λ k. omega (arith, k, c.ask.ensures.survives.clean)) meta_text (says_plain n _ says) [] c.ask.ensures.survives
 
 pub returns-in_err-number-clause-unknown_crash : goal.returns-in_err-number-clause-unknown_crash
 returns-in_err-number-clause-unknown_crash g c n says =
-    asked_leaves g.S.Store c.args.conn.now c.ask.new.conn (λ k opened. (says k opened).0) (λ k. omega (arith, k, c.ask.ensures.survives.clean)) meta_text meta_select_is.2 [] c.ask.ensures.survives
+    asked_leaves g.S.Store c.args.conn.now c.ask.new.conn (λ k. omega (arith, k, c.ask.ensures.survives.clean)) meta_text (says_plain n _ says) [] c.ask.ensures.survives
 
 pub returns-then-number-ne1-clause-unknown_crash : goal.returns-then-number-ne1-clause-unknown_crash
 returns-then-number-ne1-clause-unknown_crash g c n says =
-    asked_leaves g.S.Store c.args.conn.now c.ask.new.conn (λ k opened. (says k opened).0) (λ k. omega (arith, k, c.ask.ensures.survives.clean)) meta_text meta_select_is.2 [] c.ask.ensures.survives
+    asked_leaves g.S.Store c.args.conn.now c.ask.new.conn (λ k. omega (arith, k, c.ask.ensures.survives.clean)) meta_text (says_plain n _ says) [] c.ask.ensures.survives
 
 pub returns-clause-unknown_crash : goal.returns-clause-unknown_crash
 returns-clause-unknown_crash g c n says =
-    asked_leaves g.S.Store c.args.conn.now c.ask.new.conn (λ k opened. (says k opened).0) (λ k. omega (arith, k, c.ask.ensures.survives.clean)) meta_text meta_select_is.2 [] c.ask.ensures.survives
+    asked_leaves g.S.Store c.args.conn.now c.ask.new.conn (λ k. omega (arith, k, c.ask.ensures.survives.clean)) meta_text (says_plain n _ says) [] c.ask.ensures.survives

@@ -1,15 +1,24 @@
 use Rattle.std.proofs.Common.{rules, ◌≡◌, ◌∙◌, ◌<◌, ◌+◌, suc, [], ◌∷◌, ◌++◌, map, take, get_or, length, refl, sym, ap, subst, arith}
 use Rattle.std.proofs.lemmas.List.{length-map}
+use Rattle.kt_base.specs.declared.run.Run.{Run}
 use Rattle.kt_store.specs.Heads.{head_columns, head_of}
+use Rattle.kt_store.proofs.EntriesLemmas.{one_sound}
 use Rattle.kt_store.proofs.HeadLemmas.{one_more}
 use Rattle.kt_store.proofs.heads.heads_in.Goals as goal
 
 pub loop-row-preserved : goal.loop-row-preserved
 loop-row-preserved c runs are =
-    let pushed : c.push.new.self.items ≡ c.loop-row.heads.items ++ c.in_ok-head.head ∷ [] = search rules in
+    let pushed : c.add.new.items.items ≡ c.loop-row.heads.items ++ c.in_ok-head.head ∷ [] = search rules in
     let low : c.loop-row.row-index < length runs = omega (arith, c.loop-row-test.true, ap length are, length-map runs head_columns) in
     let it = one_more head_columns head_of runs c.loop-row.row-index c.row-item.result low (subst (λ l. c.row-item.result ≡ get_or l c.loop-row.row-index c.row-item.result) are c.row-item.is) in
     let head : c.in_ok-head.head ≡ head_of it.0 = c.in_ok-head.ensures.head it.0 it.1 in
     let more : map head_of (take (suc c.loop-row.row-index) runs) ≡ c.loop-row.heads.items ++ c.in_ok-head.head ∷ [] = it.2 ∙ rw (head, c.loop-row.invariant runs are) refl in
     let place : suc c.loop-row.row-index ≡ c.loop-row.row-index + 1 = omega arith in
     pushed ∙ sym more ∙ ap (λ k. map head_of (take k runs)) place
+
+pub returns-in_err-head-clause-read : goal.returns-in_err-head-clause-read
+returns-in_err-head-clause-read c runs small are =
+    let low : c.loop-row.row-index < length runs = omega (arith, c.loop-row-test.true, ap length are, length-map runs head_columns) in
+    let it = one_sound (λ (r : Run). r.total < 4294967296) head_columns (λ (r : Run). r) runs c.loop-row.row-index c.row-item.result small low (subst (λ l. c.row-item.result ≡ get_or l c.loop-row.row-index c.row-item.result) are c.row-item.is) in
+    let told = c.in_err-head.ensures.read it.0 it.1 it.2 in
+    search rules

@@ -1,7 +1,6 @@
 use Rattle.sqlite.specs.Held.{state}
 use Rattle.kt_store.specs.Runs.{Keeps}
 use Rattle.kt_store.proofs.StepLemmas.{outlives}
-use Rattle.std.proofs.Common.{arith}
 use Rattle.kt_store.proofs.results.Results.attach.Goals as goal
 
 pub returns-in-Ok-clause-lasting : goal.returns-in-Ok-clause-lasting

@@ -1,11 +1,14 @@
-use Rattle.std.proofs.Common.{◌++◌, ◌∷◌, [], ◌<◌, length, arith}
-use Rattle.std.proofs.lemmas.Result.{on_ok_weaker}
+use Rattle.std.proofs.Common.{◌++◌, ◌∷◌, [], ◌<◌, length, arith, rules, pos}
+use Rattle.std.proofs.lemmas.Result.{on_ok_weaker, IfErr-weaker}
 use Rattle.sqlite.specs.Held.{state}
 use Rattle.sqlite.specs.State.{HasCleanDisk}
 use Rattle.sqlite.proofs.StateLemmas.{survives_then, survives_weaker}
 use Rattle.kt_store.specs.Runs.{Keeps, new_run}
 use Rattle.kt_store.specs.Stands.{StandsFor}
 use Rattle.kt_store.proofs.ViewLemmas.{inside_stands, seen_survives}
+use Rattle.sqlite.specs.declared.types.Value.TheVariants.{Int}
+use Rattle.kt_store.specs.Tables.{full_text, begin_text}
+use Rattle.kt_store.proofs.FaultLemmas.{caused_before, caused_after}
 use Rattle.kt_store.proofs.results.Results.begin.Goals as goal
 
 pub returns-in_err-is_full-clause-crash : goal.returns-in_err-is_full-clause-crash
@@ -54,3 +57,15 @@ returns-clause-durable g c runs has =
 
 pub returns-then-branch-clause-kept : goal.returns-then-branch-clause-kept
 returns-then-branch-clause-kept g c runs has = c.is_full.ensures.stands runs (inside_stands g.S.Store c.self.inside.conn c.args.self.now c.self.view_is runs has)
+
+pub returns-in_err-is_full-clause-cause : goal.returns-in_err-is_full-clause-cause
+returns-in_err-is_full-clause-cause g c runs has clean =
+    let held : StandsFor (state g.S.Store c.self.inside.conn) runs = inside_stands g.S.Store c.self.inside.conn c.args.self.now c.self.view_is runs has in
+    let told = caused_before g.S.Store ((full_text, []) ∷ []) ((begin_text, Int (pos c.args.moment) ∷ Int (pos c.args.total) ∷ []) ∷ []) c.is_full.new.conn _ (c.in_err-is_full.ensures.cause runs held clean) in
+    search rules
+
+pub returns-clause-cause : goal.returns-clause-cause
+returns-clause-cause g c runs has clean =
+    let held : StandsFor (state g.S.Store c.self.inside.conn) runs = inside_stands g.S.Store c.self.inside.conn c.args.self.now c.self.view_is runs has in
+    IfErr-weaker c.add_run.result _ _ (caused_after g.S.Store ((full_text, []) ∷ []) ((begin_text, Int (pos c.args.moment) ∷ Int (pos c.args.total) ∷ []) ∷ []) c.add_run.new.conn)
+    (c.add_run.ensures.cause runs (c.is_full.ensures.stands runs held) clean)

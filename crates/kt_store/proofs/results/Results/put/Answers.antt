@@ -1,4 +1,4 @@
-use Rattle.std.proofs.Common.{arith}
+use Rattle.std.proofs.Common.{arith, rules}
 use Rattle.sqlite.specs.Held.{state}
 use Rattle.sqlite.specs.State.{HasCleanDisk}
 use Rattle.sqlite.proofs.StateLemmas.{survives_then, survives_weaker}
@@ -44,3 +44,15 @@ returns-clause-crash g c runs has =
     let more = Keeps (with_entry c.args.run c.args.entry.now runs) in
     survives_then (state g.S.Store c.self.inside.conn) (state g.S.Store c.check.new.conn) (state g.S.Store c.add_entry.new.conn) (λ _. ⊥) more more (λ _ db none. absurd none) (λ _ db kept. kept)
     (c.check.ensures.crash runs held) (c.add_entry.ensures.crash runs (c.check.ensures.stands runs held) (λ k. let t = c.in_ok-check.ensures.taken runs held k c.in_ok-reason.ensures.sound in (t.1, t.2, t.3, t.4))))
+
+pub returns-in_err-check-clause-cause : goal.returns-in_err-check-clause-cause
+returns-in_err-check-clause-cause g c runs has clean =
+    let held : StandsFor (state g.S.Store c.self.inside.conn) runs = inside_stands g.S.Store c.self.inside.conn c.args.self.now c.self.view_is runs has in
+    let told = c.in_err-check.ensures.cause runs held clean in
+    search rules
+
+pub returns-in_err-add_entry-clause-cause : goal.returns-in_err-add_entry-clause-cause
+returns-in_err-add_entry-clause-cause g c runs has clean =
+    let held : StandsFor (state g.S.Store c.self.inside.conn) runs = inside_stands g.S.Store c.self.inside.conn c.args.self.now c.self.view_is runs has in
+    let told = c.in_err-add_entry.ensures.cause runs (c.check.ensures.stands runs held) clean in
+    search rules

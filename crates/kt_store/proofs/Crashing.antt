@@ -1,0 +1,42 @@
+-- What a crash leaves of a store, after a call.
+use Rattle.std.specs.Prelude.{Result, Ok, Err, OnOk}
+use Rattle.std.proofs.Common.{◌≡◌, ℕ, ◌≤◌, List, [], ◌∷◌, ◌⊎◌, inl, inr, arith}
+use Rattle.sqlite.specs.Tree.{Trees}
+use Rattle.sqlite.specs.State.{State, Survives}
+use Rattle.kt_base.specs.declared.run.Run.{Run}
+use Rattle.kt_store.specs.Runs.{Keeps, KeepsOne}
+use Rattle.kt_store.specs.Stands.{Leaves}
+
+was_none : (a b : ℕ) → a ≤ b → b ≡ 0 → a ≡ 0
+was_none a b h e = omega (arith, h, e)
+
+-- what was left is left, or the change
+pub survived : (old new : State) (change runs : List Run) (may : List (List Run)) → Survives old new (Keeps change) → Leaves old (KeepsOne (runs ∷ may)) → Leaves new (KeepsOne (runs ∷ change ∷ may))
+survived old new change runs may s l clean trees h = by (s.crash clean trees h)
+  where
+    among : Keeps runs trees ⊎ KeepsOne may trees → Keeps runs trees ⊎ (Keeps change trees ⊎ KeepsOne may trees)
+    among (inl k) = inl k
+    among (inr k) = inr (inr k)
+
+    by : old.may_leave trees ⊎ Keeps change trees → Keeps runs trees ⊎ (Keeps change trees ⊎ KeepsOne may trees)
+    by (inl m) = among (l (was_none _ _ s.clean clean) trees m)
+    by (inr k) = inr (inl k)
+
+-- where nothing is changed, nothing is left beside
+pub untouched : (old new : State) (may : List (List Run)) → Survives old new (λ trees. ⊥) → Leaves old (KeepsOne may) → Leaves new (KeepsOne may)
+untouched old new may s l clean trees h = by (s.crash clean trees h)
+  where
+    by : old.may_leave trees ⊎ ⊥ → KeepsOne may trees
+    by (inl m) = l (was_none _ _ s.clean clean) trees m
+    by (inr k) = absurd k
+
+-- what alone is left is one of one
+pub lasts : {T E : Type 0} (r : Result T E) (IsClean : Type 0) (may_leave : Trees → Type 0) (change : List Run) → OnOk r (IsClean → (trees : Trees) → may_leave trees → Keeps change trees)
+    → OnOk r (IsClean → (trees : Trees) → may_leave trees → KeepsOne (change ∷ []) trees)
+lasts (Ok x) IsClean may_leave change l = λ clean trees h. inl (l clean trees h)
+lasts (Err e) IsClean may_leave change l = tt
+
+-- a fact that always holds, beside one of Ok
+pub on_ok_both : {T E : Type 0} (r : Result T E) (P Q : Type 0) → OnOk r P → Q → OnOk r (P × Q)
+on_ok_both (Ok x) P Q p q = (p, q)
+on_ok_both (Err e) P Q p q = tt
