@@ -1,5 +1,6 @@
 #!/usr/bin/env bash
-# Says what 1,000 programs that return 0 cost, one at a time, 4 and 8 at once: in a plain spawn loop, over the driver, over
+# Says what 1,000 programs that return 0 cost, one at a time, 4 and 8 at once: in a plain spawn loop, without
+# directories and with those of a case, over the driver, over
 # `kyua test` (one at a time: no Kyuafile gives a width yet) and over another `kyua` where one is installed, with their ratios.
 # Then how near to 2 seconds a `sleep 30` with that limit is ended, alone and beside short programs; what a wait of 5 seconds
 # costs; and how much memory an output of 100 MB takes.
@@ -16,15 +17,17 @@ build() {
   local bench=$scratch/checkout/crates/child_bench
   mkdir -p "$bench/src" "$bench/proofs/plans"
   cp "$here/HANDLES" "$scratch/checkout/"
-  for crate in kt_base kt_script kt_suite kt_atflist kt_claim kt_status kt_sched kt_child; do
+  for crate in kt_base kt_script kt_config kt_metadata kt_suite kt_atflist kt_claim kt_status kt_sched kt_child; do
     cp -a "$here/crates/$crate" "$scratch/checkout/crates/"
     grep "^$crate:" "$here/crates.txt" >> "$scratch/checkout/crates.txt"
   done
   echo 'child_bench: kt_base kt_sched kt_child' >> "$scratch/checkout/crates.txt"
   cp "$here/bench/child/main.txt" "$bench/src/main.rt"
-  cp "$here/crates/kt_rows/src/plans.rt" "$bench/src/"
-  cp -a "$here/crates/kt_rows/proofs/plans/plan_of" "$bench/proofs/plans/"
-  sed -i 's/kt_rows/child_bench/g' "$bench"/proofs/plans/plan_of/*.antt
+  cp "$here/bench/child/plans.txt" "$bench/src/plans.rt"
+  echo 'pub mod PlanSteps' > "$bench/proofs/Lib.antt"
+  cp "$here/crates/kt_play/proofs/PlanSteps.antt" "$bench/proofs/"
+  cp -a "$here/crates/kt_rows/proofs/program_plans/plan_of" "$bench/proofs/plans/"
+  sed -i 's/kt_rows\.proofs\.program_plans/child_bench.proofs.plans/; s/kt_play/child_bench/' "$bench"/proofs/plans/plan_of/*.antt
   # rt runs what it linked, without words: then it runs no case.
   (cd "$bench" && rt run < /dev/null > "$scratch/build.log" 2>&1) || true
   mv "$bench/out/child_bench" "$scratch/driver" || { tail -n 20 "$scratch/build.log"; exit 1; }
@@ -58,12 +61,14 @@ at_width() {
   local width=$1
   echo "$count programs, $width at once"
   measure spawn '  a spawn loop' ./spawn ./case "$count" "$width"
+  measure furnished '  a spawn loop with directories' ./spawn ./case "$count" "$width" directories
   measure driver '  the driver' ./driver "$width" "$count" case 300
   grep -q "^$count passed" out || { cat out; exit 1; }
   compare 'the driver beside the spawn loop' driver spawn
+  compare 'the driver beside the spawn loop with directories' driver furnished
   if [ "$width" = 1 ]; then
     measure ours '  kyua test' "$program" test -r ours.db --work="$scratch"
-    compare 'kyua test beside the spawn loop' ours spawn
+    compare 'kyua test beside the spawn loop with directories' ours furnished
   fi
   if command -v kyua > /dev/null; then
     rm -f theirs.db

@@ -89,7 +89,7 @@ module _ {S R : Type 0} (Stands : R → List Run → Type 0) (Sound : R → Type
         says = g.says;
         ends = record { all = record { legal = e.legal; once = e.once; are = all_entries plan T (recorded plan 1 T) es (e.all ∙ sym e.once.all) a }; whole = e.all; counts = e.counts; taken = refl };
       }
-  whole plan T es (Err NoMemory) s t a e =
+  whole plan T es (Err (NoMemory refusal)) s t a e =
       let g = gains_all es s t (none_gained es s t e.entries e.same) in
       record { same_store = g.same_store; same_out = g.same_out; refused = []; puts = g.puts; says = g.says; ends = record { events = e.events; none = e.entries; taken = refl } }
   whole plan T es (Err (SinkFailed fault)) s t a e =

@@ -1,8 +1,8 @@
 pub mod Answering
-pub mod Crashing
 pub mod Saying
 pub mod FaultWords
 pub mod Listed
+pub mod Loading
 pub mod PlanLaws
 pub mod Numbered
 pub mod MemoryLaws

@@ -5,10 +5,41 @@ use Rattle.std.proofs.lemmas.List.{set-get_or}
 use Rattle.kt_base.specs.declared.entry.Entry.{Entry}
 use Rattle.kt_base.specs.declared.run.Run.{Run}
 use Rattle.kt_store.specs.declared.store_fault.StoreFault.{StoreFault}
-use Rattle.kt_store.specs.declared.store_fault.StoreFault.TheVariants.{NoMemory}
+use Rattle.kt_store.specs.declared.store_fault.StoreFault.TheVariants as store
+use Rattle.kt_store.specs.Ask.{IsFailure, IsNoMemory, IsStoreFault}
+use Rattle.kt_store.specs.Fault.{Tells}
+use Rattle.sqlite.specs.declared.error.Error.{Error}
 use Rattle.kt_store.specs.Runs.{insert_at, run_at, put_refusal_of, finish_refusal_of}
 use Rattle.kt_cli.specs.MemoryRuns.{PutsEntry, FinishesRun, FindsPlace, entry_refusal, closing_refusal, place_among}
 use Rattle.kt_cli.proofs.Numbered.{entry_placed, finish_placed}
+
+-- memory that runs out is a failure of the store
+pub short_fails : (fault : StoreFault) → IsNoMemory fault → IsStoreFault fault
+short_fails (store.NoMemory shortage) is = tt
+short_fails (store.Store statement) is = absurd is
+short_fails store.NoRun is = absurd is
+short_fails store.RunClosed is = absurd is
+short_fails store.RepeatedPosition is = absurd is
+short_fails store.StoreFull is = absurd is
+short_fails store.UnknownSchema is = absurd is
+short_fails store.BadPosition is = absurd is
+short_fails store.Incomplete is = absurd is
+
+-- and so is each error of SQLite
+pub told_fails : (error : Error) (fault : StoreFault) → Tells error fault → IsStoreFault fault
+told_fails error fault (inl h) = short_fails fault h.0
+told_fails error fault (inr h) = failed_fails fault h.0
+  where
+    failed_fails : (fault : StoreFault) → IsFailure fault → IsStoreFault fault
+    failed_fails (store.NoMemory shortage) is = absurd is
+    failed_fails (store.Store statement) is = tt
+    failed_fails store.NoRun is = absurd is
+    failed_fails store.RunClosed is = absurd is
+    failed_fails store.RepeatedPosition is = absurd is
+    failed_fails store.StoreFull is = absurd is
+    failed_fails store.UnknownSchema is = absurd is
+    failed_fails store.BadPosition is = absurd is
+    failed_fails store.Incomplete is = absurd is
 
 read_there : (runs : List Run) (place : ℕ) (run : Run) → place < length runs → run ≡ get_or runs place run → slice_get runs place ≡ Some run
 read_there [] place run f e = absurd (omega (arith, f))
@@ -32,8 +63,8 @@ module _ (old xs : List Run) (number place : ℕ) (run : Run) (s : xs ≡ old) (
   pub put_refused : (e : Entry) (fault : StoreFault) → Some fault ≡ entry_refusal run e.position → PutsEntry old number e (Err fault) (set xs place run)
   put_refused e fault h = (inr (ap (λ (o : Option Run). put_refusal_of o e) there ∙ sym h), same_list xs old place run s r)
 
-  pub put_short : (e : Entry) (entries : List Entry) → entries ≡ run.entries → PutsEntry old number e (Err NoMemory) (set xs place (record run { entries = entries }))
-  put_short e entries k = (inl (inl refl), ap (λ (es : List Entry). set xs place (record run { entries = es })) k ∙ same_list xs old place run s r)
+  pub put_short : (e : Entry) (entries : List Entry) (fault : StoreFault) → IsStoreFault fault → entries ≡ run.entries → PutsEntry old number e (Err fault) (set xs place (record run { entries = entries }))
+  put_short e entries fault failed k = (inl failed, ap (λ (es : List Entry). set xs place (record run { entries = es })) k ∙ same_list xs old place run s r)
 
   pub put_well : (e : Entry) (entries : List Entry) → None ≡ entry_refusal run e.position → entries ≡ insert_at e run.entries → PutsEntry old number e (Ok tt) (set xs place (record run { entries = entries }))
   put_well e entries h k = (

@@ -1,4 +1,4 @@
--- Runs stay numbered by place.
+-- The number of a run is its place.
 use Rattle.std.specs.Prelude.{Some, Bool, true, false, slice_get, slice_set, if◌then◌else◌}
 use Rattle.std.proofs.Common.{◌≡◌, ℕ, zero, suc, ◌+◌, ◌==◌, List, [], ◌∷◌, ◌++◌, length, arith, refl, sym, ap, ◌∙◌}
 use Rattle.std.proofs.lemmas.Bool.Decides.{nat_tests}
@@ -6,25 +6,6 @@ use Rattle.kt_base.specs.declared.entry.Entry.{Entry}
 use Rattle.kt_base.specs.declared.run.Run.{Run}
 use Rattle.kt_store.specs.Runs.{AreNumbered, new_run, insert_at, with_entry, finish}
 use Rattle.kt_cli.specs.Stores.{put_all, put_among}
-
-pub numbers_more : (n : ℕ) (runs : List Run) (r : Run) → AreNumbered n runs → r.number ≡ n + length runs → AreNumbered n (runs ++ r ∷ [])
-numbers_more n [] r h e = (e ∙ omega arith, tt)
-numbers_more n (x ∷ runs) r h e = (h.0, numbers_more (suc n) runs r h.1 (e ∙ omega arith))
-
-pub numbers_new : (runs : List Run) (total moment : ℕ) → AreNumbered 1 runs → AreNumbered 1 (runs ++ new_run runs total moment ∷ [])
-numbers_new runs total moment h = numbers_more 1 runs (new_run runs total moment) h (omega arith)
-
-numbers_of : (n : ℕ) (r s : Run) (runs more : List Run) (b : Bool) → r.number ≡ n → s.number ≡ n → AreNumbered (suc n) runs → AreNumbered (suc n) more → AreNumbered n (if b then s ∷ runs else r ∷ more)
-numbers_of n r s runs more true p q h k = (q, h)
-numbers_of n r s runs more false p q h k = (p, k)
-
-pub numbers_entry : (k : ℕ) (e : Entry) (n : ℕ) (runs : List Run) → AreNumbered n runs → AreNumbered n (with_entry k e runs)
-numbers_entry k e n [] h = tt
-numbers_entry k e n (r ∷ runs) h = numbers_of n r (record r { entries = insert_at e r.entries }) runs (with_entry k e runs) (r.number == k) h.0 h.0 h.1 (numbers_entry k e (suc n) runs h.1)
-
-pub numbers_finish : (k n : ℕ) (runs : List Run) → AreNumbered n runs → AreNumbered n (finish k runs)
-numbers_finish k n [] h = tt
-numbers_finish k n (r ∷ runs) h = numbers_of n r (record r { finished = true }) runs (finish k runs) (r.number == k) h.0 h.0 h.1 (numbers_finish k (suc n) runs h.1)
 
 -- the number of the run at a place
 pub number_at : (n k : ℕ) (runs : List Run) (r : Run) → AreNumbered n runs → slice_get runs k ≡ Some r → r.number ≡ n + k

@@ -11,6 +11,7 @@ use Rattle.kt_sched.specs.declared.ended.Ended.{Ended}
 use Rattle.kt_sched.specs.declared.sink_fault.SinkFault.{SinkFault}
 use Rattle.kt_sched.specs.declared.totals.Totals.{Totals}
 use Rattle.kt_sched.specs.declared.run_fault.RunFault.{RunFault}
+use Rattle.kt_base.specs.declared.no_memory.NoMemory.{NoMemory as OutOfMemory}
 use Rattle.kt_sched.specs.declared.run_fault.RunFault.TheVariants.{NoMemory, SinkFailed}
 use Rattle.kt_sched.specs.Trace.{NoEvent}
 use Rattle.kt_store.specs.Ask.{IsStoreFault}
@@ -81,8 +82,8 @@ module _ {L R : Type 0} (starts : L → Job → Role → StartAnswer → L → T
       after_all runs h e = subst (λ (ms : List (List Run)). Leaves after (with_puts runs r.entries ∷ ms)) (settled number r.entries r.refused (runs ++ new_run runs total moment ∷ []) e) (after_puts runs h)
 
       -- memory ran out before a case was started
-      pub ran_none : answer ≡ Err NoMemory → Says mid f now g (utf8 memory_line) → exit ≡ (if g then 2 else 2) → RanPlan starts waits Stands Sound Leaves plan moment old new store after was now exit
-      ran_none a s e =
+      pub ran_none : (refusal : OutOfMemory) → answer ≡ Err (NoMemory refusal) → Says mid f now g (utf8 memory_line) → exit ≡ (if g then 2 else 2) → RanPlan starts waits Stands Sound Leaves plan moment old new store after was now exit
+      ran_none refusal a s e =
           let none : RecordedNone r.trace r.entries r.refused = subst (λ (x : Result Totals RunFault). RecordEnds plan r.trace r.entries r.refused x) a r.ends in
           record {
             trace = r.trace;

@@ -10,7 +10,7 @@ use Rattle.kt_cli.specs.Hosts.{NoRoot, no_memory, none_made}
 module _ {O : Type 0} (leads : O → Call → O → Type 0) (os : O) where
   -- a root was looked for and not found
   pub no_root : (after : O) (base : List ℕ) (fault : DriverFault) → ((calls : List Call) × Chain leads os calls after × FindsRoot base calls (Err fault)) → NoRoot leads os (Some base) fault
-  no_root after base driver.NoMemory f = no_memory (Some base)
+  no_root after base (driver.NoMemory refusal) f = no_memory (Some base) refusal
   no_root after base driver.NoWorkDirectory f = none_made base f.0 after f.1 f.2
 
   -- the same of a work directory that was looked up

@@ -14,12 +14,11 @@ use Rattle.kt_sched.specs.Trace.{NoEvent}
 use Rattle.kt_suite.specs.declared.program.Program.{Program}
 use Rattle.kt_suite.specs.declared.fault.SuiteFault.{SuiteFault}
 use Rattle.kt_suite.specs.Answers.{Asked, Chain, Answered}
-use Rattle.kt_suite.specs.Paths.{name_in}
-use Rattle.kt_suite.specs.Registered.{Outcome, Registered, no_memory}
+use Rattle.kt_suite.specs.Registered.{Outcome}
 use Rattle.kt_cli.specs.declared.command.Command.{Command}
 use Rattle.kt_cli.specs.declared.command.Command.TheVariants as command
 use Rattle.kt_cli.specs.FaultLines.{memory_line, fault_line}
-use Rattle.kt_cli.specs.Listings.{listing, listing_exit, Listed}
+use Rattle.kt_cli.specs.Listings.{listing, listing_exit, Loads, RanShort, Listed}
 use Rattle.kt_cli.specs.Meaning.{Seen, Means, listed, untested, tested, reported, reported_junit, CutShort, no_memory as short, cut, report_cut, junit_cut, Did, RanPlan, Tested, TestCut, IsTreeAlone, IsUnasked, IsBegun}
 use Rattle.kt_cli.specs.Pages.{Printed, Says}
 use Rattle.kt_cli.specs.Plans.{plan_of}
@@ -74,27 +73,27 @@ module _ {W : Type 0} (asks : W → Asked → W → Type 0) (tells : W → Told 
     alone : (asked : List Asked) → IsTreeAlone (record { asked = asked; told = []; plan = []; trace = NoEvent })
     alone asked = record { told = refl; trace = refl }
 
-    of_listing : (kyuafile : List ℕ) (runs : List Run) (asked : List Asked) (outcome : Outcome) → (outcome ≡ Err no_memory) ⊎ Registered asked (name_in kyuafile) outcome
+    of_listing : (kyuafile : List ℕ) (runs : List Run) (asked : List Asked) (outcome : Outcome) → RanShort outcome ⊎ Loads kyuafile asked outcome
         → (Means (record { asked = asked; told = []; plan = []; trace = NoEvent }) runs (command.List kyuafile) (record { runs = runs; bytes = utf8 (listing outcome); exit = listing_exit outcome; beside = λ may. may }))
         ⊎ (CutShort (record { asked = asked; told = []; plan = []; trace = NoEvent }) runs (command.List kyuafile) (record { runs = runs; bytes = utf8 (listing outcome); exit = listing_exit outcome; beside = λ may. may }))
-    of_listing kyuafile runs asked outcome (inl e) =
-        inr (subst (λ (o : Outcome). CutShort (record { asked = asked; told = []; plan = []; trace = NoEvent }) runs (command.List kyuafile) (record { runs = runs; bytes = utf8 (listing o); exit = listing_exit o; beside = λ may. may })) (sym e) (short (command.List kyuafile) kyuafile refl (alone asked)))
+    of_listing kyuafile runs asked outcome (inl s) =
+        inr (subst (λ (o : Outcome). CutShort (record { asked = asked; told = []; plan = []; trace = NoEvent }) runs (command.List kyuafile) (record { runs = runs; bytes = utf8 (listing o); exit = listing_exit o; beside = λ may. may })) (sym (s.2 ∙ ap (λ (f : SuiteFault). Err f) s.1.1)) (short (command.List kyuafile) kyuafile refl (alone asked)))
     of_listing kyuafile runs asked outcome (inr r) = inl (listed kyuafile outcome r (alone asked))
 
     -- `list` is a command
     pub did_list : (kyuafile : List ℕ) (old new : W) → Listed asks kyuafile old new was now exit → Did asks tells starts waits Stands Sound Leaves (command.List kyuafile) old new store store was now exit
     did_list kyuafile old new l =
-        done_with_tree (command.List kyuafile) old new l.asked (utf8 (listing l.outcome)) (listing_exit l.outcome) l.chain (λ runs. of_listing kyuafile runs l.asked l.outcome l.registered) l.printed
+        done_with_tree (command.List kyuafile) old new l.asked (utf8 (listing l.outcome)) (listing_exit l.outcome) l.chain (λ runs. of_listing kyuafile runs l.asked l.outcome l.loads) l.printed
 
-    of_fault : (kyuafile : List ℕ) (runs : List Run) (asked : List Asked) (fault : SuiteFault) → ◌≡◌ {A = Outcome} (Err fault) (Err no_memory) ⊎ Registered asked (name_in kyuafile) (Err fault)
+    of_fault : (kyuafile : List ℕ) (runs : List Run) (asked : List Asked) (fault : SuiteFault) → RanShort (Err fault) ⊎ Loads kyuafile asked (Err fault)
         → (Means (record { asked = asked; told = []; plan = []; trace = NoEvent }) runs (command.Test kyuafile) (record { runs = runs; bytes = utf8 (fault_line fault); exit = 2; beside = λ may. may }))
         ⊎ (CutShort (record { asked = asked; told = []; plan = []; trace = NoEvent }) runs (command.Test kyuafile) (record { runs = runs; bytes = utf8 (fault_line fault); exit = 2; beside = λ may. may }))
-    of_fault kyuafile runs asked fault (inl e) =
-        inr (subst (λ (o : Outcome). CutShort (record { asked = asked; told = []; plan = []; trace = NoEvent }) runs (command.Test kyuafile) (record { runs = runs; bytes = utf8 (listing o); exit = 2; beside = λ may. may })) (sym e) (short (command.Test kyuafile) kyuafile refl (alone asked)))
+    of_fault kyuafile runs asked fault (inl s) =
+        inr (subst (λ (o : Outcome). CutShort (record { asked = asked; told = []; plan = []; trace = NoEvent }) runs (command.Test kyuafile) (record { runs = runs; bytes = utf8 (listing o); exit = 2; beside = λ may. may })) (sym (s.2 ∙ ap (λ (f : SuiteFault). Err f) s.1.1)) (short (command.Test kyuafile) kyuafile refl (alone asked)))
     of_fault kyuafile runs asked fault (inr r) = inl (untested kyuafile fault r (alone asked))
 
     -- a fault of the tree
-    pub did_fault : (kyuafile : List ℕ) (old new : W) (fault : SuiteFault) (f : Bool) → Answered asks old new (λ asked. ◌≡◌ {A = Outcome} (Err fault) (Err no_memory) ⊎ Registered asked (name_in kyuafile) (Err fault))
+    pub did_fault : (kyuafile : List ℕ) (old new : W) (fault : SuiteFault) (f : Bool) → Answered asks old new (λ asked. RanShort (Err fault) ⊎ Loads kyuafile asked (Err fault))
         → Shows was now f (utf8 (fault_line fault)) → exit ≡ (if f then 2 else 2) → Did asks tells starts waits Stands Sound Leaves (command.Test kyuafile) old new store store was now exit
     did_fault kyuafile old new fault f a s e =
         done_with_tree (command.Test kyuafile) old new a.asked (utf8 (fault_line fault)) 2 a.chain (λ runs. of_fault kyuafile runs a.asked fault a.holds) (record { failed = f; shows = s; exits = e })
@@ -105,17 +104,17 @@ module _ {W : Type 0} (asks : W → Asked → W → Type 0) (tells : W → Told 
     did_short kyuafile old new Holds f a s e =
         done_with_tree (command.Test kyuafile) old new a.asked (utf8 memory_line) 2 a.chain (λ runs. inr (short (command.Test kyuafile) kyuafile refl (alone a.asked))) (record { failed = f; shows = s.more; exits = e })
 
-    ok_is : (programs : List Program) (asked : List Asked) (root : List ℕ) → ◌≡◌ {A = Outcome} (Ok programs) (Err no_memory) ⊎ Registered asked root (Ok programs) → Registered asked root (Ok programs)
-    ok_is programs asked root (inl e) = absurd (cc)
-    ok_is programs asked root (inr r) = r
+    ok_is : (programs : List Program) (asked : List Asked) (kyuafile : List ℕ) → RanShort (Ok programs) ⊎ Loads kyuafile asked (Ok programs) → Loads kyuafile asked (Ok programs)
+    ok_is programs asked kyuafile (inl s) = absurd (let e = s.2 in cc)
+    ok_is programs asked kyuafile (inr r) = r
 
     -- a plan was run
     pub did_test : (after : R) (kyuafile : List ℕ) (old loaded begun new : W) (programs : List Program) (plan : List Job) (moment : ℕ)
-        → Answered asks old loaded (λ asked. ◌≡◌ {A = Outcome} (Ok programs) (Err no_memory) ⊎ Registered asked (name_in kyuafile) (Ok programs)) → plan ≡ plan_of programs → tells loaded (Now moment) begun
+        → Answered asks old loaded (λ asked. RanShort (Ok programs) ⊎ Loads kyuafile asked (Ok programs)) → plan ≡ plan_of programs → tells loaded (Now moment) begun
         → RanPlan starts waits Stands Sound Leaves plan moment begun new store after was now exit → Did asks tells starts waits Stands Sound Leaves (command.Test kyuafile) old new store after was now exit
     did_test after kyuafile old loaded begun new programs plan moment a p t r =
         let seen : Seen = record { asked = a.asked; told = Now moment ∷ []; plan = plan; trace = r.trace } in
-        let begin : IsBegun seen kyuafile moment = record { programs = programs; registered = ok_is programs a.asked (name_in kyuafile) a.holds; told = refl; plan = p } in
+        let begin : IsBegun seen kyuafile moment = record { programs = programs; loads = ok_is programs a.asked kyuafile a.holds; told = refl; plan = p } in
         record {
           seen = seen;
           course = record { loaded = loaded; begun = begun; asked = a.chain; told = (begun, t, refl); ran = r.leads };

@@ -13,7 +13,7 @@ use Rattle.kt_store.specs.declared.store_fault.StoreFault.TheVariants as store
 
 -- the words of a script's fault
 abbrev pub script_text : ScriptFault → List ℕ
-script_text script.NoMemory = codes "out of memory"
+script_text (script.NoMemory refusal) = codes "out of memory"
 script_text script.NotUtf8 = codes "not UTF-8"
 script_text (script.BadToken line) = codes "bad token"
 script_text (script.NotLiteral line) = codes "not in the literal profile"
@@ -22,7 +22,7 @@ script_text script.TooLong = codes "file too long"
 
 -- the words of a cause, where they have no number
 abbrev pub fixed_text : SuiteCause → List ℕ
-fixed_text cause.NoMemory = codes "out of memory"
+fixed_text (cause.NoMemory refusal) = codes "out of memory"
 fixed_text cause.NoSyntax = codes "syntax(2) expected"
 fixed_text (cause.WrongSyntax n) = []
 fixed_text cause.UnknownCall = codes "unknown call"
@@ -30,6 +30,9 @@ fixed_text cause.UnknownProperty = codes "unknown property"
 fixed_text cause.BadValue = codes "bad value"
 fixed_text cause.NoSuite = codes "no test suite"
 fixed_text cause.PathHasDirectory = codes "program name has a directory"
+fixed_text cause.BadInclude = codes "bad include path"
+fixed_text cause.IncludeLoop = codes "include loop"
+fixed_text cause.TooDeep = codes "includes too deep"
 fixed_text cause.MissingProgram = codes "program not found"
 fixed_text cause.Unreadable = codes "file could not be read"
 fixed_text cause.TooMany = codes "too many programs or files"
@@ -58,7 +61,7 @@ placed_line fault = error_mark ++ fault.path ++ codes ":" ++ decimal fault.line 
 
 -- a fault by its cause: want of memory has no place
 abbrev pub line_by : SuiteCause → SuiteFault → List ℕ
-line_by cause.NoMemory fault = memory_line
+line_by (cause.NoMemory refusal) fault = memory_line
 line_by _ fault = placed_line fault
 
 -- a fault of the tree: its file, its line and its cause
@@ -72,5 +75,5 @@ put_line sink.Other = store_line
 
 -- a call that the store refused
 abbrev pub refusal_line : StoreFault → List ℕ
-refusal_line store.NoMemory = memory_line
+refusal_line (store.NoMemory shortage) = memory_line
 refusal_line other = store_line

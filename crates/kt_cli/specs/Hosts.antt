@@ -1,6 +1,7 @@
 -- What a command does over the host: a driver that is made for it, files of which no more than their front is read, and a clock of
 -- which nothing is known.
 use Rattle.std.specs.Prelude.{ℕ, Bool, false, List, ◌≡◌, Option, Some, None, Ok, Err}
+use Rattle.kt_base.specs.declared.no_memory.NoMemory.{NoMemory as OutOfMemory}
 use Rattle.kt_base.specs.declared.role.Role.{Role}
 use Rattle.kt_base.specs.declared.run.Run.{Run}
 use Rattle.kt_sched.specs.declared.job.Job.{Job}
@@ -49,7 +50,7 @@ pub record OnDriver {O R : Type 0} (leads : O → Call → O → Type 0) (os : O
 -- why no driver is made below a work directory: memory ran out, or there is none, it begins elsewhere than at the root of the
 -- host, or none of the root directories can be made in it
 pub data NoRoot {O : Type 0} (leads : O → Call → O → Type 0) (os : O) : Option (List ℕ) → DriverFault → Type 0 where
-  no_memory : (work : Option (List ℕ)) → NoRoot leads os work driver.NoMemory
+  no_memory : (work : Option (List ℕ)) (refusal : OutOfMemory) → NoRoot leads os work (driver.NoMemory refusal)
   no_work : NoRoot leads os None driver.NoWorkDirectory
   not_absolute : (base : List ℕ) → is_absolute base ≡ false → NoRoot leads os (Some base) driver.NoWorkDirectory
   none_made : (base : List ℕ) (calls : List Call) (after : O) → Chain leads os calls after → FindsRoot base calls (Err driver.NoWorkDirectory) → NoRoot leads os (Some base) driver.NoWorkDirectory

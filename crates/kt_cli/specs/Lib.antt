@@ -1,3 +1,4 @@
+pub mod Closings
 pub mod CommandLines
 pub mod Commands
 pub mod FaultLines

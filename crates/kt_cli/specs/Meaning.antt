@@ -16,13 +16,12 @@ use Rattle.kt_store.specs.declared.store_fault.StoreFault.TheVariants.{StoreFull
 use Rattle.kt_suite.specs.declared.program.Program.{Program}
 use Rattle.kt_suite.specs.declared.fault.SuiteFault.{SuiteFault}
 use Rattle.kt_suite.specs.Answers.{Asked, Chain}
-use Rattle.kt_suite.specs.Paths.{name_in}
-use Rattle.kt_suite.specs.Registered.{Outcome, Registered}
+use Rattle.kt_suite.specs.Registered.{Outcome}
 use Rattle.kt_cli.specs.declared.command.Command.{Command}
 use Rattle.kt_cli.specs.declared.command.Command.TheVariants as command
 use Rattle.kt_cli.specs.Commands.{kyuafile_of}
 use Rattle.kt_cli.specs.FaultLines.{memory_line, fault_line, put_line, refusal_line}
-use Rattle.kt_cli.specs.Listings.{listing, listing_exit}
+use Rattle.kt_cli.specs.Listings.{listing, listing_exit, Loads}
 use Rattle.kt_cli.specs.Plans.{plan_of}
 use Rattle.kt_cli.specs.Recordings.{AllRecorded, IsStopped}
 use Rattle.kt_cli.specs.Reports.{Reported, ReportedJunit, Unread, JunitCut}
@@ -75,7 +74,7 @@ pub data TestCut (plan : List Job) (moment : ℕ) (T : Trace) (runs : List Run) 
 -- the tree registers these programs, whose plan it is, and the host told one moment
 pub record IsBegun (seen : Seen) (kyuafile : List ℕ) (moment : ℕ) : Type 0 where
   pub programs : List Program
-  pub registered : Registered seen.asked (name_in kyuafile) (Ok programs)
+  pub loads : Loads kyuafile seen.asked (Ok programs)
   pub told : seen.told ≡ Now moment ∷ []
   pub plan : seen.plan ≡ plan_of programs
 
@@ -92,9 +91,9 @@ pub record IsUnasked (seen : Seen) : Type 0 where
 
 -- what one command means
 pub data Means (seen : Seen) (runs : List Run) : Command → Deed → Type 0 where
-  listed : (kyuafile : List ℕ) (outcome : Outcome) → Registered seen.asked (name_in kyuafile) outcome → IsTreeAlone seen
+  listed : (kyuafile : List ℕ) (outcome : Outcome) → Loads kyuafile seen.asked outcome → IsTreeAlone seen
       → Means seen runs (command.List kyuafile) (record { runs = runs; bytes = utf8 (listing outcome); exit = listing_exit outcome; beside = λ may. may })
-  untested : (kyuafile : List ℕ) (fault : SuiteFault) → Registered seen.asked (name_in kyuafile) (Err fault) → IsTreeAlone seen
+  untested : (kyuafile : List ℕ) (fault : SuiteFault) → Loads kyuafile seen.asked (Err fault) → IsTreeAlone seen
       → Means seen runs (command.Test kyuafile) (record { runs = runs; bytes = utf8 (fault_line fault); exit = 2; beside = λ may. may })
   tested : (kyuafile : List ℕ) (moment : ℕ) (deed : Deed) → IsBegun seen kyuafile moment → Tested seen.plan moment seen.trace runs deed
       → Means seen runs (command.Test kyuafile) deed

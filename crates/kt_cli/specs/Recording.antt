@@ -13,7 +13,7 @@ use Rattle.kt_cli.specs.Stores.{Moves, put_all}
 
 -- what a scheduler is told of a store's refusal
 abbrev pub sink_fault_of : StoreFault → SinkFault
-sink_fault_of NoMemory = Memory
+sink_fault_of (NoMemory shortage) = Memory
 sink_fault_of other = Other
 
 -- the store stands for some runs with these entries put into the run of a number

@@ -55,7 +55,7 @@ pub record RecordedNone (T : Trace) (entries refused : List Entry) : Type 0 wher
 abbrev pub RecordEnds : List Job → Trace → List Entry → List Entry → Result Totals RunFault → Type 0
 RecordEnds plan T entries refused (Ok totals) = RecordedAll plan T entries refused totals
 RecordEnds plan T entries refused (Err (SinkFailed fault)) = RecordedSome plan T entries refused
-RecordEnds plan T entries refused (Err NoMemory) = RecordedNone T entries refused
+RecordEnds plan T entries refused (Err (NoMemory refusal)) = RecordedNone T entries refused
 
 -- the launcher's answers, and the entries that were put into the run of a number and told, in the order of the puts, and the one whose put was refused
 pub record Records {L R : Type 0} (starts : L → Job → Role → StartAnswer → L → Type 0) (waits : L → Ended → L → Type 0) (Stands : R → List Run → Type 0) (Sound : R → Type 0) (Leaves : R → List (List Run) → Type 0) (plan : List Job) (number : ℕ) (old new : L) (store after : R) (was now : Option (List ℕ)) (answer : Result Totals RunFault) (failed : Bool) : Type 0 where

@@ -13,7 +13,7 @@ place_line = codes "kyua: E: no work directory\n"
 
 -- why there is no driver
 abbrev pub driver_line : DriverFault → List ℕ
-driver_line driver.NoMemory = memory_line
+driver_line (driver.NoMemory refusal) = memory_line
 driver_line driver.NoWorkDirectory = place_line
 
 -- a word of a results filter is no kind
@@ -26,7 +26,7 @@ number_line = codes "kyua: E: bad run number\n"
 
 -- why words are no command line: what `clap` says of them, or a line of ours
 abbrev pub command_text : CommandFault → List ℕ
-command_text command.NoMemory = memory_line
+command_text (command.NoMemory shortage) = memory_line
 command_text (command.Usage text) = text
 command_text command.BadKind = filter_line
 command_text command.BadRun = number_line
@@ -41,7 +41,7 @@ wrong_words_exit = 3
 
 -- the exit of a command line that was refused
 abbrev pub command_exit : CommandFault → ℕ
-command_exit command.NoMemory = failure_exit
+command_exit (command.NoMemory shortage) = failure_exit
 command_exit other = wrong_words_exit
 
 -- bytes were given to a writer, which holds a prefix where it failed, and the exit is the same either way

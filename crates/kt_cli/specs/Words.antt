@@ -48,7 +48,7 @@ kinds_named (w ∷ ws) = with_kind (kind_named w) (kinds_named ws)
 abbrev pub ReadsKinds : List ℕ → Result (List Kind) CommandFault → Type 0
 ReadsKinds text (Ok kinds) = kinds_named (comma_words text) ≡ Some kinds
 ReadsKinds text (Err fault.BadKind) = kinds_named (comma_words text) ≡ None
-ReadsKinds text (Err fault.NoMemory) = ⊤
+ReadsKinds text (Err (fault.NoMemory shortage)) = ⊤
 ReadsKinds text (Err fault.BadRun) = ⊥
 ReadsKinds text (Err (fault.Usage told)) = ⊥
 

@@ -1,5 +1,6 @@
 use clap::{Arg, ArgAction};
-use std::alloc::{AllocError, Global};
+use kt_base::NoMemory;
+use std::alloc::Global;
 
 /// The Kyuafile, unless `-k` names another.
 const KYUAFILE: &str = "Kyuafile";
@@ -56,48 +57,59 @@ fn kinds_word<'a>(alloc: Global) -> Arg<'a> {
 }
 
 /// `list [-k FILE] [--work=DIR]`, as kyua-list(1) has it but for `--work`.
-fn list_words<'a>(alloc: Global) -> Result<clap::Command<'a>, AllocError> {
-    clap::Command::new(alloc, "list")
-        .about("Lists the test cases that a Kyuafile registers")
-        .arg(kyuafile_word(alloc))?
-        .arg(work_word(alloc))
+fn list_words<'a>(alloc: Global) -> Result<clap::Command<'a>, NoMemory> {
+    Ok(
+        clap::Command::new(alloc, "list")
+            .about("Lists the test cases that a Kyuafile registers")
+            .arg(kyuafile_word(alloc))?
+            .arg(work_word(alloc))?,
+    )
 }
 
 /// `test [-k FILE] [-r FILE] [--work=DIR]`, as kyua-test(1) has it but for `--work`.
-fn test_words<'a>(alloc: Global) -> Result<clap::Command<'a>, AllocError> {
-    clap::Command::new(alloc, "test")
-        .about("Runs the test cases that a Kyuafile registers")
-        .arg(kyuafile_word(alloc))?
-        .arg(results_word(alloc))?
-        .arg(work_word(alloc))
+fn test_words<'a>(alloc: Global) -> Result<clap::Command<'a>, NoMemory> {
+    Ok(
+        clap::Command::new(alloc, "test")
+            .about("Runs the test cases that a Kyuafile registers")
+            .arg(kyuafile_word(alloc))?
+            .arg(results_word(alloc))?
+            .arg(work_word(alloc))?,
+    )
 }
 
 /// `report [-r FILE] [--run=N] [--results-filter=K,..]`, as kyua-report(1) has it but for `--run`.
-fn report_words<'a>(alloc: Global) -> Result<clap::Command<'a>, AllocError> {
-    clap::Command::new(alloc, "report")
-        .about("Shows a run as a text")
-        .arg(results_word(alloc))?
-        .arg(run_word(alloc))?
-        .arg(kinds_word(alloc))
+fn report_words<'a>(alloc: Global) -> Result<clap::Command<'a>, NoMemory> {
+    Ok(
+        clap::Command::new(alloc, "report")
+            .about("Shows a run as a text")
+            .arg(results_word(alloc))?
+            .arg(run_word(alloc))?
+            .arg(kinds_word(alloc))?,
+    )
 }
 
 /// `report-junit [-r FILE] [--run=N]`, as kyua-report-junit(1) has it but for `--run`.
-fn junit_words<'a>(alloc: Global) -> Result<clap::Command<'a>, AllocError> {
-    clap::Command::new(alloc, "report-junit")
-        .about("Shows a run as a JUnit report")
-        .arg(results_word(alloc))?
-        .arg(run_word(alloc))
+fn junit_words<'a>(alloc: Global) -> Result<clap::Command<'a>, NoMemory> {
+    Ok(
+        clap::Command::new(alloc, "report-junit")
+            .about("Shows a run as a JUnit report")
+            .arg(results_word(alloc))?
+            .arg(run_word(alloc))?,
+    )
 }
 
 /// The whole command line, without the program's own name.
-pub fn all_words<'a>(alloc: Global) -> Result<clap::Command<'a>, AllocError> {
-    clap::Command::new(alloc, "kyua")
-        .about("Runs test programs and tells their results")
-        .no_binary_name(true)
-        .subcommand_required(true)
-        .disable_help_subcommand(true)
-        .subcommand(list_words(alloc)?)?
-        .subcommand(test_words(alloc)?)?
-        .subcommand(report_words(alloc)?)?
-        .subcommand(junit_words(alloc)?)
+pub fn all_words<'a>(alloc: Global) -> Result<clap::Command<'a>, NoMemory> {
+    Ok(
+        clap::Command::new(alloc, "kyua")
+            .about("Runs test programs and tells their results")
+            .bin_name("kyua")?
+            .no_binary_name(true)
+            .subcommand_required(true)
+            .disable_help_subcommand(true)
+            .subcommand(list_words(alloc)?)?
+            .subcommand(test_words(alloc)?)?
+            .subcommand(report_words(alloc)?)?
+            .subcommand(junit_words(alloc)?)?,
+    )
 }

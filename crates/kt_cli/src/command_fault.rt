@@ -1,14 +1,54 @@
-use kt_base::Text;
+ghost use Rattle.std.specs.Prelude.{◌≡◌};
+ghost use Rattle.kt_cli.specs.declared.command_fault.CommandFault.TheVariants as fault;
 
-/// Why a command line was refused.
-#[derive(Debug, Drop)]
+use clap::error::ErrorKind;
+use kt_base::{NoMemory, Text};
+use std::alloc::Global;
+use thiserror::Error;
+
+/// Memory ran out while words were read. Only a refusal of the allocator, or of `clap`, makes this value.
+#[derive(Clone, Copy, Debug, PartialEq, Eq)]
+pub struct Shortage {
+    refusal: Refusal,
+}
+
+/// A type of this module alone, so that no other can write a `Shortage`.
+#[derive(Clone, Copy, Debug, PartialEq, Eq)]
+struct Refusal;
+
+/// Why a command line was refused. `Display` is the text of the fault line (this profile), or what `clap` says.
+#[derive(Debug, Drop, Error)]
 pub enum CommandFault {
-    /// A growth was refused for want of memory.
-    NoMemory,
+    #[error("out of memory")]
+    NoMemory(Shortage),
     /// The words are no command; this is what `clap` says of them, or the help that was asked for.
+    #[error("{}", .0.as_str())]
     Usage(Text),
     /// A word of a results filter is none of `passed`, `skipped`, `xfail`, `broken` and `failed`.
+    #[error("bad results filter")]
     BadKind,
     /// The number of a run isn't decimal digits, 1 to 1,000,000.
+    #[error("bad run number")]
     BadRun,
+}
+
+impl From<NoMemory> for CommandFault {
+    ghost from_gives = { λ _ e. e ≡ fault.NoMemory (record { refusal = record {} }) };
+
+    fn from(_refusal: NoMemory) -> CommandFault {
+        CommandFault::NoMemory(Shortage { refusal: Refusal })
+    }
+}
+
+impl CommandFault {
+    /// What `clap` says of words that are no command.
+    pub(crate) fn of_words(alloc: Global, error: clap::Error) -> CommandFault {
+        if error.kind() == ErrorKind::OutOfMemory {
+            return CommandFault::NoMemory(Shortage { refusal: Refusal });
+        }
+        match error.to_string(alloc) {
+            Ok(text) => CommandFault::Usage(Text::from_string(text)),
+            Err(refusal) => CommandFault::from(NoMemory::from(refusal)),
+        }
+    }
 }

@@ -5,9 +5,9 @@ use crate::command::Command;
 use crate::exit::Exit;
 use crate::listing::list;
 use crate::reporting::{report, report_junit};
-use crate::result_store::ResultStore;
 use crate::testing::test;
 use crate::world::World;
+use kt_store::ResultStore;
 use std::alloc::Global;
 use std::io::Write;
 

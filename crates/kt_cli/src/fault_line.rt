@@ -17,7 +17,7 @@ fn script_words(fault: ScriptFault) -> &'static str
     ensures { result.now ≡ script_text fault }
 {
     match fault {
-        ScriptFault::NoMemory => "out of memory",
+        ScriptFault::NoMemory(_) => "out of memory",
         ScriptFault::NotUtf8 => "not UTF-8",
         ScriptFault::BadToken(_) => "bad token",
         ScriptFault::NotLiteral(_) => "not in the literal profile",
@@ -31,7 +31,7 @@ fn cause_words(cause: SuiteCause) -> &'static str
     ensures { result.now ≡ fixed_text cause }
 {
     match cause {
-        SuiteCause::NoMemory => "out of memory",
+        SuiteCause::NoMemory(_) => "out of memory",
         SuiteCause::NoSyntax => "syntax(2) expected",
         SuiteCause::WrongSyntax(_) => "",
         SuiteCause::UnknownCall => "unknown call",
@@ -39,6 +39,9 @@ fn cause_words(cause: SuiteCause) -> &'static str
         SuiteCause::BadValue => "bad value",
         SuiteCause::NoSuite => "no test suite",
         SuiteCause::PathHasDirectory => "program name has a directory",
+        SuiteCause::BadInclude => "bad include path",
+        SuiteCause::IncludeLoop => "include loop",
+        SuiteCause::TooDeep => "includes too deep",
         SuiteCause::MissingProgram => "program not found",
         SuiteCause::Unreadable => "file could not be read",
         SuiteCause::TooMany => "too many programs or files",
@@ -92,7 +95,7 @@ pub fn say_refusal<O: Write>(failed: bool, fault: StoreFault, out: &mut O) -> bo
     ensures { Says (O.contents out.old) failed (O.contents out.new) result (utf8 (refusal_line fault)) }
 {
     match fault {
-        StoreFault::NoMemory => say_memory(failed, out),
+        StoreFault::NoMemory(_) => say_memory(failed, out),
         _ => say_store(failed, out),
     }
 }
@@ -114,7 +117,7 @@ pub fn say_fault<O: Write>(fault: &SuiteFault, out: &mut O) -> bool
     ensures { Shows (O.contents out.old) (O.contents out.new) result (utf8 (fault_line fault.now)) }
 {
     match fault.cause {
-        SuiteCause::NoMemory => say_memory(false, out),
+        SuiteCause::NoMemory(_) => say_memory(false, out),
         _ => say_placed(fault, out),
     }
 }

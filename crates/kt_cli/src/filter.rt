@@ -54,9 +54,7 @@ pub fn kinds_in(alloc: Global, words: &[u8]) -> Result<Items<Kind>, CommandFault
         let Some(kind) = kind_of(word) else {
             return Err(CommandFault::BadKind);
         };
-        if kinds.push(kind).is_err() {
-            return Err(CommandFault::NoMemory);
-        }
+        kinds.push(kind)?;
         let Some((_, more)) = after.split_first() else {
             return Ok(kinds);
         };

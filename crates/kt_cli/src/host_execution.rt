@@ -13,10 +13,10 @@ use crate::exit::Exit;
 use crate::host_world::HostWorld;
 use crate::place::{is_absolute, source_of};
 use crate::reporting::{report, report_junit};
-use crate::result_store::ResultStore;
 use kt_base::Text;
 use kt_child::{Driver, DriverFault, Os};
 use kt_sched::Launcher;
+use kt_store::ResultStore;
 use kt_suite::split_path;
 use std::alloc::Global;
 use std::fs::File;
@@ -38,8 +38,9 @@ fn driver_of<O: Os + Drop>(
     if !is_absolute(work) {
         return Err(DriverFault::NoWorkDirectory);
     }
-    let Ok(source) = source_of(alloc, here, kyuafile) else {
-        return Err(DriverFault::NoMemory);
+    let source = match source_of(alloc, here, kyuafile) {
+        Ok(source) => source,
+        Err(refusal) => return Err(DriverFault::NoMemory(refusal)),
     };
     match Driver::new(alloc, os, work, source) {
         Ok(driver) => Ok(driver),
@@ -88,8 +89,9 @@ fn execute_over_files<
     let Some(work) = &line.work else {
         return Err(DriverFault::NoWorkDirectory);
     };
-    let Ok((directory, _)) = split_path(rt.alloc(), kyuafile) else {
-        return Err(DriverFault::NoMemory);
+    let directory = match split_path(rt.alloc(), kyuafile) {
+        Ok((directory, _)) => directory,
+        Err(refusal) => return Err(DriverFault::NoMemory(refusal)),
     };
     let driver = match driver_of(rt.alloc(), os, here, work, kyuafile) {
         Ok(driver) => driver,

@@ -2,7 +2,7 @@ ghost use Rattle.std.specs.Prelude.{◌≡◌, ◌≤◌, ◌<◌, Some, IfSome,
 ghost use Rattle.kt_cli.specs.HostFiles.{read_limit, TakesPiece};
 
 use crate::world::World;
-use kt_base::{Bytes, LATEST_MOMENT, Role, Text};
+use kt_base::{Bytes, LATEST_MOMENT, NoMemory, Role, Text};
 use kt_sched::{Ended, Job, Launcher, StartAnswer};
 use kt_suite::{ReadFault, Tree};
 use std::alloc::Global;
@@ -34,9 +34,11 @@ pub struct HostWorld<'a, R, L> {
 
 /// What is told of a system call that failed.
 fn fault_of(error: io::Error) -> ReadFault {
+    if let Some(refusal) = NoMemory::in_error(&error) {
+        return ReadFault::Memory(refusal);
+    }
     match error.kind() {
         ErrorKind::NotFound => ReadFault::Missing,
-        ErrorKind::OutOfMemory => ReadFault::Memory,
         _ => ReadFault::Failed,
     }
 }
@@ -53,7 +55,7 @@ fn read_piece<F: Read>(file: &mut F, room: &mut [u8], bytes: &mut Bytes) -> Resu
     };
     match bytes.append(&room[..count]) {
         Ok(()) => Ok(count),
-        Err(_) => Err(ReadFault::Memory),
+        Err(refusal) => Err(ReadFault::Memory(refusal)),
     }
 }
 

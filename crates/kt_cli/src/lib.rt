@@ -2,6 +2,7 @@
 #![tactic(auto)]
 
 mod arguments;
+mod closing;
 mod command;
 mod command_fault;
 mod command_line;
@@ -13,7 +14,6 @@ mod filter;
 mod held_bytes;
 mod host_execution;
 mod host_world;
-mod kept_results;
 mod line_output;
 mod listing;
 mod mem_runs;
@@ -26,13 +26,13 @@ mod programs;
 mod reading;
 mod recorder;
 mod reporting;
-mod result_store;
 mod sequence;
 mod telling;
 mod testing;
 mod totals;
 mod world;
 
+pub use closing::with_closed;
 pub use command::Command;
 pub use command_fault::CommandFault;
 pub use command_line::CommandLine;
@@ -43,8 +43,7 @@ pub use host_world::{HostWorld, read_start};
 pub use line_output::LineOutput;
 pub use mem_runs::MemRuns;
 pub use place::source_of;
-pub use reading::read_command;
-pub use result_store::ResultStore;
+pub use reading::{read_command, unreadable_words};
 pub use sequence::execute_all;
 pub use telling::{tell_command_fault, tell_driver_fault, tell_store_fault};
 pub use world::World;

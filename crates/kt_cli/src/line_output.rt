@@ -1,3 +1,4 @@
+use crate::exit::Exit;
 use crate::held_bytes::{HeldBytes, ROOM};
 use kt_base::send;
 use std::io;
@@ -103,6 +104,21 @@ impl<W: Write> Write for LineOutput<W> {
                 self.failed = true;
                 Err(fault)
             }
+        }
+    }
+}
+
+impl<W: Write> LineOutput<W> {
+    ghost use Rattle.std.specs.Prelude.{◌≡◌, ◌⊎◌, []};
+    ghost use Rattle.kt_cli.specs.LineOutputs.{unwritten};
+
+    /// The exit of a command that wrote here: what is still held is written, and where that fails the exit is 2.
+    pub fn finish(&mut self, exit: Exit) -> Exit
+        ensures { ((unwritten self.new ≡ []) × (result ≡ exit)) ⊎ (result.status ≡ 2) }
+    {
+        match self.flush() {
+            Ok(()) => exit,
+            Err(_fault) => Exit { status: 2 },
         }
     }
 }

@@ -1,7 +1,6 @@
 use crate::copies::{copy_of_entries, copy_of_entry};
-use crate::result_store::ResultStore;
 use kt_base::{Entry, Items, NoMemory, Run};
-use kt_store::{RunHead, StoreFault};
+use kt_store::{ResultStore, RunHead, StoreFault};
 use std::alloc::Global;
 use std::marker::Model;
 use std::mem;
@@ -60,7 +59,7 @@ impl MemRuns {
         };
         match self.runs.push(run) {
             Ok(()) => Ok(number),
-            Err(_) => Err(StoreFault::NoMemory),
+            Err(refusal) => Err(short(NoMemory::from(refusal))),
         }
     }
 
@@ -86,8 +85,8 @@ impl MemRuns {
         if let Some(fault) = refused_entry(run, entry.position) {
             return Err(fault);
         }
-        if add_copy(alloc, &mut run.entries, entry).is_err() {
-            return Err(StoreFault::NoMemory);
+        if let Err(refusal) = add_copy(alloc, &mut run.entries, entry) {
+            return Err(short(refusal));
         }
         Ok(())
     }
@@ -117,7 +116,7 @@ impl MemRuns {
         };
         match copy_of_entries(self.alloc, self.runs[place].entries.as_slice()) {
             Ok(entries) => Ok(entries),
-            Err(_) => Err(StoreFault::NoMemory),
+            Err(refusal) => Err(short(refusal)),
         }
     }
 
@@ -127,7 +126,7 @@ impl MemRuns {
     {
         match heads(self.alloc, &self.runs) {
             Ok(heads) => Ok(heads),
-            Err(_) => Err(StoreFault::NoMemory),
+            Err(refusal) => Err(short(refusal)),
         }
     }
 }
@@ -172,9 +171,17 @@ impl ResultStore for MemRuns {
 }
 
 ghost use Rattle.std.specs.Prelude.{◌≡◌, ◌≤◌, length, map, insert, OnOk, OnErr, IfOk};
+ghost use Rattle.kt_store.specs.Ask.{IsStoreFault};
 ghost use Rattle.kt_store.specs.Heads.{head_of};
 ghost use Rattle.kt_store.specs.Runs.{has_position, insert_at};
 ghost use Rattle.kt_cli.specs.MemoryRuns.{entry_refusal, closing_refusal, place_among};
+
+/// Memory ran out.
+fn short(refusal: NoMemory) -> StoreFault
+    ensures { IsStoreFault result }
+{
+    StoreFault::from(refusal)
+}
 
 fn head(run: &Run) -> RunHead
     ensures { result ≡ head_of run.now }
@@ -222,11 +229,9 @@ fn insert_entry(alloc: Global, entries: &mut Items<Entry>, entry: Entry) -> Resu
 {
     let mut kept = mem::replace(entries, Items::new(alloc)).into_vec();
     let place = place_among(&kept, entry.position);
-    let failed = kept.insert(place, entry).is_err();
+    let inserted = kept.insert(place, entry);
     *entries = Items::from_vec(kept);
-    if failed {
-        return Err(NoMemory);
-    }
+    inserted?;
     Ok(())
 }
 

@@ -1,11 +1,71 @@
-ghost use Rattle.std.specs.Prelude.{◌≡◌, ◌⊎◌, ◌≤◌, length, IfOk, Err};
+ghost use Rattle.std.specs.Prelude.{◌≡◌, ◌⊎◌, ◌≤◌, Ok, Err, length, IfOk};
 ghost use Rattle.kt_suite.specs.Answers.{Answered};
-ghost use Rattle.kt_suite.specs.Paths.{name_in};
-ghost use Rattle.kt_suite.specs.Registered.{no_memory, program_limit, Registered};
+ghost use Rattle.kt_suite.specs.Faults.{Blames, no_memory};
+ghost use Rattle.kt_suite.specs.Paths.{is_empty};
+ghost use Rattle.kt_suite.specs.Registered.{program_limit};
+ghost use Rattle.kt_cli.specs.Listings.{FindsUnready, Loads, RanShort, unready};
 
-use kt_base::{Items, Text};
+use kt_base::{Interface, Items, NoMemory, Text};
 use kt_suite::{Program, SuiteCause, SuiteFault, Tree, load, split_path};
 use std::alloc::Global;
+
+fn out_of_memory(alloc: Global, refusal: NoMemory) -> SuiteFault
+    ensures { result ≡ no_memory refusal }
+{
+    SuiteFault {
+        cause: SuiteCause::NoMemory(refusal),
+        path: Text::new(alloc),
+        line: 0,
+    }
+}
+
+/// Whether a text has no character.
+fn is_empty(text: &Text) -> bool
+    ensures { result ≡ is_empty text.now }
+{
+    text.as_str().is_empty()
+}
+
+/// The fault of a file as a whole.
+fn fault_of(alloc: Global, file: &Text, cause: SuiteCause) -> SuiteFault
+    ensures { Blames file.now 0 cause result }
+{
+    match file.copy() {
+        Ok(path) => SuiteFault {
+            cause,
+            path,
+            line: 0,
+        },
+        Err(refusal) => out_of_memory(alloc, refusal),
+    }
+}
+
+/// Why no command runs a program yet, if none does.
+fn unready(program: &Program) -> Option<SuiteCause>
+    ensures { result ≡ unready program.now.interface program.now.props }
+{
+    if matches!(program.interface, Interface::Atf) {
+        return Some(SuiteCause::UnknownCall);
+    }
+    if program.props.is_empty() {
+        return None;
+    }
+    Some(SuiteCause::UnknownProperty)
+}
+
+/// The first program that no command runs yet, as a fault.
+fn first_unready(alloc: Global, programs: &[Program]) -> Option<SuiteFault>
+    ensures { FindsUnready programs.now result }
+{
+    let mut rest = programs;
+    while let Some((program, after)) = rest.split_first() {
+        if let Some(cause) = unready(program) {
+            return Some(fault_of(alloc, &program.path, cause));
+        }
+        rest = after;
+    }
+    None
+}
 
 /// The programs that a Kyuafile registers, whose directory is the root of the tree.
 pub fn programs_of<T: Tree>(
@@ -13,15 +73,22 @@ pub fn programs_of<T: Tree>(
     kyuafile: &Text,
     tree: &mut T,
 ) -> Result<Items<Program>, SuiteFault>
-    ensures loaded { Answered T.asks tree.old tree.new (λ asked. (result ≡ Err no_memory) ⊎ Registered asked (name_in kyuafile.now) result) }
+    ensures loaded { Answered T.asks tree.old tree.new (λ asked. RanShort result ⊎ Loads kyuafile.now asked result) }
     ensures few { IfOk result (λ programs. length programs ≤ program_limit) }
 {
-    match split_path(alloc, kyuafile) {
-        Ok((_, root)) => load(alloc, tree, &root),
-        Err(_) => Err(SuiteFault {
-            cause: SuiteCause::NoMemory,
-            path: Text::new(alloc),
-            line: 0,
-        }),
+    let root = match split_path(alloc, kyuafile) {
+        Ok((_, root)) => root,
+        Err(refusal) => return Err(out_of_memory(alloc, refusal)),
+    };
+    if is_empty(&root) {
+        return Err(fault_of(alloc, kyuafile, SuiteCause::Unreadable));
+    }
+    let programs = match load(alloc, tree, &root) {
+        Ok(programs) => programs,
+        Err(fault) => return Err(fault),
+    };
+    match first_unready(alloc, programs.as_slice()) {
+        Some(fault) => Err(fault),
+        None => Ok(programs),
     }
 }

@@ -8,30 +8,20 @@ use crate::command_fault::CommandFault;
 use crate::command_line::CommandLine;
 use crate::filter::{default_kinds, kinds_in};
 use crate::numbers::run_number;
+use clap::ArgMatches;
 use clap::error::ErrorKind;
-use clap::{ArgMatches, Error};
-use kt_base::{Items, Kind, Text};
+use kt_base::{Items, Kind, NoMemory, Text};
 use std::alloc::Global;
 
-fn usage(alloc: Global, error: Error) -> CommandFault {
-    if error.kind() == ErrorKind::OutOfMemory {
-        return CommandFault::NoMemory;
-    }
-    match error.to_string(alloc) {
-        Ok(text) => CommandFault::Usage(Text::from_string(text)),
-        Err(_) => CommandFault::NoMemory,
-    }
-}
+/// What `clap` says of words that aren't UTF-8.
+const UNREADABLE: &str = "invalid UTF-8 was detected in one or more arguments";
 
 /// The value of an option that always has one, since `clap` gives it its default.
 fn text_of<'a>(alloc: Global, matches: &ArgMatches<'a>, name: &str) -> Result<Text, CommandFault> {
     let Some(word) = matches.get_str(name) else {
         return Err(CommandFault::Usage(Text::new(alloc)));
     };
-    match Text::from_str(alloc, word) {
-        Ok(text) => Ok(text),
-        Err(_) => Err(CommandFault::NoMemory),
-    }
+    Ok(Text::from_str(alloc, word)?)
 }
 
 /// The run that is asked for, if one is.
@@ -50,10 +40,7 @@ fn run_of<'a>(matches: &ArgMatches<'a>) -> Result<Option<u64>, CommandFault>
 fn kinds_of<'a>(alloc: Global, matches: &ArgMatches<'a>) -> Result<Items<Kind>, CommandFault> {
     match matches.get_str("kinds") {
         Some(words) => kinds_in(alloc, words.as_bytes()),
-        None => match default_kinds(alloc) {
-            Ok(kinds) => Ok(kinds),
-            Err(_) => Err(CommandFault::NoMemory),
-        },
+        None => Ok(default_kinds(alloc)?),
     }
 }
 
@@ -151,14 +138,26 @@ pub fn read_command<'a>(alloc: Global, words: &'a [String]) -> Result<CommandLin
     ensures number { IfOk result (λ line. HasRunNumber line.command) }
     ensures options { IfOk result (λ line. HasItsOptions line) }
 {
-    let command = match all_words(alloc) {
-        Ok(command) => command,
-        Err(_) => return Err(CommandFault::NoMemory),
-    };
+    let command = all_words(alloc)?;
     let matches = match command.try_get_matches_from(words) {
         Ok(matches) => matches,
-        Err(error) => return Err(usage(alloc, error)),
+        Err(error) => return Err(CommandFault::of_words(alloc, error)),
     };
     let line = read_matches(alloc, &matches)?;
     Ok(line)
+}
+
+/// Why words that aren't UTF-8 are no command line.
+fn refuse_words(alloc: Global) -> Result<CommandFault, NoMemory> {
+    let mut command = all_words(alloc)?;
+    let error = command.error(ErrorKind::ValueValidation, UNREADABLE)?;
+    Ok(CommandFault::of_words(alloc, error))
+}
+
+/// Why words that aren't UTF-8 are no command line, in the form of what `clap` says of others.
+pub fn unreadable_words(alloc: Global) -> CommandFault {
+    match refuse_words(alloc) {
+        Ok(fault) => fault,
+        Err(refusal) => CommandFault::from(refusal),
+    }
 }

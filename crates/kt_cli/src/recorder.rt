@@ -2,10 +2,9 @@ ghost use Rattle.std.specs.Prelude.{◌≡◌};
 ghost use Rattle.kt_cli.specs.Recording.{sink_fault_of};
 
 use crate::page::say_line;
-use crate::result_store::ResultStore;
 use kt_base::Entry;
 use kt_sched::{Sink, SinkFault};
-use kt_store::StoreFault;
+use kt_store::{ResultStore, StoreFault};
 use std::io::Write;
 
 /// Puts entries into a run of a store, and then tells each on a line.
@@ -24,7 +23,7 @@ fn sink_fault(fault: StoreFault) -> SinkFault
     ensures { result ≡ sink_fault_of fault }
 {
     match fault {
-        StoreFault::NoMemory => SinkFault::Memory,
+        StoreFault::NoMemory(_) => SinkFault::Memory,
         _ => SinkFault::Other,
     }
 }

@@ -11,10 +11,9 @@ use crate::exit::{Exit, ended};
 use crate::fault_line::{say_memory, say_refusal};
 use crate::not_shown::NotShown;
 use crate::page::{say_number, say_words};
-use crate::result_store::ResultStore;
 use kt_base::{Items, Kind, Run};
 use kt_report::{ReportFault, junit, text};
-use kt_store::RunHead;
+use kt_store::{ResultStore, RunHead};
 use std::alloc::Global;
 use std::io::Write;
 
@@ -125,6 +124,6 @@ pub fn report_junit<R: ResultStore, O: Write>(
     match junit(alloc, &run, out) {
         Ok(()) => ended(false, 0),
         Err(ReportFault::Output) => ended(true, 0),
-        Err(ReportFault::NoMemory) => ended(say_memory(false, out), 2),
+        Err(ReportFault::NoMemory(_)) => ended(say_memory(false, out), 2),
     }
 }

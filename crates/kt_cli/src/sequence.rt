@@ -5,9 +5,9 @@ ghost use Rattle.kt_cli.specs.Sequences.{DidAll};
 use crate::command::Command;
 use crate::execution::execute;
 use crate::exit::Exit;
-use crate::result_store::ResultStore;
 use crate::world::World;
 use kt_base::NoMemory;
+use kt_store::ResultStore;
 use std::alloc::Global;
 use std::io::Write;
 

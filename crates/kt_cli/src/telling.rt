@@ -29,7 +29,7 @@ fn say_driver_fault<O: Write>(fault: DriverFault, out: &mut O) -> bool
     ensures { Shows (O.contents out.old) (O.contents out.new) result (utf8 (driver_line fault)) }
 {
     match fault {
-        DriverFault::NoMemory => say_memory(false, out),
+        DriverFault::NoMemory(_) => say_memory(false, out),
         DriverFault::NoWorkDirectory => say_no_place(out),
     }
 }
@@ -64,7 +64,7 @@ fn say_command_fault<O: Write>(fault: &CommandFault, out: &mut O) -> bool
     ensures { Shows (O.contents out.old) (O.contents out.new) result (utf8 (command_text fault.now)) }
 {
     match fault {
-        CommandFault::NoMemory => say_memory(false, out),
+        CommandFault::NoMemory(_) => say_memory(false, out),
         CommandFault::Usage(text) => say_text(false, text, out),
         CommandFault::BadKind => say_bad_kind(out),
         CommandFault::BadRun => say_bad_run(out),
@@ -75,7 +75,7 @@ fn status_of(fault: &CommandFault) -> u8
     ensures { result ≡ command_exit fault.now }
 {
     match fault {
-        CommandFault::NoMemory => FAILED,
+        CommandFault::NoMemory(_) => FAILED,
         _ => WRONG_WORDS,
     }
 }

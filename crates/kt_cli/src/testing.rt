@@ -12,11 +12,11 @@ use crate::fault_line::{say_fault, say_memory, say_put, say_refusal};
 use crate::planning::make_plan;
 use crate::programs::programs_of;
 use crate::recorder::Recorder;
-use crate::result_store::ResultStore;
 use crate::totals::say_totals;
 use crate::world::World;
 use kt_base::{Items, Text};
 use kt_sched::{Job, Launcher, RunFault, Totals, run_cases};
+use kt_store::ResultStore;
 use std::alloc::Global;
 use std::io::Write;
 
@@ -78,7 +78,7 @@ fn run_plan<L: Launcher, R: ResultStore, O: Write>(
     };
     let (answer, failed) = record_cases(alloc, plan, launcher, results, number, out);
     match answer {
-        Err(RunFault::NoMemory) => ended(say_memory(failed, out), 2),
+        Err(RunFault::NoMemory(_refusal)) => ended(say_memory(failed, out), 2),
         Err(RunFault::SinkFailed(fault)) => ended(say_put(failed, fault, out), 2),
         Ok(totals) => match results.finish(number) {
             Err(fault) => ended(say_refusal(failed, fault, out), 2),

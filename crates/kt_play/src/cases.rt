@@ -5,7 +5,7 @@ use kt_base::{Interface, Items, NoMemory, Text, Variables};
 use kt_sched::Job;
 use std::alloc::Global;
 
-/// A plan of the program `d/p` with a case a letter, whose limit is given in seconds: `p` of a plain program, `t` of a TAP program,
+/// A plan of the program `d/p` with a case a letter, up to 1,000,000 of them, whose limit is given in seconds: `p` of a plain program, `t` of a TAP program,
 /// `a` and `c` of an ATF program, `c` with a cleanup.
 pub fn cases_of(
     alloc: Global,
@@ -21,7 +21,7 @@ pub fn cases_of(
     let mut position: u32 = 0;
     for letter in letters {
         if position >= 1_000_000 {
-            return Err(NoMemory);
+            break;
         }
         jobs.push(job_of(alloc, position, *letter, limit, variables)?)?;
         position += 1;

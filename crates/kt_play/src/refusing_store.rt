@@ -1,6 +1,7 @@
-use kt_base::Entry;
-use kt_cli::{MemRuns, ResultStore};
-use kt_store::{RunHead, StoreFault};
+use kt_base::{Entry, NoMemory};
+use kt_cli::MemRuns;
+use kt_store::{ResultStore, RunHead, StoreFault};
+use sqlite::{Error, ErrorCode};
 use std::alloc::Global;
 
 /// Runs in memory, of which some calls are refused.
@@ -11,21 +12,22 @@ pub struct RefusingStore {
     calls: u64,
     /// The calls from the first number on, counted from 1, up to the second one are refused.
     refused: (u64, u64),
-    /// Whether they are refused for want of memory.
-    wants_memory: bool,
+    /// Why memory ran out, if they are refused for that.
+    shortage: Option<NoMemory>,
 }
 
 impl RefusingStore {
     ghost use Rattle.std.specs.Prelude.{◌≡◌};
     ghost use Rattle.kt_store.specs.Ask.{IsStoreFault};
 
-    /// No runs. The calls from the first number to the last are refused, counted from 1.
-    pub fn new(alloc: Global, refused: (u64, u64), wants_memory: bool) -> RefusingStore {
+    /// No runs. The calls from the first number to the last are refused, counted from 1, for a lack of memory or, without
+    /// one, because the store failed.
+    pub fn new(alloc: Global, refused: (u64, u64), shortage: Option<NoMemory>) -> RefusingStore {
         RefusingStore {
             runs: MemRuns::new(alloc),
             calls: 0,
             refused,
-            wants_memory,
+            shortage,
         }
     }
 
@@ -33,10 +35,9 @@ impl RefusingStore {
     fn fault(&self) -> StoreFault
         ensures { IsStoreFault result }
     {
-        if self.wants_memory {
-            StoreFault::NoMemory
-        } else {
-            StoreFault::Store
+        match self.shortage {
+            Some(refusal) => StoreFault::from(refusal),
+            None => StoreFault::from(Error::SqliteFailure(ErrorCode::SystemIoFailure)),
         }
     }
 

@@ -1,4 +1,5 @@
 use crate::scene::{Holding, bytes_at};
+use crate::shortage::ask_too_much;
 use kt_base::{Bytes, LATEST_MOMENT, Role, Text};
 use kt_cli::World;
 use kt_sched::{Ended, Job, Launcher, StartAnswer};
@@ -60,14 +61,20 @@ impl<L: Launcher> Tree for ScriptedWorld<'_, L> {
 
     fn read(&mut self, path: &Text) -> Result<Bytes, ReadFault> {
         if is_among(self.stage.dear.as_slice(), path) {
-            return Err(ReadFault::Memory);
+            if let Err(refusal) = ask_too_much(self.alloc) {
+                return Err(ReadFault::Memory(refusal));
+            }
+            return Err(ReadFault::Failed);
         }
         if is_among(self.stage.locked.as_slice(), path) {
             return Err(ReadFault::Failed);
         }
         match bytes_at(self.stage.files.as_slice(), path.as_str()) {
             None => Err(ReadFault::Missing),
-            Some(bytes) => Bytes::from_slice(self.alloc, bytes).map_err(|_| ReadFault::Memory),
+            Some(bytes) => match Bytes::from_slice(self.alloc, bytes) {
+                Ok(bytes) => Ok(bytes),
+                Err(refusal) => Err(ReadFault::Memory(refusal)),
+            },
         }
     }
 

@@ -1,20 +1,22 @@
 //! The program `kyua`: words in, a command done over the host, an exit status out.
 #![tactic(auto)]
 
-use kt_base::Text;
+use kt_base::{NoMemory, Text};
 use kt_child::{DriverFault, HostOs};
 use kt_cli::{
-    CommandFault, CommandLine, LineOutput, MemRuns, ResultStore, execute_on_host, read_command,
-    tell_command_fault, tell_driver_fault, tell_store_fault,
+    CommandFault, CommandLine, Exit, LineOutput, MemRuns, execute_on_host, read_command,
+    tell_command_fault, tell_driver_fault, tell_store_fault, unreadable_words, with_closed,
 };
-use kt_store::{Results, StoreFault};
-use sqlite::{Connection, Error, ErrorCode, File as StoreFile, FileStore};
-use std::io::{ErrorKind, Write};
+use kt_store::{ResultStore, Results, StoreFault};
+use sqlite::{Connection, File as StoreFile, FileStore};
+use std::fs::{OpenOptions, Permissions};
+use std::io::Write;
+use std::os::unix::fs::PermissionsExt;
 use std::process::ExitCode;
-use std::{env, io};
+use std::{env, fs, io};
 
-/// The status where something failed.
-const FAILED: u8 = 2;
+/// The rights of its owner to read and write a file.
+const OWNER_RIGHTS: u32 = 0o600;
 
 /// The absolute working directory, for a command that makes work directories.
 fn here(rt: &HostRuntime, line: &CommandLine) -> Result<Text, DriverFault> {
@@ -22,18 +24,36 @@ fn here(rt: &HostRuntime, line: &CommandLine) -> Result<Text, DriverFault> {
         return Ok(Text::new(rt.alloc()));
     }
     match env::current_dir(rt) {
-        Ok(here) => Text::from_str(rt.alloc(), here.as_str()).map_err(|_| DriverFault::NoMemory),
-        Err(error) if error.kind() == ErrorKind::OutOfMemory => Err(DriverFault::NoMemory),
-        Err(_) => Err(DriverFault::NoWorkDirectory),
+        Ok(here) => Text::from_str(rt.alloc(), here.as_str()).map_err(DriverFault::NoMemory),
+        Err(error) => match NoMemory::in_error(&error) {
+            Some(refusal) => Err(DriverFault::NoMemory(refusal)),
+            None => Err(DriverFault::NoWorkDirectory),
+        },
     }
 }
 
-/// What is told of a file that can't be opened.
-fn fault_of(error: Error) -> StoreFault {
-    match error {
-        Error::SqliteFailure(ErrorCode::OutOfMemory) => StoreFault::NoMemory,
-        _ => StoreFault::Store,
+/// The path of the log beside a file of results.
+fn log_of(file: &Text) -> Result<Text, NoMemory> {
+    let mut log = file.copy()?;
+    log.push_str("-wal")?;
+    Ok(log)
+}
+
+/// Makes a file if there is none. Its owner gets the rights to read and write it, which the umask may have kept back, unless
+/// it is another's. Returns false if the path is no regular file; why it can't be made is told when it is opened.
+fn prepare_file(rt: &HostRuntime, path: &str) -> bool {
+    let _ = OpenOptions::new()
+        .write(true)
+        .create_new(true)
+        .open(rt, path);
+    let Ok(metadata) = fs::metadata(rt, path) else {
+        return false;
+    };
+    let mode = metadata.permissions().mode();
+    if metadata.is_file() && mode & OWNER_RIGHTS != OWNER_RIGHTS {
+        let _ = fs::set_permissions(rt, path, Permissions::from_mode(mode | OWNER_RIGHTS));
     }
+    metadata.is_file()
 }
 
 /// Opens the results in a file, and makes them where there is none.
@@ -41,86 +61,99 @@ fn open_results(
     rt: &HostRuntime,
     file: &Text,
 ) -> Result<Results<FileStore<StoreFile>>, StoreFault> {
-    let connection = match Connection::open(rt, file.as_str()) {
-        Ok(connection) => connection,
-        Err(error) => return Err(fault_of(error)),
-    };
-    if !connection.is_autocommit() {
-        return Err(StoreFault::Store);
+    let log = log_of(file)?;
+    if prepare_file(rt, file.as_str()) {
+        prepare_file(rt, log.as_str());
     }
+    let connection = Connection::open(rt, file.as_str())?;
     match Results::attach(rt.alloc(), connection) {
         Ok(results) => Ok(results),
         Err((fault, _)) => Err(fault),
     }
 }
 
-/// Does a command line over the host and a store, and writes its text on standard output, line for line.
-fn perform<S: ResultStore>(
+/// Copies the log into the file of the results, so that the file alone has every run, and closes both.
+fn close_results(results: Results<FileStore<StoreFile>>) -> Result<(), StoreFault> {
+    Ok(results.detach().close()?)
+}
+
+/// Does a command line over the host and a store.
+fn perform<S: ResultStore, W: Write>(
     rt: &HostRuntime,
     line: &CommandLine,
     results: &mut S,
-) -> Result<u8, DriverFault> {
-    let here = here(rt, line)?;
+    out: &mut W,
+) -> Exit {
+    let here = match here(rt, line) {
+        Ok(here) => here,
+        Err(fault) => return tell_driver_fault(fault, out),
+    };
+    match execute_on_host(rt, HostOs::new(rt), here.as_str(), line, results, out) {
+        Ok(exit) => exit,
+        Err(fault) => tell_driver_fault(fault, out),
+    }
+}
+
+/// Does a command line over the results in a file, which is closed whatever was done.
+fn perform_in_file<W: Write>(
+    rt: &HostRuntime,
+    line: &CommandLine,
+    file: &Text,
+    out: &mut W,
+) -> Exit {
+    let mut results = match open_results(rt, file) {
+        Ok(results) => results,
+        Err(fault) => return tell_store_fault(fault, out),
+    };
+    let exit = perform(rt, line, &mut results, out);
+    let closed = close_results(results);
+    with_closed(exit, closed, out)
+}
+
+/// Does a command line over its own store, that of its file or an empty one in memory, and writes its text on standard
+/// output, line for line.
+fn perform_line(rt: &HostRuntime, line: &CommandLine) -> Exit {
     let mut out = LineOutput::new(io::writer(rt));
-    let exit = execute_on_host(rt, HostOs::new(rt), here.as_str(), line, results, &mut out)?;
-    match out.flush() {
-        Ok(()) => Ok(exit.status),
-        Err(_) => Ok(FAILED),
-    }
-}
-
-/// Does a command line over a store, or tells why there is no driver for it.
-fn perform_over<S: ResultStore>(rt: &HostRuntime, line: &CommandLine, results: &mut S) -> u8 {
-    match perform(rt, line, results) {
-        Ok(status) => status,
-        Err(fault) => tell_driver_fault(fault, &mut io::writer(rt)).status,
-    }
-}
-
-/// Does a command line over its own store: that of its file, or an empty one in memory.
-fn perform_line(rt: &HostRuntime, line: &CommandLine) -> u8 {
-    let Some(file) = &line.results else {
-        return perform_over(rt, line, &mut MemRuns::new(rt.alloc()));
+    let exit = match &line.results {
+        Some(file) => perform_in_file(rt, line, file, &mut out),
+        None => perform(rt, line, &mut MemRuns::new(rt.alloc()), &mut out),
     };
-    match open_results(rt, file) {
-        Ok(mut results) => perform_over(rt, line, &mut results),
-        Err(fault) => tell_store_fault(fault, &mut io::writer(rt)).status,
-    }
+    out.finish(exit)
 }
 
-/// The words after the program's own name.
-fn words(rt: &HostRuntime) -> io::Result<Vec<String>> {
-    Ok(env::args(rt)?.skip(1).collect(rt.alloc())?)
-}
-
-/// The command line that the words are.
+/// The command line that the words after the program's own name are.
 fn read_line(rt: &HostRuntime) -> Result<CommandLine, CommandFault> {
-    let words = match words(rt) {
-        Ok(words) => words,
-        Err(error) if error.kind() == ErrorKind::OutOfMemory => {
-            return Err(CommandFault::NoMemory);
-        }
-        // Words that can't be read are a wrong command line, as no word at all is.
-        Err(_) => Vec::new(rt.alloc()),
+    let arguments = match env::args(rt) {
+        Ok(arguments) => arguments,
+        Err(error) => return Err(refused_words(rt, &error)),
     };
+    let words: Vec<String> = arguments
+        .skip(1)
+        .collect(rt.alloc())
+        .map_err(NoMemory::from)?;
     read_command(rt.alloc(), words.as_slice())
 }
 
-/// Tells of a wrong command line on standard error; want of memory goes where all else goes.
-fn refuse(rt: &HostRuntime, fault: &CommandFault) -> u8 {
-    match fault {
-        CommandFault::NoMemory => tell_command_fault(fault, &mut io::writer(rt)).status,
-        _ => tell_command_fault(fault, &mut rt.stderr()).status,
+/// Why words that can't be had are no command line.
+fn refused_words(rt: &HostRuntime, error: &io::Error) -> CommandFault {
+    match NoMemory::in_error(error) {
+        Some(refusal) => CommandFault::from(refusal),
+        None => unreadable_words(rt.alloc()),
     }
 }
 
-fn run(rt: &HostRuntime) -> u8 {
-    match read_line(rt) {
-        Ok(line) => perform_line(rt, &line),
-        Err(fault) => refuse(rt, &fault),
+/// Tells of a wrong command line on standard error; an out-of-memory error goes to standard output, as every other message.
+fn refuse(rt: &HostRuntime, fault: &CommandFault) -> Exit {
+    match fault {
+        CommandFault::NoMemory(_) => tell_command_fault(fault, &mut io::writer(rt)),
+        _ => tell_command_fault(fault, &mut rt.stderr()),
     }
 }
 
 fn main(rt: HostRuntime) -> ExitCode {
-    ExitCode::from(run(&rt))
+    let exit = match read_line(&rt) {
+        Ok(line) => perform_line(&rt, &line),
+        Err(fault) => refuse(&rt, &fault),
+    };
+    ExitCode::from(exit.status)
 }

@@ -20,8 +20,8 @@ returns-in-Ok-new-clause-made g c =
 pub returns-then-not-is_absolute-clause-refused : goal.returns-then-not-is_absolute-clause-refused
 returns-then-not-is_absolute-clause-refused g c = not_absolute c.args.work.now (search rules)
 
-pub returns-in_default-clause-refused : goal.returns-in_default-clause-refused
-returns-in_default-clause-refused g c = no_memory _
+pub returns-in-Err-clause-refused : goal.returns-in-Err-clause-refused
+returns-in-Err-clause-refused g c = no_memory _ _
 
 pub returns-clause-refused : goal.returns-clause-refused
-returns-clause-refused g c = no_root g.O.Os.leads c.args.os _ c.args.work.now c.in-Err.fault c.in-Err.ensures
+returns-clause-refused g c = no_root g.O.Os.leads c.args.os _ c.args.work.now c.in-Err-new.fault c.in-Err-new.ensures

@@ -6,8 +6,8 @@ use Rattle.kt_cli.specs.MemoryRuns.{place_among}
 use Rattle.kt_cli.proofs.MemoryLaws.{inserted, place_within}
 use Rattle.kt_cli.proofs.mem_runs.insert_entry.Goals as goal
 
-pub insert-requires : goal.insert-requires
-insert-requires c =
+pub insert-inserted-requires : goal.insert-inserted-requires
+insert-inserted-requires c =
     let e : c.place_among-place.result ≡ place_among c.args.entry.position c.into_vec-kept.result.items = search rules in
     let l : length c.into_vec-kept.result.items ≡ c.into_vec-kept.result.len = search rules in
     subst (λ (n : ℕ). n ≤ c.into_vec-kept.result.len) (sym e) (subst (λ (n : ℕ). place_among c.args.entry.position c.into_vec-kept.result.items ≤ n) l (place_within c.args.entry.position c.into_vec-kept.result.items))

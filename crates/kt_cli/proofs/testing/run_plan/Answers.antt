@@ -12,10 +12,10 @@ returns-in-Err-clause-ran g c =
 
 pub returns-in-Err-NoMemory-clause-ran : goal.returns-in-Err-NoMemory-clause-ran
 returns-in-Err-NoMemory-clause-ran g c =
-    let a : c.record_cases-answer.result.0 ≡ Err NoMemory = search rules in
+    let a : c.record_cases-answer.result.0 ≡ Err (NoMemory c.in-Err-NoMemory._refusal) = search rules in
     let t : c.len-total.result ≡ length c.args.plan = search rules in
     let b = c.in-Ok.ensures in
-    ran_none g.L.Launcher.starts g.L.Launcher.waits g.R.ResultStore.stands g.R.ResultStore.sound g.R.ResultStore.leaves g.met.R.ResultStore.numbered _ _ _ _ _ _ _ _ _ _ _ _ _ _ _ b.added b.number b.earlier b.durable t _ c.record_cases-answer.ensures.records a c.say_memory.ensures c.ended-in-Err-NoMemory.ensures
+    ran_none g.L.Launcher.starts g.L.Launcher.waits g.R.ResultStore.stands g.R.ResultStore.sound g.R.ResultStore.leaves g.met.R.ResultStore.numbered _ _ _ _ _ _ _ _ _ _ _ _ _ _ _ b.added b.number b.earlier b.durable t _ c.record_cases-answer.ensures.records c.in-Err-NoMemory._refusal a c.say_memory.ensures c.ended-in-Err-NoMemory.ensures
 
 pub returns-in-Err-SinkFailed-clause-ran : goal.returns-in-Err-SinkFailed-clause-ran
 returns-in-Err-SinkFailed-clause-ran g c =

@@ -7,10 +7,10 @@ pub returns-in-Some : goal.returns-in-Some
 returns-in-Some c =
     put_refused _ c.self.inside.runs.items _ c.in-Ok.place c.index_mut-run.result.now c.self.view_is c.in-Ok.ensures c.index_mut-run.ensures.value c.args.entry.now _ c.in-Some.ensures
 
-pub returns-then-is_err : goal.returns-then-is_err
-returns-then-is_err c =
+pub returns-in-Err-add_copy : goal.returns-in-Err-add_copy
+returns-in-Err-add_copy c =
     let kept : c.add_copy.new.entries ≡ c.index_mut-run.result.now.entries = search rules in
-    put_short _ c.self.inside.runs.items _ c.in-Ok.place c.index_mut-run.result.now c.self.view_is c.in-Ok.ensures c.index_mut-run.ensures.value c.args.entry.now _ kept
+    put_short _ c.self.inside.runs.items _ c.in-Ok.place c.index_mut-run.result.now c.self.view_is c.in-Ok.ensures c.index_mut-run.ensures.value c.args.entry.now _ _ c.short.ensures kept
 
 pub returns : goal.returns
 returns c =

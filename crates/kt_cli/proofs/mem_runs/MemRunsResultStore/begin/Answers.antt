@@ -1,7 +1,7 @@
 use Rattle.std.proofs.Common.{List, [], ◌∷◌, ◌++◌, ap, ◌∙◌}
 use Rattle.kt_base.specs.declared.run.Run.{Run}
 use Rattle.kt_store.specs.Runs.{new_run}
-use Rattle.kt_cli.proofs.Numbered.{numbers_new}
+use Rattle.kt_store.proofs.Numbered.{numbers_new}
 use Rattle.kt_cli.proofs.mem_runs.MemRunsResultStore.begin.Goals as goal
 
 pub returns-clause-added : goal.returns-clause-added

@@ -1,7 +1,7 @@
 use Rattle.std.proofs.Common.{List, ap, sym, subst, ◌∙◌}
 use Rattle.kt_base.specs.declared.run.Run.{Run}
 use Rattle.kt_store.specs.Runs.{AreNumbered, finish}
-use Rattle.kt_cli.proofs.Numbered.{numbers_finish}
+use Rattle.kt_store.proofs.Numbered.{numbers_finish}
 use Rattle.kt_cli.proofs.mem_runs.MemRunsResultStore.finish.Goals as goal
 
 pub returns-clause-finished : goal.returns-clause-finished
