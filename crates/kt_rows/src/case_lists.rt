@@ -2,9 +2,10 @@ use crate::endings::ending_of;
 use crate::properties::pair_of;
 use crate::row::Row;
 use crate::row_fault::RowFault;
+use crate::shown_props::push_props;
 use crate::verdicts::refused_of;
 use kt_atflist::{CaseDef, ListBytes, ListCause, ListFault, Listing, cases, parse_list};
-use kt_base::{Bytes, Interface, Items, Reason, Text, Variable, Variables, Verdict};
+use kt_base::{Bytes, Interface, Items, Reason, Text, Verdict};
 use kt_metadata::Props;
 use std::alloc::Global;
 
@@ -29,32 +30,6 @@ fn shown_fault(alloc: Global, fault: ListFault) -> Result<String, RowFault> {
     let cause = cause_text(fault.cause)?;
     let line = fault.line;
     Ok(format!(in alloc; "{cause} at {line}")?)
-}
-
-fn is_among(pairs: &Variables, pair: &Variable) -> bool {
-    for other in pairs.as_slice() {
-        if other.name.as_str() == pair.name.as_str()
-            && other.value.as_str() == pair.value.as_str()
-        {
-            return true;
-        }
-    }
-    false
-}
-
-/// Appends the properties that differ from the defaults: ` timeout=20`.
-fn push_props(alloc: Global, out: &mut String, props: &Props) -> Result<(), RowFault> {
-    let defaults = Props::new(alloc).listing()?;
-    let pairs = props.listing()?;
-    for pair in pairs.as_slice() {
-        if !is_among(&defaults, pair) {
-            out.push(' ')?;
-            out.push_str(pair.name.as_str())?;
-            out.push('=')?;
-            out.push_str(pair.value.as_str())?;
-        }
-    }
-    Ok(())
 }
 
 fn push_reason(alloc: Global, out: &mut String, fault: Option<Reason>) -> Result<(), RowFault> {

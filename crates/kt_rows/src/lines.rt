@@ -1,7 +1,7 @@
-use std::alloc::AllocError;
+use kt_base::NoMemory;
 
 /// Appends a line: behind the first, with a newline before it.
-pub fn push_line(out: &mut String, line: &str) -> Result<(), AllocError> {
+pub fn push_line(out: &mut String, line: &str) -> Result<(), NoMemory> {
     if !out.is_empty() {
         out.push('\n')?;
     }

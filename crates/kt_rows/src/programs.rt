@@ -12,6 +12,7 @@ use crate::system_texts::outputs;
 use crate::verdicts;
 use kt_base::{Entry, Interface, Text, Variables};
 use kt_child::Os;
+use kt_metadata::Props;
 use kt_play::{MemorySink, folded};
 use kt_suite::Program;
 use std::alloc::Global;
@@ -104,6 +105,7 @@ fn listing<O: Os + Drop>(
         interface: Interface::Atf,
         path: Text::from_str(alloc, program)?,
         suite: Text::from_str(alloc, "s")?,
+        props: Props::new(alloc),
     };
     let (_os, found) = listed(alloc, os, base, source, &program, &Variables::new(alloc))?;
     match &found {

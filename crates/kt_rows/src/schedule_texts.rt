@@ -68,7 +68,8 @@ pub fn end_text(alloc: Global, end: Result<Totals, RunFault>) -> Result<String, 
             Ok(format!(in alloc; "{good} good, {bad} bad")?)
         }
         Err(RunFault::SinkFailed(SinkFault::Other)) => Ok(String::from_str(alloc, "sink failed")?),
-        Err(_) => Err(RowFault::NoMemory),
+        Err(RunFault::SinkFailed(SinkFault::Memory)) => Ok(String::from_str(alloc, "no memory")?),
+        Err(RunFault::NoMemory(refusal)) => Err(RowFault::NoMemory(refusal)),
     }
 }
 

@@ -6,9 +6,10 @@ use crate::row_fault::RowFault;
 use crate::scenes::holding_of;
 use kt_base::{NoMemory, Text};
 use kt_child::{Driver, Os};
-use kt_cli::{Command, Exit, ResultStore, execute_all};
-use kt_play::{RefusingStore, ScriptedWorld, Stage};
+use kt_cli::{Command, Exit, execute_all};
+use kt_play::{RefusingStore, ScriptedWorld, Stage, ask_too_much};
 use kt_sched::Launcher;
+use kt_store::ResultStore;
 use std::alloc::Global;
 use std::io::Write;
 
@@ -42,10 +43,11 @@ fn calls_of(text: &str) -> Result<(u64, u64), RowFault> {
 /// The store of a row, in memory: `refused CALLS`, or `refused-memory CALLS`.
 pub fn store_of(alloc: Global, row: &Row<'_>) -> Result<RefusingStore, RowFault> {
     if let Some(calls) = row.text("refused-memory") {
-        return Ok(RefusingStore::new(alloc, calls_of(calls)?, true));
+        let shortage = ask_too_much(alloc).err();
+        return Ok(RefusingStore::new(alloc, calls_of(calls)?, shortage));
     }
     let calls = calls_of(row.text("refused").unwrap_or("0"))?;
-    Ok(RefusingStore::new(alloc, calls, false))
+    Ok(RefusingStore::new(alloc, calls, None))
 }
 
 /// Does commands over a world with this launcher.

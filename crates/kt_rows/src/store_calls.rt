@@ -6,9 +6,8 @@ use crate::stages::{over_launcher, stage_of};
 use crate::store_entries::{entries_text, entry_of, millis_of};
 use crate::store_texts::{runs_text, store_fault_text};
 use crate::system_texts::outputs;
-use kt_cli::ResultStore;
 use kt_play::{ScriptedLauncher, ScriptedWriter};
-use kt_store::StoreFault;
+use kt_store::{ResultStore, StoreFault};
 use std::alloc::Global;
 
 /// What a call answers that has nothing to tell.

@@ -137,7 +137,7 @@ fn told<S: Alter + Drop>(alloc: Global, conn: Connection<S>) -> Result<i64, &'st
 /// What is wrong with what a crash leaves: nothing where it is the runs from before the refused call or from after it.
 fn judged(alloc: Global, left: Left, frames: usize) -> Result<i64, &'static str> {
     let done = left.done;
-    if done < 4 && left.fault != Some(StoreFault::Store) {
+    if done < 4 && !matches!(left.fault, Some(StoreFault::Store(_))) {
         return Err("it was refused for another reason than the disk");
     }
     let Some(mut conn) = open(alloc, crashed(left.files), frames) else {

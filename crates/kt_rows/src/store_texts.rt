@@ -1,14 +1,13 @@
 use crate::lines::push_line;
 use crate::row_fault::RowFault;
-use kt_cli::ResultStore;
-use kt_store::{RunHead, StoreFault};
+use kt_store::{ResultStore, RunHead, StoreFault};
 use std::alloc::Global;
 
 /// Why a store refuses a call.
 pub fn store_fault_text(fault: StoreFault) -> &'static str {
     match fault {
-        StoreFault::NoMemory => "no memory",
-        StoreFault::Store => "store failed",
+        StoreFault::NoMemory(_) => "no memory",
+        StoreFault::Store(_) => "store failed",
         StoreFault::NoRun => "no run",
         StoreFault::RunClosed => "run closed",
         StoreFault::RepeatedPosition => "repeated position",

@@ -14,6 +14,7 @@ use kt_child::{
     Child, Driver, DriverFault, Os, Spawning, Turn, Want, Watch, argv_plan, env_plan, poll_once,
     read_kept, read_list, start_body, start_cleanup, workdir_plan,
 };
+use kt_metadata::Props;
 use kt_play::{Scene, ScriptedSystem};
 use kt_suite::Program;
 use std::alloc::Global;
@@ -181,6 +182,7 @@ pub fn lists(alloc: Global, row: &Row<'_>, scene: &Scene<'_>) -> Result<String, 
         interface: Interface::Atf,
         path: Text::from_str(alloc, "d/p")?,
         suite: Text::from_str(alloc, "s")?,
+        props: Props::new(alloc),
     };
     let os = ScriptedSystem::new(alloc, scene);
     let (os, listing) = listed(
@@ -204,7 +206,7 @@ pub fn lists(alloc: Global, row: &Row<'_>, scene: &Scene<'_>) -> Result<String, 
 
 fn root_text(fault: DriverFault) -> &'static str {
     match fault {
-        DriverFault::NoMemory => "no memory",
+        DriverFault::NoMemory(_) => "no memory",
         DriverFault::NoWorkDirectory => "no work directory",
     }
 }

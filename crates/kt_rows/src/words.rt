@@ -69,7 +69,7 @@ fn line_text(alloc: Global, line: &CommandLine) -> Result<String, RowFault> {
 
 fn fault_text(fault: &CommandFault) -> &'static str {
     match fault {
-        CommandFault::NoMemory => "out of memory",
+        CommandFault::NoMemory(_) => "out of memory",
         CommandFault::Usage(text) if text.as_str().is_empty() => "usage without a text",
         CommandFault::Usage(_) => "usage",
         CommandFault::BadKind => "bad kind",

@@ -1,0 +1,214 @@
+use crate::escapes::unescaped;
+use crate::row::{Entry, Row};
+use crate::row_fault::RowFault;
+use kt_base::Text;
+use kt_suite::{Filter, FilterFault, Item, SelectFault, Selection, check_disjoint, select};
+use std::alloc::Global;
+
+/// What a row has said so far: the cases and the filters.
+#[derive(Drop)]
+struct Example {
+    alloc: Global,
+    items: Vec<Item>,
+    filters: Vec<Filter>,
+}
+
+fn text_of(alloc: Global, raw: &str) -> Result<Text, RowFault> {
+    match String::from_utf8(unescaped(alloc, raw)?) {
+        Ok(string) => Ok(Text::from_string(string)),
+        Err(_) => Err(RowFault::Misspelled("a text is UTF-8")),
+    }
+}
+
+/// `PATH CASE`, cut at the first space.
+fn item_of(alloc: Global, raw: &str) -> Result<Item, RowFault> {
+    let Some((path, case_name)) = raw.split_once(' ') else {
+        return Err(RowFault::Misspelled("a case stands after a path"));
+    };
+    Ok(Item {
+        path: text_of(alloc, path)?,
+        case_name: text_of(alloc, case_name)?,
+    })
+}
+
+/// `COUNT TEXT`: the text so often, with the number in place of each `#`, from 0.
+fn numbered(alloc: Global, raw: &str) -> Result<Vec<String>, RowFault> {
+    let Some((count, text)) = raw.split_once(' ') else {
+        return Err(RowFault::Misspelled("a text stands after a number"));
+    };
+    let Ok(count) = count.parse::<u32>() else {
+        return Err(RowFault::Misspelled("a number is wanted"));
+    };
+    let mut texts = Vec::new(alloc);
+    for number in 0..count {
+        let number = number.to_string(alloc)?;
+        texts.push(text.replace(alloc, "#", number.as_str())?)?;
+    }
+    Ok(texts)
+}
+
+/// A filter that is accepted.
+fn filter_of(alloc: Global, raw: &str) -> Result<Filter, RowFault> {
+    match Filter::parse(alloc, &text_of(alloc, raw)?) {
+        Ok(filter) => Ok(filter),
+        Err(FilterFault::NoMemory(refusal)) => Err(refusal)?,
+        Err(_) => Err(RowFault::Misspelled("a filter that is refused is asked for by `read`")),
+    }
+}
+
+/// A filter as it was read: `d/b, case main`.
+fn shown(alloc: Global, filter: &Filter) -> Result<String, RowFault> {
+    let program = filter.program.as_str();
+    match &filter.case_name {
+        None => Ok(String::from_str(alloc, program)?),
+        Some(case_name) => {
+            let case_name = case_name.as_str();
+            Ok(format!(in alloc; "{program}, case {case_name}")?)
+        }
+    }
+}
+
+/// What a text says as a filter, or why it is refused.
+fn read_line(alloc: Global, raw: &str) -> Result<String, RowFault> {
+    match Filter::parse(alloc, &text_of(alloc, raw)?) {
+        Ok(filter) => shown(alloc, &filter),
+        Err(FilterFault::NoMemory(refusal)) => Err(refusal)?,
+        Err(fault) => Ok(fault.to_string(alloc)?),
+    }
+}
+
+/// Appends a word, behind a space if it isn't the first.
+fn push_word(out: &mut String, word: &str) -> Result<(), RowFault> {
+    if !out.is_empty() {
+        out.push(' ')?;
+    }
+    out.push_str(word)?;
+    Ok(())
+}
+
+fn push_answer(out: &mut String, answer: bool) -> Result<(), RowFault> {
+    push_word(out, if answer { "yes" } else { "no" })
+}
+
+/// Positions with spaces between them.
+fn places(alloc: Global, places: &[usize]) -> Result<String, RowFault> {
+    let mut out = String::new(alloc);
+    for place in places {
+        push_word(&mut out, place.to_string(alloc)?.as_str())?;
+    }
+    if out.is_empty() {
+        out.push_str("none")?;
+    }
+    Ok(out)
+}
+
+/// The positions that were selected: `cases 0 2, unmatched none`.
+fn selection_line(alloc: Global, selection: &Selection) -> Result<String, RowFault> {
+    let cases = places(alloc, &selection.cases)?;
+    let unmatched = places(alloc, &selection.unmatched)?;
+    Ok(format!(in alloc; "cases {cases}, unmatched {unmatched}")?)
+}
+
+/// How many positions were selected: `2 cases, 0 unmatched`.
+fn count_line(alloc: Global, selection: &Selection) -> Result<String, RowFault> {
+    let cases = selection.cases.len();
+    let unmatched = selection.unmatched.len();
+    Ok(format!(in alloc; "{cases} cases, {unmatched} unmatched")?)
+}
+
+impl Example {
+    fn add_filters(&mut self, raw: &str) -> Result<(), RowFault> {
+        for text in numbered(self.alloc, raw)?.as_slice() {
+            self.filters.push(filter_of(self.alloc, text.as_str())?)?;
+        }
+        Ok(())
+    }
+
+    fn add_items(&mut self, raw: &str) -> Result<(), RowFault> {
+        for text in numbered(self.alloc, raw)?.as_slice() {
+            self.items.push(item_of(self.alloc, text.as_str())?)?;
+        }
+        Ok(())
+    }
+
+    /// Whether each filter matches a case.
+    fn matches_line(&self, raw: &str) -> Result<String, RowFault> {
+        let item = item_of(self.alloc, raw)?;
+        let mut out = String::new(self.alloc);
+        for filter in self.filters.as_slice() {
+            push_answer(&mut out, filter.matches(&item.path, &item.case_name))?;
+        }
+        Ok(out)
+    }
+
+    /// Whether each filter may match a case of a program.
+    fn may_match_line(&self, raw: &str) -> Result<String, RowFault> {
+        let path = text_of(self.alloc, raw)?;
+        let mut out = String::new(self.alloc);
+        for filter in self.filters.as_slice() {
+            push_answer(&mut out, filter.may_match(&path))?;
+        }
+        Ok(out)
+    }
+
+    fn disjoint_line(&self) -> Result<String, RowFault> {
+        match check_disjoint(&self.filters) {
+            Ok(()) => Ok(String::from_str(self.alloc, "disjoint")?),
+            Err(FilterFault::Repeated(place)) => Ok(format!(in self.alloc; "repeated at {place}")?),
+            Err(FilterFault::NotDisjoint(place)) => Ok(format!(in self.alloc;
+                "not disjoint at {place}"
+            )?),
+            Err(fault) => Ok(fault.to_string(self.alloc)?),
+        }
+    }
+
+    fn select_line(&self, brief: bool) -> Result<String, RowFault> {
+        match select(self.alloc, &self.items, &self.filters) {
+            Ok(selection) => {
+                if brief {
+                    return count_line(self.alloc, &selection);
+                }
+                selection_line(self.alloc, &selection)
+            }
+            Err(SelectFault::NoMemory(refusal)) => Err(refusal)?,
+            Err(fault) => Ok(fault.to_string(self.alloc)?),
+        }
+    }
+
+    /// Adds what a line says, or answers what it asks.
+    fn take(&mut self, entry: Entry<'_>) -> Result<Option<String>, RowFault> {
+        match entry.word {
+            "filter" => self.filters.push(filter_of(self.alloc, entry.text)?)?,
+            "filters" => self.add_filters(entry.text)?,
+            "item" => self.items.push(item_of(self.alloc, entry.text)?)?,
+            "items" => self.add_items(entry.text)?,
+            "read" => return Ok(Some(read_line(self.alloc, entry.text)?)),
+            "matches" => return Ok(Some(self.matches_line(entry.text)?)),
+            "may-match" => return Ok(Some(self.may_match_line(entry.text)?)),
+            "disjoint" => return Ok(Some(self.disjoint_line()?)),
+            "select" => return Ok(Some(self.select_line(false)?)),
+            "count" => return Ok(Some(self.select_line(true)?)),
+            _ => return Err(RowFault::Misspelled("no such word")),
+        }
+        Ok(None)
+    }
+}
+
+/// What filters are read as, match and select, a line for each question.
+pub fn answer(alloc: Global, row: &Row<'_>) -> Result<String, RowFault> {
+    let mut example = Example {
+        alloc,
+        items: Vec::new(alloc),
+        filters: Vec::new(alloc),
+    };
+    let mut out = String::new(alloc);
+    for entry in row.entries.as_slice() {
+        if let Some(line) = example.take(*entry)? {
+            if !out.is_empty() {
+                out.push('\n')?;
+            }
+            out.push_str(line.as_str())?;
+        }
+    }
+    Ok(out)
+}

@@ -1,0 +1,30 @@
+use crate::row_fault::RowFault;
+use kt_base::{Variable, Variables};
+use kt_metadata::Props;
+use std::alloc::Global;
+
+fn is_among(pairs: &Variables, pair: &Variable) -> bool {
+    for other in pairs.as_slice() {
+        if other.name.as_str() == pair.name.as_str()
+            && other.value.as_str() == pair.value.as_str()
+        {
+            return true;
+        }
+    }
+    false
+}
+
+/// Appends the properties that differ from the defaults: ` timeout=20`.
+pub fn push_props(alloc: Global, out: &mut String, props: &Props) -> Result<(), RowFault> {
+    let defaults = Props::new(alloc).listing()?;
+    let pairs = props.listing()?;
+    for pair in pairs.as_slice() {
+        if !is_among(&defaults, pair) {
+            out.push(' ')?;
+            out.push_str(pair.name.as_str())?;
+            out.push('=')?;
+            out.push_str(pair.value.as_str())?;
+        }
+    }
+    Ok(())
+}
