@@ -1,5 +1,6 @@
 use crate::output::Output;
 use crate::text::Text;
+use crate::variables::Variables;
 use crate::verdict::Verdict;
 
 /// What is recorded of one test case of a run.
@@ -17,4 +18,6 @@ pub struct Entry {
     pub millis: u64,
     pub body: Output,
     pub cleanup: Output,
+    /// What the case declared, as names with values.
+    pub meta: Variables,
 }

@@ -80,7 +80,7 @@ removes_silent c false dir calls e = ap (heard_by c) e
 pub leaves_silent : (c : Child) (case : Case) (calls : List Call) (outcome : Outcome) (ended : Ended) → Leaves case calls outcome ended → heard_by c calls ≡ []
 leaves_silent c case calls outcome ended (now, reads, out, err, last, e, gathers, removes, position, role, over, o, r, moment, few, less) =
     ap (heard_by c) e
-    ∙ heard_append c reads (ReadFile (out_of case.role case.paths) 65536 out ∷ ReadFile (err_of case.role case.paths) 65536 err ∷ last)
+    ∙ heard_append c reads (ReadFile (out_of case.role case.paths) 1048576 out ∷ ReadFile (err_of case.role case.paths) 1048576 err ∷ last)
     ∙ ap (λ t. t ++ heard_by c last) (gathers_silent c case.interface case.role case.paths reads ended.evidence gathers)
     ∙ removes_silent c (is_over case) case.paths.dir last removes
 

@@ -34,12 +34,12 @@ Removes true dir calls = (done : Bool) × (calls ≡ RemoveTree dir done ∷ [])
 Removes false dir calls = calls ≡ []
 
 -- The moment is asked, then the evidence is read, then the output and the errors, and then comes the removal; the end
--- is told by their answers, with no more than 65,536 bytes of each output.
+-- is told by their answers, with no more than 1,048,576 bytes of each output.
 abbrev pub Leaves : Case → List Call → Outcome → Ended → Type 0
 Leaves c calls outcome e =
     (now : Result ℕ OsFault) × (reads : List Call) × (out : Result FileRead OsFault) × (err : Result FileRead OsFault) × (last : List Call)
-    × (calls ≡ Now now ∷ (reads ++ ReadFile (out_of c.role c.paths) 65536 out ∷ ReadFile (err_of c.role c.paths) 65536 err ∷ last))
+    × (calls ≡ Now now ∷ (reads ++ ReadFile (out_of c.role c.paths) 1048576 out ∷ ReadFile (err_of c.role c.paths) 1048576 err ∷ last))
     × Gathers c.interface c.role c.paths reads e.evidence × Removes (is_over c) c.paths.dir last
     × (e.position ≡ c.position) × (e.role ≡ c.role) × (e.outcome ≡ outcome)
     × (e.output.out ≡ bytes_of out) × (e.output.err ≡ bytes_of err) × (e.moment ≡ moment_of now)
-    × (length e.output.out ≤ 65536) × (length e.output.err ≤ 65536)
+    × (length e.output.out ≤ 1048576) × (length e.output.err ≤ 1048576)

@@ -11,16 +11,16 @@ use kt_base::{Bytes, Text};
 use std::alloc::Global;
 
 /// How many bytes are kept of an output (this profile).
-const KEPT: u64 = 65_536;
+const KEPT: u64 = 1_048_576;
 
 /// How many bytes a list has at the most (this profile).
 const LIST_LIMIT: u64 = 1_048_576;
 
-/// What is kept of an output: its first 65,536 bytes, none where they can't be read.
+/// What is kept of an output: its first 1,048,576 bytes, none where they can't be read.
 pub fn read_kept<O: Os>(alloc: Global, os: &mut O, path: &Text) -> Bytes
-    ensures asked { (answer : Result FileRead OsFault) × O.leads os.old (ReadFile path.now 65536 answer) os.new
+    ensures asked { (answer : Result FileRead OsFault) × O.leads os.old (ReadFile path.now 1048576 answer) os.new
         × (result ≡ bytes_of answer) }
-    ensures within { length result ≤ 65536 }
+    ensures within { length result ≤ 1048576 }
 {
     match os.read_file(path, KEPT) {
         Ok(FileRead::Part(bytes, _)) => bytes,

@@ -50,6 +50,13 @@ impl Props {
         self.values.is_empty()
     }
 
+    /// A theorem: the properties are their own last values.
+    pub fn named_once(&self)
+        ensures { self.now ≡ last_values self.now }
+    {
+        let _ = &self.values;
+    }
+
     /// The last value that was given to a name. It takes no memory.
     pub fn get(&self, key: &Text) -> Option<&Text>
         ensures { (definitions : List Variable) → self.now ≡ last_values definitions

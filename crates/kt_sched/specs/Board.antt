@@ -110,6 +110,7 @@ entry_with job t = record {
   millis = t.millis;
   body = t.body;
   cleanup = t.cleanup;
+  meta = job.meta;
 }
 
 -- how a stage stands for the events of its case

@@ -61,6 +61,7 @@ pub record KeepsNames (old new : Job) : Type 0 where
   pub position : new.position ≡ old.position
   pub program : new.program ≡ old.program
   pub case_name : new.case_name ≡ old.case_name
+  pub meta : new.meta ≡ old.meta
 
 -- the entry tells of this case
 abbrev pub TellsOf : Case → Entry → Type 0

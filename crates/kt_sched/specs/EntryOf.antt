@@ -18,7 +18,6 @@ abbrev pub no_output : Output
 no_output = record { out = []; err = [] }
 
 -- the verdict on a body that ended
--- the verdict on a body that ended
 abbrev pub body_of : Ended → Judged
 body_of e = verdict_of e.evidence e.outcome
 
@@ -35,6 +34,7 @@ entry_of job [] = elim job.decided [
     millis = 0;
     body = no_output;
     cleanup = no_output;
+    meta = job.meta;
   })
 ]
 entry_of job (Start i Body (Refused cause) ∷ []) = Some (record {
@@ -46,6 +46,7 @@ entry_of job (Start i Body (Refused cause) ∷ []) = Some (record {
   millis = 0;
   body = no_output;
   cleanup = no_output;
+  meta = job.meta;
 })
 entry_of job (Start i Body (Started m) ∷ End e ∷ []) = Some (record {
   position = job.position;
@@ -56,6 +57,7 @@ entry_of job (Start i Body (Started m) ∷ End e ∷ []) = Some (record {
   millis = e.moment - m;
   body = e.output;
   cleanup = no_output;
+  meta = job.meta;
 })
 entry_of job (Start i Body (Started m) ∷ End e ∷ Start j Cleanup (Refused cause) ∷ []) = Some (record {
   position = job.position;
@@ -66,6 +68,7 @@ entry_of job (Start i Body (Started m) ∷ End e ∷ Start j Cleanup (Refused ca
   millis = e.moment - m;
   body = e.output;
   cleanup = no_output;
+  meta = job.meta;
 })
 entry_of job (Start i Body (Started m) ∷ End e ∷ Start j Cleanup (Started k) ∷ End f ∷ []) = Some (record {
   position = job.position;
@@ -76,6 +79,7 @@ entry_of job (Start i Body (Started m) ∷ End e ∷ Start j Cleanup (Started k)
   millis = f.moment - m;
   body = e.output;
   cleanup = f.output;
+  meta = job.meta;
 })
 entry_of job other = None
 

@@ -1,13 +1,12 @@
 -- Plans: one job a case, each at its position.
 use Rattle.std.specs.Prelude.{ℕ, List, true, ◌≡◌, ◌≤◌, Some, slice_get}
 use Rattle.kt_base.specs.declared.interface.Interface.TheVariants.{Atf}
-use Rattle.kt_sched.specs.declared.limits.TheConstants.{MAX_WIDTH, MAX_TIMEOUT}
 use Rattle.kt_sched.specs.declared.job.Job.{Job}
 
 -- a job that can be started: its time is limited, and only an ATF case declares a cleanup
 pub record IsFit (job : Job) : Type 0 where
   pub timed : 1 ≤ job.timeout
-  pub limited : job.timeout ≤ MAX_TIMEOUT
+  pub limited : job.timeout ≤ 1000000
   pub cleanup : job.cleanup ≡ true → job.interface ≡ Atf
 
 -- each job stands at its position and can be started
@@ -18,4 +17,4 @@ pub record IsPlan (plan : List Job) : Type 0 where
 -- how many cases may be active at once
 pub record IsWidth (n : ℕ) : Type 0 where
   pub positive : 1 ≤ n
-  pub limited : n ≤ MAX_WIDTH
+  pub limited : n ≤ 256

@@ -19,4 +19,6 @@ pub struct Job {
     pub cleanup: bool,
     /// The verdict of a case that is not to be started: its requirements are not met, or its program's list failed.
     pub decided: Option<Verdict>,
+    /// What the case declares, as names with values: its entry has it too.
+    pub meta: Variables,
 }

@@ -8,7 +8,7 @@ use crate::ended_body::EndedBody;
 use crate::stage::Stage;
 use crate::tale::Tale;
 use crate::tales::decided_tale;
-use kt_base::{Entry, Text};
+use kt_base::{Entry, Text, Variables};
 use std::alloc::Global;
 use std::mem;
 
@@ -104,6 +104,7 @@ fn entry_from(alloc: Global, case: &mut Case) -> Entry
         millis: tale.millis,
         body: tale.body,
         cleanup: tale.cleanup,
+        meta: mem::replace(&mut case.job.meta, Variables::new(alloc)),
     }
 }
 
