@@ -24,12 +24,17 @@ TEXT
 "$program" report -r made.db > shown
 cmp wanted shown
 test "$(sqlite3 made.db 'PRAGMA integrity_check')" = ok
+# it was made with schema 1, and is one of schema 2 now
+test "$(sqlite3 made.db 'SELECT name, value FROM meta')" = 'schema|2'
+test "$(sqlite3 made.db 'SELECT count(*) FROM props')" = 0
+"$program" report -r made.db > shown
+cmp wanted shown
 
 # a new file, made by kyua
 "$program" report -r new.db > told && exit 1 || test $? = 2
 test "$(cat told)" = 'kyua: E: no runs'
 test "$(sqlite3 new.db 'PRAGMA integrity_check')" = ok
-test "$(sqlite3 new.db 'SELECT name, value FROM meta')" = 'schema|1'
+test "$(sqlite3 new.db 'SELECT name, value FROM meta')" = 'schema|2'
 test "$(sqlite3 new.db 'SELECT count(*) FROM runs')" = 0
 
 # a file of another schema

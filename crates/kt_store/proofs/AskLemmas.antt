@@ -12,7 +12,7 @@ use Rattle.sqlite.specs.Clock.{timed}
 use Rattle.sqlite.proofs.Callers.{never_commits, unchanged_then}
 use Rattle.sqlite.proofs.StateLemmas.{survives_weaker}
 use Rattle.kt_base.specs.declared.run.Run.{Run}
-use Rattle.kt_store.specs.Tables.{schema_1}
+use Rattle.kt_store.specs.Tables.{schema_2}
 use Rattle.kt_store.specs.Stands.{IsStore, StandsFor}
 use Rattle.kt_store.specs.Ask.{Asked, MayShow}
 use Rattle.kt_store.proofs.StepLemmas.{same_store}
@@ -23,7 +23,7 @@ shown_same sql params old new rows plain h =
     let none = (subst IsPlain h.1.is plain).0 in (subst (ShowsRows old new sql h.0 (timed params h.0.formats h.1.now) rows) none h.2).3
 
 module _ {S : Type 0} (g : Ghosts S) (old new : Held S) (runs : List Run) (has : StandsFor (state g old) runs) (survives : HasCleanDisk (state g new) → HasCleanDisk (state g old))
-    (sql : List ℕ) (plain : IsPlain (understood schema_1 sql)) (params : Row) where
+    (sql : List ℕ) (plain : IsPlain (understood schema_2 sql)) (params : Row) where
   pub asked_mid : (rows : List Row) → HasCleanDisk (state g new) → (it : Asked g sql params old new rows) → IsStore (state g it.mid) runs
   asked_mid rows clean it = same_store (state g old) (state g it.mid) runs (has (survives clean) it.same.0.was_open) it.same
 

@@ -22,8 +22,9 @@ use Rattle.sqlite.specs.Rowids.TheVariants.{Chosen}
 use Rattle.sqlite.specs.Effect.{Database, IsDatabase, value_rows}
 use Rattle.sqlite.specs.Does.{Tally}
 use Rattle.sqlite.specs.Rows.{last_id}
-use Rattle.kt_store.specs.Tables.{schema_1, runs_1}
-use Rattle.kt_store.specs.Runs.{Tables, IsRun, new_run, entry_row, entry_rows}
+use Rattle.kt_store.specs.Tables.{schema_2, runs_1}
+use Rattle.kt_store.specs.Runs.{Tables, IsRun, new_run, entry_row, entry_rows, pair_rows, prop_rows}
+use Rattle.std.specs.List.{flat_map}
 use Rattle.std.proofs.lemmas.Grind.{flat_map-append}
 use Rattle.kt_store.proofs.SqlFacts.{begin_terms}
 use Rattle.kt_store.proofs.InsertLemmas.{Changed}
@@ -93,7 +94,7 @@ abbrev pub begin_rows : ℕ → ℕ → List Row
 begin_rows total started = value_rows (begin_params total started) 5 1 begin_terms
 
 module _ (runs : List Run) (total started : ℕ) (db after : Database) (tally : Tally) (has : Tables db runs) (room : length runs < 1000000) (small : total < 4294967296)
-    (changed : Changed schema_1 runs_1 (begin_rows total started) db after tally) where
+    (changed : Changed schema_2 runs_1 (begin_rows total started) db after tally) where
   next : next_rowid (db.trees 2) ≡ pos (suc (length runs))
   next = ap next_rowid has.runs_are ∙ next_is 1 runs has.valid.numbered ∙ ap pos (omega arith)
 
@@ -113,6 +114,8 @@ module _ (runs : List Run) (total started : ℕ) (db after : Database) (tally : 
             ∙ put_after 1 runs (run_row new) has.valid.numbered (ap (λ k. Int (pos k)) (omega arith)) ∙ sym (map-append run_row runs (new ∷ []));
         entries_are = subst (λ rows. IsPermutation rows (map (drop 1) (after.trees 3))) (sym (flat_map-append (λ (r : Run). map (entry_row r.number) r.entries) runs (new ∷ []) ∙ append-nil (entry_rows runs)))
             (subst (λ rows. IsPermutation (entry_rows runs) (map (drop 1) rows)) (sym (changed.applies.tables.1.1.0 (λ e. cc))) has.entries_are);
+        props_are = subst (λ rows. IsPermutation rows (map (drop 1) (after.trees 5))) (sym (flat_map-append (λ (r : Run). flat_map (pair_rows r.number) r.entries) runs (new ∷ []) ∙ append-nil (prop_rows runs)))
+            (subst (λ rows. IsPermutation (prop_rows runs) (map (drop 1) rows)) (sym (changed.applies.tables.1.1.1.0 (λ e. cc))) has.props_are);
         valid = record {
           numbered = numbered_push 1 runs new has.valid.numbered (omega arith);
           each = all-append IsRun runs (new ∷ []) has.valid.each (record { small = small; ordered = tt; below = tt; sound = tt; whole = λ e. absurd cc }, tt);
@@ -124,13 +127,13 @@ abbrev pub begin_command : Command
 begin_command = Insert 1 (Values begin_terms 5)
 
 -- where no key refers to `runs` that acts
-begin_works : (params : Row) (trees : Trees) → let edit = edit_of trees runs_1 [] Chosen 0 (value_rows params 5 1 begin_terms) in works schema_1 Enforced 0 edit.table.tree (taken_by trees edit) edit.news ≡ []
+begin_works : (params : Row) (trees : Trees) → let edit = edit_of trees runs_1 [] Chosen 0 (value_rows params 5 1 begin_terms) in works schema_2 Enforced 0 edit.table.tree (taken_by trees edit) edit.news ≡ []
 begin_works params trees = refl
 
-begin_changed : (limit : Option ℕ) (mode : Mode) (total started : ℕ) (db after : Database) (text : List ℕ) (tally : Tally) → mode.keys ≡ Enforced → db.schema ≡ schema_1
-    → Does limit mode (begin_params total started) db text None begin_command (Ok (tally, after)) → Changed schema_1 runs_1 (begin_rows total started) db after tally
+begin_changed : (limit : Option ℕ) (mode : Mode) (total started : ℕ) (db after : Database) (text : List ℕ) (tally : Tally) → mode.keys ≡ Enforced → db.schema ≡ schema_2
+    → Does limit mode (begin_params total started) db text None begin_command (Ok (tally, after)) → Changed schema_2 runs_1 (begin_rows total started) db after tally
 begin_changed limit mode total started db after text tally enforced has does =
-    changed schema_1 1 runs_1 begin_terms 5 refl refl refl begin_works limit mode (begin_params total started) db after text tally enforced has does
+    changed schema_2 1 runs_1 begin_terms 5 refl refl refl begin_works limit mode (begin_params total started) db after text tally enforced has does
 
 module _ (runs : List Run) (total started : ℕ) (old : State) (has : IsStore old runs) (room : length runs < 1000000) (small : total < 4294967296) where
   abbrev pub more : List Run
@@ -138,8 +141,8 @@ module _ (runs : List Run) (total started : ℕ) (old : State) (has : IsStore ol
 
   pub began : (new : State) (count : ℕ) → Executes begin_text (begin_params total started) old new (Ok count) → IsStore new more × (new.last_rowid ≡ pos (suc (length runs))) × IsTrue new.is_open × IsDatabase new.now
   began new count h =
-      let text = statement_of begin_text (understood schema_1 begin_text) in
-      let w : Writes old new None begin_command text (begin_params total started) count = runs_as begin_text (begin_params total started) old new schema_1 has.tables.schema begin_command begin_is.0 begin_is.1 count h in
+      let text = statement_of begin_text (understood schema_2 begin_text) in
+      let w : Writes old new None begin_command text (begin_params total started) count = runs_as begin_text (begin_params total started) old new schema_2 has.tables.schema begin_command begin_is.0 begin_is.1 count h in
       let did = begin_changed old.step_limit (mode_of old) total started old.now new.now text w.tally refl has.tables.schema w.changed in (
         record {
           autocommit = w.shown.mode ∙ has.autocommit;
@@ -152,10 +155,10 @@ module _ (runs : List Run) (total started : ℕ) (old : State) (has : IsStore ol
       )
 
   pub commits_begin : (trees : Trees) → CommitsBy begin_text (begin_params total started) old trees → Keeps more trees
-  commits_begin trees h = elim (commits_as begin_text (begin_params total started) old schema_1 has.tables.schema begin_command begin_is.0 begin_is.1 trees h) [
+  commits_begin trees h = elim (commits_as begin_text (begin_params total started) old schema_2 has.tables.schema begin_command begin_is.0 begin_is.1 trees h) [
     | inl ends ↦ absurd (no_end ends.0)
     | inr it ↦
-        let did = begin_changed old.step_limit (mode_of old) total started old.now it.2 (statement_of begin_text (understood schema_1 begin_text)) it.1 refl has.tables.schema it.3 in
+        let did = begin_changed old.step_limit (mode_of old) total started old.now it.2 (statement_of begin_text (understood schema_2 begin_text)) it.1 refl has.tables.schema it.3 in
         (it.2, it.4, it.5, begun runs total started old.now it.2 it.1 has.tables room small did)
   ]
     where

@@ -1,7 +1,7 @@
 -- A run is finished.
 use Rattle.std.proofs.Common.{◌≡◌, ◌==◌, nat_lt, min, ℕ, zero, suc, ◌+◌, ◌<◌, ◌≤◌, pos, List, [], ◌∷◌, ◌++◌, length, map, drop, Bool, true, false, cond, Some, None, Option, Ok, slice_get, refl, sym, ap, subst, ◌∙◌, arith, IsPermutation, IsTrue}
 use Rattle.std.proofs.lemmas.Bool.Decides.{nat_tests}
-use Rattle.std.specs.List.{AllByRecursion}
+use Rattle.std.specs.List.{AllByRecursion, flat_map}
 use Rattle.sqlite.specs.declared.types.Value.TheVariants.{Int}
 use Rattle.sqlite.specs.Tree.{Trees}
 use Rattle.sqlite_trees.specs.Tree.{IsAscending}
@@ -17,7 +17,7 @@ use Rattle.kt_base.specs.declared.run.Run.{Run}
 use Rattle.kt_base.specs.declared.entry.Entry.{Entry}
 use Rattle.kt_store.specs.declared.store_fault.StoreFault.TheVariants.{RunClosed, Incomplete}
 use Rattle.kt_store.specs.Tables.{finish_text}
-use Rattle.kt_store.specs.Runs.{Tables, Keeps, IsRun, AreRuns, AreNumbered, run_at, entries_of, entry_row, entry_rows, finish, finish_refusal, finish_refusal_of}
+use Rattle.kt_store.specs.Runs.{Tables, Keeps, IsRun, AreRuns, AreNumbered, run_at, entries_of, entry_row, entry_rows, pair_rows, prop_rows, finish, finish_refusal, finish_refusal_of}
 use Rattle.kt_store.specs.Stands.{IsStore, StandsFor}
 use Rattle.kt_store.specs.Ask.{Told, MayTell}
 use Rattle.kt_store.proofs.SqlFacts.{finish_is}
@@ -32,6 +32,14 @@ same_entries run (r ∷ runs) = go (r.number == run) (same_entries run runs)
     go : (b : Bool) → entry_rows (finish run runs) ≡ entry_rows runs → entry_rows (cond b (record r { finished = true } ∷ runs) (r ∷ finish run runs)) ≡ map (entry_row r.number) r.entries ++ entry_rows runs
     go true more = refl
     go false more = ap (λ l. map (entry_row r.number) r.entries ++ l) more
+
+same_props : (run : ℕ) (runs : List Run) → prop_rows (finish run runs) ≡ prop_rows runs
+same_props run [] = refl
+same_props run (r ∷ runs) = go (r.number == run) (same_props run runs)
+  where
+    go : (b : Bool) → prop_rows (finish run runs) ≡ prop_rows runs → prop_rows (cond b (record r { finished = true } ∷ runs) (r ∷ finish run runs)) ≡ flat_map (pair_rows r.number) r.entries ++ prop_rows runs
+    go true more = refl
+    go false more = ap (λ l. flat_map (pair_rows r.number) r.entries ++ l) more
 
 same_numbers : (run from : ℕ) (runs : List Run) → AreNumbered from runs → AreNumbered from (finish run runs)
 same_numbers run from [] h = tt
@@ -75,6 +83,8 @@ finish_step runs k r there whole limit mode db after text tally enforced has doe
       runs_are = finished_rows k db.trees after.trees runs r has.valid.numbered has.runs_are there did.1;
       entries_are = subst (λ l. IsPermutation l (map (drop 1) (after.trees 3))) (sym (same_entries (suc k) runs))
           (subst (λ l. IsPermutation (entry_rows runs) (map (drop 1) l)) (sym (did.1.tables.1.1.0 (λ e. cc))) has.entries_are);
+      props_are = subst (λ l. IsPermutation l (map (drop 1) (after.trees 5))) (sym (same_props (suc k) runs))
+          (subst (λ l. IsPermutation (prop_rows runs) (map (drop 1) l)) (sym (did.1.tables.1.1.1.0 (λ e. cc))) has.props_are);
       valid = record {
         numbered = same_numbers (suc k) 1 runs has.valid.numbered;
         each = subst (λ n. AllByRecursion IsRun (finish n runs)) place (each_from 1 k runs r has.valid.numbered has.valid.each there whole);

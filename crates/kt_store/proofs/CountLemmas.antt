@@ -21,13 +21,13 @@ use Rattle.sqlite.specs.State.{State, Shown, HasCleanDisk}
 use Rattle.sqlite.proofs.Callers.{reads_as, one_permutation}
 use Rattle.kt_base.specs.declared.run.Run.{Run}
 use Rattle.kt_base.specs.declared.entry.Entry.{Entry}
-use Rattle.kt_store.specs.Tables.{count_text, schema_1}
-use Rattle.kt_store.specs.Runs.{entry_row, entries_of, run_at}
+use Rattle.kt_store.specs.Tables.{count_text, schema_2}
+use Rattle.kt_store.specs.Runs.{entry_row, entry_rows, entries_of, run_at}
 use Rattle.kt_store.specs.Stands.{IsStore, StandsFor}
 use Rattle.kt_store.specs.Ask.{Asked}
 use Rattle.kt_store.proofs.SqlFacts.{count_is, count_query, is}
 use Rattle.kt_store.proofs.QueryLemmas.{found, overlay_none}
-use Rattle.kt_store.proofs.EntryLemmas.{back, of_entries, of_run, same_test, one_truth}
+use Rattle.kt_store.proofs.EntryLemmas.{back, of_stored, of_run, same_test, one_truth}
 use Rattle.kt_store.proofs.AskLemmas.{asked_mid}
 
 abbrev tests : List Term
@@ -99,9 +99,9 @@ pub tells_count : (old new : State) (runs : List Run) (n : ℕ) (rows : List Row
     → rows ≡ (Int (pos (min (length (entries_of (run_at runs n))) most)) ∷ []) ∷ []
 tells_count old new runs n rows has h =
     let params : Row = Int (pos n) ∷ [] in
-    let reads = reads_as count_text params old new schema_1 has.tables.schema _ count_is.0 count_is.2 count_is.1 rows h in
+    let reads = reads_as count_text params old new schema_2 has.tables.schema _ count_is.0 count_is.2 count_is.1 rows h in
     let is = counted old.now.trees params rows reads.answer in
-    let from = of_entries old.now.trees runs has.tables.entries_are (passes params) (λ r. no_row) (same_passes params) (λ r. refl) in
+    let from = of_stored (old.now.trees 3) (entry_rows runs) has.tables.entries_are (passes params) (λ r. no_row) (same_passes params) (λ r. refl) in
     let of_one = of_run (λ r. passes params (back r)) (λ (e : Entry). true) n runs (each n) has.tables.valid.numbered in
     let long : length (filter (passes params) (old.now.trees 3)) ≡ length (entries_of (run_at runs n)) =
     sym (length-map _ (λ (r : Row). no_row)) ∙ length_permutation _ _ from ∙ length-map _ _ ∙ ap length of_one ∙ length-map _ (entry_row n) ∙ ap length (all_pass (entries_of (run_at runs n))) in

@@ -21,7 +21,7 @@ use Rattle.sqlite.specs.Effect.{Database, IsDatabase, value_rows}
 use Rattle.sqlite.specs.State.{State, mode_of, Writes, Executes}
 use Rattle.sqlite.proofs.Callers.{IsPlain, command_of, statement_of, runs_as}
 use Rattle.sqlite_tied.specs.Compute.{everything}
-use Rattle.kt_store.specs.Tables.{no_schema, schema_1, meta, runs, entries, meta_1, create_meta, create_runs, create_entries, mark_text}
+use Rattle.kt_store.specs.Tables.{no_schema, schema_1, schema_2, meta, runs, entries, props, meta_1, create_meta, create_runs, create_entries, create_props, mark_text}
 use Rattle.kt_store.specs.Runs.{Tables}
 use Rattle.kt_store.proofs.SqlFacts.{mark_is, mark_terms}
 use Rattle.kt_store.proofs.InsertLemmas.{went, same_value, changed}
@@ -47,6 +47,10 @@ runs_create = (refl, refl, (refl, refl), refl, refl)
 pub entries_create : IsCreate schema_b create_entries entries
 unfolding understood everything
 entries_create = (refl, refl, (refl, refl), refl, refl)
+
+pub props_create : IsCreate schema_1 create_props props
+unfolding understood everything
+props_create = (refl, refl, (refl, refl), refl, refl)
 
 pub record Makes (schema : Schema) (table : Table) (old new : State) : Type 0 where
   pub schema_is : new.now.schema ≡ created schema table
@@ -76,27 +80,29 @@ mark_command = Insert 0 (Values mark_terms 3)
 abbrev mark_rows : List Row
 mark_rows = value_rows [] 3 1 mark_terms
 
-mark_works : (params : Row) (trees : Trees) → let edit = edit_of trees meta_1 [] Chosen 0 (value_rows params 3 1 mark_terms) in works schema_1 Enforced 0 edit.table.tree (taken_by trees edit) edit.news ≡ []
+mark_works : (params : Row) (trees : Trees) → let edit = edit_of trees meta_1 [] Chosen 0 (value_rows params 3 1 mark_terms) in works schema_2 Enforced 0 edit.table.tree (taken_by trees edit) edit.news ≡ []
 mark_works params trees = refl
 
--- the four statements, in turn
-pub made_all : (a b c d e : State) (i j k l : ℕ) → a.now.schema ≡ no_schema → Executes create_meta [] a b (Ok i) → Executes create_runs [] b c (Ok j) → Executes create_entries [] c d (Ok k) → Executes mark_text [] d e (Ok l)
+-- the five statements, in turn
+pub made_all : (a b c m d e : State) (i j k o l : ℕ) → a.now.schema ≡ no_schema → Executes create_meta [] a b (Ok i) → Executes create_runs [] b c (Ok j) → Executes create_entries [] c m (Ok k) → Executes create_props [] m d (Ok o) → Executes mark_text [] d e (Ok l)
     → Tables e.now [] × IsDatabase e.now
-made_all a b c d e i j k l has one two three four =
+made_all a b c m d e i j k o l has one two three fourth four =
     let first = makes no_schema create_meta meta meta_create a b i has one in
     let second = makes schema_a create_runs runs runs_create b c j first.schema_is two in
-    let third = makes schema_b create_entries entries entries_create c d k second.schema_is three in
-    let text = statement_of mark_text (understood schema_1 mark_text) in
-    let w : Writes d e None mark_command text [] l = runs_as mark_text [] d e schema_1 third.schema_is mark_command mark_is.0 mark_is.1 l four in
-    let did = changed schema_1 0 meta_1 mark_terms 3 refl refl refl mark_works d.step_limit (mode_of d) [] d.now e.now text w.tally refl third.schema_is w.changed in
-    let meta_empty : d.now.trees 0 ≡ [] = third.others.0 ∙ second.others.0 ∙ first.empty in
-    let runs_empty : d.now.trees 2 ≡ [] = third.others.1.0 ∙ second.empty in
-    let marked : e.now.trees 0 ≡ (Int (pos 1) ∷ Text (codes "schema") ∷ Int (pos 1) ∷ []) ∷ [] = did.applies.rows ∙ rw (meta_empty, cast_null, cast_int (pos 1)) refl in (
+    let third = makes schema_b create_entries entries entries_create c m k second.schema_is three in
+    let last = makes schema_1 create_props props props_create m d o third.schema_is fourth in
+    let text = statement_of mark_text (understood schema_2 mark_text) in
+    let w : Writes d e None mark_command text [] l = runs_as mark_text [] d e schema_2 last.schema_is mark_command mark_is.0 mark_is.1 l four in
+    let did = changed schema_2 0 meta_1 mark_terms 3 refl refl refl mark_works d.step_limit (mode_of d) [] d.now e.now text w.tally refl last.schema_is w.changed in
+    let meta_empty : d.now.trees 0 ≡ [] = last.others.0 ∙ third.others.0 ∙ second.others.0 ∙ first.empty in
+    let runs_empty : d.now.trees 2 ≡ [] = last.others.1.0 ∙ third.others.1.0 ∙ second.empty in
+    let marked : e.now.trees 0 ≡ (Int (pos 1) ∷ Text (codes "schema") ∷ Int (pos 2) ∷ []) ∷ [] = did.applies.rows ∙ rw (meta_empty, cast_null, cast_int (pos 2)) refl in (
       record {
         schema = did.schema_is;
         marked = ap (map (drop 1)) marked;
         runs_are = did.applies.tables.1.0 (λ e. cc) ∙ runs_empty;
-        entries_are = subst (λ rows. IsPermutation {X = Row} [] (map (drop 1) rows)) (sym (did.applies.tables.1.1.0 (λ e. cc) ∙ third.empty)) (IsPermutation-refl []);
+        entries_are = subst (λ rows. IsPermutation {X = Row} [] (map (drop 1) rows)) (sym (did.applies.tables.1.1.0 (λ e. cc) ∙ last.others.1.1.0 ∙ third.empty)) (IsPermutation-refl []);
+        props_are = subst (λ rows. IsPermutation {X = Row} [] (map (drop 1) rows)) (sym (did.applies.tables.1.1.1.0 (λ e. cc) ∙ last.empty)) (IsPermutation-refl []);
         valid = record { numbered = tt; each = tt; few = omega arith };
       },
       w.sound,

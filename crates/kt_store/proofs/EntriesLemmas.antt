@@ -17,14 +17,14 @@ use Rattle.sqlite.specs.State.{State, Shown, HasCleanDisk}
 use Rattle.sqlite.proofs.Callers.{reads_as}
 use Rattle.kt_base.specs.declared.run.Run.{Run}
 use Rattle.kt_base.specs.declared.entry.Entry.{Entry}
-use Rattle.kt_store.specs.Tables.{entries_text, schema_1}
+use Rattle.kt_store.specs.Tables.{entries_text, schema_2}
 use Rattle.kt_store.specs.Runs.{IsRun, IsEntry, entry_row, entry_rows, entries_of, run_at, AreRuns}
 use Rattle.kt_store.specs.Heads.{entry_columns}
 use Rattle.kt_store.specs.Stands.{IsStore, StandsFor}
 use Rattle.kt_store.specs.Ask.{Asked}
 use Rattle.kt_store.proofs.SqlFacts.{entries_select_is, entries_query, is}
 use Rattle.kt_store.proofs.QueryLemmas.{answered_sorted}
-use Rattle.kt_store.proofs.EntryLemmas.{back, of_entries, of_run, same_test, one_truth}
+use Rattle.kt_store.proofs.EntryLemmas.{back, of_stored, of_run, same_test, one_truth}
 use Rattle.kt_store.proofs.HeadLemmas.{below}
 use Rattle.kt_store.proofs.CloseLemmas.{run_of}
 use Rattle.kt_store.proofs.AskLemmas.{asked_mid}
@@ -74,7 +74,7 @@ rises n (e ∷ es) h = (all_lower n e es h.0, rises n es h.1)
 abbrev Up : List Entry → Type 0
 Up es = IsAscending (λ (a b : Entry). a.position < b.position) es
 
-up_of : (runs : List Run) (n : ℕ) → AreRuns runs → Up (entries_of (run_at runs n))
+pub up_of : (runs : List Run) (n : ℕ) → AreRuns runs → Up (entries_of (run_at runs n))
 up_of runs n valid = go (run_at runs n) (λ r there. run_of n runs r valid there)
   where
     go : (o : Option Run) → ((r : Run) → o ≡ Some r → IsRun r) → Up (entries_of o)
@@ -92,7 +92,7 @@ all_below : (es : List Entry) (total : ℕ) → total < 4294967296 → AllByRecu
 all_below [] total small h = tt
 all_below (e ∷ es) total small h = (omega (arith, small, h.0), all_below es total small h.1)
 
-small_of : (runs : List Run) (n : ℕ) → AreRuns runs → AllByRecursion (λ (e : Entry). e.position < 4294967296) (entries_of (run_at runs n))
+pub small_of : (runs : List Run) (n : ℕ) → AreRuns runs → AllByRecursion (λ (e : Entry). e.position < 4294967296) (entries_of (run_at runs n))
 small_of runs n valid = go (run_at runs n) (λ r there. run_of n runs r valid there)
   where
     go : (o : Option Run) → ((r : Run) → o ≡ Some r → IsRun r) → AllByRecursion (λ (e : Entry). e.position < 4294967296) (entries_of o)
@@ -103,8 +103,8 @@ pub tells_entries : (old new : State) (runs : List Run) (n : ℕ) (rows : List R
 tells_entries old new runs n rows has h =
     let params : Row = Int (pos n) ∷ [] in
     let es = entries_of (run_at runs n) in
-    let reads = reads_as entries_text params old new schema_1 has.tables.schema _ entries_select_is.0 entries_select_is.2 entries_select_is.1 rows h in
-    let from = of_entries old.now.trees runs has.tables.entries_are (passes params) (out params) (same_passes params) (same_out params) in
+    let reads = reads_as entries_text params old new schema_2 has.tables.schema _ entries_select_is.0 entries_select_is.2 entries_select_is.1 rows h in
+    let from = of_stored (old.now.trees 3) (entry_rows runs) has.tables.entries_are (passes params) (out params) (same_passes params) (same_out params) in
     let of_one = of_run (λ r. passes params (back r)) (λ (e : Entry). true) n runs (each n) has.tables.valid.numbered ∙ ap (map (entry_row n)) (all_pass es) in
     let outs : map (λ r. out params (back r)) (filter (λ r. passes params (back r)) (entry_rows runs)) ≡ map (entry_out n) es =
     ap (map (λ r. out params (back r))) of_one ∙ map-map (λ r. out params (back r)) (entry_row n) es in
@@ -115,12 +115,6 @@ tells_entries old new runs n rows has h =
 module _ {S : Type 0} (g : Ghosts S) (old new : Held S) (runs : List Run) (has : StandsFor (state g old) runs) (earlier : HasCleanDisk (state g new) → HasCleanDisk (state g old)) where
   pub asked_entries : (n : ℕ) (rows : List Row) → HasCleanDisk (state g new) → Asked g entries_text (Int (pos n) ∷ []) old new rows → rows ≡ map entry_columns (entries_of (run_at runs n))
   asked_entries n rows clean it = tells_entries (state g it.mid) (state g new) runs n rows (asked_mid g old new runs has earlier entries_text entries_select_is.2 (Int (pos n) ∷ []) rows clean it) it.shown
-
-  pub asked_sound : (n : ℕ) (rows : List Row) → HasCleanDisk (state g new) → Asked g entries_text (Int (pos n) ∷ []) old new rows → AllByRecursion IsEntry (entries_of (run_at runs n))
-  asked_sound n rows clean it = sound_of runs n (asked_mid g old new runs has earlier entries_text entries_select_is.2 (Int (pos n) ∷ []) rows clean it).tables.valid
-
-  pub asked_small : (n : ℕ) (rows : List Row) → HasCleanDisk (state g new) → Asked g entries_text (Int (pos n) ∷ []) old new rows → AllByRecursion (λ (e : Entry). e.position < 4294967296) (entries_of (run_at runs n))
-  asked_small n rows clean it = small_of runs n (asked_mid g old new runs has earlier entries_text entries_select_is.2 (Int (pos n) ∷ []) rows clean it).tables.valid
 
 -- the next of them, with what all of them have
 pub one_sound : {X Y Z : Type 0} (P : X → Type 0) (f : X → Y) (h : X → Z) (xs : List X) (i : ℕ) (y : Y) → AllByRecursion P xs → i < length xs → y ≡ get_or (map f xs) i y

@@ -6,7 +6,6 @@ use Rattle.std.proofs.lemmas.List.Sorted.{IsPermutation-map}
 use Rattle.sqlite_keyed.proofs.ListLemmas.{IsPermutation-filter}
 use Rattle.sqlite.specs.declared.types.Value.TheVariants.{Null, Int}
 use Rattle.sqlite.specs.Order.{Row}
-use Rattle.sqlite.specs.Tree.{Trees}
 use Rattle.sqlite_value.specs.Order.{value_cmp}
 use Rattle.sqlite_value.proofs.OrderLemmas.{value_cmp-Int}
 use Rattle.std.specs.Ordering.{is_eq}
@@ -19,7 +18,7 @@ use Rattle.kt_store.specs.Runs.{entry_row, entry_rows, entries_of, run_at, AreNu
 abbrev pub back : Row → Row
 back row = Null ∷ row
 
-module _ {X : Type 0} (trees : Trees) (runs : List Run) (are : IsPermutation (entry_rows runs) (map (drop 1) (trees 3))) (passes : Row → Bool) (show : Row → X)
+module _ {X : Type 0} (stored all : List Row) (are : IsPermutation all (map (drop 1) stored)) (passes : Row → Bool) (show : Row → X)
     (same_passes : (r : Row) → passes r ≡ passes (back (drop 1 r))) (same_show : (r : Row) → show r ≡ show (back (drop 1 r))) where
   without_id : (rows : List Row) → map show (filter passes rows) ≡ map (λ r. show (back r)) (filter (λ r. passes (back r)) (map (drop 1) rows))
   without_id [] = refl
@@ -30,9 +29,9 @@ module _ {X : Type 0} (trees : Trees) (runs : List Run) (are : IsPermutation (en
       go true more = ap₂ (λ x xs. x ∷ xs) (same_show r) more
       go false more = more
 
-  pub of_entries : IsPermutation (map (λ r. show (back r)) (filter (λ r. passes (back r)) (entry_rows runs))) (map show (filter passes (trees 3)))
-  of_entries = subst (λ l. IsPermutation (map (λ r. show (back r)) (filter (λ r. passes (back r)) (entry_rows runs))) l) (sym (without_id (trees 3)))
-      (IsPermutation-map (λ r. show (back r)) _ _ (IsPermutation-filter (λ r. passes (back r)) (entry_rows runs) (map (drop 1) (trees 3)) are))
+  pub of_stored : IsPermutation (map (λ r. show (back r)) (filter (λ r. passes (back r)) all)) (map show (filter passes stored))
+  of_stored = subst (λ l. IsPermutation (map (λ r. show (back r)) (filter (λ r. passes (back r)) all)) l) (sym (without_id stored))
+      (IsPermutation-map (λ r. show (back r)) _ _ (IsPermutation-filter (λ r. passes (back r)) all (map (drop 1) stored) are))
 
 -- the entries of one run, of those of all
 module _ (test : Row → Bool) (n : ℕ) (keep : Entry → Bool) (each : (m : ℕ) (e : Entry) → test (entry_row m e) ≡ (m == n) && keep e) where

@@ -1,5 +1,5 @@
 -- What a refusal is told as.
-use Rattle.std.proofs.Common.{◌≡◌, ◌≢◌, ◌⊎◌, ◌++◌, ◌∙◌, inl, inr, ℕ, pos, Bool, true, false, List, [], ◌∷◌, Some, slice_get, refl, sym, ap, Result, Ok, Err, IsErrAnd, IfErr, OnErr}
+use Rattle.std.proofs.Common.{◌≡◌, ◌≢◌, ◌⊎◌, ◌++◌, ◌∙◌, inl, inr, ℕ, pos, Bool, true, false, List, [], ◌∷◌, Some, slice_get, refl, sym, ap, subst, Result, Ok, Err, IsErrAnd, IfErr, OnErr}
 use Rattle.sqlite.specs.declared.error.ErrorCode.TheVariants as code
 use Rattle.sqlite.specs.declared.error.Error.{Error}
 use Rattle.sqlite.specs.declared.error.Error.TheVariants.{SqliteFailure}
@@ -28,6 +28,11 @@ told error fault (inr h) cause = inr (h.0, cause h.1)
 pub if_told : {T : Type 0} {Q : StoreFault → Type 0} (r : Result T StoreFault) (error : Error) → IsErrAnd r (Tells error) → ((fault : StoreFault) → Tells error fault → Q fault) → IfErr r Q
 if_told (Ok x) error h each = absurd h
 if_told (Err fault) error h each = each fault h
+
+-- what is known of a fault is known of the answer that hands it on
+pub if_same : {T : Type 0} (Q : StoreFault → Type 0) (r : Result T StoreFault) (e : StoreFault) → IsErrAnd r (λ x. x ≡ e) → Q e → IfErr r Q
+if_same Q (Ok x) e h q = absurd h
+if_same Q (Err fault) e h q = subst Q (sym h) q
 
 -- what is known anyway is known of a refusal
 pub on_err : {T E P : Type 0} (r : Result T E) → P → OnErr r P

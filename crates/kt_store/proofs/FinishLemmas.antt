@@ -24,7 +24,7 @@ use Rattle.sqlite.specs.Rows.{Task, Written, Updates}
 use Rattle.sqlite.specs.Effect.{Database, Answers}
 use Rattle.sqlite.proofs.Callers.{one_step, one_permutation}
 use Rattle.kt_base.specs.declared.run.Run.{Run}
-use Rattle.kt_store.specs.Tables.{schema_1, runs_1}
+use Rattle.kt_store.specs.Tables.{schema_2, runs_1}
 use Rattle.kt_store.specs.Runs.{Tables, AreNumbered, run_row, run_at, finish}
 use Rattle.kt_store.proofs.SqlFacts.{finish_query, is}
 use Rattle.kt_store.proofs.InsertLemmas.{went, same_value, concluded}
@@ -36,7 +36,7 @@ abbrev pub finish_program : Program
 finish_program = record { lets = []; body = finish_query }
 
 -- the rows that an UPDATE writes are those of its query
-updates : (task : Task) (q : Program) (given : Row) (db : Trees) (done : Written) → Updates task q given db (Ok done)
+pub updates : (task : Task) (q : Program) (given : Row) (db : Trees) (done : Written) → Updates task q given db (Ok done)
     → (rows : List Row) × Answers (record { schema = task.schema; trees = db }) q given rows × Writes task.schema task.keys db (edit_of db task.table (ids_of rows) Given 1 rows) (Ok done.trees)
 updates task q given db done h =
     let asked = went h in
@@ -46,19 +46,19 @@ updates task q given db done h =
 abbrev pub done_row : Run → Row
 done_row r = Int (pos r.number) ∷ Int (pos r.number) ∷ Null ∷ Int (pos r.started) ∷ Int (pos r.total) ∷ Int (pos 1) ∷ []
 
-finish_works : (r : Run) (trees : Trees) → let edit = edit_of trees runs_1 (ids_of (done_row r ∷ [])) Given 1 (done_row r ∷ []) in works schema_1 Enforced 0 edit.table.tree (taken_by trees edit) edit.news ≡ []
+finish_works : (r : Run) (trees : Trees) → let edit = edit_of trees runs_1 (ids_of (done_row r ∷ [])) Given 1 (done_row r ∷ []) in works schema_2 Enforced 0 edit.table.tree (taken_by trees edit) edit.news ≡ []
 finish_works r trees = refl
 
 -- an UPDATE of one run
 pub finish_writes : (limit : Option ℕ) (mode : Mode) (n : ℕ) (db after : Database) (text : List ℕ) (tally : Tally) (runs : List Run) (r : Run) → mode.keys ≡ Enforced → Tables db runs → run_at runs n ≡ Some r
     → Does limit mode (Int (pos n) ∷ []) db text None (Update 1 finish_program) (Ok (tally, after))
-    → (after.schema ≡ schema_1) × Applies schema_1 Enforced db.trees (edit_of db.trees runs_1 (ids_of (done_row r ∷ [])) Given 1 (done_row r ∷ [])) after.trees
+    → (after.schema ≡ schema_2) × Applies schema_2 Enforced db.trees (edit_of db.trees runs_1 (ids_of (done_row r ∷ [])) Given 1 (done_row r ∷ [])) after.trees
 finish_writes limit mode n db after text tally runs r enforced has there does =
     let params = Int (pos n) ∷ [] in
     let on_table = subst (λ x. AtPlace (λ t. OnRows (record { limit = limit; keys = mode.keys; schema = x; table = t; params = params }) mode None (Update 1 finish_program) db.trees) (slice_get x.tables 1) (Ok (tally, after))) has.schema does in
-    let task : Task = record { limit = limit; keys = Enforced; schema = schema_1; table = runs_1; params = params } in
+    let task : Task = record { limit = limit; keys = Enforced; schema = schema_2; table = runs_1; params = params } in
     let rows : OnRows task mode None (Update 1 finish_program) db.trees (Ok (tally, after)) =
-    subst (λ k. OnRows (record { limit = limit; keys = k; schema = schema_1; table = runs_1; params = params }) mode None (Update 1 finish_program) db.trees (Ok (tally, after))) enforced on_table in
+    subst (λ k. OnRows (record { limit = limit; keys = k; schema = schema_2; table = runs_1; params = params }) mode None (Update 1 finish_program) db.trees (Ok (tally, after))) enforced on_table in
     let done = went rows in
     let ends = concluded task mode done.0 tally after done.2 in
     let wrote = updates task finish_program params db.trees done.0 done.1 in
@@ -68,9 +68,9 @@ finish_writes limit mode n db after text tally runs r enforced has there does =
     let found : picked 2 tests project [] db.trees params ≡ run_row r ∷ [] =
     ap (filter _) has.runs_are ∙ picked_run n (col 0 0) params (λ r. refl) runs has.valid.numbered ∙ ap (λ o. map run_row (option_to_list o)) there in
     let one : wrote.0 ≡ done_row r ∷ [] = one_permutation (done_row r) wrote.0 (subst (λ l. IsPermutation (map (show 2 tests project [] db.trees params) l) wrote.0) found all) in
-    let edit : Writes schema_1 Enforced db.trees (edit_of db.trees runs_1 (ids_of (done_row r ∷ [])) Given 1 (done_row r ∷ [])) (Ok done.0.trees) =
-    subst (λ l. Writes schema_1 Enforced db.trees (edit_of db.trees runs_1 (ids_of l) Given 1 l) (Ok done.0.trees)) one wrote.2 in
-    (ap (λ (d : Database). d.schema) ends.1, subst (Applies schema_1 Enforced db.trees _) (sym (ap (λ (d : Database). d.trees) ends.1)) (one_step schema_1 Enforced db.trees done.0.trees _ (finish_works r db.trees) edit))
+    let edit : Writes schema_2 Enforced db.trees (edit_of db.trees runs_1 (ids_of (done_row r ∷ [])) Given 1 (done_row r ∷ [])) (Ok done.0.trees) =
+    subst (λ l. Writes schema_2 Enforced db.trees (edit_of db.trees runs_1 (ids_of l) Given 1 l) (Ok done.0.trees)) one wrote.2 in
+    (ap (λ (d : Database). d.schema) ends.1, subst (Applies schema_2 Enforced db.trees _) (sym (ap (λ (d : Database). d.trees) ends.1)) (one_step schema_2 Enforced db.trees done.0.trees _ (finish_works r db.trees) edit))
 
 below : (m n : ℕ) → m < n → value_cmp (Int (pos m)) (Int (pos n)) ≡ Less
 below m n h = value_cmp-Int (pos m) (pos n) ∙ grind (arith, ints, nat_tests)
@@ -122,7 +122,7 @@ replaced from (suc k) (x ∷ runs) r h there =
     rw (apart, stays) (rw first (ap (λ l. run_row x ∷ l) rest))
 
 pub finished_rows : (k : ℕ) (db after : Trees) (runs : List Run) (r : Run) → AreNumbered 1 runs → db 2 ≡ map run_row runs → run_at runs (suc k) ≡ Some r
-    → Applies schema_1 Enforced db (edit_of db runs_1 (ids_of (done_row r ∷ [])) Given 1 (done_row r ∷ [])) after → after 2 ≡ map run_row (finish (suc k) runs)
+    → Applies schema_2 Enforced db (edit_of db runs_1 (ids_of (done_row r ∷ [])) Given 1 (done_row r ∷ [])) after → after 2 ≡ map run_row (finish (suc k) runs)
 finished_rows k db after runs r h rows there did =
     let number : r.number ≡ suc k = number_at 1 k runs r h there ∙ omega arith in
     let news : (edit_of db runs_1 (ids_of (done_row r ∷ [])) Given 1 (done_row r ∷ [])).news ≡ run_row (record r { finished = true }) ∷ [] =

@@ -13,7 +13,7 @@ use Rattle.sqlite.specs.Term.{lit, col, holds}
 use Rattle.sqlite.specs.State.{State, Shown}
 use Rattle.sqlite.proofs.Callers.{reads_as}
 use Rattle.kt_base.specs.declared.run.Run.{Run}
-use Rattle.kt_store.specs.Tables.{full_text, schema_1}
+use Rattle.kt_store.specs.Tables.{full_text, schema_2}
 use Rattle.kt_store.specs.Runs.{run_row, run_at}
 use Rattle.sqlite.specs.State.{HasCleanDisk}
 use Rattle.kt_store.specs.Stands.{IsStore, StandsFor}
@@ -35,7 +35,7 @@ is_past runs k h = ap (λ o. length (option_to_list o)) (slice_get_past runs k h
 
 pub tells_full : (old new : State) (runs : List Run) (rows : List Row) → IsStore old runs → Shown full_text [] old new rows → length rows ≡ length (option_to_list (run_at runs 1000000))
 tells_full old new runs rows has h =
-    let reads = reads_as full_text [] old new schema_1 has.tables.schema _ full_is.0 full_is.2 full_is.1 rows h in
+    let reads = reads_as full_text [] old new schema_2 has.tables.schema _ full_is.0 full_is.2 full_is.1 rows h in
     let all = answered 2 (is (col 1 0) (lit (Int (pos 1000000))) ∷ []) (col 1 0 ∷ []) [] old.now.trees [] rows reads.answer in
     let tests = is (col 1 0) (lit (Int (pos 1000000))) ∷ [] in
     let rows_are : picked 2 tests (col 1 0 ∷ []) [] old.now.trees [] ≡ map run_row (option_to_list (run_at runs 1000000)) =

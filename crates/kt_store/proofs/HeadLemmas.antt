@@ -19,7 +19,7 @@ use Rattle.sqlite.specs.Held.{Held, state}
 use Rattle.sqlite.specs.State.{State, Shown, HasCleanDisk}
 use Rattle.sqlite.proofs.Callers.{reads_as}
 use Rattle.kt_base.specs.declared.run.Run.{Run}
-use Rattle.kt_store.specs.Tables.{runs_text, schema_1}
+use Rattle.kt_store.specs.Tables.{runs_text, schema_2}
 use Rattle.kt_store.specs.Runs.{run_row, AreNumbered, IsRun}
 use Rattle.kt_store.specs.Heads.{head_columns}
 use Rattle.kt_store.specs.Stands.{IsStore, StandsFor}
@@ -54,7 +54,7 @@ all_pass (r ∷ rows) = ap (λ l. r ∷ l) (all_pass rows)
 
 pub tells_heads : (old new : State) (runs : List Run) (rows : List Row) → IsStore old runs → Shown runs_text [] old new rows → rows ≡ map head_columns runs
 tells_heads old new runs rows has h =
-    let reads = reads_as runs_text [] old new schema_1 has.tables.schema _ runs_select_is.0 runs_select_is.2 runs_select_is.1 rows h in
+    let reads = reads_as runs_text [] old new schema_2 has.tables.schema _ runs_select_is.0 runs_select_is.2 runs_select_is.1 rows h in
     let picked : filter (λ (r : Row). true) (old.now.trees 2) ≡ map run_row runs = all_pass (old.now.trees 2) ∙ has.tables.runs_are in
     answered_in_order 2 [] (col 1 0 ∷ col 1 2 ∷ col 1 3 ∷ col 1 4 ∷ []) ((col 1 0, ascending Binary) ∷ []) old.now.trees [] rows reads.answer
     (subst (IsAscending lower) (sym picked) (rises 1 runs has.tables.valid.numbered))

@@ -25,3 +25,12 @@ pub mod EmptyLemmas
 pub mod ViewLemmas
 pub mod Numbered
 pub mod Crashing
+pub mod PairLemmas
+pub mod FillLemmas
+pub mod RaiseLemmas
+pub mod PairsLemmas
+pub mod MergeLemmas
+pub mod TurnLemmas
+pub mod CommitLemmas
+pub mod RenewLemmas
+pub mod UniqueLemmas

@@ -14,8 +14,9 @@ use Rattle.sqlite.specs.Held.{Held, state}
 use Rattle.sqlite.specs.State.{State, Shown, HasCleanDisk, IsUnchanged}
 use Rattle.sqlite.proofs.Callers.{reads_as, one_permutation}
 use Rattle.kt_base.specs.declared.run.Run.{Run}
-use Rattle.kt_store.specs.Tables.{meta_text, meta_1, runs_1, entries_1, index_of, beside_meta}
-use Rattle.kt_store.specs.Stands.{StandsFor, SaysSchema, SaysNumber, IsEmpty}
+use Rattle.kt_store.specs.Tables.{meta_text, meta_1, runs_1, entries_1, props_1, index_of, beside_meta}
+use Rattle.kt_store.specs.Stands.{StandsFor, StandsInOld, SaysSchema, SaysNumber, IsEmpty}
+use Rattle.kt_store.specs.Runs.{OldTables}
 use Rattle.kt_store.specs.Ask.{Asked}
 use Rattle.kt_store.proofs.StepLemmas.{same_store}
 use Rattle.kt_store.proofs.SqlFacts.{is}
@@ -24,16 +25,16 @@ use Rattle.sqlite.specs.Listing.{understood}
 use Rattle.sqlite.specs.Given.{IsPlain}
 use Rattle.kt_store.proofs.QueryLemmas.{answered}
 
-abbrev tests : List Term
+abbrev pub tests : List Term
 tests = is (col 1 1) (lit (Text (codes "schema"))) ∷ []
 
-abbrev passes : Row → Bool
+abbrev pub passes : Row → Bool
 passes r = list_all (holds ([] ∷ r ∷ [])) tests
 
 abbrev shows : Row → Row
 shows r = column r 2 ∷ []
 
-passes_it : (n : ℤ) (x : Value) → passes (x ∷ Text (codes "schema") ∷ Int n ∷ []) ≡ true
+pub passes_it : (n : ℤ) (x : Value) → passes (x ∷ Text (codes "schema") ∷ Int n ∷ []) ≡ true
 unfolding binary value_cmp lib.Ieee.is_nan lib.Ieee.lt
 passes_it n x = refl
 
@@ -73,7 +74,16 @@ module _ {S : Type 0} (g : Ghosts S) (old new : Held S) (earlier : HasCleanDisk 
       let has = says (earlier clean) it.same.0.was_open in
       tells_meta (state g it.mid) (state g new) n rows (says_then (state g old) (state g it.mid) n same has) it.shown
 
-pub says_one : (s : State) (runs : List Run) → StandsFor s runs → SaysSchema (pos 1) s
+pub says_two : (s : State) (runs : List Run) → StandsFor s runs → SaysSchema (pos 2) s
+says_two s runs has clean opened = record {
+  others = runs_1 ∷ entries_1 ∷ props_1 ∷ [];
+  indexes = index_of meta_1 1 ∷ index_of entries_1 4 ∷ index_of props_1 6 ∷ [];
+  views = [];
+  schema = (has clean opened).tables.schema;
+  marked = (has clean opened).tables.marked;
+}
+
+pub says_one : (s : State) (runs : List Run) → StandsInOld s runs → SaysSchema (pos 1) s
 says_one s runs has clean opened = record {
   others = runs_1 ∷ entries_1 ∷ [];
   indexes = index_of meta_1 1 ∷ index_of entries_1 4 ∷ [];
@@ -113,6 +123,16 @@ module _ (old mid : State) (earlier : HasCleanDisk mid → HasCleanDisk old) (sa
 
   pub still_stands : (runs : List Run) → StandsFor old runs → StandsFor mid runs
   still_stands runs has clean opened = same_store old mid runs (has (earlier clean) (same clean).0.was_open) (same clean)
+
+  pub still_old : (runs : List Run) → StandsInOld old runs → StandsInOld mid runs
+  still_old runs has clean opened =
+      let it = same clean in
+      let held = has (earlier clean) it.0.was_open in
+      record {
+        autocommit = it.0.mode ∙ held.autocommit;
+        settled = it.0.committed_is ∙ held.settled ∙ sym it.0.now_is;
+        tables = subst (λ db. OldTables db runs) (sym it.0.now_is) held.tables;
+      }
 
   pub says_filled : (n : ℤ) → SaysSchema n old → HasCleanDisk mid → mid.now.schema.tables ≢ []
   says_filled n says clean none =

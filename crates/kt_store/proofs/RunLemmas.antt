@@ -14,7 +14,7 @@ use Rattle.sqlite.specs.State.{State, Shown, HasCleanDisk}
 use Rattle.sqlite.proofs.Callers.{reads_as, one_permutation}
 use Rattle.std.specs.Prelude.{unsigned_abs}
 use Rattle.kt_base.specs.declared.run.Run.{Run}
-use Rattle.kt_store.specs.Tables.{run_text, schema_1}
+use Rattle.kt_store.specs.Tables.{run_text, schema_2}
 use Rattle.kt_store.specs.Runs.{run_row, run_at, flag}
 use Rattle.kt_store.specs.Stands.{IsStore, StandsFor}
 use Rattle.kt_store.specs.Ask.{Asked}
@@ -42,7 +42,7 @@ shown_rows trees n (Some r) rows h = h
 pub tells_run : (old new : State) (runs : List Run) (n : ℕ) (rows : List Row) → IsStore old runs → Shown run_text (Int (pos n) ∷ []) old new rows → rows ≡ map head_row (option_to_list (run_at runs n))
 tells_run old new runs n rows has h =
     let params = Int (pos n) ∷ [] in
-    let reads = reads_as run_text params old new schema_1 has.tables.schema _ run_is.0 run_is.2 run_is.1 rows h in
+    let reads = reads_as run_text params old new schema_2 has.tables.schema _ run_is.0 run_is.2 run_is.1 rows h in
     let tests = is (col 1 0) (col 0 0) ∷ [] in
     let project = col 1 3 ∷ col 1 4 ∷ [] in
     let all = answered 2 tests project [] old.now.trees params rows reads.answer in

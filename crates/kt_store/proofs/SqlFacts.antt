@@ -14,7 +14,7 @@ use Rattle.sqlite.proofs.Callers.{IsPlain, command_of}
 use Rattle.sqlite_sql.specs.declared.ops.BinaryOp.TheVariants.{Compare}
 use Rattle.sqlite_sql.specs.declared.ops.CompareOp.TheVariants.{Eq}
 use Rattle.sqlite_tied.specs.Compute.{everything}
-use Rattle.kt_store.specs.Tables.{schema_1, full_text, begin_text, run_text, count_text, finish_text, runs_text, there_text, put_text, entries_text, meta_text, mark_text}
+use Rattle.kt_store.specs.Tables.{schema_2, full_text, begin_text, run_text, count_text, finish_text, runs_text, there_text, put_text, pair_text, entries_text, pairs_text, meta_text, mark_text, raise_text}
 
 abbrev pub query : Query
 query = record { from = end; filter = []; group = None; project = []; distinct = false; collations = []; order = []; limit = lit (Int (negsuc 0)); offset = lit (Int (pos 0)) }
@@ -28,58 +28,78 @@ is a b = op2 (Compare Eq Binary) a b
 abbrev pub full_query : Query
 full_query = record query { from = inner 2 end; filter = is (col 1 0) (lit (Int (pos 1000000))) ∷ []; project = col 1 0 ∷ [] }
 
-pub full_is : (command_of (understood schema_1 full_text) ≡ select full_query (codes "id" ∷ [])) × (reads_listing schema_1 full_text ≡ false) × IsPlain (understood schema_1 full_text)
+pub full_is : (command_of (understood schema_2 full_text) ≡ select full_query (codes "id" ∷ [])) × (reads_listing schema_2 full_text ≡ false) × IsPlain (understood schema_2 full_text)
 unfolding understood everything
 full_is = (refl, refl, (refl, refl))
 
 abbrev pub begin_terms : List Term
 begin_terms = lit Null ∷ lit Null ∷ col 0 0 ∷ col 0 1 ∷ lit (Int (pos 0)) ∷ []
 
-pub begin_is : (command_of (understood schema_1 begin_text) ≡ Insert 1 (Values begin_terms 5)) × IsPlain (understood schema_1 begin_text)
+pub begin_is : (command_of (understood schema_2 begin_text) ≡ Insert 1 (Values begin_terms 5)) × IsPlain (understood schema_2 begin_text)
 unfolding understood everything
 begin_is = (refl, (refl, refl))
 
 abbrev pub run_query : Query
 run_query = record query { from = inner 2 end; filter = is (col 1 0) (col 0 0) ∷ []; project = col 1 3 ∷ col 1 4 ∷ [] }
 
-pub run_is : (command_of (understood schema_1 run_text) ≡ select run_query (codes "total" ∷ codes "finished" ∷ [])) × (reads_listing schema_1 run_text ≡ false) × IsPlain (understood schema_1 run_text)
+pub run_is : (command_of (understood schema_2 run_text) ≡ select run_query (codes "total" ∷ codes "finished" ∷ [])) × (reads_listing schema_2 run_text ≡ false) × IsPlain (understood schema_2 run_text)
 unfolding understood everything
 run_is = (refl, refl, (refl, refl))
 
 abbrev pub count_query : Query
 count_query = record query { from = inner 3 end; filter = is (col 1 1) (col 0 0) ∷ []; group = Some (record { keys = []; collations = []; aggregates = record { op = CountRows; distinct = false; collation = Binary; argument = lit Null } ∷ []; having = [] }); project = col 1 0 ∷ [] }
 
-pub count_is : (command_of (understood schema_1 count_text) ≡ select count_query (codes "count(*)" ∷ [])) × (reads_listing schema_1 count_text ≡ false) × IsPlain (understood schema_1 count_text)
+pub count_is : (command_of (understood schema_2 count_text) ≡ select count_query (codes "count(*)" ∷ [])) × (reads_listing schema_2 count_text ≡ false) × IsPlain (understood schema_2 count_text)
 unfolding understood everything
 count_is = (refl, refl, (refl, refl))
 
 abbrev pub finish_query : Query
 finish_query = record query { from = inner 2 end; filter = is (col 1 0) (col 0 0) ∷ []; project = col 1 0 ∷ col 1 0 ∷ lit Null ∷ col 1 2 ∷ col 1 3 ∷ lit (Int (pos 1)) ∷ [] }
 
-pub finish_is : (command_of (understood schema_1 finish_text) ≡ Update 1 (record { lets = []; body = finish_query })) × IsPlain (understood schema_1 finish_text)
+pub finish_is : (command_of (understood schema_2 finish_text) ≡ Update 1 (record { lets = []; body = finish_query })) × IsPlain (understood schema_2 finish_text)
 unfolding understood everything
 finish_is = (refl, (refl, refl))
 
 abbrev pub runs_query : Query
 runs_query = record query { from = inner 2 end; project = col 1 0 ∷ col 1 2 ∷ col 1 3 ∷ col 1 4 ∷ []; order = (col 1 0, ascending Binary) ∷ [] }
 
-pub runs_select_is : (command_of (understood schema_1 runs_text) ≡ select runs_query (codes "id" ∷ codes "started" ∷ codes "total" ∷ codes "finished" ∷ [])) × (reads_listing schema_1 runs_text ≡ false) × IsPlain (understood schema_1 runs_text)
+pub runs_select_is : (command_of (understood schema_2 runs_text) ≡ select runs_query (codes "id" ∷ codes "started" ∷ codes "total" ∷ codes "finished" ∷ [])) × (reads_listing schema_2 runs_text ≡ false) × IsPlain (understood schema_2 runs_text)
 unfolding understood everything
 runs_select_is = (refl, refl, (refl, refl))
 
 abbrev pub there_query : Query
 there_query = record query { from = inner 3 end; filter = is (col 1 1) (col 0 0) ∷ is (col 1 2) (col 0 1) ∷ []; project = col 1 2 ∷ [] }
 
-pub there_is : (command_of (understood schema_1 there_text) ≡ select there_query (codes "position" ∷ [])) × (reads_listing schema_1 there_text ≡ false) × IsPlain (understood schema_1 there_text)
+pub there_is : (command_of (understood schema_2 there_text) ≡ select there_query (codes "position" ∷ [])) × (reads_listing schema_2 there_text ≡ false) × IsPlain (understood schema_2 there_text)
 unfolding understood everything
 there_is = (refl, refl, (refl, refl))
 
 abbrev pub put_terms : List Term
 put_terms = lit Null ∷ col 0 0 ∷ col 0 1 ∷ col 0 2 ∷ col 0 3 ∷ col 0 4 ∷ col 0 5 ∷ col 0 6 ∷ col 0 7 ∷ col 0 8 ∷ col 0 9 ∷ col 0 10 ∷ col 0 11 ∷ []
 
-pub put_is : (command_of (understood schema_1 put_text) ≡ Insert 2 (Values put_terms 13)) × IsPlain (understood schema_1 put_text)
+pub put_is : (command_of (understood schema_2 put_text) ≡ Insert 2 (Values put_terms 13)) × IsPlain (understood schema_2 put_text)
 unfolding understood everything
 put_is = (refl, (refl, refl))
+
+abbrev pub pair_terms : List Term
+pair_terms = lit Null ∷ col 0 0 ∷ col 0 1 ∷ col 0 2 ∷ col 0 3 ∷ col 0 4 ∷ []
+
+pub pair_is : (command_of (understood schema_2 pair_text) ≡ Insert 3 (Values pair_terms 6)) × IsPlain (understood schema_2 pair_text)
+unfolding understood everything
+pair_is = (refl, (refl, refl))
+
+abbrev pub pairs_query : Query
+pairs_query = record query {
+  from = inner 5 end;
+  filter = is (col 1 1) (col 0 0) ∷ [];
+  project = col 1 2 ∷ col 1 4 ∷ col 1 5 ∷ [];
+  order = (col 1 2, ascending Binary) ∷ (col 1 3, ascending Binary) ∷ [];
+}
+
+pub pairs_select_is : (command_of (understood schema_2 pairs_text) ≡ select pairs_query (codes "position" ∷ codes "name" ∷ codes "value" ∷ []))
+    × (reads_listing schema_2 pairs_text ≡ false) × IsPlain (understood schema_2 pairs_text)
+unfolding understood everything
+pairs_select_is = (refl, refl, (refl, refl))
 
 abbrev pub entries_query : Query
 entries_query = record query {
@@ -89,22 +109,29 @@ entries_query = record query {
   order = (col 1 2, ascending Binary) ∷ [];
 }
 
-pub entries_select_is : (command_of (understood schema_1 entries_text)
+pub entries_select_is : (command_of (understood schema_2 entries_text)
     ≡ select entries_query (codes "position" ∷ codes "program" ∷ codes "case_name" ∷ codes "kind" ∷ codes "reason" ∷ codes "started" ∷ codes "millis" ∷ codes "body_out" ∷ codes "body_err" ∷ codes "clean_out" ∷ codes "clean_err" ∷ []))
-    × (reads_listing schema_1 entries_text ≡ false) × IsPlain (understood schema_1 entries_text)
+    × (reads_listing schema_2 entries_text ≡ false) × IsPlain (understood schema_2 entries_text)
 unfolding understood everything
 entries_select_is = (refl, refl, (refl, refl))
 
 abbrev pub meta_query : Query
 meta_query = record query { from = inner 0 end; filter = is (col 1 1) (lit (Text (codes "schema"))) ∷ []; project = col 1 2 ∷ [] }
 
-pub meta_select_is : (command_of (understood schema_1 meta_text) ≡ select meta_query (codes "value" ∷ [])) × (reads_listing schema_1 meta_text ≡ false) × IsPlain (understood schema_1 meta_text)
+pub meta_select_is : (command_of (understood schema_2 meta_text) ≡ select meta_query (codes "value" ∷ [])) × (reads_listing schema_2 meta_text ≡ false) × IsPlain (understood schema_2 meta_text)
 unfolding understood everything
 meta_select_is = (refl, refl, (refl, refl))
 
 abbrev pub mark_terms : List Term
-mark_terms = lit Null ∷ lit (Text (codes "schema")) ∷ lit (Int (pos 1)) ∷ []
+mark_terms = lit Null ∷ lit (Text (codes "schema")) ∷ lit (Int (pos 2)) ∷ []
 
-pub mark_is : (command_of (understood schema_1 mark_text) ≡ Insert 0 (Values mark_terms 3)) × IsPlain (understood schema_1 mark_text)
+pub mark_is : (command_of (understood schema_2 mark_text) ≡ Insert 0 (Values mark_terms 3)) × IsPlain (understood schema_2 mark_text)
 unfolding understood everything
 mark_is = (refl, (refl, refl))
+
+abbrev pub raise_query : Query
+raise_query = record query { from = inner 0 end; filter = is (col 1 1) (lit (Text (codes "schema"))) ∷ []; project = col 1 0 ∷ col 1 0 ∷ col 1 1 ∷ lit (Int (pos 2)) ∷ [] }
+
+pub raise_is : (command_of (understood schema_2 raise_text) ≡ Update 0 (record { lets = []; body = raise_query })) × IsPlain (understood schema_2 raise_text)
+unfolding understood everything
+raise_is = (refl, (refl, refl))

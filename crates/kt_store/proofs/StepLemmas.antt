@@ -12,7 +12,7 @@ use Rattle.sqlite_schema.specs.declared.command.Returning.{Returning}
 use Rattle.sqlite.specs.State.{State, HasCleanDisk, IsUnchanged, IsRolledBack, IsNotRun, Executes, ExecutesIn, RunsCommand, shows_rows, FailsToQuery, FailsToShow, CommitsBy, MayCommit, Survives}
 use Rattle.sqlite.proofs.Callers.{IsPlain, command_of, statement_of, unchanged_then}
 use Rattle.kt_base.specs.declared.run.Run.{Run}
-use Rattle.kt_store.specs.Runs.{Tables}
+use Rattle.kt_store.specs.Runs.{Tables, Keeps, KeepsOld, KeepsEither}
 use Rattle.kt_store.specs.Ask.{Rests}
 use Rattle.kt_store.specs.Stands.{IsStore, StandsFor, Leaves}
 
@@ -88,4 +88,11 @@ pub outlives : (old new : State) (P : Trees → Type 0) → Survives old new (λ
 outlives old new P it left clean trees may = elim (it.crash clean trees may) [
   | inl earlier ↦ left (omega (arith, clean, it.clean)) trees earlier
   | inr none ↦ absurd none
+]
+
+-- what a migration leaves of what a crash may leave
+pub either_left : (old new : State) (runs : List Run) → Survives old new (Keeps runs) → Leaves old (KeepsOld runs) → Leaves new (KeepsEither runs)
+either_left old new runs it left clean trees may = elim (it.crash clean trees may) [
+  | inl earlier ↦ inl (left (omega (arith, clean, it.clean)) trees earlier)
+  | inr made ↦ inr made
 ]

@@ -14,13 +14,13 @@ use Rattle.sqlite.specs.State.{State, Shown, HasCleanDisk}
 use Rattle.sqlite.proofs.Callers.{reads_as}
 use Rattle.kt_base.specs.declared.run.Run.{Run}
 use Rattle.kt_base.specs.declared.entry.Entry.{Entry}
-use Rattle.kt_store.specs.Tables.{there_text, schema_1}
-use Rattle.kt_store.specs.Runs.{entry_row, entries_of, run_at, has_position}
+use Rattle.kt_store.specs.Tables.{there_text, schema_2}
+use Rattle.kt_store.specs.Runs.{entry_row, entry_rows, entries_of, run_at, has_position}
 use Rattle.kt_store.specs.Stands.{IsStore, StandsFor}
 use Rattle.kt_store.specs.Ask.{Asked}
 use Rattle.kt_store.proofs.SqlFacts.{there_is, is}
 use Rattle.kt_store.proofs.QueryLemmas.{answered, show}
-use Rattle.kt_store.proofs.EntryLemmas.{back, of_entries, of_run, same_test, two_truths}
+use Rattle.kt_store.proofs.EntryLemmas.{back, of_stored, of_run, same_test, two_truths}
 use Rattle.kt_store.proofs.AskLemmas.{asked_mid}
 
 no_row : Row
@@ -57,9 +57,9 @@ pub tells_there : (old new : State) (runs : List Run) (n p : ℕ) (rows : List R
 tells_there old new runs n p rows has h =
     let params = there_params n p in
     let project = col 1 2 ∷ [] in
-    let reads = reads_as there_text params old new schema_1 has.tables.schema _ there_is.0 there_is.2 there_is.1 rows h in
+    let reads = reads_as there_text params old new schema_2 has.tables.schema _ there_is.0 there_is.2 there_is.1 rows h in
     let all = answered 3 there_tests project [] old.now.trees params rows reads.answer in
-    let from = of_entries old.now.trees runs has.tables.entries_are (passes params) (λ r. no_row) (same_passes params) (λ r. refl) in
+    let from = of_stored (old.now.trees 3) (entry_rows runs) has.tables.entries_are (passes params) (λ r. no_row) (same_passes params) (λ r. refl) in
     let counted = length_permutation _ _ from in
     let of_one = of_run (λ r. passes params (back r)) (λ (e : Entry). e.position == p) n runs (each n p) has.tables.valid.numbered in
     let rows_are : length rows ≡ length (filter (λ (e : Entry). e.position == p) (entries_of (run_at runs n))) =

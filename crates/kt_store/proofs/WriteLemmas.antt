@@ -16,7 +16,7 @@ use Rattle.sqlite.specs.Listing.{understood}
 use Rattle.sqlite.specs.State.{State, HasCleanDisk, mode_of, Executes, Runs, Writes, CommitsBy, IsNewestNamed, names_in, begins_at}
 use Rattle.sqlite.proofs.Callers.{IsPlain, command_of, statement_of, runs_as}
 use Rattle.kt_base.specs.declared.run.Run.{Run}
-use Rattle.kt_store.specs.Tables.{schema_1}
+use Rattle.kt_store.specs.Tables.{schema_2}
 use Rattle.kt_store.specs.Runs.{Tables, Keeps}
 use Rattle.kt_store.specs.Stands.{IsStore, StandsFor}
 use Rattle.kt_store.specs.Ask.{Told, MayTell}
@@ -25,14 +25,14 @@ use Rattle.kt_store.proofs.StepLemmas.{commits_as, same_store}
 abbrev pub Ends : Command → State → Type 0
 Ends command old = (command ≡ Commit) ⊎ ((name : List ℕ) × (place : ℕ) × (command ≡ Release name) × IsNewestNamed (names_in old) name place × IsTrue (begins_at old place))
 
-module _ (sql : List ℕ) (params : Row) (command : Command) (is : command_of (understood schema_1 sql) ≡ command) (plain : IsPlain (understood schema_1 sql))
+module _ (sql : List ℕ) (params : Row) (command : Command) (is : command_of (understood schema_2 sql) ≡ command) (plain : IsPlain (understood schema_2 sql))
     (writes : (old new : State) (text : List ℕ) (count : ℕ) → Runs old new None command text params count → Writes old new None command text params count) (no_end : (old : State) → Ends command old → ⊥)
     (runs more : List Run)
     (step : (limit : Option ℕ) (mode : Mode) (db after : Database) (text : List ℕ) (tally : Tally) → mode.keys ≡ Enforced → Tables db runs → Does limit mode params db text None command (Ok (tally, after)) → Tables after more) where
   wrote : (old new : State) (count : ℕ) → IsStore old runs → Executes sql params old new (Ok count) → IsStore new more × IsTrue new.is_open × IsDatabase new.now
   wrote old new count has h =
-      let text = statement_of sql (understood schema_1 sql) in
-      let w : Writes old new None command text params count = writes old new text count (runs_as sql params old new schema_1 has.tables.schema command is plain count h) in (
+      let text = statement_of sql (understood schema_2 sql) in
+      let w : Writes old new None command text params count = writes old new text count (runs_as sql params old new schema_2 has.tables.schema command is plain count h) in (
         record {
           autocommit = w.shown.mode ∙ has.autocommit;
           settled = w.shown.committed_is ∙ ap (λ b. cond b old.committed new.now) has.autocommit;
@@ -43,9 +43,9 @@ module _ (sql : List ℕ) (params : Row) (command : Command) (is : command_of (u
       )
 
   commits : (old : State) (trees : Trees) → IsStore old runs → CommitsBy sql params old trees → Keeps more trees
-  commits old trees has h = elim (commits_as sql params old schema_1 has.tables.schema command is plain trees h) [
+  commits old trees has h = elim (commits_as sql params old schema_2 has.tables.schema command is plain trees h) [
     | inl ends ↦ absurd (no_end old ends.0)
-    | inr it ↦ (it.2, it.4, it.5, step old.step_limit (mode_of old) old.now it.2 (statement_of sql (understood schema_1 sql)) it.1 refl has.tables it.3)
+    | inr it ↦ (it.2, it.4, it.5, step old.step_limit (mode_of old) old.now it.2 (statement_of sql (understood schema_2 sql)) it.1 refl has.tables it.3)
   ]
 
   module _ {S : Type 0} (g : Ghosts S) (old new : Held S) (has : StandsFor (state g old) runs) (earlier : HasCleanDisk (state g new) → HasCleanDisk (state g old)) where
@@ -63,7 +63,7 @@ no_end_update : (at : ℕ) (q : Program) (old : State) → Ends (Update at q) ol
 no_end_update at q old (inl e) = cc
 no_end_update at q old (inr it) = let e = it.2 in cc
 
-module _ (sql : List ℕ) (params : Row) (at : ℕ) (from : Source) (is : command_of (understood schema_1 sql) ≡ Insert at from) (plain : IsPlain (understood schema_1 sql)) (runs more : List Run)
+module _ (sql : List ℕ) (params : Row) (at : ℕ) (from : Source) (is : command_of (understood schema_2 sql) ≡ Insert at from) (plain : IsPlain (understood schema_2 sql)) (runs more : List Run)
     (step : (limit : Option ℕ) (mode : Mode) (db after : Database) (text : List ℕ) (tally : Tally) → mode.keys ≡ Enforced → Tables db runs → Does limit mode params db text None (Insert at from) (Ok (tally, after)) → Tables after more)
     {S : Type 0} (g : Ghosts S) (old new : Held S) (has : StandsFor (state g old) runs) (earlier : HasCleanDisk (state g new) → HasCleanDisk (state g old)) where
   pub told_write : HasCleanDisk (state g new) → Told g sql params old new → IsStore (state g new) more × IsTrue (state g new).is_open × IsDatabase (state g new).now
@@ -72,7 +72,7 @@ module _ (sql : List ℕ) (params : Row) (at : ℕ) (from : Source) (is : comman
   pub crash_write : HasCleanDisk (state g new) → (trees : Trees) → MayTell g sql params old trees → Keeps more trees
   crash_write = crash_by sql params (Insert at from) is plain (λ _ _ _ _ ran. ran) (no_end_insert at from) runs more step g old new has earlier
 
-module _ (sql : List ℕ) (params : Row) (at : ℕ) (q : Program) (is : command_of (understood schema_1 sql) ≡ Update at q) (plain : IsPlain (understood schema_1 sql)) (runs more : List Run)
+module _ (sql : List ℕ) (params : Row) (at : ℕ) (q : Program) (is : command_of (understood schema_2 sql) ≡ Update at q) (plain : IsPlain (understood schema_2 sql)) (runs more : List Run)
     (step : (limit : Option ℕ) (mode : Mode) (db after : Database) (text : List ℕ) (tally : Tally) → mode.keys ≡ Enforced → Tables db runs → Does limit mode params db text None (Update at q) (Ok (tally, after)) → Tables after more)
     {S : Type 0} (g : Ghosts S) (old new : Held S) (has : StandsFor (state g old) runs) (earlier : HasCleanDisk (state g new) → HasCleanDisk (state g old)) where
   pub told_update : HasCleanDisk (state g new) → Told g sql params old new → IsStore (state g new) more × IsTrue (state g new).is_open × IsDatabase (state g new).now

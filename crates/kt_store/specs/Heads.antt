@@ -1,10 +1,11 @@
 -- The heads of runs, and the columns that they are read from.
-use Rattle.std.specs.Prelude.{pos, [], ◌∷◌}
+use Rattle.std.specs.Prelude.{ℕ, pos, List, [], ◌∷◌, map, flat_map}
 use Rattle.sqlite.specs.declared.types.Value.TheVariants.{Int, Text, Blob}
 use Rattle.sqlite.specs.Order.{Row}
 use Rattle.kt_base.specs.declared.run.Run.{Run}
 use Rattle.kt_store.specs.declared.run_head.RunHead.{RunHead}
 use Rattle.kt_base.specs.declared.entry.Entry.{Entry}
+use Rattle.kt_base.specs.declared.variable.Variable.{Variable}
 use Rattle.kt_base.specs.Utf8.{utf8}
 use Rattle.kt_store.specs.Runs.{flag, kind_code}
 
@@ -21,3 +22,11 @@ abbrev pub entry_columns : Entry → Row
 entry_columns e =
     Int (pos e.position) ∷ Text (utf8 e.program) ∷ Text (utf8 e.case_name) ∷ Int (pos (kind_code e.verdict.kind)) ∷ Text (utf8 e.verdict.reason) ∷ Int (pos e.started) ∷ Int (pos e.millis)
     ∷ Blob e.body.out ∷ Blob e.body.err ∷ Blob e.cleanup.out ∷ Blob e.cleanup.err ∷ []
+
+-- the columns of a pair of the entry at a position, as the query for a run's pairs shows them
+abbrev pub pair_columns : ℕ → Variable → Row
+pair_columns position v = Int (pos position) ∷ Text (utf8 v.name) ∷ Text (utf8 v.value) ∷ []
+
+-- the rows of the pairs of these entries, as the query for a run's pairs shows them
+abbrev pub pairs_shown : List Entry → List Row
+pairs_shown es = flat_map (λ e. map (pair_columns e.position) e.meta) es

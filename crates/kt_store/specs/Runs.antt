@@ -10,9 +10,10 @@ use Rattle.kt_base.specs.declared.kind.Kind.{Kind}
 use Rattle.kt_base.specs.declared.kind.Kind.TheVariants.{Passed, Skipped, ExpectedFailure, Failed, Broken}
 use Rattle.kt_base.specs.declared.entry.Entry.{Entry}
 use Rattle.kt_base.specs.declared.run.Run.{Run}
+use Rattle.kt_base.specs.declared.variable.Variable.{Variable}
 use Rattle.kt_store.specs.declared.store_fault.StoreFault.{StoreFault}
 use Rattle.kt_store.specs.declared.store_fault.StoreFault.TheVariants.{NoRun, RunClosed, BadPosition, RepeatedPosition, Incomplete}
-use Rattle.kt_store.specs.Tables.{schema_1}
+use Rattle.kt_store.specs.Tables.{schema_1, schema_2}
 use Rattle.kt_base.specs.Utf8.{utf8}
 use Rattle.std.specs.Str.{chars, IsUtf8}
 
@@ -42,6 +43,23 @@ entry_row run e =
 abbrev pub entry_rows : List Run → List Row
 entry_rows runs = flat_map (λ r. map (entry_row r.number) r.entries) runs
 
+-- the columns of a pair of an entry of this run, at its place among the entry's pairs
+abbrev pub pair_row : ℕ → ℕ → ℕ → Variable → Row
+pair_row run position place v = Int (pos run) ∷ Int (pos position) ∷ Int (pos place) ∷ Text (utf8 v.name) ∷ Text (utf8 v.value) ∷ []
+
+-- the rows of these pairs, by place from this one on
+abbrev pub pair_rows_from : ℕ → ℕ → ℕ → List Variable → List Row
+pair_rows_from run position place [] = []
+pair_rows_from run position place (v ∷ pairs) = pair_row run position place v ∷ pair_rows_from run position (suc place) pairs
+
+-- the rows of the pairs of an entry of this run
+abbrev pub pair_rows : ℕ → Entry → List Row
+pair_rows run e = pair_rows_from run e.position 0 e.meta
+
+-- the rows of the pairs of all entries of these runs
+abbrev pub prop_rows : List Run → List Row
+prop_rows runs = flat_map (λ r. flat_map (pair_rows r.number) r.entries) runs
+
 -- numbered from here on, by place
 abbrev pub AreNumbered : ℕ → List Run → Type 0
 AreNumbered n [] = ⊤
@@ -51,12 +69,17 @@ AreNumbered n (r ∷ runs) = (r.number ≡ n) × AreNumbered (suc n) runs
 abbrev pub IsText : List ℕ → Type 0
 IsText text = (chars (utf8 text) ≡ text) × IsUtf8 (utf8 text)
 
+-- a pair whose name and value are texts
+abbrev pub IsPair : Variable → Type 0
+IsPair v = IsText v.name × IsText v.value
+
 -- its texts are texts, and a passed case has the empty reason
 pub record IsEntry (e : Entry) : Type 0 where
   pub program : IsText e.program
   pub case_name : IsText e.case_name
   pub reason : IsText e.verdict.reason
   pub passed : e.verdict.kind ≡ Passed → e.verdict.reason ≡ []
+  pub meta : AllByRecursion IsPair e.meta
 
 -- entries by position, none twice, all below the total; a finished run has them all
 pub record IsRun (r : Run) : Type 0 where
@@ -72,17 +95,39 @@ pub record AreRuns (runs : List Run) : Type 0 where
   pub each : AllByRecursion IsRun runs
   pub few : length runs ≤ 1000000
 
--- the database is the tables of schema 1, and their rows are exactly those of these runs
+-- the database is the tables of schema 2, and their rows are exactly those of these runs
 pub record Tables (db : Database) (runs : List Run) : Type 0 where
+  pub schema : db.schema ≡ schema_2
+  pub marked : map (drop 1) (db.trees 0) ≡ (Text (codes "schema") ∷ Int (pos 2) ∷ []) ∷ []
+  pub runs_are : db.trees 2 ≡ map run_row runs
+  pub entries_are : IsPermutation (entry_rows runs) (map (drop 1) (db.trees 3))
+  pub props_are : IsPermutation (prop_rows runs) (map (drop 1) (db.trees 5))
+  pub valid : AreRuns runs
+
+-- no entry of these runs has a pair
+abbrev pub HaveNoPairs : List Run → Type 0
+HaveNoPairs runs = AllByRecursion (λ (r : Run). AllByRecursion (λ (e : Entry). e.meta ≡ []) r.entries) runs
+
+-- the database is the tables of schema 1, and their rows are exactly those of these runs, whose entries have no pairs
+pub record OldTables (db : Database) (runs : List Run) : Type 0 where
   pub schema : db.schema ≡ schema_1
   pub marked : map (drop 1) (db.trees 0) ≡ (Text (codes "schema") ∷ Int (pos 1) ∷ []) ∷ []
   pub runs_are : db.trees 2 ≡ map run_row runs
   pub entries_are : IsPermutation (entry_rows runs) (map (drop 1) (db.trees 3))
+  pub bare : HaveNoPairs runs
   pub valid : AreRuns runs
 
 -- what a crash left opens as a database with these runs
 abbrev pub Keeps : List Run → Trees → Type 0
 Keeps runs trees = (db : Database) × IsDatabase db × (trees ≡ db.trees) × Tables db runs
+
+-- what a crash left opens as a database of schema 1 with these runs
+abbrev pub KeepsOld : List Run → Trees → Type 0
+KeepsOld runs trees = (db : Database) × IsDatabase db × (trees ≡ db.trees) × OldTables db runs
+
+-- what a crash left opens as a database of schema 1 or of schema 2, with these runs in both
+abbrev pub KeepsEither : List Run → Trees → Type 0
+KeepsEither runs trees = KeepsOld runs trees ⊎ Keeps runs trees
 
 -- with the runs of one of these lists
 abbrev pub KeepsOne : List (List Run) → Trees → Type 0

@@ -8,7 +8,7 @@ use Rattle.sqlite.specs.Table.{Table}
 use Rattle.sqlite_schema.specs.declared.schema.Index.{Index}
 use Rattle.sqlite_schema.specs.declared.schema.View.{View}
 use Rattle.kt_store.specs.Tables.{no_schema, beside_meta}
-use Rattle.kt_store.specs.Runs.{Tables}
+use Rattle.kt_store.specs.Runs.{Tables, OldTables}
 
 -- no transaction is open, the last commit is what is seen, and the tables hold these runs
 pub record IsStore (s : State) (runs : List Run) : Type 0 where
@@ -19,6 +19,16 @@ pub record IsStore (s : State) (runs : List Run) : Type 0 where
 -- while the disk returns what was written and the connection is open, the tables stand for these runs
 abbrev pub StandsFor : State → List Run → Type 0
 StandsFor s runs = HasCleanDisk s → IsTrue s.is_open → IsStore s runs
+
+-- no transaction is open, the last commit is what is seen, and the tables of schema 1 hold these runs
+pub record IsOldStore (s : State) (runs : List Run) : Type 0 where
+  pub autocommit : s.in_transaction ≡ false
+  pub settled : s.committed ≡ s.now
+  pub tables : OldTables s.now runs
+
+-- while the disk returns what was written and the connection is open, the tables of schema 1 stand for these runs
+abbrev pub StandsInOld : State → List Run → Type 0
+StandsInOld s runs = HasCleanDisk s → IsTrue s.is_open → IsOldStore s runs
 
 -- a crash at this moment leaves trees with P
 abbrev pub Leaves : State → (Trees → Type 0) → Type 0

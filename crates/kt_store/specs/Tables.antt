@@ -102,6 +102,27 @@ entries = record {
   is_counted = false;
 }
 
+-- the text that makes the table of pairs
+abbrev pub create_props : List ℕ
+create_props = codes "CREATE TABLE props (run INTEGER NOT NULL, position INTEGER NOT NULL, place INTEGER NOT NULL, name TEXT NOT NULL, value TEXT NOT NULL, PRIMARY KEY (run, position, place)) STRICT"
+
+-- the table of pairs
+abbrev pub props : Table
+props = record {
+  name = codes "props";
+  tree = 0;
+  columns = column (codes "run") Integer true ∷ column (codes "position") Integer true ∷ column (codes "place") Integer true ∷ column (codes "name") Text true ∷ column (codes "value") Text true ∷ [];
+  key = None;
+  primary = 1 ∷ 2 ∷ 3 ∷ [];
+  uniques = (1 ∷ 2 ∷ 3 ∷ []) ∷ [];
+  orders = plain ∷ [];
+  checks = [];
+  references = [];
+  computed = [];
+  stamps = no_stamps;
+  is_counted = false;
+}
+
 -- the index of a table's key
 abbrev pub index_of : Table → ℕ → Index
 index_of table tree = automatic table 0 (slice_index_or table.uniques 0 []) tree
@@ -118,9 +139,17 @@ runs_1 = record runs { tree = 2 }
 abbrev pub entries_1 : Table
 entries_1 = record entries { tree = 3 }
 
--- the three tables
+-- the table of pairs in its place
+abbrev pub props_1 : Table
+props_1 = record props { tree = 5 }
+
+-- the three tables of schema 1
 abbrev pub schema_1 : Schema
 schema_1 = record { tables = meta_1 ∷ runs_1 ∷ entries_1 ∷ []; indexes = index_of meta_1 1 ∷ index_of entries_1 4 ∷ []; views = [] }
+
+-- the four tables of schema 2
+abbrev pub schema_2 : Schema
+schema_2 = record { tables = meta_1 ∷ runs_1 ∷ entries_1 ∷ props_1 ∷ []; indexes = index_of meta_1 1 ∷ index_of entries_1 4 ∷ index_of props_1 6 ∷ []; views = [] }
 
 -- a schema whose first table is that of the schema's number, whatever stands beside it
 abbrev pub beside_meta : List Table → List Index → List View → Schema
@@ -162,10 +191,22 @@ put_text = codes "INSERT INTO entries (run, position, program, case_name, kind, 
 abbrev pub entries_text : List ℕ
 entries_text = codes "SELECT position, program, case_name, kind, reason, started, millis, body_out, body_err, clean_out, clean_err FROM entries WHERE run = ?1 ORDER BY position"
 
+-- a new pair of an entry
+abbrev pub pair_text : List ℕ
+pair_text = codes "INSERT INTO props (run, position, place, name, value) VALUES (?1, ?2, ?3, ?4, ?5)"
+
+-- the pairs of a run by position and place
+abbrev pub pairs_text : List ℕ
+pairs_text = codes "SELECT position, name, value FROM props WHERE run = ?1 ORDER BY position, place"
+
 -- the schema's number
 abbrev pub meta_text : List ℕ
 meta_text = codes "SELECT value FROM meta WHERE name = 'schema'"
 
 -- the schema's number is set
 abbrev pub mark_text : List ℕ
-mark_text = codes "INSERT INTO meta (name, value) VALUES ('schema', 1)"
+mark_text = codes "INSERT INTO meta (name, value) VALUES ('schema', 2)"
+
+-- the schema's number is set anew
+abbrev pub raise_text : List ℕ
+raise_text = codes "UPDATE meta SET value = 2 WHERE name = 'schema'"

@@ -1,30 +1,17 @@
 ghost use Rattle.std.specs.Prelude.{◌≡◌, ◌≢◌, ◌⊎◌, ℤ, pos, true, false, [], IfOk, OnOk, OnErr, IfErr, IsTrue};
-ghost use Rattle.sqlite.specs.State.{HasCleanDisk, Survives, ExecutesInside, IsUnchanged, KeepsCommit};
+ghost use Rattle.sqlite.specs.State.{HasCleanDisk, Survives, IsUnchanged, KeepsCommit};
 ghost use Rattle.sqlite_value.specs.Order.{column};
 ghost use Rattle.sqlite_value.specs.declared.value.Value.TheVariants.{Int};
 ghost use Rattle.sqlite.specs.Effect.{IsDatabase};
 ghost use Rattle.sqlite.specs.Held.{state};
 ghost use Rattle.kt_store.specs.Ask.{Rests, IsStoreFault};
-ghost use Rattle.kt_store.specs.Runs.{Tables, Keeps};
-ghost use Rattle.kt_store.specs.Stands.{IsEmpty, StandsFor, SaysSchema, Leaves};
+ghost use Rattle.kt_store.specs.Runs.{Tables, OldTables, Keeps, KeepsOld};
+ghost use Rattle.kt_store.specs.Stands.{IsEmpty, StandsFor, StandsInOld, SaysSchema, Leaves};
 ghost use Rattle.kt_store.specs.Tables.{no_schema};
 
-use crate::statements::ask;
+use crate::statements::{ask, step};
 use crate::store_fault::StoreFault;
 use sqlite::{Alter, Connection, Row, Transaction};
-
-/// One statement of a transaction.
-pub(crate) fn step<S: Alter>(tx: &mut Transaction<'_, S>, sql: &str) -> Result<(), StoreFault>
-    ensures same_reference { tx.new.conn.ghost_name ≡ tx.old.conn.ghost_name }
-    ensures runs { HasCleanDisk (state S.Store tx.new.conn.now) → IsTrue (state S.Store tx.old.conn.now).in_transaction
-        → OnOk result ((count : _) × ExecutesInside 0 sql.now [] (state S.Store tx.old.conn.now) (state S.Store tx.new.conn.now) (Ok count)) }
-    ensures keeps { HasCleanDisk (state S.Store tx.new.conn.now) → KeepsCommit (state S.Store tx.old.conn.now) (state S.Store tx.new.conn.now) }
-    ensures failed { IfErr result IsStoreFault }
-    ensures survives { Survives (state S.Store tx.old.conn.now) (state S.Store tx.new.conn.now) (λ _. ⊥) }
-{
-    let count = tx.execute(sql, &[])?;
-    Ok(())
-}
 
 /// Makes the tables, inside a transaction.
 pub(crate) fn make<S: Alter>(tx: &mut Transaction<'_, S>) -> Result<(), StoreFault>
@@ -38,16 +25,28 @@ pub(crate) fn make<S: Alter>(tx: &mut Transaction<'_, S>) -> Result<(), StoreFau
     step(
         tx,
         "CREATE TABLE meta (name TEXT PRIMARY KEY, value INTEGER NOT NULL) STRICT",
+        &[],
     )?;
     step(
         tx,
         "CREATE TABLE runs (id INTEGER PRIMARY KEY, started INTEGER NOT NULL, total INTEGER NOT NULL, finished INTEGER NOT NULL CHECK (finished IN (0, 1))) STRICT",
+        &[],
     )?;
     step(
         tx,
         "CREATE TABLE entries (run INTEGER NOT NULL REFERENCES runs (id), position INTEGER NOT NULL, program TEXT NOT NULL, case_name TEXT NOT NULL, kind INTEGER NOT NULL CHECK (kind BETWEEN 0 AND 4), reason TEXT NOT NULL, started INTEGER NOT NULL, millis INTEGER NOT NULL, body_out BLOB NOT NULL, body_err BLOB NOT NULL, clean_out BLOB NOT NULL, clean_err BLOB NOT NULL, PRIMARY KEY (run, position)) STRICT",
+        &[],
     )?;
-    step(tx, "INSERT INTO meta (name, value) VALUES ('schema', 1)")?;
+    step(
+        tx,
+        "CREATE TABLE props (run INTEGER NOT NULL, position INTEGER NOT NULL, place INTEGER NOT NULL, name TEXT NOT NULL, value TEXT NOT NULL, PRIMARY KEY (run, position, place)) STRICT",
+        &[],
+    )?;
+    step(
+        tx,
+        "INSERT INTO meta (name, value) VALUES ('schema', 2)",
+        &[],
+    )?;
     Ok(())
 }
 
@@ -94,6 +93,13 @@ pub(crate) fn leaves_its_runs<S: Alter>(conn: &Connection<S>)
     let _ = conn.schema();
 }
 
+/// A theorem: a crash leaves the runs that an open connection of schema 1 stands for, in schema 1.
+pub(crate) fn leaves_its_old_runs<S: Alter>(conn: &Connection<S>)
+    ensures { (runs : _) → StandsInOld (state S.Store conn.now) runs → IsTrue (state S.Store conn.now).is_open → Leaves (state S.Store conn.now) (KeepsOld runs) }
+{
+    let _ = conn.schema();
+}
+
 /// A number of a row, which may be negative.
 pub(crate) fn signed_in(row: &Row, at: usize) -> Result<i64, StoreFault>
     ensures number { IfOk result (λ n. column row.now at ≡ Int n) }
@@ -103,14 +109,14 @@ pub(crate) fn signed_in(row: &Row, at: usize) -> Result<i64, StoreFault>
     Ok(number)
 }
 
-/// Asks whether the tables are those of schema 1.
-pub(crate) fn known<S: Alter>(conn: &mut Connection<S>) -> Result<(), StoreFault>
-    ensures stands { (runs : _) → StandsFor (state S.Store conn.old) runs → StandsFor (state S.Store conn.new) runs }
-    ensures crash { (runs : _) → StandsFor (state S.Store conn.old) runs → Survives (state S.Store conn.old) (state S.Store conn.new) (λ _. ⊥) }
-    ensures taken { (runs : _) → StandsFor (state S.Store conn.old) runs → HasCleanDisk (state S.Store conn.new) → IfErr result IsStoreFault }
-    ensures unknown { (n : ℤ) → SaysSchema n (state S.Store conn.old) → n ≢ pos 1 → HasCleanDisk (state S.Store conn.new) → OnOk result ⊥ }
-    ensures untouched { (n : ℤ) → SaysSchema n (state S.Store conn.old) → HasCleanDisk (state S.Store conn.new) → Rests (state S.Store conn.old) (state S.Store conn.new) }
-    ensures unknown_crash { (n : ℤ) → SaysSchema n (state S.Store conn.old) → Survives (state S.Store conn.old) (state S.Store conn.new) (λ _. ⊥) }
+/// The number of the schema.
+pub(crate) fn schema_number<S: Alter>(conn: &mut Connection<S>) -> Result<i64, StoreFault>
+    ensures mode { conn.old.in_transaction ≡ false → conn.new.in_transaction ≡ false }
+    ensures same { (n : ℤ) → SaysSchema n (state S.Store conn.old) → HasCleanDisk (state S.Store conn.new) → OnOk result (IsUnchanged (state S.Store conn.old) (state S.Store conn.new)) }
+    ensures rests { (n : ℤ) → SaysSchema n (state S.Store conn.old) → HasCleanDisk (state S.Store conn.new) → Rests (state S.Store conn.old) (state S.Store conn.new) }
+    ensures crash { (n : ℤ) → SaysSchema n (state S.Store conn.old) → Survives (state S.Store conn.old) (state S.Store conn.new) (λ _. ⊥) }
+    ensures number { (n : ℤ) → SaysSchema n (state S.Store conn.old) → HasCleanDisk (state S.Store conn.new) → IfOk result (λ number. number ≡ n) }
+    ensures taken { (n : ℤ) → SaysSchema n (state S.Store conn.old) → HasCleanDisk (state S.Store conn.new) → IfErr result IsStoreFault }
     ensures refused { IfErr result (λ e. IsStoreFault e ⊎ (e ≡ StoreFault.UnknownSchema)) }
 {
     let rows = ask(conn, "SELECT value FROM meta WHERE name = 'schema'", &[])?;
@@ -118,13 +124,85 @@ pub(crate) fn known<S: Alter>(conn: &mut Connection<S>) -> Result<(), StoreFault
         return Err(StoreFault::UnknownSchema);
     };
     let number = signed_in(row, 0)?;
-    if number != 1 {
+    Ok(number)
+}
+
+/// Whether the tables are those of schema 1. Any number but 1 and 2 is refused.
+pub(crate) fn is_old<S: Alter>(conn: &mut Connection<S>) -> Result<bool, StoreFault>
+    ensures mode { conn.old.in_transaction ≡ false → conn.new.in_transaction ≡ false }
+    ensures same { (n : ℤ) → SaysSchema n (state S.Store conn.old) → HasCleanDisk (state S.Store conn.new) → OnOk result (IsUnchanged (state S.Store conn.old) (state S.Store conn.new)) }
+    ensures rests { (n : ℤ) → SaysSchema n (state S.Store conn.old) → HasCleanDisk (state S.Store conn.new) → Rests (state S.Store conn.old) (state S.Store conn.new) }
+    ensures crash { (n : ℤ) → SaysSchema n (state S.Store conn.old) → Survives (state S.Store conn.old) (state S.Store conn.new) (λ _. ⊥) }
+    ensures number { (n : ℤ) → SaysSchema n (state S.Store conn.old) → HasCleanDisk (state S.Store conn.new) → IfOk result (λ old. (old ≡ true → n ≡ pos 1) × (old ≡ false → n ≡ pos 2)) }
+    ensures taken { (n : ℤ) → SaysSchema n (state S.Store conn.old) → (n ≡ pos 1) ⊎ (n ≡ pos 2) → HasCleanDisk (state S.Store conn.new) → IfErr result IsStoreFault }
+    ensures refused { IfErr result (λ e. IsStoreFault e ⊎ (e ≡ StoreFault.UnknownSchema)) }
+{
+    let number = schema_number(conn)?;
+    if number == 1 {
+        return Ok(true);
+    }
+    if number != 2 {
         return Err(StoreFault::UnknownSchema);
+    }
+    Ok(false)
+}
+
+/// Takes the tables of schema 1 to those of schema 2, inside a transaction.
+pub(crate) fn raise<S: Alter>(tx: &mut Transaction<'_, S>) -> Result<(), StoreFault>
+    ensures same_reference { tx.new.conn.ghost_name ≡ tx.old.conn.ghost_name }
+    ensures raised { (runs : _) → HasCleanDisk (state S.Store tx.new.conn.now) → IsTrue (state S.Store tx.old.conn.now).in_transaction → (IsTrue (state S.Store tx.old.conn.now).is_open → OldTables (state S.Store tx.old.conn.now).now runs)
+        → OnOk result (Tables (state S.Store tx.new.conn.now).now runs × IsDatabase (state S.Store tx.new.conn.now).now × ((state S.Store tx.new.conn.now).committed ≡ (state S.Store tx.old.conn.now).committed) × IsTrue (state S.Store tx.new.conn.now).in_transaction) }
+    ensures keeps { HasCleanDisk (state S.Store tx.new.conn.now) → KeepsCommit (state S.Store tx.old.conn.now) (state S.Store tx.new.conn.now) }
+    ensures failed { IfErr result IsStoreFault }
+    ensures survives { Survives (state S.Store tx.old.conn.now) (state S.Store tx.new.conn.now) (λ _. ⊥) }
+{
+    step(
+        tx,
+        "CREATE TABLE props (run INTEGER NOT NULL, position INTEGER NOT NULL, place INTEGER NOT NULL, name TEXT NOT NULL, value TEXT NOT NULL, PRIMARY KEY (run, position, place)) STRICT",
+        &[],
+    )?;
+    step(tx, "UPDATE meta SET value = 2 WHERE name = 'schema'", &[])?;
+    Ok(())
+}
+
+/// Takes a database of schema 1 to schema 2, in one commit.
+pub(crate) fn renew<S: Alter>(conn: &mut Connection<S>) -> Result<(), StoreFault>
+    requires { conn.old.in_transaction ≡ false }
+    ensures renewed { (runs : _) → StandsInOld (state S.Store conn.old) runs → OnOk result (StandsFor (state S.Store conn.new) runs) }
+    ensures kept { (runs : _) → StandsInOld (state S.Store conn.old) runs → OnErr result (StandsInOld (state S.Store conn.new) runs) }
+    ensures failed { IfErr result IsStoreFault }
+    ensures crash { (runs : _) → StandsInOld (state S.Store conn.old) runs → Survives (state S.Store conn.old) (state S.Store conn.new) (Keeps runs) }
+    ensures durable { (runs : _) → StandsInOld (state S.Store conn.old) runs → OnOk result (Leaves (state S.Store conn.new) (Keeps runs)) }
+{
+    let mut tx = conn.transaction();
+    raise(&mut tx)?;
+    tx.commit()?;
+    Ok(())
+}
+
+/// Takes the tables of a database that has some, and those of schema 1 to schema 2.
+pub(crate) fn take<S: Alter>(conn: &mut Connection<S>) -> Result<(), StoreFault>
+    requires { conn.old.in_transaction ≡ false }
+    ensures stands { (runs : _) → StandsFor (state S.Store conn.old) runs → StandsFor (state S.Store conn.new) runs }
+    ensures crash { (runs : _) → StandsFor (state S.Store conn.old) runs → Survives (state S.Store conn.old) (state S.Store conn.new) (λ _. ⊥) }
+    ensures taken { (runs : _) → StandsFor (state S.Store conn.old) runs → HasCleanDisk (state S.Store conn.new) → IfErr result IsStoreFault }
+    ensures renewed { (runs : _) → StandsInOld (state S.Store conn.old) runs → OnOk result (StandsFor (state S.Store conn.new) runs) }
+    ensures renewed_kept { (runs : _) → StandsInOld (state S.Store conn.old) runs → OnErr result (StandsInOld (state S.Store conn.new) runs) }
+    ensures renewed_taken { (runs : _) → StandsInOld (state S.Store conn.old) runs → HasCleanDisk (state S.Store conn.new) → IfErr result IsStoreFault }
+    ensures renewed_crash { (runs : _) → StandsInOld (state S.Store conn.old) runs → Survives (state S.Store conn.old) (state S.Store conn.new) (Keeps runs) }
+    ensures renewed_durable { (runs : _) → StandsInOld (state S.Store conn.old) runs → OnOk result (Leaves (state S.Store conn.new) (Keeps runs)) }
+    ensures unknown { (n : ℤ) → SaysSchema n (state S.Store conn.old) → n ≢ pos 1 → n ≢ pos 2 → HasCleanDisk (state S.Store conn.new) → OnOk result ⊥ }
+    ensures untouched { (n : ℤ) → SaysSchema n (state S.Store conn.old) → n ≢ pos 1 → HasCleanDisk (state S.Store conn.new) → Rests (state S.Store conn.old) (state S.Store conn.new) }
+    ensures unknown_crash { (n : ℤ) → SaysSchema n (state S.Store conn.old) → n ≢ pos 1 → Survives (state S.Store conn.old) (state S.Store conn.new) (λ _. ⊥) }
+    ensures refused { IfErr result (λ e. IsStoreFault e ⊎ (e ≡ StoreFault.UnknownSchema)) }
+{
+    if is_old(conn)? {
+        renew(conn)?;
     }
     Ok(())
 }
 
-/// Makes the tables in an empty database, or asks whether they are those of schema 1.
+/// Makes the tables in an empty database, or takes those that are there.
 pub(crate) fn settle<S: Alter>(conn: &mut Connection<S>) -> Result<(), StoreFault>
     requires { conn.old.in_transaction ≡ false }
     ensures made { IsEmpty (state S.Store conn.old) → OnOk result (StandsFor (state S.Store conn.new) []) }
@@ -135,9 +213,14 @@ pub(crate) fn settle<S: Alter>(conn: &mut Connection<S>) -> Result<(), StoreFaul
     ensures crash { (runs : _) → StandsFor (state S.Store conn.old) runs → Survives (state S.Store conn.old) (state S.Store conn.new) (λ _. ⊥) }
     ensures durable { IsEmpty (state S.Store conn.old) → OnOk result (Leaves (state S.Store conn.new) (Keeps [])) }
     ensures was_open { (runs : _) → StandsFor (state S.Store conn.old) runs → HasCleanDisk (state S.Store conn.new) → OnOk result (IsTrue (state S.Store conn.old).is_open) }
-    ensures unknown { (n : ℤ) → SaysSchema n (state S.Store conn.old) → n ≢ pos 1 → HasCleanDisk (state S.Store conn.new) → OnOk result ⊥ }
-    ensures untouched { (n : ℤ) → SaysSchema n (state S.Store conn.old) → HasCleanDisk (state S.Store conn.new) → OnErr result (Rests (state S.Store conn.old) (state S.Store conn.new)) }
-    ensures unknown_crash { (n : ℤ) → SaysSchema n (state S.Store conn.old) → OnErr result (Survives (state S.Store conn.old) (state S.Store conn.new) (λ _. ⊥)) }
+    ensures renewed { (runs : _) → StandsInOld (state S.Store conn.old) runs → OnOk result (StandsFor (state S.Store conn.new) runs) }
+    ensures renewed_kept { (runs : _) → StandsInOld (state S.Store conn.old) runs → OnErr result (StandsInOld (state S.Store conn.new) runs) }
+    ensures renewed_taken { (runs : _) → StandsInOld (state S.Store conn.old) runs → HasCleanDisk (state S.Store conn.new) → IfErr result IsStoreFault }
+    ensures renewed_crash { (runs : _) → StandsInOld (state S.Store conn.old) runs → Survives (state S.Store conn.old) (state S.Store conn.new) (Keeps runs) }
+    ensures renewed_durable { (runs : _) → StandsInOld (state S.Store conn.old) runs → OnOk result (Leaves (state S.Store conn.new) (Keeps runs)) }
+    ensures unknown { (n : ℤ) → SaysSchema n (state S.Store conn.old) → n ≢ pos 1 → n ≢ pos 2 → HasCleanDisk (state S.Store conn.new) → OnOk result ⊥ }
+    ensures untouched { (n : ℤ) → SaysSchema n (state S.Store conn.old) → n ≢ pos 1 → HasCleanDisk (state S.Store conn.new) → OnErr result (Rests (state S.Store conn.old) (state S.Store conn.new)) }
+    ensures unknown_crash { (n : ℤ) → SaysSchema n (state S.Store conn.old) → n ≢ pos 1 → OnErr result (Survives (state S.Store conn.old) (state S.Store conn.new) (λ _. ⊥)) }
     ensures taken { (runs : _) → StandsFor (state S.Store conn.old) runs → HasCleanDisk (state S.Store conn.new) → IfErr result IsStoreFault }
     ensures refused { IfErr result (λ e. IsStoreFault e ⊎ (e ≡ StoreFault.UnknownSchema)) }
 {
@@ -146,6 +229,6 @@ pub(crate) fn settle<S: Alter>(conn: &mut Connection<S>) -> Result<(), StoreFaul
         create(conn)?;
         return Ok(());
     }
-    known(conn)?;
+    take(conn)?;
     Ok(())
 }

@@ -1,4 +1,4 @@
-ghost use Rattle.std.specs.Prelude.{◌≡◌, ◌<◌, ◌^◌, ℕ, pos, length, map, List, [], ◌∷◌, Ok, IfOk, IfErr};
+ghost use Rattle.std.specs.Prelude.{◌≡◌, ◌<◌, ◌^◌, ℕ, pos, length, map, List, [], ◌∷◌, ◌++◌, Ok, IfOk, OnOk, IfErr};
 ghost use Rattle.kt_base.specs.declared.entry.Entry.{Entry as Stored};
 ghost use Rattle.kt_base.specs.declared.kind.Kind.{Kind as Sort};
 ghost use Rattle.kt_base.specs.declared.kind.Kind.TheVariants.{Passed};
@@ -10,17 +10,19 @@ ghost use Rattle.sqlite_value.specs.declared.value.Value.TheVariants.{Int, Text 
 ghost use Rattle.sqlite.specs.State.{HasCleanDisk, Survives};
 ghost use Rattle.sqlite.specs.Held.{state};
 ghost use Rattle.kt_store.specs.Ask.{IsNoMemory, IsStoreFault, IsCaused};
-ghost use Rattle.kt_store.specs.Runs.{IsEntry, IsText, kind_code, run_at, entries_of};
-ghost use Rattle.kt_store.specs.Heads.{entry_columns};
+ghost use Rattle.kt_base.specs.declared.variable.Variable.{Variable as StoredPair};
+ghost use Rattle.sqlite_trees.specs.Tree.{IsAscending};
+ghost use Rattle.kt_store.specs.Runs.{IsEntry, IsPair, IsText, AreRuns, kind_code, run_at, entries_of};
+ghost use Rattle.kt_store.specs.Heads.{entry_columns, pair_columns, pairs_shown};
 ghost use Rattle.kt_store.specs.Stands.{StandsFor};
-ghost use Rattle.kt_store.specs.Tables.{entries_text};
+ghost use Rattle.kt_store.specs.Tables.{entries_text, pairs_text};
 
 use crate::growth::add;
 use crate::read::{number_in, small_in};
 use crate::statements::ask;
 use crate::store_fault::StoreFault;
 use crate::value::int;
-use kt_base::{Bytes, Entry, Kind, Output, Reason, Text, Verdict};
+use kt_base::{Bytes, Entry, Kind, Output, Reason, Text, Variable, Variables, Verdict};
 use sqlite::{Alter, Connection, Error, Row};
 use std::alloc::Global;
 
@@ -83,9 +85,45 @@ pub(crate) fn output_in(row: &Row, out: usize, err: usize) -> Result<Output, Sto
     })
 }
 
-/// The entry in a row.
-pub(crate) fn entry_in(row: &Row) -> Result<Entry, StoreFault>
-    ensures entry { (e : Stored) → IsEntry e → row.now ≡ entry_columns e → IfOk result (λ x. x ≡ e) }
+/// The pair in a row.
+pub(crate) fn pair_in(row: &Row) -> Result<Variable, StoreFault>
+    ensures pair { (n : ℕ) (v : StoredPair) → IsPair v → row.now ≡ pair_columns n v → IfOk result (λ x. x ≡ v) }
+    ensures read { (n : ℕ) (v : StoredPair) → IsPair v → row.now ≡ pair_columns n v → IfErr result IsNoMemory }
+    ensures failed { IfErr result IsStoreFault }
+{
+    let name = text_in(row, 1)?;
+    let value = text_in(row, 2)?;
+    Ok(Variable { name, value })
+}
+
+/// The pairs of the entry at this position, which are the first of the rows, and the rows behind
+/// them.
+pub(crate) fn meta_in(
+    alloc: Global,
+    rows: &[Row],
+    position: u32,
+) -> Result<(Variables, &[Row]), StoreFault>
+    ensures meta { (vs : List StoredPair) (others : List Stored) → AllByRecursion IsPair vs → AllByRecursion (λ (e : Stored). position < e.position) others
+        → rows.now ≡ map (pair_columns position) vs ++ pairs_shown others → IfOk result (λ found. (found.0 ≡ vs) × (found.1.now ≡ pairs_shown others)) }
+    ensures read { (vs : List StoredPair) (others : List Stored) → AllByRecursion IsPair vs → AllByRecursion (λ (e : Stored). position < e.position) others
+        → rows.now ≡ map (pair_columns position) vs ++ pairs_shown others → IfErr result IsNoMemory }
+    ensures failed { IfErr result IsStoreFault }
+{
+    let mut meta = Variables::new(alloc);
+    let mut rest = rows;
+    while let Some((row, after)) = rest.split_first() {
+        if number_in(row, 0)? != u64::from(position) {
+            return Ok((meta, rest));
+        }
+        meta.push(pair_in(row)?)?;
+        rest = after;
+    }
+    Ok((meta, rest))
+}
+
+/// The entry in a row, with these pairs.
+pub(crate) fn entry_in(row: &Row, meta: Variables) -> Result<Entry, StoreFault>
+    ensures entry { (e : Stored) → IsEntry e → row.now ≡ entry_columns e → meta ≡ e.meta → IfOk result (λ x. x ≡ e) }
     ensures read { (e : Stored) → IsEntry e → e.position < 2 ^ 32 → row.now ≡ entry_columns e → IfErr result IsNoMemory }
     ensures failed { IfErr result IsStoreFault }
 {
@@ -108,21 +146,69 @@ pub(crate) fn entry_in(row: &Row) -> Result<Entry, StoreFault>
         millis,
         body,
         cleanup,
+        meta,
     })
 }
 
-/// The entries in the rows.
-pub(crate) fn entries_in(alloc: Global, rows: &[Row]) -> Result<Vec<Entry>, StoreFault>
-    ensures entries { (es : List Stored) → AllByRecursion IsEntry es → rows.now ≡ map entry_columns es → IfOk result (λ found. found.items ≡ es) }
-    ensures read { (es : List Stored) → AllByRecursion IsEntry es → AllByRecursion (λ (e : Stored). e.position < 2 ^ 32) es → rows.now ≡ map entry_columns es → IfErr result IsNoMemory }
+/// The entries in the rows, with the pairs in the others.
+pub(crate) fn entries_in(
+    alloc: Global,
+    rows: &[Row],
+    pairs: &[Row],
+) -> Result<Vec<Entry>, StoreFault>
+    ensures entries { (es : List Stored) → AllByRecursion IsEntry es → IsAscending (λ (a b : Stored). a.position < b.position) es → rows.now ≡ map entry_columns es → pairs.now ≡ pairs_shown es
+        → IfOk result (λ found. found.items ≡ es) }
+    ensures read { (es : List Stored) → AllByRecursion IsEntry es → IsAscending (λ (a b : Stored). a.position < b.position) es → AllByRecursion (λ (e : Stored). e.position < 2 ^ 32) es
+        → rows.now ≡ map entry_columns es → pairs.now ≡ pairs_shown es → IfErr result IsNoMemory }
     ensures failed { IfErr result IsStoreFault }
 {
     let mut entries = Vec::new(alloc);
+    let mut rest = pairs;
     for row in rows {
-        let entry = entry_in(row)?;
+        let (meta, after) = meta_in(alloc, rest, small_in(row, 0)?)?;
+        let entry = entry_in(row, meta)?;
         add(&mut entries, entry)?;
+        rest = after;
     }
     Ok(entries)
+}
+
+/// The rows of the pairs of a run's entries, by position and place.
+pub(crate) fn all_pairs<S: Alter>(
+    conn: &mut Connection<S>,
+    run: u64,
+) -> Result<Vec<Row>, StoreFault>
+    requires { run < 2 ^ 63 }
+    ensures all { (runs : _) → StandsFor (state S.Store conn.old) runs → HasCleanDisk (state S.Store conn.new) → IfOk result (λ rows. rows.items ≡ pairs_shown (entries_of (run_at runs run))) }
+    ensures failed { IfErr result IsStoreFault }
+    ensures cause { (runs : _) → StandsFor (state S.Store conn.old) runs → HasCleanDisk (state S.Store conn.new) → IfErr result (IsCaused S.Store ((pairs_text, Int (pos run) ∷ []) ∷ []) conn.new) }
+    ensures stands { (runs : _) → StandsFor (state S.Store conn.old) runs → StandsFor (state S.Store conn.new) runs }
+    ensures crash { (runs : _) → StandsFor (state S.Store conn.old) runs → Survives (state S.Store conn.old) (state S.Store conn.new) (λ _. ⊥) }
+{
+    let rows = ask(
+        conn,
+        "SELECT position, name, value FROM props WHERE run = ?1 ORDER BY position, place",
+        &[int(run)],
+    )?;
+    Ok(rows)
+}
+
+/// The rows of a run's entries, by position.
+pub(crate) fn all_rows<S: Alter>(conn: &mut Connection<S>, run: u64) -> Result<Vec<Row>, StoreFault>
+    requires { run < 2 ^ 63 }
+    ensures all { (runs : _) → StandsFor (state S.Store conn.old) runs → HasCleanDisk (state S.Store conn.new) → IfOk result (λ rows. rows.items ≡ map entry_columns (entries_of (run_at runs run))) }
+    ensures valid { (runs : _) → StandsFor (state S.Store conn.old) runs → HasCleanDisk (state S.Store conn.new) → OnOk result (AreRuns runs) }
+    ensures failed { IfErr result IsStoreFault }
+    ensures cause { (runs : _) → StandsFor (state S.Store conn.old) runs → HasCleanDisk (state S.Store conn.new) → IfErr result (IsCaused S.Store ((entries_text, Int (pos run) ∷ []) ∷ []) conn.new) }
+    ensures stands { (runs : _) → StandsFor (state S.Store conn.old) runs → StandsFor (state S.Store conn.new) runs }
+    ensures crash { (runs : _) → StandsFor (state S.Store conn.old) runs → Survives (state S.Store conn.old) (state S.Store conn.new) (λ _. ⊥) }
+{
+    let rows = ask(
+        conn,
+        "SELECT position, program, case_name, kind, reason, started, millis, body_out, body_err, clean_out, clean_err FROM entries WHERE run = ?1 ORDER BY position",
+        &[int(run)],
+    )?;
+    Ok(rows)
 }
 
 /// The entries of a run, by position.
@@ -134,15 +220,12 @@ pub(crate) fn all_entries<S: Alter>(
     requires { run < 2 ^ 63 }
     ensures all { (runs : _) → StandsFor (state S.Store conn.old) runs → HasCleanDisk (state S.Store conn.new) → IfOk result (λ found. found.items ≡ entries_of (run_at runs run)) }
     ensures failed { IfErr result IsStoreFault }
-    ensures cause { (runs : _) → StandsFor (state S.Store conn.old) runs → HasCleanDisk (state S.Store conn.new) → IfErr result (IsCaused S.Store ((entries_text, Int (pos run) ∷ []) ∷ []) conn.new) }
+    ensures cause { (runs : _) → StandsFor (state S.Store conn.old) runs → HasCleanDisk (state S.Store conn.new) → IfErr result (IsCaused S.Store ((entries_text, Int (pos run) ∷ []) ∷ (pairs_text, Int (pos run) ∷ []) ∷ []) conn.new) }
     ensures stands { (runs : _) → StandsFor (state S.Store conn.old) runs → StandsFor (state S.Store conn.new) runs }
     ensures crash { (runs : _) → StandsFor (state S.Store conn.old) runs → Survives (state S.Store conn.old) (state S.Store conn.new) (λ _. ⊥) }
 {
-    let rows = ask(
-        conn,
-        "SELECT position, program, case_name, kind, reason, started, millis, body_out, body_err, clean_out, clean_err FROM entries WHERE run = ?1 ORDER BY position",
-        &[int(run)],
-    )?;
-    let entries = entries_in(alloc, &rows)?;
+    let rows = all_rows(conn, run)?;
+    let pairs = all_pairs(conn, run)?;
+    let entries = entries_in(alloc, &rows, &pairs)?;
     Ok(entries)
 }

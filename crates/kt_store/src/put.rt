@@ -1,18 +1,21 @@
-ghost use Rattle.std.specs.Prelude.{◌≡◌, ◌⊎◌, Some, None, IfOk, ◌<◌, ◌≤◌, ◌^◌, suc, length, OnOk, OnErr, IfErr};
+ghost use Rattle.std.specs.Prelude.{◌≡◌, ◌⊎◌, false, Some, None, Err, IfOk, ◌<◌, ◌≤◌, ◌^◌, suc, length, OnOk, OnErr, IfErr, IsTrue};
 ghost use Rattle.std.specs.List.{AllByRecursion};
-ghost use Rattle.sqlite.specs.State.{HasCleanDisk, Survives};
+ghost use Rattle.sqlite.specs.State.{HasCleanDisk, Survives, ExecutesInside};
 ghost use Rattle.sqlite.specs.Held.{state};
 ghost use Rattle.kt_store.specs.Ask.{IsNoMemory, IsStoreFault, IsCaused};
-ghost use Rattle.kt_store.specs.Runs.{IsRun, IsEntry, IsText, with_entry, Keeps, kind_code, put_refusal, run_at, AreRuns, entries_of, has_position};
+ghost use Rattle.kt_store.specs.Fault.{Tells};
+ghost use Rattle.kt_store.specs.Transactions.{RunsInside, RunInTurn, StopInTurn, IsStopped, IsCausedInside};
+ghost use Rattle.kt_store.specs.Runs.{IsRun, IsEntry, IsPair, IsText, pair_row, with_entry, Keeps, kind_code, put_refusal, run_at, AreRuns, entries_of, has_position};
 ghost use Rattle.kt_store.specs.Stands.{StandsFor, Leaves};
-ghost use Rattle.kt_store.specs.Calls.{put_statements};
+ghost use Rattle.kt_store.specs.Calls.{put_statements, pair_statements, entry_statements};
+ghost use Rattle.kt_store.specs.Tables.{pair_text};
 
 use crate::lookup::{look, there};
-use crate::statements::tell;
+use crate::statements::step;
 use crate::store_fault::StoreFault;
 use crate::value::{blob, int, text};
-use kt_base::{Entry, Kind, Text};
-use sqlite::{Alter, Connection};
+use kt_base::{Entry, Kind, Text, Variable};
+use sqlite::{Alter, Connection, Error, ErrorCode, Transaction};
 use std::alloc::Global;
 
 pub(crate) fn code(kind: Kind) -> u64
@@ -35,6 +38,16 @@ fn text_is_spelled(text: &Text)
     let _ = text.as_str();
 }
 
+/// A theorem: the bytes of the texts of these pairs spell them.
+pub(crate) fn pairs_are_spelled(pairs: &[Variable])
+    ensures { AllByRecursion IsPair pairs.now }
+{
+    for pair in pairs {
+        text_is_spelled(&pair.name);
+        text_is_spelled(&pair.value);
+    }
+}
+
 /// The text of the reason.
 pub(crate) fn reason_of(alloc: Global, entry: &Entry) -> Result<Text, StoreFault>
     ensures text { IfOk result (λ t. t ≡ entry.now.verdict.reason) }
@@ -47,12 +60,68 @@ pub(crate) fn reason_of(alloc: Global, entry: &Entry) -> Result<Text, StoreFault
     text_is_spelled(&entry.program);
     text_is_spelled(&entry.case_name);
     text_is_spelled(&reason);
+    pairs_are_spelled(entry.meta.as_slice());
     Ok(reason)
 }
 
-/// Adds an entry to a run that is there, where the run takes it.
-pub(crate) fn add_entry<S: Alter>(
-    conn: &mut Connection<S>,
+/// Adds the pair at a place among those of an entry, inside a transaction.
+pub(crate) fn add_pair<S: Alter>(
+    tx: &mut Transaction<'_, S>,
+    run: u64,
+    position: u32,
+    place: u64,
+    pair: &Variable,
+) -> Result<(), StoreFault>
+    requires { (run < 2 ^ 63) × (place < 2 ^ 63) }
+    ensures same_reference { tx.new.conn.ghost_name ≡ tx.old.conn.ghost_name }
+    ensures runs { HasCleanDisk (state S.Store tx.new.conn.now) → IsTrue (state S.Store tx.old.conn.now).in_transaction
+        → OnOk result (RunsInside S.Store (pair_text, pair_row run position place pair.now) tx.old.conn.now tx.new.conn.now) }
+    ensures cause { HasCleanDisk (state S.Store tx.new.conn.now) → IsTrue (state S.Store tx.old.conn.now).in_transaction
+        → IfErr result (λ e. (error : _) × Tells error e × ExecutesInside 0 pair_text (pair_row run position place pair.now) (state S.Store tx.old.conn.now) (state S.Store tx.new.conn.now) (Err error)) }
+    ensures failed { IfErr result IsStoreFault }
+    ensures survives { Survives (state S.Store tx.old.conn.now) (state S.Store tx.new.conn.now) (λ _. ⊥) }
+{
+    step(
+        tx,
+        "INSERT INTO props (run, position, place, name, value) VALUES (?1, ?2, ?3, ?4, ?5)",
+        &[
+            int(run),
+            int(u64::from(position)),
+            int(place),
+            text(&pair.name),
+            text(&pair.value),
+        ],
+    )?;
+    Ok(())
+}
+
+/// Adds the pairs of an entry, inside a transaction.
+pub(crate) fn add_pairs<S: Alter>(
+    tx: &mut Transaction<'_, S>,
+    run: u64,
+    position: u32,
+    pairs: &[Variable],
+) -> Result<(), StoreFault>
+    requires { run < 2 ^ 63 }
+    ensures same_reference { tx.new.conn.ghost_name ≡ tx.old.conn.ghost_name }
+    ensures runs { HasCleanDisk (state S.Store tx.new.conn.now) → IsTrue (state S.Store tx.old.conn.now).in_transaction
+        → OnOk result (RunInTurn S.Store (pair_statements run position 0 pairs.now) tx.old.conn.now tx.new.conn.now) }
+    ensures cause { HasCleanDisk (state S.Store tx.new.conn.now) → IsTrue (state S.Store tx.old.conn.now).in_transaction
+        → IfErr result (λ e. (error : _) × Tells error e × StopInTurn S.Store (pair_statements run position 0 pairs.now) tx.old.conn.now tx.new.conn.now error) }
+    ensures failed { IfErr result IsStoreFault }
+    ensures survives { Survives (state S.Store tx.old.conn.now) (state S.Store tx.new.conn.now) (λ _. ⊥) }
+{
+    let mut place = 0;
+    for pair in pairs {
+        add_pair(tx, run, position, place, pair)?;
+        place += 1;
+    }
+    Ok(())
+}
+
+/// Adds an entry and its pairs, inside a transaction.
+pub(crate) fn fill<S: Alter>(
+    tx: &mut Transaction<'_, S>,
     run: u64,
     entry: &Entry,
     reason: &Text,
@@ -60,18 +129,16 @@ pub(crate) fn add_entry<S: Alter>(
     requires run { run < 2 ^ 63 }
     requires reason { reason.now ≡ entry.now.verdict.reason }
     requires moments { (entry.now.started ≤ 253402300799999) × (entry.now.millis ≤ 253402300799999) }
-    ensures added { (runs : _) → StandsFor (state S.Store conn.old) runs → (HasCleanDisk (state S.Store conn.old) → (k : _) × (run ≡ suc k) × (k < length runs) × AllByRecursion IsRun (with_entry run entry.now runs))
-        → OnOk result (StandsFor (state S.Store conn.new) (with_entry run entry.now runs)) }
-    ensures kept { (runs : _) → StandsFor (state S.Store conn.old) runs → OnErr result (StandsFor (state S.Store conn.new) runs) }
+    ensures same_reference { tx.new.conn.ghost_name ≡ tx.old.conn.ghost_name }
+    ensures runs { HasCleanDisk (state S.Store tx.new.conn.now) → IsTrue (state S.Store tx.old.conn.now).in_transaction
+        → OnOk result (RunInTurn S.Store (entry_statements run entry.now) tx.old.conn.now tx.new.conn.now) }
+    ensures cause { HasCleanDisk (state S.Store tx.new.conn.now) → IsTrue (state S.Store tx.old.conn.now).in_transaction
+        → IfErr result (IsStopped S.Store (entry_statements run entry.now) tx.old.conn.now tx.new.conn.now) }
     ensures failed { IfErr result IsStoreFault }
-    ensures cause { (runs : _) → StandsFor (state S.Store conn.old) runs → HasCleanDisk (state S.Store conn.new) → IfErr result (IsCaused S.Store (put_statements run entry.now) conn.new) }
-    ensures crash { (runs : _) → StandsFor (state S.Store conn.old) runs → (HasCleanDisk (state S.Store conn.old) → (k : _) × (run ≡ suc k) × (k < length runs) × AllByRecursion IsRun (with_entry run entry.now runs))
-        → Survives (state S.Store conn.old) (state S.Store conn.new) (Keeps (with_entry run entry.now runs)) }
-    ensures durable { (runs : _) → StandsFor (state S.Store conn.old) runs → (HasCleanDisk (state S.Store conn.old) → (k : _) × (run ≡ suc k) × (k < length runs) × AllByRecursion IsRun (with_entry run entry.now runs))
-        → OnOk result (Leaves (state S.Store conn.new) (Keeps (with_entry run entry.now runs))) }
+    ensures survives { Survives (state S.Store tx.old.conn.now) (state S.Store tx.new.conn.now) (λ _. ⊥) }
 {
-    tell(
-        conn,
+    step(
+        tx,
         "INSERT INTO entries (run, position, program, case_name, kind, reason, started, millis, body_out, body_err, clean_out, clean_err) VALUES (?1, ?2, ?3, ?4, ?5, ?6, ?7, ?8, ?9, ?10, ?11, ?12)",
         &[
             int(run),
@@ -88,6 +155,65 @@ pub(crate) fn add_entry<S: Alter>(
             blob(&entry.cleanup.err),
         ],
     )?;
+    add_pairs(tx, run, entry.position, entry.meta.as_slice())?;
+    Ok(())
+}
+
+/// Adds an entry and its pairs to a run that is there, where the run takes it, in one commit.
+pub(crate) fn commit_entry<S: Alter>(
+    conn: &mut Connection<S>,
+    run: u64,
+    entry: &Entry,
+    reason: &Text,
+) -> Result<(), StoreFault>
+    requires mode { conn.old.in_transaction ≡ false }
+    requires run { run < 2 ^ 63 }
+    requires reason { reason.now ≡ entry.now.verdict.reason }
+    requires moments { (entry.now.started ≤ 253402300799999) × (entry.now.millis ≤ 253402300799999) }
+    ensures added { (runs : _) → StandsFor (state S.Store conn.old) runs → (HasCleanDisk (state S.Store conn.old) → (k : _) × (run ≡ suc k) × (k < length runs) × AllByRecursion IsRun (with_entry run entry.now runs))
+        → OnOk result (StandsFor (state S.Store conn.new) (with_entry run entry.now runs)) }
+    ensures kept { (runs : _) → StandsFor (state S.Store conn.old) runs → OnErr result (StandsFor (state S.Store conn.new) runs) }
+    ensures failed { IfErr result IsStoreFault }
+    ensures cause { (runs : _) → StandsFor (state S.Store conn.old) runs → IsTrue (state S.Store conn.old).is_open → HasCleanDisk (state S.Store conn.new) → IfErr result (IsCausedInside S.Store runs (put_statements run entry.now) (entry_statements run entry.now) conn.new) }
+    ensures crash { (runs : _) → StandsFor (state S.Store conn.old) runs → (HasCleanDisk (state S.Store conn.old) → (k : _) × (run ≡ suc k) × (k < length runs) × AllByRecursion IsRun (with_entry run entry.now runs))
+        → Survives (state S.Store conn.old) (state S.Store conn.new) (Keeps (with_entry run entry.now runs)) }
+    ensures durable { (runs : _) → StandsFor (state S.Store conn.old) runs → (HasCleanDisk (state S.Store conn.old) → (k : _) × (run ≡ suc k) × (k < length runs) × AllByRecursion IsRun (with_entry run entry.now runs))
+        → OnOk result (Leaves (state S.Store conn.new) (Keeps (with_entry run entry.now runs))) }
+{
+    let mut tx = conn.transaction();
+    fill(&mut tx, run, entry, reason)?;
+    tx.commit()?;
+    Ok(())
+}
+
+/// Adds an entry and its pairs to a run that is there, where the run takes it. The statement is
+/// prepared first, so that a connection which is shut begins no transaction.
+pub(crate) fn add_entry<S: Alter>(
+    conn: &mut Connection<S>,
+    run: u64,
+    entry: &Entry,
+    reason: &Text,
+) -> Result<(), StoreFault>
+    requires run { run < 2 ^ 63 }
+    requires reason { reason.now ≡ entry.now.verdict.reason }
+    requires moments { (entry.now.started ≤ 253402300799999) × (entry.now.millis ≤ 253402300799999) }
+    ensures added { (runs : _) → StandsFor (state S.Store conn.old) runs → (HasCleanDisk (state S.Store conn.old) → (k : _) × (run ≡ suc k) × (k < length runs) × AllByRecursion IsRun (with_entry run entry.now runs))
+        → OnOk result (StandsFor (state S.Store conn.new) (with_entry run entry.now runs)) }
+    ensures kept { (runs : _) → StandsFor (state S.Store conn.old) runs → OnErr result (StandsFor (state S.Store conn.new) runs) }
+    ensures failed { IfErr result IsStoreFault }
+    ensures cause { (runs : _) → StandsFor (state S.Store conn.old) runs → HasCleanDisk (state S.Store conn.new) → IfErr result (IsCausedInside S.Store runs (put_statements run entry.now) (entry_statements run entry.now) conn.new) }
+    ensures crash { (runs : _) → StandsFor (state S.Store conn.old) runs → (HasCleanDisk (state S.Store conn.old) → (k : _) × (run ≡ suc k) × (k < length runs) × AllByRecursion IsRun (with_entry run entry.now runs))
+        → Survives (state S.Store conn.old) (state S.Store conn.new) (Keeps (with_entry run entry.now runs)) }
+    ensures durable { (runs : _) → StandsFor (state S.Store conn.old) runs → (HasCleanDisk (state S.Store conn.old) → (k : _) × (run ≡ suc k) × (k < length runs) × AllByRecursion IsRun (with_entry run entry.now runs))
+        → OnOk result (Leaves (state S.Store conn.new) (Keeps (with_entry run entry.now runs))) }
+{
+    let sql =
+        "INSERT INTO entries (run, position, program, case_name, kind, reason, started, millis, body_out, body_err, clean_out, clean_err) VALUES (?1, ?2, ?3, ?4, ?5, ?6, ?7, ?8, ?9, ?10, ?11, ?12)";
+    let statement = conn.prepare(sql)?;
+    if !conn.is_autocommit() {
+        return Err(StoreFault::from(Error::SqliteFailure(ErrorCode::TransactionState)));
+    }
+    commit_entry(conn, run, entry, reason)?;
     Ok(())
 }
 

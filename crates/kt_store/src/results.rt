@@ -2,12 +2,13 @@ ghost use Rattle.std.specs.Prelude.{◌≡◌, false, ◌≢◌, ℤ, pos, Some,
 ghost use Rattle.sqlite.specs.State.{HasCleanDisk, Survives};
 ghost use Rattle.sqlite.specs.Held.{state};
 ghost use Rattle.kt_store.specs.Ask.{IsStoreFault, IsCaused, Rests};
-ghost use Rattle.kt_store.specs.Runs.{new_run, run_at, with_entry, put_refusal, finish, finish_refusal, Keeps};
-ghost use Rattle.kt_store.specs.Calls.{begin_statements, put_statements, finish_statements, runs_statements, entries_statements};
+ghost use Rattle.kt_store.specs.Runs.{new_run, run_at, with_entry, put_refusal, finish, finish_refusal, Keeps, KeepsEither};
+ghost use Rattle.kt_store.specs.Calls.{begin_statements, put_statements, entry_statements, finish_statements, runs_statements, entries_statements};
+ghost use Rattle.kt_store.specs.Transactions.{IsCausedInside};
 ghost use Rattle.kt_store.specs.Heads.{head_of};
-ghost use Rattle.kt_store.specs.Stands.{IsEmpty, StandsFor, SaysSchema, Leaves};
+ghost use Rattle.kt_store.specs.Stands.{IsEmpty, StandsFor, StandsInOld, SaysSchema, Leaves};
 
-use crate::attach::{leaves_its_runs, settle};
+use crate::attach::{leaves_its_old_runs, leaves_its_runs, settle};
 use crate::begin::{add_run, is_full};
 use crate::close::{self, mark};
 use crate::entries::all_entries;
@@ -41,9 +42,9 @@ impl<S: Alter> Model for Results<S> {
 }
 
 impl<S: Alter> Results<S> {
-    /// Takes the tables of a database; in an empty one it makes them, in one commit. A refusal hands
-    /// the connection back: `UnknownSchema` where the tables say another number. Of a database with
-    /// other tables nothing is said.
+    /// Takes the tables of a database; in an empty one it makes them, in one commit, and so it takes
+    /// those of schema 1 to schema 2. A refusal hands the connection back: `UnknownSchema` where the
+    /// tables say a number other than 1 and 2. Of a database with other tables nothing is said.
     pub fn attach(
         alloc: Global,
         connection: Connection<S>,
@@ -65,14 +66,25 @@ impl<S: Alter> Results<S> {
         ensures durable { IsEmpty (state S.Store connection) → IfOk result (λ r. Leaves (state S.Store r) (Keeps [])) }
         ensures made_kept { IsEmpty (state S.Store connection) → IfErr result (λ e. IsEmpty (state S.Store e.1)) }
         ensures made_taken { IsEmpty (state S.Store connection) → IfErr result (λ e. HasCleanDisk (state S.Store e.1) → IsStoreFault e.0) }
+        // Tables of schema 1 are taken to schema 2 in one commit, with the same runs; a refusal leaves them as they were.
+        ensures renewed { (runs : _) → StandsInOld (state S.Store connection) runs → IfOk result (λ r. StandsFor (state S.Store r) runs) }
+        ensures renewed_kept { (runs : _) → StandsInOld (state S.Store connection) runs → IfErr result (λ e. StandsInOld (state S.Store e.1) runs) }
+        ensures renewed_taken { (runs : _) → StandsInOld (state S.Store connection) runs → IfErr result (λ e. HasCleanDisk (state S.Store e.1) → IsStoreFault e.0) }
+        // A crash leaves what it left before, or schema 2 with the same runs; after Ok nothing else.
+        ensures renewed_crash { (runs : _) → StandsInOld (state S.Store connection) runs → IfOk result (λ r. Survives (state S.Store connection) (state S.Store r) (Keeps runs)) }
+        ensures renewed_crash_err { (runs : _) → StandsInOld (state S.Store connection) runs → IfErr result (λ e. Survives (state S.Store connection) (state S.Store e.1) (Keeps runs)) }
+        ensures renewed_durable { (runs : _) → StandsInOld (state S.Store connection) runs → IfOk result (λ r. Leaves (state S.Store r) (Keeps runs)) }
+        // So an open database of schema 1 whose migration is refused is left with the same runs, in schema 1 or 2.
+        ensures renewed_lasting { (runs : _) → StandsInOld (state S.Store connection) runs → IsTrue (state S.Store connection).is_open → IfErr result (λ e. Leaves (state S.Store e.1) (KeepsEither runs)) }
         // Tables that say another number are refused.
-        ensures unknown { (n : ℤ) → SaysSchema n (state S.Store connection) → n ≢ pos 1 → IfOk result (λ r. HasCleanDisk (state S.Store r) → ⊥) }
-        ensures untouched { (n : ℤ) → SaysSchema n (state S.Store connection) → IfErr result (λ e. HasCleanDisk (state S.Store e.1) → Rests (state S.Store connection) (state S.Store e.1)) }
-        ensures unknown_crash { (n : ℤ) → SaysSchema n (state S.Store connection) → IfErr result (λ e. Survives (state S.Store connection) (state S.Store e.1) (λ _. ⊥)) }
+        ensures unknown { (n : ℤ) → SaysSchema n (state S.Store connection) → n ≢ pos 1 → n ≢ pos 2 → IfOk result (λ r. HasCleanDisk (state S.Store r) → ⊥) }
+        ensures untouched { (n : ℤ) → SaysSchema n (state S.Store connection) → n ≢ pos 1 → IfErr result (λ e. HasCleanDisk (state S.Store e.1) → Rests (state S.Store connection) (state S.Store e.1)) }
+        ensures unknown_crash { (n : ℤ) → SaysSchema n (state S.Store connection) → n ≢ pos 1 → IfErr result (λ e. Survives (state S.Store connection) (state S.Store e.1) (λ _. ⊥)) }
         ensures refused { IfErr result (λ e. IsStoreFault e.0 ⊎ (e.0 ≡ StoreFault.UnknownSchema)) }
     {
         let mut conn = connection;
         leaves_its_runs(&conn);
+        leaves_its_old_runs(&conn);
         match settle(&mut conn) {
             Ok(()) => Ok(Results { conn, alloc }),
             Err(error) => Err((error, conn)),
@@ -113,7 +125,7 @@ impl<S: Alter> Results<S> {
         add_run(&mut self.conn, total, moment)
     }
 
-    /// Adds an entry to a run, in one commit. Refused, in this order, are: no such run, a run that is
+    /// Adds an entry and its pairs to a run, in one commit. Refused, in this order, are: no such run, a run that is
     /// finished, a position that is not below the total, a position that is there. Moments and
     /// durations are in milliseconds, up to the end of the year 9999.
     pub fn put(&mut self, run: u64, entry: &Entry) -> Result<(), StoreFault>
@@ -125,8 +137,8 @@ impl<S: Alter> Results<S> {
         ensures kept { (runs : _) → StandsFor (state S.Store self.old) runs → OnErr result (StandsFor (state S.Store self.new) runs) }
         ensures refused { (runs : _) → StandsFor (state S.Store self.old) runs → HasCleanDisk (state S.Store self.new)
             → IfErr result (λ e. IsStoreFault e ⊎ (put_refusal runs run entry.now ≡ Some e)) }
-        // `Store` comes only if one of the call's own statements failed.
-        ensures cause { (runs : _) → StandsFor (state S.Store self.old) runs → HasCleanDisk (state S.Store self.new) → IfErr result (IsCaused S.Store (put_statements run entry.now) self.new) }
+        // `Store` comes only if one of the call's own statements failed, or its commit.
+        ensures cause { (runs : _) → StandsFor (state S.Store self.old) runs → HasCleanDisk (state S.Store self.new) → IfErr result (IsCausedInside S.Store runs (put_statements run entry.now) (entry_statements run entry.now) self.new) }
         // A crash leaves what it left before the call, or the runs with the entry; after Ok nothing else.
         ensures crash { (runs : _) → StandsFor (state S.Store self.old) runs
             → Survives (state S.Store self.old) (state S.Store self.new) (Keeps (with_entry run entry.now runs)) }
@@ -176,8 +188,8 @@ impl<S: Alter> Results<S> {
         Ok(found)
     }
 
-    /// The entries of a run, by position. `NoRun` where no run has the number. A reason comes back as
-    /// its text.
+    /// The entries of a run with their pairs, by position. `NoRun` where no run has the number. A reason
+    /// comes back as its text.
     pub fn entries(&mut self, run: u64) -> Result<Vec<Entry>, StoreFault>
         ensures found { (runs : _) → StandsFor (state S.Store self.old) runs → HasCleanDisk (state S.Store self.new)
             → IfOk result (λ found. (r : _) × (run_at runs run ≡ Some r) × (found.items ≡ r.entries)) }

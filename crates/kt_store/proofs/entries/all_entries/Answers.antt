@@ -2,53 +2,59 @@ use Rattle.std.proofs.Common.{◌∙◌, [], ◌∷◌, pos, arith, rules}
 use Rattle.sqlite.specs.declared.types.Value.TheVariants.{Int}
 use Rattle.sqlite.specs.Held.{state}
 use Rattle.sqlite.specs.State.{HasCleanDisk}
+use Rattle.sqlite.proofs.StateLemmas.{survives_then}
 use Rattle.kt_store.specs.Runs.{run_at, entries_of}
-use Rattle.kt_store.specs.Tables.{entries_text}
-use Rattle.kt_store.proofs.SqlFacts.{entries_select_is}
-use Rattle.kt_store.proofs.AskLemmas.{asked_stands, asked_survives}
-use Rattle.kt_store.proofs.EntriesLemmas.{asked_entries, asked_sound, asked_small}
-use Rattle.kt_store.proofs.FaultLemmas.{first_failed, starved}
+use Rattle.kt_store.specs.Tables.{entries_text, pairs_text}
+use Rattle.kt_store.proofs.EntriesLemmas.{sound_of, small_of, up_of}
+use Rattle.kt_store.proofs.FaultLemmas.{caused_before, caused_after, starved}
 use Rattle.kt_store.proofs.entries.all_entries.Goals as goal
 
 pub returns-clause-all : goal.returns-clause-all
 returns-clause-all g c runs has clean =
-    let told = rw c.int.ensures at (c.in_ok-rows.ensures.rows clean) in
-    c.in_ok-entries.ensures.entries (entries_of (run_at runs c.args.run))
-    (asked_sound g.S.Store c.args.conn.now c.ask.new.conn runs has (λ k. omega (arith, k, c.ask.ensures.survives.clean)) c.args.run c.in_ok-rows.rows.items clean told)
-    (c.deref.ensures.value ∙ asked_entries g.S.Store c.args.conn.now c.ask.new.conn runs has (λ k. omega (arith, k, c.ask.ensures.survives.clean)) c.args.run c.in_ok-rows.rows.items clean told)
-
-pub returns-in_err-entries-clause-stands : goal.returns-in_err-entries-clause-stands
-returns-in_err-entries-clause-stands g c runs has =
-    asked_stands g.S.Store c.args.conn.now c.ask.new.conn runs has (λ k. omega (arith, k, c.ask.ensures.survives.clean)) entries_text entries_select_is.2 (Int (pos c.args.run) ∷ []) c.in_ok-rows.rows.items (λ clean. rw c.int.ensures at (c.in_ok-rows.ensures.rows clean))
-
-pub returns-clause-stands : goal.returns-clause-stands
-returns-clause-stands g c runs has =
-    asked_stands g.S.Store c.args.conn.now c.ask.new.conn runs has (λ k. omega (arith, k, c.ask.ensures.survives.clean)) entries_text entries_select_is.2 (Int (pos c.args.run) ∷ []) c.in_ok-rows.rows.items (λ clean. rw c.int.ensures at (c.in_ok-rows.ensures.rows clean))
-
-pub returns-in_err-rows-clause-crash : goal.returns-in_err-rows-clause-crash
-returns-in_err-rows-clause-crash g c runs has =
-    asked_survives g.S.Store c.args.conn.now c.ask.new.conn runs has (λ k. omega (arith, k, c.ask.ensures.survives.clean)) entries_text entries_select_is.2 (Int (pos c.args.run) ∷ []) (rw c.int.ensures at c.ask.ensures.survives)
-
-pub returns-in_err-entries-clause-crash : goal.returns-in_err-entries-clause-crash
-returns-in_err-entries-clause-crash g c runs has =
-    asked_survives g.S.Store c.args.conn.now c.ask.new.conn runs has (λ k. omega (arith, k, c.ask.ensures.survives.clean)) entries_text entries_select_is.2 (Int (pos c.args.run) ∷ []) (rw c.int.ensures at c.ask.ensures.survives)
-
-pub returns-clause-crash : goal.returns-clause-crash
-returns-clause-crash g c runs has =
-    asked_survives g.S.Store c.args.conn.now c.ask.new.conn runs has (λ k. omega (arith, k, c.ask.ensures.survives.clean)) entries_text entries_select_is.2 (Int (pos c.args.run) ∷ []) (rw c.int.ensures at c.ask.ensures.survives)
-
-pub returns-in_err-rows-clause-cause : goal.returns-in_err-rows-clause-cause
-returns-in_err-rows-clause-cause g c runs has clean =
-    let told = first_failed g.S.Store (entries_text, Int (pos c.args.run) ∷ []) [] c.args.conn.now c.ask.new.conn _ (rw c.int.ensures at (c.in_err-rows.ensures.cause clean)) in
-    search rules
+    let early : HasCleanDisk (state g.S.Store c.all_rows.new.conn) = omega (arith, clean, (c.all_pairs.ensures.crash runs (c.all_rows.ensures.stands runs has)).clean) in
+    let valid = c.in_ok-rows.ensures.valid runs has early in
+    c.in_ok-entries.ensures.entries (entries_of (run_at runs c.args.run)) (sound_of runs c.args.run valid) (up_of runs c.args.run valid)
+    (c.deref.ensures.value ∙ c.in_ok-rows.ensures.all runs has early) (c.deref-2.ensures.value ∙ c.in_ok-pairs.ensures.all runs (c.all_rows.ensures.stands runs has) clean)
 
 pub returns-in_err-entries-clause-cause : goal.returns-in_err-entries-clause-cause
 returns-in_err-entries-clause-cause g c runs has clean =
-    let told = rw c.int.ensures at (c.in_ok-rows.ensures.rows clean) in
-    let early : HasCleanDisk (state g.S.Store c.ask.new.conn) → HasCleanDisk (state g.S.Store c.args.conn.now) = λ k. omega (arith, k, c.ask.ensures.survives.clean) in
-    let memory = c.in_err-entries.ensures.read (entries_of (run_at runs c.args.run))
-    (asked_sound g.S.Store c.args.conn.now c.ask.new.conn runs has early c.args.run c.in_ok-rows.rows.items clean told)
-    (asked_small g.S.Store c.args.conn.now c.ask.new.conn runs has early c.args.run c.in_ok-rows.rows.items clean told)
-    (c.deref.ensures.value ∙ asked_entries g.S.Store c.args.conn.now c.ask.new.conn runs has early c.args.run c.in_ok-rows.rows.items clean told) in
-    let caused = starved g.S.Store ((entries_text, Int (pos c.args.run) ∷ []) ∷ []) c.ask.new.conn _ memory in
+    let early : HasCleanDisk (state g.S.Store c.all_rows.new.conn) = omega (arith, clean, (c.all_pairs.ensures.crash runs (c.all_rows.ensures.stands runs has)).clean) in
+    let valid = c.in_ok-rows.ensures.valid runs has early in
+    let memory = c.in_err-entries.ensures.read (entries_of (run_at runs c.args.run)) (sound_of runs c.args.run valid) (up_of runs c.args.run valid) (small_of runs c.args.run valid)
+    (c.deref.ensures.value ∙ c.in_ok-rows.ensures.all runs has early) (c.deref-2.ensures.value ∙ c.in_ok-pairs.ensures.all runs (c.all_rows.ensures.stands runs has) clean) in
+    let caused = starved g.S.Store ((entries_text, Int (pos c.args.run) ∷ []) ∷ (pairs_text, Int (pos c.args.run) ∷ []) ∷ []) c.all_pairs.new.conn _ memory in
     search rules
+
+pub returns-in_err-rows-clause-cause : goal.returns-in_err-rows-clause-cause
+returns-in_err-rows-clause-cause g c runs has clean =
+    let told = caused_before g.S.Store ((entries_text, Int (pos c.args.run) ∷ []) ∷ []) ((pairs_text, Int (pos c.args.run) ∷ []) ∷ []) c.all_rows.new.conn _ (c.in_err-rows.ensures.cause runs has clean) in
+    search rules
+
+pub returns-in_err-pairs-clause-cause : goal.returns-in_err-pairs-clause-cause
+returns-in_err-pairs-clause-cause g c runs has clean =
+    let told = caused_after g.S.Store ((entries_text, Int (pos c.args.run) ∷ []) ∷ []) ((pairs_text, Int (pos c.args.run) ∷ []) ∷ []) c.all_pairs.new.conn _ (c.in_err-pairs.ensures.cause runs (c.all_rows.ensures.stands runs has) clean) in
+    search rules
+
+pub returns-in_err-pairs-clause-stands : goal.returns-in_err-pairs-clause-stands
+returns-in_err-pairs-clause-stands g c runs has = c.all_pairs.ensures.stands runs (c.all_rows.ensures.stands runs has)
+
+pub returns-in_err-pairs-clause-crash : goal.returns-in_err-pairs-clause-crash
+returns-in_err-pairs-clause-crash g c runs has =
+    survives_then (state g.S.Store c.args.conn.now) (state g.S.Store c.all_rows.new.conn) (state g.S.Store c.all_pairs.new.conn) (λ _. ⊥) (λ _. ⊥) (λ _. ⊥) (λ _ db none. none) (λ _ db none. none)
+    (c.all_rows.ensures.crash runs has) (c.all_pairs.ensures.crash runs (c.all_rows.ensures.stands runs has))
+
+pub returns-in_err-entries-clause-stands : goal.returns-in_err-entries-clause-stands
+returns-in_err-entries-clause-stands g c runs has = c.all_pairs.ensures.stands runs (c.all_rows.ensures.stands runs has)
+
+pub returns-in_err-entries-clause-crash : goal.returns-in_err-entries-clause-crash
+returns-in_err-entries-clause-crash g c runs has =
+    survives_then (state g.S.Store c.args.conn.now) (state g.S.Store c.all_rows.new.conn) (state g.S.Store c.all_pairs.new.conn) (λ _. ⊥) (λ _. ⊥) (λ _. ⊥) (λ _ db none. none) (λ _ db none. none)
+    (c.all_rows.ensures.crash runs has) (c.all_pairs.ensures.crash runs (c.all_rows.ensures.stands runs has))
+
+pub returns-clause-stands : goal.returns-clause-stands
+returns-clause-stands g c runs has = c.all_pairs.ensures.stands runs (c.all_rows.ensures.stands runs has)
+
+pub returns-clause-crash : goal.returns-clause-crash
+returns-clause-crash g c runs has =
+    survives_then (state g.S.Store c.args.conn.now) (state g.S.Store c.all_rows.new.conn) (state g.S.Store c.all_pairs.new.conn) (λ _. ⊥) (λ _. ⊥) (λ _. ⊥) (λ _ db none. none) (λ _ db none. none)
+    (c.all_rows.ensures.crash runs has) (c.all_pairs.ensures.crash runs (c.all_rows.ensures.stands runs has))

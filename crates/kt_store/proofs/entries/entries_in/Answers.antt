@@ -1,30 +1,57 @@
-use Rattle.std.proofs.Common.{rules, pos, ◌≡◌, ◌∙◌, ◌<◌, ◌+◌, suc, [], ◌∷◌, ◌++◌, map, take, get_or, length, refl, sym, ap, subst, arith}
+use Rattle.std.proofs.Common.{rules, pos, ◌≡◌, ◌∙◌, ◌<◌, ◌+◌, suc, [], ◌∷◌, ◌++◌, map, take, drop, get_or, length, sym, ap, subst, arith}
 use Rattle.std.proofs.lemmas.List.{length-map}
 use Rattle.kt_base.specs.declared.entry.Entry.{Entry}
+use Rattle.sqlite.specs.Order.{Row}
 use Rattle.sqlite_value.specs.Order.{column}
 use Rattle.sqlite.specs.declared.types.Value.TheVariants.{Int}
-use Rattle.kt_store.specs.Heads.{entry_columns}
-use Rattle.kt_store.specs.Runs.{IsEntry}
-use Rattle.kt_store.proofs.EntriesLemmas.{all_taken, one_sound}
+use Rattle.kt_store.specs.Heads.{entry_columns, pair_columns, pairs_shown}
+use Rattle.kt_store.proofs.EntriesLemmas.{one_sound}
+use Rattle.kt_store.proofs.MergeLemmas.{Later, at, all_taken, entry_position}
 use Rattle.kt_store.proofs.entries.entries_in.Goals as goal
 
 pub loop-row-preserved : goal.loop-row-preserved
-loop-row-preserved c es sound are =
+loop-row-preserved c es sound up are pairs =
     let pushed : c.add.new.items.items ≡ c.loop-row.entries.items ++ c.in_ok-entry.entry ∷ [] = search rules in
-    let low : c.loop-row.row-index < length es = omega (arith, c.loop-row-test.true, ap length are, length-map es entry_columns) in
-    let it = one_sound IsEntry entry_columns (λ (e : Entry). e) es c.loop-row.row-index c.row-item.result sound low (subst (λ l. c.row-item.result ≡ get_or l c.loop-row.row-index c.row-item.result) are c.row-item.is) in
-    let entry : c.in_ok-entry.entry ≡ it.0 = c.in_ok-entry.ensures.entry it.0 it.1 it.2 in
-    let more : map (λ (e : Entry). e) (take (suc c.loop-row.row-index) es) ≡ c.loop-row.entries.items ++ c.in_ok-entry.entry ∷ [] = it.3 ∙ rw (entry, c.loop-row.invariant es sound are) refl in
-    let place : suc c.loop-row.row-index ≡ c.loop-row.row-index + 1 = omega arith in
-    pushed ∙ sym more ∙ ap (λ k. map (λ (e : Entry). e) (take k es)) place
+    let i = c.loop-row.row-index in
+    let low : i < length es = omega (arith, c.loop-row-test.true, ap length are, length-map es entry_columns) in
+    let it = at es i c.row-item.result sound up low (subst (λ l. c.row-item.result ≡ get_or l i c.row-item.result) are c.row-item.is) in
+    let position : c.in_ok-small_in.field-0 ≡ it.entry.position = entry_position c.in_ok-small_in.field-0 it.entry c.row-item.result it.row c.in_ok-small_in.ensures.number in
+    let rest : c.loop-row.rest.now ≡ map (pair_columns c.in_ok-small_in.field-0) it.entry.meta ++ pairs_shown (drop (suc i) es) =
+    (c.loop-row.invariant es sound up are pairs).1 ∙ ap pairs_shown it.behind ∙ ap (λ p. map (pair_columns p) it.entry.meta ++ pairs_shown (drop (suc i) es)) (sym position) in
+    let later : Later c.in_ok-small_in.field-0 (drop (suc i) es) = subst (λ p. Later p (drop (suc i) es)) (sym position) it.later in
+    let found = c.in_ok-meta.ensures.meta it.entry.meta (drop (suc i) es) it.sound.meta later rest in
+    let entry : c.in_ok-entry.entry ≡ it.entry = c.in_ok-entry.ensures.entry it.entry it.sound it.row found.0 in
+    let place : suc i ≡ i + 1 = omega arith in
+    (pushed ∙ ap (λ e. c.loop-row.entries.items ++ e ∷ []) entry ∙ ap (λ l. l ++ it.entry ∷ []) (c.loop-row.invariant es sound up are pairs).0 ∙ sym it.before ∙ ap (λ k. take k es) place, found.1 ∙ ap (λ k. pairs_shown (drop k es)) place)
 
 pub returns-clause-entries : goal.returns-clause-entries
-returns-clause-entries c es sound are = all_taken es c.loop-row.entries.items c.loop-row.row-index (c.loop-row.invariant es sound are) (omega (arith, c.loop-row-test.false, ap length are, length-map es entry_columns))
+returns-clause-entries c es sound up are pairs = all_taken es c.loop-row.entries.items c.loop-row.row-index (c.loop-row.invariant es sound up are pairs).0 (omega (arith, c.loop-row-test.false, ap length are, length-map es entry_columns))
+
+pub returns-in_err-small_in-clause-read : goal.returns-in_err-small_in-clause-read
+returns-in_err-small_in-clause-read c es sound up small are pairs =
+    let i = c.loop-row.row-index in
+    let low : i < length es = omega (arith, c.loop-row-test.true, ap length are, length-map es entry_columns) in
+    let fits = one_sound (λ (e : Entry). e.position < 4294967296) entry_columns (λ (e : Entry). e) es i c.row-item.result small low (subst (λ l. c.row-item.result ≡ get_or l i c.row-item.result) are c.row-item.is) in
+    let told = c.in_err-small_in.ensures.read fits.0.position fits.1 (subst (λ (l : Row). 0 < length l) (sym fits.2) (omega arith)) (ap (λ l. column l 0) fits.2) in
+    search rules
+
+pub returns-in_err-meta-clause-read : goal.returns-in_err-meta-clause-read
+returns-in_err-meta-clause-read c es sound up small are pairs =
+    let i = c.loop-row.row-index in
+    let low : i < length es = omega (arith, c.loop-row-test.true, ap length are, length-map es entry_columns) in
+    let it = at es i c.row-item.result sound up low (subst (λ l. c.row-item.result ≡ get_or l i c.row-item.result) are c.row-item.is) in
+    let position : c.in_ok-small_in.field-0 ≡ it.entry.position = entry_position c.in_ok-small_in.field-0 it.entry c.row-item.result it.row c.in_ok-small_in.ensures.number in
+    let rest : c.loop-row.rest.now ≡ map (pair_columns c.in_ok-small_in.field-0) it.entry.meta ++ pairs_shown (drop (suc i) es) =
+    (c.loop-row.invariant es sound up are pairs).1 ∙ ap pairs_shown it.behind ∙ ap (λ p. map (pair_columns p) it.entry.meta ++ pairs_shown (drop (suc i) es)) (sym position) in
+    let later : Later c.in_ok-small_in.field-0 (drop (suc i) es) = subst (λ p. Later p (drop (suc i) es)) (sym position) it.later in
+    let told = c.in_err-meta.ensures.read it.entry.meta (drop (suc i) es) it.sound.meta later rest in
+    search rules
 
 pub returns-in_err-entry-clause-read : goal.returns-in_err-entry-clause-read
-returns-in_err-entry-clause-read c es sound small are =
-    let low : c.loop-row.row-index < length es = omega (arith, c.loop-row-test.true, ap length are, length-map es entry_columns) in
-    let it = one_sound IsEntry entry_columns (λ (e : Entry). e) es c.loop-row.row-index c.row-item.result sound low (subst (λ l. c.row-item.result ≡ get_or l c.loop-row.row-index c.row-item.result) are c.row-item.is) in
-    let fits = one_sound (λ (e : Entry). e.position < 4294967296) entry_columns (λ (e : Entry). e) es c.loop-row.row-index c.row-item.result small low (subst (λ l. c.row-item.result ≡ get_or l c.loop-row.row-index c.row-item.result) are c.row-item.is) in
-    let told = c.in_err-entry.ensures.read it.0 it.1 (let q : Int (pos fits.0.position) ≡ Int (pos it.0.position) = ap (λ l. column l 0) (sym fits.2 ∙ it.2) in let same : fits.0.position ≡ it.0.position = cc in omega (arith, same, fits.1)) it.2 in
+returns-in_err-entry-clause-read c es sound up small are pairs =
+    let i = c.loop-row.row-index in
+    let low : i < length es = omega (arith, c.loop-row-test.true, ap length are, length-map es entry_columns) in
+    let it = at es i c.row-item.result sound up low (subst (λ l. c.row-item.result ≡ get_or l i c.row-item.result) are c.row-item.is) in
+    let fits = one_sound (λ (e : Entry). e.position < 4294967296) entry_columns (λ (e : Entry). e) es i c.row-item.result small low (subst (λ l. c.row-item.result ≡ get_or l i c.row-item.result) are c.row-item.is) in
+    let told = c.in_err-entry.ensures.read it.entry it.sound (let q : Int (pos fits.0.position) ≡ Int (pos it.entry.position) = ap (λ l. column l 0) (sym fits.2 ∙ it.row) in let same : fits.0.position ≡ it.entry.position = cc in omega (arith, same, fits.1)) it.row in
     search rules

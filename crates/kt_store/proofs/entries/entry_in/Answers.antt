@@ -5,7 +5,7 @@ use Rattle.sqlite.specs.declared.types.Value.TheVariants.{Int}
 use Rattle.kt_store.proofs.entries.entry_in.Goals as goal
 
 pub returns-clause-entry : goal.returns-clause-entry
-returns-clause-entry c e sound is =
+returns-clause-entry c e sound is meta =
     let position : c.in_ok-position.position ≡ e.position = let q : Int (pos c.in_ok-position.position) ≡ Int (pos e.position) = sym c.in_ok-position.ensures.number ∙ ap (λ l. column l 0) is in cc in
     let program : c.in_ok-program.program ≡ e.program = c.in_ok-program.ensures.text e.program sound.program (ap (λ l. column l 1) is) in
     let case_name : c.in_ok-case_name.case_name ≡ e.case_name = c.in_ok-case_name.ensures.text e.case_name sound.case_name (ap (λ l. column l 2) is) in
@@ -17,4 +17,4 @@ returns-clause-entry c e sound is =
     let millis : c.in_ok-millis.millis ≡ e.millis = let q : Int (pos c.in_ok-millis.millis) ≡ Int (pos e.millis) = sym c.in_ok-millis.ensures.number ∙ ap (λ l. column l 6) is in cc in
     let body : c.in_ok-body.body ≡ e.body = c.in_ok-body.ensures.output e.body (ap (λ l. column l 7) is) (ap (λ l. column l 8) is) in
     let cleanup : c.in_ok-cleanup.cleanup ≡ e.cleanup = c.in_ok-cleanup.ensures.output e.cleanup (ap (λ l. column l 9) is) (ap (λ l. column l 10) is) in
-    rw (position, program, case_name, verdict, started, millis, body, cleanup) refl
+    rw (position, program, case_name, verdict, started, millis, body, cleanup, meta) refl

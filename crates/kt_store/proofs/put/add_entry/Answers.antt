@@ -1,39 +1,51 @@
-use Rattle.std.proofs.Common.{arith, rules, [], ◌∷◌}
+use Rattle.std.proofs.Common.{arith, rules, [], IsTrue}
 use Rattle.sqlite.specs.Held.{state}
-use Rattle.sqlite.proofs.StateLemmas.{survives_weaker}
+use Rattle.sqlite.specs.State.{HasCleanDisk}
+use Rattle.sqlite.proofs.StateLemmas.{survives_then}
 use Rattle.kt_store.specs.Runs.{Keeps, with_entry, entry_row}
-use Rattle.kt_store.proofs.BeginLemmas.{leaves_commit}
-use Rattle.kt_store.proofs.PutLemmas.{told_put, crash_put}
-use Rattle.kt_store.proofs.FaultLemmas.{first_failed, caused_after}
-use Rattle.kt_store.specs.Calls.{look_statement, there_statement}
+use Rattle.kt_store.specs.Stands.{StandsFor}
+use Rattle.kt_store.specs.Calls.{entry_statements}
 use Rattle.kt_store.specs.Tables.{put_text}
+use Rattle.kt_store.proofs.FaultLemmas.{if_told, on_err}
+use Rattle.kt_store.proofs.StepLemmas.{not_run, rests}
+use Rattle.kt_store.proofs.MetaLemmas.{still_stands}
+use Rattle.kt_store.proofs.CommitLemmas.{prepare_causes}
 use Rattle.kt_store.proofs.put.add_entry.Goals as goal
 
-pub returns-in_err-tell-clause-crash : goal.returns-in_err-tell-clause-crash
-returns-in_err-tell-clause-crash g c runs has fits =
-    survives_weaker (state g.S.Store c.args.conn.now) (state g.S.Store c.tell.new.conn) _ (Keeps (with_entry c.args.run c.args.entry.now runs))
-    (crash_put g.S.Store c.args.conn.now c.tell.new.conn runs c.args.entry.now has (λ k. omega (arith, k, c.tell.ensures.survives.clean)) c.args.run fits)
-    (rw (c.int.ensures, c.int-2.ensures, c.from.ensures, c.text.ensures, c.text-2.ensures, c.int-3.ensures, c.code.ensures.value, c.kind.ensures, c.text-3.ensures, c.requires.reason, c.int-4.ensures, c.int-5.ensures, c.blob.ensures, c.blob-2.ensures, c.blob-3.ensures, c.blob-4.ensures) at c.tell.ensures.survives)
+pub returns-in_err-statement-clause-kept : goal.returns-in_err-statement-clause-kept
+returns-in_err-statement-clause-kept g c runs has =
+    on_err c.from_residual.result (rests (state g.S.Store c.args.conn.now) (state g.S.Store c.prepare.new.self) runs has (λ k. omega (arith, k, c.prepare.ensures.survives.clean))
+    (λ clean. not_run _ _ put_text [] c.in_err-statement.field-0.0 (c.in_err-statement.ensures.err clean [])))
+
+pub returns-in_err-statement-clause-cause : goal.returns-in_err-statement-clause-cause
+returns-in_err-statement-clause-cause g c runs has clean =
+    if_told c.from_residual.result c.in_err-statement.field-0.0 c.from_residual.ensures.1 (λ fault tells.
+    prepare_causes g.S.Store runs c.args.run c.args.entry.now (entry_statements c.args.run c.args.entry.now) c.args.conn.now c.prepare.new.self c.in_err-statement.field-0.0 fault
+    (c.in_err-statement.ensures.err clean (entry_row c.args.run c.args.entry.now)) tells)
+
+pub returns-in_err-commit_entry-clause-cause : goal.returns-in_err-commit_entry-clause-cause
+returns-in_err-commit_entry-clause-cause g c runs has clean =
+    let mid : StandsFor (state g.S.Store c.prepare.new.self) runs = still_stands (state g.S.Store c.args.conn.now) (state g.S.Store c.prepare.new.self) (λ k. omega (arith, k, c.prepare.ensures.survives.clean)) (λ k. (c.in_ok-statement.ensures.ok k).1) runs has in
+    let early : HasCleanDisk (state g.S.Store c.prepare.new.self) = search rules in
+    let opened : IsTrue (state g.S.Store c.prepare.new.self).is_open = (c.in_ok-statement.ensures.ok early).1.0.is_open in
+    let told = c.in_err-commit_entry.ensures.cause runs mid opened clean in
+    search rules
+
+pub returns-in_err-commit_entry-clause-crash : goal.returns-in_err-commit_entry-clause-crash
+returns-in_err-commit_entry-clause-crash g c runs has fits =
+    let mid : StandsFor (state g.S.Store c.prepare.new.self) runs = still_stands (state g.S.Store c.args.conn.now) (state g.S.Store c.prepare.new.self) (λ k. omega (arith, k, c.prepare.ensures.survives.clean)) (λ k. (c.in_ok-statement.ensures.ok k).1) runs has in
+    let more = Keeps (with_entry c.args.run c.args.entry.now runs) in
+    survives_then (state g.S.Store c.args.conn.now) (state g.S.Store c.prepare.new.self) (state g.S.Store c.commit_entry.new.conn) (λ _. ⊥) more more (λ _ db none. absurd none) (λ _ db kept. kept)
+    c.prepare.ensures.survives (c.commit_entry.ensures.crash runs mid (λ k. fits (omega (arith, k, c.prepare.ensures.survives.clean))))
 
 pub returns-clause-added : goal.returns-clause-added
-returns-clause-added g c runs has fits clean opened =
-    (told_put g.S.Store c.args.conn.now c.tell.new.conn runs c.args.entry.now has (λ k. omega (arith, k, c.tell.ensures.survives.clean)) c.args.run fits clean
-    (rw (c.int.ensures, c.int-2.ensures, c.from.ensures, c.text.ensures, c.text-2.ensures, c.int-3.ensures, c.code.ensures.value, c.kind.ensures, c.text-3.ensures, c.requires.reason, c.int-4.ensures, c.int-5.ensures, c.blob.ensures, c.blob-2.ensures, c.blob-3.ensures, c.blob-4.ensures) at (c.in_ok-tell.ensures.told clean))).0
+returns-clause-added g c runs has fits =
+    let mid : StandsFor (state g.S.Store c.prepare.new.self) runs = still_stands (state g.S.Store c.args.conn.now) (state g.S.Store c.prepare.new.self) (λ k. omega (arith, k, c.prepare.ensures.survives.clean)) (λ k. (c.in_ok-statement.ensures.ok k).1) runs has in
+    c.in_ok-commit_entry.ensures.added runs mid (λ k. fits (omega (arith, k, c.prepare.ensures.survives.clean)))
 
 pub returns-clause-crash : goal.returns-clause-crash
 returns-clause-crash g c runs has fits =
-    survives_weaker (state g.S.Store c.args.conn.now) (state g.S.Store c.tell.new.conn) _ (Keeps (with_entry c.args.run c.args.entry.now runs))
-    (crash_put g.S.Store c.args.conn.now c.tell.new.conn runs c.args.entry.now has (λ k. omega (arith, k, c.tell.ensures.survives.clean)) c.args.run fits)
-    (rw (c.int.ensures, c.int-2.ensures, c.from.ensures, c.text.ensures, c.text-2.ensures, c.int-3.ensures, c.code.ensures.value, c.kind.ensures, c.text-3.ensures, c.requires.reason, c.int-4.ensures, c.int-5.ensures, c.blob.ensures, c.blob-2.ensures, c.blob-3.ensures, c.blob-4.ensures) at c.tell.ensures.survives)
-
-pub returns-clause-durable : goal.returns-clause-durable
-returns-clause-durable g c runs has fits clean =
-    let done = told_put g.S.Store c.args.conn.now c.tell.new.conn runs c.args.entry.now has (λ k. omega (arith, k, c.tell.ensures.survives.clean)) c.args.run fits clean
-    (rw (c.int.ensures, c.int-2.ensures, c.from.ensures, c.text.ensures, c.text-2.ensures, c.int-3.ensures, c.code.ensures.value, c.kind.ensures, c.text-3.ensures, c.requires.reason, c.int-4.ensures, c.int-5.ensures, c.blob.ensures, c.blob-2.ensures, c.blob-3.ensures, c.blob-4.ensures) at (c.in_ok-tell.ensures.told clean)) in
-    leaves_commit g.S.Store c.tell.new.conn (with_entry c.args.run c.args.entry.now runs) (λ db opened may. g.met.S.Store.settled c.tell.new.conn.store db opened may) done.1 done.0 done.2 clean
-
-pub returns-in_err-tell-clause-cause : goal.returns-in_err-tell-clause-cause
-returns-in_err-tell-clause-cause g c runs has clean =
-    let mine = first_failed g.S.Store (put_text, entry_row c.args.run c.args.entry.now) [] c.args.conn.now c.tell.new.conn _ (rw (c.int.ensures, c.int-2.ensures, c.from.ensures, c.text.ensures, c.text-2.ensures, c.int-3.ensures, c.code.ensures.value, c.kind.ensures, c.text-3.ensures, c.requires.reason, c.int-4.ensures, c.int-5.ensures, c.blob.ensures, c.blob-2.ensures, c.blob-3.ensures, c.blob-4.ensures) at (c.in_err-tell.ensures.cause clean)) in
-    let told = caused_after g.S.Store (look_statement c.args.run ∷ there_statement c.args.run c.args.entry.now.position ∷ []) ((put_text, entry_row c.args.run c.args.entry.now) ∷ []) c.tell.new.conn _ mine in
-    search rules
+    let mid : StandsFor (state g.S.Store c.prepare.new.self) runs = still_stands (state g.S.Store c.args.conn.now) (state g.S.Store c.prepare.new.self) (λ k. omega (arith, k, c.prepare.ensures.survives.clean)) (λ k. (c.in_ok-statement.ensures.ok k).1) runs has in
+    let more = Keeps (with_entry c.args.run c.args.entry.now runs) in
+    survives_then (state g.S.Store c.args.conn.now) (state g.S.Store c.prepare.new.self) (state g.S.Store c.commit_entry.new.conn) (λ _. ⊥) more more (λ _ db none. absurd none) (λ _ db kept. kept)
+    c.prepare.ensures.survives (c.commit_entry.ensures.crash runs mid (λ k. fits (omega (arith, k, c.prepare.ensures.survives.clean))))

@@ -7,7 +7,7 @@ use Rattle.kt_store.specs.Stands.{StandsFor}
 use Rattle.kt_store.proofs.ViewLemmas.{inside_stands, seen_survives}
 use Rattle.sqlite.specs.declared.types.Value.TheVariants.{Int}
 use Rattle.kt_store.specs.Calls.{look_statement}
-use Rattle.kt_store.specs.Tables.{entries_text}
+use Rattle.kt_store.specs.Tables.{entries_text, pairs_text}
 use Rattle.kt_store.proofs.FaultLemmas.{caused_before, caused_after}
 use Rattle.kt_store.proofs.results.Results.entries.Goals as goal
 
@@ -54,11 +54,11 @@ returns-in_err-look-clause-crash g c runs has =
 pub returns-in_err-look-clause-cause : goal.returns-in_err-look-clause-cause
 returns-in_err-look-clause-cause g c runs has clean =
     let held : StandsFor (state g.S.Store c.self.inside.conn) runs = inside_stands g.S.Store c.self.inside.conn c.args.self.now c.self.view_is runs has in
-    let told = caused_before g.S.Store (look_statement c.args.run ∷ []) ((entries_text, Int (pos c.args.run) ∷ []) ∷ []) c.look.new.conn _ (c.in_err-look.ensures.cause runs held clean) in
+    let told = caused_before g.S.Store (look_statement c.args.run ∷ []) ((entries_text, Int (pos c.args.run) ∷ []) ∷ (pairs_text, Int (pos c.args.run) ∷ []) ∷ []) c.look.new.conn _ (c.in_err-look.ensures.cause runs held clean) in
     search rules
 
 pub returns-in_err-found-clause-cause : goal.returns-in_err-found-clause-cause
 returns-in_err-found-clause-cause g c runs has clean =
     let held : StandsFor (state g.S.Store c.self.inside.conn) runs = inside_stands g.S.Store c.self.inside.conn c.args.self.now c.self.view_is runs has in
-    let told = caused_after g.S.Store (look_statement c.args.run ∷ []) ((entries_text, Int (pos c.args.run) ∷ []) ∷ []) c.all_entries.new.conn _ (c.in_err-found.ensures.cause runs (c.look.ensures.stands runs held) clean) in
+    let told = caused_after g.S.Store (look_statement c.args.run ∷ []) ((entries_text, Int (pos c.args.run) ∷ []) ∷ (pairs_text, Int (pos c.args.run) ∷ []) ∷ []) c.all_entries.new.conn _ (c.in_err-found.ensures.cause runs (c.look.ensures.stands runs held) clean) in
     search rules

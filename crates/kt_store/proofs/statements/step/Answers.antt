@@ -1,5 +1,5 @@
 use Rattle.kt_store.proofs.EmptyLemmas.{step_keeps}
-use Rattle.kt_store.proofs.attach.step.Goals as goal
+use Rattle.kt_store.proofs.statements.step.Goals as goal
 
 pub returns-in_err-count-clause-keeps : goal.returns-in_err-count-clause-keeps
 returns-in_err-count-clause-keeps g c clean =

@@ -1,0 +1,159 @@
+-- What the statements do that put an entry and its pairs, one after the other.
+use Rattle.std.proofs.Common.{◌≡◌, inl, inr, ℕ, suc, ◌+◌, ◌<◌, pos, List, [], ◌∷◌, ◌++◌, length, map, drop, codes, None, Ok, Err, refl, sym, ap, subst, ◌∙◌, arith, IsPermutation, IsTrue, true, false}
+use Rattle.std.specs.List.{AllByRecursion}
+use Rattle.std.proofs.lemmas.List.Sorted.{IsPermutation-cons, IsPermutation-trans, IsPermutation-map, IsPermutation-sym, IsPermutation-middle}
+use Rattle.sqlite.specs.declared.types.Value.TheVariants.{Int, Text}
+use Rattle.sqlite.specs.declared.error.Error.{Error}
+use Rattle.sqlite.specs.Order.{Row}
+use Rattle.sqlite.specs.Tree.{Trees}
+use Rattle.sqlite_rules.specs.Edit.{is_taken, taken_by, put_all, are_fresh, next_rowid}
+use Rattle.sqlite_trees.specs.Tree.{put_row}
+use Rattle.sqlite_rules.specs.Action.{works}
+use Rattle.sqlite.specs.Source.TheVariants.{Values}
+use Rattle.sqlite.specs.Command.TheVariants.{Insert}
+use Rattle.sqlite.specs.Rowids.TheVariants.{Chosen}
+use Rattle.sqlite.specs.Edit.{edit_of}
+use Rattle.sqlite_schema.specs.declared.schema.Keys.TheVariants.{Enforced}
+use Rattle.sqlite.specs.Listing.{understood}
+use Rattle.sqlite.specs.Store.{Ghosts}
+use Rattle.sqlite.specs.Held.{Held, state}
+use Rattle.sqlite.specs.Effect.{Database, IsDatabase, value_rows}
+use Rattle.sqlite.specs.State.{State, mode_of, Executes, Writes, KeepsCommit}
+use Rattle.sqlite.proofs.Callers.{statement_of, runs_as}
+use Rattle.sqlite.proofs.InsideLemmas.{inside_keeps, keeps_then}
+use Rattle.kt_base.specs.declared.entry.Entry.{Entry}
+use Rattle.kt_base.specs.declared.run.Run.{Run}
+use Rattle.kt_base.specs.declared.variable.Variable.{Variable}
+use Rattle.kt_store.specs.Tables.{schema_2, entries_1, props_1, put_text, pair_text}
+use Rattle.kt_store.specs.Runs.{Tables, IsRun, kind_code, run_row, entry_row, entry_rows, pair_row, pair_rows_from, prop_rows, with_entry}
+use Rattle.kt_store.specs.Ask.{Statement}
+use Rattle.kt_store.specs.Calls.{pair_statements, entry_statements}
+use Rattle.kt_store.specs.Transactions.{RunInTurn, StopInTurn}
+use Rattle.kt_store.proofs.SqlFacts.{put_is, put_terms, pair_is, pair_terms}
+use Rattle.kt_store.proofs.InsertLemmas.{changed}
+use Rattle.kt_store.proofs.BeginLemmas.{cast_null, cast_int}
+use Rattle.kt_store.proofs.PutLemmas.{put_beside, same_runs, same_numbers, as_many, more_rows, put_rows, put_works, free_from_fresh}
+use Rattle.kt_store.proofs.PairLemmas.{more_pairs}
+
+-- the tables of schema 2 with the rows of these runs, of these entries and of these pairs
+pub record Holds (runs : List Run) (entries props : List Row) (db : Database) : Type 0 where
+  pub schema : db.schema ≡ schema_2
+  pub marked : map (drop 1) (db.trees 0) ≡ (Text (codes "schema") ∷ Int (pos 2) ∷ []) ∷ []
+  pub runs_are : db.trees 2 ≡ map run_row runs
+  pub entries_are : IsPermutation entries (map (drop 1) (db.trees 3))
+  pub props_are : IsPermutation props (map (drop 1) (db.trees 5))
+
+-- a new row with a rowid of its own
+one_more : (stored after : List Row) (rows : List Row) (new row : Row) → drop 1 new ≡ row → are_fresh stored (new ∷ []) ≡ true → after ≡ put_row new stored → IsPermutation rows (map (drop 1) stored) → IsPermutation (row ∷ rows) (map (drop 1) after)
+one_more stored after rows new row bare fresh is have =
+    let free : is_taken stored new ≡ false = free_from_fresh stored new fresh in
+    let beside = IsPermutation-map (drop 1) (new ∷ stored) (put_row new stored) (put_beside new stored free) in
+    subst (λ l. IsPermutation (row ∷ rows) (map (drop 1) l)) (sym is)
+    (IsPermutation-trans _ _ _ (IsPermutation-cons row rows (map (drop 1) stored) have) (subst (λ x. IsPermutation (x ∷ map (drop 1) stored) (map (drop 1) (put_row new stored))) bare beside))
+
+module _ (runs : List Run) (entries props : List Row) (old new : State) (count : ℕ) (has : Holds runs entries props old.now) where
+  pub put_inside : (n : ℕ) (e : Entry) → Executes put_text (entry_row n e) old new (Ok count) → Holds runs (entry_row n e ∷ entries) props new.now × IsDatabase new.now
+  put_inside n e h =
+      let text = statement_of put_text (understood schema_2 put_text) in
+      let w : Writes old new None (Insert 2 (Values put_terms 13)) text (entry_row n e) count = runs_as put_text (entry_row n e) old new schema_2 has.schema (Insert 2 (Values put_terms 13)) put_is.0 put_is.1 count h in
+      let did = changed schema_2 2 entries_1 put_terms 13 refl refl refl put_works old.step_limit (mode_of old) (entry_row n e) old.now new.now text w.tally refl has.schema w.changed in
+      let row : Row = Int (next_rowid (old.now.trees 3)) ∷ entry_row n e in
+      let news_are : (edit_of old.now.trees entries_1 [] Chosen 0 (put_rows n e)).news ≡ row ∷ [] =
+      rw (cast_null, cast_int (pos n), cast_int (pos e.position), cast_int (pos (kind_code e.verdict.kind)), cast_int (pos e.started), cast_int (pos e.millis)) refl in (
+        record {
+          schema = did.schema_is;
+          marked = ap (map (drop 1)) (did.applies.tables.0 (λ e. cc)) ∙ has.marked;
+          runs_are = did.applies.tables.1.0 (λ e. cc) ∙ has.runs_are;
+          entries_are = one_more (old.now.trees 3) (new.now.trees 3) entries row (entry_row n e) refl (subst (λ news. are_fresh (old.now.trees 3) news ≡ true) news_are did.applies.fresh)
+              (did.applies.rows ∙ ap (λ news. put_all (old.now.trees 3) news) news_are) has.entries_are;
+          props_are = subst (λ l. IsPermutation props (map (drop 1) l)) (sym (did.applies.tables.1.1.1.0 (λ e. cc))) has.props_are;
+        },
+        w.sound,
+      )
+
+  pair_works : (params : Row) (trees : Trees) → let edit = edit_of trees props_1 [] Chosen 0 (value_rows params 6 1 pair_terms) in works schema_2 Enforced 0 edit.table.tree (taken_by trees edit) edit.news ≡ []
+  pair_works params trees = refl
+
+  pub pair_inside : (n p k : ℕ) (v : Variable) → Executes pair_text (pair_row n p k v) old new (Ok count) → Holds runs entries (pair_row n p k v ∷ props) new.now × IsDatabase new.now
+  pair_inside n p k v h =
+      let text = statement_of pair_text (understood schema_2 pair_text) in
+      let w : Writes old new None (Insert 3 (Values pair_terms 6)) text (pair_row n p k v) count = runs_as pair_text (pair_row n p k v) old new schema_2 has.schema (Insert 3 (Values pair_terms 6)) pair_is.0 pair_is.1 count h in
+      let did = changed schema_2 3 props_1 pair_terms 6 refl refl refl pair_works old.step_limit (mode_of old) (pair_row n p k v) old.now new.now text w.tally refl has.schema w.changed in
+      let row : Row = Int (next_rowid (old.now.trees 5)) ∷ pair_row n p k v in
+      let news_are : (edit_of old.now.trees props_1 [] Chosen 0 (value_rows (pair_row n p k v) 6 1 pair_terms)).news ≡ row ∷ [] =
+      rw (cast_null, cast_int (pos n), cast_int (pos p), cast_int (pos k)) refl in (
+        record {
+          schema = did.schema_is;
+          marked = ap (map (drop 1)) (did.applies.tables.0 (λ e. cc)) ∙ has.marked;
+          runs_are = did.applies.tables.1.0 (λ e. cc) ∙ has.runs_are;
+          entries_are = subst (λ l. IsPermutation entries (map (drop 1) l)) (sym (did.applies.tables.1.1.0 (λ e. cc))) has.entries_are;
+          props_are = one_more (old.now.trees 5) (new.now.trees 5) props row (pair_row n p k v) refl (subst (λ news. are_fresh (old.now.trees 5) news ≡ true) news_are did.applies.fresh)
+              (did.applies.rows ∙ ap (λ news. put_all (old.now.trees 5) news) news_are) has.props_are;
+        },
+        w.sound,
+      )
+
+module _ {S : Type 0} (g : Ghosts S) where
+  pairs_inside : (runs : List Run) (entries props : List Row) (n p k : ℕ) (vs : List Variable) (old new : Held S) → Holds runs entries props (state g old).now → IsDatabase (state g old).now
+      → RunInTurn g (pair_statements n p k vs) old new → Holds runs entries (pair_rows_from n p k vs ++ props) (state g new).now × IsDatabase (state g new).now
+  pairs_inside runs entries props n p k [] old new has sound is = subst (λ h. Holds runs entries props (state g h).now × IsDatabase (state g h).now) (sym is) (has, sound)
+  pairs_inside runs entries props n p k (v ∷ vs) old new has sound ran =
+      let one = pair_inside runs entries props (state g old) (state g ran.0) ran.1.0 has n p k v ran.1.1.0 in
+      let all = pairs_inside runs entries (pair_row n p k v ∷ props) n p (suc k) vs ran.0 new one.0 one.1 ran.2 in (
+        record {
+          schema = all.0.schema;
+          marked = all.0.marked;
+          runs_are = all.0.runs_are;
+          entries_are = all.0.entries_are;
+          props_are = IsPermutation-trans _ _ _ (IsPermutation-sym _ _ (IsPermutation-middle (pair_rows_from n p (suc k) vs) (pair_row n p k v) props)) all.0.props_are;
+        },
+        all.1,
+      )
+
+  -- the entry and its pairs are in the tables of the runs that have it
+  pub filled : (runs : List Run) (k : ℕ) (e : Entry) → k < length runs → AllByRecursion IsRun (with_entry (suc k) e runs) → (old new : Held S) → Tables (state g old).now runs
+      → RunInTurn g (entry_statements (suc k) e) old new → Tables (state g new).now (with_entry (suc k) e runs) × IsDatabase (state g new).now
+  filled runs k e low valid old new has ran =
+      let start : Holds runs (entry_rows runs) (prop_rows runs) (state g old).now = record { schema = has.schema; marked = has.marked; runs_are = has.runs_are; entries_are = has.entries_are; props_are = has.props_are } in
+      let one = put_inside runs (entry_rows runs) (prop_rows runs) (state g old) (state g ran.0) ran.1.0 start (suc k) e ran.1.1.0 in
+      let all = pairs_inside runs (entry_row (suc k) e ∷ entry_rows runs) (prop_rows runs) (suc k) e.position 0 e.meta ran.0 new one.0 one.1 ran.2 in
+      let number : 1 + k ≡ suc k = omega arith in
+      let rows : IsPermutation (entry_row (suc k) e ∷ entry_rows runs) (entry_rows (with_entry (suc k) e runs)) =
+      subst (λ n. IsPermutation (entry_row n e ∷ entry_rows runs) (entry_rows (with_entry n e runs))) number (more_rows 1 k e runs has.valid.numbered low) in
+      let pairs : IsPermutation (pair_rows_from (suc k) e.position 0 e.meta ++ prop_rows runs) (prop_rows (with_entry (suc k) e runs)) =
+      subst (λ n. IsPermutation (pair_rows_from n e.position 0 e.meta ++ prop_rows runs) (prop_rows (with_entry n e runs))) number (more_pairs 1 k e runs has.valid.numbered low) in (
+        record {
+          schema = all.0.schema;
+          marked = all.0.marked;
+          runs_are = all.0.runs_are ∙ sym (same_runs (suc k) e runs);
+          entries_are = IsPermutation-trans _ _ _ (IsPermutation-sym _ _ rows) all.0.entries_are;
+          props_are = IsPermutation-trans _ _ _ (IsPermutation-sym _ _ pairs) all.0.props_are;
+          valid = record { numbered = same_numbers (suc k) e 1 runs has.valid.numbered; each = valid; few = omega (arith, has.valid.few, as_many (suc k) e runs) };
+        },
+        all.1,
+      )
+
+  abbrev pub Fits : List Run → Entry → ℕ → Type 0
+  Fits runs e run = (k : ℕ) × (run ≡ suc k) × (k < length runs) × AllByRecursion IsRun (with_entry run e runs)
+
+  pub filled_at : (runs : List Run) (e : Entry) (run : ℕ) → Fits runs e run → (old new : Held S) → Tables (state g old).now runs
+      → RunInTurn g (entry_statements run e) old new → Tables (state g new).now (with_entry run e runs) × IsDatabase (state g new).now
+  filled_at runs e run fits old new has ran =
+      subst (λ n. AllByRecursion IsRun (with_entry n e runs) → RunInTurn g (entry_statements n e) old new → Tables (state g new).now (with_entry n e runs) × IsDatabase (state g new).now) (sym fits.1)
+      (λ valid ran. filled runs fits.0 e fits.2 valid old new has ran) fits.3 ran
+
+  -- what was done in a transaction commits nothing
+  pub in_turn : (statements : List Statement) (old new : Held S) → RunInTurn g statements old new
+      → ((state g new).committed ≡ (state g old).committed) × (IsTrue (state g old).in_transaction → IsTrue (state g new).in_transaction) × (IsTrue (state g new).is_open → IsTrue (state g old).is_open)
+  in_turn [] old new is = (ap (λ h. (state g h).committed) is, λ inside. subst (λ h. IsTrue (state g h).in_transaction) (sym is) inside, λ opened. subst (λ h. IsTrue (state g h).is_open) is opened)
+  in_turn (s ∷ others) old new ran =
+      let rest = in_turn others ran.0 new ran.2 in
+      let one = ran.1.1.1 in
+      (rest.0 ∙ one.committed_is, λ inside. rest.1 one.mode, λ opened. one.was_open)
+
+  pub stopped : (statements : List Statement) (old new : Held S) (error : Error) → StopInTurn g statements old new error → KeepsCommit (state g old) (state g new)
+  stopped [] old new error h = absurd h
+  stopped (s ∷ others) old new error (inl failed) = inside_keeps (state g old) (state g new) 0 false s.0 s.1 (Err error) failed
+  stopped (s ∷ others) old new error (inr later) =
+      let one = later.1.1.1 in
+      keeps_then (state g old) (state g later.0) (state g new) (record { was_open = λ _. one.was_open; committed = λ _. one.committed_is }) (stopped others later.0 new error later.2)

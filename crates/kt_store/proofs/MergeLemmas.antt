@@ -1,0 +1,137 @@
+-- The rows of pairs beside those of their entries.
+use Rattle.std.proofs.Common.{◌≡◌, ◌≢◌, ◌⊎◌, inl, inr, ℕ, zero, suc, ◌<◌, ◌≤◌, pos, List, [], ◌∷◌, ◌++◌, length, map, take, drop, refl, sym, ap, subst, ◌∙◌, arith}
+use Rattle.std.specs.List.{AllByRecursion}
+use Rattle.std.specs.Prelude.{get_or}
+use Rattle.sqlite.specs.declared.types.Value.TheVariants.{Int}
+use Rattle.sqlite.specs.Order.{Row}
+use Rattle.sqlite_value.specs.Order.{column}
+use Rattle.sqlite_trees.specs.Tree.{IsAscending}
+use Rattle.kt_base.specs.declared.entry.Entry.{Entry}
+use Rattle.kt_base.specs.declared.variable.Variable.{Variable}
+use Rattle.kt_store.specs.Runs.{IsEntry, IsPair}
+use Rattle.kt_store.specs.Heads.{entry_columns, pair_columns, pairs_shown}
+
+abbrev pub Later : ℕ → List Entry → Type 0
+Later p others = AllByRecursion (λ (e : Entry). p < e.position) others
+
+abbrev Up : List Entry → Type 0
+Up es = IsAscending (λ (a b : Entry). a.position < b.position) es
+
+-- the first row of later entries is one of another position
+first_later : (p : ℕ) (others : List Entry) (row : Row) (after : List Row) → Later p others → pairs_shown others ≡ row ∷ after → (q : ℕ) × (v : Variable) × (p < q) × (row ≡ pair_columns q v)
+first_later p [] row after later is = absurd cc
+first_later p (e ∷ es) row after later is = go (λ is. first_later p es row after later.1 is) e.meta is
+  where
+    go : (pairs_shown es ≡ row ∷ after → (q : ℕ) × (v : Variable) × (p < q) × (row ≡ pair_columns q v)) → (vs : List Variable) → map (pair_columns e.position) vs ++ pairs_shown es ≡ row ∷ after
+        → (q : ℕ) × (v : Variable) × (p < q) × (row ≡ pair_columns q v)
+    go more [] is = more is
+    go more (v ∷ vs) is = (e.position, v, later.0, let same : row ≡ pair_columns e.position v = cc in same)
+
+-- the next row is that of the next pair, or of a later entry where there is none
+abbrev pub NextIs : ℕ → List Variable → List Entry → Row → List Row → Type 0
+NextIs p more others row after =
+    ((v : Variable) × (rest : List Variable) × (more ≡ v ∷ rest) × (row ≡ pair_columns p v) × (after ≡ map (pair_columns p) rest ++ pairs_shown others))
+    ⊎ ((more ≡ []) × (q : ℕ) × (v : Variable) × (p < q) × (row ≡ pair_columns q v))
+
+pub next_is : (p : ℕ) (more : List Variable) (others : List Entry) (row : Row) (after : List Row) → Later p others → row ∷ after ≡ map (pair_columns p) more ++ pairs_shown others → NextIs p more others row after
+next_is p [] others row after later is = let it = first_later p others row after later (sym is) in inr (refl, it.0, it.1, it.2, it.3)
+next_is p (v ∷ rest) others row after later is =
+    let same : row ≡ pair_columns p v = cc in
+    let behind : after ≡ map (pair_columns p) rest ++ pairs_shown others = cc in
+    inl (v, rest, refl, same, behind)
+
+-- behind the last row there is no pair
+pub none_is : (p : ℕ) (more : List Variable) (others : List Entry) (rows : List Row) → rows ≡ [] → rows ≡ map (pair_columns p) more ++ pairs_shown others → more ≡ []
+none_is p [] others rows none is = refl
+none_is p (v ∷ rest) others rows none is = absurd (let e : [] ≡ pair_columns p v ∷ (map (pair_columns p) rest ++ pairs_shown others) = sym none ∙ is in cc)
+
+-- what was read of the first column is the position
+pub read_position : (p n : ℕ) (v : Variable) (row : Row) → row ≡ pair_columns p v → column row 0 ≡ Int (pos n) → n ≡ p
+read_position p n v row is read = let e : Int (pos n) ≡ Int (pos p) = sym read ∙ ap (λ l. column l 0) is in cc
+
+pub entry_position : (n : ℕ) (e : Entry) (row : Row) → row ≡ entry_columns e → column row 0 ≡ Int (pos n) → n ≡ e.position
+entry_position n e row is read = let q : Int (pos n) ≡ Int (pos e.position) = sym read ∙ ap (λ l. column l 0) is in cc
+
+-- a row that is that of a pair has its columns
+pub has_columns : (p : ℕ) (v : Variable) (row : Row) → row ≡ pair_columns p v → 0 < length row
+has_columns p v row is = subst (λ (l : Row). 0 < length l) (sym is) (omega arith)
+
+-- the first column of the next row is a number
+pub first_column : (p : ℕ) (more : List Variable) (others : List Entry) (row : Row) (after : List Row) → NextIs p more others row after → (n : ℕ) × (0 < length row) × (column row 0 ≡ Int (pos n))
+first_column p more others row after (inl next) = (p, has_columns p next.0 row next.3, ap (λ l. column l 0) next.3)
+first_column p more others row after (inr past) = (past.1, has_columns past.1 past.2 row past.4, ap (λ l. column l 0) past.4)
+
+-- a row of the position is that of the next pair
+pub next_pair : (p n : ℕ) (more : List Variable) (others : List Entry) (row : Row) (after : List Row) → NextIs p more others row after → column row 0 ≡ Int (pos n) → n ≡ p → AllByRecursion IsPair more
+    → (v : Variable) × IsPair v × (row ≡ pair_columns p v)
+next_pair p n more others row after (inl next) read same sound = let pairs : AllByRecursion IsPair (next.0 ∷ next.1) = subst (AllByRecursion IsPair) next.2 sound in (next.0, pairs.0, next.3)
+next_pair p n more others row after (inr past) read same sound = absurd (omega (arith, past.3, same, read_position past.1 n past.2 row past.4 read))
+
+-- what was read so far, and what is still to come
+abbrev pub SoFar : ℕ → List Row → List Variable → List Row → Type 0
+SoFar p rows meta rest =
+    (vs : List Variable) (others : List Entry) → AllByRecursion IsPair vs → Later p others → rows ≡ map (pair_columns p) vs ++ pairs_shown others
+    → (more : List Variable) × (vs ≡ meta ++ more) × (rest ≡ map (pair_columns p) more ++ pairs_shown others) × AllByRecursion IsPair more
+
+append_one : {X : Type 0} (xs : List X) (x : X) (ys : List X) → xs ++ x ∷ ys ≡ xs ++ x ∷ [] ++ ys
+append_one [] x ys = refl
+append_one (z ∷ xs) x ys = ap (λ l. z ∷ l) (append_one xs x ys)
+
+pub one_read : (p : ℕ) (rows : List Row) (meta new : List Variable) (v : Variable) (n : ℕ) (row : Row) (rest after : List Row) → rest ≡ row ∷ after → column row 0 ≡ Int (pos n) → n ≡ p
+    → ((m : ℕ) (w : Variable) → IsPair w → row ≡ pair_columns m w → v ≡ w) → new ≡ meta ++ v ∷ [] → SoFar p rows meta rest → SoFar p rows new after
+one_read p rows meta new v n row rest after parts read same pair pushed so_far vs others sound later are =
+    let it = so_far vs others sound later are in
+    elim (next_is p it.0 others row after later (sym parts ∙ it.2)) [
+      | inl next ↦
+          let pairs : AllByRecursion IsPair (next.0 ∷ next.1) = subst (AllByRecursion IsPair) next.2 it.3 in
+          let is : v ≡ next.0 = pair p next.0 pairs.0 next.3 in
+          (next.1, it.1 ∙ ap (λ l. meta ++ l) next.2 ∙ append_one meta next.0 next.1 ∙ ap (λ x. meta ++ x ∷ [] ++ next.1) (sym is) ∙ ap (λ l. l ++ next.1) (sym pushed), next.4, pairs.1)
+      | inr past ↦ absurd (omega (arith, past.3, same, read_position past.1 n past.2 row past.4 read))
+    ]
+
+nothing_more : (xs : List Variable) → xs ++ [] ≡ xs
+nothing_more [] = refl
+nothing_more (x ∷ xs) = ap (λ l. x ∷ l) (nothing_more xs)
+
+-- no row is left, or the next one is of another position
+pub all_read : (p : ℕ) (meta : List Variable) (vs more : List Variable) (others : List Entry) (rest : List Row) → vs ≡ meta ++ more → more ≡ [] → rest ≡ map (pair_columns p) more ++ pairs_shown others
+    → (meta ≡ vs) × (rest ≡ pairs_shown others)
+all_read p meta vs more others rest is none left = (sym (is ∙ ap (λ l. meta ++ l) none ∙ nothing_more meta), left ∙ ap (λ l. map (pair_columns p) l ++ pairs_shown others) none)
+
+pub no_more : (p n : ℕ) (more : List Variable) (others : List Entry) (row : Row) (rest after : List Row) → rest ≡ row ∷ after → column row 0 ≡ Int (pos n) → n ≢ p → Later p others
+    → rest ≡ map (pair_columns p) more ++ pairs_shown others → more ≡ []
+no_more p n more others row rest after parts read apart later is = elim (next_is p more others row after later (sym parts ∙ is)) [
+  | inl next ↦ absurd (apart (read_position p n next.0 row next.3 read))
+  | inr past ↦ past.0
+]
+
+-- the entry whose row is next, with what is behind it
+pub record At (es : List Entry) (i : ℕ) (y : Row) : Type 0 where
+  pub entry : Entry
+  pub sound : IsEntry entry
+  pub row : y ≡ entry_columns entry
+  pub before : take (suc i) es ≡ take i es ++ entry ∷ []
+  pub behind : drop i es ≡ entry ∷ drop (suc i) es
+  pub later : Later entry.position (drop (suc i) es)
+
+pub at : (es : List Entry) (i : ℕ) (y : Row) → AllByRecursion IsEntry es → Up es → i < length es → y ≡ get_or (map entry_columns es) i y → At es i y
+at [] i y sound up low is = absurd (omega (arith, low))
+at (e ∷ es) zero y sound up low is = record { entry = e; sound = sound.0; row = is; before = refl; behind = refl; later = up.0 }
+at (e ∷ es) (suc i) y sound up low is =
+    let it = at es i y sound.1 up.1 (omega (arith, low)) is in
+    record { entry = it.entry; sound = it.sound; row = it.row; before = ap (λ l. e ∷ l) it.before; behind = it.behind; later = it.later }
+
+abbrev no_entries : List Entry
+no_entries = []
+
+pub all_taken : (es found : List Entry) (i : ℕ) → found ≡ take i es → length es ≤ i → found ≡ es
+all_taken es found i is long = is ∙ whole i es long
+  where
+    whole : (i : ℕ) (es : List Entry) → length es ≤ i → take i es ≡ es
+    whole i [] long = empty i
+      where
+        empty : (i : ℕ) → take i no_entries ≡ no_entries
+        empty zero = refl
+        empty (suc i) = refl
+    whole zero (e ∷ es) long = absurd (omega (arith, long))
+    whole (suc i) (e ∷ es) long = ap (λ l. e ∷ l) (whole i es (omega (arith, long)))

@@ -1,0 +1,176 @@
+-- What the query for the pairs of a run answers.
+use Rattle.std.proofs.Common.{◌≡◌, ◌≢◌, ◌==◌, ◌&&◌, ℕ, zero, suc, ◌+◌, ◌<◌, pos, List, [], ◌∷◌, ◌++◌, map, filter, drop, Bool, true, false, Some, Less, Equal, slice_get, refl, sym, ap, ap₂, subst, ◌∙◌, arith, IsPermutation, append-nil}
+use Rattle.std.specs.List.{AllByRecursion, list_all, flat_map}
+use Rattle.std.proofs.lemmas.Bool.Decides.{nat_tests}
+use Rattle.std.proofs.lemmas.Int.{ints}
+use Rattle.std.proofs.lemmas.List.{map-append}
+use Rattle.std.proofs.lemmas.List.Elements.{filter-append}
+use Rattle.sqlite_keyed.proofs.ListLemmas.{map-map, all-append}
+use Rattle.sqlite.specs.declared.types.Value.TheVariants.{Int}
+use Rattle.sqlite.specs.Order.{Row}
+use Rattle.sqlite_value.specs.Order.{value_cmp}
+use Rattle.sqlite_value.proofs.OrderLemmas.{value_cmp-Int}
+use Rattle.sqlite_trees.specs.Tree.{IsAscending}
+use Rattle.sqlite_value.specs.Keys.{ascending}
+use Rattle.sqlite.specs.Term.{Term, col, holds}
+use Rattle.sqlite.specs.Ops.{is_true, from_truth, binary}
+use Rattle.sqlite.specs.Query.{Output, output, output_cmp}
+use Rattle.sqlite.specs.Collation.TheVariants.{Binary}
+use Rattle.sqlite.specs.Store.{Ghosts}
+use Rattle.sqlite.specs.Held.{Held, state}
+use Rattle.sqlite.specs.State.{State, Shown, HasCleanDisk}
+use Rattle.sqlite.proofs.Callers.{reads_as}
+use Rattle.kt_base.specs.declared.run.Run.{Run}
+use Rattle.kt_base.specs.declared.entry.Entry.{Entry}
+use Rattle.kt_base.specs.declared.variable.Variable.{Variable}
+use Rattle.kt_store.specs.Tables.{pairs_text, schema_2}
+use Rattle.kt_store.specs.Runs.{pair_row, pair_rows, pair_rows_from, prop_rows, entries_of, run_at, AreNumbered}
+use Rattle.kt_store.specs.Heads.{pair_columns, pairs_shown}
+use Rattle.kt_store.specs.Stands.{IsStore, StandsFor}
+use Rattle.kt_store.specs.Ask.{Asked}
+use Rattle.kt_store.proofs.SqlFacts.{pairs_select_is, pairs_query, is}
+use Rattle.kt_store.proofs.QueryLemmas.{answered_sorted}
+use Rattle.kt_store.proofs.EntryLemmas.{back, of_stored, same_test, one_truth}
+use Rattle.kt_store.proofs.EntriesLemmas.{up_of}
+use Rattle.kt_store.proofs.HeadLemmas.{below}
+use Rattle.kt_store.proofs.AskLemmas.{asked_mid}
+
+-- the pairs of one run, of those of all
+module _ (test : Row → Bool) (n : ℕ) (each : (m p k : ℕ) (v : Variable) → test (pair_row m p k v) ≡ (m == n)) where
+  hit_pairs : (m : ℕ) → m ≡ n → (p k : ℕ) (vs : List Variable) → filter test (pair_rows_from m p k vs) ≡ pair_rows_from n p k vs
+  hit_pairs m same p k [] = refl
+  hit_pairs m same p k (v ∷ vs) =
+      let tested : test (pair_row m p k v) ≡ true = each m p k v ∙ grind (arith, nat_tests, same) in
+      rw tested (ap₂ (λ x xs. x ∷ xs) (ap (λ j. pair_row j p k v) same) (hit_pairs m same p (suc k) vs))
+
+  miss_pairs : (m : ℕ) → m ≢ n → (p k : ℕ) (vs : List Variable) → filter test (pair_rows_from m p k vs) ≡ []
+  miss_pairs m apart p k [] = refl
+  miss_pairs m apart p k (v ∷ vs) =
+      let tested : test (pair_row m p k v) ≡ false = each m p k v ∙ grind (arith, nat_tests, apart) in
+      rw tested (miss_pairs m apart p (suc k) vs)
+
+  hit : (m : ℕ) → m ≡ n → (es : List Entry) → filter test (flat_map (pair_rows m) es) ≡ flat_map (pair_rows n) es
+  hit m same [] = refl
+  hit m same (e ∷ es) = filter-append test (pair_rows m e) (flat_map (pair_rows m) es) ∙ ap₂ (λ x y. x ++ y) (hit_pairs m same e.position 0 e.meta) (hit m same es)
+
+  miss : (m : ℕ) → m ≢ n → (es : List Entry) → filter test (flat_map (pair_rows m) es) ≡ []
+  miss m apart [] = refl
+  miss m apart (e ∷ es) = filter-append test (pair_rows m e) (flat_map (pair_rows m) es) ∙ ap₂ (λ x y. x ++ y) (miss_pairs m apart e.position 0 e.meta) (miss m apart es)
+
+  none_later : (from : ℕ) (runs : List Run) → AreNumbered from runs → n < from → filter test (prop_rows runs) ≡ []
+  none_later from [] h low = refl
+  none_later from (r ∷ runs) h low =
+      filter-append test (flat_map (pair_rows r.number) r.entries) (prop_rows runs) ∙ ap₂ (λ x y. x ++ y) (miss r.number (λ e. omega (arith, e, h.0)) r.entries) (none_later (suc from) runs h.1 (omega arith))
+
+of_run_from : (test : Row → Bool) (from k : ℕ) (runs : List Run) → ((m p j : ℕ) (v : Variable) → test (pair_row m p j v) ≡ (m == from + k)) → AreNumbered from runs
+    → filter test (prop_rows runs) ≡ flat_map (pair_rows (from + k)) (entries_of (slice_get runs k))
+of_run_from test from k [] each h = refl
+of_run_from test from zero (r ∷ runs) each h =
+    filter-append test (flat_map (pair_rows r.number) r.entries) (prop_rows runs)
+    ∙ ap₂ (λ x y. x ++ y) (hit test (from + 0) each r.number (omega (arith, h.0)) r.entries) (none_later test (from + 0) each (suc from) runs h.1 (omega arith))
+    ∙ append-nil (flat_map (pair_rows (from + 0)) r.entries)
+of_run_from test from (suc k) (r ∷ runs) each h =
+    let place : suc from + k ≡ from + suc k = omega arith in
+    filter-append test (flat_map (pair_rows r.number) r.entries) (prop_rows runs)
+    ∙ ap (λ x. x ++ filter test (prop_rows runs)) (miss test (from + suc k) each r.number (λ e. omega (arith, e, h.0)) r.entries)
+    ∙ subst (λ n. filter test (prop_rows runs) ≡ flat_map (pair_rows n) (entries_of (slice_get runs k))) place
+    (of_run_from test (suc from) k runs (λ m p j v. each m p j v ∙ ap (λ n. m == n) (sym place)) h.1)
+
+of_run : (test : Row → Bool) (n : ℕ) (runs : List Run) → ((m p j : ℕ) (v : Variable) → test (pair_row m p j v) ≡ (m == n)) → AreNumbered 1 runs
+    → filter test (prop_rows runs) ≡ flat_map (pair_rows n) (entries_of (run_at runs n))
+of_run test zero runs each h = none_later test 0 each 1 runs h (omega arith) ∙ sym (nothing [])
+  where
+    nothing : (es : List Entry) → flat_map (pair_rows 0) [] ≡ []
+    nothing es = refl
+of_run test (suc k) runs each h =
+    let place : 1 + k ≡ suc k = omega arith in
+    subst (λ n. filter test (prop_rows runs) ≡ flat_map (pair_rows n) (entries_of (slice_get runs k))) place
+    (of_run_from test 1 k runs (λ m p j v. each m p j v ∙ ap (λ n. m == n) (sym place)) h)
+
+abbrev tests : List Term
+tests = is (col 1 1) (col 0 0) ∷ []
+
+abbrev passes : Row → Row → Bool
+passes params r = list_all (holds (params ∷ r ∷ [])) tests
+
+same_passes : (params r : Row) → passes params r ≡ passes params (back (drop 1 r))
+same_passes params [] = refl
+same_passes params (x ∷ r) = refl
+
+and_true : (b : Bool) → b && true ≡ b
+and_true true = refl
+and_true false = refl
+
+each_pair : (n m p k : ℕ) (v : Variable) → passes (Int (pos n) ∷ []) (back (pair_row m p k v)) ≡ (m == n)
+unfolding binary
+each_pair n m p k v = ap (λ a. is_true (from_truth (Some a)) && true) (same_test m n) ∙ one_truth (m == n) ∙ and_true (m == n)
+
+abbrev out : Row → Row → Output
+out params r = output pairs_query (params ∷ r ∷ [])
+
+same_out : (params r : Row) → out params r ≡ out params (back (drop 1 r))
+same_out params [] = refl
+same_out params (x ∷ r) = refl
+
+abbrev lower : Output → Output → Type 0
+lower x y = output_cmp pairs_query x y ≡ Less
+
+module _ (n : ℕ) where
+  abbrev shows : Row → Output
+  shows r = out (Int (pos n) ∷ []) (back r)
+
+  equal : (k : ℕ) → value_cmp (Int (pos k)) (Int (pos k)) ≡ Equal
+  equal k = value_cmp-Int (pos k) (pos k) ∙ grind (arith, ints, nat_tests)
+
+  lower_positions : (p q k j : ℕ) (v w : Variable) → p < q → lower (shows (pair_row n p k v)) (shows (pair_row n q j w))
+  lower_positions p q k j v w h = rw (below p q h) refl
+
+  lower_places : (p k j : ℕ) (v w : Variable) → k < j → lower (shows (pair_row n p k v)) (shows (pair_row n p j w))
+  lower_places p k j v w h = rw (equal p) (rw (below k j h) refl)
+
+  lower_later : (p k j : ℕ) (v : Variable) (vs : List Variable) → k < j → AllByRecursion (lower (shows (pair_row n p k v))) (map shows (pair_rows_from n p j vs))
+  lower_later p k j v [] h = tt
+  lower_later p k j v (w ∷ vs) h = (lower_places p k j v w h, lower_later p k (suc j) v vs (omega (arith, h)))
+
+  lower_rows : (p q k j : ℕ) (v : Variable) (vs : List Variable) → p < q → AllByRecursion (lower (shows (pair_row n p k v))) (map shows (pair_rows_from n q j vs))
+  lower_rows p q k j v [] h = tt
+  lower_rows p q k j v (w ∷ vs) h = (lower_positions p q k j v w h, lower_rows p q k (suc j) v vs h)
+
+  lower_entries : (p k : ℕ) (v : Variable) (es : List Entry) → AllByRecursion (λ (e : Entry). p < e.position) es → AllByRecursion (lower (shows (pair_row n p k v))) (map shows (flat_map (pair_rows n) es))
+  lower_entries p k v [] h = tt
+  lower_entries p k v (e ∷ es) h = subst (AllByRecursion (lower (shows (pair_row n p k v)))) (sym (map-append shows (pair_rows n e) (flat_map (pair_rows n) es)))
+      (all-append (lower (shows (pair_row n p k v))) (map shows (pair_rows n e)) (map shows (flat_map (pair_rows n) es)) (lower_rows p e.position k 0 v e.meta h.0) (lower_entries p k v es h.1))
+
+  rises_from : (p k : ℕ) (vs : List Variable) (rest : List Output) → ((j : ℕ) (v : Variable) → AllByRecursion (lower (shows (pair_row n p j v))) rest) → IsAscending lower rest
+      → IsAscending lower (map shows (pair_rows_from n p k vs) ++ rest)
+  rises_from p k [] rest all up = up
+  rises_from p k (v ∷ vs) rest all up =
+      (all-append (lower (shows (pair_row n p k v))) (map shows (pair_rows_from n p (suc k) vs)) rest (lower_later p k (suc k) v vs (omega arith)) (all k v), rises_from p (suc k) vs rest all up)
+
+  rises : (es : List Entry) → IsAscending (λ (a b : Entry). a.position < b.position) es → IsAscending lower (map shows (flat_map (pair_rows n) es))
+  rises [] h = tt
+  rises (e ∷ es) h = subst (IsAscending lower) (sym (map-append shows (pair_rows n e) (flat_map (pair_rows n) es)))
+      (rises_from e.position 0 e.meta (map shows (flat_map (pair_rows n) es)) (λ j v. lower_entries e.position j v es h.0) (rises es h.1))
+
+  columns_from : (p k : ℕ) (vs : List Variable) → map (λ r. (shows r).1) (pair_rows_from n p k vs) ≡ map (pair_columns p) vs
+  columns_from p k [] = refl
+  columns_from p k (v ∷ vs) = ap (λ l. pair_columns p v ∷ l) (columns_from p (suc k) vs)
+
+  columns : (es : List Entry) → map (λ r. (shows r).1) (flat_map (pair_rows n) es) ≡ pairs_shown es
+  columns [] = refl
+  columns (e ∷ es) = map-append (λ r. (shows r).1) (pair_rows n e) (flat_map (pair_rows n) es) ∙ ap₂ (λ x y. x ++ y) (columns_from e.position 0 e.meta) (columns es)
+
+pub tells_pairs : (old new : State) (runs : List Run) (n : ℕ) (rows : List Row) → IsStore old runs → Shown pairs_text (Int (pos n) ∷ []) old new rows → rows ≡ pairs_shown (entries_of (run_at runs n))
+tells_pairs old new runs n rows has h =
+    let params : Row = Int (pos n) ∷ [] in
+    let es = entries_of (run_at runs n) in
+    let reads = reads_as pairs_text params old new schema_2 has.tables.schema _ pairs_select_is.0 pairs_select_is.2 pairs_select_is.1 rows h in
+    let from = of_stored (old.now.trees 5) (prop_rows runs) has.tables.props_are (passes params) (out params) (same_passes params) (same_out params) in
+    let of_one = of_run (λ r. passes params (back r)) n runs (each_pair n) has.tables.valid.numbered in
+    let same = subst (λ l. IsPermutation l (map (out params) (filter (passes params) (old.now.trees 5)))) (ap (map (shows n)) of_one) from in
+    answered_sorted 5 tests pairs_query.project ((col 1 2, ascending Binary) ∷ (col 1 3, ascending Binary) ∷ []) old.now.trees params rows reads.answer (map (shows n) (flat_map (pair_rows n) es)) same (rises n es (up_of runs n has.tables.valid))
+    ∙ map-map (λ (o : Output). o.1) (shows n) (flat_map (pair_rows n) es) ∙ columns n es
+
+module _ {S : Type 0} (g : Ghosts S) (old new : Held S) (runs : List Run) (has : StandsFor (state g old) runs) (earlier : HasCleanDisk (state g new) → HasCleanDisk (state g old)) where
+  pub asked_pairs : (n : ℕ) (rows : List Row) → HasCleanDisk (state g new) → Asked g pairs_text (Int (pos n) ∷ []) old new rows → rows ≡ pairs_shown (entries_of (run_at runs n))
+  asked_pairs n rows clean it = tells_pairs (state g it.mid) (state g new) runs n rows (asked_mid g old new runs has earlier pairs_text pairs_select_is.2 (Int (pos n) ∷ []) rows clean it) it.shown

@@ -1,0 +1,49 @@
+use Rattle.std.proofs.Common.{inl, ◌∙◌, [], w64, SFits, slice_get, sym, ap, arith, rules}
+use Rattle.std.proofs.lemmas.Int.{to_z-of_z}
+use Rattle.std.specs.Option.{option_copied}
+use Rattle.kt_store.specs.Tables.{meta_text}
+use Rattle.kt_store.proofs.AskLemmas.{asked_unchanged, asked_leaves}
+use Rattle.kt_store.proofs.MetaLemmas.{asked_meta, says_plain, read_it, some_row}
+use Rattle.kt_store.proofs.attach.schema_number.Goals as goal
+
+pub returns-clause-number : goal.returns-clause-number
+returns-clause-number g c n says clean =
+    let are = asked_meta g.S.Store c.args.conn.now c.ask.new.conn (λ k. omega (arith, k, c.ask.ensures.survives.clean)) n c.in_ok-rows.rows.items says clean (c.in_ok-rows.ensures.rows clean) in
+    to_z-of_z w64 c.in_ok-number.number (let fits : SFits w64 c.in_ok-number.number = search rules in fits) ∙ read_it n c.in_ok-number.number c.in_ok-rows.rows.items c.in-Some.row.now are (ap (λ l. slice_get l 0) (sym c.deref.ensures.value) ∙ sym c.first.ensures.value ∙ ap option_copied c.in-Some.is) c.in_ok-number.ensures.number
+
+pub returns-in_default-clause-taken : goal.returns-in_default-clause-taken
+returns-in_default-clause-taken g c n says clean =
+    let are = asked_meta g.S.Store c.args.conn.now c.ask.new.conn (λ k. omega (arith, k, c.ask.ensures.survives.clean)) n c.in_ok-rows.rows.items says clean (c.in_ok-rows.ensures.rows clean) in
+    absurd (some_row n c.in_ok-rows.rows.items are (ap (λ l. slice_get l 0) (sym c.deref.ensures.value) ∙ sym c.first.ensures.value ∙ ap option_copied c.in_default.is))
+
+pub returns-clause-same : goal.returns-clause-same
+returns-clause-same g c n says clean =
+    asked_unchanged g.S.Store c.args.conn.now c.ask.new.conn (λ k. omega (arith, k, c.ask.ensures.survives.clean)) meta_text (says_plain n _ says) [] c.in_ok-rows.rows.items clean (c.in_ok-rows.ensures.rows clean)
+
+pub returns-in_default-clause-rests : goal.returns-in_default-clause-rests
+returns-in_default-clause-rests g c n says clean =
+    inl (asked_unchanged g.S.Store c.args.conn.now c.ask.new.conn (λ k. omega (arith, k, c.ask.ensures.survives.clean)) meta_text (says_plain n _ says) [] c.in_ok-rows.rows.items clean (c.in_ok-rows.ensures.rows clean))
+
+pub returns-in_err-number-clause-rests : goal.returns-in_err-number-clause-rests
+returns-in_err-number-clause-rests g c n says clean =
+    inl (asked_unchanged g.S.Store c.args.conn.now c.ask.new.conn (λ k. omega (arith, k, c.ask.ensures.survives.clean)) meta_text (says_plain n _ says) [] c.in_ok-rows.rows.items clean (c.in_ok-rows.ensures.rows clean))
+
+pub returns-clause-rests : goal.returns-clause-rests
+returns-clause-rests g c n says clean =
+    inl (asked_unchanged g.S.Store c.args.conn.now c.ask.new.conn (λ k. omega (arith, k, c.ask.ensures.survives.clean)) meta_text (says_plain n _ says) [] c.in_ok-rows.rows.items clean (c.in_ok-rows.ensures.rows clean))
+
+pub returns-in_err-rows-clause-crash : goal.returns-in_err-rows-clause-crash
+returns-in_err-rows-clause-crash g c n says =
+    asked_leaves g.S.Store c.args.conn.now c.ask.new.conn (λ k. omega (arith, k, c.ask.ensures.survives.clean)) meta_text (says_plain n _ says) [] c.ask.ensures.survives
+
+pub returns-in_default-clause-crash : goal.returns-in_default-clause-crash
+returns-in_default-clause-crash g c n says =
+    asked_leaves g.S.Store c.args.conn.now c.ask.new.conn (λ k. omega (arith, k, c.ask.ensures.survives.clean)) meta_text (says_plain n _ says) [] c.ask.ensures.survives
+
+pub returns-in_err-number-clause-crash : goal.returns-in_err-number-clause-crash
+returns-in_err-number-clause-crash g c n says =
+    asked_leaves g.S.Store c.args.conn.now c.ask.new.conn (λ k. omega (arith, k, c.ask.ensures.survives.clean)) meta_text (says_plain n _ says) [] c.ask.ensures.survives
+
+pub returns-clause-crash : goal.returns-clause-crash
+returns-clause-crash g c n says =
+    asked_leaves g.S.Store c.args.conn.now c.ask.new.conn (λ k. omega (arith, k, c.ask.ensures.survives.clean)) meta_text (says_plain n _ says) [] c.ask.ensures.survives

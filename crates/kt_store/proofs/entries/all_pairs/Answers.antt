@@ -1,0 +1,28 @@
+use Rattle.std.proofs.Common.{[], ◌∷◌, pos, arith, rules}
+use Rattle.sqlite.specs.declared.types.Value.TheVariants.{Int}
+use Rattle.kt_store.specs.Tables.{pairs_text}
+use Rattle.kt_store.proofs.SqlFacts.{pairs_select_is}
+use Rattle.kt_store.proofs.AskLemmas.{asked_stands, asked_survives}
+use Rattle.kt_store.proofs.PairsLemmas.{asked_pairs}
+use Rattle.kt_store.proofs.FaultLemmas.{first_failed}
+use Rattle.kt_store.proofs.entries.all_pairs.Goals as goal
+
+pub returns-clause-all : goal.returns-clause-all
+returns-clause-all g c runs has clean = asked_pairs g.S.Store c.args.conn.now c.ask.new.conn runs has (λ k. omega (arith, k, c.ask.ensures.survives.clean)) c.args.run c.in_ok-rows.rows.items clean (rw c.int.ensures at (c.in_ok-rows.ensures.rows clean))
+
+pub returns-clause-stands : goal.returns-clause-stands
+returns-clause-stands g c runs has =
+    asked_stands g.S.Store c.args.conn.now c.ask.new.conn runs has (λ k. omega (arith, k, c.ask.ensures.survives.clean)) pairs_text pairs_select_is.2 (Int (pos c.args.run) ∷ []) c.in_ok-rows.rows.items (λ clean. rw c.int.ensures at (c.in_ok-rows.ensures.rows clean))
+
+pub returns-in_err-rows-clause-crash : goal.returns-in_err-rows-clause-crash
+returns-in_err-rows-clause-crash g c runs has =
+    asked_survives g.S.Store c.args.conn.now c.ask.new.conn runs has (λ k. omega (arith, k, c.ask.ensures.survives.clean)) pairs_text pairs_select_is.2 (Int (pos c.args.run) ∷ []) (rw c.int.ensures at c.ask.ensures.survives)
+
+pub returns-clause-crash : goal.returns-clause-crash
+returns-clause-crash g c runs has =
+    asked_survives g.S.Store c.args.conn.now c.ask.new.conn runs has (λ k. omega (arith, k, c.ask.ensures.survives.clean)) pairs_text pairs_select_is.2 (Int (pos c.args.run) ∷ []) (rw c.int.ensures at c.ask.ensures.survives)
+
+pub returns-in_err-rows-clause-cause : goal.returns-in_err-rows-clause-cause
+returns-in_err-rows-clause-cause g c runs has clean =
+    let told = first_failed g.S.Store (pairs_text, Int (pos c.args.run) ∷ []) [] c.args.conn.now c.ask.new.conn _ (rw c.int.ensures at (c.in_err-rows.ensures.cause clean)) in
+    search rules
