@@ -5,29 +5,29 @@ use Rattle.std.specs.List.{list_any}
 use Rattle.kt_base.specs.declared.kind.Kind.{Kind}
 use Rattle.kt_base.specs.declared.entry.Entry.{Entry}
 use Rattle.kt_report.specs.Junits.{case_bytes}
-use Rattle.kt_report.specs.Lines.{line_bytes}
+use Rattle.kt_report.specs.Pairs.{entry_bytes}
 use Rattle.kt_report.specs.Texts.{same_kind, entries_of, title, titled, section}
 
-pub lines_more : (kind : Kind) (rest after : List Entry) (e : Entry) (told whole : List ℕ) → rest ≡ e ∷ after → same_kind kind e.verdict.kind ≡ true
-    → told ++ flat_map line_bytes (entries_of kind rest) ≡ whole → (told ++ line_bytes e) ++ flat_map line_bytes (entries_of kind after) ≡ whole
-lines_more kind rest after e told whole r k p =
-    append_assoc told (line_bytes e) (flat_map line_bytes (entries_of kind after)) ∙ (rw (r, k) at p)
+pub lines_more : (v : Bool) (kind : Kind) (rest after : List Entry) (e : Entry) (told whole : List ℕ) → rest ≡ e ∷ after → same_kind kind e.verdict.kind ≡ true
+    → told ++ flat_map (entry_bytes v) (entries_of kind rest) ≡ whole → (told ++ entry_bytes v e) ++ flat_map (entry_bytes v) (entries_of kind after) ≡ whole
+lines_more v kind rest after e told whole r k p =
+    append_assoc told (entry_bytes v e) (flat_map (entry_bytes v) (entries_of kind after)) ∙ (rw (r, k) at p)
 
-pub lines_same : (kind : Kind) (rest after : List Entry) (e : Entry) (told whole : List ℕ) → rest ≡ e ∷ after → same_kind kind e.verdict.kind ≡ false
-    → told ++ flat_map line_bytes (entries_of kind rest) ≡ whole → told ++ flat_map line_bytes (entries_of kind after) ≡ whole
-lines_same kind rest after e told whole r k p = rw (r, k) at p
+pub lines_same : (v : Bool) (kind : Kind) (rest after : List Entry) (e : Entry) (told whole : List ℕ) → rest ≡ e ∷ after → same_kind kind e.verdict.kind ≡ false
+    → told ++ flat_map (entry_bytes v) (entries_of kind rest) ≡ whole → told ++ flat_map (entry_bytes v) (entries_of kind after) ≡ whole
+lines_same v kind rest after e told whole r k p = rw (r, k) at p
 
-pub lines_all : (kind : Kind) (rest : List Entry) (told whole : List ℕ) → length rest ≡ 0 → told ++ flat_map line_bytes (entries_of kind rest) ≡ whole → told ≡ whole
-lines_all kind [] told whole none p = sym (append-nil told) ∙ p
-lines_all kind (e ∷ rest) told whole none p = absurd (cc)
+pub lines_all : (v : Bool) (kind : Kind) (rest : List Entry) (told whole : List ℕ) → length rest ≡ 0 → told ++ flat_map (entry_bytes v) (entries_of kind rest) ≡ whole → told ≡ whole
+lines_all v kind [] told whole none p = sym (append-nil told) ∙ p
+lines_all v kind (e ∷ rest) told whole none p = absurd (cc)
 
-titled_is : (name : List ℕ) (entries : List Entry) → length entries ≢ 0 → codes "===> " ++ name ++ codes "\n" ++ flat_map line_bytes entries ≡ titled name entries
-titled_is name [] n = absurd (n refl)
-titled_is name (e ∷ entries) n = refl
+titled_is : (v : Bool) (name : List ℕ) (entries : List Entry) → length entries ≢ 0 → codes "===> " ++ name ++ codes "\n" ++ flat_map (entry_bytes v) entries ≡ titled v name entries
+titled_is v name [] n = absurd (n refl)
+titled_is v name (e ∷ entries) n = refl
 
-pub section_is : (kinds : List Kind) (entries : List Entry) (kind : Kind) → list_any (same_kind kind) kinds ≡ true → length (entries_of kind entries) ≢ 0
-    → codes "===> " ++ title kind ++ codes "\n" ++ flat_map line_bytes (entries_of kind entries) ≡ section kinds entries kind
-section_is kinds entries kind chosen some = rw chosen (titled_is (title kind) (entries_of kind entries) some)
+pub section_is : (v : Bool) (kinds : List Kind) (entries : List Entry) (kind : Kind) → list_any (same_kind kind) kinds ≡ true → length (entries_of kind entries) ≢ 0
+    → codes "===> " ++ title kind ++ codes "\n" ++ flat_map (entry_bytes v) (entries_of kind entries) ≡ section v kinds entries kind
+section_is v kinds entries kind chosen some = rw chosen (titled_is v (title kind) (entries_of kind entries) some)
 
 -- the cases of a JUnit report, one by one
 pub cases_more : (rest after : List Entry) (e : Entry) (told whole : List ℕ) → rest ≡ e ∷ after → told ++ flat_map case_bytes rest ≡ whole → (told ++ case_bytes e) ++ flat_map case_bytes after ≡ whole

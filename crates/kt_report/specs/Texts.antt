@@ -9,7 +9,7 @@ use Rattle.kt_base.specs.declared.kind.Kind.TheVariants.{Passed, Skipped, Expect
 use Rattle.kt_base.specs.declared.entry.Entry.{Entry}
 use Rattle.kt_base.specs.declared.run.Run.{Run}
 use Rattle.kt_report.specs.Digits.{two_digits, three_digits, four_digits, seconds}
-use Rattle.kt_report.specs.Lines.{line_bytes}
+use Rattle.kt_report.specs.Pairs.{entry_bytes}
 
 -- whether two kinds are one
 abbrev pub same_kind : Kind → Kind → Bool
@@ -37,17 +37,19 @@ title Broken = codes "Broken tests"
 title Failed = codes "Failed tests"
 
 -- a title over lines, where there is a line
-abbrev pub titled : List ℕ → List Entry → List ℕ
-titled title [] = []
-titled title (e ∷ entries) = codes "===> " ++ title ++ codes "\n" ++ flat_map line_bytes (e ∷ entries)
+abbrev pub titled : Bool → List ℕ → List Entry → List ℕ
+titled verbose title [] = []
+titled verbose title (e ∷ entries) = codes "===> " ++ title ++ codes "\n" ++ flat_map (entry_bytes verbose) (e ∷ entries)
 
 -- the section of a kind, where it is chosen
-abbrev pub section : List Kind → List Entry → Kind → List ℕ
-section kinds entries kind = if list_any (same_kind kind) kinds then titled (title kind) (entries_of kind entries) else []
+abbrev pub section : Bool → List Kind → List Entry → Kind → List ℕ
+section verbose kinds entries kind = if list_any (same_kind kind) kinds then titled verbose (title kind) (entries_of kind entries) else []
 
 -- the sections of the chosen kinds, in their order
-abbrev pub sections : List Kind → List Entry → List ℕ
-sections kinds entries = section kinds entries Passed ++ section kinds entries Skipped ++ section kinds entries ExpectedFailure ++ section kinds entries Broken ++ section kinds entries Failed
+abbrev pub sections : Bool → List Kind → List Entry → List ℕ
+sections verbose kinds entries =
+    section verbose kinds entries Passed ++ section verbose kinds entries Skipped ++ section verbose kinds entries ExpectedFailure
+    ++ section verbose kinds entries Broken ++ section verbose kinds entries Failed
 
 -- the latest moment that is told
 abbrev pub told_moment : ℕ → ℕ
@@ -89,6 +91,6 @@ counts_bytes entries =
 abbrev pub summary : Date → Run → List ℕ
 summary date run = started_bytes date run ++ counts_bytes run.entries ++ codes "Total time: " ++ seconds (sum_by (λ e. e.millis) run.entries) ++ codes "s\n"
 
--- the chosen sections, and the summary
-abbrev pub text_bytes : Date → List Kind → Run → List ℕ
-text_bytes date kinds run = sections kinds run.entries ++ summary date run
+-- the chosen sections, with what the cases declared where `verbose` is set, and the summary
+abbrev pub text_bytes : Date → List Kind → Bool → Run → List ℕ
+text_bytes date kinds verbose run = sections verbose kinds run.entries ++ summary date run

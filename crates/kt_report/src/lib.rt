@@ -7,6 +7,7 @@ mod entry_line;
 mod escaping;
 mod junit_report;
 mod moments;
+mod pairs;
 mod report_fault;
 mod sections;
 mod summary;

@@ -1,10 +1,10 @@
 ghost use Rattle.std.specs.Prelude.{◌≡◌, length, flat_map};
 ghost use Rattle.std.specs.List.{list_any};
-ghost use Rattle.kt_report.specs.Lines.{line_bytes};
+ghost use Rattle.kt_report.specs.Pairs.{entry_bytes};
 ghost use Rattle.kt_report.specs.Telling.{Tells};
 ghost use Rattle.kt_report.specs.Texts.{same_kind, entries_of, title, section, sections};
 
-use crate::entry_line::say_line;
+use crate::pairs::say_entry;
 use crate::telling::say;
 use kt_base::{Entry, Kind};
 use std::io::Write;
@@ -64,14 +64,20 @@ fn title(kind: Kind) -> &'static [u8]
 }
 
 /// Tells the lines of the entries of a kind.
-fn say_lines<W: Write>(failed: bool, kind: Kind, entries: &[Entry], out: &mut W) -> bool
-    ensures { Tells (W.contents out.old) failed (W.contents out.new) result (flat_map line_bytes (entries_of kind entries.now)) }
+fn say_lines<W: Write>(
+    failed: bool,
+    verbose: bool,
+    kind: Kind,
+    entries: &[Entry],
+    out: &mut W,
+) -> bool
+    ensures { Tells (W.contents out.old) failed (W.contents out.new) result (flat_map (entry_bytes verbose) (entries_of kind entries.now)) }
 {
     let mut has_failed = failed;
     let mut rest = entries;
     while let Some((entry, after)) = rest.split_first() {
         if same_kind(kind, entry.verdict.kind()) {
-            has_failed = say_line(has_failed, entry, out);
+            has_failed = say_entry(has_failed, verbose, entry, out);
         }
         rest = after;
     }
@@ -81,12 +87,13 @@ fn say_lines<W: Write>(failed: bool, kind: Kind, entries: &[Entry], out: &mut W)
 /// Tells the section of a kind, where it is chosen and has a line.
 fn say_section<W: Write>(
     failed: bool,
+    verbose: bool,
     kinds: &[Kind],
     entries: &[Entry],
     kind: Kind,
     out: &mut W,
 ) -> bool
-    ensures { Tells (W.contents out.old) failed (W.contents out.new) result (section kinds.now entries.now kind) }
+    ensures { Tells (W.contents out.old) failed (W.contents out.new) result (section verbose kinds.now entries.now kind) }
 {
     if !is_chosen(kinds, kind) {
         return failed;
@@ -97,16 +104,22 @@ fn say_section<W: Write>(
     let mark = say(failed, b"===> ", out);
     let title = say(mark, title(kind), out);
     let end = say(title, b"\n", out);
-    say_lines(end, kind, entries, out)
+    say_lines(end, verbose, kind, entries, out)
 }
 
 /// Tells the chosen sections.
-pub fn say_sections<W: Write>(failed: bool, kinds: &[Kind], entries: &[Entry], out: &mut W) -> bool
-    ensures { Tells (W.contents out.old) failed (W.contents out.new) result (sections kinds.now entries.now) }
+pub fn say_sections<W: Write>(
+    failed: bool,
+    verbose: bool,
+    kinds: &[Kind],
+    entries: &[Entry],
+    out: &mut W,
+) -> bool
+    ensures { Tells (W.contents out.old) failed (W.contents out.new) result (sections verbose kinds.now entries.now) }
 {
-    let passed = say_section(failed, kinds, entries, Kind::Passed, out);
-    let skipped = say_section(passed, kinds, entries, Kind::Skipped, out);
-    let expected = say_section(skipped, kinds, entries, Kind::ExpectedFailure, out);
-    let broken = say_section(expected, kinds, entries, Kind::Broken, out);
-    say_section(broken, kinds, entries, Kind::Failed, out)
+    let passed = say_section(failed, verbose, kinds, entries, Kind::Passed, out);
+    let skipped = say_section(passed, verbose, kinds, entries, Kind::Skipped, out);
+    let expected = say_section(skipped, verbose, kinds, entries, Kind::ExpectedFailure, out);
+    let broken = say_section(expected, verbose, kinds, entries, Kind::Broken, out);
+    say_section(broken, verbose, kinds, entries, Kind::Failed, out)
 }

@@ -10,13 +10,19 @@ use kt_base::{Kind, OutputFault, Run};
 use std::io::Write;
 
 /// Writes the text report: a section for each of the chosen kinds that has an entry, in the order passed, skipped,
-/// expected failures, broken, failed, and then the summary (this profile). It takes no memory. Moments past the year
+/// expected failures, broken, failed, and then the summary (this profile). Where `verbose` is set, what a case declared stands
+/// beneath its line. It takes no memory. Moments past the year
 /// 9999 are told as its last one.
-pub fn text<W: Write>(run: &Run, kinds: &[Kind], out: &mut W) -> Result<(), OutputFault>
-    ensures { (date : Date) × IsDateOf run.now.started date × Shows (W.contents out.old) (W.contents out.new) (is_err result) (text_bytes date kinds.now run.now) }
+pub fn text<W: Write>(
+    run: &Run,
+    kinds: &[Kind],
+    verbose: bool,
+    out: &mut W,
+) -> Result<(), OutputFault>
+    ensures { (date : Date) × IsDateOf run.now.started date × Shows (W.contents out.old) (W.contents out.new) (is_err result) (text_bytes date kinds.now verbose run.now) }
 {
     let date = date_of(run.started);
-    let sections = say_sections(false, kinds, run.entries.as_slice(), out);
+    let sections = say_sections(false, verbose, kinds, run.entries.as_slice(), out);
     if say_summary(sections, date, run, out) {
         Err(OutputFault)
     } else {

@@ -10,4 +10,4 @@ returns g c =
     let chosen : c.is_chosen.result ≡ true = search rules in
     let some : length (entries_of c.args.kind c.args.entries.now) ≢ 0 = search rules in
     let head = tells_both (tells_both c.say-mark.ensures (tells_as c.title.ensures c.say-title.ensures)) c.say-end.ensures in
-    tells_as (section_is c.args.kinds.now c.args.entries.now c.args.kind (sym c.is_chosen.ensures ∙ chosen) some) (tells_both head c.say_lines.ensures)
+    tells_as (section_is c.args.verbose c.args.kinds.now c.args.entries.now c.args.kind (sym c.is_chosen.ensures ∙ chosen) some) (tells_both head c.say_lines.ensures)

@@ -1,0 +1,19 @@
+-- What a case declared, a pair on a line.
+use Rattle.std.specs.Prelude.{ℕ, Bool, true, false, List, ◌++◌, codes, flat_map, map, nat_lt, if◌then◌else◌}
+use Rattle.kt_base.specs.declared.entry.Entry.{Entry}
+use Rattle.kt_base.specs.declared.variable.Variable.{Variable}
+use Rattle.kt_base.specs.Utf8.{utf8}
+use Rattle.kt_report.specs.Lines.{line_bytes}
+
+-- a byte as it is told: a control character is a question mark
+abbrev pub shown_byte : ℕ → ℕ
+shown_byte byte = if nat_lt byte 32 then 63 else byte
+
+-- a name with its value
+abbrev pub pair_bytes : Variable → List ℕ
+pair_bytes pair = codes "    " ++ utf8 pair.name ++ codes " = " ++ map shown_byte (utf8 pair.value) ++ codes "\n"
+
+-- the line of an entry, and where its pairs are told too, they stand beneath
+abbrev pub entry_bytes : Bool → Entry → List ℕ
+entry_bytes false e = line_bytes e
+entry_bytes true e = line_bytes e ++ flat_map pair_bytes e.meta
