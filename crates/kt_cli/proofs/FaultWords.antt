@@ -1,13 +1,18 @@
 -- The words of faults are their own characters.
 use Rattle.std.proofs.Common.{◌≡◌, ℕ, refl}
 use Rattle.std.specs.Str.{chars}
+use Rattle.kt_config.specs.declared.fault.ConfigFault.{ConfigFault}
+use Rattle.kt_config.specs.declared.fault.ConfigFault.TheVariants as config
 use Rattle.kt_script.specs.declared.fault.ScriptFault.{ScriptFault}
 use Rattle.kt_script.specs.declared.fault.ScriptFault.TheVariants as script
 use Rattle.kt_suite.specs.declared.cause.SuiteCause.{SuiteCause}
 use Rattle.kt_suite.specs.declared.cause.SuiteCause.TheVariants as cause
+use Rattle.kt_suite.specs.declared.filter_fault.FilterFault.{FilterFault}
+use Rattle.kt_suite.specs.declared.filter_fault.FilterFault.TheVariants as filter
 use Rattle.kt_cli.specs.FaultLines.{script_text, fixed_text, cause_text}
+use Rattle.kt_cli.specs.Stops.{config_text, filter_text}
 
-chars-script : (fault : ScriptFault) → chars (script_text fault) ≡ script_text fault
+pub chars-script : (fault : ScriptFault) → chars (script_text fault) ≡ script_text fault
 unfolding chars
 chars-script (script.NoMemory refusal) = refl
 chars-script script.NotUtf8 = refl
@@ -51,3 +56,21 @@ fixed-cause cause.MissingProgram d = refl
 fixed-cause cause.Unreadable d = refl
 fixed-cause cause.TooMany d = refl
 fixed-cause (cause.Script fault) d = refl
+
+pub chars-config : (fault : ConfigFault) → chars (config_text fault) ≡ config_text fault
+unfolding chars
+chars-config (config.NoMemory refusal) = refl
+chars-config config.UnknownVariable = refl
+chars-config config.BadValue = refl
+chars-config (config.Script fault) = chars-script fault
+chars-config config.NoSyntax = refl
+chars-config config.NotAssignment = refl
+
+pub chars-filter : (fault : FilterFault) → chars (filter_text fault) ≡ filter_text fault
+unfolding chars
+chars-filter (filter.NoMemory refusal) = refl
+chars-filter filter.Empty = refl
+chars-filter filter.Absolute = refl
+chars-filter filter.EmptyCase = refl
+chars-filter (filter.Repeated position) = refl
+chars-filter (filter.NotDisjoint position) = refl

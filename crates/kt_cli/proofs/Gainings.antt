@@ -33,6 +33,14 @@ moves_both Stands Sound Leaves a b c f g p q x y = record {
 pub moves_not : {R : Type 0} (Stands : R → List Run → Type 0) (Sound : R → Type 0) (Leaves : R → List (List Run) → Type 0) (a : R) → Moves Stands Sound Leaves a a (λ runs. runs) (λ runs may. may)
 moves_not Stands Sound Leaves a = record { moved = λ runs h. h; earlier = λ runs h s. s; crash = λ runs may h l. l }
 
+take_all : {X : Type 0} (xs : List X) (n : ℕ) → n ≡ length xs → take n xs ≡ xs
+take_all {X} [] n e = subst (λ (k : ℕ). ◌≡◌ {A = List X} (take k []) []) (sym e) refl
+take_all (x ∷ xs) n e = subst (λ (k : ℕ). take k (x ∷ xs) ≡ x ∷ xs) (sym e) (ap (λ ys. x ∷ ys) (take_all xs (length xs) refl))
+
+-- all of the first entries are there
+pub all_entries : (plan : List Job) (T : Trace) (positions : List ℕ) (es : List Entry) → length es ≡ length positions → AreEntries plan T (take (length es) positions) es → AreEntries plan T positions es
+all_entries plan T positions es e a = subst (λ (ps : List ℕ). AreEntries plan T ps es) (take_all positions (length es) e) a
+
 module _ {S R : Type 0} (Stands : R → List Run → Type 0) (Sound : R → Type 0) (Leaves : R → List (List Run) → Type 0) (gives : S → Entry → Result (Unit {0}) SinkFault → S → Type 0) (store : S → R) (number : S → ℕ) (failed : S → Bool) (held : S → Option (List ℕ)) (name other : S → ℕ)
     (each : (s t : S) (e : Entry) (r : Result (Unit {0}) SinkFault) → gives s e r t → (name t ≡ name s) × (other t ≡ other s) × Recorded Stands Sound Leaves (number s) (store s) (failed s) (held s) e r (number t) (store t) (failed t) (held t)) where
   -- what a recorder gained, by its parts
@@ -60,26 +68,19 @@ module _ {S R : Type 0} (Stands : R → List Run → Type 0) (Sound : R → Type
       }
 
   -- what a recorder did over a whole plan
-  pub record Whole (plan : List Job) (T : Trace) (es : List Entry) (answer : Result Totals RunFault) (s t : S) : Type 0 where
+  pub record Whole (plan : List Job) (n : ℕ) (T : Trace) (es : List Entry) (answer : Result Totals RunFault) (s t : S) : Type 0 where
     pub same_store : name t ≡ name s
     pub same_out : other t ≡ other s
     pub refused : List Entry
     pub puts : Moves Stands Sound Leaves (store s) (store t) (put_all (number s) es) (beside_puts (number s) es refused)
     pub says : Says (held s) (failed s) (held t) (failed t) (lines es)
-    pub ends : RecordEnds plan T es refused answer
+    pub ends : RecordEnds plan n T es refused answer
 
   none_gained : (es : List Entry) (s t : S) → es ≡ [] → t ≡ s → Gains gives es s t
   none_gained es s t e f = subst (λ (xs : List Entry). Gains gives xs s t) (sym e) f
 
-  take_all : {X : Type 0} (xs : List X) (n : ℕ) → n ≡ length xs → take n xs ≡ xs
-  take_all {X} [] n e = subst (λ (k : ℕ). ◌≡◌ {A = List X} (take k []) []) (sym e) refl
-  take_all (x ∷ xs) n e = subst (λ (k : ℕ). take k (x ∷ xs) ≡ x ∷ xs) (sym e) (ap (λ ys. x ∷ ys) (take_all xs (length xs) refl))
-
-  all_entries : (plan : List Job) (T : Trace) (positions : List ℕ) (es : List Entry) → length es ≡ length positions → AreEntries plan T (take (length es) positions) es → AreEntries plan T positions es
-  all_entries plan T positions es e a = subst (λ (ps : List ℕ). AreEntries plan T ps es) (take_all positions (length es) e) a
-
-  pub whole : (plan : List Job) (T : Trace) (es : List Entry) (answer : Result Totals RunFault) (s t : S) → AreEntries plan T (take (length es) (recorded plan 1 T)) es → EndsAs gives plan 1 T es s t answer → Whole plan T es answer s t
-  whole plan T es (Ok totals) s t a e =
+  pub whole : (plan : List Job) (n : ℕ) (T : Trace) (es : List Entry) (answer : Result Totals RunFault) (s t : S) → AreEntries plan T (take (length es) (recorded plan n T)) es → EndsAs gives plan n T es s t answer → Whole plan n T es answer s t
+  whole plan n T es (Ok totals) s t a e =
       let g = gains_all es s t e.gains in
       record {
         same_store = g.same_store;
@@ -87,12 +88,12 @@ module _ {S R : Type 0} (Stands : R → List Run → Type 0) (Sound : R → Type
         refused = [];
         puts = g.puts;
         says = g.says;
-        ends = record { all = record { legal = e.legal; once = e.once; are = all_entries plan T (recorded plan 1 T) es (e.all ∙ sym e.once.all) a }; whole = e.all; counts = e.counts; taken = refl };
+        ends = record { all = record { legal = e.legal; once = e.once; are = all_entries plan T (recorded plan n T) es (e.all ∙ sym e.once.all) a }; whole = e.all; counts = e.counts; taken = refl };
       }
-  whole plan T es (Err (NoMemory refusal)) s t a e =
+  whole plan n T es (Err (NoMemory refusal)) s t a e =
       let g = gains_all es s t (none_gained es s t e.entries e.same) in
       record { same_store = g.same_store; same_out = g.same_out; refused = []; puts = g.puts; says = g.says; ends = record { events = e.events; none = e.entries; taken = refl } }
-  whole plan T es (Err (SinkFailed fault)) s t a e =
+  whole plan n T es (Err (SinkFailed fault)) s t a e =
       let f = e.failed in
       let g = gains_all es s f.mid f.gains in
       let p = each f.mid t f.refused (Err fault) f.fails in

@@ -8,7 +8,7 @@ use Rattle.kt_sched.specs.declared.job.Job.{Job}
 use Rattle.kt_store.specs.declared.store_fault.StoreFault.{StoreFault}
 use Rattle.kt_store.specs.declared.store_fault.StoreFault.TheVariants.{Incomplete}
 use Rattle.kt_store.specs.Runs.{AreNumbered, new_run, insert_at, run_at, finish, finish_refusal, finish_refusal_of}
-use Rattle.kt_cli.specs.Meaning.{with_new}
+use Rattle.kt_cli.specs.Testing.{with_new}
 use Rattle.kt_cli.specs.Stores.{put_all, put_among, by_position, put_beside, beside_puts}
 use Rattle.kt_cli.proofs.Numbered.{entries_last, finish_last}
 

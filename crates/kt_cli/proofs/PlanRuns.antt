@@ -19,11 +19,11 @@ use Rattle.kt_store.specs.declared.store_fault.StoreFault.{StoreFault}
 use Rattle.kt_store.specs.declared.store_fault.StoreFault.TheVariants.{StoreFull}
 use Rattle.kt_store.specs.Runs.{AreNumbered, new_run, with_entry, finish, finish_refusal}
 use Rattle.kt_cli.specs.FaultLines.{memory_line, put_line, refusal_line}
-use Rattle.kt_cli.specs.Meaning.{with_new, results, results_exit, recorded as all_recorded, not_begun, not_run, not_put, not_finished, RanPlan}
+use Rattle.kt_cli.specs.Testing.{with_new, ending, exit_of, results, results_exit, recorded as all_recorded, not_begun, not_run, not_put, not_finished, RanPlan}
 use Rattle.kt_cli.specs.Pages.{Says}
 use Rattle.kt_cli.specs.Recordings.{Records, RecordEnds, RecordedAll, RecordedSome, RecordedNone}
 use Rattle.kt_cli.specs.Stores.{put_all, beside_puts}
-use Rattle.kt_cli.specs.Totals.{lines, totals_text, good_count, bad_count}
+use Rattle.kt_cli.specs.Totals.{lines, good_count, bad_count}
 use Rattle.kt_cli.proofs.NewRuns.{put_new, finish_new, finishes, none_beside, settled}
 use Rattle.kt_cli.proofs.Numbered.{put_more}
 use Rattle.kt_cli.proofs.Saying.{tells_both}
@@ -33,12 +33,12 @@ only_fault P Q (inl p) never = p
 only_fault P Q (inr q) never = absurd (never q)
 
 module _ {L R : Type 0} (starts : L → Job → Role → StartAnswer → L → Type 0) (waits : L → Ended → L → Type 0) (Stands : R → List Run → Type 0) (Sound : R → Type 0) (Leaves : R → List (List Run) → Type 0) (numbered : (s : R) (runs : List Run) → Stands s runs → AreNumbered 1 runs)
-    (plan : List Job) (moment : ℕ) (old : L) (store : R) (was : Option (List ℕ)) where
+    (plan : List Job) (n : ℕ) (words : List (List ℕ)) (unmatched : List ℕ) (moment : ℕ) (old : L) (store : R) (was : Option (List ℕ)) where
   -- no run was begun
   pub ran_unbegun : (mid : R) (total : ℕ) (why : StoreFault) (now : Option (List ℕ)) (f : Bool) (exit : ℕ) → total ≡ length plan → ((runs : List Run) → Stands store runs → Stands mid runs)
       → ((runs : List Run) → Stands store runs → Sound mid → IsStoreFault why ⊎ ((why ≡ StoreFull) × (1000000 ≤ length runs))) → ((runs : List Run) → Stands store runs → Sound mid → Sound store)
       → ((runs : List Run) (may : List (List Run)) → Stands store runs → Leaves store (runs ∷ may) → Leaves mid (runs ∷ (runs ++ new_run runs total moment ∷ []) ∷ may))
-      → Says was false now f (utf8 (refusal_line why)) → exit ≡ (if f then 2 else 2) → RanPlan starts waits Stands Sound Leaves plan moment old old store mid was now exit
+      → Says was false now f (utf8 (refusal_line why)) → exit ≡ (if f then 2 else 2) → RanPlan starts waits Stands Sound Leaves plan n words unmatched moment old old store mid was now exit
   ran_unbegun mid total why now f exit t kept refused earlier crash s e = record {
     trace = NoEvent;
     leads = refl;
@@ -57,13 +57,13 @@ module _ {L R : Type 0} (starts : L → Job → Role → StartAnswer → L → T
   }
 
   module _ (new : L) (begun after : R) (number total : ℕ) (mid now : Option (List ℕ)) (f g : Bool) (exit : ℕ) (added : (runs : List Run) → Stands store runs → Stands begun (runs ++ new_run runs total moment ∷ []))
-      (n : (runs : List Run) → Stands store runs → Sound begun → number ≡ suc (length runs)) (earlier : (runs : List Run) → Stands store runs → Sound begun → Sound store)
+      (is_number : (runs : List Run) → Stands store runs → Sound begun → number ≡ suc (length runs)) (earlier : (runs : List Run) → Stands store runs → Sound begun → Sound store)
       (durable : (runs : List Run) → Stands store runs → Leaves begun ((runs ++ new_run runs total moment ∷ []) ∷ [])) (t : total ≡ length plan) where
     -- the runs with the new one and these entries
     abbrev with_puts : List Run → List Entry → List Run
     with_puts runs es = put_all number es (runs ++ new_run runs total moment ∷ [])
 
-    module _ (answer : Result Totals RunFault) (r : Records starts waits Stands Sound Leaves plan number old new begun after was mid answer f) where
+    module _ (answer : Result Totals RunFault) (r : Records starts waits Stands Sound Leaves plan n number old new begun after was mid answer f) where
       stands : (runs : List Run) → Stands store runs → Stands after (with_puts runs r.entries)
       stands runs h = r.puts.moved (runs ++ new_run runs total moment ∷ []) (added runs h)
 
@@ -71,7 +71,7 @@ module _ {L R : Type 0} (starts : L → Job → Role → StartAnswer → L → T
       sound_begun runs h s = r.puts.earlier (runs ++ new_run runs total moment ∷ []) (added runs h) s
 
       puts : (runs : List Run) → Stands store runs → Sound after → with_puts runs r.entries ≡ with_new runs moment plan false r.entries
-      puts runs h s = put_new runs number total moment plan r.entries (numbered store runs h) (n runs h (sound_begun runs h s)) t
+      puts runs h s = put_new runs number total moment plan r.entries (numbered store runs h) (is_number runs h (sound_begun runs h s)) t
 
       -- what a crash leaves after the puts
       after_puts : (runs : List Run) → Stands store runs → Leaves after (with_puts runs r.entries ∷ beside_puts number r.entries r.refused (runs ++ new_run runs total moment ∷ []) [])
@@ -82,9 +82,9 @@ module _ {L R : Type 0} (starts : L → Job → Role → StartAnswer → L → T
       after_all runs h e = subst (λ (ms : List (List Run)). Leaves after (with_puts runs r.entries ∷ ms)) (settled number r.entries r.refused (runs ++ new_run runs total moment ∷ []) e) (after_puts runs h)
 
       -- memory ran out before a case was started
-      pub ran_none : (refusal : OutOfMemory) → answer ≡ Err (NoMemory refusal) → Says mid f now g (utf8 memory_line) → exit ≡ (if g then 2 else 2) → RanPlan starts waits Stands Sound Leaves plan moment old new store after was now exit
+      pub ran_none : (refusal : OutOfMemory) → answer ≡ Err (NoMemory refusal) → Says mid f now g (utf8 memory_line) → exit ≡ (if g then 2 else 2) → RanPlan starts waits Stands Sound Leaves plan n words unmatched moment old new store after was now exit
       ran_none refusal a s e =
-          let none : RecordedNone r.trace r.entries r.refused = subst (λ (x : Result Totals RunFault). RecordEnds plan r.trace r.entries r.refused x) a r.ends in
+          let none : RecordedNone r.trace r.entries r.refused = subst (λ (x : Result Totals RunFault). RecordEnds plan n r.trace r.entries r.refused x) a r.ends in
           record {
             trace = r.trace;
             leads = r.leads;
@@ -108,12 +108,12 @@ module _ {L R : Type 0} (starts : L → Job → Role → StartAnswer → L → T
       pending runs h s e one =
           let all = runs ++ new_run runs total moment ∷ [] in
           ap (λ (es : List Entry). beside_puts number r.entries es all []) one ∙ ap (λ (ms : List (List Run)). with_entry number e (with_puts runs r.entries) ∷ ms) (none_beside r.entries)
-          ∙ ap (λ (rs : List Run). rs ∷ []) (sym (put_more number r.entries e all) ∙ put_new runs number total moment plan (r.entries ++ e ∷ []) (numbered store runs h) (n runs h (sound_begun runs h s)) t)
+          ∙ ap (λ (rs : List Run). rs ∷ []) (sym (put_more number r.entries e all) ∙ put_new runs number total moment plan (r.entries ++ e ∷ []) (numbered store runs h) (is_number runs h (sound_begun runs h s)) t)
 
       -- a put was refused
-      pub ran_some : (why : SinkFault) → answer ≡ Err (SinkFailed why) → Says mid f now g (utf8 (put_line why)) → exit ≡ (if g then 2 else 2) → RanPlan starts waits Stands Sound Leaves plan moment old new store after was now exit
+      pub ran_some : (why : SinkFault) → answer ≡ Err (SinkFailed why) → Says mid f now g (utf8 (put_line why)) → exit ≡ (if g then 2 else 2) → RanPlan starts waits Stands Sound Leaves plan n words unmatched moment old new store after was now exit
       ran_some why a s e =
-          let some : RecordedSome plan r.trace r.entries r.refused = subst (λ (x : Result Totals RunFault). RecordEnds plan r.trace r.entries r.refused x) a r.ends in
+          let some : RecordedSome plan n r.trace r.entries r.refused = subst (λ (x : Result Totals RunFault). RecordEnds plan n r.trace r.entries r.refused x) a r.ends in
           record {
             trace = r.trace;
             leads = r.leads;
@@ -132,8 +132,8 @@ module _ {L R : Type 0} (starts : L → Job → Role → StartAnswer → L → T
           }
 
       module _ (last : R) (totals : Totals) (a : answer ≡ Ok totals) (sooner : (runs : List Run) → Stands after runs → Sound last → Sound after) where
-        every : RecordedAll plan r.trace r.entries r.refused totals
-        every = subst (λ (x : Result Totals RunFault). RecordEnds plan r.trace r.entries r.refused x) a r.ends
+        every : RecordedAll plan n r.trace r.entries r.refused totals
+        every = subst (λ (x : Result Totals RunFault). RecordEnds plan n r.trace r.entries r.refused x) a r.ends
 
         sound_after : (runs : List Run) → Stands store runs → Sound last → Sound after
         sound_after runs h s = sooner (with_puts runs r.entries) (stands runs h) s
@@ -142,12 +142,12 @@ module _ {L R : Type 0} (starts : L → Job → Role → StartAnswer → L → T
         finished_as : (runs : List Run) → Stands store runs → Sound last → finish number (with_puts runs r.entries) ≡ with_new runs moment plan true r.entries
         finished_as runs h s =
             let b = sound_after runs h s in
-            ap (λ (rs : List Run). finish number rs) (puts runs h b) ∙ finish_new runs number moment plan r.entries (numbered store runs h) (n runs h (sound_begun runs h b))
+            ap (λ (rs : List Run). finish number rs) (puts runs h b) ∙ finish_new runs number moment plan r.entries (numbered store runs h) (is_number runs h (sound_begun runs h b))
 
         -- the store failed as the run was to be finished
         pub ran_unfinished : (why : StoreFault) → ((runs : List Run) → Stands after runs → Stands last runs) → ((runs : List Run) → Stands after runs → Sound last → IsStoreFault why ⊎ (finish_refusal runs number ≡ Some why))
             → ((runs : List Run) (may : List (List Run)) → Stands after runs → Leaves after (runs ∷ may) → Leaves last (runs ∷ finish number runs ∷ may))
-            → Says mid f now g (utf8 (refusal_line why)) → exit ≡ (if g then 2 else 2) → RanPlan starts waits Stands Sound Leaves plan moment old new store last was now exit
+            → Says mid f now g (utf8 (refusal_line why)) → exit ≡ (if g then 2 else 2) → RanPlan starts waits Stands Sound Leaves plan n words unmatched moment old new store last was now exit
         ran_unfinished why kept refused crash s e = record {
           trace = r.trace;
           leads = r.leads;
@@ -160,7 +160,7 @@ module _ {L R : Type 0} (starts : L → Job → Role → StartAnswer → L → T
                 record {
                   deed = record { runs = with_new runs moment plan false r.entries; bytes = lines r.entries ++ utf8 (refusal_line why); exit = 2; beside = λ may. with_new runs moment plan true r.entries ∷ [] };
                   is = inr (not_finished r.entries why every.all (only_fault (IsStoreFault why) (finish_refusal (with_puts runs r.entries) number ≡ Some why) (refused (with_puts runs r.entries) (stands runs h) sound)
-                      (λ z. finishes runs number moment plan r.entries why (n runs h (sound_begun runs h (sound_after runs h sound))) every.whole (ap (λ (rs : List Run). finish_refusal rs number) (sym same) ∙ z))));
+                      (λ z. finishes runs number moment plan r.entries why (is_number runs h (sound_begun runs h (sound_after runs h sound))) every.whole (ap (λ (rs : List Run). finish_refusal rs number) (sym same) ∙ z))));
                   keeps = same;
                   crash = λ may l. subst (λ (rs : List Run). Leaves last (with_puts runs r.entries ∷ rs ∷ [])) (finished_as runs h sound) (crash (with_puts runs r.entries) [] (stands runs h) (after_all runs h every.taken));
                   printed = record { failed = g; shows = (tells_both was mid now false f g (lines r.entries) (utf8 (refusal_line why)) r.says s).more; exits = e };
@@ -169,12 +169,12 @@ module _ {L R : Type 0} (starts : L → Job → Role → StartAnswer → L → T
         }
 
         -- every case was recorded
-        pub ran_all : (due : ℕ) → ((runs : List Run) → Stands after runs → Stands last (finish number runs)) → ((runs : List Run) → Stands after runs → Leaves last (finish number runs ∷ [])) → Says mid f now g (utf8 (totals_text totals.good totals.total totals.bad)) → due ≡ (if totals.bad == 0 then 0 else 1) → exit ≡ (if g then 2 else due)
-            → RanPlan starts waits Stands Sound Leaves plan moment old new store last was now exit
+        pub ran_all : (due : ℕ) → ((runs : List Run) → Stands after runs → Stands last (finish number runs)) → ((runs : List Run) → Stands after runs → Leaves last (finish number runs ∷ [])) → Says mid f now g (ending totals.good totals.total totals.bad words unmatched) → due ≡ exit_of totals.bad unmatched → exit ≡ (if g then 2 else due)
+            → RanPlan starts waits Stands Sound Leaves plan n words unmatched moment old new store last was now exit
         ran_all due finished lasts s d e =
             let es = r.entries in
-            let text : totals_text totals.good totals.total totals.bad ≡ totals_text (good_count es) (length es) (bad_count es) =
-            ap (λ (x : ℕ). totals_text x totals.total totals.bad) every.counts.good ∙ ap (λ (x : ℕ). totals_text (good_count es) x totals.bad) every.counts.total ∙ ap (λ (x : ℕ). totals_text (good_count es) (length es) x) every.counts.bad in
+            let text : ending totals.good totals.total totals.bad words unmatched ≡ ending (good_count es) (length es) (bad_count es) words unmatched =
+            ap (λ (x : ℕ). ending x totals.total totals.bad words unmatched) every.counts.good ∙ ap (λ (x : ℕ). ending (good_count es) x totals.bad words unmatched) every.counts.total ∙ ap (λ (x : ℕ). ending (good_count es) (length es) x words unmatched) every.counts.bad in
             record {
               trace = r.trace;
               leads = r.leads;
@@ -183,14 +183,14 @@ module _ {L R : Type 0} (starts : L → Job → Role → StartAnswer → L → T
                 stands = finished (with_puts runs es) (stands runs h);
                 earlier = λ sound. earlier runs h (sound_begun runs h (sound_after runs h sound));
                 done = λ sound. record {
-                  deed = record { runs = with_new runs moment plan true es; bytes = results es; exit = results_exit es; beside = λ may. [] };
+                  deed = record { runs = with_new runs moment plan true es; bytes = results es words unmatched; exit = results_exit es unmatched; beside = λ may. [] };
                   is = inl (all_recorded es every.all);
                   keeps = finished_as runs h sound;
                   crash = λ may l. lasts (with_puts runs es) (stands runs h);
                   printed = record {
                     failed = g;
-                    shows = (subst (λ (x : List ℕ). Says was false now g (lines es ++ utf8 x)) text (tells_both was mid now false f g (lines es) (utf8 (totals_text totals.good totals.total totals.bad)) r.says s)).more;
-                    exits = e ∙ ap (λ (x : ℕ). if g then 2 else x) (d ∙ ap (λ (x : ℕ). if x == 0 then 0 else 1) every.counts.bad);
+                    shows = (subst (λ (x : List ℕ). Says was false now g (lines es ++ x)) text (tells_both was mid now false f g (lines es) (ending totals.good totals.total totals.bad words unmatched) r.says s)).more;
+                    exits = e ∙ ap (λ (x : ℕ). if g then 2 else x) (d ∙ ap (λ (x : ℕ). exit_of x unmatched) every.counts.bad);
                   };
                 };
               };

@@ -4,9 +4,9 @@ use Rattle.std.proofs.Common.{◌≡◌, ℕ, Bool, true, false, List, [], ◌�
 use Rattle.kt_base.specs.Shows.{Shows}
 use Rattle.kt_base.specs.Utf8.{utf8}
 use Rattle.kt_base.proofs.Showing.{shows_both, shows_more, appends_none, utf8-append}
-use Rattle.kt_suite.specs.declared.program.Program.{Program}
+use Rattle.kt_cli.specs.declared.candidate.Candidate.{Candidate}
 use Rattle.kt_cli.specs.Pages.{Says, SaysMore}
-use Rattle.kt_cli.specs.Listings.{case_line}
+use Rattle.kt_cli.specs.CaseLines.{case_line}
 
 -- more is said on a page
 says_more : (a b d : Option (List ℕ)) (f g : Bool) (xs ys : List ℕ) → Shows a b f xs → SaysMore b f d g ys → Shows a d g (xs ++ ys)
@@ -35,28 +35,29 @@ pub tells_both : (a b d : Option (List ℕ)) (f g h : Bool) (xs ys : List ℕ) �
 tells_both a b d f g h xs ys p q = record { more = says_bytes a b d f g h xs ys p.more q.more }
 
 -- what was said, and what is still to be listed
-pub record Lists (a b : Option (List ℕ)) (failed : Bool) (programs rest : List Program) : Type 0 where
+pub record Lists (a b : Option (List ℕ)) (failed : Bool) (cases rest : List Candidate) : Type 0 where
   pub said : List ℕ
-  pub split : flat_map case_line programs ≡ said ++ flat_map case_line rest
+  pub split : flat_map case_line cases ≡ said ++ flat_map case_line rest
   pub shows : Shows a b failed (utf8 said)
 
-pub lists_first : (a : Option (List ℕ)) (programs : List Program) → Lists a a false programs programs
-lists_first a programs = record { said = []; split = refl; shows = appends_none a }
+pub lists_first : (a : Option (List ℕ)) (cases : List Candidate) → Lists a a false cases cases
+lists_first a cases = record { said = []; split = refl; shows = appends_none a }
 
-pub lists_more : (a b d : Option (List ℕ)) (f g : Bool) (programs rest later : List Program) (program : Program) → rest ≡ program ∷ later → Lists a b f programs rest → Says b f d g (utf8 (case_line program)) → Lists a d g programs later
-lists_more a b d f g programs rest later program e l p = record {
-  said = l.said ++ case_line program;
-  split = l.split ∙ ap (λ (xs : List Program). l.said ++ flat_map case_line xs) e ∙ sym (append_assoc l.said (case_line program) (flat_map case_line later));
-  shows = (says_both a b d false f g l.said (case_line program) (record { more = l.shows }) p).more;
+pub lists_more : (a b d : Option (List ℕ)) (f g : Bool) (cases rest later : List Candidate) (case : Candidate) → rest ≡ case ∷ later → Lists a b f cases rest → Says b f d g (utf8 (case_line case)) → Lists a d g cases later
+lists_more a b d f g cases rest later case e l p = record {
+  said = l.said ++ case_line case;
+  split = l.split ∙ ap (λ (xs : List Candidate). l.said ++ flat_map case_line xs) e ∙ sym (append_assoc l.said (case_line case) (flat_map case_line later));
+  shows = (says_both a b d false f g l.said (case_line case) (record { more = l.shows }) p).more;
 }
 
-nothing : {X : Type 0} (xs : List X) → length xs ≡ 0 → xs ≡ []
+-- a list of no length is empty
+pub nothing : {X : Type 0} (xs : List X) → length xs ≡ 0 → xs ≡ []
 nothing [] e = refl
 nothing (x ∷ xs) e = absurd (omega (arith, e))
 
-pub lists_all : (a b : Option (List ℕ)) (f : Bool) (programs rest : List Program) → length rest ≡ 0 → Lists a b f programs rest → Shows a b f (utf8 (flat_map case_line programs))
-lists_all a b f programs rest e l =
-    subst (λ (xs : List ℕ). Shows a b f (utf8 xs)) (sym (l.split ∙ ap (λ (xs : List Program). l.said ++ flat_map case_line xs) (nothing rest e) ∙ append-nil l.said)) l.shows
+pub lists_all : (a b : Option (List ℕ)) (f : Bool) (cases rest : List Candidate) → length rest ≡ 0 → Lists a b f cases rest → Shows a b f (utf8 (flat_map case_line cases))
+lists_all a b f cases rest e l =
+    subst (λ (xs : List ℕ). Shows a b f (utf8 xs)) (sym (l.split ∙ ap (λ (xs : List Candidate). l.said ++ flat_map case_line xs) (nothing rest e) ∙ append-nil l.said)) l.shows
 
 -- the same bytes were said
 pub says_same : (a b : Option (List ℕ)) (f g : Bool) (xs ys : List ℕ) → xs ≡ ys → Says a f b g xs → Says a f b g ys

@@ -96,19 +96,19 @@ module _ {R : Type 0} (Stands : R → List Run → Type 0) (Sound : R → Type 0
     done = λ sound. record { deed = record { runs = runs; bytes = bytes; exit = due; beside = λ may. may }; is = p sound; keeps = refl; crash = λ may l. m.crash runs may h l; printed = record { failed = f; shows = s; exits = e } };
   }
 
-  pub left_told : (number : Option ℕ) (kinds : List Kind) (run : Run) (f : Bool) → (Sound new → chosen number runs ≡ Some run) → ((date : Date) × IsDateOf run.started date × Shows was now f (text_bytes date kinds run)) → exit ≡ (if f then 2 else 0)
-      → Left Stands Sound Leaves runs old new was now exit (λ deed. Reported number kinds runs deed ⊎ Unread runs deed)
-  left_told number kinds run f c d e = left_by (λ deed. Reported number kinds runs deed ⊎ Unread runs deed) f (text_bytes d.0 kinds run) 0 (λ sound. inl (told run d.0 (c sound) d.1)) d.2 e
+  pub left_told : (number : Option ℕ) (kinds : List Kind) (verbose : Bool) (run : Run) (f : Bool) → (Sound new → chosen number runs ≡ Some run) → ((date : Date) × IsDateOf run.started date × Shows was now f (text_bytes date kinds verbose run)) → exit ≡ (if f then 2 else 0)
+      → Left Stands Sound Leaves runs old new was now exit (λ deed. Reported number kinds verbose runs deed ⊎ Unread runs deed)
+  left_told number kinds verbose run f c d e = left_by (λ deed. Reported number kinds verbose runs deed ⊎ Unread runs deed) f (text_bytes d.0 kinds verbose run) 0 (λ sound. inl (told run d.0 (c sound) d.1)) d.2 e
 
-  not_told : (number : Option ℕ) (kinds : List Kind) (why : NotShown) → IsNotShown number runs why
-      → (Reported number kinds runs (record { runs = runs; bytes = utf8 (not_shown_line why); exit = 2; beside = λ may. may })) ⊎ (Unread runs (record { runs = runs; bytes = utf8 (not_shown_line why); exit = 2; beside = λ may. may }))
-  not_told number kinds NoRuns n = inl (subst (λ (xs : List ℕ). Reported number kinds runs (record { runs = runs; bytes = utf8 xs; exit = 2; beside = λ may. may })) n.1 (no_run n.0))
-  not_told number kinds (NoRun k) n = inl (subst (λ (xs : List ℕ). Reported number kinds runs (record { runs = runs; bytes = utf8 xs; exit = 2; beside = λ may. may })) n.1 (no_run n.0))
-  not_told number kinds (Refused fault) n = inr (unread fault n)
+  not_told : (number : Option ℕ) (kinds : List Kind) (verbose : Bool) (why : NotShown) → IsNotShown number runs why
+      → (Reported number kinds verbose runs (record { runs = runs; bytes = utf8 (not_shown_line why); exit = 2; beside = λ may. may })) ⊎ (Unread runs (record { runs = runs; bytes = utf8 (not_shown_line why); exit = 2; beside = λ may. may }))
+  not_told number kinds verbose NoRuns n = inl (subst (λ (xs : List ℕ). Reported number kinds verbose runs (record { runs = runs; bytes = utf8 xs; exit = 2; beside = λ may. may })) n.1 (no_run n.0))
+  not_told number kinds verbose (NoRun k) n = inl (subst (λ (xs : List ℕ). Reported number kinds verbose runs (record { runs = runs; bytes = utf8 xs; exit = 2; beside = λ may. may })) n.1 (no_run n.0))
+  not_told number kinds verbose (Refused fault) n = inr (unread fault n)
 
-  pub left_untold : (number : Option ℕ) (kinds : List Kind) (why : NotShown) (f : Bool) → (Sound new → IsNotShown number runs why) → Shows was now f (utf8 (not_shown_line why)) → exit ≡ (if f then 2 else 2)
-      → Left Stands Sound Leaves runs old new was now exit (λ deed. Reported number kinds runs deed ⊎ Unread runs deed)
-  left_untold number kinds why f n s e = left_by (λ deed. Reported number kinds runs deed ⊎ Unread runs deed) f (utf8 (not_shown_line why)) 2 (λ sound. not_told number kinds why (n sound)) s e
+  pub left_untold : (number : Option ℕ) (kinds : List Kind) (verbose : Bool) (why : NotShown) (f : Bool) → (Sound new → IsNotShown number runs why) → Shows was now f (utf8 (not_shown_line why)) → exit ≡ (if f then 2 else 2)
+      → Left Stands Sound Leaves runs old new was now exit (λ deed. Reported number kinds verbose runs deed ⊎ Unread runs deed)
+  left_untold number kinds verbose why f n s e = left_by (λ deed. Reported number kinds verbose runs deed ⊎ Unread runs deed) f (utf8 (not_shown_line why)) 2 (λ sound. not_told number kinds verbose why (n sound)) s e
 
   pub left_junit : (number : Option ℕ) (run : Run) (f : Bool) → (Sound new → chosen number runs ≡ Some run) → Shows was now f (junit_bytes run) → exit ≡ (if f then 2 else 0) → Left Stands Sound Leaves runs old new was now exit (λ deed. ReportedJunit number runs deed ⊎ (Unread runs deed ⊎ JunitCut number runs deed))
   left_junit number run f c s e = left_by (λ deed. ReportedJunit number runs deed ⊎ (Unread runs deed ⊎ JunitCut number runs deed)) f (junit_bytes run) 0 (λ sound. inl (told_junit run (c sound))) s e

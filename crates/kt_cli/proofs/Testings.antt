@@ -1,35 +1,52 @@
 -- A command over a world and a store.
-use Rattle.std.specs.Prelude.{Option, Ok, Err, Bool, false, if◌then◌else◌}
-use Rattle.std.proofs.Common.{◌≡◌, ℕ, List, [], ◌∷◌, refl, sym, ap, ◌∙◌, subst, ◌⊎◌, inl, inr}
+use Rattle.std.specs.Prelude.{Option, Some, Result, Ok, Err, Bool, true, false, length, take, ◌≤◌, ◌==◌, if◌then◌else◌, IfOk, flat_map}
+use Rattle.std.proofs.Common.{◌≡◌, ℕ, List, [], ◌∷◌, ◌++◌, refl, sym, ap, ◌∙◌, subst, ◌⊎◌, inl, inr, arith}
 use Rattle.kt_base.specs.Utf8.{utf8}
-use Rattle.kt_base.specs.Shows.{Shows}
 use Rattle.kt_base.specs.declared.kind.Kind.{Kind}
 use Rattle.kt_base.specs.declared.role.Role.{Role}
 use Rattle.kt_base.specs.declared.run.Run.{Run}
+use Rattle.kt_metadata.specs.declared.host.Host.{Host}
 use Rattle.kt_sched.specs.Children.{Child, IsIdle}
 use Rattle.kt_sched.specs.declared.job.Job.{Job}
 use Rattle.kt_sched.specs.declared.start_answer.StartAnswer.{StartAnswer}
 use Rattle.kt_sched.specs.declared.ended.Ended.{Ended}
-use Rattle.kt_sched.specs.Trace.{NoEvent}
-use Rattle.kt_suite.specs.declared.program.Program.{Program}
-use Rattle.kt_suite.specs.declared.fault.SuiteFault.{SuiteFault}
+use Rattle.kt_sched.specs.Trace.{Trace, NoEvent, Leads}
 use Rattle.kt_suite.specs.Answers.{Asked, Chain, Answered}
-use Rattle.kt_suite.specs.Registered.{Outcome}
+use Rattle.kt_suite.specs.Selecting.{most_items}
+use Rattle.kt_cli.specs.declared.candidate.Candidate.{Candidate}
+use Rattle.kt_cli.specs.declared.case_options.CaseOptions.{CaseOptions}
+use Rattle.kt_cli.specs.declared.chosen.Chosen.{Chosen}
 use Rattle.kt_cli.specs.declared.command.Command.{Command}
 use Rattle.kt_cli.specs.declared.command.Command.TheVariants as command
-use Rattle.kt_cli.specs.FaultLines.{memory_line, fault_line}
-use Rattle.kt_cli.specs.Listings.{listing, listing_exit, Loads, RanShort, Listed}
-use Rattle.kt_cli.specs.Meaning.{Seen, Means, listed, untested, tested, reported, reported_junit, CutShort, no_memory as short, cut, report_cut, junit_cut, Did, RanPlan, Tested, TestCut, IsTreeAlone, IsUnasked, IsBegun}
+use Rattle.kt_cli.specs.declared.picked.Picked.{Picked}
+use Rattle.kt_cli.specs.declared.settings.Settings.{Settings}
+use Rattle.kt_cli.specs.declared.stop.Stop.{Stop}
+use Rattle.kt_cli.specs.Collecting.{Collects, Collected}
+use Rattle.kt_base.specs.declared.entry.Entry.{Entry}
+use Rattle.kt_base.specs.declared.no_memory.NoMemory.{NoMemory as OutOfMemory}
+use Rattle.kt_sched.specs.declared.run_fault.RunFault.{RunFault}
+use Rattle.kt_sched.specs.declared.run_fault.RunFault.TheVariants.{NoMemory}
+use Rattle.kt_sched.specs.declared.totals.Totals.{Totals}
+use Rattle.kt_sched.specs.Run.{Counts}
+use Rattle.kt_cli.specs.Commands.{cases_of, needs_case}
+use Rattle.kt_cli.specs.Configuring.{Settles}
+use Rattle.kt_cli.specs.Debugging.{Debugged, DebugEnds, all_debug_bytes, debug_exit}
+use Rattle.kt_cli.specs.FaultLines.{memory_line}
+use Rattle.kt_cli.specs.Meaning.{Seen, Course, Selects, unsettled, uncollected, selected, listing, listing_exit, IsPrepared, IsUnasked, only_tells, Means, stopped, listed, tested, debugged, idle, reported, reported_junit, CutShort, no_memory, cut, report_cut, junit_cut, asked_only, ToldOnly, Did}
 use Rattle.kt_cli.specs.Pages.{Printed, Says}
-use Rattle.kt_cli.specs.Plans.{plan_of}
+use Rattle.kt_cli.specs.Planning.{Surveys, ArePlanned}
+use Rattle.kt_cli.specs.Questions.{Question, leads_by, of_tree, of_host}
 use Rattle.kt_cli.specs.Reports.{Reported, ReportedJunit, Unread, JunitCut}
+use Rattle.kt_cli.specs.Stops.{IsShort, stop_line, stop_exit}
+use Rattle.kt_base.specs.Shows.{Shows}
+use Rattle.kt_cli.specs.CaseLines.{case_line}
 use Rattle.kt_cli.specs.Stores.{Deed, Left}
+use Rattle.kt_cli.specs.Testing.{none_idle, Tested, TestCut, RanPlan}
 use Rattle.kt_cli.specs.Told.{Told, Now}
-
--- what no question changes, many don't
-still : {S Q X : Type 0} (leads : S → Q → S → Type 0) (view : S → X) → ((s t : S) (q : Q) → leads s q t → view t ≡ view s) → (qs : List Q) (a b : S) → Chain leads qs a b → view b ≡ view a
-still leads view keeps [] a b h = ap view h
-still leads view keeps (q ∷ qs) a b h = still leads view keeps qs h.0 b h.2 ∙ keeps a h.0 q h.1
+use Rattle.kt_cli.specs.Recordings.{AllRecorded}
+use Rattle.kt_cli.specs.Warnings.{warnings}
+use Rattle.kt_cli.proofs.Saying.{tells_both}
+use Rattle.kt_cli.proofs.QuestionChains.{chain_both, chain_of_host, chain_of_tree}
 
 -- a deed that may be told in other words
 pub left_as : {R : Type 0} (Stands : R → List Run → Type 0) (Sound : R → Type 0) (Leaves : R → List (List Run) → Type 0) (runs : List Run) (old new : R) (was now : Option (List ℕ)) (exit : ℕ) (P Q : Deed → Type 0) → ((deed : Deed) → P deed → Q deed) → Left Stands Sound Leaves runs old new was now exit P → Left Stands Sound Leaves runs old new was now exit Q
@@ -40,115 +57,303 @@ left_as Stands Sound Leaves runs old new was now exit P Q k l = record {
   done = λ sound. let d = l.done sound in record { deed = d.deed; is = k d.deed d.is; keeps = d.keeps; crash = d.crash; printed = d.printed };
 }
 
+-- the same answer in other words
+pub debugged_as : {L : Type 0} (starts : L → Job → Role → StartAnswer → L → Type 0) (waits : L → Ended → L → Type 0) (plan : List Job) (old new : L) (was now : Option (List ℕ)) (failed : Bool) (answer other : Result Totals RunFault) → answer ≡ other
+    → Debugged starts waits plan old new was now failed answer → Debugged starts waits plan old new was now failed other
+debugged_as starts waits plan old new was now failed answer other e d = subst (λ (x : Result Totals RunFault). Debugged starts waits plan old new was now failed x) e d
+
+printed_pages : (cases : List Candidate) (words : List (List ℕ)) (unmatched : List ℕ) (was mid now : Option (List ℕ)) (f g : Bool) (exit due : ℕ)
+    → Shows was mid f (utf8 (flat_map case_line cases)) → Says mid f now g (utf8 (warnings words unmatched)) → due ≡ (if none_idle unmatched then 0 else 1) → exit ≡ (if g then 2 else due)
+    → Printed was now exit (utf8 (flat_map case_line cases) ++ utf8 (warnings words unmatched)) (if none_idle unmatched then 0 else 1)
+printed_pages cases words unmatched was mid now f g exit due s w d e = record {
+  failed = g;
+  shows = (tells_both was mid now false f g (utf8 (flat_map case_line cases)) (utf8 (warnings words unmatched)) (record { more = s }) w).more;
+  exits = e ∙ ap (λ (x : ℕ). if g then 2 else x) d;
+}
+
+-- a listing was told, and its warnings
+pub printed_listing : (options : CaseOptions) (picked : Picked) (cases : List Candidate) (words : List (List ℕ)) (unmatched : List ℕ) (was mid now : Option (List ℕ)) (f g : Bool) (exit due : ℕ)
+    → cases ≡ picked.chosen.cases → words ≡ options.filters → unmatched ≡ picked.chosen.unmatched
+    → Shows was mid f (utf8 (flat_map case_line cases)) → Says mid f now g (utf8 (warnings words unmatched)) → due ≡ (if none_idle unmatched then 0 else 1) → exit ≡ (if g then 2 else due)
+    → Printed was now exit (listing options.filters picked.chosen) (listing_exit picked.chosen)
+printed_listing options picked cases words unmatched was mid now f g exit due a b d s w k e =
+    subst (λ (xs : List Candidate). Printed was now exit (utf8 (flat_map case_line xs) ++ utf8 (warnings options.filters picked.chosen.unmatched)) (listing_exit picked.chosen)) a
+    (subst (λ (xs : List (List ℕ)). Printed was now exit (utf8 (flat_map case_line cases) ++ utf8 (warnings xs picked.chosen.unmatched)) (listing_exit picked.chosen)) b
+    (subst (λ (xs : List ℕ). Printed was now exit (utf8 (flat_map case_line cases) ++ utf8 (warnings words xs)) (if none_idle xs then 0 else 1)) d
+    (printed_pages cases words unmatched was mid now f g exit due s w k e)))
+
+-- want of memory was told
+pub printed_memory : (was now : Option (List ℕ)) (f : Bool) (exit : ℕ) → Says was false now f (utf8 memory_line) → exit ≡ (if f then 2 else 2) → Printed was now exit (utf8 memory_line) 2
+printed_memory was now f exit s e = record { failed = f; shows = s.more; exits = e }
+
+-- a plan is no longer than its cases
+pub plan_few : (cases given : List Candidate) (plan : List Job) → given ≡ cases → length plan ≡ length given → length cases ≤ most_items → length plan ≤ most_items
+plan_few cases given plan e f l = subst (λ (k : ℕ). k ≤ most_items) (sym (f ∙ ap length e)) l
+
 module _ {W : Type 0} (asks : W → Asked → W → Type 0) (tells : W → Told → W → Type 0) (starts : W → Job → Role → StartAnswer → W → Type 0) (waits : W → Ended → W → Type 0) where
-  -- a world is idle as before, after questions to its tree
-  pub idle_after : (running : W → ℕ → Role → Option Child) (pending : W → ℕ → Bool)
-      → ((s t : W) (q : Asked) → asks s q t → (k : ℕ) (r : Role) → running t k r ≡ running s k r) → ((s t : W) (q : Asked) → asks s q t → (k : ℕ) → pending t k ≡ pending s k)
-      → (old new : W) (qs : List Asked) → Chain asks qs old new → IsIdle (running old) (pending old) → IsIdle (running new) (pending new)
-  idle_after running pending a b old new qs h i = record {
-    runs = λ k r. still asks (λ s. running s k r) (λ s u q x. a s u q x k r) qs old new h ∙ i.runs k r;
-    pends = λ k. still asks (λ s. pending s k) (λ s u q x. b s u q x k) qs old new h ∙ i.pends k;
+  -- a world is idle as before, after a question to its host
+  pub idle_told : (running : W → ℕ → Role → Option Child) (pending : W → ℕ → Bool)
+      → ((s t : W) (q : Told) → tells s q t → (k : ℕ) (r : Role) → running t k r ≡ running s k r) → ((s t : W) (q : Told) → tells s q t → (k : ℕ) → pending t k ≡ pending s k)
+      → (mid new : W) (m : Told) → tells mid m new → IsIdle (running mid) (pending mid) → IsIdle (running new) (pending new)
+  idle_told running pending d e mid new m t j = record { runs = λ k r. d mid new m t k r ∙ j.runs k r; pends = λ k. e mid new m t k ∙ j.pends k }
+
+  -- the settings were refused
+  pub unsettled_answer : (needed : Bool) (options : CaseOptions) (old new : W) (fault : Stop)
+      → Answered tells old new (λ told. IsShort {T = Settings} (Err fault) ⊎ Settles needed options told (Err fault))
+      → Answered (leads_by asks tells) old new (λ questions. IsShort {T = Picked} (Err fault) ⊎ Selects needed options questions (Err fault))
+  unsettled_answer needed options old new fault a = record {
+    asked = of_host a.asked;
+    chain = chain_of_host asks tells a.asked old new a.chain;
+    holds = elim a.holds [ inl s ↦ inl s | inr s ↦ inr (unsettled a.asked fault s) ];
   }
 
-  -- and after one to its host
-  pub idle_on : (running : W → ℕ → Role → Option Child) (pending : W → ℕ → Bool)
-      → ((s t : W) (q : Asked) → asks s q t → (k : ℕ) (r : Role) → running t k r ≡ running s k r) → ((s t : W) (q : Asked) → asks s q t → (k : ℕ) → pending t k ≡ pending s k)
-      → ((s t : W) (q : Told) → tells s q t → (k : ℕ) (r : Role) → running t k r ≡ running s k r) → ((s t : W) (q : Told) → tells s q t → (k : ℕ) → pending t k ≡ pending s k)
-      → (old mid new : W) (qs : List Asked) (m : Told) → Chain asks qs old mid → tells mid m new → IsIdle (running old) (pending old) → IsIdle (running new) (pending new)
-  idle_on running pending a b d e old mid new qs m h t i =
-      let j = idle_after running pending a b old mid qs h i in
-      record { runs = λ k r. d mid new m t k r ∙ j.runs k r; pends = λ k. e mid new m t k ∙ j.pends k }
+  settled_is : (needed : Bool) (options : CaseOptions) (told : List Told) (settings : Settings) → IsShort {T = Settings} (Ok settings) ⊎ Settles needed options told (Ok settings) → Settles needed options told (Ok settings)
+  settled_is needed options told settings (inl s) = absurd s
+  settled_is needed options told settings (inr s) = s
+
+  chain_to : (told : List Told) (asked : List Asked) (lists : List Told) (a b d e : W) → Chain tells told a b → Chain asks asked b d → Chain tells lists d e
+      → Chain (leads_by asks tells) (of_host told ++ (of_tree asked ++ of_host lists)) a e
+  chain_to told asked lists a b d e x y z =
+      chain_both (leads_by asks tells) (of_host told) (of_tree asked ++ of_host lists) a b e (chain_of_host asks tells told a b x)
+      (chain_both (leads_by asks tells) (of_tree asked) (of_host lists) b d e (chain_of_tree asks tells asked b d y) (chain_of_host asks tells lists d e z))
+
+  -- the tree was refused, or its cases
+  pub uncollected_answer : (needed : Bool) (options : CaseOptions) (old mid new : W) (settings : Settings) (fault : Stop)
+      → Answered tells old mid (λ told. IsShort {T = Settings} (Ok settings) ⊎ Settles needed options told (Ok settings))
+      → Collected asks tells settings options.kyuafile mid new (Err fault)
+      → Answered (leads_by asks tells) old new (λ questions. IsShort {T = Picked} (Err fault) ⊎ Selects needed options questions (Err fault))
+  uncollected_answer needed options old mid new settings fault a c = record {
+    asked = of_host a.asked ++ (of_tree c.asked ++ of_host c.told);
+    chain = chain_to a.asked c.asked c.told old mid c.loaded new a.chain c.chain c.lists;
+    holds = elim c.holds [ inl s ↦ inl s | inr s ↦ inr (uncollected a.asked settings c.asked c.told fault (settled_is needed options a.asked settings a.holds) s) ];
+  }
+
+  collects_is : (settings : Settings) (kyuafile : List ℕ) (asked : List Asked) (lists : List Told) (chosen : Chosen) → IsShort {T = Chosen} (Ok chosen) ⊎ Collects settings kyuafile asked lists (Ok chosen) → Collects settings kyuafile asked lists (Ok chosen)
+  collects_is settings kyuafile asked lists chosen (inl s) = absurd s
+  collects_is settings kyuafile asked lists chosen (inr s) = s
+
+  -- cases were selected
+  pub selected_answer : (needed : Bool) (options : CaseOptions) (old mid new : W) (settings : Settings) (chosen : Chosen)
+      → Answered tells old mid (λ told. IsShort {T = Settings} (Ok settings) ⊎ Settles needed options told (Ok settings))
+      → Collected asks tells settings options.kyuafile mid new (Ok chosen)
+      → Answered (leads_by asks tells) old new (λ questions. IsShort {T = Picked} (Ok (record { settings = settings; chosen = chosen })) ⊎ Selects needed options questions (Ok (record { settings = settings; chosen = chosen })))
+  selected_answer needed options old mid new settings chosen a c = record {
+    asked = of_host a.asked ++ (of_tree c.asked ++ of_host c.told);
+    chain = chain_to a.asked c.asked c.told old mid c.loaded new a.chain c.chain c.lists;
+    holds = inr (selected a.asked settings c.asked c.told chosen (settled_is needed options a.asked settings a.holds) (collects_is settings options.kyuafile c.asked c.told chosen c.holds));
+  }
+
+  -- nothing was started
+  course_of : (questions : List Question) (old new : W) → Chain (leads_by asks tells) questions old new → Course asks tells starts waits (asked_only questions) old new
+  course_of questions old new p = record { begun = new; asked = p; ran = refl }
+
+  told_only : (c : Command) (old new : W) (was now : Option (List ℕ)) (exit : ℕ) (questions : List Question) (bytes : List ℕ) (due : ℕ) → Chain (leads_by asks tells) questions old new
+      → ((runs : List Run) → Means (asked_only questions) runs c (only_tells runs bytes due) ⊎ CutShort (asked_only questions) runs c (only_tells runs bytes due))
+      → Printed was now exit bytes due → ToldOnly asks tells starts waits c old new was now exit
+  told_only c old new was now exit questions bytes due p m q = record { seen = asked_only questions; course = course_of questions old new p; bytes = bytes; due = due; is = m; printed = q }
+
+  stop_means : (c : Command) (options : CaseOptions) (needed : Bool) (questions : List Question) (fault : Stop) (runs : List Run) → cases_of c ≡ Some options → needs_case c ≡ needed
+      → IsShort {T = Picked} (Err fault) ⊎ Selects needed options questions (Err fault)
+      → Means (asked_only questions) runs c (only_tells runs (utf8 (stop_line fault)) (stop_exit fault)) ⊎ CutShort (asked_only questions) runs c (only_tells runs (utf8 (stop_line fault)) (stop_exit fault))
+  stop_means c options needed questions fault runs e n (inl s) =
+      inr (subst (λ (x : Stop). CutShort (asked_only questions) runs c (only_tells runs (utf8 (stop_line x)) (stop_exit x))) (sym s.1) (no_memory c options e refl))
+  stop_means c options needed questions fault runs e n (inr s) =
+      inl (stopped c options fault e (subst (λ (x : Bool). Selects x options questions (Err fault)) (sym n) s) refl)
+
+  -- a fault of the steps ended the command
+  pub stopped_only : (c : Command) (options : CaseOptions) (needed : Bool) (old new : W) (was now : Option (List ℕ)) (exit : ℕ) (fault : Stop) → cases_of c ≡ Some options → needs_case c ≡ needed
+      → Answered (leads_by asks tells) old new (λ questions. IsShort {T = Picked} (Err fault) ⊎ Selects needed options questions (Err fault))
+      → Printed was now exit (utf8 (stop_line fault)) (stop_exit fault) → ToldOnly asks tells starts waits c old new was now exit
+  stopped_only c options needed old new was now exit fault e n a p =
+      told_only c old new was now exit a.asked (utf8 (stop_line fault)) (stop_exit fault) a.chain (λ runs. stop_means c options needed a.asked fault runs e n a.holds) p
+
+  picked_is : (needed : Bool) (options : CaseOptions) (questions : List Question) (picked : Picked) → IsShort {T = Picked} (Ok picked) ⊎ Selects needed options questions (Ok picked) → Selects needed options questions (Ok picked)
+  picked_is needed options questions picked (inl s) = absurd s
+  picked_is needed options questions picked (inr s) = s
+
+  -- cases were listed
+  pub listed_only : (options : CaseOptions) (old new : W) (was now : Option (List ℕ)) (exit : ℕ) (picked : Picked)
+      → Answered (leads_by asks tells) old new (λ questions. IsShort {T = Picked} (Ok picked) ⊎ Selects false options questions (Ok picked))
+      → Printed was now exit (listing options.filters picked.chosen) (listing_exit picked.chosen) → ToldOnly asks tells starts waits (command.List options) old new was now exit
+  listed_only options old new was now exit picked a p =
+      told_only (command.List options) old new was now exit a.asked (listing options.filters picked.chosen) (listing_exit picked.chosen) a.chain
+      (λ runs. inl (listed options picked (picked_is false options a.asked picked a.holds) refl)) p
+
+  -- memory ran out before a plan was made
+  pub short_only : (c : Command) (options : CaseOptions) (old mid new : W) (was now : Option (List ℕ)) (exit : ℕ) (Holds : List Question → Type 0) (HoldsToo : List Told → Type 0) → cases_of c ≡ Some options
+      → Answered (leads_by asks tells) old mid Holds → Answered tells mid new HoldsToo
+      → Printed was now exit (utf8 memory_line) 2 → ToldOnly asks tells starts waits c old new was now exit
+  short_only c options old mid new was now exit Holds HoldsToo e a b p =
+      told_only c old new was now exit (a.asked ++ of_host b.asked) (utf8 memory_line) 2 (chain_both (leads_by asks tells) a.asked (of_host b.asked) old mid new a.chain (chain_of_host asks tells b.asked mid new b.chain))
+      (λ runs. inr (no_memory c options e refl)) p
+
+  -- no case was selected for `debug`
+  pub idle_only : (options : CaseOptions) (old new : W) (was now : Option (List ℕ)) (exit : ℕ) (picked : Picked)
+      → Answered (leads_by asks tells) old new (λ questions. IsShort {T = Picked} (Ok picked) ⊎ Selects true options questions (Ok picked)) → picked.chosen.cases ≡ []
+      → Printed was now exit (utf8 (warnings options.filters picked.chosen.unmatched)) 1 → ToldOnly asks tells starts waits (command.Debug options) old new was now exit
+  idle_only options old new was now exit picked a n p =
+      told_only (command.Debug options) old new was now exit a.asked (utf8 (warnings options.filters picked.chosen.unmatched)) 1 a.chain
+      (λ runs. inl (idle options picked (picked_is true options a.asked picked a.holds) n refl)) p
+
+  -- the same by parts of what was selected
+  pub idle_answer : (options : CaseOptions) (old new : W) (was now : Option (List ℕ)) (exit : ℕ) (f : Bool) (picked : Picked) (cases : List Candidate) (words : List (List ℕ)) (unmatched : List ℕ)
+      → Answered (leads_by asks tells) old new (λ questions. IsShort {T = Picked} (Ok picked) ⊎ Selects true options questions (Ok picked)) → cases ≡ picked.chosen.cases → cases ≡ []
+      → words ≡ options.filters → unmatched ≡ picked.chosen.unmatched → Says was false now f (utf8 (warnings words unmatched)) → exit ≡ (if f then 2 else 1)
+      → ToldOnly asks tells starts waits (command.Debug options) old new was now exit
+  idle_answer options old new was now exit f picked cases words unmatched a x n b d s e =
+      idle_only options old new was now exit picked a (sym x ∙ n)
+      (record {
+        failed = f;
+        shows = subst (λ (ws : List (List ℕ)). Shows was now f (utf8 (warnings ws picked.chosen.unmatched))) b (subst (λ (us : List ℕ). Shows was now f (utf8 (warnings words us))) d s.more);
+        exits = e;
+      })
+
+  -- what the host was asked for some cases, and their plan
+  abbrev pub Prepares : Picked → List Candidate → List Job → List Told → Type 0
+  Prepares picked cases plan told = (host : Host) × Surveys cases told host × ArePlanned picked.settings.config host 0 cases plan
+
+  -- one case was run for `debug`
+  pub debug_only : (options : CaseOptions) (old mid begun new : W) (was now : Option (List ℕ)) (exit : ℕ) (picked : Picked) (first : Candidate) (others : List Candidate) (plan : List Job) (failed : Bool) (totals : Totals)
+      → Answered (leads_by asks tells) old mid (λ questions. IsShort {T = Picked} (Ok picked) ⊎ Selects true options questions (Ok picked)) → picked.chosen.cases ≡ first ∷ others
+      → Answered tells mid begun (Prepares picked (first ∷ []) plan)
+      → Debugged starts waits plan begun new was now failed (Ok totals) → exit ≡ (if failed then 2 else (if totals.bad == 0 then 0 else 1))
+      → ToldOnly asks tells starts waits (command.Debug options) old new was now exit
+  debug_only options old mid begun new was now exit picked first others plan failed totals a n b d e = record {
+    seen = record { questions = a.asked ++ (of_host b.asked ++ []); plan = plan; trace = d.trace };
+    course = record {
+      begun = begun;
+      asked = chain_both (leads_by asks tells) a.asked (of_host b.asked ++ []) old mid begun a.chain (chain_both (leads_by asks tells) (of_host b.asked) [] mid begun begun (chain_of_host asks tells b.asked mid begun b.chain) refl);
+      ran = d.leads;
+    };
+    bytes = all_debug_bytes d.entries;
+    due = debug_exit d.entries;
+    is = λ runs. inl (debugged options picked first others d.entries n (record {
+      before = a.asked;
+      selects = picked_is true options a.asked picked a.holds;
+      told = b.asked;
+      host = b.holds.0;
+      surveys = b.holds.1;
+      asked = refl;
+      planned = b.holds.2;
+    }) d.ends.0);
+    printed = record { failed = failed; shows = d.says.more; exits = e ∙ ap (λ (x : ℕ). if failed then 2 else (if x == 0 then 0 else 1)) d.ends.1.bad };
+  }
+
+  -- the same by parts of what was selected
+  pub debug_parts : (options : CaseOptions) (old mid begun new : W) (was now : Option (List ℕ)) (exit : ℕ) (picked : Picked) (first : Candidate) (others cases some : List Candidate) (plan : List Job) (failed : Bool) (totals : Totals) (due : ℕ)
+      → Answered (leads_by asks tells) old mid (λ questions. IsShort {T = Picked} (Ok picked) ⊎ Selects true options questions (Ok picked)) → cases ≡ picked.chosen.cases → cases ≡ first ∷ others → some ≡ take 1 cases
+      → Answered tells mid begun (Prepares picked some plan)
+      → Debugged starts waits plan begun new was now failed (Ok totals) → due ≡ (if totals.bad == 0 then 0 else 1) → exit ≡ (if failed then 2 else due)
+      → ToldOnly asks tells starts waits (command.Debug options) old new was now exit
+  debug_parts options old mid begun new was now exit picked first others cases some plan failed totals due a x n s b d k e =
+      debug_only options old mid begun new was now exit picked first others plan failed totals a (sym x ∙ n)
+      (subst (λ (xs : List Candidate). Answered tells mid begun (Prepares picked xs plan)) (s ∙ ap (λ (xs : List Candidate). take 1 xs) n) b) d (e ∙ ap (λ (y : ℕ). if failed then 2 else y) k)
+
+  -- memory ran out before the case was started
+  pub debug_short : (options : CaseOptions) (old mid begun new : W) (was between now : Option (List ℕ)) (exit : ℕ) (picked : Picked) (plan : List Job) (Holds : List Told → Type 0) (f g : Bool) (refusal : OutOfMemory)
+      → Answered (leads_by asks tells) old mid (λ questions. IsShort {T = Picked} (Ok picked) ⊎ Selects true options questions (Ok picked))
+      → Answered tells mid begun Holds → Debugged starts waits plan begun new was between f (Err (NoMemory refusal)) → Says between f now g (utf8 memory_line) → exit ≡ (if g then 2 else 2)
+      → ToldOnly asks tells starts waits (command.Debug options) old new was now exit
+  debug_short options old mid begun new was between now exit picked plan Holds f g refusal a b d s e =
+      let q = d.ends in
+      record {
+        seen = record { questions = a.asked ++ of_host b.asked; plan = plan; trace = d.trace };
+        course = record { begun = begun; asked = chain_both (leads_by asks tells) a.asked (of_host b.asked) old mid begun a.chain (chain_of_host asks tells b.asked mid begun b.chain); ran = d.leads };
+        bytes = utf8 memory_line;
+        due = 2;
+        is = λ runs. inr (no_memory (command.Debug options) options refl q.0);
+        printed = record { failed = g; shows = (tells_both was between now false f g [] (utf8 memory_line) (subst (λ (es : List Entry). Says was false between f (all_debug_bytes es)) q.1 d.says) s).more; exits = e };
+      }
 
   module _ {R : Type 0} (Stands : R → List Run → Type 0) (Sound : R → Type 0) (Leaves : R → List (List Run) → Type 0) (store : R) (was now : Option (List ℕ)) (exit : ℕ) where
-    done_with_tree : (c : Command) (old new : W) (asked : List Asked) (bytes : List ℕ) (due : ℕ) → Chain asks asked old new
-        → ((runs : List Run)
-        → Means (record { asked = asked; told = []; plan = []; trace = NoEvent }) runs c (record { runs = runs; bytes = bytes; exit = due; beside = λ may. may }) ⊎ CutShort (record { asked = asked; told = []; plan = []; trace = NoEvent }) runs c (record { runs = runs; bytes = bytes; exit = due; beside = λ may. may }))
-        → Printed was now exit bytes due → Did asks tells starts waits Stands Sound Leaves c old new store store was now exit
-    done_with_tree c old new asked bytes due h m p = record {
-      seen = record { asked = asked; told = []; plan = []; trace = NoEvent };
-      course = record { loaded = new; begun = new; asked = h; told = refl; ran = refl };
-      left = λ runs s. record { left = runs; stands = s; earlier = λ sound. sound; done = λ sound. record { deed = record { runs = runs; bytes = bytes; exit = due; beside = λ may. may }; is = m runs; keeps = refl; crash = λ may l. l; printed = p } };
+    -- a command that leaves the runs is a command
+    pub did_told : (c : Command) (old new : W) → ToldOnly asks tells starts waits c old new was now exit → Did asks tells starts waits Stands Sound Leaves c old new store store was now exit
+    did_told c old new t = record {
+      seen = t.seen;
+      course = t.course;
+      left = λ runs s. record {
+        left = runs;
+        stands = s;
+        earlier = λ sound. sound;
+        done = λ sound. record { deed = only_tells runs t.bytes t.due; is = t.is runs; keeps = refl; crash = λ may l. l; printed = t.printed };
+      };
     }
 
-    alone : (asked : List Asked) → IsTreeAlone (record { asked = asked; told = []; plan = []; trace = NoEvent })
-    alone asked = record { told = refl; trace = refl }
-
-    of_listing : (kyuafile : List ℕ) (runs : List Run) (asked : List Asked) (outcome : Outcome) → RanShort outcome ⊎ Loads kyuafile asked outcome
-        → (Means (record { asked = asked; told = []; plan = []; trace = NoEvent }) runs (command.List kyuafile) (record { runs = runs; bytes = utf8 (listing outcome); exit = listing_exit outcome; beside = λ may. may }))
-        ⊎ (CutShort (record { asked = asked; told = []; plan = []; trace = NoEvent }) runs (command.List kyuafile) (record { runs = runs; bytes = utf8 (listing outcome); exit = listing_exit outcome; beside = λ may. may }))
-    of_listing kyuafile runs asked outcome (inl s) =
-        inr (subst (λ (o : Outcome). CutShort (record { asked = asked; told = []; plan = []; trace = NoEvent }) runs (command.List kyuafile) (record { runs = runs; bytes = utf8 (listing o); exit = listing_exit o; beside = λ may. may })) (sym (s.2 ∙ ap (λ (f : SuiteFault). Err f) s.1.1)) (short (command.List kyuafile) kyuafile refl (alone asked)))
-    of_listing kyuafile runs asked outcome (inr r) = inl (listed kyuafile outcome r (alone asked))
-
-    -- `list` is a command
-    pub did_list : (kyuafile : List ℕ) (old new : W) → Listed asks kyuafile old new was now exit → Did asks tells starts waits Stands Sound Leaves (command.List kyuafile) old new store store was now exit
-    did_list kyuafile old new l =
-        done_with_tree (command.List kyuafile) old new l.asked (utf8 (listing l.outcome)) (listing_exit l.outcome) l.chain (λ runs. of_listing kyuafile runs l.asked l.outcome l.loads) l.printed
-
-    of_fault : (kyuafile : List ℕ) (runs : List Run) (asked : List Asked) (fault : SuiteFault) → RanShort (Err fault) ⊎ Loads kyuafile asked (Err fault)
-        → (Means (record { asked = asked; told = []; plan = []; trace = NoEvent }) runs (command.Test kyuafile) (record { runs = runs; bytes = utf8 (fault_line fault); exit = 2; beside = λ may. may }))
-        ⊎ (CutShort (record { asked = asked; told = []; plan = []; trace = NoEvent }) runs (command.Test kyuafile) (record { runs = runs; bytes = utf8 (fault_line fault); exit = 2; beside = λ may. may }))
-    of_fault kyuafile runs asked fault (inl s) =
-        inr (subst (λ (o : Outcome). CutShort (record { asked = asked; told = []; plan = []; trace = NoEvent }) runs (command.Test kyuafile) (record { runs = runs; bytes = utf8 (listing o); exit = 2; beside = λ may. may })) (sym (s.2 ∙ ap (λ (f : SuiteFault). Err f) s.1.1)) (short (command.Test kyuafile) kyuafile refl (alone asked)))
-    of_fault kyuafile runs asked fault (inr r) = inl (untested kyuafile fault r (alone asked))
-
-    -- a fault of the tree
-    pub did_fault : (kyuafile : List ℕ) (old new : W) (fault : SuiteFault) (f : Bool) → Answered asks old new (λ asked. RanShort (Err fault) ⊎ Loads kyuafile asked (Err fault))
-        → Shows was now f (utf8 (fault_line fault)) → exit ≡ (if f then 2 else 2) → Did asks tells starts waits Stands Sound Leaves (command.Test kyuafile) old new store store was now exit
-    did_fault kyuafile old new fault f a s e =
-        done_with_tree (command.Test kyuafile) old new a.asked (utf8 (fault_line fault)) 2 a.chain (λ runs. of_fault kyuafile runs a.asked fault a.holds) (record { failed = f; shows = s; exits = e })
-
-    -- memory ran out before a plan was made
-    pub did_short : (kyuafile : List ℕ) (old new : W) (Holds : List Asked → Type 0) (f : Bool) → Answered asks old new Holds
-        → Says was false now f (utf8 memory_line) → exit ≡ (if f then 2 else 2) → Did asks tells starts waits Stands Sound Leaves (command.Test kyuafile) old new store store was now exit
-    did_short kyuafile old new Holds f a s e =
-        done_with_tree (command.Test kyuafile) old new a.asked (utf8 memory_line) 2 a.chain (λ runs. inr (short (command.Test kyuafile) kyuafile refl (alone a.asked))) (record { failed = f; shows = s.more; exits = e })
-
-    ok_is : (programs : List Program) (asked : List Asked) (kyuafile : List ℕ) → RanShort (Ok programs) ⊎ Loads kyuafile asked (Ok programs) → Loads kyuafile asked (Ok programs)
-    ok_is programs asked kyuafile (inl s) = absurd (let e = s.2 in cc)
-    ok_is programs asked kyuafile (inr r) = r
-
     -- a plan was run
-    pub did_test : (after : R) (kyuafile : List ℕ) (old loaded begun new : W) (programs : List Program) (plan : List Job) (moment : ℕ)
-        → Answered asks old loaded (λ asked. RanShort (Ok programs) ⊎ Loads kyuafile asked (Ok programs)) → plan ≡ plan_of programs → tells loaded (Now moment) begun
-        → RanPlan starts waits Stands Sound Leaves plan moment begun new store after was now exit → Did asks tells starts waits Stands Sound Leaves (command.Test kyuafile) old new store after was now exit
-    did_test after kyuafile old loaded begun new programs plan moment a p t r =
-        let seen : Seen = record { asked = a.asked; told = Now moment ∷ []; plan = plan; trace = r.trace } in
-        let begin : IsBegun seen kyuafile moment = record { programs = programs; loads = ok_is programs a.asked kyuafile a.holds; told = refl; plan = p } in
+    pub did_test : (after : R) (options : CaseOptions) (file : List ℕ) (old mid asked begun new : W) (picked : Picked) (plan : List Job) (moment width : ℕ)
+        → Answered (leads_by asks tells) old mid (λ questions. IsShort {T = Picked} (Ok picked) ⊎ Selects false options questions (Ok picked))
+        → Answered tells mid asked (Prepares picked picked.chosen.cases plan) → tells asked (Now moment) begun → width ≡ picked.settings.config.parallelism
+        → RanPlan starts waits Stands Sound Leaves plan width options.filters picked.chosen.unmatched moment begun new store after was now exit
+        → Did asks tells starts waits Stands Sound Leaves (command.Test options file) old new store after was now exit
+    did_test after options file old mid asked begun new picked plan moment width a b t w r =
+        let seen : Seen = record { questions = a.asked ++ (of_host b.asked ++ of_host (Now moment ∷ [])); plan = plan; trace = r.trace } in
+        let prepared : IsPrepared false options seen picked picked.chosen.cases (Now moment ∷ []) = record {
+          before = a.asked;
+          selects = picked_is false options a.asked picked a.holds;
+          told = b.asked;
+          host = b.holds.0;
+          surveys = b.holds.1;
+          asked = refl;
+          planned = b.holds.2;
+        } in
+        let c = command.Test options file in
+        let n = picked.settings.config.parallelism in
         record {
           seen = seen;
-          course = record { loaded = loaded; begun = begun; asked = a.chain; told = (begun, t, refl); ran = r.leads };
-          left = λ runs h. left_as Stands Sound Leaves runs store after was now exit (λ deed. Tested plan moment r.trace runs deed ⊎ TestCut plan moment r.trace runs deed) (λ deed. Means seen runs (command.Test kyuafile) deed ⊎ CutShort seen runs (command.Test kyuafile) deed)
-              (λ deed m. elim m [ inl x ↦ inl (tested kyuafile moment deed begin x) | inr x ↦ inr (cut kyuafile moment deed begin x) ]) (r.left runs h);
+          course = record {
+            begun = begun;
+            asked = chain_both (leads_by asks tells) a.asked (of_host b.asked ++ of_host (Now moment ∷ [])) old mid begun a.chain
+                (chain_both (leads_by asks tells) (of_host b.asked) (of_host (Now moment ∷ [])) mid asked begun (chain_of_host asks tells b.asked mid asked b.chain) (begun, t, refl));
+            ran = r.leads;
+          };
+          left = λ runs h. left_as Stands Sound Leaves runs store after was now exit
+              (λ deed. Tested plan width options.filters picked.chosen.unmatched moment r.trace runs deed ⊎ TestCut plan width moment r.trace runs deed) (λ deed. Means seen runs c deed ⊎ CutShort seen runs c deed)
+              (λ deed m. elim m [
+                | inl x ↦ inl (tested options file picked moment deed prepared (subst (λ (k : ℕ). Tested plan k options.filters picked.chosen.unmatched moment r.trace runs deed) w x))
+                | inr x ↦ inr (cut options file picked moment deed prepared (subst (λ (k : ℕ). TestCut plan k moment r.trace runs deed) w x))
+              ]) (r.left runs h);
         }
 
-    unasked : IsUnasked (record { asked = []; told = []; plan = []; trace = NoEvent })
-    unasked = record { asked = refl; told = refl; trace = refl }
+    -- the same by parts of what was selected
+    pub did_test_parts : (after : R) (options : CaseOptions) (file : List ℕ) (old mid asked begun new : W) (picked : Picked) (plan : List Job) (moment width : ℕ) (cases : List Candidate) (words : List (List ℕ)) (unmatched : List ℕ)
+        → cases ≡ picked.chosen.cases → words ≡ options.filters → unmatched ≡ picked.chosen.unmatched
+        → Answered (leads_by asks tells) old mid (λ questions. IsShort {T = Picked} (Ok picked) ⊎ Selects false options questions (Ok picked))
+        → Answered tells mid asked (Prepares picked cases plan) → tells asked (Now moment) begun → width ≡ picked.settings.config.parallelism
+        → RanPlan starts waits Stands Sound Leaves plan width words unmatched moment begun new store after was now exit
+        → Did asks tells starts waits Stands Sound Leaves (command.Test options file) old new store after was now exit
+    did_test_parts after options file old mid asked begun new picked plan moment width cases words unmatched x y z a b t w r =
+        did_test after options file old mid asked begun new picked plan moment width a
+        (subst (λ (xs : List Candidate). Answered tells mid asked (Prepares picked xs plan)) x b) t w
+        (subst (λ (ws : List (List ℕ)). RanPlan starts waits Stands Sound Leaves plan width ws picked.chosen.unmatched moment begun new store after was now exit) y
+        (subst (λ (us : List ℕ). RanPlan starts waits Stands Sound Leaves plan width words us moment begun new store after was now exit) z r))
+
+    unasked : IsUnasked (asked_only [])
+    unasked = record { questions = refl; trace = refl }
 
     -- `report` is a command
-    pub did_report : (after : R) (number : Option ℕ) (kinds : List Kind) (world : W) → ((runs : List Run) → Stands store runs → Left Stands Sound Leaves runs store after was now exit (λ deed. Reported number kinds runs deed ⊎ Unread runs deed))
-        → Did asks tells starts waits Stands Sound Leaves (command.Report number kinds) world world store after was now exit
-    did_report after number kinds world l =
-        let seen : Seen = record { asked = []; told = []; plan = []; trace = NoEvent } in
-        let c = command.Report number kinds in
+    pub did_report : (after : R) (file : List ℕ) (number : Option ℕ) (kinds : List Kind) (verbose : Bool) (world : W) → ((runs : List Run) → Stands store runs → Left Stands Sound Leaves runs store after was now exit (λ deed. Reported number kinds verbose runs deed ⊎ Unread runs deed))
+        → Did asks tells starts waits Stands Sound Leaves (command.Report file number kinds verbose) world world store after was now exit
+    did_report after file number kinds verbose world l =
+        let seen : Seen = asked_only [] in
+        let c = command.Report file number kinds verbose in
         record {
           seen = seen;
-          course = record { loaded = world; begun = world; asked = refl; told = refl; ran = refl };
-          left = λ runs h. left_as Stands Sound Leaves runs store after was now exit (λ deed. Reported number kinds runs deed ⊎ Unread runs deed) (λ deed. Means seen runs c deed ⊎ CutShort seen runs c deed)
-              (λ deed m. elim m [ inl x ↦ inl (reported number kinds deed unasked x) | inr x ↦ inr (report_cut number kinds deed unasked x) ]) (l runs h);
+          course = course_of [] world world refl;
+          left = λ runs h. left_as Stands Sound Leaves runs store after was now exit (λ deed. Reported number kinds verbose runs deed ⊎ Unread runs deed) (λ deed. Means seen runs c deed ⊎ CutShort seen runs c deed)
+              (λ deed m. elim m [ inl x ↦ inl (reported file number kinds verbose deed unasked x) | inr x ↦ inr (report_cut file number kinds verbose deed unasked x) ]) (l runs h);
         }
 
     -- `report-junit` is a command
-    pub did_junit : (after : R) (number : Option ℕ) (world : W) → ((runs : List Run) → Stands store runs → Left Stands Sound Leaves runs store after was now exit (λ deed. ReportedJunit number runs deed ⊎ (Unread runs deed ⊎ JunitCut number runs deed)))
-        → Did asks tells starts waits Stands Sound Leaves (command.ReportJunit number) world world store after was now exit
-    did_junit after number world l =
-        let seen : Seen = record { asked = []; told = []; plan = []; trace = NoEvent } in
-        let c = command.ReportJunit number in
+    pub did_junit : (after : R) (file : List ℕ) (number : Option ℕ) (world : W) → ((runs : List Run) → Stands store runs → Left Stands Sound Leaves runs store after was now exit (λ deed. ReportedJunit number runs deed ⊎ (Unread runs deed ⊎ JunitCut number runs deed)))
+        → Did asks tells starts waits Stands Sound Leaves (command.ReportJunit file number) world world store after was now exit
+    did_junit after file number world l =
+        let seen : Seen = asked_only [] in
+        let c = command.ReportJunit file number in
         record {
           seen = seen;
-          course = record { loaded = world; begun = world; asked = refl; told = refl; ran = refl };
+          course = course_of [] world world refl;
           left = λ runs h. left_as Stands Sound Leaves runs store after was now exit (λ deed. ReportedJunit number runs deed ⊎ (Unread runs deed ⊎ JunitCut number runs deed)) (λ deed. Means seen runs c deed ⊎ CutShort seen runs c deed)
-              (λ deed m. elim m [ inl x ↦ inl (reported_junit number deed unasked x) | inr x ↦ inr (junit_cut number deed unasked x) ]) (l runs h);
+              (λ deed m. elim m [ inl x ↦ inl (reported_junit file number deed unasked x) | inr x ↦ inr (junit_cut file number deed unasked x) ]) (l runs h);
         }
 
     pub did_as : (c d : Command) (old new : W) (after : R) → c ≡ d → Did asks tells starts waits Stands Sound Leaves d old new store after was now exit → Did asks tells starts waits Stands Sound Leaves c old new store after was now exit

@@ -1,123 +1,133 @@
 -- What a command means: for what was seen and the runs before it, the runs, the bytes and the exit.
-use Rattle.std.specs.Prelude.{ℕ, suc, Bool, true, false, List, [], ◌∷◌, ◌++◌, ◌≡◌, ◌≤◌, ◌==◌, ◌⊎◌, Option, Some, Ok, Err, length, if◌then◌else◌}
+use Rattle.std.specs.Prelude.{ℕ, Bool, true, false, List, [], ◌∷◌, ◌++◌, ◌≡◌, ◌⊎◌, Option, Some, Ok, Err, Result, flat_map, if◌then◌else◌}
 use Rattle.kt_base.specs.declared.entry.Entry.{Entry}
 use Rattle.kt_base.specs.declared.kind.Kind.{Kind}
 use Rattle.kt_base.specs.declared.role.Role.{Role}
 use Rattle.kt_base.specs.declared.run.Run.{Run}
 use Rattle.kt_base.specs.Utf8.{utf8}
+use Rattle.kt_metadata.specs.declared.host.Host.{Host}
 use Rattle.kt_sched.specs.declared.job.Job.{Job}
 use Rattle.kt_sched.specs.declared.start_answer.StartAnswer.{StartAnswer}
 use Rattle.kt_sched.specs.declared.ended.Ended.{Ended}
-use Rattle.kt_sched.specs.declared.sink_fault.SinkFault.{SinkFault}
 use Rattle.kt_sched.specs.Trace.{Trace, NoEvent, Leads}
-use Rattle.kt_store.specs.Ask.{IsStoreFault}
-use Rattle.kt_store.specs.declared.store_fault.StoreFault.{StoreFault}
-use Rattle.kt_store.specs.declared.store_fault.StoreFault.TheVariants.{StoreFull}
-use Rattle.kt_suite.specs.declared.program.Program.{Program}
-use Rattle.kt_suite.specs.declared.fault.SuiteFault.{SuiteFault}
 use Rattle.kt_suite.specs.Answers.{Asked, Chain}
-use Rattle.kt_suite.specs.Registered.{Outcome}
+use Rattle.kt_cli.specs.declared.candidate.Candidate.{Candidate}
+use Rattle.kt_cli.specs.declared.case_options.CaseOptions.{CaseOptions}
+use Rattle.kt_cli.specs.declared.chosen.Chosen.{Chosen}
 use Rattle.kt_cli.specs.declared.command.Command.{Command}
 use Rattle.kt_cli.specs.declared.command.Command.TheVariants as command
-use Rattle.kt_cli.specs.Commands.{kyuafile_of}
-use Rattle.kt_cli.specs.FaultLines.{memory_line, fault_line, put_line, refusal_line}
-use Rattle.kt_cli.specs.Listings.{listing, listing_exit, Loads}
-use Rattle.kt_cli.specs.Plans.{plan_of}
-use Rattle.kt_cli.specs.Recordings.{AllRecorded, IsStopped}
+use Rattle.kt_cli.specs.declared.picked.Picked.{Picked}
+use Rattle.kt_cli.specs.declared.settings.Settings.{Settings}
+use Rattle.kt_cli.specs.declared.stop.Stop.{Stop}
+use Rattle.kt_cli.specs.Collecting.{Collects}
+use Rattle.kt_cli.specs.Commands.{cases_of, needs_case}
+use Rattle.kt_cli.specs.Configuring.{Settles}
+use Rattle.kt_cli.specs.Debugging.{all_debug_bytes, debug_exit}
+use Rattle.kt_cli.specs.FaultLines.{memory_line}
+use Rattle.kt_cli.specs.CaseLines.{case_line}
+use Rattle.kt_cli.specs.Pages.{Printed}
+use Rattle.kt_cli.specs.Planning.{Surveys, ArePlanned}
+use Rattle.kt_cli.specs.Questions.{Question, leads_by, of_tree, of_host}
+use Rattle.kt_cli.specs.Recordings.{AllRecorded}
 use Rattle.kt_cli.specs.Reports.{Reported, ReportedJunit, Unread, JunitCut}
-use Rattle.kt_cli.specs.Stores.{Deed, Left, by_position}
+use Rattle.kt_cli.specs.Stops.{stop_line, stop_exit}
+use Rattle.kt_cli.specs.Stores.{Deed, Left}
+use Rattle.kt_cli.specs.Testing.{none_idle, Tested, TestCut}
 use Rattle.kt_cli.specs.Told.{Told, Now}
-use Rattle.kt_cli.specs.Totals.{lines, totals_text, good_count, bad_count}
+use Rattle.kt_cli.specs.Warnings.{warnings}
 
--- what a world answered to one command: its tree, its host, and its launcher, which was lent the jobs of this plan
+-- what a world answered to one command: the questions in the order in which they were put, and its launcher, which was lent the jobs of this plan
 pub record Seen : Type 0 where
-  pub asked : List Asked
-  pub told : List Told
+  pub questions : List Question
   pub plan : List Job
   pub trace : Trace
 
 -- these answers lead the world through the command
 pub record Course {W : Type 0} (asks : W → Asked → W → Type 0) (tells : W → Told → W → Type 0) (starts : W → Job → Role → StartAnswer → W → Type 0) (waits : W → Ended → W → Type 0) (seen : Seen) (old new : W) : Type 0 where
-  pub loaded : W
   pub begun : W
-  pub asked : Chain asks seen.asked old loaded
-  pub told : Chain tells seen.told loaded begun
+  pub asked : Chain (leads_by asks tells) seen.questions old begun
   pub ran : Leads starts waits seen.plan seen.trace begun new
 
--- the runs with one more, which has these entries
-abbrev pub with_new : List Run → ℕ → List Job → Bool → List Entry → List Run
-with_new runs moment plan finished entries =
-    runs ++ record { number = suc (length runs); started = moment; total = length plan; finished = finished; entries = by_position entries } ∷ []
+-- what the options of a command select, by these questions, or the first fault that stops it: the configuration and the filters, and then the tree
+-- and its lists
+pub data Selects (needed : Bool) (options : CaseOptions) : List Question → Result Picked Stop → Type 0 where
+  unsettled : (told : List Told) (fault : Stop) → Settles needed options told (Err fault) → Selects needed options (of_host told) (Err fault)
+  uncollected : (told : List Told) (settings : Settings) (asked : List Asked) (lists : List Told) (fault : Stop) → Settles needed options told (Ok settings)
+      → Collects settings options.kyuafile asked lists (Err fault) → Selects needed options (of_host told ++ (of_tree asked ++ of_host lists)) (Err fault)
+  selected : (told : List Told) (settings : Settings) (asked : List Asked) (lists : List Told) (chosen : Chosen) → Settles needed options told (Ok settings)
+      → Collects settings options.kyuafile asked lists (Ok chosen)
+      → Selects needed options (of_host told ++ (of_tree asked ++ of_host lists)) (Ok (record { settings = settings; chosen = chosen }))
 
--- the lines, and then how many of how many passed
-abbrev pub results : List Entry → List ℕ
-results entries = lines entries ++ utf8 (totals_text (good_count entries) (length entries) (bad_count entries))
+-- a line for each selected case, and a warning for each filter that selects none
+abbrev pub listing : List (List ℕ) → Chosen → List ℕ
+listing words chosen = utf8 (flat_map case_line chosen.cases) ++ utf8 (warnings words chosen.unmatched)
 
--- 0 where nothing is bad
-abbrev pub results_exit : List Entry → ℕ
-results_exit entries = if bad_count entries == 0 then 0 else 1
+-- 0 where each filter selects a case
+abbrev pub listing_exit : Chosen → ℕ
+listing_exit chosen = if none_idle chosen.unmatched then 0 else 1
 
--- a plan was run: each case is recorded in a new run, and told in the order of recording
-pub data Tested (plan : List Job) (moment : ℕ) (T : Trace) (runs : List Run) : Deed → Type 0 where
-  recorded : (entries : List Entry) → AllRecorded plan T entries → Tested plan moment T runs (record { runs = with_new runs moment plan true entries; bytes = results entries; exit = results_exit entries; beside = λ may. [] })
+-- these cases were selected, the host was asked for what they require, and then these questions; the plan is theirs
+pub record IsPrepared (needed : Bool) (options : CaseOptions) (seen : Seen) (picked : Picked) (cases : List Candidate) (last : List Told) : Type 0 where
+  pub before : List Question
+  pub selects : Selects needed options before (Ok picked)
+  pub told : List Told
+  pub host : Host
+  pub surveys : Surveys cases told host
+  pub asked : seen.questions ≡ before ++ (of_host told ++ of_host last)
+  pub planned : ArePlanned picked.settings.config host 0 cases seen.plan
 
--- what is left of a plan that memory or the store cut short; a crash may leave the change of a call that was refused
-pub data TestCut (plan : List Job) (moment : ℕ) (T : Trace) (runs : List Run) : Deed → Type 0 where
-  not_begun : (fault : StoreFault) → IsStoreFault fault ⊎ ((fault ≡ StoreFull) × (1000000 ≤ length runs)) → T ≡ NoEvent
-      → TestCut plan moment T runs (record { runs = runs; bytes = utf8 (refusal_line fault); exit = 2; beside = λ may. with_new runs moment plan false [] ∷ may })
-  not_run : T ≡ NoEvent → TestCut plan moment T runs (record { runs = with_new runs moment plan false []; bytes = utf8 memory_line; exit = 2; beside = λ may. [] })
-  not_put : (entries : List Entry) (refused : Entry) (fault : SinkFault) → IsStopped plan T entries refused
-      → TestCut plan moment T runs (record { runs = with_new runs moment plan false entries; bytes = lines entries ++ utf8 (put_line fault); exit = 2; beside = λ may. with_new runs moment plan false (entries ++ refused ∷ []) ∷ [] })
-  not_finished : (entries : List Entry) (fault : StoreFault) → AllRecorded plan T entries → IsStoreFault fault
-      → TestCut plan moment T runs (record { runs = with_new runs moment plan false entries; bytes = lines entries ++ utf8 (refusal_line fault); exit = 2; beside = λ may. with_new runs moment plan true entries ∷ [] })
-
--- the tree registers these programs, whose plan it is, and the host told one moment
-pub record IsBegun (seen : Seen) (kyuafile : List ℕ) (moment : ℕ) : Type 0 where
-  pub programs : List Program
-  pub loads : Loads kyuafile seen.asked (Ok programs)
-  pub told : seen.told ≡ Now moment ∷ []
-  pub plan : seen.plan ≡ plan_of programs
-
--- nothing was asked but the tree
-pub record IsTreeAlone (seen : Seen) : Type 0 where
-  pub told : seen.told ≡ []
-  pub trace : seen.trace ≡ NoEvent
-
--- nothing was asked
+-- nothing was asked, and nothing was started
 pub record IsUnasked (seen : Seen) : Type 0 where
-  pub asked : seen.asked ≡ []
-  pub told : seen.told ≡ []
+  pub questions : seen.questions ≡ []
   pub trace : seen.trace ≡ NoEvent
+
+-- bytes and an exit beside runs that stay
+abbrev pub only_tells : List Run → List ℕ → ℕ → Deed
+only_tells runs bytes exit = record { runs = runs; bytes = bytes; exit = exit; beside = λ may. may }
 
 -- what one command means
 pub data Means (seen : Seen) (runs : List Run) : Command → Deed → Type 0 where
-  listed : (kyuafile : List ℕ) (outcome : Outcome) → Loads kyuafile seen.asked outcome → IsTreeAlone seen
-      → Means seen runs (command.List kyuafile) (record { runs = runs; bytes = utf8 (listing outcome); exit = listing_exit outcome; beside = λ may. may })
-  untested : (kyuafile : List ℕ) (fault : SuiteFault) → Loads kyuafile seen.asked (Err fault) → IsTreeAlone seen
-      → Means seen runs (command.Test kyuafile) (record { runs = runs; bytes = utf8 (fault_line fault); exit = 2; beside = λ may. may })
-  tested : (kyuafile : List ℕ) (moment : ℕ) (deed : Deed) → IsBegun seen kyuafile moment → Tested seen.plan moment seen.trace runs deed
-      → Means seen runs (command.Test kyuafile) deed
-  reported : (number : Option ℕ) (kinds : List Kind) (deed : Deed) → IsUnasked seen → Reported number kinds runs deed
-      → Means seen runs (command.Report number kinds) deed
-  reported_junit : (number : Option ℕ) (deed : Deed) → IsUnasked seen → ReportedJunit number runs deed
-      → Means seen runs (command.ReportJunit number) deed
+  stopped : (c : Command) (options : CaseOptions) (fault : Stop) → cases_of c ≡ Some options → Selects (needs_case c) options seen.questions (Err fault) → seen.trace ≡ NoEvent
+      → Means seen runs c (only_tells runs (utf8 (stop_line fault)) (stop_exit fault))
+  listed : (options : CaseOptions) (picked : Picked) → Selects false options seen.questions (Ok picked) → seen.trace ≡ NoEvent
+      → Means seen runs (command.List options) (only_tells runs (listing options.filters picked.chosen) (listing_exit picked.chosen))
+  tested : (options : CaseOptions) (file : List ℕ) (picked : Picked) (moment : ℕ) (deed : Deed) → IsPrepared false options seen picked picked.chosen.cases (Now moment ∷ [])
+      → Tested seen.plan picked.settings.config.parallelism options.filters picked.chosen.unmatched moment seen.trace runs deed
+      → Means seen runs (command.Test options file) deed
+  debugged : (options : CaseOptions) (picked : Picked) (first : Candidate) (others : List Candidate) (entries : List Entry) → picked.chosen.cases ≡ first ∷ others
+      → IsPrepared true options seen picked (first ∷ []) [] → AllRecorded seen.plan 1 seen.trace entries
+      → Means seen runs (command.Debug options) (only_tells runs (all_debug_bytes entries) (debug_exit entries))
+  idle : (options : CaseOptions) (picked : Picked) → Selects true options seen.questions (Ok picked) → picked.chosen.cases ≡ [] → seen.trace ≡ NoEvent
+      → Means seen runs (command.Debug options) (only_tells runs (utf8 (warnings options.filters picked.chosen.unmatched)) 1)
+  reported : (file : List ℕ) (number : Option ℕ) (kinds : List Kind) (verbose : Bool) (deed : Deed) → IsUnasked seen → Reported number kinds verbose runs deed
+      → Means seen runs (command.Report file number kinds verbose) deed
+  reported_junit : (file : List ℕ) (number : Option ℕ) (deed : Deed) → IsUnasked seen → ReportedJunit number runs deed
+      → Means seen runs (command.ReportJunit file number) deed
 
 -- what a command leaves that memory or the store cut short
 pub data CutShort (seen : Seen) (runs : List Run) : Command → Deed → Type 0 where
-  no_memory : (c : Command) (kyuafile : List ℕ) → kyuafile_of c ≡ Some kyuafile → IsTreeAlone seen → CutShort seen runs c (record { runs = runs; bytes = utf8 memory_line; exit = 2; beside = λ may. may })
-  cut : (kyuafile : List ℕ) (moment : ℕ) (deed : Deed) → IsBegun seen kyuafile moment → TestCut seen.plan moment seen.trace runs deed
-      → CutShort seen runs (command.Test kyuafile) deed
-  report_cut : (number : Option ℕ) (kinds : List Kind) (deed : Deed) → IsUnasked seen → Unread runs deed → CutShort seen runs (command.Report number kinds) deed
-  junit_cut : (number : Option ℕ) (deed : Deed) → IsUnasked seen → Unread runs deed ⊎ JunitCut number runs deed → CutShort seen runs (command.ReportJunit number) deed
+  no_memory : (c : Command) (options : CaseOptions) → cases_of c ≡ Some options → seen.trace ≡ NoEvent → CutShort seen runs c (only_tells runs (utf8 memory_line) 2)
+  cut : (options : CaseOptions) (file : List ℕ) (picked : Picked) (moment : ℕ) (deed : Deed) → IsPrepared false options seen picked picked.chosen.cases (Now moment ∷ [])
+      → TestCut seen.plan picked.settings.config.parallelism moment seen.trace runs deed
+      → CutShort seen runs (command.Test options file) deed
+  report_cut : (file : List ℕ) (number : Option ℕ) (kinds : List Kind) (verbose : Bool) (deed : Deed) → IsUnasked seen → Unread runs deed → CutShort seen runs (command.Report file number kinds verbose) deed
+  junit_cut : (file : List ℕ) (number : Option ℕ) (deed : Deed) → IsUnasked seen → Unread runs deed ⊎ JunitCut number runs deed → CutShort seen runs (command.ReportJunit file number) deed
+
+-- nothing was started
+abbrev pub asked_only : List Question → Seen
+asked_only questions = record { questions = questions; plan = []; trace = NoEvent }
+
+-- what a command did that leaves the runs as they are: what it saw, its bytes and its exit
+pub record ToldOnly {W : Type 0} (asks : W → Asked → W → Type 0) (tells : W → Told → W → Type 0) (starts : W → Job → Role → StartAnswer → W → Type 0) (waits : W → Ended → W → Type 0) (c : Command) (old new : W) (was now : Option (List ℕ)) (exit : ℕ) : Type 0 where
+  pub seen : Seen
+  pub course : Course asks tells starts waits seen old new
+  pub bytes : List ℕ
+  pub due : ℕ
+  pub is : (runs : List Run) → Means seen runs c (only_tells runs bytes due) ⊎ CutShort seen runs c (only_tells runs bytes due)
+  pub printed : Printed was now exit bytes due
 
 -- what `execute` did: the command's deed, or one that memory or the store cut short; a failed writer holds a prefix of its bytes
 pub record Did {W R : Type 0} (asks : W → Asked → W → Type 0) (tells : W → Told → W → Type 0) (starts : W → Job → Role → StartAnswer → W → Type 0) (waits : W → Ended → W → Type 0) (Stands : R → List Run → Type 0) (Sound : R → Type 0) (Leaves : R → List (List Run) → Type 0) (c : Command) (old new : W) (store after : R) (was now : Option (List ℕ)) (exit : ℕ) : Type 0 where
   pub seen : Seen
   pub course : Course asks tells starts waits seen old new
   pub left : (runs : List Run) → Stands store runs → Left Stands Sound Leaves runs store after was now exit (λ deed. Means seen runs c deed ⊎ CutShort seen runs c deed)
-
--- what was done with a plan
-pub record RanPlan {L R : Type 0} (starts : L → Job → Role → StartAnswer → L → Type 0) (waits : L → Ended → L → Type 0) (Stands : R → List Run → Type 0) (Sound : R → Type 0) (Leaves : R → List (List Run) → Type 0) (plan : List Job) (moment : ℕ) (old new : L) (store after : R) (was now : Option (List ℕ)) (exit : ℕ) : Type 0 where
-  pub trace : Trace
-  pub leads : Leads starts waits plan trace old new
-  pub left : (runs : List Run) → Stands store runs → Left Stands Sound Leaves runs store after was now exit (λ deed. Tested plan moment trace runs deed ⊎ TestCut plan moment trace runs deed)

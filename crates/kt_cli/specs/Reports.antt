@@ -1,5 +1,5 @@
 -- Which run is shown, and what is shown of it.
-use Rattle.std.specs.Prelude.{ℕ, zero, suc, List, [], ◌∷◌, ◌++◌, ◌-◌, ◌≡◌, Option, Some, None, codes, length, slice_get}
+use Rattle.std.specs.Prelude.{ℕ, Bool, zero, suc, List, [], ◌∷◌, ◌++◌, ◌-◌, ◌≡◌, Option, Some, None, codes, length, slice_get}
 use Rattle.std.specs.Fmt.{decimal}
 use Rattle.jiff_core.specs.declared.civil.date.Date.{Date}
 use Rattle.kt_base.specs.declared.kind.Kind.{Kind}
@@ -33,9 +33,9 @@ missing_line None (run ∷ runs) = no_runs_line
 missing_line (Some number) (run ∷ runs) = no_run_line number
 
 -- `report`: the text of the chosen run, on the date of its start
-pub data Reported (number : Option ℕ) (kinds : List Kind) (runs : List Run) : Deed → Type 0 where
-  told : (run : Run) (date : Date) → chosen number runs ≡ Some run → IsDateOf run.started date → Reported number kinds runs (record { runs = runs; bytes = text_bytes date kinds run; exit = 0; beside = λ may. may })
-  no_run : chosen number runs ≡ None → Reported number kinds runs (record { runs = runs; bytes = utf8 (missing_line number runs); exit = 2; beside = λ may. may })
+pub data Reported (number : Option ℕ) (kinds : List Kind) (verbose : Bool) (runs : List Run) : Deed → Type 0 where
+  told : (run : Run) (date : Date) → chosen number runs ≡ Some run → IsDateOf run.started date → Reported number kinds verbose runs (record { runs = runs; bytes = text_bytes date kinds verbose run; exit = 0; beside = λ may. may })
+  no_run : chosen number runs ≡ None → Reported number kinds verbose runs (record { runs = runs; bytes = utf8 (missing_line number runs); exit = 2; beside = λ may. may })
 
 -- `report-junit`: the JUnit report of the chosen run
 pub data ReportedJunit (number : Option ℕ) (runs : List Run) : Deed → Type 0 where

@@ -1,6 +1,18 @@
 -- What the host was asked, with its answers.
-use Rattle.std.specs.Prelude.{ℕ}
+use Rattle.std.specs.Prelude.{ℕ, Bool, List, Option, Result}
+use Rattle.kt_base.specs.declared.variable.Variable.{Variable}
+use Rattle.kt_atflist.specs.declared.listing.Listing.{Listing}
+use Rattle.kt_suite.specs.declared.program.Program.{Program}
+use Rattle.kt_suite.specs.declared.read_fault.ReadFault.{ReadFault}
 
--- a question to the host with its answer: the moment
+-- a question to the host with its answer: the bytes of a configuration file, what a program lists with the variables of its suite,
+-- whether a required file or program is found, whether the runner is root, memory and disk space in bytes, the moment
 pub data Told : Type 0 where
+  ReadConfig : (path : List ℕ) (answer : Result (List ℕ) ReadFault) → Told
+  Lists : (program : Program) (variables : List Variable) (answer : Listing) → Told
+  FindsFile : (path : List ℕ) (answer : Bool) → Told
+  FindsProgram : (name : List ℕ) (answer : Bool) → Told
+  IsRoot : (answer : Bool) → Told
+  HasMemory : (answer : Option ℕ) → Told
+  HasDisk : (answer : Option ℕ) → Told
   Now : (moment : ℕ) → Told

@@ -17,6 +17,19 @@ fn verdict_of(kind: Kind, reason: Text) -> Verdict
     }
 }
 
+/// An equal reason with memory of its own.
+pub fn copy_of_reason(reason: &Reason) -> Result<Reason, NoMemory>
+    ensures { IfOk result (λ copy. copy ≡ reason.now) }
+{
+    match reason {
+        Reason::Nothing => Ok(Reason::Nothing),
+        Reason::Fixed(phrase) => Ok(Reason::Fixed(*phrase)),
+        Reason::Ended(phrase, outcome) => Ok(Reason::Ended(*phrase, *outcome)),
+        Reason::Counted(phrase, m, n) => Ok(Reason::Counted(*phrase, *m, *n)),
+        Reason::Owned(text) => Ok(Reason::Owned(text.copy()?)),
+    }
+}
+
 fn copy_of_verdict(alloc: Global, verdict: &Verdict) -> Result<Verdict, NoMemory>
     ensures { IfOk result (λ copy. copy ≡ verdict.now) }
 {
@@ -48,6 +61,7 @@ pub fn copy_of_entry(alloc: Global, entry: &Entry) -> Result<Entry, NoMemory>
         millis: entry.millis,
         body: copy_of_output(&entry.body)?,
         cleanup: copy_of_output(&entry.cleanup)?,
+        meta: entry.meta.copy()?,
     })
 }
 

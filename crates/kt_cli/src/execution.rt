@@ -2,6 +2,7 @@ ghost use Rattle.kt_sched.specs.Children.{IsIdle};
 ghost use Rattle.kt_cli.specs.Meaning.{Did};
 
 use crate::command::Command;
+use crate::debugging::debug;
 use crate::exit::Exit;
 use crate::listing::list;
 use crate::reporting::{report, report_junit};
@@ -24,9 +25,18 @@ pub fn execute<W: World, R: ResultStore, O: Write>(
     ensures idle { IsIdle (W.running world.new) (W.pending world.new) }
 {
     match command {
-        Command::List(kyuafile) => list(alloc, kyuafile, world, out),
-        Command::Test(kyuafile) => test(alloc, kyuafile, world, results, out),
-        Command::Report { run, kinds, .. } => report(*run, kinds.as_slice(), results, out),
+        Command::List(options) => list(alloc, options, world, out),
+        Command::Test {
+            options,
+            results: file,
+        } => test(alloc, options, file, world, results, out),
+        Command::Debug(options) => debug(alloc, options, world, out),
+        Command::Report {
+            run,
+            kinds,
+            verbose,
+            ..
+        } => report(*run, kinds.as_slice(), *verbose, results, out),
         Command::ReportJunit { run, .. } => report_junit(alloc, *run, results, out),
     }
 }

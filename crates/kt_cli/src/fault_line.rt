@@ -13,7 +13,7 @@ use kt_suite::{SuiteCause, SuiteFault};
 use std::io::Write;
 
 /// The words of a script's fault.
-fn script_words(fault: ScriptFault) -> &'static str
+pub fn script_words(fault: ScriptFault) -> &'static str
     ensures { result.now ≡ script_text fault }
 {
     match fault {

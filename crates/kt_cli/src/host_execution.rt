@@ -1,21 +1,22 @@
-ghost use Rattle.std.specs.Prelude.{◌≡◌, Some, IfOk, IfErr, OnErr};
-ghost use Rattle.std.specs.Str.{chars};
+ghost use Rattle.std.specs.Prelude.{◌≡◌, IfOk, IfErr, OnErr};
 ghost use Rattle.kt_sched.specs.Children.{IsIdle};
 ghost use Rattle.kt_child.specs.Board.{is_among, shown_at};
+ghost use Rattle.kt_cli.specs.HostAnswers.{IsHostAnswer, RunnerStarts, RunnerWaits};
 ghost use Rattle.kt_cli.specs.HostFiles.{IsLook};
-ghost use Rattle.kt_cli.specs.Hosts.{IsStill, IsMade, NoRoot, OnDriver, NoDriver, DidOnHost};
+ghost use Rattle.kt_cli.specs.Hosts.{IsMade, NoRoot, OnDriver, NoDriver, DidOnHost};
 ghost use Rattle.kt_cli.specs.Meaning.{Did};
 
+use crate::case_options::CaseOptions;
 use crate::command::Command;
-use crate::command_line::CommandLine;
 use crate::execution::execute;
 use crate::exit::Exit;
 use crate::host_world::HostWorld;
 use crate::place::{is_absolute, source_of};
 use crate::reporting::{report, report_junit};
+use crate::runner::Runner;
+use crate::surroundings::Surroundings;
 use kt_base::Text;
 use kt_child::{Driver, DriverFault, Os};
-use kt_sched::Launcher;
 use kt_store::ResultStore;
 use kt_suite::split_path;
 use std::alloc::Global;
@@ -27,18 +28,18 @@ use std::rt::{Clock, Files};
 fn driver_of<O: Os + Drop>(
     alloc: Global,
     os: O,
-    here: &str,
+    here: &Text,
     work: &Text,
     kyuafile: &Text,
 ) -> Result<Driver<O>, DriverFault>
-    ensures made { IfOk result (λ driver. IsMade O.leads os (chars here.now) work.now kyuafile.now driver) }
+    ensures made { IfOk result (λ driver. IsMade O.leads os here.now work.now kyuafile.now driver) }
     ensures idle { IfOk result (λ driver. IsIdle (shown_at driver.row.cases) (is_among driver.row.pending)) }
-    ensures refused { IfErr result (λ e. NoRoot O.leads os (Some work.now) e) }
+    ensures refused { IfErr result (λ e. NoRoot O.leads os work.now e) }
 {
     if !is_absolute(work) {
         return Err(DriverFault::NoWorkDirectory);
     }
-    let source = match source_of(alloc, here, kyuafile) {
+    let source = match source_of(alloc, here.as_str(), kyuafile) {
         Ok(source) => source,
         Err(refusal) => return Err(DriverFault::NoMemory(refusal)),
     };
@@ -48,27 +49,32 @@ fn driver_of<O: Os + Drop>(
     }
 }
 
-/// Does a command over the files of a directory and a launcher, which is given back.
-fn execute_over<R: Files<File = File> + Clock + AllocGlobal, L: Launcher, S: ResultStore, W: Write>(
+/// Does a command over the files of a directory and a runner, which is given back.
+fn execute_over<
+    R: Files<File = File> + Clock + AllocGlobal,
+    O: Os + Drop,
+    S: ResultStore,
+    W: Write,
+>(
     rt: &R,
     directory: Text,
-    launcher: L,
+    runner: Runner<O>,
     command: &Command,
     results: &mut S,
     out: &mut W,
-) -> (Exit, L)
-    requires { IsIdle (L.running launcher) (L.pending launcher) }
-    ensures did { Did IsLook IsStill L.starts L.waits S.stands S.sound S.leaves command.now launcher result.1 results.old results.new (W.contents out.old) (W.contents out.new) result.0.status }
-    ensures idle { IsIdle (L.running result.1) (L.pending result.1) }
+) -> (Exit, Runner<O>)
+    requires { IsIdle (shown_at runner.driver.row.cases) (is_among runner.driver.row.pending) }
+    ensures did { Did IsLook (IsHostAnswer O.leads) (RunnerStarts O.leads) (RunnerWaits O.leads) S.stands S.sound S.leaves command.now runner result.1 results.old results.new (W.contents out.old) (W.contents out.new) result.0.status }
+    ensures idle { IsIdle (shown_at result.1.driver.row.cases) (is_among result.1.driver.row.pending) }
 {
-    let mut world = HostWorld::new(rt, directory, launcher);
+    let mut world = HostWorld::new(rt, directory, runner);
     let exit = execute(rt.alloc(), command, &mut world, results, out);
-    (exit, world.launcher)
+    (exit, world.runner)
 }
 
-/// Does a command over a Kyuafile of the host and this system, with work directories of its own, which are removed at the
+/// Does a command over test cases of the host and this system, with work directories of its own, which are removed at the
 /// end.
-fn execute_over_files<
+fn execute_over_cases<
     R: Files<File = File> + Clock + AllocGlobal,
     O: Os + Drop,
     S: ResultStore,
@@ -76,35 +82,34 @@ fn execute_over_files<
 >(
     rt: &R,
     os: O,
-    here: &str,
-    line: &CommandLine,
-    kyuafile: &Text,
+    around: Surroundings,
+    command: &Command,
+    options: &CaseOptions,
     results: &mut S,
     out: &mut W,
 ) -> Result<Exit, DriverFault>
-    ensures did { IfOk result (λ exit. OnDriver O.leads os (chars here.now) line.now.work kyuafile.now S.stands S.sound S.leaves line.now.command results.old results.new (W.contents out.old) (W.contents out.new) exit.status) }
-    ensures refused { IfErr result (λ e. NoRoot O.leads os line.now.work e) }
+    ensures did { IfOk result (λ exit. OnDriver O.leads os around options.now S.stands S.sound S.leaves command.now results.old results.new (W.contents out.old) (W.contents out.new) exit.status) }
+    ensures refused { IfErr result (λ e. NoRoot O.leads os options.now.work e) }
     ensures unasked { OnErr result ((results.new ≡ results.old) × (W.contents out.new ≡ W.contents out.old)) }
 {
-    let Some(work) = &line.work else {
-        return Err(DriverFault::NoWorkDirectory);
-    };
-    let directory = match split_path(rt.alloc(), kyuafile) {
+    let directory = match split_path(rt.alloc(), &options.kyuafile) {
         Ok((directory, _)) => directory,
         Err(refusal) => return Err(DriverFault::NoMemory(refusal)),
     };
-    let driver = match driver_of(rt.alloc(), os, here, work, kyuafile) {
+    let (work, kyuafile) = (&options.work, &options.kyuafile);
+    let driver = match driver_of(rt.alloc(), os, &around.here, work, kyuafile) {
         Ok(driver) => driver,
         Err(fault) => return Err(fault),
     };
-    let (exit, driver) = execute_over(rt, directory, driver, &line.command, results, out);
+    let runner = Runner { driver, around };
+    let (exit, runner) = execute_over(rt, directory, runner, command, results, out);
     // The root directory goes, whatever was done.
-    let _ = driver.close();
+    let _ = runner.driver.close();
     Ok(exit)
 }
 
-/// Does a command line over the host's files, this system and a store of runs. `here` is the absolute working directory.
-/// Where no root directory can be made, nothing is written; a report needs none and is never refused.
+/// Does a command over the host's files, this system and a store of runs. Where no root directory can be made, nothing is
+/// written; a report needs none and is never refused.
 pub fn execute_on_host<
     R: Files<File = File> + Clock + AllocGlobal,
     O: Os + Drop,
@@ -113,22 +118,27 @@ pub fn execute_on_host<
 >(
     rt: &R,
     os: O,
-    here: &str,
-    line: &CommandLine,
+    around: Surroundings,
+    command: &Command,
     results: &mut S,
     out: &mut W,
 ) -> Result<Exit, DriverFault>
-    ensures did { IfOk result (λ exit. DidOnHost O.leads os (chars here.now) line.now.work S.stands S.sound S.leaves line.now.command results.old results.new (W.contents out.old) (W.contents out.new) exit.status) }
-    ensures refused { IfErr result (λ e. NoDriver O.leads os line.now.work line.now.command e) }
+    ensures did { IfOk result (λ exit. DidOnHost O.leads os around S.stands S.sound S.leaves command.now results.old results.new (W.contents out.old) (W.contents out.new) exit.status) }
+    ensures refused { IfErr result (λ e. NoDriver O.leads os command.now e) }
     ensures unasked { OnErr result ((results.new ≡ results.old) × (W.contents out.new ≡ W.contents out.old)) }
 {
-    if let Some(kyuafile) = line.command.kyuafile() {
-        let exit = execute_over_files(rt, os, here, line, kyuafile, results, out)?;
+    if let Some(options) = command.cases() {
+        let exit = execute_over_cases(rt, os, around, command, options, results, out)?;
         return Ok(exit);
     }
-    match &line.command {
-        Command::Report { run, kinds, .. } => Ok(report(*run, kinds.as_slice(), results, out)),
+    match command {
+        Command::Report {
+            run,
+            kinds,
+            verbose,
+            ..
+        } => Ok(report(*run, kinds.as_slice(), *verbose, results, out)),
         Command::ReportJunit { run, .. } => Ok(report_junit(rt.alloc(), *run, results, out)),
-        Command::List(_) | Command::Test(_) => unreachable!(),
+        Command::List(_) | Command::Test { .. } | Command::Debug(_) => unreachable!(),
     }
 }

@@ -1,13 +1,21 @@
-ghost use Rattle.std.specs.Prelude.{◌≡◌, ◌≤◌, ◌<◌, Some, IfSome, IfOk, OnOk, length, take, drop};
+ghost use Rattle.std.specs.Prelude.{◌≡◌, ◌≤◌, ◌<◌, Some, IfSome, IfOk, OnOk, chars, length, take, drop};
+ghost use Rattle.std.specs.List.{list_any};
+ghost use Rattle.kt_suite.specs.Paths.{is_slash};
 ghost use Rattle.kt_cli.specs.HostFiles.{read_limit, TakesPiece};
 
+use crate::host_path::{LONGEST_PATH, joined_path};
+use crate::place::is_absolute;
+use crate::runner::Runner;
 use crate::world::World;
-use kt_base::{Bytes, LATEST_MOMENT, NoMemory, Role, Text};
+use kt_atflist::Listing;
+use kt_base::{Bytes, LATEST_MOMENT, NoMemory, Role, Text, Variables};
+use kt_child::Os;
 use kt_sched::{Ended, Job, Launcher, StartAnswer};
-use kt_suite::{ReadFault, Tree};
+use kt_suite::{Program, ReadFault, Tree};
 use std::alloc::Global;
 use std::fs::File;
 use std::io::{ErrorKind, Read};
+use std::os::unix::fs::PermissionsExt;
 use std::rt::{Clock, Files};
 use std::time::SystemTime;
 use std::{fs, io};
@@ -18,18 +26,18 @@ const READ_LIMIT: usize = 1_048_577;
 /// The size of the pieces in which a file is read, in bytes.
 const PIECE: usize = 8_192;
 
-/// The longest path that the host takes, in bytes.
-const LONGEST: usize = 4_095;
+/// The rights to execute a file.
+const EXECUTE_RIGHTS: u32 = 0o111;
 
-/// The files below a directory of the host, its clock, and a launcher. Links are followed; only a regular file counts
-/// as one.
+/// The host as a command sees it: the files below a directory, what is found around the command, a clock and a driver.
+/// Links are followed; only a regular file counts as one.
 #[derive(Drop)]
-pub struct HostWorld<'a, R, L> {
+pub struct HostWorld<'a, R, O: Os + Drop> {
     rt: &'a R,
     /// It ends with a slash, or is empty for the working directory.
     directory: Text,
-    /// What starts the test programs.
-    pub launcher: L,
+    /// What starts test programs, and what is found around the command.
+    pub runner: Runner<O>,
 }
 
 /// What is told of a system call that failed.
@@ -81,29 +89,23 @@ pub fn read_start<F: Read>(alloc: Global, file: &mut F) -> Result<Bytes, ReadFau
     Ok(bytes)
 }
 
-impl<'a, R: Files<File = File> + Clock + AllocGlobal, L: Launcher> HostWorld<'a, R, L> {
+/// Whether a path has a slash.
+fn has_slash(name: &str) -> bool
+    ensures { result ≡ list_any is_slash (chars name.now) }
+{
+    name.chars().any(|c| c == '/')
+}
+
+impl<'a, R: Files<File = File> + Clock + AllocGlobal, O: Os + Drop> HostWorld<'a, R, O> {
     /// The world whose root is this directory, which ends with a slash or is empty for the working directory.
-    pub fn new(rt: &'a R, directory: Text, launcher: L) -> HostWorld<'a, R, L>
-        ensures { result.launcher ≡ launcher }
+    pub fn new(rt: &'a R, directory: Text, runner: Runner<O>) -> HostWorld<'a, R, O>
+        ensures { result.runner ≡ runner }
     {
         HostWorld {
             rt,
             directory,
-            launcher,
+            runner,
         }
-    }
-
-    /// Where a path of the tree is, written into this room; it takes no memory.
-    fn place<'b>(&self, path: &Text, room: &'b mut [u8]) -> Option<&'b str> {
-        let front = self.directory.as_str().as_bytes();
-        let back = path.as_str().as_bytes();
-        if front.len() > room.len() || back.len() > room.len() - front.len() {
-            return None;
-        }
-        let end = front.len() + back.len();
-        room[..front.len()].copy_from_slice(front);
-        room[front.len()..end].copy_from_slice(back);
-        str::from_utf8(&room[..end]).ok()
     }
 
     fn is_file(&self, place: &str) -> Result<bool, ReadFault> {
@@ -112,20 +114,11 @@ impl<'a, R: Files<File = File> + Clock + AllocGlobal, L: Launcher> HostWorld<'a,
             Err(error) => Err(fault_of(error)),
         }
     }
-}
 
-impl<R: Files<File = File> + Clock + AllocGlobal, L: Launcher> Tree for HostWorld<'_, R, L> {
-    ghost use Rattle.std.specs.Prelude.{◌≡◌};
-    ghost use Rattle.kt_cli.specs.HostFiles.{IsWorldAnswer};
-
-    // Of what a real file holds only the length is said.
-    ghost asks = { λ s q t. (t.launcher ≡ s.launcher) × IsWorldAnswer q };
-
-    fn read(&mut self, path: &Text) -> Result<Bytes, ReadFault> {
-        let mut room = [0u8; LONGEST];
-        let Some(place) = self.place(path, &mut room) else {
-            return Err(ReadFault::Failed);
-        };
+    /// Reads the front of a regular file.
+    fn read_at(&self, place: &str) -> Result<Bytes, ReadFault>
+        ensures { IfOk result (λ bytes. length bytes ≤ read_limit) }
+    {
         if !self.is_file(place)? {
             return Err(ReadFault::Failed);
         }
@@ -135,39 +128,124 @@ impl<R: Files<File = File> + Clock + AllocGlobal, L: Launcher> Tree for HostWorl
         }
     }
 
+    /// Whether a regular file is there that someone may execute.
+    fn is_program(&self, place: &str) -> bool {
+        match fs::metadata(self.rt, place) {
+            Ok(metadata) => {
+                metadata.is_file() && metadata.permissions().mode() & EXECUTE_RIGHTS != 0
+            }
+            Err(_) => false,
+        }
+    }
+
+    /// Whether a program is in a directory; the empty one is the working directory.
+    fn is_program_in(&self, directory: &str, name: &str) -> bool {
+        let mut room = [0u8; LONGEST_PATH];
+        let between = if directory.is_empty() { "" } else { "/" };
+        match joined_path(directory, between, name, &mut room) {
+            Some(place) => self.is_program(place),
+            None => false,
+        }
+    }
+
+    /// Whether a program is in one of the directories, which have colons between them.
+    fn is_program_among(&self, directories: &str, name: &str) -> bool {
+        for directory in directories.split(':') {
+            if self.is_program_in(directory, name) {
+                return true;
+            }
+        }
+        false
+    }
+}
+
+impl<R: Files<File = File> + Clock + AllocGlobal, O: Os + Drop> Tree for HostWorld<'_, R, O> {
+    ghost use Rattle.kt_cli.specs.HostFiles.{IsLook};
+
+    // Of what a real file holds only the length is said.
+    ghost asks = { λ s q t. IsLook s.runner q t.runner };
+
+    fn read(&mut self, path: &Text) -> Result<Bytes, ReadFault> {
+        let mut room = [0u8; LONGEST_PATH];
+        match joined_path(self.directory.as_str(), "", path.as_str(), &mut room) {
+            Some(place) => self.read_at(place),
+            None => Err(ReadFault::Failed),
+        }
+    }
+
     fn exists(&mut self, path: &Text) -> bool {
-        let mut room = [0u8; LONGEST];
-        match self.place(path, &mut room) {
+        let mut room = [0u8; LONGEST_PATH];
+        match joined_path(self.directory.as_str(), "", path.as_str(), &mut room) {
             Some(place) => matches!(self.is_file(place), Ok(true)),
             None => false,
         }
     }
 }
 
-impl<R, L: Launcher> Launcher for HostWorld<'_, R, L> {
-    ghost running = { λ s k r. L.running s.launcher k r };
+impl<R, O: Os + Drop> Launcher for HostWorld<'_, R, O> {
+    ghost use Rattle.kt_child.specs.Board.{is_among, shown_at};
+    ghost use Rattle.kt_cli.specs.HostAnswers.{RunnerStarts, RunnerWaits};
 
-    ghost pending = { λ s k. L.pending s.launcher k };
+    ghost running = { λ s. shown_at s.runner.driver.row.cases };
 
-    ghost starts = { λ s job role a t. L.starts s.launcher job role a t.launcher };
+    ghost pending = { λ s. is_among s.runner.driver.row.pending };
 
-    ghost waits = { λ s e t. L.waits s.launcher e t.launcher };
+    ghost starts = { λ s job role a t. RunnerStarts O.leads s.runner job role a t.runner };
+
+    ghost waits = { λ s e t. RunnerWaits O.leads s.runner e t.runner };
 
     fn start(&mut self, job: &Job, role: Role) -> StartAnswer {
-        self.launcher.start(job, role)
+        self.runner.driver.start(job, role)
     }
 
     fn wait(&mut self) -> Ended {
-        self.launcher.wait()
+        self.runner.driver.wait()
     }
 }
 
-impl<R: Files<File = File> + Clock + AllocGlobal, L: Launcher> World for HostWorld<'_, R, L> {
+impl<R: Files<File = File> + Clock + AllocGlobal, O: Os + Drop> World for HostWorld<'_, R, O> {
     ghost use Rattle.std.specs.Prelude.{◌≡◌};
     ghost use Rattle.std.proofs.Common.{ap};
+    ghost use Rattle.kt_child.specs.Board.{Board, is_among, shown_at};
+    ghost use Rattle.kt_cli.specs.HostAnswers.{IsHostAnswer, row_kept};
 
-    // Nothing is said of the real time.
-    ghost tells = { λ s _ t. t.launcher ≡ s.launcher };
+    ghost tells = { λ s q t. IsHostAnswer O.leads s.runner q t.runner };
+
+    fn config(&mut self, path: &Text) -> Result<Bytes, ReadFault> {
+        self.read_at(path.as_str())
+    }
+
+    fn list(&mut self, program: &Program, variables: &Variables) -> Listing {
+        self.runner.driver.list(program, variables)
+    }
+
+    fn file_exists(&mut self, path: &Text) -> bool {
+        fs::metadata(self.rt, path.as_str()).is_ok()
+    }
+
+    fn program_found(&mut self, name: &Text) -> bool {
+        if is_absolute(name) {
+            return self.is_program(name.as_str());
+        }
+        match &self.runner.around.path {
+            Some(path) if !has_slash(name.as_str()) => {
+                self.is_program_among(path.as_str(), name.as_str())
+            }
+            _ => false,
+        }
+    }
+
+    fn is_root(&mut self) -> bool {
+        self.runner.around.is_root()
+    }
+
+    fn memory(&mut self) -> Option<u64> {
+        None
+    }
+
+    fn disk(&mut self) -> Option<u64> {
+        None
+    }
 
     fn now(&mut self) -> u64 {
         let Ok(now) = SystemTime::now(self.rt) else {
@@ -182,11 +260,11 @@ impl<R: Files<File = File> + Clock + AllocGlobal, L: Launcher> World for HostWor
         }
     }
 
-    ghost runs_on = { λ s t q h k r. ap (λ l. L.running l k r) h.0 };
+    ghost runs_on = { λ s t q h k r. ap (λ x. shown_at x.driver.row.cases k r) h.0 };
 
-    ghost pends_on = { λ s t q h k. ap (λ l. L.pending l k) h.0 };
+    ghost pends_on = { λ s t q h k. ap (λ x. is_among x.driver.row.pending k) h.0 };
 
-    ghost runs_told = { λ s t q h k r. ap (λ l. L.running l k r) h };
+    ghost runs_told = { λ s t q h k r. ap (λ (b : Board). shown_at b.cases k r) (row_kept O.leads s.runner t.runner q h) };
 
-    ghost pends_told = { λ s t q h k. ap (λ l. L.pending l k) h };
+    ghost pends_told = { λ s t q h k. ap (λ (b : Board). is_among b.pending k) (row_kept O.leads s.runner t.runner q h) };
 }

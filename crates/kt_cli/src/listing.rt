@@ -1,46 +1,72 @@
-ghost use Rattle.std.specs.Prelude.{flat_map};
+ghost use Rattle.std.specs.Prelude.{◌≡◌, flat_map, if◌then◌else◌};
 ghost use Rattle.kt_base.specs.Shows.{Shows};
 ghost use Rattle.kt_base.specs.Utf8.{utf8};
-ghost use Rattle.kt_cli.specs.FaultLines.{fault_line};
-ghost use Rattle.kt_cli.specs.Listings.{case_line, Listed};
+ghost use Rattle.kt_sched.specs.Children.{IsIdle};
+ghost use Rattle.kt_cli.specs.CaseLines.{case_line};
+ghost use Rattle.kt_cli.specs.Meaning.{ToldOnly};
 ghost use Rattle.kt_cli.specs.Pages.{Says};
+ghost use Rattle.kt_cli.specs.Testing.{none_idle};
+ghost use Rattle.kt_cli.specs.declared.command.Command.TheVariants as command;
 
+use crate::candidate::Candidate;
+use crate::case_options::CaseOptions;
 use crate::exit::{Exit, ended};
-use crate::fault_line::say_fault;
 use crate::page::{say_text, say_words};
-use crate::programs::programs_of;
-use kt_base::Text;
-use kt_suite::{Program, Tree};
+use crate::selecting::select_cases;
+use crate::stopping::stopped;
+use crate::warnings::say_warnings;
+use crate::world::World;
 use std::alloc::Global;
 use std::io::Write;
 
-/// Tells the one case of a program.
-fn say_case<O: Write>(failed: bool, program: &Program, out: &mut O) -> bool
-    ensures { Says (O.contents out.old) failed (O.contents out.new) result (utf8 (case_line program.now)) }
+/// Tells a case.
+fn say_case<O: Write>(failed: bool, case: &Candidate, out: &mut O) -> bool
+    ensures { Says (O.contents out.old) failed (O.contents out.new) result (utf8 (case_line case.now)) }
 {
-    let named = say_text(failed, &program.path, out);
-    say_words(named, ":main\n", out)
+    let program = say_text(failed, &case.path, out);
+    let colon = say_words(program, ":", out);
+    let name = say_text(colon, &case.case.name, out);
+    say_words(name, "\n", out)
 }
 
-/// Tells the cases of programs. Answers whether the writer failed.
-fn say_cases<O: Write>(programs: &[Program], out: &mut O) -> bool
-    ensures { Shows (O.contents out.old) (O.contents out.new) result (utf8 (flat_map case_line programs.now)) }
+/// Tells cases. Answers whether the writer failed.
+fn say_cases<O: Write>(cases: &[Candidate], out: &mut O) -> bool
+    ensures { Shows (O.contents out.old) (O.contents out.new) result (utf8 (flat_map case_line cases.now)) }
 {
     let mut failed = false;
-    let mut rest = programs;
-    while let Some((program, after)) = rest.split_first() {
-        failed = say_case(failed, program, out);
+    let mut rest = cases;
+    while let Some((case, after)) = rest.split_first() {
+        failed = say_case(failed, case, out);
         rest = after;
     }
     failed
 }
 
-/// The command `list`.
-pub fn list<T: Tree, O: Write>(alloc: Global, kyuafile: &Text, tree: &mut T, out: &mut O) -> Exit
-    ensures { Listed T.asks kyuafile.now tree.old tree.new (O.contents out.old) (O.contents out.new) result.status }
+/// The status of a command by the filters that select no case.
+pub fn status_by(unmatched: &[usize]) -> u8
+    ensures { result ≡ (if none_idle unmatched.now then 0 else 1) }
 {
-    match programs_of(alloc, kyuafile, tree) {
-        Ok(programs) => ended(say_cases(programs.as_slice(), out), 0),
-        Err(fault) => ended(say_fault(&fault, out), 2),
+    if unmatched.is_empty() { 0 } else { 1 }
+}
+
+/// The command `list`.
+pub fn list<W: World, O: Write>(
+    alloc: Global,
+    options: &CaseOptions,
+    world: &mut W,
+    out: &mut O,
+) -> Exit
+    requires { IsIdle (W.running world.old) (W.pending world.old) }
+    ensures told { ToldOnly W.asks W.tells W.starts W.waits (command.List options.now) world.old world.new (O.contents out.old) (O.contents out.new) result.status }
+    ensures idle { IsIdle (W.running world.new) (W.pending world.new) }
+{
+    match select_cases(alloc, false, options, world) {
+        Ok(picked) => {
+            let told = say_cases(picked.chosen.cases.as_slice(), out);
+            let unmatched = picked.chosen.unmatched.as_slice();
+            let warned = say_warnings(told, options.filters.as_slice(), unmatched, out);
+            ended(warned, status_by(unmatched))
+        }
+        Err(fault) => stopped(&fault, out),
     }
 }

@@ -9,7 +9,7 @@ use kt_report::line;
 use std::io::Write;
 
 /// Gives bytes to a writer, unless it failed before. Answers whether it has failed now.
-fn say<O: Write>(failed: bool, bytes: &[u8], out: &mut O) -> bool
+pub fn say_bytes<O: Write>(failed: bool, bytes: &[u8], out: &mut O) -> bool
     ensures { Says (O.contents out.old) failed (O.contents out.new) result bytes.now }
 {
     if failed {
@@ -22,14 +22,14 @@ fn say<O: Write>(failed: bool, bytes: &[u8], out: &mut O) -> bool
 pub fn say_words<O: Write>(failed: bool, words: &str, out: &mut O) -> bool
     ensures { Says (O.contents out.old) failed (O.contents out.new) result (utf8 (chars words.now)) }
 {
-    say(failed, words.as_bytes(), out)
+    say_bytes(failed, words.as_bytes(), out)
 }
 
 /// Gives a text to a writer.
 pub fn say_text<O: Write>(failed: bool, text: &Text, out: &mut O) -> bool
     ensures { Says (O.contents out.old) failed (O.contents out.new) result (utf8 text.now) }
 {
-    say(failed, text.as_str().as_bytes(), out)
+    say_bytes(failed, text.as_str().as_bytes(), out)
 }
 
 /// Gives a number in decimal to a writer.

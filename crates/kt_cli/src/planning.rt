@@ -1,42 +1,94 @@
-ghost use Rattle.std.specs.Prelude.{◌≡◌, ◌≤◌, length, IfOk};
-ghost use Rattle.kt_cli.specs.Plans.{job_of, plan_of};
-ghost use Rattle.kt_suite.specs.Registered.{program_limit};
+ghost use Rattle.std.specs.Prelude.{◌≡◌, ◌≤◌, ◌&&◌, length, IfOk};
+ghost use Rattle.kt_metadata.specs.Requirements.{first_reason, rows};
+ghost use Rattle.kt_sched.specs.Plan.{IsFit, IsPlan};
+ghost use Rattle.kt_suite.specs.Selecting.{most_items};
+ghost use Rattle.kt_cli.specs.Planning.{is_atf, ArePlanned, IsDecided, IsJobOf};
 
-use kt_base::{Items, NoMemory, Text, Variables};
+use crate::candidate::Candidate;
+use crate::case_meta::{declared_of, meta_of};
+use crate::copies::copy_of_reason;
+use crate::suite_vars::variables_for;
+use kt_base::{Interface, Items, NoMemory, Verdict};
+use kt_config::Config;
+use kt_metadata::{Host, Meta, unmet};
 use kt_sched::Job;
-use kt_suite::Program;
 use std::alloc::Global;
 
-/// How long a case may take that says nothing of it, in seconds.
-const DEFAULT_TIMEOUT: u32 = 300;
-
-/// The one case of a program, at this position.
-fn main_job(alloc: Global, position: u32, program: &Program) -> Result<Job, NoMemory>
-    ensures { IfOk result (λ job. job ≡ job_of position program.now) }
+/// Whether a case declares a cleanup, which cases of ATF programs alone may have.
+fn declares_cleanup(interface: Interface, meta: &Meta) -> bool
+    ensures { result ≡ (is_atf interface && meta.now.has_cleanup) }
 {
+    match interface {
+        Interface::Atf => meta.has_cleanup,
+        Interface::Tap | Interface::Plain => false,
+    }
+}
+
+/// The verdict of a case that isn't to be started: its list has a fault, or else a requirement
+/// isn't met.
+fn decided(
+    alloc: Global,
+    candidate: &Candidate,
+    meta: &Meta,
+    config: &Config,
+    host: &Host,
+) -> Result<Option<Verdict>, NoMemory>
+    ensures { IfOk result (λ decided. IsDecided candidate.now.case.fault
+        (first_reason (rows meta.now config.now candidate.now.suite host.now)) decided) }
+{
+    if let Some(reason) = &candidate.case.fault {
+        return Ok(Some(Verdict::broken(copy_of_reason(reason)?)));
+    }
+    match unmet(alloc, meta, config, &candidate.suite, host)? {
+        Some(reason) => Ok(Some(Verdict::skipped(reason))),
+        None => Ok(None),
+    }
+}
+
+/// The job of a case at a position.
+fn job_at(
+    alloc: Global,
+    config: &Config,
+    host: &Host,
+    position: u32,
+    candidate: &Candidate,
+) -> Result<Job, NoMemory>
+    ensures is { IfOk result (λ job. IsJobOf config.now host.now position candidate.now job) }
+    ensures fit { IfOk result (λ job. IsFit job) }
+{
+    let meta = meta_of(&candidate.case.props)?;
+    let decided = decided(alloc, candidate, &meta, config, host)?;
     Ok(Job {
         position,
-        interface: program.interface,
-        program: program.path.copy()?,
-        case_name: Text::from_characters(alloc, &['m', 'a', 'i', 'n'])?,
-        vars: Variables::new(alloc),
-        timeout: DEFAULT_TIMEOUT,
-        exclusive: false,
-        cleanup: false,
-        decided: None,
+        interface: candidate.interface,
+        program: candidate.path.copy()?,
+        case_name: candidate.case.name.copy()?,
+        vars: variables_for(alloc, config, &candidate.suite)?,
+        timeout: meta.timeout,
+        exclusive: meta.is_exclusive,
+        cleanup: declares_cleanup(candidate.interface, &meta),
+        decided,
+        meta: declared_of(&candidate.case.props)?,
     })
 }
 
-/// One job a program, in order.
-pub fn make_plan(alloc: Global, programs: &[Program]) -> Result<Items<Job>, NoMemory>
-    requires { length programs.now ≤ program_limit }
-    ensures { IfOk result (λ plan. plan ≡ plan_of programs.now) }
+/// The plan of some cases, at most 100,000: one job a case, in order. A case whose list has a fault
+/// is broken before it is started, and one with an unmet requirement is skipped.
+pub fn make_plan(
+    alloc: Global,
+    config: &Config,
+    host: &Host,
+    cases: &[Candidate],
+) -> Result<Items<Job>, NoMemory>
+    requires { length cases.now ≤ most_items }
+    ensures planned { IfOk result (λ plan. ArePlanned config.now host.now 0 cases.now plan) }
+    ensures plan { IfOk result (λ plan. IsPlan plan × (length plan ≡ length cases.now)) }
 {
     let mut plan = Items::new(alloc);
     let mut position: u32 = 0;
-    let mut rest = programs;
-    while let Some((program, after)) = rest.split_first() {
-        plan.push(main_job(alloc, position, program)?)?;
+    let mut rest = cases;
+    while let Some((candidate, after)) = rest.split_first() {
+        plan.push(job_at(alloc, config, host, position, candidate)?)?;
         position += 1;
         rest = after;
     }

@@ -1,11 +1,11 @@
-ghost use Rattle.std.specs.Prelude.{◌≡◌, ◌⊎◌, ◌≤◌, Ok, Err, length, IfOk};
+ghost use Rattle.std.specs.Prelude.{◌≡◌, ◌⊎◌, ◌≤◌, length, IfOk};
 ghost use Rattle.kt_suite.specs.Answers.{Answered};
 ghost use Rattle.kt_suite.specs.Faults.{Blames, no_memory};
 ghost use Rattle.kt_suite.specs.Paths.{is_empty};
 ghost use Rattle.kt_suite.specs.Registered.{program_limit};
-ghost use Rattle.kt_cli.specs.Listings.{FindsUnready, Loads, RanShort, unready};
+ghost use Rattle.kt_cli.specs.Listings.{Loads, RanShort};
 
-use kt_base::{Interface, Items, NoMemory, Text};
+use kt_base::{Items, NoMemory, Text};
 use kt_suite::{Program, SuiteCause, SuiteFault, Tree, load, split_path};
 use std::alloc::Global;
 
@@ -40,33 +40,6 @@ fn fault_of(alloc: Global, file: &Text, cause: SuiteCause) -> SuiteFault
     }
 }
 
-/// Why no command runs a program yet, if none does.
-fn unready(program: &Program) -> Option<SuiteCause>
-    ensures { result ≡ unready program.now.interface program.now.props }
-{
-    if matches!(program.interface, Interface::Atf) {
-        return Some(SuiteCause::UnknownCall);
-    }
-    if program.props.is_empty() {
-        return None;
-    }
-    Some(SuiteCause::UnknownProperty)
-}
-
-/// The first program that no command runs yet, as a fault.
-fn first_unready(alloc: Global, programs: &[Program]) -> Option<SuiteFault>
-    ensures { FindsUnready programs.now result }
-{
-    let mut rest = programs;
-    while let Some((program, after)) = rest.split_first() {
-        if let Some(cause) = unready(program) {
-            return Some(fault_of(alloc, &program.path, cause));
-        }
-        rest = after;
-    }
-    None
-}
-
 /// The programs that a Kyuafile registers, whose directory is the root of the tree.
 pub fn programs_of<T: Tree>(
     alloc: Global,
@@ -83,12 +56,5 @@ pub fn programs_of<T: Tree>(
     if is_empty(&root) {
         return Err(fault_of(alloc, kyuafile, SuiteCause::Unreadable));
     }
-    let programs = match load(alloc, tree, &root) {
-        Ok(programs) => programs,
-        Err(fault) => return Err(fault),
-    };
-    match first_unready(alloc, programs.as_slice()) {
-        Some(fault) => Err(fault),
-        None => Ok(programs),
-    }
+    load(alloc, tree, &root)
 }

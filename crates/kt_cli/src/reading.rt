@@ -1,11 +1,10 @@
-ghost use Rattle.std.specs.Prelude.{◌≡◌, ◌≤◌, false, true, is_some, IfOk, IfSome};
-ghost use Rattle.kt_cli.specs.CommandLines.{HasItsOptions};
+ghost use Rattle.std.specs.Prelude.{◌≡◌, ◌≤◌, map, chars, IfOk, IfSome};
 ghost use Rattle.kt_cli.specs.Commands.{HasRunNumber};
 
 use crate::arguments::all_words;
+use crate::case_options::CaseOptions;
 use crate::command::Command;
 use crate::command_fault::CommandFault;
-use crate::command_line::CommandLine;
 use crate::filter::{default_kinds, kinds_in};
 use crate::numbers::run_number;
 use clap::ArgMatches;
@@ -22,6 +21,41 @@ fn text_of<'a>(alloc: Global, matches: &ArgMatches<'a>, name: &str) -> Result<Te
         return Err(CommandFault::Usage(Text::new(alloc)));
     };
     Ok(Text::from_str(alloc, word)?)
+}
+
+/// The value of an option, if it is given.
+fn text_given<'a>(
+    alloc: Global,
+    matches: &ArgMatches<'a>,
+    name: &str,
+) -> Result<Option<Text>, NoMemory> {
+    match matches.get_str(name) {
+        None => Ok(None),
+        Some(word) => Ok(Some(Text::from_str(alloc, word)?)),
+    }
+}
+
+/// Words, in their order.
+fn texts(alloc: Global, words: &[&str]) -> Result<Items<Text>, NoMemory>
+    ensures { IfOk result (λ texts. texts ≡ map (λ word. chars word.now) words.now) }
+{
+    let mut texts = Items::new(alloc);
+    for word in words {
+        texts.push(Text::from_str(alloc, word)?)?;
+    }
+    Ok(texts)
+}
+
+/// The values of an option or argument that may be given several times, in their order.
+fn texts_given<'a>(
+    alloc: Global,
+    matches: &ArgMatches<'a>,
+    name: &str,
+) -> Result<Items<Text>, NoMemory> {
+    match matches.get_strs(name) {
+        None => Ok(Items::new(alloc)),
+        Some(words) => texts(alloc, words),
+    }
 }
 
 /// The run that is asked for, if one is.
@@ -44,107 +78,137 @@ fn kinds_of<'a>(alloc: Global, matches: &ArgMatches<'a>) -> Result<Items<Kind>, 
     }
 }
 
-/// The line of a command over the file of the results.
-fn with_results<'a>(
+/// The options of a command over test cases: those before the command, and its own.
+fn case_options<'a>(
     alloc: Global,
-    matches: &ArgMatches<'a>,
-    command: Command,
-) -> Result<CommandLine, CommandFault>
-    ensures command { IfOk result (λ line. line.command ≡ command) }
-    ensures work { IfOk result (λ line. is_some line.work ≡ false) }
-    ensures results { IfOk result (λ line. is_some line.results ≡ true) }
-{
-    let results = text_of(alloc, matches, "results")?;
-    Ok(CommandLine {
-        command,
-        work: None,
-        results: Some(results),
+    before: &ArgMatches<'a>,
+    own: &ArgMatches<'a>,
+) -> Result<CaseOptions, CommandFault> {
+    let config = text_given(alloc, before, "config")?;
+    let variables = texts_given(alloc, before, "variables")?;
+    let kyuafile = text_of(alloc, own, "kyuafile")?;
+    let work = text_of(alloc, own, "work")?;
+    let filters = texts_given(alloc, own, "filters")?;
+    Ok(CaseOptions {
+        config,
+        variables,
+        kyuafile,
+        work,
+        filters,
     })
 }
 
-fn read_report<'a>(alloc: Global, matches: &ArgMatches<'a>) -> Result<CommandLine, CommandFault>
-    ensures number { IfOk result (λ line. HasRunNumber line.command) }
-    ensures options { IfOk result (λ line. HasItsOptions line) }
+fn read_list<'a>(
+    alloc: Global,
+    before: &ArgMatches<'a>,
+    own: &ArgMatches<'a>,
+) -> Result<Command, CommandFault>
+    ensures { IfOk result HasRunNumber }
 {
-    let kinds = kinds_of(alloc, matches)?;
-    let run = run_of(matches)?;
-    let line = with_results(alloc, matches, Command::Report { run, kinds })?;
-    Ok(line)
+    let options = case_options(alloc, before, own)?;
+    Ok(Command::List(options))
 }
 
-fn read_junit<'a>(alloc: Global, matches: &ArgMatches<'a>) -> Result<CommandLine, CommandFault>
-    ensures number { IfOk result (λ line. HasRunNumber line.command) }
-    ensures options { IfOk result (λ line. HasItsOptions line) }
+fn read_test<'a>(
+    alloc: Global,
+    before: &ArgMatches<'a>,
+    own: &ArgMatches<'a>,
+) -> Result<Command, CommandFault>
+    ensures { IfOk result HasRunNumber }
 {
-    let run = run_of(matches)?;
-    let line = with_results(alloc, matches, Command::ReportJunit { run })?;
-    Ok(line)
+    let options = case_options(alloc, before, own)?;
+    let results = text_of(alloc, own, "results")?;
+    Ok(Command::Test { options, results })
 }
 
-fn read_list<'a>(alloc: Global, matches: &ArgMatches<'a>) -> Result<CommandLine, CommandFault>
-    ensures number { IfOk result (λ line. HasRunNumber line.command) }
-    ensures options { IfOk result (λ line. HasItsOptions line) }
+fn read_debug<'a>(
+    alloc: Global,
+    before: &ArgMatches<'a>,
+    own: &ArgMatches<'a>,
+) -> Result<Command, CommandFault>
+    ensures { IfOk result HasRunNumber }
 {
-    let kyuafile = text_of(alloc, matches, "kyuafile")?;
-    let work = text_of(alloc, matches, "work")?;
-    Ok(CommandLine {
-        command: Command::List(kyuafile),
-        work: Some(work),
-        results: None,
+    let options = case_options(alloc, before, own)?;
+    Ok(Command::Debug(options))
+}
+
+fn read_report<'a>(alloc: Global, own: &ArgMatches<'a>) -> Result<Command, CommandFault>
+    ensures { IfOk result HasRunNumber }
+{
+    let kinds = kinds_of(alloc, own)?;
+    let run = run_of(own)?;
+    let results = text_of(alloc, own, "results")?;
+    Ok(Command::Report {
+        results,
+        run,
+        kinds,
+        verbose: own.get_flag("verbose"),
     })
 }
 
-fn read_test<'a>(alloc: Global, matches: &ArgMatches<'a>) -> Result<CommandLine, CommandFault>
-    ensures number { IfOk result (λ line. HasRunNumber line.command) }
-    ensures options { IfOk result (λ line. HasItsOptions line) }
+fn read_junit<'a>(alloc: Global, own: &ArgMatches<'a>) -> Result<Command, CommandFault>
+    ensures { IfOk result HasRunNumber }
 {
-    let kyuafile = text_of(alloc, matches, "kyuafile")?;
-    let work = text_of(alloc, matches, "work")?;
-    let results = text_of(alloc, matches, "results")?;
-    Ok(CommandLine {
-        command: Command::Test(kyuafile),
-        work: Some(work),
-        results: Some(results),
-    })
+    let run = run_of(own)?;
+    let results = text_of(alloc, own, "results")?;
+    Ok(Command::ReportJunit { results, run })
 }
 
-fn read_matches<'a>(alloc: Global, matches: &ArgMatches<'a>) -> Result<CommandLine, CommandFault>
-    ensures number { IfOk result (λ line. HasRunNumber line.command) }
-    ensures options { IfOk result (λ line. HasItsOptions line) }
+/// A command over test cases, if it is one.
+fn read_cases<'a>(alloc: Global, matches: &ArgMatches<'a>) -> Result<Option<Command>, CommandFault>
+    ensures { IfOk result (λ command. IfSome command HasRunNumber) }
 {
     if let Some(list) = matches.subcommand_matches("list") {
-        let line = read_list(alloc, list)?;
-        return Ok(line);
+        let command = read_list(alloc, matches, list)?;
+        return Ok(Some(command));
     }
     if let Some(test) = matches.subcommand_matches("test") {
-        let line = read_test(alloc, test)?;
-        return Ok(line);
+        let command = read_test(alloc, matches, test)?;
+        return Ok(Some(command));
     }
+    if let Some(debug) = matches.subcommand_matches("debug") {
+        let command = read_debug(alloc, matches, debug)?;
+        return Ok(Some(command));
+    }
+    Ok(None)
+}
+
+/// A command over recorded runs.
+fn read_reports<'a>(alloc: Global, matches: &ArgMatches<'a>) -> Result<Command, CommandFault>
+    ensures { IfOk result HasRunNumber }
+{
     if let Some(report) = matches.subcommand_matches("report") {
-        let line = read_report(alloc, report)?;
-        return Ok(line);
+        let command = read_report(alloc, report)?;
+        return Ok(command);
     }
     if let Some(junit) = matches.subcommand_matches("report-junit") {
-        let line = read_junit(alloc, junit)?;
-        return Ok(line);
+        let command = read_junit(alloc, junit)?;
+        return Ok(command);
     }
     Err(CommandFault::Usage(Text::new(alloc)))
 }
 
-/// The command line (kyua(1)) of these words, without the program's own name. A wrong command line is refused before a
-/// wrong results filter, and that before a wrong run number. Which words are which command is `clap`'s, and shown by
-/// tests.
-pub fn read_command<'a>(alloc: Global, words: &'a [String]) -> Result<CommandLine, CommandFault>
-    ensures number { IfOk result (λ line. HasRunNumber line.command) }
-    ensures options { IfOk result (λ line. HasItsOptions line) }
+fn read_matches<'a>(alloc: Global, matches: &ArgMatches<'a>) -> Result<Command, CommandFault>
+    ensures { IfOk result HasRunNumber }
+{
+    match read_cases(alloc, matches)? {
+        Some(command) => Ok(command),
+        None => read_reports(alloc, matches),
+    }
+}
+
+/// The command of these words (kyua(1)), without the program's own name. A wrong command line is refused before a wrong
+/// results filter, and that before a wrong run number. Which words are which command is `clap`'s, and shown by tests.
+pub fn read_command<'a>(alloc: Global, words: &'a [String]) -> Result<Command, CommandFault>
+    ensures { IfOk result HasRunNumber }
 {
     let command = all_words(alloc)?;
     let matches = match command.try_get_matches_from(words) {
         Ok(matches) => matches,
         Err(error) => return Err(CommandFault::of_words(alloc, error)),
     };
-    let line = read_matches(alloc, &matches)?;
-    Ok(line)
+    let command = read_matches(alloc, &matches)?;
+    Ok(command)
 }
 
 /// Why words that aren't UTF-8 are no command line.

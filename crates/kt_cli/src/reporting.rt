@@ -90,17 +90,18 @@ fn say_not_shown<O: Write>(why: NotShown, out: &mut O) -> bool
     }
 }
 
-/// The command `report`.
+/// The command `report`. `verbose` tells that what a case declared stands beneath its line.
 pub fn report<R: ResultStore, O: Write>(
     number: Option<u64>,
     kinds: &[Kind],
+    verbose: bool,
     results: &mut R,
     out: &mut O,
 ) -> Exit
-    ensures { (runs : List Recorded) → R.stands results.old runs → Left R.stands R.sound R.leaves runs results.old results.new (O.contents out.old) (O.contents out.new) result.status (λ deed. Reported number kinds.now runs deed ⊎ Unread runs deed) }
+    ensures { (runs : List Recorded) → R.stands results.old runs → Left R.stands R.sound R.leaves runs results.old results.new (O.contents out.old) (O.contents out.new) result.status (λ deed. Reported number kinds.now verbose runs deed ⊎ Unread runs deed) }
 {
     match read_run(number, results) {
-        Ok(run) => match text(&run, kinds, out) {
+        Ok(run) => match text(&run, kinds, verbose, out) {
             Ok(()) => ended(false, 0),
             Err(_) => ended(true, 0),
         },

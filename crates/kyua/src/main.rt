@@ -4,7 +4,7 @@
 use kt_base::{NoMemory, Text};
 use kt_child::{DriverFault, HostOs};
 use kt_cli::{
-    CommandFault, CommandLine, Exit, LineOutput, MemRuns, execute_on_host, read_command,
+    Command, CommandFault, Exit, LineOutput, MemRuns, Surroundings, execute_on_host, read_command,
     tell_command_fault, tell_driver_fault, tell_store_fault, unreadable_words, with_closed,
 };
 use kt_store::{ResultStore, Results, StoreFault};
@@ -18,11 +18,8 @@ use std::{env, fs, io};
 /// The rights of its owner to read and write a file.
 const OWNER_RIGHTS: u32 = 0o600;
 
-/// The absolute working directory, for a command that makes work directories.
-fn here(rt: &HostRuntime, line: &CommandLine) -> Result<Text, DriverFault> {
-    if line.work.is_none() {
-        return Ok(Text::new(rt.alloc()));
-    }
+/// The absolute working directory.
+fn here(rt: &HostRuntime) -> Result<Text, DriverFault> {
     match env::current_dir(rt) {
         Ok(here) => Text::from_str(rt.alloc(), here.as_str()).map_err(DriverFault::NoMemory),
         Err(error) => match NoMemory::in_error(&error) {
@@ -30,6 +27,19 @@ fn here(rt: &HostRuntime, line: &CommandLine) -> Result<Text, DriverFault> {
             None => Err(DriverFault::NoWorkDirectory),
         },
     }
+}
+
+/// What a command finds around it; one that makes no work directory asks for nothing.
+fn surroundings(rt: &HostRuntime, command: &Command) -> Result<Surroundings, DriverFault> {
+    if command.cases().is_none() {
+        return Ok(Surroundings {
+            here: Text::new(rt.alloc()),
+            path: None,
+            user: None,
+        });
+    }
+    let here = here(rt)?;
+    Surroundings::new(rt, here).map_err(DriverFault::NoMemory)
 }
 
 /// The path of the log beside a file of results.
@@ -77,27 +87,27 @@ fn close_results(results: Results<FileStore<StoreFile>>) -> Result<(), StoreFaul
     Ok(results.detach().close()?)
 }
 
-/// Does a command line over the host and a store.
+/// Does a command over the host and a store.
 fn perform<S: ResultStore, W: Write>(
     rt: &HostRuntime,
-    line: &CommandLine,
+    command: &Command,
     results: &mut S,
     out: &mut W,
 ) -> Exit {
-    let here = match here(rt, line) {
-        Ok(here) => here,
+    let around = match surroundings(rt, command) {
+        Ok(around) => around,
         Err(fault) => return tell_driver_fault(fault, out),
     };
-    match execute_on_host(rt, HostOs::new(rt), here.as_str(), line, results, out) {
+    match execute_on_host(rt, HostOs::new(rt), around, command, results, out) {
         Ok(exit) => exit,
         Err(fault) => tell_driver_fault(fault, out),
     }
 }
 
-/// Does a command line over the results in a file, which is closed whatever was done.
+/// Does a command over the results in a file, which is closed whatever was done.
 fn perform_in_file<W: Write>(
     rt: &HostRuntime,
-    line: &CommandLine,
+    command: &Command,
     file: &Text,
     out: &mut W,
 ) -> Exit {
@@ -105,24 +115,24 @@ fn perform_in_file<W: Write>(
         Ok(results) => results,
         Err(fault) => return tell_store_fault(fault, out),
     };
-    let exit = perform(rt, line, &mut results, out);
+    let exit = perform(rt, command, &mut results, out);
     let closed = close_results(results);
     with_closed(exit, closed, out)
 }
 
-/// Does a command line over its own store, that of its file or an empty one in memory, and writes its text on standard
-/// output, line for line.
-fn perform_line(rt: &HostRuntime, line: &CommandLine) -> Exit {
+/// Does a command over its own store, that of its file or an empty one in memory, and writes its text on standard output,
+/// line for line.
+fn perform_command(rt: &HostRuntime, command: &Command) -> Exit {
     let mut out = LineOutput::new(io::writer(rt));
-    let exit = match &line.results {
-        Some(file) => perform_in_file(rt, line, file, &mut out),
-        None => perform(rt, line, &mut MemRuns::new(rt.alloc()), &mut out),
+    let exit = match command.results() {
+        Some(file) => perform_in_file(rt, command, file, &mut out),
+        None => perform(rt, command, &mut MemRuns::new(rt.alloc()), &mut out),
     };
     out.finish(exit)
 }
 
-/// The command line that the words after the program's own name are.
-fn read_line(rt: &HostRuntime) -> Result<CommandLine, CommandFault> {
+/// The command that the words after the program's own name are.
+fn read_words(rt: &HostRuntime) -> Result<Command, CommandFault> {
     let arguments = match env::args(rt) {
         Ok(arguments) => arguments,
         Err(error) => return Err(refused_words(rt, &error)),
@@ -151,8 +161,8 @@ fn refuse(rt: &HostRuntime, fault: &CommandFault) -> Exit {
 }
 
 fn main(rt: HostRuntime) -> ExitCode {
-    let exit = match read_line(&rt) {
-        Ok(line) => perform_line(&rt, &line),
+    let exit = match read_words(&rt) {
+        Ok(command) => perform_command(&rt, &command),
         Err(fault) => refuse(&rt, &fault),
     };
     ExitCode::from(exit.status)

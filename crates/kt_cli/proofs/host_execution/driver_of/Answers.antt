@@ -1,7 +1,8 @@
-use Rattle.std.proofs.Common.{rules, ◌≡◌, ◌∙◌, refl, subst, sym}
+use Rattle.std.proofs.Common.{rules, ◌≡◌, ◌∙◌, ℕ, List, ap, refl, subst, sym}
 use Rattle.kt_sched.specs.Children.{IsIdle}
 use Rattle.kt_child.specs.Board.{Board, empty_board, is_among, shown_at}
 use Rattle.kt_cli.specs.Hosts.{not_absolute, no_memory}
+use Rattle.kt_cli.specs.Places.{source_directory}
 use Rattle.kt_cli.proofs.Refusing.{no_root}
 use Rattle.kt_cli.proofs.host_execution.driver_of.Goals as goal
 
@@ -15,13 +16,13 @@ returns-in-Ok-new-clause-idle g c = idle c.in-Ok-new.driver.row (search rules)
 pub returns-in-Ok-new-clause-made : goal.returns-in-Ok-new-clause-made
 returns-in-Ok-new-clause-made g c =
     let e = c.in-Ok-new.ensures in
-    record { calls = e.0.0; asked = e.0.1; found = e.0.2; source = e.1 ∙ c.in-Ok.ensures; first = e.2; none_runs = e.3 }
+    record { calls = e.0.0; asked = e.0.1; found = e.0.2; source = e.1 ∙ c.in-Ok.ensures ∙ ap (λ (here : List ℕ). source_directory here c.args.kyuafile.now) c.as_str.ensures.characters; first = e.2; none_runs = e.3 }
 
 pub returns-then-not-is_absolute-clause-refused : goal.returns-then-not-is_absolute-clause-refused
-returns-then-not-is_absolute-clause-refused g c = not_absolute c.args.work.now (search rules)
+returns-then-not-is_absolute-clause-refused g c = not_absolute (search rules)
 
 pub returns-in-Err-clause-refused : goal.returns-in-Err-clause-refused
-returns-in-Err-clause-refused g c = no_memory _ _
+returns-in-Err-clause-refused g c = no_memory _
 
 pub returns-clause-refused : goal.returns-clause-refused
 returns-clause-refused g c = no_root g.O.Os.leads c.args.os _ c.args.work.now c.in-Err-new.fault c.in-Err-new.ensures

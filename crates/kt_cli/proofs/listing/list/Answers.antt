@@ -1,13 +1,15 @@
-use Rattle.std.proofs.Common.{rules, ◌≡◌}
-use Rattle.std.specs.Prelude.{Ok, Err}
-use Rattle.kt_cli.proofs.Listed.{listed_loaded, shown_of}
+use Rattle.std.proofs.Common.{rules, ◌≡◌, refl}
+use Rattle.kt_cli.proofs.Testings.{printed_listing, listed_only, stopped_only}
 use Rattle.kt_cli.proofs.listing.list.Goals as goal
 
-pub returns-in-Ok : goal.returns-in-Ok
-returns-in-Ok g c =
-    let same : c.as_slice.result.now ≡ c.in-Ok.programs = search rules in
-    listed_loaded g.T.Tree.asks _ _ _ _ _ _ _ (Ok c.in-Ok.programs) c.in-Ok.ensures.loaded (shown_of _ _ _ _ _ same c.say_cases.ensures) c.ended.ensures
+pub returns-in-Ok-clause-told : goal.returns-in-Ok-clause-told
+returns-in-Ok-clause-told g c =
+    let a : c.as_slice.result.now ≡ c.in-Ok.picked.chosen.cases = search rules in
+    let b : c.as_slice-in-Ok.result.now ≡ c.args.options.now.filters = search rules in
+    let d : c.as_slice-unmatched.result.now ≡ c.in-Ok.picked.chosen.unmatched = search rules in
+    listed_only g.W.Tree.asks g.W.World.tells g.W.Launcher.starts g.W.Launcher.waits _ _ _ _ _ _ c.in-Ok.picked c.in-Ok.ensures.selects
+    (printed_listing c.args.options.now c.in-Ok.picked _ _ _ _ _ _ _ _ _ _ a b d c.say_cases-told.ensures c.say_warnings-warned.ensures c.status_by.ensures c.ended.ensures)
 
-pub returns-in-Err : goal.returns-in-Err
-returns-in-Err g c =
-    listed_loaded g.T.Tree.asks _ _ _ _ _ _ _ (Err c.in-Err.fault) c.in-Err.ensures.loaded c.say_fault.ensures c.ended-in-Err.ensures
+pub returns-in-Err-clause-told : goal.returns-in-Err-clause-told
+returns-in-Err-clause-told g c =
+    stopped_only g.W.Tree.asks g.W.World.tells g.W.Launcher.starts g.W.Launcher.waits _ c.args.options.now _ _ _ _ _ _ c.in-Err.fault refl refl c.in-Err.ensures.selects c.stopped.ensures

@@ -1,9 +1,7 @@
-use Rattle.std.proofs.Common.{rules, ◌≡◌, ◌∙◌, [], ap, sym, refl, inl}
+use Rattle.std.proofs.Common.{◌≡◌, ◌∙◌, [], ap, sym, refl, inl}
 use Rattle.std.specs.Prelude.{false, true}
 use Rattle.kt_suite.specs.Paths.{is_empty, name_in}
-use Rattle.kt_suite.specs.declared.program.Program.{Program}
-use Rattle.kt_cli.specs.Listings.{FindsUnready}
-use Rattle.kt_cli.proofs.Loading.{not_there, faulty, refused, accepted}
+use Rattle.kt_cli.proofs.Loading.{not_there, loaded}
 use Rattle.kt_cli.proofs.programs.programs_of.Goals as goal
 
 pub returns-in-Err-clause-loaded : goal.returns-in-Err-clause-loaded
@@ -14,17 +12,7 @@ returns-then-is_empty-clause-loaded g c =
     let none : is_empty (name_in c.args.kyuafile.now) ≡ true = ap is_empty (sym c.in-Ok.ensures.name) ∙ sym c.is_empty.ensures ∙ c.if-is_empty.true in
     not_there g.T.Tree.asks c.args.kyuafile.now c.args.tree.now c.fault_of.result none c.fault_of.ensures
 
-pub returns-in-Err-load-clause-loaded : goal.returns-in-Err-load-clause-loaded
-returns-in-Err-load-clause-loaded g c =
-    let full : is_empty (name_in c.args.kyuafile.now) ≡ false = ap is_empty (sym c.in-Ok.ensures.name) ∙ sym c.is_empty.ensures ∙ c.if-is_empty.false in
-    faulty g.T.Tree.asks c.args.kyuafile.now c.args.tree.now c.load.new.tree c.in-Ok.root c.in-Ok.ensures.name full c.in-Err-load.fault c.in-Err-load.ensures.loaded
-
-pub returns-in-Some-clause-loaded : goal.returns-in-Some-clause-loaded
-returns-in-Some-clause-loaded g c =
-    let full : is_empty (name_in c.args.kyuafile.now) ≡ false = ap is_empty (sym c.in-Ok.ensures.name) ∙ sym c.is_empty.ensures ∙ c.if-is_empty.false in
-    refused g.T.Tree.asks c.args.kyuafile.now c.args.tree.now c.load.new.tree c.in-Ok.root c.in-Ok.ensures.name full c.in-Ok-load.programs c.in-Ok-load.ensures.loaded c.in-Some.fault (search rules)
-
 pub returns-clause-loaded : goal.returns-clause-loaded
 returns-clause-loaded g c =
     let full : is_empty (name_in c.args.kyuafile.now) ≡ false = ap is_empty (sym c.in-Ok.ensures.name) ∙ sym c.is_empty.ensures ∙ c.if-is_empty.false in
-    accepted g.T.Tree.asks c.args.kyuafile.now c.args.tree.now c.load.new.tree c.in-Ok.root c.in-Ok.ensures.name full c.in-Ok-load.programs c.in-Ok-load.ensures.loaded (search rules)
+    loaded g.T.Tree.asks c.args.kyuafile.now c.args.tree.now c.load.new.tree c.in-Ok.root c.load.result c.in-Ok.ensures.name full c.load.ensures.loaded

@@ -8,21 +8,21 @@ pub returns-in-Err-clause-ran : goal.returns-in-Err-clause-ran
 returns-in-Err-clause-ran g c =
     let b = c.in-Err.ensures in
     let t : c.len-total.result ≡ length c.args.plan = search rules in
-    ran_unbegun g.L.Launcher.starts g.L.Launcher.waits g.R.ResultStore.stands g.R.ResultStore.sound g.R.ResultStore.leaves g.met.R.ResultStore.numbered _ _ _ _ _ _ _ _ _ _ _ t b.kept b.refused b.earlier b.crash c.say_refusal.ensures c.ended.ensures
+    ran_unbegun g.L.Launcher.starts g.L.Launcher.waits g.R.ResultStore.stands g.R.ResultStore.sound g.R.ResultStore.leaves g.met.R.ResultStore.numbered _ _ _ _ _ _ _ _ _ _ _ _ _ _ t b.kept b.refused b.earlier b.crash c.say_refusal.ensures c.ended.ensures
 
 pub returns-in-Err-NoMemory-clause-ran : goal.returns-in-Err-NoMemory-clause-ran
 returns-in-Err-NoMemory-clause-ran g c =
     let a : c.record_cases-answer.result.0 ≡ Err (NoMemory c.in-Err-NoMemory._refusal) = search rules in
     let t : c.len-total.result ≡ length c.args.plan = search rules in
     let b = c.in-Ok.ensures in
-    ran_none g.L.Launcher.starts g.L.Launcher.waits g.R.ResultStore.stands g.R.ResultStore.sound g.R.ResultStore.leaves g.met.R.ResultStore.numbered _ _ _ _ _ _ _ _ _ _ _ _ _ _ _ b.added b.number b.earlier b.durable t _ c.record_cases-answer.ensures.records c.in-Err-NoMemory._refusal a c.say_memory.ensures c.ended-in-Err-NoMemory.ensures
+    ran_none g.L.Launcher.starts g.L.Launcher.waits g.R.ResultStore.stands g.R.ResultStore.sound g.R.ResultStore.leaves g.met.R.ResultStore.numbered _ _ _ _ _ _ _ _ _ _ _ _ _ _ _ _ _ _ b.added b.number b.earlier b.durable t _ c.record_cases-answer.ensures.records c.in-Err-NoMemory._refusal a c.say_memory.ensures c.ended-in-Err-NoMemory.ensures
 
 pub returns-in-Err-SinkFailed-clause-ran : goal.returns-in-Err-SinkFailed-clause-ran
 returns-in-Err-SinkFailed-clause-ran g c =
     let a : c.record_cases-answer.result.0 ≡ Err (SinkFailed c.in-Err-SinkFailed.fault) = search rules in
     let t : c.len-total.result ≡ length c.args.plan = search rules in
     let b = c.in-Ok.ensures in
-    ran_some g.L.Launcher.starts g.L.Launcher.waits g.R.ResultStore.stands g.R.ResultStore.sound g.R.ResultStore.leaves g.met.R.ResultStore.numbered _ _ _ _ _ _ _ _ _ _ _ _ _ _ _ b.added b.number b.earlier b.durable t _ c.record_cases-answer.ensures.records c.in-Err-SinkFailed.fault a c.say_put.ensures c.ended-in-Err-SinkFailed.ensures
+    ran_some g.L.Launcher.starts g.L.Launcher.waits g.R.ResultStore.stands g.R.ResultStore.sound g.R.ResultStore.leaves g.met.R.ResultStore.numbered _ _ _ _ _ _ _ _ _ _ _ _ _ _ _ _ _ _ b.added b.number b.earlier b.durable t _ c.record_cases-answer.ensures.records c.in-Err-SinkFailed.fault a c.say_put.ensures c.ended-in-Err-SinkFailed.ensures
 
 pub returns-in-Err-finish-clause-ran : goal.returns-in-Err-finish-clause-ran
 returns-in-Err-finish-clause-ran g c =
@@ -30,7 +30,7 @@ returns-in-Err-finish-clause-ran g c =
     let t : c.len-total.result ≡ length c.args.plan = search rules in
     let b = c.in-Ok.ensures in
     let e = c.in-Err-finish.ensures in
-    ran_unfinished g.L.Launcher.starts g.L.Launcher.waits g.R.ResultStore.stands g.R.ResultStore.sound g.R.ResultStore.leaves g.met.R.ResultStore.numbered _ _ _ _ _ _ _ _ _ _ _ _ _ _ _ b.added b.number b.earlier b.durable t _ c.record_cases-answer.ensures.records _ c.in-Ok-answer.totals a e.earlier c.in-Err-finish.fault e.kept e.refused e.crash c.say_refusal-in-Err-finish.ensures c.ended-in-Err-finish.ensures
+    ran_unfinished g.L.Launcher.starts g.L.Launcher.waits g.R.ResultStore.stands g.R.ResultStore.sound g.R.ResultStore.leaves g.met.R.ResultStore.numbered _ _ _ _ _ _ _ _ _ _ _ _ _ _ _ _ _ _ b.added b.number b.earlier b.durable t _ c.record_cases-answer.ensures.records _ c.in-Ok-answer.totals a e.earlier c.in-Err-finish.fault e.kept e.refused e.crash c.say_refusal-in-Err-finish.ensures c.ended-in-Err-finish.ensures
 
 pub returns-in-Ok-finish-clause-ran : goal.returns-in-Ok-finish-clause-ran
 returns-in-Ok-finish-clause-ran g c =
@@ -38,4 +38,4 @@ returns-in-Ok-finish-clause-ran g c =
     let t : c.len-total.result ≡ length c.args.plan = search rules in
     let b = c.in-Ok.ensures in
     let e = c.in-Ok-finish.ensures in
-    ran_all g.L.Launcher.starts g.L.Launcher.waits g.R.ResultStore.stands g.R.ResultStore.sound g.R.ResultStore.leaves g.met.R.ResultStore.numbered _ _ _ _ _ _ _ _ _ _ _ _ _ _ _ b.added b.number b.earlier b.durable t _ c.record_cases-answer.ensures.records _ c.in-Ok-answer.totals a e.earlier _ e.finished e.durable c.say_totals-told.ensures c.status_of.ensures c.ended-in-Ok-finish.ensures
+    ran_all g.L.Launcher.starts g.L.Launcher.waits g.R.ResultStore.stands g.R.ResultStore.sound g.R.ResultStore.leaves g.met.R.ResultStore.numbered _ _ _ _ _ _ _ _ _ _ _ _ _ _ _ _ _ _ b.added b.number b.earlier b.durable t _ c.record_cases-answer.ensures.records _ c.in-Ok-answer.totals a e.earlier _ e.finished e.durable c.say_ending-told.ensures c.status_of.ensures c.ended-in-Ok-finish.ensures

@@ -1,38 +1,32 @@
-use Rattle.std.proofs.Common.{ap, ◌∙◌}
-use Rattle.kt_cli.specs.Plans.{plan_of}
-use Rattle.kt_cli.proofs.PlanLaws.{plan_runs, plan_few}
-use Rattle.kt_cli.proofs.Testings.{idle_after, idle_on, did_fault, did_short, did_test}
+use Rattle.std.proofs.Common.{rules, ◌≡◌, refl, sym, ap, ◌∙◌, subst}
+use Rattle.kt_cli.proofs.Testings.{idle_told, stopped_only, short_only, did_told, did_test_parts as did_test, printed_memory, plan_few}
 use Rattle.kt_cli.proofs.testing.test.Goals as goal
 
 pub returns-in-Err-clause-did : goal.returns-in-Err-clause-did
 returns-in-Err-clause-did g c =
-    did_fault g.W.Tree.asks g.W.World.tells g.W.Launcher.starts g.W.Launcher.waits g.R.ResultStore.stands g.R.ResultStore.sound g.R.ResultStore.leaves _ _ _ _ _ _ _ c.in-Err.fault _ c.in-Err.ensures.loaded c.say_fault.ensures c.ended.ensures
+    did_told g.W.Tree.asks g.W.World.tells g.W.Launcher.starts g.W.Launcher.waits g.R.ResultStore.stands g.R.ResultStore.sound g.R.ResultStore.leaves _ _ _ _ _ _ _
+    (stopped_only g.W.Tree.asks g.W.World.tells g.W.Launcher.starts g.W.Launcher.waits _ c.args.options.now _ _ _ _ _ _ c.in-Err.fault refl refl c.in-Err.ensures.selects c.stopped.ensures)
 
-pub returns-in-Err-clause-idle : goal.returns-in-Err-clause-idle
-returns-in-Err-clause-idle g c =
-    let a = c.in-Err.ensures.loaded in
-    idle_after g.W.Tree.asks g.W.World.tells g.W.Launcher.starts g.W.Launcher.waits g.W.Launcher.running g.W.Launcher.pending g.met.W.World.runs_on g.met.W.World.pends_on _ _ a.asked a.chain c.requires
-
-pub returns-in-Err-make_plan-clause-did : goal.returns-in-Err-make_plan-clause-did
-returns-in-Err-make_plan-clause-did g c =
-    did_short g.W.Tree.asks g.W.World.tells g.W.Launcher.starts g.W.Launcher.waits g.R.ResultStore.stands g.R.ResultStore.sound g.R.ResultStore.leaves _ _ _ _ _ _ _ _ _ c.in-Ok.ensures.loaded c.say_memory.ensures c.ended-in-Err-make_plan.ensures
-
-pub returns-in-Err-make_plan-clause-idle : goal.returns-in-Err-make_plan-clause-idle
-returns-in-Err-make_plan-clause-idle g c =
-    let a = c.in-Ok.ensures.loaded in
-    idle_after g.W.Tree.asks g.W.World.tells g.W.Launcher.starts g.W.Launcher.waits g.W.Launcher.running g.W.Launcher.pending g.met.W.World.runs_on g.met.W.World.pends_on _ _ a.asked a.chain c.requires
-
-pub run_plan-requires-clause-plan : goal.run_plan-requires-clause-plan
-run_plan-requires-clause-plan g c = plan_runs _ _ c.in-Ok-make_plan.ensures
+pub returns-in-Err-prepare-clause-did : goal.returns-in-Err-prepare-clause-did
+returns-in-Err-prepare-clause-did g c =
+    did_told g.W.Tree.asks g.W.World.tells g.W.Launcher.starts g.W.Launcher.waits g.R.ResultStore.stands g.R.ResultStore.sound g.R.ResultStore.leaves _ _ _ _ _ _ _
+    (short_only g.W.Tree.asks g.W.World.tells g.W.Launcher.starts g.W.Launcher.waits _ c.args.options.now _ _ _ _ _ _ _ _ refl c.in-Ok.ensures.selects c.in-Err-prepare.ensures.planned (printed_memory _ _ _ _ c.say_memory.ensures c.ended.ensures))
 
 pub run_plan-requires-clause-few : goal.run_plan-requires-clause-few
-run_plan-requires-clause-few g c = plan_few c.in-Ok.programs c.as_slice.result.now c.in-Ok-make_plan.plan _ c.in-Ok-make_plan.ensures c.as_slice.ensures c.in-Ok.ensures.few
+run_plan-requires-clause-few g c =
+    let a : c.as_slice.result.now ≡ c.in-Ok.picked.chosen.cases = search rules in
+    plan_few c.in-Ok.picked.chosen.cases c.as_slice.result.now c.in-Ok-prepare.plan a c.in-Ok-prepare.ensures.plan.1 c.in-Ok.ensures.few
+
+pub run_plan-requires-clause-width : goal.run_plan-requires-clause-width
+run_plan-requires-clause-width g c = record { positive = c.parallelism.ensures.within.0; limited = c.parallelism.ensures.within.1 }
 
 pub run_plan-requires-clause-idle : goal.run_plan-requires-clause-idle
 run_plan-requires-clause-idle g c =
-    let a = c.in-Ok.ensures.loaded in
-    idle_on g.W.Tree.asks g.W.World.tells g.W.Launcher.starts g.W.Launcher.waits g.W.Launcher.running g.W.Launcher.pending g.met.W.World.runs_on g.met.W.World.pends_on g.met.W.World.runs_told g.met.W.World.pends_told _ _ _ a.asked _ a.chain c.now-moment.ensures.told c.requires
+    idle_told g.W.Tree.asks g.W.World.tells g.W.Launcher.starts g.W.Launcher.waits g.W.Launcher.running g.W.Launcher.pending g.met.W.World.runs_told g.met.W.World.pends_told _ _ _ c.now-moment.ensures.told c.in-Ok-prepare.ensures.idle
 
 pub returns-clause-did : goal.returns-clause-did
 returns-clause-did g c =
-    did_test g.W.Tree.asks g.W.World.tells g.W.Launcher.starts g.W.Launcher.waits g.R.ResultStore.stands g.R.ResultStore.sound g.R.ResultStore.leaves _ _ _ _ _ _ _ _ _ _ c.in-Ok.programs c.in-Ok-make_plan.plan _ c.in-Ok.ensures.loaded (c.in-Ok-make_plan.ensures ∙ ap plan_of c.as_slice.ensures) c.now-moment.ensures.told c.run_plan.ensures.ran
+    let a : c.as_slice.result.now ≡ c.in-Ok.picked.chosen.cases = search rules in
+    let b : c.as_slice-2.result.now ≡ c.args.options.now.filters = search rules in
+    let d : c.as_slice-3.result.now ≡ c.in-Ok.picked.chosen.unmatched = search rules in
+    did_test g.W.Tree.asks g.W.World.tells g.W.Launcher.starts g.W.Launcher.waits g.R.ResultStore.stands g.R.ResultStore.sound g.R.ResultStore.leaves _ _ _ _ _ c.args.options.now c.args.file.now _ _ _ _ _ c.in-Ok.picked c.in-Ok-prepare.plan _ _ _ _ _ a b d c.in-Ok.ensures.selects c.in-Ok-prepare.ensures.planned c.now-moment.ensures.told c.parallelism.ensures.value c.run_plan.ensures.ran

@@ -1,0 +1,57 @@
+-- Cases are run and told one after the other.
+use Rattle.std.specs.Prelude.{Option, Result, Ok, Err, take}
+use Rattle.std.proofs.Common.{◌≡◌, ℕ, Bool, List, [], ◌∷◌, length, refl, sym, ◌∙◌, subst}
+use Rattle.kt_base.specs.declared.entry.Entry.{Entry}
+use Rattle.kt_sched.specs.declared.job.Job.{Job}
+use Rattle.kt_sched.specs.declared.sink_fault.SinkFault.{SinkFault}
+use Rattle.kt_sched.specs.declared.totals.Totals.{Totals}
+use Rattle.kt_sched.specs.declared.run_fault.RunFault.{RunFault}
+use Rattle.kt_sched.specs.declared.run_fault.RunFault.TheVariants.{NoMemory, SinkFailed}
+use Rattle.kt_sched.specs.EntryOf.{Gains, AreEntries}
+use Rattle.kt_sched.specs.RecordOrder.{recorded as record_order}
+use Rattle.kt_sched.specs.Run.{EndsAs}
+use Rattle.kt_sched.specs.Trace.{Trace}
+use Rattle.kt_cli.specs.Debugging.{Prints, debug_bytes, all_debug_bytes, DebugEnds}
+use Rattle.kt_cli.specs.Pages.{Says}
+use Rattle.kt_cli.proofs.Gainings.{all_entries}
+use Rattle.kt_cli.proofs.Saying.{tells_both, tells_nothing}
+
+never_refused : (fault : SinkFault) → ◌≡◌ {A = Result (Unit {0}) SinkFault} (Err fault) (Ok tt) → ⊥
+never_refused fault e = cc
+
+module _ {S : Type 0} (gives : S → Entry → Result (Unit {0}) SinkFault → S → Type 0) (failed : S → Bool) (held : S → Option (List ℕ)) (name : S → ℕ)
+    (each : (s t : S) (e : Entry) (r : Result (Unit {0}) SinkFault) → gives s e r t → (name t ≡ name s) × Prints (failed s) (held s) e r (failed t) (held t)) where
+  -- what was told of some entries, to the same writer
+  pub record Printed (es : List Entry) (s t : S) : Type 0 where
+    pub same_out : name t ≡ name s
+    pub says : Says (held s) (failed s) (held t) (failed t) (all_debug_bytes es)
+
+  -- the same, and how it ended
+  pub record Ended (plan : List Job) (T : Trace) (es : List Entry) (answer : Result Totals RunFault) (s t : S) : Type 0 where
+    pub same_out : name t ≡ name s
+    pub says : Says (held s) (failed s) (held t) (failed t) (all_debug_bytes es)
+    pub ends : DebugEnds plan T es answer
+
+  printed_all : (es : List Entry) (s t : S) → Gains gives es s t → Printed es s t
+  printed_all [] s t g = subst (λ (u : S). Printed [] s u) (sym g) (record { same_out = refl; says = tells_nothing (held s) (failed s) })
+  printed_all (e ∷ es) s t g =
+      let m = g.0 in
+      let p = each s m e (Ok tt) g.1 in
+      let r = printed_all es m t g.2 in
+      record { same_out = r.same_out ∙ p.0; says = tells_both (held s) (held m) (held t) (failed s) (failed m) (failed t) (debug_bytes e) (all_debug_bytes es) p.1.1 r.says }
+
+  -- what came of a plan that was run for `debug`
+  pub debug_ends : (plan : List Job) (T : Trace) (es : List Entry) (answer : Result Totals RunFault) (s t : S) → AreEntries plan T (take (length es) (record_order plan 1 T)) es
+      → EndsAs gives plan 1 T es s t answer → Ended plan T es answer s t
+  debug_ends plan T es (Ok totals) s t a e =
+      let p = printed_all es s t e.gains in
+      record {
+        same_out = p.same_out;
+        says = p.says;
+        ends = (record { legal = e.legal; once = e.once; are = all_entries plan T (record_order plan 1 T) es (e.all ∙ sym e.once.all) a }, e.counts);
+      }
+  debug_ends plan T es (Err (NoMemory refusal)) s t a e =
+      let p = printed_all es s t (subst (λ (xs : List Entry). Gains gives xs s t) (sym e.entries) e.same) in
+      record { same_out = p.same_out; says = p.says; ends = (e.events, e.entries) }
+  debug_ends plan T es (Err (SinkFailed fault)) s t a e =
+      absurd (never_refused fault (each e.failed.mid t e.failed.refused (Err fault) e.failed.fails).1.0)

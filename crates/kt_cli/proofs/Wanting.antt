@@ -1,0 +1,51 @@
+-- Whether some filter selects a case that a program could have.
+use Rattle.std.proofs.Common.{◌≡◌, ℕ, ◌<◌, List, [], ◌∷◌, sym, subst, ◌⊎◌, inl, inr, Contains, arith}
+use Rattle.std.proofs.lemmas.List.Elements.{Contains-append_left, Contains-append_right, Contains-append_cases, Contains-push, Contains-push_cases}
+use Rattle.kt_suite.specs.declared.filter.Filter.{Filter}
+use Rattle.kt_suite.specs.Matching.{MayMatch}
+
+-- one of some filters selects a case of a program
+abbrev pub AnyMatches : List Filter → List ℕ → Type 0
+AnyMatches filters path = (one : Filter) × Contains filters one × MayMatch one path
+
+none_in : (one : Filter) → Contains [] one → ⊥
+none_in one h = absurd (let less : h.0 < 0 = h.1 in omega (arith, less))
+
+only_in : (f one : Filter) → Contains (f ∷ []) one → f ≡ one
+only_in f one h = by (Contains-push_cases [] f one h)
+  where
+    by : Contains [] one ⊎ (f ≡ one) → f ≡ one
+    by (inl c) = absurd (none_in one c)
+    by (inr e) = e
+
+-- the filters to come are among all
+abbrev pub AreAmong : List Filter → List Filter → Type 0
+AreAmong rest all = (one : Filter) → Contains rest one → Contains all one
+
+pub among_all : (all : List Filter) → AreAmong all all
+among_all all one h = h
+
+pub among_after : (f : Filter) (after rest all : List Filter) → rest ≡ f ∷ after → AreAmong rest all → AreAmong after all
+among_after f after rest all e h one c = h one (subst (λ (xs : List Filter). Contains xs one) (sym e) (Contains-append_right (f ∷ []) after one c))
+
+-- the first of the rest selects a case
+pub found_first : (f : Filter) (after rest all : List Filter) (path : List ℕ) → rest ≡ f ∷ after → AreAmong rest all → MayMatch f path → AnyMatches all path
+found_first f after rest all path e h m = (f, h f (subst (λ (xs : List Filter). Contains xs f) (sym e) (Contains-append_left (f ∷ []) after f (Contains-push [] f))), m)
+
+-- what selects a case is still to come
+abbrev pub IsAhead : List Filter → List Filter → List ℕ → Type 0
+IsAhead rest all path = AnyMatches all path → AnyMatches rest path
+
+pub ahead_after : (f : Filter) (after rest all : List Filter) (path : List ℕ) → rest ≡ f ∷ after → (MayMatch f path → ⊥) → IsAhead rest all path → IsAhead after all path
+ahead_after f after rest all path e never h any =
+    let found = h any in
+    by found.0 found.2 (Contains-append_cases (f ∷ []) after found.0 (subst (λ (xs : List Filter). Contains xs found.0) e found.1))
+  where
+    by : (one : Filter) → MayMatch one path → Contains (f ∷ []) one ⊎ Contains after one → AnyMatches after path
+    by one m (inl c) = absurd (never (subst (λ (x : Filter). MayMatch x path) (sym (only_in f one c)) m))
+    by one m (inr c) = (one, c, m)
+
+pub none_matches : (rest all : List Filter) (path : List ℕ) → rest ≡ [] → IsAhead rest all path → AnyMatches all path → ⊥
+none_matches rest all path e h any =
+    let found = h any in
+    none_in found.0 (subst (λ (xs : List Filter). Contains xs found.0) e found.1)

@@ -1,0 +1,13 @@
+use Rattle.std.proofs.Common.{◌∙◌, ap}
+use Rattle.std.specs.Str.{chars}
+use Rattle.std.specs.Prelude.{codes, List, ℕ}
+use Rattle.kt_base.specs.Utf8.{utf8}
+use Rattle.kt_cli.specs.Stops.{quoted_line}
+use Rattle.kt_cli.proofs.FaultWords.{chars-config}
+use Rattle.kt_cli.proofs.Saying.{says_same}
+use Rattle.kt_cli.proofs.stop_line.say_variable.Goals as goal
+
+pub returns : goal.returns
+unfolding chars
+returns g c =
+    says_same _ _ _ _ _ _ (ap (λ (text : List ℕ). utf8 (quoted_line (codes "variable") c.args.name.now text)) (ap chars c.config_words.ensures ∙ chars-config c.args.fault)) c.say_quoted.ensures

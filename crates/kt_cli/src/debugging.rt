@@ -1,0 +1,81 @@
+ghost use Rattle.std.specs.Prelude.{◌≡◌, ◌==◌, ◌≤◌, length, if◌then◌else◌};
+ghost use Rattle.kt_sched.specs.Children.{IsIdle};
+ghost use Rattle.kt_sched.specs.Plan.{IsPlan};
+ghost use Rattle.kt_cli.specs.Debugging.{Debugged};
+ghost use Rattle.kt_cli.specs.Meaning.{ToldOnly};
+ghost use Rattle.kt_cli.specs.declared.command.Command.TheVariants as command;
+
+use crate::case_options::CaseOptions;
+use crate::exit::{Exit, ended};
+use crate::fault_line::say_memory;
+use crate::preparing::prepare;
+use crate::printer::Printer;
+use crate::selecting::select_cases;
+use crate::stopping::stopped;
+use crate::warnings::say_warnings;
+use crate::world::World;
+use kt_base::Items;
+use kt_sched::{Job, Launcher, RunFault, Totals, run_cases};
+use std::alloc::Global;
+use std::io::Write;
+
+/// Runs a plan one case at a time, and tells what each case wrote and its line. Answers how it ended, and whether the writer
+/// failed.
+fn print_cases<L: Launcher, O: Write>(
+    alloc: Global,
+    plan: Items<Job>,
+    launcher: &mut L,
+    out: &mut O,
+) -> (Result<Totals, RunFault>, bool)
+    requires plan { IsPlan plan }
+    requires idle { IsIdle (L.running launcher.old) (L.pending launcher.old) }
+    ensures debugged { Debugged L.starts L.waits plan launcher.old launcher.new (O.contents out.old) (O.contents out.new) result.1 result.0 }
+    ensures idle { IsIdle (L.running launcher.new) (L.pending launcher.new) }
+{
+    let mut printer = Printer { out, failed: false };
+    let answer = run_cases(alloc, plan, 1, launcher, &mut printer);
+    // No effect when it runs: from this use the proof reads what was lent to the printer.
+    let _ = &*printer.out;
+    (answer, printer.failed)
+}
+
+/// The status of so many bad cases.
+fn status_of(bad: u64) -> u8
+    ensures { result ≡ (if bad == 0 then 0 else 1) }
+{
+    if bad == 0 { 0 } else { 1 }
+}
+
+/// The command `debug`: the first selected case runs alone, and nothing is recorded.
+pub fn debug<W: World, O: Write>(
+    alloc: Global,
+    options: &CaseOptions,
+    world: &mut W,
+    out: &mut O,
+) -> Exit
+    requires { IsIdle (W.running world.old) (W.pending world.old) }
+    ensures told { ToldOnly W.asks W.tells W.starts W.waits (command.Debug options.now) world.old world.new (O.contents out.old) (O.contents out.new) result.status }
+    ensures idle { IsIdle (W.running world.new) (W.pending world.new) }
+{
+    let picked = match select_cases(alloc, true, options, world) {
+        Ok(picked) => picked,
+        Err(fault) => return stopped(&fault, out),
+    };
+    let cases = picked.chosen.cases.as_slice();
+    let Some((_first, _others)) = cases.split_first() else {
+        let unmatched = picked.chosen.unmatched.as_slice();
+        let warned = say_warnings(false, options.filters.as_slice(), unmatched, out);
+        return ended(warned, 1);
+    };
+    let plan = match prepare(alloc, &picked.settings.config, &cases[..1], world) {
+        Ok(plan) => plan,
+        Err(_) => return ended(say_memory(false, out), 2),
+    };
+    let (answer, failed) = print_cases(alloc, plan, world, out);
+    match answer {
+        Ok(totals) => ended(failed, status_of(totals.bad)),
+        Err(RunFault::NoMemory(_refusal)) => ended(say_memory(failed, out), 2),
+        // Telling a case is never refused.
+        Err(RunFault::SinkFailed(_fault)) => unreachable!(),
+    }
+}

@@ -1,0 +1,64 @@
+ghost use Rattle.std.specs.Prelude.{◌≡◌, IfOk, bytes_eq, chars};
+ghost use Rattle.kt_cli.specs.HostAnswers.{is_root};
+
+use kt_base::{NoMemory, Text};
+use std::alloc::Global;
+use std::rt::Env;
+
+/// The longest variable of an environment, in bytes: Linux takes no longer one.
+const LONGEST_VARIABLE: usize = 131_072;
+
+/// The working directory and the environment of the process that carries out a command.
+#[derive(Debug, Drop)]
+pub struct Surroundings {
+    /// The absolute working directory.
+    pub here: Text,
+    /// The value of `PATH`, if it is set: the directories in which programs are looked for.
+    pub path: Option<Text>,
+    /// The value of `USER`, if it is set: who runs the command.
+    pub user: Option<Text>,
+}
+
+/// The value of a variable, which is copied through a room.
+fn variable<R: Env + AllocGlobal>(
+    rt: &R,
+    name: &str,
+    room: &mut [u8],
+) -> Result<Option<Text>, NoMemory> {
+    let Ok(count) = rt.var(name, room) else {
+        return Ok(None);
+    };
+    match str::from_utf8(&room[..count]) {
+        Ok(value) => Ok(Some(Text::from_str(rt.alloc(), value)?)),
+        Err(_) => Ok(None),
+    }
+}
+
+/// Whether a text is this one.
+fn is_text(text: &Text, other: &str) -> bool
+    ensures { result ≡ bytes_eq text.now (chars other.now) }
+{
+    text.as_str() == other
+}
+
+impl Surroundings {
+    /// Takes the variables from the environment. One that isn't UTF-8 counts as not set.
+    pub fn new<R: Env + AllocGlobal>(rt: &R, here: Text) -> Result<Surroundings, NoMemory>
+        ensures { IfOk result (λ around. around.here ≡ here) }
+    {
+        let mut room = vec![in rt.alloc(); 0u8; LONGEST_VARIABLE]?;
+        let path = variable(rt, "PATH", &mut room)?;
+        let user = variable(rt, "USER", &mut room)?;
+        Ok(Surroundings { here, path, user })
+    }
+
+    /// Whether root runs the command.
+    pub fn is_root(&self) -> bool
+        ensures { result ≡ is_root self.now.user }
+    {
+        match &self.user {
+            Some(user) => is_text(user, "root"),
+            None => false,
+        }
+    }
+}
