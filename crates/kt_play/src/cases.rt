@@ -61,6 +61,7 @@ fn job_of(
         exclusive: false,
         cleanup,
         decided: None,
+        meta: Variables::new(alloc),
     })
 }
 

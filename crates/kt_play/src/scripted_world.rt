@@ -1,32 +1,22 @@
 use crate::scene::{Holding, bytes_at};
 use crate::shortage::ask_too_much;
-use kt_base::{Bytes, LATEST_MOMENT, Role, Text};
+use crate::stage::Stage;
+use kt_atflist::{ListBytes, Listing};
+use kt_base::{Bytes, LATEST_MOMENT, NoMemory, Refused, Role, Text, Variables};
 use kt_cli::World;
 use kt_sched::{Ended, Job, Launcher, StartAnswer};
-use kt_suite::{ReadFault, Tree};
+use kt_suite::{Program, ReadFault, Tree};
 use std::alloc::Global;
 
-/// What a scripted world has: files, programs and moments.
-#[derive(Drop)]
-pub struct Stage<'a> {
-    pub files: Vec<Holding<'a>>,
-    /// The programs that are there.
-    pub programs: Vec<&'a str>,
-    /// Files that can't be read.
-    pub locked: Vec<&'a str>,
-    /// Files that can't be read for want of memory.
-    pub dear: Vec<&'a str>,
-    /// The moments that are told, in milliseconds since 1970 in UTC; the last one stays.
-    pub moments: Vec<u64>,
-}
-
-/// A world of files in memory, a launcher, and a clock of its own.
+/// A world of files in memory and facts of a host, a launcher, and a clock of its own.
 #[derive(Drop)]
 pub struct ScriptedWorld<'a, L> {
     alloc: Global,
     stage: &'a Stage<'a>,
     /// How many moments were told.
     told: usize,
+    /// The place behind the last list that was told.
+    listed: usize,
     pub launcher: L,
 }
 
@@ -39,6 +29,31 @@ fn is_among(names: &[&str], path: &Text) -> bool {
     false
 }
 
+/// The bytes of one of these files.
+fn read_among(
+    alloc: Global,
+    stage: &Stage<'_>,
+    files: &[Holding<'_>],
+    path: &Text,
+) -> Result<Bytes, ReadFault> {
+    if is_among(stage.dear.as_slice(), path) {
+        if let Err(refusal) = ask_too_much(alloc) {
+            return Err(ReadFault::Memory(refusal));
+        }
+        return Err(ReadFault::Failed);
+    }
+    if is_among(stage.locked.as_slice(), path) {
+        return Err(ReadFault::Failed);
+    }
+    match bytes_at(files, path.as_str()) {
+        None => Err(ReadFault::Missing),
+        Some(bytes) => match Bytes::from_slice(alloc, bytes) {
+            Ok(bytes) => Ok(bytes),
+            Err(refusal) => Err(ReadFault::Memory(refusal)),
+        },
+    }
+}
+
 impl<'a, L: Launcher> ScriptedWorld<'a, L> {
     ghost use Rattle.std.specs.Prelude.{◌≡◌};
 
@@ -49,8 +64,43 @@ impl<'a, L: Launcher> ScriptedWorld<'a, L> {
             alloc,
             stage,
             told: 0,
+            listed: 0,
             launcher,
         }
+    }
+
+    /// The place of the next list of a program: the first behind the last one that was told, or else the first of all.
+    fn place_of_list(&self, program: &Text) -> Option<usize> {
+        let mut first = None;
+        for (place, listed) in self.stage.lists.iter().enumerate() {
+            if listed.program == program.as_str() {
+                if place >= self.listed {
+                    return Some(place);
+                }
+                first = first.or(Some(place));
+            }
+        }
+        first
+    }
+}
+
+/// What a program wrote, once more.
+fn copied_bytes(bytes: &ListBytes) -> Result<ListBytes, NoMemory> {
+    match bytes {
+        ListBytes::Read(text) => Ok(ListBytes::Read(text.copy()?)),
+        ListBytes::Unreadable => Ok(ListBytes::Unreadable),
+        ListBytes::TooLong => Ok(ListBytes::TooLong),
+    }
+}
+
+/// A list, once more.
+fn copied_listing(listing: &Listing) -> Listing {
+    match listing {
+        Listing::Refused(cause) => Listing::Refused(*cause),
+        Listing::Ended(outcome, bytes) => match copied_bytes(bytes) {
+            Ok(bytes) => Listing::Ended(*outcome, bytes),
+            Err(_) => Listing::Refused(Refused::Memory),
+        },
     }
 }
 
@@ -60,22 +110,8 @@ impl<L: Launcher> Tree for ScriptedWorld<'_, L> {
     ghost asks = { λ s _ t. t.launcher ≡ s.launcher };
 
     fn read(&mut self, path: &Text) -> Result<Bytes, ReadFault> {
-        if is_among(self.stage.dear.as_slice(), path) {
-            if let Err(refusal) = ask_too_much(self.alloc) {
-                return Err(ReadFault::Memory(refusal));
-            }
-            return Err(ReadFault::Failed);
-        }
-        if is_among(self.stage.locked.as_slice(), path) {
-            return Err(ReadFault::Failed);
-        }
-        match bytes_at(self.stage.files.as_slice(), path.as_str()) {
-            None => Err(ReadFault::Missing),
-            Some(bytes) => match Bytes::from_slice(self.alloc, bytes) {
-                Ok(bytes) => Ok(bytes),
-                Err(refusal) => Err(ReadFault::Memory(refusal)),
-            },
-        }
+        let stage = self.stage;
+        read_among(self.alloc, stage, stage.files.as_slice(), path)
     }
 
     fn exists(&mut self, path: &Text) -> bool {
@@ -106,6 +142,42 @@ impl<L: Launcher> World for ScriptedWorld<'_, L> {
     ghost use Rattle.std.proofs.Common.{ap};
 
     ghost tells = { λ s _ t. t.launcher ≡ s.launcher };
+
+    fn config(&mut self, path: &Text) -> Result<Bytes, ReadFault> {
+        let stage = self.stage;
+        read_among(self.alloc, stage, stage.configs.as_slice(), path)
+    }
+
+    fn list(&mut self, program: &Program, _variables: &Variables) -> Listing {
+        let Some(place) = self.place_of_list(&program.path) else {
+            return Listing::Refused(Refused::Spawn);
+        };
+        self.listed = place.saturating_add(1);
+        match self.stage.lists.get(place) {
+            Some(listed) => copied_listing(&listed.listing),
+            None => Listing::Refused(Refused::Spawn),
+        }
+    }
+
+    fn file_exists(&mut self, path: &Text) -> bool {
+        is_among(self.stage.found_files.as_slice(), path)
+    }
+
+    fn program_found(&mut self, name: &Text) -> bool {
+        is_among(self.stage.found_programs.as_slice(), name)
+    }
+
+    fn is_root(&mut self) -> bool {
+        self.stage.root
+    }
+
+    fn memory(&mut self) -> Option<u64> {
+        self.stage.memory
+    }
+
+    fn disk(&mut self) -> Option<u64> {
+        self.stage.disk
+    }
 
     fn now(&mut self) -> u64 {
         let moments = self.stage.moments.as_slice();

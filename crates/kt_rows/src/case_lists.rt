@@ -1,4 +1,5 @@
 use crate::endings::ending_of;
+use crate::listings::{HEADER, behind_header};
 use crate::properties::pair_of;
 use crate::row::Row;
 use crate::row_fault::RowFault;
@@ -8,8 +9,6 @@ use kt_atflist::{CaseDef, ListBytes, ListCause, ListFault, Listing, cases, parse
 use kt_base::{Bytes, Interface, Items, Reason, Text, Verdict};
 use kt_metadata::Props;
 use std::alloc::Global;
-
-const HEADER: &str = "Content-Type: application/X-atf-tp; version=\"1\"\n";
 
 fn cause_text(cause: ListCause) -> Result<&'static str, RowFault> {
     match cause {
@@ -106,12 +105,7 @@ fn list_text(alloc: Global, row: &Row<'_>) -> Result<Option<Vec<u8>>, RowFault> 
     }
     match row.bytes(alloc, "blocks")? {
         None => Ok(None),
-        Some(blocks) => {
-            let mut text = HEADER.as_bytes().to_vec(alloc)?;
-            text.push(b'\n')?;
-            text.extend_from_slice(&blocks)?;
-            Ok(Some(text))
-        }
+        Some(blocks) => Ok(Some(behind_header(alloc, &blocks)?)),
     }
 }
 

@@ -1,7 +1,7 @@
 use crate::escapes::unescaped;
 use crate::row::Row;
 use crate::row_fault::RowFault;
-use kt_cli::{Command, CommandFault, CommandLine, read_command};
+use kt_cli::{Command, CommandFault, read_command};
 use std::alloc::Global;
 
 /// The words of a line, which have spaces between them.
@@ -17,8 +17,8 @@ fn words_of(alloc: Global, line: &str) -> Result<Vec<String>, RowFault> {
     Ok(words)
 }
 
-/// The command line that a line spells, or why it is none.
-pub fn read_line(alloc: Global, line: &str) -> Result<Result<CommandLine, CommandFault>, RowFault> {
+/// The command that a line spells, or why it is none.
+pub fn read_line(alloc: Global, line: &str) -> Result<Result<Command, CommandFault>, RowFault> {
     let words = words_of(alloc, line)?;
     Ok(read_command(alloc, words.as_slice()))
 }
@@ -29,7 +29,7 @@ pub fn commands_of(alloc: Global, row: &Row<'_>) -> Result<Vec<Command>, RowFaul
     for entry in row.entries.as_slice() {
         if entry.word == "do" {
             match read_line(alloc, entry.text)? {
-                Ok(line) => commands.push(line.command)?,
+                Ok(command) => commands.push(command)?,
                 Err(_) => return Err(RowFault::Misspelled("there is no such command")),
             }
         }

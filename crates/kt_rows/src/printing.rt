@@ -11,7 +11,8 @@ pub enum Printed<'a> {
     WideNumber(u128),
     Reason(&'a Verdict),
     Line(&'a Entry),
-    Text(&'a Run, &'a [Kind]),
+    /// The text report of these kinds, and whether it is verbose.
+    Text(&'a Run, &'a [Kind], bool),
     Junit(Global, &'a Run),
 }
 
@@ -24,7 +25,9 @@ impl Printed<'_> {
             Printed::WideNumber(n) => emit_wide_number(n, out).is_err(),
             Printed::Reason(verdict) => verdict.print_reason(out).is_err(),
             Printed::Line(entry) => kt_report::line(entry, out).is_err(),
-            Printed::Text(run, kinds) => kt_report::text(run, kinds, out).is_err(),
+            Printed::Text(run, kinds, verbose) => {
+                kt_report::text(run, kinds, verbose, out).is_err()
+            },
             Printed::Junit(alloc, run) => kt_report::junit(alloc, run, out).is_err(),
         }
     }

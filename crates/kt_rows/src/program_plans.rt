@@ -75,6 +75,7 @@ fn job_of(alloc: Global, position: u32, case: &Case<'_>, limit: u32) -> Result<J
         exclusive: false,
         cleanup: declares(case.interface, case.cleanup),
         decided: None,
+        meta: Variables::new(alloc),
     })
 }
 

@@ -1,5 +1,6 @@
 use crate::escapes::unescaped;
 use crate::kinds::kind_of;
+use crate::pairs::pairs_of;
 use crate::row;
 use crate::row::Row;
 use crate::row_fault::RowFault;
@@ -71,7 +72,7 @@ fn verdict_of(alloc: Global, text: &str) -> Result<Verdict, RowFault> {
 }
 
 /// The entry of a line `entry VERDICT` with the lines below it: `program TEXT`, `case TEXT`, `took MILLISECONDS`, and the
-/// outputs `out TEXT`, `err TEXT`, `cleanup-out TEXT` and `cleanup-err TEXT`.
+/// outputs `out TEXT`, `err TEXT`, `cleanup-out TEXT` and `cleanup-err TEXT`; and a line `meta NAME=VALUE` for each pair.
 fn entry_of(alloc: Global, lines: &[row::Entry<'_>], position: u32) -> Result<Entry, RowFault> {
     let verdict = verdict_of(alloc, text_in(lines, "entry").unwrap_or(""))?;
     let program = name_in(alloc, lines, "program", "a")?;
@@ -88,6 +89,7 @@ fn entry_of(alloc: Global, lines: &[row::Entry<'_>], position: u32) -> Result<En
         millis,
         body,
         cleanup,
+        meta: pairs_of(alloc, lines)?,
     })
 }
 

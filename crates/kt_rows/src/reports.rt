@@ -15,19 +15,20 @@ fn lines_text(alloc: Global, run: &Run) -> Result<String, RowFault> {
     Ok(out)
 }
 
-/// The text report, with the sections of `kinds WORDS` or of all kinds.
+/// The text report, with the sections of `kinds WORDS` or of all kinds; `verbose` tells what the cases declared.
 fn report_text(alloc: Global, row: &Row<'_>, run: &Run) -> Result<String, RowFault> {
     let words = row.text("kinds");
     let kinds = kinds_of(
         alloc,
         words.unwrap_or("failed broken expected_failure skipped passed"),
     )?;
-    printed_text(alloc, Printed::Text(run, &kinds))
+    let verbose = row.text("verbose").is_some();
+    printed_text(alloc, Printed::Text(run, &kinds, verbose))
 }
 
 /// The moment at which a run began, as its text report has it.
 fn moment_text(alloc: Global, run: &Run) -> Result<String, RowFault> {
-    let report = printed_text(alloc, Printed::Text(run, &[]))?;
+    let report = printed_text(alloc, Printed::Text(run, &[], false))?;
     let rest = report.as_str().split_once("started ");
     let moment = rest.and_then(|(_, rest)| rest.split_once('\n'));
     match moment {

@@ -1,7 +1,8 @@
 ghost use Rattle.kt_sched.specs.Children.{IsIdle};
 
+use crate::listings::listed_of;
 use crate::numbers::{number, numbers};
-use crate::row::Row;
+use crate::row::{Entry, Row};
 use crate::row_fault::RowFault;
 use crate::scenes::holding_of;
 use kt_base::{NoMemory, Text};
@@ -13,23 +14,58 @@ use kt_store::ResultStore;
 use std::alloc::Global;
 use std::io::Write;
 
-/// The world of a row: `holds PATH TEXT`, `program PATH`, `locked PATH`, `dear PATH` each, and `now MOMENTS`.
-pub fn stage_of<'a>(alloc: Global, row: &Row<'a>) -> Result<Stage<'a>, RowFault> {
-    let mut stage = Stage {
+/// A world that has nothing.
+fn empty_stage<'a>(alloc: Global) -> Stage<'a> {
+    Stage {
         files: Vec::new(alloc),
         programs: Vec::new(alloc),
+        configs: Vec::new(alloc),
         locked: Vec::new(alloc),
         dear: Vec::new(alloc),
-        moments: numbers(alloc, row.text("now").unwrap_or("0"))?,
-    };
+        lists: Vec::new(alloc),
+        found_files: Vec::new(alloc),
+        found_programs: Vec::new(alloc),
+        root: false,
+        memory: None,
+        disk: None,
+        moments: Vec::new(alloc),
+    }
+}
+
+/// Takes a line that says something of the host.
+fn take_host<'a>(stage: &mut Stage<'a>, entry: &Entry<'a>) -> Result<(), RowFault> {
+    match entry.word {
+        "found-file" => stage.found_files.push(entry.text)?,
+        "found-program" => stage.found_programs.push(entry.text)?,
+        "root" => stage.root = true,
+        "memory" => stage.memory = Some(number(entry.text)?),
+        "disk" => stage.disk = Some(number(entry.text)?),
+        _ => {}
+    }
+    Ok(())
+}
+
+/// Takes a line that says something of the world.
+fn take<'a>(alloc: Global, stage: &mut Stage<'a>, entry: &Entry<'a>) -> Result<(), RowFault> {
+    match entry.word {
+        "holds" => stage.files.push(holding_of(alloc, entry.text)?)?,
+        "program" => stage.programs.push(entry.text)?,
+        "config" => stage.configs.push(holding_of(alloc, entry.text)?)?,
+        "locked" => stage.locked.push(entry.text)?,
+        "dear" => stage.dear.push(entry.text)?,
+        "lists" => stage.lists.push(listed_of(alloc, entry.text)?)?,
+        _ => take_host(stage, entry)?,
+    }
+    Ok(())
+}
+
+/// The world of a row: `holds PATH TEXT`, `program PATH`, `config PATH TEXT`, `locked PATH`, `dear PATH`, `lists PROGRAM LISTING`,
+/// `found-file PATH` and `found-program NAME` each, `root`, `memory N`, `disk N`, and `now MOMENTS`.
+pub fn stage_of<'a>(alloc: Global, row: &Row<'a>) -> Result<Stage<'a>, RowFault> {
+    let mut stage = empty_stage(alloc);
+    stage.moments = numbers(alloc, row.text("now").unwrap_or("0"))?;
     for entry in row.entries.as_slice() {
-        match entry.word {
-            "holds" => stage.files.push(holding_of(alloc, entry.text)?)?,
-            "program" => stage.programs.push(entry.text)?,
-            "locked" => stage.locked.push(entry.text)?,
-            "dear" => stage.dear.push(entry.text)?,
-            _ => {}
-        }
+        take(alloc, &mut stage, entry)?;
     }
     Ok(stage)
 }

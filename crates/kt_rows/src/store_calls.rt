@@ -3,7 +3,7 @@ use crate::numbers::{count, number};
 use crate::row::Row;
 use crate::row_fault::RowFault;
 use crate::stages::{over_launcher, stage_of};
-use crate::store_entries::{entries_text, entry_of, millis_of};
+use crate::store_entries::{entries_text, entry_of, millis_of, pairs_text};
 use crate::store_texts::{runs_text, store_fault_text};
 use crate::system_texts::outputs;
 use kt_play::{ScriptedLauncher, ScriptedWriter};
@@ -69,7 +69,7 @@ fn put_many<R: ResultStore>(
     Ok(String::from_str(alloc, "done")?)
 }
 
-/// The entries of a run, or their outputs, or how many they are.
+/// The entries of a run, or their outputs or pairs, or how many they are.
 fn entries<R: ResultStore>(
     alloc: Global,
     results: &mut R,
@@ -84,6 +84,7 @@ fn entries<R: ResultStore>(
     match word {
         "entries" => entries_text(alloc, found.as_slice()),
         "outputs" => outputs(alloc, found.as_slice()),
+        "pairs" => pairs_text(alloc, found.as_slice()),
         _ => Ok(format!(in alloc; "{count} entries")?),
     }
 }
@@ -105,13 +106,13 @@ fn done<R: ResultStore>(
     results: &mut R,
     line: &str,
 ) -> Result<String, RowFault> {
-    let Ok(line) = read_line(alloc, line)? else {
+    let Ok(command) = read_line(alloc, line)? else {
         return Err(RowFault::Misspelled("there is no such command"));
     };
     let stage = stage_of(alloc, row)?;
     let launcher = ScriptedLauncher::new(alloc, &[], &[], &[]);
     let mut page = ScriptedWriter::new(alloc, 0);
-    let commands = [line.command];
+    let commands = [command];
     let (exits, _) = over_launcher(alloc, &commands, &stage, launcher, results, &mut page)?;
     let mut out = String::from_utf8_lossy(alloc, page.kept.as_slice())?;
     for exit in exits.as_slice() {
@@ -137,7 +138,7 @@ pub fn call<R: ResultStore>(
         "finish" => plain_text(alloc, results.finish(number(text)?)),
         "runs" => runs_text(alloc, results),
         "count-runs" => heads(alloc, results),
-        "entries" | "outputs" | "count" => entries(alloc, results, word, number(text)?),
+        "entries" | "outputs" | "pairs" | "count" => entries(alloc, results, word, number(text)?),
         "do" => done(alloc, row, results, text),
         _ => Err(RowFault::Misspelled("there is no such call")),
     }

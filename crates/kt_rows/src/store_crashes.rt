@@ -112,8 +112,20 @@ fn shown<S: Alter>(conn: &mut Connection<S>) -> Result<i64, Error> {
     )
 }
 
-/// How many of those calls the store tells, once it is attached again.
-fn told<S: Alter + Drop>(alloc: Global, conn: Connection<S>) -> Result<i64, &'static str> {
+/// Whether an entry has another number of pairs.
+fn has_other_pairs(entries: &Vec<Entry>, pairs: usize) -> bool {
+    entries
+        .as_slice()
+        .iter()
+        .any(|entry| entry.meta.len() != pairs)
+}
+
+/// How many of those calls the store tells, once it is attached again. An entry has so many pairs.
+fn told<S: Alter + Drop>(
+    alloc: Global,
+    conn: Connection<S>,
+    pairs: usize,
+) -> Result<i64, &'static str> {
     if !conn.is_autocommit() {
         return Err("a transaction is open");
     }
@@ -128,6 +140,7 @@ fn told<S: Alter + Drop>(alloc: Global, conn: Connection<S>) -> Result<i64, &'st
     };
     match results.entries(1) {
         Ok(entries) if entries.is_empty() => Ok(2),
+        Ok(entries) if has_other_pairs(&entries, pairs) => Err("its entry has other pairs"),
         Ok(_) if head.finished => Ok(4),
         Ok(_) => Ok(3),
         Err(_) => Err("its entries can not be told"),
@@ -135,7 +148,7 @@ fn told<S: Alter + Drop>(alloc: Global, conn: Connection<S>) -> Result<i64, &'st
 }
 
 /// What is wrong with what a crash leaves: nothing where it is the runs from before the refused call or from after it.
-fn judged(alloc: Global, left: Left, frames: usize) -> Result<i64, &'static str> {
+fn judged(alloc: Global, left: Left, frames: usize, pairs: usize) -> Result<i64, &'static str> {
     let done = left.done;
     if done < 4 && !matches!(left.fault, Some(StoreFault::Store(_))) {
         return Err("it was refused for another reason than the disk");
@@ -150,7 +163,7 @@ fn judged(alloc: Global, left: Left, frames: usize) -> Result<i64, &'static str>
     if stage != done && !is_next {
         return Err("the runs are neither from before the call nor from after it");
     }
-    if told(alloc, conn)? != stage.max(1) {
+    if told(alloc, conn, pairs)? != stage.max(1) {
         return Err("the store tells other runs than its tables show");
     }
     Ok(done)
@@ -171,13 +184,14 @@ fn fused(alloc: Global, in_log: bool, calls: u64) -> Files<Fused> {
 
 /// Lets the disk fail at each call in turn until none is refused: after how many calls on the store it failed, each number once.
 fn sweep(alloc: Global, row: &Row<'_>, in_log: bool, frames: usize) -> Result<String, RowFault> {
+    let pairs = entry_of(alloc, row, 0, "passed")?.meta.len();
     let mut out = String::from_str(alloc, "refused after")?;
     let mut last = -1;
     for calls in 0..LIMIT {
         let Some(left) = worked(alloc, row, fused(alloc, in_log, calls), frames)? else {
             continue;
         };
-        match judged(alloc, left, frames) {
+        match judged(alloc, left, frames, pairs) {
             Err(what) => return Ok(format!(in alloc; "at call {calls}: {what}")?),
             Ok(4) => {
                 out.push_str(", then not")?;

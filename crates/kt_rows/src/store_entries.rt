@@ -2,11 +2,11 @@ ghost use Rattle.std.specs.Prelude.{◌≤◌, IfOk};
 
 use crate::escapes::unescaped;
 use crate::lines::push_line;
-use crate::numbers::number;
+use crate::numbers::{count, number};
 use crate::row::Row;
 use crate::row_fault::RowFault;
 use crate::verdicts;
-use kt_base::{Bytes, Entry, LATEST_MOMENT, Output, Reason, Text, Verdict};
+use kt_base::{Bytes, Entry, LATEST_MOMENT, Output, Reason, Text, Variable, Variables, Verdict};
 use std::alloc::Global;
 
 fn text_of(alloc: Global, raw: &str) -> Result<Text, RowFault> {
@@ -50,8 +50,31 @@ fn output_of(alloc: Global, row: &Row<'_>, out: &str, err: &str) -> Result<Outpu
     })
 }
 
+/// A pair: `NAME=VALUE`.
+fn pair_of(alloc: Global, text: &str) -> Result<Variable, RowFault> {
+    let (name, value) = text.split_once('=').unwrap_or((text, ""));
+    Ok(Variable {
+        name: text_of(alloc, name)?,
+        value: text_of(alloc, value)?,
+    })
+}
+
+/// The pairs of the entry at a position, of the row's lines `pair POSITION NAME=VALUE`.
+fn meta_of(alloc: Global, row: &Row<'_>, position: u32) -> Result<Variables, RowFault> {
+    let mut meta = Variables::new(alloc);
+    for line in row.entries.as_slice() {
+        if line.word == "pair" {
+            let (place, pair) = line.text.split_once(' ').unwrap_or((line.text, ""));
+            if count(place)? == position {
+                meta.push(pair_of(alloc, pair)?)?;
+            }
+        }
+    }
+    Ok(meta)
+}
+
 /// An entry of the case `main` of the program `é`: its verdict, and of the row `started N`, `took N`, `out TEXT`, `err TEXT`,
-/// `cleanup-out TEXT` and `cleanup-err TEXT`.
+/// `cleanup-out TEXT`, `cleanup-err TEXT` and `pair POSITION NAME=VALUE`.
 pub fn entry_of(
     alloc: Global,
     row: &Row<'_>,
@@ -71,6 +94,7 @@ pub fn entry_of(
         millis,
         body: output_of(alloc, row, "out", "err")?,
         cleanup: output_of(alloc, row, "cleanup-out", "cleanup-err")?,
+        meta: meta_of(alloc, row, position)?,
     })
 }
 
@@ -92,6 +116,29 @@ pub fn entries_text(alloc: Global, entries: &[Entry]) -> Result<String, RowFault
     let mut out = String::new(alloc);
     for entry in entries {
         push_line(&mut out, entry_text(alloc, entry)?.as_str())?;
+    }
+    Ok(out)
+}
+
+/// Appends the pairs of an entry, a line each: `POSITION NAME=VALUE`.
+fn push_pairs(alloc: Global, out: &mut String, entry: &Entry) -> Result<(), RowFault> {
+    let position = entry.position;
+    for pair in entry.meta.as_slice() {
+        let name = pair.name.as_str();
+        let value = pair.value.as_str();
+        push_line(
+            out,
+            format!(in alloc; "{position} {name}={value}")?.as_str(),
+        )?;
+    }
+    Ok(())
+}
+
+/// The pairs of entries, a line each.
+pub fn pairs_text(alloc: Global, entries: &[Entry]) -> Result<String, RowFault> {
+    let mut out = String::new(alloc);
+    for entry in entries {
+        push_pairs(alloc, &mut out, entry)?;
     }
     Ok(out)
 }

@@ -2,8 +2,8 @@ use crate::lines::push_line;
 use crate::row::{Entry, Row};
 use crate::row_fault::RowFault;
 use crate::store_calls::call;
-use crate::store_crashes;
 use crate::store_texts::store_fault_text;
+use crate::{store_crashes, store_migrations};
 use kt_cli::MemRuns;
 use kt_store::Results;
 use sqlite::{Alter, Connection};
@@ -83,7 +83,7 @@ fn step<S: Alter + Drop>(
 /// Whether a line of a row says what entries hold, and asks for nothing.
 fn is_content(word: &str) -> bool {
     match word {
-        "started" | "took" | "out" | "err" | "cleanup-out" | "cleanup-err" => true,
+        "started" | "took" | "out" | "err" | "cleanup-out" | "cleanup-err" | "pair" => true,
         _ => false,
     }
 }
@@ -118,8 +118,11 @@ fn over_memory(alloc: Global, row: &Row<'_>) -> Result<String, RowFault> {
 }
 
 /// What calls on a store answer, one after the other: over a database in memory, or over runs in memory where the first line is
-/// `memory`. With `disk` it is what crashes leave.
+/// `memory`. With `disk` it is what crashes leave, and with `migration` what they leave of a store of schema 1 whose tables are taken.
 pub fn answer(alloc: Global, row: &Row<'_>) -> Result<String, RowFault> {
+    if let Some(disk) = row.text("migration") {
+        return store_migrations::answer(alloc, row, disk);
+    }
     if let Some(disk) = row.text("disk") {
         return store_crashes::answer(alloc, row, disk);
     }

@@ -2,19 +2,22 @@ use crate::command_words::read_line;
 use crate::row::Row;
 use crate::row_fault::RowFault;
 use kt_base::{Kind, Text};
-use kt_cli::{Command, CommandFault, CommandLine};
+use kt_cli::{CaseOptions, Command, CommandFault};
 use std::alloc::Global;
 
-/// Appends the value of an option, where the command line has it.
-fn push_option(
-    alloc: Global,
-    out: &mut String,
-    name: &str,
-    value: &Option<Text>,
-) -> Result<(), RowFault> {
-    if let Some(value) = value {
-        let value = value.as_str();
-        out.push_str(format!(in alloc; ", {name} {value}")?.as_str())?;
+/// Appends a value of an option.
+fn push_value(out: &mut String, name: &str, value: &Text) -> Result<(), RowFault> {
+    out.push_str(", ")?;
+    out.push_str(name)?;
+    out.push(' ')?;
+    out.push_str(value.as_str())?;
+    Ok(())
+}
+
+/// Appends each value of an option that may be given several times.
+fn push_values(out: &mut String, name: &str, values: &[Text]) -> Result<(), RowFault> {
+    for value in values {
+        push_value(out, name, value)?;
     }
     Ok(())
 }
@@ -36,35 +39,59 @@ fn push_kinds(out: &mut String, kinds: &[Kind]) -> Result<(), RowFault> {
     Ok(())
 }
 
-fn command_text(alloc: Global, command: &Command) -> Result<String, RowFault> {
-    let mut out = String::new(alloc);
-    match command {
-        Command::List(kyuafile) => {
-            out.push_str("list ")?;
-            out.push_str(kyuafile.as_str())?;
-        }
-        Command::Test(kyuafile) => {
-            out.push_str("test ")?;
-            out.push_str(kyuafile.as_str())?;
-        }
-        Command::Report { run, kinds, .. } => {
-            out.push_str("report")?;
-            push_run(alloc, &mut out, *run)?;
-            push_kinds(&mut out, kinds.as_slice())?;
-        }
-        Command::ReportJunit { run, .. } => {
-            out.push_str("report-junit")?;
-            push_run(alloc, &mut out, *run)?;
-        }
-    }
-    Ok(out)
+/// Appends the Kyuafile and the directory of a command over test cases, which always has them.
+fn push_places(out: &mut String, options: &CaseOptions) -> Result<(), RowFault> {
+    out.push_str(options.kyuafile.as_str())?;
+    push_value(out, "work", &options.work)
 }
 
-fn line_text(alloc: Global, line: &CommandLine) -> Result<String, RowFault> {
-    let mut out = command_text(alloc, &line.command)?;
-    push_option(alloc, &mut out, "work", &line.work)?;
-    push_option(alloc, &mut out, "results", &line.results)?;
-    Ok(out)
+/// Appends what a command over test cases is given besides.
+fn push_given(out: &mut String, options: &CaseOptions) -> Result<(), RowFault> {
+    if let Some(config) = &options.config {
+        push_value(out, "config", config)?;
+    }
+    push_values(out, "variable", options.variables.as_slice())?;
+    push_values(out, "filter", options.filters.as_slice())
+}
+
+fn push_command(alloc: Global, out: &mut String, command: &Command) -> Result<(), RowFault> {
+    match command {
+        Command::List(options) => {
+            out.push_str("list ")?;
+            push_places(out, options)?;
+            push_given(out, options)
+        }
+        Command::Test { options, results } => {
+            out.push_str("test ")?;
+            push_places(out, options)?;
+            push_value(out, "results", results)?;
+            push_given(out, options)
+        }
+        Command::Debug(options) => {
+            out.push_str("debug ")?;
+            push_places(out, options)?;
+            push_given(out, options)
+        }
+        Command::Report {
+            results,
+            run,
+            kinds,
+            verbose,
+        } => {
+            out.push_str("report")?;
+            push_run(alloc, out, *run)?;
+            push_kinds(out, kinds.as_slice())?;
+            if *verbose {
+                out.push_str(", verbose")?;
+            }
+            push_value(out, "results", results)
+        }
+        Command::ReportJunit { results, run } => {
+            out.push_str("report-junit")?;
+            push_run(alloc, out, *run)?;
+            push_value(out, "results", results)
+        }
+    }
 }
 
 fn fault_text(fault: &CommandFault) -> &'static str {
@@ -83,7 +110,11 @@ pub fn answer(alloc: Global, row: &Row<'_>) -> Result<String, RowFault> {
         return Err(RowFault::Misspelled("the row has no command line"));
     };
     match read_line(alloc, line)? {
-        Ok(line) => line_text(alloc, &line),
+        Ok(command) => {
+            let mut out = String::new(alloc);
+            push_command(alloc, &mut out, &command)?;
+            Ok(out)
+        }
         Err(fault) => Ok(String::from_str(alloc, fault_text(&fault))?),
     }
 }
