@@ -38,8 +38,8 @@ fn take_host<'a>(stage: &mut Stage<'a>, entry: &Entry<'a>) -> Result<(), RowFaul
         "found-file" => stage.found_files.push(entry.text)?,
         "found-program" => stage.found_programs.push(entry.text)?,
         "root" => stage.root = true,
-        "memory" => stage.memory = Some(number(entry.text)?),
-        "disk" => stage.disk = Some(number(entry.text)?),
+        "has-memory" => stage.memory = Some(number(entry.text)?),
+        "has-disk" => stage.disk = Some(number(entry.text)?),
         _ => {}
     }
     Ok(())
@@ -60,7 +60,7 @@ fn take<'a>(alloc: Global, stage: &mut Stage<'a>, entry: &Entry<'a>) -> Result<(
 }
 
 /// The world of a row: `holds PATH TEXT`, `program PATH`, `config PATH TEXT`, `locked PATH`, `dear PATH`, `lists PROGRAM LISTING`,
-/// `found-file PATH` and `found-program NAME` each, `root`, `memory N`, `disk N`, and `now MOMENTS`.
+/// `found-file PATH` and `found-program NAME` each, `root`, `has-memory N`, `has-disk N`, and `now MOMENTS`.
 pub fn stage_of<'a>(alloc: Global, row: &Row<'a>) -> Result<Stage<'a>, RowFault> {
     let mut stage = empty_stage(alloc);
     stage.moments = numbers(alloc, row.text("now").unwrap_or("0"))?;
