@@ -8,7 +8,7 @@ program=$top/crates/kyua/out/kyua
 log=$top/crates/kyua/out/build.log
 begun=$top/crates/kyua/out/begun
 # These wait for one another, so each is proved alone, by all processors. All others are proved side by side before.
-chain='kt_sched kt_child kt_cli'
+chain='kt_sched kt_child kt_plan kt_cli'
 # These are no part of the program.
 apart='kt_play kt_rows'
 

@@ -10,7 +10,7 @@ use Rattle.kt_suite.specs.declared.cause.SuiteCause.TheVariants as cause
 use Rattle.kt_suite.specs.declared.filter_fault.FilterFault.{FilterFault}
 use Rattle.kt_suite.specs.declared.filter_fault.FilterFault.TheVariants as filter
 use Rattle.kt_cli.specs.FaultLines.{script_text, fixed_text, cause_text}
-use Rattle.kt_cli.specs.Stops.{config_text, filter_text}
+use Rattle.kt_cli.specs.StopLines.{config_text, filter_text}
 
 pub chars-script : (fault : ScriptFault) → chars (script_text fault) ≡ script_text fault
 unfolding chars

@@ -4,7 +4,7 @@ use Rattle.std.proofs.Common.{◌≡◌, ℕ, Bool, List, ◌⊎◌, subst, sym}
 use Rattle.kt_base.specs.declared.kind.Kind.{Kind}
 use Rattle.kt_base.specs.declared.run.Run.{Run}
 use Rattle.kt_child.specs.Calls.{Call}
-use Rattle.kt_cli.specs.declared.case_options.CaseOptions.{CaseOptions}
+use Rattle.kt_plan.specs.declared.case_options.CaseOptions.{CaseOptions}
 use Rattle.kt_cli.specs.declared.command.Command.{Command}
 use Rattle.kt_cli.specs.declared.command.Command.TheVariants as command
 use Rattle.kt_cli.specs.declared.surroundings.Surroundings.{Surroundings}

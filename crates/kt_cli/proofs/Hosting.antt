@@ -10,8 +10,8 @@ use Rattle.kt_sched.specs.Trace.{Trace, NoEvent, Then, Start, End, Leads}
 use Rattle.kt_suite.specs.Answers.{Asked, Chain}
 use Rattle.kt_cli.specs.declared.command.Command.{Command}
 use Rattle.kt_cli.specs.Meaning.{Did}
-use Rattle.kt_cli.specs.Questions.{Question, OfTree, OfHost, leads_by}
-use Rattle.kt_cli.specs.Told.{Told}
+use Rattle.kt_plan.specs.Questions.{Question, OfTree, OfHost, leads_by}
+use Rattle.kt_plan.specs.Told.{Told}
 
 module _ {W L : Type 0} (seen : W → L) (asks : L → Asked → L → Type 0) (tells : L → Told → L → Type 0) (starts : L → Job → Role → StartAnswer → L → Type 0) (waits : L → Ended → L → Type 0) where
   -- answers by what is seen of a state lead it along

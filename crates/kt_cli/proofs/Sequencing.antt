@@ -11,7 +11,7 @@ use Rattle.kt_cli.specs.declared.command.Command.{Command}
 use Rattle.kt_cli.specs.declared.exit.Exit.{Exit}
 use Rattle.kt_cli.specs.Meaning.{Did}
 use Rattle.kt_cli.specs.Sequences.{DidAll, none_left, one_and}
-use Rattle.kt_cli.specs.Told.{Told}
+use Rattle.kt_plan.specs.Told.{Told}
 
 module _ {W R : Type 0} (asks : W → Asked → W → Type 0) (tells : W → Told → W → Type 0) (starts : W → Job → Role → StartAnswer → W → Type 0) (waits : W → Ended → W → Type 0) (Stands : R → List Run → Type 0) (Sound : R → Type 0) (Leaves : R → List (List Run) → Type 0) where
   -- whatever the rest does from here, all of them did from the start

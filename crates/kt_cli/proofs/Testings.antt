@@ -1,6 +1,6 @@
 -- A command over a world and a store.
-use Rattle.std.specs.Prelude.{Option, Some, Result, Ok, Err, Bool, true, false, length, take, ◌≤◌, ◌==◌, if◌then◌else◌, IfOk, flat_map}
-use Rattle.std.proofs.Common.{◌≡◌, ℕ, List, [], ◌∷◌, ◌++◌, refl, sym, ap, ◌∙◌, subst, ◌⊎◌, inl, inr, arith}
+use Rattle.std.specs.Prelude.{Option, Some, Result, Ok, Err, Bool, true, false, length, take, ◌≤◌, ◌==◌, if◌then◌else◌, flat_map}
+use Rattle.std.proofs.Common.{◌≡◌, ℕ, List, [], ◌∷◌, ◌++◌, refl, sym, ap, ◌∙◌, subst, ◌⊎◌, inl, inr}
 use Rattle.kt_base.specs.Utf8.{utf8}
 use Rattle.kt_base.specs.declared.kind.Kind.{Kind}
 use Rattle.kt_base.specs.declared.role.Role.{Role}
@@ -10,43 +10,38 @@ use Rattle.kt_sched.specs.Children.{Child, IsIdle}
 use Rattle.kt_sched.specs.declared.job.Job.{Job}
 use Rattle.kt_sched.specs.declared.start_answer.StartAnswer.{StartAnswer}
 use Rattle.kt_sched.specs.declared.ended.Ended.{Ended}
-use Rattle.kt_sched.specs.Trace.{Trace, NoEvent, Leads}
 use Rattle.kt_suite.specs.Answers.{Asked, Chain, Answered}
 use Rattle.kt_suite.specs.Selecting.{most_items}
-use Rattle.kt_cli.specs.declared.candidate.Candidate.{Candidate}
-use Rattle.kt_cli.specs.declared.case_options.CaseOptions.{CaseOptions}
-use Rattle.kt_cli.specs.declared.chosen.Chosen.{Chosen}
+use Rattle.kt_plan.specs.declared.candidate.Candidate.{Candidate}
+use Rattle.kt_plan.specs.declared.case_options.CaseOptions.{CaseOptions}
 use Rattle.kt_cli.specs.declared.command.Command.{Command}
 use Rattle.kt_cli.specs.declared.command.Command.TheVariants as command
-use Rattle.kt_cli.specs.declared.picked.Picked.{Picked}
-use Rattle.kt_cli.specs.declared.settings.Settings.{Settings}
-use Rattle.kt_cli.specs.declared.stop.Stop.{Stop}
-use Rattle.kt_cli.specs.Collecting.{Collects, Collected}
+use Rattle.kt_plan.specs.declared.picked.Picked.{Picked}
+use Rattle.kt_plan.specs.declared.stop.Stop.{Stop}
 use Rattle.kt_base.specs.declared.entry.Entry.{Entry}
 use Rattle.kt_base.specs.declared.no_memory.NoMemory.{NoMemory as OutOfMemory}
 use Rattle.kt_sched.specs.declared.run_fault.RunFault.{RunFault}
 use Rattle.kt_sched.specs.declared.run_fault.RunFault.TheVariants.{NoMemory}
 use Rattle.kt_sched.specs.declared.totals.Totals.{Totals}
-use Rattle.kt_sched.specs.Run.{Counts}
 use Rattle.kt_cli.specs.Commands.{cases_of, needs_case}
-use Rattle.kt_cli.specs.Configuring.{Settles}
-use Rattle.kt_cli.specs.Debugging.{Debugged, DebugEnds, all_debug_bytes, debug_exit}
+use Rattle.kt_cli.specs.Debugging.{Debugged, all_debug_bytes, debug_exit}
 use Rattle.kt_cli.specs.FaultLines.{memory_line}
-use Rattle.kt_cli.specs.Meaning.{Seen, Course, Selects, unsettled, uncollected, selected, listing, listing_exit, IsPrepared, IsUnasked, only_tells, Means, stopped, listed, tested, debugged, idle, reported, reported_junit, CutShort, no_memory, cut, report_cut, junit_cut, asked_only, ToldOnly, Did}
+use Rattle.kt_plan.specs.Selecting.{Selects, selected}
+use Rattle.kt_cli.specs.Meaning.{Seen, Course, listing, listing_exit, IsPrepared, IsUnasked, only_tells, Means, stopped, listed, tested, debugged, idle, reported, reported_junit, CutShort, no_memory, cut, report_cut, junit_cut, asked_only, ToldOnly, Did}
 use Rattle.kt_cli.specs.Pages.{Printed, Says}
-use Rattle.kt_cli.specs.Planning.{Surveys, ArePlanned}
-use Rattle.kt_cli.specs.Questions.{Question, leads_by, of_tree, of_host}
+use Rattle.kt_plan.specs.Planning.{Surveys, ArePlanned}
+use Rattle.kt_plan.specs.Questions.{Question, leads_by, of_host}
 use Rattle.kt_cli.specs.Reports.{Reported, ReportedJunit, Unread, JunitCut}
-use Rattle.kt_cli.specs.Stops.{IsShort, stop_line, stop_exit}
+use Rattle.kt_plan.specs.Stops.{IsShort}
+use Rattle.kt_cli.specs.StopLines.{stop_line, stop_exit}
 use Rattle.kt_base.specs.Shows.{Shows}
 use Rattle.kt_cli.specs.CaseLines.{case_line}
 use Rattle.kt_cli.specs.Stores.{Deed, Left}
 use Rattle.kt_cli.specs.Testing.{none_idle, Tested, TestCut, RanPlan}
-use Rattle.kt_cli.specs.Told.{Told, Now}
-use Rattle.kt_cli.specs.Recordings.{AllRecorded}
+use Rattle.kt_plan.specs.Told.{Told, Now}
 use Rattle.kt_cli.specs.Warnings.{warnings}
 use Rattle.kt_cli.proofs.Saying.{tells_both}
-use Rattle.kt_cli.proofs.QuestionChains.{chain_both, chain_of_host, chain_of_tree}
+use Rattle.kt_plan.proofs.QuestionChains.{chain_both, chain_of_host}
 
 -- a deed that may be told in other words
 pub left_as : {R : Type 0} (Stands : R → List Run → Type 0) (Sound : R → Type 0) (Leaves : R → List (List Run) → Type 0) (runs : List Run) (old new : R) (was now : Option (List ℕ)) (exit : ℕ) (P Q : Deed → Type 0) → ((deed : Deed) → P deed → Q deed) → Left Stands Sound Leaves runs old new was now exit P → Left Stands Sound Leaves runs old new was now exit Q
@@ -96,52 +91,6 @@ module _ {W : Type 0} (asks : W → Asked → W → Type 0) (tells : W → Told 
       → ((s t : W) (q : Told) → tells s q t → (k : ℕ) (r : Role) → running t k r ≡ running s k r) → ((s t : W) (q : Told) → tells s q t → (k : ℕ) → pending t k ≡ pending s k)
       → (mid new : W) (m : Told) → tells mid m new → IsIdle (running mid) (pending mid) → IsIdle (running new) (pending new)
   idle_told running pending d e mid new m t j = record { runs = λ k r. d mid new m t k r ∙ j.runs k r; pends = λ k. e mid new m t k ∙ j.pends k }
-
-  -- the settings were refused
-  pub unsettled_answer : (needed : Bool) (options : CaseOptions) (old new : W) (fault : Stop)
-      → Answered tells old new (λ told. IsShort {T = Settings} (Err fault) ⊎ Settles needed options told (Err fault))
-      → Answered (leads_by asks tells) old new (λ questions. IsShort {T = Picked} (Err fault) ⊎ Selects needed options questions (Err fault))
-  unsettled_answer needed options old new fault a = record {
-    asked = of_host a.asked;
-    chain = chain_of_host asks tells a.asked old new a.chain;
-    holds = elim a.holds [ inl s ↦ inl s | inr s ↦ inr (unsettled a.asked fault s) ];
-  }
-
-  settled_is : (needed : Bool) (options : CaseOptions) (told : List Told) (settings : Settings) → IsShort {T = Settings} (Ok settings) ⊎ Settles needed options told (Ok settings) → Settles needed options told (Ok settings)
-  settled_is needed options told settings (inl s) = absurd s
-  settled_is needed options told settings (inr s) = s
-
-  chain_to : (told : List Told) (asked : List Asked) (lists : List Told) (a b d e : W) → Chain tells told a b → Chain asks asked b d → Chain tells lists d e
-      → Chain (leads_by asks tells) (of_host told ++ (of_tree asked ++ of_host lists)) a e
-  chain_to told asked lists a b d e x y z =
-      chain_both (leads_by asks tells) (of_host told) (of_tree asked ++ of_host lists) a b e (chain_of_host asks tells told a b x)
-      (chain_both (leads_by asks tells) (of_tree asked) (of_host lists) b d e (chain_of_tree asks tells asked b d y) (chain_of_host asks tells lists d e z))
-
-  -- the tree was refused, or its cases
-  pub uncollected_answer : (needed : Bool) (options : CaseOptions) (old mid new : W) (settings : Settings) (fault : Stop)
-      → Answered tells old mid (λ told. IsShort {T = Settings} (Ok settings) ⊎ Settles needed options told (Ok settings))
-      → Collected asks tells settings options.kyuafile mid new (Err fault)
-      → Answered (leads_by asks tells) old new (λ questions. IsShort {T = Picked} (Err fault) ⊎ Selects needed options questions (Err fault))
-  uncollected_answer needed options old mid new settings fault a c = record {
-    asked = of_host a.asked ++ (of_tree c.asked ++ of_host c.told);
-    chain = chain_to a.asked c.asked c.told old mid c.loaded new a.chain c.chain c.lists;
-    holds = elim c.holds [ inl s ↦ inl s | inr s ↦ inr (uncollected a.asked settings c.asked c.told fault (settled_is needed options a.asked settings a.holds) s) ];
-  }
-
-  collects_is : (settings : Settings) (kyuafile : List ℕ) (asked : List Asked) (lists : List Told) (chosen : Chosen) → IsShort {T = Chosen} (Ok chosen) ⊎ Collects settings kyuafile asked lists (Ok chosen) → Collects settings kyuafile asked lists (Ok chosen)
-  collects_is settings kyuafile asked lists chosen (inl s) = absurd s
-  collects_is settings kyuafile asked lists chosen (inr s) = s
-
-  -- cases were selected
-  pub selected_answer : (needed : Bool) (options : CaseOptions) (old mid new : W) (settings : Settings) (chosen : Chosen)
-      → Answered tells old mid (λ told. IsShort {T = Settings} (Ok settings) ⊎ Settles needed options told (Ok settings))
-      → Collected asks tells settings options.kyuafile mid new (Ok chosen)
-      → Answered (leads_by asks tells) old new (λ questions. IsShort {T = Picked} (Ok (record { settings = settings; chosen = chosen })) ⊎ Selects needed options questions (Ok (record { settings = settings; chosen = chosen })))
-  selected_answer needed options old mid new settings chosen a c = record {
-    asked = of_host a.asked ++ (of_tree c.asked ++ of_host c.told);
-    chain = chain_to a.asked c.asked c.told old mid c.loaded new a.chain c.chain c.lists;
-    holds = inr (selected a.asked settings c.asked c.told chosen (settled_is needed options a.asked settings a.holds) (collects_is settings options.kyuafile c.asked c.told chosen c.holds));
-  }
 
   -- nothing was started
   course_of : (questions : List Question) (old new : W) → Chain (leads_by asks tells) questions old new → Course asks tells starts waits (asked_only questions) old new

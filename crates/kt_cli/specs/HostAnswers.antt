@@ -18,7 +18,7 @@ use Rattle.kt_suite.specs.declared.program.Program.{Program}
 use Rattle.kt_cli.specs.declared.runner.Runner.{Runner}
 use Rattle.kt_cli.specs.HostFiles.{read_limit}
 use Rattle.kt_cli.specs.Places.{is_absolute}
-use Rattle.kt_cli.specs.Told.{Told, ReadConfig, Lists, FindsFile, FindsProgram, IsRoot, HasMemory, HasDisk, Now}
+use Rattle.kt_plan.specs.Told.{Told, ReadConfig, Lists, FindsFile, FindsProgram, IsRoot, HasMemory, HasDisk, Now}
 
 -- the user is root, by the value of `USER`
 abbrev pub is_root : Option (List ℕ) → Bool

@@ -9,7 +9,7 @@ use Rattle.kt_child.specs.declared.driver_fault.DriverFault.TheVariants as drive
 use Rattle.kt_child.specs.Board.{empty_board}
 use Rattle.kt_child.specs.Calls.{Call, Chain, RemoveTree}
 use Rattle.kt_child.specs.Roots.{FindsRoot}
-use Rattle.kt_cli.specs.declared.case_options.CaseOptions.{CaseOptions}
+use Rattle.kt_plan.specs.declared.case_options.CaseOptions.{CaseOptions}
 use Rattle.kt_cli.specs.declared.command.Command.{Command}
 use Rattle.kt_cli.specs.declared.runner.Runner.{Runner}
 use Rattle.kt_cli.specs.declared.surroundings.Surroundings.{Surroundings}

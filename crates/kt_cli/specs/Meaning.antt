@@ -1,5 +1,5 @@
 -- What a command means: for what was seen and the runs before it, the runs, the bytes and the exit.
-use Rattle.std.specs.Prelude.{ℕ, Bool, true, false, List, [], ◌∷◌, ◌++◌, ◌≡◌, ◌⊎◌, Option, Some, Ok, Err, Result, flat_map, if◌then◌else◌}
+use Rattle.std.specs.Prelude.{ℕ, Bool, true, false, List, [], ◌∷◌, ◌++◌, ◌≡◌, ◌⊎◌, Option, Some, Ok, Err, flat_map, if◌then◌else◌}
 use Rattle.kt_base.specs.declared.entry.Entry.{Entry}
 use Rattle.kt_base.specs.declared.kind.Kind.{Kind}
 use Rattle.kt_base.specs.declared.role.Role.{Role}
@@ -11,29 +11,27 @@ use Rattle.kt_sched.specs.declared.start_answer.StartAnswer.{StartAnswer}
 use Rattle.kt_sched.specs.declared.ended.Ended.{Ended}
 use Rattle.kt_sched.specs.Trace.{Trace, NoEvent, Leads}
 use Rattle.kt_suite.specs.Answers.{Asked, Chain}
-use Rattle.kt_cli.specs.declared.candidate.Candidate.{Candidate}
-use Rattle.kt_cli.specs.declared.case_options.CaseOptions.{CaseOptions}
-use Rattle.kt_cli.specs.declared.chosen.Chosen.{Chosen}
+use Rattle.kt_plan.specs.declared.candidate.Candidate.{Candidate}
+use Rattle.kt_plan.specs.declared.case_options.CaseOptions.{CaseOptions}
+use Rattle.kt_plan.specs.declared.chosen.Chosen.{Chosen}
 use Rattle.kt_cli.specs.declared.command.Command.{Command}
 use Rattle.kt_cli.specs.declared.command.Command.TheVariants as command
-use Rattle.kt_cli.specs.declared.picked.Picked.{Picked}
-use Rattle.kt_cli.specs.declared.settings.Settings.{Settings}
-use Rattle.kt_cli.specs.declared.stop.Stop.{Stop}
-use Rattle.kt_cli.specs.Collecting.{Collects}
+use Rattle.kt_plan.specs.declared.picked.Picked.{Picked}
+use Rattle.kt_plan.specs.declared.stop.Stop.{Stop}
 use Rattle.kt_cli.specs.Commands.{cases_of, needs_case}
-use Rattle.kt_cli.specs.Configuring.{Settles}
 use Rattle.kt_cli.specs.Debugging.{all_debug_bytes, debug_exit}
 use Rattle.kt_cli.specs.FaultLines.{memory_line}
 use Rattle.kt_cli.specs.CaseLines.{case_line}
 use Rattle.kt_cli.specs.Pages.{Printed}
-use Rattle.kt_cli.specs.Planning.{Surveys, ArePlanned}
-use Rattle.kt_cli.specs.Questions.{Question, leads_by, of_tree, of_host}
+use Rattle.kt_plan.specs.Planning.{Surveys, ArePlanned}
+use Rattle.kt_plan.specs.Questions.{Question, leads_by, of_host}
+use Rattle.kt_plan.specs.Selecting.{Selects}
 use Rattle.kt_cli.specs.Recordings.{AllRecorded}
 use Rattle.kt_cli.specs.Reports.{Reported, ReportedJunit, Unread, JunitCut}
-use Rattle.kt_cli.specs.Stops.{stop_line, stop_exit}
+use Rattle.kt_cli.specs.StopLines.{stop_line, stop_exit}
 use Rattle.kt_cli.specs.Stores.{Deed, Left}
 use Rattle.kt_cli.specs.Testing.{none_idle, Tested, TestCut}
-use Rattle.kt_cli.specs.Told.{Told, Now}
+use Rattle.kt_plan.specs.Told.{Told, Now}
 use Rattle.kt_cli.specs.Warnings.{warnings}
 
 -- what a world answered to one command: the questions in the order in which they were put, and its launcher, which was lent the jobs of this plan
@@ -47,16 +45,6 @@ pub record Course {W : Type 0} (asks : W → Asked → W → Type 0) (tells : W 
   pub begun : W
   pub asked : Chain (leads_by asks tells) seen.questions old begun
   pub ran : Leads starts waits seen.plan seen.trace begun new
-
--- what the options of a command select, by these questions, or the first fault that stops it: the configuration and the filters, and then the tree
--- and its lists
-pub data Selects (needed : Bool) (options : CaseOptions) : List Question → Result Picked Stop → Type 0 where
-  unsettled : (told : List Told) (fault : Stop) → Settles needed options told (Err fault) → Selects needed options (of_host told) (Err fault)
-  uncollected : (told : List Told) (settings : Settings) (asked : List Asked) (lists : List Told) (fault : Stop) → Settles needed options told (Ok settings)
-      → Collects settings options.kyuafile asked lists (Err fault) → Selects needed options (of_host told ++ (of_tree asked ++ of_host lists)) (Err fault)
-  selected : (told : List Told) (settings : Settings) (asked : List Asked) (lists : List Told) (chosen : Chosen) → Settles needed options told (Ok settings)
-      → Collects settings options.kyuafile asked lists (Ok chosen)
-      → Selects needed options (of_host told ++ (of_tree asked ++ of_host lists)) (Ok (record { settings = settings; chosen = chosen }))
 
 -- a line for each selected case, and a warning for each filter that selects none
 abbrev pub listing : List (List ℕ) → Chosen → List ℕ

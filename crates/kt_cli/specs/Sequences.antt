@@ -9,7 +9,7 @@ use Rattle.kt_suite.specs.Answers.{Asked}
 use Rattle.kt_cli.specs.declared.command.Command.{Command}
 use Rattle.kt_cli.specs.declared.exit.Exit.{Exit}
 use Rattle.kt_cli.specs.Meaning.{Did}
-use Rattle.kt_cli.specs.Told.{Told}
+use Rattle.kt_plan.specs.Told.{Told}
 
 -- each command was done over the world, the store and the writer that the one before it left
 pub data DidAll {W R : Type 0} (asks : W → Asked → W → Type 0) (tells : W → Told → W → Type 0) (starts : W → Job → Role → StartAnswer → W → Type 0) (waits : W → Ended → W → Type 0) (Stands : R → List Run → Type 0) (Sound : R → Type 0) (Leaves : R → List (List Run) → Type 0) : List Command → W → W → R → R → Option (List ℕ) → Option (List ℕ) → List Exit → Type 0 where

@@ -1,5 +1,5 @@
-use crate::case_options::CaseOptions;
 use kt_base::{Items, Kind, Text};
+use kt_plan::CaseOptions;
 
 /// A command of kyua(1), with the values of its options.
 #[derive(Debug, Drop)]

@@ -17,19 +17,6 @@ fn verdict_of(kind: Kind, reason: Text) -> Verdict
     }
 }
 
-/// An equal reason with memory of its own.
-pub fn copy_of_reason(reason: &Reason) -> Result<Reason, NoMemory>
-    ensures { IfOk result (λ copy. copy ≡ reason.now) }
-{
-    match reason {
-        Reason::Nothing => Ok(Reason::Nothing),
-        Reason::Fixed(phrase) => Ok(Reason::Fixed(*phrase)),
-        Reason::Ended(phrase, outcome) => Ok(Reason::Ended(*phrase, *outcome)),
-        Reason::Counted(phrase, m, n) => Ok(Reason::Counted(*phrase, *m, *n)),
-        Reason::Owned(text) => Ok(Reason::Owned(text.copy()?)),
-    }
-}
-
 fn copy_of_verdict(alloc: Global, verdict: &Verdict) -> Result<Verdict, NoMemory>
     ensures { IfOk result (λ copy. copy ≡ verdict.now) }
 {

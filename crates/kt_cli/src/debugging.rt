@@ -5,16 +5,13 @@ ghost use Rattle.kt_cli.specs.Debugging.{Debugged};
 ghost use Rattle.kt_cli.specs.Meaning.{ToldOnly};
 ghost use Rattle.kt_cli.specs.declared.command.Command.TheVariants as command;
 
-use crate::case_options::CaseOptions;
 use crate::exit::{Exit, ended};
 use crate::fault_line::say_memory;
-use crate::preparing::prepare;
 use crate::printer::Printer;
-use crate::selecting::select_cases;
 use crate::stopping::stopped;
 use crate::warnings::say_warnings;
-use crate::world::World;
 use kt_base::Items;
+use kt_plan::{CaseOptions, World, prepare, select_cases};
 use kt_sched::{Job, Launcher, RunFault, Totals, run_cases};
 use std::alloc::Global;
 use std::io::Write;

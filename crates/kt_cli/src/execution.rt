@@ -7,7 +7,7 @@ use crate::exit::Exit;
 use crate::listing::list;
 use crate::reporting::{report, report_junit};
 use crate::testing::test;
-use crate::world::World;
+use kt_plan::World;
 use kt_store::ResultStore;
 use std::alloc::Global;
 use std::io::Write;

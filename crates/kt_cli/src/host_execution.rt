@@ -6,7 +6,6 @@ ghost use Rattle.kt_cli.specs.HostFiles.{IsLook};
 ghost use Rattle.kt_cli.specs.Hosts.{IsMade, NoRoot, OnDriver, NoDriver, DidOnHost};
 ghost use Rattle.kt_cli.specs.Meaning.{Did};
 
-use crate::case_options::CaseOptions;
 use crate::command::Command;
 use crate::execution::execute;
 use crate::exit::Exit;
@@ -17,6 +16,7 @@ use crate::runner::Runner;
 use crate::surroundings::Surroundings;
 use kt_base::Text;
 use kt_child::{Driver, DriverFault, Os};
+use kt_plan::CaseOptions;
 use kt_store::ResultStore;
 use kt_suite::split_path;
 use std::alloc::Global;

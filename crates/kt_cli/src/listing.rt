@@ -8,14 +8,11 @@ ghost use Rattle.kt_cli.specs.Pages.{Says};
 ghost use Rattle.kt_cli.specs.Testing.{none_idle};
 ghost use Rattle.kt_cli.specs.declared.command.Command.TheVariants as command;
 
-use crate::candidate::Candidate;
-use crate::case_options::CaseOptions;
 use crate::exit::{Exit, ended};
 use crate::page::{say_text, say_words};
-use crate::selecting::select_cases;
 use crate::stopping::stopped;
 use crate::warnings::say_warnings;
-use crate::world::World;
+use kt_plan::{Candidate, CaseOptions, World, select_cases};
 use std::alloc::Global;
 use std::io::Write;
 

@@ -2,7 +2,6 @@ ghost use Rattle.std.specs.Prelude.{◌≡◌, ◌≤◌, map, chars, IfOk, IfSo
 ghost use Rattle.kt_cli.specs.Commands.{HasRunNumber};
 
 use crate::arguments::all_words;
-use crate::case_options::CaseOptions;
 use crate::command::Command;
 use crate::command_fault::CommandFault;
 use crate::filter::{default_kinds, kinds_in};
@@ -10,6 +9,7 @@ use crate::numbers::run_number;
 use clap::ArgMatches;
 use clap::error::ErrorKind;
 use kt_base::{Items, Kind, NoMemory, Text};
+use kt_plan::CaseOptions;
 use std::alloc::Global;
 
 /// What `clap` says of words that aren't UTF-8.

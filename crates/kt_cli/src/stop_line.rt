@@ -2,14 +2,14 @@ ghost use Rattle.std.specs.Prelude.{◌≡◌, chars};
 ghost use Rattle.kt_base.specs.Utf8.{utf8};
 ghost use Rattle.kt_cli.specs.FaultLines.{fault_line};
 ghost use Rattle.kt_cli.specs.Pages.{Says};
-ghost use Rattle.kt_cli.specs.Stops.{config_text, filter_text, quoted_line, stop_exit, stop_line};
-ghost use Rattle.kt_cli.specs.declared.stop.Stop.TheVariants as stop;
+ghost use Rattle.kt_cli.specs.StopLines.{config_text, filter_text, quoted_line, stop_exit, stop_line};
+ghost use Rattle.kt_plan.specs.declared.stop.Stop.TheVariants as stop;
 
 use crate::fault_line::{say_fault, say_memory, script_words};
 use crate::page::{say_text, say_words};
-use crate::stop::Stop;
 use kt_base::Text;
 use kt_config::ConfigFault;
+use kt_plan::Stop;
 use kt_suite::{FilterFault, SuiteFault};
 use std::io::Write;
 

@@ -1,10 +1,10 @@
 ghost use Rattle.kt_base.specs.Utf8.{utf8};
 ghost use Rattle.kt_cli.specs.Pages.{Printed};
-ghost use Rattle.kt_cli.specs.Stops.{stop_line, stop_exit};
+ghost use Rattle.kt_cli.specs.StopLines.{stop_line, stop_exit};
 
 use crate::exit::{Exit, ended};
-use crate::stop::Stop;
 use crate::stop_line::{say_stop, stop_status};
+use kt_plan::Stop;
 use std::io::Write;
 
 /// Ends a command that was stopped by a fault.

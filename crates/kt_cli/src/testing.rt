@@ -9,17 +9,14 @@ ghost use Rattle.kt_cli.specs.Recordings.{Records};
 ghost use Rattle.kt_cli.specs.Testing.{RanPlan, ending, exit_of};
 ghost use Rattle.kt_cli.specs.declared.command.Command.TheVariants as command;
 
-use crate::case_options::CaseOptions;
 use crate::exit::{Exit, ended};
 use crate::fault_line::{say_memory, say_put, say_refusal};
-use crate::preparing::prepare;
 use crate::recorder::Recorder;
-use crate::selecting::select_cases;
 use crate::stopping::stopped;
 use crate::totals::say_totals;
 use crate::warnings::say_warnings;
-use crate::world::World;
 use kt_base::{Items, Text};
+use kt_plan::{CaseOptions, World, prepare, select_cases};
 use kt_sched::{Job, Launcher, RunFault, Totals, run_cases};
 use kt_store::ResultStore;
 use std::alloc::Global;

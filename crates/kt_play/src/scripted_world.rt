@@ -3,7 +3,7 @@ use crate::shortage::ask_too_much;
 use crate::stage::Stage;
 use kt_atflist::{ListBytes, Listing};
 use kt_base::{Bytes, LATEST_MOMENT, NoMemory, Refused, Role, Text, Variables};
-use kt_cli::World;
+use kt_plan::World;
 use kt_sched::{Ended, Job, Launcher, StartAnswer};
 use kt_suite::{Program, ReadFault, Tree};
 use std::alloc::Global;

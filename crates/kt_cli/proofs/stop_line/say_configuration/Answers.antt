@@ -2,7 +2,7 @@ use Rattle.std.proofs.Common.{◌∙◌, ap}
 use Rattle.std.specs.Str.{chars}
 use Rattle.std.specs.Prelude.{codes, ◌++◌, List, ℕ}
 use Rattle.kt_base.specs.Utf8.{utf8}
-use Rattle.kt_cli.specs.Stops.{config_text}
+use Rattle.kt_cli.specs.StopLines.{config_text}
 use Rattle.kt_cli.proofs.FaultWords.{chars-config}
 use Rattle.kt_cli.proofs.Saying.{says_both, says_same}
 use Rattle.kt_cli.proofs.stop_line.say_configuration.Goals as goal

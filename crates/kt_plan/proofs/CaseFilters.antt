@@ -1,0 +1,99 @@
+-- The filters of a command, word by word and together.
+use Rattle.std.specs.Prelude.{Option, Some, None, Result, Ok, Err, IsErrAnd, find, unwrap_or, option_map, slice_get, if◌then◌else◌}
+use Rattle.std.proofs.Common.{◌≡◌, ℕ, suc, ◌<◌, Bool, true, false, List, [], ◌∷◌, length, get_or, take, refl, sym, ap, ◌∙◌, subst, ◌⊎◌, inl, inr, arith}
+use Rattle.std.proofs.lemmas.Option.{slice_get_read, slice_get_within}
+use Rattle.std.proofs.lemmas.Result.{err_from_is_err_and}
+use Rattle.kt_suite.specs.declared.filter.Filter.{Filter}
+use Rattle.kt_suite.specs.declared.filter_fault.FilterFault.{FilterFault}
+use Rattle.kt_suite.specs.declared.filter_fault.FilterFault.TheVariants.{Repeated, NotDisjoint}
+use Rattle.kt_suite.specs.Disjoint.{IsDisjoint, IsFirstFault, fault_at, fault_behind, is_same_filter, overlap}
+use Rattle.kt_suite.specs.Disjoint as of
+use Rattle.kt_plan.specs.Configuring.{ChecksTogether, Filters, apart, clash, each_of, filters_of, in_front, lacks_case, position_in, right, shared, unnamed, unparsed}
+use Rattle.kt_plan.specs.Stops.{RanOut, IsShort}
+use Rattle.kt_plan.specs.declared.stop.Stop.{Stop}
+use Rattle.kt_plan.specs.declared.stop.Stop.TheVariants as stop
+
+-- ---- how many there are
+
+abbrev items_or : {A : Type 0} → List A → Result (List A) Stop → List A
+items_or other (Ok xs) = xs
+items_or other (Err fault) = other
+
+length_in_front : {A : Type 0} (m : Result A Stop) (rest : Result (List A) Stop) (all : List A) (n : ℕ) → in_front m rest ≡ Ok all → ((more : List A) → rest ≡ Ok more → n ≡ length more) → suc n ≡ length all
+length_in_front (Err fault) rest all n e f = absurd (cc)
+length_in_front (Ok one) (Err fault) all n e f = absurd (cc)
+length_in_front {A} (Ok one) (Ok more) all n e f = ap suc (f more refl) ∙ ap (λ (r : Result (List A) Stop). length (items_or all r)) e
+
+-- each word means one value
+pub length_of_each : {A : Type 0} (meaning : List ℕ → Result A Stop) (words : List (List ℕ)) (all : List A) → each_of meaning words ≡ Ok all → length words ≡ length all
+length_of_each {A} meaning [] all e = ap (λ (r : Result (List A) Stop). length (items_or all r)) e
+length_of_each meaning (word ∷ words) all e = length_in_front (meaning word) (each_of meaning words) all (length words) e (λ more m. length_of_each meaning words more m)
+
+-- ---- the filter that a fault names
+
+position_by : (b : Bool) (position : ℕ) → position_in (if b then Repeated position else NotDisjoint position) ≡ position
+position_by true position = refl
+position_by false position = refl
+
+position_found : (position : ℕ) (filter : Filter) (found : Option Filter) (fault : FilterFault) → option_map (of.clash position filter) found ≡ Some fault → position_in fault ≡ position
+position_found position filter None fault e = absurd (cc)
+position_found position filter (Some earlier) fault e =
+    sym (ap (λ (o : Option FilterFault). position_in (unwrap_or o fault)) e) ∙ position_by (is_same_filter filter earlier) position
+
+position_behind : (earlier : List Filter) (position : ℕ) (o : Option Filter) (fault : FilterFault) → fault_behind earlier position o ≡ Some fault → position_in fault ≡ position
+position_behind earlier position None fault e = absurd (cc)
+position_behind earlier position (Some filter) fault e = position_found position filter (find (overlap filter) earlier) fault e
+
+within_at : (filters earlier : List Filter) (position : ℕ) (o : Option Filter) (fault : FilterFault) → slice_get filters position ≡ o → fault_behind earlier position o ≡ Some fault → position < length filters
+within_at filters earlier position None fault g e = absurd (cc)
+within_at filters earlier position (Some filter) fault g e = slice_get_within filters position filter g
+
+-- a fault of several filters names one of them
+pub is_within : (filters : List Filter) (fault : FilterFault) → IsFirstFault filters fault → position_in fault < length filters
+is_within filters fault f =
+    subst (λ (n : ℕ). n < length filters) (sym (position_behind (take f.0 filters) f.0 (slice_get filters f.0) fault f.1))
+    (within_at filters (take f.0 filters) f.0 (slice_get filters f.0) fault refl f.1)
+
+-- and the word at its position
+pub names_word : (words : List (List ℕ)) (filters : List Filter) (fault : FilterFault) (n : ℕ) (found word : List ℕ) → length words ≡ length filters → IsFirstFault filters fault
+    → n ≡ position_in fault → found ≡ get_or words n found → word ≡ found → ChecksTogether words filters (Some (stop.Filter word fault))
+names_word words filters fault n found word same f at read copied =
+    let p = is_within filters fault f in
+    let q : n < length words = subst (λ (k : ℕ). k < length words) (sym at) (subst (λ (k : ℕ). position_in fault < k) (sym same) p) in
+    let e : n ≡ f.0 = at ∙ position_behind (take f.0 filters) f.0 (slice_get filters f.0) fault f.1 in
+    let s : slice_get words n ≡ Some found = slice_get_read words (length words) n found refl q read in
+    shared word fault (record {
+      position = f.0;
+      at = f.1;
+      first = f.2;
+      named = ap (λ (k : ℕ). slice_get words k) (sym e) ∙ s ∙ ap (λ (w : List ℕ). Some w) (sym copied);
+    })
+
+-- ---- the filters of a command
+
+module _ (needs_case : Bool) (words : List (List ℕ)) where
+  abbrev pub Reads : Result (List Filter) Stop → Type 0
+  Reads result = IsShort result ⊎ Filters needs_case words result
+
+  -- a word is no filter
+  pub not_parsed : (result : Result (List Filter) Stop) (fault : Stop) → IsErrAnd result (λ e. e ≡ fault) → filters_of words ≡ Err fault → Reads result
+  not_parsed result fault r e =
+      let p = err_from_is_err_and result r in
+      subst (λ (o : Result (List Filter) Stop). Reads o) (sym (p.1 ∙ ap (λ (x : Stop). Err x) p.2)) (inr (unparsed fault e))
+
+  -- two filters share a case
+  pub not_apart : (filters : List Filter) (fault : Stop) → filters_of words ≡ Ok filters → ChecksTogether words filters (Some fault) → Reads (Err fault)
+  not_apart filters fault e (shared word cause c) = inr (clash filters word cause e c)
+
+  -- each is apart from the others
+  is_apart : (filters : List Filter) (found : Option Stop) → ((fault : Stop) → found ≡ Some fault → ⊥) → ChecksTogether words filters found → IsDisjoint filters
+  is_apart filters None n (apart d) = d
+  is_apart filters (Some fault) n t = absurd (n fault refl)
+
+  pub not_one_case : (filters : List Filter) (found : Option Stop) → filters_of words ≡ Ok filters → ((fault : Stop) → found ≡ Some fault → ⊥) → ChecksTogether words filters found
+      → true ≡ lacks_case needs_case filters → Reads (Err stop.NeedsCase)
+  not_one_case filters found e n t l = inr (unnamed filters e (is_apart filters found n t) (sym l))
+
+  pub all_right : (filters : List Filter) (found : Option Stop) → filters_of words ≡ Ok filters → ((fault : Stop) → found ≡ Some fault → ⊥) → ChecksTogether words filters found
+      → false ≡ lacks_case needs_case filters → Reads (Ok filters)
+  all_right filters found e n t l = inr (right filters e (is_apart filters found n t) (sym l))

@@ -1,0 +1,134 @@
+-- What a command is configured with, word by word.
+use Rattle.std.specs.Prelude.{Option, Some, None, Result, Ok, Err, IsErrAnd}
+use Rattle.std.proofs.Common.{◌≡◌, ℕ, List, [], ◌∷◌, ◌++◌, refl, sym, ap, ◌∙◌, subst, ◌⊎◌, inl, inr, append-nil, append_assoc}
+use Rattle.std.proofs.lemmas.Result.{err_from_is_err_and}
+use Rattle.kt_config.specs.declared.definition.Definition.{Definition}
+use Rattle.kt_config.specs.declared.fault.ConfigFault.{ConfigFault}
+use Rattle.kt_config.specs.Holding.{Holds}
+use Rattle.kt_config.specs.Reading.{IsDue, IsRead}
+use Rattle.kt_config.specs.Values.{Values}
+use Rattle.kt_suite.specs.Answers.{Answered, Chain}
+use Rattle.kt_suite.specs.declared.read_fault.ReadFault.{ReadFault}
+use Rattle.kt_suite.specs.declared.read_fault.ReadFault.TheVariants.{Missing, Failed, Memory}
+use Rattle.kt_plan.specs.Configuring.{Configured, Configures, GivesMore, GivesOne, Gives, IsConfiguration, IsUnread, ReadsConfig, behind, each_of, in_front, defined, failed, missing, none, read, refused, seen, stopped, unread, unread_stop, word_meaning, words_meaning}
+use Rattle.kt_plan.specs.declared.case_options.CaseOptions.{CaseOptions}
+use Rattle.kt_plan.specs.Stops.{IsShort}
+use Rattle.kt_plan.specs.Told.{Told, ReadConfig}
+use Rattle.kt_plan.specs.declared.stop.Stop.{Stop}
+use Rattle.kt_plan.specs.declared.stop.Stop.TheVariants as stop
+
+-- ---- words in order
+
+-- one more before the others
+behind-in_front : {A : Type 0} (before : List A) (one : A) (rest : Result (List A) Stop) → behind before (in_front (Ok one) rest) ≡ behind (before ++ one ∷ []) rest
+behind-in_front {A} before one (Ok more) = ap (λ (xs : List A). Ok xs) (sym (append_assoc before (one ∷ []) more))
+behind-in_front before one (Err fault) = refl
+
+-- ---- the configuration file
+
+-- it is read
+pub read_config_file : (bytes : List ℕ) (config : Values) → IsRead bytes config → Configured (IsConfiguration bytes) (Ok config)
+read_config_file bytes config r = record { meant = Ok r.1; means = read r.0 r.1 r.2 r.3; gives = r.4 }
+
+-- it is refused
+pub refused_config_file : (bytes : List ℕ) (fault : ConfigFault) → IsDue bytes fault → Configured (IsConfiguration bytes) (Err (stop.Configuration fault))
+refused_config_file bytes fault d = record { meant = Err (stop.Configuration fault); means = refused fault d; gives = refl }
+
+-- no file is given
+pub none_given : (path : Option (List ℕ)) (config : Values) → path ≡ None → Holds config [] → Configured (ReadsConfig path []) (Ok config)
+none_given path config e h = record { meant = Ok []; means = subst (λ (p : Option (List ℕ)). ReadsConfig p [] (Ok [])) (sym e) none; gives = h }
+
+module _ {W : Type 0} (tells : W → Told → W → Type 0) (old new : W) where
+  -- the configuration is that of a path, or memory ran out
+  abbrev pub Reads : Option (List ℕ) → Result Values Stop → Type 0
+  Reads path outcome = Answered tells old new (λ told. IsShort outcome ⊎ Configured (ReadsConfig path told) outcome)
+
+  -- the configuration of a command, or memory ran out
+  abbrev pub Configuration : CaseOptions → Result Values Stop → Type 0
+  Configuration options outcome = Answered tells old new (λ told. IsShort outcome ⊎ Configured (Configures options told) outcome)
+
+  -- the same answers, seen otherwise
+  pub answered_as : (P Q : List Told → Type 0) → ((told : List Told) → P told → Q told) → Answered tells old new P → Answered tells old new Q
+  answered_as P Q f a = record { asked = a.asked; chain = a.chain; holds = f a.asked a.holds }
+
+  -- one question was asked
+  pub told_once : (told : Told) (P : List Told → Type 0) → tells old told new → P (told ∷ []) → Answered tells old new P
+  told_once told P t p = record { asked = told ∷ []; chain = (new, t, refl); holds = p }
+
+  -- it can't be read
+  pub file_unread : (path : List ℕ) (answer : Result (List ℕ) ReadFault) (fault : ReadFault) → tells old (ReadConfig path answer) new → answer ≡ Err fault → Reads (Some path) (Err (unread_stop fault))
+  file_unread path answer fault t e =
+      told_once (ReadConfig path (Err fault)) (λ told. IsShort {T = Values} (Err (unread_stop fault)) ⊎ Configured (ReadsConfig (Some path) told) (Err (unread_stop fault)))
+      (subst (λ (a : Result (List ℕ) ReadFault). tells old (ReadConfig path a) new) e t) (by fault)
+    where
+      by : (f : ReadFault) → IsShort {T = Values} (Err (unread_stop f)) ⊎ Configured (ReadsConfig (Some path) (ReadConfig path (Err f) ∷ [])) (Err (unread_stop f))
+      by Missing = inr (record { meant = Err stop.UnreadConfiguration; means = unread path Missing missing; gives = refl })
+      by Failed = inr (record { meant = Err stop.UnreadConfiguration; means = unread path Failed failed; gives = refl })
+      by (Memory refusal) = inl (refusal, refl)
+
+  -- memory ran out behind the answer
+  pub file_short : (path : List ℕ) (answer : Result (List ℕ) ReadFault) (outcome : Result Values Stop) → tells old (ReadConfig path answer) new → IsShort outcome → Reads (Some path) outcome
+  file_short path answer outcome t s = told_once (ReadConfig path answer) (λ told. IsShort outcome ⊎ Configured (ReadsConfig (Some path) told) outcome) t (inl s)
+
+  -- it is read
+  pub file_seen : (path bytes : List ℕ) (answer : Result (List ℕ) ReadFault) (outcome : Result Values Stop) → tells old (ReadConfig path answer) new → answer ≡ Ok bytes
+      → Configured (IsConfiguration bytes) outcome → Reads (Some path) outcome
+  file_seen path bytes answer outcome t e c =
+      told_once (ReadConfig path (Ok bytes)) (λ told. IsShort outcome ⊎ Configured (ReadsConfig (Some path) told) outcome)
+      (subst (λ (a : Result (List ℕ) ReadFault). tells old (ReadConfig path a) new) e t)
+      (inr (record { meant = c.meant; means = seen path bytes c.meant c.means; gives = c.gives }))
+
+  -- the file's stop is the whole step's
+  pub configured_not : (options : CaseOptions) (found outcome : Result Values Stop) (fault : Stop) → found ≡ Err fault → IsErrAnd outcome (λ e. e ≡ fault) → Reads options.config found
+      → Configuration options outcome
+  configured_not options found outcome fault e r a =
+      let p = err_from_is_err_and outcome r in
+      answered_as (λ told. IsShort found ⊎ Configured (ReadsConfig options.config told) found) (λ told. IsShort outcome ⊎ Configured (Configures options told) outcome)
+      (λ told h. subst (λ (o : Result Values Stop). IsShort o ⊎ Configured (Configures options told) o) (sym (p.1 ∙ ap (λ (x : Stop). Err x) p.2))
+      (by told (subst (λ (o : Result Values Stop). IsShort o ⊎ Configured (ReadsConfig options.config told) o) e h))) a
+    where
+      meant : (told : List Told) (m : Result (List Definition) Stop) → ReadsConfig options.config told m → Gives (Err fault) m → Configured (Configures options told) (Err fault)
+      meant told (Ok definitions) m g = absurd g
+      meant told (Err f) m g = record { meant = Err f; means = stopped f m; gives = g }
+
+      by : (told : List Told) → IsShort {T = Values} (Err fault) ⊎ Configured (ReadsConfig options.config told) (Err fault) → IsShort {T = Values} (Err fault) ⊎ Configured (Configures options told) (Err fault)
+      by told (inl s) = inl s
+      by told (inr c) = inr (meant told c.meant c.means c.gives)
+
+  -- the words of `-v` follow the file
+  pub configured_both : (options : CaseOptions) (found outcome : Result Values Stop) (config : Values) → found ≡ Ok config → GivesMore config outcome (words_meaning options.variables) → Reads options.config found
+      → Configuration options outcome
+  configured_both options found outcome config e m a =
+      answered_as (λ told. IsShort found ⊎ Configured (ReadsConfig options.config told) found) (λ told. IsShort outcome ⊎ Configured (Configures options told) outcome)
+      (λ told h. by told (subst (λ (o : Result Values Stop). IsShort o ⊎ Configured (ReadsConfig options.config told) o) e h)) a
+    where
+      meant : (told : List Told) (r : Result (List Definition) Stop) → ReadsConfig options.config told r → Gives (Ok config) r → Configured (Configures options told) outcome
+      meant told (Ok before) r g = record { meant = behind before (words_meaning options.variables); means = defined before r; gives = m before g }
+      meant told (Err f) r g = absurd g
+
+      by : (told : List Told) → IsShort {T = Values} (Ok config) ⊎ Configured (ReadsConfig options.config told) (Ok config) → IsShort outcome ⊎ Configured (Configures options told) outcome
+      by told (inl s) = absurd s
+      by told (inr c) = inr (meant told c.meant c.means c.gives)
+
+-- ---- the words of `-v`
+
+-- whatever definitions there were, the words before the rest are behind them
+pub record HasSet (first config : Values) (words rest : List (List ℕ)) : Type 0 where
+  pub so_far : (before : List Definition) → Holds first before
+      → (all : List Definition) × Holds config all × (behind before (words_meaning words) ≡ behind all (words_meaning rest))
+
+-- a word's definition comes behind those before
+one_given : (before : List Definition) (next : Values) (m : Result Definition Stop) (rest : Result (List Definition) Stop) → Gives (Ok next) (behind before (in_front m (Ok [])))
+    → (all : List Definition) × Holds next all × (behind before (in_front m rest) ≡ behind all rest)
+one_given before next (Ok d) rest g = (before ++ d ∷ [], g, behind-in_front before d rest)
+one_given before next (Err fault) rest g = absurd g
+
+-- one more word is set
+pub one_set : (first config next : Values) (words rest after : List (List ℕ)) (word : List ℕ) → HasSet first config words rest → rest ≡ word ∷ after
+    → GivesOne config (Ok next) (word_meaning word) → HasSet first next words after
+one_set first config next words rest after word s parts g = record {
+  so_far = λ before h.
+      let b = s.so_far before h in
+      let o = one_given b.0 next (word_meaning word) (words_meaning after) (g b.0 b.1) in
+      (o.0, o.1, b.2 ∙ ap (λ (ws : List (List ℕ)). behind b.0 (words_meaning ws)) parts ∙ o.2);
+}

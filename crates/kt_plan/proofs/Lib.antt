@@ -1,0 +1,14 @@
+pub mod CaseFilters
+pub mod Chains
+pub mod Collections
+pub mod Configurations
+pub mod Loading
+pub mod LookLaws
+pub mod OfferLaws
+pub mod Picking
+pub mod PlanLaws
+pub mod QuestionChains
+pub mod Rests
+pub mod SelectLaws
+pub mod Settling
+pub mod Wanting

@@ -1,0 +1,28 @@
+-- What the Kyuafile of a command registers.
+use Rattle.std.specs.Prelude.{Err, true, false}
+use Rattle.std.proofs.Common.{◌≡◌, ℕ, List, [], refl, sym, subst, ◌⊎◌, inl, inr}
+use Rattle.kt_suite.specs.declared.cause.SuiteCause.TheVariants.{Unreadable}
+use Rattle.kt_suite.specs.declared.fault.SuiteFault.{SuiteFault}
+use Rattle.kt_suite.specs.Answers.{Asked, Answered}
+use Rattle.kt_suite.specs.Faults.{Blames}
+use Rattle.kt_suite.specs.Paths.{is_empty, name_in}
+use Rattle.kt_suite.specs.Registered.{Outcome, Registered, Unfinished}
+use Rattle.kt_plan.specs.Listings.{Loads, RanShort, named, unnamed}
+
+module _ {T : Type 0} (asks : T → Asked → T → Type 0) (kyuafile : List ℕ) where
+  abbrev Loaded : T → T → Outcome → Type 0
+  Loaded old new outcome = Answered asks old new (λ asked. RanShort outcome ⊎ Loads kyuafile asked outcome)
+
+  -- the path names no file
+  pub not_there : (tree : T) (fault : SuiteFault) → is_empty (name_in kyuafile) ≡ true → Blames kyuafile 0 Unreadable fault → Loaded tree tree (Err fault)
+  not_there tree fault n (inl m) = record { asked = []; chain = refl; holds = inl (fault, m, refl) }
+  not_there tree fault n (inr e) = record { asked = []; chain = refl; holds = inr (subst (λ (f : SuiteFault). Loads kyuafile [] (Err f)) (sym e) (unnamed n)) }
+
+  -- the tree was loaded
+  pub loaded : (old new : T) (root : List ℕ) (outcome : Outcome) → root ≡ name_in kyuafile → is_empty (name_in kyuafile) ≡ false
+      → Answered asks old new (λ asked. Registered asked root outcome ⊎ Unfinished asked root outcome) → Loaded old new outcome
+  loaded old new root outcome same full a = record { asked = a.asked; chain = a.chain; holds = by a.asked a.holds }
+    where
+      by : (asked : List Asked) → Registered asked root outcome ⊎ Unfinished asked root outcome → RanShort outcome ⊎ Loads kyuafile asked outcome
+      by asked (inr u) = inl (u.fault, u.no_memory, u.refused)
+      by asked (inl r) = inr (named asked outcome full (subst (λ (name : List ℕ). Registered asked name outcome) same r))

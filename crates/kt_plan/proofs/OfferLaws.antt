@@ -1,0 +1,71 @@
+-- The cases of programs, and what the world is asked for them.
+use Rattle.std.specs.Prelude.{Some, None}
+use Rattle.std.proofs.Common.{◌≡◌, ◌≢◌, List, [], ◌∷◌, ◌++◌, refl, sym, subst, append_assoc, append-nil, length}
+use Rattle.kt_base.specs.declared.interface.Interface.TheVariants.{Atf}
+use Rattle.kt_base.specs.declared.variable.Variable.{Variable}
+use Rattle.kt_config.specs.Values.{Values}
+use Rattle.kt_atflist.specs.Cases.{AreCases}
+use Rattle.kt_atflist.specs.declared.case_def.CaseDef.{CaseDef}
+use Rattle.kt_atflist.specs.declared.listing.Listing.{Listing}
+use Rattle.kt_suite.specs.Answers.{Chain, Answered}
+use Rattle.kt_suite.specs.declared.filter.Filter.{Filter}
+use Rattle.kt_suite.specs.declared.program.Program.{Program}
+use Rattle.kt_plan.specs.declared.candidate.Candidate.{Candidate}
+use Rattle.kt_plan.specs.Collecting.{candidates_of, variables_for, IsWanted, ListsCases, listed, OffersOne, listing, unlisted, single, Offers, none, one_and}
+use Rattle.kt_plan.specs.Told.{Told, Lists}
+use Rattle.kt_plan.proofs.Chains.{chain_append}
+use Rattle.kt_plan.proofs.Rests.{none_left}
+
+-- a program was asked for its list
+pub lists_cases : {W : Type 0} (tells : W → Told → W → Type 0) (config : Values) (program : Program) (variables : List Variable) (old new : W) (answer : Listing) (cases : List CaseDef)
+    → variables ≡ variables_for config program.suite → tells old (Lists program variables answer) new
+    → AreCases program.props Atf (Some answer) cases → Answered tells old new (λ told. ListsCases config program told cases)
+lists_cases tells config program variables old new answer cases e h a = record {
+  asked = Lists program (variables_for config program.suite) answer ∷ [];
+  chain = (new, subst (λ (vs : List Variable). tells old (Lists program vs answer) new) e h, refl);
+  holds = listed answer cases a;
+}
+
+module _ {W : Type 0} (tells : W → Told → W → Type 0) (config : Values) (filters : List Filter) where
+  pub offers_listed : (program : Program) (old new : W) (cases : List CaseDef) → program.interface ≡ Atf → IsWanted filters program → Answered tells old new (λ told. ListsCases config program told cases)
+      → Answered tells old new (λ told. OffersOne config filters program told (candidates_of program cases))
+  offers_listed program old new cases e w a = record { asked = a.asked; chain = a.chain; holds = listing a.asked cases e w a.holds }
+
+  pub offers_none : (program : Program) (world : W) (cases : List CaseDef) → program.interface ≡ Atf → (IsWanted filters program → ⊥) → cases ≡ []
+      → Answered tells world world (λ told. OffersOne config filters program told (candidates_of program cases))
+  offers_none program world cases e n c = record { asked = []; chain = refl; holds = subst (λ (cs : List CaseDef). OffersOne config filters program [] (candidates_of program cs)) (sym c) (unlisted e n) }
+
+  pub offers_single : (program : Program) (world : W) (cases : List CaseDef) → program.interface ≢ Atf → AreCases program.props program.interface None cases
+      → Answered tells world world (λ told. OffersOne config filters program told (candidates_of program cases))
+  offers_single program world cases n a = record { asked = []; chain = refl; holds = single cases n a }
+
+  -- the cases of some programs so far
+  pub record Offering (programs : List Program) (old : W) (rest : List Program) (new : W) (found : List Candidate) : Type 0 where
+    pub told : List Told
+    pub chain : Chain tells told old new
+    pub goes : (more : List Told) (others : List Candidate) → Offers config filters rest more others → Offers config filters programs (told ++ more) (found ++ others)
+
+  module _ (programs : List Program) (old : W) where
+    pub offers_first : (found : List Candidate) → found ≡ [] → Offering programs old programs old found
+    offers_first found e = record { told = []; chain = refl; goes = λ more others h. subst (λ (cs : List Candidate). Offers config filters programs more (cs ++ others)) (sym e) h }
+
+    pub offers_next : (rest after : List Program) (program : Program) (mid new : W) (found grown : List Candidate) (cases : List CaseDef) → rest ≡ program ∷ after → Offering programs old rest mid found
+        → Answered tells mid new (λ told. OffersOne config filters program told (candidates_of program cases)) → grown ≡ found ++ candidates_of program cases → Offering programs old after new grown
+    offers_next rest after program mid new found grown cases e o a g = record {
+      told = o.told ++ a.asked;
+      chain = chain_append tells o.told a.asked old mid new o.chain a.chain;
+      goes = λ more others h.
+          let own = candidates_of program cases in
+          subst (λ (cs : List Candidate). Offers config filters programs ((o.told ++ a.asked) ++ more) (cs ++ others)) (sym g)
+          (subst (λ (cs : List Candidate). Offers config filters programs ((o.told ++ a.asked) ++ more) cs) (sym (append_assoc found own others))
+          (subst (λ (ts : List Told). Offers config filters programs ts (found ++ (own ++ others))) (sym (append_assoc o.told a.asked more))
+          (o.goes (a.asked ++ more) (own ++ others) (subst (λ (ps : List Program). Offers config filters ps (a.asked ++ more) (own ++ others)) (sym e) (one_and program after a.asked more own others a.holds h)))));
+    }
+
+    pub offers_all : (rest : List Program) (new : W) (found : List Candidate) → length rest ≡ 0 → Offering programs old rest new found → Answered tells old new (λ told. Offers config filters programs told found)
+    offers_all rest new found e o = record {
+      asked = o.told;
+      chain = o.chain;
+      holds = subst (λ (ts : List Told). Offers config filters programs ts found) (append-nil o.told)
+          (subst (λ (cs : List Candidate). Offers config filters programs (o.told ++ []) cs) (append-nil found) (o.goes [] [] (subst (λ (ps : List Program). Offers config filters ps [] []) (sym (none_left rest e)) none)));
+    }

@@ -1,0 +1,84 @@
+-- Selected cases are picked by their places.
+use Rattle.std.specs.Prelude.{Bool, true, false}
+use Rattle.std.proofs.Common.{◌≡◌, ℕ, ◌+◌, ◌<◌, ◌≤◌, List, [], ◌∷◌, ◌++◌, cond, refl, sym, ap, ◌∙◌, arith, append_assoc, map}
+use Rattle.std.specs.Prelude.{if◌then◌else◌}
+use Rattle.kt_suite.specs.declared.filter.Filter.{Filter}
+use Rattle.kt_suite.specs.declared.item.Item.{Item}
+use Rattle.kt_suite.specs.Selecting.{places, is_selected}
+use Rattle.kt_plan.specs.declared.candidate.Candidate.{Candidate}
+use Rattle.kt_plan.specs.Collecting.{item_of, selected_cases}
+use Rattle.kt_plan.specs.Picks.{places_from}
+
+same_head : {X : Type 0} (x y : X) (xs ys : List X) → x ∷ xs ≡ y ∷ ys → x ≡ y
+same_head x y xs ys e = cc
+
+same_tail : {X : Type 0} (x y : X) (xs ys : List X) → x ∷ xs ≡ y ∷ ys → xs ≡ ys
+same_tail x y xs ys e = cc
+
+no_head : {X : Type 0} (x : X) (xs : List X) → x ∷ xs ≡ [] → ⊥
+no_head x xs e = absurd (cc)
+
+-- a place is no earlier than the count
+no_earlier : (test : Item → Bool) (n : ℕ) (items : List Item) (m : ℕ) (ms : List ℕ) → places test n items ≡ m ∷ ms → n ≤ m
+no_earlier test n [] m ms e = absurd (no_head m ms (sym e))
+no_earlier test n (item ∷ items) m ms e = by (test item) refl (no_earlier test (n + 1) items m ms)
+  where
+    by : (b : Bool) → test item ≡ b → (places test (n + 1) items ≡ m ∷ ms → n + 1 ≤ m) → n ≤ m
+    by true t later =
+        let h : n ∷ places test (n + 1) items ≡ m ∷ ms = sym (ap (λ (x : Bool). if x then n ∷ places test (n + 1) items else places test (n + 1) items) t) ∙ e in
+        let same : n ≡ m = same_head n m (places test (n + 1) items) ms h in
+        omega (arith, same)
+    by false t later =
+        let h : places test (n + 1) items ≡ m ∷ ms = sym (ap (λ (x : Bool). if x then n ∷ places test (n + 1) items else places test (n + 1) items) t) ∙ e in
+        let less : n + 1 ≤ m = later h in
+        omega (arith, less)
+
+module _ (filters : List Filter) (candidate : Candidate) (rest : List Candidate) (place : ℕ) where
+  abbrev Test : Item → Bool
+  Test = is_selected filters
+
+  abbrev after : List ℕ
+  after = places_from filters (place + 1) rest
+
+  -- the places from a case on, by whether it is selected
+  places_by : (b : Bool) → is_selected filters (item_of candidate) ≡ b → places_from filters place (candidate ∷ rest) ≡ (if b then place ∷ after else after)
+  places_by b e = ap (λ (x : Bool). if x then place ∷ after else after) e
+
+  cases_by : (b : Bool) → is_selected filters (item_of candidate) ≡ b → selected_cases filters (candidate ∷ rest) ≡ cond b (candidate ∷ selected_cases filters rest) (selected_cases filters rest)
+  cases_by b e = ap (λ (x : Bool). cond x (candidate ∷ selected_cases filters rest) (selected_cases filters rest)) e
+
+  -- what is to be shown of a case that was or wasn't kept
+  abbrev pub Keeps : List Candidate → List Candidate → List ℕ → Type 0
+  Keeps old new left = (left ≡ after) × (new ++ selected_cases filters rest ≡ old ++ selected_cases filters (candidate ∷ rest))
+
+  passed_by : (cases : List Candidate) (now : List ℕ) → now ≡ places_from filters place (candidate ∷ rest) → is_selected filters (item_of candidate) ≡ false → Keeps cases cases now
+  passed_by cases now h e = (h ∙ places_by false e, ap (λ (cs : List Candidate). cases ++ cs) (sym (cases_by false e)))
+
+  -- no place is left
+  pub passed_last : (cases : List Candidate) (now : List ℕ) → now ≡ [] → now ≡ places_from filters place (candidate ∷ rest) → Keeps cases cases now
+  passed_last cases now none h = by (is_selected filters (item_of candidate)) refl
+    where
+      by : (b : Bool) → is_selected filters (item_of candidate) ≡ b → Keeps cases cases now
+      by true e = absurd (no_head place after (sym (places_by true e) ∙ (sym h ∙ none)))
+      by false e = passed_by cases now h e
+
+  -- the next place is another one
+  pub passed_other : (cases : List Candidate) (now : List ℕ) (first : ℕ) (others : List ℕ) → now ≡ first ∷ others → (first ≡ place → ⊥) → now ≡ places_from filters place (candidate ∷ rest) → Keeps cases cases now
+  passed_other cases now first others is other h = by (is_selected filters (item_of candidate)) refl
+    where
+      by : (b : Bool) → is_selected filters (item_of candidate) ≡ b → Keeps cases cases now
+      by true e = absurd (other (same_head first place others after (sym is ∙ (h ∙ places_by true e))))
+      by false e = passed_by cases now h e
+
+  -- the next place is the case's own
+  pub picked : (cases new : List Candidate) (now : List ℕ) (first : ℕ) (others : List ℕ) → now ≡ first ∷ others → first ≡ place → new ≡ cases ++ candidate ∷ [] → now ≡ places_from filters place (candidate ∷ rest) → Keeps cases new others
+  picked cases new now first others is own grown h = by (is_selected filters (item_of candidate)) refl
+    where
+      by : (b : Bool) → is_selected filters (item_of candidate) ≡ b → Keeps cases new others
+      by true e = (
+        same_tail first place others after (sym is ∙ (h ∙ places_by true e)),
+        ap (λ (cs : List Candidate). cs ++ selected_cases filters rest) grown ∙ append_assoc cases (candidate ∷ []) (selected_cases filters rest) ∙ ap (λ (cs : List Candidate). cases ++ cs) (sym (cases_by true e)),
+      )
+      by false e =
+          let later : place + 1 ≤ first = no_earlier (is_selected filters) (place + 1) (map item_of rest) first others (sym (places_by false e) ∙ (sym h ∙ is)) in
+          absurd (let less : place < place = omega (arith, later, own) in omega (arith, less))

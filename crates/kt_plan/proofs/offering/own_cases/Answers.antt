@@ -1,0 +1,23 @@
+use Rattle.std.specs.Prelude.{true, false}
+use Rattle.std.proofs.Common.{List, ◌≡◌, ◌∙◌, sym, subst}
+use Rattle.kt_suite.specs.declared.filter.Filter.{Filter}
+use Rattle.kt_plan.specs.Collecting.{IsWanted}
+use Rattle.kt_plan.proofs.OfferLaws.{offers_listed, offers_none, offers_single}
+use Rattle.kt_plan.proofs.offering.own_cases.Goals as goal
+
+pub returns-then-not-is_wanted-clause-offers : goal.returns-then-not-is_wanted-clause-offers
+returns-then-not-is_wanted-clause-offers g c =
+    let unwanted : IsWanted c.args.settings.now.filters c.args.program.now → ⊥ = λ w. absurd (
+    let t : true ≡ false = sym (c.is_wanted.ensures.1 (subst (λ (fs : List Filter). IsWanted fs c.args.program.now) (sym c.as_slice.ensures) w)) ∙ c.if-not-is_wanted.true in cc) in
+    offers_none g.W.World.tells c.args.settings.now.config c.args.settings.now.filters c.args.program.now c.args.world.now c.new.result c.in-Atf.is unwanted c.new.ensures
+
+pub returns-in_ok-found-in-Atf-clause-offers : goal.returns-in_ok-found-in-Atf-clause-offers
+returns-in_ok-found-in-Atf-clause-offers g c =
+    let wanted : IsWanted c.args.settings.now.filters c.args.program.now = subst (λ (fs : List Filter). IsWanted fs c.args.program.now) c.as_slice.ensures (c.is_wanted.ensures.0 c.if-not-is_wanted.false) in
+    offers_listed g.W.World.tells c.args.settings.now.config c.args.settings.now.filters c.args.program.now c.args.world.now c.listed_cases.new.world c.in_ok-found-in-Atf.found c.in-Atf.is wanted c.in_ok-found-in-Atf.ensures.offers
+
+pub returns-in_ok-found-in_default : goal.returns-in_ok-found-in_default
+returns-in_ok-found-in_default g c = record {
+  offers = offers_single g.W.World.tells c.args.settings.now.config c.args.settings.now.filters c.args.program.now c.args.world.now c.in_ok-found-in_default.found c.in_default.not-Atf c.in_ok-found-in_default.ensures;
+  idle = c.requires;
+}

@@ -1,0 +1,93 @@
+-- Which cases the programs of a tree have, and which of them are selected: the second step.
+use Rattle.std.specs.Prelude.{ℕ, ◌≡◌, ◌≢◌, ◌≤◌, ◌<◌, ◌⊎◌, List, [], ◌∷◌, ◌++◌, Some, None, Result, Ok, Err, length, map, filter, unwrap_or}
+use Rattle.std.specs.List.{Contains}
+use Rattle.kt_base.specs.declared.interface.Interface.TheVariants.{Atf}
+use Rattle.kt_base.specs.declared.variable.Variable.{Variable}
+use Rattle.kt_config.specs.Values.{Values, variables_of}
+use Rattle.kt_atflist.specs.Cases.{AreCases}
+use Rattle.kt_atflist.specs.declared.case_def.CaseDef.{CaseDef}
+use Rattle.kt_atflist.specs.declared.listing.Listing.{Listing}
+use Rattle.kt_suite.specs.Answers.{Asked, Chain}
+use Rattle.kt_suite.specs.declared.fault.SuiteFault.{SuiteFault}
+use Rattle.kt_suite.specs.declared.filter.Filter.{Filter}
+use Rattle.kt_suite.specs.declared.item.Item.{Item}
+use Rattle.kt_suite.specs.declared.program.Program.{Program}
+use Rattle.kt_suite.specs.Matching.{MayMatch}
+use Rattle.kt_suite.specs.Selecting.{most_items, is_selected, idle_places}
+use Rattle.kt_plan.specs.declared.candidate.Candidate.{Candidate}
+use Rattle.kt_plan.specs.declared.chosen.Chosen.{Chosen}
+use Rattle.kt_plan.specs.declared.settings.Settings.{Settings}
+use Rattle.kt_plan.specs.declared.stop.Stop.{Stop}
+use Rattle.kt_plan.specs.declared.stop.Stop.TheVariants as stop
+use Rattle.kt_plan.specs.Listings.{Loads}
+use Rattle.kt_plan.specs.Stops.{IsShort}
+use Rattle.kt_plan.specs.Told.{Told, Lists}
+
+-- the variables of a suite, none where it has none
+abbrev pub variables_for : Values → List ℕ → List Variable
+variables_for config suite = unwrap_or (variables_of suite config.suites) []
+
+-- a case of a program
+abbrev pub candidate_of : Program → CaseDef → Candidate
+candidate_of program case = record { interface = program.interface; path = program.path; suite = program.suite; case = case }
+
+-- the cases of a program
+abbrev pub candidates_of : Program → List CaseDef → List Candidate
+candidates_of program cases = map (candidate_of program) cases
+
+-- there is no filter, or one of them selects some case that the program could have
+abbrev pub IsWanted : List Filter → Program → Type 0
+IsWanted filters program = (filters ≡ []) ⊎ ((one : Filter) × Contains filters one × MayMatch one program.path)
+
+-- a program that was asked for its list, with the variables of its suite, has these cases
+pub data ListsCases (config : Values) (program : Program) : List Told → List CaseDef → Type 0 where
+  listed : (listing : Listing) (cases : List CaseDef) → AreCases program.props Atf (Some listing) cases
+      → ListsCases config program (Lists program (variables_for config program.suite) listing ∷ []) cases
+
+-- the cases of a program: an ATF program that is wanted is asked for its list, and one that isn't has none here; the others have the
+-- case `main`
+pub data OffersOne (config : Values) (filters : List Filter) (program : Program) : List Told → List Candidate → Type 0 where
+  listing : (told : List Told) (cases : List CaseDef) → program.interface ≡ Atf → IsWanted filters program → ListsCases config program told cases
+      → OffersOne config filters program told (candidates_of program cases)
+  unlisted : program.interface ≡ Atf → (IsWanted filters program → ⊥) → OffersOne config filters program [] []
+  single : (cases : List CaseDef) → program.interface ≢ Atf → AreCases program.props program.interface None cases
+      → OffersOne config filters program [] (candidates_of program cases)
+
+-- the cases of some programs, in their order
+pub data Offers (config : Values) (filters : List Filter) : List Program → List Told → List Candidate → Type 0 where
+  none : Offers config filters [] [] []
+  one_and : (program : Program) (programs : List Program) (told more : List Told) (own others : List Candidate) → OffersOne config filters program told own
+      → Offers config filters programs more others → Offers config filters (program ∷ programs) (told ++ more) (own ++ others)
+
+-- a case as filters see it
+abbrev pub item_of : Candidate → Item
+item_of candidate = record { path = candidate.path; case_name = candidate.case.name }
+
+-- the cases that filters select
+abbrev pub selected_cases : List Filter → List Candidate → List Candidate
+selected_cases filters found = filter (λ candidate. is_selected filters (item_of candidate)) found
+
+-- what filters select of some cases
+abbrev pub chosen_of : List Filter → List Candidate → Chosen
+chosen_of filters found = record {
+  cases = selected_cases filters found;
+  unmatched = idle_places (map item_of found) filters;
+}
+
+-- the selected cases of a tree, or why it stops the command
+pub data Collects (settings : Settings) (kyuafile : List ℕ) : List Asked → List Told → Result Chosen Stop → Type 0 where
+  unloaded : (asked : List Asked) (fault : SuiteFault) → Loads kyuafile asked (Err fault) → Collects settings kyuafile asked [] (Err (stop.Tree fault))
+  too_many : (asked : List Asked) (told : List Told) (programs : List Program) (found : List Candidate) → Loads kyuafile asked (Ok programs)
+      → Offers settings.config settings.filters programs told found → most_items < length found → Collects settings kyuafile asked told (Err stop.TooManyCases)
+  chosen : (asked : List Asked) (told : List Told) (programs : List Program) (found : List Candidate) → Loads kyuafile asked (Ok programs)
+      → Offers settings.config settings.filters programs told found → length found ≤ most_items
+      → Collects settings kyuafile asked told (Ok (chosen_of settings.filters found))
+
+-- a world was asked for the tree and then for the lists: what came of it, or memory ran out
+pub record Collected {W : Type 0} (asks : W → Asked → W → Type 0) (tells : W → Told → W → Type 0) (settings : Settings) (kyuafile : List ℕ) (old new : W) (result : Result Chosen Stop) : Type 0 where
+  pub asked : List Asked
+  pub told : List Told
+  pub loaded : W
+  pub chain : Chain asks asked old loaded
+  pub lists : Chain tells told loaded new
+  pub holds : IsShort result ⊎ Collects settings kyuafile asked told result

@@ -1,0 +1,185 @@
+-- What a command over test cases is configured with, and which filters it has: the first step.
+use Rattle.std.specs.Prelude.{ℕ, Bool, true, false, not, ◌≡◌, ◌<◌, ◌==◌, ◌&&◌, List, [], ◌∷◌, ◌++◌, Option, Some, None, Result, Ok, Err, is_some, slice_get, if◌then◌else◌}
+use Rattle.kt_script.specs.Spelling.{Spells}
+use Rattle.kt_script.specs.declared.syntax.Stmt.{Stmt}
+use Rattle.kt_config.specs.declared.definition.Definition.{Definition}
+use Rattle.kt_config.specs.declared.fault.ConfigFault.{ConfigFault}
+use Rattle.kt_config.specs.declared.fault.ConfigFault.TheVariants.{BadValue}
+use Rattle.kt_config.specs.Holding.{Holds}
+use Rattle.kt_config.specs.Names.{Meaning, definition_named}
+use Rattle.kt_config.specs.Reading.{outcome_of, IsDue}
+use Rattle.kt_config.specs.Values.{Values}
+use Rattle.kt_suite.specs.declared.filter.Filter.{Filter}
+use Rattle.kt_suite.specs.declared.filter_fault.FilterFault.{FilterFault}
+use Rattle.kt_suite.specs.declared.filter_fault.FilterFault.TheVariants.{Repeated, NotDisjoint}
+use Rattle.kt_suite.specs.declared.read_fault.ReadFault.{ReadFault}
+use Rattle.kt_suite.specs.declared.read_fault.ReadFault.TheVariants.{Missing, Failed, Memory}
+use Rattle.kt_suite.specs.Disjoint.{fault_at, IsDisjoint}
+use Rattle.kt_suite.specs.Filters.{Meaning as FilterMeaning, filter_meaning}
+use Rattle.kt_plan.specs.declared.case_options.CaseOptions.{CaseOptions}
+use Rattle.kt_plan.specs.declared.settings.Settings.{Settings}
+use Rattle.kt_plan.specs.declared.stop.Stop.{Stop}
+use Rattle.kt_plan.specs.declared.stop.Stop.TheVariants as stop
+use Rattle.kt_plan.specs.Told.{Told, ReadConfig}
+
+-- ---- words in order
+
+-- what one word means before what the others mean: behind a stop nothing counts
+abbrev pub in_front : {A : Type 0} → Result A Stop → Result (List A) Stop → Result (List A) Stop
+in_front (Err fault) rest = Err fault
+in_front (Ok first) (Ok rest) = Ok (first ∷ rest)
+in_front (Ok first) (Err fault) = Err fault
+
+-- what words mean, or the stop at the first that is wrong
+abbrev pub each_of : {A : Type 0} → (List ℕ → Result A Stop) → List (List ℕ) → Result (List A) Stop
+each_of meaning [] = Ok []
+each_of meaning (word ∷ words) = in_front (meaning word) (each_of meaning words)
+
+-- these before what words mean
+abbrev pub behind : {A : Type 0} → List A → Result (List A) Stop → Result (List A) Stop
+behind before (Ok more) = Ok (before ++ more)
+behind before (Err fault) = Err fault
+
+-- ---- variables
+
+-- a word up to its first `=`
+abbrev pub before_sign : List ℕ → List ℕ
+before_sign [] = []
+before_sign (c ∷ word) = if c == 61 then [] else c ∷ before_sign word
+
+-- what follows its first `=`, if it has one
+abbrev pub after_sign : List ℕ → Option (List ℕ)
+after_sign [] = None
+after_sign (c ∷ word) = if c == 61 then Some word else after_sign word
+
+-- what a name and a value define; a name without one has a bad value
+abbrev pub defined_by : List ℕ → Option (List ℕ) → Meaning
+defined_by name None = Err BadValue
+defined_by name (Some value) = definition_named name value
+
+-- a definition, or the stop at the word with this name
+abbrev pub or_stop_at : List ℕ → Meaning → Result Definition Stop
+or_stop_at name (Ok definition) = Ok definition
+or_stop_at name (Err fault) = Err (stop.Variable name fault)
+
+-- what a word of `-v` defines, or why it stops the command
+abbrev pub word_meaning : List ℕ → Result Definition Stop
+word_meaning word = or_stop_at (before_sign word) (defined_by (before_sign word) (after_sign word))
+
+-- what the words of `-v` define, or the stop at the first that is wrong
+abbrev pub words_meaning : List (List ℕ) → Result (List Definition) Stop
+words_meaning words = each_of word_meaning words
+
+-- ---- the configuration
+
+-- the file isn't there, or reading it failed for another reason than memory
+pub data IsUnread : ReadFault → Type 0 where
+  missing : IsUnread Missing
+  failed : IsUnread Failed
+
+-- why a command stops whose configuration file can't be read
+abbrev pub unread_stop : ReadFault → Stop
+unread_stop Missing = stop.UnreadConfiguration
+unread_stop Failed = stop.UnreadConfiguration
+unread_stop (Memory refusal) = stop.NoMemory refusal
+
+-- what the bytes of a configuration file define, or why they stop the command
+pub data IsConfiguration (bytes : List ℕ) : Result (List Definition) Stop → Type 0 where
+  refused : (fault : ConfigFault) → IsDue bytes fault → IsConfiguration bytes (Err (stop.Configuration fault))
+  read : (stmts : List Stmt) (definitions : List Definition) → Spells bytes stmts → outcome_of stmts ≡ Ok definitions → IsConfiguration bytes (Ok definitions)
+
+-- what the configuration file defines, if one is given, or why it stops the command
+pub data ReadsConfig : Option (List ℕ) → List Told → Result (List Definition) Stop → Type 0 where
+  none : ReadsConfig None [] (Ok [])
+  unread : (path : List ℕ) (fault : ReadFault) → IsUnread fault → ReadsConfig (Some path) (ReadConfig path (Err fault) ∷ []) (Err stop.UnreadConfiguration)
+  seen : (path bytes : List ℕ) (meant : Result (List Definition) Stop) → IsConfiguration bytes meant
+      → ReadsConfig (Some path) (ReadConfig path (Ok bytes) ∷ []) meant
+
+-- what the configuration file and then the words of `-v` define, or the stop at the first fault
+pub data Configures (options : CaseOptions) (told : List Told) : Result (List Definition) Stop → Type 0 where
+  stopped : (fault : Stop) → ReadsConfig options.config told (Err fault) → Configures options told (Err fault)
+  defined : (before : List Definition) → ReadsConfig options.config told (Ok before) → Configures options told (behind before (words_meaning options.variables))
+
+-- a configuration with the last values of these definitions, or the same stop
+abbrev pub Gives : Result Values Stop → Result (List Definition) Stop → Type 0
+Gives (Ok config) (Ok definitions) = Holds config definitions
+Gives (Ok config) (Err fault) = ⊥
+Gives (Err found) (Ok definitions) = ⊥
+Gives (Err found) (Err fault) = found ≡ fault
+
+-- a configuration, or a stop, is what some definitions give of which this holds
+pub record Configured (Means : Result (List Definition) Stop → Type 0) (outcome : Result Values Stop) : Type 0 where
+  pub meant : Result (List Definition) Stop
+  pub means : Means meant
+  pub gives : Gives outcome meant
+
+-- whatever definitions a configuration has, these come behind them
+abbrev pub GivesMore : Values → Result Values Stop → Result (List Definition) Stop → Type 0
+GivesMore config outcome meant = (before : List Definition) → Holds config before → Gives outcome (behind before meant)
+
+-- the same of one definition
+abbrev pub GivesOne : Values → Result Values Stop → Result Definition Stop → Type 0
+GivesOne config outcome meant = GivesMore config outcome (in_front meant (Ok []))
+
+-- ---- filters
+
+-- a filter, or the stop at its word
+abbrev pub or_stop_for : List ℕ → FilterMeaning → Result Filter Stop
+or_stop_for word (Ok filter) = Ok filter
+or_stop_for word (Err fault) = Err (stop.Filter word fault)
+
+-- the filter of a word, or why it stops the command
+abbrev pub filter_of : List ℕ → Result Filter Stop
+filter_of word = or_stop_for word (filter_meaning word)
+
+-- the filters of some words, or the stop at the first that is wrong
+abbrev pub filters_of : List (List ℕ) → Result (List Filter) Stop
+filters_of words = each_of filter_of words
+
+-- the filter at a position shares a case with an earlier one, and no filter before it does
+pub record IsClash (words : List (List ℕ)) (filters : List Filter) (word : List ℕ) (fault : FilterFault) : Type 0 where
+  pub position : ℕ
+  pub at : fault_at filters position ≡ Some fault
+  pub first : (before : ℕ) → before < position → fault_at filters before ≡ None
+  pub named : slice_get words position ≡ Some word
+
+-- the position that a fault of several filters names
+abbrev pub position_in : FilterFault → ℕ
+position_in (Repeated position) = position
+position_in (NotDisjoint position) = position
+position_in other = 0
+
+-- whether some filters share a case, and the stop at the first that shares one with an earlier one
+pub data ChecksTogether (words : List (List ℕ)) (filters : List Filter) : Option Stop → Type 0 where
+  apart : IsDisjoint filters → ChecksTogether words filters None
+  shared : (word : List ℕ) (fault : FilterFault) → IsClash words filters word fault → ChecksTogether words filters (Some (stop.Filter word fault))
+
+-- there is one filter, of one case
+abbrev pub names_one_case : List Filter → Bool
+names_one_case [] = false
+names_one_case (filter ∷ []) = is_some filter.case_name
+names_one_case (filter ∷ other ∷ filters) = false
+
+-- one filter of one case is needed, and there isn't
+abbrev pub lacks_case : Bool → List Filter → Bool
+lacks_case needs_case filters = needs_case && not (names_one_case filters)
+
+-- the filters are right, or why they stop the command
+pub data Filters (needs_case : Bool) (words : List (List ℕ)) : Result (List Filter) Stop → Type 0 where
+  unparsed : (fault : Stop) → filters_of words ≡ Err fault → Filters needs_case words (Err fault)
+  clash : (filters : List Filter) (word : List ℕ) (fault : FilterFault) → filters_of words ≡ Ok filters → IsClash words filters word fault
+      → Filters needs_case words (Err (stop.Filter word fault))
+  unnamed : (filters : List Filter) → filters_of words ≡ Ok filters → IsDisjoint filters → lacks_case needs_case filters ≡ true
+      → Filters needs_case words (Err stop.NeedsCase)
+  right : (filters : List Filter) → filters_of words ≡ Ok filters → IsDisjoint filters → lacks_case needs_case filters ≡ false
+      → Filters needs_case words (Ok filters)
+
+-- ---- the whole step
+
+-- the settings of a command, or the stop at the first fault: its configuration file, the words of `-v`, its filters
+pub data Settles (needs_case : Bool) (options : CaseOptions) (told : List Told) : Result Settings Stop → Type 0 where
+  unconfigured : (fault : Stop) → Configures options told (Err fault) → Settles needs_case options told (Err fault)
+  unfiltered : (definitions : List Definition) (fault : Stop) → Configures options told (Ok definitions) → Filters needs_case options.filters (Err fault)
+      → Settles needs_case options told (Err fault)
+  settled : (definitions : List Definition) (settings : Settings) → Configures options told (Ok definitions) → Holds settings.config definitions
+      → Filters needs_case options.filters (Ok settings.filters) → Settles needs_case options told (Ok settings)

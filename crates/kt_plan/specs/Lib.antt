@@ -1,0 +1,9 @@
+pub mod Collecting
+pub mod Configuring
+pub mod Listings
+pub mod Picks
+pub mod Planning
+pub mod Questions
+pub mod Selecting
+pub mod Stops
+pub mod Told

@@ -1,0 +1,22 @@
+-- What the options of a command select.
+use Rattle.std.specs.Prelude.{Bool, List, ◌++◌, Result, Ok, Err}
+use Rattle.kt_suite.specs.Answers.{Asked}
+use Rattle.kt_plan.specs.declared.case_options.CaseOptions.{CaseOptions}
+use Rattle.kt_plan.specs.declared.chosen.Chosen.{Chosen}
+use Rattle.kt_plan.specs.declared.picked.Picked.{Picked}
+use Rattle.kt_plan.specs.declared.settings.Settings.{Settings}
+use Rattle.kt_plan.specs.declared.stop.Stop.{Stop}
+use Rattle.kt_plan.specs.Collecting.{Collects}
+use Rattle.kt_plan.specs.Configuring.{Settles}
+use Rattle.kt_plan.specs.Questions.{Question, of_tree, of_host}
+use Rattle.kt_plan.specs.Told.{Told}
+
+-- what the options of a command select, by these questions, or the first fault that stops it: the configuration and the filters, and then the tree
+-- and its lists
+pub data Selects (needed : Bool) (options : CaseOptions) : List Question → Result Picked Stop → Type 0 where
+  unsettled : (told : List Told) (fault : Stop) → Settles needed options told (Err fault) → Selects needed options (of_host told) (Err fault)
+  uncollected : (told : List Told) (settings : Settings) (asked : List Asked) (lists : List Told) (fault : Stop) → Settles needed options told (Ok settings)
+      → Collects settings options.kyuafile asked lists (Err fault) → Selects needed options (of_host told ++ (of_tree asked ++ of_host lists)) (Err fault)
+  selected : (told : List Told) (settings : Settings) (asked : List Asked) (lists : List Told) (chosen : Chosen) → Settles needed options told (Ok settings)
+      → Collects settings options.kyuafile asked lists (Ok chosen)
+      → Selects needed options (of_host told ++ (of_tree asked ++ of_host lists)) (Ok (record { settings = settings; chosen = chosen }))

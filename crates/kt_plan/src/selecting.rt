@@ -1,0 +1,38 @@
+ghost use Rattle.std.specs.Prelude.{◌⊎◌, ◌≤◌, length, IfOk};
+ghost use Rattle.kt_suite.specs.Selecting.{most_items};
+ghost use Rattle.kt_sched.specs.Children.{IsIdle};
+ghost use Rattle.kt_suite.specs.Answers.{Answered};
+ghost use Rattle.kt_plan.specs.Selecting.{Selects};
+ghost use Rattle.kt_plan.specs.Questions.{leads_by};
+ghost use Rattle.kt_plan.specs.Stops.{IsShort};
+
+use crate::case_options::CaseOptions;
+use crate::collecting::collect;
+use crate::configuring::settle;
+use crate::picked::Picked;
+use crate::stop::Stop;
+use crate::world::World;
+use std::alloc::Global;
+
+/// What the options of a command select, or the first fault that stops it. `needed` tells that one filter of one case is
+/// needed.
+pub fn select_cases<W: World>(
+    alloc: Global,
+    needed: bool,
+    options: &CaseOptions,
+    world: &mut W,
+) -> Result<Picked, Stop>
+    requires { IsIdle (W.running world.old) (W.pending world.old) }
+    ensures selects { Answered (leads_by W.asks W.tells) world.old world.new (λ questions. IsShort result ⊎ Selects needed options.now questions result) }
+    ensures few { IfOk result (λ picked. length picked.chosen.cases ≤ most_items) }
+    ensures idle { IsIdle (W.running world.new) (W.pending world.new) }
+{
+    let settings = match settle(alloc, needed, options, world) {
+        Ok(settings) => settings,
+        Err(fault) => return Err(fault),
+    };
+    match collect(alloc, &settings, &options.kyuafile, world) {
+        Ok(chosen) => Ok(Picked { settings, chosen }),
+        Err(fault) => Err(fault),
+    }
+}

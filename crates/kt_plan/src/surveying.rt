@@ -1,0 +1,35 @@
+ghost use Rattle.std.specs.Prelude.{IfOk};
+ghost use Rattle.kt_sched.specs.Children.{IsIdle};
+ghost use Rattle.kt_suite.specs.Answers.{Answered};
+ghost use Rattle.kt_plan.specs.Planning.{Surveys};
+
+use crate::candidate::Candidate;
+use crate::looking::look_for_all;
+use crate::world::World;
+use kt_base::NoMemory;
+use kt_metadata::Host;
+use std::alloc::Global;
+use std::collections::BTreeSet;
+
+/// Asks the host for what some cases may require: whether the runner is root, memory and disk
+/// space, and the required files and programs of each case whose list has no fault.
+pub fn survey<W: World>(alloc: Global, cases: &[Candidate], world: &mut W) -> Result<Host, NoMemory>
+    requires { IsIdle (W.running world.old) (W.pending world.old) }
+    ensures surveyed { Answered W.tells world.old world.new (λ told.
+        IfOk result (λ host. Surveys cases.now told host)) }
+    ensures idle { IsIdle (W.running world.new) (W.pending world.new) }
+{
+    let root = world.is_root();
+    let memory = world.memory();
+    let disk = world.disk();
+    let mut files = BTreeSet::new(alloc);
+    let mut programs = BTreeSet::new(alloc);
+    look_for_all(cases, world, &mut files, &mut programs)?;
+    Ok(Host {
+        root,
+        files,
+        programs,
+        memory,
+        disk,
+    })
+}

@@ -1,0 +1,63 @@
+use kt_atflist::Listing;
+use kt_base::{Bytes, Text, Variables};
+use kt_sched::Launcher;
+use kt_suite::{Program, ReadFault, Tree};
+
+/// What commands ask: the files of a test suite, a launcher of test programs, and the host.
+pub trait World: Tree + Launcher {
+    ghost use Rattle.std.specs.Prelude.{ℕ, ◌≡◌};
+    ghost use Rattle.kt_base.specs.declared.role.Role.{Role};
+    ghost use Rattle.kt_sched.specs.Children.{IsIdle};
+    ghost use Rattle.kt_sched.specs.Moments.{IsMoment};
+    ghost use Rattle.kt_suite.specs.Answers.{Asked};
+    ghost use Rattle.kt_plan.specs.Told.{Told, ReadConfig, Lists, FindsFile, FindsProgram, IsRoot, HasMemory, HasDisk, Now};
+
+    /// Whether this answer of the host leads from the first state to the second.
+    ghost tells: { Self → Told → Self → Type 0 };
+
+    /// The bytes of a configuration file, whose path is seen from the working directory. One byte more than a script may
+    /// have is enough.
+    fn config(&mut self, path: &Text) -> Result<Bytes, ReadFault>
+        ensures { tells self.old (ReadConfig path.now result) self.new };
+
+    /// What an ATF program lists, given the variables of its test suite. Nothing may run meanwhile.
+    fn list(&mut self, program: &Program, variables: &Variables) -> Listing
+        requires { IsIdle (Self.running self.old) (Self.pending self.old) }
+        ensures { tells self.old (Lists program.now variables.now result) self.new };
+
+    /// Whether there is a file at an absolute path (`required_files` of kyuafile(5)).
+    fn file_exists(&mut self, path: &Text) -> bool
+        ensures { tells self.old (FindsFile path.now result) self.new };
+
+    /// Whether a program is found: at an absolute path, or by its name in a directory of `PATH` (`required_programs` of
+    /// kyuafile(5)).
+    fn program_found(&mut self, name: &Text) -> bool
+        ensures { tells self.old (FindsProgram name.now result) self.new };
+
+    /// Whether the runner is root.
+    fn is_root(&mut self) -> bool
+        ensures { tells self.old (IsRoot result) self.new };
+
+    /// Physical memory in bytes, if the host tells it.
+    fn memory(&mut self) -> Option<u64>
+        ensures { tells self.old (HasMemory result) self.new };
+
+    /// Free disk space in bytes, if the host tells it.
+    fn disk(&mut self) -> Option<u64>
+        ensures { tells self.old (HasDisk result) self.new };
+
+    /// The moment, in milliseconds since 1970 in UTC; 0 where the clock failed or is out of range.
+    fn now(&mut self) -> u64
+        ensures told { tells self.old (Now result) self.new }
+        ensures moment { IsMoment result };
+
+    /// No question to the tree changes what runs.
+    ghost runs_on: { (s t : Self) (q : Asked) → Self.asks s q t → (k : ℕ) (r : Role) → Self.running t k r ≡ Self.running s k r };
+
+    ghost pends_on: { (s t : Self) (q : Asked) → Self.asks s q t → (k : ℕ) → Self.pending t k ≡ Self.pending s k };
+
+    /// No question to the host does.
+    ghost runs_told: { (s t : Self) (q : Told) → Self.tells s q t → (k : ℕ) (r : Role) → Self.running t k r ≡ Self.running s k r };
+
+    ghost pends_told: { (s t : Self) (q : Told) → Self.tells s q t → (k : ℕ) → Self.pending t k ≡ Self.pending s k };
+}
