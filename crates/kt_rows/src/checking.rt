@@ -1,21 +1,9 @@
+use crate::answer;
 use crate::messages::mismatch_lines;
 use crate::row::Row;
 use crate::row_fault::RowFault;
 use crate::row_file::read_rows;
-use crate::{answer, programs};
-use kt_child::HostOs;
 use std::{env, fs, io};
-
-/// The answer to a row: of real programs over the host, of all else by the crates alone.
-fn found(rt: &HostRuntime, subject: &str, row: &Row<'_>) -> Result<String, RowFault> {
-    if subject != "programs" {
-        return answer(rt.alloc(), subject, row);
-    }
-    match env::current_dir(rt) {
-        Ok(here) => programs::answer(rt.alloc(), HostOs::new(rt), here.as_str(), row),
-        Err(_) => Err(RowFault::Misspelled("no working directory")),
-    }
-}
 
 /// Compares the answer to a row with the one wanted, and returns what is printed if they differ.
 fn mismatch(
@@ -26,7 +14,7 @@ fn mismatch(
 ) -> Result<Option<String>, RowFault> {
     let alloc = rt.alloc();
     let wanted = row.wanted(alloc)?;
-    let found = found(rt, subject, row)?;
+    let found = answer(alloc, subject, row)?;
     if found.as_bytes() == wanted.as_slice() {
         return Ok(None);
     }

@@ -34,7 +34,7 @@ pub fn variables_of(alloc: Global, row: &Row<'_>) -> Result<Variables, RowFault>
 }
 
 /// Runs a plan over a driver of its own.
-pub fn drive<O: Os + Drop>(
+fn drive<O: Os + Drop>(
     alloc: Global,
     os: O,
     plan: Items<Job>,

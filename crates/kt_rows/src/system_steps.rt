@@ -144,7 +144,7 @@ pub fn reads(alloc: Global, path: &str, scene: &Scene<'_>) -> Result<String, Row
     Ok(format!(in alloc; "kept {kept} bytes, list {list}")?)
 }
 
-pub fn listing_text(alloc: Global, listing: &Listing) -> Result<String, RowFault> {
+fn listing_text(alloc: Global, listing: &Listing) -> Result<String, RowFault> {
     match listing {
         Listing::Refused(cause) => Ok(String::from_str(alloc, refusal_text(*cause))?),
         Listing::Ended(outcome, bytes) => {
@@ -157,7 +157,7 @@ pub fn listing_text(alloc: Global, listing: &Listing) -> Result<String, RowFault
 }
 
 /// Asks a driver of its own for the list of a program.
-pub fn listed<O: Os + Drop>(
+fn listed<O: Os + Drop>(
     alloc: Global,
     os: O,
     base: &Text,
