@@ -7,7 +7,14 @@ set -eu
 . "$(dirname "$0")/../program.sh"
 cd "$scratch"
 cc -O2 -shared -fPIC -o refuse.so "$here/bench/memory/refuse.c" -ldl
-cp "$here"/examples/* .
+cp "$here"/examples/arithmetic_test "$here"/examples/sort_test "$here"/examples/counting_test .
+cat > Kyuafile <<'K'
+syntax(2)
+test_suite('examples')
+plain_test_program{name='arithmetic_test'}
+plain_test_program{name='sort_test', required_programs='sort'}
+tap_test_program{name='counting_test'}
+K
 mkdir work
 
 memory='kyua: E: out of memory'
