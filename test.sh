@@ -1,6 +1,7 @@
 #!/usr/bin/env bash
 # Tests this repository from nothing: every proof, the edits that must be refused, the rows of data and the program by `rt ci`,
-# and then the runner's own suite with the program that was proved. The last line is 'N passed, M failed', over both.
+# then the runner's own suite with the program that was proved, and then the program in dist/, if there is one. The last line is
+# 'N passed, M failed', over all.
 # rt is taken from PATH, else from the kit that RATTLE_KIT names.
 set -u -o pipefail
 cd "$(dirname "$0")" || exit 2
@@ -30,5 +31,7 @@ part() {
 part 'proofs, edits and rows' rt ci
 # rt ci leaves the program that it proved. If a proof failed there is none, and the suite fails too.
 part 'the suite' tests/run.sh
+# A program that is shipped with these sources is the one that they give.
+[ ! -d dist ] || part 'the shipped program' ./dist.sh check
 echo "$passed passed, $failed failed"
 [ "$failed" = 0 ]
