@@ -53,7 +53,11 @@ prove_side_by_side() {
 
 if is_newest "$built"; then exit; fi
 if ! command -v rt >/dev/null 2>&1; then
-  PATH="${RATTLE_KIT:?neither rt on PATH nor RATTLE_KIT is there}/bin:$PATH"
+  if [ ! -x "${RATTLE_KIT-}/bin/rt" ]; then
+    echo "build.sh: the command rt of Rattle's kit is neither on PATH nor in the bin of the folder that RATTLE_KIT names" >&2
+    exit 2
+  fi
+  PATH="$RATTLE_KIT/bin:$PATH"
   export PATH
 fi
 mkdir -p "$top/crates/kyua/out"

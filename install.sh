@@ -1,0 +1,115 @@
+#!/bin/sh
+# Installs the program kyua, its manual pages and its examples:
+#
+#     install.sh [PREFIX]                 below PREFIX, which is /usr/local if none is given
+#     install.sh --uninstall [PREFIX]     removes what was installed there, and prints each file and directory that it removes
+#
+# The program is the one that kyua.sh runs, so it is built if there is none. If DESTDIR is set, all paths begin with it, as packages
+# want it. PREFIX/share/doc/kyua/installed lists the files that were installed and the directories that were made for them; these
+# are removed again, a directory if it is empty. No file is replaced that isn't in this list. Exits with 0 if all is done, else 1.
+set -eu
+umask 022
+top=$(cd "$(dirname "$0")" && pwd)
+
+fail() {
+    echo "install.sh: $*" >&2
+    exit 1
+}
+
+# remove_all FILE: removes the files that it lists, and then the directories that are empty, and prints each that it removes.
+remove_all() {
+    sed -n '/[^/]$/p' "$1" | while IFS= read -r name; do
+        if [ -e "$root/$name" ]; then
+            rm -f "$root/$name"
+            echo "removed $root/$name"
+        fi
+    done
+    sed -n 's|/$||p' "$1" | LC_ALL=C sort -r | while IFS= read -r name; do
+        if rmdir "$root/$name" 2> /dev/null; then echo "removed $root/$name/"; fi
+    done
+}
+
+uninstall_all() {
+    [ -f "$list" ] || fail "nothing was installed below $root: there is no $list"
+    { cat "$list"; echo "$doc/installed"; } > "$room/old"
+    remove_all "$room/old"
+}
+
+# sources: a line for each file to install: its mode, its path below the prefix, and its path in the checkout.
+sources() {
+    echo "755 bin/kyua -"
+    for page in "$top"/man/*.[15]; do
+        page=${page##*/}
+        echo "644 share/man/man${page##*.}/$page man/$page"
+    done
+    (cd "$top" && find examples -type f ! -name 'kyua.db*' | LC_ALL=C sort) | while IFS= read -r file; do
+        if [ -x "$top/$file" ]; then echo "755 $doc/$file $file"; else echo "644 $doc/$file $file"; fi
+    done
+}
+
+# directories PATH: the directories above a path, the outermost first, each with a slash behind it.
+directories() {
+    case $1 in
+        */*) directories "${1%/*}"; echo "${1%/*}/" ;;
+    esac
+}
+
+# plan: what the list will have: directories that are not there or were made before, and the files.
+plan() {
+    while read -r mode target source; do directories "$target"; done < "$room/sources" | LC_ALL=C sort -u |
+        while IFS= read -r name; do
+            if [ ! -d "$root/$name" ] || grep -Fxq "$name" "$room/old"; then echo "$name"; fi
+        done
+    cut -d ' ' -f 2 "$room/sources"
+}
+
+# place MODE SOURCE TARGET: puts a file in its place at once, so that a program that runs goes on.
+place() {
+    cp "$2" "$3.new"
+    chmod "$1" "$3.new"
+    mv -f "$3.new" "$3"
+}
+
+install_all() {
+    program=$("$top/program.sh")
+    sources > "$room/sources"
+    if [ -f "$list" ]; then cp "$list" "$room/old"; else : > "$room/old"; fi
+    plan > "$room/new"
+    while read -r mode target source; do
+        if [ -e "$root/$target" ] && ! grep -Fxq "$target" "$room/old"; then
+            fail "$root/$target is there, and was not installed by this script"
+        fi
+    done < "$room/sources"
+    # The list comes first, so that an installation that fails half-way can be removed.
+    mkdir -p "$root/$doc"
+    LC_ALL=C sort -u "$room/old" "$room/new" > "$list.new"
+    mv -f "$list.new" "$list"
+    while read -r mode target source; do
+        mkdir -p "$root/${target%/*}"
+        if [ "$source" = - ]; then place "$mode" "$program" "$root/$target"; else place "$mode" "$top/$source" "$root/$target"; fi
+        echo "installed $root/$target"
+    done < "$room/sources"
+    # What an earlier version had, and this one hasn't, goes.
+    grep -Fxv -f "$room/new" "$room/old" > "$room/gone" || :
+    remove_all "$room/gone"
+    place 644 "$room/new" "$list"
+}
+
+action=install_all
+if [ "${1-}" = --uninstall ]; then
+    action=uninstall_all
+    shift
+fi
+case "$#:${1-}" in
+    0:*) prefix=/usr/local ;;
+    1:/*) prefix=$1 ;;
+    1:-* | 1:) sed -n '2,/^set/s/^# \{0,1\}//p' "$0" >&2; exit 1 ;;
+    1:*) prefix=$PWD/$1 ;;
+    *) sed -n '2,/^set/s/^# \{0,1\}//p' "$0" >&2; exit 1 ;;
+esac
+root=${DESTDIR-}$prefix
+doc=share/doc/kyua
+list=$root/$doc/installed
+room=$(mktemp -d)
+trap 'rm -rf "$room"' EXIT
+$action
