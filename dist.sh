@@ -1,7 +1,7 @@
 #!/usr/bin/env bash
 # The program that comes with the repository, so that the first run needs no build:
 #
-#   dist/kyua     the linked program, for Linux on x86-64
+#   dist/kyua     the linked program, for Linux on x86-64 with glibc 2.34 or later
 #   dist/built    the hash of the sources that it was built from (sources.sh), the kit, and the hash of the program itself
 #
 #   dist.sh fits     exits with 0 if that program was built from these sources, and says so once on standard error
@@ -20,9 +20,12 @@ hash_of() {
   sha256sum < "$1" | cut -d ' ' -f 1
 }
 
-# Whether a program is there that this machine can run.
+# Whether a program is there that this machine can run: kyua exits with 3 after its help.
 is_there() {
-  [ -x "$shipped" ] && [ -f "$record" ] && [ "$(uname -s) $(uname -m)" = 'Linux x86_64' ]
+  local status=0
+  [ -x "$shipped" ] && [ -f "$record" ] || return 1
+  "$shipped" --help > /dev/null 2>&1 < /dev/null || status=$?
+  [ $status = 3 ]
 }
 
 # says NAME VALUE: whether dist/built has this line.
@@ -31,8 +34,8 @@ says() {
 }
 
 fits() {
+  if [ -x "$shipped" ] && is_newest "$found" && [ ! "$shipped" -nt "$found" ] && [ ! "$record" -nt "$found" ]; then return 0; fi
   is_there || return 1
-  if is_newest "$found" && [ ! "$shipped" -nt "$found" ] && [ ! "$record" -nt "$found" ]; then return 0; fi
   says sources "$(hash_of_sources)" && says program "$(hash_of "$shipped")" || return 1
   [ -e "$found" ] ||
     echo 'kyua.sh: running dist/kyua, which was proved and built elsewhere from these sources; ./build.sh proves and builds it here' >&2
