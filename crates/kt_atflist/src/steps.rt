@@ -1,8 +1,8 @@
 //! Where a line of a list leads.
 
-ghost use Rattle.std.specs.Prelude.{◌≡◌, ◌∷◌, ◌++◌, [], List, ℕ, None, Some, IfOk};
+ghost use Rattle.std.specs.Prelude.{◌≡◌, List, ℕ, None, Some, IfOk};
 ghost use Rattle.kt_atflist.specs.Keys.{names_of};
-ghost use Rattle.kt_atflist.specs.Reading.{begin_named, begin_with, set_property, set_key, go_on_with, go_on, step_of, finished};
+ghost use Rattle.kt_atflist.specs.Reading.{begin_named, begin_with, set_property, set_key, go_on_with, go_on, step_of, closed, finished};
 ghost use Rattle.kt_atflist.specs.Lines.{ident_in, key_in, value_in};
 
 use crate::block::Block;
@@ -128,8 +128,9 @@ fn go_on_with(
     }
 }
 
+/// The cases of the blocks that have ended, with that of one more.
 fn with_block(mut cases: Items<CaseDef>, block: Block) -> Result<Items<CaseDef>, NoMemory>
-    ensures { IfOk result (λ all. all ≡ cases ++ block ∷ []) }
+    ensures { IfOk result (λ all. all ≡ closed cases (Some block)) }
 {
     cases.push(block.into_case())?;
     Ok(cases)

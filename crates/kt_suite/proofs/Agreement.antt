@@ -1,6 +1,6 @@
 -- Two lists of what a tree gives agree as long as the same answers come.
 use Rattle.std.specs.Prelude.{Option, Some, None, Result, Ok, Err, Bool}
-use Rattle.std.proofs.Common.{◌≡◌, ◌+◌, ℕ, List, [], ◌∷◌, ◌++◌, refl, sym, subst, ap, ◌∙◌}
+use Rattle.std.proofs.Common.{◌≡◌, ℕ, List, [], ◌∷◌, ◌++◌, refl, sym, subst, ap, ◌∙◌}
 use Rattle.kt_script.specs.declared.fault.ScriptFault.{ScriptFault}
 use Rattle.kt_script.specs.declared.syntax.Stmt.{Stmt}
 use Rattle.kt_script.specs.Spelling.{Spells, IsDue}

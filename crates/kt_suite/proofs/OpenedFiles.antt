@@ -1,6 +1,6 @@
 -- A file was asked for, and perhaps opened.
 use Rattle.std.specs.Prelude.{Result, Ok, Err}
-use Rattle.std.proofs.Common.{◌<◌, ◌+◌, ◌-◌, ℕ, List, [], ◌∷◌, ◌++◌, length, arith, refl}
+use Rattle.std.proofs.Common.{◌<◌, ℕ, List, [], ◌∷◌, ◌++◌, length, arith, refl}
 use Rattle.kt_script.specs.declared.syntax.Stmt.{Stmt}
 use Rattle.kt_suite.specs.declared.read_fault.ReadFault.{ReadFault}
 use Rattle.kt_suite.specs.declared.read_fault.ReadFault.TheVariants.{Missing}
@@ -8,7 +8,7 @@ use Rattle.kt_suite.specs.declared.fault.SuiteFault.{SuiteFault}
 use Rattle.kt_suite.specs.declared.registry.Registry.{Registry}
 use Rattle.kt_suite.specs.Answers.{Asked, Read}
 use Rattle.kt_suite.specs.Faults.{read_fault, IsNoMemory}
-use Rattle.kt_suite.specs.Marks.{Asks, Fault, Says, unread, opened, end, says}
+use Rattle.kt_suite.specs.Marks.{Asks, Fault, Says, unread, end, says}
 use Rattle.kt_suite.specs.Registered.{is_fault, thrown_away}
 use Rattle.kt_suite.specs.Walks.{Walked, stops, short, FileGives, Opened, opens, declines, lacks}
 use Rattle.kt_suite.proofs.Unfolding.{some_file}

@@ -1,58 +1,94 @@
--- The items of a filter are among the selected ones.
-use Rattle.std.proofs.Common.{◌≡◌, ℕ, ◌+◌, suc, Bool, true, false, List, [], ◌∷◌, refl, sym, ap, ◌∙◌, arith, slice_get, Option}
-use Rattle.std.specs.Prelude.{◌||◌, if◌then◌else◌}
-use Rattle.std.specs.List.{list_any}
+-- The filters that match no item are what the items leave of all filters.
+use Rattle.std.proofs.Common.{◌≡◌, ℕ, ◌+◌, suc, Bool, true, false, List, [], ◌∷◌, ◌++◌, refl, sym, ap, ◌∙◌, arith, length, slice_get, Option}
+use mathlib.Core.List.{append_assoc}
+use Rattle.std.specs.Prelude.{◌||◌, not, if◌then◌else◌}
+use Rattle.std.specs.List.{list_any, filter}
 use Rattle.kt_suite.specs.declared.filter.Filter.{Filter}
 use Rattle.kt_suite.specs.declared.item.Item.{Item}
-use Rattle.kt_suite.proofs.Overlaps.{or_left, or_right}
-use Rattle.kt_suite.specs.Selecting.{places, matches_item, is_matched, is_selected, selected_places, is_item_of, is_place_of, is_some_item_of}
+use Rattle.kt_suite.specs.Selecting.{places, is_idle, idle_places, all_places, is_some_match, is_match, is_miss}
+
+-- the filter at a position matches none of these items
+abbrev pub is_idle_at : List Item → List Filter → ℕ → Bool
+is_idle_at items filters place = not (list_any (λ item. is_match filters item place) items)
+
+-- ---- what tests leave
+
+-- a test that all pass
+pub kept_all : {A : Type 0} (test : A → Bool) → ((x : A) → test x ≡ true) → (xs : List A) → filter test xs ≡ xs
+kept_all test h [] = refl
+kept_all test h (x ∷ xs) = rw (h x) (ap (λ (ys : List _). x ∷ ys) (kept_all test h xs))
+
+both_step : {A : Type 0} (second : A → Bool) (x : A) (all after : List A) → (b : Bool)
+    → all ≡ filter (λ y. not (second y)) after
+    → (if not (b || second x) then x ∷ all else all) ≡ filter (λ y. not (second y)) (if not b then x ∷ after else after)
+both_step second x all after true e = e
+both_step second x all after false e = rw e refl
+
+-- one test after the other
+pub kept_both : {A : Type 0} (first second : A → Bool) (xs : List A)
+    → filter (λ x. not (first x || second x)) xs ≡ filter (λ x. not (second x)) (filter (λ x. not (first x)) xs)
+kept_both first second [] = refl
+kept_both first second (x ∷ xs) = both_step second x _ _ (first x) (kept_both first second xs)
+
+-- ---- places
 
 next_place : (n k : ℕ) → (n + 1) + k ≡ n + suc k
 next_place n k = omega arith
 
-not_item : (filter : Filter) (test : Item → Bool) (item : Item) → (is_item_of filter item ≡ true → test item ≡ true) → test item ≡ false
-    → (b : Bool) → is_item_of filter item ≡ b → is_item_of filter item ≡ false
-not_item filter test item h f true e = absurd (let n : false ≡ true = sym f ∙ h e in cc)
-not_item filter test item h f false e = e
+-- what was found goes on with a place that passes
+pub place_taken : (test : Item → Bool) (n : ℕ) (items : List Item) (item : Item) (after : List Item) (old new all : List ℕ) → items ≡ item ∷ after → true ≡ test item → new ≡ old ++ n ∷ []
+    → old ++ places test n items ≡ all → new ++ places test (n + 1) after ≡ all
+place_taken test n items item after old new all e t h w =
+    ap (λ (ps : List ℕ). ps ++ places test (n + 1) after) h
+    ∙ append_assoc old (n ∷ []) (places test (n + 1) after)
+    ∙ ap (λ (b : Bool). old ++ (if b then n ∷ places test (n + 1) after else places test (n + 1) after)) t
+    ∙ ap (λ (xs : List Item). old ++ places test n xs) (sym e)
+    ∙ w
 
-picked_step : (all : List Item) (filter : Filter) (test : Item → Bool) (n : ℕ) (item : Item) (rest : List Item) → (is_item_of filter item ≡ true → test item ≡ true)
-    → is_place_of all filter n ≡ is_item_of filter item → list_any (is_place_of all filter) (places test (n + 1) rest) ≡ list_any (is_item_of filter) rest → (b : Bool) → test item ≡ b
-    → list_any (is_place_of all filter) (if b then n ∷ places test (n + 1) rest else places test (n + 1) rest) ≡ (is_item_of filter item || list_any (is_item_of filter) rest)
-picked_step all filter test n item rest h here after true e =
-    ap (λ (b : Bool). b || list_any (is_place_of all filter) (places test (n + 1) rest)) here ∙ ap (λ (b : Bool). is_item_of filter item || b) after
-picked_step all filter test n item rest h here after false e =
-    after ∙ ap (λ (b : Bool). b || list_any (is_item_of filter) rest) (sym (not_item filter test item h e (is_item_of filter item) refl))
+-- and without one that doesn't
+pub place_passed : (test : Item → Bool) (n : ℕ) (items : List Item) (item : Item) (after : List Item) (old new all : List ℕ) → items ≡ item ∷ after → false ≡ test item → new ≡ old
+    → old ++ places test n items ≡ all → new ++ places test (n + 1) after ≡ all
+place_passed test n items item after old new all e t h w =
+    ap (λ (ps : List ℕ). ps ++ places test (n + 1) after) h
+    ∙ ap (λ (b : Bool). old ++ (if b then n ∷ places test (n + 1) after else places test (n + 1) after)) t
+    ∙ ap (λ (xs : List Item). old ++ places test n xs) (sym e)
+    ∙ w
 
--- where a test passes each item of a filter, they are found at the places that pass it
-picked : (all : List Item) (filter : Filter) (test : Item → Bool) → ((item : Item) → is_item_of filter item ≡ true → test item ≡ true) → (n : ℕ) (xs : List Item)
-    → ((k : ℕ) → slice_get all (n + k) ≡ slice_get xs k) → list_any (is_place_of all filter) (places test n xs) ≡ list_any (is_item_of filter) xs
-picked all filter test h n [] at = refl
-picked all filter test h n (item ∷ rest) at =
-    picked_step all filter test n item rest (h item)
-    (ap (λ (k : ℕ). is_some_item_of filter (slice_get all k)) (let z : n ≡ n + 0 = omega arith in z) ∙ ap (λ (o : Option Item). is_some_item_of filter o) (at 0))
-    (picked all filter test h (n + 1) rest (λ k. ap (λ (p : ℕ). slice_get all p) (next_place n k) ∙ at (suc k)))
-    (test item) refl
+-- ---- the filters that no item matches
 
-selected_if : (filters : List Filter) (item : Item) → is_matched filters item ≡ true → is_selected filters item ≡ true
-selected_if [] item e = refl
-selected_if (filter ∷ filters) item e = e
+idle_step : (n : ℕ) (rest : List ℕ) (kept : List ℕ) (test : ℕ → Bool) (b : Bool) → test n ≡ b → filter test rest ≡ kept
+    → filter test (n ∷ rest) ≡ (if b then n ∷ kept else kept)
+idle_step n rest kept test b e h = rw (e, h) refl
 
--- what one of the rest matches, one of all filters matches
-abbrev pub AreAmong : List Filter → List Filter → Type 0
-AreAmong rest filters = (item : Item) → is_matched rest item ≡ true → is_matched filters item ≡ true
+-- the filters that no item matches, counted from a number
+idle_from : (items : List Item) (all : List Filter) (n : ℕ) (filters : List Filter) → ((k : ℕ) → slice_get all (n + k) ≡ slice_get filters k)
+    → filter (is_idle_at items all) (places (λ f. true) n filters) ≡ places (is_idle items) n filters
+idle_from items all n [] at = refl
+idle_from items all n (f ∷ rest) at =
+    idle_step n _ _ (is_idle_at items all) (is_idle items f)
+    (ap (λ (o : Option Filter). not (list_any (λ item. is_some_match item o) items))
+    (ap (λ (k : ℕ). slice_get all k) (let z : n ≡ n + 0 = omega arith in z) ∙ at 0))
+    (idle_from items all (n + 1) rest (λ k. ap (λ (p : ℕ). slice_get all p) (next_place n k) ∙ at (suc k)))
 
-pub all_among : (rest filters : List Filter) → rest ≡ filters → AreAmong rest filters
-all_among rest filters e = λ item h. ap (λ (fs : List Filter). is_matched fs item) (sym e) ∙ h
+-- what all items leave of all filters are the idle ones
+pub idle_of_all : (items : List Item) (filters : List Filter) (all : List ℕ) → all ≡ all_places filters → filter (is_idle_at items filters) all ≡ idle_places items filters
+idle_of_all items filters all e =
+    ap (λ (ps : List ℕ). filter (is_idle_at items filters) ps) e
+    ∙ idle_from items filters 0 filters (λ k. ap (λ (p : ℕ). slice_get filters p) (let z : 0 + k ≡ k = omega arith in z))
 
-pub among_after : (filter : Filter) (rest after filters : List Filter) → rest ≡ filter ∷ after → AreAmong rest filters → AreAmong after filters
-among_after filter rest after filters e h =
-    λ item m. h item (ap (λ (fs : List Filter). is_matched fs item) e ∙ or_right (matches_item item filter) (is_matched after item) m)
+-- what one item leaves, the items after it go on with
+pub idle_after : (items : List Item) (filters : List Filter) (item : Item) (after : List Item) (idle left wanted : List ℕ) → items ≡ item ∷ after
+    → left ≡ filter (is_miss filters item) idle → filter (is_idle_at items filters) idle ≡ wanted → filter (is_idle_at after filters) left ≡ wanted
+idle_after items filters item after idle left wanted e l w =
+    ap (λ (ps : List ℕ). filter (is_idle_at after filters) ps) l
+    ∙ sym (kept_both (is_match filters item) (λ place. list_any (λ x. is_match filters x place) after) idle)
+    ∙ sym (ap (λ (xs : List Item). filter (is_idle_at xs filters) idle) e)
+    ∙ w
 
--- the selected items are enough for a filter of the rest
-pub picked_items : (items : List Item) (filters rest after : List Filter) (filter : Filter) (selected : List ℕ) → selected ≡ selected_places items filters → rest ≡ filter ∷ after → AreAmong rest filters
-    → list_any (is_place_of items filter) selected ≡ list_any (is_item_of filter) items
-picked_items items filters rest after filter selected s e h =
-    ap (λ (ps : List ℕ). list_any (is_place_of items filter) ps) s
-    ∙ picked items filter (is_selected filters)
-    (λ item m. selected_if filters item (h item (ap (λ (fs : List Filter). is_matched fs item) e ∙ or_left (matches_item item filter) (is_matched after item) m)))
-    0 items (λ k. ap (λ (p : ℕ). slice_get items p) (let z : 0 + k ≡ k = omega arith in z))
+left_by_none : (items : List Item) (filters : List Filter) → length items ≡ 0 → (place : ℕ) → is_idle_at items filters place ≡ true
+left_by_none [] filters e place = refl
+left_by_none (item ∷ items) filters e place = absurd (let z : length (item ∷ items) ≡ 0 = e in omega (arith, z))
+
+-- no item leaves all
+pub idle_at_last : (items : List Item) (filters : List Filter) (idle : List ℕ) → length items ≡ 0 → idle ≡ filter (is_idle_at items filters) idle
+idle_at_last items filters idle e = sym (kept_all (is_idle_at items filters) (left_by_none items filters e) idle)

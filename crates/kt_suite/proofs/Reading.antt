@@ -1,6 +1,6 @@
 -- A file is read statement by statement.
 use Rattle.std.specs.Prelude.{drop, Option, None, Ok, Err}
-use Rattle.std.proofs.Common.{◌≡◌, ◌+◌, ◌-◌, ℕ, List, [], ◌∷◌, ◌++◌, length, take, arith, length-append, refl, sym, subst, ap, ◌∙◌}
+use Rattle.std.proofs.Common.{◌≡◌, ◌-◌, ℕ, List, [], ◌∷◌, ◌++◌, length, take, arith, length-append, refl, sym, subst, ap, ◌∙◌}
 use mathlib.Core.List.{append_assoc, append-nil}
 use Rattle.std.proofs.lemmas.List.{take_at}
 use Rattle.kt_script.specs.declared.syntax.Stmt.{Stmt}

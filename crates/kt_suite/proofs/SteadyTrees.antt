@@ -4,10 +4,9 @@ use Rattle.std.specs.List.{Contains}
 use Rattle.std.proofs.Common.{◌≡◌, ◌≤◌, ◌<◌, ◌+◌, ℕ, List, [], ◌∷◌, ◌++◌, length, arith, refl, sym, subst, ap, ◌∙◌}
 use Rattle.std.proofs.lemmas.List.Elements.{Contains-push, Contains-append_left, Contains-append_right}
 use Rattle.kt_suite.specs.declared.fault.SuiteFault.{SuiteFault}
-use Rattle.kt_suite.specs.declared.meaning.Meaning.TheVariants as meaning
 use Rattle.kt_suite.specs.declared.program.Program.{Program}
 use Rattle.kt_suite.specs.Answers.{Asked, SameQuestion, IsSteady}
-use Rattle.kt_suite.specs.Marks.{Site, Mark, Asks, File, Listed, Fault, one, TreeGives}
+use Rattle.kt_suite.specs.Marks.{Site, Mark, Asks, File, Listed, Fault, TreeGives}
 use Rattle.kt_suite.specs.Registered.{file_limit, program_limit, Outcome, questions_in, files_in, programs_in, faults_in, Decides, is_fault, file_too_many, program_too_many, Registered, all, stopped}
 use Rattle.kt_suite.proofs.Agreement.{Agree, both_end, same_mark, both_ask, trees_agree}
 

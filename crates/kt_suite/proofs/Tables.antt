@@ -5,7 +5,7 @@ use Rattle.std.specs.List.{filter}
 use mathlib.Core.List.{append-nil}
 use Rattle.std.proofs.lemmas.List.Elements.{filter-append}
 use Rattle.kt_base.specs.declared.variable.Variable.{Variable}
-use Rattle.kt_base.specs.LastValues.{is_named, later, value_of, last_values}
+use Rattle.kt_base.specs.LastValues.{later, value_of, last_values}
 use Rattle.kt_base.proofs.Names.{same, same-flip, value_of-append}
 use Rattle.kt_script.specs.declared.syntax.Pair.{Pair}
 use Rattle.kt_script.specs.LiteralText.{text_of}

@@ -1,7 +1,7 @@
-ghost use Rattle.std.specs.Prelude.{◌≡◌, ◌↔◌, ◌<◌, length, Err, IfOk};
-ghost use Rattle.std.specs.List.{list_any};
+ghost use Rattle.std.specs.Prelude.{◌≡◌, ◌↔◌, ◌<◌, length, Err, Some, IfOk};
+ghost use Rattle.std.specs.List.{filter};
 ghost use Rattle.kt_suite.specs.declared.select_fault.SelectFault.TheVariants.{TooMany};
-ghost use Rattle.kt_suite.specs.Selecting.{most_items, matches_item, is_matched, is_selected, is_item_of, is_place_of, is_idle, selected_places, idle_places};
+ghost use Rattle.kt_suite.specs.Selecting.{most_items, matches_item, is_selected, selected_places, idle_places, all_places, first_match, is_match, is_miss};
 
 use crate::filter::Filter;
 use crate::item::Item;
@@ -19,88 +19,87 @@ fn matches_item(item: &Item, filter: &Filter) -> bool
     filter.matches(&item.path, &item.case_name)
 }
 
-fn is_matched(filters: &[Filter], item: &Item) -> bool
-    ensures { result ≡ is_matched filters.now item.now }
+fn first_match(filters: &[Filter], item: &Item) -> Option<usize>
+    ensures { result ≡ first_match filters.now item.now }
 {
-    filters.iter().any(|filter| matches_item(item, filter))
+    filters.iter().position(|filter| matches_item(item, filter))
 }
 
-fn is_selected(filters: &[Filter], item: &Item) -> bool
-    ensures { result ≡ is_selected filters.now item.now }
+fn is_match(filters: &[Filter], item: &Item, place: usize) -> bool
+    ensures { result ≡ is_match filters.now item.now place }
 {
-    if filters.is_empty() {
+    match filters.get(place) {
+        None => false,
+        Some(filter) => matches_item(item, filter),
+    }
+}
+
+/// Whether a filter misses an item. Of those up to the first that matches it this is known.
+fn is_miss(filters: &[Filter], item: &Item, first: usize, place: usize) -> bool
+    ensures { first_match filters.now item.now ≡ Some first
+        → result ≡ is_miss filters.now item.now place }
+{
+    if place < first {
         return true;
     }
-    is_matched(filters, item)
+    place != first && !is_match(filters, item, place)
 }
 
-fn is_place_of(items: &[Item], filter: &Filter, place: usize) -> bool
-    ensures { result ≡ is_place_of items.now filter.now place }
+/// Drops the positions of the filters that match an item, by the first of all filters that does.
+fn drop_matches(idle: &mut Vec<usize>, filters: &[Filter], item: &Item, first: usize)
+    requires { first_match filters.now item.now ≡ Some first }
+    ensures { idle.new.items ≡ filter (is_miss filters.now item.now) idle.old.items }
 {
-    match items.get(place) {
-        None => false,
-        Some(item) => matches_item(item, filter),
+    idle.retain(|place| is_miss(filters, item, first, *place));
+}
+
+/// Compares an item with each filter once at the most: whether the item is selected. The filters that match it are idle no
+/// more.
+fn compare_item(filters: &[Filter], item: &Item, idle: &mut Vec<usize>) -> bool
+    ensures selected { result ≡ is_selected filters.now item.now }
+    ensures idle { idle.new.items ≡ filter (is_miss filters.now item.now) idle.old.items }
+{
+    match first_match(filters, item) {
+        None => filters.is_empty(),
+        Some(first) => {
+            drop_matches(idle, filters, item, first);
+            true
+        }
     }
 }
 
-fn has_place(items: &[Item], places: &[usize], filter: &Filter) -> bool
-    ensures { result ≡ list_any (is_place_of items.now filter.now) places.now }
+fn all_places(alloc: Global, filters: &[Filter]) -> Result<Vec<usize>, NoMemory>
+    ensures { IfOk result (λ all. all.items ≡ all_places filters.now) }
 {
-    places
-        .iter()
-        .any(|place| is_place_of(items, filter, *place))
+    let mut all = Vec::new(alloc);
+    let mut place = 0;
+    let mut rest = filters;
+    while let Some((_filter, after)) = rest.split_first() {
+        all.push(place)?;
+        place += 1;
+        rest = after;
+    }
+    Ok(all)
 }
 
-/// Whether a filter matches no item, if all items that it matches are at these places.
-fn is_idle(items: &[Item], places: &[usize], filter: &Filter) -> bool
-    requires { list_any (is_place_of items.now filter.now) places.now
-        ≡ list_any (is_item_of filter.now) items.now }
-    ensures { result ≡ is_idle items.now filter.now }
+/// Goes over the items once. The filters that match no item so far are idle.
+#[tactic(auto, using(crate::proofs::Picking::idle_of_all))]
+fn compare_items(alloc: Global, items: &[Item], filters: &[Filter]) -> Result<Selection, NoMemory>
+    ensures cases { IfOk result (λ s. s.cases.items ≡ selected_places items.now filters.now) }
+    ensures idle { IfOk result (λ s. s.unmatched.items ≡ idle_places items.now filters.now) }
 {
-    !has_place(items, places, filter)
-}
-
-fn selected_places(
-    alloc: Global,
-    items: &[Item],
-    filters: &[Filter],
-) -> Result<Vec<usize>, NoMemory>
-    ensures { IfOk result (λ found. found.items ≡ selected_places items.now filters.now) }
-{
-    let mut found = Vec::new(alloc);
+    let mut cases = Vec::new(alloc);
+    let mut unmatched = all_places(alloc, filters)?;
     let mut place = 0;
     let mut rest = items;
     while let Some((item, after)) = rest.split_first() {
-        if is_selected(filters, item) {
-            found.push(place)?;
+        if compare_item(filters, item, &mut unmatched) {
+            cases.push(place)?;
         }
         place += 1;
         rest = after;
     }
-    Ok(found)
-}
-
-/// Looks for the items of each filter among the selected ones, since no filter matches another.
-fn idle_places(
-    alloc: Global,
-    items: &[Item],
-    filters: &[Filter],
-    selected: &[usize],
-) -> Result<Vec<usize>, NoMemory>
-    requires { selected.now ≡ selected_places items.now filters.now }
-    ensures { IfOk result (λ found. found.items ≡ idle_places items.now filters.now) }
-{
-    let mut found = Vec::new(alloc);
-    let mut place = 0;
-    let mut rest = filters;
-    while let Some((filter, after)) = rest.split_first() {
-        if is_idle(items, selected, filter) {
-            found.push(place)?;
-        }
-        place += 1;
-        rest = after;
-    }
-    Ok(found)
+    Ok(Selection { cases, unmatched })
 }
 
 /// Selects the items that some filter matches, or all items if there is no filter, and tells which filters match none.
@@ -115,7 +114,6 @@ pub fn select(alloc: Global, items: &[Item], filters: &[Filter]) -> Result<Selec
     if items.len() > MOST_ITEMS {
         return Err(SelectFault::TooMany);
     }
-    let cases = selected_places(alloc, items, filters)?;
-    let unmatched = idle_places(alloc, items, filters, &cases)?;
-    Ok(Selection { cases, unmatched })
+    let selection = compare_items(alloc, items, filters)?;
+    Ok(selection)
 }
