@@ -60,26 +60,26 @@ pub store_fails : (old new : State) (error : Error) → IsTrue old.in_transactio
 store_fails old new error inside (inl failed) = failed
 store_fails old new error inside (inr ended) = absurd (both_ways _ ended.1 inside)
 
-module _ {S : Type 0} (g : Ghosts S) (runs : List Run) (statements inside : List Statement) where
+module _ {S : Type 0} (g : Ghosts S) (Before : Held S → Type 0) (statements inside : List Statement) where
   -- the fault is that of a statement of the transaction
-  pub stop_causes : (old left new : Held S) (fault : StoreFault) → IsStore (state g old) runs → IsStopped g inside (begun old) left fault → IsRolledBack (state g left) (state g new) → IsCausedInside g runs statements inside new fault
-  stop_causes old left new (Store statement) stands it undone = by it.told
+  pub stop_causes : (old left new : Held S) (fault : StoreFault) → Before old → IsStopped g inside (begun old) left fault → IsRolledBack (state g left) (state g new) → IsCausedInside g Before statements inside new fault
+  stop_causes old left new (Store statement) before it undone = by it.told
     where
-      by : Tells it.error (Store statement) → IsCausedInside g runs statements inside new (Store statement)
+      by : Tells it.error (Store statement) → IsCausedInside g Before statements inside new (Store statement)
       by (inl memory) = absurd memory.0
-      by (inr failed) = inr (record { start = old; stands = stands; left = left; error = it.error; other = failed.1; cause = inl (it.stop, undone) })
-  stop_causes old left new _ stands it undone = tt
+      by (inr failed) = inr (record { start = old; before = before; left = left; error = it.error; other = failed.1; cause = inl (it.stop, undone) })
+  stop_causes old left new _ before it undone = tt
 
   -- the fault is that of the commit
-  pub commit_causes : (old left new : Held S) (error : Error) (fault : StoreFault) → IsStore (state g old) runs → RunInTurn g inside (begun old) left → Fails (state g left) (state g new) ⊥ error → Tells error fault
-      → IsCausedInside g runs statements inside new fault
-  commit_causes old left new error (Store statement) stands ran failed (inl memory) = absurd memory.0
-  commit_causes old left new error (Store statement) stands ran failed (inr told) = inr (record { start = old; stands = stands; left = left; error = error; other = told.1; cause = inr (ran, failed) })
-  commit_causes old left new error _ stands ran failed told = tt
+  pub commit_causes : (old left new : Held S) (error : Error) (fault : StoreFault) → Before old → RunInTurn g inside (begun old) left → Fails (state g left) (state g new) ⊥ error → Tells error fault
+      → IsCausedInside g Before statements inside new fault
+  commit_causes old left new error (Store statement) before ran failed (inl memory) = absurd memory.0
+  commit_causes old left new error (Store statement) before ran failed (inr told) = inr (record { start = old; before = before; left = left; error = error; other = told.1; cause = inr (ran, failed) })
+  commit_causes old left new error _ before ran failed told = tt
 
 -- the fault is that of the statement that was prepared
-pub prepare_causes : {S : Type 0} (g : Ghosts S) (runs : List Run) (run : ℕ) (e : Entry) (inside : List Statement) (old new : Held S) (error : Error) (fault : StoreFault)
-    → IsNotRun (state g old) (state g new) put_text (entry_row run e) error → Tells error fault → IsCausedInside g runs (put_statements run e) inside new fault
-prepare_causes g runs run e inside old new error (Store statement) refused (inl memory) = absurd memory.0
-prepare_causes g runs run e inside old new error (Store statement) refused (inr told) = inl (inr (inr (inl (old, record { error = error; other = told.1; cause = inl refused }))))
-prepare_causes g runs run e inside old new error _ refused told = tt
+pub prepare_causes : {S : Type 0} (g : Ghosts S) (Before : Held S → Type 0) (run : ℕ) (e : Entry) (inside : List Statement) (old new : Held S) (error : Error) (fault : StoreFault)
+    → IsNotRun (state g old) (state g new) put_text (entry_row run e) error → Tells error fault → IsCausedInside g Before (put_statements run e) inside new fault
+prepare_causes g Before run e inside old new error (Store statement) refused (inl memory) = absurd memory.0
+prepare_causes g Before run e inside old new error (Store statement) refused (inr told) = inl (inr (inr (inl (old, record { error = error; other = told.1; cause = inl refused }))))
+prepare_causes g Before run e inside old new error _ refused told = tt

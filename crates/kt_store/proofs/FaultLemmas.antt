@@ -1,4 +1,5 @@
 -- What a refusal is told as.
+use Rattle.kt_store.specs.Transactions.{IsCausedInside}
 use Rattle.std.proofs.Common.{◌≡◌, ◌≢◌, ◌⊎◌, ◌++◌, ◌∙◌, inl, inr, ℕ, pos, Bool, true, false, List, [], ◌∷◌, Some, slice_get, refl, sym, ap, subst, Result, Ok, Err, IsErrAnd, IfErr, OnErr}
 use Rattle.sqlite.specs.declared.error.ErrorCode.TheVariants as code
 use Rattle.sqlite.specs.declared.error.Error.{Error}
@@ -82,3 +83,9 @@ only_row x rows row are first = let e : Some (x ∷ []) ≡ Some row = sym (ap (
 pub flag_number : (b : Bool) → (n : ℕ) × (Int (flag b) ≡ Int (pos n))
 flag_number true = (1, refl)
 flag_number false = (0, refl)
+
+module _ {S : Type 0} (g : Ghosts S) where
+  -- a statement that failed outside a transaction is one of those that such a call may name
+  pub caused_outside : (Before : Held S → Type 0) (earlier statements inside : List Statement) (new : Held S) (e : StoreFault) → IsCaused g statements new e → IsCausedInside g Before (earlier ++ statements) inside new e
+  caused_outside Before earlier statements inside new (Store statement) h = inl (one_of_later g earlier statements new h)
+  caused_outside Before earlier statements inside new _ h = tt

@@ -34,3 +34,4 @@ pub mod TurnLemmas
 pub mod CommitLemmas
 pub mod RenewLemmas
 pub mod UniqueLemmas
+pub mod ProbeLemmas

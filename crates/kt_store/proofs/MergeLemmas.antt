@@ -18,25 +18,25 @@ abbrev Up : List Entry → Type 0
 Up es = IsAscending (λ (a b : Entry). a.position < b.position) es
 
 -- the first row of later entries is one of another position
-first_later : (p : ℕ) (others : List Entry) (row : Row) (after : List Row) → Later p others → pairs_shown others ≡ row ∷ after → (q : ℕ) × (v : Variable) × (p < q) × (row ≡ pair_columns q v)
-first_later p [] row after later is = absurd cc
-first_later p (e ∷ es) row after later is = go (λ is. first_later p es row after later.1 is) e.meta is
+first_later : (p : ℕ) (others : List Entry) (shown : Row) (after : List Row) → Later p others → pairs_shown others ≡ shown ∷ after → (q : ℕ) × (v : Variable) × (p < q) × (shown ≡ pair_columns q v)
+first_later p [] shown after later is = absurd cc
+first_later p (e ∷ es) shown after later is = go (λ is. first_later p es shown after later.1 is) e.meta is
   where
-    go : (pairs_shown es ≡ row ∷ after → (q : ℕ) × (v : Variable) × (p < q) × (row ≡ pair_columns q v)) → (vs : List Variable) → map (pair_columns e.position) vs ++ pairs_shown es ≡ row ∷ after
-        → (q : ℕ) × (v : Variable) × (p < q) × (row ≡ pair_columns q v)
+    go : (pairs_shown es ≡ shown ∷ after → (q : ℕ) × (v : Variable) × (p < q) × (shown ≡ pair_columns q v)) → (vs : List Variable) → map (pair_columns e.position) vs ++ pairs_shown es ≡ shown ∷ after
+        → (q : ℕ) × (v : Variable) × (p < q) × (shown ≡ pair_columns q v)
     go more [] is = more is
-    go more (v ∷ vs) is = (e.position, v, later.0, let same : row ≡ pair_columns e.position v = cc in same)
+    go more (v ∷ vs) is = (e.position, v, later.0, let same : shown ≡ pair_columns e.position v = cc in same)
 
 -- the next row is that of the next pair, or of a later entry where there is none
 abbrev pub NextIs : ℕ → List Variable → List Entry → Row → List Row → Type 0
-NextIs p more others row after =
-    ((v : Variable) × (rest : List Variable) × (more ≡ v ∷ rest) × (row ≡ pair_columns p v) × (after ≡ map (pair_columns p) rest ++ pairs_shown others))
-    ⊎ ((more ≡ []) × (q : ℕ) × (v : Variable) × (p < q) × (row ≡ pair_columns q v))
+NextIs p more others shown after =
+    ((v : Variable) × (rest : List Variable) × (more ≡ v ∷ rest) × (shown ≡ pair_columns p v) × (after ≡ map (pair_columns p) rest ++ pairs_shown others))
+    ⊎ ((more ≡ []) × (q : ℕ) × (v : Variable) × (p < q) × (shown ≡ pair_columns q v))
 
-pub next_is : (p : ℕ) (more : List Variable) (others : List Entry) (row : Row) (after : List Row) → Later p others → row ∷ after ≡ map (pair_columns p) more ++ pairs_shown others → NextIs p more others row after
-next_is p [] others row after later is = let it = first_later p others row after later (sym is) in inr (refl, it.0, it.1, it.2, it.3)
-next_is p (v ∷ rest) others row after later is =
-    let same : row ≡ pair_columns p v = cc in
+pub next_is : (p : ℕ) (more : List Variable) (others : List Entry) (shown : Row) (after : List Row) → Later p others → shown ∷ after ≡ map (pair_columns p) more ++ pairs_shown others → NextIs p more others shown after
+next_is p [] others shown after later is = let it = first_later p others shown after later (sym is) in inr (refl, it.0, it.1, it.2, it.3)
+next_is p (v ∷ rest) others shown after later is =
+    let same : shown ≡ pair_columns p v = cc in
     let behind : after ≡ map (pair_columns p) rest ++ pairs_shown others = cc in
     inl (v, rest, refl, same, behind)
 
@@ -46,26 +46,26 @@ none_is p [] others rows none is = refl
 none_is p (v ∷ rest) others rows none is = absurd (let e : [] ≡ pair_columns p v ∷ (map (pair_columns p) rest ++ pairs_shown others) = sym none ∙ is in cc)
 
 -- what was read of the first column is the position
-pub read_position : (p n : ℕ) (v : Variable) (row : Row) → row ≡ pair_columns p v → column row 0 ≡ Int (pos n) → n ≡ p
-read_position p n v row is read = let e : Int (pos n) ≡ Int (pos p) = sym read ∙ ap (λ l. column l 0) is in cc
+pub read_position : (p n : ℕ) (v : Variable) (shown : Row) → shown ≡ pair_columns p v → column shown 0 ≡ Int (pos n) → n ≡ p
+read_position p n v shown is read = let e : Int (pos n) ≡ Int (pos p) = sym read ∙ ap (λ l. column l 0) is in cc
 
-pub entry_position : (n : ℕ) (e : Entry) (row : Row) → row ≡ entry_columns e → column row 0 ≡ Int (pos n) → n ≡ e.position
-entry_position n e row is read = let q : Int (pos n) ≡ Int (pos e.position) = sym read ∙ ap (λ l. column l 0) is in cc
+pub entry_position : (n : ℕ) (e : Entry) (shown : Row) → shown ≡ entry_columns e → column shown 0 ≡ Int (pos n) → n ≡ e.position
+entry_position n e shown is read = let q : Int (pos n) ≡ Int (pos e.position) = sym read ∙ ap (λ l. column l 0) is in cc
 
 -- a row that is that of a pair has its columns
-pub has_columns : (p : ℕ) (v : Variable) (row : Row) → row ≡ pair_columns p v → 0 < length row
-has_columns p v row is = subst (λ (l : Row). 0 < length l) (sym is) (omega arith)
+pub has_columns : (p : ℕ) (v : Variable) (shown : Row) → shown ≡ pair_columns p v → 0 < length shown
+has_columns p v shown is = subst (λ (l : Row). 0 < length l) (sym is) (omega arith)
 
 -- the first column of the next row is a number
-pub first_column : (p : ℕ) (more : List Variable) (others : List Entry) (row : Row) (after : List Row) → NextIs p more others row after → (n : ℕ) × (0 < length row) × (column row 0 ≡ Int (pos n))
-first_column p more others row after (inl next) = (p, has_columns p next.0 row next.3, ap (λ l. column l 0) next.3)
-first_column p more others row after (inr past) = (past.1, has_columns past.1 past.2 row past.4, ap (λ l. column l 0) past.4)
+pub first_column : (p : ℕ) (more : List Variable) (others : List Entry) (shown : Row) (after : List Row) → NextIs p more others shown after → (n : ℕ) × (0 < length shown) × (column shown 0 ≡ Int (pos n))
+first_column p more others shown after (inl next) = (p, has_columns p next.0 shown next.3, ap (λ l. column l 0) next.3)
+first_column p more others shown after (inr past) = (past.1, has_columns past.1 past.2 shown past.4, ap (λ l. column l 0) past.4)
 
 -- a row of the position is that of the next pair
-pub next_pair : (p n : ℕ) (more : List Variable) (others : List Entry) (row : Row) (after : List Row) → NextIs p more others row after → column row 0 ≡ Int (pos n) → n ≡ p → AllByRecursion IsPair more
-    → (v : Variable) × IsPair v × (row ≡ pair_columns p v)
-next_pair p n more others row after (inl next) read same sound = let pairs : AllByRecursion IsPair (next.0 ∷ next.1) = subst (AllByRecursion IsPair) next.2 sound in (next.0, pairs.0, next.3)
-next_pair p n more others row after (inr past) read same sound = absurd (omega (arith, past.3, same, read_position past.1 n past.2 row past.4 read))
+pub next_pair : (p n : ℕ) (more : List Variable) (others : List Entry) (shown : Row) (after : List Row) → NextIs p more others shown after → column shown 0 ≡ Int (pos n) → n ≡ p → AllByRecursion IsPair more
+    → (v : Variable) × IsPair v × (shown ≡ pair_columns p v)
+next_pair p n more others shown after (inl next) read same sound = let pairs : AllByRecursion IsPair (next.0 ∷ next.1) = subst (AllByRecursion IsPair) next.2 sound in (next.0, pairs.0, next.3)
+next_pair p n more others shown after (inr past) read same sound = absurd (omega (arith, past.3, same, read_position past.1 n past.2 shown past.4 read))
 
 -- what was read so far, and what is still to come
 abbrev pub SoFar : ℕ → List Row → List Variable → List Row → Type 0
@@ -77,16 +77,16 @@ append_one : {X : Type 0} (xs : List X) (x : X) (ys : List X) → xs ++ x ∷ ys
 append_one [] x ys = refl
 append_one (z ∷ xs) x ys = ap (λ l. z ∷ l) (append_one xs x ys)
 
-pub one_read : (p : ℕ) (rows : List Row) (meta new : List Variable) (v : Variable) (n : ℕ) (row : Row) (rest after : List Row) → rest ≡ row ∷ after → column row 0 ≡ Int (pos n) → n ≡ p
-    → ((m : ℕ) (w : Variable) → IsPair w → row ≡ pair_columns m w → v ≡ w) → new ≡ meta ++ v ∷ [] → SoFar p rows meta rest → SoFar p rows new after
-one_read p rows meta new v n row rest after parts read same pair pushed so_far vs others sound later are =
+pub one_read : (p : ℕ) (rows : List Row) (meta new : List Variable) (v : Variable) (n : ℕ) (shown : Row) (rest after : List Row) → rest ≡ shown ∷ after → column shown 0 ≡ Int (pos n) → n ≡ p
+    → ((m : ℕ) (w : Variable) → IsPair w → shown ≡ pair_columns m w → v ≡ w) → new ≡ meta ++ v ∷ [] → SoFar p rows meta rest → SoFar p rows new after
+one_read p rows meta new v n shown rest after parts read same pair pushed so_far vs others sound later are =
     let it = so_far vs others sound later are in
-    elim (next_is p it.0 others row after later (sym parts ∙ it.2)) [
+    elim (next_is p it.0 others shown after later (sym parts ∙ it.2)) [
       | inl next ↦
           let pairs : AllByRecursion IsPair (next.0 ∷ next.1) = subst (AllByRecursion IsPair) next.2 it.3 in
           let is : v ≡ next.0 = pair p next.0 pairs.0 next.3 in
           (next.1, it.1 ∙ ap (λ l. meta ++ l) next.2 ∙ append_one meta next.0 next.1 ∙ ap (λ x. meta ++ x ∷ [] ++ next.1) (sym is) ∙ ap (λ l. l ++ next.1) (sym pushed), next.4, pairs.1)
-      | inr past ↦ absurd (omega (arith, past.3, same, read_position past.1 n past.2 row past.4 read))
+      | inr past ↦ absurd (omega (arith, past.3, same, read_position past.1 n past.2 shown past.4 read))
     ]
 
 nothing_more : (xs : List Variable) → xs ++ [] ≡ xs
@@ -98,10 +98,10 @@ pub all_read : (p : ℕ) (meta : List Variable) (vs more : List Variable) (other
     → (meta ≡ vs) × (rest ≡ pairs_shown others)
 all_read p meta vs more others rest is none left = (sym (is ∙ ap (λ l. meta ++ l) none ∙ nothing_more meta), left ∙ ap (λ l. map (pair_columns p) l ++ pairs_shown others) none)
 
-pub no_more : (p n : ℕ) (more : List Variable) (others : List Entry) (row : Row) (rest after : List Row) → rest ≡ row ∷ after → column row 0 ≡ Int (pos n) → n ≢ p → Later p others
+pub no_more : (p n : ℕ) (more : List Variable) (others : List Entry) (shown : Row) (rest after : List Row) → rest ≡ shown ∷ after → column shown 0 ≡ Int (pos n) → n ≢ p → Later p others
     → rest ≡ map (pair_columns p) more ++ pairs_shown others → more ≡ []
-no_more p n more others row rest after parts read apart later is = elim (next_is p more others row after later (sym parts ∙ is)) [
-  | inl next ↦ absurd (apart (read_position p n next.0 row next.3 read))
+no_more p n more others shown rest after parts read apart later is = elim (next_is p more others shown after later (sym parts ∙ is)) [
+  | inl next ↦ absurd (apart (read_position p n next.0 shown next.3 read))
   | inr past ↦ past.0
 ]
 

@@ -1,9 +1,11 @@
 -- A statement that is prepared and run.
-use Rattle.std.specs.Prelude.{◌≢◌, ◌⊎◌, ℕ, List, [], ◌∷◌, Ok, Err, ⊤}
+use Rattle.std.specs.Prelude.{◌≡◌, ◌≢◌, ◌⊎◌, ℕ, List, [], ◌∷◌, Ok, Err, ⊤}
 use Rattle.sqlite.specs.Order.{Row}
 use Rattle.sqlite.specs.Tree.{Trees}
 use Rattle.sqlite.specs.Store.{Ghosts}
 use Rattle.sqlite.specs.Held.{Held, state}
+use Rattle.sqlite.specs.Listing.{understood}
+use Rattle.sqlite_resolve.specs.declared.compiled.Compiled.{Compiled}
 use Rattle.sqlite.specs.State.{State, IsUnchanged, IsRolledBack, Shown, Executes, CommitsBy, CommitsShowing, IsNotRun, FailsToQuery}
 use Rattle.sqlite.specs.declared.error.ErrorCode.TheVariants as code
 use Rattle.sqlite.specs.declared.error.Error.{Error}
@@ -14,6 +16,10 @@ use Rattle.kt_store.specs.declared.store_fault.StoreFault.TheVariants.{NoMemory,
 -- the database is as it was, or as its last commit left it, which is the same where no transaction is open
 abbrev pub Rests : State → State → Type 0
 Rests old new = IsUnchanged old new ⊎ IsRolledBack old new
+
+-- SQLite understands this text over the tables
+abbrev pub IsUnderstood : State → List ℕ → Type 0
+IsUnderstood s sql = (c : Compiled) × (understood s.now.schema sql ≡ Ok c)
 
 -- memory ran out
 abbrev pub IsNoMemory : StoreFault → Type 0

@@ -11,7 +11,7 @@ use Rattle.kt_store.specs.declared.store_fault.StoreFault.{StoreFault}
 use Rattle.kt_store.specs.declared.store_fault.StoreFault.TheVariants.{Store}
 use Rattle.kt_store.specs.Ask.{Statement, OneFails}
 use Rattle.kt_store.specs.Fault.{Tells}
-use Rattle.kt_store.specs.Stands.{IsStore}
+use Rattle.kt_store.specs.Stands.{IsStore, IsOldStore, IsBlank}
 
 -- the same connection, in a transaction that began just now
 abbrev pub begun : {S : Type 0} → Held S → Held S
@@ -38,16 +38,28 @@ module _ {S : Type 0} (g : Ghosts S) where
     pub told : Tells error fault
     pub stop : StopInTurn statements old new error
 
-  -- a transaction of these statements over the tables of these runs was undone: one of them failed or the commit did, and not because memory ran out
-  pub record IsUndone (runs : List Run) (statements : List Statement) (new : Held S) : Type 0 where
+  -- the tables of the connection hold these runs
+  abbrev pub HoldsRuns : List Run → Held S → Type 0
+  HoldsRuns runs s = IsStore (state g s) runs
+
+  -- the tables of schema 1 hold these runs
+  abbrev pub HoldsOldRuns : List Run → Held S → Type 0
+  HoldsOldRuns runs s = IsOldStore (state g s) runs
+
+  -- there is no table
+  abbrev pub HasNoTable : Held S → Type 0
+  HasNoTable s = IsBlank (state g s)
+
+  -- a transaction of these statements, begun where this held, was undone: one of them failed or the commit did, and not because memory ran out
+  pub record IsUndone (Before : Held S → Type 0) (statements : List Statement) (new : Held S) : Type 0 where
     pub start : Held S
-    pub stands : IsStore (state g start) runs
+    pub before : Before start
     pub left : Held S
     pub error : Error
     pub other : error ≢ SqliteFailure code.OutOfMemory
     pub cause : (StopInTurn statements (begun start) left error × IsRolledBack (state g left) (state g new)) ⊎ (RunInTurn statements (begun start) left × Fails (state g left) (state g new) ⊥ error)
 
   -- a call is told that a statement failed only if one of its own did, or its transaction was undone
-  abbrev pub IsCausedInside : List Run → List Statement → List Statement → Held S → StoreFault → Type 0
-  IsCausedInside runs statements inside new (Store statement) = OneFails g statements new ⊎ IsUndone runs inside new
-  IsCausedInside runs statements inside new _ = ⊤
+  abbrev pub IsCausedInside : (Held S → Type 0) → List Statement → List Statement → Held S → StoreFault → Type 0
+  IsCausedInside Before statements inside new (Store statement) = OneFails g statements new ⊎ IsUndone Before inside new
+  IsCausedInside Before statements inside new _ = ⊤

@@ -1,13 +1,15 @@
-ghost use Rattle.std.specs.Prelude.{◌≡◌, ◌≢◌, ◌⊎◌, ℤ, pos, true, false, [], IfOk, OnOk, OnErr, IfErr, IsTrue};
+ghost use Rattle.std.specs.Prelude.{◌≡◌, ◌≢◌, ◌⊎◌, ◌<◌, ℤ, pos, true, false, [], ◌∷◌, length, IfOk, OnOk, OnErr, IfErr, IsTrue};
 ghost use Rattle.sqlite.specs.State.{HasCleanDisk, Survives, IsUnchanged, KeepsCommit};
 ghost use Rattle.sqlite_value.specs.Order.{column};
 ghost use Rattle.sqlite_value.specs.declared.value.Value.TheVariants.{Int};
 ghost use Rattle.sqlite.specs.Effect.{IsDatabase};
 ghost use Rattle.sqlite.specs.Held.{state};
-ghost use Rattle.kt_store.specs.Ask.{Rests, IsStoreFault};
+ghost use Rattle.kt_store.specs.Ask.{Rests, MayFail, IsUnderstood, IsNoMemory, IsStoreFault, IsCaused};
+ghost use Rattle.kt_store.specs.Calls.{table_statements, schema_statements, attach_statements, make_statements, raise_statements, HasTables};
 ghost use Rattle.kt_store.specs.Runs.{Tables, OldTables, Keeps, KeepsOld};
 ghost use Rattle.kt_store.specs.Stands.{IsEmpty, StandsFor, StandsInOld, SaysSchema, Leaves};
-ghost use Rattle.kt_store.specs.Tables.{no_schema};
+ghost use Rattle.kt_store.specs.Tables.{no_schema, runs_text, entries_text, pairs_text, meta_text};
+ghost use Rattle.kt_store.specs.Transactions.{RunInTurn, IsStopped, HoldsOldRuns, HasNoTable, IsCausedInside};
 
 use crate::statements::{ask, step};
 use crate::store_fault::StoreFault;
@@ -19,6 +21,10 @@ pub(crate) fn make<S: Alter>(tx: &mut Transaction<'_, S>) -> Result<(), StoreFau
     ensures made { HasCleanDisk (state S.Store tx.new.conn.now) → IsTrue (state S.Store tx.old.conn.now).in_transaction → (IsTrue (state S.Store tx.old.conn.now).is_open → (state S.Store tx.old.conn.now).now.schema ≡ no_schema)
         → OnOk result (Tables (state S.Store tx.new.conn.now).now [] × IsDatabase (state S.Store tx.new.conn.now).now × ((state S.Store tx.new.conn.now).committed ≡ (state S.Store tx.old.conn.now).committed) × IsTrue (state S.Store tx.new.conn.now).in_transaction) }
     ensures keeps { HasCleanDisk (state S.Store tx.new.conn.now) → KeepsCommit (state S.Store tx.old.conn.now) (state S.Store tx.new.conn.now) }
+    ensures runs { HasCleanDisk (state S.Store tx.new.conn.now) → IsTrue (state S.Store tx.old.conn.now).in_transaction
+        → OnOk result (RunInTurn S.Store make_statements tx.old.conn.now tx.new.conn.now) }
+    ensures cause { HasCleanDisk (state S.Store tx.new.conn.now) → IsTrue (state S.Store tx.old.conn.now).in_transaction
+        → IfErr result (IsStopped S.Store make_statements tx.old.conn.now tx.new.conn.now) }
     ensures failed { IfErr result IsStoreFault }
     ensures survives { Survives (state S.Store tx.old.conn.now) (state S.Store tx.new.conn.now) (λ _. ⊥) }
 {
@@ -55,7 +61,10 @@ pub(crate) fn create<S: Alter>(conn: &mut Connection<S>) -> Result<(), StoreFaul
     requires { conn.old.in_transaction ≡ false }
     ensures created { IsEmpty (state S.Store conn.old) → OnOk result (StandsFor (state S.Store conn.new) []) }
     ensures kept { IsEmpty (state S.Store conn.old) → OnErr result (IsEmpty (state S.Store conn.new)) }
+    ensures earlier { HasCleanDisk (state S.Store conn.new) → HasCleanDisk (state S.Store conn.old) }
     ensures failed { IfErr result IsStoreFault }
+    ensures cause { IsEmpty (state S.Store conn.old) → IsTrue (state S.Store conn.old).is_open → HasCleanDisk (state S.Store conn.new)
+        → IfErr result (IsCausedInside S.Store (HasNoTable S.Store) attach_statements make_statements conn.new) }
     ensures crash { IsEmpty (state S.Store conn.old) → Survives (state S.Store conn.old) (state S.Store conn.new) (Keeps []) }
     ensures durable { IsEmpty (state S.Store conn.old) → OnOk result (Leaves (state S.Store conn.new) (Keeps [])) }
 {
@@ -65,15 +74,17 @@ pub(crate) fn create<S: Alter>(conn: &mut Connection<S>) -> Result<(), StoreFaul
     Ok(())
 }
 
-/// Asks whether the connection is open.
-pub(crate) fn probe<S: Alter>(conn: &mut Connection<S>) -> Result<(), StoreFault>
+/// Asks whether the connection is open, and its tables those of a statement.
+pub(crate) fn probe<S: Alter>(conn: &mut Connection<S>, sql: &str) -> Result<(), StoreFault>
     ensures mode { conn.old.in_transaction ≡ false → conn.new.in_transaction ≡ false }
     ensures same { HasCleanDisk (state S.Store conn.new) → OnOk result (IsUnchanged (state S.Store conn.old) (state S.Store conn.new)) }
     ensures rests { HasCleanDisk (state S.Store conn.new) → OnErr result (Rests (state S.Store conn.old) (state S.Store conn.new)) }
     ensures failed { IfErr result IsStoreFault }
+    ensures cause { HasCleanDisk (state S.Store conn.new) → IfErr result (MayFail S.Store sql.now [] conn.old conn.new) }
+    ensures understood { HasCleanDisk (state S.Store conn.new) → OnOk result (IsUnderstood (state S.Store conn.old) sql.now) }
     ensures survives { Survives (state S.Store conn.old) (state S.Store conn.new) (λ _. ⊥) }
 {
-    let statement = conn.prepare("SELECT 1")?;
+    let statement = conn.prepare(sql)?;
     Ok(())
 }
 
@@ -103,6 +114,7 @@ pub(crate) fn leaves_its_old_runs<S: Alter>(conn: &Connection<S>)
 /// A number of a row, which may be negative.
 pub(crate) fn signed_in(row: &Row, at: usize) -> Result<i64, StoreFault>
     ensures number { IfOk result (λ n. column row.now at ≡ Int n) }
+    ensures read { (n : ℤ) → at < length row.now → column row.now at ≡ Int n → IfErr result IsNoMemory }
     ensures failed { IfErr result IsStoreFault }
 {
     let number = row.get::<i64>(at)?;
@@ -112,10 +124,12 @@ pub(crate) fn signed_in(row: &Row, at: usize) -> Result<i64, StoreFault>
 /// The number of the schema.
 pub(crate) fn schema_number<S: Alter>(conn: &mut Connection<S>) -> Result<i64, StoreFault>
     ensures mode { conn.old.in_transaction ≡ false → conn.new.in_transaction ≡ false }
+    ensures earlier { HasCleanDisk (state S.Store conn.new) → HasCleanDisk (state S.Store conn.old) }
     ensures same { (n : ℤ) → SaysSchema n (state S.Store conn.old) → HasCleanDisk (state S.Store conn.new) → OnOk result (IsUnchanged (state S.Store conn.old) (state S.Store conn.new)) }
     ensures rests { (n : ℤ) → SaysSchema n (state S.Store conn.old) → HasCleanDisk (state S.Store conn.new) → Rests (state S.Store conn.old) (state S.Store conn.new) }
     ensures crash { (n : ℤ) → SaysSchema n (state S.Store conn.old) → Survives (state S.Store conn.old) (state S.Store conn.new) (λ _. ⊥) }
     ensures number { (n : ℤ) → SaysSchema n (state S.Store conn.old) → HasCleanDisk (state S.Store conn.new) → IfOk result (λ number. number ≡ n) }
+    ensures cause { (n : ℤ) → SaysSchema n (state S.Store conn.old) → HasCleanDisk (state S.Store conn.new) → IfErr result (IsCaused S.Store ((meta_text, []) ∷ []) conn.new) }
     ensures taken { (n : ℤ) → SaysSchema n (state S.Store conn.old) → HasCleanDisk (state S.Store conn.new) → IfErr result IsStoreFault }
     ensures refused { IfErr result (λ e. IsStoreFault e ⊎ (e ≡ StoreFault.UnknownSchema)) }
 {
@@ -127,13 +141,15 @@ pub(crate) fn schema_number<S: Alter>(conn: &mut Connection<S>) -> Result<i64, S
     Ok(number)
 }
 
-/// Whether the tables are those of schema 1. Any number but 1 and 2 is refused.
-pub(crate) fn is_old<S: Alter>(conn: &mut Connection<S>) -> Result<bool, StoreFault>
+/// Whether the number is that of schema 1. Any number but 1 and 2 is refused.
+pub(crate) fn says_old<S: Alter>(conn: &mut Connection<S>) -> Result<bool, StoreFault>
     ensures mode { conn.old.in_transaction ≡ false → conn.new.in_transaction ≡ false }
+    ensures earlier { HasCleanDisk (state S.Store conn.new) → HasCleanDisk (state S.Store conn.old) }
     ensures same { (n : ℤ) → SaysSchema n (state S.Store conn.old) → HasCleanDisk (state S.Store conn.new) → OnOk result (IsUnchanged (state S.Store conn.old) (state S.Store conn.new)) }
     ensures rests { (n : ℤ) → SaysSchema n (state S.Store conn.old) → HasCleanDisk (state S.Store conn.new) → Rests (state S.Store conn.old) (state S.Store conn.new) }
     ensures crash { (n : ℤ) → SaysSchema n (state S.Store conn.old) → Survives (state S.Store conn.old) (state S.Store conn.new) (λ _. ⊥) }
     ensures number { (n : ℤ) → SaysSchema n (state S.Store conn.old) → HasCleanDisk (state S.Store conn.new) → IfOk result (λ old. (old ≡ true → n ≡ pos 1) × (old ≡ false → n ≡ pos 2)) }
+    ensures cause { (n : ℤ) → SaysSchema n (state S.Store conn.old) → HasCleanDisk (state S.Store conn.new) → IfErr result (IsCaused S.Store ((meta_text, []) ∷ []) conn.new) }
     ensures taken { (n : ℤ) → SaysSchema n (state S.Store conn.old) → (n ≡ pos 1) ⊎ (n ≡ pos 2) → HasCleanDisk (state S.Store conn.new) → IfErr result IsStoreFault }
     ensures refused { IfErr result (λ e. IsStoreFault e ⊎ (e ≡ StoreFault.UnknownSchema)) }
 {
@@ -147,12 +163,63 @@ pub(crate) fn is_old<S: Alter>(conn: &mut Connection<S>) -> Result<bool, StoreFa
     Ok(false)
 }
 
+/// Asks whether the queries of a store can be prepared: for runs, for entries and, where the tables are not those of schema 1,
+/// for pairs.
+pub(crate) fn find_tables<S: Alter>(conn: &mut Connection<S>, old: bool) -> Result<(), StoreFault>
+    ensures mode { conn.old.in_transaction ≡ false → conn.new.in_transaction ≡ false }
+    ensures same { HasCleanDisk (state S.Store conn.new) → OnOk result (IsUnchanged (state S.Store conn.old) (state S.Store conn.new)) }
+    ensures rests { HasCleanDisk (state S.Store conn.new) → OnErr result (Rests (state S.Store conn.old) (state S.Store conn.new)) }
+    ensures failed { IfErr result IsStoreFault }
+    ensures cause { HasCleanDisk (state S.Store conn.new) → IfErr result (IsCaused S.Store table_statements conn.new) }
+    ensures understood { HasCleanDisk (state S.Store conn.new) → OnOk result (IsUnderstood (state S.Store conn.old) runs_text × IsUnderstood (state S.Store conn.old) entries_text × (old ≡ false → IsUnderstood (state S.Store conn.old) pairs_text)) }
+    ensures survives { Survives (state S.Store conn.old) (state S.Store conn.new) (λ _. ⊥) }
+{
+    probe(
+        conn,
+        "SELECT id, started, total, finished FROM runs ORDER BY id",
+    )?;
+    probe(
+        conn,
+        "SELECT position, program, case_name, kind, reason, started, millis, body_out, body_err, clean_out, clean_err FROM entries WHERE run = ?1 ORDER BY position",
+    )?;
+    if old {
+        return Ok(());
+    }
+    probe(
+        conn,
+        "SELECT position, name, value FROM props WHERE run = ?1 ORDER BY position, place",
+    )?;
+    Ok(())
+}
+
+/// Whether the tables are those of schema 1. Any number but 1 and 2 is refused, and so are tables that can't be read.
+pub(crate) fn is_old<S: Alter>(conn: &mut Connection<S>) -> Result<bool, StoreFault>
+    ensures mode { conn.old.in_transaction ≡ false → conn.new.in_transaction ≡ false }
+    ensures earlier { HasCleanDisk (state S.Store conn.new) → HasCleanDisk (state S.Store conn.old) }
+    ensures same { (n : ℤ) → SaysSchema n (state S.Store conn.old) → HasCleanDisk (state S.Store conn.new) → OnOk result (IsUnchanged (state S.Store conn.old) (state S.Store conn.new)) }
+    ensures rests { (n : ℤ) → SaysSchema n (state S.Store conn.old) → HasCleanDisk (state S.Store conn.new) → Rests (state S.Store conn.old) (state S.Store conn.new) }
+    ensures crash { (n : ℤ) → SaysSchema n (state S.Store conn.old) → Survives (state S.Store conn.old) (state S.Store conn.new) (λ _. ⊥) }
+    ensures number { (n : ℤ) → SaysSchema n (state S.Store conn.old) → HasCleanDisk (state S.Store conn.new) → IfOk result (λ old. (old ≡ true → n ≡ pos 1) × (old ≡ false → n ≡ pos 2)) }
+    ensures cause { (n : ℤ) → SaysSchema n (state S.Store conn.old) → HasCleanDisk (state S.Store conn.new) → IfErr result (IsCaused S.Store schema_statements conn.new) }
+    ensures tables { (n : ℤ) → SaysSchema n (state S.Store conn.old) → HasCleanDisk (state S.Store conn.new) → OnOk result (HasTables n (state S.Store conn.old)) }
+    ensures taken { (n : ℤ) → SaysSchema n (state S.Store conn.old) → (n ≡ pos 1) ⊎ (n ≡ pos 2) → HasCleanDisk (state S.Store conn.new) → IfErr result IsStoreFault }
+    ensures refused { IfErr result (λ e. IsStoreFault e ⊎ (e ≡ StoreFault.UnknownSchema)) }
+{
+    let old = says_old(conn)?;
+    find_tables(conn, old)?;
+    Ok(old)
+}
+
 /// Takes the tables of schema 1 to those of schema 2, inside a transaction.
 pub(crate) fn raise<S: Alter>(tx: &mut Transaction<'_, S>) -> Result<(), StoreFault>
     ensures same_reference { tx.new.conn.ghost_name ≡ tx.old.conn.ghost_name }
     ensures raised { (runs : _) → HasCleanDisk (state S.Store tx.new.conn.now) → IsTrue (state S.Store tx.old.conn.now).in_transaction → (IsTrue (state S.Store tx.old.conn.now).is_open → OldTables (state S.Store tx.old.conn.now).now runs)
         → OnOk result (Tables (state S.Store tx.new.conn.now).now runs × IsDatabase (state S.Store tx.new.conn.now).now × ((state S.Store tx.new.conn.now).committed ≡ (state S.Store tx.old.conn.now).committed) × IsTrue (state S.Store tx.new.conn.now).in_transaction) }
     ensures keeps { HasCleanDisk (state S.Store tx.new.conn.now) → KeepsCommit (state S.Store tx.old.conn.now) (state S.Store tx.new.conn.now) }
+    ensures runs { HasCleanDisk (state S.Store tx.new.conn.now) → IsTrue (state S.Store tx.old.conn.now).in_transaction
+        → OnOk result (RunInTurn S.Store raise_statements tx.old.conn.now tx.new.conn.now) }
+    ensures cause { HasCleanDisk (state S.Store tx.new.conn.now) → IsTrue (state S.Store tx.old.conn.now).in_transaction
+        → IfErr result (IsStopped S.Store raise_statements tx.old.conn.now tx.new.conn.now) }
     ensures failed { IfErr result IsStoreFault }
     ensures survives { Survives (state S.Store tx.old.conn.now) (state S.Store tx.new.conn.now) (λ _. ⊥) }
 {
@@ -170,7 +237,10 @@ pub(crate) fn renew<S: Alter>(conn: &mut Connection<S>) -> Result<(), StoreFault
     requires { conn.old.in_transaction ≡ false }
     ensures renewed { (runs : _) → StandsInOld (state S.Store conn.old) runs → OnOk result (StandsFor (state S.Store conn.new) runs) }
     ensures kept { (runs : _) → StandsInOld (state S.Store conn.old) runs → OnErr result (StandsInOld (state S.Store conn.new) runs) }
+    ensures earlier { HasCleanDisk (state S.Store conn.new) → HasCleanDisk (state S.Store conn.old) }
     ensures failed { IfErr result IsStoreFault }
+    ensures cause { (runs : _) → StandsInOld (state S.Store conn.old) runs → IsTrue (state S.Store conn.old).is_open → HasCleanDisk (state S.Store conn.new)
+        → IfErr result (IsCausedInside S.Store (HoldsOldRuns S.Store runs) attach_statements raise_statements conn.new) }
     ensures crash { (runs : _) → StandsInOld (state S.Store conn.old) runs → Survives (state S.Store conn.old) (state S.Store conn.new) (Keeps runs) }
     ensures durable { (runs : _) → StandsInOld (state S.Store conn.old) runs → OnOk result (Leaves (state S.Store conn.new) (Keeps runs)) }
 {
@@ -183,6 +253,7 @@ pub(crate) fn renew<S: Alter>(conn: &mut Connection<S>) -> Result<(), StoreFault
 /// Takes the tables of a database that has some, and those of schema 1 to schema 2.
 pub(crate) fn take<S: Alter>(conn: &mut Connection<S>) -> Result<(), StoreFault>
     requires { conn.old.in_transaction ≡ false }
+    ensures earlier { HasCleanDisk (state S.Store conn.new) → HasCleanDisk (state S.Store conn.old) }
     ensures stands { (runs : _) → StandsFor (state S.Store conn.old) runs → StandsFor (state S.Store conn.new) runs }
     ensures crash { (runs : _) → StandsFor (state S.Store conn.old) runs → Survives (state S.Store conn.old) (state S.Store conn.new) (λ _. ⊥) }
     ensures taken { (runs : _) → StandsFor (state S.Store conn.old) runs → HasCleanDisk (state S.Store conn.new) → IfErr result IsStoreFault }
@@ -194,6 +265,10 @@ pub(crate) fn take<S: Alter>(conn: &mut Connection<S>) -> Result<(), StoreFault>
     ensures unknown { (n : ℤ) → SaysSchema n (state S.Store conn.old) → n ≢ pos 1 → n ≢ pos 2 → HasCleanDisk (state S.Store conn.new) → OnOk result ⊥ }
     ensures untouched { (n : ℤ) → SaysSchema n (state S.Store conn.old) → n ≢ pos 1 → HasCleanDisk (state S.Store conn.new) → Rests (state S.Store conn.old) (state S.Store conn.new) }
     ensures unknown_crash { (n : ℤ) → SaysSchema n (state S.Store conn.old) → n ≢ pos 1 → Survives (state S.Store conn.old) (state S.Store conn.new) (λ _. ⊥) }
+    ensures tables { (n : ℤ) → SaysSchema n (state S.Store conn.old) → HasCleanDisk (state S.Store conn.new) → OnOk result (HasTables n (state S.Store conn.old)) }
+    ensures cause { (n : ℤ) → SaysSchema n (state S.Store conn.old) → n ≢ pos 1 → HasCleanDisk (state S.Store conn.new) → IfErr result (IsCaused S.Store schema_statements conn.new) }
+    ensures renewed_cause { (runs : _) → StandsInOld (state S.Store conn.old) runs → HasCleanDisk (state S.Store conn.new)
+        → IfErr result (IsCausedInside S.Store (HoldsOldRuns S.Store runs) attach_statements raise_statements conn.new) }
     ensures refused { IfErr result (λ e. IsStoreFault e ⊎ (e ≡ StoreFault.UnknownSchema)) }
 {
     if is_old(conn)? {
@@ -222,9 +297,15 @@ pub(crate) fn settle<S: Alter>(conn: &mut Connection<S>) -> Result<(), StoreFaul
     ensures untouched { (n : ℤ) → SaysSchema n (state S.Store conn.old) → n ≢ pos 1 → HasCleanDisk (state S.Store conn.new) → OnErr result (Rests (state S.Store conn.old) (state S.Store conn.new)) }
     ensures unknown_crash { (n : ℤ) → SaysSchema n (state S.Store conn.old) → n ≢ pos 1 → OnErr result (Survives (state S.Store conn.old) (state S.Store conn.new) (λ _. ⊥)) }
     ensures taken { (runs : _) → StandsFor (state S.Store conn.old) runs → HasCleanDisk (state S.Store conn.new) → IfErr result IsStoreFault }
+    ensures tables { (n : ℤ) → SaysSchema n (state S.Store conn.old) → HasCleanDisk (state S.Store conn.new) → OnOk result (HasTables n (state S.Store conn.old)) }
+    ensures cause { (n : ℤ) → SaysSchema n (state S.Store conn.old) → n ≢ pos 1 → HasCleanDisk (state S.Store conn.new) → IfErr result (IsCaused S.Store attach_statements conn.new) }
+    ensures made_cause { IsEmpty (state S.Store conn.old) → HasCleanDisk (state S.Store conn.new)
+        → IfErr result (IsCausedInside S.Store (HasNoTable S.Store) attach_statements make_statements conn.new) }
+    ensures renewed_cause { (runs : _) → StandsInOld (state S.Store conn.old) runs → HasCleanDisk (state S.Store conn.new)
+        → IfErr result (IsCausedInside S.Store (HoldsOldRuns S.Store runs) attach_statements raise_statements conn.new) }
     ensures refused { IfErr result (λ e. IsStoreFault e ⊎ (e ≡ StoreFault.UnknownSchema)) }
 {
-    probe(conn)?;
+    probe(conn, "SELECT 1")?;
     if is_blank(conn) {
         create(conn)?;
         return Ok(());

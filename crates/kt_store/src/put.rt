@@ -4,7 +4,7 @@ ghost use Rattle.sqlite.specs.State.{HasCleanDisk, Survives, ExecutesInside};
 ghost use Rattle.sqlite.specs.Held.{state};
 ghost use Rattle.kt_store.specs.Ask.{IsNoMemory, IsStoreFault, IsCaused};
 ghost use Rattle.kt_store.specs.Fault.{Tells};
-ghost use Rattle.kt_store.specs.Transactions.{RunsInside, RunInTurn, StopInTurn, IsStopped, IsCausedInside};
+ghost use Rattle.kt_store.specs.Transactions.{RunsInside, RunInTurn, StopInTurn, IsStopped, HoldsRuns, IsCausedInside};
 ghost use Rattle.kt_store.specs.Runs.{IsRun, IsEntry, IsPair, IsText, pair_row, with_entry, Keeps, kind_code, put_refusal, run_at, AreRuns, entries_of, has_position};
 ghost use Rattle.kt_store.specs.Stands.{StandsFor, Leaves};
 ghost use Rattle.kt_store.specs.Calls.{put_statements, pair_statements, entry_statements};
@@ -174,7 +174,7 @@ pub(crate) fn commit_entry<S: Alter>(
         → OnOk result (StandsFor (state S.Store conn.new) (with_entry run entry.now runs)) }
     ensures kept { (runs : _) → StandsFor (state S.Store conn.old) runs → OnErr result (StandsFor (state S.Store conn.new) runs) }
     ensures failed { IfErr result IsStoreFault }
-    ensures cause { (runs : _) → StandsFor (state S.Store conn.old) runs → IsTrue (state S.Store conn.old).is_open → HasCleanDisk (state S.Store conn.new) → IfErr result (IsCausedInside S.Store runs (put_statements run entry.now) (entry_statements run entry.now) conn.new) }
+    ensures cause { (runs : _) → StandsFor (state S.Store conn.old) runs → IsTrue (state S.Store conn.old).is_open → HasCleanDisk (state S.Store conn.new) → IfErr result (IsCausedInside S.Store (HoldsRuns S.Store runs) (put_statements run entry.now) (entry_statements run entry.now) conn.new) }
     ensures crash { (runs : _) → StandsFor (state S.Store conn.old) runs → (HasCleanDisk (state S.Store conn.old) → (k : _) × (run ≡ suc k) × (k < length runs) × AllByRecursion IsRun (with_entry run entry.now runs))
         → Survives (state S.Store conn.old) (state S.Store conn.new) (Keeps (with_entry run entry.now runs)) }
     ensures durable { (runs : _) → StandsFor (state S.Store conn.old) runs → (HasCleanDisk (state S.Store conn.old) → (k : _) × (run ≡ suc k) × (k < length runs) × AllByRecursion IsRun (with_entry run entry.now runs))
@@ -201,7 +201,7 @@ pub(crate) fn add_entry<S: Alter>(
         → OnOk result (StandsFor (state S.Store conn.new) (with_entry run entry.now runs)) }
     ensures kept { (runs : _) → StandsFor (state S.Store conn.old) runs → OnErr result (StandsFor (state S.Store conn.new) runs) }
     ensures failed { IfErr result IsStoreFault }
-    ensures cause { (runs : _) → StandsFor (state S.Store conn.old) runs → HasCleanDisk (state S.Store conn.new) → IfErr result (IsCausedInside S.Store runs (put_statements run entry.now) (entry_statements run entry.now) conn.new) }
+    ensures cause { (runs : _) → StandsFor (state S.Store conn.old) runs → HasCleanDisk (state S.Store conn.new) → IfErr result (IsCausedInside S.Store (HoldsRuns S.Store runs) (put_statements run entry.now) (entry_statements run entry.now) conn.new) }
     ensures crash { (runs : _) → StandsFor (state S.Store conn.old) runs → (HasCleanDisk (state S.Store conn.old) → (k : _) × (run ≡ suc k) × (k < length runs) × AllByRecursion IsRun (with_entry run entry.now runs))
         → Survives (state S.Store conn.old) (state S.Store conn.new) (Keeps (with_entry run entry.now runs)) }
     ensures durable { (runs : _) → StandsFor (state S.Store conn.old) runs → (HasCleanDisk (state S.Store conn.old) → (k : _) × (run ≡ suc k) × (k < length runs) × AllByRecursion IsRun (with_entry run entry.now runs))

@@ -3,8 +3,8 @@ ghost use Rattle.sqlite.specs.State.{HasCleanDisk, Survives};
 ghost use Rattle.sqlite.specs.Held.{state};
 ghost use Rattle.kt_store.specs.Ask.{IsStoreFault, IsCaused, Rests};
 ghost use Rattle.kt_store.specs.Runs.{new_run, run_at, with_entry, put_refusal, finish, finish_refusal, Keeps, KeepsEither};
-ghost use Rattle.kt_store.specs.Calls.{begin_statements, put_statements, entry_statements, finish_statements, runs_statements, entries_statements};
-ghost use Rattle.kt_store.specs.Transactions.{IsCausedInside};
+ghost use Rattle.kt_store.specs.Calls.{HasTables, attach_statements, make_statements, raise_statements, begin_statements, put_statements, entry_statements, finish_statements, runs_statements, entries_statements};
+ghost use Rattle.kt_store.specs.Transactions.{HoldsRuns, HoldsOldRuns, HasNoTable, IsCausedInside};
 ghost use Rattle.kt_store.specs.Heads.{head_of};
 ghost use Rattle.kt_store.specs.Stands.{IsEmpty, StandsFor, StandsInOld, SaysSchema, Leaves};
 
@@ -80,7 +80,15 @@ impl<S: Alter> Results<S> {
         ensures unknown { (n : ℤ) → SaysSchema n (state S.Store connection) → n ≢ pos 1 → n ≢ pos 2 → IfOk result (λ r. HasCleanDisk (state S.Store r) → ⊥) }
         ensures untouched { (n : ℤ) → SaysSchema n (state S.Store connection) → n ≢ pos 1 → IfErr result (λ e. HasCleanDisk (state S.Store e.1) → Rests (state S.Store connection) (state S.Store e.1)) }
         ensures unknown_crash { (n : ℤ) → SaysSchema n (state S.Store connection) → n ≢ pos 1 → IfErr result (λ e. Survives (state S.Store connection) (state S.Store e.1) (λ _. ⊥)) }
+        // So are tables over which SQLite doesn't understand the queries of a store.
+        ensures tables { (n : ℤ) → SaysSchema n (state S.Store connection) → IfOk result (λ r. HasCleanDisk (state S.Store r) → HasTables n (state S.Store connection)) }
         ensures refused { IfErr result (λ e. IsStoreFault e.0 ⊎ (e.0 ≡ StoreFault.UnknownSchema)) }
+        // `Store` comes only if one of the call's own statements failed, or the transaction that makes the tables.
+        ensures cause { (n : ℤ) → SaysSchema n (state S.Store connection) → n ≢ pos 1 → IfErr result (λ e. HasCleanDisk (state S.Store e.1) → IsCaused S.Store attach_statements e.1 e.0) }
+        ensures made_cause { IsEmpty (state S.Store connection) → IfErr result (λ e. HasCleanDisk (state S.Store e.1) → IsCausedInside S.Store (HasNoTable S.Store) attach_statements make_statements e.1 e.0) }
+        ensures renewed_cause { (runs : _) → StandsInOld (state S.Store connection) runs
+            → IfErr result (λ e. HasCleanDisk (state S.Store e.1) → IsCausedInside S.Store (HoldsOldRuns S.Store runs) attach_statements raise_statements e.1 e.0) }
+        ensures stands_cause { (runs : _) → StandsFor (state S.Store connection) runs → IfErr result (λ e. HasCleanDisk (state S.Store e.1) → IsCaused S.Store attach_statements e.1 e.0) }
     {
         let mut conn = connection;
         leaves_its_runs(&conn);
@@ -138,7 +146,7 @@ impl<S: Alter> Results<S> {
         ensures refused { (runs : _) → StandsFor (state S.Store self.old) runs → HasCleanDisk (state S.Store self.new)
             → IfErr result (λ e. IsStoreFault e ⊎ (put_refusal runs run entry.now ≡ Some e)) }
         // `Store` comes only if one of the call's own statements failed, or its commit.
-        ensures cause { (runs : _) → StandsFor (state S.Store self.old) runs → HasCleanDisk (state S.Store self.new) → IfErr result (IsCausedInside S.Store runs (put_statements run entry.now) (entry_statements run entry.now) self.new) }
+        ensures cause { (runs : _) → StandsFor (state S.Store self.old) runs → HasCleanDisk (state S.Store self.new) → IfErr result (IsCausedInside S.Store (HoldsRuns S.Store runs) (put_statements run entry.now) (entry_statements run entry.now) self.new) }
         // A crash leaves what it left before the call, or the runs with the entry; after Ok nothing else.
         ensures crash { (runs : _) → StandsFor (state S.Store self.old) runs
             → Survives (state S.Store self.old) (state S.Store self.new) (Keeps (with_entry run entry.now runs)) }

@@ -1,20 +1,54 @@
-use Rattle.std.proofs.Common.{inl, inr, w64, SFits, of_z, to_z, ◌∙◌, sym, ap, rules}
-use Rattle.std.proofs.lemmas.Int.{to_z-of_z}
+use Rattle.kt_store.proofs.ProbeLemmas.{understood_before, nothing_then, never_old_number}
+use Rattle.kt_store.proofs.StepLemmas.{rests_then}
+use Rattle.kt_store.proofs.FaultLemmas.{if_same, caused_before, caused_after}
+use Rattle.kt_store.specs.Calls.{table_statements, schema_statements}
+use Rattle.kt_store.specs.Tables.{runs_text, entries_text, pairs_text, meta_text}
+use Rattle.kt_store.specs.Ask.{IsCaused}
+use Rattle.sqlite.proofs.Callers.{unchanged_then}
+use Rattle.sqlite.specs.State.{HasCleanDisk}
+use Rattle.sqlite.specs.Held.{state}
+use Rattle.std.proofs.Common.{inl, [], ◌∷◌, arith, rules}
 use Rattle.kt_store.proofs.attach.is_old.Goals as goal
 
-pub returns-in_err-number-clause-taken : goal.returns-in_err-number-clause-taken
-returns-in_err-number-clause-taken g c n says which clean = let told = c.in_err-number.ensures.taken n says clean in search rules
+pub returns-in_err-old-clause-cause : goal.returns-in_err-old-clause-cause
+returns-in_err-old-clause-cause g c n says clean =
+    let told : IsCaused g.S.Store schema_statements c.says_old.new.conn c.in_err-old.field-0.0 = caused_before g.S.Store ((meta_text, []) ∷ []) table_statements c.says_old.new.conn c.in_err-old.field-0.0 (c.in_err-old.ensures.cause n says clean) in
+    if_same _ c.from_residual.result c.in_err-old.field-0.0 c.from_residual.ensures.1 told
 
-pub returns-then-number-eq1-clause-number : goal.returns-then-number-eq1-clause-number
-returns-then-number-eq1-clause-number g c n says clean =
-    (λ yes. sym (c.in_ok-number.ensures.number n says clean) ∙ sym (to_z-of_z w64 c.in_ok-number.number (let fits : SFits w64 c.in_ok-number.number = search rules in fits)) ∙ ap (to_z w64) c.if-number-eq1.true, λ no. absurd cc)
+pub returns-in_err-old-clause-taken : goal.returns-in_err-old-clause-taken
+returns-in_err-old-clause-taken g c n says which clean = let told = c.in_err-old.ensures.taken n says which clean in search rules
 
-pub returns-then-number-ne2-clause-taken : goal.returns-then-number-ne2-clause-taken
-returns-then-number-ne2-clause-taken g c n says which clean = elim which [
-  | inl one ↦ absurd (c.if-number-eq1.false (ap (of_z w64) (c.in_ok-number.ensures.number n says clean ∙ one)))
-  | inr two ↦ absurd (c.if-number-ne2.true (ap (of_z w64) (c.in_ok-number.ensures.number n says clean ∙ two)))
-]
+pub returns-in_err-find_tables-clause-rests : goal.returns-in_err-find_tables-clause-rests
+returns-in_err-find_tables-clause-rests g c n says clean =
+    rests_then (state g.S.Store c.args.conn.now) (state g.S.Store c.says_old.new.conn) (state g.S.Store c.find_tables.new.conn) (c.in_ok-old.ensures.same n says (omega (arith, clean, c.find_tables.ensures.survives.clean))) (c.in_err-find_tables.ensures.rests clean)
+
+pub returns-in_err-find_tables-clause-crash : goal.returns-in_err-find_tables-clause-crash
+returns-in_err-find_tables-clause-crash g c n says = nothing_then (state g.S.Store c.args.conn.now) (state g.S.Store c.says_old.new.conn) (state g.S.Store c.find_tables.new.conn) (c.says_old.ensures.crash n says) c.find_tables.ensures.survives
+
+pub returns-in_err-find_tables-clause-cause : goal.returns-in_err-find_tables-clause-cause
+returns-in_err-find_tables-clause-cause g c n says clean =
+    let told : IsCaused g.S.Store schema_statements c.find_tables.new.conn c.in_err-find_tables.field-0.0 = caused_after g.S.Store ((meta_text, []) ∷ []) table_statements c.find_tables.new.conn c.in_err-find_tables.field-0.0 (c.in_err-find_tables.ensures.cause clean) in
+    if_same _ c.from_residual-in_err-find_tables.result c.in_err-find_tables.field-0.0 c.from_residual-in_err-find_tables.ensures.1 told
+
+pub returns-clause-same : goal.returns-clause-same
+returns-clause-same g c n says clean = unchanged_then (state g.S.Store c.args.conn.now) (state g.S.Store c.says_old.new.conn) (state g.S.Store c.find_tables.new.conn) (c.in_ok-old.ensures.same n says (omega (arith, clean, c.find_tables.ensures.survives.clean))) (c.in_ok-find_tables.ensures.same clean)
+
+pub returns-clause-rests : goal.returns-clause-rests
+returns-clause-rests g c n says clean = inl (unchanged_then (state g.S.Store c.args.conn.now) (state g.S.Store c.says_old.new.conn) (state g.S.Store c.find_tables.new.conn) (c.in_ok-old.ensures.same n says (omega (arith, clean, c.find_tables.ensures.survives.clean))) (c.in_ok-find_tables.ensures.same clean))
+
+pub returns-clause-crash : goal.returns-clause-crash
+returns-clause-crash g c n says = nothing_then (state g.S.Store c.args.conn.now) (state g.S.Store c.says_old.new.conn) (state g.S.Store c.find_tables.new.conn) (c.says_old.ensures.crash n says) c.find_tables.ensures.survives
 
 pub returns-clause-number : goal.returns-clause-number
-returns-clause-number g c n says clean =
-    (λ yes. absurd cc, λ no. sym (c.in_ok-number.ensures.number n says clean) ∙ sym (to_z-of_z w64 c.in_ok-number.number (let fits : SFits w64 c.in_ok-number.number = search rules in fits)) ∙ ap (to_z w64) c.if-number-ne2.false)
+returns-clause-number g c n says clean = c.in_ok-old.ensures.number n says (omega (arith, clean, c.find_tables.ensures.survives.clean))
+
+pub returns-clause-tables : goal.returns-clause-tables
+returns-clause-tables g c n says clean =
+    let same = c.in_ok-old.ensures.same n says (omega (arith, clean, c.find_tables.ensures.survives.clean)) in
+    let found = c.in_ok-find_tables.ensures.understood clean in
+    let number = c.in_ok-old.ensures.number n says (omega (arith, clean, c.find_tables.ensures.survives.clean)) in
+    record {
+      runs = understood_before (state g.S.Store c.args.conn.now) (state g.S.Store c.says_old.new.conn) runs_text same found.0;
+      entries = understood_before (state g.S.Store c.args.conn.now) (state g.S.Store c.says_old.new.conn) entries_text same found.1;
+      pairs = λ two. understood_before (state g.S.Store c.args.conn.now) (state g.S.Store c.says_old.new.conn) pairs_text same (found.2 (never_old_number c.in_ok-old.old n two number.0));
+    }

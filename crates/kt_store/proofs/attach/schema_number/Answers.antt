@@ -1,4 +1,8 @@
-use Rattle.std.proofs.Common.{inl, ◌∙◌, [], w64, SFits, slice_get, sym, ap, arith, rules}
+use Rattle.kt_store.proofs.FaultLemmas.{first_failed, starved, only_row}
+use Rattle.sqlite_value.specs.Order.{column}
+use Rattle.sqlite.specs.Order.{Row}
+use Rattle.sqlite.specs.declared.types.Value.TheVariants.{Int}
+use Rattle.std.proofs.Common.{inl, ◌∙◌, [], w64, SFits, slice_get, sym, ap, arith, rules, ◌≡◌, ◌∷◌, ◌<◌, length, subst}
 use Rattle.std.proofs.lemmas.Int.{to_z-of_z}
 use Rattle.std.specs.Option.{option_copied}
 use Rattle.kt_store.specs.Tables.{meta_text}
@@ -47,3 +51,16 @@ returns-in_err-number-clause-crash g c n says =
 pub returns-clause-crash : goal.returns-clause-crash
 returns-clause-crash g c n says =
     asked_leaves g.S.Store c.args.conn.now c.ask.new.conn (λ k. omega (arith, k, c.ask.ensures.survives.clean)) meta_text (says_plain n _ says) [] c.ask.ensures.survives
+
+pub returns-in_err-rows-clause-cause : goal.returns-in_err-rows-clause-cause
+returns-in_err-rows-clause-cause g c n says clean =
+    let told = first_failed g.S.Store (meta_text, []) [] c.args.conn.now c.ask.new.conn _ (c.in_err-rows.ensures.cause clean) in
+    search rules
+
+pub returns-in_err-number-clause-cause : goal.returns-in_err-number-clause-cause
+returns-in_err-number-clause-cause g c n says clean =
+    let are = asked_meta g.S.Store c.args.conn.now c.ask.new.conn (λ k. omega (arith, k, c.ask.ensures.survives.clean)) n c.in_ok-rows.rows.items says clean (c.in_ok-rows.ensures.rows clean) in
+    let first : c.in-Some.row.now ≡ Int n ∷ [] = only_row (Int n) c.in_ok-rows.rows.items c.in-Some.row.now are (ap (λ l. slice_get l 0) (sym c.deref.ensures.value) ∙ sym c.first.ensures.value ∙ ap option_copied c.in-Some.is) in
+    let there : 0 < length c.in-Some.row.now = subst (λ (l : Row). 0 < length l) (sym first) (omega arith) in
+    let told = starved g.S.Store ((meta_text, []) ∷ []) c.ask.new.conn _ (c.in_err-number.ensures.read n there (ap (λ l. column l 0) first)) in
+    search rules

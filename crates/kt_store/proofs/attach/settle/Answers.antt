@@ -1,14 +1,18 @@
-use Rattle.std.proofs.Common.{rules, [], arith}
+use Rattle.kt_store.proofs.ProbeLemmas.{tables_before}
+use Rattle.kt_store.specs.Tables.{probe_text}
+use Rattle.kt_store.specs.Calls.{schema_statements, attach_statements, make_statements, raise_statements}
+use Rattle.kt_store.specs.Transactions.{HoldsOldRuns, HasNoTable}
+use Rattle.std.proofs.Common.{rules, [], arith, ◌∷◌, IsTrue, pos}
 use Rattle.sqlite.specs.Held.{state}
 use Rattle.sqlite.specs.State.{HasCleanDisk}
 use Rattle.sqlite.proofs.StateLemmas.{survives_then}
 use Rattle.kt_store.specs.Runs.{Keeps}
 use Rattle.sqlite.specs.State.{Survives}
-use Rattle.kt_store.specs.Ask.{Rests}
+use Rattle.kt_store.specs.Ask.{Rests, IsCaused}
 use Rattle.kt_store.specs.Stands.{StandsFor, StandsInOld, IsEmpty, SaysSchema}
 use Rattle.kt_store.proofs.StepLemmas.{rests_then}
-use Rattle.kt_store.proofs.MetaLemmas.{still_says, still_stands, still_old, empty_blank}
-use Rattle.kt_store.proofs.FaultLemmas.{on_err}
+use Rattle.kt_store.proofs.MetaLemmas.{still_says, still_stands, still_old, empty_blank, says_one, says_filled, still_empty}
+use Rattle.kt_store.proofs.FaultLemmas.{on_err, if_same, first_failed, caused_after, caused_outside}
 use Rattle.kt_store.proofs.attach.settle.Goals as goal
 
 pub returns-clause-made : goal.returns-clause-made
@@ -111,3 +115,36 @@ returns-clause-renewed_crash g c runs has =
     let held : StandsInOld (state g.S.Store c.probe.new.conn) runs = still_old (state g.S.Store c.args.conn.now) (state g.S.Store c.probe.new.conn) (λ k. omega (arith, k, c.probe.ensures.survives.clean)) (λ k. c.in_ok-probe.ensures.same k) runs has in
     survives_then (state g.S.Store c.args.conn.now) (state g.S.Store c.probe.new.conn) (state g.S.Store c.take.new.conn) (λ _. ⊥) (Keeps runs) (Keeps runs) (λ _ db none. absurd none) (λ _ db kept. kept)
     c.probe.ensures.survives (c.take.ensures.renewed_crash runs held)
+
+pub returns-in_err-probe-clause-cause : goal.returns-in_err-probe-clause-cause
+returns-in_err-probe-clause-cause g c n says other clean =
+    let told : IsCaused g.S.Store attach_statements c.probe.new.conn c.in_err-probe.field-0.0 = first_failed g.S.Store (probe_text, []) schema_statements c.args.conn.now c.probe.new.conn _ (c.in_err-probe.ensures.cause clean) in
+    if_same _ c.from_residual.result c.in_err-probe.field-0.0 c.from_residual.ensures.1 told
+
+pub returns-in_err-probe-clause-made_cause : goal.returns-in_err-probe-clause-made_cause
+returns-in_err-probe-clause-made_cause g c empty clean =
+    let first : IsCaused g.S.Store attach_statements c.probe.new.conn c.in_err-probe.field-0.0 = first_failed g.S.Store (probe_text, []) schema_statements c.args.conn.now c.probe.new.conn _ (c.in_err-probe.ensures.cause clean) in
+    let told = caused_outside g.S.Store (HasNoTable g.S.Store) [] attach_statements make_statements c.probe.new.conn c.in_err-probe.field-0.0 first in
+    if_same _ c.from_residual.result c.in_err-probe.field-0.0 c.from_residual.ensures.1 told
+
+pub returns-in_err-probe-clause-renewed_cause : goal.returns-in_err-probe-clause-renewed_cause
+returns-in_err-probe-clause-renewed_cause g c runs has clean =
+    let first : IsCaused g.S.Store attach_statements c.probe.new.conn c.in_err-probe.field-0.0 = first_failed g.S.Store (probe_text, []) schema_statements c.args.conn.now c.probe.new.conn _ (c.in_err-probe.ensures.cause clean) in
+    let told = caused_outside g.S.Store (HoldsOldRuns g.S.Store runs) [] attach_statements raise_statements c.probe.new.conn c.in_err-probe.field-0.0 first in
+    if_same _ c.from_residual.result c.in_err-probe.field-0.0 c.from_residual.ensures.1 told
+
+pub returns-in_err-take-clause-cause : goal.returns-in_err-take-clause-cause
+returns-in_err-take-clause-cause g c n says other clean =
+    let told : IsCaused g.S.Store attach_statements c.take.new.conn c.in_err-take.field-0.0 = caused_after g.S.Store ((probe_text, []) ∷ []) schema_statements c.take.new.conn c.in_err-take.field-0.0 (c.in_err-take.ensures.cause n (still_says (state g.S.Store c.args.conn.now) (state g.S.Store c.probe.new.conn) (λ k. omega (arith, k, c.probe.ensures.survives.clean)) (λ k. c.in_ok-probe.ensures.same k) n says) other clean) in
+    if_same _ c.from_residual-in_err-take.result c.in_err-take.field-0.0 c.from_residual-in_err-take.ensures.1 told
+
+pub returns-in_err-take-clause-made_cause : goal.returns-in_err-take-clause-made_cause
+returns-in_err-take-clause-made_cause g c empty clean =
+    let none : StandsFor (state g.S.Store c.probe.new.conn) [] = (λ clean opened. absurd (c.is_blank.ensures.filled c.if-is_blank.false (empty_blank (state g.S.Store c.args.conn.now) (state g.S.Store c.probe.new.conn) (λ k. omega (arith, k, c.probe.ensures.survives.clean)) (λ k. c.in_ok-probe.ensures.same k) empty clean))) in
+    let early : HasCleanDisk (state g.S.Store c.probe.new.conn) = omega (arith, clean, (c.take.ensures.crash [] none).clean) in
+    absurd (c.is_blank.ensures.filled c.if-is_blank.false (empty_blank (state g.S.Store c.args.conn.now) (state g.S.Store c.probe.new.conn) (λ k. omega (arith, k, c.probe.ensures.survives.clean)) (λ k. c.in_ok-probe.ensures.same k) empty early))
+
+pub returns-clause-tables : goal.returns-clause-tables
+returns-clause-tables g c n says clean =
+    let early : HasCleanDisk (state g.S.Store c.probe.new.conn) = c.take.ensures.earlier clean in
+    tables_before (state g.S.Store c.args.conn.now) (state g.S.Store c.probe.new.conn) n (c.in_ok-probe.ensures.same early) (c.in_ok-take.ensures.tables n (still_says (state g.S.Store c.args.conn.now) (state g.S.Store c.probe.new.conn) (λ k. omega (arith, k, c.probe.ensures.survives.clean)) (λ k. c.in_ok-probe.ensures.same k) n says) clean)

@@ -1,9 +1,12 @@
-use Rattle.std.proofs.Common.{inl, inr, pos, [], rules, arith, refl}
+use Rattle.kt_store.specs.Tables.{probe_text}
+use Rattle.kt_store.specs.Calls.{schema_statements, attach_statements, raise_statements}
+use Rattle.kt_store.specs.Transactions.{HoldsOldRuns, IsCausedInside}
+use Rattle.std.proofs.Common.{inl, inr, pos, [], rules, arith, refl, ◌∷◌, IsTrue}
 use Rattle.sqlite.specs.Held.{state}
 use Rattle.sqlite.proofs.StateLemmas.{survives_then, survives_weaker}
 use Rattle.kt_store.specs.Runs.{Keeps}
 use Rattle.kt_store.specs.Stands.{StandsInOld}
-use Rattle.kt_store.proofs.FaultLemmas.{on_err}
+use Rattle.kt_store.proofs.FaultLemmas.{on_err, if_same, caused_outside}
 use Rattle.kt_store.proofs.StepLemmas.{rests}
 use Rattle.kt_store.proofs.MetaLemmas.{says_one, says_two, still_old}
 use Rattle.kt_store.proofs.RenewLemmas.{rests_old, one_is_not_two, two_is_not_one, never_old, never_clean, never_stands, never_survives}
@@ -108,3 +111,24 @@ returns-else-branch-clause-untouched g c n says other clean = c.is_old.ensures.r
 
 pub returns-else-branch-clause-unknown_crash : goal.returns-else-branch-clause-unknown_crash
 returns-else-branch-clause-unknown_crash g c n says other = c.is_old.ensures.crash n says
+
+pub returns-in_err-is_old-clause-cause : goal.returns-in_err-is_old-clause-cause
+returns-in_err-is_old-clause-cause g c n says other clean = let told = c.in_err-is_old.ensures.cause n says clean in search rules
+
+pub returns-in_err-is_old-clause-renewed_cause : goal.returns-in_err-is_old-clause-renewed_cause
+returns-in_err-is_old-clause-renewed_cause g c runs has clean =
+    let told : IsCausedInside g.S.Store (HoldsOldRuns g.S.Store runs) attach_statements raise_statements c.is_old.new.conn c.in_err-is_old.field-0.0 = caused_outside g.S.Store (HoldsOldRuns g.S.Store runs) ((probe_text, []) ∷ []) schema_statements raise_statements c.is_old.new.conn c.in_err-is_old.field-0.0 (c.in_err-is_old.ensures.cause (pos 1) (says_one (state g.S.Store c.args.conn.now) runs has) clean) in
+    if_same _ c.from_residual.result c.in_err-is_old.field-0.0 c.from_residual.ensures.1 told
+
+pub returns-in_err-renew-clause-cause : goal.returns-in_err-renew-clause-cause
+returns-in_err-renew-clause-cause g c n says other clean = absurd (other ((c.in_ok-is_old.ensures.number n says (c.renew.ensures.earlier clean)).0 c.if-branch.true))
+
+pub returns-in_err-renew-clause-renewed_cause : goal.returns-in_err-renew-clause-renewed_cause
+returns-in_err-renew-clause-renewed_cause g c runs has clean =
+    let held : StandsInOld (state g.S.Store c.is_old.new.conn) runs = still_old (state g.S.Store c.args.conn.now) (state g.S.Store c.is_old.new.conn) (λ k. omega (arith, k, (c.is_old.ensures.crash (pos 1) (says_one (state g.S.Store c.args.conn.now) runs has)).clean)) (λ k. c.in_ok-is_old.ensures.same (pos 1) (says_one (state g.S.Store c.args.conn.now) runs has) k) runs has in
+    let opened : IsTrue (state g.S.Store c.is_old.new.conn).is_open = (c.in_ok-is_old.ensures.same (pos 1) (says_one (state g.S.Store c.args.conn.now) runs has) (c.renew.ensures.earlier clean)).0.is_open in
+    let told = c.in_err-renew.ensures.cause runs held opened clean in
+    if_same _ c.from_residual-in_err-renew.result c.in_err-renew.field-0.0 c.from_residual-in_err-renew.ensures.1 told
+
+pub returns-in_ok-renew-clause-tables : goal.returns-in_ok-renew-clause-tables
+returns-in_ok-renew-clause-tables g c n says clean = c.in_ok-is_old.ensures.tables n says (c.renew.ensures.earlier clean)

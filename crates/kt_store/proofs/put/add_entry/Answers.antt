@@ -6,6 +6,7 @@ use Rattle.kt_store.specs.Runs.{Keeps, with_entry, entry_row}
 use Rattle.kt_store.specs.Stands.{StandsFor}
 use Rattle.kt_store.specs.Calls.{entry_statements}
 use Rattle.kt_store.specs.Tables.{put_text}
+use Rattle.kt_store.specs.Transactions.{HoldsRuns}
 use Rattle.kt_store.proofs.FaultLemmas.{if_told, on_err}
 use Rattle.kt_store.proofs.StepLemmas.{not_run, rests}
 use Rattle.kt_store.proofs.MetaLemmas.{still_stands}
@@ -20,7 +21,7 @@ returns-in_err-statement-clause-kept g c runs has =
 pub returns-in_err-statement-clause-cause : goal.returns-in_err-statement-clause-cause
 returns-in_err-statement-clause-cause g c runs has clean =
     if_told c.from_residual.result c.in_err-statement.field-0.0 c.from_residual.ensures.1 (λ fault tells.
-    prepare_causes g.S.Store runs c.args.run c.args.entry.now (entry_statements c.args.run c.args.entry.now) c.args.conn.now c.prepare.new.self c.in_err-statement.field-0.0 fault
+    prepare_causes g.S.Store (HoldsRuns g.S.Store runs) c.args.run c.args.entry.now (entry_statements c.args.run c.args.entry.now) c.args.conn.now c.prepare.new.self c.in_err-statement.field-0.0 fault
     (c.in_err-statement.ensures.err clean (entry_row c.args.run c.args.entry.now)) tells)
 
 pub returns-in_err-commit_entry-clause-cause : goal.returns-in_err-commit_entry-clause-cause

@@ -5,7 +5,7 @@ use Rattle.sqlite.specs.Effect.{IsDatabase}
 use Rattle.kt_store.specs.Runs.{Keeps, with_entry}
 use Rattle.kt_store.specs.Stands.{IsStore, StandsFor, Leaves}
 use Rattle.kt_store.specs.Calls.{put_statements, entry_statements}
-use Rattle.kt_store.specs.Transactions.{begun, IsCausedInside}
+use Rattle.kt_store.specs.Transactions.{begun, HoldsRuns, IsCausedInside}
 use Rattle.kt_store.proofs.BeginLemmas.{leaves_commit}
 use Rattle.kt_store.proofs.FaultLemmas.{if_told, on_err}
 use Rattle.kt_store.proofs.FillLemmas.{in_turn, stopped}
@@ -31,10 +31,10 @@ returns-in_err-fill-clause-cause g c runs has opened =
     let end = c.drop-tx.new.self.0 in
     let starts = c.transaction-tx.ensures.begun in
     let same : end ≡ c.conn-1.given.0 = search rules in
-    subst (λ h. HasCleanDisk (state g.S.Store h) → IfErr c.from_residual.result (IsCausedInside g.S.Store runs (put_statements c.args.run c.args.entry.now) (entry_statements c.args.run c.args.entry.now) h)) same (λ clean.
+    subst (λ h. HasCleanDisk (state g.S.Store h) → IfErr c.from_residual.result (IsCausedInside g.S.Store (HoldsRuns g.S.Store runs) (put_statements c.args.run c.args.entry.now) (entry_statements c.args.run c.args.entry.now) h)) same (λ clean.
     let early : HasCleanDisk (state g.S.Store left) = omega (arith, clean, c.drop-tx.ensures.survives.clean) in
     let first : HasCleanDisk (state g.S.Store old) = omega (arith, early, (rw starts at c.fill.ensures.survives).clean) in
-    let told = stop_causes g.S.Store runs (put_statements c.args.run c.args.entry.now) (entry_statements c.args.run c.args.entry.now) old left end _ (has first opened) (rw starts at (c.in_err-fill.ensures.cause early (rw starts refl))) (c.drop-tx.ensures.undone clean) in
+    let told = stop_causes g.S.Store (HoldsRuns g.S.Store runs) (put_statements c.args.run c.args.entry.now) (entry_statements c.args.run c.args.entry.now) old left end _ (has first opened) (rw starts at (c.in_err-fill.ensures.cause early (rw starts refl))) (c.drop-tx.ensures.undone clean) in
     search rules)
 
 pub returns-in_err-commit-clause-kept : goal.returns-in_err-commit-clause-kept
@@ -58,13 +58,13 @@ returns-in_err-commit-clause-cause g c runs has opened =
     let end = c.commit.new.self.0 in
     let starts = c.transaction-tx.ensures.begun in
     let same : end ≡ c.conn-2-1.given.0 = search rules in
-    subst (λ h. HasCleanDisk (state g.S.Store h) → IfErr c.from_residual-in_err-commit.result (IsCausedInside g.S.Store runs (put_statements c.args.run c.args.entry.now) (entry_statements c.args.run c.args.entry.now) h)) same (λ clean.
+    subst (λ h. HasCleanDisk (state g.S.Store h) → IfErr c.from_residual-in_err-commit.result (IsCausedInside g.S.Store (HoldsRuns g.S.Store runs) (put_statements c.args.run c.args.entry.now) (entry_statements c.args.run c.args.entry.now) h)) same (λ clean.
     let early : HasCleanDisk (state g.S.Store left) = omega (arith, clean, c.commit.ensures.survives.clean) in
     let first : HasCleanDisk (state g.S.Store old) = omega (arith, early, (rw starts at c.fill.ensures.survives).clean) in
     let ran = rw starts at (c.in_ok-fill.ensures.runs early (rw starts refl)) in
     let turn = in_turn g.S.Store (entry_statements c.args.run c.args.entry.now) (begun old) left ran in
     if_told c.from_residual-in_err-commit.result c.in_err-commit.field-0.0 c.from_residual-in_err-commit.ensures.1 (λ fault tells.
-    commit_causes g.S.Store runs (put_statements c.args.run c.args.entry.now) (entry_statements c.args.run c.args.entry.now) old left end c.in_err-commit.field-0.0 fault (has first opened) ran
+    commit_causes g.S.Store (HoldsRuns g.S.Store runs) (put_statements c.args.run c.args.entry.now) (entry_statements c.args.run c.args.entry.now) old left end c.in_err-commit.field-0.0 fault (has first opened) ran
     (store_fails (state g.S.Store left) (state g.S.Store end) c.in_err-commit.field-0.0 (turn.1 refl) (c.in_err-commit.ensures.err clean)) tells))
 
 pub returns-in_err-commit-clause-crash : goal.returns-in_err-commit-clause-crash
