@@ -6,8 +6,9 @@
 # KYUA names the program to measure; else kyua.sh builds this checkout's. COUNT and ROUNDS may say how many programs, and how often.
 # It wants cc and GNU time. Nothing is written but in a scratch folder and in this checkout's crates/*/out.
 set -eu
-. "$(dirname "$0")/../program.sh"
+. "$(dirname "$0")/../scratch.sh"
 . "$(dirname "$0")/../measure.sh"
+find_program
 count=${COUNT:-1000}
 rounds=${ROUNDS:-3}
 

@@ -3,8 +3,9 @@
 # 10,000 trivial programs at widths 1, 4 and 8 with results kept, beside another `kyua` where one is installed.
 # KYUA names the program to measure; else kyua.sh builds this checkout's. It wants GNU time.
 set -eu
-. "$(dirname "$0")/../program.sh"
+. "$(dirname "$0")/../scratch.sh"
 . "$(dirname "$0")/../measure.sh"
+find_program
 
 # Measures a command of this program and of the other one.
 both() {

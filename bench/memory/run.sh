@@ -4,7 +4,8 @@
 # what is recorded is what was told. Each sweep goes on until a run has come to its end with nothing refused.
 # KYUA names the program; else kyua.sh builds this checkout's. Nothing is written but in a scratch folder.
 set -eu
-. "$(dirname "$0")/../program.sh"
+. "$(dirname "$0")/../scratch.sh"
+find_program
 cd "$scratch"
 cc -O2 -shared -fPIC -o refuse.so "$here/bench/memory/refuse.c" -ldl
 cp "$here"/examples/arithmetic_test "$here"/examples/sort_test "$here"/examples/counting_test .

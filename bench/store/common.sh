@@ -1,6 +1,6 @@
-# What the scripts of this folder share beside program.sh's: they work in the scratch folder, and make a Kyuafile of short
-# programs there.
-. "$(dirname "$0")/../program.sh"
+# What the scripts of this folder share: they work in the scratch folder, and make a Kyuafile of short programs there, or results
+# of schema 1.
+. "$(dirname "$0")/../scratch.sh"
 cd "$scratch"
 
 # Makes so many programs that return 0, c0 and up, and the Kyuafile that registers them.
@@ -14,4 +14,18 @@ make_suite() {
         echo "plain_test_program{name='c$i'}" >> Kyuafile
         i=$((i + 1))
     done
+}
+
+# Makes the file FILE by the real sqlite3, with the tables of schema 1 and one finished run of so many entries.
+#   make_old_results FILE COUNT
+make_old_results() {
+    sqlite3 "$1" <<SQL
+CREATE TABLE meta (name TEXT PRIMARY KEY, value INTEGER NOT NULL) STRICT;
+CREATE TABLE runs (id INTEGER PRIMARY KEY, started INTEGER NOT NULL, total INTEGER NOT NULL, finished INTEGER NOT NULL CHECK (finished IN (0, 1))) STRICT;
+CREATE TABLE entries (run INTEGER NOT NULL REFERENCES runs (id), position INTEGER NOT NULL, program TEXT NOT NULL, case_name TEXT NOT NULL, kind INTEGER NOT NULL CHECK (kind BETWEEN 0 AND 4), reason TEXT NOT NULL, started INTEGER NOT NULL, millis INTEGER NOT NULL, body_out BLOB NOT NULL, body_err BLOB NOT NULL, clean_out BLOB NOT NULL, clean_err BLOB NOT NULL, PRIMARY KEY (run, position)) STRICT;
+INSERT INTO meta (name, value) VALUES ('schema', 1);
+INSERT INTO runs VALUES (1, 1700000000123, $2, 1);
+WITH RECURSIVE c(x) AS (SELECT 0 UNION ALL SELECT x + 1 FROM c WHERE x + 1 < $2)
+INSERT INTO entries SELECT 1, x, 'program' || x, 'main', 3, 'x<y', 1700000000123, 12, X'68690A', X'', X'', X'' FROM c;
+SQL
 }

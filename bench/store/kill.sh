@@ -4,6 +4,7 @@
 # again; the real sqlite3 looks at it after that. It wants sqlite3.
 set -eu
 . "$(dirname "$0")/common.sh"
+find_program
 
 make_suite 200
 printf "syntax(2)\ntest_suite('s')\nplain_test_program{name='c0'}\n" > One

@@ -3,19 +3,13 @@
 # kyua, and is whole afterwards. It wants sqlite3.
 set -eu
 . "$(dirname "$0")/common.sh"
+find_program
 
-sqlite3 made.db <<'SQL'
-CREATE TABLE meta (name TEXT PRIMARY KEY, value INTEGER NOT NULL) STRICT;
-CREATE TABLE runs (id INTEGER PRIMARY KEY, started INTEGER NOT NULL, total INTEGER NOT NULL, finished INTEGER NOT NULL CHECK (finished IN (0, 1))) STRICT;
-CREATE TABLE entries (run INTEGER NOT NULL REFERENCES runs (id), position INTEGER NOT NULL, program TEXT NOT NULL, case_name TEXT NOT NULL, kind INTEGER NOT NULL CHECK (kind BETWEEN 0 AND 4), reason TEXT NOT NULL, started INTEGER NOT NULL, millis INTEGER NOT NULL, body_out BLOB NOT NULL, body_err BLOB NOT NULL, clean_out BLOB NOT NULL, clean_err BLOB NOT NULL, PRIMARY KEY (run, position)) STRICT;
-INSERT INTO meta (name, value) VALUES ('schema', 1);
-INSERT INTO runs VALUES (1, 1700000000123, 1, 1);
-INSERT INTO entries VALUES (1, 0, 'a', 'main', 3, 'x<y', 1700000000123, 12, X'68690A', X'', X'', X'');
-SQL
+make_old_results made.db 1
 
 cat > wanted <<'TEXT'
 ===> Failed tests
-a:main  ->  failed: x<y  [0.012s]
+program0:main  ->  failed: x<y  [0.012s]
 ===> Summary
 Run 1, started 2023-11-14T22:13:20.123Z
 Test cases: 1 total, 0 skipped, 0 expected failures, 0 broken, 1 failed

@@ -3,20 +3,12 @@
 # twice as many files should take about twice the time. Then how long another `kyua list`, where one is installed, takes for the
 # same files. It works in a scratch copy of the checkout.
 set -eu
-here=$(cd "$(dirname "$0")/../.." && pwd)
-scratch=$(mktemp -d)
-trap 'rm -rf "$scratch"' EXIT
-mkdir "$scratch/crates" "$scratch/tree"
-cp "$here/HANDLES" "$scratch/"
-for crate in kt_base kt_script kt_config kt_metadata kt_suite; do
-  grep "^$crate:" "$here/crates.txt" >> "$scratch/crates.txt"
-  cp -a "$here/crates/$crate" "$scratch/crates/"
-done
-echo 'suite_bench: kt_base kt_metadata kt_suite' >> "$scratch/crates.txt"
-mkdir -p "$scratch/crates/suite_bench/src"
-cp "$here/bench/suite/main.txt" "$scratch/crates/suite_bench/src/main.rt"
+. "$(dirname "$0")/../scratch.sh"
+make_checkout suite 'kt_base kt_metadata kt_suite' kt_base kt_script kt_config kt_metadata kt_suite
+build_bench suite
 
 # A root Kyuafile that includes 1,000 others, each with ten programs.
+mkdir "$scratch/tree"
 cd "$scratch/tree"
 echo 'syntax(2)' > Kyuafile
 for directory in $(seq 0 999); do
@@ -32,11 +24,7 @@ for directory in $(seq 0 999); do
   } > "directory_$directory/Kyuafile"
 done
 
-cd "$scratch/crates/suite_bench"
-# rt runs what it linked, in an empty folder: then it finds no files.
-rt run --jobs 1 > "$scratch/run.log" 2>&1 || { tail -5 "$scratch/run.log"; exit 1; }
-cd "$scratch/tree"
-"$scratch/crates/suite_bench/out/suite_bench"
+"$bench"
 if other=$(command -v kyua); then
   echo "$other list, of the same files, with its start and its printing:"
   for _ in 1 2 3; do
