@@ -1,0 +1,74 @@
+# The part of an ATF test program (atf-test-program(1)) that the programs of this suite need, over the words of lib.sh:
+#
+#   -l                               prints the cases, each with what it declares
+#   -rFILE -sDIRECTORY NAME          runs a case, whose result goes into FILE
+#   -sDIRECTORY NAME:cleanup         cleans up after a case
+#   -vNAME=VALUE                     is a variable of the test suite
+#
+# A program sources this file, declares its cases, and ends with `atf`.
+. "$(dirname "$0")/lib.sh"
+listing='Content-Type: application/X-atf-tp; version="1"'
+result=/dev/null
+asked=
+for word; do
+    case $word in
+        -l) asked=-l ;;
+        -r*) result=${word#-r} ;;
+        -s* | -v*) ;;
+        *) asked=$word ;;
+    esac
+done
+
+# test_case NAME [KEY: VALUE]..: declares a case, which the function NAME runs, and what it says of itself.
+test_case() {
+    listing="$listing
+
+ident: $1"
+    shift
+    for line; do
+        listing="$listing
+$line"
+    done
+}
+
+# row NAME WORD..: declares a case, which the function that `atf` names runs with these words.
+row() {
+    test_case "$1"
+    if [ "$1" = "$asked" ]; then
+        shift
+        # The words stand where the shell keeps them apart.
+        word1=${1-} word2=${2-} word3=${3-} word4=${4-}
+    fi
+}
+
+# skip WORD..: ends the case, which is skipped for this reason.
+skip() {
+    trap - EXIT
+    echo "skipped: $*" > "$result"
+    exit 0
+}
+
+# conclude STATUS: writes the result of a case that ended so.
+conclude() {
+    trap - EXIT
+    if [ "$1" = 0 ]; then
+        echo passed > "$result"
+        exit 0
+    fi
+    printf 'failed: %s\n' "$(printf '%s' "$why" | tr '\n' ' ')" > "$result"
+    exit 1
+}
+
+# atf [FUNCTION]: does what the command line asks for. With FUNCTION it runs the rows.
+atf() {
+    case $asked in
+        -l) printf '%s\n' "$listing"; exit 0 ;;
+        *:cleanup) "${asked%:cleanup}_cleanup"; exit 0 ;;
+    esac
+    trap 'conclude $?' EXIT
+    if [ $# = 0 ]; then
+        "$asked"
+    else
+        "$1" "$word1" "$word2" "$word3" "$word4"
+    fi
+}
