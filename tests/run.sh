@@ -172,11 +172,14 @@ for folder in "$suite" "$suite/endings"; do
 done
 compare "$suite" 0
 compare "$suite/endings" 1
-# What the cases started is over, too.
+# What the cases started is over, too, two seconds later at the latest.
 if [ -r /proc/self/environ ]; then
-    sleep 0.2
-    left=$(env -u SUITE_ROOM grep -lz "^SUITE_ROOM=$room\$" /proc/[0-9]*/environ 2> /dev/null |
-        grep -v -e "^/proc/$$/" || true)
+    for _ in 1 2 3 4 5 6 7 8 9 10; do
+        sleep 0.2
+        left=$(env -u SUITE_ROOM grep -lz "^SUITE_ROOM=$room\$" /proc/[0-9]*/environ 2> /dev/null |
+            grep -v -e "^/proc/$$/" || true)
+        [ -n "$left" ] || break
+    done
     for process in $left; do
         words=$({ tr "\0" " " < "${process%/environ}/cmdline"; } 2> /dev/null || true)
         [ -z "$words" ] || wrong "a process is left: $words"
