@@ -1,54 +1,71 @@
 #!/usr/bin/env bash
 # Builds the program kyua in crates/kyua/out, unless it is there and newer than all its sources.
-# Building proves every crate below it first: all processors work, and standard error gets a line for each crate.
+# Building proves every crate below it first, each as soon as those that it stands on are proved. Standard error gets a line
+# for each crate.
 # rt is taken from PATH, else from the kit that RATTLE_KIT names. Exits with 2 if the build fails.
 set -eu -o pipefail
 top=$(cd "$(dirname "$0")" && pwd)
 . "$top/sources.sh"
-log=$top/crates/kyua/out/build.log
-begun=$top/crates/kyua/out/begun
-# These wait for one another, so each is proved alone, by all processors. All others are proved side by side before.
-chain='kt_sched kt_child kt_plan kt_cli'
-# These are no part of the program.
-apart='kt_play kt_rows'
+out=$top/crates/kyua/out
+log=$out/build.log
+begun=$out/begun
+rooms=$out/rooms
+# The longest chain of crates that wait for one another: these go before all that run beside them.
+chain=' kt_base kt_script kt_config kt_metadata kt_suite kt_child kt_cli '
 
 give_up() {
   tail -n 40 "$log" >&2
   exit 2
 }
 
-# The lines of crates.txt whose crates are not named.
-lines_without() {
-  local names=" $* " name
-  while IFS= read -r line; do
-    name=${line%%[ :]*}
-    case $line in '#'*|'') continue ;; esac
-    case $names in *" $name "*) ;; *) printf '%s\n' "$line" ;; esac
-  done < "$top/crates.txt"
+# Prints the crates that a crate stands on, the lowest first.
+below() {
+  crates_up_to "$1" | grep -v "^$1\$" || true
 }
 
-# Proves the crates that don't wait for a long one, side by side, in a copy of the checkout, and takes over what rt made there.
-prove_side_by_side() {
-  local room=$top/crates/kyua/out/low name part status=0
-  rm -rf "$room"
+# Makes a checkout of a crate and those below it alone: two runs of rt in one checkout wait for each other.
+# What rt made of the crates below is linked, and what it kept of this crate moves along: it is large.
+furnish() {
+  local name=$1 room=$rooms/$1 other part
   mkdir -p "$room/crates"
-  # shellcheck disable=SC2086
-  lines_without $chain $apart kyua > "$room/crates.txt"
   cp "$top/HANDLES" "$room"
-  sed 's/[ :].*//' "$room/crates.txt" | while IFS= read -r name; do
-    mkdir "$room/crates/$name"
-    for part in "$top/crates/$name"/*; do
-      # What rt kept moves along: it is large.
-      if [ "${part##*/}" = out ]; then mv "$part" "$room/crates/$name"; else cp -a "$part" "$room/crates/$name"; fi
+  : > "$room/crates.txt"
+  for other in $(below "$name") "$name"; do
+    grep "^$other:" "$top/crates.txt" >> "$room/crates.txt"
+    mkdir "$room/crates/$other"
+    for part in src specs proofs; do
+      [ ! -d "$top/crates/$other/$part" ] || cp -a "$top/crates/$other/$part" "$room/crates/$other"
     done
   done
-  (cd "$room" && rt all check --jobs "$(nproc)" </dev/null) 2>&1 | tee -a "$log" |
-    sed -un -e '/^== summary/d' -e 's/^== \(.*\)/build.sh: proved \1/p' >&2 || status=1
-  sed 's/[ :].*//' "$room/crates.txt" | while IFS= read -r name; do
-    [ ! -d "$room/crates/$name/out" ] || mv "$room/crates/$name/out" "$top/crates/$name/out"
+  for other in $(below "$name"); do
+    mkdir "$room/crates/$other/out"
+    cp -al "$top/crates/$other/out/rlib" "$room/crates/$other/out"
   done
-  rm -rf "$room"
-  return $status
+  [ ! -d "$top/crates/$name/out" ] || mv "$top/crates/$name/out" "$room/crates/$name"
+}
+
+# Proves one crate when those below it are proved. A file in the rooms says how that ended.
+prove() {
+  local name=$1 other jobs politeness=10 status=0
+  for other in $(below "$name"); do
+    while [ ! -e "$rooms/$other.proved" ]; do
+      [ ! -e "$rooms/failed" ] || return 0
+      sleep 0.2
+    done
+  done
+  jobs=$(nproc)
+  case $chain in *" $name "*) politeness=0 ;; esac
+  furnish "$name"
+  (cd "$rooms/$name/crates/$name" && nice -n "$politeness" rt lib --jobs "$jobs") </dev/null >"$rooms/$name.log" 2>&1 || status=1
+  [ ! -d "$rooms/$name/crates/$name/out" ] || mv "$rooms/$name/crates/$name/out" "$top/crates/$name/out"
+  cat "$rooms/$name.log" >> "$log"
+  if [ "$status" = 0 ]; then
+    echo "build.sh: proved $name" >&2
+    : > "$rooms/$name.proved"
+  else
+    echo "build.sh: not proved: $name" >&2
+    : > "$rooms/failed"
+  fi
 }
 
 if is_newest "$built"; then exit; fi
@@ -60,16 +77,17 @@ if ! command -v rt >/dev/null 2>&1; then
   PATH="$RATTLE_KIT/bin:$PATH"
   export PATH
 fi
-mkdir -p "$top/crates/kyua/out"
 # If this build fails, no older program stands in for it.
-rm -f "$built"
+rm -rf "$built" "$rooms"
+mkdir -p "$rooms"
 : > "$log"
 touch "$begun"
-prove_side_by_side || give_up
-for name in $chain; do
-  echo "build.sh: proving $name" >&2
-  (cd "$top/crates/$name" && rt lib --jobs "$(nproc)") </dev/null >>"$log" 2>&1 || give_up
+for name in $(crates_up_to kyua); do
+  [ "$name" = kyua ] || prove "$name" &
 done
+wait
+[ ! -e "$rooms/failed" ] || give_up
+rm -rf "$rooms"
 echo 'build.sh: proving and linking kyua' >&2
 # rt runs what it linked, without words: the status of that run says nothing here.
 (cd "$top/crates/kyua" && rt run --jobs "$(nproc)") </dev/null >>"$log" 2>&1 || true

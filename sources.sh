@@ -5,27 +5,25 @@
 # shellcheck disable=SC2034
 built=$top/crates/kyua/out/kyua
 
-# Prints the program's crate and those below it, as crates.txt has them.
-crates_of_program() {
-  awk -F: '/^[a-z]/ { below[$1] = $2 }
+# Prints a crate and all that it stands on, the lowest first.
+crates_up_to() {
+  awk -F: -v left="$1" '/^[a-z]/ { below[$1] = $2; name[NR] = $1 }
     END {
-      left = "kyua"
       while (split(left, names, " ")) {
-        name = names[1]
         sub(/^ *[^ ]+/, "", left)
-        if (!(name in below) || name in seen) continue
-        seen[name] = 1
-        print name
-        left = left " " below[name]
+        if (!(names[1] in below) || names[1] in seen) continue
+        seen[names[1]] = 1
+        left = left " " below[names[1]]
       }
-    }' "$top/crates.txt" | LC_ALL=C sort
+      for (line = 1; line <= NR; line++) if (name[line] in seen) print name[line]
+    }' "$top/crates.txt"
 }
 
 # Prints the files and folders that a build reads, relative to the checkout. No name has a space.
 places_of_sources() {
   local name part
   printf '%s\n' HANDLES crates.txt
-  for name in $(crates_of_program); do
+  for name in $(crates_up_to kyua); do
     for part in src specs proofs; do
       [ ! -d "$top/crates/$name/$part" ] || printf '%s\n' "crates/$name/$part"
     done
