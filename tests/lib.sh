@@ -30,7 +30,7 @@ same() {
 # prints FORMAT: the last run printed this text, a format of printf, and nothing on standard error.
 prints() {
     # shellcheck disable=SC2059
-    printf "$1" > wanted
+    printf -- "$1" > wanted
     same wanted out
     [ ! -s err ] || { cat err >&2; fail 'something on standard error'; }
 }
@@ -50,9 +50,18 @@ records() {
 # complains FORMAT: the last run printed this text on standard error, and nothing on standard output.
 complains() {
     # shellcheck disable=SC2059
-    printf "$1" > wanted
+    printf -- "$1" > wanted
     same wanted err
     [ ! -s out ] || { cat out >&2; fail 'something on standard output'; }
+}
+
+# tells STATUS FORMAT WORD..: kyua with these words exits with STATUS and prints this text.
+tells() {
+    exit_due=$1
+    text_due=$2
+    shift 2
+    runs "$exit_due" "$@"
+    prints "$text_due"
 }
 
 # lists FORMAT WORD..: a listing with these words prints this text.
@@ -139,6 +148,11 @@ kyuafile() {
 one_program() {
     echo 'exit 0' | program good
     kyuafile good
+}
+
+# without_spaces: goes on in a directory whose path has no space, which run.sh has made, since atf-sh can't do with one.
+without_spaces() {
+    [ -z "${SUITE_ROOM-}" ] || cd "$(mktemp -d "${SUITE_ROOM%/*}/plain.XXXXXX")" || fail 'no other directory'
 }
 
 # waits_for COMMAND WORD..: goes on when this command succeeds, and fails after 10 seconds.

@@ -2,15 +2,32 @@
 # Runs this suite and the programs of endings/ with kyua, and then each case of each program by hand, and compares what kyua
 # recorded with how the case ended, by the tables of by_hand.sh: a runner that records passes of its own can't pass. KYUA names
 # the program; else it is the one that this checkout built. The last line says how many cases passed, and how many failed or
-# were recorded wrongly. WIDTH is how many cases kyua runs at once, 4 if it isn't set.
+# were recorded wrongly. WIDTH is how many cases run at once, 4 if it isn't set.
 set -eu
 suite=$(cd "$(dirname "$0")" && pwd)
 . "$suite/by_hand.sh"
 KYUA=$(realpath -m "${KYUA:-$suite/../crates/kyua/out/kyua}")
 export KYUA
 [ -x "$KYUA" ] || { echo "tests: there is no program $KYUA" >&2; echo '0 passed, 1 failed'; exit 1; }
-room=$(mktemp -d)
-trap 'chmod -R u+rwX "$room" 2> /dev/null; rm -rf "$room"' EXIT
+WIDTH=${WIDTH:-4}
+# The results of each case are forced to the disk, which takes most of the time, so all lies in memory where there is enough of it.
+top=
+if [ -z "${TMPDIR-}" ]; then top=$(mktemp -d /dev/shm/kyua.XXXXXX 2> /dev/null) || top=; fi
+if [ -n "$top" ]; then
+    printf '#!/bin/sh\n' > "$top/try"
+    chmod +x "$top/try"
+    free=$(df -Pk "$top" | awk 'NR == 2 { print $4 }')
+    if [ "$free" -lt 1000000 ] || ! "$top/try" 2> /dev/null; then
+        rm -rf "$top"
+        top=
+    fi
+fi
+[ -n "$top" ] || top=$(mktemp -d)
+# All paths below have a space in them.
+trap 'chmod -R u+rwX "$top" 2> /dev/null; rm -rf "$top"' EXIT
+trap 'exit 1' HUP INT TERM
+room="$top/a room"
+mkdir "$room"
 # The environment of every process of this run has it.
 SUITE_ROOM=$room
 export SUITE_ROOM
@@ -35,20 +52,21 @@ programs() {
     done
 }
 
-# runs_by_hand LIMIT PROGRAM WORD..: runs a program as kyua runs it, and leaves in status its status for the shell, or `limit`.
+# runs_by_hand LIMIT PROGRAM WORD..: runs a program as kyua runs it, in the directory $hand, and leaves in status its status for
+# the shell, or `limit`.
 runs_by_hand() {
     limit=$1
     shift
     status=0
     begun=$(date +%s%N)
     (
-        cd "$room/hand/work"
+        cd "$hand/work" || exit 125
         unset LANG LC_ALL LC_COLLATE LC_CTYPE LC_MESSAGES LC_MONETARY LC_NUMERIC LC_TIME
         TZ=UTC HOME=$PWD TMPDIR=$PWD __RUNNING_INSIDE_ATF_RUN=internal-yes-value
         export TZ HOME TMPDIR __RUNNING_INSIDE_ATF_RUN
         if [ "$limit" = 300 ]; then exec "$@"; fi
         exec timeout -s KILL "$limit" "$@"
-    ) < /dev/null > "$room/hand/out" 2> "$room/hand/err" || status=$?
+    ) < /dev/null > "$hand/out" 2> "$hand/err" || status=$?
     if [ $status = 137 ] && [ $(($(date +%s%N) - begun)) -ge "${limit}000000000" ]; then status=limit; fi
 }
 
@@ -61,9 +79,9 @@ declares() {
 
 # by_hand FOLDER INTERFACE PROGRAM CASE LIMIT NEEDS: runs a case, and leaves its result in due.
 by_hand() {
-    chmod -R u+rwX "$room/hand" 2> /dev/null || true
-    rm -rf "$room/hand"
-    mkdir -p "$room/hand/work"
+    chmod -R u+rwX "$hand" 2> /dev/null || true
+    rm -rf "$hand"
+    mkdir -p "$hand/work"
     limit=$5
     needs=$6
     if [ "$2" = atf ]; then
@@ -81,10 +99,10 @@ by_hand() {
     fi
     case $2 in
         plain) runs_by_hand "$limit" "$1/$3"; due=$(plain_verdict "$status") ;;
-        tap) runs_by_hand "$limit" "$1/$3"; due=$(tap_verdict "$status" "$room/hand/out") ;;
+        tap) runs_by_hand "$limit" "$1/$3"; due=$(tap_verdict "$status" "$hand/out") ;;
         atf)
-            runs_by_hand "$limit" "$1/$3" "-r$room/hand/result" "-s$1" "$4"
-            due=$(atf_verdict "$status" "$room/hand/result")
+            runs_by_hand "$limit" "$1/$3" "-r$hand/result" "-s$1" "$4"
+            due=$(atf_verdict "$status" "$hand/result")
             case $(declares "$3" "$4" has.cleanup) in
                 true | yes)
                     runs_by_hand 60 "$1/$3" "-s$1" "$4:cleanup"
@@ -97,10 +115,10 @@ by_hand() {
 
 # lists_by_hand FOLDER: a line INTERFACE PROGRAM LIMIT CASE|NEEDS for each case, in order.
 lists_by_hand() {
-    mkdir -p "$room/lists" "$room/hand/work"
+    mkdir -p "$room/lists"
     programs "$1" | while read -r kind name limit needs; do
         if [ "$kind" = atf ]; then
-            (cd "$room/hand/work" && "$1/$name" -l) > "$room/lists/$name" < /dev/null || echo "tests: $name lists nothing" >&2
+            (cd "$room/lists" && "$1/$name" -l) > "$room/lists/$name" < /dev/null || echo "tests: $name lists nothing" >&2
             sed -n 's/^ident: //p' "$room/lists/$name"
         else
             echo main
@@ -113,29 +131,47 @@ lists_by_hand() {
 # compare FOLDER STATUS: runs a folder's programs with kyua, which must exit with STATUS, and each of its cases by hand.
 compare() {
     folder=$1
-    mkdir -p "$room/roots"
+    mkdir -p "$room/work directories"
     lists_by_hand "$folder" > "$room/cases"
     sed 's/^[a-z]* \([^ ]*\) [0-9]* \(.*\)|.*/\1:\2/' "$room/cases" > "$room/due"
-    "$KYUA" list -k "$folder/Kyuafile" --work="$room/roots" > "$room/listed" || wrong "list exits with $?"
+    "$KYUA" list -k "$folder/Kyuafile" --work="$room/work directories" > "$room/listed" || wrong "list exits with $?"
     cmp -s "$room/due" "$room/listed" || wrong "$folder: the listing is another"
     status=0
-    "$KYUA" -v parallelism="${WIDTH:-4}" test -k "$folder/Kyuafile" -r "$room/x.db" --work="$room/roots" > "$room/printed" ||
+    "$KYUA" -v parallelism="$WIDTH" test -k "$folder/Kyuafile" -r "$room/x.db" --work="$room/work directories" > "$room/printed" ||
         status=$?
     cat "$room/printed"
     [ $status = "$2" ] || wrong "$folder: kyua test exits with $status, not $2"
-    [ -z "$(ls -A "$room/roots")" ] || wrong "$folder: work directories are left"
+    [ -z "$(ls -A "$room/work directories")" ] || wrong "$folder: work directories are left"
     "$KYUA" report -r "$room/x.db" --results-filter=passed,skipped,xfail,broken,failed > "$room/report" ||
         wrong "$folder: report exits with $?"
     sed -n 's/  \[[0-9]*\.[0-9]*s\]$//p' "$room/report" > "$room/recorded"
     [ "$(wc -l < "$room/recorded")" = "$(wc -l < "$room/cases")" ] || wrong "$folder: another number of entries"
+    # By hand as many cases run at once as kyua ran.
+    rm -rf "$room/taken" "$room"/compared.*
+    mkdir "$room/taken"
+    for hand in $(seq "$WIDTH"); do compare_some "$folder" "$2" "$room/hand $hand" > "$room/compared.$hand" & done
+    wait
+    passed=$((passed + $(cat "$room"/compared.* | grep -c '^passed$' || true)))
+    failed=$((failed + $(cat "$room"/compared.* | grep -c '^failed$' || true)))
+    [ "$(cat "$room"/compared.* | wc -l)" = "$(wc -l < "$room/cases")" ] || wrong "$folder: cases were not compared"
+}
+
+# compare_some FOLDER STATUS HAND: takes cases that no other took, until there are none, and prints for each whether it passed, by
+# hand in the directory HAND and by kyua, or failed.
+compare_some() {
+    hand=$3
+    number=0
     while IFS= read -r line; do
+        number=$((number + 1))
+        # Of those that try one makes the file.
+        (set -C; : > "$room/taken/$number") 2> /dev/null || continue
         needs=${line##*|}
         line=${line%|*}
         kind=${line%% *}
         line=${line#* }
         name=${line%% *}
         line=${line#* }
-        compare_case "$folder" "$kind" "$name" "${line#* }" "${line%% *}" "$needs" "$2"
+        if compare_case "$1" "$kind" "$name" "${line#* }" "${line%% *}" "$needs" "$2"; then echo passed; else echo failed; fi
     done < "$room/cases"
 }
 
@@ -144,34 +180,33 @@ compare() {
 compare_case() {
     by_hand "$1" "$2" "$3" "$4" "$5" "$6"
     if ! grep -Fxq -e "$3:$4  ->  $due" "$room/recorded"; then
-        wrong "$3:$4 is by hand '$due', and recorded is: $(grep -F -e "$3:$4  ->  " "$room/recorded" || echo nothing)"
-        cat "$room/hand/err" >&2 || true
-        return
-    fi
-    case $7:${due%%:*} in
-        0:failed | 0:broken | 0:expected_failure)
-            wrong "$3:$4: $due"
-            cat "$room/hand/err" >&2
-            ;;
-        *) passed=$((passed + 1)) ;;
-    esac
+        echo "tests: $3:$4 is by hand '$due', and recorded is: $(grep -F -e "$3:$4  ->  " "$room/recorded" || echo nothing)"
+    else
+        case $7:${due%%:*} in
+            0:failed | 0:broken | 0:expected_failure) echo "tests: $3:$4: $due" ;;
+            *) return 0 ;;
+        esac
+    fi >&2
+    cat "$hand/err" >&2 || true
+    return 1
 }
 
-for file in "$suite"/* "$suite"/endings/*; do
-    name=${file##*/}
-    case $name in
-        Kyuafile | *.sh | *.md | endings | schema1) ;;
-        *) programs "${file%/*}" | cut -d ' ' -f 2 | grep -Fxq -e "$name" || wrong "$file is not registered" ;;
-    esac
-done
+# Each program is registered, and each that is registered is there.
 for folder in "$suite" "$suite/endings"; do
     programs "$folder" | cut -d ' ' -f 2 > "$room/names"
+    for file in "$folder"/*; do
+        case ${file##*/} in
+            Kyuafile | *.sh | *.md | endings | schema1) ;;
+            *) grep -Fxq -e "${file##*/}" "$room/names" || wrong "$file is not registered" ;;
+        esac
+    done
     while read -r name; do
         [ -e "$folder/$name" ] || wrong "$folder/$name is missing"
     done < "$room/names"
 done
 compare "$suite" 0
-compare "$suite/endings" 1
+cp -R "$suite/endings" "$room/a checkout"
+compare "$room/a checkout" 1
 # What the cases started is over, too, two seconds later at the latest.
 if [ -r /proc/self/environ ]; then
     for _ in 1 2 3 4 5 6 7 8 9 10; do

@@ -49,7 +49,9 @@ cp "$(type -P true)" case
 printf '#!/bin/sh\nexec sleep 5\n' > wait
 printf '#!/bin/sh\nexec sleep 30\n' > thirty
 printf '#!/bin/sh\nhead -c 100000000 /dev/zero\n' > long
-printf '#!/bin/sh\ni=0\nwhile [ $i -lt 4000 ]; do mkdir d; cd -P d || exit 1; i=$((i + 1)); done\n' > nested
+# Four times a path of 1,000 directories: a shell that steps into each would take longer than their removal.
+path=$(printf 'd/%.0s' $(seq 1000))
+for _ in 1 2 3 4; do echo "mkdir -p $path && cd $path || exit 1"; done | sed '1i#!/bin/sh' > nested
 printf '#!/bin/sh\nseq 1000 | xargs mkdir\nfor d in $(seq 1000); do touch "$d"/1 "$d"/2 "$d"/3 "$d"/4 "$d"/5 "$d"/6 "$d"/7 "$d"/8 "$d"/9 "$d"/10; done\n' > wide
 chmod +x wait thirty long nested wide
 programs case "$count" > Kyuafile

@@ -12,6 +12,7 @@ both() {
   local title=$1
   shift
   measure ours "$title" "$program" "$@"
+  rm -f x.db*
   [ -z "$other" ] || measure theirs '  the installed kyua' "$other" -c none --logfile="$scratch/log" "$@"
 }
 
