@@ -52,7 +52,8 @@ impl Block {
         ensures ok { OnOk result (self.new ≡ with_property self.old name.now value.now) }
         ensures err { OnErr result (self.new ≡ self.old) }
         ensures accepted { OnOk result (definition_fault name.now value.now ≡ None) }
-        ensures refused { IfFault result (λ fault. definition_fault name.now value.now ≡ Some fault) }
+        ensures refused { IfFault result (λ fault.
+            definition_fault name.now value.now ≡ Some fault) }
     {
         self.props.set(name, value)
     }

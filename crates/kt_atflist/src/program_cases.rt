@@ -52,7 +52,8 @@ fn one_case(
     props: &Props,
     fault: Option<Reason>,
 ) -> Result<Items<CaseDef>, NoMemory>
-    ensures { IfOk result (λ cases. cases ≡ over_program props.now (record { name = chars name.now; props = []; fault = fault }) ∷ []) }
+    ensures { IfOk result (λ cases. cases ≡ over_program props.now
+        (record { name = chars name.now; props = []; fault = fault }) ∷ []) }
 {
     let case = CaseDef {
         name: Text::from_str(alloc, name)?,

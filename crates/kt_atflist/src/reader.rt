@@ -103,7 +103,8 @@ fn read_list(alloc: Global, text: &[u8]) -> Result<Result<Items<CaseDef>, ListFa
 pub fn parse_list(alloc: Global, text: &[u8]) -> Result<Items<CaseDef>, ListFault>
     // These are the cases that the text spells, or this is the fault that is due, unless memory ran out.
     ensures answer { IsOutOfMemory result ⊎ IsAnswer text.now result }
-    ensures only { (answer : Result (List CaseDef) ListFault) → IsAnswer text.now answer → IsOutOfMemory result ⊎ (result ≡ answer) }
+    ensures only { (answer : Result (List CaseDef) ListFault) → IsAnswer text.now answer
+        → IsOutOfMemory result ⊎ (result ≡ answer) }
 {
     match read_list(alloc, text) {
         Err(refusal) => Err(ListFault {

@@ -112,7 +112,8 @@ fn go_on_with(
     line: &[u8],
 ) -> Result<Step, NoMemory>
     requires { names ≡ names_of cases (Some block) }
-    ensures { IfOk result (λ step. step ≡ go_on_with cases block (key_in line.now) (value_in line.now)) }
+    ensures { IfOk result (λ step. step ≡ go_on_with cases block (key_in line.now)
+        (value_in line.now)) }
 {
     match value_in(line) {
         None => Ok(Step::Wrong(ListCause::BadLine)),

@@ -4,7 +4,8 @@ ghost use Rattle.kt_base.specs.LastValues.{value_of, last_values, IsReplaced};
 
 /// The laws of names with their last values, for whoever keeps such a list in place. It does nothing.
 pub fn last_values_laws()
-    ensures value { (name : List ℕ) → (pairs : List Variable) → value_of name (last_values pairs) ≡ value_of name pairs }
+    ensures value { (name : List ℕ) → (pairs : List Variable)
+        → value_of name (last_values pairs) ≡ value_of name pairs }
 
     // A further pair takes the place of the one with its name, or goes last.
     ensures replaced { (pairs : List Variable) → (pair : Variable) → IsSome (value_of pair.name pairs)

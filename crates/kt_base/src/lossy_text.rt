@@ -37,7 +37,8 @@ fn first(bytes: &[u8]) -> Option<&str>
 
 /// Appends the character that begins here, and answers how many bytes it has after its first.
 fn push_first(text: &mut Text, bytes: &[u8]) -> Result<usize, NoMemory>
-    ensures { IfOk result (λ n. (n ≡ further (first bytes.now)) × (text.new ≡ text.old ++ character (first bytes.now))) }
+    ensures { IfOk result (λ n. (n ≡ further (first bytes.now))
+        × (text.new ≡ text.old ++ character (first bytes.now))) }
 {
     match first(bytes) {
         None => {

@@ -104,7 +104,8 @@ impl Parts<'_> {
 
     /// Writes the parts, or a prefix of them where a write failed.
     pub fn print<W: Write>(&self, out: &mut W) -> Result<(), OutputFault>
-        ensures { Shows (W.contents out.old) (W.contents out.new) (is_err result) (utf8 (parts_text self.now)) }
+        ensures { Shows (W.contents out.old) (W.contents out.new) (is_err result)
+            (utf8 (parts_text self.now)) }
     {
         print_words(self.head, out)?;
         print_numbered(self.lead, self.first, out)?;
@@ -138,13 +139,15 @@ fn push_number(number: Option<u64>, text: &mut Text) -> Result<(), NoMemory>
 }
 
 fn print_words<W: Write>(words: &str, out: &mut W) -> Result<(), OutputFault>
-    ensures { Shows (W.contents out.old) (W.contents out.new) (is_err result) (utf8 (chars words.now)) }
+    ensures { Shows (W.contents out.old) (W.contents out.new) (is_err result)
+        (utf8 (chars words.now)) }
 {
     emit(words.as_bytes(), out)
 }
 
 fn print_number<W: Write>(number: Option<u64>, out: &mut W) -> Result<(), OutputFault>
-    ensures { Shows (W.contents out.old) (W.contents out.new) (is_err result) (utf8 (number_text number)) }
+    ensures { Shows (W.contents out.old) (W.contents out.new) (is_err result)
+        (utf8 (number_text number)) }
 {
     match number {
         None => Ok(()),
@@ -157,7 +160,8 @@ fn print_numbered<W: Write>(
     number: Option<u64>,
     out: &mut W,
 ) -> Result<(), OutputFault>
-    ensures { Shows (W.contents out.old) (W.contents out.new) (is_err result) (utf8 (chars words.now ++ number_text number)) }
+    ensures { Shows (W.contents out.old) (W.contents out.new) (is_err result)
+        (utf8 (chars words.now ++ number_text number)) }
 {
     print_words(words, out)?;
     print_number(number, out)
@@ -175,7 +179,8 @@ fn one_number(
     first: u64,
     tail: &'static str,
 ) -> Parts<'static>
-    ensures { parts_text result ≡ chars head.now ++ (chars lead.now ++ (decimal first ++ chars tail.now)) }
+    ensures { parts_text result ≡ chars head.now
+        ++ (chars lead.now ++ (decimal first ++ chars tail.now)) }
 {
     Parts {
         head,
@@ -194,7 +199,8 @@ fn two_numbers(
     second: u64,
     tail: &'static str,
 ) -> Parts<'static>
-    ensures { parts_text result ≡ chars head.now ++ (decimal first ++ (chars between.now ++ (decimal second ++ chars tail.now))) }
+    ensures { parts_text result ≡ chars head.now
+        ++ (decimal first ++ (chars between.now ++ (decimal second ++ chars tail.now))) }
 {
     Parts {
         head,

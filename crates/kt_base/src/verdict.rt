@@ -109,7 +109,8 @@ impl Verdict {
 
     /// Writes the text of the reason, or a prefix of it where a write failed. It takes no memory.
     pub fn print_reason<W: Write>(&self, out: &mut W) -> Result<(), OutputFault>
-        ensures { Shows (W.contents out.old) (W.contents out.new) (is_err result) (utf8 self.now.reason) }
+        ensures { Shows (W.contents out.old) (W.contents out.new) (is_err result)
+            (utf8 self.now.reason) }
     {
         self.reason.parts().print(out)
     }

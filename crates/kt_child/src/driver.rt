@@ -107,7 +107,8 @@ impl<O: Os + Drop> Driver<O> {
 
     /// Asks an ATF program for its list of test cases, with the variables of its suite.
     pub fn list(&mut self, program: &Program, variables: &Variables) -> Listing
-        ensures listed { ListsBy O.leads self.old.source self.old.root program.now.path variables.now self.old.os self.old.next result self.new.os self.new.next }
+        ensures listed { ListsBy O.leads self.old.source self.old.root program.now.path
+            variables.now self.old.os self.old.next result self.new.os self.new.next }
         ensures row { self.new.row ≡ self.old.row }
         ensures source { self.new.source ≡ self.old.source }
         ensures root { self.new.root ≡ self.old.root }

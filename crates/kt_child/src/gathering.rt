@@ -37,7 +37,8 @@ fn claim_read(reader: ClaimReader) -> Claim
 
 /// Reads a result file, and tells what it claims.
 fn read_claim<O: Os>(alloc: Global, os: &mut O, path: &Text) -> Claim
-    ensures { (calls : List Call) × Chain O.leads os.old calls os.new × ReadsClaim path.now calls result }
+    ensures { (calls : List Call) × Chain O.leads os.old calls os.new
+        × ReadsClaim path.now calls result }
 {
     let mut reader = ClaimReader::new(alloc);
     match read_in_parts(os, path, RESULT_PART, RESULT_LIMIT, &mut reader) {
@@ -59,7 +60,8 @@ fn tap_read(reader: TapReader) -> Tap
 
 /// Reads an output as a TAP stream, and tells what it says.
 fn read_tap<O: Os>(alloc: Global, os: &mut O, path: &Text) -> Tap
-    ensures { (calls : List Call) × Chain O.leads os.old calls os.new × ReadsTap path.now calls result }
+    ensures { (calls : List Call) × Chain O.leads os.old calls os.new
+        × ReadsTap path.now calls result }
 {
     let mut reader = TapReader::new(alloc);
     match read_in_parts(os, path, STREAM_PART, STREAM_LIMIT, &mut reader) {
@@ -72,7 +74,8 @@ fn read_tap<O: Os>(alloc: Global, os: &mut O, path: &Text) -> Tap
 
 /// Reads what the body of a case left: an ATF program its result file, a TAP program its output.
 fn gather_of_body<O: Os>(alloc: Global, os: &mut O, interface: Interface, paths: &Paths) -> Evidence
-    ensures gathered { (calls : List Call) × Chain O.leads os.old calls os.new × Gathers interface Role.Body paths.now calls result }
+    ensures gathered { (calls : List Call) × Chain O.leads os.old calls os.new
+        × Gathers interface Role.Body paths.now calls result }
     ensures interface { IsEvidence interface Role.Body result }
 {
     match interface {
@@ -90,7 +93,8 @@ pub fn gather<O: Os>(
     role: Role,
     paths: &Paths,
 ) -> Evidence
-    ensures gathered { (calls : List Call) × Chain O.leads os.old calls os.new × Gathers interface role paths.now calls result }
+    ensures gathered { (calls : List Call) × Chain O.leads os.old calls os.new
+        × Gathers interface role paths.now calls result }
     ensures interface { IsEvidence interface role result }
 {
     match role {

@@ -99,7 +99,8 @@ impl<R: Processes + Files<File = File> + Clock + AllocGlobal + Drop> HostOs<R> {
         dir: &Text,
     ) -> Result<(), OsFault>
         ensures started { OnOk result (IsSome (stand_in self.new.children.items child)) }
-        ensures others { OthersStay child (stand_in self.old.children.items) (stand_in self.new.children.items) }
+        ensures others { OthersStay child (stand_in self.old.children.items)
+            (stand_in self.new.children.items) }
     {
         let mut command = command_of(self.rt.alloc(), program, words, env, dir)?;
         or_fault(host_children::launch(&mut self.children, child, &self.rt, &mut command))
@@ -112,7 +113,8 @@ impl<R: Processes + Files<File = File> + Clock + AllocGlobal + Clone + Drop> Os 
     ghost use Rattle.kt_child.specs.HostStands.{IsLastEnd, stand_in};
     ghost use Rattle.kt_child.specs.HostAnswers.{HostLeads};
 
-    ghost leads = { λ old call new. HostLeads (stand_in old.children.items) call (stand_in new.children.items) (IsLastEnd new.last) };
+    ghost leads = { λ old call new. HostLeads (stand_in old.children.items) call
+        (stand_in new.children.items) (IsLastEnd new.last) };
 
     fn make_dir(&mut self, path: &Text) -> Result<(), OsFault> {
         or_fault(create_directory(&self.rt, path.as_str()))

@@ -50,7 +50,8 @@ impl<P: OpenProcess + Drop> HostChild<P> {
 
     /// Whether the file of its errors is still to come.
     pub(super) fn wants_errors(&self) -> bool
-        ensures { IsTrue result ↔ (IsSome self.now.out × IsNone self.now.err × (stand_of self.now ≡ None)) }
+        ensures { IsTrue result ↔ (IsSome self.now.out × IsNone self.now.err
+            × (stand_of self.now ≡ None)) }
     {
         self.out.is_some() && self.err.is_none() && self.process.is_none()
     }
@@ -119,7 +120,8 @@ impl<P: OpenProcess + Drop> HostChild<P> {
         ensures name { self.new.child ≡ self.old.child }
         ensures proceeds { Proceeds (stand_of self.old) (stand_of self.new) }
         ensures told { IfOk result (λ status. stand_of self.new ≡ Some status) }
-        ensures counted { result ≡ Ok None → self.new.pace.told ≡ min (self.old.pace.told + 1) (2 ^ 64 - 1) }
+        ensures counted { result ≡ Ok None → self.new.pace.told
+            ≡ min (self.old.pace.told + 1) (2 ^ 64 - 1) }
     {
         self.keep_pace(clock)?;
         match self.status()? {
@@ -150,7 +152,8 @@ impl<P: OpenProcess + Drop> HostChild<P> {
         ensures proceeds { Proceeds (stand_of self.old) (stand_of self.new) }
         ensures unseen { IsTrue result → self.old.seen ≡ false }
         ensures seen { IsTrue result → self.new.seen ≡ true }
-        ensures ended { IsTrue result → ((status : Status) × (stand_of self.new ≡ Some (Some status))) }
+        ensures ended { IsTrue result → ((status : Status)
+            × (stand_of self.new ≡ Some (Some status))) }
     {
         if self.seen {
             return false;

@@ -68,7 +68,8 @@ pub(super) fn take_out<P: OpenProcess + Drop>(
     children: &mut Vec<HostChild<P>>,
     child: Child,
 ) -> Option<HostChild<P>>
-    ensures own { IfSome result (λ held. (held.child ≡ child) × (stand_of held ≡ stand_in children.old.items child)) }
+    ensures own { IfSome result (λ held. (held.child ≡ child)
+        × (stand_of held ≡ stand_in children.old.items child)) }
     ensures none { IfNone result (stand_in children.old.items child ≡ None) }
     ensures forgotten { stand_in children.new.items child ≡ None }
     ensures others { OthersStay child (stand_in children.old.items) (stand_in children.new.items) }
@@ -157,7 +158,8 @@ pub(super) fn poll<P: OpenProcess + Drop, C: Clock>(
     child: Child,
     clock: &C,
 ) -> Result<Option<ExitStatus>, OsFault>
-    ensures proceeds { Proceeds (stand_in children.old.items child) (stand_in children.new.items child) }
+    ensures proceeds { Proceeds (stand_in children.old.items child)
+        (stand_in children.new.items child) }
     ensures told { IfOk result (λ status. stand_in children.new.items child ≡ Some status) }
     ensures others { OthersStay child (stand_in children.old.items) (stand_in children.new.items) }
 {

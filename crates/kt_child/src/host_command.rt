@@ -10,7 +10,8 @@ use std::process::Command;
 
 /// Appends words.
 fn push_words(command: &mut Command, words: &Items<Text>) -> Result<(), NoMemory>
-    ensures args { OnOk result (command_args command.new ≡ command_args command.old ++ map utf8 words.now) }
+    ensures args { OnOk result (command_args command.new ≡ command_args command.old
+        ++ map utf8 words.now) }
     ensures program { OnOk result (command_program command.new ≡ command_program command.old) }
     ensures env { OnOk result (SameEnv command.old command.new) }
     ensures dir { OnOk result (SameDir command.old command.new) }
@@ -23,7 +24,8 @@ fn push_words(command: &mut Command, words: &Items<Text>) -> Result<(), NoMemory
 
 /// Removes a variable from what a child gets of the runner's environment.
 fn remove_variable(command: &mut Command, name: &Text) -> Result<(), NoMemory>
-    ensures removed { OnOk result (command_var command.new (utf8 name.now) ≡ (if clears_env command.old then None else Some None)) }
+    ensures removed { OnOk result (command_var command.new (utf8 name.now)
+        ≡ (if clears_env command.old then None else Some None)) }
     ensures others { OnOk result (SameOtherVars command.old command.new (utf8 name.now)) }
     ensures inherits { OnOk result (clears_env command.new ≡ clears_env command.old) }
     ensures call { OnOk result (SameProgramAndArgs command.old command.new) }
@@ -36,7 +38,9 @@ fn remove_variable(command: &mut Command, name: &Text) -> Result<(), NoMemory>
 /// Removes the variables of these names from what a child gets of the runner's environment.
 fn remove_variables(command: &mut Command, names: &Items<Text>) -> Result<(), NoMemory>
     requires { clears_env command.old ≡ false }
-    ensures variables { OnOk result ((name : List ℕ) → command_var command.new name ≡ after_removed names.now name (command_var command.old name)) }
+    ensures variables { OnOk result ((name : List ℕ)
+        → command_var command.new name
+        ≡ after_removed names.now name (command_var command.old name)) }
     ensures inherits { OnOk result (clears_env command.new ≡ false) }
     ensures call { OnOk result (SameProgramAndArgs command.old command.new) }
     ensures dir { OnOk result (SameDir command.old command.new) }
@@ -49,7 +53,8 @@ fn remove_variables(command: &mut Command, names: &Items<Text>) -> Result<(), No
 
 /// Sets a variable.
 fn set_variable(command: &mut Command, variable: &Variable) -> Result<(), NoMemory>
-    ensures set { OnOk result (command_var command.new (utf8 variable.now.name) ≡ Some (Some (utf8 variable.now.value))) }
+    ensures set { OnOk result (command_var command.new (utf8 variable.now.name)
+        ≡ Some (Some (utf8 variable.now.value))) }
     ensures others { OnOk result (SameOtherVars command.old command.new (utf8 variable.now.name)) }
     ensures inherits { OnOk result (clears_env command.new ≡ clears_env command.old) }
     ensures call { OnOk result (SameProgramAndArgs command.old command.new) }
@@ -61,7 +66,8 @@ fn set_variable(command: &mut Command, variable: &Variable) -> Result<(), NoMemo
 
 /// Sets variables, of which the last one of a name counts.
 fn set_variables(command: &mut Command, set: &Variables) -> Result<(), NoMemory>
-    ensures variables { OnOk result ((name : List ℕ) → command_var command.new name ≡ after_set set.now name (command_var command.old name)) }
+    ensures variables { OnOk result ((name : List ℕ)
+        → command_var command.new name ≡ after_set set.now name (command_var command.old name)) }
     ensures inherits { OnOk result (clears_env command.new ≡ clears_env command.old) }
     ensures call { OnOk result (SameProgramAndArgs command.old command.new) }
     ensures dir { OnOk result (SameDir command.old command.new) }

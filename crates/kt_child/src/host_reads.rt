@@ -20,7 +20,8 @@ pub fn read_front<F: Read>(alloc: Global, file: &mut F, limit: u64) -> Result<Fi
     ensures within { IsHostRead limit result }
     ensures opened { IsOpened result }
     ensures front { IfSome (F.remaining file.old) (λ xs. IsFront limit xs result) }
-    ensures past { IfSome (F.remaining file.old) (λ xs. IsSomeAnd (F.remaining file.new) (λ ys. length xs ≤ length ys + limit + 1)) }
+    ensures past { IfSome (F.remaining file.old)
+        (λ xs. IsSomeAnd (F.remaining file.new) (λ ys. length xs ≤ length ys + limit + 1)) }
 {
     let mut bytes = Bytes::new(alloc);
     let mut buffer = [0u8; PIECE];
@@ -91,8 +92,10 @@ fn read_opened<F: Read + Seek + Drop>(
     limit: u64,
 ) -> Result<FileRead, OsFault>
     ensures within { IsHostRead limit result }
-    ensures opened { MatchResult opened (λ _. IsOpened result) (λ error. IsUnopened (error_kind error) result) }
-    ensures front { from ≡ 0 → IfOk opened (λ file. IfSome (F.remaining file) (λ xs. IsFront limit xs result)) }
+    ensures opened { MatchResult opened (λ _. IsOpened result)
+        (λ error. IsUnopened (error_kind error) result) }
+    ensures front { from ≡ 0 → IfOk opened (λ file.
+        IfSome (F.remaining file) (λ xs. IsFront limit xs result)) }
 {
     match opened {
         Ok(mut file) => read_from(alloc, &mut file, from, limit),

@@ -26,10 +26,13 @@ pub(super) fn begin_body<O: Os>(
     job: &Job,
 ) -> StartAnswer
     requires fit { IsFit job.now }
-    requires may { MayStart (shown_at row.old.cases) (is_among row.old.pending) job.now.position Role.Body }
-    ensures starts { BodyStarts O.leads source.now root.now job.now os.old next.old row.old result os.new next.new row.new }
+    requires may { MayStart (shown_at row.old.cases) (is_among row.old.pending) job.now.position
+        Role.Body }
+    ensures starts { BodyStarts O.leads source.now root.now job.now os.old next.old row.old result
+        os.new next.new row.new }
     ensures moment { HasMoment result }
-    ensures running { (k : ℕ) (r : Role) → shown_at row.new.cases k r ≡ running_after_start (shown_at row.old.cases) job.now Role.Body result k r }
+    ensures running { (k : ℕ) (r : Role) → shown_at row.new.cases k r
+        ≡ running_after_start (shown_at row.old.cases) job.now Role.Body result k r }
     ensures pending { row.new.pending ≡ row.old.pending }
 {
     if *next == u64::MAX {
@@ -56,11 +59,15 @@ pub(super) fn begin_cleanup<O: Os>(
     job: &Job,
 ) -> StartAnswer
     requires fit { IsFit job.now }
-    requires may { MayStart (shown_at row.old.cases) (is_among row.old.pending) job.now.position Role.Cleanup }
-    ensures starts { CleanupStarts O.leads source.now job.now os.old next row.old result os.new next row.new }
+    requires may { MayStart (shown_at row.old.cases) (is_among row.old.pending) job.now.position
+        Role.Cleanup }
+    ensures starts { CleanupStarts O.leads source.now job.now os.old next row.old result os.new next
+        row.new }
     ensures moment { HasMoment result }
-    ensures running { (k : ℕ) (r : Role) → shown_at row.new.cases k r ≡ running_after_start (shown_at row.old.cases) job.now Role.Cleanup result k r }
-    ensures pending { (k : ℕ) → is_among row.new.pending k ≡ pending_after_start (is_among row.old.pending) job.now.position Role.Cleanup k }
+    ensures running { (k : ℕ) (r : Role) → shown_at row.new.cases k r
+        ≡ running_after_start (shown_at row.old.cases) job.now Role.Cleanup result k r }
+    ensures pending { (k : ℕ) → is_among row.new.pending k
+        ≡ pending_after_start (is_among row.old.pending) job.now.position Role.Cleanup k }
 {
     let owed = row.take_owed(job.position);
     match spawning(alloc, source, job, Role::Cleanup, owed.attempt, &owed.paths) {

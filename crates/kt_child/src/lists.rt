@@ -27,7 +27,8 @@ const LIST_LIMIT: u64 = 300;
 
 /// Waits for a list that was started, reads it, and removes its directory.
 fn watch_list<O: Os>(os: &mut O, child: Child, paths: &Paths) -> (Outcome, ListBytes)
-    ensures { (calls : List Call) × Chain O.leads os.old calls os.new × WatchedList child paths.now calls result.0 result.1 }
+    ensures { (calls : List Call) × Chain O.leads os.old calls os.new
+        × WatchedList child paths.now calls result.0 result.1 }
 {
     let mut children = [Watched {
         child,
@@ -41,7 +42,8 @@ fn watch_list<O: Os>(os: &mut O, child: Child, paths: &Paths) -> (Outcome, ListB
 }
 
 fn run_list<O: Os>(os: &mut O, plan: &Spawning, paths: &Paths) -> Listing
-    ensures { (calls : List Call) × Chain O.leads os.old calls os.new × RanList plan.now paths.now calls result }
+    ensures { (calls : List Call) × Chain O.leads os.old calls os.new
+        × RanList plan.now paths.now calls result }
 {
     match set_up(os, &paths.dir, plan) {
         Err(cause) => Listing::Refused(cause),
@@ -61,7 +63,8 @@ fn listing(
     attempt: u64,
     paths: &Paths,
 ) -> Result<Spawning, NoMemory>
-    ensures { IfOk result (λ plan. plan ≡ listing_of source.now program.now variables.now attempt paths.now) }
+    ensures { IfOk result (λ plan. plan ≡ listing_of source.now program.now variables.now attempt
+        paths.now) }
 {
     let program = absolute_path(source, program)?;
     let directory = parent_path(alloc, &program)?;
@@ -127,7 +130,8 @@ pub(super) fn list_by<O: Os>(
     program: &Text,
     variables: &Variables,
 ) -> Listing
-    ensures { ListsBy O.leads source.now root.now program.now variables.now os.old next.old result os.new next.new }
+    ensures { ListsBy O.leads source.now root.now program.now variables.now os.old next.old result
+        os.new next.new }
 {
     if *next == u64::MAX {
         return Listing::Refused(Refused::Directory);

@@ -15,7 +15,8 @@ fn recordable(moment: u64) -> u64
 
 /// Asks for the moment, in milliseconds since 1970 in UTC.
 pub(super) fn moment<O: Os>(os: &mut O) -> u64
-    ensures asked { (answer : Result ℕ OsFault) × O.leads os.old (Now answer) os.new × (result ≡ moment_of answer) }
+    ensures asked { (answer : Result ℕ OsFault) × O.leads os.old (Now answer) os.new
+        × (result ≡ moment_of answer) }
     ensures range { result ≤ LATEST_MOMENT }
 {
     match os.now() {

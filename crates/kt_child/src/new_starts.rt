@@ -9,7 +9,8 @@ use kt_base::{Refused, Text};
 
 /// Starts a body or a list in a new directory. It asks for no moment.
 pub(super) fn set_up<O: Os>(os: &mut O, dir: &Text, plan: &Spawning) -> Result<(), Refused>
-    ensures { (calls : List Call) × Chain O.leads os.old calls os.new × SetUp (furnish_asks plan.now) dir.now calls result }
+    ensures { (calls : List Call) × Chain O.leads os.old calls os.new
+        × SetUp (furnish_asks plan.now) dir.now calls result }
 {
     if os.make_dir(dir).is_err() {
         return Err(Refused::Directory);

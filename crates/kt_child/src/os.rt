@@ -37,7 +37,8 @@ pub trait Os {
         env: &EnvPlan,
         dir: &Text,
     ) -> Result<(), OsFault>
-        ensures { leads self.old (Spawn child program.now words.now env.now dir.now (is_ok result)) self.new };
+        ensures { leads self.old (Spawn child program.now words.now env.now dir.now (is_ok result))
+            self.new };
 
     /// Asks how a child stands, and does not wait for it.
     fn poll(&mut self, child: Child) -> Result<Polled, OsFault>

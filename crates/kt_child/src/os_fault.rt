@@ -1,7 +1,9 @@
 use kt_base::NoMemory;
+use thiserror::Error;
 
 /// A call to the system that failed. Why it failed changes nothing, so it is not told.
-#[derive(Clone, Copy, Debug, PartialEq, Eq)]
+#[derive(Clone, Copy, Debug, PartialEq, Eq, Error)]
+#[error("system call failed")]
 pub struct OsFault;
 
 impl From<NoMemory> for OsFault {

@@ -50,7 +50,9 @@ impl Pace {
 
     /// Whether one more answer `running` would come too early at this time, by the nanoseconds since the start.
     fn is_early_at(&self, now: Instant) -> bool
-        ensures { IsTrue result ↔ IsSomeAnd self.now.started (λ start. (instant_nanos now - instant_nanos start) / 1000000 / 10 + 16 ≤ self.now.told) }
+        ensures { IsTrue result ↔ IsSomeAnd self.now.started
+            (λ start. (instant_nanos now - instant_nanos start) / 1000000 / 10 + 16
+            ≤ self.now.told) }
     {
         match self.started {
             Some(started) => is_too_early(self.told, now.duration_since(started).as_millis()),

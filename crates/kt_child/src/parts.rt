@@ -16,7 +16,8 @@ use kt_base::{Bytes, NoMemory, Text};
 fn count_part(got: &mut u64, bytes: &Bytes, follows: bool, limit: u64) -> NextPart
     requires { got.old < limit }
     ensures next { result ≡ next_of limit got.old (FileRead.Part bytes.now follows) }
-    ensures more { result ≡ NextPart.More → (got.new ≡ got.old + length bytes.now) × (got.old < got.new) × (got.new < limit) }
+    ensures more { result ≡ NextPart.More → (got.new ≡ got.old + length bytes.now)
+        × (got.old < got.new) × (got.new < limit) }
 {
     if !follows {
         return NextPart::All;
@@ -56,7 +57,8 @@ fn take_part<R: PartReader>(
     ensures next { IsNext limit got.old (Ok (FileRead.Part bytes.now follows)) result }
     ensures all { result ≡ NextPart.All → Takes R.has_taken reader.old reader.new bytes.now }
     ensures taken { result ≡ NextPart.More → Takes R.has_taken reader.old reader.new bytes.now }
-    ensures more { result ≡ NextPart.More → (got.new ≡ got.old + length bytes.now) × (got.old < got.new) × (got.new < limit) }
+    ensures more { result ≡ NextPart.More → (got.new ≡ got.old + length bytes.now)
+        × (got.old < got.new) × (got.new < limit) }
 {
     match hand(reader, bytes) {
         Err(_) => NextPart::Failed,
@@ -67,9 +69,12 @@ fn take_part<R: PartReader>(
 fn take<R: PartReader>(reader: &mut R, got: &mut u64, read: FileRead, limit: u64) -> NextPart
     requires { got.old < limit }
     ensures next { IsNext limit got.old (Ok read) result }
-    ensures all { result ≡ NextPart.All → Takes R.has_taken reader.old reader.new (bytes_of (Ok read)) }
-    ensures taken { result ≡ NextPart.More → Takes R.has_taken reader.old reader.new (bytes_of (Ok read)) }
-    ensures more { result ≡ NextPart.More → (got.new ≡ got.old + length (bytes_of (Ok read))) × (got.old < got.new) × (got.new < limit) }
+    ensures all { result ≡ NextPart.All → Takes R.has_taken reader.old reader.new
+        (bytes_of (Ok read)) }
+    ensures taken { result ≡ NextPart.More → Takes R.has_taken reader.old reader.new
+        (bytes_of (Ok read)) }
+    ensures more { result ≡ NextPart.More → (got.new ≡ got.old + length (bytes_of (Ok read)))
+        × (got.old < got.new) × (got.new < limit) }
 {
     match read {
         FileRead::Missing => {

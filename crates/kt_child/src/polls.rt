@@ -36,7 +36,8 @@ pub fn poll_once<O: Os>(os: &mut O, child: Child, limit: u64, watch: &mut Watch)
     ensures asked { (answer : Result Polled OsFault) × (done : Bool)
         × Chain O.leads os.old (asked_by_poll child limit watch.old answer done) os.new
         × (result ≡ turn_of limit watch.old answer done) }
-    ensures watched { result ≡ Turn.More → (watch.new ≡ watch_after limit watch.old) × IsWatched limit watch.new }
+    ensures watched { result ≡ Turn.More → (watch.new ≡ watch_after limit watch.old)
+        × IsWatched limit watch.new }
 {
     match os.poll(child) {
         Err(_) => {
@@ -55,7 +56,8 @@ fn still_running<O: Os>(os: &mut O, child: Child, limit: u64, watch: &mut Watch)
     ensures asked { (done : Bool)
         × Chain O.leads os.old (if is_due limit watch.old then Kill child done ∷ [] else []) os.new
         × (result ≡ turn_of limit watch.old (Ok Running) done) }
-    ensures watched { result ≡ Turn.More → (watch.new ≡ watch_after limit watch.old) × IsWatched limit watch.new }
+    ensures watched { result ≡ Turn.More → (watch.new ≡ watch_after limit watch.old)
+        × IsWatched limit watch.new }
 {
     if watch.killed {
         watch.after += 1;

@@ -34,7 +34,13 @@ impl Model for Row {
 
     ghost Value = { Board };
 
-    ghost view = { λ r. record { children = r.children.items; cases = r.cases.items; going = r.going; pending = r.pending.items } };
+    ghost view = { λ r. record {
+      children = r.children.items;
+      cases = r.cases.items;
+      going =
+          r.going;
+      pending = r.pending.items;
+    } };
 
     ghost invariant = { λ r. IsBoard r.children.items r.cases.items r.going r.pending.items
         × (vec_len r.cases + vec_len r.pending ≤ vec_capacity r.pending) };
@@ -53,7 +59,8 @@ fn make_room(
     ensures room { vec_len cases.new + vec_len pending.new ≤ vec_capacity pending.new }
     ensures child { OnOk result (vec_len children.new < vec_capacity children.new) }
     ensures case { OnOk result (vec_len cases.new < vec_capacity cases.new) }
-    ensures owed { OnOk result (vec_len cases.new + vec_len pending.new < vec_capacity pending.new) }
+    ensures owed { OnOk result (vec_len cases.new + vec_len pending.new
+        < vec_capacity pending.new) }
 {
     children.reserve(1)?;
     cases.reserve(1)?;
@@ -82,7 +89,8 @@ fn forget(children: &mut Vec<Watched>, cases: &mut Vec<Case>, pending: &mut Vec<
     requires room { vec_len cases.old + vec_len pending.old ≤ vec_capacity pending.old }
     ensures children { children.new.items ≡ remove children.old.items place }
     ensures cases { cases.new.items ≡ remove cases.old.items place }
-    ensures pending { (c : Case) → slice_get cases.old.items place ≡ Some c → pending.new.items ≡ pending_with c pending.old.items }
+    ensures pending { (c : Case) → slice_get cases.old.items place ≡ Some c
+        → pending.new.items ≡ pending_with c pending.old.items }
     ensures room { vec_len cases.new + vec_len pending.new ≤ vec_capacity pending.new }
 {
     let _ = children.remove(place);
@@ -134,7 +142,8 @@ impl Row {
         ensures position { result.position ≡ position }
         ensures free { count_at position self.new.cases + count_at position self.new.pending ≡ 0 }
         ensures cases { self.new.cases ≡ self.old.cases }
-        ensures pending { (k : ℕ) → is_among self.new.pending k ≡ (if k == position then false else is_among self.old.pending k) }
+        ensures pending { (k : ℕ) → is_among self.new.pending k
+            ≡ (if k == position then false else is_among self.old.pending k) }
     {
         let place = place_of(&self.pending, position);
         self.pending.remove(place)
@@ -149,11 +158,14 @@ impl Row {
         plan: &Spawning,
     ) -> StartAnswer
         requires on { IsOn child }
-        requires free { count_at case.position self.old.cases + count_at case.position self.old.pending ≡ 0 }
-        ensures begun { (calls : List Call) × Chain O.leads os.old calls os.new × BegunBody plan.now case.paths.dir calls result }
+        requires free { count_at case.position self.old.cases + count_at case.position
+            self.old.pending ≡ 0 }
+        ensures begun { (calls : List Call) × Chain O.leads os.old calls os.new
+            × BegunBody plan.now case.paths.dir calls result }
         ensures moment { HasMoment result }
         ensures board { self.new ≡ board_after_start self.old child case result }
-        ensures running { (k : ℕ) (r : Role) → shown_at self.new.cases k r ≡ shown_after (shown_at self.old.cases) case result k r }
+        ensures running { (k : ℕ) (r : Role) → shown_at self.new.cases k r
+            ≡ shown_after (shown_at self.old.cases) case result k r }
     {
         if let Err(refusal) = make_room(&mut self.children, &mut self.cases, &mut self.pending) {
             return StartAnswer::Refused(memory_refusal(refusal));
@@ -177,11 +189,14 @@ impl Row {
         plan: &Spawning,
     ) -> StartAnswer
         requires on { IsOn child }
-        requires free { count_at case.position self.old.cases + count_at case.position self.old.pending ≡ 0 }
-        ensures begun { (calls : List Call) × Chain O.leads os.old calls os.new × BegunCleanup plan.now case.paths.dir calls result }
+        requires free { count_at case.position self.old.cases + count_at case.position
+            self.old.pending ≡ 0 }
+        ensures begun { (calls : List Call) × Chain O.leads os.old calls os.new
+            × BegunCleanup plan.now case.paths.dir calls result }
         ensures moment { HasMoment result }
         ensures board { self.new ≡ board_after_start self.old child case result }
-        ensures running { (k : ℕ) (r : Role) → shown_at self.new.cases k r ≡ shown_after (shown_at self.old.cases) case result k r }
+        ensures running { (k : ℕ) (r : Role) → shown_at self.new.cases k r
+            ≡ shown_after (shown_at self.old.cases) case result k r }
     {
         if let Err(refusal) = make_room(&mut self.children, &mut self.cases, &mut self.pending) {
             let _ = os.remove_tree(&case.paths.dir);
@@ -200,11 +215,15 @@ impl Row {
     /// Waits for the first child that is over.
     pub fn wait<O: Os>(&mut self, alloc: Global, os: &mut O) -> Ended
         requires { 0 < length self.old.cases }
-        ensures waited { (calls : List Call) × Chain O.leads os.old calls os.new × Waited self.old calls result self.new }
+        ensures waited { (calls : List Call) × Chain O.leads os.old calls os.new
+            × Waited self.old calls result self.new }
         ensures moment { IsMoment result.moment }
-        ensures one_that_ran { (s : Shown) × (shown_at self.old.cases result.position result.role ≡ Some s) × IsEvidence s.interface result.role result.evidence }
-        ensures running { (k : ℕ) (r : Role) → shown_at self.new.cases k r ≡ running_after_end (shown_at self.old.cases) result k r }
-        ensures pending { (k : ℕ) → is_among self.new.pending k ≡ pending_after_end (shown_at self.old.cases) (is_among self.old.pending) result k }
+        ensures one_that_ran { (s : Shown) × (shown_at self.old.cases result.position result.role
+            ≡ Some s) × IsEvidence s.interface result.role result.evidence }
+        ensures running { (k : ℕ) (r : Role) → shown_at self.new.cases k r
+            ≡ running_after_end (shown_at self.old.cases) result k r }
+        ensures pending { (k : ℕ) → is_among self.new.pending k
+            ≡ pending_after_end (shown_at self.old.cases) (is_among self.old.pending) result k }
     {
         let over = wait_on(os, &mut self.children, &mut self.going);
         let ended = leave(alloc, os, &self.cases[over.place], over.outcome);

@@ -12,7 +12,8 @@ use kt_base::{LATEST_MOMENT, Refused, Text};
 
 /// Opens the two outputs and spawns the child.
 fn open_and_spawn<O: Os>(os: &mut O, plan: &Spawning) -> Result<(), Refused>
-    ensures { (calls : List Call) × Chain O.leads os.old calls os.new × Tried (child_asks plan.now) calls result }
+    ensures { (calls : List Call) × Chain O.leads os.old calls os.new
+        × Tried (child_asks plan.now) calls result }
 {
     if os.open_output(plan.child, &plan.out).is_err() {
         return Err(Refused::Output);
@@ -37,7 +38,8 @@ fn open_and_spawn<O: Os>(os: &mut O, plan: &Spawning) -> Result<(), Refused>
 
 /// Makes the work directory, and then as above.
 pub(super) fn furnish<O: Os>(os: &mut O, plan: &Spawning) -> Result<(), Refused>
-    ensures { (calls : List Call) × Chain O.leads os.old calls os.new × Tried (furnish_asks plan.now) calls result }
+    ensures { (calls : List Call) × Chain O.leads os.old calls os.new
+        × Tried (furnish_asks plan.now) calls result }
 {
     if os.make_dir(&plan.work).is_err() {
         return Err(Refused::Directory);
@@ -47,7 +49,8 @@ pub(super) fn furnish<O: Os>(os: &mut O, plan: &Spawning) -> Result<(), Refused>
 
 /// Asks for the moment of a start that succeeded.
 fn stamp<O: Os>(os: &mut O) -> Result<u64, Refused>
-    ensures asked { (answer : Result ℕ OsFault) × O.leads os.old (Now answer) os.new × (result ≡ Ok (moment_of answer)) }
+    ensures asked { (answer : Result ℕ OsFault) × O.leads os.old (Now answer) os.new
+        × (result ≡ Ok (moment_of answer)) }
     ensures range { IfOk result (λ moment. moment ≤ LATEST_MOMENT) }
 {
     Ok(moment(os))
@@ -55,7 +58,8 @@ fn stamp<O: Os>(os: &mut O) -> Result<u64, Refused>
 
 /// Asks for the moment of a start that succeeded, and for the removal after one that was refused.
 fn settle<O: Os>(os: &mut O, dir: &Text, tried: Result<(), Refused>) -> Result<u64, Refused>
-    ensures settled { (last : Call) × O.leads os.old last os.new × Settles dir.now tried last result }
+    ensures settled { (last : Call) × O.leads os.old last os.new
+        × Settles dir.now tried last result }
     ensures range { IfOk result (λ moment. moment ≤ LATEST_MOMENT) }
 {
     match tried {

@@ -11,8 +11,10 @@ use crate::watched::Watched;
 /// Polls the children in order, up to the first that is over.
 pub(super) fn turn<O: Os>(os: &mut O, children: &mut [Watched]) -> Option<Over>
     requires { All IsOn children.old }
-    ensures none { result ≡ None → (calls : List Call) × Chain O.leads os.old calls os.new × PolledAll children.old calls }
-    ensures went_on { result ≡ None → children.new ≡ advanced_below (length children.old) children.old }
+    ensures none { result ≡ None → (calls : List Call) × Chain O.leads os.old calls os.new
+        × PolledAll children.old calls }
+    ensures went_on { result ≡ None → children.new
+        ≡ advanced_below (length children.old) children.old }
     ensures over { IfSome result (λ over. (calls : List Call) × Chain O.leads os.old calls os.new
         × PolledUntil children.old over.place calls over.outcome) }
     ensures before { IfSome result (λ over. children.new ≡ advanced_below over.place children.old) }

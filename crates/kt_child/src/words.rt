@@ -48,7 +48,8 @@ fn body_words(
     variables: &Variables,
     case_name: &Text,
 ) -> Result<Items<Text>, NoMemory>
-    ensures { IfOk result (λ words. words ≡ words_of Interface.Atf Want.Body result_file.now source.now variables.now case_name.now) }
+    ensures { IfOk result (λ words. words ≡ words_of Interface.Atf Want.Body result_file.now
+        source.now variables.now case_name.now) }
 {
     let result_word = joined(alloc, "-r", result_file)?;
     let source_word = joined(alloc, "-s", source)?;
@@ -67,7 +68,8 @@ fn cleanup_words(
     variables: &Variables,
     case_name: &Text,
 ) -> Result<Items<Text>, NoMemory>
-    ensures { IfOk result (λ words. words ≡ ((codes "-s" ++ source.now) ∷ []) ++ map variable_word variables.now ++ (case_name.now ++ codes ":cleanup") ∷ []) }
+    ensures { IfOk result (λ words. words ≡ ((codes "-s" ++ source.now) ∷ [])
+        ++ map variable_word variables.now ++ (case_name.now ++ codes ":cleanup") ∷ []) }
 {
     let source_word = joined(alloc, "-s", source)?;
     let mut case_word = case_name.copy()?;
@@ -90,7 +92,8 @@ pub fn argv_plan(
     variables: &Variables,
     case_name: &Text,
 ) -> Result<Items<Text>, NoMemory>
-    ensures { IfOk result (λ words. words ≡ words_of interface want paths.now.result source.now variables.now case_name.now) }
+    ensures { IfOk result (λ words. words ≡ words_of interface want paths.now.result source.now
+        variables.now case_name.now) }
 {
     match interface {
         Interface::Tap | Interface::Plain => Ok(Items::new(alloc)),

@@ -26,7 +26,12 @@ impl Model for ClaimReader {
 
     ghost Value = { ClaimReading };
 
-    ghost view = { λ r. record { kept = r.bytes.items; too_long = r.too_long; failed = is_some r.failed } };
+    ghost view = { λ r. record {
+      kept = r.bytes.items;
+      too_long = r.too_long;
+      failed = is_some
+          r.failed;
+    } };
 
     ghost invariant = { λ r. length r.bytes.items ≤ limit };
 }
@@ -51,7 +56,8 @@ impl ClaimReader {
 
     /// Takes the next piece. Once memory has run out, each later call answers so.
     pub fn feed(&mut self, piece: &[u8]) -> Result<(), NoMemory>
-        ensures ok { OnOk result ((fed : List ℕ) → HasRead self.old fed → HasRead self.new (fed ++ piece.now)) }
+        ensures ok { OnOk result ((fed : List ℕ) → HasRead self.old fed
+            → HasRead self.new (fed ++ piece.now)) }
         ensures bounded { length self.new.kept ≤ limit }
         ensures err { OnErr result (self.new.failed ≡ true) }
         ensures failed { self.old.failed ≡ true → IsErr result }
@@ -72,7 +78,8 @@ impl ClaimReader {
     }
 
     fn read(self) -> Result<Claim, NoMemory>
-        ensures read { (fed : List ℕ) → HasRead self fed → IfOk result (λ claim. claim ≡ claim_of fed) }
+        ensures read { (fed : List ℕ) → HasRead self fed
+            → IfOk result (λ claim. claim ≡ claim_of fed) }
         ensures failed { self.failed ≡ true → IsErr result }
     {
         if let Some(refusal) = self.failed {
@@ -86,9 +93,12 @@ impl ClaimReader {
 
     /// The claim of the pieces joined (this profile).
     pub fn finish(self) -> Result<Claim, NoMemory>
-        ensures value { (fed : List ℕ) → HasRead self fed → IfOk result (λ claim. IsClaimOf fed claim) }
-        ensures only { (fed : List ℕ) → HasRead self fed → (claim : Claim) → IsClaimOf fed claim → IfOk result (λ c. c ≡ claim) }
-        ensures read { (fed : List ℕ) → HasRead self fed → IfOk result (λ claim. claim ≡ claim_of fed) }
+        ensures value { (fed : List ℕ) → HasRead self fed
+            → IfOk result (λ claim. IsClaimOf fed claim) }
+        ensures only { (fed : List ℕ) → HasRead self fed → (claim : Claim) → IsClaimOf fed claim
+            → IfOk result (λ c. c ≡ claim) }
+        ensures read { (fed : List ℕ) → HasRead self fed
+            → IfOk result (λ claim. claim ≡ claim_of fed) }
         ensures failed { self.failed ≡ true → IsErr result }
     {
         self.read()

@@ -38,7 +38,8 @@ fn lone(opening: Opening) -> LineKind
 
 /// A line that began with a word and may lack some of it.
 fn opened(opening: Opening, lacks: &'static [u8]) -> LineKind
-    ensures { (kept : List ℕ) → facts_of_kind result [] ≡ told (Begun.Opened opening lacks.entry) kept [] }
+    ensures { (kept : List ℕ) → facts_of_kind result []
+        ≡ told (Begun.Opened opening lacks.entry) kept [] }
 {
     if lacks.is_empty() {
         lone(opening)
@@ -78,7 +79,8 @@ fn undirected(purpose: Purpose) -> LineKind
 
 /// What the line is; a reason that was begun is not looked at.
 pub fn ended(begun: Begun) -> LineKind
-    ensures plain { is_reason begun ≡ false → (kept : List ℕ) → facts_of_kind result [] ≡ told begun kept [] }
+    ensures plain { is_reason begun ≡ false → (kept : List ℕ)
+        → facts_of_kind result [] ≡ told begun kept [] }
     ensures reason { is_reason begun ≡ true → result ≡ LineKind.Plan 0 }
 {
     match begun {

@@ -26,7 +26,9 @@ fn is_decided(begun: Begun) -> bool
 
 /// What a part makes of the line. A line that is decided is not looked at any more.
 fn take_in(begun: Begun, kept: &mut Vec<u8>, part: &[u8]) -> Result<Begun, NoMemory>
-    ensures { IfOk result (λ after. KeepsFor begun kept.old.items → KeepsFor after kept.new.items × ((more : List ℕ) → told begun kept.old.items (part.now ++ more) ≡ told after kept.new.items more)) }
+    ensures { IfOk result (λ after. KeepsFor begun kept.old.items → KeepsFor after kept.new.items
+        × ((more : List ℕ) → told begun kept.old.items (part.now ++ more)
+        ≡ told after kept.new.items more)) }
 {
     let mut state = begun;
     let mut rest = part;
@@ -46,7 +48,8 @@ fn take_in(begun: Begun, kept: &mut Vec<u8>, part: &[u8]) -> Result<Begun, NoMem
 
 /// Takes in the carriage return that was held back, since more of the line follows.
 fn release(begun: Begun, kept: &mut Vec<u8>, held: bool) -> Result<Begun, NoMemory>
-    ensures { IfOk result (λ after. (came : List ℕ) → Knows begun kept.old.items held came → Released after kept.new.items came) }
+    ensures { IfOk result (λ after. (came : List ℕ) → Knows begun kept.old.items held came
+        → Released after kept.new.items came) }
 {
     if held {
         take_in(begun, kept, b"\r")
@@ -57,7 +60,9 @@ fn release(begun: Begun, kept: &mut Vec<u8>, held: bool) -> Result<Begun, NoMemo
 
 /// Takes the next part of a line, in which there is no newline.
 pub fn go_on(line: &mut OpenLine, part: &[u8]) -> Result<(), NoMemory>
-    ensures { OnOk result ((came : List ℕ) → Knows line.old.begun line.old.kept.items line.old.held came → Knows line.new.begun line.new.kept.items line.new.held (came ++ part.now)) }
+    ensures { OnOk result ((came : List ℕ)
+        → Knows line.old.begun line.old.kept.items line.old.held came
+        → Knows line.new.begun line.new.kept.items line.new.held (came ++ part.now)) }
 {
     let Some((last, front)) = part.split_last() else {
         return Ok(());

@@ -42,7 +42,8 @@ fn first(b: u8) -> Begun
 }
 
 fn found(purpose: Purpose, is_skip: bool) -> Begun
-    ensures told { (kept more : List ℕ) → told result kept more ≡ directed purpose (Some (is_skip, reason_of more)) }
+    ensures told { (kept more : List ℕ) → told result kept more
+        ≡ directed purpose (Some (is_skip, reason_of more)) }
     ensures plain { is_reason result ≡ false }
 {
     match purpose {
@@ -53,7 +54,8 @@ fn found(purpose: Purpose, is_skip: bool) -> Begun
 }
 
 fn looking(purpose: Purpose, escaped: bool, b: u8) -> Begun
-    ensures told { (kept more : List ℕ) → told result kept more ≡ directed purpose (directive_behind escaped (b ∷ more)) }
+    ensures told { (kept more : List ℕ) → told result kept more
+        ≡ directed purpose (directive_behind escaped (b ∷ more)) }
     ensures plain { is_reason result ≡ false }
 {
     if b == b'#' && !escaped {
@@ -64,7 +66,8 @@ fn looking(purpose: Purpose, escaped: bool, b: u8) -> Begun
 }
 
 fn behind_hash(purpose: Purpose, b: u8) -> Begun
-    ensures told { (kept more : List ℕ) → told result kept more ≡ told (Begun.Hash purpose) kept (b ∷ more) }
+    ensures told { (kept more : List ℕ) → told result kept more
+        ≡ told (Begun.Hash purpose) kept (b ∷ more) }
     ensures plain { is_reason result ≡ false }
 {
     if is_blank(b) {
@@ -106,7 +109,8 @@ fn more_letters(purpose: Purpose, letters: Letters) -> Begun
 }
 
 fn behind_letters(purpose: Purpose, letters: Letters, b: u8) -> Begun
-    ensures told { (kept more : List ℕ) → told result kept more ≡ told (Begun.Lettered purpose letters) kept (b ∷ more) }
+    ensures told { (kept more : List ℕ) → told result kept more
+        ≡ told (Begun.Lettered purpose letters) kept (b ∷ more) }
     ensures plain { is_reason result ≡ false }
 {
     if b.to_ascii_lowercase() == next_letter(letters) {
@@ -118,7 +122,9 @@ fn behind_letters(purpose: Purpose, letters: Letters, b: u8) -> Begun
 
 /// The hash behind a plan of so many tests. A plan of no tests may have a reason.
 fn hash_of_plan(tests: u64) -> Begun
-    ensures told { (kept more : List ℕ) → told result kept more ≡ planning (option_map (plan_for (skips (directive_behind false (35 ∷ more)))) (below_limit tests)) }
+    ensures told { (kept more : List ℕ) → told result kept more
+        ≡ planning (option_map (plan_for (skips (directive_behind false (35 ∷ more))))
+        (below_limit tests)) }
     ensures plain { is_reason result ≡ false }
 {
     if tests == 0 {
@@ -131,7 +137,8 @@ fn hash_of_plan(tests: u64) -> Begun
 }
 
 fn behind_blanks(tests: u64, b: u8) -> Begun
-    ensures told { (kept more : List ℕ) → told result kept more ≡ told (Begun.Blanks tests) kept (b ∷ more) }
+    ensures told { (kept more : List ℕ) → told result kept more
+        ≡ told (Begun.Blanks tests) kept (b ∷ more) }
     ensures plain { is_reason result ≡ false }
 {
     if is_blank(b) {
@@ -145,7 +152,8 @@ fn behind_blanks(tests: u64, b: u8) -> Begun
 
 fn one_digit_more(value: u64, digit: u64) -> Begun
     requires { digit < 2 ^ 8 }
-    ensures told { (b : ℕ) → is_digit b ≡ true → digit ≡ b - 48 → (kept more : List ℕ) → told result kept more ≡ told (Begun.Digits (Some value)) kept (b ∷ more) }
+    ensures told { (b : ℕ) → is_digit b ≡ true → digit ≡ b - 48 → (kept more : List ℕ)
+        → told result kept more ≡ told (Begun.Digits (Some value)) kept (b ∷ more) }
     ensures plain { is_reason result ≡ false }
 {
     if value < LIMIT {
@@ -156,7 +164,8 @@ fn one_digit_more(value: u64, digit: u64) -> Begun
 }
 
 fn with_digit(value: Option<u64>, b: u8) -> Begun
-    ensures told { is_digit b ≡ true → (kept more : List ℕ) → told result kept more ≡ told (Begun.Digits value) kept (b ∷ more) }
+    ensures told { is_digit b ≡ true → (kept more : List ℕ)
+        → told result kept more ≡ told (Begun.Digits value) kept (b ∷ more) }
     ensures plain { is_reason result ≡ false }
 {
     let digit = b.saturating_sub(b'0') as u64;
@@ -167,7 +176,8 @@ fn with_digit(value: Option<u64>, b: u8) -> Begun
 }
 
 fn behind_digits(value: Option<u64>, b: u8) -> Begun
-    ensures told { (kept more : List ℕ) → told result kept more ≡ told (Begun.Digits value) kept (b ∷ more) }
+    ensures told { (kept more : List ℕ) → told result kept more
+        ≡ told (Begun.Digits value) kept (b ∷ more) }
     ensures plain { is_reason result ≡ false }
 {
     if is_digit(b) {
@@ -180,7 +190,8 @@ fn behind_digits(value: Option<u64>, b: u8) -> Begun
 }
 
 fn behind_opening(opening: Opening, b: u8) -> Begun
-    ensures told { (kept more : List ℕ) → told result kept more ≡ behind_opening opening (b ∷ more) }
+    ensures told { (kept more : List ℕ) → told result kept more
+        ≡ behind_opening opening (b ∷ more) }
     ensures plain { is_reason result ≡ false }
 {
     match opening {
@@ -193,7 +204,8 @@ fn behind_opening(opening: Opening, b: u8) -> Begun
 }
 
 fn opened(opening: Opening, lacks: &'static [u8], b: u8) -> Begun
-    ensures told { (kept more : List ℕ) → told result kept more ≡ told (Begun.Opened opening lacks.entry) kept (b ∷ more) }
+    ensures told { (kept more : List ℕ) → told result kept more
+        ≡ told (Begun.Opened opening lacks.entry) kept (b ∷ more) }
     ensures plain { is_reason result ≡ false }
 {
     match lacks.split_first() {
@@ -205,7 +217,8 @@ fn opened(opening: Opening, lacks: &'static [u8], b: u8) -> Begun
 
 /// What one more byte makes of a line, unless the byte is one of a reason.
 pub fn step(begun: Begun, b: u8) -> Begun
-    ensures told { is_kept begun b ≡ false → (kept more : List ℕ) → told result kept more ≡ told begun kept (b ∷ more) }
+    ensures told { is_kept begun b ≡ false → (kept more : List ℕ)
+        → told result kept more ≡ told begun kept (b ∷ more) }
     ensures kept { is_reason result ≡ is_reason begun }
 {
     match begun {

@@ -25,7 +25,9 @@ fn line_length(text: &[u8]) -> usize
 
 /// Goes on with the line that was begun.
 fn take_part(line: &mut OpenLine, part: &[u8]) -> Result<(), NoMemory>
-    ensures { OnOk result (list_any is_newline part.now ≡ false → (tally : Tally) (fed : List ℕ) → HasLines tally (state_of line.old) fed → HasLines tally (state_of line.new) (fed ++ part.now)) }
+    ensures { OnOk result (list_any is_newline part.now ≡ false → (tally : Tally) (fed : List ℕ)
+        → HasLines tally (state_of line.old) fed
+        → HasLines tally (state_of line.new) (fed ++ part.now)) }
 {
     go_on(line, part)?;
     Ok(())
@@ -33,7 +35,9 @@ fn take_part(line: &mut OpenLine, part: &[u8]) -> Result<(), NoMemory>
 
 /// Counts the line that was begun and now has its newline.
 fn end_line(alloc: Global, tally: Tally, line: &mut OpenLine) -> Result<Tally, NoMemory>
-    ensures { IfOk result (λ after. (fed : List ℕ) → length fed < limit → HasLines tally (state_of line.old) fed → HasLines after (state_of line.new) (fed ++ 10 ∷ [])) }
+    ensures { IfOk result (λ after. (fed : List ℕ) → length fed < limit
+        → HasLines tally (state_of line.old) fed
+        → HasLines after (state_of line.new) (fed ++ 10 ∷ [])) }
 {
     let after = tally.add(alloc, ended(line.begun), trimmed(&line.kept))?;
     line.begun = Begun::Nothing;
@@ -44,7 +48,8 @@ fn end_line(alloc: Global, tally: Tally, line: &mut OpenLine) -> Result<Tally, N
 
 /// What the lines say, the last one too.
 pub fn tap_at_end(alloc: Global, tally: Tally, line: &OpenLine) -> Result<Tap, NoMemory>
-    ensures { IfOk result (λ tap. (fed : List ℕ) → length fed ≤ limit → HasLines tally (state_of line.now) fed → tap ≡ tap_of_lines (lines_of fed)) }
+    ensures { IfOk result (λ tap. (fed : List ℕ) → length fed ≤ limit
+        → HasLines tally (state_of line.now) fed → tap ≡ tap_of_lines (lines_of fed)) }
 {
     let tally = tally.add(alloc, ended(line.begun), trimmed(&line.kept))?;
     Ok(tally.tap())
@@ -57,7 +62,9 @@ pub fn read(
     line: &mut OpenLine,
     piece: &[u8],
 ) -> Result<Tally, NoMemory>
-    ensures { IfOk result (λ after. (fed : List ℕ) → length fed + length piece.now ≤ limit → HasLines tally (state_of line.old) fed → HasLines after (state_of line.new) (fed ++ piece.now)) }
+    ensures { IfOk result (λ after. (fed : List ℕ) → length fed + length piece.now ≤ limit
+        → HasLines tally (state_of line.old) fed
+        → HasLines after (state_of line.new) (fed ++ piece.now)) }
 {
     let mut tally = tally;
     let mut rest = piece;

@@ -35,7 +35,13 @@ impl Model for TapReader {
 
     ghost Value = { StreamReading };
 
-    ghost view = { λ r. record { tally = r.tally; line = state_of r.line; length = r.length; too_long = r.too_long; failed = is_some r.failed } };
+    ghost view = { λ r. record {
+      tally = r.tally;
+      line = state_of r.line;
+      length = r.length;
+      too_long = r.too_long;
+      failed = is_some r.failed;
+    } };
 
     ghost invariant = { λ r. r.length ≤ limit };
 }
@@ -65,8 +71,10 @@ impl TapReader {
 
     /// Takes the next piece. Once memory has run out, each later call answers so.
     pub fn feed(&mut self, piece: &[u8]) -> Result<(), NoMemory>
-        ensures ok { OnOk result ((fed : List ℕ) → HasStream self.old fed → HasStream self.new (fed ++ piece.now)) }
-        ensures bounded { (fed : List ℕ) → HasStream self.new fed → self.new.too_long ≡ false → KeepsLittle self.new.line fed }
+        ensures ok { OnOk result ((fed : List ℕ) → HasStream self.old fed
+            → HasStream self.new (fed ++ piece.now)) }
+        ensures bounded { (fed : List ℕ) → HasStream self.new fed → self.new.too_long ≡ false
+            → KeepsLittle self.new.line fed }
         ensures err { OnErr result (self.new.failed ≡ true) }
         ensures failed { self.old.failed ≡ true → IsErr result }
     {
@@ -91,7 +99,8 @@ impl TapReader {
 
     /// What the pieces joined say.
     pub fn finish(self) -> Result<Tap, NoMemory>
-        ensures value { (fed : List ℕ) → HasStream self fed → IfOk result (λ tap. tap ≡ tap_of fed) }
+        ensures value { (fed : List ℕ) → HasStream self fed
+            → IfOk result (λ tap. tap ≡ tap_of fed) }
         ensures failed { self.failed ≡ true → IsErr result }
     {
         if let Some(refusal) = self.failed {

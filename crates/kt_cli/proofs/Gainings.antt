@@ -1,6 +1,6 @@
 -- Entries are recorded and told one after the other.
 use Rattle.std.specs.Prelude.{Option, Result, Ok, Err, take}
-use Rattle.std.proofs.Common.{◌≡◌, ℕ, Bool, List, [], ◌∷◌, length, refl, sym, ap, ◌∙◌, subst}
+use Rattle.std.proofs.Common.{◌≡◌, ℕ, Bool, List, [], ◌∷◌, ◌++◌, length, refl, sym, ap, ◌∙◌, subst, append-nil}
 use Rattle.kt_base.specs.declared.entry.Entry.{Entry}
 use Rattle.kt_base.specs.declared.run.Run.{Run}
 use Rattle.kt_report.specs.Lines.{line_bytes}
@@ -13,25 +13,14 @@ use Rattle.kt_sched.specs.EntryOf.{Gains, AreEntries}
 use Rattle.kt_sched.specs.RecordOrder.{recorded}
 use Rattle.kt_sched.specs.Run.{EndsAs}
 use Rattle.kt_sched.specs.Trace.{Trace}
-use Rattle.kt_store.specs.Runs.{with_entry}
+use Rattle.kt_store.specs.StoreCalls.{StoreCall, Put}
 use Rattle.kt_cli.specs.Pages.{Says}
 use Rattle.kt_cli.specs.Recording.{Recorded}
 use Rattle.kt_cli.specs.Recordings.{RecordEnds}
-use Rattle.kt_cli.specs.Stores.{Moves, put_all, put_beside, beside_puts}
+use Rattle.kt_cli.specs.Stores.{Stored, puts}
 use Rattle.kt_cli.specs.Totals.{lines}
 use Rattle.kt_cli.proofs.Saying.{tells_both, tells_nothing}
-
--- one change of a store after another
-pub moves_both : {R : Type 0} (Stands : R → List Run → Type 0) (Sound : R → Type 0) (Leaves : R → List (List Run) → Type 0) (a b c : R) (f g : List Run → List Run) (p q : List Run → List (List Run) → List (List Run)) → Moves Stands Sound Leaves a b f p → Moves Stands Sound Leaves b c g q
-    → Moves Stands Sound Leaves a c (λ runs. g (f runs)) (λ runs may. q (f runs) (p runs may))
-moves_both Stands Sound Leaves a b c f g p q x y = record {
-  moved = λ runs h. y.moved (f runs) (x.moved runs h);
-  earlier = λ runs h s. x.earlier runs h (y.earlier (f runs) (x.moved runs h) s);
-  crash = λ runs may h l. y.crash (f runs) (p runs may) (x.moved runs h) (x.crash runs may h l);
-}
-
-pub moves_not : {R : Type 0} (Stands : R → List Run → Type 0) (Sound : R → Type 0) (Leaves : R → List (List Run) → Type 0) (a : R) → Moves Stands Sound Leaves a a (λ runs. runs) (λ runs may. may)
-moves_not Stands Sound Leaves a = record { moved = λ runs h. h; earlier = λ runs h s. s; crash = λ runs may h l. l }
+use Rattle.kt_cli.proofs.StoreChains.{stored_none, stored_both, stored_as}
 
 take_all : {X : Type 0} (xs : List X) (n : ℕ) → n ≡ length xs → take n xs ≡ xs
 take_all {X} [] n e = subst (λ (k : ℕ). ◌≡◌ {A = List X} (take k []) []) (sym e) refl
@@ -41,19 +30,19 @@ take_all (x ∷ xs) n e = subst (λ (k : ℕ). take k (x ∷ xs) ≡ x ∷ xs) (
 pub all_entries : (plan : List Job) (T : Trace) (positions : List ℕ) (es : List Entry) → length es ≡ length positions → AreEntries plan T (take (length es) positions) es → AreEntries plan T positions es
 all_entries plan T positions es e a = subst (λ (ps : List ℕ). AreEntries plan T ps es) (take_all positions (length es) e) a
 
-module _ {S R : Type 0} (Stands : R → List Run → Type 0) (Sound : R → Type 0) (Leaves : R → List (List Run) → Type 0) (gives : S → Entry → Result (Unit {0}) SinkFault → S → Type 0) (store : S → R) (number : S → ℕ) (failed : S → Bool) (held : S → Option (List ℕ)) (name other : S → ℕ)
-    (each : (s t : S) (e : Entry) (r : Result (Unit {0}) SinkFault) → gives s e r t → (name t ≡ name s) × (other t ≡ other s) × Recorded Stands Sound Leaves (number s) (store s) (failed s) (held s) e r (number t) (store t) (failed t) (held t)) where
+module _ {S R : Type 0} (Answers : R → StoreCall → R → Type 0) (Stands : R → List Run → Type 0) (Sound : R → Type 0) (Leaves : R → List (List Run) → Type 0) (gives : S → Entry → Result (Unit {0}) SinkFault → S → Type 0) (store : S → R) (number : S → ℕ) (failed : S → Bool) (held : S → Option (List ℕ)) (name other : S → ℕ)
+    (each : (s t : S) (e : Entry) (r : Result (Unit {0}) SinkFault) → gives s e r t → (name t ≡ name s) × (other t ≡ other s) × Recorded Answers Stands Sound Leaves (number s) (store s) (failed s) (held s) e r (number t) (store t) (failed t) (held t)) where
   -- what a recorder gained, by its parts
   pub record Gained (es : List Entry) (s t : S) : Type 0 where
     pub same_store : name t ≡ name s
     pub same_out : other t ≡ other s
     pub same_number : number t ≡ number s
-    pub puts : Moves Stands Sound Leaves (store s) (store t) (put_all (number s) es) (λ runs may. put_beside es may)
+    pub stored : Stored Answers Stands Sound Leaves (puts (number s) es) (store s) (store t)
     pub says : Says (held s) (failed s) (held t) (failed t) (lines es)
 
   pub gains_all : (es : List Entry) (s t : S) → Gains gives es s t → Gained es s t
   gains_all [] s t g =
-      subst (λ (u : S). Gained [] s u) (sym g) (record { same_store = refl; same_out = refl; same_number = refl; puts = moves_not Stands Sound Leaves (store s); says = tells_nothing (held s) (failed s) })
+      subst (λ (u : S). Gained [] s u) (sym g) (record { same_store = refl; same_out = refl; same_number = refl; stored = stored_none Answers Stands Sound Leaves (store s); says = tells_nothing (held s) (failed s) })
   gains_all (e ∷ es) s t g =
       let m = g.0 in
       let p = each s m e (Ok tt) g.1 in
@@ -62,8 +51,8 @@ module _ {S R : Type 0} (Stands : R → List Run → Type 0) (Sound : R → Type
         same_store = r.same_store ∙ p.0;
         same_out = r.same_out ∙ p.1;
         same_number = r.same_number ∙ p.2.0;
-        puts = moves_both Stands Sound Leaves (store s) (store m) (store t) (with_entry (number s) e) (put_all (number s) es) (λ runs may. []) (λ runs may. put_beside es may) p.2.1
-            (subst (λ (i : ℕ). Moves Stands Sound Leaves (store m) (store t) (put_all i es) (λ runs may. put_beside es may)) p.2.0 r.puts);
+        stored = stored_both Answers Stands Sound Leaves (Put (number s) e (Ok tt) ∷ []) (puts (number s) es) (store s) (store m) (store t) p.2.1
+            (subst (λ (i : ℕ). Stored Answers Stands Sound Leaves (puts i es) (store m) (store t)) p.2.0 r.stored);
         says = tells_both (held s) (held m) (held t) (failed s) (failed m) (failed t) (line_bytes e) (lines es) p.2.2 r.says;
       }
 
@@ -71,13 +60,17 @@ module _ {S R : Type 0} (Stands : R → List Run → Type 0) (Sound : R → Type
   pub record Whole (plan : List Job) (n : ℕ) (T : Trace) (es : List Entry) (answer : Result Totals RunFault) (s t : S) : Type 0 where
     pub same_store : name t ≡ name s
     pub same_out : other t ≡ other s
-    pub refused : List Entry
-    pub puts : Moves Stands Sound Leaves (store s) (store t) (put_all (number s) es) (beside_puts (number s) es refused)
+    pub last : List StoreCall
+    pub stored : Stored Answers Stands Sound Leaves (puts (number s) es ++ last) (store s) (store t)
     pub says : Says (held s) (failed s) (held t) (failed t) (lines es)
-    pub ends : RecordEnds plan n T es refused answer
+    pub ends : RecordEnds plan n (number s) T es last answer
 
   none_gained : (es : List Entry) (s t : S) → es ≡ [] → t ≡ s → Gains gives es s t
   none_gained es s t e f = subst (λ (xs : List Entry). Gains gives xs s t) (sym e) f
+
+  -- no put was refused
+  none_refused : (es : List Entry) (s t : S) → Gained es s t → Stored Answers Stands Sound Leaves (puts (number s) es ++ []) (store s) (store t)
+  none_refused es s t g = stored_as Answers Stands Sound Leaves (puts (number s) es) (puts (number s) es ++ []) (store s) (store t) (sym (append-nil (puts (number s) es))) g.stored
 
   pub whole : (plan : List Job) (n : ℕ) (T : Trace) (es : List Entry) (answer : Result Totals RunFault) (s t : S) → AreEntries plan T (take (length es) (recorded plan n T)) es → EndsAs gives plan n T es s t answer → Whole plan n T es answer s t
   whole plan n T es (Ok totals) s t a e =
@@ -85,24 +78,25 @@ module _ {S R : Type 0} (Stands : R → List Run → Type 0) (Sound : R → Type
       record {
         same_store = g.same_store;
         same_out = g.same_out;
-        refused = [];
-        puts = g.puts;
+        last = [];
+        stored = none_refused es s t g;
         says = g.says;
-        ends = record { all = record { legal = e.legal; once = e.once; are = all_entries plan T (recorded plan n T) es (e.all ∙ sym e.once.all) a }; whole = e.all; counts = e.counts; taken = refl };
+        ends = record { all = record { legal = e.legal; once = e.once; are = all_entries plan T (recorded plan n T) es (e.all ∙ sym e.once.all) a }; counts = e.counts; taken = refl };
       }
   whole plan n T es (Err (NoMemory refusal)) s t a e =
       let g = gains_all es s t (none_gained es s t e.entries e.same) in
-      record { same_store = g.same_store; same_out = g.same_out; refused = []; puts = g.puts; says = g.says; ends = record { events = e.events; none = e.entries; taken = refl } }
+      record { same_store = g.same_store; same_out = g.same_out; last = []; stored = none_refused es s t g; says = g.says; ends = record { events = e.events; none = e.entries; taken = refl } }
   whole plan n T es (Err (SinkFailed fault)) s t a e =
       let f = e.failed in
       let g = gains_all es s f.mid f.gains in
       let p = each f.mid t f.refused (Err fault) f.fails in
+      let why = p.2.1.0 in
       record {
         same_store = p.0 ∙ g.same_store;
         same_out = p.1 ∙ g.same_out;
-        refused = f.refused ∷ [];
-        puts = moves_both Stands Sound Leaves (store s) (store f.mid) (store t) (put_all (number s) es) (λ runs. runs) (λ runs may. put_beside es may) (λ runs may. with_entry (number s) f.refused runs ∷ may) g.puts
-            (subst (λ (i : ℕ). Moves Stands Sound Leaves (store f.mid) (store t) (λ runs. runs) (λ runs may. with_entry i f.refused runs ∷ may)) g.same_number p.2.1);
+        last = Put (number s) f.refused (Err why) ∷ [];
+        stored = stored_both Answers Stands Sound Leaves (puts (number s) es) (Put (number s) f.refused (Err why) ∷ []) (store s) (store f.mid) (store t) g.stored
+            (subst (λ (i : ℕ). Stored Answers Stands Sound Leaves (Put i f.refused (Err why) ∷ []) (store f.mid) (store t)) g.same_number p.2.1.2);
         says = subst (λ (b : Bool). Says (held s) (failed s) (held t) b (lines es)) (sym p.2.2) (subst (λ (o : Option (List ℕ)). Says (held s) (failed s) o (failed f.mid) (lines es)) (sym p.2.3) g.says);
-        ends = record { entry = f.refused; one = refl; stopped = record { due = f.next; next = f.is_next; refused_is = f.refused_is; are = a; stopped = e.stopped } };
+        ends = record { entry = f.refused; refusal = why; told = p.2.1.1; one = refl; stopped = record { due = f.next; next = f.is_next; refused_is = f.refused_is; are = a; stopped = e.stopped } };
       }

@@ -1,4 +1,6 @@
+pub mod ChildrenTold
 pub mod Answering
+pub mod ChosenRuns
 pub mod DebugRuns
 pub mod FaultWords
 pub mod Gainings
@@ -10,12 +12,15 @@ pub mod MemoryLaws
 pub mod NewRuns
 pub mod Numbered
 pub mod PathStarts
+pub mod Performances
 pub mod PlanRuns
 pub mod Printing
 pub mod Refusing
 pub mod Saying
 pub mod Sequencing
 pub mod ShownRuns
+pub mod SoundRuns
+pub mod StoreChains
 pub mod Testings
 pub mod Warned
 pub mod WordLaws

@@ -4,25 +4,23 @@ use Rattle.std.proofs.Common.{◌≡◌, ℕ, suc, ◌+◌, List, [], ◌∷◌,
 use Rattle.std.proofs.lemmas.Bool.Decides.{nat_tests}
 use Rattle.kt_base.specs.declared.entry.Entry.{Entry}
 use Rattle.kt_base.specs.declared.run.Run.{Run}
-use Rattle.kt_sched.specs.declared.job.Job.{Job}
 use Rattle.kt_store.specs.declared.store_fault.StoreFault.{StoreFault}
 use Rattle.kt_store.specs.declared.store_fault.StoreFault.TheVariants.{Incomplete}
 use Rattle.kt_store.specs.Runs.{AreNumbered, new_run, insert_at, run_at, finish, finish_refusal, finish_refusal_of}
-use Rattle.kt_cli.specs.Testing.{with_new}
-use Rattle.kt_cli.specs.Stores.{put_all, put_among, by_position, put_beside, beside_puts}
+use Rattle.kt_cli.specs.SoundStores.{with_new}
+use Rattle.kt_cli.specs.Stores.{put_all, put_among, by_position}
 use Rattle.kt_cli.proofs.Numbered.{entries_last, finish_last}
 
 abbrev new_one : List Run → ℕ → ℕ → Bool → List Entry → Run
 new_one runs moment total finished entries = record { number = suc (length runs); started = moment; total = total; finished = finished; entries = entries }
 
 -- the runs after the puts of a new run
-pub put_new : (runs : List Run) (number total moment : ℕ) (plan : List Job) (es : List Entry) → AreNumbered 1 runs → number ≡ suc (length runs) → total ≡ length plan → put_all number es (runs ++ new_run runs total moment ∷ []) ≡ with_new runs moment plan false es
-put_new runs number total moment plan es h n t =
-    entries_last runs (new_run runs total moment) number es h (omega arith) (n ∙ omega arith) ∙ ap (λ (k : ℕ). runs ++ new_one runs moment k false (by_position es) ∷ []) t
+pub put_new : (runs : List Run) (number total moment : ℕ) (es : List Entry) → AreNumbered 1 runs → number ≡ suc (length runs) → put_all number es (runs ++ new_run runs total moment ∷ []) ≡ with_new runs moment total false es
+put_new runs number total moment es h n = entries_last runs (new_run runs total moment) number es h (omega arith) (n ∙ omega arith)
 
 -- and after its end
-pub finish_new : (runs : List Run) (number moment : ℕ) (plan : List Job) (es : List Entry) → AreNumbered 1 runs → number ≡ suc (length runs) → finish number (with_new runs moment plan false es) ≡ with_new runs moment plan true es
-finish_new runs number moment plan es h n = finish_last 1 runs (new_one runs moment (length plan) false (by_position es)) number h (omega arith) (n ∙ omega arith)
+pub finish_new : (runs : List Run) (number total moment : ℕ) (es : List Entry) → AreNumbered 1 runs → number ≡ suc (length runs) → finish number (with_new runs moment total false es) ≡ with_new runs moment total true es
+finish_new runs number total moment es h n = finish_last 1 runs (new_one runs moment total false (by_position es)) number h (omega arith) (n ∙ omega arith)
 
 get_last : {X : Type 0} (xs : List X) (x : X) → slice_get (xs ++ x ∷ []) (length xs) ≡ Some x
 get_last [] x = refl
@@ -44,17 +42,9 @@ not_less : (n m : ℕ) → n ≡ m → nat_lt n m ≡ false
 not_less n m e = grind (arith, nat_tests)
 
 -- a run that has all its entries may be finished
-pub finishes : (runs : List Run) (number moment : ℕ) (plan : List Job) (es : List Entry) (fault : StoreFault) → number ≡ suc (length runs) → length es ≡ length plan → finish_refusal (with_new runs moment plan false es) number ≡ Some fault → ⊥
-finishes runs number moment plan es fault n l f =
-    let there : run_at (with_new runs moment plan false es) number ≡ Some (new_one runs moment (length plan) false (by_position es)) = ap (λ (k : ℕ). run_at (with_new runs moment plan false es) k) n ∙ get_last runs (new_one runs moment (length plan) false (by_position es)) in
-    let none : finish_refusal (with_new runs moment plan false es) number ≡ None =
-    ap finish_refusal_of there ∙ ap (λ (b : Bool). if b then Some Incomplete else None) (not_less (length (by_position es)) (length plan) (among_length [] es ∙ omega (arith, l))) in
+pub finishes : (runs : List Run) (number total moment : ℕ) (es : List Entry) (fault : StoreFault) → number ≡ suc (length runs) → length es ≡ total → finish_refusal (with_new runs moment total false es) number ≡ Some fault → ⊥
+finishes runs number total moment es fault n l f =
+    let there : run_at (with_new runs moment total false es) number ≡ Some (new_one runs moment total false (by_position es)) = ap (λ (k : ℕ). run_at (with_new runs moment total false es) k) n ∙ get_last runs (new_one runs moment total false (by_position es)) in
+    let none : finish_refusal (with_new runs moment total false es) number ≡ None =
+    ap finish_refusal_of there ∙ ap (λ (b : Bool). if b then Some Incomplete else None) (not_less (length (by_position es)) total (among_length [] es ∙ omega (arith, l))) in
     let z = sym none ∙ f in absurd (cc)
-
--- nothing stands beside the runs after puts that were done
-pub none_beside : (es : List Entry) → put_beside es [] ≡ []
-none_beside [] = refl
-none_beside (e ∷ es) = none_beside es
-
-pub settled : (number : ℕ) (es refused : List Entry) (runs : List Run) → refused ≡ [] → beside_puts number es refused runs [] ≡ []
-settled number es refused runs e = ap (λ (xs : List Entry). beside_puts number es xs runs []) e ∙ none_beside es

@@ -4,7 +4,7 @@ use Rattle.std.proofs.Common.{◌≡◌, ℕ, zero, suc, ◌+◌, ◌==◌, List
 use Rattle.std.proofs.lemmas.Bool.Decides.{nat_tests}
 use Rattle.kt_base.specs.declared.entry.Entry.{Entry}
 use Rattle.kt_base.specs.declared.run.Run.{Run}
-use Rattle.kt_store.specs.Runs.{AreNumbered, new_run, insert_at, with_entry, finish}
+use Rattle.kt_store.specs.Runs.{AreNumbered, insert_at, with_entry, finish}
 use Rattle.kt_cli.specs.Stores.{put_all, put_among}
 
 -- the number of the run at a place

@@ -10,6 +10,7 @@ use Rattle.kt_sched.specs.Children.{Child, IsIdle}
 use Rattle.kt_sched.specs.declared.job.Job.{Job}
 use Rattle.kt_sched.specs.declared.start_answer.StartAnswer.{StartAnswer}
 use Rattle.kt_sched.specs.declared.ended.Ended.{Ended}
+use Rattle.kt_store.specs.StoreCalls.{StoreCall}
 use Rattle.kt_suite.specs.Answers.{Asked, Chain, Answered}
 use Rattle.kt_suite.specs.Selecting.{most_items}
 use Rattle.kt_plan.specs.declared.candidate.Candidate.{Candidate}
@@ -23,34 +24,26 @@ use Rattle.kt_base.specs.declared.no_memory.NoMemory.{NoMemory as OutOfMemory}
 use Rattle.kt_sched.specs.declared.run_fault.RunFault.{RunFault}
 use Rattle.kt_sched.specs.declared.run_fault.RunFault.TheVariants.{NoMemory}
 use Rattle.kt_sched.specs.declared.totals.Totals.{Totals}
+use Rattle.kt_sched.specs.Trace.{NoEvent}
 use Rattle.kt_cli.specs.Commands.{cases_of, needs_case}
 use Rattle.kt_cli.specs.Debugging.{Debugged, all_debug_bytes, debug_exit}
 use Rattle.kt_cli.specs.FaultLines.{memory_line}
-use Rattle.kt_plan.specs.Selecting.{Selects, selected}
-use Rattle.kt_cli.specs.Meaning.{Seen, Course, listing, listing_exit, IsPrepared, IsUnasked, only_tells, Means, stopped, listed, tested, debugged, idle, reported, reported_junit, CutShort, no_memory, cut, report_cut, junit_cut, asked_only, ToldOnly, Did}
+use Rattle.kt_plan.specs.Selecting.{Selects}
+use Rattle.kt_cli.specs.Meaning.{Seen, Course, listing, listing_exit, IsPrepared, IsAskedOnly, IsUnasked, Means, stopped, listed, tested, debugged, idle, reported, reported_junit, CutShort, no_memory, cut, report_cut, junit_cut, asked_only, ToldOnly, Did}
 use Rattle.kt_cli.specs.Pages.{Printed, Says}
 use Rattle.kt_plan.specs.Planning.{Surveys, ArePlanned}
 use Rattle.kt_plan.specs.Questions.{Question, leads_by, of_host}
-use Rattle.kt_cli.specs.Reports.{Reported, ReportedJunit, Unread, JunitCut}
+use Rattle.kt_cli.specs.Reports.{Reported, ReportedJunit, Unread, JunitOrUnread, DidReport}
 use Rattle.kt_plan.specs.Stops.{IsShort}
 use Rattle.kt_cli.specs.StopLines.{stop_line, stop_exit}
 use Rattle.kt_base.specs.Shows.{Shows}
 use Rattle.kt_cli.specs.CaseLines.{case_line}
-use Rattle.kt_cli.specs.Stores.{Deed, Left}
 use Rattle.kt_cli.specs.Testing.{none_idle, Tested, TestCut, RanPlan}
 use Rattle.kt_plan.specs.Told.{Told, Now}
 use Rattle.kt_cli.specs.Warnings.{warnings}
 use Rattle.kt_cli.proofs.Saying.{tells_both}
+use Rattle.kt_cli.proofs.StoreChains.{stored_none, stored_as}
 use Rattle.kt_plan.proofs.QuestionChains.{chain_both, chain_of_host}
-
--- a deed that may be told in other words
-pub left_as : {R : Type 0} (Stands : R → List Run → Type 0) (Sound : R → Type 0) (Leaves : R → List (List Run) → Type 0) (runs : List Run) (old new : R) (was now : Option (List ℕ)) (exit : ℕ) (P Q : Deed → Type 0) → ((deed : Deed) → P deed → Q deed) → Left Stands Sound Leaves runs old new was now exit P → Left Stands Sound Leaves runs old new was now exit Q
-left_as Stands Sound Leaves runs old new was now exit P Q k l = record {
-  left = l.left;
-  stands = l.stands;
-  earlier = l.earlier;
-  done = λ sound. let d = l.done sound in record { deed = d.deed; is = k d.deed d.is; keeps = d.keeps; crash = d.crash; printed = d.printed };
-}
 
 -- the same answer in other words
 pub debugged_as : {L : Type 0} (starts : L → Job → Role → StartAnswer → L → Type 0) (waits : L → Ended → L → Type 0) (plan : List Job) (old new : L) (was now : Option (List ℕ)) (failed : Bool) (answer other : Result Totals RunFault) → answer ≡ other
@@ -97,24 +90,27 @@ module _ {W : Type 0} (asks : W → Asked → W → Type 0) (tells : W → Told 
   course_of questions old new p = record { begun = new; asked = p; ran = refl }
 
   told_only : (c : Command) (old new : W) (was now : Option (List ℕ)) (exit : ℕ) (questions : List Question) (bytes : List ℕ) (due : ℕ) → Chain (leads_by asks tells) questions old new
-      → ((runs : List Run) → Means (asked_only questions) runs c (only_tells runs bytes due) ⊎ CutShort (asked_only questions) runs c (only_tells runs bytes due))
+      → Means (asked_only questions) c bytes due ⊎ CutShort (asked_only questions) c bytes due
       → Printed was now exit bytes due → ToldOnly asks tells starts waits c old new was now exit
-  told_only c old new was now exit questions bytes due p m q = record { seen = asked_only questions; course = course_of questions old new p; bytes = bytes; due = due; is = m; printed = q }
+  told_only c old new was now exit questions bytes due p m q = record { seen = asked_only questions; course = course_of questions old new p; uncalled = refl; bytes = bytes; due = due; is = m; printed = q }
 
-  stop_means : (c : Command) (options : CaseOptions) (needed : Bool) (questions : List Question) (fault : Stop) (runs : List Run) → cases_of c ≡ Some options → needs_case c ≡ needed
+  only_asked : (questions : List Question) → IsAskedOnly (asked_only questions)
+  only_asked questions = record { trace = refl; calls = refl }
+
+  stop_means : (c : Command) (options : CaseOptions) (needed : Bool) (questions : List Question) (fault : Stop) → cases_of c ≡ Some options → needs_case c ≡ needed
       → IsShort {T = Picked} (Err fault) ⊎ Selects needed options questions (Err fault)
-      → Means (asked_only questions) runs c (only_tells runs (utf8 (stop_line fault)) (stop_exit fault)) ⊎ CutShort (asked_only questions) runs c (only_tells runs (utf8 (stop_line fault)) (stop_exit fault))
-  stop_means c options needed questions fault runs e n (inl s) =
-      inr (subst (λ (x : Stop). CutShort (asked_only questions) runs c (only_tells runs (utf8 (stop_line x)) (stop_exit x))) (sym s.1) (no_memory c options e refl))
-  stop_means c options needed questions fault runs e n (inr s) =
-      inl (stopped c options fault e (subst (λ (x : Bool). Selects x options questions (Err fault)) (sym n) s) refl)
+      → Means (asked_only questions) c (utf8 (stop_line fault)) (stop_exit fault) ⊎ CutShort (asked_only questions) c (utf8 (stop_line fault)) (stop_exit fault)
+  stop_means c options needed questions fault e n (inl s) =
+      inr (subst (λ (x : Stop). CutShort (asked_only questions) c (utf8 (stop_line x)) (stop_exit x)) (sym s.1) (no_memory c options e (only_asked questions)))
+  stop_means c options needed questions fault e n (inr s) =
+      inl (stopped c options fault e (subst (λ (x : Bool). Selects x options questions (Err fault)) (sym n) s) (only_asked questions))
 
   -- a fault of the steps ended the command
   pub stopped_only : (c : Command) (options : CaseOptions) (needed : Bool) (old new : W) (was now : Option (List ℕ)) (exit : ℕ) (fault : Stop) → cases_of c ≡ Some options → needs_case c ≡ needed
       → Answered (leads_by asks tells) old new (λ questions. IsShort {T = Picked} (Err fault) ⊎ Selects needed options questions (Err fault))
       → Printed was now exit (utf8 (stop_line fault)) (stop_exit fault) → ToldOnly asks tells starts waits c old new was now exit
   stopped_only c options needed old new was now exit fault e n a p =
-      told_only c old new was now exit a.asked (utf8 (stop_line fault)) (stop_exit fault) a.chain (λ runs. stop_means c options needed a.asked fault runs e n a.holds) p
+      told_only c old new was now exit a.asked (utf8 (stop_line fault)) (stop_exit fault) a.chain (stop_means c options needed a.asked fault e n a.holds) p
 
   picked_is : (needed : Bool) (options : CaseOptions) (questions : List Question) (picked : Picked) → IsShort {T = Picked} (Ok picked) ⊎ Selects needed options questions (Ok picked) → Selects needed options questions (Ok picked)
   picked_is needed options questions picked (inl s) = absurd s
@@ -126,7 +122,7 @@ module _ {W : Type 0} (asks : W → Asked → W → Type 0) (tells : W → Told 
       → Printed was now exit (listing options.filters picked.chosen) (listing_exit picked.chosen) → ToldOnly asks tells starts waits (command.List options) old new was now exit
   listed_only options old new was now exit picked a p =
       told_only (command.List options) old new was now exit a.asked (listing options.filters picked.chosen) (listing_exit picked.chosen) a.chain
-      (λ runs. inl (listed options picked (picked_is false options a.asked picked a.holds) refl)) p
+      (inl (listed options picked (picked_is false options a.asked picked a.holds) (only_asked a.asked))) p
 
   -- memory ran out before a plan was made
   pub short_only : (c : Command) (options : CaseOptions) (old mid new : W) (was now : Option (List ℕ)) (exit : ℕ) (Holds : List Question → Type 0) (HoldsToo : List Told → Type 0) → cases_of c ≡ Some options
@@ -134,7 +130,7 @@ module _ {W : Type 0} (asks : W → Asked → W → Type 0) (tells : W → Told 
       → Printed was now exit (utf8 memory_line) 2 → ToldOnly asks tells starts waits c old new was now exit
   short_only c options old mid new was now exit Holds HoldsToo e a b p =
       told_only c old new was now exit (a.asked ++ of_host b.asked) (utf8 memory_line) 2 (chain_both (leads_by asks tells) a.asked (of_host b.asked) old mid new a.chain (chain_of_host asks tells b.asked mid new b.chain))
-      (λ runs. inr (no_memory c options e refl)) p
+      (inr (no_memory c options e (only_asked (a.asked ++ of_host b.asked)))) p
 
   -- no case was selected for `debug`
   pub idle_only : (options : CaseOptions) (old new : W) (was now : Option (List ℕ)) (exit : ℕ) (picked : Picked)
@@ -142,7 +138,7 @@ module _ {W : Type 0} (asks : W → Asked → W → Type 0) (tells : W → Told 
       → Printed was now exit (utf8 (warnings options.filters picked.chosen.unmatched)) 1 → ToldOnly asks tells starts waits (command.Debug options) old new was now exit
   idle_only options old new was now exit picked a n p =
       told_only (command.Debug options) old new was now exit a.asked (utf8 (warnings options.filters picked.chosen.unmatched)) 1 a.chain
-      (λ runs. inl (idle options picked (picked_is true options a.asked picked a.holds) n refl)) p
+      (inl (idle options picked (picked_is true options a.asked picked a.holds) n (only_asked a.asked))) p
 
   -- the same by parts of what was selected
   pub idle_answer : (options : CaseOptions) (old new : W) (was now : Option (List ℕ)) (exit : ℕ) (f : Bool) (picked : Picked) (cases : List Candidate) (words : List (List ℕ)) (unmatched : List ℕ)
@@ -168,15 +164,16 @@ module _ {W : Type 0} (asks : W → Asked → W → Type 0) (tells : W → Told 
       → Debugged starts waits plan begun new was now failed (Ok totals) → exit ≡ (if failed then 2 else (if totals.bad == 0 then 0 else 1))
       → ToldOnly asks tells starts waits (command.Debug options) old new was now exit
   debug_only options old mid begun new was now exit picked first others plan failed totals a n b d e = record {
-    seen = record { questions = a.asked ++ (of_host b.asked ++ []); plan = plan; trace = d.trace };
+    seen = record { questions = a.asked ++ (of_host b.asked ++ []); plan = plan; trace = d.trace; calls = [] };
     course = record {
       begun = begun;
       asked = chain_both (leads_by asks tells) a.asked (of_host b.asked ++ []) old mid begun a.chain (chain_both (leads_by asks tells) (of_host b.asked) [] mid begun begun (chain_of_host asks tells b.asked mid begun b.chain) refl);
       ran = d.leads;
     };
+    uncalled = refl;
     bytes = all_debug_bytes d.entries;
     due = debug_exit d.entries;
-    is = λ runs. inl (debugged options picked first others d.entries n (record {
+    is = inl (debugged options picked first others d.entries n (record {
       before = a.asked;
       selects = picked_is true options a.asked picked a.holds;
       told = b.asked;
@@ -184,7 +181,7 @@ module _ {W : Type 0} (asks : W → Asked → W → Type 0) (tells : W → Told 
       surveys = b.holds.1;
       asked = refl;
       planned = b.holds.2;
-    }) d.ends.0);
+    }) d.ends.0 refl);
     printed = record { failed = failed; shows = d.says.more; exits = e ∙ ap (λ (x : ℕ). if failed then 2 else (if x == 0 then 0 else 1)) d.ends.1.bad };
   }
 
@@ -206,36 +203,36 @@ module _ {W : Type 0} (asks : W → Asked → W → Type 0) (tells : W → Told 
   debug_short options old mid begun new was between now exit picked plan Holds f g refusal a b d s e =
       let q = d.ends in
       record {
-        seen = record { questions = a.asked ++ of_host b.asked; plan = plan; trace = d.trace };
+        seen = record { questions = a.asked ++ of_host b.asked; plan = plan; trace = d.trace; calls = [] };
         course = record { begun = begun; asked = chain_both (leads_by asks tells) a.asked (of_host b.asked) old mid begun a.chain (chain_of_host asks tells b.asked mid begun b.chain); ran = d.leads };
+        uncalled = refl;
         bytes = utf8 memory_line;
         due = 2;
-        is = λ runs. inr (no_memory (command.Debug options) options refl q.0);
+        is = inr (no_memory (command.Debug options) options refl (record { trace = q.0; calls = refl }));
         printed = record { failed = g; shows = (tells_both was between now false f g [] (utf8 memory_line) (subst (λ (es : List Entry). Says was false between f (all_debug_bytes es)) q.1 d.says) s).more; exits = e };
       }
 
-  module _ {R : Type 0} (Stands : R → List Run → Type 0) (Sound : R → Type 0) (Leaves : R → List (List Run) → Type 0) (store : R) (was now : Option (List ℕ)) (exit : ℕ) where
-    -- a command that leaves the runs is a command
-    pub did_told : (c : Command) (old new : W) → ToldOnly asks tells starts waits c old new was now exit → Did asks tells starts waits Stands Sound Leaves c old new store store was now exit
+  module _ {R : Type 0} (Answers : R → StoreCall → R → Type 0) (Stands : R → List Run → Type 0) (Sound : R → Type 0) (Leaves : R → List (List Run) → Type 0) (store : R) (was now : Option (List ℕ)) (exit : ℕ) where
+    -- a command that calls no store is a command
+    pub did_told : (c : Command) (old new : W) → ToldOnly asks tells starts waits c old new was now exit → Did asks tells starts waits Answers Stands Sound Leaves c old new store store was now exit
     did_told c old new t = record {
       seen = t.seen;
       course = t.course;
-      left = λ runs s. record {
-        left = runs;
-        stands = s;
-        earlier = λ sound. sound;
-        done = λ sound. record { deed = only_tells runs t.bytes t.due; is = t.is runs; keeps = refl; crash = λ may l. l; printed = t.printed };
-      };
+      stored = stored_as Answers Stands Sound Leaves [] t.seen.calls store store (sym t.uncalled) (stored_none Answers Stands Sound Leaves store);
+      bytes = t.bytes;
+      due = t.due;
+      is = t.is;
+      printed = t.printed;
     }
 
     -- a plan was run
     pub did_test : (after : R) (options : CaseOptions) (file : List ℕ) (old mid asked begun new : W) (picked : Picked) (plan : List Job) (moment width : ℕ)
         → Answered (leads_by asks tells) old mid (λ questions. IsShort {T = Picked} (Ok picked) ⊎ Selects false options questions (Ok picked))
         → Answered tells mid asked (Prepares picked picked.chosen.cases plan) → tells asked (Now moment) begun → width ≡ picked.settings.config.parallelism
-        → RanPlan starts waits Stands Sound Leaves plan width options.filters picked.chosen.unmatched moment begun new store after was now exit
-        → Did asks tells starts waits Stands Sound Leaves (command.Test options file) old new store after was now exit
+        → RanPlan starts waits Answers Stands Sound Leaves plan width options.filters picked.chosen.unmatched moment begun new store after was now exit
+        → Did asks tells starts waits Answers Stands Sound Leaves (command.Test options file) old new store after was now exit
     did_test after options file old mid asked begun new picked plan moment width a b t w r =
-        let seen : Seen = record { questions = a.asked ++ (of_host b.asked ++ of_host (Now moment ∷ [])); plan = plan; trace = r.trace } in
+        let seen : Seen = record { questions = a.asked ++ (of_host b.asked ++ of_host (Now moment ∷ [])); plan = plan; trace = r.trace; calls = r.calls } in
         let prepared : IsPrepared false options seen picked picked.chosen.cases (Now moment ∷ []) = record {
           before = a.asked;
           selects = picked_is false options a.asked picked a.holds;
@@ -255,12 +252,14 @@ module _ {W : Type 0} (asks : W → Asked → W → Type 0) (tells : W → Told 
                 (chain_both (leads_by asks tells) (of_host b.asked) (of_host (Now moment ∷ [])) mid asked begun (chain_of_host asks tells b.asked mid asked b.chain) (begun, t, refl));
             ran = r.leads;
           };
-          left = λ runs h. left_as Stands Sound Leaves runs store after was now exit
-              (λ deed. Tested plan width options.filters picked.chosen.unmatched moment r.trace runs deed ⊎ TestCut plan width moment r.trace runs deed) (λ deed. Means seen runs c deed ⊎ CutShort seen runs c deed)
-              (λ deed m. elim m [
-                | inl x ↦ inl (tested options file picked moment deed prepared (subst (λ (k : ℕ). Tested plan k options.filters picked.chosen.unmatched moment r.trace runs deed) w x))
-                | inr x ↦ inr (cut options file picked moment deed prepared (subst (λ (k : ℕ). TestCut plan k moment r.trace runs deed) w x))
-              ]) (r.left runs h);
+          stored = r.stored;
+          bytes = r.bytes;
+          due = r.due;
+          is = elim r.is [
+            | inl x ↦ inl (tested options file picked moment r.bytes r.due prepared (subst (λ (k : ℕ). Tested plan k options.filters picked.chosen.unmatched moment r.trace r.calls r.bytes r.due) w x))
+            | inr x ↦ inr (cut options file picked moment r.bytes r.due prepared (subst (λ (k : ℕ). TestCut plan k moment r.trace r.calls r.bytes r.due) w x))
+          ];
+          printed = r.printed;
         }
 
     -- the same by parts of what was selected
@@ -268,42 +267,49 @@ module _ {W : Type 0} (asks : W → Asked → W → Type 0) (tells : W → Told 
         → cases ≡ picked.chosen.cases → words ≡ options.filters → unmatched ≡ picked.chosen.unmatched
         → Answered (leads_by asks tells) old mid (λ questions. IsShort {T = Picked} (Ok picked) ⊎ Selects false options questions (Ok picked))
         → Answered tells mid asked (Prepares picked cases plan) → tells asked (Now moment) begun → width ≡ picked.settings.config.parallelism
-        → RanPlan starts waits Stands Sound Leaves plan width words unmatched moment begun new store after was now exit
-        → Did asks tells starts waits Stands Sound Leaves (command.Test options file) old new store after was now exit
+        → RanPlan starts waits Answers Stands Sound Leaves plan width words unmatched moment begun new store after was now exit
+        → Did asks tells starts waits Answers Stands Sound Leaves (command.Test options file) old new store after was now exit
     did_test_parts after options file old mid asked begun new picked plan moment width cases words unmatched x y z a b t w r =
         did_test after options file old mid asked begun new picked plan moment width a
         (subst (λ (xs : List Candidate). Answered tells mid asked (Prepares picked xs plan)) x b) t w
-        (subst (λ (ws : List (List ℕ)). RanPlan starts waits Stands Sound Leaves plan width ws picked.chosen.unmatched moment begun new store after was now exit) y
-        (subst (λ (us : List ℕ). RanPlan starts waits Stands Sound Leaves plan width words us moment begun new store after was now exit) z r))
+        (subst (λ (ws : List (List ℕ)). RanPlan starts waits Answers Stands Sound Leaves plan width ws picked.chosen.unmatched moment begun new store after was now exit) y
+        (subst (λ (us : List ℕ). RanPlan starts waits Answers Stands Sound Leaves plan width words us moment begun new store after was now exit) z r))
 
-    unasked : IsUnasked (asked_only [])
-    unasked = record { questions = refl; trace = refl }
+    -- nothing was asked
+    abbrev called_only : List StoreCall → Seen
+    called_only calls = record { questions = []; plan = []; trace = NoEvent; calls = calls }
+
+    unasked : (calls : List StoreCall) → IsUnasked (called_only calls)
+    unasked calls = record { questions = refl; trace = refl }
 
     -- `report` is a command
-    pub did_report : (after : R) (file : List ℕ) (number : Option ℕ) (kinds : List Kind) (verbose : Bool) (world : W) → ((runs : List Run) → Stands store runs → Left Stands Sound Leaves runs store after was now exit (λ deed. Reported number kinds verbose runs deed ⊎ Unread runs deed))
-        → Did asks tells starts waits Stands Sound Leaves (command.Report file number kinds verbose) world world store after was now exit
-    did_report after file number kinds verbose world l =
-        let seen : Seen = asked_only [] in
-        let c = command.Report file number kinds verbose in
-        record {
-          seen = seen;
-          course = course_of [] world world refl;
-          left = λ runs h. left_as Stands Sound Leaves runs store after was now exit (λ deed. Reported number kinds verbose runs deed ⊎ Unread runs deed) (λ deed. Means seen runs c deed ⊎ CutShort seen runs c deed)
-              (λ deed m. elim m [ inl x ↦ inl (reported file number kinds verbose deed unasked x) | inr x ↦ inr (report_cut file number kinds verbose deed unasked x) ]) (l runs h);
-        }
+    pub did_report : (after : R) (file : List ℕ) (number : Option ℕ) (kinds : List Kind) (verbose : Bool) (world : W) → DidReport Answers Stands Sound Leaves store after was now exit (Reported number kinds verbose) (Unread number)
+        → Did asks tells starts waits Answers Stands Sound Leaves (command.Report file number kinds verbose) world world store after was now exit
+    did_report after file number kinds verbose world d = record {
+      seen = called_only d.calls;
+      course = record { begun = world; asked = refl; ran = refl };
+      stored = d.stored;
+      bytes = d.bytes;
+      due = d.due;
+      is = elim d.is [
+        | inl x ↦ inl (reported file number kinds verbose d.bytes d.due (unasked d.calls) x)
+        | inr x ↦ inr (report_cut file number kinds verbose d.bytes d.due (unasked d.calls) x)
+      ];
+      printed = d.printed;
+    }
 
     -- `report-junit` is a command
-    pub did_junit : (after : R) (file : List ℕ) (number : Option ℕ) (world : W) → ((runs : List Run) → Stands store runs → Left Stands Sound Leaves runs store after was now exit (λ deed. ReportedJunit number runs deed ⊎ (Unread runs deed ⊎ JunitCut number runs deed)))
-        → Did asks tells starts waits Stands Sound Leaves (command.ReportJunit file number) world world store after was now exit
-    did_junit after file number world l =
-        let seen : Seen = asked_only [] in
-        let c = command.ReportJunit file number in
-        record {
-          seen = seen;
-          course = course_of [] world world refl;
-          left = λ runs h. left_as Stands Sound Leaves runs store after was now exit (λ deed. ReportedJunit number runs deed ⊎ (Unread runs deed ⊎ JunitCut number runs deed)) (λ deed. Means seen runs c deed ⊎ CutShort seen runs c deed)
-              (λ deed m. elim m [ inl x ↦ inl (reported_junit file number deed unasked x) | inr x ↦ inr (junit_cut file number deed unasked x) ]) (l runs h);
-        }
+    pub did_junit : (after : R) (file : List ℕ) (number : Option ℕ) (world : W) → DidReport Answers Stands Sound Leaves store after was now exit (ReportedJunit number) (JunitOrUnread number)
+        → Did asks tells starts waits Answers Stands Sound Leaves (command.ReportJunit file number) world world store after was now exit
+    did_junit after file number world d = record {
+      seen = called_only d.calls;
+      course = record { begun = world; asked = refl; ran = refl };
+      stored = d.stored;
+      bytes = d.bytes;
+      due = d.due;
+      is = elim d.is [ inl x ↦ inl (reported_junit file number d.bytes d.due (unasked d.calls) x) | inr x ↦ inr (junit_cut file number d.bytes d.due (unasked d.calls) x) ];
+      printed = d.printed;
+    }
 
-    pub did_as : (c d : Command) (old new : W) (after : R) → c ≡ d → Did asks tells starts waits Stands Sound Leaves d old new store after was now exit → Did asks tells starts waits Stands Sound Leaves c old new store after was now exit
-    did_as c d old new after e h = subst (λ (x : Command). Did asks tells starts waits Stands Sound Leaves x old new store after was now exit) (sym e) h
+    pub did_as : (c d : Command) (old new : W) (after : R) → c ≡ d → Did asks tells starts waits Answers Stands Sound Leaves d old new store after was now exit → Did asks tells starts waits Answers Stands Sound Leaves c old new store after was now exit
+    did_as c d old new after e h = subst (λ (x : Command). Did asks tells starts waits Answers Stands Sound Leaves x old new store after was now exit) (sym e) h

@@ -1,5 +1,5 @@
 -- Filters are told one after the other.
-use Rattle.std.specs.Prelude.{Option, flat_map, slice_get}
+use Rattle.std.specs.Prelude.{Option, slice_get}
 use Rattle.std.proofs.Common.{◌≡◌, ℕ, Bool, List, [], ◌∷◌, ◌++◌, length, refl, sym, ap, ◌∙◌, subst, append_assoc, append-nil, arith}
 use Rattle.kt_base.specs.Utf8.{utf8}
 use Rattle.kt_cli.specs.Pages.{Says}

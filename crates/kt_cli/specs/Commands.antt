@@ -20,6 +20,12 @@ results_of (command.Debug options) = None
 results_of (command.Report file run' kinds verbose) = Some file
 results_of (command.ReportJunit file run') = Some file
 
+-- the number of the run that a command shows, if it is asked for
+abbrev pub number_of : Command → Option ℕ
+number_of (command.Report file run' kinds verbose) = run'
+number_of (command.ReportJunit file run') = run'
+number_of other = None
+
 -- a command needs one filter, of one case
 abbrev pub needs_case : Command → Bool
 needs_case (command.Debug options) = true

@@ -9,10 +9,12 @@ use Rattle.kt_child.specs.declared.driver_fault.DriverFault.TheVariants as drive
 use Rattle.kt_child.specs.Board.{empty_board}
 use Rattle.kt_child.specs.Calls.{Call, Chain, RemoveTree}
 use Rattle.kt_child.specs.Roots.{FindsRoot}
+use Rattle.kt_store.specs.StoreCalls.{StoreCall}
 use Rattle.kt_plan.specs.declared.case_options.CaseOptions.{CaseOptions}
 use Rattle.kt_cli.specs.declared.command.Command.{Command}
 use Rattle.kt_cli.specs.declared.runner.Runner.{Runner}
 use Rattle.kt_cli.specs.declared.surroundings.Surroundings.{Surroundings}
+use Rattle.kt_cli.specs.ChildrenTold.{ChildrenTell}
 use Rattle.kt_cli.specs.Commands.{cases_of}
 use Rattle.kt_cli.specs.HostAnswers.{IsHostAnswer, RunnerStarts, RunnerWaits}
 use Rattle.kt_cli.specs.HostFiles.{IsLook}
@@ -28,13 +30,15 @@ pub record IsMade {O : Type 0} (leads : O → Call → O → Type 0) (os : O) (h
   pub first : d.next ≡ 0
   pub none_runs : d.row ≡ empty_board
 
--- a command was done over a driver that was made for its options, whose root directory was then to be removed
-pub record OnDriver {O R : Type 0} (leads : O → Call → O → Type 0) (os : O) (around : Surroundings) (options : CaseOptions) (Stands : R → List Run → Type 0) (Sound : R → Type 0) (Leaves : R → List (List Run) → Type 0) (c : Command) (store after : R) (was now : Option (List ℕ)) (exit : ℕ) : Type 0 where
+-- a command was done over a driver that was made for its options, whose root directory was then to be removed; each end in the trace is told
+-- by the calls of its own child
+pub record OnDriver {O R : Type 0} (leads : O → Call → O → Type 0) (os : O) (around : Surroundings) (options : CaseOptions) (Answers : R → StoreCall → R → Type 0) (Stands : R → List Run → Type 0) (Sound : R → Type 0) (Leaves : R → List (List Run) → Type 0) (c : Command) (store after : R) (was now : Option (List ℕ)) (exit : ℕ) : Type 0 where
   pub old : Runner O
   pub new : Runner O
   pub made : IsMade leads os around.here options.work options.kyuafile old.driver
   pub around_it : old.around ≡ around
-  pub did : Did IsLook (IsHostAnswer leads) (RunnerStarts leads) (RunnerWaits leads) Stands Sound Leaves c old new store after was now exit
+  pub did : Did IsLook (IsHostAnswer leads) (RunnerStarts leads) (RunnerWaits leads) Answers Stands Sound Leaves c old new store after was now exit
+  pub told : ChildrenTell leads did.seen.plan did.seen.trace did.course.begun.driver new.driver
   pub left : O
   pub closed : (done : Bool) × leads new.driver.os (RemoveTree new.driver.root done) left
 
@@ -52,15 +56,15 @@ pub record NoDriver {O : Type 0} (leads : O → Call → O → Type 0) (os : O) 
   pub why : NoRoot leads os options.work fault
 
 -- a command was done that asks and starts nothing
-abbrev pub DidAlone : {R : Type 0} → (R → List Run → Type 0) → (R → Type 0) → (R → List (List Run) → Type 0) → Command → R → R → Option (List ℕ) → Option (List ℕ) → ℕ → Type 0
-DidAlone Stands Sound Leaves c store after was now exit =
-    Did {W = Unit {0}} (λ s asked t. ⊥) (λ s told t. ⊥) (λ s job role answer t. ⊥) (λ s ended t. ⊥) Stands Sound Leaves c tt tt store after was now exit
+abbrev pub DidAlone : {R : Type 0} → (R → StoreCall → R → Type 0) → (R → List Run → Type 0) → (R → Type 0) → (R → List (List Run) → Type 0) → Command → R → R → Option (List ℕ) → Option (List ℕ) → ℕ → Type 0
+DidAlone Answers Stands Sound Leaves c store after was now exit =
+    Did {W = Unit {0}} (λ s asked t. ⊥) (λ s told t. ⊥) (λ s job role answer t. ⊥) (λ s ended t. ⊥) Answers Stands Sound Leaves c tt tt store after was now exit
 
 -- what a command did: one with these options over test cases has a driver over the system, one without starts nothing
-abbrev pub DidWith : {O R : Type 0} → (O → Call → O → Type 0) → O → Surroundings → Option CaseOptions → (R → List Run → Type 0) → (R → Type 0) → (R → List (List Run) → Type 0) → Command → R → R → Option (List ℕ) → Option (List ℕ) → ℕ → Type 0
-DidWith leads os around (Some options) Stands Sound Leaves c store after was now exit = OnDriver leads os around options Stands Sound Leaves c store after was now exit
-DidWith leads os around None Stands Sound Leaves c store after was now exit = DidAlone Stands Sound Leaves c store after was now exit
+abbrev pub DidWith : {O R : Type 0} → (O → Call → O → Type 0) → O → Surroundings → Option CaseOptions → (R → StoreCall → R → Type 0) → (R → List Run → Type 0) → (R → Type 0) → (R → List (List Run) → Type 0) → Command → R → R → Option (List ℕ) → Option (List ℕ) → ℕ → Type 0
+DidWith leads os around (Some options) Answers Stands Sound Leaves c store after was now exit = OnDriver leads os around options Answers Stands Sound Leaves c store after was now exit
+DidWith leads os around None Answers Stands Sound Leaves c store after was now exit = DidAlone Answers Stands Sound Leaves c store after was now exit
 
 -- what a command did, by its options over test cases
-abbrev pub DidOnHost : {O R : Type 0} → (O → Call → O → Type 0) → O → Surroundings → (R → List Run → Type 0) → (R → Type 0) → (R → List (List Run) → Type 0) → Command → R → R → Option (List ℕ) → Option (List ℕ) → ℕ → Type 0
-DidOnHost leads os around Stands Sound Leaves c store after was now exit = DidWith leads os around (cases_of c) Stands Sound Leaves c store after was now exit
+abbrev pub DidOnHost : {O R : Type 0} → (O → Call → O → Type 0) → O → Surroundings → (R → StoreCall → R → Type 0) → (R → List Run → Type 0) → (R → Type 0) → (R → List (List Run) → Type 0) → Command → R → R → Option (List ℕ) → Option (List ℕ) → ℕ → Type 0
+DidOnHost leads os around Answers Stands Sound Leaves c store after was now exit = DidWith leads os around (cases_of c) Answers Stands Sound Leaves c store after was now exit

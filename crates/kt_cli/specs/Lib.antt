@@ -1,4 +1,5 @@
 pub mod CaseLines
+pub mod ChildrenTold
 pub mod Closings
 pub mod Commands
 pub mod Debugging
@@ -10,13 +11,16 @@ pub mod LineOutputs
 pub mod Meaning
 pub mod MemoryRuns
 pub mod Pages
+pub mod Performing
 pub mod Places
+pub mod Platforms
 pub mod Recording
 pub mod Recordings
 pub mod Refused
 pub mod Reports
 pub mod Sequences
 pub mod Shown
+pub mod SoundStores
 pub mod StopLines
 pub mod Stores
 pub mod Testing

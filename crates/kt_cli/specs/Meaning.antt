@@ -1,4 +1,4 @@
--- What a command means: for what was seen and the runs before it, the runs, the bytes and the exit.
+-- What a command means: by the answers of its world and of its store, the bytes and the exit.
 use Rattle.std.specs.Prelude.{ℕ, Bool, true, false, List, [], ◌∷◌, ◌++◌, ◌≡◌, ◌⊎◌, Option, Some, Ok, Err, flat_map, if◌then◌else◌}
 use Rattle.kt_base.specs.declared.entry.Entry.{Entry}
 use Rattle.kt_base.specs.declared.kind.Kind.{Kind}
@@ -10,6 +10,7 @@ use Rattle.kt_sched.specs.declared.job.Job.{Job}
 use Rattle.kt_sched.specs.declared.start_answer.StartAnswer.{StartAnswer}
 use Rattle.kt_sched.specs.declared.ended.Ended.{Ended}
 use Rattle.kt_sched.specs.Trace.{Trace, NoEvent, Leads}
+use Rattle.kt_store.specs.StoreCalls.{StoreCall}
 use Rattle.kt_suite.specs.Answers.{Asked, Chain}
 use Rattle.kt_plan.specs.declared.candidate.Candidate.{Candidate}
 use Rattle.kt_plan.specs.declared.case_options.CaseOptions.{CaseOptions}
@@ -29,16 +30,18 @@ use Rattle.kt_plan.specs.Selecting.{Selects}
 use Rattle.kt_cli.specs.Recordings.{AllRecorded}
 use Rattle.kt_cli.specs.Reports.{Reported, ReportedJunit, Unread, JunitCut}
 use Rattle.kt_cli.specs.StopLines.{stop_line, stop_exit}
-use Rattle.kt_cli.specs.Stores.{Deed, Left}
+use Rattle.kt_cli.specs.Stores.{Stored}
 use Rattle.kt_cli.specs.Testing.{none_idle, Tested, TestCut}
 use Rattle.kt_plan.specs.Told.{Told, Now}
 use Rattle.kt_cli.specs.Warnings.{warnings}
 
--- what a world answered to one command: the questions in the order in which they were put, and its launcher, which was lent the jobs of this plan
+-- what was answered to one command: its questions in the order in which they were put, by the launcher, which was lent the jobs of this plan,
+-- and by the store, in the order of the calls
 pub record Seen : Type 0 where
   pub questions : List Question
   pub plan : List Job
   pub trace : Trace
+  pub calls : List StoreCall
 
 -- these answers lead the world through the command
 pub record Course {W : Type 0} (asks : W → Asked → W → Type 0) (tells : W → Told → W → Type 0) (starts : W → Job → Role → StartAnswer → W → Type 0) (waits : W → Ended → W → Type 0) (seen : Seen) (old new : W) : Type 0 where
@@ -64,58 +67,67 @@ pub record IsPrepared (needed : Bool) (options : CaseOptions) (seen : Seen) (pic
   pub asked : seen.questions ≡ before ++ (of_host told ++ of_host last)
   pub planned : ArePlanned picked.settings.config host 0 cases seen.plan
 
+-- nothing was started, and the store was not called
+pub record IsAskedOnly (seen : Seen) : Type 0 where
+  pub trace : seen.trace ≡ NoEvent
+  pub calls : seen.calls ≡ []
+
 -- nothing was asked, and nothing was started
 pub record IsUnasked (seen : Seen) : Type 0 where
   pub questions : seen.questions ≡ []
   pub trace : seen.trace ≡ NoEvent
 
--- bytes and an exit beside runs that stay
-abbrev pub only_tells : List Run → List ℕ → ℕ → Deed
-only_tells runs bytes exit = record { runs = runs; bytes = bytes; exit = exit; beside = λ may. may }
-
--- what one command means
-pub data Means (seen : Seen) (runs : List Run) : Command → Deed → Type 0 where
-  stopped : (c : Command) (options : CaseOptions) (fault : Stop) → cases_of c ≡ Some options → Selects (needs_case c) options seen.questions (Err fault) → seen.trace ≡ NoEvent
-      → Means seen runs c (only_tells runs (utf8 (stop_line fault)) (stop_exit fault))
-  listed : (options : CaseOptions) (picked : Picked) → Selects false options seen.questions (Ok picked) → seen.trace ≡ NoEvent
-      → Means seen runs (command.List options) (only_tells runs (listing options.filters picked.chosen) (listing_exit picked.chosen))
-  tested : (options : CaseOptions) (file : List ℕ) (picked : Picked) (moment : ℕ) (deed : Deed) → IsPrepared false options seen picked picked.chosen.cases (Now moment ∷ [])
-      → Tested seen.plan picked.settings.config.parallelism options.filters picked.chosen.unmatched moment seen.trace runs deed
-      → Means seen runs (command.Test options file) deed
+-- what one command means: its bytes and its exit
+pub data Means (seen : Seen) : Command → List ℕ → ℕ → Type 0 where
+  stopped : (c : Command) (options : CaseOptions) (fault : Stop) → cases_of c ≡ Some options → Selects (needs_case c) options seen.questions (Err fault) → IsAskedOnly seen
+      → Means seen c (utf8 (stop_line fault)) (stop_exit fault)
+  listed : (options : CaseOptions) (picked : Picked) → Selects false options seen.questions (Ok picked) → IsAskedOnly seen
+      → Means seen (command.List options) (listing options.filters picked.chosen) (listing_exit picked.chosen)
+  tested : (options : CaseOptions) (file : List ℕ) (picked : Picked) (moment : ℕ) (bytes : List ℕ) (exit : ℕ) → IsPrepared false options seen picked picked.chosen.cases (Now moment ∷ [])
+      → Tested seen.plan picked.settings.config.parallelism options.filters picked.chosen.unmatched moment seen.trace seen.calls bytes exit
+      → Means seen (command.Test options file) bytes exit
   debugged : (options : CaseOptions) (picked : Picked) (first : Candidate) (others : List Candidate) (entries : List Entry) → picked.chosen.cases ≡ first ∷ others
-      → IsPrepared true options seen picked (first ∷ []) [] → AllRecorded seen.plan 1 seen.trace entries
-      → Means seen runs (command.Debug options) (only_tells runs (all_debug_bytes entries) (debug_exit entries))
-  idle : (options : CaseOptions) (picked : Picked) → Selects true options seen.questions (Ok picked) → picked.chosen.cases ≡ [] → seen.trace ≡ NoEvent
-      → Means seen runs (command.Debug options) (only_tells runs (utf8 (warnings options.filters picked.chosen.unmatched)) 1)
-  reported : (file : List ℕ) (number : Option ℕ) (kinds : List Kind) (verbose : Bool) (deed : Deed) → IsUnasked seen → Reported number kinds verbose runs deed
-      → Means seen runs (command.Report file number kinds verbose) deed
-  reported_junit : (file : List ℕ) (number : Option ℕ) (deed : Deed) → IsUnasked seen → ReportedJunit number runs deed
-      → Means seen runs (command.ReportJunit file number) deed
+      → IsPrepared true options seen picked (first ∷ []) [] → AllRecorded seen.plan 1 seen.trace entries → seen.calls ≡ []
+      → Means seen (command.Debug options) (all_debug_bytes entries) (debug_exit entries)
+  idle : (options : CaseOptions) (picked : Picked) → Selects true options seen.questions (Ok picked) → picked.chosen.cases ≡ [] → IsAskedOnly seen
+      → Means seen (command.Debug options) (utf8 (warnings options.filters picked.chosen.unmatched)) 1
+  reported : (file : List ℕ) (number : Option ℕ) (kinds : List Kind) (verbose : Bool) (bytes : List ℕ) (exit : ℕ) → IsUnasked seen → Reported number kinds verbose seen.calls bytes exit
+      → Means seen (command.Report file number kinds verbose) bytes exit
+  reported_junit : (file : List ℕ) (number : Option ℕ) (bytes : List ℕ) (exit : ℕ) → IsUnasked seen → ReportedJunit number seen.calls bytes exit
+      → Means seen (command.ReportJunit file number) bytes exit
 
--- what a command leaves that memory or the store cut short
-pub data CutShort (seen : Seen) (runs : List Run) : Command → Deed → Type 0 where
-  no_memory : (c : Command) (options : CaseOptions) → cases_of c ≡ Some options → seen.trace ≡ NoEvent → CutShort seen runs c (only_tells runs (utf8 memory_line) 2)
-  cut : (options : CaseOptions) (file : List ℕ) (picked : Picked) (moment : ℕ) (deed : Deed) → IsPrepared false options seen picked picked.chosen.cases (Now moment ∷ [])
-      → TestCut seen.plan picked.settings.config.parallelism moment seen.trace runs deed
-      → CutShort seen runs (command.Test options file) deed
-  report_cut : (file : List ℕ) (number : Option ℕ) (kinds : List Kind) (verbose : Bool) (deed : Deed) → IsUnasked seen → Unread runs deed → CutShort seen runs (command.Report file number kinds verbose) deed
-  junit_cut : (file : List ℕ) (number : Option ℕ) (deed : Deed) → IsUnasked seen → Unread runs deed ⊎ JunitCut number runs deed → CutShort seen runs (command.ReportJunit file number) deed
+-- how a command ends that memory or the store cut short
+pub data CutShort (seen : Seen) : Command → List ℕ → ℕ → Type 0 where
+  no_memory : (c : Command) (options : CaseOptions) → cases_of c ≡ Some options → IsAskedOnly seen → CutShort seen c (utf8 memory_line) 2
+  cut : (options : CaseOptions) (file : List ℕ) (picked : Picked) (moment : ℕ) (bytes : List ℕ) (exit : ℕ) → IsPrepared false options seen picked picked.chosen.cases (Now moment ∷ [])
+      → TestCut seen.plan picked.settings.config.parallelism moment seen.trace seen.calls bytes exit
+      → CutShort seen (command.Test options file) bytes exit
+  report_cut : (file : List ℕ) (number : Option ℕ) (kinds : List Kind) (verbose : Bool) (bytes : List ℕ) (exit : ℕ) → IsUnasked seen → Unread number seen.calls bytes exit
+      → CutShort seen (command.Report file number kinds verbose) bytes exit
+  junit_cut : (file : List ℕ) (number : Option ℕ) (bytes : List ℕ) (exit : ℕ) → IsUnasked seen → Unread number seen.calls bytes exit ⊎ JunitCut number seen.calls bytes exit
+      → CutShort seen (command.ReportJunit file number) bytes exit
 
--- nothing was started
+-- nothing was started, and the store was not called
 abbrev pub asked_only : List Question → Seen
-asked_only questions = record { questions = questions; plan = []; trace = NoEvent }
+asked_only questions = record { questions = questions; plan = []; trace = NoEvent; calls = [] }
 
--- what a command did that leaves the runs as they are: what it saw, its bytes and its exit
+-- what a command did that calls no store: what it saw, its bytes and its exit
 pub record ToldOnly {W : Type 0} (asks : W → Asked → W → Type 0) (tells : W → Told → W → Type 0) (starts : W → Job → Role → StartAnswer → W → Type 0) (waits : W → Ended → W → Type 0) (c : Command) (old new : W) (was now : Option (List ℕ)) (exit : ℕ) : Type 0 where
   pub seen : Seen
   pub course : Course asks tells starts waits seen old new
+  pub uncalled : seen.calls ≡ []
   pub bytes : List ℕ
   pub due : ℕ
-  pub is : (runs : List Run) → Means seen runs c (only_tells runs bytes due) ⊎ CutShort seen runs c (only_tells runs bytes due)
+  pub is : Means seen c bytes due ⊎ CutShort seen c bytes due
   pub printed : Printed was now exit bytes due
 
--- what `execute` did: the command's deed, or one that memory or the store cut short; a failed writer holds a prefix of its bytes
-pub record Did {W R : Type 0} (asks : W → Asked → W → Type 0) (tells : W → Told → W → Type 0) (starts : W → Job → Role → StartAnswer → W → Type 0) (waits : W → Ended → W → Type 0) (Stands : R → List Run → Type 0) (Sound : R → Type 0) (Leaves : R → List (List Run) → Type 0) (c : Command) (old new : W) (store after : R) (was now : Option (List ℕ)) (exit : ℕ) : Type 0 where
+-- what `execute` did, by what it saw: what the command means, or how memory or the store cut it short; a failed writer holds a prefix of
+-- its bytes. The store's own answers are part of it, and what they did to the runs stands apart: nothing else rests on the store
+pub record Did {W R : Type 0} (asks : W → Asked → W → Type 0) (tells : W → Told → W → Type 0) (starts : W → Job → Role → StartAnswer → W → Type 0) (waits : W → Ended → W → Type 0) (Answers : R → StoreCall → R → Type 0) (Stands : R → List Run → Type 0) (Sound : R → Type 0) (Leaves : R → List (List Run) → Type 0) (c : Command) (old new : W) (store after : R) (was now : Option (List ℕ)) (exit : ℕ) : Type 0 where
   pub seen : Seen
   pub course : Course asks tells starts waits seen old new
-  pub left : (runs : List Run) → Stands store runs → Left Stands Sound Leaves runs store after was now exit (λ deed. Means seen runs c deed ⊎ CutShort seen runs c deed)
+  pub stored : Stored Answers Stands Sound Leaves seen.calls store after
+  pub bytes : List ℕ
+  pub due : ℕ
+  pub is : Means seen c bytes due ⊎ CutShort seen c bytes due
+  pub printed : Printed was now exit bytes due

@@ -1,8 +1,9 @@
 -- What the calls on runs in memory do.
-use Rattle.std.specs.Prelude.{ℕ, suc, nat_lt, nat_le, if◌then◌else◌, Option, List, [], ◌∷◌, ◌++◌, ◌≡◌, ◌≤◌, ◌<◌, ◌⊎◌, Some, None, Result, Ok, Err, length}
+use Rattle.std.specs.Prelude.{ℕ, suc, ⊤, nat_lt, nat_le, if◌then◌else◌, Option, List, [], ◌∷◌, ◌++◌, ◌≡◌, ◌≤◌, ◌<◌, ◌⊎◌, Some, None, Result, Ok, Err, length}
 use Rattle.kt_base.specs.declared.entry.Entry.{Entry}
 use Rattle.kt_base.specs.declared.run.Run.{Run}
 use Rattle.kt_store.specs.Ask.{IsStoreFault}
+use Rattle.kt_store.specs.StoreCalls.{StoreCall}
 use Rattle.kt_store.specs.Runs.{AreNumbered, new_run, run_at, with_entry, has_position, put_refusal, finish, finish_refusal}
 use Rattle.kt_store.specs.declared.store_fault.StoreFault.{StoreFault}
 use Rattle.kt_store.specs.declared.store_fault.StoreFault.TheVariants.{StoreFull, NoRun, RunClosed, BadPosition, RepeatedPosition, Incomplete}
@@ -43,3 +44,19 @@ entry_refusal run position =
 -- why a run may not be finished, in this order
 abbrev pub closing_refusal : Run → Option StoreFault
 closing_refusal run = if run.finished then Some RunClosed else if nat_lt (length run.entries) run.total then Some Incomplete else None
+
+-- of what runs in memory answer, each call says all itself
+abbrev pub AnswersInMemory : List Run → StoreCall → List Run → Type 0
+AnswersInMemory m call n = Unit {0}
+
+-- runs in memory stand for themselves
+abbrev pub StandsInMemory : List Run → List Run → Type 0
+StandsInMemory m runs = (m ≡ runs) × AreNumbered 1 runs
+
+-- memory always gives back what was written
+abbrev pub IsSoundInMemory : List Run → Type 0
+IsSoundInMemory m = ⊤
+
+-- a crash leaves nothing of them, so it leaves no others
+abbrev pub LeavesInMemory : List Run → List (List Run) → Type 0
+LeavesInMemory m may = ⊤

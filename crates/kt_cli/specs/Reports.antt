@@ -1,16 +1,19 @@
 -- Which run is shown, and what is shown of it.
-use Rattle.std.specs.Prelude.{ℕ, Bool, zero, suc, List, [], ◌∷◌, ◌++◌, ◌-◌, ◌≡◌, Option, Some, None, codes, length, slice_get}
+use Rattle.std.specs.Prelude.{ℕ, Bool, zero, suc, List, [], ◌∷◌, ◌++◌, ◌-◌, ◌≡◌, ◌⊎◌, Option, Some, None, Ok, Err, codes, length, slice_get}
 use Rattle.std.specs.Fmt.{decimal}
 use Rattle.jiff_core.specs.declared.civil.date.Date.{Date}
+use Rattle.kt_base.specs.declared.entry.Entry.{Entry}
 use Rattle.kt_base.specs.declared.kind.Kind.{Kind}
 use Rattle.kt_base.specs.declared.run.Run.{Run}
 use Rattle.kt_base.specs.Utf8.{utf8}
 use Rattle.kt_report.specs.Junits.{junit_bytes}
 use Rattle.kt_report.specs.Texts.{IsDateOf, text_bytes}
-use Rattle.kt_store.specs.Ask.{IsStoreFault}
+use Rattle.kt_store.specs.StoreCalls.{StoreCall, Heads, Read}
+use Rattle.kt_store.specs.declared.run_head.RunHead.{RunHead}
 use Rattle.kt_store.specs.declared.store_fault.StoreFault.{StoreFault}
 use Rattle.kt_cli.specs.FaultLines.{memory_line, refusal_line}
-use Rattle.kt_cli.specs.Stores.{Deed}
+use Rattle.kt_cli.specs.Pages.{Printed}
+use Rattle.kt_cli.specs.Stores.{Stored}
 
 -- the one of a number, counted from 1, or else the last one
 abbrev pub chosen : {X : Type 0} → Option ℕ → List X → Option X
@@ -26,26 +29,48 @@ no_runs_line = codes "kyua: E: no runs\n"
 abbrev pub no_run_line : ℕ → List ℕ
 no_run_line number = codes "kyua: E: no run " ++ decimal number ++ codes "\n"
 
--- why no run is shown
-abbrev pub missing_line : Option ℕ → List Run → List ℕ
+-- why no run is shown, by the heads of all runs
+abbrev pub missing_line : Option ℕ → List RunHead → List ℕ
 missing_line number [] = no_runs_line
-missing_line None (run ∷ runs) = no_runs_line
-missing_line (Some number) (run ∷ runs) = no_run_line number
+missing_line None (head ∷ heads) = no_runs_line
+missing_line (Some number) (head ∷ heads) = no_run_line number
 
--- `report`: the text of the chosen run, on the date of its start
-pub data Reported (number : Option ℕ) (kinds : List Kind) (verbose : Bool) (runs : List Run) : Deed → Type 0 where
-  told : (run : Run) (date : Date) → chosen number runs ≡ Some run → IsDateOf run.started date → Reported number kinds verbose runs (record { runs = runs; bytes = text_bytes date kinds verbose run; exit = 0; beside = λ may. may })
-  no_run : chosen number runs ≡ None → Reported number kinds verbose runs (record { runs = runs; bytes = utf8 (missing_line number runs); exit = 2; beside = λ may. may })
+-- a run, by its head and its entries
+abbrev pub run_of : RunHead → List Entry → Run
+run_of head entries = record { number = head.number; started = head.started; total = head.total; finished = head.finished; entries = entries }
 
--- `report-junit`: the JUnit report of the chosen run
-pub data ReportedJunit (number : Option ℕ) (runs : List Run) : Deed → Type 0 where
-  told : (run : Run) → chosen number runs ≡ Some run → ReportedJunit number runs (record { runs = runs; bytes = junit_bytes run; exit = 0; beside = λ may. may })
-  no_run : chosen number runs ≡ None → ReportedJunit number runs (record { runs = runs; bytes = utf8 (missing_line number runs); exit = 2; beside = λ may. may })
+-- `report`: the text of the run whose head is the chosen one, on the date of its start
+pub data Reported (number : Option ℕ) (kinds : List Kind) (verbose : Bool) : List StoreCall → List ℕ → ℕ → Type 0 where
+  told : (heads : List RunHead) (head : RunHead) (entries : List Entry) (date : Date) → chosen number heads ≡ Some head → IsDateOf head.started date
+      → Reported number kinds verbose (Heads (Ok heads) ∷ Read head.number (Ok entries) ∷ []) (text_bytes date kinds verbose (run_of head entries)) 0
+  no_run : (heads : List RunHead) → chosen number heads ≡ None → Reported number kinds verbose (Heads (Ok heads) ∷ []) (utf8 (missing_line number heads)) 2
 
--- the store refused to be read
-pub data Unread (runs : List Run) : Deed → Type 0 where
-  unread : (fault : StoreFault) → IsStoreFault fault → Unread runs (record { runs = runs; bytes = utf8 (refusal_line fault); exit = 2; beside = λ may. may })
+-- `report-junit`: the JUnit report of that run
+pub data ReportedJunit (number : Option ℕ) : List StoreCall → List ℕ → ℕ → Type 0 where
+  told : (heads : List RunHead) (head : RunHead) (entries : List Entry) → chosen number heads ≡ Some head
+      → ReportedJunit number (Heads (Ok heads) ∷ Read head.number (Ok entries) ∷ []) (junit_bytes (run_of head entries)) 0
+  no_run : (heads : List RunHead) → chosen number heads ≡ None → ReportedJunit number (Heads (Ok heads) ∷ []) (utf8 (missing_line number heads)) 2
 
--- memory ran out in the middle of the JUnit report of the chosen run
-pub data JunitCut (number : Option ℕ) (runs : List Run) : Deed → Type 0 where
-  cut : (run : Run) (front rest : List ℕ) → chosen number runs ≡ Some run → junit_bytes run ≡ front ++ rest → JunitCut number runs (record { runs = runs; bytes = front ++ utf8 memory_line; exit = 2; beside = λ may. may })
+-- the store refused to be read, and its own answer is told
+pub data Unread (number : Option ℕ) : List StoreCall → List ℕ → ℕ → Type 0 where
+  no_heads : (fault : StoreFault) → Unread number (Heads (Err fault) ∷ []) (utf8 (refusal_line fault)) 2
+  no_entries : (heads : List RunHead) (head : RunHead) (fault : StoreFault) → chosen number heads ≡ Some head
+      → Unread number (Heads (Ok heads) ∷ Read head.number (Err fault) ∷ []) (utf8 (refusal_line fault)) 2
+
+-- memory ran out in the middle of the JUnit report of that run
+pub data JunitCut (number : Option ℕ) : List StoreCall → List ℕ → ℕ → Type 0 where
+  cut : (heads : List RunHead) (head : RunHead) (entries : List Entry) (front rest : List ℕ) → chosen number heads ≡ Some head → junit_bytes (run_of head entries) ≡ front ++ rest
+      → JunitCut number (Heads (Ok heads) ∷ Read head.number (Ok entries) ∷ []) (front ++ utf8 memory_line) 2
+
+-- the store refused to be read, or memory ran out in the middle
+abbrev pub JunitOrUnread : Option ℕ → List StoreCall → List ℕ → ℕ → Type 0
+JunitOrUnread number calls bytes exit = Unread number calls bytes exit ⊎ JunitCut number calls bytes exit
+
+-- what was read of a store and told of it, in one of two ways
+pub record DidReport {R : Type 0} (Answers : R → StoreCall → R → Type 0) (Stands : R → List Run → Type 0) (Sound : R → Type 0) (Leaves : R → List (List Run) → Type 0) (store after : R) (was now : Option (List ℕ)) (exit : ℕ) (Means Cut : List StoreCall → List ℕ → ℕ → Type 0) : Type 0 where
+  pub calls : List StoreCall
+  pub stored : Stored Answers Stands Sound Leaves calls store after
+  pub bytes : List ℕ
+  pub due : ℕ
+  pub is : Means calls bytes due ⊎ Cut calls bytes due
+  pub printed : Printed was now exit bytes due

@@ -1,9 +1,13 @@
--- What a call does to a store of runs, and which runs a command leaves.
-use Rattle.std.specs.Prelude.{ℕ, List, [], ◌∷◌, ◌≡◌, Option}
+-- The calls that a command makes on a store of runs, and what they do to the runs.
+use Rattle.std.specs.Prelude.{ℕ, List, [], ◌∷◌, ◌++◌, ◌≡◌, ◌<◌, ◌≤◌, ◌⊎◌, ⊤, Some, None, Ok, Err, suc, length, map}
 use Rattle.kt_base.specs.declared.entry.Entry.{Entry}
 use Rattle.kt_base.specs.declared.run.Run.{Run}
-use Rattle.kt_store.specs.Runs.{with_entry, insert_at}
-use Rattle.kt_cli.specs.Pages.{Printed}
+use Rattle.kt_store.specs.Ask.{IsStoreFault}
+use Rattle.kt_store.specs.Heads.{head_of}
+use Rattle.kt_store.specs.Runs.{new_run, run_at, with_entry, insert_at, put_refusal, finish, finish_refusal}
+use Rattle.kt_store.specs.StoreCalls.{StoreCall, Began, Put, Finished, Heads, Read}
+use Rattle.kt_store.specs.declared.store_fault.StoreFault.TheVariants.{StoreFull, NoRun}
+use Rattle.kt_suite.specs.Answers.{Chain}
 
 -- the runs after these entries were put into the run of a number, one after the other
 abbrev pub put_all : ℕ → List Entry → List Run → List Run
@@ -19,42 +23,71 @@ put_among there (e ∷ es) = put_among (insert_at e there) es
 abbrev pub by_position : List Entry → List Entry
 by_position entries = put_among [] entries
 
--- what a crash may leave beside the runs after these puts, where it might leave others beside the runs before
-abbrev pub put_beside : List Entry → List (List Run) → List (List Run)
-put_beside [] may = may
-put_beside (e ∷ es) may = put_beside es []
+-- these entries are put into the run of a number, one after the other, and none is refused
+abbrev pub puts : ℕ → List Entry → List StoreCall
+puts number [] = []
+puts number (e ∷ es) = Put number e (Ok tt) ∷ puts number es
 
--- the same after puts into the run of a number, of which the last may have been refused
-abbrev pub beside_puts : ℕ → List Entry → List Entry → List Run → List (List Run) → List (List Run)
-beside_puts number es [] runs may = put_beside es may
-beside_puts number es (refused ∷ more) runs may = with_entry number refused (put_all number es runs) ∷ put_beside es may
+-- ---- what calls do to the runs, by their answers
 
--- a store that stood for runs stands for them with a change; if it is sound then, it was sound before;
--- where a crash left the runs or others, it then leaves the runs with the change, or what stands beside them
-pub record Moves {R : Type 0} (Stands : R → List Run → Type 0) (Sound : R → Type 0) (Leaves : R → List (List Run) → Type 0) (old new : R) (change : List Run → List Run) (beside : List Run → List (List Run) → List (List Run)) : Type 0 where
-  pub moved : (runs : List Run) → Stands old runs → Stands new (change runs)
+-- the runs after a call: one that is refused changes nothing
+abbrev pub changed_by : StoreCall → List Run → List Run
+changed_by (Began total moment (Ok number)) runs = runs ++ new_run runs total moment ∷ []
+changed_by (Began total moment (Err fault)) runs = runs
+changed_by (Put number e (Ok done)) runs = with_entry number e runs
+changed_by (Put number e (Err fault)) runs = runs
+changed_by (Finished number (Ok done)) runs = finish number runs
+changed_by (Finished number (Err fault)) runs = runs
+changed_by (Heads answer) runs = runs
+changed_by (Read number answer) runs = runs
+
+-- what a crash may leave beside the runs after a call, where it might leave others beside the runs before
+abbrev pub beside_by : StoreCall → List Run → List (List Run) → List (List Run)
+beside_by (Began total moment (Ok number)) runs may = []
+beside_by (Began total moment (Err fault)) runs may = (runs ++ new_run runs total moment ∷ []) ∷ may
+beside_by (Put number e (Ok done)) runs may = []
+beside_by (Put number e (Err fault)) runs may = with_entry number e runs ∷ may
+beside_by (Finished number (Ok done)) runs may = []
+beside_by (Finished number (Err fault)) runs may = finish number runs ∷ may
+beside_by (Heads answer) runs may = may
+beside_by (Read number answer) runs may = may
+
+-- a call's answer agrees with the runs before it
+abbrev pub Agrees : List Run → StoreCall → Type 0
+Agrees runs (Began total moment (Ok number)) = (number ≡ suc (length runs)) × (length runs < 1000000)
+Agrees runs (Began total moment (Err fault)) = IsStoreFault fault ⊎ ((fault ≡ StoreFull) × (1000000 ≤ length runs))
+Agrees runs (Put number e (Ok done)) = put_refusal runs number e ≡ None
+Agrees runs (Put number e (Err fault)) = IsStoreFault fault ⊎ (put_refusal runs number e ≡ Some fault)
+Agrees runs (Finished number (Ok done)) = finish_refusal runs number ≡ None
+Agrees runs (Finished number (Err fault)) = IsStoreFault fault ⊎ (finish_refusal runs number ≡ Some fault)
+Agrees runs (Heads (Ok heads)) = heads ≡ map head_of runs
+Agrees runs (Heads (Err fault)) = IsStoreFault fault
+Agrees runs (Read number (Ok entries)) = (run' : Run) × (run_at runs number ≡ Some run') × (entries ≡ run'.entries)
+Agrees runs (Read number (Err fault)) = IsStoreFault fault ⊎ ((fault ≡ NoRun) × (run_at runs number ≡ None))
+
+-- ---- the same of calls one after the other
+
+abbrev pub changed : List StoreCall → List Run → List Run
+changed [] runs = runs
+changed (call ∷ calls) runs = changed calls (changed_by call runs)
+
+abbrev pub beside : List StoreCall → List Run → List (List Run) → List (List Run)
+beside [] runs may = may
+beside (call ∷ calls) runs may = beside calls (changed_by call runs) (beside_by call runs may)
+
+abbrev pub Agree : List Run → List StoreCall → Type 0
+Agree runs [] = ⊤
+Agree runs (call ∷ calls) = Agrees runs call × Agree (changed_by call runs) calls
+
+-- what calls did to a store, whatever runs it stood for: it stands for the runs with their changes; if it is sound then, it was sound before
+-- and each answer agrees with the runs; where a crash left the runs or others, it then leaves the changed runs, or what stands beside them
+pub record Kept {R : Type 0} (Stands : R → List Run → Type 0) (Sound : R → Type 0) (Leaves : R → List (List Run) → Type 0) (calls : List StoreCall) (old new : R) : Type 0 where
+  pub stands : (runs : List Run) → Stands old runs → Stands new (changed calls runs)
   pub earlier : (runs : List Run) → Stands old runs → Sound new → Sound old
-  pub crash : (runs : List Run) (may : List (List Run)) → Stands old runs → Leaves old (runs ∷ may) → Leaves new (change runs ∷ beside runs may)
+  pub agree : (runs : List Run) → Stands old runs → Sound new → Agree runs calls
+  pub crash : (runs : List Run) (may : List (List Run)) → Stands old runs → Leaves old (runs ∷ may) → Leaves new (changed calls runs ∷ beside calls runs may)
 
--- what a command leaves: the runs, its bytes, its exit, and what a crash may leave beside the runs, where it might leave others before
-pub record Deed : Type 0 where
-  pub runs : List Run
-  pub bytes : List ℕ
-  pub exit : ℕ
-  pub beside : List (List Run) → List (List Run)
-
--- a deed was done: the runs are as it leaves them, and so is what a crash leaves; its bytes were written, and a failed writer
--- holds a prefix of them
-pub record Done {R : Type 0} (Leaves : R → List (List Run) → Type 0) (runs : List Run) (old new : R) (left : List Run) (was now : Option (List ℕ)) (exit : ℕ) (IsDeed : Deed → Type 0) : Type 0 where
-  pub deed : Deed
-  pub is : IsDeed deed
-  pub keeps : left ≡ deed.runs
-  pub crash : (may : List (List Run)) → Leaves old (runs ∷ may) → Leaves new (left ∷ deed.beside may)
-  pub printed : Printed was now exit deed.bytes deed.exit
-
--- a store that stood for runs is left with others, and while it is sound a deed was done
-pub record Left {R : Type 0} (Stands : R → List Run → Type 0) (Sound : R → Type 0) (Leaves : R → List (List Run) → Type 0) (runs : List Run) (old new : R) (was now : Option (List ℕ)) (exit : ℕ) (IsDeed : Deed → Type 0) : Type 0 where
-  pub left : List Run
-  pub stands : Stands new left
-  pub earlier : Sound new → Sound old
-  pub done : Sound new → Done Leaves runs old new left was now exit IsDeed
+-- these calls with their answers led a store from the first state to the second, and did this to its runs
+pub record Stored {R : Type 0} (Answers : R → StoreCall → R → Type 0) (Stands : R → List Run → Type 0) (Sound : R → Type 0) (Leaves : R → List (List Run) → Type 0) (calls : List StoreCall) (old new : R) : Type 0 where
+  pub answered : Chain Answers calls old new
+  pub kept : Kept Stands Sound Leaves calls old new

@@ -64,7 +64,7 @@ fn execute_over<
     out: &mut W,
 ) -> (Exit, Runner<O>)
     requires { IsIdle (shown_at runner.driver.row.cases) (is_among runner.driver.row.pending) }
-    ensures did { Did IsLook (IsHostAnswer O.leads) (RunnerStarts O.leads) (RunnerWaits O.leads) S.stands S.sound S.leaves command.now runner result.1 results.old results.new (W.contents out.old) (W.contents out.new) result.0.status }
+    ensures did { Did IsLook (IsHostAnswer O.leads) (RunnerStarts O.leads) (RunnerWaits O.leads) S.answers S.stands S.sound S.leaves command.now runner result.1 results.old results.new (W.contents out.old) (W.contents out.new) result.0.status }
     ensures idle { IsIdle (shown_at result.1.driver.row.cases) (is_among result.1.driver.row.pending) }
 {
     let mut world = HostWorld::new(rt, directory, runner);
@@ -88,7 +88,7 @@ fn execute_over_cases<
     results: &mut S,
     out: &mut W,
 ) -> Result<Exit, DriverFault>
-    ensures did { IfOk result (λ exit. OnDriver O.leads os around options.now S.stands S.sound S.leaves command.now results.old results.new (W.contents out.old) (W.contents out.new) exit.status) }
+    ensures did { IfOk result (λ exit. OnDriver O.leads os around options.now S.answers S.stands S.sound S.leaves command.now results.old results.new (W.contents out.old) (W.contents out.new) exit.status) }
     ensures refused { IfErr result (λ e. NoRoot O.leads os options.now.work e) }
     ensures unasked { OnErr result ((results.new ≡ results.old) × (W.contents out.new ≡ W.contents out.old)) }
 {
@@ -123,7 +123,7 @@ pub fn execute_on_host<
     results: &mut S,
     out: &mut W,
 ) -> Result<Exit, DriverFault>
-    ensures did { IfOk result (λ exit. DidOnHost O.leads os around S.stands S.sound S.leaves command.now results.old results.new (W.contents out.old) (W.contents out.new) exit.status) }
+    ensures did { IfOk result (λ exit. DidOnHost O.leads os around S.answers S.stands S.sound S.leaves command.now results.old results.new (W.contents out.old) (W.contents out.new) exit.status) }
     ensures refused { IfErr result (λ e. NoDriver O.leads os command.now e) }
     ensures unasked { OnErr result ((results.new ≡ results.old) × (W.contents out.new ≡ W.contents out.old)) }
 {

@@ -109,12 +109,12 @@ impl<W: Write> Write for LineOutput<W> {
 }
 
 impl<W: Write> LineOutput<W> {
-    ghost use Rattle.std.specs.Prelude.{◌≡◌, ◌⊎◌, []};
-    ghost use Rattle.kt_cli.specs.LineOutputs.{unwritten};
+    ghost use Rattle.kt_cli.specs.LineOutputs.{given_bytes, unwritten};
+    ghost use Rattle.kt_cli.specs.Performing.{Flushed};
 
     /// The exit of a command that wrote here: what is still held is written, and where that fails the exit is 2.
     pub fn finish(&mut self, exit: Exit) -> Exit
-        ensures { ((unwritten self.new ≡ []) × (result ≡ exit)) ⊎ (result.status ≡ 2) }
+        ensures { Flushed (given_bytes W.contents self.old) (given_bytes W.contents self.new) (unwritten self.new) exit.status result.status }
     {
         match self.flush() {
             Ok(()) => exit,

@@ -135,6 +135,9 @@ impl ResultStore for MemRuns {
     ghost use Rattle.std.specs.Prelude.{◌≡◌, ⊤};
     ghost use Rattle.kt_store.specs.Runs.{AreNumbered};
 
+    // What each call answers is its own clause.
+    ghost answers = { λ _ _ _. Unit {0} };
+
     ghost stands = { λ m runs. (m ≡ runs) × AreNumbered 1 runs };
 
     ghost sound = { λ m. ⊤ };

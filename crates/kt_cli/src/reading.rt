@@ -11,6 +11,8 @@ use clap::error::ErrorKind;
 use kt_base::{Items, Kind, NoMemory, Text};
 use kt_plan::CaseOptions;
 use std::alloc::Global;
+use std::env::Args;
+use std::io;
 
 /// What `clap` says of words that aren't UTF-8.
 const UNREADABLE: &str = "invalid UTF-8 was detected in one or more arguments";
@@ -219,9 +221,30 @@ fn refuse_words(alloc: Global) -> Result<CommandFault, NoMemory> {
 }
 
 /// Why words that aren't UTF-8 are no command line, in the form of what `clap` says of others.
-pub fn unreadable_words(alloc: Global) -> CommandFault {
+fn unreadable_words(alloc: Global) -> CommandFault {
     match refuse_words(alloc) {
         Ok(fault) => fault,
         Err(refusal) => CommandFault::from(refusal),
     }
+}
+
+/// Why the words of a process that can't be had are no command line.
+fn refused_words(alloc: Global, error: &io::Error) -> CommandFault {
+    match NoMemory::in_error(error) {
+        Some(refusal) => CommandFault::from(refusal),
+        None => unreadable_words(alloc),
+    }
+}
+
+/// The command of the words of a process, of which the first is the program's own name.
+pub fn read_words(alloc: Global, words: io::Result<Args>) -> Result<Command, CommandFault>
+    ensures { IfOk result HasRunNumber }
+{
+    let words = match words {
+        Ok(words) => words,
+        Err(error) => return Err(refused_words(alloc, &error)),
+    };
+    let words: Vec<String> = words.skip(1).collect(alloc).map_err(NoMemory::from)?;
+    let command = read_command(alloc, words.as_slice())?;
+    Ok(command)
 }

@@ -35,7 +35,7 @@ impl<R: ResultStore, O: Write> Sink for Recorder<'_, R, O> {
     ghost entries = { λ s put. Took R.stands s.number s.results.now put };
 
     ghost puts = { λ s e r t. (t.results.ghost_name ≡ s.results.ghost_name) × (t.out.ghost_name ≡ s.out.ghost_name)
-        × Recorded R.stands R.sound R.leaves s.number s.results.now s.failed (O.contents s.out.now) e r t.number t.results.now t.failed (O.contents t.out.now) };
+        × Recorded R.answers R.stands R.sound R.leaves s.number s.results.now s.failed (O.contents s.out.now) e r t.number t.results.now t.failed (O.contents t.out.now) };
 
     fn put(&mut self, entry: Entry) -> Result<(), SinkFault> {
         // The entry is recorded before its line is told.

@@ -1,11 +1,8 @@
-ghost use Rattle.std.specs.Prelude.{◌≡◌, ◌⊎◌, List, map};
-ghost use Rattle.kt_base.specs.declared.run.Run.{Run as Recorded};
+ghost use Rattle.std.specs.Prelude.{◌≡◌};
 ghost use Rattle.kt_base.specs.Utf8.{utf8};
 ghost use Rattle.kt_base.specs.Shows.{Shows};
-ghost use Rattle.kt_store.specs.Heads.{head_of};
-ghost use Rattle.kt_cli.specs.Reports.{chosen, Reported, ReportedJunit, Unread, JunitCut};
-ghost use Rattle.kt_cli.specs.Shown.{FindsRun, IsMissing, not_shown_line};
-ghost use Rattle.kt_cli.specs.Stores.{Left, Moves};
+ghost use Rattle.kt_cli.specs.Reports.{chosen, Reported, ReportedJunit, Unread, JunitOrUnread, DidReport};
+ghost use Rattle.kt_cli.specs.Shown.{IsMissing, ReadsRun, not_shown_line};
 
 use crate::exit::{Exit, ended};
 use crate::fault_line::{say_memory, say_refusal};
@@ -33,7 +30,7 @@ fn chosen_head(number: Option<u64>, heads: &[RunHead]) -> Option<RunHead>
 
 /// Why no head was found.
 fn missing(number: Option<u64>, heads: &[RunHead]) -> NotShown
-    ensures { (runs : List Recorded) → heads.now ≡ map head_of runs → IsMissing number runs result }
+    ensures { IsMissing number heads.now result }
 {
     match number {
         Some(number) if !heads.is_empty() => NotShown::NoRun(number),
@@ -43,8 +40,7 @@ fn missing(number: Option<u64>, heads: &[RunHead]) -> NotShown
 
 /// The run that is asked for, or else the last one, with its entries.
 fn read_run<R: ResultStore>(number: Option<u64>, results: &mut R) -> Result<Run, NotShown>
-    ensures moves { Moves R.stands R.sound R.leaves results.old results.new (λ runs. runs) (λ runs may. may) }
-    ensures finds { (runs : List Recorded) → R.stands results.old runs → R.sound results.new → FindsRun number runs result }
+    ensures { ReadsRun R.answers R.stands R.sound R.leaves number results.old results.new result }
 {
     let heads = match results.runs() {
         Ok(heads) => heads,
@@ -98,7 +94,7 @@ pub fn report<R: ResultStore, O: Write>(
     results: &mut R,
     out: &mut O,
 ) -> Exit
-    ensures { (runs : List Recorded) → R.stands results.old runs → Left R.stands R.sound R.leaves runs results.old results.new (O.contents out.old) (O.contents out.new) result.status (λ deed. Reported number kinds.now verbose runs deed ⊎ Unread runs deed) }
+    ensures { DidReport R.answers R.stands R.sound R.leaves results.old results.new (O.contents out.old) (O.contents out.new) result.status (Reported number kinds.now verbose) (Unread number) }
 {
     match read_run(number, results) {
         Ok(run) => match text(&run, kinds, verbose, out) {
@@ -116,7 +112,7 @@ pub fn report_junit<R: ResultStore, O: Write>(
     results: &mut R,
     out: &mut O,
 ) -> Exit
-    ensures { (runs : List Recorded) → R.stands results.old runs → Left R.stands R.sound R.leaves runs results.old results.new (O.contents out.old) (O.contents out.new) result.status (λ deed. ReportedJunit number runs deed ⊎ (Unread runs deed ⊎ JunitCut number runs deed)) }
+    ensures { DidReport R.answers R.stands R.sound R.leaves results.old results.new (O.contents out.old) (O.contents out.new) result.status (ReportedJunit number) (JunitOrUnread number) }
 {
     let run = match read_run(number, results) {
         Ok(run) => run,

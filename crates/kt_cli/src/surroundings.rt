@@ -2,7 +2,9 @@ ghost use Rattle.std.specs.Prelude.{◌≡◌, IfOk, bytes_eq, chars};
 ghost use Rattle.kt_cli.specs.HostAnswers.{is_root};
 
 use kt_base::{NoMemory, Text};
+use kt_child::DriverFault;
 use std::alloc::Global;
+use std::env;
 use std::rt::Env;
 
 /// The longest variable of an environment, in bytes: Linux takes no longer one.
@@ -34,6 +36,17 @@ fn variable<R: Env + AllocGlobal>(
     }
 }
 
+/// The absolute working directory.
+fn working_directory<R: Env + AllocGlobal>(rt: &R) -> Result<Text, DriverFault> {
+    match env::current_dir(rt) {
+        Ok(here) => Text::from_str(rt.alloc(), here.as_str()).map_err(DriverFault::NoMemory),
+        Err(error) => match NoMemory::in_error(&error) {
+            Some(refusal) => Err(DriverFault::NoMemory(refusal)),
+            None => Err(DriverFault::NoWorkDirectory),
+        },
+    }
+}
+
 /// Whether a text is this one.
 fn is_text(text: &Text, other: &str) -> bool
     ensures { result ≡ bytes_eq text.now (chars other.now) }
@@ -50,6 +63,12 @@ impl Surroundings {
         let path = variable(rt, "PATH", &mut room)?;
         let user = variable(rt, "USER", &mut room)?;
         Ok(Surroundings { here, path, user })
+    }
+
+    /// What is found around this process.
+    pub fn of_process<R: Env + AllocGlobal>(rt: &R) -> Result<Surroundings, DriverFault> {
+        let here = working_directory(rt)?;
+        Surroundings::new(rt, here).map_err(DriverFault::NoMemory)
     }
 
     /// Whether root runs the command.

@@ -35,7 +35,7 @@ fn record_cases<L: Launcher, R: ResultStore, O: Write>(
     requires plan { IsPlan plan }
     requires width { IsWidth width }
     requires idle { IsIdle (L.running launcher.old) (L.pending launcher.old) }
-    ensures records { Records L.starts L.waits R.stands R.sound R.leaves plan width number launcher.old launcher.new results.old results.new (O.contents out.old) (O.contents out.new) result.0 result.1 }
+    ensures records { Records L.starts L.waits R.answers R.stands R.sound R.leaves plan width number launcher.old launcher.new results.old results.new (O.contents out.old) (O.contents out.new) result.0 result.1 }
     ensures idle { IsIdle (L.running launcher.new) (L.pending launcher.new) }
 {
     let mut recorder = Recorder {
@@ -94,7 +94,7 @@ fn run_plan<L: Launcher, R: ResultStore, O: Write>(
     requires width { IsWidth width }
     requires moment { IsMoment moment }
     requires idle { IsIdle (L.running launcher.old) (L.pending launcher.old) }
-    ensures ran { RanPlan L.starts L.waits R.stands R.sound R.leaves plan width words.now unmatched.now moment launcher.old launcher.new results.old results.new (O.contents out.old) (O.contents out.new) result.status }
+    ensures ran { RanPlan L.starts L.waits R.answers R.stands R.sound R.leaves plan width words.now unmatched.now moment launcher.old launcher.new results.old results.new (O.contents out.old) (O.contents out.new) result.status }
     ensures idle { IsIdle (L.running launcher.new) (L.pending launcher.new) }
 {
     let total = plan.len() as u32;
@@ -126,7 +126,7 @@ pub fn test<W: World, R: ResultStore, O: Write>(
     out: &mut O,
 ) -> Exit
     requires { IsIdle (W.running world.old) (W.pending world.old) }
-    ensures did { Did W.asks W.tells W.starts W.waits R.stands R.sound R.leaves (command.Test options.now file.now) world.old world.new results.old results.new (O.contents out.old) (O.contents out.new) result.status }
+    ensures did { Did W.asks W.tells W.starts W.waits R.answers R.stands R.sound R.leaves (command.Test options.now file.now) world.old world.new results.old results.new (O.contents out.old) (O.contents out.new) result.status }
     ensures idle { IsIdle (W.running world.new) (W.pending world.new) }
 {
     let picked = match select_cases(alloc, false, options, world) {

@@ -123,7 +123,8 @@ impl Config {
     /// Gives a variable a value by its name, whose parts stand between dots (kyua(1), `--variable`).
     pub fn set(&mut self, name: &Text, value: &Text) -> Result<(), ConfigFault>
         ensures ok { OnOk result (Becomes self.old self.new (definition_named name.now value.now)) }
-        ensures refused { IfFault result (λ fault. definition_named name.now value.now ≡ Err fault) }
+        ensures refused { IfFault result (λ fault.
+            definition_named name.now value.now ≡ Err fault) }
         ensures err { OnErr result (self.new ≡ self.old) }
     {
         let parts = dotted(self.alloc, name)?;

@@ -7,6 +7,7 @@ pub mod LookLaws
 pub mod OfferLaws
 pub mod Picking
 pub mod PlanLaws
+pub mod PlansFit
 pub mod QuestionChains
 pub mod Rests
 pub mod SelectLaws

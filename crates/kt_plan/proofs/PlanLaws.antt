@@ -33,7 +33,7 @@ fit_more plan last all f i job e = by (last_of plan last i job e)
     by (inr h) = subst IsFit h f
 
 module _ (config : Values) (host : Host) where
-  placed_from : (k : ℕ) (cases : List Candidate) (plan : List Job) → ArePlanned config host k cases plan → (i : ℕ) (job : Job) → slice_get plan i ≡ Some job → job.position ≡ k + i
+  pub placed_from : (k : ℕ) (cases : List Candidate) (plan : List Job) → ArePlanned config host k cases plan → (i : ℕ) (job : Job) → slice_get plan i ≡ Some job → job.position ≡ k + i
   placed_from k _ _ (no_job _) i job e = absurd (cc)
   placed_from k _ _ (planned _ candidate cases first plan is rest) zero job e = ap (λ (j : Job). j.position) (sym (some_is first job e)) ∙ is.at ∙ sym (add-zero k)
   placed_from k _ _ (planned _ candidate cases first plan is rest) (suc i) job e = placed_from (suc k) cases plan rest i job e ∙ omega arith

@@ -24,7 +24,9 @@ pub fn prepare<W: World>(
 ) -> Result<Items<Job>, NoMemory>
     requires few { length cases.now ≤ most_items }
     requires idle { IsIdle (W.running world.old) (W.pending world.old) }
-    ensures planned { Answered W.tells world.old world.new (λ told. IfOk result (λ plan. (host : Surveyed) × Surveys cases.now told host × ArePlanned config.now host 0 cases.now plan)) }
+    ensures planned { Answered W.tells world.old world.new
+        (λ told. IfOk result (λ plan. (host : Surveyed) × Surveys cases.now told host
+        × ArePlanned config.now host 0 cases.now plan)) }
     ensures plan { IfOk result (λ plan. IsPlan plan × (length plan ≡ length cases.now)) }
     ensures idle { IsIdle (W.running world.new) (W.pending world.new) }
 {

@@ -46,7 +46,8 @@ pub fn programs_of<T: Tree>(
     kyuafile: &Text,
     tree: &mut T,
 ) -> Result<Items<Program>, SuiteFault>
-    ensures loaded { Answered T.asks tree.old tree.new (λ asked. RanShort result ⊎ Loads kyuafile.now asked result) }
+    ensures loaded { Answered T.asks tree.old tree.new
+        (λ asked. RanShort result ⊎ Loads kyuafile.now asked result) }
     ensures few { IfOk result (λ programs. length programs ≤ program_limit) }
 {
     let root = match split_path(alloc, kyuafile) {

@@ -23,7 +23,8 @@ pub fn select_cases<W: World>(
     world: &mut W,
 ) -> Result<Picked, Stop>
     requires { IsIdle (W.running world.old) (W.pending world.old) }
-    ensures selects { Answered (leads_by W.asks W.tells) world.old world.new (λ questions. IsShort result ⊎ Selects needed options.now questions result) }
+    ensures selects { Answered (leads_by W.asks W.tells) world.old world.new
+        (λ questions. IsShort result ⊎ Selects needed options.now questions result) }
     ensures few { IfOk result (λ picked. length picked.chosen.cases ≤ most_items) }
     ensures idle { IsIdle (W.running world.new) (W.pending world.new) }
 {

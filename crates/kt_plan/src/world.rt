@@ -52,12 +52,16 @@ pub trait World: Tree + Launcher {
         ensures moment { IsMoment result };
 
     /// No question to the tree changes what runs.
-    ghost runs_on: { (s t : Self) (q : Asked) → Self.asks s q t → (k : ℕ) (r : Role) → Self.running t k r ≡ Self.running s k r };
+    ghost runs_on: { (s t : Self) (q : Asked) → Self.asks s q t → (k : ℕ) (r : Role)
+        → Self.running t k r ≡ Self.running s k r };
 
-    ghost pends_on: { (s t : Self) (q : Asked) → Self.asks s q t → (k : ℕ) → Self.pending t k ≡ Self.pending s k };
+    ghost pends_on: { (s t : Self) (q : Asked) → Self.asks s q t → (k : ℕ)
+        → Self.pending t k ≡ Self.pending s k };
 
     /// No question to the host does.
-    ghost runs_told: { (s t : Self) (q : Told) → Self.tells s q t → (k : ℕ) (r : Role) → Self.running t k r ≡ Self.running s k r };
+    ghost runs_told: { (s t : Self) (q : Told) → Self.tells s q t → (k : ℕ) (r : Role)
+        → Self.running t k r ≡ Self.running s k r };
 
-    ghost pends_told: { (s t : Self) (q : Told) → Self.tells s q t → (k : ℕ) → Self.pending t k ≡ Self.pending s k };
+    ghost pends_told: { (s t : Self) (q : Told) → Self.tells s q t → (k : ℕ)
+        → Self.pending t k ≡ Self.pending s k };
 }

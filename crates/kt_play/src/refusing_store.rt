@@ -56,6 +56,9 @@ impl ResultStore for RefusingStore {
     ghost use Rattle.std.specs.Prelude.{◌≡◌, ⊤};
     ghost use Rattle.kt_store.specs.Runs.{AreNumbered};
 
+    // What each call answers is its own clause.
+    ghost answers = { λ _ _ _. Unit {0} };
+
     ghost stands = { λ s runs. (s.runs ≡ runs) × AreNumbered 1 runs };
 
     ghost sound = { λ s. ⊤ };

@@ -7,9 +7,9 @@ pub struct Life {
     pub ending: Polled,
 }
 
-/// What a read in parts does besides giving the file: a system that doesn't keep its word.
+/// What goes wrong when a file is read in parts, by a system that breaks its promise.
 #[derive(Clone, Copy, Debug, PartialEq, Eq)]
-pub enum Oddity {
+pub enum PartFault {
     None,
     /// Behind the first part comes one without bytes, and more follow.
     EmptyPart,
@@ -32,7 +32,7 @@ pub struct Scene<'a> {
     pub files: Vec<Holding<'a>>,
     /// The calls from the first number on, counted from 0, and below the second one fail.
     pub failing: (u32, u32),
-    pub oddity: Oddity,
+    pub part_fault: PartFault,
     /// The moments that are told, in milliseconds since 1970 in UTC.
     pub moments: Vec<u64>,
     /// How much later each moment is behind those.

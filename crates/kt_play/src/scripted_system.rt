@@ -1,6 +1,6 @@
 ghost use Rattle.kt_child.specs.Reads.{IsReadWithin};
 
-use crate::scene::{Life, Oddity, Scene, bytes_at};
+use crate::scene::{Life, PartFault, Scene, bytes_at};
 use kt_base::{Bytes, Items, NoMemory, Role, Text, Variable};
 use kt_child::{Child, EnvPlan, FileRead, Os, OsFault, Polled};
 use std::alloc::Global;
@@ -76,8 +76,8 @@ fn read(
     }
 }
 
-/// A part of a file, or what an odd system gives in its place.
-fn read_oddly(
+/// A part of a file, or what a system that breaks its promise gives in its place.
+fn read_with_fault(
     alloc: Global,
     scene: &Scene<'_>,
     path: &Text,
@@ -89,10 +89,10 @@ fn read_oddly(
     if from == 0 {
         return read(alloc, scene, path, from, limit);
     }
-    match scene.oddity {
-        Oddity::None => read(alloc, scene, path, from, limit),
-        Oddity::EmptyPart => Ok(FileRead::Part(Bytes::new(alloc), true)),
-        Oddity::Gone => Ok(FileRead::Missing),
+    match scene.part_fault {
+        PartFault::None => read(alloc, scene, path, from, limit),
+        PartFault::EmptyPart => Ok(FileRead::Part(Bytes::new(alloc), true)),
+        PartFault::Gone => Ok(FileRead::Missing),
     }
 }
 
@@ -267,7 +267,7 @@ impl Os for ScriptedSystem<'_> {
 
     fn read_part(&mut self, path: &Text, from: u64, limit: u64) -> Result<FileRead, OsFault> {
         self.ask("part", path.as_str())?;
-        read_oddly(self.alloc, self.scene, path, from, limit)
+        read_with_fault(self.alloc, self.scene, path, from, limit)
     }
 
     fn now(&mut self) -> Result<u64, OsFault> {

@@ -11,7 +11,8 @@ use std::io::Write;
 
 /// Tells the text of a reason.
 fn say_words<W: Write>(failed: bool, verdict: &Verdict, out: &mut W) -> bool
-    ensures { Tells (W.contents out.old) failed (W.contents out.new) result (utf8 verdict.now.reason) }
+    ensures { Tells (W.contents out.old) failed (W.contents out.new) result
+        (utf8 verdict.now.reason) }
 {
     if failed {
         return true;
@@ -21,7 +22,8 @@ fn say_words<W: Write>(failed: bool, verdict: &Verdict, out: &mut W) -> bool
 
 /// Tells the reason of a verdict, behind a colon; a passed one has none.
 fn say_reason<W: Write>(failed: bool, verdict: &Verdict, out: &mut W) -> bool
-    ensures { Tells (W.contents out.old) failed (W.contents out.new) result (told_reason verdict.now.kind verdict.now.reason) }
+    ensures { Tells (W.contents out.old) failed (W.contents out.new) result
+        (told_reason verdict.now.kind verdict.now.reason) }
 {
     match verdict.kind() {
         Kind::Passed => failed,
@@ -50,7 +52,8 @@ pub fn say_line<W: Write>(failed: bool, entry: &Entry, out: &mut W) -> bool
 /// Writes the line of an entry: program and case, what became of it and why, and how long it took in seconds (this
 /// profile). It takes no memory. Where a write failed, a prefix of the line was written.
 pub fn line<W: Write>(entry: &Entry, out: &mut W) -> Result<(), OutputFault>
-    ensures { Shows (W.contents out.old) (W.contents out.new) (is_err result) (line_bytes entry.now) }
+    ensures { Shows (W.contents out.old) (W.contents out.new) (is_err result)
+        (line_bytes entry.now) }
 {
     if say_line(false, entry, out) {
         Err(OutputFault)

@@ -10,7 +10,8 @@ use std::alloc::Global;
 
 /// Appends a tab or a newline, in an attribute by its number.
 fn push_break(text: &mut Text, attribute: bool, number: &str, c: char) -> Result<(), NoMemory>
-    ensures { OnOk result (text.new ≡ text.old ++ (if attribute then chars number.now else c ∷ [])) }
+    ensures { OnOk result (text.new ≡ text.old
+        ++ (if attribute then chars number.now else c ∷ [])) }
 {
     if attribute {
         text.push_str(number)

@@ -15,7 +15,8 @@ use std::alloc::Global;
 use std::io::Write;
 
 fn say_message<W: Write>(failed: bool, opening: &[u8], reason: &Text, out: &mut W) -> bool
-    ensures { Tells (W.contents out.old) failed (W.contents out.new) result (opening.now ++ utf8 reason.now ++ codes "\"/>\n") }
+    ensures { Tells (W.contents out.old) failed (W.contents out.new) result
+        (opening.now ++ utf8 reason.now ++ codes "\"/>\n") }
 {
     let name = say(failed, opening, out);
     let text = say_text(name, reason, out);
@@ -24,7 +25,8 @@ fn say_message<W: Write>(failed: bool, opening: &[u8], reason: &Text, out: &mut 
 
 /// Tells what became of a case.
 fn say_result<W: Write>(failed: bool, kind: Kind, reason: &Text, out: &mut W) -> bool
-    ensures { Tells (W.contents out.old) failed (W.contents out.new) result (result_element kind reason.now) }
+    ensures { Tells (W.contents out.old) failed (W.contents out.new) result
+        (result_element kind reason.now) }
 {
     match kind {
         Kind::Passed | Kind::ExpectedFailure => failed,
@@ -36,7 +38,8 @@ fn say_result<W: Write>(failed: bool, kind: Kind, reason: &Text, out: &mut W) ->
 
 /// Tells what a case printed, where it printed something.
 fn say_output<W: Write>(failed: bool, name: &[u8], text: &Text, out: &mut W) -> bool
-    ensures { Tells (W.contents out.old) failed (W.contents out.new) result (output_element name.now text.now) }
+    ensures { Tells (W.contents out.old) failed (W.contents out.new) result
+        (output_element name.now text.now) }
 {
     if text.as_str().is_empty() {
         return failed;
@@ -57,7 +60,8 @@ fn say_element<W: Write>(
     millis: u64,
     out: &mut W,
 ) -> bool
-    ensures { Tells (W.contents out.old) failed (W.contents out.new) result (element texts.now kind millis) }
+    ensures { Tells (W.contents out.old) failed (W.contents out.new) result
+        (element texts.now kind millis) }
 {
     let opening = say(failed, b"<testcase classname=\"", out);
     let program = say_text(opening, &texts.program, out);
@@ -103,7 +107,8 @@ fn ended(failed: bool) -> Result<(), ReportFault>
 
 /// Writes an entry. Where memory was refused nothing of it was written.
 fn write_case<W: Write>(alloc: Global, entry: &Entry, out: &mut W) -> Result<(), ReportFault>
-    ensures { Tells (W.contents out.old) false (W.contents out.new) (is_err result) (case_bytes entry.now) }
+    ensures { Tells (W.contents out.old) false (W.contents out.new) (is_err result)
+        (case_bytes entry.now) }
 {
     let texts = case_texts(alloc, entry)?;
     ended(say_element(false, &texts, entry.verdict.kind(), entry.millis, out))
@@ -111,7 +116,8 @@ fn write_case<W: Write>(alloc: Global, entry: &Entry, out: &mut W) -> Result<(),
 
 /// Writes the entries, or a prefix of their text.
 fn write_cases<W: Write>(alloc: Global, entries: &[Entry], out: &mut W) -> Result<(), ReportFault>
-    ensures { Tells (W.contents out.old) false (W.contents out.new) (is_err result) (flat_map case_bytes entries.now) }
+    ensures { Tells (W.contents out.old) false (W.contents out.new) (is_err result)
+        (flat_map case_bytes entries.now) }
 {
     let mut rest = entries;
     while let Some((entry, after)) = rest.split_first() {
@@ -124,7 +130,8 @@ fn write_cases<W: Write>(alloc: Global, entries: &[Entry], out: &mut W) -> Resul
 /// Writes the JUnit report: a suite with a case for each recorded entry, by position (this profile). It takes memory
 /// for the texts of one entry at a time. After an error a prefix of the report was written.
 pub fn junit<W: Write>(alloc: Global, run: &Run, out: &mut W) -> Result<(), ReportFault>
-    ensures { Shows (W.contents out.old) (W.contents out.new) (is_err result) (junit_bytes run.now) }
+    ensures { Shows (W.contents out.old) (W.contents out.new) (is_err result)
+        (junit_bytes run.now) }
 {
     ended(say_heading(false, run, out))?;
     write_cases(alloc, run.entries.as_slice(), out)?;

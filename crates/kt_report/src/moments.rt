@@ -48,7 +48,8 @@ fn say_clock<W: Write>(failed: bool, millis: u64, out: &mut W) -> bool
 
 /// Tells a moment on its date, as `2023-11-14T22:13:20.123Z`.
 pub fn say_moment<W: Write>(failed: bool, date: Date, moment: u64, out: &mut W) -> bool
-    ensures { Tells (W.contents out.old) failed (W.contents out.new) result (moment_bytes date moment) }
+    ensures { Tells (W.contents out.old) failed (W.contents out.new) result
+        (moment_bytes date moment) }
 {
     let year = say_four_digits(failed, u64::from(date.year().unsigned_abs()), out);
     let dash = say(year, b"-", out);

@@ -16,7 +16,8 @@ fn shown_byte(byte: u8) -> u8
 
 /// Tells a value, without its control characters.
 fn say_value<W: Write>(failed: bool, value: &[u8], out: &mut W) -> bool
-    ensures { Tells (W.contents out.old) failed (W.contents out.new) result (map shown_byte value.now) }
+    ensures { Tells (W.contents out.old) failed (W.contents out.new) result
+        (map shown_byte value.now) }
 {
     let mut has_failed = failed;
     let mut rest = value;
@@ -40,7 +41,8 @@ fn say_pair<W: Write>(failed: bool, pair: &Variable, out: &mut W) -> bool
 
 /// Tells names with their values.
 fn say_pairs<W: Write>(failed: bool, pairs: &[Variable], out: &mut W) -> bool
-    ensures { Tells (W.contents out.old) failed (W.contents out.new) result (flat_map pair_bytes pairs.now) }
+    ensures { Tells (W.contents out.old) failed (W.contents out.new) result
+        (flat_map pair_bytes pairs.now) }
 {
     let mut has_failed = failed;
     let mut rest = pairs;
@@ -53,7 +55,8 @@ fn say_pairs<W: Write>(failed: bool, pairs: &[Variable], out: &mut W) -> bool
 
 /// Tells the line of an entry, and where `verbose` is set what the case declared.
 pub fn say_entry<W: Write>(failed: bool, verbose: bool, entry: &Entry, out: &mut W) -> bool
-    ensures { Tells (W.contents out.old) failed (W.contents out.new) result (entry_bytes verbose entry.now) }
+    ensures { Tells (W.contents out.old) failed (W.contents out.new) result
+        (entry_bytes verbose entry.now) }
 {
     let line = say_line(failed, entry, out);
     if verbose {

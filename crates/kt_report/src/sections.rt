@@ -71,7 +71,8 @@ fn say_lines<W: Write>(
     entries: &[Entry],
     out: &mut W,
 ) -> bool
-    ensures { Tells (W.contents out.old) failed (W.contents out.new) result (flat_map (entry_bytes verbose) (entries_of kind entries.now)) }
+    ensures { Tells (W.contents out.old) failed (W.contents out.new) result
+        (flat_map (entry_bytes verbose) (entries_of kind entries.now)) }
 {
     let mut has_failed = failed;
     let mut rest = entries;
@@ -93,7 +94,8 @@ fn say_section<W: Write>(
     kind: Kind,
     out: &mut W,
 ) -> bool
-    ensures { Tells (W.contents out.old) failed (W.contents out.new) result (section verbose kinds.now entries.now kind) }
+    ensures { Tells (W.contents out.old) failed (W.contents out.new) result
+        (section verbose kinds.now entries.now kind) }
 {
     if !is_chosen(kinds, kind) {
         return failed;
@@ -115,7 +117,8 @@ pub fn say_sections<W: Write>(
     entries: &[Entry],
     out: &mut W,
 ) -> bool
-    ensures { Tells (W.contents out.old) failed (W.contents out.new) result (sections verbose kinds.now entries.now) }
+    ensures { Tells (W.contents out.old) failed (W.contents out.new) result
+        (sections verbose kinds.now entries.now) }
 {
     let passed = say_section(failed, verbose, kinds, entries, Kind::Passed, out);
     let skipped = say_section(passed, verbose, kinds, entries, Kind::Skipped, out);

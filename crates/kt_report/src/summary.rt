@@ -25,13 +25,15 @@ fn total_millis(entries: &[Entry]) -> u128
 
 /// Tells how many entries have the kind.
 pub fn say_count<W: Write>(failed: bool, kind: Kind, entries: &[Entry], out: &mut W) -> bool
-    ensures { Tells (W.contents out.old) failed (W.contents out.new) result (count_bytes kind entries.now) }
+    ensures { Tells (W.contents out.old) failed (W.contents out.new) result
+        (count_bytes kind entries.now) }
 {
     say_number(failed, count(kind, entries) as u128, out)
 }
 
 fn say_started<W: Write>(failed: bool, date: Date, run: &Run, out: &mut W) -> bool
-    ensures { Tells (W.contents out.old) failed (W.contents out.new) result (started_bytes date run.now) }
+    ensures { Tells (W.contents out.old) failed (W.contents out.new) result
+        (started_bytes date run.now) }
 {
     let opening = say(failed, b"===> Summary\nRun ", out);
     let number = say_number(opening, u128::from(run.number), out);
@@ -44,7 +46,8 @@ fn say_started<W: Write>(failed: bool, date: Date, run: &Run, out: &mut W) -> bo
 }
 
 fn say_counts<W: Write>(failed: bool, entries: &[Entry], out: &mut W) -> bool
-    ensures { Tells (W.contents out.old) failed (W.contents out.new) result (counts_bytes entries.now) }
+    ensures { Tells (W.contents out.old) failed (W.contents out.new) result
+        (counts_bytes entries.now) }
 {
     let opening = say(failed, b"\nTest cases: ", out);
     let all = say_number(opening, entries.len() as u128, out);

@@ -19,7 +19,9 @@ pub fn text<W: Write>(
     verbose: bool,
     out: &mut W,
 ) -> Result<(), OutputFault>
-    ensures { (date : Date) × IsDateOf run.now.started date × Shows (W.contents out.old) (W.contents out.new) (is_err result) (text_bytes date kinds.now verbose run.now) }
+    ensures { (date : Date) × IsDateOf run.now.started date
+        × Shows (W.contents out.old) (W.contents out.new) (is_err result)
+        (text_bytes date kinds.now verbose run.now) }
 {
     let date = date_of(run.started);
     let sections = say_sections(false, verbose, kinds, run.entries.as_slice(), out);

@@ -32,15 +32,21 @@ pub trait Launcher {
         requires may { MayStart (running self.old) (pending self.old) job.now.position role }
         ensures leads { starts self.old job.now role result self.new }
         ensures moment { HasMoment result }
-        ensures running { (k : ℕ) (r : Role) → running self.new k r ≡ running_after_start (running self.old) job.now role result k r }
-        ensures pending { (k : ℕ) → pending self.new k ≡ pending_after_start (pending self.old) job.now.position role k };
+        ensures running { (k : ℕ) (r : Role) → running self.new k r
+            ≡ running_after_start (running self.old) job.now role result k r }
+        ensures pending { (k : ℕ) → pending self.new k
+            ≡ pending_after_start (pending self.old) job.now.position role k };
 
     /// Waits until a child that runs has ended.
     fn wait(&mut self) -> Ended
-        requires { (i : ℕ) × (role : Role) × (child : Child) × (running self.old i role ≡ Some child) }
+        requires { (i : ℕ) × (role : Role) × (child : Child)
+            × (running self.old i role ≡ Some child) }
         ensures leads { waits self.old result self.new }
         ensures moment { IsMoment result.moment }
-        ensures one_that_ran { (child : Child) × (running self.old result.position result.role ≡ Some child) × IsEvidence child.interface result.role result.evidence }
-        ensures running { (k : ℕ) (r : Role) → running self.new k r ≡ running_after_end (running self.old) result k r }
-        ensures pending { (k : ℕ) → pending self.new k ≡ pending_after_end (running self.old) (pending self.old) result k };
+        ensures one_that_ran { (child : Child) × (running self.old result.position result.role
+            ≡ Some child) × IsEvidence child.interface result.role result.evidence }
+        ensures running { (k : ℕ) (r : Role) → running self.new k r
+            ≡ running_after_end (running self.old) result k r }
+        ensures pending { (k : ℕ) → pending self.new k
+            ≡ pending_after_end (running self.old) (pending self.old) result k };
 }

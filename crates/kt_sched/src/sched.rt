@@ -36,9 +36,33 @@ impl Model for Sched {
 
     ghost Value = { Board };
 
-    ghost view = { λ s. record { cases = s.cases.items; order = s.order.items; turn = s.turn; active = s.active; width = s.width; pending = s.pending; ready = s.ready; asked = s.asked; failed = s.failed } };
+    ghost view = { λ s. record {
+      cases = s.cases.items;
+      order = s.order.items;
+      turn = s.turn;
+      active
+          = s.active;
+      width = s.width;
+      pending = s.pending;
+      ready = s.ready;
+      asked = s.asked;
+      failed =
+          s.failed;
+    } };
 
-    ghost invariant = { λ s. IsStanding (record { cases = s.cases.items; order = s.order.items; turn = s.turn; active = s.active; width = s.width; pending = s.pending; ready = s.ready; asked = s.asked; failed = s.failed }) };
+    ghost invariant = { λ s. IsStanding (record {
+      cases = s.cases.items;
+      order = s.order.items;
+      turn
+          = s.turn;
+      active = s.active;
+      width = s.width;
+      pending = s.pending;
+      ready = s.ready;
+      asked =
+          s.asked;
+      failed = s.failed;
+    }) };
 }
 
 impl Sched {
@@ -85,7 +109,8 @@ impl Sched {
     /// The plan's job at a position, until its entry is taken.
     pub fn job(&self, position: u32) -> &Job
         requires { CanLend self.now position }
-        ensures { (plan : List Job) (n : ℕ) (fed : Fed) → Stands plan n fed self.now → slice_get plan position ≡ Some result.now }
+        ensures { (plan : List Job) (n : ℕ) (fed : Fed) → Stands plan n fed self.now
+            → slice_get plan position ≡ Some result.now }
     {
         &self.cases[position as usize].job
     }
@@ -96,8 +121,10 @@ impl Sched {
         requires told { HoldsEntry self.old position }
         ensures less { work_left self.new < work_left self.old }
         ensures asked { self.new.asked ≡ Next.Put position }
-        ensures stands { (plan : List Job) (n : ℕ) (fed : Fed) → Stands plan n fed self.old → Stands plan n fed self.new }
-        ensures entry { (plan : List Job) (n : ℕ) (fed : Fed) → Stands plan n fed self.old → IsEntryOf plan fed.trace position result }
+        ensures stands { (plan : List Job) (n : ℕ) (fed : Fed) → Stands plan n fed self.old
+            → Stands plan n fed self.new }
+        ensures entry { (plan : List Job) (n : ℕ) (fed : Fed) → Stands plan n fed self.old
+            → IsEntryOf plan fed.trace position result }
     {
         let taken = take_entry(self.alloc, &mut self.cases, position);
         taken
@@ -108,7 +135,8 @@ impl Sched {
         requires { IsAnswer self.old answer }
         ensures works { Works self.old.asked (work_left self.old) (work_left self.new) }
         ensures asked { self.new.asked ≡ Next.Done }
-        ensures stands { (plan : List Job) (n : ℕ) (fed : Fed) → Stands plan n fed self.old → Stands plan n (fed_after fed self.old.asked answer) self.new }
+        ensures stands { (plan : List Job) (n : ℕ) (fed : Fed) → Stands plan n fed self.old
+            → Stands plan n (fed_after fed self.old.asked answer) self.new }
     {
         match self.asked {
             Next::Start(i, Role::Body) => match answer {
@@ -137,10 +165,12 @@ impl Sched {
     /// A child ended.
     fn ended(&mut self, ended: Ended)
         requires asked { self.old.asked ≡ Next.Wait }
-        requires runs { (c : Case) × (slice_get self.old.cases ended.position ≡ Some c) × (stage_runs ended.role c.stage ≡ true) }
+        requires runs { (c : Case) × (slice_get self.old.cases ended.position ≡ Some c)
+            × (stage_runs ended.role c.stage ≡ true) }
         ensures less { work_left self.new < work_left self.old }
         ensures asked { self.new.asked ≡ Next.Done }
-        ensures stands { (plan : List Job) (n : ℕ) (fed : Fed) → Stands plan n fed self.old → Stands plan n (with_event fed (End ended)) self.new }
+        ensures stands { (plan : List Job) (n : ℕ) (fed : Fed) → Stands plan n fed self.old
+            → Stands plan n (with_event fed (End ended)) self.new }
     {
         match ended.role {
             Role::Cleanup => self.cleanup_ended(ended),
@@ -157,14 +187,19 @@ impl Sched {
 
     /// What is to be done next.
     pub fn next(&mut self) -> Next
-        ensures next { (plan : List Job) (n : ℕ) (fed : Fed) → Stands plan n fed self.old → IsNext plan n fed result }
-        ensures only { (plan : List Job) (n : ℕ) (fed : Fed) → Stands plan n fed self.old → (other : Next) → IsNext plan n fed other → other ≡ result }
-        ensures follows { (plan : List Job) (n : ℕ) (fed : Fed) → Stands plan n fed self.old → Follows plan fed result }
-        ensures stands { (plan : List Job) (n : ℕ) (fed : Fed) → Stands plan n fed self.old → Stands plan n fed self.new }
+        ensures next { (plan : List Job) (n : ℕ) (fed : Fed) → Stands plan n fed self.old
+            → IsNext plan n fed result }
+        ensures only { (plan : List Job) (n : ℕ) (fed : Fed) → Stands plan n fed self.old
+            → (other : Next) → IsNext plan n fed other → other ≡ result }
+        ensures follows { (plan : List Job) (n : ℕ) (fed : Fed) → Stands plan n fed self.old
+            → Follows plan fed result }
+        ensures stands { (plan : List Job) (n : ℕ) (fed : Fed) → Stands plan n fed self.old
+            → Stands plan n fed self.new }
         ensures same { work_left self.new ≡ work_left self.old }
         ensures asked { self.new.asked ≡ result }
         ensures lends { (i : ℕ) (role : Role) → result ≡ Next.Start i role → CanLend self.new i }
-        ensures told { self.old.asked ≡ Next.Done → (i : ℕ) → result ≡ Next.Put i → HoldsEntry self.new i }
+        ensures told { self.old.asked ≡ Next.Done → (i : ℕ) → result ≡ Next.Put i
+            → HoldsEntry self.new i }
     {
         self.open_decided();
         let next = self.choice();
@@ -174,10 +209,12 @@ impl Sched {
 
     /// A decided case whose turn it is can be put.
     fn open_decided(&mut self)
-        ensures stands { (plan : List Job) (n : ℕ) (fed : Fed) → Stands plan n fed self.old → Stands plan n fed self.new }
+        ensures stands { (plan : List Job) (n : ℕ) (fed : Fed) → Stands plan n fed self.old
+            → Stands plan n fed self.new }
         ensures same { self.new.cases ≡ self.old.cases }
         ensures settled { IsSettled self.new }
-        ensures told { self.old.asked ≡ Next.Done → (i : ℕ) → self.new.ready ≡ Some i → IsTold self.new.cases i }
+        ensures told { self.old.asked ≡ Next.Done → (i : ℕ) → self.new.ready ≡ Some i
+            → IsTold self.new.cases i }
     {
         let None = self.ready else {
             return;
@@ -231,7 +268,8 @@ impl Sched {
         requires { self.old.asked ≡ Next.Start i TheBody }
         ensures less { work_left self.new < work_left self.old }
         ensures asked { self.new.asked ≡ Next.Done }
-        ensures stands { (plan : List Job) (n : ℕ) (fed : Fed) → Stands plan n fed self.old → Stands plan n (with_event fed (Start i TheBody (told.Started moment))) self.new }
+        ensures stands { (plan : List Job) (n : ℕ) (fed : Fed) → Stands plan n fed self.old
+            → Stands plan n (with_event fed (Start i TheBody (told.Started moment))) self.new }
     {
         let _was = replace_stage(&mut self.cases, i, Stage::Running(moment));
         self.turn += 1;
@@ -244,7 +282,8 @@ impl Sched {
         requires { self.old.asked ≡ Next.Start i TheBody }
         ensures less { work_left self.new < work_left self.old }
         ensures asked { self.new.asked ≡ Next.Done }
-        ensures stands { (plan : List Job) (n : ℕ) (fed : Fed) → Stands plan n fed self.old → Stands plan n (with_event fed (Start i TheBody (told.Refused cause))) self.new }
+        ensures stands { (plan : List Job) (n : ℕ) (fed : Fed) → Stands plan n fed self.old
+            → Stands plan n (with_event fed (Start i TheBody (told.Refused cause))) self.new }
     {
         let tale = refused_tale(self.alloc, cause);
         let _was = replace_stage(&mut self.cases, i, Stage::Finished(tale));
@@ -258,7 +297,8 @@ impl Sched {
         requires { self.old.asked ≡ Next.Start i TheCleanup }
         ensures less { work_left self.new < work_left self.old }
         ensures asked { self.new.asked ≡ Next.Done }
-        ensures stands { (plan : List Job) (n : ℕ) (fed : Fed) → Stands plan n fed self.old → Stands plan n (with_event fed (Start i TheCleanup (told.Started moment))) self.new }
+        ensures stands { (plan : List Job) (n : ℕ) (fed : Fed) → Stands plan n fed self.old
+            → Stands plan n (with_event fed (Start i TheCleanup (told.Started moment))) self.new }
     {
         let body = take_body(&mut self.cases, i);
         let _taken = replace_stage(&mut self.cases, i, Stage::Cleaning(body));
@@ -271,7 +311,8 @@ impl Sched {
         requires { self.old.asked ≡ Next.Start i TheCleanup }
         ensures less { work_left self.new < work_left self.old }
         ensures asked { self.new.asked ≡ Next.Done }
-        ensures stands { (plan : List Job) (n : ℕ) (fed : Fed) → Stands plan n fed self.old → Stands plan n (with_event fed (Start i TheCleanup (told.Refused cause))) self.new }
+        ensures stands { (plan : List Job) (n : ℕ) (fed : Fed) → Stands plan n fed self.old
+            → Stands plan n (with_event fed (Start i TheCleanup (told.Refused cause))) self.new }
     {
         let body = take_body(&mut self.cases, i);
         let tale = uncleaned_tale(self.alloc, body);
@@ -286,10 +327,12 @@ impl Sched {
     fn cleanup_ended(&mut self, ended: Ended)
         requires asked { self.old.asked ≡ Next.Wait }
         requires role { ended.role ≡ TheCleanup }
-        requires runs { (c : Case) × (slice_get self.old.cases ended.position ≡ Some c) × (stage_runs TheCleanup c.stage ≡ true) }
+        requires runs { (c : Case) × (slice_get self.old.cases ended.position ≡ Some c)
+            × (stage_runs TheCleanup c.stage ≡ true) }
         ensures less { work_left self.new < work_left self.old }
         ensures asked { self.new.asked ≡ Next.Done }
-        ensures stands { (plan : List Job) (n : ℕ) (fed : Fed) → Stands plan n fed self.old → Stands plan n (with_event fed (End ended)) self.new }
+        ensures stands { (plan : List Job) (n : ℕ) (fed : Fed) → Stands plan n fed self.old
+            → Stands plan n (with_event fed (End ended)) self.new }
     {
         let i = ended.position;
         let body = take_body(&mut self.cases, i);
@@ -309,7 +352,8 @@ impl Sched {
         requires declares { Declares self.old.cases ended.position false }
         ensures less { work_left self.new < work_left self.old }
         ensures asked { self.new.asked ≡ Next.Done }
-        ensures stands { (plan : List Job) (n : ℕ) (fed : Fed) → Stands plan n fed self.old → Stands plan n (with_event fed (End ended)) self.new }
+        ensures stands { (plan : List Job) (n : ℕ) (fed : Fed) → Stands plan n fed self.old
+            → Stands plan n (with_event fed (End ended)) self.new }
     {
         let i = ended.position;
         let tale = plain_tale(self.alloc, since, ended);
@@ -328,7 +372,8 @@ impl Sched {
         requires declares { Declares self.old.cases ended.position true }
         ensures less { work_left self.new < work_left self.old }
         ensures asked { self.new.asked ≡ Next.Done }
-        ensures stands { (plan : List Job) (n : ℕ) (fed : Fed) → Stands plan n fed self.old → Stands plan n (with_event fed (End ended)) self.new }
+        ensures stands { (plan : List Job) (n : ℕ) (fed : Fed) → Stands plan n fed self.old
+            → Stands plan n (with_event fed (End ended)) self.new }
     {
         let i = ended.position;
         let body = ended_body(since, ended);
@@ -342,7 +387,8 @@ impl Sched {
         requires { self.old.asked ≡ Next.Put i }
         ensures same { self.new.cases ≡ self.old.cases }
         ensures asked { self.new.asked ≡ Next.Done }
-        ensures stands { (plan : List Job) (n : ℕ) (fed : Fed) → Stands plan n fed self.old → Stands plan n (record fed { stored = fed.stored + 1 }) self.new }
+        ensures stands { (plan : List Job) (n : ℕ) (fed : Fed) → Stands plan n fed self.old
+            → Stands plan n (record fed { stored = fed.stored + 1 }) self.new }
     {
         self.ready = None;
         self.asked = Next::Done;
@@ -353,7 +399,8 @@ impl Sched {
         requires { self.old.asked ≡ Next.Put i }
         ensures same { self.new.cases ≡ self.old.cases }
         ensures asked { self.new.asked ≡ Next.Done }
-        ensures stands { (plan : List Job) (n : ℕ) (fed : Fed) → Stands plan n fed self.old → Stands plan n (record fed { stopped = Some (event_count fed.trace) }) self.new }
+        ensures stands { (plan : List Job) (n : ℕ) (fed : Fed) → Stands plan n fed self.old
+            → Stands plan n (record fed { stopped = Some (event_count fed.trace) }) self.new }
     {
         self.ready = None;
         self.failed = true;

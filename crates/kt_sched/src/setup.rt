@@ -40,7 +40,8 @@ pub fn turn_order(alloc: Global, plan: &Vec<Job>) -> Result<Vec<u32>, NoMemory>
 
 /// Adds the positions of the cases that are exclusive, or of those that are not.
 fn add_positions(plan: &Vec<Job>, exclusive: bool, order: &mut Vec<u32>) -> Result<(), NoMemory>
-    ensures { OnOk result (order.new.items ≡ order.old.items ++ positions_where exclusive plan.now.items) }
+    ensures { OnOk result (order.new.items ≡ order.old.items
+        ++ positions_where exclusive plan.now.items) }
 {
     let mut i = 0;
     while i < plan.len() {

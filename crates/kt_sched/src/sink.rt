@@ -19,6 +19,8 @@ pub trait Sink {
     fn put(&mut self, entry: Entry) -> Result<(), SinkFault>
         requires { IsStorable entry }
         ensures leads { puts self.old entry result self.new }
-        ensures ok { (put : List Entry) → entries self.old put → OnOk result (entries self.new (put ++ entry ∷ [])) }
-        ensures err { (put : List Entry) → entries self.old put → OnErr result (entries self.new put) };
+        ensures ok { (put : List Entry) → entries self.old put
+            → OnOk result (entries self.new (put ++ entry ∷ [])) }
+        ensures err { (put : List Entry) → entries self.old put
+            → OnErr result (entries self.new put) };
 }

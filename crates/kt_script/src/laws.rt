@@ -10,7 +10,8 @@ ghost use Rattle.kt_script.specs.declared.token.Token.{Token};
 /// Each text has exactly one answer, its statements or its fault. Other crates rest their definitions on it.
 pub fn law_of_one_answer(text: &[u8])
     ensures some { (answer : Result (List Stmt) ScriptFault) × IsAnswer text.now answer }
-    ensures one { (a b : Result (List Stmt) ScriptFault) → IsAnswer text.now a → IsAnswer text.now b → a ≡ b }
+    ensures one { (a b : Result (List Stmt) ScriptFault) → IsAnswer text.now a → IsAnswer text.now b
+        → a ≡ b }
 {
     let _ = text;
 }

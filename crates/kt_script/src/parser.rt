@@ -50,8 +50,10 @@ impl Parser {
 
     /// Reads one more token at a place, and gives the place where it leads.
     pub fn feed(&mut self, alloc: Global, place: Place, token: Token) -> Result<Place, ScriptFault>
-        ensures ok { IfOk result (λ after. (read : List Token) → HasRead place self.old read → HasRead after self.new (read ++ token ∷ [])) }
-        ensures fault { IfFault result (λ fault. (fault ≡ fault_of token) × (next place token ≡ None)) }
+        ensures ok { IfOk result (λ after. (read : List Token) → HasRead place self.old read
+            → HasRead after self.new (read ++ token ∷ [])) }
+        ensures fault { IfFault result (λ fault. (fault ≡ fault_of token)
+            × (next place token ≡ None)) }
     {
         let fault = token.fault();
         follow(&mut self.brackets, token.line, &token.kind)?;
@@ -63,8 +65,10 @@ impl Parser {
 
     /// The statements that were read up to this place.
     pub fn finish(self, place: &Place) -> Result<Items<Stmt>, ScriptFault>
-        ensures ok { IfOk result (λ statements. IsResting place.now × (statements ≡ self.statements)) }
-        ensures fault { IfErr result (λ fault. (line : ℕ) × IsWithin place.now line × (fault ≡ end_fault (last self.brackets.items) line)) }
+        ensures ok { IfOk result (λ statements. IsResting place.now
+            × (statements ≡ self.statements)) }
+        ensures fault { IfErr result (λ fault. (line : ℕ) × IsWithin place.now line
+            × (fault ≡ end_fault (last self.brackets.items) line)) }
     {
         let Some(line) = place.line() else {
             return Ok(self.statements);

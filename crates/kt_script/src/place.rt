@@ -60,7 +60,8 @@ impl Place {
         statements: &mut Items<Stmt>,
     ) -> Result<Option<Place>, NoMemory>
         ensures place { IfOk result (λ to. to ≡ place_of (next self token)) }
-        ensures ended { OnOk result (statements.new ≡ statements.old ++ ended_by (next self token)) }
+        ensures ended { OnOk result (statements.new ≡ statements.old
+            ++ ended_by (next self token)) }
     {
         let (line, state) = match self {
             Place::Start => return Ok(begin(token.line, token.kind)),

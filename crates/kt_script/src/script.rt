@@ -47,7 +47,8 @@ fn feed_piece(
     line: u32,
     kind: Option<Kind>,
 ) -> Result<Place, ScriptFault>
-    ensures ok { IfOk result (λ after. (read : List Token) → HasRead place parser.old read → HasRead after parser.new (read ++ tokens_in line kind)) }
+    ensures ok { IfOk result (λ after. (read : List Token) → HasRead place parser.old read
+        → HasRead after parser.new (read ++ tokens_in line kind)) }
     ensures fault { IfFault result (λ fault. IsMisfit place line kind fault) }
 {
     match kind {

@@ -74,7 +74,8 @@ fn expected_signal(due: Option<u8>, reason: Text, ending: Outcome) -> Verdict
 
 /// A claim that asks for an exit with a code, which the process may not have had.
 fn settled(verdict: Verdict, due: bool, phrase: Phrase, ending: Outcome) -> Verdict
-    ensures { result ≡ (if due then verdict else broken (phrase_text phrase ++ ending_text ending)) }
+    ensures { result ≡ (if due then verdict
+        else broken (phrase_text phrase ++ ending_text ending)) }
 {
     if due { verdict } else { belied(phrase, ending) }
 }

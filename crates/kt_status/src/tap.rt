@@ -7,7 +7,8 @@ use kt_base::{Outcome, Phrase, Reason, Verdict};
 use kt_claim::{Tap, TapFault};
 
 fn fault_phrase(fault: TapFault) -> Phrase
-    ensures { phrase_text result ≡ codes "TAP test program yielded invalid data: " ++ tap_fault_text fault }
+    ensures { phrase_text result ≡ codes "TAP test program yielded invalid data: "
+        ++ tap_fault_text fault }
 {
     match fault {
         TapFault::Unreadable => Phrase::TapUnreadable,

@@ -10,7 +10,11 @@ pub trait ResultStore {
     ghost use Rattle.kt_store.specs.Ask.{IsStoreFault};
     ghost use Rattle.kt_store.specs.Heads.{head_of};
     ghost use Rattle.kt_store.specs.Runs.{AreNumbered, new_run, run_at, with_entry, put_refusal, finish, finish_refusal};
+    ghost use Rattle.kt_store.specs.StoreCalls.{StoreCall, Began, Put, Finished, Heads, Read, seen_as};
     ghost use Rattle.kt_store.specs.declared.store_fault.StoreFault.TheVariants.{StoreFull, NoRun};
+
+    /// Whether a call with its answer leads from the first state to the second, whatever the store gives back later.
+    ghost answers: { Self → StoreCall → Self → Type 0 };
 
     /// Whether the store stands for these runs.
     ghost stands: { Self → List Run → Type 0 };
@@ -25,6 +29,7 @@ pub trait ResultStore {
     /// `StoreFull` where there are 1,000,000 runs.
     fn begin(&mut self, total: u32, moment: u64) -> Result<u64, StoreFault>
         requires { moment ≤ 253402300799999 }
+        ensures asked { answers self.old (Began total moment result) self.new }
         ensures added { (runs : List Run) → stands self.old runs → OnOk result (stands self.new (runs ++ new_run runs total moment ∷ [])) }
         ensures number { (runs : List Run) → stands self.old runs → sound self.new → IfOk result (λ n. n ≡ suc (length runs)) }
         ensures allowed { (runs : List Run) → stands self.old runs → sound self.new → OnOk result (length runs < 1000000) }
@@ -39,6 +44,7 @@ pub trait ResultStore {
     /// below the total, a position that is there.
     fn put(&mut self, run: u64, entry: &Entry) -> Result<(), StoreFault>
         requires { (entry.now.started ≤ 253402300799999) × (entry.now.millis ≤ 253402300799999) }
+        ensures asked { answers self.old (Put run entry.now result) self.new }
         ensures added { (runs : List Run) → stands self.old runs → OnOk result (stands self.new (with_entry run entry.now runs)) }
         ensures allowed { (runs : List Run) → stands self.old runs → sound self.new → OnOk result (put_refusal runs run entry.now ≡ None) }
         ensures kept { (runs : List Run) → stands self.old runs → OnErr result (stands self.new runs) }
@@ -51,6 +57,7 @@ pub trait ResultStore {
     /// Finishes a run. Refused, in this order, are: no such run, a run that is finished, one with fewer entries than its
     /// total.
     fn finish(&mut self, run: u64) -> Result<(), StoreFault>
+        ensures asked { answers self.old (Finished run result) self.new }
         ensures finished { (runs : List Run) → stands self.old runs → OnOk result (stands self.new (finish run runs)) }
         ensures allowed { (runs : List Run) → stands self.old runs → sound self.new → OnOk result (finish_refusal runs run ≡ None) }
         ensures kept { (runs : List Run) → stands self.old runs → OnErr result (stands self.new runs) }
@@ -62,6 +69,7 @@ pub trait ResultStore {
 
     /// All runs without their entries, by number.
     fn runs(&mut self) -> Result<Vec<RunHead>, StoreFault>
+        ensures asked { answers self.old (Heads (seen_as (λ heads. heads.items) result)) self.new }
         ensures all { (runs : List Run) → stands self.old runs → sound self.new → IfOk result (λ heads. heads.items ≡ map head_of runs) }
         ensures failed { IfErr result IsStoreFault }
         ensures kept { (runs : List Run) → stands self.old runs → stands self.new runs }
@@ -70,6 +78,7 @@ pub trait ResultStore {
 
     /// The entries of a run, by position. `NoRun` where no run has the number.
     fn entries(&mut self, run: u64) -> Result<Vec<Entry>, StoreFault>
+        ensures asked { answers self.old (Read run (seen_as (λ found. found.items) result)) self.new }
         ensures found { (runs : List Run) → stands self.old runs → sound self.new → IfOk result (λ found. (r : Run) × (run_at runs run ≡ Some r) × (found.items ≡ r.entries)) }
         ensures refused { (runs : List Run) → stands self.old runs → sound self.new → IfErr result (λ e. IsStoreFault e ⊎ ((e ≡ NoRun) × (run_at runs run ≡ None))) }
         ensures kept { (runs : List Run) → stands self.old runs → stands self.new runs }

@@ -77,7 +77,10 @@ pub fn check_disjoint(filters: &[Filter]) -> Result<(), FilterFault>
 /// What the words of filters mean: a path lies within a directory if it is its own or begins with it and a slash, equal filters
 /// are equal in both parts, and two filters overlap exactly if there is a case that both select.
 pub fn filter_laws()
-    ensures within { (directory path : List ℕ) → IsTrue (is_within directory path) ↔ IsWithin directory path }
-    ensures same { (filter other : OneFilter) → IsTrue (is_same_filter filter other) ↔ (filter ≡ other) }
-    ensures overlap { (filter other : OneFilter) → IsTrue (overlap filter other) ↔ ShareCase filter other }
+    ensures within { (directory path : List ℕ) → IsTrue (is_within directory path)
+        ↔ IsWithin directory path }
+    ensures same { (filter other : OneFilter)
+        → IsTrue (is_same_filter filter other) ↔ (filter ≡ other) }
+    ensures overlap { (filter other : OneFilter)
+        → IsTrue (overlap filter other) ↔ ShareCase filter other }
 {}

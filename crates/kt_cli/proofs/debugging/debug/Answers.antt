@@ -1,4 +1,4 @@
-use Rattle.std.proofs.Common.{rules, ◌≡◌, ◌∷◌, [], refl}
+use Rattle.std.proofs.Common.{rules, ◌≡◌, ◌∷◌, refl}
 use Rattle.std.specs.Prelude.{Ok, Err}
 use Rattle.kt_sched.specs.declared.run_fault.RunFault.TheVariants.{NoMemory}
 use Rattle.kt_cli.proofs.Saying.{nothing}

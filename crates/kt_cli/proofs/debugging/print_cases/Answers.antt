@@ -1,6 +1,4 @@
-use Rattle.std.proofs.Common.{rules, ◌≡◌, false}
-use Rattle.kt_cli.specs.Debugging.{all_debug_bytes}
-use Rattle.kt_cli.specs.Pages.{Says}
+use Rattle.std.proofs.Common.{rules}
 use Rattle.kt_cli.proofs.DebugRuns.{debug_ends}
 use Rattle.kt_cli.proofs.debugging.print_cases.Goals as goal
 

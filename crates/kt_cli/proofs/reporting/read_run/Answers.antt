@@ -1,18 +1,33 @@
-use Rattle.std.proofs.Common.{◌∙◌}
-use Rattle.kt_cli.proofs.ShownRuns.{run_found, entries_there}
+use Rattle.std.specs.Prelude.{Ok, Err}
+use Rattle.kt_store.specs.StoreCalls.{Heads, Read}
+use Rattle.kt_cli.proofs.ShownRuns.{reads_no_heads, reads_missing, reads_no_entries, reads_run}
+use Rattle.kt_cli.proofs.StoreChains.{stored_one}
 use Rattle.kt_cli.proofs.reporting.read_run.Goals as goal
 
-pub returns-in-Ok-entries-clause-finds : goal.returns-in-Ok-entries-clause-finds
-returns-in-Ok-entries-clause-finds g c runs h s =
+pub returns-in-Err : goal.returns-in-Err
+returns-in-Err g c =
+    let k = c.in-Err.ensures in
+    reads_no_heads g.R.ResultStore.answers g.R.ResultStore.stands g.R.ResultStore.sound g.R.ResultStore.leaves c.args.number _ _ c.in-Err.fault
+    (stored_one g.R.ResultStore.answers g.R.ResultStore.stands g.R.ResultStore.sound g.R.ResultStore.leaves (Heads (Err c.in-Err.fault)) _ _ k.asked k.kept k.earlier (λ runs h s. k.failed) (λ runs may h l. k.crash runs _ h l))
+
+pub returns-in_default : goal.returns-in_default
+returns-in_default g c =
+    let k = c.in-Ok.ensures in
+    reads_missing g.R.ResultStore.answers g.R.ResultStore.stands g.R.ResultStore.sound g.R.ResultStore.leaves c.args.number _ _ c.in-Ok.heads.items c.as_slice.result.now c.as_slice-in_default.result.now c.missing.result c.as_slice.ensures.value c.as_slice-in_default.ensures.value
+    (stored_one g.R.ResultStore.answers g.R.ResultStore.stands g.R.ResultStore.sound g.R.ResultStore.leaves (Heads (Ok c.in-Ok.heads.items)) _ _ k.asked k.kept k.earlier k.all (λ runs may h l. k.crash runs _ h l)) c.in_default.ensures c.missing.ensures
+
+pub returns-in-Ok-entries : goal.returns-in-Ok-entries
+returns-in-Ok-entries g c =
     let k = c.in-Ok.ensures in
     let e = c.in-Ok-entries.ensures in
-    let mid = k.kept runs h in
-    let there = e.found runs mid s in
-    run_found c.args.number runs c.as_slice.result.now c.in-Some.head c.from_vec.result (g.met.R.ResultStore.numbered _ runs h) (c.as_slice.ensures.value ∙ k.all runs h (e.earlier runs mid s)) c.in-Some.ensures (there.0, there.1, c.from_vec.ensures ∙ there.2)
+    reads_run g.R.ResultStore.answers g.R.ResultStore.stands g.R.ResultStore.sound g.R.ResultStore.leaves c.args.number _ _ _ c.in-Ok.heads.items c.as_slice.result.now c.in-Some.head c.in-Ok-entries.entries.items c.from_vec.result c.as_slice.ensures.value c.from_vec.ensures
+    (stored_one g.R.ResultStore.answers g.R.ResultStore.stands g.R.ResultStore.sound g.R.ResultStore.leaves (Heads (Ok c.in-Ok.heads.items)) _ _ k.asked k.kept k.earlier k.all (λ runs may h l. k.crash runs _ h l)) c.in-Some.ensures
+    (stored_one g.R.ResultStore.answers g.R.ResultStore.stands g.R.ResultStore.sound g.R.ResultStore.leaves (Read c.in-Some.head.number (Ok c.in-Ok-entries.entries.items)) _ _ e.asked e.kept e.earlier e.found (λ runs may h l. e.crash runs _ h l))
 
-pub returns-clause-finds : goal.returns-clause-finds
-returns-clause-finds g c runs h s =
+pub returns : goal.returns
+returns g c =
     let k = c.in-Ok.ensures in
     let e = c.in-Err-entries.ensures in
-    let mid = k.kept runs h in
-    entries_there c.args.number runs c.as_slice.result.now c.in-Some.head c.in-Err-entries.fault (g.met.R.ResultStore.numbered _ runs h) (c.as_slice.ensures.value ∙ k.all runs h (e.earlier runs mid s)) c.in-Some.ensures (e.refused runs mid s)
+    reads_no_entries g.R.ResultStore.answers g.R.ResultStore.stands g.R.ResultStore.sound g.R.ResultStore.leaves c.args.number _ _ _ c.in-Ok.heads.items c.as_slice.result.now c.in-Some.head c.in-Err-entries.fault c.as_slice.ensures.value
+    (stored_one g.R.ResultStore.answers g.R.ResultStore.stands g.R.ResultStore.sound g.R.ResultStore.leaves (Heads (Ok c.in-Ok.heads.items)) _ _ k.asked k.kept k.earlier k.all (λ runs may h l. k.crash runs _ h l)) c.in-Some.ensures
+    (stored_one g.R.ResultStore.answers g.R.ResultStore.stands g.R.ResultStore.sound g.R.ResultStore.leaves (Read c.in-Some.head.number (Err c.in-Err-entries.fault)) _ _ e.asked e.kept e.earlier e.refused (λ runs may h l. e.crash runs _ h l))

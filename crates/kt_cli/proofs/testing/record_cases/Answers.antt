@@ -5,17 +5,17 @@ use Rattle.kt_cli.proofs.testing.record_cases.Goals as goal
 pub returns-clause-records : goal.returns-clause-records
 returns-clause-records g c =
     let w = c.run_cases-answer.ensures.ran in
-    let k = whole g.R.ResultStore.stands g.R.ResultStore.sound g.R.ResultStore.leaves _ (λ s. s.results.now) (λ s. s.number) (λ s. s.failed) (λ s. g.O.Write.contents s.out.now) (λ s. s.results.ghost_name) (λ s. s.out.ghost_name) (λ s t e r h. h) _ _ _ _ _ _ _ w.are w.ends in
+    let k = whole g.R.ResultStore.answers g.R.ResultStore.stands g.R.ResultStore.sound g.R.ResultStore.leaves _ (λ s. s.results.now) (λ s. s.number) (λ s. s.failed) (λ s. g.O.Write.contents s.out.now) (λ s. s.results.ghost_name) (λ s. s.out.ghost_name) (λ s t e r h. h) _ _ _ _ _ _ _ w.are w.ends in
     let n = k.same_store in
     let o = k.same_out in
-    let p = k.puts in
+    let p = k.stored in
     let s = k.says in
     record {
       trace = w.trace;
       leads = w.leads;
       entries = w.gained;
-      refused = k.refused;
-      puts = search rules;
+      last = k.last;
+      stored = search rules;
       says = search rules;
       ends = k.ends;
     }

@@ -1,19 +1,45 @@
+use Rattle.std.specs.Prelude.{Ok, Err}
 use Rattle.std.proofs.Common.{refl, sym, subst, List}
 use Rattle.kt_base.specs.declared.run.Run.{Run}
+use Rattle.kt_store.specs.StoreCalls.{Put}
 use Rattle.kt_cli.proofs.Numbered.{put_more}
+use Rattle.kt_cli.proofs.StoreChains.{stored_one}
 use Rattle.kt_cli.proofs.recorder.RecorderSink.put.Goals as goal
 
 pub put-requires : goal.put-requires
 put-requires g c = (c.requires.started, c.requires.millis)
 
 pub returns-in-Err-clause-leads : goal.returns-in-Err-clause-leads
-returns-in-Err-clause-leads g c = (refl, refl, (refl, record { moved = c.in-Err.ensures.kept; earlier = c.in-Err.ensures.earlier; crash = c.in-Err.ensures.crash }, refl, refl))
+returns-in-Err-clause-leads g c =
+    let p = c.in-Err.ensures in (
+      refl,
+      refl,
+      (
+        refl,
+        (
+          c.in-Err.fault,
+          c.sink_fault.ensures,
+          stored_one g.R.ResultStore.answers g.R.ResultStore.stands g.R.ResultStore.sound g.R.ResultStore.leaves (Put c.args.self.now.number c.args.entry (Err c.in-Err.fault)) _ _ p.asked p.kept p.earlier p.refused p.crash,
+        ),
+        refl,
+        refl,
+      ),
+    )
 
 pub returns-in-Err-clause-err : goal.returns-in-Err-clause-err
 returns-in-Err-clause-err g c put h = (h.0, c.in-Err.ensures.kept _ h.1)
 
 pub returns-clause-leads : goal.returns-clause-leads
-returns-clause-leads g c = (refl, refl, (refl, record { moved = c.in_default.ensures.added; earlier = c.in_default.ensures.earlier; crash = λ runs may h l. c.in_default.ensures.durable runs h }, c.say_line-self.ensures))
+returns-clause-leads g c =
+    let p = c.in_default.ensures in (
+      refl,
+      refl,
+      (
+        refl,
+        stored_one g.R.ResultStore.answers g.R.ResultStore.stands g.R.ResultStore.sound g.R.ResultStore.leaves (Put c.args.self.now.number c.args.entry (Ok tt)) _ _ p.asked p.added p.earlier p.allowed (λ runs may h l. p.durable runs h),
+        c.say_line-self.ensures,
+      ),
+    )
 
 pub returns-clause-ok : goal.returns-clause-ok
 returns-clause-ok g c put h = (h.0, subst (λ (rs : List Run). g.R.ResultStore.stands c.put.new.self rs) (sym (put_more c.args.self.now.number put c.args.entry h.0)) (c.in_default.ensures.added _ h.1))

@@ -1,0 +1,73 @@
+-- Each end in the trace of a command is told by its own child.
+use Rattle.std.proofs.Common.{◌≡◌, ◌∙◌, ℕ, List, [], ◌∷◌, ◌⊎◌, inl, inr, refl, ap, subst, sym}
+use Rattle.kt_sched.specs.declared.job.Job.{Job}
+use Rattle.kt_sched.specs.Plan.{IsPlan}
+use Rattle.kt_sched.specs.Trace.{Trace, NoEvent, Leads}
+use Rattle.kt_suite.specs.Answers.{Chain}
+use Rattle.kt_child.specs.declared.driver.Driver.{Driver}
+use Rattle.kt_child.specs.Board.{Board, empty_board}
+use Rattle.kt_child.specs.Calls.{Call}
+use Rattle.kt_child.specs.Numbers.{IsBare}
+use Rattle.kt_child.proofs.TraceTells.{ends_are_told}
+use Rattle.kt_plan.proofs.PlansFit.{plan_fits}
+use Rattle.kt_plan.specs.Questions.{Question, OfTree, OfHost, leads_by}
+use Rattle.kt_cli.specs.declared.runner.Runner.{Runner}
+use Rattle.kt_cli.specs.ChildrenTold.{ChildrenTell, CoursesAreTold}
+use Rattle.kt_cli.specs.HostAnswers.{IsHostAnswer, RunnerStarts, RunnerWaits, row_kept}
+use Rattle.kt_cli.specs.HostFiles.{IsLook}
+use Rattle.kt_cli.specs.Meaning.{Seen, Course, Means, CutShort, stopped, listed, tested, debugged, idle, reported, reported_junit, no_memory, cut, report_cut, junit_cut}
+use Rattle.kt_cli.specs.declared.command.Command.{Command}
+
+-- what was lent to a launcher can be run, or nothing was started
+abbrev pub Runs : Seen → Type 0
+Runs seen = IsPlan seen.plan ⊎ (seen.trace ≡ NoEvent)
+
+means_runs : (seen : Seen) (c : Command) (bytes : List ℕ) (exit : ℕ) → Means seen c bytes exit → Runs seen
+means_runs seen _ _ _ (stopped c options fault e selects alone) = inr alone.trace
+means_runs seen _ _ _ (listed options picked selects alone) = inr alone.trace
+means_runs seen _ _ _ (tested options file picked moment bytes exit prepared t) = inl (plan_fits picked.settings.config prepared.host picked.chosen.cases seen.plan prepared.planned)
+means_runs seen _ _ _ (debugged options picked first others entries e prepared all none) = inl (plan_fits picked.settings.config prepared.host (first ∷ []) seen.plan prepared.planned)
+means_runs seen _ _ _ (idle options picked selects e alone) = inr alone.trace
+means_runs seen _ _ _ (reported file number kinds verbose bytes exit unasked r) = inr unasked.trace
+means_runs seen _ _ _ (reported_junit file number bytes exit unasked r) = inr unasked.trace
+
+cut_runs : (seen : Seen) (c : Command) (bytes : List ℕ) (exit : ℕ) → CutShort seen c bytes exit → Runs seen
+cut_runs seen _ _ _ (no_memory c options e alone) = inr alone.trace
+cut_runs seen _ _ _ (cut options file picked moment bytes exit prepared t) = inl (plan_fits picked.settings.config prepared.host picked.chosen.cases seen.plan prepared.planned)
+cut_runs seen _ _ _ (report_cut file number kinds verbose bytes exit unasked u) = inr unasked.trace
+cut_runs seen _ _ _ (junit_cut file number bytes exit unasked u) = inr unasked.trace
+
+pub did_run : (seen : Seen) (c : Command) (bytes : List ℕ) (exit : ℕ) → Means seen c bytes exit ⊎ CutShort seen c bytes exit → Runs seen
+did_run seen c bytes exit (inl m) = means_runs seen c bytes exit m
+did_run seen c bytes exit (inr m) = cut_runs seen c bytes exit m
+
+-- an empty board is bare
+pub is_bare : (b : Board) → b ≡ empty_board → IsBare b
+is_bare b e = subst IsBare (sym e) (refl, refl, refl)
+
+module _ {O : Type 0} (leads : O → Call → O → Type 0) where
+  -- no question changes what runs
+  rows_kept : (qs : List Question) (old new : Runner O) → Chain (leads_by IsLook (IsHostAnswer leads)) qs old new → new.driver.row ≡ old.driver.row
+  rows_kept [] old new h = ap (λ (r : Runner O). r.driver.row) h
+  rows_kept (OfTree asked ∷ qs) old new h = rows_kept qs h.0 new h.2 ∙ ap (λ (r : Runner O). r.driver.row) h.1.0
+  rows_kept (OfHost told ∷ qs) old new h = rows_kept qs h.0 new h.2 ∙ row_kept leads old h.0 told h.1
+
+  -- what nobody asked leaves a driver as it is
+  none_told : (plan : List Job) (T : Trace) (old new : Runner O) → T ≡ NoEvent → Leads (RunnerStarts leads) (RunnerWaits leads) plan T old new
+      → ChildrenTell leads plan T old.driver new.driver
+  none_told plan T old new e led =
+      let same : new ≡ old = subst (λ (t : Trace). Leads (RunnerStarts leads) (RunnerWaits leads) plan t old new) e led in
+      subst (λ (t : Trace). ChildrenTell leads plan t old.driver new.driver) (sym e) ([], ap (λ (r : Runner O). r.driver.os) same, refl)
+
+  run_told : (plan : List Job) (T : Trace) (old new : Runner O) → IsPlan plan → IsBare old.driver.row → Leads (RunnerStarts leads) (RunnerWaits leads) plan T old new
+      → ChildrenTell leads plan T old.driver new.driver
+  run_told plan T old new is bare led =
+      ends_are_told leads (λ (r : Runner O). r.driver.os) (λ (r : Runner O). r.driver.source) (λ (r : Runner O). r.driver.root) (λ (r : Runner O). r.driver.next) (λ (r : Runner O). r.driver.row) _ _
+      (λ d e job role answer h. h.0)
+      (λ d e ended h. (h.0.0.0, h.0.0.1, h.0.0.2, h.0.3, h.0.1, h.0.2))
+      plan T old new is bare led
+
+  pub courses_are_told : CoursesAreTold leads
+  courses_are_told seen old new course bare (inl is) =
+      run_told seen.plan seen.trace course.begun new is (subst IsBare (sym (rows_kept seen.questions old course.begun course.asked)) bare) course.ran
+  courses_are_told seen old new course bare (inr none) = none_told seen.plan seen.trace course.begun new none course.ran

@@ -1,0 +1,228 @@
+-- What the calls of a command come to over the runs of a sound store.
+use Rattle.std.specs.Prelude.{Option, Some, None, Ok, Err, Bool, true, false, map}
+use Rattle.std.proofs.Common.{◌≡◌, ℕ, suc, List, [], ◌∷◌, ◌++◌, length, refl, sym, ap, ◌∙◌, subst, ◌⊎◌, inl, inr}
+use Rattle.kt_base.specs.declared.entry.Entry.{Entry}
+use Rattle.kt_base.specs.declared.run.Run.{Run}
+use Rattle.kt_base.specs.declared.kind.Kind.{Kind}
+use Rattle.kt_sched.specs.declared.job.Job.{Job}
+use Rattle.kt_sched.specs.EntryOf.{AreEntries}
+use Rattle.kt_sched.specs.RecordOrder.{recorded as record_order}
+use Rattle.kt_sched.specs.Trace.{Trace}
+use Rattle.kt_store.specs.Ask.{IsStoreFault}
+use Rattle.kt_store.specs.Heads.{head_of}
+use Rattle.kt_store.specs.Runs.{AreNumbered, new_run, with_entry, put_refusal, finish_refusal}
+use Rattle.kt_store.specs.StoreCalls.{StoreCall, Began, Put, Finished, Heads, Read}
+use Rattle.kt_store.specs.declared.run_head.RunHead.{RunHead}
+use Rattle.kt_cli.specs.declared.command.Command.{Command}
+use Rattle.kt_cli.specs.Commands.{number_of}
+use Rattle.kt_cli.specs.Meaning.{Seen, Means, stopped, listed, tested, debugged, idle, reported, reported_junit, CutShort, no_memory, cut, report_cut, junit_cut}
+use Rattle.kt_cli.specs.Pages.{Printed}
+use Rattle.kt_cli.specs.Recordings.{AllRecorded}
+use Rattle.kt_cli.specs.Reports.{chosen, run_of, Reported, told, no_run, ReportedJunit, told as told_junit, no_run as no_junit, Unread, no_heads as unread_heads, no_entries as unread_entries, JunitCut, cut as cut_junit, JunitOrUnread}
+use Rattle.kt_cli.specs.SoundStores.{with_new, Comes, not_called, not_begun as comes_not_begun, begun, not_put as comes_not_put, not_finished as comes_not_finished, finished, no_heads, no_run as comes_no_run, no_entries, shown, Left}
+use Rattle.kt_cli.specs.Stores.{put_all, puts, changed_by, beside_by, Agrees, changed, beside, Agree, Stored}
+use Rattle.kt_cli.specs.Testing.{Tested, recorded, TestCut, not_begun, not_run, not_put, not_finished}
+use Rattle.kt_cli.proofs.ChosenRuns.{head_found, run_found, entries_there, not_chosen}
+use Rattle.kt_cli.proofs.NewRuns.{put_new, finish_new, finishes}
+use Rattle.kt_cli.proofs.Numbered.{put_more}
+use Rattle.kt_cli.proofs.StoreChains.{changed-append, beside-append, agree_later}
+
+changed-puts : (number : ℕ) (es : List Entry) (runs : List Run) → changed (puts number es) runs ≡ put_all number es runs
+changed-puts number [] runs = refl
+changed-puts number (e ∷ es) runs = changed-puts number es (with_entry number e runs)
+
+-- nothing stands beside the runs after puts that were done
+beside-puts : (number : ℕ) (es : List Entry) (runs : List Run) → beside (puts number es) runs [] ≡ []
+beside-puts number [] runs = refl
+beside-puts number (e ∷ es) runs = beside-puts number es (with_entry number e runs)
+
+entries_count : (plan : List Job) (T : Trace) (positions : List ℕ) (es : List Entry) → AreEntries plan T positions es → length es ≡ length positions
+entries_count plan T [] [] a = refl
+entries_count plan T (p ∷ ps) (e ∷ es) a = ap suc (entries_count plan T ps es a.1)
+entries_count plan T [] (e ∷ es) a = absurd a
+entries_count plan T (p ∷ ps) [] a = absurd a
+
+-- there is an entry for each case
+all_count : (plan : List Job) (n : ℕ) (T : Trace) (es : List Entry) → AllRecorded plan n T es → length es ≡ length plan
+all_count plan n T es a = entries_count plan T (record_order plan n T) es a.are ∙ a.once.all
+
+only_fault : (P Q : Type 0) → P ⊎ Q → (Q → ⊥) → P
+only_fault P Q (inl p) never = p
+only_fault P Q (inr q) never = absurd (never q)
+
+-- what calls come to, and that it is what they do
+pub record Coming (number : Option ℕ) (runs : List Run) (calls : List StoreCall) : Type 0 where
+  pub left : List Run
+  pub others : List (List Run) → List (List Run)
+  pub comes : Comes number runs calls left others
+  pub same : changed calls runs ≡ left
+  pub crash : (may : List (List Run)) → beside calls runs may ≡ others may
+
+module _ (number : Option ℕ) (runs : List Run) (h : AreNumbered 1 runs) where
+  -- no call
+  none_coming : (calls : List StoreCall) → calls ≡ [] → Coming number runs calls
+  none_coming calls e = subst (λ (cs : List StoreCall). Coming number runs cs) (sym e) (record { left = runs; others = λ may. may; comes = not_called; same = refl; crash = λ may. refl })
+
+  -- ---- a test
+
+  module _ (k total moment : ℕ) (n : k ≡ suc (length runs)) (es : List Entry) where
+    abbrev with_run : List Run
+    with_run = runs ++ new_run runs total moment ∷ []
+
+    abbrev with_entries : List Run
+    with_entries = with_new runs moment total false es
+
+    after_puts : changed (puts k es) with_run ≡ with_entries
+    after_puts = changed-puts k es with_run ∙ put_new runs k total moment es h n
+
+    -- a call after the puts
+    after_end : (end : StoreCall) → changed (puts k es ++ end ∷ []) with_run ≡ changed_by end with_entries
+    after_end end = changed-append (puts k es) (end ∷ []) with_run ∙ ap (λ (rs : List Run). changed_by end rs) after_puts
+
+    beside_end : (end : StoreCall) → beside (puts k es ++ end ∷ []) with_run [] ≡ beside_by end with_entries []
+    beside_end end =
+        beside-append (puts k es) (end ∷ []) with_run [] ∙ ap (λ (rs : List Run). beside_by end rs (beside (puts k es) with_run [])) after_puts
+        ∙ ap (λ (ms : List (List Run)). beside_by end with_entries ms) (beside-puts k es with_run)
+
+    agree_end : (end : StoreCall) → Agree with_run (puts k es ++ end ∷ []) → Agrees with_entries end
+    agree_end end a = subst (λ (rs : List Run). Agrees rs end) after_puts (agree_later (puts k es) (end ∷ []) with_run a).0
+
+    -- the runs with one entry more
+    one_more : (e : Entry) → with_entry k e with_entries ≡ with_new runs moment total false (es ++ e ∷ [])
+    one_more e = ap (λ (rs : List Run). with_entry k e rs) (sym (put_new runs k total moment es h n)) ∙ sym (put_more k es e with_run) ∙ put_new runs k total moment (es ++ e ∷ []) h n
+
+  tested_coming : (plan : List Job) (n : ℕ) (words : List (List ℕ)) (unmatched : List ℕ) (moment : ℕ) (T : Trace) (calls : List StoreCall) (bytes : List ℕ) (exit : ℕ) → Tested plan n words unmatched moment T calls bytes exit → Agree runs calls → Coming number runs calls
+  tested_coming plan n words unmatched moment T calls bytes exit (recorded k es all) a =
+      let total = length plan in
+      let i = a.0.0 in
+      record {
+        left = with_new runs moment total true es;
+        others = λ may. [];
+        comes = subst (λ (j : ℕ). Comes number runs (Began total moment (Ok j) ∷ (puts j es ++ Finished j (Ok tt) ∷ [])) (with_new runs moment total true es) (λ may. [])) (sym i)
+            (finished total moment es a.0.1 (all_count plan n T es all));
+        same = after_end k total moment i es (Finished k (Ok tt)) ∙ finish_new runs k total moment es h i;
+        crash = λ may. beside_end k total moment i es (Finished k (Ok tt));
+      }
+
+  cut_coming : (plan : List Job) (n moment : ℕ) (T : Trace) (calls : List StoreCall) (bytes : List ℕ) (exit : ℕ) → TestCut plan n moment T calls bytes exit → Agree runs calls → Coming number runs calls
+  cut_coming plan n moment T calls bytes exit (not_begun why e) a = record {
+    left = runs;
+    others = λ may. with_new runs moment (length plan) false [] ∷ may;
+    comes = comes_not_begun (length plan) moment why a.0;
+    same = refl;
+    crash = λ may. refl;
+  }
+  cut_coming plan n moment T calls bytes exit (not_run k e) a = record {
+    left = with_new runs moment (length plan) false [];
+    others = λ may. [];
+    comes = subst (λ (j : ℕ). Comes number runs (Began (length plan) moment (Ok j) ∷ []) (with_new runs moment (length plan) false []) (λ may. [])) (sym a.0.0) (begun (length plan) moment a.0.1);
+    same = refl;
+    crash = λ may. refl;
+  }
+  cut_coming plan n moment T calls bytes exit (not_put k es refused why s) a =
+      let total = length plan in
+      let i = a.0.0 in
+      let cause = agree_end k total moment i es (Put k refused (Err why)) a.1 in
+      record {
+        left = with_new runs moment total false es;
+        others = λ may. with_new runs moment total false (es ++ refused ∷ []) ∷ [];
+        comes = subst (λ (j : ℕ). Comes number runs (Began total moment (Ok j) ∷ (puts j es ++ Put j refused (Err why) ∷ [])) (with_new runs moment total false es) (λ may. with_new runs moment total false (es ++ refused ∷ []) ∷ [])) (sym i)
+            (comes_not_put total moment es refused why a.0.1 (subst (λ (j : ℕ). IsStoreFault why ⊎ (put_refusal (with_new runs moment total false es) j refused ≡ Some why)) i cause));
+        same = after_end k total moment i es (Put k refused (Err why));
+        crash = λ may. beside_end k total moment i es (Put k refused (Err why)) ∙ ap (λ (rs : List Run). rs ∷ []) (one_more k total moment i es refused);
+      }
+  cut_coming plan n moment T calls bytes exit (not_finished k es why all) a =
+      let total = length plan in
+      let i = a.0.0 in
+      let count = all_count plan n T es all in
+      let cause = agree_end k total moment i es (Finished k (Err why)) a.1 in
+      record {
+        left = with_new runs moment total false es;
+        others = λ may. with_new runs moment total true es ∷ [];
+        comes = subst (λ (j : ℕ). Comes number runs (Began total moment (Ok j) ∷ (puts j es ++ Finished j (Err why) ∷ [])) (with_new runs moment total false es) (λ may. with_new runs moment total true es ∷ [])) (sym i)
+            (comes_not_finished total moment es why a.0.1 count (only_fault (IsStoreFault why) (finish_refusal (with_new runs moment total false es) k ≡ Some why) cause (finishes runs k total moment es why i count)));
+        same = after_end k total moment i es (Finished k (Err why));
+        crash = λ may. beside_end k total moment i es (Finished k (Err why)) ∙ ap (λ (rs : List Run). rs ∷ []) (finish_new runs k total moment es h i);
+      }
+
+  -- ---- a report
+
+  -- calls that leave the runs
+  reading : (calls : List StoreCall) → Comes number runs calls runs (λ may. may) → changed calls runs ≡ runs → ((may : List (List Run)) → beside calls runs may ≡ may) → Coming number runs calls
+  reading calls p s b = record { left = runs; others = λ may. may; comes = p; same = s; crash = b }
+
+  shown_coming : (heads : List RunHead) (head : RunHead) (entries : List Entry) → chosen number heads ≡ Some head → Agree runs (Heads (Ok heads) ∷ Read head.number (Ok entries) ∷ []) → Coming number runs (Heads (Ok heads) ∷ Read head.number (Ok entries) ∷ [])
+  shown_coming heads head entries e a =
+      reading (Heads (Ok heads) ∷ Read head.number (Ok entries) ∷ [])
+      (subst (λ (hs : List RunHead). Comes number runs (Heads (Ok hs) ∷ Read head.number (Ok entries) ∷ []) runs (λ may. may)) (sym a.0) (shown (run_of head entries) (run_found number runs heads head entries h a.0 e a.1.0))) refl (λ may. refl)
+
+  missing_coming : (heads : List RunHead) → chosen number heads ≡ None → Agree runs (Heads (Ok heads) ∷ []) → Coming number runs (Heads (Ok heads) ∷ [])
+  missing_coming heads e a =
+      reading (Heads (Ok heads) ∷ []) (subst (λ (hs : List RunHead). Comes number runs (Heads (Ok hs) ∷ []) runs (λ may. may)) (sym a.0) (comes_no_run (not_chosen number runs heads a.0 e))) refl (λ may. refl)
+
+  unread_coming : (calls : List StoreCall) (bytes : List ℕ) (exit : ℕ) → Unread number calls bytes exit → Agree runs calls → Coming number runs calls
+  unread_coming calls bytes exit (unread_heads why) a = reading (Heads (Err why) ∷ []) (no_heads why a.0) refl (λ may. refl)
+  unread_coming calls bytes exit (unread_entries heads head why e) a =
+      let c = head_found number runs heads head a.0 e in
+      reading (Heads (Ok heads) ∷ Read head.number (Err why) ∷ [])
+      (subst (λ (hs : List RunHead). Comes number runs (Heads (Ok hs) ∷ Read head.number (Err why) ∷ []) runs (λ may. may)) (sym a.0)
+      (subst (λ (j : ℕ). Comes number runs (Heads (Ok (map head_of runs)) ∷ Read j (Err why) ∷ []) runs (λ may. may)) (ap (λ (x : RunHead). x.number) c.2)
+      (no_entries c.0 why c.1 (entries_there number runs heads head why h a.0 e a.1.0)))) refl (λ may. refl)
+
+  reported_coming : (kinds : List Kind) (verbose : Bool) (calls : List StoreCall) (bytes : List ℕ) (exit : ℕ) → Reported number kinds verbose calls bytes exit → Agree runs calls → Coming number runs calls
+  reported_coming kinds verbose calls bytes exit (told heads head entries date e d) a = shown_coming heads head entries e a
+  reported_coming kinds verbose calls bytes exit (no_run heads e) a = missing_coming heads e a
+
+  junit_coming : (calls : List StoreCall) (bytes : List ℕ) (exit : ℕ) → ReportedJunit number calls bytes exit → Agree runs calls → Coming number runs calls
+  junit_coming calls bytes exit (told_junit heads head entries e) a = shown_coming heads head entries e a
+  junit_coming calls bytes exit (no_junit heads e) a = missing_coming heads e a
+
+  junit_cut_coming : (calls : List StoreCall) (bytes : List ℕ) (exit : ℕ) → JunitCut number calls bytes exit → Agree runs calls → Coming number runs calls
+  junit_cut_coming calls bytes exit (cut_junit heads head entries front rest e s) a = shown_coming heads head entries e a
+
+  junit_or_unread : (calls : List StoreCall) (bytes : List ℕ) (exit : ℕ) → JunitOrUnread number calls bytes exit → Agree runs calls → Coming number runs calls
+  junit_or_unread calls bytes exit (inl u) a = unread_coming calls bytes exit u a
+  junit_or_unread calls bytes exit (inr j) a = junit_cut_coming calls bytes exit j a
+
+-- ---- any command
+
+means_coming : (seen : Seen) (runs : List Run) (c : Command) (bytes : List ℕ) (exit : ℕ) → AreNumbered 1 runs → Means seen c bytes exit → Agree runs seen.calls → Coming (number_of c) runs seen.calls
+means_coming seen runs c bytes exit h (stopped d options fault e s k) a = none_coming (number_of c) runs h seen.calls k.calls
+means_coming seen runs c bytes exit h (listed options picked s k) a = none_coming None runs h seen.calls k.calls
+means_coming seen runs c bytes exit h (tested options file picked moment bs x p t) a =
+    tested_coming None runs h seen.plan picked.settings.config.parallelism options.filters picked.chosen.unmatched moment seen.trace seen.calls bytes exit t a
+means_coming seen runs c bytes exit h (debugged options picked first others entries e p all k) a = none_coming None runs h seen.calls k
+means_coming seen runs c bytes exit h (idle options picked s e k) a = none_coming None runs h seen.calls k.calls
+means_coming seen runs c bytes exit h (reported file number kinds verbose bs x u r) a = reported_coming number runs h kinds verbose seen.calls bytes exit r a
+means_coming seen runs c bytes exit h (reported_junit file number bs x u r) a = junit_coming number runs h seen.calls bytes exit r a
+
+short_coming : (seen : Seen) (runs : List Run) (c : Command) (bytes : List ℕ) (exit : ℕ) → AreNumbered 1 runs → CutShort seen c bytes exit → Agree runs seen.calls → Coming (number_of c) runs seen.calls
+short_coming seen runs c bytes exit h (no_memory d options e k) a = none_coming (number_of c) runs h seen.calls k.calls
+short_coming seen runs c bytes exit h (cut options file picked moment bs x p t) a = cut_coming None runs h seen.plan picked.settings.config.parallelism moment seen.trace seen.calls bytes exit t a
+short_coming seen runs c bytes exit h (report_cut file number kinds verbose bs x u r) a = unread_coming number runs h seen.calls bytes exit r a
+short_coming seen runs c bytes exit h (junit_cut file number bs x u r) a = junit_or_unread number runs h seen.calls bytes exit r a
+
+either_coming : (seen : Seen) (runs : List Run) (c : Command) (bytes : List ℕ) (exit : ℕ) → AreNumbered 1 runs → Means seen c bytes exit ⊎ CutShort seen c bytes exit → Agree runs seen.calls → Coming (number_of c) runs seen.calls
+either_coming seen runs c bytes exit h (inl m) a = means_coming seen runs c bytes exit h m a
+either_coming seen runs c bytes exit h (inr m) a = short_coming seen runs c bytes exit h m a
+
+-- what a command left of a store that stood for runs
+pub left_by : {R : Type 0} (Answers : R → StoreCall → R → Type 0) (Stands : R → List Run → Type 0) (Sound : R → Type 0) (Leaves : R → List (List Run) → Type 0) (numbered : (s : R) (runs : List Run) → Stands s runs → AreNumbered 1 runs)
+    (seen : Seen) (c : Command) (store after : R) (was now : Option (List ℕ)) (exit : ℕ) (bytes : List ℕ) (due : ℕ) (runs : List Run) → Stored Answers Stands Sound Leaves seen.calls store after → Means seen c bytes due ⊎ CutShort seen c bytes due → Printed was now exit bytes due
+    → Stands store runs → Left Stands Sound Leaves runs store after was now exit seen c
+left_by Answers Stands Sound Leaves numbered seen c store after was now exit bytes due runs s m p h =
+    let k = s.kept in
+    record {
+      left = changed seen.calls runs;
+      stands = k.stands runs h;
+      earlier = k.earlier runs h;
+      done = λ sound.
+          let it = either_coming seen runs c bytes due (numbered store runs h) m (k.agree runs h sound) in
+          record {
+            outcome = record { runs = it.left; bytes = bytes; exit = due; beside = it.others };
+            is = record { means = m; comes = it.comes };
+            keeps = it.same;
+            crash = λ may l. subst (λ (ms : List (List Run)). Leaves after (changed seen.calls runs ∷ ms)) (it.crash may) (k.crash runs may h l);
+            printed = p;
+          };
+    }

@@ -1,0 +1,54 @@
+-- Calls on a store, one after the other.
+use Rattle.std.proofs.Common.{◌≡◌, List, [], ◌∷◌, ◌++◌, refl, sym, subst}
+use Rattle.kt_base.specs.declared.run.Run.{Run}
+use Rattle.kt_store.specs.StoreCalls.{StoreCall}
+use Rattle.kt_plan.proofs.QuestionChains.{chain_both}
+use Rattle.kt_cli.specs.Stores.{changed_by, beside_by, Agrees, changed, beside, Agree, Stored}
+
+pub changed-append : (xs ys : List StoreCall) (runs : List Run) → changed (xs ++ ys) runs ≡ changed ys (changed xs runs)
+changed-append [] ys runs = refl
+changed-append (x ∷ xs) ys runs = changed-append xs ys (changed_by x runs)
+
+pub beside-append : (xs ys : List StoreCall) (runs : List Run) (may : List (List Run)) → beside (xs ++ ys) runs may ≡ beside ys (changed xs runs) (beside xs runs may)
+beside-append [] ys runs may = refl
+beside-append (x ∷ xs) ys runs may = beside-append xs ys (changed_by x runs) (beside_by x runs may)
+
+agree_both : (xs ys : List StoreCall) (runs : List Run) → Agree runs xs → Agree (changed xs runs) ys → Agree runs (xs ++ ys)
+agree_both [] ys runs a b = b
+agree_both (x ∷ xs) ys runs a b = (a.0, agree_both xs ys (changed_by x runs) a.1 b)
+
+-- the later calls agree with the runs that the earlier ones left
+pub agree_later : (xs ys : List StoreCall) (runs : List Run) → Agree runs (xs ++ ys) → Agree (changed xs runs) ys
+agree_later [] ys runs a = a
+agree_later (x ∷ xs) ys runs a = agree_later xs ys (changed_by x runs) a.1
+
+module _ {R : Type 0} (Answers : R → StoreCall → R → Type 0) (Stands : R → List Run → Type 0) (Sound : R → Type 0) (Leaves : R → List (List Run) → Type 0) where
+  -- no call
+  pub stored_none : (a : R) → Stored Answers Stands Sound Leaves [] a a
+  stored_none a = record { answered = refl; kept = record { stands = λ runs h. h; earlier = λ runs h s. s; agree = λ runs h s. tt; crash = λ runs may h l. l } }
+
+  -- one call
+  pub stored_one : (call : StoreCall) (a b : R) → Answers a call b → ((runs : List Run) → Stands a runs → Stands b (changed_by call runs)) → ((runs : List Run) → Stands a runs → Sound b → Sound a)
+      → ((runs : List Run) → Stands a runs → Sound b → Agrees runs call) → ((runs : List Run) (may : List (List Run)) → Stands a runs → Leaves a (runs ∷ may) → Leaves b (changed_by call runs ∷ beside_by call runs may))
+      → Stored Answers Stands Sound Leaves (call ∷ []) a b
+  stored_one call a b asked stands earlier agrees crash = record { answered = (b, asked, refl); kept = record { stands = stands; earlier = earlier; agree = λ runs h s. (agrees runs h s, tt); crash = crash } }
+
+  -- some calls, and then others
+  pub stored_both : (xs ys : List StoreCall) (a b d : R) → Stored Answers Stands Sound Leaves xs a b → Stored Answers Stands Sound Leaves ys b d → Stored Answers Stands Sound Leaves (xs ++ ys) a d
+  stored_both xs ys a b d p q =
+      let x = p.kept in
+      let y = q.kept in
+      record {
+        answered = chain_both Answers xs ys a b d p.answered q.answered;
+        kept = record {
+          stands = λ runs h. subst (λ (rs : List Run). Stands d rs) (sym (changed-append xs ys runs)) (y.stands (changed xs runs) (x.stands runs h));
+          earlier = λ runs h s. x.earlier runs h (y.earlier (changed xs runs) (x.stands runs h) s);
+          agree = λ runs h s. agree_both xs ys runs (x.agree runs h (y.earlier (changed xs runs) (x.stands runs h) s)) (y.agree (changed xs runs) (x.stands runs h) s);
+          crash = λ runs may h l. subst (λ (rs : List Run). Leaves d (rs ∷ beside (xs ++ ys) runs may)) (sym (changed-append xs ys runs))
+              (subst (λ (ms : List (List Run)). Leaves d (changed ys (changed xs runs) ∷ ms)) (sym (beside-append xs ys runs may)) (y.crash (changed xs runs) (beside xs runs may) (x.stands runs h) (x.crash runs may h l)));
+        };
+      }
+
+  -- the same calls
+  pub stored_as : (xs ys : List StoreCall) (a b : R) → xs ≡ ys → Stored Answers Stands Sound Leaves xs a b → Stored Answers Stands Sound Leaves ys a b
+  stored_as xs ys a b e p = subst (λ (cs : List StoreCall). Stored Answers Stands Sound Leaves cs a b) e p

@@ -1,0 +1,77 @@
+-- What a command does over a sound store: the runs that it leaves, and what a crash may leave.
+use Rattle.std.specs.Prelude.{ℕ, suc, Bool, true, false, List, [], ◌∷◌, ◌++◌, ◌≡◌, ◌<◌, ◌≤◌, ◌⊎◌, Option, Some, None, Ok, Err, length, map}
+use Rattle.kt_base.specs.declared.entry.Entry.{Entry}
+use Rattle.kt_base.specs.declared.run.Run.{Run}
+use Rattle.kt_store.specs.Ask.{IsStoreFault}
+use Rattle.kt_store.specs.Heads.{head_of}
+use Rattle.kt_store.specs.Runs.{put_refusal}
+use Rattle.kt_store.specs.StoreCalls.{StoreCall, Began, Put, Finished, Heads, Read}
+use Rattle.kt_store.specs.declared.store_fault.StoreFault.{StoreFault}
+use Rattle.kt_store.specs.declared.store_fault.StoreFault.TheVariants.{StoreFull}
+use Rattle.kt_cli.specs.declared.command.Command.{Command}
+use Rattle.kt_cli.specs.Commands.{number_of}
+use Rattle.kt_cli.specs.Meaning.{Seen, Means, CutShort}
+use Rattle.kt_cli.specs.Pages.{Printed}
+use Rattle.kt_cli.specs.Reports.{chosen}
+use Rattle.kt_cli.specs.Stores.{by_position, puts}
+
+-- the number of the run that is begun next
+abbrev pub next_number : List Run → ℕ
+next_number runs = suc (length runs)
+
+-- the runs with one more, which has these entries
+abbrev pub with_new : List Run → ℕ → ℕ → Bool → List Entry → List Run
+with_new runs moment total finished entries = runs ++ record { number = next_number runs; started = moment; total = total; finished = finished; entries = by_position entries } ∷ []
+
+-- what a command's calls come to over the runs of a sound store: the runs that they leave, and what a crash may leave beside them where it
+-- might leave others before; a call that is refused failed, or was due to be refused, and a crash may leave its change
+pub data Comes (number : Option ℕ) (runs : List Run) : List StoreCall → List Run → (List (List Run) → List (List Run)) → Type 0 where
+  not_called : Comes number runs [] runs (λ may. may)
+  not_begun : (total moment : ℕ) (fault : StoreFault) → IsStoreFault fault ⊎ ((fault ≡ StoreFull) × (1000000 ≤ length runs))
+      → Comes number runs (Began total moment (Err fault) ∷ []) runs (λ may. with_new runs moment total false [] ∷ may)
+  begun : (total moment : ℕ) → length runs < 1000000
+      → Comes number runs (Began total moment (Ok (next_number runs)) ∷ []) (with_new runs moment total false []) (λ may. [])
+  not_put : (total moment : ℕ) (entries : List Entry) (refused : Entry) (fault : StoreFault) → length runs < 1000000
+      → IsStoreFault fault ⊎ (put_refusal (with_new runs moment total false entries) (next_number runs) refused ≡ Some fault)
+      → Comes number runs (Began total moment (Ok (next_number runs)) ∷ (puts (next_number runs) entries ++ Put (next_number runs) refused (Err fault) ∷ []))
+      (with_new runs moment total false entries) (λ may. with_new runs moment total false (entries ++ refused ∷ []) ∷ [])
+  not_finished : (total moment : ℕ) (entries : List Entry) (fault : StoreFault) → length runs < 1000000 → length entries ≡ total → IsStoreFault fault
+      → Comes number runs (Began total moment (Ok (next_number runs)) ∷ (puts (next_number runs) entries ++ Finished (next_number runs) (Err fault) ∷ []))
+      (with_new runs moment total false entries) (λ may. with_new runs moment total true entries ∷ [])
+  finished : (total moment : ℕ) (entries : List Entry) → length runs < 1000000 → length entries ≡ total
+      → Comes number runs (Began total moment (Ok (next_number runs)) ∷ (puts (next_number runs) entries ++ Finished (next_number runs) (Ok tt) ∷ []))
+      (with_new runs moment total true entries) (λ may. [])
+  no_heads : (fault : StoreFault) → IsStoreFault fault → Comes number runs (Heads (Err fault) ∷ []) runs (λ may. may)
+  no_run : chosen number runs ≡ None → Comes number runs (Heads (Ok (map head_of runs)) ∷ []) runs (λ may. may)
+  no_entries : (run' : Run) (fault : StoreFault) → chosen number runs ≡ Some run' → IsStoreFault fault
+      → Comes number runs (Heads (Ok (map head_of runs)) ∷ Read run'.number (Err fault) ∷ []) runs (λ may. may)
+  shown : (run' : Run) → chosen number runs ≡ Some run'
+      → Comes number runs (Heads (Ok (map head_of runs)) ∷ Read run'.number (Ok run'.entries) ∷ []) runs (λ may. may)
+
+-- what a command leaves: the runs, its bytes, its exit, and what a crash may leave beside the runs, where it might leave others before
+pub record Outcome : Type 0 where
+  pub runs : List Run
+  pub bytes : List ℕ
+  pub exit : ℕ
+  pub beside : List (List Run) → List (List Run)
+
+-- an outcome is the command's, by what was seen of its world and its store
+pub record IsOutcome (seen : Seen) (runs : List Run) (c : Command) (outcome : Outcome) : Type 0 where
+  pub means : Means seen c outcome.bytes outcome.exit ⊎ CutShort seen c outcome.bytes outcome.exit
+  pub comes : Comes (number_of c) runs seen.calls outcome.runs outcome.beside
+
+-- a command was done: the runs are as its outcome has them, and so is what a crash leaves; its bytes were written, and a failed writer
+-- holds a prefix of them
+pub record Done {R : Type 0} (Leaves : R → List (List Run) → Type 0) (runs : List Run) (old new : R) (left : List Run) (was now : Option (List ℕ)) (exit : ℕ) (seen : Seen) (c : Command) : Type 0 where
+  pub outcome : Outcome
+  pub is : IsOutcome seen runs c outcome
+  pub keeps : left ≡ outcome.runs
+  pub crash : (may : List (List Run)) → Leaves old (runs ∷ may) → Leaves new (left ∷ outcome.beside may)
+  pub printed : Printed was now exit outcome.bytes outcome.exit
+
+-- a store that stood for runs is left with others, and while it is sound the command was done
+pub record Left {R : Type 0} (Stands : R → List Run → Type 0) (Sound : R → Type 0) (Leaves : R → List (List Run) → Type 0) (runs : List Run) (old new : R) (was now : Option (List ℕ)) (exit : ℕ) (seen : Seen) (c : Command) : Type 0 where
+  pub left : List Run
+  pub stands : Stands new left
+  pub earlier : Sound new → Sound old
+  pub done : Sound new → Done Leaves runs old new left was now exit seen c
