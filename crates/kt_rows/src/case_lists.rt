@@ -1,5 +1,7 @@
 use crate::endings::ending_of;
+use crate::lines::push_line;
 use crate::listings::{HEADER, behind_header};
+use crate::numbers::number;
 use crate::properties::pair_of;
 use crate::row::Row;
 use crate::row_fault::RowFault;
@@ -43,10 +45,7 @@ fn push_reason(alloc: Global, out: &mut String, fault: Option<Reason>) -> Result
 
 /// A case in the form of a row: its name, the properties that differ from the defaults, and its fault.
 fn push_case(alloc: Global, out: &mut String, case: CaseDef) -> Result<(), RowFault> {
-    if !out.is_empty() {
-        out.push('\n')?;
-    }
-    out.push_str(case.name.as_str())?;
+    push_line(out, case.name.as_str())?;
     push_props(alloc, out, &case.props)?;
     push_reason(alloc, out, case.fault)
 }
@@ -64,17 +63,12 @@ fn shown(alloc: Global, row: &Row<'_>, found: Items<CaseDef>) -> Result<String, 
     Ok(out)
 }
 
-fn count_of(raw: &str) -> Result<u64, RowFault> {
-    raw.parse::<u64>()
-        .map_err(|_| RowFault::Misspelled("no number"))
-}
-
 /// A list of so many cases, `c0`, `c1` and so on.
 fn many_blocks(alloc: Global, count: u64) -> Result<Vec<u8>, RowFault> {
     let mut text = String::from_str(alloc, HEADER)?;
-    for number in 0..count {
+    for at in 0..count {
         text.push_str("\nident: c")?;
-        text.push_str(number.to_string(alloc)?.as_str())?;
+        text.push_str(at.to_string(alloc)?.as_str())?;
         text.push('\n')?;
     }
     Ok(text.into_bytes())
@@ -84,9 +78,9 @@ fn many_blocks(alloc: Global, count: u64) -> Result<Vec<u8>, RowFault> {
 fn many_keys(alloc: Global, count: u64) -> Result<Vec<u8>, RowFault> {
     let mut text = String::from_str(alloc, HEADER)?;
     text.push_str("\nident: t\n")?;
-    for number in 0..count {
+    for at in 0..count {
         text.push_str("X-")?;
-        text.push_str(number.to_string(alloc)?.as_str())?;
+        text.push_str(at.to_string(alloc)?.as_str())?;
         text.push_str(": v\n")?;
     }
     Ok(text.into_bytes())
@@ -98,10 +92,10 @@ fn list_text(alloc: Global, row: &Row<'_>) -> Result<Option<Vec<u8>>, RowFault> 
         return Ok(Some(text));
     }
     if let Some(count) = row.text("many") {
-        return Ok(Some(many_blocks(alloc, count_of(count)?)?));
+        return Ok(Some(many_blocks(alloc, number(count)?)?));
     }
     if let Some(count) = row.text("keys") {
-        return Ok(Some(many_keys(alloc, count_of(count)?)?));
+        return Ok(Some(many_keys(alloc, number(count)?)?));
     }
     match row.bytes(alloc, "blocks")? {
         None => Ok(None),

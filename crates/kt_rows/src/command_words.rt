@@ -23,15 +23,25 @@ pub fn read_line(alloc: Global, line: &str) -> Result<Result<Command, CommandFau
     Ok(read_command(alloc, words.as_slice()))
 }
 
+/// Appends the command that a line spells.
+pub fn push_command(
+    alloc: Global,
+    commands: &mut Vec<Command>,
+    line: &str,
+) -> Result<(), RowFault> {
+    match read_line(alloc, line)? {
+        Ok(command) => commands.push(command)?,
+        Err(_) => return Err(RowFault::Misspelled("there is no such command")),
+    }
+    Ok(())
+}
+
 /// The commands of a row: `do COMMAND LINE` each.
 pub fn commands_of(alloc: Global, row: &Row<'_>) -> Result<Vec<Command>, RowFault> {
     let mut commands = Vec::new(alloc);
     for entry in row.entries.as_slice() {
         if entry.word == "do" {
-            match read_line(alloc, entry.text)? {
-                Ok(command) => commands.push(command)?,
-                Err(_) => return Err(RowFault::Misspelled("there is no such command")),
-            }
+            push_command(alloc, &mut commands, entry.text)?;
         }
     }
     Ok(commands)

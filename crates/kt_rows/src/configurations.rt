@@ -1,16 +1,10 @@
-use crate::escapes::unescaped;
+use crate::escapes::text_of;
+use crate::lines::push_line;
 use crate::row::{Entry, Row};
 use crate::row_fault::RowFault;
-use kt_base::{Text, Variable};
+use kt_base::Variable;
 use kt_config::{Config, ConfigFault, SuiteVariables};
 use std::alloc::Global;
-
-fn text_of(alloc: Global, raw: &str) -> Result<Text, RowFault> {
-    match String::from_utf8(unescaped(alloc, raw)?) {
-        Ok(string) => Ok(Text::from_string(string)),
-        Err(_) => Err(RowFault::Misspelled("a text that isn't UTF-8")),
-    }
-}
 
 /// Appends numbered statements: `COUNT STATEMENT`, where `#` in the statement is its number, counted from 0.
 fn append_numbered(alloc: Global, file: &mut Vec<u8>, text: &str) -> Result<(), RowFault> {
@@ -129,10 +123,7 @@ fn lines(alloc: Global, mut config: Config, row: &Row<'_>) -> Result<String, Row
     let mut out = String::new(alloc);
     for entry in row.entries.as_slice() {
         if let Some(told) = line(alloc, &mut config, entry)? {
-            if !out.is_empty() {
-                out.push('\n')?;
-            }
-            out.push_str(told.as_str())?;
+            push_line(&mut out, told.as_str())?;
         }
     }
     Ok(out)

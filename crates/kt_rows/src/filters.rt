@@ -1,7 +1,7 @@
-use crate::escapes::unescaped;
+use crate::escapes::text_of;
+use crate::lines::push_line;
 use crate::row::{Entry, Row};
 use crate::row_fault::RowFault;
-use kt_base::Text;
 use kt_suite::{Filter, FilterFault, Item, SelectFault, Selection, check_disjoint, select};
 use std::alloc::Global;
 
@@ -11,13 +11,6 @@ struct Example {
     alloc: Global,
     items: Vec<Item>,
     filters: Vec<Filter>,
-}
-
-fn text_of(alloc: Global, raw: &str) -> Result<Text, RowFault> {
-    match String::from_utf8(unescaped(alloc, raw)?) {
-        Ok(string) => Ok(Text::from_string(string)),
-        Err(_) => Err(RowFault::Misspelled("a text is UTF-8")),
-    }
 }
 
 /// `PATH CASE`, cut at the first space.
@@ -175,22 +168,33 @@ impl Example {
         }
     }
 
-    /// Adds what a line says, or answers what it asks.
-    fn take(&mut self, entry: Entry<'_>) -> Result<Option<String>, RowFault> {
+    /// Adds what a line says.
+    fn add(&mut self, entry: Entry<'_>) -> Result<(), RowFault> {
         match entry.word {
             "filter" => self.filters.push(filter_of(self.alloc, entry.text)?)?,
             "filters" => self.add_filters(entry.text)?,
             "item" => self.items.push(item_of(self.alloc, entry.text)?)?,
             "items" => self.add_items(entry.text)?,
-            "read" => return Ok(Some(read_line(self.alloc, entry.text)?)),
-            "matches" => return Ok(Some(self.matches_line(entry.text)?)),
-            "may-match" => return Ok(Some(self.may_match_line(entry.text)?)),
-            "disjoint" => return Ok(Some(self.disjoint_line()?)),
-            "select" => return Ok(Some(self.select_line(false)?)),
-            "count" => return Ok(Some(self.select_line(true)?)),
             _ => return Err(RowFault::Misspelled("no such word")),
         }
-        Ok(None)
+        Ok(())
+    }
+
+    /// Answers what a line asks, or adds what it says.
+    fn take(&mut self, entry: Entry<'_>) -> Result<Option<String>, RowFault> {
+        let line = match entry.word {
+            "read" => read_line(self.alloc, entry.text)?,
+            "matches" => self.matches_line(entry.text)?,
+            "may-match" => self.may_match_line(entry.text)?,
+            "disjoint" => self.disjoint_line()?,
+            "select" => self.select_line(false)?,
+            "count" => self.select_line(true)?,
+            _ => {
+                self.add(entry)?;
+                return Ok(None);
+            }
+        };
+        Ok(Some(line))
     }
 }
 
@@ -204,10 +208,7 @@ pub fn answer(alloc: Global, row: &Row<'_>) -> Result<String, RowFault> {
     let mut out = String::new(alloc);
     for entry in row.entries.as_slice() {
         if let Some(line) = example.take(*entry)? {
-            if !out.is_empty() {
-                out.push('\n')?;
-            }
-            out.push_str(line.as_str())?;
+            push_line(&mut out, line.as_str())?;
         }
     }
     Ok(out)

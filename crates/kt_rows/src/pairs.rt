@@ -1,7 +1,7 @@
-use crate::escapes::unescaped;
+use crate::escapes::lossy_of;
 use crate::row;
 use crate::row_fault::RowFault;
-use kt_base::{Variable, Variables, lossy};
+use kt_base::{Variable, Variables};
 use std::alloc::Global;
 
 /// The pairs of the lines `meta NAME=VALUE`, in order.
@@ -11,8 +11,8 @@ pub fn pairs_of(alloc: Global, lines: &[row::Entry<'_>]) -> Result<Variables, Ro
         if line.word == "meta" {
             let (name, value) = line.text.split_once('=').unwrap_or((line.text, ""));
             pairs.push(Variable {
-                name: lossy(alloc, &unescaped(alloc, name)?)?,
-                value: lossy(alloc, &unescaped(alloc, value)?)?,
+                name: lossy_of(alloc, name)?,
+                value: lossy_of(alloc, value)?,
             })?;
         }
     }

@@ -1,4 +1,6 @@
-use crate::escapes::unescaped;
+use crate::escapes::text_of;
+use crate::lines::push_line;
+use crate::numbers::number;
 use crate::row::{Entry, Row};
 use crate::row_fault::RowFault;
 use kt_base::{Reason, Text, Variable, Variables, Verdict};
@@ -15,18 +17,6 @@ struct Example {
     case: Props,
     config: Config,
     host: Host,
-}
-
-fn text_of(alloc: Global, raw: &str) -> Result<Text, RowFault> {
-    match String::from_utf8(unescaped(alloc, raw)?) {
-        Ok(string) => Ok(Text::from_string(string)),
-        Err(_) => Err(RowFault::Misspelled("a text is UTF-8")),
-    }
-}
-
-fn number_of(raw: &str) -> Result<u64, RowFault> {
-    raw.parse::<u64>()
-        .map_err(|_| RowFault::Misspelled("a number is wanted"))
 }
 
 /// `NAME=VALUE`, cut at the first `=`.
@@ -84,10 +74,7 @@ fn value_in(alloc: Global, pairs: &Variables, name: &str) -> Result<String, RowF
 fn lines_of(alloc: Global, pairs: &Variables) -> Result<String, RowFault> {
     let mut out = String::new(alloc);
     for pair in pairs.as_slice() {
-        if !out.is_empty() {
-            out.push('\n')?;
-        }
-        out.push_str(pair.name.as_str())?;
+        push_line(&mut out, pair.name.as_str())?;
         out.push_str(" = ")?;
         out.push_str(pair.value.as_str())?;
     }
@@ -173,8 +160,8 @@ impl Example {
                 let name = text_of(self.alloc, entry.text)?;
                 self.host.programs.insert(name.into_string())?;
             }
-            "memory" => self.host.memory = Some(number_of(entry.text)?),
-            "disk" => self.host.disk = Some(number_of(entry.text)?),
+            "memory" => self.host.memory = Some(number(entry.text)?),
+            "disk" => self.host.disk = Some(number(entry.text)?),
             _ => return Err(RowFault::Misspelled("there is no such word")),
         }
         Ok(())
@@ -186,7 +173,7 @@ impl Example {
             "set" => set_property(self.alloc, &mut self.program, entry.text),
             "case" => set_property(self.alloc, &mut self.case, entry.text),
             "customs" => {
-                set_customs(self.alloc, &mut self.program, number_of(entry.text)?)?;
+                set_customs(self.alloc, &mut self.program, number(entry.text)?)?;
                 Ok(None)
             }
             "config" => {
@@ -222,10 +209,7 @@ pub fn answer(alloc: Global, row: &Row<'_>) -> Result<String, RowFault> {
     let mut out = String::new(alloc);
     for entry in row.entries.as_slice() {
         if let Some(told) = example.line(entry)? {
-            if !out.is_empty() {
-                out.push('\n')?;
-            }
-            out.push_str(told.as_str())?;
+            push_line(&mut out, told.as_str())?;
         }
     }
     Ok(out)

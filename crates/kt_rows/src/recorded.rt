@@ -1,10 +1,11 @@
-use crate::escapes::unescaped;
+use crate::escapes::{lossy_of, unescaped};
 use crate::kinds::kind_of;
+use crate::numbers::number;
 use crate::pairs::pairs_of;
 use crate::row;
 use crate::row::Row;
 use crate::row_fault::RowFault;
-use kt_base::{Bytes, Entry, Items, Kind, Output, Reason, Run, Text, Verdict, lossy};
+use kt_base::{Bytes, Entry, Items, Kind, Output, Reason, Run, Variables, Verdict};
 use std::alloc::Global;
 
 /// The text behind a word among these lines.
@@ -25,24 +26,11 @@ fn bytes_in(alloc: Global, lines: &[row::Entry<'_>], word: &str) -> Result<Bytes
     }
 }
 
-/// The text behind a word among these lines, or another one if the word isn't there.
-fn name_in(
-    alloc: Global,
-    lines: &[row::Entry<'_>],
-    word: &str,
-    other: &str,
-) -> Result<Text, RowFault> {
-    let bytes = unescaped(alloc, text_in(lines, word).unwrap_or(other))?;
-    Ok(lossy(alloc, &bytes)?)
-}
-
 /// The number behind a word among these lines, or another one if the word isn't there.
 fn number_in(lines: &[row::Entry<'_>], word: &str, other: u64) -> Result<u64, RowFault> {
     match text_in(lines, word) {
         None => Ok(other),
-        Some(text) => text
-            .parse::<u64>()
-            .map_err(|_| RowFault::Misspelled("no number")),
+        Some(text) => number(text),
     }
 }
 
@@ -59,9 +47,9 @@ fn output_in(
 }
 
 /// The verdict of a text such as `failed: x`.
-fn verdict_of(alloc: Global, text: &str) -> Result<Verdict, RowFault> {
+pub fn verdict_of(alloc: Global, text: &str) -> Result<Verdict, RowFault> {
     let (word, reason) = text.split_once(": ").unwrap_or((text, ""));
-    let reason = Reason::Owned(lossy(alloc, &unescaped(alloc, reason)?)?);
+    let reason = Reason::Owned(lossy_of(alloc, reason)?);
     Ok(match kind_of(word)? {
         Kind::Passed => Verdict::passed(),
         Kind::Skipped => Verdict::skipped(reason),
@@ -71,26 +59,48 @@ fn verdict_of(alloc: Global, text: &str) -> Result<Verdict, RowFault> {
     })
 }
 
-/// The entry of a line `entry VERDICT` with the lines below it: `program TEXT`, `case TEXT`, `took MILLISECONDS`, and the
-/// outputs `out TEXT`, `err TEXT`, `cleanup-out TEXT` and `cleanup-err TEXT`; and a line `meta NAME=VALUE` for each pair.
-fn entry_of(alloc: Global, lines: &[row::Entry<'_>], position: u32) -> Result<Entry, RowFault> {
-    let verdict = verdict_of(alloc, text_in(lines, "entry").unwrap_or(""))?;
-    let program = name_in(alloc, lines, "program", "a")?;
-    let case_name = name_in(alloc, lines, "case", "main")?;
-    let millis = number_in(lines, "took", 0)?;
-    let body = output_in(alloc, lines, "out", "err")?;
-    let cleanup = output_in(alloc, lines, "cleanup-out", "cleanup-err")?;
+fn no_output(alloc: Global) -> Output {
+    Output {
+        out: Bytes::new(alloc),
+        err: Bytes::new(alloc),
+    }
+}
+
+/// The entry of a case at the first position that took no time and wrote nothing.
+pub fn case_entry(
+    alloc: Global,
+    program: &str,
+    case_name: &str,
+    verdict: Verdict,
+) -> Result<Entry, RowFault> {
+    let program = lossy_of(alloc, program)?;
+    let case_name = lossy_of(alloc, case_name)?;
     Ok(Entry {
-        position,
+        position: 0,
         program,
         case_name,
         verdict,
         started: 0,
-        millis,
-        body,
-        cleanup,
-        meta: pairs_of(alloc, lines)?,
+        millis: 0,
+        body: no_output(alloc),
+        cleanup: no_output(alloc),
+        meta: Variables::new(alloc),
     })
+}
+
+/// The entry of a line `entry VERDICT` with the lines below it: `program TEXT`, `case TEXT`, `took MILLISECONDS`, and the
+/// outputs `out TEXT`, `err TEXT`, `cleanup-out TEXT` and `cleanup-err TEXT`; and a line `meta NAME=VALUE` for each pair.
+fn entry_of(alloc: Global, lines: &[row::Entry<'_>], position: u32) -> Result<Entry, RowFault> {
+    let program = text_in(lines, "program").unwrap_or("a");
+    let case_name = text_in(lines, "case").unwrap_or("main");
+    let verdict = verdict_of(alloc, text_in(lines, "entry").unwrap_or(""))?;
+    let mut entry = case_entry(alloc, program, case_name, verdict)?;
+    entry.position = position;
+    entry.millis = number_in(lines, "took", 0)?;
+    entry.body = output_in(alloc, lines, "out", "err")?;
+    entry.cleanup = output_in(alloc, lines, "cleanup-out", "cleanup-err")?;
+    entry.meta = pairs_of(alloc, lines)?;
+    Ok(entry)
 }
 
 /// The lines of the entry that begins at a place: up to the next one.

@@ -1,11 +1,11 @@
 use crate::endings::ending_of;
 use crate::escapes::unescaped;
 use crate::numbers::{count, number, numbers};
-use crate::row::Row;
+use crate::row::{Entry, Row};
 use crate::row_fault::RowFault;
 use kt_base::Outcome;
 use kt_child::Polled;
-use kt_play::{Holding, Life, Oddity, Scene};
+use kt_play::{Holding, Life, PartFault, Scene};
 use std::alloc::Global;
 
 /// How a child ended, as a poll tells it.
@@ -54,12 +54,13 @@ fn failing_of(text: Option<&str>) -> Result<(u32, u32), RowFault> {
     }
 }
 
-fn oddity_of(text: Option<&str>) -> Result<Oddity, RowFault> {
+/// What goes wrong in a read in parts.
+fn part_fault_of(text: Option<&str>) -> Result<PartFault, RowFault> {
     match text {
-        None => Ok(Oddity::None),
-        Some("empty part") => Ok(Oddity::EmptyPart),
-        Some("gone") => Ok(Oddity::Gone),
-        Some(_) => Err(RowFault::Misspelled("there is no such oddity")),
+        None => Ok(PartFault::None),
+        Some("empty part") => Ok(PartFault::EmptyPart),
+        Some("gone") => Ok(PartFault::Gone),
+        Some(_) => Err(RowFault::Misspelled("there is no such fault of a read")),
     }
 }
 
@@ -73,23 +74,31 @@ fn clock_of(alloc: Global, row: &Row<'_>) -> Result<(Vec<u64>, u64), RowFault> {
     Ok((moments, 1))
 }
 
+/// Takes a line that says something of the scene.
+fn take<'a>(alloc: Global, scene: &mut Scene<'a>, entry: &Entry<'a>) -> Result<(), RowFault> {
+    match entry.word {
+        "life" => scene.lives.push(life_of(entry.text)?)?,
+        "holds" => scene.files.push(holding_of(alloc, entry.text)?)?,
+        _ => {}
+    }
+    Ok(())
+}
+
 /// The scene of a row: `life LIFE` each, `holds PATH TEXT` each, `clock N` or `moments NUMBERS`, `fails CALLS`, `odd WHAT`.
 pub fn scene_of<'a>(alloc: Global, row: &Row<'a>) -> Result<Scene<'a>, RowFault> {
+    let failing = failing_of(row.text("fails"))?;
+    let part_fault = part_fault_of(row.text("odd"))?;
     let (moments, step) = clock_of(alloc, row)?;
     let mut scene = Scene {
         lives: Vec::new(alloc),
         files: Vec::new(alloc),
-        failing: failing_of(row.text("fails"))?,
-        oddity: oddity_of(row.text("odd"))?,
+        failing,
+        part_fault,
         moments,
         step,
     };
     for entry in row.entries.as_slice() {
-        match entry.word {
-            "life" => scene.lives.push(life_of(entry.text)?)?,
-            "holds" => scene.files.push(holding_of(alloc, entry.text)?)?,
-            _ => {}
-        }
+        take(alloc, &mut scene, entry)?;
     }
     Ok(scene)
 }

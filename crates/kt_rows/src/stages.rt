@@ -8,6 +8,7 @@ use crate::scenes::holding_of;
 use kt_base::{NoMemory, Text};
 use kt_child::{Driver, Os};
 use kt_cli::{Command, Exit, execute_all};
+use kt_plan::World;
 use kt_play::{RefusingStore, ScriptedWorld, Stage, ask_too_much};
 use kt_sched::Launcher;
 use kt_store::ResultStore;
@@ -45,15 +46,24 @@ fn take_host<'a>(stage: &mut Stage<'a>, entry: &Entry<'a>) -> Result<(), RowFaul
     Ok(())
 }
 
+/// Takes a line that names a file without its content.
+fn take_name<'a>(stage: &mut Stage<'a>, entry: &Entry<'a>) -> Result<(), RowFault> {
+    match entry.word {
+        "program" => stage.programs.push(entry.text)?,
+        "locked" => stage.locked.push(entry.text)?,
+        "dear" => stage.dear.push(entry.text)?,
+        _ => {}
+    }
+    Ok(())
+}
+
 /// Takes a line that says something of the world.
 fn take<'a>(alloc: Global, stage: &mut Stage<'a>, entry: &Entry<'a>) -> Result<(), RowFault> {
     match entry.word {
         "holds" => stage.files.push(holding_of(alloc, entry.text)?)?,
-        "program" => stage.programs.push(entry.text)?,
         "config" => stage.configs.push(holding_of(alloc, entry.text)?)?,
-        "locked" => stage.locked.push(entry.text)?,
-        "dear" => stage.dear.push(entry.text)?,
         "lists" => stage.lists.push(listed_of(alloc, entry.text)?)?,
+        "program" | "locked" | "dear" => take_name(stage, entry)?,
         _ => take_host(stage, entry)?,
     }
     Ok(())
@@ -86,6 +96,26 @@ pub fn store_of(alloc: Global, row: &Row<'_>) -> Result<RefusingStore, RowFault>
     Ok(RefusingStore::new(alloc, calls, None))
 }
 
+/// How commands ended, and the launcher that they used.
+#[derive(Drop)]
+pub struct Done<L: Drop> {
+    pub exits: Vec<Exit>,
+    pub launcher: L,
+}
+
+/// Does commands over a world.
+fn over_world<W: World, R: ResultStore, O: Write>(
+    alloc: Global,
+    commands: &[Command],
+    world: &mut W,
+    results: &mut R,
+    out: &mut O,
+) -> Result<Vec<Exit>, NoMemory>
+    requires { IsIdle (W.running world.old) (W.pending world.old) }
+{
+    execute_all(alloc, commands, world, results, out)
+}
+
 /// Does commands over a world with this launcher.
 pub fn over_launcher<L: Launcher + Drop, R: ResultStore, W: Write>(
     alloc: Global,
@@ -94,12 +124,13 @@ pub fn over_launcher<L: Launcher + Drop, R: ResultStore, W: Write>(
     launcher: L,
     results: &mut R,
     out: &mut W,
-) -> Result<(Vec<Exit>, L), NoMemory>
+) -> Result<Done<L>, NoMemory>
     requires { IsIdle (L.running launcher) (L.pending launcher) }
 {
     let mut world = ScriptedWorld::new(alloc, stage, launcher);
-    let exits = execute_all(alloc, commands, &mut world, results, out)?;
-    Ok((exits, world.launcher))
+    let exits = over_world(alloc, commands, &mut world, results, out)?;
+    let launcher = world.launcher;
+    Ok(Done { exits, launcher })
 }
 
 /// Does commands over a world with a driver of its own over this system.
@@ -115,9 +146,9 @@ pub fn over_system<O: Os + Drop, R: ResultStore, W: Write>(
     match Driver::new(alloc, os, &Text::new(alloc), source) {
         Err((_fault, _os)) => Err(RowFault::Misspelled("there is no driver")),
         Ok(driver) => {
-            let (exits, driver) = over_launcher(alloc, commands, stage, driver, results, out)?;
-            let _ = driver.close();
-            Ok(exits)
+            let done = over_launcher(alloc, commands, stage, driver, results, out)?;
+            let _ = done.launcher.close();
+            Ok(done.exits)
         }
     }
 }

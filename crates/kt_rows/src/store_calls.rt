@@ -1,4 +1,4 @@
-use crate::command_words::read_line;
+use crate::command_words::push_command;
 use crate::numbers::{count, number};
 use crate::row::Row;
 use crate::row_fault::RowFault;
@@ -6,6 +6,7 @@ use crate::stages::{over_launcher, stage_of};
 use crate::store_entries::{entries_text, entry_of, millis_of, pairs_text};
 use crate::store_texts::{runs_text, store_fault_text};
 use crate::system_texts::outputs;
+use kt_cli::Exit;
 use kt_play::{ScriptedLauncher, ScriptedWriter};
 use kt_store::{ResultStore, StoreFault};
 use std::alloc::Global;
@@ -99,6 +100,16 @@ fn heads<R: ResultStore>(alloc: Global, results: &mut R) -> Result<String, RowFa
     }
 }
 
+/// What commands wrote, and how they ended.
+fn page_text(alloc: Global, page: &ScriptedWriter, exits: &[Exit]) -> Result<String, RowFault> {
+    let mut out = String::from_utf8_lossy(alloc, page.kept.as_slice())?;
+    for exit in exits {
+        let status = exit.status;
+        out.push_str(format!(in alloc; "exit {status}")?.as_str())?;
+    }
+    Ok(out)
+}
+
 /// Does a command over the store, and answers its page and its exit.
 fn done<R: ResultStore>(
     alloc: Global,
@@ -106,20 +117,39 @@ fn done<R: ResultStore>(
     results: &mut R,
     line: &str,
 ) -> Result<String, RowFault> {
-    let Ok(command) = read_line(alloc, line)? else {
-        return Err(RowFault::Misspelled("there is no such command"));
-    };
+    let mut commands = Vec::new(alloc);
+    push_command(alloc, &mut commands, line)?;
     let stage = stage_of(alloc, row)?;
-    let launcher = ScriptedLauncher::new(alloc, &[], &[], &[]);
     let mut page = ScriptedWriter::new(alloc, 0);
-    let commands = [command];
-    let (exits, _) = over_launcher(alloc, &commands, &stage, launcher, results, &mut page)?;
-    let mut out = String::from_utf8_lossy(alloc, page.kept.as_slice())?;
-    for exit in exits.as_slice() {
-        let status = exit.status;
-        out.push_str(format!(in alloc; "exit {status}")?.as_str())?;
-    }
-    Ok(out)
+    let launcher = ScriptedLauncher::new(alloc, &[], &[], &[]);
+    let exits = over_launcher(
+        alloc,
+        commands.as_slice(),
+        &stage,
+        launcher,
+        results,
+        &mut page,
+    )?
+    .exits;
+    page_text(alloc, &page, exits.as_slice())
+}
+
+/// What a call that changes a store of runs answers, or none if it isn't one.
+fn change<R: ResultStore>(
+    alloc: Global,
+    row: &Row<'_>,
+    results: &mut R,
+    word: &str,
+    text: &str,
+) -> Result<Option<String>, RowFault> {
+    Ok(Some(match word {
+        "begin" => begin(alloc, results, 1, text)?,
+        "begin-101" => begin(alloc, results, 101, text)?,
+        "put" => put(alloc, row, results, text)?,
+        "put-many" => put_many(alloc, row, results, text)?,
+        "finish" => plain_text(alloc, results.finish(number(text)?))?,
+        _ => return Ok(None),
+    }))
 }
 
 /// What a call on a store of runs answers.
@@ -130,12 +160,10 @@ pub fn call<R: ResultStore>(
     word: &str,
     text: &str,
 ) -> Result<String, RowFault> {
+    if let Some(answer) = change(alloc, row, results, word, text)? {
+        return Ok(answer);
+    }
     match word {
-        "begin" => begin(alloc, results, 1, text),
-        "begin-101" => begin(alloc, results, 101, text),
-        "put" => put(alloc, row, results, text),
-        "put-many" => put_many(alloc, row, results, text),
-        "finish" => plain_text(alloc, results.finish(number(text)?)),
         "runs" => runs_text(alloc, results),
         "count-runs" => heads(alloc, results),
         "entries" | "outputs" | "pairs" | "count" => entries(alloc, results, word, number(text)?),

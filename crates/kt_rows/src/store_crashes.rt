@@ -1,100 +1,62 @@
 //! Stores whose disk fails at a call, and what a crash then leaves.
 
-ghost use Rattle.std.specs.Prelude.{◌≡◌, ◌≤◌, false, IfSome};
+ghost use Rattle.std.specs.Prelude.{◌≡◌, ◌≤◌, false};
 
+use crate::failing_disks::{LIMIT, crashed, empty_files, frames_of, fused, open, value};
 use crate::row::Row;
 use crate::row_fault::RowFault;
 use crate::store_entries::entry_of;
 use kt_base::Entry;
 use kt_store::{Results, StoreFault};
-use sqlite::{Alter, Connection, Error, FileStore, Options};
-use sqlite_disk::{Crash, Files, Fuse, Memory};
+use sqlite::{Alter, Connection, Error};
+use sqlite_disk::{Crash, Files};
 use std::alloc::Global;
 
-type Fused = Fuse<Memory>;
-
-/// How many calls of the disk are tried at the most.
-const LIMIT: u64 = 400;
-
-/// Opens files whose log is copied into the database file once it has so many frames.
-fn open(alloc: Global, files: Files<Fused>, frames: usize) -> Option<Connection<FileStore<Fused>>>
-    ensures { IfSome result (λ c. c.in_transaction ≡ false) }
-{
-    if !files.may_be_used() {
-        return None;
-    }
-    let mut options = Options::new(1);
-    options.checkpoint_frames = frames;
-    match Connection::open_files(alloc, files, options) {
-        Ok(conn) => Some(conn),
-        Err(_) => None,
-    }
+/// What is left of a store whose disk failed: how many calls were done, attaching among them, and why the next was refused.
+#[derive(Drop)]
+struct Left<S: Alter + Drop> {
+    done: i64,
+    fault: Option<StoreFault>,
+    conn: Connection<S>,
 }
 
-fn crashed(mut files: Files<Fused>) -> Files<Fused> {
-    files.log.crash();
-    files.db.crash();
-    files
-}
-
-/// Begins a run, puts its entry and finishes it, up to the first refusal: how many calls were done before it, attaching among them.
-fn work<S: Alter>(results: &mut Results<S>, only: &Entry) -> Result<(), (i64, StoreFault)>
+/// Begins a run, puts its entry and finishes it, up to the first refusal.
+fn work<S: Alter>(results: &mut Results<S>, only: &Entry) -> (i64, Option<StoreFault>)
     requires { (only.now.started ≤ 253402300799999) × (only.now.millis ≤ 253402300799999) }
 {
     if let Err(fault) = results.begin(1, 5) {
-        return Err((1, fault));
+        return (1, Some(fault));
     }
     if let Err(fault) = results.put(1, only) {
-        return Err((2, fault));
+        return (2, Some(fault));
     }
     if let Err(fault) = results.finish(1) {
-        return Err((3, fault));
+        return (3, Some(fault));
     }
-    Ok(())
-}
-
-/// What is left of a store whose disk failed: how many calls were done, why the next was refused, and its files.
-#[derive(Drop)]
-struct Left {
-    done: i64,
-    fault: Option<StoreFault>,
-    files: Files<Fused>,
+    (4, None)
 }
 
 /// Attaches and works.
-fn worked(
-    alloc: Global,
-    row: &Row<'_>,
-    files: Files<Fused>,
-    frames: usize,
-) -> Result<Option<Left>, RowFault> {
-    let only = entry_of(alloc, row, 0, "passed")?;
-    let Some(conn) = open(alloc, files, frames) else {
-        return Ok(None);
-    };
-    let mut results = match Results::attach(alloc, conn) {
-        Ok(results) => results,
-        Err((fault, conn)) => {
-            return Ok(Some(Left {
-                done: 0,
-                fault: Some(fault),
-                files: conn.into_store().close(),
-            }));
+fn worked<S: Alter + Drop>(alloc: Global, conn: Connection<S>, only: &Entry) -> Left<S>
+    requires closed { conn.in_transaction ≡ false }
+    requires entry { (only.now.started ≤ 253402300799999) × (only.now.millis ≤ 253402300799999) }
+{
+    match Results::attach(alloc, conn) {
+        Ok(results) => {
+            let mut results = results;
+            let (done, fault) = work(&mut results, only);
+            Left {
+                done,
+                fault,
+                conn: results.detach(),
+            }
         }
-    };
-    let (done, fault) = match work(&mut results, &only) {
-        Ok(()) => (4, None),
-        Err((done, fault)) => (done, Some(fault)),
-    };
-    Ok(Some(Left {
-        done,
-        fault,
-        files: results.detach().into_store().close(),
-    }))
-}
-
-fn value<S: Alter>(conn: &mut Connection<S>, sql: &str) -> Result<i64, Error> {
-    conn.query_row(sql, &[])?.get(0)
+        Err((fault, conn)) => Left {
+            done: 0,
+            fault: Some(fault),
+            conn,
+        },
+    }
 }
 
 /// How many of those calls the tables show.
@@ -147,53 +109,66 @@ fn told<S: Alter + Drop>(
     }
 }
 
-/// What is wrong with what a crash leaves: nothing where it is the runs from before the refused call or from after it.
-fn judged(alloc: Global, left: Left, frames: usize, pairs: usize) -> Result<i64, &'static str> {
-    let done = left.done;
-    if done < 4 && !matches!(left.fault, Some(StoreFault::Store(_))) {
-        return Err("it was refused for another reason than the disk");
+/// How many of those calls are there after a crash: as many as were done, or the refused one, too.
+fn stage_of<S: Alter>(conn: &mut Connection<S>, done: i64) -> Result<i64, &'static str> {
+    match shown(conn) {
+        Ok(stage) if stage == done => Ok(stage),
+        Ok(stage) if done < 4 && stage > done && stage.saturating_sub(1) == done => Ok(stage),
+        Ok(_) => Err("the runs are neither from before the call nor from after it"),
+        Err(_) => Err("its tables can not be read"),
     }
-    let Some(mut conn) = open(alloc, crashed(left.files), frames) else {
-        return Err("it does not open again");
-    };
-    let Ok(stage) = shown(&mut conn) else {
-        return Err("its tables can not be read");
-    };
-    let is_next = done < 4 && stage > done && stage.saturating_sub(1) == done;
-    if stage != done && !is_next {
-        return Err("the runs are neither from before the call nor from after it");
-    }
-    if told(alloc, conn, pairs)? != stage.max(1) {
-        return Err("the store tells other runs than its tables show");
-    }
-    Ok(done)
 }
 
-/// Files whose log or whose database file fails after so many calls.
-fn fused(alloc: Global, in_log: bool, calls: u64) -> Files<Fused> {
-    let (log, db) = if in_log {
-        (calls, u64::MAX)
+/// What is wrong with what a crash leaves: nothing where it is the runs from before the refused call or from after it.
+fn judged<S: Alter + Drop>(
+    alloc: Global,
+    conn: Connection<S>,
+    done: i64,
+    pairs: usize,
+) -> Result<i64, &'static str> {
+    let mut conn = conn;
+    let stage = stage_of(&mut conn, done)?;
+    if told(alloc, conn, pairs)? == stage.max(1) {
+        Ok(done)
     } else {
-        (u64::MAX, calls)
-    };
-    Files {
-        log: Fuse::new(Memory::new(alloc), log),
-        db: Fuse::new(Memory::new(alloc), db),
+        Err("the store tells other runs than its tables show")
+    }
+}
+
+/// Works over files that fail and judges what a crash leaves: how many calls were done, and none if the files didn't open.
+fn tried<D: Crash + Drop>(
+    alloc: Global,
+    files: Files<D>,
+    frames: usize,
+    only: &Entry,
+) -> Option<Result<i64, &'static str>>
+    requires { (only.now.started ≤ 253402300799999) × (only.now.millis ≤ 253402300799999) }
+{
+    let conn = open(alloc, files, frames)?;
+    let Left { done, fault, conn } = worked(alloc, conn, only);
+    if done < 4 && !matches!(fault, Some(StoreFault::Store(_))) {
+        return Some(Err("it was refused for another reason than the disk"));
+    }
+    match open(alloc, crashed(conn.into_store().close()), frames) {
+        Some(conn) => Some(judged(alloc, conn, done, only.meta.len())),
+        None => Some(Err("it does not open again")),
     }
 }
 
 /// Lets the disk fail at each call in turn until none is refused: after how many calls on the store it failed, each number once.
-fn sweep(alloc: Global, row: &Row<'_>, in_log: bool, frames: usize) -> Result<String, RowFault> {
-    let pairs = entry_of(alloc, row, 0, "passed")?.meta.len();
+fn sweep(alloc: Global, only: &Entry, in_log: bool, frames: usize) -> Result<String, RowFault>
+    requires { (only.now.started ≤ 253402300799999) × (only.now.millis ≤ 253402300799999) }
+{
     let mut out = String::from_str(alloc, "refused after")?;
     let mut last = -1;
     for calls in 0..LIMIT {
-        let Some(left) = worked(alloc, row, fused(alloc, in_log, calls), frames)? else {
+        let files = fused(empty_files(alloc), in_log, calls);
+        let Some(answer) = tried(alloc, files, frames, only) else {
             continue;
         };
-        match judged(alloc, left, frames, pairs) {
+        match answer {
             Err(what) => return Ok(format!(in alloc; "at call {calls}: {what}")?),
-            Ok(4) => {
+            Ok(done) if done == 4 => {
                 out.push_str(", then not")?;
                 return Ok(out);
             }
@@ -209,8 +184,7 @@ fn sweep(alloc: Global, row: &Row<'_>, in_log: bool, frames: usize) -> Result<St
 
 /// What a crash leaves of attaching, a run, its entry and its end: `disk log` or `disk database`, and `frames N`.
 pub fn answer(alloc: Global, row: &Row<'_>, disk: &str) -> Result<String, RowFault> {
-    match row.text("frames").unwrap_or("1000").parse::<usize>() {
-        Ok(frames) => sweep(alloc, row, disk == "log", frames),
-        Err(_) => Err(RowFault::Misspelled("frames are a number")),
-    }
+    let frames = frames_of(row)?;
+    let only = entry_of(alloc, row, 0, "passed")?;
+    sweep(alloc, &only, disk == "log", frames)
 }

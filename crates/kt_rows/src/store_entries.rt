@@ -1,37 +1,14 @@
 ghost use Rattle.std.specs.Prelude.{◌≤◌, IfOk};
 
-use crate::escapes::unescaped;
+use crate::escapes::text_of;
 use crate::lines::push_line;
 use crate::numbers::{count, number};
+use crate::recorded::{case_entry, verdict_of};
 use crate::row::Row;
 use crate::row_fault::RowFault;
 use crate::verdicts;
-use kt_base::{Bytes, Entry, LATEST_MOMENT, Output, Reason, Text, Variable, Variables, Verdict};
+use kt_base::{Bytes, Entry, LATEST_MOMENT, Output, Variable, Variables};
 use std::alloc::Global;
-
-fn text_of(alloc: Global, raw: &str) -> Result<Text, RowFault> {
-    let bytes = unescaped(alloc, raw)?;
-    match str::from_utf8(&bytes) {
-        Ok(text) => Ok(Text::from_str(alloc, text)?),
-        Err(_) => Err(RowFault::Misspelled("a text is UTF-8")),
-    }
-}
-
-/// A verdict: `passed`, or a kind, `: ` and a reason.
-fn verdict_of(alloc: Global, text: &str) -> Result<Verdict, RowFault> {
-    if text == "passed" {
-        return Ok(Verdict::passed());
-    }
-    let (kind, reason) = text.split_once(": ").unwrap_or((text, ""));
-    let reason = Reason::Owned(text_of(alloc, reason)?);
-    match kind {
-        "skipped" => Ok(Verdict::skipped(reason)),
-        "expected_failure" => Ok(Verdict::expected_failure(reason)),
-        "failed" => Ok(Verdict::failed(reason)),
-        "broken" => Ok(Verdict::broken(reason)),
-        _ => Err(RowFault::Misspelled("there is no such kind")),
-    }
-}
 
 /// A moment or a time in milliseconds, which is another one where the row has none.
 pub fn millis_of(text: Option<&str>, other: u64) -> Result<u64, RowFault>
@@ -85,17 +62,14 @@ pub fn entry_of(
 {
     let started = millis_of(row.text("started"), 1_700_000_000_123)?;
     let millis = millis_of(row.text("took"), 12)?;
-    Ok(Entry {
-        position,
-        program: Text::from_str(alloc, "é")?,
-        case_name: Text::from_str(alloc, "main")?,
-        verdict: verdict_of(alloc, verdict)?,
-        started,
-        millis,
-        body: output_of(alloc, row, "out", "err")?,
-        cleanup: output_of(alloc, row, "cleanup-out", "cleanup-err")?,
-        meta: meta_of(alloc, row, position)?,
-    })
+    let mut entry = case_entry(alloc, "é", "main", verdict_of(alloc, verdict)?)?;
+    entry.body = output_of(alloc, row, "out", "err")?;
+    entry.cleanup = output_of(alloc, row, "cleanup-out", "cleanup-err")?;
+    entry.meta = meta_of(alloc, row, position)?;
+    entry.position = position;
+    entry.started = started;
+    entry.millis = millis;
+    Ok(entry)
 }
 
 fn entry_text(alloc: Global, entry: &Entry) -> Result<String, RowFault> {

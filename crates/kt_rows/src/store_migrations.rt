@@ -1,18 +1,14 @@
 //! Stores of schema 1 whose disk fails while their tables are taken, and what a crash then leaves.
 
-ghost use Rattle.std.specs.Prelude.{◌≡◌, false, IfSome};
+ghost use Rattle.std.specs.Prelude.{◌≡◌, false};
 
+use crate::failing_disks::{LIMIT, crashed, empty_files, frames_of, fused, open, value};
 use crate::row::Row;
 use crate::row_fault::RowFault;
 use kt_store::{Results, StoreFault};
-use sqlite::{Alter, Connection, Error, FileStore, Options};
-use sqlite_disk::{Crash, Disk, Files, Fuse, Memory};
+use sqlite::{Alter, Connection, Error};
+use sqlite_disk::{Crash, Disk, Files, Memory};
 use std::alloc::Global;
-
-type Fused = Fuse<Memory>;
-
-/// How many calls of the disk are tried at the most.
-const LIMIT: u64 = 400;
 
 /// What an earlier version made: the tables of schema 1, and a finished run with one entry.
 const STATEMENTS: [&str; 6] = [
@@ -24,25 +20,6 @@ const STATEMENTS: [&str; 6] = [
     "INSERT INTO entries VALUES (1, 0, 'a', 'main', 3, 'x<y', 1700000000123, 12, X'68690A', X'', X'', X'')",
 ];
 
-/// Opens files whose log is copied into the database file once it has so many frames.
-fn open<D: Disk + Drop>(
-    alloc: Global,
-    files: Files<D>,
-    frames: usize,
-) -> Option<Connection<FileStore<D>>>
-    ensures { IfSome result (λ c. c.in_transaction ≡ false) }
-{
-    if !files.may_be_used() {
-        return None;
-    }
-    let mut options = Options::new(1);
-    options.checkpoint_frames = frames;
-    match Connection::open_files(alloc, files, options) {
-        Ok(conn) => Some(conn),
-        Err(_) => None,
-    }
-}
-
 /// Runs the statements of an earlier version.
 fn fill<S: Alter>(conn: &mut Connection<S>) -> Result<(), Error> {
     for sql in &STATEMENTS {
@@ -51,53 +28,25 @@ fn fill<S: Alter>(conn: &mut Connection<S>) -> Result<(), Error> {
     Ok(())
 }
 
-/// The files of a store of schema 1.
-fn old_files(alloc: Global, frames: usize) -> Option<Files<Memory>> {
-    let files = Files {
-        log: Memory::new(alloc),
-        db: Memory::new(alloc),
-    };
+/// The same files with a store of schema 1.
+fn filled<D: Disk + Drop>(alloc: Global, files: Files<D>, frames: usize) -> Option<Files<D>> {
     let mut conn = open(alloc, files, frames)?;
-    match fill(&mut conn) {
-        Ok(()) => Some(conn.into_store().close()),
-        Err(_) => None,
-    }
-}
-
-/// The same files, of which the log or the database file fails after so many calls.
-fn fused(files: Files<Memory>, in_log: bool, calls: u64) -> Files<Fused> {
-    let (log, db) = if in_log {
-        (calls, u64::MAX)
+    let is_filled = fill(&mut conn).is_ok();
+    if is_filled {
+        Some(conn.into_store().close())
     } else {
-        (u64::MAX, calls)
-    };
-    Files {
-        log: Fuse::new(files.log, log),
-        db: Fuse::new(files.db, db),
+        None
     }
 }
 
-/// Takes the tables: whether that was done, and the files.
-fn taken(
-    alloc: Global,
-    files: Files<Fused>,
-    frames: usize,
-) -> Option<(Result<(), StoreFault>, Files<Fused>)> {
-    let conn = open(alloc, files, frames)?;
+/// Takes the tables: why that was refused, and the connection.
+fn taken<S: Alter + Drop>(alloc: Global, conn: Connection<S>) -> (Option<StoreFault>, Connection<S>)
+    requires { conn.in_transaction ≡ false }
+{
     match Results::attach(alloc, conn) {
-        Ok(results) => Some((Ok(()), results.detach().into_store().close())),
-        Err((fault, conn)) => Some((Err(fault), conn.into_store().close())),
+        Ok(results) => (None, results.detach()),
+        Err((fault, conn)) => (Some(fault), conn),
     }
-}
-
-fn crashed(mut files: Files<Fused>) -> Files<Fused> {
-    files.log.crash();
-    files.db.crash();
-    files
-}
-
-fn value<S: Alter>(conn: &mut Connection<S>, sql: &str) -> Result<i64, Error> {
-    conn.query_row(sql, &[])?.get(0)
 }
 
 /// The schema that the tables are of: 1 without the table of pairs, 2 with it, or else 0.
@@ -134,29 +83,63 @@ fn tells_the_run<S: Alter + Drop>(alloc: Global, conn: Connection<S>) -> bool {
     heads.len() == 1 && entries.len() == 1 && entry.meta.is_empty() && entry.millis == 12
 }
 
-/// The schema that a crash leaves, or what is wrong with it.
-fn judged(
-    alloc: Global,
-    answer: Result<(), StoreFault>,
-    files: Files<Fused>,
-    frames: usize,
-) -> Result<i64, &'static str> {
-    if !matches!(answer, Ok(()) | Err(StoreFault::Store(_))) {
-        return Err("it was refused for another reason than the disk");
-    }
-    let Some(mut conn) = open(alloc, crashed(files), frames) else {
-        return Err("it does not open again");
-    };
-    let Ok(schema) = schema(&mut conn) else {
+/// The schema of the tables: 2 if they were taken, else 1 or 2.
+fn schema_left<S: Alter>(conn: &mut Connection<S>, done: bool) -> Result<i64, &'static str> {
+    let Ok(schema) = schema(conn) else {
         return Err("its tables can not be read");
     };
-    if schema == 0 || (answer.is_ok() && schema != 2) {
-        return Err("its tables are neither those from before nor those from after");
+    if schema == 2 || (schema == 1 && !done) {
+        Ok(schema)
+    } else {
+        Err("its tables are neither those from before nor those from after")
     }
-    if !tells_the_run(alloc, conn) {
-        return Err("the run is another one");
+}
+
+/// The schema that a crash leaves, or what is wrong with it.
+fn judged<S: Alter + Drop>(
+    alloc: Global,
+    conn: Connection<S>,
+    done: bool,
+) -> Result<i64, &'static str> {
+    let mut conn = conn;
+    let schema = schema_left(&mut conn, done)?;
+    if tells_the_run(alloc, conn) {
+        Ok(schema)
+    } else {
+        Err("the run is another one")
     }
-    Ok(schema)
+}
+
+/// What came of taking the tables over files that fail.
+#[derive(Drop)]
+struct Attempt {
+    done: bool,
+    /// The schema that a crash leaves, or what is wrong with it.
+    left: Result<i64, &'static str>,
+}
+
+/// Takes the tables over files that fail and judges what a crash leaves; nothing if the files didn't open.
+fn tried<D: Crash + Drop>(alloc: Global, files: Files<D>, frames: usize) -> Option<Attempt> {
+    let conn = open(alloc, files, frames)?;
+    let (fault, conn) = taken(alloc, conn);
+    let done = fault.is_none();
+    if !matches!(fault, None | Some(StoreFault::Store(_))) {
+        let left = Err("it was refused for another reason than the disk");
+        return Some(Attempt { done, left });
+    }
+    let left = match open(alloc, crashed(conn.into_store().close()), frames) {
+        Some(conn) => judged(alloc, conn, done),
+        None => Err("it does not open again"),
+    };
+    Some(Attempt { done, left })
+}
+
+/// The files of a store of schema 1.
+fn old_files(alloc: Global, frames: usize) -> Result<Files<Memory>, RowFault> {
+    match filled(alloc, empty_files(alloc), frames) {
+        Some(files) => Ok(files),
+        None => Err(RowFault::Misspelled("the old store is not made")),
+    }
 }
 
 /// Lets the disk fail at each call in turn until the tables are taken: which schemas crashes left, each number once.
@@ -164,14 +147,11 @@ fn sweep(alloc: Global, in_log: bool, frames: usize) -> Result<String, RowFault>
     let mut out = String::from_str(alloc, "left")?;
     let mut last = 0;
     for calls in 0..LIMIT {
-        let Some(files) = old_files(alloc, frames) else {
-            return Err(RowFault::Misspelled("the old store is not made"));
-        };
-        let Some((answer, files)) = taken(alloc, fused(files, in_log, calls), frames) else {
+        let files = fused(old_files(alloc, frames)?, in_log, calls);
+        let Some(attempt) = tried(alloc, files, frames) else {
             continue;
         };
-        let done = answer.is_ok();
-        match judged(alloc, answer, files, frames) {
+        match attempt.left {
             Err(what) => return Ok(format!(in alloc; "at call {calls}: {what}")?),
             Ok(schema) if schema != last => {
                 last = schema;
@@ -179,7 +159,7 @@ fn sweep(alloc: Global, in_log: bool, frames: usize) -> Result<String, RowFault>
             }
             Ok(_) => {}
         }
-        if done {
+        if attempt.done {
             out.push_str(", then taken")?;
             return Ok(out);
         }
@@ -189,8 +169,5 @@ fn sweep(alloc: Global, in_log: bool, frames: usize) -> Result<String, RowFault>
 
 /// What a crash leaves of a store of schema 1 whose tables are taken: `migration log` or `migration database`, and `frames N`.
 pub fn answer(alloc: Global, row: &Row<'_>, disk: &str) -> Result<String, RowFault> {
-    match row.text("frames").unwrap_or("1000").parse::<usize>() {
-        Ok(frames) => sweep(alloc, disk == "log", frames),
-        Err(_) => Err(RowFault::Misspelled("frames are a number")),
-    }
+    sweep(alloc, disk == "log", frames_of(row)?)
 }

@@ -5,8 +5,8 @@ use crate::numbers::number;
 use crate::row::Row;
 use crate::row_fault::RowFault;
 use crate::system_runs::variables_of;
-use kt_base::{Interface, Items, Text, Variable};
-use kt_child::{Paths, Want, argv_plan, env_plan, workdir_plan};
+use kt_base::{Interface, Items, Text, Variable, Variables};
+use kt_child::{EnvPlan, Paths, Want, argv_plan, env_plan, workdir_plan};
 use std::alloc::Global;
 
 fn interface_of(text: &str) -> Result<Interface, RowFault> {
@@ -59,20 +59,31 @@ fn push_texts(out: &mut String, texts: &Items<Text>) -> Result<(), RowFault> {
     Ok(())
 }
 
+/// The words that a program is started with.
+fn words_of(
+    alloc: Global,
+    row: &Row<'_>,
+    interface: Interface,
+    want: Want,
+    variables: &Variables,
+) -> Result<Items<Text>, RowFault> {
+    let paths = paths_of(alloc, row)?;
+    let source = Text::from_str(alloc, row.text("source").unwrap_or("/t"))?;
+    let case = Text::from_str(alloc, row.text("case").unwrap_or("main"))?;
+    Ok(argv_plan(alloc, interface, want, &paths, &source, variables, &case)?)
+}
+
 /// The words of a program, a line each: `words INTERFACE WANT`, `source PATH`, `case NAME` and `variable NAME=VALUE` each.
 pub fn words(alloc: Global, row: &Row<'_>, asked: &str) -> Result<String, RowFault> {
     let (interface, want) = asked.split_once(' ').unwrap_or((asked, ""));
-    let words = argv_plan(
-        alloc,
-        interface_of(interface)?,
-        want_of(want)?,
-        &paths_of(alloc, row)?,
-        &Text::from_str(alloc, row.text("source").unwrap_or("/t"))?,
-        &variables_of(alloc, row)?,
-        &Text::from_str(alloc, row.text("case").unwrap_or("main"))?,
-    )?;
+    let interface = interface_of(interface)?;
+    let want = want_of(want)?;
+    let variables = variables_of(alloc, row)?;
     let mut out = String::new(alloc);
-    push_texts(&mut out, &words)?;
+    push_texts(
+        &mut out,
+        &words_of(alloc, row, interface, want, &variables)?,
+    )?;
     Ok(out)
 }
 
@@ -85,19 +96,20 @@ fn push_set(alloc: Global, out: &mut String, set: &[Variable]) -> Result<(), Row
     Ok(())
 }
 
-/// The variables that are set, and the names of those that are taken out, a line each: `environment INTERFACE`, `work PATH`
-/// and `variable NAME=VALUE` each.
-pub fn environment(alloc: Global, row: &Row<'_>, interface: &str) -> Result<String, RowFault> {
-    let work = Text::from_str(alloc, row.text("work").unwrap_or("/w"))?;
-    let plan = env_plan(
-        alloc,
-        interface_of(interface)?,
-        &variables_of(alloc, row)?,
-        &work,
-    )?;
+fn plan_text(alloc: Global, plan: &EnvPlan) -> Result<String, RowFault> {
     let mut out = String::new(alloc);
     push_set(alloc, &mut out, plan.set.as_slice())?;
     push_line(&mut out, "without")?;
     push_texts(&mut out, &plan.removed)?;
     Ok(out)
+}
+
+/// The variables that are set, and the names of those that are taken out, a line each: `environment INTERFACE`, `work PATH`
+/// and `variable NAME=VALUE` each.
+pub fn environment(alloc: Global, row: &Row<'_>, interface: &str) -> Result<String, RowFault> {
+    let interface = interface_of(interface)?;
+    let work = Text::from_str(alloc, row.text("work").unwrap_or("/w"))?;
+    let variables = variables_of(alloc, row)?;
+    let plan = env_plan(alloc, interface, &variables, &work)?;
+    plan_text(alloc, &plan)
 }

@@ -1,3 +1,4 @@
+ghost use Rattle.std.specs.Prelude.{IfOk};
 ghost use Rattle.kt_sched.specs.Plan.{IsPlan, IsWidth};
 
 use crate::numbers::limit_of;
@@ -65,21 +66,29 @@ fn drive<O: Os + Drop>(
     }
 }
 
-/// Runs the plan of a row over a scripted system: `plan LETTERS`, perhaps `limit SECONDS`, `width N`, `failing PUT`, `base PATH` and
-/// `variable NAME=VALUE` each.
+/// The plan of a row: `plan LETTERS`, perhaps `limit SECONDS` and `variable NAME=VALUE` each.
+fn plan_of(alloc: Global, row: &Row<'_>) -> Result<Items<Job>, RowFault>
+    ensures { IfOk result IsPlan }
+{
+    let limit = limit_of(row.text("limit"))?;
+    let variables = variables_of(alloc, row)?;
+    let letters = row.bytes(alloc, "plan")?.unwrap_or(Vec::new(alloc));
+    let plan = cases_of(alloc, letters.as_slice(), limit, &variables)?;
+    Ok(plan)
+}
+
+/// Runs the plan of a row over a scripted system: what `plan_of` reads, and `width N`, `failing PUT` and `base PATH`.
 pub fn run_plan<'a>(
     alloc: Global,
     row: &Row<'_>,
     scene: &'a Scene<'a>,
 ) -> Result<Driven<ScriptedSystem<'a>>, RowFault> {
-    let letters = row.bytes(alloc, "plan")?.unwrap_or(Vec::new(alloc));
-    let variables = variables_of(alloc, row)?;
-    let limit = limit_of(row.text("limit"))?;
-    let plan = cases_of(alloc, letters.as_slice(), limit, &variables)?;
     let width = width_of(row.text("width"))?;
+    let failing = failing_of(row.text("failing"))?;
     let base = Text::from_str(alloc, row.text("base").unwrap_or(""))?;
     let source = Text::from_str(alloc, "/t")?;
-    let sink = MemorySink::new(alloc, failing_of(row.text("failing"))?);
+    let plan = plan_of(alloc, row)?;
+    let sink = MemorySink::new(alloc, failing);
     let os = ScriptedSystem::new(alloc, scene);
     Ok(drive(alloc, os, plan, width, &base, source, sink))
 }

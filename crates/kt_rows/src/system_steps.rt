@@ -9,10 +9,10 @@ use crate::row_fault::RowFault;
 use crate::system_runs::variables_of;
 use crate::system_texts::{calls, words};
 use kt_atflist::{ListBytes, Listing};
-use kt_base::{Interface, Outcome, Refused, Role, Text, Variables};
+use kt_base::{Interface, Items, Outcome, Refused, Role, Text, Variables};
 use kt_child::{
-    Child, Driver, DriverFault, Os, Spawning, Turn, Want, Watch, argv_plan, env_plan, poll_once,
-    read_kept, read_list, start_body, start_cleanup, workdir_plan,
+    Child, Driver, DriverFault, Os, Paths, Spawning, Turn, Want, Watch, argv_plan, env_plan,
+    poll_once, read_kept, read_list, start_body, start_cleanup, workdir_plan,
 };
 use kt_metadata::Props;
 use kt_play::{Scene, ScriptedSystem};
@@ -75,22 +75,27 @@ pub fn polls(alloc: Global, row: &Row<'_>, scene: &Scene<'_>) -> Result<String, 
     Ok(out)
 }
 
-/// All that a plain program is started with, in the directory of an attempt.
-fn spawning(alloc: Global) -> Result<(Text, Spawning), RowFault> {
-    let name = Text::from_str(alloc, "t")?;
-    let paths = workdir_plan(alloc, &name, 0)?;
+/// The words that a plain program is started with.
+fn plain_words(alloc: Global, name: &Text, paths: &Paths) -> Result<Items<Text>, RowFault> {
     let none = Variables::new(alloc);
-    let words = argv_plan(
+    Ok(argv_plan(
         alloc,
         Interface::Plain,
         Want::Body,
-        &paths,
-        &name,
+        paths,
+        name,
         &none,
-        &name,
-    )?;
+        name,
+    )?)
+}
+
+/// All that a plain program is started with, in the directory of an attempt.
+fn spawning(alloc: Global, paths: Paths) -> Result<Spawning, RowFault> {
+    let name = Text::from_str(alloc, "t")?;
+    let words = plain_words(alloc, &name, &paths)?;
+    let none = Variables::new(alloc);
     let env = env_plan(alloc, Interface::Plain, &none, &paths.work)?;
-    let plan = Spawning {
+    Ok(Spawning {
         child: CHILD,
         program: name,
         words,
@@ -98,8 +103,7 @@ fn spawning(alloc: Global) -> Result<(Text, Spawning), RowFault> {
         work: paths.work,
         out: paths.out,
         err: paths.err,
-    };
-    Ok((paths.dir, plan))
+    })
 }
 
 fn started<O: Os>(os: &mut O, role: &str, dir: &Text, plan: &Spawning) -> Result<u64, Refused> {
@@ -111,7 +115,9 @@ fn started<O: Os>(os: &mut O, role: &str, dir: &Text, plan: &Spawning) -> Result
 
 /// What is asked to start a body or a cleanup, and what the start answers.
 pub fn starts(alloc: Global, role: &str, scene: &Scene<'_>) -> Result<String, RowFault> {
-    let (dir, plan) = spawning(alloc)?;
+    let name = Text::from_str(alloc, "t")?;
+    let dir = workdir_plan(alloc, &name, 0)?.dir;
+    let plan = spawning(alloc, workdir_plan(alloc, &name, 0)?)?;
     let mut os = ScriptedSystem::new(alloc, scene);
     let answer = started(&mut os, role, &dir, &plan);
     let mut out = calls(alloc, os.log.as_str())?;
@@ -156,51 +162,82 @@ fn listing_text(alloc: Global, listing: &Listing) -> Result<String, RowFault> {
     }
 }
 
+/// A system that was asked for the list of a program, and what came of it; nothing if there was no driver.
+#[derive(Drop)]
+struct Listed<O: Drop> {
+    os: O,
+    listing: Option<Listing>,
+}
+
 /// Asks a driver of its own for the list of a program.
-fn listed<O: Os + Drop>(
+fn asked_for_list<O: Os + Drop>(
     alloc: Global,
     os: O,
     base: &Text,
     source: Text,
     program: &Program,
     variables: &Variables,
-) -> Result<(O, Option<Listing>), RowFault> {
+) -> Listed<O> {
     match Driver::new(alloc, os, base, source) {
-        Err((_fault, os)) => Ok((os, None)),
+        Err((_fault, os)) => Listed { os, listing: None },
         Ok(driver) => {
             let mut driver = driver;
             let listing = driver.list(program, variables);
-            Ok((driver.close(), Some(listing)))
+            Listed {
+                os: driver.close(),
+                listing: Some(listing),
+            }
         }
     }
 }
 
+/// What a driver without a directory or a list comes to.
+fn push_listing(
+    alloc: Global,
+    out: &mut String,
+    listing: &Option<Listing>,
+) -> Result<(), RowFault> {
+    match listing {
+        None => push_line(out, "no driver")?,
+        Some(listing) => push_line(out, listing_text(alloc, listing)?.as_str())?,
+    }
+    Ok(())
+}
+
+/// A program `d/p` of ATF cases.
+fn program_of(alloc: Global) -> Result<Program, RowFault> {
+    let path = Text::from_str(alloc, "d/p")?;
+    let suite = Text::from_str(alloc, "s")?;
+    Ok(Program {
+        interface: Interface::Atf,
+        path,
+        suite,
+        props: Props::new(alloc),
+    })
+}
+
+/// Asks a scripted system for the list of a program: `base PATH`, and `variable NAME=VALUE` each.
+fn listed_by<'a>(
+    alloc: Global,
+    row: &Row<'_>,
+    scene: &'a Scene<'a>,
+) -> Result<Listed<ScriptedSystem<'a>>, RowFault> {
+    let base = Text::from_str(alloc, row.text("base").unwrap_or(""))?;
+    let source = Text::from_str(alloc, "/t")?;
+    let program = program_of(alloc)?;
+    let variables = variables_of(alloc, row)?;
+    let os = ScriptedSystem::new(alloc, scene);
+    Ok(asked_for_list(alloc, os, &base, source, &program, &variables))
+}
+
 /// The words of the calls that ask for a list, and what came of it; with `show spawns` what was started, too.
 pub fn lists(alloc: Global, row: &Row<'_>, scene: &Scene<'_>) -> Result<String, RowFault> {
-    let base = Text::from_str(alloc, row.text("base").unwrap_or(""))?;
-    let program = Program {
-        interface: Interface::Atf,
-        path: Text::from_str(alloc, "d/p")?,
-        suite: Text::from_str(alloc, "s")?,
-        props: Props::new(alloc),
-    };
-    let os = ScriptedSystem::new(alloc, scene);
-    let (os, listing) = listed(
-        alloc,
-        os,
-        &base,
-        Text::from_str(alloc, "/t")?,
-        &program,
-        &variables_of(alloc, row)?,
-    )?;
-    let mut out = words(alloc, os.log.as_str())?;
+    let listed = listed_by(alloc, row, scene)?;
+    let mut out = words(alloc, listed.os.log.as_str())?;
     if row.text("show") == Some("spawns") {
-        push_line(&mut out, os.spawned.as_str().trim())?;
+        push_line(&mut out, listed.os.spawned.as_str().trim())?;
     }
-    match &listing {
-        None => push_line(&mut out, "no driver")?,
-        Some(listing) => push_line(&mut out, listing_text(alloc, listing)?.as_str())?,
-    }
+    push_listing(alloc, &mut out, &listed.listing)?;
     Ok(out)
 }
 

@@ -20,24 +20,37 @@ fn shortage(alloc: Global) -> Result<NoMemory, RowFault> {
     }
 }
 
+/// Tells a fault that memory has.
+fn tell_shortage<W: Write>(fault: &str, shortage: NoMemory, out: &mut W) -> Exit {
+    match fault {
+        "driver no-memory" => tell_driver_fault(DriverFault::NoMemory(shortage), out),
+        "store no-memory" => tell_store_fault(StoreFault::from(shortage), out),
+        _ => tell_command_fault(&CommandFault::from(shortage), out),
+    }
+}
+
+/// The fault of a command line.
+fn command_fault(alloc: Global, fault: &str) -> Result<CommandFault, RowFault> {
+    match fault {
+        "words bad-kind" => Ok(CommandFault::BadKind),
+        "words bad-run" => Ok(CommandFault::BadRun),
+        "words usage" => Ok(CommandFault::Usage(Text::from_str(alloc, "Usage: kyua\n")?)),
+        _ => Err(RowFault::Misspelled("there is no such fault")),
+    }
+}
+
 fn tell<W: Write>(alloc: Global, fault: &str, out: &mut W) -> Result<Exit, RowFault> {
     match fault {
-        "driver no-memory" => Ok(tell_driver_fault(DriverFault::NoMemory(shortage(alloc)?), out)),
-        "driver no-work-directory" => Ok(tell_driver_fault(DriverFault::NoWorkDirectory, out)),
-        "store failed" => Ok(tell_store_fault(
-            StoreFault::from(Error::SqliteFailure(ErrorCode::SystemIoFailure)),
-            out,
-        )),
-        "store no-memory" => Ok(tell_store_fault(StoreFault::from(shortage(alloc)?), out)),
-        "store unknown-schema" => Ok(tell_store_fault(StoreFault::UnknownSchema, out)),
-        "words no-memory" => Ok(tell_command_fault(&CommandFault::from(shortage(alloc)?), out)),
-        "words bad-kind" => Ok(tell_command_fault(&CommandFault::BadKind, out)),
-        "words bad-run" => Ok(tell_command_fault(&CommandFault::BadRun, out)),
-        "words usage" => {
-            let usage = CommandFault::Usage(Text::from_str(alloc, "Usage: kyua\n")?);
-            Ok(tell_command_fault(&usage, out))
+        "driver no-memory" | "store no-memory" | "words no-memory" => {
+            Ok(tell_shortage(fault, shortage(alloc)?, out))
         }
-        _ => Err(RowFault::Misspelled("there is no such fault")),
+        "driver no-work-directory" => Ok(tell_driver_fault(DriverFault::NoWorkDirectory, out)),
+        "store failed" => {
+            let failure = Error::SqliteFailure(ErrorCode::SystemIoFailure);
+            Ok(tell_store_fault(StoreFault::from(failure), out))
+        }
+        "store unknown-schema" => Ok(tell_store_fault(StoreFault::UnknownSchema, out)),
+        _ => Ok(tell_command_fault(&command_fault(alloc, fault)?, out)),
     }
 }
 

@@ -55,36 +55,49 @@ fn push_given(out: &mut String, options: &CaseOptions) -> Result<(), RowFault> {
     push_values(out, "filter", options.filters.as_slice())
 }
 
+/// Appends the name of a command over test cases, its places, its results file if it has one, and what it is given.
+fn push_cases(
+    out: &mut String,
+    name: &str,
+    options: &CaseOptions,
+    results: Option<&Text>,
+) -> Result<(), RowFault> {
+    out.push_str(name)?;
+    push_places(out, options)?;
+    if let Some(results) = results {
+        push_value(out, "results", results)?;
+    }
+    push_given(out, options)
+}
+
+fn push_report(
+    alloc: Global,
+    out: &mut String,
+    run: Option<u64>,
+    kinds: &[Kind],
+    verbose: bool,
+) -> Result<(), RowFault> {
+    out.push_str("report")?;
+    push_run(alloc, out, run)?;
+    push_kinds(out, kinds)?;
+    if verbose {
+        out.push_str(", verbose")?;
+    }
+    Ok(())
+}
+
 fn push_command(alloc: Global, out: &mut String, command: &Command) -> Result<(), RowFault> {
     match command {
-        Command::List(options) => {
-            out.push_str("list ")?;
-            push_places(out, options)?;
-            push_given(out, options)
-        }
-        Command::Test { options, results } => {
-            out.push_str("test ")?;
-            push_places(out, options)?;
-            push_value(out, "results", results)?;
-            push_given(out, options)
-        }
-        Command::Debug(options) => {
-            out.push_str("debug ")?;
-            push_places(out, options)?;
-            push_given(out, options)
-        }
+        Command::List(options) => push_cases(out, "list ", options, None),
+        Command::Test { options, results } => push_cases(out, "test ", options, Some(results)),
+        Command::Debug(options) => push_cases(out, "debug ", options, None),
         Command::Report {
             results,
             run,
             kinds,
             verbose,
         } => {
-            out.push_str("report")?;
-            push_run(alloc, out, *run)?;
-            push_kinds(out, kinds.as_slice())?;
-            if *verbose {
-                out.push_str(", verbose")?;
-            }
+            push_report(alloc, out, *run, kinds.as_slice(), *verbose)?;
             push_value(out, "results", results)
         }
         Command::ReportJunit { results, run } => {
