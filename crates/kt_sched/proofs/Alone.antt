@@ -13,7 +13,7 @@ use Rattle.kt_sched.specs.History.{history, is_whole, has_whole_history, is_acti
 use Rattle.kt_sched.specs.TurnOrder.{turns}
 use Rattle.kt_sched.specs.ScheduleRules.{owed, IsQuiet, AloneAtStart}
 use Rattle.kt_sched.specs.Fed.{Fed}
-use Rattle.kt_sched.specs.Board.{Board, Stands, IsOrdinary, is_active_stage, is_fresh}
+use Rattle.kt_sched.specs.SchedState.{SchedState, Stands, IsOrdinary, is_active_stage, is_fresh}
 use Rattle.kt_sched.proofs.Lists.{counted_none, count-cons}
 use Rattle.kt_sched.proofs.Turns.{turn_covers, turn_sorted}
 use Rattle.kt_sched.proofs.Stages.{turn_at, at_turn, active_is, stage_active, marks_active}
@@ -23,7 +23,7 @@ one_is : {X : Type 0} (x y : X) → Some x ≡ Some y → x ≡ y
 one_is x y e = cc
 
 -- the job that a case keeps until it is taken
-pub job_kept : (plan : List Job) (n : ℕ) (fed : Fed) (b : Board) (i : ℕ) (job : Job) (c : Case) → Stands plan n fed b → slice_get plan i ≡ Some job → slice_get b.cases i ≡ Some c → is_fresh c.stage ≡ true → c.job ≡ job
+pub job_kept : (plan : List Job) (n : ℕ) (fed : Fed) (b : SchedState) (i : ℕ) (job : Job) (c : Case) → Stands plan n fed b → slice_get plan i ≡ Some job → slice_get b.cases i ≡ Some c → is_fresh c.stage ≡ true → c.job ≡ job
 job_kept plan n fed b i job c h g k w =
     let s = h.cases i job g in
     let e : s.case ≡ c = cc in
@@ -48,7 +48,7 @@ over_stage (Cleaning x) w e = absurd (cc)
 over_stage (Finished t) w e = refl
 over_stage Taken w e = refl
 
-begun_whole : (plan : List Job) (n : ℕ) (fed : Fed) (b : Board) → Stands plan n fed b → b.active ≡ 0 → (i k : ℕ) (job : Job) → slice_get plan i ≡ Some job → slice_get b.order k ≡ Some i → k < b.turn → has_whole_history fed.trace job ≡ true
+begun_whole : (plan : List Job) (n : ℕ) (fed : Fed) (b : SchedState) → Stands plan n fed b → b.active ≡ 0 → (i k : ℕ) (job : Job) → slice_get plan i ≡ Some job → slice_get b.order k ≡ Some i → k < b.turn → has_whole_history fed.trace job ≡ true
 begun_whole plan n fed b h a i k job g o l =
     let s = h.cases i job g in
     ap (λ j. is_whole job (history j fed.trace)) (h.is_plan.placed i job g)
@@ -64,7 +64,7 @@ earlier : (plan : List Job) (k l : ℕ) (a b : Job) → slice_get (turns plan) k
 earlier plan k l a b g h e f (inl x) = x
 earlier plan k l a b g h e f (inr x) = absurd (cc (turn_sorted plan k l a b g h x e, f))
 
-quiet_each : (plan : List Job) (n : ℕ) (fed : Fed) (b : Board) (i : ℕ) (job : Job) → Stands plan n fed b → slice_get b.order b.turn ≡ Some i → slice_get plan i ≡ Some job → job.exclusive ≡ true → b.active ≡ 0 → (k : ℕ) (j : Job) → slice_get plan k ≡ Some j → (v : Bool) → j.exclusive ≡ v → (v || has_whole_history fed.trace j) ≡ true
+quiet_each : (plan : List Job) (n : ℕ) (fed : Fed) (b : SchedState) (i : ℕ) (job : Job) → Stands plan n fed b → slice_get b.order b.turn ≡ Some i → slice_get plan i ≡ Some job → job.exclusive ≡ true → b.active ≡ 0 → (k : ℕ) (j : Job) → slice_get plan k ≡ Some j → (v : Bool) → j.exclusive ≡ v → (v || has_whole_history fed.trace j) ≡ true
 quiet_each plan n fed b i job h o g e a k j x true q = refl
 quiet_each plan n fed b i job h o g e a k j x false q =
     let c = turn_covers plan k j x in
@@ -73,17 +73,17 @@ quiet_each plan n fed b i job h o g e a k j x false q =
     let l : slice_get b.order c.0 ≡ Some k = at_turn plan b.order c.0 j h.walk c.1 ∙ ap Some (h.is_plan.placed k j x) in
     begun_whole plan n fed b h a k c.0 j x l (earlier plan b.turn c.0 t.job j t.turn c.1 (ap (λ (y : Job). y.exclusive) same ∙ e) q (cases_lt c.0 b.turn))
 
-quiet_start : (plan : List Job) (n : ℕ) (fed : Fed) (b : Board) (i : ℕ) (job : Job) → Stands plan n fed b → slice_get b.order b.turn ≡ Some i → slice_get plan i ≡ Some job → job.exclusive ≡ true → b.active ≡ 0 → IsQuiet plan fed.trace
+quiet_start : (plan : List Job) (n : ℕ) (fed : Fed) (b : SchedState) (i : ℕ) (job : Job) → Stands plan n fed b → slice_get b.order b.turn ≡ Some i → slice_get plan i ≡ Some job → job.exclusive ≡ true → b.active ≡ 0 → IsQuiet plan fed.trace
 quiet_start plan n fed b i job h o g e a =
     (active_is plan n fed b h ∙ a, list_all_of (λ (j : Job). j.exclusive || has_whole_history fed.trace j) plan (λ k j x. quiet_each plan n fed b i job h o g e a k j x j.exclusive refl))
 
 -- the job that may start is ordinary
-turn_ordinary : (plan : List Job) (n : ℕ) (fed : Fed) (b : Board) (i : ℕ) (job : Job) → Stands plan n fed b → slice_get b.order b.turn ≡ Some i → slice_get plan i ≡ Some job → IsOrdinary b.cases i → job.exclusive ≡ false
+turn_ordinary : (plan : List Job) (n : ℕ) (fed : Fed) (b : SchedState) (i : ℕ) (job : Job) → Stands plan n fed b → slice_get b.order b.turn ≡ Some i → slice_get plan i ≡ Some job → IsOrdinary b.cases i → job.exclusive ≡ false
 turn_ordinary plan n fed b i job h o g x =
     ap (λ (j : Job). j.exclusive) (sym (job_kept plan n fed b i job x.0 h g x.1 (h.waiting b.turn i x.0 o x.1 (omega arith)))) ∙ x.2
 
 -- where a body may start, no exclusive case is active
-pub none_lonely : (plan : List Job) (n : ℕ) (fed : Fed) (b : Board) (i : ℕ) (job : Job) → Stands plan n fed b → slice_get b.order b.turn ≡ Some i → slice_get plan i ≡ Some job → (b.active ≡ 0 ⊎ IsOrdinary b.cases i) → (k : ℕ) (j : Job) (c : Case) → slice_get plan k ≡ Some j → slice_get b.cases k ≡ Some c → j.exclusive ≡ true → is_active_stage c.stage ≡ true → ⊥
+pub none_lonely : (plan : List Job) (n : ℕ) (fed : Fed) (b : SchedState) (i : ℕ) (job : Job) → Stands plan n fed b → slice_get b.order b.turn ≡ Some i → slice_get plan i ≡ Some job → (b.active ≡ 0 ⊎ IsOrdinary b.cases i) → (k : ℕ) (j : Job) (c : Case) → slice_get plan k ≡ Some j → slice_get b.cases k ≡ Some c → j.exclusive ≡ true → is_active_stage c.stage ≡ true → ⊥
 none_lonely plan n fed b i job h o g (inl a) k j c x y e v = absurd (cc (counted_none (λ (d : Case). is_active_stage d.stage) b.cases k c (sym h.active ∙ a) y, v))
 none_lonely plan n fed b i job h o g (inr w) k j c x y e v =
     let t = turn_at plan b.order b.turn i h.is_plan h.walk o in
@@ -93,19 +93,19 @@ none_lonely plan n fed b i job h o g (inr w) k j c x y e v =
     let r = earlier plan u.0 b.turn j t.job u.1 t.turn e (ap (λ (z : Job). z.exclusive) same ∙ turn_ordinary plan n fed b i job h o g w) (cases_lt b.turn u.0) in
     absurd (cc (fresh_inactive c.stage (h.waiting u.0 k c l y (omega (arith, r))), v))
 
-pub none_else : (plan : List Job) (n : ℕ) (fed : Fed) (b : Board) (i : ℕ) (job : Job) → Stands plan n fed b → slice_get b.order b.turn ≡ Some i → slice_get plan i ≡ Some job → (b.active ≡ 0 ⊎ IsOrdinary b.cases i) → job.exclusive ≡ true → b.active ≡ 0
+pub none_else : (plan : List Job) (n : ℕ) (fed : Fed) (b : SchedState) (i : ℕ) (job : Job) → Stands plan n fed b → slice_get b.order b.turn ≡ Some i → slice_get plan i ≡ Some job → (b.active ≡ 0 ⊎ IsOrdinary b.cases i) → job.exclusive ≡ true → b.active ≡ 0
 none_else plan n fed b i job h o g (inl a) e = a
 none_else plan n fed b i job h o g (inr w) e = absurd (cc (turn_ordinary plan n fed b i job h o g w, e))
 
 -- an active case of the trace is one of the state
-pub active_at : (plan : List Job) (n : ℕ) (fed : Fed) (b : Board) (k : ℕ) (j : Job) (c : Case) → Stands plan n fed b → slice_get plan k ≡ Some j → slice_get b.cases k ≡ Some c → is_active fed.trace j ≡ is_active_stage c.stage
+pub active_at : (plan : List Job) (n : ℕ) (fed : Fed) (b : SchedState) (k : ℕ) (j : Job) (c : Case) → Stands plan n fed b → slice_get plan k ≡ Some j → slice_get b.cases k ≡ Some c → is_active fed.trace j ≡ is_active_stage c.stage
 active_at plan n fed b k j c h g x =
     let s = h.cases k j g in
     let e : s.case ≡ c = cc in
     ap (λ (i : ℕ). marks_active j (history i fed.trace)) (h.is_plan.placed k j g)
     ∙ (stage_active k j s.case.stage (of k fed.trace) s.stage ∙ ap (λ (d : Case). is_active_stage d.stage) e)
 
-pub alone_body : (plan : List Job) (n : ℕ) (fed : Fed) (b : Board) (i : ℕ) → Stands plan n fed b → slice_get b.order b.turn ≡ Some i → (b.active ≡ 0 ⊎ IsOrdinary b.cases i) → AloneAtStart plan fed.trace i Body
+pub alone_body : (plan : List Job) (n : ℕ) (fed : Fed) (b : SchedState) (i : ℕ) → Stands plan n fed b → slice_get b.order b.turn ≡ Some i → (b.active ≡ 0 ⊎ IsOrdinary b.cases i) → AloneAtStart plan fed.trace i Body
 alone_body plan n fed b i h o w = record {
   quiet = λ job g e r. quiet_start plan n fed b i job h o g e (none_else plan n fed b i job h o g w e);
   own = λ job k g e a.
@@ -126,7 +126,7 @@ counted_two p (z ∷ zs) zero (suc k) x y g e f u d = omega (arith, count-cons p
 counted_two p (z ∷ zs) (suc i) zero x y g e f u d = omega (arith, count-cons p z zs, ap (λ (b : Bool). cond {A = ℕ} b 1 0) (ap p (one_is z y f) ∙ u), counted_one p zs i x g e)
 counted_two p (z ∷ zs) (suc i) (suc k) x y g e f u d = omega (arith, count-cons p z zs, counted_two p zs i k x y g e f u (λ q. d (ap suc q)))
 
-pub alone_cleanup : (plan : List Job) (n : ℕ) (fed : Fed) (b : Board) (i : ℕ) → Stands plan n fed b → owed plan fed.trace ≡ Some i → AloneAtStart plan fed.trace i Cleanup
+pub alone_cleanup : (plan : List Job) (n : ℕ) (fed : Fed) (b : SchedState) (i : ℕ) → Stands plan n fed b → owed plan fed.trace ≡ Some i → AloneAtStart plan fed.trace i Cleanup
 alone_cleanup plan n fed b i h o = record {
   quiet = λ job g e r. absurd (cc (r));
   own = λ job k g e a.

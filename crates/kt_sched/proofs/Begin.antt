@@ -16,7 +16,7 @@ use Rattle.kt_sched.specs.RecordOrder.{is_open, recorded}
 use Rattle.kt_sched.specs.Plan.{IsPlan}
 use Rattle.kt_sched.specs.Fed.{nothing_fed}
 use Rattle.kt_sched.specs.Cases.{since, RunsSince}
-use Rattle.kt_sched.specs.Board.{Board, Stands, IsStage, is_active_stage, is_fresh, first_case, first_stage, stage_runs, positions, opened, is_undecided, HasStarted}
+use Rattle.kt_sched.specs.SchedState.{SchedState, Stands, IsStage, is_active_stage, is_fresh, first_case, first_stage, stage_runs, positions, opened, is_undecided, HasStarted}
 use Rattle.kt_sched.proofs.Lists.{count-cons}
 use Rattle.kt_sched.proofs.Decided.{drop_zero}
 use Rattle.kt_sched.proofs.Steps.{put_at_positions}
@@ -72,7 +72,7 @@ all_idle plan i c g = let w = all_first plan i c g in ap (λ (d : Case). is_acti
 all_free : (plan : List Job) (i : ℕ) (c : Case) → slice_get (map first_case plan) i ≡ Some c → (x : _) → c.stage ≢ Owing x
 all_free plan i c g x e = let w = all_first plan i c g in not_owing w.0.decided x (ap (λ (d : Case). d.stage) (sym w.1) ∙ e)
 
-first_case_stands : (plan : List Job) (i : ℕ) (job : Job) → slice_get plan i ≡ Some job → Rattle.kt_sched.specs.Board.CaseStands NoEvent i job (map first_case plan)
+first_case_stands : (plan : List Job) (i : ℕ) (job : Job) → slice_get plan i ≡ Some job → Rattle.kt_sched.specs.SchedState.CaseStands NoEvent i job (map first_case plan)
 first_case_stands plan i job g = record { case = first_case job; found = waiting_at plan i job g; stage = first_stands i job job.decided refl; kept = λ t. refl }
 
 first_started : (plan : List Job) → HasStarted plan NoEvent 0

@@ -10,13 +10,13 @@ use Rattle.kt_sched.specs.declared.next.Next.TheVariants as next
 use Rattle.kt_sched.specs.declared.stage.Stage.{Stage}
 use Rattle.kt_sched.specs.declared.stage.Stage.TheVariants.{Waiting, Decided, Running, Owing, Cleaning, Finished, Taken}
 use Rattle.kt_sched.specs.declared.case.Case.{Case}
-use Rattle.kt_sched.specs.declared.tale.Tale.{Tale}
+use Rattle.kt_sched.specs.declared.case_record.CaseRecord.{CaseRecord}
 use Rattle.kt_sched.specs.Children.{same_role}
 use Rattle.kt_sched.specs.Trace.{Event, Start, End, Trace, Then, of}
 use Rattle.kt_sched.specs.ScheduleRules.{owed, declares}
 use Rattle.kt_sched.specs.Fed.{Fed}
-use Rattle.kt_sched.specs.Board.{Board, Stands, IsStage, is_active_stage, is_fresh, stage_work, listed}
-use Rattle.kt_sched.specs.Cases.{Replaced, plain_tale, ended_body, unless, since, RunsSince, Declares}
+use Rattle.kt_sched.specs.SchedState.{SchedState, Stands, IsStage, is_active_stage, is_fresh, stage_work, listed}
+use Rattle.kt_sched.specs.Cases.{Replaced, plain_record, ended_body, unless, since, RunsSince, Declares}
 use Rattle.kt_sched.specs.declared.ended_body.EndedBody.{EndedBody}
 use Rattle.kt_sched.proofs.Choice.{nothing_opened}
 use Rattle.kt_sched.proofs.Steps.{is_over}
@@ -24,7 +24,7 @@ use Rattle.kt_sched.proofs.EventSteps.{some_same}
 use Rattle.kt_sched.proofs.Events.{After, stands_event}
 use Rattle.kt_sched.proofs.Located.{located, asked_as, no_owing}
 use Rattle.kt_sched.proofs.Turning.{starts_same, stays_over}
-use Rattle.kt_sched.proofs.Telling.{told_plain, finished_as}
+use Rattle.kt_sched.proofs.FinishedCases.{told_plain, finished_as}
 use Rattle.kt_sched.proofs.Finishing.{finish}
 
 pub running_since_is : (was : Stage) (m : ℕ) → since was ≡ Some m → was ≡ Running m
@@ -50,7 +50,7 @@ owed_by plan T e job b g r c =
     ap (λ (y : Role). if same_role y Body && declares plan e.position then Some e.position else None) r
     ∙ ap (λ x. if x then Some e.position else None) (declares_is plan e.position job g ∙ c)
 
-pub body_finished : (plan : List Job) (n : ℕ) (fed : Fed) (b : Board) (e : Ended) (m : ℕ) (rd : Option ℕ) (cs : List Case) (was : Stage) (t : Tale) → Stands plan n fed b → b.asked ≡ next.Wait → e.role ≡ Body → RunsSince b.cases e.position m → Declares b.cases e.position false → t ≡ plain_tale m e → Replaced b.cases cs e.position (Finished t) was → rd ≡ unless b.failed e.position → After plan n fed b ((End e)) (record { cases = cs; order = b.order; turn = b.turn; active = b.active - 1; width = b.width; pending = None; ready = rd; asked = next.Done; failed = b.failed })
+pub body_finished : (plan : List Job) (n : ℕ) (fed : Fed) (b : SchedState) (e : Ended) (m : ℕ) (rd : Option ℕ) (cs : List Case) (was : Stage) (t : CaseRecord) → Stands plan n fed b → b.asked ≡ next.Wait → e.role ≡ Body → RunsSince b.cases e.position m → Declares b.cases e.position false → t ≡ plain_record m e → Replaced b.cases cs e.position (Finished t) was → rd ≡ unless b.failed e.position → After plan n fed b ((End e)) (record { cases = cs; order = b.order; turn = b.turn; active = b.active - 1; width = b.width; pending = None; ready = rd; asked = next.Done; failed = b.failed })
 body_finished plan n fed b e m rd cs was t h q x v c u r z =
     let i = e.position in
     let a = asked_as b next.Wait q h.asked in
@@ -62,10 +62,10 @@ body_finished plan n fed b e m rd cs was t h q x v c u r z =
     let t2 = subst P w l.stands in
     let s : of i fed.trace ≡ Start i Body (told.Started m) ∷ [] = t2.0 in
     finish plan n fed b (End e) i l.job r.job was t cs rd h l.place k refl r.found r.changed (ap is_active_stage w) (ap is_over w)
-    (finished_as i l.job t (plain_tale m e) (of i fed.trace ++ End e ∷ []) _ (told_plain i l.job e m x d t2.1) u (ap (λ (es : List Event). es ++ End e ∷ []) s))
+    (finished_as i l.job t (plain_record m e) (of i fed.trace ++ End e ∷ []) _ (told_plain i l.job e m x d t2.1) u (ap (λ (es : List Event). es ++ End e ∷ []) s))
     refl (owed_by plan fed.trace e l.job false l.place x d) a.0 (λ j g o y. no_owing plan n fed b h a.1 j g o) (running_begun was m w) z (λ y. nothing_opened plan n fed b h a.0 a.3 y)
 
-pub body_owes : (plan : List Job) (n : ℕ) (fed : Fed) (b : Board) (e : Ended) (m : ℕ) (cs : List Case) (was : Stage) (body : EndedBody) → Stands plan n fed b → b.asked ≡ next.Wait → e.role ≡ Body → RunsSince b.cases e.position m → Declares b.cases e.position true → body ≡ ended_body m e → Replaced b.cases cs e.position (Owing body) was → After plan n fed b ((End e)) (record { cases = cs; order = b.order; turn = b.turn; active = b.active; width = b.width; pending = Some e.position; ready = b.ready; asked = next.Done; failed = b.failed })
+pub body_owes : (plan : List Job) (n : ℕ) (fed : Fed) (b : SchedState) (e : Ended) (m : ℕ) (cs : List Case) (was : Stage) (body : EndedBody) → Stands plan n fed b → b.asked ≡ next.Wait → e.role ≡ Body → RunsSince b.cases e.position m → Declares b.cases e.position true → body ≡ ended_body m e → Replaced b.cases cs e.position (Owing body) was → After plan n fed b ((End e)) (record { cases = cs; order = b.order; turn = b.turn; active = b.active; width = b.width; pending = Some e.position; ready = b.ready; asked = next.Done; failed = b.failed })
 body_owes plan n fed b e m cs was body h q x v c u r =
     let i = e.position in
     let a = asked_as b next.Wait q h.asked in

@@ -20,7 +20,7 @@ use Rattle.kt_sched.specs.ScheduleRules.{IsBusy}
 use Rattle.kt_sched.specs.RecordOrder.{recorded}
 use Rattle.kt_sched.specs.Fed.{Fed, has_failed, role_runs, runs}
 use Rattle.kt_sched.specs.Next.{IsNext}
-use Rattle.kt_sched.specs.Board.{Board, Stands, IsStage, is_active_stage, IsChosen, IsHeld, IsSettled, IsOrdinary, listed, positions, opened, run_of, room_in, is_decided, is_undecided}
+use Rattle.kt_sched.specs.SchedState.{SchedState, Stands, IsStage, is_active_stage, IsChosen, IsHeld, IsSettled, IsOrdinary, listed, positions, opened, run_of, room_in, is_decided, is_undecided}
 use Rattle.kt_sched.proofs.Lists.{slice_get-drop, within_some, counted_some, counted_none}
 use Rattle.kt_sched.proofs.Turns.{some_is, turn_sorted, turn_inside}
 use Rattle.kt_sched.proofs.Alone.{job_kept, alone_body}
@@ -30,10 +30,10 @@ use Rattle.kt_sched.proofs.Upcoming.{length_map, next_is, next_at, next_later, u
 abbrev pub Held : List Job → Trace → Option Job → Type 0
 Held plan T o = MatchOption o ⊤ (λ job. (job.exclusive ≡ true) × (0 < active plan T))
 
-pub order_length : (plan : List Job) (n : ℕ) (fed : Fed) (b : Board) → Stands plan n fed b → length b.order ≡ length (turns plan)
+pub order_length : (plan : List Job) (n : ℕ) (fed : Fed) (b : SchedState) → Stands plan n fed b → length b.order ≡ length (turns plan)
 order_length plan n fed b h = ap (λ (xs : List ℕ). length xs) h.walk ∙ length_map (λ (job : Job). job.position) (turns plan)
 
-pub busy_where_held : (plan : List Job) (n : ℕ) (fed : Fed) (b : Board) → Stands plan n fed b → has_failed fed ≡ false → IsHeld b → IsBusy plan n fed.trace
+pub busy_where_held : (plan : List Job) (n : ℕ) (fed : Fed) (b : SchedState) → Stands plan n fed b → has_failed fed ≡ false → IsHeld b → IsBusy plan n fed.trace
 busy_where_held plan n fed b h f (inl e) = absurd (cc (h.failed))
 busy_where_held plan n fed b h f (inr (inl e)) =
     let d : drop b.turn (turns plan) ≡ [] = drop_of_length-le (turns plan) (omega (arith, e, order_length plan n fed b h)) in
@@ -51,11 +51,11 @@ busy_where_held plan n fed b h f (inr (inr (inr e))) = inr (by (next_to_start pl
         let m = next_later plan n fed b job h q in
         (turn_sorted plan b.turn (b.turn + m.0) t.job job t.turn m.1 (omega arith) (ap (λ (j : Job). j.exclusive) (sym k) ∙ x.2), omega (arith, e.0, active_is plan n fed b h))
 
-pub not_failed : (plan : List Job) (n : ℕ) (fed : Fed) (b : Board) (i : ℕ) → Stands plan n fed b → b.ready ≡ Some i → (v : Bool) → b.failed ≡ v → has_failed fed ≡ false
+pub not_failed : (plan : List Job) (n : ℕ) (fed : Fed) (b : SchedState) (i : ℕ) → Stands plan n fed b → b.ready ≡ Some i → (v : Bool) → b.failed ≡ v → has_failed fed ≡ false
 not_failed plan n fed b i h e true f = absurd (cc (h.stopped f, e))
 not_failed plan n fed b i h e false f = sym h.failed ∙ f
 
-pub role_of_active : (plan : List Job) (n : ℕ) (fed : Fed) (b : Board) → Stands plan n fed b → b.pending ≡ None → (i : ℕ) (job : Job) (c : Case) → slice_get b.cases i ≡ Some c → (stage : Stage) → c.stage ≡ stage → IsStage i job stage (of i fed.trace) → is_active_stage stage ≡ true → (j : ℕ) × (role : Role) × (runs j role fed.trace ≡ true)
+pub role_of_active : (plan : List Job) (n : ℕ) (fed : Fed) (b : SchedState) → Stands plan n fed b → b.pending ≡ None → (i : ℕ) (job : Job) (c : Case) → slice_get b.cases i ≡ Some c → (stage : Stage) → c.stage ≡ stage → IsStage i job stage (of i fed.trace) → is_active_stage stage ≡ true → (j : ℕ) × (role : Role) × (runs j role fed.trace ≡ true)
 role_of_active plan n fed b h p i job c g Waiting k s a = absurd (cc)
 role_of_active plan n fed b h p i job c g Decided k s a = absurd (cc)
 role_of_active plan n fed b h p i job c g (Running m) k s a = (i, Body, ap (λ (es : List Event). role_runs Body (map mark_of es)) s.0)
@@ -65,7 +65,7 @@ role_of_active plan n fed b h p i job c g (Cleaning o) k s a =
 role_of_active plan n fed b h p i job c g (Finished t) k s a = absurd (cc)
 role_of_active plan n fed b h p i job c g Taken k s a = absurd (cc)
 
-pub something_runs : (plan : List Job) (n : ℕ) (fed : Fed) (b : Board) → Stands plan n fed b → b.pending ≡ None → 0 < b.active → (i : ℕ) × (role : Role) × (runs i role fed.trace ≡ true)
+pub something_runs : (plan : List Job) (n : ℕ) (fed : Fed) (b : SchedState) → Stands plan n fed b → b.pending ≡ None → 0 < b.active → (i : ℕ) × (role : Role) × (runs i role fed.trace ≡ true)
 something_runs plan n fed b h p a =
     let w = counted_some (λ (c : Case). is_active_stage c.stage) b.cases (omega (arith, h.active)) in
     let j = within_some plan w.0 (omega (arith, slice_get_within b.cases w.0 w.1 w.2, h.count)) in
@@ -73,7 +73,7 @@ something_runs plan n fed b h p a =
     let e : s.case ≡ w.1 = cc in
     role_of_active plan n fed b h p w.0 j.0 s.case s.found s.case.stage refl s.stage (ap (λ (c : Case). is_active_stage c.stage) e ∙ w.3)
 
-pub nothing_runs : (plan : List Job) (n : ℕ) (fed : Fed) (b : Board) → Stands plan n fed b → b.active ≡ 0 → (i : ℕ) (role : Role) → (i < length plan) ⊎ (length plan ≤ i) → runs i role fed.trace ≡ false
+pub nothing_runs : (plan : List Job) (n : ℕ) (fed : Fed) (b : SchedState) → Stands plan n fed b → b.active ≡ 0 → (i : ℕ) (role : Role) → (i < length plan) ⊎ (length plan ≤ i) → runs i role fed.trace ≡ false
 nothing_runs plan n fed b h a i Body (inr g) = ap (λ (es : List Event). role_runs Body (map mark_of es)) (h.beyond i g)
 nothing_runs plan n fed b h a i Cleanup (inr g) = ap (λ (es : List Event). role_runs Cleanup (map mark_of es)) (h.beyond i g)
 nothing_runs plan n fed b h a i role (inl g) =
@@ -82,7 +82,7 @@ nothing_runs plan n fed b h a i role (inl g) =
     inactive_quiet i j.0 role s.case.stage (of i fed.trace) s.stage (counted_none (λ (c : Case). is_active_stage c.stage) b.cases i s.case (sym h.active ∙ a) s.found)
 
 -- where no decided case can be put, none is listed
-pub nothing_opened : (plan : List Job) (n : ℕ) (fed : Fed) (b : Board) → Stands plan n fed b → b.ready ≡ None → IsSettled b → has_failed fed ≡ false → opened plan n b.active b.turn ≡ []
+pub nothing_opened : (plan : List Job) (n : ℕ) (fed : Fed) (b : SchedState) → Stands plan n fed b → b.ready ≡ None → IsSettled b → has_failed fed ≡ false → opened plan n b.active b.turn ≡ []
 nothing_opened plan n fed b h r s f = by (slice_get (turns plan) b.turn) refl
   where
     no_run : (xs : List Job) → ((job : Job) → slice_get xs 0 ≡ Some job → is_decided job ≡ true → room_in b.active n job ≡ true → ⊥) → run_of is_decided (room_in b.active n) xs ≡ []
@@ -118,15 +118,15 @@ nothing_opened plan n fed b h r s f = by (slice_get (turns plan) b.turn) refl
             let same : u.job ≡ job = some_is u.job job (sym u.turn ∙ g) in
             absurd (cc (ap is_some (ap (λ (j : Job). j.decided) (sym same) ∙ u.undecided), d))
 
-pub none_put : (plan : List Job) (n : ℕ) (fed : Fed) (b : Board) → Stands plan n fed b → b.ready ≡ None → IsSettled b → has_failed fed ≡ false → slice_get (recorded plan n fed.trace) fed.stored ≡ None
+pub none_put : (plan : List Job) (n : ℕ) (fed : Fed) (b : SchedState) → Stands plan n fed b → b.ready ≡ None → IsSettled b → has_failed fed ≡ false → slice_get (recorded plan n fed.trace) fed.stored ≡ None
 none_put plan n fed b h e s f =
     slice_get-drop (recorded plan n fed.trace) fed.stored ∙ ap (λ (xs : List ℕ). slice_get xs 0) (h.ready f ∙ (ap (λ o. listed o ++ positions (opened plan n b.active b.turn)) e ∙ ap positions (nothing_opened plan n fed b h e s f)))
 
-pub one_put : (plan : List Job) (n : ℕ) (fed : Fed) (b : Board) (i : ℕ) → Stands plan n fed b → b.ready ≡ Some i → has_failed fed ≡ false → slice_get (recorded plan n fed.trace) fed.stored ≡ Some i
+pub one_put : (plan : List Job) (n : ℕ) (fed : Fed) (b : SchedState) (i : ℕ) → Stands plan n fed b → b.ready ≡ Some i → has_failed fed ≡ false → slice_get (recorded plan n fed.trace) fed.stored ≡ Some i
 one_put plan n fed b i h e f =
     slice_get-drop (recorded plan n fed.trace) fed.stored ∙ ap (λ (xs : List ℕ). slice_get xs 0) (h.ready f ∙ ap (λ o. listed o ++ positions (opened plan n b.active b.turn)) e)
 
-pub is_next : (plan : List Job) (n : ℕ) (fed : Fed) (b : Board) (q : Next) → Stands plan n fed b → IsSettled b → IsChosen b q → IsNext plan n fed q
+pub is_next : (plan : List Job) (n : ℕ) (fed : Fed) (b : SchedState) (q : Next) → Stands plan n fed b → IsSettled b → IsChosen b q → IsNext plan n fed q
 is_next plan n fed b (next.Put i) h s c =
     let f = not_failed plan n fed b i h c b.failed refl in
     (f, one_put plan n fed b i h c f)

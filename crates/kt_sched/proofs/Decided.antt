@@ -8,7 +8,7 @@ use Rattle.kt_sched.specs.Trace.{Trace}
 use Rattle.kt_sched.specs.History.{active}
 use Rattle.kt_sched.specs.TurnOrder.{turns, body_starts}
 use Rattle.kt_sched.specs.RecordOrder.{is_open, is_begun, ahead}
-use Rattle.kt_sched.specs.Board.{run_of, is_decided, room_in}
+use Rattle.kt_sched.specs.SchedState.{run_of, is_decided, room_in}
 use Rattle.kt_sched.proofs.Steps.{same_is, other_is_not}
 use Rattle.kt_sched.proofs.Lists.{filter_none}
 use Rattle.kt_sched.proofs.Turns.{filter_step, Distinct, Placed, tail_distinct, turn_distinct, turn_sorted}

@@ -9,13 +9,13 @@ use Rattle.kt_sched.specs.declared.case.Case.{Case}
 use Rattle.kt_sched.specs.Trace.{Event, Then, position_of, of}
 use Rattle.kt_sched.specs.ScheduleRules.{owed}
 use Rattle.kt_sched.specs.Fed.{Fed, has_failed}
-use Rattle.kt_sched.specs.Board.{Board, Stands, CaseStands, IsStage, is_active_stage, is_fresh, listed, opened, HasStarted, stage_work}
+use Rattle.kt_sched.specs.SchedState.{SchedState, Stands, CaseStands, IsStage, is_active_stage, is_fresh, listed, opened, HasStarted, stage_work}
 use Rattle.kt_sched.proofs.Lists.{slice_get-set_same, slice_get-set_other}
 use Rattle.kt_sched.proofs.Steps.{of_same, of_other, is_over}
 use Rattle.kt_sched.proofs.Recording.{GoesOver}
 
 -- what makes a state one event later
-pub record EventStep (plan : List Job) (n : ℕ) (fed : Fed) (b : Board) (e : Event) (i : ℕ) (job : Job) (old new : Case) (later : Board) : Type 0 where
+pub record EventStep (plan : List Job) (n : ℕ) (fed : Fed) (b : SchedState) (e : Event) (i : ℕ) (job : Job) (old new : Case) (later : SchedState) : Type 0 where
   pub place : slice_get plan i ≡ Some job
   pub of_case : position_of e ≡ i
   pub found : slice_get b.cases i ≡ Some old
@@ -50,7 +50,7 @@ pub record EventStep (plan : List Job) (n : ℕ) (fed : Fed) (b : Board) (e : Ev
 pub get_set : (cs : List Case) (i : ℕ) (old new : Case) → slice_get cs i ≡ Some old → slice_get (slice_set cs i new) i ≡ Some new
 get_set cs i old new g = slice_get-set_same cs i new (slice_get_within cs i old g)
 
-pub case_at : (plan : List Job) (n : ℕ) (fed : Fed) (b : Board) (e : Event) (i : ℕ) (job : Job) (old new : Case) (later : Board) → Stands plan n fed b → EventStep plan n fed b e i job old new later → CaseStands (Then fed.trace e) i job later.cases
+pub case_at : (plan : List Job) (n : ℕ) (fed : Fed) (b : SchedState) (e : Event) (i : ℕ) (job : Job) (old new : Case) (later : SchedState) → Stands plan n fed b → EventStep plan n fed b e i job old new later → CaseStands (Then fed.trace e) i job later.cases
 case_at plan n fed b e i job old new later h s = record {
   case = new;
   found = ap (λ (cs : List Case). slice_get cs i) s.cases ∙ get_set b.cases i old new s.found;
@@ -58,7 +58,7 @@ case_at plan n fed b e i job old new later h s = record {
   kept = λ t. s.kept;
 }
 
-pub case_else : (plan : List Job) (n : ℕ) (fed : Fed) (b : Board) (e : Event) (i : ℕ) (job : Job) (old new : Case) (later : Board) → Stands plan n fed b → EventStep plan n fed b e i job old new later → (k : ℕ) (j : Job) → slice_get plan k ≡ Some j → k ≢ i → CaseStands (Then fed.trace e) k j later.cases
+pub case_else : (plan : List Job) (n : ℕ) (fed : Fed) (b : SchedState) (e : Event) (i : ℕ) (job : Job) (old new : Case) (later : SchedState) → Stands plan n fed b → EventStep plan n fed b e i job old new later → (k : ℕ) (j : Job) → slice_get plan k ≡ Some j → k ≢ i → CaseStands (Then fed.trace e) k j later.cases
 case_else plan n fed b e i job old new later h s k j g d =
     let w = h.cases k j g in
     record {
@@ -71,7 +71,7 @@ case_else plan n fed b e i job old new later h s k j g d =
 pub some_same : {X : Type 0} (x y : X) → Some x ≡ Some y → x ≡ y
 some_same x y e = cc
 
-pub case_any : (plan : List Job) (n : ℕ) (fed : Fed) (b : Board) (e : Event) (i : ℕ) (job : Job) (old new : Case) (later : Board) → Stands plan n fed b → EventStep plan n fed b e i job old new later → (k : ℕ) (j : Job) → slice_get plan k ≡ Some j → (k ≡ i) ⊎ (k ≢ i) → CaseStands (Then fed.trace e) k j later.cases
+pub case_any : (plan : List Job) (n : ℕ) (fed : Fed) (b : SchedState) (e : Event) (i : ℕ) (job : Job) (old new : Case) (later : SchedState) → Stands plan n fed b → EventStep plan n fed b e i job old new later → (k : ℕ) (j : Job) → slice_get plan k ≡ Some j → (k ≡ i) ⊎ (k ≢ i) → CaseStands (Then fed.trace e) k j later.cases
 case_any plan n fed b e i job old new later h s k j g (inl q) =
     let same : job ≡ j = some_same job j (sym s.place ∙ (ap (slice_get plan) (sym q) ∙ g)) in
     subst (λ (m : ℕ). CaseStands (Then fed.trace e) m j later.cases) (sym q)
@@ -79,20 +79,20 @@ case_any plan n fed b e i job old new later h s k j g (inl q) =
 case_any plan n fed b e i job old new later h s k j g (inr q) = case_else plan n fed b e i job old new later h s k j g q
 
 -- a case of the later state is the new one, or one of before
-pub which_case : (plan : List Job) (n : ℕ) (fed : Fed) (b : Board) (e : Event) (i : ℕ) (job : Job) (old new : Case) (later : Board) → EventStep plan n fed b e i job old new later → (k : ℕ) (c : Case) → slice_get later.cases k ≡ Some c → (k ≡ i) ⊎ (k ≢ i) → ((k ≡ i) × (c ≡ new)) ⊎ ((k ≢ i) × (slice_get b.cases k ≡ Some c))
+pub which_case : (plan : List Job) (n : ℕ) (fed : Fed) (b : SchedState) (e : Event) (i : ℕ) (job : Job) (old new : Case) (later : SchedState) → EventStep plan n fed b e i job old new later → (k : ℕ) (c : Case) → slice_get later.cases k ≡ Some c → (k ≡ i) ⊎ (k ≢ i) → ((k ≡ i) × (c ≡ new)) ⊎ ((k ≢ i) × (slice_get b.cases k ≡ Some c))
 which_case plan n fed b e i job old new later s k c g (inl q) =
     inl (q, some_same c new (sym g ∙ (ap (slice_get later.cases) q ∙ (ap (λ (cs : List Case). slice_get cs i) s.cases ∙ get_set b.cases i old new s.found))))
 which_case plan n fed b e i job old new later s k c g (inr q) =
     inr (q, sym (slice_get-set_other b.cases i k new q) ∙ (sym (ap (λ (cs : List Case). slice_get cs k) s.cases) ∙ g))
 
-pub waiting_case : (plan : List Job) (n : ℕ) (fed : Fed) (b : Board) (e : Event) (i : ℕ) (job : Job) (old new : Case) (later : Board) → Stands plan n fed b → EventStep plan n fed b e i job old new later → (m k : ℕ) (c : Case) → slice_get b.order m ≡ Some k → later.turn ≤ m → ((k ≡ i) × (c ≡ new)) ⊎ ((k ≢ i) × (slice_get b.cases k ≡ Some c)) → is_fresh c.stage ≡ true
+pub waiting_case : (plan : List Job) (n : ℕ) (fed : Fed) (b : SchedState) (e : Event) (i : ℕ) (job : Job) (old new : Case) (later : SchedState) → Stands plan n fed b → EventStep plan n fed b e i job old new later → (m k : ℕ) (c : Case) → slice_get b.order m ≡ Some k → later.turn ≤ m → ((k ≡ i) × (c ≡ new)) ⊎ ((k ≢ i) × (slice_get b.cases k ≡ Some c)) → is_fresh c.stage ≡ true
 waiting_case plan n fed b e i job old new later h s m k c o t (inl w) = absurd ((s.ahead m k o t).1 w.0)
 waiting_case plan n fed b e i job old new later h s m k c o t (inr w) = h.waiting m k c o w.1 (s.ahead m k o t).0
 
-pub begun_case : (plan : List Job) (n : ℕ) (fed : Fed) (b : Board) (e : Event) (i : ℕ) (job : Job) (old new : Case) (later : Board) → Stands plan n fed b → EventStep plan n fed b e i job old new later → (m k : ℕ) (c : Case) → slice_get b.order m ≡ Some k → m < later.turn → ((k ≡ i) × (c ≡ new)) ⊎ ((k ≢ i) × (slice_get b.cases k ≡ Some c)) → c.stage ≢ Waiting
+pub begun_case : (plan : List Job) (n : ℕ) (fed : Fed) (b : SchedState) (e : Event) (i : ℕ) (job : Job) (old new : Case) (later : SchedState) → Stands plan n fed b → EventStep plan n fed b e i job old new later → (m k : ℕ) (c : Case) → slice_get b.order m ≡ Some k → m < later.turn → ((k ≡ i) × (c ≡ new)) ⊎ ((k ≢ i) × (slice_get b.cases k ≡ Some c)) → c.stage ≢ Waiting
 begun_case plan n fed b e i job old new later h s m k c o t (inl w) x = s.begins (ap (λ (d : Case). d.stage) (sym w.1) ∙ x)
 begun_case plan n fed b e i job old new later h s m k c o t (inr w) x = h.begun m k c o w.1 (s.behind m k o t w.0) x
 
-pub owing_case : (plan : List Job) (n : ℕ) (fed : Fed) (b : Board) (e : Event) (i : ℕ) (job : Job) (old new : Case) (later : Board) → EventStep plan n fed b e i job old new later → (k : ℕ) (c : Case) (o : _) → c.stage ≡ Owing o → ((k ≡ i) × (c ≡ new)) ⊎ ((k ≢ i) × (slice_get b.cases k ≡ Some c)) → owed plan (Then fed.trace e) ≡ Some k
+pub owing_case : (plan : List Job) (n : ℕ) (fed : Fed) (b : SchedState) (e : Event) (i : ℕ) (job : Job) (old new : Case) (later : SchedState) → EventStep plan n fed b e i job old new later → (k : ℕ) (c : Case) (o : _) → c.stage ≡ Owing o → ((k ≡ i) × (c ≡ new)) ⊎ ((k ≢ i) × (slice_get b.cases k ≡ Some c)) → owed plan (Then fed.trace e) ≡ Some k
 owing_case plan n fed b e i job old new later s k c o x (inl w) = s.owing_new o (ap (λ (d : Case). d.stage) (sym w.1) ∙ x) ∙ ap Some (sym w.0)
 owing_case plan n fed b e i job old new later s k c o x (inr w) = absurd (s.owing_none k c w.1 w.0 o x)

@@ -12,7 +12,7 @@ use Rattle.kt_sched.specs.History.{mark_of, history, is_whole}
 use Rattle.kt_sched.specs.TurnOrder.{turns}
 use Rattle.kt_sched.specs.RecordOrder.{is_open, was_open, recorded}
 use Rattle.kt_sched.specs.Fed.{Fed, has_failed}
-use Rattle.kt_sched.specs.Board.{Board, Stands, CaseStands, IsAsked, is_active_stage, tale_in, listed, positions, opened, stage_work, work}
+use Rattle.kt_sched.specs.SchedState.{SchedState, Stands, CaseStands, IsAsked, is_active_stage, record_in, listed, positions, opened, stage_work, work}
 use Rattle.kt_sched.proofs.Lists.{count_by-set, sum_by-replaced}
 use Rattle.kt_sched.proofs.Alone.{counted_one}
 use Rattle.kt_sched.proofs.Steps.{of_same, of_other, is_over, stage_over, undecided_stage, recorded_more, finished_is}
@@ -23,20 +23,20 @@ use Rattle.kt_sched.proofs.EventSteps.{EventStep, get_set, some_same, case_any, 
 pub drop_more : (xs ys : List ℕ) (k : ℕ) → k ≤ length xs → drop k xs ≡ [] → drop k (xs ++ ys) ≡ ys
 drop_more xs ys k h e = drop-append-le k xs ys h ∙ ap (λ zs. zs ++ ys) e
 
-pub undecided_here : (plan : List Job) (n : ℕ) (fed : Fed) (b : Board) (e : Event) (i : ℕ) (job : Job) (old new : Case) (later : Board) → Stands plan n fed b → EventStep plan n fed b e i job old new later → (job.decided ≡ None) × (is_whole job (history i fed.trace) ≡ false)
+pub undecided_here : (plan : List Job) (n : ℕ) (fed : Fed) (b : SchedState) (e : Event) (i : ℕ) (job : Job) (old new : Case) (later : SchedState) → Stands plan n fed b → EventStep plan n fed b e i job old new later → (job.decided ≡ None) × (is_whole job (history i fed.trace) ≡ false)
 undecided_here plan n fed b e i job old new later h s =
     let w = h.cases i job s.place in
     let o : is_over w.case.stage ≡ false = ap (λ (c : Case). is_over c.stage) (some_same w.case old (sym w.found ∙ s.found)) ∙ s.fresh in
     (undecided_stage i job w.case.stage (of i fed.trace) w.stage o, stage_over i job w.case.stage (of i fed.trace) w.stage ∙ o)
 
-pub new_whole : (plan : List Job) (n : ℕ) (fed : Fed) (b : Board) (e : Event) (i : ℕ) (job : Job) (old new : Case) (later : Board) → EventStep plan n fed b e i job old new later → is_whole job (history i (Then fed.trace e)) ≡ is_over new.stage
+pub new_whole : (plan : List Job) (n : ℕ) (fed : Fed) (b : SchedState) (e : Event) (i : ℕ) (job : Job) (old new : Case) (later : SchedState) → EventStep plan n fed b e i job old new later → is_whole job (history i (Then fed.trace e)) ≡ is_over new.stage
 new_whole plan n fed b e i job old new later s =
     ap (λ (es : List Event). is_whole job (map mark_of es)) (of_same i fed.trace e s.of_case) ∙ stage_over i job new.stage (of i fed.trace ++ e ∷ []) s.stage
 
 abbrev pub opening : List Job → ℕ → Trace → Event → List ℕ
 opening plan n T e = positions (filter (λ (job : Job). is_open plan n (Then T e) job && not (was_open plan n T job)) (turns plan))
 
-pub more_recorded : (plan : List Job) (n : ℕ) (fed : Fed) (b : Board) (e : Event) (i : ℕ) (job : Job) (old new : Case) (later : Board) → Stands plan n fed b → EventStep plan n fed b e i job old new later → recorded plan n (Then fed.trace e) ≡ recorded plan n fed.trace ++ ((if is_over new.stage then i ∷ [] else []) ++ opening plan n fed.trace e)
+pub more_recorded : (plan : List Job) (n : ℕ) (fed : Fed) (b : SchedState) (e : Event) (i : ℕ) (job : Job) (old new : Case) (later : SchedState) → Stands plan n fed b → EventStep plan n fed b e i job old new later → recorded plan n (Then fed.trace e) ≡ recorded plan n fed.trace ++ ((if is_over new.stage then i ∷ [] else []) ++ opening plan n fed.trace e)
 more_recorded plan n fed b e i job old new later h s =
     let u = undecided_here plan n fed b e i job old new later h s in
     recorded_more plan n fed.trace e
@@ -45,7 +45,7 @@ more_recorded plan n fed b e i job old new later h s =
 abbrev pub mk_case : Job → Stage → Case
 mk_case j g = record { job = j; stage = g }
 
-pub lone_case : (plan : List Job) (n : ℕ) (fed : Fed) (b : Board) (e : Event) (i : ℕ) (job : Job) (old new : Case) (later : Board) → Stands plan n fed b → EventStep plan n fed b e i job old new later → later.active ≡ count_by (λ (c : Case). is_active_stage c.stage) later.cases → (k : ℕ) (j : Job) (c : Case) → slice_get plan k ≡ Some j → slice_get later.cases k ≡ Some c → j.exclusive ≡ true → is_active_stage c.stage ≡ true → ((k ≡ i) × (c ≡ new)) ⊎ ((k ≢ i) × (slice_get b.cases k ≡ Some c)) → later.active ≡ 1
+pub lone_case : (plan : List Job) (n : ℕ) (fed : Fed) (b : SchedState) (e : Event) (i : ℕ) (job : Job) (old new : Case) (later : SchedState) → Stands plan n fed b → EventStep plan n fed b e i job old new later → later.active ≡ count_by (λ (c : Case). is_active_stage c.stage) later.cases → (k : ℕ) (j : Job) (c : Case) → slice_get plan k ≡ Some j → slice_get later.cases k ≡ Some c → j.exclusive ≡ true → is_active_stage c.stage ≡ true → ((k ≡ i) × (c ≡ new)) ⊎ ((k ≢ i) × (slice_get b.cases k ≡ Some c)) → later.active ≡ 1
 lone_case plan n fed b e i job old new later h s y k j c x g q a (inl w) = by s.lone
   where
     by : ((is_active_stage new.stage ≡ true → is_active_stage old.stage ≡ true) × (later.active ≤ b.active)) ⊎ (((k : ℕ) (j : Job) (c : Case) → slice_get plan k ≡ Some j → slice_get b.cases k ≡ Some c → j.exclusive ≡ true → is_active_stage c.stage ≡ true → ⊥) × (job.exclusive ≡ true → later.active ≡ 1)) → later.active ≡ 1
@@ -59,7 +59,7 @@ lone_case plan n fed b e i job old new later h s y k j c x g q a (inr w) = by s.
     by (inl z) = omega (arith, h.lone k j c x w.1 q a, z.1, y, counted_one (λ (c : Case). is_active_stage c.stage) later.cases k c g a)
     by (inr z) = absurd (z.0 k j c x w.1 q a)
 
-pub opening_of : (plan : List Job) (n : ℕ) (fed : Fed) (b : Board) (e : Event) (i : ℕ) (job : Job) (old new : Case) (later : Board) → Stands plan n fed b → EventStep plan n fed b e i job old new later → has_failed fed ≡ false → Opening plan n fed.trace e b.turn later.turn
+pub opening_of : (plan : List Job) (n : ℕ) (fed : Fed) (b : SchedState) (e : Event) (i : ℕ) (job : Job) (old new : Case) (later : SchedState) → Stands plan n fed b → EventStep plan n fed b e i job old new later → has_failed fed ≡ false → Opening plan n fed.trace e b.turn later.turn
 opening_of plan n fed b e i job old new later h s f = record {
   is_plan = h.is_plan;
   room = h.room;
@@ -70,7 +70,7 @@ opening_of plan n fed b e i job old new later h s f = record {
   none = ap (λ a. opened plan n a b.turn) (active_is plan n fed b h) ∙ s.none f;
 }
 
-pub stands_step : (plan : List Job) (n : ℕ) (fed : Fed) (b : Board) (e : Event) (i : ℕ) (job : Job) (old new : Case) (later : Board) → Stands plan n fed b → EventStep plan n fed b e i job old new later → Stands plan n (record fed { trace = Then fed.trace e }) later
+pub stands_step : (plan : List Job) (n : ℕ) (fed : Fed) (b : SchedState) (e : Event) (i : ℕ) (job : Job) (old new : Case) (later : SchedState) → Stands plan n fed b → EventStep plan n fed b e i job old new later → Stands plan n (record fed { trace = Then fed.trace e }) later
 stands_step plan n fed b e i job old new later h s =
     let T = fed.trace in
     let p = more_recorded plan n fed b e i job old new later h s in
@@ -97,7 +97,7 @@ stands_step plan n fed b e i job old new later h s =
       owes = λ k x. let w = s.owes_new k x in
           (new.job, w.1.0, ap (slice_get later.cases) w.0 ∙ (ap (λ (cs : List Case). slice_get cs i) s.cases ∙ (get_set b.cases i old new s.found ∙ ap (λ (g : Stage). Some (mk_case new.job g)) w.1.1)));
       told = λ k x y. let w = s.told k x in
-          (new, w.1.0, ap (slice_get later.cases) w.0 ∙ (ap (λ (cs : List Case). slice_get cs i) s.cases ∙ get_set b.cases i old new s.found), ap (tale_in new.job) w.1.1);
+          (new, w.1.0, ap (slice_get later.cases) w.0 ∙ (ap (λ (cs : List Case). slice_get cs i) s.cases ∙ get_set b.cases i old new s.found), ap (record_in new.job) w.1.1);
       ripe = λ k m x o. ripe_one k m x (ap (λ (xs : List ℕ). slice_get xs m) (sym s.same_order) ∙ o) (cases_lt m later.turn);
       gone = λ f. gone_after plan n T e b.turn later.turn (opening_of plan n fed b e i job old new later h s f);
       stored = omega (arith, h.stored, ap (λ (xs : List ℕ). length xs) p, length-append xs (own ++ opening plan n T e));
@@ -130,11 +130,11 @@ stands_step plan n fed b e i job old new later h s =
         omega (arith, x, y, s.active, h.active)
 
 -- a state after one event more, with less work
-pub record After (plan : List Job) (n : ℕ) (fed : Fed) (b : Board) (e : Event) (later : Board) : Type 0 where
+pub record After (plan : List Job) (n : ℕ) (fed : Fed) (b : SchedState) (e : Event) (later : SchedState) : Type 0 where
   pub stands : Stands plan n (record fed { trace = Then fed.trace e }) later
   pub less : work later.cases < work b.cases
 
-pub stands_event : (plan : List Job) (n : ℕ) (fed : Fed) (b : Board) (e : Event) (i : ℕ) (job : Job) (old new : Case) (later : Board) → Stands plan n fed b → EventStep plan n fed b e i job old new later → After plan n fed b e later
+pub stands_event : (plan : List Job) (n : ℕ) (fed : Fed) (b : SchedState) (e : Event) (i : ℕ) (job : Job) (old new : Case) (later : SchedState) → Stands plan n fed b → EventStep plan n fed b e i job old new later → After plan n fed b e later
 stands_event plan n fed b e i job old new later h s =
     let f = λ (c : Case). stage_work c.stage in
     let x : sum_by f (slice_set b.cases i new) + f old ≡ sum_by f b.cases + f new = sum_by-replaced f b.cases i old new s.found in

@@ -6,12 +6,12 @@ use Rattle.kt_sched.specs.declared.next.Next.TheVariants as next
 use Rattle.kt_sched.specs.declared.stage.Stage.{Stage}
 use Rattle.kt_sched.specs.declared.stage.Stage.TheVariants.{Waiting, Decided, Running, Owing, Cleaning, Finished, Taken}
 use Rattle.kt_sched.specs.declared.case.Case.{Case}
-use Rattle.kt_sched.specs.declared.tale.Tale.{Tale}
+use Rattle.kt_sched.specs.declared.case_record.CaseRecord.{CaseRecord}
 use Rattle.kt_sched.specs.Trace.{Event, Then, position_of, of}
 use Rattle.kt_sched.specs.TurnOrder.{body_start_of}
 use Rattle.kt_sched.specs.ScheduleRules.{owed}
 use Rattle.kt_sched.specs.Fed.{Fed, has_failed}
-use Rattle.kt_sched.specs.Board.{Board, Stands, IsStage, is_active_stage, is_fresh, stage_work, listed, opened}
+use Rattle.kt_sched.specs.SchedState.{SchedState, Stands, IsStage, is_active_stage, is_fresh, stage_work, listed, opened}
 use Rattle.kt_sched.specs.Cases.{unless}
 use Rattle.kt_sched.proofs.Steps.{is_over}
 use Rattle.kt_sched.proofs.EventSteps.{some_same}
@@ -33,7 +33,7 @@ active_works (Finished t) e = absurd (cc)
 active_works Taken e = absurd (cc)
 
 -- an event that finishes a case
-pub finish : (plan : List Job) (n : ℕ) (fed : Fed) (b : Board) (e : Event) (i : ℕ) (job had : Job) (was : Stage) (t : Tale) (cs : List Case) (rd : Option ℕ)
+pub finish : (plan : List Job) (n : ℕ) (fed : Fed) (b : SchedState) (e : Event) (i : ℕ) (job had : Job) (was : Stage) (t : CaseRecord) (cs : List Case) (rd : Option ℕ)
     → Stands plan n fed b → slice_get plan i ≡ Some job → had ≡ job → position_of e ≡ i → slice_get b.cases i ≡ Some (record { job = had; stage = was }) → cs ≡ slice_set b.cases i (record { job = had; stage = Finished t })
     → is_active_stage was ≡ true → is_over was ≡ false → IsStage i job (Finished t) (of i fed.trace ++ e ∷ []) → body_start_of e ≡ [] → owed plan (Then fed.trace e) ≡ None → b.ready ≡ None
     → ((k : ℕ) (c : Case) → slice_get b.cases k ≡ Some c → k ≢ i → (o : _) → c.stage ≢ Owing o) → is_fresh was ≡ false → rd ≡ unless b.failed i → (has_failed fed ≡ false → opened plan n b.active b.turn ≡ [])

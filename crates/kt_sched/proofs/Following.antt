@@ -13,7 +13,7 @@ use Rattle.kt_sched.specs.History.{mark_of, history, is_whole}
 use Rattle.kt_sched.specs.ScheduleRules.{owed}
 use Rattle.kt_sched.specs.Fed.{Fed}
 use Rattle.kt_sched.specs.Next.{Follows}
-use Rattle.kt_sched.specs.Board.{Board, Stands, IsAsked, IsUntaken, IsChosen, IsSettled}
+use Rattle.kt_sched.specs.SchedState.{SchedState, Stands, IsAsked, IsUntaken, IsChosen, IsSettled}
 use Rattle.kt_sched.proofs.Lists.{within_some}
 use Rattle.kt_sched.proofs.Upcoming.{upcoming}
 use Rattle.kt_sched.proofs.Choice.{something_runs, nothing_runs, busy_where_held}
@@ -23,7 +23,7 @@ use Rattle.kt_sched.proofs.Located.{located}
 use Rattle.kt_sched.proofs.Words.{owing_history, runs_stage, all_whole, part_whole}
 
 -- a case that is to be started isn't taken
-pub untaken_start : (plan : List Job) (n : ℕ) (fed : Fed) (b : Board) (i : ℕ) (r : Role) → Stands plan n fed b → IsSettled b → IsChosen b (next.Start i r) → IsUntaken b.cases i
+pub untaken_start : (plan : List Job) (n : ℕ) (fed : Fed) (b : SchedState) (i : ℕ) (r : Role) → Stands plan n fed b → IsSettled b → IsChosen b (next.Start i r) → IsUntaken b.cases i
 untaken_start plan n fed b i Body h s c =
     let u = upcoming plan n fed b i h c.0 s c.2 in
     (u.case, u.found, λ x. absurd (cc (u.waits, x)))
@@ -32,7 +32,7 @@ untaken_start plan n fed b i Cleanup h s c =
     (record { job = w.0; stage = Owing w.1 }, w.2, λ t. absurd (cc))
 
 -- what follows of a choice
-pub follows : (plan : List Job) (n : ℕ) (fed : Fed) (b : Board) (q : Next) → Stands plan n fed b → IsSettled b → IsChosen b q → Follows plan fed q
+pub follows : (plan : List Job) (n : ℕ) (fed : Fed) (b : SchedState) (q : Next) → Stands plan n fed b → IsSettled b → IsChosen b q → Follows plan fed q
 follows plan n fed b (next.Put i) h s c = tt
 follows plan n fed b (next.Start i Body) h s c =
     let u = upcoming plan n fed b i h c.0 s c.2 in
@@ -54,21 +54,21 @@ follows plan n fed b next.Done h s c =
     let o : owed plan fed.trace ≡ None = sym h.pending ∙ c.1 in
     (λ i job g. part_whole plan n fed b h o q i job g, λ f. all_whole plan n fed b h o q (busy_where_held plan n fed b h f c.3))
 
-pub asked_for : (b : Board) (q : Next) → IsSettled b → IsChosen b q → ((i : ℕ) → b.ready ≡ Some i → b.failed ≡ false) → IsAsked b q
+pub asked_for : (b : SchedState) (q : Next) → IsSettled b → IsChosen b q → ((i : ℕ) → b.ready ≡ Some i → b.failed ≡ false) → IsAsked b q
 asked_for b (next.Put i) s c f = (f i c, c)
 asked_for b (next.Start i Body) s c f = (c.0, c.1, c.2, s)
 asked_for b (next.Start i Cleanup) s c f = (c.0, c.1, s)
 asked_for b next.Wait s c f = (c.0, c.1, c.2, s)
 asked_for b next.Done s c f = tt
 
-pub not_done : (b : Board) (q : Next) (i : ℕ) → IsChosen b q → b.ready ≡ Some i → q ≢ next.Done
+pub not_done : (b : SchedState) (q : Next) (i : ℕ) → IsChosen b q → b.ready ≡ Some i → q ≢ next.Done
 not_done b (next.Put j) i c e d = absurd (cc)
 not_done b (next.Start j role) i c e d = absurd (cc)
 not_done b next.Wait i c e d = absurd (cc)
 not_done b next.Done i c e d = absurd (cc (c.0, e))
 
 -- what is chosen is asked
-pub stands_asked : (plan : List Job) (n : ℕ) (fed : Fed) (b : Board) (q : Next) → Stands plan n fed b → IsSettled b → IsChosen b q → Stands plan n fed (record { cases = b.cases; order = b.order; turn = b.turn; active = b.active; width = b.width; pending = b.pending; ready = b.ready; asked = q; failed = b.failed })
+pub stands_asked : (plan : List Job) (n : ℕ) (fed : Fed) (b : SchedState) (q : Next) → Stands plan n fed b → IsSettled b → IsChosen b q → Stands plan n fed (record { cases = b.cases; order = b.order; turn = b.turn; active = b.active; width = b.width; pending = b.pending; ready = b.ready; asked = q; failed = b.failed })
 stands_asked plan n fed b q h s c = record {
   is_plan = h.is_plan;
   room = h.room;

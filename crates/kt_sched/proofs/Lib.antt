@@ -13,7 +13,7 @@ pub mod Events
 pub mod Located
 pub mod Turning
 pub mod Starting
-pub mod Telling
+pub mod FinishedCases
 pub mod Finishing
 pub mod Cleaning
 pub mod BodyEnds

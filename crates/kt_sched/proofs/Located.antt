@@ -11,7 +11,7 @@ use Rattle.kt_sched.specs.declared.stage.Stage.TheVariants.{Waiting, Owing, Take
 use Rattle.kt_sched.specs.declared.case.Case.{Case}
 use Rattle.kt_sched.specs.Trace.{Trace, of}
 use Rattle.kt_sched.specs.Fed.{Fed}
-use Rattle.kt_sched.specs.Board.{Board, Stands, IsStage, IsAsked, is_active_stage}
+use Rattle.kt_sched.specs.SchedState.{SchedState, Stands, IsStage, IsAsked, is_active_stage}
 use Rattle.kt_sched.specs.Cases.{Replaced}
 use Rattle.kt_sched.proofs.Lists.{within_some, slice_get-set_same, count-cons}
 use Rattle.kt_sched.proofs.Stages.{turn_at}
@@ -24,7 +24,7 @@ pub record Located (plan : List Job) (T : Trace) (i : ℕ) (was : Stage) (had : 
   pub stands : IsStage i job was (of i T)
   pub kept : was ≢ Taken → had ≡ job
 
-pub located : (plan : List Job) (n : ℕ) (fed : Fed) (b : Board) (i : ℕ) (had : Job) (was : Stage) → Stands plan n fed b → slice_get b.cases i ≡ Some (record { job = had; stage = was }) → Located plan fed.trace i was had
+pub located : (plan : List Job) (n : ℕ) (fed : Fed) (b : SchedState) (i : ℕ) (had : Job) (was : Stage) → Stands plan n fed b → slice_get b.cases i ≡ Some (record { job = had; stage = was }) → Located plan fed.trace i was had
 located plan n fed b i had was h g =
     let j = within_some plan i (omega (arith, slice_get_within b.cases i (record { job = had; stage = was }) g, h.count)) in
     let w = h.cases i j.0 j.1 in
@@ -36,10 +36,10 @@ located plan n fed b i had was h g =
       kept = λ t. ap (λ (c : Case). c.job) (sym e) ∙ w.kept (λ q. t (ap (λ (c : Case). c.stage) (sym e) ∙ q));
     }
 
-pub asked_as : (b : Board) (q : Next) → b.asked ≡ q → IsAsked b b.asked → IsAsked b q
+pub asked_as : (b : SchedState) (q : Next) → b.asked ≡ q → IsAsked b b.asked → IsAsked b q
 asked_as b q e h = subst (IsAsked b) e h
 
-pub no_owing : (plan : List Job) (n : ℕ) (fed : Fed) (b : Board) → Stands plan n fed b → b.pending ≡ None → (k : ℕ) (c : Case) → slice_get b.cases k ≡ Some c → (o : _) → c.stage ≢ Owing o
+pub no_owing : (plan : List Job) (n : ℕ) (fed : Fed) (b : SchedState) → Stands plan n fed b → b.pending ≡ None → (k : ℕ) (c : Case) → slice_get b.cases k ≡ Some c → (o : _) → c.stage ≢ Owing o
 no_owing plan n fed b h p k c g o x = absurd (cc (h.owing k c g o x, h.pending))
 
 pub not_taken : (was : Stage) → was ≡ Waiting → was ≢ Taken
@@ -70,21 +70,21 @@ counted_pos p (y ∷ ys) zero x g e = omega (arith, count-cons p y ys, ap (λ (b
 counted_pos p (y ∷ ys) (suc i) x g e = omega (arith, count-cons p y ys, counted_pos p ys i x g e)
 
 -- where a case is active, one is counted
-pub some_active : (plan : List Job) (n : ℕ) (fed : Fed) (b : Board) (i : ℕ) (c : Case) → Stands plan n fed b → slice_get b.cases i ≡ Some c → is_active_stage c.stage ≡ true → 0 < b.active
+pub some_active : (plan : List Job) (n : ℕ) (fed : Fed) (b : SchedState) (i : ℕ) (c : Case) → Stands plan n fed b → slice_get b.cases i ≡ Some c → is_active_stage c.stage ≡ true → 0 < b.active
 some_active plan n fed b i c h g e = omega (arith, h.active, counted_pos (λ (d : Case). is_active_stage d.stage) b.cases i c g e)
 
 -- where a cleanup is asked for, a case is active
-pub owing_active : (plan : List Job) (n : ℕ) (fed : Fed) (b : Board) (i : ℕ) → Stands plan n fed b → b.asked ≡ next.Start i Cleanup → 0 < b.active
+pub owing_active : (plan : List Job) (n : ℕ) (fed : Fed) (b : SchedState) (i : ℕ) → Stands plan n fed b → b.asked ≡ next.Start i Cleanup → 0 < b.active
 owing_active plan n fed b i h q =
     let a = asked_as b (next.Start i Cleanup) q h.asked in
     let w = h.owes i (sym h.pending ∙ a.1) in
     some_active plan n fed b i (record { job = w.0; stage = Owing w.1 }) h w.2 refl
 
 -- a body that is asked for is that of a case
-pub start_within : (plan : List Job) (n : ℕ) (fed : Fed) (b : Board) (k i : ℕ) → Stands plan n fed b → slice_get b.order k ≡ Some i → i < length b.cases
+pub start_within : (plan : List Job) (n : ℕ) (fed : Fed) (b : SchedState) (k i : ℕ) → Stands plan n fed b → slice_get b.order k ≡ Some i → i < length b.cases
 start_within plan n fed b k i h o =
     let t = turn_at plan b.order k i h.is_plan h.walk o in
     omega (arith, slice_get_within plan i t.job t.place, h.count)
 
-pub start_room : (plan : List Job) (n : ℕ) (fed : Fed) (b : Board) (i : ℕ) → Stands plan n fed b → b.asked ≡ next.Start i Body → i < length b.cases
+pub start_room : (plan : List Job) (n : ℕ) (fed : Fed) (b : SchedState) (i : ℕ) → Stands plan n fed b → b.asked ≡ next.Start i Body → i < length b.cases
 start_room plan n fed b i h q = start_within plan n fed b b.turn i h (asked_as b (next.Start i Body) q h.asked).2.1

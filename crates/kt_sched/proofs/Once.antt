@@ -11,7 +11,7 @@ use Rattle.kt_sched.specs.History.{history, is_whole, has_whole_history, active}
 use Rattle.kt_sched.specs.TurnOrder.{turns}
 use Rattle.kt_sched.specs.RecordOrder.{finished_by, is_open, was_open, is_begun, ahead, recorded}
 use Rattle.kt_sched.specs.Plan.{IsPlan}
-use Rattle.kt_sched.specs.Board.{is_decided, positions}
+use Rattle.kt_sched.specs.SchedState.{is_decided, positions}
 use Rattle.kt_sched.specs.Run.{NamesEachOnce}
 use Rattle.kt_sched.proofs.Lists.{count-cons, count_alike, count_by-append, filter_one, within_some}
 use Rattle.kt_sched.proofs.Steps.{same_is, other_is_not, of_other, put_at_positions, recorded_more}

@@ -10,13 +10,13 @@ use Rattle.kt_sched.specs.declared.next.Next.TheVariants as next
 use Rattle.kt_sched.specs.declared.stage.Stage.{Stage}
 use Rattle.kt_sched.specs.declared.stage.Stage.TheVariants.{Waiting, Decided, Running, Owing, Cleaning, Finished, Taken}
 use Rattle.kt_sched.specs.declared.case.Case.{Case}
-use Rattle.kt_sched.specs.declared.tale.Tale.{Tale}
+use Rattle.kt_sched.specs.declared.case_record.CaseRecord.{CaseRecord}
 use Rattle.kt_sched.specs.Trace.{of}
 use Rattle.kt_sched.specs.History.{active}
 use Rattle.kt_sched.specs.TurnOrder.{turns}
 use Rattle.kt_sched.specs.RecordOrder.{was_open}
 use Rattle.kt_sched.specs.Fed.{Fed, has_failed}
-use Rattle.kt_sched.specs.Board.{Board, Stands, IsStage, IsTold, HasTurn, HasDecided, AreGone, is_decided, is_undecided, is_decided_stage, decided_tale_of, decided_tale, tale_in, listed, positions, opened, room_in, run_of}
+use Rattle.kt_sched.specs.SchedState.{SchedState, Stands, IsStage, HasRecord, HasTurn, HasDecided, AreGone, is_decided, is_undecided, is_decided_stage, decided_record_of, decided_record, record_in, listed, positions, opened, room_in, run_of}
 use Rattle.kt_sched.proofs.Lists.{drop_at}
 use Rattle.kt_sched.proofs.Turns.{some_is, filter_step}
 use Rattle.kt_sched.proofs.Stages.{turn_at, one_place, active_is}
@@ -54,7 +54,7 @@ decided_stage (Finished t) e = absurd (cc)
 decided_stage Taken e = absurd (cc)
 
 -- a decided case whose turn it is
-record Ripe (plan : List Job) (n : ℕ) (fed : Fed) (b : Board) (i : ℕ) : Type 0 where
+record Ripe (plan : List Job) (n : ℕ) (fed : Fed) (b : SchedState) (i : ℕ) : Type 0 where
   pub job : Job
   pub turn : slice_get (turns plan) b.turn ≡ Some job
   pub at : job.position ≡ i
@@ -65,7 +65,7 @@ record Ripe (plan : List Job) (n : ℕ) (fed : Fed) (b : Board) (i : ℕ) : Type
   pub stage : case.stage ≡ Decided
   pub kept : case.job ≡ job
 
-ripe : (plan : List Job) (n : ℕ) (fed : Fed) (b : Board) (i : ℕ) → Stands plan n fed b → HasTurn b i → HasDecided b.cases i true → Ripe plan n fed b i
+ripe : (plan : List Job) (n : ℕ) (fed : Fed) (b : SchedState) (i : ℕ) → Stands plan n fed b → HasTurn b i → HasDecided b.cases i true → Ripe plan n fed b i
 ripe plan n fed b i h t d =
     let u = turn_at plan b.order b.turn i h.is_plan h.walk t.1 in
     let w = h.cases i u.job u.place in
@@ -85,19 +85,19 @@ ripe plan n fed b i h t d =
       kept = w.kept (λ x. absurd (cc (z, x)));
     }
 
-tale_there : (o : Option Judged) → is_some o ≡ true → (t : Tale) × (decided_tale_of o ≡ Some t)
-tale_there None e = absurd (cc)
-tale_there (Some v) e = (decided_tale v, refl)
+record_there : (o : Option Judged) → is_some o ≡ true → (t : CaseRecord) × (decided_record_of o ≡ Some t)
+record_there None e = absurd (cc)
+record_there (Some v) e = (decided_record v, refl)
 
-told_here : (plan : List Job) (n : ℕ) (fed : Fed) (b : Board) (i : ℕ) → Ripe plan n fed b i → IsTold b.cases i
+told_here : (plan : List Job) (n : ℕ) (fed : Fed) (b : SchedState) (i : ℕ) → Ripe plan n fed b i → HasRecord b.cases i
 told_here plan n fed b i r =
-    let t = tale_there r.job.decided r.decided in
-    (r.case, t.0, r.found, ap (tale_in r.case.job) r.stage ∙ (ap (λ (j : Job). decided_tale_of j.decided) r.kept ∙ t.1))
+    let t = record_there r.job.decided r.decided in
+    (r.case, t.0, r.found, ap (record_in r.case.job) r.stage ∙ (ap (λ (j : Job). decided_record_of j.decided) r.kept ∙ t.1))
 
-pub told_now : (plan : List Job) (n : ℕ) (fed : Fed) (b : Board) (i : ℕ) → Stands plan n fed b → HasTurn b i → HasDecided b.cases i true → IsTold b.cases i
+pub told_now : (plan : List Job) (n : ℕ) (fed : Fed) (b : SchedState) (i : ℕ) → Stands plan n fed b → HasTurn b i → HasDecided b.cases i true → HasRecord b.cases i
 told_now plan n fed b i h t d = told_here plan n fed b i (ripe plan n fed b i h t d)
 
-gone_now : (plan : List Job) (n : ℕ) (fed : Fed) (b : Board) (i : ℕ) → Stands plan n fed b → Ripe plan n fed b i → has_failed fed ≡ false → AreGone plan n fed.trace (b.turn + 1)
+gone_now : (plan : List Job) (n : ℕ) (fed : Fed) (b : SchedState) (i : ℕ) → Stands plan n fed b → Ripe plan n fed b i → has_failed fed ≡ false → AreGone plan n fed.trace (b.turn + 1)
 gone_now plan n fed b i h r f = record {
   gone = λ k job l g d. by k job l g d (cases_eq k b.turn);
   due = λ k job l g. (h.gone f).due k job (omega (arith, l)) g;
@@ -111,7 +111,7 @@ gone_now plan n fed b i h r f = record {
         (h.gone f).due b.turn job (omega arith) t ∙ open_at plan n fed.trace b.turn job (opened plan n b.active (b.turn + 1)) h.is_plan h.room h.starts t run
     by k job l g d (inr x) = (h.gone f).gone k job (omega (arith, l, x)) g d
 
-pub stands_opened : (plan : List Job) (n : ℕ) (fed : Fed) (b : Board) (i : ℕ) → Stands plan n fed b → b.ready ≡ None → HasTurn b i → HasDecided b.cases i true → Stands plan n fed (record { cases = b.cases; order = b.order; turn = b.turn + 1; active = b.active; width = b.width; pending = b.pending; ready = Some i; asked = next.Done; failed = b.failed })
+pub stands_opened : (plan : List Job) (n : ℕ) (fed : Fed) (b : SchedState) (i : ℕ) → Stands plan n fed b → b.ready ≡ None → HasTurn b i → HasDecided b.cases i true → Stands plan n fed (record { cases = b.cases; order = b.order; turn = b.turn + 1; active = b.active; width = b.width; pending = b.pending; ready = Some i; asked = next.Done; failed = b.failed })
 stands_opened plan n fed b i h e t d = record {
   is_plan = h.is_plan;
   room = h.room;
@@ -130,7 +130,7 @@ stands_opened plan n fed b i h e t d = record {
   pending = h.pending;
   owing = h.owing;
   owes = h.owes;
-  told = λ j x y. subst (IsTold b.cases) (some_is i j x) (told_here plan n fed b i r);
+  told = λ j x y. subst (HasRecord b.cases) (some_is i j x) (told_here plan n fed b i r);
   ripe = λ j m x o. let q = one_place plan b.order m b.turn i h.is_plan h.walk (o ∙ sym x) t.1 in omega (arith, q);
   gone = λ f. gone_now plan n fed b i h r f;
   stored = h.stored;

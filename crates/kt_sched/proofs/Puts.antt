@@ -6,7 +6,7 @@ use Rattle.kt_sched.specs.declared.next.Next.TheVariants as next
 use Rattle.kt_sched.specs.Trace.{event_count}
 use Rattle.kt_sched.specs.RecordOrder.{recorded}
 use Rattle.kt_sched.specs.Fed.{Fed, has_failed}
-use Rattle.kt_sched.specs.Board.{Board, Stands, listed, positions, opened}
+use Rattle.kt_sched.specs.SchedState.{SchedState, Stands, listed, positions, opened}
 use Rattle.kt_sched.proofs.Located.{asked_as}
 
 pub drop_next : (xs ys : List ℕ) (k i : ℕ) → drop k xs ≡ i ∷ ys → (drop (k + 1) xs ≡ ys) × (k + 1 ≤ length xs)
@@ -22,7 +22,7 @@ drop_next (x ∷ xs) ys (suc k) i e =
     let q : suc k + 1 ≡ suc (k + 1) = omega arith in
     (ap (λ j. drop j (x ∷ xs)) q ∙ w.0, omega (arith, w.1))
 
-pub stored : (plan : List Job) (n : ℕ) (fed : Fed) (b : Board) (i : ℕ) → Stands plan n fed b → b.asked ≡ next.Put i → Stands plan n (record fed { stored = fed.stored + 1 }) (record { cases = b.cases; order = b.order; turn = b.turn; active = b.active; width = b.width; pending = b.pending; ready = None; asked = next.Done; failed = b.failed })
+pub stored : (plan : List Job) (n : ℕ) (fed : Fed) (b : SchedState) (i : ℕ) → Stands plan n fed b → b.asked ≡ next.Put i → Stands plan n (record fed { stored = fed.stored + 1 }) (record { cases = b.cases; order = b.order; turn = b.turn; active = b.active; width = b.width; pending = b.pending; ready = None; asked = next.Done; failed = b.failed })
 stored plan n fed b i h q =
     let a = asked_as b (next.Put i) q h.asked in
     let f : has_failed fed ≡ false = sym h.failed ∙ a.0 in
@@ -55,7 +55,7 @@ stored plan n fed b i h q =
       asked = tt;
     }
 
-pub store_failed : (plan : List Job) (n : ℕ) (fed : Fed) (b : Board) (i : ℕ) → Stands plan n fed b → b.asked ≡ next.Put i → Stands plan n (record fed { stopped = Some (event_count fed.trace) }) (record { cases = b.cases; order = b.order; turn = b.turn; active = b.active; width = b.width; pending = b.pending; ready = None; asked = next.Done; failed = true })
+pub store_failed : (plan : List Job) (n : ℕ) (fed : Fed) (b : SchedState) (i : ℕ) → Stands plan n fed b → b.asked ≡ next.Put i → Stands plan n (record fed { stopped = Some (event_count fed.trace) }) (record { cases = b.cases; order = b.order; turn = b.turn; active = b.active; width = b.width; pending = b.pending; ready = None; asked = next.Done; failed = true })
 store_failed plan n fed b i h q =
     record {
       is_plan = h.is_plan;

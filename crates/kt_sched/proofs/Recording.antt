@@ -14,7 +14,7 @@ use Rattle.kt_sched.specs.History.{active}
 use Rattle.kt_sched.specs.TurnOrder.{turns}
 use Rattle.kt_sched.specs.RecordOrder.{is_open, was_open, is_begun}
 use Rattle.kt_sched.specs.Plan.{IsPlan}
-use Rattle.kt_sched.specs.Board.{HasStarted, AreGone, opened, positions, is_decided, is_undecided}
+use Rattle.kt_sched.specs.SchedState.{HasStarted, AreGone, opened, positions, is_decided, is_undecided}
 use Rattle.kt_sched.proofs.Steps.{same_is, other_is_not}
 use Rattle.kt_sched.proofs.Lists.{filter_none}
 use Rattle.kt_sched.proofs.Turns.{some_is, filter_in, filter_at, turn_distinct}

@@ -13,7 +13,7 @@ use Rattle.kt_sched.specs.History.{Mark, BodyStarted, BodyEnded, CleanupStarted,
 use Rattle.kt_sched.specs.TurnOrder.{turns}
 use Rattle.kt_sched.specs.Plan.{IsPlan}
 use Rattle.kt_sched.specs.Fed.{Fed, role_runs}
-use Rattle.kt_sched.specs.Board.{Board, Stands, CaseStands, IsStage, is_active_stage}
+use Rattle.kt_sched.specs.SchedState.{SchedState, Stands, CaseStands, IsStage, is_active_stage}
 use Rattle.std.proofs.lemmas.Option.{slice_get-map}
 use Rattle.std.specs.Option.{option_map}
 use Rattle.kt_sched.proofs.Turns.{turn_inside, turn_distinct}
@@ -82,7 +82,7 @@ active_of plan T cases p l h =
     ap (λ (j : ℕ). marks_active job (history j T)) (p.placed i job g)
     ∙ (stage_active i job s.case.stage (of i T) s.stage ∙ ap (λ (d : Case). is_active_stage d.stage) e))
 
-pub active_is : (plan : List Job) (n : ℕ) (fed : Fed) (b : Board) → Stands plan n fed b → active plan fed.trace ≡ b.active
+pub active_is : (plan : List Job) (n : ℕ) (fed : Fed) (b : SchedState) → Stands plan n fed b → active plan fed.trace ≡ b.active
 active_is plan n fed b h = active_of plan fed.trace b.cases h.is_plan h.count h.cases ∙ sym h.active
 
 -- a whole history isn't that of a running child

@@ -10,13 +10,13 @@ use Rattle.kt_sched.specs.declared.next.Next.TheVariants as next
 use Rattle.kt_sched.specs.declared.stage.Stage.{Stage}
 use Rattle.kt_sched.specs.declared.stage.Stage.TheVariants.{Waiting, Running, Finished}
 use Rattle.kt_sched.specs.declared.case.Case.{Case}
-use Rattle.kt_sched.specs.declared.tale.Tale.{Tale}
+use Rattle.kt_sched.specs.declared.case_record.CaseRecord.{CaseRecord}
 use Rattle.kt_sched.specs.Trace.{Event, Start, of}
 use Rattle.kt_sched.specs.History.{mark_of, is_whole}
 use Rattle.kt_sched.specs.TurnOrder.{turns}
 use Rattle.kt_sched.specs.Fed.{Fed}
 use Rattle.kt_sched.specs.EntryOf.{entry_of, no_output}
-use Rattle.kt_sched.specs.Board.{Board, Stands, is_active_stage, stage_work, listed, entry_with}
+use Rattle.kt_sched.specs.SchedState.{SchedState, Stands, is_active_stage, stage_work, listed, entry_with}
 use Rattle.kt_sched.specs.Cases.{Replaced}
 use Rattle.std.proofs.lemmas.Bool.{cases_eq}
 use Rattle.kt_sched.proofs.Alone.{none_lonely, none_else}
@@ -29,7 +29,7 @@ use Rattle.kt_sched.proofs.Events.{After, stands_event}
 use Rattle.kt_sched.proofs.Located.{located, asked_as, no_owing, not_taken}
 use Rattle.kt_sched.proofs.Turning.{starts_more, goes_over}
 
-pub body_started : (plan : List Job) (n : ℕ) (fed : Fed) (b : Board) (i m : ℕ) (cs : List Case) (was : Stage) → Stands plan n fed b → b.asked ≡ next.Start i Body → Replaced b.cases cs i (Running m) was → After plan n fed b ((Start i Body (told.Started m))) (record { cases = cs; order = b.order; turn = b.turn + 1; active = b.active + 1; width = b.width; pending = b.pending; ready = b.ready; asked = next.Done; failed = b.failed })
+pub body_started : (plan : List Job) (n : ℕ) (fed : Fed) (b : SchedState) (i m : ℕ) (cs : List Case) (was : Stage) → Stands plan n fed b → b.asked ≡ next.Start i Body → Replaced b.cases cs i (Running m) was → After plan n fed b ((Start i Body (told.Started m))) (record { cases = cs; order = b.order; turn = b.turn + 1; active = b.active + 1; width = b.width; pending = b.pending; ready = b.ready; asked = next.Done; failed = b.failed })
 body_started plan n fed b i m cs was h q r =
     let a = asked_as b (next.Start i Body) q h.asked in
     let l = located plan n fed b i r.job was h r.found in
@@ -81,7 +81,7 @@ body_started plan n fed b i m cs was h q r =
     above k m g t x (inl e) = absurd (x (some_same m i (sym g ∙ (ap (slice_get b.order) e ∙ asked))))
     above k m g t x (inr e) = omega (arith, t, e)
 
-pub body_refused : (plan : List Job) (n : ℕ) (fed : Fed) (b : Board) (i : ℕ) (cause : _) (cs : List Case) (was : Stage) (t : Tale) → Stands plan n fed b → b.asked ≡ next.Start i Body → t ≡ record { verdict = verdict_of_refusal cause; started = 0; millis = 0; body = no_output; cleanup = no_output } → Replaced b.cases cs i (Finished t) was → After plan n fed b ((Start i Body (told.Refused cause))) (record { cases = cs; order = b.order; turn = b.turn + 1; active = b.active; width = b.width; pending = b.pending; ready = Some i; asked = next.Done; failed = b.failed })
+pub body_refused : (plan : List Job) (n : ℕ) (fed : Fed) (b : SchedState) (i : ℕ) (cause : _) (cs : List Case) (was : Stage) (t : CaseRecord) → Stands plan n fed b → b.asked ≡ next.Start i Body → t ≡ record { verdict = verdict_of_refusal cause; started = 0; millis = 0; body = no_output; cleanup = no_output } → Replaced b.cases cs i (Finished t) was → After plan n fed b ((Start i Body (told.Refused cause))) (record { cases = cs; order = b.order; turn = b.turn + 1; active = b.active; width = b.width; pending = b.pending; ready = Some i; asked = next.Done; failed = b.failed })
 body_refused plan n fed b i cause cs was t h q z r =
     let a = asked_as b (next.Start i Body) q h.asked in
     let l = located plan n fed b i r.job was h r.found in
@@ -100,7 +100,7 @@ body_refused plan n fed b i cause cs was t h q z r =
       found = r.found;
       fresh = ap is_over w;
       works = omega (arith, ap stage_work w);
-      stage = (ap (λ (es : List Event). is_whole l.job (map mark_of es)) d ∙ ap is_none free, ap (entry_of l.job) d ∙ ap (λ (s : Tale). Some (entry_with l.job s)) (sym z));
+      stage = (ap (λ (es : List Event). is_whole l.job (map mark_of es)) d ∙ ap is_none free, ap (entry_of l.job) d ∙ ap (λ (s : CaseRecord). Some (entry_with l.job s)) (sym z));
       kept = l.kept (not_taken was w);
       cases = r.changed;
       width = refl;

@@ -12,7 +12,7 @@ use Rattle.kt_sched.specs.History.{BodyStarted, CleanupStarted, mark_of, end_mar
 use Rattle.kt_sched.specs.TurnOrder.{turns}
 use Rattle.kt_sched.specs.RecordOrder.{Due, dues, put_at, finished_by, is_open, was_open, recorded}
 use Rattle.kt_sched.specs.Plan.{IsPlan}
-use Rattle.kt_sched.specs.Board.{IsStage, positions}
+use Rattle.kt_sched.specs.SchedState.{IsStage, positions}
 use Rattle.kt_sched.proofs.Lists.{filter_none, filter_one}
 
 pub same_is : (i : ℕ) → (i == i) ≡ true

@@ -7,7 +7,7 @@ use Rattle.kt_sched.specs.declared.job.Job.{Job}
 use Rattle.kt_sched.specs.declared.start_answer.StartAnswer.{StartAnswer}
 use Rattle.kt_sched.specs.Trace.{Event, Start, Trace, Then}
 use Rattle.kt_sched.specs.TurnOrder.{body_starts, body_start_of, turns}
-use Rattle.kt_sched.specs.Board.{is_undecided, positions, HasStarted}
+use Rattle.kt_sched.specs.SchedState.{is_undecided, positions, HasStarted}
 use Rattle.kt_sched.proofs.Turns.{filter_step}
 use Rattle.kt_sched.proofs.Recording.{GoesOver}
 use Rattle.kt_sched.proofs.EventSteps.{some_same}

@@ -10,7 +10,7 @@ use Rattle.kt_sched.specs.declared.case.Case.{Case}
 use Rattle.kt_sched.specs.Trace.{of}
 use Rattle.kt_sched.specs.TurnOrder.{turns, body_starts, undecided_turns, next_to_start}
 use Rattle.kt_sched.specs.Fed.{Fed}
-use Rattle.kt_sched.specs.Board.{Board, Stands, IsStage, is_fresh, is_decided_stage, HasTurn, IsSettled, is_undecided}
+use Rattle.kt_sched.specs.SchedState.{SchedState, Stands, IsStage, is_fresh, is_decided_stage, HasTurn, IsSettled, is_undecided}
 use Rattle.kt_sched.proofs.Lists.{slice_get-drop}
 use Rattle.kt_sched.proofs.Turns.{some_is, filter_in, filter_step}
 use Rattle.kt_sched.proofs.Decided.{get_drop}
@@ -29,7 +29,7 @@ first_of_filter p [] x g e = absurd (cc)
 first_of_filter p (y ∷ ys) x g e = ap (λ (zs : List _). slice_get zs 0) (filter_step p y ys true (ap p (some_is y x g) ∙ e)) ∙ g
 
 -- the next body to start is that of the first undecided case from the turn on
-pub next_is : (plan : List Job) (n : ℕ) (fed : Fed) (b : Board) → Stands plan n fed b → next_to_start plan fed.trace ≡ slice_get (filter is_undecided (drop b.turn (turns plan))) 0
+pub next_is : (plan : List Job) (n : ℕ) (fed : Fed) (b : SchedState) → Stands plan n fed b → next_to_start plan fed.trace ≡ slice_get (filter is_undecided (drop b.turn (turns plan))) 0
 next_is plan n fed b h =
     let xs = turns plan in
     let l : length (body_starts fed.trace) ≡ length (filter is_undecided (take b.turn xs)) = ap (λ (ys : List ℕ). length ys) h.starts ∙ length_map (λ (job : Job). job.position) (filter is_undecided (take b.turn xs)) in
@@ -38,11 +38,11 @@ next_is plan n fed b h =
     ∙ (ap (λ (ys : List Job). slice_get ys (length (filter is_undecided (take b.turn xs)))) (filter-append is_undecided (take b.turn xs) (drop b.turn xs))
     ∙ get_at_end (filter is_undecided (take b.turn xs)) (filter is_undecided (drop b.turn xs))))
 
-pub next_at : (plan : List Job) (n : ℕ) (fed : Fed) (b : Board) (job : Job) → Stands plan n fed b → slice_get (turns plan) b.turn ≡ Some job → job.decided ≡ None → next_to_start plan fed.trace ≡ Some job
+pub next_at : (plan : List Job) (n : ℕ) (fed : Fed) (b : SchedState) (job : Job) → Stands plan n fed b → slice_get (turns plan) b.turn ≡ Some job → job.decided ≡ None → next_to_start plan fed.trace ≡ Some job
 next_at plan n fed b job h g d =
     next_is plan n fed b h ∙ first_of_filter is_undecided (drop b.turn (turns plan)) job (sym (slice_get-drop (turns plan) b.turn) ∙ g) (ap is_none d)
 
-pub next_later : (plan : List Job) (n : ℕ) (fed : Fed) (b : Board) (job : Job) → Stands plan n fed b → next_to_start plan fed.trace ≡ Some job → (m : ℕ) × (slice_get (turns plan) (b.turn + m) ≡ Some job)
+pub next_later : (plan : List Job) (n : ℕ) (fed : Fed) (b : SchedState) (job : Job) → Stands plan n fed b → next_to_start plan fed.trace ≡ Some job → (m : ℕ) × (slice_get (turns plan) (b.turn + m) ≡ Some job)
 next_later plan n fed b job h g =
     let w = filter_in is_undecided (drop b.turn (turns plan)) 0 job (sym (next_is plan n fed b h) ∙ g) in
     (w.0, sym (get_drop (turns plan) b.turn w.0) ∙ w.1)
@@ -57,7 +57,7 @@ waiting_stage (Finished t) e f = absurd (cc)
 waiting_stage Taken e f = absurd (cc)
 
 -- an undecided case whose turn it is
-pub record Upcoming (plan : List Job) (fed : Fed) (b : Board) (i : ℕ) : Type 0 where
+pub record Upcoming (plan : List Job) (fed : Fed) (b : SchedState) (i : ℕ) : Type 0 where
   pub job : Job
   pub turn : slice_get (turns plan) b.turn ≡ Some job
   pub at : job.position ≡ i
@@ -68,7 +68,7 @@ pub record Upcoming (plan : List Job) (fed : Fed) (b : Board) (i : ℕ) : Type 0
   pub found : slice_get b.cases i ≡ Some case
   pub waits : case.stage ≡ Waiting
 
-pub upcoming : (plan : List Job) (n : ℕ) (fed : Fed) (b : Board) (i : ℕ) → Stands plan n fed b → b.ready ≡ None → IsSettled b → HasTurn b i → Upcoming plan fed b i
+pub upcoming : (plan : List Job) (n : ℕ) (fed : Fed) (b : SchedState) (i : ℕ) → Stands plan n fed b → b.ready ≡ None → IsSettled b → HasTurn b i → Upcoming plan fed b i
 upcoming plan n fed b i h r s t =
     let u = turn_at plan b.order b.turn i h.is_plan h.walk t.1 in
     let d = s r i t in

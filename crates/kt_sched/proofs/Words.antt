@@ -14,7 +14,7 @@ use Rattle.kt_sched.specs.History.{Mark, BodyStarted, BodyEnded, CleanupStarted,
 use Rattle.kt_sched.specs.TurnOrder.{next_to_start, turns}
 use Rattle.kt_sched.specs.ScheduleRules.{owed, IsBusy}
 use Rattle.kt_sched.specs.Fed.{Fed, role_runs, runs}
-use Rattle.kt_sched.specs.Board.{Board, Stands, CaseStands, IsStage, stage_runs, is_active_stage, is_undecided}
+use Rattle.kt_sched.specs.SchedState.{SchedState, Stands, CaseStands, IsStage, stage_runs, is_active_stage, is_undecided}
 use Rattle.kt_sched.proofs.Lists.{within_some, counted_some}
 use Rattle.kt_sched.proofs.Turns.{turn_covers}
 use Rattle.kt_sched.proofs.Stages.{whole_quiet, active_is, at_turn}
@@ -22,7 +22,7 @@ use Rattle.kt_sched.proofs.Upcoming.{next_is}
 use Rattle.kt_sched.proofs.Recording.{none_passes, from_there}
 use Rattle.kt_sched.proofs.Located.{located}
 
-pub owing_history : (plan : List Job) (n : ℕ) (fed : Fed) (b : Board) (i : ℕ) → Stands plan n fed b → owed plan fed.trace ≡ Some i → history i fed.trace ≡ BodyStarted ∷ BodyEnded ∷ []
+pub owing_history : (plan : List Job) (n : ℕ) (fed : Fed) (b : SchedState) (i : ℕ) → Stands plan n fed b → owed plan fed.trace ≡ Some i → history i fed.trace ≡ BodyStarted ∷ BodyEnded ∷ []
 owing_history plan n fed b i h q =
     let w = h.owes i q in
     let l = located plan n fed b i w.0 (Owing w.1) h w.2 in
@@ -49,23 +49,23 @@ empty_quiet Body w h = ap (role_runs Body) h
 empty_quiet Cleanup w h = ap (role_runs Cleanup) h
 
 -- where a child runs in the trace, its case's stage runs
-pub runs_there : (plan : List Job) (n : ℕ) (fed : Fed) (b : Board) (i : ℕ) (r : Role) → Stands plan n fed b → runs i r fed.trace ≡ true → (i < length plan) ⊎ (length plan ≤ i) → (c : Case) × (slice_get b.cases i ≡ Some c) × (stage_runs r c.stage ≡ true)
+pub runs_there : (plan : List Job) (n : ℕ) (fed : Fed) (b : SchedState) (i : ℕ) (r : Role) → Stands plan n fed b → runs i r fed.trace ≡ true → (i < length plan) ⊎ (length plan ≤ i) → (c : Case) × (slice_get b.cases i ≡ Some c) × (stage_runs r c.stage ≡ true)
 runs_there plan n fed b i r h q (inl g) =
     let j = within_some plan i g in
     let s = h.cases i j.0 j.1 in
     (s.case, s.found, sym (stage_role i j.0 r s.case.stage (of i fed.trace) s.stage) ∙ q)
 runs_there plan n fed b i r h q (inr g) = absurd (cc (empty_quiet r (history i fed.trace) (ap (map mark_of) (h.beyond i g)), q))
 
-pub runs_stage : (plan : List Job) (n : ℕ) (fed : Fed) (b : Board) (i : ℕ) (r : Role) → Stands plan n fed b → runs i r fed.trace ≡ true → (c : Case) × (slice_get b.cases i ≡ Some c) × (stage_runs r c.stage ≡ true)
+pub runs_stage : (plan : List Job) (n : ℕ) (fed : Fed) (b : SchedState) (i : ℕ) (r : Role) → Stands plan n fed b → runs i r fed.trace ≡ true → (c : Case) × (slice_get b.cases i ≡ Some c) × (stage_runs r c.stage ≡ true)
 runs_stage plan n fed b i r h q = runs_there plan n fed b i r h q (cases_lt i (length plan))
 
 -- the job of a case that isn't taken is the plan's
-pub job_is : (plan : List Job) (n : ℕ) (fed : Fed) (b : Board) (i : ℕ) (c : Case) → Stands plan n fed b → slice_get b.cases i ≡ Some c → c.stage ≢ Taken → slice_get plan i ≡ Some c.job
+pub job_is : (plan : List Job) (n : ℕ) (fed : Fed) (b : SchedState) (i : ℕ) (c : Case) → Stands plan n fed b → slice_get b.cases i ≡ Some c → c.stage ≢ Taken → slice_get plan i ≡ Some c.job
 job_is plan n fed b i c h g t =
     let l = located plan n fed b i c.job c.stage h g in
     l.place ∙ ap Some (sym (l.kept t))
 
-pub stage_whole : (plan : List Job) (n : ℕ) (fed : Fed) (b : Board) → Stands plan n fed b → owed plan fed.trace ≡ None → ((k : ℕ) (r : Role) → runs k r fed.trace ≡ false) → (i : ℕ) (job : Job) (c : Case) → slice_get b.cases i ≡ Some c → c.stage ≢ Waiting → (stage : Stage) → c.stage ≡ stage → IsStage i job stage (of i fed.trace) → is_whole job (history i fed.trace) ≡ true
+pub stage_whole : (plan : List Job) (n : ℕ) (fed : Fed) (b : SchedState) → Stands plan n fed b → owed plan fed.trace ≡ None → ((k : ℕ) (r : Role) → runs k r fed.trace ≡ false) → (i : ℕ) (job : Job) (c : Case) → slice_get b.cases i ≡ Some c → c.stage ≢ Waiting → (stage : Stage) → c.stage ≡ stage → IsStage i job stage (of i fed.trace) → is_whole job (history i fed.trace) ≡ true
 stage_whole plan n fed b h o q i job c g nw Waiting e s = absurd (nw e)
 stage_whole plan n fed b h o q i job c g nw Decided e s = ap (λ (es : List Event). is_whole job (map mark_of es)) s.0 ∙ s.1
 stage_whole plan n fed b h o q i job c g nw (Running m) e s = absurd (cc (stage_role i job Body (Running m) (of i fed.trace) s, q i Body))
@@ -74,7 +74,7 @@ stage_whole plan n fed b h o q i job c g nw (Cleaning x) e s = absurd (cc (stage
 stage_whole plan n fed b h o q i job c g nw (Finished t) e s = s.0
 stage_whole plan n fed b h o q i job c g nw Taken e s = s
 
-pub active_stage_not : (plan : List Job) (n : ℕ) (fed : Fed) (b : Board) → Stands plan n fed b → owed plan fed.trace ≡ None → ((k : ℕ) (r : Role) → runs k r fed.trace ≡ false) → (i : ℕ) (job : Job) (c : Case) → slice_get b.cases i ≡ Some c → (stage : Stage) → c.stage ≡ stage → IsStage i job stage (of i fed.trace) → is_active_stage stage ≡ false
+pub active_stage_not : (plan : List Job) (n : ℕ) (fed : Fed) (b : SchedState) → Stands plan n fed b → owed plan fed.trace ≡ None → ((k : ℕ) (r : Role) → runs k r fed.trace ≡ false) → (i : ℕ) (job : Job) (c : Case) → slice_get b.cases i ≡ Some c → (stage : Stage) → c.stage ≡ stage → IsStage i job stage (of i fed.trace) → is_active_stage stage ≡ false
 active_stage_not plan n fed b h o q i job c g Waiting e s = refl
 active_stage_not plan n fed b h o q i job c g Decided e s = refl
 active_stage_not plan n fed b h o q i job c g (Running m) e s = absurd (cc (stage_role i job Body (Running m) (of i fed.trace) s, q i Body))
@@ -83,7 +83,7 @@ active_stage_not plan n fed b h o q i job c g (Cleaning x) e s = absurd (cc (sta
 active_stage_not plan n fed b h o q i job c g (Finished t) e s = refl
 active_stage_not plan n fed b h o q i job c g Taken e s = refl
 
-pub none_counted : (plan : List Job) (n : ℕ) (fed : Fed) (b : Board) → Stands plan n fed b → owed plan fed.trace ≡ None → ((k : ℕ) (r : Role) → runs k r fed.trace ≡ false) → 0 < b.active → ⊥
+pub none_counted : (plan : List Job) (n : ℕ) (fed : Fed) (b : SchedState) → Stands plan n fed b → owed plan fed.trace ≡ None → ((k : ℕ) (r : Role) → runs k r fed.trace ≡ false) → 0 < b.active → ⊥
 none_counted plan n fed b h o q a =
     let w = counted_some (λ (c : Case). is_active_stage c.stage) b.cases (omega (arith, h.active)) in
     let l = located plan n fed b w.0 w.1.job w.1.stage h w.2 in
@@ -94,7 +94,7 @@ none_first [] e = refl
 none_first (x ∷ xs) e = absurd (cc)
 
 -- where no body may start and nothing runs, each undecided case was begun
-pub all_begun : (plan : List Job) (n : ℕ) (fed : Fed) (b : Board) → Stands plan n fed b → owed plan fed.trace ≡ None → ((k : ℕ) (r : Role) → runs k r fed.trace ≡ false) → IsBusy plan n fed.trace → (k i : ℕ) (job : Job) (c : Case) → slice_get (turns plan) k ≡ Some job → slice_get b.order k ≡ Some i → slice_get b.cases i ≡ Some c → job.decided ≡ None → c.stage ≢ Waiting
+pub all_begun : (plan : List Job) (n : ℕ) (fed : Fed) (b : SchedState) → Stands plan n fed b → owed plan fed.trace ≡ None → ((k : ℕ) (r : Role) → runs k r fed.trace ≡ false) → IsBusy plan n fed.trace → (k i : ℕ) (job : Job) (c : Case) → slice_get (turns plan) k ≡ Some job → slice_get b.order k ≡ Some i → slice_get b.cases i ≡ Some c → job.decided ≡ None → c.stage ≢ Waiting
 all_begun plan n fed b h o q (inl e) k i job c g w x d = absurd (none_counted plan n fed b h o q (omega (arith, active_is plan n fed b h, h.room)))
 all_begun plan n fed b h o q (inr m) k i job c g w x d = at_next (next_to_start plan fed.trace) refl m (cases_lt k b.turn)
   where
@@ -111,7 +111,7 @@ list_all_from p [] h = refl
 list_all_from p (x ∷ xs) h = ap (λ b. b && list_all p xs) (h 0 x refl) ∙ list_all_from p xs (λ i y g. h (suc i) y g)
 
 -- at the end each history is whole
-pub all_whole : (plan : List Job) (n : ℕ) (fed : Fed) (b : Board) → Stands plan n fed b → owed plan fed.trace ≡ None → ((k : ℕ) (r : Role) → runs k r fed.trace ≡ false) → IsBusy plan n fed.trace → list_all (has_whole_history fed.trace) plan ≡ true
+pub all_whole : (plan : List Job) (n : ℕ) (fed : Fed) (b : SchedState) → Stands plan n fed b → owed plan fed.trace ≡ None → ((k : ℕ) (r : Role) → runs k r fed.trace ≡ false) → IsBusy plan n fed.trace → list_all (has_whole_history fed.trace) plan ≡ true
 all_whole plan n fed b h o q y =
     list_all_from (has_whole_history fed.trace) plan (λ i job g.
     let s = h.cases i job g in
@@ -130,7 +130,7 @@ all_whole plan n fed b h o q y =
     each i job c g f Taken e s = s
 
 -- where nothing runs and nothing is owed, a case has no event or its history is whole
-pub part_whole : (plan : List Job) (n : ℕ) (fed : Fed) (b : Board) → Stands plan n fed b → owed plan fed.trace ≡ None → ((k : ℕ) (r : Role) → runs k r fed.trace ≡ false) → (i : ℕ) (job : Job) → slice_get plan i ≡ Some job → (of i fed.trace ≡ []) ⊎ (has_whole_history fed.trace job ≡ true)
+pub part_whole : (plan : List Job) (n : ℕ) (fed : Fed) (b : SchedState) → Stands plan n fed b → owed plan fed.trace ≡ None → ((k : ℕ) (r : Role) → runs k r fed.trace ≡ false) → (i : ℕ) (job : Job) → slice_get plan i ≡ Some job → (of i fed.trace ≡ []) ⊎ (has_whole_history fed.trace job ≡ true)
 part_whole plan n fed b h o q i job g = by_stage s.case.stage refl s.stage
   where
     s : CaseStands fed.trace i job b.cases

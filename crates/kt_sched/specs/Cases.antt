@@ -11,9 +11,9 @@ use Rattle.kt_sched.specs.declared.stage.Stage.{Stage}
 use Rattle.kt_sched.specs.declared.stage.Stage.TheVariants.{Running, Owing, Cleaning, Taken}
 use Rattle.kt_sched.specs.declared.case.Case.{Case}
 use Rattle.kt_sched.specs.declared.ended_body.EndedBody.{EndedBody}
-use Rattle.kt_sched.specs.declared.tale.Tale.{Tale}
+use Rattle.kt_sched.specs.declared.case_record.CaseRecord.{CaseRecord}
 use Rattle.kt_sched.specs.EntryOf.{body_of, no_output}
-use Rattle.kt_sched.specs.Board.{entry_with, tale_in, decided_tale}
+use Rattle.kt_sched.specs.SchedState.{entry_with, record_in, decided_record}
 
 -- the case at i has this stage in place of that one, and nothing else is changed
 pub record Replaced (old new : List Case) (i : ℕ) (stage was : Stage) : Type 0 where
@@ -21,7 +21,7 @@ pub record Replaced (old new : List Case) (i : ℕ) (stage was : Stage) : Type 0
   pub found : slice_get old i ≡ Some (record { job = job; stage = was })
   pub changed : new ≡ slice_set old i (record { job = job; stage = stage })
 
--- the body that a stage tells of
+-- the ended body of a stage
 abbrev pub body_in : Stage → Option EndedBody
 body_in (Owing b) = Some b
 body_in (Cleaning b) = Some b
@@ -63,33 +63,33 @@ pub record KeepsNames (old new : Job) : Type 0 where
   pub case_name : new.case_name ≡ old.case_name
   pub meta : new.meta ≡ old.meta
 
--- the entry tells of this case
-abbrev pub TellsOf : Case → Entry → Type 0
-TellsOf case entry = (t : Tale) × (tale_in case.job case.stage ≡ Some t) × (entry ≡ entry_with case.job t)
+-- the entry is made from the record of this case
+abbrev pub IsEntryFrom : Case → Entry → Type 0
+IsEntryFrom case entry = (t : CaseRecord) × (record_in case.job case.stage ≡ Some t) × (entry ≡ entry_with case.job t)
 
 -- the entry of a case was taken
 pub record TookEntry (old new : List Case) (i : ℕ) (entry : Entry) : Type 0 where
   pub had : Job
   pub was : Stage
   pub left : Job
-  pub tale : Tale
+  pub case_record : CaseRecord
   pub found : slice_get old i ≡ Some (record { job = had; stage = was })
-  pub told : tale_in had was ≡ Some tale
-  pub is : entry ≡ entry_with had tale
+  pub told : record_in had was ≡ Some case_record
+  pub is : entry ≡ entry_with had case_record
   pub changed : new ≡ slice_set old i (record { job = left; stage = Taken })
 
--- what is told of a case whose body was refused
-abbrev pub refused_tale : Refused → Tale
-refused_tale cause = decided_tale (verdict_of_refusal cause)
+-- the record of a case whose body was refused
+abbrev pub refused_record : Refused → CaseRecord
+refused_record cause = decided_record (verdict_of_refusal cause)
 
--- what is told of a case after its cleanup came out so at the last moment
-abbrev pub tale_of : EndedBody → CleanupEnd → ℕ → Output → Tale
-tale_of body end last output =
+-- the record of a case whose cleanup ended so, at this last moment
+abbrev pub record_of : EndedBody → CleanupEnd → ℕ → Output → CaseRecord
+record_of body end last output =
     record { verdict = verdict_after_cleanup body.verdict end; started = body.started; millis = last - body.started; body = body.output; cleanup = output }
 
--- what is told of a case without a declared cleanup
-abbrev pub plain_tale : ℕ → Ended → Tale
-plain_tale started e = record { verdict = body_of e; started = started; millis = e.moment - started; body = e.output; cleanup = no_output }
+-- the record of a case without a declared cleanup
+abbrev pub plain_record : ℕ → Ended → CaseRecord
+plain_record started e = record { verdict = body_of e; started = started; millis = e.moment - started; body = e.output; cleanup = no_output }
 
 -- a body that ended, of a case that isn't over
 abbrev pub ended_body : ℕ → Ended → EndedBody

@@ -9,6 +9,6 @@ pub mod RecordOrder
 pub mod EntryOf
 pub mod Fed
 pub mod Next
-pub mod Board
+pub mod SchedState
 pub mod Cases
 pub mod Run

@@ -3,6 +3,8 @@
 
 mod answer;
 mod case;
+mod case_record;
+mod case_records;
 mod count;
 mod ended;
 mod ended_body;
@@ -19,8 +21,6 @@ mod sink_fault;
 mod stage;
 mod start_answer;
 mod table;
-mod tale;
-mod tales;
 mod totals;
 
 pub use answer::Answer;

@@ -3,6 +3,9 @@ ghost use Rattle.kt_sched.specs.Cases.{unless};
 
 use crate::answer::Answer;
 use crate::case::Case;
+use crate::case_records::{
+    cleaned_record, ended_body, plain_record, refused_record, uncleaned_record,
+};
 use crate::ended::Ended;
 use crate::job::Job;
 use crate::next::Next;
@@ -11,7 +14,6 @@ use crate::stage::Stage;
 use crate::table::{
     declares_cleanup, is_decided, is_exclusive, replace_stage, running_since, take_body, take_entry,
 };
-use crate::tales::{cleaned_tale, ended_body, plain_tale, refused_tale, uncleaned_tale};
 use kt_base::{Entry, Items, NoMemory, Refused, Role};
 use std::alloc::Global;
 use std::marker::Model;
@@ -32,9 +34,9 @@ pub struct Sched {
 }
 
 impl Model for Sched {
-    ghost use Rattle.kt_sched.specs.Board.{Board, IsStanding};
+    ghost use Rattle.kt_sched.specs.SchedState.{SchedState, IsStanding};
 
-    ghost Value = { Board };
+    ghost Value = { SchedState };
 
     ghost view = { λ s. record {
       cases = s.cases.items;
@@ -78,7 +80,7 @@ impl Sched {
     ghost use Rattle.kt_sched.specs.Fed.{Fed, fed_after, with_event, nothing_fed};
     ghost use Rattle.kt_sched.specs.Next.{IsNext, Follows};
     ghost use Rattle.kt_sched.specs.EntryOf.{IsEntryOf};
-    ghost use Rattle.kt_sched.specs.Board.{Board, Stands, IsAnswer, IsChosen, IsSettled, stage_runs, IsTold, CanLend, HoldsEntry, work_left, Works, IsTurn};
+    ghost use Rattle.kt_sched.specs.SchedState.{SchedState, Stands, IsAnswer, IsChosen, IsSettled, stage_runs, HasRecord, CanLend, HoldsEntry, work_left, Works, IsTurn};
     ghost use Rattle.kt_sched.specs.Cases.{RunsSince, Declares};
 
     /// Nothing is fed yet.
@@ -214,7 +216,7 @@ impl Sched {
         ensures same { self.new.cases ≡ self.old.cases }
         ensures settled { IsSettled self.new }
         ensures told { self.old.asked ≡ Next.Done → (i : ℕ) → self.new.ready ≡ Some i
-            → IsTold self.new.cases i }
+            → HasRecord self.new.cases i }
     {
         let None = self.ready else {
             return;
@@ -285,8 +287,8 @@ impl Sched {
         ensures stands { (plan : List Job) (n : ℕ) (fed : Fed) → Stands plan n fed self.old
             → Stands plan n (with_event fed (Start i TheBody (told.Refused cause))) self.new }
     {
-        let tale = refused_tale(self.alloc, cause);
-        let _was = replace_stage(&mut self.cases, i, Stage::Finished(tale));
+        let case_record = refused_record(self.alloc, cause);
+        let _was = replace_stage(&mut self.cases, i, Stage::Finished(case_record));
         self.turn += 1;
         self.ready = Some(i);
         self.asked = Next::Done;
@@ -315,8 +317,8 @@ impl Sched {
             → Stands plan n (with_event fed (Start i TheCleanup (told.Refused cause))) self.new }
     {
         let body = take_body(&mut self.cases, i);
-        let tale = uncleaned_tale(self.alloc, body);
-        let _taken = replace_stage(&mut self.cases, i, Stage::Finished(tale));
+        let case_record = uncleaned_record(self.alloc, body);
+        let _taken = replace_stage(&mut self.cases, i, Stage::Finished(case_record));
         self.pending = None;
         self.active -= 1;
         self.ready = unless(self.failed, i);
@@ -336,8 +338,8 @@ impl Sched {
     {
         let i = ended.position;
         let body = take_body(&mut self.cases, i);
-        let tale = cleaned_tale(body, ended);
-        let _taken = replace_stage(&mut self.cases, i, Stage::Finished(tale));
+        let case_record = cleaned_record(body, ended);
+        let _taken = replace_stage(&mut self.cases, i, Stage::Finished(case_record));
         self.pending = None;
         self.active -= 1;
         self.ready = unless(self.failed, i);
@@ -356,8 +358,8 @@ impl Sched {
             → Stands plan n (with_event fed (End ended)) self.new }
     {
         let i = ended.position;
-        let tale = plain_tale(self.alloc, since, ended);
-        let _was = replace_stage(&mut self.cases, i, Stage::Finished(tale));
+        let case_record = plain_record(self.alloc, since, ended);
+        let _was = replace_stage(&mut self.cases, i, Stage::Finished(case_record));
         self.pending = None;
         self.active -= 1;
         self.ready = unless(self.failed, i);

@@ -1,6 +1,6 @@
 ghost use Rattle.std.specs.Prelude.{OnOk, ◌++◌, ◌≡◌, map, IfOk};
 ghost use Rattle.kt_sched.specs.TurnOrder.{turns};
-ghost use Rattle.kt_sched.specs.Board.{first_case, positions};
+ghost use Rattle.kt_sched.specs.SchedState.{first_case, positions};
 ghost use Rattle.kt_sched.specs.Cases.{positions_where};
 
 use crate::case::Case;

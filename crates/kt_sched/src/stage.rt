@@ -1,5 +1,5 @@
+use crate::case_record::CaseRecord;
 use crate::ended_body::EndedBody;
-use crate::tale::Tale;
 
 /// How far a case is.
 #[derive(Debug, Drop)]
@@ -15,7 +15,7 @@ pub enum Stage {
     /// Its cleanup runs.
     Cleaning(EndedBody),
     /// It is over.
-    Finished(Tale),
+    Finished(CaseRecord),
     /// Its entry was taken.
     Taken,
 }

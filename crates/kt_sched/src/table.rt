@@ -1,13 +1,13 @@
 ghost use Rattle.std.specs.Prelude.{◌≡◌, ◌<◌, ℕ, length, Some, IsSome};
 ghost use Rattle.kt_sched.specs.declared.stage.Stage.TheVariants.{Taken};
-ghost use Rattle.kt_sched.specs.Board.{tale_in, IsTold, HasExclusive, HasDecided};
-ghost use Rattle.kt_sched.specs.Cases.{TellsOf, KeepsNames, Replaced, HasBody, TookBody, RunsSince, Declares, TookEntry};
+ghost use Rattle.kt_sched.specs.SchedState.{record_in, HasRecord, HasExclusive, HasDecided};
+ghost use Rattle.kt_sched.specs.Cases.{IsEntryFrom, KeepsNames, Replaced, HasBody, TookBody, RunsSince, Declares, TookEntry};
 
 use crate::case::Case;
+use crate::case_record::CaseRecord;
+use crate::case_records::decided_record;
 use crate::ended_body::EndedBody;
 use crate::stage::Stage;
-use crate::tale::Tale;
-use crate::tales::decided_tale;
 use kt_base::{Entry, Text, Variables};
 use std::alloc::Global;
 use std::mem;
@@ -21,7 +21,7 @@ pub fn replace_stage(cases: &mut Vec<Case>, i: u32, stage: Stage) -> Stage
     mem::replace(&mut case.stage, stage)
 }
 
-/// Takes out the body that a case tells of.
+/// Takes the ended body out of a case.
 pub fn take_body(cases: &mut Vec<Case>, i: u32) -> EndedBody
     requires { HasBody cases.old.items i }
     ensures { TookBody cases.old.items cases.new.items i result }
@@ -71,17 +71,17 @@ pub fn is_decided(cases: &Vec<Case>, i: u32) -> bool
     }
 }
 
-/// Takes out what there is to tell of a case.
-fn take_tale(alloc: Global, case: &mut Case) -> Tale
-    requires { IsSome (tale_in case.old.job case.old.stage) }
-    ensures tale { tale_in case.old.job case.old.stage ≡ Some result }
+/// Takes the record out of a case that is over.
+fn take_record(alloc: Global, case: &mut Case) -> CaseRecord
+    requires { IsSome (record_in case.old.job case.old.stage) }
+    ensures case_record { record_in case.old.job case.old.stage ≡ Some result }
     ensures taken { case.new.stage ≡ Taken }
     ensures kept { KeepsNames case.old.job case.new.job }
 {
     match mem::replace(&mut case.stage, Stage::Taken) {
-        Stage::Finished(tale) => tale,
+        Stage::Finished(case_record) => case_record,
         Stage::Decided => match mem::replace(&mut case.job.decided, None) {
-            Some(verdict) => decided_tale(alloc, verdict),
+            Some(verdict) => decided_record(alloc, verdict),
             None => unreachable!(),
         },
         _ => unreachable!(),
@@ -90,27 +90,27 @@ fn take_tale(alloc: Global, case: &mut Case) -> Tale
 
 /// Takes the entry out of a case that is over. Names, reason and outputs are moved.
 fn entry_from(alloc: Global, case: &mut Case) -> Entry
-    requires { IsSome (tale_in case.old.job case.old.stage) }
-    ensures entry { TellsOf case.old result }
+    requires { IsSome (record_in case.old.job case.old.stage) }
+    ensures entry { IsEntryFrom case.old result }
     ensures taken { case.new.stage ≡ Taken }
 {
-    let tale = take_tale(alloc, case);
+    let case_record = take_record(alloc, case);
     Entry {
         position: case.job.position,
         program: mem::replace(&mut case.job.program, Text::new(alloc)),
         case_name: mem::replace(&mut case.job.case_name, Text::new(alloc)),
-        verdict: tale.verdict,
-        started: tale.started,
-        millis: tale.millis,
-        body: tale.body,
-        cleanup: tale.cleanup,
+        verdict: case_record.verdict,
+        started: case_record.started,
+        millis: case_record.millis,
+        body: case_record.body,
+        cleanup: case_record.cleanup,
         meta: mem::replace(&mut case.job.meta, Variables::new(alloc)),
     }
 }
 
 /// Takes out the entry of a case that is over.
 pub fn take_entry(alloc: Global, cases: &mut Vec<Case>, i: u32) -> Entry
-    requires { IsTold cases.old.items i }
+    requires { HasRecord cases.old.items i }
     ensures { TookEntry cases.old.items cases.new.items i result }
 {
     let case = &mut cases[i as usize];

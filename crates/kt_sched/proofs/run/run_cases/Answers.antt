@@ -8,7 +8,7 @@ use Rattle.kt_sched.specs.declared.run_fault.RunFault.{RunFault}
 use Rattle.kt_sched.specs.Trace.{Start, End, event_count}
 use Rattle.kt_sched.specs.Children.{MayStart, child_of}
 use Rattle.kt_sched.specs.Fed.{Fed, IsAnswerTo, with_event, fed_after, nothing_fed}
-use Rattle.kt_sched.specs.Board.{Stands}
+use Rattle.kt_sched.specs.SchedState.{Stands}
 use Rattle.kt_sched.specs.Run.{Ran, counted}
 use Rattle.kt_sched.proofs.Runs.{child_runs}
 use Rattle.kt_sched.proofs.Goes.{may_start, goes_start, goes_end, goes_stored, goes_failed, goes_first, fed_start, ended_one}

@@ -2,7 +2,7 @@ use Rattle.std.proofs.Common.{sym, ◌∙◌, ap, subst}
 use Rattle.kt_sched.specs.declared.next.Next.{Next}
 use Rattle.kt_sched.specs.declared.answer.Answer.{Answer}
 use Rattle.kt_sched.specs.declared.next.Next.TheVariants as next
-use Rattle.kt_sched.specs.Board.{Board}
+use Rattle.kt_sched.specs.SchedState.{SchedState}
 use Rattle.kt_sched.specs.Fed.{IsAnswerTo}
 use Rattle.kt_sched.proofs.Words.{runs_stage}
 use Rattle.kt_sched.proofs.sched.Sched.feed.Goals as goal
@@ -11,7 +11,7 @@ pub ended-requires-clause-runs : goal.ended-requires-clause-runs
 ended-requires-clause-runs c =
     let v = c.requires in
     let e = c.in-Ended.ended in
-    let q = sym (ap (λ (b : Board). b.asked) c.self.view_is) ∙ c.in-Wait.is in
+    let q = sym (ap (λ (b : SchedState). b.asked) c.self.view_is) ∙ c.in-Wait.is in
     let P : Next → Type 0 = λ x. IsAnswerTo v.2.trace x c.args.answer in
     let Q : Answer → Type 0 = λ x. IsAnswerTo v.2.trace next.Wait x in
     runs_stage v.0 v.1 v.2 c.args.self.now e.position e.role v.3 (subst Q c.in-Ended.is (subst P q v.4))

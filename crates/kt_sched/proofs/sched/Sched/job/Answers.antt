@@ -3,7 +3,7 @@ use Rattle.std.specs.Prelude.{slice_get, Some}
 use Rattle.std.proofs.lemmas.Option.{slice_get_read, slice_get_within}
 use Rattle.kt_sched.specs.declared.stage.Stage.TheVariants.{Taken}
 use Rattle.kt_sched.specs.declared.case.Case.{Case}
-use Rattle.kt_sched.specs.Board.{Board, Stands}
+use Rattle.kt_sched.specs.SchedState.{SchedState, Stands}
 use Rattle.kt_sched.proofs.EventSteps.{some_same}
 use Rattle.kt_sched.proofs.Words.{job_is}
 use Rattle.kt_sched.proofs.sched.Sched.job.Goals as goal
@@ -13,7 +13,7 @@ returns c = λ plan n fed h.
     let x = c.index.result.now in
     let cs = c.self.inside.cases.items in
     let i = c.args.position in
-    let P : Board → Type 0 = λ b. (d : Case) × (slice_get b.cases i ≡ Some d) × (d.stage ≢ Taken) in
+    let P : SchedState → Type 0 = λ b. (d : Case) × (slice_get b.cases i ≡ Some d) × (d.stage ≢ Taken) in
     let u = subst P (sym c.self.view_is) c.requires in
     let g : slice_get cs i ≡ Some x = slice_get_read cs (length cs) i x refl (slice_get_within cs i u.0 u.1) c.index.ensures in
     job_is plan n fed _ i x (subst (Stands plan n fed) (sym c.self.view_is) h) g (λ t. u.2 (ap (λ (d : Case). d.stage) (some_same u.0 x (sym u.1 ∙ g)) ∙ t))

@@ -1,7 +1,7 @@
 use Rattle.std.proofs.Common.{sym, subst}
 use Rattle.kt_sched.specs.declared.next.Next.{Next}
 use Rattle.kt_sched.specs.declared.next.Next.TheVariants as next
-use Rattle.kt_sched.specs.Board.{Board, Stands, IsChosen, IsSettled}
+use Rattle.kt_sched.specs.SchedState.{SchedState, Stands, IsChosen, IsSettled}
 use Rattle.kt_sched.proofs.Choice.{is_next}
 use Rattle.kt_sched.proofs.Only.{only_next}
 use Rattle.kt_sched.proofs.Following.{follows, untaken_start, stands_asked}
@@ -20,20 +20,20 @@ returns-clause-lends c = λ i role e.
     let v = c.self.invariant in
     let s = subst IsSettled (sym c.self.view_is) c.open_decided.ensures.settled in
     let P : Next → Type 0 = λ q. IsChosen c.open_decided.new.self q in
-    let Q : Board → Type 0 = λ b. IsChosen b (next.Start i role) in
+    let Q : SchedState → Type 0 = λ b. IsChosen b (next.Start i role) in
     untaken_start v.0 v.1 v.2 _ i role v.3 s (subst Q (sym c.self.view_is) (subst P e c.choice-next.ensures))
 
 pub returns-clause-stands : goal.returns-clause-stands
 returns-clause-stands c = λ plan n fed h.
     let s = subst IsSettled (sym c.self.view_is) c.open_decided.ensures.settled in
-    let Q : Board → Type 0 = λ b. IsChosen b c.choice-next.result in
+    let Q : SchedState → Type 0 = λ b. IsChosen b c.choice-next.result in
     stands_asked plan n fed _ c.choice-next.result (subst (Stands plan n fed) (sym c.self.view_is) (c.open_decided.ensures.stands plan n fed h)) s (subst Q (sym c.self.view_is) c.choice-next.ensures)
 
 pub invariant_of-self : goal.invariant_of-self
 invariant_of-self c =
     let v = c.self.invariant in
     let s = subst IsSettled (sym c.self.view_is) c.open_decided.ensures.settled in
-    let Q : Board → Type 0 = λ b. IsChosen b c.choice-next.result in
+    let Q : SchedState → Type 0 = λ b. IsChosen b c.choice-next.result in
     (v.0, v.1, v.2, stands_asked v.0 v.1 v.2 _ c.choice-next.result v.3 s (subst Q (sym c.self.view_is) c.choice-next.ensures))
 
 pub returns-clause-only : goal.returns-clause-only

@@ -1,5 +1,5 @@
 use Rattle.std.proofs.Common.{sym, subst}
-use Rattle.kt_sched.specs.Board.{Board, Stands, HasTurn, HasDecided, IsTold}
+use Rattle.kt_sched.specs.SchedState.{SchedState, Stands, HasTurn, HasDecided, HasRecord}
 use Rattle.kt_sched.proofs.Turns.{some_is}
 use Rattle.kt_sched.proofs.Located.{start_within}
 use Rattle.kt_sched.proofs.Opened.{stands_opened, told_now}
@@ -8,21 +8,21 @@ use Rattle.kt_sched.proofs.sched.Sched.open_decided.Goals as goal
 pub is_decided-requires : goal.is_decided-requires
 is_decided-requires c =
     let v = c.self.invariant in
-    let P : Board → Type 0 = λ b. HasTurn b c.in-Some.i in
+    let P : SchedState → Type 0 = λ b. HasTurn b c.in-Some.i in
     let t = subst P (sym c.self.view_is) c.in-Some.ensures in
     start_within v.0 v.1 v.2 _ c.self.inside.turn c.in-Some.i v.3 t.1
 
 pub invariant_of-self : goal.invariant_of-self
 invariant_of-self c =
     let v = c.self.invariant in
-    let P : Board → Type 0 = λ b. HasTurn b c.in-Some.i in
+    let P : SchedState → Type 0 = λ b. HasTurn b c.in-Some.i in
     let t = subst P (sym c.self.view_is) c.in-Some.ensures in
     let d = subst (HasDecided c.self.inside.cases.items c.in-Some.i) c.if-is_decided.true c.is_decided.ensures in
     (v.0, v.1, v.2, stands_opened v.0 v.1 v.2 _ c.in-Some.i v.3 c.in-None.is t d)
 
 pub returns-then-is_decided-clause-stands : goal.returns-then-is_decided-clause-stands
 returns-then-is_decided-clause-stands c = λ plan n fed h.
-    let P : Board → Type 0 = λ b. HasTurn b c.in-Some.i in
+    let P : SchedState → Type 0 = λ b. HasTurn b c.in-Some.i in
     let t = subst P (sym c.self.view_is) c.in-Some.ensures in
     let d = subst (HasDecided c.self.inside.cases.items c.in-Some.i) c.if-is_decided.true c.is_decided.ensures in
     stands_opened plan n fed _ c.in-Some.i (subst (Stands plan n fed) (sym c.self.view_is) h) c.in-None.is t d
@@ -30,7 +30,7 @@ returns-then-is_decided-clause-stands c = λ plan n fed h.
 pub returns-then-is_decided-clause-told : goal.returns-then-is_decided-clause-told
 returns-then-is_decided-clause-told c = λ q i e.
     let v = c.self.invariant in
-    let P : Board → Type 0 = λ b. HasTurn b c.in-Some.i in
+    let P : SchedState → Type 0 = λ b. HasTurn b c.in-Some.i in
     let t = subst P (sym c.self.view_is) c.in-Some.ensures in
     let d = subst (HasDecided c.self.inside.cases.items c.in-Some.i) c.if-is_decided.true c.is_decided.ensures in
-    subst (IsTold c.self.inside.cases.items) (some_is c.in-Some.i i e) (told_now v.0 v.1 v.2 _ c.in-Some.i v.3 t d)
+    subst (HasRecord c.self.inside.cases.items) (some_is c.in-Some.i i e) (told_now v.0 v.1 v.2 _ c.in-Some.i v.3 t d)

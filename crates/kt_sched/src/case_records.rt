@@ -1,11 +1,11 @@
 ghost use Rattle.std.specs.Prelude.{◌≡◌};
-ghost use Rattle.kt_sched.specs.Board.{decided_tale};
-ghost use Rattle.kt_sched.specs.Cases.{tale_of, plain_tale, ended_body, refused_tale};
+ghost use Rattle.kt_sched.specs.SchedState.{decided_record};
+ghost use Rattle.kt_sched.specs.Cases.{record_of, plain_record, ended_body, refused_record};
 ghost use Rattle.kt_sched.specs.EntryOf.{no_output};
 
+use crate::case_record::CaseRecord;
 use crate::ended::Ended;
 use crate::ended_body::EndedBody;
-use crate::tale::Tale;
 use kt_base::{Bytes, Output, Refused, Verdict};
 use kt_status::{CleanupEnd, body_verdict, refused_verdict, with_cleanup};
 use std::alloc::Global;
@@ -20,11 +20,11 @@ fn no_output(alloc: Global) -> Output
     }
 }
 
-/// What is told of a case that was not started.
-fn short_tale(alloc: Global, verdict: Verdict) -> Tale
-    ensures { result ≡ decided_tale verdict }
+/// The record of a case that was not started.
+fn unstarted_record(alloc: Global, verdict: Verdict) -> CaseRecord
+    ensures { result ≡ decided_record verdict }
 {
-    Tale {
+    CaseRecord {
         verdict,
         started: 0,
         millis: 0,
@@ -33,18 +33,18 @@ fn short_tale(alloc: Global, verdict: Verdict) -> Tale
     }
 }
 
-/// What is told of a decided case.
-pub fn decided_tale(alloc: Global, verdict: Verdict) -> Tale
-    ensures { result ≡ decided_tale verdict }
+/// The record of a decided case.
+pub fn decided_record(alloc: Global, verdict: Verdict) -> CaseRecord
+    ensures { result ≡ decided_record verdict }
 {
-    short_tale(alloc, verdict)
+    unstarted_record(alloc, verdict)
 }
 
-/// What is told of a case whose body was refused.
-pub fn refused_tale(alloc: Global, cause: Refused) -> Tale
-    ensures { result ≡ refused_tale cause }
+/// The record of a case whose body was refused.
+pub fn refused_record(alloc: Global, cause: Refused) -> CaseRecord
+    ensures { result ≡ refused_record cause }
 {
-    short_tale(alloc, refused_verdict(cause))
+    unstarted_record(alloc, refused_verdict(cause))
 }
 
 /// A body that ended, of a case that is not over.
@@ -59,11 +59,11 @@ pub fn ended_body(started: u64, ended: Ended) -> EndedBody
     }
 }
 
-/// What is told of a case without a declared cleanup. Where the clock went back it took no time.
-pub fn plain_tale(alloc: Global, started: u64, ended: Ended) -> Tale
-    ensures { result ≡ plain_tale started ended }
+/// The record of a case without a declared cleanup. If the clock went back, the case took no time.
+pub fn plain_record(alloc: Global, started: u64, ended: Ended) -> CaseRecord
+    ensures { result ≡ plain_record started ended }
 {
-    Tale {
+    CaseRecord {
         verdict: body_verdict(ended.evidence, ended.outcome),
         started,
         millis: ended.moment.saturating_sub(started),
@@ -72,11 +72,11 @@ pub fn plain_tale(alloc: Global, started: u64, ended: Ended) -> Tale
     }
 }
 
-/// What is told of a case whose cleanup ended.
-pub fn cleaned_tale(body: EndedBody, ended: Ended) -> Tale
-    ensures { result ≡ tale_of body (CleanupEnd.Ended ended.outcome) ended.moment ended.output }
+/// The record of a case whose cleanup ended.
+pub fn cleaned_record(body: EndedBody, ended: Ended) -> CaseRecord
+    ensures { result ≡ record_of body (CleanupEnd.Ended ended.outcome) ended.moment ended.output }
 {
-    Tale {
+    CaseRecord {
         verdict: with_cleanup(body.verdict, CleanupEnd::Ended(ended.outcome)),
         started: body.started,
         millis: ended.moment.saturating_sub(body.started),
@@ -85,11 +85,11 @@ pub fn cleaned_tale(body: EndedBody, ended: Ended) -> Tale
     }
 }
 
-/// What is told of a case whose cleanup was refused.
-pub fn uncleaned_tale(alloc: Global, body: EndedBody) -> Tale
-    ensures { result ≡ tale_of body CleanupEnd.Refused body.ended no_output }
+/// The record of a case whose cleanup was refused.
+pub fn uncleaned_record(alloc: Global, body: EndedBody) -> CaseRecord
+    ensures { result ≡ record_of body CleanupEnd.Refused body.ended no_output }
 {
-    Tale {
+    CaseRecord {
         verdict: with_cleanup(body.verdict, CleanupEnd::Refused),
         started: body.started,
         millis: body.ended.saturating_sub(body.started),

@@ -1,4 +1,4 @@
--- The core's state, and what it stands for.
+-- The scheduler's state, and what it stands for.
 use Rattle.std.specs.Prelude.{ℕ, Bool, true, false, List, [], ◌∷◌, ◌++◌, ◌==◌, ◌≡◌, ◌≢◌, ◌<◌, ◌≤◌, ◌⊎◌, Option, Some, None, map, take, drop, filter, nat_lt, count_by, sum_by, length, slice_get, is_some, is_none, ⊤, if◌then◌else◌}
 use Rattle.kt_base.specs.declared.role.Role.{Role}
 use Rattle.kt_base.specs.declared.role.Role.TheVariants.{Body, Cleanup}
@@ -13,7 +13,7 @@ use Rattle.kt_sched.specs.declared.answer.Answer.{Answer}
 use Rattle.kt_sched.specs.declared.stage.Stage.{Stage}
 use Rattle.kt_sched.specs.declared.stage.Stage.TheVariants.{Waiting, Decided, Running, Owing, Cleaning, Finished, Taken}
 use Rattle.kt_sched.specs.declared.case.Case.{Case}
-use Rattle.kt_sched.specs.declared.tale.Tale.{Tale}
+use Rattle.kt_sched.specs.declared.case_record.CaseRecord.{CaseRecord}
 use Rattle.kt_sched.specs.Trace.{Event, Start, End, Trace, of}
 use Rattle.kt_sched.specs.History.{mark_of, is_whole}
 use Rattle.kt_sched.specs.TurnOrder.{body_starts, turns}
@@ -23,8 +23,8 @@ use Rattle.kt_sched.specs.EntryOf.{entry_of, body_of, no_output}
 use Rattle.kt_sched.specs.Plan.{IsPlan}
 use Rattle.kt_sched.specs.Fed.{Fed, has_failed, IsAnswerTo}
 
--- the core's state
-pub record Board : Type 0 where
+-- the scheduler's state
+pub record SchedState : Type 0 where
   pub cases : List Case
   pub order : List ℕ
   pub turn : ℕ
@@ -84,23 +84,23 @@ first_stage (Some verdict) = Decided
 abbrev pub first_case : Job → Case
 first_case job = record { job = job; stage = first_stage job.decided }
 
--- what is told of a decided case
-abbrev pub decided_tale : Judged → Tale
-decided_tale verdict = record { verdict = verdict; started = 0; millis = 0; body = no_output; cleanup = no_output }
+-- the record of a decided case
+abbrev pub decided_record : Judged → CaseRecord
+decided_record verdict = record { verdict = verdict; started = 0; millis = 0; body = no_output; cleanup = no_output }
 
--- what is told of a case by its decided verdict, if it has one
-abbrev pub decided_tale_of : Option Judged → Option Tale
-decided_tale_of None = None
-decided_tale_of (Some verdict) = Some (decided_tale verdict)
+-- the record of a case with a decided verdict, if it has one
+abbrev pub decided_record_of : Option Judged → Option CaseRecord
+decided_record_of None = None
+decided_record_of (Some verdict) = Some (decided_record verdict)
 
--- what there is to tell of a case
-abbrev pub tale_in : Job → Stage → Option Tale
-tale_in job (Finished t) = Some t
-tale_in job Decided = decided_tale_of job.decided
-tale_in job _ = None
+-- the record of a case that is over or decided
+abbrev pub record_in : Job → Stage → Option CaseRecord
+record_in job (Finished t) = Some t
+record_in job Decided = decided_record_of job.decided
+record_in job _ = None
 
--- the entry of a job of which this is told
-abbrev pub entry_with : Job → Tale → Entry
+-- the entry of a job with this record
+abbrev pub entry_with : Job → CaseRecord → Entry
 entry_with job t = record {
   position = job.position;
   program = job.program;
@@ -161,25 +161,25 @@ abbrev pub HasDecided : List Case → ℕ → Bool → Type 0
 HasDecided cases i flag = (c : Case) × (slice_get cases i ≡ Some c) × (is_decided_stage c.stage ≡ flag)
 
 -- the case whose turn it is, where there is room for it
-abbrev pub HasTurn : Board → ℕ → Type 0
+abbrev pub HasTurn : SchedState → ℕ → Type 0
 HasTurn b i = (b.failed ≡ false) × (slice_get b.order b.turn ≡ Some i) × (b.active < b.width) × (b.active ≡ 0 ⊎ IsOrdinary b.cases i)
 
 -- there is no such case
-abbrev pub IsHeld : Board → Type 0
+abbrev pub IsHeld : SchedState → Type 0
 IsHeld b =
     (b.failed ≡ true) ⊎ ((length b.order ≤ b.turn) ⊎ ((b.width ≤ b.active) ⊎ ((0 < b.active) × ((i : ℕ) × (slice_get b.order b.turn ≡ Some i) × IsExclusive b.cases i))))
 
 -- the case whose turn it is, if there is room for one
-abbrev pub IsTurn : Board → Option ℕ → Type 0
+abbrev pub IsTurn : SchedState → Option ℕ → Type 0
 IsTurn b None = IsHeld b
 IsTurn b (Some i) = HasTurn b i
 
 -- no decided case can be put
-abbrev pub IsSettled : Board → Type 0
+abbrev pub IsSettled : SchedState → Type 0
 IsSettled b = b.ready ≡ None → (i : ℕ) → HasTurn b i → HasDecided b.cases i false
 
 -- what was asked last fits the state
-abbrev pub IsAsked : Board → Next → Type 0
+abbrev pub IsAsked : SchedState → Next → Type 0
 IsAsked b (next.Start i Body) = (b.ready ≡ None) × (b.pending ≡ None) × HasTurn b i × IsSettled b
 IsAsked b (next.Start i Cleanup) = (b.ready ≡ None) × (b.pending ≡ Some i) × IsSettled b
 IsAsked b next.Wait = (b.ready ≡ None) × (b.pending ≡ None) × (0 < b.active) × IsSettled b
@@ -187,31 +187,31 @@ IsAsked b (next.Put i) = (b.failed ≡ false) × (b.ready ≡ Some i)
 IsAsked b next.Done = ⊤
 
 -- what is chosen in a state
-abbrev pub IsChosen : Board → Next → Type 0
+abbrev pub IsChosen : SchedState → Next → Type 0
 IsChosen b (next.Put i) = b.ready ≡ Some i
 IsChosen b (next.Start i Cleanup) = (b.ready ≡ None) × (b.pending ≡ Some i)
 IsChosen b (next.Start i Body) = (b.ready ≡ None) × (b.pending ≡ None) × HasTurn b i
 IsChosen b next.Wait = (b.ready ≡ None) × (b.pending ≡ None) × (0 < b.active) × IsHeld b
 IsChosen b next.Done = (b.ready ≡ None) × (b.pending ≡ None) × (b.active ≡ 0) × IsHeld b
 
--- a case whose entry can be taken
-abbrev pub IsTold : List Case → ℕ → Type 0
-IsTold cases i = (c : Case) × (t : Tale) × (slice_get cases i ≡ Some c) × (tale_in c.job c.stage ≡ Some t)
+-- a case that has a record: its entry can be taken
+abbrev pub HasRecord : List Case → ℕ → Type 0
+HasRecord cases i = (c : Case) × (t : CaseRecord) × (slice_get cases i ≡ Some c) × (record_in c.job c.stage ≡ Some t)
 
 -- a case that is not yet taken
 abbrev pub IsUntaken : List Case → ℕ → Type 0
 IsUntaken cases i = (c : Case) × (slice_get cases i ≡ Some c) × (c.stage ≢ Taken)
 
 -- how many answers may still be taken
-abbrev pub work_left : Board → ℕ
+abbrev pub work_left : SchedState → ℕ
 work_left b = work b.cases
 
 -- the entry of this case can be taken
-abbrev pub HoldsEntry : Board → ℕ → Type 0
-HoldsEntry b i = IsTold b.cases i
+abbrev pub HoldsEntry : SchedState → ℕ → Type 0
+HoldsEntry b i = HasRecord b.cases i
 
 -- the job of this case can be lent
-abbrev pub CanLend : Board → ℕ → Type 0
+abbrev pub CanLend : SchedState → ℕ → Type 0
 CanLend b i = IsUntaken b.cases i
 
 -- whether a verdict is decided
@@ -249,7 +249,7 @@ pub record AreGone (plan : List Job) (n : ℕ) (T : Trace) (turn : ℕ) : Type 0
   pub due : (k : ℕ) (job : Job) → turn ≤ k → slice_get (turns plan) k ≡ Some job → was_open plan n T job ≡ is_open plan n T job
 
 -- the state stands for a plan, a width and the answers fed so far
-pub record Stands (plan : List Job) (n : ℕ) (fed : Fed) (b : Board) : Type 0 where
+pub record Stands (plan : List Job) (n : ℕ) (fed : Fed) (b : SchedState) : Type 0 where
   pub is_plan : IsPlan plan
   pub room : 0 < n
   pub count : length b.cases ≡ length plan
@@ -267,7 +267,7 @@ pub record Stands (plan : List Job) (n : ℕ) (fed : Fed) (b : Board) : Type 0 w
   pub pending : b.pending ≡ owed plan fed.trace
   pub owing : (i : ℕ) (c : Case) → slice_get b.cases i ≡ Some c → (b : _) → c.stage ≡ Owing b → owed plan fed.trace ≡ Some i
   pub owes : (i : ℕ) → owed plan fed.trace ≡ Some i → (had : Job) × (o : _) × (slice_get b.cases i ≡ Some (record { job = had; stage = Owing o }))
-  pub told : (i : ℕ) → b.ready ≡ Some i → b.asked ≡ next.Done → IsTold b.cases i
+  pub told : (i : ℕ) → b.ready ≡ Some i → b.asked ≡ next.Done → HasRecord b.cases i
   pub ripe : (i m : ℕ) → b.ready ≡ Some i → slice_get b.order m ≡ Some i → m < b.turn
   pub gone : has_failed fed ≡ false → AreGone plan n fed.trace b.turn
   pub stored : fed.stored ≤ length (recorded plan n fed.trace)
@@ -277,9 +277,9 @@ pub record Stands (plan : List Job) (n : ℕ) (fed : Fed) (b : Board) : Type 0 w
   pub asked : IsAsked b b.asked
 
 -- the state stands for some plan, width and answers
-abbrev pub IsStanding : Board → Type 0
+abbrev pub IsStanding : SchedState → Type 0
 IsStanding b = (plan : List Job) × (n : ℕ) × (fed : Fed) × Stands plan n fed b
 
 -- the answer fits what was asked last
-abbrev pub IsAnswer : Board → Answer → Type 0
+abbrev pub IsAnswer : SchedState → Answer → Type 0
 IsAnswer b answer = (plan : List Job) × (n : ℕ) × (fed : Fed) × Stands plan n fed b × IsAnswerTo fed.trace b.asked answer

@@ -1,8 +1,8 @@
 use kt_base::{Output, Verdict};
 
-/// What is told of a case that is over, in its entry.
+/// The record of a case that is over: its entry, without the names.
 #[derive(Debug, Drop)]
-pub struct Tale {
+pub struct CaseRecord {
     pub verdict: Verdict,
     /// In milliseconds since 1970 in UTC.
     pub started: u64,
