@@ -1,11 +1,11 @@
--- Cases and their children at the places of a row.
+-- Cases and their children at the places of a list of children.
 use Rattle.std.proofs.Common.{◌≡◌, ℕ, zero, suc, ◌+◌, ◌≤◌, ◌==◌, ◌&&◌, List, [], ◌∷◌, ◌++◌, length, Bool, true, false, Some, ◌⊎◌, map, slice_get, refl, sym, ◌∙◌, ap, subst, arith, inl, inr}
 use Rattle.std.specs.Prelude.{remove}
 use Rattle.kt_sched.specs.Children.{same_role}
 use Rattle.kt_child.specs.declared.child.Child.{Child}
 use Rattle.kt_child.specs.declared.watched.Watched.{Watched}
 use Rattle.kt_child.specs.declared.case.Case.{Case}
-use Rattle.kt_child.specs.Board.{one_if}
+use Rattle.kt_child.specs.ChildrenState.{one_if}
 use Rattle.kt_child.specs.Lives.{same_child}
 use Rattle.kt_child.specs.SeveralLives.{kept, name_of, named}
 use Rattle.kt_child.proofs.LifeSteps.{child_is_own}
@@ -104,16 +104,16 @@ not_one false h = refl
 pub other_number : (d a : Child) → one_if (d.attempt == a.attempt) ≡ 0 → same_child d a ≡ false
 other_number d a h = ap (λ t. t && same_role d.role a.role) (not_one (d.attempt == a.attempt) h)
 
--- nothing behind a row
+-- nothing behind a list of children
 append_nil : (xs : List Watched) → xs ++ [] ≡ xs
 append_nil [] = refl
 append_nil (x ∷ xs) = ap (λ t. x ∷ t) (append_nil xs)
 
--- a child of another name behind a row
+-- a child of another name behind a list of children
 pub named_past : (a : Child) (row : List Watched) (k : Watched) → same_child k.child a ≡ false → named a (row ++ k ∷ []) ≡ named a row
 named_past a row k h = named_append a row (k ∷ []) ∙ ap (λ t. named a row ++ kept t k []) h ∙ append_nil (named a row)
 
--- a child behind a row in which its name isn't
+-- a child behind a list of children in which its name isn't
 pub named_last : (row : List Watched) (k : Watched) → named k.child row ≡ [] → named k.child (row ++ k ∷ []) ≡ k ∷ []
 named_last row k h =
     named_append k.child row (k ∷ []) ∙ ap (λ t. t ++ kept (same_child k.child k.child) k []) h ∙ ap (λ t. kept t k []) (child_is_own k.child)

@@ -17,7 +17,7 @@ use Rattle.kt_child.specs.declared.case.Case.{Case}
 use Rattle.kt_child.specs.declared.watched.Watched.{Watched}
 use Rattle.kt_child.specs.declared.next_part.NextPart.{NextPart}
 use Rattle.kt_child.specs.declared.next_part.NextPart.TheVariants.{More, All, Absent, Failed, Past}
-use Rattle.kt_child.specs.Board.{Board}
+use Rattle.kt_child.specs.ChildrenState.{ChildrenState}
 use Rattle.kt_child.specs.Calls.{Call, ReadFile, ReadPart}
 use Rattle.kt_child.specs.ChildOutcome.{Heard}
 use Rattle.kt_child.specs.EndShares.{EndShares}
@@ -85,7 +85,7 @@ leaves_silent c case calls outcome ended (now, reads, out, err, last, e, gathers
     ∙ removes_silent c (is_over case) case.paths.dir last removes
 
 -- what a wait that ends at a place is for each child whose name is its own
-pub shares_at : (old new : Board) (polls rest : List Call) (place : ℕ) (outcome : Outcome) (after : List Watched) (case : Case) (e : Ended) (c : Child) (k : Watched)
+pub shares_at : (old new : ChildrenState) (polls rest : List Call) (place : ℕ) (outcome : Outcome) (after : List Watched) (case : Case) (e : Ended) (c : Child) (k : Watched)
     → named c old.children ≡ k ∷ [] → WaitedOn old.going old.children polls place outcome after new.going
     → Leaves case rest outcome e → new.children ≡ remove after place
     → (over : Child) × (slice_get (map name_of old.children) place ≡ Some over)

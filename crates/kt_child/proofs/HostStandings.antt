@@ -114,7 +114,7 @@ proceeds_more (Some (Some status)) b c p q = subst (λ (t : Stand). Proceeds t c
 pub all_proceed_more : (a b c : Child → Stand) → AllProceed a b → AllProceed b c → AllProceed a c
 all_proceed_more a b c p q k = proceeds_more (a k) (b k) (c k) (p k) (q k)
 
--- one child of a row proceeds
+-- one child of a list of children proceeds
 pub all_proceed_set : {P I O E : Type 0} (held : List (HostChild P I O E)) (i : ℕ) (h w : HostChild P I O E) → i < length held → h ≡ get_or held i h
     → w.child ≡ h.child → Proceeds (stand_of h) (stand_of w) → AllProceed (stand_in held) (stand_in (slice_set held i w))
 all_proceed_set [] i h w lt e name p c = absurd (omega arith)

@@ -6,7 +6,7 @@ use Rattle.kt_sched.specs.Children.{same_role}
 use Rattle.kt_child.specs.declared.child.Child.{Child}
 use Rattle.kt_child.specs.declared.watched.Watched.{Watched}
 use Rattle.kt_child.specs.declared.case.Case.{Case}
-use Rattle.kt_child.specs.Board.{one_if}
+use Rattle.kt_child.specs.ChildrenState.{one_if}
 use Rattle.kt_child.specs.Lives.{same_child}
 use Rattle.kt_child.specs.SeveralLives.{kept, name_of, named}
 use Rattle.kt_child.proofs.LifeSteps.{child_is_own}

@@ -1,4 +1,4 @@
--- The names of a driver's row stay apart.
+-- The names of a driver's running children stay apart.
 use Rattle.std.proofs.Common.{◌≡◌, ℕ, zero, suc, ◌+◌, ◌≤◌, ◌==◌, List, [], ◌∷◌, ◌++◌, Bool, true, false, Some, ◌⊎◌, map, slice_get, refl, sym, ◌∙◌, ap, subst, arith, inl, inr, if◌then◌else◌}
 use Rattle.std.specs.Prelude.{remove}
 use Rattle.kt_base.specs.declared.role.Role.{Role}
@@ -12,8 +12,8 @@ use Rattle.kt_child.specs.declared.paths.Paths.{Paths}
 use Rattle.kt_child.specs.declared.watched.Watched.{Watched}
 use Rattle.kt_child.specs.declared.case.Case.{Case}
 use Rattle.kt_child.specs.Calls.{Call}
-use Rattle.kt_child.specs.Board.{Board, Waited, one_if, pending_with}
-use Rattle.kt_child.specs.Begins.{board_after_start}
+use Rattle.kt_child.specs.ChildrenState.{ChildrenState, Waited, one_if, pending_with}
+use Rattle.kt_child.specs.Begins.{state_after_start}
 use Rattle.kt_child.specs.Ends.{is_over}
 use Rattle.kt_child.specs.JobPlan.{case_of, cleaning, watched_of}
 use Rattle.kt_child.specs.ChildPlan.{paths_of}
@@ -21,11 +21,11 @@ use Rattle.kt_child.specs.Launches.{StartsBy}
 use Rattle.kt_child.specs.Numbers.{IsBare, NamesDiffer}
 use Rattle.kt_child.specs.SeveralLives.{name_of}
 use Rattle.kt_child.proofs.NameCounts.{case_name, numbered, numbered_less, numbered_more, one_or, own_named}
-use Rattle.kt_child.proofs.RowNames.{names_append}
+use Rattle.kt_child.proofs.ChildNames.{names_append}
 use Rattle.kt_child.proofs.SeveralWaits.{names_waited}
 
 -- each child is that of its case, each number stands once at most, and none from the next on
-abbrev pub Apart : ℕ → Board → Type 0
+abbrev pub Apart : ℕ → ChildrenState → Type 0
 Apart next b =
     (map name_of b.children ≡ map case_name b.cases)
     × ((n : ℕ) → (numbered n b.cases + numbered n b.pending ≤ 1) × (next ≤ n → numbered n b.cases + numbered n b.pending ≡ 0))
@@ -40,8 +40,8 @@ names_more ks cs k c e f =
     names_append ks (k ∷ []) ∙ ap (λ t. t ++ k.child ∷ []) e ∙ ap (λ t. map case_name cs ++ t ∷ []) f ∙ sym (cases_append cs (c ∷ []))
 
 -- a body that takes the next number
-body_more : (next : ℕ) (b : Board) (job : Job) (p : Paths) (answer : StartAnswer) → Apart next b
-    → Apart (next + 1) (board_after_start b (watched_of job Body next) (case_of job next p) answer)
+body_more : (next : ℕ) (b : ChildrenState) (job : Job) (p : Paths) (answer : StartAnswer) → Apart next b
+    → Apart (next + 1) (state_after_start b (watched_of job Body next) (case_of job next p) answer)
 body_more next b job p (RefusedFor cause) (e, h) = (e, λ n. let m = h n in (m.0, λ le. m.1 (omega arith)))
 body_more next b job p (StartedAt moment) (e, h) =
     (names_more b.children b.cases (watched_of job Body next) (case_of job next p) e refl, λ n. count n (one_or n next))
@@ -61,8 +61,8 @@ body_more next b job p (StartedAt moment) (e, h) =
         (omega (arith, s, z, y), λ le. absurd (omega (arith, le, same)))
 
 -- a cleanup, which has the number that was owed
-cleanup_more : (next : ℕ) (b : Board) (job : Job) (place : ℕ) (c : Case) (answer : StartAnswer) → slice_get b.pending place ≡ Some c → Apart next b
-    → Apart next (board_after_start (record { children = b.children; cases = b.cases; going = b.going; pending = remove b.pending place })
+cleanup_more : (next : ℕ) (b : ChildrenState) (job : Job) (place : ℕ) (c : Case) (answer : StartAnswer) → slice_get b.pending place ≡ Some c → Apart next b
+    → Apart next (state_after_start (record { children = b.children; cases = b.cases; going = b.going; pending = remove b.pending place })
     (watched_of job Cleanup c.attempt) (cleaning c job) answer)
 cleanup_more next b job place c (RefusedFor cause) at (e, h) =
     (e, λ n. let s = numbered_less n b.pending place c at in let m = h n in let l = m.0 in (omega (arith, s, l), λ le. let y = m.1 le in omega (arith, s, y)))
@@ -76,18 +76,18 @@ cleanup_more next b job place c (StartedAt moment) at (e, h) = (
       (omega (arith, r, s, l), λ le. let y = m.1 le in omega (arith, r, s, y)),
 )
 
-pub start_apart : {O : Type 0} (leads : O → Call → O → Type 0) (source root : List ℕ) (job : Job) (role : Role) (os : O) (next : ℕ) (b : Board) (answer : StartAnswer) (os' : O) (next' : ℕ) (b' : Board)
+pub start_apart : {O : Type 0} (leads : O → Call → O → Type 0) (source root : List ℕ) (job : Job) (role : Role) (os : O) (next : ℕ) (b : ChildrenState) (answer : StartAnswer) (os' : O) (next' : ℕ) (b' : ChildrenState)
     → StartsBy leads source root job role os next b answer os' next' b' → Apart next b → Apart next' b'
 start_apart leads source root job Body os next b answer os' next' b' (inl (e, told, s, f, same)) h =
-    let P : Board → Type 0 = λ t. Apart next' t in
+    let P : ChildrenState → Type 0 = λ t. Apart next' t in
     let Q : ℕ → Type 0 = λ t. Apart t b in
     subst P (sym same) (subst Q (sym f) h)
 start_apart leads source root job Body os next b answer os' next' b' (inr (l, e, more, same)) h =
-    let P : Board → Type 0 = λ t. Apart (next + 1) t in
+    let P : ChildrenState → Type 0 = λ t. Apart (next + 1) t in
     let Q : ℕ → Type 0 = λ t. Apart t b' in
     subst Q (sym e) (subst P (sym same) (body_more next b job (paths_of root next) answer h))
 start_apart leads source root job Cleanup os next b answer os' next' b' (place, c, at, position, e, more, same) h =
-    let P : Board → Type 0 = λ t. Apart next t in
+    let P : ChildrenState → Type 0 = λ t. Apart next t in
     let Q : ℕ → Type 0 = λ t. Apart t b' in
     subst Q (sym e) (subst P (sym same) (cleanup_more next b job place c answer at h))
 
@@ -105,7 +105,7 @@ owed n c pending = by (is_over c)
     by true = omega arith
     by false = let s = numbered_more n pending c in omega (arith, s)
 
-pub wait_apart : (old new : Board) (calls : List Call) (ended : Ended) (next : ℕ) → Waited old calls ended new → Apart next old → Apart next new
+pub wait_apart : (old new : ChildrenState) (calls : List Call) (ended : Ended) (next : ℕ) → Waited old calls ended new → Apart next old → Apart next new
 wait_apart old new calls ended next (polls, rest, place, outcome, after, c, eq, waited, at, leaves, ch, ca, pe) (e, h) =
     let names : map name_of after ≡ map name_of old.children = names_waited old.going old.children polls place outcome after new.going waited in
     let l : map name_of new.children ≡ remove (map name_of old.children) place = ap (map name_of) ch ∙ map_remove name_of after place ∙ ap (λ t. remove t place) names in
@@ -121,26 +121,26 @@ wait_apart old new calls ended next (polls, rest, place, outcome, after, c, eq, 
           (omega (arith, s, a, p, o, one), λ le. let y = m.1 le in omega (arith, s, a, p, o, y)),
     )
 
-trace_apart : {D : Type 0} (next : D → ℕ) (row : D → Board) (starts : D → Job → Role → StartAnswer → D → Type 0) (waits : D → Ended → D → Type 0)
-    → ((d e : D) (job : Job) (role : Role) (answer : StartAnswer) → starts d job role answer e → Apart (next d) (row d) → Apart (next e) (row e))
-    → ((d e : D) (ended : Ended) → waits d ended e → Apart (next d) (row d) → Apart (next e) (row e))
-    → (plan : List Job) (T : Trace) (d e : D) → Leads starts waits plan T d e → Apart (next d) (row d) → Apart (next e) (row e)
-trace_apart {D} next row starts waits s w plan NoEvent d e h a = let P : D → Type 0 = λ t. Apart (next t) (row t) in subst P (sym h) a
-trace_apart next row starts waits s w plan (Then T (Start i role answer)) d e (mid, job, led, at, started) a =
-    s mid e job role answer started (trace_apart next row starts waits s w plan T d mid led a)
-trace_apart next row starts waits s w plan (Then T (End ended)) d e (mid, led, waited) a =
-    w mid e ended waited (trace_apart next row starts waits s w plan T d mid led a)
+trace_apart : {D : Type 0} (next : D → ℕ) (running : D → ChildrenState) (starts : D → Job → Role → StartAnswer → D → Type 0) (waits : D → Ended → D → Type 0)
+    → ((d e : D) (job : Job) (role : Role) (answer : StartAnswer) → starts d job role answer e → Apart (next d) (running d) → Apart (next e) (running e))
+    → ((d e : D) (ended : Ended) → waits d ended e → Apart (next d) (running d) → Apart (next e) (running e))
+    → (plan : List Job) (T : Trace) (d e : D) → Leads starts waits plan T d e → Apart (next d) (running d) → Apart (next e) (running e)
+trace_apart {D} next running starts waits s w plan NoEvent d e h a = let P : D → Type 0 = λ t. Apart (next t) (running t) in subst P (sym h) a
+trace_apart next running starts waits s w plan (Then T (Start i role answer)) d e (mid, job, led, at, started) a =
+    s mid e job role answer started (trace_apart next running starts waits s w plan T d mid led a)
+trace_apart next running starts waits s w plan (Then T (End ended)) d e (mid, led, waited) a =
+    w mid e ended waited (trace_apart next running starts waits s w plan T d mid led a)
 
-pub none_yet : (next : ℕ) (b : Board) → IsBare b → Apart next b
+pub none_yet : (next : ℕ) (b : ChildrenState) → IsBare b → Apart next b
 none_yet next b (x, y, z) =
     (ap (map name_of) x ∙ sym (ap (map case_name) y), λ n. let p = ap (numbered n) y in let q = ap (numbered n) z in (omega (arith, p, q), λ le. omega (arith, p, q)))
 
-pub names_differ : {D : Type 0} (next : D → ℕ) (row : D → Board) (starts : D → Job → Role → StartAnswer → D → Type 0) (waits : D → Ended → D → Type 0)
-    → ((d e : D) (job : Job) (role : Role) (answer : StartAnswer) → starts d job role answer e → Apart (next d) (row d) → Apart (next e) (row e))
-    → ((d e : D) (ended : Ended) → waits d ended e → Apart (next d) (row d) → Apart (next e) (row e))
-    → NamesDiffer row starts waits
-names_differ next row starts waits s w plan T d e place k bare led at =
-    let a : Apart (next e) (row e) = trace_apart next row starts waits s w plan T d e led (none_yet (next d) (row d) bare) in
+pub names_differ : {D : Type 0} (next : D → ℕ) (running : D → ChildrenState) (starts : D → Job → Role → StartAnswer → D → Type 0) (waits : D → Ended → D → Type 0)
+    → ((d e : D) (job : Job) (role : Role) (answer : StartAnswer) → starts d job role answer e → Apart (next d) (running d) → Apart (next e) (running e))
+    → ((d e : D) (ended : Ended) → waits d ended e → Apart (next d) (running d) → Apart (next e) (running e))
+    → NamesDiffer running starts waits
+names_differ next running starts waits s w plan T d e place k bare led at =
+    let a : Apart (next e) (running e) = trace_apart next running starts waits s w plan T d e led (none_yet (next d) (running d) bare) in
     let m = a.1 k.child.attempt in
     let one = m.0 in
-    own_named place (row e).children (row e).cases k a.0 at (omega (arith, one))
+    own_named place (running e).children (running e).cases k a.0 at (omega (arith, one))

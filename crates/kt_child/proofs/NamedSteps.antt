@@ -1,4 +1,4 @@
--- The children of one name, in rows that are cut, joined and polled.
+-- The children of one name, in lists that are cut, joined and polled.
 use Rattle.std.proofs.Common.{◌≡◌, ℕ, zero, suc, List, [], ◌∷◌, ◌++◌, Bool, true, false, Some, ◌⊎◌, map, take, drop, slice_get, refl, sym, ◌∙◌, ap, inl, inr}
 use Rattle.kt_child.specs.declared.child.Child.{Child}
 use Rattle.kt_child.specs.declared.watched.Watched.{Watched}
@@ -24,7 +24,7 @@ pub named_map : (c : Child) (xs : List Watched) → named c (map advanced xs) �
 named_map c [] = refl
 named_map c (k ∷ xs) = ap (kept (same_child k.child c) (advanced k)) (named_map c xs) ∙ kept_map (same_child k.child c) k (named c xs)
 
--- a row by its child at a place
+-- a list of children by its child at a place
 pub at_place : (i : ℕ) (ks : List Watched) (o : Watched) → slice_get ks i ≡ Some o
     → (ks ≡ take i ks ++ o ∷ drop (suc i) ks) × (advanced_below i ks ≡ map advanced (take i ks) ++ o ∷ drop (suc i) ks)
 at_place i [] o e = let no : ⊥ = cc in absurd no
@@ -45,7 +45,7 @@ tail_is x y xs ys e = cc
 pub head_is : (x y : Watched) (xs ys : List Watched) → x ∷ xs ≡ y ∷ ys → x ≡ y
 head_is x y xs ys e = cc
 
--- where a single child stands in three parts of a row: in the middle, or not
+-- where a single child stands in three parts of a list of children: in the middle, or not
 pub in_parts : (hs ms ds : List Watched) (k : Watched) → hs ++ (ms ++ ds) ≡ k ∷ []
     → ((ms ≡ k ∷ []) × (hs ≡ []) × (ds ≡ [])) ⊎ ((ms ≡ []) × (hs ++ ds ≡ k ∷ []))
 in_parts [] [] ds k e = inr (refl, e)

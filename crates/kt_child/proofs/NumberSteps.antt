@@ -9,19 +9,19 @@ use Rattle.kt_sched.specs.declared.start_answer.StartAnswer.{StartAnswer}
 use Rattle.kt_sched.specs.declared.ended.Ended.{Ended}
 use Rattle.kt_sched.specs.Trace.{Trace, NoEvent, Then, Start, End, Leads}
 use Rattle.kt_child.specs.Calls.{Call}
-use Rattle.kt_child.specs.Board.{Board}
+use Rattle.kt_child.specs.ChildrenState.{ChildrenState}
 use Rattle.kt_child.specs.Launches.{BodyStarts, StartsBy}
 use Rattle.kt_child.specs.Lists.{ListsBy}
 use Rattle.kt_child.specs.Numbers.{AttemptsDiffer, NumbersDiffer, Request, Start as Asked, Wait, ListOf, Serves, ServesAll, is_attempt}
 
 -- a body takes the next number
-pub body_rises : {O : Type 0} (leads : O → Call → O → Type 0) (source root : List ℕ) (job : Job) (os : O) (next : ℕ) (b : Board) (answer : StartAnswer) (os' : O) (next' : ℕ) (b' : Board)
+pub body_rises : {O : Type 0} (leads : O → Call → O → Type 0) (source root : List ℕ) (job : Job) (os : O) (next : ℕ) (b : ChildrenState) (answer : StartAnswer) (os' : O) (next' : ℕ) (b' : ChildrenState)
     → next < 2 ^ 64 - 1 → BodyStarts leads source root job os next b answer os' next' b' → next < next'
 body_rises leads source root job os next b answer os' next' b' lt (inl (e, told, s, f, h)) = absurd (omega arith)
 body_rises leads source root job os next b answer os' next' b' lt (inr (l, e, more, b2)) = omega arith
 
 -- a start never lets the number fall
-pub start_rises : {O : Type 0} (leads : O → Call → O → Type 0) (source root : List ℕ) (job : Job) (role : Role) (os : O) (next : ℕ) (b : Board) (answer : StartAnswer) (os' : O) (next' : ℕ) (b' : Board)
+pub start_rises : {O : Type 0} (leads : O → Call → O → Type 0) (source root : List ℕ) (job : Job) (role : Role) (os : O) (next : ℕ) (b : ChildrenState) (answer : StartAnswer) (os' : O) (next' : ℕ) (b' : ChildrenState)
     → StartsBy leads source root job role os next b answer os' next' b' → next ≤ next'
 start_rises leads source root job Body os next b answer os' next' b' (inl (e, told, s, f, h)) = omega arith
 start_rises leads source root job Body os next b answer os' next' b' (inr (l, e, more, b2)) = omega arith

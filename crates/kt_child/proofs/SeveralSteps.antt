@@ -1,4 +1,4 @@
--- What the children of one name hear in polls of a row.
+-- What the children of one name hear in polls of a list of children.
 use Rattle.std.proofs.Common.{◌≡◌, ℕ, zero, suc, List, [], ◌∷◌, ◌++◌, Bool, true, false, Result, map, refl, sym, ◌∙◌, ap, subst, inr, append_assoc, if◌then◌else◌}
 use Rattle.kt_base.specs.declared.outcome.Outcome.{Outcome}
 use Rattle.kt_child.specs.declared.child.Child.{Child}

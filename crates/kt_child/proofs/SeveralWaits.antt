@@ -1,4 +1,4 @@
--- What a wait is for each child of a row, and all waits of one.
+-- What a wait is for each child of a list of children, and all waits of one.
 use Rattle.std.proofs.Common.{◌≡◌, ℕ, zero, suc, List, [], ◌∷◌, ◌++◌, Bool, true, false, Option, Some, None, ◌⊎◌, map, take, drop, slice_get, refl, sym, ◌∙◌, ap, subst, inl, inr, append_assoc}
 use Rattle.std.specs.Prelude.{remove}
 use Rattle.kt_base.specs.declared.outcome.Outcome.{Outcome}
@@ -14,7 +14,7 @@ use Rattle.kt_child.specs.Turns.{PolledAll, PolledLast, advanced, advanced_below
 use Rattle.kt_child.specs.Waits.{EndsInTurn, EndsLater, WaitedOn, gone_on, later_of, unpolled_of}
 use Rattle.kt_child.proofs.LifeSteps.{append_none, heard_append}
 use Rattle.kt_child.proofs.NamedSteps.{at_place, in_parts, is_last, named_append, named_map}
-use Rattle.kt_child.proofs.RowNames.{name_at, names_below, names_part, names_turn, names_turns, part_at, share_removed}
+use Rattle.kt_child.proofs.ChildNames.{name_at, names_below, names_part, names_turn, names_turns, part_at, share_removed}
 use Rattle.kt_child.proofs.Outcomes.{told}
 use Rattle.kt_child.proofs.SeveralSteps.{heard_none, heard_one, lives_join, one_turn, share_join, silent, whole_turns}
 use Rattle.kt_child.proofs.WidthSteps.{take_drop}
@@ -41,7 +41,7 @@ last_other c o last outcome other (answer, done, asked, ended) =
 named_parts : (c : Child) (hs ms ds : List Watched) → named c (hs ++ (ms ++ ds)) ≡ named c hs ++ (named c ms ++ named c ds)
 named_parts c hs ms ds = named_append c hs (ms ++ ds) ∙ ap (λ t. named c hs ++ t) (named_append c ms ds)
 
--- one turn over a part of a row
+-- one turn over a part of a list of children
 turn_part : (c : Child) (k : Watched) (hs ms ds : List Watched) (calls : List Call)
     → named c (hs ++ (ms ++ ds)) ≡ k ∷ [] → PolledAll ms calls
     → (new : Watched) × GoesOn k (heard_by c calls) new × (named c (hs ++ (map advanced ms ++ ds)) ≡ new ∷ [])
@@ -56,7 +56,7 @@ turn_part c k hs ms ds calls e polled = by (in_parts (named c hs) (named c ms) (
         (advanced k, one_turn c ms k calls m polled, row (k ∷ []) m ∙ ap (λ t. t ++ (advanced k ∷ named c ds)) h ∙ ap (λ t. advanced k ∷ t) d)
     by (inr (m, r)) = (k, (zero, (silent c ms calls m polled, refl)), row [] m ∙ r)
 
--- a turn over a part of a row, and then the last poll of the child behind it
+-- a turn over a part of a list of children, and then the last poll of the child behind it
 ends_by : (b : Bool) (c : Child) (k o : Watched) (hs ms ds : List Watched) (xs ys : List Call) (outcome : Outcome) → same_child o.child c ≡ b
     → named c (hs ++ (ms ++ o ∷ ds)) ≡ k ∷ [] → PolledAll ms xs → PolledLast (Some o) ys outcome
     → Share c b k (heard_by c xs ++ heard_by c ys) outcome (hs ++ (map advanced ms ++ o ∷ ds))
@@ -147,7 +147,7 @@ later going children calls place outcome after going' c k e (rest, more, turns, 
           (ap (λ t. slice_get t place) (ap (map name_of) same ∙ names_below place row) ∙ at) (subst P (sym heard) both),
     )
 
--- a wait keeps the names of the row
+-- a wait keeps the names of the children
 pub names_waited : (going : OpenTurn) (children : List Watched) (calls : List Call) (place : ℕ) (outcome : Outcome) (after : List Watched) (going' : OpenTurn)
     → WaitedOn going children calls place outcome after going' → map name_of after ≡ map name_of children
 names_waited going children calls place outcome after going' (inl (i, members, until, at, same, n, turned)) =

@@ -12,8 +12,8 @@ use Rattle.kt_child.specs.declared.child.Child.{Child}
 use Rattle.kt_child.specs.declared.paths.Paths.{Paths}
 use Rattle.kt_child.specs.declared.watched.Watched.{Watched}
 use Rattle.kt_child.specs.declared.case.Case.{Case}
-use Rattle.kt_child.specs.Begins.{board_after_start}
-use Rattle.kt_child.specs.Board.{Board, one_if}
+use Rattle.kt_child.specs.Begins.{state_after_start}
+use Rattle.kt_child.specs.ChildrenState.{ChildrenState, one_if}
 use Rattle.kt_child.specs.ChildOutcome.{Heard}
 use Rattle.kt_child.specs.JobPlan.{case_in, case_of, cleaning, watched_of}
 use Rattle.kt_child.specs.Lives.{same_child}
@@ -24,8 +24,8 @@ use Rattle.kt_child.proofs.NameCounts.{case_name, numbered, numbered_less, numbe
 use Rattle.kt_child.proofs.NamedSteps.{head_is}
 use Rattle.kt_child.proofs.TraceFacts.{IsGone, OwedSo, RunsSo, cleaner}
 
--- a board from which a case that is owed its cleanup was taken
-abbrev pub taken : Board → ℕ → Board
+-- a state from which a case that is owed its cleanup was taken
+abbrev pub taken : ChildrenState → ℕ → ChildrenState
 taken b place = record { children = b.children; cases = b.cases; going = b.going; pending = remove b.pending place }
 
 -- what had a number has it still
@@ -48,7 +48,7 @@ pub owed_kept : (root : List ℕ) (base : ℕ) (T T' : Trace) (heard : Child →
     → Every (OwedSo root base T heard) pending → Every (OwedSo root base T' heard) pending
 owed_kept root base T T' heard pending g h i c at = let r = h i c at in (g c.position c.attempt r.0, r.1, r.2)
 
--- a child of a number that no case has, behind the row
+-- a child of a number that no case has, behind the children
 pub run_more : (plan : List Job) (root : List ℕ) (base : ℕ) (T T' : Trace) (heard : Child → List Heard) (row : List Watched) (cases : List Case) (k : Watched) → Grows base T T'
     → numbered k.child.attempt cases ≡ 0
     → Every (RunsSo plan root base T heard row) cases → Every (RunsSo plan root base T' heard (row ++ k ∷ [])) cases
@@ -76,8 +76,8 @@ unequal a b f = by (one_or a b)
     by (inr (one, e)) = absurd (f e)
 
 -- a name that is gone stays so where a body takes the next number
-pub gone_body : (next next' : ℕ) (b : Board) (job : Job) (p : Paths) (answer : StartAnswer) → next ≤ next' → (c : Child) → IsGone next b c
-    → IsGone next' (board_after_start b (watched_of job Body next) (case_of job next p) answer) c
+pub gone_body : (next next' : ℕ) (b : ChildrenState) (job : Job) (p : Paths) (answer : StartAnswer) → next ≤ next' → (c : Child) → IsGone next b c
+    → IsGone next' (state_after_start b (watched_of job Body next) (case_of job next p) answer) c
 gone_body next next' b job p (RefusedFor cause) le c (lt, none, h) = (omega arith, none, h)
 gone_body next next' b job p (StartedAt moment) le c (lt, none, h) =
     let k : Watched = watched_of job Body next in
@@ -92,15 +92,15 @@ and_false true = refl
 and_false false = refl
 
 -- the cleanup of a case that is owed is not a child that is gone
-cleaner_apart : (next : ℕ) (b : Board) (n : ℕ) (c : Child) → 1 ≤ numbered n b.pending → IsGone next b c → (r : Role) → c.role ≡ r → same_child (cleaner n) c ≡ false
+cleaner_apart : (next : ℕ) (b : ChildrenState) (n : ℕ) (c : Child) → 1 ≤ numbered n b.pending → IsGone next b c → (r : Role) → c.role ≡ r → same_child (cleaner n) c ≡ false
 cleaner_apart next b n c one (lt, none, h) Body e = ap (λ t. (n == c.attempt) && same_role Cleanup t) e ∙ and_false (n == c.attempt)
 cleaner_apart next b n c one (lt, none, h) Cleanup e =
     let o = h e in
     other_number (cleaner n) c (unequal n c.attempt (λ f. let g = ap (λ t. numbered t b.pending) f in omega (arith, one, g, o)))
 
 -- and where a cleanup is started
-pub gone_cleanup : (next : ℕ) (b : Board) (job : Job) (place : ℕ) (d : Case) (answer : StartAnswer) → slice_get b.pending place ≡ Some d → (c : Child) → IsGone next b c
-    → IsGone next (board_after_start (taken b place)
+pub gone_cleanup : (next : ℕ) (b : ChildrenState) (job : Job) (place : ℕ) (d : Case) (answer : StartAnswer) → slice_get b.pending place ≡ Some d → (c : Child) → IsGone next b c
+    → IsGone next (state_after_start (taken b place)
     (watched_of job Cleanup d.attempt) (cleaning d job) answer) c
 gone_cleanup next b job place d (RefusedFor cause) at c (lt, none, h) =
     let s = numbered_less c.attempt b.pending place d at in

@@ -10,7 +10,7 @@ use Rattle.kt_child.specs.declared.child.Child.{Child}
 use Rattle.kt_child.specs.declared.spawning.Spawning.{Spawning}
 use Rattle.kt_child.specs.declared.case.Case.{Case}
 use Rattle.kt_child.specs.Begins.{BegunBody, BegunCleanup}
-use Rattle.kt_child.specs.Board.{Board}
+use Rattle.kt_child.specs.ChildrenState.{ChildrenState}
 use Rattle.kt_child.specs.Calls.{Call, Chain}
 use Rattle.kt_child.specs.JobPlan.{spawning_of}
 use Rattle.kt_child.specs.Launches.{StartsBy}
@@ -69,14 +69,14 @@ cleanup_silent c p dir calls answer (inl (done, e, f)) = ap (heard_by c) e
 cleanup_silent c p dir calls answer (inr (r, s, f)) = started_silent c (child_asks p) dir calls r (child_unheard c p) s
 
 -- what a start of a driver asks
-abbrev pub StartAsks : List ℕ → List ℕ → Job → Role → ℕ → Board → List Call → StartAnswer → Type 0
+abbrev pub StartAsks : List ℕ → List ℕ → Job → Role → ℕ → ChildrenState → List Call → StartAnswer → Type 0
 StartAsks source root job Body next b calls answer = BodyAsks source root job next calls answer
 StartAsks source root job Cleanup next b calls answer =
     (place : ℕ) × (c : Case) × (slice_get b.pending place ≡ Some c) × (c.position ≡ job.position)
     × BegunCleanup (spawning_of source job Cleanup c.attempt c.paths) c.paths.dir calls answer
 
 -- no child hears it
-pub start_silent : {O : Type 0} (leads : O → Call → O → Type 0) (source root : List ℕ) (job : Job) (role : Role) (os : O) (next : ℕ) (b : Board) (answer : StartAnswer) (os' : O) (next' : ℕ) (b' : Board)
+pub start_silent : {O : Type 0} (leads : O → Call → O → Type 0) (source root : List ℕ) (job : Job) (role : Role) (os : O) (next : ℕ) (b : ChildrenState) (answer : StartAnswer) (os' : O) (next' : ℕ) (b' : ChildrenState)
     → StartsBy leads source root job role os next b answer os' next' b'
     → (calls : List Call) × Chain leads os calls os' × ((c : Child) → heard_by c calls ≡ []) × StartAsks source root job role next b calls answer
 start_silent leads source root job Body os next b answer os' next' b' (inl (e, told, s, f, same)) = ([], s, λ c. refl, inl (e, refl, told))

@@ -12,7 +12,7 @@ use Rattle.kt_sched.specs.Trace.{Trace, Then, End}
 use Rattle.kt_child.specs.declared.child.Child.{Child}
 use Rattle.kt_child.specs.declared.watched.Watched.{Watched}
 use Rattle.kt_child.specs.declared.case.Case.{Case}
-use Rattle.kt_child.specs.Board.{Board, Waited, one_if}
+use Rattle.kt_child.specs.ChildrenState.{ChildrenState, Waited, one_if}
 use Rattle.kt_child.specs.Calls.{Call}
 use Rattle.kt_child.specs.ChildOutcome.{Heard, Told}
 use Rattle.kt_child.specs.Ends.{Leaves}
@@ -29,7 +29,7 @@ use Rattle.kt_child.proofs.NameSteps.{Apart}
 use Rattle.kt_child.proofs.NamedSteps.{head_is}
 use Rattle.kt_child.proofs.Outcomes.{told}
 use Rattle.kt_child.proofs.Places.{some_is}
-use Rattle.kt_child.proofs.RowNames.{name_at}
+use Rattle.kt_child.proofs.ChildNames.{name_at}
 use Rattle.kt_child.proofs.SeveralSteps.{goes_join, lives_join}
 use Rattle.kt_child.proofs.TraceFacts.{IsGone, PastSo, RunsSo, cleaner}
 use Rattle.kt_child.proofs.WaitSilence.{wait_silent}
@@ -39,12 +39,12 @@ abbrev pub heard_after : (Child → List Heard) → List Call → Child → List
 heard_after heard calls c = heard c ++ heard_by c calls
 
 -- a name that hears nothing of a wait
-pub unheard : (heard : Child → List Heard) (c : Child) (old new : Board) (calls : List Call) (e : Ended) → named c old.children ≡ [] → Waited old calls e new
+pub unheard : (heard : Child → List Heard) (c : Child) (old new : ChildrenState) (calls : List Call) (e : Ended) → named c old.children ≡ [] → Waited old calls e new
     → heard_after heard calls c ≡ heard c
 unheard heard c old new calls e none w = ap (λ t. heard c ++ t) (wait_silent c old new calls e none w) ∙ append_none (heard c)
 
 -- the share of a child in a wait that ends with the child of this case
-share_of : (old new : Board) (calls polls rest : List Call) (place : ℕ) (outcome : Outcome) (after : List Watched) (d : Case) (e : Ended) (next : ℕ) (c : Child) (k : Watched)
+share_of : (old new : ChildrenState) (calls polls rest : List Call) (place : ℕ) (outcome : Outcome) (after : List Watched) (d : Case) (e : Ended) (next : ℕ) (c : Child) (k : Watched)
     → Apart next old → slice_get old.cases place ≡ Some d → calls ≡ polls ++ rest
     → WaitedOn old.going old.children polls place outcome after new.going → Leaves d rest outcome e → new.children ≡ remove after place
     → named c old.children ≡ k ∷ [] → Share c (same_child (case_name d) c) k (heard_by c calls) e.outcome new.children
@@ -79,7 +79,7 @@ positive plan i job Body is at = let f = is.fit i job at in let t = f.timed in o
 positive plan i job Cleanup is at = omega arith
 
 -- a case that goes on running
-pub still_runs : (plan : List Job) (root : List ℕ) (base : ℕ) (T : Trace) (heard : Child → List Heard) (next : ℕ) (old new : Board) (calls polls rest : List Call) (place : ℕ) (outcome : Outcome) (after : List Watched) (d : Case) (e : Ended)
+pub still_runs : (plan : List Job) (root : List ℕ) (base : ℕ) (T : Trace) (heard : Child → List Heard) (next : ℕ) (old new : ChildrenState) (calls polls rest : List Call) (place : ℕ) (outcome : Outcome) (after : List Watched) (d : Case) (e : Ended)
     → Apart next old → slice_get old.cases place ≡ Some d → calls ≡ polls ++ rest
     → WaitedOn old.going old.children polls place outcome after new.going → Leaves d rest outcome e → new.children ≡ remove after place
     → Waited old calls e new
@@ -121,7 +121,7 @@ left_so root job d polls rest calls outcome e eq leaves same =
     (polls, rest, eq, subst R (sym leaves.9) (subst C same (subst O (sym leaves.10) leaves)))
 
 -- the end of a case's child
-pub ends_so : (plan : List Job) (source root : List ℕ) (base : ℕ) (T : Trace) (heard : Child → List Heard) (next : ℕ) (old new : Board) (calls polls rest : List Call) (place : ℕ) (outcome : Outcome) (after : List Watched) (d : Case) (e : Ended)
+pub ends_so : (plan : List Job) (source root : List ℕ) (base : ℕ) (T : Trace) (heard : Child → List Heard) (next : ℕ) (old new : ChildrenState) (calls polls rest : List Call) (place : ℕ) (outcome : Outcome) (after : List Watched) (d : Case) (e : Ended)
     → IsPlan plan → Apart next old → slice_get old.cases place ≡ Some d → calls ≡ polls ++ rest
     → WaitedOn old.going old.children polls place outcome after new.going → Leaves d rest outcome e → new.children ≡ remove after place
     → IsGone next new (case_name d) → e.position ≡ d.position → e.role ≡ d.role

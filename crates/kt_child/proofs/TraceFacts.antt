@@ -8,7 +8,7 @@ use Rattle.kt_sched.specs.Trace.{Trace, NoEvent, Then, Event, Start, End}
 use Rattle.kt_child.specs.declared.child.Child.{Child}
 use Rattle.kt_child.specs.declared.watched.Watched.{Watched}
 use Rattle.kt_child.specs.declared.case.Case.{Case}
-use Rattle.kt_child.specs.Board.{Board}
+use Rattle.kt_child.specs.ChildrenState.{ChildrenState}
 use Rattle.kt_child.specs.ChildOutcome.{Heard, Told}
 use Rattle.kt_child.specs.Calls.{Call}
 use Rattle.kt_child.specs.ChildPlan.{paths_of}
@@ -39,11 +39,11 @@ OwedSo root base T heard c =
     IsNumberOf base T c.position c.attempt × (heard (cleaner c.attempt) ≡ []) × (c.paths ≡ paths_of root c.attempt)
 
 -- a name that no child will have again
-abbrev pub IsGone : ℕ → Board → Child → Type 0
+abbrev pub IsGone : ℕ → ChildrenState → Child → Type 0
 IsGone next b c = (c.attempt < next) × (named c b.children ≡ []) × (c.role ≡ Cleanup → numbered c.attempt b.cases + numbered c.attempt b.pending ≡ 0)
 
 -- an answer by its own calls: a start as it was begun, and the end of a child that is gone, as its answers tell it
-abbrev pub PastSo : List Job → List ℕ → List ℕ → ℕ → (Child → List Heard) → ℕ → Board → List Call → Trace → Event → Type 0
+abbrev pub PastSo : List Job → List ℕ → List ℕ → ℕ → (Child → List Heard) → ℕ → ChildrenState → List Call → Trace → Event → Type 0
 PastSo plan source root base heard next b asked T (Start i role answer) = BegunAt plan source root base asked T i role answer
 PastSo plan source root base heard next b asked T (End ended) =
     (n : ℕ) × IsNumberOf base T ended.position n
@@ -53,7 +53,7 @@ PastSo plan source root base heard next b asked T (End ended) =
     × IsGone next b (record { attempt = n; role = ended.role })
 
 -- all of that
-pub record Stands (plan : List Job) (source root : List ℕ) (base : ℕ) (T : Trace) (heard : Child → List Heard) (next : ℕ) (b : Board) (past : List Call) : Type 0 where
+pub record Stands (plan : List Job) (source root : List ℕ) (base : ℕ) (T : Trace) (heard : Child → List Heard) (next : ℕ) (b : ChildrenState) (past : List Call) : Type 0 where
   pub counted : next ≡ next_after base T
   pub apart : Apart next b
   pub run : Every (RunsSo plan root base T heard b.children) b.cases
@@ -68,7 +68,7 @@ each_map P Q f NoEvent calls h = h
 each_map P Q f (Then T event) calls (before, asked, e, h, p) = (before, asked, e, each_map P Q f T before h, f asked T event p)
 
 -- one answer
-past_one : (plan : List Job) (source root : List ℕ) (base : ℕ) (heard heard' : Child → List Heard) (next next' : ℕ) (b b' : Board)
+past_one : (plan : List Job) (source root : List ℕ) (base : ℕ) (heard heard' : Child → List Heard) (next next' : ℕ) (b b' : ChildrenState)
     → ((c : Child) → IsGone next b c → (heard' c ≡ heard c) × IsGone next' b' c)
     → (asked : List Call) (T : Trace) (event : Event)
     → PastSo plan source root base heard next b asked T event → PastSo plan source root base heard' next' b' asked T event
@@ -79,7 +79,7 @@ past_one plan source root base heard heard' next next' b b' f asked T (End ended
     (n, is, (job, at, subst P (sym m.0) told, left), m.1)
 
 -- children that are gone stay so, and hear nothing more
-pub past_kept : (plan : List Job) (source root : List ℕ) (base : ℕ) (heard heard' : Child → List Heard) (next next' : ℕ) (b b' : Board) (T : Trace) (past : List Call)
+pub past_kept : (plan : List Job) (source root : List ℕ) (base : ℕ) (heard heard' : Child → List Heard) (next next' : ℕ) (b b' : ChildrenState) (T : Trace) (past : List Call)
     → ((c : Child) → IsGone next b c → (heard' c ≡ heard c) × IsGone next' b' c)
     → EachWith (PastSo plan source root base heard next b) T past → EachWith (PastSo plan source root base heard' next' b') T past
 past_kept plan source root base heard heard' next next' b b' T past f h =

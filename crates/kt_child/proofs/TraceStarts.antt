@@ -12,8 +12,8 @@ use Rattle.kt_child.specs.declared.child.Child.{Child}
 use Rattle.kt_child.specs.declared.paths.Paths.{Paths}
 use Rattle.kt_child.specs.declared.watched.Watched.{Watched}
 use Rattle.kt_child.specs.declared.case.Case.{Case}
-use Rattle.kt_child.specs.Begins.{BegunCleanup, board_after_start}
-use Rattle.kt_child.specs.Board.{Board}
+use Rattle.kt_child.specs.Begins.{BegunCleanup, state_after_start}
+use Rattle.kt_child.specs.ChildrenState.{ChildrenState}
 use Rattle.kt_child.specs.Calls.{Call}
 use Rattle.kt_child.specs.ChildOutcome.{Heard}
 use Rattle.kt_child.specs.ChildPlan.{paths_of}
@@ -28,12 +28,12 @@ use Rattle.kt_child.proofs.TraceFacts.{OwedSo, RunsSo, Stands, following_last, f
 use Rattle.kt_child.proofs.StartLeavings.{gone_body, gone_cleanup, grows_start, owed_kept, run_fresh, run_kept, run_more, taken}
 
 -- a body's start
-body_stands : (plan : List Job) (source root : List ℕ) (base : ℕ) (T : Trace) (heard : Child → List Heard) (next next' : ℕ) (b : Board) (past : List Call) (job : Job) (i : ℕ) (answer : StartAnswer) (asked : List Call)
+body_stands : (plan : List Job) (source root : List ℕ) (base : ℕ) (T : Trace) (heard : Child → List Heard) (next next' : ℕ) (b : ChildrenState) (past : List Call) (job : Job) (i : ℕ) (answer : StartAnswer) (asked : List Call)
     → IsPlan plan → slice_get plan i ≡ Some job → next' ≡ following next → next ≤ next'
-    → Apart next' (board_after_start b (watched_of job Body next) (case_of job next (paths_of root next)) answer)
+    → Apart next' (state_after_start b (watched_of job Body next) (case_of job next (paths_of root next)) answer)
     → BegunAt plan source root base asked T i Body answer
     → Stands plan source root base T heard next b past
-    → Stands plan source root base (Then T (Start i Body answer)) heard next' (board_after_start b (watched_of job Body next) (case_of job next (paths_of root next)) answer) (past ++ asked)
+    → Stands plan source root base (Then T (Start i Body answer)) heard next' (state_after_start b (watched_of job Body next) (case_of job next (paths_of root next)) answer) (past ++ asked)
 body_stands plan source root base T heard next next' b past job i (RefusedFor cause) asked is at e le apart begun s =
     let T' : Trace = Then T (Start i Body (RefusedFor cause)) in
     record {
@@ -72,7 +72,7 @@ body_stands plan source root base T heard next next' b past job i (StartedAt mom
         past,
         asked,
         refl,
-        past_kept plan source root base heard heard next next' b (board_after_start b k c (StartedAt moment)) T past
+        past_kept plan source root base heard heard next next' b (state_after_start b k c (StartedAt moment)) T past
             (λ d g. (refl, gone_body next next' b job (paths_of root next) (StartedAt moment) le d g)) s.each,
         begun,
       );
@@ -90,14 +90,14 @@ cleaning_in root d job e f =
     ap P e ∙ ap Q f
 
 -- a cleanup's start
-cleanup_stands : (plan : List Job) (source root : List ℕ) (base : ℕ) (T : Trace) (heard : Child → List Heard) (next : ℕ) (b : Board) (past : List Call) (job : Job) (i : ℕ) (place : ℕ) (d : Case) (answer : StartAnswer) (asked : List Call)
+cleanup_stands : (plan : List Job) (source root : List ℕ) (base : ℕ) (T : Trace) (heard : Child → List Heard) (next : ℕ) (b : ChildrenState) (past : List Call) (job : Job) (i : ℕ) (place : ℕ) (d : Case) (answer : StartAnswer) (asked : List Call)
     → IsPlan plan → slice_get plan i ≡ Some job → slice_get b.pending place ≡ Some d → d.position ≡ job.position
-    → Apart next (board_after_start (taken b place)
+    → Apart next (state_after_start (taken b place)
     (watched_of job Cleanup d.attempt) (cleaning d job) answer)
     → BegunAt plan source root base asked T i Cleanup answer
     → Stands plan source root base T heard next b past
     → Stands plan source root base (Then T (Start i Cleanup answer)) heard next
-    (board_after_start (taken b place)
+    (state_after_start (taken b place)
     (watched_of job Cleanup d.attempt) (cleaning d job) answer) (past ++ asked)
 cleanup_stands plan source root base T heard next b past job i place d (RefusedFor cause) asked is at there position apart begun s =
     let T' : Trace = Then T (Start i Cleanup (RefusedFor cause)) in
@@ -139,14 +139,14 @@ cleanup_stands plan source root base T heard next b past job i place d (StartedA
         past,
         asked,
         refl,
-        past_kept plan source root base heard heard next next b (board_after_start (taken b place) k c (StartedAt moment)) T past
+        past_kept plan source root base heard heard next next b (state_after_start (taken b place) k c (StartedAt moment)) T past
             (λ e g. (refl, gone_cleanup next b job place d (StartedAt moment) there e g)) s.each,
         begun,
       );
     }
 
 -- a start by its own calls
-begun_at : (plan : List Job) (source root : List ℕ) (base : ℕ) (T : Trace) (heard : Child → List Heard) (next : ℕ) (b : Board) (past : List Call) (job : Job) (i : ℕ) (role : Role) (answer : StartAnswer) (asked : List Call)
+begun_at : (plan : List Job) (source root : List ℕ) (base : ℕ) (T : Trace) (heard : Child → List Heard) (next : ℕ) (b : ChildrenState) (past : List Call) (job : Job) (i : ℕ) (role : Role) (answer : StartAnswer) (asked : List Call)
     → IsPlan plan → slice_get plan i ≡ Some job → StartAsks source root job role next b asked answer
     → Stands plan source root base T heard next b past → BegunAt plan source root base asked T i role answer
 begun_at plan source root base T heard next b past job i Body answer asked is at asks s =
@@ -159,26 +159,26 @@ begun_at plan source root base T heard next b past job i Cleanup answer asked is
     (job, d.attempt, at, subst N (position ∙ is.placed i job at) o.0, subst P o.2 begun)
 
 -- a start of a driver
-pub start_stands : {O : Type 0} (leads : O → Call → O → Type 0) (source root : List ℕ) (job : Job) (role : Role) (os : O) (next : ℕ) (b : Board) (answer : StartAnswer) (os' : O) (next' : ℕ) (b' : Board)
+pub start_stands : {O : Type 0} (leads : O → Call → O → Type 0) (source root : List ℕ) (job : Job) (role : Role) (os : O) (next : ℕ) (b : ChildrenState) (answer : StartAnswer) (os' : O) (next' : ℕ) (b' : ChildrenState)
     (plan : List Job) (base : ℕ) (T : Trace) (heard : Child → List Heard) (i : ℕ) (past asked : List Call)
     → IsPlan plan → slice_get plan i ≡ Some job → StartsBy leads source root job role os next b answer os' next' b'
     → StartAsks source root job role next b asked answer
     → Stands plan source root base T heard next b past → Stands plan source root base (Then T (Start i role answer)) heard next' b' (past ++ asked)
 start_stands leads source root job Body os next b answer os' next' b' plan base T heard i past asked is at (inl (e, told, same, f, g)) asks s =
     let p : Paths = paths_of root next in
-    let after : b' ≡ board_after_start b (watched_of job Body next) (case_of job next p) answer =
-    g ∙ sym (ap (board_after_start b (watched_of job Body next) (case_of job next p)) told) in
-    let P : Board → Type 0 = λ t. Stands plan source root base (Then T (Start i Body answer)) heard next' t (past ++ asked) in
+    let after : b' ≡ state_after_start b (watched_of job Body next) (case_of job next p) answer =
+    g ∙ sym (ap (state_after_start b (watched_of job Body next) (case_of job next p)) told) in
+    let P : ChildrenState → Type 0 = λ t. Stands plan source root base (Then T (Start i Body answer)) heard next' t (past ++ asked) in
     let apart = start_apart leads source root job Body os next b answer os' next' b' (inl (e, told, same, f, g)) s.apart in
     subst P (sym after) (body_stands plan source root base T heard next next' b past job i answer asked is at (f ∙ sym (following_last next e)) (omega arith) (subst (Apart next') after apart)
     (begun_at plan source root base T heard next b past job i Body answer asked is at asks s) s)
 start_stands leads source root job Body os next b answer os' next' b' plan base T heard i past asked is at (inr (l, e, begun, after)) asks s =
-    let P : Board → Type 0 = λ t. Stands plan source root base (Then T (Start i Body answer)) heard next' t (past ++ asked) in
+    let P : ChildrenState → Type 0 = λ t. Stands plan source root base (Then T (Start i Body answer)) heard next' t (past ++ asked) in
     let apart = start_apart leads source root job Body os next b answer os' next' b' (inr (l, e, begun, after)) s.apart in
     subst P (sym after) (body_stands plan source root base T heard next next' b past job i answer asked is at (e ∙ sym (following_more next l)) (omega arith) (subst (Apart next') after apart)
     (begun_at plan source root base T heard next b past job i Body answer asked is at asks s) s)
 start_stands leads source root job Cleanup os next b answer os' next' b' plan base T heard i past asked is at (place, d, there, position, e, begun, after) asks s =
-    let P : Board → Type 0 = λ t. Stands plan source root base (Then T (Start i Cleanup answer)) heard next t (past ++ asked) in
+    let P : ChildrenState → Type 0 = λ t. Stands plan source root base (Then T (Start i Cleanup answer)) heard next t (past ++ asked) in
     let N : ℕ → Type 0 = λ t. Stands plan source root base (Then T (Start i Cleanup answer)) heard t b' (past ++ asked) in
     let M : ℕ → Type 0 = λ t. Apart t b' in
     let apart : Apart next b' = subst M e (start_apart leads source root job Cleanup os next b answer os' next' b' (place, d, there, position, e, begun, after) s.apart) in

@@ -10,7 +10,7 @@ use Rattle.kt_sched.specs.Plan.{IsPlan}
 use Rattle.kt_sched.specs.Trace.{Trace, Then, End}
 use Rattle.kt_child.specs.declared.child.Child.{Child}
 use Rattle.kt_child.specs.declared.case.Case.{Case}
-use Rattle.kt_child.specs.Board.{Board, Waited, pending_with}
+use Rattle.kt_child.specs.ChildrenState.{ChildrenState, Waited, pending_with}
 use Rattle.kt_child.specs.Calls.{Call}
 use Rattle.kt_child.specs.ChildOutcome.{Heard}
 use Rattle.kt_child.specs.Ends.{is_over}
@@ -32,7 +32,7 @@ less_or (suc a) (suc b) = by (less_or a b)
     by (inr h) = inr (omega (arith, h))
 
 -- the number of a case is below the next one
-below_next : (next : ℕ) (b : Board) (i : ℕ) (c : Case) → Apart next b → slice_get b.cases i ≡ Some c → c.attempt < next
+below_next : (next : ℕ) (b : ChildrenState) (i : ℕ) (c : Case) → Apart next b → slice_get b.cases i ≡ Some c → c.attempt < next
 below_next next b i c apart at = by (less_or c.attempt next)
   where
     by : (c.attempt < next) ⊎ (next ≤ c.attempt) → c.attempt < next
@@ -49,7 +49,7 @@ is_body c Body e h = e
 is_body c Cleanup e h = let f = is_cleanup_over c e in let no : ⊥ = cc in absurd no
 
 -- a name that is gone stays so in a wait
-gone_wait : (next : ℕ) (old new : Board) (calls : List Call) (e : Ended) → Waited old calls e new → (c : Child) → IsGone next old c → IsGone next new c
+gone_wait : (next : ℕ) (old new : ChildrenState) (calls : List Call) (e : Ended) → Waited old calls e new → (c : Child) → IsGone next old c → IsGone next new c
 gone_wait next old new calls e (polls, rest, place, outcome, after, d, eq, waited, at, leaves, ch, ca, pe) c (lt, none, h) =
     let s = numbered_less c.attempt old.cases place d at in
     let a = ap (numbered c.attempt) ca in
@@ -58,7 +58,7 @@ gone_wait next old new calls e (polls, rest, place, outcome, after, d, eq, waite
     (lt, wait_none c old new calls e none (polls, rest, place, outcome, after, d, eq, waited, at, leaves, ch, ca, pe), λ r. let z = h r in omega (arith, s, a, p, o, z))
 
 -- the name of the child that is over is gone
-gone_over : (next : ℕ) (old new : Board) (calls : List Call) (e : Ended) (place : ℕ) (d : Case) → Apart next old → Apart next new
+gone_over : (next : ℕ) (old new : ChildrenState) (calls : List Call) (e : Ended) (place : ℕ) (d : Case) → Apart next old → Apart next new
     → slice_get old.cases place ≡ Some d → new.cases ≡ remove old.cases place → new.pending ≡ pending_with d old.pending → IsGone next new (case_name d)
 gone_over next old new calls e place d apart apart' at ca pe =
     let s = numbered_less d.attempt old.cases place d at in
@@ -75,7 +75,7 @@ gone_over next old new calls e place d apart apart' at ca pe =
     )
 
 -- what is owed after an end
-owed_wait : (root : List ℕ) (base : ℕ) (T : Trace) (heard : Child → List Heard) (next : ℕ) (old new : Board) (calls : List Call) (e : Ended) (place : ℕ) (d : Case) → Apart next old
+owed_wait : (root : List ℕ) (base : ℕ) (T : Trace) (heard : Child → List Heard) (next : ℕ) (old new : ChildrenState) (calls : List Call) (e : Ended) (place : ℕ) (d : Case) → Apart next old
     → slice_get old.cases place ≡ Some d → Waited old calls e new
     → OwedSo root base T heard d ⊎ (is_over d ≡ true)
     → Every (OwedSo root base T heard) old.pending → (t : Bool) → is_over d ≡ t
@@ -110,13 +110,13 @@ owed_wait root base T heard next old new calls e place d apart at w given h t is
     by false f = every_push (OwedSo root base (Then T (End e)) (heard_after heard calls)) old.pending d before (last given f)
 
 -- what is known of the case of an end, if its cleanup is owed
-given_of : (plan : List Job) (root : List ℕ) (base : ℕ) (T : Trace) (heard : Child → List Heard) (b : Board) (d : Case) → RunsSo plan root base T heard b.children d
+given_of : (plan : List Job) (root : List ℕ) (base : ℕ) (T : Trace) (heard : Child → List Heard) (b : ChildrenState) (d : Case) → RunsSo plan root base T heard b.children d
     → (t : Bool) → is_over d ≡ t → OwedSo root base T heard d ⊎ (is_over d ≡ true)
 given_of plan root base T heard b d r true e = inr e
 given_of plan root base T heard b d r false e = inl (r.0, r.1 (is_body d d.role refl e), ap (λ t. t.paths) r.2.3)
 
 -- a wait of a driver
-pub wait_stands : (plan : List Job) (source root : List ℕ) (base : ℕ) (T : Trace) (heard : Child → List Heard) (next : ℕ) (old new : Board) (past calls : List Call) (e : Ended)
+pub wait_stands : (plan : List Job) (source root : List ℕ) (base : ℕ) (T : Trace) (heard : Child → List Heard) (next : ℕ) (old new : ChildrenState) (past calls : List Call) (e : Ended)
     → IsPlan plan → Waited old calls e new → Stands plan source root base T heard next old past
     → Stands plan source root base (Then T (End e)) (heard_after heard calls) next new (past ++ calls)
 wait_stands plan source root base T heard next old new past calls e is (polls, rest, place, outcome, after, d, eq, waited, at, leaves, ch, ca, pe) s =

@@ -6,7 +6,7 @@ use Rattle.kt_sched.specs.declared.ended.Ended.{Ended}
 use Rattle.kt_child.specs.declared.child.Child.{Child}
 use Rattle.kt_child.specs.declared.open_turn.OpenTurn.{OpenTurn}
 use Rattle.kt_child.specs.declared.watched.Watched.{Watched}
-use Rattle.kt_child.specs.Board.{Board, Waited}
+use Rattle.kt_child.specs.ChildrenState.{ChildrenState, Waited}
 use Rattle.kt_child.specs.Calls.{Call, Pause}
 use Rattle.kt_child.specs.Lives.{heard_by, same_child}
 use Rattle.kt_child.specs.SeveralLives.{kept, name_of, named}
@@ -16,16 +16,16 @@ use Rattle.kt_child.proofs.EndSilence.{leaves_silent}
 use Rattle.kt_child.proofs.LifeSteps.{heard_append}
 use Rattle.kt_child.proofs.NameCounts.{names_head, names_tail}
 use Rattle.kt_child.proofs.NamedSteps.{at_place, named_append, named_map, none_left, none_right}
-use Rattle.kt_child.proofs.RowNames.{names_part, names_turn, names_turns}
+use Rattle.kt_child.proofs.ChildNames.{names_part, names_turn, names_turns}
 use Rattle.kt_child.proofs.SeveralSteps.{silent}
 use Rattle.kt_child.proofs.SeveralWaits.{cut, last_of, last_other, names_waited}
 
--- a child that stands before a row in which no name is left does not count
+-- a child that stands before a list of children in which no name is left does not count
 kept_none : (b : Bool) (k : Watched) (ks : List Watched) → kept b k ks ≡ [] → (b ≡ false) × (ks ≡ [])
 kept_none true k ks e = let no : ⊥ = cc in absurd no
 kept_none false k ks e = (refl, e)
 
--- a name that isn't in a row isn't in another of the same names
+-- a name that isn't in a list of children isn't in another of the same names
 pub none_by_names : (c : Child) (xs ys : List Watched) → map name_of xs ≡ map name_of ys → named c ys ≡ [] → named c xs ≡ []
 none_by_names c [] ys e h = refl
 none_by_names c (x ∷ xs) [] e h = let no : ⊥ = cc in absurd no
@@ -35,7 +35,7 @@ none_by_names c (x ∷ xs) (y ∷ ys) e h =
     let p = kept_none (same_child y.child c) y (named c ys) h in
     ap (λ t. kept t x (named c xs)) (ap (λ t. same_child t c) f ∙ p.0) ∙ none_by_names c xs ys g p.1
 
--- nor in a row from which a child was taken
+-- nor in a list of children from which a child was taken
 none_removed : (c : Child) (row : List Watched) (place : ℕ) → named c row ≡ [] → named c (remove row place) ≡ []
 none_removed c [] zero h = refl
 none_removed c [] (suc place) h = refl
@@ -65,7 +65,7 @@ rounds_silent (suc n) c ks calls e (turn, done, more, eq, polled, rounds) =
     ap (heard_by c) eq ∙ heard_append c turn (Pause done ∷ more) ∙ ap (λ t. t ++ heard_by c more) (silent c ks turn e polled)
     ∙ rounds_silent n c (map advanced ks) more (named_map c ks ∙ ap (map advanced) e) rounds
 
--- a part of a row in which the name is not
+-- a part of a list of children in which the name is not
 part_none : (c : Child) (hs ms ls : List Watched) → named c (hs ++ (ms ++ ls)) ≡ [] → named c ms ≡ []
 part_none c hs ms ls e =
     let f : named c hs ++ named c (ms ++ ls) ≡ [] = sym (named_append c hs (ms ++ ls)) ∙ e in
@@ -91,13 +91,13 @@ on_silent c going children calls place outcome after going' e (inr (rest, more, 
     ∙ until_silent c (after_turns turns (gone_on going children)) place last outcome turned_on until
 
 -- all that a wait of a driver asks
-pub wait_silent : (c : Child) (old new : Board) (calls : List Call) (e : Ended) → named c old.children ≡ [] → Waited old calls e new → heard_by c calls ≡ []
+pub wait_silent : (c : Child) (old new : ChildrenState) (calls : List Call) (e : Ended) → named c old.children ≡ [] → Waited old calls e new → heard_by c calls ≡ []
 wait_silent c old new calls e none (polls, rest, place, outcome, after, case, eq, waited, at, leaves, ch, ca, pe) =
     ap (heard_by c) eq ∙ heard_append c polls rest
     ∙ ap (λ t. t ++ heard_by c rest) (on_silent c old.going old.children polls place outcome after new.going none waited)
     ∙ leaves_silent c case rest outcome e leaves
 
--- and the child isn't in the row after it
-pub wait_none : (c : Child) (old new : Board) (calls : List Call) (e : Ended) → named c old.children ≡ [] → Waited old calls e new → named c new.children ≡ []
+-- and the child isn't in the children after it
+pub wait_none : (c : Child) (old new : ChildrenState) (calls : List Call) (e : Ended) → named c old.children ≡ [] → Waited old calls e new → named c new.children ≡ []
 wait_none c old new calls e none (polls, rest, place, outcome, after, case, eq, waited, at, leaves, ch, ca, pe) =
     ap (named c) ch ∙ none_removed c after place (none_by_names c after old.children (names_waited old.going old.children polls place outcome after new.going waited) none)

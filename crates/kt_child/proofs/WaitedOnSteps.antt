@@ -1,4 +1,4 @@
--- A wait over a row in a turn that goes on.
+-- A wait for children in a turn that goes on.
 use Rattle.std.proofs.Common.{◌≡◌, ℕ, ◌+◌, ◌-◌, ◌<◌, List, ◌++◌, length, map, take, drop, refl, ◌∙◌, ap, subst, inr, arith}
 use Rattle.kt_base.specs.declared.outcome.Outcome.{Outcome}
 use Rattle.kt_child.specs.declared.watched.Watched.{Watched}
@@ -9,7 +9,7 @@ use Rattle.kt_child.specs.Waits.{WaitedOn, gone_on, going_on}
 use Rattle.kt_child.proofs.Chains.{chain_append}
 use Rattle.kt_child.proofs.WaitSteps.{all_advanced}
 
--- what a wait over a row gives
+-- what a wait for these children gives
 abbrev pub Waited : {O : Type 0} → (O → Call → O → Type 0) → O → O → List Watched → ℕ → Outcome → List Watched → Type 0
 Waited leads start new children place outcome after =
     (turns : ℕ) × (calls : List Call) × Chain leads start calls new × WaitedUntil turns children calls place outcome
@@ -19,11 +19,11 @@ Waited leads start new children place outcome after =
 same_part : (from count : ℕ) → (from + count) - from ≡ count
 same_part from count = omega arith
 
--- the row after each member that was left has answered Running
-whole_row : (d : OpenTurn) (children sub : List Watched)
+-- the children after each member that was left has answered Running
+whole_list : (d : OpenTurn) (children sub : List Watched)
     → sub ≡ advanced_below (length (take (d.from + d.unpolled - d.from) (drop d.from children))) (take (d.from + d.unpolled - d.from) (drop d.from children))
     → take d.from children ++ (sub ++ drop (d.from + d.unpolled - d.from) (drop d.from children)) ≡ gone_on d children
-whole_row d children sub e =
+whole_list d children sub e =
     let P : ℕ → List Watched = λ n. take d.from children ++ (map advanced (take n (drop d.from children)) ++ drop n (drop d.from children)) in
     let m : ℕ = d.from + d.unpolled - d.from in
     let G : List Watched → List Watched = λ t. take d.from children ++ (t ++ drop m (drop d.from children)) in
@@ -39,7 +39,7 @@ pub ends_later : {O : Type 0} (leads : O → Call → O → Type 0) (start mid n
 ends_later leads start mid new d children sub after place outcome turn e (calls, chain, polled) waited lt same turned =
     let P : ℕ → Type 0 = λ n. PolledAll (take n (drop d.from children)) calls in
     let Q : List Watched → Type 0 = λ t. Waited leads mid new t place outcome after in
-    let w : Waited leads mid new (gone_on d children) place outcome after = subst Q (whole_row d children sub e) waited in (
+    let w : Waited leads mid new (gone_on d children) place outcome after = subst Q (whole_list d children sub e) waited in (
       calls ++ w.1,
       chain_append leads start mid new calls w.1 chain w.2,
       inr (calls, w.1, w.0, length after - (place + 1), refl, subst P (same_part d.from d.unpolled) polled, w.3, w.4, omega arith, turned),

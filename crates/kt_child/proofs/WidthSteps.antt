@@ -8,12 +8,12 @@ use Rattle.kt_child.specs.Turns.{PolledUntil, WaitedUntil}
 use Rattle.kt_child.specs.Waits.{going_on}
 use Rattle.kt_child.specs.Width.{NoneLeft, PlainLoop}
 
--- no child is over in an empty row
+-- no child is over in an empty list of children
 none_over : (i : ℕ) (calls : List Call) (outcome : Outcome) → PolledUntil [] i calls outcome → ⊥
 none_over zero calls outcome (before, last, e, p, q) = q
 none_over (suc i) calls outcome (before, last, e, p, q) = q
 
--- a row that is cut and joined
+-- a list of children that is cut and joined
 pub take_drop : (n : ℕ) (children : List Watched) → take n children ++ drop n children ≡ children
 take_drop zero children = refl
 take_drop (suc n) [] = refl

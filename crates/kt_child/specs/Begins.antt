@@ -11,7 +11,7 @@ use Rattle.kt_child.specs.declared.watched.Watched.{Watched}
 use Rattle.kt_child.specs.declared.case.Case.{Case}
 use Rattle.kt_child.specs.Calls.{Call, RemoveTree}
 use Rattle.kt_child.specs.Starts.{Started, StartedAfresh, child_asks, furnish_asks}
-use Rattle.kt_child.specs.Board.{Board, shown}
+use Rattle.kt_child.specs.ChildrenState.{ChildrenState, shown}
 
 -- the launcher's answer to a start
 abbrev pub answer_of : Result ℕ Refused → StartAnswer
@@ -30,11 +30,11 @@ BegunCleanup plan dir calls answer =
     ((done : Bool) × (calls ≡ RemoveTree dir done ∷ []) × (answer ≡ RefusedFor Memory))
     ⊎ ((r : Result ℕ Refused) × Started (child_asks plan) dir calls r × (answer ≡ answer_of r))
 
--- a started child is the last of the row, and no member of the turn that goes on
-abbrev pub board_after_start : Board → Watched → Case → StartAnswer → Board
-board_after_start b child c (StartedAt moment) =
+-- a started child is the last of the running children, and no member of the turn that goes on
+abbrev pub state_after_start : ChildrenState → Watched → Case → StartAnswer → ChildrenState
+state_after_start b child c (StartedAt moment) =
     record { children = b.children ++ child ∷ []; cases = b.cases ++ c ∷ []; going = b.going; pending = b.pending }
-board_after_start b child c (RefusedFor cause) = b
+state_after_start b child c (RefusedFor cause) = b
 
 -- what is shown of the children after a start
 abbrev pub shown_after : (ℕ → Role → Option Shown) → Case → StartAnswer → ℕ → Role → Option Shown

@@ -5,15 +5,15 @@ use Rattle.kt_child.specs.declared.child.Child.{Child}
 use Rattle.kt_child.specs.declared.watched.Watched.{Watched}
 use Rattle.kt_child.specs.declared.case.Case.{Case}
 use Rattle.kt_child.specs.Calls.{Call}
-use Rattle.kt_child.specs.Board.{Board, Waited}
+use Rattle.kt_child.specs.ChildrenState.{ChildrenState, Waited}
 use Rattle.kt_child.specs.Lives.{heard_by, same_child}
 use Rattle.kt_child.specs.SeveralLives.{Share, name_of, named}
 
 -- Of all that a wait asks each child whose name is its own hears its share, by whether the end is its own: the end has
--- the position, the role and the outcome of the child that is over, and the row then has the others.
+-- the position, the role and the outcome of the child that is over, and the others are the running children then.
 abbrev pub EndShares : Type 0
 EndShares =
-    (old new : Board) (calls : List Call) (e : Ended) (c : Child) (k : Watched)
+    (old new : ChildrenState) (calls : List Call) (e : Ended) (c : Child) (k : Watched)
     → named c old.children ≡ k ∷ [] → Waited old calls e new
     → (place : ℕ) × (over : Child) × (case : Case)
     × (slice_get (map name_of old.children) place ≡ Some over) × (slice_get old.cases place ≡ Some case)

@@ -1,8 +1,8 @@
 pub mod Begins
-pub mod Board
 pub mod Calls
 pub mod ChildOutcome
 pub mod ChildPlan
+pub mod ChildrenState
 pub mod EndShares
 pub mod Ends
 pub mod Gathering
@@ -11,8 +11,8 @@ pub mod HostCommands
 pub mod HostStands
 pub mod JobPlan
 pub mod Launches
-pub mod Lives
 pub mod Lists
+pub mod Lives
 pub mod Moments
 pub mod Numbers
 pub mod Parts

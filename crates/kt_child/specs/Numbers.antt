@@ -9,7 +9,7 @@ use Rattle.kt_sched.specs.declared.start_answer.StartAnswer.{StartAnswer}
 use Rattle.kt_sched.specs.declared.ended.Ended.{Ended}
 use Rattle.kt_sched.specs.Trace.{Trace, Leads}
 use Rattle.kt_child.specs.declared.watched.Watched.{Watched}
-use Rattle.kt_child.specs.Board.{Board}
+use Rattle.kt_child.specs.ChildrenState.{ChildrenState}
 use Rattle.kt_child.specs.SeveralLives.{named}
 
 -- whatever is started and waited for after a body's start, the next number is above that body's: no two have the same
@@ -49,12 +49,12 @@ AttemptsDiffer {D} next serves =
     → is_attempt attempt ≡ true → next d < 2 ^ 64 - 1 → serves d attempt e → ServesAll serves e requests f → next d < next f
 
 -- nothing runs, and nothing is owed
-abbrev pub IsBare : Board → Type 0
+abbrev pub IsBare : ChildrenState → Type 0
 IsBare b = (b.children ≡ []) × (b.cases ≡ []) × (b.pending ≡ [])
 
--- whatever is started and waited for from a bare row on, the name of each child of the row is its own
-abbrev pub NamesDiffer : {D : Type 0} → (D → Board) → (D → Job → Role → StartAnswer → D → Type 0) → (D → Ended → D → Type 0) → Type 0
-NamesDiffer {D} row starts waits =
+-- whatever is started and waited for, if nothing ran and nothing was owed at first: each running child has a name of its own
+abbrev pub NamesDiffer : {D : Type 0} → (D → ChildrenState) → (D → Job → Role → StartAnswer → D → Type 0) → (D → Ended → D → Type 0) → Type 0
+NamesDiffer {D} running starts waits =
     (plan : List Job) (T : Trace) (d e : D) (place : ℕ) (k : Watched)
-    → IsBare (row d) → Leads starts waits plan T d e → slice_get (row e).children place ≡ Some k
-    → named k.child (row e).children ≡ k ∷ []
+    → IsBare (running d) → Leads starts waits plan T d e → slice_get (running e).children place ≡ Some k
+    → named k.child (running e).children ≡ k ∷ []

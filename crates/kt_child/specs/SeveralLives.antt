@@ -22,7 +22,7 @@ abbrev pub kept : Bool → Watched → List Watched → List Watched
 kept true k children = k ∷ children
 kept false k children = children
 
--- the children of a row that have this name
+-- those of these children that have this name
 abbrev pub named : Child → List Watched → List Watched
 named c [] = []
 named c (k ∷ children) = kept (same_child k.child c) k (named c children)
@@ -44,12 +44,13 @@ abbrev pub LivesOut : Watched → List Heard → Outcome → Type 0
 LivesOut k heard outcome = (polls : ℕ) × Lived polls k.limit k.watch heard outcome
 
 -- what a wait is for a child: the rest of its life where it is the one that is over, else a part of it, after which
--- the row has the child as that part left it
+-- the running children have it as that part left it
 abbrev pub Share : Child → Bool → Watched → List Heard → Outcome → List Watched → Type 0
 Share c true k heard outcome row = LivesOut k heard outcome
 Share c false k heard outcome row = (new : Watched) × GoesOn k heard new × (named c row ≡ new ∷ [])
 
--- In a wait each child whose name is its own in the row answers its share, by whether it stands at the place of the end.
+-- In a wait each child whose name no other running child has answers its share, by whether it stands at the place of
+-- the end.
 abbrev pub WaitShares : Type 0
 WaitShares =
     (going : OpenTurn) (children : List Watched) (calls : List Call) (place : ℕ) (outcome : Outcome) (after : List Watched) (going' : OpenTurn)
@@ -58,8 +59,8 @@ WaitShares =
     → (over : Child) × (slice_get (map name_of children) place ≡ Some over)
     × Share c (same_child over c) k (heard_by c calls) outcome (remove after place)
 
--- Waits up to the one in which a child is over, so many before it. Each row is what the wait before left, without the
--- child that was over, and behind it children of other names that were started since.
+-- Waits up to the one in which a child is over, so many before it. Each list of children is what the wait before left,
+-- without the child that was over, and behind it children of other names that were started since.
 abbrev pub WaitsFor : ℕ → Child → List Watched → List Heard → Outcome → Type 0
 WaitsFor zero c children heard outcome =
     (going : OpenTurn) × (calls : List Call) × (place : ℕ) × (after : List Watched) × (going' : OpenTurn) × (over : Child)

@@ -11,7 +11,7 @@ use Rattle.kt_sched.specs.Plan.{IsPlan}
 use Rattle.kt_sched.specs.Trace.{Trace, NoEvent, Then, Event, Start, End, Leads}
 use Rattle.kt_child.specs.declared.case.Case.{Case}
 use Rattle.kt_child.specs.Begins.{BegunBody, BegunCleanup}
-use Rattle.kt_child.specs.Board.{Board}
+use Rattle.kt_child.specs.ChildrenState.{ChildrenState}
 use Rattle.kt_child.specs.Calls.{Call, Chain}
 use Rattle.kt_child.specs.ChildOutcome.{Told}
 use Rattle.kt_child.specs.ChildPlan.{attempt_dir, paths_of}
@@ -85,10 +85,10 @@ abbrev pub ToldAt : List Job → List ℕ → List ℕ → ℕ → List Call →
 ToldAt plan source root next calls asked T (Start i role answer) = BegunAt plan source root next asked T i role answer
 ToldAt plan source root next calls asked T (End ended) = IsTold plan root next calls asked T ended
 
--- whatever is started and waited for from a bare row on, the calls that are asked of the system are those of the
--- answers, and tell each end
-abbrev pub EndsAreTold : {D O : Type 0} → (O → Call → O → Type 0) → (D → O) → (D → List ℕ) → (D → List ℕ) → (D → ℕ) → (D → Board) → (D → Job → Role → StartAnswer → D → Type 0) → (D → Ended → D → Type 0) → Type 0
-EndsAreTold {D} leads os source root next row starts waits =
+-- whatever is started and waited for, if nothing ran and nothing was owed at first: the calls that are asked of the
+-- system are those of the answers, and tell each end
+abbrev pub EndsAreTold : {D O : Type 0} → (O → Call → O → Type 0) → (D → O) → (D → List ℕ) → (D → List ℕ) → (D → ℕ) → (D → ChildrenState) → (D → Job → Role → StartAnswer → D → Type 0) → (D → Ended → D → Type 0) → Type 0
+EndsAreTold {D} leads os source root next running starts waits =
     (plan : List Job) (T : Trace) (d e : D)
-    → IsPlan plan → IsBare (row d) → Leads starts waits plan T d e
+    → IsPlan plan → IsBare (running d) → Leads starts waits plan T d e
     → (calls : List Call) × Chain leads (os d) calls (os e) × EachWith (ToldAt plan (source d) (root d) (next d) calls) T calls

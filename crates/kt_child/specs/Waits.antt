@@ -14,11 +14,11 @@ unpolled_of turn children = take turn.unpolled (drop turn.from children)
 abbrev pub later_of : OpenTurn → List Watched → List Watched
 later_of turn children = drop turn.unpolled (drop turn.from children)
 
--- the row after the first n of those members have answered Running
+-- the children after the first n of those members have answered Running
 abbrev pub spread : ℕ → OpenTurn → List Watched → List Watched
 spread n turn children = take turn.from children ++ (advanced_below n (unpolled_of turn children) ++ later_of turn children)
 
--- the row after all of those have
+-- the children after all of those have
 abbrev pub gone_on : OpenTurn → List Watched → List Watched
 gone_on turn children = take turn.from children ++ (map advanced (unpolled_of turn children) ++ later_of turn children)
 
@@ -43,7 +43,7 @@ EndsLater turn children calls place outcome after turn' =
     × (after ≡ advanced_below place (after_turns turns (gone_on turn children))) × (members + (place + 1) ≡ length children)
     × (turn' ≡ going_on 1 place members)
 
--- A wait over this row, in this turn, ends with this child; the row and the turn after it.
+-- A wait for these children, in this turn, ends with this child; the children and the turn after it.
 abbrev pub WaitedOn : OpenTurn → List Watched → List Call → ℕ → Outcome → List Watched → OpenTurn → Type 0
 WaitedOn turn children calls place outcome after turn' =
     EndsInTurn turn children calls place outcome after turn' ⊎ EndsLater turn children calls place outcome after turn'

@@ -8,7 +8,7 @@ use Rattle.kt_sched.specs.declared.ended.Ended.{Ended}
 use Rattle.kt_sched.specs.Trace.{Trace, Leads}
 use Rattle.kt_child.specs.declared.watched.Watched.{Watched}
 use Rattle.kt_child.specs.declared.open_turn.OpenTurn.{OpenTurn}
-use Rattle.kt_child.specs.Board.{Board, empty_board}
+use Rattle.kt_child.specs.ChildrenState.{ChildrenState, idle_state}
 use Rattle.kt_child.specs.Calls.{Call}
 use Rattle.kt_child.specs.Turns.{WaitedUntil}
 use Rattle.kt_child.specs.Waits.{WaitedOn, going_on}
@@ -27,9 +27,9 @@ NoneLeft =
     (turn : OpenTurn) (children : List Watched) (calls : List Call) (place : ℕ) (outcome : Outcome) (after : List Watched) (turn' : OpenTurn)
     → length children ≡ 1 → turn.unpolled ≤ 1 → WaitedOn turn children calls place outcome after turn' → turn'.unpolled ≡ 0
 
--- whatever is started and waited for from an empty row on, where each wait is for an only child no member is ever left
-abbrev pub AloneIsPlain : {D : Type 0} → (D → Board) → (D → Job → Role → StartAnswer → D → Type 0) → (D → Ended → D → Type 0) → Type 0
-AloneIsPlain {D} row starts waits =
+-- whatever is started and waited for, if nothing ran at first: where each wait is for an only child no member is ever left
+abbrev pub AloneIsPlain : {D : Type 0} → (D → ChildrenState) → (D → Job → Role → StartAnswer → D → Type 0) → (D → Ended → D → Type 0) → Type 0
+AloneIsPlain {D} running starts waits =
     (plan : List Job) (T : Trace) (d e : D)
-    → row d ≡ empty_board → Leads starts (λ a ended b. (length (row a).children ≡ 1) × waits a ended b) plan T d e
-    → (row e).going.unpolled ≡ 0
+    → running d ≡ idle_state → Leads starts (λ a ended b. (length (running a).children ≡ 1) × waits a ended b) plan T d e
+    → (running e).going.unpolled ≡ 0

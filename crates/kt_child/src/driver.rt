@@ -3,7 +3,7 @@ use crate::launches::{begin_body, begin_cleanup};
 use crate::lists::list_by;
 use crate::os::Os;
 use crate::roots::find_root;
-use crate::row::Row;
+use crate::running_children::RunningChildren;
 use kt_atflist::Listing;
 use kt_base::{Role, Text, Variables};
 use kt_sched::{Ended, Job, Launcher, StartAnswer};
@@ -22,23 +22,23 @@ pub struct Driver<O: Os + Drop> {
     /// The number of the next start of a body or a list.
     pub next: u64,
     /// What runs and what is owed.
-    pub row: Row,
+    pub running: RunningChildren,
 }
 
 impl<O: Os + Drop> Launcher for Driver<O> {
     ghost use Rattle.std.specs.Prelude.{◌≡◌, List};
     ghost use Rattle.kt_child.specs.Calls.{Call, Chain};
-    ghost use Rattle.kt_child.specs.Board.{Waited, is_among, shown_at};
+    ghost use Rattle.kt_child.specs.ChildrenState.{Waited, is_among, shown_at};
     ghost use Rattle.kt_child.specs.Launches.{StartsBy};
 
-    ghost running = { λ d. shown_at d.row.cases };
+    ghost running = { λ d. shown_at d.running.cases };
 
-    ghost pending = { λ d. is_among d.row.pending };
+    ghost pending = { λ d. is_among d.running.pending };
 
-    ghost starts = { λ d job role answer e. StartsBy O.leads d.source d.root job role d.os d.next d.row answer e.os e.next e.row
+    ghost starts = { λ d job role answer e. StartsBy O.leads d.source d.root job role d.os d.next d.running answer e.os e.next e.running
         × (e.source ≡ d.source) × (e.root ≡ d.root) };
 
-    ghost waits = { λ d ended e. ((calls : List Call) × Chain O.leads d.os calls e.os × Waited d.row calls ended e.row)
+    ghost waits = { λ d ended e. ((calls : List Call) × Chain O.leads d.os calls e.os × Waited d.running calls ended e.running)
         × (e.source ≡ d.source) × (e.root ≡ d.root) × (e.next ≡ d.next) };
 
     fn start(&mut self, job: &Job, role: Role) -> StartAnswer {
@@ -49,7 +49,7 @@ impl<O: Os + Drop> Launcher for Driver<O> {
                 &self.source,
                 &self.root,
                 &mut self.next,
-                &mut self.row,
+                &mut self.running,
                 job,
             ),
             Role::Cleanup => begin_cleanup(
@@ -57,14 +57,14 @@ impl<O: Os + Drop> Launcher for Driver<O> {
                 &mut self.os,
                 &self.source,
                 self.next,
-                &mut self.row,
+                &mut self.running,
                 job,
             ),
         }
     }
 
     fn wait(&mut self) -> Ended {
-        self.row.wait(self.alloc, &mut self.os)
+        self.running.wait(self.alloc, &mut self.os)
     }
 }
 
@@ -72,7 +72,7 @@ impl<O: Os + Drop> Driver<O> {
     ghost use Rattle.std.specs.Prelude.{◌≡◌, Bool, List, MatchResult, Ok, Err};
     ghost use Rattle.kt_child.specs.Calls.{Call, Chain, RemoveTree};
     ghost use Rattle.kt_child.specs.Roots.{FindsRoot};
-    ghost use Rattle.kt_child.specs.Board.{empty_board};
+    ghost use Rattle.kt_child.specs.ChildrenState.{idle_state};
     ghost use Rattle.kt_child.specs.Lists.{ListsBy};
 
     /// Makes the root directory of a driver below `base`. `source` is the absolute directory of the root Kyuafile.
@@ -85,21 +85,21 @@ impl<O: Os + Drop> Driver<O> {
     ) -> Result<Driver<O>, (DriverFault, O)>
         ensures { MatchResult result
             (λ d. ((calls : List Call) × Chain O.leads os calls d.os × FindsRoot base.now calls (Ok d.root))
-            × (d.source ≡ source) × (d.next ≡ 0) × (d.row ≡ empty_board))
+            × (d.source ≡ source) × (d.next ≡ 0) × (d.running ≡ idle_state))
             (λ e. (calls : List Call) × Chain O.leads os calls e.1 × FindsRoot base.now calls (Err e.0)) }
     {
         let mut os = os;
         match find_root(alloc, &mut os, base) {
             Err(fault) => Err((fault, os)),
             Ok(root) => {
-                let row = Row::new(alloc);
+                let running = RunningChildren::new(alloc);
                 Ok(Driver {
                     os,
                     alloc,
                     source,
                     root,
                     next: 0,
-                    row,
+                    running,
                 })
             }
         }
@@ -109,7 +109,7 @@ impl<O: Os + Drop> Driver<O> {
     pub fn list(&mut self, program: &Program, variables: &Variables) -> Listing
         ensures listed { ListsBy O.leads self.old.source self.old.root program.now.path
             variables.now self.old.os self.old.next result self.new.os self.new.next }
-        ensures row { self.new.row ≡ self.old.row }
+        ensures running { self.new.running ≡ self.old.running }
         ensures source { self.new.source ≡ self.old.source }
         ensures root { self.new.root ≡ self.old.root }
     {

@@ -3,14 +3,14 @@ ghost use Rattle.kt_base.specs.declared.role.Role.{Role};
 ghost use Rattle.kt_sched.specs.Children.{MayStart, pending_after_start, running_after_start};
 ghost use Rattle.kt_sched.specs.Moments.{HasMoment};
 ghost use Rattle.kt_sched.specs.Plan.{IsFit};
-ghost use Rattle.kt_child.specs.Board.{is_among, shown_at};
+ghost use Rattle.kt_child.specs.ChildrenState.{is_among, shown_at};
 ghost use Rattle.kt_child.specs.Launches.{BodyStarts, CleanupStarts};
 
 use crate::case::Case;
 use crate::jobs::{fresh_child, plan_body, spawning};
 use crate::os::Os;
 use crate::refusals::memory_refusal;
-use crate::row::Row;
+use crate::running_children::RunningChildren;
 use kt_base::{Refused, Role, Text};
 use kt_sched::{Job, StartAnswer};
 use std::alloc::Global;
@@ -22,18 +22,18 @@ pub(super) fn begin_body<O: Os>(
     source: &Text,
     root: &Text,
     next: &mut u64,
-    row: &mut Row,
+    running: &mut RunningChildren,
     job: &Job,
 ) -> StartAnswer
     requires fit { IsFit job.now }
-    requires may { MayStart (shown_at row.old.cases) (is_among row.old.pending) job.now.position
+    requires may { MayStart (shown_at running.old.cases) (is_among running.old.pending) job.now.position
         Role.Body }
-    ensures starts { BodyStarts O.leads source.now root.now job.now os.old next.old row.old result
-        os.new next.new row.new }
+    ensures starts { BodyStarts O.leads source.now root.now job.now os.old next.old running.old result
+        os.new next.new running.new }
     ensures moment { HasMoment result }
-    ensures running { (k : ℕ) (r : Role) → shown_at row.new.cases k r
-        ≡ running_after_start (shown_at row.old.cases) job.now Role.Body result k r }
-    ensures pending { row.new.pending ≡ row.old.pending }
+    ensures running { (k : ℕ) (r : Role) → shown_at running.new.cases k r
+        ≡ running_after_start (shown_at running.old.cases) job.now Role.Body result k r }
+    ensures pending { running.new.pending ≡ running.old.pending }
 {
     if *next == u64::MAX {
         return StartAnswer::Refused(Refused::Directory);
@@ -44,7 +44,7 @@ pub(super) fn begin_body<O: Os>(
         Err(refusal) => StartAnswer::Refused(memory_refusal(refusal)),
         Ok(planned) => {
             let child = fresh_child(job, Role::Body, attempt);
-            row.start_body(os, child, planned.case, &planned.plan)
+            running.start_body(os, child, planned.case, &planned.plan)
         }
     }
 }
@@ -55,21 +55,21 @@ pub(super) fn begin_cleanup<O: Os>(
     os: &mut O,
     source: &Text,
     next: u64,
-    row: &mut Row,
+    running: &mut RunningChildren,
     job: &Job,
 ) -> StartAnswer
     requires fit { IsFit job.now }
-    requires may { MayStart (shown_at row.old.cases) (is_among row.old.pending) job.now.position
+    requires may { MayStart (shown_at running.old.cases) (is_among running.old.pending) job.now.position
         Role.Cleanup }
-    ensures starts { CleanupStarts O.leads source.now job.now os.old next row.old result os.new next
-        row.new }
+    ensures starts { CleanupStarts O.leads source.now job.now os.old next running.old result os.new next
+        running.new }
     ensures moment { HasMoment result }
-    ensures running { (k : ℕ) (r : Role) → shown_at row.new.cases k r
-        ≡ running_after_start (shown_at row.old.cases) job.now Role.Cleanup result k r }
-    ensures pending { (k : ℕ) → is_among row.new.pending k
-        ≡ pending_after_start (is_among row.old.pending) job.now.position Role.Cleanup k }
+    ensures running { (k : ℕ) (r : Role) → shown_at running.new.cases k r
+        ≡ running_after_start (shown_at running.old.cases) job.now Role.Cleanup result k r }
+    ensures pending { (k : ℕ) → is_among running.new.pending k
+        ≡ pending_after_start (is_among running.old.pending) job.now.position Role.Cleanup k }
 {
-    let owed = row.take_owed(job.position);
+    let owed = running.take_owed(job.position);
     match spawning(alloc, source, job, Role::Cleanup, owed.attempt, &owed.paths) {
         Err(refusal) => {
             let _ = os.remove_tree(&owed.paths.dir);
@@ -85,7 +85,7 @@ pub(super) fn begin_cleanup<O: Os>(
                 cleanup: job.cleanup,
                 paths: owed.paths,
             };
-            row.start_cleanup(os, child, case, &plan)
+            running.start_cleanup(os, child, case, &plan)
         }
     }
 }

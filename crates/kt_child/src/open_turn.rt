@@ -7,7 +7,7 @@ const ENDS_A_TURN: u32 = 8;
 /// The turn that goes on.
 #[derive(Clone, Copy, Debug, PartialEq, Eq)]
 pub struct OpenTurn {
-    /// Where its members that were not polled yet begin in the row of children.
+    /// Where its members that were not polled yet begin among the running children.
     pub from: usize,
     /// How many they are.
     pub unpolled: usize,

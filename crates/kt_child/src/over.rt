@@ -1,6 +1,6 @@
 use kt_base::Outcome;
 
-/// The child that is over, by its place in the row.
+/// The child that is over, by its place among the running children.
 #[derive(Clone, Copy, Debug, PartialEq, Eq)]
 pub struct Over {
     pub place: usize,

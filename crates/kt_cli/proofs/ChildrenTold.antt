@@ -5,7 +5,7 @@ use Rattle.kt_sched.specs.Plan.{IsPlan}
 use Rattle.kt_sched.specs.Trace.{Trace, NoEvent, Leads}
 use Rattle.kt_suite.specs.Answers.{Chain}
 use Rattle.kt_child.specs.declared.driver.Driver.{Driver}
-use Rattle.kt_child.specs.Board.{Board, empty_board}
+use Rattle.kt_child.specs.ChildrenState.{ChildrenState, idle_state}
 use Rattle.kt_child.specs.Calls.{Call}
 use Rattle.kt_child.specs.Numbers.{IsBare}
 use Rattle.kt_child.proofs.TraceTells.{ends_are_told}
@@ -13,7 +13,7 @@ use Rattle.kt_plan.proofs.PlansFit.{plan_fits}
 use Rattle.kt_plan.specs.Questions.{Question, OfTree, OfHost, leads_by}
 use Rattle.kt_cli.specs.declared.runner.Runner.{Runner}
 use Rattle.kt_cli.specs.ChildrenTold.{ChildrenTell, CoursesAreTold}
-use Rattle.kt_cli.specs.HostAnswers.{IsHostAnswer, RunnerStarts, RunnerWaits, row_kept}
+use Rattle.kt_cli.specs.HostAnswers.{IsHostAnswer, RunnerStarts, RunnerWaits, running_kept}
 use Rattle.kt_cli.specs.HostFiles.{IsLook}
 use Rattle.kt_cli.specs.Meaning.{Seen, Course, Means, CutShort, stopped, listed, tested, debugged, idle, reported, reported_junit, no_memory, cut, report_cut, junit_cut}
 use Rattle.kt_cli.specs.declared.command.Command.{Command}
@@ -41,16 +41,16 @@ pub did_run : (seen : Seen) (c : Command) (bytes : List ℕ) (exit : ℕ) → Me
 did_run seen c bytes exit (inl m) = means_runs seen c bytes exit m
 did_run seen c bytes exit (inr m) = cut_runs seen c bytes exit m
 
--- an empty board is bare
-pub is_bare : (b : Board) → b ≡ empty_board → IsBare b
+-- an idle state is bare
+pub is_bare : (b : ChildrenState) → b ≡ idle_state → IsBare b
 is_bare b e = subst IsBare (sym e) (refl, refl, refl)
 
 module _ {O : Type 0} (leads : O → Call → O → Type 0) where
   -- no question changes what runs
-  rows_kept : (qs : List Question) (old new : Runner O) → Chain (leads_by IsLook (IsHostAnswer leads)) qs old new → new.driver.row ≡ old.driver.row
-  rows_kept [] old new h = ap (λ (r : Runner O). r.driver.row) h
-  rows_kept (OfTree asked ∷ qs) old new h = rows_kept qs h.0 new h.2 ∙ ap (λ (r : Runner O). r.driver.row) h.1.0
-  rows_kept (OfHost told ∷ qs) old new h = rows_kept qs h.0 new h.2 ∙ row_kept leads old h.0 told h.1
+  all_running_kept : (qs : List Question) (old new : Runner O) → Chain (leads_by IsLook (IsHostAnswer leads)) qs old new → new.driver.running ≡ old.driver.running
+  all_running_kept [] old new h = ap (λ (r : Runner O). r.driver.running) h
+  all_running_kept (OfTree asked ∷ qs) old new h = all_running_kept qs h.0 new h.2 ∙ ap (λ (r : Runner O). r.driver.running) h.1.0
+  all_running_kept (OfHost told ∷ qs) old new h = all_running_kept qs h.0 new h.2 ∙ running_kept leads old h.0 told h.1
 
   -- what nobody asked leaves a driver as it is
   none_told : (plan : List Job) (T : Trace) (old new : Runner O) → T ≡ NoEvent → Leads (RunnerStarts leads) (RunnerWaits leads) plan T old new
@@ -59,15 +59,15 @@ module _ {O : Type 0} (leads : O → Call → O → Type 0) where
       let same : new ≡ old = subst (λ (t : Trace). Leads (RunnerStarts leads) (RunnerWaits leads) plan t old new) e led in
       subst (λ (t : Trace). ChildrenTell leads plan t old.driver new.driver) (sym e) ([], ap (λ (r : Runner O). r.driver.os) same, refl)
 
-  run_told : (plan : List Job) (T : Trace) (old new : Runner O) → IsPlan plan → IsBare old.driver.row → Leads (RunnerStarts leads) (RunnerWaits leads) plan T old new
+  run_told : (plan : List Job) (T : Trace) (old new : Runner O) → IsPlan plan → IsBare old.driver.running → Leads (RunnerStarts leads) (RunnerWaits leads) plan T old new
       → ChildrenTell leads plan T old.driver new.driver
   run_told plan T old new is bare led =
-      ends_are_told leads (λ (r : Runner O). r.driver.os) (λ (r : Runner O). r.driver.source) (λ (r : Runner O). r.driver.root) (λ (r : Runner O). r.driver.next) (λ (r : Runner O). r.driver.row) _ _
+      ends_are_told leads (λ (r : Runner O). r.driver.os) (λ (r : Runner O). r.driver.source) (λ (r : Runner O). r.driver.root) (λ (r : Runner O). r.driver.next) (λ (r : Runner O). r.driver.running) _ _
       (λ d e job role answer h. h.0)
       (λ d e ended h. (h.0.0.0, h.0.0.1, h.0.0.2, h.0.3, h.0.1, h.0.2))
       plan T old new is bare led
 
   pub courses_are_told : CoursesAreTold leads
   courses_are_told seen old new course bare (inl is) =
-      run_told seen.plan seen.trace course.begun new is (subst IsBare (sym (rows_kept seen.questions old course.begun course.asked)) bare) course.ran
+      run_told seen.plan seen.trace course.begun new is (subst IsBare (sym (all_running_kept seen.questions old course.begun course.asked)) bare) course.ran
   courses_are_told seen old new course bare (inr none) = none_told seen.plan seen.trace course.begun new none course.ran

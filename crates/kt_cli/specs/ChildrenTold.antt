@@ -22,4 +22,4 @@ ChildrenTell leads plan T old new =
 abbrev pub CoursesAreTold : {O : Type 0} → (O → Call → O → Type 0) → Type 0
 CoursesAreTold {O} leads =
     (seen : Seen) (old new : Runner O) (course : Course IsLook (IsHostAnswer leads) (RunnerStarts leads) (RunnerWaits leads) seen old new)
-    → IsBare old.driver.row → IsPlan seen.plan ⊎ (seen.trace ≡ NoEvent) → ChildrenTell leads seen.plan seen.trace course.begun.driver new.driver
+    → IsBare old.driver.running → IsPlan seen.plan ⊎ (seen.trace ≡ NoEvent) → ChildrenTell leads seen.plan seen.trace course.begun.driver new.driver

@@ -9,7 +9,7 @@ use Rattle.kt_sched.specs.declared.job.Job.{Job}
 use Rattle.kt_sched.specs.declared.start_answer.StartAnswer.{StartAnswer}
 use Rattle.kt_sched.specs.declared.ended.Ended.{Ended}
 use Rattle.kt_child.specs.declared.driver.Driver.{Driver}
-use Rattle.kt_child.specs.Board.{Waited}
+use Rattle.kt_child.specs.ChildrenState.{Waited}
 use Rattle.kt_child.specs.Calls.{Call, Chain}
 use Rattle.kt_child.specs.Launches.{StartsBy}
 use Rattle.kt_child.specs.Lists.{ListsBy}
@@ -32,7 +32,7 @@ is_sought path name = is_absolute name || (is_some path && not (list_any is_slas
 -- a driver asked a program for its list: its own clause, and what runs, where the programs lie and its root directory stay
 abbrev pub DriverLists : {O : Type 0} → (O → Call → O → Type 0) → Driver O → Program → List Variable → Listing → Driver O → Type 0
 DriverLists leads old program variables answer new =
-    ListsBy leads old.source old.root program.path variables old.os old.next answer new.os new.next × (new.row ≡ old.row) × (new.source ≡ old.source) × (new.root ≡ old.root)
+    ListsBy leads old.source old.root program.path variables old.os old.next answer new.os new.next × (new.running ≡ old.running) × (new.source ≡ old.source) × (new.root ≡ old.root)
 
 -- what an answer leaves of a runner, and what is known of it: a list moves the driver, and nothing else moves anything; of a configuration
 -- file no more is read than of the tree's; a program is found only where it is looked for; memory and disk space are unknown
@@ -49,22 +49,22 @@ IsHostAnswer leads old (Now moment) new = new ≡ old
 -- a start by the runner's driver
 abbrev pub RunnerStarts : {O : Type 0} → (O → Call → O → Type 0) → Runner O → Job → Role → StartAnswer → Runner O → Type 0
 RunnerStarts leads old job role answer new =
-    (StartsBy leads old.driver.source old.driver.root job role old.driver.os old.driver.next old.driver.row answer new.driver.os new.driver.next new.driver.row
+    (StartsBy leads old.driver.source old.driver.root job role old.driver.os old.driver.next old.driver.running answer new.driver.os new.driver.next new.driver.running
     × (new.driver.source ≡ old.driver.source) × (new.driver.root ≡ old.driver.root)) × (new.around ≡ old.around)
 
 -- a wait by the runner's driver
 abbrev pub RunnerWaits : {O : Type 0} → (O → Call → O → Type 0) → Runner O → Ended → Runner O → Type 0
 RunnerWaits leads old ended new =
-    (((calls : List Call) × Chain leads old.driver.os calls new.driver.os × Waited old.driver.row calls ended new.driver.row)
+    (((calls : List Call) × Chain leads old.driver.os calls new.driver.os × Waited old.driver.running calls ended new.driver.running)
     × (new.driver.source ≡ old.driver.source) × (new.driver.root ≡ old.driver.root) × (new.driver.next ≡ old.driver.next)) × (new.around ≡ old.around)
 
 -- no question changes what runs
-pub row_kept : {O : Type 0} (leads : O → Call → O → Type 0) (old new : Runner O) (told : Told) → IsHostAnswer leads old told new → new.driver.row ≡ old.driver.row
-row_kept {O} leads old new (ReadConfig path answer) h = ap (λ (r : Runner O). r.driver.row) h.0
-row_kept {O} leads old new (Lists program variables answer) h = h.0.1
-row_kept {O} leads old new (FindsFile path answer) h = ap (λ (r : Runner O). r.driver.row) h
-row_kept {O} leads old new (FindsProgram name answer) h = ap (λ (r : Runner O). r.driver.row) h.0
-row_kept {O} leads old new (IsRoot answer) h = ap (λ (r : Runner O). r.driver.row) h.0
-row_kept {O} leads old new (HasMemory answer) h = ap (λ (r : Runner O). r.driver.row) h.0
-row_kept {O} leads old new (HasDisk answer) h = ap (λ (r : Runner O). r.driver.row) h.0
-row_kept {O} leads old new (Now moment) h = ap (λ (r : Runner O). r.driver.row) h
+pub running_kept : {O : Type 0} (leads : O → Call → O → Type 0) (old new : Runner O) (told : Told) → IsHostAnswer leads old told new → new.driver.running ≡ old.driver.running
+running_kept {O} leads old new (ReadConfig path answer) h = ap (λ (r : Runner O). r.driver.running) h.0
+running_kept {O} leads old new (Lists program variables answer) h = h.0.1
+running_kept {O} leads old new (FindsFile path answer) h = ap (λ (r : Runner O). r.driver.running) h
+running_kept {O} leads old new (FindsProgram name answer) h = ap (λ (r : Runner O). r.driver.running) h.0
+running_kept {O} leads old new (IsRoot answer) h = ap (λ (r : Runner O). r.driver.running) h.0
+running_kept {O} leads old new (HasMemory answer) h = ap (λ (r : Runner O). r.driver.running) h.0
+running_kept {O} leads old new (HasDisk answer) h = ap (λ (r : Runner O). r.driver.running) h.0
+running_kept {O} leads old new (Now moment) h = ap (λ (r : Runner O). r.driver.running) h

@@ -6,7 +6,7 @@ use Rattle.kt_base.specs.declared.run.Run.{Run}
 use Rattle.kt_child.specs.declared.driver.Driver.{Driver}
 use Rattle.kt_child.specs.declared.driver_fault.DriverFault.{DriverFault}
 use Rattle.kt_child.specs.declared.driver_fault.DriverFault.TheVariants as driver
-use Rattle.kt_child.specs.Board.{empty_board}
+use Rattle.kt_child.specs.ChildrenState.{idle_state}
 use Rattle.kt_child.specs.Calls.{Call, Chain, RemoveTree}
 use Rattle.kt_child.specs.Roots.{FindsRoot}
 use Rattle.kt_store.specs.StoreCalls.{StoreCall}
@@ -28,7 +28,7 @@ pub record IsMade {O : Type 0} (leads : O → Call → O → Type 0) (os : O) (h
   pub found : FindsRoot base calls (Ok d.root)
   pub source : d.source ≡ source_directory here kyuafile
   pub first : d.next ≡ 0
-  pub none_runs : d.row ≡ empty_board
+  pub none_runs : d.running ≡ idle_state
 
 -- a command was done over a driver that was made for its options, whose root directory was then to be removed; each end in the trace is told
 -- by the calls of its own child

@@ -183,12 +183,12 @@ impl<R: Files<File = File> + Clock + AllocGlobal, O: Os + Drop> Tree for HostWor
 }
 
 impl<R, O: Os + Drop> Launcher for HostWorld<'_, R, O> {
-    ghost use Rattle.kt_child.specs.Board.{is_among, shown_at};
+    ghost use Rattle.kt_child.specs.ChildrenState.{is_among, shown_at};
     ghost use Rattle.kt_cli.specs.HostAnswers.{RunnerStarts, RunnerWaits};
 
-    ghost running = { λ s. shown_at s.runner.driver.row.cases };
+    ghost running = { λ s. shown_at s.runner.driver.running.cases };
 
-    ghost pending = { λ s. is_among s.runner.driver.row.pending };
+    ghost pending = { λ s. is_among s.runner.driver.running.pending };
 
     ghost starts = { λ s job role a t. RunnerStarts O.leads s.runner job role a t.runner };
 
@@ -206,8 +206,8 @@ impl<R, O: Os + Drop> Launcher for HostWorld<'_, R, O> {
 impl<R: Files<File = File> + Clock + AllocGlobal, O: Os + Drop> World for HostWorld<'_, R, O> {
     ghost use Rattle.std.specs.Prelude.{◌≡◌};
     ghost use Rattle.std.proofs.Common.{ap};
-    ghost use Rattle.kt_child.specs.Board.{Board, is_among, shown_at};
-    ghost use Rattle.kt_cli.specs.HostAnswers.{IsHostAnswer, row_kept};
+    ghost use Rattle.kt_child.specs.ChildrenState.{ChildrenState, is_among, shown_at};
+    ghost use Rattle.kt_cli.specs.HostAnswers.{IsHostAnswer, running_kept};
 
     ghost tells = { λ s q t. IsHostAnswer O.leads s.runner q t.runner };
 
@@ -260,11 +260,11 @@ impl<R: Files<File = File> + Clock + AllocGlobal, O: Os + Drop> World for HostWo
         }
     }
 
-    ghost runs_on = { λ s t q h k r. ap (λ x. shown_at x.driver.row.cases k r) h.0 };
+    ghost runs_on = { λ s t q h k r. ap (λ x. shown_at x.driver.running.cases k r) h.0 };
 
-    ghost pends_on = { λ s t q h k. ap (λ x. is_among x.driver.row.pending k) h.0 };
+    ghost pends_on = { λ s t q h k. ap (λ x. is_among x.driver.running.pending k) h.0 };
 
-    ghost runs_told = { λ s t q h k r. ap (λ (b : Board). shown_at b.cases k r) (row_kept O.leads s.runner t.runner q h) };
+    ghost runs_told = { λ s t q h k r. ap (λ (b : ChildrenState). shown_at b.cases k r) (running_kept O.leads s.runner t.runner q h) };
 
-    ghost pends_told = { λ s t q h k. ap (λ (b : Board). is_among b.pending k) (row_kept O.leads s.runner t.runner q h) };
+    ghost pends_told = { λ s t q h k. ap (λ (b : ChildrenState). is_among b.pending k) (running_kept O.leads s.runner t.runner q h) };
 }

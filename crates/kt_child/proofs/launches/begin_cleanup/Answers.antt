@@ -4,9 +4,9 @@ use Rattle.kt_sched.specs.declared.start_answer.StartAnswer.TheVariants.{Refused
 use Rattle.kt_child.specs.declared.watched.Watched.{Watched}
 use Rattle.kt_child.specs.declared.spawning.Spawning.{Spawning}
 use Rattle.kt_child.specs.Calls.{Call, Chain, RemoveTree}
-use Rattle.kt_child.specs.Begins.{BegunCleanup, board_after_start}
+use Rattle.kt_child.specs.Begins.{BegunCleanup, state_after_start}
 use Rattle.kt_child.specs.JobPlan.{cleaning, watched_of}
-use Rattle.kt_child.specs.Board.{Board}
+use Rattle.kt_child.specs.ChildrenState.{ChildrenState}
 use Rattle.kt_child.proofs.launches.begin_cleanup.Goals as goal
 
 pub returns-in-Err-clause-starts : goal.returns-in-Err-clause-starts
@@ -29,13 +29,13 @@ returns-in-Ok-clause-starts g c =
     let owed = c.take_owed-owed.result in
     let r = c.start_cleanup.result in
     let B : Spawning → Type 0 = λ s. (calls : List Call) × Chain g.O.Os.leads c.args.os.now calls c.start_cleanup.new.os × BegunCleanup s owed.paths.dir calls r in
-    let K : Watched → Board = λ k. board_after_start c.take_owed-owed.new.self k (cleaning owed job) r in
-    let L : Board → Board = λ b. board_after_start b (watched_of job Cleanup owed.attempt) (cleaning owed job) r in (
+    let K : Watched → ChildrenState = λ k. state_after_start c.take_owed-owed.new.self k (cleaning owed job) r in
+    let L : ChildrenState → ChildrenState = λ b. state_after_start b (watched_of job Cleanup owed.attempt) (cleaning owed job) r in (
       t.0,
       owed,
       t.1,
       c.take_owed-owed.ensures.position,
       refl,
       subst B c.in-Ok.ensures c.start_cleanup.ensures.begun,
-      c.start_cleanup.ensures.board ∙ ap K c.fresh_child-child.ensures.watched ∙ ap L t.2,
+      c.start_cleanup.ensures.state ∙ ap K c.fresh_child-child.ensures.watched ∙ ap L t.2,
     )

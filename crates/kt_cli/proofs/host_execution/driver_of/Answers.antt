@@ -1,17 +1,17 @@
 use Rattle.std.proofs.Common.{rules, ◌≡◌, ◌∙◌, ℕ, List, ap, refl, subst, sym}
 use Rattle.kt_sched.specs.Children.{IsIdle}
-use Rattle.kt_child.specs.Board.{Board, empty_board, is_among, shown_at}
+use Rattle.kt_child.specs.ChildrenState.{ChildrenState, idle_state, is_among, shown_at}
 use Rattle.kt_cli.specs.Hosts.{not_absolute, no_memory}
 use Rattle.kt_cli.specs.Places.{source_directory}
 use Rattle.kt_cli.proofs.Refusing.{no_root}
 use Rattle.kt_cli.proofs.host_execution.driver_of.Goals as goal
 
--- where the board is empty nothing runs
-idle : (b : Board) → b ≡ empty_board → IsIdle (shown_at b.cases) (is_among b.pending)
-idle b e = subst (λ (x : Board). IsIdle (shown_at x.cases) (is_among x.pending)) (sym e) (record { runs = λ k r. refl; pends = λ k. refl })
+-- where the state is idle nothing runs
+idle : (b : ChildrenState) → b ≡ idle_state → IsIdle (shown_at b.cases) (is_among b.pending)
+idle b e = subst (λ (x : ChildrenState). IsIdle (shown_at x.cases) (is_among x.pending)) (sym e) (record { runs = λ k r. refl; pends = λ k. refl })
 
 pub returns-in-Ok-new-clause-idle : goal.returns-in-Ok-new-clause-idle
-returns-in-Ok-new-clause-idle g c = idle c.in-Ok-new.driver.row (search rules)
+returns-in-Ok-new-clause-idle g c = idle c.in-Ok-new.driver.running (search rules)
 
 pub returns-in-Ok-new-clause-made : goal.returns-in-Ok-new-clause-made
 returns-in-Ok-new-clause-made g c =

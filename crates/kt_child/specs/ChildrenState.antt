@@ -14,15 +14,15 @@ use Rattle.kt_child.specs.Ends.{Leaves, is_over}
 
 -- The running children in the order of their start, each with its case; the turn that goes on; and the cases whose
 -- cleanup is owed.
-pub record Board : Type 0 where
+pub record ChildrenState : Type 0 where
   pub children : List Watched
   pub cases : List Case
   pub going : OpenTurn
   pub pending : List Case
 
 -- nothing runs, and nothing is owed
-abbrev pub empty_board : Board
-empty_board = record { children = []; cases = []; going = record { from = 0; unpolled = 0; over = 0 }; pending = [] }
+abbrev pub idle_state : ChildrenState
+idle_state = record { children = []; cases = []; going = record { from = 0; unpolled = 0; over = 0 }; pending = [] }
 
 -- what is shown of a case's child
 abbrev pub shown : Case → Shown
@@ -47,8 +47,8 @@ abbrev pub count_at : ℕ → List Case → ℕ
 count_at i [] = 0
 count_at i (c ∷ cases) = one_if (i == c.position) + count_at i cases
 
--- each child is on and has its case, the turn lies within the row, and no case stands there twice
-pub record IsBoard (children : List Watched) (cases : List Case) (going : OpenTurn) (pending : List Case) : Type 0 where
+-- each child is on and has its case, the turn lies within the children, and no case stands there twice
+pub record IsChildrenState (children : List Watched) (cases : List Case) (going : OpenTurn) (pending : List Case) : Type 0 where
   pub on : All IsOn children
   pub same : length children ≡ length cases
   pub within : going.from + going.unpolled ≤ length children
@@ -59,8 +59,8 @@ pub record IsBoard (children : List Watched) (cases : List Case) (going : OpenTu
 abbrev pub pending_with : Case → List Case → List Case
 pending_with c pending = if is_over c then pending else pending ++ c ∷ []
 
--- a wait that asks this and ends so leads from one board to another
-abbrev pub Waited : Board → List Call → Ended → Board → Type 0
+-- a wait that asks this and ends so leads from one state to another
+abbrev pub Waited : ChildrenState → List Call → Ended → ChildrenState → Type 0
 Waited old calls e new =
     (polls : List Call) × (rest : List Call) × (place : ℕ) × (outcome : Outcome) × (after : List Watched) × (c : Case)
     × (calls ≡ polls ++ rest) × WaitedOn old.going old.children polls place outcome after new.going

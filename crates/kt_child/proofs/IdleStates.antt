@@ -1,11 +1,11 @@
--- A row in which nothing runs and nothing is owed.
+-- A state in which nothing runs and nothing is owed.
 use Rattle.std.proofs.Common.{◌≡◌, ℕ, zero, List, [], ◌∷◌, length, None, false, refl, ◌∙◌, ap, arith}
 use Rattle.kt_base.specs.declared.role.Role.{Role}
 use Rattle.kt_base.specs.declared.role.Role.TheVariants.{Body, Cleanup}
 use Rattle.kt_sched.specs.Children.{IsIdle}
 use Rattle.kt_child.specs.declared.watched.Watched.{Watched}
 use Rattle.kt_child.specs.declared.case.Case.{Case}
-use Rattle.kt_child.specs.Board.{Board, is_among, shown_at}
+use Rattle.kt_child.specs.ChildrenState.{ChildrenState, is_among, shown_at}
 use Rattle.kt_child.specs.Numbers.{IsBare}
 use Rattle.kt_child.proofs.CaseCounts.{count_there, none_among, none_shown}
 
@@ -30,8 +30,8 @@ no_children : (children : List Watched) → length children ≡ 0 → children �
 no_children [] h = refl
 no_children (k ∷ children) h = absurd (omega arith)
 
--- so where nothing runs and nothing is owed the row is bare
-pub bare_idle : (b : Board) → length b.children ≡ length b.cases → IsIdle (shown_at b.cases) (is_among b.pending) → IsBare b
+-- so where nothing runs and nothing is owed the state is bare
+pub bare_idle : (b : ChildrenState) → length b.children ≡ length b.cases → IsIdle (shown_at b.cases) (is_among b.pending) → IsBare b
 bare_idle b same idle =
     let cases = no_cases b.cases idle.runs in
     (no_children b.children (same ∙ ap length cases), cases, no_pending b.pending idle.pends)

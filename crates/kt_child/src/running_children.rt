@@ -1,7 +1,7 @@
 ghost use Rattle.std.specs.Prelude.{◌≡◌, ◌+◌, ◌<◌, ◌≤◌, length, slice_get, Some, remove, OnOk, true};
 ghost use Rattle.std.specs.Vec.{vec_len, vec_capacity};
 ghost use Rattle.kt_child.specs.declared.case.Case.{Case};
-ghost use Rattle.kt_child.specs.Board.{is_among, pending_with};
+ghost use Rattle.kt_child.specs.ChildrenState.{is_among, pending_with};
 
 use crate::case::Case;
 use crate::ends::{leave, over};
@@ -20,19 +20,19 @@ use std::marker::Model;
 /// The running children in the order of their start, each with its case; the turn that goes on; and the cases whose
 /// cleanup is owed. Room for a case's cleanup is taken with its body's start.
 #[derive(Drop)]
-pub struct Row {
+pub struct RunningChildren {
     children: Vec<Watched>,
     cases: Vec<Case>,
     going: OpenTurn,
     pending: Vec<Case>,
 }
 
-impl Model for Row {
+impl Model for RunningChildren {
     ghost use Rattle.std.specs.Prelude.{◌+◌, ◌≤◌};
     ghost use Rattle.std.specs.Vec.{vec_len, vec_capacity};
-    ghost use Rattle.kt_child.specs.Board.{Board, IsBoard};
+    ghost use Rattle.kt_child.specs.ChildrenState.{ChildrenState, IsChildrenState};
 
-    ghost Value = { Board };
+    ghost Value = { ChildrenState };
 
     ghost view = { λ r. record {
       children = r.children.items;
@@ -42,7 +42,7 @@ impl Model for Row {
       pending = r.pending.items;
     } };
 
-    ghost invariant = { λ r. IsBoard r.children.items r.cases.items r.going r.pending.items
+    ghost invariant = { λ r. IsChildrenState r.children.items r.cases.items r.going r.pending.items
         × (vec_len r.cases + vec_len r.pending ≤ vec_capacity r.pending) };
 }
 
@@ -82,7 +82,7 @@ fn place_of(cases: &[Case], position: u32) -> usize
     unreachable!()
 }
 
-/// Takes the child at this place out of the row. Its case is kept where its cleanup is still to come.
+/// Removes the child at this place. Its case is kept if its cleanup is still to come.
 fn forget(children: &mut Vec<Watched>, cases: &mut Vec<Case>, pending: &mut Vec<Case>, place: usize)
     requires child { place < vec_len children.old }
     requires case { place < vec_len cases.old }
@@ -101,21 +101,21 @@ fn forget(children: &mut Vec<Watched>, cases: &mut Vec<Case>, pending: &mut Vec<
     pending.push_reserved(case);
 }
 
-impl Row {
+impl RunningChildren {
     ghost use Rattle.std.specs.Prelude.{◌≡◌, ◌==◌, ℕ, ◌+◌, ◌<◌, List, [], length, slice_get, remove, Some, true, false, if◌then◌else◌};
     ghost use Rattle.kt_base.specs.declared.role.Role.{Role};
     ghost use Rattle.kt_sched.specs.Children.{Child as Shown, IsEvidence, running_after_end, pending_after_end};
     ghost use Rattle.kt_sched.specs.Moments.{HasMoment, IsMoment};
     ghost use Rattle.kt_child.specs.Calls.{Call, Chain};
     ghost use Rattle.kt_child.specs.Turns.{IsOn};
-    ghost use Rattle.kt_child.specs.Board.{Waited, count_at, empty_board, is_among, shown_at};
-    ghost use Rattle.kt_child.specs.Begins.{BegunBody, BegunCleanup, board_after_start, shown_after};
+    ghost use Rattle.kt_child.specs.ChildrenState.{Waited, count_at, idle_state, is_among, shown_at};
+    ghost use Rattle.kt_child.specs.Begins.{BegunBody, BegunCleanup, state_after_start, shown_after};
 
-    /// A row of no children, which takes no memory.
-    pub fn new(alloc: Global) -> Row
-        ensures { result ≡ empty_board }
+    /// No running children, which takes no memory.
+    pub fn new(alloc: Global) -> RunningChildren
+        ensures { result ≡ idle_state }
     {
-        Row {
+        RunningChildren {
             children: Vec::new(alloc),
             cases: Vec::new(alloc),
             going: OpenTurn {
@@ -163,7 +163,7 @@ impl Row {
         ensures begun { (calls : List Call) × Chain O.leads os.old calls os.new
             × BegunBody plan.now case.paths.dir calls result }
         ensures moment { HasMoment result }
-        ensures board { self.new ≡ board_after_start self.old child case result }
+        ensures state { self.new ≡ state_after_start self.old child case result }
         ensures running { (k : ℕ) (r : Role) → shown_at self.new.cases k r
             ≡ shown_after (shown_at self.old.cases) case result k r }
     {
@@ -194,7 +194,7 @@ impl Row {
         ensures begun { (calls : List Call) × Chain O.leads os.old calls os.new
             × BegunCleanup plan.now case.paths.dir calls result }
         ensures moment { HasMoment result }
-        ensures board { self.new ≡ board_after_start self.old child case result }
+        ensures state { self.new ≡ state_after_start self.old child case result }
         ensures running { (k : ℕ) (r : Role) → shown_at self.new.cases k r
             ≡ shown_after (shown_at self.old.cases) case result k r }
     {

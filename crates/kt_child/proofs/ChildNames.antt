@@ -1,4 +1,4 @@
--- The names of a row, which polls keep.
+-- The names of a list of children, which polls keep.
 use Rattle.std.proofs.Common.{◌≡◌, ℕ, zero, suc, ◌+◌, List, [], ◌∷◌, ◌++◌, Bool, true, false, Some, map, take, drop, slice_get, refl, sym, ◌∙◌, ap, arith}
 use Rattle.std.specs.Prelude.{remove}
 use Rattle.kt_base.specs.declared.outcome.Outcome.{Outcome}
@@ -32,7 +32,7 @@ pub names_append : (xs ys : List Watched) → map name_of (xs ++ ys) ≡ map nam
 names_append [] ys = refl
 names_append (x ∷ xs) ys = ap (λ t. x.child ∷ t) (names_append xs ys)
 
--- a row with another part of the same names
+-- a list of children with another part of the same names
 pub names_part : (hs us vs ls : List Watched) → map name_of us ≡ map name_of vs → map name_of (hs ++ (us ++ ls)) ≡ map name_of (hs ++ (vs ++ ls))
 names_part hs us vs ls e =
     names_append hs (us ++ ls)
@@ -50,11 +50,11 @@ dropped_at zero ks i o e = let s : zero + i ≡ i = omega arith in ap (slice_get
 dropped_at (suc f) [] i o e = let no : ⊥ = cc in absurd no
 dropped_at (suc f) (k ∷ ks) i o e = let s : suc f + i ≡ suc (f + i) = omega arith in ap (slice_get (k ∷ ks)) s ∙ dropped_at f ks i o e
 
--- where a child of a part stands in the row
+-- where a child of a part stands in the children
 pub part_at : (f u : ℕ) (ks : List Watched) (i : ℕ) (o : Watched) → slice_get (take u (drop f ks)) i ≡ Some o → slice_get ks (f + i) ≡ Some o
 part_at f u ks i o e = dropped_at f ks i o (taken_at u (drop f ks) i o e)
 
--- a row without a child of another name
+-- a list of children without a child of another name
 removed : (c over : Child) (row : List Watched) (place : ℕ) → slice_get (map name_of row) place ≡ Some over → same_child over c ≡ false
     → named c (remove row place) ≡ named c row
 removed c over [] place at other = let no : ⊥ = cc in absurd no

@@ -1,4 +1,4 @@
--- A board after a start, and after a case was taken from those that are owed.
+-- A state after a start, and after a case was taken from those that are owed.
 use Rattle.std.proofs.Common.{◌≡◌, ℕ, ◌+◌, ◌≤◌, ◌==◌, List, [], ◌∷◌, ◌++◌, length, length-append, slice_get, Bool, true, false, Some, refl, sym, ◌∙◌, ap, subst, arith}
 use Rattle.std.specs.Prelude.{remove, All}
 use Rattle.std.proofs.lemmas.List.Elements.{All-push}
@@ -6,7 +6,7 @@ use Rattle.kt_child.specs.declared.watched.Watched.{Watched}
 use Rattle.kt_child.specs.declared.open_turn.OpenTurn.{OpenTurn}
 use Rattle.kt_child.specs.Turns.{IsOn}
 use Rattle.kt_child.specs.declared.case.Case.{Case}
-use Rattle.kt_child.specs.Board.{IsBoard, count_at, one_if}
+use Rattle.kt_child.specs.ChildrenState.{IsChildrenState, count_at, one_if}
 use Rattle.kt_child.proofs.CaseCounts.{count_append, count_remove, same_number, same_position}
 
 -- a position that is free may be taken once
@@ -15,10 +15,10 @@ once_more true n m h p = let z : n + m ≡ 0 = h refl in omega arith
 once_more false n m h p = omega arith
 
 -- after a start
-pub board_started : (children children' : List Watched) (cases cases' pending pending' : List Case) (going : OpenTurn) (watched : Watched) (c : Case)
-    → IsBoard children cases going pending → IsOn watched → count_at c.position cases + count_at c.position pending ≡ 0
-    → children' ≡ children ++ watched ∷ [] → cases' ≡ cases ++ c ∷ [] → pending' ≡ pending → IsBoard children' cases' going pending'
-board_started children children' cases cases' pending pending' going watched c b on free e f g =
+pub state_started : (children children' : List Watched) (cases cases' pending pending' : List Case) (going : OpenTurn) (watched : Watched) (c : Case)
+    → IsChildrenState children cases going pending → IsOn watched → count_at c.position cases + count_at c.position pending ≡ 0
+    → children' ≡ children ++ watched ∷ [] → cases' ≡ cases ++ c ∷ [] → pending' ≡ pending → IsChildrenState children' cases' going pending'
+state_started children children' cases cases' pending pending' going watched c b on free e f g =
     let lk : length children' ≡ length children + 1 = ap length e ∙ length-append children (watched ∷ []) in
     let lc : length cases' ≡ length cases + 1 = ap length f ∙ length-append cases (c ∷ []) in
     let s = b.same in
@@ -38,9 +38,9 @@ board_started children children' cases cases' pending pending' going watched c b
     }
 
 -- after a case was taken
-pub board_taken : (children : List Watched) (cases pending pending' : List Case) (going : OpenTurn) (p : ℕ) (c : Case)
-    → IsBoard children cases going pending → slice_get pending p ≡ Some c → pending' ≡ remove pending p → IsBoard children cases going pending'
-board_taken children cases pending pending' going p c b at e =
+pub state_taken : (children : List Watched) (cases pending pending' : List Case) (going : OpenTurn) (p : ℕ) (c : Case)
+    → IsChildrenState children cases going pending → slice_get pending p ≡ Some c → pending' ≡ remove pending p → IsChildrenState children cases going pending'
+state_taken children cases pending pending' going p c b at e =
     record {
       on = b.on;
       same = b.same;

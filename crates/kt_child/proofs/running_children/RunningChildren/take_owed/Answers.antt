@@ -2,11 +2,11 @@ use Rattle.std.proofs.Common.{◌≡◌, ◌∙◌, ◌+◌, ◌<◌, ◌==◌, 
 use Rattle.std.specs.Prelude.{remove}
 use Rattle.std.proofs.lemmas.Option.{slice_get-get_or}
 use Rattle.kt_child.specs.declared.case.Case.{Case}
-use Rattle.kt_child.specs.Board.{Board, count_at, is_among}
-use Rattle.kt_child.proofs.BoardSteps.{board_taken, free_taken}
+use Rattle.kt_child.specs.ChildrenState.{ChildrenState, count_at, is_among}
+use Rattle.kt_child.proofs.StateSteps.{state_taken, free_taken}
 use Rattle.kt_child.proofs.OwedCases.{among_remove}
-use Rattle.kt_child.proofs.RowWaits.{once_owed}
-use Rattle.kt_child.proofs.row.Row.take_owed.Goals as goal
+use Rattle.kt_child.proofs.StateWaits.{once_owed}
+use Rattle.kt_child.proofs.running_children.RunningChildren.take_owed.Goals as goal
 
 at : (c : goal.After-remove) → slice_get c.self.inside.pending.items c.place_of-place.result ≡ Some c.remove.result
 at c =
@@ -22,7 +22,7 @@ there c =
 
 pub invariant_of-self : goal.invariant_of-self
 invariant_of-self c = (
-  board_taken c.self.inside.children.items c.self.inside.cases.items c.self.inside.pending.items c.remove.new.self.items c.self.inside.going
+  state_taken c.self.inside.children.items c.self.inside.cases.items c.self.inside.pending.items c.remove.new.self.items c.self.inside.going
       c.place_of-place.result c.remove.result c.self.invariant.0 (at c) c.remove.ensures.items,
   let a = c.remove.ensures.len in
       let b = c.remove.ensures.capacity in
@@ -33,10 +33,10 @@ invariant_of-self c = (
 pub returns-clause-taken : goal.returns-clause-taken
 returns-clause-taken c =
     let new : List Case = c.remove.new.self.items in
-    let P : Board → Type 0 = λ b. (place : ℕ) × (slice_get b.pending place ≡ Some c.remove.result)
-    × (◌≡◌ {A = Board} (record { children = c.self.inside.children.items; cases = c.self.inside.cases.items; going = c.self.inside.going; pending = new })
+    let P : ChildrenState → Type 0 = λ b. (place : ℕ) × (slice_get b.pending place ≡ Some c.remove.result)
+    × (◌≡◌ {A = ChildrenState} (record { children = c.self.inside.children.items; cases = c.self.inside.cases.items; going = c.self.inside.going; pending = new })
     (record { children = b.children; cases = b.cases; going = b.going; pending = remove b.pending place })) in
-    let F : List Case → Board = λ t. record { children = c.self.inside.children.items; cases = c.self.inside.cases.items; going = c.self.inside.going; pending = t } in
+    let F : List Case → ChildrenState = λ t. record { children = c.self.inside.children.items; cases = c.self.inside.cases.items; going = c.self.inside.going; pending = t } in
     subst P c.self.view_is (c.place_of-place.result, at c, ap F c.remove.ensures.items)
 
 pub returns-clause-position : goal.returns-clause-position
@@ -52,7 +52,7 @@ returns-clause-free c =
 
 pub returns-clause-pending : goal.returns-clause-pending
 returns-clause-pending c k =
-    let P : Board → Type 0 = λ b. is_among c.remove.new.self.items k ≡ (if k == c.args.position then false else is_among b.pending k) in
+    let P : ChildrenState → Type 0 = λ b. is_among c.remove.new.self.items k ≡ (if k == c.args.position then false else is_among b.pending k) in
     let Q : ℕ → Bool = λ n. if k == n then false else is_among c.self.inside.pending.items k in
     subst P c.self.view_is
     (ap (λ t. is_among t k) c.remove.ensures.items

@@ -1,4 +1,4 @@
--- What a wait makes of a board.
+-- What a wait makes of a state.
 use Rattle.std.proofs.Common.{◌≡◌, ℕ, suc, ◌+◌, ◌<◌, ◌≤◌, List, ◌++◌, length, slice_get, take, drop, Bool, true, Option, Some, None, refl, sym, ◌∙◌, ap, subst, arith, ◌==◌, ◌&&◌, if◌then◌else◌}
 use Rattle.std.specs.Prelude.{remove, All}
 use Rattle.std.proofs.lemmas.List.{take_at}
@@ -16,7 +16,7 @@ use Rattle.kt_child.specs.Calls.{Call, Chain}
 use Rattle.kt_child.specs.Turns.{IsOn}
 use Rattle.kt_child.specs.Waits.{WaitedOn}
 use Rattle.kt_sched.specs.Children.{Child as Shown, IsEvidence, same_role, running_after_end, pending_after_end, with_cleanup_declared}
-use Rattle.kt_child.specs.Board.{Board, IsBoard, Waited, count_at, is_among, one_if, pending_with, shown, shown_at}
+use Rattle.kt_child.specs.ChildrenState.{ChildrenState, IsChildrenState, Waited, count_at, is_among, one_if, pending_with, shown, shown_at}
 use Rattle.kt_child.specs.Ends.{Leaves}
 use Rattle.kt_child.proofs.Chains.{chain_append}
 use Rattle.kt_child.proofs.CaseCounts.{count_owed, count_remove}
@@ -29,12 +29,12 @@ same_children n children rest h = take_at children rest n h
 once_there : (cases pending : List Case) (c : Case) → ((i : ℕ) → count_at i cases + count_at i pending ≤ 1) → count_at c.position cases ≤ 1
 once_there cases pending c h = let m : count_at c.position cases + count_at c.position pending ≤ 1 = h c.position in omega arith
 
-pub board_after : (children after children' : List Watched) (cases cases' pending pending' : List Case) (going going' : OpenTurn) (p : ℕ) (c : Case)
-    → IsBoard children cases going pending → slice_get cases p ≡ Some c → p < length children
+pub state_after : (children after children' : List Watched) (cases cases' pending pending' : List Case) (going going' : OpenTurn) (p : ℕ) (c : Case)
+    → IsChildrenState children cases going pending → slice_get cases p ≡ Some c → p < length children
     → All IsOn after → length after ≡ length children → going'.from + going'.unpolled < length children → going'.over < 8
     → children' ≡ remove after p → cases' ≡ remove cases p → pending' ≡ pending_with c pending
-    → IsBoard children' cases' going' pending'
-board_after children after children' cases cases' pending pending' going going' p c b at lt on same within few e f q =
+    → IsChildrenState children' cases' going' pending'
+state_after children after children' cases cases' pending pending' going going' p c b at lt on same within few e f q =
     let la : length (remove after p) + 1 ≡ length after = length-remove after p (omega arith) in
     let ltc : p < length cases = let s = b.same in omega arith in
     let lc : length (remove cases p) + 1 ≡ length cases = length-remove cases p ltc in
@@ -82,7 +82,7 @@ waited_pending cases pending pending' p c e once at x y f k =
     let B : Role → Bool = λ q. if k == e.position && (same_role q Body && with_cleanup_declared (shown_at cases e.position Body)) then true else is_among pending k in
     ap (λ t. is_among t k) f ∙ among_owed cases pending c k (shown_there cases p c at (once_there cases pending c once)) ∙ ap A (sym x) ∙ ap B (sym y)
 
-pub waited_all : {O : Type 0} (leads : O → Call → O → Type 0) (a b d : O) (old new : Board) (children after : List Watched) (place : ℕ) (outcome : Outcome) (c : Case) (e : Ended)
+pub waited_all : {O : Type 0} (leads : O → Call → O → Type 0) (a b d : O) (old new : ChildrenState) (children after : List Watched) (place : ℕ) (outcome : Outcome) (c : Case) (e : Ended)
     → (calls : List Call) × Chain leads a calls b × WaitedOn old.going children calls place outcome after new.going
     → (calls : List Call) × Chain leads b calls d × Leaves c calls outcome e
     → children ≡ old.children → slice_get old.cases place ≡ Some c
