@@ -5,11 +5,11 @@ use Rattle.kt_base.specs.declared.role.Role.{Role}
 use Rattle.kt_base.specs.declared.role.Role.TheVariants.{Body, Cleanup}
 use Rattle.kt_base.specs.declared.outcome.Outcome.{Outcome}
 use Rattle.kt_sched.specs.Children.{same_role}
-use Rattle.kt_child.specs.declared.child.Child.{Child}
-use Rattle.kt_child.specs.declared.polled.Polled.{Polled}
-use Rattle.kt_child.specs.declared.os_fault.OsFault.{OsFault}
-use Rattle.kt_child.specs.declared.watch.Watch.{Watch}
-use Rattle.kt_child.specs.declared.watched.Watched.{Watched}
+use Rattle.kt_child.specs.declared.system.child.Child.{Child}
+use Rattle.kt_child.specs.declared.system.polled.Polled.{Polled}
+use Rattle.kt_child.specs.declared.system.os_fault.OsFault.{OsFault}
+use Rattle.kt_child.specs.declared.polling.watch.Watch.{Watch}
+use Rattle.kt_child.specs.declared.polling.watched.Watched.{Watched}
 use Rattle.kt_child.specs.Calls.{Call, MakeDir, RemoveTree, OpenOutput, Spawn, Poll, Kill, Pause, ReadFile, ReadPart, Now}
 use Rattle.kt_child.specs.Polls.{asked_by_poll, is_killed}
 use Rattle.kt_child.specs.ChildOutcome.{Heard, HeardPoll, HeardKill, Lived, fresh, heard_of}

@@ -1,7 +1,7 @@
 -- The children of one name, in lists that are cut, joined and polled.
 use Rattle.std.proofs.Common.{◌≡◌, ℕ, zero, suc, List, [], ◌∷◌, ◌++◌, Bool, true, false, Some, ◌⊎◌, map, take, drop, slice_get, refl, sym, ◌∙◌, ap, inl, inr}
-use Rattle.kt_child.specs.declared.child.Child.{Child}
-use Rattle.kt_child.specs.declared.watched.Watched.{Watched}
+use Rattle.kt_child.specs.declared.system.child.Child.{Child}
+use Rattle.kt_child.specs.declared.polling.watched.Watched.{Watched}
 use Rattle.kt_child.specs.Lives.{same_child}
 use Rattle.kt_child.specs.Turns.{advanced, advanced_below}
 use Rattle.kt_child.specs.SeveralLives.{kept, named}

@@ -1,7 +1,7 @@
 -- The start of a body in a new directory, from the start that asks for no moment.
 use Rattle.std.proofs.Common.{◌≡◌, ℕ, List, [], ◌∷◌, ◌++◌, Result, Ok, Err, refl, ap, inl, inr}
 use Rattle.kt_base.specs.declared.refused.Refused.{Refused}
-use Rattle.kt_child.specs.declared.os_fault.OsFault.{OsFault}
+use Rattle.kt_child.specs.declared.system.os_fault.OsFault.{OsFault}
 use Rattle.kt_child.specs.Calls.{Call, Now, RemoveTree}
 use Rattle.kt_child.specs.Moments.{moment_of}
 use Rattle.kt_child.specs.Starts.{Ask, SetUp, StartedAfresh}

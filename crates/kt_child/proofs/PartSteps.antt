@@ -1,11 +1,11 @@
 -- A file that is read in parts: what is known after some of them.
 use Rattle.std.proofs.Common.{◌≡◌, ℕ, suc, ◌+◌, List, [], ◌∷◌, ◌++◌, length, Result, refl, sym, ◌∙◌, ap, subst, arith, append_assoc, length-append, zero-add}
-use Rattle.kt_child.specs.declared.os_fault.OsFault.{OsFault}
-use Rattle.kt_child.specs.declared.file_read.FileRead.{FileRead}
-use Rattle.kt_child.specs.declared.next_part.NextPart.{NextPart}
-use Rattle.kt_child.specs.declared.next_part.NextPart.TheVariants.{More}
+use Rattle.kt_child.specs.declared.system.os_fault.OsFault.{OsFault}
+use Rattle.kt_child.specs.declared.system.file_read.FileRead.{FileRead}
+use Rattle.kt_child.specs.declared.ending.next_part.NextPart.{NextPart}
+use Rattle.kt_child.specs.declared.ending.next_part.NextPart.TheVariants.{More}
 use Rattle.kt_child.specs.Calls.{Call, Chain}
-use Rattle.kt_child.specs.declared.read_end.ReadEnd.{ReadEnd}
+use Rattle.kt_child.specs.declared.ending.read_end.ReadEnd.{ReadEnd}
 use Rattle.kt_child.specs.Parts.{After, IsNext, Reads, Takes, Tells, Whole, next_part}
 use Rattle.kt_child.specs.Reads.{bytes_of}
 use Rattle.kt_child.proofs.Chains.{chain_append}

@@ -2,9 +2,9 @@
 use Rattle.std.proofs.Common.{◌≡◌, ℕ, zero, suc, List, [], ◌∷◌, ◌++◌, Bool, true, false, Option, Some, None, ◌⊎◌, map, take, drop, slice_get, refl, sym, ◌∙◌, ap, subst, inl, inr, append_assoc}
 use Rattle.std.specs.Prelude.{remove}
 use Rattle.kt_base.specs.declared.outcome.Outcome.{Outcome}
-use Rattle.kt_child.specs.declared.child.Child.{Child}
-use Rattle.kt_child.specs.declared.watched.Watched.{Watched}
-use Rattle.kt_child.specs.declared.open_turn.OpenTurn.{OpenTurn}
+use Rattle.kt_child.specs.declared.system.child.Child.{Child}
+use Rattle.kt_child.specs.declared.polling.watched.Watched.{Watched}
+use Rattle.kt_child.specs.declared.polling.open_turn.OpenTurn.{OpenTurn}
 use Rattle.kt_child.specs.Calls.{Call}
 use Rattle.kt_child.specs.ChildOutcome.{Heard, fresh, heard_of}
 use Rattle.kt_child.specs.Lives.{heard_by, same_child}

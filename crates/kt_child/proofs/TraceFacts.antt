@@ -5,9 +5,9 @@ use Rattle.kt_base.specs.declared.role.Role.{Role}
 use Rattle.kt_base.specs.declared.role.Role.TheVariants.{Body, Cleanup}
 use Rattle.kt_sched.specs.declared.job.Job.{Job}
 use Rattle.kt_sched.specs.Trace.{Trace, NoEvent, Then, Event, Start, End}
-use Rattle.kt_child.specs.declared.child.Child.{Child}
-use Rattle.kt_child.specs.declared.watched.Watched.{Watched}
-use Rattle.kt_child.specs.declared.case.Case.{Case}
+use Rattle.kt_child.specs.declared.system.child.Child.{Child}
+use Rattle.kt_child.specs.declared.polling.watched.Watched.{Watched}
+use Rattle.kt_child.specs.declared.planning.case.Case.{Case}
 use Rattle.kt_child.specs.ChildrenState.{ChildrenState}
 use Rattle.kt_child.specs.ChildOutcome.{Heard, Told}
 use Rattle.kt_child.specs.Calls.{Call}

@@ -8,10 +8,10 @@ use Rattle.kt_sched.specs.declared.start_answer.StartAnswer.TheVariants.{Started
 use Rattle.kt_sched.specs.Children.{same_role}
 use Rattle.kt_sched.specs.Plan.{IsPlan}
 use Rattle.kt_sched.specs.Trace.{Trace, Then, Start}
-use Rattle.kt_child.specs.declared.child.Child.{Child}
-use Rattle.kt_child.specs.declared.paths.Paths.{Paths}
-use Rattle.kt_child.specs.declared.watched.Watched.{Watched}
-use Rattle.kt_child.specs.declared.case.Case.{Case}
+use Rattle.kt_child.specs.declared.system.child.Child.{Child}
+use Rattle.kt_child.specs.declared.planning.paths.Paths.{Paths}
+use Rattle.kt_child.specs.declared.polling.watched.Watched.{Watched}
+use Rattle.kt_child.specs.declared.planning.case.Case.{Case}
 use Rattle.kt_child.specs.Begins.{BegunCleanup, state_after_start}
 use Rattle.kt_child.specs.ChildrenState.{ChildrenState}
 use Rattle.kt_child.specs.Calls.{Call}

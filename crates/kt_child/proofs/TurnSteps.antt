@@ -6,12 +6,12 @@ use Rattle.std.specs.List.{All}
 use Rattle.std.proofs.lemmas.List.Elements.{All-get_or}
 use Rattle.std.proofs.lemmas.Option.{slice_get-get_or}
 use Rattle.kt_base.specs.declared.outcome.Outcome.{Outcome}
-use Rattle.kt_child.specs.declared.polled.Polled.{Polled}
-use Rattle.kt_child.specs.declared.os_fault.OsFault.{OsFault}
-use Rattle.kt_child.specs.declared.watch.Watch.{Watch}
-use Rattle.kt_child.specs.declared.turn.Turn.{Turn}
-use Rattle.kt_child.specs.declared.turn.Turn.TheVariants.{More, Ended}
-use Rattle.kt_child.specs.declared.watched.Watched.{Watched}
+use Rattle.kt_child.specs.declared.system.polled.Polled.{Polled}
+use Rattle.kt_child.specs.declared.system.os_fault.OsFault.{OsFault}
+use Rattle.kt_child.specs.declared.polling.watch.Watch.{Watch}
+use Rattle.kt_child.specs.declared.polling.turn.Turn.{Turn}
+use Rattle.kt_child.specs.declared.polling.turn.Turn.TheVariants.{More, Ended}
+use Rattle.kt_child.specs.declared.polling.watched.Watched.{Watched}
 use Rattle.kt_child.specs.Calls.{Call, Chain}
 use Rattle.kt_child.specs.Polls.{asked_by_poll, turn_of, watch_after}
 use Rattle.kt_child.specs.Turns.{IsOn, PolledAll, PolledLast, PolledUntil, advanced, advanced_below}

@@ -3,9 +3,9 @@ use Rattle.std.proofs.Common.{◌≡◌, ℕ, zero, suc, List, [], ◌∷◌, �
 use Rattle.std.specs.Prelude.{remove}
 use Rattle.kt_base.specs.declared.outcome.Outcome.{Outcome}
 use Rattle.kt_sched.specs.declared.ended.Ended.{Ended}
-use Rattle.kt_child.specs.declared.child.Child.{Child}
-use Rattle.kt_child.specs.declared.open_turn.OpenTurn.{OpenTurn}
-use Rattle.kt_child.specs.declared.watched.Watched.{Watched}
+use Rattle.kt_child.specs.declared.system.child.Child.{Child}
+use Rattle.kt_child.specs.declared.polling.open_turn.OpenTurn.{OpenTurn}
+use Rattle.kt_child.specs.declared.polling.watched.Watched.{Watched}
 use Rattle.kt_child.specs.ChildrenState.{ChildrenState, Waited}
 use Rattle.kt_child.specs.Calls.{Call, Pause}
 use Rattle.kt_child.specs.Lives.{heard_by, same_child}

@@ -5,8 +5,8 @@ use Rattle.std.specs.List.{All}
 use Rattle.std.proofs.lemmas.List.Elements.{All-get_or}
 use Rattle.kt_base.specs.declared.outcome.Outcome.{Outcome}
 use Rattle.kt_base.specs.declared.role.Role.TheVariants.{Body}
-use Rattle.kt_child.specs.declared.child.Child.{Child}
-use Rattle.kt_child.specs.declared.watched.Watched.{Watched}
+use Rattle.kt_child.specs.declared.system.child.Child.{Child}
+use Rattle.kt_child.specs.declared.polling.watched.Watched.{Watched}
 use Rattle.kt_child.specs.Calls.{Call, Chain, Pause}
 use Rattle.kt_child.specs.Polls.{IsShort}
 use Rattle.kt_child.specs.Turns.{IsOn, PolledAll, PolledUntil, Rounds, WaitedUntil, advanced, advanced_below, after_turns, polls_left}

@@ -6,9 +6,9 @@ use Rattle.kt_base.specs.declared.refused.Refused.TheVariants.{Memory}
 use Rattle.kt_sched.specs.declared.start_answer.StartAnswer.{StartAnswer}
 use Rattle.kt_sched.specs.declared.start_answer.StartAnswer.TheVariants.{Started as StartedAt, Refused as RefusedFor}
 use Rattle.kt_sched.specs.Children.{Child as Shown, same_role}
-use Rattle.kt_child.specs.declared.spawning.Spawning.{Spawning}
-use Rattle.kt_child.specs.declared.watched.Watched.{Watched}
-use Rattle.kt_child.specs.declared.case.Case.{Case}
+use Rattle.kt_child.specs.declared.planning.spawning.Spawning.{Spawning}
+use Rattle.kt_child.specs.declared.polling.watched.Watched.{Watched}
+use Rattle.kt_child.specs.declared.planning.case.Case.{Case}
 use Rattle.kt_child.specs.Calls.{Call, RemoveTree}
 use Rattle.kt_child.specs.Starts.{Started, StartedAfresh, child_asks, furnish_asks}
 use Rattle.kt_child.specs.ChildrenState.{ChildrenState, shown}

@@ -1,10 +1,10 @@
 -- What is asked of the system, and what it answers.
 use Rattle.std.specs.Prelude.{◌≡◌, ℕ, List, [], ◌∷◌, Bool, Result}
-use Rattle.kt_child.specs.declared.child.Child.{Child}
-use Rattle.kt_child.specs.declared.polled.Polled.{Polled}
-use Rattle.kt_child.specs.declared.os_fault.OsFault.{OsFault}
-use Rattle.kt_child.specs.declared.file_read.FileRead.{FileRead}
-use Rattle.kt_child.specs.declared.env.EnvPlan.{EnvPlan}
+use Rattle.kt_child.specs.declared.system.child.Child.{Child}
+use Rattle.kt_child.specs.declared.system.polled.Polled.{Polled}
+use Rattle.kt_child.specs.declared.system.os_fault.OsFault.{OsFault}
+use Rattle.kt_child.specs.declared.system.file_read.FileRead.{FileRead}
+use Rattle.kt_child.specs.declared.system.env.EnvPlan.{EnvPlan}
 
 -- one question with its answer; where the answer is a truth value, it tells whether the call succeeded
 pub data Call : Type 0 where

@@ -2,11 +2,11 @@
 use Rattle.std.specs.Prelude.{◌≡◌, ℕ, zero, suc, ◌*◌, ◌<◌, List, [], ◌∷◌, ◌++◌, Bool, true, false, Option, Some, None, Result, Ok, Err, replicate, ◌⊎◌, if◌then◌else◌}
 use Rattle.kt_base.specs.declared.outcome.Outcome.{Outcome}
 use Rattle.kt_base.specs.declared.outcome.Outcome.TheVariants.{Exited, Signaled, TimedOut, WaitFailed}
-use Rattle.kt_child.specs.declared.polled.Polled.{Polled}
-use Rattle.kt_child.specs.declared.polled.Polled.TheVariants.{Running, Exited as PolledExit, Signaled as PolledSignal}
-use Rattle.kt_child.specs.declared.os_fault.OsFault.{OsFault}
-use Rattle.kt_child.specs.declared.watch.Watch.{Watch}
-use Rattle.kt_child.specs.declared.turn.Turn.TheVariants.{More, Ended}
+use Rattle.kt_child.specs.declared.system.polled.Polled.{Polled}
+use Rattle.kt_child.specs.declared.system.polled.Polled.TheVariants.{Running, Exited as PolledExit, Signaled as PolledSignal}
+use Rattle.kt_child.specs.declared.system.os_fault.OsFault.{OsFault}
+use Rattle.kt_child.specs.declared.polling.watch.Watch.{Watch}
+use Rattle.kt_child.specs.declared.polling.turn.Turn.TheVariants.{More, Ended}
 use Rattle.kt_child.specs.Polls.{is_killed, turn_of, watch_after}
 
 -- what one child answered: a poll or a kill

@@ -1,9 +1,9 @@
 -- What the wait of a driver is for each child that runs.
 use Rattle.std.specs.Prelude.{◌≡◌, ℕ, List, [], ◌∷◌, Some, map, slice_get}
 use Rattle.kt_sched.specs.declared.ended.Ended.{Ended}
-use Rattle.kt_child.specs.declared.child.Child.{Child}
-use Rattle.kt_child.specs.declared.watched.Watched.{Watched}
-use Rattle.kt_child.specs.declared.case.Case.{Case}
+use Rattle.kt_child.specs.declared.system.child.Child.{Child}
+use Rattle.kt_child.specs.declared.polling.watched.Watched.{Watched}
+use Rattle.kt_child.specs.declared.planning.case.Case.{Case}
 use Rattle.kt_child.specs.Calls.{Call}
 use Rattle.kt_child.specs.ChildrenState.{ChildrenState, Waited}
 use Rattle.kt_child.specs.Lives.{heard_by, same_child}

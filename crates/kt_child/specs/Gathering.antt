@@ -14,7 +14,7 @@ use Rattle.kt_claim.specs.declared.tap.Tap.TheVariants as tap
 use Rattle.kt_claim.specs.declared.tap_fault.TapFault.TheVariants as tap_fault
 use Rattle.kt_claim.specs.ResultFile.{IsClaimOf}
 use Rattle.kt_claim.specs.TapStream.{tap_of}
-use Rattle.kt_child.specs.declared.paths.Paths.{Paths}
+use Rattle.kt_child.specs.declared.planning.paths.Paths.{Paths}
 use Rattle.kt_child.specs.Calls.{Call}
 use Rattle.kt_child.specs.Parts.{Whole, Missing, Unreadable, TooLong, Bytes, Reads}
 

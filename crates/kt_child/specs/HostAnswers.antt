@@ -4,12 +4,12 @@ use Rattle.std.specs.Process.{status_bits}
 use Rattle.std.specs.declared.process.status.ExitStatus.{ExitStatus}
 use Rattle.std.specs.declared.io.ErrorKind.{ErrorKind}
 use Rattle.std.specs.declared.io.ErrorKind.TheVariants.{NotFound}
-use Rattle.kt_child.specs.declared.os_fault.OsFault.{OsFault}
-use Rattle.kt_child.specs.declared.file_read.FileRead.{FileRead}
-use Rattle.kt_child.specs.declared.file_read.FileRead.TheVariants.{Missing, Part}
-use Rattle.kt_child.specs.declared.polled.Polled.{Polled}
-use Rattle.kt_child.specs.declared.polled.Polled.TheVariants.{Running, Exited, Signaled}
-use Rattle.kt_child.specs.declared.child.Child.{Child}
+use Rattle.kt_child.specs.declared.system.os_fault.OsFault.{OsFault}
+use Rattle.kt_child.specs.declared.system.file_read.FileRead.{FileRead}
+use Rattle.kt_child.specs.declared.system.file_read.FileRead.TheVariants.{Missing, Part}
+use Rattle.kt_child.specs.declared.system.polled.Polled.{Polled}
+use Rattle.kt_child.specs.declared.system.polled.Polled.TheVariants.{Running, Exited, Signaled}
+use Rattle.kt_child.specs.declared.system.child.Child.{Child}
 use Rattle.kt_child.specs.HostStands.{Stand, Proceeds, AllProceed, AllStay, OthersStay}
 use Rattle.kt_child.specs.Reads.{IsReadWithin}
 use Rattle.kt_child.specs.Calls.{Call, MakeDir, RemoveTree, OpenOutput, Spawn, Poll, Kill, Pause, ReadFile, ReadPart, Now}

@@ -5,7 +5,7 @@ use Rattle.std.specs.Process.{clears_env, command_args, command_dir, command_pro
 use Rattle.std.specs.declared.process.command.Command.{Command}
 use Rattle.kt_base.specs.Utf8.{utf8}
 use Rattle.kt_base.specs.declared.variable.Variable.{Variable}
-use Rattle.kt_child.specs.declared.env.EnvPlan.{EnvPlan}
+use Rattle.kt_child.specs.declared.system.env.EnvPlan.{EnvPlan}
 
 -- what is said of a variable, after the variables of these names were removed
 abbrev pub after_removed : List (List ℕ) → List ℕ → Option (Option (List ℕ)) → Option (Option (List ℕ))

@@ -2,8 +2,8 @@
 use Rattle.std.specs.Prelude.{◌≡◌, ℕ, zero, suc, Bool, true, false, not, Option, Some, None, IsSome, IsSomeAnd, option_map, List, [], ◌∷◌, if◌then◌else◌}
 use Rattle.std.specs.Process.{child_status}
 use Rattle.std.specs.declared.process.status.ExitStatus.{ExitStatus}
-use Rattle.kt_child.specs.declared.child.Child.{Child}
-use Rattle.kt_child.specs.declared.host_child.HostChild.{HostChild}
+use Rattle.kt_child.specs.declared.system.child.Child.{Child}
+use Rattle.kt_child.specs.declared.host.host_child.HostChild.{HostChild}
 use Rattle.kt_child.specs.Lives.{same_child}
 
 -- How a child stands: no process was started for it; it has one of which no end was seen; or the status of the end that

@@ -5,12 +5,12 @@ use Rattle.kt_base.specs.declared.role.Role.{Role}
 use Rattle.kt_base.specs.declared.role.Role.TheVariants.{Body, Cleanup}
 use Rattle.kt_suite.specs.Paths.{is_slash}
 use Rattle.kt_sched.specs.declared.job.Job.{Job}
-use Rattle.kt_child.specs.declared.paths.Paths.{Paths}
-use Rattle.kt_child.specs.declared.want.Want.{Want}
-use Rattle.kt_child.specs.declared.want.Want.TheVariants as want
-use Rattle.kt_child.specs.declared.spawning.Spawning.{Spawning}
-use Rattle.kt_child.specs.declared.watched.Watched.{Watched}
-use Rattle.kt_child.specs.declared.case.Case.{Case}
+use Rattle.kt_child.specs.declared.planning.paths.Paths.{Paths}
+use Rattle.kt_child.specs.declared.planning.want.Want.{Want}
+use Rattle.kt_child.specs.declared.planning.want.Want.TheVariants as want
+use Rattle.kt_child.specs.declared.planning.spawning.Spawning.{Spawning}
+use Rattle.kt_child.specs.declared.polling.watched.Watched.{Watched}
+use Rattle.kt_child.specs.declared.planning.case.Case.{Case}
 use Rattle.kt_child.specs.ChildPlan.{env_of, paths_of, words_of}
 use Rattle.kt_child.specs.ChildOutcome.{fresh}
 use Rattle.kt_child.specs.Ends.{err_of, out_of}

@@ -6,7 +6,7 @@ use Rattle.kt_base.specs.declared.refused.Refused.TheVariants.{Directory}
 use Rattle.kt_sched.specs.declared.job.Job.{Job}
 use Rattle.kt_sched.specs.declared.start_answer.StartAnswer.{StartAnswer}
 use Rattle.kt_sched.specs.declared.start_answer.StartAnswer.TheVariants.{Refused as RefusedFor}
-use Rattle.kt_child.specs.declared.case.Case.{Case}
+use Rattle.kt_child.specs.declared.planning.case.Case.{Case}
 use Rattle.kt_child.specs.Calls.{Call, Chain}
 use Rattle.kt_child.specs.ChildPlan.{paths_of}
 use Rattle.kt_child.specs.JobPlan.{case_of, cleaning, spawning_of, watched_of}

@@ -8,12 +8,12 @@ use Rattle.kt_base.specs.declared.variable.Variable.{Variable}
 use Rattle.kt_atflist.specs.declared.list_bytes.ListBytes.{ListBytes}
 use Rattle.kt_atflist.specs.declared.listing.Listing.{Listing}
 use Rattle.kt_atflist.specs.declared.listing.Listing.TheVariants.{Refused as RefusedFor, Ended}
-use Rattle.kt_child.specs.declared.child.Child.{Child}
-use Rattle.kt_child.specs.declared.os_fault.OsFault.{OsFault}
-use Rattle.kt_child.specs.declared.file_read.FileRead.{FileRead}
-use Rattle.kt_child.specs.declared.paths.Paths.{Paths}
-use Rattle.kt_child.specs.declared.want.Want.TheVariants as want
-use Rattle.kt_child.specs.declared.spawning.Spawning.{Spawning}
+use Rattle.kt_child.specs.declared.system.child.Child.{Child}
+use Rattle.kt_child.specs.declared.system.os_fault.OsFault.{OsFault}
+use Rattle.kt_child.specs.declared.system.file_read.FileRead.{FileRead}
+use Rattle.kt_child.specs.declared.planning.paths.Paths.{Paths}
+use Rattle.kt_child.specs.declared.planning.want.Want.TheVariants as want
+use Rattle.kt_child.specs.declared.planning.spawning.Spawning.{Spawning}
 use Rattle.kt_child.specs.Calls.{Call, Chain, ReadFile, RemoveTree}
 use Rattle.kt_child.specs.ChildPlan.{env_of, paths_of, words_of}
 use Rattle.kt_child.specs.ChildOutcome.{fresh}

@@ -1,12 +1,12 @@
 -- A file that is read in parts.
 use Rattle.std.specs.Prelude.{◌≡◌, ℕ, zero, suc, ◌+◌, ◌-◌, ◌<◌, ◌==◌, min, List, [], ◌∷◌, ◌++◌, length, true, false, Result, Ok, Err, ◌⊎◌, leb, if◌then◌else◌}
-use Rattle.kt_child.specs.declared.os_fault.OsFault.{OsFault}
-use Rattle.kt_child.specs.declared.file_read.FileRead.{FileRead}
-use Rattle.kt_child.specs.declared.file_read.FileRead.TheVariants.{Missing as NoFile, Part}
-use Rattle.kt_child.specs.declared.next_part.NextPart.{NextPart}
-use Rattle.kt_child.specs.declared.next_part.NextPart.TheVariants.{More, All, Absent, Failed, Past}
-use Rattle.kt_child.specs.declared.read_end.ReadEnd.{ReadEnd}
-use Rattle.kt_child.specs.declared.read_end.ReadEnd.TheVariants as read_end
+use Rattle.kt_child.specs.declared.system.os_fault.OsFault.{OsFault}
+use Rattle.kt_child.specs.declared.system.file_read.FileRead.{FileRead}
+use Rattle.kt_child.specs.declared.system.file_read.FileRead.TheVariants.{Missing as NoFile, Part}
+use Rattle.kt_child.specs.declared.ending.next_part.NextPart.{NextPart}
+use Rattle.kt_child.specs.declared.ending.next_part.NextPart.TheVariants.{More, All, Absent, Failed, Past}
+use Rattle.kt_child.specs.declared.ending.read_end.ReadEnd.{ReadEnd}
+use Rattle.kt_child.specs.declared.ending.read_end.ReadEnd.TheVariants as read_end
 use Rattle.kt_child.specs.Reads.{bytes_of}
 use Rattle.kt_child.specs.Calls.{Call, ReadPart}
 

@@ -1,8 +1,8 @@
 -- The root directory of a driver.
 use Rattle.std.specs.Prelude.{◌≡◌, ◌<◌, ℕ, zero, suc, List, [], ◌∷◌, ◌++◌, true, false, Result, Ok, Err, codes}
 use Rattle.std.specs.Fmt.{decimal}
-use Rattle.kt_child.specs.declared.driver_fault.DriverFault.{DriverFault}
-use Rattle.kt_child.specs.declared.driver_fault.DriverFault.TheVariants.{NoMemory, NoWorkDirectory}
+use Rattle.kt_child.specs.declared.driving.driver_fault.DriverFault.{DriverFault}
+use Rattle.kt_child.specs.declared.driving.driver_fault.DriverFault.TheVariants.{NoMemory, NoWorkDirectory}
 use Rattle.kt_child.specs.Calls.{Call, MakeDir}
 
 -- a root directory by its number

@@ -1,12 +1,12 @@
 -- What one of several running children answers, in one wait and in all its waits.
 use Rattle.std.specs.Prelude.{◌≡◌, ℕ, zero, suc, ◌<◌, List, [], ◌∷◌, ◌++◌, Bool, true, false, Some, Result, map, slice_get, remove}
 use Rattle.kt_base.specs.declared.outcome.Outcome.{Outcome}
-use Rattle.kt_child.specs.declared.child.Child.{Child}
-use Rattle.kt_child.specs.declared.polled.Polled.{Polled}
-use Rattle.kt_child.specs.declared.os_fault.OsFault.{OsFault}
-use Rattle.kt_child.specs.declared.turn.Turn.TheVariants.{More}
-use Rattle.kt_child.specs.declared.watched.Watched.{Watched}
-use Rattle.kt_child.specs.declared.open_turn.OpenTurn.{OpenTurn}
+use Rattle.kt_child.specs.declared.system.child.Child.{Child}
+use Rattle.kt_child.specs.declared.system.polled.Polled.{Polled}
+use Rattle.kt_child.specs.declared.system.os_fault.OsFault.{OsFault}
+use Rattle.kt_child.specs.declared.polling.turn.Turn.TheVariants.{More}
+use Rattle.kt_child.specs.declared.polling.watched.Watched.{Watched}
+use Rattle.kt_child.specs.declared.polling.open_turn.OpenTurn.{OpenTurn}
 use Rattle.kt_child.specs.Calls.{Call}
 use Rattle.kt_child.specs.ChildOutcome.{Heard, Lived, Told, fresh, heard_of}
 use Rattle.kt_child.specs.Lives.{heard_by, same_child}

@@ -2,8 +2,8 @@
 use Rattle.std.specs.Prelude.{◌≡◌, ℕ, List, [], ◌∷◌, ◌++◌, Bool, true, false, Result, Ok, Err, ◌⊎◌}
 use Rattle.kt_base.specs.declared.refused.Refused.{Refused}
 use Rattle.kt_base.specs.declared.refused.Refused.TheVariants.{Directory, Output, Spawn as NotSpawned}
-use Rattle.kt_child.specs.declared.os_fault.OsFault.{OsFault}
-use Rattle.kt_child.specs.declared.spawning.Spawning.{Spawning}
+use Rattle.kt_child.specs.declared.system.os_fault.OsFault.{OsFault}
+use Rattle.kt_child.specs.declared.planning.spawning.Spawning.{Spawning}
 use Rattle.kt_child.specs.Moments.{moment_of}
 use Rattle.kt_child.specs.Calls.{Call, MakeDir, RemoveTree, OpenOutput, Spawn, Now}
 

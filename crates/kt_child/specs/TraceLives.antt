@@ -9,7 +9,7 @@ use Rattle.kt_sched.specs.declared.start_answer.StartAnswer.TheVariants.{Started
 use Rattle.kt_sched.specs.declared.ended.Ended.{Ended}
 use Rattle.kt_sched.specs.Plan.{IsPlan}
 use Rattle.kt_sched.specs.Trace.{Trace, NoEvent, Then, Event, Start, End, Leads}
-use Rattle.kt_child.specs.declared.case.Case.{Case}
+use Rattle.kt_child.specs.declared.planning.case.Case.{Case}
 use Rattle.kt_child.specs.Begins.{BegunBody, BegunCleanup}
 use Rattle.kt_child.specs.ChildrenState.{ChildrenState}
 use Rattle.kt_child.specs.Calls.{Call, Chain}

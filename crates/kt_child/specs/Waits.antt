@@ -1,8 +1,8 @@
 -- A wait for one of the running children, in turns that go on from one wait to the next.
 use Rattle.std.specs.Prelude.{◌≡◌, ℕ, List, ◌++◌, take, drop, map, length, ◌+◌, ◌==◌, ◌⊎◌, if◌then◌else◌}
 use Rattle.kt_base.specs.declared.outcome.Outcome.{Outcome}
-use Rattle.kt_child.specs.declared.watched.Watched.{Watched}
-use Rattle.kt_child.specs.declared.open_turn.OpenTurn.{OpenTurn}
+use Rattle.kt_child.specs.declared.polling.watched.Watched.{Watched}
+use Rattle.kt_child.specs.declared.polling.open_turn.OpenTurn.{OpenTurn}
 use Rattle.kt_child.specs.Calls.{Call}
 use Rattle.kt_child.specs.Turns.{PolledAll, PolledUntil, WaitedUntil, advanced, advanced_below, after_turns}
 

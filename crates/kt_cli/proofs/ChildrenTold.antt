@@ -4,7 +4,7 @@ use Rattle.kt_sched.specs.declared.job.Job.{Job}
 use Rattle.kt_sched.specs.Plan.{IsPlan}
 use Rattle.kt_sched.specs.Trace.{Trace, NoEvent, Leads}
 use Rattle.kt_suite.specs.Answers.{Chain}
-use Rattle.kt_child.specs.declared.driver.Driver.{Driver}
+use Rattle.kt_child.specs.declared.driving.driver.Driver.{Driver}
 use Rattle.kt_child.specs.ChildrenState.{ChildrenState, idle_state}
 use Rattle.kt_child.specs.Calls.{Call}
 use Rattle.kt_child.specs.Numbers.{IsBare}

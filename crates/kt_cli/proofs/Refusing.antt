@@ -3,8 +3,8 @@ use Rattle.std.specs.Prelude.{Err}
 use Rattle.std.proofs.Common.{ℕ, List}
 use Rattle.kt_child.specs.Calls.{Call, Chain}
 use Rattle.kt_child.specs.Roots.{FindsRoot}
-use Rattle.kt_child.specs.declared.driver_fault.DriverFault.{DriverFault}
-use Rattle.kt_child.specs.declared.driver_fault.DriverFault.TheVariants as driver
+use Rattle.kt_child.specs.declared.driving.driver_fault.DriverFault.{DriverFault}
+use Rattle.kt_child.specs.declared.driving.driver_fault.DriverFault.TheVariants as driver
 use Rattle.kt_cli.specs.Hosts.{NoRoot, no_memory, none_made}
 
 module _ {O : Type 0} (leads : O → Call → O → Type 0) (os : O) where

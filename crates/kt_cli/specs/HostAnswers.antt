@@ -8,7 +8,7 @@ use Rattle.kt_atflist.specs.declared.listing.Listing.{Listing}
 use Rattle.kt_sched.specs.declared.job.Job.{Job}
 use Rattle.kt_sched.specs.declared.start_answer.StartAnswer.{StartAnswer}
 use Rattle.kt_sched.specs.declared.ended.Ended.{Ended}
-use Rattle.kt_child.specs.declared.driver.Driver.{Driver}
+use Rattle.kt_child.specs.declared.driving.driver.Driver.{Driver}
 use Rattle.kt_child.specs.ChildrenState.{Waited}
 use Rattle.kt_child.specs.Calls.{Call, Chain}
 use Rattle.kt_child.specs.Launches.{StartsBy}

@@ -3,9 +3,9 @@
 use Rattle.std.specs.Prelude.{ℕ, Bool, false, List, ◌≡◌, Option, Some, None, Ok, Err}
 use Rattle.kt_base.specs.declared.no_memory.NoMemory.{NoMemory as OutOfMemory}
 use Rattle.kt_base.specs.declared.run.Run.{Run}
-use Rattle.kt_child.specs.declared.driver.Driver.{Driver}
-use Rattle.kt_child.specs.declared.driver_fault.DriverFault.{DriverFault}
-use Rattle.kt_child.specs.declared.driver_fault.DriverFault.TheVariants as driver
+use Rattle.kt_child.specs.declared.driving.driver.Driver.{Driver}
+use Rattle.kt_child.specs.declared.driving.driver_fault.DriverFault.{DriverFault}
+use Rattle.kt_child.specs.declared.driving.driver_fault.DriverFault.TheVariants as driver
 use Rattle.kt_child.specs.ChildrenState.{idle_state}
 use Rattle.kt_child.specs.Calls.{Call, Chain, RemoveTree}
 use Rattle.kt_child.specs.Roots.{FindsRoot}

@@ -1,6 +1,6 @@
 -- What the program has around its commands.
 use Rattle.std.specs.Prelude.{ℕ, List, Result}
-use Rattle.kt_child.specs.declared.driver_fault.DriverFault.{DriverFault}
+use Rattle.kt_child.specs.declared.driving.driver_fault.DriverFault.{DriverFault}
 use Rattle.kt_store.specs.declared.store_fault.StoreFault.{StoreFault}
 use Rattle.kt_cli.specs.declared.surroundings.Surroundings.{Surroundings}
 

@@ -1,0 +1,10 @@
+use Rattle.std.proofs.Common.{◌∷◌, [], List, Bool, refl, sym, subst, is_ok}
+use Rattle.kt_child.specs.Calls.{Call, RemoveTree}
+use Rattle.kt_child.specs.Ends.{Removes}
+use Rattle.kt_child.proofs.ending.ends.remove_if.Goals as goal
+
+pub returns-then-over : goal.returns-then-over
+returns-then-over g c =
+    let calls : List Call = RemoveTree c.args.dir.now (is_ok c.remove_tree.result) ∷ [] in
+    let P : Bool → Type 0 = λ b. Removes b c.args.dir.now calls in
+    (calls, (_, c.remove_tree.ensures, refl), subst P (sym c.if-over.true) (_, refl))

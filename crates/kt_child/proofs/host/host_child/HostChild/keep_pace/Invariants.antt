@@ -1,0 +1,10 @@
+use Rattle.std.proofs.Common.{◌≡◌}
+use Rattle.kt_child.specs.HostStands.{Proceeds, stand_of}
+use Rattle.kt_child.proofs.host.host_child.HostChild.keep_pace.Given as goal
+
+abbrev pub invariant-loop : goal.invariant-loop
+invariant-loop g l =
+    record {
+      proceeds : Proceeds (stand_of l.initial.self) (stand_of l.self);
+      kept : l.self ≡ record l.initial.self { process = l.self.process };
+    }

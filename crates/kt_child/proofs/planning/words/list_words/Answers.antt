@@ -1,0 +1,7 @@
+use Rattle.std.proofs.Common.{refl}
+use Rattle.std.specs.Str.{chars}
+use Rattle.kt_child.proofs.planning.words.list_words.Goals as goal
+
+pub returns : goal.returns
+unfolding chars
+returns c = rw (c.in_ok-push_text.ensures, c.in_ok-push_variable_words.ensures, c.new-words.ensures) refl

@@ -1,0 +1,8 @@
+use Rattle.std.proofs.Common.{refl}
+use Rattle.std.specs.Str.{chars}
+use Rattle.kt_child.proofs.planning.workdir.workdir_plan.Goals as goal
+
+pub returns : goal.returns
+unfolding chars
+returns c =
+    rw (c.in_ok-dir.ensures, c.in_ok-work.ensures, c.in_ok-result_file.ensures, c.in_ok-out.ensures, c.in_ok-err.ensures, c.in_ok-cleanup_out.ensures, c.in_ok-cleanup_err.ensures) refl

@@ -1,0 +1,9 @@
+//! The driver: it starts children, waits for them and asks for lists.
+
+pub(crate) mod driver;
+pub(crate) mod driver_fault;
+pub(crate) mod launches;
+pub(crate) mod lists;
+pub(crate) mod roots;
+pub(crate) mod run;
+pub(crate) mod running_children;

@@ -1,0 +1,39 @@
+ghost use Rattle.std.specs.Prelude.{◌≡◌, List, IfOk};
+ghost use Rattle.kt_child.specs.Calls.{Call, Chain};
+ghost use Rattle.kt_child.specs.Roots.{FindsRoot, root_of};
+
+use crate::driving::driver_fault::DriverFault;
+use crate::planning::spelling::number_text;
+use crate::system::os::Os;
+use kt_base::{NoMemory, Text};
+use std::alloc::Global;
+
+/// A root directory by its number.
+pub(crate) fn root_path(alloc: Global, base: &Text, number: u64) -> Result<Text, NoMemory>
+    ensures { IfOk result (λ path. path ≡ root_of base.now number) }
+{
+    let digits = number_text(alloc, number)?;
+    let mut path = base.copy()?;
+    path.push_str("/kyua.")?;
+    path.push_str(digits.as_str())?;
+    Ok(path)
+}
+
+/// Makes the root directory of a driver: the first of `kyua.0` to `kyua.999` below `base` that can be made (this
+/// profile). One that is there already, such as that of a runner which was killed, is never used again.
+pub fn find_root<O: Os>(alloc: Global, os: &mut O, base: &Text) -> Result<Text, DriverFault>
+    ensures { (calls : List Call) × Chain O.leads os.old calls os.new
+        × FindsRoot base.now calls result }
+{
+    for number in 0..1000 {
+        match root_path(alloc, base, number) {
+            Err(refusal) => return Err(DriverFault::NoMemory(refusal)),
+            Ok(root) => {
+                if os.make_dir(&root).is_ok() {
+                    return Ok(root);
+                }
+            }
+        }
+    }
+    Err(DriverFault::NoWorkDirectory)
+}

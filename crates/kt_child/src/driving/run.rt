@@ -1,0 +1,95 @@
+ghost use Rattle.std.specs.Prelude.{◌≡◌, List};
+ghost use Rattle.kt_sched.specs.Children.{IsIdle};
+ghost use Rattle.kt_sched.specs.Plan.{IsPlan, IsWidth};
+ghost use Rattle.kt_sched.specs.Run.{Ran};
+ghost use Rattle.kt_sched.specs.Trace.{Trace, Leads};
+ghost use Rattle.kt_child.specs.Calls.{Call, Chain};
+ghost use Rattle.kt_child.specs.ChildrenState.{Waited, is_among, shown_at};
+ghost use Rattle.kt_child.specs.Launches.{StartsBy};
+ghost use Rattle.kt_child.specs.Lists.{ListsBy};
+ghost use Rattle.kt_child.specs.Numbers.{AttemptsDiffer, NamesDiffer, NumbersDiffer, Serves};
+ghost use Rattle.kt_child.specs.TraceLives.{EachWith, EndsAreTold, ToldAt};
+ghost use Rattle.kt_child.specs.Width.{AloneIsPlain};
+ghost use Rattle.kt_child.specs.declared.driving.driver.Driver.{Driver};
+
+use crate::driving::driver::Driver;
+use crate::system::os::Os;
+use kt_base::Items;
+use kt_sched::{Job, RunFault, Sink, Totals, run_cases};
+use std::alloc::Global;
+
+/// Runs the cases of a plan over a driver, at most `width` at once, and puts the entry of each into a sink.
+pub fn run_driver<O: Os + Drop, S: Sink>(
+    alloc: Global,
+    plan: Items<Job>,
+    width: u32,
+    driver: &mut Driver<O>,
+    sink: &mut S,
+) -> Result<Totals, RunFault>
+    requires plan { IsPlan plan }
+    requires width { IsWidth width }
+    requires idle { IsIdle (shown_at driver.old.running.cases) (is_among driver.old.running.pending) }
+    ensures ran { Ran
+        (λ d job role answer e. StartsBy O.leads d.source d.root job role d.os d.next d.running answer e.os e.next e.running
+        × (e.source ≡ d.source) × (e.root ≡ d.root))
+        (λ d ended e. ((calls : List Call) × Chain O.leads d.os calls e.os × Waited d.running calls ended e.running)
+        × (e.source ≡ d.source) × (e.root ≡ d.root) × (e.next ≡ d.next))
+        S.puts S.entries plan width driver.old driver.new sink.old sink.new result }
+    ensures told { (T : Trace) → Leads
+        (λ d job role answer e. StartsBy O.leads d.source d.root job role d.os d.next d.running answer e.os e.next e.running
+        × (e.source ≡ d.source) × (e.root ≡ d.root))
+        (λ d ended e. ((calls : List Call) × Chain O.leads d.os calls e.os × Waited d.running calls ended e.running)
+        × (e.source ≡ d.source) × (e.root ≡ d.root) × (e.next ≡ d.next))
+        plan T driver.old driver.new
+        → (calls : List Call) × Chain O.leads driver.old.os calls driver.new.os × EachWith (ToldAt plan driver.old.source driver.old.root driver.old.next calls) T calls }
+{
+    driver.running.paired();
+    run_cases(alloc, plan, width, driver, sink)
+}
+
+/// The law of numbers: no two attempts of a driver, which are the starts of bodies and the lists, have the same number.
+pub fn law_of_numbers<O: Os + Drop>()
+    ensures starts { NumbersDiffer {D = Driver O} (λ d. d.next)
+        (λ d job role answer e. StartsBy O.leads d.source d.root job role d.os d.next d.running answer e.os e.next e.running
+        × (e.source ≡ d.source) × (e.root ≡ d.root))
+        (λ d ended e. ((calls : List Call) × Chain O.leads d.os calls e.os × Waited d.running calls ended e.running)
+        × (e.source ≡ d.source) × (e.root ≡ d.root) × (e.next ≡ d.next)) }
+    ensures attempts { AttemptsDiffer {D = Driver O} (λ d. d.next) (Serves {D = Driver O}
+        (λ d job role answer e. StartsBy O.leads d.source d.root job role d.os d.next d.running answer e.os e.next e.running
+        × (e.source ≡ d.source) × (e.root ≡ d.root))
+        (λ d ended e. ((calls : List Call) × Chain O.leads d.os calls e.os × Waited d.running calls ended e.running)
+        × (e.source ≡ d.source) × (e.root ≡ d.root) × (e.next ≡ d.next))
+        (λ d program variables answer e. ListsBy O.leads d.source d.root program variables d.os d.next answer e.os e.next
+        × (e.running ≡ d.running) × (e.source ≡ d.source) × (e.root ≡ d.root))) }
+{}
+
+/// The law of names: where nothing ran and nothing was owed at first, the name of each child that runs is its own.
+pub fn law_of_names<O: Os + Drop>()
+    ensures { NamesDiffer {D = Driver O} (λ d. d.running)
+        (λ d job role answer e. StartsBy O.leads d.source d.root job role d.os d.next d.running answer e.os e.next e.running
+        × (e.source ≡ d.source) × (e.root ≡ d.root))
+        (λ d ended e. ((calls : List Call) × Chain O.leads d.os calls e.os × Waited d.running calls ended e.running)
+        × (e.source ≡ d.source) × (e.root ≡ d.root) × (e.next ≡ d.next)) }
+{}
+
+/// The law of traces, if nothing runs and nothing is owed at first: the polls and kills of each child, of all that is
+/// asked of the system, are one life, and its end has the outcome that the outcome table tells of them. Each start and
+/// each end has its own calls in the directory of its body's number: the start, what is read behind the last poll, and
+/// the removal.
+pub fn law_of_traces<O: Os + Drop>()
+    ensures { EndsAreTold {D = Driver O} O.leads (λ d. d.os) (λ d. d.source) (λ d. d.root) (λ d. d.next) (λ d. d.running)
+        (λ d job role answer e. StartsBy O.leads d.source d.root job role d.os d.next d.running answer e.os e.next e.running
+        × (e.source ≡ d.source) × (e.root ≡ d.root))
+        (λ d ended e. ((calls : List Call) × Chain O.leads d.os calls e.os × Waited d.running calls ended e.running)
+        × (e.source ≡ d.source) × (e.root ≡ d.root) × (e.next ≡ d.next)) }
+{}
+
+/// The law of lone children: if nothing runs at first and each wait is for an only child, no member is ever left of a
+/// turn, so that each wait is the plain loop of `law_of_one_child`.
+pub fn law_of_lone_children<O: Os + Drop>()
+    ensures { AloneIsPlain {D = Driver O} (λ d. d.running)
+        (λ d job role answer e. StartsBy O.leads d.source d.root job role d.os d.next d.running answer e.os e.next e.running
+        × (e.source ≡ d.source) × (e.root ≡ d.root))
+        (λ d ended e. ((calls : List Call) × Chain O.leads d.os calls e.os × Waited d.running calls ended e.running)
+        × (e.source ≡ d.source) × (e.root ≡ d.root) × (e.next ≡ d.next)) }
+{}

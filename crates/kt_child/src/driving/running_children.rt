@@ -1,0 +1,238 @@
+ghost use Rattle.std.specs.Prelude.{◌≡◌, ◌+◌, ◌<◌, ◌≤◌, length, slice_get, Some, remove, OnOk, true};
+ghost use Rattle.std.specs.Vec.{vec_len, vec_capacity};
+ghost use Rattle.kt_child.specs.declared.planning.case.Case.{Case};
+ghost use Rattle.kt_child.specs.ChildrenState.{is_among, pending_with};
+
+use crate::ending::ends::{leave, over};
+use crate::planning::case::Case;
+use crate::planning::spawning::Spawning;
+use crate::polling::open_turn::OpenTurn;
+use crate::polling::waits::wait_on;
+use crate::polling::watched::Watched;
+use crate::starting::refusals::memory_refusal;
+use crate::starting::starts::{start_body, start_cleanup};
+use crate::system::os::Os;
+use kt_base::NoMemory;
+use kt_sched::{Ended, StartAnswer};
+use std::alloc::Global;
+use std::marker::Model;
+
+/// The running children in the order of their start, each with its case; the turn that goes on; and the cases whose
+/// cleanup is owed. Room for a case's cleanup is taken with its body's start.
+#[derive(Drop)]
+pub struct RunningChildren {
+    children: Vec<Watched>,
+    cases: Vec<Case>,
+    going: OpenTurn,
+    pending: Vec<Case>,
+}
+
+impl Model for RunningChildren {
+    ghost use Rattle.std.specs.Prelude.{◌+◌, ◌≤◌};
+    ghost use Rattle.std.specs.Vec.{vec_len, vec_capacity};
+    ghost use Rattle.kt_child.specs.ChildrenState.{ChildrenState, IsChildrenState};
+
+    ghost Value = { ChildrenState };
+
+    ghost view = { λ r. record {
+      children = r.children.items;
+      cases = r.cases.items;
+      going =
+          r.going;
+      pending = r.pending.items;
+    } };
+
+    ghost invariant = { λ r. IsChildrenState r.children.items r.cases.items r.going r.pending.items
+        × (vec_len r.cases + vec_len r.pending ≤ vec_capacity r.pending) };
+}
+
+/// Takes the memory for one more child, and for its case's cleanup.
+fn make_room(
+    children: &mut Vec<Watched>,
+    cases: &mut Vec<Case>,
+    pending: &mut Vec<Case>,
+) -> Result<(), NoMemory>
+    requires room { vec_len cases.old + vec_len pending.old ≤ vec_capacity pending.old }
+    ensures children { children.new.items ≡ children.old.items }
+    ensures cases { cases.new.items ≡ cases.old.items }
+    ensures pending { pending.new.items ≡ pending.old.items }
+    ensures room { vec_len cases.new + vec_len pending.new ≤ vec_capacity pending.new }
+    ensures child { OnOk result (vec_len children.new < vec_capacity children.new) }
+    ensures case { OnOk result (vec_len cases.new < vec_capacity cases.new) }
+    ensures owed { OnOk result (vec_len cases.new + vec_len pending.new
+        < vec_capacity pending.new) }
+{
+    children.reserve(1)?;
+    cases.reserve(1)?;
+    pending.reserve(cases.len() + 1)?;
+    Ok(())
+}
+
+/// The place of the case at this position.
+fn place_of(cases: &[Case], position: u32) -> usize
+    requires { is_among cases.now position ≡ true }
+    ensures within { result < length cases.now }
+    ensures position { (c : Case) → slice_get cases.now result ≡ Some c → c.position ≡ position }
+{
+    for i in 0..cases.len() {
+        if cases[i].position == position {
+            return i;
+        }
+    }
+    unreachable!()
+}
+
+/// Removes the child at this place. Its case is kept if its cleanup is still to come.
+fn forget(children: &mut Vec<Watched>, cases: &mut Vec<Case>, pending: &mut Vec<Case>, place: usize)
+    requires child { place < vec_len children.old }
+    requires case { place < vec_len cases.old }
+    requires room { vec_len cases.old + vec_len pending.old ≤ vec_capacity pending.old }
+    ensures children { children.new.items ≡ remove children.old.items place }
+    ensures cases { cases.new.items ≡ remove cases.old.items place }
+    ensures pending { (c : Case) → slice_get cases.old.items place ≡ Some c
+        → pending.new.items ≡ pending_with c pending.old.items }
+    ensures room { vec_len cases.new + vec_len pending.new ≤ vec_capacity pending.new }
+{
+    let _ = children.remove(place);
+    let case = cases.remove(place);
+    if over(&case) {
+        return;
+    }
+    pending.push_reserved(case);
+}
+
+impl RunningChildren {
+    ghost use Rattle.std.specs.Prelude.{◌≡◌, ◌==◌, ℕ, ◌+◌, ◌<◌, List, [], length, slice_get, remove, Some, true, false, if◌then◌else◌};
+    ghost use Rattle.kt_base.specs.declared.role.Role.{Role};
+    ghost use Rattle.kt_sched.specs.Children.{Child as Shown, IsEvidence, running_after_end, pending_after_end};
+    ghost use Rattle.kt_sched.specs.Moments.{HasMoment, IsMoment};
+    ghost use Rattle.kt_child.specs.Calls.{Call, Chain};
+    ghost use Rattle.kt_child.specs.Turns.{IsOn};
+    ghost use Rattle.kt_child.specs.ChildrenState.{Waited, count_at, idle_state, is_among, shown_at};
+    ghost use Rattle.kt_child.specs.Begins.{BegunBody, BegunCleanup, state_after_start, shown_after};
+
+    /// No running children, which takes no memory.
+    pub fn new(alloc: Global) -> RunningChildren
+        ensures { result ≡ idle_state }
+    {
+        RunningChildren {
+            children: Vec::new(alloc),
+            cases: Vec::new(alloc),
+            going: OpenTurn {
+                from: 0,
+                unpolled: 0,
+                over: 0,
+            },
+            pending: Vec::new(alloc),
+        }
+    }
+
+    /// Says that each child has its case. It does nothing when it runs.
+    pub(crate) fn paired(&self)
+        ensures { length self.now.children ≡ length self.now.cases }
+    {
+        let _ = &self.cases;
+    }
+
+    /// Takes a case whose cleanup is owed.
+    pub fn take_owed(&mut self, position: u32) -> Case
+        requires { is_among self.old.pending position ≡ true }
+        ensures taken { (place : ℕ) × (slice_get self.old.pending place ≡ Some result)
+            × (self.new ≡ record { children = self.old.children; cases = self.old.cases; going = self.old.going; pending = remove self.old.pending place }) }
+        ensures position { result.position ≡ position }
+        ensures free { count_at position self.new.cases + count_at position self.new.pending ≡ 0 }
+        ensures cases { self.new.cases ≡ self.old.cases }
+        ensures pending { (k : ℕ) → is_among self.new.pending k
+            ≡ (if k == position then false else is_among self.old.pending k) }
+    {
+        let place = place_of(&self.pending, position);
+        self.pending.remove(place)
+    }
+
+    /// Starts the body of this case in a new directory.
+    pub fn start_body<O: Os>(
+        &mut self,
+        os: &mut O,
+        child: Watched,
+        case: Case,
+        plan: &Spawning,
+    ) -> StartAnswer
+        requires on { IsOn child }
+        requires free { count_at case.position self.old.cases + count_at case.position
+            self.old.pending ≡ 0 }
+        ensures begun { (calls : List Call) × Chain O.leads os.old calls os.new
+            × BegunBody plan.now case.paths.dir calls result }
+        ensures moment { HasMoment result }
+        ensures state { self.new ≡ state_after_start self.old child case result }
+        ensures running { (k : ℕ) (r : Role) → shown_at self.new.cases k r
+            ≡ shown_after (shown_at self.old.cases) case result k r }
+    {
+        if let Err(refusal) = make_room(&mut self.children, &mut self.cases, &mut self.pending) {
+            return StartAnswer::Refused(memory_refusal(refusal));
+        }
+        match start_body(os, &case.paths.dir, plan) {
+            Err(cause) => StartAnswer::Refused(cause),
+            Ok(moment) => {
+                self.children.push_reserved(child);
+                self.cases.push_reserved(case);
+                StartAnswer::Started(moment)
+            }
+        }
+    }
+
+    /// Starts the cleanup of this case in the directory of its body.
+    pub fn start_cleanup<O: Os>(
+        &mut self,
+        os: &mut O,
+        child: Watched,
+        case: Case,
+        plan: &Spawning,
+    ) -> StartAnswer
+        requires on { IsOn child }
+        requires free { count_at case.position self.old.cases + count_at case.position
+            self.old.pending ≡ 0 }
+        ensures begun { (calls : List Call) × Chain O.leads os.old calls os.new
+            × BegunCleanup plan.now case.paths.dir calls result }
+        ensures moment { HasMoment result }
+        ensures state { self.new ≡ state_after_start self.old child case result }
+        ensures running { (k : ℕ) (r : Role) → shown_at self.new.cases k r
+            ≡ shown_after (shown_at self.old.cases) case result k r }
+    {
+        if let Err(refusal) = make_room(&mut self.children, &mut self.cases, &mut self.pending) {
+            let _ = os.remove_tree(&case.paths.dir);
+            return StartAnswer::Refused(memory_refusal(refusal));
+        }
+        match start_cleanup(os, &case.paths.dir, plan) {
+            Err(cause) => StartAnswer::Refused(cause),
+            Ok(moment) => {
+                self.children.push_reserved(child);
+                self.cases.push_reserved(case);
+                StartAnswer::Started(moment)
+            }
+        }
+    }
+
+    /// Waits for the first child that is over.
+    pub fn wait<O: Os>(&mut self, alloc: Global, os: &mut O) -> Ended
+        requires { 0 < length self.old.cases }
+        ensures waited { (calls : List Call) × Chain O.leads os.old calls os.new
+            × Waited self.old calls result self.new }
+        ensures moment { IsMoment result.moment }
+        ensures one_that_ran { (s : Shown) × (shown_at self.old.cases result.position result.role
+            ≡ Some s) × IsEvidence s.interface result.role result.evidence }
+        ensures running { (k : ℕ) (r : Role) → shown_at self.new.cases k r
+            ≡ running_after_end (shown_at self.old.cases) result k r }
+        ensures pending { (k : ℕ) → is_among self.new.pending k
+            ≡ pending_after_end (shown_at self.old.cases) (is_among self.old.pending) result k }
+    {
+        let over = wait_on(os, &mut self.children, &mut self.going);
+        let ended = leave(alloc, os, &self.cases[over.place], over.outcome);
+        forget(
+            &mut self.children,
+            &mut self.cases,
+            &mut self.pending,
+            over.place,
+        );
+        ended
+    }
+}

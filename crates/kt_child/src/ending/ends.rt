@@ -1,0 +1,78 @@
+ghost use Rattle.std.specs.Prelude.{◌≡◌, List};
+ghost use Rattle.kt_sched.specs.Children.{IsEvidence};
+ghost use Rattle.kt_sched.specs.Moments.{IsMoment};
+ghost use Rattle.kt_child.specs.Calls.{Call, Chain};
+ghost use Rattle.kt_child.specs.Ends.{Leaves, Removes, err_of, is_over, out_of};
+
+use crate::ending::gathering::gather;
+use crate::ending::reads::read_kept;
+use crate::planning::case::Case;
+use crate::planning::paths::Paths;
+use crate::system::moments::moment;
+use crate::system::os::Os;
+use kt_base::{Outcome, Output, Role, Text};
+use kt_sched::Ended;
+use std::alloc::Global;
+
+/// The file of a child's output.
+pub(crate) fn out_path(role: Role, paths: &Paths) -> &Text
+    ensures { result.now ≡ out_of role paths.now }
+{
+    match role {
+        Role::Body => &paths.out,
+        Role::Cleanup => &paths.cleanup_out,
+    }
+}
+
+/// The file of a child's errors.
+pub(crate) fn err_path(role: Role, paths: &Paths) -> &Text
+    ensures { result.now ≡ err_of role paths.now }
+{
+    match role {
+        Role::Body => &paths.err,
+        Role::Cleanup => &paths.cleanup_err,
+    }
+}
+
+/// Whether a case is over with the end of its child: no cleanup follows.
+pub(crate) fn over(case: &Case) -> bool
+    ensures { result ≡ is_over case.now }
+{
+    match case.role {
+        Role::Cleanup => true,
+        Role::Body => !case.cleanup,
+    }
+}
+
+fn remove_if<O: Os>(os: &mut O, over: bool, dir: &Text)
+    ensures { (calls : List Call) × Chain O.leads os.old calls os.new × Removes over dir.now calls }
+{
+    if over {
+        let _ = os.remove_tree(dir);
+    }
+}
+
+/// Deals with a child that is over: asks for the moment, reads what it left, and removes the directory of a case that
+/// is over.
+pub fn leave<O: Os>(alloc: Global, os: &mut O, case: &Case, outcome: Outcome) -> Ended
+    ensures left { (calls : List Call) × Chain O.leads os.old calls os.new
+        × Leaves case.now calls outcome result }
+    ensures moment { IsMoment result.moment }
+    ensures evidence { IsEvidence case.now.interface result.role result.evidence }
+{
+    // First, so that the time of a case does not include our reading.
+    let moment = moment(os);
+    let evidence = gather(alloc, os, case.interface, case.role, &case.paths);
+    let out = read_kept(alloc, os, out_path(case.role, &case.paths));
+    let err = read_kept(alloc, os, err_path(case.role, &case.paths));
+    // Last, since the files lie in that directory.
+    remove_if(os, over(case), &case.paths.dir);
+    Ended {
+        position: case.position,
+        role: case.role,
+        outcome,
+        evidence,
+        output: Output { out, err },
+        moment,
+    }
+}

@@ -1,0 +1,104 @@
+ghost use Rattle.std.specs.Prelude.{ℕ, List};
+ghost use Rattle.kt_claim.specs.ClaimReading.{HasRead};
+ghost use Rattle.kt_claim.specs.StreamReading.{HasStream};
+ghost use Rattle.kt_child.specs.Calls.{Call, Chain};
+ghost use Rattle.kt_child.specs.Parts.{Bytes};
+ghost use Rattle.kt_child.specs.Gathering.{Gathers, IsClaim, IsTap, ReadsClaim, ReadsTap};
+ghost use Rattle.kt_sched.specs.Children.{IsEvidence};
+
+use crate::ending::parts::read_in_parts;
+use crate::ending::read_end::ReadEnd;
+use crate::planning::paths::Paths;
+use crate::system::os::Os;
+use kt_base::{Interface, Role, Text};
+use kt_claim::{Claim, ClaimFault, ClaimReader, Evidence, Tap, TapFault, TapReader};
+use std::alloc::Global;
+
+/// How many bytes of a result file are read at once (this profile).
+const RESULT_PART: u64 = 4096;
+
+/// How many bytes a result file has at the most (this profile).
+const RESULT_LIMIT: u64 = 65_536;
+
+/// How many bytes of a TAP stream are read at once (this profile).
+const STREAM_PART: u64 = 65_536;
+
+/// How many bytes a TAP stream has at the most (this profile).
+const STREAM_LIMIT: u64 = 16_777_216;
+
+fn claim_read(reader: ClaimReader) -> Claim
+    ensures { (bytes : List ℕ) → HasRead reader bytes → IsClaim (Bytes bytes) result }
+{
+    match reader.finish() {
+        Ok(claim) => claim,
+        Err(_) => Claim::Unreadable,
+    }
+}
+
+/// Reads a result file, and tells what it claims.
+fn read_claim<O: Os>(alloc: Global, os: &mut O, path: &Text) -> Claim
+    ensures { (calls : List Call) × Chain O.leads os.old calls os.new
+        × ReadsClaim path.now calls result }
+{
+    let mut reader = ClaimReader::new(alloc);
+    match read_in_parts(os, path, RESULT_PART, RESULT_LIMIT, &mut reader) {
+        ReadEnd::Missing => Claim::Missing,
+        ReadEnd::Unreadable => Claim::Unreadable,
+        ReadEnd::TooLong => Claim::Malformed(ClaimFault::TooLong),
+        ReadEnd::Complete => claim_read(reader),
+    }
+}
+
+fn tap_read(reader: TapReader) -> Tap
+    ensures { (bytes : List ℕ) → HasStream reader bytes → IsTap (Bytes bytes) result }
+{
+    match reader.finish() {
+        Ok(tap) => tap,
+        Err(_) => Tap::Invalid(TapFault::Unreadable),
+    }
+}
+
+/// Reads an output as a TAP stream, and tells what it says.
+fn read_tap<O: Os>(alloc: Global, os: &mut O, path: &Text) -> Tap
+    ensures { (calls : List Call) × Chain O.leads os.old calls os.new
+        × ReadsTap path.now calls result }
+{
+    let mut reader = TapReader::new(alloc);
+    match read_in_parts(os, path, STREAM_PART, STREAM_LIMIT, &mut reader) {
+        ReadEnd::Missing => Tap::Invalid(TapFault::Unreadable),
+        ReadEnd::Unreadable => Tap::Invalid(TapFault::Unreadable),
+        ReadEnd::TooLong => Tap::Invalid(TapFault::TooLong),
+        ReadEnd::Complete => tap_read(reader),
+    }
+}
+
+/// Reads what the body of a case left: an ATF program its result file, a TAP program its output.
+fn gather_of_body<O: Os>(alloc: Global, os: &mut O, interface: Interface, paths: &Paths) -> Evidence
+    ensures gathered { (calls : List Call) × Chain O.leads os.old calls os.new
+        × Gathers interface Role.Body paths.now calls result }
+    ensures interface { IsEvidence interface Role.Body result }
+{
+    match interface {
+        Interface::Atf => Evidence::Atf(read_claim(alloc, os, &paths.result)),
+        Interface::Tap => Evidence::Tap(read_tap(alloc, os, &paths.out)),
+        Interface::Plain => Evidence::Plain,
+    }
+}
+
+/// Reads the evidence that a child left.
+pub fn gather<O: Os>(
+    alloc: Global,
+    os: &mut O,
+    interface: Interface,
+    role: Role,
+    paths: &Paths,
+) -> Evidence
+    ensures gathered { (calls : List Call) × Chain O.leads os.old calls os.new
+        × Gathers interface role paths.now calls result }
+    ensures interface { IsEvidence interface role result }
+{
+    match role {
+        Role::Body => gather_of_body(alloc, os, interface, paths),
+        Role::Cleanup => Evidence::Plain,
+    }
+}

@@ -1,0 +1,219 @@
+ghost use Rattle.std.specs.Prelude.{◌≡◌, ◌<◌, length, filter, None, Some, IsSome, IfSome, OnSome, IfNone, IfOk, OnOk};
+ghost use Rattle.kt_sched.specs.Children.{same_role};
+ghost use Rattle.kt_child.specs.Lives.{same_child};
+ghost use Rattle.kt_child.specs.HostStands.{AllProceed, AllStay, IsPlaceOf, OthersStay, Proceeds, is_other, stand_in, stand_of};
+
+use crate::host::host_child::HostChild;
+use crate::system::child::Child;
+use crate::system::os_fault::OsFault;
+use kt_base::Role;
+use std::fs::File;
+use std::io::ErrorKind;
+use std::process::{Command, ExitStatus, OpenProcess, Processes};
+use std::rt::Clock;
+use std::time::Duration;
+use std::{io, thread};
+
+/// The slices of a pause, in microseconds: 10 milliseconds in all. Short ones come first, for a short case.
+const SLICES: [u64; 14] = [
+    50, 100, 200, 400, 800, 1000, 1000, 1000, 1000, 1000, 1000, 1000, 1000, 450,
+];
+
+fn same_role(a: Role, b: Role) -> bool
+    ensures { result ≡ same_role a b }
+{
+    match a {
+        Role::Body => match b {
+            Role::Body => true,
+            Role::Cleanup => false,
+        },
+        Role::Cleanup => match b {
+            Role::Body => false,
+            Role::Cleanup => true,
+        },
+    }
+}
+
+fn same_name(a: Child, b: Child) -> bool
+    ensures { result ≡ same_child a b }
+{
+    a.attempt == b.attempt && same_role(a.role, b.role)
+}
+
+/// The place of the first child with this name.
+fn place_of<P: OpenProcess + Drop>(children: &[HostChild<P>], child: Child) -> Option<usize>
+    ensures within { IfSome result (λ place. place < length children.now) }
+    ensures first { IfSome result (λ place. IsPlaceOf child children.now place) }
+    ensures none { IfNone result (stand_in children.now child ≡ None) }
+{
+    for place in 0..children.len() {
+        if same_name(children[place].child, child) {
+            return Some(place);
+        }
+    }
+    None
+}
+
+/// Forgets a child.
+pub(crate) fn forget<P: OpenProcess + Drop>(children: &mut Vec<HostChild<P>>, child: Child)
+    ensures filtered { children.new.items ≡ filter (is_other child) children.old.items }
+    ensures forgotten { stand_in children.new.items child ≡ None }
+    ensures others { OthersStay child (stand_in children.old.items) (stand_in children.new.items) }
+{
+    children.retain(|held| !same_name(held.child, child));
+}
+
+/// Takes a child out.
+pub(crate) fn take_out<P: OpenProcess + Drop>(
+    children: &mut Vec<HostChild<P>>,
+    child: Child,
+) -> Option<HostChild<P>>
+    ensures own { IfSome result (λ held. (held.child ≡ child)
+        × (stand_of held ≡ stand_in children.old.items child)) }
+    ensures none { IfNone result (stand_in children.old.items child ≡ None) }
+    ensures forgotten { stand_in children.new.items child ≡ None }
+    ensures others { OthersStay child (stand_in children.old.items) (stand_in children.new.items) }
+{
+    match place_of(children, child) {
+        Some(place) => {
+            let held = children.remove(place);
+            forget(children, child);
+            Some(held)
+        }
+        None => None,
+    }
+}
+
+/// The place of a child of which only the file of its errors is still to come.
+fn place_for_errors<P: OpenProcess + Drop>(children: &[HostChild<P>], child: Child) -> Option<usize>
+    ensures within { IfSome result (λ place. place < length children.now) }
+    ensures first { IfSome result (λ place. IsPlaceOf child children.now place) }
+    ensures idle { OnSome result (stand_in children.now child ≡ None) }
+{
+    let place = place_of(children, child)?;
+    if children[place].wants_errors() {
+        Some(place)
+    } else {
+        None
+    }
+}
+
+/// Keeps the first file of a new child, in the place of any that has its name.
+fn renew<P: OpenProcess + Drop>(
+    children: &mut Vec<HostChild<P>>,
+    child: Child,
+    out: File,
+) -> Result<(), OsFault>
+    ensures idle { stand_in children.new.items child ≡ None }
+    ensures others { OthersStay child (stand_in children.old.items) (stand_in children.new.items) }
+{
+    forget(children, child);
+    match children.push(HostChild::new(child, out)) {
+        Ok(()) => Ok(()),
+        Err(_) => Err(OsFault),
+    }
+}
+
+/// Keeps the file of an output: that of the errors where the other is there, else the first of a new child.
+pub(crate) fn keep_output<P: OpenProcess + Drop>(
+    children: &mut Vec<HostChild<P>>,
+    child: Child,
+    file: File,
+) -> Result<(), OsFault>
+    ensures idle { stand_in children.new.items child ≡ None }
+    ensures others { OthersStay child (stand_in children.old.items) (stand_in children.new.items) }
+{
+    match place_for_errors(children, child) {
+        Some(place) => {
+            let held = &mut children[place];
+            held.keep_errors(file);
+            Ok(())
+        }
+        None => renew(children, child, file),
+    }
+}
+
+/// Starts a child for which its files were opened.
+pub(crate) fn launch<P: OpenProcess + Drop, R: Processes<Started = P> + Clock>(
+    children: &mut Vec<HostChild<P>>,
+    child: Child,
+    rt: &R,
+    command: &mut Command,
+) -> io::Result<()>
+    ensures started { OnOk result (IsSome (stand_in children.new.items child)) }
+    ensures others { OthersStay child (stand_in children.old.items) (stand_in children.new.items) }
+{
+    match place_of(children, child) {
+        Some(place) => {
+            let held = &mut children[place];
+            held.launch(rt, command)
+        }
+        None => Err(io::Error::from(ErrorKind::NotFound)),
+    }
+}
+
+/// How a child ended, if it has.
+pub(crate) fn poll<P: OpenProcess + Drop, C: Clock>(
+    children: &mut Vec<HostChild<P>>,
+    child: Child,
+    clock: &C,
+) -> Result<Option<ExitStatus>, OsFault>
+    ensures proceeds { Proceeds (stand_in children.old.items child)
+        (stand_in children.new.items child) }
+    ensures told { IfOk result (λ status. stand_in children.new.items child ≡ Some status) }
+    ensures others { OthersStay child (stand_in children.old.items) (stand_in children.new.items) }
+{
+    match place_of(children, child) {
+        Some(place) => {
+            let held = &mut children[place];
+            held.poll(clock)
+        }
+        None => Err(OsFault),
+    }
+}
+
+/// Kills a child.
+pub(crate) fn kill<P: OpenProcess + Drop>(
+    children: &mut Vec<HostChild<P>>,
+    child: Child,
+) -> Result<(), OsFault>
+    ensures had { OnOk result (IsSome (stand_in children.old.items child)) }
+    ensures stay { AllStay (stand_in children.old.items) (stand_in children.new.items) }
+{
+    match place_of(children, child) {
+        Some(place) => {
+            let held = &mut children[place];
+            held.kill()
+        }
+        None => Err(OsFault),
+    }
+}
+
+/// Whether a child has ended since the last pause looked.
+fn has_new_end<P: OpenProcess + Drop>(children: &mut Vec<HostChild<P>>) -> bool
+    ensures { AllProceed (stand_in children.old.items) (stand_in children.new.items) }
+{
+    for place in 0..children.len() {
+        let held = &mut children[place];
+        if held.has_new_end() {
+            return true;
+        }
+    }
+    false
+}
+
+/// Sleeps until a child has ended, at the latest after all slices, and returns whether one has.
+pub(crate) fn await_end<P: OpenProcess + Drop, C: Clock>(
+    children: &mut Vec<HostChild<P>>,
+    clock: &C,
+) -> bool
+    ensures { AllProceed (stand_in children.old.items) (stand_in children.new.items) }
+{
+    for slice in &SLICES {
+        thread::sleep(clock, Duration::from_micros(*slice));
+        if has_new_end(children) {
+            return true;
+        }
+    }
+    false
+}

@@ -1,0 +1,169 @@
+use crate::host::faults::or_fault;
+use crate::host::pace::Pace;
+use crate::system::child::Child;
+use crate::system::os_fault::OsFault;
+use std::fs::File;
+use std::io::ErrorKind;
+use std::process::{Command, ExitStatus, OpenProcess, Processes, Stdio};
+use std::rt::Clock;
+use std::time::Duration;
+use std::{io, process, thread};
+
+/// How many slices of a millisecond a poll sleeps at the most, so that the time of one more answer has come.
+const SLICES: u32 = 12;
+
+/// A child of the host, from the first file that is opened for it until its end is told.
+#[derive(Drop)]
+pub(crate) struct HostChild<P: OpenProcess> {
+    pub(crate) child: Child,
+    out: Option<File>,
+    err: Option<File>,
+    process: Option<process::Child<P>>,
+    pace: Pace,
+    /// Whether a pause has seen its end.
+    seen: bool,
+}
+
+impl<P: OpenProcess + Drop> HostChild<P> {
+    ghost use Rattle.std.specs.Prelude.{◌≡◌, ◌↔◌, ◌+◌, ◌-◌, ◌^◌, min, Some, None, Ok, true, false, IsTrue, IsSome, IsNone, IsOk, IsErr, IfOk, OnOk};
+    ghost use Rattle.std.specs.declared.process.status.ExitStatus.{ExitStatus as Status};
+    ghost use Rattle.kt_child.specs.HostStands.{Proceeds, stand_of};
+
+    /// A child that does not run, with the file of its output.
+    pub(crate) fn new(child: Child, out: File) -> HostChild<P>
+        ensures name { result.child ≡ child }
+        ensures out { result.out ≡ Some out }
+        ensures err { result.err ≡ None }
+        ensures stands { stand_of result ≡ None }
+        ensures told { result.pace.told ≡ 0 }
+        ensures unseen { result.seen ≡ false }
+    {
+        HostChild {
+            child,
+            out: Some(out),
+            err: None,
+            process: None,
+            pace: Pace::unknown(),
+            seen: false,
+        }
+    }
+
+    /// Whether the file of its errors is still to come.
+    pub(crate) fn wants_errors(&self) -> bool
+        ensures { IsTrue result ↔ (IsSome self.now.out × IsNone self.now.err
+            × (stand_of self.now ≡ None)) }
+    {
+        self.out.is_some() && self.err.is_none() && self.process.is_none()
+    }
+
+    /// Keeps the file of its errors.
+    pub(crate) fn keep_errors(&mut self, err: File)
+        ensures kept { self.new ≡ record self.old { err = Some err } }
+        ensures name { self.new.child ≡ self.old.child }
+        ensures stands { stand_of self.new ≡ stand_of self.old }
+    {
+        self.err = Some(err);
+    }
+
+    /// Starts it, with an empty input and the two files.
+    pub(crate) fn launch<R: Processes<Started = P> + Clock>(
+        &mut self,
+        rt: &R,
+        command: &mut Command,
+    ) -> io::Result<()>
+        ensures name { self.new.child ≡ self.old.child }
+        ensures started { OnOk result (IsSome (stand_of self.new)) }
+        ensures told { OnOk result (self.new.pace.told ≡ 0) }
+    {
+        let (Some(out), Some(err)) = (self.out.take(), self.err.take()) else {
+            return Err(io::Error::from(ErrorKind::NotFound));
+        };
+        command.stdin(Stdio::null());
+        command.stdout(out);
+        command.stderr(err);
+        self.process = Some(command.spawn(rt)?);
+        self.pace = Pace::starting(rt);
+        Ok(())
+    }
+
+    /// How it ended, if it has. An end that was seen is told again.
+    fn status(&mut self) -> Result<Option<ExitStatus>, OsFault>
+        ensures proceeds { Proceeds (stand_of self.old) (stand_of self.new) }
+        ensures told { IfOk result (λ status. stand_of self.new ≡ Some status) }
+        ensures kept { self.new ≡ record self.old { process = self.new.process } }
+    {
+        match &mut self.process {
+            Some(process) => or_fault(process.try_wait()),
+            None => Err(OsFault),
+        }
+    }
+
+    /// Sleeps while the answer that it still runs would come too early.
+    fn keep_pace<C: Clock>(&mut self, clock: &C) -> Result<(), OsFault>
+        ensures proceeds { Proceeds (stand_of self.old) (stand_of self.new) }
+        ensures kept { self.new ≡ record self.old { process = self.new.process } }
+    {
+        for _ in 0..SLICES {
+            if !self.pace.is_early(clock) {
+                return Ok(());
+            }
+            if self.status()?.is_some() {
+                return Ok(());
+            }
+            thread::sleep(clock, Duration::from_millis(1));
+        }
+        Ok(())
+    }
+
+    /// How it ended, if it has, once the answer that it runs is due. That answer is counted.
+    pub(crate) fn poll<C: Clock>(&mut self, clock: &C) -> Result<Option<ExitStatus>, OsFault>
+        ensures name { self.new.child ≡ self.old.child }
+        ensures proceeds { Proceeds (stand_of self.old) (stand_of self.new) }
+        ensures told { IfOk result (λ status. stand_of self.new ≡ Some status) }
+        ensures counted { result ≡ Ok None → self.new.pace.told
+            ≡ min (self.old.pace.told + 1) (2 ^ 64 - 1) }
+    {
+        self.keep_pace(clock)?;
+        match self.status()? {
+            Some(status) => Ok(Some(status)),
+            None => {
+                self.pace.tell();
+                Ok(None)
+            }
+        }
+    }
+
+    /// Kills it.
+    pub(crate) fn kill(&mut self) -> Result<(), OsFault>
+        ensures name { self.new.child ≡ self.old.child }
+        ensures stands { stand_of self.new ≡ stand_of self.old }
+        ensures had { OnOk result (IsSome (stand_of self.old)) }
+        ensures ended { (status : Status) → stand_of self.old ≡ Some (Some status) → IsOk result }
+    {
+        match &mut self.process {
+            Some(process) => or_fault(process.kill()),
+            None => Err(OsFault),
+        }
+    }
+
+    /// Whether it has ended and no pause has seen that. A status that was seen is kept for the next poll.
+    pub(crate) fn has_new_end(&mut self) -> bool
+        ensures name { self.new.child ≡ self.old.child }
+        ensures proceeds { Proceeds (stand_of self.old) (stand_of self.new) }
+        ensures unseen { IsTrue result → self.old.seen ≡ false }
+        ensures seen { IsTrue result → self.new.seen ≡ true }
+        ensures ended { IsTrue result → ((status : Status)
+            × (stand_of self.new ≡ Some (Some status))) }
+    {
+        if self.seen {
+            return false;
+        }
+        match self.status() {
+            Ok(Some(_)) => {
+                self.seen = true;
+                true
+            }
+            Ok(None) | Err(_) => false,
+        }
+    }
+}

@@ -1,0 +1,196 @@
+ghost use Rattle.std.specs.Prelude.{◌≡◌, ◌==◌, ◌/◌, ◌%◌};
+ghost use Rattle.std.specs.Process.{status_bits};
+ghost use Rattle.kt_child.specs.HostAnswers.{IsPolledOf};
+
+use crate::host::command::command_of;
+use crate::host::faults::or_fault;
+use crate::host::host_child::HostChild;
+use crate::host::outputs::{create_directory, create_output};
+use crate::host::reads::read_regular;
+use crate::host::{children, removal};
+use crate::system::child::Child;
+use crate::system::env::EnvPlan;
+use crate::system::file_read::FileRead;
+use crate::system::os::Os;
+use crate::system::os_fault::OsFault;
+use crate::system::polled::Polled;
+use kt_base::{Items, Text};
+use std::fs::File;
+use std::os::unix::process::ExitStatusExt;
+use std::process::{ExitStatus, Processes};
+use std::rt::{Clock, Files};
+use std::thread;
+use std::time::{Duration, SystemTime};
+
+/// How long a pause lasts at the most, in milliseconds. The slices of `await_end` are as long.
+const PAUSE: u64 = 10;
+
+/// After so many pauses in which no child ended, a pause looks for an end no more.
+const QUIET_PAUSES: u32 = 20;
+
+/// The system itself: the processes, files and clocks of the standard library.
+///
+/// It keeps the real time of its children. A pause sleeps in slices, the first of 50 microseconds and each twice as long as
+/// the one before, up to a millisecond. It is over when a child has ended, at the latest after 10 milliseconds; where
+/// nothing has ended for a while it sleeps in one piece. A poll whose answer `running` would come too early sleeps a little
+/// first.
+#[derive(Drop)]
+pub struct HostOs<R: Processes> {
+    rt: R,
+    children: Vec<HostChild<R::Started>>,
+    /// The child whose end was told last, so that this end can be said to be its own.
+    last: Option<HostChild<R::Started>>,
+    /// The pauses since a child was last seen to end.
+    quiet: u32,
+}
+
+/// Whether a wait status tells of a core dump.
+fn has_core(status: ExitStatus) -> bool
+    ensures { result ≡ (status_bits status / 128 % 2 == 1) }
+{
+    status.into_raw().cast_unsigned() / 128 % 2 == 1
+}
+
+/// How a child ended. A status that tells neither an exit nor a signal is a fault.
+fn polled(status: ExitStatus) -> Result<Polled, OsFault>
+    ensures { IsPolledOf (status_bits status) result }
+{
+    if let Some(code) = status.code() {
+        let code = u8::try_from(code).map_err(|_| OsFault)?;
+        return Ok(Polled::Exited(code));
+    }
+    if let Some(signal) = status.signal() {
+        let signal = u8::try_from(signal).map_err(|_| OsFault)?;
+        return Ok(Polled::Signaled(signal, has_core(status)));
+    }
+    Err(OsFault)
+}
+
+impl<R: Processes + AllocGlobal + Drop> HostOs<R> {
+    ghost use Rattle.std.specs.Prelude.{◌≡◌, None};
+    ghost use Rattle.kt_child.specs.declared.system.child.Child.{Child as Name};
+    ghost use Rattle.kt_child.specs.HostStands.{stand_in};
+
+    /// The system, with no child.
+    pub fn new(rt: R) -> HostOs<R>
+        ensures { (c : Name) → stand_in result.children.items c ≡ None }
+    {
+        let children = Vec::new(rt.alloc());
+        HostOs {
+            rt,
+            children,
+            last: None,
+            quiet: 0,
+        }
+    }
+}
+
+impl<R: Processes + Files<File = File> + Clock + AllocGlobal + Drop> HostOs<R> {
+    ghost use Rattle.std.specs.Prelude.{IsSome, OnOk};
+    ghost use Rattle.kt_child.specs.HostStands.{OthersStay, stand_in};
+
+    /// Starts a program for a child of which the files were opened.
+    fn launch(
+        &mut self,
+        child: Child,
+        program: &Text,
+        words: &Items<Text>,
+        env: &EnvPlan,
+        dir: &Text,
+    ) -> Result<(), OsFault>
+        ensures started { OnOk result (IsSome (stand_in self.new.children.items child)) }
+        ensures others { OthersStay child (stand_in self.old.children.items)
+            (stand_in self.new.children.items) }
+    {
+        let mut command = command_of(self.rt.alloc(), program, words, env, dir)?;
+        or_fault(children::launch(&mut self.children, child, &self.rt, &mut command))
+    }
+}
+
+impl<R: Processes + Files<File = File> + Clock + AllocGlobal + Clone + Drop> Os for HostOs<R> {
+    // What the system does with its files, its processes and its clock is not said: how the children stand that are
+    // kept here is, and that what is told of them and of a file is what the library answered.
+    ghost use Rattle.kt_child.specs.HostStands.{IsLastEnd, stand_in};
+    ghost use Rattle.kt_child.specs.HostAnswers.{HostLeads};
+
+    ghost leads = { λ old call new. HostLeads (stand_in old.children.items) call
+        (stand_in new.children.items) (IsLastEnd new.last) };
+
+    fn make_dir(&mut self, path: &Text) -> Result<(), OsFault> {
+        or_fault(create_directory(&self.rt, path.as_str()))
+    }
+
+    fn remove_tree(&mut self, path: &Text) -> Result<(), OsFault> {
+        removal::remove_tree(&self.rt, path)
+    }
+
+    fn open_output(&mut self, child: Child, path: &Text) -> Result<(), OsFault> {
+        match create_output(&self.rt, path.as_str()) {
+            Ok(file) => children::keep_output(&mut self.children, child, file),
+            Err(_) => {
+                children::forget(&mut self.children, child);
+                Err(OsFault)
+            }
+        }
+    }
+
+    fn spawn(
+        &mut self,
+        child: Child,
+        program: &Text,
+        words: &Items<Text>,
+        env: &EnvPlan,
+        dir: &Text,
+    ) -> Result<(), OsFault> {
+        match self.launch(child, program, words, env, dir) {
+            Ok(()) => Ok(()),
+            Err(fault) => {
+                children::forget(&mut self.children, child);
+                Err(fault)
+            }
+        }
+    }
+
+    fn poll(&mut self, child: Child) -> Result<Polled, OsFault> {
+        match children::poll(&mut self.children, child, &self.rt) {
+            Err(fault) => Err(fault),
+            Ok(None) => Ok(Polled::Running),
+            Ok(Some(status)) => {
+                self.last = children::take_out(&mut self.children, child);
+                self.quiet = 0;
+                polled(status)
+            }
+        }
+    }
+
+    fn kill(&mut self, child: Child) -> Result<(), OsFault> {
+        children::kill(&mut self.children, child)
+    }
+
+    fn pause(&mut self) -> Result<(), OsFault> {
+        if self.quiet >= QUIET_PAUSES {
+            thread::sleep(&self.rt, Duration::from_millis(PAUSE));
+            return Ok(());
+        }
+        let quiet = self.quiet + 1;
+        let ended = children::await_end(&mut self.children, &self.rt);
+        self.quiet = if ended { 0 } else { quiet };
+        Ok(())
+    }
+
+    fn read_file(&mut self, path: &Text, limit: u64) -> Result<FileRead, OsFault> {
+        read_regular(&self.rt, path, 0, limit)
+    }
+
+    fn read_part(&mut self, path: &Text, from: u64, limit: u64) -> Result<FileRead, OsFault> {
+        read_regular(&self.rt, path, from, limit)
+    }
+
+    fn now(&mut self) -> Result<u64, OsFault> {
+        let now = or_fault(SystemTime::now(&self.rt))?;
+        match now.duration_since(SystemTime::UNIX_EPOCH) {
+            Ok(since) => u64::try_from(since.as_millis()).map_err(|_| OsFault),
+            Err(_) => Err(OsFault),
+        }
+    }
+}

@@ -1,0 +1,47 @@
+use std::fs::{DirBuilder, OpenFile, OpenOptions, Permissions};
+use std::io::ErrorKind;
+use std::os::unix::fs::{DirBuilderExt, OpenOptionsExt, PermissionsExt};
+use std::rt::Files;
+use std::{fs, io};
+
+/// The rights to a directory of the driver, which are its owner's alone (this profile).
+const DIRECTORY_MODE: u32 = 0o700;
+
+/// The rights to the file of an output (this profile).
+const OUTPUT_MODE: u32 = 0o600;
+
+/// Makes a directory for its owner alone, whatever the umask is.
+pub(crate) fn create_directory<R: Files>(rt: &R, path: &str) -> io::Result<()> {
+    DirBuilder::new().mode(DIRECTORY_MODE).create(rt, path)?;
+    // The umask may have taken rights of the owner.
+    match fs::set_permissions(rt, path, Permissions::from_mode(DIRECTORY_MODE)) {
+        Ok(()) => Ok(()),
+        Err(error) => {
+            let _ = fs::remove_dir(rt, path);
+            Err(error)
+        }
+    }
+}
+
+/// Whether a path lies in a directory, and not behind a link in the place of one.
+fn lies_in_directory<R: Files>(rt: &R, path: &str) -> io::Result<bool> {
+    match path.rsplit_once('/') {
+        Some((parent, _)) => Ok(fs::symlink_metadata(rt, parent)?.is_dir()),
+        None => Ok(false),
+    }
+}
+
+/// Makes a new file for its owner alone. Where anything is there already, or where its directory was exchanged for a link,
+/// it is a fault, so that nothing is written through a link that a test has planted.
+pub(crate) fn create_output<R: Files>(rt: &R, path: &str) -> io::Result<R::File> {
+    if !lies_in_directory(rt, path)? {
+        return Err(io::Error::from(ErrorKind::InvalidInput));
+    }
+    let file = OpenOptions::new()
+        .write(true)
+        .create_new(true)
+        .mode(OUTPUT_MODE)
+        .open(rt, path)?;
+    file.set_permissions(Permissions::from_mode(OUTPUT_MODE))?;
+    Ok(file)
+}

@@ -1,0 +1,110 @@
+ghost use Rattle.std.specs.Prelude.{◌≡◌, [], ◌∷◌, ◌++◌, map, IfOk, OnOk};
+ghost use Rattle.std.specs.Str.{chars};
+ghost use Rattle.kt_child.specs.ChildPlan.{common_variables, env_of, own_variables, removed_names, test_variable, variable};
+
+use crate::planning::spelling::{joined, push_text};
+use crate::system::env::EnvPlan;
+use kt_base::{Interface, Items, NoMemory, Text, Variable, Variables};
+use std::alloc::Global;
+
+/// The names of the variables that no child gets: those that choose a language.
+fn removed(alloc: Global) -> Result<Items<Text>, NoMemory>
+    ensures { IfOk result (λ names. names ≡ removed_names) }
+{
+    let mut names = Items::new(alloc);
+    push_text(alloc, &mut names, "LANG")?;
+    push_text(alloc, &mut names, "LC_ALL")?;
+    push_text(alloc, &mut names, "LC_COLLATE")?;
+    push_text(alloc, &mut names, "LC_CTYPE")?;
+    push_text(alloc, &mut names, "LC_MESSAGES")?;
+    push_text(alloc, &mut names, "LC_MONETARY")?;
+    push_text(alloc, &mut names, "LC_NUMERIC")?;
+    push_text(alloc, &mut names, "LC_TIME")?;
+    Ok(names)
+}
+
+/// Appends a variable.
+fn push_variable(
+    alloc: Global,
+    set: &mut Variables,
+    name: &str,
+    value: &str,
+) -> Result<(), NoMemory>
+    ensures { OnOk result (set.new ≡ set.old ++ variable (chars name.now) (chars value.now) ∷ []) }
+{
+    let name = Text::from_str(alloc, name)?;
+    let value = Text::from_str(alloc, value)?;
+    set.push(Variable { name, value })?;
+    Ok(())
+}
+
+/// A variable of the suite, as a TAP or plain program sees it.
+fn for_test(alloc: Global, variable: &Variable) -> Result<Variable, NoMemory>
+    ensures { IfOk result (λ v. v ≡ test_variable variable.now) }
+{
+    let name = joined(alloc, "TEST_ENV_", &variable.name)?;
+    let value = variable.value.copy()?;
+    Ok(Variable { name, value })
+}
+
+/// Appends each variable of the suite so.
+fn push_test_variables(
+    alloc: Global,
+    set: &mut Variables,
+    variables: &Variables,
+) -> Result<(), NoMemory>
+    ensures { OnOk result (set.new ≡ set.old ++ map test_variable variables.now) }
+{
+    for variable in variables.as_slice() {
+        let passed = for_test(alloc, variable)?;
+        set.push(passed)?;
+    }
+    Ok(())
+}
+
+/// Appends the variables that every child gets.
+fn common(alloc: Global, work: &Text) -> Result<Variables, NoMemory>
+    ensures { IfOk result (λ set. set ≡ common_variables work.now) }
+{
+    let mut set = Variables::new(alloc);
+    push_variable(alloc, &mut set, "TZ", "UTC")?;
+    push_variable(alloc, &mut set, "HOME", work.as_str())?;
+    push_variable(alloc, &mut set, "TMPDIR", work.as_str())?;
+    Ok(set)
+}
+
+/// Appends the variables that a child of an interface gets beside those.
+fn push_own(
+    alloc: Global,
+    set: &mut Variables,
+    interface: Interface,
+    variables: &Variables,
+) -> Result<(), NoMemory>
+    ensures { OnOk result (set.new ≡ set.old ++ own_variables interface variables.now) }
+{
+    match interface {
+        Interface::Atf => push_variable(
+            alloc,
+            set,
+            "__RUNNING_INSIDE_ATF_RUN",
+            "internal-yes-value",
+        ),
+        Interface::Tap | Interface::Plain => push_test_variables(alloc, set, variables),
+    }
+}
+
+/// The environment of a child (this profile): the runner's, without the variables that choose a language, and with
+/// those that are set. `work` is the absolute path of its work directory.
+pub fn env_plan(
+    alloc: Global,
+    interface: Interface,
+    variables: &Variables,
+    work: &Text,
+) -> Result<EnvPlan, NoMemory>
+    ensures { IfOk result (λ plan. plan ≡ env_of interface variables.now work.now) }
+{
+    let removed = removed(alloc)?;
+    let mut set = common(alloc, work)?;
+    push_own(alloc, &mut set, interface, variables)?;
+    Ok(EnvPlan { removed, set })
+}

@@ -1,0 +1,12 @@
+//! What a child is given: its paths, words and environment, and its case.
+
+pub(crate) mod case;
+pub(crate) mod environment;
+pub(crate) mod jobs;
+pub(crate) mod locations;
+pub(crate) mod paths;
+pub(crate) mod spawning;
+pub(crate) mod spelling;
+pub(crate) mod want;
+pub(crate) mod words;
+pub(crate) mod workdir;

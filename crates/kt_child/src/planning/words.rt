@@ -1,0 +1,106 @@
+ghost use Rattle.std.specs.Prelude.{◌≡◌, [], ◌∷◌, ◌++◌, map, codes, IfOk, OnOk};
+ghost use Rattle.kt_child.specs.ChildPlan.{variable_word, words_of};
+
+use crate::planning::paths::Paths;
+use crate::planning::spelling::{joined, push_text};
+use crate::planning::want::Want;
+use kt_base::{Interface, Items, NoMemory, Text, Variable, Variables};
+use std::alloc::Global;
+
+/// The word that hands a variable to an ATF program.
+fn word_of_variable(alloc: Global, variable: &Variable) -> Result<Text, NoMemory>
+    ensures { IfOk result (λ word. word ≡ variable_word variable.now) }
+{
+    let mut word = joined(alloc, "-v", &variable.name)?;
+    word.push_str("=")?;
+    word.push_str(variable.value.as_str())?;
+    Ok(word)
+}
+
+/// Appends the word of each variable.
+fn push_variable_words(
+    alloc: Global,
+    words: &mut Items<Text>,
+    variables: &Variables,
+) -> Result<(), NoMemory>
+    ensures { OnOk result (words.new ≡ words.old ++ map variable_word variables.now) }
+{
+    for variable in variables.as_slice() {
+        let word = word_of_variable(alloc, variable)?;
+        words.push(word)?;
+    }
+    Ok(())
+}
+
+fn list_words(alloc: Global, variables: &Variables) -> Result<Items<Text>, NoMemory>
+    ensures { IfOk result (λ words. words ≡ map variable_word variables.now ++ codes "-l" ∷ []) }
+{
+    let mut words = Items::new(alloc);
+    push_variable_words(alloc, &mut words, variables)?;
+    push_text(alloc, &mut words, "-l")?;
+    Ok(words)
+}
+
+fn body_words(
+    alloc: Global,
+    result_file: &Text,
+    source: &Text,
+    variables: &Variables,
+    case_name: &Text,
+) -> Result<Items<Text>, NoMemory>
+    ensures { IfOk result (λ words. words ≡ words_of Interface.Atf Want.Body result_file.now
+        source.now variables.now case_name.now) }
+{
+    let result_word = joined(alloc, "-r", result_file)?;
+    let source_word = joined(alloc, "-s", source)?;
+    let case_word = case_name.copy()?;
+    let mut words = Items::new(alloc);
+    words.push(result_word)?;
+    words.push(source_word)?;
+    push_variable_words(alloc, &mut words, variables)?;
+    words.push(case_word)?;
+    Ok(words)
+}
+
+fn cleanup_words(
+    alloc: Global,
+    source: &Text,
+    variables: &Variables,
+    case_name: &Text,
+) -> Result<Items<Text>, NoMemory>
+    ensures { IfOk result (λ words. words ≡ ((codes "-s" ++ source.now) ∷ [])
+        ++ map variable_word variables.now ++ (case_name.now ++ codes ":cleanup") ∷ []) }
+{
+    let source_word = joined(alloc, "-s", source)?;
+    let mut case_word = case_name.copy()?;
+    case_word.push_str(":cleanup")?;
+    let mut words = Items::new(alloc);
+    words.push(source_word)?;
+    push_variable_words(alloc, &mut words, variables)?;
+    words.push(case_word)?;
+    Ok(words)
+}
+
+/// The words that a program is started with, behind its path: those of atf-test-program(1) for an ATF program, none
+/// for others. `source` is the absolute directory of the program.
+pub fn argv_plan(
+    alloc: Global,
+    interface: Interface,
+    want: Want,
+    paths: &Paths,
+    source: &Text,
+    variables: &Variables,
+    case_name: &Text,
+) -> Result<Items<Text>, NoMemory>
+    ensures { IfOk result (λ words. words ≡ words_of interface want paths.now.result source.now
+        variables.now case_name.now) }
+{
+    match interface {
+        Interface::Tap | Interface::Plain => Ok(Items::new(alloc)),
+        Interface::Atf => match want {
+            Want::List => list_words(alloc, variables),
+            Want::Body => body_words(alloc, &paths.result, source, variables, case_name),
+            Want::Cleanup => cleanup_words(alloc, source, variables, case_name),
+        },
+    }
+}

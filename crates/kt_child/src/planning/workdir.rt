@@ -1,0 +1,51 @@
+ghost use Rattle.std.specs.Prelude.{◌≡◌, IfOk};
+ghost use Rattle.std.specs.Str.{chars};
+ghost use Rattle.kt_child.specs.ChildPlan.{attempt_dir, below, paths_of};
+
+use crate::planning::paths::Paths;
+use crate::planning::spelling::number_text;
+use kt_base::{NoMemory, Text};
+use std::alloc::Global;
+
+/// The directory of an attempt.
+pub(crate) fn attempt_path(alloc: Global, root: &Text, number: u64) -> Result<Text, NoMemory>
+    ensures { IfOk result (λ path. path ≡ attempt_dir root.now number) }
+{
+    let digits = number_text(alloc, number)?;
+    let mut path = root.copy()?;
+    path.push('/')?;
+    path.push_str(digits.as_str())?;
+    Ok(path)
+}
+
+/// A name in the directory of an attempt.
+fn path_below(alloc: Global, root: &Text, number: u64, name: &str) -> Result<Text, NoMemory>
+    ensures { IfOk result (λ path. path ≡ below root.now number (chars name.now)) }
+{
+    let mut path = attempt_path(alloc, root, number)?;
+    path.push('/')?;
+    path.push_str(name)?;
+    Ok(path)
+}
+
+/// The paths of an attempt below the root directory of a driver (this profile).
+pub fn workdir_plan(alloc: Global, root: &Text, number: u64) -> Result<Paths, NoMemory>
+    ensures { IfOk result (λ paths. paths ≡ paths_of root.now number) }
+{
+    let dir = attempt_path(alloc, root, number)?;
+    let work = path_below(alloc, root, number, "work")?;
+    let result_file = path_below(alloc, root, number, "result")?;
+    let out = path_below(alloc, root, number, "out")?;
+    let err = path_below(alloc, root, number, "err")?;
+    let cleanup_out = path_below(alloc, root, number, "cleanup.out")?;
+    let cleanup_err = path_below(alloc, root, number, "cleanup.err")?;
+    Ok(Paths {
+        dir,
+        work,
+        result: result_file,
+        out,
+        err,
+        cleanup_out,
+        cleanup_err,
+    })
+}

@@ -1,0 +1,53 @@
+ghost use Rattle.std.specs.Prelude.{◌≡◌, ℕ, ◌<◌, List, All, IfSome, length, None};
+ghost use Rattle.kt_child.specs.Calls.{Call, Chain};
+ghost use Rattle.kt_child.specs.Turns.{IsOn, PolledAll, PolledUntil, WaitedUntil, advanced_below, after_turns};
+
+use crate::polling::over::Over;
+use crate::polling::polls::poll_once;
+use crate::polling::turn::Turn;
+use crate::polling::watched::Watched;
+use crate::system::os::Os;
+
+/// Polls the children in order, up to the first that is over.
+pub(crate) fn turn<O: Os>(os: &mut O, children: &mut [Watched]) -> Option<Over>
+    requires { All IsOn children.old }
+    ensures none { result ≡ None → (calls : List Call) × Chain O.leads os.old calls os.new
+        × PolledAll children.old calls }
+    ensures went_on { result ≡ None → children.new
+        ≡ advanced_below (length children.old) children.old }
+    ensures over { IfSome result (λ over. (calls : List Call) × Chain O.leads os.old calls os.new
+        × PolledUntil children.old over.place calls over.outcome) }
+    ensures before { IfSome result (λ over. children.new ≡ advanced_below over.place children.old) }
+    ensures on { All IsOn children.new }
+    ensures place { IfSome result (λ over. over.place < length children.old) }
+{
+    for i in 0..children.len() {
+        let watched = children[i];
+        let mut watch = watched.watch;
+        match poll_once(os, watched.child, watched.limit, &mut watch) {
+            Turn::Ended(outcome) => return Some(Over { place: i, outcome }),
+            Turn::More => children[i].watch = watch,
+        }
+    }
+    None
+}
+
+/// Polls turn by turn, with a pause after each in which no child is over, up to the first child that is over.
+pub(crate) fn wait<O: Os>(os: &mut O, children: &mut [Watched]) -> Over
+    requires some { 0 < length children.old }
+    requires on { All IsOn children.old }
+    ensures waited { (turns : ℕ) × (calls : List Call) × Chain O.leads os.old calls os.new
+        × WaitedUntil turns children.old calls result.place result.outcome
+        × (children.new ≡ advanced_below result.place (after_turns turns children.old)) }
+    ensures on { All IsOn children.new }
+    ensures place { result.place < length children.old }
+{
+    'turns: loop {
+        match turn(os, children) {
+            Some(over) => return over,
+            None => {
+                let _ = os.pause();
+            }
+        }
+    }
+}
