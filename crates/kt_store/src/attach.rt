@@ -18,15 +18,25 @@ use sqlite::{Alter, Connection, Row, Transaction};
 /// Makes the tables, inside a transaction.
 pub(crate) fn make<S: Alter>(tx: &mut Transaction<'_, S>) -> Result<(), StoreFault>
     ensures same_reference { tx.new.conn.ghost_name ≡ tx.old.conn.ghost_name }
-    ensures made { HasCleanDisk (state S.Store tx.new.conn.now) → IsTrue (state S.Store tx.old.conn.now).in_transaction → (IsTrue (state S.Store tx.old.conn.now).is_open → (state S.Store tx.old.conn.now).now.schema ≡ no_schema)
-        → OnOk result (Tables (state S.Store tx.new.conn.now).now [] × IsDatabase (state S.Store tx.new.conn.now).now × ((state S.Store tx.new.conn.now).committed ≡ (state S.Store tx.old.conn.now).committed) × IsTrue (state S.Store tx.new.conn.now).in_transaction) }
-    ensures keeps { HasCleanDisk (state S.Store tx.new.conn.now) → KeepsCommit (state S.Store tx.old.conn.now) (state S.Store tx.new.conn.now) }
-    ensures runs { HasCleanDisk (state S.Store tx.new.conn.now) → IsTrue (state S.Store tx.old.conn.now).in_transaction
+    ensures made { HasCleanDisk (state S.Store tx.new.conn.now)
+        → IsTrue (state S.Store tx.old.conn.now).in_transaction
+        → (IsTrue (state S.Store tx.old.conn.now).is_open
+        → (state S.Store tx.old.conn.now).now.schema ≡ no_schema)
+        → OnOk result (Tables (state S.Store tx.new.conn.now).now []
+        × IsDatabase (state S.Store tx.new.conn.now).now
+        × ((state S.Store tx.new.conn.now).committed ≡ (state S.Store tx.old.conn.now).committed)
+        × IsTrue (state S.Store tx.new.conn.now).in_transaction) }
+    ensures keeps { HasCleanDisk (state S.Store tx.new.conn.now)
+        → KeepsCommit (state S.Store tx.old.conn.now) (state S.Store tx.new.conn.now) }
+    ensures runs { HasCleanDisk (state S.Store tx.new.conn.now)
+        → IsTrue (state S.Store tx.old.conn.now).in_transaction
         → OnOk result (RunInTurn S.Store make_statements tx.old.conn.now tx.new.conn.now) }
-    ensures cause { HasCleanDisk (state S.Store tx.new.conn.now) → IsTrue (state S.Store tx.old.conn.now).in_transaction
+    ensures cause { HasCleanDisk (state S.Store tx.new.conn.now)
+        → IsTrue (state S.Store tx.old.conn.now).in_transaction
         → IfErr result (IsStopped S.Store make_statements tx.old.conn.now tx.new.conn.now) }
     ensures failed { IfErr result IsStoreFault }
-    ensures survives { Survives (state S.Store tx.old.conn.now) (state S.Store tx.new.conn.now) (λ _. ⊥) }
+    ensures survives { Survives (state S.Store tx.old.conn.now) (state S.Store tx.new.conn.now)
+        (λ _. ⊥) }
 {
     step(
         tx,
@@ -59,14 +69,21 @@ pub(crate) fn make<S: Alter>(tx: &mut Transaction<'_, S>) -> Result<(), StoreFau
 /// Makes the tables in an empty database, in one commit.
 pub(crate) fn create<S: Alter>(conn: &mut Connection<S>) -> Result<(), StoreFault>
     requires { conn.old.in_transaction ≡ false }
-    ensures created { IsEmpty (state S.Store conn.old) → OnOk result (StandsFor (state S.Store conn.new) []) }
-    ensures kept { IsEmpty (state S.Store conn.old) → OnErr result (IsEmpty (state S.Store conn.new)) }
-    ensures earlier { HasCleanDisk (state S.Store conn.new) → HasCleanDisk (state S.Store conn.old) }
+    ensures created { IsEmpty (state S.Store conn.old)
+        → OnOk result (StandsFor (state S.Store conn.new) []) }
+    ensures kept { IsEmpty (state S.Store conn.old)
+        → OnErr result (IsEmpty (state S.Store conn.new)) }
+    ensures earlier { HasCleanDisk (state S.Store conn.new)
+        → HasCleanDisk (state S.Store conn.old) }
     ensures failed { IfErr result IsStoreFault }
-    ensures cause { IsEmpty (state S.Store conn.old) → IsTrue (state S.Store conn.old).is_open → HasCleanDisk (state S.Store conn.new)
-        → IfErr result (IsCausedInside S.Store (HasNoTable S.Store) attach_statements make_statements conn.new) }
-    ensures crash { IsEmpty (state S.Store conn.old) → Survives (state S.Store conn.old) (state S.Store conn.new) (Keeps []) }
-    ensures durable { IsEmpty (state S.Store conn.old) → OnOk result (Leaves (state S.Store conn.new) (Keeps [])) }
+    ensures cause { IsEmpty (state S.Store conn.old) → IsTrue (state S.Store conn.old).is_open
+        → HasCleanDisk (state S.Store conn.new)
+        → IfErr result (IsCausedInside S.Store
+        (HasNoTable S.Store) attach_statements make_statements conn.new) }
+    ensures crash { IsEmpty (state S.Store conn.old)
+        → Survives (state S.Store conn.old) (state S.Store conn.new) (Keeps []) }
+    ensures durable { IsEmpty (state S.Store conn.old)
+        → OnOk result (Leaves (state S.Store conn.new) (Keeps [])) }
 {
     let mut tx = conn.transaction();
     make(&mut tx)?;
@@ -77,11 +94,15 @@ pub(crate) fn create<S: Alter>(conn: &mut Connection<S>) -> Result<(), StoreFaul
 /// Asks whether the connection is open, and its tables those of a statement.
 pub(crate) fn probe<S: Alter>(conn: &mut Connection<S>, sql: &str) -> Result<(), StoreFault>
     ensures mode { conn.old.in_transaction ≡ false → conn.new.in_transaction ≡ false }
-    ensures same { HasCleanDisk (state S.Store conn.new) → OnOk result (IsUnchanged (state S.Store conn.old) (state S.Store conn.new)) }
-    ensures rests { HasCleanDisk (state S.Store conn.new) → OnErr result (Rests (state S.Store conn.old) (state S.Store conn.new)) }
+    ensures same { HasCleanDisk (state S.Store conn.new)
+        → OnOk result (IsUnchanged (state S.Store conn.old) (state S.Store conn.new)) }
+    ensures rests { HasCleanDisk (state S.Store conn.new)
+        → OnErr result (Rests (state S.Store conn.old) (state S.Store conn.new)) }
     ensures failed { IfErr result IsStoreFault }
-    ensures cause { HasCleanDisk (state S.Store conn.new) → IfErr result (MayFail S.Store sql.now [] conn.old conn.new) }
-    ensures understood { HasCleanDisk (state S.Store conn.new) → OnOk result (IsUnderstood (state S.Store conn.old) sql.now) }
+    ensures cause { HasCleanDisk (state S.Store conn.new)
+        → IfErr result (MayFail S.Store sql.now [] conn.old conn.new) }
+    ensures understood { HasCleanDisk (state S.Store conn.new)
+        → OnOk result (IsUnderstood (state S.Store conn.old) sql.now) }
     ensures survives { Survives (state S.Store conn.old) (state S.Store conn.new) (λ _. ⊥) }
 {
     let statement = conn.prepare(sql)?;
@@ -99,14 +120,17 @@ pub(crate) fn is_blank<S: Alter>(conn: &Connection<S>) -> bool
 
 /// A theorem: a crash leaves the runs that an open connection stands for.
 pub(crate) fn leaves_its_runs<S: Alter>(conn: &Connection<S>)
-    ensures { (runs : _) → StandsFor (state S.Store conn.now) runs → IsTrue (state S.Store conn.now).is_open → Leaves (state S.Store conn.now) (Keeps runs) }
+    ensures { (runs : _) → StandsFor (state S.Store conn.now) runs
+        → IsTrue (state S.Store conn.now).is_open → Leaves (state S.Store conn.now) (Keeps runs) }
 {
     let _ = conn.schema();
 }
 
 /// A theorem: a crash leaves the runs that an open connection of schema 1 stands for, in schema 1.
 pub(crate) fn leaves_its_old_runs<S: Alter>(conn: &Connection<S>)
-    ensures { (runs : _) → StandsInOld (state S.Store conn.now) runs → IsTrue (state S.Store conn.now).is_open → Leaves (state S.Store conn.now) (KeepsOld runs) }
+    ensures { (runs : _) → StandsInOld (state S.Store conn.now) runs
+        → IsTrue (state S.Store conn.now).is_open
+        → Leaves (state S.Store conn.now) (KeepsOld runs) }
 {
     let _ = conn.schema();
 }
@@ -114,7 +138,8 @@ pub(crate) fn leaves_its_old_runs<S: Alter>(conn: &Connection<S>)
 /// A number of a row, which may be negative.
 pub(crate) fn signed_in(row: &Row, at: usize) -> Result<i64, StoreFault>
     ensures number { IfOk result (λ n. column row.now at ≡ Int n) }
-    ensures read { (n : ℤ) → at < length row.now → column row.now at ≡ Int n → IfErr result IsNoMemory }
+    ensures read { (n : ℤ) → at < length row.now → column row.now at ≡ Int n
+        → IfErr result IsNoMemory }
     ensures failed { IfErr result IsStoreFault }
 {
     let number = row.get::<i64>(at)?;
@@ -124,13 +149,23 @@ pub(crate) fn signed_in(row: &Row, at: usize) -> Result<i64, StoreFault>
 /// The number of the schema.
 pub(crate) fn schema_number<S: Alter>(conn: &mut Connection<S>) -> Result<i64, StoreFault>
     ensures mode { conn.old.in_transaction ≡ false → conn.new.in_transaction ≡ false }
-    ensures earlier { HasCleanDisk (state S.Store conn.new) → HasCleanDisk (state S.Store conn.old) }
-    ensures same { (n : ℤ) → SaysSchema n (state S.Store conn.old) → HasCleanDisk (state S.Store conn.new) → OnOk result (IsUnchanged (state S.Store conn.old) (state S.Store conn.new)) }
-    ensures rests { (n : ℤ) → SaysSchema n (state S.Store conn.old) → HasCleanDisk (state S.Store conn.new) → Rests (state S.Store conn.old) (state S.Store conn.new) }
-    ensures crash { (n : ℤ) → SaysSchema n (state S.Store conn.old) → Survives (state S.Store conn.old) (state S.Store conn.new) (λ _. ⊥) }
-    ensures number { (n : ℤ) → SaysSchema n (state S.Store conn.old) → HasCleanDisk (state S.Store conn.new) → IfOk result (λ number. number ≡ n) }
-    ensures cause { (n : ℤ) → SaysSchema n (state S.Store conn.old) → HasCleanDisk (state S.Store conn.new) → IfErr result (IsCaused S.Store ((meta_text, []) ∷ []) conn.new) }
-    ensures taken { (n : ℤ) → SaysSchema n (state S.Store conn.old) → HasCleanDisk (state S.Store conn.new) → IfErr result IsStoreFault }
+    ensures earlier { HasCleanDisk (state S.Store conn.new)
+        → HasCleanDisk (state S.Store conn.old) }
+    ensures same { (n : ℤ) → SaysSchema n (state S.Store conn.old)
+        → HasCleanDisk (state S.Store conn.new)
+        → OnOk result (IsUnchanged (state S.Store conn.old) (state S.Store conn.new)) }
+    ensures rests { (n : ℤ) → SaysSchema n (state S.Store conn.old)
+        → HasCleanDisk (state S.Store conn.new)
+        → Rests (state S.Store conn.old) (state S.Store conn.new) }
+    ensures crash { (n : ℤ) → SaysSchema n (state S.Store conn.old)
+        → Survives (state S.Store conn.old) (state S.Store conn.new) (λ _. ⊥) }
+    ensures number { (n : ℤ) → SaysSchema n (state S.Store conn.old)
+        → HasCleanDisk (state S.Store conn.new) → IfOk result (λ number. number ≡ n) }
+    ensures cause { (n : ℤ) → SaysSchema n (state S.Store conn.old)
+        → HasCleanDisk (state S.Store conn.new)
+        → IfErr result (IsCaused S.Store ((meta_text, []) ∷ []) conn.new) }
+    ensures taken { (n : ℤ) → SaysSchema n (state S.Store conn.old)
+        → HasCleanDisk (state S.Store conn.new) → IfErr result IsStoreFault }
     ensures refused { IfErr result (λ e. IsStoreFault e ⊎ (e ≡ StoreFault.UnknownSchema)) }
 {
     let rows = ask(conn, "SELECT value FROM meta WHERE name = 'schema'", &[])?;
@@ -144,13 +179,24 @@ pub(crate) fn schema_number<S: Alter>(conn: &mut Connection<S>) -> Result<i64, S
 /// Whether the number is that of schema 1. Any number but 1 and 2 is refused.
 pub(crate) fn says_old<S: Alter>(conn: &mut Connection<S>) -> Result<bool, StoreFault>
     ensures mode { conn.old.in_transaction ≡ false → conn.new.in_transaction ≡ false }
-    ensures earlier { HasCleanDisk (state S.Store conn.new) → HasCleanDisk (state S.Store conn.old) }
-    ensures same { (n : ℤ) → SaysSchema n (state S.Store conn.old) → HasCleanDisk (state S.Store conn.new) → OnOk result (IsUnchanged (state S.Store conn.old) (state S.Store conn.new)) }
-    ensures rests { (n : ℤ) → SaysSchema n (state S.Store conn.old) → HasCleanDisk (state S.Store conn.new) → Rests (state S.Store conn.old) (state S.Store conn.new) }
-    ensures crash { (n : ℤ) → SaysSchema n (state S.Store conn.old) → Survives (state S.Store conn.old) (state S.Store conn.new) (λ _. ⊥) }
-    ensures number { (n : ℤ) → SaysSchema n (state S.Store conn.old) → HasCleanDisk (state S.Store conn.new) → IfOk result (λ old. (old ≡ true → n ≡ pos 1) × (old ≡ false → n ≡ pos 2)) }
-    ensures cause { (n : ℤ) → SaysSchema n (state S.Store conn.old) → HasCleanDisk (state S.Store conn.new) → IfErr result (IsCaused S.Store ((meta_text, []) ∷ []) conn.new) }
-    ensures taken { (n : ℤ) → SaysSchema n (state S.Store conn.old) → (n ≡ pos 1) ⊎ (n ≡ pos 2) → HasCleanDisk (state S.Store conn.new) → IfErr result IsStoreFault }
+    ensures earlier { HasCleanDisk (state S.Store conn.new)
+        → HasCleanDisk (state S.Store conn.old) }
+    ensures same { (n : ℤ) → SaysSchema n (state S.Store conn.old)
+        → HasCleanDisk (state S.Store conn.new)
+        → OnOk result (IsUnchanged (state S.Store conn.old) (state S.Store conn.new)) }
+    ensures rests { (n : ℤ) → SaysSchema n (state S.Store conn.old)
+        → HasCleanDisk (state S.Store conn.new)
+        → Rests (state S.Store conn.old) (state S.Store conn.new) }
+    ensures crash { (n : ℤ) → SaysSchema n (state S.Store conn.old)
+        → Survives (state S.Store conn.old) (state S.Store conn.new) (λ _. ⊥) }
+    ensures number { (n : ℤ) → SaysSchema n (state S.Store conn.old)
+        → HasCleanDisk (state S.Store conn.new)
+        → IfOk result (λ old. (old ≡ true → n ≡ pos 1) × (old ≡ false → n ≡ pos 2)) }
+    ensures cause { (n : ℤ) → SaysSchema n (state S.Store conn.old)
+        → HasCleanDisk (state S.Store conn.new)
+        → IfErr result (IsCaused S.Store ((meta_text, []) ∷ []) conn.new) }
+    ensures taken { (n : ℤ) → SaysSchema n (state S.Store conn.old) → (n ≡ pos 1) ⊎ (n ≡ pos 2)
+        → HasCleanDisk (state S.Store conn.new) → IfErr result IsStoreFault }
     ensures refused { IfErr result (λ e. IsStoreFault e ⊎ (e ≡ StoreFault.UnknownSchema)) }
 {
     let number = schema_number(conn)?;
@@ -167,11 +213,17 @@ pub(crate) fn says_old<S: Alter>(conn: &mut Connection<S>) -> Result<bool, Store
 /// for pairs.
 pub(crate) fn find_tables<S: Alter>(conn: &mut Connection<S>, old: bool) -> Result<(), StoreFault>
     ensures mode { conn.old.in_transaction ≡ false → conn.new.in_transaction ≡ false }
-    ensures same { HasCleanDisk (state S.Store conn.new) → OnOk result (IsUnchanged (state S.Store conn.old) (state S.Store conn.new)) }
-    ensures rests { HasCleanDisk (state S.Store conn.new) → OnErr result (Rests (state S.Store conn.old) (state S.Store conn.new)) }
+    ensures same { HasCleanDisk (state S.Store conn.new)
+        → OnOk result (IsUnchanged (state S.Store conn.old) (state S.Store conn.new)) }
+    ensures rests { HasCleanDisk (state S.Store conn.new)
+        → OnErr result (Rests (state S.Store conn.old) (state S.Store conn.new)) }
     ensures failed { IfErr result IsStoreFault }
-    ensures cause { HasCleanDisk (state S.Store conn.new) → IfErr result (IsCaused S.Store table_statements conn.new) }
-    ensures understood { HasCleanDisk (state S.Store conn.new) → OnOk result (IsUnderstood (state S.Store conn.old) runs_text × IsUnderstood (state S.Store conn.old) entries_text × (old ≡ false → IsUnderstood (state S.Store conn.old) pairs_text)) }
+    ensures cause { HasCleanDisk (state S.Store conn.new)
+        → IfErr result (IsCaused S.Store table_statements conn.new) }
+    ensures understood { HasCleanDisk (state S.Store conn.new)
+        → OnOk result (IsUnderstood (state S.Store conn.old) runs_text
+        × IsUnderstood (state S.Store conn.old) entries_text
+        × (old ≡ false → IsUnderstood (state S.Store conn.old) pairs_text)) }
     ensures survives { Survives (state S.Store conn.old) (state S.Store conn.new) (λ _. ⊥) }
 {
     probe(
@@ -195,14 +247,27 @@ pub(crate) fn find_tables<S: Alter>(conn: &mut Connection<S>, old: bool) -> Resu
 /// Whether the tables are those of schema 1. Any number but 1 and 2 is refused, and so are tables that can't be read.
 pub(crate) fn is_old<S: Alter>(conn: &mut Connection<S>) -> Result<bool, StoreFault>
     ensures mode { conn.old.in_transaction ≡ false → conn.new.in_transaction ≡ false }
-    ensures earlier { HasCleanDisk (state S.Store conn.new) → HasCleanDisk (state S.Store conn.old) }
-    ensures same { (n : ℤ) → SaysSchema n (state S.Store conn.old) → HasCleanDisk (state S.Store conn.new) → OnOk result (IsUnchanged (state S.Store conn.old) (state S.Store conn.new)) }
-    ensures rests { (n : ℤ) → SaysSchema n (state S.Store conn.old) → HasCleanDisk (state S.Store conn.new) → Rests (state S.Store conn.old) (state S.Store conn.new) }
-    ensures crash { (n : ℤ) → SaysSchema n (state S.Store conn.old) → Survives (state S.Store conn.old) (state S.Store conn.new) (λ _. ⊥) }
-    ensures number { (n : ℤ) → SaysSchema n (state S.Store conn.old) → HasCleanDisk (state S.Store conn.new) → IfOk result (λ old. (old ≡ true → n ≡ pos 1) × (old ≡ false → n ≡ pos 2)) }
-    ensures cause { (n : ℤ) → SaysSchema n (state S.Store conn.old) → HasCleanDisk (state S.Store conn.new) → IfErr result (IsCaused S.Store schema_statements conn.new) }
-    ensures tables { (n : ℤ) → SaysSchema n (state S.Store conn.old) → HasCleanDisk (state S.Store conn.new) → OnOk result (HasTables n (state S.Store conn.old)) }
-    ensures taken { (n : ℤ) → SaysSchema n (state S.Store conn.old) → (n ≡ pos 1) ⊎ (n ≡ pos 2) → HasCleanDisk (state S.Store conn.new) → IfErr result IsStoreFault }
+    ensures earlier { HasCleanDisk (state S.Store conn.new)
+        → HasCleanDisk (state S.Store conn.old) }
+    ensures same { (n : ℤ) → SaysSchema n (state S.Store conn.old)
+        → HasCleanDisk (state S.Store conn.new)
+        → OnOk result (IsUnchanged (state S.Store conn.old) (state S.Store conn.new)) }
+    ensures rests { (n : ℤ) → SaysSchema n (state S.Store conn.old)
+        → HasCleanDisk (state S.Store conn.new)
+        → Rests (state S.Store conn.old) (state S.Store conn.new) }
+    ensures crash { (n : ℤ) → SaysSchema n (state S.Store conn.old)
+        → Survives (state S.Store conn.old) (state S.Store conn.new) (λ _. ⊥) }
+    ensures number { (n : ℤ) → SaysSchema n (state S.Store conn.old)
+        → HasCleanDisk (state S.Store conn.new)
+        → IfOk result (λ old. (old ≡ true → n ≡ pos 1) × (old ≡ false → n ≡ pos 2)) }
+    ensures cause { (n : ℤ) → SaysSchema n (state S.Store conn.old)
+        → HasCleanDisk (state S.Store conn.new)
+        → IfErr result (IsCaused S.Store schema_statements conn.new) }
+    ensures tables { (n : ℤ) → SaysSchema n (state S.Store conn.old)
+        → HasCleanDisk (state S.Store conn.new)
+        → OnOk result (HasTables n (state S.Store conn.old)) }
+    ensures taken { (n : ℤ) → SaysSchema n (state S.Store conn.old) → (n ≡ pos 1) ⊎ (n ≡ pos 2)
+        → HasCleanDisk (state S.Store conn.new) → IfErr result IsStoreFault }
     ensures refused { IfErr result (λ e. IsStoreFault e ⊎ (e ≡ StoreFault.UnknownSchema)) }
 {
     let old = says_old(conn)?;
@@ -213,15 +278,25 @@ pub(crate) fn is_old<S: Alter>(conn: &mut Connection<S>) -> Result<bool, StoreFa
 /// Takes the tables of schema 1 to those of schema 2, inside a transaction.
 pub(crate) fn raise<S: Alter>(tx: &mut Transaction<'_, S>) -> Result<(), StoreFault>
     ensures same_reference { tx.new.conn.ghost_name ≡ tx.old.conn.ghost_name }
-    ensures raised { (runs : _) → HasCleanDisk (state S.Store tx.new.conn.now) → IsTrue (state S.Store tx.old.conn.now).in_transaction → (IsTrue (state S.Store tx.old.conn.now).is_open → OldTables (state S.Store tx.old.conn.now).now runs)
-        → OnOk result (Tables (state S.Store tx.new.conn.now).now runs × IsDatabase (state S.Store tx.new.conn.now).now × ((state S.Store tx.new.conn.now).committed ≡ (state S.Store tx.old.conn.now).committed) × IsTrue (state S.Store tx.new.conn.now).in_transaction) }
-    ensures keeps { HasCleanDisk (state S.Store tx.new.conn.now) → KeepsCommit (state S.Store tx.old.conn.now) (state S.Store tx.new.conn.now) }
-    ensures runs { HasCleanDisk (state S.Store tx.new.conn.now) → IsTrue (state S.Store tx.old.conn.now).in_transaction
+    ensures raised { (runs : _) → HasCleanDisk (state S.Store tx.new.conn.now)
+        → IsTrue (state S.Store tx.old.conn.now).in_transaction
+        → (IsTrue (state S.Store tx.old.conn.now).is_open
+        → OldTables (state S.Store tx.old.conn.now).now runs)
+        → OnOk result (Tables (state S.Store tx.new.conn.now).now runs
+        × IsDatabase (state S.Store tx.new.conn.now).now
+        × ((state S.Store tx.new.conn.now).committed ≡ (state S.Store tx.old.conn.now).committed)
+        × IsTrue (state S.Store tx.new.conn.now).in_transaction) }
+    ensures keeps { HasCleanDisk (state S.Store tx.new.conn.now)
+        → KeepsCommit (state S.Store tx.old.conn.now) (state S.Store tx.new.conn.now) }
+    ensures runs { HasCleanDisk (state S.Store tx.new.conn.now)
+        → IsTrue (state S.Store tx.old.conn.now).in_transaction
         → OnOk result (RunInTurn S.Store raise_statements tx.old.conn.now tx.new.conn.now) }
-    ensures cause { HasCleanDisk (state S.Store tx.new.conn.now) → IsTrue (state S.Store tx.old.conn.now).in_transaction
+    ensures cause { HasCleanDisk (state S.Store tx.new.conn.now)
+        → IsTrue (state S.Store tx.old.conn.now).in_transaction
         → IfErr result (IsStopped S.Store raise_statements tx.old.conn.now tx.new.conn.now) }
     ensures failed { IfErr result IsStoreFault }
-    ensures survives { Survives (state S.Store tx.old.conn.now) (state S.Store tx.new.conn.now) (λ _. ⊥) }
+    ensures survives { Survives (state S.Store tx.old.conn.now) (state S.Store tx.new.conn.now)
+        (λ _. ⊥) }
 {
     step(
         tx,
@@ -235,14 +310,21 @@ pub(crate) fn raise<S: Alter>(tx: &mut Transaction<'_, S>) -> Result<(), StoreFa
 /// Takes a database of schema 1 to schema 2, in one commit.
 pub(crate) fn renew<S: Alter>(conn: &mut Connection<S>) -> Result<(), StoreFault>
     requires { conn.old.in_transaction ≡ false }
-    ensures renewed { (runs : _) → StandsInOld (state S.Store conn.old) runs → OnOk result (StandsFor (state S.Store conn.new) runs) }
-    ensures kept { (runs : _) → StandsInOld (state S.Store conn.old) runs → OnErr result (StandsInOld (state S.Store conn.new) runs) }
-    ensures earlier { HasCleanDisk (state S.Store conn.new) → HasCleanDisk (state S.Store conn.old) }
+    ensures renewed { (runs : _) → StandsInOld (state S.Store conn.old) runs
+        → OnOk result (StandsFor (state S.Store conn.new) runs) }
+    ensures kept { (runs : _) → StandsInOld (state S.Store conn.old) runs
+        → OnErr result (StandsInOld (state S.Store conn.new) runs) }
+    ensures earlier { HasCleanDisk (state S.Store conn.new)
+        → HasCleanDisk (state S.Store conn.old) }
     ensures failed { IfErr result IsStoreFault }
-    ensures cause { (runs : _) → StandsInOld (state S.Store conn.old) runs → IsTrue (state S.Store conn.old).is_open → HasCleanDisk (state S.Store conn.new)
-        → IfErr result (IsCausedInside S.Store (HoldsOldRuns S.Store runs) attach_statements raise_statements conn.new) }
-    ensures crash { (runs : _) → StandsInOld (state S.Store conn.old) runs → Survives (state S.Store conn.old) (state S.Store conn.new) (Keeps runs) }
-    ensures durable { (runs : _) → StandsInOld (state S.Store conn.old) runs → OnOk result (Leaves (state S.Store conn.new) (Keeps runs)) }
+    ensures cause { (runs : _) → StandsInOld (state S.Store conn.old) runs
+        → IsTrue (state S.Store conn.old).is_open → HasCleanDisk (state S.Store conn.new)
+        → IfErr result (IsCausedInside S.Store
+        (HoldsOldRuns S.Store runs) attach_statements raise_statements conn.new) }
+    ensures crash { (runs : _) → StandsInOld (state S.Store conn.old) runs
+        → Survives (state S.Store conn.old) (state S.Store conn.new) (Keeps runs) }
+    ensures durable { (runs : _) → StandsInOld (state S.Store conn.old) runs
+        → OnOk result (Leaves (state S.Store conn.new) (Keeps runs)) }
 {
     let mut tx = conn.transaction();
     raise(&mut tx)?;
@@ -253,22 +335,41 @@ pub(crate) fn renew<S: Alter>(conn: &mut Connection<S>) -> Result<(), StoreFault
 /// Takes the tables of a database that has some, and those of schema 1 to schema 2.
 pub(crate) fn take<S: Alter>(conn: &mut Connection<S>) -> Result<(), StoreFault>
     requires { conn.old.in_transaction ≡ false }
-    ensures earlier { HasCleanDisk (state S.Store conn.new) → HasCleanDisk (state S.Store conn.old) }
-    ensures stands { (runs : _) → StandsFor (state S.Store conn.old) runs → StandsFor (state S.Store conn.new) runs }
-    ensures crash { (runs : _) → StandsFor (state S.Store conn.old) runs → Survives (state S.Store conn.old) (state S.Store conn.new) (λ _. ⊥) }
-    ensures taken { (runs : _) → StandsFor (state S.Store conn.old) runs → HasCleanDisk (state S.Store conn.new) → IfErr result IsStoreFault }
-    ensures renewed { (runs : _) → StandsInOld (state S.Store conn.old) runs → OnOk result (StandsFor (state S.Store conn.new) runs) }
-    ensures renewed_kept { (runs : _) → StandsInOld (state S.Store conn.old) runs → OnErr result (StandsInOld (state S.Store conn.new) runs) }
-    ensures renewed_taken { (runs : _) → StandsInOld (state S.Store conn.old) runs → HasCleanDisk (state S.Store conn.new) → IfErr result IsStoreFault }
-    ensures renewed_crash { (runs : _) → StandsInOld (state S.Store conn.old) runs → Survives (state S.Store conn.old) (state S.Store conn.new) (Keeps runs) }
-    ensures renewed_durable { (runs : _) → StandsInOld (state S.Store conn.old) runs → OnOk result (Leaves (state S.Store conn.new) (Keeps runs)) }
-    ensures unknown { (n : ℤ) → SaysSchema n (state S.Store conn.old) → n ≢ pos 1 → n ≢ pos 2 → HasCleanDisk (state S.Store conn.new) → OnOk result ⊥ }
-    ensures untouched { (n : ℤ) → SaysSchema n (state S.Store conn.old) → n ≢ pos 1 → HasCleanDisk (state S.Store conn.new) → Rests (state S.Store conn.old) (state S.Store conn.new) }
-    ensures unknown_crash { (n : ℤ) → SaysSchema n (state S.Store conn.old) → n ≢ pos 1 → Survives (state S.Store conn.old) (state S.Store conn.new) (λ _. ⊥) }
-    ensures tables { (n : ℤ) → SaysSchema n (state S.Store conn.old) → HasCleanDisk (state S.Store conn.new) → OnOk result (HasTables n (state S.Store conn.old)) }
-    ensures cause { (n : ℤ) → SaysSchema n (state S.Store conn.old) → n ≢ pos 1 → HasCleanDisk (state S.Store conn.new) → IfErr result (IsCaused S.Store schema_statements conn.new) }
-    ensures renewed_cause { (runs : _) → StandsInOld (state S.Store conn.old) runs → HasCleanDisk (state S.Store conn.new)
-        → IfErr result (IsCausedInside S.Store (HoldsOldRuns S.Store runs) attach_statements raise_statements conn.new) }
+    ensures earlier { HasCleanDisk (state S.Store conn.new)
+        → HasCleanDisk (state S.Store conn.old) }
+    ensures stands { (runs : _) → StandsFor (state S.Store conn.old) runs
+        → StandsFor (state S.Store conn.new) runs }
+    ensures crash { (runs : _) → StandsFor (state S.Store conn.old) runs
+        → Survives (state S.Store conn.old) (state S.Store conn.new) (λ _. ⊥) }
+    ensures taken { (runs : _) → StandsFor (state S.Store conn.old) runs
+        → HasCleanDisk (state S.Store conn.new) → IfErr result IsStoreFault }
+    ensures renewed { (runs : _) → StandsInOld (state S.Store conn.old) runs
+        → OnOk result (StandsFor (state S.Store conn.new) runs) }
+    ensures renewed_kept { (runs : _) → StandsInOld (state S.Store conn.old) runs
+        → OnErr result (StandsInOld (state S.Store conn.new) runs) }
+    ensures renewed_taken { (runs : _) → StandsInOld (state S.Store conn.old) runs
+        → HasCleanDisk (state S.Store conn.new) → IfErr result IsStoreFault }
+    ensures renewed_crash { (runs : _) → StandsInOld (state S.Store conn.old) runs
+        → Survives (state S.Store conn.old) (state S.Store conn.new) (Keeps runs) }
+    ensures renewed_durable { (runs : _) → StandsInOld (state S.Store conn.old) runs
+        → OnOk result (Leaves (state S.Store conn.new) (Keeps runs)) }
+    ensures unknown { (n : ℤ) → SaysSchema n (state S.Store conn.old) → n ≢ pos 1 → n ≢ pos 2
+        → HasCleanDisk (state S.Store conn.new) → OnOk result ⊥ }
+    ensures untouched { (n : ℤ) → SaysSchema n (state S.Store conn.old) → n ≢ pos 1
+        → HasCleanDisk (state S.Store conn.new)
+        → Rests (state S.Store conn.old) (state S.Store conn.new) }
+    ensures unknown_crash { (n : ℤ) → SaysSchema n (state S.Store conn.old) → n ≢ pos 1
+        → Survives (state S.Store conn.old) (state S.Store conn.new) (λ _. ⊥) }
+    ensures tables { (n : ℤ) → SaysSchema n (state S.Store conn.old)
+        → HasCleanDisk (state S.Store conn.new)
+        → OnOk result (HasTables n (state S.Store conn.old)) }
+    ensures cause { (n : ℤ) → SaysSchema n (state S.Store conn.old) → n ≢ pos 1
+        → HasCleanDisk (state S.Store conn.new)
+        → IfErr result (IsCaused S.Store schema_statements conn.new) }
+    ensures renewed_cause { (runs : _) → StandsInOld (state S.Store conn.old) runs
+        → HasCleanDisk (state S.Store conn.new)
+        → IfErr result (IsCausedInside S.Store
+        (HoldsOldRuns S.Store runs) attach_statements raise_statements conn.new) }
     ensures refused { IfErr result (λ e. IsStoreFault e ⊎ (e ≡ StoreFault.UnknownSchema)) }
 {
     if is_old(conn)? {
@@ -280,29 +381,55 @@ pub(crate) fn take<S: Alter>(conn: &mut Connection<S>) -> Result<(), StoreFault>
 /// Makes the tables in an empty database, or takes those that are there.
 pub(crate) fn settle<S: Alter>(conn: &mut Connection<S>) -> Result<(), StoreFault>
     requires { conn.old.in_transaction ≡ false }
-    ensures made { IsEmpty (state S.Store conn.old) → OnOk result (StandsFor (state S.Store conn.new) []) }
-    ensures made_kept { IsEmpty (state S.Store conn.old) → OnErr result (IsEmpty (state S.Store conn.new)) }
-    ensures made_taken { IsEmpty (state S.Store conn.old) → HasCleanDisk (state S.Store conn.new) → IfErr result IsStoreFault }
-    ensures stands { (runs : _) → StandsFor (state S.Store conn.old) runs → StandsFor (state S.Store conn.new) runs }
-    ensures made_crash { IsEmpty (state S.Store conn.old) → Survives (state S.Store conn.old) (state S.Store conn.new) (Keeps []) }
-    ensures crash { (runs : _) → StandsFor (state S.Store conn.old) runs → Survives (state S.Store conn.old) (state S.Store conn.new) (λ _. ⊥) }
-    ensures durable { IsEmpty (state S.Store conn.old) → OnOk result (Leaves (state S.Store conn.new) (Keeps [])) }
-    ensures was_open { (runs : _) → StandsFor (state S.Store conn.old) runs → HasCleanDisk (state S.Store conn.new) → OnOk result (IsTrue (state S.Store conn.old).is_open) }
-    ensures renewed { (runs : _) → StandsInOld (state S.Store conn.old) runs → OnOk result (StandsFor (state S.Store conn.new) runs) }
-    ensures renewed_kept { (runs : _) → StandsInOld (state S.Store conn.old) runs → OnErr result (StandsInOld (state S.Store conn.new) runs) }
-    ensures renewed_taken { (runs : _) → StandsInOld (state S.Store conn.old) runs → HasCleanDisk (state S.Store conn.new) → IfErr result IsStoreFault }
-    ensures renewed_crash { (runs : _) → StandsInOld (state S.Store conn.old) runs → Survives (state S.Store conn.old) (state S.Store conn.new) (Keeps runs) }
-    ensures renewed_durable { (runs : _) → StandsInOld (state S.Store conn.old) runs → OnOk result (Leaves (state S.Store conn.new) (Keeps runs)) }
-    ensures unknown { (n : ℤ) → SaysSchema n (state S.Store conn.old) → n ≢ pos 1 → n ≢ pos 2 → HasCleanDisk (state S.Store conn.new) → OnOk result ⊥ }
-    ensures untouched { (n : ℤ) → SaysSchema n (state S.Store conn.old) → n ≢ pos 1 → HasCleanDisk (state S.Store conn.new) → OnErr result (Rests (state S.Store conn.old) (state S.Store conn.new)) }
-    ensures unknown_crash { (n : ℤ) → SaysSchema n (state S.Store conn.old) → n ≢ pos 1 → OnErr result (Survives (state S.Store conn.old) (state S.Store conn.new) (λ _. ⊥)) }
-    ensures taken { (runs : _) → StandsFor (state S.Store conn.old) runs → HasCleanDisk (state S.Store conn.new) → IfErr result IsStoreFault }
-    ensures tables { (n : ℤ) → SaysSchema n (state S.Store conn.old) → HasCleanDisk (state S.Store conn.new) → OnOk result (HasTables n (state S.Store conn.old)) }
-    ensures cause { (n : ℤ) → SaysSchema n (state S.Store conn.old) → n ≢ pos 1 → HasCleanDisk (state S.Store conn.new) → IfErr result (IsCaused S.Store attach_statements conn.new) }
+    ensures made { IsEmpty (state S.Store conn.old)
+        → OnOk result (StandsFor (state S.Store conn.new) []) }
+    ensures made_kept { IsEmpty (state S.Store conn.old)
+        → OnErr result (IsEmpty (state S.Store conn.new)) }
+    ensures made_taken { IsEmpty (state S.Store conn.old) → HasCleanDisk (state S.Store conn.new)
+        → IfErr result IsStoreFault }
+    ensures stands { (runs : _) → StandsFor (state S.Store conn.old) runs
+        → StandsFor (state S.Store conn.new) runs }
+    ensures made_crash { IsEmpty (state S.Store conn.old)
+        → Survives (state S.Store conn.old) (state S.Store conn.new) (Keeps []) }
+    ensures crash { (runs : _) → StandsFor (state S.Store conn.old) runs
+        → Survives (state S.Store conn.old) (state S.Store conn.new) (λ _. ⊥) }
+    ensures durable { IsEmpty (state S.Store conn.old)
+        → OnOk result (Leaves (state S.Store conn.new) (Keeps [])) }
+    ensures was_open { (runs : _) → StandsFor (state S.Store conn.old) runs
+        → HasCleanDisk (state S.Store conn.new)
+        → OnOk result (IsTrue (state S.Store conn.old).is_open) }
+    ensures renewed { (runs : _) → StandsInOld (state S.Store conn.old) runs
+        → OnOk result (StandsFor (state S.Store conn.new) runs) }
+    ensures renewed_kept { (runs : _) → StandsInOld (state S.Store conn.old) runs
+        → OnErr result (StandsInOld (state S.Store conn.new) runs) }
+    ensures renewed_taken { (runs : _) → StandsInOld (state S.Store conn.old) runs
+        → HasCleanDisk (state S.Store conn.new) → IfErr result IsStoreFault }
+    ensures renewed_crash { (runs : _) → StandsInOld (state S.Store conn.old) runs
+        → Survives (state S.Store conn.old) (state S.Store conn.new) (Keeps runs) }
+    ensures renewed_durable { (runs : _) → StandsInOld (state S.Store conn.old) runs
+        → OnOk result (Leaves (state S.Store conn.new) (Keeps runs)) }
+    ensures unknown { (n : ℤ) → SaysSchema n (state S.Store conn.old) → n ≢ pos 1 → n ≢ pos 2
+        → HasCleanDisk (state S.Store conn.new) → OnOk result ⊥ }
+    ensures untouched { (n : ℤ) → SaysSchema n (state S.Store conn.old) → n ≢ pos 1
+        → HasCleanDisk (state S.Store conn.new)
+        → OnErr result (Rests (state S.Store conn.old) (state S.Store conn.new)) }
+    ensures unknown_crash { (n : ℤ) → SaysSchema n (state S.Store conn.old) → n ≢ pos 1
+        → OnErr result (Survives (state S.Store conn.old) (state S.Store conn.new) (λ _. ⊥)) }
+    ensures taken { (runs : _) → StandsFor (state S.Store conn.old) runs
+        → HasCleanDisk (state S.Store conn.new) → IfErr result IsStoreFault }
+    ensures tables { (n : ℤ) → SaysSchema n (state S.Store conn.old)
+        → HasCleanDisk (state S.Store conn.new)
+        → OnOk result (HasTables n (state S.Store conn.old)) }
+    ensures cause { (n : ℤ) → SaysSchema n (state S.Store conn.old) → n ≢ pos 1
+        → HasCleanDisk (state S.Store conn.new)
+        → IfErr result (IsCaused S.Store attach_statements conn.new) }
     ensures made_cause { IsEmpty (state S.Store conn.old) → HasCleanDisk (state S.Store conn.new)
-        → IfErr result (IsCausedInside S.Store (HasNoTable S.Store) attach_statements make_statements conn.new) }
-    ensures renewed_cause { (runs : _) → StandsInOld (state S.Store conn.old) runs → HasCleanDisk (state S.Store conn.new)
-        → IfErr result (IsCausedInside S.Store (HoldsOldRuns S.Store runs) attach_statements raise_statements conn.new) }
+        → IfErr result (IsCausedInside S.Store
+        (HasNoTable S.Store) attach_statements make_statements conn.new) }
+    ensures renewed_cause { (runs : _) → StandsInOld (state S.Store conn.old) runs
+        → HasCleanDisk (state S.Store conn.new)
+        → IfErr result (IsCausedInside S.Store
+        (HoldsOldRuns S.Store runs) attach_statements raise_statements conn.new) }
     ensures refused { IfErr result (λ e. IsStoreFault e ⊎ (e ≡ StoreFault.UnknownSchema)) }
 {
     probe(conn, "SELECT 1")?;

@@ -14,12 +14,18 @@ use sqlite::{Alter, Connection};
 
 /// Whether there are as many runs as may be.
 pub(crate) fn is_full<S: Alter>(conn: &mut Connection<S>) -> Result<bool, StoreFault>
-    ensures full { (runs : _) → StandsFor (state S.Store conn.old) runs → HasCleanDisk (state S.Store conn.new)
-        → IfOk result (λ full. (full ≡ true → 1000000 ≤ length runs) × (full ≡ false → length runs < 1000000)) }
-    ensures stands { (runs : _) → StandsFor (state S.Store conn.old) runs → StandsFor (state S.Store conn.new) runs }
+    ensures full { (runs : _) → StandsFor (state S.Store conn.old) runs
+        → HasCleanDisk (state S.Store conn.new)
+        → IfOk result (λ full. (full ≡ true → 1000000 ≤ length runs)
+        × (full ≡ false → length runs < 1000000)) }
+    ensures stands { (runs : _) → StandsFor (state S.Store conn.old) runs
+        → StandsFor (state S.Store conn.new) runs }
     ensures failed { IfErr result IsStoreFault }
-    ensures cause { (runs : _) → StandsFor (state S.Store conn.old) runs → HasCleanDisk (state S.Store conn.new) → IfErr result (IsCaused S.Store ((full_text, []) ∷ []) conn.new) }
-    ensures crash { (runs : _) → StandsFor (state S.Store conn.old) runs → Survives (state S.Store conn.old) (state S.Store conn.new) (λ _. ⊥) }
+    ensures cause { (runs : _) → StandsFor (state S.Store conn.old) runs
+        → HasCleanDisk (state S.Store conn.new)
+        → IfErr result (IsCaused S.Store ((full_text, []) ∷ []) conn.new) }
+    ensures crash { (runs : _) → StandsFor (state S.Store conn.old) runs
+        → Survives (state S.Store conn.old) (state S.Store conn.new) (λ _. ⊥) }
 {
     let rows = ask(conn, "SELECT id FROM runs WHERE id = 1000000", &[])?;
     Ok(has_rows(&rows))
@@ -32,17 +38,29 @@ pub(crate) fn add_run<S: Alter>(
     moment: u64,
 ) -> Result<u64, StoreFault>
     requires { moment ≤ 253402300799999 }
-    ensures number { (runs : _) → StandsFor (state S.Store conn.old) runs → (HasCleanDisk (state S.Store conn.old) → length runs < 1000000) → HasCleanDisk (state S.Store conn.new)
+    ensures number { (runs : _) → StandsFor (state S.Store conn.old) runs
+        → (HasCleanDisk (state S.Store conn.old) → length runs < 1000000)
+        → HasCleanDisk (state S.Store conn.new)
         → IfOk result (λ n. n ≡ suc (length runs)) }
-    ensures added { (runs : _) → StandsFor (state S.Store conn.old) runs → (HasCleanDisk (state S.Store conn.old) → length runs < 1000000)
-        → OnOk result (StandsFor (state S.Store conn.new) (runs ++ new_run runs total moment ∷ [])) }
-    ensures kept { (runs : _) → StandsFor (state S.Store conn.old) runs → OnErr result (StandsFor (state S.Store conn.new) runs) }
+    ensures added { (runs : _) → StandsFor (state S.Store conn.old) runs
+        → (HasCleanDisk (state S.Store conn.old) → length runs < 1000000)
+        → OnOk result (StandsFor (state S.Store conn.new)
+        (runs ++ new_run runs total moment ∷ [])) }
+    ensures kept { (runs : _) → StandsFor (state S.Store conn.old) runs
+        → OnErr result (StandsFor (state S.Store conn.new) runs) }
     ensures failed { IfErr result IsStoreFault }
-    ensures cause { (runs : _) → StandsFor (state S.Store conn.old) runs → HasCleanDisk (state S.Store conn.new) → IfErr result (IsCaused S.Store ((begin_text, Int (pos moment) ∷ Int (pos total) ∷ []) ∷ []) conn.new) }
-    ensures crash { (runs : _) → StandsFor (state S.Store conn.old) runs → (HasCleanDisk (state S.Store conn.old) → length runs < 1000000)
-        → Survives (state S.Store conn.old) (state S.Store conn.new) (Keeps (runs ++ new_run runs total moment ∷ [])) }
-    ensures durable { (runs : _) → StandsFor (state S.Store conn.old) runs → (HasCleanDisk (state S.Store conn.old) → length runs < 1000000)
-        → OnOk result (Leaves (state S.Store conn.new) (Keeps (runs ++ new_run runs total moment ∷ []))) }
+    ensures cause { (runs : _) → StandsFor (state S.Store conn.old) runs
+        → HasCleanDisk (state S.Store conn.new)
+        → IfErr result (IsCaused S.Store
+        ((begin_text, Int (pos moment) ∷ Int (pos total) ∷ []) ∷ []) conn.new) }
+    ensures crash { (runs : _) → StandsFor (state S.Store conn.old) runs
+        → (HasCleanDisk (state S.Store conn.old) → length runs < 1000000)
+        → Survives (state S.Store conn.old) (state S.Store conn.new)
+        (Keeps (runs ++ new_run runs total moment ∷ [])) }
+    ensures durable { (runs : _) → StandsFor (state S.Store conn.old) runs
+        → (HasCleanDisk (state S.Store conn.old) → length runs < 1000000)
+        → OnOk result (Leaves (state S.Store conn.new)
+        (Keeps (runs ++ new_run runs total moment ∷ []))) }
 {
     tell(
         conn,

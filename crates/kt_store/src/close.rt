@@ -19,10 +19,15 @@ use sqlite::{Alter, Connection, Error};
 pub(crate) fn count<S: Alter>(conn: &mut Connection<S>, run: u64) -> Result<u64, StoreFault>
     requires { run < 2 ^ 63 }
     ensures failed { IfErr result IsStoreFault }
-    ensures cause { (runs : _) → StandsFor (state S.Store conn.old) runs → HasCleanDisk (state S.Store conn.new) → IfErr result (IsCaused S.Store ((count_text, Int (pos run) ∷ []) ∷ []) conn.new) }
-    ensures stands { (runs : _) → StandsFor (state S.Store conn.old) runs → StandsFor (state S.Store conn.new) runs }
-    ensures crash { (runs : _) → StandsFor (state S.Store conn.old) runs → Survives (state S.Store conn.old) (state S.Store conn.new) (λ _. ⊥) }
-    ensures found { (runs : _) → StandsFor (state S.Store conn.old) runs → HasCleanDisk (state S.Store conn.new)
+    ensures cause { (runs : _) → StandsFor (state S.Store conn.old) runs
+        → HasCleanDisk (state S.Store conn.new)
+        → IfErr result (IsCaused S.Store ((count_text, Int (pos run) ∷ []) ∷ []) conn.new) }
+    ensures stands { (runs : _) → StandsFor (state S.Store conn.old) runs
+        → StandsFor (state S.Store conn.new) runs }
+    ensures crash { (runs : _) → StandsFor (state S.Store conn.old) runs
+        → Survives (state S.Store conn.old) (state S.Store conn.new) (λ _. ⊥) }
+    ensures found { (runs : _) → StandsFor (state S.Store conn.old) runs
+        → HasCleanDisk (state S.Store conn.new)
         → IfOk result (λ n. n ≡ min (length (entries_of (run_at runs run))) 9223372036854775807) }
 {
     let rows = ask(
@@ -40,13 +45,20 @@ pub(crate) fn count<S: Alter>(conn: &mut Connection<S>, run: u64) -> Result<u64,
 /// Asks whether the run may be finished.
 pub(crate) fn check<S: Alter>(conn: &mut Connection<S>, run: u64) -> Result<(), StoreFault>
     ensures small { OnOk result (run ≤ 1000000) }
-    ensures cause { (runs : _) → StandsFor (state S.Store conn.old) runs → HasCleanDisk (state S.Store conn.new) → IfErr result (IsCaused S.Store (finish_statements run) conn.new) }
-    ensures stands { (runs : _) → StandsFor (state S.Store conn.old) runs → StandsFor (state S.Store conn.new) runs }
-    ensures crash { (runs : _) → StandsFor (state S.Store conn.old) runs → Survives (state S.Store conn.old) (state S.Store conn.new) (λ _. ⊥) }
-    ensures refused { (runs : _) → StandsFor (state S.Store conn.old) runs → HasCleanDisk (state S.Store conn.new)
+    ensures cause { (runs : _) → StandsFor (state S.Store conn.old) runs
+        → HasCleanDisk (state S.Store conn.new)
+        → IfErr result (IsCaused S.Store (finish_statements run) conn.new) }
+    ensures stands { (runs : _) → StandsFor (state S.Store conn.old) runs
+        → StandsFor (state S.Store conn.new) runs }
+    ensures crash { (runs : _) → StandsFor (state S.Store conn.old) runs
+        → Survives (state S.Store conn.old) (state S.Store conn.new) (λ _. ⊥) }
+    ensures refused { (runs : _) → StandsFor (state S.Store conn.old) runs
+        → HasCleanDisk (state S.Store conn.new)
         → IfErr result (λ e. IsStoreFault e ⊎ (finish_refusal runs run ≡ Some e)) }
-    ensures taken { (runs : _) → StandsFor (state S.Store conn.old) runs → HasCleanDisk (state S.Store conn.new)
-        → OnOk result ((finish_refusal runs run ≡ None) × (k : _) × (r : _) × (run ≡ suc k) × (run_at runs run ≡ Some r) × (length r.entries ≡ r.total)) }
+    ensures taken { (runs : _) → StandsFor (state S.Store conn.old) runs
+        → HasCleanDisk (state S.Store conn.new)
+        → OnOk result ((finish_refusal runs run ≡ None) × (k : _) × (r : _) × (run ≡ suc k)
+        × (run_at runs run ≡ Some r) × (length r.entries ≡ r.total)) }
 {
     let (total, finished) = look(conn, run)?;
     if finished {
@@ -63,16 +75,22 @@ pub(crate) fn check<S: Alter>(conn: &mut Connection<S>, run: u64) -> Result<(), 
 pub(crate) fn mark<S: Alter>(conn: &mut Connection<S>, run: u64) -> Result<(), StoreFault>
     requires { run < 2 ^ 63 }
     ensures marked { (runs : _) → StandsFor (state S.Store conn.old) runs
-        → (HasCleanDisk (state S.Store conn.old) → (k : _) × (r : _) × (run ≡ suc k) × (run_at runs run ≡ Some r) × (length r.entries ≡ r.total))
+        → (HasCleanDisk (state S.Store conn.old) → (k : _) × (r : _) × (run ≡ suc k)
+        × (run_at runs run ≡ Some r) × (length r.entries ≡ r.total))
         → OnOk result (StandsFor (state S.Store conn.new) (finish run runs)) }
-    ensures kept { (runs : _) → StandsFor (state S.Store conn.old) runs → OnErr result (StandsFor (state S.Store conn.new) runs) }
+    ensures kept { (runs : _) → StandsFor (state S.Store conn.old) runs
+        → OnErr result (StandsFor (state S.Store conn.new) runs) }
     ensures failed { IfErr result IsStoreFault }
-    ensures cause { (runs : _) → StandsFor (state S.Store conn.old) runs → HasCleanDisk (state S.Store conn.new) → IfErr result (IsCaused S.Store (finish_statements run) conn.new) }
+    ensures cause { (runs : _) → StandsFor (state S.Store conn.old) runs
+        → HasCleanDisk (state S.Store conn.new)
+        → IfErr result (IsCaused S.Store (finish_statements run) conn.new) }
     ensures crash { (runs : _) → StandsFor (state S.Store conn.old) runs
-        → (HasCleanDisk (state S.Store conn.old) → (k : _) × (r : _) × (run ≡ suc k) × (run_at runs run ≡ Some r) × (length r.entries ≡ r.total))
+        → (HasCleanDisk (state S.Store conn.old) → (k : _) × (r : _) × (run ≡ suc k)
+        × (run_at runs run ≡ Some r) × (length r.entries ≡ r.total))
         → Survives (state S.Store conn.old) (state S.Store conn.new) (Keeps (finish run runs)) }
     ensures durable { (runs : _) → StandsFor (state S.Store conn.old) runs
-        → (HasCleanDisk (state S.Store conn.old) → (k : _) × (r : _) × (run ≡ suc k) × (run_at runs run ≡ Some r) × (length r.entries ≡ r.total))
+        → (HasCleanDisk (state S.Store conn.old) → (k : _) × (r : _) × (run ≡ suc k)
+        × (run_at runs run ≡ Some r) × (length r.entries ≡ r.total))
         → OnOk result (Leaves (state S.Store conn.new) (Keeps (finish run runs))) }
 {
     tell(

@@ -27,8 +27,10 @@ use sqlite::{Alter, Connection, Error, Row};
 use std::alloc::Global;
 
 pub(crate) fn text_in(row: &Row, at: usize) -> Result<Text, StoreFault>
-    ensures text { (t : List ℕ) → IsText t → column row.now at ≡ Words (utf8 t) → IfOk result (λ x. x ≡ t) }
-    ensures read { (t : List ℕ) → IsText t → at < length row.now → column row.now at ≡ Words (utf8 t) → IfErr result IsNoMemory }
+    ensures text { (t : List ℕ) → IsText t → column row.now at ≡ Words (utf8 t)
+        → IfOk result (λ x. x ≡ t) }
+    ensures read { (t : List ℕ) → IsText t → at < length row.now
+        → column row.now at ≡ Words (utf8 t) → IfErr result IsNoMemory }
     ensures failed { IfErr result IsStoreFault }
 {
     let string = row.get::<String>(at)?;
@@ -37,7 +39,8 @@ pub(crate) fn text_in(row: &Row, at: usize) -> Result<Text, StoreFault>
 
 pub(crate) fn bytes_in(row: &Row, at: usize) -> Result<Bytes, StoreFault>
     ensures bytes { IfOk result (λ b. column row.now at ≡ Blob b) }
-    ensures read { (b : List ℕ) → at < length row.now → column row.now at ≡ Blob b → IfErr result IsNoMemory }
+    ensures read { (b : List ℕ) → at < length row.now → column row.now at ≡ Blob b
+        → IfErr result IsNoMemory }
     ensures failed { IfErr result IsStoreFault }
 {
     let items = row.get::<Vec<u8>>(at)?;
@@ -73,8 +76,11 @@ pub(crate) fn verdict_of(kind: Kind, reason: Text) -> Verdict
 }
 
 pub(crate) fn output_in(row: &Row, out: usize, err: usize) -> Result<Output, StoreFault>
-    ensures output { (o : Pair) → column row.now out ≡ Blob o.out → column row.now err ≡ Blob o.err → IfOk result (λ x. x ≡ o) }
-    ensures read { (o : Pair) → out < length row.now → err < length row.now → column row.now out ≡ Blob o.out → column row.now err ≡ Blob o.err → IfErr result IsNoMemory }
+    ensures output { (o : Pair) → column row.now out ≡ Blob o.out → column row.now err ≡ Blob o.err
+        → IfOk result (λ x. x ≡ o) }
+    ensures read { (o : Pair) → out < length row.now → err < length row.now
+        → column row.now out ≡ Blob o.out → column row.now err ≡ Blob o.err
+        → IfErr result IsNoMemory }
     ensures failed { IfErr result IsStoreFault }
 {
     let first = bytes_in(row, out)?;
@@ -87,8 +93,10 @@ pub(crate) fn output_in(row: &Row, out: usize, err: usize) -> Result<Output, Sto
 
 /// The pair in a row.
 pub(crate) fn pair_in(row: &Row) -> Result<Variable, StoreFault>
-    ensures pair { (n : ℕ) (v : StoredPair) → IsPair v → row.now ≡ pair_columns n v → IfOk result (λ x. x ≡ v) }
-    ensures read { (n : ℕ) (v : StoredPair) → IsPair v → row.now ≡ pair_columns n v → IfErr result IsNoMemory }
+    ensures pair { (n : ℕ) (v : StoredPair) → IsPair v → row.now ≡ pair_columns n v
+        → IfOk result (λ x. x ≡ v) }
+    ensures read { (n : ℕ) (v : StoredPair) → IsPair v → row.now ≡ pair_columns n v
+        → IfErr result IsNoMemory }
     ensures failed { IfErr result IsStoreFault }
 {
     let name = text_in(row, 1)?;
@@ -103,10 +111,14 @@ pub(crate) fn meta_in(
     rows: &[Row],
     position: u32,
 ) -> Result<(Variables, &[Row]), StoreFault>
-    ensures meta { (vs : List StoredPair) (others : List Stored) → AllByRecursion IsPair vs → AllByRecursion (λ (e : Stored). position < e.position) others
-        → rows.now ≡ map (pair_columns position) vs ++ pairs_shown others → IfOk result (λ found. (found.0 ≡ vs) × (found.1.now ≡ pairs_shown others)) }
-    ensures read { (vs : List StoredPair) (others : List Stored) → AllByRecursion IsPair vs → AllByRecursion (λ (e : Stored). position < e.position) others
-        → rows.now ≡ map (pair_columns position) vs ++ pairs_shown others → IfErr result IsNoMemory }
+    ensures meta { (vs : List StoredPair) (others : List Stored) → AllByRecursion IsPair vs
+        → AllByRecursion (λ (e : Stored). position < e.position) others
+        → rows.now ≡ map (pair_columns position) vs ++ pairs_shown others
+        → IfOk result (λ found. (found.0 ≡ vs) × (found.1.now ≡ pairs_shown others)) }
+    ensures read { (vs : List StoredPair) (others : List Stored) → AllByRecursion IsPair vs
+        → AllByRecursion (λ (e : Stored). position < e.position) others
+        → rows.now ≡ map (pair_columns position) vs ++ pairs_shown others
+        → IfErr result IsNoMemory }
     ensures failed { IfErr result IsStoreFault }
 {
     let mut meta = Variables::new(alloc);
@@ -123,8 +135,10 @@ pub(crate) fn meta_in(
 
 /// The entry in a row, with these pairs.
 pub(crate) fn entry_in(row: &Row, meta: Variables) -> Result<Entry, StoreFault>
-    ensures entry { (e : Stored) → IsEntry e → row.now ≡ entry_columns e → meta ≡ e.meta → IfOk result (λ x. x ≡ e) }
-    ensures read { (e : Stored) → IsEntry e → e.position < 2 ^ 32 → row.now ≡ entry_columns e → IfErr result IsNoMemory }
+    ensures entry { (e : Stored) → IsEntry e → row.now ≡ entry_columns e → meta ≡ e.meta
+        → IfOk result (λ x. x ≡ e) }
+    ensures read { (e : Stored) → IsEntry e → e.position < 2 ^ 32 → row.now ≡ entry_columns e
+        → IfErr result IsNoMemory }
     ensures failed { IfErr result IsStoreFault }
 {
     let position = small_in(row, 0)?;
@@ -156,9 +170,13 @@ pub(crate) fn entries_in(
     rows: &[Row],
     pairs: &[Row],
 ) -> Result<Vec<Entry>, StoreFault>
-    ensures entries { (es : List Stored) → AllByRecursion IsEntry es → IsAscending (λ (a b : Stored). a.position < b.position) es → rows.now ≡ map entry_columns es → pairs.now ≡ pairs_shown es
+    ensures entries { (es : List Stored) → AllByRecursion IsEntry es
+        → IsAscending (λ (a b : Stored). a.position < b.position) es
+        → rows.now ≡ map entry_columns es → pairs.now ≡ pairs_shown es
         → IfOk result (λ found. found.items ≡ es) }
-    ensures read { (es : List Stored) → AllByRecursion IsEntry es → IsAscending (λ (a b : Stored). a.position < b.position) es → AllByRecursion (λ (e : Stored). e.position < 2 ^ 32) es
+    ensures read { (es : List Stored) → AllByRecursion IsEntry es
+        → IsAscending (λ (a b : Stored). a.position < b.position) es
+        → AllByRecursion (λ (e : Stored). e.position < 2 ^ 32) es
         → rows.now ≡ map entry_columns es → pairs.now ≡ pairs_shown es → IfErr result IsNoMemory }
     ensures failed { IfErr result IsStoreFault }
 {
@@ -179,11 +197,17 @@ pub(crate) fn all_pairs<S: Alter>(
     run: u64,
 ) -> Result<Vec<Row>, StoreFault>
     requires { run < 2 ^ 63 }
-    ensures all { (runs : _) → StandsFor (state S.Store conn.old) runs → HasCleanDisk (state S.Store conn.new) → IfOk result (λ rows. rows.items ≡ pairs_shown (entries_of (run_at runs run))) }
+    ensures all { (runs : _) → StandsFor (state S.Store conn.old) runs
+        → HasCleanDisk (state S.Store conn.new)
+        → IfOk result (λ rows. rows.items ≡ pairs_shown (entries_of (run_at runs run))) }
     ensures failed { IfErr result IsStoreFault }
-    ensures cause { (runs : _) → StandsFor (state S.Store conn.old) runs → HasCleanDisk (state S.Store conn.new) → IfErr result (IsCaused S.Store ((pairs_text, Int (pos run) ∷ []) ∷ []) conn.new) }
-    ensures stands { (runs : _) → StandsFor (state S.Store conn.old) runs → StandsFor (state S.Store conn.new) runs }
-    ensures crash { (runs : _) → StandsFor (state S.Store conn.old) runs → Survives (state S.Store conn.old) (state S.Store conn.new) (λ _. ⊥) }
+    ensures cause { (runs : _) → StandsFor (state S.Store conn.old) runs
+        → HasCleanDisk (state S.Store conn.new)
+        → IfErr result (IsCaused S.Store ((pairs_text, Int (pos run) ∷ []) ∷ []) conn.new) }
+    ensures stands { (runs : _) → StandsFor (state S.Store conn.old) runs
+        → StandsFor (state S.Store conn.new) runs }
+    ensures crash { (runs : _) → StandsFor (state S.Store conn.old) runs
+        → Survives (state S.Store conn.old) (state S.Store conn.new) (λ _. ⊥) }
 {
     let rows = ask(
         conn,
@@ -196,12 +220,19 @@ pub(crate) fn all_pairs<S: Alter>(
 /// The rows of a run's entries, by position.
 pub(crate) fn all_rows<S: Alter>(conn: &mut Connection<S>, run: u64) -> Result<Vec<Row>, StoreFault>
     requires { run < 2 ^ 63 }
-    ensures all { (runs : _) → StandsFor (state S.Store conn.old) runs → HasCleanDisk (state S.Store conn.new) → IfOk result (λ rows. rows.items ≡ map entry_columns (entries_of (run_at runs run))) }
-    ensures valid { (runs : _) → StandsFor (state S.Store conn.old) runs → HasCleanDisk (state S.Store conn.new) → OnOk result (AreRuns runs) }
+    ensures all { (runs : _) → StandsFor (state S.Store conn.old) runs
+        → HasCleanDisk (state S.Store conn.new)
+        → IfOk result (λ rows. rows.items ≡ map entry_columns (entries_of (run_at runs run))) }
+    ensures valid { (runs : _) → StandsFor (state S.Store conn.old) runs
+        → HasCleanDisk (state S.Store conn.new) → OnOk result (AreRuns runs) }
     ensures failed { IfErr result IsStoreFault }
-    ensures cause { (runs : _) → StandsFor (state S.Store conn.old) runs → HasCleanDisk (state S.Store conn.new) → IfErr result (IsCaused S.Store ((entries_text, Int (pos run) ∷ []) ∷ []) conn.new) }
-    ensures stands { (runs : _) → StandsFor (state S.Store conn.old) runs → StandsFor (state S.Store conn.new) runs }
-    ensures crash { (runs : _) → StandsFor (state S.Store conn.old) runs → Survives (state S.Store conn.old) (state S.Store conn.new) (λ _. ⊥) }
+    ensures cause { (runs : _) → StandsFor (state S.Store conn.old) runs
+        → HasCleanDisk (state S.Store conn.new)
+        → IfErr result (IsCaused S.Store ((entries_text, Int (pos run) ∷ []) ∷ []) conn.new) }
+    ensures stands { (runs : _) → StandsFor (state S.Store conn.old) runs
+        → StandsFor (state S.Store conn.new) runs }
+    ensures crash { (runs : _) → StandsFor (state S.Store conn.old) runs
+        → Survives (state S.Store conn.old) (state S.Store conn.new) (λ _. ⊥) }
 {
     let rows = ask(
         conn,
@@ -218,11 +249,18 @@ pub(crate) fn all_entries<S: Alter>(
     run: u64,
 ) -> Result<Vec<Entry>, StoreFault>
     requires { run < 2 ^ 63 }
-    ensures all { (runs : _) → StandsFor (state S.Store conn.old) runs → HasCleanDisk (state S.Store conn.new) → IfOk result (λ found. found.items ≡ entries_of (run_at runs run)) }
+    ensures all { (runs : _) → StandsFor (state S.Store conn.old) runs
+        → HasCleanDisk (state S.Store conn.new)
+        → IfOk result (λ found. found.items ≡ entries_of (run_at runs run)) }
     ensures failed { IfErr result IsStoreFault }
-    ensures cause { (runs : _) → StandsFor (state S.Store conn.old) runs → HasCleanDisk (state S.Store conn.new) → IfErr result (IsCaused S.Store ((entries_text, Int (pos run) ∷ []) ∷ (pairs_text, Int (pos run) ∷ []) ∷ []) conn.new) }
-    ensures stands { (runs : _) → StandsFor (state S.Store conn.old) runs → StandsFor (state S.Store conn.new) runs }
-    ensures crash { (runs : _) → StandsFor (state S.Store conn.old) runs → Survives (state S.Store conn.old) (state S.Store conn.new) (λ _. ⊥) }
+    ensures cause { (runs : _) → StandsFor (state S.Store conn.old) runs
+        → HasCleanDisk (state S.Store conn.new)
+        → IfErr result (IsCaused S.Store
+        ((entries_text, Int (pos run) ∷ []) ∷ (pairs_text, Int (pos run) ∷ []) ∷ []) conn.new) }
+    ensures stands { (runs : _) → StandsFor (state S.Store conn.old) runs
+        → StandsFor (state S.Store conn.new) runs }
+    ensures crash { (runs : _) → StandsFor (state S.Store conn.old) runs
+        → Survives (state S.Store conn.old) (state S.Store conn.new) (λ _. ⊥) }
 {
     let rows = all_rows(conn, run)?;
     let pairs = all_pairs(conn, run)?;

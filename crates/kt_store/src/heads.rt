@@ -19,7 +19,8 @@ use std::alloc::Global;
 /// The head in a row.
 pub(crate) fn head_in(row: &Row) -> Result<RunHead, StoreFault>
     ensures head { (r : Stored) → row.now ≡ head_columns r → IfOk result (λ h. h ≡ head_of r) }
-    ensures read { (r : Stored) → r.total < 2 ^ 32 → row.now ≡ head_columns r → IfErr result IsNoMemory }
+    ensures read { (r : Stored) → r.total < 2 ^ 32 → row.now ≡ head_columns r
+        → IfErr result IsNoMemory }
     ensures failed { IfErr result IsStoreFault }
 {
     let number = number_in(row, 0)?;
@@ -36,8 +37,10 @@ pub(crate) fn head_in(row: &Row) -> Result<RunHead, StoreFault>
 
 /// The heads in the rows.
 pub(crate) fn heads_in(alloc: Global, rows: &[Row]) -> Result<Vec<RunHead>, StoreFault>
-    ensures heads { (runs : List Stored) → rows.now ≡ map head_columns runs → IfOk result (λ heads. heads.items ≡ map head_of runs) }
-    ensures read { (runs : List Stored) → AllByRecursion (λ (r : Stored). r.total < 2 ^ 32) runs → rows.now ≡ map head_columns runs → IfErr result IsNoMemory }
+    ensures heads { (runs : List Stored) → rows.now ≡ map head_columns runs
+        → IfOk result (λ heads. heads.items ≡ map head_of runs) }
+    ensures read { (runs : List Stored) → AllByRecursion (λ (r : Stored). r.total < 2 ^ 32) runs
+        → rows.now ≡ map head_columns runs → IfErr result IsNoMemory }
     ensures failed { IfErr result IsStoreFault }
 {
     let mut heads = Vec::new(alloc);
@@ -53,11 +56,17 @@ pub(crate) fn all_heads<S: Alter>(
     conn: &mut Connection<S>,
     alloc: Global,
 ) -> Result<Vec<RunHead>, StoreFault>
-    ensures all { (runs : _) → StandsFor (state S.Store conn.old) runs → HasCleanDisk (state S.Store conn.new) → IfOk result (λ heads. heads.items ≡ map head_of runs) }
-    ensures cause { (runs : _) → StandsFor (state S.Store conn.old) runs → HasCleanDisk (state S.Store conn.new) → IfErr result (IsCaused S.Store runs_statements conn.new) }
+    ensures all { (runs : _) → StandsFor (state S.Store conn.old) runs
+        → HasCleanDisk (state S.Store conn.new)
+        → IfOk result (λ heads. heads.items ≡ map head_of runs) }
+    ensures cause { (runs : _) → StandsFor (state S.Store conn.old) runs
+        → HasCleanDisk (state S.Store conn.new)
+        → IfErr result (IsCaused S.Store runs_statements conn.new) }
     ensures failed { IfErr result IsStoreFault }
-    ensures stands { (runs : _) → StandsFor (state S.Store conn.old) runs → StandsFor (state S.Store conn.new) runs }
-    ensures crash { (runs : _) → StandsFor (state S.Store conn.old) runs → Survives (state S.Store conn.old) (state S.Store conn.new) (λ _. ⊥) }
+    ensures stands { (runs : _) → StandsFor (state S.Store conn.old) runs
+        → StandsFor (state S.Store conn.new) runs }
+    ensures crash { (runs : _) → StandsFor (state S.Store conn.old) runs
+        → Survives (state S.Store conn.old) (state S.Store conn.new) (λ _. ⊥) }
 {
     let rows = ask(
         conn,

@@ -21,12 +21,19 @@ pub(crate) fn find<S: Alter>(
 ) -> Result<Option<(u64, u64)>, StoreFault>
     requires { run < 2 ^ 63 }
     ensures failed { IfErr result IsStoreFault }
-    ensures cause { (runs : _) → StandsFor (state S.Store conn.old) runs → HasCleanDisk (state S.Store conn.new) → IfErr result (IsCaused S.Store ((run_text, Int (pos run) ∷ []) ∷ []) conn.new) }
-    ensures crash { (runs : _) → StandsFor (state S.Store conn.old) runs → Survives (state S.Store conn.old) (state S.Store conn.new) (λ _. ⊥) }
-    ensures valid { (runs : _) → StandsFor (state S.Store conn.old) runs → HasCleanDisk (state S.Store conn.new) → OnOk result (AreRuns runs) }
-    ensures kept { (runs : _) → StandsFor (state S.Store conn.old) runs → StandsFor (state S.Store conn.new) runs }
-    ensures found { (runs : _) → StandsFor (state S.Store conn.old) runs → HasCleanDisk (state S.Store conn.new)
-        → IfOk result (λ o. o ≡ option_map (λ r. (r.total, unsigned_abs (flag r.finished))) (run_at runs run)) }
+    ensures cause { (runs : _) → StandsFor (state S.Store conn.old) runs
+        → HasCleanDisk (state S.Store conn.new)
+        → IfErr result (IsCaused S.Store ((run_text, Int (pos run) ∷ []) ∷ []) conn.new) }
+    ensures crash { (runs : _) → StandsFor (state S.Store conn.old) runs
+        → Survives (state S.Store conn.old) (state S.Store conn.new) (λ _. ⊥) }
+    ensures valid { (runs : _) → StandsFor (state S.Store conn.old) runs
+        → HasCleanDisk (state S.Store conn.new) → OnOk result (AreRuns runs) }
+    ensures kept { (runs : _) → StandsFor (state S.Store conn.old) runs
+        → StandsFor (state S.Store conn.new) runs }
+    ensures found { (runs : _) → StandsFor (state S.Store conn.old) runs
+        → HasCleanDisk (state S.Store conn.new)
+        → IfOk result (λ o. o ≡ option_map (λ r. (r.total, unsigned_abs (flag r.finished)))
+        (run_at runs run)) }
 {
     let rows = ask(
         conn,
@@ -54,12 +61,19 @@ pub(crate) fn key(run: u64) -> u64
 /// The total of a run that is there, and whether it is finished.
 pub(crate) fn look<S: Alter>(conn: &mut Connection<S>, run: u64) -> Result<(u64, bool), StoreFault>
     ensures small { OnOk result (run ≤ 1000000) }
-    ensures cause { (runs : _) → StandsFor (state S.Store conn.old) runs → HasCleanDisk (state S.Store conn.new) → IfErr result (IsCaused S.Store (look_statement run ∷ []) conn.new) }
-    ensures stands { (runs : _) → StandsFor (state S.Store conn.old) runs → StandsFor (state S.Store conn.new) runs }
-    ensures crash { (runs : _) → StandsFor (state S.Store conn.old) runs → Survives (state S.Store conn.old) (state S.Store conn.new) (λ _. ⊥) }
-    ensures found { (runs : _) → StandsFor (state S.Store conn.old) runs → HasCleanDisk (state S.Store conn.new)
-        → IfOk result (λ p. (r : _) × (run_at runs run ≡ Some r) × (p.0 ≡ r.total) × (p.1 ≡ r.finished) × AreRuns runs) }
-    ensures refused { (runs : _) → StandsFor (state S.Store conn.old) runs → HasCleanDisk (state S.Store conn.new)
+    ensures cause { (runs : _) → StandsFor (state S.Store conn.old) runs
+        → HasCleanDisk (state S.Store conn.new)
+        → IfErr result (IsCaused S.Store (look_statement run ∷ []) conn.new) }
+    ensures stands { (runs : _) → StandsFor (state S.Store conn.old) runs
+        → StandsFor (state S.Store conn.new) runs }
+    ensures crash { (runs : _) → StandsFor (state S.Store conn.old) runs
+        → Survives (state S.Store conn.old) (state S.Store conn.new) (λ _. ⊥) }
+    ensures found { (runs : _) → StandsFor (state S.Store conn.old) runs
+        → HasCleanDisk (state S.Store conn.new)
+        → IfOk result (λ p. (r : _) × (run_at runs run ≡ Some r) × (p.0 ≡ r.total)
+        × (p.1 ≡ r.finished) × AreRuns runs) }
+    ensures refused { (runs : _) → StandsFor (state S.Store conn.old) runs
+        → HasCleanDisk (state S.Store conn.new)
         → IfErr result (λ e. IsStoreFault e ⊎ ((e ≡ StoreFault.NoRun) × (run_at runs run ≡ None))) }
 {
     let number = key(run);
@@ -80,10 +94,15 @@ pub(crate) fn there<S: Alter>(
 ) -> Result<bool, StoreFault>
     requires { run < 2 ^ 63 }
     ensures failed { IfErr result IsStoreFault }
-    ensures cause { (runs : _) → StandsFor (state S.Store conn.old) runs → HasCleanDisk (state S.Store conn.new) → IfErr result (IsCaused S.Store (there_statement run position ∷ []) conn.new) }
-    ensures stands { (runs : _) → StandsFor (state S.Store conn.old) runs → StandsFor (state S.Store conn.new) runs }
-    ensures crash { (runs : _) → StandsFor (state S.Store conn.old) runs → Survives (state S.Store conn.old) (state S.Store conn.new) (λ _. ⊥) }
-    ensures found { (runs : _) → StandsFor (state S.Store conn.old) runs → HasCleanDisk (state S.Store conn.new)
+    ensures cause { (runs : _) → StandsFor (state S.Store conn.old) runs
+        → HasCleanDisk (state S.Store conn.new)
+        → IfErr result (IsCaused S.Store (there_statement run position ∷ []) conn.new) }
+    ensures stands { (runs : _) → StandsFor (state S.Store conn.old) runs
+        → StandsFor (state S.Store conn.new) runs }
+    ensures crash { (runs : _) → StandsFor (state S.Store conn.old) runs
+        → Survives (state S.Store conn.old) (state S.Store conn.new) (λ _. ⊥) }
+    ensures found { (runs : _) → StandsFor (state S.Store conn.old) runs
+        → HasCleanDisk (state S.Store conn.new)
         → IfOk result (λ b. b ≡ has_position position (entries_of (run_at runs run))) }
 {
     let rows = ask(

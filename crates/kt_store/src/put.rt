@@ -74,12 +74,18 @@ pub(crate) fn add_pair<S: Alter>(
 ) -> Result<(), StoreFault>
     requires { (run < 2 ^ 63) × (place < 2 ^ 63) }
     ensures same_reference { tx.new.conn.ghost_name ≡ tx.old.conn.ghost_name }
-    ensures runs { HasCleanDisk (state S.Store tx.new.conn.now) → IsTrue (state S.Store tx.old.conn.now).in_transaction
-        → OnOk result (RunsInside S.Store (pair_text, pair_row run position place pair.now) tx.old.conn.now tx.new.conn.now) }
-    ensures cause { HasCleanDisk (state S.Store tx.new.conn.now) → IsTrue (state S.Store tx.old.conn.now).in_transaction
-        → IfErr result (λ e. (error : _) × Tells error e × ExecutesInside 0 pair_text (pair_row run position place pair.now) (state S.Store tx.old.conn.now) (state S.Store tx.new.conn.now) (Err error)) }
+    ensures runs { HasCleanDisk (state S.Store tx.new.conn.now)
+        → IsTrue (state S.Store tx.old.conn.now).in_transaction
+        → OnOk result (RunsInside S.Store
+        (pair_text, pair_row run position place pair.now) tx.old.conn.now tx.new.conn.now) }
+    ensures cause { HasCleanDisk (state S.Store tx.new.conn.now)
+        → IsTrue (state S.Store tx.old.conn.now).in_transaction
+        → IfErr result (λ e. (error : _) × Tells error e
+        × ExecutesInside 0 pair_text (pair_row run position place pair.now)
+        (state S.Store tx.old.conn.now) (state S.Store tx.new.conn.now) (Err error)) }
     ensures failed { IfErr result IsStoreFault }
-    ensures survives { Survives (state S.Store tx.old.conn.now) (state S.Store tx.new.conn.now) (λ _. ⊥) }
+    ensures survives { Survives (state S.Store tx.old.conn.now) (state S.Store tx.new.conn.now)
+        (λ _. ⊥) }
 {
     step(
         tx,
@@ -104,12 +110,16 @@ pub(crate) fn add_pairs<S: Alter>(
 ) -> Result<(), StoreFault>
     requires { run < 2 ^ 63 }
     ensures same_reference { tx.new.conn.ghost_name ≡ tx.old.conn.ghost_name }
-    ensures runs { HasCleanDisk (state S.Store tx.new.conn.now) → IsTrue (state S.Store tx.old.conn.now).in_transaction
-        → OnOk result (RunInTurn S.Store (pair_statements run position 0 pairs.now) tx.old.conn.now tx.new.conn.now) }
-    ensures cause { HasCleanDisk (state S.Store tx.new.conn.now) → IsTrue (state S.Store tx.old.conn.now).in_transaction
+    ensures runs { HasCleanDisk (state S.Store tx.new.conn.now)
+        → IsTrue (state S.Store tx.old.conn.now).in_transaction
+        → OnOk result (RunInTurn S.Store
+        (pair_statements run position 0 pairs.now) tx.old.conn.now tx.new.conn.now) }
+    ensures cause { HasCleanDisk (state S.Store tx.new.conn.now)
+        → IsTrue (state S.Store tx.old.conn.now).in_transaction
         → IfErr result (λ e. (error : _) × Tells error e × StopInTurn S.Store (pair_statements run position 0 pairs.now) tx.old.conn.now tx.new.conn.now error) }
     ensures failed { IfErr result IsStoreFault }
-    ensures survives { Survives (state S.Store tx.old.conn.now) (state S.Store tx.new.conn.now) (λ _. ⊥) }
+    ensures survives { Survives (state S.Store tx.old.conn.now) (state S.Store tx.new.conn.now)
+        (λ _. ⊥) }
 {
     let mut place = 0;
     for pair in pairs {
@@ -128,14 +138,20 @@ pub(crate) fn fill<S: Alter>(
 ) -> Result<(), StoreFault>
     requires run { run < 2 ^ 63 }
     requires reason { reason.now ≡ entry.now.verdict.reason }
-    requires moments { (entry.now.started ≤ 253402300799999) × (entry.now.millis ≤ 253402300799999) }
+    requires moments { (entry.now.started ≤ 253402300799999)
+        × (entry.now.millis ≤ 253402300799999) }
     ensures same_reference { tx.new.conn.ghost_name ≡ tx.old.conn.ghost_name }
-    ensures runs { HasCleanDisk (state S.Store tx.new.conn.now) → IsTrue (state S.Store tx.old.conn.now).in_transaction
-        → OnOk result (RunInTurn S.Store (entry_statements run entry.now) tx.old.conn.now tx.new.conn.now) }
-    ensures cause { HasCleanDisk (state S.Store tx.new.conn.now) → IsTrue (state S.Store tx.old.conn.now).in_transaction
-        → IfErr result (IsStopped S.Store (entry_statements run entry.now) tx.old.conn.now tx.new.conn.now) }
+    ensures runs { HasCleanDisk (state S.Store tx.new.conn.now)
+        → IsTrue (state S.Store tx.old.conn.now).in_transaction
+        → OnOk result (RunInTurn S.Store
+        (entry_statements run entry.now) tx.old.conn.now tx.new.conn.now) }
+    ensures cause { HasCleanDisk (state S.Store tx.new.conn.now)
+        → IsTrue (state S.Store tx.old.conn.now).in_transaction
+        → IfErr result (IsStopped S.Store
+        (entry_statements run entry.now) tx.old.conn.now tx.new.conn.now) }
     ensures failed { IfErr result IsStoreFault }
-    ensures survives { Survives (state S.Store tx.old.conn.now) (state S.Store tx.new.conn.now) (λ _. ⊥) }
+    ensures survives { Survives (state S.Store tx.old.conn.now) (state S.Store tx.new.conn.now)
+        (λ _. ⊥) }
 {
     step(
         tx,
@@ -169,15 +185,27 @@ pub(crate) fn commit_entry<S: Alter>(
     requires mode { conn.old.in_transaction ≡ false }
     requires run { run < 2 ^ 63 }
     requires reason { reason.now ≡ entry.now.verdict.reason }
-    requires moments { (entry.now.started ≤ 253402300799999) × (entry.now.millis ≤ 253402300799999) }
-    ensures added { (runs : _) → StandsFor (state S.Store conn.old) runs → (HasCleanDisk (state S.Store conn.old) → (k : _) × (run ≡ suc k) × (k < length runs) × AllByRecursion IsRun (with_entry run entry.now runs))
+    requires moments { (entry.now.started ≤ 253402300799999)
+        × (entry.now.millis ≤ 253402300799999) }
+    ensures added { (runs : _) → StandsFor (state S.Store conn.old) runs
+        → (HasCleanDisk (state S.Store conn.old) → (k : _) × (run ≡ suc k) × (k < length runs)
+        × AllByRecursion IsRun (with_entry run entry.now runs))
         → OnOk result (StandsFor (state S.Store conn.new) (with_entry run entry.now runs)) }
-    ensures kept { (runs : _) → StandsFor (state S.Store conn.old) runs → OnErr result (StandsFor (state S.Store conn.new) runs) }
+    ensures kept { (runs : _) → StandsFor (state S.Store conn.old) runs
+        → OnErr result (StandsFor (state S.Store conn.new) runs) }
     ensures failed { IfErr result IsStoreFault }
-    ensures cause { (runs : _) → StandsFor (state S.Store conn.old) runs → IsTrue (state S.Store conn.old).is_open → HasCleanDisk (state S.Store conn.new) → IfErr result (IsCausedInside S.Store (HoldsRuns S.Store runs) (put_statements run entry.now) (entry_statements run entry.now) conn.new) }
-    ensures crash { (runs : _) → StandsFor (state S.Store conn.old) runs → (HasCleanDisk (state S.Store conn.old) → (k : _) × (run ≡ suc k) × (k < length runs) × AllByRecursion IsRun (with_entry run entry.now runs))
-        → Survives (state S.Store conn.old) (state S.Store conn.new) (Keeps (with_entry run entry.now runs)) }
-    ensures durable { (runs : _) → StandsFor (state S.Store conn.old) runs → (HasCleanDisk (state S.Store conn.old) → (k : _) × (run ≡ suc k) × (k < length runs) × AllByRecursion IsRun (with_entry run entry.now runs))
+    ensures cause { (runs : _) → StandsFor (state S.Store conn.old) runs
+        → IsTrue (state S.Store conn.old).is_open → HasCleanDisk (state S.Store conn.new)
+        → IfErr result (IsCausedInside S.Store (HoldsRuns S.Store runs)
+        (put_statements run entry.now) (entry_statements run entry.now) conn.new) }
+    ensures crash { (runs : _) → StandsFor (state S.Store conn.old) runs
+        → (HasCleanDisk (state S.Store conn.old) → (k : _) × (run ≡ suc k) × (k < length runs)
+        × AllByRecursion IsRun (with_entry run entry.now runs))
+        → Survives (state S.Store conn.old) (state S.Store conn.new)
+        (Keeps (with_entry run entry.now runs)) }
+    ensures durable { (runs : _) → StandsFor (state S.Store conn.old) runs
+        → (HasCleanDisk (state S.Store conn.old) → (k : _) × (run ≡ suc k) × (k < length runs)
+        × AllByRecursion IsRun (with_entry run entry.now runs))
         → OnOk result (Leaves (state S.Store conn.new) (Keeps (with_entry run entry.now runs))) }
 {
     let mut tx = conn.transaction();
@@ -196,15 +224,27 @@ pub(crate) fn add_entry<S: Alter>(
 ) -> Result<(), StoreFault>
     requires run { run < 2 ^ 63 }
     requires reason { reason.now ≡ entry.now.verdict.reason }
-    requires moments { (entry.now.started ≤ 253402300799999) × (entry.now.millis ≤ 253402300799999) }
-    ensures added { (runs : _) → StandsFor (state S.Store conn.old) runs → (HasCleanDisk (state S.Store conn.old) → (k : _) × (run ≡ suc k) × (k < length runs) × AllByRecursion IsRun (with_entry run entry.now runs))
+    requires moments { (entry.now.started ≤ 253402300799999)
+        × (entry.now.millis ≤ 253402300799999) }
+    ensures added { (runs : _) → StandsFor (state S.Store conn.old) runs
+        → (HasCleanDisk (state S.Store conn.old) → (k : _) × (run ≡ suc k) × (k < length runs)
+        × AllByRecursion IsRun (with_entry run entry.now runs))
         → OnOk result (StandsFor (state S.Store conn.new) (with_entry run entry.now runs)) }
-    ensures kept { (runs : _) → StandsFor (state S.Store conn.old) runs → OnErr result (StandsFor (state S.Store conn.new) runs) }
+    ensures kept { (runs : _) → StandsFor (state S.Store conn.old) runs
+        → OnErr result (StandsFor (state S.Store conn.new) runs) }
     ensures failed { IfErr result IsStoreFault }
-    ensures cause { (runs : _) → StandsFor (state S.Store conn.old) runs → HasCleanDisk (state S.Store conn.new) → IfErr result (IsCausedInside S.Store (HoldsRuns S.Store runs) (put_statements run entry.now) (entry_statements run entry.now) conn.new) }
-    ensures crash { (runs : _) → StandsFor (state S.Store conn.old) runs → (HasCleanDisk (state S.Store conn.old) → (k : _) × (run ≡ suc k) × (k < length runs) × AllByRecursion IsRun (with_entry run entry.now runs))
-        → Survives (state S.Store conn.old) (state S.Store conn.new) (Keeps (with_entry run entry.now runs)) }
-    ensures durable { (runs : _) → StandsFor (state S.Store conn.old) runs → (HasCleanDisk (state S.Store conn.old) → (k : _) × (run ≡ suc k) × (k < length runs) × AllByRecursion IsRun (with_entry run entry.now runs))
+    ensures cause { (runs : _) → StandsFor (state S.Store conn.old) runs
+        → HasCleanDisk (state S.Store conn.new)
+        → IfErr result (IsCausedInside S.Store (HoldsRuns S.Store runs)
+        (put_statements run entry.now) (entry_statements run entry.now) conn.new) }
+    ensures crash { (runs : _) → StandsFor (state S.Store conn.old) runs
+        → (HasCleanDisk (state S.Store conn.old) → (k : _) × (run ≡ suc k) × (k < length runs)
+        × AllByRecursion IsRun (with_entry run entry.now runs))
+        → Survives (state S.Store conn.old) (state S.Store conn.new)
+        (Keeps (with_entry run entry.now runs)) }
+    ensures durable { (runs : _) → StandsFor (state S.Store conn.old) runs
+        → (HasCleanDisk (state S.Store conn.old) → (k : _) × (run ≡ suc k) × (k < length runs)
+        × AllByRecursion IsRun (with_entry run entry.now runs))
         → OnOk result (Leaves (state S.Store conn.new) (Keeps (with_entry run entry.now runs))) }
 {
     let sql =
@@ -224,13 +264,21 @@ pub(crate) fn check<S: Alter>(
     entry: &Entry,
 ) -> Result<(), StoreFault>
     ensures small { OnOk result (run ≤ 1000000) }
-    ensures cause { (runs : _) → StandsFor (state S.Store conn.old) runs → HasCleanDisk (state S.Store conn.new) → IfErr result (IsCaused S.Store (put_statements run entry.now) conn.new) }
-    ensures stands { (runs : _) → StandsFor (state S.Store conn.old) runs → StandsFor (state S.Store conn.new) runs }
-    ensures crash { (runs : _) → StandsFor (state S.Store conn.old) runs → Survives (state S.Store conn.old) (state S.Store conn.new) (λ _. ⊥) }
-    ensures refused { (runs : _) → StandsFor (state S.Store conn.old) runs → HasCleanDisk (state S.Store conn.new)
+    ensures cause { (runs : _) → StandsFor (state S.Store conn.old) runs
+        → HasCleanDisk (state S.Store conn.new)
+        → IfErr result (IsCaused S.Store (put_statements run entry.now) conn.new) }
+    ensures stands { (runs : _) → StandsFor (state S.Store conn.old) runs
+        → StandsFor (state S.Store conn.new) runs }
+    ensures crash { (runs : _) → StandsFor (state S.Store conn.old) runs
+        → Survives (state S.Store conn.old) (state S.Store conn.new) (λ _. ⊥) }
+    ensures refused { (runs : _) → StandsFor (state S.Store conn.old) runs
+        → HasCleanDisk (state S.Store conn.new)
         → IfErr result (λ e. IsStoreFault e ⊎ (put_refusal runs run entry.now ≡ Some e)) }
-    ensures taken { (runs : _) → StandsFor (state S.Store conn.old) runs → HasCleanDisk (state S.Store conn.new)
-        → OnOk result (IsEntry entry.now → (put_refusal runs run entry.now ≡ None) × (k : _) × (run ≡ suc k) × (k < length runs) × AllByRecursion IsRun (with_entry run entry.now runs)) }
+    ensures taken { (runs : _) → StandsFor (state S.Store conn.old) runs
+        → HasCleanDisk (state S.Store conn.new)
+        → OnOk result (IsEntry entry.now → (put_refusal runs run entry.now ≡ None) × (k : _)
+        × (run ≡ suc k) × (k < length runs)
+        × AllByRecursion IsRun (with_entry run entry.now runs)) }
 {
     let (total, finished) = look(conn, run)?;
     if finished {

@@ -9,7 +9,8 @@ use sqlite::Row;
 /// A number of a row. A negative one is refused.
 pub(crate) fn number_in(row: &Row, at: usize) -> Result<u64, StoreFault>
     ensures number { IfOk result (λ n. column row.now at ≡ Int (pos n)) }
-    ensures read { (n : ℕ) → at < length row.now → column row.now at ≡ Int (pos n) → IfErr result IsNoMemory }
+    ensures read { (n : ℕ) → at < length row.now → column row.now at ≡ Int (pos n)
+        → IfErr result IsNoMemory }
     ensures failed { IfErr result IsStoreFault }
 {
     let number = row.get::<u64>(at)?;
@@ -19,7 +20,8 @@ pub(crate) fn number_in(row: &Row, at: usize) -> Result<u64, StoreFault>
 /// A number of a row, 0 to 4,294,967,295. Any other is refused.
 pub(crate) fn small_in(row: &Row, at: usize) -> Result<u32, StoreFault>
     ensures number { IfOk result (λ n. column row.now at ≡ Int (pos n)) }
-    ensures read { (n : ℕ) → n < 2 ^ 32 → at < length row.now → column row.now at ≡ Int (pos n) → IfErr result IsNoMemory }
+    ensures read { (n : ℕ) → n < 2 ^ 32 → at < length row.now → column row.now at ≡ Int (pos n)
+        → IfErr result IsNoMemory }
     ensures failed { IfErr result IsStoreFault }
 {
     let number = row.get::<u32>(at)?;

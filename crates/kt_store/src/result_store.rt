@@ -30,60 +30,93 @@ pub trait ResultStore {
     fn begin(&mut self, total: u32, moment: u64) -> Result<u64, StoreFault>
         requires { moment ≤ 253402300799999 }
         ensures asked { answers self.old (Began total moment result) self.new }
-        ensures added { (runs : List Run) → stands self.old runs → OnOk result (stands self.new (runs ++ new_run runs total moment ∷ [])) }
-        ensures number { (runs : List Run) → stands self.old runs → sound self.new → IfOk result (λ n. n ≡ suc (length runs)) }
-        ensures allowed { (runs : List Run) → stands self.old runs → sound self.new → OnOk result (length runs < 1000000) }
-        ensures kept { (runs : List Run) → stands self.old runs → OnErr result (stands self.new runs) }
-        ensures refused { (runs : List Run) → stands self.old runs → sound self.new → IfErr result (λ e. IsStoreFault e ⊎ ((e ≡ StoreFull) × (1000000 ≤ length runs))) }
-        ensures earlier { (runs : List Run) → stands self.old runs → sound self.new → sound self.old }
+        ensures added { (runs : List Run) → stands self.old runs
+            → OnOk result (stands self.new (runs ++ new_run runs total moment ∷ [])) }
+        ensures number { (runs : List Run) → stands self.old runs → sound self.new
+            → IfOk result (λ n. n ≡ suc (length runs)) }
+        ensures allowed { (runs : List Run) → stands self.old runs → sound self.new
+            → OnOk result (length runs < 1000000) }
+        ensures kept { (runs : List Run) → stands self.old runs
+            → OnErr result (stands self.new runs) }
+        ensures refused { (runs : List Run) → stands self.old runs → sound self.new
+            → IfErr result (λ e. IsStoreFault e ⊎ ((e ≡ StoreFull) × (1000000 ≤ length runs))) }
+        ensures earlier { (runs : List Run) → stands self.old runs → sound self.new
+            → sound self.old }
         // A crash leaves what it left before the call, or the runs with the new one; after Ok nothing else.
-        ensures crash { (runs : List Run) (may : List (List Run)) → stands self.old runs → leaves self.old (runs ∷ may) → leaves self.new (runs ∷ (runs ++ new_run runs total moment ∷ []) ∷ may) }
-        ensures durable { (runs : List Run) → stands self.old runs → OnOk result (leaves self.new ((runs ++ new_run runs total moment ∷ []) ∷ [])) };
+        ensures crash { (runs : List Run) (may : List (List Run)) → stands self.old runs
+            → leaves self.old (runs ∷ may)
+            → leaves self.new (runs ∷ (runs ++ new_run runs total moment ∷ []) ∷ may) }
+        ensures durable { (runs : List Run) → stands self.old runs
+            → OnOk result (leaves self.new ((runs ++ new_run runs total moment ∷ []) ∷ [])) };
 
     /// Adds an entry to a run. Refused, in this order, are: no such run, a run that is finished, a position that is not
     /// below the total, a position that is there.
     fn put(&mut self, run: u64, entry: &Entry) -> Result<(), StoreFault>
         requires { (entry.now.started ≤ 253402300799999) × (entry.now.millis ≤ 253402300799999) }
         ensures asked { answers self.old (Put run entry.now result) self.new }
-        ensures added { (runs : List Run) → stands self.old runs → OnOk result (stands self.new (with_entry run entry.now runs)) }
-        ensures allowed { (runs : List Run) → stands self.old runs → sound self.new → OnOk result (put_refusal runs run entry.now ≡ None) }
-        ensures kept { (runs : List Run) → stands self.old runs → OnErr result (stands self.new runs) }
-        ensures refused { (runs : List Run) → stands self.old runs → sound self.new → IfErr result (λ e. IsStoreFault e ⊎ (put_refusal runs run entry.now ≡ Some e)) }
-        ensures earlier { (runs : List Run) → stands self.old runs → sound self.new → sound self.old }
+        ensures added { (runs : List Run) → stands self.old runs
+            → OnOk result (stands self.new (with_entry run entry.now runs)) }
+        ensures allowed { (runs : List Run) → stands self.old runs → sound self.new
+            → OnOk result (put_refusal runs run entry.now ≡ None) }
+        ensures kept { (runs : List Run) → stands self.old runs
+            → OnErr result (stands self.new runs) }
+        ensures refused { (runs : List Run) → stands self.old runs → sound self.new
+            → IfErr result (λ e. IsStoreFault e ⊎ (put_refusal runs run entry.now ≡ Some e)) }
+        ensures earlier { (runs : List Run) → stands self.old runs → sound self.new
+            → sound self.old }
         // A crash leaves what it left before the call, or the runs with the entry; after Ok nothing else.
-        ensures crash { (runs : List Run) (may : List (List Run)) → stands self.old runs → leaves self.old (runs ∷ may) → leaves self.new (runs ∷ with_entry run entry.now runs ∷ may) }
-        ensures durable { (runs : List Run) → stands self.old runs → OnOk result (leaves self.new (with_entry run entry.now runs ∷ [])) };
+        ensures crash { (runs : List Run) (may : List (List Run)) → stands self.old runs
+            → leaves self.old (runs ∷ may)
+            → leaves self.new (runs ∷ with_entry run entry.now runs ∷ may) }
+        ensures durable { (runs : List Run) → stands self.old runs
+            → OnOk result (leaves self.new (with_entry run entry.now runs ∷ [])) };
 
     /// Finishes a run. Refused, in this order, are: no such run, a run that is finished, one with fewer entries than its
     /// total.
     fn finish(&mut self, run: u64) -> Result<(), StoreFault>
         ensures asked { answers self.old (Finished run result) self.new }
-        ensures finished { (runs : List Run) → stands self.old runs → OnOk result (stands self.new (finish run runs)) }
-        ensures allowed { (runs : List Run) → stands self.old runs → sound self.new → OnOk result (finish_refusal runs run ≡ None) }
-        ensures kept { (runs : List Run) → stands self.old runs → OnErr result (stands self.new runs) }
-        ensures refused { (runs : List Run) → stands self.old runs → sound self.new → IfErr result (λ e. IsStoreFault e ⊎ (finish_refusal runs run ≡ Some e)) }
-        ensures earlier { (runs : List Run) → stands self.old runs → sound self.new → sound self.old }
+        ensures finished { (runs : List Run) → stands self.old runs
+            → OnOk result (stands self.new (finish run runs)) }
+        ensures allowed { (runs : List Run) → stands self.old runs → sound self.new
+            → OnOk result (finish_refusal runs run ≡ None) }
+        ensures kept { (runs : List Run) → stands self.old runs
+            → OnErr result (stands self.new runs) }
+        ensures refused { (runs : List Run) → stands self.old runs → sound self.new
+            → IfErr result (λ e. IsStoreFault e ⊎ (finish_refusal runs run ≡ Some e)) }
+        ensures earlier { (runs : List Run) → stands self.old runs → sound self.new
+            → sound self.old }
         // A crash leaves what it left before the call, or the runs with this one finished; after Ok nothing else.
-        ensures crash { (runs : List Run) (may : List (List Run)) → stands self.old runs → leaves self.old (runs ∷ may) → leaves self.new (runs ∷ finish run runs ∷ may) }
-        ensures durable { (runs : List Run) → stands self.old runs → OnOk result (leaves self.new (finish run runs ∷ [])) };
+        ensures crash { (runs : List Run) (may : List (List Run)) → stands self.old runs
+            → leaves self.old (runs ∷ may) → leaves self.new (runs ∷ finish run runs ∷ may) }
+        ensures durable { (runs : List Run) → stands self.old runs
+            → OnOk result (leaves self.new (finish run runs ∷ [])) };
 
     /// All runs without their entries, by number.
     fn runs(&mut self) -> Result<Vec<RunHead>, StoreFault>
         ensures asked { answers self.old (Heads (seen_as (λ heads. heads.items) result)) self.new }
-        ensures all { (runs : List Run) → stands self.old runs → sound self.new → IfOk result (λ heads. heads.items ≡ map head_of runs) }
+        ensures all { (runs : List Run) → stands self.old runs → sound self.new
+            → IfOk result (λ heads. heads.items ≡ map head_of runs) }
         ensures failed { IfErr result IsStoreFault }
         ensures kept { (runs : List Run) → stands self.old runs → stands self.new runs }
-        ensures earlier { (runs : List Run) → stands self.old runs → sound self.new → sound self.old }
-        ensures crash { (runs : List Run) (may : List (List Run)) → stands self.old runs → leaves self.old may → leaves self.new may };
+        ensures earlier { (runs : List Run) → stands self.old runs → sound self.new
+            → sound self.old }
+        ensures crash { (runs : List Run) (may : List (List Run)) → stands self.old runs
+            → leaves self.old may → leaves self.new may };
 
     /// The entries of a run, by position. `NoRun` where no run has the number.
     fn entries(&mut self, run: u64) -> Result<Vec<Entry>, StoreFault>
-        ensures asked { answers self.old (Read run (seen_as (λ found. found.items) result)) self.new }
-        ensures found { (runs : List Run) → stands self.old runs → sound self.new → IfOk result (λ found. (r : Run) × (run_at runs run ≡ Some r) × (found.items ≡ r.entries)) }
-        ensures refused { (runs : List Run) → stands self.old runs → sound self.new → IfErr result (λ e. IsStoreFault e ⊎ ((e ≡ NoRun) × (run_at runs run ≡ None))) }
+        ensures asked { answers self.old
+            (Read run (seen_as (λ found. found.items) result)) self.new }
+        ensures found { (runs : List Run) → stands self.old runs → sound self.new
+            → IfOk result (λ found. (r : Run) × (run_at runs run ≡ Some r)
+            × (found.items ≡ r.entries)) }
+        ensures refused { (runs : List Run) → stands self.old runs → sound self.new
+            → IfErr result (λ e. IsStoreFault e ⊎ ((e ≡ NoRun) × (run_at runs run ≡ None))) }
         ensures kept { (runs : List Run) → stands self.old runs → stands self.new runs }
-        ensures earlier { (runs : List Run) → stands self.old runs → sound self.new → sound self.old }
-        ensures crash { (runs : List Run) (may : List (List Run)) → stands self.old runs → leaves self.old may → leaves self.new may };
+        ensures earlier { (runs : List Run) → stands self.old runs → sound self.new
+            → sound self.old }
+        ensures crash { (runs : List Run) (may : List (List Run)) → stands self.old runs
+            → leaves self.old may → leaves self.new may };
 
     /// A run's number is its place, counted from 1.
     ghost numbered: { (s : Self) (runs : List Run) → Self.stands s runs → AreNumbered 1 runs };

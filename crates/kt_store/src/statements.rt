@@ -15,12 +15,17 @@ pub(crate) fn ask<S: Alter>(
     sql: &str,
     params: &[ValueRef<'_>],
 ) -> Result<Vec<Row>, StoreFault>
-    ensures rows { HasCleanDisk (state S.Store conn.new) → IfOk result (λ rows. Asked S.Store sql.now (bound params.now) conn.old conn.new rows.items) }
-    ensures cause { HasCleanDisk (state S.Store conn.new) → IfErr result (MayFail S.Store sql.now (bound params.now) conn.old conn.new) }
-    ensures rests { HasCleanDisk (state S.Store conn.new) → OnErr result (Rests (state S.Store conn.old) (state S.Store conn.new)) }
+    ensures rows { HasCleanDisk (state S.Store conn.new)
+        → IfOk result (λ rows. Asked S.Store sql.now
+        (bound params.now) conn.old conn.new rows.items) }
+    ensures cause { HasCleanDisk (state S.Store conn.new)
+        → IfErr result (MayFail S.Store sql.now (bound params.now) conn.old conn.new) }
+    ensures rests { HasCleanDisk (state S.Store conn.new)
+        → OnErr result (Rests (state S.Store conn.old) (state S.Store conn.new)) }
     ensures failed { IfErr result IsStoreFault }
     ensures mode { conn.old.in_transaction ≡ false → conn.new.in_transaction ≡ false }
-    ensures survives { Survives (state S.Store conn.old) (state S.Store conn.new) (MayShow S.Store sql.now (bound params.now) conn.old) }
+    ensures survives { Survives (state S.Store conn.old) (state S.Store conn.new)
+        (MayShow S.Store sql.now (bound params.now) conn.old) }
 {
     let statement = conn.prepare(sql)?;
     let rows = statement.query_all(conn, params)?;
@@ -33,11 +38,15 @@ pub(crate) fn tell<S: Alter>(
     sql: &str,
     params: &[ValueRef<'_>],
 ) -> Result<(), StoreFault>
-    ensures told { HasCleanDisk (state S.Store conn.new) → OnOk result (Told S.Store sql.now (bound params.now) conn.old conn.new) }
-    ensures cause { HasCleanDisk (state S.Store conn.new) → IfErr result (MayFail S.Store sql.now (bound params.now) conn.old conn.new) }
-    ensures rests { HasCleanDisk (state S.Store conn.new) → OnErr result (Rests (state S.Store conn.old) (state S.Store conn.new)) }
+    ensures told { HasCleanDisk (state S.Store conn.new)
+        → OnOk result (Told S.Store sql.now (bound params.now) conn.old conn.new) }
+    ensures cause { HasCleanDisk (state S.Store conn.new)
+        → IfErr result (MayFail S.Store sql.now (bound params.now) conn.old conn.new) }
+    ensures rests { HasCleanDisk (state S.Store conn.new)
+        → OnErr result (Rests (state S.Store conn.old) (state S.Store conn.new)) }
     ensures failed { IfErr result IsStoreFault }
-    ensures survives { Survives (state S.Store conn.old) (state S.Store conn.new) (MayTell S.Store sql.now (bound params.now) conn.old) }
+    ensures survives { Survives (state S.Store conn.old) (state S.Store conn.new)
+        (MayTell S.Store sql.now (bound params.now) conn.old) }
 {
     let statement = conn.prepare(sql)?;
     let count = statement.execute(conn, params)?;
@@ -51,13 +60,21 @@ pub(crate) fn step<S: Alter>(
     params: &[ValueRef<'_>],
 ) -> Result<(), StoreFault>
     ensures same_reference { tx.new.conn.ghost_name ≡ tx.old.conn.ghost_name }
-    ensures runs { HasCleanDisk (state S.Store tx.new.conn.now) → IsTrue (state S.Store tx.old.conn.now).in_transaction
-        → OnOk result ((count : _) × ExecutesInside 0 sql.now (bound params.now) (state S.Store tx.old.conn.now) (state S.Store tx.new.conn.now) (Ok count)) }
-    ensures cause { HasCleanDisk (state S.Store tx.new.conn.now) → IsTrue (state S.Store tx.old.conn.now).in_transaction
-        → IfErr result (λ e. (error : _) × Tells error e × ExecutesInside 0 sql.now (bound params.now) (state S.Store tx.old.conn.now) (state S.Store tx.new.conn.now) (Err error)) }
-    ensures keeps { HasCleanDisk (state S.Store tx.new.conn.now) → KeepsCommit (state S.Store tx.old.conn.now) (state S.Store tx.new.conn.now) }
+    ensures runs { HasCleanDisk (state S.Store tx.new.conn.now)
+        → IsTrue (state S.Store tx.old.conn.now).in_transaction
+        → OnOk result ((count : _)
+        × ExecutesInside 0 sql.now (bound params.now) (state S.Store tx.old.conn.now)
+        (state S.Store tx.new.conn.now) (Ok count)) }
+    ensures cause { HasCleanDisk (state S.Store tx.new.conn.now)
+        → IsTrue (state S.Store tx.old.conn.now).in_transaction
+        → IfErr result (λ e. (error : _) × Tells error e
+        × ExecutesInside 0 sql.now (bound params.now) (state S.Store tx.old.conn.now)
+        (state S.Store tx.new.conn.now) (Err error)) }
+    ensures keeps { HasCleanDisk (state S.Store tx.new.conn.now)
+        → KeepsCommit (state S.Store tx.old.conn.now) (state S.Store tx.new.conn.now) }
     ensures failed { IfErr result IsStoreFault }
-    ensures survives { Survives (state S.Store tx.old.conn.now) (state S.Store tx.new.conn.now) (λ _. ⊥) }
+    ensures survives { Survives (state S.Store tx.old.conn.now) (state S.Store tx.new.conn.now)
+        (λ _. ⊥) }
 {
     let count = tx.execute(sql, params)?;
     Ok(())
