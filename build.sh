@@ -10,8 +10,8 @@ out=$top/crates/kyua/out
 log=$out/build.log
 begun=$out/begun
 rooms=$out/rooms
-# The longest chain of crates that wait for one another: these go before all that run beside them.
-chain=' kt_base kt_script kt_config kt_metadata kt_suite kt_child kt_cli '
+# The longest chains of crates that wait for one another: these go before all that run beside them.
+chain=' kt_base kt_script kt_config kt_metadata kt_suite kt_sched kt_child kt_plan kt_words kt_cli '
 
 give_up() {
   tail -n 40 "$log" >&2

@@ -16,7 +16,7 @@ use Rattle.kt_cli.specs.ChildrenTold.{ChildrenTell, CoursesAreTold}
 use Rattle.kt_cli.specs.HostAnswers.{IsHostAnswer, RunnerStarts, RunnerWaits, running_kept}
 use Rattle.kt_cli.specs.HostFiles.{IsLook}
 use Rattle.kt_cli.specs.Meaning.{Seen, Course, Means, CutShort, stopped, listed, tested, debugged, idle, reported, reported_junit, no_memory, cut, report_cut, junit_cut}
-use Rattle.kt_cli.specs.declared.command.Command.{Command}
+use Rattle.kt_words.specs.declared.command.Command.{Command}
 
 -- what was lent to a launcher can be run, or nothing was started
 abbrev pub Runs : Seen → Type 0

@@ -6,10 +6,10 @@ use Rattle.kt_base.specs.declared.run.Run.{Run}
 use Rattle.kt_child.specs.Calls.{Call}
 use Rattle.kt_store.specs.StoreCalls.{StoreCall}
 use Rattle.kt_plan.specs.declared.case_options.CaseOptions.{CaseOptions}
-use Rattle.kt_cli.specs.declared.command.Command.{Command}
-use Rattle.kt_cli.specs.declared.command.Command.TheVariants as command
+use Rattle.kt_words.specs.declared.command.Command.{Command}
+use Rattle.kt_words.specs.declared.command.Command.TheVariants as command
 use Rattle.kt_cli.specs.declared.surroundings.Surroundings.{Surroundings}
-use Rattle.kt_cli.specs.Commands.{cases_of}
+use Rattle.kt_words.specs.Commands.{cases_of}
 use Rattle.kt_cli.specs.Hosts.{OnDriver, DidWith, DidOnHost}
 use Rattle.kt_cli.specs.Reports.{Reported, ReportedJunit, Unread, JunitOrUnread, DidReport}
 use Rattle.kt_cli.proofs.Testings.{did_report, did_junit}

@@ -9,7 +9,7 @@ use Rattle.kt_sched.specs.declared.ended.Ended.{Ended}
 use Rattle.kt_sched.specs.Trace.{Trace, NoEvent, Then, Start, End, Leads}
 use Rattle.kt_store.specs.StoreCalls.{StoreCall}
 use Rattle.kt_suite.specs.Answers.{Asked, Chain}
-use Rattle.kt_cli.specs.declared.command.Command.{Command}
+use Rattle.kt_words.specs.declared.command.Command.{Command}
 use Rattle.kt_cli.specs.Meaning.{Did}
 use Rattle.kt_plan.specs.Questions.{Question, OfTree, OfHost, leads_by}
 use Rattle.kt_plan.specs.Told.{Told}

@@ -23,4 +23,3 @@ pub mod SoundRuns
 pub mod StoreChains
 pub mod Testings
 pub mod Warned
-pub mod WordLaws

@@ -4,7 +4,7 @@ use Rattle.std.proofs.Common.{◌≡◌, ℕ, List, [], subst}
 use Rattle.kt_base.specs.declared.run.Run.{Run}
 use Rattle.kt_child.specs.Calls.{Call}
 use Rattle.kt_store.specs.StoreCalls.{StoreCall}
-use Rattle.kt_cli.specs.declared.command.Command.{Command}
+use Rattle.kt_words.specs.declared.command.Command.{Command}
 use Rattle.kt_cli.specs.MemoryRuns.{AnswersInMemory, StandsInMemory, IsSoundInMemory, LeavesInMemory}
 use Rattle.kt_cli.specs.Pages.{Printed}
 use Rattle.kt_cli.specs.Performing.{DoneBy, DoneIn, DoneOver}

@@ -8,7 +8,7 @@ use Rattle.kt_sched.specs.declared.start_answer.StartAnswer.{StartAnswer}
 use Rattle.kt_sched.specs.declared.ended.Ended.{Ended}
 use Rattle.kt_store.specs.StoreCalls.{StoreCall}
 use Rattle.kt_suite.specs.Answers.{Asked}
-use Rattle.kt_cli.specs.declared.command.Command.{Command}
+use Rattle.kt_words.specs.declared.command.Command.{Command}
 use Rattle.kt_cli.specs.declared.exit.Exit.{Exit}
 use Rattle.kt_cli.specs.Meaning.{Did}
 use Rattle.kt_cli.specs.Sequences.{DidAll, none_left, one_and}

@@ -13,8 +13,8 @@ use Rattle.kt_store.specs.Heads.{head_of}
 use Rattle.kt_store.specs.Runs.{AreNumbered, new_run, with_entry, put_refusal, finish_refusal}
 use Rattle.kt_store.specs.StoreCalls.{StoreCall, Began, Put, Finished, Heads, Read}
 use Rattle.kt_store.specs.declared.run_head.RunHead.{RunHead}
-use Rattle.kt_cli.specs.declared.command.Command.{Command}
-use Rattle.kt_cli.specs.Commands.{number_of}
+use Rattle.kt_words.specs.declared.command.Command.{Command}
+use Rattle.kt_words.specs.Commands.{number_of}
 use Rattle.kt_cli.specs.Meaning.{Seen, Means, stopped, listed, tested, debugged, idle, reported, reported_junit, CutShort, no_memory, cut, report_cut, junit_cut}
 use Rattle.kt_cli.specs.Pages.{Printed}
 use Rattle.kt_cli.specs.Recordings.{AllRecorded}

@@ -15,8 +15,8 @@ use Rattle.kt_suite.specs.Answers.{Asked, Chain, Answered}
 use Rattle.kt_suite.specs.Selecting.{most_items}
 use Rattle.kt_plan.specs.declared.candidate.Candidate.{Candidate}
 use Rattle.kt_plan.specs.declared.case_options.CaseOptions.{CaseOptions}
-use Rattle.kt_cli.specs.declared.command.Command.{Command}
-use Rattle.kt_cli.specs.declared.command.Command.TheVariants as command
+use Rattle.kt_words.specs.declared.command.Command.{Command}
+use Rattle.kt_words.specs.declared.command.Command.TheVariants as command
 use Rattle.kt_plan.specs.declared.picked.Picked.{Picked}
 use Rattle.kt_plan.specs.declared.stop.Stop.{Stop}
 use Rattle.kt_base.specs.declared.entry.Entry.{Entry}
@@ -25,7 +25,7 @@ use Rattle.kt_sched.specs.declared.run_fault.RunFault.{RunFault}
 use Rattle.kt_sched.specs.declared.run_fault.RunFault.TheVariants.{NoMemory}
 use Rattle.kt_sched.specs.declared.totals.Totals.{Totals}
 use Rattle.kt_sched.specs.Trace.{NoEvent}
-use Rattle.kt_cli.specs.Commands.{cases_of, needs_case}
+use Rattle.kt_words.specs.Commands.{cases_of, needs_case}
 use Rattle.kt_cli.specs.Debugging.{Debugged, all_debug_bytes, debug_exit}
 use Rattle.kt_cli.specs.FaultLines.{memory_line}
 use Rattle.kt_plan.specs.Selecting.{Selects}

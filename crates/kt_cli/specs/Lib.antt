@@ -1,7 +1,6 @@
 pub mod CaseLines
 pub mod ChildrenTold
 pub mod Closings
-pub mod Commands
 pub mod Debugging
 pub mod FaultLines
 pub mod HostAnswers
@@ -26,4 +25,3 @@ pub mod Stores
 pub mod Testing
 pub mod Totals
 pub mod Warnings
-pub mod Words

@@ -15,11 +15,11 @@ use Rattle.kt_suite.specs.Answers.{Asked, Chain}
 use Rattle.kt_plan.specs.declared.candidate.Candidate.{Candidate}
 use Rattle.kt_plan.specs.declared.case_options.CaseOptions.{CaseOptions}
 use Rattle.kt_plan.specs.declared.chosen.Chosen.{Chosen}
-use Rattle.kt_cli.specs.declared.command.Command.{Command}
-use Rattle.kt_cli.specs.declared.command.Command.TheVariants as command
+use Rattle.kt_words.specs.declared.command.Command.{Command}
+use Rattle.kt_words.specs.declared.command.Command.TheVariants as command
 use Rattle.kt_plan.specs.declared.picked.Picked.{Picked}
 use Rattle.kt_plan.specs.declared.stop.Stop.{Stop}
-use Rattle.kt_cli.specs.Commands.{cases_of, needs_case}
+use Rattle.kt_words.specs.Commands.{cases_of, needs_case}
 use Rattle.kt_cli.specs.Debugging.{all_debug_bytes, debug_exit}
 use Rattle.kt_cli.specs.FaultLines.{memory_line}
 use Rattle.kt_cli.specs.CaseLines.{case_line}

@@ -8,12 +8,12 @@ use Rattle.kt_child.specs.Calls.{Call}
 use Rattle.kt_plan.specs.declared.case_options.CaseOptions.{CaseOptions}
 use Rattle.kt_store.specs.declared.store_fault.StoreFault.{StoreFault}
 use Rattle.kt_store.specs.StoreCalls.{StoreCall}
-use Rattle.kt_cli.specs.declared.command.Command.{Command}
-use Rattle.kt_cli.specs.declared.command_fault.CommandFault.{CommandFault}
-use Rattle.kt_cli.specs.declared.command_fault.CommandFault.TheVariants as command
+use Rattle.kt_words.specs.declared.command.Command.{Command}
+use Rattle.kt_words.specs.declared.command_fault.CommandFault.{CommandFault}
+use Rattle.kt_words.specs.declared.command_fault.CommandFault.TheVariants as command
 use Rattle.kt_cli.specs.declared.surroundings.Surroundings.{Surroundings}
 use Rattle.kt_cli.specs.Closings.{Concluded}
-use Rattle.kt_cli.specs.Commands.{cases_of, results_of}
+use Rattle.kt_words.specs.Commands.{cases_of, results_of}
 use Rattle.kt_cli.specs.FaultLines.{memory_line, refusal_line}
 use Rattle.kt_cli.specs.Hosts.{DidOnHost, NoDriver}
 use Rattle.kt_cli.specs.MemoryRuns.{AnswersInMemory, StandsInMemory, IsSoundInMemory, LeavesInMemory}

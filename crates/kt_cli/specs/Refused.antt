@@ -3,8 +3,8 @@ use Rattle.std.specs.Prelude.{ℕ, Bool, List, ◌≡◌, Option, codes}
 use Rattle.kt_base.specs.Shows.{Shows}
 use Rattle.kt_child.specs.declared.driving.driver_fault.DriverFault.{DriverFault}
 use Rattle.kt_child.specs.declared.driving.driver_fault.DriverFault.TheVariants as driver
-use Rattle.kt_cli.specs.declared.command_fault.CommandFault.{CommandFault}
-use Rattle.kt_cli.specs.declared.command_fault.CommandFault.TheVariants as command
+use Rattle.kt_words.specs.declared.command_fault.CommandFault.{CommandFault}
+use Rattle.kt_words.specs.declared.command_fault.CommandFault.TheVariants as command
 use Rattle.kt_cli.specs.FaultLines.{memory_line}
 
 -- work directories have no place

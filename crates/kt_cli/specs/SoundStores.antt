@@ -8,8 +8,8 @@ use Rattle.kt_store.specs.Runs.{put_refusal}
 use Rattle.kt_store.specs.StoreCalls.{StoreCall, Began, Put, Finished, Heads, Read}
 use Rattle.kt_store.specs.declared.store_fault.StoreFault.{StoreFault}
 use Rattle.kt_store.specs.declared.store_fault.StoreFault.TheVariants.{StoreFull}
-use Rattle.kt_cli.specs.declared.command.Command.{Command}
-use Rattle.kt_cli.specs.Commands.{number_of}
+use Rattle.kt_words.specs.declared.command.Command.{Command}
+use Rattle.kt_words.specs.Commands.{number_of}
 use Rattle.kt_cli.specs.Meaning.{Seen, Means, CutShort}
 use Rattle.kt_cli.specs.Pages.{Printed}
 use Rattle.kt_cli.specs.Reports.{chosen}

@@ -3,7 +3,7 @@ ghost use Rattle.kt_sched.specs.Children.{IsIdle};
 ghost use Rattle.kt_sched.specs.Plan.{IsPlan};
 ghost use Rattle.kt_cli.specs.Debugging.{Debugged};
 ghost use Rattle.kt_cli.specs.Meaning.{ToldOnly};
-ghost use Rattle.kt_cli.specs.declared.command.Command.TheVariants as command;
+ghost use Rattle.kt_words.specs.declared.command.Command.TheVariants as command;
 
 use crate::exit::{Exit, ended};
 use crate::fault_line::say_memory;

@@ -1,7 +1,6 @@
 ghost use Rattle.kt_sched.specs.Children.{IsIdle};
 ghost use Rattle.kt_cli.specs.Meaning.{Did};
 
-use crate::command::Command;
 use crate::debugging::debug;
 use crate::exit::Exit;
 use crate::listing::list;
@@ -9,6 +8,7 @@ use crate::reporting::{report, report_junit};
 use crate::testing::test;
 use kt_plan::World;
 use kt_store::ResultStore;
+use kt_words::Command;
 use std::alloc::Global;
 use std::io::Write;
 

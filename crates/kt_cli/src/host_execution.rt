@@ -6,7 +6,6 @@ ghost use Rattle.kt_cli.specs.HostFiles.{IsLook};
 ghost use Rattle.kt_cli.specs.Hosts.{IsMade, NoRoot, OnDriver, NoDriver, DidOnHost};
 ghost use Rattle.kt_cli.specs.Meaning.{Did};
 
-use crate::command::Command;
 use crate::execution::execute;
 use crate::exit::Exit;
 use crate::host_world::HostWorld;
@@ -19,6 +18,7 @@ use kt_child::{Driver, DriverFault, Os};
 use kt_plan::CaseOptions;
 use kt_store::ResultStore;
 use kt_suite::split_path;
+use kt_words::Command;
 use std::alloc::Global;
 use std::fs::File;
 use std::io::Write;

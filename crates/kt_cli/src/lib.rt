@@ -1,16 +1,12 @@
-//! The commands of kyua(1), over a world, recorded runs and a writer, and what reads a command line and the host's files.
+//! The commands of kyua(1), over a world, recorded runs and a writer, and what reads the host's files.
 #![tactic(auto)]
 
-mod arguments;
 mod closing;
-mod command;
-mod command_fault;
 mod copies;
 mod debugging;
 mod execution;
 mod exit;
 mod fault_line;
-mod filter;
 mod held_bytes;
 mod host_execution;
 mod host_path;
@@ -20,13 +16,11 @@ mod line_output;
 mod listing;
 mod mem_runs;
 mod not_shown;
-mod numbers;
 mod page;
 mod performing;
 mod place;
 mod platform;
 mod printer;
-mod reading;
 mod recorder;
 mod reporting;
 mod results_file;
@@ -41,8 +35,6 @@ mod testing;
 mod totals;
 mod warnings;
 
-pub use command::Command;
-pub use command_fault::CommandFault;
 pub use execution::execute;
 pub use exit::Exit;
 pub use host_execution::execute_on_host;
@@ -53,7 +45,6 @@ pub use mem_runs::MemRuns;
 pub use performing::{carry_out, perform};
 pub use place::source_of;
 pub use platform::Platform;
-pub use reading::{read_command, read_words};
 pub use results_file::prepare_results;
 pub use runner::Runner;
 pub use sequence::execute_all;

@@ -6,7 +6,7 @@ ghost use Rattle.kt_cli.specs.CaseLines.{case_line};
 ghost use Rattle.kt_cli.specs.Meaning.{ToldOnly};
 ghost use Rattle.kt_cli.specs.Pages.{Says};
 ghost use Rattle.kt_cli.specs.Testing.{none_idle};
-ghost use Rattle.kt_cli.specs.declared.command.Command.TheVariants as command;
+ghost use Rattle.kt_words.specs.declared.command.Command.TheVariants as command;
 
 use crate::exit::{Exit, ended};
 use crate::page::{say_text, say_words};

@@ -1,11 +1,9 @@
 ghost use Rattle.std.specs.Prelude.{◌≡◌};
-ghost use Rattle.kt_cli.specs.Commands.{cases_of, results_of};
+ghost use Rattle.kt_words.specs.Commands.{cases_of, results_of};
 ghost use Rattle.kt_cli.specs.LineOutputs.{given_bytes, unwritten};
 ghost use Rattle.kt_cli.specs.Performing.{CarriedOut, DoneBy, DoneIn, DoneOver, Performed, Rejected, Surrounds};
 
 use crate::closing::with_closed;
-use crate::command::Command;
-use crate::command_fault::CommandFault;
 use crate::exit::Exit;
 use crate::host_execution::execute_on_host;
 use crate::line_output::LineOutput;
@@ -16,6 +14,7 @@ use crate::telling::{tell_command_fault, tell_driver_fault, tell_store_fault};
 use kt_base::Text;
 use kt_child::{DriverFault, Os};
 use kt_store::ResultStore;
+use kt_words::{Command, CommandFault};
 use std::alloc::Global;
 use std::fs::File;
 use std::io::Write;

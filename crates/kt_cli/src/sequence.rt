@@ -2,12 +2,12 @@ ghost use Rattle.std.specs.Prelude.{IfOk, OnErr, ◌≡◌};
 ghost use Rattle.kt_sched.specs.Children.{IsIdle};
 ghost use Rattle.kt_cli.specs.Sequences.{DidAll};
 
-use crate::command::Command;
 use crate::execution::execute;
 use crate::exit::Exit;
 use kt_base::NoMemory;
 use kt_plan::World;
 use kt_store::ResultStore;
+use kt_words::Command;
 use std::alloc::Global;
 use std::io::Write;
 

@@ -1,6 +1,6 @@
 ghost use Rattle.std.specs.Prelude.{ℕ, List, Option, ◌⊎◌};
 ghost use Rattle.kt_base.specs.declared.run.Run.{Run};
-ghost use Rattle.kt_cli.specs.declared.command.Command.{Command};
+ghost use Rattle.kt_words.specs.declared.command.Command.{Command};
 ghost use Rattle.kt_cli.specs.Meaning.{Seen, Means, CutShort};
 ghost use Rattle.kt_cli.specs.Pages.{Printed};
 ghost use Rattle.kt_cli.specs.SoundStores.{Left};

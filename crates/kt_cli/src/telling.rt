@@ -5,12 +5,12 @@ ghost use Rattle.kt_cli.specs.FaultLines.{refusal_line};
 ghost use Rattle.kt_cli.specs.Pages.{Printed};
 ghost use Rattle.kt_cli.specs.Refused.{driver_line, filter_line, number_line, place_line, command_text, command_exit, failure_exit, Refused};
 
-use crate::command_fault::CommandFault;
 use crate::exit::{Exit, ended};
 use crate::fault_line::{say_memory, say_refusal};
 use crate::page::{say_text, say_words};
 use kt_child::DriverFault;
 use kt_store::StoreFault;
+use kt_words::CommandFault;
 use std::io::Write;
 
 /// The status where something failed.

@@ -7,7 +7,7 @@ ghost use Rattle.kt_cli.specs.Meaning.{Did};
 ghost use Rattle.kt_cli.specs.Pages.{Says};
 ghost use Rattle.kt_cli.specs.Recordings.{Records};
 ghost use Rattle.kt_cli.specs.Testing.{RanPlan, ending, exit_of};
-ghost use Rattle.kt_cli.specs.declared.command.Command.TheVariants as command;
+ghost use Rattle.kt_words.specs.declared.command.Command.TheVariants as command;
 
 use crate::exit::{Exit, ended};
 use crate::fault_line::{say_memory, say_put, say_refusal};

@@ -1,7 +1,7 @@
 use crate::escapes::unescaped;
 use crate::row::Row;
 use crate::row_fault::RowFault;
-use kt_cli::{Command, CommandFault, read_command};
+use kt_words::{Command, CommandFault, read_command};
 use std::alloc::Global;
 
 /// The words of a line, which have spaces between them.

@@ -7,11 +7,12 @@ use crate::row_fault::RowFault;
 use crate::scenes::holding_of;
 use kt_base::{NoMemory, Text};
 use kt_child::{Driver, Os};
-use kt_cli::{Command, Exit, execute_all};
+use kt_cli::{Exit, execute_all};
 use kt_plan::World;
 use kt_play::{RefusingStore, ScriptedWorld, Stage, ask_too_much};
 use kt_sched::Launcher;
 use kt_store::ResultStore;
+use kt_words::Command;
 use std::alloc::Global;
 use std::io::Write;
 

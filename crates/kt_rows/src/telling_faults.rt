@@ -3,11 +3,10 @@
 use crate::row_fault::RowFault;
 use kt_base::{NoMemory, Text};
 use kt_child::DriverFault;
-use kt_cli::{
-    CommandFault, Exit, source_of, tell_command_fault, tell_driver_fault, tell_store_fault,
-};
+use kt_cli::{Exit, source_of, tell_command_fault, tell_driver_fault, tell_store_fault};
 use kt_play::{ScriptedWriter, ask_too_much};
 use kt_store::StoreFault;
+use kt_words::CommandFault;
 use sqlite::{Error, ErrorCode};
 use std::alloc::Global;
 use std::io::Write;

@@ -2,8 +2,8 @@ use crate::command_words::read_line;
 use crate::row::Row;
 use crate::row_fault::RowFault;
 use kt_base::{Kind, Text};
-use kt_cli::{Command, CommandFault};
 use kt_plan::CaseOptions;
+use kt_words::{Command, CommandFault};
 use std::alloc::Global;
 
 /// Appends a value of an option.

@@ -3,8 +3,9 @@
 
 use kt_base::Text;
 use kt_child::{DriverFault, HostOs};
-use kt_cli::{LineOutput, Platform, Surroundings, carry_out, prepare_results, read_words};
+use kt_cli::{LineOutput, Platform, Surroundings, carry_out, prepare_results};
 use kt_store::{Results, StoreFault};
+use kt_words::read_words;
 use sqlite::{Connection, File as StoreFile, FileStore};
 use std::process::ExitCode;
 use std::{env, io};

@@ -1,5 +1,5 @@
 use Rattle.std.proofs.Common.{rules, ◌≡◌}
-use Rattle.kt_cli.specs.declared.command.Command.TheVariants as command
+use Rattle.kt_words.specs.declared.command.Command.TheVariants as command
 use Rattle.kt_cli.proofs.Testings.{did_told, did_report, did_junit, did_as}
 use Rattle.kt_cli.proofs.execution.execute.Goals as goal
 

@@ -1,5 +1,5 @@
 use Rattle.std.proofs.Common.{rules, ◌≡◌}
-use Rattle.kt_cli.specs.declared.command.Command.TheVariants as command
+use Rattle.kt_words.specs.declared.command.Command.TheVariants as command
 use Rattle.kt_cli.proofs.HostCommands.{on_driver, alone_report, alone_junit}
 use Rattle.kt_cli.proofs.host_execution.execute_on_host.Goals as goal
 

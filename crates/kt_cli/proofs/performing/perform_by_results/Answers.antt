@@ -1,4 +1,4 @@
-use Rattle.kt_cli.specs.Commands.{results_of}
+use Rattle.kt_words.specs.Commands.{results_of}
 use Rattle.kt_cli.proofs.Performances.{by_file, by_memory}
 use Rattle.kt_cli.proofs.performing.perform_by_results.Goals as goal
 

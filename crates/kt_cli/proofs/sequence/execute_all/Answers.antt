@@ -1,6 +1,6 @@
 use Rattle.std.proofs.Common.{rules, ◌≡◌, ◌≤◌, ◌+◌, suc, length, ◌++◌, ◌∷◌, [], List, arith, ap, subst, sym}
 use Rattle.std.specs.Vec.{vec_len, vec_capacity}
-use Rattle.kt_cli.specs.declared.command.Command.{Command}
+use Rattle.kt_words.specs.declared.command.Command.{Command}
 use Rattle.kt_cli.specs.declared.exit.Exit.{Exit}
 use Rattle.kt_cli.proofs.Sequencing.{GoesOn, goes_first, goes_more, goes_all}
 use Rattle.kt_cli.proofs.sequence.execute_all.Goals as goal

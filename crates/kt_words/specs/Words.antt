@@ -5,8 +5,8 @@ use Rattle.kt_base.specs.declared.kind.Kind.TheVariants.{Passed, Skipped, Expect
 use Rattle.kt_base.specs.Kinds.{word}
 use Rattle.kt_script.specs.Letters.{is_digit}
 use Rattle.kt_script.specs.Words.{decimal_from}
-use Rattle.kt_cli.specs.declared.command_fault.CommandFault.{CommandFault}
-use Rattle.kt_cli.specs.declared.command_fault.CommandFault.TheVariants as fault
+use Rattle.kt_words.specs.declared.command_fault.CommandFault.{CommandFault}
+use Rattle.kt_words.specs.declared.command_fault.CommandFault.TheVariants as fault
 
 -- ---- results filters
 

@@ -1,5 +1,5 @@
 ghost use Rattle.std.specs.Prelude.{◌≡◌};
-ghost use Rattle.kt_cli.specs.declared.command_fault.CommandFault.TheVariants as fault;
+ghost use Rattle.kt_words.specs.declared.command_fault.CommandFault.TheVariants as fault;
 
 use clap::error::ErrorKind;
 use kt_base::{NoMemory, Text};

@@ -5,7 +5,7 @@ use Rattle.std.specs.List.{prefix_len}
 use Rattle.std.proofs.lemmas.Bool.{lt-ltb}
 use Rattle.kt_base.specs.declared.kind.Kind.{Kind}
 use Rattle.kt_script.specs.Words.{decimal_from}
-use Rattle.kt_cli.specs.Words.{kind_named, is_inside, longer, comma_words, with_kind, kinds_named, up_to_last}
+use Rattle.kt_words.specs.Words.{kind_named, is_inside, longer, comma_words, with_kind, kinds_named, up_to_last}
 
 -- ---- the words between commas
 

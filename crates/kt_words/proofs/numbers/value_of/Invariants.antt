@@ -1,6 +1,6 @@
 use Rattle.std.proofs.Common.{◌≡◌, ◌≤◌, length}
 use Rattle.kt_script.specs.Words.{decimal_from}
-use Rattle.kt_cli.proofs.numbers.value_of.Given as goal
+use Rattle.kt_words.proofs.numbers.value_of.Given as goal
 
 -- the value of the digits so far
 abbrev pub invariant-loop-c : goal.invariant-loop-c

@@ -1,7 +1,7 @@
 ghost use Rattle.std.specs.Prelude.{◌≡◌, ◌≤◌, IfSome};
 ghost use Rattle.kt_script.specs.Letters.{is_digit};
 ghost use Rattle.kt_script.specs.Words.{decimal_from};
-ghost use Rattle.kt_cli.specs.Words.{are_digits, is_number, up_to_last, from_one, run_named};
+ghost use Rattle.kt_words.specs.Words.{are_digits, is_number, up_to_last, from_one, run_named};
 
 /// The greatest number of a run.
 const LAST_RUN: u64 = 1_000_000;

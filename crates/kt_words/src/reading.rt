@@ -1,5 +1,5 @@
 ghost use Rattle.std.specs.Prelude.{◌≡◌, ◌≤◌, map, chars, IfOk, IfSome};
-ghost use Rattle.kt_cli.specs.Commands.{HasRunNumber};
+ghost use Rattle.kt_words.specs.Commands.{HasRunNumber};
 
 use crate::arguments::all_words;
 use crate::command::Command;
