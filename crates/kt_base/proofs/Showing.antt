@@ -1,7 +1,7 @@
 -- What a writer holds goes on.
 use Rattle.std.specs.Prelude.{Option, Some, None}
-use Rattle.std.proofs.Common.{◌≡◌, ℕ, Bool, true, false, List, [], ◌++◌, ap, ◌∙◌, sym, append_assoc}
-use Rattle.std.proofs.lemmas.List.{append-nil}
+use Rattle.std.proofs.Common.{arith, ◌≡◌, ◌<◌, ℕ, Bool, true, false, List, [], ◌∷◌, ◌++◌, length, take, drop, refl, ap, ◌∙◌, sym, append_assoc, take-append-drop}
+use Rattle.std.proofs.lemmas.List.{append-nil, length-drop}
 use Rattle.std.proofs.lemmas.Str.{encodes-append}
 use Rattle.std.specs.Io.KnownBytes.{Appends, Keeps}
 use Rattle.kt_base.specs.Shows.{Shows}
@@ -30,8 +30,16 @@ appends_kept (Some us) None c xs p q = absurd p
 -- a text, and then another
 pub shows_both : (a b c : Option (List ℕ)) (failed : Bool) (xs ys : List ℕ) → Shows a b false xs → Shows b c failed ys → Shows a c failed (xs ++ ys)
 shows_both a b c false xs ys p q = appends_both a b c xs ys p q
-shows_both a b c true xs ys p q = (xs ++ q.0, q.1, ap (λ (z : List ℕ). xs ++ z) q.2 ∙ sym (append_assoc xs q.0 q.1), appends_both a b c xs q.0 p q.3)
+shows_both a b c true xs ys p q = (xs ++ q.0, q.1, q.2, ap (λ (z : List ℕ). xs ++ z) q.3 ∙ sym (append_assoc xs q.0 (q.2 ∷ q.1)), appends_both a b c xs q.0 p q.4)
 
 -- a writer that failed is given nothing more
 pub shows_more : (a b : Option (List ℕ)) (xs ys : List ℕ) → Shows a b true xs → Shows a b true (xs ++ ys)
-shows_more a b xs ys p = (p.0, p.1 ++ ys, ap (λ (z : List ℕ). z ++ ys) p.2 ∙ append_assoc p.0 p.1 ys, p.3)
+shows_more a b xs ys p = (p.0, p.1 ++ ys, p.2, ap (λ (z : List ℕ). z ++ ys) p.3 ∙ append_assoc p.0 (p.2 ∷ p.1) ys, p.4)
+
+cut_at : (k : ℕ) (xs rest : List ℕ) → drop k xs ≡ rest → k < length xs → (more : List ℕ) × (next : ℕ) × (xs ≡ take k xs ++ next ∷ more)
+cut_at k xs [] e few = absurd (let d = length-drop k xs in let l : length (drop k xs) ≡ 0 = ap length e in omega (arith, d, l, few))
+cut_at k xs (b ∷ rest) e few = (rest, b, sym (take-append-drop k xs) ∙ ap (λ (z : List ℕ). take k xs ++ z) e)
+
+-- a writer that took some of the bytes but not all of them
+pub shows_cut : (a b : Option (List ℕ)) (k : ℕ) (xs : List ℕ) → k < length xs → Appends a b (take k xs) → Shows a b true xs
+shows_cut a b k xs few p = let cut = cut_at k xs (drop k xs) refl few in (take k xs, cut.0, cut.1, cut.2, p)

@@ -27,7 +27,7 @@ mod variables;
 mod verdict;
 
 pub use bytes::Bytes;
-pub use emission::{emit, send};
+pub use emission::{emit, emit_text, emit_words, send};
 pub use entry::Entry;
 pub use interface::Interface;
 pub use items::Items;

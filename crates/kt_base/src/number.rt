@@ -34,7 +34,7 @@ fn write_digits(n: u128, room: &mut [u8; 64]) -> usize
     write_before(n, room, 64)
 }
 
-/// Writes a number of up to 128 bits in decimal, or a prefix of it where a write failed. It takes no memory.
+/// Writes a number of up to 128 bits in decimal, or a proper prefix of it if a write failed. It takes no memory.
 pub fn emit_wide_number<W: Write>(n: u128, out: &mut W) -> Result<(), OutputFault>
     ensures shown { Shows (W.contents out.old) (W.contents out.new) (is_err result) (decimal n) }
     ensures ascii { utf8 (decimal n) ≡ decimal n }
@@ -44,7 +44,7 @@ pub fn emit_wide_number<W: Write>(n: u128, out: &mut W) -> Result<(), OutputFaul
     emit(&room[start..], out)
 }
 
-/// Writes a number in decimal, or a prefix of it where a write failed. It takes no memory.
+/// Writes a number in decimal, or a proper prefix of it if a write failed. It takes no memory.
 pub fn emit_number<W: Write>(n: u64, out: &mut W) -> Result<(), OutputFault>
     ensures shown { Shows (W.contents out.old) (W.contents out.new) (is_err result) (decimal n) }
     ensures ascii { utf8 (decimal n) ≡ decimal n }

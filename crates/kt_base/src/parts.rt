@@ -1,4 +1,4 @@
-use crate::emission::emit;
+use crate::emission::emit_words;
 use crate::no_memory::NoMemory;
 use crate::number::emit_number;
 use crate::outcome::Outcome;
@@ -102,15 +102,15 @@ impl Parts<'_> {
         text.push_str(self.tail)
     }
 
-    /// Writes the parts, or a prefix of them where a write failed.
+    /// Writes the parts, or a proper prefix of them if a write failed.
     pub fn print<W: Write>(&self, out: &mut W) -> Result<(), OutputFault>
         ensures { Shows (W.contents out.old) (W.contents out.new) (is_err result)
             (utf8 (parts_text self.now)) }
     {
-        print_words(self.head, out)?;
+        emit_words(self.head, out)?;
         print_numbered(self.lead, self.first, out)?;
         print_numbered(self.between, self.second, out)?;
-        print_words(self.tail, out)
+        emit_words(self.tail, out)
     }
 }
 
@@ -138,13 +138,6 @@ fn push_number(number: Option<u64>, text: &mut Text) -> Result<(), NoMemory>
     }
 }
 
-fn print_words<W: Write>(words: &str, out: &mut W) -> Result<(), OutputFault>
-    ensures { Shows (W.contents out.old) (W.contents out.new) (is_err result)
-        (utf8 (chars words.now)) }
-{
-    emit(words.as_bytes(), out)
-}
-
 fn print_number<W: Write>(number: Option<u64>, out: &mut W) -> Result<(), OutputFault>
     ensures { Shows (W.contents out.old) (W.contents out.new) (is_err result)
         (utf8 (number_text number)) }
@@ -163,7 +156,7 @@ fn print_numbered<W: Write>(
     ensures { Shows (W.contents out.old) (W.contents out.new) (is_err result)
         (utf8 (chars words.now ++ number_text number)) }
 {
-    print_words(words, out)?;
+    emit_words(words, out)?;
     print_number(number, out)
 }
 

@@ -107,7 +107,7 @@ impl Verdict {
         out.push_str(text.as_str())
     }
 
-    /// Writes the text of the reason, or a prefix of it where a write failed. It takes no memory.
+    /// Writes the text of the reason, or a proper prefix of it if a write failed. It takes no memory.
     pub fn print_reason<W: Write>(&self, out: &mut W) -> Result<(), OutputFault>
         ensures { Shows (W.contents out.old) (W.contents out.new) (is_err result)
             (utf8 self.now.reason) }
