@@ -1,10 +1,10 @@
 -- What a writer holds goes on.
 use Rattle.std.specs.Prelude.{Option, Some, None}
-use Rattle.std.proofs.Common.{arith, ◌≡◌, ◌<◌, ℕ, Bool, true, false, List, [], ◌∷◌, ◌++◌, length, take, drop, refl, ap, ◌∙◌, sym, append_assoc, take-append-drop}
+use Rattle.std.proofs.Common.{arith, ◌≡◌, ◌<◌, ℕ, Bool, true, false, List, [], ◌∷◌, ◌++◌, length, take, drop, refl, ap, ◌∙◌, sym, subst, append_assoc, take-append-drop}
 use Rattle.std.proofs.lemmas.List.{append-nil, length-drop}
 use Rattle.std.proofs.lemmas.Str.{encodes-append}
 use Rattle.std.specs.Io.KnownBytes.{Appends, Keeps}
-use Rattle.kt_base.specs.Shows.{Shows}
+use Rattle.kt_base.specs.Shows.{Holds, Shows}
 use Rattle.kt_base.specs.Utf8.{utf8}
 
 -- the bytes of a text, and of another behind it
@@ -27,19 +27,38 @@ appends_kept (Some us) (Some vs) (Some ws) xs p q = q ∙ p
 appends_kept (Some us) (Some vs) None xs p q = absurd q
 appends_kept (Some us) None c xs p q = absurd p
 
+both : (a b d : Option (List ℕ)) (failed : Bool) (xs ys : List ℕ) → Holds a b false xs → Holds b d failed ys → Holds a d failed (xs ++ ys)
+both a b d false xs ys p q = appends_both a b d xs ys p q
+both a b d true xs ys p q = (xs ++ q.0, q.1, q.2, ap (λ (z : List ℕ). xs ++ z) q.3 ∙ sym (append_assoc xs q.0 (q.2 ∷ q.1)), appends_both a b d xs q.0 p q.4)
+
 -- a text, and then another
-pub shows_both : (a b c : Option (List ℕ)) (failed : Bool) (xs ys : List ℕ) → Shows a b false xs → Shows b c failed ys → Shows a c failed (xs ++ ys)
-shows_both a b c false xs ys p q = appends_both a b c xs ys p q
-shows_both a b c true xs ys p q = (xs ++ q.0, q.1, q.2, ap (λ (z : List ℕ). xs ++ z) q.3 ∙ sym (append_assoc xs q.0 (q.2 ∷ q.1)), appends_both a b c xs q.0 p q.4)
+pub shows_both : {a b d : Option (List ℕ)} {failed : Bool} {xs ys : List ℕ} → Shows a b false xs → Shows b d failed ys → Shows a d failed (xs ++ ys)
+shows_both {a} {b} {d} {failed} {xs} {ys} p q = record { holds = both a b d failed xs ys p.holds q.holds }
 
 -- a writer that failed is given nothing more
-pub shows_more : (a b : Option (List ℕ)) (xs ys : List ℕ) → Shows a b true xs → Shows a b true (xs ++ ys)
-shows_more a b xs ys p = (p.0, p.1 ++ ys, p.2, ap (λ (z : List ℕ). z ++ ys) p.3 ∙ append_assoc p.0 (p.2 ∷ p.1) ys, p.4)
+pub shows_more : {a b : Option (List ℕ)} {xs : List ℕ} (ys : List ℕ) → Shows a b true xs → Shows a b true (xs ++ ys)
+shows_more {a} {b} {xs} ys p = let h = p.holds in record { holds = (h.0, h.1 ++ ys, h.2, ap (λ (z : List ℕ). z ++ ys) h.3 ∙ append_assoc h.0 (h.2 ∷ h.1) ys, h.4) }
+
+-- no text
+pub shows_none : {a : Option (List ℕ)} → Shows a a false []
+shows_none {a} = record { holds = appends_none a }
+
+-- nothing of a text that has a byte
+pub shows_nothing : {a : Option (List ℕ)} (x : ℕ) (xs : List ℕ) → Shows a a true (x ∷ xs)
+shows_nothing {a} x xs = record { holds = ([], xs, x, refl, appends_none a) }
+
+-- the same text
+pub shows_as : {a b : Option (List ℕ)} {failed : Bool} {xs ys : List ℕ} → xs ≡ ys → Shows a b failed xs → Shows a b failed ys
+shows_as {a} {b} {failed} e p = subst (λ (zs : List ℕ). Shows a b failed zs) e p
+
+-- by the answer of a call
+pub shows_of : {a b : Option (List ℕ)} {failed failed' : Bool} {xs : List ℕ} → failed ≡ failed' → Shows a b failed xs → Shows a b failed' xs
+shows_of {a} {b} {xs = xs} e p = subst (λ (f : Bool). Shows a b f xs) e p
 
 cut_at : (k : ℕ) (xs rest : List ℕ) → drop k xs ≡ rest → k < length xs → (more : List ℕ) × (next : ℕ) × (xs ≡ take k xs ++ next ∷ more)
 cut_at k xs [] e few = absurd (let d = length-drop k xs in let l : length (drop k xs) ≡ 0 = ap length e in omega (arith, d, l, few))
 cut_at k xs (b ∷ rest) e few = (rest, b, sym (take-append-drop k xs) ∙ ap (λ (z : List ℕ). take k xs ++ z) e)
 
--- a writer that took some of the bytes but not all of them
+-- some of the bytes but not all of them
 pub shows_cut : (a b : Option (List ℕ)) (k : ℕ) (xs : List ℕ) → k < length xs → Appends a b (take k xs) → Shows a b true xs
-shows_cut a b k xs few p = let cut = cut_at k xs (drop k xs) refl few in (take k xs, cut.0, cut.1, cut.2, p)
+shows_cut a b k xs few p = let cut = cut_at k xs (drop k xs) refl few in record { holds = (take k xs, cut.0, cut.1, cut.2, p) }
