@@ -1,6 +1,7 @@
 pub mod Characters
 pub mod Digits
 pub mod Fronts
+pub mod Joining
 pub mod LastValueLaws
 pub mod Names
 pub mod PartTexts

@@ -1,5 +1,6 @@
 -- What a writer holds goes on.
-use Rattle.std.specs.Prelude.{Option, Some, None}
+use Rattle.std.specs.Prelude.{Option, Some, None, Result, Ok, Err, is_err}
+use Rattle.std.specs.Result.{IsErrAnd}
 use Rattle.std.proofs.Common.{arith, ◌≡◌, ◌<◌, ℕ, Bool, true, false, List, [], ◌∷◌, ◌++◌, length, take, drop, refl, ap, ◌∙◌, sym, subst, append_assoc, take-append-drop}
 use Rattle.std.proofs.lemmas.List.{append-nil, length-drop}
 use Rattle.std.proofs.lemmas.Str.{encodes-append}
@@ -62,3 +63,8 @@ cut_at k xs (b ∷ rest) e few = (rest, b, sym (take-append-drop k xs) ∙ ap (�
 -- some of the bytes but not all of them
 pub shows_cut : (a b : Option (List ℕ)) (k : ℕ) (xs : List ℕ) → k < length xs → Appends a b (take k xs) → Shows a b true xs
 shows_cut a b k xs few p = let cut = cut_at k xs (drop k xs) refl few in record { holds = (take k xs, cut.0, cut.1, cut.2, p) }
+
+-- the exit of a `?`
+pub shows_error : {T E : Type 0} (r : Result T E) (Q : E → Type 0) {a b : Option (List ℕ)} {xs : List ℕ} → IsErrAnd r Q → Shows a b true xs → Shows a b (is_err r) xs
+shows_error (Ok x) Q h p = absurd h
+shows_error (Err y) Q h p = p

@@ -1,11 +1,8 @@
-ghost use Rattle.std.specs.Prelude.{◌≡◌, ◌≤◌, ◌<◌, true, false, is_err, length, take};
+ghost use Rattle.std.specs.Prelude.{◌≡◌, ◌≤◌, ◌<◌, true, false, is_err, length, map, take};
 ghost use Rattle.std.specs.Io.KnownBytes.{Appends};
-ghost use Rattle.std.specs.Str.{chars};
-ghost use Rattle.kt_base.specs.Shows.{Shows};
-ghost use Rattle.kt_base.specs.Utf8.{utf8};
+ghost use Rattle.kt_base.specs.Shows.{Shows, joined};
 
 use crate::output_fault::OutputFault;
-use crate::text::Text;
 use std::io::Write;
 
 /// Writes until all the bytes are written or a write fails. An interrupted write is a failed one, and so is one that takes
@@ -40,17 +37,13 @@ pub fn emit<W: Write>(bytes: &[u8], out: &mut W) -> Result<(), OutputFault>
     Ok(())
 }
 
-/// Writes words in UTF-8, or a proper prefix of their bytes if a write failed.
-pub fn emit_words<W: Write>(words: &str, out: &mut W) -> Result<(), OutputFault>
+/// Writes parts one after the other, or a proper prefix of them all if a write failed.
+pub fn emit_all<W: Write>(parts: &[&[u8]], out: &mut W) -> Result<(), OutputFault>
     ensures { Shows (W.contents out.old) (W.contents out.new) (is_err result)
-        (utf8 (chars words.now)) }
+        (joined (map (λ part. part.now) parts.now)) }
 {
-    emit(words.as_bytes(), out)
-}
-
-/// Writes a text in UTF-8, or a proper prefix of its bytes if a write failed.
-pub fn emit_text<W: Write>(text: &Text, out: &mut W) -> Result<(), OutputFault>
-    ensures { Shows (W.contents out.old) (W.contents out.new) (is_err result) (utf8 text.now) }
-{
-    emit(text.as_str().as_bytes(), out)
+    for part in parts {
+        emit(part, out)?;
+    }
+    Ok(())
 }

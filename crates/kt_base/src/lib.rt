@@ -2,6 +2,7 @@
 #![tactic(auto)]
 
 mod bytes;
+mod decimal;
 mod emission;
 mod entry;
 mod interface;
@@ -27,7 +28,8 @@ mod variables;
 mod verdict;
 
 pub use bytes::Bytes;
-pub use emission::{emit, emit_text, emit_words, send};
+pub use decimal::Decimal;
+pub use emission::{emit, emit_all, send};
 pub use entry::Entry;
 pub use interface::Interface;
 pub use items::Items;

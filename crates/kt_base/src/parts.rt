@@ -1,4 +1,4 @@
-use crate::emission::emit_words;
+use crate::emission::emit;
 use crate::no_memory::NoMemory;
 use crate::number::emit_number;
 use crate::outcome::Outcome;
@@ -107,10 +107,10 @@ impl Parts<'_> {
         ensures { Shows (W.contents out.old) (W.contents out.new) (is_err result)
             (utf8 (parts_text self.now)) }
     {
-        emit_words(self.head, out)?;
+        print_words(self.head, out)?;
         print_numbered(self.lead, self.first, out)?;
         print_numbered(self.between, self.second, out)?;
-        emit_words(self.tail, out)
+        print_words(self.tail, out)
     }
 }
 
@@ -138,6 +138,13 @@ fn push_number(number: Option<u64>, text: &mut Text) -> Result<(), NoMemory>
     }
 }
 
+fn print_words<W: Write>(words: &str, out: &mut W) -> Result<(), OutputFault>
+    ensures { Shows (W.contents out.old) (W.contents out.new) (is_err result)
+        (utf8 (chars words.now)) }
+{
+    emit(words.as_bytes(), out)
+}
+
 fn print_number<W: Write>(number: Option<u64>, out: &mut W) -> Result<(), OutputFault>
     ensures { Shows (W.contents out.old) (W.contents out.new) (is_err result)
         (utf8 (number_text number)) }
@@ -156,7 +163,7 @@ fn print_numbered<W: Write>(
     ensures { Shows (W.contents out.old) (W.contents out.new) (is_err result)
         (utf8 (chars words.now ++ number_text number)) }
 {
-    emit_words(words, out)?;
+    print_words(words, out)?;
     print_number(number, out)
 }
 

@@ -72,6 +72,13 @@ impl Text {
         self.string.as_str()
     }
 
+    /// The bytes of the text in UTF-8.
+    pub fn as_bytes(&self) -> &[u8]
+        ensures { result.now ≡ utf8 self.now }
+    {
+        self.as_str().as_bytes()
+    }
+
     /// An equal text with memory of its own.
     pub fn copy(&self) -> Result<Text, NoMemory>
         ensures { IfOk result (λ t. t ≡ self.now) }

@@ -2,4 +2,3 @@ pub mod Days
 pub mod EscapeSteps
 pub mod LineSteps
 pub mod PairSteps
-pub mod Tellings

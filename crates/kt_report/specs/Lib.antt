@@ -4,5 +4,4 @@ pub mod Escapes
 pub mod Junits
 pub mod Lines
 pub mod Pairs
-pub mod Telling
 pub mod Texts

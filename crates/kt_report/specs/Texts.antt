@@ -63,10 +63,13 @@ IsDateOf moment date = epoch_day date ≡ pos (told_moment moment / 86400000)
 abbrev pub clock_bytes : ℕ → List ℕ
 clock_bytes millis = two_digits (millis / 3600000) ++ codes ":" ++ two_digits (millis / 60000 % 60) ++ codes ":" ++ two_digits (millis / 1000 % 60) ++ codes "." ++ three_digits (millis % 1000)
 
+-- a date, with four digits for its year
+abbrev pub date_bytes : Date → List ℕ
+date_bytes date = four_digits (unsigned_abs date.year) ++ codes "-" ++ two_digits date.month ++ codes "-" ++ two_digits date.day
+
 -- a moment on its date
 abbrev pub moment_bytes : Date → ℕ → List ℕ
-moment_bytes date moment =
-    four_digits (unsigned_abs date.year) ++ codes "-" ++ two_digits date.month ++ codes "-" ++ two_digits date.day ++ codes "T" ++ clock_bytes (told_moment moment % 86400000) ++ codes "Z"
+moment_bytes date moment = date_bytes date ++ codes "T" ++ clock_bytes (told_moment moment % 86400000) ++ codes "Z"
 
 -- what tells that a run is not finished
 abbrev pub unfinished_bytes : Bool → List ℕ

@@ -1,8 +1,8 @@
-ghost use Rattle.std.specs.Prelude.{◌≡◌, length};
+ghost use Rattle.std.specs.Prelude.{◌≡◌, length, is_err};
+ghost use Rattle.kt_base.specs.Shows.{Shows};
 ghost use Rattle.kt_report.specs.Digits.{digit, two_digits, three_digits, four_digits, seconds};
-ghost use Rattle.kt_report.specs.Telling.{Tells};
 
-use crate::telling::{say, say_number};
+use kt_base::{OutputFault, emit, emit_wide_number};
 use std::io::Write;
 
 /// The last digit of a number.
@@ -12,36 +12,35 @@ fn digit(n: u64) -> u8
     b'0' + (n % 10) as u8
 }
 
-/// Tells a number by its last two digits.
-pub fn say_two_digits<W: Write>(failed: bool, n: u64, out: &mut W) -> bool
-    ensures { Tells (W.contents out.old) failed (W.contents out.new) result (two_digits n) }
+/// Writes the last two digits of a number.
+pub fn write_two_digits<W: Write>(n: u64, out: &mut W) -> Result<(), OutputFault>
+    ensures { Shows (W.contents out.old) (W.contents out.new) (is_err result) (two_digits n) }
 {
-    say(failed, &[digit(n / 10), digit(n)], out)
+    emit(&[digit(n / 10), digit(n)], out)
 }
 
-/// Tells a number by its last three digits.
-pub fn say_three_digits<W: Write>(failed: bool, n: u64, out: &mut W) -> bool
-    ensures { Tells (W.contents out.old) failed (W.contents out.new) result (three_digits n) }
+/// Writes the last three digits of a number.
+pub fn write_three_digits<W: Write>(n: u64, out: &mut W) -> Result<(), OutputFault>
+    ensures { Shows (W.contents out.old) (W.contents out.new) (is_err result) (three_digits n) }
 {
-    say(failed, &[digit(n / 100), digit(n / 10), digit(n)], out)
+    emit(&[digit(n / 100), digit(n / 10), digit(n)], out)
 }
 
-/// Tells a number by its last four digits.
-pub fn say_four_digits<W: Write>(failed: bool, n: u64, out: &mut W) -> bool
-    ensures { Tells (W.contents out.old) failed (W.contents out.new) result (four_digits n) }
+/// Writes the last four digits of a number.
+pub fn write_four_digits<W: Write>(n: u64, out: &mut W) -> Result<(), OutputFault>
+    ensures { Shows (W.contents out.old) (W.contents out.new) (is_err result) (four_digits n) }
 {
-    say(
-        failed,
+    emit(
         &[digit(n / 1000), digit(n / 100), digit(n / 10), digit(n)],
         out,
     )
 }
 
-/// Tells so many milliseconds as seconds.
-pub fn say_seconds<W: Write>(failed: bool, millis: u128, out: &mut W) -> bool
-    ensures { Tells (W.contents out.old) failed (W.contents out.new) result (seconds millis) }
+/// Writes a duration in seconds, with the milliseconds behind the point.
+pub fn write_seconds<W: Write>(millis: u128, out: &mut W) -> Result<(), OutputFault>
+    ensures { Shows (W.contents out.old) (W.contents out.new) (is_err result) (seconds millis) }
 {
-    let whole = say_number(failed, millis / 1000, out);
-    let point = say(whole, b".", out);
-    say_three_digits(point, (millis % 1000) as u64, out)
+    emit_wide_number(millis / 1000, out)?;
+    emit(b".", out)?;
+    write_three_digits((millis % 1000) as u64, out)
 }

@@ -11,7 +11,6 @@ mod pairs;
 mod report_fault;
 mod sections;
 mod summary;
-mod telling;
 mod text_report;
 
 pub use entry_line::line;

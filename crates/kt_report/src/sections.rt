@@ -1,12 +1,11 @@
-ghost use Rattle.std.specs.Prelude.{◌≡◌, length, flat_map};
+ghost use Rattle.std.specs.Prelude.{◌≡◌, length, flat_map, is_err};
 ghost use Rattle.std.specs.List.{list_any};
+ghost use Rattle.kt_base.specs.Shows.{Shows};
 ghost use Rattle.kt_report.specs.Pairs.{entry_bytes};
-ghost use Rattle.kt_report.specs.Telling.{Tells};
 ghost use Rattle.kt_report.specs.Texts.{same_kind, entries_of, title, section, sections};
 
-use crate::pairs::say_entry;
-use crate::telling::say;
-use kt_base::{Entry, Kind};
+use crate::pairs::write_entry;
+use kt_base::{Entry, Kind, OutputFault, emit};
 use std::io::Write;
 
 fn same_kind(kind: Kind, other: Kind) -> bool
@@ -63,66 +62,62 @@ fn title(kind: Kind) -> &'static [u8]
     }
 }
 
-/// Tells the lines of the entries of a kind.
-fn say_lines<W: Write>(
-    failed: bool,
+/// Writes the lines of the entries of a kind.
+fn write_lines<W: Write>(
     verbose: bool,
     kind: Kind,
     entries: &[Entry],
     out: &mut W,
-) -> bool
-    ensures { Tells (W.contents out.old) failed (W.contents out.new) result
+) -> Result<(), OutputFault>
+    ensures { Shows (W.contents out.old) (W.contents out.new) (is_err result)
         (flat_map (entry_bytes verbose) (entries_of kind entries.now)) }
 {
-    let mut has_failed = failed;
     let mut rest = entries;
     while let Some((entry, after)) = rest.split_first() {
         if same_kind(kind, entry.verdict.kind()) {
-            has_failed = say_entry(has_failed, verbose, entry, out);
+            write_entry(verbose, entry, out)?;
         }
         rest = after;
     }
-    has_failed
+    Ok(())
 }
 
-/// Tells the section of a kind, where it is chosen and has a line.
-fn say_section<W: Write>(
-    failed: bool,
+/// Writes the section of a kind, if it is chosen and has a line.
+fn write_section<W: Write>(
     verbose: bool,
     kinds: &[Kind],
     entries: &[Entry],
     kind: Kind,
     out: &mut W,
-) -> bool
-    ensures { Tells (W.contents out.old) failed (W.contents out.new) result
+) -> Result<(), OutputFault>
+    ensures { Shows (W.contents out.old) (W.contents out.new) (is_err result)
         (section verbose kinds.now entries.now kind) }
 {
     if !is_chosen(kinds, kind) {
-        return failed;
+        return Ok(());
     }
     if count(kind, entries) == 0 {
-        return failed;
+        return Ok(());
     }
-    let mark = say(failed, b"===> ", out);
-    let title = say(mark, title(kind), out);
-    let end = say(title, b"\n", out);
-    say_lines(end, verbose, kind, entries, out)
+    emit(b"===> ", out)?;
+    emit(title(kind), out)?;
+    emit(b"\n", out)?;
+    write_lines(verbose, kind, entries, out)
 }
 
-/// Tells the chosen sections.
-pub fn say_sections<W: Write>(
-    failed: bool,
+/// Writes the chosen sections.
+pub fn write_sections<W: Write>(
     verbose: bool,
     kinds: &[Kind],
     entries: &[Entry],
     out: &mut W,
-) -> bool
-    ensures { Tells (W.contents out.old) failed (W.contents out.new) result
+) -> Result<(), OutputFault>
+    ensures { Shows (W.contents out.old) (W.contents out.new) (is_err result)
         (sections verbose kinds.now entries.now) }
 {
-    let passed = say_section(failed, verbose, kinds, entries, Kind::Passed, out);
-    let skipped = say_section(passed, verbose, kinds, entries, Kind::Skipped, out);
-    let expected = say_section(skipped, verbose, kinds, entries, Kind::ExpectedFailure, out);
-    let broken = say_section(expected, verbose, kinds, entries, Kind::Broken, out);
-    say_section(broken, verbose, kinds, entries, Kind::Failed, out)
+    write_section(verbose, kinds, entries, Kind::Passed, out)?;
+    write_section(verbose, kinds, entries, Kind::Skipped, out)?;
+    write_section(verbose, kinds, entries, Kind::ExpectedFailure, out)?;
+    write_section(verbose, kinds, entries, Kind::Broken, out)?;
+    write_section(verbose, kinds, entries, Kind::Failed, out)
 }

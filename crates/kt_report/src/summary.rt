@@ -1,13 +1,12 @@
-ghost use Rattle.std.specs.Prelude.{◌≡◌, sum_by};
-ghost use Rattle.kt_report.specs.Telling.{Tells};
+ghost use Rattle.std.specs.Prelude.{◌≡◌, sum_by, is_err};
+ghost use Rattle.kt_base.specs.Shows.{Shows};
 ghost use Rattle.kt_report.specs.Texts.{count_bytes, unfinished_bytes, summary, started_bytes, counts_bytes};
 
-use crate::digits::say_seconds;
-use crate::moments::say_moment;
+use crate::digits::write_seconds;
+use crate::moments::write_moment;
 use crate::sections::count;
-use crate::telling::{say, say_number};
 use jiff::civil::Date;
-use kt_base::{Entry, Kind, Run};
+use kt_base::{Entry, Kind, OutputFault, Run, emit, emit_number};
 use std::io::Write;
 
 /// The sum of the entries' times, in milliseconds.
@@ -23,52 +22,62 @@ fn total_millis(entries: &[Entry]) -> u128
     total
 }
 
-/// Tells how many entries have the kind.
-pub fn say_count<W: Write>(failed: bool, kind: Kind, entries: &[Entry], out: &mut W) -> bool
-    ensures { Tells (W.contents out.old) failed (W.contents out.new) result
+/// Writes how many entries have the kind.
+pub fn write_count<W: Write>(kind: Kind, entries: &[Entry], out: &mut W) -> Result<(), OutputFault>
+    ensures { Shows (W.contents out.old) (W.contents out.new) (is_err result)
         (count_bytes kind entries.now) }
 {
-    say_number(failed, count(kind, entries) as u128, out)
+    emit_number(count(kind, entries) as u64, out)
 }
 
-fn say_started<W: Write>(failed: bool, date: Date, run: &Run, out: &mut W) -> bool
-    ensures { Tells (W.contents out.old) failed (W.contents out.new) result
+/// Writes that a run is unfinished, if it is.
+fn write_unfinished<W: Write>(finished: bool, out: &mut W) -> Result<(), OutputFault>
+    ensures { Shows (W.contents out.old) (W.contents out.new) (is_err result)
+        (unfinished_bytes finished) }
+{
+    if finished {
+        return Ok(());
+    }
+    emit(b", unfinished", out)
+}
+
+fn write_started<W: Write>(date: Date, run: &Run, out: &mut W) -> Result<(), OutputFault>
+    ensures { Shows (W.contents out.old) (W.contents out.new) (is_err result)
         (started_bytes date run.now) }
 {
-    let opening = say(failed, b"===> Summary\nRun ", out);
-    let number = say_number(opening, u128::from(run.number), out);
-    let started = say(number, b", started ", out);
-    let moment = say_moment(started, date, run.started, out);
-    if run.finished {
-        return moment;
-    }
-    say(moment, b", unfinished", out)
+    emit(b"===> Summary\nRun ", out)?;
+    emit_number(run.number, out)?;
+    emit(b", started ", out)?;
+    write_moment(date, run.started, out)?;
+    write_unfinished(run.finished, out)
 }
 
-fn say_counts<W: Write>(failed: bool, entries: &[Entry], out: &mut W) -> bool
-    ensures { Tells (W.contents out.old) failed (W.contents out.new) result
+fn write_counts<W: Write>(entries: &[Entry], out: &mut W) -> Result<(), OutputFault>
+    ensures { Shows (W.contents out.old) (W.contents out.new) (is_err result)
         (counts_bytes entries.now) }
 {
-    let opening = say(failed, b"\nTest cases: ", out);
-    let all = say_number(opening, entries.len() as u128, out);
-    let total = say(all, b" total, ", out);
-    let skips = say_count(total, Kind::Skipped, entries, out);
-    let skipped = say(skips, b" skipped, ", out);
-    let expects = say_count(skipped, Kind::ExpectedFailure, entries, out);
-    let expected = say(expects, b" expected failures, ", out);
-    let breaks = say_count(expected, Kind::Broken, entries, out);
-    let broken = say(breaks, b" broken, ", out);
-    let fails = say_count(broken, Kind::Failed, entries, out);
-    say(fails, b" failed\n", out)
+    emit(b"\nTest cases: ", out)?;
+    emit_number(entries.len() as u64, out)?;
+    emit(b" total, ", out)?;
+    write_count(Kind::Skipped, entries, out)?;
+    emit(b" skipped, ", out)?;
+    write_count(Kind::ExpectedFailure, entries, out)?;
+    emit(b" expected failures, ", out)?;
+    write_count(Kind::Broken, entries, out)?;
+    emit(b" broken, ", out)?;
+    write_count(Kind::Failed, entries, out)?;
+    emit(b" failed\n", out)
 }
 
-/// Tells the summary of a run that was started on this date.
-pub fn say_summary<W: Write>(failed: bool, date: Date, run: &Run, out: &mut W) -> bool
-    ensures { Tells (W.contents out.old) failed (W.contents out.new) result (summary date run.now) }
+/// Writes the summary of a run that was started on this date.
+pub fn write_summary<W: Write>(date: Date, run: &Run, out: &mut W) -> Result<(), OutputFault>
+    ensures { Shows (W.contents out.old) (W.contents out.new) (is_err result)
+        (summary date run.now) }
 {
-    let started = say_started(failed, date, run, out);
-    let counts = say_counts(started, run.entries.as_slice(), out);
-    let time = say(counts, b"Total time: ", out);
-    let seconds = say_seconds(time, total_millis(run.entries.as_slice()), out);
-    say(seconds, b"s\n", out)
+    let entries = run.entries.as_slice();
+    write_started(date, run, out)?;
+    write_counts(entries, out)?;
+    emit(b"Total time: ", out)?;
+    write_seconds(total_millis(entries), out)?;
+    emit(b"s\n", out)
 }

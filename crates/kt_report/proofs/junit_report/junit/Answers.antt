@@ -1,25 +1,20 @@
-use Rattle.std.proofs.Common.{◌≡◌, ◌++◌, ap, sym, ◌∙◌}
-use Rattle.std.specs.Prelude.{is_err, flat_map, codes}
-use Rattle.std.proofs.lemmas.Result.{err_from_is_err_and}
+use Rattle.std.proofs.Common.{ap}
+use Rattle.std.specs.Prelude.{flat_map}
 use Rattle.kt_report.specs.Junits.{case_bytes}
-use Rattle.kt_report.proofs.Tellings.{tells_both, tells_as, tells_flag, tells_cut, told}
+use Rattle.kt_base.proofs.Showing.{shows_as, shows_both, shows_error, shows_more}
 use Rattle.kt_report.proofs.junit_report.junit.Goals as goal
 
-pub returns-in_err-ended : goal.returns-in_err-ended
-returns-in_err-ended g c =
-    let p = err_from_is_err_and c.from_residual.result c.from_residual.ensures.1 in
-    let heading = tells_flag (sym c.ended.ensures ∙ ap is_err c.in_err-ended.was) c.say_heading.ensures in
-    told (tells_cut (codes "</testsuite>\n") (tells_cut (flat_map case_bytes c.args.run.now.entries) heading)) (sym (ap is_err p.1))
+pub returns-in_err-write_heading : goal.returns-in_err-write_heading
+returns-in_err-write_heading g c = shows_error _ _ c.from_residual.ensures.1 (search (shows_more, c.in_err-write_heading.ensures))
 
 pub returns-in_err-write_cases : goal.returns-in_err-write_cases
 returns-in_err-write_cases g c =
-    let p = err_from_is_err_and c.from_residual-in_err-write_cases.result c.from_residual-in_err-write_cases.ensures.1 in
-    let heading = tells_flag (sym c.ended.ensures ∙ ap is_err c.in_ok-ended.was) c.say_heading.ensures in
-    let cases = tells_as (ap (flat_map case_bytes) c.as_slice.ensures) (tells_flag (ap is_err c.in_err-write_cases.was) c.write_cases.ensures) in
-    told (tells_cut (codes "</testsuite>\n") (tells_both heading cases)) (sym (ap is_err p.1))
+    shows_error _ _ c.from_residual-in_err-write_cases.ensures.1 (search (shows_more, shows_both c.in_ok-write_heading.ensures (shows_as (ap (flat_map case_bytes) c.as_slice.ensures) c.in_err-write_cases.ensures)))
+
+pub returns-in_err-emit : goal.returns-in_err-emit
+returns-in_err-emit g c =
+    shows_error _ _ c.from_residual-in_err-emit.ensures.1 (shows_both (shows_both c.in_ok-write_heading.ensures (shows_as (ap (flat_map case_bytes) c.as_slice.ensures) c.in_ok-write_cases.ensures)) c.in_err-emit.ensures)
 
 pub returns : goal.returns
 returns g c =
-    let heading = tells_flag (sym c.ended.ensures ∙ ap is_err c.in_ok-ended.was) c.say_heading.ensures in
-    let cases = tells_as (ap (flat_map case_bytes) c.as_slice.ensures) (tells_flag (ap is_err c.in_ok-write_cases.was) c.write_cases.ensures) in
-    told (tells_both (tells_both heading cases) c.say.ensures) (sym c.ended-2.ensures)
+    shows_both (shows_both c.in_ok-write_heading.ensures (shows_as (ap (flat_map case_bytes) c.as_slice.ensures) c.in_ok-write_cases.ensures)) c.in_ok-emit.ensures

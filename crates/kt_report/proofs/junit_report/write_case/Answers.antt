@@ -1,12 +1,22 @@
-use Rattle.std.proofs.Common.{◌≡◌, ap, sym, ◌∙◌}
+use Rattle.std.proofs.Common.{ap, ◌∙◌}
+use Rattle.kt_base.proofs.Showing.{shows_as, shows_error, shows_nothing}
 use Rattle.kt_report.specs.Cases.{case_texts}
 use Rattle.kt_report.specs.Junits.{element}
-use Rattle.kt_report.proofs.Tellings.{tells_as, tells_flag}
 use Rattle.kt_report.proofs.junit_report.write_case.Goals as goal
+
+pub returns-in_err-texts : goal.returns-in_err-texts
+returns-in_err-texts g c = shows_error _ _ c.from_residual.ensures.1 (shows_nothing _ _)
+
+pub returns-in_err-write_element : goal.returns-in_err-write_element
+returns-in_err-write_element g c =
+    let e = c.args.entry.now in
+    let texts = ap (λ t. element t c.kind.result e.millis) c.in_ok-texts.ensures in
+    let kind = ap (λ k. element (case_texts e) k e.millis) c.kind.ensures in
+    shows_error _ _ c.from_residual-in_err-write_element.ensures.1 (shows_as (texts ∙ kind) c.in_err-write_element.ensures)
 
 pub returns : goal.returns
 returns g c =
     let e = c.args.entry.now in
     let texts = ap (λ t. element t c.kind.result e.millis) c.in_ok-texts.ensures in
     let kind = ap (λ k. element (case_texts e) k e.millis) c.kind.ensures in
-    tells_flag (sym c.ended.ensures) (tells_as (texts ∙ kind) c.say_element.ensures)
+    shows_as (texts ∙ kind) c.in_ok-write_element.ensures

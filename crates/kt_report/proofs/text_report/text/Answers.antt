@@ -1,14 +1,12 @@
 use Rattle.std.proofs.Common.{ap}
 use Rattle.kt_report.specs.Texts.{sections}
-use Rattle.kt_report.proofs.Tellings.{tells_both, tells_as, told}
+use Rattle.kt_base.proofs.Showing.{shows_as, shows_both, shows_error, shows_more}
 use Rattle.kt_report.proofs.text_report.text.Goals as goal
 
-pub returns-then-say_summary : goal.returns-then-say_summary
-returns-then-say_summary g c =
-    let parts = tells_as (ap (sections c.args.verbose c.args.kinds.now) c.as_slice.ensures) c.say_sections-sections.ensures in
-    (c.date_of-date.result, c.date_of-date.ensures, told (tells_both parts c.say_summary.ensures) c.if-say_summary.true)
+pub returns-in_err-write_sections : goal.returns-in_err-write_sections
+returns-in_err-write_sections g c =
+    (c.date_of-date.result, c.date_of-date.ensures, shows_error _ _ c.from_residual.ensures.1 (search (shows_more, shows_as (ap (sections c.args.verbose c.args.kinds.now) c.as_slice.ensures) c.in_err-write_sections.ensures)))
 
-pub returns-else-say_summary : goal.returns-else-say_summary
-returns-else-say_summary g c =
-    let parts = tells_as (ap (sections c.args.verbose c.args.kinds.now) c.as_slice.ensures) c.say_sections-sections.ensures in
-    (c.date_of-date.result, c.date_of-date.ensures, told (tells_both parts c.say_summary.ensures) c.if-say_summary.false)
+pub returns : goal.returns
+returns g c =
+    (c.date_of-date.result, c.date_of-date.ensures, shows_both (shows_as (ap (sections c.args.verbose c.args.kinds.now) c.as_slice.ensures) c.in_ok-write_sections.ensures) c.write_summary.ensures)

@@ -7,15 +7,15 @@ use Rattle.kt_base.proofs.PartTexts.{parts_bytes}
 use Rattle.kt_base.proofs.Showing.{shows_both, shows_more}
 use Rattle.kt_base.proofs.parts.Parts.print.Goals as goal
 
-pub returns-in_err-emit_words : goal.returns-in_err-emit_words
-returns-in_err-emit_words g c =
+pub returns-in_err-print_words : goal.returns-in_err-print_words
+returns-in_err-print_words g c =
     let s = c.args.self.now in
     let first = utf8 (chars s.lead.now ++ number_text s.first) in
     let second = utf8 (chars s.between.now ++ number_text s.second) in
     let tail = utf8 (chars s.tail.now) in
     let bytes = parts_bytes (chars s.head.now) (chars s.lead.now) (number_text s.first) (chars s.between.now) (number_text s.second) (chars s.tail.now) in
     let p = err_from_is_err_and c.from_residual.result c.from_residual.ensures.1 in
-    rw (p.1, bytes) (shows_more (first ++ (second ++ tail)) c.in_err-emit_words.ensures)
+    rw (p.1, bytes) (shows_more (first ++ (second ++ tail)) c.in_err-print_words.ensures)
 
 pub returns-in_err-print_numbered : goal.returns-in_err-print_numbered
 returns-in_err-print_numbered g c =
@@ -24,7 +24,7 @@ returns-in_err-print_numbered g c =
     let tail = utf8 (chars s.tail.now) in
     let bytes = parts_bytes (chars s.head.now) (chars s.lead.now) (number_text s.first) (chars s.between.now) (number_text s.second) (chars s.tail.now) in
     let p = err_from_is_err_and c.from_residual-in_err-print_numbered.result c.from_residual-in_err-print_numbered.ensures.1 in
-    rw (p.1, bytes) (shows_both c.in_ok-emit_words.ensures (shows_more (second ++ tail) c.in_err-print_numbered.ensures))
+    rw (p.1, bytes) (shows_both c.in_ok-print_words.ensures (shows_more (second ++ tail) c.in_err-print_numbered.ensures))
 
 pub returns-in_err-print_numbered-2 : goal.returns-in_err-print_numbered-2
 returns-in_err-print_numbered-2 g c =
@@ -32,10 +32,10 @@ returns-in_err-print_numbered-2 g c =
     let tail = utf8 (chars s.tail.now) in
     let bytes = parts_bytes (chars s.head.now) (chars s.lead.now) (number_text s.first) (chars s.between.now) (number_text s.second) (chars s.tail.now) in
     let p = err_from_is_err_and c.from_residual-in_err-print_numbered-2.result c.from_residual-in_err-print_numbered-2.ensures.1 in
-    rw (p.1, bytes) (shows_both c.in_ok-emit_words.ensures (shows_both c.in_ok-print_numbered.ensures (shows_more tail c.in_err-print_numbered-2.ensures)))
+    rw (p.1, bytes) (shows_both c.in_ok-print_words.ensures (shows_both c.in_ok-print_numbered.ensures (shows_more tail c.in_err-print_numbered-2.ensures)))
 
 pub returns : goal.returns
 returns g c =
     let s = c.args.self.now in
     let bytes = parts_bytes (chars s.head.now) (chars s.lead.now) (number_text s.first) (chars s.between.now) (number_text s.second) (chars s.tail.now) in
-    rw bytes (shows_both c.in_ok-emit_words.ensures (shows_both c.in_ok-print_numbered.ensures (shows_both c.in_ok-print_numbered-2.ensures c.emit_words-2.ensures)))
+    rw bytes (shows_both c.in_ok-print_words.ensures (shows_both c.in_ok-print_numbered.ensures (shows_both c.in_ok-print_numbered-2.ensures c.print_words-2.ensures)))

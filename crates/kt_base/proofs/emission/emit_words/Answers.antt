@@ -1,5 +1,0 @@
-use Rattle.std.proofs.lemmas.Str.{encodes-chars}
-use Rattle.kt_base.proofs.emission.emit_words.Goals as goal
-
-pub returns : goal.returns
-returns g c = rw (encodes-chars c.args.words.now c.utf8.words, ← c.as_bytes.ensures.value) c.emit.ensures

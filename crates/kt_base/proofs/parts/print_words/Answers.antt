@@ -1,0 +1,5 @@
+use Rattle.std.proofs.lemmas.Str.{encodes-chars}
+use Rattle.kt_base.proofs.parts.print_words.Goals as goal
+
+pub returns : goal.returns
+returns g c = rw (encodes-chars c.args.words.now c.utf8.words, ← c.as_bytes.ensures.value) c.emit.ensures

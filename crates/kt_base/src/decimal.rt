@@ -1,0 +1,76 @@
+ghost use Rattle.std.specs.Prelude.{◌≡◌, ◌≤◌, false, length, drop};
+ghost use Rattle.std.specs.Fmt.{decimal, digits_onto};
+ghost use Rattle.kt_base.specs.Utf8.{utf8};
+
+use std::marker::Model;
+
+/// The decimal digits of a number, in a room of their own, which takes no memory. Contracts see the digits' bytes.
+#[derive(Debug, Drop)]
+pub struct Decimal {
+    room: [u8; 64],
+    start: usize,
+}
+
+impl Model for Decimal {
+    ghost use Rattle.std.specs.Prelude.{ℕ, List, ◌≤◌, drop};
+
+    ghost Value = { List ℕ };
+
+    ghost view = { λ d. drop d.start d.room };
+
+    ghost invariant = { λ d. d.start ≤ 64 };
+}
+
+impl Decimal {
+    /// The digits of a number.
+    pub fn new(n: u64) -> Decimal
+        ensures value { result ≡ decimal n }
+        ensures ascii { utf8 (decimal n) ≡ decimal n }
+    {
+        Decimal::wide(u128::from(n))
+    }
+
+    /// The digits of a number of up to 128 bits.
+    pub fn wide(n: u128) -> Decimal
+        ensures value { result ≡ decimal n }
+        ensures ascii { utf8 (decimal n) ≡ decimal n }
+    {
+        let mut room = [0; 64];
+        let start = write_digits(n, &mut room);
+        Decimal { room, start }
+    }
+
+    /// The digits as bytes, the first one first.
+    pub fn as_bytes(&self) -> &[u8]
+        ensures { result.now ≡ self.now }
+    {
+        &self.room[self.start..]
+    }
+}
+
+/// Writes the decimal digits of `n` before the place `at`, the last `at` of them at most, and answers where they begin.
+fn write_before(n: u128, room: &mut [u8], at: usize) -> usize
+    requires { at ≤ length room.old }
+    ensures begins { result ≤ length room.new }
+    ensures value { drop result room.new ≡ digits_onto at 10 false n (drop at room.old) }
+{
+    let mut rest = n;
+    let mut at = at;
+    while at > 0 {
+        at -= 1;
+        room[at] = b'0' + (rest % 10) as u8;
+        rest /= 10;
+        if rest == 0 {
+            return at;
+        }
+    }
+    at
+}
+
+/// Writes the decimal digits of `n` at the end of the room, and answers where they begin.
+fn write_digits(n: u128, room: &mut [u8; 64]) -> usize
+    ensures begins { result ≤ 64 }
+    ensures value { drop result room.new ≡ decimal n }
+{
+    write_before(n, room, 64)
+}

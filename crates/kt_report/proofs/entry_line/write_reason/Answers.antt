@@ -1,0 +1,22 @@
+use Rattle.std.proofs.Common.{◌≡◌, ◌≢◌, ℕ, List, ◌++◌, refl, sym, ap, ◌∙◌}
+use Rattle.std.specs.Prelude.{codes}
+use Rattle.kt_base.specs.declared.kind.Kind.{Kind}
+use Rattle.kt_base.specs.declared.kind.Kind.TheVariants.{Passed}
+use Rattle.kt_base.specs.Utf8.{utf8}
+use Rattle.kt_base.proofs.Showing.{shows_as, shows_both, shows_error, shows_more}
+use Rattle.kt_report.specs.Lines.{told_reason}
+use Rattle.kt_report.proofs.entry_line.write_reason.Goals as goal
+
+told : (kind other : Kind) (reason : List ℕ) → kind ≢ Passed → kind ≡ other → codes ": " ++ utf8 reason ≡ told_reason other reason
+told Passed other reason n e = absurd (n refl)
+told kind other reason n e = ap (λ (k : Kind). told_reason k reason) e
+
+pub returns-in_err-emit : goal.returns-in_err-emit
+returns-in_err-emit g c =
+    let v = c.args.verdict.now in
+    shows_error _ _ c.from_residual.ensures.1 (shows_as (told c.kind.result v.kind v.reason c.in_default.not-Passed c.kind.ensures) (shows_more (utf8 v.reason) c.in_err-emit.ensures))
+
+pub returns-in_default : goal.returns-in_default
+returns-in_default g c =
+    let v = c.args.verdict.now in
+    shows_as (told c.kind.result v.kind v.reason c.in_default.not-Passed c.kind.ensures) (shows_both c.in_ok-emit.ensures c.print_reason.ensures)
