@@ -1,11 +1,11 @@
 -- Characters in XML, one by one.
-use Rattle.std.proofs.Common.{◌≡◌, ℕ, ◌≤◌, Bool, true, false, List, [], ◌∷◌, ◌++◌, length, refl, sym, ap, ◌∙◌, append_assoc, append-nil, nat_eq, arith, Result, Ok, Err}
-use Rattle.std.specs.Prelude.{codes, flat_map, if◌then◌else◌, OnOk}
+use Rattle.std.proofs.Common.{◌≡◌, ℕ, Bool, true, false, List, [], ◌∷◌, ◌++◌, length, refl, sym, ap, ◌∙◌, nat_eq, arith, Result, Ok, Err}
+use Rattle.std.specs.Prelude.{codes, if◌then◌else◌, OnOk}
 use Rattle.std.specs.Str.{chars}
 use Rattle.std.proofs.lemmas.Str.{length-le-encodes}
 use Rattle.std.proofs.lemmas.Bool.{eqb-true}
 use Rattle.kt_base.specs.Utf8.{utf8}
-use Rattle.kt_report.specs.Escapes.{escaped, other}
+use Rattle.kt_report.specs.Escapes.{escaped}
 use Rattle.kt_report.specs.Junits.{output_element}
 
 told_as : {T E : Type 0} (r : Result T E) (old new words : List ℕ) (attribute : Bool) (c d : ℕ) → c ≡ d → chars words ≡ escaped attribute d → OnOk r (new ≡ old ++ chars words) → OnOk r (new ≡ old ++ escaped attribute c)

@@ -1,5 +1,5 @@
 -- The JUnit report of a run.
-use Rattle.std.specs.Prelude.{ℕ, Bool, true, false, List, [], ◌∷◌, ◌++◌, codes, length, flat_map}
+use Rattle.std.specs.Prelude.{ℕ, List, [], ◌∷◌, ◌++◌, codes, length, flat_map}
 use Rattle.std.specs.Fmt.{decimal}
 use Rattle.kt_base.specs.declared.kind.Kind.{Kind}
 use Rattle.kt_base.specs.declared.kind.Kind.TheVariants.{Passed, Skipped, ExpectedFailure, Failed, Broken}

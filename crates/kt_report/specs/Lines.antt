@@ -1,11 +1,10 @@
 -- The line of an entry.
-use Rattle.std.specs.Prelude.{ℕ, List, [], ◌∷◌, ◌++◌, codes}
+use Rattle.std.specs.Prelude.{ℕ, List, [], ◌++◌, codes}
 use Rattle.kt_base.specs.declared.kind.Kind.{Kind}
 use Rattle.kt_base.specs.declared.kind.Kind.TheVariants.{Passed}
 use Rattle.kt_base.specs.declared.entry.Entry.{Entry}
 use Rattle.kt_base.specs.Kinds.{word}
 use Rattle.kt_base.specs.Utf8.{utf8}
-use Rattle.kt_base.specs.Verdicts.{Judged}
 use Rattle.kt_report.specs.Digits.{seconds}
 
 -- the reason, which a passed case has none to tell

@@ -1,5 +1,5 @@
 -- The text report of a run.
-use Rattle.std.specs.Prelude.{ℕ, ◌/◌, ◌%◌, Bool, true, false, if◌then◌else◌, List, [], ◌∷◌, ◌++◌, codes, length, flat_map, sum_by, ℤ, pos, unsigned_abs, min, ◌≡◌}
+use Rattle.std.specs.Prelude.{ℕ, ◌/◌, ◌%◌, Bool, true, false, if◌then◌else◌, List, [], ◌∷◌, ◌++◌, codes, length, flat_map, sum_by, pos, unsigned_abs, min, ◌≡◌}
 use Rattle.std.specs.List.{filter, list_any}
 use Rattle.std.specs.Fmt.{decimal}
 use Rattle.jiff_core.specs.declared.civil.date.Date.{Date}

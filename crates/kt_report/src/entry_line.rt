@@ -3,7 +3,7 @@ ghost use Rattle.kt_base.specs.Shows.{Shows};
 ghost use Rattle.kt_report.specs.Lines.{line_bytes, told_reason};
 
 use crate::digits::write_seconds;
-use kt_base::{Entry, Kind, OutputFault, Verdict, emit, emit_text};
+use kt_base::{Entry, Kind, OutputFault, Verdict, emit, emit_all};
 use std::io::Write;
 
 /// Writes the reason of a verdict behind a colon; a passed case has none.
@@ -26,10 +26,8 @@ pub fn line<W: Write>(entry: &Entry, out: &mut W) -> Result<(), OutputFault>
     ensures { Shows (W.contents out.old) (W.contents out.new) (is_err result)
         (line_bytes entry.now) }
 {
-    emit_text(&entry.program, out)?;
-    emit(b":", out)?;
-    emit_text(&entry.case_name, out)?;
-    emit(b"  ->  ", out)?;
+    let case_name = entry.case_name.as_bytes();
+    emit_all(&[entry.program.as_bytes(), b":", case_name, b"  ->  "], out)?;
     emit(entry.verdict.kind().word().as_bytes(), out)?;
     write_reason(&entry.verdict, out)?;
     emit(b"  [", out)?;

@@ -7,8 +7,8 @@ use crate::case_texts::CaseTexts;
 use crate::digits::write_seconds;
 use crate::escaping::case_texts;
 use crate::report_fault::ReportFault;
-use crate::summary::write_count;
-use kt_base::{Entry, Kind, OutputFault, Run, Text, emit, emit_number, emit_text};
+use crate::summary::count_digits;
+use kt_base::{Decimal, Entry, Kind, OutputFault, Run, Text, emit, emit_all};
 use std::alloc::Global;
 use std::io::Write;
 
@@ -16,9 +16,7 @@ fn write_message<W: Write>(opening: &[u8], reason: &Text, out: &mut W) -> Result
     ensures { Shows (W.contents out.old) (W.contents out.new) (is_err result)
         (opening.now ++ utf8 reason.now ++ codes "\"/>\n") }
 {
-    emit(opening, out)?;
-    emit_text(reason, out)?;
-    emit(b"\"/>\n", out)
+    emit_all(&[opening, reason.as_bytes(), b"\"/>\n"], out)
 }
 
 /// Writes what became of a case.
@@ -39,16 +37,11 @@ fn write_output<W: Write>(name: &[u8], text: &Text, out: &mut W) -> Result<(), O
     ensures { Shows (W.contents out.old) (W.contents out.new) (is_err result)
         (output_element name.now text.now) }
 {
-    if text.as_str().is_empty() {
+    let bytes = text.as_bytes();
+    if bytes.is_empty() {
         return Ok(());
     }
-    emit(b"<", out)?;
-    emit(name, out)?;
-    emit(b">", out)?;
-    emit_text(text, out)?;
-    emit(b"</", out)?;
-    emit(name, out)?;
-    emit(b">\n", out)
+    emit_all(&[b"<", name, b">", bytes, b"</", name, b">\n"], out)
 }
 
 fn write_element<W: Write>(
@@ -60,11 +53,16 @@ fn write_element<W: Write>(
     ensures { Shows (W.contents out.old) (W.contents out.new) (is_err result)
         (element texts.now kind millis) }
 {
-    emit(b"<testcase classname=\"", out)?;
-    emit_text(&texts.program, out)?;
-    emit(b"\" name=\"", out)?;
-    emit_text(&texts.case_name, out)?;
-    emit(b"\" time=\"", out)?;
+    emit_all(
+        &[
+            b"<testcase classname=\"",
+            texts.program.as_bytes(),
+            b"\" name=\"",
+            texts.case_name.as_bytes(),
+            b"\" time=\"",
+        ],
+        out,
+    )?;
     write_seconds(u128::from(millis), out)?;
     emit(b"\">\n", out)?;
     write_result(kind, &texts.reason, out)?;
@@ -77,18 +75,24 @@ fn write_heading<W: Write>(run: &Run, out: &mut W) -> Result<(), OutputFault>
     ensures { Shows (W.contents out.old) (W.contents out.new) (is_err result) (heading run.now) }
 {
     let entries = run.entries.as_slice();
-    emit(
-        b"<?xml version=\"1.0\" encoding=\"utf-8\"?>\n<testsuite tests=\"",
+    let tests = Decimal::new(entries.len() as u64);
+    let failures = count_digits(Kind::Failed, entries);
+    let errors = count_digits(Kind::Broken, entries);
+    let skipped = count_digits(Kind::Skipped, entries);
+    emit_all(
+        &[
+            b"<?xml version=\"1.0\" encoding=\"utf-8\"?>\n<testsuite tests=\"",
+            tests.as_bytes(),
+            b"\" failures=\"",
+            failures.as_bytes(),
+            b"\" errors=\"",
+            errors.as_bytes(),
+            b"\" skipped=\"",
+            skipped.as_bytes(),
+            b"\">\n",
+        ],
         out,
-    )?;
-    emit_number(entries.len() as u64, out)?;
-    emit(b"\" failures=\"", out)?;
-    write_count(Kind::Failed, entries, out)?;
-    emit(b"\" errors=\"", out)?;
-    write_count(Kind::Broken, entries, out)?;
-    emit(b"\" skipped=\"", out)?;
-    write_count(Kind::Skipped, entries, out)?;
-    emit(b"\">\n", out)
+    )
 }
 
 /// Writes an entry. If memory was refused, nothing of it was written.

@@ -3,10 +3,10 @@ ghost use Rattle.jiff_core.specs.Date.{epoch_day};
 ghost use Rattle.kt_base.specs.Shows.{Shows};
 ghost use Rattle.kt_report.specs.Texts.{told_moment, IsDateOf, clock_bytes, date_bytes, moment_bytes};
 
-use crate::digits::{write_four_digits, write_three_digits, write_two_digits};
+use crate::digits::{four_digits, three_digits, two_digits};
 use jiff::ToSpan;
 use jiff::civil::{Date, date};
-use kt_base::{LATEST_MOMENT, OutputFault, emit};
+use kt_base::{LATEST_MOMENT, OutputFault, emit, emit_all};
 use std::io::Write;
 
 const MILLIS_OF_DAY: u64 = 86_400_000;
@@ -37,24 +37,21 @@ fn write_clock<W: Write>(millis: u64, out: &mut W) -> Result<(), OutputFault>
     ensures { Shows (W.contents out.old) (W.contents out.new) (is_err result)
         (clock_bytes millis) }
 {
-    write_two_digits(millis / 3_600_000, out)?;
-    emit(b":", out)?;
-    write_two_digits(millis / 60_000 % 60, out)?;
-    emit(b":", out)?;
-    write_two_digits(millis / 1000 % 60, out)?;
-    emit(b".", out)?;
-    write_three_digits(millis % 1000, out)
+    let hours = two_digits(millis / 3_600_000);
+    let minutes = two_digits(millis / 60_000 % 60);
+    let seconds = two_digits(millis / 1000 % 60);
+    let rest = three_digits(millis % 1000);
+    emit_all(&[&hours, b":", &minutes, b":", &seconds, b".", &rest], out)
 }
 
 /// Writes a date, as `2023-11-14`.
 fn write_date<W: Write>(date: Date, out: &mut W) -> Result<(), OutputFault>
     ensures { Shows (W.contents out.old) (W.contents out.new) (is_err result) (date_bytes date) }
 {
-    write_four_digits(u64::from(date.year().unsigned_abs()), out)?;
-    emit(b"-", out)?;
-    write_two_digits(u64::from(date.month().unsigned_abs()), out)?;
-    emit(b"-", out)?;
-    write_two_digits(u64::from(date.day().unsigned_abs()), out)
+    let year = four_digits(u64::from(date.year().unsigned_abs()));
+    let month = two_digits(u64::from(date.month().unsigned_abs()));
+    let day = two_digits(u64::from(date.day().unsigned_abs()));
+    emit_all(&[&year, b"-", &month, b"-", &day], out)
 }
 
 /// Writes a moment on its date, as `2023-11-14T22:13:20.123Z`.

@@ -3,7 +3,7 @@ ghost use Rattle.kt_base.specs.Shows.{Shows};
 ghost use Rattle.kt_report.specs.Pairs.{shown_byte, pair_bytes, entry_bytes};
 
 use crate::entry_line::line;
-use kt_base::{Entry, OutputFault, Variable, emit, emit_text};
+use kt_base::{Entry, OutputFault, Variable, emit, emit_all};
 use std::io::Write;
 
 /// A byte of a value as it is printed: a control character is a question mark.
@@ -31,10 +31,8 @@ fn write_pair<W: Write>(pair: &Variable, out: &mut W) -> Result<(), OutputFault>
     ensures { Shows (W.contents out.old) (W.contents out.new) (is_err result)
         (pair_bytes pair.now) }
 {
-    emit(b"    ", out)?;
-    emit_text(&pair.name, out)?;
-    emit(b" = ", out)?;
-    write_value(pair.value.as_str().as_bytes(), out)?;
+    emit_all(&[b"    ", pair.name.as_bytes(), b" = "], out)?;
+    write_value(pair.value.as_bytes(), out)?;
     emit(b"\n", out)
 }
 

@@ -5,7 +5,7 @@ ghost use Rattle.kt_report.specs.Pairs.{entry_bytes};
 ghost use Rattle.kt_report.specs.Texts.{same_kind, entries_of, title, section, sections};
 
 use crate::pairs::write_entry;
-use kt_base::{Entry, Kind, OutputFault, emit};
+use kt_base::{Entry, Kind, OutputFault, emit_all};
 use std::io::Write;
 
 fn same_kind(kind: Kind, other: Kind) -> bool
@@ -99,9 +99,7 @@ fn write_section<W: Write>(
     if count(kind, entries) == 0 {
         return Ok(());
     }
-    emit(b"===> ", out)?;
-    emit(title(kind), out)?;
-    emit(b"\n", out)?;
+    emit_all(&[b"===> ", title(kind), b"\n"], out)?;
     write_lines(verbose, kind, entries, out)
 }
 

@@ -6,7 +6,7 @@ use crate::digits::write_seconds;
 use crate::moments::write_moment;
 use crate::sections::count;
 use jiff::civil::Date;
-use kt_base::{Entry, Kind, OutputFault, Run, emit, emit_number};
+use kt_base::{Decimal, Entry, Kind, OutputFault, Run, emit, emit_all};
 use std::io::Write;
 
 /// The sum of the entries' times, in milliseconds.
@@ -22,12 +22,11 @@ fn total_millis(entries: &[Entry]) -> u128
     total
 }
 
-/// Writes how many entries have the kind.
-pub fn write_count<W: Write>(kind: Kind, entries: &[Entry], out: &mut W) -> Result<(), OutputFault>
-    ensures { Shows (W.contents out.old) (W.contents out.new) (is_err result)
-        (count_bytes kind entries.now) }
+/// How many entries have the kind, in decimal.
+pub fn count_digits(kind: Kind, entries: &[Entry]) -> Decimal
+    ensures { result ≡ count_bytes kind entries.now }
 {
-    emit_number(count(kind, entries) as u64, out)
+    Decimal::new(count(kind, entries) as u64)
 }
 
 /// Writes that a run is unfinished, if it is.
@@ -45,9 +44,11 @@ fn write_started<W: Write>(date: Date, run: &Run, out: &mut W) -> Result<(), Out
     ensures { Shows (W.contents out.old) (W.contents out.new) (is_err result)
         (started_bytes date run.now) }
 {
-    emit(b"===> Summary\nRun ", out)?;
-    emit_number(run.number, out)?;
-    emit(b", started ", out)?;
+    let number = Decimal::new(run.number);
+    emit_all(
+        &[b"===> Summary\nRun ", number.as_bytes(), b", started "],
+        out,
+    )?;
     write_moment(date, run.started, out)?;
     write_unfinished(run.finished, out)
 }
@@ -56,17 +57,27 @@ fn write_counts<W: Write>(entries: &[Entry], out: &mut W) -> Result<(), OutputFa
     ensures { Shows (W.contents out.old) (W.contents out.new) (is_err result)
         (counts_bytes entries.now) }
 {
-    emit(b"\nTest cases: ", out)?;
-    emit_number(entries.len() as u64, out)?;
-    emit(b" total, ", out)?;
-    write_count(Kind::Skipped, entries, out)?;
-    emit(b" skipped, ", out)?;
-    write_count(Kind::ExpectedFailure, entries, out)?;
-    emit(b" expected failures, ", out)?;
-    write_count(Kind::Broken, entries, out)?;
-    emit(b" broken, ", out)?;
-    write_count(Kind::Failed, entries, out)?;
-    emit(b" failed\n", out)
+    let total = Decimal::new(entries.len() as u64);
+    let skipped = count_digits(Kind::Skipped, entries);
+    let expected = count_digits(Kind::ExpectedFailure, entries);
+    let broken = count_digits(Kind::Broken, entries);
+    let failed = count_digits(Kind::Failed, entries);
+    emit_all(
+        &[
+            b"\nTest cases: ",
+            total.as_bytes(),
+            b" total, ",
+            skipped.as_bytes(),
+            b" skipped, ",
+            expected.as_bytes(),
+            b" expected failures, ",
+            broken.as_bytes(),
+            b" broken, ",
+            failed.as_bytes(),
+            b" failed\n",
+        ],
+        out,
+    )
 }
 
 /// Writes the summary of a run that was started on this date.

@@ -1,40 +1,35 @@
 use Rattle.std.proofs.Common.{ap, ◌∙◌}
+use Rattle.std.specs.Prelude.{codes}
 use Rattle.kt_base.specs.Kinds.{word}
 use Rattle.kt_report.specs.Digits.{seconds}
+use Rattle.kt_report.specs.Lines.{told_reason}
 use Rattle.kt_base.proofs.Showing.{shows_as, shows_both, shows_error, shows_more}
 use Rattle.kt_report.proofs.entry_line.line.Goals as goal
 
-pub returns-in_err-emit_text : goal.returns-in_err-emit_text
-returns-in_err-emit_text g c = shows_error _ _ c.from_residual.ensures.1 (search (shows_more, c.in_err-emit_text.ensures) depth 9)
+pub returns-in_err-emit_all : goal.returns-in_err-emit_all
+returns-in_err-emit_all g c =
+    let e = c.args.entry.now in
+    shows_error _ _ c.from_residual.ensures.1 (shows_more (codes "s]\n") (shows_more (seconds e.millis) (shows_more (codes "  [") (shows_more (told_reason e.verdict.kind e.verdict.reason) (shows_more (word e.verdict.kind) (rw (c.as_bytes.ensures, c.as_bytes-case_name.ensures) at c.in_err-emit_all.ensures))))))
 
 pub returns-in_err-emit : goal.returns-in_err-emit
 returns-in_err-emit g c =
-    shows_error _ _ c.from_residual-in_err-emit.ensures.1 (search (shows_more, shows_both c.in_ok-emit_text.ensures c.in_err-emit.ensures) depth 8)
-
-pub returns-in_err-emit_text-2 : goal.returns-in_err-emit_text-2
-returns-in_err-emit_text-2 g c =
-    shows_error _ _ c.from_residual-in_err-emit_text-2.ensures.1 (search (shows_more, shows_both (shows_both c.in_ok-emit_text.ensures c.in_ok-emit.ensures) c.in_err-emit_text-2.ensures) depth 7)
-
-pub returns-in_err-emit-2 : goal.returns-in_err-emit-2
-returns-in_err-emit-2 g c =
-    shows_error _ _ c.from_residual-in_err-emit-2.ensures.1 (search (shows_more, shows_both (shows_both (shows_both c.in_ok-emit_text.ensures c.in_ok-emit.ensures) c.in_ok-emit_text-2.ensures) c.in_err-emit-2.ensures) depth 6)
-
-pub returns-in_err-emit-3 : goal.returns-in_err-emit-3
-returns-in_err-emit-3 g c =
-    shows_error _ _ c.from_residual-in_err-emit-3.ensures.1 (search (shows_more, shows_both (shows_both (shows_both (shows_both c.in_ok-emit_text.ensures c.in_ok-emit.ensures) c.in_ok-emit_text-2.ensures) c.in_ok-emit-2.ensures) (shows_as (c.as_bytes.ensures.value ∙ c.word.ensures ∙ ap word c.kind.ensures) c.in_err-emit-3.ensures)))
+    let e = c.args.entry.now in
+    shows_error _ _ c.from_residual-in_err-emit.ensures.1 (shows_more (codes "s]\n") (shows_more (seconds e.millis) (shows_more (codes "  [") (shows_more (told_reason e.verdict.kind e.verdict.reason) (shows_both (rw (c.as_bytes.ensures, c.as_bytes-case_name.ensures) at c.in_ok-emit_all.ensures) (shows_as (c.as_bytes-2.ensures.value ∙ c.word.ensures ∙ ap word c.kind.ensures) c.in_err-emit.ensures))))))
 
 pub returns-in_err-write_reason : goal.returns-in_err-write_reason
 returns-in_err-write_reason g c =
-    shows_error _ _ c.from_residual-in_err-write_reason.ensures.1 (search (shows_more, shows_both (shows_both (shows_both (shows_both (shows_both c.in_ok-emit_text.ensures c.in_ok-emit.ensures) c.in_ok-emit_text-2.ensures) c.in_ok-emit-2.ensures) (shows_as (c.as_bytes.ensures.value ∙ c.word.ensures ∙ ap word c.kind.ensures) c.in_ok-emit-3.ensures)) c.in_err-write_reason.ensures))
+    let e = c.args.entry.now in
+    shows_error _ _ c.from_residual-in_err-write_reason.ensures.1 (shows_more (codes "s]\n") (shows_more (seconds e.millis) (shows_more (codes "  [") (shows_both (shows_both (rw (c.as_bytes.ensures, c.as_bytes-case_name.ensures) at c.in_ok-emit_all.ensures) (shows_as (c.as_bytes-2.ensures.value ∙ c.word.ensures ∙ ap word c.kind.ensures) c.in_ok-emit.ensures)) c.in_err-write_reason.ensures))))
 
-pub returns-in_err-emit-4 : goal.returns-in_err-emit-4
-returns-in_err-emit-4 g c =
-    shows_error _ _ c.from_residual-in_err-emit-4.ensures.1 (search (shows_more, shows_both (shows_both (shows_both (shows_both (shows_both (shows_both c.in_ok-emit_text.ensures c.in_ok-emit.ensures) c.in_ok-emit_text-2.ensures) c.in_ok-emit-2.ensures) (shows_as (c.as_bytes.ensures.value ∙ c.word.ensures ∙ ap word c.kind.ensures) c.in_ok-emit-3.ensures)) c.in_ok-write_reason.ensures) c.in_err-emit-4.ensures))
+pub returns-in_err-emit-2 : goal.returns-in_err-emit-2
+returns-in_err-emit-2 g c =
+    let e = c.args.entry.now in
+    shows_error _ _ c.from_residual-in_err-emit-2.ensures.1 (shows_more (codes "s]\n") (shows_more (seconds e.millis) (shows_both (shows_both (shows_both (rw (c.as_bytes.ensures, c.as_bytes-case_name.ensures) at c.in_ok-emit_all.ensures) (shows_as (c.as_bytes-2.ensures.value ∙ c.word.ensures ∙ ap word c.kind.ensures) c.in_ok-emit.ensures)) c.in_ok-write_reason.ensures) c.in_err-emit-2.ensures)))
 
 pub returns-in_err-write_seconds : goal.returns-in_err-write_seconds
 returns-in_err-write_seconds g c =
-    shows_error _ _ c.from_residual-in_err-write_seconds.ensures.1 (search (shows_more, shows_both (shows_both (shows_both (shows_both (shows_both (shows_both (shows_both c.in_ok-emit_text.ensures c.in_ok-emit.ensures) c.in_ok-emit_text-2.ensures) c.in_ok-emit-2.ensures) (shows_as (c.as_bytes.ensures.value ∙ c.word.ensures ∙ ap word c.kind.ensures) c.in_ok-emit-3.ensures)) c.in_ok-write_reason.ensures) c.in_ok-emit-4.ensures) (shows_as (ap seconds c.from.ensures) c.in_err-write_seconds.ensures)))
+    shows_error _ _ c.from_residual-in_err-write_seconds.ensures.1 (shows_more (codes "s]\n") (shows_both (shows_both (shows_both (shows_both (rw (c.as_bytes.ensures, c.as_bytes-case_name.ensures) at c.in_ok-emit_all.ensures) (shows_as (c.as_bytes-2.ensures.value ∙ c.word.ensures ∙ ap word c.kind.ensures) c.in_ok-emit.ensures)) c.in_ok-write_reason.ensures) c.in_ok-emit-2.ensures) (shows_as (ap seconds c.from.ensures) c.in_err-write_seconds.ensures)))
 
 pub returns : goal.returns
 returns g c =
-    shows_both (shows_both (shows_both (shows_both (shows_both (shows_both (shows_both (shows_both c.in_ok-emit_text.ensures c.in_ok-emit.ensures) c.in_ok-emit_text-2.ensures) c.in_ok-emit-2.ensures) (shows_as (c.as_bytes.ensures.value ∙ c.word.ensures ∙ ap word c.kind.ensures) c.in_ok-emit-3.ensures)) c.in_ok-write_reason.ensures) c.in_ok-emit-4.ensures) (shows_as (ap seconds c.from.ensures) c.in_ok-write_seconds.ensures)) c.emit-5.ensures
+    shows_both (shows_both (shows_both (shows_both (shows_both (rw (c.as_bytes.ensures, c.as_bytes-case_name.ensures) at c.in_ok-emit_all.ensures) (shows_as (c.as_bytes-2.ensures.value ∙ c.word.ensures ∙ ap word c.kind.ensures) c.in_ok-emit.ensures)) c.in_ok-write_reason.ensures) c.in_ok-emit-2.ensures) (shows_as (ap seconds c.from.ensures) c.in_ok-write_seconds.ensures)) c.emit-3.ensures

@@ -1,4 +1,4 @@
-use Rattle.std.proofs.Common.{◌≡◌, ◌≢◌, ℕ, List, ◌++◌, refl, sym, ap, ◌∙◌}
+use Rattle.std.proofs.Common.{◌≡◌, ◌≢◌, ℕ, List, ◌++◌, refl, ap}
 use Rattle.std.specs.Prelude.{codes}
 use Rattle.kt_base.specs.declared.kind.Kind.{Kind}
 use Rattle.kt_base.specs.declared.kind.Kind.TheVariants.{Passed}
@@ -11,12 +11,12 @@ told : (kind other : Kind) (reason : List ℕ) → kind ≢ Passed → kind ≡ 
 told Passed other reason n e = absurd (n refl)
 told kind other reason n e = ap (λ (k : Kind). told_reason k reason) e
 
-pub returns-in_err-emit : goal.returns-in_err-emit
-returns-in_err-emit g c =
+pub returns-in_err-emit-in_default : goal.returns-in_err-emit-in_default
+returns-in_err-emit-in_default g c =
     let v = c.args.verdict.now in
-    shows_error _ _ c.from_residual.ensures.1 (shows_as (told c.kind.result v.kind v.reason c.in_default.not-Passed c.kind.ensures) (shows_more (utf8 v.reason) c.in_err-emit.ensures))
+    shows_error _ _ c.from_residual.ensures.1 (shows_as (told c.kind.result v.kind v.reason c.in_default.not-Passed c.kind.ensures) (shows_more (utf8 v.reason) c.in_err-emit-in_default.ensures))
 
-pub returns-in_default : goal.returns-in_default
-returns-in_default g c =
+pub returns-in_ok-emit-in_default : goal.returns-in_ok-emit-in_default
+returns-in_ok-emit-in_default g c =
     let v = c.args.verdict.now in
-    shows_as (told c.kind.result v.kind v.reason c.in_default.not-Passed c.kind.ensures) (shows_both c.in_ok-emit.ensures c.print_reason.ensures)
+    shows_as (told c.kind.result v.kind v.reason c.in_default.not-Passed c.kind.ensures) (shows_both c.in_ok-emit-in_default.ensures c.print_reason.ensures)

@@ -1,15 +1,16 @@
 use Rattle.std.proofs.Common.{ap}
-use Rattle.std.specs.Prelude.{flat_map}
+use Rattle.std.specs.Prelude.{codes, flat_map}
 use Rattle.kt_report.specs.Junits.{case_bytes}
 use Rattle.kt_base.proofs.Showing.{shows_as, shows_both, shows_error, shows_more}
 use Rattle.kt_report.proofs.junit_report.junit.Goals as goal
 
 pub returns-in_err-write_heading : goal.returns-in_err-write_heading
-returns-in_err-write_heading g c = shows_error _ _ c.from_residual.ensures.1 (search (shows_more, c.in_err-write_heading.ensures))
+returns-in_err-write_heading g c =
+    shows_error _ _ c.from_residual.ensures.1 (shows_more (codes "</testsuite>\n") (shows_more (flat_map case_bytes c.args.run.now.entries) c.in_err-write_heading.ensures))
 
 pub returns-in_err-write_cases : goal.returns-in_err-write_cases
 returns-in_err-write_cases g c =
-    shows_error _ _ c.from_residual-in_err-write_cases.ensures.1 (search (shows_more, shows_both c.in_ok-write_heading.ensures (shows_as (ap (flat_map case_bytes) c.as_slice.ensures) c.in_err-write_cases.ensures)))
+    shows_error _ _ c.from_residual-in_err-write_cases.ensures.1 (shows_more (codes "</testsuite>\n") (shows_both c.in_ok-write_heading.ensures (shows_as (ap (flat_map case_bytes) c.as_slice.ensures) c.in_err-write_cases.ensures)))
 
 pub returns-in_err-emit : goal.returns-in_err-emit
 returns-in_err-emit g c =

@@ -1,4 +1,4 @@
-use Rattle.std.proofs.Common.{arith, w64, ◌≡◌, ◌<◌, ◌^◌, ℤ, pos, subst, ◌∙◌}
+use Rattle.std.proofs.Common.{arith, w64, ◌<◌, ◌^◌, ℤ, subst, ◌∙◌}
 use Rattle.std.proofs.lemmas.Int.{to_z_pos}
 use Rattle.jiff_core.specs.Span.{IsOnly}
 use Rattle.jiff_core.specs.declared.unit.Unit.TheVariants.{Day}

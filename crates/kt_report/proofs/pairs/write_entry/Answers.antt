@@ -1,6 +1,5 @@
-use Rattle.std.proofs.Common.{rules, ◌≡◌, Bool, true, false, ap, sym}
+use Rattle.std.proofs.Common.{rules, ◌≡◌, true}
 use Rattle.kt_base.proofs.Showing.{shows_as, shows_both, shows_error}
-use Rattle.kt_report.specs.Pairs.{entry_bytes}
 use Rattle.kt_report.proofs.PairSteps.{entry_with, entry_cut}
 use Rattle.kt_report.proofs.pairs.write_entry.Goals as goal
 

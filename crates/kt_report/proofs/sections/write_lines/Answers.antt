@@ -3,7 +3,7 @@ use Rattle.std.specs.Prelude.{flat_map}
 use Rattle.kt_base.proofs.Showing.{shows_as, shows_both, shows_error, shows_more, shows_none}
 use Rattle.kt_report.specs.Pairs.{entry_bytes}
 use Rattle.kt_report.specs.Texts.{same_kind, entries_of}
-use Rattle.kt_report.proofs.LineSteps.{lines_more, lines_same, lines_all}
+use Rattle.kt_report.proofs.LineSteps.{lines_more, lines_all}
 use Rattle.kt_report.proofs.sections.write_lines.Goals as goal
 
 pub loop-entry-init : goal.loop-entry-init
@@ -18,8 +18,8 @@ returns-in_err-write_entry g c =
     let whole = lines_more v c.args.kind c.loop-entry.rest.now c.in-Some.after.now c.in-Some.entry.now inv.0 _ e kind inv.2 in
     shows_error _ _ c.from_residual.ensures.1 (shows_as whole (shows_more (flat_map (entry_bytes v) (entries_of c.args.kind c.in-Some.after.now)) (shows_both inv.1 c.in_err-write_entry.ensures)))
 
-pub loop-entry-preserved-then-same_kind : goal.loop-entry-preserved-then-same_kind
-loop-entry-preserved-then-same_kind g c =
+pub loop-entry-preserved-in_ok-write_entry : goal.loop-entry-preserved-in_ok-write_entry
+loop-entry-preserved-in_ok-write_entry g c =
     let inv = c.loop-entry.invariant in
     let v = c.args.verbose in
     let e : c.loop-entry.rest.now ≡ c.in-Some.entry.now ∷ c.in-Some.after.now = search rules in
