@@ -9,10 +9,10 @@ use Rattle.kt_sched.specs.declared.job.Job.{Job}
 use Rattle.kt_sched.specs.declared.start_answer.StartAnswer.{StartAnswer}
 use Rattle.kt_sched.specs.declared.ended.Ended.{Ended}
 use Rattle.kt_child.specs.declared.driving.driver.Driver.{Driver}
-use Rattle.kt_child.specs.ChildrenState.{Waited}
-use Rattle.kt_child.specs.Calls.{Call, Chain}
-use Rattle.kt_child.specs.Launches.{StartsBy}
-use Rattle.kt_child.specs.Lists.{ListsBy}
+use Rattle.kt_child.specs.Driving.ChildrenState.{Waited}
+use Rattle.kt_child.specs.System.Calls.{Call, Chain}
+use Rattle.kt_child.specs.Driving.Launches.{StartsBy}
+use Rattle.kt_child.specs.Driving.Lists.{ListsBy}
 use Rattle.kt_suite.specs.Paths.{is_slash}
 use Rattle.kt_suite.specs.declared.program.Program.{Program}
 use Rattle.kt_cli.specs.declared.runner.Runner.{Runner}

@@ -1,6 +1,6 @@
 ghost use Rattle.std.specs.Prelude.{◌≡◌, IfOk, IfErr, OnErr};
 ghost use Rattle.kt_sched.specs.Children.{IsIdle};
-ghost use Rattle.kt_child.specs.ChildrenState.{is_among, shown_at};
+ghost use Rattle.kt_child.specs.Driving.ChildrenState.{is_among, shown_at};
 ghost use Rattle.kt_cli.specs.HostAnswers.{IsHostAnswer, RunnerStarts, RunnerWaits};
 ghost use Rattle.kt_cli.specs.HostFiles.{IsLook};
 ghost use Rattle.kt_cli.specs.Hosts.{IsMade, NoRoot, OnDriver, NoDriver, DidOnHost};

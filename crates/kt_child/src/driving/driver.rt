@@ -27,9 +27,9 @@ pub struct Driver<O: Os + Drop> {
 
 impl<O: Os + Drop> Launcher for Driver<O> {
     ghost use Rattle.std.specs.Prelude.{◌≡◌, List};
-    ghost use Rattle.kt_child.specs.Calls.{Call, Chain};
-    ghost use Rattle.kt_child.specs.ChildrenState.{Waited, is_among, shown_at};
-    ghost use Rattle.kt_child.specs.Launches.{StartsBy};
+    ghost use Rattle.kt_child.specs.System.Calls.{Call, Chain};
+    ghost use Rattle.kt_child.specs.Driving.ChildrenState.{Waited, is_among, shown_at};
+    ghost use Rattle.kt_child.specs.Driving.Launches.{StartsBy};
 
     ghost running = { λ d. shown_at d.running.cases };
 
@@ -70,10 +70,10 @@ impl<O: Os + Drop> Launcher for Driver<O> {
 
 impl<O: Os + Drop> Driver<O> {
     ghost use Rattle.std.specs.Prelude.{◌≡◌, Bool, List, MatchResult, Ok, Err};
-    ghost use Rattle.kt_child.specs.Calls.{Call, Chain, RemoveTree};
-    ghost use Rattle.kt_child.specs.Roots.{FindsRoot};
-    ghost use Rattle.kt_child.specs.ChildrenState.{idle_state};
-    ghost use Rattle.kt_child.specs.Lists.{ListsBy};
+    ghost use Rattle.kt_child.specs.System.Calls.{Call, Chain, RemoveTree};
+    ghost use Rattle.kt_child.specs.Driving.Roots.{FindsRoot};
+    ghost use Rattle.kt_child.specs.Driving.ChildrenState.{idle_state};
+    ghost use Rattle.kt_child.specs.Driving.Lists.{ListsBy};
 
     /// Makes the root directory of a driver below `base`. `source` is the absolute directory of the root Kyuafile.
     /// Where there is no driver the system is handed back.

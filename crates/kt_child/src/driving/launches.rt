@@ -3,12 +3,12 @@ ghost use Rattle.kt_base.specs.declared.role.Role.{Role};
 ghost use Rattle.kt_sched.specs.Children.{MayStart, pending_after_start, running_after_start};
 ghost use Rattle.kt_sched.specs.Moments.{HasMoment};
 ghost use Rattle.kt_sched.specs.Plan.{IsFit};
-ghost use Rattle.kt_child.specs.ChildrenState.{is_among, shown_at};
-ghost use Rattle.kt_child.specs.Launches.{BodyStarts, CleanupStarts};
+ghost use Rattle.kt_child.specs.Driving.ChildrenState.{is_among, shown_at};
+ghost use Rattle.kt_child.specs.Driving.Launches.{BodyStarts, CleanupStarts};
 
+use crate::driving::jobs::{fresh_child, plan_body, spawning};
 use crate::driving::running_children::RunningChildren;
 use crate::planning::case::Case;
-use crate::planning::jobs::{fresh_child, plan_body, spawning};
 use crate::starting::refusals::memory_refusal;
 use crate::system::os::Os;
 use kt_base::{Refused, Role, Text};

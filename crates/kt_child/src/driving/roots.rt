@@ -1,6 +1,6 @@
 ghost use Rattle.std.specs.Prelude.{◌≡◌, List, IfOk};
-ghost use Rattle.kt_child.specs.Calls.{Call, Chain};
-ghost use Rattle.kt_child.specs.Roots.{FindsRoot, root_of};
+ghost use Rattle.kt_child.specs.System.Calls.{Call, Chain};
+ghost use Rattle.kt_child.specs.Driving.Roots.{FindsRoot, root_of};
 
 use crate::driving::driver_fault::DriverFault;
 use crate::planning::spelling::number_text;

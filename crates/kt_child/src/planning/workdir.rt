@@ -1,6 +1,6 @@
 ghost use Rattle.std.specs.Prelude.{◌≡◌, IfOk};
 ghost use Rattle.std.specs.Str.{chars};
-ghost use Rattle.kt_child.specs.ChildPlan.{attempt_dir, below, paths_of};
+ghost use Rattle.kt_child.specs.Planning.ChildPlan.{attempt_dir, below, paths_of};
 
 use crate::planning::paths::Paths;
 use crate::planning::spelling::number_text;
