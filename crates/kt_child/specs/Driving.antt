@@ -1,6 +1,7 @@
 -- The driver: it starts children, waits for them and asks for lists.
 pub mod Begins
 pub mod ChildrenState
+pub mod DriverSteps
 pub mod EndShares
 pub mod JobPlan
 pub mod Launches

@@ -26,10 +26,10 @@ pub(crate) fn begin_body<O: Os>(
     job: &Job,
 ) -> StartAnswer
     requires fit { IsFit job.now }
-    requires may { MayStart (shown_at running.old.cases) (is_among running.old.pending) job.now.position
-        Role.Body }
-    ensures starts { BodyStarts O.leads source.now root.now job.now os.old next.old running.old result
-        os.new next.new running.new }
+    requires may { MayStart (shown_at running.old.cases) (is_among running.old.pending)
+        job.now.position Role.Body }
+    ensures starts { BodyStarts O.leads source.now root.now job.now os.old next.old running.old
+        result os.new next.new running.new }
     ensures moment { HasMoment result }
     ensures running { (k : ℕ) (r : Role) → shown_at running.new.cases k r
         ≡ running_after_start (shown_at running.old.cases) job.now Role.Body result k r }
@@ -59,10 +59,10 @@ pub(crate) fn begin_cleanup<O: Os>(
     job: &Job,
 ) -> StartAnswer
     requires fit { IsFit job.now }
-    requires may { MayStart (shown_at running.old.cases) (is_among running.old.pending) job.now.position
-        Role.Cleanup }
-    ensures starts { CleanupStarts O.leads source.now job.now os.old next running.old result os.new next
-        running.new }
+    requires may { MayStart (shown_at running.old.cases) (is_among running.old.pending)
+        job.now.position Role.Cleanup }
+    ensures starts { CleanupStarts O.leads source.now job.now os.old next running.old result os.new
+        next running.new }
     ensures moment { HasMoment result }
     ensures running { (k : ℕ) (r : Role) → shown_at running.new.cases k r
         ≡ running_after_start (shown_at running.old.cases) job.now Role.Cleanup result k r }
