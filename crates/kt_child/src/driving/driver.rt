@@ -26,20 +26,16 @@ pub struct Driver<O: Os + Drop> {
 }
 
 impl<O: Os + Drop> Launcher for Driver<O> {
-    ghost use Rattle.std.specs.Prelude.{◌≡◌, List};
-    ghost use Rattle.kt_child.specs.System.Calls.{Call, Chain};
-    ghost use Rattle.kt_child.specs.Driving.ChildrenState.{Waited, is_among, shown_at};
-    ghost use Rattle.kt_child.specs.Driving.Launches.{StartsBy};
+    ghost use Rattle.kt_child.specs.Driving.ChildrenState.{is_among, shown_at};
+    ghost use Rattle.kt_child.specs.Driving.DriverSteps.{DriverStarts, DriverWaits};
 
     ghost running = { λ d. shown_at d.running.cases };
 
     ghost pending = { λ d. is_among d.running.pending };
 
-    ghost starts = { λ d job role answer e. StartsBy O.leads d.source d.root job role d.os d.next d.running answer e.os e.next e.running
-        × (e.source ≡ d.source) × (e.root ≡ d.root) };
+    ghost starts = { DriverStarts O.leads };
 
-    ghost waits = { λ d ended e. ((calls : List Call) × Chain O.leads d.os calls e.os × Waited d.running calls ended e.running)
-        × (e.source ≡ d.source) × (e.root ≡ d.root) × (e.next ≡ d.next) };
+    ghost waits = { DriverWaits O.leads };
 
     fn start(&mut self, job: &Job, role: Role) -> StartAnswer {
         match role {
