@@ -1,8 +1,8 @@
 -- Chains of questions, joined.
 use Rattle.std.proofs.Common.{List, [], ◌∷◌, ◌++◌, true, Result, Ok, Err, refl, inr, subst}
 use Rattle.kt_base.specs.declared.refused.Refused.{Refused}
-use Rattle.kt_child.specs.Calls.{Call, Chain}
-use Rattle.kt_child.specs.Starts.{Ask, Tried}
+use Rattle.kt_child.specs.System.Calls.{Call, Chain}
+use Rattle.kt_child.specs.Starting.Starts.{Ask, Tried}
 
 -- two chains, one after the other
 pub chain_append : {O : Type 0} (leads : O → Call → O → Type 0) (a b d : O) (xs ys : List Call)

@@ -4,10 +4,10 @@ use Rattle.std.specs.Prelude.{remove}
 use Rattle.kt_base.specs.declared.outcome.Outcome.{Outcome}
 use Rattle.kt_child.specs.declared.system.child.Child.{Child}
 use Rattle.kt_child.specs.declared.polling.watched.Watched.{Watched}
-use Rattle.kt_child.specs.ChildOutcome.{Heard}
-use Rattle.kt_child.specs.Lives.{same_child}
-use Rattle.kt_child.specs.SeveralLives.{Share, kept, name_of, named}
-use Rattle.kt_child.specs.Turns.{advanced, advanced_below, after_turns}
+use Rattle.kt_child.specs.Polling.ChildOutcome.{Heard}
+use Rattle.kt_child.specs.Polling.Lives.{same_child}
+use Rattle.kt_child.specs.Polling.SeveralLives.{Share, kept, name_of, named}
+use Rattle.kt_child.specs.Polling.Turns.{advanced, advanced_below, after_turns}
 use Rattle.kt_child.proofs.Places.{some_is}
 
 pub name_at : (i : ℕ) (ks : List Watched) (o : Watched) → slice_get ks i ≡ Some o → slice_get (map name_of ks) i ≡ Some o.child

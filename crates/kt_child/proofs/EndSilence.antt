@@ -17,17 +17,17 @@ use Rattle.kt_child.specs.declared.planning.case.Case.{Case}
 use Rattle.kt_child.specs.declared.polling.watched.Watched.{Watched}
 use Rattle.kt_child.specs.declared.ending.next_part.NextPart.{NextPart}
 use Rattle.kt_child.specs.declared.ending.next_part.NextPart.TheVariants.{More, All, Absent, Failed, Past}
-use Rattle.kt_child.specs.ChildrenState.{ChildrenState}
-use Rattle.kt_child.specs.Calls.{Call, ReadFile, ReadPart}
-use Rattle.kt_child.specs.ChildOutcome.{Heard}
-use Rattle.kt_child.specs.EndShares.{EndShares}
-use Rattle.kt_child.specs.Ends.{Leaves, Removes, err_of, is_over, out_of}
-use Rattle.kt_child.specs.Gathering.{Gathers}
-use Rattle.kt_child.specs.Lives.{heard_by, same_child}
-use Rattle.kt_child.specs.Parts.{After, Reads, Whole}
-use Rattle.kt_child.specs.Reads.{bytes_of}
-use Rattle.kt_child.specs.SeveralLives.{Share, name_of, named}
-use Rattle.kt_child.specs.Waits.{WaitedOn}
+use Rattle.kt_child.specs.Driving.ChildrenState.{ChildrenState}
+use Rattle.kt_child.specs.System.Calls.{Call, ReadFile, ReadPart}
+use Rattle.kt_child.specs.Polling.ChildOutcome.{Heard}
+use Rattle.kt_child.specs.Driving.EndShares.{EndShares}
+use Rattle.kt_child.specs.Ending.Ends.{Leaves, Removes, err_of, is_over, out_of}
+use Rattle.kt_child.specs.Ending.Gathering.{Gathers}
+use Rattle.kt_child.specs.Polling.Lives.{heard_by, same_child}
+use Rattle.kt_child.specs.Ending.Parts.{After, Reads, Whole}
+use Rattle.kt_child.specs.Ending.Reads.{bytes_of}
+use Rattle.kt_child.specs.Polling.SeveralLives.{Share, name_of, named}
+use Rattle.kt_child.specs.Polling.Waits.{WaitedOn}
 use Rattle.kt_child.proofs.LifeSteps.{append_none, heard_append}
 use Rattle.kt_child.proofs.SeveralWaits.{wait_shares}
 

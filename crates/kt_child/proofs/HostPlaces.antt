@@ -2,8 +2,8 @@
 use Rattle.std.proofs.Common.{◌≡◌, ℕ, suc, ◌+◌, ◌<◌, Bool, true, false, List, ◌∷◌, length, drop, drop-cons, get_or, refl, sym, ◌∙◌, ap, subst, arith}
 use Rattle.kt_child.specs.declared.system.child.Child.{Child}
 use Rattle.kt_child.specs.declared.host.host_child.HostChild.{HostChild}
-use Rattle.kt_child.specs.Lives.{same_child}
-use Rattle.kt_child.specs.HostStands.{IsPlaceOf, stand_in, stand_of}
+use Rattle.kt_child.specs.Polling.Lives.{same_child}
+use Rattle.kt_child.specs.Host.HostStands.{IsPlaceOf, stand_in, stand_of}
 use Rattle.kt_child.proofs.HostStandings.{pick}
 
 -- none of the first i children has this name

@@ -10,11 +10,11 @@ use Rattle.kt_child.specs.declared.system.polled.Polled.{Polled}
 use Rattle.kt_child.specs.declared.system.os_fault.OsFault.{OsFault}
 use Rattle.kt_child.specs.declared.polling.watch.Watch.{Watch}
 use Rattle.kt_child.specs.declared.polling.watched.Watched.{Watched}
-use Rattle.kt_child.specs.Calls.{Call, MakeDir, RemoveTree, OpenOutput, Spawn, Poll, Kill, Pause, ReadFile, ReadPart, Now}
-use Rattle.kt_child.specs.Polls.{asked_by_poll, is_killed}
-use Rattle.kt_child.specs.ChildOutcome.{Heard, HeardPoll, HeardKill, Lived, fresh, heard_of}
-use Rattle.kt_child.specs.Turns.{PolledUntil, advanced}
-use Rattle.kt_child.specs.Lives.{OneLife, OneOutcome, heard_by, own, same_child}
+use Rattle.kt_child.specs.System.Calls.{Call, MakeDir, RemoveTree, OpenOutput, Spawn, Poll, Kill, Pause, ReadFile, ReadPart, Now}
+use Rattle.kt_child.specs.Polling.Polls.{asked_by_poll, is_killed}
+use Rattle.kt_child.specs.Polling.ChildOutcome.{Heard, HeardPoll, HeardKill, Lived, fresh, heard_of}
+use Rattle.kt_child.specs.Polling.Turns.{PolledUntil, advanced}
+use Rattle.kt_child.specs.Polling.Lives.{OneLife, OneOutcome, heard_by, own, same_child}
 use Rattle.kt_child.proofs.Outcomes.{told}
 
 own_append : (b : Bool) (h : Heard) (xs ys : List Heard) → own b h (xs ++ ys) ≡ own b h xs ++ ys

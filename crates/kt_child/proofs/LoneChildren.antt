@@ -9,13 +9,13 @@ use Rattle.kt_sched.specs.declared.ended.Ended.{Ended}
 use Rattle.kt_sched.specs.Trace.{NoEvent, Then, Start, End}
 use Rattle.kt_child.specs.declared.polling.watched.Watched.{Watched}
 use Rattle.kt_child.specs.declared.planning.case.Case.{Case}
-use Rattle.kt_child.specs.Begins.{state_after_start}
-use Rattle.kt_child.specs.ChildrenState.{ChildrenState, Waited}
-use Rattle.kt_child.specs.Calls.{Call}
-use Rattle.kt_child.specs.ChildPlan.{paths_of}
-use Rattle.kt_child.specs.JobPlan.{case_of, cleaning, watched_of}
-use Rattle.kt_child.specs.Launches.{StartsBy}
-use Rattle.kt_child.specs.Width.{AloneIsPlain}
+use Rattle.kt_child.specs.Driving.Begins.{state_after_start}
+use Rattle.kt_child.specs.Driving.ChildrenState.{ChildrenState, Waited}
+use Rattle.kt_child.specs.System.Calls.{Call}
+use Rattle.kt_child.specs.Planning.ChildPlan.{paths_of}
+use Rattle.kt_child.specs.Driving.JobPlan.{case_of, cleaning, watched_of}
+use Rattle.kt_child.specs.Driving.Launches.{StartsBy}
+use Rattle.kt_child.specs.Driving.Width.{AloneIsPlain}
 use Rattle.kt_child.proofs.StartLeavings.{taken}
 use Rattle.kt_child.proofs.WidthSteps.{none_left}
 

@@ -11,15 +11,15 @@ use Rattle.kt_sched.specs.Trace.{Trace, NoEvent, Then, Start, End, Leads}
 use Rattle.kt_child.specs.declared.planning.paths.Paths.{Paths}
 use Rattle.kt_child.specs.declared.polling.watched.Watched.{Watched}
 use Rattle.kt_child.specs.declared.planning.case.Case.{Case}
-use Rattle.kt_child.specs.Calls.{Call}
-use Rattle.kt_child.specs.ChildrenState.{ChildrenState, Waited, one_if, pending_with}
-use Rattle.kt_child.specs.Begins.{state_after_start}
-use Rattle.kt_child.specs.Ends.{is_over}
-use Rattle.kt_child.specs.JobPlan.{case_of, cleaning, watched_of}
-use Rattle.kt_child.specs.ChildPlan.{paths_of}
-use Rattle.kt_child.specs.Launches.{StartsBy}
-use Rattle.kt_child.specs.Numbers.{IsBare, NamesDiffer}
-use Rattle.kt_child.specs.SeveralLives.{name_of}
+use Rattle.kt_child.specs.System.Calls.{Call}
+use Rattle.kt_child.specs.Driving.ChildrenState.{ChildrenState, Waited, one_if, pending_with}
+use Rattle.kt_child.specs.Driving.Begins.{state_after_start}
+use Rattle.kt_child.specs.Ending.Ends.{is_over}
+use Rattle.kt_child.specs.Driving.JobPlan.{case_of, cleaning, watched_of}
+use Rattle.kt_child.specs.Planning.ChildPlan.{paths_of}
+use Rattle.kt_child.specs.Driving.Launches.{StartsBy}
+use Rattle.kt_child.specs.Driving.Numbers.{IsBare, NamesDiffer}
+use Rattle.kt_child.specs.Polling.SeveralLives.{name_of}
 use Rattle.kt_child.proofs.NameCounts.{case_name, numbered, numbered_less, numbered_more, one_or, own_named}
 use Rattle.kt_child.proofs.ChildNames.{names_append}
 use Rattle.kt_child.proofs.SeveralWaits.{names_waited}

@@ -2,9 +2,9 @@
 use Rattle.std.proofs.Common.{◌≡◌, ℕ, zero, suc, List, [], ◌∷◌, ◌++◌, Bool, true, false, Some, ◌⊎◌, map, take, drop, slice_get, refl, sym, ◌∙◌, ap, inl, inr}
 use Rattle.kt_child.specs.declared.system.child.Child.{Child}
 use Rattle.kt_child.specs.declared.polling.watched.Watched.{Watched}
-use Rattle.kt_child.specs.Lives.{same_child}
-use Rattle.kt_child.specs.Turns.{advanced, advanced_below}
-use Rattle.kt_child.specs.SeveralLives.{kept, named}
+use Rattle.kt_child.specs.Polling.Lives.{same_child}
+use Rattle.kt_child.specs.Polling.Turns.{advanced, advanced_below}
+use Rattle.kt_child.specs.Polling.SeveralLives.{kept, named}
 use Rattle.kt_child.proofs.Places.{some_is}
 
 kept_append : (b : Bool) (k : Watched) (xs ys : List Watched) → kept b k (xs ++ ys) ≡ kept b k xs ++ ys

@@ -2,9 +2,9 @@
 use Rattle.std.proofs.Common.{◌≡◌, ℕ, List, [], ◌∷◌, ◌++◌, Result, Ok, Err, refl, ap, inl, inr}
 use Rattle.kt_base.specs.declared.refused.Refused.{Refused}
 use Rattle.kt_child.specs.declared.system.os_fault.OsFault.{OsFault}
-use Rattle.kt_child.specs.Calls.{Call, Now, RemoveTree}
-use Rattle.kt_child.specs.Moments.{moment_of}
-use Rattle.kt_child.specs.Starts.{Ask, SetUp, StartedAfresh}
+use Rattle.kt_child.specs.System.Calls.{Call, Now, RemoveTree}
+use Rattle.kt_child.specs.System.Moments.{moment_of}
+use Rattle.kt_child.specs.Starting.Starts.{Ask, SetUp, StartedAfresh}
 
 -- one that is refused
 pub afresh_refused : (asks : List Ask) (dir : List ℕ) (calls : List Call) (cause : Refused) → SetUp asks dir calls (Err cause) → StartedAfresh asks dir calls (Err cause)

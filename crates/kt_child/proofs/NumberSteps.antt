@@ -8,11 +8,11 @@ use Rattle.kt_sched.specs.declared.job.Job.{Job}
 use Rattle.kt_sched.specs.declared.start_answer.StartAnswer.{StartAnswer}
 use Rattle.kt_sched.specs.declared.ended.Ended.{Ended}
 use Rattle.kt_sched.specs.Trace.{Trace, NoEvent, Then, Start, End, Leads}
-use Rattle.kt_child.specs.Calls.{Call}
-use Rattle.kt_child.specs.ChildrenState.{ChildrenState}
-use Rattle.kt_child.specs.Launches.{BodyStarts, StartsBy}
-use Rattle.kt_child.specs.Lists.{ListsBy}
-use Rattle.kt_child.specs.Numbers.{AttemptsDiffer, NumbersDiffer, Request, Start as Asked, Wait, ListOf, Serves, ServesAll, is_attempt}
+use Rattle.kt_child.specs.System.Calls.{Call}
+use Rattle.kt_child.specs.Driving.ChildrenState.{ChildrenState}
+use Rattle.kt_child.specs.Driving.Launches.{BodyStarts, StartsBy}
+use Rattle.kt_child.specs.Driving.Lists.{ListsBy}
+use Rattle.kt_child.specs.Driving.Numbers.{AttemptsDiffer, NumbersDiffer, Request, Start as Asked, Wait, ListOf, Serves, ServesAll, is_attempt}
 
 -- a body takes the next number
 pub body_rises : {O : Type 0} (leads : O → Call → O → Type 0) (source root : List ℕ) (job : Job) (os : O) (next : ℕ) (b : ChildrenState) (answer : StartAnswer) (os' : O) (next' : ℕ) (b' : ChildrenState)

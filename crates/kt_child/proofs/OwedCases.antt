@@ -8,8 +8,8 @@ use Rattle.kt_base.specs.declared.role.Role.{Role}
 use Rattle.kt_base.specs.declared.role.Role.TheVariants.{Body, Cleanup}
 use Rattle.kt_child.specs.declared.planning.case.Case.{Case}
 use Rattle.kt_sched.specs.Children.{Child as Shown, same_role, with_cleanup_declared}
-use Rattle.kt_child.specs.ChildrenState.{count_at, is_among, one_if, pending_with, shown, shown_at}
-use Rattle.kt_child.specs.Ends.{is_over}
+use Rattle.kt_child.specs.Driving.ChildrenState.{count_at, is_among, one_if, pending_with, shown, shown_at}
+use Rattle.kt_child.specs.Ending.Ends.{is_over}
 use Rattle.kt_child.proofs.CaseCounts.{and_false, count_none, count_there, other, other_position, same_number, same_position}
 
 -- two tests for the same may change places

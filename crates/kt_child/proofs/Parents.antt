@@ -4,7 +4,7 @@ use Rattle.std.specs.Prelude.{if◌then◌else◌, ◌||◌, ◌≢◌}
 use Rattle.std.proofs.lemmas.Bool.Decides.{nat_tests}
 use Rattle.std.specs.List.{list_any}
 use Rattle.kt_suite.specs.Paths.{is_slash}
-use Rattle.kt_child.specs.JobPlan.{parent_of}
+use Rattle.kt_child.specs.Driving.JobPlan.{parent_of}
 
 any_slash : (xs : List ℕ) (c : ℕ) → is_slash c ≡ true → list_any is_slash (xs ++ c ∷ []) ≡ true
 any_slash [] c e = ap (λ (b : Bool). b || false) e

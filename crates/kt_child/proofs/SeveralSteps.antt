@@ -6,12 +6,12 @@ use Rattle.kt_child.specs.declared.system.polled.Polled.{Polled}
 use Rattle.kt_child.specs.declared.system.os_fault.OsFault.{OsFault}
 use Rattle.kt_child.specs.declared.polling.turn.Turn.TheVariants.{More}
 use Rattle.kt_child.specs.declared.polling.watched.Watched.{Watched}
-use Rattle.kt_child.specs.Calls.{Call, Poll, Kill, Pause}
-use Rattle.kt_child.specs.ChildOutcome.{Heard, HeardPoll, HeardKill, heard_of}
-use Rattle.kt_child.specs.Lives.{heard_by, own, same_child}
-use Rattle.kt_child.specs.Polls.{asked_by_poll, is_killed, turn_of}
-use Rattle.kt_child.specs.SeveralLives.{GoesOn, LivesOut, Share, Went, kept, named}
-use Rattle.kt_child.specs.Turns.{PolledAll, Rounds, advanced, after_turns}
+use Rattle.kt_child.specs.System.Calls.{Call, Poll, Kill, Pause}
+use Rattle.kt_child.specs.Polling.ChildOutcome.{Heard, HeardPoll, HeardKill, heard_of}
+use Rattle.kt_child.specs.Polling.Lives.{heard_by, own, same_child}
+use Rattle.kt_child.specs.Polling.Polls.{asked_by_poll, is_killed, turn_of}
+use Rattle.kt_child.specs.Polling.SeveralLives.{GoesOn, LivesOut, Share, Went, kept, named}
+use Rattle.kt_child.specs.Polling.Turns.{PolledAll, Rounds, advanced, after_turns}
 use Rattle.kt_child.proofs.LifeSteps.{heard_append}
 use Rattle.kt_child.proofs.NamedSteps.{named_map}
 

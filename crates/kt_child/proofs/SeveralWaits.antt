@@ -5,13 +5,13 @@ use Rattle.kt_base.specs.declared.outcome.Outcome.{Outcome}
 use Rattle.kt_child.specs.declared.system.child.Child.{Child}
 use Rattle.kt_child.specs.declared.polling.watched.Watched.{Watched}
 use Rattle.kt_child.specs.declared.polling.open_turn.OpenTurn.{OpenTurn}
-use Rattle.kt_child.specs.Calls.{Call}
-use Rattle.kt_child.specs.ChildOutcome.{Heard, fresh, heard_of}
-use Rattle.kt_child.specs.Lives.{heard_by, same_child}
-use Rattle.kt_child.specs.Polls.{is_killed}
-use Rattle.kt_child.specs.SeveralLives.{GoesOn, LivesOut, Share, WaitShares, WaitsFor, WaitsTell, kept, name_of, named}
-use Rattle.kt_child.specs.Turns.{PolledAll, PolledLast, advanced, advanced_below, after_turns}
-use Rattle.kt_child.specs.Waits.{EndsInTurn, EndsLater, WaitedOn, gone_on, later_of, unpolled_of}
+use Rattle.kt_child.specs.System.Calls.{Call}
+use Rattle.kt_child.specs.Polling.ChildOutcome.{Heard, fresh, heard_of}
+use Rattle.kt_child.specs.Polling.Lives.{heard_by, same_child}
+use Rattle.kt_child.specs.Polling.Polls.{is_killed}
+use Rattle.kt_child.specs.Polling.SeveralLives.{GoesOn, LivesOut, Share, WaitShares, WaitsFor, WaitsTell, kept, name_of, named}
+use Rattle.kt_child.specs.Polling.Turns.{PolledAll, PolledLast, advanced, advanced_below, after_turns}
+use Rattle.kt_child.specs.Polling.Waits.{EndsInTurn, EndsLater, WaitedOn, gone_on, later_of, unpolled_of}
 use Rattle.kt_child.proofs.LifeSteps.{append_none, heard_append}
 use Rattle.kt_child.proofs.NamedSteps.{at_place, in_parts, is_last, named_append, named_map}
 use Rattle.kt_child.proofs.ChildNames.{name_at, names_below, names_part, names_turn, names_turns, part_at, share_removed}

@@ -12,13 +12,13 @@ use Rattle.kt_child.specs.declared.system.child.Child.{Child}
 use Rattle.kt_child.specs.declared.planning.paths.Paths.{Paths}
 use Rattle.kt_child.specs.declared.polling.watched.Watched.{Watched}
 use Rattle.kt_child.specs.declared.planning.case.Case.{Case}
-use Rattle.kt_child.specs.Begins.{state_after_start}
-use Rattle.kt_child.specs.ChildrenState.{ChildrenState, one_if}
-use Rattle.kt_child.specs.ChildOutcome.{Heard}
-use Rattle.kt_child.specs.JobPlan.{case_in, case_of, cleaning, watched_of}
-use Rattle.kt_child.specs.Lives.{same_child}
-use Rattle.kt_child.specs.SeveralLives.{named}
-use Rattle.kt_child.specs.TraceLives.{IsNumberOf}
+use Rattle.kt_child.specs.Driving.Begins.{state_after_start}
+use Rattle.kt_child.specs.Driving.ChildrenState.{ChildrenState, one_if}
+use Rattle.kt_child.specs.Polling.ChildOutcome.{Heard}
+use Rattle.kt_child.specs.Driving.JobPlan.{case_in, case_of, cleaning, watched_of}
+use Rattle.kt_child.specs.Polling.Lives.{same_child}
+use Rattle.kt_child.specs.Polling.SeveralLives.{named}
+use Rattle.kt_child.specs.Driving.TraceLives.{IsNumberOf}
 use Rattle.kt_child.proofs.CasePlaces.{Every, at_none, at_some, named_last, named_past, other_number}
 use Rattle.kt_child.proofs.NameCounts.{case_name, numbered, numbered_less, numbered_more, one_or}
 use Rattle.kt_child.proofs.NamedSteps.{head_is}

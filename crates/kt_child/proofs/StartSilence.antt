@@ -9,14 +9,14 @@ use Rattle.kt_sched.specs.declared.start_answer.StartAnswer.{StartAnswer}
 use Rattle.kt_child.specs.declared.system.child.Child.{Child}
 use Rattle.kt_child.specs.declared.planning.spawning.Spawning.{Spawning}
 use Rattle.kt_child.specs.declared.planning.case.Case.{Case}
-use Rattle.kt_child.specs.Begins.{BegunBody, BegunCleanup}
-use Rattle.kt_child.specs.ChildrenState.{ChildrenState}
-use Rattle.kt_child.specs.Calls.{Call, Chain}
-use Rattle.kt_child.specs.JobPlan.{spawning_of}
-use Rattle.kt_child.specs.Launches.{StartsBy}
-use Rattle.kt_child.specs.Lives.{heard_by}
-use Rattle.kt_child.specs.Starts.{Ask, Settles, Started, StartedAfresh, Tried, child_asks, furnish_asks}
-use Rattle.kt_child.specs.TraceLives.{BodyAsks}
+use Rattle.kt_child.specs.Driving.Begins.{BegunBody, BegunCleanup}
+use Rattle.kt_child.specs.Driving.ChildrenState.{ChildrenState}
+use Rattle.kt_child.specs.System.Calls.{Call, Chain}
+use Rattle.kt_child.specs.Driving.JobPlan.{spawning_of}
+use Rattle.kt_child.specs.Driving.Launches.{StartsBy}
+use Rattle.kt_child.specs.Polling.Lives.{heard_by}
+use Rattle.kt_child.specs.Starting.Starts.{Ask, Settles, Started, StartedAfresh, Tried, child_asks, furnish_asks}
+use Rattle.kt_child.specs.Driving.TraceLives.{BodyAsks}
 use Rattle.kt_child.proofs.LifeSteps.{heard_append}
 
 -- questions that are no polls and no kills of a child

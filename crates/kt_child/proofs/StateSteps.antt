@@ -4,9 +4,9 @@ use Rattle.std.specs.Prelude.{remove, All}
 use Rattle.std.proofs.lemmas.List.Elements.{All-push}
 use Rattle.kt_child.specs.declared.polling.watched.Watched.{Watched}
 use Rattle.kt_child.specs.declared.polling.open_turn.OpenTurn.{OpenTurn}
-use Rattle.kt_child.specs.Turns.{IsOn}
+use Rattle.kt_child.specs.Polling.Turns.{IsOn}
 use Rattle.kt_child.specs.declared.planning.case.Case.{Case}
-use Rattle.kt_child.specs.ChildrenState.{IsChildrenState, count_at, one_if}
+use Rattle.kt_child.specs.Driving.ChildrenState.{IsChildrenState, count_at, one_if}
 use Rattle.kt_child.proofs.CaseCounts.{count_append, count_remove, same_number, same_position}
 
 -- a position that is free may be taken once

@@ -12,12 +12,12 @@ use Rattle.kt_child.specs.declared.polling.watched.Watched.{Watched}
 use Rattle.kt_child.specs.declared.polling.open_turn.OpenTurn.{OpenTurn}
 use Rattle.kt_child.specs.declared.planning.case.Case.{Case}
 use Rattle.kt_sched.specs.declared.ended.Ended.{Ended}
-use Rattle.kt_child.specs.Calls.{Call, Chain}
-use Rattle.kt_child.specs.Turns.{IsOn}
-use Rattle.kt_child.specs.Waits.{WaitedOn}
+use Rattle.kt_child.specs.System.Calls.{Call, Chain}
+use Rattle.kt_child.specs.Polling.Turns.{IsOn}
+use Rattle.kt_child.specs.Polling.Waits.{WaitedOn}
 use Rattle.kt_sched.specs.Children.{Child as Shown, IsEvidence, same_role, running_after_end, pending_after_end, with_cleanup_declared}
-use Rattle.kt_child.specs.ChildrenState.{ChildrenState, IsChildrenState, Waited, count_at, is_among, one_if, pending_with, shown, shown_at}
-use Rattle.kt_child.specs.Ends.{Leaves}
+use Rattle.kt_child.specs.Driving.ChildrenState.{ChildrenState, IsChildrenState, Waited, count_at, is_among, one_if, pending_with, shown, shown_at}
+use Rattle.kt_child.specs.Ending.Ends.{Leaves}
 use Rattle.kt_child.proofs.Chains.{chain_append}
 use Rattle.kt_child.proofs.CaseCounts.{count_owed, count_remove}
 use Rattle.kt_child.proofs.OwedCases.{among_owed}

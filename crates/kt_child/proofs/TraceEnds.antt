@@ -12,15 +12,15 @@ use Rattle.kt_sched.specs.Trace.{Trace, Then, End}
 use Rattle.kt_child.specs.declared.system.child.Child.{Child}
 use Rattle.kt_child.specs.declared.polling.watched.Watched.{Watched}
 use Rattle.kt_child.specs.declared.planning.case.Case.{Case}
-use Rattle.kt_child.specs.ChildrenState.{ChildrenState, Waited, one_if}
-use Rattle.kt_child.specs.Calls.{Call}
-use Rattle.kt_child.specs.ChildOutcome.{Heard, Told}
-use Rattle.kt_child.specs.Ends.{Leaves}
-use Rattle.kt_child.specs.JobPlan.{case_in, limit_of, watched_of}
-use Rattle.kt_child.specs.Lives.{heard_by, same_child}
-use Rattle.kt_child.specs.SeveralLives.{GoesOn, LivesOut, Share, named}
-use Rattle.kt_child.specs.TraceLives.{IsNumberOf, LeavesAtLast}
-use Rattle.kt_child.specs.Waits.{WaitedOn}
+use Rattle.kt_child.specs.Driving.ChildrenState.{ChildrenState, Waited, one_if}
+use Rattle.kt_child.specs.System.Calls.{Call}
+use Rattle.kt_child.specs.Polling.ChildOutcome.{Heard, Told}
+use Rattle.kt_child.specs.Ending.Ends.{Leaves}
+use Rattle.kt_child.specs.Driving.JobPlan.{case_in, limit_of, watched_of}
+use Rattle.kt_child.specs.Polling.Lives.{heard_by, same_child}
+use Rattle.kt_child.specs.Polling.SeveralLives.{GoesOn, LivesOut, Share, named}
+use Rattle.kt_child.specs.Driving.TraceLives.{IsNumberOf, LeavesAtLast}
+use Rattle.kt_child.specs.Polling.Waits.{WaitedOn}
 use Rattle.kt_child.proofs.CasePlaces.{other_absent, other_number, own_child}
 use Rattle.kt_child.proofs.EndSilence.{shares_at}
 use Rattle.kt_child.proofs.LifeSteps.{append_none, child_is_own}

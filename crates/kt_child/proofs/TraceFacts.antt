@@ -8,13 +8,13 @@ use Rattle.kt_sched.specs.Trace.{Trace, NoEvent, Then, Event, Start, End}
 use Rattle.kt_child.specs.declared.system.child.Child.{Child}
 use Rattle.kt_child.specs.declared.polling.watched.Watched.{Watched}
 use Rattle.kt_child.specs.declared.planning.case.Case.{Case}
-use Rattle.kt_child.specs.ChildrenState.{ChildrenState}
-use Rattle.kt_child.specs.ChildOutcome.{Heard, Told}
-use Rattle.kt_child.specs.Calls.{Call}
-use Rattle.kt_child.specs.ChildPlan.{paths_of}
-use Rattle.kt_child.specs.JobPlan.{case_in, limit_of, watched_of}
-use Rattle.kt_child.specs.SeveralLives.{GoesOn, named}
-use Rattle.kt_child.specs.TraceLives.{BegunAt, EachWith, IsNumberOf, LeavesAtLast, following, next_after}
+use Rattle.kt_child.specs.Driving.ChildrenState.{ChildrenState}
+use Rattle.kt_child.specs.Polling.ChildOutcome.{Heard, Told}
+use Rattle.kt_child.specs.System.Calls.{Call}
+use Rattle.kt_child.specs.Planning.ChildPlan.{paths_of}
+use Rattle.kt_child.specs.Driving.JobPlan.{case_in, limit_of, watched_of}
+use Rattle.kt_child.specs.Polling.SeveralLives.{GoesOn, named}
+use Rattle.kt_child.specs.Driving.TraceLives.{BegunAt, EachWith, IsNumberOf, LeavesAtLast, following, next_after}
 use Rattle.kt_child.proofs.CasePlaces.{Every}
 use Rattle.kt_child.proofs.NameCounts.{case_name, numbered}
 use Rattle.kt_child.proofs.NameSteps.{Apart}

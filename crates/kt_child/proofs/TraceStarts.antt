@@ -12,14 +12,14 @@ use Rattle.kt_child.specs.declared.system.child.Child.{Child}
 use Rattle.kt_child.specs.declared.planning.paths.Paths.{Paths}
 use Rattle.kt_child.specs.declared.polling.watched.Watched.{Watched}
 use Rattle.kt_child.specs.declared.planning.case.Case.{Case}
-use Rattle.kt_child.specs.Begins.{BegunCleanup, state_after_start}
-use Rattle.kt_child.specs.ChildrenState.{ChildrenState}
-use Rattle.kt_child.specs.Calls.{Call}
-use Rattle.kt_child.specs.ChildOutcome.{Heard}
-use Rattle.kt_child.specs.ChildPlan.{paths_of}
-use Rattle.kt_child.specs.JobPlan.{case_in, case_of, cleaning, spawning_of, watched_of}
-use Rattle.kt_child.specs.Launches.{StartsBy}
-use Rattle.kt_child.specs.TraceLives.{BegunAt, BodyAsks, IsNumberOf, following}
+use Rattle.kt_child.specs.Driving.Begins.{BegunCleanup, state_after_start}
+use Rattle.kt_child.specs.Driving.ChildrenState.{ChildrenState}
+use Rattle.kt_child.specs.System.Calls.{Call}
+use Rattle.kt_child.specs.Polling.ChildOutcome.{Heard}
+use Rattle.kt_child.specs.Planning.ChildPlan.{paths_of}
+use Rattle.kt_child.specs.Driving.JobPlan.{case_in, case_of, cleaning, spawning_of, watched_of}
+use Rattle.kt_child.specs.Driving.Launches.{StartsBy}
+use Rattle.kt_child.specs.Driving.TraceLives.{BegunAt, BodyAsks, IsNumberOf, following}
 use Rattle.kt_child.proofs.CasePlaces.{at_some, every_left, every_push}
 use Rattle.kt_child.proofs.NameCounts.{case_name, none_named, numbered}
 use Rattle.kt_child.proofs.NameSteps.{Apart, start_apart}

@@ -8,14 +8,14 @@ use Rattle.kt_sched.specs.declared.ended.Ended.{Ended}
 use Rattle.kt_sched.specs.Plan.{IsPlan}
 use Rattle.kt_sched.specs.Trace.{Trace, NoEvent, Then, Event, Start, End, Leads}
 use Rattle.kt_child.specs.declared.system.child.Child.{Child}
-use Rattle.kt_child.specs.ChildrenState.{ChildrenState, Waited}
-use Rattle.kt_child.specs.Calls.{Call, Chain}
-use Rattle.kt_child.specs.ChildOutcome.{Heard, Told}
-use Rattle.kt_child.specs.JobPlan.{limit_of}
-use Rattle.kt_child.specs.Launches.{StartsBy}
-use Rattle.kt_child.specs.Lives.{heard_by}
-use Rattle.kt_child.specs.Numbers.{IsBare}
-use Rattle.kt_child.specs.TraceLives.{EndsAreTold, ToldAt}
+use Rattle.kt_child.specs.Driving.ChildrenState.{ChildrenState, Waited}
+use Rattle.kt_child.specs.System.Calls.{Call, Chain}
+use Rattle.kt_child.specs.Polling.ChildOutcome.{Heard, Told}
+use Rattle.kt_child.specs.Driving.JobPlan.{limit_of}
+use Rattle.kt_child.specs.Driving.Launches.{StartsBy}
+use Rattle.kt_child.specs.Polling.Lives.{heard_by}
+use Rattle.kt_child.specs.Driving.Numbers.{IsBare}
+use Rattle.kt_child.specs.Driving.TraceLives.{EndsAreTold, ToldAt}
 use Rattle.kt_child.proofs.CasePlaces.{Every}
 use Rattle.kt_child.proofs.Chains.{chain_append}
 use Rattle.kt_child.proofs.LifeSteps.{append_none, heard_append}

@@ -10,10 +10,10 @@ use Rattle.kt_sched.specs.Plan.{IsPlan}
 use Rattle.kt_sched.specs.Trace.{Trace, Then, End}
 use Rattle.kt_child.specs.declared.system.child.Child.{Child}
 use Rattle.kt_child.specs.declared.planning.case.Case.{Case}
-use Rattle.kt_child.specs.ChildrenState.{ChildrenState, Waited, pending_with}
-use Rattle.kt_child.specs.Calls.{Call}
-use Rattle.kt_child.specs.ChildOutcome.{Heard}
-use Rattle.kt_child.specs.Ends.{is_over}
+use Rattle.kt_child.specs.Driving.ChildrenState.{ChildrenState, Waited, pending_with}
+use Rattle.kt_child.specs.System.Calls.{Call}
+use Rattle.kt_child.specs.Polling.ChildOutcome.{Heard}
+use Rattle.kt_child.specs.Ending.Ends.{is_over}
 use Rattle.kt_child.proofs.CasePlaces.{Every, at_none, at_some, every_push, left_at, other_absent}
 use Rattle.kt_child.proofs.NameCounts.{case_name, none_named, numbered, numbered_less, own_number}
 use Rattle.kt_child.proofs.NameSteps.{Apart, owed, wait_apart}

@@ -6,12 +6,12 @@ use Rattle.kt_sched.specs.declared.ended.Ended.{Ended}
 use Rattle.kt_child.specs.declared.system.child.Child.{Child}
 use Rattle.kt_child.specs.declared.polling.open_turn.OpenTurn.{OpenTurn}
 use Rattle.kt_child.specs.declared.polling.watched.Watched.{Watched}
-use Rattle.kt_child.specs.ChildrenState.{ChildrenState, Waited}
-use Rattle.kt_child.specs.Calls.{Call, Pause}
-use Rattle.kt_child.specs.Lives.{heard_by, same_child}
-use Rattle.kt_child.specs.SeveralLives.{kept, name_of, named}
-use Rattle.kt_child.specs.Turns.{PolledUntil, Rounds, advanced, after_turns}
-use Rattle.kt_child.specs.Waits.{WaitedOn, gone_on, later_of, unpolled_of}
+use Rattle.kt_child.specs.Driving.ChildrenState.{ChildrenState, Waited}
+use Rattle.kt_child.specs.System.Calls.{Call, Pause}
+use Rattle.kt_child.specs.Polling.Lives.{heard_by, same_child}
+use Rattle.kt_child.specs.Polling.SeveralLives.{kept, name_of, named}
+use Rattle.kt_child.specs.Polling.Turns.{PolledUntil, Rounds, advanced, after_turns}
+use Rattle.kt_child.specs.Polling.Waits.{WaitedOn, gone_on, later_of, unpolled_of}
 use Rattle.kt_child.proofs.EndSilence.{leaves_silent}
 use Rattle.kt_child.proofs.LifeSteps.{heard_append}
 use Rattle.kt_child.proofs.NameCounts.{names_head, names_tail}

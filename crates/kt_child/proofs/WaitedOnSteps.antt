@@ -3,9 +3,9 @@ use Rattle.std.proofs.Common.{◌≡◌, ℕ, ◌+◌, ◌-◌, ◌<◌, List, �
 use Rattle.kt_base.specs.declared.outcome.Outcome.{Outcome}
 use Rattle.kt_child.specs.declared.polling.watched.Watched.{Watched}
 use Rattle.kt_child.specs.declared.polling.open_turn.OpenTurn.{OpenTurn}
-use Rattle.kt_child.specs.Calls.{Call, Chain}
-use Rattle.kt_child.specs.Turns.{PolledAll, WaitedUntil, advanced, advanced_below, after_turns}
-use Rattle.kt_child.specs.Waits.{WaitedOn, gone_on, going_on}
+use Rattle.kt_child.specs.System.Calls.{Call, Chain}
+use Rattle.kt_child.specs.Polling.Turns.{PolledAll, WaitedUntil, advanced, advanced_below, after_turns}
+use Rattle.kt_child.specs.Polling.Waits.{WaitedOn, gone_on, going_on}
 use Rattle.kt_child.proofs.Chains.{chain_append}
 use Rattle.kt_child.proofs.WaitSteps.{all_advanced}
 

@@ -3,10 +3,10 @@ use Rattle.std.proofs.Common.{◌≡◌, ℕ, zero, suc, ◌+◌, ◌==◌, Bool
 use Rattle.kt_base.specs.declared.outcome.Outcome.{Outcome}
 use Rattle.kt_child.specs.declared.polling.watched.Watched.{Watched}
 use Rattle.kt_child.specs.declared.polling.open_turn.OpenTurn.{OpenTurn}
-use Rattle.kt_child.specs.Calls.{Call}
-use Rattle.kt_child.specs.Turns.{PolledUntil, WaitedUntil}
-use Rattle.kt_child.specs.Waits.{going_on}
-use Rattle.kt_child.specs.Width.{NoneLeft, PlainLoop}
+use Rattle.kt_child.specs.System.Calls.{Call}
+use Rattle.kt_child.specs.Polling.Turns.{PolledUntil, WaitedUntil}
+use Rattle.kt_child.specs.Polling.Waits.{going_on}
+use Rattle.kt_child.specs.Driving.Width.{NoneLeft, PlainLoop}
 
 -- no child is over in an empty list of children
 none_over : (i : ℕ) (calls : List Call) (outcome : Outcome) → PolledUntil [] i calls outcome → ⊥

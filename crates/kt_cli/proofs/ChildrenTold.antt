@@ -5,9 +5,9 @@ use Rattle.kt_sched.specs.Plan.{IsPlan}
 use Rattle.kt_sched.specs.Trace.{Trace, NoEvent, Leads}
 use Rattle.kt_suite.specs.Answers.{Chain}
 use Rattle.kt_child.specs.declared.driving.driver.Driver.{Driver}
-use Rattle.kt_child.specs.ChildrenState.{ChildrenState, idle_state}
-use Rattle.kt_child.specs.Calls.{Call}
-use Rattle.kt_child.specs.Numbers.{IsBare}
+use Rattle.kt_child.specs.Driving.ChildrenState.{ChildrenState, idle_state}
+use Rattle.kt_child.specs.System.Calls.{Call}
+use Rattle.kt_child.specs.Driving.Numbers.{IsBare}
 use Rattle.kt_child.proofs.TraceTells.{ends_are_told}
 use Rattle.kt_plan.proofs.PlansFit.{plan_fits}
 use Rattle.kt_plan.specs.Questions.{Question, OfTree, OfHost, leads_by}

@@ -3,7 +3,7 @@ use Rattle.std.specs.Prelude.{Option, Some}
 use Rattle.std.proofs.Common.{◌≡◌, ℕ, Bool, List, subst, sym}
 use Rattle.kt_base.specs.declared.kind.Kind.{Kind}
 use Rattle.kt_base.specs.declared.run.Run.{Run}
-use Rattle.kt_child.specs.Calls.{Call}
+use Rattle.kt_child.specs.System.Calls.{Call}
 use Rattle.kt_store.specs.StoreCalls.{StoreCall}
 use Rattle.kt_plan.specs.declared.case_options.CaseOptions.{CaseOptions}
 use Rattle.kt_words.specs.declared.command.Command.{Command}

@@ -2,7 +2,7 @@
 use Rattle.std.specs.Prelude.{Option, Some, None}
 use Rattle.std.proofs.Common.{◌≡◌, ℕ, List, [], subst}
 use Rattle.kt_base.specs.declared.run.Run.{Run}
-use Rattle.kt_child.specs.Calls.{Call}
+use Rattle.kt_child.specs.System.Calls.{Call}
 use Rattle.kt_store.specs.StoreCalls.{StoreCall}
 use Rattle.kt_words.specs.declared.command.Command.{Command}
 use Rattle.kt_cli.specs.MemoryRuns.{AnswersInMemory, StandsInMemory, IsSoundInMemory, LeavesInMemory}

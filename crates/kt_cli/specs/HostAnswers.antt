@@ -3,18 +3,12 @@ use Rattle.std.specs.Prelude.{ℕ, Bool, true, false, ◌≡◌, ◌≤◌, ◌&
 use Rattle.std.specs.List.{list_any}
 use Rattle.std.proofs.Common.{ap}
 use Rattle.kt_base.specs.declared.role.Role.{Role}
-use Rattle.kt_base.specs.declared.variable.Variable.{Variable}
-use Rattle.kt_atflist.specs.declared.listing.Listing.{Listing}
 use Rattle.kt_sched.specs.declared.job.Job.{Job}
 use Rattle.kt_sched.specs.declared.start_answer.StartAnswer.{StartAnswer}
 use Rattle.kt_sched.specs.declared.ended.Ended.{Ended}
-use Rattle.kt_child.specs.declared.driving.driver.Driver.{Driver}
-use Rattle.kt_child.specs.ChildrenState.{Waited}
-use Rattle.kt_child.specs.Calls.{Call, Chain}
-use Rattle.kt_child.specs.Launches.{StartsBy}
-use Rattle.kt_child.specs.Lists.{ListsBy}
+use Rattle.kt_child.specs.System.Calls.{Call}
+use Rattle.kt_child.specs.Driving.DriverSteps.{DriverLists, DriverStarts, DriverWaits}
 use Rattle.kt_suite.specs.Paths.{is_slash}
-use Rattle.kt_suite.specs.declared.program.Program.{Program}
 use Rattle.kt_cli.specs.declared.runner.Runner.{Runner}
 use Rattle.kt_cli.specs.HostFiles.{read_limit}
 use Rattle.kt_cli.specs.Places.{is_absolute}
@@ -29,16 +23,11 @@ is_root (Some user) = bytes_eq user (codes "root")
 abbrev pub is_sought : Option (List ℕ) → List ℕ → Bool
 is_sought path name = is_absolute name || (is_some path && not (list_any is_slash name))
 
--- a driver asked a program for its list: its own clause, and what runs, where the programs lie and its root directory stay
-abbrev pub DriverLists : {O : Type 0} → (O → Call → O → Type 0) → Driver O → Program → List Variable → Listing → Driver O → Type 0
-DriverLists leads old program variables answer new =
-    ListsBy leads old.source old.root program.path variables old.os old.next answer new.os new.next × (new.running ≡ old.running) × (new.source ≡ old.source) × (new.root ≡ old.root)
-
 -- what an answer leaves of a runner, and what is known of it: a list moves the driver, and nothing else moves anything; of a configuration
 -- file no more is read than of the tree's; a program is found only where it is looked for; memory and disk space are unknown
 abbrev pub IsHostAnswer : {O : Type 0} → (O → Call → O → Type 0) → Runner O → Told → Runner O → Type 0
 IsHostAnswer leads old (ReadConfig path answer) new = (new ≡ old) × IfOk answer (λ bytes. length bytes ≤ read_limit)
-IsHostAnswer leads old (Lists program variables answer) new = DriverLists leads old.driver program variables answer new.driver × (new.around ≡ old.around)
+IsHostAnswer leads old (Lists program variables answer) new = DriverLists leads old.driver program.path variables answer new.driver × (new.around ≡ old.around)
 IsHostAnswer leads old (FindsFile path answer) new = new ≡ old
 IsHostAnswer leads old (FindsProgram name answer) new = (new ≡ old) × (answer ≡ true → is_sought old.around.path name ≡ true)
 IsHostAnswer leads old (IsRoot answer) new = (new ≡ old) × (answer ≡ is_root old.around.user)
@@ -48,15 +37,11 @@ IsHostAnswer leads old (Now moment) new = new ≡ old
 
 -- a start by the runner's driver
 abbrev pub RunnerStarts : {O : Type 0} → (O → Call → O → Type 0) → Runner O → Job → Role → StartAnswer → Runner O → Type 0
-RunnerStarts leads old job role answer new =
-    (StartsBy leads old.driver.source old.driver.root job role old.driver.os old.driver.next old.driver.running answer new.driver.os new.driver.next new.driver.running
-    × (new.driver.source ≡ old.driver.source) × (new.driver.root ≡ old.driver.root)) × (new.around ≡ old.around)
+RunnerStarts leads old job role answer new = DriverStarts leads old.driver job role answer new.driver × (new.around ≡ old.around)
 
 -- a wait by the runner's driver
 abbrev pub RunnerWaits : {O : Type 0} → (O → Call → O → Type 0) → Runner O → Ended → Runner O → Type 0
-RunnerWaits leads old ended new =
-    (((calls : List Call) × Chain leads old.driver.os calls new.driver.os × Waited old.driver.running calls ended new.driver.running)
-    × (new.driver.source ≡ old.driver.source) × (new.driver.root ≡ old.driver.root) × (new.driver.next ≡ old.driver.next)) × (new.around ≡ old.around)
+RunnerWaits leads old ended new = DriverWaits leads old.driver ended new.driver × (new.around ≡ old.around)
 
 -- no question changes what runs
 pub running_kept : {O : Type 0} (leads : O → Call → O → Type 0) (old new : Runner O) (told : Told) → IsHostAnswer leads old told new → new.driver.running ≡ old.driver.running

@@ -6,9 +6,9 @@ use Rattle.kt_base.specs.declared.run.Run.{Run}
 use Rattle.kt_child.specs.declared.driving.driver.Driver.{Driver}
 use Rattle.kt_child.specs.declared.driving.driver_fault.DriverFault.{DriverFault}
 use Rattle.kt_child.specs.declared.driving.driver_fault.DriverFault.TheVariants as driver
-use Rattle.kt_child.specs.ChildrenState.{idle_state}
-use Rattle.kt_child.specs.Calls.{Call, Chain, RemoveTree}
-use Rattle.kt_child.specs.Roots.{FindsRoot}
+use Rattle.kt_child.specs.Driving.ChildrenState.{idle_state}
+use Rattle.kt_child.specs.System.Calls.{Call, Chain, RemoveTree}
+use Rattle.kt_child.specs.Driving.Roots.{FindsRoot}
 use Rattle.kt_store.specs.StoreCalls.{StoreCall}
 use Rattle.kt_plan.specs.declared.case_options.CaseOptions.{CaseOptions}
 use Rattle.kt_words.specs.declared.command.Command.{Command}

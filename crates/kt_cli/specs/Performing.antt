@@ -4,7 +4,7 @@ use Rattle.std.specs.Io.KnownBytes.{Keeps}
 use Rattle.kt_base.specs.declared.run.Run.{Run}
 use Rattle.kt_base.specs.Utf8.{utf8}
 use Rattle.kt_child.specs.declared.driving.driver_fault.DriverFault.{DriverFault}
-use Rattle.kt_child.specs.Calls.{Call}
+use Rattle.kt_child.specs.System.Calls.{Call}
 use Rattle.kt_plan.specs.declared.case_options.CaseOptions.{CaseOptions}
 use Rattle.kt_store.specs.declared.store_fault.StoreFault.{StoreFault}
 use Rattle.kt_store.specs.StoreCalls.{StoreCall}

@@ -1,6 +1,6 @@
 ghost use Rattle.std.specs.Prelude.{◌≡◌, IfOk, IfErr, OnErr};
 ghost use Rattle.kt_sched.specs.Children.{IsIdle};
-ghost use Rattle.kt_child.specs.ChildrenState.{is_among, shown_at};
+ghost use Rattle.kt_child.specs.Driving.ChildrenState.{is_among, shown_at};
 ghost use Rattle.kt_cli.specs.HostAnswers.{IsHostAnswer, RunnerStarts, RunnerWaits};
 ghost use Rattle.kt_cli.specs.HostFiles.{IsLook};
 ghost use Rattle.kt_cli.specs.Hosts.{IsMade, NoRoot, OnDriver, NoDriver, DidOnHost};
@@ -33,7 +33,8 @@ fn driver_of<O: Os + Drop>(
     kyuafile: &Text,
 ) -> Result<Driver<O>, DriverFault>
     ensures made { IfOk result (λ driver. IsMade O.leads os here.now work.now kyuafile.now driver) }
-    ensures idle { IfOk result (λ driver. IsIdle (shown_at driver.running.cases) (is_among driver.running.pending)) }
+    ensures idle { IfOk result (λ driver. IsIdle (shown_at driver.running.cases)
+        (is_among driver.running.pending)) }
     ensures refused { IfErr result (λ e. NoRoot O.leads os work.now e) }
 {
     if !is_absolute(work) {
@@ -63,9 +64,11 @@ fn execute_over<
     results: &mut S,
     out: &mut W,
 ) -> (Exit, Runner<O>)
-    requires { IsIdle (shown_at runner.driver.running.cases) (is_among runner.driver.running.pending) }
+    requires { IsIdle (shown_at runner.driver.running.cases)
+        (is_among runner.driver.running.pending) }
     ensures did { Did IsLook (IsHostAnswer O.leads) (RunnerStarts O.leads) (RunnerWaits O.leads) S.answers S.stands S.sound S.leaves command.now runner result.1 results.old results.new (W.contents out.old) (W.contents out.new) result.0.status }
-    ensures idle { IsIdle (shown_at result.1.driver.running.cases) (is_among result.1.driver.running.pending) }
+    ensures idle { IsIdle (shown_at result.1.driver.running.cases)
+        (is_among result.1.driver.running.pending) }
 {
     let mut world = HostWorld::new(rt, directory, runner);
     let exit = execute(rt.alloc(), command, &mut world, results, out);

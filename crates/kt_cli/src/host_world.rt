@@ -183,7 +183,7 @@ impl<R: Files<File = File> + Clock + AllocGlobal, O: Os + Drop> Tree for HostWor
 }
 
 impl<R, O: Os + Drop> Launcher for HostWorld<'_, R, O> {
-    ghost use Rattle.kt_child.specs.ChildrenState.{is_among, shown_at};
+    ghost use Rattle.kt_child.specs.Driving.ChildrenState.{is_among, shown_at};
     ghost use Rattle.kt_cli.specs.HostAnswers.{RunnerStarts, RunnerWaits};
 
     ghost running = { λ s. shown_at s.runner.driver.running.cases };
@@ -206,7 +206,7 @@ impl<R, O: Os + Drop> Launcher for HostWorld<'_, R, O> {
 impl<R: Files<File = File> + Clock + AllocGlobal, O: Os + Drop> World for HostWorld<'_, R, O> {
     ghost use Rattle.std.specs.Prelude.{◌≡◌};
     ghost use Rattle.std.proofs.Common.{ap};
-    ghost use Rattle.kt_child.specs.ChildrenState.{ChildrenState, is_among, shown_at};
+    ghost use Rattle.kt_child.specs.Driving.ChildrenState.{ChildrenState, is_among, shown_at};
     ghost use Rattle.kt_cli.specs.HostAnswers.{IsHostAnswer, running_kept};
 
     ghost tells = { λ s q t. IsHostAnswer O.leads s.runner q t.runner };

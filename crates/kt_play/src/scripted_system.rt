@@ -1,4 +1,4 @@
-ghost use Rattle.kt_child.specs.Reads.{IsReadWithin};
+ghost use Rattle.kt_child.specs.Ending.Reads.{IsReadWithin};
 
 use crate::scene::{Life, PartFault, Scene, bytes_at};
 use kt_base::{Bytes, Items, NoMemory, Role, Text, Variable};

@@ -26,20 +26,16 @@ pub struct Driver<O: Os + Drop> {
 }
 
 impl<O: Os + Drop> Launcher for Driver<O> {
-    ghost use Rattle.std.specs.Prelude.{◌≡◌, List};
-    ghost use Rattle.kt_child.specs.Calls.{Call, Chain};
-    ghost use Rattle.kt_child.specs.ChildrenState.{Waited, is_among, shown_at};
-    ghost use Rattle.kt_child.specs.Launches.{StartsBy};
+    ghost use Rattle.kt_child.specs.Driving.ChildrenState.{is_among, shown_at};
+    ghost use Rattle.kt_child.specs.Driving.DriverSteps.{DriverStarts, DriverWaits};
 
     ghost running = { λ d. shown_at d.running.cases };
 
     ghost pending = { λ d. is_among d.running.pending };
 
-    ghost starts = { λ d job role answer e. StartsBy O.leads d.source d.root job role d.os d.next d.running answer e.os e.next e.running
-        × (e.source ≡ d.source) × (e.root ≡ d.root) };
+    ghost starts = { DriverStarts O.leads };
 
-    ghost waits = { λ d ended e. ((calls : List Call) × Chain O.leads d.os calls e.os × Waited d.running calls ended e.running)
-        × (e.source ≡ d.source) × (e.root ≡ d.root) × (e.next ≡ d.next) };
+    ghost waits = { DriverWaits O.leads };
 
     fn start(&mut self, job: &Job, role: Role) -> StartAnswer {
         match role {
@@ -70,10 +66,10 @@ impl<O: Os + Drop> Launcher for Driver<O> {
 
 impl<O: Os + Drop> Driver<O> {
     ghost use Rattle.std.specs.Prelude.{◌≡◌, Bool, List, MatchResult, Ok, Err};
-    ghost use Rattle.kt_child.specs.Calls.{Call, Chain, RemoveTree};
-    ghost use Rattle.kt_child.specs.Roots.{FindsRoot};
-    ghost use Rattle.kt_child.specs.ChildrenState.{idle_state};
-    ghost use Rattle.kt_child.specs.Lists.{ListsBy};
+    ghost use Rattle.kt_child.specs.System.Calls.{Call, Chain, RemoveTree};
+    ghost use Rattle.kt_child.specs.Driving.Roots.{FindsRoot};
+    ghost use Rattle.kt_child.specs.Driving.ChildrenState.{idle_state};
+    ghost use Rattle.kt_child.specs.Driving.Lists.{ListsBy};
 
     /// Makes the root directory of a driver below `base`. `source` is the absolute directory of the root Kyuafile.
     /// Where there is no driver the system is handed back.

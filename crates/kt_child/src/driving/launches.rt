@@ -3,12 +3,12 @@ ghost use Rattle.kt_base.specs.declared.role.Role.{Role};
 ghost use Rattle.kt_sched.specs.Children.{MayStart, pending_after_start, running_after_start};
 ghost use Rattle.kt_sched.specs.Moments.{HasMoment};
 ghost use Rattle.kt_sched.specs.Plan.{IsFit};
-ghost use Rattle.kt_child.specs.ChildrenState.{is_among, shown_at};
-ghost use Rattle.kt_child.specs.Launches.{BodyStarts, CleanupStarts};
+ghost use Rattle.kt_child.specs.Driving.ChildrenState.{is_among, shown_at};
+ghost use Rattle.kt_child.specs.Driving.Launches.{BodyStarts, CleanupStarts};
 
+use crate::driving::jobs::{fresh_child, plan_body, spawning};
 use crate::driving::running_children::RunningChildren;
 use crate::planning::case::Case;
-use crate::planning::jobs::{fresh_child, plan_body, spawning};
 use crate::starting::refusals::memory_refusal;
 use crate::system::os::Os;
 use kt_base::{Refused, Role, Text};
@@ -26,10 +26,10 @@ pub(crate) fn begin_body<O: Os>(
     job: &Job,
 ) -> StartAnswer
     requires fit { IsFit job.now }
-    requires may { MayStart (shown_at running.old.cases) (is_among running.old.pending) job.now.position
-        Role.Body }
-    ensures starts { BodyStarts O.leads source.now root.now job.now os.old next.old running.old result
-        os.new next.new running.new }
+    requires may { MayStart (shown_at running.old.cases) (is_among running.old.pending)
+        job.now.position Role.Body }
+    ensures starts { BodyStarts O.leads source.now root.now job.now os.old next.old running.old
+        result os.new next.new running.new }
     ensures moment { HasMoment result }
     ensures running { (k : ℕ) (r : Role) → shown_at running.new.cases k r
         ≡ running_after_start (shown_at running.old.cases) job.now Role.Body result k r }
@@ -59,10 +59,10 @@ pub(crate) fn begin_cleanup<O: Os>(
     job: &Job,
 ) -> StartAnswer
     requires fit { IsFit job.now }
-    requires may { MayStart (shown_at running.old.cases) (is_among running.old.pending) job.now.position
-        Role.Cleanup }
-    ensures starts { CleanupStarts O.leads source.now job.now os.old next running.old result os.new next
-        running.new }
+    requires may { MayStart (shown_at running.old.cases) (is_among running.old.pending)
+        job.now.position Role.Cleanup }
+    ensures starts { CleanupStarts O.leads source.now job.now os.old next running.old result os.new
+        next running.new }
     ensures moment { HasMoment result }
     ensures running { (k : ℕ) (r : Role) → shown_at running.new.cases k r
         ≡ running_after_start (shown_at running.old.cases) job.now Role.Cleanup result k r }

@@ -1,7 +1,7 @@
 ghost use Rattle.std.specs.Prelude.{◌≡◌, List, IfOk};
-ghost use Rattle.kt_child.specs.Calls.{Call, Chain};
-ghost use Rattle.kt_child.specs.ChildPlan.{paths_of};
-ghost use Rattle.kt_child.specs.Lists.{ListsBy, RanList, WatchedList, listing_of};
+ghost use Rattle.kt_child.specs.System.Calls.{Call, Chain};
+ghost use Rattle.kt_child.specs.Planning.ChildPlan.{paths_of};
+ghost use Rattle.kt_child.specs.Driving.Lists.{ListsBy, RanList, WatchedList, listing_of};
 
 use crate::ending::reads::read_list;
 use crate::planning::environment::env_plan;

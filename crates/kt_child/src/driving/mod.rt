@@ -2,6 +2,7 @@
 
 pub(crate) mod driver;
 pub(crate) mod driver_fault;
+pub(crate) mod jobs;
 pub(crate) mod launches;
 pub(crate) mod lists;
 pub(crate) mod roots;

@@ -1,9 +1,9 @@
 ghost use Rattle.std.specs.Prelude.{◌≡◌, List, IfOk};
-ghost use Rattle.kt_child.specs.Calls.{Call, Chain};
-ghost use Rattle.kt_child.specs.Roots.{FindsRoot, root_of};
+ghost use Rattle.kt_child.specs.System.Calls.{Call, Chain};
+ghost use Rattle.kt_child.specs.Driving.Roots.{FindsRoot, root_of};
 
 use crate::driving::driver_fault::DriverFault;
-use crate::planning::spelling::number_text;
+use crate::planning::spelling::numbered_path;
 use crate::system::os::Os;
 use kt_base::{NoMemory, Text};
 use std::alloc::Global;
@@ -12,10 +12,7 @@ use std::alloc::Global;
 pub(crate) fn root_path(alloc: Global, base: &Text, number: u64) -> Result<Text, NoMemory>
     ensures { IfOk result (λ path. path ≡ root_of base.now number) }
 {
-    let digits = number_text(alloc, number)?;
-    let mut path = base.copy()?;
-    path.push_str("/kyua.")?;
-    path.push_str(digits.as_str())?;
+    let path = numbered_path(alloc, base, "/kyua.", number)?;
     Ok(path)
 }
 

@@ -3,13 +3,12 @@ ghost use Rattle.kt_sched.specs.Children.{IsIdle};
 ghost use Rattle.kt_sched.specs.Plan.{IsPlan, IsWidth};
 ghost use Rattle.kt_sched.specs.Run.{Ran};
 ghost use Rattle.kt_sched.specs.Trace.{Trace, Leads};
-ghost use Rattle.kt_child.specs.Calls.{Call, Chain};
-ghost use Rattle.kt_child.specs.ChildrenState.{Waited, is_among, shown_at};
-ghost use Rattle.kt_child.specs.Launches.{StartsBy};
-ghost use Rattle.kt_child.specs.Lists.{ListsBy};
-ghost use Rattle.kt_child.specs.Numbers.{AttemptsDiffer, NamesDiffer, NumbersDiffer, Serves};
-ghost use Rattle.kt_child.specs.TraceLives.{EachWith, EndsAreTold, ToldAt};
-ghost use Rattle.kt_child.specs.Width.{AloneIsPlain};
+ghost use Rattle.kt_child.specs.System.Calls.{Call, Chain};
+ghost use Rattle.kt_child.specs.Driving.ChildrenState.{is_among, shown_at};
+ghost use Rattle.kt_child.specs.Driving.DriverSteps.{DriverLists, DriverStarts, DriverWaits};
+ghost use Rattle.kt_child.specs.Driving.Numbers.{AttemptsDiffer, NamesDiffer, NumbersDiffer, Serves};
+ghost use Rattle.kt_child.specs.Driving.TraceLives.{EachWith, EndsAreTold, ToldAt};
+ghost use Rattle.kt_child.specs.Driving.Width.{AloneIsPlain};
 ghost use Rattle.kt_child.specs.declared.driving.driver.Driver.{Driver};
 
 use crate::driving::driver::Driver;
@@ -28,20 +27,14 @@ pub fn run_driver<O: Os + Drop, S: Sink>(
 ) -> Result<Totals, RunFault>
     requires plan { IsPlan plan }
     requires width { IsWidth width }
-    requires idle { IsIdle (shown_at driver.old.running.cases) (is_among driver.old.running.pending) }
-    ensures ran { Ran
-        (λ d job role answer e. StartsBy O.leads d.source d.root job role d.os d.next d.running answer e.os e.next e.running
-        × (e.source ≡ d.source) × (e.root ≡ d.root))
-        (λ d ended e. ((calls : List Call) × Chain O.leads d.os calls e.os × Waited d.running calls ended e.running)
-        × (e.source ≡ d.source) × (e.root ≡ d.root) × (e.next ≡ d.next))
-        S.puts S.entries plan width driver.old driver.new sink.old sink.new result }
-    ensures told { (T : Trace) → Leads
-        (λ d job role answer e. StartsBy O.leads d.source d.root job role d.os d.next d.running answer e.os e.next e.running
-        × (e.source ≡ d.source) × (e.root ≡ d.root))
-        (λ d ended e. ((calls : List Call) × Chain O.leads d.os calls e.os × Waited d.running calls ended e.running)
-        × (e.source ≡ d.source) × (e.root ≡ d.root) × (e.next ≡ d.next))
-        plan T driver.old driver.new
-        → (calls : List Call) × Chain O.leads driver.old.os calls driver.new.os × EachWith (ToldAt plan driver.old.source driver.old.root driver.old.next calls) T calls }
+    requires idle { IsIdle (shown_at driver.old.running.cases)
+        (is_among driver.old.running.pending) }
+    ensures ran { Ran (DriverStarts O.leads) (DriverWaits O.leads) S.puts S.entries plan width
+        driver.old driver.new sink.old sink.new result }
+    ensures told { (T : Trace)
+        → Leads (DriverStarts O.leads) (DriverWaits O.leads) plan T driver.old driver.new
+        → (calls : List Call) × Chain O.leads driver.old.os calls driver.new.os
+        × EachWith (ToldAt plan driver.old.source driver.old.root driver.old.next calls) T calls }
 {
     driver.running.paired();
     run_cases(alloc, plan, width, driver, sink)
@@ -50,26 +43,15 @@ pub fn run_driver<O: Os + Drop, S: Sink>(
 /// The law of numbers: no two attempts of a driver, which are the starts of bodies and the lists, have the same number.
 pub fn law_of_numbers<O: Os + Drop>()
     ensures starts { NumbersDiffer {D = Driver O} (λ d. d.next)
-        (λ d job role answer e. StartsBy O.leads d.source d.root job role d.os d.next d.running answer e.os e.next e.running
-        × (e.source ≡ d.source) × (e.root ≡ d.root))
-        (λ d ended e. ((calls : List Call) × Chain O.leads d.os calls e.os × Waited d.running calls ended e.running)
-        × (e.source ≡ d.source) × (e.root ≡ d.root) × (e.next ≡ d.next)) }
-    ensures attempts { AttemptsDiffer {D = Driver O} (λ d. d.next) (Serves {D = Driver O}
-        (λ d job role answer e. StartsBy O.leads d.source d.root job role d.os d.next d.running answer e.os e.next e.running
-        × (e.source ≡ d.source) × (e.root ≡ d.root))
-        (λ d ended e. ((calls : List Call) × Chain O.leads d.os calls e.os × Waited d.running calls ended e.running)
-        × (e.source ≡ d.source) × (e.root ≡ d.root) × (e.next ≡ d.next))
-        (λ d program variables answer e. ListsBy O.leads d.source d.root program variables d.os d.next answer e.os e.next
-        × (e.running ≡ d.running) × (e.source ≡ d.source) × (e.root ≡ d.root))) }
+        (DriverStarts O.leads) (DriverWaits O.leads) }
+    ensures attempts { AttemptsDiffer {D = Driver O} (λ d. d.next)
+        (Serves {D = Driver O} (DriverStarts O.leads) (DriverWaits O.leads) (DriverLists O.leads)) }
 {}
 
 /// The law of names: where nothing ran and nothing was owed at first, the name of each child that runs is its own.
 pub fn law_of_names<O: Os + Drop>()
     ensures { NamesDiffer {D = Driver O} (λ d. d.running)
-        (λ d job role answer e. StartsBy O.leads d.source d.root job role d.os d.next d.running answer e.os e.next e.running
-        × (e.source ≡ d.source) × (e.root ≡ d.root))
-        (λ d ended e. ((calls : List Call) × Chain O.leads d.os calls e.os × Waited d.running calls ended e.running)
-        × (e.source ≡ d.source) × (e.root ≡ d.root) × (e.next ≡ d.next)) }
+        (DriverStarts O.leads) (DriverWaits O.leads) }
 {}
 
 /// The law of traces, if nothing runs and nothing is owed at first: the polls and kills of each child, of all that is
@@ -77,19 +59,13 @@ pub fn law_of_names<O: Os + Drop>()
 /// each end has its own calls in the directory of its body's number: the start, what is read behind the last poll, and
 /// the removal.
 pub fn law_of_traces<O: Os + Drop>()
-    ensures { EndsAreTold {D = Driver O} O.leads (λ d. d.os) (λ d. d.source) (λ d. d.root) (λ d. d.next) (λ d. d.running)
-        (λ d job role answer e. StartsBy O.leads d.source d.root job role d.os d.next d.running answer e.os e.next e.running
-        × (e.source ≡ d.source) × (e.root ≡ d.root))
-        (λ d ended e. ((calls : List Call) × Chain O.leads d.os calls e.os × Waited d.running calls ended e.running)
-        × (e.source ≡ d.source) × (e.root ≡ d.root) × (e.next ≡ d.next)) }
+    ensures { EndsAreTold {D = Driver O} O.leads (λ d. d.os) (λ d. d.source) (λ d. d.root)
+        (λ d. d.next) (λ d. d.running) (DriverStarts O.leads) (DriverWaits O.leads) }
 {}
 
 /// The law of lone children: if nothing runs at first and each wait is for an only child, no member is ever left of a
 /// turn, so that each wait is the plain loop of `law_of_one_child`.
 pub fn law_of_lone_children<O: Os + Drop>()
     ensures { AloneIsPlain {D = Driver O} (λ d. d.running)
-        (λ d job role answer e. StartsBy O.leads d.source d.root job role d.os d.next d.running answer e.os e.next e.running
-        × (e.source ≡ d.source) × (e.root ≡ d.root))
-        (λ d ended e. ((calls : List Call) × Chain O.leads d.os calls e.os × Waited d.running calls ended e.running)
-        × (e.source ≡ d.source) × (e.root ≡ d.root) × (e.next ≡ d.next)) }
+        (DriverStarts O.leads) (DriverWaits O.leads) }
 {}

@@ -1,7 +1,7 @@
 ghost use Rattle.std.specs.Prelude.{◌≡◌, ◌+◌, ◌<◌, ◌≤◌, length, slice_get, Some, remove, OnOk, true};
 ghost use Rattle.std.specs.Vec.{vec_len, vec_capacity};
 ghost use Rattle.kt_child.specs.declared.planning.case.Case.{Case};
-ghost use Rattle.kt_child.specs.ChildrenState.{is_among, pending_with};
+ghost use Rattle.kt_child.specs.Driving.ChildrenState.{is_among, pending_with};
 
 use crate::ending::ends::{leave, over};
 use crate::planning::case::Case;
@@ -30,7 +30,7 @@ pub struct RunningChildren {
 impl Model for RunningChildren {
     ghost use Rattle.std.specs.Prelude.{◌+◌, ◌≤◌};
     ghost use Rattle.std.specs.Vec.{vec_len, vec_capacity};
-    ghost use Rattle.kt_child.specs.ChildrenState.{ChildrenState, IsChildrenState};
+    ghost use Rattle.kt_child.specs.Driving.ChildrenState.{ChildrenState, IsChildrenState};
 
     ghost Value = { ChildrenState };
 
@@ -106,10 +106,10 @@ impl RunningChildren {
     ghost use Rattle.kt_base.specs.declared.role.Role.{Role};
     ghost use Rattle.kt_sched.specs.Children.{Child as Shown, IsEvidence, running_after_end, pending_after_end};
     ghost use Rattle.kt_sched.specs.Moments.{HasMoment, IsMoment};
-    ghost use Rattle.kt_child.specs.Calls.{Call, Chain};
-    ghost use Rattle.kt_child.specs.Turns.{IsOn};
-    ghost use Rattle.kt_child.specs.ChildrenState.{Waited, count_at, idle_state, is_among, shown_at};
-    ghost use Rattle.kt_child.specs.Begins.{BegunBody, BegunCleanup, state_after_start, shown_after};
+    ghost use Rattle.kt_child.specs.System.Calls.{Call, Chain};
+    ghost use Rattle.kt_child.specs.Polling.Turns.{IsOn};
+    ghost use Rattle.kt_child.specs.Driving.ChildrenState.{Waited, count_at, idle_state, is_among, shown_at};
+    ghost use Rattle.kt_child.specs.Driving.Begins.{BegunBody, BegunCleanup, state_after_start, shown_after};
 
     /// No running children, which takes no memory.
     pub fn new(alloc: Global) -> RunningChildren

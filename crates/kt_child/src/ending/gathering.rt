@@ -1,9 +1,9 @@
 ghost use Rattle.std.specs.Prelude.{ℕ, List};
 ghost use Rattle.kt_claim.specs.ClaimReading.{HasRead};
 ghost use Rattle.kt_claim.specs.StreamReading.{HasStream};
-ghost use Rattle.kt_child.specs.Calls.{Call, Chain};
-ghost use Rattle.kt_child.specs.Parts.{Bytes};
-ghost use Rattle.kt_child.specs.Gathering.{Gathers, IsClaim, IsTap, ReadsClaim, ReadsTap};
+ghost use Rattle.kt_child.specs.System.Calls.{Call, Chain};
+ghost use Rattle.kt_child.specs.Ending.Parts.{Bytes};
+ghost use Rattle.kt_child.specs.Ending.Gathering.{Gathers, IsClaim, IsTap, ReadsClaim, ReadsTap};
 ghost use Rattle.kt_sched.specs.Children.{IsEvidence};
 
 use crate::ending::parts::read_in_parts;

@@ -1,8 +1,8 @@
 ghost use Rattle.std.specs.Prelude.{◌≡◌, ◌≤◌, Result, length};
 ghost use Rattle.kt_child.specs.declared.system.file_read.FileRead.{FileRead};
 ghost use Rattle.kt_child.specs.declared.system.os_fault.OsFault.{OsFault};
-ghost use Rattle.kt_child.specs.Calls.{ReadFile};
-ghost use Rattle.kt_child.specs.Reads.{IsListWithin, bytes_of, list_of};
+ghost use Rattle.kt_child.specs.System.Calls.{ReadFile};
+ghost use Rattle.kt_child.specs.Ending.Reads.{IsListWithin, bytes_of, list_of};
 
 use crate::system::file_read::FileRead;
 use crate::system::os::Os;

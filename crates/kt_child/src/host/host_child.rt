@@ -27,7 +27,7 @@ pub(crate) struct HostChild<P: OpenProcess> {
 impl<P: OpenProcess + Drop> HostChild<P> {
     ghost use Rattle.std.specs.Prelude.{◌≡◌, ◌↔◌, ◌+◌, ◌-◌, ◌^◌, min, Some, None, Ok, true, false, IsTrue, IsSome, IsNone, IsOk, IsErr, IfOk, OnOk};
     ghost use Rattle.std.specs.declared.process.status.ExitStatus.{ExitStatus as Status};
-    ghost use Rattle.kt_child.specs.HostStands.{Proceeds, stand_of};
+    ghost use Rattle.kt_child.specs.Host.HostStands.{Proceeds, stand_of};
 
     /// A child that does not run, with the file of its output.
     pub(crate) fn new(child: Child, out: File) -> HostChild<P>

@@ -1,6 +1,6 @@
 ghost use Rattle.std.specs.Prelude.{◌≡◌, ◌==◌, ◌/◌, ◌%◌};
 ghost use Rattle.std.specs.Process.{status_bits};
-ghost use Rattle.kt_child.specs.HostAnswers.{IsPolledOf};
+ghost use Rattle.kt_child.specs.Host.HostAnswers.{IsPolledOf};
 
 use crate::host::command::command_of;
 use crate::host::faults::or_fault;
@@ -69,7 +69,7 @@ fn polled(status: ExitStatus) -> Result<Polled, OsFault>
 impl<R: Processes + AllocGlobal + Drop> HostOs<R> {
     ghost use Rattle.std.specs.Prelude.{◌≡◌, None};
     ghost use Rattle.kt_child.specs.declared.system.child.Child.{Child as Name};
-    ghost use Rattle.kt_child.specs.HostStands.{stand_in};
+    ghost use Rattle.kt_child.specs.Host.HostStands.{stand_in};
 
     /// The system, with no child.
     pub fn new(rt: R) -> HostOs<R>
@@ -87,7 +87,7 @@ impl<R: Processes + AllocGlobal + Drop> HostOs<R> {
 
 impl<R: Processes + Files<File = File> + Clock + AllocGlobal + Drop> HostOs<R> {
     ghost use Rattle.std.specs.Prelude.{IsSome, OnOk};
-    ghost use Rattle.kt_child.specs.HostStands.{OthersStay, stand_in};
+    ghost use Rattle.kt_child.specs.Host.HostStands.{OthersStay, stand_in};
 
     /// Starts a program for a child of which the files were opened.
     fn launch(
@@ -110,8 +110,8 @@ impl<R: Processes + Files<File = File> + Clock + AllocGlobal + Drop> HostOs<R> {
 impl<R: Processes + Files<File = File> + Clock + AllocGlobal + Clone + Drop> Os for HostOs<R> {
     // What the system does with its files, its processes and its clock is not said: how the children stand that are
     // kept here is, and that what is told of them and of a file is what the library answered.
-    ghost use Rattle.kt_child.specs.HostStands.{IsLastEnd, stand_in};
-    ghost use Rattle.kt_child.specs.HostAnswers.{HostLeads};
+    ghost use Rattle.kt_child.specs.Host.HostStands.{IsLastEnd, stand_in};
+    ghost use Rattle.kt_child.specs.Host.HostAnswers.{HostLeads};
 
     ghost leads = { λ old call new. HostLeads (stand_in old.children.items) call
         (stand_in new.children.items) (IsLastEnd new.last) };

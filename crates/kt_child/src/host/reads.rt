@@ -1,6 +1,6 @@
 ghost use Rattle.std.specs.Prelude.{◌≡◌, ◌≢◌, ◌+◌, ◌≤◌, length, MatchResult, IfOk, IfSome, IsSomeAnd};
 ghost use Rattle.std.specs.IoError.{error_kind};
-ghost use Rattle.kt_child.specs.HostAnswers.{IsFront, IsHostRead, IsOpened, IsUnopened};
+ghost use Rattle.kt_child.specs.Host.HostAnswers.{IsFront, IsHostRead, IsOpened, IsUnopened};
 
 use crate::host::faults::or_fault;
 use crate::system::file_read::FileRead;

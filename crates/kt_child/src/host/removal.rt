@@ -1,6 +1,6 @@
 ghost use Rattle.std.specs.Prelude.{◌≡◌, ℕ, List, None, IfOk, IfSome};
-ghost use Rattle.kt_child.specs.Removals.{IsMovedPath, LiesIn};
-ghost use Rattle.kt_child.specs.Roots.{root_of};
+ghost use Rattle.kt_child.specs.Host.Removals.{IsMovedPath, LiesIn};
+ghost use Rattle.kt_child.specs.Driving.Roots.{root_of};
 
 use crate::driving::roots::root_path;
 use crate::host::faults::or_fault;

@@ -1,6 +1,6 @@
 ghost use Rattle.std.specs.Prelude.{◌≡◌, [], ◌∷◌, ◌++◌, map, IfOk, OnOk};
 ghost use Rattle.std.specs.Str.{chars};
-ghost use Rattle.kt_child.specs.ChildPlan.{common_variables, env_of, own_variables, removed_names, test_variable, variable};
+ghost use Rattle.kt_child.specs.Planning.ChildPlan.{common_variables, env_of, own_variables, removed_names, test_variable, variable};
 
 use crate::planning::spelling::{joined, push_text};
 use crate::system::env::EnvPlan;

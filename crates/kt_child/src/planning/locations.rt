@@ -1,5 +1,5 @@
 ghost use Rattle.std.specs.Prelude.{◌≡◌, IfOk};
-ghost use Rattle.kt_child.specs.JobPlan.{parent_of, program_path};
+ghost use Rattle.kt_child.specs.Driving.JobPlan.{parent_of, program_path};
 
 use kt_base::{NoMemory, Text};
 use std::alloc::Global;

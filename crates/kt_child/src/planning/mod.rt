@@ -2,7 +2,6 @@
 
 pub(crate) mod case;
 pub(crate) mod environment;
-pub(crate) mod jobs;
 pub(crate) mod locations;
 pub(crate) mod paths;
 pub(crate) mod spawning;

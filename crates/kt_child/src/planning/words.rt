@@ -1,5 +1,5 @@
 ghost use Rattle.std.specs.Prelude.{◌≡◌, [], ◌∷◌, ◌++◌, map, codes, IfOk, OnOk};
-ghost use Rattle.kt_child.specs.ChildPlan.{variable_word, words_of};
+ghost use Rattle.kt_child.specs.Planning.ChildPlan.{variable_word, words_of};
 
 use crate::planning::paths::Paths;
 use crate::planning::spelling::{joined, push_text};

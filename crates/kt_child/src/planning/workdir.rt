@@ -1,9 +1,9 @@
 ghost use Rattle.std.specs.Prelude.{◌≡◌, IfOk};
 ghost use Rattle.std.specs.Str.{chars};
-ghost use Rattle.kt_child.specs.ChildPlan.{attempt_dir, below, paths_of};
+ghost use Rattle.kt_child.specs.Planning.ChildPlan.{attempt_dir, below, paths_of};
 
 use crate::planning::paths::Paths;
-use crate::planning::spelling::number_text;
+use crate::planning::spelling::numbered_path;
 use kt_base::{NoMemory, Text};
 use std::alloc::Global;
 
@@ -11,10 +11,7 @@ use std::alloc::Global;
 pub(crate) fn attempt_path(alloc: Global, root: &Text, number: u64) -> Result<Text, NoMemory>
     ensures { IfOk result (λ path. path ≡ attempt_dir root.now number) }
 {
-    let digits = number_text(alloc, number)?;
-    let mut path = root.copy()?;
-    path.push('/')?;
-    path.push_str(digits.as_str())?;
+    let path = numbered_path(alloc, root, "/", number)?;
     Ok(path)
 }
 

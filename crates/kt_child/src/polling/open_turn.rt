@@ -1,5 +1,5 @@
 ghost use Rattle.std.specs.Prelude.{◌≡◌, ◌≤◌, ◌<◌, ◌+◌};
-ghost use Rattle.kt_child.specs.Waits.{going_on};
+ghost use Rattle.kt_child.specs.Polling.Waits.{going_on};
 
 /// How many children may be over in one turn; with the last of them it is over too (this profile).
 const ENDS_A_TURN: u32 = 8;

@@ -1,6 +1,6 @@
 ghost use Rattle.std.specs.Prelude.{◌≡◌, ℕ, ◌<◌, List, All, IfSome, length, None};
-ghost use Rattle.kt_child.specs.Calls.{Call, Chain};
-ghost use Rattle.kt_child.specs.Turns.{IsOn, PolledAll, PolledUntil, WaitedUntil, advanced_below, after_turns};
+ghost use Rattle.kt_child.specs.System.Calls.{Call, Chain};
+ghost use Rattle.kt_child.specs.Polling.Turns.{IsOn, PolledAll, PolledUntil, WaitedUntil, advanced_below, after_turns};
 
 use crate::polling::over::Over;
 use crate::polling::polls::poll_once;

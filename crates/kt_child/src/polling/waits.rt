@@ -1,7 +1,7 @@
 ghost use Rattle.std.specs.Prelude.{◌≡◌, ◌+◌, ◌<◌, ◌≤◌, List, All, length};
-ghost use Rattle.kt_child.specs.Calls.{Call, Chain};
-ghost use Rattle.kt_child.specs.Turns.{IsOn};
-ghost use Rattle.kt_child.specs.Waits.{WaitedOn};
+ghost use Rattle.kt_child.specs.System.Calls.{Call, Chain};
+ghost use Rattle.kt_child.specs.Polling.Turns.{IsOn};
+ghost use Rattle.kt_child.specs.Polling.Waits.{WaitedOn};
 
 use crate::polling::open_turn::{OpenTurn, going_on};
 use crate::polling::over::Over;

@@ -1,5 +1,5 @@
 ghost use Rattle.std.specs.Prelude.{◌≡◌};
-ghost use Rattle.kt_child.specs.ChildOutcome.{fresh};
+ghost use Rattle.kt_child.specs.Polling.ChildOutcome.{fresh};
 
 /// What is kept of a running child's answers. The deadline is counted in polls, of which there are 100 a second.
 #[derive(Clone, Copy, Debug, PartialEq, Eq)]

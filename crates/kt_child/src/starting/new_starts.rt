@@ -1,6 +1,6 @@
 ghost use Rattle.std.specs.Prelude.{List};
-ghost use Rattle.kt_child.specs.Calls.{Call, Chain};
-ghost use Rattle.kt_child.specs.Starts.{SetUp, furnish_asks};
+ghost use Rattle.kt_child.specs.System.Calls.{Call, Chain};
+ghost use Rattle.kt_child.specs.Starting.Starts.{SetUp, furnish_asks};
 
 use crate::planning::spawning::Spawning;
 use crate::starting::starts::furnish;

@@ -1,8 +1,8 @@
 ghost use Rattle.std.specs.Prelude.{◌≡◌, ◌≤◌, ℕ, List, Result, Ok, IfOk};
 ghost use Rattle.kt_child.specs.declared.system.os_fault.OsFault.{OsFault};
-ghost use Rattle.kt_child.specs.Calls.{Call, Chain, Now};
-ghost use Rattle.kt_child.specs.Moments.{moment_of};
-ghost use Rattle.kt_child.specs.Starts.{Settles, Started, StartedAfresh, Tried, child_asks, furnish_asks};
+ghost use Rattle.kt_child.specs.System.Calls.{Call, Chain, Now};
+ghost use Rattle.kt_child.specs.System.Moments.{moment_of};
+ghost use Rattle.kt_child.specs.Starting.Starts.{Settles, Started, StartedAfresh, Tried, child_asks, furnish_asks};
 
 use crate::planning::spawning::Spawning;
 use crate::starting::new_starts::set_up;

@@ -9,8 +9,8 @@ use kt_base::{Items, Text};
 /// leads from which state to which.
 pub trait Os {
     ghost use Rattle.std.specs.Prelude.{◌≡◌, ℕ, is_ok};
-    ghost use Rattle.kt_child.specs.Calls.{Call, Kill, MakeDir, Now, OpenOutput, Pause, Poll, ReadFile, ReadPart, RemoveTree, Spawn};
-    ghost use Rattle.kt_child.specs.Reads.{IsReadWithin};
+    ghost use Rattle.kt_child.specs.System.Calls.{Call, Kill, MakeDir, Now, OpenOutput, Pause, Poll, ReadFile, ReadPart, RemoveTree, Spawn};
+    ghost use Rattle.kt_child.specs.Ending.Reads.{IsReadWithin};
 
     /// Whether a question with its answer leads from the first state to the second.
     ghost leads: { Self → Call → Self → Type 0 };

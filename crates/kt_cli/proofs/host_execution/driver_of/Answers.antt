@@ -1,6 +1,6 @@
 use Rattle.std.proofs.Common.{rules, ◌≡◌, ◌∙◌, ℕ, List, ap, refl, subst, sym}
 use Rattle.kt_sched.specs.Children.{IsIdle}
-use Rattle.kt_child.specs.ChildrenState.{ChildrenState, idle_state, is_among, shown_at}
+use Rattle.kt_child.specs.Driving.ChildrenState.{ChildrenState, idle_state, is_among, shown_at}
 use Rattle.kt_cli.specs.Hosts.{not_absolute, no_memory}
 use Rattle.kt_cli.specs.Places.{source_directory}
 use Rattle.kt_cli.proofs.Refusing.{no_root}

@@ -1,4 +1,4 @@
-use Rattle.kt_child.specs.Polls.{IsWatched}
+use Rattle.kt_child.specs.Polling.Polls.{IsWatched}
 use Rattle.kt_rows.proofs.system_steps.watched.Given as goal
 
 -- the child is not over

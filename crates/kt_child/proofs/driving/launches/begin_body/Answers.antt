@@ -3,11 +3,11 @@ use Rattle.kt_base.specs.declared.role.Role.TheVariants.{Body}
 use Rattle.kt_child.specs.declared.planning.case.Case.{Case}
 use Rattle.kt_child.specs.declared.polling.watched.Watched.{Watched}
 use Rattle.kt_child.specs.declared.planning.spawning.Spawning.{Spawning}
-use Rattle.kt_child.specs.Calls.{Call, Chain}
-use Rattle.kt_child.specs.ChildPlan.{paths_of}
-use Rattle.kt_child.specs.Begins.{BegunBody, state_after_start}
-use Rattle.kt_child.specs.JobPlan.{watched_of}
-use Rattle.kt_child.specs.ChildrenState.{ChildrenState, count_at}
+use Rattle.kt_child.specs.System.Calls.{Call, Chain}
+use Rattle.kt_child.specs.Planning.ChildPlan.{paths_of}
+use Rattle.kt_child.specs.Driving.Begins.{BegunBody, state_after_start}
+use Rattle.kt_child.specs.Driving.JobPlan.{watched_of}
+use Rattle.kt_child.specs.Driving.ChildrenState.{ChildrenState, count_at}
 use Rattle.kt_child.proofs.CaseCounts.{none_among, none_shown}
 use Rattle.kt_child.proofs.driving.launches.begin_body.Goals as goal
 

@@ -3,10 +3,10 @@ use Rattle.kt_base.specs.declared.role.Role.TheVariants.{Cleanup}
 use Rattle.kt_sched.specs.declared.start_answer.StartAnswer.TheVariants.{Refused as RefusedFor}
 use Rattle.kt_child.specs.declared.polling.watched.Watched.{Watched}
 use Rattle.kt_child.specs.declared.planning.spawning.Spawning.{Spawning}
-use Rattle.kt_child.specs.Calls.{Call, Chain, RemoveTree}
-use Rattle.kt_child.specs.Begins.{BegunCleanup, state_after_start}
-use Rattle.kt_child.specs.JobPlan.{cleaning, watched_of}
-use Rattle.kt_child.specs.ChildrenState.{ChildrenState}
+use Rattle.kt_child.specs.System.Calls.{Call, Chain, RemoveTree}
+use Rattle.kt_child.specs.Driving.Begins.{BegunCleanup, state_after_start}
+use Rattle.kt_child.specs.Driving.JobPlan.{cleaning, watched_of}
+use Rattle.kt_child.specs.Driving.ChildrenState.{ChildrenState}
 use Rattle.kt_child.proofs.driving.launches.begin_cleanup.Goals as goal
 
 pub returns-in-Err-clause-starts : goal.returns-in-Err-clause-starts

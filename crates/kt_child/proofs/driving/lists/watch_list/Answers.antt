@@ -1,7 +1,7 @@
 use Rattle.std.proofs.Common.{List, [], ◌∷◌, ◌++◌, refl, subst, is_ok}
 use Rattle.kt_child.specs.declared.polling.watch.Watch.{Watch}
-use Rattle.kt_child.specs.Turns.{WaitedUntil}
-use Rattle.kt_child.specs.Calls.{Call, ReadFile, RemoveTree}
+use Rattle.kt_child.specs.Polling.Turns.{WaitedUntil}
+use Rattle.kt_child.specs.System.Calls.{Call, ReadFile, RemoveTree}
 use Rattle.kt_child.proofs.Chains.{chain_append}
 use Rattle.kt_child.proofs.driving.lists.watch_list.Goals as goal
 

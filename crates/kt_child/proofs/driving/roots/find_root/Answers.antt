@@ -1,6 +1,6 @@
 use Rattle.std.proofs.Common.{rules, arith, ◌≡◌, ℕ, List, [], ◌∷◌, ◌++◌, Bool, true, false, refl, sym, subst, is_ok, add-one}
-use Rattle.kt_child.specs.Calls.{Call, Chain, MakeDir}
-use Rattle.kt_child.specs.Roots.{failed_roots, root_of}
+use Rattle.kt_child.specs.System.Calls.{Call, Chain, MakeDir}
+use Rattle.kt_child.specs.Driving.Roots.{failed_roots, root_of}
 use Rattle.kt_child.proofs.Chains.{chain_append}
 use Rattle.kt_child.proofs.driving.roots.find_root.Goals as goal
 

@@ -1,5 +1,5 @@
-use Rattle.kt_child.specs.Calls.{Chain}
-use Rattle.kt_child.specs.Roots.{failed_roots}
+use Rattle.kt_child.specs.System.Calls.{Chain}
+use Rattle.kt_child.specs.Driving.Roots.{failed_roots}
 use Rattle.kt_child.proofs.driving.roots.find_root.Given as goal
 
 abbrev pub invariant-loop-number : goal.invariant-loop-number

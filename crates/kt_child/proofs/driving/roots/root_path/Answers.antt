@@ -5,4 +5,4 @@ use Rattle.kt_child.proofs.driving.roots.root_path.Goals as goal
 pub returns : goal.returns
 unfolding chars
 returns c =
-    rw (c.in_ok-push_str-2.ensures.ok, c.in_ok-push_str.ensures.ok, c.in_ok-path.ensures, c.as_str.ensures.characters, c.in_ok-digits.ensures) refl
+    rw c.in_ok-path.ensures refl

@@ -1,5 +1,5 @@
 use Rattle.std.proofs.Common.{◌≡◌, true, drop}
-use Rattle.kt_child.specs.ChildrenState.{is_among}
+use Rattle.kt_child.specs.Driving.ChildrenState.{is_among}
 use Rattle.kt_child.proofs.driving.running_children.place_of.Given as goal
 
 abbrev pub invariant-loop-i : goal.invariant-loop-i

@@ -1,6 +1,6 @@
 use Rattle.std.proofs.Common.{◌∷◌, ◌++◌, List, Bool, refl, subst, ℕ}
-use Rattle.kt_child.specs.Calls.{Now, ReadFile}
-use Rattle.kt_child.specs.Ends.{Removes, out_of, err_of}
+use Rattle.kt_child.specs.System.Calls.{Now, ReadFile}
+use Rattle.kt_child.specs.Ending.Ends.{Removes, out_of, err_of}
 use Rattle.kt_child.proofs.EndSteps.{chain_ends}
 use Rattle.kt_child.proofs.ending.ends.leave.Goals as goal
 

@@ -1,4 +1,4 @@
-use Rattle.kt_child.specs.HostStands.{AllProceed, stand_in}
+use Rattle.kt_child.specs.Host.HostStands.{AllProceed, stand_in}
 use Rattle.kt_child.proofs.host.children.await_end.Given as goal
 
 abbrev pub invariant-loop-slice : goal.invariant-loop-slice

@@ -1,6 +1,6 @@
 use Rattle.std.proofs.Common.{sym, subst}
 use Rattle.std.specs.Prelude.{IsSome, OnOk}
-use Rattle.kt_child.specs.HostStands.{Stand}
+use Rattle.kt_child.specs.Host.HostStands.{Stand}
 use Rattle.kt_child.proofs.HostStandings.{changed}
 use Rattle.kt_child.proofs.host.children.launch.Goals as goal
 

@@ -1,6 +1,6 @@
 use Rattle.std.proofs.Common.{◌≡◌, Some, sym, subst}
 use Rattle.std.specs.Prelude.{IfOk}
-use Rattle.kt_child.specs.HostStands.{Stand}
+use Rattle.kt_child.specs.Host.HostStands.{Stand}
 use Rattle.kt_child.proofs.HostStandings.{changed, proceeds_by}
 use Rattle.kt_child.proofs.host.children.poll.Goals as goal
 

@@ -1,4 +1,4 @@
-use Rattle.kt_child.specs.Removals.{LiesIn}
+use Rattle.kt_child.specs.Host.Removals.{LiesIn}
 use Rattle.kt_child.proofs.host.removal.clear.Given as goal
 
 abbrev pub invariant-loop-entry : goal.invariant-loop-entry

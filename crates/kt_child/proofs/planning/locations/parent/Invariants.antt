@@ -1,5 +1,5 @@
 use Rattle.std.proofs.Common.{◌≡◌, length}
-use Rattle.kt_child.specs.JobPlan.{parent_of}
+use Rattle.kt_child.specs.Driving.JobPlan.{parent_of}
 use Rattle.kt_child.proofs.planning.locations.parent.Given as goal
 
 -- what was left out has no slash

@@ -1,5 +1,5 @@
 use Rattle.std.proofs.Common.{rules, [], ◌∷◌, ◌++◌, true, false, refl, inr, is_ok}
-use Rattle.kt_child.specs.Calls.{MakeDir, RemoveTree}
+use Rattle.kt_child.specs.System.Calls.{MakeDir, RemoveTree}
 use Rattle.kt_child.proofs.Chains.{chain_append}
 use Rattle.kt_child.proofs.starting.new_starts.set_up.Goals as goal
 

@@ -1,7 +1,7 @@
 use Rattle.std.proofs.Common.{rules, [], ◌∷◌, true, false}
 use Rattle.kt_base.specs.declared.refused.Refused.TheVariants.{Directory}
-use Rattle.kt_child.specs.Calls.{MakeDir}
-use Rattle.kt_child.specs.Starts.{Ask, child_asks}
+use Rattle.kt_child.specs.System.Calls.{MakeDir}
+use Rattle.kt_child.specs.Starting.Starts.{Ask, child_asks}
 use Rattle.kt_child.proofs.Chains.{tried_more}
 use Rattle.kt_child.proofs.starting.starts.furnish.Goals as goal
 

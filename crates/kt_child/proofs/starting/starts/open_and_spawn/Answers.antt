@@ -1,5 +1,5 @@
 use Rattle.std.proofs.Common.{rules, [], ◌∷◌, true, false}
-use Rattle.kt_child.specs.Calls.{OpenOutput, Spawn}
+use Rattle.kt_child.specs.System.Calls.{OpenOutput, Spawn}
 use Rattle.kt_child.proofs.starting.starts.open_and_spawn.Goals as goal
 
 pub returns-then-is_err : goal.returns-then-is_err

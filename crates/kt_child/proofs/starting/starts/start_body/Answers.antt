@@ -1,6 +1,6 @@
 use Rattle.std.proofs.Common.{[], ◌∷◌, ◌++◌, refl}
-use Rattle.kt_child.specs.Calls.{Now}
-use Rattle.kt_child.specs.Starts.{furnish_asks}
+use Rattle.kt_child.specs.System.Calls.{Now}
+use Rattle.kt_child.specs.Starting.Starts.{furnish_asks}
 use Rattle.kt_child.proofs.Chains.{chain_append}
 use Rattle.kt_child.proofs.NewStarts.{afresh_done, afresh_refused}
 use Rattle.kt_child.proofs.starting.starts.start_body.Goals as goal

@@ -1,5 +1,5 @@
 use Rattle.std.proofs.Common.{rules, ◌==◌, ◌&&◌, Option, Some, if◌then◌else◌, ◌≡◌, ◌∙◌, ◌+◌, ◌++◌, ◌∷◌, [], ap, sym, subst, arith}
-use Rattle.kt_child.specs.ChildrenState.{ChildrenState, count_at, shown, shown_at}
+use Rattle.kt_child.specs.Driving.ChildrenState.{ChildrenState, count_at, shown, shown_at}
 use Rattle.kt_sched.specs.Children.{Child as Shown, same_role}
 use Rattle.kt_child.proofs.StateSteps.{state_started}
 use Rattle.kt_child.proofs.ShownCases.{shown_append}

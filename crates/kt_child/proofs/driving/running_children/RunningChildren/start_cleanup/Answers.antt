@@ -1,7 +1,7 @@
 use Rattle.std.proofs.Common.{rules, ◌==◌, ◌&&◌, Option, Some, if◌then◌else◌, ◌≡◌, ◌∙◌, ◌+◌, ◌++◌, ◌∷◌, [], ap, sym, subst, arith, is_ok, refl, inl}
 use Rattle.kt_sched.specs.declared.start_answer.StartAnswer.TheVariants.{Refused as RefusedFor}
-use Rattle.kt_child.specs.Calls.{RemoveTree}
-use Rattle.kt_child.specs.ChildrenState.{ChildrenState, count_at, shown, shown_at}
+use Rattle.kt_child.specs.System.Calls.{RemoveTree}
+use Rattle.kt_child.specs.Driving.ChildrenState.{ChildrenState, count_at, shown, shown_at}
 use Rattle.kt_sched.specs.Children.{Child as Shown, same_role}
 use Rattle.kt_child.proofs.StateSteps.{state_started}
 use Rattle.kt_child.proofs.ShownCases.{shown_append}

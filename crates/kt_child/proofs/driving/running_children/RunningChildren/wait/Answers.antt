@@ -1,9 +1,9 @@
 use Rattle.std.proofs.Common.{◌≡◌, ◌∙◌, ◌<◌, slice_get, Some, ap, sym, subst, arith, length, List}
 use Rattle.std.specs.Prelude.{remove}
 use Rattle.std.proofs.lemmas.Option.{slice_get-get_or}
-use Rattle.kt_child.specs.Calls.{Call, Chain}
+use Rattle.kt_child.specs.System.Calls.{Call, Chain}
 use Rattle.kt_sched.specs.Children.{Child as Shown, IsEvidence, running_after_end, pending_after_end}
-use Rattle.kt_child.specs.ChildrenState.{ChildrenState, Waited, is_among, shown_at}
+use Rattle.kt_child.specs.Driving.ChildrenState.{ChildrenState, Waited, is_among, shown_at}
 use Rattle.kt_child.proofs.StateWaits.{state_after, same_children, waited_all, waited_one, waited_pending, waited_running}
 use Rattle.kt_child.proofs.driving.running_children.RunningChildren.wait.Goals as goal
 

@@ -8,7 +8,7 @@ use Rattle.kt_child.specs.declared.system.os_fault.OsFault.{OsFault}
 use Rattle.kt_child.specs.declared.polling.watch.Watch.{Watch}
 use Rattle.kt_child.specs.declared.polling.turn.Turn.{Turn}
 use Rattle.kt_child.specs.declared.polling.turn.Turn.TheVariants.{More, Ended}
-use Rattle.kt_child.specs.Calls.{Call, Poll, Kill}
+use Rattle.kt_child.specs.System.Calls.{Call, Poll, Kill}
 
 -- a child that is not over: fewer than 100 polls a second of its limit before a kill, fewer than 500 after it
 abbrev pub IsShort : Bool → ℕ → ℕ → ℕ → Type 0

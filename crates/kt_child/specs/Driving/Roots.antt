@@ -3,7 +3,7 @@ use Rattle.std.specs.Prelude.{◌≡◌, ◌<◌, ℕ, zero, suc, List, [], ◌�
 use Rattle.std.specs.Fmt.{decimal}
 use Rattle.kt_child.specs.declared.driving.driver_fault.DriverFault.{DriverFault}
 use Rattle.kt_child.specs.declared.driving.driver_fault.DriverFault.TheVariants.{NoMemory, NoWorkDirectory}
-use Rattle.kt_child.specs.Calls.{Call, MakeDir}
+use Rattle.kt_child.specs.System.Calls.{Call, MakeDir}
 
 -- a root directory by its number
 abbrev pub root_of : List ℕ → ℕ → List ℕ

@@ -1,8 +1,8 @@
 ghost use Rattle.std.specs.Prelude.{◌≡◌, ◌≤◌, IfOk};
 ghost use Rattle.kt_sched.specs.Plan.{IsFit};
-ghost use Rattle.kt_child.specs.ChildPlan.{paths_of};
-ghost use Rattle.kt_child.specs.Turns.{IsOn};
-ghost use Rattle.kt_child.specs.JobPlan.{case_of, limit_of, spawning_of, want_of, watched_of};
+ghost use Rattle.kt_child.specs.Planning.ChildPlan.{paths_of};
+ghost use Rattle.kt_child.specs.Polling.Turns.{IsOn};
+ghost use Rattle.kt_child.specs.Driving.JobPlan.{case_of, limit_of, spawning_of, want_of, watched_of};
 
 use crate::ending::ends::{err_path, out_path};
 use crate::planning::case::Case;

@@ -11,9 +11,9 @@ use Rattle.kt_child.specs.declared.planning.want.Want.TheVariants as want
 use Rattle.kt_child.specs.declared.planning.spawning.Spawning.{Spawning}
 use Rattle.kt_child.specs.declared.polling.watched.Watched.{Watched}
 use Rattle.kt_child.specs.declared.planning.case.Case.{Case}
-use Rattle.kt_child.specs.ChildPlan.{env_of, paths_of, words_of}
-use Rattle.kt_child.specs.ChildOutcome.{fresh}
-use Rattle.kt_child.specs.Ends.{err_of, out_of}
+use Rattle.kt_child.specs.Planning.ChildPlan.{env_of, paths_of, words_of}
+use Rattle.kt_child.specs.Polling.ChildOutcome.{fresh}
+use Rattle.kt_child.specs.Ending.Ends.{err_of, out_of}
 
 -- the absolute path of a program, by the directory of the root Kyuafile
 abbrev pub program_path : List ℕ → List ℕ → List ℕ

@@ -10,15 +10,15 @@ use Rattle.kt_sched.specs.declared.ended.Ended.{Ended}
 use Rattle.kt_sched.specs.Plan.{IsPlan}
 use Rattle.kt_sched.specs.Trace.{Trace, NoEvent, Then, Event, Start, End, Leads}
 use Rattle.kt_child.specs.declared.planning.case.Case.{Case}
-use Rattle.kt_child.specs.Begins.{BegunBody, BegunCleanup}
-use Rattle.kt_child.specs.ChildrenState.{ChildrenState}
-use Rattle.kt_child.specs.Calls.{Call, Chain}
-use Rattle.kt_child.specs.ChildOutcome.{Told}
-use Rattle.kt_child.specs.ChildPlan.{attempt_dir, paths_of}
-use Rattle.kt_child.specs.Ends.{Leaves}
-use Rattle.kt_child.specs.JobPlan.{case_in, limit_of, spawning_of}
-use Rattle.kt_child.specs.Lives.{heard_by}
-use Rattle.kt_child.specs.Numbers.{IsBare}
+use Rattle.kt_child.specs.Driving.Begins.{BegunBody, BegunCleanup}
+use Rattle.kt_child.specs.Driving.ChildrenState.{ChildrenState}
+use Rattle.kt_child.specs.System.Calls.{Call, Chain}
+use Rattle.kt_child.specs.Polling.ChildOutcome.{Told}
+use Rattle.kt_child.specs.Planning.ChildPlan.{attempt_dir, paths_of}
+use Rattle.kt_child.specs.Ending.Ends.{Leaves}
+use Rattle.kt_child.specs.Driving.JobPlan.{case_in, limit_of, spawning_of}
+use Rattle.kt_child.specs.Polling.Lives.{heard_by}
+use Rattle.kt_child.specs.Driving.Numbers.{IsBare}
 
 -- the number behind this one; there is none behind 2 ^ 64 - 1
 abbrev pub following : ℕ → ℕ

@@ -15,8 +15,8 @@ use Rattle.kt_claim.specs.declared.tap_fault.TapFault.TheVariants as tap_fault
 use Rattle.kt_claim.specs.ResultFile.{IsClaimOf}
 use Rattle.kt_claim.specs.TapStream.{tap_of}
 use Rattle.kt_child.specs.declared.planning.paths.Paths.{Paths}
-use Rattle.kt_child.specs.Calls.{Call}
-use Rattle.kt_child.specs.Parts.{Whole, Missing, Unreadable, TooLong, Bytes, Reads}
+use Rattle.kt_child.specs.System.Calls.{Call}
+use Rattle.kt_child.specs.Ending.Parts.{Whole, Missing, Unreadable, TooLong, Bytes, Reads}
 
 -- The claim of a result file that was read so. Where memory is refused it counts as a file that can't be read.
 abbrev pub IsClaim : Whole → Claim → Type 0

@@ -9,9 +9,9 @@ use Rattle.kt_sched.specs.Children.{Child as Shown, same_role}
 use Rattle.kt_child.specs.declared.planning.spawning.Spawning.{Spawning}
 use Rattle.kt_child.specs.declared.polling.watched.Watched.{Watched}
 use Rattle.kt_child.specs.declared.planning.case.Case.{Case}
-use Rattle.kt_child.specs.Calls.{Call, RemoveTree}
-use Rattle.kt_child.specs.Starts.{Started, StartedAfresh, child_asks, furnish_asks}
-use Rattle.kt_child.specs.ChildrenState.{ChildrenState, shown}
+use Rattle.kt_child.specs.System.Calls.{Call, RemoveTree}
+use Rattle.kt_child.specs.Starting.Starts.{Started, StartedAfresh, child_asks, furnish_asks}
+use Rattle.kt_child.specs.Driving.ChildrenState.{ChildrenState, shown}
 
 -- the launcher's answer to a start
 abbrev pub answer_of : Result ℕ Refused → StartAnswer

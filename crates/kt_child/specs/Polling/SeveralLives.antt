@@ -7,12 +7,12 @@ use Rattle.kt_child.specs.declared.system.os_fault.OsFault.{OsFault}
 use Rattle.kt_child.specs.declared.polling.turn.Turn.TheVariants.{More}
 use Rattle.kt_child.specs.declared.polling.watched.Watched.{Watched}
 use Rattle.kt_child.specs.declared.polling.open_turn.OpenTurn.{OpenTurn}
-use Rattle.kt_child.specs.Calls.{Call}
-use Rattle.kt_child.specs.ChildOutcome.{Heard, Lived, Told, fresh, heard_of}
-use Rattle.kt_child.specs.Lives.{heard_by, same_child}
-use Rattle.kt_child.specs.Polls.{turn_of}
-use Rattle.kt_child.specs.Turns.{advanced}
-use Rattle.kt_child.specs.Waits.{WaitedOn}
+use Rattle.kt_child.specs.System.Calls.{Call}
+use Rattle.kt_child.specs.Polling.ChildOutcome.{Heard, Lived, Told, fresh, heard_of}
+use Rattle.kt_child.specs.Polling.Lives.{heard_by, same_child}
+use Rattle.kt_child.specs.Polling.Polls.{turn_of}
+use Rattle.kt_child.specs.Polling.Turns.{advanced}
+use Rattle.kt_child.specs.Polling.Waits.{WaitedOn}
 
 abbrev pub name_of : Watched → Child
 name_of k = k.child

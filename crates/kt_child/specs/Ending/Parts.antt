@@ -7,8 +7,8 @@ use Rattle.kt_child.specs.declared.ending.next_part.NextPart.{NextPart}
 use Rattle.kt_child.specs.declared.ending.next_part.NextPart.TheVariants.{More, All, Absent, Failed, Past}
 use Rattle.kt_child.specs.declared.ending.read_end.ReadEnd.{ReadEnd}
 use Rattle.kt_child.specs.declared.ending.read_end.ReadEnd.TheVariants as read_end
-use Rattle.kt_child.specs.Reads.{bytes_of}
-use Rattle.kt_child.specs.Calls.{Call, ReadPart}
+use Rattle.kt_child.specs.Ending.Reads.{bytes_of}
+use Rattle.kt_child.specs.System.Calls.{Call, ReadPart}
 
 -- what reading a file in parts gives
 pub data Whole : Type 0 where

@@ -5,8 +5,8 @@ use Rattle.kt_child.specs.declared.system.polled.Polled.{Polled}
 use Rattle.kt_child.specs.declared.system.os_fault.OsFault.{OsFault}
 use Rattle.kt_child.specs.declared.polling.turn.Turn.TheVariants.{More, Ended}
 use Rattle.kt_child.specs.declared.polling.watched.Watched.{Watched}
-use Rattle.kt_child.specs.Calls.{Call, Pause}
-use Rattle.kt_child.specs.Polls.{IsWatched, asked_by_poll, turn_of, watch_after}
+use Rattle.kt_child.specs.System.Calls.{Call, Pause}
+use Rattle.kt_child.specs.Polling.Polls.{IsWatched, asked_by_poll, turn_of, watch_after}
 
 -- a child that isn't over, within the greatest limit
 abbrev pub IsOn : Watched → Type 0

@@ -1,7 +1,7 @@
 -- The removal of a tree: where the directories lie that are moved on the way.
 use Rattle.std.specs.Prelude.{◌≡◌, ℕ, List, Option, Some, None}
-use Rattle.kt_child.specs.ChildPlan.{attempt_dir}
-use Rattle.kt_child.specs.Roots.{root_of}
+use Rattle.kt_child.specs.Planning.ChildPlan.{attempt_dir}
+use Rattle.kt_child.specs.Driving.Roots.{root_of}
 
 -- none was moved yet, or they lie in a directory of the tree itself
 abbrev pub LiesIn : List ℕ → Option (List ℕ) → Type 0

@@ -4,9 +4,9 @@ use Rattle.kt_base.specs.declared.outcome.Outcome.{Outcome}
 use Rattle.kt_sched.specs.Children.{same_role}
 use Rattle.kt_child.specs.declared.system.child.Child.{Child}
 use Rattle.kt_child.specs.declared.polling.watched.Watched.{Watched}
-use Rattle.kt_child.specs.Calls.{Call, Poll, Kill}
-use Rattle.kt_child.specs.ChildOutcome.{Heard, HeardPoll, HeardKill, Lived, Told, fresh}
-use Rattle.kt_child.specs.Turns.{WaitedUntil}
+use Rattle.kt_child.specs.System.Calls.{Call, Poll, Kill}
+use Rattle.kt_child.specs.Polling.ChildOutcome.{Heard, HeardPoll, HeardKill, Lived, Told, fresh}
+use Rattle.kt_child.specs.Polling.Turns.{WaitedUntil}
 
 abbrev pub same_child : Child → Child → Bool
 same_child a b = (a.attempt == b.attempt) && same_role a.role b.role

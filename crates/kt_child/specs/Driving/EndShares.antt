@@ -4,10 +4,10 @@ use Rattle.kt_sched.specs.declared.ended.Ended.{Ended}
 use Rattle.kt_child.specs.declared.system.child.Child.{Child}
 use Rattle.kt_child.specs.declared.polling.watched.Watched.{Watched}
 use Rattle.kt_child.specs.declared.planning.case.Case.{Case}
-use Rattle.kt_child.specs.Calls.{Call}
-use Rattle.kt_child.specs.ChildrenState.{ChildrenState, Waited}
-use Rattle.kt_child.specs.Lives.{heard_by, same_child}
-use Rattle.kt_child.specs.SeveralLives.{Share, name_of, named}
+use Rattle.kt_child.specs.System.Calls.{Call}
+use Rattle.kt_child.specs.Driving.ChildrenState.{ChildrenState, Waited}
+use Rattle.kt_child.specs.Polling.Lives.{heard_by, same_child}
+use Rattle.kt_child.specs.Polling.SeveralLives.{Share, name_of, named}
 
 -- Of all that a wait asks each child whose name is its own hears its share, by whether the end is its own: the end has
 -- the position, the role and the outcome of the child that is over, and the others are the running children then.

@@ -9,10 +9,10 @@ use Rattle.kt_child.specs.declared.system.os_fault.OsFault.{OsFault}
 use Rattle.kt_child.specs.declared.system.file_read.FileRead.{FileRead}
 use Rattle.kt_child.specs.declared.planning.paths.Paths.{Paths}
 use Rattle.kt_child.specs.declared.planning.case.Case.{Case}
-use Rattle.kt_child.specs.Calls.{Call, Now, ReadFile, RemoveTree}
-use Rattle.kt_child.specs.Moments.{moment_of}
-use Rattle.kt_child.specs.Reads.{bytes_of}
-use Rattle.kt_child.specs.Gathering.{Gathers}
+use Rattle.kt_child.specs.System.Calls.{Call, Now, ReadFile, RemoveTree}
+use Rattle.kt_child.specs.System.Moments.{moment_of}
+use Rattle.kt_child.specs.Ending.Reads.{bytes_of}
+use Rattle.kt_child.specs.Ending.Gathering.{Gathers}
 
 -- the file of a child's output
 abbrev pub out_of : Role → Paths → List ℕ

@@ -4,8 +4,8 @@ use Rattle.kt_base.specs.declared.refused.Refused.{Refused}
 use Rattle.kt_base.specs.declared.refused.Refused.TheVariants.{Directory, Output, Spawn as NotSpawned}
 use Rattle.kt_child.specs.declared.system.os_fault.OsFault.{OsFault}
 use Rattle.kt_child.specs.declared.planning.spawning.Spawning.{Spawning}
-use Rattle.kt_child.specs.Moments.{moment_of}
-use Rattle.kt_child.specs.Calls.{Call, MakeDir, RemoveTree, OpenOutput, Spawn, Now}
+use Rattle.kt_child.specs.System.Moments.{moment_of}
+use Rattle.kt_child.specs.System.Calls.{Call, MakeDir, RemoveTree, OpenOutput, Spawn, Now}
 
 -- a question by whether it is done, with the cause of a start that is refused there
 pub record Ask : Type 0 where

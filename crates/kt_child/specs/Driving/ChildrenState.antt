@@ -7,10 +7,10 @@ use Rattle.kt_sched.specs.Children.{Child as Shown, same_role}
 use Rattle.kt_child.specs.declared.polling.watched.Watched.{Watched}
 use Rattle.kt_child.specs.declared.polling.open_turn.OpenTurn.{OpenTurn}
 use Rattle.kt_child.specs.declared.planning.case.Case.{Case}
-use Rattle.kt_child.specs.Calls.{Call}
-use Rattle.kt_child.specs.Turns.{IsOn}
-use Rattle.kt_child.specs.Waits.{WaitedOn}
-use Rattle.kt_child.specs.Ends.{Leaves, is_over}
+use Rattle.kt_child.specs.System.Calls.{Call}
+use Rattle.kt_child.specs.Polling.Turns.{IsOn}
+use Rattle.kt_child.specs.Polling.Waits.{WaitedOn}
+use Rattle.kt_child.specs.Ending.Ends.{Leaves, is_over}
 
 -- The running children in the order of their start, each with its case; the turn that goes on; and the cases whose
 -- cleanup is owed.

@@ -9,8 +9,8 @@ use Rattle.kt_sched.specs.declared.start_answer.StartAnswer.{StartAnswer}
 use Rattle.kt_sched.specs.declared.ended.Ended.{Ended}
 use Rattle.kt_sched.specs.Trace.{Trace, Leads}
 use Rattle.kt_child.specs.declared.polling.watched.Watched.{Watched}
-use Rattle.kt_child.specs.ChildrenState.{ChildrenState}
-use Rattle.kt_child.specs.SeveralLives.{named}
+use Rattle.kt_child.specs.Driving.ChildrenState.{ChildrenState}
+use Rattle.kt_child.specs.Polling.SeveralLives.{named}
 
 -- whatever is started and waited for after a body's start, the next number is above that body's: no two have the same
 abbrev pub NumbersDiffer : {D : Type 0} → (D → ℕ) → (D → Job → Role → StartAnswer → D → Type 0) → (D → Ended → D → Type 0) → Type 0

@@ -10,9 +10,9 @@ use Rattle.kt_child.specs.declared.system.file_read.FileRead.TheVariants.{Missin
 use Rattle.kt_child.specs.declared.system.polled.Polled.{Polled}
 use Rattle.kt_child.specs.declared.system.polled.Polled.TheVariants.{Running, Exited, Signaled}
 use Rattle.kt_child.specs.declared.system.child.Child.{Child}
-use Rattle.kt_child.specs.HostStands.{Stand, Proceeds, AllProceed, AllStay, OthersStay}
-use Rattle.kt_child.specs.Reads.{IsReadWithin}
-use Rattle.kt_child.specs.Calls.{Call, MakeDir, RemoveTree, OpenOutput, Spawn, Poll, Kill, Pause, ReadFile, ReadPart, Now}
+use Rattle.kt_child.specs.Host.HostStands.{Stand, Proceeds, AllProceed, AllStay, OthersStay}
+use Rattle.kt_child.specs.Ending.Reads.{IsReadWithin}
+use Rattle.kt_child.specs.System.Calls.{Call, MakeDir, RemoveTree, OpenOutput, Spawn, Poll, Kill, Pause, ReadFile, ReadPart, Now}
 
 -- where more bytes follow, a read has as many as its limit
 abbrev pub IsFilled : ℕ → Result FileRead OsFault → Type 0

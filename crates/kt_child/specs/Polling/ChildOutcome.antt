@@ -7,7 +7,7 @@ use Rattle.kt_child.specs.declared.system.polled.Polled.TheVariants.{Running, Ex
 use Rattle.kt_child.specs.declared.system.os_fault.OsFault.{OsFault}
 use Rattle.kt_child.specs.declared.polling.watch.Watch.{Watch}
 use Rattle.kt_child.specs.declared.polling.turn.Turn.TheVariants.{More, Ended}
-use Rattle.kt_child.specs.Polls.{is_killed, turn_of, watch_after}
+use Rattle.kt_child.specs.Polling.Polls.{is_killed, turn_of, watch_after}
 
 -- what one child answered: a poll or a kill
 pub data Heard : Type 0 where

@@ -3,8 +3,8 @@ use Rattle.std.specs.Prelude.{◌≡◌, ℕ, List, ◌++◌, take, drop, map, l
 use Rattle.kt_base.specs.declared.outcome.Outcome.{Outcome}
 use Rattle.kt_child.specs.declared.polling.watched.Watched.{Watched}
 use Rattle.kt_child.specs.declared.polling.open_turn.OpenTurn.{OpenTurn}
-use Rattle.kt_child.specs.Calls.{Call}
-use Rattle.kt_child.specs.Turns.{PolledAll, PolledUntil, WaitedUntil, advanced, advanced_below, after_turns}
+use Rattle.kt_child.specs.System.Calls.{Call}
+use Rattle.kt_child.specs.Polling.Turns.{PolledAll, PolledUntil, WaitedUntil, advanced, advanced_below, after_turns}
 
 -- the members of a turn that were not polled in it yet
 abbrev pub unpolled_of : OpenTurn → List Watched → List Watched

@@ -14,13 +14,13 @@ use Rattle.kt_child.specs.declared.system.file_read.FileRead.{FileRead}
 use Rattle.kt_child.specs.declared.planning.paths.Paths.{Paths}
 use Rattle.kt_child.specs.declared.planning.want.Want.TheVariants as want
 use Rattle.kt_child.specs.declared.planning.spawning.Spawning.{Spawning}
-use Rattle.kt_child.specs.Calls.{Call, Chain, ReadFile, RemoveTree}
-use Rattle.kt_child.specs.ChildPlan.{env_of, paths_of, words_of}
-use Rattle.kt_child.specs.ChildOutcome.{fresh}
-use Rattle.kt_child.specs.JobPlan.{parent_of, program_path}
-use Rattle.kt_child.specs.Starts.{SetUp, furnish_asks}
-use Rattle.kt_child.specs.Turns.{WaitedUntil}
-use Rattle.kt_child.specs.Reads.{IsListWithin, list_of}
+use Rattle.kt_child.specs.System.Calls.{Call, Chain, ReadFile, RemoveTree}
+use Rattle.kt_child.specs.Planning.ChildPlan.{env_of, paths_of, words_of}
+use Rattle.kt_child.specs.Polling.ChildOutcome.{fresh}
+use Rattle.kt_child.specs.Driving.JobPlan.{parent_of, program_path}
+use Rattle.kt_child.specs.Starting.Starts.{SetUp, furnish_asks}
+use Rattle.kt_child.specs.Polling.Turns.{WaitedUntil}
+use Rattle.kt_child.specs.Ending.Reads.{IsListWithin, list_of}
 
 -- what a list is started with, by the directory of the root Kyuafile, its number and its paths
 abbrev pub listing_of : List ℕ → List ℕ → List Variable → ℕ → Paths → Spawning

@@ -8,10 +8,10 @@ use Rattle.kt_sched.specs.declared.ended.Ended.{Ended}
 use Rattle.kt_sched.specs.Trace.{Trace, Leads}
 use Rattle.kt_child.specs.declared.polling.watched.Watched.{Watched}
 use Rattle.kt_child.specs.declared.polling.open_turn.OpenTurn.{OpenTurn}
-use Rattle.kt_child.specs.ChildrenState.{ChildrenState, idle_state}
-use Rattle.kt_child.specs.Calls.{Call}
-use Rattle.kt_child.specs.Turns.{WaitedUntil}
-use Rattle.kt_child.specs.Waits.{WaitedOn, going_on}
+use Rattle.kt_child.specs.Driving.ChildrenState.{ChildrenState, idle_state}
+use Rattle.kt_child.specs.System.Calls.{Call}
+use Rattle.kt_child.specs.Polling.Turns.{WaitedUntil}
+use Rattle.kt_child.specs.Polling.Waits.{WaitedOn, going_on}
 
 -- with no member left of a turn a wait is the plain loop of turns
 abbrev pub PlainLoop : Type 0

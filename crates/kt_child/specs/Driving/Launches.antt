@@ -7,11 +7,11 @@ use Rattle.kt_sched.specs.declared.job.Job.{Job}
 use Rattle.kt_sched.specs.declared.start_answer.StartAnswer.{StartAnswer}
 use Rattle.kt_sched.specs.declared.start_answer.StartAnswer.TheVariants.{Refused as RefusedFor}
 use Rattle.kt_child.specs.declared.planning.case.Case.{Case}
-use Rattle.kt_child.specs.Calls.{Call, Chain}
-use Rattle.kt_child.specs.ChildPlan.{paths_of}
-use Rattle.kt_child.specs.JobPlan.{case_of, cleaning, spawning_of, watched_of}
-use Rattle.kt_child.specs.ChildrenState.{ChildrenState}
-use Rattle.kt_child.specs.Begins.{BegunBody, BegunCleanup, state_after_start}
+use Rattle.kt_child.specs.System.Calls.{Call, Chain}
+use Rattle.kt_child.specs.Planning.ChildPlan.{paths_of}
+use Rattle.kt_child.specs.Driving.JobPlan.{case_of, cleaning, spawning_of, watched_of}
+use Rattle.kt_child.specs.Driving.ChildrenState.{ChildrenState}
+use Rattle.kt_child.specs.Driving.Begins.{BegunBody, BegunCleanup, state_after_start}
 
 -- a body's start takes the next number, whatever its answer; where none is left it is refused
 abbrev pub BodyStarts : {O : Type 0} → (O → Call → O → Type 0) → List ℕ → List ℕ → Job → O → ℕ → ChildrenState → StartAnswer → O → ℕ → ChildrenState → Type 0

@@ -1,0 +1,31 @@
+-- What a driver does as a launcher: its starts, its waits and its lists.
+use Rattle.std.specs.Prelude.{◌≡◌, ℕ, List}
+use Rattle.kt_base.specs.declared.role.Role.{Role}
+use Rattle.kt_base.specs.declared.variable.Variable.{Variable}
+use Rattle.kt_atflist.specs.declared.listing.Listing.{Listing}
+use Rattle.kt_sched.specs.declared.job.Job.{Job}
+use Rattle.kt_sched.specs.declared.start_answer.StartAnswer.{StartAnswer}
+use Rattle.kt_sched.specs.declared.ended.Ended.{Ended}
+use Rattle.kt_child.specs.declared.driving.driver.Driver.{Driver}
+use Rattle.kt_child.specs.System.Calls.{Call, Chain}
+use Rattle.kt_child.specs.Driving.ChildrenState.{Waited}
+use Rattle.kt_child.specs.Driving.Launches.{StartsBy}
+use Rattle.kt_child.specs.Driving.Lists.{ListsBy}
+
+-- a start, over a system whose calls are related so; where programs lie and the root directory stay
+abbrev pub DriverStarts : {O : Type 0} → (O → Call → O → Type 0) → Driver O → Job → Role → StartAnswer → Driver O → Type 0
+DriverStarts leads old job role answer new =
+    StartsBy leads old.source old.root job role old.os old.next old.running answer new.os new.next new.running
+    × (new.source ≡ old.source) × (new.root ≡ old.root)
+
+-- a wait; it takes no number
+abbrev pub DriverWaits : {O : Type 0} → (O → Call → O → Type 0) → Driver O → Ended → Driver O → Type 0
+DriverWaits leads old ended new =
+    ((calls : List Call) × Chain leads old.os calls new.os × Waited old.running calls ended new.running)
+    × (new.source ≡ old.source) × (new.root ≡ old.root) × (new.next ≡ old.next)
+
+-- a list of a program's cases; it leaves the running children
+abbrev pub DriverLists : {O : Type 0} → (O → Call → O → Type 0) → Driver O → List ℕ → List Variable → Listing → Driver O → Type 0
+DriverLists leads old program variables answer new =
+    ListsBy leads old.source old.root program variables old.os old.next answer new.os new.next
+    × (new.running ≡ old.running) × (new.source ≡ old.source) × (new.root ≡ old.root)

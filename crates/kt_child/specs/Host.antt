@@ -1,0 +1,5 @@
+-- The system of the host.
+pub mod HostAnswers
+pub mod HostCommands
+pub mod HostStands
+pub mod Removals

@@ -1,0 +1,7 @@
+-- How running children are watched, in turns of polls.
+pub mod ChildOutcome
+pub mod Lives
+pub mod Polls
+pub mod SeveralLives
+pub mod Turns
+pub mod Waits

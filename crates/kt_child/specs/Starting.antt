@@ -1,0 +1,2 @@
+-- How a child is started, and why a start is refused.
+pub mod Starts
