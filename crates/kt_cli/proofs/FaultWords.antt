@@ -1,6 +1,8 @@
 -- The words of faults are their own characters.
 use Rattle.std.proofs.Common.{◌≡◌, ℕ, refl}
 use Rattle.std.specs.Str.{chars}
+use lib.Utf8.{encode}
+use Rattle.kt_base.specs.Utf8.{utf8}
 use Rattle.kt_config.specs.declared.fault.ConfigFault.{ConfigFault}
 use Rattle.kt_config.specs.declared.fault.ConfigFault.TheVariants as config
 use Rattle.kt_script.specs.declared.fault.ScriptFault.{ScriptFault}
@@ -20,24 +22,6 @@ chars-script (script.BadToken line) = refl
 chars-script (script.NotLiteral line) = refl
 chars-script (script.Unclosed line) = refl
 chars-script script.TooLong = refl
-
-pub chars-cause : (c : SuiteCause) → chars (fixed_text c) ≡ fixed_text c
-unfolding chars
-chars-cause (cause.NoMemory refusal) = refl
-chars-cause cause.NoSyntax = refl
-chars-cause (cause.WrongSyntax n) = refl
-chars-cause cause.UnknownCall = refl
-chars-cause cause.UnknownProperty = refl
-chars-cause cause.BadValue = refl
-chars-cause cause.NoSuite = refl
-chars-cause cause.PathHasDirectory = refl
-chars-cause cause.BadInclude = refl
-chars-cause cause.IncludeLoop = refl
-chars-cause cause.TooDeep = refl
-chars-cause cause.MissingProgram = refl
-chars-cause cause.Unreadable = refl
-chars-cause cause.TooMany = refl
-chars-cause (cause.Script fault) = chars-script fault
 
 -- a cause without a number has these words
 pub fixed-cause : (c : SuiteCause) → ((n : ℕ) → c ≡ cause.WrongSyntax n → ⊥) → fixed_text c ≡ cause_text c
@@ -74,3 +58,40 @@ chars-filter filter.Absolute = refl
 chars-filter filter.EmptyCase = refl
 chars-filter (filter.Repeated position) = refl
 chars-filter (filter.NotDisjoint position) = refl
+
+-- the words are ASCII
+pub utf8-script : (fault : ScriptFault) → utf8 (script_text fault) ≡ script_text fault
+unfolding encode
+utf8-script (script.NoMemory refusal) = refl
+utf8-script script.NotUtf8 = refl
+utf8-script (script.BadToken line) = refl
+utf8-script (script.NotLiteral line) = refl
+utf8-script (script.Unclosed line) = refl
+utf8-script script.TooLong = refl
+
+pub utf8-cause : (c : SuiteCause) → utf8 (fixed_text c) ≡ fixed_text c
+unfolding encode
+utf8-cause (cause.NoMemory refusal) = refl
+utf8-cause cause.NoSyntax = refl
+utf8-cause (cause.WrongSyntax n) = refl
+utf8-cause cause.UnknownCall = refl
+utf8-cause cause.UnknownProperty = refl
+utf8-cause cause.BadValue = refl
+utf8-cause cause.NoSuite = refl
+utf8-cause cause.PathHasDirectory = refl
+utf8-cause cause.BadInclude = refl
+utf8-cause cause.IncludeLoop = refl
+utf8-cause cause.TooDeep = refl
+utf8-cause cause.MissingProgram = refl
+utf8-cause cause.Unreadable = refl
+utf8-cause cause.TooMany = refl
+utf8-cause (cause.Script fault) = utf8-script fault
+
+pub utf8-config : (fault : ConfigFault) → utf8 (config_text fault) ≡ config_text fault
+unfolding encode
+utf8-config (config.NoMemory refusal) = refl
+utf8-config config.UnknownVariable = refl
+utf8-config config.BadValue = refl
+utf8-config (config.Script fault) = utf8-script fault
+utf8-config config.NoSyntax = refl
+utf8-config config.NotAssignment = refl

@@ -14,7 +14,6 @@ pub mod Numbered
 pub mod PathStarts
 pub mod Performances
 pub mod PlanRuns
-pub mod Printing
 pub mod Refusing
 pub mod Saying
 pub mod Sequencing
@@ -22,4 +21,5 @@ pub mod ShownRuns
 pub mod SoundRuns
 pub mod StoreChains
 pub mod Testings
+pub mod Utf8Sums
 pub mod Warned

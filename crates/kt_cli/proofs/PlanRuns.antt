@@ -1,6 +1,7 @@
 -- What was done with a plan.
 use Rattle.std.specs.Prelude.{Option, Result, Ok, Err, Bool, false, if◌then◌else◌}
 use Rattle.std.proofs.Common.{◌≡◌, ℕ, List, [], ◌∷◌, ◌++◌, length, refl, ap, ◌∙◌, subst, append-nil, inl, inr}
+use Rattle.kt_base.specs.Shows.{Shows}
 use Rattle.kt_base.specs.Utf8.{utf8}
 use Rattle.kt_base.specs.declared.entry.Entry.{Entry}
 use Rattle.kt_base.specs.declared.no_memory.NoMemory.{NoMemory as OutOfMemory}
@@ -43,7 +44,7 @@ module _ {L R : Type 0} (starts : L → Job → Role → StartAnswer → L → T
     (plan : List Job) (n : ℕ) (words : List (List ℕ)) (unmatched : List ℕ) (moment : ℕ) (old : L) (store : R) (was : Option (List ℕ)) where
   -- no run was begun
   pub ran_unbegun : (mid : R) (total : ℕ) (why : StoreFault) (now : Option (List ℕ)) (f : Bool) (exit : ℕ) → total ≡ length plan → Stored Answers Stands Sound Leaves (Began total moment (Err why) ∷ []) store mid
-      → Says was false now f (utf8 (refusal_line why)) → exit ≡ (if f then 2 else 2) → RanPlan starts waits Answers Stands Sound Leaves plan n words unmatched moment old old store mid was now exit
+      → Shows was now f (utf8 (refusal_line why)) → exit ≡ (if f then 2 else 2) → RanPlan starts waits Answers Stands Sound Leaves plan n words unmatched moment old old store mid was now exit
   ran_unbegun mid total why now f exit t calls s e = record {
     trace = NoEvent;
     leads = refl;
@@ -52,7 +53,7 @@ module _ {L R : Type 0} (starts : L → Job → Role → StartAnswer → L → T
     bytes = utf8 (refusal_line why);
     due = 2;
     is = inr (not_begun why refl);
-    printed = record { failed = f; shows = s.more; exits = e };
+    printed = record { failed = f; shows = s; exits = e };
   }
 
   module _ (new : L) (begun after : R) (number total : ℕ) (mid now : Option (List ℕ)) (f g : Bool) (exit : ℕ) (t : total ≡ length plan) (begins : Stored Answers Stands Sound Leaves (Began total moment (Ok number) ∷ []) store begun) where

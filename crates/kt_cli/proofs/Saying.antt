@@ -1,18 +1,18 @@
 -- A page goes on.
-use Rattle.std.specs.Prelude.{Option, flat_map}
+use Rattle.std.specs.Prelude.{Option, Result, Ok, Err, is_err, flat_map}
+use Rattle.std.specs.Result.{IsErrAnd}
 use Rattle.std.proofs.Common.{◌≡◌, ℕ, Bool, true, false, List, [], ◌∷◌, ◌++◌, length, refl, sym, ap, ◌∙◌, subst, append_assoc, append-nil, arith}
 use Rattle.kt_base.specs.Shows.{Shows}
 use Rattle.kt_base.specs.Utf8.{utf8}
-use Rattle.kt_base.proofs.Showing.{shows_both, shows_more, appends_none, utf8-append}
+use Rattle.kt_base.proofs.Showing.{shows_as, shows_both, shows_more, shows_none, shows_of, utf8-append}
 use Rattle.kt_plan.specs.declared.candidate.Candidate.{Candidate}
 use Rattle.kt_cli.specs.Pages.{Says, SaysMore}
 use Rattle.kt_cli.specs.CaseLines.{case_line}
 
 -- more is said on a page
 says_more : (a b d : Option (List ℕ)) (f g : Bool) (xs ys : List ℕ) → Shows a b f xs → SaysMore b f d g ys → Shows a d g (xs ++ ys)
-says_more a b d false g xs ys p q = shows_both a b d g xs ys p q
-says_more a b d true g xs ys p q =
-    subst (λ (h : Bool). Shows a d h (xs ++ ys)) (sym q.1) (subst (λ (o : Option (List ℕ)). Shows a o true (xs ++ ys)) (sym q.0) (shows_more a b xs ys p))
+says_more a b d false g xs ys p q = shows_both p q
+says_more a b d true g xs ys p q = shows_of (sym q.1) (subst (λ (o : Option (List ℕ)). Shows a o true (xs ++ ys)) (sym q.0) (shows_more ys p))
 
 says_bytes : (a b d : Option (List ℕ)) (f g h : Bool) (xs ys : List ℕ) → SaysMore a f b g xs → SaysMore b g d h ys → SaysMore a f d h (xs ++ ys)
 says_bytes a b d false g h xs ys p q = says_more a b d g h xs ys p q
@@ -20,45 +20,53 @@ says_bytes a b d true g h xs ys p q =
     let r : SaysMore b true d h ys = subst (λ (x : Bool). SaysMore b x d h ys) p.1 q in
     (r.0 ∙ p.0, r.1)
 
--- a text is said, and then another
-pub says_both : (a b d : Option (List ℕ)) (f g h : Bool) (xs ys : List ℕ) → Says a f b g (utf8 xs) → Says b g d h (utf8 ys) → Says a f d h (utf8 (xs ++ ys))
-says_both a b d f g h xs ys p q = record {
-  more = subst (λ (zs : List ℕ). SaysMore a f d h zs) (sym (utf8-append xs ys)) (says_bytes a b d f g h (utf8 xs) (utf8 ys) p.more q.more);
-}
-
 pub tells_nothing : (a : Option (List ℕ)) (f : Bool) → Says a f a f []
-tells_nothing a false = record { more = appends_none a }
+tells_nothing a false = record { more = shows_none }
 tells_nothing a true = record { more = (refl, refl) }
 
 -- bytes are said, and then others
 pub tells_both : (a b d : Option (List ℕ)) (f g h : Bool) (xs ys : List ℕ) → Says a f b g xs → Says b g d h ys → Says a f d h (xs ++ ys)
 tells_both a b d f g h xs ys p q = record { more = says_bytes a b d f g h xs ys p.more q.more }
 
--- what was said, and what is still to be listed
-pub record Lists (a b : Option (List ℕ)) (failed : Bool) (cases rest : List Candidate) : Type 0 where
-  pub said : List ℕ
-  pub split : flat_map case_line cases ≡ said ++ flat_map case_line rest
-  pub shows : Shows a b failed (utf8 said)
+-- a writer that had failed is given nothing
+pub says_none : {T E : Type 0} (written other : Result T E) (Q : E → Type 0) (y : E) (a : Option (List ℕ)) (xs : List ℕ) → written ≡ Err y → IsErrAnd other Q → Says a (is_err written) a (is_err other) xs
+says_none written (Ok x) Q y a xs e h = absurd h
+says_none written (Err z) Q y a xs e h = subst (λ (f : Bool). Says a f a true xs) (sym (ap is_err e)) (record { more = (refl, refl) })
 
-pub lists_first : (a : Option (List ℕ)) (cases : List Candidate) → Lists a a false cases cases
-lists_first a cases = record { said = []; split = refl; shows = appends_none a }
+-- a writer that had not failed is given a text
+pub says_first : {T E : Type 0} (written : Result T E) (x : T) (a b : Option (List ℕ)) (f : Bool) (xs : List ℕ) → written ≡ Ok x → Shows a b f xs → Says a (is_err written) b f xs
+says_first written x a b f xs e p = subst (λ (g : Bool). Says a g b f xs) (sym (ap is_err e)) (record { more = p })
 
-pub lists_more : (a b d : Option (List ℕ)) (f g : Bool) (cases rest later : List Candidate) (case : Candidate) → rest ≡ case ∷ later → Lists a b f cases rest → Says b f d g (utf8 (case_line case)) → Lists a d g cases later
-lists_more a b d f g cases rest later case e l p = record {
-  said = l.said ++ case_line case;
-  split = l.split ∙ ap (λ (xs : List Candidate). l.said ++ flat_map case_line xs) e ∙ sym (append_assoc l.said (case_line case) (flat_map case_line later));
-  shows = (says_both a b d false f g l.said (case_line case) (record { more = l.shows }) p).more;
-}
+-- a text, and then another, in UTF-8
+pub utf8_both : {a b d : Option (List ℕ)} {failed : Bool} (xs ys : List ℕ) → Shows a b false (utf8 xs) → Shows b d failed (utf8 ys) → Shows a d failed (utf8 (xs ++ ys))
+utf8_both xs ys p q = shows_as (sym (utf8-append xs ys)) (shows_both p q)
+
+pub utf8_more : {a b : Option (List ℕ)} (xs ys : List ℕ) → Shows a b true (utf8 xs) → Shows a b true (utf8 (xs ++ ys))
+utf8_more xs ys p = shows_as (sym (utf8-append xs ys)) (shows_more (utf8 ys) p)
+
+-- what was written, and what is still to be listed
+pub record Lists (a b : Option (List ℕ)) (cases rest : List Candidate) : Type 0 where
+  pub front : List ℕ
+  pub split : flat_map case_line cases ≡ front ++ flat_map case_line rest
+  pub shows : Shows a b false (utf8 front)
+
+pub lists_first : (a : Option (List ℕ)) (cases : List Candidate) → Lists a a cases cases
+lists_first a cases = record { front = []; split = refl; shows = shows_none }
+
+lists_next : (front : List ℕ) (cases rest later : List Candidate) (case : Candidate) → rest ≡ case ∷ later → flat_map case_line cases ≡ front ++ flat_map case_line rest → flat_map case_line cases ≡ (front ++ case_line case) ++ flat_map case_line later
+lists_next front cases rest later case e s = s ∙ ap (λ (xs : List Candidate). front ++ flat_map case_line xs) e ∙ sym (append_assoc front (case_line case) (flat_map case_line later))
+
+pub lists_more : (a b d : Option (List ℕ)) (cases rest later : List Candidate) (case : Candidate) → rest ≡ case ∷ later → Lists a b cases rest → Shows b d false (utf8 (case_line case)) → Lists a d cases later
+lists_more a b d cases rest later case e l p = record { front = l.front ++ case_line case; split = lists_next l.front cases rest later case e l.split; shows = utf8_both l.front (case_line case) l.shows p }
+
+pub lists_cut : (a b d : Option (List ℕ)) (cases rest later : List Candidate) (case : Candidate) → rest ≡ case ∷ later → Lists a b cases rest → Shows b d true (utf8 (case_line case)) → Shows a d true (utf8 (flat_map case_line cases))
+lists_cut a b d cases rest later case e l p =
+    shows_as (ap utf8 (sym (lists_next l.front cases rest later case e l.split))) (utf8_more (l.front ++ case_line case) (flat_map case_line later) (utf8_both l.front (case_line case) l.shows p))
 
 -- a list of no length is empty
 pub nothing : {X : Type 0} (xs : List X) → length xs ≡ 0 → xs ≡ []
 nothing [] e = refl
 nothing (x ∷ xs) e = absurd (omega (arith, e))
 
-pub lists_all : (a b : Option (List ℕ)) (f : Bool) (cases rest : List Candidate) → length rest ≡ 0 → Lists a b f cases rest → Shows a b f (utf8 (flat_map case_line cases))
-lists_all a b f cases rest e l =
-    subst (λ (xs : List ℕ). Shows a b f (utf8 xs)) (sym (l.split ∙ ap (λ (xs : List Candidate). l.said ++ flat_map case_line xs) (nothing rest e) ∙ append-nil l.said)) l.shows
-
--- the same bytes were said
-pub says_same : (a b : Option (List ℕ)) (f g : Bool) (xs ys : List ℕ) → xs ≡ ys → Says a f b g xs → Says a f b g ys
-says_same a b f g xs ys e p = subst (λ (zs : List ℕ). Says a f b g zs) e p
+pub lists_all : (a b : Option (List ℕ)) (cases rest : List Candidate) → length rest ≡ 0 → Lists a b cases rest → Shows a b false (utf8 (flat_map case_line cases))
+lists_all a b cases rest e l = shows_as (ap utf8 (sym (l.split ∙ ap (λ (xs : List Candidate). l.front ++ flat_map case_line xs) (nothing rest e) ∙ append-nil l.front))) l.shows

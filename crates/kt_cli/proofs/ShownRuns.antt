@@ -16,7 +16,6 @@ use Rattle.kt_store.specs.declared.store_fault.StoreFault.{StoreFault}
 use Rattle.kt_cli.specs.declared.not_shown.NotShown.{NotShown}
 use Rattle.kt_cli.specs.declared.not_shown.NotShown.TheVariants.{Refused}
 use Rattle.kt_cli.specs.FaultLines.{memory_line}
-use Rattle.kt_cli.specs.Pages.{Says}
 use Rattle.kt_cli.specs.Reports.{chosen, run_of, Reported, told, no_run, ReportedJunit, told as told_junit, no_run as no_junit, Unread, no_heads as unread_heads, no_entries as unread_entries, JunitCut, cut, JunitOrUnread, DidReport}
 use Rattle.kt_cli.specs.Shown.{IsMissing, not_shown_line, FindsRun, read, missing, no_heads, no_entries, ReadsRun}
 use Rattle.kt_cli.specs.Stores.{Stored}
@@ -60,8 +59,8 @@ module _ {R : Type 0} (Answers : R → StoreCall → R → Type 0) (Stands : R �
   junit_told : (calls : List StoreCall) (run : Run) → FindsRun number calls (Ok run) → ReportedJunit number calls (junit_bytes run) 0
   junit_told calls run (read heads head entries e) = told_junit heads head entries e
 
-  junit_cut : (calls : List StoreCall) (run : Run) (front rest : List ℕ) → FindsRun number calls (Ok run) → junit_bytes run ≡ front ++ rest → JunitCut number calls (front ++ utf8 memory_line) 2
-  junit_cut calls run front rest (read heads head entries e) s = cut heads head entries front rest e s
+  junit_cut : (calls : List StoreCall) (run : Run) (front rest : List ℕ) (next : ℕ) → FindsRun number calls (Ok run) → junit_bytes run ≡ front ++ next ∷ rest → JunitCut number calls (front ++ utf8 memory_line) 2
+  junit_cut calls run front rest next (read heads head entries e) s = cut heads head entries front rest next e s
 
   not_told : (calls : List StoreCall) (kinds : List Kind) (verbose : Bool) (why : NotShown) → FindsRun number calls (Err why) → Reported number kinds verbose calls (utf8 (not_shown_line why)) 2 ⊎ Unread number calls (utf8 (not_shown_line why)) 2
   not_told calls kinds verbose why (missing heads other e m) = inl (subst (λ (xs : List ℕ). Reported number kinds verbose (Heads (Ok heads) ∷ []) (utf8 xs) 2) m (no_run heads e))
@@ -119,13 +118,15 @@ module _ {R : Type 0} (Answers : R → StoreCall → R → Type 0) (Stands : R �
     }
 
     -- memory ran out in the middle
-    pub did_cut : (run : Run) (mid : Option (List ℕ)) (f : Bool) → ReadsRun Answers Stands Sound Leaves number old new (Ok run) → Shows was mid true (junit_bytes run) → Says mid false now f (utf8 memory_line) → exit ≡ (if f then 2 else 2)
+    pub did_cut : (run : Run) (mid : Option (List ℕ)) (f : Bool) → ReadsRun Answers Stands Sound Leaves number old new (Ok run) → Shows was mid true (junit_bytes run) → Shows mid now f (utf8 memory_line) → exit ≡ (if f then 2 else 2)
         → DidReport Answers Stands Sound Leaves old new was now exit (ReportedJunit number) (JunitOrUnread number)
-    did_cut run mid f r p s e = record {
-      calls = r.calls;
-      stored = r.stored;
-      bytes = p.0 ++ utf8 memory_line;
-      due = 2;
-      is = inr (inr (junit_cut r.calls run p.0 p.1 r.finds p.2));
-      printed = record { failed = f; shows = shows_both was mid now f p.0 (utf8 memory_line) p.3 s.more; exits = e };
-    }
+    did_cut run mid f r p s e =
+        let h = p.holds in
+        record {
+          calls = r.calls;
+          stored = r.stored;
+          bytes = h.0 ++ utf8 memory_line;
+          due = 2;
+          is = inr (inr (junit_cut r.calls run h.0 h.1 h.2 r.finds h.3));
+          printed = record { failed = f; shows = shows_both {xs = h.0} (record { holds = h.4 }) s; exits = e };
+        }

@@ -178,7 +178,7 @@ module _ (number : Option ℕ) (runs : List Run) (h : AreNumbered 1 runs) where
   junit_coming calls bytes exit (no_junit heads e) a = missing_coming heads e a
 
   junit_cut_coming : (calls : List StoreCall) (bytes : List ℕ) (exit : ℕ) → JunitCut number calls bytes exit → Agree runs calls → Coming number runs calls
-  junit_cut_coming calls bytes exit (cut_junit heads head entries front rest e s) a = shown_coming heads head entries e a
+  junit_cut_coming calls bytes exit (cut_junit heads head entries front rest next e s) a = shown_coming heads head entries e a
 
   junit_or_unread : (calls : List StoreCall) (bytes : List ℕ) (exit : ℕ) → JunitOrUnread number calls bytes exit → Agree runs calls → Coming number runs calls
   junit_or_unread calls bytes exit (inl u) a = unread_coming calls bytes exit u a

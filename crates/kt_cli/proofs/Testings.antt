@@ -50,29 +50,20 @@ pub debugged_as : {L : Type 0} (starts : L → Job → Role → StartAnswer → 
     → Debugged starts waits plan old new was now failed answer → Debugged starts waits plan old new was now failed other
 debugged_as starts waits plan old new was now failed answer other e d = subst (λ (x : Result Totals RunFault). Debugged starts waits plan old new was now failed x) e d
 
-printed_pages : (cases : List Candidate) (words : List (List ℕ)) (unmatched : List ℕ) (was mid now : Option (List ℕ)) (f g : Bool) (exit due : ℕ)
-    → Shows was mid f (utf8 (flat_map case_line cases)) → Says mid f now g (utf8 (warnings words unmatched)) → due ≡ (if none_idle unmatched then 0 else 1) → exit ≡ (if g then 2 else due)
-    → Printed was now exit (utf8 (flat_map case_line cases) ++ utf8 (warnings words unmatched)) (if none_idle unmatched then 0 else 1)
-printed_pages cases words unmatched was mid now f g exit due s w d e = record {
-  failed = g;
-  shows = (tells_both was mid now false f g (utf8 (flat_map case_line cases)) (utf8 (warnings words unmatched)) (record { more = s }) w).more;
-  exits = e ∙ ap (λ (x : ℕ). if g then 2 else x) d;
-}
-
--- a listing was told, and its warnings
-pub printed_listing : (options : CaseOptions) (picked : Picked) (cases : List Candidate) (words : List (List ℕ)) (unmatched : List ℕ) (was mid now : Option (List ℕ)) (f g : Bool) (exit due : ℕ)
+-- a listing was printed, and its warnings
+pub printed_listing : (options : CaseOptions) (picked : Picked) (cases : List Candidate) (words : List (List ℕ)) (unmatched : List ℕ) (was now : Option (List ℕ)) (f : Bool) (exit due : ℕ)
     → cases ≡ picked.chosen.cases → words ≡ options.filters → unmatched ≡ picked.chosen.unmatched
-    → Shows was mid f (utf8 (flat_map case_line cases)) → Says mid f now g (utf8 (warnings words unmatched)) → due ≡ (if none_idle unmatched then 0 else 1) → exit ≡ (if g then 2 else due)
+    → Shows was now f (utf8 (flat_map case_line cases) ++ utf8 (warnings words unmatched)) → due ≡ (if none_idle unmatched then 0 else 1) → exit ≡ (if f then 2 else due)
     → Printed was now exit (listing options.filters picked.chosen) (listing_exit picked.chosen)
-printed_listing options picked cases words unmatched was mid now f g exit due a b d s w k e =
+printed_listing options picked cases words unmatched was now f exit due a b d s k e =
     subst (λ (xs : List Candidate). Printed was now exit (utf8 (flat_map case_line xs) ++ utf8 (warnings options.filters picked.chosen.unmatched)) (listing_exit picked.chosen)) a
     (subst (λ (xs : List (List ℕ)). Printed was now exit (utf8 (flat_map case_line cases) ++ utf8 (warnings xs picked.chosen.unmatched)) (listing_exit picked.chosen)) b
     (subst (λ (xs : List ℕ). Printed was now exit (utf8 (flat_map case_line cases) ++ utf8 (warnings words xs)) (if none_idle xs then 0 else 1)) d
-    (printed_pages cases words unmatched was mid now f g exit due s w k e)))
+    (record { failed = f; shows = s; exits = e ∙ ap (λ (x : ℕ). if f then 2 else x) k })))
 
--- want of memory was told
-pub printed_memory : (was now : Option (List ℕ)) (f : Bool) (exit : ℕ) → Says was false now f (utf8 memory_line) → exit ≡ (if f then 2 else 2) → Printed was now exit (utf8 memory_line) 2
-printed_memory was now f exit s e = record { failed = f; shows = s.more; exits = e }
+-- that memory ran out was printed
+pub printed_memory : (was now : Option (List ℕ)) (f : Bool) (exit : ℕ) → Shows was now f (utf8 memory_line) → exit ≡ (if f then 2 else 2) → Printed was now exit (utf8 memory_line) 2
+printed_memory was now f exit s e = record { failed = f; shows = s; exits = e }
 
 -- a plan is no longer than its cases
 pub plan_few : (cases given : List Candidate) (plan : List Job) → given ≡ cases → length plan ≡ length given → length cases ≤ most_items → length plan ≤ most_items
@@ -143,13 +134,13 @@ module _ {W : Type 0} (asks : W → Asked → W → Type 0) (tells : W → Told 
   -- the same by parts of what was selected
   pub idle_answer : (options : CaseOptions) (old new : W) (was now : Option (List ℕ)) (exit : ℕ) (f : Bool) (picked : Picked) (cases : List Candidate) (words : List (List ℕ)) (unmatched : List ℕ)
       → Answered (leads_by asks tells) old new (λ questions. IsShort {T = Picked} (Ok picked) ⊎ Selects true options questions (Ok picked)) → cases ≡ picked.chosen.cases → cases ≡ []
-      → words ≡ options.filters → unmatched ≡ picked.chosen.unmatched → Says was false now f (utf8 (warnings words unmatched)) → exit ≡ (if f then 2 else 1)
+      → words ≡ options.filters → unmatched ≡ picked.chosen.unmatched → Shows was now f (utf8 (warnings words unmatched)) → exit ≡ (if f then 2 else 1)
       → ToldOnly asks tells starts waits (command.Debug options) old new was now exit
   idle_answer options old new was now exit f picked cases words unmatched a x n b d s e =
       idle_only options old new was now exit picked a (sym x ∙ n)
       (record {
         failed = f;
-        shows = subst (λ (ws : List (List ℕ)). Shows was now f (utf8 (warnings ws picked.chosen.unmatched))) b (subst (λ (us : List ℕ). Shows was now f (utf8 (warnings words us))) d s.more);
+        shows = subst (λ (ws : List (List ℕ)). Shows was now f (utf8 (warnings ws picked.chosen.unmatched))) b (subst (λ (us : List ℕ). Shows was now f (utf8 (warnings words us))) d s);
         exits = e;
       })
 

@@ -4,4 +4,4 @@ use Rattle.kt_plan.specs.declared.candidate.Candidate.{Candidate}
 
 -- the program's path and the case's name
 abbrev pub case_line : Candidate → List ℕ
-case_line candidate = candidate.path ++ (codes ":" ++ (candidate.case.name ++ codes "\n"))
+case_line candidate = candidate.path ++ codes ":" ++ candidate.case.name ++ codes "\n"

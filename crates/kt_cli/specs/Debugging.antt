@@ -18,7 +18,7 @@ use Rattle.kt_cli.specs.Totals.{bad_count}
 
 -- what the body and the cleanup wrote, and the line of the case
 abbrev pub debug_bytes : Entry → List ℕ
-debug_bytes entry = entry.body.out ++ (entry.body.err ++ (entry.cleanup.out ++ (entry.cleanup.err ++ line_bytes entry)))
+debug_bytes entry = entry.body.out ++ entry.body.err ++ entry.cleanup.out ++ entry.cleanup.err ++ line_bytes entry
 
 -- the same of several cases
 abbrev pub all_debug_bytes : List Entry → List ℕ

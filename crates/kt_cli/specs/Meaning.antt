@@ -121,8 +121,8 @@ pub record ToldOnly {W : Type 0} (asks : W → Asked → W → Type 0) (tells : 
   pub is : Means seen c bytes due ⊎ CutShort seen c bytes due
   pub printed : Printed was now exit bytes due
 
--- what `execute` did, by what it saw: what the command means, or how memory or the store cut it short; a failed writer holds a prefix of
--- its bytes. The store's own answers are part of it, and what they did to the runs stands apart: nothing else rests on the store
+-- what `execute` did, by what it saw: what the command means, or how memory or the store cut it short; a failed writer holds a proper
+-- prefix of its bytes. The store's own answers are part of it, and what they did to the runs stands apart: nothing else rests on the store
 pub record Did {W R : Type 0} (asks : W → Asked → W → Type 0) (tells : W → Told → W → Type 0) (starts : W → Job → Role → StartAnswer → W → Type 0) (waits : W → Ended → W → Type 0) (Answers : R → StoreCall → R → Type 0) (Stands : R → List Run → Type 0) (Sound : R → Type 0) (Leaves : R → List (List Run) → Type 0) (c : Command) (old new : W) (store after : R) (was now : Option (List ℕ)) (exit : ℕ) : Type 0 where
   pub seen : Seen
   pub course : Course asks tells starts waits seen old new

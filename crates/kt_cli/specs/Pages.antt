@@ -11,7 +11,7 @@ SaysMore old true new failed bytes = (new ≡ old) × (failed ≡ true)
 pub record Says (old : Option (List ℕ)) (before : Bool) (new : Option (List ℕ)) (failed : Bool) (bytes : List ℕ) : Type 0 where
   pub more : SaysMore old before new failed bytes
 
--- bytes were given to a writer, and the exit: 2 where the writer failed, and then it holds a prefix
+-- bytes were given to a writer, and the exit: 2 if the writer failed, and then it holds a proper prefix
 pub record Printed (old new : Option (List ℕ)) (exit : ℕ) (bytes : List ℕ) (due : ℕ) : Type 0 where
   pub failed : Bool
   pub shows : Shows old new failed bytes

@@ -44,7 +44,7 @@ abbrev pub command_exit : CommandFault → ℕ
 command_exit (command.NoMemory shortage) = failure_exit
 command_exit other = wrong_words_exit
 
--- bytes were given to a writer, which holds a prefix where it failed, and the exit is the same either way
+-- bytes were given to a writer, which holds a proper prefix if it failed, and the exit is the same either way
 pub record Refused (old new : Option (List ℕ)) (exit : ℕ) (bytes : List ℕ) (due : ℕ) : Type 0 where
   pub failed : Bool
   pub shows : Shows old new failed bytes

@@ -57,9 +57,9 @@ pub data Unread (number : Option ℕ) : List StoreCall → List ℕ → ℕ → 
   no_entries : (heads : List RunHead) (head : RunHead) (fault : StoreFault) → chosen number heads ≡ Some head
       → Unread number (Heads (Ok heads) ∷ Read head.number (Err fault) ∷ []) (utf8 (refusal_line fault)) 2
 
--- memory ran out in the middle of the JUnit report of that run
+-- memory ran out in the middle of the JUnit report of that run, of which a proper prefix was written
 pub data JunitCut (number : Option ℕ) : List StoreCall → List ℕ → ℕ → Type 0 where
-  cut : (heads : List RunHead) (head : RunHead) (entries : List Entry) (front rest : List ℕ) → chosen number heads ≡ Some head → junit_bytes (run_of head entries) ≡ front ++ rest
+  cut : (heads : List RunHead) (head : RunHead) (entries : List Entry) (front rest : List ℕ) (next : ℕ) → chosen number heads ≡ Some head → junit_bytes (run_of head entries) ≡ front ++ next ∷ rest
       → JunitCut number (Heads (Ok heads) ∷ Read head.number (Ok entries) ∷ []) (front ++ utf8 memory_line) 2
 
 -- the store refused to be read, or memory ran out in the middle

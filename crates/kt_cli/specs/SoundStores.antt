@@ -61,7 +61,7 @@ pub record IsOutcome (seen : Seen) (runs : List Run) (c : Command) (outcome : Ou
   pub comes : Comes (number_of c) runs seen.calls outcome.runs outcome.beside
 
 -- a command was done: the runs are as its outcome has them, and so is what a crash leaves; its bytes were written, and a failed writer
--- holds a prefix of them
+-- holds a proper prefix of them
 pub record Done {R : Type 0} (Leaves : R → List (List Run) → Type 0) (runs : List Run) (old new : R) (left : List Run) (was now : Option (List ℕ)) (exit : ℕ) (seen : Seen) (c : Command) : Type 0 where
   pub outcome : Outcome
   pub is : IsOutcome seen runs c outcome

@@ -1,39 +1,44 @@
-ghost use Rattle.std.specs.Prelude.{◌≡◌, ◌==◌, ◌≤◌, length, if◌then◌else◌};
+ghost use Rattle.std.specs.Prelude.{◌≡◌, ◌==◌, ◌≤◌, length, if◌then◌else◌, is_err};
 ghost use Rattle.kt_sched.specs.Children.{IsIdle};
 ghost use Rattle.kt_sched.specs.Plan.{IsPlan};
 ghost use Rattle.kt_cli.specs.Debugging.{Debugged};
 ghost use Rattle.kt_cli.specs.Meaning.{ToldOnly};
 ghost use Rattle.kt_words.specs.declared.command.Command.TheVariants as command;
 
+use crate::behind::memory_behind;
 use crate::exit::{Exit, ended};
-use crate::fault_line::say_memory;
+use crate::fault_line::write_memory;
 use crate::printer::Printer;
 use crate::stopping::stopped;
-use crate::warnings::say_warnings;
-use kt_base::Items;
+use crate::warnings::write_warnings;
+use kt_base::{Items, OutputFault};
 use kt_plan::{CaseOptions, World, prepare, select_cases};
 use kt_sched::{Job, Launcher, RunFault, Totals, run_cases};
 use std::alloc::Global;
 use std::io::Write;
 
-/// Runs a plan one case at a time, and tells what each case wrote and its line. Answers how it ended, and whether the writer
-/// failed.
+/// Runs a plan one case at a time, and prints what each case wrote and its line. Returns how it ended, and whether all of
+/// it could be written.
 fn print_cases<L: Launcher, O: Write>(
     alloc: Global,
     plan: Items<Job>,
     launcher: &mut L,
     out: &mut O,
-) -> (Result<Totals, RunFault>, bool)
+) -> (Result<Totals, RunFault>, Result<(), OutputFault>)
     requires plan { IsPlan plan }
     requires idle { IsIdle (L.running launcher.old) (L.pending launcher.old) }
-    ensures debugged { Debugged L.starts L.waits plan launcher.old launcher.new (O.contents out.old) (O.contents out.new) result.1 result.0 }
+    ensures debugged { Debugged L.starts L.waits plan launcher.old launcher.new
+        (O.contents out.old) (O.contents out.new) (is_err result.1) result.0 }
     ensures idle { IsIdle (L.running launcher.new) (L.pending launcher.new) }
 {
-    let mut printer = Printer { out, failed: false };
+    let mut printer = Printer {
+        out,
+        written: Ok(()),
+    };
     let answer = run_cases(alloc, plan, 1, launcher, &mut printer);
     // No effect when it runs: from this use the proof reads what was lent to the printer.
     let _ = &*printer.out;
-    (answer, printer.failed)
+    (answer, printer.written)
 }
 
 /// The status of so many bad cases.
@@ -51,7 +56,8 @@ pub fn debug<W: World, O: Write>(
     out: &mut O,
 ) -> Exit
     requires { IsIdle (W.running world.old) (W.pending world.old) }
-    ensures told { ToldOnly W.asks W.tells W.starts W.waits (command.Debug options.now) world.old world.new (O.contents out.old) (O.contents out.new) result.status }
+    ensures told { ToldOnly W.asks W.tells W.starts W.waits (command.Debug options.now)
+        world.old world.new (O.contents out.old) (O.contents out.new) result.status }
     ensures idle { IsIdle (W.running world.new) (W.pending world.new) }
 {
     let picked = match select_cases(alloc, true, options, world) {
@@ -61,18 +67,18 @@ pub fn debug<W: World, O: Write>(
     let cases = picked.chosen.cases.as_slice();
     let Some((_first, _others)) = cases.split_first() else {
         let unmatched = picked.chosen.unmatched.as_slice();
-        let warned = say_warnings(false, options.filters.as_slice(), unmatched, out);
+        let warned = write_warnings(options.filters.as_slice(), unmatched, out);
         return ended(warned, 1);
     };
     let plan = match prepare(alloc, &picked.settings.config, &cases[..1], world) {
         Ok(plan) => plan,
-        Err(_) => return ended(say_memory(false, out), 2),
+        Err(_) => return ended(write_memory(out), 2),
     };
-    let (answer, failed) = print_cases(alloc, plan, world, out);
+    let (answer, written) = print_cases(alloc, plan, world, out);
     match answer {
-        Ok(totals) => ended(failed, status_of(totals.bad)),
-        Err(RunFault::NoMemory(_refusal)) => ended(say_memory(failed, out), 2),
-        // Telling a case is never refused.
+        Ok(totals) => ended(written, status_of(totals.bad)),
+        Err(RunFault::NoMemory(_refusal)) => ended(memory_behind(written, out), 2),
+        // Printing a case is never refused.
         Err(RunFault::SinkFailed(_fault)) => unreachable!(),
     }
 }

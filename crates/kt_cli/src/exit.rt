@@ -1,17 +1,19 @@
-ghost use Rattle.std.specs.Prelude.{◌≡◌, if◌then◌else◌};
+ghost use Rattle.std.specs.Prelude.{◌≡◌, if◌then◌else◌, is_err};
+
+use kt_base::OutputFault;
 
 /// How a command ends, as kyua(1) has it.
 #[derive(Clone, Copy, Debug, PartialEq, Eq)]
 pub struct Exit {
-    /// 0 where all is well, 1 where a case is bad, 2 where something failed, 3 for a wrong command line.
+    /// 0 if all is well, 1 if a case is bad, 2 if something failed, 3 for a wrong command line.
     pub status: u8,
 }
 
-/// How a command ends that was to end so: with 2 where its writer failed.
-pub fn ended(failed: bool, due: u8) -> Exit
-    ensures { result.status ≡ (if failed then 2 else due) }
+/// The exit of a command: `due`, or 2 if its output could not be written.
+pub fn ended(written: Result<(), OutputFault>, due: u8) -> Exit
+    ensures { result.status ≡ (if is_err written then 2 else due) }
 {
     Exit {
-        status: if failed { 2 } else { due },
+        status: if written.is_err() { 2 } else { due },
     }
 }

@@ -1,11 +1,9 @@
-ghost use Rattle.std.specs.Prelude.{◌≡◌};
+ghost use Rattle.std.specs.Prelude.{◌≡◌, is_err};
 ghost use Rattle.kt_base.specs.Utf8.{utf8};
 ghost use Rattle.kt_base.specs.Shows.{Shows};
-ghost use Rattle.kt_cli.specs.Pages.{Says};
 ghost use Rattle.kt_cli.specs.FaultLines.{script_text, fixed_text, cause_text, memory_line, store_line, put_line, placed_line, fault_line, refusal_line};
-ghost use Rattle.kt_suite.specs.declared.cause.SuiteCause.TheVariants.{WrongSyntax};
 
-use crate::page::{say_number, say_text, say_words};
+use kt_base::{Decimal, OutputFault, emit, emit_all};
 use kt_sched::SinkFault;
 use kt_script::ScriptFault;
 use kt_store::StoreFault;
@@ -49,75 +47,73 @@ fn cause_words(cause: SuiteCause) -> &'static str
     }
 }
 
-fn say_wrong_syntax<O: Write>(failed: bool, n: u64, out: &mut O) -> bool
-    ensures { Says (O.contents out.old) failed (O.contents out.new) result (utf8 (cause_text (WrongSyntax n))) }
-{
-    let begun = say_words(failed, "syntax ", out);
-    let told = say_number(begun, n, out);
-    say_words(told, " not supported", out)
-}
-
-fn say_cause<O: Write>(failed: bool, cause: SuiteCause, out: &mut O) -> bool
-    ensures { Says (O.contents out.old) failed (O.contents out.new) result (utf8 (cause_text cause)) }
+fn write_cause<O: Write>(cause: SuiteCause, out: &mut O) -> Result<(), OutputFault>
+    ensures { Shows (O.contents out.old) (O.contents out.new) (is_err result)
+        (utf8 (cause_text cause)) }
 {
     match cause {
-        SuiteCause::WrongSyntax(n) => say_wrong_syntax(failed, n, out),
-        _ => say_words(failed, cause_words(cause), out),
+        SuiteCause::WrongSyntax(n) => {
+            let number = Decimal::new(n);
+            emit_all(&[b"syntax ", number.as_bytes(), b" not supported"], out)
+        }
+        _ => emit(cause_words(cause).as_bytes(), out),
     }
 }
 
-/// Tells that memory ran out.
-pub fn say_memory<O: Write>(failed: bool, out: &mut O) -> bool
-    ensures { Says (O.contents out.old) failed (O.contents out.new) result (utf8 memory_line) }
+/// Writes that memory ran out.
+pub fn write_memory<O: Write>(out: &mut O) -> Result<(), OutputFault>
+    ensures { Shows (O.contents out.old) (O.contents out.new) (is_err result) (utf8 memory_line) }
 {
-    say_words(failed, "kyua: E: out of memory\n", out)
+    emit(b"kyua: E: out of memory\n", out)
 }
 
-/// Tells that the store refused a call.
-fn say_store<O: Write>(failed: bool, out: &mut O) -> bool
-    ensures { Says (O.contents out.old) failed (O.contents out.new) result (utf8 store_line) }
+/// Writes that the store refused a call.
+fn write_store<O: Write>(out: &mut O) -> Result<(), OutputFault>
+    ensures { Shows (O.contents out.old) (O.contents out.new) (is_err result) (utf8 store_line) }
 {
-    say_words(failed, "kyua: E: results store failed\n", out)
+    emit(b"kyua: E: results store failed\n", out)
 }
 
-/// Tells a put that failed.
-pub fn say_put<O: Write>(failed: bool, fault: SinkFault, out: &mut O) -> bool
-    ensures { Says (O.contents out.old) failed (O.contents out.new) result (utf8 (put_line fault)) }
+/// Writes why a put failed.
+pub fn write_put<O: Write>(fault: SinkFault, out: &mut O) -> Result<(), OutputFault>
+    ensures { Shows (O.contents out.old) (O.contents out.new) (is_err result)
+        (utf8 (put_line fault)) }
 {
     match fault {
-        SinkFault::Memory => say_memory(failed, out),
-        SinkFault::Other => say_store(failed, out),
+        SinkFault::Memory => write_memory(out),
+        SinkFault::Other => write_store(out),
     }
 }
 
-/// Tells a call that the store refused.
-pub fn say_refusal<O: Write>(failed: bool, fault: StoreFault, out: &mut O) -> bool
-    ensures { Says (O.contents out.old) failed (O.contents out.new) result (utf8 (refusal_line fault)) }
+/// Writes why the store refused a call.
+pub fn write_refusal<O: Write>(fault: StoreFault, out: &mut O) -> Result<(), OutputFault>
+    ensures { Shows (O.contents out.old) (O.contents out.new) (is_err result)
+        (utf8 (refusal_line fault)) }
 {
     match fault {
-        StoreFault::NoMemory(_) => say_memory(failed, out),
-        _ => say_store(failed, out),
+        StoreFault::NoMemory(_) => write_memory(out),
+        _ => write_store(out),
     }
 }
 
-fn say_placed<O: Write>(fault: &SuiteFault, out: &mut O) -> bool
-    ensures { Shows (O.contents out.old) (O.contents out.new) result (utf8 (placed_line fault.now)) }
+fn write_placed<O: Write>(fault: &SuiteFault, out: &mut O) -> Result<(), OutputFault>
+    ensures { Shows (O.contents out.old) (O.contents out.new) (is_err result)
+        (utf8 (placed_line fault.now)) }
 {
-    let begun = say_words(false, "kyua: E: ", out);
-    let path = say_text(begun, &fault.path, out);
-    let colon = say_words(path, ":", out);
-    let line = say_number(colon, fault.line as u64, out);
-    let gap = say_words(line, ": ", out);
-    let cause = say_cause(gap, fault.cause, out);
-    say_words(cause, "\n", out)
+    let line = Decimal::new(fault.line as u64);
+    let path = fault.path.as_bytes();
+    emit_all(&[b"kyua: E: ", path, b":", line.as_bytes(), b": "], out)?;
+    write_cause(fault.cause, out)?;
+    emit(b"\n", out)
 }
 
-/// Tells a fault of the tree. Answers whether the writer failed.
-pub fn say_fault<O: Write>(fault: &SuiteFault, out: &mut O) -> bool
-    ensures { Shows (O.contents out.old) (O.contents out.new) result (utf8 (fault_line fault.now)) }
+/// Writes the line of a fault of the tree.
+pub fn write_fault<O: Write>(fault: &SuiteFault, out: &mut O) -> Result<(), OutputFault>
+    ensures { Shows (O.contents out.old) (O.contents out.new) (is_err result)
+        (utf8 (fault_line fault.now)) }
 {
     match fault.cause {
-        SuiteCause::NoMemory(_) => say_memory(false, out),
-        _ => say_placed(fault, out),
+        SuiteCause::NoMemory(_) => write_memory(out),
+        _ => write_placed(fault, out),
     }
 }

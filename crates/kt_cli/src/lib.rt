@@ -1,6 +1,7 @@
 //! The commands of kyua(1), over a world, recorded runs and a writer, and what reads the host's files.
 #![tactic(auto)]
 
+mod behind;
 mod closing;
 mod copies;
 mod debugging;
@@ -16,7 +17,6 @@ mod line_output;
 mod listing;
 mod mem_runs;
 mod not_shown;
-mod page;
 mod performing;
 mod place;
 mod platform;
@@ -26,7 +26,6 @@ mod reporting;
 mod results_file;
 mod runner;
 mod sequence;
-mod sound_stores;
 mod stop_line;
 mod stopping;
 mod surroundings;
@@ -39,7 +38,7 @@ pub use execution::execute;
 pub use exit::Exit;
 pub use host_execution::execute_on_host;
 pub use host_world::{HostWorld, read_start};
-pub use laws::law_of_children;
+pub use laws::{law_of_children, law_of_sound_stores};
 pub use line_output::LineOutput;
 pub use mem_runs::MemRuns;
 pub use performing::{carry_out, perform};
@@ -48,6 +47,5 @@ pub use platform::Platform;
 pub use results_file::prepare_results;
 pub use runner::Runner;
 pub use sequence::execute_all;
-pub use sound_stores::law_of_sound_stores;
 pub use surroundings::Surroundings;
 pub use telling::{tell_command_fault, tell_driver_fault, tell_store_fault};

@@ -1,21 +1,21 @@
 ghost use Rattle.std.specs.Prelude.{◌≡◌};
 ghost use Rattle.kt_cli.specs.Recording.{sink_fault_of};
 
-use crate::page::say_line;
-use kt_base::Entry;
+use crate::behind::line_behind;
+use kt_base::{Entry, OutputFault};
 use kt_sched::{Sink, SinkFault};
 use kt_store::{ResultStore, StoreFault};
 use std::io::Write;
 
-/// Puts entries into a run of a store, and then tells each on a line.
+/// Puts entries into a run of a store, and then writes the line of each.
 #[derive(Drop)]
 pub struct Recorder<'a, R, O> {
     pub results: &'a mut R,
     pub out: &'a mut O,
     /// The number of the run.
     pub number: u64,
-    /// Whether the writer failed: then it is given nothing more, and recording goes on.
-    pub failed: bool,
+    /// An error once a write failed: then nothing more is written, and recording goes on.
+    pub written: Result<(), OutputFault>,
 }
 
 /// What a scheduler is told of a refused put.
@@ -29,20 +29,23 @@ fn sink_fault(fault: StoreFault) -> SinkFault
 }
 
 impl<R: ResultStore, O: Write> Sink for Recorder<'_, R, O> {
-    ghost use Rattle.std.specs.Prelude.{◌≡◌};
+    ghost use Rattle.std.specs.Prelude.{◌≡◌, is_err};
     ghost use Rattle.kt_cli.specs.Recording.{Recorded, Took};
 
     ghost entries = { λ s put. Took R.stands s.number s.results.now put };
 
-    ghost puts = { λ s e r t. (t.results.ghost_name ≡ s.results.ghost_name) × (t.out.ghost_name ≡ s.out.ghost_name)
-        × Recorded R.answers R.stands R.sound R.leaves s.number s.results.now s.failed (O.contents s.out.now) e r t.number t.results.now t.failed (O.contents t.out.now) };
+    ghost puts = { λ s e r t. (t.results.ghost_name ≡ s.results.ghost_name)
+        × (t.out.ghost_name ≡ s.out.ghost_name)
+        × Recorded R.answers R.stands R.sound R.leaves
+        s.number s.results.now (is_err s.written) (O.contents s.out.now) e r
+        t.number t.results.now (is_err t.written) (O.contents t.out.now) };
 
     fn put(&mut self, entry: Entry) -> Result<(), SinkFault> {
-        // The entry is recorded before its line is told.
+        // The entry is recorded before its line is written.
         if let Err(fault) = self.results.put(self.number, &entry) {
             return Err(sink_fault(fault));
         }
-        self.failed = say_line(self.failed, &entry, self.out);
+        self.written = line_behind(self.written, &entry, self.out);
         Ok(())
     }
 }

@@ -1,14 +1,13 @@
-ghost use Rattle.std.specs.Prelude.{◌≡◌};
+ghost use Rattle.std.specs.Prelude.{◌≡◌, is_err};
 ghost use Rattle.kt_base.specs.Utf8.{utf8};
 ghost use Rattle.kt_base.specs.Shows.{Shows};
 ghost use Rattle.kt_cli.specs.Reports.{chosen, Reported, ReportedJunit, Unread, JunitOrUnread, DidReport};
 ghost use Rattle.kt_cli.specs.Shown.{IsMissing, ReadsRun, not_shown_line};
 
 use crate::exit::{Exit, ended};
-use crate::fault_line::{say_memory, say_refusal};
+use crate::fault_line::{write_memory, write_refusal};
 use crate::not_shown::NotShown;
-use crate::page::{say_number, say_words};
-use kt_base::{Items, Kind, Run};
+use kt_base::{Decimal, Items, Kind, OutputFault, Run, emit, emit_all};
 use kt_report::{ReportFault, junit, text};
 use kt_store::{ResultStore, RunHead};
 use std::alloc::Global;
@@ -61,32 +60,27 @@ fn read_run<R: ResultStore>(number: Option<u64>, results: &mut R) -> Result<Run,
     }
 }
 
-fn say_no_runs<O: Write>(out: &mut O) -> bool
-    ensures { Shows (O.contents out.old) (O.contents out.new) result (utf8 (not_shown_line NotShown.NoRuns)) }
+fn write_no_run<O: Write>(number: u64, out: &mut O) -> Result<(), OutputFault>
+    ensures { Shows (O.contents out.old) (O.contents out.new) (is_err result)
+        (utf8 (not_shown_line (NotShown.NoRun number))) }
 {
-    say_words(false, "kyua: E: no runs\n", out)
+    let digits = Decimal::new(number);
+    emit_all(&[b"kyua: E: no run ", digits.as_bytes(), b"\n"], out)
 }
 
-fn say_no_run<O: Write>(number: u64, out: &mut O) -> bool
-    ensures { Shows (O.contents out.old) (O.contents out.new) result (utf8 (not_shown_line (NotShown.NoRun number))) }
-{
-    let begun = say_words(false, "kyua: E: no run ", out);
-    let told = say_number(begun, number, out);
-    say_words(told, "\n", out)
-}
-
-/// Tells why no run is shown. Answers whether the writer failed.
-fn say_not_shown<O: Write>(why: NotShown, out: &mut O) -> bool
-    ensures { Shows (O.contents out.old) (O.contents out.new) result (utf8 (not_shown_line why)) }
+/// Writes why no run is shown.
+fn write_not_shown<O: Write>(why: NotShown, out: &mut O) -> Result<(), OutputFault>
+    ensures { Shows (O.contents out.old) (O.contents out.new) (is_err result)
+        (utf8 (not_shown_line why)) }
 {
     match why {
-        NotShown::NoRuns => say_no_runs(out),
-        NotShown::NoRun(number) => say_no_run(number, out),
-        NotShown::Refused(fault) => say_refusal(false, fault, out),
+        NotShown::NoRuns => emit(b"kyua: E: no runs\n", out),
+        NotShown::NoRun(number) => write_no_run(number, out),
+        NotShown::Refused(fault) => write_refusal(fault, out),
     }
 }
 
-/// The command `report`. `verbose` tells that what a case declared stands beneath its line.
+/// The command `report`. If `verbose` is set, what a case declared stands beneath its line.
 pub fn report<R: ResultStore, O: Write>(
     number: Option<u64>,
     kinds: &[Kind],
@@ -94,14 +88,13 @@ pub fn report<R: ResultStore, O: Write>(
     results: &mut R,
     out: &mut O,
 ) -> Exit
-    ensures { DidReport R.answers R.stands R.sound R.leaves results.old results.new (O.contents out.old) (O.contents out.new) result.status (Reported number kinds.now verbose) (Unread number) }
+    ensures { DidReport R.answers R.stands R.sound R.leaves results.old results.new
+        (O.contents out.old) (O.contents out.new) result.status
+        (Reported number kinds.now verbose) (Unread number) }
 {
     match read_run(number, results) {
-        Ok(run) => match text(&run, kinds, verbose, out) {
-            Ok(()) => ended(false, 0),
-            Err(_) => ended(true, 0),
-        },
-        Err(why) => ended(say_not_shown(why, out), 2),
+        Ok(run) => ended(text(&run, kinds, verbose, out), 0),
+        Err(why) => ended(write_not_shown(why, out), 2),
     }
 }
 
@@ -112,15 +105,17 @@ pub fn report_junit<R: ResultStore, O: Write>(
     results: &mut R,
     out: &mut O,
 ) -> Exit
-    ensures { DidReport R.answers R.stands R.sound R.leaves results.old results.new (O.contents out.old) (O.contents out.new) result.status (ReportedJunit number) (JunitOrUnread number) }
+    ensures { DidReport R.answers R.stands R.sound R.leaves results.old results.new
+        (O.contents out.old) (O.contents out.new) result.status
+        (ReportedJunit number) (JunitOrUnread number) }
 {
     let run = match read_run(number, results) {
         Ok(run) => run,
-        Err(why) => return ended(say_not_shown(why, out), 2),
+        Err(why) => return ended(write_not_shown(why, out), 2),
     };
     match junit(alloc, &run, out) {
-        Ok(()) => ended(false, 0),
-        Err(ReportFault::Output) => ended(true, 0),
-        Err(ReportFault::NoMemory(_)) => ended(say_memory(false, out), 2),
+        Ok(()) => Exit { status: 0 },
+        Err(ReportFault::Output) => Exit { status: 2 },
+        Err(ReportFault::NoMemory(_)) => ended(write_memory(out), 2),
     }
 }

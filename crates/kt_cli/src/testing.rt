@@ -1,4 +1,5 @@
-ghost use Rattle.std.specs.Prelude.{◌≡◌, ◌≤◌, ◌++◌, length};
+ghost use Rattle.std.specs.Prelude.{◌≡◌, ◌≤◌, length, is_err};
+ghost use Rattle.kt_base.specs.Shows.{Shows};
 ghost use Rattle.kt_sched.specs.Children.{IsIdle};
 ghost use Rattle.kt_sched.specs.Moments.{IsMoment};
 ghost use Rattle.kt_sched.specs.Plan.{IsPlan, IsWidth};
@@ -9,20 +10,22 @@ ghost use Rattle.kt_cli.specs.Recordings.{Records};
 ghost use Rattle.kt_cli.specs.Testing.{RanPlan, ending, exit_of};
 ghost use Rattle.kt_words.specs.declared.command.Command.TheVariants as command;
 
+use crate::behind::{memory_behind, put_behind, refusal_behind};
 use crate::exit::{Exit, ended};
-use crate::fault_line::{say_memory, say_put, say_refusal};
+use crate::fault_line::{write_memory, write_refusal};
 use crate::recorder::Recorder;
 use crate::stopping::stopped;
-use crate::totals::say_totals;
-use crate::warnings::say_warnings;
-use kt_base::{Items, Text};
+use crate::totals::write_totals;
+use crate::warnings::write_warnings;
+use kt_base::{Items, OutputFault, Text};
 use kt_plan::{CaseOptions, World, prepare, select_cases};
 use kt_sched::{Job, Launcher, RunFault, Totals, run_cases};
 use kt_store::ResultStore;
 use std::alloc::Global;
 use std::io::Write;
 
-/// Runs a plan, so many cases at once, and records and tells each entry. Answers how it ended, and whether the writer failed.
+/// Runs a plan, `width` cases at once at most, and records and prints each entry. Returns how it ended, and whether all
+/// lines could be written.
 fn record_cases<L: Launcher, R: ResultStore, O: Write>(
     alloc: Global,
     plan: Items<Job>,
@@ -31,24 +34,26 @@ fn record_cases<L: Launcher, R: ResultStore, O: Write>(
     results: &mut R,
     number: u64,
     out: &mut O,
-) -> (Result<Totals, RunFault>, bool)
+) -> (Result<Totals, RunFault>, Result<(), OutputFault>)
     requires plan { IsPlan plan }
     requires width { IsWidth width }
     requires idle { IsIdle (L.running launcher.old) (L.pending launcher.old) }
-    ensures records { Records L.starts L.waits R.answers R.stands R.sound R.leaves plan width number launcher.old launcher.new results.old results.new (O.contents out.old) (O.contents out.new) result.0 result.1 }
+    ensures records { Records L.starts L.waits R.answers R.stands R.sound R.leaves
+        plan width number launcher.old launcher.new results.old results.new
+        (O.contents out.old) (O.contents out.new) result.0 (is_err result.1) }
     ensures idle { IsIdle (L.running launcher.new) (L.pending launcher.new) }
 {
     let mut recorder = Recorder {
         results,
         out,
         number,
-        failed: false,
+        written: Ok(()),
     };
     let answer = run_cases(alloc, plan, width, launcher, &mut recorder);
     // No effect when it runs: from these uses the proof reads what was lent to the recorder.
     let _ = &*recorder.results;
     let _ = &*recorder.out;
-    (answer, recorder.failed)
+    (answer, recorder.written)
 }
 
 /// The status of a run with so many bad cases, and these filters that select none.
@@ -62,21 +67,36 @@ fn status_of(bad: u64, unmatched: &[usize]) -> u8
     }
 }
 
-/// Tells how many of how many passed, and warns of the filters that select no case.
-fn say_ending<O: Write>(
-    failed: bool,
+/// Writes the totals, and warns of the filters that select no case.
+fn write_ending<O: Write>(
     totals: Totals,
     words: &[Text],
     unmatched: &[usize],
     out: &mut O,
-) -> bool
-    ensures { Says (O.contents out.old) failed (O.contents out.new) result (ending totals.good totals.total totals.bad words.now unmatched.now) }
+) -> Result<(), OutputFault>
+    ensures { Shows (O.contents out.old) (O.contents out.new) (is_err result)
+        (ending totals.good totals.total totals.bad words.now unmatched.now) }
 {
-    let told = say_totals(failed, totals.good, totals.total, totals.bad, out);
-    say_warnings(told, words, unmatched, out)
+    write_totals(totals.good, totals.total, totals.bad, out)?;
+    write_warnings(words, unmatched, out)
 }
 
-/// Begins a run, runs its plan, so many cases at once, and finishes it. `words` are the filters as they were given, and
+/// Writes the totals and the warnings behind what was written, unless that failed.
+fn ending_behind<O: Write>(
+    written: Result<(), OutputFault>,
+    totals: Totals,
+    words: &[Text],
+    unmatched: &[usize],
+    out: &mut O,
+) -> Result<(), OutputFault>
+    ensures { Says (O.contents out.old) (is_err written) (O.contents out.new) (is_err result)
+        (ending totals.good totals.total totals.bad words.now unmatched.now) }
+{
+    written?;
+    write_ending(totals, words, unmatched, out)
+}
+
+/// Begins a run, runs its plan, `width` cases at once at most, and finishes it. `words` are the filters as they were given, and
 /// `unmatched` the positions of those that select no case.
 fn run_plan<L: Launcher, R: ResultStore, O: Write>(
     alloc: Global,
@@ -94,23 +114,25 @@ fn run_plan<L: Launcher, R: ResultStore, O: Write>(
     requires width { IsWidth width }
     requires moment { IsMoment moment }
     requires idle { IsIdle (L.running launcher.old) (L.pending launcher.old) }
-    ensures ran { RanPlan L.starts L.waits R.answers R.stands R.sound R.leaves plan width words.now unmatched.now moment launcher.old launcher.new results.old results.new (O.contents out.old) (O.contents out.new) result.status }
+    ensures ran { RanPlan L.starts L.waits R.answers R.stands R.sound R.leaves
+        plan width words.now unmatched.now moment launcher.old launcher.new results.old results.new
+        (O.contents out.old) (O.contents out.new) result.status }
     ensures idle { IsIdle (L.running launcher.new) (L.pending launcher.new) }
 {
     let total = plan.len() as u32;
     let number = match results.begin(total, moment) {
         Ok(number) => number,
-        Err(fault) => return ended(say_refusal(false, fault, out), 2),
+        Err(fault) => return ended(write_refusal(fault, out), 2),
     };
-    let (answer, failed) = record_cases(alloc, plan, width, launcher, results, number, out);
+    let (answer, written) = record_cases(alloc, plan, width, launcher, results, number, out);
     match answer {
-        Err(RunFault::NoMemory(_refusal)) => ended(say_memory(failed, out), 2),
-        Err(RunFault::SinkFailed(fault)) => ended(say_put(failed, fault, out), 2),
+        Err(RunFault::NoMemory(_refusal)) => ended(memory_behind(written, out), 2),
+        Err(RunFault::SinkFailed(fault)) => ended(put_behind(written, fault, out), 2),
         Ok(totals) => match results.finish(number) {
-            Err(fault) => ended(say_refusal(failed, fault, out), 2),
+            Err(fault) => ended(refusal_behind(written, fault, out), 2),
             Ok(()) => {
-                let told = say_ending(failed, totals, words, unmatched, out);
-                ended(told, status_of(totals.bad, unmatched))
+                let all = ending_behind(written, totals, words, unmatched, out);
+                ended(all, status_of(totals.bad, unmatched))
             }
         },
     }
@@ -126,7 +148,9 @@ pub fn test<W: World, R: ResultStore, O: Write>(
     out: &mut O,
 ) -> Exit
     requires { IsIdle (W.running world.old) (W.pending world.old) }
-    ensures did { Did W.asks W.tells W.starts W.waits R.answers R.stands R.sound R.leaves (command.Test options.now file.now) world.old world.new results.old results.new (O.contents out.old) (O.contents out.new) result.status }
+    ensures did { Did W.asks W.tells W.starts W.waits R.answers R.stands R.sound R.leaves
+        (command.Test options.now file.now) world.old world.new results.old results.new
+        (O.contents out.old) (O.contents out.new) result.status }
     ensures idle { IsIdle (W.running world.new) (W.pending world.new) }
 {
     let picked = match select_cases(alloc, false, options, world) {
@@ -136,7 +160,7 @@ pub fn test<W: World, R: ResultStore, O: Write>(
     let config = &picked.settings.config;
     let plan = match prepare(alloc, config, picked.chosen.cases.as_slice(), world) {
         Ok(plan) => plan,
-        Err(_) => return ended(say_memory(false, out), 2),
+        Err(_) => return ended(write_memory(out), 2),
     };
     let moment = world.now();
     run_plan(

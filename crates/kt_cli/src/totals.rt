@@ -1,19 +1,34 @@
+ghost use Rattle.std.specs.Prelude.{is_err};
+ghost use Rattle.kt_base.specs.Shows.{Shows};
 ghost use Rattle.kt_base.specs.Utf8.{utf8};
-ghost use Rattle.kt_cli.specs.Pages.{Says};
 ghost use Rattle.kt_cli.specs.Totals.{totals_text};
 
-use crate::page::{say_number, say_words};
+use kt_base::{Decimal, OutputFault, emit_all};
 use std::io::Write;
 
-/// Tells an empty line, and how many cases of how many passed.
-pub fn say_totals<O: Write>(failed: bool, good: u64, total: u64, bad: u64, out: &mut O) -> bool
-    ensures { Says (O.contents out.old) failed (O.contents out.new) result (utf8 (totals_text good total bad)) }
+/// Writes a blank line and the totals: how many cases of how many passed, and how many failed.
+pub fn write_totals<O: Write>(
+    good: u64,
+    total: u64,
+    bad: u64,
+    out: &mut O,
+) -> Result<(), OutputFault>
+    ensures { Shows (O.contents out.old) (O.contents out.new) (is_err result)
+        (utf8 (totals_text good total bad)) }
 {
-    let empty = say_words(failed, "\n", out);
-    let passed = say_number(empty, good, out);
-    let slash = say_words(passed, "/", out);
-    let all = say_number(slash, total, out);
-    let open = say_words(all, " passed (", out);
-    let failures = say_number(open, bad, out);
-    say_words(failures, " failed)\n", out)
+    let passed = Decimal::new(good);
+    let all = Decimal::new(total);
+    let failed = Decimal::new(bad);
+    emit_all(
+        &[
+            b"\n",
+            passed.as_bytes(),
+            b"/",
+            all.as_bytes(),
+            b" passed (",
+            failed.as_bytes(),
+            b" failed)\n",
+        ],
+        out,
+    )
 }

@@ -1,48 +1,53 @@
-ghost use Rattle.std.specs.Prelude.{slice_get};
+ghost use Rattle.std.specs.Prelude.{slice_get, is_err};
+ghost use Rattle.kt_base.specs.Shows.{Shows};
 ghost use Rattle.kt_base.specs.Utf8.{utf8};
-ghost use Rattle.kt_cli.specs.Pages.{Says};
 ghost use Rattle.kt_cli.specs.Warnings.{warning_line, warning_at, warnings};
 
-use crate::page::{say_text, say_words};
-use kt_base::Text;
+use kt_base::{OutputFault, Text, emit_all};
 use std::io::Write;
 
 /// Warns of a filter that matches no case.
-fn say_warning<O: Write>(failed: bool, word: &Text, out: &mut O) -> bool
-    ensures { Says (O.contents out.old) failed (O.contents out.new) result (utf8 (warning_line word.now)) }
+fn write_warning<O: Write>(word: &Text, out: &mut O) -> Result<(), OutputFault>
+    ensures { Shows (O.contents out.old) (O.contents out.new) (is_err result)
+        (utf8 (warning_line word.now)) }
 {
-    let begun = say_words(
-        failed,
-        "kyua: W: No test cases matched by the filter '",
+    emit_all(
+        &[
+            b"kyua: W: No test cases matched by the filter '",
+            word.as_bytes(),
+            b"'.\n",
+        ],
         out,
-    );
-    let named = say_text(begun, word, out);
-    say_words(named, "'.\n", out)
+    )
 }
 
-fn say_warning_at<O: Write>(failed: bool, words: &[Text], position: usize, out: &mut O) -> bool
-    ensures { Says (O.contents out.old) failed (O.contents out.new) result (utf8 (warning_at (slice_get words.now position))) }
+fn write_warning_at<O: Write>(
+    words: &[Text],
+    position: usize,
+    out: &mut O,
+) -> Result<(), OutputFault>
+    ensures { Shows (O.contents out.old) (O.contents out.new) (is_err result)
+        (utf8 (warning_at (slice_get words.now position))) }
 {
     match words.get(position) {
-        None => failed,
-        Some(word) => say_warning(failed, word, out),
+        None => Ok(()),
+        Some(word) => write_warning(word, out),
     }
 }
 
-/// Warns of the filters at these positions, in order, by their words as they were given. Answers whether the writer failed.
-pub fn say_warnings<O: Write>(
-    failed: bool,
+/// Warns of the filters at these positions, in order, by their words as they were given.
+pub fn write_warnings<O: Write>(
     words: &[Text],
     positions: &[usize],
     out: &mut O,
-) -> bool
-    ensures { Says (O.contents out.old) failed (O.contents out.new) result (utf8 (warnings words.now positions.now)) }
+) -> Result<(), OutputFault>
+    ensures { Shows (O.contents out.old) (O.contents out.new) (is_err result)
+        (utf8 (warnings words.now positions.now)) }
 {
-    let mut failed = failed;
     let mut rest = positions;
     while let Some((position, after)) = rest.split_first() {
-        failed = say_warning_at(failed, words, *position, out);
+        write_warning_at(words, *position, out)?;
         rest = after;
     }
-    failed
+    Ok(())
 }

@@ -11,14 +11,14 @@ returns-in-Err-clause-told g c =
 
 pub returns-in-Err-prepare-clause-told : goal.returns-in-Err-prepare-clause-told
 returns-in-Err-prepare-clause-told g c =
-    short_only g.W.Tree.asks g.W.World.tells g.W.Launcher.starts g.W.Launcher.waits _ c.args.options.now _ _ _ _ _ _ _ _ refl c.in-Ok.ensures.selects c.in-Err-prepare.ensures.planned (printed_memory _ _ _ _ c.say_memory.ensures c.ended-in-Err-prepare.ensures)
+    short_only g.W.Tree.asks g.W.World.tells g.W.Launcher.starts g.W.Launcher.waits _ c.args.options.now _ _ _ _ _ _ _ _ refl c.in-Ok.ensures.selects c.in-Err-prepare.ensures.planned (printed_memory _ _ _ _ c.write_memory.ensures c.ended-in-Err-prepare.ensures)
 
 pub returns-in_default-clause-told : goal.returns-in_default-clause-told
 returns-in_default-clause-told g c =
     let a : c.as_slice-cases.result.now ≡ c.in-Ok.picked.chosen.cases = search rules in
     let b : c.as_slice.result.now ≡ c.args.options.now.filters = search rules in
     let d : c.as_slice-unmatched.result.now ≡ c.in-Ok.picked.chosen.unmatched = search rules in
-    idle_answer g.W.Tree.asks g.W.World.tells g.W.Launcher.starts g.W.Launcher.waits c.args.options.now _ _ _ _ _ _ c.in-Ok.picked _ _ _ c.in-Ok.ensures.selects a (nothing _ c.in_default.ensures.cases) b d c.say_warnings-warned.ensures c.ended.ensures
+    idle_answer g.W.Tree.asks g.W.World.tells g.W.Launcher.starts g.W.Launcher.waits c.args.options.now _ _ _ _ _ _ c.in-Ok.picked _ _ _ c.in-Ok.ensures.selects a (nothing _ c.in_default.ensures.cases) b d c.write_warnings-warned.ensures c.ended.ensures
 
 pub returns-in-Ok-answer-clause-told : goal.returns-in-Ok-answer-clause-told
 returns-in-Ok-answer-clause-told g c =
@@ -32,4 +32,4 @@ pub returns-in-Err-NoMemory-clause-told : goal.returns-in-Err-NoMemory-clause-to
 returns-in-Err-NoMemory-clause-told g c =
     let e : c.print_cases-answer.result.0 ≡ Err (NoMemory c.in-Err-NoMemory._refusal) = search rules in
     debug_short g.W.Tree.asks g.W.World.tells g.W.Launcher.starts g.W.Launcher.waits c.args.options.now _ _ _ _ _ _ _ _ c.in-Ok.picked c.in-Ok-prepare.plan _ _ _ c.in-Err-NoMemory._refusal c.in-Ok.ensures.selects c.in-Ok-prepare.ensures.planned
-    (debugged_as _ _ _ _ _ _ _ _ _ _ e c.print_cases-answer.ensures.debugged) c.say_memory-in-Err-NoMemory.ensures c.ended-in-Err-NoMemory.ensures
+    (debugged_as _ _ _ _ _ _ _ _ _ _ e c.print_cases-answer.ensures.debugged) c.memory_behind.ensures c.ended-in-Err-NoMemory.ensures

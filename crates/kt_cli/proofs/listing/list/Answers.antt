@@ -4,11 +4,11 @@ use Rattle.kt_cli.proofs.listing.list.Goals as goal
 
 pub returns-in-Ok-clause-told : goal.returns-in-Ok-clause-told
 returns-in-Ok-clause-told g c =
-    let a : c.as_slice.result.now ≡ c.in-Ok.picked.chosen.cases = search rules in
-    let b : c.as_slice-in-Ok.result.now ≡ c.args.options.now.filters = search rules in
+    let a : c.as_slice-cases.result.now ≡ c.in-Ok.picked.chosen.cases = search rules in
+    let b : c.as_slice.result.now ≡ c.args.options.now.filters = search rules in
     let d : c.as_slice-unmatched.result.now ≡ c.in-Ok.picked.chosen.unmatched = search rules in
     listed_only g.W.Tree.asks g.W.World.tells g.W.Launcher.starts g.W.Launcher.waits _ _ _ _ _ _ c.in-Ok.picked c.in-Ok.ensures.selects
-    (printed_listing c.args.options.now c.in-Ok.picked _ _ _ _ _ _ _ _ _ _ a b d c.say_cases-told.ensures c.say_warnings-warned.ensures c.status_by.ensures c.ended.ensures)
+    (printed_listing c.args.options.now c.in-Ok.picked _ _ _ _ _ _ _ _ a b d c.write_listing-written.ensures c.status_by.ensures c.ended.ensures)
 
 pub returns-in-Err-clause-told : goal.returns-in-Err-clause-told
 returns-in-Err-clause-told g c =

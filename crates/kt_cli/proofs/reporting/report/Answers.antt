@@ -1,15 +1,8 @@
-use Rattle.std.specs.Prelude.{true, false}
 use Rattle.kt_cli.proofs.ShownRuns.{did_tell, did_not_tell}
 use Rattle.kt_cli.proofs.reporting.report.Goals as goal
 
-pub returns-in-Ok-text : goal.returns-in-Ok-text
-returns-in-Ok-text g c =
-    did_tell g.R.ResultStore.answers g.R.ResultStore.stands g.R.ResultStore.sound g.R.ResultStore.leaves c.args.number _ _ _ _ _ c.args.kinds.now c.args.verbose c.in-Ok.run' false c.in-Ok.ensures c.in-Ok-text.ensures c.ended.ensures
-
 pub returns-in-Ok : goal.returns-in-Ok
-returns-in-Ok g c =
-    did_tell g.R.ResultStore.answers g.R.ResultStore.stands g.R.ResultStore.sound g.R.ResultStore.leaves c.args.number _ _ _ _ _ c.args.kinds.now c.args.verbose c.in-Ok.run' true c.in-Ok.ensures c.in-Err-text.ensures c.ended-in-Err-text.ensures
+returns-in-Ok g c = did_tell g.R.ResultStore.answers g.R.ResultStore.stands g.R.ResultStore.sound g.R.ResultStore.leaves c.args.number _ _ _ _ _ c.args.kinds.now c.args.verbose c.in-Ok.run' _ c.in-Ok.ensures c.text.ensures c.ended.ensures
 
-pub returns : goal.returns
-returns g c =
-    did_not_tell g.R.ResultStore.answers g.R.ResultStore.stands g.R.ResultStore.sound g.R.ResultStore.leaves c.args.number _ _ _ _ _ c.args.kinds.now c.args.verbose c.in-Err.why _ c.in-Err.ensures c.say_not_shown.ensures c.ended-in-Err.ensures
+pub returns-in-Err : goal.returns-in-Err
+returns-in-Err g c = did_not_tell g.R.ResultStore.answers g.R.ResultStore.stands g.R.ResultStore.sound g.R.ResultStore.leaves c.args.number _ _ _ _ _ c.args.kinds.now c.args.verbose c.in-Err.why _ c.in-Err.ensures c.write_not_shown.ensures c.ended-in-Err.ensures

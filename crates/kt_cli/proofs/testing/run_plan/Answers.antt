@@ -11,7 +11,7 @@ returns-in-Err-clause-ran g c =
     let b = c.in-Err.ensures in
     let t : c.len-total.result ≡ length c.args.plan = search rules in
     ran_unbegun g.L.Launcher.starts g.L.Launcher.waits g.R.ResultStore.answers g.R.ResultStore.stands g.R.ResultStore.sound g.R.ResultStore.leaves _ _ _ _ _ _ _ _ _ _ _ _ _ _ t
-    (stored_one g.R.ResultStore.answers g.R.ResultStore.stands g.R.ResultStore.sound g.R.ResultStore.leaves (Began _ c.args.moment (Err c.in-Err.fault)) _ _ b.asked b.kept b.earlier b.refused b.crash) c.say_refusal.ensures c.ended.ensures
+    (stored_one g.R.ResultStore.answers g.R.ResultStore.stands g.R.ResultStore.sound g.R.ResultStore.leaves (Began _ c.args.moment (Err c.in-Err.fault)) _ _ b.asked b.kept b.earlier b.refused b.crash) c.write_refusal.ensures c.ended.ensures
 
 pub returns-in-Err-NoMemory-clause-ran : goal.returns-in-Err-NoMemory-clause-ran
 returns-in-Err-NoMemory-clause-ran g c =
@@ -20,7 +20,7 @@ returns-in-Err-NoMemory-clause-ran g c =
     let b = c.in-Ok.ensures in
     ran_none g.L.Launcher.starts g.L.Launcher.waits g.R.ResultStore.answers g.R.ResultStore.stands g.R.ResultStore.sound g.R.ResultStore.leaves _ _ _ _ _ _ _ _ _ _ _ _ _ _ _ _ _ _ t
     (stored_one g.R.ResultStore.answers g.R.ResultStore.stands g.R.ResultStore.sound g.R.ResultStore.leaves (Began _ c.args.moment (Ok c.in-Ok.number)) _ _ b.asked b.added b.earlier (λ runs h s. (b.number runs h s, b.allowed runs h s)) (λ runs may h l. b.durable runs h))
-    _ c.record_cases-answer.ensures.records c.in-Err-NoMemory._refusal a c.say_memory.ensures c.ended-in-Err-NoMemory.ensures
+    _ c.record_cases-answer.ensures.records c.in-Err-NoMemory._refusal a c.memory_behind.ensures c.ended-in-Err-NoMemory.ensures
 
 pub returns-in-Err-SinkFailed-clause-ran : goal.returns-in-Err-SinkFailed-clause-ran
 returns-in-Err-SinkFailed-clause-ran g c =
@@ -29,7 +29,7 @@ returns-in-Err-SinkFailed-clause-ran g c =
     let b = c.in-Ok.ensures in
     ran_some g.L.Launcher.starts g.L.Launcher.waits g.R.ResultStore.answers g.R.ResultStore.stands g.R.ResultStore.sound g.R.ResultStore.leaves _ _ _ _ _ _ _ _ _ _ _ _ _ _ _ _ _ _ t
     (stored_one g.R.ResultStore.answers g.R.ResultStore.stands g.R.ResultStore.sound g.R.ResultStore.leaves (Began _ c.args.moment (Ok c.in-Ok.number)) _ _ b.asked b.added b.earlier (λ runs h s. (b.number runs h s, b.allowed runs h s)) (λ runs may h l. b.durable runs h))
-    _ c.record_cases-answer.ensures.records c.in-Err-SinkFailed.fault a c.say_put.ensures c.ended-in-Err-SinkFailed.ensures
+    _ c.record_cases-answer.ensures.records c.in-Err-SinkFailed.fault a c.put_behind.ensures c.ended-in-Err-SinkFailed.ensures
 
 pub returns-in-Err-finish-clause-ran : goal.returns-in-Err-finish-clause-ran
 returns-in-Err-finish-clause-ran g c =
@@ -40,7 +40,7 @@ returns-in-Err-finish-clause-ran g c =
     ran_unfinished g.L.Launcher.starts g.L.Launcher.waits g.R.ResultStore.answers g.R.ResultStore.stands g.R.ResultStore.sound g.R.ResultStore.leaves _ _ _ _ _ _ _ _ _ _ _ _ _ _ _ _ _ _ t
     (stored_one g.R.ResultStore.answers g.R.ResultStore.stands g.R.ResultStore.sound g.R.ResultStore.leaves (Began _ c.args.moment (Ok c.in-Ok.number)) _ _ b.asked b.added b.earlier (λ runs h s. (b.number runs h s, b.allowed runs h s)) (λ runs may h l. b.durable runs h))
     _ c.record_cases-answer.ensures.records _ c.in-Ok-answer.totals a c.in-Err-finish.fault
-    (stored_one g.R.ResultStore.answers g.R.ResultStore.stands g.R.ResultStore.sound g.R.ResultStore.leaves (Finished c.in-Ok.number (Err c.in-Err-finish.fault)) _ _ e.asked e.kept e.earlier e.refused e.crash) c.say_refusal-in-Err-finish.ensures c.ended-in-Err-finish.ensures
+    (stored_one g.R.ResultStore.answers g.R.ResultStore.stands g.R.ResultStore.sound g.R.ResultStore.leaves (Finished c.in-Ok.number (Err c.in-Err-finish.fault)) _ _ e.asked e.kept e.earlier e.refused e.crash) c.refusal_behind.ensures c.ended-in-Err-finish.ensures
 
 pub returns-in-Ok-finish-clause-ran : goal.returns-in-Ok-finish-clause-ran
 returns-in-Ok-finish-clause-ran g c =
@@ -51,4 +51,4 @@ returns-in-Ok-finish-clause-ran g c =
     ran_all g.L.Launcher.starts g.L.Launcher.waits g.R.ResultStore.answers g.R.ResultStore.stands g.R.ResultStore.sound g.R.ResultStore.leaves _ _ _ _ _ _ _ _ _ _ _ _ _ _ _ _ _ _ t
     (stored_one g.R.ResultStore.answers g.R.ResultStore.stands g.R.ResultStore.sound g.R.ResultStore.leaves (Began _ c.args.moment (Ok c.in-Ok.number)) _ _ b.asked b.added b.earlier (λ runs h s. (b.number runs h s, b.allowed runs h s)) (λ runs may h l. b.durable runs h))
     _ c.record_cases-answer.ensures.records _ c.in-Ok-answer.totals a _
-    (stored_one g.R.ResultStore.answers g.R.ResultStore.stands g.R.ResultStore.sound g.R.ResultStore.leaves (Finished c.in-Ok.number (Ok tt)) _ _ e.asked e.finished e.earlier e.allowed (λ runs may h l. e.durable runs h)) c.say_ending-told.ensures c.status_of.ensures c.ended-in-Ok-finish.ensures
+    (stored_one g.R.ResultStore.answers g.R.ResultStore.stands g.R.ResultStore.sound g.R.ResultStore.leaves (Finished c.in-Ok.number (Ok tt)) _ _ e.asked e.finished e.earlier e.allowed (λ runs may h l. e.durable runs h)) c.ending_behind-all.ensures c.status_of.ensures c.ended-in-Ok-finish.ensures

@@ -37,7 +37,7 @@ returns-clause-leads g c =
       (
         refl,
         stored_one g.R.ResultStore.answers g.R.ResultStore.stands g.R.ResultStore.sound g.R.ResultStore.leaves (Put c.args.self.now.number c.args.entry (Ok tt)) _ _ p.asked p.added p.earlier p.allowed (λ runs may h l. p.durable runs h),
-        c.say_line-self.ensures,
+        c.line_behind-self.ensures,
       ),
     )
 

@@ -1,0 +1,19 @@
+-- The bytes of several texts, one after the other.
+use Rattle.std.proofs.Common.{◌≡◌, ℕ, List, ◌++◌, ap, ◌∙◌}
+use Rattle.kt_base.specs.Utf8.{utf8}
+use Rattle.kt_base.proofs.Showing.{utf8-append}
+
+pub utf8_three : (a b c : List ℕ) → utf8 (a ++ b ++ c) ≡ utf8 a ++ utf8 b ++ utf8 c
+utf8_three a b c = utf8-append (a ++ b) c ∙ ap (λ (z : List ℕ). z ++ utf8 c) (utf8-append a b)
+
+pub utf8_four : (a b c d : List ℕ) → utf8 (a ++ b ++ c ++ d) ≡ utf8 a ++ utf8 b ++ utf8 c ++ utf8 d
+utf8_four a b c d = utf8-append (a ++ b ++ c) d ∙ ap (λ (z : List ℕ). z ++ utf8 d) (utf8_three a b c)
+
+utf8_five : (a b c d e : List ℕ) → utf8 (a ++ b ++ c ++ d ++ e) ≡ utf8 a ++ utf8 b ++ utf8 c ++ utf8 d ++ utf8 e
+utf8_five a b c d e = utf8-append (a ++ b ++ c ++ d) e ∙ ap (λ (z : List ℕ). z ++ utf8 e) (utf8_four a b c d)
+
+utf8_six : (a b c d e f : List ℕ) → utf8 (a ++ b ++ c ++ d ++ e ++ f) ≡ utf8 a ++ utf8 b ++ utf8 c ++ utf8 d ++ utf8 e ++ utf8 f
+utf8_six a b c d e f = utf8-append (a ++ b ++ c ++ d ++ e) f ∙ ap (λ (z : List ℕ). z ++ utf8 f) (utf8_five a b c d e)
+
+pub utf8_seven : (a b c d e f g : List ℕ) → utf8 (a ++ b ++ c ++ d ++ e ++ f ++ g) ≡ utf8 a ++ utf8 b ++ utf8 c ++ utf8 d ++ utf8 e ++ utf8 f ++ utf8 g
+utf8_seven a b c d e f g = utf8-append (a ++ b ++ c ++ d ++ e ++ f) g ∙ ap (λ (z : List ℕ). z ++ utf8 g) (utf8_six a b c d e f)

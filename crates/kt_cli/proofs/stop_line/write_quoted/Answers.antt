@@ -1,0 +1,16 @@
+use lib.Utf8.{encode}
+use Rattle.std.specs.Prelude.{codes, List}
+use Rattle.std.proofs.Common.{sym, ◌∙◌}
+use Rattle.std.specs.Str.{chars}
+use Rattle.std.proofs.lemmas.Str.{encodes-chars}
+use Rattle.kt_base.proofs.Showing.{shows_as}
+use Rattle.kt_cli.proofs.Utf8Sums.{utf8_seven}
+use Rattle.kt_cli.proofs.stop_line.write_quoted.Goals as goal
+
+pub returns : goal.returns
+unfolding encode
+returns g c =
+    let what = c.as_bytes.ensures.value ∙ sym (encodes-chars c.args.what.now c.utf8.what) in
+    let cause = c.as_bytes-3.ensures.value ∙ sym (encodes-chars c.args.cause.now c.utf8.cause) in
+    let whole = utf8_seven (codes "kyua: E: ") (chars c.args.what.now) (codes " '") c.args.word.now (codes "': ") (chars c.args.cause.now) (codes "\n") in
+    shows_as (sym whole) (rw (what, c.as_bytes-2.ensures, cause) at c.emit_all.ensures)

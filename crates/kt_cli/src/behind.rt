@@ -1,0 +1,63 @@
+ghost use Rattle.std.specs.Prelude.{is_err};
+ghost use Rattle.kt_base.specs.Utf8.{utf8};
+ghost use Rattle.kt_report.specs.Lines.{line_bytes};
+ghost use Rattle.kt_cli.specs.FaultLines.{memory_line, put_line, refusal_line};
+ghost use Rattle.kt_cli.specs.Pages.{Says};
+
+use crate::fault_line::{write_memory, write_put, write_refusal};
+use kt_base::{Entry, OutputFault};
+use kt_report::line;
+use kt_sched::SinkFault;
+use kt_store::StoreFault;
+use std::io::Write;
+
+/// Writes the line of an entry behind what was written, unless that failed. It takes no memory.
+pub fn line_behind<O: Write>(
+    written: Result<(), OutputFault>,
+    entry: &Entry,
+    out: &mut O,
+) -> Result<(), OutputFault>
+    ensures { Says (O.contents out.old) (is_err written) (O.contents out.new) (is_err result)
+        (line_bytes entry.now) }
+{
+    written?;
+    line(entry, out)
+}
+
+/// Writes that memory ran out behind what was written, unless that failed.
+pub fn memory_behind<O: Write>(
+    written: Result<(), OutputFault>,
+    out: &mut O,
+) -> Result<(), OutputFault>
+    ensures { Says (O.contents out.old) (is_err written) (O.contents out.new) (is_err result)
+        (utf8 memory_line) }
+{
+    written?;
+    write_memory(out)
+}
+
+/// Writes why a put failed behind what was written, unless that failed.
+pub fn put_behind<O: Write>(
+    written: Result<(), OutputFault>,
+    fault: SinkFault,
+    out: &mut O,
+) -> Result<(), OutputFault>
+    ensures { Says (O.contents out.old) (is_err written) (O.contents out.new) (is_err result)
+        (utf8 (put_line fault)) }
+{
+    written?;
+    write_put(fault, out)
+}
+
+/// Writes why the store refused a call behind what was written, unless that failed.
+pub fn refusal_behind<O: Write>(
+    written: Result<(), OutputFault>,
+    fault: StoreFault,
+    out: &mut O,
+) -> Result<(), OutputFault>
+    ensures { Says (O.contents out.old) (is_err written) (O.contents out.new) (is_err result)
+        (utf8 (refusal_line fault)) }
+{
+    written?;
+    write_refusal(fault, out)
+}
