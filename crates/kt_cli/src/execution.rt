@@ -21,7 +21,9 @@ pub fn execute<W: World, R: ResultStore, O: Write>(
     out: &mut O,
 ) -> Exit
     requires { IsIdle (W.running world.old) (W.pending world.old) }
-    ensures did { Did W.asks W.tells W.starts W.waits R.answers R.stands R.sound R.leaves command.now world.old world.new results.old results.new (O.contents out.old) (O.contents out.new) result.status }
+    ensures did { Did W.asks W.tells W.starts W.waits R.answers R.stands R.sound R.leaves
+        command.now world.old world.new results.old results.new (O.contents out.old)
+        (O.contents out.new) result.status }
     ensures idle { IsIdle (W.running world.new) (W.pending world.new) }
 {
     match command {

@@ -91,9 +91,12 @@ fn execute_over_cases<
     results: &mut S,
     out: &mut W,
 ) -> Result<Exit, DriverFault>
-    ensures did { IfOk result (λ exit. OnDriver O.leads os around options.now S.answers S.stands S.sound S.leaves command.now results.old results.new (W.contents out.old) (W.contents out.new) exit.status) }
+    ensures did { IfOk result (λ exit. OnDriver O.leads os around options.now S.answers S.stands
+        S.sound S.leaves command.now results.old results.new (W.contents out.old)
+        (W.contents out.new) exit.status) }
     ensures refused { IfErr result (λ e. NoRoot O.leads os options.now.work e) }
-    ensures unasked { OnErr result ((results.new ≡ results.old) × (W.contents out.new ≡ W.contents out.old)) }
+    ensures unasked { OnErr result
+        ((results.new ≡ results.old) × (W.contents out.new ≡ W.contents out.old)) }
 {
     let directory = match split_path(rt.alloc(), &options.kyuafile) {
         Ok((directory, _)) => directory,
@@ -126,9 +129,12 @@ pub fn execute_on_host<
     results: &mut S,
     out: &mut W,
 ) -> Result<Exit, DriverFault>
-    ensures did { IfOk result (λ exit. DidOnHost O.leads os around S.answers S.stands S.sound S.leaves command.now results.old results.new (W.contents out.old) (W.contents out.new) exit.status) }
+    ensures did { IfOk result (λ exit. DidOnHost O.leads os around S.answers S.stands S.sound
+        S.leaves command.now results.old results.new (W.contents out.old)
+        (W.contents out.new) exit.status) }
     ensures refused { IfErr result (λ e. NoDriver O.leads os command.now e) }
-    ensures unasked { OnErr result ((results.new ≡ results.old) × (W.contents out.new ≡ W.contents out.old)) }
+    ensures unasked { OnErr result
+        ((results.new ≡ results.old) × (W.contents out.new ≡ W.contents out.old)) }
 {
     if let Some(options) = command.cases() {
         let exit = execute_over_cases(rt, os, around, command, options, results, out)?;

@@ -55,7 +55,8 @@ fn fault_of(error: io::Error) -> ReadFault {
 /// read is a fault too.
 fn read_piece<F: Read>(file: &mut F, room: &mut [u8], bytes: &mut Bytes) -> Result<usize, ReadFault>
     requires { 0 < length room.old }
-    ensures { IfOk result (λ count. TakesPiece (F.remaining file.old) (F.remaining file.new) (length room.old) bytes.old bytes.new count) }
+    ensures { IfOk result (λ count. TakesPiece (F.remaining file.old) (F.remaining file.new)
+        (length room.old) bytes.old bytes.new count) }
 {
     let count = match file.read(room) {
         Ok(count) => count,
@@ -71,8 +72,10 @@ fn read_piece<F: Read>(file: &mut F, room: &mut [u8], bytes: &mut Bytes) -> Resu
 pub fn read_start<F: Read>(alloc: Global, file: &mut F) -> Result<Bytes, ReadFault>
     ensures few { IfOk result (λ bytes. length bytes ≤ read_limit) }
     // Of a file whose bytes are known, the front is read, and the rest is left.
-    ensures front { IfOk result (λ bytes. IfSome (F.remaining file.old) (λ all. bytes ≡ take read_limit all)) }
-    ensures rest { OnOk result (IfSome (F.remaining file.old) (λ all. F.remaining file.new ≡ Some (drop read_limit all))) }
+    ensures front { IfOk result (λ bytes. IfSome (F.remaining file.old)
+        (λ all. bytes ≡ take read_limit all)) }
+    ensures rest { OnOk result (IfSome (F.remaining file.old)
+        (λ all. F.remaining file.new ≡ Some (drop read_limit all))) }
 {
     let mut bytes = Bytes::new(alloc);
     let mut buffer = [0u8; PIECE];
@@ -264,7 +267,9 @@ impl<R: Files<File = File> + Clock + AllocGlobal, O: Os + Drop> World for HostWo
 
     ghost pends_on = { λ s t q h k. ap (λ x. is_among x.driver.running.pending k) h.0 };
 
-    ghost runs_told = { λ s t q h k r. ap (λ (b : ChildrenState). shown_at b.cases k r) (running_kept O.leads s.runner t.runner q h) };
+    ghost runs_told = { λ s t q h k r. ap (λ (b : ChildrenState). shown_at b.cases k r)
+        (running_kept O.leads s.runner t.runner q h) };
 
-    ghost pends_told = { λ s t q h k. ap (λ (b : ChildrenState). is_among b.pending k) (running_kept O.leads s.runner t.runner q h) };
+    ghost pends_told = { λ s t q h k. ap (λ (b : ChildrenState). is_among b.pending k)
+        (running_kept O.leads s.runner t.runner q h) };
 }

@@ -55,7 +55,8 @@ impl<W: Write> LineOutput<W> {
     /// Takes bytes for which there is room, and hands on what is held where that is due.
     fn accept(&mut self, bytes: &[u8])
         requires { length (unwritten self.old) + length bytes.now ≤ 1024 }
-        ensures { Appends (given_bytes W.contents self.old) (given_bytes W.contents self.new) bytes.now }
+        ensures { Appends (given_bytes W.contents self.old)
+            (given_bytes W.contents self.new) bytes.now }
     {
         self.held.append(bytes);
         if !self.is_due(bytes) {
@@ -75,8 +76,10 @@ impl<W: Write> Write for LineOutput<W> {
 
     fn write(&mut self, buf: &[u8]) -> io::Result<usize>
         ensures bound { WritesAtMost result buf.now }
-        ensures bytes { WriteAppends (given_bytes W.contents self.old) (given_bytes W.contents self.new) result buf.now }
-        ensures silent { has_failed self.old ≡ true → (self.new ≡ self.old) × (is_err result ≡ true) }
+        ensures bytes { WriteAppends (given_bytes W.contents self.old)
+            (given_bytes W.contents self.new) result buf.now }
+        ensures silent { has_failed self.old ≡ true → (self.new ≡ self.old)
+            × (is_err result ≡ true) }
     {
         if self.failed {
             return Err(broken());
@@ -89,7 +92,8 @@ impl<W: Write> Write for LineOutput<W> {
     fn flush(&mut self) -> io::Result<()>
         ensures bytes { Keeps (given_bytes W.contents self.old) (given_bytes W.contents self.new) }
         ensures all { OnOk result (unwritten self.new ≡ []) }
-        ensures silent { has_failed self.old ≡ true → (self.new ≡ self.old) × (is_err result ≡ true) }
+        ensures silent { has_failed self.old ≡ true → (self.new ≡ self.old)
+            × (is_err result ≡ true) }
     {
         if self.failed {
             return Err(broken());
@@ -114,7 +118,8 @@ impl<W: Write> LineOutput<W> {
 
     /// The exit of a command that wrote here: what is still held is written, and where that fails the exit is 2.
     pub fn finish(&mut self, exit: Exit) -> Exit
-        ensures { Flushed (given_bytes W.contents self.old) (given_bytes W.contents self.new) (unwritten self.new) exit.status result.status }
+        ensures { Flushed (given_bytes W.contents self.old) (given_bytes W.contents self.new)
+            (unwritten self.new) exit.status result.status }
     {
         match self.flush() {
             Ok(()) => exit,

@@ -107,8 +107,10 @@ impl MemRuns {
     }
 
     fn entries_of(&self, number: u64) -> Result<Vec<Entry>, StoreFault>
-        ensures found { IfOk result (λ found. (run : Recorded) × (run_at self.now number ≡ Some run) × (found.items ≡ run.entries)) }
-        ensures refused { IfErr result (λ e. IsStoreFault e ⊎ ((e ≡ StoreFault.NoRun) × (run_at self.now number ≡ None))) }
+        ensures found { IfOk result (λ found. (run : Recorded) × (run_at self.now number ≡ Some run)
+            × (found.items ≡ run.entries)) }
+        ensures refused { IfErr result
+            (λ e. IsStoreFault e ⊎ ((e ≡ StoreFault.NoRun) × (run_at self.now number ≡ None))) }
     {
         let place = match self.place(number) {
             Ok(place) => place,

@@ -46,7 +46,9 @@ fn perform_over<
     S: ResultStore,
     W: Write,
 >(rt: &R, os: O, platform: &mut P, command: &Command, results: &mut S, out: &mut W) -> Exit
-    ensures { DoneOver P.provides O.leads os S.answers S.stands S.sound S.leaves command.now platform.old platform.new results.old results.new (W.contents out.old) (W.contents out.new) result.status }
+    ensures { DoneOver P.provides O.leads os S.answers S.stands S.sound S.leaves command.now
+        platform.old platform.new results.old results.new (W.contents out.old)
+        (W.contents out.new) result.status }
 {
     let around = match surroundings_of(rt.alloc(), platform, command) {
         Ok(around) => around,
@@ -65,7 +67,9 @@ fn perform_in_file<
     P: Platform,
     W: Write,
 >(rt: &R, os: O, platform: &mut P, command: &Command, file: &Text, out: &mut W) -> Exit
-    ensures { DoneIn P.provides O.leads os P.Results.answers P.Results.stands P.Results.sound P.Results.leaves command.now file.now platform.old platform.new (W.contents out.old) (W.contents out.new) result.status }
+    ensures { DoneIn P.provides O.leads os P.Results.answers P.Results.stands P.Results.sound
+        P.Results.leaves command.now file.now platform.old platform.new (W.contents out.old)
+        (W.contents out.new) result.status }
 {
     let mut results = match platform.open(file) {
         Ok(results) => results,
@@ -84,7 +88,9 @@ fn perform_by_results<
     P: Platform,
     W: Write,
 >(rt: &R, os: O, platform: &mut P, command: &Command, out: &mut W) -> Exit
-    ensures { DoneBy P.provides O.leads os P.Results.answers P.Results.stands P.Results.sound P.Results.leaves command.now (results_of command.now) platform.old platform.new (W.contents out.old) (W.contents out.new) result.status }
+    ensures { DoneBy P.provides O.leads os P.Results.answers P.Results.stands P.Results.sound
+        P.Results.leaves command.now (results_of command.now) platform.old platform.new
+        (W.contents out.old) (W.contents out.new) result.status }
 {
     match command.results() {
         Some(file) => perform_in_file(rt, os, platform, command, file, out),
@@ -104,7 +110,9 @@ pub fn perform<R: Files<File = File> + Clock + AllocGlobal, O: Os + Drop, P: Pla
     command: &Command,
     out: &mut LineOutput<W>,
 ) -> Exit
-    ensures { Performed P.provides O.leads os P.Results.answers P.Results.stands P.Results.sound P.Results.leaves command.now platform.old platform.new (given_bytes W.contents out.old) (given_bytes W.contents out.new) (unwritten out.new) result.status }
+    ensures { Performed P.provides O.leads os P.Results.answers P.Results.stands P.Results.sound
+        P.Results.leaves command.now platform.old platform.new (given_bytes W.contents out.old)
+        (given_bytes W.contents out.new) (unwritten out.new) result.status }
 {
     let exit = perform_by_results(rt, os, platform, command, out);
     out.finish(exit)
@@ -113,7 +121,8 @@ pub fn perform<R: Files<File = File> + Clock + AllocGlobal, O: Os + Drop, P: Pla
 /// Tells on standard error why words are no command; an out-of-memory error goes to standard output, as every other
 /// message.
 fn reject<W: Write, E: Write>(fault: &CommandFault, out: &mut LineOutput<W>, errors: &mut E) -> Exit
-    ensures { Rejected fault.now (given_bytes W.contents out.old) (given_bytes W.contents out.new) (unwritten out.new) (E.contents errors.old) (E.contents errors.new) result.status }
+    ensures { Rejected fault.now (given_bytes W.contents out.old) (given_bytes W.contents out.new)
+        (unwritten out.new) (E.contents errors.old) (E.contents errors.new) result.status }
 {
     match fault {
         CommandFault::NoMemory(_) => {
@@ -139,7 +148,10 @@ pub fn carry_out<
     out: &mut LineOutput<W>,
     errors: &mut E,
 ) -> Exit
-    ensures { CarriedOut P.provides O.leads os P.Results.answers P.Results.stands P.Results.sound P.Results.leaves command platform.old platform.new (given_bytes W.contents out.old) (given_bytes W.contents out.new) (unwritten out.new) (E.contents errors.old) (E.contents errors.new) result.status }
+    ensures { CarriedOut P.provides O.leads os P.Results.answers P.Results.stands P.Results.sound
+        P.Results.leaves command platform.old platform.new (given_bytes W.contents out.old)
+        (given_bytes W.contents out.new) (unwritten out.new) (E.contents errors.old)
+        (E.contents errors.new) result.status }
 {
     match command {
         Ok(command) => perform(rt, os, platform, &command, out),

@@ -21,9 +21,13 @@ pub fn execute_all<W: World, R: ResultStore, O: Write>(
     out: &mut O,
 ) -> Result<Vec<Exit>, NoMemory>
     requires { IsIdle (W.running world.old) (W.pending world.old) }
-    ensures did { IfOk result (λ exits. DidAll W.asks W.tells W.starts W.waits R.answers R.stands R.sound R.leaves commands.now world.old world.new results.old results.new (O.contents out.old) (O.contents out.new) exits.items) }
+    ensures did { IfOk result (λ exits. DidAll W.asks W.tells W.starts W.waits R.answers R.stands
+        R.sound R.leaves commands.now world.old world.new results.old results.new
+        (O.contents out.old) (O.contents out.new) exits.items) }
     ensures idle { IsIdle (W.running world.new) (W.pending world.new) }
-    ensures unasked { OnErr result ((world.new ≡ world.old) × (results.new ≡ results.old) × (O.contents out.new ≡ O.contents out.old)) }
+    ensures unasked { OnErr result
+        ((world.new ≡ world.old) × (results.new ≡ results.old)
+        × (O.contents out.new ≡ O.contents out.old)) }
 {
     let mut exits = Vec::with_capacity(alloc, commands.len())?;
     let mut rest = commands;
