@@ -22,6 +22,8 @@ pub struct ScriptedWriter {
     /// The first write that fails, counted from 1; 0 for none.
     pub failing: u64,
     pub fault: WriteFault,
+    /// Whether a flush fails.
+    pub flush_fails: bool,
 }
 
 impl ScriptedWriter {
@@ -33,6 +35,7 @@ impl ScriptedWriter {
             writes: 0,
             failing,
             fault: WriteFault::Broken,
+            flush_fails: false,
         }
     }
 }
@@ -53,6 +56,9 @@ impl Write for ScriptedWriter {
     }
 
     fn flush(&mut self) -> io::Result<()> {
+        if self.flush_fails {
+            return Err(io::Error::from(ErrorKind::BrokenPipe));
+        }
         Ok(())
     }
 }
