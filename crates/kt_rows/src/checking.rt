@@ -14,7 +14,7 @@ fn mismatch(
 ) -> Result<Option<String>, RowFault> {
     let alloc = rt.alloc();
     let wanted = row.wanted(alloc)?;
-    let found = answer(alloc, subject, row)?;
+    let found = answer(rt, subject, row)?;
     if found.as_bytes() == wanted.as_slice() {
         return Ok(None);
     }

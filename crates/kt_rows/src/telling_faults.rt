@@ -19,37 +19,43 @@ fn shortage(alloc: Global) -> Result<NoMemory, RowFault> {
     }
 }
 
-/// Tells a fault that memory has.
-fn tell_shortage<W: Write>(fault: &str, shortage: NoMemory, out: &mut W) -> Exit {
+/// Why a store refuses.
+pub fn store_fault(alloc: Global, fault: &str) -> Result<StoreFault, RowFault> {
     match fault {
-        "driver no-memory" => tell_driver_fault(DriverFault::NoMemory(shortage), out),
-        "store no-memory" => tell_store_fault(StoreFault::from(shortage), out),
-        _ => tell_command_fault(&CommandFault::from(shortage), out),
+        "no-memory" => Ok(StoreFault::from(shortage(alloc)?)),
+        "failed" => Ok(StoreFault::from(Error::SqliteFailure(ErrorCode::SystemIoFailure))),
+        "unknown-schema" => Ok(StoreFault::UnknownSchema),
+        _ => Err(RowFault::Misspelled("there is no such fault of a store")),
     }
 }
 
-/// The fault of a command line.
-fn command_fault(alloc: Global, fault: &str) -> Result<CommandFault, RowFault> {
+/// Why there is no driver.
+pub fn driver_fault(alloc: Global, fault: &str) -> Result<DriverFault, RowFault> {
     match fault {
-        "words bad-kind" => Ok(CommandFault::BadKind),
-        "words bad-run" => Ok(CommandFault::BadRun),
-        "words usage" => Ok(CommandFault::Usage(Text::from_str(alloc, "Usage: kyua\n")?)),
-        _ => Err(RowFault::Misspelled("there is no such fault")),
+        "no-memory" => Ok(DriverFault::NoMemory(shortage(alloc)?)),
+        "no-work-directory" => Ok(DriverFault::NoWorkDirectory),
+        _ => Err(RowFault::Misspelled("there is no such fault of a driver")),
+    }
+}
+
+/// Why words are no command line.
+pub fn command_fault(alloc: Global, fault: &str) -> Result<CommandFault, RowFault> {
+    match fault {
+        "no-memory" => Ok(CommandFault::from(shortage(alloc)?)),
+        "bad-kind" => Ok(CommandFault::BadKind),
+        "bad-run" => Ok(CommandFault::BadRun),
+        "usage" => Ok(CommandFault::Usage(Text::from_str(alloc, "Usage: kyua\n")?)),
+        _ => Err(RowFault::Misspelled("there is no such fault of words")),
     }
 }
 
 fn tell<W: Write>(alloc: Global, fault: &str, out: &mut W) -> Result<Exit, RowFault> {
-    match fault {
-        "driver no-memory" | "store no-memory" | "words no-memory" => {
-            Ok(tell_shortage(fault, shortage(alloc)?, out))
-        }
-        "driver no-work-directory" => Ok(tell_driver_fault(DriverFault::NoWorkDirectory, out)),
-        "store failed" => {
-            let failure = Error::SqliteFailure(ErrorCode::SystemIoFailure);
-            Ok(tell_store_fault(StoreFault::from(failure), out))
-        }
-        "store unknown-schema" => Ok(tell_store_fault(StoreFault::UnknownSchema, out)),
-        _ => Ok(tell_command_fault(&command_fault(alloc, fault)?, out)),
+    let (kind, fault) = fault.split_once(' ').unwrap_or((fault, ""));
+    match kind {
+        "driver" => Ok(tell_driver_fault(driver_fault(alloc, fault)?, out)),
+        "store" => Ok(tell_store_fault(store_fault(alloc, fault)?, out)),
+        "words" => Ok(tell_command_fault(&command_fault(alloc, fault)?, out)),
+        _ => Err(RowFault::Misspelled("there is no such kind of fault")),
     }
 }
 

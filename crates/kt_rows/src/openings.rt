@@ -1,0 +1,166 @@
+//! Command lines over a scripted platform: what it is asked for, what is written, and how each line ends.
+
+use crate::command_words::read_line;
+use crate::lines::push_line;
+use crate::numbers::number;
+use crate::row::Row;
+use crate::row_fault::RowFault;
+use crate::scenes::scene_of;
+use crate::stages::store_of;
+use crate::store_calls::call;
+use crate::store_texts::timeless_runs_text;
+use crate::telling_faults::{command_fault, driver_fault, store_fault};
+use kt_cli::{Command, CommandFault, LineOutput, carry_out};
+use kt_play::{RefusingStore, Scene, ScriptedPlatform, ScriptedSystem, ScriptedWriter};
+use std::alloc::Global;
+use std::fs::File;
+use std::io::Write;
+use std::rt::{Clock, Files};
+
+/// The results of a row, into which its lines `begin`, `put` and `finish` have put some.
+fn results_of(alloc: Global, row: &Row<'_>) -> Result<RefusingStore, RowFault> {
+    let mut results = store_of(alloc, row)?;
+    for entry in row.entries.as_slice() {
+        if matches!(entry.word, "begin" | "put" | "finish") {
+            let _ = call(alloc, row, &mut results, entry.word, entry.text)?;
+        }
+    }
+    Ok(results)
+}
+
+/// The platform of a row: `open FAULT`, `close FAULT` and `surroundings FAULT` name its calls that fail.
+fn platform_of(alloc: Global, row: &Row<'_>) -> Result<ScriptedPlatform, RowFault> {
+    let mut platform = ScriptedPlatform::new(alloc, results_of(alloc, row)?);
+    if let Some(fault) = row.text("open") {
+        platform.not_opened = Some(store_fault(alloc, fault)?);
+    }
+    if let Some(fault) = row.text("close") {
+        platform.not_closed = Some(store_fault(alloc, fault)?);
+    }
+    if let Some(fault) = row.text("surroundings") {
+        platform.not_found = Some(driver_fault(alloc, fault)?);
+    }
+    Ok(platform)
+}
+
+/// Standard output and standard error.
+#[derive(Drop)]
+struct Pages {
+    out: ScriptedWriter,
+    errors: ScriptedWriter,
+}
+
+/// The pages of a row: `write N` fails on standard output with all behind it, and so does its `flush fails`; `error N` fails on
+/// standard error.
+fn pages_of(alloc: Global, row: &Row<'_>) -> Result<Pages, RowFault> {
+    let mut out = ScriptedWriter::new(alloc, number(row.text("write").unwrap_or("0"))?);
+    out.flush_fails = row.text("flush").is_some();
+    let errors = ScriptedWriter::new(alloc, number(row.text("error").unwrap_or("0"))?);
+    Ok(Pages { out, errors })
+}
+
+/// Carries out a command line, as a process of its own does. Answers its exit status.
+fn carried<R: Files<File = File> + Clock + AllocGlobal, W: Write, E: Write>(
+    rt: &R,
+    scene: &Scene<'_>,
+    platform: &mut ScriptedPlatform,
+    command: Result<Command, CommandFault>,
+    out: &mut W,
+    errors: &mut E,
+) -> u8 {
+    let os = ScriptedSystem::new(rt.alloc(), scene);
+    let mut lines = LineOutput::new(out);
+    carry_out(rt, os, platform, command, &mut lines, errors).status
+}
+
+/// Carries out the command lines of a row, one after the other: `line WORDS`, or `words FAULT` for one that is none. Answers how
+/// they ended.
+fn exits_text<R: Files<File = File> + Clock + AllocGlobal>(
+    rt: &R,
+    row: &Row<'_>,
+    scene: &Scene<'_>,
+    platform: &mut ScriptedPlatform,
+    pages: &mut Pages,
+) -> Result<String, RowFault> {
+    let alloc = rt.alloc();
+    let mut exits = String::from_str(alloc, "exit")?;
+    for entry in row.entries.as_slice() {
+        let command = match entry.word {
+            "line" => read_line(alloc, entry.text)?,
+            "words" => Err(command_fault(alloc, entry.text)?),
+            _ => continue,
+        };
+        let (out, errors) = (&mut pages.out, &mut pages.errors);
+        let status = carried(rt, scene, platform, command, out, errors);
+        exits.push_str(format!(in alloc; " {status}")?.as_str())?;
+    }
+    Ok(exits)
+}
+
+/// Appends what was written on a page. One that doesn't end in a newline was cut.
+fn push_page(alloc: Global, text: &mut String, page: &ScriptedWriter) -> Result<(), RowFault> {
+    let written = String::from_utf8_lossy(alloc, page.kept.as_slice())?;
+    text.push_str(written.as_str())?;
+    if !written.is_empty() && !written.as_str().ends_with('\n') {
+        text.push_str("(cut)\n")?;
+    }
+    Ok(())
+}
+
+/// Appends what was written on standard error, a usage by that word alone.
+fn push_errors(alloc: Global, text: &mut String, page: &ScriptedWriter) -> Result<(), RowFault> {
+    if page.kept.is_empty() {
+        return Ok(());
+    }
+    let written = String::from_utf8_lossy(alloc, page.kept.as_slice())?;
+    if written.as_str().contains("Usage:") {
+        text.push_str("error: usage\n")?;
+        return Ok(());
+    }
+    text.push_str("error: ")?;
+    push_page(alloc, text, page)
+}
+
+/// The runs that were closed, without their moments, which the clock of this process told.
+fn kept_text(alloc: Global, results: Option<RefusingStore>) -> Result<String, RowFault> {
+    match results {
+        Some(mut results) => timeless_runs_text(alloc, &mut results),
+        None => Ok(String::from_str(alloc, "open")?),
+    }
+}
+
+/// What the platform was asked for, the pages, the exits, and where the row says so the runs.
+fn shown(
+    alloc: Global,
+    row: &Row<'_>,
+    platform: ScriptedPlatform,
+    pages: &Pages,
+    exits: &str,
+) -> Result<String, RowFault> {
+    let mut text = platform.calls;
+    if text.is_empty() {
+        text.push_str("nothing")?;
+    }
+    text.push('\n')?;
+    push_page(alloc, &mut text, &pages.out)?;
+    push_errors(alloc, &mut text, &pages.errors)?;
+    text.push_str(exits)?;
+    if row.text("show") == Some("runs") {
+        push_line(&mut text, kept_text(alloc, platform.results)?.as_str())?;
+    }
+    Ok(text)
+}
+
+/// Command lines over a platform that answers as the row says, with the files of this process: the calls on the platform on one
+/// line, what was written, and how the lines ended.
+pub fn answer<R: Files<File = File> + Clock + AllocGlobal>(
+    rt: &R,
+    row: &Row<'_>,
+) -> Result<String, RowFault> {
+    let alloc = rt.alloc();
+    let scene = scene_of(alloc, row)?;
+    let mut platform = platform_of(alloc, row)?;
+    let mut pages = pages_of(alloc, row)?;
+    let exits = exits_text(rt, row, &scene, &mut platform, &mut pages)?;
+    shown(alloc, row, platform, &pages, exits.as_str())
+}
