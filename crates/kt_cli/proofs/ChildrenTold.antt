@@ -4,7 +4,6 @@ use Rattle.kt_sched.specs.declared.job.Job.{Job}
 use Rattle.kt_sched.specs.Plan.{IsPlan}
 use Rattle.kt_sched.specs.Trace.{Trace, NoEvent, Leads}
 use Rattle.kt_suite.specs.Answers.{Chain}
-use Rattle.kt_child.specs.declared.driving.driver.Driver.{Driver}
 use Rattle.kt_child.specs.Driving.ChildrenState.{ChildrenState, idle_state}
 use Rattle.kt_child.specs.System.Calls.{Call}
 use Rattle.kt_child.specs.Driving.Numbers.{IsBare}
@@ -15,7 +14,7 @@ use Rattle.kt_cli.specs.declared.runner.Runner.{Runner}
 use Rattle.kt_cli.specs.ChildrenTold.{ChildrenTell, CoursesAreTold}
 use Rattle.kt_cli.specs.HostAnswers.{IsHostAnswer, RunnerStarts, RunnerWaits, running_kept}
 use Rattle.kt_cli.specs.HostFiles.{IsLook}
-use Rattle.kt_cli.specs.Meaning.{Seen, Course, Means, CutShort, stopped, listed, tested, debugged, idle, reported, reported_junit, no_memory, cut, report_cut, junit_cut}
+use Rattle.kt_cli.specs.Meaning.{Seen, Means, CutShort, stopped, listed, tested, debugged, idle, reported, reported_junit, no_memory, cut, report_cut, junit_cut}
 use Rattle.kt_words.specs.declared.command.Command.{Command}
 
 -- what was lent to a launcher can be run, or nothing was started

@@ -1,5 +1,5 @@
 -- A run is read and shown.
-use Rattle.std.specs.Prelude.{Option, Some, None, Ok, Err, Bool, true, false, ◌⊎◌, if◌then◌else◌}
+use Rattle.std.specs.Prelude.{Option, Some, None, Ok, Err, Bool, true, ◌⊎◌, if◌then◌else◌}
 use Rattle.std.proofs.Common.{◌≡◌, ℕ, List, [], ◌∷◌, ◌++◌, sym, subst, inl, inr}
 use Rattle.jiff_core.specs.declared.civil.date.Date.{Date}
 use Rattle.kt_base.specs.Shows.{Shows}

@@ -1,5 +1,5 @@
 -- What a command asked of its children over the host, and what they tell.
-use Rattle.std.specs.Prelude.{ℕ, List, ◌≡◌, ◌⊎◌}
+use Rattle.std.specs.Prelude.{List, ◌≡◌, ◌⊎◌}
 use Rattle.kt_sched.specs.declared.job.Job.{Job}
 use Rattle.kt_sched.specs.Plan.{IsPlan}
 use Rattle.kt_sched.specs.Trace.{Trace, NoEvent}

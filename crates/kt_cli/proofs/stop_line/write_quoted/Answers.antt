@@ -1,5 +1,5 @@
 use lib.Utf8.{encode}
-use Rattle.std.specs.Prelude.{codes, List}
+use Rattle.std.specs.Prelude.{codes}
 use Rattle.std.proofs.Common.{sym, ◌∙◌}
 use Rattle.std.specs.Str.{chars}
 use Rattle.std.proofs.lemmas.Str.{encodes-chars}
