@@ -7,5 +7,4 @@ pub mod NextLines
 pub mod OneListing
 pub mod ProgramCases
 pub mod ReadListings
-pub mod Texts
 pub mod Utf8

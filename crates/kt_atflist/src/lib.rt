@@ -17,7 +17,6 @@ mod reader;
 mod reading;
 mod step;
 mod steps;
-mod words;
 
 pub use case_def::CaseDef;
 pub use laws::law_of_one_answer;

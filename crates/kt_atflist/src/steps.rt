@@ -12,7 +12,6 @@ use crate::list_line::{ident_in, is_empty, is_name, key_in, value_in};
 use crate::names::Names;
 use crate::reading::Reading;
 use crate::step::Step;
-use crate::words::is_word;
 use kt_base::{Items, NoMemory, Text, lossy};
 use kt_metadata::{PropFault, property_of_key};
 use std::alloc::Global;
@@ -97,7 +96,7 @@ fn set_key(
     requires { names ≡ names_of cases (Some block) }
     ensures { IfOk result (λ step. step ≡ set_key cases block key value) }
 {
-    if is_word(&key, "ident") {
+    if key.is_word("ident") {
         return Ok(Step::Wrong(ListCause::RepeatedKey));
     }
     let name = property_of_key(alloc, &key)?;

@@ -4,6 +4,8 @@ pub mod Fronts
 pub mod Joining
 pub mod LastValueLaws
 pub mod Names
+pub mod Numbers
 pub mod PartTexts
 pub mod PhraseWords
 pub mod Showing
+pub mod Texts

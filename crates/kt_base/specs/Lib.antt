@@ -1,3 +1,4 @@
+pub mod Digits
 pub mod Kinds
 pub mod LastValues
 pub mod Lossy
@@ -5,5 +6,6 @@ pub mod Parts
 pub mod Phrases
 pub mod Reasons
 pub mod Shows
+pub mod Texts
 pub mod Utf8
 pub mod Verdicts

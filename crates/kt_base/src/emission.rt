@@ -2,8 +2,18 @@ ghost use Rattle.std.specs.Prelude.{◌≡◌, ◌≤◌, ◌<◌, true, false, 
 ghost use Rattle.std.specs.Io.KnownBytes.{Appends};
 ghost use Rattle.kt_base.specs.Shows.{Shows, joined};
 
-use crate::output_fault::OutputFault;
 use std::io::Write;
+
+/// A writer refused a write, was interrupted, or took no byte of a text that had some left. Only `emit` makes this value,
+/// after such a write; `?` hands it on.
+#[derive(Clone, Copy, Debug, PartialEq, Eq)]
+pub struct OutputFault {
+    write: FailedWrite,
+}
+
+/// A type of this module alone, so that no other can write an `OutputFault`.
+#[derive(Clone, Copy, Debug, PartialEq, Eq)]
+struct FailedWrite;
 
 /// Writes until all the bytes are written or a write fails. An interrupted write is a failed one, and so is one that takes
 /// no byte. Returns how many bytes were written, and whether a write failed. All output of the runner goes through this
@@ -32,7 +42,7 @@ pub fn emit<W: Write>(bytes: &[u8], out: &mut W) -> Result<(), OutputFault>
 {
     let (_, failed) = send(bytes, out);
     if failed {
-        return Err(OutputFault);
+        return Err(OutputFault { write: FailedWrite });
     }
     Ok(())
 }

@@ -3,6 +3,7 @@
 
 mod bytes;
 mod decimal;
+mod decimal_digits;
 mod emission;
 mod entry;
 mod interface;
@@ -15,7 +16,6 @@ mod no_memory;
 mod number;
 mod outcome;
 mod output;
-mod output_fault;
 mod parts;
 mod phrase;
 mod reason;
@@ -29,7 +29,8 @@ mod verdict;
 
 pub use bytes::Bytes;
 pub use decimal::Decimal;
-pub use emission::{emit, emit_all, send};
+pub use decimal_digits::{decimal_up_to, digits_length, is_digit};
+pub use emission::{OutputFault, emit, emit_all, send};
 pub use entry::Entry;
 pub use interface::Interface;
 pub use items::Items;
@@ -41,7 +42,6 @@ pub use no_memory::NoMemory;
 pub use number::{emit_number, emit_wide_number};
 pub use outcome::Outcome;
 pub use output::Output;
-pub use output_fault::OutputFault;
 pub use phrase::Phrase;
 pub use reason::Reason;
 pub use refused::Refused;

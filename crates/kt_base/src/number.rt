@@ -4,8 +4,7 @@ ghost use Rattle.kt_base.specs.Shows.{Shows};
 ghost use Rattle.kt_base.specs.Utf8.{utf8};
 
 use crate::decimal::Decimal;
-use crate::emission::emit;
-use crate::output_fault::OutputFault;
+use crate::emission::{OutputFault, emit};
 use std::io::Write;
 
 /// Writes a number of up to 128 bits in decimal, or a proper prefix of its digits if a write failed. It takes no memory.

@@ -1,8 +1,7 @@
-use crate::emission::emit;
+use crate::emission::{OutputFault, emit};
 use crate::no_memory::NoMemory;
 use crate::number::emit_number;
 use crate::outcome::Outcome;
-use crate::output_fault::OutputFault;
 use crate::phrase::Phrase;
 use crate::text::Text;
 use std::io::Write;

@@ -20,6 +20,9 @@ impl Model for Text {
 }
 
 impl Text {
+    ghost use Rattle.std.specs.Prelude.{bytes_eq};
+    ghost use Rattle.kt_base.specs.Texts.{is_empty, before, after};
+
     /// The empty text, which takes no memory.
     pub fn new(alloc: Global) -> Text
         ensures { result ≡ [] }
@@ -77,6 +80,45 @@ impl Text {
         ensures { result.now ≡ utf8 self.now }
     {
         self.as_str().as_bytes()
+    }
+
+    /// The characters of the text.
+    pub fn characters(&self) -> Result<Vec<char>, NoMemory>
+        ensures { IfOk result (λ characters. characters.items ≡ self.now) }
+    {
+        Ok(self.as_str().chars().collect(self.allocator())?)
+    }
+
+    /// Whether the text has no character.
+    pub fn is_empty(&self) -> bool
+        ensures { result ≡ is_empty self.now }
+    {
+        self.as_str().is_empty()
+    }
+
+    /// Whether the text is this word.
+    pub fn is_word(&self, word: &str) -> bool
+        ensures { result ≡ bytes_eq self.now (chars word.now) }
+    {
+        self.as_str() == word
+    }
+
+    /// The text up to the first of a character, and what follows that if it is there.
+    pub fn split_at_first(&self, sign: char) -> Result<(Text, Option<Text>), NoMemory>
+        ensures front { IfOk result (λ parts. parts.0 ≡ before sign self.now) }
+        ensures rest { IfOk result (λ parts. parts.1 ≡ after sign self.now) }
+    {
+        let characters = self.characters()?;
+        let mut front = Text::new(self.allocator());
+        let mut rest = characters.as_slice();
+        while let Some((c, after)) = rest.split_first() {
+            if *c == sign {
+                return Ok((front, Some(Text::from_characters(self.allocator(), after)?)));
+            }
+            front.push(*c)?;
+            rest = after;
+        }
+        Ok((front, None))
     }
 
     /// An equal text with memory of its own.

@@ -1,6 +1,6 @@
+use crate::emission::OutputFault;
 use crate::kind::Kind;
 use crate::no_memory::NoMemory;
-use crate::output_fault::OutputFault;
 use crate::reason::Reason;
 use crate::text::Text;
 use std::io::Write;
@@ -81,6 +81,19 @@ impl Verdict {
         Verdict {
             kind: Kind::Broken,
             reason,
+        }
+    }
+
+    /// The verdict of this kind and reason. A passed case has none.
+    pub fn of(kind: Kind, reason: Text) -> Verdict
+        ensures { (kind ≡ Passed → reason ≡ []) → result ≡ record { kind = kind; reason = reason } }
+    {
+        match kind {
+            Kind::Passed => Verdict::passed(),
+            Kind::Skipped => Verdict::skipped(Reason::Owned(reason)),
+            Kind::ExpectedFailure => Verdict::expected_failure(Reason::Owned(reason)),
+            Kind::Failed => Verdict::failed(Reason::Owned(reason)),
+            Kind::Broken => Verdict::broken(Reason::Owned(reason)),
         }
     }
 

@@ -4,9 +4,9 @@ pub mod Chains
 pub mod ChildNames
 pub mod EndSilence
 pub mod EndSteps
-pub mod HostFronts
 pub mod HostNames
 pub mod HostPlaces
+pub mod HostReads
 pub mod HostStandings
 pub mod HostSteps
 pub mod IdleStates
@@ -20,9 +20,9 @@ pub mod NewStarts
 pub mod NumberSteps
 pub mod Outcomes
 pub mod OwedCases
-pub mod Parents
 pub mod PartSteps
 pub mod Places
+pub mod RoleStarts
 pub mod SeveralSteps
 pub mod SeveralWaits
 pub mod ShownCases

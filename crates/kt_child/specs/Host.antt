@@ -1,5 +1,6 @@
 -- The system of the host.
 pub mod HostAnswers
 pub mod HostCommands
+pub mod HostFiles
 pub mod HostStands
 pub mod Removals

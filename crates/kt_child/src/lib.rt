@@ -21,7 +21,7 @@ pub use ending::ends::leave;
 pub use ending::gathering::gather;
 pub use ending::reads::{read_kept, read_list};
 pub use host::host_os::HostOs;
-pub use host::reads::read_front;
+pub use host::reads::{read_front, read_start};
 pub use laws::several::law_of_several_children;
 pub use laws::told::law_of_outcomes;
 pub use laws::width::law_of_one_child;

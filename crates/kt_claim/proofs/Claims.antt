@@ -6,8 +6,9 @@ use Rattle.std.specs.List.{prefix_len, ends_with, list_any, list_all}
 use Rattle.std.proofs.lemmas.Bool.{false≢true, lt-ltb, le-ltb, ne_eqb}
 use Rattle.std.proofs.lemmas.List.{length-append}
 use Rattle.std.proofs.Math.Seq.{take-append_seam, drop-append_seam}
+use Rattle.kt_base.specs.Digits.{is_digit}
 use Rattle.kt_base.specs.Lossy.{lossy}
-use Rattle.kt_claim.specs.Bytes.{newline, is_newline, is_digit, number}
+use Rattle.kt_claim.specs.Bytes.{newline, is_newline, number}
 use Rattle.kt_claim.specs.ResultFile.{limit, IsReason, IsNumber, with_reason, with_number, Says, line, is, takes_number, is_known, has_bracket, closes, digits, after_digits, has_number, after_number, has_reason, fits_line, fits, fault_of, IsClaimOf}
 use Rattle.kt_claim.specs.ResultFile.{word as first_word, after_word as behind_word}
 use Rattle.kt_claim.specs.ResultFile as says

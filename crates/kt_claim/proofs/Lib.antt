@@ -3,7 +3,6 @@ pub mod Counts
 pub mod FirstWords
 pub mod LineParts
 pub mod Lines
-pub mod Numbers
 pub mod Parts
 pub mod Pieces
 pub mod ReadFiles

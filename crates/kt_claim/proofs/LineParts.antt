@@ -3,7 +3,8 @@ use Rattle.std.proofs.Common.{◌≡◌, ℕ, ◌+◌, ◌*◌, ◌-◌, ◌≤�
 use Rattle.std.specs.Prelude.{if◌then◌else◌, option_map}
 use Rattle.std.proofs.lemmas.Bool.{le-ltb, ne_eqb}
 use Rattle.std.proofs.lemmas.List.{length-append}
-use Rattle.kt_claim.specs.Bytes.{number_from, is_digit, is_blank}
+use Rattle.kt_base.specs.Digits.{is_digit, decimal_from}
+use Rattle.kt_claim.specs.Bytes.{is_blank}
 use Rattle.kt_claim.specs.LineStates.{nothing, planning, behind_opening, opened}
 use Rattle.kt_claim.specs.TapStream.{below_limit, trimmed, begins, front, past, ends_plan, planned_from, directive_behind, skips, plan_for}
 use Rattle.kt_claim.specs.declared.opening.Opening.{Opening}
@@ -11,12 +12,12 @@ use Rattle.kt_claim.proofs.Truth.{and_false}
 
 -- ---- the number of a plan
 
-pub number_from-grows : (v : ℕ) (ds : List ℕ) → v ≤ number_from v ds
-number_from-grows v [] = omega arith
-number_from-grows v (d ∷ ds) = omega (arith, number_from-grows (10 * v + (d - 48)) ds)
+pub decimal_from-grows : (v : ℕ) (ds : List ℕ) → v ≤ decimal_from v ds
+decimal_from-grows v [] = omega arith
+decimal_from-grows v (d ∷ ds) = omega (arith, decimal_from-grows (10 * v + (d - 48)) ds)
 
-pub too_large : (v : ℕ) (ds : List ℕ) → 1000000000 ≤ v → below_limit (number_from v ds) ≡ None
-too_large v ds le = rw (le-ltb (number_from v ds) 1000000000 (omega (arith, number_from-grows v ds))) refl
+pub too_large : (v : ℕ) (ds : List ℕ) → 1000000000 ≤ v → below_limit (decimal_from v ds) ≡ None
+too_large v ds le = rw (le-ltb (decimal_from v ds) 1000000000 (omega (arith, decimal_from-grows v ds))) refl
 
 pub none_at_all : (t : Bool) (found : Option ℕ) → found ≡ None → (if t then found else None) ≡ None
 none_at_all true found none = none
@@ -27,7 +28,7 @@ pub plans_none : (n : ℕ) (text more : List ℕ) → 1000000000 ≤ n
     → planning None ≡ planning (option_map (plan_for (skips (directive_behind false more))) (planned_from (Some n) text))
 plans_none n text more le =
     ap (λ (o : Option ℕ). planning (option_map (plan_for (skips (directive_behind false more))) o))
-    (sym (none_at_all (ends_plan (past is_blank (past is_digit text))) (below_limit (number_from n (front is_digit text))) (too_large n (front is_digit text) le)))
+    (sym (none_at_all (ends_plan (past is_blank (past is_digit text))) (below_limit (decimal_from n (front is_digit text))) (too_large n (front is_digit text) le)))
 
 -- ---- the word that a line begins with
 

@@ -1,15 +1,17 @@
 -- The words of a result file, with a number or without.
 use Rattle.std.proofs.Common.{◌≡◌, ℕ, suc, ◌+◌, Bool, true, false, not, cond, List, [], ◌∷◌, ◌++◌, length, take, drop, Option, Some, None, refl, ap, sym, subst, ◌∙◌, append_assoc, arith}
-use Rattle.std.specs.Prelude.{◌&&◌, ◌==◌, nat_lt, codes, MatchOption, if◌then◌else◌}
+use Rattle.std.specs.Prelude.{◌&&◌, ◌==◌, nat_le, nat_lt, codes, MatchOption, if◌then◌else◌}
 use Rattle.std.specs.List.{prefix_len, list_any, list_all, find}
 use Rattle.std.proofs.lemmas.Bool.{false≢true, eqb-true, ltb-true, lt-ltb}
+use Rattle.std.proofs.lemmas.Bool.Decides.{nat_tests}
 use Rattle.std.proofs.lemmas.List.{take-append-drop}
+use Rattle.kt_base.specs.Digits.{is_digit, up_to}
 use Rattle.kt_base.specs.Lossy.{lossy}
-use Rattle.kt_claim.specs.Bytes.{newline, is_newline, is_digit, number}
+use Rattle.kt_claim.specs.Bytes.{newline, is_newline, number}
 use Rattle.kt_claim.specs.ResultFile.{limit, IsReason, IsNumber, with_reason, with_number, Says, line, is, takes_number, is_known, has_bracket, closes, digits, after_digits, has_number, after_number, has_reason, fits_line, fits, fault_of, IsClaimOf}
 use Rattle.kt_claim.specs.ResultFile.{word as first_word, after_word as behind_word}
 use Rattle.kt_claim.specs.ResultFile as says
-use Rattle.kt_claim.specs.ResultReading.{claim_with, numbered, reason_in, with_reason_in, closed, below_256, value_of, number_in, with_number_in, may_have_number, after_bracket, plainly, after_word}
+use Rattle.kt_claim.specs.ResultReading.{claim_with, numbered, reason_in, with_reason_in, closed, value_of, number_in, with_number_in, may_have_number, after_bracket, plainly, after_word}
 use Rattle.kt_claim.specs.declared.claim.Claim.{Claim}
 use Rattle.kt_claim.specs.declared.claim.Claim.TheVariants as claim
 use Rattle.kt_claim.specs.declared.claim_fault.ClaimFault.{ClaimFault}
@@ -70,9 +72,13 @@ pub closed_parts : (af : List ℕ) → closes af ≡ true → (more : List ℕ) 
 closed_parts [] e = absurd (false≢true e)
 closed_parts (b ∷ more) e = (more, ap (λ (x : ℕ). x ∷ more) (eqb-true b 41 e))
 
+-- below 256
+pub at_most : (n : ℕ) → nat_le n 255 ≡ nat_lt n 256
+at_most n = grind (arith, nat_tests)
+
 pub valued : (ds : List ℕ) → nat_lt 0 (length ds) ≡ true → nat_lt (number ds) 256 ≡ true → value_of ds ≡ Some (number ds)
 valued [] e small = absurd (false≢true e)
-valued (d ∷ ds) e small = rw small refl
+valued (d ∷ ds) e small = rw (at_most (number (d ∷ ds)) ∙ small) refl
 
 pub numbered_in : (more rest : List ℕ) → has_number (40 ∷ more) ≡ true → after_digits (40 ∷ more) ≡ 41 ∷ rest → number_in more ≡ Some (number (digits (40 ∷ more)), rest)
 unfolding number_in
@@ -92,9 +98,9 @@ closed_none t u v (d ∷ ds) af e f g isnt = small_at u v (d ∷ ds) af f g (sym
   shut_at v n [] g isnt = refl
   shut_at v n (b ∷ af) g isnt = rw (g ∙ isnt) refl
 
-  small_at : (u v : Bool) (ds af : List ℕ) → nat_lt (number ds) 256 ≡ u → closes af ≡ v → (u && v) ≡ false → closed (below_256 (number ds)) af ≡ None
-  small_at true v ds af f g isnt = rw f (shut_at v (number ds) af g isnt)
-  small_at false v ds af f g isnt = rw f refl
+  small_at : (u v : Bool) (ds af : List ℕ) → nat_lt (number ds) 256 ≡ u → closes af ≡ v → (u && v) ≡ false → closed (up_to 255 (number ds)) af ≡ None
+  small_at true v ds af f g isnt = rw (at_most (number ds) ∙ f) (shut_at v (number ds) af g isnt)
+  small_at false v ds af f g isnt = rw (at_most (number ds) ∙ f) refl
 
 pub any_right : (xs ys : List ℕ) → list_any is_newline (xs ++ ys) ≡ false → list_any is_newline ys ≡ false
 any_right [] ys none = none

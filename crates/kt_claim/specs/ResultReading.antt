@@ -1,8 +1,9 @@
 -- A result file, read from the left.
 use Rattle.std.specs.Prelude.{ℕ, Bool, true, false, not, ◌&&◌, ◌==◌, nat_eq, nat_lt, if◌then◌else◌, List, [], ◌∷◌, length, take, drop, codes, bytes_eq, Option, Some, None}
 use Rattle.std.specs.List.{prefix_len, starts_with, ends_with, list_any}
+use Rattle.kt_base.specs.Digits.{is_digit, up_to}
 use Rattle.kt_base.specs.Lossy.{lossy}
-use Rattle.kt_claim.specs.Bytes.{newline, is_newline, is_digit, is_word_byte, number}
+use Rattle.kt_claim.specs.Bytes.{newline, is_newline, is_word_byte, number}
 use Rattle.kt_claim.specs.ResultFile.{limit, line}
 use Rattle.kt_claim.specs.declared.claim.Claim.{Claim}
 use Rattle.kt_claim.specs.declared.claim.Claim.TheVariants as claim
@@ -55,14 +56,10 @@ closed None rest = None
 closed (Some n) [] = None
 closed (Some n) (b ∷ rest) = if b == 41 then Some (n, rest) else None
 
--- a number, if it is one of an exit status or of a signal
-abbrev pub below_256 : ℕ → Option ℕ
-below_256 n = if nat_lt n 256 then Some n else None
-
--- the value of digits, if there are some and it is below 256
+-- the value of digits, if there are some and it is one of an exit status or of a signal
 abbrev pub value_of : List ℕ → Option ℕ
 value_of [] = None
-value_of (d ∷ digits) = below_256 (number (d ∷ digits))
+value_of (d ∷ digits) = up_to 255 (number (d ∷ digits))
 
 -- the number behind an opening bracket, and what follows its closing one
 unfoldable pub number_in : List ℕ → Option (ℕ × List ℕ)

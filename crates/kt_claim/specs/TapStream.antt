@@ -2,8 +2,9 @@
 use Rattle.std.specs.Prelude.{ℕ, Bool, true, false, not, ◌&&◌, ◌||◌, ◌==◌, nat_lt, if◌then◌else◌, List, [], ◌∷◌, map, length, drop, codes, Option, Some, None, is_some, option_map}
 use Rattle.std.specs.Char.{to_ascii_lowercase}
 use Rattle.std.specs.List.{list_any, filter, filter_map}
+use Rattle.kt_base.specs.Digits.{is_digit, decimal_from}
 use Rattle.kt_base.specs.Lossy.{lossy}
-use Rattle.kt_claim.specs.Bytes.{is_newline, is_digit, is_blank, number_from}
+use Rattle.kt_claim.specs.Bytes.{is_newline, is_blank}
 use Rattle.kt_claim.specs.declared.tap.Tap.{Tap}
 use Rattle.kt_claim.specs.declared.tap.Tap.TheVariants.{Invalid, BailedOut, SkipAll, Counted}
 use Rattle.kt_claim.specs.declared.tap_fault.TapFault.TheVariants.{TooLong, NoPlan, SecondPlan, PlanDiffers}
@@ -143,8 +144,8 @@ below_limit n = if nat_lt n 1000000000 then Some n else None
 -- the value of decimal digits behind those of a value; one digit or more
 abbrev pub value_from : Option ℕ → List ℕ → Option ℕ
 value_from None [] = None
-value_from None (d ∷ digits) = below_limit (number_from 0 (d ∷ digits))
-value_from (Some n) digits = below_limit (number_from n digits)
+value_from None (d ∷ digits) = below_limit (decimal_from 0 (d ∷ digits))
+value_from (Some n) digits = below_limit (decimal_from n digits)
 
 -- digits, then blanks, then the end or a hash
 abbrev pub planned_from : Option ℕ → List ℕ → Option ℕ

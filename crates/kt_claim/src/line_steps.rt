@@ -2,7 +2,8 @@
 
 ghost use Rattle.std.specs.Prelude.{◌≡◌, [], ◌∷◌, ℕ, List, false, option_map, Some};
 ghost use Rattle.std.specs.Prelude.{true, ◌<◌, ◌^◌, ◌-◌};
-ghost use Rattle.kt_claim.specs.Bytes.{is_blank, is_digit};
+ghost use Rattle.kt_base.specs.Digits.{is_digit};
+ghost use Rattle.kt_claim.specs.Bytes.{is_blank};
 ghost use Rattle.kt_claim.specs.TapStream.{directive_behind, planned_from, below_limit, reason_of, skips, plan_for};
 ghost use Rattle.kt_claim.specs.LineStates.{facts_of, planning, behind_opening, opened, directed, begun_directive, told, is_kept, is_reason, next_letter, with_letter};
 
@@ -11,6 +12,7 @@ use crate::letters::Letters;
 use crate::line_kind::LineKind;
 use crate::opening::Opening;
 use crate::purpose::Purpose;
+use kt_base::is_digit;
 
 /// A plan has fewer tests.
 pub const LIMIT: u64 = 1_000_000_000;
@@ -19,12 +21,6 @@ pub fn is_blank(b: u8) -> bool
     ensures { result ≡ is_blank b }
 {
     matches!(b, b' ' | b'\t')
-}
-
-fn is_digit(b: u8) -> bool
-    ensures { result ≡ is_digit b }
-{
-    b.is_ascii_digit()
 }
 
 /// The first byte of a line.

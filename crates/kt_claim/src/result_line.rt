@@ -2,13 +2,13 @@
 
 ghost use Rattle.std.specs.Prelude.{◌≡◌, ◌≤◌, ◌<◌, length, IfOk, IfSome, MatchOption, option_map};
 ghost use Rattle.std.specs.List.{prefix_len};
-ghost use Rattle.kt_claim.specs.Bytes.{is_digit, is_word_byte, number_from};
-ghost use Rattle.kt_claim.specs.ResultReading.{below_256, value_of, number_in, reason_in, with_reason_in, with_number_in, numbered, claim_with, after_bracket, plainly, after_word, claim_of_line};
+ghost use Rattle.kt_claim.specs.Bytes.{is_word_byte};
+ghost use Rattle.kt_claim.specs.ResultReading.{value_of, number_in, reason_in, with_reason_in, with_number_in, numbered, claim_with, after_bracket, plainly, after_word, claim_of_line};
 
 use crate::claim::Claim;
 use crate::claim_fault::ClaimFault;
 use crate::word::Word;
-use kt_base::{NoMemory, Text, lossy};
+use kt_base::{NoMemory, Text, decimal_up_to, digits_length, lossy};
 use std::alloc::Global;
 
 fn is_word_byte(b: u8) -> bool
@@ -24,43 +24,15 @@ fn word_length(text: &[u8]) -> usize
     text.iter().take_while(|b| is_word_byte(**b)).count()
 }
 
-fn is_digit(b: u8) -> bool
-    ensures { result ≡ is_digit b }
-{
-    b.is_ascii_digit()
-}
-
-fn digits_length(text: &[u8]) -> usize
-    ensures value { result ≡ prefix_len is_digit text.now }
-    ensures within { result ≤ length text.now }
-{
-    text.iter().take_while(|b| is_digit(**b)).count()
-}
-
-/// The value of decimal digits, if it is below 256.
-fn below_256(digits: &[u8]) -> Option<u8>
-    ensures { result ≡ below_256 (number_from 0 digits.now) }
-{
-    let mut value = 0u8;
-    let mut rest = digits;
-    while let Some((b, after)) = rest.split_first() {
-        let next = 10 * value as u32 + b.saturating_sub(b'0') as u32;
-        if next > 255 {
-            return None;
-        }
-        value = next as u8;
-        rest = after;
-    }
-    Some(value)
-}
-
+/// The value of digits, if there are some and it is at most 255.
 fn value_of(digits: &[u8]) -> Option<u8>
     ensures { result ≡ value_of digits.now }
 {
-    match digits {
-        [] => None,
-        _ => below_256(digits),
+    if digits.is_empty() {
+        return None;
     }
+    let value = decimal_up_to(255, digits)?;
+    Some(value as u8)
 }
 
 /// The number behind a bracket, and what follows the bracket that closes it.

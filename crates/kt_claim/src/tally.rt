@@ -103,7 +103,8 @@ impl Tally {
         Ok(Tally { plan, ..self })
     }
 
-    /// Counts one more line of this kind; the reason is that of a plan of no tests. Lines behind a bail out do not count.
+    /// Counts one more line of this kind; the reason is that of a plan of no tests. Lines behind a
+    /// bail out don't count.
     pub fn add(self, alloc: Global, kind: LineKind, reason: &[u8]) -> Result<Tally, NoMemory>
         ensures { IfOk result (λ after. (line : List ℕ) (lines : List (List ℕ))
             → facts_of line ≡ facts_of_kind kind reason.now → length lines < 2 ^ 32

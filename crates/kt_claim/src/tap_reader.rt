@@ -15,8 +15,8 @@ use std::mem;
 /// The most bytes of a stream.
 const LIMIT: usize = 16_777_216;
 
-/// Reads a TAP stream that comes in pieces. It keeps counts, the first plan, and of the line that was begun how far it
-/// has come; no bytes but those of a plan's reason.
+/// Reads a TAP stream that comes in pieces. It keeps counts, the first plan, and of the line that
+/// was begun how far it has come; no bytes but those of a plan's reason.
 #[derive(Drop)]
 pub struct TapReader {
     alloc: Global,

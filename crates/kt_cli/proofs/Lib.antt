@@ -5,7 +5,6 @@ pub mod DebugRuns
 pub mod FaultWords
 pub mod Gainings
 pub mod HostCommands
-pub mod HostReads
 pub mod Hosting
 pub mod LineBytes
 pub mod MemoryLaws
@@ -22,4 +21,3 @@ pub mod SoundRuns
 pub mod StoreChains
 pub mod Testings
 pub mod Utf8Sums
-pub mod Warned

@@ -37,36 +37,7 @@ says_none written (Err z) Q y a xs e h = subst (λ (f : Bool). Says a f a true x
 pub says_first : {T E : Type 0} (written : Result T E) (x : T) (a b : Option (List ℕ)) (f : Bool) (xs : List ℕ) → written ≡ Ok x → Shows a b f xs → Says a (is_err written) b f xs
 says_first written x a b f xs e p = subst (λ (g : Bool). Says a g b f xs) (sym (ap is_err e)) (record { more = p })
 
--- a text, and then another, in UTF-8
-pub utf8_both : {a b d : Option (List ℕ)} {failed : Bool} (xs ys : List ℕ) → Shows a b false (utf8 xs) → Shows b d failed (utf8 ys) → Shows a d failed (utf8 (xs ++ ys))
-utf8_both xs ys p q = shows_as (sym (utf8-append xs ys)) (shows_both p q)
-
-pub utf8_more : {a b : Option (List ℕ)} (xs ys : List ℕ) → Shows a b true (utf8 xs) → Shows a b true (utf8 (xs ++ ys))
-utf8_more xs ys p = shows_as (sym (utf8-append xs ys)) (shows_more (utf8 ys) p)
-
--- what was written, and what is still to be listed
-pub record Lists (a b : Option (List ℕ)) (cases rest : List Candidate) : Type 0 where
-  pub front : List ℕ
-  pub split : flat_map case_line cases ≡ front ++ flat_map case_line rest
-  pub shows : Shows a b false (utf8 front)
-
-pub lists_first : (a : Option (List ℕ)) (cases : List Candidate) → Lists a a cases cases
-lists_first a cases = record { front = []; split = refl; shows = shows_none }
-
-lists_next : (front : List ℕ) (cases rest later : List Candidate) (case : Candidate) → rest ≡ case ∷ later → flat_map case_line cases ≡ front ++ flat_map case_line rest → flat_map case_line cases ≡ (front ++ case_line case) ++ flat_map case_line later
-lists_next front cases rest later case e s = s ∙ ap (λ (xs : List Candidate). front ++ flat_map case_line xs) e ∙ sym (append_assoc front (case_line case) (flat_map case_line later))
-
-pub lists_more : (a b d : Option (List ℕ)) (cases rest later : List Candidate) (case : Candidate) → rest ≡ case ∷ later → Lists a b cases rest → Shows b d false (utf8 (case_line case)) → Lists a d cases later
-lists_more a b d cases rest later case e l p = record { front = l.front ++ case_line case; split = lists_next l.front cases rest later case e l.split; shows = utf8_both l.front (case_line case) l.shows p }
-
-pub lists_cut : (a b d : Option (List ℕ)) (cases rest later : List Candidate) (case : Candidate) → rest ≡ case ∷ later → Lists a b cases rest → Shows b d true (utf8 (case_line case)) → Shows a d true (utf8 (flat_map case_line cases))
-lists_cut a b d cases rest later case e l p =
-    shows_as (ap utf8 (sym (lists_next l.front cases rest later case e l.split))) (utf8_more (l.front ++ case_line case) (flat_map case_line later) (utf8_both l.front (case_line case) l.shows p))
-
 -- a list of no length is empty
 pub nothing : {X : Type 0} (xs : List X) → length xs ≡ 0 → xs ≡ []
 nothing [] e = refl
 nothing (x ∷ xs) e = absurd (omega (arith, e))
-
-pub lists_all : (a b : Option (List ℕ)) (cases rest : List Candidate) → length rest ≡ 0 → Lists a b cases rest → Shows a b false (utf8 (flat_map case_line cases))
-lists_all a b cases rest e l = shows_as (ap utf8 (sym (l.split ∙ ap (λ (xs : List Candidate). l.front ++ flat_map case_line xs) (nothing rest e) ∙ append-nil l.front))) l.shows

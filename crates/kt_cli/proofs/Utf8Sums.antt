@@ -1,7 +1,13 @@
 -- The bytes of several texts, one after the other.
-use Rattle.std.proofs.Common.{◌≡◌, ℕ, List, ◌++◌, ap, ◌∙◌}
+use Rattle.std.specs.Prelude.{flat_map}
+use Rattle.std.proofs.Common.{◌≡◌, ℕ, List, [], ◌∷◌, ◌++◌, refl, sym, ap, ◌∙◌}
 use Rattle.kt_base.specs.Utf8.{utf8}
 use Rattle.kt_base.proofs.Showing.{utf8-append}
+
+-- the bytes of texts in turn
+pub utf8_flat_map : {X : Type 0} (f : X → List ℕ) (xs : List X) → flat_map (λ (x : X). utf8 (f x)) xs ≡ utf8 (flat_map f xs)
+utf8_flat_map f [] = refl
+utf8_flat_map f (x ∷ xs) = ap (λ (z : List ℕ). utf8 (f x) ++ z) (utf8_flat_map f xs) ∙ sym (utf8-append (f x) (flat_map f xs))
 
 pub utf8_three : (a b c : List ℕ) → utf8 (a ++ b ++ c) ≡ utf8 a ++ utf8 b ++ utf8 c
 utf8_three a b c = utf8-append (a ++ b) c ∙ ap (λ (z : List ℕ). z ++ utf8 c) (utf8-append a b)

@@ -1,6 +1,5 @@
 -- What is read of the host's files.
-use Rattle.std.specs.Prelude.{ℕ, List, ◌++◌, ◌≡◌, ◌≤◌, length, Option, IfOk, ⊤}
-use Rattle.std.specs.Io.KnownBytes.{Consumes, IsAtEnd}
+use Rattle.std.specs.Prelude.{ℕ, ◌≡◌, ◌≤◌, length, IfOk, ⊤}
 use Rattle.kt_suite.specs.Answers.{Asked, Read, Exists}
 
 -- how many bytes of a file are read at the most: one more than a script may have
@@ -15,13 +14,3 @@ IsWorldAnswer (Exists path answer) = ⊤
 -- a question about the host's files leaves a launcher as it is
 abbrev pub IsLook : {L : Type 0} → L → Asked → L → Type 0
 IsLook old asked new = (new ≡ old) × IsWorldAnswer asked
-
--- one read took so many bytes of what was left of a file, as far as there was room, and put them behind the others; it took none only at
--- the end
-pub record TakesPiece (left rest : Option (List ℕ)) (room : ℕ) (old new : List ℕ) (count : ℕ) : Type 0 where
-  pub piece : List ℕ
-  pub long : length piece ≡ count
-  pub fits : count ≤ room
-  pub taken : Consumes left rest piece
-  pub behind : new ≡ old ++ piece
-  pub last : count ≡ 0 → IsAtEnd rest

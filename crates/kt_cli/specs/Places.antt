@@ -1,6 +1,6 @@
 -- Where a Kyuafile lies among the host's files.
-use Rattle.std.specs.Prelude.{ℕ, Bool, false, List, [], ◌∷◌, ◌++◌, ◌-◌, codes, length, take, if◌then◌else◌}
-use Rattle.kt_suite.specs.Paths.{directory_of, is_slash}
+use Rattle.std.specs.Prelude.{ℕ, Bool, false, List, [], ◌∷◌, ◌++◌, codes, if◌then◌else◌}
+use Rattle.kt_suite.specs.Paths.{is_slash, parent_of}
 
 -- the path begins at the root of the host
 abbrev pub is_absolute : List ℕ → Bool
@@ -11,10 +11,6 @@ is_absolute (c ∷ cs) = is_slash c
 abbrev pub absolute : List ℕ → List ℕ → List ℕ
 absolute here path = if is_absolute path then path else here ++ codes "/" ++ path
 
--- all but the last character
-abbrev pub without_last : List ℕ → List ℕ
-without_last path = take (length path - 1) path
-
 -- the directory of a Kyuafile, without a slash at its end
 abbrev pub source_directory : List ℕ → List ℕ → List ℕ
-source_directory here kyuafile = without_last (directory_of (absolute here kyuafile))
+source_directory here kyuafile = parent_of (absolute here kyuafile)

@@ -1,21 +1,7 @@
-ghost use Rattle.std.specs.Prelude.{◌≡◌, [], IfOk};
-ghost use Rattle.kt_base.specs.declared.kind.Kind.TheVariants.{Passed};
+ghost use Rattle.std.specs.Prelude.{◌≡◌, IfOk};
 
-use kt_base::{Entry, Items, Kind, NoMemory, Output, Reason, Text, Verdict};
+use kt_base::{Entry, NoMemory, Output, Text, Verdict};
 use std::alloc::Global;
-
-/// The verdict of this kind and reason. A passed case has none.
-fn verdict_of(kind: Kind, reason: Text) -> Verdict
-    ensures { (kind ≡ Passed → reason ≡ []) → result ≡ record { kind = kind; reason = reason } }
-{
-    match kind {
-        Kind::Passed => Verdict::passed(),
-        Kind::Skipped => Verdict::skipped(Reason::Owned(reason)),
-        Kind::ExpectedFailure => Verdict::expected_failure(Reason::Owned(reason)),
-        Kind::Failed => Verdict::failed(Reason::Owned(reason)),
-        Kind::Broken => Verdict::broken(Reason::Owned(reason)),
-    }
-}
 
 fn copy_of_verdict(alloc: Global, verdict: &Verdict) -> Result<Verdict, NoMemory>
     ensures { IfOk result (λ copy. copy ≡ verdict.now) }
@@ -23,7 +9,7 @@ fn copy_of_verdict(alloc: Global, verdict: &Verdict) -> Result<Verdict, NoMemory
     verdict.passed_without_reason();
     let mut reason = Text::new(alloc);
     verdict.write_reason(&mut reason)?;
-    Ok(verdict_of(verdict.kind(), reason))
+    Ok(Verdict::of(verdict.kind(), reason))
 }
 
 fn copy_of_output(output: &Output) -> Result<Output, NoMemory>
@@ -57,10 +43,8 @@ pub fn copy_of_entries(alloc: Global, entries: &[Entry]) -> Result<Vec<Entry>, N
     ensures { IfOk result (λ copies. copies.items ≡ entries.now) }
 {
     let mut copies = Vec::new(alloc);
-    let mut rest = entries;
-    while let Some((entry, after)) = rest.split_first() {
+    for entry in entries {
         copies.push(copy_of_entry(alloc, entry)?)?;
-        rest = after;
     }
     Ok(copies)
 }

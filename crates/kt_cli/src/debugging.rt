@@ -17,8 +17,8 @@ use kt_sched::{Job, Launcher, RunFault, Totals, run_cases};
 use std::alloc::Global;
 use std::io::Write;
 
-/// Runs a plan one case at a time, and prints what each case wrote and its line. Returns how it ended, and whether all of
-/// it could be written.
+/// Runs a plan one case at a time, and prints what each case wrote and its line. Returns how it
+/// ended, and whether all of it could be written.
 fn print_cases<L: Launcher, O: Write>(
     alloc: Global,
     plan: Items<Job>,

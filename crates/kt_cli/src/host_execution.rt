@@ -66,7 +66,9 @@ fn execute_over<
 ) -> (Exit, Runner<O>)
     requires { IsIdle (shown_at runner.driver.running.cases)
         (is_among runner.driver.running.pending) }
-    ensures did { Did IsLook (IsHostAnswer O.leads) (RunnerStarts O.leads) (RunnerWaits O.leads) S.answers S.stands S.sound S.leaves command.now runner result.1 results.old results.new (W.contents out.old) (W.contents out.new) result.0.status }
+    ensures did { Did IsLook (IsHostAnswer O.leads) (RunnerStarts O.leads) (RunnerWaits O.leads)
+        S.answers S.stands S.sound S.leaves command.now runner result.1 results.old results.new
+        (W.contents out.old) (W.contents out.new) result.0.status }
     ensures idle { IsIdle (shown_at result.1.driver.running.cases)
         (is_among result.1.driver.running.pending) }
 {
@@ -75,8 +77,8 @@ fn execute_over<
     (exit, world.runner)
 }
 
-/// Does a command over test cases of the host and this system, with work directories of its own, which are removed at the
-/// end.
+/// Does a command over test cases of the host and this system, with work directories of its own,
+/// which are removed at the end.
 fn execute_over_cases<
     R: Files<File = File> + Clock + AllocGlobal,
     O: Os + Drop,
@@ -114,8 +116,8 @@ fn execute_over_cases<
     Ok(exit)
 }
 
-/// Does a command over the host's files, this system and a store of runs. Where no root directory can be made, nothing is
-/// written; a report needs none and is never refused.
+/// Does a command over the host's files, this system and a store of runs. Where no root directory
+/// can be made, nothing is written; a report needs none and is never refused.
 pub fn execute_on_host<
     R: Files<File = File> + Clock + AllocGlobal,
     O: Os + Drop,

@@ -3,7 +3,8 @@ ghost use Rattle.std.specs.Prelude.{◌≡◌, ◌≤◌, length, IfSome};
 /// The longest path that the host takes, in bytes.
 pub const LONGEST_PATH: usize = 4_095;
 
-/// Writes a piece of a path behind the first bytes of a room: where it ends, if there is space for it.
+/// Writes a piece of a path behind the first bytes of a room: where it ends, if there is space for
+/// it.
 fn put(room: &mut [u8], from: usize, piece: &str) -> Option<usize>
     requires { from ≤ length room.old }
     ensures within { IfSome result (λ end. end ≤ length room.new) }

@@ -1,20 +1,19 @@
-ghost use Rattle.std.specs.Prelude.{◌≡◌, ◌≤◌, ◌<◌, Some, IfSome, IfOk, OnOk, chars, length, take, drop};
+ghost use Rattle.std.specs.Prelude.{◌≡◌, ◌≤◌, IfOk, chars, length};
 ghost use Rattle.std.specs.List.{list_any};
 ghost use Rattle.kt_suite.specs.Paths.{is_slash};
-ghost use Rattle.kt_cli.specs.HostFiles.{read_limit, TakesPiece};
+ghost use Rattle.kt_cli.specs.HostFiles.{read_limit};
 
 use crate::host_path::{LONGEST_PATH, joined_path};
 use crate::place::is_absolute;
 use crate::runner::Runner;
 use kt_atflist::Listing;
 use kt_base::{Bytes, LATEST_MOMENT, NoMemory, Role, Text, Variables};
-use kt_child::Os;
+use kt_child::{Os, read_start};
 use kt_plan::World;
 use kt_sched::{Ended, Job, Launcher, StartAnswer};
 use kt_suite::{Program, ReadFault, Tree};
-use std::alloc::Global;
 use std::fs::File;
-use std::io::{ErrorKind, Read};
+use std::io::ErrorKind;
 use std::os::unix::fs::PermissionsExt;
 use std::rt::{Clock, Files};
 use std::time::SystemTime;
@@ -23,14 +22,11 @@ use std::{fs, io};
 /// How many bytes of a file are read at the most: one more than a script may have.
 const READ_LIMIT: usize = 1_048_577;
 
-/// The size of the pieces in which a file is read, in bytes.
-const PIECE: usize = 8_192;
-
 /// The rights to execute a file.
 const EXECUTE_RIGHTS: u32 = 0o111;
 
-/// The host as a command sees it: the files below a directory, what is found around the command, a clock and a driver.
-/// Links are followed; only a regular file counts as one.
+/// The host as a command sees it: the files below a directory, what is found around the command, a
+/// clock and a driver. Links are followed; only a regular file counts as one.
 #[derive(Drop)]
 pub struct HostWorld<'a, R, O: Os + Drop> {
     rt: &'a R,
@@ -51,47 +47,6 @@ fn fault_of(error: io::Error) -> ReadFault {
     }
 }
 
-/// Appends what one read gives, as far as there is room, and answers how many bytes it gave: none at the end. An interrupted
-/// read is a fault too.
-fn read_piece<F: Read>(file: &mut F, room: &mut [u8], bytes: &mut Bytes) -> Result<usize, ReadFault>
-    requires { 0 < length room.old }
-    ensures { IfOk result (λ count. TakesPiece (F.remaining file.old) (F.remaining file.new)
-        (length room.old) bytes.old bytes.new count) }
-{
-    let count = match file.read(room) {
-        Ok(count) => count,
-        Err(_) => return Err(ReadFault::Failed),
-    };
-    match bytes.append(&room[..count]) {
-        Ok(()) => Ok(count),
-        Err(refusal) => Err(ReadFault::Memory(refusal)),
-    }
-}
-
-/// Reads to the end of a file, to the limit, or to the first fault. An interrupted read is a fault too.
-pub fn read_start<F: Read>(alloc: Global, file: &mut F) -> Result<Bytes, ReadFault>
-    ensures few { IfOk result (λ bytes. length bytes ≤ read_limit) }
-    // Of a file whose bytes are known, the front is read, and the rest is left.
-    ensures front { IfOk result (λ bytes. IfSome (F.remaining file.old)
-        (λ all. bytes ≡ take read_limit all)) }
-    ensures rest { OnOk result (IfSome (F.remaining file.old)
-        (λ all. F.remaining file.new ≡ Some (drop read_limit all))) }
-{
-    let mut bytes = Bytes::new(alloc);
-    let mut buffer = [0u8; PIECE];
-    while bytes.len() < READ_LIMIT {
-        let want = PIECE.min(READ_LIMIT - bytes.len());
-        let count = match read_piece(file, &mut buffer[..want], &mut bytes) {
-            Ok(count) => count,
-            Err(fault) => return Err(fault),
-        };
-        if count == 0 {
-            return Ok(bytes);
-        }
-    }
-    Ok(bytes)
-}
-
 /// Whether a path has a slash.
 fn has_slash(name: &str) -> bool
     ensures { result ≡ list_any is_slash (chars name.now) }
@@ -100,7 +55,8 @@ fn has_slash(name: &str) -> bool
 }
 
 impl<'a, R: Files<File = File> + Clock + AllocGlobal, O: Os + Drop> HostWorld<'a, R, O> {
-    /// The world whose root is this directory, which ends with a slash or is empty for the working directory.
+    /// The world whose root is this directory, which ends with a slash or is empty for the working
+    /// directory.
     pub fn new(rt: &'a R, directory: Text, runner: Runner<O>) -> HostWorld<'a, R, O>
         ensures { result.runner ≡ runner }
     {
@@ -126,7 +82,7 @@ impl<'a, R: Files<File = File> + Clock + AllocGlobal, O: Os + Drop> HostWorld<'a
             return Err(ReadFault::Failed);
         }
         match File::open(self.rt, place) {
-            Ok(mut file) => read_start(self.rt.alloc(), &mut file),
+            Ok(mut file) => read_start(self.rt.alloc(), &mut file, READ_LIMIT),
             Err(error) => Err(fault_of(error)),
         }
     }

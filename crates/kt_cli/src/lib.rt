@@ -1,4 +1,5 @@
-//! The commands of kyua(1), over a world, recorded runs and a writer, and what reads the host's files.
+//! The commands of kyua(1), over a world, recorded runs and a writer, and what reads the host's
+//! files.
 #![tactic(auto)]
 
 mod behind;
@@ -7,6 +8,7 @@ mod copies;
 mod debugging;
 mod execution;
 mod exit;
+mod fault_exit;
 mod fault_line;
 mod held_bytes;
 mod host_execution;
@@ -29,15 +31,15 @@ mod sequence;
 mod stop_line;
 mod stopping;
 mod surroundings;
-mod telling;
 mod testing;
 mod totals;
 mod warnings;
 
 pub use execution::execute;
 pub use exit::Exit;
+pub use fault_exit::{print_command_fault, print_driver_fault, print_store_fault};
 pub use host_execution::execute_on_host;
-pub use host_world::{HostWorld, read_start};
+pub use host_world::HostWorld;
 pub use laws::{law_of_children, law_of_sound_stores};
 pub use line_output::LineOutput;
 pub use mem_runs::MemRuns;
@@ -48,4 +50,3 @@ pub use results_file::prepare_results;
 pub use runner::Runner;
 pub use sequence::execute_all;
 pub use surroundings::Surroundings;
-pub use telling::{tell_command_fault, tell_driver_fault, tell_store_fault};

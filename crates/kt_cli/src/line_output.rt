@@ -4,9 +4,10 @@ use kt_base::send;
 use std::io;
 use std::io::{ErrorKind, Write};
 
-/// A writer before another one: it holds a line's beginning and hands on what it holds once a line is whole, or its room
-/// is full. An interrupted write is a failed one, and so is one that takes no byte. After a failed write every call
-/// fails, and nothing more is written, by a drop neither. It takes no memory.
+/// A writer before another one: it holds a line's beginning and hands on what it holds once a line
+/// is whole, or its room is full. An interrupted write is a failed one, and so is one that takes no
+/// byte. After a failed write every call fails, and nothing more is written, by a drop neither. It
+/// takes no memory.
 #[derive(Drop)]
 pub struct LineOutput<W> {
     out: W,
@@ -116,7 +117,8 @@ impl<W: Write> LineOutput<W> {
     ghost use Rattle.kt_cli.specs.LineOutputs.{given_bytes, unwritten};
     ghost use Rattle.kt_cli.specs.Performing.{Flushed};
 
-    /// The exit of a command that wrote here: what is still held is written, and where that fails the exit is 2.
+    /// The exit of a command that wrote here: what is still held is written, and where that fails
+    /// the exit is 2.
     pub fn finish(&mut self, exit: Exit) -> Exit
         ensures { Flushed (given_bytes W.contents self.old) (given_bytes W.contents self.new)
             (unwritten self.new) exit.status result.status }

@@ -30,10 +30,8 @@ fn write_cases<O: Write>(cases: &[Candidate], out: &mut O) -> Result<(), OutputF
     ensures { Shows (O.contents out.old) (O.contents out.new) (is_err result)
         (utf8 (flat_map case_line cases.now)) }
 {
-    let mut rest = cases;
-    while let Some((case, after)) = rest.split_first() {
+    for case in cases {
         write_case(case, out)?;
-        rest = after;
     }
     Ok(())
 }

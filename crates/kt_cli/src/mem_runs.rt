@@ -8,7 +8,8 @@ use std::mem;
 /// The most runs that are recorded.
 const RUN_LIMIT: usize = 1_000_000;
 
-/// Recorded runs in memory. Contracts see their list; a run's number is its place in it, counted from 1.
+/// Recorded runs in memory. Contracts see their list; a run's number is its place in it, counted
+/// from 1.
 #[derive(Drop)]
 pub struct MemRuns {
     runs: Vec<Run>,

@@ -5,12 +5,12 @@ ghost use Rattle.kt_cli.specs.Performing.{CarriedOut, DoneBy, DoneIn, DoneOver, 
 
 use crate::closing::with_closed;
 use crate::exit::Exit;
+use crate::fault_exit::{print_command_fault, print_driver_fault, print_store_fault};
 use crate::host_execution::execute_on_host;
 use crate::line_output::LineOutput;
 use crate::mem_runs::MemRuns;
 use crate::platform::Platform;
 use crate::surroundings::Surroundings;
-use crate::telling::{tell_command_fault, tell_driver_fault, tell_store_fault};
 use kt_base::Text;
 use kt_child::{DriverFault, Os};
 use kt_store::ResultStore;
@@ -52,11 +52,11 @@ fn perform_over<
 {
     let around = match surroundings_of(rt.alloc(), platform, command) {
         Ok(around) => around,
-        Err(fault) => return tell_driver_fault(fault, out),
+        Err(fault) => return print_driver_fault(fault, out),
     };
     match execute_on_host(rt, os, around, command, results, out) {
         Ok(exit) => exit,
-        Err(fault) => tell_driver_fault(fault, out),
+        Err(fault) => print_driver_fault(fault, out),
     }
 }
 
@@ -73,7 +73,7 @@ fn perform_in_file<
 {
     let mut results = match platform.open(file) {
         Ok(results) => results,
-        Err(fault) => return tell_store_fault(fault, out),
+        Err(fault) => return print_store_fault(fault, out),
     };
     let exit = perform_over(rt, os, platform, command, &mut results, out);
     // The results are closed, whatever was done.
@@ -101,8 +101,8 @@ fn perform_by_results<
     }
 }
 
-/// Performs a command of the program: over the host's files, this system and the results that the platform opens and
-/// closes, with its text on standard output, line for line.
+/// Performs a command of the program: over the host's files, this system and the results that the
+/// platform opens and closes, with its text on standard output, line for line.
 pub fn perform<R: Files<File = File> + Clock + AllocGlobal, O: Os + Drop, P: Platform, W: Write>(
     rt: &R,
     os: O,
@@ -118,18 +118,18 @@ pub fn perform<R: Files<File = File> + Clock + AllocGlobal, O: Os + Drop, P: Pla
     out.finish(exit)
 }
 
-/// Tells on standard error why words are no command; an out-of-memory error goes to standard output, as every other
-/// message.
+/// Tells on standard error why words are no command; an out-of-memory error goes to standard
+/// output, as every other message.
 fn reject<W: Write, E: Write>(fault: &CommandFault, out: &mut LineOutput<W>, errors: &mut E) -> Exit
     ensures { Rejected fault.now (given_bytes W.contents out.old) (given_bytes W.contents out.new)
         (unwritten out.new) (E.contents errors.old) (E.contents errors.new) result.status }
 {
     match fault {
         CommandFault::NoMemory(_) => {
-            let exit = tell_command_fault(fault, out);
+            let exit = print_command_fault(fault, out);
             out.finish(exit)
         }
-        _ => tell_command_fault(fault, errors),
+        _ => print_command_fault(fault, errors),
     }
 }
 

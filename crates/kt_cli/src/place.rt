@@ -1,9 +1,9 @@
 ghost use Rattle.std.specs.Prelude.{◌≡◌, IfOk};
 ghost use Rattle.std.specs.Str.{chars};
-ghost use Rattle.kt_cli.specs.Places.{is_absolute, absolute, without_last, source_directory};
+ghost use Rattle.kt_cli.specs.Places.{is_absolute, absolute, source_directory};
 
 use kt_base::{NoMemory, Text};
-use kt_suite::split_path;
+use kt_suite::parent_path;
 use std::alloc::Global;
 
 /// Whether a path begins at the root of the host.
@@ -14,13 +14,6 @@ pub fn is_absolute(path: &Text) -> bool
         Some(c) => c == '/',
         None => false,
     }
-}
-
-/// The characters of a path.
-fn characters(alloc: Global, path: &Text) -> Result<Vec<char>, NoMemory>
-    ensures { IfOk result (λ characters. characters.items ≡ path.now) }
-{
-    Ok(path.as_str().chars().collect(alloc)?)
 }
 
 /// A path, seen from a directory.
@@ -36,22 +29,11 @@ fn absolute(alloc: Global, here: &str, path: &Text) -> Result<Text, NoMemory>
     Ok(whole)
 }
 
-/// A path without its last character.
-fn without_last(alloc: Global, path: &Text) -> Result<Text, NoMemory>
-    ensures { IfOk result (λ front. front ≡ without_last path.now) }
-{
-    let characters = characters(alloc, path)?;
-    match characters.split_last() {
-        Some((_, front)) => Ok(Text::from_characters(alloc, front)?),
-        None => Ok(Text::new(alloc)),
-    }
-}
-
-/// The absolute directory of a Kyuafile, without a slash at its end. `here` is the absolute working directory.
+/// The absolute directory of a Kyuafile, without a slash at its end. `here` is the absolute working
+/// directory.
 pub fn source_of(alloc: Global, here: &str, kyuafile: &Text) -> Result<Text, NoMemory>
     ensures { IfOk result (λ source. source ≡ source_directory (chars here.now) kyuafile.now) }
 {
     let path = absolute(alloc, here, kyuafile)?;
-    let (directory, _) = split_path(alloc, &path)?;
-    Ok(without_last(alloc, &directory)?)
+    parent_path(alloc, &path)
 }

@@ -3,9 +3,11 @@ use kt_base::Text;
 use kt_child::DriverFault;
 use kt_store::{ResultStore, StoreFault};
 
-/// What the program has around its commands: the files of their results, and what is found around the process.
+/// What the program has around its commands: the files of their results, and what is found around
+/// the process.
 ///
-/// An implementer may answer as it likes: what is promised of a command holds for the answers that were given to it.
+/// An implementer may answer as it likes: what is promised of a command holds for the answers that
+/// were given to it.
 pub trait Platform {
     ghost use Rattle.kt_cli.specs.Platforms.{Provided, Opened, Closed, Found};
 
@@ -19,7 +21,8 @@ pub trait Platform {
     fn open(&mut self, file: &Text) -> Result<Self::Results, StoreFault>
         ensures { provides self.old (Opened file.now result) self.new };
 
-    /// Closes the results in a file. Afterwards the file alone has them all; after an error they stand in it and in its log.
+    /// Closes the results in a file. Afterwards the file alone has them all; after an error they
+    /// stand in it and in its log.
     fn close(&mut self, results: Self::Results) -> Result<(), StoreFault>
         ensures { provides self.old (Closed results result) self.new };
 

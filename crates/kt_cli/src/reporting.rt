@@ -115,7 +115,7 @@ pub fn report_junit<R: ResultStore, O: Write>(
     };
     match junit(alloc, &run, out) {
         Ok(()) => Exit { status: 0 },
-        Err(ReportFault::Output) => Exit { status: 2 },
+        Err(ReportFault::Output(_)) => Exit { status: 2 },
         Err(ReportFault::NoMemory(_)) => ended(write_memory(out), 2),
     }
 }

@@ -14,8 +14,9 @@ fn log_of(file: &Text) -> Result<Text, NoMemory> {
     Ok(log)
 }
 
-/// Makes a file if there is none. Its owner gets the rights to read and write it, which the umask may have kept back, unless
-/// it is another's. Returns false if the path is no regular file; why it can't be made is told when it is opened.
+/// Makes a file if there is none. Its owner gets the rights to read and write it, which the umask
+/// may have kept back, unless it is another's. Returns false if the path is no regular file; why it
+/// can't be made is told when it is opened.
 fn prepare_file<R: Files>(rt: &R, path: &str) -> bool {
     let _ = OpenOptions::new()
         .write(true)
@@ -31,7 +32,8 @@ fn prepare_file<R: Files>(rt: &R, path: &str) -> bool {
     metadata.is_file()
 }
 
-/// Makes the file of results and its log where there is none, with the rights that their owner needs.
+/// Makes the file of results and its log where there is none, with the rights that their owner
+/// needs.
 pub fn prepare_results<R: Files>(rt: &R, file: &Text) -> Result<(), NoMemory> {
     let log = log_of(file)?;
     if prepare_file(rt, file.as_str()) {

@@ -11,8 +11,8 @@ use kt_words::Command;
 use std::alloc::Global;
 use std::io::Write;
 
-/// Does commands one after the other, and answers how each ended. The memory for the answers is taken before the first
-/// command.
+/// Does commands one after the other, and answers how each ended. The memory for the answers is
+/// taken before the first command.
 pub fn execute_all<W: World, R: ResultStore, O: Write>(
     alloc: Global,
     commands: &[Command],

@@ -102,7 +102,8 @@ pub fn write_stop<O: Write>(stop: &Stop, out: &mut O) -> Result<(), OutputFault>
     }
 }
 
-/// The exit of a command that was stopped, if its line could be written: 3 for words of the command line that are wrong, else 2.
+/// The exit of a command that was stopped, if its line could be written: 3 for words of the command
+/// line that are wrong, else 2.
 pub fn stop_status(stop: &Stop) -> u8
     ensures { result ≡ stop_exit stop.now }
 {

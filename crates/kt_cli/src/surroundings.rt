@@ -1,4 +1,4 @@
-ghost use Rattle.std.specs.Prelude.{◌≡◌, IfOk, bytes_eq, chars};
+ghost use Rattle.std.specs.Prelude.{◌≡◌, IfOk};
 ghost use Rattle.kt_cli.specs.HostAnswers.{is_root};
 
 use kt_base::{NoMemory, Text};
@@ -47,13 +47,6 @@ fn working_directory<R: Env + AllocGlobal>(rt: &R) -> Result<Text, DriverFault> 
     }
 }
 
-/// Whether a text is this one.
-fn is_text(text: &Text, other: &str) -> bool
-    ensures { result ≡ bytes_eq text.now (chars other.now) }
-{
-    text.as_str() == other
-}
-
 impl Surroundings {
     /// Takes the variables from the environment. One that isn't UTF-8 counts as not set.
     pub fn new<R: Env + AllocGlobal>(rt: &R, here: Text) -> Result<Surroundings, NoMemory>
@@ -76,7 +69,7 @@ impl Surroundings {
         ensures { result ≡ is_root self.now.user }
     {
         match &self.user {
-            Some(user) => is_text(user, "root"),
+            Some(user) => user.is_word("root"),
             None => false,
         }
     }

@@ -24,8 +24,8 @@ use kt_store::ResultStore;
 use std::alloc::Global;
 use std::io::Write;
 
-/// Runs a plan, `width` cases at once at most, and records and prints each entry. Returns how it ended, and whether all
-/// lines could be written.
+/// Runs a plan, `width` cases at once at most, and records and prints each entry. Returns how it
+/// ended, and whether all lines could be written.
 fn record_cases<L: Launcher, R: ResultStore, O: Write>(
     alloc: Global,
     plan: Items<Job>,
@@ -96,8 +96,8 @@ fn ending_behind<O: Write>(
     write_ending(totals, words, unmatched, out)
 }
 
-/// Begins a run, runs its plan, `width` cases at once at most, and finishes it. `words` are the filters as they were given, and
-/// `unmatched` the positions of those that select no case.
+/// Begins a run, runs its plan, `width` cases at once at most, and finishes it. `words` are the
+/// filters as they were given, and `unmatched` the positions of those that select no case.
 fn run_plan<L: Launcher, R: ResultStore, O: Write>(
     alloc: Global,
     plan: Items<Job>,

@@ -44,10 +44,8 @@ pub fn write_warnings<O: Write>(
     ensures { Shows (O.contents out.old) (O.contents out.new) (is_err result)
         (utf8 (warnings words.now positions.now)) }
 {
-    let mut rest = positions;
-    while let Some((position, after)) = rest.split_first() {
+    for position in positions {
         write_warning_at(words, *position, out)?;
-        rest = after;
     }
     Ok(())
 }

@@ -1,5 +1,3 @@
-pub mod Texts
-pub mod Widths
 pub mod Parts
 pub mod Puttings
 pub mod Entries

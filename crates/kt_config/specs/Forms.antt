@@ -1,20 +1,13 @@
 -- Which values and names are accepted.
-use Rattle.std.specs.Prelude.{ℕ, Bool, true, false, nat_le, not, ◌+◌, ◌*◌, ◌-◌, ◌==◌, ◌&&◌, ◌||◌, List, [], ◌∷◌, Option, Some, None, if◌then◌else◌}
+use Rattle.std.specs.Prelude.{ℕ, Bool, nat_le, not, ◌==◌, ◌&&◌, ◌||◌, List, Option, Some, None, if◌then◌else◌}
 use Rattle.std.specs.List.{list_any}
+use Rattle.kt_base.specs.Digits.{is_digit, decimal_from}
+use Rattle.kt_base.specs.Texts.{is_empty}
 use Rattle.kt_base.specs.Utf8.{utf8}
 
 -- the greatest number of cases that may run at once
 abbrev pub greatest_width : ℕ
 greatest_width = 256
-
--- a text has no character
-abbrev pub is_empty : List ℕ → Bool
-is_empty [] = true
-is_empty (c ∷ cs) = false
-
--- 0 to 9
-abbrev pub is_digit : ℕ → Bool
-is_digit c = nat_le 48 c && nat_le c 57
 
 -- any byte but 0 to 9
 abbrev pub is_no_digit : ℕ → Bool
@@ -35,11 +28,6 @@ has_zero value = list_any is_zero (utf8 value)
 -- the name of a suite's variable: letters, digits, `_` and `-`, one or more
 abbrev pub is_variable : List ℕ → Bool
 is_variable name = not (is_empty name) && not (list_any is_strange (utf8 name))
-
--- the number of decimal digits that follow those of v
-abbrev pub decimal_from : ℕ → List ℕ → ℕ
-decimal_from v [] = v
-decimal_from v (c ∷ cs) = decimal_from (10 * v + (c - 48)) cs
 
 -- the number, if so many cases may run at once
 abbrev pub in_range : ℕ → Option ℕ

@@ -4,7 +4,8 @@ use Rattle.kt_config.specs.declared.definition.Definition.{Definition}
 use Rattle.kt_config.specs.declared.definition.Definition.TheVariants.{Architecture, Platform, Parallelism, UnprivilegedUser, OfSuite}
 use Rattle.kt_config.specs.declared.fault.ConfigFault.{ConfigFault}
 use Rattle.kt_config.specs.declared.fault.ConfigFault.TheVariants.{UnknownVariable, BadValue}
-use Rattle.kt_config.specs.Forms.{is_empty, has_zero, is_variable, width_of}
+use Rattle.kt_config.specs.Forms.{has_zero, is_variable, width_of}
+use Rattle.kt_base.specs.Texts.{is_empty}
 
 -- a definition, or the fault of its name or value
 abbrev pub Meaning : Type 0

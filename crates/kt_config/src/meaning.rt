@@ -4,7 +4,7 @@ ghost use Rattle.kt_config.specs.Names.{unless_empty, of_width, runner_definitio
 use crate::definition::Definition;
 use crate::fault::ConfigFault;
 use crate::width::Width;
-use crate::words::{has_zero, is_empty, is_variable, is_word};
+use crate::words::{has_zero, is_variable};
 use kt_base::{NoMemory, Text, Variable};
 
 fn unless_empty(empty: bool, definition: Definition) -> Result<Definition, ConfigFault>
@@ -29,14 +29,14 @@ fn of_width(width: Option<Width>) -> Result<Definition, ConfigFault>
 fn runner_definition(name: &Text, value: Text) -> Result<Definition, ConfigFault>
     ensures { result ≡ runner_definition name.now value }
 {
-    let empty = is_empty(&value);
-    if is_word(name, "architecture") {
+    let empty = value.is_empty();
+    if name.is_word("architecture") {
         unless_empty(empty, Definition::Architecture(value))
-    } else if is_word(name, "platform") {
+    } else if name.is_word("platform") {
         unless_empty(empty, Definition::Platform(value))
-    } else if is_word(name, "unprivileged_user") {
+    } else if name.is_word("unprivileged_user") {
         unless_empty(empty, Definition::UnprivilegedUser)
-    } else if is_word(name, "parallelism") {
+    } else if name.is_word("parallelism") {
         of_width(Width::from_text(&value))
     } else {
         Err(ConfigFault::UnknownVariable)
@@ -47,10 +47,10 @@ fn runner_definition(name: &Text, value: Text) -> Result<Definition, ConfigFault
 fn is_suite_variable(root: &Text, suite: &Text, name: &Text) -> bool
     ensures { result ≡ is_suite_variable root.now suite.now name.now }
 {
-    if !is_word(root, "test_suites") {
+    if !root.is_word("test_suites") {
         return false;
     }
-    if is_empty(suite) {
+    if suite.is_empty() {
         return false;
     }
     is_variable(name)

@@ -23,16 +23,9 @@ fn parts_of(alloc: Global, name: &[char]) -> Result<Items<Text>, NoMemory>
     Ok(parts)
 }
 
-fn characters(alloc: Global, text: &Text) -> Result<Vec<char>, NoMemory>
-    ensures { IfOk result (λ characters. characters.items ≡ text.now) }
-{
-    Ok(text.as_str().chars().collect(alloc)?)
-}
-
 /// The parts of a name between its dots.
 pub fn dotted(alloc: Global, name: &Text) -> Result<Items<Text>, NoMemory>
     ensures { IfOk result (λ parts. parts ≡ dotted name.now) }
 {
-    let characters = characters(alloc, name)?;
-    parts_of(alloc, &characters)
+    parts_of(alloc, &name.characters()?)
 }

@@ -5,7 +5,6 @@ use crate::config::Config;
 use crate::definition::Definition;
 use crate::fault::ConfigFault;
 use crate::meaning::definition_of;
-use crate::words::is_word;
 use kt_base::NoMemory;
 use kt_script::{Action, Arg, Literal, ScriptFault, Stmt};
 use std::alloc::Global;
@@ -34,7 +33,7 @@ fn is_opening(action: &Action) -> bool
     ensures { result ≡ is_opening action.now }
 {
     match action {
-        Action::Call(name, arg) => is_word(name, "syntax") && is_version(arg),
+        Action::Call(name, arg) => name.is_word("syntax") && is_version(arg),
         Action::Assign(_, _) => false,
     }
 }

@@ -1,12 +1,12 @@
 ghost use Rattle.std.specs.Prelude.{◌≡◌, ℕ, ◌≤◌};
 ghost use Rattle.std.specs.List.{list_any};
-ghost use Rattle.kt_config.specs.Forms.{is_no_digit, decimal_from, in_range, width_in, width_of, greatest_width};
+ghost use Rattle.kt_config.specs.Forms.{is_no_digit, in_range, width_in, width_of, greatest_width};
 
-use kt_base::Text;
+use kt_base::{Text, decimal_up_to, is_digit};
 use std::marker::Model;
 
 /// The greatest width.
-const GREATEST: u32 = 256;
+const GREATEST: u64 = 256;
 
 /// How many cases may run at once, 1 to 256. Contracts see the number.
 #[derive(Debug, Drop)]
@@ -25,25 +25,15 @@ impl Model for Width {
 fn has_no_digit(bytes: &[u8]) -> bool
     ensures { result ≡ list_any is_no_digit bytes.now }
 {
-    bytes.iter().any(|c| !matches!(*c, b'0'..=b'9'))
+    bytes.iter().any(|c| !is_digit(*c))
 }
 
-/// The number that decimal digits spell, if it is a width.
-fn decimal(digits: &[u8]) -> Option<u32>
-    ensures { result ≡ in_range (decimal_from 0 digits.now) }
+/// A number, if so many cases may run at once.
+fn in_range(number: u64) -> Option<u32>
+    ensures { result ≡ in_range number }
 {
-    let mut value = 0u32;
-    let mut rest = digits;
-    while let Some((c, after)) = rest.split_first() {
-        let next = 10 * value as u64 + c.saturating_sub(b'0') as u64;
-        if next > GREATEST as u64 {
-            return None;
-        }
-        value = next as u32;
-        rest = after;
-    }
-    if value >= 1 && value <= GREATEST {
-        return Some(value);
+    if number >= 1 && number <= GREATEST {
+        return Some(number as u32);
     }
     None
 }
@@ -55,7 +45,7 @@ fn width_in(bytes: &[u8]) -> Option<u32>
     if has_no_digit(bytes) {
         return None;
     }
-    decimal(bytes)
+    in_range(decimal_up_to(GREATEST, bytes)?)
 }
 
 impl Width {

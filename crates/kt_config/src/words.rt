@@ -1,23 +1,9 @@
-ghost use Rattle.std.specs.Prelude.{◌≡◌, bytes_eq, chars};
+ghost use Rattle.std.specs.Prelude.{◌≡◌, chars};
 ghost use Rattle.std.specs.List.{list_any};
 ghost use Rattle.std.specs.String.{string_bytes};
-ghost use Rattle.kt_config.specs.Forms.{is_empty, is_zero, is_strange, has_zero, is_variable};
+ghost use Rattle.kt_config.specs.Forms.{is_zero, is_strange, has_zero, is_variable};
 
 use kt_base::Text;
-
-/// Whether a text is this word.
-pub fn is_word(text: &Text, word: &str) -> bool
-    ensures { result ≡ bytes_eq text.now (chars word.now) }
-{
-    text.as_str() == word
-}
-
-/// Whether a text has no character.
-pub fn is_empty(text: &Text) -> bool
-    ensures { result ≡ is_empty text.now }
-{
-    text.as_str().is_empty()
-}
 
 /// Whether a text has a zero byte.
 pub fn has_zero(text: &Text) -> bool
@@ -42,7 +28,7 @@ fn has_strange(bytes: &[u8]) -> bool
 pub fn is_variable(name: &Text) -> bool
     ensures { result ≡ is_variable name.now }
 {
-    !is_empty(name) && !has_strange(name.as_str().as_bytes())
+    !name.is_empty() && !has_strange(name.as_str().as_bytes())
 }
 
 /// The string of a text, as the key of a map. Its characters are those of the text.

@@ -1,4 +1,3 @@
-pub mod Decimals
 pub mod Encodings
 pub mod Fronts
 pub mod Joining

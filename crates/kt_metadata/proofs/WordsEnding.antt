@@ -1,16 +1,16 @@
 -- How words end.
 use Rattle.std.proofs.Common.{◌≡◌, ℕ, true, false, List, [], ◌∷◌, ◌++◌, refl, sym, ap, ◌∙◌, append_assoc, arith, length}
-use Rattle.std.specs.Str.{bytes_eq}
-use Rattle.std.proofs.lemmas.Slice.Eq.{bytes_eq-Decides}
+use Rattle.kt_base.specs.Texts.{is_empty}
 use Rattle.kt_metadata.specs.Words.{is_space, ended, words_from}
 
 -- an empty word doesn't count
-pub nothing : (word : List ℕ) → bytes_eq word [] ≡ true → ended word [] ≡ []
-nothing word e = ap (λ (w : List ℕ). ended w []) ((bytes_eq-Decides word []).0 e)
+pub nothing : (word : List ℕ) → is_empty word ≡ true → ended word [] ≡ []
+nothing [] e = refl
+nothing (c ∷ cs) e = absurd (cc)
 
 -- another one does
-pub something : (word : List ℕ) → bytes_eq word [] ≡ false → ended word [] ≡ word ∷ []
-something [] e = absurd (let f : bytes_eq [] [] ≡ true = (bytes_eq-Decides [] []).1 refl in cc)
+pub something : (word : List ℕ) → is_empty word ≡ false → ended word [] ≡ word ∷ []
+something [] e = absurd (cc)
 something (c ∷ cs) e = refl
 
 -- what follows an ended word

@@ -1,9 +1,10 @@
 -- The properties of a case as names with texts.
-use Rattle.std.specs.Prelude.{ℕ, Bool, true, false, not, List, [], ◌∷◌, ◌++◌, codes, map, bytes_eq}
+use Rattle.std.specs.Prelude.{ℕ, Bool, true, false, not, List, [], ◌∷◌, ◌++◌, codes, map}
 use Rattle.std.specs.List.{filter}
 use Rattle.std.specs.Fmt.{decimal}
 use Rattle.kt_base.specs.declared.variable.Variable.{Variable}
 use Rattle.kt_base.specs.LastValues.{last_values}
+use Rattle.kt_base.specs.Texts.{is_empty}
 use Rattle.kt_metadata.specs.declared.property.Property.{Property}
 use Rattle.kt_metadata.specs.declared.property.Property.TheVariants.{AllowedArchitectures, AllowedPlatforms, Description, HasCleanup, IsExclusive, RequiredConfigs, RequiredDiskSpace, RequiredFiles, RequiredMemory, RequiredPrograms, RequiredUser, Timeout, Custom}
 use Rattle.kt_metadata.specs.declared.user.User.{User}
@@ -55,7 +56,7 @@ shown_pair meta property = record { name = property_name property; value = shown
 
 -- a pair whose value isn't empty
 abbrev pub is_valued : Variable → Bool
-is_valued pair = not (bytes_eq pair.value [])
+is_valued pair = not (is_empty pair.value)
 
 -- a pair of a custom property
 abbrev pub is_custom_pair : Variable → Bool

@@ -1,6 +1,8 @@
 -- Truth values, users, sizes, timeouts and paths, as they are written.
-use Rattle.std.specs.Prelude.{ℕ, ◌+◌, ◌*◌, ◌-◌, ◌^◌, ◌==◌, ◌||◌, ◌&&◌, Bool, true, false, not, nat_le, nat_lt, bytes_eq, codes, List, [], ◌∷◌, take, drop, Option, Some, None, if◌then◌else◌}
+use Rattle.std.specs.Prelude.{ℕ, ◌*◌, ◌^◌, ◌==◌, ◌||◌, Bool, true, false, not, nat_le, nat_lt, bytes_eq, codes, List, [], ◌∷◌, take, drop, Option, Some, None, if◌then◌else◌}
 use Rattle.std.specs.List.{list_any, prefix_len}
+use Rattle.kt_base.specs.Digits.{is_digit, decimal_from}
+use Rattle.kt_base.specs.Utf8.{utf8}
 use Rattle.kt_metadata.specs.declared.user.User.{User}
 use Rattle.kt_metadata.specs.declared.user.User.TheVariants.{Any, Root, Unprivileged}
 
@@ -15,15 +17,6 @@ truth_of text =
 abbrev pub user_of : List ℕ → Option User
 user_of text = if bytes_eq text [] then Some Any else if bytes_eq text (codes "root") then Some Root
     else if bytes_eq text (codes "unprivileged") then Some Unprivileged else None
-
--- 0 to 9
-abbrev pub is_digit : ℕ → Bool
-is_digit c = nat_le 48 c && nat_le c 57
-
--- the decimal number whose first digits have the value v
-abbrev pub decimal_from : ℕ → List ℕ → ℕ
-decimal_from v [] = v
-decimal_from v (c ∷ cs) = decimal_from (10 * v + (c - 48)) cs
 
 -- a number below 2^64
 abbrev pub fits : ℕ → Option ℕ
@@ -60,9 +53,13 @@ scaled None factor = None
 scaled (Some v) None = None
 scaled (Some v) (Some factor) = fits (v * factor)
 
--- a size in bytes
+-- the size in bytes that digits and a unit give
+abbrev pub size_in : List ℕ → Option ℕ
+size_in bytes = scaled (number_of (digits_of bytes)) (factor_of (after_digits bytes))
+
+-- the size that a text gives
 abbrev pub size_of : List ℕ → Option ℕ
-size_of text = scaled (number_of (digits_of text)) (factor_of (after_digits text))
+size_of text = size_in (utf8 text)
 
 -- the longest timeout, in seconds
 abbrev pub longest_timeout : ℕ
@@ -74,9 +71,13 @@ limited (Some v) [] = if v == 0 then Some longest_timeout else if nat_le v longe
 limited (Some v) (c ∷ cs) = None
 limited None rest = None
 
--- a timeout in seconds
+-- the timeout in seconds that digits give
+abbrev pub timeout_in : List ℕ → Option ℕ
+timeout_in bytes = limited (number_of (digits_of bytes)) (after_digits bytes)
+
+-- the timeout that a text gives
 abbrev pub timeout_of : List ℕ → Option ℕ
-timeout_of text = limited (number_of (digits_of text)) (after_digits text)
+timeout_of text = timeout_in (utf8 text)
 
 -- a slash
 abbrev pub is_slash : ℕ → Bool

@@ -6,7 +6,6 @@ use crate::fault::PropFault;
 use crate::numbers::{size, timeout};
 use crate::paths::{has_no_file, has_no_program};
 use crate::property::Property;
-use crate::texts::characters;
 use crate::values::{truth, user};
 use crate::words::words;
 use kt_base::{NoMemory, Text};
@@ -18,18 +17,16 @@ fn is_truth(text: &Text) -> bool
     truth(text).is_some()
 }
 
-fn is_size(alloc: Global, text: &Text) -> Result<bool, NoMemory>
-    ensures { IfOk result (λ fine. fine ≡ is_value property.RequiredMemory text.now) }
+fn is_size(text: &Text) -> bool
+    ensures { result ≡ is_value property.RequiredMemory text.now }
 {
-    let text = characters(alloc, text)?;
-    Ok(size(&text).is_some())
+    size(text.as_bytes()).is_some()
 }
 
-fn is_timeout(alloc: Global, text: &Text) -> Result<bool, NoMemory>
-    ensures { IfOk result (λ fine. fine ≡ is_value property.Timeout text.now) }
+fn is_timeout(text: &Text) -> bool
+    ensures { result ≡ is_value property.Timeout text.now }
 {
-    let text = characters(alloc, text)?;
-    Ok(timeout(&text).is_some())
+    timeout(text.as_bytes()).is_some()
 }
 
 fn are_files(alloc: Global, text: &Text) -> Result<bool, NoMemory>
@@ -51,11 +48,11 @@ fn is_value(alloc: Global, property: Property, text: &Text) -> Result<bool, NoMe
 {
     match property {
         Property::HasCleanup | Property::IsExclusive => Ok(is_truth(text)),
-        Property::RequiredDiskSpace | Property::RequiredMemory => is_size(alloc, text),
+        Property::RequiredDiskSpace | Property::RequiredMemory => Ok(is_size(text)),
         Property::RequiredFiles => are_files(alloc, text),
         Property::RequiredPrograms => are_programs(alloc, text),
         Property::RequiredUser => Ok(user(text).is_some()),
-        Property::Timeout => is_timeout(alloc, text),
+        Property::Timeout => Ok(is_timeout(text)),
         Property::AllowedArchitectures
         | Property::AllowedPlatforms
         | Property::Description

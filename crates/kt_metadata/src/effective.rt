@@ -8,7 +8,6 @@ use crate::meta::Meta;
 use crate::numbers::{size, timeout};
 use crate::property::Property;
 use crate::props::Props;
-use crate::texts::characters;
 use crate::user::User;
 use crate::values::{truth, user};
 use crate::words::words;
@@ -47,15 +46,12 @@ impl Props {
         }
     }
 
-    fn size_of(&self, property: Property) -> Result<u64, NoMemory>
-        ensures { IfOk result (λ bytes. bytes ≡ size_value (given property self.now)) }
+    fn size_of(&self, property: Property) -> u64
+        ensures { result ≡ size_value (given property self.now) }
     {
         match self.value(property) {
-            None => Ok(0),
-            Some(text) => {
-                let text = characters(self.allocator(), text)?;
-                Ok(size(&text).unwrap_or(0))
-            }
+            None => 0,
+            Some(text) => size(text.as_bytes()).unwrap_or(0),
         }
     }
 
@@ -68,15 +64,12 @@ impl Props {
         }
     }
 
-    fn timeout_of(&self, property: Property) -> Result<u32, NoMemory>
-        ensures { IfOk result (λ seconds. seconds ≡ timeout_value (given property self.now)) }
+    fn timeout_of(&self, property: Property) -> u32
+        ensures { result ≡ timeout_value (given property self.now) }
     {
         match self.value(property) {
-            None => Ok(DEFAULT_TIMEOUT),
-            Some(text) => {
-                let text = characters(self.allocator(), text)?;
-                Ok(timeout(&text).unwrap_or(DEFAULT_TIMEOUT))
-            }
+            None => DEFAULT_TIMEOUT,
+            Some(text) => timeout(text.as_bytes()).unwrap_or(DEFAULT_TIMEOUT),
         }
     }
 
@@ -90,12 +83,12 @@ impl Props {
             has_cleanup: self.truth_of(Property::HasCleanup),
             is_exclusive: self.truth_of(Property::IsExclusive),
             required_configs: self.words_of(Property::RequiredConfigs)?,
-            required_disk_space: self.size_of(Property::RequiredDiskSpace)?,
+            required_disk_space: self.size_of(Property::RequiredDiskSpace),
             required_files: self.words_of(Property::RequiredFiles)?,
-            required_memory: self.size_of(Property::RequiredMemory)?,
+            required_memory: self.size_of(Property::RequiredMemory),
             required_programs: self.words_of(Property::RequiredPrograms)?,
             required_user: self.user_of(Property::RequiredUser),
-            timeout: self.timeout_of(Property::Timeout)?,
+            timeout: self.timeout_of(Property::Timeout),
         })
     }
 

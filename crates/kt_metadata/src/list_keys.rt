@@ -3,7 +3,7 @@ ghost use Rattle.kt_metadata.specs.Properties.{own_part, property_named};
 ghost use Rattle.kt_metadata.specs.ListKeys.{list_key, keyed_among, name_found, name_of_key, StandsFor};
 
 use crate::property::{ALL, Property};
-use crate::texts::{is_text, own_part};
+use crate::texts::own_part;
 use kt_base::{NoMemory, Text};
 use std::alloc::Global;
 
@@ -33,7 +33,7 @@ fn keyed_among(key: &Text, properties: &[Property]) -> Option<Property>
 {
     let mut rest = properties;
     while let Some((property, after)) = rest.split_first() {
-        if is_text(key, list_key(*property)) {
+        if key.is_word(list_key(*property)) {
             return Some(*property);
         }
         rest = after;

@@ -4,7 +4,6 @@ ghost use Rattle.kt_metadata.specs.Listing.{is_valued, custom_pairs};
 ghost use Rattle.kt_metadata.specs.Overlays.{a_pair};
 
 use crate::property::is_custom;
-use crate::texts::is_text;
 use kt_base::{NoMemory, Text, Variable, Variables};
 use std::alloc::Global;
 
@@ -12,7 +11,7 @@ use std::alloc::Global;
 pub fn add(pairs: &mut Variables, name: Text, value: Text) -> Result<(), NoMemory>
     ensures { OnOk result (pairs.new ≡ pairs.old ++ filter is_valued (a_pair name value ∷ [])) }
 {
-    if is_text(&value, "") {
+    if value.is_empty() {
         return Ok(());
     }
     pairs.push(Variable { name, value })?;

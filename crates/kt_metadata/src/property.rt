@@ -1,7 +1,7 @@
 ghost use Rattle.std.specs.Prelude.{◌≡◌, chars};
 ghost use Rattle.kt_metadata.specs.Properties.{property_name, named_among, or_custom, is_custom, property_named, is_for_kyuafile, is_kyuafile_property, all_properties};
 
-use crate::texts::{is_text, own_part};
+use crate::texts::own_part;
 use kt_base::Text;
 
 /// A property of kyuafile(5), `has_cleanup` of atf-test-case(4), or a custom one.
@@ -93,7 +93,7 @@ fn named_among(name: &Text, properties: &[Property]) -> Option<Property>
 {
     let mut rest = properties;
     while let Some((property, after)) = rest.split_first() {
-        if is_text(name, property.name()) {
+        if name.is_word(property.name()) {
             return Some(*property);
         }
         rest = after;

@@ -4,7 +4,6 @@ ghost use Rattle.std.specs.Option.{option_copied};
 ghost use Rattle.kt_metadata.specs.Configured.{is_undefined};
 ghost use Rattle.kt_metadata.specs.Requirements.{is_missing, is_allowed};
 
-use crate::texts::is_text;
 use kt_base::Text;
 use kt_config::Config;
 use std::collections::BTreeSet;
@@ -41,7 +40,7 @@ pub fn first_missing<'a>(words: &'a [Text], found: &BTreeSet<String>) -> Option<
 fn is_listed(words: &[Text], word: &str) -> bool
     ensures { result ≡ list_any (λ w. bytes_eq w (chars word.now)) words.now }
 {
-    words.iter().any(|listed| is_text(listed, word))
+    words.iter().any(|listed| listed.is_word(word))
 }
 
 /// Whether nothing is listed, or this word is.

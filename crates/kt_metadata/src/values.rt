@@ -1,7 +1,6 @@
 ghost use Rattle.std.specs.Prelude.{◌≡◌};
 ghost use Rattle.kt_metadata.specs.Values.{truth_of, user_of};
 
-use crate::texts::is_text;
 use crate::user::User;
 use kt_base::Text;
 
@@ -9,13 +8,13 @@ use kt_base::Text;
 pub fn truth(text: &Text) -> Option<bool>
     ensures { result ≡ truth_of text.now }
 {
-    if is_text(text, "true") {
+    if text.is_word("true") {
         Some(true)
-    } else if is_text(text, "yes") {
+    } else if text.is_word("yes") {
         Some(true)
-    } else if is_text(text, "false") {
+    } else if text.is_word("false") {
         Some(false)
-    } else if is_text(text, "no") {
+    } else if text.is_word("no") {
         Some(false)
     } else {
         None
@@ -26,11 +25,11 @@ pub fn truth(text: &Text) -> Option<bool>
 pub fn user(text: &Text) -> Option<User>
     ensures { result ≡ user_of text.now }
 {
-    if is_text(text, "") {
+    if text.is_word("") {
         Some(User::Any)
-    } else if is_text(text, "root") {
+    } else if text.is_word("root") {
         Some(User::Root)
-    } else if is_text(text, "unprivileged") {
+    } else if text.is_word("unprivileged") {
         Some(User::Unprivileged)
     } else {
         None

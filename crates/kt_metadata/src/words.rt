@@ -1,7 +1,6 @@
 ghost use Rattle.std.specs.Prelude.{◌≡◌, ◌∷◌, [], ◌++◌, IfOk, OnOk};
 ghost use Rattle.kt_metadata.specs.Words.{is_space, ended, words};
 
-use crate::texts::{characters, is_text};
 use kt_base::{Items, NoMemory, Text};
 use std::alloc::Global;
 
@@ -14,7 +13,7 @@ fn is_space(c: char) -> bool
 fn end_word(words: &mut Items<Text>, word: Text) -> Result<(), NoMemory>
     ensures { OnOk result (words.new ≡ words.old ++ ended word []) }
 {
-    if is_text(&word, "") {
+    if word.is_empty() {
         return Ok(());
     }
     words.push(word)?;
@@ -25,7 +24,7 @@ fn end_word(words: &mut Items<Text>, word: Text) -> Result<(), NoMemory>
 pub fn words(alloc: Global, text: &Text) -> Result<Items<Text>, NoMemory>
     ensures { IfOk result (λ found. found ≡ words text.now) }
 {
-    let characters = characters(alloc, text)?;
+    let characters = text.characters()?;
     let mut found = Items::new(alloc);
     let mut word = Text::new(alloc);
     let mut rest = characters.as_slice();

@@ -1,6 +1,6 @@
 -- The filters of a command, word by word and together.
 use Rattle.std.specs.Prelude.{Option, Some, None, Result, Ok, Err, IsErrAnd, find, unwrap_or, option_map, slice_get, if◌then◌else◌}
-use Rattle.std.proofs.Common.{◌≡◌, ℕ, suc, ◌<◌, Bool, true, false, List, [], ◌∷◌, length, get_or, take, refl, sym, ap, ◌∙◌, subst, ◌⊎◌, inl, inr, arith}
+use Rattle.std.proofs.Common.{◌≡◌, ℕ, suc, ◌<◌, Bool, true, false, List, [], ◌∷◌, length, get_or, take, refl, sym, ap, ◌∙◌, subst, ◌⊎◌, inr}
 use Rattle.std.proofs.lemmas.Option.{slice_get_read, slice_get_within}
 use Rattle.std.proofs.lemmas.Result.{err_from_is_err_and}
 use Rattle.kt_suite.specs.declared.filter.Filter.{Filter}
@@ -9,7 +9,7 @@ use Rattle.kt_suite.specs.declared.filter_fault.FilterFault.TheVariants.{Repeate
 use Rattle.kt_suite.specs.Disjoint.{IsDisjoint, IsFirstFault, fault_at, fault_behind, is_same_filter, overlap}
 use Rattle.kt_suite.specs.Disjoint as of
 use Rattle.kt_plan.specs.Configuring.{ChecksTogether, Filters, apart, clash, each_of, filters_of, in_front, lacks_case, position_in, right, shared, unnamed, unparsed}
-use Rattle.kt_plan.specs.Stops.{RanOut, IsShort}
+use Rattle.kt_plan.specs.Stops.{IsShort}
 use Rattle.kt_plan.specs.declared.stop.Stop.{Stop}
 use Rattle.kt_plan.specs.declared.stop.Stop.TheVariants as stop
 

@@ -1,16 +1,16 @@
 -- What a command is configured with, word by word.
 use Rattle.std.specs.Prelude.{Option, Some, None, Result, Ok, Err, IsErrAnd}
-use Rattle.std.proofs.Common.{◌≡◌, ℕ, List, [], ◌∷◌, ◌++◌, refl, sym, ap, ◌∙◌, subst, ◌⊎◌, inl, inr, append-nil, append_assoc}
+use Rattle.std.proofs.Common.{◌≡◌, ℕ, List, [], ◌∷◌, ◌++◌, refl, sym, ap, ◌∙◌, subst, ◌⊎◌, inl, inr, append_assoc}
 use Rattle.std.proofs.lemmas.Result.{err_from_is_err_and}
 use Rattle.kt_config.specs.declared.definition.Definition.{Definition}
 use Rattle.kt_config.specs.declared.fault.ConfigFault.{ConfigFault}
 use Rattle.kt_config.specs.Holding.{Holds}
 use Rattle.kt_config.specs.Reading.{IsDue, IsRead}
 use Rattle.kt_config.specs.Values.{Values}
-use Rattle.kt_suite.specs.Answers.{Answered, Chain}
+use Rattle.kt_suite.specs.Answers.{Answered}
 use Rattle.kt_suite.specs.declared.read_fault.ReadFault.{ReadFault}
 use Rattle.kt_suite.specs.declared.read_fault.ReadFault.TheVariants.{Missing, Failed, Memory}
-use Rattle.kt_plan.specs.Configuring.{Configured, Configures, GivesMore, GivesOne, Gives, IsConfiguration, IsUnread, ReadsConfig, behind, each_of, in_front, defined, failed, missing, none, read, refused, seen, stopped, unread, unread_stop, word_meaning, words_meaning}
+use Rattle.kt_plan.specs.Configuring.{Configured, Configures, GivesMore, GivesOne, Gives, IsConfiguration, ReadsConfig, behind, in_front, defined, failed, missing, none, read, refused, seen, stopped, unread, unread_stop, word_meaning, words_meaning}
 use Rattle.kt_plan.specs.declared.case_options.CaseOptions.{CaseOptions}
 use Rattle.kt_plan.specs.Stops.{IsShort}
 use Rattle.kt_plan.specs.Told.{Told, ReadConfig}

@@ -5,7 +5,8 @@ use Rattle.kt_suite.specs.declared.cause.SuiteCause.TheVariants.{Unreadable}
 use Rattle.kt_suite.specs.declared.fault.SuiteFault.{SuiteFault}
 use Rattle.kt_suite.specs.Answers.{Asked, Answered}
 use Rattle.kt_suite.specs.Faults.{Blames}
-use Rattle.kt_suite.specs.Paths.{is_empty, name_in}
+use Rattle.kt_suite.specs.Paths.{name_in}
+use Rattle.kt_base.specs.Texts.{is_empty}
 use Rattle.kt_suite.specs.Registered.{Outcome, Registered, Unfinished}
 use Rattle.kt_plan.specs.Listings.{Loads, RanShort, named, unnamed}
 

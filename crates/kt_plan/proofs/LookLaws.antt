@@ -11,7 +11,9 @@ use Rattle.std.proofs.Math.Bool.{or-false}
 use Rattle.kt_base.specs.Utf8.{utf8}
 use Rattle.kt_suite.specs.Answers.{Chain, Answered}
 use Rattle.kt_plan.specs.declared.candidate.Candidate.{Candidate}
-use Rattle.kt_plan.specs.Planning.{finds_file, finds_program, meta_in, LooksFor, no_word, asked, LooksForOne, unasked, looked, LooksForAll, no_case, one_and, Notes, Surveys}
+use Rattle.kt_plan.specs.declared.required.Required.{Required}
+use Rattle.kt_plan.specs.declared.required.Required.TheVariants.{File, Program}
+use Rattle.kt_plan.specs.Planning.{question_of, finds_file, finds_program, finds_of, meta_in, LooksFor, no_word, asked, LooksForOne, unasked, looked, LooksForAll, no_case, one_and, Notes, Surveys}
 use Rattle.kt_plan.specs.Told.{Told, FindsFile, FindsProgram, IsRoot, HasMemory, HasDisk}
 use Rattle.kt_plan.proofs.Chains.{chain_append}
 use Rattle.kt_plan.proofs.Rests.{none_left}
@@ -34,6 +36,11 @@ or_assoc : (a b d : Bool) → ((a || b) || d) ≡ (a || (b || d))
 or_assoc true b d = refl
 or_assoc false b d = refl
 
+-- an answer tells of the word that was asked for
+finds_asked : (required : Required) (word name : List ℕ) (answer : Bool) → finds_of required word (question_of required name answer) ≡ (bytes_eq (utf8 name) (utf8 word) && answer)
+finds_asked File word name answer = refl
+finds_asked Program word name answer = refl
+
 module _ {Z : Type 0} where
   -- nothing was asked
   pub notes_nothing : (finds : List ℕ → Told → Bool) (found : BTreeSet (String Z)) → Notes finds [] found found
@@ -53,17 +60,16 @@ module _ {Z : Type 0} where
   abbrev pub Adds : List ℕ → BTreeSet (String Z) → BTreeSet (String Z) → Type 0
   Adds word old new = (bytes : List ℕ) → contains_text new bytes ≡ (contains_text old bytes || bytes_eq (utf8 word) bytes)
 
-  pub file_noted : (path : List ℕ) (old new : BTreeSet (String Z)) → Adds path old new → Notes finds_file (FindsFile path true ∷ []) old new
-  file_noted path old new h word = h (utf8 word) ∙ ap (λ (x : Bool). contains_text old (utf8 word) || x) (sym (or-false (bytes_eq (utf8 path) (utf8 word) && true) ∙ and_true (bytes_eq (utf8 path) (utf8 word))))
+  -- it is there, and was added
+  pub word_noted : (required : Required) (name : List ℕ) (old new : BTreeSet (String Z)) → Adds name old new → Notes (finds_of required) (question_of required name true ∷ []) old new
+  word_noted required name old new h word =
+      h (utf8 word) ∙ ap (λ (x : Bool). contains_text old (utf8 word) || x)
+      (sym (or-false (finds_of required word (question_of required name true)) ∙ finds_asked required word name true ∙ and_true (bytes_eq (utf8 name) (utf8 word))))
 
-  pub file_passed : (path : List ℕ) (found : BTreeSet (String Z)) → Notes finds_file (FindsFile path false ∷ []) found found
-  file_passed path found = notes_others finds_file (FindsFile path false ∷ []) found (λ word. or-false (bytes_eq (utf8 path) (utf8 word) && false) ∙ and_false (bytes_eq (utf8 path) (utf8 word)))
-
-  pub program_noted : (name : List ℕ) (old new : BTreeSet (String Z)) → Adds name old new → Notes finds_program (FindsProgram name true ∷ []) old new
-  program_noted name old new h word = h (utf8 word) ∙ ap (λ (x : Bool). contains_text old (utf8 word) || x) (sym (or-false (bytes_eq (utf8 name) (utf8 word) && true) ∙ and_true (bytes_eq (utf8 name) (utf8 word))))
-
-  pub program_passed : (name : List ℕ) (found : BTreeSet (String Z)) → Notes finds_program (FindsProgram name false ∷ []) found found
-  program_passed name found = notes_others finds_program (FindsProgram name false ∷ []) found (λ word. or-false (bytes_eq (utf8 name) (utf8 word) && false) ∙ and_false (bytes_eq (utf8 name) (utf8 word)))
+  -- it isn't there
+  pub word_passed : (required : Required) (name : List ℕ) (found : BTreeSet (String Z)) → Notes (finds_of required) (question_of required name false ∷ []) found found
+  word_passed required name found = notes_others (finds_of required) (question_of required name false ∷ []) found
+      (λ word. or-false (finds_of required word (question_of required name false)) ∙ finds_asked required word name false ∙ and_false (bytes_eq (utf8 name) (utf8 word)))
 
 -- a question about one word
 pub asks_one : (question : List ℕ → Bool → Told) (name : List ℕ) (answer : Bool) → LooksFor question (name ∷ []) (question name answer ∷ [])
@@ -73,15 +79,11 @@ asks_one question name answer = asked name [] answer [] no_word
 pub asks_more : (question : List ℕ → Bool → Told) (name : List ℕ) (names : List (List ℕ)) (told more : List Told) → LooksFor question (name ∷ []) told → LooksFor question names more → LooksFor question (name ∷ names) (told ++ more)
 asks_more question name names _ more (asked _ _ answer _ no_word) k = asked name names answer more k
 
--- questions about programs tell of no file
-pub programs_only : (word : List ℕ) (names : List (List ℕ)) (told : List Told) → LooksFor FindsProgram names told → list_any (finds_file word) told ≡ false
-programs_only word _ _ no_word = refl
-programs_only word _ _ (asked name names answer told h) = programs_only word names told h
-
--- and those about files of no program
-pub files_only : (word : List ℕ) (names : List (List ℕ)) (told : List Told) → LooksFor FindsFile names told → list_any (finds_program word) told ≡ false
-files_only word _ _ no_word = refl
-files_only word _ _ (asked name names answer told h) = files_only word names told h
+-- questions of another kind tell of no word
+pub others_only : (question : List ℕ → Bool → Told) (finds : List ℕ → Told → Bool) (word : List ℕ) → ((name : List ℕ) (answer : Bool) → finds word (question name answer) ≡ false)
+    → (names : List (List ℕ)) (told : List Told) → LooksFor question names told → list_any (finds word) told ≡ false
+others_only question finds word e _ _ no_word = refl
+others_only question finds word e _ _ (asked name names answer told h) = ap (λ (b : Bool). b || list_any (finds word) told) (e name answer) ∙ others_only question finds word e names told h
 
 -- the questions about some words so far, and what was noted
 pub record Looking {W Z : Type 0} (tells : W → Told → W → Type 0) (question : List ℕ → Bool → Told) (finds : List ℕ → Told → Bool) (names rest : List (List ℕ)) (old new : W) (was now : BTreeSet (String Z)) : Type 0 where
@@ -123,38 +125,22 @@ none_of None e = refl
 none_of (Some x) e = absurd (cc)
 
 module _ {W : Type 0} (tells : W → Told → W → Type 0) where
-  -- a file isn't there
-  pub file_missing : (path : List ℕ) (old new : W) (files : BTreeSet (String Global)) (answer : Bool) → answer ≡ false → tells old (FindsFile path answer) new
-      → Answered tells old new (λ told. LooksFor FindsFile (path ∷ []) told × Notes finds_file told files files)
-  file_missing path old new files answer missing h = record {
-    asked = FindsFile path false ∷ [];
-    chain = (new, subst (λ (b : Bool). tells old (FindsFile path b) new) missing h, refl);
-    holds = (asks_one FindsFile path false, file_passed path files);
+  -- a required file or program isn't there
+  pub word_missing : (required : Required) (name : List ℕ) (old new : W) (found : BTreeSet (String Global)) (answer : Bool) → answer ≡ false → tells old (question_of required name answer) new
+      → Answered tells old new (λ told. LooksFor (question_of required) (name ∷ []) told × Notes (finds_of required) told found found)
+  word_missing required name old new found answer missing h = record {
+    asked = question_of required name false ∷ [];
+    chain = (new, subst (λ (b : Bool). tells old (question_of required name b) new) missing h, refl);
+    holds = (asks_one (question_of required) name false, word_passed required name found);
   }
 
-  pub file_there : (path : List ℕ) (old new : W) (files grown : BTreeSet (String Global)) (answer : Bool) → answer ≡ true → tells old (FindsFile path answer) new → Adds path files grown
-      → Answered tells old new (λ told. LooksFor FindsFile (path ∷ []) told × Notes finds_file told files grown)
-  file_there path old new files grown answer there h a = record {
-    asked = FindsFile path true ∷ [];
-    chain = (new, subst (λ (b : Bool). tells old (FindsFile path b) new) there h, refl);
-    holds = (asks_one FindsFile path true, file_noted path files grown a);
-  }
-
-  -- a program isn't there
-  pub program_missing : (name : List ℕ) (old new : W) (programs : BTreeSet (String Global)) (answer : Bool) → answer ≡ false → tells old (FindsProgram name answer) new
-      → Answered tells old new (λ told. LooksFor FindsProgram (name ∷ []) told × Notes finds_program told programs programs)
-  program_missing name old new programs answer missing h = record {
-    asked = FindsProgram name false ∷ [];
-    chain = (new, subst (λ (b : Bool). tells old (FindsProgram name b) new) missing h, refl);
-    holds = (asks_one FindsProgram name false, program_passed name programs);
-  }
-
-  pub program_there : (name : List ℕ) (old new : W) (programs grown : BTreeSet (String Global)) (answer : Bool) → answer ≡ true → tells old (FindsProgram name answer) new → Adds name programs grown
-      → Answered tells old new (λ told. LooksFor FindsProgram (name ∷ []) told × Notes finds_program told programs grown)
-  program_there name old new programs grown answer there h a = record {
-    asked = FindsProgram name true ∷ [];
-    chain = (new, subst (λ (b : Bool). tells old (FindsProgram name b) new) there h, refl);
-    holds = (asks_one FindsProgram name true, program_noted name programs grown a);
+  -- it is there
+  pub word_there : (required : Required) (name : List ℕ) (old new : W) (found grown : BTreeSet (String Global)) (answer : Bool) → answer ≡ true → tells old (question_of required name answer) new → Adds name found grown
+      → Answered tells old new (λ told. LooksFor (question_of required) (name ∷ []) told × Notes (finds_of required) told found grown)
+  word_there required name old new found grown answer there h a = record {
+    asked = question_of required name true ∷ [];
+    chain = (new, subst (λ (b : Bool). tells old (question_of required name b) new) there h, refl);
+    holds = (asks_one (question_of required) name true, word_noted required name found grown a);
   }
 
   -- a case whose list has a fault
@@ -174,8 +160,8 @@ module _ {W : Type 0} (tells : W → Told → W → Type 0) where
     chain = chain_append tells a.asked b.asked old mid new a.chain b.chain;
     holds = (
       looked a.asked b.asked (none_of candidate.case.fault e) (subst (λ (ns : List (List ℕ)). LooksFor FindsFile ns a.asked) p a.holds.0) (subst (λ (ns : List (List ℕ)). LooksFor FindsProgram ns b.asked) n b.holds.0),
-      notes_more finds_file a.asked b.asked files there there a.holds.1 (notes_others finds_file b.asked there (λ word. programs_only word names b.asked b.holds.0)),
-      notes_more finds_program a.asked b.asked programs programs noted (notes_others finds_program a.asked programs (λ word. files_only word paths a.asked a.holds.0)) b.holds.1,
+      notes_more finds_file a.asked b.asked files there there a.holds.1 (notes_others finds_file b.asked there (λ word. others_only FindsProgram finds_file word (λ name answer. refl) names b.asked b.holds.0)),
+      notes_more finds_program a.asked b.asked programs programs noted (notes_others finds_program a.asked programs (λ word. others_only FindsFile finds_program word (λ name answer. refl) paths a.asked a.holds.0)) b.holds.1,
     );
   }
 

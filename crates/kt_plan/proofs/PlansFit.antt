@@ -1,16 +1,17 @@
 -- The plan of any cases can be run.
 use Rattle.std.specs.Prelude.{Option, Some, None, slice_get, unwrap_or, nat_le, if◌then◌else◌, ◌==◌, ◌&&◌}
-use Rattle.std.proofs.Common.{◌≡◌, ◌∙◌, ℕ, zero, suc, Bool, true, false, List, [], ◌∷◌, ◌≤◌, ◌+◌, arith, refl, ap, subst, sym}
+use Rattle.std.proofs.Common.{◌≡◌, ◌∙◌, ℕ, zero, suc, Bool, true, false, List, [], ◌∷◌, ◌≤◌, arith, refl, subst, sym}
 use Rattle.std.proofs.lemmas.Bool.Decides.{nat_tests}
 use Rattle.kt_base.specs.declared.interface.Interface.{Interface}
 use Rattle.kt_base.specs.declared.interface.Interface.TheVariants.{Atf, Tap, Plain}
 use Rattle.kt_base.specs.LastValues.{value_of}
+use Rattle.kt_base.specs.Utf8.{utf8}
 use Rattle.kt_config.specs.Values.{Values}
 use Rattle.kt_metadata.specs.declared.property.Property.TheVariants.{Timeout}
 use Rattle.kt_metadata.specs.Properties.{property_name}
 use Rattle.kt_metadata.specs.declared.host.Host.{Host}
 use Rattle.kt_metadata.specs.Effective.{timeout_value}
-use Rattle.kt_metadata.specs.Values.{limited, timeout_of, digits_of, after_digits, number_of}
+use Rattle.kt_metadata.specs.Values.{limited, digits_of, after_digits, number_of}
 use Rattle.kt_sched.specs.declared.job.Job.{Job}
 use Rattle.kt_sched.specs.Plan.{IsFit, IsPlan}
 use Rattle.kt_plan.specs.declared.candidate.Candidate.{Candidate}
@@ -38,7 +39,7 @@ limited_fits (Some v) [] = by (v == 0) refl (nat_le v 1000000) refl
 
 timeout_fits : (text : Option (List ℕ)) → IsTimeout (timeout_value text)
 timeout_fits None = (omega arith, omega arith)
-timeout_fits (Some text) = limited_fits (number_of (digits_of text)) (after_digits text)
+timeout_fits (Some text) = limited_fits (number_of (digits_of (utf8 text))) (after_digits (utf8 text))
 
 -- only an ATF program has cleanups
 atf_alone : (interface : Interface) (declared : Bool) → (is_atf interface && declared) ≡ true → interface ≡ Atf

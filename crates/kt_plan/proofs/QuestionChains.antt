@@ -1,7 +1,7 @@
 -- Questions to a tree and to a host, in one list.
-use Rattle.std.proofs.Common.{◌≡◌, List, [], ◌∷◌, ◌++◌, refl, subst}
+use Rattle.std.proofs.Common.{List, [], ◌∷◌, ◌++◌, subst}
 use Rattle.kt_suite.specs.Answers.{Asked, Chain}
-use Rattle.kt_plan.specs.Questions.{Question, OfTree, OfHost, leads_by, of_tree, of_host}
+use Rattle.kt_plan.specs.Questions.{leads_by, of_tree, of_host}
 use Rattle.kt_plan.specs.Told.{Told}
 
 -- one list of answers, and then another

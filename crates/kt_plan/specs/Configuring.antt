@@ -1,5 +1,6 @@
 -- What a command over test cases is configured with, and which filters it has: the first step.
-use Rattle.std.specs.Prelude.{ℕ, Bool, true, false, not, ◌≡◌, ◌<◌, ◌==◌, ◌&&◌, List, [], ◌∷◌, ◌++◌, Option, Some, None, Result, Ok, Err, is_some, slice_get, if◌then◌else◌}
+use Rattle.std.specs.Prelude.{ℕ, Bool, true, false, not, ◌≡◌, ◌<◌, ◌&&◌, List, [], ◌∷◌, ◌++◌, Option, Some, None, Result, Ok, Err, is_some, slice_get}
+use Rattle.kt_base.specs.Texts.{before, after}
 use Rattle.kt_script.specs.Spelling.{Spells}
 use Rattle.kt_script.specs.declared.syntax.Stmt.{Stmt}
 use Rattle.kt_config.specs.declared.definition.Definition.{Definition}
@@ -42,16 +43,6 @@ behind before (Err fault) = Err fault
 
 -- ---- variables
 
--- a word up to its first `=`
-abbrev pub before_sign : List ℕ → List ℕ
-before_sign [] = []
-before_sign (c ∷ word) = if c == 61 then [] else c ∷ before_sign word
-
--- what follows its first `=`, if it has one
-abbrev pub after_sign : List ℕ → Option (List ℕ)
-after_sign [] = None
-after_sign (c ∷ word) = if c == 61 then Some word else after_sign word
-
 -- what a name and a value define; a name without one has a bad value
 abbrev pub defined_by : List ℕ → Option (List ℕ) → Meaning
 defined_by name None = Err BadValue
@@ -64,7 +55,7 @@ or_stop_at name (Err fault) = Err (stop.Variable name fault)
 
 -- what a word of `-v` defines, or why it stops the command
 abbrev pub word_meaning : List ℕ → Result Definition Stop
-word_meaning word = or_stop_at (before_sign word) (defined_by (before_sign word) (after_sign word))
+word_meaning word = or_stop_at (before 61 word) (defined_by (before 61 word) (after 61 word))
 
 -- what the words of `-v` define, or the stop at the first that is wrong
 abbrev pub words_meaning : List (List ℕ) → Result (List Definition) Stop

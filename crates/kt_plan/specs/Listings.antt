@@ -1,7 +1,8 @@
 -- What the Kyuafile of a command registers.
 use Rattle.std.specs.Prelude.{ℕ, true, false, List, [], ◌≡◌, Err}
 use Rattle.kt_suite.specs.Answers.{Asked}
-use Rattle.kt_suite.specs.Paths.{is_empty, name_in}
+use Rattle.kt_suite.specs.Paths.{name_in}
+use Rattle.kt_base.specs.Texts.{is_empty}
 use Rattle.kt_suite.specs.declared.cause.SuiteCause.TheVariants.{Unreadable}
 use Rattle.kt_suite.specs.declared.fault.SuiteFault.{SuiteFault}
 use Rattle.kt_suite.specs.Faults.{IsNoMemory, fault_at}

@@ -18,6 +18,8 @@ use Rattle.kt_metadata.specs.declared.host.Host.{Host}
 use Rattle.kt_metadata.specs.declared.meta.Meta.{Meta}
 use Rattle.kt_sched.specs.declared.job.Job.{Job}
 use Rattle.kt_plan.specs.declared.candidate.Candidate.{Candidate}
+use Rattle.kt_plan.specs.declared.required.Required.{Required}
+use Rattle.kt_plan.specs.declared.required.Required.TheVariants.{File, Program}
 use Rattle.kt_plan.specs.Collecting.{variables_for}
 use Rattle.kt_plan.specs.Told.{Told, FindsFile, FindsProgram, IsRoot, HasMemory, HasDisk}
 
@@ -25,7 +27,12 @@ use Rattle.kt_plan.specs.Told.{Told, FindsFile, FindsProgram, IsRoot, HasMemory,
 abbrev pub meta_in : Candidate → Meta
 meta_in candidate = effective candidate.case.props
 
--- questions whether these files are found, in order
+-- the question to the host for what is required
+abbrev pub question_of : Required → List ℕ → Bool → Told
+question_of File = FindsFile
+question_of Program = FindsProgram
+
+-- questions whether these words are found, in order
 pub data LooksFor (question : List ℕ → Bool → Told) : List (List ℕ) → List Told → Type 0 where
   no_word : LooksFor question [] []
   asked : (name : List ℕ) (names : List (List ℕ)) (answer : Bool) (told : List Told) → LooksFor question names told
@@ -52,6 +59,11 @@ finds_file path other = false
 abbrev pub finds_program : List ℕ → Told → Bool
 finds_program name (FindsProgram other answer) = bytes_eq (utf8 other) (utf8 name) && answer
 finds_program name other = false
+
+-- an answer tells that what is required is there
+abbrev pub finds_of : Required → List ℕ → Told → Bool
+finds_of File = finds_file
+finds_of Program = finds_program
 
 -- the words that these answers tell to be there were added to those that were found
 abbrev pub Notes : {Z : Type 0} → (List ℕ → Told → Bool) → List Told → BTreeSet (String Z) → BTreeSet (String Z) → Type 0

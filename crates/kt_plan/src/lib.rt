@@ -15,6 +15,7 @@ mod picked;
 mod planning;
 mod preparing;
 mod programs;
+mod required;
 mod selecting;
 mod settings;
 mod stop;

@@ -2,11 +2,12 @@ ghost use Rattle.std.specs.Prelude.{◌≡◌, ◌||◌, ◌∷◌, [], ℕ, Lis
 ghost use Rattle.std.specs.BTreeSet.{contains_text};
 ghost use Rattle.kt_base.specs.Utf8.{utf8};
 ghost use Rattle.kt_suite.specs.Answers.{Answered};
-ghost use Rattle.kt_plan.specs.Told.{FindsFile, FindsProgram};
-ghost use Rattle.kt_plan.specs.Planning.{finds_file, finds_program, LooksFor, LooksForOne, LooksForAll, Notes};
+ghost use Rattle.kt_plan.specs.Planning.{question_of, finds_file, finds_program, finds_of};
+ghost use Rattle.kt_plan.specs.Planning.{LooksFor, LooksForOne, LooksForAll, Notes};
 
 use crate::candidate::Candidate;
 use crate::case_meta::meta_of;
+use crate::required::Required;
 use crate::world::World;
 use kt_base::{NoMemory, Text};
 use std::collections::BTreeSet;
@@ -20,71 +21,48 @@ fn note(word: &Text, found: &mut BTreeSet<String>) -> Result<(), NoMemory>
     Ok(())
 }
 
-/// Asks for a file, and notes it if it is there.
-fn look_for_file<W: World>(
-    path: &Text,
+/// Asks whether a required file or program is found.
+fn is_found<W: World>(required: Required, word: &Text, world: &mut W) -> bool
+    ensures { W.tells world.old (question_of required word.now result) world.new }
+{
+    match required {
+        Required::File => world.file_exists(word),
+        Required::Program => world.program_found(word),
+    }
+}
+
+/// Asks for a required file or program, and notes it if it is there.
+fn look_for_word<W: World>(
+    required: Required,
+    word: &Text,
     world: &mut W,
-    files: &mut BTreeSet<String>,
+    found: &mut BTreeSet<String>,
 ) -> Result<(), NoMemory>
     ensures { Answered W.tells world.old world.new (λ told. OnOk result (
-        LooksFor FindsFile (path.now ∷ []) told
-        × Notes finds_file told files.old files.new)) }
+        LooksFor (question_of required) (word.now ∷ []) told
+        × Notes (finds_of required) told found.old found.new)) }
 {
-    if !world.file_exists(path) {
+    if !is_found(required, word, world) {
         return Ok(());
     }
-    note(path, files)?;
+    note(word, found)?;
     Ok(())
 }
 
-/// Asks for each of some files, in order, and notes those that are there.
-fn look_for_files<W: World>(
-    paths: &[Text],
+/// Asks for each of some required files or programs, in order, and notes those that are there.
+fn look_for_words<W: World>(
+    required: Required,
+    words: &[Text],
     world: &mut W,
-    files: &mut BTreeSet<String>,
+    found: &mut BTreeSet<String>,
 ) -> Result<(), NoMemory>
     ensures { Answered W.tells world.old world.new (λ told. OnOk result (
-        LooksFor FindsFile paths.now told
-        × Notes finds_file told files.old files.new)) }
+        LooksFor (question_of required) words.now told
+        × Notes (finds_of required) told found.old found.new)) }
 {
-    let mut rest = paths;
-    while let Some((path, after)) = rest.split_first() {
-        look_for_file(path, world, files)?;
-        rest = after;
-    }
-    Ok(())
-}
-
-/// Asks for a program, and notes it if it is there.
-fn look_for_program<W: World>(
-    name: &Text,
-    world: &mut W,
-    programs: &mut BTreeSet<String>,
-) -> Result<(), NoMemory>
-    ensures { Answered W.tells world.old world.new (λ told. OnOk result (
-        LooksFor FindsProgram (name.now ∷ []) told
-        × Notes finds_program told programs.old programs.new)) }
-{
-    if !world.program_found(name) {
-        return Ok(());
-    }
-    note(name, programs)?;
-    Ok(())
-}
-
-/// Asks for each of some programs, in order, and notes those that are there.
-fn look_for_programs<W: World>(
-    names: &[Text],
-    world: &mut W,
-    programs: &mut BTreeSet<String>,
-) -> Result<(), NoMemory>
-    ensures { Answered W.tells world.old world.new (λ told. OnOk result (
-        LooksFor FindsProgram names.now told
-        × Notes finds_program told programs.old programs.new)) }
-{
-    let mut rest = names;
-    while let Some((name, after)) = rest.split_first() {
-        look_for_program(name, world, programs)?;
+    let mut rest = words;
+    while let Some((word, after)) = rest.split_first() {
+        look_for_word(required, word, world, found)?;
         rest = after;
     }
     Ok(())
@@ -106,8 +84,13 @@ fn look_for_case<W: World>(
         return Ok(());
     }
     let meta = meta_of(&candidate.case.props)?;
-    look_for_files(meta.required_files.as_slice(), world, files)?;
-    look_for_programs(meta.required_programs.as_slice(), world, programs)?;
+    look_for_words(Required::File, meta.required_files.as_slice(), world, files)?;
+    look_for_words(
+        Required::Program,
+        meta.required_programs.as_slice(),
+        world,
+        programs,
+    )?;
     Ok(())
 }
 

@@ -1,7 +1,6 @@
 ghost use Rattle.std.specs.Prelude.{◌≡◌, ◌⊎◌, ◌≤◌, length, IfOk};
 ghost use Rattle.kt_suite.specs.Answers.{Answered};
 ghost use Rattle.kt_suite.specs.Faults.{Blames, no_memory};
-ghost use Rattle.kt_suite.specs.Paths.{is_empty};
 ghost use Rattle.kt_suite.specs.Registered.{program_limit};
 ghost use Rattle.kt_plan.specs.Listings.{Loads, RanShort};
 
@@ -17,13 +16,6 @@ fn out_of_memory(alloc: Global, refusal: NoMemory) -> SuiteFault
         path: Text::new(alloc),
         line: 0,
     }
-}
-
-/// Whether a text has no character.
-fn is_empty(text: &Text) -> bool
-    ensures { result ≡ is_empty text.now }
-{
-    text.as_str().is_empty()
 }
 
 /// The fault of a file as a whole.
@@ -54,7 +46,7 @@ pub fn programs_of<T: Tree>(
         Ok((_, root)) => root,
         Err(refusal) => return Err(out_of_memory(alloc, refusal)),
     };
-    if is_empty(&root) {
+    if root.is_empty() {
         return Err(fault_of(alloc, kyuafile, SuiteCause::Unreadable));
     }
     load(alloc, tree, &root)

@@ -5,10 +5,12 @@ use kt_base::{Interface, Items, NoMemory, Text, Variables};
 use kt_sched::Job;
 use std::alloc::Global;
 
-/// A plan of the program `d/p` with a case a letter, up to 1,000,000 of them, whose limit is given in seconds: `p` of a plain program, `t` of a TAP program,
-/// `a` and `c` of an ATF program, `c` with a cleanup.
+/// A plan of one program with a case for each letter, up to 1,000,000 of them, whose limit is given
+/// in seconds: `p` of a plain program, `t` of a TAP program, `a` and `c` of an ATF program, `c`
+/// with a cleanup.
 pub fn cases_of(
     alloc: Global,
+    program: &str,
     letters: &[u8],
     limit: u32,
     variables: &Variables,
@@ -23,7 +25,7 @@ pub fn cases_of(
         if position >= 1_000_000 {
             break;
         }
-        jobs.push(job_of(alloc, position, *letter, limit, variables)?)?;
+        jobs.push(job_of(alloc, program, position, *letter, limit, variables)?)?;
         position += 1;
     }
     Ok(Items::from_vec(jobs))
@@ -32,6 +34,7 @@ pub fn cases_of(
 /// The job of a letter.
 fn job_of(
     alloc: Global,
+    program: &str,
     position: u32,
     letter: u8,
     limit: u32,
@@ -42,7 +45,7 @@ fn job_of(
     ensures place { IfOk result (λ job. job.position ≡ position) }
     ensures fit { IfOk result IsFit }
 {
-    let program = Text::from_str(alloc, "d/p")?;
+    let program = Text::from_str(alloc, program)?;
     let case_name = Text::from_str(alloc, "main")?;
     let vars = variables.copy()?;
     let cleanup = letter == b'c';

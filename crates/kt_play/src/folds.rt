@@ -63,8 +63,8 @@ fn push_block(
     Ok(())
 }
 
-/// Lines with commas between them. What stands there several times one after the other is told once: `poll 0 x100`, or
-/// `(poll 0, pause) x99`.
+/// Lines with commas between them. What stands there several times one after the other is told
+/// once: `poll 0 x100`, or `(poll 0, pause) x99`.
 pub fn folded(alloc: Global, lines: &[&str]) -> Result<String, NoMemory> {
     let mut out = String::new(alloc);
     let mut at: usize = 0;

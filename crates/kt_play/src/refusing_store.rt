@@ -20,8 +20,8 @@ impl RefusingStore {
     ghost use Rattle.std.specs.Prelude.{◌≡◌};
     ghost use Rattle.kt_store.specs.Ask.{IsStoreFault};
 
-    /// No runs. The calls from the first number to the last are refused, counted from 1, for a lack of memory or, without
-    /// one, because the store failed.
+    /// No runs. The calls from the first number to the last are refused, counted from 1, for a lack
+    /// of memory or, without one, because the store failed.
     pub fn new(alloc: Global, refused: (u64, u64), shortage: Option<NoMemory>) -> RefusingStore {
         RefusingStore {
             runs: MemRuns::new(alloc),

@@ -5,8 +5,8 @@ use kt_base::{Bytes, Items, NoMemory, Role, Text, Variable};
 use kt_child::{Child, EnvPlan, FileRead, Os, OsFault, Polled};
 use std::alloc::Global;
 
-/// A system that does what a scene says. It keeps a line for each call, which ends in `failed` for a failed one. A call that can't
-/// write its line for want of memory fails.
+/// A system that does what a scene says. It keeps a line for each call, which ends in `failed` for
+/// a failed one. A call that can't write its line for want of memory fails.
 #[derive(Drop)]
 pub struct ScriptedSystem<'a> {
     alloc: Global,

@@ -69,7 +69,8 @@ impl<'a, L: Launcher> ScriptedWorld<'a, L> {
         }
     }
 
-    /// The place of the next list of a program: the first behind the last one that was told, or else the first of all.
+    /// The place of the next list of a program: the first behind the last one that was told, or
+    /// else the first of all.
     fn place_of_list(&self, program: &Text) -> Option<usize> {
         let mut first = None;
         for (place, listed) in self.stage.lists.iter().enumerate() {

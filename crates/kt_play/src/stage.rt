@@ -14,8 +14,8 @@ pub struct Stage<'a> {
     pub locked: Vec<&'a str>,
     /// Files that can't be read for want of memory.
     pub dear: Vec<&'a str>,
-    /// What programs list. A program is asked for one after the other, and then for the first again; one that isn't
-    /// named can't be started.
+    /// What programs list. A program is asked for one after the other, and then for the first
+    /// again; one that isn't named can't be started.
     pub lists: Vec<Listed<'a>>,
     /// The required files that are there.
     pub found_files: Vec<&'a str>,

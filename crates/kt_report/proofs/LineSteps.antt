@@ -4,7 +4,6 @@ use Rattle.std.specs.Prelude.{flat_map, codes}
 use Rattle.std.specs.List.{list_any}
 use Rattle.kt_base.specs.declared.kind.Kind.{Kind}
 use Rattle.kt_base.specs.declared.entry.Entry.{Entry}
-use Rattle.kt_report.specs.Junits.{case_bytes}
 use Rattle.kt_report.specs.Pairs.{entry_bytes}
 use Rattle.kt_report.specs.Texts.{same_kind, entries_of, title, titled, section}
 
@@ -28,7 +27,3 @@ titled_is v name (e ∷ entries) n = refl
 pub section_is : (v : Bool) (kinds : List Kind) (entries : List Entry) (kind : Kind) → list_any (same_kind kind) kinds ≡ true → length (entries_of kind entries) ≢ 0
     → codes "===> " ++ title kind ++ codes "\n" ++ flat_map (entry_bytes v) (entries_of kind entries) ≡ section v kinds entries kind
 section_is v kinds entries kind chosen some = rw chosen (titled_is v (title kind) (entries_of kind entries) some)
-
--- the cases of a JUnit report, one by one
-pub cases_more : (rest after : List Entry) (e : Entry) (told whole : List ℕ) → rest ≡ e ∷ after → told ++ flat_map case_bytes rest ≡ whole → (told ++ case_bytes e) ++ flat_map case_bytes after ≡ whole
-cases_more rest after e told whole r p = append_assoc told (case_bytes e) (flat_map case_bytes after) ∙ (rw r at p)

@@ -20,8 +20,9 @@ fn write_reason<W: Write>(verdict: &Verdict, out: &mut W) -> Result<(), OutputFa
     }
 }
 
-/// Writes the line of an entry: program and case, what became of it and why, and how long it took in seconds (this
-/// profile). It takes no memory. If a write failed, a proper prefix of the line was written.
+/// Writes the line of an entry: program and case, what became of it and why, and how long it took
+/// in seconds (this profile). It takes no memory. If a write failed, a proper prefix of the line
+/// was written.
 pub fn line<W: Write>(entry: &Entry, out: &mut W) -> Result<(), OutputFault>
     ensures { Shows (W.contents out.old) (W.contents out.new) (is_err result)
         (line_bytes entry.now) }

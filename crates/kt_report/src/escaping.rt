@@ -47,13 +47,6 @@ fn push_escaped(text: &mut Text, attribute: bool, c: char) -> Result<(), NoMemor
     }
 }
 
-fn characters(alloc: Global, text: &str) -> Result<Vec<char>, NoMemory>
-    ensures { IfOk result (λ characters. characters.items ≡ chars text.now) }
-{
-    let characters = text.chars().collect(alloc)?;
-    Ok(characters)
-}
-
 /// Characters as XML has them.
 fn escape_all(alloc: Global, attribute: bool, characters: &[char]) -> Result<Text, NoMemory>
     ensures { IfOk result (λ t. t ≡ escapes attribute characters.now) }
@@ -66,10 +59,10 @@ fn escape_all(alloc: Global, attribute: bool, characters: &[char]) -> Result<Tex
 }
 
 /// A text as XML has it, in an attribute or in content.
-fn escape(alloc: Global, attribute: bool, text: &str) -> Result<Text, NoMemory>
-    ensures { IfOk result (λ t. t ≡ escapes attribute (chars text.now)) }
+fn escape(alloc: Global, attribute: bool, text: &Text) -> Result<Text, NoMemory>
+    ensures { IfOk result (λ t. t ≡ escapes attribute text.now) }
 {
-    let characters = characters(alloc, text)?;
+    let characters = text.characters()?;
     escape_all(alloc, attribute, characters.as_slice())
 }
 
@@ -80,7 +73,7 @@ fn escape_outputs(alloc: Global, body: &Bytes, cleanup: &Bytes) -> Result<Text, 
     let mut text = lossy(alloc, body.as_slice())?;
     let more = lossy(alloc, cleanup.as_slice())?;
     text.push_str(more.as_str())?;
-    escape(alloc, false, text.as_str())
+    escape(alloc, false, &text)
 }
 
 /// The texts of an entry as XML has them.
@@ -90,9 +83,9 @@ pub fn case_texts(alloc: Global, entry: &Entry) -> Result<CaseTexts, NoMemory>
     let mut reason = Text::new(alloc);
     entry.verdict.write_reason(&mut reason)?;
     Ok(CaseTexts {
-        program: escape(alloc, true, entry.program.as_str())?,
-        case_name: escape(alloc, true, entry.case_name.as_str())?,
-        reason: escape(alloc, true, reason.as_str())?,
+        program: escape(alloc, true, &entry.program)?,
+        case_name: escape(alloc, true, &entry.case_name)?,
+        reason: escape(alloc, true, &reason)?,
         out: escape_outputs(alloc, &entry.body.out, &entry.cleanup.out)?,
         err: escape_outputs(alloc, &entry.body.err, &entry.cleanup.err)?,
     })

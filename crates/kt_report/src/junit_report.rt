@@ -110,16 +110,15 @@ fn write_cases<W: Write>(alloc: Global, entries: &[Entry], out: &mut W) -> Resul
     ensures { Shows (W.contents out.old) (W.contents out.new) (is_err result)
         (flat_map case_bytes entries.now) }
 {
-    let mut rest = entries;
-    while let Some((entry, after)) = rest.split_first() {
+    for entry in entries {
         write_case(alloc, entry, out)?;
-        rest = after;
     }
     Ok(())
 }
 
-/// Writes the JUnit report: a suite with a case for each recorded entry, by position (this profile). It takes memory
-/// for the texts of one entry at a time. After an error a proper prefix of the report was written.
+/// Writes the JUnit report: a suite with a case for each recorded entry, by position (this
+/// profile). It takes memory for the texts of one entry at a time. After an error a proper prefix
+/// of the report was written.
 pub fn junit<W: Write>(alloc: Global, run: &Run, out: &mut W) -> Result<(), ReportFault>
     ensures { Shows (W.contents out.old) (W.contents out.new) (is_err result)
         (junit_bytes run.now) }

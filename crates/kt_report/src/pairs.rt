@@ -18,10 +18,8 @@ fn write_value<W: Write>(value: &[u8], out: &mut W) -> Result<(), OutputFault>
     ensures { Shows (W.contents out.old) (W.contents out.new) (is_err result)
         (map shown_byte value.now) }
 {
-    let mut rest = value;
-    while let Some((byte, after)) = rest.split_first() {
+    for byte in value {
         emit(&[shown_byte(*byte)], out)?;
-        rest = after;
     }
     Ok(())
 }
@@ -41,10 +39,8 @@ fn write_pairs<W: Write>(pairs: &[Variable], out: &mut W) -> Result<(), OutputFa
     ensures { Shows (W.contents out.old) (W.contents out.new) (is_err result)
         (flat_map pair_bytes pairs.now) }
 {
-    let mut rest = pairs;
-    while let Some((pair, after)) = rest.split_first() {
+    for pair in pairs {
         write_pair(pair, out)?;
-        rest = after;
     }
     Ok(())
 }

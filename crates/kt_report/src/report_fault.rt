@@ -4,13 +4,14 @@ ghost use Rattle.kt_report.specs.declared.report_fault.ReportFault.TheVariants a
 use kt_base::{NoMemory, OutputFault};
 use thiserror::Error;
 
-/// Why a report ends early. A proper prefix of its text was written.
+/// Why a report ends early. A proper prefix of its text was written. A report can't give up on its
+/// own: each fault holds what it was made from, a refusal of memory or a failed write.
 #[derive(Clone, Copy, Debug, PartialEq, Eq, Error)]
 pub enum ReportFault {
     #[error("out of memory")]
     NoMemory(NoMemory),
     #[error("output could not be written")]
-    Output,
+    Output(OutputFault),
 }
 
 impl From<NoMemory> for ReportFault {
@@ -22,9 +23,9 @@ impl From<NoMemory> for ReportFault {
 }
 
 impl From<OutputFault> for ReportFault {
-    ghost from_gives = { λ _ e. e ≡ fault.Output };
+    ghost from_gives = { λ refusal e. e ≡ fault.Output refusal };
 
-    fn from(_fault: OutputFault) -> ReportFault {
-        ReportFault::Output
+    fn from(refusal: OutputFault) -> ReportFault {
+        ReportFault::Output(refusal)
     }
 }

@@ -25,14 +25,7 @@ fn same_kind(kind: Kind, other: Kind) -> bool
 fn is_chosen(kinds: &[Kind], kind: Kind) -> bool
     ensures { result ≡ list_any (same_kind kind) kinds.now }
 {
-    let mut rest = kinds;
-    while let Some((first, after)) = rest.split_first() {
-        if same_kind(kind, *first) {
-            return true;
-        }
-        rest = after;
-    }
-    false
+    kinds.iter().any(|first| same_kind(kind, *first))
 }
 
 /// How many entries have the kind.
@@ -40,12 +33,10 @@ pub fn count(kind: Kind, entries: &[Entry]) -> usize
     ensures { result ≡ length (entries_of kind entries.now) }
 {
     let mut found = 0;
-    let mut rest = entries;
-    while let Some((entry, after)) = rest.split_first() {
+    for entry in entries {
         if same_kind(kind, entry.verdict.kind()) {
             found += 1;
         }
-        rest = after;
     }
     found
 }

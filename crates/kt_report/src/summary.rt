@@ -14,10 +14,8 @@ fn total_millis(entries: &[Entry]) -> u128
     ensures { result ≡ sum_by (λ e. e.millis) entries.now }
 {
     let mut total = 0;
-    let mut rest = entries;
-    while let Some((entry, after)) = rest.split_first() {
+    for entry in entries {
         total += u128::from(entry.millis);
-        rest = after;
     }
     total
 }

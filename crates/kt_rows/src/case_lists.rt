@@ -43,7 +43,8 @@ fn push_reason(alloc: Global, out: &mut String, fault: Option<Reason>) -> Result
     Ok(())
 }
 
-/// A case in the form of a row: its name, the properties that differ from the defaults, and its fault.
+/// A case in the form of a row: its name, the properties that differ from the defaults, and its
+/// fault.
 fn push_case(alloc: Global, out: &mut String, case: CaseDef) -> Result<(), RowFault> {
     push_line(out, case.name.as_str())?;
     push_props(alloc, out, &case.props)?;
@@ -86,7 +87,8 @@ fn many_keys(alloc: Global, count: u64) -> Result<Vec<u8>, RowFault> {
     Ok(text.into_bytes())
 }
 
-/// The text of a list: `list TEXT`, `blocks TEXT` behind the header and an empty line, `many N` or `keys N`.
+/// The text of a list: `list TEXT`, `blocks TEXT` behind the header and an empty line, `many N` or
+/// `keys N`.
 fn list_text(alloc: Global, row: &Row<'_>) -> Result<Option<Vec<u8>>, RowFault> {
     if let Some(text) = row.bytes(alloc, "list")? {
         return Ok(Some(text));
@@ -143,7 +145,8 @@ fn props_of(alloc: Global, row: &Row<'_>) -> Result<Props, RowFault> {
     Ok(props)
 }
 
-/// The cases of a program: `program INTERFACE`, `set NAME=VALUE` for its properties, and what came of its listing.
+/// The cases of a program: `program INTERFACE`, `set NAME=VALUE` for its properties, and what came
+/// of its listing.
 fn program_cases(alloc: Global, row: &Row<'_>, word: &str) -> Result<String, RowFault> {
     let props = props_of(alloc, row)?;
     let listing = listing_of(alloc, row)?;

@@ -62,7 +62,8 @@ fn check_file(rt: &HostRuntime, file: &str) -> io::Result<bool> {
     }
 }
 
-/// Checks the files that the arguments name, and returns whether each row has the answer that it wants.
+/// Checks the files that the arguments name, and returns whether each row has the answer that it
+/// wants.
 pub fn check_files(rt: &HostRuntime) -> io::Result<bool> {
     let mut is_good = true;
     for file in env::args(rt)?.skip(1) {

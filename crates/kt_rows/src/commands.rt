@@ -6,7 +6,7 @@ use crate::row_fault::RowFault;
 use crate::scenes::scene_of;
 use crate::stages::{over_system, stage_of, store_of};
 use crate::store_texts::runs_text;
-use crate::{line_outputs, readers, telling_faults};
+use crate::{fault_exits, line_outputs, readers};
 use kt_cli::Exit;
 use kt_play::{Scene, ScriptedSystem, ScriptedWriter};
 use std::alloc::Global;
@@ -65,8 +65,8 @@ fn shown(alloc: Global, row: &Row<'_>, played: &Played) -> Result<String, RowFau
     Ok(out)
 }
 
-/// What is wrong where a write failed: the page is no beginning of the whole one, the last command doesn't end with 2, or the runs
-/// are others.
+/// What is wrong where a write failed: the page is no beginning of the whole one, the last command
+/// doesn't end with 2, or the runs are others.
 fn wrong(whole: &Played, cut: &Played) -> Option<&'static str> {
     let kept = cut.page.kept.as_slice();
     if kept.len() >= whole.page.kept.len() || !whole.page.kept.as_slice().starts_with(kept) {
@@ -113,16 +113,17 @@ fn done(alloc: Global, row: &Row<'_>) -> Result<String, RowFault> {
     }
 }
 
-/// Commands over a scripted world: `do COMMAND LINE` each. Rows that begin with `piece`, `tell`, `source` or `reader` are of pieces that are
-/// given to a writer of lines, of faults that are told, of the directories of Kyuafiles and of reads.
+/// Commands over a scripted world: `do COMMAND LINE` each. Rows that begin with `piece`, `tell`,
+/// `source` or `reader` are of pieces that are given to a writer of lines, of faults that are told,
+/// of the directories of Kyuafiles and of reads.
 pub fn answer(alloc: Global, row: &Row<'_>) -> Result<String, RowFault> {
     let Some(first) = row.entries.first() else {
         return Err(RowFault::Misspelled("the row is empty"));
     };
     match first.word {
         "piece" => line_outputs::answer(alloc, row),
-        "tell" => telling_faults::told(alloc, first.text),
-        "source" => telling_faults::source(alloc, first.text),
+        "tell" => fault_exits::told(alloc, first.text),
+        "source" => fault_exits::source(alloc, first.text),
         "reader" => readers::world_read(alloc, row),
         _ => done(alloc, row),
     }

@@ -6,7 +6,8 @@ use kt_base::Variable;
 use kt_config::{Config, ConfigFault, SuiteVariables};
 use std::alloc::Global;
 
-/// Appends numbered statements: `COUNT STATEMENT`, where `#` in the statement is its number, counted from 0.
+/// Appends numbered statements: `COUNT STATEMENT`, where `#` in the statement is its number,
+/// counted from 0.
 fn append_numbered(alloc: Global, file: &mut Vec<u8>, text: &str) -> Result<(), RowFault> {
     let Some((count, statement)) = text.split_once(' ') else {
         return Err(RowFault::Misspelled("no number and statement"));
@@ -129,7 +130,8 @@ fn lines(alloc: Global, mut config: Config, row: &Row<'_>) -> Result<String, Row
     Ok(out)
 }
 
-/// The answers of a configuration, or why its file is refused. A row without `file` begins with a new configuration.
+/// The answers of a configuration, or why its file is refused. A row without `file` begins with a
+/// new configuration.
 pub fn answer(alloc: Global, row: &Row<'_>) -> Result<String, RowFault> {
     if row.text("file").is_none() {
         return lines(alloc, Config::new(alloc), row);

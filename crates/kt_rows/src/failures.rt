@@ -33,7 +33,8 @@ fn count_of(log: &str, word: &str) -> usize {
     count
 }
 
-/// How many directories were made that are to be removed: all but work directories, which lie in them.
+/// How many directories were made that are to be removed: all but work directories, which lie in
+/// them.
 fn made(log: &str) -> usize {
     let mut count: usize = 0;
     for line in log.lines() {
@@ -49,7 +50,8 @@ fn has_failed(log: &str) -> bool {
     log.lines().any(|line| line.ends_with(" failed"))
 }
 
-/// Tells what a failing call changes: the cases with other marks, a kill, and directories that were not removed.
+/// Tells what a failing call changes: the cases with other marks, a kill, and directories that were
+/// not removed.
 fn push_changes(
     alloc: Global,
     out: &mut String,
@@ -88,7 +90,8 @@ fn push_sound(alloc: Global, out: &mut String, sound: &[Entry]) -> Result<(), Ro
     Ok(())
 }
 
-/// The entries where no call fails, then, for each failing call, what is otherwise, and how many calls there are.
+/// The entries where no call fails, then, for each failing call, what is otherwise, and how many
+/// calls there are.
 pub fn each_failing<'a>(
     alloc: Global,
     row: &Row<'a>,

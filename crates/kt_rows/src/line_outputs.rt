@@ -28,7 +28,8 @@ fn writer(alloc: Global, at_most: usize, failing: u64, fault: WriteFault) -> Scr
     writer
 }
 
-/// Gives pieces to lines before a writer, also behind a failure, and perhaps flushes them: whether all went well.
+/// Gives pieces to lines before a writer, also behind a failure, and perhaps flushes them: whether
+/// all went well.
 fn given<W: Write>(out: &mut W, pieces: &[Vec<u8>], flushes: bool) -> bool {
     let mut lines = LineOutput::new(out);
     let mut well = true;
@@ -79,7 +80,8 @@ fn push_failures(
     Ok(())
 }
 
-/// What is written of pieces, each write failing in turn in each way: `piece TEXT` each, `takes BYTES` a write at the most.
+/// What is written of pieces, each write failing in turn in each way: `piece TEXT` each, `takes
+/// BYTES` a write at the most.
 fn flushed(alloc: Global, pieces: &[Vec<u8>], at_most: usize) -> Result<String, RowFault> {
     let mut whole = writer(alloc, at_most, 0, WriteFault::Broken);
     let well = given(&mut whole, pieces, true);

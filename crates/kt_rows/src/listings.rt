@@ -39,8 +39,8 @@ fn ended_of<'a>(alloc: Global, text: &'a str) -> Result<(&'a str, ListBytes), Ro
     }
 }
 
-/// What comes of asking a program for its list: `refused WHY`, or `ENDING` and then `blocks TEXT`, `list TEXT`, `unreadable` or
-/// `too-long`.
+/// What comes of asking a program for its list: `refused WHY`, or `ENDING` and then `blocks TEXT`,
+/// `list TEXT`, `unreadable` or `too-long`.
 fn listing_of(alloc: Global, text: &str) -> Result<Listing, RowFault> {
     if let Some(cause) = text.strip_prefix("refused ") {
         return Ok(Listing::Refused(refused_of(cause)?));

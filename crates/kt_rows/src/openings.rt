@@ -1,6 +1,8 @@
-//! Command lines over a scripted platform: what it is asked for, what is written, and how each line ends.
+//! Command lines over a scripted platform: what it is asked for, what is written, and how each line
+//! ends.
 
 use crate::command_words::read_line;
+use crate::fault_exits::{command_fault, driver_fault, store_fault};
 use crate::lines::push_line;
 use crate::numbers::number;
 use crate::row::Row;
@@ -9,7 +11,6 @@ use crate::scenes::scene_of;
 use crate::stages::store_of;
 use crate::store_calls::call;
 use crate::store_texts::timeless_runs_text;
-use crate::telling_faults::{command_fault, driver_fault, store_fault};
 use kt_cli::{LineOutput, carry_out};
 use kt_play::{RefusingStore, Scene, ScriptedPlatform, ScriptedSystem, ScriptedWriter};
 use kt_words::{Command, CommandFault};
@@ -29,7 +30,8 @@ fn results_of(alloc: Global, row: &Row<'_>) -> Result<RefusingStore, RowFault> {
     Ok(results)
 }
 
-/// The platform of a row: `open FAULT`, `close FAULT` and `surroundings FAULT` name its calls that fail.
+/// The platform of a row: `open FAULT`, `close FAULT` and `surroundings FAULT` name its calls that
+/// fail.
 fn platform_of(alloc: Global, row: &Row<'_>) -> Result<ScriptedPlatform, RowFault> {
     let mut platform = ScriptedPlatform::new(alloc, results_of(alloc, row)?);
     if let Some(fault) = row.text("open") {
@@ -51,8 +53,8 @@ struct Pages {
     errors: ScriptedWriter,
 }
 
-/// The pages of a row: `write N` fails on standard output with all behind it, and so does its `flush fails`; `error N` fails on
-/// standard error.
+/// The pages of a row: `write N` fails on standard output with all behind it, and so does its
+/// `flush fails`; `error N` fails on standard error.
 fn pages_of(alloc: Global, row: &Row<'_>) -> Result<Pages, RowFault> {
     let mut out = ScriptedWriter::new(alloc, number(row.text("write").unwrap_or("0"))?);
     out.flush_fails = row.text("flush").is_some();
@@ -74,8 +76,8 @@ fn carried<R: Files<File = File> + Clock + AllocGlobal, W: Write, E: Write>(
     carry_out(rt, os, platform, command, &mut lines, errors).status
 }
 
-/// Carries out the command lines of a row, one after the other: `line WORDS`, or `words FAULT` for one that is none. Answers how
-/// they ended.
+/// Carries out the command lines of a row, one after the other: `line WORDS`, or `words FAULT` for
+/// one that is none. Answers how they ended.
 fn exits_text<R: Files<File = File> + Clock + AllocGlobal>(
     rt: &R,
     row: &Row<'_>,
@@ -152,8 +154,8 @@ fn shown(
     Ok(text)
 }
 
-/// Command lines over a platform that answers as the row says, with the files of this process: the calls on the platform on one
-/// line, what was written, and how the lines ended.
+/// Command lines over a platform that answers as the row says, with the files of this process: the
+/// calls on the platform on one line, what was written, and how the lines ended.
 pub fn answer<R: Files<File = File> + Clock + AllocGlobal>(
     rt: &R,
     row: &Row<'_>,

@@ -50,8 +50,8 @@ fn agrees(
     Ok(has_calls && has_puts && is_done != simulation.failed)
 }
 
-/// How many runs of a plan agree: each put failing or none, at widths 1 to 3, in several orders of the ends. It stops at
-/// the first run that doesn't.
+/// How many runs of a plan agree: each put failing or none, at widths 1 to 3, in several orders of
+/// the ends. It stops at the first run that doesn't.
 fn agreeing(alloc: Global, letters: &[u8]) -> Result<(usize, bool), RowFault> {
     let mut runs = 0usize;
     for failing in 0..=letters.len() {
@@ -98,8 +98,8 @@ fn agreeing_text(alloc: Global, letters: &[u8], length: u32) -> Result<String, R
     Ok(format!(in alloc; "{count} plans, {all} runs")?)
 }
 
-/// Whether the scheduler runs each plan as a simulation does, with each put failing or none, at widths 1 to 3 and in several
-/// orders of the ends. It asks by `letters LETTERS` and `length N`.
+/// Whether the scheduler runs each plan as a simulation does, with each put failing or none, at
+/// widths 1 to 3 and in several orders of the ends. It asks by `letters LETTERS` and `length N`.
 pub fn answer(alloc: Global, row: &Row<'_>) -> Result<String, RowFault> {
     let Some(letters) = row.bytes(alloc, "letters")? else {
         return Err(RowFault::Misspelled("no letters"));

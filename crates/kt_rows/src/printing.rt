@@ -40,7 +40,8 @@ fn is_whole(alloc: Global, printed: Printed<'_>, at_most: usize, text: &[u8]) ->
     !failed && out.taken.as_slice() == text
 }
 
-/// Whether a writer that fails at a call gets what came before that call, and the failure is returned.
+/// Whether a writer that fails at a call gets what came before that call, and the failure is
+/// returned.
 fn is_cut(
     alloc: Global,
     printed: Printed<'_>,
@@ -76,8 +77,9 @@ fn is_cut_anywhere(
     true
 }
 
-/// The text that is printed, if it is the same into each writer: one that takes all at a call, seven bytes or one, and
-/// one that fails at one of its first calls, which gets the text before that call.
+/// The text that is printed, if it is the same into each writer: one that takes all at a call,
+/// seven bytes or one, and one that fails at one of its first calls, which gets the text before
+/// that call.
 pub fn printed_text(alloc: Global, printed: Printed<'_>) -> Result<String, RowFault> {
     let mut out = FailingWriter::new(alloc, usize::MAX);
     if printed.print(&mut out) {
@@ -95,7 +97,8 @@ pub fn printed_text(alloc: Global, printed: Printed<'_>) -> Result<String, RowFa
     Ok(String::from_utf8_lossy(alloc, text)?)
 }
 
-/// How many bytes reach a writer that takes so many at a time and fails at a call, and whether a write failed.
+/// How many bytes reach a writer that takes so many at a time and fails at a call, and whether a
+/// write failed.
 pub fn sent(alloc: Global, bytes: &[u8], at_most: usize, fails_at: usize) -> (usize, bool) {
     let mut out = FailingWriter::new(alloc, at_most);
     out.fails_at = fails_at;

@@ -9,7 +9,8 @@ use kt_metadata::{Host, PropFault, Props, is_kyuafile_property, property_of_key,
 use std::alloc::Global;
 use std::collections::BTreeSet;
 
-/// What a row has said so far: the properties of a program and of its case, the configuration and the host.
+/// What a row has said so far: the properties of a program and of its case, the configuration and
+/// the host.
 #[derive(Drop)]
 struct Example {
     alloc: Global,

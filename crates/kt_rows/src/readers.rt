@@ -3,10 +3,12 @@
 use crate::numbers::number;
 use crate::row::Row;
 use crate::row_fault::RowFault;
-use kt_child::{FileRead, read_front};
-use kt_cli::read_start;
+use kt_child::{FileRead, read_front, read_start};
 use kt_play::EndlessReader;
 use std::alloc::Global;
+
+/// How many bytes of a file a world reads at the most: one more than a script may have.
+const WORLD_LIMIT: usize = 1_048_577;
 
 /// A reader: `piece BYTES` a read, and `reads N` before the first that fails, or is `interrupted`.
 fn reader_of(row: &Row<'_>) -> Result<EndlessReader, RowFault> {
@@ -46,7 +48,7 @@ pub fn system_read(alloc: Global, row: &Row<'_>) -> Result<String, RowFault> {
 /// What a world's read answers.
 pub fn world_read(alloc: Global, row: &Row<'_>) -> Result<String, RowFault> {
     let mut file = reader_of(row)?;
-    let read = match read_start(alloc, &mut file) {
+    let read = match read_start(alloc, &mut file, WORLD_LIMIT) {
         Err(_) => String::from_str(alloc, "failed")?,
         Ok(bytes) => {
             let length = bytes.len();

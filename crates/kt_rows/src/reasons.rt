@@ -99,7 +99,8 @@ fn phrase_reason(alloc: Global, row: &Row<'_>, name: &str) -> Result<Reason, Row
     }
 }
 
-/// The reason of a row: `phrase NAME`, perhaps with `ended ENDING` or `numbers N M`, or `words TEXT`, or `nothing`.
+/// The reason of a row: `phrase NAME`, perhaps with `ended ENDING` or `numbers N M`, or `words
+/// TEXT`, or `nothing`.
 fn reason_of(alloc: Global, row: &Row<'_>) -> Result<Reason, RowFault> {
     if let Some(words) = row.bytes(alloc, "words")? {
         return Ok(Reason::Owned(lossy(alloc, &words)?));
@@ -111,7 +112,8 @@ fn reason_of(alloc: Global, row: &Row<'_>) -> Result<Reason, RowFault> {
     }
 }
 
-/// The text of a reason, if it is the same written behind another text and printed into each writer.
+/// The text of a reason, if it is the same written behind another text and printed into each
+/// writer.
 fn reason_text(alloc: Global, reason: Reason) -> Result<String, RowFault> {
     let verdict = Verdict::broken(reason);
     let mut written = Text::from_str(alloc, "so: ")?;
@@ -204,7 +206,8 @@ fn value_text(alloc: Global, row: &Row<'_>) -> Result<Option<String>, RowFault> 
     Ok(None)
 }
 
-/// The text of a reason, of a kind, of a number or of bytes, and what becomes of a list of words or of variables.
+/// The text of a reason, of a kind, of a number or of bytes, and what becomes of a list of words or
+/// of variables.
 pub fn answer(alloc: Global, row: &Row<'_>) -> Result<String, RowFault> {
     if let Some(word) = row.text("kind") {
         return kind_text(alloc, word);

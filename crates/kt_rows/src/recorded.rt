@@ -88,8 +88,9 @@ pub fn case_entry(
     })
 }
 
-/// The entry of a line `entry VERDICT` with the lines below it: `program TEXT`, `case TEXT`, `took MILLISECONDS`, and the
-/// outputs `out TEXT`, `err TEXT`, `cleanup-out TEXT` and `cleanup-err TEXT`; and a line `meta NAME=VALUE` for each pair.
+/// The entry of a line `entry VERDICT` with the lines below it: `program TEXT`, `case TEXT`, `took
+/// MILLISECONDS`, and the outputs `out TEXT`, `err TEXT`, `cleanup-out TEXT` and `cleanup-err
+/// TEXT`; and a line `meta NAME=VALUE` for each pair.
 fn entry_of(alloc: Global, lines: &[row::Entry<'_>], position: u32) -> Result<Entry, RowFault> {
     let program = text_in(lines, "program").unwrap_or("a");
     let case_name = text_in(lines, "case").unwrap_or("main");

@@ -84,7 +84,8 @@ fn take<'a>(alloc: Global, scene: &mut Scene<'a>, entry: &Entry<'a>) -> Result<(
     Ok(())
 }
 
-/// The scene of a row: `life LIFE` each, `holds PATH TEXT` each, `clock N` or `moments NUMBERS`, `fails CALLS`, `odd WHAT`.
+/// The scene of a row: `life LIFE` each, `holds PATH TEXT` each, `clock N` or `moments NUMBERS`,
+/// `fails CALLS`, `odd WHAT`.
 pub fn scene_of<'a>(alloc: Global, row: &Row<'a>) -> Result<Scene<'a>, RowFault> {
     let failing = failing_of(row.text("fails"))?;
     let part_fault = part_fault_of(row.text("odd"))?;

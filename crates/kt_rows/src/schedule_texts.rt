@@ -124,7 +124,8 @@ fn are_by_position(entries: &[Entry]) -> bool {
     true
 }
 
-/// The calls and puts of a run in short: `20 bodies, 10 cleanups, at most 4 at once; 20 entries by position`.
+/// The calls and puts of a run in short: `20 bodies, 10 cleanups, at most 4 at once; 20 entries by
+/// position`.
 pub fn brief_text(alloc: Global, calls: &[Call], entries: &[Entry]) -> Result<String, RowFault> {
     let mut counts = Counts {
         bodies: 0,

@@ -13,8 +13,8 @@ enum Stage {
     Over,
 }
 
-/// A schedule as docs/formats/schedule.md has it, played over the stages of all cases: each rule is a search through the
-/// whole plan. It shares nothing with kt_sched.
+/// A schedule as docs/formats/schedule.md has it, played over the stages of all cases: each rule is
+/// a search through the whole plan. It shares nothing with kt_sched.
 #[derive(Drop)]
 pub struct Simulation<'a> {
     letters: &'a [u8],
@@ -119,7 +119,8 @@ impl<'a> Simulation<'a> {
         true
     }
 
-    /// Whether there is room for a case: none active beside an exclusive one, else fewer than the width.
+    /// Whether there is room for a case: none active beside an exclusive one, else fewer than the
+    /// width.
     fn has_room(&self, i: u32) -> bool {
         if self.is_exclusive(i) {
             self.active() == 0
@@ -240,7 +241,8 @@ impl<'a> Simulation<'a> {
         None
     }
 
-    /// The case whose child ends next: the one that the script names, if its child runs, or else the first.
+    /// The case whose child ends next: the one that the script names, if its child runs, or else
+    /// the first.
     fn next_end(&mut self) -> Option<u32> {
         let first = self.first_running();
         if first.is_none() {

@@ -70,8 +70,9 @@ fn take<'a>(alloc: Global, stage: &mut Stage<'a>, entry: &Entry<'a>) -> Result<(
     Ok(())
 }
 
-/// The world of a row: `holds PATH TEXT`, `program PATH`, `config PATH TEXT`, `locked PATH`, `dear PATH`, `lists PROGRAM LISTING`,
-/// `found-file PATH` and `found-program NAME` each, `root`, `has-memory N`, `has-disk N`, and `now MOMENTS`.
+/// The world of a row: `holds PATH TEXT`, `program PATH`, `config PATH TEXT`, `locked PATH`, `dear
+/// PATH`, `lists PROGRAM LISTING`, `found-file PATH` and `found-program NAME` each, `root`,
+/// `has-memory N`, `has-disk N`, and `now MOMENTS`.
 pub fn stage_of<'a>(alloc: Global, row: &Row<'a>) -> Result<Stage<'a>, RowFault> {
     let mut stage = empty_stage(alloc);
     stage.moments = numbers(alloc, row.text("now").unwrap_or("0"))?;

@@ -19,7 +19,8 @@ fn plain_text(alloc: Global, answer: Result<(), StoreFault>) -> Result<String, R
     }
 }
 
-/// Begins as many runs as are asked for, and answers the number of the last one: `TOTAL MOMENT`, perhaps with a number of runs before it.
+/// Begins as many runs as are asked for, and answers the number of the last one: `TOTAL MOMENT`,
+/// perhaps with a number of runs before it.
 fn begin<R: ResultStore>(
     alloc: Global,
     results: &mut R,

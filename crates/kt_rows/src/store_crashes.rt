@@ -12,7 +12,8 @@ use sqlite::{Alter, Connection, Error};
 use sqlite_disk::{Crash, Files};
 use std::alloc::Global;
 
-/// What is left of a store whose disk failed: how many calls were done, attaching among them, and why the next was refused.
+/// What is left of a store whose disk failed: how many calls were done, attaching among them, and
+/// why the next was refused.
 #[derive(Drop)]
 struct Left<S: Alter + Drop> {
     done: i64,
@@ -119,7 +120,8 @@ fn stage_of<S: Alter>(conn: &mut Connection<S>, done: i64) -> Result<i64, &'stat
     }
 }
 
-/// What is wrong with what a crash leaves: nothing where it is the runs from before the refused call or from after it.
+/// What is wrong with what a crash leaves: nothing where it is the runs from before the refused
+/// call or from after it.
 fn judged<S: Alter + Drop>(
     alloc: Global,
     conn: Connection<S>,
@@ -135,7 +137,8 @@ fn judged<S: Alter + Drop>(
     }
 }
 
-/// Works over files that fail and judges what a crash leaves: how many calls were done, and none if the files didn't open.
+/// Works over files that fail and judges what a crash leaves: how many calls were done, and none if
+/// the files didn't open.
 fn tried<D: Crash + Drop>(
     alloc: Global,
     files: Files<D>,
@@ -155,7 +158,8 @@ fn tried<D: Crash + Drop>(
     }
 }
 
-/// Lets the disk fail at each call in turn until none is refused: after how many calls on the store it failed, each number once.
+/// Lets the disk fail at each call in turn until none is refused: after how many calls on the store
+/// it failed, each number once.
 fn sweep(alloc: Global, only: &Entry, in_log: bool, frames: usize) -> Result<String, RowFault>
     requires { (only.now.started ≤ 253402300799999) × (only.now.millis ≤ 253402300799999) }
 {
@@ -182,7 +186,8 @@ fn sweep(alloc: Global, only: &Entry, in_log: bool, frames: usize) -> Result<Str
     Ok(out)
 }
 
-/// What a crash leaves of attaching, a run, its entry and its end: `disk log` or `disk database`, and `frames N`.
+/// What a crash leaves of attaching, a run, its entry and its end: `disk log` or `disk database`,
+/// and `frames N`.
 pub fn answer(alloc: Global, row: &Row<'_>, disk: &str) -> Result<String, RowFault> {
     let frames = frames_of(row)?;
     let only = entry_of(alloc, row, 0, "passed")?;

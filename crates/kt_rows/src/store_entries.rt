@@ -50,8 +50,9 @@ fn meta_of(alloc: Global, row: &Row<'_>, position: u32) -> Result<Variables, Row
     Ok(meta)
 }
 
-/// An entry of the case `main` of the program `é`: its verdict, and of the row `started N`, `took N`, `out TEXT`, `err TEXT`,
-/// `cleanup-out TEXT`, `cleanup-err TEXT` and `pair POSITION NAME=VALUE`.
+/// An entry of the case `main` of the program `é`: its verdict, and of the row `started N`, `took
+/// N`, `out TEXT`, `err TEXT`, `cleanup-out TEXT`, `cleanup-err TEXT` and `pair POSITION
+/// NAME=VALUE`.
 pub fn entry_of(
     alloc: Global,
     row: &Row<'_>,

@@ -118,7 +118,8 @@ struct Attempt {
     left: Result<i64, &'static str>,
 }
 
-/// Takes the tables over files that fail and judges what a crash leaves; nothing if the files didn't open.
+/// Takes the tables over files that fail and judges what a crash leaves; nothing if the files
+/// didn't open.
 fn tried<D: Crash + Drop>(alloc: Global, files: Files<D>, frames: usize) -> Option<Attempt> {
     let conn = open(alloc, files, frames)?;
     let (fault, conn) = taken(alloc, conn);
@@ -142,7 +143,8 @@ fn old_files(alloc: Global, frames: usize) -> Result<Files<Memory>, RowFault> {
     }
 }
 
-/// Lets the disk fail at each call in turn until the tables are taken: which schemas crashes left, each number once.
+/// Lets the disk fail at each call in turn until the tables are taken: which schemas crashes left,
+/// each number once.
 fn sweep(alloc: Global, in_log: bool, frames: usize) -> Result<String, RowFault> {
     let mut out = String::from_str(alloc, "left")?;
     let mut last = 0;
@@ -167,7 +169,8 @@ fn sweep(alloc: Global, in_log: bool, frames: usize) -> Result<String, RowFault>
     Ok(out)
 }
 
-/// What a crash leaves of a store of schema 1 whose tables are taken: `migration log` or `migration database`, and `frames N`.
+/// What a crash leaves of a store of schema 1 whose tables are taken: `migration log` or `migration
+/// database`, and `frames N`.
 pub fn answer(alloc: Global, row: &Row<'_>, disk: &str) -> Result<String, RowFault> {
     sweep(alloc, disk == "log", frames_of(row)?)
 }

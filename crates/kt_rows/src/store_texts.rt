@@ -24,7 +24,8 @@ fn moment_text(alloc: Global, head: &RunHead) -> Result<String, RowFault> {
     Ok(format!(in alloc; " at {started}")?)
 }
 
-/// A run with the number of its entries: `run 1 at 500: 2 of 3, unfinished`, or without its moment `run 1: 2 of 3, unfinished`.
+/// A run with the number of its entries: `run 1 at 500: 2 of 3, unfinished`, or without its moment
+/// `run 1: 2 of 3, unfinished`.
 fn run_text<R: ResultStore>(
     alloc: Global,
     results: &mut R,

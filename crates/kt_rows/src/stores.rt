@@ -117,8 +117,9 @@ fn over_memory(alloc: Global, row: &Row<'_>) -> Result<String, RowFault> {
     Ok(out)
 }
 
-/// What calls on a store answer, one after the other: over a database in memory, or over runs in memory where the first line is
-/// `memory`. With `disk` it is what crashes leave, and with `migration` what they leave of a store of schema 1 whose tables are taken.
+/// What calls on a store answer, one after the other: over a database in memory, or over runs in
+/// memory where the first line is `memory`. With `disk` it is what crashes leave, and with
+/// `migration` what they leave of a store of schema 1 whose tables are taken.
 pub fn answer(alloc: Global, row: &Row<'_>) -> Result<String, RowFault> {
     if let Some(disk) = row.text("migration") {
         return store_migrations::answer(alloc, row, disk);

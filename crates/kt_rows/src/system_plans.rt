@@ -73,7 +73,8 @@ fn words_of(
     Ok(argv_plan(alloc, interface, want, &paths, &source, variables, &case)?)
 }
 
-/// The words of a program, a line each: `words INTERFACE WANT`, `source PATH`, `case NAME` and `variable NAME=VALUE` each.
+/// The words of a program, a line each: `words INTERFACE WANT`, `source PATH`, `case NAME` and
+/// `variable NAME=VALUE` each.
 pub fn words(alloc: Global, row: &Row<'_>, asked: &str) -> Result<String, RowFault> {
     let (interface, want) = asked.split_once(' ').unwrap_or((asked, ""));
     let interface = interface_of(interface)?;
@@ -104,8 +105,8 @@ fn plan_text(alloc: Global, plan: &EnvPlan) -> Result<String, RowFault> {
     Ok(out)
 }
 
-/// The variables that are set, and the names of those that are taken out, a line each: `environment INTERFACE`, `work PATH`
-/// and `variable NAME=VALUE` each.
+/// The variables that are set, and the names of those that are taken out, a line each: `environment
+/// INTERFACE`, `work PATH` and `variable NAME=VALUE` each.
 pub fn environment(alloc: Global, row: &Row<'_>, interface: &str) -> Result<String, RowFault> {
     let interface = interface_of(interface)?;
     let work = Text::from_str(alloc, row.text("work").unwrap_or("/w"))?;

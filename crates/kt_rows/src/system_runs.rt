@@ -66,18 +66,21 @@ fn drive<O: Os + Drop>(
     }
 }
 
-/// The plan of a row: `plan LETTERS`, perhaps `limit SECONDS` and `variable NAME=VALUE` each.
+/// The plan of a row: `plan LETTERS`, perhaps `program PATH`, `limit SECONDS` and `variable
+/// NAME=VALUE` each.
 fn plan_of(alloc: Global, row: &Row<'_>) -> Result<Items<Job>, RowFault>
     ensures { IfOk result IsPlan }
 {
     let limit = limit_of(row.text("limit"))?;
     let variables = variables_of(alloc, row)?;
     let letters = row.bytes(alloc, "plan")?.unwrap_or(Vec::new(alloc));
-    let plan = cases_of(alloc, letters.as_slice(), limit, &variables)?;
+    let program = row.text("program").unwrap_or("d/p");
+    let plan = cases_of(alloc, program, letters.as_slice(), limit, &variables)?;
     Ok(plan)
 }
 
-/// Runs the plan of a row over a scripted system: what `plan_of` reads, and `width N`, `failing PUT` and `base PATH`.
+/// Runs the plan of a row over a scripted system: what `plan_of` reads, and `width N`, `failing
+/// PUT`, `base PATH` and `source PATH`.
 pub fn run_plan<'a>(
     alloc: Global,
     row: &Row<'_>,
@@ -86,7 +89,7 @@ pub fn run_plan<'a>(
     let width = width_of(row.text("width"))?;
     let failing = failing_of(row.text("failing"))?;
     let base = Text::from_str(alloc, row.text("base").unwrap_or(""))?;
-    let source = Text::from_str(alloc, "/t")?;
+    let source = Text::from_str(alloc, row.text("source").unwrap_or("/t"))?;
     let plan = plan_of(alloc, row)?;
     let sink = MemorySink::new(alloc, failing);
     let os = ScriptedSystem::new(alloc, scene);

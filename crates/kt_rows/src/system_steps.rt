@@ -162,7 +162,8 @@ fn listing_text(alloc: Global, listing: &Listing) -> Result<String, RowFault> {
     }
 }
 
-/// A system that was asked for the list of a program, and what came of it; nothing if there was no driver.
+/// A system that was asked for the list of a program, and what came of it; nothing if there was no
+/// driver.
 #[derive(Drop)]
 struct Listed<O: Drop> {
     os: O,
@@ -230,7 +231,8 @@ fn listed_by<'a>(
     Ok(asked_for_list(alloc, os, &base, source, &program, &variables))
 }
 
-/// The words of the calls that ask for a list, and what came of it; with `show spawns` what was started, too.
+/// The words of the calls that ask for a list, and what came of it; with `show spawns` what was
+/// started, too.
 pub fn lists(alloc: Global, row: &Row<'_>, scene: &Scene<'_>) -> Result<String, RowFault> {
     let listed = listed_by(alloc, row, scene)?;
     let mut out = words(alloc, listed.os.log.as_str())?;

@@ -105,8 +105,8 @@ fn digit(out: &mut String, length: usize) -> Result<(), RowFault> {
     Ok(())
 }
 
-/// The verdict of a case, and six digits: 1 where its start and its time are not 0, and how many bytes are kept of its four
-/// outputs.
+/// The verdict of a case, and six digits: 1 where its start and its time are not 0, and how many
+/// bytes are kept of its four outputs.
 pub fn marks(alloc: Global, entry: &Entry) -> Result<String, RowFault> {
     let mut out = verdicts::shown(alloc, &entry.verdict)?;
     out.push(' ')?;

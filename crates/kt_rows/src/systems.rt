@@ -58,8 +58,9 @@ fn plan(alloc: Global, row: &Row<'_>, scene: Scene<'_>) -> Result<String, RowFau
     shown(alloc, row, &run)
 }
 
-/// What is asked of a scripted system, and what it comes to. The first line says for what: `plan LETTERS`, `poll`, `start ROLE`,
-/// `read PATH`, `list`, `root BASE`, `words INTERFACE WANT`, `environment INTERFACE`, `paths` or `reader`.
+/// What is asked of a scripted system, and what it comes to. The first line says for what: `plan
+/// LETTERS`, `poll`, `start ROLE`, `read PATH`, `list`, `root BASE`, `words INTERFACE WANT`,
+/// `environment INTERFACE`, `paths` or `reader`.
 pub fn answer(alloc: Global, row: &Row<'_>) -> Result<String, RowFault> {
     let scene = scene_of(alloc, row)?;
     let Some(first) = row.entries.first() else {

@@ -55,7 +55,8 @@ fn push_given(out: &mut String, options: &CaseOptions) -> Result<(), RowFault> {
     push_values(out, "filter", options.filters.as_slice())
 }
 
-/// Appends the name of a command over test cases, its places, its results file if it has one, and what it is given.
+/// Appends the name of a command over test cases, its places, its results file if it has one, and
+/// what it is given.
 fn push_cases(
     out: &mut String,
     name: &str,

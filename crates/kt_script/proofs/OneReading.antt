@@ -12,7 +12,8 @@ use Rattle.std.proofs.lemmas.Bool.{eqb-true}
 use Rattle.std.proofs.Common.{eqb}
 use Rattle.kt_script.specs.Letters.{is_space}
 use Rattle.kt_script.specs.Pieces.{token, broken}
-use Rattle.kt_script.specs.Words.{decimal_from, begins_with_letter}
+use Rattle.kt_script.specs.Words.{begins_with_letter}
+use Rattle.kt_base.specs.Digits.{decimal_from}
 use Rattle.kt_script.specs.Tokens.{mark_of, piece_at, tokens, tokens_in, line_after, line_past}
 use Rattle.kt_script.specs.TokenRules.{Blank, space, line_comment, long_comment, HasFlaw, large_number, lettered_number, endless_string, bad_escape, endless_comment, leveled_comment, lone_dash, strange, Word, a_name, a_number, a_string, a_mark, no_word, IsTokens, the_end, blank_and, word_and}
 use Rattle.kt_script.proofs.PieceTokens.{tokens-piece}

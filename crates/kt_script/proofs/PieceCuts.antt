@@ -13,8 +13,9 @@ use Rattle.kt_script.specs.declared.token.Flaw.TheVariants.{Endless}
 use Rattle.kt_script.specs.declared.token.Kind.{Kind}
 use Rattle.kt_script.specs.declared.token.Kind.TheVariants.{OpenParen, CloseParen, OpenBrace, CloseBrace, OpenBracket, CloseBracket, Equals, Comma, Semicolon, Dot}
 use Rattle.kt_script.specs.declared.piece.Piece.{Piece}
-use Rattle.kt_script.specs.Letters.{is_space, is_letter, is_digit, is_word}
-use Rattle.kt_script.specs.Words.{number, begins_with_letter, fits, decimal_from}
+use Rattle.kt_script.specs.Letters.{is_space, is_letter, is_word}
+use Rattle.kt_base.specs.Digits.{is_digit, decimal_from}
+use Rattle.kt_script.specs.Words.{number, begins_with_letter, fits}
 use Rattle.kt_script.specs.Strings.{with_front, escaped, escape_of, string_at, decoded, quoted}
 use Rattle.kt_script.specs.Comments.{closes_at, long_comment, is_level, comment_at}
 use Rattle.kt_script.specs.Tokens.{mark_of, marked, piece_at}

@@ -1,25 +1,8 @@
 -- What is read of a text is what was read before, and then the rest.
-use Rattle.std.proofs.Common.{◌≡◌, ℕ, suc, ◌+◌, ◌*◌, ◌-◌, ◌^◌, ◌≤◌, Bool, false, cond, List, [], ◌∷◌, length, Option, Some, None, refl, ap, sym, ◌∙◌, arith}
+use Rattle.std.proofs.Common.{◌≡◌, ℕ, suc, ◌+◌, Bool, false, cond, List, ◌∷◌, length, Option, Some, None, refl, ap, sym, ◌∙◌, arith}
 use Rattle.std.specs.Prelude.{option_map, nat_eq, codes}
 use Rattle.std.specs.List.{starts_with}
-use Rattle.std.proofs.lemmas.Bool.{le-ltb}
-use Rattle.kt_script.specs.Words.{decimal_from, fits}
 use Rattle.kt_script.specs.Comments.{closes_at}
-
--- ---- numbers
-
-decimal_from-grows : (v : ℕ) (cs : List ℕ) → v ≤ decimal_from v cs
-decimal_from-grows v [] = omega arith
-decimal_from-grows v (c ∷ cs) = omega (arith, decimal_from-grows (10 * v + (c - 48)) cs)
-
-too_large : (v : ℕ) (cs : List ℕ) → 2 ^ 64 ≤ v → fits (decimal_from v cs) ≡ None
-too_large v cs le = rw (le-ltb (decimal_from v cs) (2 ^ 64) (omega (arith, decimal_from-grows v cs))) refl
-
-pub overflows : (v c : ℕ) (rest after digits : List ℕ) → rest ≡ c ∷ after → decimal_from v rest ≡ decimal_from 0 digits → 2 ^ 64 ≤ 10 * v + (c - 48)
-    → None ≡ fits (decimal_from 0 digits)
-overflows v c rest after digits parts so_far le =
-    let all : decimal_from (10 * v + (c - 48)) after ≡ decimal_from 0 digits = sym (ap (decimal_from v) parts) ∙ so_far in
-    sym (too_large (10 * v + (c - 48)) after le) ∙ ap fits all
 
 -- ---- the end of a comment
 

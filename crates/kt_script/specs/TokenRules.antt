@@ -6,8 +6,9 @@ use Rattle.kt_script.specs.declared.token.Flaw.TheVariants.{Bad, Leveled, Endles
 use Rattle.kt_script.specs.declared.token.Kind.{Kind}
 use Rattle.kt_script.specs.declared.token.Kind.TheVariants.{Quoted, Number, Broken}
 use Rattle.kt_script.specs.declared.token.Token.{Token}
-use Rattle.kt_script.specs.Letters.{is_space, is_letter, is_digit, is_word}
-use Rattle.kt_script.specs.Words.{word, decimal_from}
+use Rattle.kt_script.specs.Letters.{is_space, is_letter, is_word}
+use Rattle.kt_base.specs.Digits.{is_digit, decimal_from}
+use Rattle.kt_script.specs.Words.{word}
 use Rattle.kt_script.specs.Strings.{is_plain, escape_of}
 use Rattle.kt_script.specs.Comments.{is_level}
 use Rattle.kt_script.specs.Tokens.{mark_of, line_past}

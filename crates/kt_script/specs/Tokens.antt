@@ -6,7 +6,8 @@ use Rattle.kt_script.specs.declared.token.Kind.{Kind}
 use Rattle.kt_script.specs.declared.token.Kind.TheVariants.{OpenParen, CloseParen, OpenBrace, CloseBrace, OpenBracket, CloseBracket, Equals, Comma, Semicolon, Dot}
 use Rattle.kt_script.specs.declared.token.Token.{Token}
 use Rattle.kt_script.specs.declared.piece.Piece.{Piece}
-use Rattle.kt_script.specs.Letters.{is_space, is_letter, is_digit}
+use Rattle.kt_script.specs.Letters.{is_space, is_letter}
+use Rattle.kt_base.specs.Digits.{is_digit}
 use Rattle.kt_script.specs.Pieces.{blank, token, broken}
 use Rattle.kt_script.specs.Words.{name_at, number_at}
 use Rattle.kt_script.specs.Strings.{quoted_at}

@@ -1,11 +1,12 @@
 -- Names and numbers.
-use Rattle.std.specs.Prelude.{ℕ, ◌+◌, ◌*◌, ◌-◌, ◌^◌, Bool, true, false, nat_lt, bytes_eq, codes, List, [], ◌∷◌, take, drop, Option, Some, None, chars, if◌then◌else◌}
+use Rattle.std.specs.Prelude.{ℕ, ◌^◌, Bool, true, false, nat_lt, bytes_eq, codes, List, [], ◌∷◌, take, drop, Option, Some, None, chars, if◌then◌else◌}
 use Rattle.std.specs.List.{prefix_len}
 use Rattle.kt_script.specs.declared.token.Flaw.TheVariants.{Bad}
 use Rattle.kt_script.specs.declared.token.Kind.{Kind}
 use Rattle.kt_script.specs.declared.token.Kind.TheVariants.{Name, Number, Truth}
 use Rattle.kt_script.specs.declared.piece.Piece.{Piece}
-use Rattle.kt_script.specs.Letters.{is_letter, is_digit, is_word}
+use Rattle.kt_script.specs.Letters.{is_letter, is_word}
+use Rattle.kt_base.specs.Digits.{is_digit, decimal_from}
 use Rattle.kt_script.specs.Pieces.{token, broken}
 
 -- a name, where it is not `true` or `false`
@@ -15,11 +16,6 @@ word letters = if bytes_eq letters (codes "true") then Truth true else if bytes_
 -- the longest name that the text begins with
 abbrev pub name_at : List ℕ → Piece
 name_at text = token (prefix_len is_word text) (word (take (prefix_len is_word text) text))
-
--- the value of decimal digits that follow those of v
-abbrev pub decimal_from : ℕ → List ℕ → ℕ
-decimal_from v [] = v
-decimal_from v (c ∷ cs) = decimal_from (10 * v + (c - 48)) cs
 
 -- the number, if it is below 2^64
 abbrev pub fits : ℕ → Option ℕ

@@ -1,7 +1,9 @@
 //! Classes of bytes.
 
 ghost use Rattle.std.specs.Prelude.{◌≡◌};
-ghost use Rattle.kt_script.specs.Letters.{is_space, is_letter, is_digit, is_word};
+ghost use Rattle.kt_script.specs.Letters.{is_space, is_letter, is_word};
+
+use kt_base::is_digit;
 
 pub fn is_space(c: u8) -> bool
     ensures { result ≡ is_space c }
@@ -13,12 +15,6 @@ pub fn is_letter(c: u8) -> bool
     ensures { result ≡ is_letter c }
 {
     matches!(c, b'a'..=b'z' | b'A'..=b'Z' | b'_')
-}
-
-pub fn is_digit(c: u8) -> bool
-    ensures { result ≡ is_digit c }
-{
-    matches!(c, b'0'..=b'9')
 }
 
 pub fn is_word(c: u8) -> bool

@@ -6,12 +6,12 @@ ghost use Rattle.kt_script.specs.Letters.{is_space};
 ghost use Rattle.kt_script.specs.Tokens.{mark_of, marked, piece_at};
 
 use crate::comment::comment;
-use crate::letter::{is_digit, is_letter, is_space};
+use crate::letter::{is_letter, is_space};
 use crate::piece::Piece;
 use crate::quotation::quoted;
 use crate::token::{Flaw, Kind};
 use crate::words::{name, number};
-use kt_base::NoMemory;
+use kt_base::{NoMemory, is_digit};
 use std::alloc::Global;
 
 fn space_length(text: &[u8]) -> usize

@@ -2,13 +2,14 @@
 
 ghost use Rattle.std.specs.Prelude.{◌≡◌, ℕ, ◌+◌, ◌<◌, ◌≤◌, length, IfOk, take, drop};
 ghost use Rattle.std.specs.List.{prefix_len};
-ghost use Rattle.kt_script.specs.Letters.{is_letter, is_digit, is_word};
-ghost use Rattle.kt_script.specs.Words.{word, decimal_from, fits, begins_with_letter, name_at, number_at};
+ghost use Rattle.kt_script.specs.Letters.{is_letter, is_word};
+ghost use Rattle.kt_base.specs.Digits.{decimal_from};
+ghost use Rattle.kt_script.specs.Words.{word, fits, begins_with_letter, name_at, number_at};
 
-use crate::letter::{is_digit, is_letter, is_word};
+use crate::letter::{is_letter, is_word};
 use crate::piece::Piece;
 use crate::token::{Flaw, Kind};
-use kt_base::{NoMemory, Text};
+use kt_base::{NoMemory, Text, decimal_up_to, digits_length};
 use std::alloc::Global;
 
 fn word_length(text: &[u8]) -> usize
@@ -16,13 +17,6 @@ fn word_length(text: &[u8]) -> usize
     ensures within { result ≤ length text.now }
 {
     text.iter().take_while(|c| is_word(**c)).count()
-}
-
-fn digits_length(text: &[u8]) -> usize
-    ensures value { result ≡ prefix_len is_digit text.now }
-    ensures within { result ≤ length text.now }
-{
-    text.iter().take_while(|c| is_digit(**c)).count()
 }
 
 fn word(alloc: Global, letters: &str) -> Result<Kind, NoMemory>
@@ -49,17 +43,7 @@ pub fn name(alloc: Global, text: &str) -> Result<Piece, NoMemory>
 fn decimal(digits: &[u8]) -> Option<u64>
     ensures { result ≡ fits (decimal_from 0 digits.now) }
 {
-    let mut value = 0u64;
-    let mut rest = digits;
-    while let Some((c, after)) = rest.split_first() {
-        let next = 10 * value as u128 + c.saturating_sub(b'0') as u128;
-        if next > u64::MAX as u128 {
-            return None;
-        }
-        value = next as u64;
-        rest = after;
-    }
-    Some(value)
+    decimal_up_to(u64::MAX, digits)
 }
 
 fn begins_with_letter(text: &[u8]) -> bool

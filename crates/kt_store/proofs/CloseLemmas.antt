@@ -17,7 +17,7 @@ use Rattle.kt_base.specs.declared.run.Run.{Run}
 use Rattle.kt_base.specs.declared.entry.Entry.{Entry}
 use Rattle.kt_store.specs.declared.store_fault.StoreFault.TheVariants.{RunClosed, Incomplete}
 use Rattle.kt_store.specs.Tables.{finish_text}
-use Rattle.kt_store.specs.Runs.{Tables, Keeps, IsRun, AreRuns, AreNumbered, run_at, entries_of, entry_row, entry_rows, pair_rows, prop_rows, finish, finish_refusal, finish_refusal_of}
+use Rattle.kt_store.specs.Runs.{Tables, Keeps, IsRun, AreRuns, AreNumbered, run_at, entries_of, entry_row, entry_rows, pair_rows, prop_rows, finish, finish_refusal, finish_refusal_of, IsComplete}
 use Rattle.kt_store.specs.Stands.{IsStore, StandsFor}
 use Rattle.kt_store.specs.Ask.{Told, MayTell}
 use Rattle.kt_store.proofs.SqlFacts.{finish_is}
@@ -94,7 +94,7 @@ finish_step runs k r there whole limit mode db after text tally enforced has doe
 
 module _ {S : Type 0} (g : Ghosts S) (old new : Held S) (runs : List Run) (run : ℕ) (has : StandsFor (state g old) runs) (earlier : HasCleanDisk (state g new) → HasCleanDisk (state g old)) where
   abbrev pub Closes : Type 0
-  Closes = HasCleanDisk (state g old) → (k : ℕ) × (r : Run) × (run ≡ suc k) × (run_at runs run ≡ Some r) × (length r.entries ≡ r.total)
+  Closes = HasCleanDisk (state g old) → IsComplete run runs
 
   told_at : (k n : ℕ) (r : Run) → n ≡ suc k → run_at runs n ≡ Some r → length r.entries ≡ r.total → HasCleanDisk (state g new) → Told g finish_text (Int (pos n) ∷ []) old new
       → IsStore (state g new) (finish n runs) × IsTrue (state g new).is_open × IsDatabase (state g new).now
@@ -157,11 +157,11 @@ module _ (runs : List Run) (run : ℕ) (r : Run) (there : run_at runs run ≡ So
         let few : nat_lt (length r.entries) r.total ≡ true = grind (arith, nat_tests, low, counted) in
         ap finish_refusal_of there ∙ rw (unclosed, few) refl
 
-    pub lacks_none : r.total ≤ n → (finish_refusal runs run ≡ None) × (k : ℕ) × (s : Run) × (run ≡ suc k) × (run_at runs run ≡ Some s) × (length s.entries ≡ s.total)
+    pub lacks_none : r.total ≤ n → (finish_refusal runs run ≡ None) × IsComplete run runs
     lacks_none high =
         let all : nat_lt (length r.entries) r.total ≡ false = grind (arith, nat_tests, high, counted) in
         let f = place run there in
-        (ap finish_refusal_of there ∙ rw (unclosed, all) refl, f.0, r, f.1, there, omega (arith, high, counted, at_most r (run_of run runs r valid there)))
+        (ap finish_refusal_of there ∙ rw (unclosed, all) refl, (f.0, r, f.1, there, omega (arith, high, counted, at_most r (run_of run runs r valid there))))
       where
         place : (run : ℕ) → run_at runs run ≡ Some r → (k : ℕ) × (run ≡ suc k)
         place zero there = absurd cc

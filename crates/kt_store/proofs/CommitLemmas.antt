@@ -14,14 +14,14 @@ use Rattle.kt_base.specs.declared.run.Run.{Run}
 use Rattle.kt_base.specs.declared.entry.Entry.{Entry}
 use Rattle.kt_store.specs.declared.store_fault.StoreFault.{StoreFault}
 use Rattle.kt_store.specs.declared.store_fault.StoreFault.TheVariants.{Store}
-use Rattle.kt_store.specs.Runs.{Tables, Keeps}
+use Rattle.kt_store.specs.Runs.{Tables, Keeps, CanAdd}
 use Rattle.kt_store.specs.Stands.{IsStore, StandsFor}
 use Rattle.kt_store.specs.Ask.{Statement}
 use Rattle.kt_store.specs.Fault.{Tells}
 use Rattle.kt_store.specs.Tables.{put_text}
 use Rattle.kt_store.specs.Runs.{entry_row, with_entry}
 use Rattle.kt_store.specs.Calls.{put_statements, entry_statements}
-use Rattle.kt_store.proofs.FillLemmas.{Fits, filled_at}
+use Rattle.kt_store.proofs.FillLemmas.{filled_at}
 use Rattle.kt_store.specs.Transactions.{begun, RunInTurn, IsStopped, IsCausedInside}
 
 module _ {S : Type 0} (g : Ghosts S) (old left new : Held S) (runs : List Run) (has : StandsFor (state g old) runs) (earlier : HasCleanDisk (state g new) → HasCleanDisk (state g old)) where
@@ -51,7 +51,7 @@ module _ {S : Type 0} (g : Ghosts S) (old left new : Held S) (runs : List Run) (
       (λ clean db is. ((state g left).now, (made clean).1, is, (made clean).0)) inside commit)
 
 -- what a transaction made of the tables of these runs, before its commit
-module _ {S : Type 0} (g : Ghosts S) (old left : Held S) (runs : List Run) (e : Entry) (run : ℕ) (has : StandsFor (state g old) runs) (fits : HasCleanDisk (state g old) → Fits g runs e run) where
+module _ {S : Type 0} (g : Ghosts S) (old left : Held S) (runs : List Run) (e : Entry) (run : ℕ) (has : StandsFor (state g old) runs) (fits : HasCleanDisk (state g old) → CanAdd run e runs) where
   pub made : HasCleanDisk (state g old) → RunInTurn g (entry_statements run e) (begun old) left → Tables (state g left).now (with_entry run e runs) × IsDatabase (state g left).now
   made clean ran = filled_at g runs e run (fits clean) (begun old) left (has clean ran.1.1.1.was_open).tables ran
 

@@ -25,7 +25,7 @@ use Rattle.kt_base.specs.declared.entry.Entry.{Entry}
 use Rattle.kt_base.specs.declared.run.Run.{Run}
 use Rattle.kt_base.specs.declared.variable.Variable.{Variable}
 use Rattle.kt_store.specs.Tables.{schema_2, entries_1, props_1, put_text, pair_text}
-use Rattle.kt_store.specs.Runs.{Tables, IsRun, kind_code, run_row, entry_row, entry_rows, pair_row, pair_rows_from, prop_rows, with_entry}
+use Rattle.kt_store.specs.Runs.{Tables, IsRun, kind_code, run_row, entry_row, entry_rows, pair_row, pair_rows_from, prop_rows, with_entry, CanAdd}
 use Rattle.kt_store.specs.Ask.{Statement}
 use Rattle.kt_store.specs.Calls.{pair_statements, entry_statements}
 use Rattle.kt_store.specs.Transactions.{RunInTurn, StopInTurn}
@@ -133,10 +133,7 @@ module _ {S : Type 0} (g : Ghosts S) where
         all.1,
       )
 
-  abbrev pub Fits : List Run → Entry → ℕ → Type 0
-  Fits runs e run = (k : ℕ) × (run ≡ suc k) × (k < length runs) × AllByRecursion IsRun (with_entry run e runs)
-
-  pub filled_at : (runs : List Run) (e : Entry) (run : ℕ) → Fits runs e run → (old new : Held S) → Tables (state g old).now runs
+  pub filled_at : (runs : List Run) (e : Entry) (run : ℕ) → CanAdd run e runs → (old new : Held S) → Tables (state g old).now runs
       → RunInTurn g (entry_statements run e) old new → Tables (state g new).now (with_entry run e runs) × IsDatabase (state g new).now
   filled_at runs e run fits old new has ran =
       subst (λ n. AllByRecursion IsRun (with_entry n e runs) → RunInTurn g (entry_statements n e) old new → Tables (state g new).now (with_entry n e runs) × IsDatabase (state g new).now) (sym fits.1)

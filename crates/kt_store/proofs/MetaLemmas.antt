@@ -1,5 +1,5 @@
 -- The number of the schema, as its query tells.
-use Rattle.std.proofs.Common.{◌≡◌, ◌≢◌, ℤ, pos, List, IsTrue, [], ◌∷◌, map, filter, drop, codes, Bool, true, Some, None, slice_get, refl, sym, ap, subst, ◌∙◌, IsPermutation}
+use Rattle.std.proofs.Common.{◌≡◌, ◌≢◌, ℤ, pos, List, IsTrue, inl, arith, false, [], ◌∷◌, map, filter, drop, codes, Bool, true, Some, None, slice_get, refl, sym, ap, subst, ◌∙◌, IsPermutation}
 use Rattle.std.specs.List.{list_all}
 use Rattle.sqlite.specs.declared.types.Value.TheVariants.{Int, Text}
 use Rattle.sqlite.specs.declared.types.Value.{Value}
@@ -11,13 +11,15 @@ use Rattle.sqlite.specs.Term.{Term, lit, col, holds}
 use Rattle.sqlite.specs.Ops.{binary}
 use Rattle.sqlite.specs.Store.{Ghosts}
 use Rattle.sqlite.specs.Held.{Held, state}
-use Rattle.sqlite.specs.State.{State, Shown, HasCleanDisk, IsUnchanged}
+use Rattle.sqlite.specs.State.{State, Shown, HasCleanDisk, IsUnchanged, Survives}
 use Rattle.sqlite.proofs.Callers.{reads_as, one_permutation}
 use Rattle.kt_base.specs.declared.run.Run.{Run}
 use Rattle.kt_store.specs.Tables.{meta_text, meta_1, runs_1, entries_1, props_1, index_of, beside_meta}
 use Rattle.kt_store.specs.Stands.{StandsFor, StandsInOld, SaysSchema, SaysNumber, IsEmpty}
 use Rattle.kt_store.specs.Runs.{OldTables}
-use Rattle.kt_store.specs.Ask.{Asked}
+use Rattle.kt_store.specs.Ask.{Asked, MayShow, Rests}
+use Rattle.kt_store.specs.Kept.{AsksNumber}
+use Rattle.kt_store.proofs.AskLemmas.{asked_unchanged, asked_leaves}
 use Rattle.kt_store.proofs.StepLemmas.{same_store}
 use Rattle.kt_store.proofs.SqlFacts.{is}
 use Rattle.kt_store.proofs.MetaFacts.{meta_any}
@@ -73,6 +75,27 @@ module _ {S : Type 0} (g : Ghosts S) (old new : Held S) (earlier : HasCleanDisk 
       let same = it.same.0.now_is in
       let has = says (earlier clean) it.same.0.was_open in
       tells_meta (state g it.mid) (state g new) n rows (says_then (state g old) (state g it.mid) n same has) it.shown
+
+-- what a query for the number keeps, whatever it tells
+module _ {S : Type 0} (g : Ghosts S) (old new : Held S) (mode : old.in_transaction ≡ false → new.in_transaction ≡ false) (survives : Survives (state g old) (state g new) (MayShow g meta_text [] old)) where
+  earlier : HasCleanDisk (state g new) → HasCleanDisk (state g old)
+  earlier k = omega (arith, k, survives.clean)
+
+  pub asks_number : (HasCleanDisk (state g new) → Rests (state g old) (state g new)) → AsksNumber g old new
+  asks_number rests = record {
+    mode = mode;
+    earlier = earlier;
+    rests = λ n says clean. rests clean;
+    crash = λ n says. asked_leaves g old new earlier meta_text (says_plain n _ says) [] survives;
+  }
+
+  pub tells_number : (rows : List Row) → (HasCleanDisk (state g new) → Asked g meta_text [] old new rows) → AsksNumber g old new
+  tells_number rows asked = record {
+    mode = mode;
+    earlier = earlier;
+    rests = λ n says clean. inl (asked_unchanged g old new earlier meta_text (says_plain n _ says) [] rows clean (asked clean));
+    crash = λ n says. asked_leaves g old new earlier meta_text (says_plain n _ says) [] survives;
+  }
 
 pub says_two : (s : State) (runs : List Run) → StandsFor s runs → SaysSchema (pos 2) s
 says_two s runs has clean opened = record {

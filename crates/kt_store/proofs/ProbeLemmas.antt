@@ -1,15 +1,19 @@
 -- What prepared statements tell of the tables.
-use Rattle.std.proofs.Common.{◌≡◌, ◌∙◌, ℕ, ℤ, pos, Bool, true, false, List, Result, Ok, Err, sym, ap, subst, refl}
+use Rattle.std.proofs.Common.{◌≡◌, ◌∙◌, ℕ, ℤ, pos, Bool, true, false, List, Result, Ok, Err, sym, ap, subst, refl, arith}
 use Rattle.sqlite.specs.Tree.{Trees}
 use Rattle.sqlite.specs.Effect.{Database}
 use Rattle.sqlite.specs.Outline.{Outline}
 use Rattle.sqlite.specs.Steps.{Outlines}
 use Rattle.sqlite.specs.Listing.{understood}
-use Rattle.sqlite.specs.State.{State, Survives, IsUnchanged}
+use Rattle.sqlite.specs.State.{State, HasCleanDisk, Survives, IsUnchanged}
 use Rattle.sqlite.proofs.StateLemmas.{survives_then}
 use Rattle.sqlite_resolve.specs.declared.compiled.Compiled.{Compiled}
 use Rattle.sqlite_resolve.specs.declared.error.CompileError.{CompileError}
-use Rattle.kt_store.specs.Ask.{IsUnderstood}
+use Rattle.sqlite.specs.Store.{Ghosts}
+use Rattle.sqlite.specs.Held.{Held, state}
+use Rattle.kt_store.specs.Ask.{IsUnderstood, Rests}
+use Rattle.kt_store.specs.Kept.{AsksNumber, CommitsNothing}
+use Rattle.kt_store.specs.Stands.{SaysSchema}
 use Rattle.kt_store.specs.Calls.{HasTables}
 
 -- a statement that was prepared is understood
@@ -31,6 +35,16 @@ tables_before old mid n same it = record {
 -- two calls that commit nothing commit nothing together
 pub nothing_then : (a b c : State) → Survives a b (λ (db : Trees). ⊥) → Survives b c (λ (db : Trees). ⊥) → Survives a c (λ (db : Trees). ⊥)
 nothing_then a b c one two = survives_then a b c (λ _. ⊥) (λ _. ⊥) (λ _. ⊥) (λ _ db none. none) (λ _ db none. none) one two
+
+-- a call that commits nothing after one that asked for the number
+pub asks_then : {S : Type 0} (g : Ghosts S) (a b c : Held S) → AsksNumber g a b → (b.in_transaction ≡ false → c.in_transaction ≡ false) → CommitsNothing g b c
+    → ((n : ℤ) → SaysSchema n (state g a) → HasCleanDisk (state g c) → Rests (state g a) (state g c)) → AsksNumber g a c
+asks_then g a b c first mode survives rests = record {
+  mode = λ out. mode (first.mode out);
+  earlier = λ k. first.earlier (omega (arith, k, survives.clean));
+  rests = rests;
+  crash = λ n says. nothing_then (state g a) (state g b) (state g c) (first.crash n says) survives;
+}
 
 -- a number that is 2 is not told as 1
 pub never_old_number : (old : Bool) (n : ℤ) → n ≡ pos 2 → (old ≡ true → n ≡ pos 1) → old ≡ false

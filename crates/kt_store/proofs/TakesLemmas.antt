@@ -7,7 +7,7 @@ use Rattle.sqlite_trees.specs.Tree.{IsAscending}
 use Rattle.kt_base.specs.declared.run.Run.{Run}
 use Rattle.kt_base.specs.declared.entry.Entry.{Entry}
 use Rattle.kt_store.specs.declared.store_fault.StoreFault.TheVariants.{RunClosed, BadPosition, RepeatedPosition}
-use Rattle.kt_store.specs.Runs.{AreRuns, put_refusal, put_refusal_of, entries_of, IsRun, IsEntry, insert_at, with_entry, has_position, run_at, AreNumbered}
+use Rattle.kt_store.specs.Runs.{AreRuns, put_refusal, put_refusal_of, entries_of, IsRun, IsEntry, insert_at, with_entry, has_position, run_at, AreNumbered, CanAdd}
 
 abbrev lower : Entry → Entry → Type 0
 lower a b = a.position < b.position
@@ -90,12 +90,11 @@ module _ (runs : List Run) (run : ℕ) (e : Entry) (r : Run) (there : run_at run
           ap (λ o. put_refusal_of o e) there ∙ rw (unclosed, under, is) refl
 
       pub taken : IsEntry e → AreRuns runs → has_position e.position (entries_of (run_at runs run)) ≡ false
-          → (put_refusal runs run e ≡ None) × (k : ℕ) × (run ≡ suc k) × (k < length runs) × AllByRecursion IsRun (with_entry run e runs)
+          → (put_refusal runs run e ≡ None) × CanAdd run e runs
       taken sound valid free =
           let is : has_position e.position r.entries ≡ false = ap (λ o. has_position e.position (entries_of o)) (sym there) ∙ free in
-          let f = fits run there valid is in
-          (ap (λ o. put_refusal_of o e) there ∙ rw (unclosed, under, is) refl, f.0, f.1, f.2, f.3)
+          (ap (λ o. put_refusal_of o e) there ∙ rw (unclosed, under, is) refl, fits run there valid is)
         where
-          fits : (run : ℕ) → run_at runs run ≡ Some r → AreRuns runs → has_position e.position r.entries ≡ false → (k : ℕ) × (run ≡ suc k) × (k < length runs) × AllByRecursion IsRun (with_entry run e runs)
+          fits : (run : ℕ) → run_at runs run ≡ Some r → AreRuns runs → has_position e.position r.entries ≡ false → CanAdd run e runs
           fits zero there valid is = absurd cc
           fits (suc k) there valid is = let both = takes k e runs r sound valid.numbered valid.each there unclosed low is in (k, refl, both.0, both.1)

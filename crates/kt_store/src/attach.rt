@@ -2,14 +2,14 @@ ghost use Rattle.std.specs.Prelude.{◌≡◌, ◌≢◌, ◌⊎◌, ◌<◌, �
 ghost use Rattle.sqlite.specs.State.{HasCleanDisk, Survives, IsUnchanged, KeepsCommit};
 ghost use Rattle.sqlite_value.specs.Order.{column};
 ghost use Rattle.sqlite_value.specs.declared.value.Value.TheVariants.{Int};
-ghost use Rattle.sqlite.specs.Effect.{IsDatabase};
 ghost use Rattle.sqlite.specs.Held.{state};
 ghost use Rattle.kt_store.specs.Ask.{Rests, MayFail, IsUnderstood, IsNoMemory, IsStoreFault, IsCaused};
-ghost use Rattle.kt_store.specs.Calls.{table_statements, schema_statements, attach_statements, make_statements, raise_statements, HasTables};
-ghost use Rattle.kt_store.specs.Runs.{Tables, OldTables, Keeps, KeepsOld};
+ghost use Rattle.kt_store.specs.Kept.{WasClean, CommitsNothing, KeepsRuns, OnlyReads, AsksNumber, LeavesSchema, FindsTables, Renews, RenewsForGood, MayRenew};
+ghost use Rattle.kt_store.specs.Calls.{table_statements, schema_statements, attach_statements, make_statements, raise_statements};
+ghost use Rattle.kt_store.specs.Runs.{OldTables, Keeps, KeepsOld};
 ghost use Rattle.kt_store.specs.Stands.{IsEmpty, StandsFor, StandsInOld, SaysSchema, Leaves};
 ghost use Rattle.kt_store.specs.Tables.{no_schema, runs_text, entries_text, pairs_text, meta_text};
-ghost use Rattle.kt_store.specs.Transactions.{RunInTurn, IsStopped, HoldsOldRuns, HasNoTable, IsCausedInside};
+ghost use Rattle.kt_store.specs.Transactions.{RunInTurn, IsStopped, HoldsOldRuns, HasNoTable, IsCausedInside, HoldsInside};
 
 use crate::statements::{ask, step};
 use crate::store_fault::StoreFault;
@@ -22,10 +22,7 @@ pub(crate) fn make<S: Alter>(tx: &mut Transaction<'_, S>) -> Result<(), StoreFau
         → IsTrue (state S.Store tx.old.conn.now).in_transaction
         → (IsTrue (state S.Store tx.old.conn.now).is_open
         → (state S.Store tx.old.conn.now).now.schema ≡ no_schema)
-        → OnOk result (Tables (state S.Store tx.new.conn.now).now []
-        × IsDatabase (state S.Store tx.new.conn.now).now
-        × ((state S.Store tx.new.conn.now).committed ≡ (state S.Store tx.old.conn.now).committed)
-        × IsTrue (state S.Store tx.new.conn.now).in_transaction) }
+        → OnOk result (HoldsInside S.Store [] tx.old.conn.now tx.new.conn.now) }
     ensures keeps { HasCleanDisk (state S.Store tx.new.conn.now)
         → KeepsCommit (state S.Store tx.old.conn.now) (state S.Store tx.new.conn.now) }
     ensures runs { HasCleanDisk (state S.Store tx.new.conn.now)
@@ -35,8 +32,7 @@ pub(crate) fn make<S: Alter>(tx: &mut Transaction<'_, S>) -> Result<(), StoreFau
         → IsTrue (state S.Store tx.old.conn.now).in_transaction
         → IfErr result (IsStopped S.Store make_statements tx.old.conn.now tx.new.conn.now) }
     ensures failed { IfErr result IsStoreFault }
-    ensures survives { Survives (state S.Store tx.old.conn.now) (state S.Store tx.new.conn.now)
-        (λ _. ⊥) }
+    ensures survives { CommitsNothing S.Store tx.old.conn.now tx.new.conn.now }
 {
     step(
         tx,
@@ -73,8 +69,7 @@ pub(crate) fn create<S: Alter>(conn: &mut Connection<S>) -> Result<(), StoreFaul
         → OnOk result (StandsFor (state S.Store conn.new) []) }
     ensures kept { IsEmpty (state S.Store conn.old)
         → OnErr result (IsEmpty (state S.Store conn.new)) }
-    ensures earlier { HasCleanDisk (state S.Store conn.new)
-        → HasCleanDisk (state S.Store conn.old) }
+    ensures earlier { WasClean S.Store conn.old conn.new }
     ensures failed { IfErr result IsStoreFault }
     ensures cause { IsEmpty (state S.Store conn.old) → IsTrue (state S.Store conn.old).is_open
         → HasCleanDisk (state S.Store conn.new)
@@ -103,7 +98,7 @@ pub(crate) fn probe<S: Alter>(conn: &mut Connection<S>, sql: &str) -> Result<(),
         → IfErr result (MayFail S.Store sql.now [] conn.old conn.new) }
     ensures understood { HasCleanDisk (state S.Store conn.new)
         → OnOk result (IsUnderstood (state S.Store conn.old) sql.now) }
-    ensures survives { Survives (state S.Store conn.old) (state S.Store conn.new) (λ _. ⊥) }
+    ensures survives { CommitsNothing S.Store conn.old conn.new }
 {
     let statement = conn.prepare(sql)?;
     Ok(())
@@ -148,17 +143,8 @@ pub(crate) fn signed_in(row: &Row, at: usize) -> Result<i64, StoreFault>
 
 /// The number of the schema.
 pub(crate) fn schema_number<S: Alter>(conn: &mut Connection<S>) -> Result<i64, StoreFault>
-    ensures mode { conn.old.in_transaction ≡ false → conn.new.in_transaction ≡ false }
-    ensures earlier { HasCleanDisk (state S.Store conn.new)
-        → HasCleanDisk (state S.Store conn.old) }
-    ensures same { (n : ℤ) → SaysSchema n (state S.Store conn.old)
-        → HasCleanDisk (state S.Store conn.new)
-        → OnOk result (IsUnchanged (state S.Store conn.old) (state S.Store conn.new)) }
-    ensures rests { (n : ℤ) → SaysSchema n (state S.Store conn.old)
-        → HasCleanDisk (state S.Store conn.new)
-        → Rests (state S.Store conn.old) (state S.Store conn.new) }
-    ensures crash { (n : ℤ) → SaysSchema n (state S.Store conn.old)
-        → Survives (state S.Store conn.old) (state S.Store conn.new) (λ _. ⊥) }
+    ensures asks { AsksNumber S.Store conn.old conn.new }
+    ensures same { OnOk result (LeavesSchema S.Store conn.old conn.new) }
     ensures number { (n : ℤ) → SaysSchema n (state S.Store conn.old)
         → HasCleanDisk (state S.Store conn.new) → IfOk result (λ number. number ≡ n) }
     ensures cause { (n : ℤ) → SaysSchema n (state S.Store conn.old)
@@ -178,17 +164,8 @@ pub(crate) fn schema_number<S: Alter>(conn: &mut Connection<S>) -> Result<i64, S
 
 /// Whether the number is that of schema 1. Any number but 1 and 2 is refused.
 pub(crate) fn says_old<S: Alter>(conn: &mut Connection<S>) -> Result<bool, StoreFault>
-    ensures mode { conn.old.in_transaction ≡ false → conn.new.in_transaction ≡ false }
-    ensures earlier { HasCleanDisk (state S.Store conn.new)
-        → HasCleanDisk (state S.Store conn.old) }
-    ensures same { (n : ℤ) → SaysSchema n (state S.Store conn.old)
-        → HasCleanDisk (state S.Store conn.new)
-        → OnOk result (IsUnchanged (state S.Store conn.old) (state S.Store conn.new)) }
-    ensures rests { (n : ℤ) → SaysSchema n (state S.Store conn.old)
-        → HasCleanDisk (state S.Store conn.new)
-        → Rests (state S.Store conn.old) (state S.Store conn.new) }
-    ensures crash { (n : ℤ) → SaysSchema n (state S.Store conn.old)
-        → Survives (state S.Store conn.old) (state S.Store conn.new) (λ _. ⊥) }
+    ensures asks { AsksNumber S.Store conn.old conn.new }
+    ensures same { OnOk result (LeavesSchema S.Store conn.old conn.new) }
     ensures number { (n : ℤ) → SaysSchema n (state S.Store conn.old)
         → HasCleanDisk (state S.Store conn.new)
         → IfOk result (λ old. (old ≡ true → n ≡ pos 1) × (old ≡ false → n ≡ pos 2)) }
@@ -209,8 +186,8 @@ pub(crate) fn says_old<S: Alter>(conn: &mut Connection<S>) -> Result<bool, Store
     Ok(false)
 }
 
-/// Asks whether the queries of a store can be prepared: for runs, for entries and, where the tables are not those of schema 1,
-/// for pairs.
+/// Asks whether the queries of a store can be prepared: for runs, for entries and, where the tables
+/// are not those of schema 1, for pairs.
 pub(crate) fn find_tables<S: Alter>(conn: &mut Connection<S>, old: bool) -> Result<(), StoreFault>
     ensures mode { conn.old.in_transaction ≡ false → conn.new.in_transaction ≡ false }
     ensures same { HasCleanDisk (state S.Store conn.new)
@@ -224,7 +201,7 @@ pub(crate) fn find_tables<S: Alter>(conn: &mut Connection<S>, old: bool) -> Resu
         → OnOk result (IsUnderstood (state S.Store conn.old) runs_text
         × IsUnderstood (state S.Store conn.old) entries_text
         × (old ≡ false → IsUnderstood (state S.Store conn.old) pairs_text)) }
-    ensures survives { Survives (state S.Store conn.old) (state S.Store conn.new) (λ _. ⊥) }
+    ensures survives { CommitsNothing S.Store conn.old conn.new }
 {
     probe(
         conn,
@@ -244,28 +221,18 @@ pub(crate) fn find_tables<S: Alter>(conn: &mut Connection<S>, old: bool) -> Resu
     Ok(())
 }
 
-/// Whether the tables are those of schema 1. Any number but 1 and 2 is refused, and so are tables that can't be read.
+/// Whether the tables are those of schema 1. Any number but 1 and 2 is refused, and so are tables
+/// that can't be read.
 pub(crate) fn is_old<S: Alter>(conn: &mut Connection<S>) -> Result<bool, StoreFault>
-    ensures mode { conn.old.in_transaction ≡ false → conn.new.in_transaction ≡ false }
-    ensures earlier { HasCleanDisk (state S.Store conn.new)
-        → HasCleanDisk (state S.Store conn.old) }
-    ensures same { (n : ℤ) → SaysSchema n (state S.Store conn.old)
-        → HasCleanDisk (state S.Store conn.new)
-        → OnOk result (IsUnchanged (state S.Store conn.old) (state S.Store conn.new)) }
-    ensures rests { (n : ℤ) → SaysSchema n (state S.Store conn.old)
-        → HasCleanDisk (state S.Store conn.new)
-        → Rests (state S.Store conn.old) (state S.Store conn.new) }
-    ensures crash { (n : ℤ) → SaysSchema n (state S.Store conn.old)
-        → Survives (state S.Store conn.old) (state S.Store conn.new) (λ _. ⊥) }
+    ensures asks { AsksNumber S.Store conn.old conn.new }
+    ensures same { OnOk result (LeavesSchema S.Store conn.old conn.new) }
     ensures number { (n : ℤ) → SaysSchema n (state S.Store conn.old)
         → HasCleanDisk (state S.Store conn.new)
         → IfOk result (λ old. (old ≡ true → n ≡ pos 1) × (old ≡ false → n ≡ pos 2)) }
     ensures cause { (n : ℤ) → SaysSchema n (state S.Store conn.old)
         → HasCleanDisk (state S.Store conn.new)
         → IfErr result (IsCaused S.Store schema_statements conn.new) }
-    ensures tables { (n : ℤ) → SaysSchema n (state S.Store conn.old)
-        → HasCleanDisk (state S.Store conn.new)
-        → OnOk result (HasTables n (state S.Store conn.old)) }
+    ensures tables { OnOk result (FindsTables S.Store conn.old conn.new) }
     ensures taken { (n : ℤ) → SaysSchema n (state S.Store conn.old) → (n ≡ pos 1) ⊎ (n ≡ pos 2)
         → HasCleanDisk (state S.Store conn.new) → IfErr result IsStoreFault }
     ensures refused { IfErr result (λ e. IsStoreFault e ⊎ (e ≡ StoreFault.UnknownSchema)) }
@@ -282,10 +249,7 @@ pub(crate) fn raise<S: Alter>(tx: &mut Transaction<'_, S>) -> Result<(), StoreFa
         → IsTrue (state S.Store tx.old.conn.now).in_transaction
         → (IsTrue (state S.Store tx.old.conn.now).is_open
         → OldTables (state S.Store tx.old.conn.now).now runs)
-        → OnOk result (Tables (state S.Store tx.new.conn.now).now runs
-        × IsDatabase (state S.Store tx.new.conn.now).now
-        × ((state S.Store tx.new.conn.now).committed ≡ (state S.Store tx.old.conn.now).committed)
-        × IsTrue (state S.Store tx.new.conn.now).in_transaction) }
+        → OnOk result (HoldsInside S.Store runs tx.old.conn.now tx.new.conn.now) }
     ensures keeps { HasCleanDisk (state S.Store tx.new.conn.now)
         → KeepsCommit (state S.Store tx.old.conn.now) (state S.Store tx.new.conn.now) }
     ensures runs { HasCleanDisk (state S.Store tx.new.conn.now)
@@ -295,8 +259,7 @@ pub(crate) fn raise<S: Alter>(tx: &mut Transaction<'_, S>) -> Result<(), StoreFa
         → IsTrue (state S.Store tx.old.conn.now).in_transaction
         → IfErr result (IsStopped S.Store raise_statements tx.old.conn.now tx.new.conn.now) }
     ensures failed { IfErr result IsStoreFault }
-    ensures survives { Survives (state S.Store tx.old.conn.now) (state S.Store tx.new.conn.now)
-        (λ _. ⊥) }
+    ensures survives { CommitsNothing S.Store tx.old.conn.now tx.new.conn.now }
 {
     step(
         tx,
@@ -310,21 +273,17 @@ pub(crate) fn raise<S: Alter>(tx: &mut Transaction<'_, S>) -> Result<(), StoreFa
 /// Takes a database of schema 1 to schema 2, in one commit.
 pub(crate) fn renew<S: Alter>(conn: &mut Connection<S>) -> Result<(), StoreFault>
     requires { conn.old.in_transaction ≡ false }
-    ensures renewed { (runs : _) → StandsInOld (state S.Store conn.old) runs
-        → OnOk result (StandsFor (state S.Store conn.new) runs) }
+    ensures renewed { OnOk result (Renews S.Store conn.old conn.new) }
     ensures kept { (runs : _) → StandsInOld (state S.Store conn.old) runs
         → OnErr result (StandsInOld (state S.Store conn.new) runs) }
-    ensures earlier { HasCleanDisk (state S.Store conn.new)
-        → HasCleanDisk (state S.Store conn.old) }
+    ensures earlier { WasClean S.Store conn.old conn.new }
     ensures failed { IfErr result IsStoreFault }
     ensures cause { (runs : _) → StandsInOld (state S.Store conn.old) runs
         → IsTrue (state S.Store conn.old).is_open → HasCleanDisk (state S.Store conn.new)
         → IfErr result (IsCausedInside S.Store
         (HoldsOldRuns S.Store runs) attach_statements raise_statements conn.new) }
-    ensures crash { (runs : _) → StandsInOld (state S.Store conn.old) runs
-        → Survives (state S.Store conn.old) (state S.Store conn.new) (Keeps runs) }
-    ensures durable { (runs : _) → StandsInOld (state S.Store conn.old) runs
-        → OnOk result (Leaves (state S.Store conn.new) (Keeps runs)) }
+    ensures crash { MayRenew S.Store conn.old conn.new }
+    ensures durable { OnOk result (RenewsForGood S.Store conn.old conn.new) }
 {
     let mut tx = conn.transaction();
     raise(&mut tx)?;
@@ -335,34 +294,26 @@ pub(crate) fn renew<S: Alter>(conn: &mut Connection<S>) -> Result<(), StoreFault
 /// Takes the tables of a database that has some, and those of schema 1 to schema 2.
 pub(crate) fn take<S: Alter>(conn: &mut Connection<S>) -> Result<(), StoreFault>
     requires { conn.old.in_transaction ≡ false }
-    ensures earlier { HasCleanDisk (state S.Store conn.new)
-        → HasCleanDisk (state S.Store conn.old) }
-    ensures stands { (runs : _) → StandsFor (state S.Store conn.old) runs
-        → StandsFor (state S.Store conn.new) runs }
-    ensures crash { (runs : _) → StandsFor (state S.Store conn.old) runs
-        → Survives (state S.Store conn.old) (state S.Store conn.new) (λ _. ⊥) }
+    ensures earlier { WasClean S.Store conn.old conn.new }
+    ensures stands { KeepsRuns S.Store conn.old conn.new }
+    ensures crash { OnlyReads S.Store conn.old conn.new }
     ensures taken { (runs : _) → StandsFor (state S.Store conn.old) runs
         → HasCleanDisk (state S.Store conn.new) → IfErr result IsStoreFault }
-    ensures renewed { (runs : _) → StandsInOld (state S.Store conn.old) runs
-        → OnOk result (StandsFor (state S.Store conn.new) runs) }
+    ensures renewed { OnOk result (Renews S.Store conn.old conn.new) }
     ensures renewed_kept { (runs : _) → StandsInOld (state S.Store conn.old) runs
         → OnErr result (StandsInOld (state S.Store conn.new) runs) }
     ensures renewed_taken { (runs : _) → StandsInOld (state S.Store conn.old) runs
         → HasCleanDisk (state S.Store conn.new) → IfErr result IsStoreFault }
-    ensures renewed_crash { (runs : _) → StandsInOld (state S.Store conn.old) runs
-        → Survives (state S.Store conn.old) (state S.Store conn.new) (Keeps runs) }
-    ensures renewed_durable { (runs : _) → StandsInOld (state S.Store conn.old) runs
-        → OnOk result (Leaves (state S.Store conn.new) (Keeps runs)) }
+    ensures renewed_crash { MayRenew S.Store conn.old conn.new }
+    ensures renewed_durable { OnOk result (RenewsForGood S.Store conn.old conn.new) }
     ensures unknown { (n : ℤ) → SaysSchema n (state S.Store conn.old) → n ≢ pos 1 → n ≢ pos 2
         → HasCleanDisk (state S.Store conn.new) → OnOk result ⊥ }
     ensures untouched { (n : ℤ) → SaysSchema n (state S.Store conn.old) → n ≢ pos 1
         → HasCleanDisk (state S.Store conn.new)
         → Rests (state S.Store conn.old) (state S.Store conn.new) }
     ensures unknown_crash { (n : ℤ) → SaysSchema n (state S.Store conn.old) → n ≢ pos 1
-        → Survives (state S.Store conn.old) (state S.Store conn.new) (λ _. ⊥) }
-    ensures tables { (n : ℤ) → SaysSchema n (state S.Store conn.old)
-        → HasCleanDisk (state S.Store conn.new)
-        → OnOk result (HasTables n (state S.Store conn.old)) }
+        → CommitsNothing S.Store conn.old conn.new }
+    ensures tables { OnOk result (FindsTables S.Store conn.old conn.new) }
     ensures cause { (n : ℤ) → SaysSchema n (state S.Store conn.old) → n ≢ pos 1
         → HasCleanDisk (state S.Store conn.new)
         → IfErr result (IsCaused S.Store schema_statements conn.new) }
@@ -387,39 +338,32 @@ pub(crate) fn settle<S: Alter>(conn: &mut Connection<S>) -> Result<(), StoreFaul
         → OnErr result (IsEmpty (state S.Store conn.new)) }
     ensures made_taken { IsEmpty (state S.Store conn.old) → HasCleanDisk (state S.Store conn.new)
         → IfErr result IsStoreFault }
-    ensures stands { (runs : _) → StandsFor (state S.Store conn.old) runs
-        → StandsFor (state S.Store conn.new) runs }
+    ensures stands { KeepsRuns S.Store conn.old conn.new }
     ensures made_crash { IsEmpty (state S.Store conn.old)
         → Survives (state S.Store conn.old) (state S.Store conn.new) (Keeps []) }
-    ensures crash { (runs : _) → StandsFor (state S.Store conn.old) runs
-        → Survives (state S.Store conn.old) (state S.Store conn.new) (λ _. ⊥) }
+    ensures crash { OnlyReads S.Store conn.old conn.new }
     ensures durable { IsEmpty (state S.Store conn.old)
         → OnOk result (Leaves (state S.Store conn.new) (Keeps [])) }
     ensures was_open { (runs : _) → StandsFor (state S.Store conn.old) runs
         → HasCleanDisk (state S.Store conn.new)
         → OnOk result (IsTrue (state S.Store conn.old).is_open) }
-    ensures renewed { (runs : _) → StandsInOld (state S.Store conn.old) runs
-        → OnOk result (StandsFor (state S.Store conn.new) runs) }
+    ensures renewed { OnOk result (Renews S.Store conn.old conn.new) }
     ensures renewed_kept { (runs : _) → StandsInOld (state S.Store conn.old) runs
         → OnErr result (StandsInOld (state S.Store conn.new) runs) }
     ensures renewed_taken { (runs : _) → StandsInOld (state S.Store conn.old) runs
         → HasCleanDisk (state S.Store conn.new) → IfErr result IsStoreFault }
-    ensures renewed_crash { (runs : _) → StandsInOld (state S.Store conn.old) runs
-        → Survives (state S.Store conn.old) (state S.Store conn.new) (Keeps runs) }
-    ensures renewed_durable { (runs : _) → StandsInOld (state S.Store conn.old) runs
-        → OnOk result (Leaves (state S.Store conn.new) (Keeps runs)) }
+    ensures renewed_crash { MayRenew S.Store conn.old conn.new }
+    ensures renewed_durable { OnOk result (RenewsForGood S.Store conn.old conn.new) }
     ensures unknown { (n : ℤ) → SaysSchema n (state S.Store conn.old) → n ≢ pos 1 → n ≢ pos 2
         → HasCleanDisk (state S.Store conn.new) → OnOk result ⊥ }
     ensures untouched { (n : ℤ) → SaysSchema n (state S.Store conn.old) → n ≢ pos 1
         → HasCleanDisk (state S.Store conn.new)
         → OnErr result (Rests (state S.Store conn.old) (state S.Store conn.new)) }
     ensures unknown_crash { (n : ℤ) → SaysSchema n (state S.Store conn.old) → n ≢ pos 1
-        → OnErr result (Survives (state S.Store conn.old) (state S.Store conn.new) (λ _. ⊥)) }
+        → OnErr result (CommitsNothing S.Store conn.old conn.new) }
     ensures taken { (runs : _) → StandsFor (state S.Store conn.old) runs
         → HasCleanDisk (state S.Store conn.new) → IfErr result IsStoreFault }
-    ensures tables { (n : ℤ) → SaysSchema n (state S.Store conn.old)
-        → HasCleanDisk (state S.Store conn.new)
-        → OnOk result (HasTables n (state S.Store conn.old)) }
+    ensures tables { OnOk result (FindsTables S.Store conn.old conn.new) }
     ensures cause { (n : ℤ) → SaysSchema n (state S.Store conn.old) → n ≢ pos 1
         → HasCleanDisk (state S.Store conn.new)
         → IfErr result (IsCaused S.Store attach_statements conn.new) }

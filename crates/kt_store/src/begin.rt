@@ -1,9 +1,10 @@
 ghost use Rattle.std.specs.Prelude.{◌≡◌, ◌<◌, ◌≤◌, ◌++◌, suc, [], ◌∷◌, length, true, false, IfOk, OnOk, OnErr, IfErr, pos};
-ghost use Rattle.sqlite.specs.State.{HasCleanDisk, Survives};
+ghost use Rattle.sqlite.specs.State.{HasCleanDisk};
 ghost use Rattle.sqlite.specs.Held.{state};
 ghost use Rattle.kt_store.specs.Ask.{IsStoreFault, IsCaused};
-ghost use Rattle.kt_store.specs.Runs.{new_run, Keeps};
-ghost use Rattle.kt_store.specs.Stands.{StandsFor, Leaves};
+ghost use Rattle.kt_store.specs.Kept.{KeepsRuns, OnlyReads, Changes, ChangesForGood, MayChange};
+ghost use Rattle.kt_store.specs.Runs.{new_run};
+ghost use Rattle.kt_store.specs.Stands.{StandsFor};
 ghost use Rattle.kt_store.specs.Tables.{full_text, begin_text};
 ghost use Rattle.sqlite_value.specs.declared.value.Value.TheVariants.{Int};
 
@@ -18,14 +19,12 @@ pub(crate) fn is_full<S: Alter>(conn: &mut Connection<S>) -> Result<bool, StoreF
         → HasCleanDisk (state S.Store conn.new)
         → IfOk result (λ full. (full ≡ true → 1000000 ≤ length runs)
         × (full ≡ false → length runs < 1000000)) }
-    ensures stands { (runs : _) → StandsFor (state S.Store conn.old) runs
-        → StandsFor (state S.Store conn.new) runs }
+    ensures stands { KeepsRuns S.Store conn.old conn.new }
     ensures failed { IfErr result IsStoreFault }
     ensures cause { (runs : _) → StandsFor (state S.Store conn.old) runs
         → HasCleanDisk (state S.Store conn.new)
         → IfErr result (IsCaused S.Store ((full_text, []) ∷ []) conn.new) }
-    ensures crash { (runs : _) → StandsFor (state S.Store conn.old) runs
-        → Survives (state S.Store conn.old) (state S.Store conn.new) (λ _. ⊥) }
+    ensures crash { OnlyReads S.Store conn.old conn.new }
 {
     let rows = ask(conn, "SELECT id FROM runs WHERE id = 1000000", &[])?;
     Ok(has_rows(&rows))
@@ -42,25 +41,18 @@ pub(crate) fn add_run<S: Alter>(
         → (HasCleanDisk (state S.Store conn.old) → length runs < 1000000)
         → HasCleanDisk (state S.Store conn.new)
         → IfOk result (λ n. n ≡ suc (length runs)) }
-    ensures added { (runs : _) → StandsFor (state S.Store conn.old) runs
-        → (HasCleanDisk (state S.Store conn.old) → length runs < 1000000)
-        → OnOk result (StandsFor (state S.Store conn.new)
-        (runs ++ new_run runs total moment ∷ [])) }
-    ensures kept { (runs : _) → StandsFor (state S.Store conn.old) runs
-        → OnErr result (StandsFor (state S.Store conn.new) runs) }
+    ensures added { OnOk result (Changes S.Store conn.old conn.new
+        (λ runs. length runs < 1000000) (λ runs. runs ++ new_run runs total moment ∷ [])) }
+    ensures kept { OnErr result (KeepsRuns S.Store conn.old conn.new) }
     ensures failed { IfErr result IsStoreFault }
     ensures cause { (runs : _) → StandsFor (state S.Store conn.old) runs
         → HasCleanDisk (state S.Store conn.new)
         → IfErr result (IsCaused S.Store
         ((begin_text, Int (pos moment) ∷ Int (pos total) ∷ []) ∷ []) conn.new) }
-    ensures crash { (runs : _) → StandsFor (state S.Store conn.old) runs
-        → (HasCleanDisk (state S.Store conn.old) → length runs < 1000000)
-        → Survives (state S.Store conn.old) (state S.Store conn.new)
-        (Keeps (runs ++ new_run runs total moment ∷ [])) }
-    ensures durable { (runs : _) → StandsFor (state S.Store conn.old) runs
-        → (HasCleanDisk (state S.Store conn.old) → length runs < 1000000)
-        → OnOk result (Leaves (state S.Store conn.new)
-        (Keeps (runs ++ new_run runs total moment ∷ []))) }
+    ensures crash { MayChange S.Store conn.old conn.new
+        (λ runs. length runs < 1000000) (λ runs. runs ++ new_run runs total moment ∷ []) }
+    ensures durable { OnOk result (ChangesForGood S.Store conn.old conn.new
+        (λ runs. length runs < 1000000) (λ runs. runs ++ new_run runs total moment ∷ [])) }
 {
     tell(
         conn,

@@ -1,9 +1,10 @@
-ghost use Rattle.std.specs.Prelude.{◌≡◌, ◌⊎◌, ◌<◌, ◌≤◌, ◌^◌, suc, min, length, Some, None, IfOk, OnOk, OnErr, IfErr, pos, [], ◌∷◌};
-ghost use Rattle.sqlite.specs.State.{HasCleanDisk, Survives};
+ghost use Rattle.std.specs.Prelude.{◌≡◌, ◌⊎◌, ◌<◌, ◌≤◌, ◌^◌, min, length, Some, None, IfOk, OnOk, OnErr, IfErr, pos, [], ◌∷◌};
+ghost use Rattle.sqlite.specs.State.{HasCleanDisk};
 ghost use Rattle.sqlite.specs.Held.{state};
 ghost use Rattle.kt_store.specs.Ask.{IsStoreFault, IsCaused};
-ghost use Rattle.kt_store.specs.Runs.{run_at, entries_of, finish, finish_refusal, Keeps};
-ghost use Rattle.kt_store.specs.Stands.{StandsFor, Leaves};
+ghost use Rattle.kt_store.specs.Kept.{KeepsRuns, OnlyReads, Changes, ChangesForGood, MayChange};
+ghost use Rattle.kt_store.specs.Runs.{run_at, entries_of, finish, finish_refusal, IsComplete};
+ghost use Rattle.kt_store.specs.Stands.{StandsFor};
 ghost use Rattle.kt_store.specs.Calls.{finish_statements};
 ghost use Rattle.kt_store.specs.Tables.{count_text};
 ghost use Rattle.sqlite_value.specs.declared.value.Value.TheVariants.{Int};
@@ -22,10 +23,8 @@ pub(crate) fn count<S: Alter>(conn: &mut Connection<S>, run: u64) -> Result<u64,
     ensures cause { (runs : _) → StandsFor (state S.Store conn.old) runs
         → HasCleanDisk (state S.Store conn.new)
         → IfErr result (IsCaused S.Store ((count_text, Int (pos run) ∷ []) ∷ []) conn.new) }
-    ensures stands { (runs : _) → StandsFor (state S.Store conn.old) runs
-        → StandsFor (state S.Store conn.new) runs }
-    ensures crash { (runs : _) → StandsFor (state S.Store conn.old) runs
-        → Survives (state S.Store conn.old) (state S.Store conn.new) (λ _. ⊥) }
+    ensures stands { KeepsRuns S.Store conn.old conn.new }
+    ensures crash { OnlyReads S.Store conn.old conn.new }
     ensures found { (runs : _) → StandsFor (state S.Store conn.old) runs
         → HasCleanDisk (state S.Store conn.new)
         → IfOk result (λ n. n ≡ min (length (entries_of (run_at runs run))) 9223372036854775807) }
@@ -48,17 +47,14 @@ pub(crate) fn check<S: Alter>(conn: &mut Connection<S>, run: u64) -> Result<(), 
     ensures cause { (runs : _) → StandsFor (state S.Store conn.old) runs
         → HasCleanDisk (state S.Store conn.new)
         → IfErr result (IsCaused S.Store (finish_statements run) conn.new) }
-    ensures stands { (runs : _) → StandsFor (state S.Store conn.old) runs
-        → StandsFor (state S.Store conn.new) runs }
-    ensures crash { (runs : _) → StandsFor (state S.Store conn.old) runs
-        → Survives (state S.Store conn.old) (state S.Store conn.new) (λ _. ⊥) }
+    ensures stands { KeepsRuns S.Store conn.old conn.new }
+    ensures crash { OnlyReads S.Store conn.old conn.new }
     ensures refused { (runs : _) → StandsFor (state S.Store conn.old) runs
         → HasCleanDisk (state S.Store conn.new)
         → IfErr result (λ e. IsStoreFault e ⊎ (finish_refusal runs run ≡ Some e)) }
     ensures taken { (runs : _) → StandsFor (state S.Store conn.old) runs
         → HasCleanDisk (state S.Store conn.new)
-        → OnOk result ((finish_refusal runs run ≡ None) × (k : _) × (r : _) × (run ≡ suc k)
-        × (run_at runs run ≡ Some r) × (length r.entries ≡ r.total)) }
+        → OnOk result ((finish_refusal runs run ≡ None) × IsComplete run runs) }
 {
     let (total, finished) = look(conn, run)?;
     if finished {
@@ -74,24 +70,17 @@ pub(crate) fn check<S: Alter>(conn: &mut Connection<S>, run: u64) -> Result<(), 
 /// Sets the state of a run that has all its entries.
 pub(crate) fn mark<S: Alter>(conn: &mut Connection<S>, run: u64) -> Result<(), StoreFault>
     requires { run < 2 ^ 63 }
-    ensures marked { (runs : _) → StandsFor (state S.Store conn.old) runs
-        → (HasCleanDisk (state S.Store conn.old) → (k : _) × (r : _) × (run ≡ suc k)
-        × (run_at runs run ≡ Some r) × (length r.entries ≡ r.total))
-        → OnOk result (StandsFor (state S.Store conn.new) (finish run runs)) }
-    ensures kept { (runs : _) → StandsFor (state S.Store conn.old) runs
-        → OnErr result (StandsFor (state S.Store conn.new) runs) }
+    ensures marked { OnOk result (Changes S.Store conn.old conn.new
+        (IsComplete run) (finish run)) }
+    ensures kept { OnErr result (KeepsRuns S.Store conn.old conn.new) }
     ensures failed { IfErr result IsStoreFault }
     ensures cause { (runs : _) → StandsFor (state S.Store conn.old) runs
         → HasCleanDisk (state S.Store conn.new)
         → IfErr result (IsCaused S.Store (finish_statements run) conn.new) }
-    ensures crash { (runs : _) → StandsFor (state S.Store conn.old) runs
-        → (HasCleanDisk (state S.Store conn.old) → (k : _) × (r : _) × (run ≡ suc k)
-        × (run_at runs run ≡ Some r) × (length r.entries ≡ r.total))
-        → Survives (state S.Store conn.old) (state S.Store conn.new) (Keeps (finish run runs)) }
-    ensures durable { (runs : _) → StandsFor (state S.Store conn.old) runs
-        → (HasCleanDisk (state S.Store conn.old) → (k : _) × (r : _) × (run ≡ suc k)
-        × (run_at runs run ≡ Some r) × (length r.entries ≡ r.total))
-        → OnOk result (Leaves (state S.Store conn.new) (Keeps (finish run runs))) }
+    ensures crash { MayChange S.Store conn.old conn.new
+        (IsComplete run) (finish run) }
+    ensures durable { OnOk result (ChangesForGood S.Store conn.old conn.new
+        (IsComplete run) (finish run)) }
 {
     tell(
         conn,

@@ -7,8 +7,9 @@ ghost use Rattle.kt_store.specs.Stands.{Leaves};
 
 use sqlite::Alter;
 
-/// The law of crashes, which joins what the calls of a store say of them. Behind a call that was done a crash leaves its runs;
-/// each later call that may write adds the runs with its own change to what a crash may leave, and a query adds nothing.
+/// The law of crashes, which joins what the calls of a store say of them. Behind a call that was
+/// done a crash leaves its runs; each later call that may write adds the runs with its own change
+/// to what a crash may leave, and a query adds nothing.
 pub fn law_of_crashes<S: Alter>()
     ensures done { (s : Held S) (runs : List Run) → Leaves (state S.Store s) (Keeps runs)
         → Leaves (state S.Store s) (KeepsOne (runs ∷ [])) }

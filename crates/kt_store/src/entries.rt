@@ -1,15 +1,15 @@
 ghost use Rattle.std.specs.Prelude.{◌≡◌, ◌<◌, ◌^◌, ℕ, pos, length, map, List, [], ◌∷◌, ◌++◌, Ok, IfOk, OnOk, IfErr};
 ghost use Rattle.kt_base.specs.declared.entry.Entry.{Entry as Stored};
 ghost use Rattle.kt_base.specs.declared.kind.Kind.{Kind as Sort};
-ghost use Rattle.kt_base.specs.declared.kind.Kind.TheVariants.{Passed};
 ghost use Rattle.kt_base.specs.Utf8.{utf8};
 ghost use Rattle.std.specs.List.{AllByRecursion};
 ghost use Rattle.kt_base.specs.declared.output.Output.{Output as Pair};
 ghost use Rattle.sqlite_value.specs.Order.{column};
 ghost use Rattle.sqlite_value.specs.declared.value.Value.TheVariants.{Int, Text as Words, Blob};
-ghost use Rattle.sqlite.specs.State.{HasCleanDisk, Survives};
+ghost use Rattle.sqlite.specs.State.{HasCleanDisk};
 ghost use Rattle.sqlite.specs.Held.{state};
 ghost use Rattle.kt_store.specs.Ask.{IsNoMemory, IsStoreFault, IsCaused};
+ghost use Rattle.kt_store.specs.Kept.{KeepsRuns, OnlyReads};
 ghost use Rattle.kt_base.specs.declared.variable.Variable.{Variable as StoredPair};
 ghost use Rattle.sqlite_trees.specs.Tree.{IsAscending};
 ghost use Rattle.kt_store.specs.Runs.{IsEntry, IsPair, IsText, AreRuns, kind_code, run_at, entries_of};
@@ -22,7 +22,7 @@ use crate::read::{number_in, small_in};
 use crate::statements::ask;
 use crate::store_fault::StoreFault;
 use crate::value::int;
-use kt_base::{Bytes, Entry, Kind, Output, Reason, Text, Variable, Variables, Verdict};
+use kt_base::{Bytes, Entry, Kind, Output, Text, Variable, Variables, Verdict};
 use sqlite::{Alter, Connection, Error, Row};
 use std::alloc::Global;
 
@@ -59,19 +59,6 @@ pub(crate) fn kind_of(code: u64) -> Result<Kind, StoreFault>
         3 => Ok(Kind::Failed),
         4 => Ok(Kind::Broken),
         _ => Err(StoreFault::from(Error::IntegralValueOutOfRange(3))),
-    }
-}
-
-/// The verdict of this kind and reason. A passed case has none.
-pub(crate) fn verdict_of(kind: Kind, reason: Text) -> Verdict
-    ensures { (kind ≡ Passed → reason ≡ []) → result ≡ record { kind = kind; reason = reason } }
-{
-    match kind {
-        Kind::Passed => Verdict::passed(),
-        Kind::Skipped => Verdict::skipped(Reason::Owned(reason)),
-        Kind::ExpectedFailure => Verdict::expected_failure(Reason::Owned(reason)),
-        Kind::Failed => Verdict::failed(Reason::Owned(reason)),
-        Kind::Broken => Verdict::broken(Reason::Owned(reason)),
     }
 }
 
@@ -155,7 +142,7 @@ pub(crate) fn entry_in(row: &Row, meta: Variables) -> Result<Entry, StoreFault>
         position,
         program,
         case_name,
-        verdict: verdict_of(kind, reason),
+        verdict: Verdict::of(kind, reason),
         started,
         millis,
         body,
@@ -204,10 +191,8 @@ pub(crate) fn all_pairs<S: Alter>(
     ensures cause { (runs : _) → StandsFor (state S.Store conn.old) runs
         → HasCleanDisk (state S.Store conn.new)
         → IfErr result (IsCaused S.Store ((pairs_text, Int (pos run) ∷ []) ∷ []) conn.new) }
-    ensures stands { (runs : _) → StandsFor (state S.Store conn.old) runs
-        → StandsFor (state S.Store conn.new) runs }
-    ensures crash { (runs : _) → StandsFor (state S.Store conn.old) runs
-        → Survives (state S.Store conn.old) (state S.Store conn.new) (λ _. ⊥) }
+    ensures stands { KeepsRuns S.Store conn.old conn.new }
+    ensures crash { OnlyReads S.Store conn.old conn.new }
 {
     let rows = ask(
         conn,
@@ -229,10 +214,8 @@ pub(crate) fn all_rows<S: Alter>(conn: &mut Connection<S>, run: u64) -> Result<V
     ensures cause { (runs : _) → StandsFor (state S.Store conn.old) runs
         → HasCleanDisk (state S.Store conn.new)
         → IfErr result (IsCaused S.Store ((entries_text, Int (pos run) ∷ []) ∷ []) conn.new) }
-    ensures stands { (runs : _) → StandsFor (state S.Store conn.old) runs
-        → StandsFor (state S.Store conn.new) runs }
-    ensures crash { (runs : _) → StandsFor (state S.Store conn.old) runs
-        → Survives (state S.Store conn.old) (state S.Store conn.new) (λ _. ⊥) }
+    ensures stands { KeepsRuns S.Store conn.old conn.new }
+    ensures crash { OnlyReads S.Store conn.old conn.new }
 {
     let rows = ask(
         conn,
@@ -257,10 +240,8 @@ pub(crate) fn all_entries<S: Alter>(
         → HasCleanDisk (state S.Store conn.new)
         → IfErr result (IsCaused S.Store
         ((entries_text, Int (pos run) ∷ []) ∷ (pairs_text, Int (pos run) ∷ []) ∷ []) conn.new) }
-    ensures stands { (runs : _) → StandsFor (state S.Store conn.old) runs
-        → StandsFor (state S.Store conn.new) runs }
-    ensures crash { (runs : _) → StandsFor (state S.Store conn.old) runs
-        → Survives (state S.Store conn.old) (state S.Store conn.new) (λ _. ⊥) }
+    ensures stands { KeepsRuns S.Store conn.old conn.new }
+    ensures crash { OnlyReads S.Store conn.old conn.new }
 {
     let rows = all_rows(conn, run)?;
     let pairs = all_pairs(conn, run)?;

@@ -1,7 +1,8 @@
 ghost use Rattle.std.specs.Prelude.{◌≡◌, ◌⊎◌, ◌<◌, ◌≤◌, ◌^◌, IfOk, IfErr, OnOk, Some, None, option_map, unsigned_abs, pos, [], ◌∷◌};
-ghost use Rattle.sqlite.specs.State.{HasCleanDisk, Survives};
+ghost use Rattle.sqlite.specs.State.{HasCleanDisk};
 ghost use Rattle.sqlite.specs.Held.{state};
 ghost use Rattle.kt_store.specs.Ask.{IsStoreFault, IsCaused};
+ghost use Rattle.kt_store.specs.Kept.{KeepsRuns, OnlyReads};
 ghost use Rattle.kt_store.specs.Runs.{run_at, flag, AreRuns, entries_of, has_position};
 ghost use Rattle.kt_store.specs.Stands.{StandsFor};
 ghost use Rattle.kt_store.specs.Calls.{asked_number, look_statement, there_statement};
@@ -24,12 +25,10 @@ pub(crate) fn find<S: Alter>(
     ensures cause { (runs : _) → StandsFor (state S.Store conn.old) runs
         → HasCleanDisk (state S.Store conn.new)
         → IfErr result (IsCaused S.Store ((run_text, Int (pos run) ∷ []) ∷ []) conn.new) }
-    ensures crash { (runs : _) → StandsFor (state S.Store conn.old) runs
-        → Survives (state S.Store conn.old) (state S.Store conn.new) (λ _. ⊥) }
+    ensures crash { OnlyReads S.Store conn.old conn.new }
     ensures valid { (runs : _) → StandsFor (state S.Store conn.old) runs
         → HasCleanDisk (state S.Store conn.new) → OnOk result (AreRuns runs) }
-    ensures kept { (runs : _) → StandsFor (state S.Store conn.old) runs
-        → StandsFor (state S.Store conn.new) runs }
+    ensures kept { KeepsRuns S.Store conn.old conn.new }
     ensures found { (runs : _) → StandsFor (state S.Store conn.old) runs
         → HasCleanDisk (state S.Store conn.new)
         → IfOk result (λ o. o ≡ option_map (λ r. (r.total, unsigned_abs (flag r.finished)))
@@ -64,10 +63,8 @@ pub(crate) fn look<S: Alter>(conn: &mut Connection<S>, run: u64) -> Result<(u64,
     ensures cause { (runs : _) → StandsFor (state S.Store conn.old) runs
         → HasCleanDisk (state S.Store conn.new)
         → IfErr result (IsCaused S.Store (look_statement run ∷ []) conn.new) }
-    ensures stands { (runs : _) → StandsFor (state S.Store conn.old) runs
-        → StandsFor (state S.Store conn.new) runs }
-    ensures crash { (runs : _) → StandsFor (state S.Store conn.old) runs
-        → Survives (state S.Store conn.old) (state S.Store conn.new) (λ _. ⊥) }
+    ensures stands { KeepsRuns S.Store conn.old conn.new }
+    ensures crash { OnlyReads S.Store conn.old conn.new }
     ensures found { (runs : _) → StandsFor (state S.Store conn.old) runs
         → HasCleanDisk (state S.Store conn.new)
         → IfOk result (λ p. (r : _) × (run_at runs run ≡ Some r) × (p.0 ≡ r.total)
@@ -97,10 +94,8 @@ pub(crate) fn there<S: Alter>(
     ensures cause { (runs : _) → StandsFor (state S.Store conn.old) runs
         → HasCleanDisk (state S.Store conn.new)
         → IfErr result (IsCaused S.Store (there_statement run position ∷ []) conn.new) }
-    ensures stands { (runs : _) → StandsFor (state S.Store conn.old) runs
-        → StandsFor (state S.Store conn.new) runs }
-    ensures crash { (runs : _) → StandsFor (state S.Store conn.old) runs
-        → Survives (state S.Store conn.old) (state S.Store conn.new) (λ _. ⊥) }
+    ensures stands { KeepsRuns S.Store conn.old conn.new }
+    ensures crash { OnlyReads S.Store conn.old conn.new }
     ensures found { (runs : _) → StandsFor (state S.Store conn.old) runs
         → HasCleanDisk (state S.Store conn.new)
         → IfOk result (λ b. b ≡ has_position position (entries_of (run_at runs run))) }

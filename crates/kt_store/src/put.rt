@@ -1,12 +1,13 @@
-ghost use Rattle.std.specs.Prelude.{◌≡◌, ◌⊎◌, false, Some, None, Err, IfOk, ◌<◌, ◌≤◌, ◌^◌, suc, length, OnOk, OnErr, IfErr, IsTrue};
+ghost use Rattle.std.specs.Prelude.{◌≡◌, ◌⊎◌, false, Some, None, Err, IfOk, ◌<◌, ◌≤◌, ◌^◌, OnOk, OnErr, IfErr, IsTrue};
 ghost use Rattle.std.specs.List.{AllByRecursion};
-ghost use Rattle.sqlite.specs.State.{HasCleanDisk, Survives, ExecutesInside};
+ghost use Rattle.sqlite.specs.State.{HasCleanDisk, ExecutesInside};
 ghost use Rattle.sqlite.specs.Held.{state};
 ghost use Rattle.kt_store.specs.Ask.{IsNoMemory, IsStoreFault, IsCaused};
+ghost use Rattle.kt_store.specs.Kept.{CommitsNothing, KeepsRuns, OnlyReads, Changes, ChangesForGood, MayChange};
 ghost use Rattle.kt_store.specs.Fault.{Tells};
 ghost use Rattle.kt_store.specs.Transactions.{RunsInside, RunInTurn, StopInTurn, IsStopped, HoldsRuns, IsCausedInside};
-ghost use Rattle.kt_store.specs.Runs.{IsRun, IsEntry, IsPair, IsText, pair_row, with_entry, Keeps, kind_code, put_refusal, run_at, AreRuns, entries_of, has_position};
-ghost use Rattle.kt_store.specs.Stands.{StandsFor, Leaves};
+ghost use Rattle.kt_store.specs.Runs.{IsEntry, IsPair, IsText, pair_row, with_entry, kind_code, put_refusal, run_at, AreRuns, entries_of, has_position, CanAdd};
+ghost use Rattle.kt_store.specs.Stands.{StandsFor};
 ghost use Rattle.kt_store.specs.Calls.{put_statements, pair_statements, entry_statements};
 ghost use Rattle.kt_store.specs.Tables.{pair_text};
 
@@ -84,8 +85,7 @@ pub(crate) fn add_pair<S: Alter>(
         × ExecutesInside 0 pair_text (pair_row run position place pair.now)
         (state S.Store tx.old.conn.now) (state S.Store tx.new.conn.now) (Err error)) }
     ensures failed { IfErr result IsStoreFault }
-    ensures survives { Survives (state S.Store tx.old.conn.now) (state S.Store tx.new.conn.now)
-        (λ _. ⊥) }
+    ensures survives { CommitsNothing S.Store tx.old.conn.now tx.new.conn.now }
 {
     step(
         tx,
@@ -116,10 +116,11 @@ pub(crate) fn add_pairs<S: Alter>(
         (pair_statements run position 0 pairs.now) tx.old.conn.now tx.new.conn.now) }
     ensures cause { HasCleanDisk (state S.Store tx.new.conn.now)
         → IsTrue (state S.Store tx.old.conn.now).in_transaction
-        → IfErr result (λ e. (error : _) × Tells error e × StopInTurn S.Store (pair_statements run position 0 pairs.now) tx.old.conn.now tx.new.conn.now error) }
+        → IfErr result (λ e. (error : _) × Tells error e
+        × StopInTurn S.Store (pair_statements run position 0 pairs.now)
+        tx.old.conn.now tx.new.conn.now error) }
     ensures failed { IfErr result IsStoreFault }
-    ensures survives { Survives (state S.Store tx.old.conn.now) (state S.Store tx.new.conn.now)
-        (λ _. ⊥) }
+    ensures survives { CommitsNothing S.Store tx.old.conn.now tx.new.conn.now }
 {
     let mut place = 0;
     for pair in pairs {
@@ -150,8 +151,7 @@ pub(crate) fn fill<S: Alter>(
         → IfErr result (IsStopped S.Store
         (entry_statements run entry.now) tx.old.conn.now tx.new.conn.now) }
     ensures failed { IfErr result IsStoreFault }
-    ensures survives { Survives (state S.Store tx.old.conn.now) (state S.Store tx.new.conn.now)
-        (λ _. ⊥) }
+    ensures survives { CommitsNothing S.Store tx.old.conn.now tx.new.conn.now }
 {
     step(
         tx,
@@ -187,26 +187,18 @@ pub(crate) fn commit_entry<S: Alter>(
     requires reason { reason.now ≡ entry.now.verdict.reason }
     requires moments { (entry.now.started ≤ 253402300799999)
         × (entry.now.millis ≤ 253402300799999) }
-    ensures added { (runs : _) → StandsFor (state S.Store conn.old) runs
-        → (HasCleanDisk (state S.Store conn.old) → (k : _) × (run ≡ suc k) × (k < length runs)
-        × AllByRecursion IsRun (with_entry run entry.now runs))
-        → OnOk result (StandsFor (state S.Store conn.new) (with_entry run entry.now runs)) }
-    ensures kept { (runs : _) → StandsFor (state S.Store conn.old) runs
-        → OnErr result (StandsFor (state S.Store conn.new) runs) }
+    ensures added { OnOk result (Changes S.Store conn.old conn.new
+        (CanAdd run entry.now) (with_entry run entry.now)) }
+    ensures kept { OnErr result (KeepsRuns S.Store conn.old conn.new) }
     ensures failed { IfErr result IsStoreFault }
     ensures cause { (runs : _) → StandsFor (state S.Store conn.old) runs
         → IsTrue (state S.Store conn.old).is_open → HasCleanDisk (state S.Store conn.new)
         → IfErr result (IsCausedInside S.Store (HoldsRuns S.Store runs)
         (put_statements run entry.now) (entry_statements run entry.now) conn.new) }
-    ensures crash { (runs : _) → StandsFor (state S.Store conn.old) runs
-        → (HasCleanDisk (state S.Store conn.old) → (k : _) × (run ≡ suc k) × (k < length runs)
-        × AllByRecursion IsRun (with_entry run entry.now runs))
-        → Survives (state S.Store conn.old) (state S.Store conn.new)
-        (Keeps (with_entry run entry.now runs)) }
-    ensures durable { (runs : _) → StandsFor (state S.Store conn.old) runs
-        → (HasCleanDisk (state S.Store conn.old) → (k : _) × (run ≡ suc k) × (k < length runs)
-        × AllByRecursion IsRun (with_entry run entry.now runs))
-        → OnOk result (Leaves (state S.Store conn.new) (Keeps (with_entry run entry.now runs))) }
+    ensures crash { MayChange S.Store conn.old conn.new
+        (CanAdd run entry.now) (with_entry run entry.now) }
+    ensures durable { OnOk result (ChangesForGood S.Store conn.old conn.new
+        (CanAdd run entry.now) (with_entry run entry.now)) }
 {
     let mut tx = conn.transaction();
     fill(&mut tx, run, entry, reason)?;
@@ -226,26 +218,18 @@ pub(crate) fn add_entry<S: Alter>(
     requires reason { reason.now ≡ entry.now.verdict.reason }
     requires moments { (entry.now.started ≤ 253402300799999)
         × (entry.now.millis ≤ 253402300799999) }
-    ensures added { (runs : _) → StandsFor (state S.Store conn.old) runs
-        → (HasCleanDisk (state S.Store conn.old) → (k : _) × (run ≡ suc k) × (k < length runs)
-        × AllByRecursion IsRun (with_entry run entry.now runs))
-        → OnOk result (StandsFor (state S.Store conn.new) (with_entry run entry.now runs)) }
-    ensures kept { (runs : _) → StandsFor (state S.Store conn.old) runs
-        → OnErr result (StandsFor (state S.Store conn.new) runs) }
+    ensures added { OnOk result (Changes S.Store conn.old conn.new
+        (CanAdd run entry.now) (with_entry run entry.now)) }
+    ensures kept { OnErr result (KeepsRuns S.Store conn.old conn.new) }
     ensures failed { IfErr result IsStoreFault }
     ensures cause { (runs : _) → StandsFor (state S.Store conn.old) runs
         → HasCleanDisk (state S.Store conn.new)
         → IfErr result (IsCausedInside S.Store (HoldsRuns S.Store runs)
         (put_statements run entry.now) (entry_statements run entry.now) conn.new) }
-    ensures crash { (runs : _) → StandsFor (state S.Store conn.old) runs
-        → (HasCleanDisk (state S.Store conn.old) → (k : _) × (run ≡ suc k) × (k < length runs)
-        × AllByRecursion IsRun (with_entry run entry.now runs))
-        → Survives (state S.Store conn.old) (state S.Store conn.new)
-        (Keeps (with_entry run entry.now runs)) }
-    ensures durable { (runs : _) → StandsFor (state S.Store conn.old) runs
-        → (HasCleanDisk (state S.Store conn.old) → (k : _) × (run ≡ suc k) × (k < length runs)
-        × AllByRecursion IsRun (with_entry run entry.now runs))
-        → OnOk result (Leaves (state S.Store conn.new) (Keeps (with_entry run entry.now runs))) }
+    ensures crash { MayChange S.Store conn.old conn.new
+        (CanAdd run entry.now) (with_entry run entry.now) }
+    ensures durable { OnOk result (ChangesForGood S.Store conn.old conn.new
+        (CanAdd run entry.now) (with_entry run entry.now)) }
 {
     let sql =
         "INSERT INTO entries (run, position, program, case_name, kind, reason, started, millis, body_out, body_err, clean_out, clean_err) VALUES (?1, ?2, ?3, ?4, ?5, ?6, ?7, ?8, ?9, ?10, ?11, ?12)";
@@ -267,18 +251,15 @@ pub(crate) fn check<S: Alter>(
     ensures cause { (runs : _) → StandsFor (state S.Store conn.old) runs
         → HasCleanDisk (state S.Store conn.new)
         → IfErr result (IsCaused S.Store (put_statements run entry.now) conn.new) }
-    ensures stands { (runs : _) → StandsFor (state S.Store conn.old) runs
-        → StandsFor (state S.Store conn.new) runs }
-    ensures crash { (runs : _) → StandsFor (state S.Store conn.old) runs
-        → Survives (state S.Store conn.old) (state S.Store conn.new) (λ _. ⊥) }
+    ensures stands { KeepsRuns S.Store conn.old conn.new }
+    ensures crash { OnlyReads S.Store conn.old conn.new }
     ensures refused { (runs : _) → StandsFor (state S.Store conn.old) runs
         → HasCleanDisk (state S.Store conn.new)
         → IfErr result (λ e. IsStoreFault e ⊎ (put_refusal runs run entry.now ≡ Some e)) }
     ensures taken { (runs : _) → StandsFor (state S.Store conn.old) runs
         → HasCleanDisk (state S.Store conn.new)
-        → OnOk result (IsEntry entry.now → (put_refusal runs run entry.now ≡ None) × (k : _)
-        × (run ≡ suc k) × (k < length runs)
-        × AllByRecursion IsRun (with_entry run entry.now runs)) }
+        → OnOk result (IsEntry entry.now → (put_refusal runs run entry.now ≡ None)
+        × CanAdd run entry.now runs) }
 {
     let (total, finished) = look(conn, run)?;
     if finished {

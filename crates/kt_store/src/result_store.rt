@@ -2,8 +2,9 @@ use crate::run_head::RunHead;
 use crate::store_fault::StoreFault;
 use kt_base::Entry;
 
-/// Where runs are recorded. Each call's refusals come in a stated order and change nothing; `NoMemory` and `Store` come
-/// where memory or the store itself failed. What was read is right while the store is sound.
+/// Where runs are recorded. Each call's refusals come in a stated order and change nothing;
+/// `NoMemory` and `Store` come where memory or the store itself failed. What was read is right
+/// while the store is sound.
 pub trait ResultStore {
     ghost use Rattle.std.specs.Prelude.{ℕ, suc, List, [], ◌∷◌, ◌++◌, Some, None, ◌≡◌, ◌≤◌, ◌<◌, ◌⊎◌, length, map, OnOk, OnErr, IfOk, IfErr};
     ghost use Rattle.kt_base.specs.declared.run.Run.{Run};
@@ -13,7 +14,8 @@ pub trait ResultStore {
     ghost use Rattle.kt_store.specs.StoreCalls.{StoreCall, Began, Put, Finished, Heads, Read, seen_as};
     ghost use Rattle.kt_store.specs.declared.store_fault.StoreFault.TheVariants.{StoreFull, NoRun};
 
-    /// Whether a call with its answer leads from the first state to the second, whatever the store gives back later.
+    /// Whether a call with its answer leads from the first state to the second, whatever the store
+    /// gives back later.
     ghost answers: { Self → StoreCall → Self → Type 0 };
 
     /// Whether the store stands for these runs.
@@ -25,8 +27,8 @@ pub trait ResultStore {
     /// Whether a crash at this moment leaves one of these lists of runs, whatever it leaves.
     ghost leaves: { Self → List (List Run) → Type 0 };
 
-    /// Adds an unfinished run of so many cases, and answers its number. The moment is in milliseconds since 1970 in UTC.
-    /// `StoreFull` where there are 1,000,000 runs.
+    /// Adds an unfinished run of so many cases, and answers its number. The moment is in
+    /// milliseconds since 1970 in UTC. `StoreFull` where there are 1,000,000 runs.
     fn begin(&mut self, total: u32, moment: u64) -> Result<u64, StoreFault>
         requires { moment ≤ 253402300799999 }
         ensures asked { answers self.old (Began total moment result) self.new }
@@ -42,15 +44,16 @@ pub trait ResultStore {
             → IfErr result (λ e. IsStoreFault e ⊎ ((e ≡ StoreFull) × (1000000 ≤ length runs))) }
         ensures earlier { (runs : List Run) → stands self.old runs → sound self.new
             → sound self.old }
-        // A crash leaves what it left before the call, or the runs with the new one; after Ok nothing else.
+        // A crash leaves what it left before the call, or the runs with the new one; after Ok
+        // nothing else.
         ensures crash { (runs : List Run) (may : List (List Run)) → stands self.old runs
             → leaves self.old (runs ∷ may)
             → leaves self.new (runs ∷ (runs ++ new_run runs total moment ∷ []) ∷ may) }
         ensures durable { (runs : List Run) → stands self.old runs
             → OnOk result (leaves self.new ((runs ++ new_run runs total moment ∷ []) ∷ [])) };
 
-    /// Adds an entry to a run. Refused, in this order, are: no such run, a run that is finished, a position that is not
-    /// below the total, a position that is there.
+    /// Adds an entry to a run. Refused, in this order, are: no such run, a run that is finished, a
+    /// position that is not below the total, a position that is there.
     fn put(&mut self, run: u64, entry: &Entry) -> Result<(), StoreFault>
         requires { (entry.now.started ≤ 253402300799999) × (entry.now.millis ≤ 253402300799999) }
         ensures asked { answers self.old (Put run entry.now result) self.new }
@@ -64,15 +67,16 @@ pub trait ResultStore {
             → IfErr result (λ e. IsStoreFault e ⊎ (put_refusal runs run entry.now ≡ Some e)) }
         ensures earlier { (runs : List Run) → stands self.old runs → sound self.new
             → sound self.old }
-        // A crash leaves what it left before the call, or the runs with the entry; after Ok nothing else.
+        // A crash leaves what it left before the call, or the runs with the entry; after Ok nothing
+        // else.
         ensures crash { (runs : List Run) (may : List (List Run)) → stands self.old runs
             → leaves self.old (runs ∷ may)
             → leaves self.new (runs ∷ with_entry run entry.now runs ∷ may) }
         ensures durable { (runs : List Run) → stands self.old runs
             → OnOk result (leaves self.new (with_entry run entry.now runs ∷ [])) };
 
-    /// Finishes a run. Refused, in this order, are: no such run, a run that is finished, one with fewer entries than its
-    /// total.
+    /// Finishes a run. Refused, in this order, are: no such run, a run that is finished, one with
+    /// fewer entries than its total.
     fn finish(&mut self, run: u64) -> Result<(), StoreFault>
         ensures asked { answers self.old (Finished run result) self.new }
         ensures finished { (runs : List Run) → stands self.old runs
@@ -85,7 +89,8 @@ pub trait ResultStore {
             → IfErr result (λ e. IsStoreFault e ⊎ (finish_refusal runs run ≡ Some e)) }
         ensures earlier { (runs : List Run) → stands self.old runs → sound self.new
             → sound self.old }
-        // A crash leaves what it left before the call, or the runs with this one finished; after Ok nothing else.
+        // A crash leaves what it left before the call, or the runs with this one finished; after Ok
+        // nothing else.
         ensures crash { (runs : List Run) (may : List (List Run)) → stands self.old runs
             → leaves self.old (runs ∷ may) → leaves self.new (runs ∷ finish run runs ∷ may) }
         ensures durable { (runs : List Run) → stands self.old runs

@@ -42,9 +42,10 @@ impl<S: Alter> Model for Results<S> {
 }
 
 impl<S: Alter> Results<S> {
-    /// Takes the tables of a database; in an empty one it makes them, in one commit, and so it takes
-    /// those of schema 1 to schema 2. A refusal hands the connection back: `UnknownSchema` where the
-    /// tables say a number other than 1 and 2. Of a database with other tables nothing is said.
+    /// Takes the tables of a database; in an empty one it makes them, in one commit, and so it
+    /// takes those of schema 1 to schema 2. A refusal hands the connection back: `UnknownSchema`
+    /// where the tables say a number other than 1 and 2. Of a database with other tables nothing is
+    /// said.
     pub fn attach(
         alloc: Global,
         connection: Connection<S>,
@@ -61,13 +62,15 @@ impl<S: Alter> Results<S> {
             → IfOk result (λ r. Survives (state S.Store connection) (state S.Store r) (λ _. ⊥)) }
         ensures crash_err { (runs : _) → StandsFor (state S.Store connection) runs
             → IfErr result (λ e. Survives (state S.Store connection) (state S.Store e.1) (λ _. ⊥)) }
-        // A crash leaves them too, also where the connection was opened just now; where the call is refused, if it was open.
+        // A crash leaves them too, also where the connection was opened just now; where the call is
+        // refused, if it was open.
         ensures lasting { (runs : _) → StandsFor (state S.Store connection) runs
             → IfOk result (λ r. Leaves (state S.Store r) (Keeps runs)) }
         ensures lasting_err { (runs : _) → StandsFor (state S.Store connection) runs
             → IsTrue (state S.Store connection).is_open
             → IfErr result (λ e. Leaves (state S.Store e.1) (Keeps runs)) }
-        // An empty one then has no run; a crash leaves what it left before, or the tables with no run.
+        // An empty one then has no run; a crash leaves what it left before, or the tables with no
+        // run.
         ensures made { IsEmpty (state S.Store connection)
             → IfOk result (λ r. StandsFor (state S.Store r) []) }
         ensures made_crash { IsEmpty (state S.Store connection)
@@ -81,14 +84,16 @@ impl<S: Alter> Results<S> {
             → IfErr result (λ e. IsEmpty (state S.Store e.1)) }
         ensures made_taken { IsEmpty (state S.Store connection)
             → IfErr result (λ e. HasCleanDisk (state S.Store e.1) → IsStoreFault e.0) }
-        // Tables of schema 1 are taken to schema 2 in one commit, with the same runs; a refusal leaves them as they were.
+        // Tables of schema 1 are taken to schema 2 in one commit, with the same runs; a refusal
+        // leaves them as they were.
         ensures renewed { (runs : _) → StandsInOld (state S.Store connection) runs
             → IfOk result (λ r. StandsFor (state S.Store r) runs) }
         ensures renewed_kept { (runs : _) → StandsInOld (state S.Store connection) runs
             → IfErr result (λ e. StandsInOld (state S.Store e.1) runs) }
         ensures renewed_taken { (runs : _) → StandsInOld (state S.Store connection) runs
             → IfErr result (λ e. HasCleanDisk (state S.Store e.1) → IsStoreFault e.0) }
-        // A crash leaves what it left before, or schema 2 with the same runs; after Ok nothing else.
+        // A crash leaves what it left before, or schema 2 with the same runs; after Ok nothing
+        // else.
         ensures renewed_crash { (runs : _) → StandsInOld (state S.Store connection) runs
             → IfOk result (λ r. Survives (state S.Store connection) (state S.Store r)
             (Keeps runs)) }
@@ -97,7 +102,8 @@ impl<S: Alter> Results<S> {
             (Keeps runs)) }
         ensures renewed_durable { (runs : _) → StandsInOld (state S.Store connection) runs
             → IfOk result (λ r. Leaves (state S.Store r) (Keeps runs)) }
-        // So an open database of schema 1 whose migration is refused is left with the same runs, in schema 1 or 2.
+        // So an open database of schema 1 whose migration is refused is left with the same runs, in
+        // schema 1 or 2.
         ensures renewed_lasting { (runs : _) → StandsInOld (state S.Store connection) runs
             → IsTrue (state S.Store connection).is_open
             → IfErr result (λ e. Leaves (state S.Store e.1) (KeepsEither runs)) }
@@ -114,7 +120,8 @@ impl<S: Alter> Results<S> {
             → IfOk result (λ r. HasCleanDisk (state S.Store r)
             → HasTables n (state S.Store connection)) }
         ensures refused { IfErr result (λ e. IsStoreFault e.0 ⊎ (e.0 ≡ StoreFault.UnknownSchema)) }
-        // `Store` comes only if one of the call's own statements failed, or the transaction that makes the tables.
+        // `Store` comes only if one of the call's own statements failed, or the transaction that
+        // makes the tables.
         ensures cause { (n : ℤ) → SaysSchema n (state S.Store connection) → n ≢ pos 1
             → IfErr result (λ e. HasCleanDisk (state S.Store e.1)
             → IsCaused S.Store attach_statements e.1 e.0) }
@@ -170,7 +177,8 @@ impl<S: Alter> Results<S> {
         ensures cause { (runs : _) → StandsFor (state S.Store self.old) runs
             → HasCleanDisk (state S.Store self.new)
             → IfErr result (IsCaused S.Store (begin_statements total moment) self.new) }
-        // A crash leaves what it left before the call, or the runs with the new one; after Ok nothing else.
+        // A crash leaves what it left before the call, or the runs with the new one; after Ok
+        // nothing else.
         ensures crash { (runs : _) → StandsFor (state S.Store self.old) runs
             → Survives (state S.Store self.old) (state S.Store self.new)
             (Keeps (runs ++ new_run runs total moment ∷ [])) }
@@ -184,9 +192,9 @@ impl<S: Alter> Results<S> {
         add_run(&mut self.conn, total, moment)
     }
 
-    /// Adds an entry and its pairs to a run, in one commit. Refused, in this order, are: no such run, a run that is
-    /// finished, a position that is not below the total, a position that is there. Moments and
-    /// durations are in milliseconds, up to the end of the year 9999.
+    /// Adds an entry and its pairs to a run, in one commit. Refused, in this order, are: no such
+    /// run, a run that is finished, a position that is not below the total, a position that is
+    /// there. Moments and durations are in milliseconds, up to the end of the year 9999.
     pub fn put(&mut self, run: u64, entry: &Entry) -> Result<(), StoreFault>
         requires { (entry.now.started ≤ 253402300799999) × (entry.now.millis ≤ 253402300799999) }
         // The run then has this entry too.
@@ -206,7 +214,8 @@ impl<S: Alter> Results<S> {
             → HasCleanDisk (state S.Store self.new)
             → IfErr result (IsCausedInside S.Store (HoldsRuns S.Store runs)
             (put_statements run entry.now) (entry_statements run entry.now) self.new) }
-        // A crash leaves what it left before the call, or the runs with the entry; after Ok nothing else.
+        // A crash leaves what it left before the call, or the runs with the entry; after Ok nothing
+        // else.
         ensures crash { (runs : _) → StandsFor (state S.Store self.old) runs
             → Survives (state S.Store self.old) (state S.Store self.new)
             (Keeps (with_entry run entry.now runs)) }
@@ -238,7 +247,8 @@ impl<S: Alter> Results<S> {
         ensures cause { (runs : _) → StandsFor (state S.Store self.old) runs
             → HasCleanDisk (state S.Store self.new)
             → IfErr result (IsCaused S.Store (finish_statements run) self.new) }
-        // A crash leaves what it left before the call, or the runs with this one finished; after Ok nothing else.
+        // A crash leaves what it left before the call, or the runs with this one finished; after Ok
+        // nothing else.
         ensures crash { (runs : _) → StandsFor (state S.Store self.old) runs
             → Survives (state S.Store self.old) (state S.Store self.new) (Keeps (finish run runs)) }
         ensures durable { (runs : _) → StandsFor (state S.Store self.old) runs
@@ -269,8 +279,8 @@ impl<S: Alter> Results<S> {
         Ok(found)
     }
 
-    /// The entries of a run with their pairs, by position. `NoRun` where no run has the number. A reason
-    /// comes back as its text.
+    /// The entries of a run with their pairs, by position. `NoRun` where no run has the number. A
+    /// reason comes back as its text.
     pub fn entries(&mut self, run: u64) -> Result<Vec<Entry>, StoreFault>
         ensures found { (runs : _) → StandsFor (state S.Store self.old) runs
             → HasCleanDisk (state S.Store self.new)

@@ -3,6 +3,7 @@ ghost use Rattle.sqlite.specs.Values.{bound};
 ghost use Rattle.sqlite.specs.State.{HasCleanDisk, Survives, ExecutesInside, KeepsCommit};
 ghost use Rattle.sqlite.specs.Held.{state};
 ghost use Rattle.kt_store.specs.Fault.{Tells};
+ghost use Rattle.kt_store.specs.Kept.{CommitsNothing};
 ghost use Rattle.kt_store.specs.Ask.{Rests, Asked, Told, MayFail, MayShow, MayTell, IsStoreFault};
 
 use crate::store_fault::StoreFault;
@@ -73,8 +74,7 @@ pub(crate) fn step<S: Alter>(
     ensures keeps { HasCleanDisk (state S.Store tx.new.conn.now)
         → KeepsCommit (state S.Store tx.old.conn.now) (state S.Store tx.new.conn.now) }
     ensures failed { IfErr result IsStoreFault }
-    ensures survives { Survives (state S.Store tx.old.conn.now) (state S.Store tx.new.conn.now)
-        (λ _. ⊥) }
+    ensures survives { CommitsNothing S.Store tx.old.conn.now tx.new.conn.now }
 {
     let count = tx.execute(sql, params)?;
     Ok(())

@@ -1,4 +1,3 @@
-pub mod Texts
 pub mod Directories
 pub mod Tables
 pub mod TableLoops

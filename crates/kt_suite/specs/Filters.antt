@@ -4,17 +4,7 @@ use Rattle.std.specs.List.{slice_split, join_with_byte}
 use Rattle.kt_suite.specs.declared.filter.Filter.{Filter}
 use Rattle.kt_suite.specs.declared.filter_fault.FilterFault.{FilterFault}
 use Rattle.kt_suite.specs.declared.filter_fault.FilterFault.TheVariants.{NoMemory, Empty, Absolute, EmptyCase}
-use Rattle.kt_suite.specs.Paths.{is_empty}
-
--- a text up to its first colon
-abbrev pub before_colon : List ℕ → List ℕ
-before_colon [] = []
-before_colon (c ∷ text) = if c == 58 then [] else c ∷ before_colon text
-
--- what follows its first colon, if it has one
-abbrev pub after_colon : List ℕ → Option (List ℕ)
-after_colon [] = None
-after_colon (c ∷ text) = if c == 58 then Some text else after_colon text
+use Rattle.kt_base.specs.Texts.{is_empty, before, after}
 
 -- a character separates components
 abbrev pub is_separator : ℕ → Bool
@@ -71,7 +61,7 @@ meaning_of_parts path case_name = unless_wrong (parts_fault path case_name) (fil
 
 -- what a text says as a filter
 abbrev pub filter_meaning : List ℕ → Meaning
-filter_meaning text = meaning_of_parts (before_colon text) (after_colon text)
+filter_meaning text = meaning_of_parts (before 58 text) (after 58 text)
 
 -- memory ran out, or this was answered
 abbrev pub Answers : Result Filter FilterFault → Meaning → Type 0

@@ -17,7 +17,8 @@ use Rattle.kt_suite.specs.declared.meaning.Meaning.TheVariants as meaning
 use Rattle.kt_suite.specs.declared.program_table.ProgramTable.{ProgramTable}
 use Rattle.kt_suite.specs.Calls.{call_named}
 use Rattle.kt_suite.specs.Tables.{declared}
-use Rattle.kt_suite.specs.Paths.{is_empty, has_directory, leads_down}
+use Rattle.kt_suite.specs.Paths.{has_directory, leads_down}
+use Rattle.kt_base.specs.Texts.{is_empty}
 
 -- the argument of `syntax` is refused for this
 abbrev pub version_fault : Arg → Option SuiteCause

@@ -1,9 +1,9 @@
 ghost use Rattle.std.specs.Prelude.{◌≡◌, ◌↔◌, IsTrue};
 
 use crate::filter_fault::FilterFault;
-use crate::filter_text::{parts_fault, plain_path, split_at_colon};
+use crate::filter_text::{parts_fault, plain_path};
 use crate::within::is_within;
-use crate::words::{is_empty, is_same};
+use crate::words::is_same;
 use kt_base::Text;
 use std::alloc::Global;
 
@@ -25,12 +25,12 @@ impl Filter {
     pub fn parse(alloc: Global, text: &Text) -> Result<Filter, FilterFault>
         ensures { Answers result (filter_meaning text.now) }
     {
-        let (path, case_name) = split_at_colon(alloc, text)?;
+        let (path, case_name) = text.split_at_first(':')?;
         if let Some(fault) = parts_fault(&path, &case_name) {
             return Err(fault);
         }
         let program = plain_path(alloc, &path)?;
-        if is_empty(&program) {
+        if program.is_empty() {
             return Err(FilterFault::Empty);
         }
         Ok(Filter { program, case_name })

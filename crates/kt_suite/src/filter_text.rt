@@ -1,34 +1,9 @@
 ghost use Rattle.std.specs.Prelude.{◌≡◌, IfOk, OnOk};
-ghost use Rattle.kt_suite.specs.Filters.{before_colon, after_colon, counts, joined, with_component, plain_path, case_fault, parts_fault};
+ghost use Rattle.kt_suite.specs.Filters.{counts, joined, with_component, plain_path, case_fault, parts_fault};
 
 use crate::filter_fault::FilterFault;
-use crate::words::{is_empty, is_word};
 use kt_base::{NoMemory, Text};
 use std::alloc::Global;
-
-fn characters(alloc: Global, text: &Text) -> Result<Vec<char>, NoMemory>
-    ensures { IfOk result (λ characters. characters.items ≡ text.now) }
-{
-    Ok(text.as_str().chars().collect(alloc)?)
-}
-
-/// A text up to its first colon, and what follows the colon.
-pub fn split_at_colon(alloc: Global, text: &Text) -> Result<(Text, Option<Text>), NoMemory>
-    ensures path { IfOk result (λ parts. parts.0 ≡ before_colon text.now) }
-    ensures case_name { IfOk result (λ parts. parts.1 ≡ after_colon text.now) }
-{
-    let characters = characters(alloc, text)?;
-    let mut path = Text::new(alloc);
-    let mut rest = characters.as_slice();
-    while let Some((c, after)) = rest.split_first() {
-        if *c == ':' {
-            return Ok((path, Some(Text::from_characters(alloc, after)?)));
-        }
-        path.push(*c)?;
-        rest = after;
-    }
-    Ok((path, None))
-}
 
 /// What is wrong with a case part.
 fn case_fault(case_name: &Option<Text>) -> Option<FilterFault>
@@ -37,7 +12,7 @@ fn case_fault(case_name: &Option<Text>) -> Option<FilterFault>
     match case_name {
         None => None,
         Some(name) => {
-            if is_empty(name) {
+            if name.is_empty() {
                 return Some(FilterFault::EmptyCase);
             }
             None
@@ -60,14 +35,14 @@ pub fn parts_fault(path: &Text, case_name: &Option<Text>) -> Option<FilterFault>
 fn counts(component: &Text) -> bool
     ensures { result ≡ counts component.now }
 {
-    !is_empty(component) && !is_word(component, ".")
+    !component.is_empty() && !component.is_word(".")
 }
 
 /// Appends a component that counts.
 fn push_component(path: &mut Text, component: &Text) -> Result<(), NoMemory>
     ensures { OnOk result (path.new ≡ joined path.old component.now) }
 {
-    if is_empty(path) {
+    if path.is_empty() {
         path.push_str(component.as_str())?;
         return Ok(());
     }
@@ -90,7 +65,7 @@ fn add_component(path: &mut Text, component: &Text) -> Result<(), NoMemory>
 pub fn plain_path(alloc: Global, path: &Text) -> Result<Text, NoMemory>
     ensures { IfOk result (λ plain. plain ≡ plain_path path.now) }
 {
-    let characters = characters(alloc, path)?;
+    let characters = path.characters()?;
     let mut plain = Text::new(alloc);
     let mut component = Text::new(alloc);
     let mut rest = characters.as_slice();

@@ -1,7 +1,6 @@
 ghost use Rattle.std.specs.Prelude.{◌≡◌};
 ghost use Rattle.kt_suite.specs.Calls.{key_named};
 
-use crate::words::is_word;
 use kt_base::Text;
 use kt_metadata::is_kyuafile_property;
 
@@ -19,9 +18,9 @@ pub enum Key {
 pub fn key_of(name: &Text) -> Key
     ensures { result ≡ key_named name.now }
 {
-    if is_word(name, "name") {
+    if name.is_word("name") {
         Key::Name
-    } else if is_word(name, "test_suite") {
+    } else if name.is_word("test_suite") {
         Key::TestSuite
     } else if is_kyuafile_property(name) {
         Key::Property

@@ -38,7 +38,7 @@ pub use filter::Filter;
 pub use filter_fault::FilterFault;
 pub use item::Item;
 pub use loader::load;
-pub use paths::split_path;
+pub use paths::{parent_path, split_path};
 pub use program::Program;
 pub use read_fault::ReadFault;
 pub use select_fault::SelectFault;

@@ -1,16 +1,9 @@
 ghost use Rattle.std.specs.Prelude.{◌≡◌, IfOk};
 ghost use Rattle.std.specs.List.{list_any, list_all, slice_split};
-ghost use Rattle.kt_suite.specs.Paths.{directory_of, name_in, beside, has_directory, is_slash, is_component, leads_down};
+ghost use Rattle.kt_suite.specs.Paths.{directory_of, without_last, parent_of, name_in, beside, has_directory, is_slash, is_component, leads_down};
 
-use crate::words::is_word;
 use kt_base::{NoMemory, Text};
 use std::alloc::Global;
-
-fn characters(alloc: Global, text: &Text) -> Result<Vec<char>, NoMemory>
-    ensures { IfOk result (λ characters. characters.items ≡ text.now) }
-{
-    Ok(text.as_str().chars().collect(alloc)?)
-}
 
 /// A path up to and with its last slash.
 fn directory(path: &[char]) -> &[char]
@@ -31,7 +24,7 @@ pub fn split_path(alloc: Global, path: &Text) -> Result<(Text, Text), NoMemory>
     ensures directory { IfOk result (λ parts. parts.0 ≡ directory_of path.now) }
     ensures name { IfOk result (λ parts. parts.1 ≡ name_in path.now) }
 {
-    let path = characters(alloc, path)?;
+    let path = path.characters()?;
     let front = directory(&path);
     let name = &path[front.len()..];
     Ok((
@@ -40,11 +33,28 @@ pub fn split_path(alloc: Global, path: &Text) -> Result<(Text, Text), NoMemory>
     ))
 }
 
+fn without_last(path: &[char]) -> &[char]
+    ensures { result.now ≡ without_last path.now }
+{
+    match path.split_last() {
+        None => path,
+        Some((_, front)) => front,
+    }
+}
+
+/// What stands before the last slash of a path: its directory, which is empty for a path directly below `/`.
+pub fn parent_path(alloc: Global, path: &Text) -> Result<Text, NoMemory>
+    ensures { IfOk result (λ parent. parent ≡ parent_of path.now) }
+{
+    let characters = path.characters()?;
+    Text::from_characters(alloc, without_last(directory(&characters)))
+}
+
 /// The path of a name in the directory of a file.
 pub fn path_beside(alloc: Global, file: &Text, name: &Text) -> Result<Text, NoMemory>
     ensures { IfOk result (λ path. path ≡ beside file.now name.now) }
 {
-    let file = characters(alloc, file)?;
+    let file = file.characters()?;
     let mut path = Text::from_characters(alloc, directory(&file))?;
     path.push_str(name.as_str())?;
     Ok(path)
@@ -60,8 +70,8 @@ fn has_slash(name: &[char]) -> bool
 pub fn leads_away(alloc: Global, name: &Text) -> Result<bool, NoMemory>
     ensures { IfOk result (λ away. away ≡ has_directory name.now) }
 {
-    let characters = characters(alloc, name)?;
-    Ok(has_slash(&characters) || is_word(name, ".") || is_word(name, ".."))
+    let characters = name.characters()?;
+    Ok(has_slash(&characters) || name.is_word(".") || name.is_word(".."))
 }
 
 fn is_component(part: &[char]) -> bool
@@ -80,6 +90,6 @@ fn are_components(path: &[char]) -> bool
 pub fn leads_down(alloc: Global, path: &Text) -> Result<bool, NoMemory>
     ensures { IfOk result (λ down. down ≡ leads_down path.now) }
 {
-    let characters = characters(alloc, path)?;
+    let characters = path.characters()?;
     Ok(are_components(&characters))
 }

@@ -7,7 +7,6 @@ use crate::meaning::Meaning;
 use crate::paths::{leads_away, leads_down};
 use crate::program_table::ProgramTable;
 use crate::table::read_table;
-use crate::words::is_empty;
 use kt_base::{Interface, NoMemory, Text};
 use kt_metadata::Props;
 use kt_script::{Action, Arg, Literal};
@@ -46,7 +45,7 @@ fn read_suite(alloc: Global, arg: &Arg) -> Result<Meaning, NoMemory>
         Arg::Table(_) => Ok(Meaning::Wrong(SuiteCause::BadValue)),
         Arg::Value(value) => {
             let text = value.text(alloc)?;
-            if is_empty(&text) {
+            if text.is_empty() {
                 return Ok(Meaning::Wrong(SuiteCause::BadValue));
             }
             Ok(Meaning::Suite(text))
@@ -65,7 +64,7 @@ fn with_suite(
 {
     match own {
         Some(suite) => {
-            if is_empty(&suite) {
+            if suite.is_empty() {
                 return Ok(Meaning::Wrong(SuiteCause::BadValue));
             }
             Ok(Meaning::Program(interface, name, suite, props))
@@ -90,7 +89,7 @@ fn with_name(
     match name {
         None => Ok(Meaning::Wrong(SuiteCause::BadValue)),
         Some(name) => {
-            if is_empty(&name) {
+            if name.is_empty() {
                 return Ok(Meaning::Wrong(SuiteCause::BadValue));
             }
             if leads_away(alloc, &name)? {

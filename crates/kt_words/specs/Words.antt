@@ -1,10 +1,10 @@
 -- What the words of a command line's options mean.
-use Rattle.std.specs.Prelude.{ℕ, Bool, true, false, not, ◌≡◌, ◌==◌, ◌&&◌, ⊤, List, [], ◌∷◌, Option, Some, None, Result, Ok, Err, nat_lt, bytes_eq, codes, option_map, option_and_then, if◌then◌else◌}
+use Rattle.std.specs.Prelude.{ℕ, Bool, true, false, not, ◌≡◌, ◌==◌, ◌&&◌, ⊤, List, [], ◌∷◌, Option, Some, None, Result, Ok, Err, length, nat_lt, bytes_eq, codes, option_map, option_and_then, if◌then◌else◌}
+use Rattle.std.specs.List.{list_all}
 use Rattle.kt_base.specs.declared.kind.Kind.{Kind}
 use Rattle.kt_base.specs.declared.kind.Kind.TheVariants.{Passed, Skipped, ExpectedFailure, Failed, Broken}
 use Rattle.kt_base.specs.Kinds.{word}
-use Rattle.kt_script.specs.Letters.{is_digit}
-use Rattle.kt_script.specs.Words.{decimal_from}
+use Rattle.kt_base.specs.Digits.{is_digit, decimal_from, up_to}
 use Rattle.kt_words.specs.declared.command_fault.CommandFault.{CommandFault}
 use Rattle.kt_words.specs.declared.command_fault.CommandFault.TheVariants as fault
 
@@ -58,18 +58,13 @@ default_kinds = Skipped ∷ ExpectedFailure ∷ Broken ∷ Failed ∷ []
 
 -- ---- numbers of runs
 
-abbrev pub are_digits : List ℕ → Bool
-are_digits [] = true
-are_digits (c ∷ cs) = is_digit c && are_digits cs
-
 -- one digit or more, and nothing else
 abbrev pub is_number : List ℕ → Bool
-is_number [] = false
-is_number (c ∷ cs) = is_digit c && are_digits cs
+is_number w = nat_lt 0 (length w) && list_all is_digit w
 
--- a number that is not above the greatest one of a run
-abbrev pub up_to_last : ℕ → Option ℕ
-up_to_last n = if nat_lt 1000000 n then None else Some n
+-- the greatest number of a run
+abbrev pub last_run : ℕ
+last_run = 1000000
 
 -- runs are counted from 1
 abbrev pub from_one : ℕ → Option ℕ
@@ -77,4 +72,4 @@ from_one n = if n == 0 then None else Some n
 
 -- the number of a run that a word is
 abbrev pub run_named : List ℕ → Option ℕ
-run_named w = if is_number w then option_and_then from_one (up_to_last (decimal_from 0 w)) else None
+run_named w = if is_number w then option_and_then from_one (up_to last_run (decimal_from 0 w)) else None

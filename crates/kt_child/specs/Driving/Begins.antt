@@ -1,6 +1,7 @@
 -- The start of a child, and what it makes of the running children.
 use Rattle.std.specs.Prelude.{ℕ, Bool, ◌==◌, ◌&&◌, ◌≡◌, ◌⊎◌, List, [], ◌∷◌, ◌++◌, Option, Some, Result, Ok, Err, if◌then◌else◌}
 use Rattle.kt_base.specs.declared.role.Role.{Role}
+use Rattle.kt_base.specs.declared.role.Role.TheVariants.{Body, Cleanup}
 use Rattle.kt_base.specs.declared.refused.Refused.{Refused}
 use Rattle.kt_base.specs.declared.refused.Refused.TheVariants.{Memory}
 use Rattle.kt_sched.specs.declared.start_answer.StartAnswer.{StartAnswer}
@@ -29,6 +30,16 @@ abbrev pub BegunCleanup : Spawning → List ℕ → List Call → StartAnswer �
 BegunCleanup plan dir calls answer =
     ((done : Bool) × (calls ≡ RemoveTree dir done ∷ []) × (answer ≡ RefusedFor Memory))
     ⊎ ((r : Result ℕ Refused) × Started (child_asks plan) dir calls r × (answer ≡ answer_of r))
+
+-- a start whose memory was there, by what the child is started for
+abbrev pub StartedFor : Role → Spawning → List ℕ → List Call → Result ℕ Refused → Type 0
+StartedFor Body plan dir calls r = StartedAfresh (furnish_asks plan) dir calls r
+StartedFor Cleanup plan dir calls r = Started (child_asks plan) dir calls r
+
+-- a start, by what the child is started for
+abbrev pub Begun : Role → Spawning → List ℕ → List Call → StartAnswer → Type 0
+Begun Body plan dir calls answer = BegunBody plan dir calls answer
+Begun Cleanup plan dir calls answer = BegunCleanup plan dir calls answer
 
 -- a started child is the last of the running children, and no member of the turn that goes on
 abbrev pub state_after_start : ChildrenState → Watched → Case → StartAnswer → ChildrenState

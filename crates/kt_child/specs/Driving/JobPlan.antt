@@ -1,9 +1,9 @@
 -- What a job's child is started with.
-use Rattle.std.specs.Prelude.{ℕ, List, [], ◌∷◌, ◌++◌, codes, if◌then◌else◌}
-use Rattle.std.specs.List.{list_any}
+use Rattle.std.specs.Prelude.{ℕ, List, ◌++◌, codes, if◌then◌else◌}
 use Rattle.kt_base.specs.declared.role.Role.{Role}
 use Rattle.kt_base.specs.declared.role.Role.TheVariants.{Body, Cleanup}
-use Rattle.kt_suite.specs.Paths.{is_slash}
+use Rattle.kt_base.specs.Texts.{is_empty}
+use Rattle.kt_suite.specs.Paths.{parent_of}
 use Rattle.kt_sched.specs.declared.job.Job.{Job}
 use Rattle.kt_child.specs.declared.planning.paths.Paths.{Paths}
 use Rattle.kt_child.specs.declared.planning.want.Want.{Want}
@@ -19,10 +19,9 @@ use Rattle.kt_child.specs.Ending.Ends.{err_of, out_of}
 abbrev pub program_path : List ℕ → List ℕ → List ℕ
 program_path source program = source ++ codes "/" ++ program
 
--- what stands before the last slash of a path
-abbrev pub parent_of : List ℕ → List ℕ
-parent_of [] = []
-parent_of (c ∷ cs) = if list_any is_slash cs then c ∷ parent_of cs else []
+-- the directory of an absolute path, `/` directly below it
+abbrev pub program_directory : List ℕ → List ℕ
+program_directory path = if is_empty (parent_of path) then codes "/" else parent_of path
 
 -- what a child of a case is started for
 abbrev pub want_of : Role → Want
@@ -40,7 +39,7 @@ spawning_of source job role attempt paths =
     record {
       child = record { attempt = attempt; role = role };
       program = program_path source job.program;
-      words = words_of job.interface (want_of role) paths.result (parent_of (program_path source job.program)) job.vars job.case_name;
+      words = words_of job.interface (want_of role) paths.result (program_directory (program_path source job.program)) job.vars job.case_name;
       env = env_of job.interface job.vars paths.work;
       work = paths.work;
       out = out_of role paths;

@@ -17,7 +17,7 @@ use Rattle.kt_child.specs.declared.planning.spawning.Spawning.{Spawning}
 use Rattle.kt_child.specs.System.Calls.{Call, Chain, ReadFile, RemoveTree}
 use Rattle.kt_child.specs.Planning.ChildPlan.{env_of, paths_of, words_of}
 use Rattle.kt_child.specs.Polling.ChildOutcome.{fresh}
-use Rattle.kt_child.specs.Driving.JobPlan.{parent_of, program_path}
+use Rattle.kt_child.specs.Driving.JobPlan.{program_directory, program_path}
 use Rattle.kt_child.specs.Starting.Starts.{SetUp, furnish_asks}
 use Rattle.kt_child.specs.Polling.Turns.{WaitedUntil}
 use Rattle.kt_child.specs.Ending.Reads.{IsListWithin, list_of}
@@ -28,7 +28,7 @@ listing_of source program variables attempt paths =
     record {
       child = record { attempt = attempt; role = Body };
       program = program_path source program;
-      words = words_of Atf want.List paths.result (parent_of (program_path source program)) variables [];
+      words = words_of Atf want.List paths.result (program_directory (program_path source program)) variables [];
       env = env_of Atf variables paths.work;
       work = paths.work;
       out = paths.out;

@@ -7,7 +7,7 @@ ghost use Rattle.kt_child.specs.Driving.JobPlan.{case_of, limit_of, spawning_of,
 use crate::ending::ends::{err_path, out_path};
 use crate::planning::case::Case;
 use crate::planning::environment::env_plan;
-use crate::planning::locations::{absolute_path, parent_path};
+use crate::planning::locations::{absolute_path, program_directory};
 use crate::planning::paths::Paths;
 use crate::planning::spawning::Spawning;
 use crate::planning::want::Want;
@@ -44,7 +44,7 @@ pub(crate) fn spawning(
     ensures { IfOk result (λ plan. plan ≡ spawning_of source.now job.now role attempt paths.now) }
 {
     let program = absolute_path(source, &job.program)?;
-    let directory = parent_path(alloc, &program)?;
+    let directory = program_directory(alloc, &program)?;
     let words = argv_plan(
         alloc,
         job.interface,

@@ -44,7 +44,7 @@ pub(crate) fn begin_body<O: Os>(
         Err(refusal) => StartAnswer::Refused(memory_refusal(refusal)),
         Ok(planned) => {
             let child = fresh_child(job, Role::Body, attempt);
-            running.start_body(os, child, planned.case, &planned.plan)
+            running.start(os, Role::Body, child, planned.case, &planned.plan)
         }
     }
 }
@@ -85,7 +85,7 @@ pub(crate) fn begin_cleanup<O: Os>(
                 cleanup: job.cleanup,
                 paths: owed.paths,
             };
-            running.start_cleanup(os, child, case, &plan)
+            running.start(os, Role::Cleanup, child, case, &plan)
         }
     }
 }

@@ -5,7 +5,7 @@ ghost use Rattle.kt_child.specs.Driving.Lists.{ListsBy, RanList, WatchedList, li
 
 use crate::ending::reads::read_list;
 use crate::planning::environment::env_plan;
-use crate::planning::locations::{absolute_path, parent_path};
+use crate::planning::locations::{absolute_path, program_directory};
 use crate::planning::paths::Paths;
 use crate::planning::spawning::Spawning;
 use crate::planning::want::Want;
@@ -67,7 +67,7 @@ fn listing(
         paths.now) }
 {
     let program = absolute_path(source, program)?;
-    let directory = parent_path(alloc, &program)?;
+    let directory = program_directory(alloc, &program)?;
     let none = Text::new(alloc);
     let words = argv_plan(
         alloc,

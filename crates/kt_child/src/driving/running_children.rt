@@ -1,7 +1,9 @@
-ghost use Rattle.std.specs.Prelude.{◌≡◌, ◌+◌, ◌<◌, ◌≤◌, length, slice_get, Some, remove, OnOk, true};
+ghost use Rattle.std.specs.Prelude.{◌≡◌, ◌+◌, ◌<◌, ◌≤◌, length, List, slice_get, Some, remove, IfOk, OnOk, true};
 ghost use Rattle.std.specs.Vec.{vec_len, vec_capacity};
 ghost use Rattle.kt_child.specs.declared.planning.case.Case.{Case};
+ghost use Rattle.kt_child.specs.Driving.Begins.{Begun, StartedFor};
 ghost use Rattle.kt_child.specs.Driving.ChildrenState.{is_among, pending_with};
+ghost use Rattle.kt_child.specs.System.Calls.{Call, Chain};
 
 use crate::ending::ends::{leave, over};
 use crate::planning::case::Case;
@@ -12,7 +14,7 @@ use crate::polling::watched::Watched;
 use crate::starting::refusals::memory_refusal;
 use crate::starting::starts::{start_body, start_cleanup};
 use crate::system::os::Os;
-use kt_base::NoMemory;
+use kt_base::{LATEST_MOMENT, NoMemory, Refused, Role, Text};
 use kt_sched::{Ended, StartAnswer};
 use std::alloc::Global;
 use std::marker::Model;
@@ -101,15 +103,42 @@ fn forget(children: &mut Vec<Watched>, cases: &mut Vec<Case>, pending: &mut Vec<
     pending.push_reserved(case);
 }
 
+/// Starts a child for this role.
+fn start_child<O: Os>(os: &mut O, role: Role, dir: &Text, plan: &Spawning) -> Result<u64, Refused>
+    ensures asked { (calls : List Call) × Chain O.leads os.old calls os.new
+        × StartedFor role plan.now dir.now calls result }
+    ensures range { IfOk result (λ moment. moment ≤ LATEST_MOMENT) }
+{
+    match role {
+        Role::Body => start_body(os, dir, plan),
+        Role::Cleanup => start_cleanup(os, dir, plan),
+    }
+}
+
+/// Refuses a start for which there is no memory. The directory of a cleanup is removed: its cleanup
+/// isn't asked for again.
+fn refuse<O: Os>(os: &mut O, role: Role, dir: &Text, refusal: NoMemory) -> StartAnswer
+    ensures refused { result ≡ StartAnswer.Refused Refused.Memory }
+    ensures asked { (calls : List Call) × Chain O.leads os.old calls os.new
+        × ((plan : Spawning) → Begun role plan dir.now calls result) }
+{
+    match role {
+        Role::Body => StartAnswer::Refused(memory_refusal(refusal)),
+        Role::Cleanup => {
+            let _ = os.remove_tree(dir);
+            StartAnswer::Refused(memory_refusal(refusal))
+        }
+    }
+}
+
 impl RunningChildren {
     ghost use Rattle.std.specs.Prelude.{◌≡◌, ◌==◌, ℕ, ◌+◌, ◌<◌, List, [], length, slice_get, remove, Some, true, false, if◌then◌else◌};
-    ghost use Rattle.kt_base.specs.declared.role.Role.{Role};
     ghost use Rattle.kt_sched.specs.Children.{Child as Shown, IsEvidence, running_after_end, pending_after_end};
     ghost use Rattle.kt_sched.specs.Moments.{HasMoment, IsMoment};
     ghost use Rattle.kt_child.specs.System.Calls.{Call, Chain};
     ghost use Rattle.kt_child.specs.Polling.Turns.{IsOn};
     ghost use Rattle.kt_child.specs.Driving.ChildrenState.{Waited, count_at, idle_state, is_among, shown_at};
-    ghost use Rattle.kt_child.specs.Driving.Begins.{BegunBody, BegunCleanup, state_after_start, shown_after};
+    ghost use Rattle.kt_child.specs.Driving.Begins.{Begun, state_after_start, shown_after};
 
     /// No running children, which takes no memory.
     pub fn new(alloc: Global) -> RunningChildren
@@ -149,10 +178,11 @@ impl RunningChildren {
         self.pending.remove(place)
     }
 
-    /// Starts the body of this case in a new directory.
-    pub fn start_body<O: Os>(
+    /// Starts a child of this case: its body in a new directory, its cleanup in that of the body.
+    pub fn start<O: Os>(
         &mut self,
         os: &mut O,
+        role: Role,
         child: Watched,
         case: Case,
         plan: &Spawning,
@@ -161,48 +191,16 @@ impl RunningChildren {
         requires free { count_at case.position self.old.cases + count_at case.position
             self.old.pending ≡ 0 }
         ensures begun { (calls : List Call) × Chain O.leads os.old calls os.new
-            × BegunBody plan.now case.paths.dir calls result }
+            × Begun role plan.now case.paths.dir calls result }
         ensures moment { HasMoment result }
         ensures state { self.new ≡ state_after_start self.old child case result }
         ensures running { (k : ℕ) (r : Role) → shown_at self.new.cases k r
             ≡ shown_after (shown_at self.old.cases) case result k r }
     {
         if let Err(refusal) = make_room(&mut self.children, &mut self.cases, &mut self.pending) {
-            return StartAnswer::Refused(memory_refusal(refusal));
+            return refuse(os, role, &case.paths.dir, refusal);
         }
-        match start_body(os, &case.paths.dir, plan) {
-            Err(cause) => StartAnswer::Refused(cause),
-            Ok(moment) => {
-                self.children.push_reserved(child);
-                self.cases.push_reserved(case);
-                StartAnswer::Started(moment)
-            }
-        }
-    }
-
-    /// Starts the cleanup of this case in the directory of its body.
-    pub fn start_cleanup<O: Os>(
-        &mut self,
-        os: &mut O,
-        child: Watched,
-        case: Case,
-        plan: &Spawning,
-    ) -> StartAnswer
-        requires on { IsOn child }
-        requires free { count_at case.position self.old.cases + count_at case.position
-            self.old.pending ≡ 0 }
-        ensures begun { (calls : List Call) × Chain O.leads os.old calls os.new
-            × BegunCleanup plan.now case.paths.dir calls result }
-        ensures moment { HasMoment result }
-        ensures state { self.new ≡ state_after_start self.old child case result }
-        ensures running { (k : ℕ) (r : Role) → shown_at self.new.cases k r
-            ≡ shown_after (shown_at self.old.cases) case result k r }
-    {
-        if let Err(refusal) = make_room(&mut self.children, &mut self.cases, &mut self.pending) {
-            let _ = os.remove_tree(&case.paths.dir);
-            return StartAnswer::Refused(memory_refusal(refusal));
-        }
-        match start_cleanup(os, &case.paths.dir, plan) {
+        match start_child(os, role, &case.paths.dir, plan) {
             Err(cause) => StartAnswer::Refused(cause),
             Ok(moment) => {
                 self.children.push_reserved(child);

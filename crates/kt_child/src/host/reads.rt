@@ -1,11 +1,13 @@
-ghost use Rattle.std.specs.Prelude.{◌≡◌, ◌≢◌, ◌+◌, ◌≤◌, length, MatchResult, IfOk, IfSome, IsSomeAnd};
+ghost use Rattle.std.specs.Prelude.{◌≡◌, ◌≢◌, ◌+◌, ◌≤◌, ◌<◌, length, take, drop, Some, MatchResult, IfOk, OnOk, IfSome, IsSomeAnd};
 ghost use Rattle.std.specs.IoError.{error_kind};
 ghost use Rattle.kt_child.specs.Host.HostAnswers.{IsFront, IsHostRead, IsOpened, IsUnopened};
+ghost use Rattle.kt_child.specs.Host.HostFiles.{TakesAtMost, TakesPiece};
 
 use crate::host::faults::or_fault;
 use crate::system::file_read::FileRead;
 use crate::system::os_fault::OsFault;
 use kt_base::{Bytes, Text};
+use kt_suite::ReadFault;
 use std::alloc::Global;
 use std::fs::File;
 use std::io::{ErrorKind, Read, Seek, SeekFrom};
@@ -15,7 +17,53 @@ use std::{fs, io};
 /// The size of the pieces in which a file is read, in bytes.
 const PIECE: usize = 8_192;
 
-/// Reads to the end, to the first fault, or one byte past the limit. An interrupted read is a fault too.
+/// Appends what one read gives, as far as there is room, and answers how many bytes it gave: none at
+/// the end. An interrupted read is a fault too.
+fn read_piece<F: Read>(file: &mut F, room: &mut [u8], bytes: &mut Bytes) -> Result<usize, ReadFault>
+    requires { 0 < length room.old }
+    ensures taken { IfOk result (λ count. TakesPiece (F.remaining file.old) (F.remaining file.new)
+        (length room.old) bytes.old bytes.new count) }
+    ensures past { TakesAtMost (length room.old) (F.remaining file.old) (F.remaining file.new) }
+{
+    let count = match file.read(room) {
+        Ok(count) => count,
+        Err(_) => return Err(ReadFault::Failed),
+    };
+    match bytes.append(&room[..count]) {
+        Ok(()) => Ok(count),
+        Err(refusal) => Err(ReadFault::Memory(refusal)),
+    }
+}
+
+/// Reads to the end of a file, to the limit, or to the first fault. An interrupted read is a fault
+/// too.
+pub fn read_start<F: Read>(alloc: Global, file: &mut F, limit: usize) -> Result<Bytes, ReadFault>
+    ensures few { IfOk result (λ bytes. length bytes ≤ limit) }
+    // Of a file whose bytes are known, the front is read, and the rest is left.
+    ensures front { IfOk result (λ bytes. IfSome (F.remaining file.old)
+        (λ all. bytes ≡ take limit all)) }
+    ensures rest { OnOk result (IfSome (F.remaining file.old)
+        (λ all. F.remaining file.new ≡ Some (drop limit all))) }
+    // No more is taken, even by a call that fails.
+    ensures past { TakesAtMost limit (F.remaining file.old) (F.remaining file.new) }
+{
+    let mut bytes = Bytes::new(alloc);
+    let mut buffer = [0u8; PIECE];
+    while bytes.len() < limit {
+        let want = PIECE.min(limit - bytes.len());
+        let count = match read_piece(file, &mut buffer[..want], &mut bytes) {
+            Ok(count) => count,
+            Err(fault) => return Err(fault),
+        };
+        if count == 0 {
+            return Ok(bytes);
+        }
+    }
+    Ok(bytes)
+}
+
+/// Reads to the end, to the first fault, or one byte past the limit. An interrupted read is a fault
+/// too.
 pub fn read_front<F: Read>(alloc: Global, file: &mut F, limit: u64) -> Result<FileRead, OsFault>
     ensures within { IsHostRead limit result }
     ensures opened { IsOpened result }
@@ -23,30 +71,16 @@ pub fn read_front<F: Read>(alloc: Global, file: &mut F, limit: u64) -> Result<Fi
     ensures past { IfSome (F.remaining file.old)
         (λ xs. IsSomeAnd (F.remaining file.new) (λ ys. length xs ≤ length ys + limit + 1)) }
 {
-    let mut bytes = Bytes::new(alloc);
-    let mut buffer = [0u8; PIECE];
-    let mut room = limit;
-    for _ in 0..=limit {
-        let want = if room < PIECE as u64 {
-            room as usize + 1
-        } else {
-            PIECE
-        };
-        let count = or_fault(file.read(&mut buffer[..want]))?;
-        if count == 0 {
-            return Ok(FileRead::Part(bytes, false));
-        }
-        let follows = count as u64 > room;
-        let kept = if follows { room as usize } else { count };
-        if bytes.append(&buffer[..kept]).is_err() {
-            return Err(OsFault);
-        }
-        if follows {
-            return Ok(FileRead::Part(bytes, true));
-        }
-        room -= count as u64;
+    let bytes = match read_start(alloc, file, limit as usize) {
+        Ok(bytes) => bytes,
+        Err(_fault) => return Err(OsFault),
+    };
+    if (bytes.len() as u64) < limit {
+        return Ok(FileRead::Part(bytes, false));
     }
-    Err(OsFault)
+    let mut next = [0u8; 1];
+    let count = or_fault(file.read(&mut next))?;
+    Ok(FileRead::Part(bytes, count > 0))
 }
 
 /// Opens a regular file. Anything else that is there, a link too, is a fault: to open a pipe could take for ever.

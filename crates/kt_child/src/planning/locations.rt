@@ -1,7 +1,8 @@
 ghost use Rattle.std.specs.Prelude.{◌≡◌, IfOk};
-ghost use Rattle.kt_child.specs.Driving.JobPlan.{parent_of, program_path};
+ghost use Rattle.kt_child.specs.Driving.JobPlan.{program_directory, program_path};
 
 use kt_base::{NoMemory, Text};
+use kt_suite::parent_path;
 use std::alloc::Global;
 
 /// The absolute path of a program, by the absolute directory of the root Kyuafile.
@@ -14,30 +15,13 @@ pub(crate) fn absolute_path(source: &Text, program: &Text) -> Result<Text, NoMem
     Ok(path)
 }
 
-/// What stands before the last slash of a path.
-fn parent(path: &[char]) -> &[char]
-    ensures { result.now ≡ parent_of path.now }
+/// The directory of an absolute path, `/` for a path directly below it.
+pub(crate) fn program_directory(alloc: Global, path: &Text) -> Result<Text, NoMemory>
+    ensures { IfOk result (λ directory. directory ≡ program_directory path.now) }
 {
-    let mut rest = path;
-    while let Some((last, before)) = rest.split_last() {
-        if *last == '/' {
-            return before;
-        }
-        rest = before;
+    let parent = parent_path(alloc, path)?;
+    if parent.is_empty() {
+        return Text::from_str(alloc, "/");
     }
-    rest
-}
-
-fn characters(alloc: Global, text: &Text) -> Result<Vec<char>, NoMemory>
-    ensures { IfOk result (λ characters. characters.items ≡ text.now) }
-{
-    Ok(text.as_str().chars().collect(alloc)?)
-}
-
-/// The directory of an absolute path.
-pub(crate) fn parent_path(alloc: Global, path: &Text) -> Result<Text, NoMemory>
-    ensures { IfOk result (λ directory. directory ≡ parent_of path.now) }
-{
-    let characters = characters(alloc, path)?;
-    Text::from_characters(alloc, parent(&characters))
+    Ok(parent)
 }

@@ -1,9 +1,6 @@
-use Rattle.std.proofs.Common.{◌≡◌, ◌++◌, length}
+use Rattle.std.proofs.Common.{◌≡◌, take}
 use Rattle.kt_cli.proofs.copies.copy_of_entries.Given as goal
 
--- the rest goes behind the copies so far
+-- the entries so far were copied
 abbrev pub invariant-loop-entry : goal.invariant-loop-entry
-invariant-loop-entry l = l.entries ≡ l.copies.items ++ l.rest
-
-abbrev pub decreases-loop-entry : goal.decreases-loop-entry
-decreases-loop-entry l = length l.rest
+invariant-loop-entry l = l.copies.items ≡ take l.entry-index l.entries

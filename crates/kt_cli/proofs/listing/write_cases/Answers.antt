@@ -1,20 +1,27 @@
-use Rattle.std.proofs.Common.{rules, ◌≡◌, ◌∷◌}
-use Rattle.kt_base.proofs.Showing.{shows_error}
-use Rattle.kt_cli.proofs.Saying.{lists_first, lists_more, lists_cut, lists_all}
+use Rattle.std.proofs.Common.{ap}
+use Rattle.kt_base.proofs.Showing.{shows_as, shows_error, shows_none}
+use Rattle.kt_base.specs.Utf8.{utf8}
+use Rattle.kt_plan.specs.declared.candidate.Candidate.{Candidate}
+use Rattle.kt_report.proofs.InTurn.{shows_next, shows_cut_off, shows_whole}
+use Rattle.kt_cli.specs.CaseLines.{case_line}
+use Rattle.kt_cli.proofs.Utf8Sums.{utf8_flat_map}
 use Rattle.kt_cli.proofs.listing.write_cases.Goals as goal
 
 pub loop-case-init : goal.loop-case-init
-loop-case-init g c = lists_first _ _
+loop-case-init g c = shows_none
 
 pub returns-in_err-write_case : goal.returns-in_err-write_case
 returns-in_err-write_case g c =
-    let e : c.loop-case.rest.now ≡ c.in-Some.case.now ∷ c.in-Some.after.now = search rules in
-    shows_error _ _ c.from_residual.ensures.1 (lists_cut _ _ _ _ _ _ _ e c.loop-case.invariant c.in_err-write_case.ensures)
+    let cut = shows_as (ap (λ (k : Candidate). utf8 (case_line k)) c.case-item.is) c.in_err-write_case.ensures in
+    let whole = shows_cut_off (λ (k : Candidate). utf8 (case_line k)) c.args.cases.now c.loop-case.case-index _ c.loop-case-test.true c.loop-case.invariant cut in
+    shows_error _ _ c.from_residual.ensures.1 (shows_as (utf8_flat_map case_line c.args.cases.now) whole)
 
 pub loop-case-preserved : goal.loop-case-preserved
 loop-case-preserved g c =
-    let e : c.loop-case.rest.now ≡ c.in-Some.case.now ∷ c.in-Some.after.now = search rules in
-    lists_more _ _ _ _ _ _ _ e c.loop-case.invariant c.in_ok-write_case.ensures
+    let next = shows_as (ap (λ (k : Candidate). utf8 (case_line k)) c.case-item.is) c.in_ok-write_case.ensures in
+    shows_next (λ (k : Candidate). utf8 (case_line k)) c.args.cases.now c.loop-case.case-index _ c.loop-case-test.true c.loop-case.invariant next
 
 pub returns : goal.returns
-returns g c = lists_all _ _ _ _ c.in_default.ensures.cases c.loop-case.invariant
+returns g c =
+    let whole = shows_whole (λ (k : Candidate). utf8 (case_line k)) c.args.cases.now c.loop-case.case-index c.loop-case-test.false c.loop-case.invariant in
+    shows_as (utf8_flat_map case_line c.args.cases.now) whole

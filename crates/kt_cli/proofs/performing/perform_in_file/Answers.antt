@@ -2,7 +2,7 @@ use Rattle.kt_cli.specs.Performing.{not_opened, closed}
 use Rattle.kt_cli.proofs.performing.perform_in_file.Goals as goal
 
 pub returns-in-Err : goal.returns-in-Err
-returns-in-Err g c = not_opened c.in-Err.fault c.in-Err.ensures c.tell_store_fault.ensures
+returns-in-Err g c = not_opened c.in-Err.fault c.in-Err.ensures c.print_store_fault.ensures
 
 pub returns : goal.returns
 returns g c =

@@ -11,14 +11,14 @@ returns-then-is_some g c =
     let e : is_some c.args.candidate.now.case.fault ≡ true = search rules in
     looks_for_none g.W.World.tells c.args.candidate.now c.args.world.now c.args.files.now c.args.programs.now e
 
-pub returns-in_err-look_for_programs : goal.returns-in_err-look_for_programs
-returns-in_err-look_for_programs g c =
-    let p = err_from_is_err_and c.from_residual-in_err-look_for_programs.result c.from_residual-in_err-look_for_programs.ensures.1 in
-    chain_short g.W.World.tells c.args.world.now c.look_for_files.new.world c.look_for_programs.new.world c.look_for_files.ensures.asked _ _ c.from_residual-in_err-look_for_programs.result p.0 c.look_for_files.ensures.chain c.look_for_programs.ensures p.1
+pub returns-in_err-look_for_words-2 : goal.returns-in_err-look_for_words-2
+returns-in_err-look_for_words-2 g c =
+    let p = err_from_is_err_and c.from_residual-in_err-look_for_words-2.result c.from_residual-in_err-look_for_words-2.ensures.1 in
+    chain_short g.W.World.tells c.args.world.now c.look_for_words.new.world c.look_for_words-2.new.world c.look_for_words.ensures.asked _ _ c.from_residual-in_err-look_for_words-2.result p.0 c.look_for_words.ensures.chain c.look_for_words-2.ensures p.1
 
 pub returns : goal.returns
 returns g c =
     let e : is_some c.args.candidate.now.case.fault ≡ false = search rules in
     let m = c.in_ok-meta.ensures.value in
-    looked_for g.W.World.tells c.args.candidate.now c.args.world.now c.look_for_files.new.world c.look_for_programs.new.world c.as_slice.result.now c.as_slice-2.result.now c.args.files.now c.look_for_files.new.files c.args.programs.now c.look_for_programs.new.programs e
-    (c.as_slice.ensures ∙ ap (λ (meta : Meta). meta.required_files) m) (c.as_slice-2.ensures ∙ ap (λ (meta : Meta). meta.required_programs) m) c.in_ok-look_for_files.ensures c.in_ok-look_for_programs.ensures
+    looked_for g.W.World.tells c.args.candidate.now c.args.world.now c.look_for_words.new.world c.look_for_words-2.new.world c.as_slice.result.now c.as_slice-2.result.now c.args.files.now c.look_for_words.new.found c.args.programs.now c.look_for_words-2.new.found e
+    (c.as_slice.ensures ∙ ap (λ (meta : Meta). meta.required_files) m) (c.as_slice-2.ensures ∙ ap (λ (meta : Meta). meta.required_programs) m) c.in_ok-look_for_words.ensures c.in_ok-look_for_words-2.ensures

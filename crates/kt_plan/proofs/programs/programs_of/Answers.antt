@@ -1,6 +1,7 @@
 use Rattle.std.proofs.Common.{◌≡◌, ◌∙◌, [], ap, sym, refl, inl}
 use Rattle.std.specs.Prelude.{false, true}
-use Rattle.kt_suite.specs.Paths.{is_empty, name_in}
+use Rattle.kt_suite.specs.Paths.{name_in}
+use Rattle.kt_base.specs.Texts.{is_empty}
 use Rattle.kt_plan.proofs.Loading.{not_there, loaded}
 use Rattle.kt_plan.proofs.programs.programs_of.Goals as goal
 

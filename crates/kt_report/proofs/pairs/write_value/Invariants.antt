@@ -1,12 +1,9 @@
-use Rattle.std.proofs.Common.{◌≡◌, ℕ, List, ◌++◌, false, length, map}
+use Rattle.std.proofs.Common.{[], ◌∷◌, ℕ, false, take}
+use Rattle.std.specs.Prelude.{flat_map}
 use Rattle.kt_base.specs.Shows.{Shows}
 use Rattle.kt_report.specs.Pairs.{shown_byte}
 use Rattle.kt_report.proofs.pairs.write_value.Given as goal
 
--- what was written, and the bytes of the rest
+-- the bytes so far were written
 abbrev pub invariant-loop-byte : goal.invariant-loop-byte
-invariant-loop-byte g l = (front : List ℕ) × Shows (g.W.Write.contents l.fn.out) (g.W.Write.contents l.out) false front
-    × (front ++ map shown_byte l.rest ≡ map shown_byte l.fn.value)
-
-abbrev pub decreases-loop-byte : goal.decreases-loop-byte
-decreases-loop-byte g l = length l.rest
+invariant-loop-byte g l = Shows (g.W.Write.contents l.fn.out) (g.W.Write.contents l.out) false (flat_map (λ (b : ℕ). shown_byte b ∷ []) (take l.byte-index l.value))

@@ -1,4 +1,4 @@
-use Rattle.kt_store.proofs.ProbeLemmas.{understood_before, nothing_then, never_old_number}
+use Rattle.kt_store.proofs.ProbeLemmas.{understood_before, asks_then, never_old_number}
 use Rattle.kt_store.proofs.StepLemmas.{rests_then}
 use Rattle.kt_store.proofs.FaultLemmas.{if_same, caused_before, caused_after}
 use Rattle.kt_store.specs.Calls.{table_statements, schema_statements}
@@ -18,13 +18,6 @@ returns-in_err-old-clause-cause g c n says clean =
 pub returns-in_err-old-clause-taken : goal.returns-in_err-old-clause-taken
 returns-in_err-old-clause-taken g c n says which clean = let told = c.in_err-old.ensures.taken n says which clean in search rules
 
-pub returns-in_err-find_tables-clause-rests : goal.returns-in_err-find_tables-clause-rests
-returns-in_err-find_tables-clause-rests g c n says clean =
-    rests_then (state g.S.Store c.args.conn.now) (state g.S.Store c.says_old.new.conn) (state g.S.Store c.find_tables.new.conn) (c.in_ok-old.ensures.same n says (omega (arith, clean, c.find_tables.ensures.survives.clean))) (c.in_err-find_tables.ensures.rests clean)
-
-pub returns-in_err-find_tables-clause-crash : goal.returns-in_err-find_tables-clause-crash
-returns-in_err-find_tables-clause-crash g c n says = nothing_then (state g.S.Store c.args.conn.now) (state g.S.Store c.says_old.new.conn) (state g.S.Store c.find_tables.new.conn) (c.says_old.ensures.crash n says) c.find_tables.ensures.survives
-
 pub returns-in_err-find_tables-clause-cause : goal.returns-in_err-find_tables-clause-cause
 returns-in_err-find_tables-clause-cause g c n says clean =
     let told : IsCaused g.S.Store schema_statements c.find_tables.new.conn c.in_err-find_tables.field-0.0 = caused_after g.S.Store ((meta_text, []) ∷ []) table_statements c.find_tables.new.conn c.in_err-find_tables.field-0.0 (c.in_err-find_tables.ensures.cause clean) in
@@ -32,12 +25,6 @@ returns-in_err-find_tables-clause-cause g c n says clean =
 
 pub returns-clause-same : goal.returns-clause-same
 returns-clause-same g c n says clean = unchanged_then (state g.S.Store c.args.conn.now) (state g.S.Store c.says_old.new.conn) (state g.S.Store c.find_tables.new.conn) (c.in_ok-old.ensures.same n says (omega (arith, clean, c.find_tables.ensures.survives.clean))) (c.in_ok-find_tables.ensures.same clean)
-
-pub returns-clause-rests : goal.returns-clause-rests
-returns-clause-rests g c n says clean = inl (unchanged_then (state g.S.Store c.args.conn.now) (state g.S.Store c.says_old.new.conn) (state g.S.Store c.find_tables.new.conn) (c.in_ok-old.ensures.same n says (omega (arith, clean, c.find_tables.ensures.survives.clean))) (c.in_ok-find_tables.ensures.same clean))
-
-pub returns-clause-crash : goal.returns-clause-crash
-returns-clause-crash g c n says = nothing_then (state g.S.Store c.args.conn.now) (state g.S.Store c.says_old.new.conn) (state g.S.Store c.find_tables.new.conn) (c.says_old.ensures.crash n says) c.find_tables.ensures.survives
 
 pub returns-clause-number : goal.returns-clause-number
 returns-clause-number g c n says clean = c.in_ok-old.ensures.number n says (omega (arith, clean, c.find_tables.ensures.survives.clean))
@@ -52,3 +39,11 @@ returns-clause-tables g c n says clean =
       entries = understood_before (state g.S.Store c.args.conn.now) (state g.S.Store c.says_old.new.conn) entries_text same found.1;
       pairs = λ two. understood_before (state g.S.Store c.args.conn.now) (state g.S.Store c.says_old.new.conn) pairs_text same (found.2 (never_old_number c.in_ok-old.old n two number.0));
     }
+
+pub returns-in_err-find_tables-clause-asks : goal.returns-in_err-find_tables-clause-asks
+returns-in_err-find_tables-clause-asks g c = asks_then g.S.Store c.args.conn.now c.says_old.new.conn c.find_tables.new.conn c.says_old.ensures.asks c.find_tables.ensures.mode c.find_tables.ensures.survives
+    (λ n says clean. rests_then (state g.S.Store c.args.conn.now) (state g.S.Store c.says_old.new.conn) (state g.S.Store c.find_tables.new.conn) (c.in_ok-old.ensures.same n says (omega (arith, clean, c.find_tables.ensures.survives.clean))) (c.in_err-find_tables.ensures.rests clean))
+
+pub returns-clause-asks : goal.returns-clause-asks
+returns-clause-asks g c = asks_then g.S.Store c.args.conn.now c.says_old.new.conn c.find_tables.new.conn c.says_old.ensures.asks c.find_tables.ensures.mode c.find_tables.ensures.survives
+    (λ n says clean. inl (unchanged_then (state g.S.Store c.args.conn.now) (state g.S.Store c.says_old.new.conn) (state g.S.Store c.find_tables.new.conn) (c.in_ok-old.ensures.same n says (omega (arith, clean, c.find_tables.ensures.survives.clean))) (c.in_ok-find_tables.ensures.same clean)))

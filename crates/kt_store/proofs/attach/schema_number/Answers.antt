@@ -2,12 +2,12 @@ use Rattle.kt_store.proofs.FaultLemmas.{first_failed, starved, only_row}
 use Rattle.sqlite_value.specs.Order.{column}
 use Rattle.sqlite.specs.Order.{Row}
 use Rattle.sqlite.specs.declared.types.Value.TheVariants.{Int}
-use Rattle.std.proofs.Common.{inl, ◌∙◌, [], w64, SFits, slice_get, sym, ap, arith, rules, ◌≡◌, ◌∷◌, ◌<◌, length, subst}
+use Rattle.std.proofs.Common.{◌∙◌, [], w64, SFits, slice_get, sym, ap, arith, rules, ◌≡◌, ◌∷◌, ◌<◌, length, subst}
 use Rattle.std.proofs.lemmas.Int.{to_z-of_z}
 use Rattle.std.specs.Option.{option_copied}
 use Rattle.kt_store.specs.Tables.{meta_text}
-use Rattle.kt_store.proofs.AskLemmas.{asked_unchanged, asked_leaves}
-use Rattle.kt_store.proofs.MetaLemmas.{asked_meta, says_plain, read_it, some_row}
+use Rattle.kt_store.proofs.AskLemmas.{asked_unchanged}
+use Rattle.kt_store.proofs.MetaLemmas.{asked_meta, says_plain, read_it, some_row, asks_number, tells_number}
 use Rattle.kt_store.proofs.attach.schema_number.Goals as goal
 
 pub returns-clause-number : goal.returns-clause-number
@@ -24,34 +24,6 @@ pub returns-clause-same : goal.returns-clause-same
 returns-clause-same g c n says clean =
     asked_unchanged g.S.Store c.args.conn.now c.ask.new.conn (λ k. omega (arith, k, c.ask.ensures.survives.clean)) meta_text (says_plain n _ says) [] c.in_ok-rows.rows.items clean (c.in_ok-rows.ensures.rows clean)
 
-pub returns-in_default-clause-rests : goal.returns-in_default-clause-rests
-returns-in_default-clause-rests g c n says clean =
-    inl (asked_unchanged g.S.Store c.args.conn.now c.ask.new.conn (λ k. omega (arith, k, c.ask.ensures.survives.clean)) meta_text (says_plain n _ says) [] c.in_ok-rows.rows.items clean (c.in_ok-rows.ensures.rows clean))
-
-pub returns-in_err-number-clause-rests : goal.returns-in_err-number-clause-rests
-returns-in_err-number-clause-rests g c n says clean =
-    inl (asked_unchanged g.S.Store c.args.conn.now c.ask.new.conn (λ k. omega (arith, k, c.ask.ensures.survives.clean)) meta_text (says_plain n _ says) [] c.in_ok-rows.rows.items clean (c.in_ok-rows.ensures.rows clean))
-
-pub returns-clause-rests : goal.returns-clause-rests
-returns-clause-rests g c n says clean =
-    inl (asked_unchanged g.S.Store c.args.conn.now c.ask.new.conn (λ k. omega (arith, k, c.ask.ensures.survives.clean)) meta_text (says_plain n _ says) [] c.in_ok-rows.rows.items clean (c.in_ok-rows.ensures.rows clean))
-
-pub returns-in_err-rows-clause-crash : goal.returns-in_err-rows-clause-crash
-returns-in_err-rows-clause-crash g c n says =
-    asked_leaves g.S.Store c.args.conn.now c.ask.new.conn (λ k. omega (arith, k, c.ask.ensures.survives.clean)) meta_text (says_plain n _ says) [] c.ask.ensures.survives
-
-pub returns-in_default-clause-crash : goal.returns-in_default-clause-crash
-returns-in_default-clause-crash g c n says =
-    asked_leaves g.S.Store c.args.conn.now c.ask.new.conn (λ k. omega (arith, k, c.ask.ensures.survives.clean)) meta_text (says_plain n _ says) [] c.ask.ensures.survives
-
-pub returns-in_err-number-clause-crash : goal.returns-in_err-number-clause-crash
-returns-in_err-number-clause-crash g c n says =
-    asked_leaves g.S.Store c.args.conn.now c.ask.new.conn (λ k. omega (arith, k, c.ask.ensures.survives.clean)) meta_text (says_plain n _ says) [] c.ask.ensures.survives
-
-pub returns-clause-crash : goal.returns-clause-crash
-returns-clause-crash g c n says =
-    asked_leaves g.S.Store c.args.conn.now c.ask.new.conn (λ k. omega (arith, k, c.ask.ensures.survives.clean)) meta_text (says_plain n _ says) [] c.ask.ensures.survives
-
 pub returns-in_err-rows-clause-cause : goal.returns-in_err-rows-clause-cause
 returns-in_err-rows-clause-cause g c n says clean =
     let told = first_failed g.S.Store (meta_text, []) [] c.args.conn.now c.ask.new.conn _ (c.in_err-rows.ensures.cause clean) in
@@ -64,3 +36,15 @@ returns-in_err-number-clause-cause g c n says clean =
     let there : 0 < length c.in-Some.row.now = subst (λ (l : Row). 0 < length l) (sym first) (omega arith) in
     let told = starved g.S.Store ((meta_text, []) ∷ []) c.ask.new.conn _ (c.in_err-number.ensures.read n there (ap (λ l. column l 0) first)) in
     search rules
+
+pub returns-in_err-rows-clause-asks : goal.returns-in_err-rows-clause-asks
+returns-in_err-rows-clause-asks g c = asks_number g.S.Store c.args.conn.now c.ask.new.conn c.ask.ensures.mode c.ask.ensures.survives (λ clean. c.in_err-rows.ensures.rests clean)
+
+pub returns-in_default-clause-asks : goal.returns-in_default-clause-asks
+returns-in_default-clause-asks g c = tells_number g.S.Store c.args.conn.now c.ask.new.conn c.ask.ensures.mode c.ask.ensures.survives c.in_ok-rows.rows.items (λ clean. c.in_ok-rows.ensures.rows clean)
+
+pub returns-in_err-number-clause-asks : goal.returns-in_err-number-clause-asks
+returns-in_err-number-clause-asks g c = tells_number g.S.Store c.args.conn.now c.ask.new.conn c.ask.ensures.mode c.ask.ensures.survives c.in_ok-rows.rows.items (λ clean. c.in_ok-rows.ensures.rows clean)
+
+pub returns-clause-asks : goal.returns-clause-asks
+returns-clause-asks g c = tells_number g.S.Store c.args.conn.now c.ask.new.conn c.ask.ensures.mode c.ask.ensures.survives c.in_ok-rows.rows.items (λ clean. c.in_ok-rows.ensures.rows clean)

@@ -12,7 +12,7 @@ returns-clause-entry c e sound is meta =
     let code : c.in_ok-code.code ≡ kind_code e.verdict.kind = let q : Int (pos c.in_ok-code.code) ≡ Int (pos (kind_code e.verdict.kind)) = sym c.in_ok-code.ensures.number ∙ ap (λ l. column l 3) is in cc in
     let kind : c.in_ok-kind.kind ≡ e.verdict.kind = let q = c.in_ok-kind.ensures.kind e.verdict.kind code in cc in
     let reason : c.in_ok-reason.reason ≡ e.verdict.reason = c.in_ok-reason.ensures.text e.verdict.reason sound.reason (ap (λ l. column l 4) is) in
-    let verdict : c.verdict_of.result ≡ e.verdict = c.verdict_of.ensures (λ passed. reason ∙ sound.passed (sym kind ∙ passed)) ∙ rw (kind, reason) refl in
+    let verdict : c.of.result ≡ e.verdict = c.of.ensures (λ passed. reason ∙ sound.passed (sym kind ∙ passed)) ∙ rw (kind, reason) refl in
     let started : c.in_ok-started.started ≡ e.started = let q : Int (pos c.in_ok-started.started) ≡ Int (pos e.started) = sym c.in_ok-started.ensures.number ∙ ap (λ l. column l 5) is in cc in
     let millis : c.in_ok-millis.millis ≡ e.millis = let q : Int (pos c.in_ok-millis.millis) ≡ Int (pos e.millis) = sym c.in_ok-millis.ensures.number ∙ ap (λ l. column l 6) is in cc in
     let body : c.in_ok-body.body ≡ e.body = c.in_ok-body.ensures.output e.body (ap (λ l. column l 7) is) (ap (λ l. column l 8) is) in

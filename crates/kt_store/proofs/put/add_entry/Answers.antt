@@ -14,8 +14,8 @@ use Rattle.kt_store.proofs.CommitLemmas.{prepare_causes}
 use Rattle.kt_store.proofs.put.add_entry.Goals as goal
 
 pub returns-in_err-statement-clause-kept : goal.returns-in_err-statement-clause-kept
-returns-in_err-statement-clause-kept g c runs has =
-    on_err c.from_residual.result (rests (state g.S.Store c.args.conn.now) (state g.S.Store c.prepare.new.self) runs has (λ k. omega (arith, k, c.prepare.ensures.survives.clean))
+returns-in_err-statement-clause-kept g c =
+    on_err c.from_residual.result (λ runs has. rests (state g.S.Store c.args.conn.now) (state g.S.Store c.prepare.new.self) runs has (λ k. omega (arith, k, c.prepare.ensures.survives.clean))
     (λ clean. not_run _ _ put_text [] c.in_err-statement.field-0.0 (c.in_err-statement.ensures.err clean [])))
 
 pub returns-in_err-statement-clause-cause : goal.returns-in_err-statement-clause-cause
@@ -50,3 +50,7 @@ returns-clause-crash g c runs has fits =
     let more = Keeps (with_entry c.args.run c.args.entry.now runs) in
     survives_then (state g.S.Store c.args.conn.now) (state g.S.Store c.prepare.new.self) (state g.S.Store c.commit_entry.new.conn) (λ _. ⊥) more more (λ _ db none. absurd none) (λ _ db kept. kept)
     c.prepare.ensures.survives (c.commit_entry.ensures.crash runs mid (λ k. fits (omega (arith, k, c.prepare.ensures.survives.clean))))
+
+pub returns-in_err-commit_entry-clause-kept : goal.returns-in_err-commit_entry-clause-kept
+returns-in_err-commit_entry-clause-kept g c = on_err c.from_residual-in_err-commit_entry.result (λ runs has.
+    c.in_err-commit_entry.ensures.kept runs (still_stands (state g.S.Store c.args.conn.now) (state g.S.Store c.prepare.new.self) (λ k. omega (arith, k, c.prepare.ensures.survives.clean)) (λ k. (c.in_ok-statement.ensures.ok k).1) runs has))

@@ -4,6 +4,7 @@ use Rattle.sqlite.specs.State.{HasCleanDisk, Survives}
 use Rattle.sqlite.specs.Effect.{IsDatabase}
 use Rattle.kt_store.specs.Runs.{Keeps, with_entry}
 use Rattle.kt_store.specs.Stands.{IsStore, StandsFor, Leaves}
+use Rattle.kt_store.specs.Kept.{KeepsRuns}
 use Rattle.kt_store.specs.Calls.{put_statements, entry_statements}
 use Rattle.kt_store.specs.Transactions.{begun, HoldsRuns, IsCausedInside}
 use Rattle.kt_store.proofs.BeginLemmas.{leaves_commit}
@@ -13,13 +14,13 @@ use Rattle.kt_store.proofs.CommitLemmas.{made, undone_stands, committed_stands, 
 use Rattle.kt_store.proofs.put.commit_entry.Goals as goal
 
 pub returns-in_err-fill-clause-kept : goal.returns-in_err-fill-clause-kept
-returns-in_err-fill-clause-kept g c runs has =
+returns-in_err-fill-clause-kept g c =
     let old = c.args.conn.now in
     let left = c.fill.new.tx.conn.now in
     let end = c.drop-tx.new.self.0 in
     let starts = c.transaction-tx.ensures.begun in
     let same : end ≡ c.conn-1.given.0 = search rules in
-    subst (λ h. OnErr c.from_residual.result (StandsFor (state g.S.Store h) runs)) same (on_err c.from_residual.result (
+    subst (λ h. OnErr c.from_residual.result (KeepsRuns g.S.Store old h)) same (on_err c.from_residual.result (λ runs has.
     undone_stands g.S.Store old left end runs has (λ clean. omega (arith, clean, c.drop-tx.ensures.survives.clean, (rw starts at c.fill.ensures.survives).clean))
     (λ clean. stopped g.S.Store (entry_statements c.args.run c.args.entry.now) (begun old) left _ (rw starts at (c.in_err-fill.ensures.cause (omega (arith, clean, c.drop-tx.ensures.survives.clean)) (rw starts refl))).stop)
     (λ clean. c.drop-tx.ensures.undone clean)))
@@ -38,14 +39,14 @@ returns-in_err-fill-clause-cause g c runs has opened =
     search rules)
 
 pub returns-in_err-commit-clause-kept : goal.returns-in_err-commit-clause-kept
-returns-in_err-commit-clause-kept g c runs has =
+returns-in_err-commit-clause-kept g c =
     let old = c.args.conn.now in
     let left = c.fill.new.tx.conn.now in
     let end = c.commit.new.self.0 in
     let starts = c.transaction-tx.ensures.begun in
     let same : end ≡ c.conn-2-1.given.0 = search rules in
     let early : HasCleanDisk (state g.S.Store end) → HasCleanDisk (state g.S.Store left) = λ clean. omega (arith, clean, c.commit.ensures.survives.clean) in
-    subst (λ h. OnErr c.from_residual-in_err-commit.result (StandsFor (state g.S.Store h) runs)) same (on_err c.from_residual-in_err-commit.result (
+    subst (λ h. OnErr c.from_residual-in_err-commit.result (KeepsRuns g.S.Store old h)) same (on_err c.from_residual-in_err-commit.result (λ runs has.
     undone_stands g.S.Store old left end runs has (λ clean. omega (arith, early clean, (rw starts at c.fill.ensures.survives).clean))
     (λ clean. let turn = in_turn g.S.Store (entry_statements c.args.run c.args.entry.now) (begun old) left (rw starts at (c.in_ok-fill.ensures.runs (early clean) (rw starts refl))) in record { was_open = turn.2; committed = λ _. turn.0 })
     (λ clean. let turn = in_turn g.S.Store (entry_statements c.args.run c.args.entry.now) (begun old) left (rw starts at (c.in_ok-fill.ensures.runs (early clean) (rw starts refl))) in

@@ -1,5 +1,5 @@
 use Rattle.std.proofs.Common.{◌∙◌, bytes_eq, ap, List, ℕ, chars}
-use Rattle.kt_suite.proofs.Texts.{bytes_eq-chars}
+use Rattle.kt_base.proofs.Texts.{bytes_eq-chars}
 use Rattle.kt_suite.proofs.words.is_same.Goals as goal
 
 pub returns : goal.returns

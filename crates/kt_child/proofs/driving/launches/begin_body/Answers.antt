@@ -11,8 +11,8 @@ use Rattle.kt_child.specs.Driving.ChildrenState.{ChildrenState, count_at}
 use Rattle.kt_child.proofs.CaseCounts.{none_among, none_shown}
 use Rattle.kt_child.proofs.driving.launches.begin_body.Goals as goal
 
-pub start_body-requires-clause-free : goal.start_body-requires-clause-free
-start_body-requires-clause-free g c =
+pub start-requires-clause-free : goal.start-requires-clause-free
+start-requires-clause-free g c =
     let b = c.args.running.now in
     let i = c.args.job.now.position in
     let p : count_at i b.cases ≡ 0 = none_shown b.cases i c.requires.may.0 c.requires.may.1 in
@@ -26,15 +26,15 @@ returns-in-Ok-clause-starts g c =
     let job = c.args.job.now in
     let n = c.args.next.now in
     let b = c.args.running.now in
-    let r = c.start_body.result in
+    let r = c.start.result in
     let dir = (paths_of c.args.root.now n).dir in
-    let A : Case → Type 0 = λ t. (calls : List Call) × Chain g.O.Os.leads c.args.os.now calls c.start_body.new.os × BegunBody c.in-Ok.planned.plan t.paths.dir calls r in
-    let B : Spawning → Type 0 = λ s. (calls : List Call) × Chain g.O.Os.leads c.args.os.now calls c.start_body.new.os × BegunBody s dir calls r in
+    let A : Case → Type 0 = λ t. (calls : List Call) × Chain g.O.Os.leads c.args.os.now calls c.start.new.os × BegunBody c.in-Ok.planned.plan t.paths.dir calls r in
+    let B : Spawning → Type 0 = λ s. (calls : List Call) × Chain g.O.Os.leads c.args.os.now calls c.start.new.os × BegunBody s dir calls r in
     let K : Watched → ChildrenState = λ k. state_after_start b k c.in-Ok.planned.case r in
     let L : Case → ChildrenState = λ t. state_after_start b (watched_of job Body n) t r in
     inr (
       search rules,
       refl,
-      subst B c.in-Ok.ensures.1 (subst A c.in-Ok.ensures.0 c.start_body.ensures.begun),
-      c.start_body.ensures.state ∙ ap K c.fresh_child-child.ensures.watched ∙ ap L c.in-Ok.ensures.0,
+      subst B c.in-Ok.ensures.1 (subst A c.in-Ok.ensures.0 c.start.ensures.begun),
+      c.start.ensures.state ∙ ap K c.fresh_child-child.ensures.watched ∙ ap L c.in-Ok.ensures.0,
     )

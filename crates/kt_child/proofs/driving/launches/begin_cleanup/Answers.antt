@@ -27,8 +27,8 @@ returns-in-Ok-clause-starts g c =
     let job = c.args.job.now in
     let t = c.take_owed-owed.ensures.taken in
     let owed = c.take_owed-owed.result in
-    let r = c.start_cleanup.result in
-    let B : Spawning → Type 0 = λ s. (calls : List Call) × Chain g.O.Os.leads c.args.os.now calls c.start_cleanup.new.os × BegunCleanup s owed.paths.dir calls r in
+    let r = c.start.result in
+    let B : Spawning → Type 0 = λ s. (calls : List Call) × Chain g.O.Os.leads c.args.os.now calls c.start.new.os × BegunCleanup s owed.paths.dir calls r in
     let K : Watched → ChildrenState = λ k. state_after_start c.take_owed-owed.new.self k (cleaning owed job) r in
     let L : ChildrenState → ChildrenState = λ b. state_after_start b (watched_of job Cleanup owed.attempt) (cleaning owed job) r in (
       t.0,
@@ -36,6 +36,6 @@ returns-in-Ok-clause-starts g c =
       t.1,
       c.take_owed-owed.ensures.position,
       refl,
-      subst B c.in-Ok.ensures c.start_cleanup.ensures.begun,
-      c.start_cleanup.ensures.state ∙ ap K c.fresh_child-child.ensures.watched ∙ ap L t.2,
+      subst B c.in-Ok.ensures c.start.ensures.begun,
+      c.start.ensures.state ∙ ap K c.fresh_child-child.ensures.watched ∙ ap L t.2,
     )

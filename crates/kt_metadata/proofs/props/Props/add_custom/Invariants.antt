@@ -1,4 +1,4 @@
-use Rattle.std.proofs.Common.{◌≡◌, ◌++◌, map, length}
+use Rattle.std.proofs.Common.{◌≡◌, ◌++◌, length}
 use Rattle.kt_config.specs.Values.{variables_in}
 use Rattle.kt_metadata.specs.Listing.{custom_pairs}
 use Rattle.kt_metadata.proofs.props.Props.add_custom.Given as goal

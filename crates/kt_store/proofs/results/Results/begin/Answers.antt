@@ -4,6 +4,7 @@ use Rattle.sqlite.specs.Held.{state}
 use Rattle.sqlite.specs.State.{HasCleanDisk}
 use Rattle.sqlite.proofs.StateLemmas.{survives_then, survives_weaker}
 use Rattle.kt_store.specs.Runs.{Keeps, new_run}
+use Rattle.kt_store.specs.Kept.{Changes, ChangesForGood}
 use Rattle.kt_store.specs.Stands.{StandsFor}
 use Rattle.kt_store.proofs.ViewLemmas.{inside_stands, seen_survives}
 use Rattle.sqlite.specs.declared.types.Value.TheVariants.{Int}
@@ -26,7 +27,7 @@ returns-then-branch-clause-crash g c runs has =
 pub returns-clause-added : goal.returns-clause-added
 returns-clause-added g c runs has =
     let held : StandsFor (state g.S.Store c.self.inside.conn) runs = inside_stands g.S.Store c.self.inside.conn c.args.self.now c.self.view_is runs has in
-    c.add_run.ensures.added runs (c.is_full.ensures.stands runs held) (λ clean. (c.in_ok-is_full.ensures.full runs held clean).1 c.if-branch.false)
+    on_ok_weaker _ (λ (changes : Changes g.S.Store c.is_full.new.conn c.add_run.new.conn (λ runs. length runs < 1000000) (λ runs. runs ++ new_run runs c.args.total c.args.moment ∷ [])). changes runs (c.is_full.ensures.stands runs held) (λ clean. (c.in_ok-is_full.ensures.full runs held clean).1 c.if-branch.false)) c.add_run.ensures.added
 
 pub returns-clause-number : goal.returns-clause-number
 returns-clause-number g c runs has =
@@ -39,7 +40,7 @@ returns-clause-allowed g c runs has clean =
     let mid = c.is_full.ensures.stands runs held in
     let room : HasCleanDisk (state g.S.Store c.is_full.new.conn) → length runs < 1000000 = λ k. (c.in_ok-is_full.ensures.full runs held k).1 c.if-branch.false in
     let added = c.add_run.ensures.crash runs mid room in
-    on_ok_weaker _ (λ _. room (omega (arith, clean, added.clean))) (c.add_run.ensures.added runs mid room)
+    on_ok_weaker _ (λ changes. room (omega (arith, clean, added.clean))) c.add_run.ensures.added
 
 pub returns-clause-crash : goal.returns-clause-crash
 returns-clause-crash g c runs has =
@@ -53,7 +54,7 @@ returns-clause-crash g c runs has =
 pub returns-clause-durable : goal.returns-clause-durable
 returns-clause-durable g c runs has =
     let held : StandsFor (state g.S.Store c.self.inside.conn) runs = inside_stands g.S.Store c.self.inside.conn c.args.self.now c.self.view_is runs has in
-    c.add_run.ensures.durable runs (c.is_full.ensures.stands runs held) (λ clean. (c.in_ok-is_full.ensures.full runs held clean).1 c.if-branch.false)
+    on_ok_weaker _ (λ (changes : ChangesForGood g.S.Store c.is_full.new.conn c.add_run.new.conn (λ runs. length runs < 1000000) (λ runs. runs ++ new_run runs c.args.total c.args.moment ∷ [])). changes runs (c.is_full.ensures.stands runs held) (λ clean. (c.in_ok-is_full.ensures.full runs held clean).1 c.if-branch.false)) c.add_run.ensures.durable
 
 pub returns-then-branch-clause-kept : goal.returns-then-branch-clause-kept
 returns-then-branch-clause-kept g c runs has = c.is_full.ensures.stands runs (inside_stands g.S.Store c.self.inside.conn c.args.self.now c.self.view_is runs has)

@@ -16,18 +16,18 @@ returns-in_err-check-clause-crash g c runs has =
 pub returns-clause-finished : goal.returns-clause-finished
 returns-clause-finished g c runs has =
     let held : StandsFor (state g.S.Store c.self.inside.conn) runs = inside_stands g.S.Store c.self.inside.conn c.args.self.now c.self.view_is runs has in
-    c.in_ok-mark.ensures.marked runs (c.check.ensures.stands runs held) (λ k. let t = c.in_ok-check.ensures.taken runs held k in (t.1, t.2, t.3, t.4, t.5))
+    c.in_ok-mark.ensures.marked runs (c.check.ensures.stands runs held) (λ k. (c.in_ok-check.ensures.taken runs held k).1)
 
 pub returns-clause-allowed : goal.returns-clause-allowed
 returns-clause-allowed g c runs has clean =
     let held : StandsFor (state g.S.Store c.self.inside.conn) runs = inside_stands g.S.Store c.self.inside.conn c.args.self.now c.self.view_is runs has in
-    let early : HasCleanDisk (state g.S.Store c.check.new.conn) = omega (arith, clean, (c.in_ok-mark.ensures.crash runs (c.check.ensures.stands runs held) (λ k. let t = c.in_ok-check.ensures.taken runs held k in (t.1, t.2, t.3, t.4, t.5))).clean) in
+    let early : HasCleanDisk (state g.S.Store c.check.new.conn) = omega (arith, clean, (c.in_ok-mark.ensures.crash runs (c.check.ensures.stands runs held) (λ k. (c.in_ok-check.ensures.taken runs held k).1)).clean) in
     (c.in_ok-check.ensures.taken runs held early).0
 
 pub returns-clause-durable : goal.returns-clause-durable
 returns-clause-durable g c runs has =
     let held : StandsFor (state g.S.Store c.self.inside.conn) runs = inside_stands g.S.Store c.self.inside.conn c.args.self.now c.self.view_is runs has in
-    c.in_ok-mark.ensures.durable runs (c.check.ensures.stands runs held) (λ k. let t = c.in_ok-check.ensures.taken runs held k in (t.1, t.2, t.3, t.4, t.5))
+    c.in_ok-mark.ensures.durable runs (c.check.ensures.stands runs held) (λ k. (c.in_ok-check.ensures.taken runs held k).1)
 
 pub returns-in_err-mark-clause-crash : goal.returns-in_err-mark-clause-crash
 returns-in_err-mark-clause-crash g c runs has =
@@ -35,7 +35,7 @@ returns-in_err-mark-clause-crash g c runs has =
     seen_survives g.S.Store c.self.inside.conn c.args.self.now c.self.view_is c.mark.new.conn (Keeps (finish c.args.run runs)) (
     let more = Keeps (finish c.args.run runs) in
     survives_then (state g.S.Store c.self.inside.conn) (state g.S.Store c.check.new.conn) (state g.S.Store c.mark.new.conn) (λ _. ⊥) more more (λ _ db none. absurd none) (λ _ db kept. kept)
-    (c.check.ensures.crash runs held) (c.mark.ensures.crash runs (c.check.ensures.stands runs held) (λ k. let t = c.in_ok-check.ensures.taken runs held k in (t.1, t.2, t.3, t.4, t.5))))
+    (c.check.ensures.crash runs held) (c.mark.ensures.crash runs (c.check.ensures.stands runs held) (λ k. (c.in_ok-check.ensures.taken runs held k).1)))
 
 pub returns-clause-crash : goal.returns-clause-crash
 returns-clause-crash g c runs has =
@@ -43,7 +43,7 @@ returns-clause-crash g c runs has =
     seen_survives g.S.Store c.self.inside.conn c.args.self.now c.self.view_is c.mark.new.conn (Keeps (finish c.args.run runs)) (
     let more = Keeps (finish c.args.run runs) in
     survives_then (state g.S.Store c.self.inside.conn) (state g.S.Store c.check.new.conn) (state g.S.Store c.mark.new.conn) (λ _. ⊥) more more (λ _ db none. absurd none) (λ _ db kept. kept)
-    (c.check.ensures.crash runs held) (c.mark.ensures.crash runs (c.check.ensures.stands runs held) (λ k. let t = c.in_ok-check.ensures.taken runs held k in (t.1, t.2, t.3, t.4, t.5))))
+    (c.check.ensures.crash runs held) (c.mark.ensures.crash runs (c.check.ensures.stands runs held) (λ k. (c.in_ok-check.ensures.taken runs held k).1)))
 
 pub returns-in_err-check-clause-cause : goal.returns-in_err-check-clause-cause
 returns-in_err-check-clause-cause g c runs has clean =

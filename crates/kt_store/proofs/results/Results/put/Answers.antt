@@ -16,18 +16,18 @@ returns-in_err-check-clause-crash g c runs has =
 pub returns-clause-added : goal.returns-clause-added
 returns-clause-added g c runs has =
     let held : StandsFor (state g.S.Store c.self.inside.conn) runs = inside_stands g.S.Store c.self.inside.conn c.args.self.now c.self.view_is runs has in
-    c.in_ok-add_entry.ensures.added runs (c.check.ensures.stands runs held) (λ k. let t = c.in_ok-check.ensures.taken runs held k c.in_ok-reason.ensures.sound in (t.1, t.2, t.3, t.4))
+    c.in_ok-add_entry.ensures.added runs (c.check.ensures.stands runs held) (λ k. (c.in_ok-check.ensures.taken runs held k c.in_ok-reason.ensures.sound).1)
 
 pub returns-clause-allowed : goal.returns-clause-allowed
 returns-clause-allowed g c runs has clean =
     let held : StandsFor (state g.S.Store c.self.inside.conn) runs = inside_stands g.S.Store c.self.inside.conn c.args.self.now c.self.view_is runs has in
-    let early : HasCleanDisk (state g.S.Store c.check.new.conn) = omega (arith, clean, (c.in_ok-add_entry.ensures.crash runs (c.check.ensures.stands runs held) (λ k. let t = c.in_ok-check.ensures.taken runs held k c.in_ok-reason.ensures.sound in (t.1, t.2, t.3, t.4))).clean) in
+    let early : HasCleanDisk (state g.S.Store c.check.new.conn) = omega (arith, clean, (c.in_ok-add_entry.ensures.crash runs (c.check.ensures.stands runs held) (λ k. (c.in_ok-check.ensures.taken runs held k c.in_ok-reason.ensures.sound).1)).clean) in
     (c.in_ok-check.ensures.taken runs held early c.in_ok-reason.ensures.sound).0
 
 pub returns-clause-durable : goal.returns-clause-durable
 returns-clause-durable g c runs has =
     let held : StandsFor (state g.S.Store c.self.inside.conn) runs = inside_stands g.S.Store c.self.inside.conn c.args.self.now c.self.view_is runs has in
-    c.in_ok-add_entry.ensures.durable runs (c.check.ensures.stands runs held) (λ k. let t = c.in_ok-check.ensures.taken runs held k c.in_ok-reason.ensures.sound in (t.1, t.2, t.3, t.4))
+    c.in_ok-add_entry.ensures.durable runs (c.check.ensures.stands runs held) (λ k. (c.in_ok-check.ensures.taken runs held k c.in_ok-reason.ensures.sound).1)
 
 pub returns-in_err-add_entry-clause-crash : goal.returns-in_err-add_entry-clause-crash
 returns-in_err-add_entry-clause-crash g c runs has =
@@ -35,7 +35,7 @@ returns-in_err-add_entry-clause-crash g c runs has =
     seen_survives g.S.Store c.self.inside.conn c.args.self.now c.self.view_is c.add_entry.new.conn (Keeps (with_entry c.args.run c.args.entry.now runs)) (
     let more = Keeps (with_entry c.args.run c.args.entry.now runs) in
     survives_then (state g.S.Store c.self.inside.conn) (state g.S.Store c.check.new.conn) (state g.S.Store c.add_entry.new.conn) (λ _. ⊥) more more (λ _ db none. absurd none) (λ _ db kept. kept)
-    (c.check.ensures.crash runs held) (c.add_entry.ensures.crash runs (c.check.ensures.stands runs held) (λ k. let t = c.in_ok-check.ensures.taken runs held k c.in_ok-reason.ensures.sound in (t.1, t.2, t.3, t.4))))
+    (c.check.ensures.crash runs held) (c.add_entry.ensures.crash runs (c.check.ensures.stands runs held) (λ k. (c.in_ok-check.ensures.taken runs held k c.in_ok-reason.ensures.sound).1)))
 
 pub returns-clause-crash : goal.returns-clause-crash
 returns-clause-crash g c runs has =
@@ -43,7 +43,7 @@ returns-clause-crash g c runs has =
     seen_survives g.S.Store c.self.inside.conn c.args.self.now c.self.view_is c.add_entry.new.conn (Keeps (with_entry c.args.run c.args.entry.now runs)) (
     let more = Keeps (with_entry c.args.run c.args.entry.now runs) in
     survives_then (state g.S.Store c.self.inside.conn) (state g.S.Store c.check.new.conn) (state g.S.Store c.add_entry.new.conn) (λ _. ⊥) more more (λ _ db none. absurd none) (λ _ db kept. kept)
-    (c.check.ensures.crash runs held) (c.add_entry.ensures.crash runs (c.check.ensures.stands runs held) (λ k. let t = c.in_ok-check.ensures.taken runs held k c.in_ok-reason.ensures.sound in (t.1, t.2, t.3, t.4))))
+    (c.check.ensures.crash runs held) (c.add_entry.ensures.crash runs (c.check.ensures.stands runs held) (λ k. (c.in_ok-check.ensures.taken runs held k c.in_ok-reason.ensures.sound).1)))
 
 pub returns-in_err-check-clause-cause : goal.returns-in_err-check-clause-cause
 returns-in_err-check-clause-cause g c runs has clean =

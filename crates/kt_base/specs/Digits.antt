@@ -1,0 +1,15 @@
+-- Decimal digits, and the number that they spell.
+use Rattle.std.specs.Prelude.{ℕ, ◌+◌, ◌*◌, ◌-◌, Bool, ◌&&◌, nat_le, List, [], ◌∷◌, Option, Some, None, if◌then◌else◌}
+
+-- 0 to 9
+abbrev pub is_digit : ℕ → Bool
+is_digit c = nat_le 48 c && nat_le c 57
+
+-- the number of decimal digits that follow those of v
+abbrev pub decimal_from : ℕ → List ℕ → ℕ
+decimal_from v [] = v
+decimal_from v (c ∷ cs) = decimal_from (10 * v + (c - 48)) cs
+
+-- a number, unless it is above the greatest one
+abbrev pub up_to : ℕ → ℕ → Option ℕ
+up_to greatest n = if nat_le n greatest then Some n else None

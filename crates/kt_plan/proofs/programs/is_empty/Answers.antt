@@ -1,8 +1,0 @@
-use Rattle.std.proofs.Common.{◌∙◌, ap, sym}
-use Rattle.kt_suite.specs.Paths.{is_empty}
-use Rattle.kt_suite.proofs.Texts.{is_empty-chars}
-use Rattle.kt_plan.proofs.programs.is_empty.Goals as goal
-
-pub returns : goal.returns
-returns c =
-    c.is_empty.ensures ∙ sym (is_empty-chars c.as_str.result.now c.as_str.utf8) ∙ ap is_empty c.as_str.ensures.characters

@@ -1,9 +1,0 @@
-use Rattle.std.proofs.Common.{◌≡◌, length}
-use Rattle.kt_script.specs.Words.{decimal_from}
-use Rattle.kt_script.proofs.words.decimal.Given as goal
-
-abbrev pub invariant-loop-c : goal.invariant-loop-c
-invariant-loop-c l = decimal_from l.value l.rest ≡ decimal_from 0 l.digits
-
-abbrev pub decreases-loop-c : goal.decreases-loop-c
-decreases-loop-c l = length l.rest
