@@ -31,7 +31,7 @@ once_there cases pending c h = let m : count_at c.position cases + count_at c.po
 
 pub state_after : (children after children' : List Watched) (cases cases' pending pending' : List Case) (going going' : OpenTurn) (p : ℕ) (c : Case)
     → IsChildrenState children cases going pending → slice_get cases p ≡ Some c → p < length children
-    → All IsOn after → length after ≡ length children → going'.from + going'.unpolled < length children → going'.over < 8
+    → All IsOn after → length after ≡ length children → going'.from + going'.unpolled < length children → going'.over < 2
     → children' ≡ remove after p → cases' ≡ remove cases p → pending' ≡ pending_with c pending
     → IsChildrenState children' cases' going' pending'
 state_after children after children' cases cases' pending pending' going going' p c b at lt on same within few e f q =

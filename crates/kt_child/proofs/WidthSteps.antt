@@ -38,7 +38,7 @@ going_none : (over place members : ℕ) → members ≡ 0 → (going_on over pla
 going_none over place members z =
     let a : OpenTurn = record { from = place; unpolled = 0; over = 0 } in
     let b : OpenTurn = record { from = place; unpolled = members; over = over } in
-    of_two (over == 8) a b refl z
+    of_two (over == 2) a b refl z
 
 -- the law of an only child
 pub none_left : NoneLeft

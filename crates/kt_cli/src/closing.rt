@@ -1,17 +1,23 @@
 ghost use Rattle.kt_cli.specs.Closings.{Concluded};
 
-use crate::exit::Exit;
+use crate::exit::{Exit, FAILED};
 use crate::fault_exit::print_store_fault;
 use kt_store::StoreFault;
 use std::io::Write;
 
 /// The exit of a command whose results were closed. A close that failed is told, and the exit is 2:
-/// the entries are recorded all the same, in the log beside the file.
+/// the entries are recorded all the same, in the log beside the file. A command that has failed
+/// already has told its fault, and tells no other.
 pub fn with_closed<O: Write>(exit: Exit, closed: Result<(), StoreFault>, out: &mut O) -> Exit
     ensures { Concluded closed (O.contents out.old) (O.contents out.new) exit.status result.status }
 {
     match closed {
         Ok(()) => exit,
-        Err(fault) => print_store_fault(fault, out),
+        Err(fault) => {
+            if exit.status == FAILED {
+                return exit;
+            }
+            print_store_fault(fault, out)
+        }
     }
 }

@@ -6,7 +6,7 @@ ghost use Rattle.kt_cli.specs.Meaning.{ToldOnly};
 ghost use Rattle.kt_words.specs.declared.command.Command.TheVariants as command;
 
 use crate::behind::memory_behind;
-use crate::exit::{Exit, ended};
+use crate::exit::{Exit, FAILED, ended};
 use crate::fault_line::write_memory;
 use crate::printer::Printer;
 use crate::stopping::stopped;
@@ -72,12 +72,12 @@ pub fn debug<W: World, O: Write>(
     };
     let plan = match prepare(alloc, &picked.settings.config, &cases[..1], world) {
         Ok(plan) => plan,
-        Err(_) => return ended(write_memory(out), 2),
+        Err(_) => return ended(write_memory(out), FAILED),
     };
     let (answer, written) = print_cases(alloc, plan, world, out);
     match answer {
         Ok(totals) => ended(written, status_of(totals.bad)),
-        Err(RunFault::NoMemory(_refusal)) => ended(memory_behind(written, out), 2),
+        Err(RunFault::NoMemory(_refusal)) => ended(memory_behind(written, out), FAILED),
         // Printing a case is never refused.
         Err(RunFault::SinkFailed(_fault)) => unreachable!(),
     }

@@ -2,6 +2,9 @@ ghost use Rattle.std.specs.Prelude.{◌≡◌, if◌then◌else◌, is_err};
 
 use kt_base::OutputFault;
 
+/// The status of a command that failed.
+pub const FAILED: u8 = 2;
+
 /// How a command ends, as kyua(1) has it.
 #[derive(Clone, Copy, Debug, PartialEq, Eq)]
 pub struct Exit {
@@ -14,6 +17,6 @@ pub fn ended(written: Result<(), OutputFault>, due: u8) -> Exit
     ensures { result.status ≡ (if is_err written then 2 else due) }
 {
     Exit {
-        status: if written.is_err() { 2 } else { due },
+        status: if written.is_err() { FAILED } else { due },
     }
 }

@@ -5,16 +5,13 @@ ghost use Rattle.kt_cli.specs.FaultLines.{refusal_line};
 ghost use Rattle.kt_cli.specs.Pages.{Printed};
 ghost use Rattle.kt_cli.specs.Refused.{driver_line, command_text, command_exit, failure_exit, Refused};
 
-use crate::exit::{Exit, ended};
+use crate::exit::{Exit, FAILED, ended};
 use crate::fault_line::{write_memory, write_refusal};
 use kt_base::{OutputFault, emit};
 use kt_child::DriverFault;
 use kt_store::StoreFault;
 use kt_words::CommandFault;
 use std::io::Write;
-
-/// The status of a command that failed.
-const FAILED: u8 = 2;
 
 /// The status of a wrong command line.
 const WRONG_WORDS: u8 = 3;

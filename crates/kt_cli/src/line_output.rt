@@ -1,4 +1,4 @@
-use crate::exit::Exit;
+use crate::exit::{Exit, FAILED};
 use crate::held_bytes::{HeldBytes, ROOM};
 use kt_base::send;
 use std::io;
@@ -125,7 +125,7 @@ impl<W: Write> LineOutput<W> {
     {
         match self.flush() {
             Ok(()) => exit,
-            Err(_fault) => Exit { status: 2 },
+            Err(_fault) => Exit { status: FAILED },
         }
     }
 }

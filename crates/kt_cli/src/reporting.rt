@@ -4,7 +4,7 @@ ghost use Rattle.kt_base.specs.Shows.{Shows};
 ghost use Rattle.kt_cli.specs.Reports.{chosen, Reported, ReportedJunit, Unread, JunitOrUnread, DidReport};
 ghost use Rattle.kt_cli.specs.Shown.{IsMissing, ReadsRun, not_shown_line};
 
-use crate::exit::{Exit, ended};
+use crate::exit::{Exit, FAILED, ended};
 use crate::fault_line::{write_memory, write_refusal};
 use crate::not_shown::NotShown;
 use kt_base::{Decimal, Items, Kind, OutputFault, Run, emit, emit_all};
@@ -94,7 +94,7 @@ pub fn report<R: ResultStore, O: Write>(
 {
     match read_run(number, results) {
         Ok(run) => ended(text(&run, kinds, verbose, out), 0),
-        Err(why) => ended(write_not_shown(why, out), 2),
+        Err(why) => ended(write_not_shown(why, out), FAILED),
     }
 }
 
@@ -111,11 +111,11 @@ pub fn report_junit<R: ResultStore, O: Write>(
 {
     let run = match read_run(number, results) {
         Ok(run) => run,
-        Err(why) => return ended(write_not_shown(why, out), 2),
+        Err(why) => return ended(write_not_shown(why, out), FAILED),
     };
     match junit(alloc, &run, out) {
         Ok(()) => Exit { status: 0 },
-        Err(ReportFault::Output(_)) => Exit { status: 2 },
-        Err(ReportFault::NoMemory(_)) => ended(write_memory(out), 2),
+        Err(ReportFault::Output(_)) => Exit { status: FAILED },
+        Err(ReportFault::NoMemory(_)) => ended(write_memory(out), FAILED),
     }
 }

@@ -11,7 +11,7 @@ ghost use Rattle.kt_cli.specs.Testing.{RanPlan, ending, exit_of};
 ghost use Rattle.kt_words.specs.declared.command.Command.TheVariants as command;
 
 use crate::behind::{memory_behind, put_behind, refusal_behind};
-use crate::exit::{Exit, ended};
+use crate::exit::{Exit, FAILED, ended};
 use crate::fault_line::{write_memory, write_refusal};
 use crate::recorder::Recorder;
 use crate::stopping::stopped;
@@ -122,14 +122,14 @@ fn run_plan<L: Launcher, R: ResultStore, O: Write>(
     let total = plan.len() as u32;
     let number = match results.begin(total, moment) {
         Ok(number) => number,
-        Err(fault) => return ended(write_refusal(fault, out), 2),
+        Err(fault) => return ended(write_refusal(fault, out), FAILED),
     };
     let (answer, written) = record_cases(alloc, plan, width, launcher, results, number, out);
     match answer {
-        Err(RunFault::NoMemory(_refusal)) => ended(memory_behind(written, out), 2),
-        Err(RunFault::SinkFailed(fault)) => ended(put_behind(written, fault, out), 2),
+        Err(RunFault::NoMemory(_refusal)) => ended(memory_behind(written, out), FAILED),
+        Err(RunFault::SinkFailed(fault)) => ended(put_behind(written, fault, out), FAILED),
         Ok(totals) => match results.finish(number) {
-            Err(fault) => ended(refusal_behind(written, fault, out), 2),
+            Err(fault) => ended(refusal_behind(written, fault, out), FAILED),
             Ok(()) => {
                 let all = ending_behind(written, totals, words, unmatched, out);
                 ended(all, status_of(totals.bad, unmatched))
@@ -160,7 +160,7 @@ pub fn test<W: World, R: ResultStore, O: Write>(
     let config = &picked.settings.config;
     let plan = match prepare(alloc, config, picked.chosen.cases.as_slice(), world) {
         Ok(plan) => plan,
-        Err(_) => return ended(write_memory(out), 2),
+        Err(_) => return ended(write_memory(out), FAILED),
     };
     let moment = world.now();
     run_plan(

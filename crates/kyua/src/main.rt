@@ -23,7 +23,7 @@ impl Platform for Host<'_> {
     ghost provides = { λ _ _ _. Unit {0} };
 
     fn open(&mut self, file: &Text) -> Result<Results<FileStore<StoreFile>>, StoreFault> {
-        prepare_results(self.rt, file)?;
+        prepare_results(self.rt, file);
         let connection = Connection::open(self.rt, file.as_str())?;
         match Results::attach(self.rt.alloc(), connection) {
             Ok(results) => Ok(results),

@@ -52,7 +52,7 @@ pub record IsChildrenState (children : List Watched) (cases : List Case) (going 
   pub on : All IsOn children
   pub same : length children ≡ length cases
   pub within : going.from + going.unpolled ≤ length children
-  pub few : going.over < 8
+  pub few : going.over < 2
   pub once : (i : ℕ) → count_at i cases + count_at i pending ≤ 1
 
 -- the cases whose cleanup is owed, after the end of a child of this case

@@ -22,10 +22,10 @@ spread n turn children = take turn.from children ++ (advanced_below n (unpolled_
 abbrev pub gone_on : OpenTurn → List Watched → List Watched
 gone_on turn children = take turn.from children ++ (map advanced (unpolled_of turn children) ++ later_of turn children)
 
--- the turn goes on behind this place, with so many members; after the 8th of its children that is over it has none left
+-- the turn goes on behind this place, with so many members; after the second of its children that is over it has none left
 abbrev pub going_on : ℕ → ℕ → ℕ → OpenTurn
 going_on over place members =
-    if over == 8 then record { from = place; unpolled = 0; over = 0 } else record { from = place; unpolled = members; over = over }
+    if over == 2 then record { from = place; unpolled = 0; over = 0 } else record { from = place; unpolled = members; over = over }
 
 -- The turn goes on with those that were not polled yet, and one of them is over.
 abbrev pub EndsInTurn : OpenTurn → List Watched → List Call → ℕ → Outcome → List Watched → OpenTurn → Type 0

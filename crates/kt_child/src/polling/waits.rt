@@ -14,13 +14,13 @@ pub fn wait_on<O: Os>(os: &mut O, children: &mut [Watched], going: &mut OpenTurn
     requires some { 0 < length children.old }
     requires on { All IsOn children.old }
     requires within { going.old.from + going.old.unpolled ≤ length children.old }
-    requires few { going.old.over < 8 }
+    requires few { going.old.over < 2 }
     ensures waited { (calls : List Call) × Chain O.leads os.old calls os.new
         × WaitedOn going.old children.old calls result.place result.outcome children.new going.new }
     ensures on { All IsOn children.new }
     ensures place { result.place < length children.old }
     ensures within { going.new.from + going.new.unpolled < length children.old }
-    ensures few { going.new.over < 8 }
+    ensures few { going.new.over < 2 }
     ensures same { length children.new ≡ length children.old }
 {
     let from = going.from;
