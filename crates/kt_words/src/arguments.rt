@@ -17,7 +17,7 @@ fn config_word<'a>(alloc: Global) -> Arg<'a> {
         .long("config")
         .value_name("FILE")
         .action(ArgAction::Set)
-        .help("The configuration file to read [default: none]")
+        .help("The configuration file to read [default: no file]")
 }
 
 fn variable_word<'a>(alloc: Global) -> Arg<'a> {
