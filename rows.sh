@@ -1,8 +1,12 @@
 #!/usr/bin/env bash
 # Checks the rows of crates/kt_rows/data as the gate does: as nobody where it is called by root, in a copy of that folder,
 # with the words of `args`, and compares what is printed with `stdout`. With words it checks those files alone.
+# rt is taken from PATH, else from the kit that RATTLE_KIT names.
 set -eu
 crate="$(cd "$(dirname "$0")" && pwd)/crates/kt_rows"
+command -v rt >/dev/null 2>&1 || PATH="${RATTLE_KIT:?neither rt on PATH nor RATTLE_KIT is there}/bin:$PATH"
+export PATH
+mkdir -p "$crate/out"
 # With no words the program checks nothing: this proves and links it.
 (cd "$crate" && rt run --jobs 1 >/dev/null 2>"$crate/out/build.log") || { tail -20 "$crate/out/build.log"; exit 1; }
 room="$(mktemp -d)"

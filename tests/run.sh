@@ -1,12 +1,12 @@
 #!/bin/sh
 # Runs this suite and the programs of endings/ with kyua, and then each case of each program by hand, and compares what kyua
 # recorded with how the case ended, by the tables of by_hand.sh: a runner that records passes of its own can't pass. KYUA names
-# the program; else it is the one that this checkout built. The last line says how many cases passed, and how many failed or
+# the program; else program.sh finds or builds it. The last line says how many cases passed, and how many failed or
 # were recorded wrongly. WIDTH is how many cases run at once, 4 if it isn't set.
 set -eu
 suite=$(cd "$(dirname "$0")" && pwd)
 . "$suite/by_hand.sh"
-KYUA=$(realpath -m "${KYUA:-$suite/../crates/kyua/out/kyua}")
+KYUA=$(realpath -m "${KYUA:-$("$suite/../program.sh")}")
 export KYUA
 [ -x "$KYUA" ] || { echo "tests: there is no program $KYUA" >&2; echo '0 passed, 1 failed'; exit 1; }
 WIDTH=${WIDTH:-4}
