@@ -35,7 +35,7 @@ idle=$(grep -c -e ': BAD EDIT' -e ': NOT TRIED' "$room/log" || true)
 failed=$((failed + idle))
 part 'faults made by hand' ./faults.sh
 # rt ci leaves the program that it proved. If a proof failed there is none, and the suite fails too.
-part 'the suite' env KYUA="$PWD/crates/kyua/out/kyua" tests/run.sh
+part 'the suite' env KYUA="$PWD/crates/kyua/out/kyua" SUITE_STEP=1 tests/run.sh
 # A program that is shipped with these sources is the one that they give.
 [ ! -d dist ] || part 'the shipped program' ./dist.sh check
 echo "$passed passed, $failed failed"

@@ -13,12 +13,13 @@ fail() {
     exit 1
 }
 
-# runs STATUS WORD..: runs kyua with these words, its output in the files out and err. It must exit with STATUS.
+# runs STATUS WORD..: runs kyua with these words, its output in the files out and err. It must exit with STATUS. Its input is a
+# text, which no case may read.
 runs() {
     wanted=$1
     shift
     status=0
-    "$kyua" "$@" > out 2> err < /dev/null || status=$?
+    "$kyua" "$@" > out 2> err < "$suite/lib.sh" || status=$?
     [ "$status" = "$wanted" ] || { cat out err >&2; fail "exit $status, not $wanted: kyua $*"; }
 }
 

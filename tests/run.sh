@@ -2,7 +2,8 @@
 # Runs this suite and the programs of endings/ with kyua, and then each case of each program by hand, and compares what kyua
 # recorded with how the case ended, by the tables of by_hand.sh: a runner that records passes of its own can't pass. KYUA names
 # the program; else program.sh finds or builds it. The last line says how many cases passed, and how many failed or
-# were recorded wrongly. WIDTH is how many cases run at once, 4 if it isn't set.
+# were recorded wrongly. WIDTH is how many cases run at once, 4 if it isn't set. Of the
+# allocations that are refused in turn every eighth is tried, or each SUITE_STEPth.
 set -eu
 suite=$(cd "$(dirname "$0")" && pwd)
 . "$suite/by_hand.sh"
@@ -10,6 +11,8 @@ KYUA=$(realpath -m "${KYUA:-$("$suite/../program.sh")}")
 export KYUA
 [ -x "$KYUA" ] || { echo "tests: there is no program $KYUA" >&2; echo '0 passed, 1 failed'; exit 1; }
 WIDTH=${WIDTH:-4}
+SUITE_STEP=${SUITE_STEP:-8}
+export SUITE_STEP
 # The results of each case are forced to the disk, which takes most of the time, so all lies in memory where there is enough of it.
 top=
 if [ -z "${TMPDIR-}" ]; then top=$(mktemp -d /dev/shm/kyua.XXXXXX 2> /dev/null) || top=; fi
@@ -63,7 +66,8 @@ runs_by_hand() {
         cd "$hand/work" || exit 125
         unset LANG LC_ALL LC_COLLATE LC_CTYPE LC_MESSAGES LC_MONETARY LC_NUMERIC LC_TIME
         TZ=UTC HOME=$PWD TMPDIR=$PWD __RUNNING_INSIDE_ATF_RUN=internal-yes-value
-        export TZ HOME TMPDIR __RUNNING_INSIDE_ATF_RUN
+        SUITE_BRIEF=yes
+        export TZ HOME TMPDIR __RUNNING_INSIDE_ATF_RUN SUITE_BRIEF
         if [ "$limit" = 300 ]; then exec "$@"; fi
         exec timeout -s KILL "$limit" "$@"
     ) < /dev/null > "$hand/out" 2> "$hand/err" || status=$?
@@ -146,10 +150,10 @@ compare() {
         wrong "$folder: report exits with $?"
     sed -n 's/  \[[0-9]*\.[0-9]*s\]$//p' "$room/report" > "$room/recorded"
     [ "$(wc -l < "$room/recorded")" = "$(wc -l < "$room/cases")" ] || wrong "$folder: another number of entries"
-    # By hand as many cases run at once as kyua ran.
+    # By hand twice as many cases run at once as kyua ran: most of them wait.
     rm -rf "$room/taken" "$room"/compared.*
     mkdir "$room/taken"
-    for hand in $(seq "$WIDTH"); do compare_some "$folder" "$2" "$room/hand $hand" > "$room/compared.$hand" & done
+    for hand in $(seq $((WIDTH * 2))); do compare_some "$folder" "$2" "$room/hand $hand" > "$room/compared.$hand" & done
     wait
     passed=$((passed + $(cat "$room"/compared.* | grep -c '^passed$' || true)))
     failed=$((failed + $(cat "$room"/compared.* | grep -c '^failed$' || true)))
@@ -196,7 +200,7 @@ for folder in "$suite" "$suite/endings"; do
     programs "$folder" | cut -d ' ' -f 2 > "$room/names"
     for file in "$folder"/*; do
         case ${file##*/} in
-            Kyuafile | *.sh | *.md | endings | schema1) ;;
+            Kyuafile | *.sh | *.c | *.md | endings | schema1) ;;
             *) grep -Fxq -e "${file##*/}" "$room/names" || wrong "$file is not registered" ;;
         esac
     done
