@@ -27,14 +27,14 @@ means_runs seen _ _ _ (listed options picked selects alone) = inr alone.trace
 means_runs seen _ _ _ (tested options file picked moment bytes exit prepared t) = inl (plan_fits picked.settings.config prepared.host picked.chosen.cases seen.plan prepared.planned)
 means_runs seen _ _ _ (debugged options picked first others entries e prepared all none) = inl (plan_fits picked.settings.config prepared.host (first ∷ []) seen.plan prepared.planned)
 means_runs seen _ _ _ (idle options picked selects e alone) = inr alone.trace
-means_runs seen _ _ _ (reported file number kinds verbose bytes exit unasked r) = inr unasked.trace
-means_runs seen _ _ _ (reported_junit file number bytes exit unasked r) = inr unasked.trace
+means_runs seen _ _ _ (reported options kinds verbose bytes exit unasked r) = inr unasked.trace
+means_runs seen _ _ _ (reported_junit options bytes exit unasked r) = inr unasked.trace
 
 cut_runs : (seen : Seen) (c : Command) (bytes : List ℕ) (exit : ℕ) → CutShort seen c bytes exit → Runs seen
 cut_runs seen _ _ _ (no_memory c options e alone) = inr alone.trace
 cut_runs seen _ _ _ (cut options file picked moment bytes exit prepared t) = inl (plan_fits picked.settings.config prepared.host picked.chosen.cases seen.plan prepared.planned)
-cut_runs seen _ _ _ (report_cut file number kinds verbose bytes exit unasked u) = inr unasked.trace
-cut_runs seen _ _ _ (junit_cut file number bytes exit unasked u) = inr unasked.trace
+cut_runs seen _ _ _ (report_cut options kinds verbose bytes exit unasked u) = inr unasked.trace
+cut_runs seen _ _ _ (junit_cut options bytes exit unasked u) = inr unasked.trace
 
 pub did_run : (seen : Seen) (c : Command) (bytes : List ℕ) (exit : ℕ) → Means seen c bytes exit ⊎ CutShort seen c bytes exit → Runs seen
 did_run seen c bytes exit (inl m) = means_runs seen c bytes exit m

@@ -8,6 +8,7 @@ use Rattle.kt_store.specs.StoreCalls.{StoreCall}
 use Rattle.kt_plan.specs.declared.case_options.CaseOptions.{CaseOptions}
 use Rattle.kt_words.specs.declared.command.Command.{Command}
 use Rattle.kt_words.specs.declared.command.Command.TheVariants as command
+use Rattle.kt_words.specs.declared.report_options.ReportOptions.{ReportOptions}
 use Rattle.kt_cli.specs.declared.surroundings.Surroundings.{Surroundings}
 use Rattle.kt_words.specs.Commands.{cases_of}
 use Rattle.kt_cli.specs.Hosts.{OnDriver, DidWith, DidOnHost}
@@ -19,14 +20,14 @@ module _ {O R : Type 0} (leads : O → Call → O → Type 0) (os : O) (around :
   pub on_driver : (options : CaseOptions) → Some options ≡ cases_of c → OnDriver leads os around options Answers Stands Sound Leaves c store after was now exit → DidOnHost leads os around Answers Stands Sound Leaves c store after was now exit
   on_driver options e d = subst (λ (k : Option CaseOptions). DidWith leads os around k Answers Stands Sound Leaves c store after was now exit) e d
 
-  pub alone_report : (file : List ℕ) (number : Option ℕ) (kinds : List Kind) (verbose : Bool) → c ≡ command.Report file number kinds verbose
-      → DidReport Answers Stands Sound Leaves store after was now exit (Reported number kinds verbose) (Unread number) → DidOnHost leads os around Answers Stands Sound Leaves c store after was now exit
-  alone_report file number kinds verbose e l =
+  pub alone_report : (options : ReportOptions) (kinds : List Kind) (verbose : Bool) → c ≡ command.Report options kinds verbose
+      → DidReport Answers Stands Sound Leaves store after was now exit (Reported options.run kinds verbose) (Unread options.run) → DidOnHost leads os around Answers Stands Sound Leaves c store after was now exit
+  alone_report options kinds verbose e l =
       subst (λ (x : Command). DidOnHost leads os around Answers Stands Sound Leaves x store after was now exit) (sym e)
-      (did_report {W = Unit {0}} (λ s asked t. ⊥) (λ s told t. ⊥) (λ s job role answer t. ⊥) (λ s ended t. ⊥) Answers Stands Sound Leaves store was now exit after file number kinds verbose tt l)
+      (did_report {W = Unit {0}} (λ s asked t. ⊥) (λ s told t. ⊥) (λ s job role answer t. ⊥) (λ s ended t. ⊥) Answers Stands Sound Leaves store was now exit after options kinds verbose tt l)
 
-  pub alone_junit : (file : List ℕ) (number : Option ℕ) → c ≡ command.ReportJunit file number
-      → DidReport Answers Stands Sound Leaves store after was now exit (ReportedJunit number) (JunitOrUnread number) → DidOnHost leads os around Answers Stands Sound Leaves c store after was now exit
-  alone_junit file number e l =
+  pub alone_junit : (options : ReportOptions) → c ≡ command.ReportJunit options
+      → DidReport Answers Stands Sound Leaves store after was now exit (ReportedJunit options.run) (JunitOrUnread options.run) → DidOnHost leads os around Answers Stands Sound Leaves c store after was now exit
+  alone_junit options e l =
       subst (λ (x : Command). DidOnHost leads os around Answers Stands Sound Leaves x store after was now exit) (sym e)
-      (did_junit {W = Unit {0}} (λ s asked t. ⊥) (λ s told t. ⊥) (λ s job role answer t. ⊥) (λ s ended t. ⊥) Answers Stands Sound Leaves store was now exit after file number tt l)
+      (did_junit {W = Unit {0}} (λ s asked t. ⊥) (λ s told t. ⊥) (λ s job role answer t. ⊥) (λ s ended t. ⊥) Answers Stands Sound Leaves store was now exit after options tt l)

@@ -17,6 +17,7 @@ use Rattle.kt_plan.specs.declared.candidate.Candidate.{Candidate}
 use Rattle.kt_plan.specs.declared.case_options.CaseOptions.{CaseOptions}
 use Rattle.kt_words.specs.declared.command.Command.{Command}
 use Rattle.kt_words.specs.declared.command.Command.TheVariants as command
+use Rattle.kt_words.specs.declared.report_options.ReportOptions.{ReportOptions}
 use Rattle.kt_plan.specs.declared.picked.Picked.{Picked}
 use Rattle.kt_plan.specs.declared.stop.Stop.{Stop}
 use Rattle.kt_base.specs.declared.entry.Entry.{Entry}
@@ -274,31 +275,31 @@ module _ {W : Type 0} (asks : W → Asked → W → Type 0) (tells : W → Told 
     unasked calls = record { questions = refl; trace = refl }
 
     -- `report` is a command
-    pub did_report : (after : R) (file : List ℕ) (number : Option ℕ) (kinds : List Kind) (verbose : Bool) (world : W) → DidReport Answers Stands Sound Leaves store after was now exit (Reported number kinds verbose) (Unread number)
-        → Did asks tells starts waits Answers Stands Sound Leaves (command.Report file number kinds verbose) world world store after was now exit
-    did_report after file number kinds verbose world d = record {
+    pub did_report : (after : R) (options : ReportOptions) (kinds : List Kind) (verbose : Bool) (world : W) → DidReport Answers Stands Sound Leaves store after was now exit (Reported options.run kinds verbose) (Unread options.run)
+        → Did asks tells starts waits Answers Stands Sound Leaves (command.Report options kinds verbose) world world store after was now exit
+    did_report after options kinds verbose world d = record {
       seen = called_only d.calls;
       course = record { begun = world; asked = refl; ran = refl };
       stored = d.stored;
       bytes = d.bytes;
       due = d.due;
       is = elim d.is [
-        | inl x ↦ inl (reported file number kinds verbose d.bytes d.due (unasked d.calls) x)
-        | inr x ↦ inr (report_cut file number kinds verbose d.bytes d.due (unasked d.calls) x)
+        | inl x ↦ inl (reported options kinds verbose d.bytes d.due (unasked d.calls) x)
+        | inr x ↦ inr (report_cut options kinds verbose d.bytes d.due (unasked d.calls) x)
       ];
       printed = d.printed;
     }
 
     -- `report-junit` is a command
-    pub did_junit : (after : R) (file : List ℕ) (number : Option ℕ) (world : W) → DidReport Answers Stands Sound Leaves store after was now exit (ReportedJunit number) (JunitOrUnread number)
-        → Did asks tells starts waits Answers Stands Sound Leaves (command.ReportJunit file number) world world store after was now exit
-    did_junit after file number world d = record {
+    pub did_junit : (after : R) (options : ReportOptions) (world : W) → DidReport Answers Stands Sound Leaves store after was now exit (ReportedJunit options.run) (JunitOrUnread options.run)
+        → Did asks tells starts waits Answers Stands Sound Leaves (command.ReportJunit options) world world store after was now exit
+    did_junit after options world d = record {
       seen = called_only d.calls;
       course = record { begun = world; asked = refl; ran = refl };
       stored = d.stored;
       bytes = d.bytes;
       due = d.due;
-      is = elim d.is [ inl x ↦ inl (reported_junit file number d.bytes d.due (unasked d.calls) x) | inr x ↦ inr (junit_cut file number d.bytes d.due (unasked d.calls) x) ];
+      is = elim d.is [ inl x ↦ inl (reported_junit options d.bytes d.due (unasked d.calls) x) | inr x ↦ inr (junit_cut options d.bytes d.due (unasked d.calls) x) ];
       printed = d.printed;
     }
 

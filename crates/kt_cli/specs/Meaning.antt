@@ -17,6 +17,7 @@ use Rattle.kt_plan.specs.declared.case_options.CaseOptions.{CaseOptions}
 use Rattle.kt_plan.specs.declared.chosen.Chosen.{Chosen}
 use Rattle.kt_words.specs.declared.command.Command.{Command}
 use Rattle.kt_words.specs.declared.command.Command.TheVariants as command
+use Rattle.kt_words.specs.declared.report_options.ReportOptions.{ReportOptions}
 use Rattle.kt_plan.specs.declared.picked.Picked.{Picked}
 use Rattle.kt_plan.specs.declared.stop.Stop.{Stop}
 use Rattle.kt_words.specs.Commands.{cases_of, needs_case}
@@ -91,10 +92,10 @@ pub data Means (seen : Seen) : Command → List ℕ → ℕ → Type 0 where
       → Means seen (command.Debug options) (all_debug_bytes entries) (debug_exit entries)
   idle : (options : CaseOptions) (picked : Picked) → Selects true options seen.questions (Ok picked) → picked.chosen.cases ≡ [] → IsAskedOnly seen
       → Means seen (command.Debug options) (utf8 (warnings options.filters picked.chosen.unmatched)) 1
-  reported : (file : List ℕ) (number : Option ℕ) (kinds : List Kind) (verbose : Bool) (bytes : List ℕ) (exit : ℕ) → IsUnasked seen → Reported number kinds verbose seen.calls bytes exit
-      → Means seen (command.Report file number kinds verbose) bytes exit
-  reported_junit : (file : List ℕ) (number : Option ℕ) (bytes : List ℕ) (exit : ℕ) → IsUnasked seen → ReportedJunit number seen.calls bytes exit
-      → Means seen (command.ReportJunit file number) bytes exit
+  reported : (options : ReportOptions) (kinds : List Kind) (verbose : Bool) (bytes : List ℕ) (exit : ℕ) → IsUnasked seen → Reported options.run kinds verbose seen.calls bytes exit
+      → Means seen (command.Report options kinds verbose) bytes exit
+  reported_junit : (options : ReportOptions) (bytes : List ℕ) (exit : ℕ) → IsUnasked seen → ReportedJunit options.run seen.calls bytes exit
+      → Means seen (command.ReportJunit options) bytes exit
 
 -- how a command ends that memory or the store cut short
 pub data CutShort (seen : Seen) : Command → List ℕ → ℕ → Type 0 where
@@ -102,10 +103,10 @@ pub data CutShort (seen : Seen) : Command → List ℕ → ℕ → Type 0 where
   cut : (options : CaseOptions) (file : List ℕ) (picked : Picked) (moment : ℕ) (bytes : List ℕ) (exit : ℕ) → IsPrepared false options seen picked picked.chosen.cases (Now moment ∷ [])
       → TestCut seen.plan picked.settings.config.parallelism moment seen.trace seen.calls bytes exit
       → CutShort seen (command.Test options file) bytes exit
-  report_cut : (file : List ℕ) (number : Option ℕ) (kinds : List Kind) (verbose : Bool) (bytes : List ℕ) (exit : ℕ) → IsUnasked seen → Unread number seen.calls bytes exit
-      → CutShort seen (command.Report file number kinds verbose) bytes exit
-  junit_cut : (file : List ℕ) (number : Option ℕ) (bytes : List ℕ) (exit : ℕ) → IsUnasked seen → Unread number seen.calls bytes exit ⊎ JunitCut number seen.calls bytes exit
-      → CutShort seen (command.ReportJunit file number) bytes exit
+  report_cut : (options : ReportOptions) (kinds : List Kind) (verbose : Bool) (bytes : List ℕ) (exit : ℕ) → IsUnasked seen → Unread options.run seen.calls bytes exit
+      → CutShort seen (command.Report options kinds verbose) bytes exit
+  junit_cut : (options : ReportOptions) (bytes : List ℕ) (exit : ℕ) → IsUnasked seen → Unread options.run seen.calls bytes exit ⊎ JunitCut options.run seen.calls bytes exit
+      → CutShort seen (command.ReportJunit options) bytes exit
 
 -- nothing was started, and the store was not called
 abbrev pub asked_only : List Question → Seen

@@ -34,11 +34,10 @@ pub fn execute<W: World, R: ResultStore, O: Write>(
         } => test(alloc, options, file, world, results, out),
         Command::Debug(options) => debug(alloc, options, world, out),
         Command::Report {
-            run,
+            options,
             kinds,
             verbose,
-            ..
-        } => report(*run, kinds.as_slice(), *verbose, results, out),
-        Command::ReportJunit { run, .. } => report_junit(alloc, *run, results, out),
+        } => report(options.run, kinds.as_slice(), *verbose, results, out),
+        Command::ReportJunit(options) => report_junit(alloc, options.run, results, out),
     }
 }

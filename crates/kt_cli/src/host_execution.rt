@@ -144,12 +144,11 @@ pub fn execute_on_host<
     }
     match command {
         Command::Report {
-            run,
+            options,
             kinds,
             verbose,
-            ..
-        } => Ok(report(*run, kinds.as_slice(), *verbose, results, out)),
-        Command::ReportJunit { run, .. } => Ok(report_junit(rt.alloc(), *run, results, out)),
+        } => Ok(report(options.run, kinds.as_slice(), *verbose, results, out)),
+        Command::ReportJunit(options) => { Ok(report_junit(rt.alloc(), options.run, results, out)) }
         Command::List(_) | Command::Test { .. } | Command::Debug(_) => unreachable!(),
     }
 }

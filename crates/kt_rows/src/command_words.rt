@@ -5,7 +5,7 @@ use kt_words::{Command, CommandFault, read_command};
 use std::alloc::Global;
 
 /// The words of a line, which have spaces between them.
-fn words_of(alloc: Global, line: &str) -> Result<Vec<String>, RowFault> {
+pub fn words_of(alloc: Global, line: &str) -> Result<Vec<String>, RowFault> {
     let mut words = Vec::new(alloc);
     for word in line.split_whitespace() {
         let bytes = unescaped(alloc, word)?;

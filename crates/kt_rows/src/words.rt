@@ -1,9 +1,10 @@
-use crate::command_words::read_line;
+use crate::command_words::words_of;
+use crate::numbers::number;
 use crate::row::Row;
 use crate::row_fault::RowFault;
 use kt_base::{Kind, Text};
 use kt_plan::CaseOptions;
-use kt_words::{Command, CommandFault};
+use kt_words::{Command, CommandFault, ReportOptions, read_command};
 use std::alloc::Global;
 
 /// Appends a value of an option.
@@ -46,13 +47,28 @@ fn push_places(out: &mut String, options: &CaseOptions) -> Result<(), RowFault> 
     push_value(out, "work", &options.work)
 }
 
-/// Appends what a command over test cases is given besides.
-fn push_given(out: &mut String, options: &CaseOptions) -> Result<(), RowFault> {
-    if let Some(config) = &options.config {
+/// Appends what stands before a command.
+fn push_before(
+    out: &mut String,
+    config: &Option<Text>,
+    variables: &[Text],
+) -> Result<(), RowFault> {
+    if let Some(config) = config {
         push_value(out, "config", config)?;
     }
-    push_values(out, "variable", options.variables.as_slice())?;
+    push_values(out, "variable", variables)
+}
+
+/// Appends what a command over test cases is given besides.
+fn push_given(out: &mut String, options: &CaseOptions) -> Result<(), RowFault> {
+    push_before(out, &options.config, options.variables.as_slice())?;
     push_values(out, "filter", options.filters.as_slice())
+}
+
+/// Appends the results file of a report, and what stands before it.
+fn push_shown(out: &mut String, options: &ReportOptions) -> Result<(), RowFault> {
+    push_value(out, "results", &options.results)?;
+    push_before(out, &options.config, options.variables.as_slice())
 }
 
 /// Appends the name of a command over test cases, its places, its results file if it has one, and
@@ -93,18 +109,17 @@ fn push_command(alloc: Global, out: &mut String, command: &Command) -> Result<()
         Command::Test { options, results } => push_cases(out, "test ", options, Some(results)),
         Command::Debug(options) => push_cases(out, "debug ", options, None),
         Command::Report {
-            results,
-            run,
+            options,
             kinds,
             verbose,
         } => {
-            push_report(alloc, out, *run, kinds.as_slice(), *verbose)?;
-            push_value(out, "results", results)
+            push_report(alloc, out, options.run, kinds.as_slice(), *verbose)?;
+            push_shown(out, options)
         }
-        Command::ReportJunit { results, run } => {
+        Command::ReportJunit(options) => {
             out.push_str("report-junit")?;
-            push_run(alloc, out, *run)?;
-            push_value(out, "results", results)
+            push_run(alloc, out, options.run)?;
+            push_shown(out, options)
         }
     }
 }
@@ -119,12 +134,28 @@ fn fault_text(fault: &CommandFault) -> &'static str {
     }
 }
 
-/// What a command line is read as: `line WORDS`, with spaces between the words.
+/// Appends the word of `times N WORD` N times.
+fn push_times(alloc: Global, words: &mut Vec<String>, text: &str) -> Result<(), RowFault> {
+    let Some((count, word)) = text.split_once(' ') else {
+        return Err(RowFault::Misspelled("a number and a word are due"));
+    };
+    for _ in 0..number(count)? {
+        words.push(String::from_str(alloc, word)?)?;
+    }
+    Ok(())
+}
+
+/// What a command line is read as: `line WORDS`, with spaces between the words, and perhaps
+/// `times N WORD` for a word that follows N times.
 pub fn answer(alloc: Global, row: &Row<'_>) -> Result<String, RowFault> {
     let Some(line) = row.text("line") else {
         return Err(RowFault::Misspelled("the row has no command line"));
     };
-    match read_line(alloc, line)? {
+    let mut words = words_of(alloc, line)?;
+    if let Some(text) = row.text("times") {
+        push_times(alloc, &mut words, text)?;
+    }
+    match read_command(alloc, words.as_slice()) {
         Ok(command) => {
             let mut out = String::new(alloc);
             push_command(alloc, &mut out, &command)?;

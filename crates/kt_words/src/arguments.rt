@@ -1,26 +1,44 @@
+ghost use Rattle.std.specs.Prelude.{◌≡◌, IfOk, false};
+ghost use Rattle.clap.specs.Words.{app_of, new_app, rule_of};
+ghost use Rattle.clap.specs.declared.builder.command.Command.TheViews.{out-Command as fields_of};
+ghost use Rattle.kt_words.specs.Grammar.{config_rule, variable_rule, kyuafile_rule, work_rule};
+ghost use Rattle.kt_words.specs.Grammar.{results_rule, filters_rule, case_rule, run_rule, kinds_rule};
+ghost use Rattle.kt_words.specs.Grammar.{verbose_rule, list_app, test_app, debug_app, report_app};
+ghost use Rattle.kt_words.specs.Grammar.{junit_app, kyua_app};
+
 use clap::{Arg, ArgAction};
 use kt_base::NoMemory;
 use std::alloc::Global;
 
 /// The Kyuafile, unless `-k` names another.
-const KYUAFILE: &str = "Kyuafile";
+pub const KYUAFILE: &str = "Kyuafile";
 
 /// Where work directories lie, unless `--work` says otherwise (this profile).
-const WORK: &str = "/tmp";
+pub const WORK: &str = "/tmp";
 
 /// The file of the results, unless `-r` names another (this profile).
-const RESULTS: &str = "kyua.db";
+pub const RESULTS: &str = "kyua.db";
 
-fn config_word<'a>(alloc: Global) -> Arg<'a> {
+/// The end of each command's help.
+const BEFORE: &str =
+    "The options -c FILE and -v NAME=VALUE stand before the command; see 'kyua --help'.";
+
+fn config_word<'a>(alloc: Global) -> Arg<'a>
+    ensures rule { rule_of result ≡ config_rule }
+    ensures own { result.global ≡ false }
+{
     Arg::new(alloc, "config")
         .short('c')
         .long("config")
         .value_name("FILE")
         .action(ArgAction::Set)
-        .help("The configuration file to read [default: no file]")
+        .help("The configuration file that the cases are read with [default: no file]")
 }
 
-fn variable_word<'a>(alloc: Global) -> Arg<'a> {
+fn variable_word<'a>(alloc: Global) -> Arg<'a>
+    ensures rule { rule_of result ≡ variable_rule }
+    ensures own { result.global ≡ false }
+{
     Arg::new(alloc, "variables")
         .short('v')
         .long("variable")
@@ -29,7 +47,10 @@ fn variable_word<'a>(alloc: Global) -> Arg<'a> {
         .help("Sets a variable, after those of the configuration file; may be repeated")
 }
 
-fn kyuafile_word<'a>(alloc: Global) -> Arg<'a> {
+fn kyuafile_word<'a>(alloc: Global) -> Arg<'a>
+    ensures rule { rule_of result ≡ kyuafile_rule }
+    ensures own { result.global ≡ false }
+{
     Arg::new(alloc, "kyuafile")
         .short('k')
         .long("kyuafile")
@@ -39,7 +60,10 @@ fn kyuafile_word<'a>(alloc: Global) -> Arg<'a> {
         .help("The Kyuafile to read")
 }
 
-fn work_word<'a>(alloc: Global) -> Arg<'a> {
+fn work_word<'a>(alloc: Global) -> Arg<'a>
+    ensures rule { rule_of result ≡ work_rule }
+    ensures own { result.global ≡ false }
+{
     Arg::new(alloc, "work")
         .long("work")
         .value_name("DIR")
@@ -48,7 +72,10 @@ fn work_word<'a>(alloc: Global) -> Arg<'a> {
         .help("The absolute path of a directory to make work directories in")
 }
 
-fn results_word<'a>(alloc: Global) -> Arg<'a> {
+fn results_word<'a>(alloc: Global) -> Arg<'a>
+    ensures rule { rule_of result ≡ results_rule }
+    ensures own { result.global ≡ false }
+{
     Arg::new(alloc, "results")
         .short('r')
         .long("results-file")
@@ -58,7 +85,10 @@ fn results_word<'a>(alloc: Global) -> Arg<'a> {
         .help("The file of the results")
 }
 
-fn filters_word<'a>(alloc: Global) -> Arg<'a> {
+fn filters_word<'a>(alloc: Global) -> Arg<'a>
+    ensures rule { rule_of result ≡ filters_rule }
+    ensures own { result.global ≡ false }
+{
     Arg::new(alloc, "filters")
         .value_name("FILTER")
         .num_args(0..)
@@ -66,7 +96,10 @@ fn filters_word<'a>(alloc: Global) -> Arg<'a> {
         .help("The test cases, as PROGRAM:CASE, PROGRAM or DIRECTORY [default: all]")
 }
 
-fn case_word<'a>(alloc: Global) -> Arg<'a> {
+fn case_word<'a>(alloc: Global) -> Arg<'a>
+    ensures rule { rule_of result ≡ case_rule }
+    ensures own { result.global ≡ false }
+{
     Arg::new(alloc, "filters")
         .value_name("PROGRAM:CASE")
         .required(true)
@@ -74,7 +107,10 @@ fn case_word<'a>(alloc: Global) -> Arg<'a> {
         .help("The test case to run")
 }
 
-fn run_word<'a>(alloc: Global) -> Arg<'a> {
+fn run_word<'a>(alloc: Global) -> Arg<'a>
+    ensures rule { rule_of result ≡ run_rule }
+    ensures own { result.global ≡ false }
+{
     Arg::new(alloc, "run")
         .long("run")
         .value_name("N")
@@ -82,7 +118,10 @@ fn run_word<'a>(alloc: Global) -> Arg<'a> {
         .help("The number of the run, 1 to 1000000 [default: the last one]")
 }
 
-fn kinds_word<'a>(alloc: Global) -> Arg<'a> {
+fn kinds_word<'a>(alloc: Global) -> Arg<'a>
+    ensures rule { rule_of result ≡ kinds_rule }
+    ensures own { result.global ≡ false }
+{
     Arg::new(alloc, "kinds")
         .long("results-filter")
         .value_name("K,..")
@@ -92,18 +131,33 @@ fn kinds_word<'a>(alloc: Global) -> Arg<'a> {
         )
 }
 
-fn verbose_word<'a>(alloc: Global) -> Arg<'a> {
+fn verbose_word<'a>(alloc: Global) -> Arg<'a>
+    ensures rule { rule_of result ≡ verbose_rule }
+    ensures own { result.global ≡ false }
+{
     Arg::new(alloc, "verbose")
         .long("verbose")
         .action(ArgAction::SetTrue)
-        .help("Shows what each case declares beneath its line")
+        .help("Shows the properties of each case beneath its line, defaults included")
+}
+
+/// A command, whose help ends with where the options stand that it doesn't name itself.
+fn command_words<'a>(alloc: Global, name: &'a str, about: &'a str) -> clap::Command<'a>
+    ensures app { app_of result ≡ new_app name.entry.now }
+    ensures own { (fields_of result).has_globals ≡ false }
+{
+    clap::Command::new(alloc, name)
+        .about(about)
+        .after_help(BEFORE)
 }
 
 /// `list [-k FILE] [--work=DIR] [FILTER..]`, as kyua-list(1) has it but for `--work`.
-fn list_words<'a>(alloc: Global) -> Result<clap::Command<'a>, NoMemory> {
+fn list_words<'a>(alloc: Global) -> Result<clap::Command<'a>, NoMemory>
+    ensures app { IfOk result (λ c. app_of c ≡ list_app) }
+    ensures own { IfOk result (λ c. (fields_of c).has_globals ≡ false) }
+{
     Ok(
-        clap::Command::new(alloc, "list")
-            .about("Lists test cases")
+        command_words(alloc, "list", "Lists test cases")
             .arg(kyuafile_word(alloc))?
             .arg(work_word(alloc))?
             .arg(filters_word(alloc))?,
@@ -111,10 +165,12 @@ fn list_words<'a>(alloc: Global) -> Result<clap::Command<'a>, NoMemory> {
 }
 
 /// `test [-k FILE] [-r FILE] [--work=DIR] [FILTER..]`, as kyua-test(1) has it but for `--work`.
-fn test_words<'a>(alloc: Global) -> Result<clap::Command<'a>, NoMemory> {
+fn test_words<'a>(alloc: Global) -> Result<clap::Command<'a>, NoMemory>
+    ensures app { IfOk result (λ c. app_of c ≡ test_app) }
+    ensures own { IfOk result (λ c. (fields_of c).has_globals ≡ false) }
+{
     Ok(
-        clap::Command::new(alloc, "test")
-            .about("Runs test cases and records their results")
+        command_words(alloc, "test", "Runs test cases and records their results")
             .arg(kyuafile_word(alloc))?
             .arg(results_word(alloc))?
             .arg(work_word(alloc))?
@@ -123,21 +179,29 @@ fn test_words<'a>(alloc: Global) -> Result<clap::Command<'a>, NoMemory> {
 }
 
 /// `debug [-k FILE] [--work=DIR] PROGRAM:CASE`, as kyua-debug(1) has it but for `--work`.
-fn debug_words<'a>(alloc: Global) -> Result<clap::Command<'a>, NoMemory> {
+fn debug_words<'a>(alloc: Global) -> Result<clap::Command<'a>, NoMemory>
+    ensures app { IfOk result (λ c. app_of c ≡ debug_app) }
+    ensures own { IfOk result (λ c. (fields_of c).has_globals ≡ false) }
+{
     Ok(
-        clap::Command::new(alloc, "debug")
-            .about("Runs one test case and shows what it writes")
-            .arg(kyuafile_word(alloc))?
-            .arg(work_word(alloc))?
-            .arg(case_word(alloc))?,
+        command_words(
+            alloc,
+            "debug",
+            "Runs one test case and shows what it writes",
+        )
+        .arg(kyuafile_word(alloc))?
+        .arg(work_word(alloc))?
+        .arg(case_word(alloc))?,
     )
 }
 
 /// `report [-r FILE] [--run=N] [--results-filter=K,..] [--verbose]`, as kyua-report(1) has it but for `--run`.
-fn report_words<'a>(alloc: Global) -> Result<clap::Command<'a>, NoMemory> {
+fn report_words<'a>(alloc: Global) -> Result<clap::Command<'a>, NoMemory>
+    ensures app { IfOk result (λ c. app_of c ≡ report_app) }
+    ensures own { IfOk result (λ c. (fields_of c).has_globals ≡ false) }
+{
     Ok(
-        clap::Command::new(alloc, "report")
-            .about("Shows a recorded run as text")
+        command_words(alloc, "report", "Shows a recorded run as text")
             .arg(results_word(alloc))?
             .arg(run_word(alloc))?
             .arg(kinds_word(alloc))?
@@ -146,17 +210,26 @@ fn report_words<'a>(alloc: Global) -> Result<clap::Command<'a>, NoMemory> {
 }
 
 /// `report-junit [-r FILE] [--run=N]`, as kyua-report-junit(1) has it but for `--run`.
-fn junit_words<'a>(alloc: Global) -> Result<clap::Command<'a>, NoMemory> {
+fn junit_words<'a>(alloc: Global) -> Result<clap::Command<'a>, NoMemory>
+    ensures app { IfOk result (λ c. app_of c ≡ junit_app) }
+    ensures own { IfOk result (λ c. (fields_of c).has_globals ≡ false) }
+{
     Ok(
-        clap::Command::new(alloc, "report-junit")
-            .about("Shows a recorded run as a JUnit report")
-            .arg(results_word(alloc))?
-            .arg(run_word(alloc))?,
+        command_words(
+            alloc,
+            "report-junit",
+            "Shows a recorded run as a JUnit report",
+        )
+        .arg(results_word(alloc))?
+        .arg(run_word(alloc))?,
     )
 }
 
 /// The whole command line, without the program's own name.
-pub fn all_words<'a>(alloc: Global) -> Result<clap::Command<'a>, NoMemory> {
+pub fn all_words<'a>(alloc: Global) -> Result<clap::Command<'a>, NoMemory>
+    ensures app { IfOk result (λ c. app_of c ≡ kyua_app) }
+    ensures own { IfOk result (λ c. (fields_of c).has_globals ≡ false) }
+{
     Ok(
         clap::Command::new(alloc, "kyua")
             .about("Runs test programs and reports their results")

@@ -1,4 +1,7 @@
 ghost use Rattle.std.specs.Prelude.{◌≡◌};
+ghost use Rattle.clap.specs.Words.{kind_of};
+ghost use Rattle.clap.specs.declared.error.kind.ErrorKind.TheVariants.{OutOfMemory};
+ghost use Rattle.kt_words.specs.Reading.{RefusesWords};
 ghost use Rattle.kt_words.specs.declared.command_fault.CommandFault.TheVariants as fault;
 
 use clap::error::ErrorKind;
@@ -42,7 +45,9 @@ impl From<NoMemory> for CommandFault {
 
 impl CommandFault {
     /// What `clap` says of words that are no command.
-    pub(crate) fn of_words(alloc: Global, error: clap::Error) -> CommandFault {
+    pub(crate) fn of_words(alloc: Global, error: clap::Error) -> CommandFault
+        ensures { RefusesWords (kind_of error ≡ OutOfMemory) result }
+    {
         if error.kind() == ErrorKind::OutOfMemory {
             return CommandFault::NoMemory(Shortage { refusal: Refusal });
         }

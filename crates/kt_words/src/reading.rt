@@ -1,11 +1,21 @@
-ghost use Rattle.std.specs.Prelude.{◌≡◌, ◌≤◌, map, chars, IfOk, IfSome};
+ghost use Rattle.std.specs.Prelude.{◌≡◌, ◌≤◌, drop, map, chars, codes, option_map, IfOk, IfErr, IfSome, IsErrAnd};
+ghost use Rattle.std.specs.String.{string_bytes};
+ghost use Rattle.std.specs.Vec.Iter.{into_iter_items};
+ghost use Rattle.clap.specs.Words.{all_of, first_of, found_of, rows_of, subcommand_rows_of};
+ghost use Rattle.std.specs.IoError.{error_kind};
+ghost use Rattle.std.specs.declared.io.ErrorKind.TheVariants.{OutOfMemory};
+ghost use Rattle.kt_words.specs.declared.command.Command.TheVariants as command;
 ghost use Rattle.kt_words.specs.Commands.{HasRunNumber};
+ghost use Rattle.kt_words.specs.Reading.{text_given, text_or, texts_given, is_true, results_in};
+ghost use Rattle.kt_words.specs.Reading.{run_of, kinds_of, options_in, report_options, report_in, junit_in};
+ghost use Rattle.kt_words.specs.Reading.{command_named, command_in, Answers, Reads, ReadsRun, ReadsShown, RefusesWords};
 
-use crate::arguments::all_words;
+use crate::arguments::{KYUAFILE, RESULTS, WORK, all_words};
 use crate::command::Command;
 use crate::command_fault::CommandFault;
 use crate::filter::{default_kinds, kinds_in};
 use crate::numbers::run_number;
+use crate::report_options::ReportOptions;
 use clap::ArgMatches;
 use clap::error::ErrorKind;
 use kt_base::{Items, Kind, NoMemory, Text};
@@ -17,12 +27,35 @@ use std::io;
 /// What `clap` says of words that aren't UTF-8.
 const UNREADABLE: &str = "invalid UTF-8 was detected in one or more arguments";
 
-/// The value of an option that always has one, since `clap` gives it its default.
-fn text_of<'a>(alloc: Global, matches: &ArgMatches<'a>, name: &str) -> Result<Text, CommandFault> {
-    let Some(word) = matches.get_str(name) else {
-        return Err(CommandFault::Usage(Text::new(alloc)));
-    };
-    Ok(Text::from_str(alloc, word)?)
+/// The value of an option, if it has one.
+fn word_of<'a>(matches: &ArgMatches<'a>, name: &str) -> Option<&'a str>
+    ensures { option_map (λ word. word.now) result ≡ first_of name.now (rows_of (found_of matches.now)) }
+{
+    matches.get_str(name)
+}
+
+/// The values of an option or argument, if it has an entry.
+fn words_of<'b, 'a>(matches: &'b ArgMatches<'a>, name: &str) -> Option<&'b [&'a str]>
+    ensures { option_map (λ words. map (λ word. word.now) words.now) result
+        ≡ all_of name.now (rows_of (found_of matches.now)) }
+{
+    matches.get_strs(name)
+}
+
+/// The value of an option, or the text that stands for it.
+fn text_or<'a>(
+    alloc: Global,
+    matches: &ArgMatches<'a>,
+    name: &str,
+    instead: &str,
+) -> Result<Text, NoMemory>
+    ensures { IfOk result (λ text.
+        text ≡ text_or instead.now name.now (rows_of (found_of matches.now))) }
+{
+    match word_of(matches, name) {
+        None => Text::from_str(alloc, instead),
+        Some(word) => Text::from_str(alloc, word),
+    }
 }
 
 /// The value of an option, if it is given.
@@ -30,8 +63,10 @@ fn text_given<'a>(
     alloc: Global,
     matches: &ArgMatches<'a>,
     name: &str,
-) -> Result<Option<Text>, NoMemory> {
-    match matches.get_str(name) {
+) -> Result<Option<Text>, NoMemory>
+    ensures { IfOk result (λ text. text ≡ text_given name.now (rows_of (found_of matches.now))) }
+{
+    match word_of(matches, name) {
         None => Ok(None),
         Some(word) => Ok(Some(Text::from_str(alloc, word)?)),
     }
@@ -53,8 +88,10 @@ fn texts_given<'a>(
     alloc: Global,
     matches: &ArgMatches<'a>,
     name: &str,
-) -> Result<Items<Text>, NoMemory> {
-    match matches.get_strs(name) {
+) -> Result<Items<Text>, NoMemory>
+    ensures { IfOk result (λ texts. texts ≡ texts_given name.now (rows_of (found_of matches.now))) }
+{
+    match words_of(matches, name) {
         None => Ok(Items::new(alloc)),
         Some(words) => texts(alloc, words),
     }
@@ -62,9 +99,10 @@ fn texts_given<'a>(
 
 /// The run that is asked for, if one is.
 fn run_of<'a>(matches: &ArgMatches<'a>) -> Result<Option<u64>, CommandFault>
-    ensures { IfOk result (λ run. IfSome run (λ n. (1 ≤ n) × (n ≤ 1000000))) }
+    ensures value { ReadsRun (run_of (first_of (codes "run") (rows_of (found_of matches.now)))) result }
+    ensures range { IfOk result (λ run. IfSome run (λ n. (1 ≤ n) × (n ≤ 1000000))) }
 {
-    let Some(word) = matches.get_str("run") else {
+    let Some(word) = word_of(matches, "run") else {
         return Ok(None);
     };
     match run_number(word.as_bytes()) {
@@ -73,10 +111,26 @@ fn run_of<'a>(matches: &ArgMatches<'a>) -> Result<Option<u64>, CommandFault>
     }
 }
 
-fn kinds_of<'a>(alloc: Global, matches: &ArgMatches<'a>) -> Result<Items<Kind>, CommandFault> {
-    match matches.get_str("kinds") {
-        Some(words) => kinds_in(alloc, words.as_bytes()),
+/// The kinds that are shown.
+fn kinds_of<'a>(alloc: Global, matches: &ArgMatches<'a>) -> Result<Items<Kind>, CommandFault>
+    ensures { ReadsShown (kinds_of (first_of (codes "kinds") (rows_of (found_of matches.now)))) result }
+{
+    match word_of(matches, "kinds") {
+        Some(words) => {
+            let kinds = kinds_in(alloc, words.as_bytes())?;
+            Ok(kinds)
+        }
         None => Ok(default_kinds(alloc)?),
+    }
+}
+
+/// Whether `--verbose` is given.
+fn is_verbose<'a>(matches: &ArgMatches<'a>) -> bool
+    ensures { result ≡ is_true (first_of (codes "verbose") (rows_of (found_of matches.now))) }
+{
+    match word_of(matches, "verbose") {
+        None => false,
+        Some(word) => word == "true",
     }
 }
 
@@ -85,11 +139,14 @@ fn case_options<'a>(
     alloc: Global,
     before: &ArgMatches<'a>,
     own: &ArgMatches<'a>,
-) -> Result<CaseOptions, CommandFault> {
+) -> Result<CaseOptions, NoMemory>
+    ensures { IfOk result (λ options.
+        options ≡ options_in (rows_of (found_of before.now)) (rows_of (found_of own.now))) }
+{
     let config = text_given(alloc, before, "config")?;
     let variables = texts_given(alloc, before, "variables")?;
-    let kyuafile = text_of(alloc, own, "kyuafile")?;
-    let work = text_of(alloc, own, "work")?;
+    let kyuafile = text_or(alloc, own, "kyuafile", KYUAFILE)?;
+    let work = text_or(alloc, own, "work", WORK)?;
     let filters = texts_given(alloc, own, "filters")?;
     Ok(CaseOptions {
         config,
@@ -100,12 +157,20 @@ fn case_options<'a>(
     })
 }
 
+/// The file of the results.
+fn results_of<'a>(alloc: Global, own: &ArgMatches<'a>) -> Result<Text, NoMemory>
+    ensures { IfOk result (λ text. text ≡ results_in (rows_of (found_of own.now))) }
+{
+    text_or(alloc, own, "results", RESULTS)
+}
+
 fn read_list<'a>(
     alloc: Global,
     before: &ArgMatches<'a>,
     own: &ArgMatches<'a>,
-) -> Result<Command, CommandFault>
-    ensures { IfOk result HasRunNumber }
+) -> Result<Command, NoMemory>
+    ensures { IfOk result (λ read. read
+        ≡ command.List (options_in (rows_of (found_of before.now)) (rows_of (found_of own.now)))) }
 {
     let options = case_options(alloc, before, own)?;
     Ok(Command::List(options))
@@ -115,11 +180,13 @@ fn read_test<'a>(
     alloc: Global,
     before: &ArgMatches<'a>,
     own: &ArgMatches<'a>,
-) -> Result<Command, CommandFault>
-    ensures { IfOk result HasRunNumber }
+) -> Result<Command, NoMemory>
+    ensures { IfOk result (λ read. read
+        ≡ command.Test (options_in (rows_of (found_of before.now)) (rows_of (found_of own.now)))
+        (results_in (rows_of (found_of own.now)))) }
 {
     let options = case_options(alloc, before, own)?;
-    let results = text_of(alloc, own, "results")?;
+    let results = results_of(alloc, own)?;
     Ok(Command::Test { options, results })
 }
 
@@ -127,101 +194,142 @@ fn read_debug<'a>(
     alloc: Global,
     before: &ArgMatches<'a>,
     own: &ArgMatches<'a>,
-) -> Result<Command, CommandFault>
-    ensures { IfOk result HasRunNumber }
+) -> Result<Command, NoMemory>
+    ensures { IfOk result (λ read. read
+        ≡ command.Debug (options_in (rows_of (found_of before.now)) (rows_of (found_of own.now)))) }
 {
     let options = case_options(alloc, before, own)?;
     Ok(Command::Debug(options))
 }
 
-fn read_report<'a>(alloc: Global, own: &ArgMatches<'a>) -> Result<Command, CommandFault>
-    ensures { IfOk result HasRunNumber }
+/// The options of a command that shows a run: those before the command, its own, and the run.
+fn report_options<'a>(
+    alloc: Global,
+    before: &ArgMatches<'a>,
+    own: &ArgMatches<'a>,
+    run: Option<u64>,
+) -> Result<ReportOptions, NoMemory>
+    ensures { IfOk result (λ options.
+        options ≡ report_options (rows_of (found_of before.now)) (rows_of (found_of own.now)) run) }
 {
-    let kinds = kinds_of(alloc, own)?;
-    let run = run_of(own)?;
-    let results = text_of(alloc, own, "results")?;
-    Ok(Command::Report {
+    let config = text_given(alloc, before, "config")?;
+    let variables = texts_given(alloc, before, "variables")?;
+    let results = results_of(alloc, own)?;
+    Ok(ReportOptions {
+        config,
+        variables,
         results,
         run,
-        kinds,
-        verbose: own.get_flag("verbose"),
     })
 }
 
-fn read_junit<'a>(alloc: Global, own: &ArgMatches<'a>) -> Result<Command, CommandFault>
-    ensures { IfOk result HasRunNumber }
+fn read_report<'a>(
+    alloc: Global,
+    before: &ArgMatches<'a>,
+    own: &ArgMatches<'a>,
+) -> Result<Command, CommandFault>
+    ensures value { Answers (report_in (rows_of (found_of before.now)) (rows_of (found_of own.now)))
+        result }
+    ensures range { IfOk result HasRunNumber }
+{
+    let kinds = kinds_of(alloc, own)?;
+    let run = run_of(own)?;
+    let options = report_options(alloc, before, own, run)?;
+    Ok(Command::Report {
+        options,
+        kinds,
+        verbose: is_verbose(own),
+    })
+}
+
+fn read_junit<'a>(
+    alloc: Global,
+    before: &ArgMatches<'a>,
+    own: &ArgMatches<'a>,
+) -> Result<Command, CommandFault>
+    ensures value { Answers (junit_in (rows_of (found_of before.now)) (rows_of (found_of own.now)))
+        result }
+    ensures range { IfOk result HasRunNumber }
 {
     let run = run_of(own)?;
-    let results = text_of(alloc, own, "results")?;
-    Ok(Command::ReportJunit { results, run })
+    let options = report_options(alloc, before, own, run)?;
+    Ok(Command::ReportJunit(options))
 }
 
-/// A command over test cases, if it is one.
-fn read_cases<'a>(alloc: Global, matches: &ArgMatches<'a>) -> Result<Option<Command>, CommandFault>
-    ensures { IfOk result (λ command. IfSome command HasRunNumber) }
+/// The command of this name.
+fn read_named<'a>(
+    alloc: Global,
+    before: &ArgMatches<'a>,
+    name: &str,
+    own: &ArgMatches<'a>,
+) -> Result<Command, CommandFault>
+    ensures value { Answers (command_named (rows_of (found_of before.now)) name.now
+        (rows_of (found_of own.now))) result }
+    ensures range { IfOk result HasRunNumber }
 {
-    if let Some(list) = matches.subcommand_matches("list") {
-        let command = read_list(alloc, matches, list)?;
-        return Ok(Some(command));
+    if name == "list" {
+        return Ok(read_list(alloc, before, own)?);
     }
-    if let Some(test) = matches.subcommand_matches("test") {
-        let command = read_test(alloc, matches, test)?;
-        return Ok(Some(command));
+    if name == "test" {
+        return Ok(read_test(alloc, before, own)?);
     }
-    if let Some(debug) = matches.subcommand_matches("debug") {
-        let command = read_debug(alloc, matches, debug)?;
-        return Ok(Some(command));
+    if name == "debug" {
+        return Ok(read_debug(alloc, before, own)?);
     }
-    Ok(None)
-}
-
-/// A command over recorded runs.
-fn read_reports<'a>(alloc: Global, matches: &ArgMatches<'a>) -> Result<Command, CommandFault>
-    ensures { IfOk result HasRunNumber }
-{
-    if let Some(report) = matches.subcommand_matches("report") {
-        let command = read_report(alloc, report)?;
-        return Ok(command);
+    if name == "report" {
+        return read_report(alloc, before, own);
     }
-    if let Some(junit) = matches.subcommand_matches("report-junit") {
-        let command = read_junit(alloc, junit)?;
-        return Ok(command);
+    if name == "report-junit" {
+        return read_junit(alloc, before, own);
     }
     Err(CommandFault::Usage(Text::new(alloc)))
 }
 
-fn read_matches<'a>(alloc: Global, matches: &ArgMatches<'a>) -> Result<Command, CommandFault>
-    ensures { IfOk result HasRunNumber }
+/// The command that the words name, and what stands behind it.
+fn entered_in<'b, 'a>(matches: &'b ArgMatches<'a>) -> Option<(&'a str, &'b ArgMatches<'a>)>
+    ensures { option_map (λ entered. (entered.0.now, rows_of (found_of entered.1.now))) result
+        ≡ subcommand_rows_of matches.now }
 {
-    match read_cases(alloc, matches)? {
-        Some(command) => Ok(command),
-        None => read_reports(alloc, matches),
+    matches.subcommand()
+}
+
+fn read_matches<'a>(alloc: Global, matches: &ArgMatches<'a>) -> Result<Command, CommandFault>
+    ensures value { Answers (command_in (rows_of (found_of matches.now))
+        (subcommand_rows_of matches.now)) result }
+    ensures range { IfOk result HasRunNumber }
+{
+    match entered_in(matches) {
+        None => Err(CommandFault::Usage(Text::new(alloc))),
+        Some((name, own)) => read_named(alloc, matches, name, own),
     }
 }
 
 /// The command of these words (kyua(1)), without the program's own name. A wrong command line is refused before a wrong
-/// results filter, and that before a wrong run number. Which words are which command is `clap`'s, and shown by tests.
+/// results filter, and that before a wrong run number.
 pub fn read_command<'a>(alloc: Global, words: &'a [String]) -> Result<Command, CommandFault>
-    ensures { IfOk result HasRunNumber }
+    ensures value { Reads (map (λ word. string_bytes word) words.entry.now) result }
+    ensures range { IfOk result HasRunNumber }
 {
-    let command = all_words(alloc)?;
-    let matches = match command.try_get_matches_from(words) {
-        Ok(matches) => matches,
-        Err(error) => return Err(CommandFault::of_words(alloc, error)),
-    };
-    let command = read_matches(alloc, &matches)?;
-    Ok(command)
+    let line = all_words(alloc)?;
+    match line.try_get_matches_from(words) {
+        Ok(matches) => read_matches(alloc, &matches),
+        Err(error) => Err(CommandFault::of_words(alloc, error)),
+    }
 }
 
 /// Why words that aren't UTF-8 are no command line.
-fn refuse_words(alloc: Global) -> Result<CommandFault, NoMemory> {
+fn refuse_words(alloc: Global) -> Result<CommandFault, NoMemory>
+    ensures { IfOk result (λ fault. RefusesWords ⊥ fault) }
+{
     let mut command = all_words(alloc)?;
     let error = command.error(ErrorKind::ValueValidation, UNREADABLE)?;
     Ok(CommandFault::of_words(alloc, error))
 }
 
 /// Why words that aren't UTF-8 are no command line, in the form of what `clap` says of others.
-fn unreadable_words(alloc: Global) -> CommandFault {
+fn unreadable_words(alloc: Global) -> CommandFault
+    ensures { RefusesWords ⊥ result }
+{
     match refuse_words(alloc) {
         Ok(fault) => fault,
         Err(refusal) => CommandFault::from(refusal),
@@ -229,7 +337,9 @@ fn unreadable_words(alloc: Global) -> CommandFault {
 }
 
 /// Why the words of a process that can't be had are no command line.
-fn refused_words(alloc: Global, error: &io::Error) -> CommandFault {
+fn refused_words(alloc: Global, error: &io::Error) -> CommandFault
+    ensures { RefusesWords (error_kind error.now ≡ OutOfMemory) result }
+{
     match NoMemory::in_error(error) {
         Some(refusal) => CommandFault::from(refusal),
         None => unreadable_words(alloc),
@@ -238,13 +348,29 @@ fn refused_words(alloc: Global, error: &io::Error) -> CommandFault {
 
 /// The command of the words of a process, of which the first is the program's own name.
 pub fn read_words(alloc: Global, words: io::Result<Args>) -> Result<Command, CommandFault>
-    ensures { IfOk result HasRunNumber }
+    ensures value { IfOk words (λ all.
+        Reads (map (λ word. string_bytes word) (drop 1 (into_iter_items all))) result) }
+    ensures refused { IfErr words (λ e.
+        IsErrAnd result (λ fault. RefusesWords (error_kind e ≡ OutOfMemory) fault)) }
+    ensures range { IfOk result HasRunNumber }
 {
     let words = match words {
         Ok(words) => words,
         Err(error) => return Err(refused_words(alloc, &error)),
     };
-    let words: Vec<String> = words.skip(1).collect(alloc).map_err(NoMemory::from)?;
-    let command = read_command(alloc, words.as_slice())?;
-    Ok(command)
+    let words = match collected(alloc, words) {
+        Ok(words) => words,
+        Err(refusal) => return Err(CommandFault::from(refusal)),
+    };
+    match words.as_slice().split_first() {
+        None => read_command(alloc, words.as_slice()),
+        Some((_, own)) => read_command(alloc, own),
+    }
+}
+
+/// The words that an iterator has yet to give.
+fn collected(alloc: Global, words: Args) -> Result<Vec<String>, NoMemory>
+    ensures { IfOk result (λ all. all.items ≡ into_iter_items words) }
+{
+    Ok(words.collect(alloc)?)
 }

@@ -22,12 +22,12 @@ returns-in-Debug-clause-did g c =
 
 pub returns-in-Report-clause-did : goal.returns-in-Report-clause-did
 returns-in-Report-clause-did g c =
-    let e : c.args.command.now ≡ command.Report c.in-Report.results c.in-Report.run' c.as_slice.result.now c.in-Report.verbose = search rules in
+    let e : c.args.command.now ≡ command.Report c.in-Report.options c.as_slice.result.now c.in-Report.verbose = search rules in
     did_as g.W.Tree.asks g.W.World.tells g.W.Launcher.starts g.W.Launcher.waits g.R.ResultStore.answers g.R.ResultStore.stands g.R.ResultStore.sound g.R.ResultStore.leaves _ _ _ _ _ _ _ _ _ e
-    (did_report g.W.Tree.asks g.W.World.tells g.W.Launcher.starts g.W.Launcher.waits g.R.ResultStore.answers g.R.ResultStore.stands g.R.ResultStore.sound g.R.ResultStore.leaves _ _ _ _ _ _ _ _ _ _ c.report.ensures)
+    (did_report g.W.Tree.asks g.W.World.tells g.W.Launcher.starts g.W.Launcher.waits g.R.ResultStore.answers g.R.ResultStore.stands g.R.ResultStore.sound g.R.ResultStore.leaves _ _ _ _ _ _ _ _ _ c.report.ensures)
 
 pub returns-in-ReportJunit-clause-did : goal.returns-in-ReportJunit-clause-did
 returns-in-ReportJunit-clause-did g c =
-    let e : c.args.command.now ≡ command.ReportJunit c.in-ReportJunit.results c.in-ReportJunit.run' = search rules in
+    let e : c.args.command.now ≡ command.ReportJunit c.in-ReportJunit.options = search rules in
     did_as g.W.Tree.asks g.W.World.tells g.W.Launcher.starts g.W.Launcher.waits g.R.ResultStore.answers g.R.ResultStore.stands g.R.ResultStore.sound g.R.ResultStore.leaves _ _ _ _ _ _ _ _ _ e
-    (did_junit g.W.Tree.asks g.W.World.tells g.W.Launcher.starts g.W.Launcher.waits g.R.ResultStore.answers g.R.ResultStore.stands g.R.ResultStore.sound g.R.ResultStore.leaves _ _ _ _ _ _ _ _ c.report_junit.ensures)
+    (did_junit g.W.Tree.asks g.W.World.tells g.W.Launcher.starts g.W.Launcher.waits g.R.ResultStore.answers g.R.ResultStore.stands g.R.ResultStore.sound g.R.ResultStore.leaves _ _ _ _ _ _ _ c.report_junit.ensures)

@@ -9,10 +9,10 @@ returns-in-Some-clause-did g c =
 
 pub returns-in-Report-clause-did : goal.returns-in-Report-clause-did
 returns-in-Report-clause-did g c =
-    let e : c.args.command.now ≡ command.Report c.in-Report.results c.in-Report.run' c.as_slice.result.now c.in-Report.verbose = search rules in
-    alone_report g.O.Os.leads c.args.os c.args.around g.S.ResultStore.answers g.S.ResultStore.stands g.S.ResultStore.sound g.S.ResultStore.leaves c.args.command.now _ _ _ _ _ c.in-Report.results c.in-Report.run' c.as_slice.result.now c.in-Report.verbose e c.report.ensures
+    let e : c.args.command.now ≡ command.Report c.in-Report.options c.as_slice.result.now c.in-Report.verbose = search rules in
+    alone_report g.O.Os.leads c.args.os c.args.around g.S.ResultStore.answers g.S.ResultStore.stands g.S.ResultStore.sound g.S.ResultStore.leaves c.args.command.now _ _ _ _ _ c.in-Report.options c.as_slice.result.now c.in-Report.verbose e c.report.ensures
 
 pub returns-in-ReportJunit-clause-did : goal.returns-in-ReportJunit-clause-did
 returns-in-ReportJunit-clause-did g c =
-    let e : c.args.command.now ≡ command.ReportJunit c.in-ReportJunit.results c.in-ReportJunit.run' = search rules in
-    alone_junit g.O.Os.leads c.args.os c.args.around g.S.ResultStore.answers g.S.ResultStore.stands g.S.ResultStore.sound g.S.ResultStore.leaves c.args.command.now _ _ _ _ _ c.in-ReportJunit.results c.in-ReportJunit.run' e c.report_junit.ensures
+    let e : c.args.command.now ≡ command.ReportJunit c.in-ReportJunit.options = search rules in
+    alone_junit g.O.Os.leads c.args.os c.args.around g.S.ResultStore.answers g.S.ResultStore.stands g.S.ResultStore.sound g.S.ResultStore.leaves c.args.command.now _ _ _ _ _ c.in-ReportJunit.options e c.report_junit.ensures

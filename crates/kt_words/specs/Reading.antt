@@ -1,0 +1,133 @@
+-- What a command holds of the values that were found on a command line, each by the name of its option.
+use Rattle.std.specs.Prelude.{◌≡◌, ◌≢◌, ⊤, ℕ, Bool, false, List, [], Option, Some, None, Result, Ok, Err, map, unwrap_or, option_map, bytes_eq, codes, if◌then◌else◌}
+use Rattle.std.specs.Str.{chars}
+use Rattle.clap.specs.Words.{Row, Text, all_of, fault_of, first_of, matches_of, subcommand_of}
+use Rattle.kt_base.specs.declared.kind.Kind.{Kind}
+use Rattle.kt_plan.specs.declared.case_options.CaseOptions.{CaseOptions}
+use Rattle.kt_words.specs.declared.command.Command.{Command}
+use Rattle.kt_words.specs.declared.command.Command.TheVariants as command
+use Rattle.kt_words.specs.declared.command_fault.CommandFault.{CommandFault}
+use Rattle.kt_words.specs.declared.command_fault.CommandFault.TheVariants as fault
+use Rattle.kt_words.specs.declared.report_options.ReportOptions.{ReportOptions}
+use Rattle.kt_words.specs.Words.{comma_words, default_kinds, kinds_named, run_named}
+use Rattle.kt_words.specs.Grammar.{kyua_app}
+
+-- ---- values by the names of their options
+
+-- the text that was given
+abbrev pub text_given : Text → List Row → Option (List ℕ)
+text_given id rows = option_map chars (first_of id rows)
+
+-- the text, or the one that stands for it
+abbrev pub text_or : Text → Text → List Row → List ℕ
+text_or instead id rows = chars (unwrap_or (first_of id rows) instead)
+
+-- all texts that were given, in their order
+abbrev pub texts_given : Text → List Row → List (List ℕ)
+texts_given id rows = map chars (unwrap_or (all_of id rows) [])
+
+abbrev pub is_true : Option Text → Bool
+is_true None = false
+is_true (Some word) = bytes_eq word (codes "true")
+
+-- the file of the results
+abbrev pub results_in : List Row → List ℕ
+results_in rows = text_or (codes "kyua.db") (codes "results") rows
+
+-- the run: none without its option, else the number that its word is, where it is one
+abbrev pub run_of : Option Text → Option (Option ℕ)
+run_of None = Some None
+run_of (Some word) = option_map Some (run_named word)
+
+-- the kinds: the default, or those that the word names, where it names kinds
+abbrev pub kinds_of : Option Text → Option (List Kind)
+kinds_of None = Some default_kinds
+kinds_of (Some word) = kinds_named (comma_words word)
+
+-- a run, or that it is none
+abbrev pub ReadsRun : Option (Option ℕ) → Result (Option ℕ) CommandFault → Type 0
+ReadsRun right (Ok run') = right ≡ Some run'
+ReadsRun right (Err fault.BadRun) = right ≡ None
+ReadsRun right other = ⊥
+
+-- kinds, or that they are none, unless memory ran out
+abbrev pub ReadsShown : Option (List Kind) → Result (List Kind) CommandFault → Type 0
+ReadsShown right (Ok kinds) = right ≡ Some kinds
+ReadsShown right (Err fault.BadKind) = right ≡ None
+ReadsShown right (Err (fault.NoMemory shortage)) = ⊤
+ReadsShown right (Err other) = ⊥
+
+-- ---- commands
+
+-- the options of a command over test cases: those before the command, and its own
+abbrev pub options_in : List Row → List Row → CaseOptions
+options_in before own = record {
+  config = text_given (codes "config") before;
+  variables = texts_given (codes "variables") before;
+  kyuafile = text_or (codes "Kyuafile") (codes "kyuafile") own;
+  work = text_or (codes "/tmp") (codes "work") own;
+  filters = texts_given (codes "filters") own;
+}
+
+-- the options of a command that shows this run: those before the command, and its own
+abbrev pub report_options : List Row → List Row → Option ℕ → ReportOptions
+report_options before own run' = record {
+  config = text_given (codes "config") before;
+  variables = texts_given (codes "variables") before;
+  results = results_in own;
+  run = run';
+}
+
+-- a wrong kind is refused before a wrong number
+abbrev pub report_with : List Row → List Row → Option (List Kind) → Option (Option ℕ) → Result Command CommandFault
+report_with before own None run' = Err fault.BadKind
+report_with before own (Some kinds) None = Err fault.BadRun
+report_with before own (Some kinds) (Some run') =
+    Ok (command.Report (report_options before own run') kinds (is_true (first_of (codes "verbose") own)))
+
+abbrev pub junit_with : List Row → List Row → Option (Option ℕ) → Result Command CommandFault
+junit_with before own None = Err fault.BadRun
+junit_with before own (Some run') = Ok (command.ReportJunit (report_options before own run'))
+
+abbrev pub report_in : List Row → List Row → Result Command CommandFault
+report_in before own = report_with before own (kinds_of (first_of (codes "kinds") own)) (run_of (first_of (codes "run") own))
+
+abbrev pub junit_in : List Row → List Row → Result Command CommandFault
+junit_in before own = junit_with before own (run_of (first_of (codes "run") own))
+
+-- the command of this name, over the values before it and its own
+abbrev pub command_named : List Row → Text → List Row → Result Command CommandFault
+command_named before name own =
+    if bytes_eq name (codes "list") then Ok (command.List (options_in before own))
+    else if bytes_eq name (codes "test") then Ok (command.Test (options_in before own) (results_in own))
+    else if bytes_eq name (codes "debug") then Ok (command.Debug (options_in before own))
+    else if bytes_eq name (codes "report") then report_in before own
+    else if bytes_eq name (codes "report-junit") then junit_in before own
+    else Err (fault.Usage [])
+
+abbrev pub command_in : List Row → Option (Text × List Row) → Result Command CommandFault
+command_in before None = Err (fault.Usage [])
+command_in before (Some entered) = command_named before entered.0 entered.1
+
+-- ---- answers
+
+-- this answer, unless memory ran out
+abbrev pub Answers : {A : Type 0} → Result A CommandFault → Result A CommandFault → Type 0
+Answers right (Err (fault.NoMemory shortage)) = ⊤
+Answers right (Err fault.BadKind) = right ≡ Err fault.BadKind
+Answers right (Err fault.BadRun) = right ≡ Err fault.BadRun
+Answers right (Err (fault.Usage told)) = right ≡ Err (fault.Usage told)
+Answers right (Ok value) = right ≡ Ok value
+
+-- what words are read as: refused if `clap` refuses them, else the command of the values that it finds
+abbrev pub Reads : List Text → Result Command CommandFault → Type 0
+Reads words (Err (fault.NoMemory shortage)) = ⊤
+Reads words (Err (fault.Usage told)) = fault_of kyua_app words ≢ []
+Reads words result =
+    (fault_of kyua_app words ≡ []) × (result ≡ command_in (matches_of kyua_app words) (subcommand_of kyua_app words))
+
+-- words are refused as no command line, unless memory is said to have run out
+abbrev pub RefusesWords : Type 0 → CommandFault → Type 0
+RefusesWords short (fault.NoMemory shortage) = ⊤
+RefusesWords short (fault.Usage told) = short → ⊥
+RefusesWords short other = ⊥
