@@ -6,7 +6,7 @@ use crate::row_fault::RowFault;
 use crate::scenes::scene_of;
 use crate::stages::{over_system, stage_of, store_of};
 use crate::store_texts::runs_text;
-use crate::{fault_exits, line_outputs, readers};
+use crate::{disk_tests, fault_exits, line_outputs, readers};
 use kt_cli::Exit;
 use kt_play::{Scene, ScriptedSystem, ScriptedWriter};
 use std::alloc::Global;
@@ -30,7 +30,7 @@ fn play(alloc: Global, row: &Row<'_>, scene: &Scene<'_>, failing: u64) -> Result
     let mut results = store_of(alloc, row)?;
     let mut page = ScriptedWriter::new(alloc, failing);
     let os = ScriptedSystem::new(alloc, scene);
-    let exits = over_system(
+    let (exits, _os) = over_system(
         alloc,
         commands.as_slice(),
         &stage,
@@ -115,8 +115,11 @@ fn done(alloc: Global, row: &Row<'_>) -> Result<String, RowFault> {
 
 /// Commands over a scripted world: `do COMMAND LINE` each. Rows that begin with `piece`, `tell`,
 /// `source` or `reader` are of pieces that are given to a writer of lines, of faults that are told,
-/// of the directories of Kyuafiles and of reads.
+/// of the directories of Kyuafiles and of reads; those with `disk` are of a disk that fails.
 pub fn answer(alloc: Global, row: &Row<'_>) -> Result<String, RowFault> {
+    if let Some(disk) = row.text("disk") {
+        return disk_tests::answer(alloc, row, disk);
+    }
     let Some(first) = row.entries.first() else {
         return Err(RowFault::Misspelled("the row is empty"));
     };

@@ -135,7 +135,7 @@ pub fn over_launcher<L: Launcher + Drop, R: ResultStore, W: Write>(
     Ok(Done { exits, launcher })
 }
 
-/// Does commands over a world with a driver of its own over this system.
+/// Does commands over a world with a driver of its own over this system, and hands it back.
 pub fn over_system<O: Os + Drop, R: ResultStore, W: Write>(
     alloc: Global,
     commands: &[Command],
@@ -143,14 +143,14 @@ pub fn over_system<O: Os + Drop, R: ResultStore, W: Write>(
     os: O,
     results: &mut R,
     out: &mut W,
-) -> Result<Vec<Exit>, RowFault> {
+) -> Result<(Vec<Exit>, O), RowFault> {
     let source = Text::from_str(alloc, "/t")?;
     match Driver::new(alloc, os, &Text::new(alloc), source) {
         Err((_fault, _os)) => Err(RowFault::Misspelled("there is no driver")),
         Ok(driver) => {
             let done = over_launcher(alloc, commands, stage, driver, results, out)?;
-            let _ = done.launcher.close();
-            Ok(done.exits)
+            let os = done.launcher.close();
+            Ok((done.exits, os))
         }
     }
 }

@@ -6,8 +6,10 @@ use crate::failing_disks::{LIMIT, crashed, empty_files, frames_of, fused, open, 
 use crate::row::Row;
 use crate::row_fault::RowFault;
 use crate::store_entries::entry_of;
+use crate::whole_runs::{is_cut, told, told_again};
 use kt_base::Entry;
-use kt_store::{Results, StoreFault};
+use kt_cli::MemRuns;
+use kt_store::{ResultStore, Results, StoreFault};
 use sqlite::{Alter, Connection, Error};
 use sqlite_disk::{Crash, Files};
 use std::alloc::Global;
@@ -22,7 +24,7 @@ struct Left<S: Alter + Drop> {
 }
 
 /// Begins a run, puts its entry and finishes it, up to the first refusal.
-fn work<S: Alter>(results: &mut Results<S>, only: &Entry) -> (i64, Option<StoreFault>)
+fn work<R: ResultStore>(results: &mut R, only: &Entry) -> (i64, Option<StoreFault>)
     requires { (only.now.started ≤ 253402300799999) × (only.now.millis ≤ 253402300799999) }
 {
     if let Err(fault) = results.begin(1, 5) {
@@ -75,38 +77,22 @@ fn shown<S: Alter>(conn: &mut Connection<S>) -> Result<i64, Error> {
     )
 }
 
-/// Whether an entry has another number of pairs.
-fn has_other_pairs(entries: &Vec<Entry>, pairs: usize) -> bool {
-    entries
-        .as_slice()
-        .iter()
-        .any(|entry| entry.meta.len() != pairs)
+/// The runs of a store in which each of those calls was done.
+fn whole_runs(alloc: Global, only: &Entry) -> Result<Vec<String>, RowFault>
+    requires { (only.now.started ≤ 253402300799999) × (only.now.millis ≤ 253402300799999) }
+{
+    let mut results = MemRuns::new(alloc);
+    let _ = work(&mut results, only);
+    told(alloc, &mut results)
 }
 
-/// How many of those calls the store tells, once it is attached again. An entry has so many pairs.
-fn told<S: Alter + Drop>(
-    alloc: Global,
-    conn: Connection<S>,
-    pairs: usize,
-) -> Result<i64, &'static str> {
-    if !conn.is_autocommit() {
-        return Err("a transaction is open");
-    }
-    let Ok(mut results) = Results::attach(alloc, conn) else {
-        return Err("it can not be attached again");
-    };
-    let Ok(heads) = results.runs() else {
-        return Err("its runs can not be told");
-    };
-    let Some(head) = heads.first() else {
-        return Ok(1);
-    };
-    match results.entries(1) {
-        Ok(entries) if entries.is_empty() => Ok(2),
-        Ok(entries) if has_other_pairs(&entries, pairs) => Err("its entry has other pairs"),
-        Ok(_) if head.finished => Ok(4),
-        Ok(_) => Ok(3),
-        Err(_) => Err("its entries can not be told"),
+/// Whether these are the runs after so many of those calls.
+fn is_due(left: &[String], whole: &[String], stage: i64) -> bool {
+    match stage {
+        2 => is_cut(left, whole, 0),
+        3 => is_cut(left, whole, 1),
+        4 => left == whole,
+        _ => left.is_empty(),
     }
 }
 
@@ -126,14 +112,14 @@ fn judged<S: Alter + Drop>(
     alloc: Global,
     conn: Connection<S>,
     done: i64,
-    pairs: usize,
+    whole: &[String],
 ) -> Result<i64, &'static str> {
     let mut conn = conn;
     let stage = stage_of(&mut conn, done)?;
-    if told(alloc, conn, pairs)? == stage.max(1) {
-        Ok(done)
-    } else {
-        Err("the store tells other runs than its tables show")
+    match told_again(alloc, conn) {
+        Ok(left) if is_due(left.as_slice(), whole, stage) => Ok(done),
+        Ok(_) => Err("the store tells other runs than its tables show"),
+        Err(fault) => Err(fault.text()),
     }
 }
 
@@ -144,6 +130,7 @@ fn tried<D: Crash + Drop>(
     files: Files<D>,
     frames: usize,
     only: &Entry,
+    whole: &[String],
 ) -> Option<Result<i64, &'static str>>
     requires { (only.now.started ≤ 253402300799999) × (only.now.millis ≤ 253402300799999) }
 {
@@ -153,7 +140,7 @@ fn tried<D: Crash + Drop>(
         return Some(Err("it was refused for another reason than the disk"));
     }
     match open(alloc, crashed(conn.into_store().close()), frames) {
-        Some(conn) => Some(judged(alloc, conn, done, only.meta.len())),
+        Some(conn) => Some(judged(alloc, conn, done, whole)),
         None => Some(Err("it does not open again")),
     }
 }
@@ -163,11 +150,12 @@ fn tried<D: Crash + Drop>(
 fn sweep(alloc: Global, only: &Entry, in_log: bool, frames: usize) -> Result<String, RowFault>
     requires { (only.now.started ≤ 253402300799999) × (only.now.millis ≤ 253402300799999) }
 {
+    let whole = whole_runs(alloc, only)?;
     let mut out = String::from_str(alloc, "refused after")?;
     let mut last = -1;
     for calls in 0..LIMIT {
         let files = fused(empty_files(alloc), in_log, calls);
-        let Some(answer) = tried(alloc, files, frames, only) else {
+        let Some(answer) = tried(alloc, files, frames, only, whole.as_slice()) else {
             continue;
         };
         match answer {

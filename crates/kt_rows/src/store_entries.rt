@@ -73,7 +73,8 @@ pub fn entry_of(
     Ok(entry)
 }
 
-fn entry_text(alloc: Global, entry: &Entry) -> Result<String, RowFault> {
+/// An entry with its verdict and its times.
+pub fn entry_text(alloc: Global, entry: &Entry) -> Result<String, RowFault> {
     let position = entry.position;
     let program = entry.program.as_str();
     let case_name = entry.case_name.as_str();
@@ -96,7 +97,7 @@ pub fn entries_text(alloc: Global, entries: &[Entry]) -> Result<String, RowFault
 }
 
 /// Appends the pairs of an entry, a line each: `POSITION NAME=VALUE`.
-fn push_pairs(alloc: Global, out: &mut String, entry: &Entry) -> Result<(), RowFault> {
+pub fn push_pairs(alloc: Global, out: &mut String, entry: &Entry) -> Result<(), RowFault> {
     let position = entry.position;
     for pair in entry.meta.as_slice() {
         let name = pair.name.as_str();

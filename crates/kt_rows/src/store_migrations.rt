@@ -3,8 +3,10 @@
 ghost use Rattle.std.specs.Prelude.{◌≡◌, false};
 
 use crate::failing_disks::{LIMIT, crashed, empty_files, frames_of, fused, open, value};
+use crate::lines::push_line;
 use crate::row::Row;
 use crate::row_fault::RowFault;
+use crate::whole_runs::told_again;
 use kt_store::{Results, StoreFault};
 use sqlite::{Alter, Connection, Error};
 use sqlite_disk::{Crash, Disk, Files, Memory};
@@ -19,6 +21,10 @@ const STATEMENTS: [&str; 6] = [
     "INSERT INTO runs (started, total, finished) VALUES (5, 1, 1)",
     "INSERT INTO entries VALUES (1, 0, 'a', 'main', 3, 'x<y', 1700000000123, 12, X'68690A', X'', X'', X'')",
 ];
+
+/// What a store tells of that run.
+const OLD_RUN: &str =
+    "run 1 at 5, 1 cases\n0 a:main failed: x<y, started 1700000000123, took 12\nout=hi\n, err=, cleanup out=, cleanup err=\nfinished";
 
 /// Runs the statements of an earlier version.
 fn fill<S: Alter>(conn: &mut Connection<S>) -> Result<(), Error> {
@@ -63,24 +69,13 @@ fn schema<S: Alter>(conn: &mut Connection<S>) -> Result<i64, Error> {
     }
 }
 
-/// Whether the store tells the one run with its entry, which has no pairs.
-fn tells_the_run<S: Alter + Drop>(alloc: Global, conn: Connection<S>) -> bool {
-    if !conn.is_autocommit() {
-        return false;
+/// Whether the store tells that run, which has no pairs.
+fn tells_the_run<S: Alter + Drop>(alloc: Global, conn: Connection<S>) -> Result<bool, RowFault> {
+    let mut text = String::new(alloc);
+    for line in told_again(alloc, conn)?.as_slice() {
+        push_line(&mut text, line.as_str())?;
     }
-    let Ok(mut results) = Results::attach(alloc, conn) else {
-        return false;
-    };
-    let Ok(heads) = results.runs() else {
-        return false;
-    };
-    let Ok(entries) = results.entries(1) else {
-        return false;
-    };
-    let Some(entry) = entries.first() else {
-        return false;
-    };
-    heads.len() == 1 && entries.len() == 1 && entry.meta.is_empty() && entry.millis == 12
+    Ok(text.as_str() == OLD_RUN)
 }
 
 /// The schema of the tables: 2 if they were taken, else 1 or 2.
@@ -103,10 +98,10 @@ fn judged<S: Alter + Drop>(
 ) -> Result<i64, &'static str> {
     let mut conn = conn;
     let schema = schema_left(&mut conn, done)?;
-    if tells_the_run(alloc, conn) {
-        Ok(schema)
-    } else {
-        Err("the run is another one")
+    match tells_the_run(alloc, conn) {
+        Ok(true) => Ok(schema),
+        Ok(false) => Err("the run is another one"),
+        Err(fault) => Err(fault.text()),
     }
 }
 

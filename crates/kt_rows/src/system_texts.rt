@@ -70,15 +70,20 @@ fn push_output(alloc: Global, out: &mut String, name: &str, bytes: &Bytes) -> Re
     Ok(())
 }
 
+/// Appends the four outputs of a case, on a line.
+pub fn push_outputs(alloc: Global, out: &mut String, entry: &Entry) -> Result<(), RowFault> {
+    push_line(out, "")?;
+    push_output(alloc, out, "out", &entry.body.out)?;
+    push_output(alloc, out, ", err", &entry.body.err)?;
+    push_output(alloc, out, ", cleanup out", &entry.cleanup.out)?;
+    push_output(alloc, out, ", cleanup err", &entry.cleanup.err)
+}
+
 /// The four outputs of each case.
 pub fn outputs(alloc: Global, entries: &[Entry]) -> Result<String, RowFault> {
     let mut out = String::new(alloc);
     for entry in entries {
-        push_line(&mut out, "")?;
-        push_output(alloc, &mut out, "out", &entry.body.out)?;
-        push_output(alloc, &mut out, ", err", &entry.body.err)?;
-        push_output(alloc, &mut out, ", cleanup out", &entry.cleanup.out)?;
-        push_output(alloc, &mut out, ", cleanup err", &entry.cleanup.err)?;
+        push_outputs(alloc, &mut out, entry)?;
     }
     Ok(out)
 }
