@@ -1,11 +1,12 @@
 #!/usr/bin/env bash
-# Builds the program kyua in crates/kyua/out, unless it is there and newer than all its sources.
-# Building proves every crate below it first, each as soon as those that it stands on are proved. Standard error gets a line
-# for each crate.
+# Proves and builds the program kyua in crates/kyua/out, unless it is there and newer than all its sources. Every crate that it
+# depends on is proved first, each as soon as those that it depends on are proved; standard error gets a line for each crate. This
+# takes about half an hour on four processors.
 # rt is taken from PATH, else from the kit that RATTLE_KIT names. Exits with 2 if the build fails.
 set -eu -o pipefail
 top=$(cd "$(dirname "$0")" && pwd)
-. "$top/sources.sh"
+. "$top/scripts/sources.sh"
+explain "$@"
 out=$top/crates/kyua/out
 log=$out/build.log
 begun=$out/begun
@@ -69,14 +70,7 @@ prove() {
 }
 
 if is_newest "$built"; then exit; fi
-if ! command -v rt >/dev/null 2>&1; then
-  if [ ! -x "${RATTLE_KIT-}/bin/rt" ]; then
-    echo "build.sh: the command rt of Rattle's kit is neither on PATH nor in the bin of the folder that RATTLE_KIT names" >&2
-    exit 2
-  fi
-  PATH="$RATTLE_KIT/bin:$PATH"
-  export PATH
-fi
+find_rt || exit 2
 # If this build fails, no older program stands in for it.
 rm -rf "$built" "$rooms"
 mkdir -p "$rooms"

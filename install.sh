@@ -1,22 +1,28 @@
 #!/bin/sh
-# Installs the program kyua, its manual pages and its examples:
+# Installs the program kyua, its manual pages, its completions for shells and its examples:
 #
-#     install.sh [PREFIX]                 below PREFIX, which is /usr/local if none is given
+#     install.sh [PREFIX]                 below PREFIX, which is /usr/local, or $PREFIX if that is set
 #     install.sh --uninstall [PREFIX]     removes what was installed there, and prints each file and directory that it removes
+#     install.sh --help                   prints this
 #
 # The program is the one that kyua.sh runs, so it is built if there is none. If DESTDIR is set, all paths begin with it, as packages
-# want it. PREFIX/share/doc/kyua/installed lists the files that were installed and the directories that were made for them; these
+# want it. PREFIX/share/kyua/installed lists the files that were installed and the directories that were made for them; these
 # are removed again, a directory if it is empty. No file is replaced that isn't in this list. Exits with 0 if all is done, else 1.
 set -eu
 umask 022
 top=$(cd "$(dirname "$0")" && pwd)
+
+usage() {
+    sed -n '2,/^set/s/^# \{0,1\}//p' "$0"
+}
 
 fail() {
     echo "install.sh: $*" >&2
     exit 1
 }
 
-# remove_all FILE: removes the files that it lists, and then the directories that are empty, and prints each that it removes.
+# remove_all FILE: removes the files that it lists, and then the directories that are empty, and prints each that it removes, and
+# each that it leaves.
 remove_all() {
     sed -n '/[^/]$/p' "$1" | while IFS= read -r name; do
         if [ -e "$root/$name" ]; then
@@ -25,13 +31,17 @@ remove_all() {
         fi
     done
     sed -n 's|/$||p' "$1" | LC_ALL=C sort -r | while IFS= read -r name; do
-        if rmdir "$root/$name" 2> /dev/null; then echo "removed $root/$name/"; fi
+        if rmdir "$root/$name" 2> /dev/null; then
+            echo "removed $root/$name/"
+        elif [ -d "$root/$name" ]; then
+            echo "left $root/$name/, which has files that were not installed"
+        fi
     done
 }
 
 uninstall_all() {
     [ -f "$list" ] || fail "nothing was installed below $root: there is no $list"
-    { cat "$list"; echo "$doc/installed"; } > "$room/old"
+    { cat "$list"; echo "$own/installed"; } > "$room/old"
     remove_all "$room/old"
 }
 
@@ -42,8 +52,11 @@ sources() {
         page=${page##*/}
         echo "644 share/man/man${page##*.}/$page man/$page"
     done
+    echo "644 share/bash-completion/completions/kyua completions/kyua.bash"
+    echo "644 share/zsh/site-functions/_kyua completions/_kyua"
+    echo "644 share/fish/vendor_completions.d/kyua.fish completions/kyua.fish"
     (cd "$top" && find examples -type f ! -name 'kyua.db*' | LC_ALL=C sort) | while IFS= read -r file; do
-        if [ -x "$top/$file" ]; then echo "755 $doc/$file $file"; else echo "644 $doc/$file $file"; fi
+        if [ -x "$top/$file" ]; then echo "755 $own/$file $file"; else echo "644 $own/$file $file"; fi
     done
 }
 
@@ -63,15 +76,25 @@ plan() {
     cut -d ' ' -f 2 "$room/sources"
 }
 
+# page FILE: a manual page, with this version at its foot and the paths of this prefix.
+page() {
+    version=$(sed -n 's/^## \([0-9][0-9.]*\).*/\1/p' "$top/CHANGELOG.md" | head -n 1)
+    for_sed=$(printf '%s' "$prefix" | sed 's/[\\&|]/\\&/g')
+    sed -e "s|^\.Os\$|.Os Fermyzhal $version|" -e "s|/usr/local/|$for_sed/|g" "$1"
+}
+
 # place MODE SOURCE TARGET: puts a file in its place at once, so that a program that runs goes on.
 place() {
-    cp "$2" "$3.new"
+    case $2 in
+        *.[15]) page "$2" > "$3.new" ;;
+        *) cp "$2" "$3.new" ;;
+    esac
     chmod "$1" "$3.new"
     mv -f "$3.new" "$3"
 }
 
 install_all() {
-    program=$("$top/program.sh")
+    program=$("$top/scripts/program.sh")
     sources > "$room/sources"
     if [ -f "$list" ]; then cp "$list" "$room/old"; else : > "$room/old"; fi
     plan > "$room/new"
@@ -81,7 +104,7 @@ install_all() {
         fi
     done < "$room/sources"
     # The list comes first, so that an installation that fails half-way can be removed.
-    mkdir -p "$root/$doc"
+    mkdir -p "$root/$own"
     LC_ALL=C sort -u "$room/old" "$room/new" > "$list.new"
     mv -f "$list.new" "$list"
     while read -r mode target source; do
@@ -96,20 +119,26 @@ install_all() {
 }
 
 action=install_all
-if [ "${1-}" = --uninstall ]; then
-    action=uninstall_all
-    shift
-fi
-case "$#:${1-}" in
-    0:*) prefix=/usr/local ;;
-    1:/*) prefix=$1 ;;
-    1:-* | 1:) sed -n '2,/^set/s/^# \{0,1\}//p' "$0" >&2; exit 1 ;;
-    1:*) prefix=$PWD/$1 ;;
-    *) sed -n '2,/^set/s/^# \{0,1\}//p' "$0" >&2; exit 1 ;;
+prefix=
+for word; do
+    case $word in
+        -h | --help) usage; exit 0 ;;
+        --uninstall) action=uninstall_all ;;
+        -* | '') usage >&2; exit 1 ;;
+        *)
+            [ -z "$prefix" ] || { usage >&2; exit 1; }
+            prefix=$word
+            ;;
+    esac
+done
+prefix=${prefix:-${PREFIX:-/usr/local}}
+case $prefix in
+    /*) ;;
+    *) prefix=$PWD/$prefix ;;
 esac
 root=${DESTDIR-}$prefix
-doc=share/doc/kyua
-list=$root/$doc/installed
+own=share/kyua
+list=$root/$own/installed
 room=$(mktemp -d)
 trap 'rm -rf "$room"' EXIT
 $action

@@ -1,14 +1,14 @@
 #!/usr/bin/env bash
-# Tests this repository from nothing: every proof, the edits that must be refused, the rows of data and the program by `rt ci`,
+# Tests this repository from scratch: every proof, the edits that must be refused, the rows of data and the program by `rt ci`,
 # the search for faults that are made by hand, then the runner's own suite with the program that was proved, and then the program
 # in dist/, if there is one. The last line is 'N passed, M failed', over all.
 # rt is taken from PATH, else from the kit that RATTLE_KIT names.
 set -u -o pipefail
-cd "$(dirname "$0")" || exit 2
-if ! command -v rt >/dev/null 2>&1; then
-  PATH="${RATTLE_KIT:?neither rt on PATH nor RATTLE_KIT is there}/bin:$PATH"
-  export PATH
-fi
+top=$(cd "$(dirname "$0")" && pwd)
+. "$top/scripts/sources.sh"
+explain "$@"
+cd "$top" || exit 2
+find_rt || exit 2
 room=$(mktemp -d)
 trap 'rm -rf "$room"' EXIT
 counts='^\([0-9]*\) passed, \([0-9]*\) failed$'
@@ -33,10 +33,10 @@ part 'proofs, edits and rows' rt ci
 idle=$(grep -c -e ': BAD EDIT' -e ': NOT TRIED' "$room/log" || true)
 [ "$idle" = 0 ] || echo "proofs, edits and rows: $idle edits refused nothing, since they are bad or were not tried"
 failed=$((failed + idle))
-part 'faults made by hand' ./faults.sh
+part 'faults made by hand' scripts/faults.sh
 # rt ci leaves the program that it proved. If a proof failed there is none, and the suite fails too.
 part 'the suite' env KYUA="$PWD/crates/kyua/out/kyua" SUITE_STEP=1 tests/run.sh
 # A program that is shipped with these sources is the one that they give.
-[ ! -d dist ] || part 'the shipped program' ./dist.sh check
+[ ! -d dist ] || part 'the shipped program' scripts/dist.sh check
 echo "$passed passed, $failed failed"
 [ "$failed" = 0 ]

@@ -1,5 +1,9 @@
 # What the scripts begin with: the checkout as $here, and an empty folder as $scratch, which goes away at their end.
+# An argument has a script print the comment that it begins with, and do nothing.
 here=$(cd "$(dirname "$0")/../.." && pwd)
+top=$here
+. "$here/scripts/sources.sh"
+explain "$@"
 scratch=$(mktemp -d)
 trap 'rm -rf "$scratch"' EXIT
 
@@ -8,7 +12,7 @@ find_program() {
     if [ -n "${KYUA:-}" ]; then
         program=$(realpath "$KYUA")
     else
-        program=$("$here/program.sh")
+        program=$("$here/scripts/program.sh")
     fi
 }
 

@@ -1,8 +1,8 @@
-# What each program of this suite begins with. KYUA names the runner that is tested; else program.sh finds it.
+# What each program of this suite begins with. KYUA names the runner that is tested; else scripts/program.sh finds it.
 # A check that doesn't hold ends the program, and what was wanted and found is on standard error.
 set -eu
 suite=$(cd "$(dirname "$0")" && pwd)
-kyua=${KYUA:-$("$suite/../program.sh")}
+kyua=${KYUA:-$("$suite/../scripts/program.sh")}
 all=passed,skipped,xfail,broken,failed
 why='a command failed'
 

@@ -1,13 +1,14 @@
 #!/bin/sh
-# Runs this suite and the programs of endings/ with kyua, and then each case of each program by hand, and compares what kyua
-# recorded with how the case ended, by the tables of by_hand.sh: a runner that records passes of its own can't pass. KYUA names
-# the program; else program.sh finds or builds it. The last line says how many cases passed, and how many failed or
-# were recorded wrongly. WIDTH is how many cases run at once, 4 if it isn't set. Of the
-# allocations that are refused in turn every eighth is tried, or each SUITE_STEPth.
+# Runs the programs of endings/ and this suite with kyua, and then each case of each program by hand, and compares what kyua
+# recorded with how the case ended, by the tables of by_hand.sh: a runner that records passes of its own can't pass. The last line
+# says how many cases passed, and how many failed or were recorded wrongly.
+# KYUA names the program; else scripts/program.sh finds or builds it. WIDTH is how many cases run at once, 4 if it isn't set. Of
+# the allocations that are refused in turn every eighth is tried, or each SUITE_STEPth.
 set -eu
 suite=$(cd "$(dirname "$0")" && pwd)
+[ $# = 0 ] || { sed -n '2,/^set/s/^# //p' "$0"; exit; }
 . "$suite/by_hand.sh"
-KYUA=$(realpath -m "${KYUA:-$("$suite/../program.sh")}")
+KYUA=$(realpath -m "${KYUA:-$("$suite/../scripts/program.sh")}")
 export KYUA
 [ -x "$KYUA" ] || { echo "tests: there is no program $KYUA" >&2; echo '0 passed, 1 failed'; exit 1; }
 WIDTH=${WIDTH:-4}
@@ -62,15 +63,18 @@ runs_by_hand() {
     shift
     status=0
     begun=$(date +%s%N)
-    (
-        cd "$hand/work" || exit 125
-        unset LANG LC_ALL LC_COLLATE LC_CTYPE LC_MESSAGES LC_MONETARY LC_NUMERIC LC_TIME
-        TZ=UTC HOME=$PWD TMPDIR=$PWD __RUNNING_INSIDE_ATF_RUN=internal-yes-value
-        SUITE_BRIEF=yes
-        export TZ HOME TMPDIR __RUNNING_INSIDE_ATF_RUN SUITE_BRIEF
-        if [ "$limit" = 300 ]; then exec "$@"; fi
-        exec timeout -s KILL "$limit" "$@"
-    ) < /dev/null > "$hand/out" 2> "$hand/err" || status=$?
+    # What the shell itself says of a child that dies of a signal is dropped.
+    {
+        (
+            cd "$hand/work" || exit 125
+            unset LANG LC_ALL LC_COLLATE LC_CTYPE LC_MESSAGES LC_MONETARY LC_NUMERIC LC_TIME
+            TZ=UTC HOME=$PWD TMPDIR=$PWD __RUNNING_INSIDE_ATF_RUN=internal-yes-value
+            SUITE_BRIEF=yes
+            export TZ HOME TMPDIR __RUNNING_INSIDE_ATF_RUN SUITE_BRIEF
+            if [ "$limit" = 300 ]; then exec "$@"; fi
+            exec timeout -s KILL "$limit" "$@"
+        ) < /dev/null > "$hand/out" 2> "$hand/err" || status=$?
+    } 2> /dev/null
     if [ $status = 137 ] && [ $(($(date +%s%N) - begun)) -ge "${limit}000000000" ]; then status=limit; fi
 }
 
@@ -143,7 +147,8 @@ compare() {
     status=0
     "$KYUA" -v parallelism="$WIDTH" test -k "$folder/Kyuafile" -r "$room/x.db" --work="$room/work directories" > "$room/printed" ||
         status=$?
-    cat "$room/printed"
+    # The lines of a run whose cases must fail would be taken for those of a suite that failed.
+    [ "$2" = 1 ] || cat "$room/printed"
     [ $status = "$2" ] || wrong "$folder: kyua test exits with $status, not $2"
     [ -z "$(ls -A "$room/work directories")" ] || wrong "$folder: work directories are left"
     "$KYUA" report -r "$room/x.db" --results-filter=passed,skipped,xfail,broken,failed > "$room/report" ||
@@ -208,9 +213,10 @@ for folder in "$suite" "$suite/endings"; do
         [ -e "$folder/$name" ] || wrong "$folder/$name is missing"
     done < "$room/names"
 done
-compare "$suite" 0
 cp -R "$suite/endings" "$room/a checkout"
 compare "$room/a checkout" 1
+[ $failed != 0 ] || echo "endings/: $passed programs that pass, fail, crash and hang were recorded as they ended"
+compare "$suite" 0
 # What the cases started is over, too, two seconds later at the latest.
 if [ -r /proc/self/environ ]; then
     for _ in 1 2 3 4 5 6 7 8 9 10; do

@@ -2,7 +2,10 @@
 # Says whether the lists that atf-sh and libatf-c print are those among the rows of kt_rows. It wants Debian's atf-sh and
 # libatf-dev, and a C compiler. Nothing is written but in a scratch folder.
 set -eu
-rows=$(cd "$(dirname "$0")/../.." && pwd)/crates/kt_rows/data/lists.rows
+top=$(cd "$(dirname "$0")/../.." && pwd)
+. "$top/scripts/sources.sh"
+explain "$@"
+rows=$top/crates/kt_rows/data/lists.rows
 scratch=$(mktemp -d)
 trap 'rm -rf "$scratch"' EXIT
 cd "$scratch"

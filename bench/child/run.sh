@@ -3,7 +3,7 @@
 # those of a case, over `kyua test` with its results kept, and over another `kyua` where one is installed, with their ratios. Then
 # how near to 2 seconds a `sleep 30` with that limit is ended, alone and beside short programs; what a wait of 5 seconds costs; how
 # much memory an output of 100 MB takes; and how long the removal of what a case leaves takes.
-# KYUA names the program to measure; else kyua.sh builds this checkout's. COUNT and ROUNDS may say how many programs, and how often.
+# KYUA names the program to measure; else the one that kyua.sh runs. COUNT and ROUNDS may say how many programs, and how often.
 # It wants cc and GNU time. Nothing is written but in a scratch folder and in this checkout's crates/*/out.
 set -eu
 . "$(dirname "$0")/../scratch.sh"

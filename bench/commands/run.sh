@@ -1,7 +1,7 @@
 #!/usr/bin/env bash
 # Says how long `kyua list` takes for 10,000 plain programs in 1,000 files and for 1,000 ATF programs, and `kyua test` for 1,000 and
 # 10,000 trivial programs at widths 1, 4 and 8 with results kept, beside another `kyua` where one is installed.
-# KYUA names the program to measure; else kyua.sh builds this checkout's. It wants GNU time.
+# KYUA names the program to measure; else the one that kyua.sh runs. It wants GNU time.
 set -eu
 . "$(dirname "$0")/../scratch.sh"
 . "$(dirname "$0")/../measure.sh"

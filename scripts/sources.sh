@@ -1,5 +1,27 @@
-# Which files a build of the program kyua reads. Scripts source this one; they have set $top, the checkout.
+# What the scripts share: which files a build of the program kyua reads, and how a script explains itself. Scripts source this one;
+# they have set $top, the checkout.
 # shellcheck shell=bash disable=SC2046
+
+# explain WORD..: for a script that takes no arguments. With any it prints the comment that the script begins with, and exits: with
+# 0 if that was asked for by -h or --help.
+explain() {
+  case $#:${1-} in
+    0:*) ;;
+    1:-h | 1:--help) sed -n '2,/^[^#]/s/^# \{0,1\}//p' "$0"; exit 0 ;;
+    *) sed -n '2,/^[^#]/s/^# \{0,1\}//p' "$0" >&2; exit 3 ;;
+  esac
+}
+
+# Puts rt on PATH, from the kit that RATTLE_KIT names if it isn't there. Fails, and says what is missing, if there is no rt.
+find_rt() {
+  if command -v rt >/dev/null 2>&1; then return 0; fi
+  if [ ! -x "${RATTLE_KIT-}/bin/rt" ]; then
+    echo "${0##*/}: the command rt of Rattle is missing: it is neither on PATH nor in the folder bin of the one that RATTLE_KIT names" >&2
+    return 1
+  fi
+  PATH="$RATTLE_KIT/bin:$PATH"
+  export PATH
+}
 
 # The program that this checkout built.
 # shellcheck disable=SC2034

@@ -4,8 +4,9 @@
 # Prints each other place, and each place named here that is no longer there. The last line is 'N passed, M failed', over the
 # rules.
 set -eu -o pipefail
-top=$(cd "$(dirname "$0")" && pwd)
-. "$top/sources.sh"
+top=$(cd "$(dirname "$0")/.." && pwd)
+. "$top/scripts/sources.sh"
+explain "$@"
 cd "$top/crates"
 passed=0
 failed=0

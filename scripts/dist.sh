@@ -4,26 +4,25 @@
 #   dist/kyua     the linked program, for Linux on x86-64 with glibc 2.34 or later
 #   dist/built    the hash of the sources that it was built from (sources.sh), the kit, and the hash of the program itself
 #
-#   dist.sh fits     exits with 0 if that program was built from these sources, and says so once on standard error
+#   dist.sh fits     exits with 0 if that program was built from these sources and runs on this machine; else it says why not
 #   dist.sh check    for the gate: if it was built from these sources with this kit, the program that was built here must have
 #                    the same bytes; the last line is 'N passed, M failed'
 #   dist.sh make     builds the program, if it isn't built, and makes dist/ of it
 set -eu -o pipefail
-top=$(cd "$(dirname "$0")" && pwd)
-. "$top/sources.sh"
+top=$(cd "$(dirname "$0")/.." && pwd)
+. "$top/scripts/sources.sh"
 shipped=$top/dist/kyua
 record=$top/dist/built
-# Made when the program was found to be of these sources; a source that was edited since is newer.
-found=$top/dist/out/fits
+# Has the hash of the sources for which it was said that dist/kyua is run.
+said=$top/dist/out/said
 
 hash_of() {
   sha256sum < "$1" | cut -d ' ' -f 1
 }
 
-# Whether a program is there that this machine can run: kyua exits with 3 after its help.
-is_there() {
+# Whether this machine runs the program: kyua exits with 3 after its help.
+runs_here() {
   local status=0
-  [ -x "$shipped" ] && [ -f "$record" ] || return 1
   "$shipped" --help > /dev/null 2>&1 < /dev/null || status=$?
   [ $status = 3 ]
 }
@@ -33,25 +32,36 @@ says() {
   grep -Fxq "$1 $2" "$record"
 }
 
+# misfit SOURCES: prints why dist/kyua can't be run for the sources of this hash, or nothing.
+misfit() {
+  if [ ! -x "$shipped" ] || [ ! -f "$record" ]; then
+    echo 'There is no program in dist/.'
+  elif ! says sources "$1"; then
+    echo 'dist/kyua was built from other sources.'
+  elif ! says program "$(hash_of "$shipped")"; then
+    echo 'dist/kyua has other bytes than the program that dist/built names.'
+  elif ! runs_here; then
+    echo 'dist/kyua does not run on this machine: it is for Linux on x86-64 with glibc 2.34 or later.'
+  fi
+}
+
 fits() {
-  if [ -x "$shipped" ] && is_newest "$found" && [ ! "$shipped" -nt "$found" ] && [ ! "$record" -nt "$found" ]; then return 0; fi
-  is_there || return 1
-  says sources "$(hash_of_sources)" && says program "$(hash_of "$shipped")" || return 1
-  [ -e "$found" ] ||
-    echo 'kyua.sh: running dist/kyua, which was proved and built elsewhere from these sources; ./build.sh proves and builds it here' >&2
-  # Where the checkout can't be written, this is looked at, and said, each time.
-  { mkdir -p "$top/dist/out" && : > "$found"; } 2>/dev/null || true
+  local sources why
+  sources=$(hash_of_sources)
+  why=$(misfit "$sources")
+  [ -z "$why" ] || { echo "$why" >&2; return 1; }
+  grep -Fxq "$sources" "$said" 2>/dev/null ||
+    echo 'Running dist/kyua, which was proved and built from these sources elsewhere. ./build.sh proves and builds it here.' >&2
+  # Where the checkout can't be written, this is said each time.
+  { mkdir -p "$top/dist/out" && echo "$sources" > "$said"; } 2>/dev/null || true
 }
 
 kit() {
-  if ! command -v rt >/dev/null 2>&1; then
-    PATH="${RATTLE_KIT:?neither rt on PATH nor RATTLE_KIT is there}/bin:$PATH"
-  fi
-  rt --version
+  find_rt && rt --version
 }
 
 check() {
-  if ! is_there; then
+  if [ ! -x "$shipped" ] || [ ! -f "$record" ] || ! runs_here; then
     echo 'dist.sh: no program for this machine is in dist/'
     echo '0 passed, 0 failed'
   elif ! says sources "$(hash_of_sources)" || ! says kit "$(kit)"; then
@@ -80,5 +90,5 @@ case "$#:${1-}" in
   1:fits) fits ;;
   1:check) check ;;
   1:make) make_dist ;;
-  *) sed -n '2,/^set/s/^# \{0,1\}//p' "$0" >&2; exit 3 ;;
+  *) explain "${@:---help}" ;;
 esac

@@ -1,14 +1,26 @@
 #!/usr/bin/env bash
-# Checks the rows of crates/kt_rows/data as the gate does: as nobody where it is called by root, in a copy of that folder,
-# with the words of `args`, and compares what is printed with `stdout`. With words it checks those files alone.
+# Checks the rows of crates/kt_rows/data, with the program kt_rows that is proved and linked first; where none of the crates below
+# it is proved yet, that takes more than an hour.
+#
+#   rows.sh                 all rows, as the gate checks them: with the words of `args`, and compared with `stdout`
+#   rows.sh FILE.rows ..    these files alone
+#
+# The program runs in a copy of that folder, as nobody where this script is called by root.
 # rt is taken from PATH, else from the kit that RATTLE_KIT names.
 set -eu
-crate="$(cd "$(dirname "$0")" && pwd)/crates/kt_rows"
-command -v rt >/dev/null 2>&1 || PATH="${RATTLE_KIT:?neither rt on PATH nor RATTLE_KIT is there}/bin:$PATH"
-export PATH
+top=$(cd "$(dirname "$0")/.." && pwd)
+. "$top/scripts/sources.sh"
+crate=$top/crates/kt_rows
+for word; do
+  case $word in
+    *.rows) [ -f "$crate/data/$word" ] || { echo "rows.sh: there is no file crates/kt_rows/data/$word" >&2; exit 3; } ;;
+    *) explain "$@" ;;
+  esac
+done
+find_rt || exit 2
 mkdir -p "$crate/out"
 # With no words the program checks nothing: this proves and links it.
-(cd "$crate" && rt run --jobs 1 >/dev/null 2>"$crate/out/build.log") || { tail -20 "$crate/out/build.log"; exit 1; }
+(cd "$crate" && rt run --jobs 1 >/dev/null 2>"$crate/out/build.log") || { tail -20 "$crate/out/build.log" >&2; exit 1; }
 room="$(mktemp -d)"
 trap 'rm -rf "$room"' EXIT
 chmod 711 "$room"
