@@ -1,0 +1,82 @@
+#!/usr/bin/env bash
+# Makes packages of what install.sh installs, for Linux on x86-64 with glibc 2.34 or later:
+#
+#   package.sh DIRECTORY     in this directory, with VERSION from CHANGELOG.md:
+#
+#   fermyzhal_VERSION_amd64.deb               for Debian, below /usr, if dpkg-deb is there. It conflicts with the package kyua.
+#   fermyzhal-VERSION-linux-x86_64.tar.gz     to be unpacked below /usr/local: tar -C /usr/local --strip-components=1 -xzf FILE
+#   SHA256SUMS                                their hashes
+#
+# The program is the one that kyua.sh runs. DEBFULLNAME and DEBEMAIL name the maintainer. The times of the files are those of
+# SOURCE_DATE_EPOCH, or of CHANGELOG.md. Exits with 0 if all is done.
+set -eu -o pipefail
+umask 022
+top=$(cd "$(dirname "$0")/.." && pwd)
+. "$top/scripts/sources.sh"
+case $#:${1-} in
+  1:-* | 0:*) explain "${@:---help}" ;;
+  1:*) ;;
+  *) explain "$@" ;;
+esac
+mkdir -p "$1"
+into=$(cd "$1" && pwd)
+version=$(sed -n 's/^## \([0-9][0-9.]*\).*/\1/p' "$top/CHANGELOG.md" | head -n 1)
+SOURCE_DATE_EPOCH=${SOURCE_DATE_EPOCH:-$(stat -c %Y "$top/CHANGELOG.md")}
+export SOURCE_DATE_EPOCH
+room=$(mktemp -d)
+trap 'rm -rf "$room"' EXIT
+
+# stage ROOT PREFIX: installs all below a root, with what a package says of its licence.
+stage() {
+  DESTDIR=$1 "$top/install.sh" "$2" > "$room/log"
+  # A package has a list of its own.
+  rm "$1$2/share/kyua/installed"
+  mkdir -p "$1$2/share/doc/fermyzhal"
+  {
+    echo 'Fermyzhal, a proved reimplementation of Kyua.'
+    echo
+    echo 'There is no licence yet: all rights are reserved, and the owner of the repository decides.'
+  } > "$1$2/share/doc/fermyzhal/copyright"
+}
+
+# The tree that a file of tar has: always the same bytes for the same files.
+pack() {
+  tar --sort=name --owner=0 --group=0 --numeric-owner --mtime="@$SOURCE_DATE_EPOCH" -C "$1" -cf - "$2" | gzip -9n
+}
+
+make_tarball() {
+  local name=fermyzhal-$version-linux-x86_64
+  stage "$room/tree" /usr/local
+  mv "$room/tree/usr/local" "$room/$name"
+  pack "$room" "$name" > "$into/$name.tar.gz"
+}
+
+make_deb() {
+  local root=$room/deb
+  stage "$root" /usr
+  # Debian's zsh looks for what packages bring in a place of its own.
+  mv "$root/usr/share/zsh/site-functions" "$root/usr/share/zsh/vendor-completions"
+  mkdir "$root/DEBIAN"
+  cat > "$root/DEBIAN/control" <<CONTROL
+Package: fermyzhal
+Version: $version
+Architecture: amd64
+Maintainer: ${DEBFULLNAME:-nobody} <${DEBEMAIL:-nobody@localhost}>
+Depends: libc6 (>= 2.34)
+Suggests: atf-sh
+Conflicts: kyua
+Section: non-free/devel
+Priority: optional
+Description: test runner with ATF, TAP and plain test programs
+ The command kyua, a reimplementation of the Kyua test runner in which every
+ function is proved correct. It runs test programs in any language, records
+ their results in an SQLite file, and reports them as text or JUnit XML.
+CONTROL
+  (cd "$root" && find usr -type f | LC_ALL=C sort | xargs -d '\n' md5sum) > "$room/md5sums"
+  mv "$room/md5sums" "$root/DEBIAN"
+  dpkg-deb --root-owner-group -b "$root" "$into/fermyzhal_${version}_amd64.deb" > "$room/log"
+}
+
+make_tarball
+if command -v dpkg-deb > /dev/null; then make_deb; else echo 'package.sh: there is no dpkg-deb, so no package for Debian is made' >&2; fi
+(cd "$into" && sha256sum fermyzhal[-_]"$version"[-_]* > SHA256SUMS && cat SHA256SUMS)
