@@ -56,15 +56,12 @@ fits() {
   { mkdir -p "$top/dist/out" && echo "$sources" > "$said"; } 2>/dev/null || true
 }
 
-kit() {
-  find_rt && rt --version
-}
-
 check() {
+  find_rt || exit 2
   if [ ! -x "$shipped" ] || [ ! -f "$record" ] || ! runs_here; then
     echo 'dist.sh: no program for this machine is in dist/'
     echo '0 passed, 0 failed'
-  elif ! says sources "$(hash_of_sources)" || ! says kit "$(kit)"; then
+  elif ! says sources "$(hash_of_sources)" || ! says kit "$(rt --version)"; then
     echo 'dist.sh: dist/kyua was built from other sources or with another kit, so kyua.sh builds'
     echo '0 passed, 0 failed'
   elif says program "$(hash_of "$shipped")" && cmp "$built" "$shipped"; then
@@ -78,12 +75,13 @@ check() {
 }
 
 make_dist() {
+  find_rt || exit 2
   "$top/build.sh"
   mkdir -p "$top/dist"
   cp "$built" "$shipped.new"
   chmod 755 "$shipped.new"
   mv "$shipped.new" "$shipped"
-  printf '%s\n' "sources $(hash_of_sources)" "kit $(kit)" "program $(hash_of "$shipped")" > "$record"
+  printf '%s\n' "sources $(hash_of_sources)" "kit $(rt --version)" "program $(hash_of "$shipped")" > "$record"
 }
 
 case "$#:${1-}" in
