@@ -110,7 +110,7 @@ fn renew<P: OpenProcess + Drop>(
     forget(children, child);
     match children.push(HostChild::new(child, out)) {
         Ok(()) => Ok(()),
-        Err(_) => Err(OsFault),
+        Err(_) => Err(OsFault::Failed),
     }
 }
 
@@ -168,7 +168,7 @@ pub(crate) fn poll<P: OpenProcess + Drop, C: Clock>(
             let held = &mut children[place];
             held.poll(clock)
         }
-        None => Err(OsFault),
+        None => Err(OsFault::Failed),
     }
 }
 
@@ -185,7 +185,7 @@ pub(crate) fn kill<P: OpenProcess + Drop>(
             let held = &mut children[place];
             held.kill()
         }
-        None => Err(OsFault),
+        None => Err(OsFault::Failed),
     }
 }
 

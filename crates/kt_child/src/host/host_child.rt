@@ -94,7 +94,7 @@ impl<P: OpenProcess + Drop> HostChild<P> {
     {
         match &mut self.process {
             Some(process) => or_fault(process.try_wait()),
-            None => Err(OsFault),
+            None => Err(OsFault::Failed),
         }
     }
 
@@ -142,7 +142,7 @@ impl<P: OpenProcess + Drop> HostChild<P> {
     {
         match &mut self.process {
             Some(process) => or_fault(process.kill()),
-            None => Err(OsFault),
+            None => Err(OsFault::Failed),
         }
     }
 

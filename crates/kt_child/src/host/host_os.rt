@@ -3,7 +3,7 @@ ghost use Rattle.std.specs.Process.{status_bits};
 ghost use Rattle.kt_child.specs.Host.HostAnswers.{IsPolledOf};
 
 use crate::host::command::command_of;
-use crate::host::faults::or_fault;
+use crate::host::faults::{fault_of, or_fault};
 use crate::host::host_child::HostChild;
 use crate::host::outputs::{create_directory, create_output};
 use crate::host::reads::read_regular;
@@ -42,6 +42,8 @@ pub struct HostOs<R: Processes> {
     last: Option<HostChild<R::Started>>,
     /// The pauses since a child was last seen to end.
     quiet: u32,
+    /// The limit that was said last, in seconds.
+    limit: u64,
 }
 
 /// Whether a wait status tells of a core dump.
@@ -56,14 +58,14 @@ fn polled(status: ExitStatus) -> Result<Polled, OsFault>
     ensures { IsPolledOf (status_bits status) result }
 {
     if let Some(code) = status.code() {
-        let code = u8::try_from(code).map_err(|_| OsFault)?;
+        let code = u8::try_from(code).map_err(|_| OsFault::Failed)?;
         return Ok(Polled::Exited(code));
     }
     if let Some(signal) = status.signal() {
-        let signal = u8::try_from(signal).map_err(|_| OsFault)?;
+        let signal = u8::try_from(signal).map_err(|_| OsFault::Failed)?;
         return Ok(Polled::Signaled(signal, has_core(status)));
     }
-    Err(OsFault)
+    Err(OsFault::Failed)
 }
 
 impl<R: Processes + AllocGlobal + Drop> HostOs<R> {
@@ -81,6 +83,7 @@ impl<R: Processes + AllocGlobal + Drop> HostOs<R> {
             children,
             last: None,
             quiet: 0,
+            limit: 0,
         }
     }
 }
@@ -116,6 +119,10 @@ impl<R: Processes + Files<File = File> + Clock + AllocGlobal + Clone + Drop> Os 
     ghost leads = { λ old call new. HostLeads (stand_in old.children.items) call
         (stand_in new.children.items) (IsLastEnd new.last) };
 
+    fn set_limit(&mut self, _child: Child, limit: u64) {
+        self.limit = limit;
+    }
+
     fn make_dir(&mut self, path: &Text) -> Result<(), OsFault> {
         or_fault(create_directory(&self.rt, path.as_str()))
     }
@@ -127,9 +134,9 @@ impl<R: Processes + Files<File = File> + Clock + AllocGlobal + Clone + Drop> Os 
     fn open_output(&mut self, child: Child, path: &Text) -> Result<(), OsFault> {
         match create_output(&self.rt, path.as_str()) {
             Ok(file) => children::keep_output(&mut self.children, child, file),
-            Err(_) => {
+            Err(error) => {
                 children::forget(&mut self.children, child);
-                Err(OsFault)
+                Err(fault_of(&error))
             }
         }
     }
@@ -189,8 +196,8 @@ impl<R: Processes + Files<File = File> + Clock + AllocGlobal + Clone + Drop> Os 
     fn now(&mut self) -> Result<u64, OsFault> {
         let now = or_fault(SystemTime::now(&self.rt))?;
         match now.duration_since(SystemTime::UNIX_EPOCH) {
-            Ok(since) => u64::try_from(since.as_millis()).map_err(|_| OsFault),
-            Err(_) => Err(OsFault),
+            Ok(since) => u64::try_from(since.as_millis()).map_err(|_| OsFault::Failed),
+            Err(_) => Err(OsFault::Failed),
         }
     }
 }

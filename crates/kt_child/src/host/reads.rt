@@ -73,7 +73,7 @@ pub fn read_front<F: Read>(alloc: Global, file: &mut F, limit: u64) -> Result<Fi
 {
     let bytes = match read_start(alloc, file, limit as usize) {
         Ok(bytes) => bytes,
-        Err(_fault) => return Err(OsFault),
+        Err(_fault) => return Err(OsFault::Failed),
     };
     if (bytes.len() as u64) < limit {
         return Ok(FileRead::Part(bytes, false));
@@ -97,7 +97,7 @@ fn unopened(error: &io::Error) -> Result<FileRead, OsFault>
 {
     match error.kind() {
         ErrorKind::NotFound => Ok(FileRead::Missing),
-        _ => Err(OsFault),
+        _ => Err(OsFault::Failed),
     }
 }
 

@@ -53,12 +53,12 @@ fn make_place<R: Files + AllocGlobal>(rt: &R, tree: &Text) -> Result<Text, OsFau
             Ok(()) => return Ok(place),
             Err(error) => {
                 if error.kind() != ErrorKind::AlreadyExists {
-                    return Err(OsFault);
+                    return Err(OsFault::Failed);
                 }
             }
         }
     }
-    Err(OsFault)
+    Err(OsFault::Failed)
 }
 
 impl Moved {
