@@ -4,15 +4,14 @@ ghost use Rattle.kt_child.specs.Polling.Lives.{same_child};
 ghost use Rattle.kt_child.specs.Host.HostStands.{AllProceed, AllStay, IsPlaceOf, OthersStay, Proceeds, is_other, stand_in, stand_of};
 
 use crate::host::bounds::{PAUSE, slice_after};
+use crate::host::command::Asked;
 use crate::host::host_child::HostChild;
 use crate::host::removal::{Removals, rest};
 use crate::system::child::Child;
 use crate::system::os_fault::OsFault;
-use kt_base::Role;
+use kt_base::{NoMemory, Role};
 use std::fs::File;
-use std::io;
-use std::io::ErrorKind;
-use std::process::{Command, ExitStatus, OpenProcess, Processes};
+use std::process::{ExitStatus, OpenProcess, Processes};
 use std::rt::{Clock, Files};
 
 fn same_role(a: Role, b: Role) -> bool
@@ -107,7 +106,7 @@ fn renew<P: OpenProcess + Drop>(
     forget(children, child);
     match children.push(HostChild::new(child, limit, out)) {
         Ok(()) => Ok(()),
-        Err(_) => Err(OsFault::Failed),
+        Err(refusal) => Err(OsFault::Memory(NoMemory::from(refusal))),
     }
 }
 
@@ -132,21 +131,21 @@ pub(crate) fn keep_output<P: OpenProcess + Drop>(
 }
 
 /// Starts a child for which its files were opened.
-pub(crate) fn launch<P: OpenProcess + Drop, R: Processes<Started = P> + Clock>(
+pub(crate) fn launch<P: OpenProcess + Drop, R: Processes<Started = P> + Clock + AllocGlobal>(
     children: &mut Vec<HostChild<P>>,
     child: Child,
     rt: &R,
-    command: &mut Command,
-) -> io::Result<()>
+    asked: Asked<'_>,
+) -> Result<(), OsFault>
     ensures started { OnOk result (IsSome (stand_in children.new.items child)) }
     ensures others { OthersStay child (stand_in children.old.items) (stand_in children.new.items) }
 {
     match place_of(children, child) {
         Some(place) => {
             let held = &mut children[place];
-            held.launch(rt, command)
+            held.launch(rt, asked)
         }
-        None => Err(io::Error::from(ErrorKind::NotFound)),
+        None => Err(OsFault::Failed),
     }
 }
 

@@ -1,13 +1,13 @@
+use crate::host::command::{Asked, spawn};
 use crate::host::faults::or_fault;
 use crate::host::pace::Pace;
 use crate::system::child::Child;
 use crate::system::os_fault::OsFault;
 use std::fs::File;
-use std::io::ErrorKind;
-use std::process::{Command, ExitStatus, OpenProcess, Processes, Stdio};
+use std::process::{ExitStatus, OpenProcess, Processes};
 use std::rt::Clock;
 use std::time::Duration;
-use std::{io, process, thread};
+use std::{process, thread};
 
 /// How many slices of a millisecond a poll sleeps at the most: after so many the time of one more answer has come.
 const SLICES: u32 = 20;
@@ -69,22 +69,19 @@ impl<P: OpenProcess + Drop> HostChild<P> {
     }
 
     /// Starts it, with an empty input and the two files.
-    pub(crate) fn launch<R: Processes<Started = P> + Clock>(
+    pub(crate) fn launch<R: Processes<Started = P> + Clock + AllocGlobal>(
         &mut self,
         rt: &R,
-        command: &mut Command,
-    ) -> io::Result<()>
+        asked: Asked<'_>,
+    ) -> Result<(), OsFault>
         ensures name { self.new.child ≡ self.old.child }
         ensures started { OnOk result (IsSome (stand_of self.new)) }
         ensures told { OnOk result (self.new.pace.told ≡ 0) }
     {
         let (Some(out), Some(err)) = (self.out.take(), self.err.take()) else {
-            return Err(io::Error::from(ErrorKind::NotFound));
+            return Err(OsFault::Failed);
         };
-        command.stdin(Stdio::null());
-        command.stdout(out);
-        command.stderr(err);
-        self.process = Some(command.spawn(rt)?);
+        self.process = Some(spawn(rt, asked, out, err)?);
         self.pace.begin(rt);
         Ok(())
     }

@@ -4,7 +4,7 @@ ghost use Rattle.kt_child.specs.Host.HostAnswers.{IsPolledOf};
 
 use crate::host::bounds::PAUSE;
 use crate::host::children;
-use crate::host::command::command_of;
+use crate::host::command::Asked;
 use crate::host::faults::{fault_of, or_fault};
 use crate::host::host_child::HostChild;
 use crate::host::outputs::{create_directory, create_output};
@@ -89,28 +89,6 @@ impl<R: Processes + Files + AllocGlobal + Drop> HostOs<R> {
     }
 }
 
-impl<R: Processes + Files<File = File> + Clock + AllocGlobal + Drop> HostOs<R> {
-    ghost use Rattle.std.specs.Prelude.{IsSome, OnOk};
-    ghost use Rattle.kt_child.specs.Host.HostStands.{OthersStay, stand_in};
-
-    /// Starts a program for a child of which the files were opened.
-    fn launch(
-        &mut self,
-        child: Child,
-        program: &Text,
-        words: &Items<Text>,
-        env: &EnvPlan,
-        dir: &Text,
-    ) -> Result<(), OsFault>
-        ensures started { OnOk result (IsSome (stand_in self.new.children.items child)) }
-        ensures others { OthersStay child (stand_in self.old.children.items)
-            (stand_in self.new.children.items) }
-    {
-        let mut command = command_of(self.rt.alloc(), program, words, env, dir)?;
-        or_fault(children::launch(&mut self.children, child, &self.rt, &mut command))
-    }
-}
-
 impl<R: Processes + Files<File = File> + Clock + AllocGlobal + Clone + Drop> Os for HostOs<R> {
     // What the system does with its files, its processes and its clock is not said: how the children stand that are
     // kept here is, and that what is told of them and of a file is what the library answered.
@@ -159,7 +137,13 @@ impl<R: Processes + Files<File = File> + Clock + AllocGlobal + Clone + Drop> Os 
         env: &EnvPlan,
         dir: &Text,
     ) -> Result<(), OsFault> {
-        match self.launch(child, program, words, env, dir) {
+        let asked = Asked {
+            program,
+            words,
+            env,
+            dir,
+        };
+        match children::launch(&mut self.children, child, &self.rt, asked) {
             Ok(()) => Ok(()),
             Err(fault) => {
                 children::forget(&mut self.children, child);
