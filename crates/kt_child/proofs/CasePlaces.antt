@@ -7,7 +7,7 @@ use Rattle.kt_child.specs.declared.polling.watched.Watched.{Watched}
 use Rattle.kt_child.specs.declared.planning.case.Case.{Case}
 use Rattle.kt_child.specs.Driving.ChildrenState.{one_if}
 use Rattle.kt_child.specs.Polling.Lives.{same_child}
-use Rattle.kt_child.specs.Polling.SeveralLives.{kept, name_of, named}
+use Rattle.kt_child.proofs.Shares.{kept, name_of, named}
 use Rattle.kt_child.proofs.LifeSteps.{child_is_own}
 use Rattle.kt_child.proofs.NameCounts.{case_name, names_head, names_tail, none_named, numbered, other_name, own_named, own_number}
 use Rattle.kt_child.proofs.NamedSteps.{named_append}

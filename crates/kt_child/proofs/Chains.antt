@@ -1,8 +1,9 @@
 -- Chains of questions, joined.
-use Rattle.std.proofs.Common.{List, [], ◌∷◌, ◌++◌, true, Result, Ok, Err, refl, inr, subst}
+use Rattle.std.proofs.Common.{◌≡◌, List, [], ◌∷◌, ◌++◌, Result, Ok, Err, refl, inl, inr, subst}
 use Rattle.kt_base.specs.declared.refused.Refused.{Refused}
+use Rattle.kt_child.specs.declared.system.os_fault.OsFault.{OsFault}
 use Rattle.kt_child.specs.System.Calls.{Call, Chain}
-use Rattle.kt_child.specs.Starting.Starts.{Ask, Tried}
+use Rattle.kt_child.specs.Starting.Starts.{Ask, Tried, cause_of}
 
 -- two chains, one after the other
 pub chain_append : {O : Type 0} (leads : O → Call → O → Type 0) (a b d : O) (xs ys : List Call)
@@ -12,6 +13,20 @@ chain_append leads a b d (x ∷ xs) ys h k = (h.0, h.1, chain_append leads h.0 b
 
 -- one more question that was done, before the others
 pub tried_more : (ask : Ask) (asks : List Ask) (calls : List Call) (r : Result (Unit {0}) Refused)
-    → Tried asks calls r → Tried (ask ∷ asks) (ask.call true ∷ calls) r
+    → Tried asks calls r → Tried (ask ∷ asks) (ask.call (Ok tt) ∷ calls) r
 tried_more ask asks calls (Ok done) h = (refl, h)
 tried_more ask asks calls (Err cause) h = inr (refl, h)
+
+-- these questions are asked from one state to another, with this result
+abbrev pub Tries : {O : Type 0} → (O → Call → O → Type 0) → O → List Ask → Result (Unit {0}) Refused → O → Type 0
+Tries leads a asks r b = (calls : List Call) × Chain leads a calls b × Tried asks calls r
+
+-- one that was done, and then the others
+pub tries_more : {O : Type 0} (leads : O → Call → O → Type 0) (a b d : O) (ask : Ask) (asks : List Ask) (r : Result (Unit {0}) Refused)
+    → leads a (ask.call (Ok tt)) b → Tries leads b asks r d → Tries leads a (ask ∷ asks) r d
+tries_more leads a b d ask asks r h (calls, chain, tried) = (ask.call (Ok tt) ∷ calls, (b, h, chain), tried_more ask asks calls r tried)
+
+-- one that failed
+pub tries_failed : {O : Type 0} (leads : O → Call → O → Type 0) (a b : O) (ask : Ask) (asks : List Ask) (fault : OsFault) (cause : Refused)
+    → leads a (ask.call (Err fault)) b → cause ≡ cause_of ask.cause fault → Tries leads a (ask ∷ asks) (Err cause) b
+tries_failed leads a b ask asks fault cause h e = (ask.call (Err fault) ∷ [], (b, h, refl), inl (fault, refl, refl, e))

@@ -1,12 +1,12 @@
 -- The names of a list of children, which polls keep.
-use Rattle.std.proofs.Common.{◌≡◌, ℕ, zero, suc, ◌+◌, List, [], ◌∷◌, ◌++◌, Bool, true, false, Some, map, take, drop, slice_get, refl, sym, ◌∙◌, ap, arith}
+use Rattle.std.proofs.Common.{◌≡◌, ℕ, zero, suc, List, [], ◌∷◌, ◌++◌, Bool, true, false, Some, map, slice_get, refl, sym, ◌∙◌, ap}
 use Rattle.std.specs.Prelude.{remove}
 use Rattle.kt_base.specs.declared.outcome.Outcome.{Outcome}
 use Rattle.kt_child.specs.declared.system.child.Child.{Child}
 use Rattle.kt_child.specs.declared.polling.watched.Watched.{Watched}
 use Rattle.kt_child.specs.Polling.ChildOutcome.{Heard}
 use Rattle.kt_child.specs.Polling.Lives.{same_child}
-use Rattle.kt_child.specs.Polling.SeveralLives.{Share, kept, name_of, named}
+use Rattle.kt_child.proofs.Shares.{Share, kept, name_of, named}
 use Rattle.kt_child.specs.Polling.Turns.{advanced, advanced_below, after_turns}
 use Rattle.kt_child.proofs.Places.{some_is}
 
@@ -31,28 +31,6 @@ names_turns (suc n) ks = names_turns n (map advanced ks) ∙ names_turn ks
 pub names_append : (xs ys : List Watched) → map name_of (xs ++ ys) ≡ map name_of xs ++ map name_of ys
 names_append [] ys = refl
 names_append (x ∷ xs) ys = ap (λ t. x.child ∷ t) (names_append xs ys)
-
--- a list of children with another part of the same names
-pub names_part : (hs us vs ls : List Watched) → map name_of us ≡ map name_of vs → map name_of (hs ++ (us ++ ls)) ≡ map name_of (hs ++ (vs ++ ls))
-names_part hs us vs ls e =
-    names_append hs (us ++ ls)
-    ∙ ap (λ t. map name_of hs ++ t) (names_append us ls ∙ ap (λ t. t ++ map name_of ls) e ∙ sym (names_append vs ls))
-    ∙ sym (names_append hs (vs ++ ls))
-
-taken_at : (u : ℕ) (ks : List Watched) (i : ℕ) (o : Watched) → slice_get (take u ks) i ≡ Some o → slice_get ks i ≡ Some o
-taken_at zero ks i o e = let no : ⊥ = cc in absurd no
-taken_at (suc u) [] i o e = e
-taken_at (suc u) (k ∷ ks) zero o e = e
-taken_at (suc u) (k ∷ ks) (suc i) o e = taken_at u ks i o e
-
-dropped_at : (f : ℕ) (ks : List Watched) (i : ℕ) (o : Watched) → slice_get (drop f ks) i ≡ Some o → slice_get ks (f + i) ≡ Some o
-dropped_at zero ks i o e = let s : zero + i ≡ i = omega arith in ap (slice_get ks) s ∙ e
-dropped_at (suc f) [] i o e = let no : ⊥ = cc in absurd no
-dropped_at (suc f) (k ∷ ks) i o e = let s : suc f + i ≡ suc (f + i) = omega arith in ap (slice_get (k ∷ ks)) s ∙ dropped_at f ks i o e
-
--- where a child of a part stands in the children
-pub part_at : (f u : ℕ) (ks : List Watched) (i : ℕ) (o : Watched) → slice_get (take u (drop f ks)) i ≡ Some o → slice_get ks (f + i) ≡ Some o
-part_at f u ks i o e = dropped_at f ks i o (taken_at u (drop f ks) i o e)
 
 -- a list of children without a child of another name
 removed : (c over : Child) (row : List Watched) (place : ℕ) → slice_get (map name_of row) place ≡ Some over → same_child over c ≡ false

@@ -20,14 +20,13 @@ use Rattle.kt_child.specs.declared.ending.next_part.NextPart.TheVariants.{More, 
 use Rattle.kt_child.specs.Driving.ChildrenState.{ChildrenState}
 use Rattle.kt_child.specs.System.Calls.{Call, ReadFile, ReadPart}
 use Rattle.kt_child.specs.Polling.ChildOutcome.{Heard}
-use Rattle.kt_child.specs.Driving.EndShares.{EndShares}
 use Rattle.kt_child.specs.Ending.Ends.{Leaves, Removes, err_of, is_over, out_of}
 use Rattle.kt_child.specs.Ending.Gathering.{Gathers}
 use Rattle.kt_child.specs.Polling.Lives.{heard_by, same_child}
 use Rattle.kt_child.specs.Ending.Parts.{After, Reads, Whole}
 use Rattle.kt_child.specs.Ending.Reads.{bytes_of}
-use Rattle.kt_child.specs.Polling.SeveralLives.{Share, name_of, named}
-use Rattle.kt_child.specs.Polling.Waits.{WaitedOn}
+use Rattle.kt_child.proofs.Shares.{Share, name_of, named}
+use Rattle.kt_child.specs.Polling.Turns.{WaitedOn}
 use Rattle.kt_child.proofs.LifeSteps.{append_none, heard_append}
 use Rattle.kt_child.proofs.SeveralWaits.{wait_shares}
 
@@ -72,7 +71,7 @@ gathers_silent c interface.Plain Cleanup paths calls (evidence.Tap t) h = absurd
 gathers_silent c interface.Plain Cleanup paths calls evidence.Plain h = ap (heard_by c) h
 
 -- the removal
-removes_silent : (c : Child) (b : Bool) (dir : List ℕ) (calls : List Call) → Removes b dir calls → heard_by c calls ≡ []
+pub removes_silent : (c : Child) (b : Bool) (dir : List ℕ) (calls : List Call) → Removes b dir calls → heard_by c calls ≡ []
 removes_silent c true dir calls (done, e) = ap (heard_by c) e
 removes_silent c false dir calls e = ap (heard_by c) e
 
@@ -86,22 +85,15 @@ leaves_silent c case calls outcome ended (now, reads, out, err, last, e, gathers
 
 -- what a wait that ends at a place is for each child whose name is its own
 pub shares_at : (old new : ChildrenState) (polls rest : List Call) (place : ℕ) (outcome : Outcome) (after : List Watched) (case : Case) (e : Ended) (c : Child) (k : Watched)
-    → named c old.children ≡ k ∷ [] → WaitedOn old.going old.children polls place outcome after new.going
+    → named c old.children ≡ k ∷ [] → WaitedOn old.children polls place outcome after
     → Leaves case rest outcome e → new.children ≡ remove after place
     → (over : Child) × (slice_get (map name_of old.children) place ≡ Some over)
     × Share c (same_child over c) k (heard_by c (polls ++ rest)) e.outcome new.children
 shares_at old new polls rest place outcome after case e c k own waited leaves ch =
-    let w = wait_shares old.going old.children polls place outcome after new.going c k own waited in
+    let w = wait_shares old.children polls place outcome after c k own waited in
     let f : heard_by c (polls ++ rest) ≡ heard_by c polls =
     heard_append c polls rest ∙ ap (λ t. heard_by c polls ++ t) (leaves_silent c case rest outcome e leaves) ∙ append_none (heard_by c polls) in
     let P : List Heard → Type 0 = λ t. Share c (same_child w.0 c) k t e.outcome new.children in
     let Q : Outcome → Type 0 = λ t. Share c (same_child w.0 c) k (heard_by c polls) t new.children in
     let R : List Watched → Type 0 = λ t. Share c (same_child w.0 c) k (heard_by c polls) outcome t in
     (w.0, w.1, subst P (sym f) (subst Q (sym leaves.10) (subst R (sym ch) w.2)))
-
--- the law of ends
-pub end_shares : EndShares
-end_shares old new calls e c k own (polls, rest, place, outcome, after, case, eq, waited, at, leaves, ch, ca, pe) =
-    let w = shares_at old new polls rest place outcome after case e c k own waited leaves ch in
-    let P : List Call → Type 0 = λ t. Share c (same_child w.0 c) k (heard_by c t) e.outcome new.children in
-    (place, w.0, case, w.1, at, leaves.8, leaves.9, subst P (sym eq) w.2)

@@ -1,8 +1,11 @@
 -- What is read of a file is its front.
-use Rattle.std.specs.Prelude.{Option, Some, None, IfSome, take, drop, min, ◌-◌}
+use Rattle.std.specs.Prelude.{Option, Some, None, IfSome, Result, Ok, Err, IsErrAnd, OnOk, take, drop, min, ◌-◌}
 use Rattle.std.specs.Io.KnownBytes.{Consumes, IsAtEnd}
 use Rattle.std.proofs.Common.{◌≡◌, ℕ, zero, suc, ◌+◌, ◌≤◌, ◌<◌, List, [], ◌∷◌, ◌++◌, length, arith, refl, sym, ap, ◌∙◌, subst, append_assoc, append-nil, length-append}
 use Rattle.std.proofs.lemmas.List.{take_all, drop_all, take_at, drop_at, length-take-le}
+use Rattle.kt_child.specs.declared.system.file_read.FileRead.{FileRead}
+use Rattle.kt_child.specs.declared.system.os_fault.OsFault.{OsFault}
+use Rattle.kt_child.specs.Host.HostAnswers.{IsFront}
 use Rattle.kt_child.specs.Host.HostFiles.{TakesAtMost, TakesPiece}
 
 consumes_nothing : (left : Option (List ℕ)) → Consumes left left []
@@ -84,3 +87,17 @@ piece_at_most room (Some xs) (Some ys) piece c f = omega (arith, ap length c, le
 
 pub took_at_most : (room count : ℕ) (left rest : Option (List ℕ)) (buffer : List ℕ) → Consumes left rest (take count buffer) → count ≤ length buffer → length buffer ≡ room → TakesAtMost room left rest
 took_at_most room count left rest buffer c f l = piece_at_most room left rest (take count buffer) c (omega (arith, length-take-le count buffer f, f, l))
+
+-- nothing was taken
+pub stayed : (limit : ℕ) (left : Option (List ℕ)) → TakesAtMost (limit + 1) left left
+stayed limit left = piece_at_most (limit + 1) left left [] (consumes_nothing left) (omega arith)
+
+-- a read that failed is the front of any file, and promises nothing of a place
+pub unread : (limit : ℕ) (left : Option (List ℕ)) (fault : OsFault) (r : Result FileRead OsFault) → IsErrAnd r (λ x. x ≡ fault) → IfSome left (λ xs. IsFront limit xs r)
+unread limit None fault r h = tt
+unread limit (Some xs) fault (Ok read) h = absurd h
+unread limit (Some xs) fault (Err other) h = tt
+
+pub nowhere : (P : Type 0) (fault : OsFault) (r : Result FileRead OsFault) → IsErrAnd r (λ x. x ≡ fault) → OnOk r P
+nowhere P fault (Ok read) h = absurd h
+nowhere P fault (Err other) h = tt

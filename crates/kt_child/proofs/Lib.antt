@@ -11,20 +11,18 @@ pub mod HostStandings
 pub mod HostSteps
 pub mod IdleStates
 pub mod LifeSteps
-pub mod LoneChildren
 pub mod Mapped
 pub mod NameCounts
 pub mod NameSteps
 pub mod NamedSteps
-pub mod NewStarts
 pub mod NumberSteps
 pub mod Outcomes
 pub mod OwedCases
 pub mod PartSteps
 pub mod Places
-pub mod RoleStarts
 pub mod SeveralSteps
 pub mod SeveralWaits
+pub mod Shares
 pub mod ShownCases
 pub mod StartLeavings
 pub mod StartSilence
@@ -38,5 +36,3 @@ pub mod TraceWaits
 pub mod TurnSteps
 pub mod WaitSilence
 pub mod WaitSteps
-pub mod WaitedOnSteps
-pub mod WidthSteps

@@ -1,5 +1,5 @@
 -- The polls of a wait for one child are a life of it.
-use Rattle.std.proofs.Common.{◌≡◌, ℕ, zero, suc, ◌==◌, ◌&&◌, Bool, true, false, List, [], ◌∷◌, ◌++◌, Result, refl, sym, ◌∙◌, ap, subst, arith, inl, inr, if◌then◌else◌}
+use Rattle.std.proofs.Common.{◌≡◌, ℕ, zero, suc, ◌<◌, ◌==◌, ◌&&◌, Bool, true, false, List, [], ◌∷◌, ◌++◌, Result, refl, sym, ◌∙◌, ap, subst, arith, inl, inr, if◌then◌else◌}
 use Rattle.std.proofs.lemmas.Bool.Decides.{nat_tests}
 use Rattle.kt_base.specs.declared.role.Role.{Role}
 use Rattle.kt_base.specs.declared.role.Role.TheVariants.{Body, Cleanup}
@@ -10,11 +10,11 @@ use Rattle.kt_child.specs.declared.system.polled.Polled.{Polled}
 use Rattle.kt_child.specs.declared.system.os_fault.OsFault.{OsFault}
 use Rattle.kt_child.specs.declared.polling.watch.Watch.{Watch}
 use Rattle.kt_child.specs.declared.polling.watched.Watched.{Watched}
-use Rattle.kt_child.specs.System.Calls.{Call, MakeDir, RemoveTree, OpenOutput, Spawn, Poll, Kill, Pause, ReadFile, ReadPart, Now}
+use Rattle.kt_child.specs.System.Calls.{Call, SetLimit, MakeDir, RemoveTree, OpenOutput, Spawn, Poll, Kill, Pause, ReadFile, ReadPart, Now}
 use Rattle.kt_child.specs.Polling.Polls.{asked_by_poll, is_killed}
-use Rattle.kt_child.specs.Polling.ChildOutcome.{Heard, HeardPoll, HeardKill, Lived, fresh, heard_of}
-use Rattle.kt_child.specs.Polling.Turns.{PolledUntil, advanced}
-use Rattle.kt_child.specs.Polling.Lives.{OneLife, OneOutcome, heard_by, own, same_child}
+use Rattle.kt_child.specs.Polling.ChildOutcome.{Heard, HeardPoll, HeardKill, Lived, Told, fresh, heard_of}
+use Rattle.kt_child.specs.Polling.Turns.{PolledUntil, WaitedUntil, advanced}
+use Rattle.kt_child.specs.Polling.Lives.{heard_by, own, same_child}
 use Rattle.kt_child.proofs.Outcomes.{told}
 
 own_append : (b : Bool) (h : Heard) (xs ys : List Heard) → own b h (xs ++ ys) ≡ own b h xs ++ ys
@@ -30,6 +30,7 @@ heard_append c (Poll other answer ∷ xs) ys =
 heard_append c (Kill other done ∷ xs) ys =
     ap (own (same_child other c) (HeardKill done)) (heard_append c xs ys)
     ∙ own_append (same_child other c) (HeardKill done) (heard_by c xs) (heard_by c ys)
+heard_append c (SetLimit child limit ∷ xs) ys = heard_append c xs ys
 heard_append c (MakeDir path done ∷ xs) ys = heard_append c xs ys
 heard_append c (RemoveTree path done ∷ xs) ys = heard_append c xs ys
 heard_append c (OpenOutput child path done ∷ xs) ys = heard_append c xs ys
@@ -81,7 +82,9 @@ last_poll k calls zero outcome (before, last, e, none, (answer, done, asked, end
     (answer, done, [], f ∙ sym (append_none (heard_of k.limit k.watch answer done)), inl (ended, refl))
 last_poll k calls (suc place) outcome (before, last, e, polled, impossible) = absurd impossible
 
-pub one_life : OneLife
+-- where one child runs, the polls of a wait are a life of it, one poll a turn
+one_life : (turns : ℕ) (child : Watched) (calls : List Call) (place : ℕ) (outcome : Outcome) → WaitedUntil turns (child ∷ []) calls place outcome
+    → Lived (suc turns) child.limit child.watch (heard_by child.child calls) outcome
 one_life zero k calls place outcome (before, last, e, none, until) =
     let P : List Call → Type 0 = λ t. Lived 1 k.limit k.watch (heard_by k.child t) outcome in
     subst P (sym (e ∙ ap (λ t. t ++ last) none)) (last_poll k last place outcome until)
@@ -100,6 +103,9 @@ one_life (suc n) k calls place outcome (before, last, e, (turn, d, more, eq, (an
     joined [] x ys zs = refl
     joined (y ∷ xs) x ys zs = ap (λ t. y ∷ t) (joined xs x ys zs)
 
-pub one_outcome : OneOutcome
+-- and the outcome of a child that ran alone from its start on is that of the outcome table
+pub one_outcome : (turns : ℕ) (child : Child) (limit : ℕ) (calls : List Call) (place : ℕ) (outcome : Outcome)
+    → 0 < limit → WaitedUntil turns (record { child = child; limit = limit; watch = fresh } ∷ []) calls place outcome
+    → Told limit (heard_by child calls) outcome
 one_outcome turns c limit calls place outcome positive waited =
     told (suc turns) limit (heard_by c calls) outcome positive (one_life turns (record { child = c; limit = limit; watch = fresh }) calls place outcome waited)

@@ -7,7 +7,7 @@ use Rattle.kt_sched.specs.declared.job.Job.{Job}
 use Rattle.kt_sched.specs.declared.start_answer.StartAnswer.{StartAnswer}
 use Rattle.kt_sched.specs.declared.start_answer.StartAnswer.TheVariants.{Started as StartedAt, Refused as RefusedFor}
 use Rattle.kt_sched.specs.declared.ended.Ended.{Ended}
-use Rattle.kt_sched.specs.Trace.{Trace, NoEvent, Then, Start, End, Leads}
+use Rattle.kt_child.specs.declared.driving.driver.Driver.{Driver}
 use Rattle.kt_child.specs.declared.planning.paths.Paths.{Paths}
 use Rattle.kt_child.specs.declared.polling.watched.Watched.{Watched}
 use Rattle.kt_child.specs.declared.planning.case.Case.{Case}
@@ -18,9 +18,9 @@ use Rattle.kt_child.specs.Ending.Ends.{is_over}
 use Rattle.kt_child.specs.Driving.JobPlan.{case_of, cleaning, watched_of}
 use Rattle.kt_child.specs.Planning.ChildPlan.{paths_of}
 use Rattle.kt_child.specs.Driving.Launches.{StartsBy}
-use Rattle.kt_child.specs.Driving.Numbers.{IsBare, NamesDiffer}
-use Rattle.kt_child.specs.Polling.SeveralLives.{name_of}
-use Rattle.kt_child.proofs.NameCounts.{case_name, numbered, numbered_less, numbered_more, one_or, own_named}
+use Rattle.kt_child.specs.Driving.Numbers.{IsBare}
+use Rattle.kt_child.proofs.Shares.{name_of}
+use Rattle.kt_child.proofs.NameCounts.{case_name, numbered, numbered_less, numbered_more, one_or}
 use Rattle.kt_child.proofs.ChildNames.{names_append}
 use Rattle.kt_child.proofs.SeveralWaits.{names_waited}
 
@@ -62,7 +62,7 @@ body_more next b job p (StartedAt moment) (e, h) =
 
 -- a cleanup, which has the number that was owed
 cleanup_more : (next : ℕ) (b : ChildrenState) (job : Job) (place : ℕ) (c : Case) (answer : StartAnswer) → slice_get b.pending place ≡ Some c → Apart next b
-    → Apart next (state_after_start (record { children = b.children; cases = b.cases; going = b.going; pending = remove b.pending place })
+    → Apart next (state_after_start (record { children = b.children; cases = b.cases; pending = remove b.pending place })
     (watched_of job Cleanup c.attempt) (cleaning c job) answer)
 cleanup_more next b job place c (RefusedFor cause) at (e, h) =
     (e, λ n. let s = numbered_less n b.pending place c at in let m = h n in let l = m.0 in (omega (arith, s, l), λ le. let y = m.1 le in omega (arith, s, y)))
@@ -76,20 +76,20 @@ cleanup_more next b job place c (StartedAt moment) at (e, h) = (
       (omega (arith, r, s, l), λ le. let y = m.1 le in omega (arith, r, s, y)),
 )
 
-pub start_apart : {O : Type 0} (leads : O → Call → O → Type 0) (source root : List ℕ) (job : Job) (role : Role) (os : O) (next : ℕ) (b : ChildrenState) (answer : StartAnswer) (os' : O) (next' : ℕ) (b' : ChildrenState)
-    → StartsBy leads source root job role os next b answer os' next' b' → Apart next b → Apart next' b'
-start_apart leads source root job Body os next b answer os' next' b' (inl (e, told, s, f, same)) h =
-    let P : ChildrenState → Type 0 = λ t. Apart next' t in
-    let Q : ℕ → Type 0 = λ t. Apart t b in
+pub start_apart : {O : Type 0} (leads : O → Call → O → Type 0) (old new : Driver O) (job : Job) (role : Role) (answer : StartAnswer)
+    → StartsBy leads old job role answer new → Apart old.next old.running → Apart new.next new.running
+start_apart leads old new job Body answer (inl (e, told, s, f, same)) h =
+    let P : ChildrenState → Type 0 = λ t. Apart new.next t in
+    let Q : ℕ → Type 0 = λ t. Apart t old.running in
     subst P (sym same) (subst Q (sym f) h)
-start_apart leads source root job Body os next b answer os' next' b' (inr (l, e, more, same)) h =
-    let P : ChildrenState → Type 0 = λ t. Apart (next + 1) t in
-    let Q : ℕ → Type 0 = λ t. Apart t b' in
-    subst Q (sym e) (subst P (sym same) (body_more next b job (paths_of root next) answer h))
-start_apart leads source root job Cleanup os next b answer os' next' b' (place, c, at, position, e, more, same) h =
-    let P : ChildrenState → Type 0 = λ t. Apart next t in
-    let Q : ℕ → Type 0 = λ t. Apart t b' in
-    subst Q (sym e) (subst P (sym same) (cleanup_more next b job place c answer at h))
+start_apart leads old new job Body answer (inr (l, e, more, same)) h =
+    let P : ChildrenState → Type 0 = λ t. Apart (old.next + 1) t in
+    let Q : ℕ → Type 0 = λ t. Apart t new.running in
+    subst Q (sym e) (subst P (sym same) (body_more old.next old.running job (paths_of old.root old.next) answer h))
+start_apart leads old new job Cleanup answer (place, c, at, position, e, more, same) h =
+    let P : ChildrenState → Type 0 = λ t. Apart old.next t in
+    let Q : ℕ → Type 0 = λ t. Apart t new.running in
+    subst Q (sym e) (subst P (sym same) (cleanup_more old.next old.running job place c answer at h))
 
 map_remove : {X Y : Type 0} (f : X → Y) (xs : List X) (i : ℕ) → map f (remove xs i) ≡ remove (map f xs) i
 map_remove f [] zero = refl
@@ -107,7 +107,7 @@ owed n c pending = by (is_over c)
 
 pub wait_apart : (old new : ChildrenState) (calls : List Call) (ended : Ended) (next : ℕ) → Waited old calls ended new → Apart next old → Apart next new
 wait_apart old new calls ended next (polls, rest, place, outcome, after, c, eq, waited, at, leaves, ch, ca, pe) (e, h) =
-    let names : map name_of after ≡ map name_of old.children = names_waited old.going old.children polls place outcome after new.going waited in
+    let names : map name_of after ≡ map name_of old.children = names_waited old.children polls place outcome after waited in
     let l : map name_of new.children ≡ remove (map name_of old.children) place = ap (map name_of) ch ∙ map_remove name_of after place ∙ ap (λ t. remove t place) names in
     let r : map case_name new.cases ≡ remove (map case_name old.cases) place = ap (map case_name) ca ∙ map_remove case_name old.cases place in (
       l ∙ ap (λ t. remove t place) e ∙ sym r,
@@ -121,26 +121,6 @@ wait_apart old new calls ended next (polls, rest, place, outcome, after, c, eq, 
           (omega (arith, s, a, p, o, one), λ le. let y = m.1 le in omega (arith, s, a, p, o, y)),
     )
 
-trace_apart : {D : Type 0} (next : D → ℕ) (running : D → ChildrenState) (starts : D → Job → Role → StartAnswer → D → Type 0) (waits : D → Ended → D → Type 0)
-    → ((d e : D) (job : Job) (role : Role) (answer : StartAnswer) → starts d job role answer e → Apart (next d) (running d) → Apart (next e) (running e))
-    → ((d e : D) (ended : Ended) → waits d ended e → Apart (next d) (running d) → Apart (next e) (running e))
-    → (plan : List Job) (T : Trace) (d e : D) → Leads starts waits plan T d e → Apart (next d) (running d) → Apart (next e) (running e)
-trace_apart {D} next running starts waits s w plan NoEvent d e h a = let P : D → Type 0 = λ t. Apart (next t) (running t) in subst P (sym h) a
-trace_apart next running starts waits s w plan (Then T (Start i role answer)) d e (mid, job, led, at, started) a =
-    s mid e job role answer started (trace_apart next running starts waits s w plan T d mid led a)
-trace_apart next running starts waits s w plan (Then T (End ended)) d e (mid, led, waited) a =
-    w mid e ended waited (trace_apart next running starts waits s w plan T d mid led a)
-
 pub none_yet : (next : ℕ) (b : ChildrenState) → IsBare b → Apart next b
 none_yet next b (x, y, z) =
     (ap (map name_of) x ∙ sym (ap (map case_name) y), λ n. let p = ap (numbered n) y in let q = ap (numbered n) z in (omega (arith, p, q), λ le. omega (arith, p, q)))
-
-pub names_differ : {D : Type 0} (next : D → ℕ) (running : D → ChildrenState) (starts : D → Job → Role → StartAnswer → D → Type 0) (waits : D → Ended → D → Type 0)
-    → ((d e : D) (job : Job) (role : Role) (answer : StartAnswer) → starts d job role answer e → Apart (next d) (running d) → Apart (next e) (running e))
-    → ((d e : D) (ended : Ended) → waits d ended e → Apart (next d) (running d) → Apart (next e) (running e))
-    → NamesDiffer running starts waits
-names_differ next running starts waits s w plan T d e place k bare led at =
-    let a : Apart (next e) (running e) = trace_apart next running starts waits s w plan T d e led (none_yet (next d) (running d) bare) in
-    let m = a.1 k.child.attempt in
-    let one = m.0 in
-    own_named place (running e).children (running e).cases k a.0 at (omega (arith, one))

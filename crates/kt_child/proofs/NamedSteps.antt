@@ -1,10 +1,10 @@
 -- The children of one name, in lists that are cut, joined and polled.
-use Rattle.std.proofs.Common.{◌≡◌, ℕ, zero, suc, List, [], ◌∷◌, ◌++◌, Bool, true, false, Some, ◌⊎◌, map, take, drop, slice_get, refl, sym, ◌∙◌, ap, inl, inr}
+use Rattle.std.proofs.Common.{◌≡◌, ℕ, zero, suc, List, [], ◌∷◌, ◌++◌, Bool, true, false, Some, ◌⊎◌, map, take, drop, slice_get, refl, ◌∙◌, ap, inl, inr}
 use Rattle.kt_child.specs.declared.system.child.Child.{Child}
 use Rattle.kt_child.specs.declared.polling.watched.Watched.{Watched}
 use Rattle.kt_child.specs.Polling.Lives.{same_child}
 use Rattle.kt_child.specs.Polling.Turns.{advanced, advanced_below}
-use Rattle.kt_child.specs.Polling.SeveralLives.{kept, named}
+use Rattle.kt_child.proofs.Shares.{kept, named}
 use Rattle.kt_child.proofs.Places.{some_is}
 
 kept_append : (b : Bool) (k : Watched) (xs ys : List Watched) → kept b k (xs ++ ys) ≡ kept b k xs ++ ys
@@ -45,25 +45,18 @@ tail_is x y xs ys e = cc
 pub head_is : (x y : Watched) (xs ys : List Watched) → x ∷ xs ≡ y ∷ ys → x ≡ y
 head_is x y xs ys e = cc
 
--- where a single child stands in three parts of a list of children: in the middle, or not
-pub in_parts : (hs ms ds : List Watched) (k : Watched) → hs ++ (ms ++ ds) ≡ k ∷ []
-    → ((ms ≡ k ∷ []) × (hs ≡ []) × (ds ≡ [])) ⊎ ((ms ≡ []) × (hs ++ ds ≡ k ∷ []))
-in_parts [] [] ds k e = inr (refl, e)
-in_parts [] (m ∷ ms) ds k e =
+-- where a single child stands in two parts of a list of children
+pub in_parts : (ms ds : List Watched) (k : Watched) → ms ++ ds ≡ k ∷ []
+    → ((ms ≡ k ∷ []) × (ds ≡ [])) ⊎ ((ms ≡ []) × (ds ≡ k ∷ []))
+in_parts [] ds k e = inr (refl, e)
+in_parts (m ∷ ms) ds k e =
     let t : ms ++ ds ≡ [] = tail_is m k (ms ++ ds) [] e in
     let l : ms ≡ [] = none_left ms ds t in
-    inl (ap (λ u. m ∷ u) l ∙ ap (λ u. u ∷ []) (head_is m k (ms ++ ds) [] e), refl, none_right ms ds t)
-in_parts (h ∷ hs) ms ds k e =
-    let t : hs ++ (ms ++ ds) ≡ [] = tail_is h k (hs ++ (ms ++ ds)) [] e in
-    let l : ms ≡ [] = none_left ms ds (none_right hs (ms ++ ds) t) in
-    inr (l, ap (λ u. h ∷ (hs ++ (u ++ ds))) (sym l) ∙ e)
+    inl (ap (λ u. m ∷ u) l ∙ ap (λ u. u ∷ []) (head_is m k (ms ++ ds) [] e), none_right ms ds t)
 
--- the same of one that counts behind the middle
-pub is_last : (hs ms ds : List Watched) (o k : Watched) → hs ++ (ms ++ o ∷ ds) ≡ k ∷ [] → (hs ≡ []) × (ms ≡ []) × (o ≡ k)
-is_last [] [] ds o k e = (refl, refl, head_is o k ds [] e)
-is_last [] (m ∷ ms) ds o k e =
+-- the same of one that stands behind the first part
+pub is_last : (ms ds : List Watched) (o k : Watched) → ms ++ o ∷ ds ≡ k ∷ [] → (ms ≡ []) × (o ≡ k)
+is_last [] ds o k e = (refl, head_is o k ds [] e)
+is_last (m ∷ ms) ds o k e =
     let t : o ∷ ds ≡ [] = none_right ms (o ∷ ds) (tail_is m k (ms ++ o ∷ ds) [] e) in
-    let no : ⊥ = cc in absurd no
-is_last (h ∷ hs) ms ds o k e =
-    let t : o ∷ ds ≡ [] = none_right ms (o ∷ ds) (none_right hs (ms ++ o ∷ ds) (tail_is h k (hs ++ (ms ++ o ∷ ds)) [] e)) in
     let no : ⊥ = cc in absurd no

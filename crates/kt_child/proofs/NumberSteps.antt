@@ -7,65 +7,38 @@ use Rattle.kt_atflist.specs.declared.listing.Listing.{Listing}
 use Rattle.kt_sched.specs.declared.job.Job.{Job}
 use Rattle.kt_sched.specs.declared.start_answer.StartAnswer.{StartAnswer}
 use Rattle.kt_sched.specs.declared.ended.Ended.{Ended}
-use Rattle.kt_sched.specs.Trace.{Trace, NoEvent, Then, Start, End, Leads}
 use Rattle.kt_child.specs.System.Calls.{Call}
-use Rattle.kt_child.specs.Driving.ChildrenState.{ChildrenState}
-use Rattle.kt_child.specs.Driving.Launches.{BodyStarts, StartsBy}
+use Rattle.kt_child.specs.declared.driving.driver.Driver.{Driver}
+use Rattle.kt_child.specs.Driving.Launches.{StartsBy}
 use Rattle.kt_child.specs.Driving.Lists.{ListsBy}
-use Rattle.kt_child.specs.Driving.Numbers.{AttemptsDiffer, NumbersDiffer, Request, Start as Asked, Wait, ListOf, Serves, ServesAll, is_attempt}
-
--- a body takes the next number
-pub body_rises : {O : Type 0} (leads : O → Call → O → Type 0) (source root : List ℕ) (job : Job) (os : O) (next : ℕ) (b : ChildrenState) (answer : StartAnswer) (os' : O) (next' : ℕ) (b' : ChildrenState)
-    → next < 2 ^ 64 - 1 → BodyStarts leads source root job os next b answer os' next' b' → next < next'
-body_rises leads source root job os next b answer os' next' b' lt (inl (e, told, s, f, h)) = absurd (omega arith)
-body_rises leads source root job os next b answer os' next' b' lt (inr (l, e, more, b2)) = omega arith
+use Rattle.kt_child.specs.Driving.Numbers.{AttemptsDiffer, Request, Start as Asked, Wait, ListOf, Serves, ServesAll, is_attempt}
 
 -- a start never lets the number fall
-pub start_rises : {O : Type 0} (leads : O → Call → O → Type 0) (source root : List ℕ) (job : Job) (role : Role) (os : O) (next : ℕ) (b : ChildrenState) (answer : StartAnswer) (os' : O) (next' : ℕ) (b' : ChildrenState)
-    → StartsBy leads source root job role os next b answer os' next' b' → next ≤ next'
-start_rises leads source root job Body os next b answer os' next' b' (inl (e, told, s, f, h)) = omega arith
-start_rises leads source root job Body os next b answer os' next' b' (inr (l, e, more, b2)) = omega arith
-start_rises leads source root job Cleanup os next b answer os' next' b' (place, c, at, position, e, more, b2) = omega arith
+pub start_rises : {O : Type 0} (leads : O → Call → O → Type 0) (old new : Driver O) (job : Job) (role : Role) (answer : StartAnswer)
+    → StartsBy leads old job role answer new → old.next ≤ new.next
+start_rises leads old new job Body answer (inl (e, told, s, f, h)) = omega arith
+start_rises leads old new job Body answer (inr (l, e, more, b)) = omega arith
+start_rises leads old new job Cleanup answer (place, c, at, position, e, more, b) = omega arith
 
--- no start and no wait lets the number fall, so no trace does
-trace_rises : {D : Type 0} (next : D → ℕ) (starts : D → Job → Role → StartAnswer → D → Type 0) (waits : D → Ended → D → Type 0)
-    → ((d e : D) (job : Job) (role : Role) (answer : StartAnswer) → starts d job role answer e → next d ≤ next e)
-    → ((d e : D) (ended : Ended) → waits d ended e → next d ≤ next e)
-    → (plan : List Job) (T : Trace) (d e : D) → Leads starts waits plan T d e → next d ≤ next e
-trace_rises next starts waits s w plan NoEvent d e h = let same = ap next h in omega (arith, same)
-trace_rises next starts waits s w plan (Then T (Start i role answer)) d e (mid, job, led, at, started) =
-    let a = trace_rises next starts waits s w plan T d mid led in
-    let b = s mid e job role answer started in
-    omega (arith, a, b)
-trace_rises next starts waits s w plan (Then T (End ended)) d e (mid, led, waited) =
-    let a = trace_rises next starts waits s w plan T d mid led in
-    let b = w mid e ended waited in
-    omega (arith, a, b)
-
--- the law of numbers, of bodies
-pub numbers_differ : {D : Type 0} (next : D → ℕ) (starts : D → Job → Role → StartAnswer → D → Type 0) (waits : D → Ended → D → Type 0)
-    → ((d e : D) (job : Job) (role : Role) (answer : StartAnswer) → starts d job role answer e → next d ≤ next e)
-    → ((d e : D) (ended : Ended) → waits d ended e → next d ≤ next e)
-    → ((d e : D) (job : Job) (answer : StartAnswer) → next d < 2 ^ 64 - 1 → starts d job Body answer e → next d < next e)
-    → NumbersDiffer next starts waits
-numbers_differ next starts waits s w body plan T d e f job answer lt started led =
-    let a = body d e job answer lt started in
-    let b = trace_rises next starts waits s w plan T e f led in
-    omega (arith, a, b)
+-- a body takes the next number
+pub body_rises : {O : Type 0} (leads : O → Call → O → Type 0) (old new : Driver O) (job : Job) (answer : StartAnswer)
+    → old.next < 2 ^ 64 - 1 → StartsBy leads old job Body answer new → old.next < new.next
+body_rises leads old new job answer lt (inl (e, told, s, f, h)) = absurd (omega arith)
+body_rises leads old new job answer lt (inr (l, e, more, b)) = omega arith
 
 -- a list never lets the number fall
-pub list_rises : {O : Type 0} (leads : O → Call → O → Type 0) (source root program : List ℕ) (variables : List Variable) (os : O) (next : ℕ) (answer : Listing) (os' : O) (next' : ℕ)
-    → ListsBy leads source root program variables os next answer os' next' → next ≤ next'
-list_rises leads source root program variables os next answer os' next' (inl (e, told, s, f)) = omega arith
-list_rises leads source root program variables os next answer os' next' (inr (inl (l, e, told, s))) = omega arith
-list_rises leads source root program variables os next answer os' next' (inr (inr (l, e, ran))) = omega arith
+pub list_rises : {O : Type 0} (leads : O → Call → O → Type 0) (old new : Driver O) (program : List ℕ) (variables : List Variable) (answer : Listing)
+    → ListsBy leads old program variables answer new → old.next ≤ new.next
+list_rises leads old new program variables answer (inl (e, told, s, f)) = omega arith
+list_rises leads old new program variables answer (inr (inl (l, e, told, s))) = omega arith
+list_rises leads old new program variables answer (inr (inr (l, e, ran))) = omega arith
 
 -- and takes the next number
-pub list_takes : {O : Type 0} (leads : O → Call → O → Type 0) (source root program : List ℕ) (variables : List Variable) (os : O) (next : ℕ) (answer : Listing) (os' : O) (next' : ℕ)
-    → next < 2 ^ 64 - 1 → ListsBy leads source root program variables os next answer os' next' → next < next'
-list_takes leads source root program variables os next answer os' next' lt (inl (e, told, s, f)) = absurd (omega arith)
-list_takes leads source root program variables os next answer os' next' lt (inr (inl (l, e, told, s))) = omega arith
-list_takes leads source root program variables os next answer os' next' lt (inr (inr (l, e, ran))) = omega arith
+pub list_takes : {O : Type 0} (leads : O → Call → O → Type 0) (old new : Driver O) (program : List ℕ) (variables : List Variable) (answer : Listing)
+    → old.next < 2 ^ 64 - 1 → ListsBy leads old program variables answer new → old.next < new.next
+list_takes leads old new program variables answer lt (inl (e, told, s, f)) = absurd (omega arith)
+list_takes leads old new program variables answer lt (inr (inl (l, e, told, s))) = omega arith
+list_takes leads old new program variables answer lt (inr (inr (l, e, ran))) = omega arith
 
 -- no request lets the number fall, so no sequence of them does
 requests_rise : {D : Type 0} (next : D → ℕ) (serves : D → Request → D → Type 0)
@@ -77,7 +50,7 @@ requests_rise next serves s (request ∷ requests) d e (mid, first, rest) =
     let b = requests_rise next serves s requests mid e rest in
     omega (arith, a, b)
 
--- and of all attempts
+-- the law of numbers
 pub attempts_differ : {D : Type 0} (next : D → ℕ) (starts : D → Job → Role → StartAnswer → D → Type 0) (waits : D → Ended → D → Type 0) (lists : D → List ℕ → List Variable → Listing → D → Type 0)
     → ((d e : D) (job : Job) (role : Role) (answer : StartAnswer) → starts d job role answer e → next d ≤ next e)
     → ((d e : D) (ended : Ended) → waits d ended e → next d ≤ next e)

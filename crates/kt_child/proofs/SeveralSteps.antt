@@ -10,7 +10,7 @@ use Rattle.kt_child.specs.System.Calls.{Call, Poll, Kill, Pause}
 use Rattle.kt_child.specs.Polling.ChildOutcome.{Heard, HeardPoll, HeardKill, heard_of}
 use Rattle.kt_child.specs.Polling.Lives.{heard_by, own, same_child}
 use Rattle.kt_child.specs.Polling.Polls.{asked_by_poll, is_killed, turn_of}
-use Rattle.kt_child.specs.Polling.SeveralLives.{GoesOn, LivesOut, Share, Went, kept, named}
+use Rattle.kt_child.proofs.Shares.{GoesOn, LivesOut, Share, Went, kept, named}
 use Rattle.kt_child.specs.Polling.Turns.{PolledAll, Rounds, advanced, after_turns}
 use Rattle.kt_child.proofs.LifeSteps.{heard_append}
 use Rattle.kt_child.proofs.NamedSteps.{named_map}

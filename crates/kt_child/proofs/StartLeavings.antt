@@ -17,7 +17,7 @@ use Rattle.kt_child.specs.Driving.ChildrenState.{ChildrenState, one_if}
 use Rattle.kt_child.specs.Polling.ChildOutcome.{Heard}
 use Rattle.kt_child.specs.Driving.JobPlan.{case_in, case_of, cleaning, watched_of}
 use Rattle.kt_child.specs.Polling.Lives.{same_child}
-use Rattle.kt_child.specs.Polling.SeveralLives.{named}
+use Rattle.kt_child.proofs.Shares.{named}
 use Rattle.kt_child.specs.Driving.TraceLives.{IsNumberOf}
 use Rattle.kt_child.proofs.CasePlaces.{Every, at_none, at_some, named_last, named_past, other_number}
 use Rattle.kt_child.proofs.NameCounts.{case_name, numbered, numbered_less, numbered_more, one_or}
@@ -26,7 +26,7 @@ use Rattle.kt_child.proofs.TraceFacts.{IsGone, OwedSo, RunsSo, cleaner}
 
 -- a state from which a case that is owed its cleanup was taken
 abbrev pub taken : ChildrenState → ℕ → ChildrenState
-taken b place = record { children = b.children; cases = b.cases; going = b.going; pending = remove b.pending place }
+taken b place = record { children = b.children; cases = b.cases; pending = remove b.pending place }
 
 -- what had a number has it still
 abbrev pub Grows : ℕ → Trace → Trace → Type 0

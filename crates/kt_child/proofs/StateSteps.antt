@@ -3,7 +3,6 @@ use Rattle.std.proofs.Common.{◌≡◌, ℕ, ◌+◌, ◌≤◌, ◌==◌, List
 use Rattle.std.specs.Prelude.{remove, All}
 use Rattle.std.proofs.lemmas.List.Elements.{All-push}
 use Rattle.kt_child.specs.declared.polling.watched.Watched.{Watched}
-use Rattle.kt_child.specs.declared.polling.open_turn.OpenTurn.{OpenTurn}
 use Rattle.kt_child.specs.Polling.Turns.{IsOn}
 use Rattle.kt_child.specs.declared.planning.case.Case.{Case}
 use Rattle.kt_child.specs.Driving.ChildrenState.{IsChildrenState, count_at, one_if}
@@ -15,19 +14,16 @@ once_more true n m h p = let z : n + m ≡ 0 = h refl in omega arith
 once_more false n m h p = omega arith
 
 -- after a start
-pub state_started : (children children' : List Watched) (cases cases' pending pending' : List Case) (going : OpenTurn) (watched : Watched) (c : Case)
-    → IsChildrenState children cases going pending → IsOn watched → count_at c.position cases + count_at c.position pending ≡ 0
-    → children' ≡ children ++ watched ∷ [] → cases' ≡ cases ++ c ∷ [] → pending' ≡ pending → IsChildrenState children' cases' going pending'
-state_started children children' cases cases' pending pending' going watched c b on free e f g =
+pub state_started : (children children' : List Watched) (cases cases' pending pending' : List Case) (watched : Watched) (c : Case)
+    → IsChildrenState children cases pending → IsOn watched → count_at c.position cases + count_at c.position pending ≡ 0
+    → children' ≡ children ++ watched ∷ [] → cases' ≡ cases ++ c ∷ [] → pending' ≡ pending → IsChildrenState children' cases' pending'
+state_started children children' cases cases' pending pending' watched c b on free e f g =
     let lk : length children' ≡ length children + 1 = ap length e ∙ length-append children (watched ∷ []) in
     let lc : length cases' ≡ length cases + 1 = ap length f ∙ length-append cases (c ∷ []) in
     let s = b.same in
-    let w = b.within in
     record {
       on = subst (All IsOn) (sym e) (All-push IsOn children watched b.on on);
       same = omega arith;
-      within = omega arith;
-      few = b.few;
       once = λ i.
           let x : count_at i cases' ≡ count_at i cases + one_if (i == c.position) = ap (count_at i) f ∙ count_append cases c i in
           let y : count_at i pending' ≡ count_at i pending = ap (count_at i) g in
@@ -38,14 +34,12 @@ state_started children children' cases cases' pending pending' going watched c b
     }
 
 -- after a case was taken
-pub state_taken : (children : List Watched) (cases pending pending' : List Case) (going : OpenTurn) (p : ℕ) (c : Case)
-    → IsChildrenState children cases going pending → slice_get pending p ≡ Some c → pending' ≡ remove pending p → IsChildrenState children cases going pending'
-state_taken children cases pending pending' going p c b at e =
+pub state_taken : (children : List Watched) (cases pending pending' : List Case) (p : ℕ) (c : Case)
+    → IsChildrenState children cases pending → slice_get pending p ≡ Some c → pending' ≡ remove pending p → IsChildrenState children cases pending'
+state_taken children cases pending pending' p c b at e =
     record {
       on = b.on;
       same = b.same;
-      within = b.within;
-      few = b.few;
       once = λ i.
           let x : count_at i pending' ≡ count_at i (remove pending p) = ap (count_at i) e in
           let h = count_remove pending p c i at in

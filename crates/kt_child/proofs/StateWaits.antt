@@ -9,12 +9,10 @@ use Rattle.kt_base.specs.declared.role.Role.TheVariants.{Body}
 use Rattle.kt_base.specs.declared.outcome.Outcome.{Outcome}
 use Rattle.kt_claim.specs.declared.evidence.Evidence.{Evidence}
 use Rattle.kt_child.specs.declared.polling.watched.Watched.{Watched}
-use Rattle.kt_child.specs.declared.polling.open_turn.OpenTurn.{OpenTurn}
 use Rattle.kt_child.specs.declared.planning.case.Case.{Case}
 use Rattle.kt_sched.specs.declared.ended.Ended.{Ended}
 use Rattle.kt_child.specs.System.Calls.{Call, Chain}
-use Rattle.kt_child.specs.Polling.Turns.{IsOn}
-use Rattle.kt_child.specs.Polling.Waits.{WaitedOn}
+use Rattle.kt_child.specs.Polling.Turns.{IsOn, WaitedOn}
 use Rattle.kt_sched.specs.Children.{Child as Shown, IsEvidence, same_role, running_after_end, pending_after_end, with_cleanup_declared}
 use Rattle.kt_child.specs.Driving.ChildrenState.{ChildrenState, IsChildrenState, Waited, count_at, is_among, one_if, pending_with, shown, shown_at}
 use Rattle.kt_child.specs.Ending.Ends.{Leaves}
@@ -29,12 +27,12 @@ same_children n children rest h = take_at children rest n h
 once_there : (cases pending : List Case) (c : Case) → ((i : ℕ) → count_at i cases + count_at i pending ≤ 1) → count_at c.position cases ≤ 1
 once_there cases pending c h = let m : count_at c.position cases + count_at c.position pending ≤ 1 = h c.position in omega arith
 
-pub state_after : (children after children' : List Watched) (cases cases' pending pending' : List Case) (going going' : OpenTurn) (p : ℕ) (c : Case)
-    → IsChildrenState children cases going pending → slice_get cases p ≡ Some c → p < length children
-    → All IsOn after → length after ≡ length children → going'.from + going'.unpolled < length children → going'.over < 2
+pub state_after : (children after children' : List Watched) (cases cases' pending pending' : List Case) (p : ℕ) (c : Case)
+    → IsChildrenState children cases pending → slice_get cases p ≡ Some c → p < length children
+    → All IsOn after → length after ≡ length children
     → children' ≡ remove after p → cases' ≡ remove cases p → pending' ≡ pending_with c pending
-    → IsChildrenState children' cases' going' pending'
-state_after children after children' cases cases' pending pending' going going' p c b at lt on same within few e f q =
+    → IsChildrenState children' cases' pending'
+state_after children after children' cases cases' pending pending' p c b at lt on same e f q =
     let la : length (remove after p) + 1 ≡ length after = length-remove after p (omega arith) in
     let ltc : p < length cases = let s = b.same in omega arith in
     let lc : length (remove cases p) + 1 ≡ length cases = length-remove cases p ltc in
@@ -44,8 +42,6 @@ state_after children after children' cases cases' pending pending' going going' 
     record {
       on = subst (All IsOn) (sym e) (All-append IsOn (take p after) (drop (suc p) after) (All-take IsOn p after on) (All-drop IsOn (suc p) after on));
       same = omega arith;
-      within = omega arith;
-      few = few;
       once = λ i.
           let h : count_at i (remove cases p) + one_if (i == c.position) ≡ count_at i cases = count_remove cases p c i at in
           let o = count_owed pending c i in
@@ -83,13 +79,13 @@ waited_pending cases pending pending' p c e once at x y f k =
     ap (λ t. is_among t k) f ∙ among_owed cases pending c k (shown_there cases p c at (once_there cases pending c once)) ∙ ap A (sym x) ∙ ap B (sym y)
 
 pub waited_all : {O : Type 0} (leads : O → Call → O → Type 0) (a b d : O) (old new : ChildrenState) (children after : List Watched) (place : ℕ) (outcome : Outcome) (c : Case) (e : Ended)
-    → (calls : List Call) × Chain leads a calls b × WaitedOn old.going children calls place outcome after new.going
+    → (calls : List Call) × Chain leads a calls b × WaitedOn children calls place outcome after
     → (calls : List Call) × Chain leads b calls d × Leaves c calls outcome e
     → children ≡ old.children → slice_get old.cases place ≡ Some c
     → new.children ≡ remove after place → new.cases ≡ remove old.cases place → new.pending ≡ pending_with c old.pending
     → (calls : List Call) × Chain leads a calls d × Waited old calls e new
 waited_all leads a b d old new children after place outcome c e (xs, p, w) (ys, q, l) same at f g i =
-    let P : List Watched → Type 0 = λ t. WaitedOn old.going t xs place outcome after new.going in
+    let P : List Watched → Type 0 = λ t. WaitedOn t xs place outcome after in
     (xs ++ ys, chain_append leads a b d xs ys p q, (xs, ys, place, outcome, after, c, refl, subst P same w, at, l, f, g, i))
 
 pub once_owed : (cases pending : List Case) (c : Case) → ((i : ℕ) → count_at i cases + count_at i pending ≤ 1) → count_at c.position pending ≤ 1

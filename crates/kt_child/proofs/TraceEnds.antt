@@ -18,9 +18,9 @@ use Rattle.kt_child.specs.Polling.ChildOutcome.{Heard, Told}
 use Rattle.kt_child.specs.Ending.Ends.{Leaves}
 use Rattle.kt_child.specs.Driving.JobPlan.{case_in, limit_of, watched_of}
 use Rattle.kt_child.specs.Polling.Lives.{heard_by, same_child}
-use Rattle.kt_child.specs.Polling.SeveralLives.{GoesOn, LivesOut, Share, named}
+use Rattle.kt_child.proofs.Shares.{GoesOn, LivesOut, Share, named}
 use Rattle.kt_child.specs.Driving.TraceLives.{IsNumberOf, LeavesAtLast}
-use Rattle.kt_child.specs.Polling.Waits.{WaitedOn}
+use Rattle.kt_child.specs.Polling.Turns.{WaitedOn}
 use Rattle.kt_child.proofs.CasePlaces.{other_absent, other_number, own_child}
 use Rattle.kt_child.proofs.EndSilence.{shares_at}
 use Rattle.kt_child.proofs.LifeSteps.{append_none, child_is_own}
@@ -46,7 +46,7 @@ unheard heard c old new calls e none w = ap (λ t. heard c ++ t) (wait_silent c 
 -- the share of a child in a wait that ends with the child of this case
 share_of : (old new : ChildrenState) (calls polls rest : List Call) (place : ℕ) (outcome : Outcome) (after : List Watched) (d : Case) (e : Ended) (next : ℕ) (c : Child) (k : Watched)
     → Apart next old → slice_get old.cases place ≡ Some d → calls ≡ polls ++ rest
-    → WaitedOn old.going old.children polls place outcome after new.going → Leaves d rest outcome e → new.children ≡ remove after place
+    → WaitedOn old.children polls place outcome after → Leaves d rest outcome e → new.children ≡ remove after place
     → named c old.children ≡ k ∷ [] → Share c (same_child (case_name d) c) k (heard_by c calls) e.outcome new.children
 share_of old new calls polls rest place outcome after d e next c k apart at eq waited leaves ch own =
     let m = apart.1 d.attempt in
@@ -81,7 +81,7 @@ positive plan i job Cleanup is at = omega arith
 -- a case that goes on running
 pub still_runs : (plan : List Job) (root : List ℕ) (base : ℕ) (T : Trace) (heard : Child → List Heard) (next : ℕ) (old new : ChildrenState) (calls polls rest : List Call) (place : ℕ) (outcome : Outcome) (after : List Watched) (d : Case) (e : Ended)
     → Apart next old → slice_get old.cases place ≡ Some d → calls ≡ polls ++ rest
-    → WaitedOn old.going old.children polls place outcome after new.going → Leaves d rest outcome e → new.children ≡ remove after place
+    → WaitedOn old.children polls place outcome after → Leaves d rest outcome e → new.children ≡ remove after place
     → Waited old calls e new
     → (i : ℕ) (c : Case) → slice_get old.cases i ≡ Some c → one_if (d.attempt == c.attempt) ≡ 0
     → RunsSo plan root base T heard old.children c → RunsSo plan root base (Then T (End e)) (heard_after heard calls) new.children c
@@ -123,7 +123,7 @@ left_so root job d polls rest calls outcome e eq leaves same =
 -- the end of a case's child
 pub ends_so : (plan : List Job) (source root : List ℕ) (base : ℕ) (T : Trace) (heard : Child → List Heard) (next : ℕ) (old new : ChildrenState) (calls polls rest : List Call) (place : ℕ) (outcome : Outcome) (after : List Watched) (d : Case) (e : Ended)
     → IsPlan plan → Apart next old → slice_get old.cases place ≡ Some d → calls ≡ polls ++ rest
-    → WaitedOn old.going old.children polls place outcome after new.going → Leaves d rest outcome e → new.children ≡ remove after place
+    → WaitedOn old.children polls place outcome after → Leaves d rest outcome e → new.children ≡ remove after place
     → IsGone next new (case_name d) → e.position ≡ d.position → e.role ≡ d.role
     → RunsSo plan root base T heard old.children d → PastSo plan source root base (heard_after heard calls) next new calls T (End e)
 ends_so plan source root base T heard next old new calls polls rest place outcome after d e is apart at eq waited leaves ch gone position role r =

@@ -13,7 +13,7 @@ use Rattle.kt_child.specs.Polling.ChildOutcome.{Heard, Told}
 use Rattle.kt_child.specs.System.Calls.{Call}
 use Rattle.kt_child.specs.Planning.ChildPlan.{paths_of}
 use Rattle.kt_child.specs.Driving.JobPlan.{case_in, limit_of, watched_of}
-use Rattle.kt_child.specs.Polling.SeveralLives.{GoesOn, named}
+use Rattle.kt_child.proofs.Shares.{GoesOn, named}
 use Rattle.kt_child.specs.Driving.TraceLives.{BegunAt, EachWith, IsNumberOf, LeavesAtLast, following, next_after}
 use Rattle.kt_child.proofs.CasePlaces.{Every}
 use Rattle.kt_child.proofs.NameCounts.{case_name, numbered}

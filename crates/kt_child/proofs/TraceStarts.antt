@@ -9,10 +9,11 @@ use Rattle.kt_sched.specs.Children.{same_role}
 use Rattle.kt_sched.specs.Plan.{IsPlan}
 use Rattle.kt_sched.specs.Trace.{Trace, Then, Start}
 use Rattle.kt_child.specs.declared.system.child.Child.{Child}
+use Rattle.kt_child.specs.declared.driving.driver.Driver.{Driver}
 use Rattle.kt_child.specs.declared.planning.paths.Paths.{Paths}
 use Rattle.kt_child.specs.declared.polling.watched.Watched.{Watched}
 use Rattle.kt_child.specs.declared.planning.case.Case.{Case}
-use Rattle.kt_child.specs.Driving.Begins.{BegunCleanup, state_after_start}
+use Rattle.kt_child.specs.Driving.Begins.{Begun, state_after_start}
 use Rattle.kt_child.specs.Driving.ChildrenState.{ChildrenState}
 use Rattle.kt_child.specs.System.Calls.{Call}
 use Rattle.kt_child.specs.Polling.ChildOutcome.{Heard}
@@ -146,41 +147,40 @@ cleanup_stands plan source root base T heard next b past job i place d (StartedA
     }
 
 -- a start by its own calls
-begun_at : (plan : List Job) (source root : List ℕ) (base : ℕ) (T : Trace) (heard : Child → List Heard) (next : ℕ) (b : ChildrenState) (past : List Call) (job : Job) (i : ℕ) (role : Role) (answer : StartAnswer) (asked : List Call)
-    → IsPlan plan → slice_get plan i ≡ Some job → StartAsks source root job role next b asked answer
-    → Stands plan source root base T heard next b past → BegunAt plan source root base asked T i role answer
-begun_at plan source root base T heard next b past job i Body answer asked is at asks s =
-    let P : ℕ → Type 0 = λ t. BodyAsks source root job t asked answer in
+begun_at : {O : Type 0} (plan : List Job) (d : Driver O) (base : ℕ) (T : Trace) (heard : Child → List Heard) (past : List Call) (job : Job) (i : ℕ) (role : Role) (answer : StartAnswer) (asked : List Call)
+    → IsPlan plan → slice_get plan i ≡ Some job → StartAsks d job role asked answer
+    → Stands plan d.source d.root base T heard d.next d.running past → BegunAt plan d.source d.root base asked T i role answer
+begun_at plan d base T heard past job i Body answer asked is at asks s =
+    let P : ℕ → Type 0 = λ t. BodyAsks d.source d.root job t asked answer in
     (job, at, subst P s.counted asks)
-begun_at plan source root base T heard next b past job i Cleanup answer asked is at (place, d, there, position, begun) s =
-    let o = s.owed place d there in
-    let N : ℕ → Type 0 = λ t. IsNumberOf base T t d.attempt in
-    let P : Paths → Type 0 = λ t. BegunCleanup (spawning_of source job Cleanup d.attempt t) t.dir asked answer in
-    (job, d.attempt, at, subst N (position ∙ is.placed i job at) o.0, subst P o.2 begun)
+begun_at plan d base T heard past job i Cleanup answer asked is at (place, c, there, position, begun) s =
+    let o = s.owed place c there in
+    let N : ℕ → Type 0 = λ t. IsNumberOf base T t c.attempt in
+    let P : Paths → Type 0 = λ t. Begun (spawning_of d.source job Cleanup c.attempt t) asked answer in
+    (job, c.attempt, at, subst N (position ∙ is.placed i job at) o.0, subst P o.2 begun)
 
 -- a start of a driver
-pub start_stands : {O : Type 0} (leads : O → Call → O → Type 0) (source root : List ℕ) (job : Job) (role : Role) (os : O) (next : ℕ) (b : ChildrenState) (answer : StartAnswer) (os' : O) (next' : ℕ) (b' : ChildrenState)
+pub start_stands : {O : Type 0} (leads : O → Call → O → Type 0) (old new : Driver O) (job : Job) (role : Role) (answer : StartAnswer)
     (plan : List Job) (base : ℕ) (T : Trace) (heard : Child → List Heard) (i : ℕ) (past asked : List Call)
-    → IsPlan plan → slice_get plan i ≡ Some job → StartsBy leads source root job role os next b answer os' next' b'
-    → StartAsks source root job role next b asked answer
-    → Stands plan source root base T heard next b past → Stands plan source root base (Then T (Start i role answer)) heard next' b' (past ++ asked)
-start_stands leads source root job Body os next b answer os' next' b' plan base T heard i past asked is at (inl (e, told, same, f, g)) asks s =
-    let p : Paths = paths_of root next in
-    let after : b' ≡ state_after_start b (watched_of job Body next) (case_of job next p) answer =
-    g ∙ sym (ap (state_after_start b (watched_of job Body next) (case_of job next p)) told) in
-    let P : ChildrenState → Type 0 = λ t. Stands plan source root base (Then T (Start i Body answer)) heard next' t (past ++ asked) in
-    let apart = start_apart leads source root job Body os next b answer os' next' b' (inl (e, told, same, f, g)) s.apart in
-    subst P (sym after) (body_stands plan source root base T heard next next' b past job i answer asked is at (f ∙ sym (following_last next e)) (omega arith) (subst (Apart next') after apart)
-    (begun_at plan source root base T heard next b past job i Body answer asked is at asks s) s)
-start_stands leads source root job Body os next b answer os' next' b' plan base T heard i past asked is at (inr (l, e, begun, after)) asks s =
-    let P : ChildrenState → Type 0 = λ t. Stands plan source root base (Then T (Start i Body answer)) heard next' t (past ++ asked) in
-    let apart = start_apart leads source root job Body os next b answer os' next' b' (inr (l, e, begun, after)) s.apart in
-    subst P (sym after) (body_stands plan source root base T heard next next' b past job i answer asked is at (e ∙ sym (following_more next l)) (omega arith) (subst (Apart next') after apart)
-    (begun_at plan source root base T heard next b past job i Body answer asked is at asks s) s)
-start_stands leads source root job Cleanup os next b answer os' next' b' plan base T heard i past asked is at (place, d, there, position, e, begun, after) asks s =
-    let P : ChildrenState → Type 0 = λ t. Stands plan source root base (Then T (Start i Cleanup answer)) heard next t (past ++ asked) in
-    let N : ℕ → Type 0 = λ t. Stands plan source root base (Then T (Start i Cleanup answer)) heard t b' (past ++ asked) in
-    let M : ℕ → Type 0 = λ t. Apart t b' in
-    let apart : Apart next b' = subst M e (start_apart leads source root job Cleanup os next b answer os' next' b' (place, d, there, position, e, begun, after) s.apart) in
-    subst N (sym e) (subst P (sym after) (cleanup_stands plan source root base T heard next b past job i place d answer asked is at there position (subst (Apart next) after apart)
-    (begun_at plan source root base T heard next b past job i Cleanup answer asked is at asks s) s))
+    → IsPlan plan → slice_get plan i ≡ Some job → StartsBy leads old job role answer new → StartAsks old job role asked answer
+    → Stands plan old.source old.root base T heard old.next old.running past
+    → Stands plan old.source old.root base (Then T (Start i role answer)) heard new.next new.running (past ++ asked)
+start_stands leads old new job Body answer plan base T heard i past asked is at (inl (e, told, same, f, g)) asks s =
+    let after : new.running ≡ state_after_start old.running (watched_of job Body old.next) (case_of job old.next (paths_of old.root old.next)) answer =
+    g ∙ sym (ap (state_after_start old.running (watched_of job Body old.next) (case_of job old.next (paths_of old.root old.next))) told) in
+    let P : ChildrenState → Type 0 = λ t. Stands plan old.source old.root base (Then T (Start i Body answer)) heard new.next t (past ++ asked) in
+    let apart = start_apart leads old new job Body answer (inl (e, told, same, f, g)) s.apart in
+    subst P (sym after) (body_stands plan old.source old.root base T heard old.next new.next old.running past job i answer asked is at (f ∙ sym (following_last old.next e)) (omega arith)
+    (subst (Apart new.next) after apart) (begun_at plan old base T heard past job i Body answer asked is at asks s) s)
+start_stands leads old new job Body answer plan base T heard i past asked is at (inr (l, e, begun, after)) asks s =
+    let P : ChildrenState → Type 0 = λ t. Stands plan old.source old.root base (Then T (Start i Body answer)) heard new.next t (past ++ asked) in
+    let apart = start_apart leads old new job Body answer (inr (l, e, begun, after)) s.apart in
+    subst P (sym after) (body_stands plan old.source old.root base T heard old.next new.next old.running past job i answer asked is at (e ∙ sym (following_more old.next l)) (omega arith)
+    (subst (Apart new.next) after apart) (begun_at plan old base T heard past job i Body answer asked is at asks s) s)
+start_stands leads old new job Cleanup answer plan base T heard i past asked is at (place, d, there, position, e, begun, after) asks s =
+    let P : ChildrenState → Type 0 = λ t. Stands plan old.source old.root base (Then T (Start i Cleanup answer)) heard old.next t (past ++ asked) in
+    let N : ℕ → Type 0 = λ t. Stands plan old.source old.root base (Then T (Start i Cleanup answer)) heard t new.running (past ++ asked) in
+    let M : ℕ → Type 0 = λ t. Apart t new.running in
+    let apart : Apart old.next new.running = subst M e (start_apart leads old new job Cleanup answer (place, d, there, position, e, begun, after) s.apart) in
+    subst N (sym e) (subst P (sym after) (cleanup_stands plan old.source old.root base T heard old.next old.running past job i place d answer asked is at there position
+    (subst (Apart old.next) after apart) (begun_at plan old base T heard past job i Cleanup answer asked is at asks s) s))

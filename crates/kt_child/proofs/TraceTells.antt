@@ -7,12 +7,13 @@ use Rattle.kt_sched.specs.declared.start_answer.StartAnswer.{StartAnswer}
 use Rattle.kt_sched.specs.declared.ended.Ended.{Ended}
 use Rattle.kt_sched.specs.Plan.{IsPlan}
 use Rattle.kt_sched.specs.Trace.{Trace, NoEvent, Then, Event, Start, End, Leads}
+use Rattle.kt_child.specs.declared.driving.driver.Driver.{Driver}
 use Rattle.kt_child.specs.declared.system.child.Child.{Child}
-use Rattle.kt_child.specs.Driving.ChildrenState.{ChildrenState, Waited}
+use Rattle.kt_child.specs.Driving.ChildrenState.{ChildrenState}
 use Rattle.kt_child.specs.System.Calls.{Call, Chain}
 use Rattle.kt_child.specs.Polling.ChildOutcome.{Heard, Told}
 use Rattle.kt_child.specs.Driving.JobPlan.{limit_of}
-use Rattle.kt_child.specs.Driving.Launches.{StartsBy}
+use Rattle.kt_child.specs.Driving.DriverSteps.{DriverStarts, DriverWaits}
 use Rattle.kt_child.specs.Polling.Lives.{heard_by}
 use Rattle.kt_child.specs.Driving.Numbers.{IsBare}
 use Rattle.kt_child.specs.Driving.TraceLives.{EndsAreTold, ToldAt}
@@ -55,70 +56,71 @@ told_one plan source root base heard next b calls f asked T (End ended) (n, is, 
     record { number = n; numbered = is; job = job; place = at; told = subst P (sym (f (record { attempt = n; role = ended.role }))) told; left = left }
 
 -- what a trace leaves: the calls that it asked, what each name heard of them, and what is known by it
-abbrev pub Left : {D O : Type 0} → (O → Call → O → Type 0) → (D → O) → (D → List ℕ) → (D → List ℕ) → (D → ℕ) → (D → ChildrenState) → List Job → Trace → D → D → Type 0
-Left leads os source root next running plan T d e =
-    (calls : List Call) × (heard : Child → List Heard) × Chain leads (os d) calls (os e)
-    × ((c : Child) → heard_by c calls ≡ heard c) × Stands plan (source d) (root d) (next d) T heard (next e) (running e) calls
-    × (source e ≡ source d) × (root e ≡ root d)
+abbrev Left : {O : Type 0} → (O → Call → O → Type 0) → List Job → Trace → Driver O → Driver O → Type 0
+Left leads plan T d e =
+    (calls : List Call) × (heard : Child → List Heard) × Chain leads d.os calls e.os
+    × ((c : Child) → heard_by c calls ≡ heard c) × Stands plan d.source d.root d.next T heard e.next e.running calls
+    × (e.source ≡ d.source) × (e.root ≡ d.root)
 
--- the starts of a driver by what it keeps
-abbrev pub StartsSo : {D O : Type 0} → (O → Call → O → Type 0) → (D → O) → (D → List ℕ) → (D → List ℕ) → (D → ℕ) → (D → ChildrenState) → (D → Job → Role → StartAnswer → D → Type 0) → Type 0
-StartsSo {D} leads os source root next running starts =
-    (d e : D) (job : Job) (role : Role) (answer : StartAnswer) → starts d job role answer e
-    → StartsBy leads (source d) (root d) job role (os d) (next d) (running d) answer (os e) (next e) (running e) × (source e ≡ source d) × (root e ≡ root d)
-
--- and its waits
-abbrev pub WaitsSo : {D O : Type 0} → (O → Call → O → Type 0) → (D → O) → (D → List ℕ) → (D → List ℕ) → (D → ℕ) → (D → ChildrenState) → (D → Ended → D → Type 0) → Type 0
-WaitsSo {D} leads os source root next running waits =
-    (d e : D) (ended : Ended) → waits d ended e
-    → (calls : List Call) × Chain leads (os d) calls (os e) × Waited (running d) calls ended (running e) × (next e ≡ next d) × (source e ≡ source d) × (root e ≡ root d)
-
--- each trace leaves that
-trace_left : {D O : Type 0} (leads : O → Call → O → Type 0) (os : D → O) (source root : D → List ℕ) (next : D → ℕ) (running : D → ChildrenState)
-    (starts : D → Job → Role → StartAnswer → D → Type 0) (waits : D → Ended → D → Type 0)
-    → StartsSo leads os source root next running starts → WaitsSo leads os source root next running waits
-    → (plan : List Job) (T : Trace) (d e : D) → IsPlan plan → IsBare (running d) → Leads starts waits plan T d e → Left leads os source root next running plan T d e
-trace_left {D} leads os source root next running starts waits s w plan NoEvent d e is bare led =
-    let P : D → Type 0 = λ t. Stands plan (source d) (root d) (next d) NoEvent (λ c. []) (next t) (running t) [] in
-    ([], λ c. [], ap os led, λ c. refl, subst P (sym led) (bare_stands plan (source d) (root d) (next d) (running d) bare), ap source led, ap root led)
-trace_left leads os source root next running starts waits s w plan (Then T (Start i role answer)) d e is bare (mid, job, led, at, started) =
-    let l = trace_left leads os source root next running starts waits s w plan T d mid is bare led in
-    let h = s mid e job role answer started in
-    let P : List ℕ → Type 0 = λ t. StartsBy leads t (root mid) job role (os mid) (next mid) (running mid) answer (os e) (next e) (running e) in
-    let Q : List ℕ → Type 0 = λ t. StartsBy leads (source d) t job role (os mid) (next mid) (running mid) answer (os e) (next e) (running e) in
-    let by = subst Q l.6 (subst P l.5 h.0) in
-    let q = start_silent leads (source d) (root d) job role (os mid) (next mid) (running mid) answer (os e) (next e) (running e) by in (
+-- one more start
+start_left : {O : Type 0} (leads : O → Call → O → Type 0) (plan : List Job) (T : Trace) (d mid e : Driver O) (job : Job) (i : ℕ) (role : Role) (answer : StartAnswer)
+    → IsPlan plan → slice_get plan i ≡ Some job → Left leads plan T d mid → DriverStarts leads mid job role answer e → Left leads plan (Then T (Start i role answer)) d e
+start_left leads plan T d mid e job i role answer is at l h =
+    let q = start_silent leads mid e job role answer h.0 in
+    let P : List ℕ → Type 0 = λ t. Stands plan t mid.root d.next T l.1 mid.next mid.running l.0 in
+    let Q : List ℕ → Type 0 = λ t. Stands plan d.source t d.next T l.1 mid.next mid.running l.0 in
+    let s : Stands plan mid.source mid.root d.next T l.1 mid.next mid.running l.0 = subst P (sym l.5) (subst Q (sym l.6) l.4) in
+    let r = start_stands leads mid e job role answer plan d.next T l.1 i l.0 q.0 is at h.0 q.3 s in
+    let A : List ℕ → Type 0 = λ t. Stands plan t mid.root d.next (Then T (Start i role answer)) l.1 e.next e.running (l.0 ++ q.0) in
+    let B : List ℕ → Type 0 = λ t. Stands plan d.source t d.next (Then T (Start i role answer)) l.1 e.next e.running (l.0 ++ q.0) in (
       l.0 ++ q.0,
       l.1,
-      chain_append leads (os d) (os mid) (os e) l.0 q.0 l.2 q.1,
+      chain_append leads d.os mid.os e.os l.0 q.0 l.2 q.1,
       λ c. heard_append c l.0 q.0 ∙ ap (λ t. heard_by c l.0 ++ t) (q.2 c) ∙ append_none (heard_by c l.0) ∙ l.3 c,
-      start_stands leads (source d) (root d) job role (os mid) (next mid) (running mid) answer (os e) (next e) (running e) plan (next d) T l.1 i l.0 q.0 is at by q.3 l.4,
+      subst B l.6 (subst A l.5 r),
       h.1 ∙ l.5,
       h.2 ∙ l.6,
     )
-trace_left leads os source root next running starts waits s w plan (Then T (End ended)) d e is bare (mid, led, waited) =
-    let l = trace_left leads os source root next running starts waits s w plan T d mid is bare led in
-    let q = w mid e ended waited in
-    let P : ℕ → Type 0 = λ t. Stands plan (source d) (root d) (next d) (Then T (End ended)) (heard_after l.1 q.0) t (running e) (l.0 ++ q.0) in (
-      l.0 ++ q.0,
-      heard_after l.1 q.0,
-      chain_append leads (os d) (os mid) (os e) l.0 q.0 l.2 q.1,
-      λ c. heard_append c l.0 q.0 ∙ ap (λ t. t ++ heard_by c q.0) (l.3 c),
-      subst P (sym q.3) (wait_stands plan (source d) (root d) (next d) T l.1 (next mid) (running mid) (running e) l.0 q.0 ended is q.2 l.4),
-      q.4 ∙ l.5,
-      q.5 ∙ l.6,
+
+-- one more wait
+wait_left : {O : Type 0} (leads : O → Call → O → Type 0) (plan : List Job) (T : Trace) (d mid e : Driver O) (ended : Ended)
+    → IsPlan plan → Left leads plan T d mid → DriverWaits leads mid ended e → Left leads plan (Then T (End ended)) d e
+wait_left leads plan T d mid e ended is l ((calls, chain, waited), source, root, next) =
+    let P : ℕ → Type 0 = λ t. Stands plan d.source d.root d.next (Then T (End ended)) (heard_after l.1 calls) t e.running (l.0 ++ calls) in (
+      l.0 ++ calls,
+      heard_after l.1 calls,
+      chain_append leads d.os mid.os e.os l.0 calls l.2 chain,
+      λ c. heard_append c l.0 calls ∙ ap (λ t. t ++ heard_by c calls) (l.3 c),
+      subst P (sym next) (wait_stands plan d.source d.root d.next T l.1 mid.next mid.running e.running l.0 calls ended is waited l.4),
+      source ∙ l.5,
+      root ∙ l.6,
     )
 
+-- each trace leaves that
+trace_left : {D O : Type 0} (leads : O → Call → O → Type 0) (driver : D → Driver O) (starts : D → Job → Role → StartAnswer → D → Type 0) (waits : D → Ended → D → Type 0)
+    → ((d e : D) (job : Job) (role : Role) (answer : StartAnswer) → starts d job role answer e → DriverStarts leads (driver d) job role answer (driver e))
+    → ((d e : D) (ended : Ended) → waits d ended e → DriverWaits leads (driver d) ended (driver e))
+    → (plan : List Job) (T : Trace) (d e : D) → IsPlan plan → IsBare (driver d).running → Leads starts waits plan T d e → Left leads plan T (driver d) (driver e)
+trace_left {D} leads driver starts waits s w plan NoEvent d e is bare led =
+    let P : D → Type 0 = λ t. Left leads plan NoEvent (driver d) (driver t) in
+    subst P (sym led) ([], λ c. [], refl, λ c. refl, bare_stands plan (driver d).source (driver d).root (driver d).next (driver d).running bare, refl, refl)
+trace_left leads driver starts waits s w plan (Then T (Start i role answer)) d e is bare (mid, job, led, at, started) =
+    start_left leads plan T (driver d) (driver mid) (driver e) job i role answer is at
+    (trace_left leads driver starts waits s w plan T d mid is bare led) (s mid e job role answer started)
+trace_left leads driver starts waits s w plan (Then T (End ended)) d e is bare (mid, led, waited) =
+    wait_left leads plan T (driver d) (driver mid) (driver e) ended is
+    (trace_left leads driver starts waits s w plan T d mid is bare led) (w mid e ended waited)
+
 -- the law
-pub ends_are_told : {D O : Type 0} (leads : O → Call → O → Type 0) (os : D → O) (source root : D → List ℕ) (next : D → ℕ) (running : D → ChildrenState)
-    (starts : D → Job → Role → StartAnswer → D → Type 0) (waits : D → Ended → D → Type 0)
-    → StartsSo leads os source root next running starts → WaitsSo leads os source root next running waits
-    → EndsAreTold leads os source root next running starts waits
-ends_are_told leads os source root next running starts waits s w plan T d e is bare led =
-    let l = trace_left leads os source root next running starts waits s w plan T d e is bare led in
+pub ends_are_told : {D O : Type 0} (leads : O → Call → O → Type 0) (driver : D → Driver O) (starts : D → Job → Role → StartAnswer → D → Type 0) (waits : D → Ended → D → Type 0)
+    → ((d e : D) (job : Job) (role : Role) (answer : StartAnswer) → starts d job role answer e → DriverStarts leads (driver d) job role answer (driver e))
+    → ((d e : D) (ended : Ended) → waits d ended e → DriverWaits leads (driver d) ended (driver e))
+    → EndsAreTold leads driver starts waits
+ends_are_told leads driver starts waits s w plan T d e is bare led =
+    let l = trace_left leads driver starts waits s w plan T d e is bare led in
     let k = l.4 in (
       l.0,
       l.2,
-      each_map (PastSo plan (source d) (root d) (next d) l.1 (next e) (running e)) (ToldAt plan (source d) (root d) (next d) l.0)
-          (told_one plan (source d) (root d) (next d) l.1 (next e) (running e) l.0 l.3) T l.0 k.each,
+      each_map (PastSo plan (driver d).source (driver d).root (driver d).next l.1 (driver e).next (driver e).running) (ToldAt plan (driver d).source (driver d).root (driver d).next l.0)
+          (told_one plan (driver d).source (driver d).root (driver d).next l.1 (driver e).next (driver e).running l.0 l.3) T l.0 k.each,
     )

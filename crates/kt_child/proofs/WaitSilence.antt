@@ -1,24 +1,22 @@
 -- A child that doesn't run hears nothing in a wait.
-use Rattle.std.proofs.Common.{◌≡◌, ℕ, zero, suc, List, [], ◌∷◌, ◌++◌, Bool, true, false, map, take, drop, slice_get, refl, sym, ◌∙◌, ap, inl, inr}
+use Rattle.std.proofs.Common.{◌≡◌, ℕ, zero, suc, List, [], ◌∷◌, ◌++◌, Bool, true, false, map, take, drop, slice_get, refl, sym, ◌∙◌, ap}
 use Rattle.std.specs.Prelude.{remove}
 use Rattle.kt_base.specs.declared.outcome.Outcome.{Outcome}
 use Rattle.kt_sched.specs.declared.ended.Ended.{Ended}
 use Rattle.kt_child.specs.declared.system.child.Child.{Child}
-use Rattle.kt_child.specs.declared.polling.open_turn.OpenTurn.{OpenTurn}
 use Rattle.kt_child.specs.declared.polling.watched.Watched.{Watched}
 use Rattle.kt_child.specs.Driving.ChildrenState.{ChildrenState, Waited}
 use Rattle.kt_child.specs.System.Calls.{Call, Pause}
 use Rattle.kt_child.specs.Polling.Lives.{heard_by, same_child}
-use Rattle.kt_child.specs.Polling.SeveralLives.{kept, name_of, named}
-use Rattle.kt_child.specs.Polling.Turns.{PolledUntil, Rounds, advanced, after_turns}
-use Rattle.kt_child.specs.Polling.Waits.{WaitedOn, gone_on, later_of, unpolled_of}
+use Rattle.kt_child.proofs.Shares.{kept, name_of, named}
+use Rattle.kt_child.specs.Polling.Turns.{PolledUntil, Rounds, WaitedOn, advanced, after_turns}
 use Rattle.kt_child.proofs.EndSilence.{leaves_silent}
 use Rattle.kt_child.proofs.LifeSteps.{heard_append}
 use Rattle.kt_child.proofs.NameCounts.{names_head, names_tail}
 use Rattle.kt_child.proofs.NamedSteps.{at_place, named_append, named_map, none_left, none_right}
-use Rattle.kt_child.proofs.ChildNames.{names_part, names_turn, names_turns}
+use Rattle.kt_child.proofs.ChildNames.{names_turns}
 use Rattle.kt_child.proofs.SeveralSteps.{silent}
-use Rattle.kt_child.proofs.SeveralWaits.{cut, last_of, last_other, names_waited}
+use Rattle.kt_child.proofs.SeveralWaits.{last_of, last_other, names_waited}
 
 -- a child that stands before a list of children in which no name is left does not count
 kept_none : (b : Bool) (k : Watched) (ks : List Watched) → kept b k ks ≡ [] → (b ≡ false) × (ks ≡ [])
@@ -65,39 +63,23 @@ rounds_silent (suc n) c ks calls e (turn, done, more, eq, polled, rounds) =
     ap (heard_by c) eq ∙ heard_append c turn (Pause done ∷ more) ∙ ap (λ t. t ++ heard_by c more) (silent c ks turn e polled)
     ∙ rounds_silent n c (map advanced ks) more (named_map c ks ∙ ap (map advanced) e) rounds
 
--- a part of a list of children in which the name is not
-part_none : (c : Child) (hs ms ls : List Watched) → named c (hs ++ (ms ++ ls)) ≡ [] → named c ms ≡ []
-part_none c hs ms ls e =
-    let f : named c hs ++ named c (ms ++ ls) ≡ [] = sym (named_append c hs (ms ++ ls)) ∙ e in
-    let g = none_right (named c hs) (named c (ms ++ ls)) f in
-    none_left (named c ms) (named c ls) (sym (named_append c ms ls) ∙ g)
-
 -- the polls of a wait
-on_silent : (c : Child) (going : OpenTurn) (children : List Watched) (calls : List Call) (place : ℕ) (outcome : Outcome) (after : List Watched) (going' : OpenTurn)
-    → named c children ≡ [] → WaitedOn going children calls place outcome after going' → heard_by c calls ≡ []
-on_silent c going children calls place outcome after going' e (inl (i, members, until, at, same, n, turned)) =
-    let us = part_none c (take going.from children) (unpolled_of going children) (later_of going children) (ap (named c) (cut going.from going.unpolled children) ∙ e) in
-    until_silent c (unpolled_of going children) i calls outcome us until
-on_silent c going children calls place outcome after going' e (inr (rest, more, turns, members, eq, polled, (rounds, last, eq2, waited, until), same, n, turned)) =
-    let us = part_none c (take going.from children) (unpolled_of going children) (later_of going children) (ap (named c) (cut going.from going.unpolled children) ∙ e) in
-    let names : map name_of (gone_on going children) ≡ map name_of children =
-    names_part (take going.from children) (map advanced (unpolled_of going children)) (unpolled_of going children) (later_of going children) (names_turn (unpolled_of going children))
-    ∙ ap (map name_of) (cut going.from going.unpolled children) in
-    let gone : named c (gone_on going children) ≡ [] = none_by_names c (gone_on going children) children names e in
-    let turned_on : named c (after_turns turns (gone_on going children)) ≡ [] =
-    none_by_names c (after_turns turns (gone_on going children)) (gone_on going children) (names_turns turns (gone_on going children)) gone in
-    ap (heard_by c) eq ∙ heard_append c rest more ∙ ap (λ t. t ++ heard_by c more) (silent c (unpolled_of going children) rest us polled)
-    ∙ ap (heard_by c) eq2 ∙ heard_append c rounds last ∙ ap (λ t. t ++ heard_by c last) (rounds_silent turns c (gone_on going children) rounds gone waited)
-    ∙ until_silent c (after_turns turns (gone_on going children)) place last outcome turned_on until
+on_silent : (c : Child) (children : List Watched) (calls : List Call) (place : ℕ) (outcome : Outcome) (after : List Watched)
+    → named c children ≡ [] → WaitedOn children calls place outcome after → heard_by c calls ≡ []
+on_silent c children calls place outcome after e (turns, (rounds, last, eq, waited, until), same) =
+    let none : named c (after_turns turns children) ≡ [] =
+    none_by_names c (after_turns turns children) children (names_turns turns children) e in
+    ap (heard_by c) eq ∙ heard_append c rounds last ∙ ap (λ t. t ++ heard_by c last) (rounds_silent turns c children rounds e waited)
+    ∙ until_silent c (after_turns turns children) place last outcome none until
 
 -- all that a wait of a driver asks
 pub wait_silent : (c : Child) (old new : ChildrenState) (calls : List Call) (e : Ended) → named c old.children ≡ [] → Waited old calls e new → heard_by c calls ≡ []
 wait_silent c old new calls e none (polls, rest, place, outcome, after, case, eq, waited, at, leaves, ch, ca, pe) =
     ap (heard_by c) eq ∙ heard_append c polls rest
-    ∙ ap (λ t. t ++ heard_by c rest) (on_silent c old.going old.children polls place outcome after new.going none waited)
+    ∙ ap (λ t. t ++ heard_by c rest) (on_silent c old.children polls place outcome after none waited)
     ∙ leaves_silent c case rest outcome e leaves
 
 -- and the child isn't in the children after it
 pub wait_none : (c : Child) (old new : ChildrenState) (calls : List Call) (e : Ended) → named c old.children ≡ [] → Waited old calls e new → named c new.children ≡ []
 wait_none c old new calls e none (polls, rest, place, outcome, after, case, eq, waited, at, leaves, ch, ca, pe) =
-    ap (named c) ch ∙ none_removed c after place (none_by_names c after old.children (names_waited old.going old.children polls place outcome after new.going waited) none)
+    ap (named c) ch ∙ none_removed c after place (none_by_names c after old.children (names_waited old.children polls place outcome after waited) none)

@@ -9,7 +9,7 @@ use Rattle.kt_child.specs.declared.system.child.Child.{Child}
 use Rattle.kt_child.specs.declared.polling.watched.Watched.{Watched}
 use Rattle.kt_child.specs.System.Calls.{Call, Chain, Pause}
 use Rattle.kt_child.specs.Polling.Polls.{IsShort}
-use Rattle.kt_child.specs.Polling.Turns.{IsOn, PolledAll, PolledUntil, Rounds, WaitedUntil, advanced, advanced_below, after_turns, polls_left}
+use Rattle.kt_child.specs.Polling.Turns.{IsOn, PolledAll, PolledUntil, Rounds, WaitedOn, advanced, advanced_below, after_turns, polls_left}
 use Rattle.kt_child.proofs.Chains.{chain_append}
 
 abbrev pub no_child : Watched
@@ -57,15 +57,12 @@ pub waiting_over : {O : Type 0} (leads : O → Call → O → Type 0) (start now
     → Waiting leads start init now children
     → (calls : List Call) × Chain leads now calls new × PolledUntil children place calls outcome
     → last ≡ advanced_below place children
-    → (turns : ℕ) × (calls : List Call) × Chain leads start calls new
-    × WaitedUntil turns init calls place outcome × (last ≡ advanced_below place (after_turns turns init))
+    → (calls : List Call) × Chain leads start calls new × WaitedOn init calls place outcome last
 waiting_over leads start now new init children last place outcome (n, calls, chain, rounds, e) (ys, chain', until) f =
     let P : List Watched → Type 0 = λ t. PolledUntil t place ys outcome in (
-      n,
       calls ++ ys,
       chain_append leads start now new calls ys chain chain',
-      (calls, ys, refl, rounds, subst P e until),
-      f ∙ ap (λ t. advanced_below place t) e,
+      (n, (calls, ys, refl, rounds, subst P e until), f ∙ ap (λ t. advanced_below place t) e),
     )
 
 falls : (child : Child) (limit before after : ℕ) (killed : Bool) → IsShort killed limit before after

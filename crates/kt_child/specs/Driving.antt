@@ -2,11 +2,9 @@
 pub mod Begins
 pub mod ChildrenState
 pub mod DriverSteps
-pub mod EndShares
 pub mod JobPlan
 pub mod Launches
 pub mod Lists
 pub mod Numbers
 pub mod Roots
 pub mod TraceLives
-pub mod Width

@@ -1,6 +1,8 @@
 -- The system of the host.
+pub mod Bounds
 pub mod HostAnswers
 pub mod HostCommands
 pub mod HostFiles
 pub mod HostStands
+pub mod Paces
 pub mod Removals

@@ -2,6 +2,4 @@
 pub mod ChildOutcome
 pub mod Lives
 pub mod Polls
-pub mod SeveralLives
 pub mod Turns
-pub mod Waits

@@ -61,9 +61,9 @@ module _ {O : Type 0} (leads : O → Call → O → Type 0) where
   run_told : (plan : List Job) (T : Trace) (old new : Runner O) → IsPlan plan → IsBare old.driver.running → Leads (RunnerStarts leads) (RunnerWaits leads) plan T old new
       → ChildrenTell leads plan T old.driver new.driver
   run_told plan T old new is bare led =
-      ends_are_told leads (λ (r : Runner O). r.driver.os) (λ (r : Runner O). r.driver.source) (λ (r : Runner O). r.driver.root) (λ (r : Runner O). r.driver.next) (λ (r : Runner O). r.driver.running) _ _
+      ends_are_told leads (λ (r : Runner O). r.driver) _ _
       (λ d e job role answer h. h.0)
-      (λ d e ended h. (h.0.0.0, h.0.0.1, h.0.0.2, h.0.3, h.0.1, h.0.2))
+      (λ d e ended h. h.0)
       plan T old new is bare led
 
   pub courses_are_told : CoursesAreTold leads

@@ -6,6 +6,7 @@ pub mod FaultWords
 pub mod Gainings
 pub mod HostCommands
 pub mod Hosting
+pub mod JoinedPaths
 pub mod LineBytes
 pub mod MemoryLaws
 pub mod NewRuns

@@ -1,14 +1,17 @@
-ghost use Rattle.std.specs.Prelude.{◌≡◌, ◌≤◌, length, IfSome};
+ghost use Rattle.std.specs.Prelude.{◌≡◌, ◌++◌, ◌+◌, ◌≤◌, ◌<◌, length, take, IfSome, IfNone};
+ghost use Rattle.kt_cli.specs.HostFiles.{longest_path};
 
 /// The longest path that the host takes, in bytes.
 pub const LONGEST_PATH: usize = 4_095;
 
-/// Writes a piece of a path behind the first bytes of a room: where it ends, if there is space for
-/// it.
+/// Writes a piece of a path after the first bytes of a buffer, and returns where it ends, if there is space for it.
 fn put(room: &mut [u8], from: usize, piece: &str) -> Option<usize>
     requires { from ≤ length room.old }
     ensures within { IfSome result (λ end. end ≤ length room.new) }
     ensures length { length room.new ≡ length room.old }
+    ensures put { IfSome result (λ end. (end ≡ from + length piece.now)
+        × (take end room.new ≡ take from room.old ++ piece.now)) }
+    ensures full { IfNone result (length room.old < from + length piece.now) }
 {
     let bytes = piece.as_bytes();
     if bytes.len() > room.len() - from {
@@ -19,13 +22,20 @@ fn put(room: &mut [u8], from: usize, piece: &str) -> Option<usize>
     Some(end)
 }
 
-/// A name behind a directory and what stands between them, written into a room; it takes no memory.
+/// A name after a directory and what stands between them, written into a buffer; it takes no memory. A path that is too
+/// long for the host is none.
 pub fn joined_path<'a>(
     directory: &str,
     between: &str,
     name: &str,
     room: &'a mut [u8],
-) -> Option<&'a str> {
+) -> Option<&'a str>
+    requires { length room.old ≡ longest_path }
+    ensures path { IfSome result (λ path. path.now
+        ≡ directory.now ++ (between.now ++ name.now)) }
+    ensures long { IfNone result (longest_path
+        < length directory.now + (length between.now + length name.now)) }
+{
     let from = put(room, 0, directory)?;
     let from = put(room, from, between)?;
     let end = put(room, from, name)?;

@@ -1,7 +1,7 @@
 ghost use Rattle.std.specs.Prelude.{◌≡◌, ◌≤◌, IfOk, chars, length};
 ghost use Rattle.std.specs.List.{list_any};
 ghost use Rattle.kt_suite.specs.Paths.{is_slash};
-ghost use Rattle.kt_cli.specs.HostFiles.{read_limit};
+ghost use Rattle.kt_cli.specs.HostFiles.{may_execute, read_limit};
 
 use crate::host_path::{LONGEST_PATH, joined_path};
 use crate::place::is_absolute;
@@ -47,6 +47,13 @@ fn fault_of(error: io::Error) -> ReadFault {
     }
 }
 
+/// Whether someone may execute a file with these rights.
+fn may_execute(mode: u32) -> bool
+    ensures { result ≡ may_execute mode }
+{
+    mode & EXECUTE_RIGHTS != 0
+}
+
 /// Whether a path has a slash.
 fn has_slash(name: &str) -> bool
     ensures { result ≡ list_any is_slash (chars name.now) }
@@ -90,9 +97,7 @@ impl<'a, R: Files<File = File> + Clock + AllocGlobal, O: Os + Drop> HostWorld<'a
     /// Whether a regular file is there that someone may execute.
     fn is_program(&self, place: &str) -> bool {
         match fs::metadata(self.rt, place) {
-            Ok(metadata) => {
-                metadata.is_file() && metadata.permissions().mode() & EXECUTE_RIGHTS != 0
-            }
+            Ok(metadata) => metadata.is_file() && may_execute(metadata.permissions().mode()),
             Err(_) => false,
         }
     }

@@ -1,5 +1,5 @@
-ghost use Rattle.std.specs.Prelude.{◌≡◌, IfOk};
-ghost use Rattle.kt_cli.specs.HostAnswers.{is_root};
+ghost use Rattle.std.specs.Prelude.{◌≡◌, IfOk, length};
+ghost use Rattle.kt_cli.specs.HostAnswers.{is_root, longest_variable};
 
 use kt_base::{NoMemory, Text};
 use kt_child::DriverFault;
@@ -26,7 +26,10 @@ fn variable<R: Env + AllocGlobal>(
     rt: &R,
     name: &str,
     room: &mut [u8],
-) -> Result<Option<Text>, NoMemory> {
+) -> Result<Option<Text>, NoMemory>
+    requires { length room.old ≡ longest_variable }
+    ensures { length room.new ≡ length room.old }
+{
     let Ok(count) = rt.var(name, room) else {
         return Ok(None);
     };

@@ -1,7 +1,7 @@
 -- The start of a child, and what it makes of the running children.
-use Rattle.std.specs.Prelude.{ℕ, Bool, ◌==◌, ◌&&◌, ◌≡◌, ◌⊎◌, List, [], ◌∷◌, ◌++◌, Option, Some, Result, Ok, Err, if◌then◌else◌}
+use Rattle.std.specs.Prelude.{ℕ, ◌==◌, ◌&&◌, ◌≡◌, ◌⊎◌, List, [], ◌∷◌, ◌++◌, Option, Some, Result, Ok, Err, if◌then◌else◌}
 use Rattle.kt_base.specs.declared.role.Role.{Role}
-use Rattle.kt_base.specs.declared.role.Role.TheVariants.{Body, Cleanup}
+use Rattle.kt_base.specs.declared.role.Role.TheVariants.{Cleanup}
 use Rattle.kt_base.specs.declared.refused.Refused.{Refused}
 use Rattle.kt_base.specs.declared.refused.Refused.TheVariants.{Memory}
 use Rattle.kt_sched.specs.declared.start_answer.StartAnswer.{StartAnswer}
@@ -10,8 +10,9 @@ use Rattle.kt_sched.specs.Children.{Child as Shown, same_role}
 use Rattle.kt_child.specs.declared.planning.spawning.Spawning.{Spawning}
 use Rattle.kt_child.specs.declared.polling.watched.Watched.{Watched}
 use Rattle.kt_child.specs.declared.planning.case.Case.{Case}
-use Rattle.kt_child.specs.System.Calls.{Call, RemoveTree}
-use Rattle.kt_child.specs.Starting.Starts.{Started, StartedAfresh, child_asks, furnish_asks}
+use Rattle.kt_child.specs.System.Calls.{Call}
+use Rattle.kt_child.specs.Ending.Ends.{Removes}
+use Rattle.kt_child.specs.Starting.Starts.{Started}
 use Rattle.kt_child.specs.Driving.ChildrenState.{ChildrenState, shown}
 
 -- the launcher's answer to a start
@@ -19,32 +20,20 @@ abbrev pub answer_of : Result ℕ Refused → StartAnswer
 answer_of (Ok moment) = StartedAt moment
 answer_of (Err cause) = RefusedFor cause
 
--- a body's start: where memory is refused nothing is asked
-abbrev pub BegunBody : Spawning → List ℕ → List Call → StartAnswer → Type 0
-BegunBody plan dir calls answer =
-    ((calls ≡ []) × (answer ≡ RefusedFor Memory))
-    ⊎ ((r : Result ℕ Refused) × StartedAfresh (furnish_asks plan) dir calls r × (answer ≡ answer_of r))
+-- a start for which there is no memory: the directory of a cleanup is removed, and nothing else is asked
+abbrev pub Unbegun : Role → List ℕ → List Call → StartAnswer → Type 0
+Unbegun role dir calls answer = Removes (same_role role Cleanup) dir calls × (answer ≡ RefusedFor Memory)
 
--- a cleanup's start: where memory is refused its directory is removed, and nothing else is asked
-abbrev pub BegunCleanup : Spawning → List ℕ → List Call → StartAnswer → Type 0
-BegunCleanup plan dir calls answer =
-    ((done : Bool) × (calls ≡ RemoveTree dir done ∷ []) × (answer ≡ RefusedFor Memory))
-    ⊎ ((r : Result ℕ Refused) × Started (child_asks plan) dir calls r × (answer ≡ answer_of r))
+-- a start of a driver: without memory, or with it
+abbrev pub Begun : Spawning → List Call → StartAnswer → Type 0
+Begun plan calls answer =
+    Unbegun plan.child.role plan.dir calls answer
+    ⊎ ((r : Result ℕ Refused) × Started plan calls r × (answer ≡ answer_of r))
 
--- a start whose memory was there, by what the child is started for
-abbrev pub StartedFor : Role → Spawning → List ℕ → List Call → Result ℕ Refused → Type 0
-StartedFor Body plan dir calls r = StartedAfresh (furnish_asks plan) dir calls r
-StartedFor Cleanup plan dir calls r = Started (child_asks plan) dir calls r
-
--- a start, by what the child is started for
-abbrev pub Begun : Role → Spawning → List ℕ → List Call → StartAnswer → Type 0
-Begun Body plan dir calls answer = BegunBody plan dir calls answer
-Begun Cleanup plan dir calls answer = BegunCleanup plan dir calls answer
-
--- a started child is the last of the running children, and no member of the turn that goes on
+-- a started child is the last of the running children
 abbrev pub state_after_start : ChildrenState → Watched → Case → StartAnswer → ChildrenState
 state_after_start b child c (StartedAt moment) =
-    record { children = b.children ++ child ∷ []; cases = b.cases ++ c ∷ []; going = b.going; pending = b.pending }
+    record { children = b.children ++ child ∷ []; cases = b.cases ++ c ∷ []; pending = b.pending }
 state_after_start b child c (RefusedFor cause) = b
 
 -- what is shown of the children after a start

@@ -1,28 +1,24 @@
 -- The running children of a driver, and the cases whose cleanup is owed.
-use Rattle.std.specs.Prelude.{ℕ, Bool, true, false, ◌==◌, ◌&&◌, ◌≡◌, ◌+◌, ◌<◌, ◌≤◌, List, [], ◌∷◌, ◌++◌, length, Option, Some, None, All, remove, slice_get, if◌then◌else◌}
+use Rattle.std.specs.Prelude.{ℕ, Bool, true, false, ◌==◌, ◌&&◌, ◌≡◌, ◌+◌, ◌≤◌, List, [], ◌∷◌, ◌++◌, length, Option, Some, None, All, remove, slice_get, if◌then◌else◌}
 use Rattle.kt_base.specs.declared.role.Role.{Role}
 use Rattle.kt_base.specs.declared.outcome.Outcome.{Outcome}
 use Rattle.kt_sched.specs.declared.ended.Ended.{Ended}
 use Rattle.kt_sched.specs.Children.{Child as Shown, same_role}
 use Rattle.kt_child.specs.declared.polling.watched.Watched.{Watched}
-use Rattle.kt_child.specs.declared.polling.open_turn.OpenTurn.{OpenTurn}
 use Rattle.kt_child.specs.declared.planning.case.Case.{Case}
 use Rattle.kt_child.specs.System.Calls.{Call}
-use Rattle.kt_child.specs.Polling.Turns.{IsOn}
-use Rattle.kt_child.specs.Polling.Waits.{WaitedOn}
+use Rattle.kt_child.specs.Polling.Turns.{IsOn, WaitedOn}
 use Rattle.kt_child.specs.Ending.Ends.{Leaves, is_over}
 
--- The running children in the order of their start, each with its case; the turn that goes on; and the cases whose
--- cleanup is owed.
+-- The running children in the order of their start, each with its case, and the cases whose cleanup is owed.
 pub record ChildrenState : Type 0 where
   pub children : List Watched
   pub cases : List Case
-  pub going : OpenTurn
   pub pending : List Case
 
 -- nothing runs, and nothing is owed
 abbrev pub idle_state : ChildrenState
-idle_state = record { children = []; cases = []; going = record { from = 0; unpolled = 0; over = 0 }; pending = [] }
+idle_state = record { children = []; cases = []; pending = [] }
 
 -- what is shown of a case's child
 abbrev pub shown : Case → Shown
@@ -47,12 +43,10 @@ abbrev pub count_at : ℕ → List Case → ℕ
 count_at i [] = 0
 count_at i (c ∷ cases) = one_if (i == c.position) + count_at i cases
 
--- each child is on and has its case, the turn lies within the children, and no case stands there twice
-pub record IsChildrenState (children : List Watched) (cases : List Case) (going : OpenTurn) (pending : List Case) : Type 0 where
+-- each child is on and has its case, and no case stands there twice
+pub record IsChildrenState (children : List Watched) (cases : List Case) (pending : List Case) : Type 0 where
   pub on : All IsOn children
   pub same : length children ≡ length cases
-  pub within : going.from + going.unpolled ≤ length children
-  pub few : going.over < 2
   pub once : (i : ℕ) → count_at i cases + count_at i pending ≤ 1
 
 -- the cases whose cleanup is owed, after the end of a child of this case
@@ -63,7 +57,7 @@ pending_with c pending = if is_over c then pending else pending ++ c ∷ []
 abbrev pub Waited : ChildrenState → List Call → Ended → ChildrenState → Type 0
 Waited old calls e new =
     (polls : List Call) × (rest : List Call) × (place : ℕ) × (outcome : Outcome) × (after : List Watched) × (c : Case)
-    × (calls ≡ polls ++ rest) × WaitedOn old.going old.children polls place outcome after new.going
+    × (calls ≡ polls ++ rest) × WaitedOn old.children polls place outcome after
     × (slice_get old.cases place ≡ Some c) × Leaves c rest outcome e
     × (new.children ≡ remove after place) × (new.cases ≡ remove old.cases place)
     × (new.pending ≡ pending_with c old.pending)

@@ -15,8 +15,7 @@ use Rattle.kt_child.specs.Driving.Lists.{ListsBy}
 -- a start, over a system whose calls are related so; where programs lie and the root directory stay
 abbrev pub DriverStarts : {O : Type 0} → (O → Call → O → Type 0) → Driver O → Job → Role → StartAnswer → Driver O → Type 0
 DriverStarts leads old job role answer new =
-    StartsBy leads old.source old.root job role old.os old.next old.running answer new.os new.next new.running
-    × (new.source ≡ old.source) × (new.root ≡ old.root)
+    StartsBy leads old job role answer new × (new.source ≡ old.source) × (new.root ≡ old.root)
 
 -- a wait; it takes no number
 abbrev pub DriverWaits : {O : Type 0} → (O → Call → O → Type 0) → Driver O → Ended → Driver O → Type 0
@@ -27,5 +26,5 @@ DriverWaits leads old ended new =
 -- a list of a program's cases; it leaves the running children
 abbrev pub DriverLists : {O : Type 0} → (O → Call → O → Type 0) → Driver O → List ℕ → List Variable → Listing → Driver O → Type 0
 DriverLists leads old program variables answer new =
-    ListsBy leads old.source old.root program variables old.os old.next answer new.os new.next
+    ListsBy leads old program variables answer new
     × (new.running ≡ old.running) × (new.source ≡ old.source) × (new.root ≡ old.root)

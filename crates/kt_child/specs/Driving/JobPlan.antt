@@ -38,9 +38,11 @@ abbrev pub spawning_of : List ℕ → Job → Role → ℕ → Paths → Spawnin
 spawning_of source job role attempt paths =
     record {
       child = record { attempt = attempt; role = role };
+      limit = limit_of job role;
       program = program_path source job.program;
       words = words_of job.interface (want_of role) paths.result (program_directory (program_path source job.program)) job.vars job.case_name;
       env = env_of job.interface job.vars paths.work;
+      dir = paths.dir;
       work = paths.work;
       out = out_of role paths;
       err = err_of role paths;

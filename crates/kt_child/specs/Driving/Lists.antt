@@ -8,17 +8,18 @@ use Rattle.kt_base.specs.declared.variable.Variable.{Variable}
 use Rattle.kt_atflist.specs.declared.list_bytes.ListBytes.{ListBytes}
 use Rattle.kt_atflist.specs.declared.listing.Listing.{Listing}
 use Rattle.kt_atflist.specs.declared.listing.Listing.TheVariants.{Refused as RefusedFor, Ended}
-use Rattle.kt_child.specs.declared.system.child.Child.{Child}
 use Rattle.kt_child.specs.declared.system.os_fault.OsFault.{OsFault}
 use Rattle.kt_child.specs.declared.system.file_read.FileRead.{FileRead}
+use Rattle.kt_child.specs.declared.driving.driver.Driver.{Driver}
 use Rattle.kt_child.specs.declared.planning.paths.Paths.{Paths}
 use Rattle.kt_child.specs.declared.planning.want.Want.TheVariants as want
 use Rattle.kt_child.specs.declared.planning.spawning.Spawning.{Spawning}
 use Rattle.kt_child.specs.System.Calls.{Call, Chain, ReadFile, RemoveTree}
 use Rattle.kt_child.specs.Planning.ChildPlan.{env_of, paths_of, words_of}
-use Rattle.kt_child.specs.Polling.ChildOutcome.{fresh}
+use Rattle.kt_child.specs.Polling.ChildOutcome.{Told}
+use Rattle.kt_child.specs.Polling.Lives.{heard_by}
 use Rattle.kt_child.specs.Driving.JobPlan.{program_directory, program_path}
-use Rattle.kt_child.specs.Starting.Starts.{SetUp, furnish_asks}
+use Rattle.kt_child.specs.Starting.Starts.{SetUp, spawned}
 use Rattle.kt_child.specs.Polling.Turns.{WaitedUntil}
 use Rattle.kt_child.specs.Ending.Reads.{IsListWithin, list_of}
 
@@ -27,34 +28,37 @@ abbrev pub listing_of : List ℕ → List ℕ → List Variable → ℕ → Path
 listing_of source program variables attempt paths =
     record {
       child = record { attempt = attempt; role = Body };
+      limit = 300;
       program = program_path source program;
       words = words_of Atf want.List paths.result (program_directory (program_path source program)) variables [];
       env = env_of Atf variables paths.work;
+      dir = paths.dir;
       work = paths.work;
       out = paths.out;
       err = paths.err;
     }
 
--- a list that was started: whole turns with a limit of 300 seconds, its output, no more than 1,048,576 bytes, and the removal
-abbrev pub WatchedList : Child → Paths → List Call → Outcome → ListBytes → Type 0
-WatchedList child paths calls outcome bytes =
+-- A list that was started: whole turns up to its end, whose outcome is the row of the outcome table that its answers
+-- are; then its output, no more than 1,048,576 bytes, and the removal.
+abbrev pub WatchedList : Spawning → List Call → Outcome → ListBytes → Type 0
+WatchedList plan calls outcome bytes =
     (turns : ℕ) × (place : ℕ) × (polls : List Call) × (read : Result FileRead OsFault) × (done : Bool)
-    × (calls ≡ polls ++ ReadFile paths.out 1048576 read ∷ RemoveTree paths.dir done ∷ [])
-    × WaitedUntil turns (record { child = child; limit = 300; watch = fresh } ∷ []) polls place outcome
+    × (calls ≡ polls ++ ReadFile plan.out 1048576 read ∷ RemoveTree plan.dir done ∷ [])
+    × WaitedUntil turns (spawned plan ∷ []) polls place outcome × Told plan.limit (heard_by plan.child polls) outcome
     × (bytes ≡ list_of read) × IsListWithin bytes
 
 -- a list from its start to the removal of its directory
-abbrev pub RanList : Spawning → Paths → List Call → Listing → Type 0
-RanList plan paths calls (RefusedFor cause) = SetUp (furnish_asks plan) paths.dir calls (Err cause)
-RanList plan paths calls (Ended outcome bytes) =
+abbrev pub RanList : Spawning → List Call → Listing → Type 0
+RanList plan calls (RefusedFor cause) = SetUp plan calls (Err cause)
+RanList plan calls (Ended outcome bytes) =
     (start : List Call) × (more : List Call) × (calls ≡ start ++ more)
-    × SetUp (furnish_asks plan) paths.dir start (Ok _) × WatchedList plan.child paths more outcome bytes
+    × SetUp plan start (Ok tt) × WatchedList plan more outcome bytes
 
 -- A list takes the next number, whatever its answer; where none is left it is refused. Where memory is refused nothing is asked.
-abbrev pub ListsBy : {O : Type 0} → (O → Call → O → Type 0) → List ℕ → List ℕ → List ℕ → List Variable → O → ℕ → Listing → O → ℕ → Type 0
-ListsBy leads source root program variables os next answer os' next' =
-    ((next ≡ 2 ^ 64 - 1) × (answer ≡ RefusedFor Directory) × (os' ≡ os) × (next' ≡ next))
-    ⊎ ((next < 2 ^ 64 - 1) × (next' ≡ next + 1) × (answer ≡ RefusedFor Memory) × (os' ≡ os))
-    ⊎ ((next < 2 ^ 64 - 1) × (next' ≡ next + 1)
-    × ((calls : List Call) × Chain leads os calls os'
-    × RanList (listing_of source program variables next (paths_of root next)) (paths_of root next) calls answer))
+abbrev pub ListsBy : {O : Type 0} → (O → Call → O → Type 0) → Driver O → List ℕ → List Variable → Listing → Driver O → Type 0
+ListsBy leads old program variables answer new =
+    ((old.next ≡ 2 ^ 64 - 1) × (answer ≡ RefusedFor Directory) × (new.os ≡ old.os) × (new.next ≡ old.next))
+    ⊎ ((old.next < 2 ^ 64 - 1) × (new.next ≡ old.next + 1) × (answer ≡ RefusedFor Memory) × (new.os ≡ old.os))
+    ⊎ ((old.next < 2 ^ 64 - 1) × (new.next ≡ old.next + 1)
+    × ((calls : List Call) × Chain leads old.os calls new.os
+    × RanList (listing_of old.source program variables old.next (paths_of old.root old.next)) calls answer))

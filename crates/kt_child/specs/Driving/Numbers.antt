@@ -1,5 +1,5 @@
 -- The numbers of a driver's attempts, which are the starts of bodies and the lists.
-use Rattle.std.specs.Prelude.{◌≡◌, ℕ, Bool, true, false, ◌<◌, ◌-◌, ◌^◌, List, [], ◌∷◌, Some, slice_get}
+use Rattle.std.specs.Prelude.{◌≡◌, ℕ, Bool, true, false, ◌<◌, ◌-◌, ◌^◌, List, [], ◌∷◌}
 use Rattle.kt_base.specs.declared.role.Role.{Role}
 use Rattle.kt_base.specs.declared.role.Role.TheVariants.{Body, Cleanup}
 use Rattle.kt_base.specs.declared.variable.Variable.{Variable}
@@ -7,16 +7,7 @@ use Rattle.kt_atflist.specs.declared.listing.Listing.{Listing}
 use Rattle.kt_sched.specs.declared.job.Job.{Job}
 use Rattle.kt_sched.specs.declared.start_answer.StartAnswer.{StartAnswer}
 use Rattle.kt_sched.specs.declared.ended.Ended.{Ended}
-use Rattle.kt_sched.specs.Trace.{Trace, Leads}
-use Rattle.kt_child.specs.declared.polling.watched.Watched.{Watched}
 use Rattle.kt_child.specs.Driving.ChildrenState.{ChildrenState}
-use Rattle.kt_child.specs.Polling.SeveralLives.{named}
-
--- whatever is started and waited for after a body's start, the next number is above that body's: no two have the same
-abbrev pub NumbersDiffer : {D : Type 0} → (D → ℕ) → (D → Job → Role → StartAnswer → D → Type 0) → (D → Ended → D → Type 0) → Type 0
-NumbersDiffer {D} next starts waits =
-    (plan : List Job) (T : Trace) (d e f : D) (job : Job) (answer : StartAnswer)
-    → next d < 2 ^ 64 - 1 → starts d job Body answer e → Leads starts waits plan T e f → next d < next f
 
 -- what is asked of a driver, with its answer
 pub data Request : Type 0 where
@@ -51,10 +42,3 @@ AttemptsDiffer {D} next serves =
 -- nothing runs, and nothing is owed
 abbrev pub IsBare : ChildrenState → Type 0
 IsBare b = (b.children ≡ []) × (b.cases ≡ []) × (b.pending ≡ [])
-
--- whatever is started and waited for, if nothing ran and nothing was owed at first: each running child has a name of its own
-abbrev pub NamesDiffer : {D : Type 0} → (D → ChildrenState) → (D → Job → Role → StartAnswer → D → Type 0) → (D → Ended → D → Type 0) → Type 0
-NamesDiffer {D} running starts waits =
-    (plan : List Job) (T : Trace) (d e : D) (place : ℕ) (k : Watched)
-    → IsBare (running d) → Leads starts waits plan T d e → slice_get (running e).children place ≡ Some k
-    → named k.child (running e).children ≡ k ∷ []

@@ -9,12 +9,12 @@ use Rattle.kt_sched.specs.declared.start_answer.StartAnswer.TheVariants.{Started
 use Rattle.kt_sched.specs.declared.ended.Ended.{Ended}
 use Rattle.kt_sched.specs.Plan.{IsPlan}
 use Rattle.kt_sched.specs.Trace.{Trace, NoEvent, Then, Event, Start, End, Leads}
+use Rattle.kt_child.specs.declared.driving.driver.Driver.{Driver}
 use Rattle.kt_child.specs.declared.planning.case.Case.{Case}
-use Rattle.kt_child.specs.Driving.Begins.{BegunBody, BegunCleanup}
-use Rattle.kt_child.specs.Driving.ChildrenState.{ChildrenState}
+use Rattle.kt_child.specs.Driving.Begins.{Begun}
 use Rattle.kt_child.specs.System.Calls.{Call, Chain}
 use Rattle.kt_child.specs.Polling.ChildOutcome.{Told}
-use Rattle.kt_child.specs.Planning.ChildPlan.{attempt_dir, paths_of}
+use Rattle.kt_child.specs.Planning.ChildPlan.{paths_of}
 use Rattle.kt_child.specs.Ending.Ends.{Leaves}
 use Rattle.kt_child.specs.Driving.JobPlan.{case_in, limit_of, spawning_of}
 use Rattle.kt_child.specs.Polling.Lives.{heard_by}
@@ -49,12 +49,12 @@ EachWith P (Then T event) calls =
 abbrev pub BodyAsks : List ℕ → List ℕ → Job → ℕ → List Call → StartAnswer → Type 0
 BodyAsks source root job number asked answer =
     ((number ≡ 2 ^ 64 - 1) × (asked ≡ []) × (answer ≡ Refused Directory))
-    ⊎ BegunBody (spawning_of source job Body number (paths_of root number)) (attempt_dir root number) asked answer
+    ⊎ Begun (spawning_of source job Body number (paths_of root number)) asked answer
 
 -- a cleanup is started in the directory of its body's number
 abbrev pub CleanupAsks : List ℕ → List ℕ → Job → ℕ → List Call → StartAnswer → Type 0
 CleanupAsks source root job number asked answer =
-    BegunCleanup (spawning_of source job Cleanup number (paths_of root number)) (attempt_dir root number) asked answer
+    Begun (spawning_of source job Cleanup number (paths_of root number)) asked answer
 
 -- what a start asks for its case: a body takes the next number, a cleanup has that of its body
 abbrev pub BegunAt : List Job → List ℕ → List ℕ → ℕ → List Call → Trace → ℕ → Role → StartAnswer → Type 0
@@ -87,8 +87,9 @@ ToldAt plan source root next calls asked T (End ended) = IsTold plan root next c
 
 -- whatever is started and waited for, if nothing ran and nothing was owed at first: the calls that are asked of the
 -- system are those of the answers, and tell each end
-abbrev pub EndsAreTold : {D O : Type 0} → (O → Call → O → Type 0) → (D → O) → (D → List ℕ) → (D → List ℕ) → (D → ℕ) → (D → ChildrenState) → (D → Job → Role → StartAnswer → D → Type 0) → (D → Ended → D → Type 0) → Type 0
-EndsAreTold {D} leads os source root next running starts waits =
+abbrev pub EndsAreTold : {D O : Type 0} → (O → Call → O → Type 0) → (D → Driver O) → (D → Job → Role → StartAnswer → D → Type 0) → (D → Ended → D → Type 0) → Type 0
+EndsAreTold {D} leads driver starts waits =
     (plan : List Job) (T : Trace) (d e : D)
-    → IsPlan plan → IsBare (running d) → Leads starts waits plan T d e
-    → (calls : List Call) × Chain leads (os d) calls (os e) × EachWith (ToldAt plan (source d) (root d) (next d) calls) T calls
+    → IsPlan plan → IsBare (driver d).running → Leads starts waits plan T d e
+    → (calls : List Call) × Chain leads (driver d).os calls (driver e).os
+    × EachWith (ToldAt plan (driver d).source (driver d).root (driver d).next calls) T calls

@@ -28,7 +28,7 @@ err_of Cleanup paths = paths.cleanup_err
 abbrev pub is_over : Case → Bool
 is_over c = if same_role c.role Body && c.cleanup then false else true
 
--- the directory is removed where the case is over
+-- a directory is removed, or nothing is asked
 abbrev pub Removes : Bool → List ℕ → List Call → Type 0
 Removes true dir calls = (done : Bool) × (calls ≡ RemoveTree dir done ∷ [])
 Removes false dir calls = calls ≡ []

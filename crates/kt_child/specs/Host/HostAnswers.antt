@@ -3,8 +3,9 @@ use Rattle.std.specs.Prelude.{◌≡◌, ◌≢◌, ◌≤◌, ◌/◌, ◌%◌,
 use Rattle.std.specs.Process.{status_bits}
 use Rattle.std.specs.declared.process.status.ExitStatus.{ExitStatus}
 use Rattle.std.specs.declared.io.ErrorKind.{ErrorKind}
-use Rattle.std.specs.declared.io.ErrorKind.TheVariants.{NotFound}
+use Rattle.std.specs.declared.io.ErrorKind.TheVariants.{NotFound, OutOfMemory}
 use Rattle.kt_child.specs.declared.system.os_fault.OsFault.{OsFault}
+use Rattle.kt_child.specs.declared.system.os_fault.OsFault.TheVariants.{Failed, Memory}
 use Rattle.kt_child.specs.declared.system.file_read.FileRead.{FileRead}
 use Rattle.kt_child.specs.declared.system.file_read.FileRead.TheVariants.{Missing, Part}
 use Rattle.kt_child.specs.declared.system.polled.Polled.{Polled}
@@ -12,7 +13,7 @@ use Rattle.kt_child.specs.declared.system.polled.Polled.TheVariants.{Running, Ex
 use Rattle.kt_child.specs.declared.system.child.Child.{Child}
 use Rattle.kt_child.specs.Host.HostStands.{Stand, Proceeds, AllProceed, AllStay, OthersStay}
 use Rattle.kt_child.specs.Ending.Reads.{IsReadWithin}
-use Rattle.kt_child.specs.System.Calls.{Call, MakeDir, RemoveTree, OpenOutput, Spawn, Poll, Kill, Pause, ReadFile, ReadPart, Now}
+use Rattle.kt_child.specs.System.Calls.{Call, SetLimit, MakeDir, RemoveTree, OpenOutput, Spawn, Poll, Kill, Pause, ReadFile, ReadPart, Now}
 
 -- where more bytes follow, a read has as many as its limit
 abbrev pub IsFilled : ℕ → Result FileRead OsFault → Type 0
@@ -45,6 +46,11 @@ IsUnopened kind (Err _) = kind ≢ NotFound
 IsUnopened kind (Ok Missing) = kind ≡ NotFound
 IsUnopened kind (Ok (Part bytes follows)) = ⊥
 
+-- a fault tells that memory was refused exactly where the system said so
+abbrev pub IsFaultOf : ErrorKind → OsFault → Type 0
+IsFaultOf kind Failed = kind ≢ OutOfMemory
+IsFaultOf kind (Memory refusal) = kind ≡ OutOfMemory
+
 -- What the wait status of a child tells: its low 7 bits are 0 of one that exited, with the next 8 as its exit code, and
 -- else the signal that ended it; 127 is that of one which has not ended. The bit above them tells of a core dump.
 abbrev pub IsPolledOf : ℕ → Result Polled OsFault → Type 0
@@ -73,11 +79,12 @@ HostPolls child old (Err fault) new IsLast = (Proceeds (old child) (new child) �
 -- a read keeps to its limit. Of the answer itself nothing is said where it tells only whether the system did it, and
 -- nothing of a moment.
 abbrev pub HostLeads : (Child → Stand) → Call → (Child → Stand) → (Child → ExitStatus → Type 0) → Type 0
-HostLeads old (MakeDir path done) new IsLast = AllStay old new
+HostLeads old (SetLimit child limit) new IsLast = AllStay old new
+HostLeads old (MakeDir path answer) new IsLast = AllStay old new
 HostLeads old (RemoveTree path done) new IsLast = AllStay old new
-HostLeads old (OpenOutput child path done) new IsLast = (new child ≡ None) × OthersStay child old new
-HostLeads old (Spawn child program words env dir true) new IsLast = IsSome (new child) × OthersStay child old new
-HostLeads old (Spawn child program words env dir false) new IsLast = (new child ≡ None) × OthersStay child old new
+HostLeads old (OpenOutput child path answer) new IsLast = (new child ≡ None) × OthersStay child old new
+HostLeads old (Spawn child program words env dir (Ok done)) new IsLast = IsSome (new child) × OthersStay child old new
+HostLeads old (Spawn child program words env dir (Err fault)) new IsLast = (new child ≡ None) × OthersStay child old new
 HostLeads old (Poll child answer) new IsLast = HostPolls child old answer new IsLast
 HostLeads old (Kill child true) new IsLast = IsSome (old child) × AllStay old new
 HostLeads old (Kill child false) new IsLast = AllStay old new

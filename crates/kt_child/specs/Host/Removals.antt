@@ -1,13 +1,12 @@
--- The removal of a tree: where the directories lie that are moved on the way.
-use Rattle.std.specs.Prelude.{◌≡◌, ℕ, List, Option, Some, None}
+-- The removals below a root directory: where the directories lie that are moved on the way.
+use Rattle.std.specs.Prelude.{ℕ, List}
 use Rattle.kt_child.specs.Planning.ChildPlan.{attempt_dir}
 use Rattle.kt_child.specs.Driving.Roots.{root_of}
 
--- none was moved yet, or they lie in a directory of the tree itself
-abbrev pub LiesIn : List ℕ → Option (List ℕ) → Type 0
-LiesIn tree None = Unit {0}
-LiesIn tree (Some place) = (n : ℕ) × (place ≡ root_of tree n)
+-- they lie in a directory of the root itself
+abbrev pub moved_root : List ℕ → List ℕ
+moved_root root = root_of root 0
 
--- the path of the directory that was moved with this number, in that directory
-abbrev pub IsMovedPath : List ℕ → ℕ → List ℕ → Type 0
-IsMovedPath tree number path = (n : ℕ) × (path ≡ attempt_dir (root_of tree n) number)
+-- one of them, by its number
+abbrev pub moved_dir : List ℕ → ℕ → List ℕ
+moved_dir root number = attempt_dir (moved_root root) number

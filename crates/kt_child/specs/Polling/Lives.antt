@@ -1,12 +1,9 @@
 -- What one child answers in a wait.
-use Rattle.std.specs.Prelude.{ℕ, suc, ◌<◌, Bool, true, false, ◌==◌, ◌&&◌, List, [], ◌∷◌}
-use Rattle.kt_base.specs.declared.outcome.Outcome.{Outcome}
+use Rattle.std.specs.Prelude.{Bool, true, false, ◌==◌, ◌&&◌, List, [], ◌∷◌}
 use Rattle.kt_sched.specs.Children.{same_role}
 use Rattle.kt_child.specs.declared.system.child.Child.{Child}
-use Rattle.kt_child.specs.declared.polling.watched.Watched.{Watched}
 use Rattle.kt_child.specs.System.Calls.{Call, Poll, Kill}
-use Rattle.kt_child.specs.Polling.ChildOutcome.{Heard, HeardPoll, HeardKill, Lived, Told, fresh}
-use Rattle.kt_child.specs.Polling.Turns.{WaitedUntil}
+use Rattle.kt_child.specs.Polling.ChildOutcome.{Heard, HeardPoll, HeardKill}
 
 abbrev pub same_child : Child → Child → Bool
 same_child a b = (a.attempt == b.attempt) && same_role a.role b.role
@@ -22,17 +19,3 @@ heard_by child [] = []
 heard_by child (Poll other answer ∷ calls) = own (same_child other child) (HeardPoll answer) (heard_by child calls)
 heard_by child (Kill other done ∷ calls) = own (same_child other child) (HeardKill done) (heard_by child calls)
 heard_by child (call ∷ calls) = heard_by child calls
-
--- Where one child runs, the polls of a wait are a life of it, one poll a turn.
-abbrev pub OneLife : Type 0
-OneLife =
-    (turns : ℕ) (child : Watched) (calls : List Call) (place : ℕ) (outcome : Outcome)
-    → WaitedUntil turns (child ∷ []) calls place outcome
-    → Lived (suc turns) child.limit child.watch (heard_by child.child calls) outcome
-
--- The outcome of a child that ran alone from its start on is that of the outcome table.
-abbrev pub OneOutcome : Type 0
-OneOutcome =
-    (turns : ℕ) (child : Child) (limit : ℕ) (calls : List Call) (place : ℕ) (outcome : Outcome)
-    → 0 < limit → WaitedUntil turns (record { child = child; limit = limit; watch = fresh } ∷ []) calls place outcome
-    → Told limit (heard_by child calls) outcome

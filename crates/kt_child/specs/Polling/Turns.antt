@@ -63,6 +63,11 @@ WaitedUntil turns children calls place outcome =
     (before : List Call) × (last : List Call) × (calls ≡ before ++ last)
     × Rounds turns children before × PolledUntil (after_turns turns children) place last outcome
 
+-- A wait for these children ends with the one at this place; the children after it.
+abbrev pub WaitedOn : List Watched → List Call → ℕ → Outcome → List Watched → Type 0
+WaitedOn children calls place outcome after =
+    (turns : ℕ) × WaitedUntil turns children calls place outcome × (after ≡ advanced_below place (after_turns turns children))
+
 -- the polls that a child has left
 abbrev pub polls_left : Watched → ℕ
 polls_left k = (100 * k.limit - k.watch.before) + (500 - k.watch.after)

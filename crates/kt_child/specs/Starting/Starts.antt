@@ -1,60 +1,86 @@
 -- The start of a child: which questions are put, and where one is refused.
-use Rattle.std.specs.Prelude.{◌≡◌, ℕ, List, [], ◌∷◌, ◌++◌, Bool, true, false, Result, Ok, Err, ◌⊎◌}
+use Rattle.std.specs.Prelude.{◌≡◌, ℕ, List, [], ◌∷◌, ◌++◌, Result, Ok, Err, is_err, ◌⊎◌}
+use Rattle.kt_base.specs.declared.role.Role.{Role}
+use Rattle.kt_base.specs.declared.role.Role.TheVariants.{Body, Cleanup}
 use Rattle.kt_base.specs.declared.refused.Refused.{Refused}
-use Rattle.kt_base.specs.declared.refused.Refused.TheVariants.{Directory, Output, Spawn as NotSpawned}
+use Rattle.kt_base.specs.declared.refused.Refused.TheVariants.{Directory, Output, Spawn as NotSpawned, Memory as NoMemory}
 use Rattle.kt_child.specs.declared.system.os_fault.OsFault.{OsFault}
+use Rattle.kt_child.specs.declared.system.os_fault.OsFault.TheVariants.{Failed, Memory}
 use Rattle.kt_child.specs.declared.planning.spawning.Spawning.{Spawning}
+use Rattle.kt_child.specs.declared.polling.watched.Watched.{Watched}
+use Rattle.kt_child.specs.Polling.ChildOutcome.{fresh}
+use Rattle.kt_child.specs.Ending.Ends.{Removes}
 use Rattle.kt_child.specs.System.Moments.{moment_of}
-use Rattle.kt_child.specs.System.Calls.{Call, MakeDir, RemoveTree, OpenOutput, Spawn, Now}
+use Rattle.kt_child.specs.System.Calls.{Call, SetLimit, MakeDir, OpenOutput, Spawn, Now}
 
--- a question by whether it is done, with the cause of a start that is refused there
+-- a question by its answer, with the cause of a start that is refused there
 pub record Ask : Type 0 where
-  pub call : Bool → Call
+  pub call : Result (Unit {0}) OsFault → Call
   pub cause : Refused
 
--- the questions are put one after the other, until one isn't done: then the start is refused with its cause
+-- the cause of a start that is refused at a failed question: memory, where the call itself was refused it
+abbrev pub cause_of : Refused → OsFault → Refused
+cause_of cause Failed = cause
+cause_of cause (Memory refusal) = NoMemory
+
+-- the questions are put one after the other, until one fails: then the start is refused with its cause
 abbrev pub Tried : List Ask → List Call → Result (Unit {0}) Refused → Type 0
 Tried [] [] (Ok done) = Unit {0}
 Tried [] [] (Err cause) = ⊥
 Tried [] (call ∷ calls) result = ⊥
 Tried (ask ∷ asks) [] result = ⊥
 Tried (ask ∷ asks) (call ∷ calls) (Err cause) =
-    ((call ≡ ask.call false) × (calls ≡ []) × (cause ≡ ask.cause)) ⊎ ((call ≡ ask.call true) × Tried asks calls (Err cause))
-Tried (ask ∷ asks) (call ∷ calls) (Ok done) = (call ≡ ask.call true) × Tried asks calls (Ok done)
+    ((fault : OsFault) × (call ≡ ask.call (Err fault)) × (calls ≡ []) × (cause ≡ cause_of ask.cause fault))
+    ⊎ ((call ≡ ask.call (Ok tt)) × Tried asks calls (Err cause))
+Tried (ask ∷ asks) (call ∷ calls) (Ok done) = (call ≡ ask.call (Ok tt)) × Tried asks calls (Ok done)
+
+-- the child is spawned
+abbrev pub spawn_ask : Spawning → Ask
+spawn_ask p = record { call = Spawn p.child p.program p.words p.env p.work; cause = NotSpawned }
+
+-- an output is opened
+abbrev pub open_ask : Spawning → List ℕ → Ask
+open_ask p path = record { call = OpenOutput p.child path; cause = Output }
+
+-- the work directory is made
+abbrev pub work_ask : Spawning → Ask
+work_ask p = record { call = MakeDir p.work; cause = Directory }
 
 -- the two outputs, then the child
 abbrev pub child_asks : Spawning → List Ask
-child_asks p =
-    record { call = OpenOutput p.child p.out; cause = Output }
-    ∷ record { call = OpenOutput p.child p.err; cause = Output }
-    ∷ record { call = Spawn p.child p.program p.words p.env p.work; cause = NotSpawned }
-    ∷ []
+child_asks p = open_ask p p.out ∷ open_ask p p.err ∷ spawn_ask p ∷ []
 
 -- the work directory, then those
 abbrev pub furnish_asks : Spawning → List Ask
-furnish_asks p = record { call = MakeDir p.work; cause = Directory } ∷ child_asks p
+furnish_asks p = work_ask p ∷ child_asks p
 
--- the last question of a start: the moment of one that succeeded, the removal of the directory of one that was refused
-abbrev pub Settles : List ℕ → Result (Unit {0}) Refused → Call → Result ℕ Refused → Type 0
-Settles dir (Ok done) call result = (answer : Result ℕ OsFault) × (call ≡ Now answer) × (result ≡ Ok (moment_of answer))
-Settles dir (Err cause) call result = (removed : Bool) × (call ≡ RemoveTree dir removed) × (result ≡ Err cause)
+-- a start in a directory that is there: where it is refused the directory is removed
+abbrev pub SetUpIn : List Ask → List ℕ → List Call → Result (Unit {0}) Refused → Type 0
+SetUpIn asks dir calls result =
+    (tried : List Call) × (last : List Call) × (calls ≡ tried ++ last) × Tried asks tried result × Removes (is_err result) dir last
 
--- a start in a directory that is there
-abbrev pub Started : List Ask → List ℕ → List Call → Result ℕ Refused → Type 0
-Started asks dir calls result =
-    (tried : Result (Unit {0}) Refused) × (before : List Call) × (last : Call)
-    × Tried asks before tried × Settles dir tried last result × (calls ≡ before ++ last ∷ [])
+-- a start that makes its directory first: where that fails nothing else is asked
+abbrev pub SetUpNew : List Ask → List ℕ → List Call → Result (Unit {0}) Refused → Type 0
+SetUpNew asks dir calls result =
+    ((fault : OsFault) × (calls ≡ MakeDir dir (Err fault) ∷ []) × (result ≡ Err (cause_of Directory fault)))
+    ⊎ ((more : List Call) × (calls ≡ MakeDir dir (Ok tt) ∷ more) × SetUpIn asks dir more result)
 
--- A start that makes its directory, but for the moment of one that succeeded. Where it is refused the directory is
--- removed if it was made.
-abbrev pub SetUp : List Ask → List ℕ → List Call → Result (Unit {0}) Refused → Type 0
-SetUp asks dir calls (Ok done) = (tried : List Call) × (calls ≡ MakeDir dir true ∷ tried) × Tried asks tried (Ok done)
-SetUp asks dir calls (Err cause) =
-    ((calls ≡ MakeDir dir false ∷ []) × (cause ≡ Directory))
-    ⊎ ((tried : List Call) × (removed : Bool) × (calls ≡ MakeDir dir true ∷ (tried ++ RemoveTree dir removed ∷ [])) × Tried asks tried (Err cause))
+-- a body or a list makes its directories, a cleanup has those of its body
+abbrev pub SetUpAs : Role → Spawning → List Call → Result (Unit {0}) Refused → Type 0
+SetUpAs Body p calls result = SetUpNew (furnish_asks p) p.dir calls result
+SetUpAs Cleanup p calls result = SetUpIn (child_asks p) p.dir calls result
 
--- a start that makes its directory: where that fails nothing else is asked
-abbrev pub StartedAfresh : List Ask → List ℕ → List Call → Result ℕ Refused → Type 0
-StartedAfresh asks dir calls result =
-    ((calls ≡ MakeDir dir false ∷ []) × (result ≡ Err Directory))
-    ⊎ ((more : List Call) × (calls ≡ MakeDir dir true ∷ more) × Started asks dir more result)
+-- a start, but for the moment of one that succeeded: the limit is said first
+abbrev pub SetUp : Spawning → List Call → Result (Unit {0}) Refused → Type 0
+SetUp p calls result = (more : List Call) × (calls ≡ SetLimit p.child p.limit ∷ more) × SetUpAs p.child.role p more result
+
+-- a start; one that succeeded asks for the moment last
+abbrev pub Started : Spawning → List Call → Result ℕ Refused → Type 0
+Started p calls (Ok moment) =
+    (before : List Call) × (answer : Result ℕ OsFault) × (calls ≡ before ++ Now answer ∷ []) × SetUp p before (Ok tt)
+    × (moment ≡ moment_of answer)
+Started p calls (Err cause) = SetUp p calls (Err cause)
+
+-- a child that was just spawned
+abbrev pub spawned : Spawning → Watched
+spawned p = record { child = p.child; limit = p.limit; watch = fresh }

@@ -8,10 +8,11 @@ use Rattle.kt_child.specs.declared.system.env.EnvPlan.{EnvPlan}
 
 -- one question with its answer; where the answer is a truth value, it tells whether the call succeeded
 pub data Call : Type 0 where
-  MakeDir : (path : List ℕ) (done : Bool) → Call
+  SetLimit : (child : Child) (limit : ℕ) → Call
+  MakeDir : (path : List ℕ) (answer : Result (Unit {0}) OsFault) → Call
   RemoveTree : (path : List ℕ) (done : Bool) → Call
-  OpenOutput : (child : Child) (path : List ℕ) (done : Bool) → Call
-  Spawn : (child : Child) (program : List ℕ) (words : List (List ℕ)) (env : EnvPlan) (dir : List ℕ) (done : Bool) → Call
+  OpenOutput : (child : Child) (path : List ℕ) (answer : Result (Unit {0}) OsFault) → Call
+  Spawn : (child : Child) (program : List ℕ) (words : List (List ℕ)) (env : EnvPlan) (dir : List ℕ) (answer : Result (Unit {0}) OsFault) → Call
   Poll : (child : Child) (answer : Result Polled OsFault) → Call
   Kill : (child : Child) (done : Bool) → Call
   Pause : (done : Bool) → Call

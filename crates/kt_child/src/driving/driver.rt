@@ -1,20 +1,16 @@
 use crate::driving::driver_fault::DriverFault;
-use crate::driving::launches::{begin_body, begin_cleanup};
-use crate::driving::lists::list_by;
 use crate::driving::roots::find_root;
 use crate::driving::running_children::RunningChildren;
 use crate::system::os::Os;
-use kt_atflist::Listing;
-use kt_base::{Role, Text, Variables};
+use kt_base::{Role, Text};
 use kt_sched::{Ended, Job, Launcher, StartAnswer};
-use kt_suite::Program;
 use std::alloc::Global;
 
 /// Starts children in directories below its own root directory, watches them and cleans up after them.
 #[derive(Drop)]
 pub struct Driver<O: Os + Drop> {
     pub os: O,
-    alloc: Global,
+    pub(crate) alloc: Global,
     /// The absolute directory of the root Kyuafile.
     pub source: Text,
     /// The root directory.
@@ -39,23 +35,8 @@ impl<O: Os + Drop> Launcher for Driver<O> {
 
     fn start(&mut self, job: &Job, role: Role) -> StartAnswer {
         match role {
-            Role::Body => begin_body(
-                self.alloc,
-                &mut self.os,
-                &self.source,
-                &self.root,
-                &mut self.next,
-                &mut self.running,
-                job,
-            ),
-            Role::Cleanup => begin_cleanup(
-                self.alloc,
-                &mut self.os,
-                &self.source,
-                self.next,
-                &mut self.running,
-                job,
-            ),
+            Role::Body => self.start_body(job),
+            Role::Cleanup => self.start_cleanup(job),
         }
     }
 
@@ -69,7 +50,6 @@ impl<O: Os + Drop> Driver<O> {
     ghost use Rattle.kt_child.specs.System.Calls.{Call, Chain, RemoveTree};
     ghost use Rattle.kt_child.specs.Driving.Roots.{FindsRoot};
     ghost use Rattle.kt_child.specs.Driving.ChildrenState.{idle_state};
-    ghost use Rattle.kt_child.specs.Driving.Lists.{ListsBy};
 
     /// Makes the root directory of a driver below `base`. `source` is the absolute directory of the root Kyuafile.
     /// Where there is no driver the system is handed back.
@@ -99,25 +79,6 @@ impl<O: Os + Drop> Driver<O> {
                 })
             }
         }
-    }
-
-    /// Asks an ATF program for its list of test cases, with the variables of its suite.
-    pub fn list(&mut self, program: &Program, variables: &Variables) -> Listing
-        ensures listed { ListsBy O.leads self.old.source self.old.root program.now.path
-            variables.now self.old.os self.old.next result self.new.os self.new.next }
-        ensures running { self.new.running ≡ self.old.running }
-        ensures source { self.new.source ≡ self.old.source }
-        ensures root { self.new.root ≡ self.old.root }
-    {
-        list_by(
-            self.alloc,
-            &mut self.os,
-            &self.source,
-            &self.root,
-            &mut self.next,
-            &program.path,
-            variables,
-        )
     }
 
     /// Asks for the removal of the root directory, and hands the system back.

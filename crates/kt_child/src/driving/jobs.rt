@@ -2,7 +2,8 @@ ghost use Rattle.std.specs.Prelude.{◌≡◌, ◌≤◌, IfOk};
 ghost use Rattle.kt_sched.specs.Plan.{IsFit};
 ghost use Rattle.kt_child.specs.Planning.ChildPlan.{paths_of};
 ghost use Rattle.kt_child.specs.Polling.Turns.{IsOn};
-ghost use Rattle.kt_child.specs.Driving.JobPlan.{case_of, limit_of, spawning_of, want_of, watched_of};
+ghost use Rattle.kt_child.specs.Driving.JobPlan.{case_of, limit_of, spawning_of, want_of};
+ghost use Rattle.kt_child.specs.Starting.Starts.{spawned};
 
 use crate::ending::ends::{err_path, out_path};
 use crate::planning::case::Case;
@@ -13,8 +14,6 @@ use crate::planning::spawning::Spawning;
 use crate::planning::want::Want;
 use crate::planning::words::argv_plan;
 use crate::planning::workdir::workdir_plan;
-use crate::polling::watch::fresh_watch;
-use crate::polling::watched::Watched;
 use crate::system::child::Child;
 use kt_base::{NoMemory, Role, Text};
 use kt_sched::Job;
@@ -32,6 +31,18 @@ fn want(role: Role) -> Want
     }
 }
 
+fn limit(job: &Job, role: Role) -> u64
+    requires { IsFit job.now }
+    ensures limit { result ≡ limit_of job.now role }
+    ensures some { 1 ≤ result }
+    ensures range { result ≤ 1000000 }
+{
+    match role {
+        Role::Body => job.timeout as u64,
+        Role::Cleanup => CLEANUP_LIMIT,
+    }
+}
+
 /// What a job's child is started with. `source` is the absolute directory of the root Kyuafile.
 pub(crate) fn spawning(
     alloc: Global,
@@ -41,7 +52,10 @@ pub(crate) fn spawning(
     attempt: u64,
     paths: &Paths,
 ) -> Result<Spawning, NoMemory>
-    ensures { IfOk result (λ plan. plan ≡ spawning_of source.now job.now role attempt paths.now) }
+    requires { IsFit job.now }
+    ensures plan { IfOk result (λ plan. plan ≡ spawning_of source.now job.now role attempt
+        paths.now) }
+    ensures on { IfOk result (λ plan. IsOn (spawned plan)) }
 {
     let program = absolute_path(source, &job.program)?;
     let directory = program_directory(alloc, &program)?;
@@ -55,15 +69,18 @@ pub(crate) fn spawning(
         &job.case_name,
     )?;
     let env = env_plan(alloc, job.interface, &job.vars, &paths.work)?;
+    let dir = paths.dir.copy()?;
     let work = paths.work.copy()?;
     let out = out_path(role, paths).copy()?;
     let err = err_path(role, paths).copy()?;
     let child = Child { attempt, role };
     Ok(Spawning {
         child,
+        limit: limit(job, role),
         program,
         words,
         env,
+        dir,
         work,
         out,
         err,
@@ -84,8 +101,11 @@ pub(crate) fn plan_body(
     attempt: u64,
     job: &Job,
 ) -> Result<Planned, NoMemory>
-    ensures { IfOk result (λ p. (p.case ≡ case_of job.now attempt (paths_of root.now attempt))
-        × (p.plan ≡ spawning_of source.now job.now Role.Body attempt (paths_of root.now attempt))) }
+    requires { IsFit job.now }
+    ensures planned { IfOk result (λ p. (p.case ≡ case_of job.now attempt
+        (paths_of root.now attempt)) × (p.plan ≡ spawning_of source.now job.now Role.Body attempt
+        (paths_of root.now attempt))) }
+    ensures on { IfOk result (λ p. IsOn (spawned p.plan)) }
 {
     let paths = workdir_plan(alloc, root, attempt)?;
     let plan = spawning(alloc, source, job, Role::Body, attempt, &paths)?;
@@ -98,29 +118,4 @@ pub(crate) fn plan_body(
         paths,
     };
     Ok(Planned { case, plan })
-}
-
-fn limit(job: &Job, role: Role) -> u64
-    requires { IsFit job.now }
-    ensures limit { result ≡ limit_of job.now role }
-    ensures some { 1 ≤ result }
-    ensures range { result ≤ 1000000 }
-{
-    match role {
-        Role::Body => job.timeout as u64,
-        Role::Cleanup => CLEANUP_LIMIT,
-    }
-}
-
-/// A job's child that was just spawned.
-pub(crate) fn fresh_child(job: &Job, role: Role, attempt: u64) -> Watched
-    requires { IsFit job.now }
-    ensures watched { result ≡ watched_of job.now role attempt }
-    ensures on { IsOn result }
-{
-    Watched {
-        child: Child { attempt, role },
-        limit: limit(job, role),
-        watch: fresh_watch(),
-    }
 }

@@ -1,8 +1,11 @@
 ghost use Rattle.std.specs.Prelude.{◌≡◌, List, IfOk};
 ghost use Rattle.kt_child.specs.System.Calls.{Call, Chain};
 ghost use Rattle.kt_child.specs.Planning.ChildPlan.{paths_of};
-ghost use Rattle.kt_child.specs.Driving.Lists.{ListsBy, RanList, WatchedList, listing_of};
+ghost use Rattle.kt_child.specs.Driving.Lists.{RanList, WatchedList, listing_of};
+ghost use Rattle.kt_child.specs.Polling.Turns.{IsOn};
+ghost use Rattle.kt_child.specs.Starting.Starts.{spawned};
 
+use crate::driving::driver::Driver;
 use crate::ending::reads::read_list;
 use crate::planning::environment::env_plan;
 use crate::planning::locations::{absolute_path, program_directory};
@@ -12,43 +15,40 @@ use crate::planning::want::Want;
 use crate::planning::words::argv_plan;
 use crate::planning::workdir::workdir_plan;
 use crate::polling::turns::wait;
-use crate::polling::watch::fresh_watch;
-use crate::polling::watched::Watched;
-use crate::starting::new_starts::set_up;
 use crate::starting::refusals::memory_refusal;
+use crate::starting::starts::{set_up, spawned};
 use crate::system::child::Child;
 use crate::system::os::Os;
 use kt_atflist::{ListBytes, Listing};
 use kt_base::{Interface, NoMemory, Outcome, Refused, Role, Text, Variables};
+use kt_suite::Program;
 use std::alloc::Global;
 
 /// The limit of a list, in seconds (this profile).
 const LIST_LIMIT: u64 = 300;
 
 /// Waits for a list that was started, reads it, and removes its directory.
-fn watch_list<O: Os>(os: &mut O, child: Child, paths: &Paths) -> (Outcome, ListBytes)
+fn watch_list<O: Os>(os: &mut O, plan: &Spawning) -> (Outcome, ListBytes)
+    requires { IsOn (spawned plan.now) }
     ensures { (calls : List Call) × Chain O.leads os.old calls os.new
-        × WatchedList child paths.now calls result.0 result.1 }
+        × WatchedList plan.now calls result.0 result.1 }
 {
-    let mut children = [Watched {
-        child,
-        limit: LIST_LIMIT,
-        watch: fresh_watch(),
-    }];
+    let mut children = [spawned(plan)];
     let over = wait(os, &mut children);
-    let bytes = read_list(os, &paths.out);
-    let _ = os.remove_tree(&paths.dir);
+    let bytes = read_list(os, &plan.out);
+    let _ = os.remove_tree(&plan.dir);
     (over.outcome, bytes)
 }
 
-fn run_list<O: Os>(os: &mut O, plan: &Spawning, paths: &Paths) -> Listing
+fn run_list<O: Os>(os: &mut O, plan: &Spawning) -> Listing
+    requires { IsOn (spawned plan.now) }
     ensures { (calls : List Call) × Chain O.leads os.old calls os.new
-        × RanList plan.now paths.now calls result }
+        × RanList plan.now calls result }
 {
-    match set_up(os, &paths.dir, plan) {
+    match set_up(os, plan) {
         Err(cause) => Listing::Refused(cause),
         Ok(()) => {
-            let (outcome, bytes) = watch_list(os, plan.child, paths);
+            let (outcome, bytes) = watch_list(os, plan);
             Listing::Ended(outcome, bytes)
         }
     }
@@ -63,8 +63,9 @@ fn listing(
     attempt: u64,
     paths: &Paths,
 ) -> Result<Spawning, NoMemory>
-    ensures { IfOk result (λ plan. plan ≡ listing_of source.now program.now variables.now attempt
-        paths.now) }
+    ensures plan { IfOk result (λ plan. plan ≡ listing_of source.now program.now variables.now
+        attempt paths.now) }
+    ensures on { IfOk result (λ plan. IsOn (spawned plan)) }
 {
     let program = absolute_path(source, program)?;
     let directory = program_directory(alloc, &program)?;
@@ -79,6 +80,7 @@ fn listing(
         &none,
     )?;
     let env = env_plan(alloc, Interface::Atf, variables, &paths.work)?;
+    let dir = paths.dir.copy()?;
     let work = paths.work.copy()?;
     let out = paths.out.copy()?;
     let err = paths.err.copy()?;
@@ -88,20 +90,15 @@ fn listing(
     };
     Ok(Spawning {
         child,
+        limit: LIST_LIMIT,
         program,
         words,
         env,
+        dir,
         work,
         out,
         err,
     })
-}
-
-/// A list that is to be started.
-#[derive(Debug, Drop)]
-struct PlannedList {
-    paths: Paths,
-    plan: Spawning,
 }
 
 fn plan_list(
@@ -111,35 +108,43 @@ fn plan_list(
     attempt: u64,
     program: &Text,
     variables: &Variables,
-) -> Result<PlannedList, NoMemory>
-    ensures { IfOk result (λ p. (p.paths ≡ paths_of root.now attempt)
-        × (p.plan ≡ listing_of source.now program.now variables.now attempt (paths_of root.now attempt))) }
+) -> Result<Spawning, NoMemory>
+    ensures plan { IfOk result (λ plan. plan ≡ listing_of source.now program.now variables.now
+        attempt (paths_of root.now attempt)) }
+    ensures on { IfOk result (λ plan. IsOn (spawned plan)) }
 {
     let paths = workdir_plan(alloc, root, attempt)?;
     let plan = listing(alloc, source, program, variables, attempt, &paths)?;
-    Ok(PlannedList { paths, plan })
+    Ok(plan)
 }
 
-/// Asks an ATF program for its list of test cases.
-pub(crate) fn list_by<O: Os>(
-    alloc: Global,
-    os: &mut O,
-    source: &Text,
-    root: &Text,
-    next: &mut u64,
-    program: &Text,
-    variables: &Variables,
-) -> Listing
-    ensures { ListsBy O.leads source.now root.now program.now variables.now os.old next.old result
-        os.new next.new }
-{
-    if *next == u64::MAX {
-        return Listing::Refused(Refused::Directory);
-    }
-    let attempt = *next;
-    *next += 1;
-    match plan_list(alloc, source, root, attempt, program, variables) {
-        Err(refusal) => Listing::Refused(memory_refusal(refusal)),
-        Ok(planned) => run_list(os, &planned.plan, &planned.paths),
+impl<O: Os + Drop> Driver<O> {
+    ghost use Rattle.std.specs.Prelude.{◌≡◌};
+    ghost use Rattle.kt_child.specs.Driving.Lists.{ListsBy};
+
+    /// Asks an ATF program for its list of test cases, with the variables of its suite.
+    pub fn list(&mut self, program: &Program, variables: &Variables) -> Listing
+        ensures listed { ListsBy O.leads self.old program.now.path variables.now result self.new }
+        ensures running { self.new.running ≡ self.old.running }
+        ensures source { self.new.source ≡ self.old.source }
+        ensures root { self.new.root ≡ self.old.root }
+    {
+        if self.next == u64::MAX {
+            return Listing::Refused(Refused::Directory);
+        }
+        let attempt = self.next;
+        self.next += 1;
+        let planned = plan_list(
+            self.alloc,
+            &self.source,
+            &self.root,
+            attempt,
+            &program.path,
+            variables,
+        );
+        match planned {
+            Err(refusal) => Listing::Refused(memory_refusal(refusal)),
+            Ok(plan) => run_list(&mut self.os, &plan),
+        }
     }
 }

@@ -25,11 +25,10 @@ pub fn find_root<O: Os>(alloc: Global, os: &mut O, base: &Text) -> Result<Text, 
     for number in 0..1000 {
         match root_path(alloc, base, number) {
             Err(refusal) => return Err(DriverFault::NoMemory(refusal)),
-            Ok(root) => {
-                if os.make_dir(&root).is_ok() {
-                    return Ok(root);
-                }
-            }
+            Ok(root) => match os.make_dir(&root) {
+                Ok(()) => return Ok(root),
+                Err(_fault) => {}
+            },
         }
     }
     Err(DriverFault::NoWorkDirectory)

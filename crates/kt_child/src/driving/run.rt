@@ -6,9 +6,8 @@ ghost use Rattle.kt_sched.specs.Trace.{Trace, Leads};
 ghost use Rattle.kt_child.specs.System.Calls.{Call, Chain};
 ghost use Rattle.kt_child.specs.Driving.ChildrenState.{is_among, shown_at};
 ghost use Rattle.kt_child.specs.Driving.DriverSteps.{DriverLists, DriverStarts, DriverWaits};
-ghost use Rattle.kt_child.specs.Driving.Numbers.{AttemptsDiffer, NamesDiffer, NumbersDiffer, Serves};
+ghost use Rattle.kt_child.specs.Driving.Numbers.{AttemptsDiffer, Serves};
 ghost use Rattle.kt_child.specs.Driving.TraceLives.{EachWith, EndsAreTold, ToldAt};
-ghost use Rattle.kt_child.specs.Driving.Width.{AloneIsPlain};
 ghost use Rattle.kt_child.specs.declared.driving.driver.Driver.{Driver};
 
 use crate::driving::driver::Driver;
@@ -42,16 +41,8 @@ pub fn run_driver<O: Os + Drop, S: Sink>(
 
 /// The law of numbers: no two attempts of a driver, which are the starts of bodies and the lists, have the same number.
 pub fn law_of_numbers<O: Os + Drop>()
-    ensures starts { NumbersDiffer {D = Driver O} (λ d. d.next)
-        (DriverStarts O.leads) (DriverWaits O.leads) }
-    ensures attempts { AttemptsDiffer {D = Driver O} (λ d. d.next)
+    ensures { AttemptsDiffer {D = Driver O} (λ d. d.next)
         (Serves {D = Driver O} (DriverStarts O.leads) (DriverWaits O.leads) (DriverLists O.leads)) }
-{}
-
-/// The law of names: where nothing ran and nothing was owed at first, the name of each child that runs is its own.
-pub fn law_of_names<O: Os + Drop>()
-    ensures { NamesDiffer {D = Driver O} (λ d. d.running)
-        (DriverStarts O.leads) (DriverWaits O.leads) }
 {}
 
 /// The law of traces, if nothing runs and nothing is owed at first: the polls and kills of each child, of all that is
@@ -59,13 +50,6 @@ pub fn law_of_names<O: Os + Drop>()
 /// each end has its own calls in the directory of its body's number: the start, what is read behind the last poll, and
 /// the removal.
 pub fn law_of_traces<O: Os + Drop>()
-    ensures { EndsAreTold {D = Driver O} O.leads (λ d. d.os) (λ d. d.source) (λ d. d.root)
-        (λ d. d.next) (λ d. d.running) (DriverStarts O.leads) (DriverWaits O.leads) }
-{}
-
-/// The law of lone children: if nothing runs at first and each wait is for an only child, no member is ever left of a
-/// turn, so that each wait is the plain loop of `law_of_one_child`.
-pub fn law_of_lone_children<O: Os + Drop>()
-    ensures { AloneIsPlain {D = Driver O} (λ d. d.running)
-        (DriverStarts O.leads) (DriverWaits O.leads) }
+    ensures { EndsAreTold {D = Driver O} O.leads (λ d. d) (DriverStarts O.leads)
+        (DriverWaits O.leads) }
 {}

@@ -1,31 +1,30 @@
-ghost use Rattle.std.specs.Prelude.{◌≡◌, ◌+◌, ◌<◌, ◌≤◌, length, List, slice_get, Some, remove, IfOk, OnOk, true};
+ghost use Rattle.std.specs.Prelude.{◌≡◌, ◌+◌, ◌<◌, ◌≤◌, length, List, slice_get, Some, remove, OnOk, true};
 ghost use Rattle.std.specs.Vec.{vec_len, vec_capacity};
+ghost use Rattle.kt_sched.specs.Children.{same_role};
 ghost use Rattle.kt_child.specs.declared.planning.case.Case.{Case};
-ghost use Rattle.kt_child.specs.Driving.Begins.{Begun, StartedFor};
+ghost use Rattle.kt_child.specs.Driving.Begins.{Unbegun};
 ghost use Rattle.kt_child.specs.Driving.ChildrenState.{is_among, pending_with};
 ghost use Rattle.kt_child.specs.System.Calls.{Call, Chain};
 
-use crate::ending::ends::{leave, over};
+use crate::ending::ends::{leave, over, remove_if};
 use crate::planning::case::Case;
 use crate::planning::spawning::Spawning;
-use crate::polling::open_turn::OpenTurn;
-use crate::polling::waits::wait_on;
+use crate::polling::turns::wait;
 use crate::polling::watched::Watched;
 use crate::starting::refusals::memory_refusal;
-use crate::starting::starts::{start_body, start_cleanup};
+use crate::starting::starts::{spawned, start_child};
 use crate::system::os::Os;
-use kt_base::{LATEST_MOMENT, NoMemory, Refused, Role, Text};
+use kt_base::{NoMemory, Refused, Role, Text};
 use kt_sched::{Ended, StartAnswer};
 use std::alloc::Global;
 use std::marker::Model;
 
-/// The running children in the order of their start, each with its case; the turn that goes on; and the cases whose
-/// cleanup is owed. Room for a case's cleanup is taken with its body's start.
+/// The running children in the order of their start, each with its case, and the cases whose cleanup is owed. Room for
+/// a case's cleanup is taken with its body's start.
 #[derive(Drop)]
 pub struct RunningChildren {
     children: Vec<Watched>,
     cases: Vec<Case>,
-    going: OpenTurn,
     pending: Vec<Case>,
 }
 
@@ -39,12 +38,10 @@ impl Model for RunningChildren {
     ghost view = { λ r. record {
       children = r.children.items;
       cases = r.cases.items;
-      going =
-          r.going;
       pending = r.pending.items;
     } };
 
-    ghost invariant = { λ r. IsChildrenState r.children.items r.cases.items r.going r.pending.items
+    ghost invariant = { λ r. IsChildrenState r.children.items r.cases.items r.pending.items
         × (vec_len r.cases + vec_len r.pending ≤ vec_capacity r.pending) };
 }
 
@@ -103,32 +100,24 @@ fn forget(children: &mut Vec<Watched>, cases: &mut Vec<Case>, pending: &mut Vec<
     pending.push_reserved(case);
 }
 
-/// Starts a child for this role.
-fn start_child<O: Os>(os: &mut O, role: Role, dir: &Text, plan: &Spawning) -> Result<u64, Refused>
-    ensures asked { (calls : List Call) × Chain O.leads os.old calls os.new
-        × StartedFor role plan.now dir.now calls result }
-    ensures range { IfOk result (λ moment. moment ≤ LATEST_MOMENT) }
+fn is_cleanup(role: Role) -> bool
+    ensures { result ≡ same_role role Role.Cleanup }
 {
     match role {
-        Role::Body => start_body(os, dir, plan),
-        Role::Cleanup => start_cleanup(os, dir, plan),
+        Role::Body => false,
+        Role::Cleanup => true,
     }
 }
 
 /// Refuses a start for which there is no memory. The directory of a cleanup is removed: its cleanup
 /// isn't asked for again.
-fn refuse<O: Os>(os: &mut O, role: Role, dir: &Text, refusal: NoMemory) -> StartAnswer
+pub(crate) fn refuse<O: Os>(os: &mut O, role: Role, dir: &Text, refusal: NoMemory) -> StartAnswer
     ensures refused { result ≡ StartAnswer.Refused Refused.Memory }
     ensures asked { (calls : List Call) × Chain O.leads os.old calls os.new
-        × ((plan : Spawning) → Begun role plan dir.now calls result) }
+        × Unbegun role dir.now calls result }
 {
-    match role {
-        Role::Body => StartAnswer::Refused(memory_refusal(refusal)),
-        Role::Cleanup => {
-            let _ = os.remove_tree(dir);
-            StartAnswer::Refused(memory_refusal(refusal))
-        }
-    }
+    remove_if(os, is_cleanup(role), dir);
+    StartAnswer::Refused(memory_refusal(refusal))
 }
 
 impl RunningChildren {
@@ -139,6 +128,7 @@ impl RunningChildren {
     ghost use Rattle.kt_child.specs.Polling.Turns.{IsOn};
     ghost use Rattle.kt_child.specs.Driving.ChildrenState.{Waited, count_at, idle_state, is_among, shown_at};
     ghost use Rattle.kt_child.specs.Driving.Begins.{Begun, state_after_start, shown_after};
+    ghost use Rattle.kt_child.specs.Starting.Starts.{spawned};
 
     /// No running children, which takes no memory.
     pub fn new(alloc: Global) -> RunningChildren
@@ -147,11 +137,6 @@ impl RunningChildren {
         RunningChildren {
             children: Vec::new(alloc),
             cases: Vec::new(alloc),
-            going: OpenTurn {
-                from: 0,
-                unpolled: 0,
-                over: 0,
-            },
             pending: Vec::new(alloc),
         }
     }
@@ -167,7 +152,7 @@ impl RunningChildren {
     pub fn take_owed(&mut self, position: u32) -> Case
         requires { is_among self.old.pending position ≡ true }
         ensures taken { (place : ℕ) × (slice_get self.old.pending place ≡ Some result)
-            × (self.new ≡ record { children = self.old.children; cases = self.old.cases; going = self.old.going; pending = remove self.old.pending place }) }
+            × (self.new ≡ record { children = self.old.children; cases = self.old.cases; pending = remove self.old.pending place }) }
         ensures position { result.position ≡ position }
         ensures free { count_at position self.new.cases + count_at position self.new.pending ≡ 0 }
         ensures cases { self.new.cases ≡ self.old.cases }
@@ -179,31 +164,24 @@ impl RunningChildren {
     }
 
     /// Starts a child of this case: its body in a new directory, its cleanup in that of the body.
-    pub fn start<O: Os>(
-        &mut self,
-        os: &mut O,
-        role: Role,
-        child: Watched,
-        case: Case,
-        plan: &Spawning,
-    ) -> StartAnswer
-        requires on { IsOn child }
+    pub fn start<O: Os>(&mut self, os: &mut O, case: Case, plan: &Spawning) -> StartAnswer
+        requires on { IsOn (spawned plan.now) }
         requires free { count_at case.position self.old.cases + count_at case.position
             self.old.pending ≡ 0 }
         ensures begun { (calls : List Call) × Chain O.leads os.old calls os.new
-            × Begun role plan.now case.paths.dir calls result }
+            × Begun plan.now calls result }
         ensures moment { HasMoment result }
-        ensures state { self.new ≡ state_after_start self.old child case result }
+        ensures state { self.new ≡ state_after_start self.old (spawned plan.now) case result }
         ensures running { (k : ℕ) (r : Role) → shown_at self.new.cases k r
             ≡ shown_after (shown_at self.old.cases) case result k r }
     {
         if let Err(refusal) = make_room(&mut self.children, &mut self.cases, &mut self.pending) {
-            return refuse(os, role, &case.paths.dir, refusal);
+            return refuse(os, plan.child.role, &plan.dir, refusal);
         }
-        match start_child(os, role, &case.paths.dir, plan) {
+        match start_child(os, plan) {
             Err(cause) => StartAnswer::Refused(cause),
             Ok(moment) => {
-                self.children.push_reserved(child);
+                self.children.push_reserved(spawned(plan));
                 self.cases.push_reserved(case);
                 StartAnswer::Started(moment)
             }
@@ -223,7 +201,7 @@ impl RunningChildren {
         ensures pending { (k : ℕ) → is_among self.new.pending k
             ≡ pending_after_end (shown_at self.old.cases) (is_among self.old.pending) result k }
     {
-        let over = wait_on(os, &mut self.children, &mut self.going);
+        let over = wait(os, &mut self.children);
         let ended = leave(alloc, os, &self.cases[over.place], over.outcome);
         forget(
             &mut self.children,

@@ -44,10 +44,11 @@ pub(crate) fn over(case: &Case) -> bool
     }
 }
 
-fn remove_if<O: Os>(os: &mut O, over: bool, dir: &Text)
-    ensures { (calls : List Call) × Chain O.leads os.old calls os.new × Removes over dir.now calls }
+pub(crate) fn remove_if<O: Os>(os: &mut O, removed: bool, dir: &Text)
+    ensures { (calls : List Call) × Chain O.leads os.old calls os.new
+        × Removes removed dir.now calls }
 {
-    if over {
+    if removed {
         let _ = os.remove_tree(dir);
     }
 }

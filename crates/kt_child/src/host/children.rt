@@ -3,21 +3,16 @@ ghost use Rattle.kt_sched.specs.Children.{same_role};
 ghost use Rattle.kt_child.specs.Polling.Lives.{same_child};
 ghost use Rattle.kt_child.specs.Host.HostStands.{AllProceed, AllStay, IsPlaceOf, OthersStay, Proceeds, is_other, stand_in, stand_of};
 
+use crate::host::bounds::{PAUSE, slice_after};
+use crate::host::command::Asked;
 use crate::host::host_child::HostChild;
+use crate::host::removal::{Removals, rest};
 use crate::system::child::Child;
 use crate::system::os_fault::OsFault;
-use kt_base::Role;
+use kt_base::{NoMemory, Role};
 use std::fs::File;
-use std::io::ErrorKind;
-use std::process::{Command, ExitStatus, OpenProcess, Processes};
-use std::rt::Clock;
-use std::time::Duration;
-use std::{io, thread};
-
-/// The slices of a pause, in microseconds: 10 milliseconds in all. Short ones come first, for a short case.
-const SLICES: [u64; 14] = [
-    50, 100, 200, 400, 800, 1000, 1000, 1000, 1000, 1000, 1000, 1000, 1000, 450,
-];
+use std::process::{ExitStatus, OpenProcess, Processes};
+use std::rt::{Clock, Files};
 
 fn same_role(a: Role, b: Role) -> bool
     ensures { result ≡ same_role a b }
@@ -102,15 +97,16 @@ fn place_for_errors<P: OpenProcess + Drop>(children: &[HostChild<P>], child: Chi
 fn renew<P: OpenProcess + Drop>(
     children: &mut Vec<HostChild<P>>,
     child: Child,
+    limit: u64,
     out: File,
 ) -> Result<(), OsFault>
     ensures idle { stand_in children.new.items child ≡ None }
     ensures others { OthersStay child (stand_in children.old.items) (stand_in children.new.items) }
 {
     forget(children, child);
-    match children.push(HostChild::new(child, out)) {
+    match children.push(HostChild::new(child, limit, out)) {
         Ok(()) => Ok(()),
-        Err(_) => Err(OsFault),
+        Err(refusal) => Err(OsFault::Memory(NoMemory::from(refusal))),
     }
 }
 
@@ -118,6 +114,7 @@ fn renew<P: OpenProcess + Drop>(
 pub(crate) fn keep_output<P: OpenProcess + Drop>(
     children: &mut Vec<HostChild<P>>,
     child: Child,
+    limit: u64,
     file: File,
 ) -> Result<(), OsFault>
     ensures idle { stand_in children.new.items child ≡ None }
@@ -129,26 +126,26 @@ pub(crate) fn keep_output<P: OpenProcess + Drop>(
             held.keep_errors(file);
             Ok(())
         }
-        None => renew(children, child, file),
+        None => renew(children, child, limit, file),
     }
 }
 
 /// Starts a child for which its files were opened.
-pub(crate) fn launch<P: OpenProcess + Drop, R: Processes<Started = P> + Clock>(
+pub(crate) fn launch<P: OpenProcess + Drop, R: Processes<Started = P> + Clock + AllocGlobal>(
     children: &mut Vec<HostChild<P>>,
     child: Child,
     rt: &R,
-    command: &mut Command,
-) -> io::Result<()>
+    asked: Asked<'_>,
+) -> Result<(), OsFault>
     ensures started { OnOk result (IsSome (stand_in children.new.items child)) }
     ensures others { OthersStay child (stand_in children.old.items) (stand_in children.new.items) }
 {
     match place_of(children, child) {
         Some(place) => {
             let held = &mut children[place];
-            held.launch(rt, command)
+            held.launch(rt, asked)
         }
-        None => Err(io::Error::from(ErrorKind::NotFound)),
+        None => Err(OsFault::Failed),
     }
 }
 
@@ -168,14 +165,15 @@ pub(crate) fn poll<P: OpenProcess + Drop, C: Clock>(
             let held = &mut children[place];
             held.poll(clock)
         }
-        None => Err(OsFault),
+        None => Err(OsFault::Failed),
     }
 }
 
 /// Kills a child.
-pub(crate) fn kill<P: OpenProcess + Drop>(
+pub(crate) fn kill<P: OpenProcess + Drop, C: Clock>(
     children: &mut Vec<HostChild<P>>,
     child: Child,
+    clock: &C,
 ) -> Result<(), OsFault>
     ensures had { OnOk result (IsSome (stand_in children.old.items child)) }
     ensures stay { AllStay (stand_in children.old.items) (stand_in children.new.items) }
@@ -183,9 +181,9 @@ pub(crate) fn kill<P: OpenProcess + Drop>(
     match place_of(children, child) {
         Some(place) => {
             let held = &mut children[place];
-            held.kill()
+            held.kill(clock)
         }
-        None => Err(OsFault),
+        None => Err(OsFault::Failed),
     }
 }
 
@@ -202,18 +200,22 @@ fn has_new_end<P: OpenProcess + Drop>(children: &mut Vec<HostChild<P>>) -> bool
     false
 }
 
-/// Sleeps until a child has ended, at the latest after all slices, and returns whether one has.
-pub(crate) fn await_end<P: OpenProcess + Drop, C: Clock>(
+/// Rests until a child has ended, at the latest after a pause, and returns whether one has.
+pub(crate) fn await_end<P: OpenProcess + Drop, R: Files + Clock + AllocGlobal>(
     children: &mut Vec<HostChild<P>>,
-    clock: &C,
+    removals: &mut Option<Removals<R::Dir>>,
+    rt: &R,
 ) -> bool
     ensures { AllProceed (stand_in children.old.items) (stand_in children.new.items) }
 {
-    for slice in &SLICES {
-        thread::sleep(clock, Duration::from_micros(*slice));
+    let mut rested = 0;
+    while rested < PAUSE {
+        let slice = slice_after(rested);
+        rest(removals, rt, slice);
         if has_new_end(children) {
             return true;
         }
+        rested += slice;
     }
     false
 }

@@ -3,10 +3,23 @@ ghost use Rattle.std.specs.Process.{SameDir, SameEnv, SameOtherVars, SameProgram
 ghost use Rattle.kt_base.specs.Utf8.{utf8};
 ghost use Rattle.kt_child.specs.Host.HostCommands.{IsCommandOf, after_removed, after_set};
 
+use crate::host::faults::or_fault;
 use crate::system::env::EnvPlan;
+use crate::system::os_fault::OsFault;
 use kt_base::{Items, NoMemory, Text, Variable, Variables};
 use std::alloc::Global;
-use std::process::Command;
+use std::fs::File;
+use std::process::{Command, Processes, Stdio};
+use std::{io, process};
+
+/// What a program is started with: its path, the words after it, its environment and its directory.
+#[derive(Clone, Copy)]
+pub(crate) struct Asked<'a> {
+    pub program: &'a Text,
+    pub words: &'a Items<Text>,
+    pub env: &'a EnvPlan,
+    pub dir: &'a Text,
+}
 
 /// Appends words.
 fn push_words(command: &mut Command, words: &Items<Text>) -> Result<(), NoMemory>
@@ -78,20 +91,41 @@ fn set_variables(command: &mut Command, set: &Variables) -> Result<(), NoMemory>
     Ok(())
 }
 
-/// The command that starts a program with these words, in this environment and directory.
-pub(crate) fn command_of(
-    alloc: Global,
-    program: &Text,
-    words: &Items<Text>,
-    env: &EnvPlan,
-    dir: &Text,
-) -> Result<Command, NoMemory>
-    ensures { IfOk result (λ command. IsCommandOf program.now words.now env.now dir.now command) }
+/// The command that starts a program so.
+fn command_of(alloc: Global, asked: Asked<'_>) -> Result<Command, NoMemory>
+    ensures { IfOk result (λ command. IsCommandOf asked.entry.program.now asked.entry.words.now
+        asked.entry.env.now asked.entry.dir.now command) }
 {
-    let mut command = Command::new(alloc, program.as_str())?;
-    push_words(&mut command, words)?;
-    remove_variables(&mut command, &env.removed)?;
-    set_variables(&mut command, &env.set)?;
-    command.current_dir(dir.as_str())?;
+    let mut command = Command::new(alloc, asked.program.as_str())?;
+    push_words(&mut command, asked.words)?;
+    remove_variables(&mut command, &asked.env.removed)?;
+    set_variables(&mut command, &asked.env.set)?;
+    command.current_dir(asked.dir.as_str())?;
     Ok(command)
+}
+
+/// Spawns a command, of which only the streams were said since it was made: all else is what was asked for.
+fn spawn_as<R: Processes>(
+    rt: &R,
+    _asked: Asked<'_>,
+    command: &mut Command,
+) -> io::Result<process::Child<R::Started>>
+    requires { IsCommandOf _asked.program.now _asked.words.now _asked.env.now _asked.dir.now
+        command.old }
+{
+    command.spawn(rt)
+}
+
+/// Starts a program with an empty input, its output and its errors to these files.
+pub(crate) fn spawn<R: Processes + AllocGlobal>(
+    rt: &R,
+    asked: Asked<'_>,
+    out: File,
+    err: File,
+) -> Result<process::Child<R::Started>, OsFault> {
+    let mut command = command_of(rt.alloc(), asked)?;
+    command.stdin(Stdio::null());
+    command.stdout(out);
+    command.stderr(err);
+    or_fault(spawn_as(rt, asked, &mut command))
 }

@@ -1,14 +1,27 @@
 ghost use Rattle.std.specs.Prelude.{◌≡◌, Ok, IsErr, MatchResult};
+ghost use Rattle.std.specs.IoError.{error_kind};
+ghost use Rattle.kt_child.specs.Host.HostAnswers.{IsFaultOf};
 
 use crate::system::os_fault::OsFault;
+use kt_base::NoMemory;
 use std::io;
 
-/// An answer of the library, whose error is not told.
+/// What is told of an error of the library: whether memory was refused.
+pub(crate) fn fault_of(error: &io::Error) -> OsFault
+    ensures { IsFaultOf (error_kind error.now) result }
+{
+    match NoMemory::in_error(error) {
+        Some(refusal) => OsFault::Memory(refusal),
+        None => OsFault::Failed,
+    }
+}
+
+/// An answer of the library.
 pub(crate) fn or_fault<T: Drop>(answer: io::Result<T>) -> Result<T, OsFault>
     ensures { MatchResult result (λ value. answer ≡ Ok value) (λ _. IsErr answer) }
 {
     match answer {
         Ok(value) => Ok(value),
-        Err(_) => Err(OsFault),
+        Err(error) => Err(fault_of(&error)),
     }
 }

@@ -1,16 +1,19 @@
+use crate::host::command::{Asked, spawn};
 use crate::host::faults::or_fault;
 use crate::host::pace::Pace;
 use crate::system::child::Child;
 use crate::system::os_fault::OsFault;
 use std::fs::File;
-use std::io::ErrorKind;
-use std::process::{Command, ExitStatus, OpenProcess, Processes, Stdio};
+use std::process::{ExitStatus, OpenProcess, Processes};
 use std::rt::Clock;
 use std::time::Duration;
-use std::{io, process, thread};
+use std::{process, thread};
 
-/// How many slices of a millisecond a poll sleeps at the most, so that the time of one more answer has come.
-const SLICES: u32 = 12;
+/// How many slices of a millisecond a poll sleeps at the most: after so many the time of one more answer has come.
+const SLICES: u32 = 20;
+
+/// The limit of a child that was killed, in seconds: as long as 500 answers take.
+const KILLED_LIMIT: u64 = 5;
 
 /// A child of the host, from the first file that is opened for it until its end is told.
 #[derive(Drop)]
@@ -29,13 +32,13 @@ impl<P: OpenProcess + Drop> HostChild<P> {
     ghost use Rattle.std.specs.declared.process.status.ExitStatus.{ExitStatus as Status};
     ghost use Rattle.kt_child.specs.Host.HostStands.{Proceeds, stand_of};
 
-    /// A child that does not run, with the file of its output.
-    pub(crate) fn new(child: Child, out: File) -> HostChild<P>
+    /// A child that does not run, with its limit in seconds and the file of its output.
+    pub(crate) fn new(child: Child, limit: u64, out: File) -> HostChild<P>
         ensures name { result.child ≡ child }
         ensures out { result.out ≡ Some out }
         ensures err { result.err ≡ None }
         ensures stands { stand_of result ≡ None }
-        ensures told { result.pace.told ≡ 0 }
+        ensures limit { result.pace.limit ≡ limit }
         ensures unseen { result.seen ≡ false }
     {
         HostChild {
@@ -43,7 +46,7 @@ impl<P: OpenProcess + Drop> HostChild<P> {
             out: Some(out),
             err: None,
             process: None,
-            pace: Pace::unknown(),
+            pace: Pace::new(limit),
             seen: false,
         }
     }
@@ -66,23 +69,20 @@ impl<P: OpenProcess + Drop> HostChild<P> {
     }
 
     /// Starts it, with an empty input and the two files.
-    pub(crate) fn launch<R: Processes<Started = P> + Clock>(
+    pub(crate) fn launch<R: Processes<Started = P> + Clock + AllocGlobal>(
         &mut self,
         rt: &R,
-        command: &mut Command,
-    ) -> io::Result<()>
+        asked: Asked<'_>,
+    ) -> Result<(), OsFault>
         ensures name { self.new.child ≡ self.old.child }
         ensures started { OnOk result (IsSome (stand_of self.new)) }
         ensures told { OnOk result (self.new.pace.told ≡ 0) }
     {
         let (Some(out), Some(err)) = (self.out.take(), self.err.take()) else {
-            return Err(io::Error::from(ErrorKind::NotFound));
+            return Err(OsFault::Failed);
         };
-        command.stdin(Stdio::null());
-        command.stdout(out);
-        command.stderr(err);
-        self.process = Some(command.spawn(rt)?);
-        self.pace = Pace::starting(rt);
+        self.process = Some(spawn(rt, asked, out, err)?);
+        self.pace.begin(rt);
         Ok(())
     }
 
@@ -94,7 +94,7 @@ impl<P: OpenProcess + Drop> HostChild<P> {
     {
         match &mut self.process {
             Some(process) => or_fault(process.try_wait()),
-            None => Err(OsFault),
+            None => Err(OsFault::Failed),
         }
     }
 
@@ -133,17 +133,22 @@ impl<P: OpenProcess + Drop> HostChild<P> {
         }
     }
 
-    /// Kills it.
-    pub(crate) fn kill(&mut self) -> Result<(), OsFault>
+    /// Kills it. Its 500 answers from then on have the pace of a limit of their own.
+    pub(crate) fn kill<C: Clock>(&mut self, clock: &C) -> Result<(), OsFault>
         ensures name { self.new.child ≡ self.old.child }
         ensures stands { stand_of self.new ≡ stand_of self.old }
         ensures had { OnOk result (IsSome (stand_of self.old)) }
         ensures ended { (status : Status) → stand_of self.old ≡ Some (Some status) → IsOk result }
+        ensures limit { OnOk result (self.new.pace.limit ≡ 5) }
+        ensures told { OnOk result (self.new.pace.told ≡ 0) }
     {
         match &mut self.process {
-            Some(process) => or_fault(process.kill()),
-            None => Err(OsFault),
+            Some(process) => or_fault(process.kill())?,
+            None => return Err(OsFault::Failed),
         }
+        self.pace = Pace::new(KILLED_LIMIT);
+        self.pace.begin(clock);
+        Ok(())
     }
 
     /// Whether it has ended and no pause has seen that. A status that was seen is kept for the next poll.

@@ -2,12 +2,14 @@ ghost use Rattle.std.specs.Prelude.{◌≡◌, ◌==◌, ◌/◌, ◌%◌};
 ghost use Rattle.std.specs.Process.{status_bits};
 ghost use Rattle.kt_child.specs.Host.HostAnswers.{IsPolledOf};
 
-use crate::host::command::command_of;
-use crate::host::faults::or_fault;
+use crate::host::bounds::PAUSE;
+use crate::host::children;
+use crate::host::command::Asked;
+use crate::host::faults::{fault_of, or_fault};
 use crate::host::host_child::HostChild;
 use crate::host::outputs::{create_directory, create_output};
 use crate::host::reads::read_regular;
-use crate::host::{children, removal};
+use crate::host::removal::{Removals, rest};
 use crate::system::child::Child;
 use crate::system::env::EnvPlan;
 use crate::system::file_read::FileRead;
@@ -19,24 +21,24 @@ use std::fs::File;
 use std::os::unix::process::ExitStatusExt;
 use std::process::{ExitStatus, Processes};
 use std::rt::{Clock, Files};
-use std::thread;
-use std::time::{Duration, SystemTime};
-
-/// How long a pause lasts at the most, in milliseconds. The slices of `await_end` are as long.
-const PAUSE: u64 = 10;
+use std::time::SystemTime;
 
 /// After so many pauses in which no child ended, a pause looks for an end no more.
 const QUIET_PAUSES: u32 = 20;
 
 /// The system itself: the processes, files and clocks of the standard library.
 ///
-/// It keeps the real time of its children. A pause sleeps in slices, the first of 50 microseconds and each twice as long as
-/// the one before, up to a millisecond. It is over when a child has ended, at the latest after 10 milliseconds; where
-/// nothing has ended for a while it sleeps in one piece. A poll whose answer `running` would come too early sleeps a little
-/// first.
+/// It keeps the real time of its children. A pause sleeps in slices, the first of 50 microseconds and each a quarter longer.
+/// It is over when a child has ended, at the latest after 10 milliseconds; where nothing has ended for a while it sleeps in
+/// one piece. A poll whose answer `running` would come too early sleeps a little first. The first directory that is made is
+/// the root of all others. A removal that takes long goes on in pauses and at later removals.
 #[derive(Drop)]
-pub struct HostOs<R: Processes> {
+pub struct HostOs<R: Processes + Files> {
     rt: R,
+    /// The removals below the root directory, once it is made.
+    removals: Option<Removals<R::Dir>>,
+    /// The limit that was said last, in seconds: that of the child which is started next.
+    limit: u64,
     children: Vec<HostChild<R::Started>>,
     /// The child whose end was told last, so that this end can be said to be its own.
     last: Option<HostChild<R::Started>>,
@@ -56,17 +58,17 @@ fn polled(status: ExitStatus) -> Result<Polled, OsFault>
     ensures { IsPolledOf (status_bits status) result }
 {
     if let Some(code) = status.code() {
-        let code = u8::try_from(code).map_err(|_| OsFault)?;
+        let code = u8::try_from(code).map_err(|_| OsFault::Failed)?;
         return Ok(Polled::Exited(code));
     }
     if let Some(signal) = status.signal() {
-        let signal = u8::try_from(signal).map_err(|_| OsFault)?;
+        let signal = u8::try_from(signal).map_err(|_| OsFault::Failed)?;
         return Ok(Polled::Signaled(signal, has_core(status)));
     }
-    Err(OsFault)
+    Err(OsFault::Failed)
 }
 
-impl<R: Processes + AllocGlobal + Drop> HostOs<R> {
+impl<R: Processes + Files + AllocGlobal + Drop> HostOs<R> {
     ghost use Rattle.std.specs.Prelude.{◌≡◌, None};
     ghost use Rattle.kt_child.specs.declared.system.child.Child.{Child as Name};
     ghost use Rattle.kt_child.specs.Host.HostStands.{stand_in};
@@ -78,32 +80,12 @@ impl<R: Processes + AllocGlobal + Drop> HostOs<R> {
         let children = Vec::new(rt.alloc());
         HostOs {
             rt,
+            removals: None,
+            limit: 0,
             children,
             last: None,
             quiet: 0,
         }
-    }
-}
-
-impl<R: Processes + Files<File = File> + Clock + AllocGlobal + Drop> HostOs<R> {
-    ghost use Rattle.std.specs.Prelude.{IsSome, OnOk};
-    ghost use Rattle.kt_child.specs.Host.HostStands.{OthersStay, stand_in};
-
-    /// Starts a program for a child of which the files were opened.
-    fn launch(
-        &mut self,
-        child: Child,
-        program: &Text,
-        words: &Items<Text>,
-        env: &EnvPlan,
-        dir: &Text,
-    ) -> Result<(), OsFault>
-        ensures started { OnOk result (IsSome (stand_in self.new.children.items child)) }
-        ensures others { OthersStay child (stand_in self.old.children.items)
-            (stand_in self.new.children.items) }
-    {
-        let mut command = command_of(self.rt.alloc(), program, words, env, dir)?;
-        or_fault(children::launch(&mut self.children, child, &self.rt, &mut command))
     }
 }
 
@@ -116,20 +98,33 @@ impl<R: Processes + Files<File = File> + Clock + AllocGlobal + Clone + Drop> Os 
     ghost leads = { λ old call new. HostLeads (stand_in old.children.items) call
         (stand_in new.children.items) (IsLastEnd new.last) };
 
+    fn set_limit(&mut self, _child: Child, limit: u64) {
+        self.limit = limit;
+    }
+
     fn make_dir(&mut self, path: &Text) -> Result<(), OsFault> {
-        or_fault(create_directory(&self.rt, path.as_str()))
+        match self.removals {
+            Some(_) => or_fault(create_directory(&self.rt, path.as_str())),
+            None => {
+                self.removals = Some(Removals::begin(&self.rt, path)?);
+                Ok(())
+            }
+        }
     }
 
     fn remove_tree(&mut self, path: &Text) -> Result<(), OsFault> {
-        removal::remove_tree(&self.rt, path)
+        match &mut self.removals {
+            Some(removals) => removals.remove_tree(&self.rt, path),
+            None => Err(OsFault::Failed),
+        }
     }
 
     fn open_output(&mut self, child: Child, path: &Text) -> Result<(), OsFault> {
         match create_output(&self.rt, path.as_str()) {
-            Ok(file) => children::keep_output(&mut self.children, child, file),
-            Err(_) => {
+            Ok(file) => children::keep_output(&mut self.children, child, self.limit, file),
+            Err(error) => {
                 children::forget(&mut self.children, child);
-                Err(OsFault)
+                Err(fault_of(&error))
             }
         }
     }
@@ -142,7 +137,13 @@ impl<R: Processes + Files<File = File> + Clock + AllocGlobal + Clone + Drop> Os 
         env: &EnvPlan,
         dir: &Text,
     ) -> Result<(), OsFault> {
-        match self.launch(child, program, words, env, dir) {
+        let asked = Asked {
+            program,
+            words,
+            env,
+            dir,
+        };
+        match children::launch(&mut self.children, child, &self.rt, asked) {
             Ok(()) => Ok(()),
             Err(fault) => {
                 children::forget(&mut self.children, child);
@@ -164,16 +165,16 @@ impl<R: Processes + Files<File = File> + Clock + AllocGlobal + Clone + Drop> Os 
     }
 
     fn kill(&mut self, child: Child) -> Result<(), OsFault> {
-        children::kill(&mut self.children, child)
+        children::kill(&mut self.children, child, &self.rt)
     }
 
     fn pause(&mut self) -> Result<(), OsFault> {
         if self.quiet >= QUIET_PAUSES {
-            thread::sleep(&self.rt, Duration::from_millis(PAUSE));
+            rest(&mut self.removals, &self.rt, PAUSE);
             return Ok(());
         }
         let quiet = self.quiet + 1;
-        let ended = children::await_end(&mut self.children, &self.rt);
+        let ended = children::await_end(&mut self.children, &mut self.removals, &self.rt);
         self.quiet = if ended { 0 } else { quiet };
         Ok(())
     }
@@ -189,8 +190,8 @@ impl<R: Processes + Files<File = File> + Clock + AllocGlobal + Clone + Drop> Os 
     fn now(&mut self) -> Result<u64, OsFault> {
         let now = or_fault(SystemTime::now(&self.rt))?;
         match now.duration_since(SystemTime::UNIX_EPOCH) {
-            Ok(since) => u64::try_from(since.as_millis()).map_err(|_| OsFault),
-            Err(_) => Err(OsFault),
+            Ok(since) => u64::try_from(since.as_millis()).map_err(|_| OsFault::Failed),
+            Err(_) => Err(OsFault::Failed),
         }
     }
 }

@@ -1,5 +1,6 @@
 //! The system of the host.
 
+pub(crate) mod bounds;
 pub(crate) mod children;
 pub(crate) mod command;
 pub(crate) mod faults;

@@ -1,67 +1,77 @@
-ghost use Rattle.std.specs.Prelude.{◌≡◌, ◌↔◌, ◌≤◌, ◌+◌, ◌-◌, ◌/◌, ◌^◌, min, None, IsSomeAnd, IsTrue};
+ghost use Rattle.std.specs.Prelude.{◌≡◌, ◌↔◌, ◌+◌, ◌-◌, ◌/◌, ◌^◌, min, None, IsSomeAnd, IsTrue};
 ghost use Rattle.std.specs.Time.{instant_nanos};
+ghost use Rattle.std.specs.declared.time.Instant.{Instant as Moment};
+ghost use Rattle.kt_child.specs.Host.Paces.{IsEarly};
 
 use std::rt::Clock;
 use std::time::Instant;
 
-/// How many answers `running` a child may give ahead of its real time.
-const AHEAD: u64 = 16;
-
-/// The milliseconds for each answer.
-const PERIOD: u128 = 10;
+/// The milliseconds for each answer of the second half, which is spread over the limit.
+const PERIOD: u128 = 20;
 
 /// The real time of a child, and how often it was told to be running.
 #[derive(Clone, Copy)]
 pub(crate) struct Pace {
     /// Where the clock failed nothing is known, and no answer is early.
     started: Option<Instant>,
+    /// In seconds; 100 answers stand for each.
+    limit: u64,
     told: u64,
 }
 
-/// Whether one more answer `running` would come too early after these milliseconds: one is due in each 10 of them,
-/// and 16 may come ahead.
-fn is_too_early(told: u64, millis: u128) -> bool
-    ensures { IsTrue result ↔ (millis / 10 + 16 ≤ told) }
+/// Whether one more answer `running` would come too early after these milliseconds.
+fn is_too_early(limit: u64, told: u64, millis: u128) -> bool
+    ensures { IsTrue result ↔ IsEarly limit told millis }
 {
-    told >= AHEAD && millis / PERIOD <= u128::from(told - AHEAD)
+    let free = u128::from(limit) * 1_000;
+    let due = (u128::from(told) + 1) * PERIOD;
+    due > free && due - free > millis
 }
 
 impl Pace {
     /// The pace of a child that does not run.
-    pub(crate) fn unknown() -> Pace
-        ensures started { result.started ≡ None }
+    pub(crate) fn new(limit: u64) -> Pace
+        ensures limit { result.limit ≡ limit }
         ensures told { result.told ≡ 0 }
+        ensures started { result.started ≡ None }
     {
         Pace {
             started: None,
+            limit,
             told: 0,
         }
     }
 
-    /// The pace of a child that was just started.
-    pub(crate) fn starting<C: Clock>(clock: &C) -> Pace
-        ensures { result.told ≡ 0 }
+    /// The child begins to run.
+    pub(crate) fn begin<C: Clock>(&mut self, clock: &C)
+        ensures limit { self.new.limit ≡ self.old.limit }
+        ensures told { self.new.told ≡ 0 }
     {
-        Pace {
-            started: Instant::now(clock).ok(),
-            told: 0,
-        }
+        self.started = Instant::now(clock).ok();
+        self.told = 0;
     }
 
-    /// Whether one more answer `running` would come too early at this time, by the nanoseconds since the start.
+    /// Whether one more answer `running` would come too early at this time.
     fn is_early_at(&self, now: Instant) -> bool
-        ensures { IsTrue result ↔ IsSomeAnd self.now.started
-            (λ start. (instant_nanos now - instant_nanos start) / 1000000 / 10 + 16
-            ≤ self.now.told) }
+        ensures { IsTrue result ↔ IsSomeAnd self.now.started (λ start.
+            IsEarly self.now.limit self.now.told
+            ((instant_nanos now - instant_nanos start) / 1000000)) }
     {
         match self.started {
-            Some(started) => is_too_early(self.told, now.duration_since(started).as_millis()),
+            Some(started) => {
+                let millis = now.duration_since(started).as_millis();
+                is_too_early(self.limit, self.told, millis)
+            }
             None => false,
         }
     }
 
     /// Whether one more answer `running` would come too early.
-    pub(crate) fn is_early<C: Clock>(&self, clock: &C) -> bool {
+    pub(crate) fn is_early<C: Clock>(&self, clock: &C) -> bool
+        ensures { IsTrue result → (now : Moment) × IsSomeAnd self.now.started (λ start.
+            IsEarly self.now.limit self.now.told
+            ((instant_nanos now - instant_nanos start) / 1000000)) }
+    {
         match Instant::now(clock) {
             Ok(now) => self.is_early_at(now),
             Err(_) => false,
@@ -71,6 +81,7 @@ impl Pace {
     /// Counts an answer `running`.
     pub(crate) fn tell(&mut self)
         ensures told { self.new.told ≡ min (self.old.told + 1) (2 ^ 64 - 1) }
+        ensures limit { self.new.limit ≡ self.old.limit }
         ensures started { self.new.started ≡ self.old.started }
     {
         self.told = self.told.saturating_add(1);

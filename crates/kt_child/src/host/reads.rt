@@ -1,7 +1,7 @@
 ghost use Rattle.std.specs.Prelude.{◌≡◌, ◌≢◌, ◌+◌, ◌≤◌, ◌<◌, length, take, drop, Some, MatchResult, IfOk, OnOk, IfSome, IsSomeAnd};
 ghost use Rattle.std.specs.IoError.{error_kind};
 ghost use Rattle.kt_child.specs.Host.HostAnswers.{IsFront, IsHostRead, IsOpened, IsUnopened};
-ghost use Rattle.kt_child.specs.Host.HostFiles.{TakesAtMost, TakesPiece};
+ghost use Rattle.kt_child.specs.Host.HostFiles.{IsAt, TakesAtMost, TakesPiece};
 
 use crate::host::faults::or_fault;
 use crate::system::file_read::FileRead;
@@ -68,12 +68,11 @@ pub fn read_front<F: Read>(alloc: Global, file: &mut F, limit: u64) -> Result<Fi
     ensures within { IsHostRead limit result }
     ensures opened { IsOpened result }
     ensures front { IfSome (F.remaining file.old) (λ xs. IsFront limit xs result) }
-    ensures past { IfSome (F.remaining file.old)
-        (λ xs. IsSomeAnd (F.remaining file.new) (λ ys. length xs ≤ length ys + limit + 1)) }
+    ensures past { TakesAtMost (limit + 1) (F.remaining file.old) (F.remaining file.new) }
 {
     let bytes = match read_start(alloc, file, limit as usize) {
         Ok(bytes) => bytes,
-        Err(_fault) => return Err(OsFault),
+        Err(_fault) => return Err(OsFault::Failed),
     };
     if (bytes.len() as u64) < limit {
         return Ok(FileRead::Part(bytes, false));
@@ -97,11 +96,23 @@ fn unopened(error: &io::Error) -> Result<FileRead, OsFault>
 {
     match error.kind() {
         ErrorKind::NotFound => Ok(FileRead::Missing),
-        _ => Err(OsFault),
+        _ => Err(OsFault::Failed),
     }
 }
 
-/// Reads a file from the byte `from` on.
+/// Goes to the byte `from` of a file that was just opened.
+fn go_to<F: Seek>(file: &mut F, from: u64) -> Result<(), OsFault>
+    ensures stays { from ≡ 0 → file.new ≡ file.old }
+    ensures there { OnOk result (IsAt from (F.stream_position file.old)
+        (F.stream_position file.new)) }
+{
+    if from > 0 {
+        or_fault(file.seek(SeekFrom::Start(from)))?;
+    }
+    Ok(())
+}
+
+/// Reads a file from the byte `from` on. Only one read goes on from there, and it stops as `read_front` does.
 fn read_from<F: Read + Seek>(
     alloc: Global,
     file: &mut F,
@@ -110,11 +121,12 @@ fn read_from<F: Read + Seek>(
 ) -> Result<FileRead, OsFault>
     ensures within { IsHostRead limit result }
     ensures opened { IsOpened result }
-    ensures front { from ≡ 0 → IfSome (F.remaining file.old) (λ xs. IsFront limit xs result) }
+    ensures front { (at : F) × (from ≡ 0 → at ≡ file.old)
+        × OnOk result (IsAt from (F.stream_position file.old) (F.stream_position at))
+        × IfSome (F.remaining at) (λ xs. IsFront limit xs result)
+        × TakesAtMost (limit + 1) (F.remaining at) (F.remaining file.new) }
 {
-    if from > 0 {
-        or_fault(file.seek(SeekFrom::Start(from)))?;
-    }
+    go_to(file, from)?;
     read_front(alloc, file, limit)
 }
 

@@ -1,189 +1,320 @@
-ghost use Rattle.std.specs.Prelude.{◌≡◌, ℕ, List, None, IfOk, IfSome};
-ghost use Rattle.kt_child.specs.Host.Removals.{IsMovedPath, LiesIn};
-ghost use Rattle.kt_child.specs.Driving.Roots.{root_of};
+ghost use Rattle.std.specs.Prelude.{◌≡◌, ◌++◌, ◌∷◌, IfSome};
 
 use crate::driving::roots::root_path;
+use crate::host::bounds::{AT_ONCE, Bound};
 use crate::host::faults::or_fault;
+use crate::host::outputs::create_directory;
 use crate::planning::workdir::attempt_path;
 use crate::system::os_fault::OsFault;
 use kt_base::{NoMemory, Text};
+use kt_entries::is_dots;
 use std::alloc::Global;
-use std::fs::Permissions;
-use std::io::ErrorKind;
-use std::os::unix::fs::PermissionsExt;
-use std::rt::Files;
-use std::{fs, io};
+use std::io::{ErrorKind, Read};
+use std::rt::{Clock, Files};
+use std::time::Duration;
+use std::{fs, thread};
 
-/// The rights of a directory's owner to read it, to change it and to pass through it.
-const OWNER_RIGHTS: u32 = 0o700;
+/// The size of the pieces in which names are read, in bytes: 42 names at the most.
+const PIECE: usize = 1_024;
 
-/// The directories that were moved up in a tree which is being removed. They lie in a new directory of that tree, so each
-/// path stays short, however deep a directory was.
+/// The removals below a root directory, which go on a step at a time.
+///
+/// A directory that isn't empty is moved into a directory of the root, `kyua.0`, and called `0`, `1` and so on there. It is
+/// emptied in its turn, so each path stays short, however deep a directory was.
 #[derive(Drop)]
-struct Moved {
-    /// Where they lie; nothing before the first is moved.
-    place: Option<Text>,
-    /// How many were moved. They are called `0`, `1` and so on.
-    count: u64,
+pub(crate) struct Removals<D> {
+    root: Text,
+    /// How many were moved.
+    moved: u64,
+    /// How many of them are done.
+    done: u64,
+    /// The names of the next one, from where it was read to.
+    names: Option<D>,
+    /// Whether anything was removed since the last one was done.
+    progress: bool,
+    /// How many removals were asked for.
+    asked: u32,
 }
 
-/// Gives its owner all rights to a directory. Returns false if the path is no directory; a link to one is none.
-fn open_up<R: Files>(rt: &R, path: &str) -> bool {
-    match fs::symlink_metadata(rt, path) {
-        Ok(metadata) => {
-            if !metadata.is_dir() {
-                return false;
-            }
-            if metadata.permissions().mode() & OWNER_RIGHTS != OWNER_RIGHTS {
-                let _ = fs::set_permissions(rt, path, Permissions::from_mode(OWNER_RIGHTS));
-            }
-            true
-        }
-        Err(_) => false,
-    }
-}
-
-/// Makes a new directory in a tree: the first of `kyua.0`, `kyua.1` and so on that isn't there.
-fn make_place<R: Files + AllocGlobal>(rt: &R, tree: &Text) -> Result<Text, OsFault>
-    ensures { IfOk result (λ place. (n : ℕ) × (place ≡ root_of tree.now n)) }
+/// The first of some names, which a byte 0 ends, and the others.
+fn split_name(names: &[u8]) -> Option<(&[u8], &[u8])>
+    ensures { IfSome result (λ parts. names.now ≡ parts.0.now ++ 0 ∷ parts.1.now) }
 {
-    for number in 0..u64::MAX {
-        let place = root_path(rt.alloc(), tree, number)?;
-        match fs::create_dir(rt, place.as_str()) {
-            Ok(()) => return Ok(place),
-            Err(error) => {
-                if error.kind() != ErrorKind::AlreadyExists {
-                    return Err(OsFault);
-                }
+    let end = names.iter().position(|byte| *byte == 0)?;
+    Some((&names[..end], &names[end + 1..]))
+}
+
+/// Removes an empty directory, or what a process put in the place of one.
+fn is_removed<R: Files>(rt: &R, path: &Text) -> bool {
+    fs::remove_dir(rt, path.as_str()).is_ok() || fs::remove_file(rt, path.as_str()).is_ok()
+}
+
+impl<D: Read + Drop> Removals<D> {
+    ghost use Rattle.std.specs.Prelude.{◌<◌, ◌↔◌, IfOk, IsSome, IsTrue};
+    ghost use Rattle.kt_child.specs.Host.Removals.{moved_dir, moved_root};
+
+    /// Makes a root directory, and in it the one for what is moved.
+    pub(crate) fn begin<R: Files + AllocGlobal>(rt: &R, root: &Text) -> Result<Removals<D>, OsFault>
+        ensures { IfOk result (λ removals. removals.root ≡ root.now) }
+    {
+        let kept = root.copy()?;
+        let place = root_path(rt.alloc(), root, 0)?;
+        or_fault(create_directory(rt, root.as_str()))?;
+        if let Err(fault) = or_fault(create_directory(rt, place.as_str())) {
+            let _ = fs::remove_dir(rt, root.as_str());
+            return Err(fault);
+        }
+        Ok(Removals {
+            root: kept,
+            moved: 0,
+            done: 0,
+            names: None,
+            progress: false,
+            asked: 0,
+        })
+    }
+
+    /// The directory for what is moved.
+    fn place(&self, alloc: Global) -> Result<Text, NoMemory>
+        ensures { IfOk result (λ path. path ≡ moved_root self.now.root) }
+    {
+        root_path(alloc, &self.root, 0)
+    }
+
+    /// The path of a directory that was moved, by its number.
+    fn moved_path(&self, alloc: Global, number: u64) -> Result<Text, NoMemory>
+        ensures { IfOk result (λ path. path ≡ moved_dir self.now.root number) }
+    {
+        let place = self.place(alloc)?;
+        attempt_path(alloc, &place, number)
+    }
+
+    /// The path of the next directory to be moved.
+    fn next_path(&self, alloc: Global) -> Result<Text, NoMemory>
+        ensures { IfOk result (λ path. path ≡ moved_dir self.now.root self.now.moved) }
+    {
+        self.moved_path(alloc, self.moved)
+    }
+
+    /// Whether a moved directory is left.
+    fn is_pending(&self) -> bool
+        ensures { IsTrue result ↔ (self.now.done < self.now.moved) }
+    {
+        self.done < self.moved
+    }
+
+    /// The path of the next directory to be emptied.
+    fn path(&self, alloc: Global) -> Result<Option<Text>, NoMemory>
+        ensures path { IfOk result (λ found. IfSome found
+            (λ path. path ≡ moved_dir self.now.root self.now.done)) }
+        ensures some { IfOk result (λ found. IsSome found ↔ (self.now.done < self.now.moved)) }
+    {
+        if !self.is_pending() {
+            return Ok(None);
+        }
+        Ok(Some(self.moved_path(alloc, self.done)?))
+    }
+
+    /// Moves a directory to the others.
+    fn take<R: Files + AllocGlobal>(&mut self, rt: &R, path: &[u8]) -> Result<(), OsFault>
+        ensures { self.new.root ≡ self.old.root }
+    {
+        let to = self.next_path(rt.alloc())?;
+        // A number at which something was put is passed over.
+        self.moved = self.moved.saturating_add(1);
+        or_fault(kt_entries::move_directory(rt, path, &to))
+    }
+
+    /// Whether a path is that of the directory for what is moved.
+    fn is_place(&self, alloc: Global, path: &[u8]) -> bool {
+        match self.place(alloc) {
+            Ok(place) => place.as_bytes() == path,
+            Err(_) => true,
+        }
+    }
+
+    /// Removes or moves an entry that is no file.
+    fn remove_directory<R: Files + AllocGlobal>(&mut self, rt: &R, path: &[u8])
+        ensures { self.new.root ≡ self.old.root }
+    {
+        let cause = match kt_entries::remove_directory(rt, path) {
+            Ok(()) => {
+                self.progress = true;
+                return;
+            }
+            Err(error) => error.kind(),
+        };
+        // Nothing else is busy.
+        if cause == ErrorKind::ResourceBusy {
+            kt_entries::empty_mounted(rt, path);
+        } else if kt_entries::open_up_entry(rt, path, cause) {
+            let _ = self.take(rt, path);
+        }
+    }
+
+    /// Removes an entry of a directory. A directory that isn't empty is moved.
+    fn remove_entry<R: Files + AllocGlobal>(&mut self, rt: &R, directory: &Text, name: &[u8])
+        ensures { self.new.root ≡ self.old.root }
+    {
+        let Ok(path) = kt_entries::entry_path(rt.alloc(), directory, name) else {
+            return;
+        };
+        if kt_entries::remove_file(rt, path.as_slice()).is_ok() {
+            self.progress = true;
+        } else if !self.is_place(rt.alloc(), path.as_slice()) {
+            self.remove_directory(rt, path.as_slice());
+        }
+    }
+
+    /// Removes the entries of a directory that have these names.
+    fn remove_names<R: Files + AllocGlobal>(&mut self, rt: &R, directory: &Text, names: &[u8])
+        ensures { self.new.root ≡ self.old.root }
+    {
+        let mut left = names;
+        for _ in 0..PIECE {
+            let Some((name, rest)) = split_name(left) else {
+                return;
+            };
+            if !is_dots(name) {
+                self.remove_entry(rt, directory, name);
+            }
+            left = rest;
+        }
+    }
+
+    /// Removes the next entries of a directory. Returns false at its end.
+    fn remove_piece<R: Files + AllocGlobal>(
+        &mut self,
+        rt: &R,
+        directory: &Text,
+        names: &mut D,
+    ) -> bool
+        ensures { self.new.root ≡ self.old.root }
+    {
+        let mut buffer = [0u8; PIECE];
+        match names.read(&mut buffer) {
+            Ok(count) => {
+                self.remove_names(rt, directory, &buffer[..count]);
+                count > 0
+            }
+            Err(_) => false,
+        }
+    }
+
+    /// A moved directory is done. One to which something was added meanwhile is moved to the end.
+    fn finish<R: Files + AllocGlobal>(&mut self, rt: &R, path: &Text)
+        ensures { self.new.root ≡ self.old.root }
+    {
+        if !is_removed(rt, path) && self.progress {
+            let _ = self.take(rt, path.as_bytes());
+        }
+        self.progress = false;
+        self.done = self.done.saturating_add(1);
+    }
+
+    /// Goes on with the moved directories, for one piece of names. Returns false where none is left.
+    fn step<R: Files<Dir = D> + AllocGlobal>(&mut self, rt: &R) -> bool
+        ensures { self.new.root ≡ self.old.root }
+    {
+        let Ok(Some(path)) = self.path(rt.alloc()) else {
+            return false;
+        };
+        let names = match self.names.take() {
+            Some(names) => Some(names),
+            None => kt_entries::open_names(rt, &path),
+        };
+        if let Some(mut names) = names {
+            if self.remove_piece(rt, &path, &mut names) {
+                self.names = Some(names);
+                return true;
+            }
+        }
+        self.finish(rt, &path);
+        true
+    }
+
+    /// Goes on with the moved directories, within a bound.
+    fn go_on<R: Files<Dir = D> + Clock + AllocGlobal>(&mut self, rt: &R, bound: &Bound)
+        ensures { self.new.root ≡ self.old.root }
+    {
+        for steps in 0..bound.micros {
+            if bound.is_over(rt, steps) || !self.step(rt) {
+                return;
             }
         }
     }
-    Err(OsFault)
-}
 
-impl Moved {
-    fn new() -> Moved
-        ensures { result.place ≡ None }
+    /// Empties a directory where it lies, within a bound.
+    fn empty<R: Files<Dir = D> + Clock + AllocGlobal>(
+        &mut self,
+        rt: &R,
+        directory: &Text,
+        bound: &Bound,
+    )
+        ensures { self.new.root ≡ self.old.root }
     {
-        Moved {
-            place: None,
-            count: 0,
+        let Some(mut names) = kt_entries::open_names(rt, directory) else {
+            return;
+        };
+        for steps in 0..bound.micros {
+            if bound.is_over(rt, steps) || !self.remove_piece(rt, directory, &mut names) {
+                return;
+            }
         }
     }
 
-    /// Whether a path is that of the directory in which they lie.
-    fn lies_at(&self, path: &str) -> bool {
-        match &self.place {
-            Some(place) => place.as_str() == path,
-            None => false,
-        }
-    }
-
-    /// The path of the next one. The directory in which they lie is made before the first.
-    fn next_path<R: Files + AllocGlobal>(&mut self, rt: &R, tree: &Text) -> Result<Text, OsFault>
-        requires { LiesIn tree.now self.old.place }
-        ensures path { IfOk result (λ path. IsMovedPath tree.now self.old.count path) }
-        ensures place { LiesIn tree.now self.new.place }
-        ensures count { self.new.count ≡ self.old.count }
+    /// Removes the root directory, with all that was left.
+    fn close<R: Files<Dir = D> + Clock + AllocGlobal>(&mut self, rt: &R) -> Result<(), OsFault>
+        ensures { self.new.root ≡ self.old.root }
     {
-        if let Some(place) = &self.place {
-            return Ok(attempt_path(rt.alloc(), place, self.count)?);
-        }
-        let place = make_place(rt, tree)?;
-        let path = attempt_path(rt.alloc(), &place, self.count)?;
-        self.place = Some(place);
-        Ok(path)
+        let root = self.root.copy()?;
+        let place = self.place(rt.alloc())?;
+        // A test may have removed it.
+        let _ = fs::create_dir(rt, place.as_str());
+        let bound = Bound::closing(rt, self.asked);
+        self.empty(rt, &root, &bound);
+        self.go_on(rt, &bound);
+        let _ = fs::remove_dir(rt, place.as_str());
+        or_fault(fs::remove_dir(rt, root.as_str()))
     }
 
-    /// Moves a directory to them.
-    fn take<R: Files + AllocGlobal>(
+    /// Removes a directory with all that it holds. No link is followed. What would take too long is left for later, in the
+    /// place for it; but for the root itself, where it lies.
+    pub(crate) fn remove_tree<R: Files<Dir = D> + Clock + AllocGlobal>(
         &mut self,
         rt: &R,
         tree: &Text,
-        path: &str,
     ) -> Result<(), OsFault>
-        requires { LiesIn tree.now self.old.place }
-        ensures { LiesIn tree.now self.new.place }
+        ensures { self.new.root ≡ self.old.root }
     {
-        let to = self.next_path(rt, tree)?;
-        or_fault(fs::rename(rt, path, to.as_str()))?;
-        self.count = self.count.saturating_add(1);
-        Ok(())
-    }
-
-    /// The path of one of them.
-    fn path_of(&self, alloc: Global, number: u64) -> Result<Option<Text>, NoMemory>
-        ensures { (tree : List ℕ) → LiesIn tree self.now.place
-            → IfOk result (λ found. IfSome found (IsMovedPath tree number)) }
-    {
-        match &self.place {
-            Some(place) => {
-                if number < self.count {
-                    return Ok(Some(attempt_path(alloc, place, number)?));
-                }
-                Ok(None)
-            }
-            None => Ok(None),
+        if tree.as_str() == self.root.as_str() {
+            return self.close(rt);
         }
-    }
-}
-
-/// Removes an entry of a directory. A directory that isn't empty is moved.
-fn remove_entry<R: Files + AllocGlobal>(rt: &R, tree: &Text, path: &str, moved: &mut Moved)
-    requires { LiesIn tree.now moved.old.place }
-    ensures { LiesIn tree.now moved.new.place }
-{
-    if fs::remove_file(rt, path).is_ok() || moved.lies_at(path) {
-        return;
-    }
-    if fs::remove_dir(rt, path).is_ok() || !open_up(rt, path) {
-        return;
-    }
-    let _ = moved.take(rt, tree, path);
-}
-
-/// Removes what a directory holds; its directories that aren't empty are moved.
-fn clear<R: Files + AllocGlobal + Clone + Drop>(rt: &R, tree: &Text, path: &Text, moved: &mut Moved)
-    requires { LiesIn tree.now moved.old.place }
-    ensures { LiesIn tree.now moved.new.place }
-{
-    // A link in the place of the directory is not passed.
-    if !open_up(rt, path.as_str()) {
-        return;
-    }
-    let Ok(entries) = fs::read_dir(rt, path.as_str()) else {
-        return;
-    };
-    for entry in entries {
-        // A name that isn't UTF-8 is left to the library.
-        if let Ok(entry) = entry {
-            remove_entry(rt, tree, entry.path().to_string_lossy(), moved);
-        }
-    }
-}
-
-/// Removes a directory that was cleared, with what couldn't be.
-fn remove_rest<R: Files + AllocGlobal>(rt: &R, path: &Text) -> io::Result<()> {
-    if fs::remove_dir(rt, path.as_str()).is_ok() {
-        return Ok(());
-    }
-    fs::remove_dir_all(rt, path.as_str())
-}
-
-/// Removes a directory with all that it holds. The time grows with the number of its files and directories, since each
-/// directory is moved once at the most and emptied at a path that is no longer for lying deep. No link is followed.
-pub(crate) fn remove_tree<R: Files + AllocGlobal + Clone + Drop>(
-    rt: &R,
-    tree: &Text,
-) -> Result<(), OsFault> {
-    let mut moved = Moved::new();
-    clear(rt, tree, tree, &mut moved);
-    for number in 0..u64::MAX {
-        let Ok(Some(path)) = moved.path_of(rt.alloc(), number) else {
-            break;
+        self.asked = self.asked.saturating_add(1);
+        let bound = Bound::starting(rt, AT_ONCE);
+        self.empty(rt, tree, &bound);
+        let gone = if is_removed(rt, tree) {
+            Ok(())
+        } else {
+            self.take(rt, tree.as_bytes())
         };
-        clear(rt, tree, &path, &mut moved);
-        let _ = remove_rest(rt, &path);
+        self.go_on(rt, &bound);
+        gone
     }
-    or_fault(remove_rest(rt, tree))
+}
+
+/// Lets some microseconds go by: with what removals have left, else asleep.
+pub(crate) fn rest<R: Files + Clock + AllocGlobal>(
+    removals: &mut Option<Removals<R::Dir>>,
+    rt: &R,
+    micros: u64,
+) {
+    if let Some(removals) = removals {
+        if removals.is_pending() {
+            let bound = Bound::starting(rt, micros);
+            removals.go_on(rt, &bound);
+            return;
+        }
+    }
+    thread::sleep(rt, Duration::from_micros(micros));
 }

@@ -1,10 +1,8 @@
 //! How running children are watched, in turns of polls.
 
-pub(crate) mod open_turn;
 pub(crate) mod over;
 pub(crate) mod polls;
 pub(crate) mod turn;
 pub(crate) mod turns;
-pub(crate) mod waits;
 pub(crate) mod watch;
 pub(crate) mod watched;

@@ -1,6 +1,6 @@
-ghost use Rattle.std.specs.Prelude.{◌≡◌, ℕ, ◌<◌, List, All, IfSome, length, None};
+ghost use Rattle.std.specs.Prelude.{◌≡◌, ◌<◌, List, All, IfSome, length, None};
 ghost use Rattle.kt_child.specs.System.Calls.{Call, Chain};
-ghost use Rattle.kt_child.specs.Polling.Turns.{IsOn, PolledAll, PolledUntil, WaitedUntil, advanced_below, after_turns};
+ghost use Rattle.kt_child.specs.Polling.Turns.{IsOn, PolledAll, PolledUntil, WaitedOn, advanced_below};
 
 use crate::polling::over::Over;
 use crate::polling::polls::poll_once;
@@ -33,14 +33,14 @@ pub(crate) fn turn<O: Os>(os: &mut O, children: &mut [Watched]) -> Option<Over>
 }
 
 /// Polls turn by turn, with a pause after each in which no child is over, up to the first child that is over.
-pub(crate) fn wait<O: Os>(os: &mut O, children: &mut [Watched]) -> Over
+pub fn wait<O: Os>(os: &mut O, children: &mut [Watched]) -> Over
     requires some { 0 < length children.old }
     requires on { All IsOn children.old }
-    ensures waited { (turns : ℕ) × (calls : List Call) × Chain O.leads os.old calls os.new
-        × WaitedUntil turns children.old calls result.place result.outcome
-        × (children.new ≡ advanced_below result.place (after_turns turns children.old)) }
+    ensures waited { (calls : List Call) × Chain O.leads os.old calls os.new
+        × WaitedOn children.old calls result.place result.outcome children.new }
     ensures on { All IsOn children.new }
     ensures place { result.place < length children.old }
+    ensures same { length children.new ≡ length children.old }
 {
     'turns: loop {
         match turn(os, children) {

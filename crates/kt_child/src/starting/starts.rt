@@ -1,50 +1,104 @@
-ghost use Rattle.std.specs.Prelude.{◌≡◌, ◌≤◌, ℕ, List, Result, Ok, IfOk};
+ghost use Rattle.std.specs.Prelude.{◌≡◌, ◌≤◌, ◌∷◌, [], ℕ, List, Result, Ok, IfOk};
 ghost use Rattle.kt_child.specs.declared.system.os_fault.OsFault.{OsFault};
 ghost use Rattle.kt_child.specs.System.Calls.{Call, Chain, Now};
 ghost use Rattle.kt_child.specs.System.Moments.{moment_of};
-ghost use Rattle.kt_child.specs.Starting.Starts.{Settles, Started, StartedAfresh, Tried, child_asks, furnish_asks};
+ghost use Rattle.kt_child.specs.Starting.Starts.{SetUp, SetUpIn, SetUpNew, Started, Tried, child_asks, furnish_asks, spawn_ask, spawned};
 
+use crate::ending::ends::remove_if;
 use crate::planning::spawning::Spawning;
-use crate::starting::new_starts::set_up;
+use crate::polling::watch::fresh_watch;
+use crate::polling::watched::Watched;
+use crate::starting::refusals::cause_of;
 use crate::system::moments::moment;
 use crate::system::os::Os;
-use kt_base::{LATEST_MOMENT, Refused, Text};
+use kt_base::{LATEST_MOMENT, Refused, Role};
+
+/// A child that was just spawned.
+pub(crate) fn spawned(plan: &Spawning) -> Watched
+    ensures { result ≡ spawned plan.now }
+{
+    Watched {
+        child: plan.child,
+        limit: plan.limit,
+        watch: fresh_watch(),
+    }
+}
+
+fn spawn<O: Os>(os: &mut O, plan: &Spawning) -> Result<(), Refused>
+    ensures { (calls : List Call) × Chain O.leads os.old calls os.new
+        × Tried (spawn_ask plan.now ∷ []) calls result }
+{
+    match os.spawn(
+        plan.child,
+        &plan.program,
+        &plan.words,
+        &plan.env,
+        &plan.work,
+    ) {
+        Ok(()) => Ok(()),
+        Err(fault) => Err(cause_of(Refused::Spawn, fault)),
+    }
+}
 
 /// Opens the two outputs and spawns the child.
 fn open_and_spawn<O: Os>(os: &mut O, plan: &Spawning) -> Result<(), Refused>
     ensures { (calls : List Call) × Chain O.leads os.old calls os.new
         × Tried (child_asks plan.now) calls result }
 {
-    if os.open_output(plan.child, &plan.out).is_err() {
-        return Err(Refused::Output);
+    if let Err(fault) = os.open_output(plan.child, &plan.out) {
+        return Err(cause_of(Refused::Output, fault));
     }
-    if os.open_output(plan.child, &plan.err).is_err() {
-        return Err(Refused::Output);
+    if let Err(fault) = os.open_output(plan.child, &plan.err) {
+        return Err(cause_of(Refused::Output, fault));
     }
-    if os
-        .spawn(
-            plan.child,
-            &plan.program,
-            &plan.words,
-            &plan.env,
-            &plan.work,
-        )
-        .is_err()
-    {
-        return Err(Refused::Spawn);
-    }
-    Ok(())
+    spawn(os, plan)
 }
 
 /// Makes the work directory, and then as above.
-pub(crate) fn furnish<O: Os>(os: &mut O, plan: &Spawning) -> Result<(), Refused>
+fn furnish<O: Os>(os: &mut O, plan: &Spawning) -> Result<(), Refused>
     ensures { (calls : List Call) × Chain O.leads os.old calls os.new
         × Tried (furnish_asks plan.now) calls result }
 {
-    if os.make_dir(&plan.work).is_err() {
-        return Err(Refused::Directory);
+    if let Err(fault) = os.make_dir(&plan.work) {
+        return Err(cause_of(Refused::Directory, fault));
     }
     open_and_spawn(os, plan)
+}
+
+/// Starts a body or a list in a new directory, which is removed if the start is refused behind it.
+fn set_up_new<O: Os>(os: &mut O, plan: &Spawning) -> Result<(), Refused>
+    ensures { (calls : List Call) × Chain O.leads os.old calls os.new
+        × SetUpNew (furnish_asks plan.now) plan.now.dir calls result }
+{
+    if let Err(fault) = os.make_dir(&plan.dir) {
+        return Err(cause_of(Refused::Directory, fault));
+    }
+    let tried = furnish(os, plan);
+    remove_if(os, tried.is_err(), &plan.dir);
+    tried
+}
+
+/// Starts a cleanup in the directory of its body, which is removed if the start is refused.
+fn set_up_in<O: Os>(os: &mut O, plan: &Spawning) -> Result<(), Refused>
+    ensures { (calls : List Call) × Chain O.leads os.old calls os.new
+        × SetUpIn (child_asks plan.now) plan.now.dir calls result }
+{
+    let tried = open_and_spawn(os, plan);
+    remove_if(os, tried.is_err(), &plan.dir);
+    tried
+}
+
+/// Starts a child, and asks for no moment.
+pub(crate) fn set_up<O: Os>(os: &mut O, plan: &Spawning) -> Result<(), Refused>
+    ensures { (calls : List Call) × Chain O.leads os.old calls os.new
+        × SetUp plan.now calls result }
+{
+    // First, since the system keeps the child's time from its start on.
+    os.set_limit(plan.child, plan.limit);
+    match plan.child.role {
+        Role::Body => set_up_new(os, plan),
+        Role::Cleanup => set_up_in(os, plan),
+    }
 }
 
 /// Asks for the moment of a start that succeeded.
@@ -56,39 +110,14 @@ fn stamp<O: Os>(os: &mut O) -> Result<u64, Refused>
     Ok(moment(os))
 }
 
-/// Asks for the moment of a start that succeeded, and for the removal after one that was refused.
-fn settle<O: Os>(os: &mut O, dir: &Text, tried: Result<(), Refused>) -> Result<u64, Refused>
-    ensures settled { (last : Call) × O.leads os.old last os.new
-        × Settles dir.now tried last result }
-    ensures range { IfOk result (λ moment. moment ≤ LATEST_MOMENT) }
-{
-    match tried {
-        Ok(()) => stamp(os),
-        Err(cause) => {
-            let _ = os.remove_tree(dir);
-            Err(cause)
-        }
-    }
-}
-
-/// Starts a body in a new directory, and answers the moment, in milliseconds since 1970 in UTC.
-pub fn start_body<O: Os>(os: &mut O, dir: &Text, plan: &Spawning) -> Result<u64, Refused>
+/// Starts a child, and answers the moment, in milliseconds since 1970 in UTC.
+pub fn start_child<O: Os>(os: &mut O, plan: &Spawning) -> Result<u64, Refused>
     ensures asked { (calls : List Call) × Chain O.leads os.old calls os.new
-        × StartedAfresh (furnish_asks plan.now) dir.now calls result }
+        × Started plan.now calls result }
     ensures range { IfOk result (λ moment. moment ≤ LATEST_MOMENT) }
 {
-    match set_up(os, dir, plan) {
+    match set_up(os, plan) {
         Ok(()) => stamp(os),
         Err(cause) => Err(cause),
     }
-}
-
-/// Starts a cleanup in the directory of its body, and answers the moment, in milliseconds since 1970 in UTC.
-pub fn start_cleanup<O: Os>(os: &mut O, dir: &Text, plan: &Spawning) -> Result<u64, Refused>
-    ensures asked { (calls : List Call) × Chain O.leads os.old calls os.new
-        × Started (child_asks plan.now) dir.now calls result }
-    ensures range { IfOk result (λ moment. moment ≤ LATEST_MOMENT) }
-{
-    let tried = open_and_spawn(os, plan);
-    settle(os, dir, tried)
 }

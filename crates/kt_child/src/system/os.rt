@@ -9,15 +9,19 @@ use kt_base::{Items, Text};
 /// leads from which state to which.
 pub trait Os {
     ghost use Rattle.std.specs.Prelude.{◌≡◌, ℕ, is_ok};
-    ghost use Rattle.kt_child.specs.System.Calls.{Call, Kill, MakeDir, Now, OpenOutput, Pause, Poll, ReadFile, ReadPart, RemoveTree, Spawn};
+    ghost use Rattle.kt_child.specs.System.Calls.{Call, Kill, MakeDir, Now, OpenOutput, Pause, Poll, ReadFile, ReadPart, RemoveTree, SetLimit, Spawn};
     ghost use Rattle.kt_child.specs.Ending.Reads.{IsReadWithin};
 
     /// Whether a question with its answer leads from the first state to the second.
     ghost leads: { Self → Call → Self → Type 0 };
 
+    /// Says how long a child may run, in seconds, before anything else of its start.
+    fn set_limit(&mut self, child: Child, limit: u64)
+        ensures { leads self.old (SetLimit child limit) self.new };
+
     /// Makes a directory. One that is there already is a failure.
     fn make_dir(&mut self, path: &Text) -> Result<(), OsFault>
-        ensures { leads self.old (MakeDir path.now (is_ok result)) self.new };
+        ensures { leads self.old (MakeDir path.now result) self.new };
 
     /// Removes a directory with all that it holds. No link is followed.
     fn remove_tree(&mut self, path: &Text) -> Result<(), OsFault>
@@ -25,7 +29,7 @@ pub trait Os {
 
     /// Makes a new file for an output of a child. One that is there already is a failure.
     fn open_output(&mut self, child: Child, path: &Text) -> Result<(), OsFault>
-        ensures { leads self.old (OpenOutput child path.now (is_ok result)) self.new };
+        ensures { leads self.old (OpenOutput child path.now result) self.new };
 
     /// Starts a program with these words behind its path, in this environment and directory, with an empty input.
     /// Its output and its errors go to the two files that were opened for it, in that order.
@@ -37,10 +41,10 @@ pub trait Os {
         env: &EnvPlan,
         dir: &Text,
     ) -> Result<(), OsFault>
-        ensures { leads self.old (Spawn child program.now words.now env.now dir.now (is_ok result))
-            self.new };
+        ensures { leads self.old (Spawn child program.now words.now env.now dir.now result) self.new };
 
-    /// Asks how a child stands, and does not wait for it.
+    /// Asks how a child stands. It does not wait for its end; it may wait so that `running` is not answered too early
+    /// for the child's limit.
     fn poll(&mut self, child: Child) -> Result<Polled, OsFault>
         ensures { leads self.old (Poll child result) self.new };
 

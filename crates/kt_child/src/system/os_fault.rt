@@ -1,17 +1,24 @@
+ghost use Rattle.std.specs.Prelude.{◌≡◌};
+ghost use Rattle.kt_child.specs.declared.system.os_fault.OsFault.TheVariants as fault;
+
 use kt_base::NoMemory;
 use thiserror::Error;
 
-/// A call to the system that failed. Why it failed changes nothing, so it is not told.
+/// Why a call to the system failed.
 #[derive(Clone, Copy, Debug, PartialEq, Eq, Error)]
-#[error("system call failed")]
-pub struct OsFault;
+pub enum OsFault {
+    /// Any other cause. It changes nothing, so it is not told.
+    #[error("system call failed")]
+    Failed,
+    /// The call itself was refused memory.
+    #[error("out of memory")]
+    Memory(NoMemory),
+}
 
 impl From<NoMemory> for OsFault {
-    ghost use Rattle.std.specs.Prelude.{◌≡◌};
+    ghost from_gives = { λ refusal e. e ≡ fault.Memory refusal };
 
-    ghost from_gives = { λ _ fault. fault ≡ record {} };
-
-    fn from(_refusal: NoMemory) -> OsFault {
-        OsFault
+    fn from(refusal: NoMemory) -> OsFault {
+        OsFault::Memory(refusal)
     }
 }

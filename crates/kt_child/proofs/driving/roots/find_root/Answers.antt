@@ -1,38 +1,39 @@
-use Rattle.std.proofs.Common.{rules, arith, ◌≡◌, ℕ, List, [], ◌∷◌, ◌++◌, Bool, true, false, refl, sym, subst, is_ok, add-one}
-use Rattle.kt_child.specs.System.Calls.{Call, Chain, MakeDir}
-use Rattle.kt_child.specs.Driving.Roots.{failed_roots, root_of}
+use Rattle.std.proofs.Common.{arith, ◌≡◌, ℕ, List, [], ◌∷◌, ◌++◌, Ok, Err, refl, sym, subst, add-one}
+use Rattle.kt_child.specs.System.Calls.{Call, MakeDir}
+use Rattle.kt_child.specs.Driving.Roots.{FailedRoots, root_of}
 use Rattle.kt_child.proofs.Chains.{chain_append}
 use Rattle.kt_child.proofs.driving.roots.find_root.Goals as goal
 
-pub returns-then-is_ok : goal.returns-then-is_ok
-returns-then-is_ok g c =
-    let base = c.args.base.now in
+pub loop-number-init : goal.loop-number-init
+loop-number-init g c = ([], refl, refl)
+
+pub returns-in-Ok-make_dir : goal.returns-in-Ok-make_dir
+returns-in-Ok-make_dir g c =
+    let f = c.loop-number.invariant in
     let n = c.loop-number.number in
-    let last : Call = MakeDir (root_of base n) true in
-    let P : List ℕ → Type 0 = λ p. g.O.Os.leads c.loop-number.os (MakeDir p true) c.make_dir.new.self in
-    let Q : Bool → Type 0 = λ b. g.O.Os.leads c.loop-number.os (MakeDir c.in-Ok.root b) c.make_dir.new.self in
-    let told : is_ok c.make_dir.result ≡ true = search rules in (
-      failed_roots base n ++ last ∷ [],
-      chain_append g.O.Os.leads c.args.os.now c.loop-number.os c.make_dir.new.self (failed_roots base n) (last ∷ []) c.loop-number.invariant
-          (c.make_dir.new.self, subst P c.in-Ok.ensures (subst Q told c.make_dir.ensures), refl),
-      (n, omega arith, refl, c.in-Ok.ensures),
+    let last : Call = MakeDir (root_of c.args.base.now n) (Ok tt) in
+    let P : List ℕ → Type 0 = λ p. g.O.Os.leads c.loop-number.os (MakeDir p (Ok tt)) c.make_dir.new.self in (
+      f.0 ++ last ∷ [],
+      chain_append g.O.Os.leads _ _ _ f.0 (last ∷ []) f.1 (_, subst P c.in-Ok.ensures c.in-Ok-make_dir.ensures, refl),
+      (n, omega arith, f.0, f.2, refl, c.in-Ok.ensures),
     )
 
 pub loop-number-preserved : goal.loop-number-preserved
 loop-number-preserved g c =
-    let base = c.args.base.now in
+    let f = c.loop-number.invariant in
     let n = c.loop-number.number in
-    let last : Call = MakeDir (root_of base n) false in
-    let P : List ℕ → Type 0 = λ p. g.O.Os.leads c.loop-number.os (MakeDir p false) c.make_dir.new.self in
-    let Q : Bool → Type 0 = λ b. g.O.Os.leads c.loop-number.os (MakeDir c.in-Ok.root b) c.make_dir.new.self in
-    let R : ℕ → Type 0 = λ m. Chain g.O.Os.leads c.args.os.now (failed_roots base m) c.make_dir.new.self in
-    let told : is_ok c.make_dir.result ≡ false = search rules in
-    subst R (sym (add-one n))
-    (chain_append g.O.Os.leads c.args.os.now c.loop-number.os c.make_dir.new.self (failed_roots base n) (last ∷ []) c.loop-number.invariant
-    (c.make_dir.new.self, subst P c.in-Ok.ensures (subst Q told c.make_dir.ensures), refl))
+    let fault = c.in-Err-make_dir._fault in
+    let last : Call = MakeDir (root_of c.args.base.now n) (Err fault) in
+    let P : List ℕ → Type 0 = λ p. g.O.Os.leads c.loop-number.os (MakeDir p (Err fault)) c.make_dir.new.self in
+    let R : ℕ → Type 0 = λ m. FailedRoots c.args.base.now m (f.0 ++ last ∷ []) in (
+      f.0 ++ last ∷ [],
+      chain_append g.O.Os.leads _ _ _ f.0 (last ∷ []) f.1 (_, subst P c.in-Ok.ensures c.in-Err-make_dir.ensures, refl),
+      subst R (sym (add-one n)) (f.0, fault, f.2, refl),
+    )
 
 pub returns : goal.returns
 returns g c =
-    let R : ℕ → Type 0 = λ m. Chain g.O.Os.leads c.args.os.now (failed_roots c.args.base.now m) c.loop-number.os in
+    let f = c.loop-number.invariant in
+    let R : ℕ → Type 0 = λ m. FailedRoots c.args.base.now m f.0 in
     let all : c.loop-number.number ≡ 1000 = omega arith in
-    (failed_roots c.args.base.now 1000, subst R all c.loop-number.invariant, refl)
+    (f.0, f.1, subst R all f.2)

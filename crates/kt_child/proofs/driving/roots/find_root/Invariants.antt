@@ -1,6 +1,7 @@
-use Rattle.kt_child.specs.System.Calls.{Chain}
-use Rattle.kt_child.specs.Driving.Roots.{failed_roots}
+use Rattle.std.proofs.Common.{List}
+use Rattle.kt_child.specs.System.Calls.{Call, Chain}
+use Rattle.kt_child.specs.Driving.Roots.{FailedRoots}
 use Rattle.kt_child.proofs.driving.roots.find_root.Given as goal
 
 abbrev pub invariant-loop-number : goal.invariant-loop-number
-invariant-loop-number g l = Chain g.O.Os.leads l.initial.os (failed_roots l.base l.number) l.os
+invariant-loop-number g l = (calls : List Call) × Chain g.O.Os.leads l.initial.os calls l.os × FailedRoots l.base l.number calls

@@ -2,7 +2,4 @@ use Rattle.kt_child.proofs.TraceTells.{ends_are_told}
 use Rattle.kt_child.proofs.driving.run.law_of_traces.Goals as goal
 
 pub returns : goal.returns
-returns g c =
-    ends_are_told g.O.Os.leads (λ d. d.os) (λ d. d.source) (λ d. d.root) (λ d. d.next) (λ d. d.running) _ _
-    (λ d e job role answer h. h)
-    (λ d e ended h. (h.0.0, h.0.1, h.0.2, h.3, h.1, h.2))
+returns g c = ends_are_told g.O.Os.leads (λ d. d) _ _ (λ d e job role answer h. h) (λ d e ended h. h)

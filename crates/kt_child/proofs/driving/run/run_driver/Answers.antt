@@ -4,7 +4,5 @@ use Rattle.kt_child.proofs.driving.run.run_driver.Goals as goal
 
 pub returns-clause-told : goal.returns-clause-told
 returns-clause-told g c T led =
-    ends_are_told g.O.Os.leads (λ d. d.os) (λ d. d.source) (λ d. d.root) (λ d. d.next) (λ d. d.running) _ _
-    (λ d e job role answer h. h)
-    (λ d e ended h. (h.0.0, h.0.1, h.0.2, h.3, h.1, h.2))
+    ends_are_told g.O.Os.leads (λ d. d) _ _ (λ d e job role answer h. h) (λ d e ended h. h)
     _ T _ _ c.requires.plan (bare_idle c.args.driver.now.running c.paired.ensures c.requires.idle) led

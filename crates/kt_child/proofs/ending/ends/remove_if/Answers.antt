@@ -3,8 +3,8 @@ use Rattle.kt_child.specs.System.Calls.{Call, RemoveTree}
 use Rattle.kt_child.specs.Ending.Ends.{Removes}
 use Rattle.kt_child.proofs.ending.ends.remove_if.Goals as goal
 
-pub returns-then-over : goal.returns-then-over
-returns-then-over g c =
+pub returns-then-removed : goal.returns-then-removed
+returns-then-removed g c =
     let calls : List Call = RemoveTree c.args.dir.now (is_ok c.remove_tree.result) ∷ [] in
     let P : Bool → Type 0 = λ b. Removes b c.args.dir.now calls in
-    (calls, (_, c.remove_tree.ensures, refl), subst P (sym c.if-over.true) (_, refl))
+    (calls, (_, c.remove_tree.ensures, refl), subst P (sym c.if-removed.true) (_, refl))

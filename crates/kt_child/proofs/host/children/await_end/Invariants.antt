@@ -1,5 +1,9 @@
+use Rattle.std.proofs.Common.{◌-◌}
 use Rattle.kt_child.specs.Host.HostStands.{AllProceed, stand_in}
 use Rattle.kt_child.proofs.host.children.await_end.Given as goal
 
-abbrev pub invariant-loop-slice : goal.invariant-loop-slice
-invariant-loop-slice g l = AllProceed (stand_in l.initial.children.items) (stand_in l.children.items)
+abbrev pub invariant-loop-rested : goal.invariant-loop-rested
+invariant-loop-rested g l = AllProceed (stand_in l.initial.children.items) (stand_in l.children.items)
+
+abbrev pub decreases-loop-rested : goal.decreases-loop-rested
+decreases-loop-rested g l = 10000 - l.rested

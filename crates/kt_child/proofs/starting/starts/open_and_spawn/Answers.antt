@@ -1,26 +1,21 @@
-use Rattle.std.proofs.Common.{rules, [], ◌∷◌, true, false}
-use Rattle.kt_child.specs.System.Calls.{OpenOutput, Spawn}
+use Rattle.std.proofs.Common.{[], ◌∷◌}
+use Rattle.kt_child.specs.Starting.Starts.{open_ask, spawn_ask}
+use Rattle.kt_child.proofs.Chains.{tries_failed, tries_more}
 use Rattle.kt_child.proofs.starting.starts.open_and_spawn.Goals as goal
 
-pub returns-then-is_err : goal.returns-then-is_err
-returns-then-is_err g c = (OpenOutput c.args.plan.now.child c.args.plan.now.out false ∷ [], search rules, search rules)
+pub returns-in-Err : goal.returns-in-Err
+returns-in-Err g c =
+    let p = c.args.plan.now in
+    tries_failed g.O.Os.leads _ _ (open_ask p p.out) (open_ask p p.err ∷ spawn_ask p ∷ []) c.in-Err.fault _ c.in-Err.ensures c.cause_of.ensures
 
-pub returns-then-is_err-2 : goal.returns-then-is_err-2
-returns-then-is_err-2 g c =
-    (OpenOutput c.args.plan.now.child c.args.plan.now.out true ∷ OpenOutput c.args.plan.now.child c.args.plan.now.err false ∷ [], search rules, search rules)
-
-pub returns-then-is_err-3 : goal.returns-then-is_err-3
-returns-then-is_err-3 g c = (
-  OpenOutput c.args.plan.now.child c.args.plan.now.out true ∷ OpenOutput c.args.plan.now.child c.args.plan.now.err true
-      ∷ Spawn c.args.plan.now.child c.args.plan.now.program c.args.plan.now.words c.args.plan.now.env c.args.plan.now.work false ∷ [],
-  search rules,
-  search rules,
-)
+pub returns-in-Err-open_output : goal.returns-in-Err-open_output
+returns-in-Err-open_output g c =
+    let p = c.args.plan.now in
+    tries_more g.O.Os.leads _ _ _ (open_ask p p.out) (open_ask p p.err ∷ spawn_ask p ∷ []) _ c.in_default.ensures
+    (tries_failed g.O.Os.leads _ _ (open_ask p p.err) (spawn_ask p ∷ []) c.in-Err-open_output.fault _ c.in-Err-open_output.ensures c.cause_of-in-Err-open_output.ensures)
 
 pub returns : goal.returns
-returns g c = (
-  OpenOutput c.args.plan.now.child c.args.plan.now.out true ∷ OpenOutput c.args.plan.now.child c.args.plan.now.err true
-      ∷ Spawn c.args.plan.now.child c.args.plan.now.program c.args.plan.now.words c.args.plan.now.env c.args.plan.now.work true ∷ [],
-  search rules,
-  search rules,
-)
+returns g c =
+    let p = c.args.plan.now in
+    tries_more g.O.Os.leads _ _ _ (open_ask p p.out) (open_ask p p.err ∷ spawn_ask p ∷ []) _ c.in_default.ensures
+    (tries_more g.O.Os.leads _ _ _ (open_ask p p.err) (spawn_ask p ∷ []) _ c.in_default-open_output.ensures c.spawn.ensures)

@@ -22,7 +22,7 @@ there c =
 
 pub invariant_of-self : goal.invariant_of-self
 invariant_of-self c = (
-  state_taken c.self.inside.children.items c.self.inside.cases.items c.self.inside.pending.items c.remove.new.self.items c.self.inside.going
+  state_taken c.self.inside.children.items c.self.inside.cases.items c.self.inside.pending.items c.remove.new.self.items
       c.place_of-place.result c.remove.result c.self.invariant.0 (at c) c.remove.ensures.items,
   let a = c.remove.ensures.len in
       let b = c.remove.ensures.capacity in
@@ -34,9 +34,9 @@ pub returns-clause-taken : goal.returns-clause-taken
 returns-clause-taken c =
     let new : List Case = c.remove.new.self.items in
     let P : ChildrenState → Type 0 = λ b. (place : ℕ) × (slice_get b.pending place ≡ Some c.remove.result)
-    × (◌≡◌ {A = ChildrenState} (record { children = c.self.inside.children.items; cases = c.self.inside.cases.items; going = c.self.inside.going; pending = new })
-    (record { children = b.children; cases = b.cases; going = b.going; pending = remove b.pending place })) in
-    let F : List Case → ChildrenState = λ t. record { children = c.self.inside.children.items; cases = c.self.inside.cases.items; going = c.self.inside.going; pending = t } in
+    × (◌≡◌ {A = ChildrenState} (record { children = c.self.inside.children.items; cases = c.self.inside.cases.items; pending = new })
+    (record { children = b.children; cases = b.cases; pending = remove b.pending place })) in
+    let F : List Case → ChildrenState = λ t. record { children = c.self.inside.children.items; cases = c.self.inside.cases.items; pending = t } in
     subst P c.self.view_is (c.place_of-place.result, at c, ap F c.remove.ensures.items)
 
 pub returns-clause-position : goal.returns-clause-position

@@ -8,41 +8,40 @@ use Rattle.kt_child.proofs.StateWaits.{state_after, same_children, waited_all, w
 use Rattle.kt_child.proofs.driving.running_children.RunningChildren.wait.Goals as goal
 
 abbrev At : (g : _) → goal.After-forget g → Type 0
-At g c = slice_get c.self.inside.cases.items c.wait_on-over.result.place ≡ Some c.index.result.now
+At g c = slice_get c.self.inside.cases.items c.wait-over.result.place ≡ Some c.index.result.now
 
 at : (g : _) (c : goal.After-forget g) → At g c
 at g c =
     let same = c.self.invariant.0.same in
-    let lt : c.wait_on-over.result.place < length c.self.inside.cases.items = omega (arith, c.wait_on-over.ensures.place, ap length c.deref_mut.ensures.value, same) in
-    slice_get-get_or c.self.inside.cases.items c.wait_on-over.result.place c.index.result.now lt ∙ ap Some (sym c.index.ensures)
+    let lt : c.wait-over.result.place < length c.self.inside.cases.items = omega (arith, c.wait-over.ensures.place, ap length c.deref_mut.ensures.value, same) in
+    slice_get-get_or c.self.inside.cases.items c.wait-over.result.place c.index.result.now lt ∙ ap Some (sym c.index.ensures)
 
-still : (g : _) (c : goal.After-forget g) → c.forget.new.children.items ≡ remove c.wait_on-over.new.children c.wait_on-over.result.place
+still : (g : _) (c : goal.After-forget g) → c.forget.new.children.items ≡ remove c.wait-over.new.children c.wait-over.result.place
 still g c =
-    let n : length c.wait_on-over.new.children ≡ c.self.inside.children.len = c.wait_on-over.ensures.same ∙ c.deref_mut.ensures.len in
-    c.forget.ensures.children ∙ ap (λ t. remove t c.wait_on-over.result.place) (same_children c.self.inside.children.len c.wait_on-over.new.children _ n)
+    let n : length c.wait-over.new.children ≡ c.self.inside.children.len = c.wait-over.ensures.same ∙ c.deref_mut.ensures.len in
+    c.forget.ensures.children ∙ ap (λ t. remove t c.wait-over.result.place) (same_children c.self.inside.children.len c.wait-over.new.children _ n)
 
 pub invariant_of-self : goal.invariant_of-self
 invariant_of-self g c =
     let v = ap length c.deref_mut.ensures.value in
-    let s = c.wait_on-over.ensures.same in
-    let p = c.wait_on-over.ensures.place in
-    let w = c.wait_on-over.ensures.within in (
-      state_after c.self.inside.children.items c.wait_on-over.new.children c.forget.new.children.items c.self.inside.cases.items c.forget.new.cases.items
-          c.self.inside.pending.items c.forget.new.pending.items c.self.inside.going c.wait_on-over.new.going c.wait_on-over.result.place c.index.result.now
-          c.self.invariant.0 (at g c) (omega arith) c.wait_on-over.ensures.on (s ∙ v) (omega arith) c.wait_on-over.ensures.few (still g c) c.forget.ensures.cases
+    let s = c.wait-over.ensures.same in
+    let p = c.wait-over.ensures.place in (
+      state_after c.self.inside.children.items c.wait-over.new.children c.forget.new.children.items c.self.inside.cases.items c.forget.new.cases.items
+          c.self.inside.pending.items c.forget.new.pending.items c.wait-over.result.place c.index.result.now
+          c.self.invariant.0 (at g c) (omega arith) c.wait-over.ensures.on (s ∙ v) (still g c) c.forget.ensures.cases
           (c.forget.ensures.pending c.index.result.now (at g c)),
       c.forget.ensures.room,
     )
 
 pub returns-clause-waited : goal.returns-clause-waited
 returns-clause-waited g c =
-    let old : ChildrenState = record { children = c.self.inside.children.items; cases = c.self.inside.cases.items; going = c.self.inside.going; pending = c.self.inside.pending.items } in
-    let new : ChildrenState = record { children = c.forget.new.children.items; cases = c.forget.new.cases.items; going = c.wait_on-over.new.going; pending = c.forget.new.pending.items } in
+    let old : ChildrenState = record { children = c.self.inside.children.items; cases = c.self.inside.cases.items; pending = c.self.inside.pending.items } in
+    let new : ChildrenState = record { children = c.forget.new.children.items; cases = c.forget.new.cases.items; pending = c.forget.new.pending.items } in
     let P : ChildrenState → Type 0 = λ b. (calls : List Call) × Chain g.O.Os.leads c.args.os.now calls c.leave-ended.new.os × Waited b calls c.leave-ended.result new in
     subst P c.self.view_is
-    (waited_all g.O.Os.leads c.args.os.now c.wait_on-over.new.os c.leave-ended.new.os old new c.deref_mut.result.now c.wait_on-over.new.children
-    c.wait_on-over.result.place c.wait_on-over.result.outcome c.index.result.now c.leave-ended.result
-    c.wait_on-over.ensures.waited c.leave-ended.ensures.left c.deref_mut.ensures.value (at g c) (still g c) c.forget.ensures.cases
+    (waited_all g.O.Os.leads c.args.os.now c.wait-over.new.os c.leave-ended.new.os old new c.deref_mut.result.now c.wait-over.new.children
+    c.wait-over.result.place c.wait-over.result.outcome c.index.result.now c.leave-ended.result
+    c.wait-over.ensures.waited c.leave-ended.ensures.left c.deref_mut.ensures.value (at g c) (still g c) c.forget.ensures.cases
     (c.forget.ensures.pending c.index.result.now (at g c)))
 
 pub returns-clause-one_that_ran : goal.returns-clause-one_that_ran
@@ -50,7 +49,7 @@ returns-clause-one_that_ran g c =
     let l = c.leave-ended.ensures.left.2 in
     let P : ChildrenState → Type 0 = λ b. (s : Shown) × (shown_at b.cases c.leave-ended.result.position c.leave-ended.result.role ≡ Some s) × IsEvidence s.interface c.leave-ended.result.role c.leave-ended.result.evidence in
     subst P c.self.view_is
-    (waited_one c.self.inside.cases.items c.self.inside.pending.items c.wait_on-over.result.place c.index.result.now
+    (waited_one c.self.inside.cases.items c.self.inside.pending.items c.wait-over.result.place c.index.result.now
     c.leave-ended.result.position c.leave-ended.result.role c.leave-ended.result.evidence c.self.invariant.0.once (at g c) l.8 l.9 c.leave-ended.ensures.evidence)
 
 pub returns-clause-running : goal.returns-clause-running
@@ -58,7 +57,7 @@ returns-clause-running g c k r =
     let l = c.leave-ended.ensures.left.2 in
     let P : ChildrenState → Type 0 = λ b. shown_at c.forget.new.cases.items k r ≡ running_after_end (shown_at b.cases) c.leave-ended.result k r in
     subst P c.self.view_is
-    (waited_running c.self.inside.cases.items c.forget.new.cases.items c.self.inside.pending.items c.wait_on-over.result.place c.index.result.now
+    (waited_running c.self.inside.cases.items c.forget.new.cases.items c.self.inside.pending.items c.wait-over.result.place c.index.result.now
     c.leave-ended.result c.self.invariant.0.once (at g c) l.8 l.9 c.forget.ensures.cases k r)
 
 pub returns-clause-pending : goal.returns-clause-pending
@@ -66,5 +65,5 @@ returns-clause-pending g c k =
     let l = c.leave-ended.ensures.left.2 in
     let P : ChildrenState → Type 0 = λ b. is_among c.forget.new.pending.items k ≡ pending_after_end (shown_at b.cases) (is_among b.pending) c.leave-ended.result k in
     subst P c.self.view_is
-    (waited_pending c.self.inside.cases.items c.self.inside.pending.items c.forget.new.pending.items c.wait_on-over.result.place c.index.result.now
+    (waited_pending c.self.inside.cases.items c.self.inside.pending.items c.forget.new.pending.items c.wait-over.result.place c.index.result.now
     c.leave-ended.result c.self.invariant.0.once (at g c) l.8 l.9 (c.forget.ensures.pending c.index.result.now (at g c)) k)

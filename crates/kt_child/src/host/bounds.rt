@@ -1,0 +1,87 @@
+ghost use Rattle.std.specs.Prelude.{◌≡◌, ◌↔◌, IsTrue};
+ghost use Rattle.kt_child.specs.Host.Bounds.{IsSpent, at_close, next_slice, steps_at_close};
+
+use std::rt::Clock;
+use std::time::Instant;
+
+/// The microseconds for what a removal does at once.
+pub(crate) const AT_ONCE: u64 = 5_000;
+
+/// How long a pause lasts at the most, in microseconds.
+pub(crate) const PAUSE: u64 = 10_000;
+
+/// What a step of a removal counts for where the clock fails, in microseconds.
+const STEP: u64 = 100;
+
+/// How long a removal may go on at once.
+#[derive(Clone, Copy)]
+pub(crate) struct Bound {
+    started: Option<Instant>,
+    /// In microseconds. No more steps than that are taken, whatever the clock says.
+    pub(crate) micros: u64,
+    /// So many steps are taken in any case.
+    least: u64,
+}
+
+/// Whether a removal that may take so many microseconds has taken them after these steps.
+fn is_spent(micros: u64, steps: u64, taken: Option<u128>) -> bool
+    ensures { IsTrue result ↔ IsSpent micros steps taken }
+{
+    match taken {
+        Some(taken) => taken >= u128::from(micros),
+        None => steps >= micros / STEP,
+    }
+}
+
+/// The microseconds for the removal of the root directory, after so many others.
+fn closing_micros(removals: u32) -> u64
+    ensures { result ≡ at_close removals }
+{
+    5_000_000 + 10_000 * u64::from(removals)
+}
+
+/// The least steps of that removal, so that a slow machine leaves nothing behind.
+fn closing_steps(removals: u32) -> u64
+    ensures { result ≡ steps_at_close removals }
+{
+    20_000 + 50 * u64::from(removals)
+}
+
+/// The microseconds of the next slice of a pause, after so many.
+pub(crate) fn slice_after(micros: u64) -> u64
+    ensures { result ≡ next_slice micros }
+{
+    (50 + micros / 4).min(PAUSE.saturating_sub(micros))
+}
+
+impl Bound {
+    /// The bound of a removal that begins now.
+    pub(crate) fn starting<C: Clock>(clock: &C, micros: u64) -> Bound {
+        Bound {
+            started: Instant::now(clock).ok(),
+            micros,
+            least: 0,
+        }
+    }
+
+    /// The bound of the removal of the root directory, after so many others.
+    pub(crate) fn closing<C: Clock>(clock: &C, removals: u32) -> Bound {
+        Bound {
+            started: Instant::now(clock).ok(),
+            micros: closing_micros(removals),
+            least: closing_steps(removals),
+        }
+    }
+
+    /// The microseconds since it began, where the clock tells.
+    fn taken<C: Clock>(&self, clock: &C) -> Option<u128> {
+        let started = self.started?;
+        let now = Instant::now(clock).ok()?;
+        Some(now.duration_since(started).as_micros())
+    }
+
+    /// Whether a removal has to stop after these steps.
+    pub(crate) fn is_over<C: Clock>(&self, clock: &C, steps: u64) -> bool {
+        steps >= self.least && is_spent(self.micros, steps, self.taken(clock))
+    }
+}

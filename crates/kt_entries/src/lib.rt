@@ -1,0 +1,104 @@
+//! The entries of directories, whose names may have any bytes.
+#![tactic(auto)]
+
+ghost use Rattle.std.specs.Prelude.{◌≡◌, ◌++◌, ◌∷◌, IfOk};
+ghost use Rattle.kt_base.specs.Utf8.{utf8};
+
+use kt_base::{Bytes, NoMemory, Text};
+use std::alloc::Global;
+use std::fs::Permissions;
+use std::io::ErrorKind;
+use std::os::unix::fs::PermissionsExt;
+use std::rt::Files;
+use std::{fs, io, str};
+
+/// The rights of a directory's owner to read it, to change it and to pass through it.
+const OWNER_RIGHTS: u32 = 0o700;
+
+/// The path of an entry of a directory. Its name may have any bytes.
+pub fn entry_path(alloc: Global, directory: &Text, name: &[u8]) -> Result<Bytes, NoMemory>
+    ensures { IfOk result (λ path. path ≡ utf8 directory.now ++ 47 ∷ name.now) }
+{
+    let mut path = Bytes::from_slice(alloc, directory.as_bytes())?;
+    path.append(b"/")?;
+    path.append(name)?;
+    Ok(path)
+}
+
+/// What the system answered: 0, or that it failed.
+fn answer(status: i32) -> io::Result<()> {
+    if status == 0 {
+        Ok(())
+    } else {
+        Err(io::Error::from_raw_os_error(os::errno()))
+    }
+}
+
+/// Removes what is no directory.
+pub fn remove_file<R: Files>(rt: &R, path: &[u8]) -> io::Result<()> {
+    match str::from_utf8(path) {
+        Ok(text) => fs::remove_file(rt, text),
+        Err(_) => answer(os::unlink(path)),
+    }
+}
+
+/// Removes a directory that is empty.
+pub fn remove_directory<R: Files>(rt: &R, path: &[u8]) -> io::Result<()> {
+    match str::from_utf8(path) {
+        Ok(text) => fs::remove_dir(rt, text),
+        Err(_) => answer(os::rmdir(path)),
+    }
+}
+
+/// Moves a directory.
+pub fn move_directory<R: Files>(rt: &R, path: &[u8], to: &Text) -> io::Result<()> {
+    match str::from_utf8(path) {
+        Ok(text) => fs::rename(rt, text, to.as_str()),
+        Err(_) => answer(os::rename(path, to.as_bytes())),
+    }
+}
+
+/// Gives its owner all rights to a directory. Returns false if the path is no directory; a link to one is none.
+fn open_up<R: Files>(rt: &R, path: &str) -> bool {
+    match fs::symlink_metadata(rt, path) {
+        Ok(metadata) => {
+            if !metadata.is_dir() {
+                return false;
+            }
+            if metadata.permissions().mode() & OWNER_RIGHTS != OWNER_RIGHTS {
+                let _ = fs::set_permissions(rt, path, Permissions::from_mode(OWNER_RIGHTS));
+            }
+            true
+        }
+        Err(_) => false,
+    }
+}
+
+/// The same of an entry that could not be removed as an empty directory, by the cause of that.
+pub fn open_up_entry<R: Files>(rt: &R, path: &[u8], cause: ErrorKind) -> bool {
+    match str::from_utf8(path) {
+        Ok(text) => open_up(rt, text),
+        // Only a directory is one that isn't empty.
+        Err(_) => cause == ErrorKind::DirectoryNotEmpty && os::chmod(path, OWNER_RIGHTS) == 0,
+    }
+}
+
+/// Opens a directory to read its names; a link in the place of one is not passed.
+pub fn open_names<R: Files>(rt: &R, path: &Text) -> Option<R::Dir> {
+    if !open_up(rt, path.as_str()) {
+        return None;
+    }
+    rt.open_dir(path.as_str()).ok()
+}
+
+/// Whether a name is that of the directory itself or of the one that holds it, or none.
+pub fn is_dots(name: &[u8]) -> bool {
+    name.is_empty() || name == b".".as_slice() || name == b"..".as_slice()
+}
+
+/// Removes what a mounted directory holds, by one call of the library.
+pub fn empty_mounted<R: Files + AllocGlobal>(rt: &R, path: &[u8]) {
+    if let Ok(text) = str::from_utf8(path) {
+        let _ = fs::remove_dir_all(rt, text);
+    }
+}
