@@ -85,8 +85,25 @@ pub waited_all : {O : Type 0} (leads : O → Call → O → Type 0) (a b d : O) 
     → new.children ≡ remove after place → new.cases ≡ remove old.cases place → new.pending ≡ pending_with c old.pending
     → (calls : List Call) × Chain leads a calls d × Waited old calls e new
 waited_all leads a b d old new children after place outcome c e (xs, p, w) (ys, q, l) same at f g i =
-    let P : List Watched → Type 0 = λ t. WaitedOn t xs place outcome after in
-    (xs ++ ys, chain_append leads a b d xs ys p q, (xs, ys, place, outcome, after, c, refl, subst P same w, at, l, f, g, i))
+    let P : List Watched → Type 0 = λ t. WaitedOn t xs place outcome after in (
+      xs ++ ys,
+      chain_append leads a b d xs ys p q,
+      record {
+        polls = xs;
+        rest = ys;
+        place = place;
+        outcome = outcome;
+        after = after;
+        case = c;
+        asked = refl;
+        waited = subst P same w;
+        there = at;
+        left = l;
+        children = f;
+        cases = g;
+        pending = i;
+      },
+    )
 
 pub once_owed : (cases pending : List Case) (c : Case) → ((i : ℕ) → count_at i cases + count_at i pending ≤ 1) → count_at c.position pending ≤ 1
 once_owed cases pending c h = let m : count_at c.position cases + count_at c.position pending ≤ 1 = h c.position in omega arith
