@@ -25,7 +25,8 @@ use Rattle.kt_child.specs.Polling.Lives.{heard_by, same_child}
 use Rattle.kt_child.specs.Ending.Parts.{After, Reads, Whole}
 use Rattle.kt_child.specs.Ending.Reads.{bytes_of}
 use Rattle.kt_child.proofs.Shares.{Share, name_of, named}
-use Rattle.kt_child.proofs.LifeSteps.{append_none, heard_append}
+use Rattle.kt_child.proofs.Places.{append_none}
+use Rattle.kt_child.proofs.LifeSteps.{heard_append}
 use Rattle.kt_child.proofs.SeveralWaits.{wait_shares}
 
 -- one part of a reading

@@ -21,7 +21,7 @@ use Rattle.kt_child.specs.Driving.Launches.{StartsBy}
 use Rattle.kt_child.specs.Driving.Numbers.{IsBare}
 use Rattle.kt_child.proofs.Shares.{name_of}
 use Rattle.kt_child.proofs.NameCounts.{case_name, numbered, numbered_less, numbered_more, one_or}
-use Rattle.kt_child.proofs.ChildNames.{names_append}
+use Rattle.kt_child.proofs.Places.{mapped_append}
 use Rattle.kt_child.proofs.SeveralWaits.{names_waited}
 
 -- each child is that of its case, each number stands once at most, and none from the next on
@@ -30,14 +30,10 @@ Apart next b =
     (map name_of b.children ≡ map case_name b.cases)
     × ((n : ℕ) → (numbered n b.cases + numbered n b.pending ≤ 1) × (next ≤ n → numbered n b.cases + numbered n b.pending ≡ 0))
 
-cases_append : (xs ys : List Case) → map case_name (xs ++ ys) ≡ map case_name xs ++ map case_name ys
-cases_append [] ys = refl
-cases_append (x ∷ xs) ys = ap (λ t. case_name x ∷ t) (cases_append xs ys)
-
 names_more : (ks : List Watched) (cs : List Case) (k : Watched) (c : Case) → map name_of ks ≡ map case_name cs → k.child ≡ case_name c
     → map name_of (ks ++ k ∷ []) ≡ map case_name (cs ++ c ∷ [])
 names_more ks cs k c e f =
-    names_append ks (k ∷ []) ∙ ap (λ t. t ++ k.child ∷ []) e ∙ ap (λ t. map case_name cs ++ t ∷ []) f ∙ sym (cases_append cs (c ∷ []))
+    mapped_append name_of ks (k ∷ []) ∙ ap (λ t. t ++ k.child ∷ []) e ∙ ap (λ t. map case_name cs ++ t ∷ []) f ∙ sym (mapped_append case_name cs (c ∷ []))
 
 -- a body that takes the next number
 body_more : (next : ℕ) (b : ChildrenState) (job : Job) (p : Paths) (answer : StartAnswer) → Apart next b
