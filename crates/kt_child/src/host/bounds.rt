@@ -1,14 +1,17 @@
-ghost use Rattle.std.specs.Prelude.{◌≡◌, ◌↔◌, IsTrue};
-ghost use Rattle.kt_child.specs.Host.Bounds.{IsSpent, at_close, next_slice, steps_at_close};
+ghost use Rattle.std.specs.Prelude.{◌≡◌, ◌↔◌, ◌≤◌, IsTrue};
+ghost use Rattle.kt_child.specs.Host.Bounds.{IsSpent, at_close, at_once, next_slice, steps_at_close};
 
 use std::rt::Clock;
 use std::time::Instant;
 
 /// The microseconds for what a removal does at once.
-pub(crate) const AT_ONCE: u64 = 5_000;
+const AT_ONCE: u64 = 5_000;
 
 /// How long a pause lasts at the most, in microseconds.
 pub(crate) const PAUSE: u64 = 10_000;
+
+/// After so many pauses in which no child ended, a pause looks for an end no more.
+const QUIET_PAUSES: u32 = 20;
 
 /// What a step of a removal counts for where the clock fails, in microseconds.
 const STEP: u64 = 100;
@@ -54,9 +57,19 @@ pub(crate) fn slice_after(micros: u64) -> u64
     (50 + micros / 4).min(PAUSE.saturating_sub(micros))
 }
 
+/// Whether a pause looks for no end, after so many in which no child ended.
+pub(crate) fn is_quiet(pauses: u32) -> bool
+    ensures { IsTrue result ↔ (20 ≤ pauses) }
+{
+    pauses >= QUIET_PAUSES
+}
+
 impl Bound {
-    /// The bound of a removal that begins now.
-    pub(crate) fn starting<C: Clock>(clock: &C, micros: u64) -> Bound {
+    /// The bound of work that begins now.
+    pub(crate) fn starting<C: Clock>(clock: &C, micros: u64) -> Bound
+        ensures micros { result.micros ≡ micros }
+        ensures least { result.least ≡ 0 }
+    {
         Bound {
             started: Instant::now(clock).ok(),
             micros,
@@ -64,8 +77,19 @@ impl Bound {
         }
     }
 
+    /// The bound of what a removal does at once.
+    pub(crate) fn at_once<C: Clock>(clock: &C) -> Bound
+        ensures micros { result.micros ≡ at_once }
+        ensures least { result.least ≡ 0 }
+    {
+        Bound::starting(clock, AT_ONCE)
+    }
+
     /// The bound of the removal of the root directory, after so many others.
-    pub(crate) fn closing<C: Clock>(clock: &C, removals: u32) -> Bound {
+    pub(crate) fn closing<C: Clock>(clock: &C, removals: u32) -> Bound
+        ensures micros { result.micros ≡ at_close removals }
+        ensures least { result.least ≡ steps_at_close removals }
+    {
         Bound {
             started: Instant::now(clock).ok(),
             micros: closing_micros(removals),
@@ -81,7 +105,9 @@ impl Bound {
     }
 
     /// Whether a removal has to stop after these steps.
-    pub(crate) fn is_over<C: Clock>(&self, clock: &C, steps: u64) -> bool {
+    pub(crate) fn is_over<C: Clock>(&self, clock: &C, steps: u64) -> bool
+        ensures { IsTrue result → self.now.least ≤ steps }
+    {
         steps >= self.least && is_spent(self.micros, steps, self.taken(clock))
     }
 }

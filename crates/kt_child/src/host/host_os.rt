@@ -2,7 +2,7 @@ ghost use Rattle.std.specs.Prelude.{◌≡◌, ◌==◌, ◌/◌, ◌%◌};
 ghost use Rattle.std.specs.Process.{status_bits};
 ghost use Rattle.kt_child.specs.Host.HostAnswers.{IsPolledOf};
 
-use crate::host::bounds::PAUSE;
+use crate::host::bounds::{PAUSE, is_quiet};
 use crate::host::children;
 use crate::host::command::Asked;
 use crate::host::faults::{fault_of, or_fault};
@@ -22,9 +22,6 @@ use std::os::unix::process::ExitStatusExt;
 use std::process::{ExitStatus, Processes};
 use std::rt::{Clock, Files};
 use std::time::SystemTime;
-
-/// After so many pauses in which no child ended, a pause looks for an end no more.
-const QUIET_PAUSES: u32 = 20;
 
 /// The system itself: the processes, files and clocks of the standard library.
 ///
@@ -169,7 +166,7 @@ impl<R: Processes + Files<File = File> + Clock + AllocGlobal + Clone + Drop> Os 
     }
 
     fn pause(&mut self) -> Result<(), OsFault> {
-        if self.quiet >= QUIET_PAUSES {
+        if is_quiet(self.quiet) {
             rest(&mut self.removals, &self.rt, PAUSE);
             return Ok(());
         }

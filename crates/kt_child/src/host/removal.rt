@@ -1,7 +1,7 @@
 ghost use Rattle.std.specs.Prelude.{◌≡◌, ◌++◌, ◌∷◌, IfSome};
 
 use crate::driving::roots::root_path;
-use crate::host::bounds::{AT_ONCE, Bound};
+use crate::host::bounds::Bound;
 use crate::host::faults::or_fault;
 use crate::host::outputs::create_directory;
 use crate::planning::workdir::attempt_path;
@@ -291,7 +291,7 @@ impl<D: Read + Drop> Removals<D> {
             return self.close(rt);
         }
         self.asked = self.asked.saturating_add(1);
-        let bound = Bound::starting(rt, AT_ONCE);
+        let bound = Bound::at_once(rt);
         self.empty(rt, tree, &bound);
         let gone = if is_removed(rt, tree) {
             Ok(())
