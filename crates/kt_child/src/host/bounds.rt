@@ -1,4 +1,4 @@
-ghost use Rattle.std.specs.Prelude.{◌≡◌, ◌↔◌, ◌≤◌, IsTrue};
+ghost use Rattle.std.specs.Prelude.{◌≡◌, ◌↔◌, ◌≤◌, ◌+◌, ◌-◌, ◌^◌, min, IsTrue};
 ghost use Rattle.kt_child.specs.Host.Bounds.{IsSpent, at_close, at_once, next_slice, steps_at_close};
 
 use std::rt::Clock;
@@ -24,6 +24,8 @@ pub(crate) struct Bound {
     pub(crate) micros: u64,
     /// So many steps are taken in any case.
     least: u64,
+    /// The steps that were taken.
+    steps: u64,
 }
 
 /// Whether a removal that may take so many microseconds has taken them after these steps.
@@ -69,11 +71,13 @@ impl Bound {
     pub(crate) fn starting<C: Clock>(clock: &C, micros: u64) -> Bound
         ensures micros { result.micros ≡ micros }
         ensures least { result.least ≡ 0 }
+        ensures steps { result.steps ≡ 0 }
     {
         Bound {
             started: Instant::now(clock).ok(),
             micros,
             least: 0,
+            steps: 0,
         }
     }
 
@@ -89,11 +93,13 @@ impl Bound {
     pub(crate) fn closing<C: Clock>(clock: &C, removals: u32) -> Bound
         ensures micros { result.micros ≡ at_close removals }
         ensures least { result.least ≡ steps_at_close removals }
+        ensures steps { result.steps ≡ 0 }
     {
         Bound {
             started: Instant::now(clock).ok(),
             micros: closing_micros(removals),
             least: closing_steps(removals),
+            steps: 0,
         }
     }
 
@@ -104,10 +110,12 @@ impl Bound {
         Some(now.duration_since(started).as_micros())
     }
 
-    /// Whether a removal has to stop after these steps.
-    pub(crate) fn is_over<C: Clock>(&self, clock: &C, steps: u64) -> bool
-        ensures { IsTrue result → self.now.least ≤ steps }
+    /// Counts a step, and returns whether a removal has to stop after it.
+    pub(crate) fn is_over<C: Clock>(&mut self, clock: &C) -> bool
+        ensures least { IsTrue result → self.old.least ≤ self.new.steps }
+        ensures counted { self.new.steps ≡ min (self.old.steps + 1) (2 ^ 64 - 1) }
     {
-        steps >= self.least && is_spent(self.micros, steps, self.taken(clock))
+        self.steps = self.steps.saturating_add(1);
+        self.steps >= self.least && is_spent(self.micros, self.steps, self.taken(clock))
     }
 }

@@ -30,10 +30,10 @@ use std::time::SystemTime;
 /// one piece. A poll whose answer `running` would come too early sleeps a little first. The first directory that is made is
 /// the root of all others. A removal that takes long goes on in pauses and at later removals.
 #[derive(Drop)]
-pub struct HostOs<R: Processes + Files> {
+pub struct HostOs<R: Processes> {
     rt: R,
     /// The removals below the root directory, once it is made.
-    removals: Option<Removals<R::Dir>>,
+    removals: Option<Removals>,
     /// The limit that was said last, in seconds: that of the child which is started next.
     limit: u64,
     children: Vec<HostChild<R::Started>>,
@@ -65,7 +65,7 @@ fn polled(status: ExitStatus) -> Result<Polled, OsFault>
     Err(OsFault::Failed)
 }
 
-impl<R: Processes + Files + AllocGlobal + Drop> HostOs<R> {
+impl<R: Processes + AllocGlobal + Drop> HostOs<R> {
     ghost use Rattle.std.specs.Prelude.{◌≡◌, None};
     ghost use Rattle.kt_child.specs.declared.system.child.Child.{Child as Name};
     ghost use Rattle.kt_child.specs.Host.HostStands.{stand_in};
