@@ -27,7 +27,7 @@ last_own : (c : Child) (o : Watched) (last : List Call) (outcome : Outcome) → 
     → LivesOut o (heard_by c last) outcome
 last_own c o last outcome same (answer, done, asked, ended) =
     let f : heard_by c last ≡ heard_of o.limit o.watch answer done =
-    ap (heard_by c) asked ∙ heard_one (is_killed o.limit o.watch answer) true o.child c answer done same refl in
+    ap (heard_by c) asked ∙ heard_one (is_killed o.limit o.watch answer) o.child c answer done same in
     (suc zero, (answer, done, [], f ∙ sym (append_none (heard_of o.limit o.watch answer done)), inl (ended, refl)))
 
 -- and another child hears nothing of it

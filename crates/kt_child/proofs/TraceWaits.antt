@@ -19,7 +19,7 @@ use Rattle.kt_child.proofs.CasePlaces.{Every, at_none, at_some, every_push, left
 use Rattle.kt_child.proofs.NameCounts.{case_name, none_named, numbered, numbered_less, own_number}
 use Rattle.kt_child.proofs.NameSteps.{Apart, owed, wait_apart}
 use Rattle.kt_child.proofs.TraceEnds.{ends_so, heard_after, still_runs, unheard}
-use Rattle.kt_child.proofs.TraceFacts.{IsGone, OwedSo, RunsSo, Stands, cleaner, past_kept}
+use Rattle.kt_child.proofs.TraceFacts.{IsGone, OwedSo, RunsSo, Stands, cleaner, each_more}
 use Rattle.kt_child.proofs.WaitSilence.{wait_none}
 
 -- a number is below another, or not
@@ -139,11 +139,6 @@ wait_stands plan source root base T heard next old new past calls e is w s =
           let u = a.1 n in
           unheard heard (record { attempt = n; role = role }) old new calls e (none_named (record { attempt = n; role = role }) old.children old.cases a.0 (let z = u.1 le in omega (arith, z))) w
           ∙ s.unborn n role le;
-      each = (
-        past,
-        calls,
-        refl,
-        past_kept plan source root base heard (heard_after heard calls) next next old new T past (λ c g. (unheard heard c old new calls e g.1 w, gone_wait next old new calls e w c g)) s.each,
-        ends_so plan source root base T heard next old new calls e is a w (gone_over next old new calls e a apart' w) r,
-      );
+      each = each_more plan source root base heard (heard_after heard calls) next next old new T past calls (End e)
+          (λ c g. (unheard heard c old new calls e g.1 w, gone_wait next old new calls e w c g)) s.each (ends_so plan source root base T heard next old new calls e is a w (gone_over next old new calls e a apart' w) r);
     }
