@@ -18,14 +18,14 @@ use Rattle.kt_child.proofs.NamedSteps.{named_map}
 -- what a poll of a child is for one of its name
 pub heard_one : (b : Bool) (d c : Child) (answer : Result Polled OsFault) (done : Bool) → same_child d c ≡ true
     → heard_by c (if b then Poll d answer ∷ Kill d done ∷ [] else Poll d answer ∷ []) ≡ (if b then HeardPoll answer ∷ HeardKill done ∷ [] else HeardPoll answer ∷ [])
-heard_one true d c answer done e = ap (λ t. own t (HeardPoll answer) (own t (HeardKill done) [])) e
-heard_one false d c answer done e = ap (λ t. own t (HeardPoll answer) []) e
+heard_one true d c answer done e = ap (λ t. own t (HeardPoll answer) ++ (own t (HeardKill done) ++ [])) e
+heard_one false d c answer done e = ap (λ t. own t (HeardPoll answer) ++ []) e
 
 -- and for one of another
 pub heard_none : (b : Bool) (d c : Child) (answer : Result Polled OsFault) (done : Bool) → same_child d c ≡ false
     → heard_by c (if b then Poll d answer ∷ Kill d done ∷ [] else Poll d answer ∷ []) ≡ []
-heard_none true d c answer done e = ap (λ t. own t (HeardPoll answer) (own t (HeardKill done) [])) e
-heard_none false d c answer done e = ap (λ t. own t (HeardPoll answer) []) e
+heard_none true d c answer done e = ap (λ t. own t (HeardPoll answer) ++ (own t (HeardKill done) ++ [])) e
+heard_none false d c answer done e = ap (λ t. own t (HeardPoll answer) ++ []) e
 
 -- each of these heard one poll, in order, and none is over
 abbrev HeardAll : List Watched → List Heard → Type 0
