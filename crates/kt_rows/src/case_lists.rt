@@ -7,20 +7,24 @@ use crate::row_fault::RowFault;
 use crate::shown_props::push_props;
 use crate::verdicts::reason_text;
 use kt_atflist::{CaseDef, cases, parse_list};
-use kt_base::{Interface, Items};
+use kt_base::{Interface, Items, Reason};
 use kt_metadata::Props;
 use std::alloc::Global;
+
+fn push_reason(alloc: Global, out: &mut String, fault: Option<Reason>) -> Result<(), RowFault> {
+    if let Some(reason) = fault {
+        out.push_str(": ")?;
+        out.push_str(reason_text(alloc, reason)?.as_str())?;
+    }
+    Ok(())
+}
 
 /// A case in the form of a row: its name, the properties that differ from the defaults, and its
 /// fault.
 fn push_case(alloc: Global, out: &mut String, case: CaseDef) -> Result<(), RowFault> {
     push_line(out, case.name.as_str())?;
     push_props(alloc, out, &case.props)?;
-    if let Some(reason) = case.fault {
-        out.push_str(": ")?;
-        out.push_str(reason_text(alloc, reason)?.as_str())?;
-    }
-    Ok(())
+    push_reason(alloc, out, case.fault)
 }
 
 /// Cases in the form of a row, or their number if the row says `count`.

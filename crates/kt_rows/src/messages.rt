@@ -1,14 +1,9 @@
 use crate::row_fault::RowFault;
 use std::alloc::Global;
 
-/// The first 400 bytes of a text, or a few more up to the end of a character.
+/// The first 400 bytes of a text, or all of it if they end within a character.
 fn front(text: &str) -> &str {
-    for end in 400..404usize {
-        if let Some(front) = text.get(..end) {
-            return front;
-        }
-    }
-    text
+    text.get(..400).unwrap_or(text)
 }
 
 /// Where a row is, and the fronts of the answer that it wants and of the one that it got.
