@@ -1,5 +1,5 @@
 -- How many cases have a position.
-use Rattle.std.proofs.Common.{◌≡◌, ℕ, zero, suc, ◌+◌, ◌<◌, ◌≤◌, ◌==◌, ◌&&◌, List, [], ◌∷◌, ◌++◌, slice_get, Bool, true, false, Option, Some, None, refl, sym, subst, arith, if◌then◌else◌}
+use Rattle.std.proofs.Common.{◌≡◌, ℕ, zero, suc, ◌+◌, ◌<◌, ◌≤◌, ◌==◌, ◌&&◌, List, [], ◌∷◌, ◌++◌, slice_get, Bool, true, false, Option, Some, None, refl, sym, subst, arith, if◌then◌else◌, nat_lt, ◌∙◌, ap}
 use Rattle.std.specs.Prelude.{remove}
 use Rattle.std.proofs.lemmas.Bool.Decides.{nat_tests}
 use Rattle.kt_base.specs.declared.role.Role.{Role}
@@ -13,6 +13,11 @@ use Rattle.kt_child.specs.Ending.Ends.{is_over}
 pub and_left : (a b : Bool) → (a && b) ≡ true → a ≡ true
 and_left true b h = refl
 and_left false b h = h
+
+-- two tests that hold
+pub both : (a b : Bool) → a ≡ true → b ≡ true → (a && b) ≡ true
+both true b p q = q
+both false b p q = p
 
 -- a test beside one that fails
 pub and_false : (a : Bool) → (a && false) ≡ false
@@ -59,25 +64,21 @@ none_shown [] i p q = refl
 none_shown (c ∷ cases) i p q =
     count_step (i == c.position) c.role (shown c) (shown_at cases i Body) (shown_at cases i Cleanup) (count_at i cases) (none_shown cases i) p q
 
--- one case more that is not at a position
-among_step : (b x : Bool) (n : ℕ) → (x ≡ false → n ≡ 0) → (if b then true else x) ≡ false → one_if b + n ≡ 0
-among_step true x n h p = absurd (cc (p))
-among_step false x n h p = let m : n ≡ 0 = h p in omega arith
+-- a case is at a position where some are counted
+pub among_counts : (cases : List Case) (k : ℕ) → is_among cases k ≡ nat_lt 0 (count_at k cases)
+among_counts [] k = refl
+among_counts (c ∷ cases) k = step (k == c.position) (is_among cases k) (count_at k cases) (among_counts cases k)
+  where
+    step : (b x : Bool) (n : ℕ) → x ≡ nat_lt 0 n → (if b then true else x) ≡ nat_lt 0 (one_if b + n)
+    step true x n e = grind (arith, nat_tests)
+    step false x n e = let z : n ≡ 0 + n = omega arith in e ∙ ap (nat_lt 0) z
 
 -- a position at which no case is has none
 pub none_among : (cases : List Case) (i : ℕ) → is_among cases i ≡ false → count_at i cases ≡ 0
-none_among [] i p = refl
-none_among (c ∷ cases) i p = among_step (i == c.position) (is_among cases i) (count_at i cases) (none_among cases i) p
-
--- one case more, one of which is at a position
-some_step : (b x : Bool) (n : ℕ) → (x ≡ true → 0 < n) → (if b then true else x) ≡ true → 0 < one_if b + n
-some_step true x n h p = omega arith
-some_step false x n h p = let m : 0 < n = h p in omega arith
-
--- a position at which a case is has one
-pub some_among : (cases : List Case) (i : ℕ) → is_among cases i ≡ true → 0 < count_at i cases
-some_among [] i p = absurd (cc (p))
-some_among (c ∷ cases) i p = some_step (i == c.position) (is_among cases i) (count_at i cases) (some_among cases i) p
+none_among cases i p = none (count_at i cases) (sym (among_counts cases i) ∙ p)
+  where
+    none : (n : ℕ) → nat_lt 0 n ≡ false → n ≡ 0
+    none n e = grind (arith, nat_tests)
 
 -- a case behind the others
 pub count_append : (cases : List Case) (c : Case) (i : ℕ) → count_at i (cases ++ c ∷ []) ≡ count_at i cases + one_if (i == c.position)
@@ -120,20 +121,3 @@ count_owed pending c i =
 -- positions that a test calls the same are
 pub same_position : (a b : ℕ) → (a == b) ≡ true → a ≡ b
 same_position a b h = grind (arith, nat_tests)
-
--- positions that differ fail the test
-pub other_position : (a b : ℕ) → (b ≡ a → ⊥) → (a == b) ≡ false
-other_position a b h = by_test (a == b) refl
-  where
-    by_test : (t : Bool) → (a == b) ≡ t → (a == b) ≡ false
-    by_test true e = absurd (h (sym (same_position a b e)))
-    by_test false e = e
-
--- a position without a case has none among them
-pub count_none : (cases : List Case) (k : ℕ) → count_at k cases ≡ 0 → is_among cases k ≡ false
-count_none [] k h = refl
-count_none (c ∷ cases) k h = step (k == c.position) (is_among cases k) (count_at k cases) h (count_none cases k)
-  where
-    step : (b x : Bool) (n : ℕ) → one_if b + n ≡ 0 → (n ≡ 0 → x ≡ false) → (if b then true else x) ≡ false
-    step true x n h f = absurd (omega arith)
-    step false x n h f = f (omega arith)

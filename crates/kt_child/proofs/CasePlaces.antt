@@ -11,7 +11,7 @@ use Rattle.kt_child.proofs.Shares.{kept, name_of, named}
 use Rattle.kt_child.proofs.LifeSteps.{child_is_own}
 use Rattle.kt_child.proofs.NameCounts.{case_name, names_head, names_tail, none_named, numbered, other_name, own_named, own_number}
 use Rattle.kt_child.proofs.NamedSteps.{named_append}
-use Rattle.kt_child.proofs.Places.{in_append, some_is}
+use Rattle.kt_child.proofs.Places.{append_none, in_append, some_is}
 
 -- what holds of each of these
 abbrev pub Every : {X : Type 0} → (X → Type 0) → List X → Type 0
@@ -104,14 +104,9 @@ not_one false h = refl
 pub other_number : (d a : Child) → one_if (d.attempt == a.attempt) ≡ 0 → same_child d a ≡ false
 other_number d a h = ap (λ t. t && same_role d.role a.role) (not_one (d.attempt == a.attempt) h)
 
--- nothing behind a list of children
-append_nil : (xs : List Watched) → xs ++ [] ≡ xs
-append_nil [] = refl
-append_nil (x ∷ xs) = ap (λ t. x ∷ t) (append_nil xs)
-
 -- a child of another name behind a list of children
 pub named_past : (a : Child) (row : List Watched) (k : Watched) → same_child k.child a ≡ false → named a (row ++ k ∷ []) ≡ named a row
-named_past a row k h = named_append a row (k ∷ []) ∙ ap (λ t. named a row ++ kept t k []) h ∙ append_nil (named a row)
+named_past a row k h = named_append a row (k ∷ []) ∙ ap (λ t. named a row ++ kept t k []) h ∙ append_none (named a row)
 
 -- a child behind a list of children in which its name isn't
 pub named_last : (row : List Watched) (k : Watched) → named k.child row ≡ [] → named k.child (row ++ k ∷ []) ≡ k ∷ []

@@ -1,5 +1,5 @@
 -- The names of a list of children, which polls keep.
-use Rattle.std.proofs.Common.{◌≡◌, ℕ, zero, suc, List, [], ◌∷◌, ◌++◌, Bool, true, false, Some, map, slice_get, refl, sym, ◌∙◌, ap}
+use Rattle.std.proofs.Common.{◌≡◌, ℕ, zero, suc, List, [], ◌∷◌, Bool, true, false, Some, map, slice_get, refl, sym, ◌∙◌, ap}
 use Rattle.std.specs.Prelude.{remove}
 use Rattle.kt_base.specs.declared.outcome.Outcome.{Outcome}
 use Rattle.kt_child.specs.declared.system.child.Child.{Child}
@@ -27,10 +27,6 @@ names_turn (k ∷ ks) = ap (λ t. k.child ∷ t) (names_turn ks)
 pub names_turns : (n : ℕ) (ks : List Watched) → map name_of (after_turns n ks) ≡ map name_of ks
 names_turns zero ks = refl
 names_turns (suc n) ks = names_turns n (map advanced ks) ∙ names_turn ks
-
-pub names_append : (xs ys : List Watched) → map name_of (xs ++ ys) ≡ map name_of xs ++ map name_of ys
-names_append [] ys = refl
-names_append (x ∷ xs) ys = ap (λ t. x.child ∷ t) (names_append xs ys)
 
 -- a list of children without a child of another name
 removed : (c over : Child) (row : List Watched) (place : ℕ) → slice_get (map name_of row) place ≡ Some over → same_child over c ≡ false

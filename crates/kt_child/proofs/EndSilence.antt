@@ -1,6 +1,5 @@
 -- What follows the last poll of a child is no poll.
 use Rattle.std.proofs.Common.{◌≡◌, ℕ, zero, suc, List, [], ◌∷◌, ◌++◌, Bool, true, false, Some, Result, map, slice_get, sym, ◌∙◌, ap, subst}
-use Rattle.std.specs.Prelude.{remove}
 use Rattle.kt_base.specs.declared.role.Role.{Role}
 use Rattle.kt_base.specs.declared.role.Role.TheVariants.{Body, Cleanup}
 use Rattle.kt_base.specs.declared.outcome.Outcome.{Outcome}
@@ -17,7 +16,7 @@ use Rattle.kt_child.specs.declared.planning.case.Case.{Case}
 use Rattle.kt_child.specs.declared.polling.watched.Watched.{Watched}
 use Rattle.kt_child.specs.declared.ending.next_part.NextPart.{NextPart}
 use Rattle.kt_child.specs.declared.ending.next_part.NextPart.TheVariants.{More, All, Absent, Failed, Past}
-use Rattle.kt_child.specs.Driving.ChildrenState.{ChildrenState}
+use Rattle.kt_child.specs.Driving.ChildrenState.{ChildrenState, Waited}
 use Rattle.kt_child.specs.System.Calls.{Call, ReadFile, ReadPart}
 use Rattle.kt_child.specs.Polling.ChildOutcome.{Heard}
 use Rattle.kt_child.specs.Ending.Ends.{Leaves, Removes, err_of, is_over, out_of}
@@ -26,8 +25,8 @@ use Rattle.kt_child.specs.Polling.Lives.{heard_by, same_child}
 use Rattle.kt_child.specs.Ending.Parts.{After, Reads, Whole}
 use Rattle.kt_child.specs.Ending.Reads.{bytes_of}
 use Rattle.kt_child.proofs.Shares.{Share, name_of, named}
-use Rattle.kt_child.specs.Polling.Turns.{WaitedOn}
-use Rattle.kt_child.proofs.LifeSteps.{append_none, heard_append}
+use Rattle.kt_child.proofs.Places.{append_none}
+use Rattle.kt_child.proofs.LifeSteps.{heard_append}
 use Rattle.kt_child.proofs.SeveralWaits.{wait_shares}
 
 -- one part of a reading
@@ -83,17 +82,16 @@ leaves_silent c case calls outcome ended (now, reads, out, err, last, e, gathers
     ∙ ap (λ t. t ++ heard_by c last) (gathers_silent c case.interface case.role case.paths reads ended.evidence gathers)
     ∙ removes_silent c (is_over case) case.paths.dir last removes
 
--- what a wait that ends at a place is for each child whose name is its own
-pub shares_at : (old new : ChildrenState) (polls rest : List Call) (place : ℕ) (outcome : Outcome) (after : List Watched) (case : Case) (e : Ended) (c : Child) (k : Watched)
-    → named c old.children ≡ k ∷ [] → WaitedOn old.children polls place outcome after
-    → Leaves case rest outcome e → new.children ≡ remove after place
-    → (over : Child) × (slice_get (map name_of old.children) place ≡ Some over)
-    × Share c (same_child over c) k (heard_by c (polls ++ rest)) e.outcome new.children
-shares_at old new polls rest place outcome after case e c k own waited leaves ch =
-    let w = wait_shares old.children polls place outcome after c k own waited in
-    let f : heard_by c (polls ++ rest) ≡ heard_by c polls =
-    heard_append c polls rest ∙ ap (λ t. heard_by c polls ++ t) (leaves_silent c case rest outcome e leaves) ∙ append_none (heard_by c polls) in
-    let P : List Heard → Type 0 = λ t. Share c (same_child w.0 c) k t e.outcome new.children in
-    let Q : Outcome → Type 0 = λ t. Share c (same_child w.0 c) k (heard_by c polls) t new.children in
-    let R : List Watched → Type 0 = λ t. Share c (same_child w.0 c) k (heard_by c polls) outcome t in
-    (w.0, w.1, subst P (sym f) (subst Q (sym leaves.10) (subst R (sym ch) w.2)))
+-- what a wait is for each child whose name is its own
+pub shares_at : (old new : ChildrenState) (calls : List Call) (e : Ended) (c : Child) (k : Watched) → named c old.children ≡ k ∷ [] → (w : Waited old calls e new)
+    → (over : Child) × (slice_get (map name_of old.children) w.place ≡ Some over)
+    × Share c (same_child over c) k (heard_by c calls) e.outcome new.children
+shares_at old new calls e c k own w =
+    let s = wait_shares old.children w.polls w.place w.outcome w.after c k own w.waited in
+    let f : heard_by c calls ≡ heard_by c w.polls =
+    ap (heard_by c) w.asked ∙ heard_append c w.polls w.rest ∙ ap (λ t. heard_by c w.polls ++ t) (leaves_silent c w.case w.rest w.outcome e w.left)
+    ∙ append_none (heard_by c w.polls) in
+    let P : List Heard → Type 0 = λ t. Share c (same_child s.0 c) k t e.outcome new.children in
+    let Q : Outcome → Type 0 = λ t. Share c (same_child s.0 c) k (heard_by c w.polls) t new.children in
+    let R : List Watched → Type 0 = λ t. Share c (same_child s.0 c) k (heard_by c w.polls) w.outcome t in
+    (s.0, s.1, subst P (sym f) (subst Q (sym w.left.10) (subst R (sym w.children) s.2)))

@@ -21,7 +21,7 @@ use Rattle.kt_child.specs.Driving.Launches.{StartsBy}
 use Rattle.kt_child.specs.Driving.Numbers.{IsBare}
 use Rattle.kt_child.proofs.Shares.{name_of}
 use Rattle.kt_child.proofs.NameCounts.{case_name, numbered, numbered_less, numbered_more, one_or}
-use Rattle.kt_child.proofs.ChildNames.{names_append}
+use Rattle.kt_child.proofs.Places.{mapped_append}
 use Rattle.kt_child.proofs.SeveralWaits.{names_waited}
 
 -- each child is that of its case, each number stands once at most, and none from the next on
@@ -30,14 +30,10 @@ Apart next b =
     (map name_of b.children ≡ map case_name b.cases)
     × ((n : ℕ) → (numbered n b.cases + numbered n b.pending ≤ 1) × (next ≤ n → numbered n b.cases + numbered n b.pending ≡ 0))
 
-cases_append : (xs ys : List Case) → map case_name (xs ++ ys) ≡ map case_name xs ++ map case_name ys
-cases_append [] ys = refl
-cases_append (x ∷ xs) ys = ap (λ t. case_name x ∷ t) (cases_append xs ys)
-
 names_more : (ks : List Watched) (cs : List Case) (k : Watched) (c : Case) → map name_of ks ≡ map case_name cs → k.child ≡ case_name c
     → map name_of (ks ++ k ∷ []) ≡ map case_name (cs ++ c ∷ [])
 names_more ks cs k c e f =
-    names_append ks (k ∷ []) ∙ ap (λ t. t ++ k.child ∷ []) e ∙ ap (λ t. map case_name cs ++ t ∷ []) f ∙ sym (cases_append cs (c ∷ []))
+    mapped_append name_of ks (k ∷ []) ∙ ap (λ t. t ++ k.child ∷ []) e ∙ ap (λ t. map case_name cs ++ t ∷ []) f ∙ sym (mapped_append case_name cs (c ∷ []))
 
 -- a body that takes the next number
 body_more : (next : ℕ) (b : ChildrenState) (job : Job) (p : Paths) (answer : StartAnswer) → Apart next b
@@ -106,16 +102,17 @@ owed n c pending = by (is_over c)
     by false = let s = numbered_more n pending c in omega (arith, s)
 
 pub wait_apart : (old new : ChildrenState) (calls : List Call) (ended : Ended) (next : ℕ) → Waited old calls ended new → Apart next old → Apart next new
-wait_apart old new calls ended next (polls, rest, place, outcome, after, c, eq, waited, at, leaves, ch, ca, pe) (e, h) =
-    let names : map name_of after ≡ map name_of old.children = names_waited old.children polls place outcome after waited in
-    let l : map name_of new.children ≡ remove (map name_of old.children) place = ap (map name_of) ch ∙ map_remove name_of after place ∙ ap (λ t. remove t place) names in
-    let r : map case_name new.cases ≡ remove (map case_name old.cases) place = ap (map case_name) ca ∙ map_remove case_name old.cases place in (
-      l ∙ ap (λ t. remove t place) e ∙ sym r,
+wait_apart old new calls ended next w (e, h) =
+    let names : map name_of w.after ≡ map name_of old.children = names_waited old.children w.polls w.place w.outcome w.after w.waited in
+    let l : map name_of new.children ≡ remove (map name_of old.children) w.place =
+    ap (map name_of) w.children ∙ map_remove name_of w.after w.place ∙ ap (λ t. remove t w.place) names in
+    let r : map case_name new.cases ≡ remove (map case_name old.cases) w.place = ap (map case_name) w.cases ∙ map_remove case_name old.cases w.place in (
+      l ∙ ap (λ t. remove t w.place) e ∙ sym r,
       λ n.
-          let s = numbered_less n old.cases place c at in
-          let a = ap (numbered n) ca in
-          let p = ap (numbered n) pe in
-          let o = owed n c old.pending in
+          let s = numbered_less n old.cases w.place w.case w.there in
+          let a = ap (numbered n) w.cases in
+          let p = ap (numbered n) w.pending in
+          let o = owed n w.case old.pending in
           let m = h n in
           let one = m.0 in
           (omega (arith, s, a, p, o, one), λ le. let y = m.1 le in omega (arith, s, a, p, o, y)),

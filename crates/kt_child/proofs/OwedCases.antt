@@ -1,8 +1,7 @@
 -- Which cases are owed a cleanup.
-use Rattle.std.proofs.Common.{◌≡◌, ℕ, zero, suc, ◌+◌, ◌<◌, ◌≤◌, ◌==◌, ◌&&◌, List, [], ◌∷◌, ◌++◌, length, drop, slice_get, Bool, true, false, Option, Some, refl, sym, ◌∙◌, ap, subst, arith, if◌then◌else◌}
+use Rattle.std.proofs.Common.{◌≡◌, ℕ, ◌+◌, ◌≤◌, ◌==◌, ◌&&◌, List, [], ◌∷◌, ◌++◌, length, drop, slice_get, Bool, true, false, Option, Some, refl, sym, ◌∙◌, ap, subst, arith, if◌then◌else◌, nat_lt}
 use Rattle.std.specs.Prelude.{remove}
-use lib.Seq.{drop-cons}
-use Rattle.std.proofs.Math.ListN.{get_or}
+use Rattle.std.proofs.lemmas.Bool.Decides.{nat_tests}
 use Rattle.std.proofs.lemmas.List.{drop_all}
 use Rattle.kt_base.specs.declared.role.Role.{Role}
 use Rattle.kt_base.specs.declared.role.Role.TheVariants.{Body, Cleanup}
@@ -10,21 +9,16 @@ use Rattle.kt_child.specs.declared.planning.case.Case.{Case}
 use Rattle.kt_sched.specs.Children.{Child as Shown, same_role, with_cleanup_declared}
 use Rattle.kt_child.specs.Driving.ChildrenState.{count_at, is_among, one_if, pending_with, shown, shown_at}
 use Rattle.kt_child.specs.Ending.Ends.{is_over}
-use Rattle.kt_child.proofs.CaseCounts.{and_false, count_none, count_there, other, other_position, same_number, same_position}
-
--- two tests for the same may change places
-true_first : (a b x : Bool) → (if a then true else (if b then true else x)) ≡ (if b then true else (if a then true else x))
-true_first true true x = refl
-true_first true false x = refl
-true_first false true x = refl
-true_first false false x = refl
+use Rattle.kt_child.proofs.CaseCounts.{among_counts, and_false, count_append, count_remove, same_position}
 
 -- a case behind those that are owed
 pub among_append : (cases : List Case) (c : Case) (k : ℕ) → is_among (cases ++ c ∷ []) k ≡ (if k == c.position then true else is_among cases k)
-among_append [] c k = refl
-among_append (d ∷ cases) c k =
-    ap (λ t. if k == d.position then true else t) (among_append cases c k)
-    ∙ true_first (k == d.position) (k == c.position) (is_among cases k)
+among_append cases c k =
+    among_counts (cases ++ c ∷ []) k ∙ ap (nat_lt 0) (count_append cases c k) ∙ more (k == c.position) (is_among cases k) (count_at k cases) (among_counts cases k)
+  where
+    more : (b x : Bool) (n : ℕ) → x ≡ nat_lt 0 n → nat_lt 0 (n + one_if b) ≡ (if b then true else x)
+    more true x n e = grind (arith, nat_tests)
+    more false x n e = let z : n + 0 ≡ n = omega arith in ap (nat_lt 0) z ∙ sym e
 
 -- whether the case of an end is owed its cleanup
 owed_step : (b : Bool) (role : Role) (cleanup : Bool) (s : Shown) (shown : Role → Option Shown) (x y : Bool)
@@ -61,56 +55,18 @@ among_owed cases pending c k e =
     ∙ owed_step (k == c.position) c.role c.cleanup (shown c) (shown_at cases c.position) (is_among pending k) (is_among (pending ++ c ∷ []) k)
     e refl (among_append pending c k)
 
--- a case elsewhere is passed
-skip_true : (b x : Bool) → b ≡ false → (if b then true else x) ≡ true → x ≡ true
-skip_true true x e h = absurd (cc (e))
-skip_true false x e h = h
-
--- the search for a case goes on behind one of another position
-pub among_next : (cases : List Case) (i k : ℕ) (d : Case) → i < length cases → is_among (drop i cases) k ≡ true
-    → ((get_or cases i d).position ≡ k → ⊥) → is_among (drop (i + 1) cases) k ≡ true
-among_next cases i k d lt h n =
-    let e : drop i cases ≡ get_or cases i d ∷ drop (suc i) cases = drop-cons cases i d lt in
-    let h' : is_among (get_or cases i d ∷ drop (suc i) cases) k ≡ true = subst (λ t. is_among t k ≡ true) e h in
-    let s : i + 1 ≡ suc i = omega arith in
-    subst (λ m. is_among (drop m cases) k ≡ true) (sym s)
-    (skip_true (k == (get_or cases i d).position) (is_among (drop (suc i) cases) k) (other_position k (get_or cases i d).position n) h')
-
--- and finds it before the end
+-- no case is behind the end
 pub among_end : (cases : List Case) (i k : ℕ) → length cases ≤ i → is_among (drop i cases) k ≡ true → ⊥
 among_end cases i k le h = absurd (cc (subst (λ t. is_among t k ≡ true) (drop_all i cases le) h))
-
--- the case that is taken stands first
-among_first : (b x : Bool) → (b ≡ true → x ≡ false) → x ≡ (if b then false else (if b then true else x))
-among_first true x h = h refl
-among_first false x h = refl
-
--- two tests that do not hold together may change places
-true_or_false : (a b x : Bool) → (a ≡ true → b ≡ true → ⊥) → (if a then true else (if b then false else x)) ≡ (if b then false else (if a then true else x))
-true_or_false true true x h = absurd (h refl refl)
-true_or_false true false x h = refl
-true_or_false false true x h = refl
-true_or_false false false x h = refl
 
 -- a case taken from those that are owed
 pub among_remove : (cases : List Case) (p : ℕ) (c : Case) (k : ℕ) → slice_get cases p ≡ Some c → count_at c.position cases ≤ 1
     → is_among (remove cases p) k ≡ (if k == c.position then false else is_among cases k)
-among_remove [] p c k h once = absurd (cc (h))
-among_remove (d ∷ cases) zero c k h once =
-    let e : d ≡ c = cc (h) in
-    let O : Case → Type 0 = λ t. count_at t.position (d ∷ cases) ≤ 1 in
-    let once' : one_if (d.position == d.position) + count_at d.position cases ≤ 1 = subst O (sym e) once in
-    let B : Bool → Type 0 = λ b. one_if b + count_at d.position cases ≤ 1 in
-    let m : 1 + count_at d.position cases ≤ 1 = subst B (same_number d.position) once' in
-    let z : count_at d.position cases ≡ 0 = omega arith in
-    let P : Case → Type 0 = λ t. is_among cases k ≡ (if k == t.position then false else is_among (d ∷ cases) k) in
-    subst P e
-    (among_first (k == d.position) (is_among cases k)
-    (λ q. let Z : ℕ → Type 0 = λ n. count_at n cases ≡ 0 in
-    count_none cases k (subst Z (sym (same_position k d.position q)) z)))
-among_remove (d ∷ cases) (suc p) c k h once =
-    let m : count_at c.position cases ≤ 1 = omega arith in
-    let there : 0 < count_at c.position cases = count_there cases p c h in
-    ap (λ t. if k == d.position then true else t) (among_remove cases p c k h m)
-    ∙ true_or_false (k == d.position) (k == c.position) (is_among cases k)
-    (λ u v. other c.position d.position k (count_at c.position cases) once there u v)
+among_remove cases p c k at once =
+    among_counts (remove cases p) k
+    ∙ less (k == c.position) (is_among cases k) (count_at k (remove cases p)) (count_at k cases) (count_remove cases p c k at)
+    (λ e. let P : ℕ → Type 0 = λ t. count_at t cases ≤ 1 in subst P (sym (same_position k c.position e)) once) (among_counts cases k)
+  where
+    less : (b x : Bool) (m n : ℕ) → m + one_if b ≡ n → (b ≡ true → n ≤ 1) → x ≡ nat_lt 0 n → nat_lt 0 m ≡ (if b then false else x)
+    less true x m n e h f = let le = h refl in let z : m ≡ 0 = omega (arith, e, le) in ap (nat_lt 0) z
+    less false x m n e h f = let same : m ≡ n = omega (arith, e) in ap (nat_lt 0) same ∙ sym f

@@ -16,24 +16,16 @@ use Rattle.kt_child.proofs.LifeSteps.{heard_append}
 use Rattle.kt_child.proofs.NamedSteps.{named_map}
 
 -- what a poll of a child is for one of its name
-pub heard_one : (b t : Bool) (d c : Child) (answer : Result Polled OsFault) (done : Bool) → same_child d c ≡ t → t ≡ true
+pub heard_one : (b : Bool) (d c : Child) (answer : Result Polled OsFault) (done : Bool) → same_child d c ≡ true
     → heard_by c (if b then Poll d answer ∷ Kill d done ∷ [] else Poll d answer ∷ []) ≡ (if b then HeardPoll answer ∷ HeardKill done ∷ [] else HeardPoll answer ∷ [])
-heard_one true t d c answer done e f =
-    let P : Bool → Type 0 = λ s. own s (HeardPoll answer) (own s (HeardKill done) []) ≡ HeardPoll answer ∷ HeardKill done ∷ [] in
-    subst P (sym (e ∙ f)) refl
-heard_one false t d c answer done e f =
-    let P : Bool → Type 0 = λ s. own s (HeardPoll answer) [] ≡ HeardPoll answer ∷ [] in
-    subst P (sym (e ∙ f)) refl
+heard_one true d c answer done e = ap (λ t. own t (HeardPoll answer) ++ (own t (HeardKill done) ++ [])) e
+heard_one false d c answer done e = ap (λ t. own t (HeardPoll answer) ++ []) e
 
 -- and for one of another
 pub heard_none : (b : Bool) (d c : Child) (answer : Result Polled OsFault) (done : Bool) → same_child d c ≡ false
     → heard_by c (if b then Poll d answer ∷ Kill d done ∷ [] else Poll d answer ∷ []) ≡ []
-heard_none true d c answer done e =
-    let P : Bool → Type 0 = λ s. own s (HeardPoll answer) (own s (HeardKill done) []) ≡ [] in
-    subst P (sym e) refl
-heard_none false d c answer done e =
-    let P : Bool → Type 0 = λ s. own s (HeardPoll answer) [] ≡ [] in
-    subst P (sym e) refl
+heard_none true d c answer done e = ap (λ t. own t (HeardPoll answer) ++ (own t (HeardKill done) ++ [])) e
+heard_none false d c answer done e = ap (λ t. own t (HeardPoll answer) ++ []) e
 
 -- each of these heard one poll, in order, and none is over
 abbrev HeardAll : List Watched → List Heard → Type 0
@@ -47,7 +39,7 @@ heard_by_kept : (b : Bool) (c : Child) (k : Watched) (ks : List Watched) (more :
     → same_child k.child c ≡ b → turn_of k.limit k.watch answer done ≡ More → HeardAll ks (heard_by c more)
     → HeardAll (kept b k ks) (heard_by c (asked_by_poll k.child k.limit k.watch answer done) ++ heard_by c more)
 heard_by_kept true c k ks more answer done e went h =
-    (answer, done, heard_by c more, ap (λ t. t ++ heard_by c more) (heard_one (is_killed k.limit k.watch answer) true k.child c answer done e refl), went, h)
+    (answer, done, heard_by c more, ap (λ t. t ++ heard_by c more) (heard_one (is_killed k.limit k.watch answer) k.child c answer done e), went, h)
 heard_by_kept false c k ks more answer done e went h =
     let f : heard_by c (asked_by_poll k.child k.limit k.watch answer done) ≡ [] = heard_none (is_killed k.limit k.watch answer) k.child c answer done e in
     let P : List Heard → Type 0 = λ t. HeardAll ks (t ++ heard_by c more) in

@@ -1,18 +1,20 @@
 -- What a wait is for each child of a list of children.
-use Rattle.std.proofs.Common.{◌≡◌, ℕ, zero, suc, List, [], ◌∷◌, ◌++◌, Bool, true, false, Option, Some, None, ◌⊎◌, map, take, drop, slice_get, refl, sym, ◌∙◌, ap, subst, inl, inr}
+use Rattle.std.proofs.Common.{◌≡◌, ℕ, zero, suc, ◌<◌, List, [], ◌∷◌, ◌++◌, Bool, true, false, Option, Some, None, ◌⊎◌, map, take, drop, slice_get, refl, sym, ◌∙◌, ap, subst, inl, inr}
 use Rattle.std.specs.Prelude.{remove}
 use Rattle.kt_base.specs.declared.outcome.Outcome.{Outcome}
 use Rattle.kt_child.specs.declared.system.child.Child.{Child}
 use Rattle.kt_child.specs.declared.polling.watched.Watched.{Watched}
 use Rattle.kt_child.specs.System.Calls.{Call}
-use Rattle.kt_child.specs.Polling.ChildOutcome.{Heard, heard_of}
+use Rattle.kt_child.specs.Polling.ChildOutcome.{Heard, Told, fresh, heard_of}
 use Rattle.kt_child.specs.Polling.Lives.{heard_by, same_child}
 use Rattle.kt_child.specs.Polling.Polls.{is_killed}
 use Rattle.kt_child.proofs.Shares.{GoesOn, LivesOut, Share, kept, name_of, named}
 use Rattle.kt_child.specs.Polling.Turns.{PolledAll, PolledLast, WaitedOn, advanced, after_turns}
-use Rattle.kt_child.proofs.LifeSteps.{append_none, heard_append}
+use Rattle.kt_child.proofs.Places.{append_none, some_is}
+use Rattle.kt_child.proofs.LifeSteps.{child_is_own, heard_append}
 use Rattle.kt_child.proofs.NamedSteps.{at_place, in_parts, is_last, named_append, named_map}
 use Rattle.kt_child.proofs.ChildNames.{name_at, names_below, names_turns, share_removed}
+use Rattle.kt_child.proofs.Outcomes.{told}
 use Rattle.kt_child.proofs.SeveralSteps.{heard_none, heard_one, one_turn, share_join, silent, whole_turns}
 
 pub last_of : (x : Option Watched) (last : List Call) (outcome : Outcome) → PolledLast x last outcome
@@ -25,7 +27,7 @@ last_own : (c : Child) (o : Watched) (last : List Call) (outcome : Outcome) → 
     → LivesOut o (heard_by c last) outcome
 last_own c o last outcome same (answer, done, asked, ended) =
     let f : heard_by c last ≡ heard_of o.limit o.watch answer done =
-    ap (heard_by c) asked ∙ heard_one (is_killed o.limit o.watch answer) true o.child c answer done same refl in
+    ap (heard_by c) asked ∙ heard_one (is_killed o.limit o.watch answer) o.child c answer done same in
     (suc zero, (answer, done, [], f ∙ sym (append_none (heard_of o.limit o.watch answer done)), inl (ended, refl)))
 
 -- and another child hears nothing of it
@@ -105,3 +107,19 @@ wait_shares children calls place outcome after c k e (turns, (rounds, last, eq, 
           (ap (λ t. slice_get t place) (ap (map name_of) same ∙ names_below place row) ∙ there)
           (subst P (sym (ap (heard_by c) eq ∙ heard_append c rounds last)) both),
     )
+
+-- the outcome of a child that is waited for alone from its start on is that of the outcome table
+pub one_outcome : (c : Child) (limit : ℕ) (calls : List Call) (place : ℕ) (outcome : Outcome) (after : List Watched)
+    → 0 < limit → WaitedOn (record { child = c; limit = limit; watch = fresh } ∷ []) calls place outcome after → Told limit (heard_by c calls) outcome
+one_outcome c limit calls place outcome after positive w =
+    let k : Watched = record { child = c; limit = limit; watch = fresh } in
+    let own : named c (k ∷ []) ≡ k ∷ [] = ap (λ t. kept t k []) (child_is_own c) in
+    let s = wait_shares (k ∷ []) calls place outcome after c k own w in
+    let P : Child → Type 0 = λ t. Share c (same_child t c) k (heard_by c calls) outcome (remove after place) in
+    let Q : Bool → Type 0 = λ t. Share c t k (heard_by c calls) outcome (remove after place) in
+    let life : LivesOut k (heard_by c calls) outcome = subst Q (child_is_own c) (subst P (alone place s.0 s.1) s.2) in
+    told life.0 limit (heard_by c calls) outcome positive life.1
+  where
+    alone : (i : ℕ) (o : Child) → slice_get (c ∷ []) i ≡ Some o → o ≡ c
+    alone zero o e = sym (some_is c o e)
+    alone (suc i) o e = let no : ⊥ = cc in absurd no

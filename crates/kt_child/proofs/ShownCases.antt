@@ -6,7 +6,7 @@ use Rattle.kt_base.specs.declared.role.Role.{Role}
 use Rattle.kt_child.specs.declared.planning.case.Case.{Case}
 use Rattle.kt_sched.specs.Children.{Child as Shown, same_role}
 use Rattle.kt_child.specs.Driving.ChildrenState.{count_at, one_if, shown, shown_at}
-use Rattle.kt_child.proofs.CaseCounts.{and_left, count_there, none_there, other, own_role, same_number}
+use Rattle.kt_child.proofs.CaseCounts.{and_left, both, count_there, none_there, other, own_role, same_number}
 
 -- two tests that don't hold together may change places
 swap_tests : {X : Type 0} (a b : Bool) (x y z : X) → (a ≡ true → b ≡ true → ⊥)
@@ -84,11 +84,6 @@ get_step false x y h = absurd (cc (h))
 skip_step : (b : Bool) (x y z : Option Shown) → (b ≡ true → ⊥) → y ≡ z → (if b then x else y) ≡ z
 skip_step true x y z h e = absurd (h refl)
 skip_step false x y z h e = e
-
--- two tests that hold
-both : (a b : Bool) → a ≡ true → b ≡ true → (a && b) ≡ true
-both true b p q = q
-both false b p q = p
 
 -- the child that is over is shown
 pub shown_there : (cases : List Case) (p : ℕ) (c : Case) → slice_get cases p ≡ Some c → count_at c.position cases ≤ 1

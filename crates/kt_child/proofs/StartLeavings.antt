@@ -1,5 +1,5 @@
 -- What a start leaves of what is known of other children.
-use Rattle.std.proofs.Common.{◌≡◌, ℕ, zero, ◌≤◌, ◌==◌, ◌&&◌, List, [], ◌∷◌, ◌++◌, Bool, true, false, Some, ◌⊎◌, slice_get, refl, sym, ◌∙◌, ap, arith, inl, inr}
+use Rattle.std.proofs.Common.{◌≡◌, ℕ, zero, ◌≤◌, ◌==◌, ◌&&◌, List, [], ◌∷◌, ◌++◌, false, Some, ◌⊎◌, slice_get, refl, sym, ◌∙◌, ap, arith, inl, inr}
 use Rattle.std.specs.Prelude.{remove}
 use Rattle.kt_base.specs.declared.role.Role.{Role}
 use Rattle.kt_base.specs.declared.role.Role.TheVariants.{Body, Cleanup}
@@ -19,6 +19,7 @@ use Rattle.kt_child.specs.Driving.JobPlan.{case_in, case_of, cleaning, watched_o
 use Rattle.kt_child.specs.Polling.Lives.{same_child}
 use Rattle.kt_child.proofs.Shares.{named}
 use Rattle.kt_child.specs.Driving.TraceLives.{IsNumberOf}
+use Rattle.kt_child.proofs.CaseCounts.{and_false}
 use Rattle.kt_child.proofs.CasePlaces.{Every, at_none, at_some, named_last, named_past, other_number}
 use Rattle.kt_child.proofs.NameCounts.{case_name, numbered, numbered_less, numbered_more, one_or}
 use Rattle.kt_child.proofs.NamedSteps.{head_is}
@@ -85,11 +86,6 @@ gone_body next next' b job p (StartedAt moment) le c (lt, none, h) =
     let y : one_if (c.attempt == next) ≡ 0 = unequal c.attempt next (λ e. omega (arith, e, lt)) in
     let s = numbered_more c.attempt b.cases (case_of job next p) in
     (omega arith, named_past c b.children k (other_number k.child c z) ∙ none, λ r. let o = h r in omega (arith, s, y, o))
-
--- a test beside one that fails
-and_false : (a : Bool) → (a && false) ≡ false
-and_false true = refl
-and_false false = refl
 
 -- the cleanup of a case that is owed is not a child that is gone
 cleaner_apart : (next : ℕ) (b : ChildrenState) (n : ℕ) (c : Child) → 1 ≤ numbered n b.pending → IsGone next b c → (r : Role) → c.role ≡ r → same_child (cleaner n) c ≡ false

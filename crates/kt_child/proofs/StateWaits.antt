@@ -60,23 +60,26 @@ waited_one cases pending p c position role evidence once at e f fits =
     let Q : Role → Type 0 = λ r. shown_at cases c.position r ≡ Some (shown c) in
     (shown c, subst P (sym e) (subst Q (sym f) (shown_there cases p c at (once_there cases pending c once))), fits)
 
-pub waited_running : (cases cases' pending : List Case) (p : ℕ) (c : Case) (e : Ended)
-    → ((i : ℕ) → count_at i cases + count_at i pending ≤ 1) → slice_get cases p ≡ Some c
-    → e.position ≡ c.position → e.role ≡ c.role → cases' ≡ remove cases p
-    → (k : ℕ) (r : Role) → shown_at cases' k r ≡ running_after_end (shown_at cases) e k r
-waited_running cases cases' pending p c e once at x y f k r =
-    let A : ℕ → Option Shown = λ n. if k == n && same_role r c.role then None else shown_at cases k r in
-    let B : Role → Option Shown = λ q. if k == e.position && same_role r q then None else shown_at cases k r in
-    ap (λ t. shown_at t k r) f ∙ shown_remove cases p c k r at (once_there cases pending c once) ∙ ap A (sym x) ∙ ap B (sym y)
+-- no case stands twice
+abbrev pub Once : ChildrenState → Type 0
+Once b = (i : ℕ) → count_at i b.cases + count_at i b.pending ≤ 1
 
-pub waited_pending : (cases pending pending' : List Case) (p : ℕ) (c : Case) (e : Ended)
-    → ((i : ℕ) → count_at i cases + count_at i pending ≤ 1) → slice_get cases p ≡ Some c
-    → e.position ≡ c.position → e.role ≡ c.role → pending' ≡ pending_with c pending
-    → (k : ℕ) → is_among pending' k ≡ pending_after_end (shown_at cases) (is_among pending) e k
-waited_pending cases pending pending' p c e once at x y f k =
-    let A : ℕ → Bool = λ n. if k == n && (same_role c.role Body && with_cleanup_declared (shown_at cases n Body)) then true else is_among pending k in
-    let B : Role → Bool = λ q. if k == e.position && (same_role q Body && with_cleanup_declared (shown_at cases e.position Body)) then true else is_among pending k in
-    ap (λ t. is_among t k) f ∙ among_owed cases pending c k (shown_there cases p c at (once_there cases pending c once)) ∙ ap A (sym x) ∙ ap B (sym y)
+pub waited_running : (old new : ChildrenState) (calls : List Call) (e : Ended) → Once old → Waited old calls e new
+    → (k : ℕ) (r : Role) → shown_at new.cases k r ≡ running_after_end (shown_at old.cases) e k r
+waited_running old new calls e once w k r =
+    let A : ℕ → Option Shown = λ n. if k == n && same_role r w.case.role then None else shown_at old.cases k r in
+    let B : Role → Option Shown = λ q. if k == e.position && same_role r q then None else shown_at old.cases k r in
+    ap (λ t. shown_at t k r) w.cases ∙ shown_remove old.cases w.place w.case k r w.there (once_there old.cases old.pending w.case once)
+    ∙ ap A (sym w.left.8) ∙ ap B (sym w.left.9)
+
+pub waited_pending : (old new : ChildrenState) (calls : List Call) (e : Ended) → Once old → Waited old calls e new
+    → (k : ℕ) → is_among new.pending k ≡ pending_after_end (shown_at old.cases) (is_among old.pending) e k
+waited_pending old new calls e once w k =
+    let A : ℕ → Bool = λ n. if k == n && (same_role w.case.role Body && with_cleanup_declared (shown_at old.cases n Body)) then true else is_among old.pending k in
+    let B : Role → Bool = λ q. if k == e.position && (same_role q Body && with_cleanup_declared (shown_at old.cases e.position Body)) then true else is_among old.pending k in
+    ap (λ t. is_among t k) w.pending
+    ∙ among_owed old.cases old.pending w.case k (shown_there old.cases w.place w.case w.there (once_there old.cases old.pending w.case once))
+    ∙ ap A (sym w.left.8) ∙ ap B (sym w.left.9)
 
 pub waited_all : {O : Type 0} (leads : O → Call → O → Type 0) (a b d : O) (old new : ChildrenState) (children after : List Watched) (place : ℕ) (outcome : Outcome) (c : Case) (e : Ended)
     → (calls : List Call) × Chain leads a calls b × WaitedOn children calls place outcome after
@@ -85,8 +88,25 @@ pub waited_all : {O : Type 0} (leads : O → Call → O → Type 0) (a b d : O) 
     → new.children ≡ remove after place → new.cases ≡ remove old.cases place → new.pending ≡ pending_with c old.pending
     → (calls : List Call) × Chain leads a calls d × Waited old calls e new
 waited_all leads a b d old new children after place outcome c e (xs, p, w) (ys, q, l) same at f g i =
-    let P : List Watched → Type 0 = λ t. WaitedOn t xs place outcome after in
-    (xs ++ ys, chain_append leads a b d xs ys p q, (xs, ys, place, outcome, after, c, refl, subst P same w, at, l, f, g, i))
+    let P : List Watched → Type 0 = λ t. WaitedOn t xs place outcome after in (
+      xs ++ ys,
+      chain_append leads a b d xs ys p q,
+      record {
+        polls = xs;
+        rest = ys;
+        place = place;
+        outcome = outcome;
+        after = after;
+        case = c;
+        asked = refl;
+        waited = subst P same w;
+        there = at;
+        left = l;
+        children = f;
+        cases = g;
+        pending = i;
+      },
+    )
 
 pub once_owed : (cases pending : List Case) (c : Case) → ((i : ℕ) → count_at i cases + count_at i pending ≤ 1) → count_at c.position pending ≤ 1
 once_owed cases pending c h = let m : count_at c.position cases + count_at c.position pending ≤ 1 = h c.position in omega arith

@@ -1,6 +1,5 @@
 -- A wait keeps what is known of a driver's children, and the end that it tells is that of a life.
 use Rattle.std.proofs.Common.{◌≡◌, ℕ, ◌<◌, ◌≤◌, ◌==◌, ◌&&◌, List, [], ◌∷◌, ◌++◌, Bool, true, false, Some, slice_get, refl, sym, ◌∙◌, ap, subst, arith}
-use Rattle.std.specs.Prelude.{remove}
 use Rattle.kt_base.specs.declared.outcome.Outcome.{Outcome}
 use Rattle.kt_base.specs.declared.role.Role.{Role}
 use Rattle.kt_base.specs.declared.role.Role.TheVariants.{Body, Cleanup}
@@ -20,15 +19,15 @@ use Rattle.kt_child.specs.Driving.JobPlan.{case_in, limit_of, watched_of}
 use Rattle.kt_child.specs.Polling.Lives.{heard_by, same_child}
 use Rattle.kt_child.proofs.Shares.{GoesOn, LivesOut, Share, named}
 use Rattle.kt_child.specs.Driving.TraceLives.{IsNumberOf, LeavesAtLast}
-use Rattle.kt_child.specs.Polling.Turns.{WaitedOn}
+use Rattle.kt_child.proofs.CaseCounts.{and_false}
 use Rattle.kt_child.proofs.CasePlaces.{other_absent, other_number, own_child}
 use Rattle.kt_child.proofs.EndSilence.{shares_at}
-use Rattle.kt_child.proofs.LifeSteps.{append_none, child_is_own}
+use Rattle.kt_child.proofs.LifeSteps.{child_is_own}
 use Rattle.kt_child.proofs.NameCounts.{case_name, numbered}
 use Rattle.kt_child.proofs.NameSteps.{Apart}
 use Rattle.kt_child.proofs.NamedSteps.{head_is}
 use Rattle.kt_child.proofs.Outcomes.{told}
-use Rattle.kt_child.proofs.Places.{some_is}
+use Rattle.kt_child.proofs.Places.{append_none, some_is}
 use Rattle.kt_child.proofs.ChildNames.{name_at}
 use Rattle.kt_child.proofs.SeveralSteps.{goes_join, lives_join}
 use Rattle.kt_child.proofs.TraceFacts.{IsGone, PastSo, RunsSo, cleaner}
@@ -43,20 +42,17 @@ pub unheard : (heard : Child → List Heard) (c : Child) (old new : ChildrenStat
     → heard_after heard calls c ≡ heard c
 unheard heard c old new calls e none w = ap (λ t. heard c ++ t) (wait_silent c old new calls e none w) ∙ append_none (heard c)
 
--- the share of a child in a wait that ends with the child of this case
-share_of : (old new : ChildrenState) (calls polls rest : List Call) (place : ℕ) (outcome : Outcome) (after : List Watched) (d : Case) (e : Ended) (next : ℕ) (c : Child) (k : Watched)
-    → Apart next old → slice_get old.cases place ≡ Some d → calls ≡ polls ++ rest
-    → WaitedOn old.children polls place outcome after → Leaves d rest outcome e → new.children ≡ remove after place
-    → named c old.children ≡ k ∷ [] → Share c (same_child (case_name d) c) k (heard_by c calls) e.outcome new.children
-share_of old new calls polls rest place outcome after d e next c k apart at eq waited leaves ch own =
-    let m = apart.1 d.attempt in
+-- the share of a child in a wait
+share_of : (old new : ChildrenState) (calls : List Call) (e : Ended) (next : ℕ) (c : Child) (k : Watched) → Apart next old → (w : Waited old calls e new)
+    → named c old.children ≡ k ∷ [] → Share c (same_child (case_name w.case) c) k (heard_by c calls) e.outcome new.children
+share_of old new calls e next c k apart w own =
+    let m = apart.1 w.case.attempt in
     let most = m.0 in
-    let o = own_child place old.children old.cases d apart.0 at (omega (arith, most)) in
-    let s = shares_at old new polls rest place outcome after d e c k own waited leaves ch in
-    let over : s.0 ≡ case_name d = some_is s.0 (case_name d) (sym s.1 ∙ name_at place old.children o.0 o.1 ∙ ap (λ t. Some t) o.2) in
+    let o = own_child w.place old.children old.cases w.case apart.0 w.there (omega (arith, most)) in
+    let s = shares_at old new calls e c k own w in
+    let over : s.0 ≡ case_name w.case = some_is s.0 (case_name w.case) (sym s.1 ∙ name_at w.place old.children o.0 o.1 ∙ ap (λ t. Some t) o.2) in
     let P : Child → Type 0 = λ t. Share c (same_child t c) k (heard_by c calls) e.outcome new.children in
-    let Q : List Call → Type 0 = λ t. Share c (same_child s.0 c) k (heard_by c t) e.outcome new.children in
-    subst P over (subst Q (sym eq) s.2)
+    subst P over s.2
 
 -- a share of a wait that ends with another
 share_goes : (b : Bool) (c : Child) (start k m : Watched) (xs ys : List Heard) (outcome : Outcome) (row : List Watched) → b ≡ false
@@ -79,13 +75,11 @@ positive plan i job Body is at = let f = is.fit i job at in let t = f.timed in o
 positive plan i job Cleanup is at = omega arith
 
 -- a case that goes on running
-pub still_runs : (plan : List Job) (root : List ℕ) (base : ℕ) (T : Trace) (heard : Child → List Heard) (next : ℕ) (old new : ChildrenState) (calls polls rest : List Call) (place : ℕ) (outcome : Outcome) (after : List Watched) (d : Case) (e : Ended)
-    → Apart next old → slice_get old.cases place ≡ Some d → calls ≡ polls ++ rest
-    → WaitedOn old.children polls place outcome after → Leaves d rest outcome e → new.children ≡ remove after place
-    → Waited old calls e new
-    → (i : ℕ) (c : Case) → slice_get old.cases i ≡ Some c → one_if (d.attempt == c.attempt) ≡ 0
+pub still_runs : (plan : List Job) (root : List ℕ) (base : ℕ) (T : Trace) (heard : Child → List Heard) (next : ℕ) (old new : ChildrenState) (calls : List Call) (e : Ended)
+    → Apart next old → (w : Waited old calls e new)
+    → (i : ℕ) (c : Case) → slice_get old.cases i ≡ Some c → one_if (w.case.attempt == c.attempt) ≡ 0
     → RunsSo plan root base T heard old.children c → RunsSo plan root base (Then T (End e)) (heard_after heard calls) new.children c
-still_runs plan root base T heard next old new calls polls rest place outcome after d e apart at eq waited leaves ch w i c there z r =
+still_runs plan root base T heard next old new calls e apart w i c there z r =
     let m = apart.1 c.attempt in
     let most = m.0 in
     let most' : numbered c.attempt old.cases ≤ 1 = omega (arith, most) in
@@ -100,43 +94,42 @@ still_runs plan root base T heard next old new calls polls rest place outcome af
         r.2.0,
         r.2.1,
         λ k own.
-            share_goes (same_child (case_name d) (case_name c)) (case_name c) (watched_of r.2.0 c.role c.attempt) o.0 k (heard (case_name c)) (heard_by (case_name c) calls) e.outcome new.children
-            (other_number (case_name d) (case_name c) z) (r.2.2 o.0 o.3)
-            (share_of old new calls polls rest place outcome after d e next (case_name c) o.0 apart at eq waited leaves ch o.3) own,
+            share_goes (same_child (case_name w.case) (case_name c)) (case_name c) (watched_of r.2.0 c.role c.attempt) o.0 k (heard (case_name c)) (heard_by (case_name c) calls) e.outcome new.children
+            (other_number (case_name w.case) (case_name c) z) (r.2.2 o.0 o.3)
+            (share_of old new calls e next (case_name c) o.0 apart w o.3) own,
         r.2.3,
       ),
     )
-  where
-    and_false : (a : Bool) → (a && false) ≡ false
-    and_false true = refl
-    and_false false = refl
 
 -- what follows the last poll of a case's child
-left_so : (root : List ℕ) (job : Job) (d : Case) (polls rest calls : List Call) (outcome : Outcome) (e : Ended)
-    → calls ≡ polls ++ rest → Leaves d rest outcome e → d ≡ case_in root job d.role d.attempt → LeavesAtLast (case_in root job e.role d.attempt) calls e
-left_so root job d polls rest calls outcome e eq leaves same =
-    let O : Outcome → Type 0 = λ t. Leaves d rest t e in
-    let C : Case → Type 0 = λ t. Leaves t rest e.outcome e in
-    let R : Role → Type 0 = λ t. Leaves (case_in root job t d.attempt) rest e.outcome e in
-    (polls, rest, eq, subst R (sym leaves.9) (subst C same (subst O (sym leaves.10) leaves)))
+left_so : (root : List ℕ) (job : Job) (old new : ChildrenState) (calls : List Call) (e : Ended) → (w : Waited old calls e new)
+    → w.case ≡ case_in root job w.case.role w.case.attempt → LeavesAtLast (case_in root job e.role w.case.attempt) calls e
+left_so root job old new calls e w same =
+    let O : Outcome → Type 0 = λ t. Leaves w.case w.rest t e in
+    let C : Case → Type 0 = λ t. Leaves t w.rest e.outcome e in
+    let R : Role → Type 0 = λ t. Leaves (case_in root job t w.case.attempt) w.rest e.outcome e in
+    (w.polls, w.rest, w.asked, subst R (sym w.left.9) (subst C same (subst O (sym w.left.10) w.left)))
 
 -- the end of a case's child
-pub ends_so : (plan : List Job) (source root : List ℕ) (base : ℕ) (T : Trace) (heard : Child → List Heard) (next : ℕ) (old new : ChildrenState) (calls polls rest : List Call) (place : ℕ) (outcome : Outcome) (after : List Watched) (d : Case) (e : Ended)
-    → IsPlan plan → Apart next old → slice_get old.cases place ≡ Some d → calls ≡ polls ++ rest
-    → WaitedOn old.children polls place outcome after → Leaves d rest outcome e → new.children ≡ remove after place
-    → IsGone next new (case_name d) → e.position ≡ d.position → e.role ≡ d.role
-    → RunsSo plan root base T heard old.children d → PastSo plan source root base (heard_after heard calls) next new calls T (End e)
-ends_so plan source root base T heard next old new calls polls rest place outcome after d e is apart at eq waited leaves ch gone position role r =
+pub ends_so : (plan : List Job) (source root : List ℕ) (base : ℕ) (T : Trace) (heard : Child → List Heard) (next : ℕ) (old new : ChildrenState) (calls : List Call) (e : Ended)
+    → IsPlan plan → Apart next old → (w : Waited old calls e new) → IsGone next new (case_name w.case)
+    → RunsSo plan root base T heard old.children w.case → PastSo plan source root base (heard_after heard calls) next new calls T (End e)
+ends_so plan source root base T heard next old new calls e is apart w gone r =
+    let d : Case = w.case in
     let m = apart.1 d.attempt in
     let most = m.0 in
     let name : Child = case_name d in
     let job : Job = r.2.0 in
-    let o = own_child place old.children old.cases d apart.0 at (omega (arith, most)) in
+    let o = own_child w.place old.children old.cases d apart.0 w.there (omega (arith, most)) in
     let life = share_ends (same_child name name) name (watched_of job d.role d.attempt) o.0 (heard name) (heard_by name calls) e.outcome new.children
-    (child_is_own name) (r.2.2 o.0 o.3) (share_of old new calls polls rest place outcome after d e next name o.0 apart at eq waited leaves ch o.3) in
+    (child_is_own name) (r.2.2 o.0 o.3) (share_of old new calls e next name o.0 apart w o.3) in
     let table : Told (limit_of job d.role) (heard_after heard calls name) e.outcome =
     told life.0 (limit_of job d.role) (heard_after heard calls name) e.outcome (positive plan d.position job d.role is r.2.1) life.1 in
     let N : ℕ → Type 0 = λ t. IsNumberOf base T t d.attempt in
     let P : Role → Type 0 = λ t. Told (limit_of job t) (heard_after heard calls (record { attempt = d.attempt; role = t })) e.outcome in
-    let Q : Role → Type 0 = λ t. IsGone next new (record { attempt = d.attempt; role = t }) in
-    (d.attempt, subst N (sym position) r.0, (job, ap (slice_get plan) position ∙ r.2.1, subst P (sym role) table, left_so root job d polls rest calls outcome e eq leaves r.2.3), subst Q (sym role) gone)
+    let Q : Role → Type 0 = λ t. IsGone next new (record { attempt = d.attempt; role = t }) in (
+      d.attempt,
+      subst N (sym w.left.8) r.0,
+      (job, ap (slice_get plan) w.left.8 ∙ r.2.1, subst P (sym w.left.9) table, left_so root job old new calls e w r.2.3),
+      subst Q (sym w.left.9) gone,
+    )

@@ -1,5 +1,5 @@
 -- What is known of a driver's children after a trace, by what each name answered, and of each answer by its calls.
-use Rattle.std.proofs.Common.{◌≡◌, ℕ, ◌+◌, ◌-◌, ◌^◌, ◌<◌, ◌≤◌, ◌==◌, List, [], ◌∷◌, true, false, Some, slice_get, sym, ap, subst, arith, if◌then◌else◌}
+use Rattle.std.proofs.Common.{◌≡◌, ℕ, ◌+◌, ◌-◌, ◌^◌, ◌<◌, ◌≤◌, ◌==◌, List, [], ◌∷◌, ◌++◌, true, false, Some, slice_get, refl, sym, ap, subst, arith, if◌then◌else◌}
 use Rattle.std.proofs.lemmas.Bool.Decides.{nat_tests}
 use Rattle.kt_base.specs.declared.role.Role.{Role}
 use Rattle.kt_base.specs.declared.role.Role.TheVariants.{Body, Cleanup}
@@ -78,13 +78,14 @@ past_one plan source root base heard heard' next next' b b' f asked T (End ended
     let P : List Heard → Type 0 = λ t. Told (limit_of job ended.role) t ended.outcome in
     (n, is, (job, at, subst P (sym m.0) told, left), m.1)
 
--- children that are gone stay so, and hear nothing more
-pub past_kept : (plan : List Job) (source root : List ℕ) (base : ℕ) (heard heard' : Child → List Heard) (next next' : ℕ) (b b' : ChildrenState) (T : Trace) (past : List Call)
+-- one more answer: children that are gone stay so, and hear nothing more
+pub each_more : (plan : List Job) (source root : List ℕ) (base : ℕ) (heard heard' : Child → List Heard) (next next' : ℕ) (b b' : ChildrenState) (T : Trace) (past asked : List Call) (event : Event)
     → ((c : Child) → IsGone next b c → (heard' c ≡ heard c) × IsGone next' b' c)
-    → EachWith (PastSo plan source root base heard next b) T past → EachWith (PastSo plan source root base heard' next' b') T past
-past_kept plan source root base heard heard' next next' b b' T past f h =
-    each_map (PastSo plan source root base heard next b) (PastSo plan source root base heard' next' b')
-    (past_one plan source root base heard heard' next next' b b' f) T past h
+    → EachWith (PastSo plan source root base heard next b) T past → PastSo plan source root base heard' next' b' asked T event
+    → EachWith (PastSo plan source root base heard' next' b') (Then T event) (past ++ asked)
+each_more plan source root base heard heard' next next' b b' T past asked event f h p =
+    let kept = each_map (PastSo plan source root base heard next b) (PastSo plan source root base heard' next' b') (past_one plan source root base heard heard' next next' b b' f) T past h in
+    (past, asked, refl, kept, p)
 
 -- a number below another is not the same
 below_last : (n m : ℕ) → n < m → (n == m) ≡ false

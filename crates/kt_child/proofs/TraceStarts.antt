@@ -25,7 +25,7 @@ use Rattle.kt_child.proofs.CasePlaces.{at_some, every_left, every_push}
 use Rattle.kt_child.proofs.NameCounts.{case_name, none_named, numbered}
 use Rattle.kt_child.proofs.NameSteps.{Apart, start_apart}
 use Rattle.kt_child.proofs.StartSilence.{StartAsks}
-use Rattle.kt_child.proofs.TraceFacts.{OwedSo, RunsSo, Stands, following_last, following_more, past_kept}
+use Rattle.kt_child.proofs.TraceFacts.{OwedSo, RunsSo, Stands, following_last, following_more, each_more}
 use Rattle.kt_child.proofs.StartLeavings.{gone_body, gone_cleanup, grows_start, owed_kept, run_fresh, run_kept, run_more, taken}
 
 -- a body's start
@@ -43,13 +43,8 @@ body_stands plan source root base T heard next next' b past job i (RefusedFor ca
       run = run_kept plan root base T T' heard b.children b.cases (grows_start base T i Body (RefusedFor cause)) s.run;
       owed = owed_kept root base T T' heard b.pending (grows_start base T i Body (RefusedFor cause)) s.owed;
       unborn = λ n r l. s.unborn n r (omega (arith, l, le));
-      each = (
-        past,
-        asked,
-        refl,
-        past_kept plan source root base heard heard next next' b b T past (λ c g. (refl, gone_body next next' b job (paths_of root next) (RefusedFor cause) le c g)) s.each,
-        begun,
-      );
+      each = each_more plan source root base heard heard next next' b b T past asked (Start i Body (RefusedFor cause))
+          (λ c g. (refl, gone_body next next' b job (paths_of root next) (RefusedFor cause) le c g)) s.each begun;
     }
 body_stands plan source root base T heard next next' b past job i (StartedAt moment) asked is at e le apart begun s =
     let k : Watched = watched_of job Body next in
@@ -69,14 +64,8 @@ body_stands plan source root base T heard next next' b past job i (StartedAt mom
           (ap (slice_get plan) placed ∙ at) (none_named (case_name c) b.children b.cases a.0 none) (s.unborn next Body (omega arith)) refl);
       owed = owed_kept root base T T' heard b.pending (grows_start base T i Body (StartedAt moment)) s.owed;
       unborn = λ n r l. s.unborn n r (omega (arith, l, le));
-      each = (
-        past,
-        asked,
-        refl,
-        past_kept plan source root base heard heard next next' b (state_after_start b k c (StartedAt moment)) T past
-            (λ d g. (refl, gone_body next next' b job (paths_of root next) (StartedAt moment) le d g)) s.each,
-        begun,
-      );
+      each = each_more plan source root base heard heard next next' b (state_after_start b k c (StartedAt moment)) T past asked (Start i Body (StartedAt moment))
+          (λ d g. (refl, gone_body next next' b job (paths_of root next) (StartedAt moment) le d g)) s.each begun;
     }
 
 -- a cleanup is no body
@@ -108,13 +97,8 @@ cleanup_stands plan source root base T heard next b past job i place d (RefusedF
       run = run_kept plan root base T T' heard b.children b.cases (grows_start base T i Cleanup (RefusedFor cause)) s.run;
       owed = every_left (OwedSo root base T' heard) b.pending place (owed_kept root base T T' heard b.pending (grows_start base T i Cleanup (RefusedFor cause)) s.owed);
       unborn = s.unborn;
-      each = (
-        past,
-        asked,
-        refl,
-        past_kept plan source root base heard heard next next b (taken b place) T past (λ c g. (refl, gone_cleanup next b job place d (RefusedFor cause) there c g)) s.each,
-        begun,
-      );
+      each = each_more plan source root base heard heard next next b (taken b place) T past asked (Start i Cleanup (RefusedFor cause))
+          (λ c g. (refl, gone_cleanup next b job place d (RefusedFor cause) there c g)) s.each begun;
     }
 cleanup_stands plan source root base T heard next b past job i place d (StartedAt moment) asked is at there position apart begun s =
     let k : Watched = watched_of job Cleanup d.attempt in
@@ -136,14 +120,8 @@ cleanup_stands plan source root base T heard next b past job i place d (StartedA
           (ap (slice_get plan) placed ∙ at) (none_named (case_name c) b.children b.cases a.0 none) o.1 (cleaning_in root d job position o.2));
       owed = every_left (OwedSo root base T' heard) b.pending place (owed_kept root base T T' heard b.pending (grows_start base T i Cleanup (StartedAt moment)) s.owed);
       unborn = s.unborn;
-      each = (
-        past,
-        asked,
-        refl,
-        past_kept plan source root base heard heard next next b (state_after_start (taken b place) k c (StartedAt moment)) T past
-            (λ e g. (refl, gone_cleanup next b job place d (StartedAt moment) there e g)) s.each,
-        begun,
-      );
+      each = each_more plan source root base heard heard next next b (state_after_start (taken b place) k c (StartedAt moment)) T past asked (Start i Cleanup (StartedAt moment))
+          (λ e g. (refl, gone_cleanup next b job place d (StartedAt moment) there e g)) s.each begun;
     }
 
 -- a start by its own calls

@@ -19,7 +19,8 @@ use Rattle.kt_child.specs.Driving.Numbers.{IsBare}
 use Rattle.kt_child.specs.Driving.TraceLives.{EndsAreTold, ToldAt}
 use Rattle.kt_child.proofs.CasePlaces.{Every}
 use Rattle.kt_child.proofs.Chains.{chain_append}
-use Rattle.kt_child.proofs.LifeSteps.{append_none, heard_append}
+use Rattle.kt_child.proofs.Places.{append_none}
+use Rattle.kt_child.proofs.LifeSteps.{heard_append}
 use Rattle.kt_child.proofs.NameSteps.{none_yet}
 use Rattle.kt_child.proofs.StartSilence.{start_silent}
 use Rattle.kt_child.proofs.TraceEnds.{heard_after}

@@ -10,15 +10,16 @@ use Rattle.kt_sched.specs.Plan.{IsPlan}
 use Rattle.kt_sched.specs.Trace.{Trace, Then, End}
 use Rattle.kt_child.specs.declared.system.child.Child.{Child}
 use Rattle.kt_child.specs.declared.planning.case.Case.{Case}
-use Rattle.kt_child.specs.Driving.ChildrenState.{ChildrenState, Waited, pending_with}
+use Rattle.kt_child.specs.Driving.ChildrenState.{ChildrenState, Waited}
 use Rattle.kt_child.specs.System.Calls.{Call}
 use Rattle.kt_child.specs.Polling.ChildOutcome.{Heard}
 use Rattle.kt_child.specs.Ending.Ends.{is_over}
+use Rattle.kt_child.proofs.CaseCounts.{and_false}
 use Rattle.kt_child.proofs.CasePlaces.{Every, at_none, at_some, every_push, left_at, other_absent}
 use Rattle.kt_child.proofs.NameCounts.{case_name, none_named, numbered, numbered_less, own_number}
 use Rattle.kt_child.proofs.NameSteps.{Apart, owed, wait_apart}
 use Rattle.kt_child.proofs.TraceEnds.{ends_so, heard_after, still_runs, unheard}
-use Rattle.kt_child.proofs.TraceFacts.{IsGone, OwedSo, RunsSo, Stands, cleaner, past_kept}
+use Rattle.kt_child.proofs.TraceFacts.{IsGone, OwedSo, RunsSo, Stands, cleaner, each_more}
 use Rattle.kt_child.proofs.WaitSilence.{wait_none}
 
 -- a number is below another, or not
@@ -50,27 +51,27 @@ is_body c Cleanup e h = let f = is_cleanup_over c e in let no : ⊥ = cc in absu
 
 -- a name that is gone stays so in a wait
 gone_wait : (next : ℕ) (old new : ChildrenState) (calls : List Call) (e : Ended) → Waited old calls e new → (c : Child) → IsGone next old c → IsGone next new c
-gone_wait next old new calls e (polls, rest, place, outcome, after, d, eq, waited, at, leaves, ch, ca, pe) c (lt, none, h) =
-    let s = numbered_less c.attempt old.cases place d at in
-    let a = ap (numbered c.attempt) ca in
-    let p = ap (numbered c.attempt) pe in
-    let o = owed c.attempt d old.pending in
-    (lt, wait_none c old new calls e none (polls, rest, place, outcome, after, d, eq, waited, at, leaves, ch, ca, pe), λ r. let z = h r in omega (arith, s, a, p, o, z))
+gone_wait next old new calls e w c (lt, none, h) =
+    let s = numbered_less c.attempt old.cases w.place w.case w.there in
+    let a = ap (numbered c.attempt) w.cases in
+    let p = ap (numbered c.attempt) w.pending in
+    let o = owed c.attempt w.case old.pending in
+    (lt, wait_none c old new calls e none w, λ r. let z = h r in omega (arith, s, a, p, o, z))
 
 -- the name of the child that is over is gone
-gone_over : (next : ℕ) (old new : ChildrenState) (calls : List Call) (e : Ended) (place : ℕ) (d : Case) → Apart next old → Apart next new
-    → slice_get old.cases place ≡ Some d → new.cases ≡ remove old.cases place → new.pending ≡ pending_with d old.pending → IsGone next new (case_name d)
-gone_over next old new calls e place d apart apart' at ca pe =
-    let s = numbered_less d.attempt old.cases place d at in
+gone_over : (next : ℕ) (old new : ChildrenState) (calls : List Call) (e : Ended) → Apart next old → Apart next new → (w : Waited old calls e new) → IsGone next new (case_name w.case)
+gone_over next old new calls e apart apart' w =
+    let d : Case = w.case in
+    let s = numbered_less d.attempt old.cases w.place d w.there in
     let one = own_number d.attempt in
-    let a = ap (numbered d.attempt) ca in
+    let a = ap (numbered d.attempt) w.cases in
     let m = apart.1 d.attempt in
     let most = m.0 in
     let none : numbered d.attempt new.cases ≡ 0 = omega (arith, s, one, a, most) in (
-      below_next next old place d apart at,
+      below_next next old w.place d apart w.there,
       none_named (case_name d) new.children new.cases apart'.0 none,
       λ r.
-          let f = ap (numbered d.attempt) (pe ∙ ap (λ t. if t then old.pending else old.pending ++ d ∷ []) (is_cleanup_over d r)) in
+          let f = ap (numbered d.attempt) (w.pending ∙ ap (λ t. if t then old.pending else old.pending ++ d ∷ []) (is_cleanup_over d r)) in
           omega (arith, none, f, s, one, most),
     )
 
@@ -100,10 +101,6 @@ owed_wait root base T heard next old new calls e place d apart at w given h t is
         let other = ap (λ x. (d.attempt == d.attempt) && same_role x Cleanup) body ∙ and_false (d.attempt == d.attempt) in
         let none = other_absent place old.children old.cases d (cleaner d.attempt) apart.0 at (omega (arith, most)) refl other in
         (r.0, unheard heard (cleaner d.attempt) old new calls e none w ∙ r.1, r.2)
-      where
-        and_false : (a : Bool) → (a && false) ≡ false
-        and_false true = refl
-        and_false false = refl
 
     by : (u : Bool) → is_over d ≡ u → Every (OwedSo root base (Then T (End e)) (heard_after heard calls)) (if u then old.pending else old.pending ++ d ∷ [])
     by true f = before
@@ -119,36 +116,29 @@ given_of plan root base T heard b d r false e = inl (r.0, r.1 (is_body d d.role 
 pub wait_stands : (plan : List Job) (source root : List ℕ) (base : ℕ) (T : Trace) (heard : Child → List Heard) (next : ℕ) (old new : ChildrenState) (past calls : List Call) (e : Ended)
     → IsPlan plan → Waited old calls e new → Stands plan source root base T heard next old past
     → Stands plan source root base (Then T (End e)) (heard_after heard calls) next new (past ++ calls)
-wait_stands plan source root base T heard next old new past calls e is (polls, rest, place, outcome, after, d, eq, waited, at, leaves, ch, ca, pe) s =
-    let w : Waited old calls e new = (polls, rest, place, outcome, after, d, eq, waited, at, leaves, ch, ca, pe) in
+wait_stands plan source root base T heard next old new past calls e is w s =
+    let d : Case = w.case in
     let a = s.apart in
     let apart' = wait_apart old new calls e next w a in
-    let less = numbered_less d.attempt old.cases place d at in
+    let less = numbered_less d.attempt old.cases w.place d w.there in
     let one = own_number d.attempt in
     let m = a.1 d.attempt in
     let most = m.0 in
-    let none : numbered d.attempt (remove old.cases place) ≡ 0 = omega (arith, less, one, most) in
-    let r = s.run place d at in
+    let none : numbered d.attempt (remove old.cases w.place) ≡ 0 = omega (arith, less, one, most) in
+    let r = s.run w.place d w.there in
     let P : List Case → Type 0 = λ t. Every (RunsSo plan root base (Then T (End e)) (heard_after heard calls) new.children) t in
     let Q : List Case → Type 0 = λ t. Every (OwedSo root base (Then T (End e)) (heard_after heard calls)) t in
     record {
       counted = s.counted;
       apart = apart';
-      run = subst P (sym ca) (λ i c there.
-          let k = left_at old.cases place i c there in
-          still_runs plan root base T heard next old new calls polls rest place outcome after d e a at eq waited leaves ch w k.0 c k.1
-          (at_none d.attempt (remove old.cases place) none i c there) (s.run k.0 c k.1));
-      owed = subst Q (sym pe) (owed_wait root base T heard next old new calls e place d a at w (given_of plan root base T heard old d r (is_over d) refl) s.owed (is_over d) refl);
+      run = subst P (sym w.cases) (λ i c there.
+          let k = left_at old.cases w.place i c there in
+          still_runs plan root base T heard next old new calls e a w k.0 c k.1 (at_none d.attempt (remove old.cases w.place) none i c there) (s.run k.0 c k.1));
+      owed = subst Q (sym w.pending) (owed_wait root base T heard next old new calls e w.place d a w.there w (given_of plan root base T heard old d r (is_over d) refl) s.owed (is_over d) refl);
       unborn = λ n role le.
           let u = a.1 n in
           unheard heard (record { attempt = n; role = role }) old new calls e (none_named (record { attempt = n; role = role }) old.children old.cases a.0 (let z = u.1 le in omega (arith, z))) w
           ∙ s.unborn n role le;
-      each = (
-        past,
-        calls,
-        refl,
-        past_kept plan source root base heard (heard_after heard calls) next next old new T past (λ c g. (unheard heard c old new calls e g.1 w, gone_wait next old new calls e w c g)) s.each,
-        ends_so plan source root base T heard next old new calls polls rest place outcome after d e is a at eq waited leaves ch
-            (gone_over next old new calls e place d a apart' at ca pe) leaves.8 leaves.9 r,
-      );
+      each = each_more plan source root base heard (heard_after heard calls) next next old new T past calls (End e)
+          (λ c g. (unheard heard c old new calls e g.1 w, gone_wait next old new calls e w c g)) s.each (ends_so plan source root base T heard next old new calls e is a w (gone_over next old new calls e a apart' w) r);
     }

@@ -16,6 +16,7 @@ use Rattle.kt_child.specs.System.Calls.{Call, Chain}
 use Rattle.kt_child.specs.Polling.Polls.{asked_by_poll, turn_of, watch_after}
 use Rattle.kt_child.specs.Polling.Turns.{IsOn, PolledAll, PolledLast, PolledUntil, advanced, advanced_below}
 use Rattle.kt_child.proofs.Chains.{chain_append}
+use Rattle.kt_child.proofs.Places.{append_none}
 
 -- a child that wasn't polled yet is as it was
 pub watched_at : (i : ℕ) (s : List Watched) (d : Watched) → get_or (advanced_below i s) i d ≡ get_or s i d
@@ -35,10 +36,6 @@ OnePoll leads now new turn k =
     (answer : Result Polled OsFault) × (done : Bool)
     × Chain leads now (asked_by_poll k.child k.limit k.watch answer done) new
     × (turn ≡ turn_of k.limit k.watch answer done)
-
-append_none : (xs : List Call) → xs ++ [] ≡ xs
-append_none [] = refl
-append_none (x ∷ xs) = ap (λ t. x ∷ t) (append_none xs)
 
 polled_snoc : (ks : List Watched) (k : Watched) (xs : List Call) (answer : Result Polled OsFault) (done : Bool)
     → PolledAll ks xs → More ≡ turn_of k.limit k.watch answer done

@@ -74,12 +74,13 @@ on_silent c children calls place outcome after e (turns, (rounds, last, eq, wait
 
 -- all that a wait of a driver asks
 pub wait_silent : (c : Child) (old new : ChildrenState) (calls : List Call) (e : Ended) → named c old.children ≡ [] → Waited old calls e new → heard_by c calls ≡ []
-wait_silent c old new calls e none (polls, rest, place, outcome, after, case, eq, waited, at, leaves, ch, ca, pe) =
-    ap (heard_by c) eq ∙ heard_append c polls rest
-    ∙ ap (λ t. t ++ heard_by c rest) (on_silent c old.children polls place outcome after none waited)
-    ∙ leaves_silent c case rest outcome e leaves
+wait_silent c old new calls e none w =
+    ap (heard_by c) w.asked ∙ heard_append c w.polls w.rest
+    ∙ ap (λ t. t ++ heard_by c w.rest) (on_silent c old.children w.polls w.place w.outcome w.after none w.waited)
+    ∙ leaves_silent c w.case w.rest w.outcome e w.left
 
 -- and the child isn't in the children after it
 pub wait_none : (c : Child) (old new : ChildrenState) (calls : List Call) (e : Ended) → named c old.children ≡ [] → Waited old calls e new → named c new.children ≡ []
-wait_none c old new calls e none (polls, rest, place, outcome, after, case, eq, waited, at, leaves, ch, ca, pe) =
-    ap (named c) ch ∙ none_removed c after place (none_by_names c after old.children (names_waited old.children polls place outcome after waited) none)
+wait_none c old new calls e none w =
+    ap (named c) w.children
+    ∙ none_removed c w.after w.place (none_by_names c w.after old.children (names_waited old.children w.polls w.place w.outcome w.after w.waited) none)

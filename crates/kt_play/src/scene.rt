@@ -1,3 +1,4 @@
+use kt_base::NoMemory;
 use kt_child::Polled;
 
 /// How a child lives: so often it is told to be running, and then how it ended.
@@ -33,6 +34,8 @@ pub struct Scene<'a> {
     pub files: Vec<Holding<'a>>,
     /// The calls from the first number on, counted from 0, and below the second one fail.
     pub failing: (u32, u32),
+    /// Why memory runs out, if they fail for that.
+    pub shortage: Option<NoMemory>,
     pub part_fault: PartFault,
     /// The moments that are told, in milliseconds since 1970 in UTC.
     pub moments: Vec<u64>,

@@ -56,7 +56,7 @@ fn front(alloc: Global, rest: &[u8], limit: u64) -> Result<FileRead, OsFault>
     let count = rest.len().min(limit as usize);
     match Bytes::from_slice(alloc, &rest[..count]) {
         Ok(part) => Ok(FileRead::Part(part, count < rest.len())),
-        Err(_) => Err(OsFault),
+        Err(refusal) => Err(OsFault::Memory(refusal)),
     }
 }
 
@@ -119,6 +119,13 @@ fn child_text(alloc: Global, child: Child) -> Result<String, NoMemory> {
     }
 }
 
+/// Writes the line of a limit, which is no call that may fail.
+fn note_limit(alloc: Global, log: &mut String, child: Child, limit: u64) -> Result<(), NoMemory> {
+    let child = child_text(alloc, child)?;
+    log.push_str(format!(in alloc; "limit {child} {limit}\n")?.as_str())?;
+    Ok(())
+}
+
 fn push_texts(line: &mut String, texts: &[Text]) -> Result<(), NoMemory> {
     for text in texts {
         line.push(' ')?;
@@ -171,12 +178,6 @@ impl<'a> ScriptedSystem<'a> {
         }
     }
 
-    /// Takes a child as one that was started.
-    pub fn adopt(&mut self, child: Child) -> Result<(), NoMemory> {
-        self.children.push((child, 0))?;
-        Ok(())
-    }
-
     /// Whether the next call is done.
     fn goes(&mut self) -> bool {
         let call = self.calls;
@@ -188,17 +189,17 @@ impl<'a> ScriptedSystem<'a> {
     /// Writes the line of the next call, and answers whether it is done.
     fn ask(&mut self, word: &str, about: &str) -> Result<(), OsFault> {
         let done = self.goes();
-        match note(&mut self.log, word, about, done) {
-            Ok(()) if done => Ok(()),
-            _ => Err(OsFault),
+        note(&mut self.log, word, about, done)?;
+        match self.scene.shortage {
+            _ if done => Ok(()),
+            Some(refusal) => Err(OsFault::Memory(refusal)),
+            None => Err(OsFault::Failed),
         }
     }
 
     fn ask_child(&mut self, word: &str, child: Child) -> Result<(), OsFault> {
-        match child_text(self.alloc, child) {
-            Ok(about) => self.ask(word, about.as_str()),
-            Err(_) => Err(OsFault),
-        }
+        let about = child_text(self.alloc, child)?;
+        self.ask(word, about.as_str())
     }
 
     fn next_moment(&mut self) -> u64 {
@@ -215,6 +216,10 @@ impl<'a> ScriptedSystem<'a> {
 
 impl Os for ScriptedSystem<'_> {
     ghost leads = { λ _ _ _. Unit {0} };
+
+    fn set_limit(&mut self, child: Child, limit: u64) {
+        let _noted = note_limit(self.alloc, &mut self.log, child, limit);
+    }
 
     fn make_dir(&mut self, path: &Text) -> Result<(), OsFault> {
         self.ask("make", path.as_str())
@@ -237,12 +242,10 @@ impl Os for ScriptedSystem<'_> {
         dir: &Text,
     ) -> Result<(), OsFault> {
         self.ask("spawn", program.as_str())?;
-        if note_spawn(&mut self.spawned, program, words, env, dir).is_err() {
-            return Err(OsFault);
-        }
-        match self.adopt(child) {
+        note_spawn(&mut self.spawned, program, words, env, dir)?;
+        match self.children.push((child, 0)) {
             Ok(()) => Ok(()),
-            Err(_) => Err(OsFault),
+            Err(refusal) => Err(OsFault::Memory(NoMemory::from(refusal))),
         }
     }
 

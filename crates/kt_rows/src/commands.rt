@@ -1,14 +1,16 @@
 use crate::command_words::commands_of;
 use crate::lines::push_line;
 use crate::numbers::number;
+use crate::pages::ended_text;
+use crate::printing::writer;
 use crate::row::Row;
 use crate::row_fault::RowFault;
+use crate::run_texts::runs_text;
 use crate::scenes::scene_of;
 use crate::stages::{over_system, stage_of, store_of};
-use crate::store_texts::runs_text;
-use crate::{disk_tests, fault_exits, line_outputs, readers};
+use crate::{disk_tests, fault_exits, line_outputs};
 use kt_cli::Exit;
-use kt_play::{Scene, ScriptedSystem, ScriptedWriter};
+use kt_play::{Scene, ScriptedSystem, ScriptedWriter, WriteFault};
 use std::alloc::Global;
 
 /// The most writes that are let fail in turn.
@@ -26,9 +28,10 @@ struct Played {
 /// Does the commands of a row, of whose writes one fails, counted from 1.
 fn play(alloc: Global, row: &Row<'_>, scene: &Scene<'_>, failing: u64) -> Result<Played, RowFault> {
     let commands = commands_of(alloc, row)?;
-    let stage = stage_of(alloc, row)?;
+    let stage = stage_of(alloc, row.entries.as_slice())?;
     let mut results = store_of(alloc, row)?;
-    let mut page = ScriptedWriter::new(alloc, failing);
+    let at_most = number(row.text("takes").unwrap_or("4096"))? as usize;
+    let mut page = writer(alloc, at_most, failing, WriteFault::Broken);
     let os = ScriptedSystem::new(alloc, scene);
     let (exits, _os) = over_system(
         alloc,
@@ -38,27 +41,13 @@ fn play(alloc: Global, row: &Row<'_>, scene: &Scene<'_>, failing: u64) -> Result
         &mut results,
         &mut page,
     )?;
-    let runs = runs_text(alloc, &mut results)?;
+    let runs = runs_text(alloc, &mut results, true)?;
     Ok(Played { page, exits, runs })
-}
-
-/// How the commands ended.
-fn exits_text(alloc: Global, exits: &[Exit]) -> Result<String, RowFault> {
-    let mut out = String::from_str(alloc, "exit")?;
-    for exit in exits {
-        let status = exit.status;
-        out.push_str(format!(in alloc; " {status}")?.as_str())?;
-    }
-    Ok(out)
 }
 
 /// The page, the exits, and where the row says so the runs.
 fn shown(alloc: Global, row: &Row<'_>, played: &Played) -> Result<String, RowFault> {
-    let mut out = String::from_utf8_lossy(alloc, played.page.kept.as_slice())?;
-    if !out.is_empty() && !out.as_str().ends_with('\n') {
-        out.push_str("(cut)\n")?;
-    }
-    out.push_str(exits_text(alloc, played.exits.as_slice())?.as_str())?;
+    let mut out = ended_text(alloc, &played.page, played.exits.as_slice())?;
     if row.text("show") == Some("runs") {
         push_line(&mut out, played.runs.as_str())?;
     }
@@ -113,9 +102,9 @@ fn done(alloc: Global, row: &Row<'_>) -> Result<String, RowFault> {
     }
 }
 
-/// Commands over a scripted world: `do COMMAND LINE` each. Rows that begin with `piece`, `tell`,
-/// `source` or `reader` are of pieces that are given to a writer of lines, of faults that are told,
-/// of the directories of Kyuafiles and of reads; those with `disk` are of a disk that fails.
+/// Commands over a scripted world: `do COMMAND LINE` each. Rows that begin with `piece` or `source`
+/// are of pieces that are given to a writer of lines and of the directories of Kyuafiles; those
+/// with `disk` are of a disk that fails.
 pub fn answer(alloc: Global, row: &Row<'_>) -> Result<String, RowFault> {
     if let Some(disk) = row.text("disk") {
         return disk_tests::answer(alloc, row, disk);
@@ -125,9 +114,7 @@ pub fn answer(alloc: Global, row: &Row<'_>) -> Result<String, RowFault> {
     };
     match first.word {
         "piece" => line_outputs::answer(alloc, row),
-        "tell" => fault_exits::told(alloc, first.text),
         "source" => fault_exits::source(alloc, first.text),
-        "reader" => readers::world_read(alloc, row),
         _ => done(alloc, row),
     }
 }

@@ -1,71 +1,37 @@
 use crate::escapes::text_of;
 use crate::lines::push_line;
+use crate::numbers::append_numbered;
+use crate::pairs::{pair_of, push_pair};
 use crate::row::{Entry, Row};
 use crate::row_fault::RowFault;
-use kt_base::Variable;
-use kt_config::{Config, ConfigFault, SuiteVariables};
+use kt_config::{Config, SuiteVariables};
 use std::alloc::Global;
-
-/// Appends numbered statements: `COUNT STATEMENT`, where `#` in the statement is its number,
-/// counted from 0.
-fn append_numbered(alloc: Global, file: &mut Vec<u8>, text: &str) -> Result<(), RowFault> {
-    let Some((count, statement)) = text.split_once(' ') else {
-        return Err(RowFault::Misspelled("no number and statement"));
-    };
-    let Ok(count) = count.parse::<u32>() else {
-        return Err(RowFault::Misspelled("no number and statement"));
-    };
-    for number in 0..count {
-        let number = number.to_string(alloc)?;
-        let statement = statement.replace(alloc, "#", number.as_str())?;
-        file.extend_from_slice(statement.as_bytes())?;
-        file.push(b'\n')?;
-    }
-    Ok(())
-}
 
 /// The configuration file of a row: the text of `file`, then the statements of `numbered`.
 fn file_of(alloc: Global, row: &Row<'_>) -> Result<Vec<u8>, RowFault> {
     let mut file = row.bytes(alloc, "file")?.unwrap_or(Vec::new(alloc));
-    for entry in row.entries.as_slice() {
-        if entry.word == "numbered" {
-            append_numbered(alloc, &mut file, entry.text)?;
-        }
-    }
+    append_numbered(alloc, &mut file, row)?;
     Ok(file)
-}
-
-fn fault_text(alloc: Global, fault: ConfigFault) -> Result<String, RowFault> {
-    match fault {
-        ConfigFault::NoMemory(refusal) => Err(refusal)?,
-        _ => Ok(format!(in alloc; "{fault}")?),
-    }
-}
-
-fn push_variable(out: &mut String, variable: &Variable) -> Result<(), RowFault> {
-    if !out.is_empty() {
-        out.push(' ')?;
-    }
-    out.push_str(variable.name.as_str())?;
-    out.push('=')?;
-    out.push_str(variable.value.as_str())?;
-    Ok(())
 }
 
 /// The variables of a suite in their order: `a=1 b=2`.
 fn all_variables(alloc: Global, variables: &SuiteVariables) -> Result<String, RowFault> {
     let mut out = String::new(alloc);
     for variable in variables.copy()?.as_slice() {
-        push_variable(&mut out, variable)?;
+        if !out.is_empty() {
+            out.push(' ')?;
+        }
+        push_pair(&mut out, variable)?;
     }
     Ok(out)
 }
 
-/// The answer to `suite NAME`.
-fn suite_line(alloc: Global, config: &Config, suite: &str) -> Result<String, RowFault> {
+/// The answer to `suite NAME`, or to `count NAME`.
+fn suite_line(alloc: Global, config: &Config, word: &str, suite: &str) -> Result<String, RowFault> {
     match config.suite_vars(&text_of(alloc, suite)?) {
-        Some(variables) => all_variables(alloc, variables),
         None => Ok(String::from_str(alloc, "none")?),
+        Some(variables) if word == "count" => Ok(variables.copy()?.len().to_string(alloc)?),
+        Some(variables) => all_variables(alloc, variables),
     }
 }
 
@@ -84,22 +50,12 @@ fn value_line(alloc: Global, config: &Config, text: &str) -> Result<String, RowF
     }
 }
 
-/// The answer to `count SUITE`.
-fn count_line(alloc: Global, config: &Config, suite: &str) -> Result<String, RowFault> {
-    match config.suite_vars(&text_of(alloc, suite)?) {
-        Some(variables) => Ok(variables.copy()?.len().to_string(alloc)?),
-        None => Ok(String::from_str(alloc, "none")?),
-    }
-}
-
 /// The answer to `set NAME=VALUE`.
 fn set_line(alloc: Global, config: &mut Config, text: &str) -> Result<String, RowFault> {
-    let Some((name, value)) = text.split_once('=') else {
-        return Err(RowFault::Misspelled("no name and value"));
-    };
-    match config.set(&text_of(alloc, name)?, &text_of(alloc, value)?) {
+    let pair = pair_of(alloc, text)?;
+    match config.set(&pair.name, &pair.value) {
         Ok(()) => Ok(String::from_str(alloc, "set")?),
-        Err(fault) => fault_text(alloc, fault),
+        Err(fault) => Ok(fault.to_string(alloc)?),
     }
 }
 
@@ -107,9 +63,8 @@ fn set_line(alloc: Global, config: &mut Config, text: &str) -> Result<String, Ro
 fn line(alloc: Global, config: &mut Config, entry: &Entry<'_>) -> Result<Option<String>, RowFault> {
     let told = match entry.word {
         "set" => set_line(alloc, config, entry.text)?,
-        "suite" => suite_line(alloc, config, entry.text)?,
+        "suite" | "count" => suite_line(alloc, config, entry.word, entry.text)?,
         "value" => value_line(alloc, config, entry.text)?,
-        "count" => count_line(alloc, config, entry.text)?,
         "parallelism" => config.parallelism().to_string(alloc)?,
         "architecture" => String::from_str(alloc, config.architecture())?,
         "platform" => String::from_str(alloc, config.platform())?,
@@ -138,6 +93,6 @@ pub fn answer(alloc: Global, row: &Row<'_>) -> Result<String, RowFault> {
     }
     match Config::read(alloc, &file_of(alloc, row)?) {
         Ok(config) => lines(alloc, config, row),
-        Err(fault) => fault_text(alloc, fault),
+        Err(fault) => Ok(fault.to_string(alloc)?),
     }
 }

@@ -1,10 +1,10 @@
 //! Each call of a run failing in turn.
 
+use crate::entry_texts::{entries_text, marks};
 use crate::lines::push_line;
 use crate::row::Row;
 use crate::row_fault::RowFault;
 use crate::system_runs::{Driven, run_plan};
-use crate::system_texts::marks;
 use kt_base::Entry;
 use kt_play::{Scene, ScriptedSystem};
 use std::alloc::Global;
@@ -24,30 +24,16 @@ fn marks_at(alloc: Global, entries: &[Entry], position: u32) -> Result<String, R
 
 /// How many calls of a log begin with a word.
 fn count_of(log: &str, word: &str) -> usize {
-    let mut count: usize = 0;
-    for line in log.lines() {
-        if line.starts_with(word) {
-            count = count.saturating_add(1);
-        }
-    }
-    count
+    log.lines().filter(|line| line.starts_with(word)).count()
 }
 
 /// How many directories were made that are to be removed: all but work directories, which lie in
 /// them.
 fn made(log: &str) -> usize {
-    let mut count: usize = 0;
-    for line in log.lines() {
-        let is_kept = line.ends_with("/work") || line.ends_with(" failed");
-        if line.starts_with("make ") && !is_kept {
-            count = count.saturating_add(1);
-        }
-    }
-    count
-}
-
-fn has_failed(log: &str) -> bool {
-    log.lines().any(|line| line.ends_with(" failed"))
+    log.lines()
+        .filter(|line| line.starts_with("make "))
+        .filter(|line| !line.ends_with("/work") && !line.ends_with(" failed"))
+        .count()
 }
 
 /// Tells what a failing call changes: the cases with other marks, a kill, and directories that were
@@ -81,15 +67,6 @@ fn push_changes(
     Ok(())
 }
 
-fn push_sound(alloc: Global, out: &mut String, sound: &[Entry]) -> Result<(), RowFault> {
-    for entry in sound {
-        let position = entry.position;
-        let told = marks(alloc, entry)?;
-        push_line(out, format!(in alloc; "{position} {told}")?.as_str())?;
-    }
-    Ok(())
-}
-
 /// The entries where no call fails, then, for each failing call, what is otherwise, and how many
 /// calls there are.
 pub fn each_failing<'a>(
@@ -99,12 +76,11 @@ pub fn each_failing<'a>(
 ) -> Result<String, RowFault> {
     let mut scene = scene;
     let sound = run_plan(alloc, row, &scene)?.entries;
-    let mut out = String::new(alloc);
-    push_sound(alloc, &mut out, sound.as_slice())?;
+    let mut out = entries_text(alloc, "marks", sound.as_slice())?;
     for call in 1..LIMIT {
         scene.failing = (call, call.saturating_add(1));
         let run = run_plan(alloc, row, &scene)?;
-        if !has_failed(run.os.log.as_str()) {
+        if !run.os.log.as_str().contains(" failed\n") {
             push_line(&mut out, format!(in alloc; "{call} calls")?.as_str())?;
             return Ok(out);
         }

@@ -1,8 +1,9 @@
 use crate::escapes::text_of;
 use crate::lines::push_line;
+use crate::numbers::numbered;
 use crate::row::{Entry, Row};
 use crate::row_fault::RowFault;
-use kt_suite::{Filter, FilterFault, Item, SelectFault, Selection, check_disjoint, select};
+use kt_suite::{Filter, FilterFault, Item, Selection, check_disjoint, select};
 use std::alloc::Global;
 
 /// What a row has said so far: the cases and the filters.
@@ -24,27 +25,10 @@ fn item_of(alloc: Global, raw: &str) -> Result<Item, RowFault> {
     })
 }
 
-/// `COUNT TEXT`: the text so often, with the number in place of each `#`, from 0.
-fn numbered(alloc: Global, raw: &str) -> Result<Vec<String>, RowFault> {
-    let Some((count, text)) = raw.split_once(' ') else {
-        return Err(RowFault::Misspelled("a text stands after a number"));
-    };
-    let Ok(count) = count.parse::<u32>() else {
-        return Err(RowFault::Misspelled("a number is wanted"));
-    };
-    let mut texts = Vec::new(alloc);
-    for number in 0..count {
-        let number = number.to_string(alloc)?;
-        texts.push(text.replace(alloc, "#", number.as_str())?)?;
-    }
-    Ok(texts)
-}
-
 /// A filter that is accepted.
 fn filter_of(alloc: Global, raw: &str) -> Result<Filter, RowFault> {
     match Filter::parse(alloc, &text_of(alloc, raw)?) {
         Ok(filter) => Ok(filter),
-        Err(FilterFault::NoMemory(refusal)) => Err(refusal)?,
         Err(_) => Err(RowFault::Misspelled("a filter that is refused is asked for by `read`")),
     }
 }
@@ -65,7 +49,6 @@ fn shown(alloc: Global, filter: &Filter) -> Result<String, RowFault> {
 fn read_line(alloc: Global, raw: &str) -> Result<String, RowFault> {
     match Filter::parse(alloc, &text_of(alloc, raw)?) {
         Ok(filter) => shown(alloc, &filter),
-        Err(FilterFault::NoMemory(refusal)) => Err(refusal)?,
         Err(fault) => Ok(fault.to_string(alloc)?),
     }
 }
@@ -163,7 +146,6 @@ impl Example {
                 }
                 selection_line(self.alloc, &selection)
             }
-            Err(SelectFault::NoMemory(refusal)) => Err(refusal)?,
             Err(fault) => Ok(fault.to_string(self.alloc)?),
         }
     }

@@ -8,7 +8,7 @@ use kt_play::Listed;
 use std::alloc::Global;
 
 /// The header of a list of ATF cases.
-pub const HEADER: &str = "Content-Type: application/X-atf-tp; version=\"1\"\n";
+const HEADER: &str = "Content-Type: application/X-atf-tp; version=\"1\"\n";
 
 /// The blocks of a list behind its header and an empty line.
 pub fn behind_header(alloc: Global, blocks: &[u8]) -> Result<Vec<u8>, RowFault> {
@@ -41,7 +41,7 @@ fn ended_of<'a>(alloc: Global, text: &'a str) -> Result<(&'a str, ListBytes), Ro
 
 /// What comes of asking a program for its list: `refused WHY`, or `ENDING` and then `blocks TEXT`,
 /// `list TEXT`, `unreadable` or `too-long`.
-fn listing_of(alloc: Global, text: &str) -> Result<Listing, RowFault> {
+pub fn listing_of(alloc: Global, text: &str) -> Result<Listing, RowFault> {
     if let Some(cause) = text.strip_prefix("refused ") {
         return Ok(Listing::Refused(refused_of(cause)?));
     }

@@ -1,8 +1,12 @@
-use crate::escapes::push_escaped;
 use crate::row_fault::RowFault;
 use std::alloc::Global;
 
-/// Where a row is, the answer that it wants and the one that it got.
+/// The first 400 bytes of a text, or all of it if they end within a character.
+fn front(text: &str) -> &str {
+    text.get(..400).unwrap_or(text)
+}
+
+/// Where a row is, and the fronts of the answer that it wants and of the one that it got.
 pub fn mismatch_lines(
     alloc: Global,
     file: &str,
@@ -11,9 +15,9 @@ pub fn mismatch_lines(
     found: &str,
 ) -> Result<String, RowFault> {
     let wanted = String::from_utf8_lossy(alloc, wanted)?;
-    let mut lines = format!(in alloc; "{file}:{line}: another answer\n  wanted: ")?;
-    push_escaped(&mut lines, wanted.as_str())?;
-    lines.push_str("\n  got:    ")?;
-    push_escaped(&mut lines, found)?;
-    Ok(lines)
+    let wanted = front(wanted.as_str());
+    let found = front(found);
+    Ok(format!(in alloc;
+        "{file}:{line}: another answer\n  wanted: {wanted:?}\n  got:    {found:?}"
+    )?)
 }

@@ -1,5 +1,7 @@
 ghost use Rattle.std.specs.Prelude.{IfOk, ◌≤◌};
 
+use crate::escapes::unescaped;
+use crate::row::Row;
 use crate::row_fault::RowFault;
 use std::alloc::Global;
 
@@ -21,6 +23,31 @@ pub fn numbers(alloc: Global, text: &str) -> Result<Vec<u64>, RowFault> {
         numbers.push(number(word)?)?;
     }
     Ok(numbers)
+}
+
+/// The texts of `COUNT TEXT`: the text so often, with the number in place of each `#`, from 0.
+pub fn numbered(alloc: Global, raw: &str) -> Result<Vec<String>, RowFault> {
+    let Some((times, text)) = raw.split_once(' ') else {
+        return Err(RowFault::Misspelled("a text stands after a number"));
+    };
+    let mut texts = Vec::new(alloc);
+    for number in 0..count(times)? {
+        let number = number.to_string(alloc)?;
+        texts.push(text.replace(alloc, "#", number.as_str())?)?;
+    }
+    Ok(texts)
+}
+
+/// Appends the texts of a row's lines `numbered COUNT TEXT`.
+pub fn append_numbered(alloc: Global, bytes: &mut Vec<u8>, row: &Row<'_>) -> Result<(), RowFault> {
+    for entry in row.entries.as_slice() {
+        if entry.word == "numbered" {
+            for text in numbered(alloc, entry.text)?.as_slice() {
+                bytes.extend_from_slice(&unescaped(alloc, text.as_str())?)?;
+            }
+        }
+    }
+    Ok(())
 }
 
 /// A limit in seconds, 1 where the row has none.

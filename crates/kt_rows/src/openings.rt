@@ -2,15 +2,17 @@
 //! ends.
 
 use crate::command_words::read_line;
-use crate::fault_exits::{command_fault, driver_fault, store_fault};
+use crate::fault_exits::{driver_fault, shortage, store_fault};
 use crate::lines::push_line;
 use crate::numbers::number;
+use crate::pages::page_text;
+use crate::recorded::content_at;
 use crate::row::Row;
 use crate::row_fault::RowFault;
+use crate::run_texts::runs_text;
 use crate::scenes::scene_of;
 use crate::stages::store_of;
 use crate::store_calls::call;
-use crate::store_texts::timeless_runs_text;
 use kt_cli::{LineOutput, carry_out};
 use kt_play::{RefusingStore, Scene, ScriptedPlatform, ScriptedSystem, ScriptedWriter};
 use kt_words::{Command, CommandFault};
@@ -22,9 +24,10 @@ use std::rt::{Clock, Files};
 /// The results of a row, into which its lines `begin`, `put` and `finish` have put some.
 fn results_of(alloc: Global, row: &Row<'_>) -> Result<RefusingStore, RowFault> {
     let mut results = store_of(alloc, row)?;
-    for entry in row.entries.as_slice() {
-        if matches!(entry.word, "begin" | "put" | "finish") {
-            let _ = call(alloc, row, &mut results, entry.word, entry.text)?;
+    let lines = row.entries.as_slice();
+    for (place, line) in lines.iter().enumerate() {
+        if matches!(line.word, "begin" | "put" | "finish") {
+            let _ = call(alloc, &mut results, line, content_at(lines, place))?;
         }
     }
     Ok(results)
@@ -76,7 +79,7 @@ fn carried<R: Files<File = File> + Clock + AllocGlobal, W: Write, E: Write>(
     carry_out(rt, os, platform, command, &mut lines, errors).status
 }
 
-/// Carries out the command lines of a row, one after the other: `line WORDS`, or `words FAULT` for
+/// Carries out the command lines of a row, one after the other: `line WORDS`, or `words no-memory` for
 /// one that is none. Answers how they ended.
 fn exits_text<R: Files<File = File> + Clock + AllocGlobal>(
     rt: &R,
@@ -90,7 +93,7 @@ fn exits_text<R: Files<File = File> + Clock + AllocGlobal>(
     for entry in row.entries.as_slice() {
         let command = match entry.word {
             "line" => read_line(alloc, entry.text)?,
-            "words" => Err(command_fault(alloc, entry.text)?),
+            "words" => Err(CommandFault::from(shortage(alloc)?)),
             _ => continue,
         };
         let (out, errors) = (&mut pages.out, &mut pages.errors);
@@ -100,34 +103,25 @@ fn exits_text<R: Files<File = File> + Clock + AllocGlobal>(
     Ok(exits)
 }
 
-/// Appends what was written on a page. One that doesn't end in a newline was cut.
-fn push_page(alloc: Global, text: &mut String, page: &ScriptedWriter) -> Result<(), RowFault> {
-    let written = String::from_utf8_lossy(alloc, page.kept.as_slice())?;
-    text.push_str(written.as_str())?;
-    if !written.is_empty() && !written.as_str().ends_with('\n') {
-        text.push_str("(cut)\n")?;
-    }
-    Ok(())
-}
-
 /// Appends what was written on standard error, a usage by that word alone.
 fn push_errors(alloc: Global, text: &mut String, page: &ScriptedWriter) -> Result<(), RowFault> {
     if page.kept.is_empty() {
         return Ok(());
     }
-    let written = String::from_utf8_lossy(alloc, page.kept.as_slice())?;
+    let written = page_text(alloc, page)?;
     if written.as_str().contains("Usage:") {
         text.push_str("error: usage\n")?;
         return Ok(());
     }
     text.push_str("error: ")?;
-    push_page(alloc, text, page)
+    text.push_str(written.as_str())?;
+    Ok(())
 }
 
 /// The runs that were closed, without their moments, which the clock of this process told.
 fn kept_text(alloc: Global, results: Option<RefusingStore>) -> Result<String, RowFault> {
     match results {
-        Some(mut results) => timeless_runs_text(alloc, &mut results),
+        Some(mut results) => runs_text(alloc, &mut results, false),
         None => Ok(String::from_str(alloc, "open")?),
     }
 }
@@ -145,7 +139,7 @@ fn shown(
         text.push_str("nothing")?;
     }
     text.push('\n')?;
-    push_page(alloc, &mut text, &pages.out)?;
+    text.push_str(page_text(alloc, &pages.out)?.as_str())?;
     push_errors(alloc, &mut text, &pages.errors)?;
     text.push_str(exits)?;
     if row.text("show") == Some("runs") {

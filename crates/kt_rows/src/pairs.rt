@@ -1,20 +1,32 @@
 use crate::escapes::lossy_of;
-use crate::row;
+use crate::row::Entry;
 use crate::row_fault::RowFault;
 use kt_base::{Variable, Variables};
 use std::alloc::Global;
 
-/// The pairs of the lines `meta NAME=VALUE`, in order.
-pub fn pairs_of(alloc: Global, lines: &[row::Entry<'_>]) -> Result<Variables, RowFault> {
+/// `NAME=VALUE`, cut at the first `=`.
+pub fn pair_of(alloc: Global, raw: &str) -> Result<Variable, RowFault> {
+    let (name, value) = raw.split_once('=').unwrap_or((raw, ""));
+    let name = lossy_of(alloc, name)?;
+    let value = lossy_of(alloc, value)?;
+    Ok(Variable { name, value })
+}
+
+/// The pairs of the lines with a word, in order: `WORD NAME=VALUE` each.
+pub fn pairs_of(alloc: Global, lines: &[Entry<'_>], word: &str) -> Result<Variables, RowFault> {
     let mut pairs = Variables::new(alloc);
     for line in lines {
-        if line.word == "meta" {
-            let (name, value) = line.text.split_once('=').unwrap_or((line.text, ""));
-            pairs.push(Variable {
-                name: lossy_of(alloc, name)?,
-                value: lossy_of(alloc, value)?,
-            })?;
+        if line.word == word {
+            pairs.push(pair_of(alloc, line.text)?)?;
         }
     }
     Ok(pairs)
+}
+
+/// Appends a pair: `NAME=VALUE`.
+pub fn push_pair(out: &mut String, pair: &Variable) -> Result<(), RowFault> {
+    out.push_str(pair.name.as_str())?;
+    out.push('=')?;
+    out.push_str(pair.value.as_str())?;
+    Ok(())
 }

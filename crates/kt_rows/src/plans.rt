@@ -18,15 +18,8 @@ const ENDS: [[u32; 8]; 4] = [
 
 /// Whether the entries are those at these positions.
 fn are_at(entries: &[Entry], positions: &[u32]) -> bool {
-    if entries.len() != positions.len() {
-        return false;
-    }
-    for (entry, position) in entries.iter().zip(positions) {
-        if entry.position != *position {
-            return false;
-        }
-    }
-    true
+    let mut pairs = entries.iter().zip(positions);
+    entries.len() == positions.len() && pairs.all(|(entry, position)| entry.position == *position)
 }
 
 /// Whether the scheduler's calls and puts are those of the simulation.

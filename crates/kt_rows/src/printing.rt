@@ -1,7 +1,14 @@
 use crate::row_fault::RowFault;
-use kt_base::{Entry, Kind, Run, Verdict, emit, emit_number, emit_wide_number, send};
-use kt_play::FailingWriter;
+use kt_base::{Entry, Kind, Run, Verdict, emit, emit_number, emit_wide_number};
+use kt_play::{ScriptedWriter, WriteFault};
 use std::alloc::Global;
+
+/// The ways in which a write fails.
+pub const FAULTS: [WriteFault; 3] = [
+    WriteFault::Broken,
+    WriteFault::Interrupted,
+    WriteFault::Nothing,
+];
 
 /// What the crates print into a writer.
 #[derive(Clone, Copy)]
@@ -17,90 +24,89 @@ pub enum Printed<'a> {
 }
 
 impl Printed<'_> {
-    /// Prints it, and returns whether a write failed.
-    fn print(self, out: &mut FailingWriter) -> bool {
+    /// Prints it, and returns whether all went well.
+    fn print(self, out: &mut ScriptedWriter) -> bool {
         match self {
-            Printed::Bytes(bytes) => emit(bytes, out).is_err(),
-            Printed::Number(n) => emit_number(n, out).is_err(),
-            Printed::WideNumber(n) => emit_wide_number(n, out).is_err(),
-            Printed::Reason(verdict) => verdict.print_reason(out).is_err(),
-            Printed::Line(entry) => kt_report::line(entry, out).is_err(),
-            Printed::Text(run, kinds, verbose) => {
-                kt_report::text(run, kinds, verbose, out).is_err()
-            },
-            Printed::Junit(alloc, run) => kt_report::junit(alloc, run, out).is_err(),
+            Printed::Bytes(bytes) => emit(bytes, out).is_ok(),
+            Printed::Number(n) => emit_number(n, out).is_ok(),
+            Printed::WideNumber(n) => emit_wide_number(n, out).is_ok(),
+            Printed::Reason(verdict) => verdict.print_reason(out).is_ok(),
+            Printed::Line(entry) => kt_report::line(entry, out).is_ok(),
+            Printed::Text(run, kinds, verbose) => kt_report::text(run, kinds, verbose, out).is_ok(),
+            Printed::Junit(alloc, run) => kt_report::junit(alloc, run, out).is_ok(),
         }
     }
 }
 
-/// Whether a writer that takes so many bytes at a time gets all of the text.
-fn is_whole(alloc: Global, printed: Printed<'_>, at_most: usize, text: &[u8]) -> bool {
-    let mut out = FailingWriter::new(alloc, at_most);
-    let failed = printed.print(&mut out);
-    !failed && out.taken.as_slice() == text
+/// A writer that takes so many bytes at a time, and of whose writes one fails so, counted from 1,
+/// with all behind it; 0 for none.
+pub fn writer(alloc: Global, at_most: usize, failing: u64, fault: WriteFault) -> ScriptedWriter {
+    let mut writer = ScriptedWriter::new(alloc, failing);
+    writer.at_most = at_most;
+    writer.fault = fault;
+    writer
 }
 
-/// Whether a writer that fails at a call gets what came before that call, and the failure is
-/// returned.
-fn is_cut(
-    alloc: Global,
-    printed: Printed<'_>,
-    at_most: usize,
-    fails_at: usize,
-    interrupted: bool,
-    text: &[u8],
-) -> bool {
-    let mut out = FailingWriter::new(alloc, at_most);
-    out.fails_at = fails_at;
-    out.interrupted = interrupted;
-    let failed = printed.print(&mut out);
-    let taken = out.taken.as_slice();
-    failed && text.starts_with(taken) && (at_most > 1 || taken.len() == fails_at)
+/// What is wrong with a writer of whose writes one failed.
+pub fn wrong(whole: &[u8], cut: &ScriptedWriter, well: bool) -> Option<&'static str> {
+    let kept = cut.kept.as_slice();
+    if well {
+        return Some("all went well");
+    }
+    if cut.writes != cut.failing {
+        return Some("something was written behind it");
+    }
+    if kept.len() >= whole.len() || !whole.starts_with(kept) {
+        return Some("no beginning was written");
+    }
+    None
 }
 
-/// Whether each of the first writes may fail: a hundred, of a long text two.
-fn is_cut_anywhere(
+/// What is wrong where one of the first writes fails: of a hundred, of a long text of two.
+fn wrong_where_cut(
     alloc: Global,
     printed: Printed<'_>,
-    at_most: usize,
-    calls: usize,
-    text: &[u8],
-) -> bool {
-    let tries = if text.len() > 65_536 { 2 } else { 100 };
-    for fails_at in 0..calls.min(tries) {
-        if !is_cut(alloc, printed, at_most, fails_at, false, text)
-            || !is_cut(alloc, printed, at_most, fails_at, true, text)
-        {
-            return false;
+    whole: &ScriptedWriter,
+) -> Option<&'static str> {
+    let tries = if whole.kept.len() > 65_536 { 2 } else { 100 };
+    for failing in 1..=whole.writes.min(tries) {
+        for fault in &FAULTS {
+            let mut cut = writer(alloc, whole.at_most, failing, *fault);
+            let well = printed.print(&mut cut);
+            let what = wrong(whole.kept.as_slice(), &cut, well);
+            if what.is_some() {
+                return what;
+            }
         }
     }
-    true
+    None
 }
 
-/// The text that is printed, if it is the same into each writer: one that takes all at a call,
-/// seven bytes or one, and one that fails at one of its first calls, which gets the text before
-/// that call.
+/// What is wrong with a text before a writer that takes so many bytes at a time.
+fn wrong_where_slow(
+    alloc: Global,
+    printed: Printed<'_>,
+    at_most: usize,
+    text: &[u8],
+) -> Option<&'static str> {
+    let mut slow = writer(alloc, at_most, 0, WriteFault::Broken);
+    let well = printed.print(&mut slow);
+    if !well || slow.kept.as_slice() != text {
+        return Some("another text into a slow writer");
+    }
+    wrong_where_cut(alloc, printed, &slow)
+}
+
+/// The text that is printed, if it is the same into each writer: one that takes all at a time,
+/// seven bytes or one, and one that fails at one of its first writes, which gets a beginning.
 pub fn printed_text(alloc: Global, printed: Printed<'_>) -> Result<String, RowFault> {
-    let mut out = FailingWriter::new(alloc, usize::MAX);
-    if printed.print(&mut out) {
-        return Ok(String::from_str(alloc, "not printed")?);
-    }
-    let text = out.taken.as_slice();
-    if !is_whole(alloc, printed, 7, text) || !is_whole(alloc, printed, 1, text) {
-        return Ok(String::from_str(alloc, "another text into a slow writer")?);
-    }
-    if !is_cut_anywhere(alloc, printed, usize::MAX, out.calls, text)
-        || !is_cut_anywhere(alloc, printed, 1, text.len(), text)
-    {
-        return Ok(String::from_str(alloc, "another text into a writer that fails")?);
+    let mut out = writer(alloc, usize::MAX, 0, WriteFault::Broken);
+    printed.print(&mut out);
+    let text = out.kept.as_slice();
+    for at_most in [usize::MAX, 7, 1] {
+        if let Some(what) = wrong_where_slow(alloc, printed, at_most, text) {
+            return Ok(String::from_str(alloc, what)?);
+        }
     }
     Ok(String::from_utf8_lossy(alloc, text)?)
-}
-
-/// How many bytes reach a writer that takes so many at a time and fails at a call, and whether a
-/// write failed.
-pub fn sent(alloc: Global, bytes: &[u8], at_most: usize, fails_at: usize) -> (usize, bool) {
-    let mut out = FailingWriter::new(alloc, at_most);
-    out.fails_at = fails_at;
-    send(bytes, &mut out)
 }

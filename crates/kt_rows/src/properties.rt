@@ -1,11 +1,13 @@
 use crate::escapes::text_of;
 use crate::lines::push_line;
-use crate::numbers::number;
+use crate::numbers::{number, numbered};
+use crate::pairs::pair_of;
 use crate::row::{Entry, Row};
 use crate::row_fault::RowFault;
-use kt_base::{Reason, Text, Variable, Variables, Verdict};
+use crate::verdicts::reason_text;
+use kt_base::{Reason, Text, Variables};
 use kt_config::Config;
-use kt_metadata::{Host, PropFault, Props, is_kyuafile_property, property_of_key, unmet};
+use kt_metadata::{Host, Props, is_kyuafile_property, property_of_key, unmet};
 use std::alloc::Global;
 use std::collections::BTreeSet;
 
@@ -20,34 +22,20 @@ struct Example {
     host: Host,
 }
 
-/// `NAME=VALUE`, cut at the first `=`.
-pub fn pair_of(alloc: Global, raw: &str) -> Result<Variable, RowFault> {
-    let Some((name, value)) = raw.split_once('=') else {
-        return Err(RowFault::Misspelled("a value stands after `=`"));
-    };
-    Ok(Variable {
-        name: text_of(alloc, name)?,
-        value: text_of(alloc, value)?,
-    })
-}
-
 /// Sets a property: the fault if it is refused.
 fn set_property(alloc: Global, props: &mut Props, raw: &str) -> Result<Option<String>, RowFault> {
     let pair = pair_of(alloc, raw)?;
     match props.set(&pair.name, &pair.value) {
         Ok(()) => Ok(None),
-        Err(PropFault::NoMemory(refusal)) => Err(refusal)?,
         Err(fault) => Ok(Some(fault.to_string(alloc)?)),
     }
 }
 
-/// Sets the properties `custom.0`, `custom.1` and so on, so many, each to its number.
-fn set_customs(alloc: Global, props: &mut Props, count: u64) -> Result<(), RowFault> {
-    for number in 0..count {
-        let name = Text::from_string(format!(in alloc; "custom.{number}")?);
-        let value = Text::from_string(number.to_string(alloc)?);
-        if props.set(&name, &value).is_err() {
-            return Err(RowFault::Misspelled("too many custom properties"));
+/// Sets the properties of `COUNT NAME=VALUE`, where `#` is the number.
+fn set_numbered(alloc: Global, props: &mut Props, raw: &str) -> Result<(), RowFault> {
+    for text in numbered(alloc, raw)?.as_slice() {
+        if set_property(alloc, props, text.as_str())?.is_some() {
+            return Err(RowFault::Misspelled("there is no such property or value"));
         }
     }
     Ok(())
@@ -85,11 +73,7 @@ fn lines_of(alloc: Global, pairs: &Variables) -> Result<String, RowFault> {
 fn reason_line(alloc: Global, reason: Option<Reason>) -> Result<String, RowFault> {
     match reason {
         None => Ok(String::from_str(alloc, "met")?),
-        Some(reason) => {
-            let mut text = Text::new(alloc);
-            Verdict::skipped(reason).write_reason(&mut text)?;
-            Ok(text.into_string())
-        }
+        Some(reason) => reason_text(alloc, reason),
     }
 }
 
@@ -151,15 +135,14 @@ impl Example {
 
     /// Takes a line that says something of the host.
     fn take_host(&mut self, entry: &Entry<'_>) -> Result<(), RowFault> {
+        let text = text_of(self.alloc, entry.text)?.into_string();
         match entry.word {
             "root" => self.host.root = true,
             "file" => {
-                let path = text_of(self.alloc, entry.text)?;
-                self.host.files.insert(path.into_string())?;
+                self.host.files.insert(text)?;
             }
             "program" => {
-                let name = text_of(self.alloc, entry.text)?;
-                self.host.programs.insert(name.into_string())?;
+                self.host.programs.insert(text)?;
             }
             "memory" => self.host.memory = Some(number(entry.text)?),
             "disk" => self.host.disk = Some(number(entry.text)?),
@@ -171,21 +154,13 @@ impl Example {
     /// Takes a line that says something, and answers what is refused.
     fn take(&mut self, entry: &Entry<'_>) -> Result<Option<String>, RowFault> {
         match entry.word {
-            "set" => set_property(self.alloc, &mut self.program, entry.text),
-            "case" => set_property(self.alloc, &mut self.case, entry.text),
-            "customs" => {
-                set_customs(self.alloc, &mut self.program, number(entry.text)?)?;
-                Ok(None)
-            }
-            "config" => {
-                set_variable(self.alloc, &mut self.config, entry.text)?;
-                Ok(None)
-            }
-            _ => {
-                self.take_host(entry)?;
-                Ok(None)
-            }
+            "set" => return set_property(self.alloc, &mut self.program, entry.text),
+            "case" => return set_property(self.alloc, &mut self.case, entry.text),
+            "numbered" => set_numbered(self.alloc, &mut self.program, entry.text)?,
+            "config" => set_variable(self.alloc, &mut self.config, entry.text)?,
+            _ => self.take_host(entry)?,
         }
+        Ok(None)
     }
 
     /// What a line asks, or what is refused of what it says.

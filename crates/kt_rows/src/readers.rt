@@ -23,37 +23,33 @@ fn reader_of(row: &Row<'_>) -> Result<EndlessReader, RowFault> {
     })
 }
 
-fn counts_text(alloc: Global, read: &str, file: &EndlessReader) -> Result<String, RowFault> {
-    let given = file.given;
-    let failed = file.failed;
-    Ok(format!(in alloc; "{read}; {given} bytes given, {failed} reads failed")?)
+/// How many bytes a system reads up to a limit, and whether more follow; none where it fails.
+fn front(alloc: Global, file: &mut EndlessReader, limit: u64) -> Option<(usize, bool)> {
+    match read_front(alloc, file, limit) {
+        Ok(FileRead::Part(bytes, follows)) => Some((bytes.len(), follows)),
+        _ => None,
+    }
 }
 
-/// What a system's read answers: `limit BYTES`.
-pub fn system_read(alloc: Global, row: &Row<'_>) -> Result<String, RowFault> {
-    let mut file = reader_of(row)?;
-    let limit = number(row.text("limit").unwrap_or("0"))?;
-    let read = match read_front(alloc, &mut file, limit) {
-        Err(_) => String::from_str(alloc, "failed")?,
-        Ok(FileRead::Missing) => String::from_str(alloc, "missing")?,
-        Ok(FileRead::Part(bytes, follows)) => {
-            let length = bytes.len();
-            let more = if follows { "more follow" } else { "no more" };
-            format!(in alloc; "{length} bytes, {more}")?
-        }
-    };
-    counts_text(alloc, read.as_str(), &file)
+/// How many bytes a world reads.
+fn start(alloc: Global, file: &mut EndlessReader) -> Option<(usize, bool)> {
+    match read_start(alloc, file, WORLD_LIMIT) {
+        Ok(bytes) => Some((bytes.len(), false)),
+        Err(_) => None,
+    }
 }
 
-/// What a world's read answers.
-pub fn world_read(alloc: Global, row: &Row<'_>) -> Result<String, RowFault> {
+/// What is read by a system up to `limit BYTES`, or by a world.
+pub fn answer(alloc: Global, row: &Row<'_>) -> Result<String, RowFault> {
     let mut file = reader_of(row)?;
-    let read = match read_start(alloc, &mut file, WORLD_LIMIT) {
-        Err(_) => String::from_str(alloc, "failed")?,
-        Ok(bytes) => {
-            let length = bytes.len();
-            format!(in alloc; "{length} bytes")?
-        }
+    let read = match row.text("limit") {
+        Some(limit) => front(alloc, &mut file, number(limit)?),
+        None => start(alloc, &mut file),
     };
-    counts_text(alloc, read.as_str(), &file)
+    let (given, failed) = (file.given, file.failed);
+    match read {
+        None => Ok(format!(in alloc; "failed; {given} bytes given, {failed} reads failed")?),
+        Some((length, true)) => Ok(format!(in alloc; "{length} bytes and more; {given} given")?),
+        Some((length, false)) => Ok(format!(in alloc; "{length} bytes; {given} given")?),
+    }
 }

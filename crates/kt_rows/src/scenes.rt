@@ -5,7 +5,7 @@ use crate::row::{Entry, Row};
 use crate::row_fault::RowFault;
 use kt_base::Outcome;
 use kt_child::Polled;
-use kt_play::{Holding, Life, PartFault, Scene};
+use kt_play::{Holding, Life, PartFault, Scene, ask_too_much};
 use std::alloc::Global;
 
 /// How a child ended, as a poll tells it.
@@ -85,15 +85,20 @@ fn take<'a>(alloc: Global, scene: &mut Scene<'a>, entry: &Entry<'a>) -> Result<(
 }
 
 /// The scene of a row: `life LIFE` each, `holds PATH TEXT` each, `clock N` or `moments NUMBERS`,
-/// `fails CALLS`, `odd WHAT`.
+/// `fails CALLS` or, for memory, `refuses CALLS`, `odd WHAT`.
 pub fn scene_of<'a>(alloc: Global, row: &Row<'a>) -> Result<Scene<'a>, RowFault> {
-    let failing = failing_of(row.text("fails"))?;
+    let failing = failing_of(row.text("fails").or(row.text("refuses")))?;
+    let shortage = match row.text("refuses") {
+        Some(_) => ask_too_much(alloc).err(),
+        None => None,
+    };
     let part_fault = part_fault_of(row.text("odd"))?;
     let (moments, step) = clock_of(alloc, row)?;
     let mut scene = Scene {
         lives: Vec::new(alloc),
         files: Vec::new(alloc),
         failing,
+        shortage,
         part_fault,
         moments,
         step,

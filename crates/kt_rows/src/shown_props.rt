@@ -1,17 +1,13 @@
+use crate::pairs::push_pair;
 use crate::row_fault::RowFault;
 use kt_base::{Variable, Variables};
 use kt_metadata::Props;
 use std::alloc::Global;
 
 fn is_among(pairs: &Variables, pair: &Variable) -> bool {
-    for other in pairs.as_slice() {
-        if other.name.as_str() == pair.name.as_str()
-            && other.value.as_str() == pair.value.as_str()
-        {
-            return true;
-        }
-    }
-    false
+    pairs.as_slice().iter().any(|other| {
+        other.name.as_str() == pair.name.as_str() && other.value.as_str() == pair.value.as_str()
+    })
 }
 
 /// Appends the properties that differ from the defaults: ` timeout=20`.
@@ -21,9 +17,7 @@ pub fn push_props(alloc: Global, out: &mut String, props: &Props) -> Result<(), 
     for pair in pairs.as_slice() {
         if !is_among(&defaults, pair) {
             out.push(' ')?;
-            out.push_str(pair.name.as_str())?;
-            out.push('=')?;
-            out.push_str(pair.value.as_str())?;
+            push_pair(out, pair)?;
         }
     }
     Ok(())

@@ -108,15 +108,7 @@ impl<'a> Simulation<'a> {
 
     /// Whether each undecided case before this one in turn order had its body started.
     fn has_its_turn(&self, i: u32) -> bool {
-        for j in 0..self.count {
-            if self.is_before(j, i)
-                && !is_decided(self.letter(j))
-                && self.stage(j) == Stage::Waiting
-            {
-                return false;
-            }
-        }
-        true
+        (0..self.count).all(|j| !self.is_before(j, i) || !self.waits(j))
     }
 
     /// Whether there is room for a case: none active beside an exclusive one, else fewer than the
@@ -129,14 +121,14 @@ impl<'a> Simulation<'a> {
         }
     }
 
+    /// Whether a case has a body that wasn't started.
+    fn waits(&self, i: u32) -> bool {
+        self.stage(i) == Stage::Waiting && !is_decided(self.letter(i))
+    }
+
     /// Whether an exclusive case is active.
     fn is_reserved(&self) -> bool {
-        for i in 0..self.count {
-            if self.is_exclusive(i) && is_active(self.stage(i)) {
-                return true;
-            }
-        }
-        false
+        (0..self.count).any(|i| self.is_exclusive(i) && is_active(self.stage(i)))
     }
 
     /// Puts the entry of a case, unless a put failed before.
@@ -188,23 +180,16 @@ impl<'a> Simulation<'a> {
         self.put(i)
     }
 
-    fn start_body(&mut self, i: u32) -> Result<(), RowFault> {
-        if is_refused(self.letters, i, Role::Body) {
-            self.calls.push(Call::Refused(i, Role::Body))?;
+    fn start(&mut self, i: u32, role: Role) -> Result<(), RowFault> {
+        if is_refused(self.letters, i, role) {
+            self.calls.push(Call::Refused(i, role))?;
             return self.finish(i);
         }
-        self.calls.push(Call::Started(i, Role::Body))?;
-        self.set(i, Stage::Body);
-        Ok(())
-    }
-
-    fn start_cleanup(&mut self, i: u32) -> Result<(), RowFault> {
-        if is_refused(self.letters, i, Role::Cleanup) {
-            self.calls.push(Call::Refused(i, Role::Cleanup))?;
-            return self.finish(i);
+        self.calls.push(Call::Started(i, role))?;
+        match role {
+            Role::Body => self.set(i, Stage::Body),
+            Role::Cleanup => self.set(i, Stage::Cleanup),
         }
-        self.calls.push(Call::Started(i, Role::Cleanup))?;
-        self.set(i, Stage::Cleanup);
         Ok(())
     }
 
@@ -221,70 +206,44 @@ impl<'a> Simulation<'a> {
         self.finish(i)
     }
 
-    /// The first case at a stage.
-    fn first_at(&self, stage: Stage) -> Option<u32> {
-        for i in 0..self.count {
-            if self.stage(i) == stage {
-                return Some(i);
-            }
-        }
-        None
-    }
-
-    /// The first case of which a child runs.
-    fn first_running(&self) -> Option<u32> {
-        for i in 0..self.count {
-            if matches!(self.stage(i), Stage::Body | Stage::Cleanup) {
-                return Some(i);
-            }
-        }
-        None
+    /// The first case at one of these stages.
+    fn first_at(&self, stages: &[Stage]) -> Option<u32> {
+        (0..self.count).find(|i| stages.contains(&self.stage(*i)))
     }
 
     /// The case whose child ends next: the one that the script names, if its child runs, or else
     /// the first.
     fn next_end(&mut self) -> Option<u32> {
-        let first = self.first_running();
-        if first.is_none() {
-            return None;
-        }
-        match self.ends.split_first() {
-            None => first,
-            Some((i, rest)) => {
-                self.ends = rest;
-                if matches!(self.stage(*i), Stage::Body | Stage::Cleanup) {
-                    Some(*i)
-                } else {
-                    first
-                }
-            }
+        let first = self.first_at(&[Stage::Body, Stage::Cleanup])?;
+        let Some((named, rest)) = self.ends.split_first() else {
+            return Some(first);
+        };
+        self.ends = rest;
+        match self.stage(*named) {
+            Stage::Body | Stage::Cleanup => Some(*named),
+            _ => Some(first),
         }
     }
 
     /// The case whose body starts next, if one may start now.
     fn next_body(&self) -> Option<u32> {
-        for i in 0..self.count {
-            let waits = self.stage(i) == Stage::Waiting && !is_decided(self.letter(i));
-            if waits && self.has_its_turn(i) && self.has_room(i) {
-                let may_start = self.active() < self.width && !self.is_reserved();
-                return if may_start && !self.failed {
-                    Some(i)
-                } else {
-                    None
-                };
-            }
+        let first = (0..self.count).find(|i| self.waits(*i) && self.has_its_turn(*i))?;
+        let may_start = self.has_room(first) && self.active() < self.width && !self.is_reserved();
+        if may_start && !self.failed {
+            Some(first)
+        } else {
+            None
         }
-        None
     }
 
     /// Makes the next call, and returns whether there was one.
     fn step(&mut self) -> Result<bool, RowFault> {
-        if let Some(i) = self.first_at(Stage::Owed) {
-            self.start_cleanup(i)?;
+        if let Some(i) = self.first_at(&[Stage::Owed]) {
+            self.start(i, Role::Cleanup)?;
             return Ok(true);
         }
         if let Some(i) = self.next_body() {
-            self.start_body(i)?;
+            self.start(i, Role::Body)?;
             return Ok(true);
         }
         if let Some(i) = self.next_end() {

@@ -2,7 +2,7 @@ ghost use Rattle.kt_sched.specs.Children.{IsIdle};
 
 use crate::listings::listed_of;
 use crate::numbers::{number, numbers};
-use crate::row::{Entry, Row};
+use crate::row::{Entry, Row, text_in};
 use crate::row_fault::RowFault;
 use crate::scenes::holding_of;
 use kt_base::{NoMemory, Text};
@@ -34,25 +34,14 @@ fn empty_stage<'a>(alloc: Global) -> Stage<'a> {
     }
 }
 
-/// Takes a line that says something of the host.
-fn take_host<'a>(stage: &mut Stage<'a>, entry: &Entry<'a>) -> Result<(), RowFault> {
-    match entry.word {
-        "found-file" => stage.found_files.push(entry.text)?,
-        "found-program" => stage.found_programs.push(entry.text)?,
-        "root" => stage.root = true,
-        "has-memory" => stage.memory = Some(number(entry.text)?),
-        "has-disk" => stage.disk = Some(number(entry.text)?),
-        _ => {}
-    }
-    Ok(())
-}
-
-/// Takes a line that names a file without its content.
+/// Takes a line that names a file or a program.
 fn take_name<'a>(stage: &mut Stage<'a>, entry: &Entry<'a>) -> Result<(), RowFault> {
     match entry.word {
         "program" => stage.programs.push(entry.text)?,
         "locked" => stage.locked.push(entry.text)?,
         "dear" => stage.dear.push(entry.text)?,
+        "found-file" => stage.found_files.push(entry.text)?,
+        "found-program" => stage.found_programs.push(entry.text)?,
         _ => {}
     }
     Ok(())
@@ -64,8 +53,10 @@ fn take<'a>(alloc: Global, stage: &mut Stage<'a>, entry: &Entry<'a>) -> Result<(
         "holds" => stage.files.push(holding_of(alloc, entry.text)?)?,
         "config" => stage.configs.push(holding_of(alloc, entry.text)?)?,
         "lists" => stage.lists.push(listed_of(alloc, entry.text)?)?,
-        "program" | "locked" | "dear" => take_name(stage, entry)?,
-        _ => take_host(stage, entry)?,
+        "root" => stage.root = true,
+        "has-memory" => stage.memory = Some(number(entry.text)?),
+        "has-disk" => stage.disk = Some(number(entry.text)?),
+        _ => take_name(stage, entry)?,
     }
     Ok(())
 }
@@ -73,10 +64,10 @@ fn take<'a>(alloc: Global, stage: &mut Stage<'a>, entry: &Entry<'a>) -> Result<(
 /// The world of a row: `holds PATH TEXT`, `program PATH`, `config PATH TEXT`, `locked PATH`, `dear
 /// PATH`, `lists PROGRAM LISTING`, `found-file PATH` and `found-program NAME` each, `root`,
 /// `has-memory N`, `has-disk N`, and `now MOMENTS`.
-pub fn stage_of<'a>(alloc: Global, row: &Row<'a>) -> Result<Stage<'a>, RowFault> {
+pub fn stage_of<'a>(alloc: Global, lines: &[Entry<'a>]) -> Result<Stage<'a>, RowFault> {
     let mut stage = empty_stage(alloc);
-    stage.moments = numbers(alloc, row.text("now").unwrap_or("0"))?;
-    for entry in row.entries.as_slice() {
+    stage.moments = numbers(alloc, text_in(lines, "now").unwrap_or("0"))?;
+    for entry in lines {
         take(alloc, &mut stage, entry)?;
     }
     Ok(stage)

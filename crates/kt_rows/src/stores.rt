@@ -1,11 +1,11 @@
 use crate::lines::push_line;
+use crate::names::name_of;
+use crate::recorded::{content_at, is_content};
 use crate::row::{Entry, Row};
 use crate::row_fault::RowFault;
 use crate::store_calls::call;
-use crate::store_texts::store_fault_text;
-use crate::{store_crashes, store_migrations};
 use kt_cli::MemRuns;
-use kt_store::Results;
+use kt_store::{Results, StoreFault};
 use sqlite::{Alter, Connection};
 use std::alloc::Global;
 
@@ -24,28 +24,32 @@ fn detached<S: Alter + Drop>(database: Database<S>) -> Connection<S> {
     }
 }
 
-/// Takes the tables.
+/// Takes the tables, and answers why that was refused.
 fn attach<S: Alter + Drop>(
     alloc: Global,
     connection: Connection<S>,
-) -> Result<(Database<S>, &'static str), RowFault> {
+) -> Result<(Database<S>, Option<StoreFault>), RowFault> {
     if !connection.is_autocommit() {
         return Err(RowFault::Misspelled("a transaction is open"));
     }
     match Results::attach(alloc, connection) {
-        Ok(results) => Ok((Database::Attached(results), "attached")),
-        Err((fault, connection)) => Ok((Database::Open(connection), store_fault_text(fault))),
+        Ok(results) => Ok((Database::Attached(results), None)),
+        Err((fault, connection)) => Ok((Database::Open(connection), Some(fault))),
+    }
+}
+
+fn attached_text(alloc: Global, fault: Option<StoreFault>) -> Result<String, RowFault> {
+    match fault {
+        None => Ok(String::from_str(alloc, "attached")?),
+        Some(fault) => name_of(alloc, &fault),
     }
 }
 
 /// Runs a statement.
-fn run_sql<S: Alter + Drop>(
-    connection: Connection<S>,
-    sql: &str,
-) -> Result<(Database<S>, &'static str), RowFault> {
+fn run_sql<S: Alter + Drop>(connection: Connection<S>, sql: &str) -> Result<Database<S>, RowFault> {
     let mut connection = connection;
     match connection.execute(sql, &[]) {
-        Ok(_) => Ok((Database::Open(connection), "done")),
+        Ok(_) => Ok(Database::Open(connection)),
         Err(_) => Err(RowFault::Misspelled("the statement fails")),
     }
 }
@@ -53,26 +57,26 @@ fn run_sql<S: Alter + Drop>(
 /// What a line of a row comes to over a database.
 fn step<S: Alter + Drop>(
     alloc: Global,
-    row: &Row<'_>,
     database: Database<S>,
-    entry: &Entry<'_>,
+    line: &Entry<'_>,
+    content: &[Entry<'_>],
     out: &mut String,
 ) -> Result<Database<S>, RowFault> {
-    match entry.word {
+    match line.word {
         "attach" => {
-            let (database, answer) = attach(alloc, detached(database))?;
-            push_line(out, answer)?;
+            let (database, fault) = attach(alloc, detached(database))?;
+            push_line(out, attached_text(alloc, fault)?.as_str())?;
             Ok(database)
         }
         "sql" => {
-            let (database, answer) = run_sql(detached(database), entry.text)?;
-            push_line(out, answer)?;
+            let database = run_sql(detached(database), line.text)?;
+            push_line(out, "done")?;
             Ok(database)
         }
         _ => match database {
             Database::Open(_) => Err(RowFault::Misspelled("no tables were taken")),
             Database::Attached(mut results) => {
-                let answer = call(alloc, row, &mut results, entry.word, entry.text)?;
+                let answer = call(alloc, &mut results, line, content)?;
                 push_line(out, answer.as_str())?;
                 Ok(Database::Attached(results))
             }
@@ -80,37 +84,29 @@ fn step<S: Alter + Drop>(
     }
 }
 
-/// Whether a line of a row says what entries hold, and asks for nothing.
-fn is_content(word: &str) -> bool {
-    match word {
-        "started" | "took" | "out" | "err" | "cleanup-out" | "cleanup-err" | "pair" => true,
-        _ => false,
-    }
-}
-
 /// What the lines of a row come to over a database.
 fn over<S: Alter + Drop>(
     alloc: Global,
-    row: &Row<'_>,
+    lines: &[Entry<'_>],
     connection: Connection<S>,
 ) -> Result<String, RowFault> {
     let mut database = Database::Open(connection);
     let mut out = String::new(alloc);
-    for entry in row.entries.as_slice() {
-        if !is_content(entry.word) {
-            database = step(alloc, row, database, entry, &mut out)?;
+    for (place, line) in lines.iter().enumerate() {
+        if !is_content(line) {
+            database = step(alloc, database, line, content_at(lines, place), &mut out)?;
         }
     }
     Ok(out)
 }
 
 /// What the lines of a row come to over runs in memory.
-fn over_memory(alloc: Global, row: &Row<'_>) -> Result<String, RowFault> {
+fn over_memory(alloc: Global, lines: &[Entry<'_>]) -> Result<String, RowFault> {
     let mut results = MemRuns::new(alloc);
     let mut out = String::new(alloc);
-    for entry in row.entries.as_slice() {
-        if !is_content(entry.word) && entry.word != "memory" {
-            let answer = call(alloc, row, &mut results, entry.word, entry.text)?;
+    for (place, line) in lines.iter().enumerate() {
+        if !is_content(line) && line.word != "memory" {
+            let answer = call(alloc, &mut results, line, content_at(lines, place))?;
             push_line(&mut out, answer.as_str())?;
         }
     }
@@ -118,17 +114,11 @@ fn over_memory(alloc: Global, row: &Row<'_>) -> Result<String, RowFault> {
 }
 
 /// What calls on a store answer, one after the other: over a database in memory, or over runs in
-/// memory where the first line is `memory`. With `disk` it is what crashes leave, and with
-/// `migration` what they leave of a store of schema 1 whose tables are taken.
+/// memory where the first line is `memory`.
 pub fn answer(alloc: Global, row: &Row<'_>) -> Result<String, RowFault> {
-    if let Some(disk) = row.text("migration") {
-        return store_migrations::answer(alloc, row, disk);
-    }
-    if let Some(disk) = row.text("disk") {
-        return store_crashes::answer(alloc, row, disk);
-    }
+    let lines = row.entries.as_slice();
     if row.text("memory").is_some() {
-        return over_memory(alloc, row);
+        return over_memory(alloc, lines);
     }
-    over(alloc, row, Connection::open_in_memory(alloc)?)
+    over(alloc, lines, Connection::open_in_memory(alloc)?)
 }

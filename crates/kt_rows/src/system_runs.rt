@@ -1,11 +1,12 @@
 ghost use Rattle.std.specs.Prelude.{IfOk};
 ghost use Rattle.kt_sched.specs.Plan.{IsPlan, IsWidth};
 
-use crate::numbers::limit_of;
+use crate::numbers::{limit_of, number};
+use crate::pairs::pairs_of;
 use crate::row::Row;
 use crate::row_fault::RowFault;
-use crate::schedules::{failing_of, width_of};
-use kt_base::{Entry, Items, Text, Variable, Variables};
+use crate::schedules::width_of;
+use kt_base::{Entry, Items, Text};
 use kt_child::{Driver, Os, run_driver};
 use kt_play::{MemorySink, Scene, ScriptedSystem, cases_of};
 use kt_sched::Job;
@@ -17,21 +18,6 @@ pub struct Driven<O: Drop> {
     pub os: O,
     pub entries: Vec<Entry>,
     pub done: bool,
-}
-
-/// The variables of the suite: `variable NAME=VALUE` each.
-pub fn variables_of(alloc: Global, row: &Row<'_>) -> Result<Variables, RowFault> {
-    let mut variables = Variables::new(alloc);
-    for entry in row.entries.as_slice() {
-        if entry.word == "variable" {
-            let (name, value) = entry.text.split_once('=').unwrap_or((entry.text, ""));
-            variables.push(Variable {
-                name: Text::from_str(alloc, name)?,
-                value: Text::from_str(alloc, value)?,
-            })?;
-        }
-    }
-    Ok(variables)
 }
 
 /// Runs a plan over a driver of its own.
@@ -72,7 +58,7 @@ fn plan_of(alloc: Global, row: &Row<'_>) -> Result<Items<Job>, RowFault>
     ensures { IfOk result IsPlan }
 {
     let limit = limit_of(row.text("limit"))?;
-    let variables = variables_of(alloc, row)?;
+    let variables = pairs_of(alloc, row.entries.as_slice(), "variable")?;
     let letters = row.bytes(alloc, "plan")?.unwrap_or(Vec::new(alloc));
     let program = row.text("program").unwrap_or("d/p");
     let plan = cases_of(alloc, program, letters.as_slice(), limit, &variables)?;
@@ -87,7 +73,7 @@ pub fn run_plan<'a>(
     scene: &'a Scene<'a>,
 ) -> Result<Driven<ScriptedSystem<'a>>, RowFault> {
     let width = width_of(row.text("width"))?;
-    let failing = failing_of(row.text("failing"))?;
+    let failing = number(row.text("failing").unwrap_or("0"))? as usize;
     let base = Text::from_str(alloc, row.text("base").unwrap_or(""))?;
     let source = Text::from_str(alloc, row.text("source").unwrap_or("/t"))?;
     let plan = plan_of(alloc, row)?;

@@ -1,11 +1,12 @@
+use crate::entry_texts::entries_text;
 use crate::failures::each_failing;
 use crate::lines::push_line;
 use crate::row::Row;
 use crate::row_fault::RowFault;
 use crate::scenes::scene_of;
 use crate::system_runs::{Driven, run_plan};
-use crate::system_texts::{calls, entries, moments, outputs, totals, watching, words};
-use crate::{readers, system_plans, system_steps};
+use crate::system_texts::{calls, totals};
+use crate::{readers, system_lists};
 use kt_play::{Scene, ScriptedSystem};
 use std::alloc::Global;
 
@@ -15,21 +16,15 @@ fn shown_by(
     word: &str,
     run: &Driven<ScriptedSystem<'_>>,
 ) -> Result<String, RowFault> {
-    let log = run.os.log.as_str();
     match word {
-        "calls" => calls(alloc, log),
-        "words" => words(alloc, log),
-        "watching" => watching(alloc, log),
+        "calls" | "words" | "watching" => calls(alloc, word, run.os.log.as_str()),
         "spawns" => Ok(String::from_str(alloc, run.os.spawned.as_str().trim())?),
         "spawned" => {
             let count = run.os.spawned.as_str().lines().count();
             Ok(format!(in alloc; "{count} spawned")?)
         }
-        "entries" => entries(alloc, run.entries.as_slice()),
-        "moments" => moments(alloc, run.entries.as_slice()),
-        "outputs" => outputs(alloc, run.entries.as_slice()),
         "totals" => totals(alloc, run.entries.as_slice()),
-        _ => Err(RowFault::Misspelled("no such thing is shown")),
+        _ => entries_text(alloc, word, run.entries.as_slice()),
     }
 }
 
@@ -59,8 +54,7 @@ fn plan(alloc: Global, row: &Row<'_>, scene: Scene<'_>) -> Result<String, RowFau
 }
 
 /// What is asked of a scripted system, and what it comes to. The first line says for what: `plan
-/// LETTERS`, `poll`, `start ROLE`, `read PATH`, `list`, `root BASE`, `words INTERFACE WANT`,
-/// `environment INTERFACE`, `paths` or `reader`.
+/// LETTERS`, `list` or `reader`.
 pub fn answer(alloc: Global, row: &Row<'_>) -> Result<String, RowFault> {
     let scene = scene_of(alloc, row)?;
     let Some(first) = row.entries.first() else {
@@ -68,15 +62,8 @@ pub fn answer(alloc: Global, row: &Row<'_>) -> Result<String, RowFault> {
     };
     match first.word {
         "plan" => plan(alloc, row, scene),
-        "poll" => system_steps::polls(alloc, row, &scene),
-        "start" => system_steps::starts(alloc, first.text, &scene),
-        "read" => system_steps::reads(alloc, first.text, &scene),
-        "list" => system_steps::lists(alloc, row, &scene),
-        "root" => system_steps::roots(alloc, first.text, &scene),
-        "words" => system_plans::words(alloc, row, first.text),
-        "environment" => system_plans::environment(alloc, row, first.text),
-        "paths" => system_plans::paths(alloc, row),
-        "reader" => readers::system_read(alloc, row),
+        "list" => system_lists::answer(alloc, row, &scene),
+        "reader" => readers::answer(alloc, row),
         _ => Err(RowFault::Misspelled("nothing like that is asked of a system")),
     }
 }

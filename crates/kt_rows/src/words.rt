@@ -16,63 +16,27 @@ fn push_value(out: &mut String, name: &str, value: &Text) -> Result<(), RowFault
     Ok(())
 }
 
-/// Appends each value of an option that may be given several times.
-fn push_values(out: &mut String, name: &str, values: &[Text]) -> Result<(), RowFault> {
-    for value in values {
-        push_value(out, name, value)?;
-    }
-    Ok(())
-}
-
-fn push_run(alloc: Global, out: &mut String, run: Option<u64>) -> Result<(), RowFault> {
-    match run {
-        Some(run) => out.push_str(format!(in alloc; " {run}")?.as_str())?,
-        None => out.push_str(" last")?,
-    }
-    Ok(())
-}
-
-fn push_kinds(out: &mut String, kinds: &[Kind]) -> Result<(), RowFault> {
-    out.push_str(", kinds")?;
-    for kind in kinds {
-        out.push(' ')?;
-        out.push_str(kind.word())?;
-    }
-    Ok(())
-}
-
-/// Appends the Kyuafile and the directory of a command over test cases, which always has them.
-fn push_places(out: &mut String, options: &CaseOptions) -> Result<(), RowFault> {
-    out.push_str(options.kyuafile.as_str())?;
-    push_value(out, "work", &options.work)
-}
-
-/// Appends what stands before a command.
-fn push_before(
+/// Appends what stands before a command, and its filters.
+fn push_given(
     out: &mut String,
     config: &Option<Text>,
     variables: &[Text],
+    filters: &[Text],
 ) -> Result<(), RowFault> {
     if let Some(config) = config {
         push_value(out, "config", config)?;
     }
-    push_values(out, "variable", variables)
+    for variable in variables {
+        push_value(out, "variable", variable)?;
+    }
+    for filter in filters {
+        push_value(out, "filter", filter)?;
+    }
+    Ok(())
 }
 
-/// Appends what a command over test cases is given besides.
-fn push_given(out: &mut String, options: &CaseOptions) -> Result<(), RowFault> {
-    push_before(out, &options.config, options.variables.as_slice())?;
-    push_values(out, "filter", options.filters.as_slice())
-}
-
-/// Appends the results file of a report, and what stands before it.
-fn push_shown(out: &mut String, options: &ReportOptions) -> Result<(), RowFault> {
-    push_value(out, "results", &options.results)?;
-    push_before(out, &options.config, options.variables.as_slice())
-}
-
-/// Appends the name of a command over test cases, its places, its results file if it has one, and
-/// what it is given.
+/// Appends a command over test cases: its Kyuafile and its directory, its results file if it has
+/// one, and what it is given.
 fn push_cases(
     out: &mut String,
     name: &str,
@@ -80,23 +44,31 @@ fn push_cases(
     results: Option<&Text>,
 ) -> Result<(), RowFault> {
     out.push_str(name)?;
-    push_places(out, options)?;
+    out.push_str(options.kyuafile.as_str())?;
+    push_value(out, "work", &options.work)?;
     if let Some(results) = results {
         push_value(out, "results", results)?;
     }
-    push_given(out, options)
+    let (variables, filters) = (options.variables.as_slice(), options.filters.as_slice());
+    push_given(out, &options.config, variables, filters)
 }
 
-fn push_report(
-    alloc: Global,
-    out: &mut String,
-    run: Option<u64>,
-    kinds: &[Kind],
-    verbose: bool,
-) -> Result<(), RowFault> {
-    out.push_str("report")?;
-    push_run(alloc, out, run)?;
-    push_kinds(out, kinds)?;
+/// Appends the run of a report, its results file and what it is given.
+fn push_report(alloc: Global, out: &mut String, options: &ReportOptions) -> Result<(), RowFault> {
+    match options.run {
+        Some(run) => out.push_str(format!(in alloc; " {run}")?.as_str())?,
+        None => out.push_str(" last")?,
+    }
+    push_value(out, "results", &options.results)?;
+    push_given(out, &options.config, options.variables.as_slice(), &[])
+}
+
+fn push_sections(out: &mut String, kinds: &[Kind], verbose: bool) -> Result<(), RowFault> {
+    out.push_str(", kinds")?;
+    for kind in kinds {
+        out.push(' ')?;
+        out.push_str(kind.word())?;
+    }
     if verbose {
         out.push_str(", verbose")?;
     }
@@ -113,24 +85,25 @@ fn push_command(alloc: Global, out: &mut String, command: &Command) -> Result<()
             kinds,
             verbose,
         } => {
-            push_report(alloc, out, options.run, kinds.as_slice(), *verbose)?;
-            push_shown(out, options)
+            out.push_str("report")?;
+            push_report(alloc, out, options)?;
+            push_sections(out, kinds.as_slice(), *verbose)
         }
         Command::ReportJunit(options) => {
             out.push_str("report-junit")?;
-            push_run(alloc, out, options.run)?;
-            push_shown(out, options)
+            push_report(alloc, out, options)
         }
     }
 }
 
-fn fault_text(fault: &CommandFault) -> &'static str {
+/// Why words are no command. A usage has a text.
+fn fault_text(alloc: Global, fault: &CommandFault) -> Result<String, RowFault> {
     match fault {
-        CommandFault::NoMemory(_) => "out of memory",
-        CommandFault::Usage(text) if text.as_str().is_empty() => "usage without a text",
-        CommandFault::Usage(_) => "usage",
-        CommandFault::BadKind => "bad kind",
-        CommandFault::BadRun => "bad run",
+        CommandFault::Usage(text) if text.as_str().is_empty() => {
+            Ok(String::from_str(alloc, "usage without a text")?)
+        }
+        CommandFault::Usage(_) => Ok(String::from_str(alloc, "usage")?),
+        _ => Ok(fault.to_string(alloc)?),
     }
 }
 
@@ -161,6 +134,6 @@ pub fn answer(alloc: Global, row: &Row<'_>) -> Result<String, RowFault> {
             push_command(alloc, &mut out, &command)?;
             Ok(out)
         }
-        Err(fault) => Ok(String::from_str(alloc, fault_text(&fault))?),
+        Err(fault) => fault_text(alloc, &fault),
     }
 }

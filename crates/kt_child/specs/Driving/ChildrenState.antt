@@ -53,11 +53,19 @@ pub record IsChildrenState (children : List Watched) (cases : List Case) (pendin
 abbrev pub pending_with : Case → List Case → List Case
 pending_with c pending = if is_over c then pending else pending ++ c ∷ []
 
--- a wait that asks this and ends so leads from one state to another
-abbrev pub Waited : ChildrenState → List Call → Ended → ChildrenState → Type 0
-Waited old calls e new =
-    (polls : List Call) × (rest : List Call) × (place : ℕ) × (outcome : Outcome) × (after : List Watched) × (c : Case)
-    × (calls ≡ polls ++ rest) × WaitedOn old.children polls place outcome after
-    × (slice_get old.cases place ≡ Some c) × Leaves c rest outcome e
-    × (new.children ≡ remove after place) × (new.cases ≡ remove old.cases place)
-    × (new.pending ≡ pending_with c old.pending)
+-- A wait that asks this and ends so leads from one state to another: its polls end with the child at a place, what follows
+-- deals with the case of that child, and neither is among the running ones then.
+pub record Waited (old : ChildrenState) (calls : List Call) (e : Ended) (new : ChildrenState) : Type 0 where
+  pub polls : List Call
+  pub rest : List Call
+  pub place : ℕ
+  pub outcome : Outcome
+  pub after : List Watched
+  pub case : Case
+  pub asked : calls ≡ polls ++ rest
+  pub waited : WaitedOn old.children polls place outcome after
+  pub there : slice_get old.cases place ≡ Some case
+  pub left : Leaves case rest outcome e
+  pub children : new.children ≡ remove after place
+  pub cases : new.cases ≡ remove old.cases place
+  pub pending : new.pending ≡ pending_with case old.pending

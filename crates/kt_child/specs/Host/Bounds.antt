@@ -6,6 +6,10 @@ abbrev pub IsSpent : ℕ → ℕ → Option ℕ → Type 0
 IsSpent micros steps (Some taken) = micros ≤ taken
 IsSpent micros steps None = micros / 100 ≤ steps
 
+-- the microseconds for what a removal does at once
+abbrev pub at_once : ℕ
+at_once = 5000
+
 -- the microseconds for the last removal, of the root directory, after so many others
 abbrev pub at_close : ℕ → ℕ
 at_close removals = 5000000 + 10000 * removals

@@ -9,16 +9,16 @@ use std::alloc::Global;
 /// Starts children in directories below its own root directory, watches them and cleans up after them.
 #[derive(Drop)]
 pub struct Driver<O: Os + Drop> {
-    pub os: O,
+    pub(crate) os: O,
     pub(crate) alloc: Global,
     /// The absolute directory of the root Kyuafile.
-    pub source: Text,
+    pub(crate) source: Text,
     /// The root directory.
     pub root: Text,
     /// The number of the next start of a body or a list.
-    pub next: u64,
+    pub(crate) next: u64,
     /// What runs and what is owed.
-    pub running: RunningChildren,
+    pub(crate) running: RunningChildren,
 }
 
 impl<O: Os + Drop> Launcher for Driver<O> {

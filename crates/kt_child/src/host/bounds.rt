@@ -1,14 +1,17 @@
-ghost use Rattle.std.specs.Prelude.{◌≡◌, ◌↔◌, IsTrue};
-ghost use Rattle.kt_child.specs.Host.Bounds.{IsSpent, at_close, next_slice, steps_at_close};
+ghost use Rattle.std.specs.Prelude.{◌≡◌, ◌↔◌, ◌≤◌, ◌+◌, ◌-◌, ◌^◌, min, IsTrue};
+ghost use Rattle.kt_child.specs.Host.Bounds.{IsSpent, at_close, at_once, next_slice, steps_at_close};
 
 use std::rt::Clock;
 use std::time::Instant;
 
 /// The microseconds for what a removal does at once.
-pub(crate) const AT_ONCE: u64 = 5_000;
+const AT_ONCE: u64 = 5_000;
 
 /// How long a pause lasts at the most, in microseconds.
 pub(crate) const PAUSE: u64 = 10_000;
+
+/// After so many pauses in which no child ended, a pause looks for an end no more.
+const QUIET_PAUSES: u32 = 20;
 
 /// What a step of a removal counts for where the clock fails, in microseconds.
 const STEP: u64 = 100;
@@ -21,6 +24,8 @@ pub(crate) struct Bound {
     pub(crate) micros: u64,
     /// So many steps are taken in any case.
     least: u64,
+    /// The steps that were taken.
+    steps: u64,
 }
 
 /// Whether a removal that may take so many microseconds has taken them after these steps.
@@ -54,22 +59,47 @@ pub(crate) fn slice_after(micros: u64) -> u64
     (50 + micros / 4).min(PAUSE.saturating_sub(micros))
 }
 
+/// Whether a pause looks for no end, after so many in which no child ended.
+pub(crate) fn is_quiet(pauses: u32) -> bool
+    ensures { IsTrue result ↔ (20 ≤ pauses) }
+{
+    pauses >= QUIET_PAUSES
+}
+
 impl Bound {
-    /// The bound of a removal that begins now.
-    pub(crate) fn starting<C: Clock>(clock: &C, micros: u64) -> Bound {
+    /// The bound of work that begins now.
+    pub(crate) fn starting<C: Clock>(clock: &C, micros: u64) -> Bound
+        ensures micros { result.micros ≡ micros }
+        ensures least { result.least ≡ 0 }
+        ensures steps { result.steps ≡ 0 }
+    {
         Bound {
             started: Instant::now(clock).ok(),
             micros,
             least: 0,
+            steps: 0,
         }
     }
 
+    /// The bound of what a removal does at once.
+    pub(crate) fn at_once<C: Clock>(clock: &C) -> Bound
+        ensures micros { result.micros ≡ at_once }
+        ensures least { result.least ≡ 0 }
+    {
+        Bound::starting(clock, AT_ONCE)
+    }
+
     /// The bound of the removal of the root directory, after so many others.
-    pub(crate) fn closing<C: Clock>(clock: &C, removals: u32) -> Bound {
+    pub(crate) fn closing<C: Clock>(clock: &C, removals: u32) -> Bound
+        ensures micros { result.micros ≡ at_close removals }
+        ensures least { result.least ≡ steps_at_close removals }
+        ensures steps { result.steps ≡ 0 }
+    {
         Bound {
             started: Instant::now(clock).ok(),
             micros: closing_micros(removals),
             least: closing_steps(removals),
+            steps: 0,
         }
     }
 
@@ -80,8 +110,12 @@ impl Bound {
         Some(now.duration_since(started).as_micros())
     }
 
-    /// Whether a removal has to stop after these steps.
-    pub(crate) fn is_over<C: Clock>(&self, clock: &C, steps: u64) -> bool {
-        steps >= self.least && is_spent(self.micros, steps, self.taken(clock))
+    /// Counts a step, and returns whether a removal has to stop after it.
+    pub(crate) fn is_over<C: Clock>(&mut self, clock: &C) -> bool
+        ensures least { IsTrue result → self.old.least ≤ self.new.steps }
+        ensures counted { self.new.steps ≡ min (self.old.steps + 1) (2 ^ 64 - 1) }
+    {
+        self.steps = self.steps.saturating_add(1);
+        self.steps >= self.least && is_spent(self.micros, self.steps, self.taken(clock))
     }
 }

@@ -203,7 +203,7 @@ fn has_new_end<P: OpenProcess + Drop>(children: &mut Vec<HostChild<P>>) -> bool
 /// Rests until a child has ended, at the latest after a pause, and returns whether one has.
 pub(crate) fn await_end<P: OpenProcess + Drop, R: Files + Clock + AllocGlobal>(
     children: &mut Vec<HostChild<P>>,
-    removals: &mut Option<Removals<R::Dir>>,
+    removals: &mut Option<Removals>,
     rt: &R,
 ) -> bool
     ensures { AllProceed (stand_in children.old.items) (stand_in children.new.items) }

@@ -2,7 +2,7 @@ ghost use Rattle.std.specs.Prelude.{◌≡◌, ◌==◌, ◌/◌, ◌%◌};
 ghost use Rattle.std.specs.Process.{status_bits};
 ghost use Rattle.kt_child.specs.Host.HostAnswers.{IsPolledOf};
 
-use crate::host::bounds::PAUSE;
+use crate::host::bounds::{PAUSE, is_quiet};
 use crate::host::children;
 use crate::host::command::Asked;
 use crate::host::faults::{fault_of, or_fault};
@@ -23,9 +23,6 @@ use std::process::{ExitStatus, Processes};
 use std::rt::{Clock, Files};
 use std::time::SystemTime;
 
-/// After so many pauses in which no child ended, a pause looks for an end no more.
-const QUIET_PAUSES: u32 = 20;
-
 /// The system itself: the processes, files and clocks of the standard library.
 ///
 /// It keeps the real time of its children. A pause sleeps in slices, the first of 50 microseconds and each a quarter longer.
@@ -33,10 +30,10 @@ const QUIET_PAUSES: u32 = 20;
 /// one piece. A poll whose answer `running` would come too early sleeps a little first. The first directory that is made is
 /// the root of all others. A removal that takes long goes on in pauses and at later removals.
 #[derive(Drop)]
-pub struct HostOs<R: Processes + Files> {
+pub struct HostOs<R: Processes> {
     rt: R,
     /// The removals below the root directory, once it is made.
-    removals: Option<Removals<R::Dir>>,
+    removals: Option<Removals>,
     /// The limit that was said last, in seconds: that of the child which is started next.
     limit: u64,
     children: Vec<HostChild<R::Started>>,
@@ -68,7 +65,7 @@ fn polled(status: ExitStatus) -> Result<Polled, OsFault>
     Err(OsFault::Failed)
 }
 
-impl<R: Processes + Files + AllocGlobal + Drop> HostOs<R> {
+impl<R: Processes + AllocGlobal + Drop> HostOs<R> {
     ghost use Rattle.std.specs.Prelude.{◌≡◌, None};
     ghost use Rattle.kt_child.specs.declared.system.child.Child.{Child as Name};
     ghost use Rattle.kt_child.specs.Host.HostStands.{stand_in};
@@ -169,7 +166,7 @@ impl<R: Processes + Files<File = File> + Clock + AllocGlobal + Clone + Drop> Os 
     }
 
     fn pause(&mut self) -> Result<(), OsFault> {
-        if self.quiet >= QUIET_PAUSES {
+        if is_quiet(self.quiet) {
             rest(&mut self.removals, &self.rt, PAUSE);
             return Ok(());
         }

@@ -1,7 +1,7 @@
 ghost use Rattle.std.specs.Prelude.{◌≡◌, ◌++◌, ◌∷◌, IfSome};
 
 use crate::driving::roots::root_path;
-use crate::host::bounds::{AT_ONCE, Bound};
+use crate::host::bounds::Bound;
 use crate::host::faults::or_fault;
 use crate::host::outputs::create_directory;
 use crate::planning::workdir::attempt_path;
@@ -22,14 +22,12 @@ const PIECE: usize = 1_024;
 /// A directory that isn't empty is moved into a directory of the root, `kyua.0`, and called `0`, `1` and so on there. It is
 /// emptied in its turn, so each path stays short, however deep a directory was.
 #[derive(Drop)]
-pub(crate) struct Removals<D> {
+pub(crate) struct Removals {
     root: Text,
     /// How many were moved.
     moved: u64,
     /// How many of them are done.
     done: u64,
-    /// The names of the next one, from where it was read to.
-    names: Option<D>,
     /// Whether anything was removed since the last one was done.
     progress: bool,
     /// How many removals were asked for.
@@ -49,12 +47,12 @@ fn is_removed<R: Files>(rt: &R, path: &Text) -> bool {
     fs::remove_dir(rt, path.as_str()).is_ok() || fs::remove_file(rt, path.as_str()).is_ok()
 }
 
-impl<D: Read + Drop> Removals<D> {
+impl Removals {
     ghost use Rattle.std.specs.Prelude.{◌<◌, ◌↔◌, IfOk, IsSome, IsTrue};
     ghost use Rattle.kt_child.specs.Host.Removals.{moved_dir, moved_root};
 
     /// Makes a root directory, and in it the one for what is moved.
-    pub(crate) fn begin<R: Files + AllocGlobal>(rt: &R, root: &Text) -> Result<Removals<D>, OsFault>
+    pub(crate) fn begin<R: Files + AllocGlobal>(rt: &R, root: &Text) -> Result<Removals, OsFault>
         ensures { IfOk result (λ removals. removals.root ≡ root.now) }
     {
         let kept = root.copy()?;
@@ -68,7 +66,6 @@ impl<D: Read + Drop> Removals<D> {
             root: kept,
             moved: 0,
             done: 0,
-            names: None,
             progress: false,
             asked: 0,
         })
@@ -187,7 +184,7 @@ impl<D: Read + Drop> Removals<D> {
         &mut self,
         rt: &R,
         directory: &Text,
-        names: &mut D,
+        names: &mut R::Dir,
     ) -> bool
         ensures { self.new.root ≡ self.old.root }
     {
@@ -212,75 +209,62 @@ impl<D: Read + Drop> Removals<D> {
         self.done = self.done.saturating_add(1);
     }
 
-    /// Goes on with the moved directories, for one piece of names. Returns false where none is left.
-    fn step<R: Files<Dir = D> + AllocGlobal>(&mut self, rt: &R) -> bool
-        ensures { self.new.root ≡ self.old.root }
-    {
-        let Ok(Some(path)) = self.path(rt.alloc()) else {
-            return false;
-        };
-        let names = match self.names.take() {
-            Some(names) => Some(names),
-            None => kt_entries::open_names(rt, &path),
-        };
-        if let Some(mut names) = names {
-            if self.remove_piece(rt, &path, &mut names) {
-                self.names = Some(names);
-                return true;
-            }
-        }
-        self.finish(rt, &path);
-        true
-    }
-
-    /// Goes on with the moved directories, within a bound.
-    fn go_on<R: Files<Dir = D> + Clock + AllocGlobal>(&mut self, rt: &R, bound: &Bound)
-        ensures { self.new.root ≡ self.old.root }
-    {
-        for steps in 0..bound.micros {
-            if bound.is_over(rt, steps) || !self.step(rt) {
-                return;
-            }
-        }
-    }
-
-    /// Empties a directory where it lies, within a bound.
-    fn empty<R: Files<Dir = D> + Clock + AllocGlobal>(
+    /// Empties a directory, within a bound but for the first piece of its names. Returns whether its end was met.
+    fn empty<R: Files + Clock + AllocGlobal>(
         &mut self,
         rt: &R,
         directory: &Text,
-        bound: &Bound,
-    )
+        bound: &mut Bound,
+    ) -> bool
         ensures { self.new.root ≡ self.old.root }
     {
         let Some(mut names) = kt_entries::open_names(rt, directory) else {
-            return;
+            return true;
         };
-        for steps in 0..bound.micros {
-            if bound.is_over(rt, steps) || !self.remove_piece(rt, directory, &mut names) {
+        for _ in 0..bound.micros {
+            if !self.remove_piece(rt, directory, &mut names) {
+                return true;
+            }
+            if bound.is_over(rt) {
+                return false;
+            }
+        }
+        false
+    }
+
+    /// Goes on with the moved directories, within a bound. One that is not finished is begun anew later.
+    fn go_on<R: Files + Clock + AllocGlobal>(&mut self, rt: &R, bound: &mut Bound)
+        ensures { self.new.root ≡ self.old.root }
+    {
+        for _ in 0..bound.micros {
+            let Ok(Some(path)) = self.path(rt.alloc()) else {
+                return;
+            };
+            if !self.empty(rt, &path, bound) {
                 return;
             }
+            self.finish(rt, &path);
         }
     }
 
     /// Removes the root directory, with all that was left.
-    fn close<R: Files<Dir = D> + Clock + AllocGlobal>(&mut self, rt: &R) -> Result<(), OsFault>
+    fn close<R: Files + Clock + AllocGlobal>(&mut self, rt: &R) -> Result<(), OsFault>
         ensures { self.new.root ≡ self.old.root }
     {
         let root = self.root.copy()?;
         let place = self.place(rt.alloc())?;
         // A test may have removed it.
         let _ = fs::create_dir(rt, place.as_str());
-        let bound = Bound::closing(rt, self.asked);
-        self.empty(rt, &root, &bound);
-        self.go_on(rt, &bound);
+        let mut bound = Bound::closing(rt, self.asked);
+        let _ = self.empty(rt, &root, &mut bound);
+        self.go_on(rt, &mut bound);
         let _ = fs::remove_dir(rt, place.as_str());
         or_fault(fs::remove_dir(rt, root.as_str()))
     }
 
     /// Removes a directory with all that it holds. No link is followed. What would take too long is left for later, in the
     /// place for it; but for the root itself, where it lies.
-    pub(crate) fn remove_tree<R: Files<Dir = D> + Clock + AllocGlobal>(
+    pub(crate) fn remove_tree<R: Files + Clock + AllocGlobal>(
         &mut self,
         rt: &R,
         tree: &Text,
@@ -291,28 +275,28 @@ impl<D: Read + Drop> Removals<D> {
             return self.close(rt);
         }
         self.asked = self.asked.saturating_add(1);
-        let bound = Bound::starting(rt, AT_ONCE);
-        self.empty(rt, tree, &bound);
+        let mut bound = Bound::at_once(rt);
+        let _ = self.empty(rt, tree, &mut bound);
         let gone = if is_removed(rt, tree) {
             Ok(())
         } else {
             self.take(rt, tree.as_bytes())
         };
-        self.go_on(rt, &bound);
+        self.go_on(rt, &mut bound);
         gone
     }
 }
 
 /// Lets some microseconds go by: with what removals have left, else asleep.
 pub(crate) fn rest<R: Files + Clock + AllocGlobal>(
-    removals: &mut Option<Removals<R::Dir>>,
+    removals: &mut Option<Removals>,
     rt: &R,
     micros: u64,
 ) {
     if let Some(removals) = removals {
         if removals.is_pending() {
-            let bound = Bound::starting(rt, micros);
-            removals.go_on(rt, &bound);
+            let mut bound = Bound::starting(rt, micros);
+            removals.go_on(rt, &mut bound);
             return;
         }
     }

@@ -1,9 +1,10 @@
 use Rattle.std.proofs.Common.{List, [], ◌∷◌, ◌++◌, refl, subst, arith, is_ok}
 use Rattle.kt_child.specs.declared.polling.watched.Watched.{Watched}
-use Rattle.kt_child.specs.Polling.Turns.{WaitedUntil}
+use Rattle.kt_child.specs.Polling.Turns.{WaitedOn}
 use Rattle.kt_child.specs.System.Calls.{Call, ReadFile, RemoveTree}
+use Rattle.kt_child.specs.Starting.Starts.{spawned}
 use Rattle.kt_child.proofs.Chains.{chain_append}
-use Rattle.kt_child.proofs.LifeSteps.{one_outcome}
+use Rattle.kt_child.proofs.SeveralWaits.{one_outcome}
 use Rattle.kt_child.proofs.driving.lists.watch_list.Goals as goal
 
 pub returns : goal.returns
@@ -12,21 +13,21 @@ returns g c =
     let r = c.read_list-bytes.ensures.asked in
     let p = c.args.plan.now in
     let d = is_ok c.remove_tree.result in
-    let W : Watched → Type 0 = λ t. WaitedUntil w.2.0 (t ∷ []) w.0 c.wait-over.result.place c.wait-over.result.outcome in
-    let until = subst W c.spawned.ensures w.2.1 in
-    let on = c.requires.0 in
+    let W : Watched → Type 0 = λ t. WaitedOn (t ∷ []) w.0 c.wait-over.result.place c.wait-over.result.outcome c.wait-over.new.children in
+    let on : WaitedOn (spawned p ∷ []) w.0 c.wait-over.result.place c.wait-over.result.outcome c.wait-over.new.children = subst W c.spawned.ensures w.2 in
+    let timed = c.requires.0 in
     let last : List Call = ReadFile p.out 1048576 r.0 ∷ RemoveTree p.dir d ∷ [] in (
       w.0 ++ last,
       chain_append g.O.Os.leads _ _ _ w.0 last w.1 (_, r.1, (_, c.remove_tree.ensures, refl)),
       (
-        w.2.0,
+        on.0,
         c.wait-over.result.place,
         w.0,
         r.0,
         d,
         refl,
-        until,
-        one_outcome w.2.0 p.child p.limit w.0 c.wait-over.result.place c.wait-over.result.outcome (omega (arith, on)) until,
+        on.1,
+        one_outcome p.child p.limit w.0 c.wait-over.result.place c.wait-over.result.outcome _ (omega (arith, timed)) on,
         r.2,
         c.read_list-bytes.ensures.within,
       ),

@@ -2,9 +2,9 @@ use Rattle.std.proofs.Common.{◌≡◌, ◌∙◌, ◌<◌, slice_get, Some, ap
 use Rattle.std.specs.Prelude.{remove}
 use Rattle.std.proofs.lemmas.Option.{slice_get-get_or}
 use Rattle.kt_child.specs.System.Calls.{Call, Chain}
-use Rattle.kt_sched.specs.Children.{Child as Shown, IsEvidence, running_after_end, pending_after_end}
-use Rattle.kt_child.specs.Driving.ChildrenState.{ChildrenState, Waited, is_among, shown_at}
-use Rattle.kt_child.proofs.StateWaits.{state_after, same_children, waited_all, waited_one, waited_pending, waited_running}
+use Rattle.kt_sched.specs.Children.{Child as Shown, IsEvidence}
+use Rattle.kt_child.specs.Driving.ChildrenState.{ChildrenState, Waited, shown_at}
+use Rattle.kt_child.proofs.StateWaits.{Once, state_after, same_children, waited_all, waited_one, waited_pending, waited_running}
 use Rattle.kt_child.proofs.driving.running_children.RunningChildren.wait.Goals as goal
 
 abbrev At : (g : _) → goal.After-forget g → Type 0
@@ -52,18 +52,11 @@ returns-clause-one_that_ran g c =
     (waited_one c.self.inside.cases.items c.self.inside.pending.items c.wait-over.result.place c.index.result.now
     c.leave-ended.result.position c.leave-ended.result.role c.leave-ended.result.evidence c.self.invariant.0.once (at g c) l.8 l.9 c.leave-ended.ensures.evidence)
 
+once : (g : _) (c : goal.After-forget g) → Once c.args.self.now
+once g c = subst Once c.self.view_is c.self.invariant.0.once
+
 pub returns-clause-running : goal.returns-clause-running
-returns-clause-running g c k r =
-    let l = c.leave-ended.ensures.left.2 in
-    let P : ChildrenState → Type 0 = λ b. shown_at c.forget.new.cases.items k r ≡ running_after_end (shown_at b.cases) c.leave-ended.result k r in
-    subst P c.self.view_is
-    (waited_running c.self.inside.cases.items c.forget.new.cases.items c.self.inside.pending.items c.wait-over.result.place c.index.result.now
-    c.leave-ended.result c.self.invariant.0.once (at g c) l.8 l.9 c.forget.ensures.cases k r)
+returns-clause-running g c k r = waited_running _ _ _ _ (once g c) (returns-clause-waited g c).2 k r
 
 pub returns-clause-pending : goal.returns-clause-pending
-returns-clause-pending g c k =
-    let l = c.leave-ended.ensures.left.2 in
-    let P : ChildrenState → Type 0 = λ b. is_among c.forget.new.pending.items k ≡ pending_after_end (shown_at b.cases) (is_among b.pending) c.leave-ended.result k in
-    subst P c.self.view_is
-    (waited_pending c.self.inside.cases.items c.self.inside.pending.items c.forget.new.pending.items c.wait-over.result.place c.index.result.now
-    c.leave-ended.result c.self.invariant.0.once (at g c) l.8 l.9 (c.forget.ensures.pending c.index.result.now (at g c)) k)
+returns-clause-pending g c k = waited_pending _ _ _ _ (once g c) (returns-clause-waited g c).2 k

@@ -1,0 +1,133 @@
+//! Files in memory that fail after some calls, and connections over them.
+
+ghost use Rattle.std.specs.Prelude.{◌≡◌, false, IfSome};
+
+use crate::row_fault::RowFault;
+use crate::run_texts::told;
+use kt_store::Results;
+use sqlite::{Alter, Connection, Error, FileStore, Options};
+use sqlite_disk::{Crash, Disk, Files, Fuse, Memory};
+use std::alloc::Global;
+
+/// What an earlier version made: the tables of schema 1, and a finished run with one entry.
+const SCHEMA_1: [&str; 6] = [
+    "CREATE TABLE meta (name TEXT PRIMARY KEY, value INTEGER NOT NULL) STRICT",
+    "CREATE TABLE runs (id INTEGER PRIMARY KEY, started INTEGER NOT NULL, total INTEGER NOT NULL, finished INTEGER NOT NULL CHECK (finished IN (0, 1))) STRICT",
+    "CREATE TABLE entries (run INTEGER NOT NULL REFERENCES runs (id), position INTEGER NOT NULL, program TEXT NOT NULL, case_name TEXT NOT NULL, kind INTEGER NOT NULL CHECK (kind BETWEEN 0 AND 4), reason TEXT NOT NULL, started INTEGER NOT NULL, millis INTEGER NOT NULL, body_out BLOB NOT NULL, body_err BLOB NOT NULL, clean_out BLOB NOT NULL, clean_err BLOB NOT NULL, PRIMARY KEY (run, position)) STRICT",
+    "INSERT INTO meta (name, value) VALUES ('schema', 1)",
+    "INSERT INTO runs (started, total, finished) VALUES (5, 1, 1)",
+    "INSERT INTO entries VALUES (1, 0, 'a', 'main', 3, 'x<y', 1700000000123, 12, X'68690A', X'', X'', X'')",
+];
+
+/// Opens files whose log is copied into the database file once it has so many frames.
+pub fn open<D: Disk + Drop>(
+    alloc: Global,
+    files: Files<D>,
+    frames: usize,
+) -> Option<Connection<FileStore<D>>>
+    ensures { IfSome result (λ c. c.in_transaction ≡ false) }
+{
+    if !files.may_be_used() {
+        return None;
+    }
+    let mut options = Options::new(1);
+    options.checkpoint_frames = frames;
+    match Connection::open_files(alloc, files, options) {
+        Ok(conn) => Some(conn),
+        Err(_) => None,
+    }
+}
+
+/// Files that hold nothing.
+fn empty_files(alloc: Global) -> Files<Memory> {
+    Files {
+        log: Memory::new(alloc),
+        db: Memory::new(alloc),
+    }
+}
+
+/// Runs the statements of an earlier version.
+fn fill<S: Alter>(conn: &mut Connection<S>) -> Result<(), Error> {
+    for sql in &SCHEMA_1 {
+        conn.execute(*sql, &[])?;
+    }
+    Ok(())
+}
+
+/// The files of a store of schema 1.
+fn old_files(alloc: Global, frames: usize) -> Option<Files<Memory>> {
+    let mut conn = open(alloc, empty_files(alloc), frames)?;
+    let is_filled = fill(&mut conn).is_ok();
+    if is_filled {
+        Some(conn.into_store().close())
+    } else {
+        None
+    }
+}
+
+/// The files that a row begins with: empty ones, or those of an older store.
+pub fn first_files(alloc: Global, is_old: bool, frames: usize) -> Result<Files<Memory>, RowFault> {
+    if !is_old {
+        return Ok(empty_files(alloc));
+    }
+    match old_files(alloc, frames) {
+        Some(files) => Ok(files),
+        None => Err(RowFault::Misspelled("the old store is not made")),
+    }
+}
+
+/// The files of which the log or the database file fails after so many calls.
+pub fn fused<D: Disk>(files: Files<D>, in_log: bool, calls: u64) -> Files<Fuse<D>> {
+    let (log, db) = if in_log {
+        (calls, u64::MAX)
+    } else {
+        (u64::MAX, calls)
+    };
+    Files {
+        log: Fuse::new(files.log, log),
+        db: Fuse::new(files.db, db),
+    }
+}
+
+/// What a crash leaves of files.
+fn crashed<D: Crash>(mut files: Files<D>) -> Files<D> {
+    files.log.crash();
+    files.db.crash();
+    files
+}
+
+/// The number of the schema; 0 where there is none.
+fn schema_of<S: Alter>(conn: &mut Connection<S>) -> i64 {
+    let Ok(row) = conn.query_row("SELECT value FROM meta WHERE name = 'schema'", &[]) else {
+        return 0;
+    };
+    match row.get(0) {
+        Ok(number) => number,
+        Err(_) => 0,
+    }
+}
+
+/// What a store tells that is opened again.
+fn told_by<S: Alter + Drop>(alloc: Global, conn: Connection<S>) -> Result<Vec<String>, RowFault> {
+    if !conn.is_autocommit() {
+        return Err(RowFault::Misspelled("a transaction is open"));
+    }
+    match Results::attach(alloc, conn) {
+        Ok(mut results) => told(alloc, &mut results),
+        Err(_) => Err(RowFault::Misspelled("it can not be attached again")),
+    }
+}
+
+/// What a crash leaves of files: the schema of their tables, and all that a store then tells.
+pub fn left_by<D: Crash + Drop>(
+    alloc: Global,
+    files: Files<D>,
+    frames: usize,
+) -> Result<(i64, Vec<String>), RowFault> {
+    let Some(mut conn) = open(alloc, crashed(files), frames) else {
+        return Err(RowFault::Misspelled("it does not open again"));
+    };
+    let schema = schema_of(&mut conn);
+    let told = told_by(alloc, conn)?;
+    Ok((schema, told))
+}

@@ -1,0 +1,99 @@
+//! The list of a program, asked of a driver of its own.
+
+use crate::lines::push_line;
+use crate::names::name_of;
+use crate::pairs::pairs_of;
+use crate::row::Row;
+use crate::row_fault::RowFault;
+use crate::system_texts::calls;
+use kt_atflist::{ListBytes, Listing};
+use kt_base::{Interface, Text, Variables};
+use kt_child::{Driver, Os};
+use kt_metadata::Props;
+use kt_play::{Scene, ScriptedSystem};
+use kt_suite::Program;
+use std::alloc::Global;
+
+/// A system that was asked for the list of a program, and what came of it; nothing if there was no
+/// driver.
+#[derive(Drop)]
+struct Listed<O: Drop> {
+    os: O,
+    listing: Option<Listing>,
+}
+
+/// Asks a driver of its own for the list of a program.
+fn asked_for_list<O: Os + Drop>(
+    alloc: Global,
+    os: O,
+    base: &Text,
+    source: Text,
+    program: &Program,
+    variables: &Variables,
+) -> Listed<O> {
+    match Driver::new(alloc, os, base, source) {
+        Err((_fault, os)) => Listed { os, listing: None },
+        Ok(driver) => {
+            let mut driver = driver;
+            let listing = driver.list(program, variables);
+            Listed {
+                os: driver.close(),
+                listing: Some(listing),
+            }
+        }
+    }
+}
+
+/// How a list ended, and how long it is or why it isn't read; or why it was refused.
+fn listing_text(alloc: Global, listing: &Option<Listing>) -> Result<String, RowFault> {
+    match listing {
+        None => Ok(String::from_str(alloc, "no driver")?),
+        Some(Listing::Refused(cause)) => Ok(format!(in alloc; "Refused({cause:?})")?),
+        Some(Listing::Ended(outcome, ListBytes::Read(bytes))) => {
+            let length = bytes.len();
+            Ok(format!(in alloc; "{outcome:?}, {length} bytes")?)
+        }
+        Some(Listing::Ended(outcome, bytes)) => {
+            let bytes = name_of(alloc, bytes)?;
+            Ok(format!(in alloc; "{outcome:?}, {bytes}")?)
+        }
+    }
+}
+
+/// A program `d/p` of ATF cases.
+fn program_of(alloc: Global) -> Result<Program, RowFault> {
+    let path = Text::from_str(alloc, "d/p")?;
+    let suite = Text::from_str(alloc, "s")?;
+    Ok(Program {
+        interface: Interface::Atf,
+        path,
+        suite,
+        props: Props::new(alloc),
+    })
+}
+
+/// Asks a scripted system for the list of a program: `base PATH`, and `variable NAME=VALUE` each.
+fn listed_by<'a>(
+    alloc: Global,
+    row: &Row<'_>,
+    scene: &'a Scene<'a>,
+) -> Result<Listed<ScriptedSystem<'a>>, RowFault> {
+    let base = Text::from_str(alloc, row.text("base").unwrap_or(""))?;
+    let source = Text::from_str(alloc, "/t")?;
+    let program = program_of(alloc)?;
+    let variables = pairs_of(alloc, row.entries.as_slice(), "variable")?;
+    let os = ScriptedSystem::new(alloc, scene);
+    Ok(asked_for_list(alloc, os, &base, source, &program, &variables))
+}
+
+/// The words of the calls that ask for a list, and what came of it; with `show spawns` what was
+/// started, too.
+pub fn answer(alloc: Global, row: &Row<'_>, scene: &Scene<'_>) -> Result<String, RowFault> {
+    let listed = listed_by(alloc, row, scene)?;
+    let mut out = calls(alloc, "words", listed.os.log.as_str())?;
+    if row.text("show") == Some("spawns") {
+        push_line(&mut out, listed.os.spawned.as_str().trim())?;
+    }
+    push_line(&mut out, listing_text(alloc, &listed.listing)?.as_str())?;
+    Ok(out)
+}
