@@ -1,8 +1,7 @@
 -- The system of the host.
-pub mod Bounds
 pub mod HostAnswers
 pub mod HostCommands
 pub mod HostFiles
 pub mod HostStands
 pub mod Paces
-pub mod Removals
+pub mod Pauses

@@ -3,9 +3,9 @@ ghost use Rattle.kt_child.specs.System.Calls.{Call, Chain};
 ghost use Rattle.kt_child.specs.Driving.Roots.{FindsRoot, root_of};
 
 use crate::driving::driver_fault::DriverFault;
-use crate::planning::spelling::numbered_path;
 use crate::system::os::Os;
 use kt_base::{NoMemory, Text};
+use kt_removal::numbered_path;
 use std::alloc::Global;
 
 /// A root directory by its number.

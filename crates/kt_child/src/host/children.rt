@@ -3,13 +3,13 @@ ghost use Rattle.kt_sched.specs.Children.{same_role};
 ghost use Rattle.kt_child.specs.Polling.Lives.{same_child};
 ghost use Rattle.kt_child.specs.Host.HostStands.{AllProceed, AllStay, IsPlaceOf, OthersStay, Proceeds, is_other, stand_in, stand_of};
 
-use crate::host::bounds::{PAUSE, slice_after};
 use crate::host::command::Asked;
 use crate::host::host_child::HostChild;
-use crate::host::removal::{Removals, rest};
+use crate::host::pauses::{PAUSE, slice_after};
 use crate::system::child::Child;
 use crate::system::os_fault::OsFault;
 use kt_base::{NoMemory, Role};
+use kt_removal::{Removals, rest};
 use std::fs::File;
 use std::process::{ExitStatus, OpenProcess, Processes};
 use std::rt::{Clock, Files};

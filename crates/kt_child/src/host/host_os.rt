@@ -2,14 +2,13 @@ ghost use Rattle.std.specs.Prelude.{◌≡◌, ◌==◌, ◌/◌, ◌%◌};
 ghost use Rattle.std.specs.Process.{status_bits};
 ghost use Rattle.kt_child.specs.Host.HostAnswers.{IsPolledOf};
 
-use crate::host::bounds::{PAUSE, is_quiet};
 use crate::host::children;
 use crate::host::command::Asked;
 use crate::host::faults::{fault_of, or_fault};
 use crate::host::host_child::HostChild;
-use crate::host::outputs::{create_directory, create_output};
+use crate::host::outputs::{create_directory, create_output, create_root};
+use crate::host::pauses::{PAUSE, is_quiet};
 use crate::host::reads::read_regular;
-use crate::host::removal::{Removals, rest};
 use crate::system::child::Child;
 use crate::system::env::EnvPlan;
 use crate::system::file_read::FileRead;
@@ -17,6 +16,7 @@ use crate::system::os::Os;
 use crate::system::os_fault::OsFault;
 use crate::system::polled::Polled;
 use kt_base::{Items, Text};
+use kt_removal::{Removals, rest};
 use std::fs::File;
 use std::os::unix::process::ExitStatusExt;
 use std::process::{ExitStatus, Processes};
@@ -103,17 +103,18 @@ impl<R: Processes + Files<File = File> + Clock + AllocGlobal + Clone + Drop> Os 
         match self.removals {
             Some(_) => or_fault(create_directory(&self.rt, path.as_str())),
             None => {
-                self.removals = Some(Removals::begin(&self.rt, path)?);
+                self.removals = Some(create_root(&self.rt, path)?);
                 Ok(())
             }
         }
     }
 
     fn remove_tree(&mut self, path: &Text) -> Result<(), OsFault> {
-        match &mut self.removals {
+        let gone = match &mut self.removals {
             Some(removals) => removals.remove_tree(&self.rt, path),
-            None => Err(OsFault::Failed),
-        }
+            None => false,
+        };
+        if gone { Ok(()) } else { Err(OsFault::Failed) }
     }
 
     fn open_output(&mut self, child: Child, path: &Text) -> Result<(), OsFault> {

@@ -1,6 +1,5 @@
 //! The system of the host.
 
-pub(crate) mod bounds;
 pub(crate) mod children;
 pub(crate) mod command;
 pub(crate) mod faults;
@@ -8,5 +7,5 @@ pub(crate) mod host_child;
 pub(crate) mod host_os;
 pub(crate) mod outputs;
 pub(crate) mod pace;
+pub(crate) mod pauses;
 pub(crate) mod reads;
-pub(crate) mod removal;

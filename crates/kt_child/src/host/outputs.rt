@@ -1,3 +1,11 @@
+ghost use Rattle.std.specs.Prelude.{◌≡◌, IfOk};
+ghost use Rattle.kt_child.specs.Driving.Roots.{root_of};
+
+use crate::driving::roots::root_path;
+use crate::host::faults::or_fault;
+use crate::system::os_fault::OsFault;
+use kt_base::Text;
+use kt_removal::Removals;
 use std::fs::{DirBuilder, OpenFile, OpenOptions, Permissions};
 use std::io::ErrorKind;
 use std::os::unix::fs::{DirBuilderExt, OpenOptionsExt, PermissionsExt};
@@ -21,6 +29,21 @@ pub(crate) fn create_directory<R: Files>(rt: &R, path: &str) -> io::Result<()> {
             Err(error)
         }
     }
+}
+
+/// Makes a root directory, and in it the one for what its removals move.
+pub(crate) fn create_root<R: Files + AllocGlobal>(rt: &R, path: &Text) -> Result<Removals, OsFault>
+    ensures root { IfOk result (λ removals. removals.root ≡ path.now) }
+    ensures place { IfOk result (λ removals. removals.place ≡ root_of path.now 0) }
+{
+    let root = path.copy()?;
+    let place = root_path(rt.alloc(), path, 0)?;
+    or_fault(create_directory(rt, root.as_str()))?;
+    if let Err(fault) = or_fault(create_directory(rt, place.as_str())) {
+        let _ = fs::remove_dir(rt, root.as_str());
+        return Err(fault);
+    }
+    Ok(Removals::new(root, place))
 }
 
 /// Whether a path lies in a directory, and not behind a link in the place of one.

@@ -1,32 +1,8 @@
 ghost use Rattle.std.specs.Prelude.{◌≡◌, [], ◌∷◌, ◌++◌, IfOk, OnOk};
 ghost use Rattle.std.specs.Str.{chars};
-ghost use Rattle.std.specs.Fmt.{decimal};
 
 use kt_base::{Items, NoMemory, Text};
 use std::alloc::Global;
-
-/// A number in decimal.
-pub(crate) fn number_text(alloc: Global, number: u64) -> Result<Text, NoMemory>
-    ensures { IfOk result (λ text. text ≡ decimal number) }
-{
-    Ok(Text::from_string(number.to_string(alloc)?))
-}
-
-/// A path, a text and a number in decimal, one behind the other.
-pub(crate) fn numbered_path(
-    alloc: Global,
-    base: &Text,
-    between: &str,
-    number: u64,
-) -> Result<Text, NoMemory>
-    ensures { IfOk result (λ path. path ≡ base.now ++ chars between.now ++ decimal number) }
-{
-    let digits = number_text(alloc, number)?;
-    let mut path = base.copy()?;
-    path.push_str(between)?;
-    path.push_str(digits.as_str())?;
-    Ok(path)
-}
 
 /// A text with another behind it.
 pub(crate) fn joined(alloc: Global, first: &str, second: &Text) -> Result<Text, NoMemory>

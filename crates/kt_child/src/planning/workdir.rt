@@ -3,8 +3,8 @@ ghost use Rattle.std.specs.Str.{chars};
 ghost use Rattle.kt_child.specs.Planning.ChildPlan.{attempt_dir, below, paths_of};
 
 use crate::planning::paths::Paths;
-use crate::planning::spelling::numbered_path;
 use kt_base::{NoMemory, Text};
+use kt_removal::numbered_path;
 use std::alloc::Global;
 
 /// The directory of an attempt.

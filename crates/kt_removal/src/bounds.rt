@@ -1,17 +1,11 @@
 ghost use Rattle.std.specs.Prelude.{◌≡◌, ◌↔◌, ◌≤◌, ◌+◌, ◌-◌, ◌^◌, min, IsTrue};
-ghost use Rattle.kt_child.specs.Host.Bounds.{IsSpent, at_close, at_once, next_slice, steps_at_close};
+ghost use Rattle.kt_removal.specs.Bounds.{IsSpent, at_close, at_once, steps_at_close};
 
 use std::rt::Clock;
 use std::time::Instant;
 
 /// The microseconds for what a removal does at once.
 const AT_ONCE: u64 = 5_000;
-
-/// How long a pause lasts at the most, in microseconds.
-pub(crate) const PAUSE: u64 = 10_000;
-
-/// After so many pauses in which no child ended, a pause looks for an end no more.
-const QUIET_PAUSES: u32 = 20;
 
 /// What a step of a removal counts for where the clock fails, in microseconds.
 const STEP: u64 = 100;
@@ -50,20 +44,6 @@ fn closing_steps(removals: u32) -> u64
     ensures { result ≡ steps_at_close removals }
 {
     20_000 + 50 * u64::from(removals)
-}
-
-/// The microseconds of the next slice of a pause, after so many.
-pub(crate) fn slice_after(micros: u64) -> u64
-    ensures { result ≡ next_slice micros }
-{
-    (50 + micros / 4).min(PAUSE.saturating_sub(micros))
-}
-
-/// Whether a pause looks for no end, after so many in which no child ended.
-pub(crate) fn is_quiet(pauses: u32) -> bool
-    ensures { IsTrue result ↔ (20 ≤ pauses) }
-{
-    pauses >= QUIET_PAUSES
 }
 
 impl Bound {

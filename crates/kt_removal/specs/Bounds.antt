@@ -1,5 +1,5 @@
--- How long removals and pauses go on.
-use Rattle.std.specs.Prelude.{ℕ, ◌+◌, ◌-◌, ◌*◌, ◌/◌, ◌≤◌, min, Option, Some, None}
+-- How long removals go on.
+use Rattle.std.specs.Prelude.{ℕ, ◌+◌, ◌*◌, ◌/◌, ◌≤◌, Option, Some, None}
 
 -- a removal with so many microseconds has spent them after these steps: by the clock, or where it fails by the steps, 100 microseconds each
 abbrev pub IsSpent : ℕ → ℕ → Option ℕ → Type 0
@@ -17,7 +17,3 @@ at_close removals = 5000000 + 10000 * removals
 -- and the steps that it takes in any case
 abbrev pub steps_at_close : ℕ → ℕ
 steps_at_close removals = 20000 + 50 * removals
-
--- the microseconds of the next slice of a pause after so many: they grow by a quarter each, from 50 to 10,000 in all
-abbrev pub next_slice : ℕ → ℕ
-next_slice micros = min (50 + micros / 4) (10000 - micros)

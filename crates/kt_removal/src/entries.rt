@@ -1,6 +1,3 @@
-//! The entries of directories, whose names may have any bytes.
-#![tactic(auto)]
-
 ghost use Rattle.std.specs.Prelude.{◌≡◌, ◌++◌, ◌∷◌, IfOk};
 ghost use Rattle.kt_base.specs.Utf8.{utf8};
 
@@ -16,7 +13,7 @@ use std::{fs, io, str};
 const OWNER_RIGHTS: u32 = 0o700;
 
 /// The path of an entry of a directory. Its name may have any bytes.
-pub fn entry_path(alloc: Global, directory: &Text, name: &[u8]) -> Result<Bytes, NoMemory>
+pub(crate) fn entry_path(alloc: Global, directory: &Text, name: &[u8]) -> Result<Bytes, NoMemory>
     ensures { IfOk result (λ path. path ≡ utf8 directory.now ++ 47 ∷ name.now) }
 {
     let mut path = Bytes::from_slice(alloc, directory.as_bytes())?;
@@ -35,7 +32,7 @@ fn answer(status: i32) -> io::Result<()> {
 }
 
 /// Removes what is no directory.
-pub fn remove_file<R: Files>(rt: &R, path: &[u8]) -> io::Result<()> {
+pub(crate) fn remove_file<R: Files>(rt: &R, path: &[u8]) -> io::Result<()> {
     match str::from_utf8(path) {
         Ok(text) => fs::remove_file(rt, text),
         Err(_) => answer(os::unlink(path)),
@@ -43,7 +40,7 @@ pub fn remove_file<R: Files>(rt: &R, path: &[u8]) -> io::Result<()> {
 }
 
 /// Removes a directory that is empty.
-pub fn remove_directory<R: Files>(rt: &R, path: &[u8]) -> io::Result<()> {
+pub(crate) fn remove_directory<R: Files>(rt: &R, path: &[u8]) -> io::Result<()> {
     match str::from_utf8(path) {
         Ok(text) => fs::remove_dir(rt, text),
         Err(_) => answer(os::rmdir(path)),
@@ -51,7 +48,7 @@ pub fn remove_directory<R: Files>(rt: &R, path: &[u8]) -> io::Result<()> {
 }
 
 /// Moves a directory.
-pub fn move_directory<R: Files>(rt: &R, path: &[u8], to: &Text) -> io::Result<()> {
+pub(crate) fn move_directory<R: Files>(rt: &R, path: &[u8], to: &Text) -> io::Result<()> {
     match str::from_utf8(path) {
         Ok(text) => fs::rename(rt, text, to.as_str()),
         Err(_) => answer(os::rename(path, to.as_bytes())),
@@ -75,7 +72,7 @@ fn open_up<R: Files>(rt: &R, path: &str) -> bool {
 }
 
 /// The same of an entry that could not be removed as an empty directory, by the cause of that.
-pub fn open_up_entry<R: Files>(rt: &R, path: &[u8], cause: ErrorKind) -> bool {
+pub(crate) fn open_up_entry<R: Files>(rt: &R, path: &[u8], cause: ErrorKind) -> bool {
     match str::from_utf8(path) {
         Ok(text) => open_up(rt, text),
         // Only a directory is one that isn't empty.
@@ -84,7 +81,7 @@ pub fn open_up_entry<R: Files>(rt: &R, path: &[u8], cause: ErrorKind) -> bool {
 }
 
 /// Opens a directory to read its names; a link in the place of one is not passed.
-pub fn open_names<R: Files>(rt: &R, path: &Text) -> Option<R::Dir> {
+pub(crate) fn open_names<R: Files>(rt: &R, path: &Text) -> Option<R::Dir> {
     if !open_up(rt, path.as_str()) {
         return None;
     }
@@ -92,12 +89,12 @@ pub fn open_names<R: Files>(rt: &R, path: &Text) -> Option<R::Dir> {
 }
 
 /// Whether a name is that of the directory itself or of the one that holds it, or none.
-pub fn is_dots(name: &[u8]) -> bool {
+pub(crate) fn is_dots(name: &[u8]) -> bool {
     name.is_empty() || name == b".".as_slice() || name == b"..".as_slice()
 }
 
 /// Removes what a mounted directory holds, by one call of the library.
-pub fn empty_mounted<R: Files + AllocGlobal>(rt: &R, path: &[u8]) {
+pub(crate) fn empty_mounted<R: Files + AllocGlobal>(rt: &R, path: &[u8]) {
     if let Ok(text) = str::from_utf8(path) {
         let _ = fs::remove_dir_all(rt, text);
     }

@@ -1,13 +1,10 @@
-ghost use Rattle.std.specs.Prelude.{◌≡◌, ◌++◌, ◌∷◌, IfSome};
+ghost use Rattle.std.specs.Prelude.{◌≡◌, ◌++◌, ◌∷◌, IfOk, IfSome};
+ghost use Rattle.kt_removal.specs.Removals.{moved_dir};
 
-use crate::driving::roots::root_path;
-use crate::host::bounds::Bound;
-use crate::host::faults::or_fault;
-use crate::host::outputs::create_directory;
-use crate::planning::workdir::attempt_path;
-use crate::system::os_fault::OsFault;
+use crate::bounds::Bound;
+use crate::entries;
+use crate::numbers::numbered_path;
 use kt_base::{NoMemory, Text};
-use kt_entries::is_dots;
 use std::alloc::Global;
 use std::io::{ErrorKind, Read};
 use std::rt::{Clock, Files};
@@ -19,11 +16,13 @@ const PIECE: usize = 1_024;
 
 /// The removals below a root directory, which go on a step at a time.
 ///
-/// A directory that isn't empty is moved into a directory of the root, `kyua.0`, and called `0`, `1` and so on there. It is
-/// emptied in its turn, so each path stays short, however deep a directory was.
+/// A directory that isn't empty is moved into a place for such directories, and called `0`, `1` and so on there. It is emptied
+/// in its turn, so each path stays short, however deep a directory was.
 #[derive(Drop)]
-pub(crate) struct Removals {
-    root: Text,
+pub struct Removals {
+    pub root: Text,
+    /// A directory of the root.
+    pub place: Text,
     /// How many were moved.
     moved: u64,
     /// How many of them are done.
@@ -32,6 +31,14 @@ pub(crate) struct Removals {
     progress: bool,
     /// How many removals were asked for.
     asked: u32,
+}
+
+/// The path of a directory that was moved, by its number.
+fn moved_path(alloc: Global, place: &Text, number: u64) -> Result<Text, NoMemory>
+    ensures { IfOk result (λ path. path ≡ moved_dir place.now number) }
+{
+    let path = numbered_path(alloc, place, "/", number)?;
+    Ok(path)
 }
 
 /// The first of some names, which a byte 0 ends, and the others.
@@ -48,49 +55,28 @@ fn is_removed<R: Files>(rt: &R, path: &Text) -> bool {
 }
 
 impl Removals {
-    ghost use Rattle.std.specs.Prelude.{◌<◌, ◌↔◌, IfOk, IsSome, IsTrue};
-    ghost use Rattle.kt_child.specs.Host.Removals.{moved_dir, moved_root};
+    ghost use Rattle.std.specs.Prelude.{◌<◌, ◌↔◌, IsTrue};
 
-    /// Makes a root directory, and in it the one for what is moved.
-    pub(crate) fn begin<R: Files + AllocGlobal>(rt: &R, root: &Text) -> Result<Removals, OsFault>
-        ensures { IfOk result (λ removals. removals.root ≡ root.now) }
+    /// The removals below a root directory, with a directory of it for what is moved. Both are there.
+    pub fn new(root: Text, place: Text) -> Removals
+        ensures root { result.root ≡ root }
+        ensures place { result.place ≡ place }
     {
-        let kept = root.copy()?;
-        let place = root_path(rt.alloc(), root, 0)?;
-        or_fault(create_directory(rt, root.as_str()))?;
-        if let Err(fault) = or_fault(create_directory(rt, place.as_str())) {
-            let _ = fs::remove_dir(rt, root.as_str());
-            return Err(fault);
-        }
-        Ok(Removals {
-            root: kept,
+        Removals {
+            root,
+            place,
             moved: 0,
             done: 0,
             progress: false,
             asked: 0,
-        })
-    }
-
-    /// The directory for what is moved.
-    fn place(&self, alloc: Global) -> Result<Text, NoMemory>
-        ensures { IfOk result (λ path. path ≡ moved_root self.now.root) }
-    {
-        root_path(alloc, &self.root, 0)
-    }
-
-    /// The path of a directory that was moved, by its number.
-    fn moved_path(&self, alloc: Global, number: u64) -> Result<Text, NoMemory>
-        ensures { IfOk result (λ path. path ≡ moved_dir self.now.root number) }
-    {
-        let place = self.place(alloc)?;
-        attempt_path(alloc, &place, number)
+        }
     }
 
     /// The path of the next directory to be moved.
     fn next_path(&self, alloc: Global) -> Result<Text, NoMemory>
-        ensures { IfOk result (λ path. path ≡ moved_dir self.now.root self.now.moved) }
+        ensures { IfOk result (λ path. path ≡ moved_dir self.now.place self.now.moved) }
     {
-        self.moved_path(alloc, self.moved)
+        moved_path(alloc, &self.place, self.moved)
     }
 
     /// Whether a moved directory is left.
@@ -101,40 +87,29 @@ impl Removals {
     }
 
     /// The path of the next directory to be emptied.
-    fn path(&self, alloc: Global) -> Result<Option<Text>, NoMemory>
-        ensures path { IfOk result (λ found. IfSome found
-            (λ path. path ≡ moved_dir self.now.root self.now.done)) }
-        ensures some { IfOk result (λ found. IsSome found ↔ (self.now.done < self.now.moved)) }
+    fn path(&self, alloc: Global) -> Result<Text, NoMemory>
+        ensures { IfOk result (λ path. path ≡ moved_dir self.now.place self.now.done) }
     {
-        if !self.is_pending() {
-            return Ok(None);
-        }
-        Ok(Some(self.moved_path(alloc, self.done)?))
+        moved_path(alloc, &self.place, self.done)
     }
 
-    /// Moves a directory to the others.
-    fn take<R: Files + AllocGlobal>(&mut self, rt: &R, path: &[u8]) -> Result<(), OsFault>
-        ensures { self.new.root ≡ self.old.root }
+    /// Moves a directory to the others, and returns whether it could.
+    fn take<R: Files + AllocGlobal>(&mut self, rt: &R, path: &[u8]) -> bool
+        ensures { self.new.place ≡ self.old.place }
     {
-        let to = self.next_path(rt.alloc())?;
+        let Ok(to) = self.next_path(rt.alloc()) else {
+            return false;
+        };
         // A number at which something was put is passed over.
         self.moved = self.moved.saturating_add(1);
-        or_fault(kt_entries::move_directory(rt, path, &to))
-    }
-
-    /// Whether a path is that of the directory for what is moved.
-    fn is_place(&self, alloc: Global, path: &[u8]) -> bool {
-        match self.place(alloc) {
-            Ok(place) => place.as_bytes() == path,
-            Err(_) => true,
-        }
+        entries::move_directory(rt, path, &to).is_ok()
     }
 
     /// Removes or moves an entry that is no file.
     fn remove_directory<R: Files + AllocGlobal>(&mut self, rt: &R, path: &[u8])
-        ensures { self.new.root ≡ self.old.root }
+        ensures { self.new.place ≡ self.old.place }
     {
-        let cause = match kt_entries::remove_directory(rt, path) {
+        let cause = match entries::remove_directory(rt, path) {
             Ok(()) => {
                 self.progress = true;
                 return;
@@ -143,36 +118,36 @@ impl Removals {
         };
         // Nothing else is busy.
         if cause == ErrorKind::ResourceBusy {
-            kt_entries::empty_mounted(rt, path);
-        } else if kt_entries::open_up_entry(rt, path, cause) {
+            entries::empty_mounted(rt, path);
+        } else if entries::open_up_entry(rt, path, cause) {
             let _ = self.take(rt, path);
         }
     }
 
     /// Removes an entry of a directory. A directory that isn't empty is moved.
     fn remove_entry<R: Files + AllocGlobal>(&mut self, rt: &R, directory: &Text, name: &[u8])
-        ensures { self.new.root ≡ self.old.root }
+        ensures { self.new.place ≡ self.old.place }
     {
-        let Ok(path) = kt_entries::entry_path(rt.alloc(), directory, name) else {
+        let Ok(path) = entries::entry_path(rt.alloc(), directory, name) else {
             return;
         };
-        if kt_entries::remove_file(rt, path.as_slice()).is_ok() {
+        if entries::remove_file(rt, path.as_slice()).is_ok() {
             self.progress = true;
-        } else if !self.is_place(rt.alloc(), path.as_slice()) {
+        } else if path.as_slice() != self.place.as_bytes() {
             self.remove_directory(rt, path.as_slice());
         }
     }
 
     /// Removes the entries of a directory that have these names.
     fn remove_names<R: Files + AllocGlobal>(&mut self, rt: &R, directory: &Text, names: &[u8])
-        ensures { self.new.root ≡ self.old.root }
+        ensures { self.new.place ≡ self.old.place }
     {
         let mut left = names;
         for _ in 0..PIECE {
             let Some((name, rest)) = split_name(left) else {
                 return;
             };
-            if !is_dots(name) {
+            if !entries::is_dots(name) {
                 self.remove_entry(rt, directory, name);
             }
             left = rest;
@@ -186,7 +161,7 @@ impl Removals {
         directory: &Text,
         names: &mut R::Dir,
     ) -> bool
-        ensures { self.new.root ≡ self.old.root }
+        ensures { self.new.place ≡ self.old.place }
     {
         let mut buffer = [0u8; PIECE];
         match names.read(&mut buffer) {
@@ -200,7 +175,7 @@ impl Removals {
 
     /// A moved directory is done. One to which something was added meanwhile is moved to the end.
     fn finish<R: Files + AllocGlobal>(&mut self, rt: &R, path: &Text)
-        ensures { self.new.root ≡ self.old.root }
+        ensures { self.new.place ≡ self.old.place }
     {
         if !is_removed(rt, path) && self.progress {
             let _ = self.take(rt, path.as_bytes());
@@ -216,9 +191,9 @@ impl Removals {
         directory: &Text,
         bound: &mut Bound,
     ) -> bool
-        ensures { self.new.root ≡ self.old.root }
+        ensures { self.new.place ≡ self.old.place }
     {
-        let Some(mut names) = kt_entries::open_names(rt, directory) else {
+        let Some(mut names) = entries::open_names(rt, directory) else {
             return true;
         };
         for _ in 0..bound.micros {
@@ -232,67 +207,63 @@ impl Removals {
         false
     }
 
+    /// Empties the next of the moved directories, and returns whether time is left. If memory is refused, it is tried again.
+    fn step<R: Files + Clock + AllocGlobal>(&mut self, rt: &R, bound: &mut Bound) -> bool
+        ensures { self.new.place ≡ self.old.place }
+    {
+        let Ok(path) = self.path(rt.alloc()) else {
+            return !bound.is_over(rt);
+        };
+        if !self.empty(rt, &path, bound) {
+            return false;
+        }
+        self.finish(rt, &path);
+        true
+    }
+
     /// Goes on with the moved directories, within a bound. One that is not finished is begun anew later.
     fn go_on<R: Files + Clock + AllocGlobal>(&mut self, rt: &R, bound: &mut Bound)
-        ensures { self.new.root ≡ self.old.root }
+        ensures { self.new.place ≡ self.old.place }
     {
         for _ in 0..bound.micros {
-            let Ok(Some(path)) = self.path(rt.alloc()) else {
-                return;
-            };
-            if !self.empty(rt, &path, bound) {
+            if !self.is_pending() || !self.step(rt, bound) {
                 return;
             }
-            self.finish(rt, &path);
         }
     }
 
     /// Removes the root directory, with all that was left.
-    fn close<R: Files + Clock + AllocGlobal>(&mut self, rt: &R) -> Result<(), OsFault>
-        ensures { self.new.root ≡ self.old.root }
+    fn close<R: Files + Clock + AllocGlobal>(&mut self, rt: &R, root: &Text) -> bool
+        ensures { self.new.place ≡ self.old.place }
     {
-        let root = self.root.copy()?;
-        let place = self.place(rt.alloc())?;
         // A test may have removed it.
-        let _ = fs::create_dir(rt, place.as_str());
+        let _ = fs::create_dir(rt, self.place.as_str());
         let mut bound = Bound::closing(rt, self.asked);
-        let _ = self.empty(rt, &root, &mut bound);
+        let _ = self.empty(rt, root, &mut bound);
         self.go_on(rt, &mut bound);
-        let _ = fs::remove_dir(rt, place.as_str());
-        or_fault(fs::remove_dir(rt, root.as_str()))
+        let _ = fs::remove_dir(rt, self.place.as_str());
+        fs::remove_dir(rt, root.as_str()).is_ok()
     }
 
-    /// Removes a directory with all that it holds. No link is followed. What would take too long is left for later, in the
-    /// place for it; but for the root itself, where it lies.
-    pub(crate) fn remove_tree<R: Files + Clock + AllocGlobal>(
-        &mut self,
-        rt: &R,
-        tree: &Text,
-    ) -> Result<(), OsFault>
-        ensures { self.new.root ≡ self.old.root }
+    /// Removes a directory with all that it holds, and returns whether it is gone from there. No link is followed. What would
+    /// take too long is moved to the others, for later; but for the root itself, where it lies.
+    pub fn remove_tree<R: Files + Clock + AllocGlobal>(&mut self, rt: &R, tree: &Text) -> bool
+        ensures { self.new.place ≡ self.old.place }
     {
         if tree.as_str() == self.root.as_str() {
-            return self.close(rt);
+            return self.close(rt, tree);
         }
         self.asked = self.asked.saturating_add(1);
         let mut bound = Bound::at_once(rt);
         let _ = self.empty(rt, tree, &mut bound);
-        let gone = if is_removed(rt, tree) {
-            Ok(())
-        } else {
-            self.take(rt, tree.as_bytes())
-        };
+        let gone = is_removed(rt, tree) || self.take(rt, tree.as_bytes());
         self.go_on(rt, &mut bound);
         gone
     }
 }
 
 /// Lets some microseconds go by: with what removals have left, else asleep.
-pub(crate) fn rest<R: Files + Clock + AllocGlobal>(
-    removals: &mut Option<Removals>,
-    rt: &R,
-    micros: u64,
-) {
+pub fn rest<R: Files + Clock + AllocGlobal>(removals: &mut Option<Removals>, rt: &R, micros: u64) {
     if let Some(removals) = removals {
         if removals.is_pending() {
             let mut bound = Bound::starting(rt, micros);

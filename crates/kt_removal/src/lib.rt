@@ -1,0 +1,10 @@
+//! Directories are removed with all that they hold, a step at a time.
+#![tactic(auto)]
+
+mod bounds;
+mod entries;
+mod numbers;
+mod removals;
+
+pub use numbers::numbered_path;
+pub use removals::{Removals, rest};
