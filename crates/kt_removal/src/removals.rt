@@ -241,8 +241,22 @@ impl Removals {
         let mut bound = Bound::closing(rt, self.asked);
         let _ = self.empty(rt, root, &mut bound);
         self.go_on(rt, &mut bound);
-        let _ = fs::remove_dir(rt, self.place.as_str());
+        if fs::remove_dir(rt, self.place.as_str()).is_err() {
+            self.try_again(rt, &mut bound);
+        }
         fs::remove_dir(rt, root.as_str()).is_ok()
+    }
+
+    /// Removes what was passed over, such as a directory with an entry for whose path memory was refused.
+    fn try_again<R: Files + Clock + AllocGlobal>(&mut self, rt: &R, bound: &mut Bound)
+        ensures { self.new.place ≡ self.old.place }
+    {
+        let Ok(place) = self.place.copy() else {
+            return;
+        };
+        let _ = self.empty(rt, &place, bound);
+        self.go_on(rt, bound);
+        let _ = fs::remove_dir(rt, place.as_str());
     }
 
     /// Removes a directory with all that it holds, and returns whether it is gone from there. No link is followed. What would
