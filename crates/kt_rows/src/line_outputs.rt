@@ -47,9 +47,9 @@ fn flushed(alloc: Global, pieces: &[Vec<u8>], at_most: usize) -> Result<String, 
     if !well {
         push_line(&mut out, "failed")?;
     }
-    for failing in 1..=whole.writes {
+    for before in 0..whole.writes {
         for fault in &FAULTS {
-            let mut cut = writer(alloc, at_most, failing, *fault);
+            let mut cut = writer(alloc, at_most, before + 1, *fault);
             let well = given(&mut cut, pieces, true);
             if let Some(what) = wrong(whole.kept.as_slice(), &cut, well) {
                 push_line(&mut out, what)?;

@@ -25,7 +25,7 @@ fn begin<R: ResultStore>(
     alloc: Global,
     results: &mut R,
     text: &str,
-    times: u64,
+    times: u32,
 ) -> Result<String, RowFault> {
     let (total, moment) = text.split_once(' ').unwrap_or((text, "0"));
     let total = count(total)?;
@@ -46,13 +46,13 @@ fn put<R: ResultStore>(
     results: &mut R,
     text: &str,
     content: &[Entry<'_>],
-    times: u64,
+    times: u32,
 ) -> Result<String, RowFault> {
     let (run, rest) = text.split_once(' ').unwrap_or((text, ""));
     let (first, verdict) = rest.split_once(' ').unwrap_or((rest, "passed"));
     let (run, first) = (number(run)?, count(first)?);
     for place in 0..times {
-        let entry = storable_entry(alloc, content, verdict, first.saturating_add(place as u32))?;
+        let entry = storable_entry(alloc, content, verdict, first.saturating_add(place))?;
         if let Err(fault) = results.put(run, &entry) {
             return name_of(alloc, &fault);
         }
@@ -90,7 +90,7 @@ pub fn call<R: ResultStore>(
     line: &Entry<'_>,
     content: &[Entry<'_>],
 ) -> Result<String, RowFault> {
-    let times = number(text_in(content, "times").unwrap_or("1"))?;
+    let times = count(text_in(content, "times").unwrap_or("1"))?;
     match line.word {
         "begin" => begin(alloc, results, line.text, times),
         "put" => put(alloc, results, line.text, content, times),
