@@ -11,7 +11,8 @@ use Rattle.kt_sched.specs.declared.job.Job.{Job}
 use Rattle.kt_sched.specs.declared.start_answer.StartAnswer.{StartAnswer}
 use Rattle.kt_sched.specs.declared.ended.Ended.{Ended}
 use Rattle.kt_store.specs.StoreCalls.{StoreCall}
-use Rattle.kt_suite.specs.Answers.{Asked, Chain, Answered}
+use Rattle.kt_base.specs.Chains.{Chain}
+use Rattle.kt_suite.specs.Answers.{Asked, Answered}
 use Rattle.kt_suite.specs.Selecting.{most_items}
 use Rattle.kt_plan.specs.declared.candidate.Candidate.{Candidate}
 use Rattle.kt_plan.specs.declared.case_options.CaseOptions.{CaseOptions}
@@ -78,10 +79,10 @@ module _ {W : Type 0} (asks : W → Asked → W → Type 0) (tells : W → Told 
   idle_told running pending d e mid new m t j = record { runs = λ k r. d mid new m t k r ∙ j.runs k r; pends = λ k. e mid new m t k ∙ j.pends k }
 
   -- nothing was started
-  course_of : (questions : List Question) (old new : W) → Chain (leads_by asks tells) questions old new → Course asks tells starts waits (asked_only questions) old new
+  course_of : (questions : List Question) (old new : W) → Chain (leads_by asks tells) old questions new → Course asks tells starts waits (asked_only questions) old new
   course_of questions old new p = record { begun = new; asked = p; ran = refl }
 
-  told_only : (c : Command) (old new : W) (was now : Option (List ℕ)) (exit : ℕ) (questions : List Question) (bytes : List ℕ) (due : ℕ) → Chain (leads_by asks tells) questions old new
+  told_only : (c : Command) (old new : W) (was now : Option (List ℕ)) (exit : ℕ) (questions : List Question) (bytes : List ℕ) (due : ℕ) → Chain (leads_by asks tells) old questions new
       → Means (asked_only questions) c bytes due ⊎ CutShort (asked_only questions) c bytes due
       → Printed was now exit bytes due → ToldOnly asks tells starts waits c old new was now exit
   told_only c old new was now exit questions bytes due p m q = record { seen = asked_only questions; course = course_of questions old new p; uncalled = refl; bytes = bytes; due = due; is = m; printed = q }
