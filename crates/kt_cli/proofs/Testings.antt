@@ -45,7 +45,8 @@ use Rattle.kt_plan.specs.Told.{Told, Now}
 use Rattle.kt_cli.specs.Warnings.{warnings}
 use Rattle.kt_cli.proofs.Saying.{tells_both}
 use Rattle.kt_cli.proofs.StoreChains.{stored_none, stored_as}
-use Rattle.kt_plan.proofs.QuestionChains.{chain_both, chain_of_host}
+use Rattle.kt_base.proofs.Chains.{chain-append}
+use Rattle.kt_plan.proofs.QuestionChains.{chain_of_host}
 
 -- the same answer in other words
 pub debugged_as : {L : Type 0} (starts : L → Job → Role → StartAnswer → L → Type 0) (waits : L → Ended → L → Type 0) (plan : List Job) (old new : L) (was now : Option (List ℕ)) (failed : Bool) (answer other : Result Totals RunFault) → answer ≡ other
@@ -122,7 +123,7 @@ module _ {W : Type 0} (asks : W → Asked → W → Type 0) (tells : W → Told 
       → Answered (leads_by asks tells) old mid Holds → Answered tells mid new HoldsToo
       → Printed was now exit (utf8 memory_line) 2 → ToldOnly asks tells starts waits c old new was now exit
   short_only c options old mid new was now exit Holds HoldsToo e a b p =
-      told_only c old new was now exit (a.asked ++ of_host b.asked) (utf8 memory_line) 2 (chain_both (leads_by asks tells) a.asked (of_host b.asked) old mid new a.chain (chain_of_host asks tells b.asked mid new b.chain))
+      told_only c old new was now exit (a.asked ++ of_host b.asked) (utf8 memory_line) 2 (chain-append (leads_by asks tells) a.asked (of_host b.asked) old mid new a.chain (chain_of_host asks tells b.asked mid new b.chain))
       (inr (no_memory c options e (only_asked (a.asked ++ of_host b.asked)))) p
 
   -- no case was selected for `debug`
@@ -160,7 +161,7 @@ module _ {W : Type 0} (asks : W → Asked → W → Type 0) (tells : W → Told 
     seen = record { questions = a.asked ++ (of_host b.asked ++ []); plan = plan; trace = d.trace; calls = [] };
     course = record {
       begun = begun;
-      asked = chain_both (leads_by asks tells) a.asked (of_host b.asked ++ []) old mid begun a.chain (chain_both (leads_by asks tells) (of_host b.asked) [] mid begun begun (chain_of_host asks tells b.asked mid begun b.chain) refl);
+      asked = chain-append (leads_by asks tells) a.asked (of_host b.asked ++ []) old mid begun a.chain (chain-append (leads_by asks tells) (of_host b.asked) [] mid begun begun (chain_of_host asks tells b.asked mid begun b.chain) refl);
       ran = d.leads;
     };
     uncalled = refl;
@@ -197,7 +198,7 @@ module _ {W : Type 0} (asks : W → Asked → W → Type 0) (tells : W → Told 
       let q = d.ends in
       record {
         seen = record { questions = a.asked ++ of_host b.asked; plan = plan; trace = d.trace; calls = [] };
-        course = record { begun = begun; asked = chain_both (leads_by asks tells) a.asked (of_host b.asked) old mid begun a.chain (chain_of_host asks tells b.asked mid begun b.chain); ran = d.leads };
+        course = record { begun = begun; asked = chain-append (leads_by asks tells) a.asked (of_host b.asked) old mid begun a.chain (chain_of_host asks tells b.asked mid begun b.chain); ran = d.leads };
         uncalled = refl;
         bytes = utf8 memory_line;
         due = 2;
@@ -241,8 +242,8 @@ module _ {W : Type 0} (asks : W → Asked → W → Type 0) (tells : W → Told 
           seen = seen;
           course = record {
             begun = begun;
-            asked = chain_both (leads_by asks tells) a.asked (of_host b.asked ++ of_host (Now moment ∷ [])) old mid begun a.chain
-                (chain_both (leads_by asks tells) (of_host b.asked) (of_host (Now moment ∷ [])) mid asked begun (chain_of_host asks tells b.asked mid asked b.chain) (begun, t, refl));
+            asked = chain-append (leads_by asks tells) a.asked (of_host b.asked ++ of_host (Now moment ∷ [])) old mid begun a.chain
+                (chain-append (leads_by asks tells) (of_host b.asked) (of_host (Now moment ∷ [])) mid asked begun (chain_of_host asks tells b.asked mid asked b.chain) (begun, t, refl));
             ran = r.leads;
           };
           stored = r.stored;
