@@ -1,4 +1,4 @@
--- What a command asked of its children over the host, and what they tell.
+-- What a command asked of its children over the host, and what follows from their answers.
 use Rattle.std.specs.Prelude.{List, ◌≡◌, ◌⊎◌}
 use Rattle.kt_sched.specs.declared.job.Job.{Job}
 use Rattle.kt_sched.specs.Plan.{IsPlan}

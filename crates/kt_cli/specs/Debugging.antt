@@ -1,4 +1,4 @@
--- What `debug` tells of the case that it runs.
+-- What `debug` prints of the case that it runs.
 use Rattle.std.specs.Prelude.{ℕ, Bool, List, [], ◌++◌, ◌≡◌, ◌==◌, false, Option, Result, Ok, Err, flat_map, if◌then◌else◌}
 use Rattle.kt_base.specs.declared.entry.Entry.{Entry}
 use Rattle.kt_base.specs.declared.role.Role.{Role}
@@ -28,17 +28,17 @@ all_debug_bytes entries = flat_map debug_bytes entries
 abbrev pub debug_exit : List Entry → ℕ
 debug_exit entries = if bad_count entries == 0 then 0 else 1
 
--- an entry is told, and never refused
+-- an entry is printed, and never refused
 abbrev pub Prints : Bool → Option (List ℕ) → Entry → Result (Unit {0}) SinkFault → Bool → Option (List ℕ) → Type 0
 Prints failed held entry answer failed' held' = (answer ≡ Ok tt) × Says held failed held' failed' (debug_bytes entry)
 
--- how a plan ended that was run for `debug`: each case was told, or memory ran out before one was started
+-- how a plan that was run for `debug` ended: each case was printed, or memory ran out before one was started
 abbrev pub DebugEnds : List Job → Trace → List Entry → Result Totals RunFault → Type 0
 DebugEnds plan T entries (Ok totals) = AllRecorded plan 1 T entries × Counts entries totals
 DebugEnds plan T entries (Err (NoMemory refusal)) = (T ≡ NoEvent) × (entries ≡ [])
 DebugEnds plan T entries (Err (SinkFailed fault)) = ⊥
 
--- a plan was run one case at a time, and each case told
+-- a plan was run one case at a time, and each case printed
 pub record Debugged {L : Type 0} (starts : L → Job → Role → StartAnswer → L → Type 0) (waits : L → Ended → L → Type 0) (plan : List Job) (old new : L) (was now : Option (List ℕ)) (failed : Bool) (answer : Result Totals RunFault) : Type 0 where
   pub trace : Trace
   pub leads : Leads starts waits plan trace old new

@@ -1,4 +1,4 @@
--- The lines by which commands tell faults.
+-- The lines by which commands report faults.
 use Rattle.std.specs.Prelude.{ℕ, List, [], ◌++◌, codes}
 use Rattle.std.specs.Fmt.{decimal}
 use Rattle.kt_script.specs.declared.fault.ScriptFault.{ScriptFault}
@@ -59,7 +59,7 @@ store_line = codes "kyua: E: results store failed\n"
 abbrev pub placed_line : SuiteFault → List ℕ
 placed_line fault = error_mark ++ fault.path ++ codes ":" ++ decimal fault.line ++ codes ": " ++ cause_text fault.cause ++ codes "\n"
 
--- a fault by its cause: want of memory has no place
+-- a fault by its cause: an out-of-memory fault has no place
 abbrev pub line_by : SuiteCause → SuiteFault → List ℕ
 line_by (cause.NoMemory refusal) fault = memory_line
 line_by _ fault = placed_line fault

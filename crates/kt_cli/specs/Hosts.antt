@@ -30,7 +30,7 @@ pub record IsMade {O : Type 0} (leads : O → Call → O → Type 0) (os : O) (h
   pub first : d.next ≡ 0
   pub none_runs : d.running ≡ idle_state
 
--- a command was done over a driver that was made for its options, whose root directory was then to be removed; each end in the trace is told
+-- a command was done over a driver that was made for its options, whose root directory was then to be removed; each end in the trace is explained
 -- by the calls of its own child
 pub record OnDriver {O R : Type 0} (leads : O → Call → O → Type 0) (os : O) (around : Surroundings) (options : CaseOptions) (Answers : R → StoreCall → R → Type 0) (Stands : R → List Run → Type 0) (Sound : R → Type 0) (Leaves : R → List (List Run) → Type 0) (c : Command) (store after : R) (was now : Option (List ℕ)) (exit : ℕ) : Type 0 where
   pub old : Runner O

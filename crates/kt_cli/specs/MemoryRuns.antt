@@ -1,5 +1,6 @@
 -- What the calls on runs in memory do.
 use Rattle.std.specs.Prelude.{ℕ, suc, ⊤, nat_lt, nat_le, if◌then◌else◌, Option, List, [], ◌∷◌, ◌++◌, ◌≡◌, ◌≤◌, ◌<◌, ◌⊎◌, Some, None, Result, Ok, Err, length}
+use Rattle.kt_base.specs.Limits.{last_run}
 use Rattle.kt_base.specs.declared.entry.Entry.{Entry}
 use Rattle.kt_base.specs.declared.run.Run.{Run}
 use Rattle.kt_store.specs.Ask.{IsStoreFault}
@@ -10,8 +11,8 @@ use Rattle.kt_store.specs.declared.store_fault.StoreFault.TheVariants.{StoreFull
 
 -- a new run is the last one, and none is begun where the runs are as many as may be
 abbrev pub BeginsRun : List Run → ℕ → ℕ → Result ℕ StoreFault → List Run → Type 0
-BeginsRun old total moment (Ok number) new = (number ≡ suc (length old)) × (length old < 1000000) × (new ≡ old ++ new_run old total moment ∷ [])
-BeginsRun old total moment (Err fault) new = (IsStoreFault fault ⊎ ((fault ≡ StoreFull) × (1000000 ≤ length old))) × (new ≡ old)
+BeginsRun old total moment (Ok number) new = (number ≡ suc (length old)) × (length old < last_run) × (new ≡ old ++ new_run old total moment ∷ [])
+BeginsRun old total moment (Err fault) new = (IsStoreFault fault ⊎ ((fault ≡ StoreFull) × (last_run ≤ length old))) × (new ≡ old)
 
 -- an entry is put exactly where nothing refuses it
 abbrev pub PutsEntry : List Run → ℕ → Entry → Result (Unit {0}) StoreFault → List Run → Type 0

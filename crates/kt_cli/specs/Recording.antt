@@ -1,4 +1,4 @@
--- An entry is put into a run, and then its line is told.
+-- An entry is put into a run, and then its line is printed.
 use Rattle.std.specs.Prelude.{ℕ, Bool, List, [], ◌∷◌, ◌≡◌, Option, Result, Ok, Err}
 use Rattle.kt_base.specs.declared.entry.Entry.{Entry}
 use Rattle.kt_base.specs.declared.run.Run.{Run}
@@ -11,7 +11,7 @@ use Rattle.kt_store.specs.declared.store_fault.StoreFault.TheVariants.{NoMemory}
 use Rattle.kt_cli.specs.Pages.{Says}
 use Rattle.kt_cli.specs.Stores.{Stored, put_all}
 
--- what a scheduler is told of a store's refusal
+-- a store's refusal as the scheduler sees it
 abbrev pub sink_fault_of : StoreFault → SinkFault
 sink_fault_of (NoMemory shortage) = Memory
 sink_fault_of other = Other

@@ -1,4 +1,4 @@
--- What became of a plan's cases: which were recorded and told, and how it ended.
+-- What became of a plan's cases: which were recorded and printed, and how it ended.
 use Rattle.std.specs.Prelude.{ℕ, Bool, false, List, [], ◌∷◌, ◌++◌, ◌≡◌, Option, Result, Ok, Err, Some, length, take, slice_get}
 use Rattle.kt_base.specs.declared.entry.Entry.{Entry}
 use Rattle.kt_base.specs.declared.role.Role.{Role}
@@ -62,7 +62,7 @@ RecordEnds plan n number T entries last (Ok totals) = RecordedAll plan n T entri
 RecordEnds plan n number T entries last (Err (SinkFailed fault)) = RecordedSome plan n number T entries last fault
 RecordEnds plan n number T entries last (Err (NoMemory refusal)) = RecordedNone T entries last
 
--- the launcher's answers, and the entries that were put into the run of a number and told, in the order of the puts, and the put that was refused
+-- the launcher's answers, and the entries that were put into the run of a number and printed, in the order of the puts, and the put that was refused
 pub record Records {L R : Type 0} (starts : L → Job → Role → StartAnswer → L → Type 0) (waits : L → Ended → L → Type 0) (Answers : R → StoreCall → R → Type 0) (Stands : R → List Run → Type 0) (Sound : R → Type 0) (Leaves : R → List (List Run) → Type 0) (plan : List Job) (n number : ℕ) (old new : L) (store after : R) (was now : Option (List ℕ)) (answer : Result Totals RunFault) (failed : Bool) : Type 0 where
   pub trace : Trace
   pub leads : Leads starts waits plan trace old new

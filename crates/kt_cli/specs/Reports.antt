@@ -51,7 +51,7 @@ pub data ReportedJunit (number : Option ℕ) : List StoreCall → List ℕ → �
       → ReportedJunit number (Heads (Ok heads) ∷ Read head.number (Ok entries) ∷ []) (junit_bytes (run_of head entries)) 0
   no_run : (heads : List RunHead) → chosen number heads ≡ None → ReportedJunit number (Heads (Ok heads) ∷ []) (utf8 (missing_line number heads)) 2
 
--- the store refused to be read, and its own answer is told
+-- the store refused to be read, and its own answer is printed
 pub data Unread (number : Option ℕ) : List StoreCall → List ℕ → ℕ → Type 0 where
   no_heads : (fault : StoreFault) → Unread number (Heads (Err fault) ∷ []) (utf8 (refusal_line fault)) 2
   no_entries : (heads : List RunHead) (head : RunHead) (fault : StoreFault) → chosen number heads ≡ Some head
@@ -66,7 +66,7 @@ pub data JunitCut (number : Option ℕ) : List StoreCall → List ℕ → ℕ �
 abbrev pub JunitOrUnread : Option ℕ → List StoreCall → List ℕ → ℕ → Type 0
 JunitOrUnread number calls bytes exit = Unread number calls bytes exit ⊎ JunitCut number calls bytes exit
 
--- what was read of a store and told of it, in one of two ways
+-- what was read of a store and printed of it, in one of two ways
 pub record DidReport {R : Type 0} (Answers : R → StoreCall → R → Type 0) (Stands : R → List Run → Type 0) (Sound : R → Type 0) (Leaves : R → List (List Run) → Type 0) (store after : R) (was now : Option (List ℕ)) (exit : ℕ) (Means Cut : List StoreCall → List ℕ → ℕ → Type 0) : Type 0 where
   pub calls : List StoreCall
   pub stored : Stored Answers Stands Sound Leaves calls store after

@@ -11,13 +11,13 @@ use Rattle.kt_cli.specs.FaultLines.{refusal_line}
 use Rattle.kt_cli.specs.Reports.{chosen, missing_line, no_runs_line, no_run_line, run_of}
 use Rattle.kt_cli.specs.Stores.{Stored}
 
--- the line that tells why no run is shown
+-- the line that says why no run is shown
 abbrev pub not_shown_line : NotShown → List ℕ
 not_shown_line NoRuns = no_runs_line
 not_shown_line (NoRun number) = no_run_line number
 not_shown_line (Refused fault) = refusal_line fault
 
--- none of these heads is the chosen one, and the line tells it
+-- none of these heads is the chosen one, and the line says so
 abbrev pub IsMissing : Option ℕ → List RunHead → NotShown → Type 0
 IsMissing number heads why = missing_line number heads ≡ not_shown_line why
 

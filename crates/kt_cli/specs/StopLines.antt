@@ -41,7 +41,7 @@ stop_line stop.NeedsCase = codes "kyua: E: debug needs PROGRAM:CASE\n"
 stop_line (stop.Tree fault) = fault_line fault
 stop_line stop.TooManyCases = codes "kyua: E: too many cases\n"
 
--- the exit of a stop: 3 where the words of the command line are wrong
+-- the exit of a stop: 3 if the arguments are wrong
 abbrev pub stop_exit : Stop → ℕ
 stop_exit (stop.NoMemory refusal) = 2
 stop_exit stop.UnreadConfiguration = 2

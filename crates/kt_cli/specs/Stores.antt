@@ -1,5 +1,6 @@
 -- The calls that a command makes on a store of runs, and what they do to the runs.
 use Rattle.std.specs.Prelude.{ℕ, List, [], ◌∷◌, ◌++◌, ◌≡◌, ◌<◌, ◌≤◌, ◌⊎◌, ⊤, Some, None, Ok, Err, suc, length, map}
+use Rattle.kt_base.specs.Limits.{last_run}
 use Rattle.kt_base.specs.declared.entry.Entry.{Entry}
 use Rattle.kt_base.specs.declared.run.Run.{Run}
 use Rattle.kt_store.specs.Ask.{IsStoreFault}
@@ -54,8 +55,8 @@ beside_by (Read number answer) runs may = may
 
 -- a call's answer agrees with the runs before it
 abbrev pub Agrees : List Run → StoreCall → Type 0
-Agrees runs (Began total moment (Ok number)) = (number ≡ suc (length runs)) × (length runs < 1000000)
-Agrees runs (Began total moment (Err fault)) = IsStoreFault fault ⊎ ((fault ≡ StoreFull) × (1000000 ≤ length runs))
+Agrees runs (Began total moment (Ok number)) = (number ≡ suc (length runs)) × (length runs < last_run)
+Agrees runs (Began total moment (Err fault)) = IsStoreFault fault ⊎ ((fault ≡ StoreFull) × (last_run ≤ length runs))
 Agrees runs (Put number e (Ok done)) = put_refusal runs number e ≡ None
 Agrees runs (Put number e (Err fault)) = IsStoreFault fault ⊎ (put_refusal runs number e ≡ Some fault)
 Agrees runs (Finished number (Ok done)) = finish_refusal runs number ≡ None

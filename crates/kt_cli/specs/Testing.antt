@@ -26,7 +26,7 @@ none_idle (position ∷ unmatched) = false
 abbrev pub ending : ℕ → ℕ → ℕ → List (List ℕ) → List ℕ → List ℕ
 ending good total bad words unmatched = utf8 (totals_text good total bad) ++ utf8 (warnings words unmatched)
 
--- the lines, and what stands behind them
+-- the lines, and what follows them
 abbrev pub results : List Entry → List (List ℕ) → List ℕ → List ℕ
 results entries words unmatched = lines entries ++ ending (good_count entries) (length entries) (bad_count entries) words unmatched
 
@@ -38,7 +38,7 @@ exit_of bad unmatched = if bad == 0 && none_idle unmatched then 0 else 1
 abbrev pub results_exit : List Entry → List ℕ → ℕ
 results_exit entries unmatched = exit_of (bad_count entries) unmatched
 
--- a plan was run at a width: each case was put into the run that was begun, and told in the order of recording; then the run was finished
+-- a plan was run at a width: each case was put into the run that was begun, and printed in the order of recording; then the run was finished
 pub data Tested (plan : List Job) (n : ℕ) (words : List (List ℕ)) (unmatched : List ℕ) (moment : ℕ) (T : Trace) : List StoreCall → List ℕ → ℕ → Type 0 where
   recorded : (number : ℕ) (entries : List Entry) → AllRecorded plan n T entries
       → Tested plan n words unmatched moment T (Began (length plan) moment (Ok number) ∷ (puts number entries ++ Finished number (Ok tt) ∷ [])) (results entries words unmatched) (results_exit entries unmatched)

@@ -41,7 +41,7 @@ fn print_cases<L: Launcher, O: Write>(
     (answer, printer.written)
 }
 
-/// The status of so many bad cases.
+/// 0 if no case is bad, else 1.
 fn status_of(bad: u64) -> u8
     ensures { result ≡ (if bad == 0 then 0 else 1) }
 {

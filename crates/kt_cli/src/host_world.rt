@@ -36,7 +36,7 @@ pub struct HostWorld<'a, R, O: Os + Drop> {
     pub runner: Runner<O>,
 }
 
-/// What is told of a system call that failed.
+/// The fault of a system call that failed.
 fn fault_of(error: io::Error) -> ReadFault {
     if let Some(refusal) = NoMemory::in_error(&error) {
         return ReadFault::Memory(refusal);

@@ -138,7 +138,7 @@ impl ResultStore for MemRuns {
     ghost use Rattle.std.specs.Prelude.{◌≡◌, ⊤};
     ghost use Rattle.kt_store.specs.Runs.{AreNumbered};
 
-    // What each call answers is its own clause.
+    // What each call returns is its own clause.
     ghost answers = { λ _ _ _. Unit {0} };
 
     ghost stands = { λ m runs. (m ≡ runs) × AreNumbered 1 runs };

@@ -35,7 +35,7 @@ fn write_entry<O: Write>(entry: &Entry, out: &mut O) -> Result<(), OutputFault>
     line(entry, out)
 }
 
-/// Writes an entry behind what was written, unless that failed.
+/// Prints an entry, unless an earlier write failed.
 fn entry_behind<O: Write>(
     written: Result<(), OutputFault>,
     entry: &Entry,

@@ -18,7 +18,7 @@ pub struct Recorder<'a, R, O> {
     pub written: Result<(), OutputFault>,
 }
 
-/// What a scheduler is told of a refused put.
+/// The fault of a refused put, as the scheduler sees it.
 fn sink_fault(fault: StoreFault) -> SinkFault
     ensures { result ≡ sink_fault_of fault }
 {

@@ -21,7 +21,7 @@ pub struct Surroundings {
     pub user: Option<Text>,
 }
 
-/// The value of a variable, which is copied through a room.
+/// The value of a variable, which is copied through a buffer on the stack.
 fn variable<R: Env + AllocGlobal>(
     rt: &R,
     name: &str,

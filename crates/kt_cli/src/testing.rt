@@ -56,7 +56,7 @@ fn record_cases<L: Launcher, R: ResultStore, O: Write>(
     (answer, recorder.written)
 }
 
-/// The status of a run with so many bad cases, and these filters that select none.
+/// 0 if no case is bad and every filter selects some, else 1.
 fn status_of(bad: u64, unmatched: &[usize]) -> u8
     ensures { result ≡ exit_of bad unmatched.now }
 {
@@ -81,7 +81,7 @@ fn write_ending<O: Write>(
     write_warnings(words, unmatched, out)
 }
 
-/// Writes the totals and the warnings behind what was written, unless that failed.
+/// Prints the totals and the warnings, unless an earlier write failed.
 fn ending_behind<O: Write>(
     written: Result<(), OutputFault>,
     totals: Totals,

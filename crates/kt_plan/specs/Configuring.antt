@@ -25,7 +25,7 @@ use Rattle.kt_plan.specs.Told.{Told, ReadConfig}
 
 -- ---- words in order
 
--- what one word means before what the others mean: behind a stop nothing counts
+-- what one word means before what the others mean: after a stop nothing counts
 abbrev pub in_front : {A : Type 0} → Result A Stop → Result (List A) Stop → Result (List A) Stop
 in_front (Err fault) rest = Err fault
 in_front (Ok first) (Ok rest) = Ok (first ∷ rest)
@@ -104,7 +104,7 @@ pub record Configured (Means : Result (List Definition) Stop → Type 0) (outcom
   pub means : Means meant
   pub gives : Gives outcome meant
 
--- whatever definitions a configuration has, these come behind them
+-- whatever definitions a configuration has, these come after them
 abbrev pub GivesMore : Values → Result Values Stop → Result (List Definition) Stop → Type 0
 GivesMore config outcome meant = (before : List Definition) → Holds config before → Gives outcome (behind before meant)
 

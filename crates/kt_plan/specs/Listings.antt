@@ -9,7 +9,7 @@ use Rattle.kt_suite.specs.Faults.{IsNoMemory, fault_at}
 use Rattle.kt_suite.specs.Registered.{Outcome, Registered}
 
 -- what it registers, for these answers of its tree. A path that names no file, as one that ends in a
--- slash, is unreadable: it is told as it was given, and nothing is asked.
+-- slash, is unreadable: the fault has the path as it was given, and nothing is asked.
 pub data Loads (kyuafile : List ℕ) : List Asked → Outcome → Type 0 where
   unnamed : is_empty (name_in kyuafile) ≡ true → Loads kyuafile [] (Err (fault_at kyuafile 0 Unreadable))
   named : (asked : List Asked) (outcome : Outcome) → is_empty (name_in kyuafile) ≡ false → Registered asked (name_in kyuafile) outcome → Loads kyuafile asked outcome

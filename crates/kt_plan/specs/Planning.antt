@@ -50,22 +50,22 @@ pub data LooksForAll : List Candidate → List Told → Type 0 where
   one_and : (candidate : Candidate) (candidates : List Candidate) (told more : List Told) → LooksForOne candidate told → LooksForAll candidates more
       → LooksForAll (candidate ∷ candidates) (told ++ more)
 
--- an answer tells that this file is there
+-- an answer says that this file is there
 abbrev pub finds_file : List ℕ → Told → Bool
 finds_file path (FindsFile other answer) = bytes_eq (utf8 other) (utf8 path) && answer
 finds_file path other = false
 
--- an answer tells that this program is there
+-- an answer says that this program is there
 abbrev pub finds_program : List ℕ → Told → Bool
 finds_program name (FindsProgram other answer) = bytes_eq (utf8 other) (utf8 name) && answer
 finds_program name other = false
 
--- an answer tells that what is required is there
+-- an answer says that what is required is there
 abbrev pub finds_of : Required → List ℕ → Told → Bool
 finds_of File = finds_file
 finds_of Program = finds_program
 
--- the words that these answers tell to be there were added to those that were found
+-- the words that are there by these answers were added to those that were found
 abbrev pub Notes : {Z : Type 0} → (List ℕ → Told → Bool) → List Told → BTreeSet (String Z) → BTreeSet (String Z) → Type 0
 Notes finds told old new = (word : List ℕ) → contains_text new (utf8 word) ≡ (contains_text old (utf8 word) || list_any (finds word) told)
 

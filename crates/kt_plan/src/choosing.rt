@@ -36,7 +36,7 @@ fn items_of(alloc: Global, candidates: &[Candidate]) -> Result<Vec<Item>, NoMemo
     Ok(items)
 }
 
-/// Appends a case if the first of these places is its own, and answers the places after it.
+/// Appends a case if the first of these places is its own, and returns the places that are left.
 fn keep<'a>(
     cases: &mut Items<Candidate>,
     candidate: Candidate,

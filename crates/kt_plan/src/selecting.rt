@@ -14,8 +14,8 @@ use crate::stop::Stop;
 use crate::world::World;
 use std::alloc::Global;
 
-/// What the options of a command select, or the first fault that stops it. `needed` tells that one filter of one case is
-/// needed.
+/// What the options of a command select, or the first fault that stops it. `needed` says that the command needs exactly
+/// one filter, of one case.
 pub fn select_cases<W: World>(
     alloc: Global,
     needed: bool,

@@ -55,7 +55,7 @@ module _ {S : Type 0} (g : Ghosts S) (sql : List ℕ) (params : Row) (old : Held
     pub other : error ≢ SqliteFailure code.OutOfMemory
     pub cause : IsNotRun (state g old) (state g new) sql params error ⊎ ((mid : Held S) × IsUnchanged (state g old) (state g mid) × (FailsToQuery sql params (state g mid) (state g new) error ⊎ Executes sql params (state g mid) (state g new) (Err error)))
 
-  -- memory ran out, or the statement failed and is told so
+  -- memory ran out, or the statement failed and the fault says so
   abbrev pub MayFail : Held S → StoreFault → Type 0
   MayFail new e = IsNoMemory e ⊎ (IsFailure e × Fails new)
 
@@ -76,7 +76,7 @@ module _ {S : Type 0} (g : Ghosts S) where
   OneFails [] new = ⊥
   OneFails (s ∷ others) new = ((old : Held S) × Fails g s.0 s.1 old new) ⊎ OneFails others new
 
-  -- a call is told that a statement failed only if one of its statements did
+  -- a call reports a failed statement only if one of its statements failed
   abbrev pub IsCaused : List Statement → Held S → StoreFault → Type 0
   IsCaused statements new (Store statement) = OneFails statements new
   IsCaused statements new _ = ⊤

@@ -6,6 +6,7 @@ use Rattle.sqlite.specs.Order.{Row}
 use Rattle.sqlite.specs.Effect.{Database, IsDatabase}
 use Rattle.sqlite.specs.Tree.{Trees}
 use Rattle.sqlite_trees.specs.Tree.{IsAscending}
+use Rattle.kt_base.specs.Limits.{last_run}
 use Rattle.kt_base.specs.declared.kind.Kind.{Kind}
 use Rattle.kt_base.specs.declared.kind.Kind.TheVariants.{Passed, Skipped, ExpectedFailure, Failed, Broken}
 use Rattle.kt_base.specs.declared.entry.Entry.{Entry}
@@ -93,7 +94,7 @@ pub record IsRun (r : Run) : Type 0 where
 pub record AreRuns (runs : List Run) : Type 0 where
   pub numbered : AreNumbered 1 runs
   pub each : AllByRecursion IsRun runs
-  pub few : length runs ≤ 1000000
+  pub few : length runs ≤ last_run
 
 -- the database is the tables of schema 2, and their rows are exactly those of these runs
 pub record Tables (db : Database) (runs : List Run) : Type 0 where
@@ -134,7 +135,7 @@ abbrev pub KeepsOne : List (List Run) → Trees → Type 0
 KeepsOne [] trees = ⊥
 KeepsOne (runs ∷ others) trees = Keeps runs trees ⊎ KeepsOne others trees
 
--- the run that begins behind these: unfinished, without entries
+-- the run that begins after these: unfinished, without entries
 abbrev pub new_run : List Run → ℕ → ℕ → Run
 new_run runs total started = record { number = suc (length runs); started = started; total = total; finished = false; entries = [] }
 

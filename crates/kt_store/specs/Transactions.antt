@@ -34,7 +34,7 @@ module _ {S : Type 0} (g : Ghosts S) where
   StopInTurn [] old new error = ⊥
   StopInTurn (s ∷ others) old new error = ExecutesInside 0 s.0 s.1 (state g old) (state g new) (Err error) ⊎ ((mid : Held S) × RunsInside s old mid × StopInTurn others mid new error)
 
-  -- they were run in turn up to one that was refused, and its error is told as this
+  -- they were run in turn up to one that was refused, and its error became this
   pub record IsStopped (statements : List Statement) (old new : Held S) (fault : StoreFault) : Type 0 where
     pub error : Error
     pub told : Tells error fault
@@ -65,7 +65,7 @@ module _ {S : Type 0} (g : Ghosts S) where
     pub other : error ≢ SqliteFailure code.OutOfMemory
     pub cause : (StopInTurn statements (begun start) left error × IsRolledBack (state g left) (state g new)) ⊎ (RunInTurn statements (begun start) left × Fails (state g left) (state g new) ⊥ error)
 
-  -- a call is told that a statement failed only if one of its own did, or its transaction was undone
+  -- a call reports a failed statement only if one of its own failed, or its transaction was undone
   abbrev pub IsCausedInside : (Held S → Type 0) → List Statement → List Statement → Held S → StoreFault → Type 0
   IsCausedInside Before statements inside new (Store statement) = OneFails g statements new ⊎ IsUndone Before inside new
   IsCausedInside Before statements inside new _ = ⊤

@@ -91,7 +91,7 @@ pub(crate) fn pair_in(row: &Row) -> Result<Variable, StoreFault>
     Ok(Variable { name, value })
 }
 
-/// The pairs of the entry at this position, which are the first of the rows, and the rows behind
+/// The pairs of the entry at this position, which are the first of the rows, and the rows after
 /// them.
 pub(crate) fn meta_in(
     alloc: Global,

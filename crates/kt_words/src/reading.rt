@@ -4,6 +4,7 @@ ghost use Rattle.std.specs.Vec.Iter.{into_iter_items};
 ghost use Rattle.clap.specs.Words.{all_of, first_of, found_of, rows_of, subcommand_rows_of};
 ghost use Rattle.std.specs.IoError.{error_kind};
 ghost use Rattle.std.specs.declared.io.ErrorKind.TheVariants.{OutOfMemory};
+ghost use Rattle.kt_base.specs.Limits.{last_run};
 ghost use Rattle.kt_words.specs.declared.command.Command.TheVariants as command;
 ghost use Rattle.kt_words.specs.Commands.{HasRunNumber};
 ghost use Rattle.kt_words.specs.Reading.{text_given, text_or, texts_given, is_true, results_in};
@@ -100,7 +101,7 @@ fn texts_given<'a>(
 /// The run that is asked for, if one is.
 fn run_of<'a>(matches: &ArgMatches<'a>) -> Result<Option<u64>, CommandFault>
     ensures value { ReadsRun (run_of (first_of (codes "run") (rows_of (found_of matches.now)))) result }
-    ensures range { IfOk result (λ run. IfSome run (λ n. (1 ≤ n) × (n ≤ 1000000))) }
+    ensures range { IfOk result (λ run. IfSome run (λ n. (1 ≤ n) × (n ≤ last_run))) }
 {
     let Some(word) = word_of(matches, "run") else {
         return Ok(None);
@@ -285,7 +286,7 @@ fn read_named<'a>(
     Err(CommandFault::Usage(Text::new(alloc)))
 }
 
-/// The command that the words name, and what stands behind it.
+/// The command that the arguments name, and what follows it.
 fn entered_in<'b, 'a>(matches: &'b ArgMatches<'a>) -> Option<(&'a str, &'b ArgMatches<'a>)>
     ensures { option_map (λ entered. (entered.0.now, rows_of (found_of entered.1.now))) result
         ≡ subcommand_rows_of matches.now }
