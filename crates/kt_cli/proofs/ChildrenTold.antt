@@ -31,7 +31,7 @@ means_runs seen _ _ _ (reported options kinds verbose bytes exit unasked r) = in
 means_runs seen _ _ _ (reported_junit options bytes exit unasked r) = inr unasked.trace
 
 cut_runs : (seen : Seen) (c : Command) (bytes : List ℕ) (exit : ℕ) → CutShort seen c bytes exit → Runs seen
-cut_runs seen _ _ _ (no_memory c options e alone) = inr alone.trace
+cut_runs seen _ _ _ (no_memory c options e _ alone) = inr alone.trace
 cut_runs seen _ _ _ (cut options file picked moment bytes exit prepared t) = inl (plan_fits picked.settings.config prepared.host picked.chosen.cases seen.plan prepared.planned)
 cut_runs seen _ _ _ (report_cut options kinds verbose bytes exit unasked u) = inr unasked.trace
 cut_runs seen _ _ _ (junit_cut options bytes exit unasked u) = inr unasked.trace

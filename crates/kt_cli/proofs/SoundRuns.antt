@@ -197,7 +197,7 @@ means_coming seen runs c bytes exit h (reported options kinds verbose bs x u r) 
 means_coming seen runs c bytes exit h (reported_junit options bs x u r) a = junit_coming options.run runs h seen.calls bytes exit r a
 
 short_coming : (seen : Seen) (runs : List Run) (c : Command) (bytes : List ℕ) (exit : ℕ) → AreNumbered 1 runs → CutShort seen c bytes exit → Agree runs seen.calls → Coming (number_of c) runs seen.calls
-short_coming seen runs c bytes exit h (no_memory d options e k) a = none_coming (number_of c) runs h seen.calls k.calls
+short_coming seen runs c bytes exit h (no_memory d options e _ k) a = none_coming (number_of c) runs h seen.calls k.calls
 short_coming seen runs c bytes exit h (cut options file picked moment bs x p t) a = cut_coming None runs h seen.plan picked.settings.config.parallelism moment seen.trace seen.calls bytes exit t a
 short_coming seen runs c bytes exit h (report_cut options kinds verbose bs x u r) a = unread_coming options.run runs h seen.calls bytes exit r a
 short_coming seen runs c bytes exit h (junit_cut options bs x u r) a = junit_or_unread options.run runs h seen.calls bytes exit r a

@@ -1,5 +1,5 @@
 -- What a command means: by the answers of its world and of its store, the bytes and the exit.
-use Rattle.std.specs.Prelude.{ℕ, Bool, true, false, List, [], ◌∷◌, ◌++◌, ◌≡◌, ◌⊎◌, Option, Some, Ok, Err, flat_map, if◌then◌else◌}
+use Rattle.std.specs.Prelude.{ℕ, Bool, true, false, List, [], ◌∷◌, ◌++◌, ◌≡◌, ◌⊎◌, Option, Some, Ok, Err, take, flat_map, if◌then◌else◌}
 use Rattle.kt_base.specs.declared.entry.Entry.{Entry}
 use Rattle.kt_base.specs.declared.kind.Kind.{Kind}
 use Rattle.kt_base.specs.declared.role.Role.{Role}
@@ -26,9 +26,9 @@ use Rattle.kt_cli.specs.Debugging.{all_debug_bytes, debug_exit}
 use Rattle.kt_cli.specs.FaultLines.{memory_line}
 use Rattle.kt_cli.specs.CaseLines.{case_line}
 use Rattle.kt_cli.specs.Pages.{Printed}
-use Rattle.kt_plan.specs.Planning.{Surveys, ArePlanned}
+use Rattle.kt_plan.specs.Planning.{Surveys, SurveysFirst, ArePlanned}
 use Rattle.kt_plan.specs.Questions.{Question, leads_by, of_host}
-use Rattle.kt_plan.specs.Selecting.{Selects}
+use Rattle.kt_plan.specs.Selecting.{Selects, SelectsFirst}
 use Rattle.kt_cli.specs.Recordings.{AllRecorded}
 use Rattle.kt_cli.specs.Reports.{Reported, ReportedJunit, Unread, JunitCut}
 use Rattle.kt_cli.specs.StopLines.{stop_line, stop_exit}
@@ -98,9 +98,21 @@ pub data Means (seen : Seen) : Command → List ℕ → ℕ → Type 0 where
   reported_junit : (options : ReportOptions) (bytes : List ℕ) (exit : ℕ) → IsUnasked seen → ReportedJunit options.run seen.calls bytes exit
       → Means seen (command.ReportJunit options) bytes exit
 
+-- the cases that a command runs of those that are selected: `debug` runs the first one
+abbrev pub taken : Bool → List Candidate → List Candidate
+taken false cases = cases
+taken true cases = take 1 cases
+
+-- the first questions of a command over test cases, where memory ran out: for its cases, and then for what they require
+pub data AsksFirst (needed : Bool) (options : CaseOptions) : List Question → Type 0 where
+  selecting : (questions : List Question) → SelectsFirst needed options questions → AsksFirst needed options questions
+  preparing : (before : List Question) (picked : Picked) (told : List Told) → Selects needed options before (Ok picked)
+      → SurveysFirst (taken needed picked.chosen.cases) told → AsksFirst needed options (before ++ of_host told)
+
 -- how a command ends that memory or the store cut short
 pub data CutShort (seen : Seen) : Command → List ℕ → ℕ → Type 0 where
-  no_memory : (c : Command) (options : CaseOptions) → cases_of c ≡ Some options → IsAskedOnly seen → CutShort seen c (utf8 memory_line) 2
+  no_memory : (c : Command) (options : CaseOptions) → cases_of c ≡ Some options → AsksFirst (needs_case c) options seen.questions → IsAskedOnly seen
+      → CutShort seen c (utf8 memory_line) 2
   cut : (options : CaseOptions) (file : List ℕ) (picked : Picked) (moment : ℕ) (bytes : List ℕ) (exit : ℕ) → IsPrepared false options seen picked picked.chosen.cases (Now moment ∷ [])
       → TestCut seen.plan picked.settings.config.parallelism moment seen.trace seen.calls bytes exit
       → CutShort seen (command.Test options file) bytes exit

@@ -20,7 +20,7 @@ use Rattle.kt_plan.specs.declared.chosen.Chosen.{Chosen}
 use Rattle.kt_plan.specs.declared.settings.Settings.{Settings}
 use Rattle.kt_plan.specs.declared.stop.Stop.{Stop}
 use Rattle.kt_plan.specs.declared.stop.Stop.TheVariants as stop
-use Rattle.kt_plan.specs.Listings.{Loads}
+use Rattle.kt_plan.specs.Listings.{Loads, LoadsFirst}
 use Rattle.kt_plan.specs.Stops.{IsShort}
 use Rattle.kt_plan.specs.Told.{Told, Lists}
 
@@ -45,6 +45,11 @@ pub data ListsCases (config : Values) (program : Program) : List Told → List C
   listed : (listing : Listing) (cases : List CaseDef) → AreCases program.props Atf (Some listing) cases
       → ListsCases config program (Lists program (variables_for config program.suite) listing ∷ []) cases
 
+-- the first question for them, where memory ran out: the list is asked for, or not yet
+pub data ListsFirst (config : Values) (program : Program) : List Told → Type 0 where
+  before_list : ListsFirst config program []
+  after_list : (listing : Listing) → ListsFirst config program (Lists program (variables_for config program.suite) listing ∷ [])
+
 -- the cases of a program: an ATF program that is wanted is asked for its list, and one that isn't has none here; the others have the
 -- case `main`
 pub data OffersOne (config : Values) (filters : List Filter) (program : Program) : List Told → List Candidate → Type 0 where
@@ -59,6 +64,14 @@ pub data Offers (config : Values) (filters : List Filter) : List Program → Lis
   none : Offers config filters [] [] []
   one_and : (program : Program) (programs : List Program) (told more : List Told) (own others : List Candidate) → OffersOne config filters program told own
       → Offers config filters programs more others → Offers config filters (program ∷ programs) (told ++ more) (own ++ others)
+
+-- the first questions for them: the programs that are wanted are asked for their lists in order, up to some place
+pub data OffersFirst (config : Values) (filters : List Filter) : List Program → List Told → Type 0 where
+  no_further : (programs : List Program) → OffersFirst config filters programs []
+  asks : (program : Program) (programs : List Program) (listing : Listing) (told : List Told) → program.interface ≡ Atf → IsWanted filters program
+      → OffersFirst config filters programs told → OffersFirst config filters (program ∷ programs) (Lists program (variables_for config program.suite) listing ∷ told)
+  passes : (program : Program) (programs : List Program) (told : List Told) → (program.interface ≡ Atf → IsWanted filters program → ⊥)
+      → OffersFirst config filters programs told → OffersFirst config filters (program ∷ programs) told
 
 -- a case as filters see it
 abbrev pub item_of : Candidate → Item
@@ -84,11 +97,21 @@ pub data Collects (settings : Settings) (kyuafile : List ℕ) : List Asked → L
       → Offers settings.config settings.filters programs told found → length found ≤ most_items
       → Collects settings kyuafile asked told (Ok (chosen_of settings.filters found))
 
--- a world was asked for the tree and then for the lists: what came of it, or memory ran out
+-- the first questions for the selected cases, where memory ran out: to the tree, and then for the lists
+pub data CollectsFirst (settings : Settings) (kyuafile : List ℕ) : List Asked → List Told → Type 0 where
+  loading : (asked : List Asked) → LoadsFirst kyuafile asked → CollectsFirst settings kyuafile asked []
+  offering : (asked : List Asked) (told : List Told) (programs : List Program) → Loads kyuafile asked (Ok programs)
+      → OffersFirst settings.config settings.filters programs told → CollectsFirst settings kyuafile asked told
+
+-- the selected cases, or memory ran out after the first questions for them
+abbrev pub CollectsOrShort : Settings → List ℕ → List Asked → List Told → Result Chosen Stop → Type 0
+CollectsOrShort settings kyuafile asked told result = (IsShort result × CollectsFirst settings kyuafile asked told) ⊎ Collects settings kyuafile asked told result
+
+-- a world was asked for the tree and then for the lists, and this came of it
 pub record Collected {W : Type 0} (asks : W → Asked → W → Type 0) (tells : W → Told → W → Type 0) (settings : Settings) (kyuafile : List ℕ) (old new : W) (result : Result Chosen Stop) : Type 0 where
   pub asked : List Asked
   pub told : List Told
   pub loaded : W
   pub chain : Chain asks old asked loaded
   pub lists : Chain tells loaded told new
-  pub holds : IsShort result ⊎ Collects settings kyuafile asked told result
+  pub holds : CollectsOrShort settings kyuafile asked told result

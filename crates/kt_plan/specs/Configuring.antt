@@ -1,5 +1,5 @@
 -- What a command over test cases is configured with, and which filters it has: the first step.
-use Rattle.std.specs.Prelude.{ℕ, Bool, true, false, not, ◌≡◌, ◌<◌, ◌&&◌, List, [], ◌∷◌, ◌++◌, Option, Some, None, Result, Ok, Err, is_some, slice_get}
+use Rattle.std.specs.Prelude.{ℕ, Bool, true, false, not, ◌≡◌, ◌<◌, ◌&&◌, ◌⊎◌, List, [], ◌∷◌, ◌++◌, Option, Some, None, Result, Ok, Err, is_some, slice_get}
 use Rattle.kt_base.specs.Texts.{before, after}
 use Rattle.kt_script.specs.Spelling.{Spells}
 use Rattle.kt_script.specs.declared.syntax.Stmt.{Stmt}
@@ -21,6 +21,7 @@ use Rattle.kt_plan.specs.declared.case_options.CaseOptions.{CaseOptions}
 use Rattle.kt_plan.specs.declared.settings.Settings.{Settings}
 use Rattle.kt_plan.specs.declared.stop.Stop.{Stop}
 use Rattle.kt_plan.specs.declared.stop.Stop.TheVariants as stop
+use Rattle.kt_plan.specs.Stops.{IsShort}
 use Rattle.kt_plan.specs.Told.{Told, ReadConfig}
 
 -- ---- words in order
@@ -174,3 +175,16 @@ pub data Settles (needs_case : Bool) (options : CaseOptions) (told : List Told) 
       → Settles needs_case options told (Err fault)
   settled : (definitions : List Definition) (settings : Settings) → Configures options told (Ok definitions) → Holds settings.config definitions
       → Filters needs_case options.filters (Ok settings.filters) → Settles needs_case options told (Ok settings)
+
+-- the first questions for the configuration file: it is asked for, or not yet
+pub data ReadsFirst : Option (List ℕ) → List Told → Type 0 where
+  before_file : (path : Option (List ℕ)) → ReadsFirst path []
+  after_file : (path : List ℕ) (answer : Result (List ℕ) ReadFault) → ReadsFirst (Some path) (ReadConfig path answer ∷ [])
+
+-- this holds of what was asked, or memory ran out after the first questions
+abbrev pub OrShort : {T : Type 0} → Result T Stop → Option (List ℕ) → List Told → Type 0 → Type 0
+OrShort result path told fact = (IsShort result × ReadsFirst path told) ⊎ fact
+
+-- the settings, or memory ran out
+abbrev pub SettlesOrShort : Bool → CaseOptions → List Told → Result Settings Stop → Type 0
+SettlesOrShort needs_case options told result = OrShort result options.config told (Settles needs_case options told result)

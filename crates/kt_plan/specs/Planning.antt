@@ -21,6 +21,7 @@ use Rattle.kt_plan.specs.declared.candidate.Candidate.{Candidate}
 use Rattle.kt_plan.specs.declared.required.Required.{Required}
 use Rattle.kt_plan.specs.declared.required.Required.TheVariants.{File, Program}
 use Rattle.kt_plan.specs.Collecting.{variables_for}
+use Rattle.kt_plan.specs.Questions.{AreFirst}
 use Rattle.kt_plan.specs.Told.{Told, FindsFile, FindsProgram, IsRoot, HasMemory, HasDisk}
 
 -- the effective properties of a case
@@ -77,6 +78,15 @@ pub record Surveys (candidates : List Candidate) (told : List Told) (host : Host
   pub all : LooksForAll candidates looked
   pub files : (path : List ℕ) → contains_text host.files (utf8 path) ≡ list_any (finds_file path) looked
   pub programs : (name : List ℕ) → contains_text host.programs (utf8 name) ≡ list_any (finds_program name) looked
+
+-- the first questions to the host, where memory ran out: those for files and programs come last
+pub record SurveysFirst (candidates : List Candidate) (told : List Told) : Type 0 where
+  pub root : Bool
+  pub memory : Option ℕ
+  pub disk : Option ℕ
+  pub looked : List Told
+  pub asked : told ≡ IsRoot root ∷ HasMemory memory ∷ HasDisk disk ∷ looked
+  pub first : AreFirst (LooksForAll candidates) looked
 
 -- an interface has cleanups
 abbrev pub is_atf : Interface → Bool

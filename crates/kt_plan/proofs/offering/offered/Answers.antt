@@ -1,20 +1,23 @@
 use Rattle.std.proofs.Common.{rules, ◌≡◌, ◌∷◌}
 use Rattle.std.proofs.lemmas.Result.{err_from_is_err_and}
-use Rattle.kt_plan.proofs.Chains.{chain_short}
-use Rattle.kt_plan.proofs.OfferLaws.{offers_next, offers_all}
+use Rattle.kt_plan.proofs.Chains.{asked_short}
+use Rattle.kt_plan.proofs.OfferLaws.{first_offered, offers_next, offers_all, offers_stopped}
 use Rattle.kt_plan.proofs.offering.offered.Goals as goal
 
 pub returns-in_err-cases-clause-offers : goal.returns-in_err-cases-clause-offers
 returns-in_err-cases-clause-offers g c =
     let p = err_from_is_err_and c.from_residual.result c.from_residual.ensures.1 in
-    let o = c.loop-program.invariant.offering in
-    chain_short g.W.World.tells c.args.world.now c.loop-program.world c.own_cases.new.world o.told _ _ c.from_residual.result p.0 o.chain c.own_cases.ensures.offers p.1
+    let e : c.loop-program.rest.now ≡ c.in-Some.program.now ∷ c.in-Some.after.now = search rules in
+    asked_short g.W.World.tells c.args.world.now c.own_cases.new.world _ _ c.from_residual.result p.0 p.1
+    (offers_stopped g.W.World.tells c.args.settings.now.config c.args.settings.now.filters c.args.programs.now c.args.world.now c.loop-program.rest.now c.in-Some.after.now c.in-Some.program.now c.loop-program.world c.own_cases.new.world c.loop-program.found e c.loop-program.invariant.offering c.in_err-cases.ensures.offers)
 
 pub returns-in_err-add_candidates-clause-offers : goal.returns-in_err-add_candidates-clause-offers
 returns-in_err-add_candidates-clause-offers g c =
     let p = err_from_is_err_and c.from_residual-in_err-add_candidates.result c.from_residual-in_err-add_candidates.ensures.1 in
-    let o = c.loop-program.invariant.offering in
-    chain_short g.W.World.tells c.args.world.now c.loop-program.world c.own_cases.new.world o.told _ _ c.from_residual-in_err-add_candidates.result p.0 o.chain c.own_cases.ensures.offers p.1
+    let e : c.loop-program.rest.now ≡ c.in-Some.program.now ∷ c.in-Some.after.now = search rules in
+    asked_short g.W.World.tells c.args.world.now c.own_cases.new.world _ _ c.from_residual-in_err-add_candidates.result p.0 p.1
+    (offers_stopped g.W.World.tells c.args.settings.now.config c.args.settings.now.filters c.args.programs.now c.args.world.now c.loop-program.rest.now c.in-Some.after.now c.in-Some.program.now c.loop-program.world c.own_cases.new.world c.loop-program.found e c.loop-program.invariant.offering
+    (first_offered g.W.World.tells c.args.settings.now.config c.args.settings.now.filters c.in-Some.program.now c.loop-program.world c.own_cases.new.world _ c.in_ok-cases.ensures.offers))
 
 pub loop-program-preserved : goal.loop-program-preserved
 loop-program-preserved g c =
