@@ -130,8 +130,11 @@ module _ {W Z : Type 0} (tells : W → Told → W → Type 0) (question : List �
       record {
         asked = l.told ++ a.asked;
         chain = chain-append tells l.told a.asked old mid new l.chain a.chain;
-        holds = (a.holds.0 ++ others.0, subst (λ (ts : List Told). LooksFor question names ts) (rejoined l.told a.asked a.holds.0 others.0)
-            (l.goes ((a.asked ++ a.holds.0) ++ others.0) (subst (λ (ns : List (List ℕ)). LooksFor question ns ((a.asked ++ a.holds.0) ++ others.0)) (sym e) (asks_more question name after (a.asked ++ a.holds.0) others.0 a.holds.1 others.1))));
+        holds = (
+          a.holds.0 ++ others.0,
+          subst (λ (ts : List Told). LooksFor question names ts) (rejoined l.told a.asked a.holds.0 others.0)
+              (l.goes ((a.asked ++ a.holds.0) ++ others.0) (subst (λ (ns : List (List ℕ)). LooksFor question ns ((a.asked ++ a.holds.0) ++ others.0)) (sym e) (asks_more question name after (a.asked ++ a.holds.0) others.0 a.holds.1 others.1))),
+        );
       }
 
   pub words_all : (rest : List (List ℕ)) (new : W) (now : BTreeSet (String Z)) → length rest ≡ 0 → Words rest new now → Answered tells old new (λ told. LooksFor question names told × Notes finds told was now)
@@ -241,8 +244,11 @@ module _ {W : Type 0} (tells : W → Told → W → Type 0) where
       record {
         asked = a.asked;
         chain = a.chain;
-        holds = (a.holds.0 ++ programs.0, subst (λ (ts : List Told). LooksForOne candidate ts) (append_assoc a.asked a.holds.0 programs.0)
-            (looked (a.asked ++ a.holds.0) programs.0 (none_of candidate.case.fault e) (subst (λ (ns : List (List ℕ)). LooksFor FindsFile ns (a.asked ++ a.holds.0)) p a.holds.1) programs.1));
+        holds = (
+          a.holds.0 ++ programs.0,
+          subst (λ (ts : List Told). LooksForOne candidate ts) (append_assoc a.asked a.holds.0 programs.0)
+              (looked (a.asked ++ a.holds.0) programs.0 (none_of candidate.case.fault e) (subst (λ (ns : List (List ℕ)). LooksFor FindsFile ns (a.asked ++ a.holds.0)) p a.holds.1) programs.1),
+        );
       }
 
   -- or at its programs
@@ -252,9 +258,12 @@ module _ {W : Type 0} (tells : W → Told → W → Type 0) where
   programs_stopped candidate old mid new paths names files there e p n a b = record {
     asked = a.asked ++ b.asked;
     chain = chain-append tells a.asked b.asked old mid new a.chain b.chain;
-    holds = (b.holds.0, subst (λ (ts : List Told). LooksForOne candidate ts) (sym (append_assoc a.asked b.asked b.holds.0))
-        (looked a.asked (b.asked ++ b.holds.0) (none_of candidate.case.fault e) (subst (λ (ns : List (List ℕ)). LooksFor FindsFile ns a.asked) p a.holds.0)
-        (subst (λ (ns : List (List ℕ)). LooksFor FindsProgram ns (b.asked ++ b.holds.0)) n b.holds.1)));
+    holds = (
+      b.holds.0,
+      subst (λ (ts : List Told). LooksForOne candidate ts) (sym (append_assoc a.asked b.asked b.holds.0))
+          (looked a.asked (b.asked ++ b.holds.0) (none_of candidate.case.fault e) (subst (λ (ns : List (List ℕ)). LooksFor FindsFile ns a.asked) p a.holds.0)
+          (subst (λ (ns : List (List ℕ)). LooksFor FindsProgram ns (b.asked ++ b.holds.0)) n b.holds.1)),
+    );
   }
 
   module _ (cases : List Candidate) (old : W) (was owned : BTreeSet (String Global)) where
@@ -288,8 +297,11 @@ module _ {W : Type 0} (tells : W → Told → W → Type 0) where
         record {
           asked = l.told ++ a.asked;
           chain = chain-append tells l.told a.asked old mid new l.chain a.chain;
-          holds = (a.holds.0 ++ others.0, subst (λ (ts : List Told). LooksForAll cases ts) (rejoined l.told a.asked a.holds.0 others.0)
-              (l.goes ((a.asked ++ a.holds.0) ++ others.0) (subst (λ (cs : List Candidate). LooksForAll cs ((a.asked ++ a.holds.0) ++ others.0)) (sym e) (one_and candidate after (a.asked ++ a.holds.0) others.0 a.holds.1 others.1))));
+          holds = (
+            a.holds.0 ++ others.0,
+            subst (λ (ts : List Told). LooksForAll cases ts) (rejoined l.told a.asked a.holds.0 others.0)
+                (l.goes ((a.asked ++ a.holds.0) ++ others.0) (subst (λ (cs : List Candidate). LooksForAll cs ((a.asked ++ a.holds.0) ++ others.0)) (sym e) (one_and candidate after (a.asked ++ a.holds.0) others.0 a.holds.1 others.1))),
+          );
         }
 
     pub cases_all : (rest : List Candidate) (new : W) (files programs : BTreeSet (String Global)) → length rest ≡ 0 → Cases rest new files programs

@@ -20,7 +20,7 @@ use std::alloc::Global;
 /// Why a tree that was refused stops a command.
 fn tree_stop(fault: SuiteFault) -> Stop
     ensures { ((refusal : OutOfMemory) × (result ≡ stop.NoMemory refusal)
-            × (fault.cause ≡ SuiteCause.NoMemory refusal))
+        × (fault.cause ≡ SuiteCause.NoMemory refusal))
         ⊎ ((result ≡ stop.Tree fault) × (IsNoMemory fault → ⊥)) }
 {
     match fault.cause {

@@ -41,7 +41,7 @@ fn look_for_word<W: World>(
 ) -> Result<(), NoMemory>
     ensures { Answered W.tells world.old world.new (λ told. MatchResult result
         (λ _. LooksFor (question_of required) (word.now ∷ []) told
-            × Notes (finds_of required) told found.old found.new)
+        × Notes (finds_of required) told found.old found.new)
         (λ _. AreFirst (LooksFor (question_of required) (word.now ∷ [])) told)) }
 {
     if !is_found(required, word, world) {
@@ -60,7 +60,7 @@ fn look_for_words<W: World>(
 ) -> Result<(), NoMemory>
     ensures { Answered W.tells world.old world.new (λ told. MatchResult result
         (λ _. LooksFor (question_of required) words.now told
-            × Notes (finds_of required) told found.old found.new)
+        × Notes (finds_of required) told found.old found.new)
         (λ _. AreFirst (LooksFor (question_of required) words.now) told)) }
 {
     let mut rest = words;
@@ -80,8 +80,8 @@ fn look_for_case<W: World>(
 ) -> Result<(), NoMemory>
     ensures { Answered W.tells world.old world.new (λ told. MatchResult result
         (λ _. LooksForOne candidate.now told
-            × Notes finds_file told files.old files.new
-            × Notes finds_program told programs.old programs.new)
+        × Notes finds_file told files.old files.new
+        × Notes finds_program told programs.old programs.new)
         (λ _. AreFirst (LooksForOne candidate.now) told)) }
 {
     if candidate.case.fault.is_some() {
@@ -107,8 +107,8 @@ pub fn look_for_all<W: World>(
 ) -> Result<(), NoMemory>
     ensures { Answered W.tells world.old world.new (λ told. MatchResult result
         (λ _. LooksForAll cases.now told
-            × Notes finds_file told files.old files.new
-            × Notes finds_program told programs.old programs.new)
+        × Notes finds_file told files.old files.new
+        × Notes finds_program told programs.old programs.new)
         (λ _. AreFirst (LooksForAll cases.now) told)) }
 {
     let mut rest = cases;

@@ -43,7 +43,7 @@ fn own_cases<W: World>(
     requires { IsIdle (W.running world.old) (W.pending world.old) }
     ensures offers { Answered W.tells world.old world.new (λ told. MatchResult result
         (λ cases. OffersOne settings.now.config settings.now.filters program.now told
-            (candidates_of program.now cases))
+        (candidates_of program.now cases))
         (λ _. OffersFirst settings.now.config settings.now.filters (program.now ∷ []) told)) }
     ensures idle { IsIdle (W.running world.new) (W.pending world.new) }
 {

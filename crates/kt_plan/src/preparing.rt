@@ -26,9 +26,9 @@ pub fn prepare<W: World>(
     requires idle { IsIdle (W.running world.old) (W.pending world.old) }
     ensures planned { Answered W.tells world.old world.new
         (λ told. MatchResult result
-            (λ plan. (host : Surveyed) × Surveys cases.now told host
-                × ArePlanned config.now host 0 cases.now plan)
-            (λ _. SurveysFirst cases.now told)) }
+        (λ plan. (host : Surveyed) × Surveys cases.now told host
+        × ArePlanned config.now host 0 cases.now plan)
+        (λ _. SurveysFirst cases.now told)) }
     ensures plan { IfOk result (λ plan. IsPlan plan × (length plan ≡ length cases.now)) }
     ensures idle { IsIdle (W.running world.new) (W.pending world.new) }
 {

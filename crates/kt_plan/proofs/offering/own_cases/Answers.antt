@@ -22,8 +22,8 @@ returns-in_err-found-in-Atf-clause-offers g c =
 
 pub returns-in_err-found-in_default-clause-offers : goal.returns-in_err-found-in_default-clause-offers
 returns-in_err-found-in_default-clause-offers g c =
-    let p = err_from_is_err_and c.from_residual-in_default.result c.from_residual-in_default.ensures.1 in
-    asked_short g.W.World.tells c.args.world.now c.args.world.now _ _ c.from_residual-in_default.result p.0 p.1 (asked_nothing g.W.World.tells c.args.world.now _ (no_further _))
+    let p = err_from_is_err_and c.from_residual-in_err-found-in_default.result c.from_residual-in_err-found-in_default.ensures.1 in
+    asked_short g.W.World.tells c.args.world.now c.args.world.now _ _ c.from_residual-in_err-found-in_default.result p.0 p.1 (asked_nothing g.W.World.tells c.args.world.now _ (no_further _))
 
 pub returns-in_ok-found-in-Atf-clause-offers : goal.returns-in_ok-found-in-Atf-clause-offers
 returns-in_ok-found-in-Atf-clause-offers g c =
