@@ -6,7 +6,7 @@ use Rattle.std.specs.Str.{chars}
 use Rattle.std.proofs.lemmas.Bool.{false≢true}
 use Rattle.std.specs.Option.{option_or}
 use Rattle.kt_claim.specs.TapStream.{is_bail, plan, count, heard, skip_reason}
-use Rattle.kt_claim.specs.inner.TapReading.{one, first, has_second}
+use Rattle.kt_claim.specs.Inner.TapReading.{one, first, has_second}
 use Rattle.kt_claim.proofs.Truth.{or_left, or_right, or_assoc, or_false}
 
 pub no_reason : chars (codes "No reason given") ≡ codes "No reason given"

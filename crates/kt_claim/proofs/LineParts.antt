@@ -5,7 +5,7 @@ use Rattle.std.proofs.lemmas.Bool.{le-ltb, ne_eqb}
 use Rattle.std.proofs.lemmas.List.{length-append}
 use Rattle.kt_base.specs.Digits.{is_digit, decimal_from}
 use Rattle.kt_claim.specs.Bytes.{is_blank}
-use Rattle.kt_claim.specs.inner.LineStates.{nothing, planning, after_opening, opened}
+use Rattle.kt_claim.specs.Inner.LineStates.{nothing, planning, after_opening, opened}
 use Rattle.kt_claim.specs.TapStream.{below_limit, trimmed, begins, front, past, ends_plan, planned_from, directive_in, skips, plan_for}
 use Rattle.kt_claim.specs.declared.opening.Opening.{Opening}
 use Rattle.kt_claim.proofs.Truth.{and_false}

@@ -5,8 +5,8 @@ use Rattle.std.proofs.lemmas.List.{append-nil, length-append}
 use Rattle.kt_base.specs.Lines.{is_newline}
 use Rattle.kt_base.specs.Lines.{lines, onto}
 use Rattle.kt_claim.specs.TapStream.{limit, without_return, trimmed, tap_of_lines, lines_of}
-use Rattle.kt_claim.specs.inner.LineStates.{LineState, held_before, facts_of, facts_of_kind, facts_with, is_reason, KeepsFor, Knows}
-use Rattle.kt_claim.specs.inner.TapReading.{IsTally, HasLines}
+use Rattle.kt_claim.specs.Inner.LineStates.{LineState, held_before, facts_of, facts_of_kind, facts_with, is_reason, KeepsFor, Knows}
+use Rattle.kt_claim.specs.Inner.TapReading.{IsTally, HasLines}
 use Rattle.kt_claim.specs.declared.tally.Tally.{Tally}
 use Rattle.kt_claim.specs.declared.tap.Tap.{Tap}
 use Rattle.kt_claim.specs.declared.begun.Begun.{Begun}

@@ -3,7 +3,7 @@ use Rattle.std.proofs.Common.{◌≡◌, ℕ, Bool, true, false, eqb, List, [], 
 use Rattle.std.proofs.lemmas.Bool.{false≢true}
 use Rattle.std.proofs.lemmas.List.{append-nil}
 use Rattle.kt_claim.specs.Bytes.{is_blank}
-use Rattle.kt_claim.specs.inner.LineStates.{facts_of, planning, facts_with, is_kept, is_decided, is_reason, KeepsIf, KeepsFor, Knows, Released}
+use Rattle.kt_claim.specs.Inner.LineStates.{facts_of, planning, facts_with, is_kept, is_decided, is_reason, KeepsIf, KeepsFor, Knows, Released}
 use Rattle.kt_claim.specs.TapStream.{without_return, past, trimmed, skip_reason}
 use Rattle.kt_claim.specs.declared.begun.Begun.{Begun}
 use Rattle.kt_claim.specs.declared.begun.Begun.TheVariants as begun

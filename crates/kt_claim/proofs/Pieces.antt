@@ -6,8 +6,8 @@ use Rattle.std.proofs.lemmas.Bool.{eqb-true}
 use Rattle.std.proofs.lemmas.List.{append-nil, length-append, nil_from_length, take-append-drop}
 use Rattle.kt_base.specs.Lines.{is_newline}
 use Rattle.kt_claim.specs.TapStream.{limit}
-use Rattle.kt_claim.specs.inner.LineStates.{LineState}
-use Rattle.kt_claim.specs.inner.TapReading.{HasLines}
+use Rattle.kt_claim.specs.Inner.LineStates.{LineState}
+use Rattle.kt_claim.specs.Inner.TapReading.{HasLines}
 use Rattle.kt_claim.specs.declared.tally.Tally.{Tally}
 
 -- ---- the first line of a piece

@@ -7,7 +7,7 @@ use Rattle.kt_base.specs.Lossy.{lossy}
 use Rattle.kt_base.specs.Lines.{is_newline}
 use Rattle.kt_claim.specs.Bytes.{newline}
 use Rattle.kt_claim.specs.ResultFile.{IsReason, with_reason, Says, has_reason}
-use Rattle.kt_claim.specs.inner.ResultReading.{reason_in, with_reason_in}
+use Rattle.kt_claim.specs.Inner.ResultReading.{reason_in, with_reason_in}
 use Rattle.kt_claim.specs.declared.claim.Claim.{Claim}
 use Rattle.kt_claim.specs.declared.claim.Claim.TheVariants as claim
 use Rattle.kt_claim.specs.declared.claim_fault.ClaimFault.{ClaimFault}

@@ -3,10 +3,10 @@ use Rattle.std.proofs.Common.{◌≡◌, ℕ, ◌+◌, ◌<◌, ◌^◌, Bool, t
 use Rattle.std.specs.Prelude.{◌&&◌, ◌||◌, is_some, IfOk}
 use Rattle.std.specs.List.{list_any, filter_map}
 use Rattle.std.proofs.lemmas.List.{append-nil}
-use Rattle.kt_claim.specs.inner.LineStates.{Facts, facts_of, nothing, bailing, testing, planning}
+use Rattle.kt_claim.specs.Inner.LineStates.{Facts, facts_of, nothing, bailing, testing, planning}
 use Rattle.std.specs.Option.{option_or}
 use Rattle.kt_claim.specs.TapStream.{is_bail, is_test, is_unexcused, plan, count, heard, tap_of_lines}
-use Rattle.kt_claim.specs.inner.TapReading.{IsTally, one, first, has_second, with_plan}
+use Rattle.kt_claim.specs.Inner.TapReading.{IsTally, one, first, has_second, with_plan}
 use Rattle.kt_claim.specs.declared.tally.Tally.{Tally}
 use Rattle.kt_claim.proofs.Truth.{or_false}
 use Rattle.kt_claim.proofs.Counts.{any-snoc, heard_none, heard_bail, heard_more, heard-le, count-snoc, count-le, plans-snoc, first-snoc, second-snoc}

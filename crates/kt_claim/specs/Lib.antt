@@ -1,6 +1,6 @@
 pub mod Bytes
 pub mod ClaimReading
+pub mod Inner
 pub mod ResultFile
 pub mod StreamReading
 pub mod TapStream
-pub mod inner

@@ -2,8 +2,8 @@
 use Rattle.std.specs.Prelude.{◌≡◌, ℕ, ◌<◌, ◌≤◌, ◌⊎◌, Bool, true, false, List, [], ◌++◌, length, Some}
 use Rattle.kt_base.specs.Lines.{lines}
 use Rattle.kt_claim.specs.TapStream.{limit, without_return, trimmed, skip_reason, plan}
-use Rattle.kt_claim.specs.inner.LineStates.{LineState, held_before}
-use Rattle.kt_claim.specs.inner.TapReading.{HasLines}
+use Rattle.kt_claim.specs.Inner.LineStates.{LineState, held_before}
+use Rattle.kt_claim.specs.Inner.TapReading.{HasLines}
 use Rattle.kt_claim.specs.declared.tally.Tally.{Tally}
 
 -- counts of the whole lines, and what is kept of the open line

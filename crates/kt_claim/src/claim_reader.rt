@@ -38,7 +38,7 @@ impl ClaimReader {
     ghost use Rattle.std.specs.Prelude.{◌≤◌, length, ◌≡◌, ℕ, List, [], ◌++◌, true, IfOk, OnOk, OnErr, IsErr};
     ghost use Rattle.kt_claim.specs.ClaimReading.{HasRead};
     ghost use Rattle.kt_claim.specs.ResultFile.{limit, IsClaimOf};
-    ghost use Rattle.kt_claim.specs.inner.ResultReading.{claim_of};
+    ghost use Rattle.kt_claim.specs.Inner.ResultReading.{claim_of};
     ghost use Rattle.kt_claim.specs.declared.claim.Claim.{Claim};
 
     pub fn new(alloc: Global) -> Self

@@ -2,7 +2,7 @@
 
 ghost use Rattle.std.specs.Prelude.{◌≡◌, None, [], ℕ, List, false, true};
 ghost use Rattle.kt_claim.specs.TapStream.{trimmed};
-ghost use Rattle.kt_claim.specs.inner.LineStates.{after_opening, directed, facts_of_kind, facts_with, is_reason};
+ghost use Rattle.kt_claim.specs.Inner.LineStates.{after_opening, directed, facts_of_kind, facts_with, is_reason};
 
 use crate::begun::Begun;
 use crate::line_kind::LineKind;

@@ -1,7 +1,7 @@
 //! The parts in which a line comes.
 
 ghost use Rattle.std.specs.Prelude.{◌≡◌, ◌∷◌, ◌++◌, ℕ, List, [], IfOk, OnOk};
-ghost use Rattle.kt_claim.specs.inner.LineStates.{facts_with, is_kept, is_decided, KeepsFor, Knows, Released};
+ghost use Rattle.kt_claim.specs.Inner.LineStates.{facts_with, is_kept, is_decided, KeepsFor, Knows, Released};
 
 use crate::begun::Begun;
 use crate::line_steps::{is_blank, step};

@@ -5,7 +5,7 @@ ghost use Rattle.std.specs.Prelude.{true, ◌<◌, ◌^◌, ◌-◌};
 ghost use Rattle.kt_base.specs.Digits.{is_digit};
 ghost use Rattle.kt_claim.specs.Bytes.{is_blank};
 ghost use Rattle.kt_claim.specs.TapStream.{directive_in, planned_from, below_limit, reason_of, skips, plan_for};
-ghost use Rattle.kt_claim.specs.inner.LineStates.{facts_of, planning, after_opening, opened, directed, begun_directive, facts_with, is_kept, is_reason, next_letter, with_letter};
+ghost use Rattle.kt_claim.specs.Inner.LineStates.{facts_of, planning, after_opening, opened, directed, begun_directive, facts_with, is_kept, is_reason, next_letter, with_letter};
 
 use crate::begun::Begun;
 use crate::letters::Letters;

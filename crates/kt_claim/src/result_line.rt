@@ -3,7 +3,7 @@
 ghost use Rattle.std.specs.Prelude.{◌≡◌, ◌≤◌, ◌<◌, length, IfOk, IfSome, MatchOption, option_map};
 ghost use Rattle.std.specs.List.{prefix_len};
 ghost use Rattle.kt_claim.specs.Bytes.{is_word_byte};
-ghost use Rattle.kt_claim.specs.inner.ResultReading.{value_of, number_in, reason_in, with_reason_in, with_number_in, numbered, claim_with, after_bracket, plainly, claim_after, claim_of_line};
+ghost use Rattle.kt_claim.specs.Inner.ResultReading.{value_of, number_in, reason_in, with_reason_in, with_number_in, numbered, claim_with, after_bracket, plainly, claim_after, claim_of_line};
 
 use crate::claim::Claim;
 use crate::claim_fault::ClaimFault;
@@ -36,7 +36,7 @@ fn value_of(digits: &[u8]) -> Option<u8>
 }
 
 /// The number after a bracket, and what follows the closing bracket.
-#[tactic(auto, unfolding(crate::specs::inner::ResultReading::number_in))]
+#[tactic(auto, unfolding(crate::specs::Inner::ResultReading::number_in))]
 fn number(rest: &[u8]) -> Option<(u8, &[u8])>
     ensures { option_map (λ x. (x.0, x.1.now)) result ≡ number_in rest.now }
 {
@@ -130,7 +130,7 @@ fn claim_after(alloc: Global, word: Word, rest: &[u8]) -> Result<Claim, NoMemory
 }
 
 /// The claim of a line.
-#[tactic(auto, unfolding(crate::specs::inner::ResultReading::claim_of_line))]
+#[tactic(auto, unfolding(crate::specs::Inner::ResultReading::claim_of_line))]
 pub fn claim_of_line(alloc: Global, text: &[u8]) -> Result<Claim, NoMemory>
     ensures { IfOk result (λ claim. claim ≡ claim_of_line text.now) }
 {

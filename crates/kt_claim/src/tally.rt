@@ -1,7 +1,7 @@
 ghost use Rattle.std.specs.Prelude.{◌≡◌, ◌<◌, ◌^◌, ◌++◌, [], ◌∷◌, ℕ, List, true, false, length, IfOk};
 ghost use Rattle.std.specs.Prelude.{◌+◌};
 ghost use Rattle.kt_claim.specs.TapStream.{skip_reason, why, tap_of_lines};
-ghost use Rattle.kt_claim.specs.inner.LineStates.{facts_of, facts_of_kind};
+ghost use Rattle.kt_claim.specs.Inner.LineStates.{facts_of, facts_of_kind};
 
 use crate::line_kind::LineKind;
 use crate::tap::Tap;
@@ -48,7 +48,7 @@ fn one_more(n: u64) -> u64
 }
 
 impl Tally {
-    ghost use Rattle.kt_claim.specs.inner.TapReading.{IsTally, with_plan};
+    ghost use Rattle.kt_claim.specs.Inner.TapReading.{IsTally, with_plan};
 
     pub fn new() -> Tally
         ensures { IsTally result [] }

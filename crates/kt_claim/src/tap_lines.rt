@@ -4,7 +4,7 @@ ghost use Rattle.std.specs.Prelude.{◌≡◌, ◌<◌, ◌≤◌, ◌+◌, ◌+
 ghost use Rattle.std.specs.List.{list_any};
 ghost use Rattle.kt_base.specs.Lines.{is_newline};
 ghost use Rattle.kt_claim.specs.TapStream.{limit, tap_of_lines, lines_of};
-ghost use Rattle.kt_claim.specs.inner.TapReading.{state_of, HasLines};
+ghost use Rattle.kt_claim.specs.Inner.TapReading.{state_of, HasLines};
 ghost use Rattle.kt_claim.specs.declared.tally.Tally.{Tally};
 
 use crate::begun::Begun;

@@ -30,7 +30,7 @@ pub struct TapReader {
 impl Model for TapReader {
     ghost use Rattle.std.specs.Prelude.{◌≤◌, is_some};
     ghost use Rattle.kt_claim.specs.StreamReading.{StreamReading};
-    ghost use Rattle.kt_claim.specs.inner.TapReading.{state_of};
+    ghost use Rattle.kt_claim.specs.Inner.TapReading.{state_of};
     ghost use Rattle.kt_claim.specs.TapStream.{limit};
 
     ghost Value = { StreamReading };

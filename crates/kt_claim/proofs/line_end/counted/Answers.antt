@@ -1,5 +1,5 @@
 use Rattle.std.proofs.Common.{ℕ, Option, [], ap, sym, ◌∙◌}
-use Rattle.kt_claim.specs.inner.LineStates.{facts_with}
+use Rattle.kt_claim.specs.Inner.LineStates.{facts_with}
 use Rattle.kt_claim.specs.declared.begun.Begun.TheVariants.{Digits}
 use Rattle.kt_claim.proofs.line_end.counted.Goals as goal
 

@@ -1,5 +1,5 @@
 use Rattle.std.proofs.Common.{[], ap, sym, ◌∙◌}
-use Rattle.kt_claim.specs.inner.LineStates.{facts_with}
+use Rattle.kt_claim.specs.Inner.LineStates.{facts_with}
 use Rattle.kt_claim.specs.declared.begun.Begun.{Begun}
 use Rattle.kt_claim.proofs.line_end.ended.Goals as goal
 

@@ -2,7 +2,7 @@
 use Rattle.std.specs.Prelude.{◌≡◌, ℕ, ◌+◌, ◌≤◌, Bool, true, false, if◌then◌else◌, List, [], ◌∷◌, ◌++◌, map, length, Option, Some, None, is_some}
 use Rattle.std.specs.List.{list_any, filter_map}
 use Rattle.kt_base.specs.Lines.{is_newline}
-use Rattle.kt_claim.specs.inner.LineStates.{LineState, Knows}
+use Rattle.kt_claim.specs.Inner.LineStates.{LineState, Knows}
 use Rattle.kt_base.specs.Lines.{lines}
 use Rattle.kt_claim.specs.TapStream.{is_bail, is_test, is_unexcused, plan, count, heard, without_return}
 use Rattle.kt_claim.specs.declared.open_line.OpenLine.{OpenLine}
