@@ -7,6 +7,7 @@ pub mod Tokens
 pub mod Grammar
 pub mod Automaton
 pub mod Faults
+pub mod FaultWords
 pub mod Places
 pub mod Reading
 pub mod Spelling
