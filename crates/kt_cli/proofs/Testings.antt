@@ -11,7 +11,8 @@ use Rattle.kt_sched.specs.declared.job.Job.{Job}
 use Rattle.kt_sched.specs.declared.start_answer.StartAnswer.{StartAnswer}
 use Rattle.kt_sched.specs.declared.ended.Ended.{Ended}
 use Rattle.kt_store.specs.StoreCalls.{StoreCall}
-use Rattle.kt_suite.specs.Answers.{Asked, Chain, Answered}
+use Rattle.kt_base.specs.Chains.{Chain}
+use Rattle.kt_suite.specs.Answers.{Asked, Answered}
 use Rattle.kt_suite.specs.Selecting.{most_items}
 use Rattle.kt_plan.specs.declared.candidate.Candidate.{Candidate}
 use Rattle.kt_plan.specs.declared.case_options.CaseOptions.{CaseOptions}
@@ -44,7 +45,8 @@ use Rattle.kt_plan.specs.Told.{Told, Now}
 use Rattle.kt_cli.specs.Warnings.{warnings}
 use Rattle.kt_cli.proofs.Saying.{tells_both}
 use Rattle.kt_cli.proofs.StoreChains.{stored_none, stored_as}
-use Rattle.kt_plan.proofs.QuestionChains.{chain_both, chain_of_host}
+use Rattle.kt_base.proofs.Chains.{chain-append}
+use Rattle.kt_plan.proofs.QuestionChains.{chain_of_host}
 
 -- the same answer in other words
 pub debugged_as : {L : Type 0} (starts : L → Job → Role → StartAnswer → L → Type 0) (waits : L → Ended → L → Type 0) (plan : List Job) (old new : L) (was now : Option (List ℕ)) (failed : Bool) (answer other : Result Totals RunFault) → answer ≡ other
@@ -78,10 +80,10 @@ module _ {W : Type 0} (asks : W → Asked → W → Type 0) (tells : W → Told 
   idle_told running pending d e mid new m t j = record { runs = λ k r. d mid new m t k r ∙ j.runs k r; pends = λ k. e mid new m t k ∙ j.pends k }
 
   -- nothing was started
-  course_of : (questions : List Question) (old new : W) → Chain (leads_by asks tells) questions old new → Course asks tells starts waits (asked_only questions) old new
+  course_of : (questions : List Question) (old new : W) → Chain (leads_by asks tells) old questions new → Course asks tells starts waits (asked_only questions) old new
   course_of questions old new p = record { begun = new; asked = p; ran = refl }
 
-  told_only : (c : Command) (old new : W) (was now : Option (List ℕ)) (exit : ℕ) (questions : List Question) (bytes : List ℕ) (due : ℕ) → Chain (leads_by asks tells) questions old new
+  told_only : (c : Command) (old new : W) (was now : Option (List ℕ)) (exit : ℕ) (questions : List Question) (bytes : List ℕ) (due : ℕ) → Chain (leads_by asks tells) old questions new
       → Means (asked_only questions) c bytes due ⊎ CutShort (asked_only questions) c bytes due
       → Printed was now exit bytes due → ToldOnly asks tells starts waits c old new was now exit
   told_only c old new was now exit questions bytes due p m q = record { seen = asked_only questions; course = course_of questions old new p; uncalled = refl; bytes = bytes; due = due; is = m; printed = q }
@@ -121,7 +123,7 @@ module _ {W : Type 0} (asks : W → Asked → W → Type 0) (tells : W → Told 
       → Answered (leads_by asks tells) old mid Holds → Answered tells mid new HoldsToo
       → Printed was now exit (utf8 memory_line) 2 → ToldOnly asks tells starts waits c old new was now exit
   short_only c options old mid new was now exit Holds HoldsToo e a b p =
-      told_only c old new was now exit (a.asked ++ of_host b.asked) (utf8 memory_line) 2 (chain_both (leads_by asks tells) a.asked (of_host b.asked) old mid new a.chain (chain_of_host asks tells b.asked mid new b.chain))
+      told_only c old new was now exit (a.asked ++ of_host b.asked) (utf8 memory_line) 2 (chain-append (leads_by asks tells) a.asked (of_host b.asked) old mid new a.chain (chain_of_host asks tells b.asked mid new b.chain))
       (inr (no_memory c options e (only_asked (a.asked ++ of_host b.asked)))) p
 
   -- no case was selected for `debug`
@@ -159,7 +161,7 @@ module _ {W : Type 0} (asks : W → Asked → W → Type 0) (tells : W → Told 
     seen = record { questions = a.asked ++ (of_host b.asked ++ []); plan = plan; trace = d.trace; calls = [] };
     course = record {
       begun = begun;
-      asked = chain_both (leads_by asks tells) a.asked (of_host b.asked ++ []) old mid begun a.chain (chain_both (leads_by asks tells) (of_host b.asked) [] mid begun begun (chain_of_host asks tells b.asked mid begun b.chain) refl);
+      asked = chain-append (leads_by asks tells) a.asked (of_host b.asked ++ []) old mid begun a.chain (chain-append (leads_by asks tells) (of_host b.asked) [] mid begun begun (chain_of_host asks tells b.asked mid begun b.chain) refl);
       ran = d.leads;
     };
     uncalled = refl;
@@ -196,7 +198,7 @@ module _ {W : Type 0} (asks : W → Asked → W → Type 0) (tells : W → Told 
       let q = d.ends in
       record {
         seen = record { questions = a.asked ++ of_host b.asked; plan = plan; trace = d.trace; calls = [] };
-        course = record { begun = begun; asked = chain_both (leads_by asks tells) a.asked (of_host b.asked) old mid begun a.chain (chain_of_host asks tells b.asked mid begun b.chain); ran = d.leads };
+        course = record { begun = begun; asked = chain-append (leads_by asks tells) a.asked (of_host b.asked) old mid begun a.chain (chain_of_host asks tells b.asked mid begun b.chain); ran = d.leads };
         uncalled = refl;
         bytes = utf8 memory_line;
         due = 2;
@@ -240,8 +242,8 @@ module _ {W : Type 0} (asks : W → Asked → W → Type 0) (tells : W → Told 
           seen = seen;
           course = record {
             begun = begun;
-            asked = chain_both (leads_by asks tells) a.asked (of_host b.asked ++ of_host (Now moment ∷ [])) old mid begun a.chain
-                (chain_both (leads_by asks tells) (of_host b.asked) (of_host (Now moment ∷ [])) mid asked begun (chain_of_host asks tells b.asked mid asked b.chain) (begun, t, refl));
+            asked = chain-append (leads_by asks tells) a.asked (of_host b.asked ++ of_host (Now moment ∷ [])) old mid begun a.chain
+                (chain-append (leads_by asks tells) (of_host b.asked) (of_host (Now moment ∷ [])) mid asked begun (chain_of_host asks tells b.asked mid asked b.chain) (begun, t, refl));
             ran = r.leads;
           };
           stored = r.stored;

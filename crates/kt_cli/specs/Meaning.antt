@@ -11,7 +11,8 @@ use Rattle.kt_sched.specs.declared.start_answer.StartAnswer.{StartAnswer}
 use Rattle.kt_sched.specs.declared.ended.Ended.{Ended}
 use Rattle.kt_sched.specs.Trace.{Trace, NoEvent, Leads}
 use Rattle.kt_store.specs.StoreCalls.{StoreCall}
-use Rattle.kt_suite.specs.Answers.{Asked, Chain}
+use Rattle.kt_base.specs.Chains.{Chain}
+use Rattle.kt_suite.specs.Answers.{Asked}
 use Rattle.kt_plan.specs.declared.candidate.Candidate.{Candidate}
 use Rattle.kt_plan.specs.declared.case_options.CaseOptions.{CaseOptions}
 use Rattle.kt_plan.specs.declared.chosen.Chosen.{Chosen}
@@ -47,7 +48,7 @@ pub record Seen : Type 0 where
 -- these answers lead the world through the command
 pub record Course {W : Type 0} (asks : W → Asked → W → Type 0) (tells : W → Told → W → Type 0) (starts : W → Job → Role → StartAnswer → W → Type 0) (waits : W → Ended → W → Type 0) (seen : Seen) (old new : W) : Type 0 where
   pub begun : W
-  pub asked : Chain (leads_by asks tells) seen.questions old begun
+  pub asked : Chain (leads_by asks tells) old seen.questions begun
   pub ran : Leads starts waits seen.plan seen.trace begun new
 
 -- a line for each selected case, and a warning for each filter that selects none

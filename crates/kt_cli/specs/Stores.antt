@@ -7,7 +7,7 @@ use Rattle.kt_store.specs.Heads.{head_of}
 use Rattle.kt_store.specs.Runs.{new_run, run_at, with_entry, insert_at, put_refusal, finish, finish_refusal}
 use Rattle.kt_store.specs.StoreCalls.{StoreCall, Began, Put, Finished, Heads, Read}
 use Rattle.kt_store.specs.declared.store_fault.StoreFault.TheVariants.{StoreFull, NoRun}
-use Rattle.kt_suite.specs.Answers.{Chain}
+use Rattle.kt_base.specs.Chains.{Chain}
 
 -- the runs after these entries were put into the run of a number, one after the other
 abbrev pub put_all : ℕ → List Entry → List Run → List Run
@@ -89,5 +89,5 @@ pub record Kept {R : Type 0} (Stands : R → List Run → Type 0) (Sound : R →
 
 -- these calls with their answers led a store from the first state to the second, and did this to its runs
 pub record Stored {R : Type 0} (Answers : R → StoreCall → R → Type 0) (Stands : R → List Run → Type 0) (Sound : R → Type 0) (Leaves : R → List (List Run) → Type 0) (calls : List StoreCall) (old new : R) : Type 0 where
-  pub answered : Chain Answers calls old new
+  pub answered : Chain Answers old calls new
   pub kept : Kept Stands Sound Leaves calls old new

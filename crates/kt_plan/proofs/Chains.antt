@@ -3,12 +3,9 @@ use Rattle.std.specs.Prelude.{Option, Result, Err, Bool}
 use Rattle.std.proofs.Common.{◌≡◌, ℕ, List, [], ◌∷◌, ◌++◌, refl, sym, ap, ◌∙◌, subst, IfOk}
 use Rattle.kt_base.specs.declared.role.Role.{Role}
 use Rattle.kt_sched.specs.Children.{Child, IsIdle}
-use Rattle.kt_suite.specs.Answers.{Chain, Answered}
-
--- one chain after the other
-pub chain_append : {W Q : Type 0} (leads : W → Q → W → Type 0) (xs ys : List Q) (a b d : W) → Chain leads xs a b → Chain leads ys b d → Chain leads (xs ++ ys) a d
-chain_append leads [] ys a b d h k = subst (λ (s : _). Chain leads ys s d) h k
-chain_append leads (x ∷ xs) ys a b d h k = (h.0, h.1, chain_append leads xs ys h.0 b d h.2 k)
+use Rattle.kt_base.specs.Chains.{Chain}
+use Rattle.kt_base.proofs.Chains.{chain-append}
+use Rattle.kt_suite.specs.Answers.{Answered}
 
 -- one question
 pub asked_once : {W Q : Type 0} (leads : W → Q → W → Type 0) (old new : W) (q : Q) (P : List Q → Type 0) → leads old q new → P (q ∷ []) → Answered leads old new P
@@ -28,20 +25,20 @@ pub once_short : {W Q T E : Type 0} (leads : W → Q → W → Type 0) (old new 
 once_short leads old new q R r fault h e = asked_short leads old new (λ asked. Unit {0}) R r fault (asked_once leads old new q (λ asked. Unit {0}) h tt) e
 
 -- and after others
-pub chain_short : {W Q T E : Type 0} (leads : W → Q → W → Type 0) (old mid new : W) (before : List Q) (P : List Q → Type 0) (R : List Q → T → Type 0) (r : Result T E) (fault : E) → Chain leads before old mid → Answered leads mid new P → r ≡ Err fault
+pub chain_short : {W Q T E : Type 0} (leads : W → Q → W → Type 0) (old mid new : W) (before : List Q) (P : List Q → Type 0) (R : List Q → T → Type 0) (r : Result T E) (fault : E) → Chain leads old before mid → Answered leads mid new P → r ≡ Err fault
     → Answered leads old new (λ asked. IfOk r (λ x. R asked x))
 chain_short leads old mid new before P R r fault h a e =
-    asked_short leads old new (λ asked. Unit {0}) R r fault (record { asked = before ++ a.asked; chain = chain_append leads before a.asked old mid new h a.chain; holds = tt }) e
+    asked_short leads old new (λ asked. Unit {0}) R r fault (record { asked = before ++ a.asked; chain = chain-append leads before a.asked old mid new h a.chain; holds = tt }) e
 
 -- what no question changes, many don't
-still : {W Q X : Type 0} (leads : W → Q → W → Type 0) (view : W → X) → ((s t : W) (q : Q) → leads s q t → view t ≡ view s) → (qs : List Q) (a b : W) → Chain leads qs a b → view b ≡ view a
+still : {W Q X : Type 0} (leads : W → Q → W → Type 0) (view : W → X) → ((s t : W) (q : Q) → leads s q t → view t ≡ view s) → (qs : List Q) (a b : W) → Chain leads a qs b → view b ≡ view a
 still leads view keeps [] a b h = ap view h
 still leads view keeps (q ∷ qs) a b h = still leads view keeps qs h.0 b h.2 ∙ keeps a h.0 q h.1
 
 -- a world is idle after questions that don't change what runs
 pub idle_after : {W Q : Type 0} (leads : W → Q → W → Type 0) (running : W → ℕ → Role → Option Child) (pending : W → ℕ → Bool)
     → ((s t : W) (q : Q) → leads s q t → (k : ℕ) (r : Role) → running t k r ≡ running s k r) → ((s t : W) (q : Q) → leads s q t → (k : ℕ) → pending t k ≡ pending s k)
-    → (old new : W) (qs : List Q) → Chain leads qs old new → IsIdle (running old) (pending old) → IsIdle (running new) (pending new)
+    → (old new : W) (qs : List Q) → Chain leads old qs new → IsIdle (running old) (pending old) → IsIdle (running new) (pending new)
 idle_after leads running pending a b old new qs h i = record {
   runs = λ k r. still leads (λ s. running s k r) (λ s u q x. a s u q x k r) qs old new h ∙ i.runs k r;
   pends = λ k. still leads (λ s. pending s k) (λ s u q x. b s u q x k) qs old new h ∙ i.pends k;

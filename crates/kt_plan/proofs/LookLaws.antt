@@ -9,13 +9,14 @@ use Rattle.std.specs.declared.string.String.{String}
 use Rattle.std.proofs.lemmas.List.Folds.{list_any-append}
 use Rattle.std.proofs.Math.Bool.{or-false}
 use Rattle.kt_base.specs.Utf8.{utf8}
-use Rattle.kt_suite.specs.Answers.{Chain, Answered}
+use Rattle.kt_base.specs.Chains.{Chain}
+use Rattle.kt_suite.specs.Answers.{Answered}
 use Rattle.kt_plan.specs.declared.candidate.Candidate.{Candidate}
 use Rattle.kt_plan.specs.declared.required.Required.{Required}
 use Rattle.kt_plan.specs.declared.required.Required.TheVariants.{File, Program}
 use Rattle.kt_plan.specs.Planning.{question_of, finds_file, finds_program, finds_of, meta_in, LooksFor, no_word, asked, LooksForOne, unasked, looked, LooksForAll, no_case, one_and, Notes, Surveys}
 use Rattle.kt_plan.specs.Told.{Told, FindsFile, FindsProgram, IsRoot, HasMemory, HasDisk}
-use Rattle.kt_plan.proofs.Chains.{chain_append}
+use Rattle.kt_base.proofs.Chains.{chain-append}
 use Rattle.kt_plan.proofs.Rests.{none_left}
 
 pub or_last : (b x : Bool) → cond b true x ≡ (x || b)
@@ -88,7 +89,7 @@ others_only question finds word e _ _ (asked name names answer told h) = ap (λ 
 -- the questions about some words so far, and what was noted
 pub record Looking {W Z : Type 0} (tells : W → Told → W → Type 0) (question : List ℕ → Bool → Told) (finds : List ℕ → Told → Bool) (names rest : List (List ℕ)) (old new : W) (was now : BTreeSet (String Z)) : Type 0 where
   pub told : List Told
-  pub chain : Chain tells told old new
+  pub chain : Chain tells old told new
   pub goes : (more : List Told) → LooksFor question rest more → LooksFor question names (told ++ more)
   pub notes : Notes finds told was now
 
@@ -103,7 +104,7 @@ module _ {W Z : Type 0} (tells : W → Told → W → Type 0) (question : List �
       → Answered tells mid new (λ told. LooksFor question (name ∷ []) told × Notes finds told then now) → Words after new now
   words_next rest after name mid new then now e l a = record {
     told = l.told ++ a.asked;
-    chain = chain_append tells l.told a.asked old mid new l.chain a.chain;
+    chain = chain-append tells l.told a.asked old mid new l.chain a.chain;
     goes = λ more h. subst (λ (ts : List Told). LooksFor question names ts) (sym (append_assoc l.told a.asked more))
         (l.goes (a.asked ++ more) (subst (λ (ns : List (List ℕ)). LooksFor question ns (a.asked ++ more)) (sym e) (asks_more question name after a.asked more a.holds.0 h)));
     notes = notes_more finds l.told a.asked was then now l.notes a.holds.1;
@@ -157,7 +158,7 @@ module _ {W : Type 0} (tells : W → Told → W → Type 0) where
       → Answered tells old new (λ told. LooksForOne candidate told × Notes finds_file told files there × Notes finds_program told programs noted)
   looked_for candidate old mid new paths names files there programs noted e p n a b = record {
     asked = a.asked ++ b.asked;
-    chain = chain_append tells a.asked b.asked old mid new a.chain b.chain;
+    chain = chain-append tells a.asked b.asked old mid new a.chain b.chain;
     holds = (
       looked a.asked b.asked (none_of candidate.case.fault e) (subst (λ (ns : List (List ℕ)). LooksFor FindsFile ns a.asked) p a.holds.0) (subst (λ (ns : List (List ℕ)). LooksFor FindsProgram ns b.asked) n b.holds.0),
       notes_more finds_file a.asked b.asked files there there a.holds.1 (notes_others finds_file b.asked there (λ word. others_only FindsProgram finds_file word (λ name answer. refl) names b.asked b.holds.0)),
@@ -169,7 +170,7 @@ module _ {W : Type 0} (tells : W → Told → W → Type 0) where
     -- the questions about some cases so far, and what was noted
     pub record Cases (rest : List Candidate) (new : W) (files programs : BTreeSet (String Global)) : Type 0 where
       pub told : List Told
-      pub chain : Chain tells told old new
+      pub chain : Chain tells old told new
       pub goes : (more : List Told) → LooksForAll rest more → LooksForAll cases (told ++ more)
       pub noted_files : Notes finds_file told was files
       pub noted_programs : Notes finds_program told owned programs
@@ -181,7 +182,7 @@ module _ {W : Type 0} (tells : W → Told → W → Type 0) where
         → Answered tells mid new (λ told. LooksForOne candidate told × Notes finds_file told files there × Notes finds_program told programs noted) → Cases after new there noted
     cases_next rest after candidate mid new files there programs noted e l a = record {
       told = l.told ++ a.asked;
-      chain = chain_append tells l.told a.asked old mid new l.chain a.chain;
+      chain = chain-append tells l.told a.asked old mid new l.chain a.chain;
       goes = λ more h. subst (λ (ts : List Told). LooksForAll cases ts) (sym (append_assoc l.told a.asked more))
           (l.goes (a.asked ++ more) (subst (λ (cs : List Candidate). LooksForAll cs (a.asked ++ more)) (sym e) (one_and candidate after a.asked more a.holds.0 h)));
       noted_files = notes_more finds_file l.told a.asked was files there l.noted_files a.holds.1;

@@ -7,13 +7,14 @@ use Rattle.kt_config.specs.Values.{Values}
 use Rattle.kt_atflist.specs.Cases.{AreCases}
 use Rattle.kt_atflist.specs.declared.case_def.CaseDef.{CaseDef}
 use Rattle.kt_atflist.specs.declared.listing.Listing.{Listing}
-use Rattle.kt_suite.specs.Answers.{Chain, Answered}
+use Rattle.kt_base.specs.Chains.{Chain}
+use Rattle.kt_suite.specs.Answers.{Answered}
 use Rattle.kt_suite.specs.declared.filter.Filter.{Filter}
 use Rattle.kt_suite.specs.declared.program.Program.{Program}
 use Rattle.kt_plan.specs.declared.candidate.Candidate.{Candidate}
 use Rattle.kt_plan.specs.Collecting.{candidates_of, variables_for, IsWanted, ListsCases, listed, OffersOne, listing, unlisted, single, Offers, none, one_and}
 use Rattle.kt_plan.specs.Told.{Told, Lists}
-use Rattle.kt_plan.proofs.Chains.{chain_append}
+use Rattle.kt_base.proofs.Chains.{chain-append}
 use Rattle.kt_plan.proofs.Rests.{none_left}
 
 -- a program was asked for its list
@@ -42,7 +43,7 @@ module _ {W : Type 0} (tells : W → Told → W → Type 0) (config : Values) (f
   -- the cases of some programs so far
   pub record Offering (programs : List Program) (old : W) (rest : List Program) (new : W) (found : List Candidate) : Type 0 where
     pub told : List Told
-    pub chain : Chain tells told old new
+    pub chain : Chain tells old told new
     pub goes : (more : List Told) (others : List Candidate) → Offers config filters rest more others → Offers config filters programs (told ++ more) (found ++ others)
 
   module _ (programs : List Program) (old : W) where
@@ -53,7 +54,7 @@ module _ {W : Type 0} (tells : W → Told → W → Type 0) (config : Values) (f
         → Answered tells mid new (λ told. OffersOne config filters program told (candidates_of program cases)) → grown ≡ found ++ candidates_of program cases → Offering programs old after new grown
     offers_next rest after program mid new found grown cases e o a g = record {
       told = o.told ++ a.asked;
-      chain = chain_append tells o.told a.asked old mid new o.chain a.chain;
+      chain = chain-append tells o.told a.asked old mid new o.chain a.chain;
       goes = λ more others h.
           let own = candidates_of program cases in
           subst (λ (cs : List Candidate). Offers config filters programs ((o.told ++ a.asked) ++ more) (cs ++ others)) (sym g)

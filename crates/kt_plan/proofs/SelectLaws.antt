@@ -1,7 +1,8 @@
 -- What a command selects, step by step.
 use Rattle.std.specs.Prelude.{Ok, Err, Bool}
 use Rattle.std.proofs.Common.{ℕ, List, ◌++◌, ◌⊎◌, inl, inr}
-use Rattle.kt_suite.specs.Answers.{Asked, Chain, Answered}
+use Rattle.kt_base.specs.Chains.{Chain}
+use Rattle.kt_suite.specs.Answers.{Asked, Answered}
 use Rattle.kt_plan.specs.declared.case_options.CaseOptions.{CaseOptions}
 use Rattle.kt_plan.specs.declared.chosen.Chosen.{Chosen}
 use Rattle.kt_plan.specs.declared.picked.Picked.{Picked}
@@ -13,7 +14,8 @@ use Rattle.kt_plan.specs.Questions.{leads_by, of_tree, of_host}
 use Rattle.kt_plan.specs.Selecting.{Selects, unsettled, uncollected, selected}
 use Rattle.kt_plan.specs.Stops.{IsShort}
 use Rattle.kt_plan.specs.Told.{Told}
-use Rattle.kt_plan.proofs.QuestionChains.{chain_both, chain_of_host, chain_of_tree}
+use Rattle.kt_base.proofs.Chains.{chain-append}
+use Rattle.kt_plan.proofs.QuestionChains.{chain_of_host, chain_of_tree}
 
 module _ {W : Type 0} (asks : W → Asked → W → Type 0) (tells : W → Told → W → Type 0) where
   -- the settings were refused
@@ -30,11 +32,11 @@ module _ {W : Type 0} (asks : W → Asked → W → Type 0) (tells : W → Told 
   settled_is needed options told settings (inl s) = absurd s
   settled_is needed options told settings (inr s) = s
 
-  chain_to : (told : List Told) (asked : List Asked) (lists : List Told) (a b d e : W) → Chain tells told a b → Chain asks asked b d → Chain tells lists d e
-      → Chain (leads_by asks tells) (of_host told ++ (of_tree asked ++ of_host lists)) a e
+  chain_to : (told : List Told) (asked : List Asked) (lists : List Told) (a b d e : W) → Chain tells a told b → Chain asks b asked d → Chain tells d lists e
+      → Chain (leads_by asks tells) a (of_host told ++ (of_tree asked ++ of_host lists)) e
   chain_to told asked lists a b d e x y z =
-      chain_both (leads_by asks tells) (of_host told) (of_tree asked ++ of_host lists) a b e (chain_of_host asks tells told a b x)
-      (chain_both (leads_by asks tells) (of_tree asked) (of_host lists) b d e (chain_of_tree asks tells asked b d y) (chain_of_host asks tells lists d e z))
+      chain-append (leads_by asks tells) (of_host told) (of_tree asked ++ of_host lists) a b e (chain_of_host asks tells told a b x)
+      (chain-append (leads_by asks tells) (of_tree asked) (of_host lists) b d e (chain_of_tree asks tells asked b d y) (chain_of_host asks tells lists d e z))
 
   -- the tree was refused, or its cases
   pub uncollected_answer : (needed : Bool) (options : CaseOptions) (old mid new : W) (settings : Settings) (fault : Stop)

@@ -7,7 +7,8 @@ use Rattle.kt_base.specs.declared.role.Role.{Role}
 use Rattle.kt_config.specs.declared.definition.Definition.{Definition}
 use Rattle.kt_config.specs.Values.{Values}
 use Rattle.kt_sched.specs.Children.{Child, IsIdle}
-use Rattle.kt_suite.specs.Answers.{Answered, Chain}
+use Rattle.kt_base.specs.Chains.{Chain}
+use Rattle.kt_suite.specs.Answers.{Answered}
 use Rattle.kt_suite.specs.declared.filter.Filter.{Filter}
 use Rattle.kt_plan.specs.Configuring.{Configured, Configures, Filters, Gives, Settles, settled, unconfigured, unfiltered}
 use Rattle.kt_plan.specs.Stops.{IsShort}
@@ -89,7 +90,7 @@ module _ {W : Type 0} (tells : W → Told → W → Type 0) (old new : W) (needs
 -- nothing that runs or is pending changes by answers that change none of it
 module _ {W Q : Type 0} (leads : W → Q → W → Type 0) (running : W → ℕ → Role → Option Child) (pending : W → ℕ → Bool)
     (runs : (s t : W) (q : Q) → leads s q t → (k : ℕ) (r : Role) → running t k r ≡ running s k r) (pends : (s t : W) (q : Q) → leads s q t → (k : ℕ) → pending t k ≡ pending s k) where
-  pub idle_along : (qs : List Q) (old new : W) → Chain leads qs old new → IsIdle (running old) (pending old) → IsIdle (running new) (pending new)
+  pub idle_along : (qs : List Q) (old new : W) → Chain leads old qs new → IsIdle (running old) (pending old) → IsIdle (running new) (pending new)
   idle_along [] old new e i = subst (λ (w : W). IsIdle (running w) (pending w)) (sym e) i
   idle_along (q ∷ qs) old new c i =
       idle_along qs c.0 new c.2 (record { runs = λ k r. runs old c.0 q c.1 k r ∙ i.runs k r; pends = λ k. pends old c.0 q c.1 k ∙ i.pends k })

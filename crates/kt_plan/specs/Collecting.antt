@@ -7,7 +7,8 @@ use Rattle.kt_config.specs.Values.{Values, variables_of}
 use Rattle.kt_atflist.specs.Cases.{AreCases}
 use Rattle.kt_atflist.specs.declared.case_def.CaseDef.{CaseDef}
 use Rattle.kt_atflist.specs.declared.listing.Listing.{Listing}
-use Rattle.kt_suite.specs.Answers.{Asked, Chain}
+use Rattle.kt_base.specs.Chains.{Chain}
+use Rattle.kt_suite.specs.Answers.{Asked}
 use Rattle.kt_suite.specs.declared.fault.SuiteFault.{SuiteFault}
 use Rattle.kt_suite.specs.declared.filter.Filter.{Filter}
 use Rattle.kt_suite.specs.declared.item.Item.{Item}
@@ -88,6 +89,6 @@ pub record Collected {W : Type 0} (asks : W → Asked → W → Type 0) (tells :
   pub asked : List Asked
   pub told : List Told
   pub loaded : W
-  pub chain : Chain asks asked old loaded
-  pub lists : Chain tells told loaded new
+  pub chain : Chain asks old asked loaded
+  pub lists : Chain tells loaded told new
   pub holds : IsShort result ⊎ Collects settings kyuafile asked told result

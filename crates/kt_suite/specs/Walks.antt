@@ -9,7 +9,8 @@ use Rattle.kt_suite.specs.declared.program.Program.{Program}
 use Rattle.kt_suite.specs.declared.step.Step.{Step}
 use Rattle.kt_suite.specs.declared.step.Step.TheVariants.{Next, Enter}
 use Rattle.kt_suite.specs.declared.meaning.Meaning.{Meaning}
-use Rattle.kt_suite.specs.Answers.{Asked, Read, Exists, Chain}
+use Rattle.kt_base.specs.Chains.{Chain}
+use Rattle.kt_suite.specs.Answers.{Asked, Read, Exists}
 use Rattle.kt_suite.specs.declared.cause.SuiteCause.{SuiteCause}
 use Rattle.kt_suite.specs.declared.cause.SuiteCause.TheVariants.{NoSyntax, TooMany}
 use Rattle.kt_suite.specs.Faults.{fault_at, IsNoMemory}
@@ -30,13 +31,13 @@ Counted r (Fault fault ∷ marks) after = ⊥
 pub data Walked {S : Type 0} (leads : S → Asked → S → Type 0) (old new : S) (Gives : List Mark → Type 0) (r : Registry)
     : Result Registry SuiteFault → Type 0 where
   through : (marks : List Mark) (after : Registry)
-      → Gives marks → Chain leads (questions_in marks) old new → Counted r marks after
+      → Gives marks → Chain leads old (questions_in marks) new → Counted r marks after
       → Walked leads old new Gives r (Ok after)
   stops : (front back : List Mark) (mark : Mark) (mid : Registry) (fault : SuiteFault)
-      → Gives (front ++ mark ∷ back) → Chain leads (questions_in front) old new → Counted r front mid
+      → Gives (front ++ mark ∷ back) → Chain leads old (questions_in front) new → Counted r front mid
       → Decides mid.files (length mid.programs) mark fault → Walked leads old new Gives r (Err fault)
   short : (front back : List Mark) (more : List Asked) (mid : Registry) (fault : SuiteFault)
-      → Gives (front ++ back) → IsNext back more → Chain leads (questions_in front ++ more) old new → Counted r front mid
+      → Gives (front ++ back) → IsNext back more → Chain leads old (questions_in front ++ more) new → Counted r front mid
       → IsNoMemory fault → Walked leads old new Gives r (Err fault)
 
 -- the marks of a file that is read within these
