@@ -1,6 +1,7 @@
 #!/usr/bin/env bash
 # Looks in the sources of the program for a fault that a body could make by itself. No contract refuses one: memory may run out
-# at any call that takes some, and a writer may fail at any write. Each rule names the only places where it may be broken.
+# at any call that takes some, a read and a write may fail, and a command may then say so. Each rule names the only places where it
+# may be broken.
 # Prints each other place, and each place named here that is no longer there. The last line is 'N passed, M failed', over the
 # rules.
 set -eu -o pipefail
@@ -63,8 +64,8 @@ own_writers() {
 # rule NAME: compares the places that were found, in the file `found`, with those of standard input, which may break this rule.
 rule() {
   local name=$1 bad=0 line
-  sort -u > "$room/named"
-  sort -u "$room/found" > "$room/sorted"
+  sort > "$room/named"
+  sort "$room/found" > "$room/sorted"
   while IFS= read -r line; do
     echo "faults.sh: $name: $line"
     bad=1
@@ -78,7 +79,7 @@ rule() {
 
 # paths PATTERN: finds the files that have a line of this pattern.
 paths() {
-  awk -F '\t' -v pattern="$1" '$2 ~ pattern { print $1 }' "$room/sources" > "$room/found"
+  awk -F '\t' -v pattern="$1" '$2 ~ pattern { print $1 }' "$room/sources" | sort -u > "$room/found"
 }
 
 # lines PATTERN: finds the lines of this pattern, with their paths.
@@ -112,6 +113,42 @@ kt_child/src/driving/running_children.rt: children.reserve(1)?;
 kt_child/src/driving/running_children.rt: pending.reserve(cases.len() + 1)?;
 kt_cli/src/sequence.rt: let mut exits = Vec::with_capacity(alloc, commands.len())?;
 kt_cli/src/surroundings.rt: let mut room = vec![in rt.alloc(); 0u8; LONGEST_VARIABLE]?;
+PLACES
+
+# A value for which no refused allocation is needed, or a line that tells of one. An arm that takes such a value isn't meant.
+lines '(Refused|SinkFault)::Memory($|[^ ]| [^=])|(write_memory|memory_behind)[(]'
+rule 'says that memory ran out' <<'PLACES'
+kt_child/src/starting/refusals.rt: Refused::Memory
+kt_cli/src/behind.rt: write_memory(out)
+kt_cli/src/debugging.rt: Err(RunFault::NoMemory(_refusal)) => ended(memory_behind(written, out), FAILED),
+kt_cli/src/debugging.rt: Err(_) => return ended(write_memory(out), FAILED),
+kt_cli/src/fault_exit.rt: CommandFault::NoMemory(_) => write_memory(out),
+kt_cli/src/fault_exit.rt: DriverFault::NoMemory(_) => write_memory(out),
+kt_cli/src/fault_line.rt: SinkFault::Memory => write_memory(out),
+kt_cli/src/fault_line.rt: StoreFault::NoMemory(_) => write_memory(out),
+kt_cli/src/fault_line.rt: SuiteCause::NoMemory(_) => write_memory(out),
+kt_cli/src/recorder.rt: StoreFault::NoMemory(_) => SinkFault::Memory,
+kt_cli/src/reporting.rt: Err(ReportFault::NoMemory(_)) => ended(write_memory(out), FAILED),
+kt_cli/src/stop_line.rt: Stop::NoMemory(_) => write_memory(out),
+kt_cli/src/testing.rt: Err(RunFault::NoMemory(_refusal)) => ended(memory_behind(written, out), FAILED),
+kt_cli/src/testing.rt: Err(_) => return ended(write_memory(out), FAILED),
+PLACES
+
+lines '(Claim|TapFault|ListBytes|ReadEnd)::Unreadable($|[^ ]| [^=])'
+rule 'says that a file could not be read' <<'PLACES'
+kt_child/src/ending/gathering.rt: Err(_) => Claim::Unreadable,
+kt_child/src/ending/gathering.rt: Err(_) => Tap::Invalid(TapFault::Unreadable),
+kt_child/src/ending/gathering.rt: ReadEnd::Missing => Tap::Invalid(TapFault::Unreadable),
+kt_child/src/ending/gathering.rt: ReadEnd::Unreadable => Claim::Unreadable,
+kt_child/src/ending/gathering.rt: ReadEnd::Unreadable => Tap::Invalid(TapFault::Unreadable),
+kt_child/src/ending/parts.rt: NextPart::Failed => return ReadEnd::Unreadable,
+kt_child/src/ending/reads.rt: Ok(FileRead::Missing) | Err(_) => ListBytes::Unreadable,
+PLACES
+
+lines 'status: FAILED'
+rule 'ends a command that failed' <<'PLACES'
+kt_cli/src/line_output.rt: Err(_fault) => Exit { status: FAILED },
+kt_cli/src/reporting.rt: Err(ReportFault::Output(_)) => Exit { status: FAILED },
 PLACES
 
 own_writers > "$room/found"

@@ -154,3 +154,16 @@ due_in text script.TooLong fault due none d = by_cause text script.TooLong fault
 pub script_due : (text : List ℕ) (cause : ScriptFault) (found : ConfigFault) → found ≡ fault_of_script cause → ((f : ScriptFault) → IsScriptDue text f → ScriptRefuses (Err cause) f)
     → ((stmts : List Stmt) → Spells text stmts → ScriptAnswers (Err cause) stmts) → (fault : ConfigFault) → IsDue text fault → Refuses {T = Values} (Err found) fault
 script_due text cause found e due none fault d = subst (λ (x : ConfigFault). Refuses {T = Values} (Err x) fault) (sym e) (due_in text cause fault due none d)
+
+only_in : (cause : ScriptFault) (stmts : List Stmt) (ds : List Definition) → ScriptAnswers (Err cause) stmts → Answers (Err (fault_of_script cause)) ds
+only_in (script.NoMemory refusal) stmts ds a = tt
+only_in script.NotUtf8 stmts ds a = absurd a
+only_in (script.BadToken line) stmts ds a = absurd a
+only_in (script.NotLiteral line) stmts ds a = absurd a
+only_in (script.Unclosed line) stmts ds a = absurd a
+only_in script.TooLong stmts ds a = absurd a
+
+pub script_only : (text : List ℕ) (cause : ScriptFault) (found : ConfigFault) → found ≡ fault_of_script cause
+    → ((stmts : List Stmt) → Spells text stmts → ScriptAnswers (Err cause) stmts)
+    → (stmts : List Stmt) (ds : List Definition) → Spells text stmts → outcome_of stmts ≡ Ok ds → Answers (Err found) ds
+script_only text cause found e none = λ stmts ds s o. subst (λ (f : ConfigFault). Answers (Err f) ds) (sym e) (only_in cause stmts ds (none stmts s))

@@ -9,7 +9,7 @@ use kt_base::NoMemory;
 use kt_script::{Action, Arg, Literal, ScriptFault, Stmt};
 use std::alloc::Global;
 
-/// The fault of a file that is no script.
+/// The fault of a file that is not a script.
 pub fn script_fault(fault: ScriptFault) -> ConfigFault
     ensures { result ≡ fault_of_script fault }
 {
@@ -53,13 +53,11 @@ fn read_statements(alloc: Global, stmts: &[Stmt]) -> Result<Result<Config, Confi
     ensures { IfOk result (λ outcome. Gives outcome (definitions_in stmts.now)) }
 {
     let mut config = Config::new(alloc);
-    let mut rest = stmts;
-    while let Some((stmt, after)) = rest.split_first() {
+    for stmt in stmts {
         match meaning_of(alloc, &stmt.action)? {
             Err(fault) => return Ok(Err(fault)),
             Ok(definition) => config.define(definition)?,
         }
-        rest = after;
     }
     Ok(Ok(config))
 }

@@ -13,7 +13,8 @@ use Rattle.kt_sched.specs.declared.next.Next.{Next}
 use Rattle.kt_sched.specs.declared.next.Next.TheVariants as next
 use Rattle.kt_sched.specs.declared.answer.Answer.{Answer}
 use Rattle.kt_sched.specs.Children.{Child, MayStart, IsEvidence, IsIdle, child_of, running_after_start, running_after_end, pending_after_start, pending_after_end}
-use Rattle.kt_sched.specs.Moments.{IsMoment, HasMoment}
+use Rattle.kt_base.specs.Moments.{IsMoment}
+use Rattle.kt_sched.specs.Moments.{HasMoment}
 use Rattle.kt_sched.specs.Plan.{IsPlan}
 use Rattle.kt_sched.specs.Trace.{Event, Start, End, Trace, NoEvent, Then, position_of, of, event_count}
 use Rattle.kt_sched.specs.History.{history}

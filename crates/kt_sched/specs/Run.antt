@@ -16,7 +16,8 @@ use Rattle.kt_sched.specs.ScheduleRules.{Each, Legal, Stopped}
 use Rattle.kt_sched.specs.RecordOrder.{Due, dues, recorded}
 use Rattle.kt_sched.specs.EntryOf.{Gains, IsEntryOf, AreEntries}
 use Rattle.kt_sched.specs.Children.{IsEvidence}
-use Rattle.kt_sched.specs.Moments.{IsMoment, HasMoment}
+use Rattle.kt_base.specs.Moments.{IsMoment}
+use Rattle.kt_sched.specs.Moments.{HasMoment}
 
 -- the moment lies in the range, and the evidence is of the job's interface
 abbrev pub FitsAt : List Job → Trace → Event → Type 0

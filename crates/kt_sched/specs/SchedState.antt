@@ -14,12 +14,14 @@ use Rattle.kt_sched.specs.declared.stage.Stage.{Stage}
 use Rattle.kt_sched.specs.declared.stage.Stage.TheVariants.{Waiting, Decided, Running, Owing, Cleaning, Finished, Taken}
 use Rattle.kt_sched.specs.declared.case.Case.{Case}
 use Rattle.kt_sched.specs.declared.case_record.CaseRecord.{CaseRecord}
+use Rattle.kt_sched.specs.declared.ended_body.EndedBody.{EndedBody}
+use Rattle.kt_status.specs.Tables.{IsVerdict}
 use Rattle.kt_sched.specs.Trace.{Event, Start, End, Trace, of}
 use Rattle.kt_sched.specs.History.{mark_of, is_whole}
 use Rattle.kt_sched.specs.TurnOrder.{body_starts, turns}
 use Rattle.kt_sched.specs.ScheduleRules.{owed}
 use Rattle.kt_sched.specs.RecordOrder.{is_open, was_open, recorded}
-use Rattle.kt_sched.specs.EntryOf.{entry_of, body_of, no_output}
+use Rattle.kt_sched.specs.EntryOf.{entry, IsEntry, no_output}
 use Rattle.kt_sched.specs.Plan.{IsPlan}
 use Rattle.kt_sched.specs.Fed.{Fed, has_failed, IsAnswerTo}
 
@@ -101,17 +103,11 @@ record_in job _ = None
 
 -- the entry of a job with this record
 abbrev pub entry_with : Job → CaseRecord → Entry
-entry_with job t = record {
-  position = job.position;
-  program = job.program;
-  case_name = job.case_name;
-  verdict = t.verdict;
-  started = t.started;
-  millis = t.millis;
-  body = t.body;
-  cleanup = t.cleanup;
-  meta = job.meta;
-}
+entry_with job t = entry job t.verdict t.started t.millis t.body t.cleanup
+
+-- what is kept of a body with this verdict, which started at this moment and ended so
+abbrev pub ended_body : Judged → ℕ → Ended → EndedBody
+ended_body verdict started e = record { started = started; ended = e.moment; verdict = verdict; output = e.output }
 
 -- how a stage stands for the events of its case
 abbrev pub IsStage : ℕ → Job → Stage → List Event → Type 0
@@ -120,11 +116,11 @@ IsStage i job Decided es = (es ≡ []) × (is_some job.decided ≡ true)
 IsStage i job (Running m) es = (es ≡ Start i Body (told.Started m) ∷ []) × (job.decided ≡ None)
 IsStage i job (Owing b) es =
     (e : Ended) × (es ≡ Start i Body (told.Started b.started) ∷ End e ∷ []) × (e.role ≡ Body) × (job.cleanup ≡ true)
-    × (b ≡ record { started = b.started; ended = e.moment; verdict = body_of e; output = e.output }) × (job.decided ≡ None)
+    × IsVerdict e.evidence e.outcome b.verdict × (b ≡ ended_body b.verdict b.started e) × (job.decided ≡ None)
 IsStage i job (Cleaning b) es =
     (e : Ended) × (m : ℕ) × (es ≡ Start i Body (told.Started b.started) ∷ End e ∷ Start i Cleanup (told.Started m) ∷ []) × (e.role ≡ Body) × (job.cleanup ≡ true)
-    × (b ≡ record { started = b.started; ended = e.moment; verdict = body_of e; output = e.output }) × (job.decided ≡ None)
-IsStage i job (Finished t) es = (is_whole job (map mark_of es) ≡ true) × (entry_of job es ≡ Some (entry_with job t))
+    × IsVerdict e.evidence e.outcome b.verdict × (b ≡ ended_body b.verdict b.started e) × (job.decided ≡ None)
+IsStage i job (Finished t) es = (is_whole job (map mark_of es) ≡ true) × IsEntry job es (entry_with job t)
 IsStage i job Taken es = is_whole job (map mark_of es) ≡ true
 
 -- how a case stands for the events of a trace

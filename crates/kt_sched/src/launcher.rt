@@ -11,7 +11,8 @@ pub trait Launcher {
     ghost use Rattle.kt_sched.specs.declared.start_answer.StartAnswer.{StartAnswer};
     ghost use Rattle.kt_sched.specs.declared.ended.Ended.{Ended};
     ghost use Rattle.kt_sched.specs.Children.{Child, MayStart, IsEvidence, running_after_start, running_after_end, pending_after_start, pending_after_end};
-    ghost use Rattle.kt_sched.specs.Moments.{IsMoment, HasMoment};
+    ghost use Rattle.kt_base.specs.Moments.{IsMoment};
+    ghost use Rattle.kt_sched.specs.Moments.{HasMoment};
     ghost use Rattle.kt_sched.specs.Plan.{IsFit};
 
     /// What is known of the child that runs at a position in a role, if one does.

@@ -1,5 +1,5 @@
 ghost use Rattle.std.specs.Prelude.{◌≡◌};
-ghost use Rattle.kt_sched.specs.Cases.{unless};
+ghost use Rattle.kt_sched.specs.Inner.Cases.{unless};
 
 use crate::answer::Answer;
 use crate::case::Case;
@@ -81,7 +81,7 @@ impl Sched {
     ghost use Rattle.kt_sched.specs.Next.{IsNext, Follows};
     ghost use Rattle.kt_sched.specs.EntryOf.{IsEntryOf};
     ghost use Rattle.kt_sched.specs.SchedState.{SchedState, Stands, IsAnswer, IsChosen, IsSettled, stage_runs, HasRecord, CanLend, HoldsEntry, work_left, Works, IsTurn};
-    ghost use Rattle.kt_sched.specs.Cases.{RunsSince, Declares};
+    ghost use Rattle.kt_sched.specs.Inner.Cases.{RunsSince, Declares};
 
     /// Nothing is fed yet.
     pub fn new(alloc: Global, plan: Items<Job>, width: u32) -> Result<Sched, NoMemory>

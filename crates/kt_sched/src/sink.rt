@@ -7,7 +7,7 @@ pub trait Sink {
     ghost use Rattle.std.specs.Prelude.{Result, OnErr, OnOk, ◌++◌, [], ◌∷◌, List};
     ghost use Rattle.kt_base.specs.declared.entry.Entry.{Entry};
     ghost use Rattle.kt_sched.specs.declared.sink_fault.SinkFault.{SinkFault};
-    ghost use Rattle.kt_sched.specs.Moments.{IsStorable};
+    ghost use Rattle.kt_base.specs.Moments.{IsStorable};
 
     /// Whether these are the entries that were put, in the order of the puts.
     ghost entries: { Self → List Entry → Type 0 };

@@ -1,7 +1,7 @@
 ghost use Rattle.std.specs.Prelude.{◌≡◌, ◌<◌, ℕ, length, Some, IsSome};
 ghost use Rattle.kt_sched.specs.declared.stage.Stage.TheVariants.{Taken};
 ghost use Rattle.kt_sched.specs.SchedState.{record_in, HasRecord, HasExclusive, HasDecided};
-ghost use Rattle.kt_sched.specs.Cases.{IsEntryFrom, KeepsNames, Replaced, HasBody, TookBody, RunsSince, Declares, TookEntry};
+ghost use Rattle.kt_sched.specs.Inner.Cases.{IsEntryFrom, KeepsNames, Replaced, HasBody, TookBody, RunsSince, Declares, TookEntry};
 
 use crate::case::Case;
 use crate::case_record::CaseRecord;

@@ -25,7 +25,7 @@ value_of (Number n) = Some (literal.Number n)
 value_of (Truth b) = Some (literal.Truth b)
 value_of _ = None
 
--- behind a statement's name
+-- after a statement's name
 abbrev pub after_name : List ℕ → Kind → Option Step
 after_name n (Quoted t) = Some (Ends (Call n (arg.Value (literal.Text t))))
 after_name n OpenParen = Some (To (Opened n))
@@ -35,7 +35,7 @@ after_name n OpenBracket = Some (To (PathOpened (n ∷ [])))
 after_name n Equals = Some (To (PathEquals (n ∷ [])))
 after_name n _ = None
 
--- behind the parenthesis that opens a call
+-- after the parenthesis that opens a call
 abbrev pub after_paren : List ℕ → Kind → Option Step
 after_paren n OpenBrace = Some (To (Pairs (record { name = n; in_parens = true; pairs = [] })))
 after_paren n (Quoted t) = Some (To (Closing (Call n (arg.Value (literal.Text t)))))
@@ -43,7 +43,7 @@ after_paren n (Number m) = Some (To (Closing (Call n (arg.Value (literal.Number 
 after_paren n (Truth b) = Some (To (Closing (Call n (arg.Value (literal.Truth b)))))
 after_paren n _ = None
 
--- behind the argument of a call in parentheses
+-- after the argument of a call in parentheses
 abbrev pub after_arg : Action → Kind → Option Step
 after_arg a CloseParen = Some (Ends a)
 after_arg a _ = None
@@ -52,24 +52,24 @@ after_arg a _ = None
 abbrev pub closed : Table → Step
 closed t = if t.in_parens then To (Closing (Call t.name (arg.Table t.pairs))) else Ends (Call t.name (arg.Table t.pairs))
 
--- behind a table's brace, a comma or a semicolon
+-- after a table's brace, a comma or a semicolon
 abbrev pub after_comma : Table → Kind → Option Step
 after_comma t (Name n) = Some (To (Keyed t n))
 after_comma t OpenBracket = Some (To (KeyOpened t))
 after_comma t CloseBrace = Some (closed t)
 after_comma t _ = None
 
--- behind the bracket that opens a key
+-- after the bracket that opens a key
 abbrev pub after_key_opened : Table → Kind → Option Step
 after_key_opened t (Quoted key) = Some (To (KeyQuoted t key))
 after_key_opened t _ = None
 
--- behind the string of a key in brackets
+-- after the string of a key in brackets
 abbrev pub after_key_quoted : Table → List ℕ → Kind → Option Step
 after_key_quoted t key CloseBracket = Some (To (Keyed t key))
 after_key_quoted t key _ = None
 
--- behind a key
+-- after a key
 abbrev pub after_key : Table → List ℕ → Kind → Option Step
 after_key t key Equals = Some (To (KeyEquals t key))
 after_key t key _ = None
@@ -78,40 +78,40 @@ after_key t key _ = None
 abbrev pub with_pair : Table → List ℕ → Literal → Table
 with_pair t key v = record t { pairs = t.pairs ++ pair key v ∷ [] }
 
--- behind the equals sign of a pair
+-- after the equals sign of a pair
 abbrev pub after_key_equals : Table → List ℕ → Kind → Option Step
 after_key_equals t key k = option_map (λ v. To (Paired (with_pair t key v))) (value_of k)
 
--- behind a pair
+-- after a pair
 abbrev pub after_pair : Table → Kind → Option Step
 after_pair t Comma = Some (To (Pairs t))
 after_pair t Semicolon = Some (To (Pairs t))
 after_pair t CloseBrace = Some (closed t)
 after_pair t _ = None
 
--- behind a dot of a path
+-- after a dot of a path
 abbrev pub after_dot : List (List ℕ) → Kind → Option Step
 after_dot path (Name n) = Some (To (Path (path ++ n ∷ [])))
 after_dot path _ = None
 
--- behind the bracket that opens a part of a path
+-- after the bracket that opens a part of a path
 abbrev pub after_path_opened : List (List ℕ) → Kind → Option Step
 after_path_opened path (Quoted t) = Some (To (PathQuoted (path ++ t ∷ [])))
 after_path_opened path _ = None
 
--- behind the string of a part of a path
+-- after the string of a part of a path
 abbrev pub after_path_quoted : List (List ℕ) → Kind → Option Step
 after_path_quoted path CloseBracket = Some (To (Path path))
 after_path_quoted path _ = None
 
--- behind a path of two parts or more
+-- after a path of two parts or more
 abbrev pub after_path : List (List ℕ) → Kind → Option Step
 after_path path Dot = Some (To (Dotted path))
 after_path path OpenBracket = Some (To (PathOpened path))
 after_path path Equals = Some (To (PathEquals path))
 after_path path _ = None
 
--- behind the equals sign of an assignment
+-- after the equals sign of an assignment
 abbrev pub after_path_equals : List (List ℕ) → Kind → Option Step
 after_path_equals path k = option_map (λ v. Ends (Assign path v)) (value_of k)
 

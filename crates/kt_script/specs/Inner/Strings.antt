@@ -1,18 +1,15 @@
 -- Strings.
-use Rattle.std.specs.Prelude.{ℕ, ◌+◌, ◌==◌, ◌&&◌, ◌||◌, Bool, true, false, not, List, [], ◌∷◌, ◌++◌, drop, Option, Some, None, Result, Ok, Err, chars, if◌then◌else◌}
+use Rattle.std.specs.Prelude.{ℕ, ◌+◌, ◌==◌, Bool, true, false, List, [], ◌∷◌, ◌++◌, drop, Option, Some, None, Result, Ok, Err, chars, if◌then◌else◌}
 use Rattle.kt_script.specs.declared.token.Flaw.{Flaw}
 use Rattle.kt_script.specs.declared.token.Flaw.TheVariants.{Bad, Endless}
 use Rattle.kt_script.specs.declared.token.Kind.TheVariants.{Quoted}
 use Rattle.kt_script.specs.declared.piece.Piece.{Piece}
 use Rattle.kt_script.specs.declared.quotation.Stop.{Stop}
 use Rattle.kt_script.specs.declared.quotation.Stop.TheVariants as stop
-use Rattle.kt_script.specs.Pieces.{token, broken}
+use Rattle.kt_script.specs.Letters.{escape_of}
+use Rattle.kt_script.specs.Inner.Pieces.{token, broken}
 
--- what the byte after a backslash stands for: newline, tab, backslash and quotes
-abbrev pub escape_of : ℕ → Option ℕ
-escape_of c = if c == 110 then Some 10 else if c == 116 then Some 9 else if c == 92 || c == 39 || c == 34 then Some c else None
-
--- bytes more in front of what was read, from so many bytes of the text
+-- what was read, with more bytes in front that take n bytes of the text
 abbrev pub with_front : List ℕ → ℕ → Result (List ℕ × ℕ) Flaw → Result (List ℕ × ℕ) Flaw
 with_front front n (Ok x) = Ok (front ++ x.0, n + x.1)
 with_front front n (Err flaw) = Err flaw
@@ -43,10 +40,6 @@ quoted text (Err flaw) = broken text flaw
 -- the string that begins after the first byte, which is its quote
 abbrev pub quoted_at : ℕ → List ℕ → Piece
 quoted_at quote text = quoted text (decoded (string_at quote false (drop 1 text)))
-
--- a byte that stands for itself
-abbrev pub is_plain : ℕ → ℕ → Bool
-is_plain quote c = not (c == quote) && not (c == 10) && not (c == 92)
 
 -- what a backslash is by the byte that it stands for, if there is one
 abbrev pub escape_stop : Option ℕ → Stop

@@ -5,11 +5,11 @@ use Rattle.kt_script.specs.declared.token.Kind.{Kind}
 use Rattle.kt_script.specs.declared.token.Kind.TheVariants.{Broken}
 use Rattle.kt_script.specs.declared.piece.Piece.{Piece}
 
--- so many bytes that are no token
+-- n bytes that are not a token
 abbrev pub blank : ℕ → Piece
 blank n = record { length = n; kind = None }
 
--- so many bytes that are a token
+-- n bytes that are a token
 abbrev pub token : ℕ → Kind → Piece
 token n kind = record { length = n; kind = Some kind }
 

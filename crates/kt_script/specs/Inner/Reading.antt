@@ -6,7 +6,7 @@ use Rattle.kt_script.specs.declared.token.Kind.{Kind}
 use Rattle.kt_script.specs.declared.place.Place.{Place}
 use Rattle.kt_script.specs.declared.place.Place.TheVariants.{Start}
 use Rattle.kt_script.specs.declared.parser.Parser.{Parser}
-use Rattle.kt_script.specs.Automaton.{run, next}
+use Rattle.kt_script.specs.Inner.Automaton.{run, next}
 use Rattle.kt_script.specs.Faults.{open_lines, own_fault}
 
 -- these tokens were read, up to this place

@@ -1,7 +1,8 @@
--- What a line that was begun is, by the bytes that follow.
+-- What an open line is, by the bytes that follow.
 use Rattle.std.specs.Prelude.{◌≡◌, ℕ, Bool, true, false, not, ◌&&◌, if◌then◌else◌, List, [], ◌∷◌, ◌++◌, length, drop, codes, Option, Some, None, is_some, option_map}
 use Rattle.kt_claim.specs.Bytes.{is_blank}
-use Rattle.kt_claim.specs.TapStream.{without_return, begins, says, past, trimmed, is_bail, is_gap, is_test, is_unexcused, Directive, reason_of, directive_at, or_else, directive_behind, ends_plan, below_limit, planned_from, skips, skip_reason, plan_for, plan}
+use Rattle.std.specs.Option.{option_or}
+use Rattle.kt_claim.specs.TapStream.{without_return, begins, says, past, trimmed, is_bail, is_gap, is_test, is_unexcused, Directive, reason_of, directive_at, directive_in, ends_plan, below_limit, planned_from, skips, skip_reason, plan_for, plan}
 use Rattle.kt_claim.specs.declared.begun.Begun.{Begun}
 use Rattle.kt_claim.specs.declared.begun.Begun.TheVariants as begun
 use Rattle.kt_claim.specs.declared.letters.Letters.{Letters}
@@ -48,24 +49,24 @@ facts_of_kind kind.Test reason = testing true false
 facts_of_kind kind.Failure reason = testing true true
 facts_of_kind (kind.Plan n) reason = planning (Some (plan_for reason n))
 
--- behind the word that a line begins with
-abbrev pub behind_opening : Opening → List ℕ → Facts
-behind_opening opening.BailOut more = bailing
-behind_opening opening.Ok more = testing (is_gap more) false
-behind_opening opening.NotOk more = testing (is_gap more) (is_gap more && not (is_some (directive_behind false more)))
-behind_opening opening.Plan more = planning (option_map (plan_for (skips (directive_behind false more))) (planned_from None more))
+-- after the word that a line begins with
+abbrev pub after_opening : Opening → List ℕ → Facts
+after_opening opening.BailOut more = bailing
+after_opening opening.Ok more = testing (is_gap more) false
+after_opening opening.NotOk more = testing (is_gap more) (is_gap more && not (is_some (directive_in false more)))
+after_opening opening.Plan more = planning (option_map (plan_for (skips (directive_in false more))) (planned_from None more))
 
--- where the rest of that word may follow or not
+-- if the rest of that word followed, or did not
 abbrev pub opened : Opening → Bool → List ℕ → Facts
 opened o false more = nothing
-opened o true more = behind_opening o more
+opened o true more = after_opening o more
 
--- what a directive that is found or not makes of a failed test, or of a plan of no tests
+-- a failed test, or a plan of no tests, with this directive or none
 abbrev pub directed : Purpose → Option Directive → Facts
 directed Excuse found = testing true (not (is_some found))
 directed Explain found = planning (Some (0, skip_reason (skips found)))
 
--- the letters that a directive's first letters lack
+-- the letters that are still to come after the first letters of a directive
 abbrev pub lacking : Letters → List ℕ
 lacking T = codes "odo"
 lacking To = codes "do"
@@ -74,7 +75,7 @@ lacking S = codes "kip"
 lacking Sk = codes "ip"
 lacking Ski = codes "p"
 
--- whether the letters begin a directive that skips
+-- the letters begin a directive that skips
 abbrev pub is_skip : Letters → Bool
 is_skip S = true
 is_skip Sk = true
@@ -85,33 +86,33 @@ is_skip _ = false
 abbrev pub begun_directive : Letters → List ℕ → Option Directive
 begun_directive l more = if says (lacking l) more then Some (is_skip l, reason_of (drop (length (lacking l)) more)) else None
 
--- all that counts of the line, if these bytes follow; the bytes that are kept are those of a reason
-abbrev pub told : Begun → List ℕ → List ℕ → Facts
-told begun.Nothing kept more = facts_of more
-told (begun.Opened o lacks) kept more = opened o (begins lacks.now more) (drop (length lacks.now) more)
-told (begun.Digits value) kept more = planning (option_map (plan_for (skips (directive_behind false more))) (planned_from value more))
-told (begun.Blanks n) kept more =
-    planning (option_map (plan_for (skips (directive_behind false more))) (if ends_plan (past is_blank more) then below_limit n else None))
-told (begun.Looking purpose escaped) kept more = directed purpose (directive_behind escaped more)
-told (begun.Hash purpose) kept more = directed purpose (or_else (directive_at (past is_blank more)) (directive_behind false more))
-told (begun.Lettered purpose l) kept more = directed purpose (or_else (begun_directive l more) (directive_behind false more))
-told begun.Word kept more = planning (Some (0, skip_reason (reason_of more)))
-told begun.Gap kept more = planning (Some (0, skip_reason (trimmed (past is_blank more))))
-told begun.Reason kept more = planning (Some (0, skip_reason (trimmed (kept ++ more))))
-told (begun.Decided k) kept more = facts_of_kind k []
+-- the facts of an open line, if these bytes follow; the kept bytes are those of a reason
+abbrev pub facts_with : Begun → List ℕ → List ℕ → Facts
+facts_with begun.Nothing kept more = facts_of more
+facts_with (begun.Opened o lacks) kept more = opened o (begins lacks.now more) (drop (length lacks.now) more)
+facts_with (begun.Digits value) kept more = planning (option_map (plan_for (skips (directive_in false more))) (planned_from value more))
+facts_with (begun.Blanks n) kept more =
+    planning (option_map (plan_for (skips (directive_in false more))) (if ends_plan (past is_blank more) then below_limit n else None))
+facts_with (begun.Looking purpose escaped) kept more = directed purpose (directive_in escaped more)
+facts_with (begun.Hash purpose) kept more = directed purpose (option_or (directive_at (past is_blank more)) (directive_in false more))
+facts_with (begun.Lettered purpose l) kept more = directed purpose (option_or (begun_directive l more) (directive_in false more))
+facts_with begun.Word kept more = planning (Some (0, skip_reason (reason_of more)))
+facts_with begun.Gap kept more = planning (Some (0, skip_reason (trimmed (past is_blank more))))
+facts_with begun.Reason kept more = planning (Some (0, skip_reason (trimmed (kept ++ more))))
+facts_with (begun.Decided k) kept more = facts_of_kind k []
 
--- whether a byte is one of a reason
+-- a byte belongs to a reason
 abbrev pub is_kept : Begun → ℕ → Bool
 is_kept begun.Reason b = true
 is_kept begun.Gap b = not (is_blank b)
 is_kept _ b = false
 
--- whether the reason of a plan of no tests is being read
+-- the reason of a plan of no tests is being read
 abbrev pub is_reason : Begun → Bool
 is_reason begun.Reason = true
 is_reason _ = false
 
--- whether no byte that follows counts
+-- no byte that follows counts
 abbrev pub is_decided : Begun → Bool
 is_decided (begun.Decided k) = true
 is_decided _ = false
@@ -130,7 +131,7 @@ abbrev pub held_before : Bool → List ℕ → List ℕ
 held_before false more = more
 held_before true more = 13 ∷ more
 
--- what is kept of a line that was begun
+-- what is kept of an open line
 pub record LineState : Type 0 where
   pub begun : Begun
   pub kept : List ℕ
@@ -139,14 +140,14 @@ pub record LineState : Type 0 where
 -- these bytes of a line came
 pub record Knows (begun : Begun) (kept : List ℕ) (held : Bool) (came : List ℕ) : Type 0 where
   pub keeps : KeepsFor begun kept
-  pub tells : (more : List ℕ) → facts_of (without_return (came ++ more)) ≡ told begun kept (without_return (held_before held more))
+  pub tells : (more : List ℕ) → facts_of (without_return (came ++ more)) ≡ facts_with begun kept (without_return (held_before held more))
 
--- they came, and none is held back; more is to come
+-- these bytes came, none of them is held back, and more is to come
 pub record Released (begun : Begun) (kept came : List ℕ) : Type 0 where
   pub keeps : KeepsFor begun kept
-  pub tells : (b : ℕ) (more : List ℕ) → facts_of (without_return (came ++ b ∷ more)) ≡ told begun kept (without_return (b ∷ more))
+  pub tells : (b : ℕ) (more : List ℕ) → facts_of (without_return (came ++ b ∷ more)) ≡ facts_with begun kept (without_return (b ∷ more))
 
--- the first of the letters that are lacking
+-- the first of the letters that are still to come
 abbrev pub next_letter : Letters → ℕ
 next_letter T = 111
 next_letter To = 100
@@ -155,11 +156,11 @@ next_letter S = 107
 next_letter Sk = 105
 next_letter Ski = 112
 
--- what is known once it came
+-- the facts once it came
 abbrev pub with_letter : Purpose → Letters → List ℕ → Facts
-with_letter purpose T more = directed purpose (or_else (begun_directive To more) (directive_behind false more))
-with_letter purpose To more = directed purpose (or_else (begun_directive Tod more) (directive_behind false more))
+with_letter purpose T more = directed purpose (option_or (begun_directive To more) (directive_in false more))
+with_letter purpose To more = directed purpose (option_or (begun_directive Tod more) (directive_in false more))
 with_letter purpose Tod more = directed purpose (Some (false, reason_of more))
-with_letter purpose S more = directed purpose (or_else (begun_directive Sk more) (directive_behind false more))
-with_letter purpose Sk more = directed purpose (or_else (begun_directive Ski more) (directive_behind false more))
+with_letter purpose S more = directed purpose (option_or (begun_directive Sk more) (directive_in false more))
+with_letter purpose Sk more = directed purpose (option_or (begun_directive Ski more) (directive_in false more))
 with_letter purpose Ski more = directed purpose (Some (true, reason_of more))

@@ -3,7 +3,8 @@ use Rattle.std.specs.Prelude.{ℕ, Bool, true, false, not, ◌&&◌, ◌==◌, n
 use Rattle.std.specs.List.{prefix_len, starts_with, ends_with, list_any}
 use Rattle.kt_base.specs.Digits.{is_digit, up_to}
 use Rattle.kt_base.specs.Lossy.{lossy}
-use Rattle.kt_claim.specs.Bytes.{newline, is_newline, is_word_byte, number}
+use Rattle.kt_base.specs.Lines.{is_newline}
+use Rattle.kt_claim.specs.Bytes.{newline, is_word_byte, number}
 use Rattle.kt_claim.specs.ResultFile.{limit, line}
 use Rattle.kt_claim.specs.declared.claim.Claim.{Claim}
 use Rattle.kt_claim.specs.declared.claim.Claim.TheVariants as claim
@@ -61,7 +62,7 @@ abbrev pub value_of : List ℕ → Option ℕ
 value_of [] = None
 value_of (d ∷ digits) = up_to 255 (number (d ∷ digits))
 
--- the number behind an opening bracket, and what follows its closing one
+-- the number after an opening bracket, and what follows the closing one
 unfoldable pub number_in : List ℕ → Option (ℕ × List ℕ)
 number_in rest = closed (value_of (take (prefix_len is_digit rest) rest)) (drop (prefix_len is_digit rest) rest)
 
@@ -87,14 +88,14 @@ plainly Passed (_ ∷ _) = claim.Malformed UnexpectedReason
 plainly w rest = with_reason_in (claim_with w) (reason_in rest)
 
 -- what follows the word
-abbrev pub after_word : Word → List ℕ → Claim
-after_word w [] = plainly w []
-after_word w (b ∷ rest) = if b == 40 then after_bracket w rest else plainly w (b ∷ rest)
+abbrev pub claim_after : Word → List ℕ → Claim
+claim_after w [] = plainly w []
+claim_after w (b ∷ rest) = if b == 40 then after_bracket w rest else plainly w (b ∷ rest)
 
 -- the claim of a line with this word
 abbrev pub after_known : Option Word → List ℕ → Claim
 after_known None rest = claim.Malformed UnknownWord
-after_known (Some w) rest = after_word w rest
+after_known (Some w) rest = claim_after w rest
 
 -- the claim of a line
 unfoldable pub claim_of_line : List ℕ → Claim

@@ -1,13 +1,14 @@
 -- What a reader of a TAP stream has read.
 use Rattle.std.specs.Prelude.{◌≡◌, ℕ, ◌+◌, ◌≤◌, Bool, true, false, if◌then◌else◌, List, [], ◌∷◌, ◌++◌, map, length, Option, Some, None, is_some}
 use Rattle.std.specs.List.{list_any, filter_map}
-use Rattle.kt_claim.specs.Bytes.{is_newline}
-use Rattle.kt_claim.specs.LineStates.{LineState, Knows}
-use Rattle.kt_claim.specs.TapStream.{is_bail, is_test, is_unexcused, plan, count, heard, lines, without_return}
+use Rattle.kt_base.specs.Lines.{is_newline}
+use Rattle.kt_claim.specs.Inner.LineStates.{LineState, Knows}
+use Rattle.kt_base.specs.Lines.{lines}
+use Rattle.kt_claim.specs.TapStream.{is_bail, is_test, is_unexcused, plan, count, heard, without_return}
 use Rattle.kt_claim.specs.declared.open_line.OpenLine.{OpenLine}
 use Rattle.kt_claim.specs.declared.tally.Tally.{Tally}
 
--- 1 for what is so
+-- 1 for true, 0 for false
 abbrev pub one : Bool → ℕ
 one true = 1
 one false = 0
@@ -44,6 +45,6 @@ pub record HasLines (tally : Tally) (line : LineState) (fed : List ℕ) : Type 0
   pub fits : length whole + length open_line ≤ length fed
   pub known : Knows line.begun line.kept line.held open_line
 
--- a tally with one plan more; only the first is kept
+-- a tally with one more plan; only the first is kept
 abbrev pub with_plan : Tally → ℕ → List ℕ → Tally
 with_plan tally tests reason = if is_some tally.plan then record tally { second = true } else record tally { plan = Some (tests, reason) }

@@ -1,10 +1,8 @@
 -- What the steps of the core do to its cases.
 use Rattle.std.specs.Prelude.{ℕ, Bool, true, false, List, ◌++◌, ◌≡◌, ◌-◌, Option, Some, None, filter, map, drop, not, slice_get, slice_set, is_some, if◌then◌else◌}
 use Rattle.kt_base.specs.declared.entry.Entry.{Entry}
-use Rattle.kt_status.specs.declared.cleanup_end.CleanupEnd.{CleanupEnd}
 use Rattle.kt_base.specs.declared.output.Output.{Output}
-use Rattle.kt_base.specs.declared.refused.Refused.{Refused}
-use Rattle.kt_status.specs.Verdicts.{verdict_of_refusal, verdict_after_cleanup}
+use Rattle.kt_base.specs.Verdicts.{Judged}
 use Rattle.kt_sched.specs.declared.job.Job.{Job}
 use Rattle.kt_sched.specs.declared.ended.Ended.{Ended}
 use Rattle.kt_sched.specs.declared.stage.Stage.{Stage}
@@ -12,8 +10,8 @@ use Rattle.kt_sched.specs.declared.stage.Stage.TheVariants.{Running, Owing, Clea
 use Rattle.kt_sched.specs.declared.case.Case.{Case}
 use Rattle.kt_sched.specs.declared.ended_body.EndedBody.{EndedBody}
 use Rattle.kt_sched.specs.declared.case_record.CaseRecord.{CaseRecord}
-use Rattle.kt_sched.specs.EntryOf.{body_of, no_output}
-use Rattle.kt_sched.specs.SchedState.{entry_with, record_in, decided_record}
+use Rattle.kt_sched.specs.EntryOf.{no_output}
+use Rattle.kt_sched.specs.SchedState.{entry_with, record_in}
 
 -- the case at i has this stage in place of that one, and nothing else is changed
 pub record Replaced (old new : List Case) (i : ℕ) (stage was : Stage) : Type 0 where
@@ -78,22 +76,15 @@ pub record TookEntry (old new : List Case) (i : ℕ) (entry : Entry) : Type 0 wh
   pub is : entry ≡ entry_with had case_record
   pub changed : new ≡ slice_set old i (record { job = left; stage = Taken })
 
--- the record of a case whose body was refused
-abbrev pub refused_record : Refused → CaseRecord
-refused_record cause = decided_record (verdict_of_refusal cause)
+-- the record of a case with this verdict, whose cleanup was over at this last moment
+abbrev pub record_of : Judged → EndedBody → ℕ → Output → CaseRecord
+record_of verdict body last output =
+    record { verdict = verdict; started = body.started; millis = last - body.started; body = body.output; cleanup = output }
 
--- the record of a case whose cleanup ended so, at this last moment
-abbrev pub record_of : EndedBody → CleanupEnd → ℕ → Output → CaseRecord
-record_of body end last output =
-    record { verdict = verdict_after_cleanup body.verdict end; started = body.started; millis = last - body.started; body = body.output; cleanup = output }
-
--- the record of a case without a declared cleanup
-abbrev pub plain_record : ℕ → Ended → CaseRecord
-plain_record started e = record { verdict = body_of e; started = started; millis = e.moment - started; body = e.output; cleanup = no_output }
-
--- a body that ended, of a case that isn't over
-abbrev pub ended_body : ℕ → Ended → EndedBody
-ended_body started e = record { started = started; ended = e.moment; verdict = body_of e; output = e.output }
+-- the record of a case with this verdict and without a declared cleanup
+abbrev pub plain_record : Judged → ℕ → Ended → CaseRecord
+plain_record verdict started e =
+    record { verdict = verdict; started = started; millis = e.moment - started; body = e.output; cleanup = no_output }
 
 -- a position to put, unless a put failed
 abbrev pub unless : Bool → ℕ → Option ℕ
@@ -108,6 +99,6 @@ same_flag false b = not b
 abbrev pub positions_where : Bool → List Job → List ℕ
 positions_where flag jobs = map (λ (job : Job). job.position) (filter (λ (job : Job). same_flag flag job.exclusive) jobs)
 
--- so many jobs of a plan are gone through
+-- the first i jobs of a plan were visited
 abbrev pub GoneThrough : Bool → List Job → List ℕ → ℕ → List ℕ → Type 0
 GoneThrough flag plan old i order = old ++ positions_where flag plan ≡ order ++ positions_where flag (drop i plan)

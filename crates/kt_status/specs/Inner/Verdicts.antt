@@ -1,4 +1,4 @@
--- The verdict tables. Each line of a definition is a row, and a row fits where none above it does.
+-- The verdict tables as functions. Each line of a definition is a row, and a row fits if none above it does.
 use Rattle.std.specs.Prelude.{ℕ, Bool, false, List, ◌++◌, codes, if◌then◌else◌, nat_eq, nat_lt, Option, Some, None}
 use Rattle.std.specs.Fmt.{decimal}
 use Rattle.kt_base.specs.declared.outcome.Outcome.{Outcome}
@@ -10,37 +10,15 @@ use Rattle.kt_base.specs.Kinds.{good}
 use Rattle.kt_base.specs.Verdicts.{Judged, passed, skipped, expected_failure, failed, broken}
 use Rattle.kt_claim.specs.declared.claim.Claim.{Claim}
 use Rattle.kt_claim.specs.declared.claim.Claim.TheVariants.{Missing, Unreadable, Malformed, Passed, Failed, Skipped, ExpectedFailure, ExpectedDeath, ExpectedTimeout, ExpectedExit, ExpectedSignal}
-use Rattle.kt_claim.specs.declared.claim_fault.ClaimFault.{ClaimFault}
-use Rattle.kt_claim.specs.declared.claim_fault.ClaimFault.TheVariants as result
 use Rattle.kt_claim.specs.declared.tap.Tap.{Tap}
 use Rattle.kt_claim.specs.declared.tap.Tap.TheVariants.{Invalid, BailedOut, SkipAll, Counted}
-use Rattle.kt_claim.specs.declared.tap_fault.TapFault.{TapFault}
-use Rattle.kt_claim.specs.declared.tap_fault.TapFault.TheVariants as stream
 use Rattle.kt_claim.specs.declared.evidence.Evidence.{Evidence}
 use Rattle.kt_claim.specs.declared.evidence.Evidence.TheVariants as evidence
+use Rattle.kt_status.specs.Tables.{claim_fault_text, tap_fault_text}
 use Rattle.kt_status.specs.declared.cleanup_end.CleanupEnd.{CleanupEnd}
 use Rattle.kt_status.specs.declared.cleanup_end.CleanupEnd.TheVariants as cleanup
 
--- what is wrong with a result file
-abbrev pub claim_fault_text : ClaimFault → List ℕ
-claim_fault_text result.TooLong = codes "too long"
-claim_fault_text result.Empty = codes "empty"
-claim_fault_text result.NoNewline = codes "no final newline"
-claim_fault_text result.SeveralLines = codes "several lines"
-claim_fault_text result.UnknownWord = codes "unknown word"
-claim_fault_text result.BadNumber = codes "bad number"
-claim_fault_text result.UnexpectedReason = codes "unexpected reason"
-claim_fault_text result.NoReason = codes "no reason"
-
--- what is wrong with a TAP stream
-abbrev pub tap_fault_text : TapFault → List ℕ
-tap_fault_text stream.Unreadable = codes "output could not be read"
-tap_fault_text stream.TooLong = codes "output too long"
-tap_fault_text stream.NoPlan = codes "no plan"
-tap_fault_text stream.SecondPlan = codes "second plan"
-tap_fault_text stream.PlanDiffers = codes "plan differs from tests"
-
--- whether a process exited with this code
+-- a process exited with this code
 abbrev pub exits_with : ℕ → Outcome → Bool
 exits_with n (Exited code) = nat_eq code n
 exits_with n _ = false
@@ -74,7 +52,7 @@ atf_ended (ExpectedExit due reason) ending = expected_exit due reason ending
 atf_ended (ExpectedSignal due reason) ending = expected_signal due reason ending
 atf_ended (ExpectedTimeout reason) ending = broken (codes "Expected timeout but " ++ ending_text ending)
 
--- an ATF case whose time had come
+-- an ATF case that ran out of time
 abbrev pub atf_late : Claim → Judged
 atf_late (ExpectedTimeout reason) = expected_failure reason
 atf_late _ = broken (codes "Test case body timed out")
@@ -122,7 +100,7 @@ verdict_of_refusal refused.Output = broken (codes "Output files could not be mad
 verdict_of_refusal refused.Spawn = broken (codes "Test program could not be started")
 verdict_of_refusal refused.Memory = broken (codes "Test case could not be started for want of memory")
 
--- what the end of a cleanup makes of a good verdict
+-- a good verdict after the end of a cleanup
 abbrev pub cleaned : Judged → CleanupEnd → Judged
 cleaned body (cleanup.Ended (Exited code)) = if nat_eq code 0 then body else broken (codes "Test case cleanup did not terminate successfully")
 cleaned body (cleanup.Ended TimedOut) = broken (codes "Test case cleanup timed out")

@@ -1,32 +1,24 @@
 -- Names and numbers.
-use Rattle.std.specs.Prelude.{ℕ, ◌^◌, Bool, true, false, nat_lt, bytes_eq, codes, List, [], ◌∷◌, take, drop, Option, Some, None, chars, if◌then◌else◌}
+use Rattle.std.specs.Prelude.{ℕ, Bool, true, false, List, [], ◌∷◌, take, drop, Option, Some, None}
 use Rattle.std.specs.List.{prefix_len}
 use Rattle.kt_script.specs.declared.token.Flaw.TheVariants.{Bad}
-use Rattle.kt_script.specs.declared.token.Kind.{Kind}
-use Rattle.kt_script.specs.declared.token.Kind.TheVariants.{Name, Number, Truth}
+use Rattle.kt_script.specs.declared.token.Kind.TheVariants.{Number}
 use Rattle.kt_script.specs.declared.piece.Piece.{Piece}
 use Rattle.kt_script.specs.Letters.{is_letter, is_word}
-use Rattle.kt_base.specs.Digits.{is_digit, decimal_from}
-use Rattle.kt_script.specs.Pieces.{token, broken}
-
--- a name, where it is not `true` or `false`
-abbrev pub word : List ℕ → Kind
-word letters = if bytes_eq letters (codes "true") then Truth true else if bytes_eq letters (codes "false") then Truth false else Name (chars letters)
+use Rattle.kt_base.specs.Digits.{is_digit, decimal_from, fits}
+use Rattle.kt_script.specs.TokenRules.{word}
+use Rattle.kt_script.specs.Inner.Pieces.{token, broken}
 
 -- the longest name that the text begins with
 abbrev pub name_at : List ℕ → Piece
 name_at text = token (prefix_len is_word text) (word (take (prefix_len is_word text) text))
-
--- the number, if it is below 2^64
-abbrev pub fits : ℕ → Option ℕ
-fits v = if nat_lt v (2 ^ 64) then Some v else None
 
 -- whether a letter is next
 abbrev pub begins_with_letter : List ℕ → Bool
 begins_with_letter [] = false
 begins_with_letter (c ∷ cs) = is_letter c
 
--- a number of so many digits, unless a letter follows directly or it is too large
+-- a number of n digits, unless a letter follows directly or it is too large
 abbrev pub number : List ℕ → ℕ → Bool → Option ℕ → Piece
 number text n true v = broken text Bad
 number text n false None = broken text Bad

@@ -1,0 +1,2 @@
+-- What private functions do to the cases of the core.
+pub mod Cases
