@@ -11,7 +11,6 @@ pub mod LineBytes
 pub mod MemoryLaws
 pub mod NewRuns
 pub mod Numbered
-pub mod PathStarts
 pub mod Performances
 pub mod PlanRuns
 pub mod Refusing

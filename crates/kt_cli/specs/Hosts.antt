@@ -19,7 +19,8 @@ use Rattle.kt_words.specs.Commands.{cases_of}
 use Rattle.kt_cli.specs.HostAnswers.{IsHostAnswer, RunnerStarts, RunnerWaits}
 use Rattle.kt_cli.specs.HostFiles.{IsLook}
 use Rattle.kt_cli.specs.Meaning.{Did}
-use Rattle.kt_cli.specs.Places.{is_absolute, source_directory}
+use Rattle.kt_base.specs.Characters.{is_absolute}
+use Rattle.kt_cli.specs.Places.{source_directory}
 
 -- a driver for the programs beside a Kyuafile, whose root directory was just made
 pub record IsMade {O : Type 0} (leads : O → Call → O → Type 0) (os : O) (here base kyuafile : List ℕ) (d : Driver O) : Type 0 where
