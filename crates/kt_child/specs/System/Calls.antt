@@ -6,7 +6,7 @@ use Rattle.kt_child.specs.declared.system.os_fault.OsFault.{OsFault}
 use Rattle.kt_child.specs.declared.system.file_read.FileRead.{FileRead}
 use Rattle.kt_child.specs.declared.system.env.EnvPlan.{EnvPlan}
 
--- one question with its answer; where the answer is a truth value, it tells whether the call succeeded
+-- one question with its answer; a truth value says whether the call succeeded
 pub data Call : Type 0 where
   SetLimit : (child : Child) (limit : ℕ) → Call
   MakeDir : (path : List ℕ) (answer : Result (Unit {0}) OsFault) → Call

@@ -53,9 +53,8 @@ pub(crate) fn remove_if<O: Os>(os: &mut O, removed: bool, dir: &Text)
     }
 }
 
-/// Deals with a child that is over: asks for the moment, reads what it left, and removes the directory of a case that
-/// is over.
-pub fn leave<O: Os>(alloc: Global, os: &mut O, case: &Case, outcome: Outcome) -> Ended
+/// Ends a child: asks for the moment, reads what it left, and removes the directory if its case is over.
+pub(crate) fn leave<O: Os>(alloc: Global, os: &mut O, case: &Case, outcome: Outcome) -> Ended
     ensures left { (calls : List Call) × Chain O.leads os.old calls os.new
         × Leaves case.now calls outcome result }
     ensures moment { IsMoment result.moment }

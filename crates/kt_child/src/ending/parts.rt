@@ -33,7 +33,7 @@ fn count_part(got: &mut u64, bytes: &Bytes, follows: bool, limit: u64) -> NextPa
     NextPart::More
 }
 
-/// Hands bytes to the reader. Where there are none it is left as it is, which takes no memory.
+/// Passes bytes to the reader. No bytes leave it as it is, and take no memory.
 fn hand<R: PartReader>(reader: &mut R, bytes: &Bytes) -> Result<(), NoMemory>
     ensures ok { OnOk result (Takes R.has_taken reader.old reader.new bytes.now) }
     ensures err { OnErr result (0 < length bytes.now) }
@@ -45,7 +45,7 @@ fn hand<R: PartReader>(reader: &mut R, bytes: &Bytes) -> Result<(), NoMemory>
     Ok(())
 }
 
-/// Hands the bytes of a part to the reader.
+/// Passes the bytes of a part to the reader.
 fn take_part<R: PartReader>(
     reader: &mut R,
     got: &mut u64,

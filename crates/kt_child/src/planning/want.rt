@@ -1,7 +1,10 @@
+use kt_base::Role;
+
 /// What an ATF program is started for (atf-test-program(1)).
 #[derive(Clone, Copy, Debug, PartialEq, Eq)]
-pub enum Want {
+pub(crate) enum Want {
+    /// The list of its test cases.
     List,
-    Body,
-    Cleanup,
+    /// The body or the cleanup of a case.
+    Case(Role),
 }

@@ -30,7 +30,7 @@ fn ended(watch: &Watch, outcome: Outcome) -> Turn
 }
 
 /// Polls a child once, whose limit is given in seconds, and kills it where the poll failed or its limit is used up.
-pub fn poll_once<O: Os>(os: &mut O, child: Child, limit: u64, watch: &mut Watch) -> Turn
+pub(crate) fn poll_once<O: Os>(os: &mut O, child: Child, limit: u64, watch: &mut Watch) -> Turn
     requires in_range { limit ≤ 1000000 }
     requires watched { IsWatched limit watch.old }
     ensures asked { (answer : Result Polled OsFault) × (done : Bool)
