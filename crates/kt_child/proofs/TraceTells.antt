@@ -9,7 +9,8 @@ use Rattle.kt_sched.specs.Trace.{Trace, NoEvent, Then, Event, Start, End, Leads}
 use Rattle.kt_child.specs.declared.driving.driver.Driver.{Driver}
 use Rattle.kt_child.specs.declared.system.child.Child.{Child}
 use Rattle.kt_child.specs.Driving.ChildrenState.{ChildrenState}
-use Rattle.kt_child.specs.System.Calls.{Call, Chain}
+use Rattle.kt_base.specs.Chains.{Chain}
+use Rattle.kt_child.specs.System.Calls.{Call}
 use Rattle.kt_child.specs.Polling.ChildOutcome.{Heard, Told}
 use Rattle.kt_child.specs.Driving.JobPlan.{limit_of}
 use Rattle.kt_child.specs.Driving.DriverSteps.{DriverStarts, DriverWaits}

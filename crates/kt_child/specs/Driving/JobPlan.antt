@@ -10,7 +10,7 @@ use Rattle.kt_suite.specs.Paths.{parent_of}
 use Rattle.kt_sched.specs.declared.job.Job.{Job}
 use Rattle.kt_child.specs.declared.planning.paths.Paths.{Paths}
 use Rattle.kt_child.specs.declared.planning.want.Want.{Want}
-use Rattle.kt_child.specs.declared.planning.want.Want.TheVariants.{List as Listing, Case as CaseOf}
+use Rattle.kt_child.specs.declared.planning.want.Want.TheVariants.{List as Listing, Body as BodyOf, Cleanup as CleanupOf}
 use Rattle.kt_child.specs.declared.planning.spawning.Spawning.{Spawning}
 use Rattle.kt_child.specs.declared.polling.watched.Watched.{Watched}
 use Rattle.kt_child.specs.declared.planning.case.Case.{Case}
@@ -33,6 +33,7 @@ limit_of job Cleanup = 60
 
 -- what a child is started for, with its limit in seconds
 pub record Purpose : Type 0 where
+  pub role : Role
   pub want : Want
   pub interface : Interface
   pub program : List ℕ
@@ -40,11 +41,17 @@ pub record Purpose : Type 0 where
   pub case_name : List ℕ
   pub limit : ℕ
 
+-- what a job's child is started for
+abbrev pub want_of : Role → Want
+want_of Body = BodyOf
+want_of Cleanup = CleanupOf
+
 -- a child of a job
 abbrev pub job_purpose : Job → Role → Purpose
 job_purpose job role =
     record {
-      want = CaseOf role;
+      role = role;
+      want = want_of role;
       interface = job.interface;
       program = job.program;
       variables = job.vars;
@@ -52,29 +59,24 @@ job_purpose job role =
       limit = limit_of job role;
     }
 
--- the list of an ATF program
+-- the list of an ATF program, which is asked of a body
 abbrev pub list_purpose : List ℕ → List Variable → Purpose
 list_purpose program variables =
-    record { want = Listing; interface = Atf; program = program; variables = variables; case_name = []; limit = 300 }
-
--- a program that is asked for its list is a body
-abbrev pub role_of : Want → Role
-role_of Listing = Body
-role_of (CaseOf role) = role
+    record { role = Body; want = Listing; interface = Atf; program = program; variables = variables; case_name = []; limit = 300 }
 
 -- what a child is started with, by the directory of the root Kyuafile, its number and its paths
 abbrev pub spawning_for : List ℕ → Purpose → ℕ → Paths → Spawning
 spawning_for source p attempt paths =
     record {
-      child = record { attempt = attempt; role = role_of p.want };
+      child = record { attempt = attempt; role = p.role };
       limit = p.limit;
       program = program_path source p.program;
       words = words_of p.interface p.want paths.result (program_directory (program_path source p.program)) p.variables p.case_name;
       env = env_of p.interface p.variables paths.work;
       dir = paths.dir;
       work = paths.work;
-      out = out_of (role_of p.want) paths;
-      err = err_of (role_of p.want) paths;
+      out = out_of p.role paths;
+      err = err_of p.role paths;
     }
 
 -- what a job's child is started with

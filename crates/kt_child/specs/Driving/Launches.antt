@@ -8,7 +8,8 @@ use Rattle.kt_sched.specs.declared.start_answer.StartAnswer.{StartAnswer}
 use Rattle.kt_sched.specs.declared.start_answer.StartAnswer.TheVariants.{Refused as RefusedFor}
 use Rattle.kt_child.specs.declared.driving.driver.Driver.{Driver}
 use Rattle.kt_child.specs.declared.planning.case.Case.{Case}
-use Rattle.kt_child.specs.System.Calls.{Call, Chain}
+use Rattle.kt_base.specs.Chains.{Chain}
+use Rattle.kt_child.specs.System.Calls.{Call}
 use Rattle.kt_child.specs.Driving.JobPlan.{case_in, cleaning, spawning_of, watched_of}
 use Rattle.kt_child.specs.Driving.Begins.{Begun, state_after_start}
 use Rattle.kt_child.specs.Driving.ChildrenState.{ChildrenState}

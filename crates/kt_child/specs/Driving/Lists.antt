@@ -10,7 +10,8 @@ use Rattle.kt_child.specs.declared.system.os_fault.OsFault.{OsFault}
 use Rattle.kt_child.specs.declared.system.file_read.FileRead.{FileRead}
 use Rattle.kt_child.specs.declared.driving.driver.Driver.{Driver}
 use Rattle.kt_child.specs.declared.planning.spawning.Spawning.{Spawning}
-use Rattle.kt_child.specs.System.Calls.{Call, Chain, ReadFile, RemoveTree}
+use Rattle.kt_base.specs.Chains.{Chain}
+use Rattle.kt_child.specs.System.Calls.{Call, ReadFile, RemoveTree}
 use Rattle.kt_child.specs.Planning.ChildPlan.{paths_of}
 use Rattle.kt_child.specs.Polling.ChildOutcome.{Told}
 use Rattle.kt_child.specs.Polling.Lives.{heard_by}

@@ -12,7 +12,8 @@ use Rattle.kt_sched.specs.Trace.{Trace, NoEvent, Then, Event, Start, End, Leads}
 use Rattle.kt_child.specs.declared.driving.driver.Driver.{Driver}
 use Rattle.kt_child.specs.declared.planning.case.Case.{Case}
 use Rattle.kt_child.specs.Driving.Begins.{Begun}
-use Rattle.kt_child.specs.System.Calls.{Call, Chain}
+use Rattle.kt_base.specs.Chains.{Chain}
+use Rattle.kt_child.specs.System.Calls.{Call}
 use Rattle.kt_child.specs.Polling.ChildOutcome.{Told}
 use Rattle.kt_child.specs.Planning.ChildPlan.{paths_of}
 use Rattle.kt_child.specs.Ending.Ends.{Leaves}

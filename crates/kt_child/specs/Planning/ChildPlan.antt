@@ -3,12 +3,11 @@ use Rattle.std.specs.Prelude.{ℕ, List, [], ◌∷◌, ◌++◌, map, codes}
 use Rattle.std.specs.Fmt.{decimal}
 use Rattle.kt_base.specs.declared.interface.Interface.{Interface}
 use Rattle.kt_base.specs.declared.interface.Interface.TheVariants.{Atf, Tap, Plain}
-use Rattle.kt_base.specs.declared.role.Role.TheVariants.{Body, Cleanup}
 use Rattle.kt_base.specs.declared.variable.Variable.{Variable}
 use Rattle.kt_child.specs.declared.planning.paths.Paths.{Paths}
 use Rattle.kt_child.specs.declared.system.env.EnvPlan.{EnvPlan}
 use Rattle.kt_child.specs.declared.planning.want.Want.{Want}
-use Rattle.kt_child.specs.declared.planning.want.Want.TheVariants.{List as Listing, Case}
+use Rattle.kt_child.specs.declared.planning.want.Want.TheVariants.{List as Listing, Body, Cleanup}
 
 -- the directory of an attempt
 abbrev pub attempt_dir : List ℕ → ℕ → List ℕ
@@ -38,9 +37,9 @@ variable_word v = codes "-v" ++ v.name ++ codes "=" ++ v.value
 -- the arguments of a program, by its interface and what it is started for
 abbrev pub words_of : Interface → Want → List ℕ → List ℕ → List Variable → List ℕ → List (List ℕ)
 words_of Atf Listing result source variables case_name = map variable_word variables ++ codes "-l" ∷ []
-words_of Atf (Case Body) result source variables case_name =
+words_of Atf Body result source variables case_name =
     ((codes "-r" ++ result) ∷ (codes "-s" ++ source) ∷ []) ++ map variable_word variables ++ case_name ∷ []
-words_of Atf (Case Cleanup) result source variables case_name =
+words_of Atf Cleanup result source variables case_name =
     ((codes "-s" ++ source) ∷ []) ++ map variable_word variables ++ (case_name ++ codes ":cleanup") ∷ []
 words_of Tap want result source variables case_name = []
 words_of Plain want result source variables case_name = []

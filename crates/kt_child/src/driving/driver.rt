@@ -47,7 +47,8 @@ impl<O: Os + Drop> Launcher for Driver<O> {
 
 impl<O: Os + Drop> Driver<O> {
     ghost use Rattle.std.specs.Prelude.{◌≡◌, Bool, List, MatchResult, Ok, Err};
-    ghost use Rattle.kt_child.specs.System.Calls.{Call, Chain, RemoveTree};
+    ghost use Rattle.kt_base.specs.Chains.{Chain};
+    ghost use Rattle.kt_child.specs.System.Calls.{Call, RemoveTree};
     ghost use Rattle.kt_child.specs.Driving.Roots.{FindsRoot};
     ghost use Rattle.kt_child.specs.Driving.ChildrenState.{idle_state};
 

@@ -1,7 +1,7 @@
 ghost use Rattle.std.specs.Prelude.{◌≡◌, ◌≤◌, IfOk};
 ghost use Rattle.kt_sched.specs.Plan.{IsFit};
 ghost use Rattle.kt_child.specs.Polling.Turns.{IsOn};
-ghost use Rattle.kt_child.specs.Driving.JobPlan.{case_in, limit_of, role_of, spawning_for};
+ghost use Rattle.kt_child.specs.Driving.JobPlan.{case_in, limit_of, spawning_for, want_of};
 ghost use Rattle.kt_child.specs.Starting.Starts.{spawned};
 
 use crate::ending::ends::{err_path, out_path};
@@ -35,12 +35,13 @@ pub(crate) fn limit(job: &Job, role: Role) -> u64
     }
 }
 
-fn role_of(want: Want) -> Role
-    ensures { result ≡ role_of want }
+/// What a job's child is started for.
+pub(crate) fn want(role: Role) -> Want
+    ensures { result ≡ want_of role }
 {
-    match want {
-        Want::List => Role::Body,
-        Want::Case(role) => role,
+    match role {
+        Role::Body => Want::Body,
+        Role::Cleanup => Want::Cleanup,
     }
 }
 
@@ -55,6 +56,7 @@ pub(crate) fn spawning(
     requires some { 1 ≤ purpose.limit }
     requires range { purpose.limit ≤ 1000000 }
     ensures plan { IfOk result (λ plan. plan ≡ spawning_for source.now (record {
+      role = purpose.entry.role;
       want = purpose.entry.want;
       interface = purpose.entry.interface;
       program = purpose.entry.program.now;
@@ -64,7 +66,7 @@ pub(crate) fn spawning(
     }) attempt paths.now) }
     ensures on { IfOk result (λ plan. IsOn (spawned plan)) }
 {
-    let role = role_of(purpose.want);
+    let role = purpose.role;
     let program = absolute_path(source, purpose.program)?;
     let directory = program_directory(alloc, &program)?;
     let words = argv_plan(

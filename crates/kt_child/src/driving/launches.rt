@@ -1,9 +1,8 @@
 use crate::driving::driver::Driver;
-use crate::driving::jobs::{body_case, limit, spawning};
+use crate::driving::jobs::{body_case, limit, spawning, want};
 use crate::driving::running_children::refuse;
 use crate::planning::case::Case;
 use crate::planning::purpose::Purpose;
-use crate::planning::want::Want;
 use crate::starting::refusals::memory_refusal;
 use crate::system::os::Os;
 use kt_base::{Refused, Role};
@@ -15,7 +14,8 @@ impl<O: Os + Drop> Driver<O> {
     ghost use Rattle.kt_sched.specs.Children.{MayStart, pending_after_start, running_after_start};
     ghost use Rattle.kt_sched.specs.Moments.{HasMoment};
     ghost use Rattle.kt_sched.specs.Plan.{IsFit};
-    ghost use Rattle.kt_child.specs.System.Calls.{Call, Chain};
+    ghost use Rattle.kt_base.specs.Chains.{Chain};
+    ghost use Rattle.kt_child.specs.System.Calls.{Call};
     ghost use Rattle.kt_child.specs.Driving.Begins.{Begun, shown_after, state_after_start};
     ghost use Rattle.kt_child.specs.Driving.ChildrenState.{count_at, is_among, shown_at};
     ghost use Rattle.kt_child.specs.Driving.JobPlan.{spawning_of, watched_of};
@@ -39,7 +39,8 @@ impl<O: Os + Drop> Driver<O> {
         ensures root { self.new.root ≡ self.old.root }
     {
         let purpose = Purpose {
-            want: Want::Case(case.role),
+            role: case.role,
+            want: want(case.role),
             interface: job.interface,
             program: &job.program,
             variables: &job.vars,

@@ -1,5 +1,6 @@
 ghost use Rattle.std.specs.Prelude.{◌≡◌, List, IfOk};
-ghost use Rattle.kt_child.specs.System.Calls.{Call, Chain};
+ghost use Rattle.kt_base.specs.Chains.{Chain};
+ghost use Rattle.kt_child.specs.System.Calls.{Call};
 ghost use Rattle.kt_child.specs.Planning.ChildPlan.{paths_of};
 ghost use Rattle.kt_child.specs.Driving.JobPlan.{list_purpose, spawning_for};
 ghost use Rattle.kt_child.specs.Driving.Lists.{RanList, WatchedList};
@@ -18,7 +19,7 @@ use crate::starting::refusals::memory_refusal;
 use crate::starting::starts::{set_up, spawned};
 use crate::system::os::Os;
 use kt_atflist::{ListBytes, Listing};
-use kt_base::{Interface, NoMemory, Outcome, Refused, Text, Variables};
+use kt_base::{Interface, NoMemory, Outcome, Refused, Role, Text, Variables};
 use kt_suite::Program;
 use std::alloc::Global;
 
@@ -68,6 +69,7 @@ fn plan_list(
     let paths = workdir_plan(alloc, root, attempt)?;
     let none = Text::new(alloc);
     let purpose = Purpose {
+        role: Role::Body,
         want: Want::List,
         interface: Interface::Atf,
         program,

@@ -4,7 +4,8 @@ ghost use Rattle.kt_sched.specs.Children.{same_role};
 ghost use Rattle.kt_child.specs.declared.planning.case.Case.{Case};
 ghost use Rattle.kt_child.specs.Driving.Begins.{Unbegun};
 ghost use Rattle.kt_child.specs.Driving.ChildrenState.{is_among, pending_with};
-ghost use Rattle.kt_child.specs.System.Calls.{Call, Chain};
+ghost use Rattle.kt_base.specs.Chains.{Chain};
+ghost use Rattle.kt_child.specs.System.Calls.{Call};
 
 use crate::ending::ends::{leave, over, remove_if};
 use crate::planning::case::Case;
@@ -122,8 +123,10 @@ pub(crate) fn refuse<O: Os>(os: &mut O, role: Role, dir: &Text, refusal: NoMemor
 impl RunningChildren {
     ghost use Rattle.std.specs.Prelude.{◌≡◌, ◌==◌, ℕ, ◌+◌, ◌<◌, List, [], length, slice_get, remove, Some, true, false, if◌then◌else◌};
     ghost use Rattle.kt_sched.specs.Children.{Child as Shown, IsEvidence, running_after_end, pending_after_end};
-    ghost use Rattle.kt_sched.specs.Moments.{HasMoment, IsMoment};
-    ghost use Rattle.kt_child.specs.System.Calls.{Call, Chain};
+    ghost use Rattle.kt_base.specs.Moments.{IsMoment};
+    ghost use Rattle.kt_sched.specs.Moments.{HasMoment};
+    ghost use Rattle.kt_base.specs.Chains.{Chain};
+    ghost use Rattle.kt_child.specs.System.Calls.{Call};
     ghost use Rattle.kt_child.specs.Polling.Turns.{IsOn};
     ghost use Rattle.kt_child.specs.Driving.ChildrenState.{Waited, count_at, idle_state, is_among, shown_at};
     ghost use Rattle.kt_child.specs.Driving.Begins.{Begun, state_after_start, shown_after};

@@ -1,7 +1,8 @@
 ghost use Rattle.std.specs.Prelude.{◌≡◌, List};
 ghost use Rattle.kt_sched.specs.Children.{IsEvidence};
-ghost use Rattle.kt_sched.specs.Moments.{IsMoment};
-ghost use Rattle.kt_child.specs.System.Calls.{Call, Chain};
+ghost use Rattle.kt_base.specs.Moments.{IsMoment};
+ghost use Rattle.kt_base.specs.Chains.{Chain};
+ghost use Rattle.kt_child.specs.System.Calls.{Call};
 ghost use Rattle.kt_child.specs.Ending.Ends.{Leaves, Removes, err_of, is_over, out_of};
 
 use crate::ending::gathering::gather;

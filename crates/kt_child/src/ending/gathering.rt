@@ -1,7 +1,8 @@
 ghost use Rattle.std.specs.Prelude.{ℕ, List};
 ghost use Rattle.kt_claim.specs.ClaimReading.{HasRead};
 ghost use Rattle.kt_claim.specs.StreamReading.{HasStream};
-ghost use Rattle.kt_child.specs.System.Calls.{Call, Chain};
+ghost use Rattle.kt_base.specs.Chains.{Chain};
+ghost use Rattle.kt_child.specs.System.Calls.{Call};
 ghost use Rattle.kt_child.specs.Ending.Parts.{Bytes};
 ghost use Rattle.kt_child.specs.Ending.Gathering.{Gathers, IsClaim, IsTap, ReadsClaim, ReadsTap};
 ghost use Rattle.kt_sched.specs.Children.{IsEvidence};

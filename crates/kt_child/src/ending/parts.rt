@@ -1,7 +1,8 @@
 ghost use Rattle.std.specs.Prelude.{◌≡◌, ℕ, ◌+◌, ◌<◌, List, [], Result, length, Ok, OnOk, OnErr};
 ghost use Rattle.kt_child.specs.declared.system.file_read.FileRead.{FileRead};
 ghost use Rattle.kt_child.specs.declared.system.os_fault.OsFault.{OsFault};
-ghost use Rattle.kt_child.specs.System.Calls.{Call, Chain};
+ghost use Rattle.kt_base.specs.Chains.{Chain};
+ghost use Rattle.kt_child.specs.System.Calls.{Call};
 ghost use Rattle.kt_child.specs.Ending.Reads.{bytes_of};
 ghost use Rattle.kt_child.specs.Ending.Parts.{IsNext, Reads, Takes, Tells, Whole, next_of, next_part};
 

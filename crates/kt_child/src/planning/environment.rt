@@ -95,7 +95,7 @@ fn push_own(
 
 /// The environment of a child (this profile): the runner's, without the variables that choose a language, and with
 /// those that are set. `work` is the absolute path of its work directory.
-pub(crate) fn env_plan(
+pub fn env_plan(
     alloc: Global,
     interface: Interface,
     variables: &Variables,

@@ -2,7 +2,7 @@ use kt_base::Text;
 
 /// The absolute paths of one attempt (this profile).
 #[derive(Debug, Drop)]
-pub(crate) struct Paths {
+pub struct Paths {
     /// The directory that holds all of them.
     pub dir: Text,
     /// The directory that the child runs in.

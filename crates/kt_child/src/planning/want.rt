@@ -1,10 +1,10 @@
-use kt_base::Role;
-
 /// What an ATF program is started for (atf-test-program(1)).
 #[derive(Clone, Copy, Debug, PartialEq, Eq)]
-pub(crate) enum Want {
+pub enum Want {
     /// The list of its test cases.
     List,
-    /// The body or the cleanup of a case.
-    Case(Role),
+    /// The body of a case.
+    Body,
+    /// The cleanup of a case.
+    Cleanup,
 }

@@ -4,7 +4,7 @@ ghost use Rattle.kt_child.specs.Planning.ChildPlan.{variable_word, words_of};
 use crate::planning::paths::Paths;
 use crate::planning::spelling::{joined, push_text};
 use crate::planning::want::Want;
-use kt_base::{Interface, Items, NoMemory, Role, Text, Variable, Variables};
+use kt_base::{Interface, Items, NoMemory, Text, Variable, Variables};
 use std::alloc::Global;
 
 /// The word that hands a variable to an ATF program.
@@ -48,7 +48,7 @@ fn body_words(
     variables: &Variables,
     case_name: &Text,
 ) -> Result<Items<Text>, NoMemory>
-    ensures { IfOk result (λ words. words ≡ words_of Interface.Atf (Want.Case Role.Body) result_file.now
+    ensures { IfOk result (λ words. words ≡ words_of Interface.Atf Want.Body result_file.now
         source.now variables.now case_name.now) }
 {
     let result_word = joined(alloc, "-r", result_file)?;
@@ -83,7 +83,7 @@ fn cleanup_words(
 
 /// The arguments of a program, after its path: those of atf-test-program(1) for an ATF program, none
 /// for others. `source` is the absolute directory of the program.
-pub(crate) fn argv_plan(
+pub fn argv_plan(
     alloc: Global,
     interface: Interface,
     want: Want,
@@ -99,10 +99,8 @@ pub(crate) fn argv_plan(
         Interface::Tap | Interface::Plain => Ok(Items::new(alloc)),
         Interface::Atf => match want {
             Want::List => list_words(alloc, variables),
-            Want::Case(Role::Body) => {
-                body_words(alloc, &paths.result, source, variables, case_name)
-            }
-            Want::Case(Role::Cleanup) => cleanup_words(alloc, source, variables, case_name),
+            Want::Body => body_words(alloc, &paths.result, source, variables, case_name),
+            Want::Cleanup => cleanup_words(alloc, source, variables, case_name),
         },
     }
 }

@@ -26,7 +26,7 @@ fn path_below(alloc: Global, root: &Text, number: u64, name: &str) -> Result<Tex
 }
 
 /// The paths of an attempt below the root directory of a driver (this profile).
-pub(crate) fn workdir_plan(alloc: Global, root: &Text, number: u64) -> Result<Paths, NoMemory>
+pub fn workdir_plan(alloc: Global, root: &Text, number: u64) -> Result<Paths, NoMemory>
     ensures { IfOk result (λ paths. paths ≡ paths_of root.now number) }
 {
     let dir = attempt_path(alloc, root, number)?;

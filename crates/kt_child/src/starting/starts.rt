@@ -1,5 +1,6 @@
 ghost use Rattle.std.specs.Prelude.{◌≡◌, ◌≤◌, ◌∷◌, [], List, IfOk};
-ghost use Rattle.kt_child.specs.System.Calls.{Call, Chain};
+ghost use Rattle.kt_base.specs.Chains.{Chain};
+ghost use Rattle.kt_child.specs.System.Calls.{Call};
 ghost use Rattle.kt_child.specs.Starting.Starts.{SetUp, SetUpIn, SetUpNew, Started, Tried, child_asks, furnish_asks, spawn_ask, spawned};
 
 use crate::ending::ends::remove_if;

@@ -1,6 +1,7 @@
 use Rattle.std.proofs.Common.{◌∙◌, ℕ, List, subst, ap}
 use Rattle.kt_child.specs.declared.planning.spawning.Spawning.{Spawning}
-use Rattle.kt_child.specs.System.Calls.{Call, Chain}
+use Rattle.kt_base.specs.Chains.{Chain}
+use Rattle.kt_child.specs.System.Calls.{Call}
 use Rattle.kt_child.specs.Driving.Begins.{Begun, state_after_start}
 use Rattle.kt_child.specs.Driving.JobPlan.{job_purpose, spawning_for}
 use Rattle.kt_child.specs.Starting.Starts.{spawned}
