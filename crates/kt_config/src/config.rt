@@ -23,8 +23,8 @@ use kt_script::parse;
 use std::alloc::Global;
 use std::marker::Model;
 
-/// The variables of the runner and of the test suites, each with the last value that it was given. Contracts see the
-/// values; `Holds` says which definitions they are the last ones of.
+/// The variables of the runner and of the test suites, each with its last value. Contracts see the
+/// values; `Holds` says whose last values they are.
 #[derive(Drop)]
 pub struct Config {
     alloc: Global,
