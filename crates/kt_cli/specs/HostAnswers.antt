@@ -8,7 +8,7 @@ use Rattle.kt_sched.specs.declared.start_answer.StartAnswer.{StartAnswer}
 use Rattle.kt_sched.specs.declared.ended.Ended.{Ended}
 use Rattle.kt_child.specs.System.Calls.{Call}
 use Rattle.kt_child.specs.Driving.DriverSteps.{DriverLists, DriverStarts, DriverWaits}
-use Rattle.kt_suite.specs.Paths.{is_slash}
+use Rattle.kt_base.specs.Characters.{is_slash}
 use Rattle.kt_cli.specs.declared.runner.Runner.{Runner}
 use Rattle.kt_cli.specs.HostFiles.{read_limit}
 use Rattle.kt_cli.specs.Places.{is_absolute}

@@ -1,6 +1,7 @@
 -- Where a Kyuafile lies among the host's files.
 use Rattle.std.specs.Prelude.{ℕ, Bool, false, List, [], ◌∷◌, ◌++◌, codes, if◌then◌else◌}
-use Rattle.kt_suite.specs.Paths.{is_slash, parent_of}
+use Rattle.kt_base.specs.Characters.{is_slash}
+use Rattle.kt_suite.specs.Paths.{parent_of}
 
 -- the path begins at the root of the host
 abbrev pub is_absolute : List ℕ → Bool

@@ -1,6 +1,6 @@
 ghost use Rattle.std.specs.Prelude.{◌≡◌, ◌≤◌, IfOk, chars, length};
 ghost use Rattle.std.specs.List.{list_any};
-ghost use Rattle.kt_suite.specs.Paths.{is_slash};
+ghost use Rattle.kt_base.specs.Characters.{is_slash};
 ghost use Rattle.kt_cli.specs.HostFiles.{may_execute, read_limit};
 
 use crate::host_path::{LONGEST_PATH, joined_path};

@@ -1,7 +1,7 @@
 ghost use Rattle.std.specs.Prelude.{◌≡◌, ◌≤◌, length, is_err};
 ghost use Rattle.kt_base.specs.Shows.{Shows};
 ghost use Rattle.kt_sched.specs.Children.{IsIdle};
-ghost use Rattle.kt_sched.specs.Moments.{IsMoment};
+ghost use Rattle.kt_base.specs.Moments.{IsMoment};
 ghost use Rattle.kt_sched.specs.Plan.{IsPlan, IsWidth};
 ghost use Rattle.kt_suite.specs.Selecting.{most_items};
 ghost use Rattle.kt_cli.specs.Meaning.{Did};

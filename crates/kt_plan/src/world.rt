@@ -8,7 +8,7 @@ pub trait World: Tree + Launcher {
     ghost use Rattle.std.specs.Prelude.{ℕ, ◌≡◌};
     ghost use Rattle.kt_base.specs.declared.role.Role.{Role};
     ghost use Rattle.kt_sched.specs.Children.{IsIdle};
-    ghost use Rattle.kt_sched.specs.Moments.{IsMoment};
+    ghost use Rattle.kt_base.specs.Moments.{IsMoment};
     ghost use Rattle.kt_suite.specs.Answers.{Asked};
     ghost use Rattle.kt_plan.specs.Told.{Told, ReadConfig, Lists, FindsFile, FindsProgram, IsRoot, HasMemory, HasDisk, Now};
 
