@@ -6,7 +6,6 @@ use Rattle.kt_base.specs.declared.outcome.Outcome.{Outcome}
 use Rattle.kt_base.specs.declared.interface.Interface.{Interface}
 use Rattle.kt_base.specs.declared.interface.Interface.TheVariants as interface
 use Rattle.kt_claim.specs.declared.evidence.Evidence.{Evidence}
-use Rattle.kt_claim.specs.declared.evidence.Evidence.TheVariants as evidence
 use Rattle.kt_sched.specs.declared.ended.Ended.{Ended}
 use Rattle.kt_child.specs.declared.system.child.Child.{Child}
 use Rattle.kt_child.specs.declared.system.os_fault.OsFault.{OsFault}
@@ -48,26 +47,12 @@ reads_silent c (suc n) path part limit got calls whole (answer, next, is, after)
     (λ more r. reads_silent c n path part limit (got ++ bytes_of answer) more whole r) after
 
 -- the evidence
-gathers_silent : (c : Child) (kind : Interface) (role : Role) (paths : Paths) (calls : List Call) (told : Evidence)
-    → Gathers kind role paths calls told → heard_by c calls ≡ []
-gathers_silent c interface.Atf Body paths calls (evidence.Atf t) (parts, whole, r, is) = reads_silent c parts _ _ _ [] calls whole r
-gathers_silent c interface.Atf Body paths calls (evidence.Tap t) h = absurd h
-gathers_silent c interface.Atf Body paths calls evidence.Plain h = absurd h
-gathers_silent c interface.Tap Body paths calls (evidence.Atf t) h = absurd h
-gathers_silent c interface.Tap Body paths calls (evidence.Tap t) (parts, whole, r, is) = reads_silent c parts _ _ _ [] calls whole r
-gathers_silent c interface.Tap Body paths calls evidence.Plain h = absurd h
-gathers_silent c interface.Plain Body paths calls (evidence.Atf t) h = absurd h
-gathers_silent c interface.Plain Body paths calls (evidence.Tap t) h = absurd h
-gathers_silent c interface.Plain Body paths calls evidence.Plain h = ap (heard_by c) h
-gathers_silent c interface.Atf Cleanup paths calls (evidence.Atf t) h = absurd h
-gathers_silent c interface.Atf Cleanup paths calls (evidence.Tap t) h = absurd h
-gathers_silent c interface.Atf Cleanup paths calls evidence.Plain h = ap (heard_by c) h
-gathers_silent c interface.Tap Cleanup paths calls (evidence.Atf t) h = absurd h
-gathers_silent c interface.Tap Cleanup paths calls (evidence.Tap t) h = absurd h
-gathers_silent c interface.Tap Cleanup paths calls evidence.Plain h = ap (heard_by c) h
-gathers_silent c interface.Plain Cleanup paths calls (evidence.Atf t) h = absurd h
-gathers_silent c interface.Plain Cleanup paths calls (evidence.Tap t) h = absurd h
-gathers_silent c interface.Plain Cleanup paths calls evidence.Plain h = ap (heard_by c) h
+gathers_silent : (c : Child) (kind : Interface) (role : Role) (paths : Paths) (calls : List Call) (left : Evidence)
+    → Gathers kind role paths calls left → heard_by c calls ≡ []
+gathers_silent c interface.Atf Body paths calls left (told, (parts, whole, r, is), e) = reads_silent c parts _ _ _ [] calls whole r
+gathers_silent c interface.Tap Body paths calls left (told, (parts, whole, r, is), e) = reads_silent c parts _ _ _ [] calls whole r
+gathers_silent c interface.Plain Body paths calls left (none, e) = ap (heard_by c) none
+gathers_silent c kind Cleanup paths calls left (none, e) = ap (heard_by c) none
 
 -- the removal
 pub removes_silent : (c : Child) (b : Bool) (dir : List ℕ) (calls : List Call) → Removes b dir calls → heard_by c calls ≡ []

@@ -9,8 +9,6 @@ use Rattle.kt_child.specs.declared.planning.case.Case.{Case}
 use Rattle.kt_child.specs.Driving.ChildrenState.{one_if}
 use Rattle.kt_child.specs.Polling.Lives.{same_child}
 use Rattle.kt_child.proofs.Shares.{kept, name_of, named}
-use Rattle.kt_child.proofs.LifeSteps.{child_is_own}
-use Rattle.kt_child.proofs.Places.{some_is}
 
 -- the name of a case's child
 abbrev pub case_name : Case → Child
@@ -70,36 +68,3 @@ none_named a (k ∷ ks) (c ∷ cs) e h =
     let f : k.child ≡ case_name c = names_head k.child (case_name c) (map name_of ks) (map case_name cs) e in
     let g : same_child k.child a ≡ false = other_name a k.child c.attempt (ap (λ t. t.attempt) f) (omega (arith, h)) in
     ap (λ t. kept t k (named a ks)) g ∙ none_named a ks cs (names_tail k.child (case_name c) (map name_of ks) (map case_name cs) e) (omega (arith, h))
-
-counted : (i : ℕ) (ks : List Watched) (cs : List Case) (k : Watched) → map name_of ks ≡ map case_name cs → slice_get ks i ≡ Some k
-    → 1 ≤ numbered k.child.attempt cs
-counted i [] cs k e at = let no : ⊥ = cc in absurd no
-counted i (j ∷ ks) [] k e at = let no : ⊥ = cc in absurd no
-counted zero (j ∷ ks) (c ∷ cs) k e at =
-    let f : j.child ≡ case_name c = names_head j.child (case_name c) (map name_of ks) (map case_name cs) e in
-    let g : k.child.attempt ≡ c.attempt = ap (λ t. t.child.attempt) (sym (some_is j k at)) ∙ ap (λ t. t.attempt) f in
-    let one : one_if (k.child.attempt == c.attempt) ≡ 1 = ap (λ t. one_if (k.child.attempt == t)) (sym g) ∙ own_number k.child.attempt in
-    omega (arith, one)
-counted (suc i) (j ∷ ks) (c ∷ cs) k e at =
-    let h = counted i ks cs k (names_tail j.child (case_name c) (map name_of ks) (map case_name cs) e) at in
-    omega (arith, h)
-
--- a child whose number stands once has a name of its own
-pub own_named : (i : ℕ) (ks : List Watched) (cs : List Case) (k : Watched) → map name_of ks ≡ map case_name cs → slice_get ks i ≡ Some k
-    → numbered k.child.attempt cs ≤ 1 → named k.child ks ≡ k ∷ []
-own_named i [] cs k e at h = let no : ⊥ = cc in absurd no
-own_named i (j ∷ ks) [] k e at h = let no : ⊥ = cc in absurd no
-own_named zero (j ∷ ks) (c ∷ cs) k e at h =
-    let f : j.child ≡ case_name c = names_head j.child (case_name c) (map name_of ks) (map case_name cs) e in
-    let s : j ≡ k = some_is j k at in
-    let g : k.child.attempt ≡ c.attempt = ap (λ t. t.child.attempt) (sym s) ∙ ap (λ t. t.attempt) f in
-    let one : one_if (k.child.attempt == c.attempt) ≡ 1 = ap (λ t. one_if (k.child.attempt == t)) (sym g) ∙ own_number k.child.attempt in
-    let none : named k.child ks ≡ [] = none_named k.child ks cs (names_tail j.child (case_name c) (map name_of ks) (map case_name cs) e) (omega (arith, one, h)) in
-    let own : same_child j.child k.child ≡ true = ap (λ t. same_child t.child k.child) s ∙ child_is_own k.child in
-    ap (λ t. kept t j (named k.child ks)) own ∙ ap (λ t. j ∷ t) none ∙ ap (λ t. t ∷ []) s
-own_named (suc i) (j ∷ ks) (c ∷ cs) k e at h =
-    let f : j.child ≡ case_name c = names_head j.child (case_name c) (map name_of ks) (map case_name cs) e in
-    let t : map name_of ks ≡ map case_name cs = names_tail j.child (case_name c) (map name_of ks) (map case_name cs) e in
-    let m = counted i ks cs k t at in
-    let g : same_child j.child k.child ≡ false = other_name k.child j.child c.attempt (ap (λ u. u.attempt) f) (omega (arith, m, h)) in
-    ap (λ u. kept u j (named k.child ks)) g ∙ own_named i ks cs k t at (omega (arith, h))

@@ -1,26 +1,15 @@
 -- The names of a driver's running children stay apart.
-use Rattle.std.proofs.Common.{◌≡◌, ℕ, zero, suc, ◌+◌, ◌≤◌, ◌==◌, List, [], ◌∷◌, ◌++◌, Bool, true, false, Some, ◌⊎◌, map, slice_get, refl, sym, ◌∙◌, ap, subst, arith, inl, inr, if◌then◌else◌}
+use Rattle.std.proofs.Common.{◌≡◌, ℕ, zero, suc, ◌+◌, ◌≤◌, ◌==◌, List, [], ◌∷◌, ◌++◌, Bool, true, false, map, refl, sym, ◌∙◌, ap, arith, if◌then◌else◌}
 use Rattle.std.specs.Prelude.{remove}
-use Rattle.kt_base.specs.declared.role.Role.{Role}
-use Rattle.kt_base.specs.declared.role.Role.TheVariants.{Body, Cleanup}
-use Rattle.kt_sched.specs.declared.job.Job.{Job}
-use Rattle.kt_sched.specs.declared.start_answer.StartAnswer.{StartAnswer}
-use Rattle.kt_sched.specs.declared.start_answer.StartAnswer.TheVariants.{Started as StartedAt, Refused as RefusedFor}
 use Rattle.kt_sched.specs.declared.ended.Ended.{Ended}
-use Rattle.kt_child.specs.declared.driving.driver.Driver.{Driver}
-use Rattle.kt_child.specs.declared.planning.paths.Paths.{Paths}
 use Rattle.kt_child.specs.declared.polling.watched.Watched.{Watched}
 use Rattle.kt_child.specs.declared.planning.case.Case.{Case}
 use Rattle.kt_child.specs.System.Calls.{Call}
 use Rattle.kt_child.specs.Driving.ChildrenState.{ChildrenState, Waited, one_if, pending_with}
-use Rattle.kt_child.specs.Driving.Begins.{state_after_start}
 use Rattle.kt_child.specs.Ending.Ends.{is_over}
-use Rattle.kt_child.specs.Driving.JobPlan.{case_of, cleaning, watched_of}
-use Rattle.kt_child.specs.Planning.ChildPlan.{paths_of}
-use Rattle.kt_child.specs.Driving.Launches.{StartsBy}
 use Rattle.kt_child.specs.Driving.Numbers.{IsBare}
 use Rattle.kt_child.proofs.Shares.{name_of}
-use Rattle.kt_child.proofs.NameCounts.{case_name, numbered, numbered_less, numbered_more, one_or}
+use Rattle.kt_child.proofs.NameCounts.{case_name, numbered, numbered_less, numbered_more}
 use Rattle.kt_child.proofs.Places.{mapped_append}
 use Rattle.kt_child.proofs.SeveralWaits.{names_waited}
 
@@ -30,62 +19,11 @@ Apart next b =
     (map name_of b.children ≡ map case_name b.cases)
     × ((n : ℕ) → (numbered n b.cases + numbered n b.pending ≤ 1) × (next ≤ n → numbered n b.cases + numbered n b.pending ≡ 0))
 
-names_more : (ks : List Watched) (cs : List Case) (k : Watched) (c : Case) → map name_of ks ≡ map case_name cs → k.child ≡ case_name c
+-- one more child with its case
+pub names_more : (ks : List Watched) (cs : List Case) (k : Watched) (c : Case) → map name_of ks ≡ map case_name cs → k.child ≡ case_name c
     → map name_of (ks ++ k ∷ []) ≡ map case_name (cs ++ c ∷ [])
 names_more ks cs k c e f =
     mapped_append name_of ks (k ∷ []) ∙ ap (λ t. t ++ k.child ∷ []) e ∙ ap (λ t. map case_name cs ++ t ∷ []) f ∙ sym (mapped_append case_name cs (c ∷ []))
-
--- a body that takes the next number
-body_more : (next : ℕ) (b : ChildrenState) (job : Job) (p : Paths) (answer : StartAnswer) → Apart next b
-    → Apart (next + 1) (state_after_start b (watched_of job Body next) (case_of job next p) answer)
-body_more next b job p (RefusedFor cause) (e, h) = (e, λ n. let m = h n in (m.0, λ le. m.1 (omega arith)))
-body_more next b job p (StartedAt moment) (e, h) =
-    (names_more b.children b.cases (watched_of job Body next) (case_of job next p) e refl, λ n. count n (one_or n next))
-  where
-    count : (n : ℕ) → (one_if (n == next) ≡ 0) ⊎ ((one_if (n == next) ≡ 1) × (n ≡ next))
-        → (numbered n (b.cases ++ case_of job next p ∷ []) + numbered n b.pending ≤ 1)
-        × (next + 1 ≤ n → numbered n (b.cases ++ case_of job next p ∷ []) + numbered n b.pending ≡ 0)
-    count n (inl z) =
-        let s = numbered_more n b.cases (case_of job next p) in
-        let m = h n in
-        let l = m.0 in
-        (omega (arith, s, z, l), λ le. let y = m.1 (omega arith) in omega (arith, s, z, y))
-    count n (inr (z, same)) =
-        let s = numbered_more n b.cases (case_of job next p) in
-        let m = h n in
-        let y = m.1 (omega arith) in
-        (omega (arith, s, z, y), λ le. absurd (omega (arith, le, same)))
-
--- a cleanup, which has the number that was owed
-cleanup_more : (next : ℕ) (b : ChildrenState) (job : Job) (place : ℕ) (c : Case) (answer : StartAnswer) → slice_get b.pending place ≡ Some c → Apart next b
-    → Apart next (state_after_start (record { children = b.children; cases = b.cases; pending = remove b.pending place })
-    (watched_of job Cleanup c.attempt) (cleaning c job) answer)
-cleanup_more next b job place c (RefusedFor cause) at (e, h) =
-    (e, λ n. let s = numbered_less n b.pending place c at in let m = h n in let l = m.0 in (omega (arith, s, l), λ le. let y = m.1 le in omega (arith, s, y)))
-cleanup_more next b job place c (StartedAt moment) at (e, h) = (
-  names_more b.children b.cases (watched_of job Cleanup c.attempt) (cleaning c job) e refl,
-  λ n.
-      let r = numbered_less n b.pending place c at in
-      let s = numbered_more n b.cases (cleaning c job) in
-      let m = h n in
-      let l = m.0 in
-      (omega (arith, r, s, l), λ le. let y = m.1 le in omega (arith, r, s, y)),
-)
-
-pub start_apart : {O : Type 0} (leads : O → Call → O → Type 0) (old new : Driver O) (job : Job) (role : Role) (answer : StartAnswer)
-    → StartsBy leads old job role answer new → Apart old.next old.running → Apart new.next new.running
-start_apart leads old new job Body answer (inl (e, told, s, f, same)) h =
-    let P : ChildrenState → Type 0 = λ t. Apart new.next t in
-    let Q : ℕ → Type 0 = λ t. Apart t old.running in
-    subst P (sym same) (subst Q (sym f) h)
-start_apart leads old new job Body answer (inr (l, e, more, same)) h =
-    let P : ChildrenState → Type 0 = λ t. Apart (old.next + 1) t in
-    let Q : ℕ → Type 0 = λ t. Apart t new.running in
-    subst Q (sym e) (subst P (sym same) (body_more old.next old.running job (paths_of old.root old.next) answer h))
-start_apart leads old new job Cleanup answer (place, c, at, position, e, more, same) h =
-    let P : ChildrenState → Type 0 = λ t. Apart old.next t in
-    let Q : ℕ → Type 0 = λ t. Apart t new.running in
-    subst Q (sym e) (subst P (sym same) (cleanup_more old.next old.running job place c answer at h))
 
 map_remove : {X Y : Type 0} (f : X → Y) (xs : List X) (i : ℕ) → map f (remove xs i) ≡ remove (map f xs) i
 map_remove f [] zero = refl

@@ -11,7 +11,8 @@ use Rattle.kt_claim.specs.declared.evidence.Evidence.{Evidence}
 use Rattle.kt_child.specs.declared.polling.watched.Watched.{Watched}
 use Rattle.kt_child.specs.declared.planning.case.Case.{Case}
 use Rattle.kt_sched.specs.declared.ended.Ended.{Ended}
-use Rattle.kt_child.specs.System.Calls.{Call, Chain}
+use Rattle.kt_base.specs.Chains.{Chain}
+use Rattle.kt_child.specs.System.Calls.{Call}
 use Rattle.kt_child.specs.Polling.Turns.{IsOn, WaitedOn}
 use Rattle.kt_sched.specs.Children.{Child as Shown, IsEvidence, same_role, running_after_end, pending_after_end, with_cleanup_declared}
 use Rattle.kt_child.specs.Driving.ChildrenState.{ChildrenState, IsChildrenState, Waited, count_at, is_among, one_if, pending_with, shown, shown_at}

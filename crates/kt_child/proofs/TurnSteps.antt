@@ -12,7 +12,8 @@ use Rattle.kt_child.specs.declared.polling.watch.Watch.{Watch}
 use Rattle.kt_child.specs.declared.polling.turn.Turn.{Turn}
 use Rattle.kt_child.specs.declared.polling.turn.Turn.TheVariants.{More, Ended}
 use Rattle.kt_child.specs.declared.polling.watched.Watched.{Watched}
-use Rattle.kt_child.specs.System.Calls.{Call, Chain}
+use Rattle.kt_base.specs.Chains.{Chain}
+use Rattle.kt_child.specs.System.Calls.{Call}
 use Rattle.kt_child.specs.Polling.Polls.{asked_by_poll, turn_of, watch_after}
 use Rattle.kt_child.specs.Polling.Turns.{IsOn, PolledAll, PolledLast, PolledUntil, advanced, advanced_below}
 use Rattle.kt_child.proofs.Chains.{chain_append}

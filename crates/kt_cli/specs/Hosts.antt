@@ -7,7 +7,8 @@ use Rattle.kt_child.specs.declared.driving.driver.Driver.{Driver}
 use Rattle.kt_child.specs.declared.driving.driver_fault.DriverFault.{DriverFault}
 use Rattle.kt_child.specs.declared.driving.driver_fault.DriverFault.TheVariants as driver
 use Rattle.kt_child.specs.Driving.ChildrenState.{idle_state}
-use Rattle.kt_child.specs.System.Calls.{Call, Chain, RemoveTree}
+use Rattle.kt_base.specs.Chains.{Chain}
+use Rattle.kt_child.specs.System.Calls.{Call, RemoveTree}
 use Rattle.kt_child.specs.Driving.Roots.{FindsRoot}
 use Rattle.kt_store.specs.StoreCalls.{StoreCall}
 use Rattle.kt_plan.specs.declared.case_options.CaseOptions.{CaseOptions}

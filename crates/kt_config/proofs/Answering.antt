@@ -11,7 +11,8 @@ use Rattle.kt_config.specs.declared.fault.ConfigFault.TheVariants.{NoMemory, Unk
 use Rattle.kt_config.specs.Names.{Meaning}
 use Rattle.kt_config.specs.Values.{Values}
 use Rattle.kt_config.specs.Holding.{Holds, Adds}
-use Rattle.kt_config.specs.Reading.{Outcome, with_first, with_meaning, meaning_of, definitions_in, outcome_of, IsDue, IsRead, IfFault, Answers, Refuses, Gives, fault_of_script}
+use Rattle.kt_config.specs.Reading.{Outcome, with_first, with_meaning, meaning_of, definitions_in, outcome_of, IsDue, IsRead, IfFault, Answers, Refuses}
+use Rattle.kt_config.specs.Inner.{Gives, fault_of_script}
 use Rattle.kt_config.proofs.ScriptLaws.{one_script, not_both}
 
 -- ---- statement by statement

@@ -4,3 +4,4 @@ pub mod Names
 pub mod Values
 pub mod Holding
 pub mod Reading
+pub mod Inner

@@ -1,5 +1,6 @@
 ghost use Rattle.std.specs.Prelude.{◌≡◌, IfOk};
-ghost use Rattle.kt_config.specs.Reading.{is_version, is_opening, meaning_of, definitions_in, outcome_of, fault_of_script, Gives};
+ghost use Rattle.kt_config.specs.Reading.{is_version, is_opening, meaning_of, definitions_in, outcome_of};
+ghost use Rattle.kt_config.specs.Inner.{fault_of_script, Gives};
 
 use crate::config::Config;
 use crate::definition::Definition;

@@ -1,7 +1,7 @@
 -- How long removals go on.
 use Rattle.std.specs.Prelude.{ℕ, ◌+◌, ◌*◌, ◌/◌, ◌≤◌, Option, Some, None}
 
--- a removal with so many microseconds has spent them after these steps: by the clock, or where it fails by the steps, 100 microseconds each
+-- a removal has used up its microseconds after these steps: by the clock, or if that fails by the steps, 100 microseconds each
 abbrev pub IsSpent : ℕ → ℕ → Option ℕ → Type 0
 IsSpent micros steps (Some taken) = micros ≤ taken
 IsSpent micros steps None = micros / 100 ≤ steps
@@ -10,7 +10,7 @@ IsSpent micros steps None = micros / 100 ≤ steps
 abbrev pub at_once : ℕ
 at_once = 5000
 
--- the microseconds for the last removal, of the root directory, after so many others
+-- the microseconds for the last removal, of the root directory, after this many others
 abbrev pub at_close : ℕ → ℕ
 at_close removals = 5000000 + 10000 * removals
 

@@ -16,7 +16,7 @@ use Rattle.kt_suite.specs.Answers.{Asked}
 use Rattle.kt_suite.specs.Meanings.{meaning_of}
 use Rattle.kt_suite.specs.Marks.{Site, Mark, File, Part, Includes, said, suite_after, entry_fault, Unfolds, end, entered}
 use Rattle.kt_suite.specs.Registered.{file_limit, questions_in}
-use Rattle.kt_suite.specs.Walks.{Counted, Walked, through, stops, short, FileGives, MeaningGives, Stepped, goes, enters, fails}
+use Rattle.kt_suite.specs.Inner.Walks.{Counted, Walked, through, stops, short, FileGives, MeaningGives, Stepped, goes, enters, fails}
 use Rattle.kt_suite.proofs.Counting.{same_reading, next-append}
 use Rattle.kt_suite.proofs.Unfolding.{unfolds_to}
 use Rattle.kt_suite.proofs.Reading.{begun, Reading, reading_next, reading_stops}

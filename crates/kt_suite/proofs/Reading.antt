@@ -11,7 +11,7 @@ use Rattle.kt_suite.specs.Answers.{Asked, Read}
 use Rattle.kt_suite.specs.Meanings.{meaning_of}
 use Rattle.kt_suite.specs.Marks.{Mark, Asks, Part, Says, said, suite_after, StatementsSay, none, one, opened, Unfolds, end, says}
 use Rattle.kt_suite.specs.Registered.{questions_in}
-use Rattle.kt_suite.specs.Walks.{Counted, Walked, through, stops, short, FileGives, MeaningGives, Opened, opens}
+use Rattle.kt_suite.specs.Inner.Walks.{Counted, Walked, through, stops, short, FileGives, MeaningGives, Opened, opens}
 use Rattle.kt_suite.proofs.Counting.{counted-append, counted-reading, same_reading, chain_of_marks, chain_then, next-append}
 use Rattle.kt_suite.proofs.Unfolding.{unfolds-append, some_marks, some_parts}
 

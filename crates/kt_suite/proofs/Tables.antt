@@ -17,7 +17,8 @@ use Rattle.kt_suite.specs.declared.key.Key.{Key}
 use Rattle.kt_suite.specs.declared.key.Key.TheVariants as key
 use Rattle.kt_suite.specs.declared.program_table.ProgramTable.{ProgramTable}
 use Rattle.kt_suite.specs.Calls.{key_named}
-use Rattle.kt_suite.specs.Tables.{definition, is_property, value_cause, key_fault, pair_fault, table_of, unless, props_with, table_with}
+use Rattle.kt_suite.specs.Inner.Steps.{props_with, table_with}
+use Rattle.kt_suite.specs.Tables.{definition, is_property, value_cause, key_fault, pair_fault, table_of, unless}
 
 -- the properties in two lists
 properties-append : (pairs more : List Variable) → filter is_property (pairs ++ more) ≡ filter is_property pairs ++ filter is_property more

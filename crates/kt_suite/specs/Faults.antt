@@ -32,11 +32,6 @@ read_fault file Missing = fault_at file 0 Unreadable
 read_fault file Failed = fault_at file 0 Unreadable
 read_fault file (Memory refusal) = no_memory refusal
 
--- a script's fault lies in its text
-abbrev pub IsText : ScriptFault → Type 0
-IsText (script.NoMemory refusal) = ⊥
-IsText fault = Unit {0}
-
 -- the line of a script's fault, or 0 if it has none
 abbrev pub script_line : ScriptFault → ℕ
 script_line (script.NoMemory refusal) = 0

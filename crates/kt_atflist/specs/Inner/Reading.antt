@@ -1,46 +1,18 @@
 -- A list of test cases, read line by line.
-use Rattle.std.specs.Prelude.{◌≡◌, ℕ, ◌+◌, Bool, if◌then◌else◌, List, [], ◌∷◌, ◌++◌, codes, bytes_eq, Option, Some, None, Result, Ok, Err, is_some, not}
-use Rattle.std.specs.List.{list_any}
+use Rattle.std.specs.Prelude.{ℕ, ◌+◌, if◌then◌else◌, List, [], ◌∷◌, ◌++◌, codes, bytes_eq, Option, Some, None, Ok, Err}
 use Rattle.std.specs.Str.{is_utf8}
 use Rattle.kt_base.specs.Lossy.{lossy}
-use Rattle.kt_base.specs.LastValues.{is_named}
-use Rattle.kt_base.specs.declared.no_memory.NoMemory.{NoMemory}
-use Rattle.kt_base.specs.declared.variable.Variable.{Variable}
 use Rattle.kt_metadata.specs.ListKeys.{name_of_key}
-use Rattle.kt_metadata.specs.Properties.{definition_fault}
-use Rattle.kt_atflist.specs.Lines.{lines, header, is_empty, ident_in, is_name, key_in, value_in}
+use Rattle.kt_base.specs.Lines.{lines}
+use Rattle.kt_base.specs.Texts.{is_empty}
+use Rattle.kt_atflist.specs.BlockLines.{ident_in, is_name, key_in, value_in}
+use Rattle.kt_atflist.specs.Blocks.{is_listed, is_given, named, with_property, is_good}
+use Rattle.kt_atflist.specs.Spelling.{Outcome, header, fault_at}
 use Rattle.kt_atflist.specs.declared.case_def.CaseDef.{CaseDef}
-use Rattle.kt_atflist.specs.declared.list_cause.ListCause.{ListCause}
-use Rattle.kt_atflist.specs.declared.list_cause.ListCause.TheVariants as cause
 use Rattle.kt_atflist.specs.declared.list_cause.ListCause.TheVariants.{BadHeader, BadLine, NoIdent, RepeatedKey, RepeatedIdent, UnknownKey, BadValue, EmptyList, NotUtf8}
-use Rattle.kt_atflist.specs.declared.list_fault.ListFault.{ListFault}
 use Rattle.kt_atflist.specs.Read.{Read}
 use Rattle.kt_atflist.specs.declared.step.Step.{Step}
 use Rattle.kt_atflist.specs.declared.step.Step.TheVariants.{To, Wrong}
-
--- a case has this name
-abbrev pub is_called : List ℕ → CaseDef → Bool
-is_called name case = bytes_eq name case.name
-
--- a case before it has this name
-abbrev pub is_listed : List CaseDef → List ℕ → Bool
-is_listed cases name = list_any (is_called name) cases
-
--- a pair of these has this name
-abbrev pub is_given : List Variable → List ℕ → Bool
-is_given pairs name = list_any (is_named name) pairs
-
--- a case of this name, which has no property yet
-abbrev pub named : List ℕ → CaseDef
-named name = record { name = name; props = []; fault = None }
-
--- a case with one property more
-abbrev pub with_property : CaseDef → List ℕ → List ℕ → CaseDef
-with_property block name value = record { name = block.name; props = block.props ++ record { name = name; value = value } ∷ []; fault = block.fault }
-
--- a property may have this value
-abbrev pub is_good : List ℕ → List ℕ → Bool
-is_good name value = not (is_some (definition_fault name value))
 
 -- a block of this name begins
 abbrev pub begin_named : List CaseDef → List ℕ → Step
@@ -90,14 +62,6 @@ closed cases (Some block) = cases ++ block ∷ []
 abbrev pub finished : Read → List CaseDef
 finished r = closed r.cases r.block
 
--- a fault of a line
-abbrev pub fault_at : ListCause → ℕ → ListFault
-fault_at cause line = record { cause = cause; line = line }
-
--- the cases of a list, or its fault
-abbrev pub Outcome : Type 0
-Outcome = Result (List CaseDef) ListFault
-
 -- where a line leads, the rest is read from there
 abbrev pub led : ℕ → Step → (Read → Outcome) → Outcome
 led n (Wrong cause) more = Err (fault_at cause n)
@@ -130,7 +94,3 @@ read_lines (line ∷ rest) = if bytes_eq line header then read_second rest else 
 -- what the bytes give
 abbrev pub read_list : List ℕ → Outcome
 read_list text = if is_utf8 text then read_lines (lines text) else Err (fault_at NotUtf8 0)
-
--- memory ran out
-abbrev pub IsOutOfMemory : Outcome → Type 0
-IsOutOfMemory result = (refusal : NoMemory) × (result ≡ Err (fault_at (cause.NoMemory refusal) 0))

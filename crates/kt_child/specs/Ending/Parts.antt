@@ -17,11 +17,11 @@ pub data Whole : Type 0 where
   TooLong : Whole
   Bytes : (bytes : List ℕ) → Whole
 
--- what is asked next, after so many bytes
+-- what is asked next, after this many bytes
 abbrev pub next_part : List ℕ → ℕ → ℕ → ℕ → Result FileRead OsFault → Call
 next_part path part limit got answer = ReadPart path got (min part (limit - got)) answer
 
--- what a part makes of a file of which so many bytes were read
+-- what a part makes of a file of which this many bytes were read
 abbrev pub next_of : ℕ → ℕ → FileRead → NextPart
 next_of limit got NoFile = if got == 0 then Absent else Failed
 next_of limit got (Part bytes false) = All
@@ -51,7 +51,7 @@ Reads (suc n) path part limit got calls whole =
     × After next (got ++ bytes_of answer) (next_part path part limit (length got) answer) calls whole
     (λ more. Reads n path part limit (got ++ bytes_of answer) more whole)
 
--- a reader that has taken some bytes has taken these behind them
+-- a reader that has taken some bytes has taken these after them
 abbrev pub Takes : {R : Type 0} → (R → List ℕ → Type 0) → R → R → List ℕ → Type 0
 Takes has_taken old new bytes = (taken : List ℕ) → has_taken old taken → has_taken new (taken ++ bytes)
 

@@ -7,12 +7,12 @@ use Rattle.kt_base.specs.Utf8.{utf8}
 use Rattle.kt_base.specs.declared.variable.Variable.{Variable}
 use Rattle.kt_child.specs.declared.system.env.EnvPlan.{EnvPlan}
 
--- what is said of a variable, after the variables of these names were removed
+-- what is set of a variable, after the variables of these names were removed
 abbrev pub after_removed : List (List ℕ) → List ℕ → Option (Option (List ℕ)) → Option (Option (List ℕ))
 after_removed [] name said = said
 after_removed (gone ∷ names) name said = after_removed names name (if bytes_eq (utf8 gone) name then Some None else said)
 
--- and after these were set, of which the last one of a name counts
+-- and after these were set; the last of a name counts
 abbrev pub after_set : List Variable → List ℕ → Option (Option (List ℕ)) → Option (Option (List ℕ))
 after_set [] name said = said
 after_set (v ∷ variables) name said = after_set variables name (if bytes_eq (utf8 v.name) name then Some (Some (utf8 v.value)) else said)

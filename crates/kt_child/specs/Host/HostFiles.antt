@@ -2,8 +2,8 @@
 use Rattle.std.specs.Prelude.{ℕ, List, ◌++◌, ◌+◌, ◌≡◌, ◌≤◌, ◌<◌, length, Option, Some, IfSome, IsSomeAnd}
 use Rattle.std.specs.Io.KnownBytes.{Consumes, IsAtEnd}
 
--- one read took so many bytes of what was left of a file, as far as there was room, and put them behind the others; it took none only at
--- the end
+-- one read took this many bytes of what was left of a file, as far as the buffer reaches, and appended them; it took none only
+-- at the end
 pub record TakesPiece (left rest : Option (List ℕ)) (room : ℕ) (old new : List ℕ) (count : ℕ) : Type 0 where
   pub piece : List ℕ
   pub long : length piece ≡ count

@@ -29,7 +29,7 @@ IsPlaceOf c [] place = ⊥
 IsPlaceOf c (h ∷ held) zero = same_child h.child c ≡ true
 IsPlaceOf c (h ∷ held) (suc place) = (same_child h.child c ≡ false) × IsPlaceOf c held place
 
--- The child whose end was told last: it has this name, and a process that has this status.
+-- The child whose end was reported last: it has this name, and its process has this status.
 abbrev pub IsLastEnd : {P I O E : Type 0} → Option (HostChild P I O E) → Child → ExitStatus → Type 0
 IsLastEnd last child status = IsSomeAnd last (λ h. (h.child ≡ child) × (stand_of h ≡ Some (Some status)))
 

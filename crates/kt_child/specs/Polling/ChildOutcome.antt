@@ -17,7 +17,7 @@ pub data Heard : Type 0 where
 abbrev pub running : Heard
 running = HeardPoll (Ok Running)
 
--- the outcome that a status tells
+-- the outcome of a status
 abbrev pub outcome_of : Polled → Option Outcome
 outcome_of Running = None
 outcome_of (PolledExit code) = Some (Exited code)
@@ -42,7 +42,7 @@ ToldWithin left heard outcome =
     ⊎ ((k : ℕ) × (f : OsFault) × (done : Bool) × (k < left)
     × (heard ≡ replicate k running ++ HeardPoll (Err f) ∷ HeardKill done ∷ []) × (outcome ≡ WaitFailed))
 
--- what a child's answers tell, by its limit in seconds
+-- the outcome of a child's answers, by its limit in seconds
 abbrev pub Told : ℕ → List Heard → Outcome → Type 0
 Told limit heard outcome = ToldWithin (100 * limit) heard outcome
 

@@ -9,10 +9,10 @@ use std::time::Instant;
 /// The milliseconds for each answer of the second half, which is spread over the limit.
 const PERIOD: u128 = 20;
 
-/// The real time of a child, and how often it was told to be running.
+/// The real time of a child, and how often it was reported as running.
 #[derive(Clone, Copy)]
 pub(crate) struct Pace {
-    /// Where the clock failed nothing is known, and no answer is early.
+    /// None if the clock failed: then no answer is early.
     started: Option<Instant>,
     /// In seconds; 100 answers stand for each.
     limit: u64,

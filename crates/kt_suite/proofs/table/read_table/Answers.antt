@@ -2,7 +2,8 @@ use Rattle.std.specs.Prelude.{Result, Ok, Err}
 use Rattle.std.proofs.Common.{rules, ◌≡◌, ◌∷◌}
 use Rattle.kt_suite.specs.declared.cause.SuiteCause.{SuiteCause}
 use Rattle.kt_suite.specs.declared.program_table.ProgramTable.{ProgramTable}
-use Rattle.kt_suite.specs.Tables.{definition, table_with}
+use Rattle.kt_suite.specs.Inner.Steps.{table_with}
+use Rattle.kt_suite.specs.Tables.{definition}
 use Rattle.kt_suite.proofs.TableLoops.{table_next, table_stops, table_all}
 use Rattle.kt_suite.proofs.table.read_table.Goals as goal
 

@@ -1,0 +1,3 @@
+-- What the crate's own functions do: cited by private functions alone.
+pub mod Steps
+pub mod Walks
