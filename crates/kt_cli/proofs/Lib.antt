@@ -2,7 +2,6 @@ pub mod ChildrenTold
 pub mod Answering
 pub mod ChosenRuns
 pub mod DebugRuns
-pub mod FaultWords
 pub mod Gainings
 pub mod HostCommands
 pub mod Hosting

@@ -5,5 +5,6 @@ pub mod Picks
 pub mod Planning
 pub mod Questions
 pub mod Selecting
+pub mod StopWords
 pub mod Stops
 pub mod Told
