@@ -23,13 +23,11 @@ fn parse_filters(alloc: Global, words: &[Text]) -> Result<Result<Items<Filter>, 
     ensures { IfOk result (λ outcome. outcome ≡ filters_of words.now) }
 {
     let mut filters = Items::new(alloc);
-    let mut rest = words;
-    while let Some((word, after)) = rest.split_first() {
+    for word in words {
         match filter_of(alloc, word)? {
             Ok(filter) => filters.push(filter)?,
             Err(fault) => return Ok(Err(fault)),
         }
-        rest = after;
     }
     Ok(Ok(filters))
 }

@@ -28,10 +28,8 @@ fn items_of(alloc: Global, candidates: &[Candidate]) -> Result<Vec<Item>, NoMemo
     ensures { IfOk result (λ items. items.items ≡ map item_of candidates.now) }
 {
     let mut items = Vec::new(alloc);
-    let mut rest = candidates;
-    while let Some((candidate, after)) = rest.split_first() {
+    for candidate in candidates {
         items.push(item_of(candidate)?)?;
-        rest = after;
     }
     Ok(items)
 }

@@ -63,10 +63,8 @@ fn look_for_words<W: World>(
         × Notes (finds_of required) told found.old found.new)
         (λ _. AreFirst (LooksFor (question_of required) words.now) told)) }
 {
-    let mut rest = words;
-    while let Some((word, after)) = rest.split_first() {
+    for word in words {
         look_for_word(required, word, world, found)?;
-        rest = after;
     }
     Ok(())
 }
@@ -111,10 +109,8 @@ pub fn look_for_all<W: World>(
         × Notes finds_program told programs.old programs.new)
         (λ _. AreFirst (LooksForAll cases.now) told)) }
 {
-    let mut rest = cases;
-    while let Some((candidate, after)) = rest.split_first() {
+    for candidate in cases {
         look_for_case(candidate, world, files, programs)?;
-        rest = after;
     }
     Ok(())
 }

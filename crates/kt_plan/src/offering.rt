@@ -102,11 +102,9 @@ pub fn offered<W: World>(
     ensures idle { IsIdle (W.running world.new) (W.pending world.new) }
 {
     let mut found = Items::new(alloc);
-    let mut rest = programs;
-    while let Some((program, after)) = rest.split_first() {
+    for program in programs {
         let cases = own_cases(alloc, settings, program, world)?;
         add_candidates(program, cases, &mut found)?;
-        rest = after;
     }
     Ok(found)
 }
