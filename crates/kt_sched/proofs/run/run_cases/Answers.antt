@@ -7,9 +7,11 @@ use Rattle.kt_sched.specs.declared.totals.Totals.{Totals}
 use Rattle.kt_sched.specs.declared.run_fault.RunFault.{RunFault}
 use Rattle.kt_sched.specs.Trace.{Start, End, event_count}
 use Rattle.kt_sched.specs.Children.{MayStart, child_of}
-use Rattle.kt_sched.specs.Fed.{Fed, IsAnswerTo, with_event, fed_after, nothing_fed}
+use Rattle.kt_sched.specs.Inner.Answers.{with_event}
+use Rattle.kt_sched.specs.Fed.{Fed, IsAnswerTo, fed_after, nothing_fed}
 use Rattle.kt_sched.specs.SchedState.{Stands}
-use Rattle.kt_sched.specs.Run.{Ran, counted}
+use Rattle.kt_sched.specs.Inner.Answers.{counted}
+use Rattle.kt_sched.specs.Run.{Ran}
 use Rattle.kt_sched.proofs.Runs.{child_runs}
 use Rattle.kt_sched.proofs.Goes.{may_start, goes_start, goes_end, goes_stored, goes_failed, goes_first, fed_start, ended_one}
 use Rattle.kt_sched.proofs.Gaining.{Gained, gained_event, gained_put, gained_failed, gained_first, room_to_count, start_not_whole, end_not_whole, nothing_due}
