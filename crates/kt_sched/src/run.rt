@@ -35,10 +35,7 @@ pub fn run_cases<L: Launcher, S: Sink>(
         sink.old sink.new result }
     ensures idle { IsIdle (L.running launcher.new) (L.pending launcher.new) }
 {
-    let mut sched = match Sched::new(alloc, plan, width) {
-        Ok(sched) => sched,
-        Err(refusal) => return Err(RunFault::NoMemory(refusal)),
-    };
+    let mut sched = Sched::new(alloc, plan, width)?;
     let mut totals = Totals::new();
     let mut fault: Option<SinkFault> = None;
     loop {
