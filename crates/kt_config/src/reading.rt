@@ -49,7 +49,7 @@ fn meaning_of(alloc: Global, action: &Action) -> Result<Result<Definition, Confi
     }
 }
 
-/// Reads the statements after the first, up to the first fault.
+/// Reads the statements after the first one, up to the first fault.
 fn read_statements(alloc: Global, stmts: &[Stmt]) -> Result<Result<Config, ConfigFault>, NoMemory>
     ensures { IfOk result (λ outcome. Gives outcome (definitions_in stmts.now)) }
 {

@@ -9,7 +9,7 @@ use std::marker::Model;
 /// The greatest width.
 const GREATEST: u64 = 256;
 
-/// How many cases may run at once, 1 to 256. Contracts see the number.
+/// The number of cases that may run at once, 1 to 256. Contracts see the number.
 #[derive(Debug, Drop)]
 pub struct Width {
     cases: u32,
@@ -29,7 +29,7 @@ fn has_no_digit(bytes: &[u8]) -> bool
     bytes.iter().any(|c| !is_digit(*c))
 }
 
-/// A number, if so many cases may run at once.
+/// A number, if it is a width.
 fn in_range(number: u64) -> Option<u32>
     ensures { result ≡ in_range number }
 {

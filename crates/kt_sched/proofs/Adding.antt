@@ -13,7 +13,8 @@ use Rattle.kt_sched.specs.History.{mark_of, history, is_whole}
 use Rattle.kt_sched.specs.TurnOrder.{turns}
 use Rattle.kt_sched.specs.RecordOrder.{Due, dues, put_at, finished_by, is_open, was_open, recorded}
 use Rattle.kt_sched.specs.EntryOf.{IsEntry, Gains, IsEntryOf, AreEntries}
-use Rattle.kt_sched.specs.Run.{Counts, CanCount, counted}
+use Rattle.kt_sched.specs.Inner.Answers.{CanCount, counted}
+use Rattle.kt_sched.specs.Run.{Counts}
 use Rattle.kt_sched.proofs.Lists.{count-cons}
 use Rattle.kt_sched.proofs.Turns.{some_is}
 use Rattle.kt_sched.proofs.Steps.{of_other}

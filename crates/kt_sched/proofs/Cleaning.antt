@@ -16,7 +16,8 @@ use Rattle.kt_sched.specs.Trace.{Event, Start, End, of}
 use Rattle.kt_sched.specs.ScheduleRules.{declares}
 use Rattle.kt_sched.specs.Fed.{Fed}
 use Rattle.kt_sched.specs.EntryOf.{no_output}
-use Rattle.kt_sched.specs.SchedState.{SchedState, Stands, IsStage, is_active_stage, is_fresh, stage_work, stage_runs, listed}
+use Rattle.kt_sched.specs.Inner.Cases.{stage_runs}
+use Rattle.kt_sched.specs.SchedState.{SchedState, Stands, IsStage, is_active_stage, is_fresh, stage_work, listed}
 use Rattle.kt_sched.specs.Inner.Cases.{Replaced, body_in, TookBody, record_of, unless}
 use Rattle.kt_status.specs.Tables.{IsVerdictAfter}
 use Rattle.kt_sched.specs.declared.ended_body.EndedBody.{EndedBody}

@@ -20,7 +20,8 @@ use Rattle.kt_sched.specs.Trace.{Event, Start, End, Trace, NoEvent, Then, positi
 use Rattle.kt_sched.specs.History.{history}
 use Rattle.kt_sched.specs.TurnOrder.{body_starts, body_start_of, undecided_turns}
 use Rattle.kt_sched.specs.ScheduleRules.{Each, Order, BusyAt, IsCleanupStart}
-use Rattle.kt_sched.specs.Fed.{Fed, has_failed, runs, with_event, fed_after, answer_of, nothing_fed}
+use Rattle.kt_sched.specs.Inner.Answers.{with_event, answer_of}
+use Rattle.kt_sched.specs.Fed.{Fed, has_failed, runs, fed_after, nothing_fed}
 use Rattle.kt_sched.specs.Next.{IsNext, Follows, MayBegin}
 use Rattle.kt_sched.proofs.Lists.{take_one_more}
 use Rattle.kt_sched.proofs.Steps.{same_is, of_other}

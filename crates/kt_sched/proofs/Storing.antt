@@ -1,7 +1,6 @@
 -- the moments of an entry
-use Rattle.std.specs.Prelude.{slice_get, Some, None, if◌then◌else◌, ◌==◌, ⊤}
-use Rattle.std.proofs.Common.{◌≡◌, ℕ, ◌-◌, ◌≤◌, Bool, true, false, List, [], ◌∷◌, ◌++◌, refl, sym, subst, arith}
-use Rattle.kt_base.specs.declared.role.Role.TheVariants.{Body, Cleanup}
+use Rattle.std.specs.Prelude.{if◌then◌else◌, ◌==◌, ⊤}
+use Rattle.std.proofs.Common.{ℕ, Bool, true, false, List, [], ◌∷◌, ◌++◌, arith}
 use Rattle.kt_base.specs.declared.entry.Entry.{Entry}
 use Rattle.kt_sched.specs.declared.job.Job.{Job}
 use Rattle.kt_sched.specs.Trace.{Event, Start, End, Trace, NoEvent, Then, position_of, of}

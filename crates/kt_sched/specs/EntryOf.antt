@@ -18,7 +18,7 @@ use Rattle.kt_sched.specs.History.{history, is_whole}
 abbrev pub no_output : Output
 no_output = record { out = []; err = [] }
 
--- the entry of a job: a verdict, the moment of its start, how long it took, and the outputs of body and cleanup
+-- the entry of a job: its verdict, its start, its time, and the outputs of body and cleanup
 abbrev pub entry : Job → Judged → ℕ → ℕ → Output → Output → Entry
 entry job verdict started millis body cleanup = record {
   position = job.position;
@@ -32,7 +32,7 @@ entry job verdict started millis body cleanup = record {
   meta = job.meta;
 }
 
--- the entry of a case, from its job and its own events alone: a decided case has no event, else its body was refused, or ended without a cleanup, or its cleanup was refused, or ended
+-- the entry of a case, from its job and its own events alone
 pub data IsEntry (job : Job) : List Event → Entry → Type 0 where
   decided : (v : Judged) → job.decided ≡ Some v → IsEntry job [] (entry job v 0 0 no_output no_output)
   refused : (i : ℕ) (cause : Cause) (v : Judged) → IsVerdictOfRefusal cause v
@@ -46,7 +46,7 @@ pub data IsEntry (job : Job) : List Event → Entry → Type 0 where
       → IsVerdict e.evidence e.outcome body → IsVerdictAfter body (cleanup.Ended f.outcome) v
       → IsEntry job (Start i Body (Started m) ∷ End e ∷ Start j Cleanup (Started k) ∷ End f ∷ []) (entry job v m (f.moment - m) e.output f.output)
 
--- the puts of these entries, all answered Ok, lead a sink from the first state to the second
+-- the puts of these entries, all of them successful, lead a sink from the first state to the second
 abbrev pub Gains : {S : Type 0} → (S → Entry → Result (Unit {0}) SinkFault → S → Type 0) → List Entry → S → S → Type 0
 Gains puts [] old new = new ≡ old
 Gains {S} puts (e ∷ es) old new = (mid : S) × puts old e (Ok tt) mid × Gains puts es mid new

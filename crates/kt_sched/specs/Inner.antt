@@ -1,2 +1,4 @@
--- What private functions do to the cases of the core.
+-- What the core's own functions do: cited by private functions alone.
+pub mod Answers
 pub mod Cases
+pub mod Choice

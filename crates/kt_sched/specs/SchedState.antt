@@ -1,6 +1,5 @@
 -- The scheduler's state, and what it stands for.
 use Rattle.std.specs.Prelude.{ℕ, Bool, true, false, List, [], ◌∷◌, ◌++◌, ◌==◌, ◌≡◌, ◌≢◌, ◌<◌, ◌≤◌, ◌⊎◌, Option, Some, None, map, take, drop, filter, nat_lt, count_by, sum_by, length, slice_get, is_some, is_none, ⊤, if◌then◌else◌}
-use Rattle.kt_base.specs.declared.role.Role.{Role}
 use Rattle.kt_base.specs.declared.role.Role.TheVariants.{Body, Cleanup}
 use Rattle.kt_base.specs.Verdicts.{Judged}
 use Rattle.kt_base.specs.declared.entry.Entry.{Entry}
@@ -43,12 +42,6 @@ is_fresh Waiting = true
 is_fresh Decided = true
 is_fresh _ = false
 
--- whether a stage runs in a role
-abbrev pub stage_runs : Role → Stage → Bool
-stage_runs Body (Running m) = true
-stage_runs Cleanup (Cleaning b) = true
-stage_runs role other = false
-
 -- whether a stage is that of an active case
 abbrev pub is_active_stage : Stage → Bool
 is_active_stage (Running m) = true
@@ -76,15 +69,6 @@ Works (next.Put i) old new = new ≡ old
 Works (next.Start i role) old new = new < old
 Works next.Wait old new = new < old
 Works next.Done old new = ⊤
-
--- the stage before the first answer
-abbrev pub first_stage : Option Judged → Stage
-first_stage None = Waiting
-first_stage (Some verdict) = Decided
-
--- a case before the first answer
-abbrev pub first_case : Job → Case
-first_case job = record { job = job; stage = first_stage job.decided }
 
 -- the record of a decided case
 abbrev pub decided_record : Judged → CaseRecord
@@ -143,10 +127,6 @@ HasExclusive cases i flag = (c : Case) × (slice_get cases i ≡ Some c) × (c.j
 abbrev pub IsOrdinary : List Case → ℕ → Type 0
 IsOrdinary cases i = HasExclusive cases i false
 
--- a case that is
-abbrev pub IsExclusive : List Case → ℕ → Type 0
-IsExclusive cases i = HasExclusive cases i true
-
 -- whether a case that waits for its turn is decided
 abbrev pub is_decided_stage : Stage → Bool
 is_decided_stage Decided = true
@@ -156,19 +136,9 @@ is_decided_stage _ = false
 abbrev pub HasDecided : List Case → ℕ → Bool → Type 0
 HasDecided cases i flag = (c : Case) × (slice_get cases i ≡ Some c) × (is_decided_stage c.stage ≡ flag)
 
--- the case whose turn it is, where there is room for it
+-- the case that has its turn, if there is room for it
 abbrev pub HasTurn : SchedState → ℕ → Type 0
 HasTurn b i = (b.failed ≡ false) × (slice_get b.order b.turn ≡ Some i) × (b.active < b.width) × (b.active ≡ 0 ⊎ IsOrdinary b.cases i)
-
--- there is no such case
-abbrev pub IsHeld : SchedState → Type 0
-IsHeld b =
-    (b.failed ≡ true) ⊎ ((length b.order ≤ b.turn) ⊎ ((b.width ≤ b.active) ⊎ ((0 < b.active) × ((i : ℕ) × (slice_get b.order b.turn ≡ Some i) × IsExclusive b.cases i))))
-
--- the case whose turn it is, if there is room for one
-abbrev pub IsTurn : SchedState → Option ℕ → Type 0
-IsTurn b None = IsHeld b
-IsTurn b (Some i) = HasTurn b i
 
 -- no decided case can be put
 abbrev pub IsSettled : SchedState → Type 0
@@ -181,14 +151,6 @@ IsAsked b (next.Start i Cleanup) = (b.ready ≡ None) × (b.pending ≡ Some i) 
 IsAsked b next.Wait = (b.ready ≡ None) × (b.pending ≡ None) × (0 < b.active) × IsSettled b
 IsAsked b (next.Put i) = (b.failed ≡ false) × (b.ready ≡ Some i)
 IsAsked b next.Done = ⊤
-
--- what is chosen in a state
-abbrev pub IsChosen : SchedState → Next → Type 0
-IsChosen b (next.Put i) = b.ready ≡ Some i
-IsChosen b (next.Start i Cleanup) = (b.ready ≡ None) × (b.pending ≡ Some i)
-IsChosen b (next.Start i Body) = (b.ready ≡ None) × (b.pending ≡ None) × HasTurn b i
-IsChosen b next.Wait = (b.ready ≡ None) × (b.pending ≡ None) × (0 < b.active) × IsHeld b
-IsChosen b next.Done = (b.ready ≡ None) × (b.pending ≡ None) × (b.active ≡ 0) × IsHeld b
 
 -- a case that has a record: its entry can be taken
 abbrev pub HasRecord : List Case → ℕ → Type 0
@@ -210,15 +172,15 @@ HoldsEntry b i = HasRecord b.cases i
 abbrev pub CanLend : SchedState → ℕ → Type 0
 CanLend b i = IsUntaken b.cases i
 
--- whether a verdict is decided
+-- the verdict is decided
 abbrev pub is_decided : Job → Bool
 is_decided job = is_some job.decided
 
--- whether none is
+-- no verdict is decided
 abbrev pub is_undecided : Job → Bool
 is_undecided job = is_none job.decided
 
--- whether there is room for a decided case beside so many active ones
+-- there is room for a decided case beside this many active ones
 abbrev pub room_in : ℕ → ℕ → Job → Bool
 room_in a n job = if job.exclusive then a == 0 else nat_lt a n
 
@@ -227,7 +189,7 @@ abbrev pub run_of : {X : Type 0} → (X → Bool) → (X → Bool) → List X �
 run_of decided room [] = []
 run_of decided room (x ∷ xs) = if decided x then (if room x then x ∷ run_of decided room xs else []) else []
 
--- the decided cases that can be put at a turn, beside so many active ones
+-- the decided cases that can be put at a turn, beside this many active ones
 abbrev pub opened : List Job → ℕ → ℕ → ℕ → List Job
 opened plan n a turn = run_of is_decided (room_in a n) (drop turn (turns plan))
 

@@ -49,7 +49,7 @@ pub fn refused_record(alloc: Global, cause: Refused) -> CaseRecord
     unstarted_record(alloc, refused_verdict(cause))
 }
 
-/// A body that ended, of a case that is not over.
+/// What is kept of a body that ended, if its case is not over.
 pub fn ended_body(started: u64, ended: Ended) -> EndedBody
     ensures verdict { IsVerdict ended.evidence ended.outcome result.verdict }
     ensures rest { result ≡ ended_body result.verdict started ended }

@@ -2,16 +2,33 @@
 use Rattle.std.specs.Prelude.{ℕ, Bool, true, false, List, ◌++◌, ◌≡◌, ◌-◌, Option, Some, None, filter, map, drop, not, slice_get, slice_set, is_some, if◌then◌else◌}
 use Rattle.kt_base.specs.declared.entry.Entry.{Entry}
 use Rattle.kt_base.specs.declared.output.Output.{Output}
+use Rattle.kt_base.specs.declared.role.Role.{Role}
+use Rattle.kt_base.specs.declared.role.Role.TheVariants.{Body, Cleanup}
 use Rattle.kt_base.specs.Verdicts.{Judged}
 use Rattle.kt_sched.specs.declared.job.Job.{Job}
 use Rattle.kt_sched.specs.declared.ended.Ended.{Ended}
 use Rattle.kt_sched.specs.declared.stage.Stage.{Stage}
-use Rattle.kt_sched.specs.declared.stage.Stage.TheVariants.{Running, Owing, Cleaning, Taken}
+use Rattle.kt_sched.specs.declared.stage.Stage.TheVariants.{Waiting, Decided, Running, Owing, Cleaning, Taken}
 use Rattle.kt_sched.specs.declared.case.Case.{Case}
 use Rattle.kt_sched.specs.declared.ended_body.EndedBody.{EndedBody}
 use Rattle.kt_sched.specs.declared.case_record.CaseRecord.{CaseRecord}
 use Rattle.kt_sched.specs.EntryOf.{no_output}
 use Rattle.kt_sched.specs.SchedState.{entry_with, record_in}
+
+-- a stage runs in a role
+abbrev pub stage_runs : Role → Stage → Bool
+stage_runs Body (Running m) = true
+stage_runs Cleanup (Cleaning b) = true
+stage_runs role other = false
+
+-- the stage before the first answer
+abbrev pub first_stage : Option Judged → Stage
+first_stage None = Waiting
+first_stage (Some verdict) = Decided
+
+-- a case before the first answer
+abbrev pub first_case : Job → Case
+first_case job = record { job = job; stage = first_stage job.decided }
 
 -- the case at i has this stage in place of that one, and nothing else is changed
 pub record Replaced (old new : List Case) (i : ℕ) (stage was : Stage) : Type 0 where
