@@ -12,8 +12,7 @@ use Rattle.kt_child.proofs.Shares.{GoesOn, LivesOut, Share, kept, name_of, named
 use Rattle.kt_child.specs.Polling.Turns.{PolledAll, PolledLast, WaitedOn, advanced, after_turns}
 use Rattle.kt_child.proofs.Places.{append_none, some_is}
 use Rattle.kt_child.proofs.LifeSteps.{child_is_own, heard_append}
-use Rattle.kt_child.proofs.NamedSteps.{at_place, in_parts, is_last, named_append, named_map}
-use Rattle.kt_child.proofs.ChildNames.{name_at, names_below, names_turns, share_removed}
+use Rattle.kt_child.proofs.NamedSteps.{at_place, in_parts, is_last, name_at, named_append, named_map, names_below, names_turns, share_removed}
 use Rattle.kt_child.proofs.Outcomes.{told}
 use Rattle.kt_child.proofs.SeveralSteps.{heard_none, heard_one, one_turn, share_join, silent, whole_turns}
 

@@ -23,12 +23,10 @@ use Rattle.kt_child.proofs.CaseCounts.{and_false}
 use Rattle.kt_child.proofs.CasePlaces.{other_absent, other_number, own_child}
 use Rattle.kt_child.proofs.EndSilence.{shares_at}
 use Rattle.kt_child.proofs.LifeSteps.{child_is_own}
-use Rattle.kt_child.proofs.NameCounts.{case_name, numbered}
-use Rattle.kt_child.proofs.NameSteps.{Apart}
-use Rattle.kt_child.proofs.NamedSteps.{head_is}
+use Rattle.kt_child.proofs.NameCounts.{Apart, case_name, numbered}
+use Rattle.kt_child.proofs.NamedSteps.{head_is, name_at}
 use Rattle.kt_child.proofs.Outcomes.{told}
 use Rattle.kt_child.proofs.Places.{append_none, some_is}
-use Rattle.kt_child.proofs.ChildNames.{name_at}
 use Rattle.kt_child.proofs.SeveralSteps.{goes_join, lives_join}
 use Rattle.kt_child.proofs.TraceFacts.{IsGone, PastSo, RunsSo, cleaner}
 use Rattle.kt_child.proofs.WaitSilence.{wait_silent}

@@ -1,5 +1,5 @@
 -- A start keeps what is known of a driver's children, and is known by its own calls.
-use Rattle.std.proofs.Common.{◌≡◌, ℕ, ◌+◌, ◌-◌, ◌≤◌, List, [], ◌∷◌, ◌++◌, Some, slice_get, refl, sym, ◌∙◌, ap, subst, arith, inl, inr}
+use Rattle.std.proofs.Common.{◌≡◌, ℕ, ◌+◌, ◌≤◌, List, [], ◌∷◌, ◌++◌, Some, slice_get, refl, sym, ◌∙◌, ap, subst, arith, inl, inr}
 use Rattle.kt_base.specs.declared.role.Role.{Role}
 use Rattle.kt_base.specs.declared.role.Role.TheVariants.{Body, Cleanup}
 use Rattle.kt_base.specs.declared.refused.Refused.{Refused}
@@ -23,8 +23,7 @@ use Rattle.kt_child.specs.Driving.Launches.{StartsBy, with_pending}
 use Rattle.kt_child.specs.Polling.Lives.{heard_by}
 use Rattle.kt_child.specs.Driving.TraceLives.{BegunAt, IsNumberAt, IsNumberOf, following, next_after}
 use Rattle.kt_child.proofs.CasePlaces.{Every, every_push, named_past}
-use Rattle.kt_child.proofs.NameCounts.{case_name, none_named, numbered, numbered_more, own_number}
-use Rattle.kt_child.proofs.NameSteps.{Apart, names_more}
+use Rattle.kt_child.proofs.NameCounts.{Apart, case_name, names_more, none_named, numbered, numbered_more, own_number}
 use Rattle.kt_child.proofs.StartSilence.{begun_silent}
 use Rattle.kt_child.proofs.TraceFacts.{IsGone, OwedSo, RunsSo, Stands, each_more, following_last}
 use Rattle.kt_child.proofs.StartLeavings.{IsTaken, grows_start, not_body, owed_kept, run_fresh, run_kept, run_more, taken}

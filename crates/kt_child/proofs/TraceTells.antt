@@ -21,7 +21,7 @@ use Rattle.kt_child.proofs.CasePlaces.{Every}
 use Rattle.kt_child.proofs.Chains.{chain_append}
 use Rattle.kt_child.proofs.Places.{append_none}
 use Rattle.kt_child.proofs.LifeSteps.{heard_append}
-use Rattle.kt_child.proofs.NameSteps.{none_yet}
+use Rattle.kt_child.proofs.NameCounts.{none_yet}
 use Rattle.kt_child.proofs.TraceEnds.{heard_after}
 use Rattle.kt_child.proofs.TraceFacts.{PastSo, Stands, each_map}
 use Rattle.kt_child.proofs.TraceStarts.{start_stands}

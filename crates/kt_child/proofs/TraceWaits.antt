@@ -16,8 +16,7 @@ use Rattle.kt_child.specs.Polling.ChildOutcome.{Heard}
 use Rattle.kt_child.specs.Ending.Ends.{is_over}
 use Rattle.kt_child.proofs.CaseCounts.{and_false}
 use Rattle.kt_child.proofs.CasePlaces.{Every, at_none, at_some, every_push, left_at, other_absent}
-use Rattle.kt_child.proofs.NameCounts.{case_name, none_named, numbered, numbered_less, own_number}
-use Rattle.kt_child.proofs.NameSteps.{Apart, owed, wait_apart}
+use Rattle.kt_child.proofs.NameCounts.{Apart, case_name, none_named, numbered, numbered_less, owed, own_number, wait_apart}
 use Rattle.kt_child.proofs.TraceEnds.{ends_so, heard_after, still_runs, unheard}
 use Rattle.kt_child.proofs.TraceFacts.{IsGone, OwedSo, RunsSo, Stands, cleaner, each_more}
 use Rattle.kt_child.proofs.WaitSilence.{wait_none}

@@ -2,7 +2,7 @@ use Rattle.std.proofs.Common.{rules, ◌==◌, ◌&&◌, Option, Some, if◌then
 use Rattle.kt_child.specs.Driving.ChildrenState.{ChildrenState, count_at, shown, shown_at}
 use Rattle.kt_child.specs.Starting.Starts.{spawned}
 use Rattle.kt_sched.specs.Children.{Child as Shown, same_role}
-use Rattle.kt_child.proofs.StateSteps.{state_started}
+use Rattle.kt_child.proofs.StateWaits.{state_started}
 use Rattle.kt_child.proofs.ShownCases.{shown_append}
 use Rattle.kt_child.proofs.driving.running_children.RunningChildren.start.Goals as goal
 

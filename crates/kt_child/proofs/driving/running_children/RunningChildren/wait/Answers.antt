@@ -5,7 +5,7 @@ use Rattle.kt_base.specs.Chains.{Chain}
 use Rattle.kt_child.specs.System.Calls.{Call}
 use Rattle.kt_sched.specs.Children.{Child as Shown, IsEvidence}
 use Rattle.kt_child.specs.Driving.ChildrenState.{ChildrenState, Waited, shown_at}
-use Rattle.kt_child.proofs.StateWaits.{Once, state_after, same_children, waited_all, waited_one, waited_pending, waited_running}
+use Rattle.kt_child.proofs.StateWaits.{Once, same_children, state_after, waited_all, waited_one, waited_pending, waited_running}
 use Rattle.kt_child.proofs.driving.running_children.RunningChildren.wait.Goals as goal
 
 abbrev At : (g : _) → goal.After-forget g → Type 0
