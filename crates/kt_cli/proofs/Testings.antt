@@ -28,19 +28,24 @@ use Rattle.kt_sched.specs.declared.run_fault.RunFault.TheVariants.{NoMemory}
 use Rattle.kt_sched.specs.declared.totals.Totals.{Totals}
 use Rattle.kt_sched.specs.Trace.{NoEvent}
 use Rattle.kt_words.specs.Commands.{cases_of, needs_case}
-use Rattle.kt_cli.specs.Debugging.{Debugged, all_debug_bytes, debug_exit}
+use Rattle.kt_cli.specs.Inner.Debugging.{Debugged}
+use Rattle.kt_cli.specs.Debugging.{all_debug_bytes, debug_exit}
 use Rattle.kt_cli.specs.FaultLines.{memory_line}
 use Rattle.kt_plan.specs.Selecting.{Selects, SelectsFirst, SelectsOrShort}
-use Rattle.kt_cli.specs.Meaning.{Seen, Course, listing, listing_exit, IsPrepared, IsAskedOnly, IsUnasked, Means, stopped, listed, tested, debugged, idle, reported, reported_junit, taken, AsksFirst, selecting, preparing, CutShort, no_memory, cut, report_cut, junit_cut, asked_only, ToldOnly, Did}
-use Rattle.kt_cli.specs.Pages.{Printed, Says}
+use Rattle.kt_cli.specs.Inner.Meaning.{asked_only, ToldOnly}
+use Rattle.kt_cli.specs.Meaning.{Seen, Course, listing, listing_exit, IsPrepared, IsAskedOnly, IsUnasked, Means, stopped, listed, tested, debugged, idle, reported, reported_junit, taken, AsksFirst, selecting, preparing, CutShort, no_memory, cut, report_cut, junit_cut, Did}
+use Rattle.kt_cli.specs.Inner.Pages.{Says}
+use Rattle.kt_cli.specs.Pages.{Printed}
 use Rattle.kt_plan.specs.Planning.{Surveys, SurveysFirst, ArePlanned}
 use Rattle.kt_plan.specs.Questions.{Question, leads_by, of_host}
-use Rattle.kt_cli.specs.Reports.{Reported, ReportedJunit, Unread, JunitOrUnread, DidReport}
+use Rattle.kt_cli.specs.Inner.Reports.{JunitOrUnread, DidReport}
+use Rattle.kt_cli.specs.Reports.{Reported, ReportedJunit, Unread}
 use Rattle.kt_plan.proofs.LookLaws.{all_surveyed}
 use Rattle.kt_cli.specs.StopLines.{stop_line, stop_exit}
 use Rattle.kt_base.specs.Shows.{Shows}
 use Rattle.kt_cli.specs.CaseLines.{case_line}
-use Rattle.kt_cli.specs.Testing.{none_idle, Tested, TestCut, RanPlan}
+use Rattle.kt_cli.specs.Inner.Testing.{RanPlan}
+use Rattle.kt_cli.specs.Testing.{none_idle, Tested, TestCut}
 use Rattle.kt_plan.specs.Told.{Told, Now}
 use Rattle.kt_cli.specs.Warnings.{warnings}
 use Rattle.kt_cli.proofs.Saying.{tells_both}

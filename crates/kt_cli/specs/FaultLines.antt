@@ -1,7 +1,5 @@
 -- The lines by which commands report faults.
 use Rattle.std.specs.Prelude.{ℕ, List, ◌++◌, codes}
-use Rattle.kt_sched.specs.declared.sink_fault.SinkFault.{SinkFault}
-use Rattle.kt_sched.specs.declared.sink_fault.SinkFault.TheVariants as sink
 use Rattle.kt_store.specs.declared.store_fault.StoreFault.{StoreFault}
 use Rattle.kt_store.specs.declared.store_fault.StoreFault.TheVariants as store
 
@@ -16,11 +14,6 @@ memory_line = fault_line (codes "out of memory")
 -- the store refused a call
 abbrev pub store_line : List ℕ
 store_line = fault_line (codes "results store failed")
-
--- a put that failed
-abbrev pub put_line : SinkFault → List ℕ
-put_line sink.Memory = memory_line
-put_line sink.Other = store_line
 
 -- a call that the store refused
 abbrev pub refusal_line : StoreFault → List ℕ

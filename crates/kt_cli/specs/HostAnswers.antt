@@ -18,10 +18,6 @@ abbrev pub is_root : Option (List ℕ) → Bool
 is_root None = false
 is_root (Some user) = bytes_eq user (codes "root")
 
--- the longest variable of an environment, in bytes: Linux takes no longer one
-abbrev pub longest_variable : ℕ
-longest_variable = 131072
-
 -- a program is looked for: at its absolute path, or by its name where `PATH` is set
 abbrev pub is_sought : Option (List ℕ) → List ℕ → Bool
 is_sought path name = is_absolute name || (is_some path && not (list_any is_slash name))

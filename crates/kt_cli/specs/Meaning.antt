@@ -121,20 +121,6 @@ pub data CutShort (seen : Seen) : Command → List ℕ → ℕ → Type 0 where
   junit_cut : (options : ReportOptions) (bytes : List ℕ) (exit : ℕ) → IsUnasked seen → Unread options.run seen.calls bytes exit ⊎ JunitCut options.run seen.calls bytes exit
       → CutShort seen (command.ReportJunit options) bytes exit
 
--- nothing was started, and the store was not called
-abbrev pub asked_only : List Question → Seen
-asked_only questions = record { questions = questions; plan = []; trace = NoEvent; calls = [] }
-
--- what a command did that calls no store: what it saw, its bytes and its exit
-pub record ToldOnly {W : Type 0} (asks : W → Asked → W → Type 0) (tells : W → Told → W → Type 0) (starts : W → Job → Role → StartAnswer → W → Type 0) (waits : W → Ended → W → Type 0) (c : Command) (old new : W) (was now : Option (List ℕ)) (exit : ℕ) : Type 0 where
-  pub seen : Seen
-  pub course : Course asks tells starts waits seen old new
-  pub uncalled : seen.calls ≡ []
-  pub bytes : List ℕ
-  pub due : ℕ
-  pub is : Means seen c bytes due ⊎ CutShort seen c bytes due
-  pub printed : Printed was now exit bytes due
-
 -- what `execute` did, by what it saw: what the command means, or how memory or the store cut it short; a failed writer holds a proper
 -- prefix of its bytes. The store's own answers are part of it, and what they did to the runs stands apart: nothing else rests on the store
 pub record Did {W R : Type 0} (asks : W → Asked → W → Type 0) (tells : W → Told → W → Type 0) (starts : W → Job → Role → StartAnswer → W → Type 0) (waits : W → Ended → W → Type 0) (Answers : R → StoreCall → R → Type 0) (Stands : R → List Run → Type 0) (Sound : R → Type 0) (Leaves : R → List (List Run) → Type 0) (c : Command) (old new : W) (store after : R) (was now : Option (List ℕ)) (exit : ℕ) : Type 0 where

@@ -10,11 +10,6 @@ use Rattle.kt_store.specs.StoreCalls.{StoreCall, Began, Put, Finished, Heads, Re
 use Rattle.kt_store.specs.declared.store_fault.StoreFault.TheVariants.{StoreFull, NoRun}
 use Rattle.kt_base.specs.Chains.{Chain}
 
--- the runs after these entries were put into the run of a number, one after the other
-abbrev pub put_all : ℕ → List Entry → List Run → List Run
-put_all number [] runs = runs
-put_all number (e ∷ es) runs = put_all number es (with_entry number e runs)
-
 -- entries, each put at its position
 abbrev pub put_among : List Entry → List Entry → List Entry
 put_among there [] = there

@@ -1,8 +1,9 @@
 ghost use Rattle.std.specs.Prelude.{is_err};
 ghost use Rattle.kt_base.specs.Utf8.{utf8};
 ghost use Rattle.kt_report.specs.Lines.{line_bytes};
-ghost use Rattle.kt_cli.specs.FaultLines.{memory_line, put_line, refusal_line};
-ghost use Rattle.kt_cli.specs.Pages.{Says};
+ghost use Rattle.kt_cli.specs.Inner.FaultLines.{put_line};
+ghost use Rattle.kt_cli.specs.FaultLines.{memory_line, refusal_line};
+ghost use Rattle.kt_cli.specs.Inner.Pages.{Says};
 
 use crate::fault_line::{write_memory, write_put, write_refusal};
 use kt_base::{Entry, OutputFault};

@@ -1,8 +1,8 @@
 ghost use Rattle.std.specs.Prelude.{◌≡◌, ◌==◌, ◌≤◌, length, if◌then◌else◌, is_err};
 ghost use Rattle.kt_sched.specs.Children.{IsIdle};
 ghost use Rattle.kt_sched.specs.Plan.{IsPlan};
-ghost use Rattle.kt_cli.specs.Debugging.{Debugged};
-ghost use Rattle.kt_cli.specs.Meaning.{ToldOnly};
+ghost use Rattle.kt_cli.specs.Inner.Debugging.{Debugged};
+ghost use Rattle.kt_cli.specs.Inner.Meaning.{ToldOnly};
 ghost use Rattle.kt_words.specs.declared.command.Command.TheVariants as command;
 
 use crate::behind::memory_behind;

@@ -1,7 +1,8 @@
 ghost use Rattle.std.specs.Prelude.{is_err};
 ghost use Rattle.kt_base.specs.Utf8.{utf8};
 ghost use Rattle.kt_base.specs.Shows.{Shows};
-ghost use Rattle.kt_cli.specs.FaultLines.{memory_line, put_line, refusal_line, store_line};
+ghost use Rattle.kt_cli.specs.Inner.FaultLines.{put_line};
+ghost use Rattle.kt_cli.specs.FaultLines.{memory_line, refusal_line, store_line};
 
 use kt_base::{OutputFault, emit};
 use kt_sched::SinkFault;

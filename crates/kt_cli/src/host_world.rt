@@ -1,5 +1,6 @@
 ghost use Rattle.std.specs.Prelude.{◌≡◌, ◌≤◌, IfOk, length};
-ghost use Rattle.kt_cli.specs.HostFiles.{may_execute, read_limit};
+ghost use Rattle.kt_cli.specs.Inner.HostFiles.{may_execute};
+ghost use Rattle.kt_cli.specs.HostFiles.{read_limit};
 
 use crate::host_path::{LONGEST_PATH, joined_path};
 use crate::runner::Runner;

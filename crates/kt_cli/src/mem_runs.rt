@@ -31,7 +31,7 @@ impl MemRuns {
     ghost use Rattle.kt_store.specs.Ask.{IsStoreFault};
     ghost use Rattle.kt_store.specs.Heads.{head_of};
     ghost use Rattle.kt_store.specs.Runs.{run_at};
-    ghost use Rattle.kt_cli.specs.MemoryRuns.{BeginsRun, FindsPlace, PutsEntry, FinishesRun};
+    ghost use Rattle.kt_cli.specs.Inner.MemoryRuns.{BeginsRun, FindsPlace, PutsEntry, FinishesRun};
 
     /// No runs, which take no memory.
     pub fn new(alloc: Global) -> MemRuns
@@ -180,7 +180,7 @@ ghost use Rattle.std.specs.Prelude.{◌≡◌, ◌≤◌, length, map, insert, O
 ghost use Rattle.kt_store.specs.Ask.{IsStoreFault};
 ghost use Rattle.kt_store.specs.Heads.{head_of};
 ghost use Rattle.kt_store.specs.Runs.{has_position, insert_at};
-ghost use Rattle.kt_cli.specs.MemoryRuns.{entry_refusal, closing_refusal, place_among};
+ghost use Rattle.kt_cli.specs.Inner.MemoryRuns.{entry_refusal, closing_refusal, place_among};
 
 /// Memory ran out.
 fn short(refusal: NoMemory) -> StoreFault

@@ -1,5 +1,6 @@
 ghost use Rattle.std.specs.Prelude.{◌≡◌, IfOk, length};
-ghost use Rattle.kt_cli.specs.HostAnswers.{is_root, longest_variable};
+ghost use Rattle.kt_cli.specs.Inner.HostAnswers.{longest_variable};
+ghost use Rattle.kt_cli.specs.HostAnswers.{is_root};
 
 use kt_base::{NoMemory, Text};
 use kt_child::DriverFault;

@@ -5,9 +5,10 @@ ghost use Rattle.kt_base.specs.Moments.{IsMoment};
 ghost use Rattle.kt_sched.specs.Plan.{IsPlan, IsWidth};
 ghost use Rattle.kt_suite.specs.Selecting.{most_items};
 ghost use Rattle.kt_cli.specs.Meaning.{Did};
-ghost use Rattle.kt_cli.specs.Pages.{Says};
-ghost use Rattle.kt_cli.specs.Recordings.{Records};
-ghost use Rattle.kt_cli.specs.Testing.{RanPlan, ending, exit_of};
+ghost use Rattle.kt_cli.specs.Inner.Pages.{Says};
+ghost use Rattle.kt_cli.specs.Inner.Recordings.{Records};
+ghost use Rattle.kt_cli.specs.Inner.Testing.{RanPlan};
+ghost use Rattle.kt_cli.specs.Testing.{ending, exit_of};
 ghost use Rattle.kt_words.specs.declared.command.Command.TheVariants as command;
 
 use crate::behind::{memory_behind, put_behind, refusal_behind};

@@ -1,5 +1,7 @@
 -- What private functions answer. No public clause cites it.
-use Rattle.std.specs.Prelude.{ℕ, ◌≡◌, false, List, [], ◌∷◌, ◌++◌, Some, unwrap_or, bytes_eq, Result, Ok, Err}
+use Rattle.std.specs.Prelude.{ℕ, ◌≡◌, false, List, [], ◌∷◌, ◌++◌, chars, Some, unwrap_or, bytes_eq, Result, Ok, Err}
+use Rattle.std.specs.String.{string_bytes}
+use Rattle.std.specs.declared.string.String.{String}
 use Rattle.kt_base.specs.declared.variable.Variable.{Variable}
 use Rattle.kt_base.specs.LastValues.{last_values}
 use Rattle.kt_script.specs.declared.fault.ScriptFault.{ScriptFault}
@@ -30,3 +32,7 @@ fault_of_script (script.BadToken line) = Script (script.BadToken line)
 fault_of_script (script.NotLiteral line) = Script (script.NotLiteral line)
 fault_of_script (script.Unclosed line) = Script (script.Unclosed line)
 fault_of_script script.TooLong = Script script.TooLong
+
+-- an entry of a map as a suite
+abbrev pub group_in : {Z : Type 0} → String Z × List Variable → Group
+group_in entry = record { suite = chars (string_bytes entry.0); variables = entry.1 }

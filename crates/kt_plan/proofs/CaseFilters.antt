@@ -8,7 +8,8 @@ use Rattle.kt_suite.specs.declared.filter_fault.FilterFault.{FilterFault}
 use Rattle.kt_suite.specs.declared.filter_fault.FilterFault.TheVariants.{Repeated, NotDisjoint}
 use Rattle.kt_suite.specs.Disjoint.{IsDisjoint, IsFirstFault, fault_at, fault_after, is_same_filter, overlap}
 use Rattle.kt_suite.specs.Disjoint as of
-use Rattle.kt_plan.specs.Configuring.{ChecksTogether, Filters, apart, clash, each_of, filters_of, in_front, lacks_case, position_in, right, shared, unnamed, unparsed}
+use Rattle.kt_plan.specs.Inner.Configuring.{ChecksTogether, apart, position_in, shared}
+use Rattle.kt_plan.specs.Configuring.{Filters, clash, each_of, filters_of, in_front, lacks_case, right, unnamed, unparsed}
 use Rattle.kt_plan.specs.Stops.{IsShort}
 use Rattle.kt_plan.specs.declared.stop.Stop.{Stop}
 use Rattle.kt_plan.specs.declared.stop.Stop.TheVariants as stop

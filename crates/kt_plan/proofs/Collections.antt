@@ -1,8 +1,7 @@
 -- What a world was asked for the tree and then for the lists, and what came of it.
 use Rattle.std.specs.Prelude.{Result, Ok, Err, Bool, not, filter, ◌+◌}
-use Rattle.std.proofs.Common.{arith}
+use Rattle.std.proofs.Common.{IfErr, IfOk, List, OnOk, [], ap, arith, inl, inr, length, refl, subst, sym, ℕ, ◌<◌, ◌∙◌, ◌≡◌, ◌≤◌, ◌⊎◌}
 use Rattle.std.proofs.lemmas.List.Filters.{length-filter_both}
-use Rattle.std.proofs.Common.{◌≡◌, ◌≤◌, ◌<◌, ℕ, List, [], refl, sym, ap, ◌∙◌, subst, length, ◌⊎◌, inl, inr, IfOk, OnOk, IfErr}
 use Rattle.kt_base.specs.declared.no_memory.NoMemory.{NoMemory as OutOfMemory}
 use Rattle.kt_suite.specs.Answers.{Asked, Answered}
 use Rattle.kt_suite.specs.declared.cause.SuiteCause.TheVariants.{NoMemory}
@@ -16,8 +15,10 @@ use Rattle.kt_plan.specs.declared.chosen.Chosen.{Chosen}
 use Rattle.kt_plan.specs.declared.settings.Settings.{Settings}
 use Rattle.kt_plan.specs.declared.stop.Stop.{Stop}
 use Rattle.kt_plan.specs.declared.stop.Stop.TheVariants as stop
-use Rattle.kt_plan.specs.Collecting.{item_of, selected_cases, chosen_of, Offers, OffersFirst, Collects, unloaded, too_many, chosen, loading, offering, CollectsOrShort, Collected}
-use Rattle.kt_plan.specs.Listings.{Loads, LoadsOrShort, RanShort, by_tree}
+use Rattle.kt_plan.specs.Inner.Collecting.{CollectsOrShort, Collected}
+use Rattle.kt_plan.specs.Collecting.{item_of, selected_cases, chosen_of, Offers, OffersFirst, Collects, unloaded, too_many, chosen, loading, offering}
+use Rattle.kt_plan.specs.Inner.Listings.{LoadsOrShort, RanShort}
+use Rattle.kt_plan.specs.Listings.{Loads, by_tree}
 use Rattle.kt_plan.specs.Stops.{RanOut, IsShort}
 use Rattle.kt_plan.specs.Told.{Told}
 use Rattle.kt_plan.proofs.OfferLaws.{all_first}

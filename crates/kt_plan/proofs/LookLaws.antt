@@ -16,7 +16,8 @@ use Rattle.kt_metadata.specs.declared.host.Host.{Host}
 use Rattle.kt_plan.specs.declared.candidate.Candidate.{Candidate}
 use Rattle.kt_plan.specs.declared.required.Required.{Required}
 use Rattle.kt_plan.specs.declared.required.Required.TheVariants.{File, Program}
-use Rattle.kt_plan.specs.Planning.{question_of, finds_file, finds_program, finds_of, meta_in, LooksFor, no_word, asked, LooksForOne, unasked, looked, LooksForAll, no_case, one_and, Notes, Surveys, SurveysFirst}
+use Rattle.kt_plan.specs.Inner.Planning.{question_of, finds_of, Notes}
+use Rattle.kt_plan.specs.Planning.{finds_file, finds_program, meta_in, LooksFor, no_word, asked, LooksForOne, unasked, looked, LooksForAll, no_case, one_and, Surveys, SurveysFirst}
 use Rattle.kt_plan.specs.Questions.{AreFirst}
 use Rattle.kt_plan.specs.Told.{Told, FindsFile, FindsProgram, IsRoot, HasMemory, HasDisk}
 use Rattle.kt_base.proofs.Chains.{chain-append}

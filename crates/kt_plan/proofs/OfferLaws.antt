@@ -12,7 +12,8 @@ use Rattle.kt_suite.specs.Answers.{Answered}
 use Rattle.kt_suite.specs.declared.filter.Filter.{Filter}
 use Rattle.kt_suite.specs.declared.program.Program.{Program}
 use Rattle.kt_plan.specs.declared.candidate.Candidate.{Candidate}
-use Rattle.kt_plan.specs.Collecting.{candidates_of, variables_for, IsWanted, ListsCases, listed, ListsFirst, before_list, after_list, OffersOne, listing, unlisted, single, Offers, none, one_and, OffersFirst, no_further, asks, passes}
+use Rattle.kt_plan.specs.Inner.Collecting.{ListsFirst, before_list, after_list}
+use Rattle.kt_plan.specs.Collecting.{candidates_of, variables_for, IsWanted, ListsCases, listed, OffersOne, listing, unlisted, single, Offers, none, one_and, OffersFirst, no_further, asks, passes}
 use Rattle.kt_plan.specs.Told.{Told, Lists}
 use Rattle.kt_base.proofs.Chains.{chain-append}
 use Rattle.kt_plan.proofs.Rests.{none_left}

@@ -8,8 +8,10 @@ use Rattle.kt_plan.specs.declared.chosen.Chosen.{Chosen}
 use Rattle.kt_plan.specs.declared.picked.Picked.{Picked}
 use Rattle.kt_plan.specs.declared.settings.Settings.{Settings}
 use Rattle.kt_plan.specs.declared.stop.Stop.{Stop}
-use Rattle.kt_plan.specs.Collecting.{Collects, CollectsOrShort, Collected}
-use Rattle.kt_plan.specs.Configuring.{Settles, SettlesOrShort}
+use Rattle.kt_plan.specs.Inner.Collecting.{CollectsOrShort, Collected}
+use Rattle.kt_plan.specs.Collecting.{Collects}
+use Rattle.kt_plan.specs.Inner.Configuring.{SettlesOrShort}
+use Rattle.kt_plan.specs.Configuring.{Settles}
 use Rattle.kt_plan.specs.Questions.{leads_by, of_tree, of_host}
 use Rattle.kt_plan.specs.Selecting.{SelectsOrShort, collecting, selected, settling, uncollected, unsettled}
 use Rattle.kt_plan.specs.Told.{Told}

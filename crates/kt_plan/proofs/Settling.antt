@@ -7,7 +7,8 @@ use Rattle.kt_config.specs.declared.definition.Definition.{Definition}
 use Rattle.kt_config.specs.Values.{Values}
 use Rattle.kt_suite.specs.Answers.{Answered}
 use Rattle.kt_suite.specs.declared.filter.Filter.{Filter}
-use Rattle.kt_plan.specs.Configuring.{Configured, Configures, Filters, Gives, OrShort, Settles, SettlesOrShort, settled, unconfigured, unfiltered}
+use Rattle.kt_plan.specs.Inner.Configuring.{Configured, Gives, OrShort, SettlesOrShort}
+use Rattle.kt_plan.specs.Configuring.{Configures, Filters, Settles, settled, unconfigured, unfiltered}
 use Rattle.kt_plan.specs.Stops.{IsShort}
 use Rattle.kt_plan.specs.Told.{Told}
 use Rattle.kt_plan.specs.declared.case_options.CaseOptions.{CaseOptions}

@@ -7,7 +7,6 @@ use Rattle.kt_config.specs.Values.{Values, variables_of}
 use Rattle.kt_atflist.specs.Cases.{AreCases}
 use Rattle.kt_atflist.specs.declared.case_def.CaseDef.{CaseDef}
 use Rattle.kt_atflist.specs.declared.listing.Listing.{Listing}
-use Rattle.kt_base.specs.Chains.{Chain}
 use Rattle.kt_suite.specs.Answers.{Asked}
 use Rattle.kt_suite.specs.declared.fault.SuiteFault.{SuiteFault}
 use Rattle.kt_suite.specs.declared.filter.Filter.{Filter}
@@ -21,7 +20,6 @@ use Rattle.kt_plan.specs.declared.settings.Settings.{Settings}
 use Rattle.kt_plan.specs.declared.stop.Stop.{Stop}
 use Rattle.kt_plan.specs.declared.stop.Stop.TheVariants as stop
 use Rattle.kt_plan.specs.Listings.{Loads, LoadsFirst}
-use Rattle.kt_plan.specs.Stops.{IsShort}
 use Rattle.kt_plan.specs.Told.{Told, Lists}
 
 -- the variables of a suite, none where it has none
@@ -44,11 +42,6 @@ IsWanted filters program = (filters ≡ []) ⊎ ((one : Filter) × Contains filt
 pub data ListsCases (config : Values) (program : Program) : List Told → List CaseDef → Type 0 where
   listed : (listing : Listing) (cases : List CaseDef) → AreCases program.props Atf (Some listing) cases
       → ListsCases config program (Lists program (variables_for config program.suite) listing ∷ []) cases
-
--- the first question for them, where memory ran out: the list is asked for, or not yet
-pub data ListsFirst (config : Values) (program : Program) : List Told → Type 0 where
-  before_list : ListsFirst config program []
-  after_list : (listing : Listing) → ListsFirst config program (Lists program (variables_for config program.suite) listing ∷ [])
 
 -- the cases of a program: an ATF program that is wanted is asked for its list, and one that isn't has none here; the others have the
 -- case `main`
@@ -102,16 +95,3 @@ pub data CollectsFirst (settings : Settings) (kyuafile : List ℕ) : List Asked 
   loading : (asked : List Asked) → LoadsFirst kyuafile asked → CollectsFirst settings kyuafile asked []
   offering : (asked : List Asked) (told : List Told) (programs : List Program) → Loads kyuafile asked (Ok programs)
       → OffersFirst settings.config settings.filters programs told → CollectsFirst settings kyuafile asked told
-
--- the selected cases, or memory ran out after the first questions for them
-abbrev pub CollectsOrShort : Settings → List ℕ → List Asked → List Told → Result Chosen Stop → Type 0
-CollectsOrShort settings kyuafile asked told result = (IsShort result × CollectsFirst settings kyuafile asked told) ⊎ Collects settings kyuafile asked told result
-
--- a world was asked for the tree and then for the lists, and this came of it
-pub record Collected {W : Type 0} (asks : W → Asked → W → Type 0) (tells : W → Told → W → Type 0) (settings : Settings) (kyuafile : List ℕ) (old new : W) (result : Result Chosen Stop) : Type 0 where
-  pub asked : List Asked
-  pub told : List Told
-  pub loaded : W
-  pub chain : Chain asks old asked loaded
-  pub lists : Chain tells loaded told new
-  pub holds : CollectsOrShort settings kyuafile asked told result

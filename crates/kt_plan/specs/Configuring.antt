@@ -1,5 +1,5 @@
 -- What a command over test cases is configured with, and which filters it has: the first step.
-use Rattle.std.specs.Prelude.{ℕ, Bool, true, false, not, ◌≡◌, ◌<◌, ◌&&◌, ◌⊎◌, List, [], ◌∷◌, ◌++◌, Option, Some, None, Result, Ok, Err, is_some, slice_get}
+use Rattle.std.specs.Prelude.{ℕ, Bool, true, false, not, ◌≡◌, ◌<◌, ◌&&◌, List, [], ◌∷◌, ◌++◌, Option, Some, None, Result, Ok, Err, is_some, slice_get}
 use Rattle.kt_base.specs.Texts.{before, after}
 use Rattle.kt_script.specs.Spelling.{Spells}
 use Rattle.kt_script.specs.declared.syntax.Stmt.{Stmt}
@@ -9,19 +9,16 @@ use Rattle.kt_config.specs.declared.fault.ConfigFault.TheVariants.{BadValue}
 use Rattle.kt_config.specs.Holding.{Holds}
 use Rattle.kt_config.specs.Names.{Meaning, definition_named}
 use Rattle.kt_config.specs.Reading.{outcome_of, IsDue}
-use Rattle.kt_config.specs.Values.{Values}
 use Rattle.kt_suite.specs.declared.filter.Filter.{Filter}
 use Rattle.kt_suite.specs.declared.filter_fault.FilterFault.{FilterFault}
-use Rattle.kt_suite.specs.declared.filter_fault.FilterFault.TheVariants.{Repeated, NotDisjoint}
 use Rattle.kt_suite.specs.declared.read_fault.ReadFault.{ReadFault}
-use Rattle.kt_suite.specs.declared.read_fault.ReadFault.TheVariants.{Missing, Failed, Memory}
+use Rattle.kt_suite.specs.declared.read_fault.ReadFault.TheVariants.{Missing, Failed}
 use Rattle.kt_suite.specs.Disjoint.{fault_at, IsDisjoint}
 use Rattle.kt_suite.specs.Filters.{Meaning as FilterMeaning, filter_meaning}
 use Rattle.kt_plan.specs.declared.case_options.CaseOptions.{CaseOptions}
 use Rattle.kt_plan.specs.declared.settings.Settings.{Settings}
 use Rattle.kt_plan.specs.declared.stop.Stop.{Stop}
 use Rattle.kt_plan.specs.declared.stop.Stop.TheVariants as stop
-use Rattle.kt_plan.specs.Stops.{IsShort}
 use Rattle.kt_plan.specs.Told.{Told, ReadConfig}
 
 -- ---- words in order
@@ -69,12 +66,6 @@ pub data IsUnread : ReadFault → Type 0 where
   missing : IsUnread Missing
   failed : IsUnread Failed
 
--- why a command stops whose configuration file can't be read
-abbrev pub unread_stop : ReadFault → Stop
-unread_stop Missing = stop.UnreadConfiguration
-unread_stop Failed = stop.UnreadConfiguration
-unread_stop (Memory refusal) = stop.NoMemory refusal
-
 -- what the bytes of a configuration file define, or why they stop the command
 pub data IsConfiguration (bytes : List ℕ) : Result (List Definition) Stop → Type 0 where
   refused : (fault : ConfigFault) → IsDue bytes fault → IsConfiguration bytes (Err (stop.Configuration fault))
@@ -91,27 +82,6 @@ pub data ReadsConfig : Option (List ℕ) → List Told → Result (List Definiti
 pub data Configures (options : CaseOptions) (told : List Told) : Result (List Definition) Stop → Type 0 where
   stopped : (fault : Stop) → ReadsConfig options.config told (Err fault) → Configures options told (Err fault)
   defined : (before : List Definition) → ReadsConfig options.config told (Ok before) → Configures options told (behind before (words_meaning options.variables))
-
--- a configuration with the last values of these definitions, or the same stop
-abbrev pub Gives : Result Values Stop → Result (List Definition) Stop → Type 0
-Gives (Ok config) (Ok definitions) = Holds config definitions
-Gives (Ok config) (Err fault) = ⊥
-Gives (Err found) (Ok definitions) = ⊥
-Gives (Err found) (Err fault) = found ≡ fault
-
--- a configuration, or a stop, is what some definitions give of which this holds
-pub record Configured (Means : Result (List Definition) Stop → Type 0) (outcome : Result Values Stop) : Type 0 where
-  pub meant : Result (List Definition) Stop
-  pub means : Means meant
-  pub gives : Gives outcome meant
-
--- whatever definitions a configuration has, these come after them
-abbrev pub GivesMore : Values → Result Values Stop → Result (List Definition) Stop → Type 0
-GivesMore config outcome meant = (before : List Definition) → Holds config before → Gives outcome (behind before meant)
-
--- the same of one definition
-abbrev pub GivesOne : Values → Result Values Stop → Result Definition Stop → Type 0
-GivesOne config outcome meant = GivesMore config outcome (in_front meant (Ok []))
 
 -- ---- filters
 
@@ -134,17 +104,6 @@ pub record IsClash (words : List (List ℕ)) (filters : List Filter) (word : Lis
   pub at : fault_at filters position ≡ Some fault
   pub first : (before : ℕ) → before < position → fault_at filters before ≡ None
   pub named : slice_get words position ≡ Some word
-
--- the position that a fault of several filters names
-abbrev pub position_in : FilterFault → ℕ
-position_in (Repeated position) = position
-position_in (NotDisjoint position) = position
-position_in other = 0
-
--- whether some filters share a case, and the stop at the first that shares one with an earlier one
-pub data ChecksTogether (words : List (List ℕ)) (filters : List Filter) : Option Stop → Type 0 where
-  apart : IsDisjoint filters → ChecksTogether words filters None
-  shared : (word : List ℕ) (fault : FilterFault) → IsClash words filters word fault → ChecksTogether words filters (Some (stop.Filter word fault))
 
 -- there is one filter, of one case
 abbrev pub names_one_case : List Filter → Bool
@@ -180,11 +139,3 @@ pub data Settles (needs_case : Bool) (options : CaseOptions) (told : List Told) 
 pub data ReadsFirst : Option (List ℕ) → List Told → Type 0 where
   before_file : (path : Option (List ℕ)) → ReadsFirst path []
   after_file : (path : List ℕ) (answer : Result (List ℕ) ReadFault) → ReadsFirst (Some path) (ReadConfig path answer ∷ [])
-
--- this holds of what was asked, or memory ran out after the first questions
-abbrev pub OrShort : {T : Type 0} → Result T Stop → Option (List ℕ) → List Told → Type 0 → Type 0
-OrShort result path told fact = (IsShort result × ReadsFirst path told) ⊎ fact
-
--- the settings, or memory ran out
-abbrev pub SettlesOrShort : Bool → CaseOptions → List Told → Result Settings Stop → Type 0
-SettlesOrShort needs_case options told result = OrShort result options.config told (Settles needs_case options told result)

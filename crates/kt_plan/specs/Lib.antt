@@ -1,7 +1,7 @@
 pub mod Collecting
 pub mod Configuring
+pub mod Inner
 pub mod Listings
-pub mod Picks
 pub mod Planning
 pub mod Questions
 pub mod Selecting

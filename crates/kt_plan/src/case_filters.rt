@@ -1,5 +1,6 @@
 ghost use Rattle.std.specs.Prelude.{◌≡◌, ◌⊎◌, IfOk, length};
-ghost use Rattle.kt_plan.specs.Configuring.{filter_of, filters_of, position_in, names_one_case, lacks_case, ChecksTogether, Filters};
+ghost use Rattle.kt_plan.specs.Inner.Configuring.{position_in, ChecksTogether};
+ghost use Rattle.kt_plan.specs.Configuring.{filter_of, filters_of, names_one_case, lacks_case, Filters};
 ghost use Rattle.kt_plan.specs.Stops.{IsShort};
 
 use crate::stop::Stop;

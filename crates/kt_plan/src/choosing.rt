@@ -4,7 +4,7 @@ ghost use Rattle.kt_suite.specs.Selecting.{most_items};
 ghost use Rattle.kt_plan.specs.declared.candidate.Candidate.{Candidate};
 ghost use Rattle.kt_plan.specs.declared.stop.Stop.TheVariants as stop;
 ghost use Rattle.kt_plan.specs.Collecting.{item_of, selected_cases, chosen_of};
-ghost use Rattle.kt_plan.specs.Picks.{places_from};
+ghost use Rattle.kt_plan.specs.Inner.Picks.{places_from};
 ghost use Rattle.kt_plan.specs.Stops.{RanOut};
 
 use crate::candidate::Candidate;

@@ -4,7 +4,7 @@ ghost use Rattle.kt_sched.specs.Children.{IsIdle};
 ghost use Rattle.kt_suite.specs.Faults.{IsNoMemory};
 ghost use Rattle.kt_suite.specs.Selecting.{most_items};
 ghost use Rattle.kt_plan.specs.declared.stop.Stop.TheVariants as stop;
-ghost use Rattle.kt_plan.specs.Collecting.{Collected};
+ghost use Rattle.kt_plan.specs.Inner.Collecting.{Collected};
 
 use crate::choosing::choose;
 use crate::chosen::Chosen;

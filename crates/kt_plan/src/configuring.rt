@@ -1,7 +1,8 @@
 ghost use Rattle.std.specs.Prelude.{◌≡◌, Some, IfOk};
 ghost use Rattle.kt_sched.specs.Children.{IsIdle};
 ghost use Rattle.kt_suite.specs.Answers.{Answered};
-ghost use Rattle.kt_plan.specs.Configuring.{unread_stop, words_meaning, Configured, Configures, IsConfiguration, GivesMore, OrShort, ReadsConfig, SettlesOrShort};
+ghost use Rattle.kt_plan.specs.Inner.Configuring.{unread_stop, Configured, GivesMore, OrShort, SettlesOrShort};
+ghost use Rattle.kt_plan.specs.Configuring.{words_meaning, Configures, IsConfiguration, ReadsConfig};
 
 use crate::case_filters::read_filters;
 use crate::case_options::CaseOptions;

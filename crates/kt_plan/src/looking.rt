@@ -2,8 +2,8 @@ ghost use Rattle.std.specs.Prelude.{◌≡◌, ◌||◌, ◌∷◌, [], ℕ, Lis
 ghost use Rattle.std.specs.BTreeSet.{contains_text};
 ghost use Rattle.kt_base.specs.Utf8.{utf8};
 ghost use Rattle.kt_suite.specs.Answers.{Answered};
-ghost use Rattle.kt_plan.specs.Planning.{question_of, finds_file, finds_program, finds_of};
-ghost use Rattle.kt_plan.specs.Planning.{LooksFor, LooksForOne, LooksForAll, Notes};
+ghost use Rattle.kt_plan.specs.Inner.Planning.{Notes, finds_of, question_of};
+ghost use Rattle.kt_plan.specs.Planning.{LooksFor, LooksForAll, LooksForOne, finds_file, finds_program};
 ghost use Rattle.kt_plan.specs.Questions.{AreFirst};
 
 use crate::candidate::Candidate;

@@ -1,7 +1,8 @@
 ghost use Rattle.std.specs.Prelude.{◌≡◌, ◌++◌, ◌∷◌, [], IfOk, OnOk, MatchResult};
 ghost use Rattle.kt_sched.specs.Children.{IsIdle};
 ghost use Rattle.kt_suite.specs.Answers.{Answered};
-ghost use Rattle.kt_plan.specs.Collecting.{candidate_of, candidates_of, ListsCases, ListsFirst, Offers, OffersFirst, OffersOne};
+ghost use Rattle.kt_plan.specs.Inner.Collecting.{ListsFirst};
+ghost use Rattle.kt_plan.specs.Collecting.{candidate_of, candidates_of, ListsCases, Offers, OffersFirst, OffersOne};
 
 use crate::candidate::Candidate;
 use crate::settings::Settings;

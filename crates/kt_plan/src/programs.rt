@@ -1,8 +1,9 @@
 ghost use Rattle.std.specs.Prelude.{◌≡◌, ◌≤◌, length, IfOk};
 ghost use Rattle.kt_suite.specs.Answers.{Answered};
-ghost use Rattle.kt_suite.specs.Faults.{Blames, no_memory};
+ghost use Rattle.kt_suite.specs.Inner.Faults.{Blames};
+ghost use Rattle.kt_suite.specs.Faults.{no_memory};
 ghost use Rattle.kt_suite.specs.Registered.{program_limit};
-ghost use Rattle.kt_plan.specs.Listings.{LoadsOrShort};
+ghost use Rattle.kt_plan.specs.Inner.Listings.{LoadsOrShort};
 
 use kt_base::{Items, NoMemory, Text};
 use kt_suite::{Program, SuiteCause, SuiteFault, Tree, load, split_path};

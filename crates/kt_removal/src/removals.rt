@@ -1,5 +1,5 @@
 ghost use Rattle.std.specs.Prelude.{◌≡◌, ◌++◌, ◌∷◌, IfOk, IfSome};
-ghost use Rattle.kt_removal.specs.Removals.{moved_dir};
+ghost use Rattle.kt_removal.specs.Inner.Removals.{moved_dir};
 
 use crate::bounds::Bound;
 use crate::entries;

@@ -154,23 +154,10 @@ abbrev pub with_entry : ℕ → Entry → List Run → List Run
 with_entry run e [] = []
 with_entry run e (r ∷ runs) = if r.number == run then record r { entries = insert_at e r.entries } ∷ runs else r ∷ with_entry run e runs
 
--- a run with this number is there, and all runs are sound once it has this entry too
-abbrev pub CanAdd : ℕ → Entry → List Run → Type 0
-CanAdd run e runs = (k : ℕ) × (run ≡ suc k) × (k < length runs) × AllByRecursion IsRun (with_entry run e runs)
-
--- a run with this number is there and has all its entries
-abbrev pub IsComplete : ℕ → List Run → Type 0
-IsComplete run runs = (k : ℕ) × (r : Run) × (run ≡ suc k) × (run_at runs run ≡ Some r) × (length r.entries ≡ r.total)
-
 -- the run with this number is finished
 abbrev pub finish : ℕ → List Run → List Run
 finish run [] = []
 finish run (r ∷ runs) = if r.number == run then record r { finished = true } ∷ runs else r ∷ finish run runs
-
--- the entries of a run, if there is one
-abbrev pub entries_of : Option Run → List Entry
-entries_of None = []
-entries_of (Some r) = r.entries
 
 -- whether an entry has this position
 abbrev pub has_position : ℕ → List Entry → Bool

@@ -4,7 +4,7 @@ ghost use Rattle.kt_base.specs.Moments.{IsMoment};
 ghost use Rattle.sqlite.specs.State.{HasCleanDisk};
 ghost use Rattle.sqlite.specs.Held.{state};
 ghost use Rattle.kt_store.specs.Ask.{IsStoreFault, IsCaused};
-ghost use Rattle.kt_store.specs.Kept.{KeepsRuns, OnlyReads, Changes, ChangesForGood, MayChange};
+ghost use Rattle.kt_store.specs.Inner.Kept.{KeepsRuns, OnlyReads, Changes, ChangesForGood, MayChange};
 ghost use Rattle.kt_store.specs.Runs.{new_run};
 ghost use Rattle.kt_store.specs.Stands.{StandsFor};
 ghost use Rattle.kt_store.specs.Tables.{full_text, begin_text};

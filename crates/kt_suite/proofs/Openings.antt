@@ -12,7 +12,8 @@ use Rattle.kt_suite.specs.declared.cause.SuiteCause.TheVariants.{NoSyntax, Scrip
 use Rattle.kt_suite.specs.declared.fault.SuiteFault.{SuiteFault}
 use Rattle.kt_suite.specs.Answers.{Asked, Read}
 use Rattle.kt_suite.specs.Inner.Steps.{IsText}
-use Rattle.kt_suite.specs.Faults.{fault_at, read_fault, script_line, IsNoMemory, Blames}
+use Rattle.kt_suite.specs.Inner.Faults.{Blames}
+use Rattle.kt_suite.specs.Faults.{fault_at, read_fault, script_line, IsNoMemory}
 use Rattle.kt_suite.specs.Meanings.{opening_fault}
 use Rattle.kt_suite.specs.Marks.{unread, no_script, no_statement, unopened}
 use Rattle.kt_suite.specs.Inner.Walks.{WellOpened, well, empty, badly, unclear, Opened, opens, declines, lacks}

@@ -1,5 +1,5 @@
 -- The faults of a tree, and where they stand.
-use Rattle.std.specs.Prelude.{ℕ, List, [], ◌≡◌, ◌⊎◌}
+use Rattle.std.specs.Prelude.{ℕ, List, [], ◌≡◌}
 use Rattle.kt_base.specs.declared.no_memory.NoMemory.{NoMemory as Refusal}
 use Rattle.kt_script.specs.declared.fault.ScriptFault.{ScriptFault}
 use Rattle.kt_script.specs.declared.fault.ScriptFault.TheVariants.{NotUtf8, BadToken, NotLiteral, Unclosed, TooLong}
@@ -21,10 +21,6 @@ no_memory refusal = fault_at [] 0 (NoMemory refusal)
 -- a fault says that memory ran out
 abbrev pub IsNoMemory : SuiteFault → Type 0
 IsNoMemory fault = (refusal : Refusal) × (fault ≡ no_memory refusal)
-
--- a fault on a line of a file, unless memory for its path ran out
-abbrev pub Blames : List ℕ → ℕ → SuiteCause → SuiteFault → Type 0
-Blames file line cause fault = IsNoMemory fault ⊎ (fault ≡ fault_at file line cause)
 
 -- a file that can't be read is unreadable, unless memory ran out
 abbrev pub read_fault : List ℕ → ReadFault → SuiteFault

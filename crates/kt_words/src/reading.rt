@@ -7,9 +7,8 @@ ghost use Rattle.std.specs.declared.io.ErrorKind.TheVariants.{OutOfMemory};
 ghost use Rattle.kt_base.specs.Limits.{last_run};
 ghost use Rattle.kt_words.specs.declared.command.Command.TheVariants as command;
 ghost use Rattle.kt_words.specs.Commands.{HasRunNumber};
-ghost use Rattle.kt_words.specs.Reading.{text_given, text_or, texts_given, is_true, results_in};
-ghost use Rattle.kt_words.specs.Reading.{run_of, kinds_of, options_in, report_options, report_in, junit_in};
-ghost use Rattle.kt_words.specs.Reading.{command_named, command_in, Answers, Reads, ReadsRun, ReadsShown, RefusesWords};
+ghost use Rattle.kt_words.specs.Reading.{Reads, RefusesWords, command_in, command_named, is_true, junit_in, kinds_of, options_in, report_in, report_options, results_in, run_of, text_given, text_or, texts_given};
+ghost use Rattle.kt_words.specs.Inner.Reading.{Answers, ReadsRun, ReadsShown};
 
 use crate::arguments::{KYUAFILE, RESULTS, WORK, all_words};
 use crate::command::Command;

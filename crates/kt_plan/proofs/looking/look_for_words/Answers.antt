@@ -1,7 +1,7 @@
 use Rattle.std.proofs.Common.{rules, ◌≡◌, ◌∷◌, ◌+◌, arith, drop, length}
 use Rattle.std.proofs.lemmas.Grind.{common_steps}
 use Rattle.std.proofs.lemmas.Result.{err_from_is_err_and}
-use Rattle.kt_plan.specs.Planning.{question_of, finds_of}
+use Rattle.kt_plan.specs.Inner.Planning.{question_of, finds_of}
 use Rattle.kt_plan.proofs.Chains.{asked_short}
 use Rattle.kt_plan.proofs.LookLaws.{words_next, words_all, words_stopped}
 use Rattle.kt_plan.proofs.looking.look_for_words.Goals as goal

@@ -1,5 +1,5 @@
 use Rattle.std.proofs.Common.{drop}
-use Rattle.kt_plan.specs.Planning.{question_of, finds_of}
+use Rattle.kt_plan.specs.Inner.Planning.{question_of, finds_of}
 use Rattle.kt_plan.proofs.LookLaws.{Words}
 use Rattle.kt_plan.proofs.looking.look_for_words.Given as goal
 

@@ -8,8 +8,9 @@ use Rattle.kt_sched.specs.declared.sink_fault.SinkFault.TheVariants.{Memory, Oth
 use Rattle.kt_store.specs.StoreCalls.{StoreCall, Put}
 use Rattle.kt_store.specs.declared.store_fault.StoreFault.{StoreFault}
 use Rattle.kt_store.specs.declared.store_fault.StoreFault.TheVariants.{NoMemory}
-use Rattle.kt_cli.specs.Pages.{Says}
-use Rattle.kt_cli.specs.Stores.{Stored, put_all}
+use Rattle.kt_cli.specs.Inner.Pages.{Says}
+use Rattle.kt_cli.specs.Inner.Stores.{put_all}
+use Rattle.kt_cli.specs.Stores.{Stored}
 
 -- a store's refusal as the scheduler sees it
 abbrev pub sink_fault_of : StoreFault → SinkFault
