@@ -14,11 +14,6 @@ pub and_left : (a b : Bool) → (a && b) ≡ true → a ≡ true
 and_left true b h = refl
 and_left false b h = h
 
--- two tests that hold
-pub both : (a b : Bool) → a ≡ true → b ≡ true → (a && b) ≡ true
-both true b p q = q
-both false b p q = p
-
 -- a test beside one that fails
 pub and_false : (a : Bool) → (a && false) ≡ false
 and_false true = refl

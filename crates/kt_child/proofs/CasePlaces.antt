@@ -1,5 +1,5 @@
 -- Cases and their children at the places of a list of children.
-use Rattle.std.proofs.Common.{◌≡◌, ℕ, zero, suc, ◌+◌, ◌≤◌, ◌==◌, ◌&&◌, List, [], ◌∷◌, ◌++◌, length, Bool, true, false, Some, ◌⊎◌, map, slice_get, refl, ◌∙◌, ap, subst, arith, inl, inr}
+use Rattle.std.proofs.Common.{◌≡◌, ℕ, zero, suc, ◌+◌, ◌≤◌, ◌==◌, ◌&&◌, List, [], ◌∷◌, ◌++◌, length, Bool, true, false, Some, ◌⊎◌, map, slice_get, refl, ◌∙◌, ap, subst, arith, inl, inr, append-nil}
 use Rattle.std.specs.Prelude.{remove}
 use Rattle.kt_sched.specs.Children.{same_role}
 use Rattle.kt_child.specs.declared.system.child.Child.{Child}
@@ -11,7 +11,7 @@ use Rattle.kt_child.proofs.Shares.{kept, name_of, named}
 use Rattle.kt_child.proofs.LifeSteps.{child_is_own}
 use Rattle.kt_child.proofs.NameCounts.{case_name, names_head, names_tail, none_named, numbered, other_name, own_number}
 use Rattle.kt_child.proofs.NamedSteps.{named_append}
-use Rattle.kt_child.proofs.Places.{append_none, in_append, some_is}
+use Rattle.kt_child.proofs.Places.{in_append, some_is}
 
 -- what holds of each of these
 abbrev pub Every : {X : Type 0} → (X → Type 0) → List X → Type 0
@@ -99,7 +99,7 @@ other_number d a h = ap (λ t. t && same_role d.role a.role) (not_one (d.attempt
 
 -- a child of another name behind a list of children
 pub named_past : (a : Child) (row : List Watched) (k : Watched) → same_child k.child a ≡ false → named a (row ++ k ∷ []) ≡ named a row
-named_past a row k h = named_append a row (k ∷ []) ∙ ap (λ t. named a row ++ kept t k []) h ∙ append_none (named a row)
+named_past a row k h = named_append a row (k ∷ []) ∙ ap (λ t. named a row ++ kept t k []) h ∙ append-nil (named a row)
 
 -- a child behind a list of children in which its name isn't
 pub named_last : (row : List Watched) (k : Watched) → named k.child row ≡ [] → named k.child (row ++ k ∷ []) ≡ k ∷ []

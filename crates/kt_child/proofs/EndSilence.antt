@@ -1,5 +1,5 @@
 -- What follows the last poll of a child is no poll.
-use Rattle.std.proofs.Common.{◌≡◌, ℕ, zero, suc, List, [], ◌∷◌, ◌++◌, Bool, true, false, Some, Result, map, slice_get, sym, ◌∙◌, ap, subst}
+use Rattle.std.proofs.Common.{◌≡◌, ℕ, zero, suc, List, [], ◌∷◌, ◌++◌, Bool, true, false, Some, Result, map, slice_get, sym, ◌∙◌, ap, subst, append-nil}
 use Rattle.kt_base.specs.declared.role.Role.{Role}
 use Rattle.kt_base.specs.declared.role.Role.TheVariants.{Body, Cleanup}
 use Rattle.kt_base.specs.declared.outcome.Outcome.{Outcome}
@@ -24,7 +24,6 @@ use Rattle.kt_child.specs.Polling.Lives.{heard_by, same_child}
 use Rattle.kt_child.specs.Ending.Parts.{After, Reads, Whole}
 use Rattle.kt_child.specs.Ending.Reads.{bytes_of}
 use Rattle.kt_child.proofs.Shares.{Share, name_of, named}
-use Rattle.kt_child.proofs.Places.{append_none}
 use Rattle.kt_child.proofs.LifeSteps.{heard_append}
 use Rattle.kt_child.proofs.SeveralWaits.{wait_shares}
 
@@ -75,7 +74,7 @@ shares_at old new calls e c k own w =
     let s = wait_shares old.children w.polls w.place w.outcome w.after c k own w.waited in
     let f : heard_by c calls ≡ heard_by c w.polls =
     ap (heard_by c) w.asked ∙ heard_append c w.polls w.rest ∙ ap (λ t. heard_by c w.polls ++ t) (leaves_silent c w.case w.rest w.outcome e w.left)
-    ∙ append_none (heard_by c w.polls) in
+    ∙ append-nil (heard_by c w.polls) in
     let P : List Heard → Type 0 = λ t. Share c (same_child s.0 c) k t e.outcome new.children in
     let Q : Outcome → Type 0 = λ t. Share c (same_child s.0 c) k (heard_by c w.polls) t new.children in
     let R : List Watched → Type 0 = λ t. Share c (same_child s.0 c) k (heard_by c w.polls) w.outcome t in

@@ -1,5 +1,5 @@
 -- Over a whole trace the answers of each child are one life, which tells its end.
-use Rattle.std.proofs.Common.{◌≡◌, ℕ, List, [], ◌++◌, Some, slice_get, refl, sym, ◌∙◌, ap, subst}
+use Rattle.std.proofs.Common.{◌≡◌, ℕ, List, [], ◌++◌, Some, slice_get, refl, sym, ◌∙◌, ap, subst, append-nil}
 use Rattle.kt_base.specs.declared.role.Role.{Role}
 use Rattle.kt_sched.specs.declared.job.Job.{Job}
 use Rattle.kt_sched.specs.declared.start_answer.StartAnswer.{StartAnswer}
@@ -19,7 +19,6 @@ use Rattle.kt_child.specs.Driving.Numbers.{IsBare}
 use Rattle.kt_child.specs.Driving.TraceLives.{EachWith, ToldAt}
 use Rattle.kt_child.proofs.CasePlaces.{Every}
 use Rattle.kt_child.proofs.Chains.{chain_append}
-use Rattle.kt_child.proofs.Places.{append_none}
 use Rattle.kt_child.proofs.LifeSteps.{heard_append}
 use Rattle.kt_child.proofs.NameCounts.{none_yet}
 use Rattle.kt_child.proofs.TraceEnds.{heard_after}
@@ -74,7 +73,7 @@ start_left leads plan T d mid e job i role answer is at l h =
       l.0 ++ q.0,
       l.1,
       chain_append leads d.os mid.os e.os l.0 q.0 l.2 q.1,
-      λ c. heard_append c l.0 q.0 ∙ ap (λ t. heard_by c l.0 ++ t) (q.2 c) ∙ append_none (heard_by c l.0) ∙ l.3 c,
+      λ c. heard_append c l.0 q.0 ∙ ap (λ t. heard_by c l.0 ++ t) (q.2 c) ∙ append-nil (heard_by c l.0) ∙ l.3 c,
       subst B l.6 (subst A l.5 q.3),
       h.1 ∙ l.5,
       h.2 ∙ l.6,
