@@ -5,7 +5,8 @@ use Rattle.kt_base.specs.declared.outcome.Outcome.{Outcome}
 use Rattle.kt_child.specs.declared.system.child.Child.{Child}
 use Rattle.kt_child.specs.declared.polling.watched.Watched.{Watched}
 use Rattle.kt_child.specs.System.Calls.{Call}
-use Rattle.kt_child.specs.Polling.ChildOutcome.{Heard, Told, fresh, heard_of}
+use Rattle.kt_child.specs.Inner.ChildOutcome.{heard_of}
+use Rattle.kt_child.specs.Polling.ChildOutcome.{Heard, Told, fresh}
 use Rattle.kt_child.specs.Polling.Lives.{heard_by, same_child}
 use Rattle.kt_child.specs.Polling.Polls.{is_killed}
 use Rattle.kt_child.proofs.Shares.{GoesOn, LivesOut, Share, kept, name_of, named}

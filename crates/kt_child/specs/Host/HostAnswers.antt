@@ -2,10 +2,7 @@
 use Rattle.std.specs.Prelude.{◌≡◌, ◌≢◌, ◌≤◌, ◌/◌, ◌%◌, ◌==◌, ◌<◌, ℕ, List, length, take, true, false, Some, None, IsSome, ◌⊎◌, Result, Ok, Err}
 use Rattle.std.specs.Process.{status_bits}
 use Rattle.std.specs.declared.process.status.ExitStatus.{ExitStatus}
-use Rattle.std.specs.declared.io.ErrorKind.{ErrorKind}
-use Rattle.std.specs.declared.io.ErrorKind.TheVariants.{NotFound, OutOfMemory}
 use Rattle.kt_child.specs.declared.system.os_fault.OsFault.{OsFault}
-use Rattle.kt_child.specs.declared.system.os_fault.OsFault.TheVariants.{Failed, Memory}
 use Rattle.kt_child.specs.declared.system.file_read.FileRead.{FileRead}
 use Rattle.kt_child.specs.declared.system.file_read.FileRead.TheVariants.{Missing, Part}
 use Rattle.kt_child.specs.declared.system.polled.Polled.{Polled}
@@ -39,17 +36,6 @@ abbrev pub IsOpened : Result FileRead OsFault → Type 0
 IsOpened (Err _) = Unit {0}
 IsOpened (Ok Missing) = ⊥
 IsOpened (Ok (Part bytes follows)) = Unit {0}
-
--- a file that can't be opened is missing exactly if the system said so
-abbrev pub IsUnopened : ErrorKind → Result FileRead OsFault → Type 0
-IsUnopened kind (Err _) = kind ≢ NotFound
-IsUnopened kind (Ok Missing) = kind ≡ NotFound
-IsUnopened kind (Ok (Part bytes follows)) = ⊥
-
--- a fault is a refusal of memory exactly if the system said so
-abbrev pub IsFaultOf : ErrorKind → OsFault → Type 0
-IsFaultOf kind Failed = kind ≢ OutOfMemory
-IsFaultOf kind (Memory refusal) = kind ≡ OutOfMemory
 
 -- The meaning of a wait status: its low 7 bits are 0 if the child exited, and the next 8 are its exit code; else they are
 -- the signal that ended it, or 127 if it has not ended. The bit above them says whether a core was dumped.
