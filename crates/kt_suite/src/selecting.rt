@@ -91,13 +91,11 @@ fn compare_items(alloc: Global, items: &[Item], filters: &[Filter]) -> Result<Se
     let mut cases = Vec::new(alloc);
     let mut unmatched = all_places(alloc, filters)?;
     let mut place = 0;
-    let mut rest = items;
-    while let Some((item, after)) = rest.split_first() {
+    for item in items {
         if compare_item(filters, item, &mut unmatched) {
             cases.push(place)?;
         }
         place += 1;
-        rest = after;
     }
     Ok(Selection { cases, unmatched })
 }

@@ -72,13 +72,11 @@ pub fn read_table(
         suite: None,
         props: Props::new(alloc),
     };
-    let mut rest = pairs;
-    while let Some((pair, after)) = rest.split_first() {
+    for pair in pairs {
         match take_pair(alloc, found, pair)? {
             Ok(next) => found = next,
             Err(cause) => return Ok(Err(cause)),
         }
-        rest = after;
     }
     Ok(Ok(found))
 }
