@@ -6,7 +6,7 @@ use Rattle.kt_sched.specs.Children.{same_role}
 use Rattle.kt_child.specs.declared.system.child.Child.{Child}
 use Rattle.kt_child.specs.declared.polling.watched.Watched.{Watched}
 use Rattle.kt_child.specs.declared.planning.case.Case.{Case}
-use Rattle.kt_child.specs.Inner.ChildrenState.{one_if}
+use Rattle.kt_child.specs.Inner.Children.{one_if}
 use Rattle.kt_child.specs.Driving.ChildrenState.{ChildrenState, Waited, pending_with}
 use Rattle.kt_child.specs.Polling.Lives.{same_child}
 use Rattle.kt_child.proofs.Shares.{kept, name_of, named}

@@ -5,7 +5,7 @@ use Rattle.kt_base.specs.declared.outcome.Outcome.{Outcome}
 use Rattle.kt_child.specs.declared.system.child.Child.{Child}
 use Rattle.kt_child.specs.declared.polling.watched.Watched.{Watched}
 use Rattle.kt_child.specs.System.Calls.{Call}
-use Rattle.kt_child.specs.Inner.ChildOutcome.{heard_of}
+use Rattle.kt_child.specs.Inner.Children.{heard_of}
 use Rattle.kt_child.specs.Polling.ChildOutcome.{Heard, Told, fresh}
 use Rattle.kt_child.specs.Polling.Lives.{heard_by, same_child}
 use Rattle.kt_child.specs.Polling.Polls.{is_killed}

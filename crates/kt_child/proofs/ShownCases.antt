@@ -5,7 +5,7 @@ use Rattle.std.proofs.lemmas.Bool.{and_from}
 use Rattle.kt_base.specs.declared.role.Role.{Role}
 use Rattle.kt_child.specs.declared.planning.case.Case.{Case}
 use Rattle.kt_sched.specs.Children.{Child as Shown, same_role}
-use Rattle.kt_child.specs.Inner.ChildrenState.{count_at, one_if}
+use Rattle.kt_child.specs.Inner.Children.{count_at, one_if}
 use Rattle.kt_child.specs.Driving.ChildrenState.{shown, shown_at}
 use Rattle.kt_child.proofs.CaseCounts.{and_left, count_there, none_there, other, own_role, same_number, same_position}
 

@@ -13,7 +13,7 @@ use Rattle.kt_child.specs.declared.driving.driver.Driver.{Driver}
 use Rattle.kt_child.specs.declared.planning.paths.Paths.{Paths}
 use Rattle.kt_child.specs.declared.polling.watched.Watched.{Watched}
 use Rattle.kt_child.specs.declared.planning.case.Case.{Case}
-use Rattle.kt_child.specs.Inner.ChildrenState.{one_if}
+use Rattle.kt_child.specs.Inner.Children.{one_if}
 use Rattle.kt_child.specs.Driving.ChildrenState.{ChildrenState}
 use Rattle.kt_child.specs.System.Calls.{Call}
 use Rattle.kt_child.specs.Polling.ChildOutcome.{Heard}

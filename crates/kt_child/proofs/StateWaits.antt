@@ -13,10 +13,9 @@ use Rattle.kt_child.specs.declared.planning.case.Case.{Case}
 use Rattle.kt_sched.specs.declared.ended.Ended.{Ended}
 use Rattle.kt_base.specs.Chains.{Chain}
 use Rattle.kt_child.specs.System.Calls.{Call}
-use Rattle.kt_child.specs.Inner.Turns.{IsOn}
+use Rattle.kt_child.specs.Inner.Children.{IsChildrenState, IsOn, count_at, one_if}
 use Rattle.kt_child.specs.Polling.Turns.{WaitedOn}
 use Rattle.kt_sched.specs.Children.{Child as Shown, IsEvidence, same_role, running_after_end, pending_after_end, with_cleanup_declared}
-use Rattle.kt_child.specs.Inner.ChildrenState.{IsChildrenState, count_at, one_if}
 use Rattle.kt_child.specs.Driving.ChildrenState.{ChildrenState, Waited, is_among, pending_with, shown, shown_at}
 use Rattle.kt_child.specs.Ending.Ends.{Leaves}
 use Rattle.kt_child.proofs.Chains.{chain_append}

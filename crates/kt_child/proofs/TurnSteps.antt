@@ -15,7 +15,7 @@ use Rattle.kt_child.specs.declared.polling.watched.Watched.{Watched}
 use Rattle.kt_base.specs.Chains.{Chain}
 use Rattle.kt_child.specs.System.Calls.{Call}
 use Rattle.kt_child.specs.Polling.Polls.{asked_by_poll, turn_of, watch_after}
-use Rattle.kt_child.specs.Inner.Turns.{IsOn}
+use Rattle.kt_child.specs.Inner.Children.{IsOn}
 use Rattle.kt_child.specs.Polling.Turns.{PolledAll, PolledLast, PolledUntil, advanced, advanced_below}
 use Rattle.kt_child.proofs.Chains.{chain_append}
 

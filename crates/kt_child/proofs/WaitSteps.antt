@@ -9,8 +9,7 @@ use Rattle.kt_child.specs.declared.system.child.Child.{Child}
 use Rattle.kt_child.specs.declared.polling.watched.Watched.{Watched}
 use Rattle.kt_base.specs.Chains.{Chain}
 use Rattle.kt_child.specs.System.Calls.{Call, Pause}
-use Rattle.kt_child.specs.Inner.Polls.{IsShort}
-use Rattle.kt_child.specs.Inner.Turns.{IsOn, polls_left}
+use Rattle.kt_child.specs.Inner.Children.{IsOn, IsShort, polls_left}
 use Rattle.kt_child.specs.Polling.Turns.{PolledAll, PolledUntil, Rounds, WaitedOn, advanced, advanced_below, after_turns}
 use Rattle.kt_child.proofs.Chains.{chain_append}
 

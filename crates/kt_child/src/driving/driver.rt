@@ -52,8 +52,7 @@ impl<O: Os + Drop> Driver<O> {
     ghost use Rattle.kt_child.specs.Driving.Roots.{FindsRoot};
     ghost use Rattle.kt_child.specs.Driving.ChildrenState.{idle_state};
 
-    /// Makes the root directory of a driver below `base`. `source` is the absolute directory of the root Kyuafile.
-    /// An error returns the system, too.
+    /// Makes a root directory below `base`. `source` is the root Kyuafile's absolute directory. An error has the system.
     pub fn new(
         alloc: Global,
         os: O,

@@ -1,6 +1,6 @@
 ghost use Rattle.std.specs.Prelude.{◌≡◌, ◌≤◌, IfOk};
 ghost use Rattle.kt_sched.specs.Plan.{IsFit};
-ghost use Rattle.kt_child.specs.Inner.Turns.{IsOn};
+ghost use Rattle.kt_child.specs.Inner.Children.{IsOn};
 ghost use Rattle.kt_child.specs.Driving.JobPlan.{case_in, limit_of, spawning_for, want_of};
 ghost use Rattle.kt_child.specs.Starting.Starts.{spawned};
 

@@ -16,9 +16,8 @@ impl<O: Os + Drop> Driver<O> {
     ghost use Rattle.kt_sched.specs.Plan.{IsFit};
     ghost use Rattle.kt_base.specs.Chains.{Chain};
     ghost use Rattle.kt_child.specs.System.Calls.{Call};
-    ghost use Rattle.kt_child.specs.Inner.Begins.{shown_after};
+    ghost use Rattle.kt_child.specs.Inner.Children.{count_at, shown_after};
     ghost use Rattle.kt_child.specs.Driving.Begins.{Begun, state_after_start};
-    ghost use Rattle.kt_child.specs.Inner.ChildrenState.{count_at};
     ghost use Rattle.kt_child.specs.Driving.ChildrenState.{is_among, shown_at};
     ghost use Rattle.kt_child.specs.Driving.JobPlan.{spawning_of, watched_of};
     ghost use Rattle.kt_child.specs.Driving.Launches.{StartsBy};

@@ -4,7 +4,7 @@ ghost use Rattle.kt_child.specs.System.Calls.{Call};
 ghost use Rattle.kt_child.specs.Planning.ChildPlan.{paths_of};
 ghost use Rattle.kt_child.specs.Driving.JobPlan.{list_purpose, spawning_for};
 ghost use Rattle.kt_child.specs.Driving.Lists.{RanList, WatchedList};
-ghost use Rattle.kt_child.specs.Inner.Turns.{IsOn};
+ghost use Rattle.kt_child.specs.Inner.Children.{IsOn};
 ghost use Rattle.kt_child.specs.Starting.Starts.{spawned};
 
 use crate::driving::driver::Driver;

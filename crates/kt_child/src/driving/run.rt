@@ -44,9 +44,8 @@ pub fn law_of_numbers<O: Os + Drop>()
     ensures { AttemptsDiffer O.leads }
 {}
 
-/// The law of traces, if nothing runs and nothing is owed at first: the polls and kills of each child, of all that is
-/// asked of the system, are one life, and the outcome of its end is their row of the outcome table. Each start and each
-/// end has its own calls in the directory of its body's number: the start, the reads after the last poll, and the removal.
+/// The law of traces, if nothing runs and nothing is owed at first: a child's polls and kills are one life, and their row
+/// of the outcome table is its outcome. Its start, the reads after its last poll and its removal are in its directory.
 pub fn law_of_traces<O: Os + Drop>()
     ensures { EndsAreTold O.leads }
 {}

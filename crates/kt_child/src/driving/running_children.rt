@@ -32,7 +32,7 @@ pub(crate) struct RunningChildren {
 impl Model for RunningChildren {
     ghost use Rattle.std.specs.Prelude.{◌+◌, ◌≤◌};
     ghost use Rattle.std.specs.Vec.{vec_len, vec_capacity};
-    ghost use Rattle.kt_child.specs.Inner.ChildrenState.{IsChildrenState};
+    ghost use Rattle.kt_child.specs.Inner.Children.{IsChildrenState};
     ghost use Rattle.kt_child.specs.Driving.ChildrenState.{ChildrenState};
 
     ghost Value = { ChildrenState };
@@ -128,10 +128,8 @@ impl RunningChildren {
     ghost use Rattle.kt_sched.specs.Moments.{HasMoment};
     ghost use Rattle.kt_base.specs.Chains.{Chain};
     ghost use Rattle.kt_child.specs.System.Calls.{Call};
-    ghost use Rattle.kt_child.specs.Inner.Turns.{IsOn};
-    ghost use Rattle.kt_child.specs.Inner.ChildrenState.{count_at};
+    ghost use Rattle.kt_child.specs.Inner.Children.{IsOn, count_at, shown_after};
     ghost use Rattle.kt_child.specs.Driving.ChildrenState.{Waited, idle_state, is_among, shown_at};
-    ghost use Rattle.kt_child.specs.Inner.Begins.{shown_after};
     ghost use Rattle.kt_child.specs.Driving.Begins.{Begun, state_after_start};
     ghost use Rattle.kt_child.specs.Starting.Starts.{spawned};
 

@@ -4,7 +4,7 @@ ghost use Rattle.kt_child.specs.declared.system.os_fault.OsFault.{OsFault};
 ghost use Rattle.kt_base.specs.Chains.{Chain};
 ghost use Rattle.kt_child.specs.System.Calls.{Call};
 ghost use Rattle.kt_child.specs.Ending.Reads.{bytes_of};
-ghost use Rattle.kt_child.specs.Inner.Parts.{Takes, Tells};
+ghost use Rattle.kt_child.specs.Inner.Children.{Takes, Tells};
 ghost use Rattle.kt_child.specs.Ending.Parts.{IsNext, Reads, Whole, next_of, next_part};
 
 use crate::ending::next_part::NextPart;

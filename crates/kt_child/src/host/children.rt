@@ -1,6 +1,6 @@
 ghost use Rattle.std.specs.Prelude.{◌≡◌, ◌<◌, length, filter, None, Some, IsSome, IfSome, OnSome, IfNone, IfOk, OnOk};
 ghost use Rattle.kt_child.specs.Polling.Lives.{same_child};
-ghost use Rattle.kt_child.specs.Inner.HostStands.{IsPlaceOf, is_other};
+ghost use Rattle.kt_child.specs.Inner.Host.{IsPlaceOf, is_other};
 ghost use Rattle.kt_child.specs.Host.HostStands.{AllProceed, AllStay, OthersStay, Proceeds, stand_in, stand_of};
 
 use crate::host::command::Asked;

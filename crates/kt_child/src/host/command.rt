@@ -1,7 +1,7 @@
 ghost use Rattle.std.specs.Prelude.{◌≡◌, ◌++◌, ℕ, List, Some, None, map, false, IfOk, OnOk, if◌then◌else◌};
 ghost use Rattle.std.specs.Process.{SameDir, SameEnv, SameOtherVars, SameProgramAndArgs, clears_env, command_args, command_program, command_var};
 ghost use Rattle.kt_base.specs.Utf8.{utf8};
-ghost use Rattle.kt_child.specs.Inner.HostCommands.{IsCommandOf, after_removed, after_set};
+ghost use Rattle.kt_child.specs.Inner.Host.{IsCommandOf, after_removed, after_set};
 
 use crate::host::faults::or_fault;
 use crate::system::env::EnvPlan;

@@ -1,6 +1,6 @@
 ghost use Rattle.std.specs.Prelude.{◌≡◌, Ok, IsErr, MatchResult};
 ghost use Rattle.std.specs.IoError.{error_kind};
-ghost use Rattle.kt_child.specs.Inner.HostAnswers.{IsFaultOf};
+ghost use Rattle.kt_child.specs.Inner.Host.{IsFaultOf};
 
 use crate::system::os_fault::OsFault;
 use kt_base::NoMemory;

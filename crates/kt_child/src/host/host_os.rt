@@ -25,10 +25,9 @@ use std::time::SystemTime;
 
 /// The system itself: the processes, files and clocks of the standard library.
 ///
-/// It keeps the real time of its children. A pause sleeps in slices, the first of 50 microseconds and each a quarter longer.
-/// It ends when a child has ended, after 10 milliseconds at the latest; if no child has ended for a while, it sleeps in one
-/// piece. A poll whose answer `running` would come too early sleeps a little first. The first directory that is made is the
-/// root of all others. A removal that takes long goes on in pauses and at later removals.
+/// A pause sleeps in slices, the first of 50 microseconds and each a quarter longer, or in one piece if no child ended
+/// for a while. It is over when a child ends, or after 10 milliseconds. A poll whose answer `running` would be early
+/// sleeps first. The first directory is the root of all others. A long removal goes on in pauses and at later removals.
 #[derive(Drop)]
 pub struct HostOs<R: Processes> {
     rt: R,
@@ -87,8 +86,7 @@ impl<R: Processes + AllocGlobal + Drop> HostOs<R> {
 }
 
 impl<R: Processes + Files<File = File> + Clock + AllocGlobal + Clone + Drop> Os for HostOs<R> {
-    // Nothing is promised about files, processes and the clock. What is promised: the state of the children kept here,
-    // and that the answers about them and about a file are those of the library.
+    // Promised are the state of the children that are kept here, and that answers about them and a file are the library's.
     ghost use Rattle.kt_child.specs.Host.HostStands.{IsLastEnd, stand_in};
     ghost use Rattle.kt_child.specs.Host.HostAnswers.{HostLeads};
 

@@ -54,8 +54,7 @@ fn lies_in_directory<R: Files>(rt: &R, path: &str) -> io::Result<bool> {
     }
 }
 
-/// Makes a new file for its owner alone. If the path exists, or its directory was replaced by a link, that is a fault, so
-/// that nothing is written through a link that a test has planted.
+/// Makes a new file for its owner alone. A path that exists, or a link in place of its directory, is a fault.
 pub(crate) fn create_output<R: Files>(rt: &R, path: &str) -> io::Result<R::File> {
     if !lies_in_directory(rt, path)? {
         return Err(io::Error::from(ErrorKind::InvalidInput));

@@ -1,7 +1,7 @@
 ghost use Rattle.std.specs.Prelude.{◌≡◌, ◌↔◌, ◌+◌, ◌-◌, ◌/◌, ◌^◌, min, None, IsSomeAnd, IsTrue};
 ghost use Rattle.std.specs.Time.{instant_nanos};
 ghost use Rattle.std.specs.declared.time.Instant.{Instant as Moment};
-ghost use Rattle.kt_child.specs.Inner.Paces.{IsEarly};
+ghost use Rattle.kt_child.specs.Inner.Host.{IsEarly};
 
 use std::rt::Clock;
 use std::time::Instant;

@@ -1,5 +1,5 @@
 ghost use Rattle.std.specs.Prelude.{◌≡◌, ◌↔◌, ◌≤◌, IsTrue};
-ghost use Rattle.kt_child.specs.Inner.Pauses.{next_slice};
+ghost use Rattle.kt_child.specs.Inner.Host.{next_slice};
 
 /// The longest pause, in microseconds.
 pub(crate) const PAUSE: u64 = 10_000;

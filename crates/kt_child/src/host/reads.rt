@@ -1,8 +1,7 @@
 ghost use Rattle.std.specs.Prelude.{◌≡◌, ◌≢◌, ◌+◌, ◌≤◌, ◌<◌, length, take, drop, Some, MatchResult, IfOk, OnOk, IfSome, IsSomeAnd};
 ghost use Rattle.std.specs.IoError.{error_kind};
-ghost use Rattle.kt_child.specs.Inner.HostAnswers.{IsUnopened};
+ghost use Rattle.kt_child.specs.Inner.Host.{IsAt, IsUnopened, TakesPiece};
 ghost use Rattle.kt_child.specs.Host.HostAnswers.{IsFront, IsHostRead, IsOpened};
-ghost use Rattle.kt_child.specs.Inner.HostFiles.{IsAt, TakesPiece};
 ghost use Rattle.kt_child.specs.Host.HostFiles.{TakesAtMost};
 
 use crate::host::faults::or_fault;

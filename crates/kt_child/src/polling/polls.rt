@@ -4,7 +4,7 @@ ghost use Rattle.kt_child.specs.declared.system.polled.Polled.{Polled};
 ghost use Rattle.kt_child.specs.declared.system.polled.Polled.TheVariants.{Running};
 ghost use Rattle.kt_base.specs.Chains.{Chain};
 ghost use Rattle.kt_child.specs.System.Calls.{Kill};
-ghost use Rattle.kt_child.specs.Inner.Polls.{IsWatched};
+ghost use Rattle.kt_child.specs.Inner.Children.{IsWatched};
 ghost use Rattle.kt_child.specs.Polling.Polls.{asked_by_poll, is_due, turn_of, watch_after};
 
 use crate::polling::turn::Turn;

@@ -1,7 +1,7 @@
 ghost use Rattle.std.specs.Prelude.{◌≡◌, ◌<◌, List, All, IfSome, length, None};
 ghost use Rattle.kt_base.specs.Chains.{Chain};
 ghost use Rattle.kt_child.specs.System.Calls.{Call};
-ghost use Rattle.kt_child.specs.Inner.Turns.{IsOn};
+ghost use Rattle.kt_child.specs.Inner.Children.{IsOn};
 ghost use Rattle.kt_child.specs.Polling.Turns.{PolledAll, PolledUntil, WaitedOn, advanced_below};
 
 use crate::polling::over::Over;

@@ -5,8 +5,7 @@ use crate::system::os_fault::OsFault;
 use crate::system::polled::Polled;
 use kt_base::{Items, Text};
 
-/// The system, as far as children need it. Each call may fail; one relation says which answer to which question
-/// leads from which state to which.
+/// The system as children need it. Each call may fail; one relation says which answer leads from which state to which.
 pub trait Os {
     ghost use Rattle.std.specs.Prelude.{◌≡◌, ℕ, is_ok};
     ghost use Rattle.kt_child.specs.System.Calls.{Call, Kill, MakeDir, Now, OpenOutput, Pause, Poll, ReadFile, ReadPart, RemoveTree, SetLimit, Spawn};
@@ -43,8 +42,7 @@ pub trait Os {
     ) -> Result<(), OsFault>
         ensures { leads self.old (Spawn child program.now words.now env.now dir.now result) self.new };
 
-    /// Asks how a child stands. It does not wait for its end; it may wait so that `running` is not answered too early
-    /// for the child's limit.
+    /// Asks how a child stands, without waiting for its end; it may wait so that its limit isn't over too early.
     fn poll(&mut self, child: Child) -> Result<Polled, OsFault>
         ensures { leads self.old (Poll child result) self.new };
 

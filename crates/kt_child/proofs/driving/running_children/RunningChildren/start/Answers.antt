@@ -1,5 +1,5 @@
 use Rattle.std.proofs.Common.{rules, ◌==◌, ◌&&◌, Option, Some, if◌then◌else◌, ◌≡◌, ◌∙◌, ◌+◌, ◌++◌, ◌∷◌, [], ap, sym, subst, arith, refl, inl, inr, Ok, Err}
-use Rattle.kt_child.specs.Inner.ChildrenState.{count_at}
+use Rattle.kt_child.specs.Inner.Children.{count_at}
 use Rattle.kt_child.specs.Driving.ChildrenState.{ChildrenState, shown, shown_at}
 use Rattle.kt_child.specs.Starting.Starts.{spawned}
 use Rattle.kt_sched.specs.Children.{Child as Shown, same_role}

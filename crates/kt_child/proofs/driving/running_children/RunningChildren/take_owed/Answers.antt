@@ -2,7 +2,7 @@ use Rattle.std.proofs.Common.{◌≡◌, ◌∙◌, ◌+◌, ◌<◌, ◌==◌, 
 use Rattle.std.specs.Prelude.{remove}
 use Rattle.std.proofs.lemmas.Option.{slice_get-get_or}
 use Rattle.kt_child.specs.declared.planning.case.Case.{Case}
-use Rattle.kt_child.specs.Inner.ChildrenState.{count_at}
+use Rattle.kt_child.specs.Inner.Children.{count_at}
 use Rattle.kt_child.specs.Driving.ChildrenState.{ChildrenState, is_among}
 use Rattle.kt_child.proofs.StateWaits.{free_taken, once_owed, state_taken}
 use Rattle.kt_child.proofs.OwedCases.{among_remove}

@@ -1,0 +1,80 @@
+-- The children of a driver, as private functions keep and poll them.
+use Rattle.std.specs.Prelude.{ℕ, ◌==◌, ◌&&◌, Option, Some, if◌then◌else◌, Bool, true, false, ◌≡◌, ◌+◌, ◌≤◌, List, [], ◌∷◌, length, All, ◌-◌, ◌*◌, ◌<◌, zero, suc, ◌++◌, Result, ◌⊎◌}
+use Rattle.kt_base.specs.declared.role.Role.{Role}
+use Rattle.kt_sched.specs.declared.start_answer.StartAnswer.{StartAnswer}
+use Rattle.kt_sched.specs.declared.start_answer.StartAnswer.TheVariants.{Started as StartedAt, Refused as RefusedFor}
+use Rattle.kt_sched.specs.Children.{Child as Shown, same_role}
+use Rattle.kt_child.specs.declared.planning.case.Case.{Case}
+use Rattle.kt_child.specs.Driving.ChildrenState.{shown}
+use Rattle.kt_child.specs.declared.polling.watched.Watched.{Watched}
+use Rattle.kt_child.specs.declared.polling.watch.Watch.{Watch}
+use Rattle.kt_base.specs.declared.outcome.Outcome.{Outcome}
+use Rattle.kt_child.specs.declared.system.polled.Polled.{Polled}
+use Rattle.kt_child.specs.declared.system.os_fault.OsFault.{OsFault}
+use Rattle.kt_child.specs.declared.polling.turn.Turn.TheVariants.{More, Ended}
+use Rattle.kt_child.specs.Polling.Polls.{is_killed, turn_of, watch_after}
+use Rattle.kt_child.specs.Polling.ChildOutcome.{Heard, HeardKill, HeardPoll}
+use Rattle.kt_child.specs.declared.ending.read_end.ReadEnd.{ReadEnd}
+use Rattle.kt_child.specs.Ending.Parts.{Bytes, Missing, TooLong, Unreadable, Whole}
+use Rattle.kt_child.specs.declared.ending.read_end.ReadEnd.TheVariants as read_end
+
+-- a child that is not over: fewer than 100 polls a second of its limit before a kill, fewer than 500 after it
+abbrev pub IsShort : Bool → ℕ → ℕ → ℕ → Type 0
+IsShort true limit before after = after < 500
+IsShort false limit before after = (before < 100 * limit) × (after ≡ 0)
+
+-- what is kept of a child with this limit in seconds that is not over
+abbrev pub IsWatched : ℕ → Watch → Type 0
+IsWatched limit w = IsShort w.killed limit w.before w.after
+
+-- a child that isn't over, within the greatest limit
+abbrev pub IsOn : Watched → Type 0
+IsOn k = IsWatched k.limit k.watch × (k.limit ≤ 1000000)
+
+-- the polls that a child has left
+abbrev pub polls_left : Watched → ℕ
+polls_left k = (100 * k.limit - k.watch.before) + (500 - k.watch.after)
+
+-- the answers of one poll
+abbrev pub heard_of : ℕ → Watch → Result Polled OsFault → Bool → List Heard
+heard_of limit w answer done = if is_killed limit w answer then HeardPoll answer ∷ HeardKill done ∷ [] else HeardPoll answer ∷ []
+
+-- a life of this many polls, each from what is kept before it to what is kept after it
+abbrev pub Lived : ℕ → ℕ → Watch → List Heard → Outcome → Type 0
+Lived zero limit w heard outcome = ⊥
+Lived (suc n) limit w heard outcome =
+    (answer : Result Polled OsFault) × (done : Bool) × (more : List Heard)
+    × (heard ≡ heard_of limit w answer done ++ more)
+    × (((turn_of limit w answer done ≡ Ended outcome) × (more ≡ []))
+    ⊎ ((turn_of limit w answer done ≡ More) × Lived n limit (watch_after limit w) more outcome))
+
+-- a reader that has taken some bytes has taken these after them
+abbrev pub Takes : {R : Type 0} → (R → List ℕ → Type 0) → R → R → List ℕ → Type 0
+Takes has_taken old new bytes = (taken : List ℕ) → has_taken old taken → has_taken new (taken ++ bytes)
+
+-- a reading that ended so gave this, and the reader has taken a file that was read whole
+abbrev pub Tells : {R : Type 0} → (R → List ℕ → Type 0) → R → ReadEnd → Whole → Type 0
+Tells has_taken reader read_end.Missing whole = whole ≡ Missing
+Tells has_taken reader read_end.Unreadable whole = whole ≡ Unreadable
+Tells has_taken reader read_end.TooLong whole = whole ≡ TooLong
+Tells has_taken reader read_end.Complete whole = (bytes : List ℕ) × (whole ≡ Bytes bytes) × has_taken reader bytes
+
+abbrev pub one_if : Bool → ℕ
+one_if true = 1
+one_if false = 0
+
+-- how many of these cases have this position
+abbrev pub count_at : ℕ → List Case → ℕ
+count_at i [] = 0
+count_at i (c ∷ cases) = one_if (i == c.position) + count_at i cases
+
+-- each child is on and has its case, and no case stands there twice
+pub record IsChildrenState (children : List Watched) (cases : List Case) (pending : List Case) : Type 0 where
+  pub on : All IsOn children
+  pub same : length children ≡ length cases
+  pub once : (i : ℕ) → count_at i cases + count_at i pending ≤ 1
+
+-- what is shown of the children after a start
+abbrev pub shown_after : (ℕ → Role → Option Shown) → Case → StartAnswer → ℕ → Role → Option Shown
+shown_after running c (StartedAt moment) k r = if k == c.position && same_role r c.role then Some (shown c) else running k r
+shown_after running c (RefusedFor cause) k r = running k r

@@ -1,0 +1,80 @@
+-- The system of the host, as private functions keep it.
+use Rattle.std.specs.Prelude.{◌≡◌, ◌≢◌, Result, Ok, Err, ℕ, List, [], ◌∷◌, false, Option, Some, None, map, if◌then◌else◌, ◌++◌, ◌+◌, ◌≤◌, ◌<◌, length, IfSome, zero, suc, Bool, true, not, ◌*◌, ◌-◌, ◌/◌, min}
+use Rattle.std.specs.declared.io.ErrorKind.{ErrorKind}
+use Rattle.std.specs.declared.io.ErrorKind.TheVariants.{NotFound, OutOfMemory}
+use Rattle.kt_child.specs.declared.system.os_fault.OsFault.{OsFault}
+use Rattle.kt_child.specs.declared.system.os_fault.OsFault.TheVariants.{Failed, Memory}
+use Rattle.kt_child.specs.declared.system.file_read.FileRead.{FileRead}
+use Rattle.kt_child.specs.declared.system.file_read.FileRead.TheVariants.{Missing, Part}
+use Rattle.std.specs.Str.{bytes_eq}
+use Rattle.std.specs.Process.{clears_env, command_args, command_dir, command_program, command_var}
+use Rattle.std.specs.declared.process.command.Command.{Command}
+use Rattle.kt_base.specs.Utf8.{utf8}
+use Rattle.kt_base.specs.declared.variable.Variable.{Variable}
+use Rattle.kt_child.specs.declared.system.env.EnvPlan.{EnvPlan}
+use Rattle.std.specs.Io.KnownBytes.{Consumes, IsAtEnd}
+use Rattle.kt_child.specs.declared.system.child.Child.{Child}
+use Rattle.kt_child.specs.declared.host.host_child.HostChild.{HostChild}
+use Rattle.kt_child.specs.Polling.Lives.{same_child}
+
+-- a file that can't be opened is missing exactly if the system said so
+abbrev pub IsUnopened : ErrorKind → Result FileRead OsFault → Type 0
+IsUnopened kind (Err _) = kind ≢ NotFound
+IsUnopened kind (Ok Missing) = kind ≡ NotFound
+IsUnopened kind (Ok (Part bytes follows)) = ⊥
+
+-- a fault is a refusal of memory exactly if the system said so
+abbrev pub IsFaultOf : ErrorKind → OsFault → Type 0
+IsFaultOf kind Failed = kind ≢ OutOfMemory
+IsFaultOf kind (Memory refusal) = kind ≡ OutOfMemory
+
+-- what is set of a variable, after the variables of these names were removed
+abbrev pub after_removed : List (List ℕ) → List ℕ → Option (Option (List ℕ)) → Option (Option (List ℕ))
+after_removed [] name said = said
+after_removed (gone ∷ names) name said = after_removed names name (if bytes_eq (utf8 gone) name then Some None else said)
+
+-- and after these were set; the last of a name counts
+abbrev pub after_set : List Variable → List ℕ → Option (Option (List ℕ)) → Option (Option (List ℕ))
+after_set [] name said = said
+after_set (v ∷ variables) name said = after_set variables name (if bytes_eq (utf8 v.name) name then Some (Some (utf8 v.value)) else said)
+
+-- the command of a program with these words, in this environment and directory
+pub record IsCommandOf {A : Type 0} (path : List ℕ) (words : List (List ℕ)) (env : EnvPlan) (work : List ℕ) (command : Command A) : Type 0 where
+  pub program : command_program command ≡ utf8 path
+  pub args : command_args command ≡ map utf8 words
+  pub inherits : clears_env command ≡ false
+  pub variables : (name : List ℕ) → command_var command name ≡ after_set env.set name (after_removed env.removed name None)
+  pub dir : command_dir command ≡ Some (utf8 work)
+
+-- one read took this many bytes of what was left of a file, as far as the buffer reaches, and appended them; it took none only
+-- at the end
+pub record TakesPiece (left rest : Option (List ℕ)) (room : ℕ) (old new : List ℕ) (count : ℕ) : Type 0 where
+  pub piece : List ℕ
+  pub long : length piece ≡ count
+  pub fits : count ≤ room
+  pub taken : Consumes left rest piece
+  pub behind : new ≡ old ++ piece
+  pub last : count ≡ 0 → IsAtEnd rest
+
+-- a file whose position was known stands at this byte, unless that is the first
+abbrev pub IsAt : ℕ → Option ℕ → Option ℕ → Type 0
+IsAt from old new = 0 < from → IfSome old (λ position. new ≡ Some from)
+
+-- a child has another name
+abbrev pub is_other : {P I O E : Type 0} → Child → HostChild P I O E → Bool
+is_other c h = not (same_child h.child c)
+
+-- the first of these children with a name stands at this place
+abbrev pub IsPlaceOf : {P I O E : Type 0} → Child → List (HostChild P I O E) → ℕ → Type 0
+IsPlaceOf c [] place = ⊥
+IsPlaceOf c (h ∷ held) zero = same_child h.child c ≡ true
+IsPlaceOf c (h ∷ held) (suc place) = (same_child h.child c ≡ false) × IsPlaceOf c held place
+
+-- One more answer comes early after this many milliseconds. Of the 100 answers for each second of the limit, the first
+-- half may come at any speed, and the others are spread over the limit.
+abbrev pub IsEarly : ℕ → ℕ → ℕ → Type 0
+IsEarly limit told millis = 1000 * limit + millis < 20 * (told + 1)
+
+-- the microseconds of the next one after this many: each is a quarter longer, from 50 to 10,000 in all
+abbrev pub next_slice : ℕ → ℕ
+next_slice micros = min (50 + micros / 4) (10000 - micros)
