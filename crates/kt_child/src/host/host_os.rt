@@ -86,7 +86,7 @@ impl<R: Processes + AllocGlobal + Drop> HostOs<R> {
 }
 
 impl<R: Processes + Files<File = File> + Clock + AllocGlobal + Clone + Drop> Os for HostOs<R> {
-    // Promised are the state of the children that are kept here, and that answers about them and a file are the library's.
+    // Promised: the state of the children that are kept here, and that answers about them and a file are the library's.
     ghost use Rattle.kt_child.specs.Host.HostStands.{IsLastEnd, stand_in};
     ghost use Rattle.kt_child.specs.Host.HostAnswers.{HostLeads};
 
