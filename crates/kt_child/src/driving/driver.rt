@@ -52,7 +52,7 @@ impl<O: Os + Drop> Driver<O> {
     ghost use Rattle.kt_child.specs.Driving.Roots.{FindsRoot};
     ghost use Rattle.kt_child.specs.Driving.ChildrenState.{idle_state};
 
-    /// Makes a root directory below `base`. `source` is the absolute directory of the root Kyuafile. Errors return `os`.
+    /// Makes a root directory in `base`. `source` is the absolute directory of the root Kyuafile. Errors return `os`.
     pub fn new(
         alloc: Global,
         os: O,

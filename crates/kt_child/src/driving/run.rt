@@ -44,7 +44,7 @@ pub fn law_of_numbers<O: Os + Drop>()
     ensures { AttemptsDiffer O.leads }
 {}
 
-/// The law of traces, if nothing runs and nothing is owed at first: polls and kills of a child are a life, and their row
+/// The law of traces, if nothing runs or is owed at first: the polls and kills of a child are a life, and their row
 /// of the outcome table is its outcome. Its start, the reads after its last poll and its removal are in its directory.
 pub fn law_of_traces<O: Os + Drop>()
     ensures { EndsAreTold O.leads }
