@@ -5,8 +5,8 @@ use Rattle.std.proofs.lemmas.List.{append-nil}
 use Rattle.kt_base.specs.LastValues.{is_named, value_of, last_values}
 use Rattle.kt_base.specs.declared.variable.Variable.{Variable}
 use Rattle.kt_base.proofs.LastValueLaws.{overlaid, appended}
-use Rattle.kt_atflist.specs.Keys.{name_of, names_of}
-use Rattle.kt_atflist.specs.Reading.{is_listed, is_given, with_property}
+use Rattle.kt_atflist.specs.Inner.Keys.{name_of, names_of}
+use Rattle.kt_atflist.specs.Blocks.{is_listed, is_given, with_property}
 use Rattle.kt_atflist.specs.declared.case_def.CaseDef.{CaseDef}
 
 -- ---- properties

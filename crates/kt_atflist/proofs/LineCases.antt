@@ -3,9 +3,11 @@ use Rattle.std.specs.Prelude.{codes, bytes_eq}
 use Rattle.std.specs.List.{find}
 use Rattle.std.proofs.Common.{◌≡◌, ℕ, Bool, true, false, List, [], ◌∷◌, ◌++◌, Option, Some, None, refl, ap, sym, subst, ◌∙◌}
 use Rattle.kt_base.specs.Lossy.{lossy}
-use Rattle.kt_atflist.specs.Lines.{is_empty, ident_in, is_name, key_in, value_in}
+use Rattle.kt_base.specs.Texts.{is_empty}
+use Rattle.kt_atflist.specs.BlockLines.{ident_in, is_name, key_in, value_in}
 use Rattle.kt_metadata.specs.ListKeys.{name_of_key}
-use Rattle.kt_atflist.specs.Reading.{is_listed, is_given, named, with_property, is_good, begin_with, set_property, go_on, step_from}
+use Rattle.kt_atflist.specs.Blocks.{is_listed, is_given, named, with_property, is_good}
+use Rattle.kt_atflist.specs.Inner.Reading.{begin_with, set_property, go_on, step_from}
 use Rattle.kt_atflist.specs.Spelling.{Goes, begins, gives, ends, fits_first, fits_further, first_rows, further_rows, Fails, first, further}
 use Rattle.kt_atflist.specs.declared.list_cause.ListCause.TheVariants.{BadLine, NoIdent, RepeatedKey, RepeatedIdent, UnknownKey, BadValue}
 use Rattle.kt_atflist.specs.declared.case_def.CaseDef.{CaseDef}

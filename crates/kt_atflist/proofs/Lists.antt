@@ -2,12 +2,16 @@
 use Rattle.std.specs.Prelude.{Ok, Err, bytes_eq}
 use Rattle.std.specs.List.{find}
 use Rattle.std.specs.Str.{IsUtf8, is_utf8}
-use Rattle.std.proofs.Common.{◌≡◌, ℕ, ◌+◌, Bool, true, false, List, [], ◌∷◌, Option, Some, None, refl, ap, sym, subst, ◌∙◌, inl, inr}
+use Rattle.std.proofs.Common.{◌≡◌, ◌⊎◌, ℕ, ◌+◌, Bool, true, false, List, [], ◌∷◌, Option, Some, None, refl, ap, sym, subst, ◌∙◌, inl, inr}
 use Rattle.std.proofs.lemmas.Bool.{false≢true}
 use Rattle.std.proofs.lemmas.Str.{IsUtf8-from_is_utf8, is_utf8-from_IsUtf8}
-use Rattle.kt_atflist.specs.Lines.{lines, header, is_empty, ident_in, key_in, value_in}
-use Rattle.kt_atflist.specs.Reading.{Outcome, led, fault_at, closed, step_from, read_from, nothing_read, read_blocks, read_second, read_lines, read_list}
-use Rattle.kt_atflist.specs.Spelling.{Goes, begins, gives, ends, Spelled, no_block, last_block, line, fits_first, fits_further, first_rows, further_rows, Fails, first, further, Faulty, here, later, IsList, list, IsFault, no_first, other_first, no_second, other_second, no_third, in_blocks, IsAnswer}
+use Rattle.kt_base.specs.Lines.{lines}
+use Rattle.kt_atflist.specs.Spelling.{header}
+use Rattle.kt_base.specs.Texts.{is_empty}
+use Rattle.kt_atflist.specs.BlockLines.{ident_in, key_in, value_in}
+use Rattle.kt_atflist.specs.Spelling.{Outcome, fault_at}
+use Rattle.kt_atflist.specs.Inner.Reading.{led, closed, step_from, read_from, nothing_read, read_blocks, read_second, read_lines, read_list}
+use Rattle.kt_atflist.specs.Spelling.{Goes, begins, gives, ends, Spelled, no_block, last_block, line, fits_first, fits_further, first_rows, further_rows, Fails, first, further, Faulty, here, later, IsList, list, IsFault, no_first, other_first, no_second, other_second, no_third, in_blocks, IsAnswer, IsOutOfMemory, IsUnlessMemory}
 use Rattle.kt_atflist.specs.declared.list_cause.ListCause.{ListCause}
 use Rattle.kt_atflist.specs.declared.list_cause.ListCause.TheVariants.{BadHeader}
 use Rattle.kt_atflist.specs.declared.list_fault.ListFault.{ListFault}
@@ -168,3 +172,12 @@ one_answer text a b p q = sym (only_answer text a p) ∙ only_answer text b q
 
 pub answered : (text : List ℕ) (result : Outcome) → result ≡ read_list text → IsAnswer text result
 answered text result e = subst (IsAnswer text) (sym e) (answers text)
+
+-- the answer of the lines is that of the text
+pub lines_answered : (text : List ℕ) (result : Outcome) → IsUtf8 text → IsUnlessMemory result (read_lines (lines text)) → IsOutOfMemory result ⊎ IsAnswer text result
+lines_answered text result u (inl memory) = inl memory
+lines_answered text result u (inr e) = inr (answered text result (e ∙ sym (read_utf8 text u)))
+
+pub lines_only : (text : List ℕ) (result : Outcome) → IsUtf8 text → IsUnlessMemory result (read_lines (lines text)) → (answer : Outcome) → IsAnswer text answer → IsUnlessMemory result answer
+lines_only text result u (inl memory) answer h = inl memory
+lines_only text result u (inr e) answer h = inr (e ∙ sym (read_utf8 text u) ∙ only_answer text answer h)

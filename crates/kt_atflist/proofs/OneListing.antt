@@ -9,7 +9,7 @@ use Rattle.kt_base.specs.declared.reason.Reason.TheVariants.{Counted}
 use Rattle.kt_base.specs.declared.variable.Variable.{Variable}
 use Rattle.kt_atflist.specs.Cases.{over_program, list_case, AreCases, tap, plain, listed, unlisted}
 use Rattle.kt_atflist.specs.Listings.{fault_phrase, ended_reason, IsRead, no_list, listed as read_list, Lists, unstarted, unlisted as unread, unreadable, too_long, read}
-use Rattle.kt_atflist.specs.Reading.{Outcome}
+use Rattle.kt_atflist.specs.Spelling.{Outcome}
 use Rattle.kt_atflist.specs.declared.case_def.CaseDef.{CaseDef}
 use Rattle.kt_atflist.specs.declared.list_fault.ListFault.{ListFault}
 use Rattle.kt_atflist.specs.declared.listing.Listing.{Listing}

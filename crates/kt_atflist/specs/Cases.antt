@@ -6,7 +6,7 @@ use Rattle.kt_base.specs.declared.interface.Interface.TheVariants.{Atf, Tap, Pla
 use Rattle.kt_base.specs.declared.reason.Reason.{Reason}
 use Rattle.kt_base.specs.declared.variable.Variable.{Variable}
 use Rattle.kt_atflist.specs.Listings.{Lists}
-use Rattle.kt_atflist.specs.Reading.{named}
+use Rattle.kt_atflist.specs.Blocks.{named}
 use Rattle.kt_atflist.specs.declared.case_def.CaseDef.{CaseDef}
 use Rattle.kt_atflist.specs.declared.listing.Listing.{Listing}
 

@@ -1,7 +1,7 @@
+pub mod BlockLines
+pub mod Blocks
 pub mod Cases
-pub mod Keys
-pub mod Lines
+pub mod Inner
 pub mod Listings
 pub mod Read
-pub mod Reading
 pub mod Spelling

@@ -1,21 +1,37 @@
--- Which cases a list of test cases spells, and which fault is due to a text that is no list.
+-- The cases that a list of test cases spells, and the fault of a text that is not a list.
 use Rattle.std.specs.Prelude.{◌≡◌, ◌⊎◌, ℕ, ◌+◌, Bool, true, false, not, ◌||◌, List, [], ◌∷◌, ◌++◌, codes, bytes_eq, Option, Some, None, Result, Ok, Err, is_some}
 use Rattle.std.specs.List.{find}
 use Rattle.std.specs.Str.{IsUtf8}
 use Rattle.kt_base.specs.Lossy.{lossy}
+use Rattle.kt_base.specs.declared.no_memory.NoMemory.{NoMemory}
 use Rattle.kt_base.specs.declared.variable.Variable.{Variable}
-use Rattle.kt_atflist.specs.Lines.{lines, header, is_empty, ident_in, is_name, key_in, value_in}
+use Rattle.kt_base.specs.Lines.{lines}
+use Rattle.kt_base.specs.Texts.{is_empty}
+use Rattle.kt_atflist.specs.BlockLines.{ident_in, is_name, key_in, value_in}
 use Rattle.kt_metadata.specs.ListKeys.{name_of_key}
-use Rattle.kt_atflist.specs.Reading.{is_listed, is_given, named, with_property, is_good, fault_at}
+use Rattle.kt_atflist.specs.Blocks.{is_listed, is_given, named, with_property, is_good}
 use Rattle.kt_atflist.specs.declared.list_cause.ListCause.{ListCause}
+use Rattle.kt_atflist.specs.declared.list_cause.ListCause.TheVariants as cause
 use Rattle.kt_atflist.specs.declared.list_cause.ListCause.TheVariants.{BadHeader, BadLine, NoIdent, RepeatedKey, RepeatedIdent, UnknownKey, BadValue, EmptyList, NotUtf8}
 use Rattle.kt_atflist.specs.declared.list_fault.ListFault.{ListFault}
 use Rattle.kt_atflist.specs.declared.case_def.CaseDef.{CaseDef}
 use Rattle.kt_atflist.specs.Read.{Read}
 
+-- the cases of a list, or its fault
+abbrev pub Outcome : Type 0
+Outcome = Result (List CaseDef) ListFault
+
+-- the line that each list begins with
+abbrev pub header : List ℕ
+header = codes "Content-Type: application/X-atf-tp; version=\"1\""
+
+-- the fault of a line
+abbrev pub fault_at : ListCause → ℕ → ListFault
+fault_at cause line = record { cause = cause; line = line }
+
 -- ---- lines that fit
 
--- behind these cases, with this block begun or none, a line leads to these cases and this block
+-- after these cases, with this block begun or none, a line leads to these cases and this block
 pub data Goes (cases : List CaseDef) (line : List ℕ) : Option CaseDef → Read → Type 0 where
   begins : (name : List ℕ) → ident_in line ≡ Some name → is_name name ≡ true → is_listed cases (lossy name) ≡ false
       → Goes cases line None (record { cases = cases; block = Some (named (lossy name)) })
@@ -25,7 +41,7 @@ pub data Goes (cases : List CaseDef) (line : List ℕ) : Option CaseDef → Read
       → Goes cases line (Some block) (record { cases = cases; block = Some (with_property block property (lossy value)) })
   ends : (block : CaseDef) → is_empty line ≡ true → Goes cases line (Some block) (record { cases = cases ++ block ∷ []; block = None })
 
--- behind these cases, with this block begun or none, the lines spell these cases in all
+-- after these cases, with this block begun or none, the lines spell these cases in all
 pub data Spelled : List CaseDef → Option CaseDef → List (List ℕ) → List CaseDef → Type 0 where
   no_block : (cases : List CaseDef) → Spelled cases None [] cases
   last_block : (cases : List CaseDef) (block : CaseDef) → Spelled cases (Some block) [] (cases ++ block ∷ [])
@@ -60,15 +76,15 @@ fits_further block key (Some value) UnknownKey = not (is_some (name_of_key (loss
 fits_further block key (Some value) BadValue = is_bad (name_of_key (lossy key)) (lossy value)
 fits_further block key value _ = false
 
--- the faults of a first line, in the order in which they are told
+-- the faults of a first line; the first that fits is due
 abbrev pub first_rows : List ListCause
 first_rows = NoIdent ∷ BadValue ∷ RepeatedIdent ∷ []
 
--- the faults of a further line, in the order in which they are told
+-- the faults of a further line; the first that fits is due
 abbrev pub further_rows : List ListCause
 further_rows = BadLine ∷ RepeatedKey ∷ UnknownKey ∷ BadValue ∷ []
 
--- behind these cases, with this block begun or none, this is the first fault that fits a line; an empty one ends its block
+-- after these cases, with this block begun or none, this is the first fault that fits a line; an empty line ends its block
 pub data Fails (cases : List CaseDef) (line : List ℕ) : Option CaseDef → ListCause → Type 0 where
   first : (cause : ListCause) → find (fits_first cases (ident_in line)) first_rows ≡ Some cause → Fails cases line None cause
   further : (block : CaseDef) (cause : ListCause) → is_empty line ≡ false → find (fits_further block (key_in line) (value_in line)) further_rows ≡ Some cause
@@ -103,11 +119,19 @@ pub data IsFault : List (List ℕ) → ListFault → Type 0 where
 abbrev pub Spells : List ℕ → List CaseDef → Type 0
 Spells text cases = IsUtf8 text × IsList (lines text) cases
 
--- the text is no list, and this is why: it isn't UTF-8, or else by its first faulty line
+-- the text is not a list, and this is why: it isn't UTF-8, or else by its first faulty line
 abbrev pub IsDue : List ℕ → ListFault → Type 0
 IsDue text fault = (¬ (IsUtf8 text) × (fault ≡ fault_at NotUtf8 0)) ⊎ (IsUtf8 text × IsFault (lines text) fault)
 
--- what a text is answered: its cases, or the fault that is due
+-- the answer to a text: its cases, or the fault that is due
 abbrev pub IsAnswer : List ℕ → Result (List CaseDef) ListFault → Type 0
 IsAnswer text (Ok cases) = Spells text cases
 IsAnswer text (Err fault) = IsDue text fault
+
+-- memory ran out
+abbrev pub IsOutOfMemory : Outcome → Type 0
+IsOutOfMemory result = (refusal : NoMemory) × (result ≡ Err (fault_at (cause.NoMemory refusal) 0))
+
+-- the answer is this one, unless memory ran out
+abbrev pub IsUnlessMemory : Outcome → Outcome → Type 0
+IsUnlessMemory result answer = IsOutOfMemory result ⊎ (result ≡ answer)

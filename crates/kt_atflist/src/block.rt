@@ -1,6 +1,6 @@
 ghost use Rattle.std.specs.Prelude.{◌≡◌, Bool, false, None, Some, IfOk, OnOk, OnErr};
 ghost use Rattle.kt_metadata.specs.Properties.{definition_fault, IfFault};
-ghost use Rattle.kt_atflist.specs.Reading.{is_given, named, with_property};
+ghost use Rattle.kt_atflist.specs.Blocks.{is_given, named, with_property};
 
 use crate::case_def::CaseDef;
 use kt_base::Text;
@@ -8,7 +8,7 @@ use kt_metadata::{PropFault, Props};
 use std::alloc::Global;
 use std::marker::Model;
 
-/// The case of a block that has begun. Contracts see the case.
+/// The case of the block that is being read. Contracts see the case.
 #[derive(Drop)]
 pub struct Block {
     name: Text,

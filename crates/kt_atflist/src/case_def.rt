@@ -7,6 +7,6 @@ pub struct CaseDef {
     pub name: Text,
     /// The properties that were given to it.
     pub props: Props,
-    /// Why the program's list of cases can't be used, if this case stands for that list.
+    /// Why the program's list of cases can't be used, if this case stands for the list.
     pub fault: Option<Reason>,
 }

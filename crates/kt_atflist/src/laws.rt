@@ -1,4 +1,4 @@
-//! Laws of lists of cases. They do nothing: a law is proved only where a function's contract names it.
+//! Laws of lists of cases. They are the contracts of functions that do nothing.
 
 ghost use Rattle.std.specs.Prelude.{◌≡◌, ℕ, List, Option, Result};
 ghost use Rattle.kt_base.specs.declared.interface.Interface.{Interface};
@@ -9,7 +9,7 @@ ghost use Rattle.kt_atflist.specs.declared.case_def.CaseDef.{CaseDef};
 ghost use Rattle.kt_atflist.specs.declared.list_fault.ListFault.{ListFault};
 ghost use Rattle.kt_atflist.specs.declared.listing.Listing.{Listing};
 
-/// A text spells one list of cases or has one fault, and never both; a program has one list of cases.
+/// A text has one answer, a list of cases or a fault. A program has one list of cases.
 pub fn law_of_one_answer()
     ensures text { (text : List ℕ) → (first : Result (List CaseDef) ListFault)
         → (second : Result (List CaseDef) ListFault) → IsAnswer text first → IsAnswer text second

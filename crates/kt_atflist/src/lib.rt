@@ -1,4 +1,4 @@
-//! What asking an ATF program for its list of test cases gives.
+//! The test cases of a program, and the list that an ATF program gives of them.
 #![tactic(auto)]
 
 mod block;

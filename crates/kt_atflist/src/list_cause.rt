@@ -1,35 +1,46 @@
-use kt_base::NoMemory;
-use thiserror::Error;
+use kt_base::{NoMemory, Phrase};
 
-/// Why a list of test cases was refused, as atf-test-program(1) and this profile rule it. `Display` is the text that a reason
-/// has for it.
-#[derive(Clone, Copy, Debug, PartialEq, Eq, Error)]
+/// Why a list of test cases was refused (atf-test-program(1) and this profile).
+#[derive(Clone, Copy, Debug, PartialEq, Eq)]
 pub enum ListCause {
     /// It belongs to no line.
-    #[error("out of memory")]
     NoMemory(NoMemory),
     /// The first line is not the content type, or the second is not empty.
-    #[error("bad header")]
     BadHeader,
-    /// A line that is no key, colon and value.
-    #[error("bad line")]
+    /// A line that is not a key, a colon and a value.
     BadLine,
     /// A block that does not begin with `ident: `.
-    #[error("no ident")]
     NoIdent,
     /// A key that its block has given before.
-    #[error("repeated key")]
     RepeatedKey,
     /// A name that an earlier block has.
-    #[error("repeated ident")]
     RepeatedIdent,
-    #[error("unknown key")]
     UnknownKey,
-    #[error("bad value")]
     BadValue,
     /// No block.
-    #[error("empty list")]
     EmptyList,
-    #[error("not UTF-8")]
     NotUtf8,
+}
+
+impl ListCause {
+    ghost use Rattle.std.specs.Prelude.{◌≡◌};
+    ghost use Rattle.kt_atflist.specs.Listings.{fault_phrase};
+
+    /// The words for a fault, before its line.
+    pub fn phrase(self) -> Result<Phrase, NoMemory>
+        ensures { result ≡ fault_phrase self }
+    {
+        match self {
+            ListCause::NoMemory(refusal) => Err(refusal),
+            ListCause::BadHeader => Ok(Phrase::ListBadHeader),
+            ListCause::BadLine => Ok(Phrase::ListBadLine),
+            ListCause::NoIdent => Ok(Phrase::ListNoIdent),
+            ListCause::RepeatedKey => Ok(Phrase::ListRepeatedKey),
+            ListCause::RepeatedIdent => Ok(Phrase::ListRepeatedIdent),
+            ListCause::UnknownKey => Ok(Phrase::ListUnknownKey),
+            ListCause::BadValue => Ok(Phrase::ListBadValue),
+            ListCause::EmptyList => Ok(Phrase::ListEmpty),
+            ListCause::NotUtf8 => Ok(Phrase::ListNotUtf8),
+        }
+    }
 }

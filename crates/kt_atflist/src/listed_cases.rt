@@ -1,11 +1,10 @@
-//! What a listing gives.
+//! The cases that a listing gives.
 
 ghost use Rattle.std.specs.Prelude.{◌≡◌, IfOk};
-ghost use Rattle.kt_atflist.specs.Listings.{refused_reason, ended_reason, fault_phrase, IsRead, Lists};
+ghost use Rattle.kt_atflist.specs.Listings.{refused_reason, ended_reason, IsRead, Lists};
 
 use crate::case_def::CaseDef;
 use crate::list_bytes::ListBytes;
-use crate::list_cause::ListCause;
 use crate::listing::Listing;
 use crate::reader::parse_list;
 use kt_base::{Bytes, Items, NoMemory, Outcome, Phrase, Reason, Refused};
@@ -37,30 +36,13 @@ fn ended_reason(outcome: Outcome) -> Option<Reason>
     }
 }
 
-fn fault_phrase(cause: ListCause) -> Result<Phrase, NoMemory>
-    ensures { result ≡ fault_phrase cause }
-{
-    match cause {
-        ListCause::NoMemory(refusal) => Err(refusal),
-        ListCause::BadHeader => Ok(Phrase::ListBadHeader),
-        ListCause::BadLine => Ok(Phrase::ListBadLine),
-        ListCause::NoIdent => Ok(Phrase::ListNoIdent),
-        ListCause::RepeatedKey => Ok(Phrase::ListRepeatedKey),
-        ListCause::RepeatedIdent => Ok(Phrase::ListRepeatedIdent),
-        ListCause::UnknownKey => Ok(Phrase::ListUnknownKey),
-        ListCause::BadValue => Ok(Phrase::ListBadValue),
-        ListCause::EmptyList => Ok(Phrase::ListEmpty),
-        ListCause::NotUtf8 => Ok(Phrase::ListNotUtf8),
-    }
-}
-
 fn read_bytes(alloc: Global, text: &Bytes) -> Result<Result<Items<CaseDef>, Reason>, NoMemory>
     ensures { IfOk result (λ found. IsRead text.now found) }
 {
     match parse_list(alloc, text.as_slice()) {
         Ok(cases) => Ok(Ok(cases)),
         Err(fault) => {
-            let phrase = fault_phrase(fault.cause)?;
+            let phrase = fault.cause.phrase()?;
             Ok(Err(Reason::Counted(phrase, fault.line, 0)))
         }
     }

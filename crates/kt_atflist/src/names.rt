@@ -6,7 +6,7 @@ use kt_base::{NoMemory, Text};
 use std::alloc::Global;
 use std::marker::Model;
 
-/// Names, each looked up in constant time. Contracts see them in the order in which they came.
+/// Names, each looked up in constant time. Contracts see them in the order of their additions.
 #[derive(Drop)]
 pub struct Names {
     keys: IndexSet<String>,
@@ -14,7 +14,7 @@ pub struct Names {
 
 impl Model for Names {
     ghost use Rattle.std.specs.Prelude.{ℕ, List, map};
-    ghost use Rattle.kt_atflist.specs.Keys.{characters};
+    ghost use Rattle.kt_atflist.specs.Inner.Keys.{characters};
 
     ghost Value = { List (List ℕ) };
 

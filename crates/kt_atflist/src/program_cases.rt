@@ -45,7 +45,7 @@ fn all_with_program(
     Ok(cases)
 }
 
-/// The one case of a program.
+/// A program's only case.
 fn one_case(
     alloc: Global,
     name: &str,
@@ -96,9 +96,10 @@ fn listed(alloc: Global, props: &Props, listing: &Listing) -> Result<Items<CaseD
     }
 }
 
-/// The test cases of a program, in order. A TAP or plain program has the one case `main`. An ATF program has the cases of
-/// its listing; if the listing can't be used, it has the one case `__test_cases_list__`, whose fault says why. A case's own
-/// properties stand over the program's.
+/// The test cases of a program, in order. A TAP or plain program has the one case `main`. An ATF
+/// program has the cases of its listing; if the listing can't be used, it has the one case
+/// `__test_cases_list__`, whose fault says why. A case's own properties take precedence over the
+/// program's.
 pub fn cases(
     alloc: Global,
     interface: Interface,

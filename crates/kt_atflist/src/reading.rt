@@ -1,5 +1,5 @@
 ghost use Rattle.std.specs.Prelude.{◌≡◌};
-ghost use Rattle.kt_atflist.specs.Reading.{nothing_read};
+ghost use Rattle.kt_atflist.specs.Inner.Reading.{nothing_read};
 
 use crate::block::Block;
 use crate::case_def::CaseDef;
@@ -8,8 +8,8 @@ use kt_base::Items;
 use std::alloc::Global;
 use std::marker::Model;
 
-/// What was read of a list so far. Contracts see the cases of the blocks that have ended, and that of the block that has
-/// begun.
+/// What was read of a list so far. Contracts see the cases of the blocks that have ended, and the
+/// case of the block that is being read.
 #[derive(Drop)]
 pub struct Reading {
     pub cases: Items<CaseDef>,
@@ -20,7 +20,7 @@ pub struct Reading {
 
 impl Model for Reading {
     ghost use Rattle.std.specs.Prelude.{◌≡◌};
-    ghost use Rattle.kt_atflist.specs.Keys.{names_of};
+    ghost use Rattle.kt_atflist.specs.Inner.Keys.{names_of};
     ghost use Rattle.kt_atflist.specs.Read.{Read};
 
     ghost Value = { Read };

@@ -1,7 +1,7 @@
 use crate::list_cause::ListCause;
 use crate::reading::Reading;
 
-/// Where a line leads.
+/// The result of a line.
 #[derive(Drop)]
 pub enum Step {
     To(Reading),

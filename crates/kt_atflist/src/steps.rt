@@ -1,14 +1,14 @@
 //! Where a line of a list leads.
 
 ghost use Rattle.std.specs.Prelude.{◌≡◌, List, ℕ, None, Some, IfOk};
-ghost use Rattle.kt_atflist.specs.Keys.{names_of};
-ghost use Rattle.kt_atflist.specs.Reading.{begin_named, begin_with, set_property, set_key, go_on_with, go_on, step_of, closed, finished};
-ghost use Rattle.kt_atflist.specs.Lines.{ident_in, key_in, value_in};
+ghost use Rattle.kt_atflist.specs.Inner.Keys.{names_of};
+ghost use Rattle.kt_atflist.specs.Inner.Reading.{begin_named, begin_with, set_property, set_key, go_on_with, go_on, step_of, closed, finished};
+ghost use Rattle.kt_atflist.specs.BlockLines.{ident_in, key_in, value_in};
 
 use crate::block::Block;
 use crate::case_def::CaseDef;
 use crate::list_cause::ListCause;
-use crate::list_line::{ident_in, is_empty, is_name, key_in, value_in};
+use crate::list_line::{ident_in, is_name, key_in, value_in};
 use crate::names::Names;
 use crate::reading::Reading;
 use crate::step::Step;
@@ -36,7 +36,7 @@ fn begin_named(
     }))
 }
 
-/// The first line of a block.
+/// Reads the first line of a block.
 fn begin(alloc: Global, cases: Items<CaseDef>, names: Names, line: &[u8]) -> Result<Step, NoMemory>
     requires { names ≡ names_of cases None }
     ensures { IfOk result (λ step. step ≡ begin_with cases (ident_in line.now)) }
@@ -118,7 +118,7 @@ fn go_on_with(
         None => Ok(Step::Wrong(ListCause::BadLine)),
         Some(value) => {
             let key = key_in(line);
-            if is_empty(key) {
+            if key.is_empty() {
                 return Ok(Step::Wrong(ListCause::BadLine));
             }
             let key = lossy(alloc, key)?;
@@ -136,7 +136,7 @@ fn with_block(mut cases: Items<CaseDef>, block: Block) -> Result<Items<CaseDef>,
     Ok(cases)
 }
 
-/// A further line of a block.
+/// Reads a further line of a block.
 fn go_on(
     alloc: Global,
     cases: Items<CaseDef>,
@@ -147,7 +147,7 @@ fn go_on(
     requires { names ≡ names_of cases (Some block) }
     ensures { IfOk result (λ step. step ≡ go_on cases block line.now) }
 {
-    if !is_empty(line) {
+    if !line.is_empty() {
         return go_on_with(alloc, cases, names, block, line);
     }
     let cases = with_block(cases, block)?;
@@ -158,7 +158,7 @@ fn go_on(
     }))
 }
 
-/// One line more.
+/// Reads one more line.
 pub fn step(alloc: Global, reading: Reading, line: &[u8]) -> Result<Step, NoMemory>
     ensures { IfOk result (λ step. step ≡ step_of reading line.now) }
 {

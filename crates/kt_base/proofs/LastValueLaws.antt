@@ -1,11 +1,12 @@
 -- The laws of names with their last values.
 use Rattle.std.proofs.Common.{◌≡◌, ℕ, Bool, true, false, not, List, [], ◌∷◌, ◌++◌, refl, sym, ap, ◌∙◌, subst, Option, Some, None, append-nil}
 use Rattle.std.specs.Prelude.{if◌then◌else◌, unwrap_or, IsSome}
+use Rattle.std.specs.Option.{option_or}
 use Rattle.std.specs.Str.{bytes_eq}
 use Rattle.std.proofs.lemmas.List.Elements.{filter-append}
 use Rattle.kt_base.specs.declared.variable.Variable.{Variable}
-use Rattle.kt_base.specs.LastValues.{is_named, later, value_of, without, last_values, IsReplaced}
-use Rattle.kt_base.proofs.Names.{same, same-flip, later-none, later-some, unwrap-later, value_of-append, without-same, without-other, without-twice, last_values-without}
+use Rattle.kt_base.specs.LastValues.{is_named, value_of, without, last_values, IsReplaced}
+use Rattle.kt_base.proofs.Names.{same, same-flip, or-none, or-some, unwrap-or, value_of-append, without-same, without-other, without-twice, last_values-without}
 
 -- what a pair that stands first is in the last values
 abbrev first_of : Variable → List Variable → Variable
@@ -17,7 +18,7 @@ value_next : (name : List ℕ) (x : Variable) (xs : List Variable) → value_of 
 value_next name x xs h true e =
     let n : name ≡ x.name = same name x.name e in
     let gone : value_of name (without x.name (last_values xs)) ≡ None = subst (λ (m : List ℕ). value_of name (without m (last_values xs)) ≡ None) n (without-same name (last_values xs)) in
-    rw (gone, e) (ap (λ (m : List ℕ). Some (unwrap_or (value_of m xs) x.value)) (sym n) ∙ sym (later-some (value_of name xs) x.value))
+    rw (gone, e) (ap (λ (m : List ℕ). Some (unwrap_or (value_of m xs) x.value)) (sym n) ∙ sym (or-some (value_of name xs) x.value))
 value_next name x xs h false e = rw (without-other name x.name (last_values xs) e, e, h) refl
 
 pub value_is : (name : List ℕ) (xs : List Variable) → value_of name (last_values xs) ≡ value_of name xs
@@ -32,11 +33,11 @@ overlaid [] (y ∷ ys) =
 overlaid (x ∷ xs) over =
     let rest : value_of x.name (without x.name (last_values xs) ++ last_values over) ≡ value_of x.name over
     = value_of-append x.name (without x.name (last_values xs)) (last_values over)
-    ∙ ap (λ (o : Option (List ℕ)). later (value_of x.name (last_values over)) o) (without-same x.name (last_values xs))
-    ∙ later-none (value_of x.name (last_values over)) ∙ value_is x.name over in
+    ∙ ap (λ (o : Option (List ℕ)). option_or (value_of x.name (last_values over)) o) (without-same x.name (last_values xs))
+    ∙ or-none (value_of x.name (last_values over)) ∙ value_is x.name over in
     let head : unwrap_or (value_of x.name (without x.name (last_values xs) ++ last_values over)) (unwrap_or (value_of x.name xs) x.value) ≡ unwrap_or (value_of x.name (xs ++ over)) x.value
     = ap (λ (o : Option (List ℕ)). unwrap_or o (unwrap_or (value_of x.name xs) x.value)) rest
-    ∙ sym (unwrap-later (value_of x.name over) (value_of x.name xs) x.value)
+    ∙ sym (unwrap-or (value_of x.name over) (value_of x.name xs) x.value)
     ∙ ap (λ (o : Option (List ℕ)). unwrap_or o x.value) (sym (value_of-append x.name xs over)) in
     let tail : without x.name (last_values (without x.name (last_values xs) ++ last_values over)) ≡ without x.name (last_values (xs ++ over))
     = sym (last_values-without x.name (without x.name (last_values xs) ++ last_values over))
@@ -59,7 +60,7 @@ without-further name xs pair e = filter-append (λ p. not (is_named name p)) xs 
 first-further : (x pair : Variable) (xs : List Variable) → bytes_eq x.name pair.name ≡ false → first_of x (xs ++ pair ∷ []) ≡ first_of x xs
 first-further x pair xs other = rw (value_of-further x.name xs pair other) refl
 
-none-parts : (a b : Option (List ℕ)) → later a b ≡ None → (a ≡ None) × (b ≡ None)
+none-parts : (a b : Option (List ℕ)) → option_or a b ≡ None → (a ≡ None) × (b ≡ None)
 none-parts None b e = (refl, e)
 none-parts (Some value) b e = absurd (cc)
 
@@ -74,7 +75,7 @@ appended (x ∷ xs) pair none =
     let other : bytes_eq x.name pair.name ≡ false = same-flip x.name pair.name ∙ not_first (is_named pair.name x) x.value parts.1 in
     rw (value_of-further x.name xs pair other, appended xs pair parts.0, filter-append (λ p. not (is_named x.name p)) (last_values xs) (pair ∷ []), other) refl
 
-some_left : (a : Option (List ℕ)) → IsSome (later a None) → IsSome a
+some_left : (a : Option (List ℕ)) → IsSome (option_or a None) → IsSome a
 some_left None s = s
 some_left (Some value) s = refl
 
@@ -109,11 +110,11 @@ replaced_later x pair xs other r =
           ∙ ap (λ (ps : List Variable). first_of x xs ∷ ps) (ap (without x.name) r.new_is ∙ split pair refl);
     }
 
-replaced_cases : (x pair : Variable) (xs : List Variable) (b : Bool) → is_named pair.name x ≡ b → IsSome (later (value_of pair.name xs) (if is_named pair.name x then Some x.value else None))
+replaced_cases : (x pair : Variable) (xs : List Variable) (b : Bool) → is_named pair.name x ≡ b → IsSome (option_or (value_of pair.name xs) (if is_named pair.name x then Some x.value else None))
     → (IsSome (value_of pair.name xs) → IsReplaced pair (last_values xs) (last_values (xs ++ pair ∷ []))) → IsReplaced pair (last_values (x ∷ xs)) (last_values (x ∷ xs ++ pair ∷ []))
 replaced_cases x pair xs true e s go = replaced_here x pair xs e
 replaced_cases x pair xs false e s go =
-    let t : IsSome (later (value_of pair.name xs) None) = rw e at s in
+    let t : IsSome (option_or (value_of pair.name xs) None) = rw e at s in
     replaced_later x pair xs (same-flip x.name pair.name ∙ e) (go (some_left (value_of pair.name xs) t))
 
 pub replaced : (xs : List Variable) (pair : Variable) → IsSome (value_of pair.name xs) → IsReplaced pair (last_values xs) (last_values (xs ++ pair ∷ []))

@@ -1,3 +1,4 @@
+pub mod Chains
 pub mod Characters
 pub mod Digits
 pub mod Fronts

@@ -1,10 +1,11 @@
 -- Pairs by their names.
 use Rattle.std.proofs.Common.{◌≡◌, ℕ, Bool, true, false, List, [], ◌∷◌, ◌++◌, refl, sym, ap, ◌∙◌, subst, Option, Some, None}
 use Rattle.std.specs.Prelude.{if◌then◌else◌, unwrap_or}
+use Rattle.std.specs.Option.{option_or}
 use Rattle.std.specs.Str.{bytes_eq}
 use Rattle.std.proofs.lemmas.Slice.Eq.{bytes_eq-Decides}
 use Rattle.kt_base.specs.declared.variable.Variable.{Variable}
-use Rattle.kt_base.specs.LastValues.{is_named, later, value_of, without, last_values}
+use Rattle.kt_base.specs.LastValues.{is_named, value_of, without, last_values}
 
 pub same : (m n : List ℕ) → bytes_eq m n ≡ true → m ≡ n
 same m n e = (bytes_eq-Decides m n).0 e
@@ -21,28 +22,28 @@ flipped m n false true e f = absurd (let g : m ≡ n = sym (same n m f) in let h
 pub same-flip : (m n : List ℕ) → bytes_eq m n ≡ bytes_eq n m
 same-flip m n = flipped m n (bytes_eq m n) (bytes_eq n m) refl refl
 
-pub later-none : (o : Option (List ℕ)) → later o None ≡ o
-later-none None = refl
-later-none (Some value) = refl
+pub or-none : (o : Option (List ℕ)) → option_or o None ≡ o
+or-none None = refl
+or-none (Some value) = refl
 
-pub later-later : (a b c : Option (List ℕ)) → later a (later b c) ≡ later (later a b) c
-later-later None b c = refl
-later-later (Some value) b c = refl
+pub or-or : (a b c : Option (List ℕ)) → option_or a (option_or b c) ≡ option_or (option_or a b) c
+or-or None b c = refl
+or-or (Some value) b c = refl
 
-pub later-some : (o : Option (List ℕ)) (value : List ℕ) → later o (Some value) ≡ Some (unwrap_or o value)
-later-some None value = refl
-later-some (Some v) value = refl
+pub or-some : (o : Option (List ℕ)) (value : List ℕ) → option_or o (Some value) ≡ Some (unwrap_or o value)
+or-some None value = refl
+or-some (Some v) value = refl
 
-pub unwrap-later : (a b : Option (List ℕ)) (value : List ℕ) → unwrap_or (later a b) value ≡ unwrap_or a (unwrap_or b value)
-unwrap-later None b value = refl
-unwrap-later (Some v) b value = refl
+pub unwrap-or : (a b : Option (List ℕ)) (value : List ℕ) → unwrap_or (option_or a b) value ≡ unwrap_or a (unwrap_or b value)
+unwrap-or None b value = refl
+unwrap-or (Some v) b value = refl
 
 -- the value in two lists
-pub value_of-append : (name : List ℕ) (xs ys : List Variable) → value_of name (xs ++ ys) ≡ later (value_of name ys) (value_of name xs)
-value_of-append name [] ys = sym (later-none (value_of name ys))
+pub value_of-append : (name : List ℕ) (xs ys : List Variable) → value_of name (xs ++ ys) ≡ option_or (value_of name ys) (value_of name xs)
+value_of-append name [] ys = sym (or-none (value_of name ys))
 value_of-append name (x ∷ xs) ys =
-    ap (λ (o : Option (List ℕ)). later o (if is_named name x then Some x.value else None)) (value_of-append name xs ys)
-    ∙ sym (later-later (value_of name ys) (value_of name xs) (if is_named name x then Some x.value else None))
+    ap (λ (o : Option (List ℕ)). option_or o (if is_named name x then Some x.value else None)) (value_of-append name xs ys)
+    ∙ sym (or-or (value_of name ys) (value_of name xs) (if is_named name x then Some x.value else None))
 
 -- the value of the name that was taken out, and of another
 without-same-next : (name : List ℕ) (x : Variable) (xs : List Variable) → value_of name (without name xs) ≡ None → (b : Bool) → is_named name x ≡ b → value_of name (without name (x ∷ xs)) ≡ None
@@ -58,7 +59,7 @@ without-other-next : (m n : List ℕ) (x : Variable) (xs : List Variable) → by
     → (b : Bool) → is_named n x ≡ b → value_of m (without n (x ∷ xs)) ≡ value_of m (x ∷ xs)
 without-other-next m n x xs other h true e =
     let not_m : is_named m x ≡ false = subst (λ (y : List ℕ). bytes_eq m y ≡ false) (same n x.name e) other in
-    rw (e, not_m, h) (sym (later-none (value_of m xs)))
+    rw (e, not_m, h) (sym (or-none (value_of m xs)))
 without-other-next m n x xs other h false e = rw (e, h) refl
 
 pub without-other : (m n : List ℕ) (xs : List Variable) → bytes_eq m n ≡ false → value_of m (without n xs) ≡ value_of m xs

@@ -1,6 +1,7 @@
 -- Names with their last values.
 use Rattle.std.specs.Prelude.{◌≡◌, ℕ, Bool, not, List, [], ◌∷◌, ◌++◌, Option, Some, None, unwrap_or, if◌then◌else◌}
 use Rattle.std.specs.List.{filter}
+use Rattle.std.specs.Option.{option_or}
 use Rattle.std.specs.Str.{bytes_eq}
 use Rattle.kt_base.specs.declared.variable.Variable.{Variable}
 
@@ -8,15 +9,10 @@ use Rattle.kt_base.specs.declared.variable.Variable.{Variable}
 abbrev pub is_named : List ℕ → Variable → Bool
 is_named name pair = bytes_eq name pair.name
 
--- the later of two values, where it is there
-abbrev pub later : Option (List ℕ) → Option (List ℕ) → Option (List ℕ)
-later None earlier = earlier
-later (Some value) earlier = Some value
-
 -- the value of the last pair with a name
 abbrev pub value_of : List ℕ → List Variable → Option (List ℕ)
 value_of name [] = None
-value_of name (pair ∷ pairs) = later (value_of name pairs) (if is_named name pair then Some pair.value else None)
+value_of name (pair ∷ pairs) = option_or (value_of name pairs) (if is_named name pair then Some pair.value else None)
 
 -- the pairs without those of a name
 abbrev pub without : List ℕ → List Variable → List Variable

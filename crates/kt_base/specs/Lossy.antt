@@ -1,19 +1,15 @@
 -- Bytes read as a text, whatever they are.
 use Rattle.std.specs.Prelude.{ℕ, zero, suc, ◌-◌, ◌&&◌, nat_le, if◌then◌else◌, List, [], ◌∷◌, ◌++◌, length, take, Option, Some, None}
+use Rattle.std.specs.Option.{option_or}
 use Rattle.std.specs.Str.{chars, is_utf8}
 
 -- the first n bytes, if they are there and are UTF-8
 abbrev pub front : List ℕ → ℕ → Option (List ℕ)
 front bytes n = if nat_le n (length bytes) && is_utf8 (take n bytes) then Some (take n bytes) else None
 
--- the first of two, if it is there, else the second
-abbrev pub or_else : Option (List ℕ) → Option (List ℕ) → Option (List ℕ)
-or_else None o = o
-or_else (Some bytes) o = Some bytes
-
 -- the bytes of the character that begins here: the least front that is UTF-8
 unfoldable pub first : List ℕ → Option (List ℕ)
-first bytes = or_else (front bytes 1) (or_else (front bytes 2) (or_else (front bytes 3) (front bytes 4)))
+first bytes = option_or (front bytes 1) (option_or (front bytes 2) (option_or (front bytes 3) (front bytes 4)))
 
 -- the character; where none begins, U+FFFD
 abbrev pub character : Option (List ℕ) → List ℕ

@@ -4,7 +4,7 @@ ghost use Rattle.kt_base.specs.Utf8.{utf8};
 
 use std::marker::Model;
 
-/// The decimal digits of a number, in a room of their own, which takes no memory. Contracts see the digits' bytes.
+/// The decimal digits of a number, in a buffer of their own on the stack. Contracts see the digits' bytes.
 #[derive(Debug, Drop)]
 pub struct Decimal {
     room: [u8; 64],
@@ -48,7 +48,7 @@ impl Decimal {
     }
 }
 
-/// Writes the decimal digits of `n` before the place `at`, the last `at` of them at most, and answers where they begin.
+/// Writes the decimal digits of `n` before the place `at`, the last `at` of them at most, and returns where they begin.
 fn write_before(n: u128, room: &mut [u8], at: usize) -> usize
     requires { at ≤ length room.old }
     ensures begins { result ≤ length room.new }
@@ -67,7 +67,7 @@ fn write_before(n: u128, room: &mut [u8], at: usize) -> usize
     at
 }
 
-/// Writes the decimal digits of `n` at the end of the room, and answers where they begin.
+/// Writes the decimal digits of `n` at the end of the buffer, and returns where they begin.
 fn write_digits(n: u128, room: &mut [u8; 64]) -> usize
     ensures begins { result ≤ 64 }
     ensures value { drop result room.new ≡ decimal n }

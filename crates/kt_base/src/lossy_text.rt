@@ -5,7 +5,7 @@ use crate::no_memory::NoMemory;
 use crate::text::Text;
 use std::alloc::Global;
 
-/// The first so many bytes, if they are there and are UTF-8.
+/// The first `n` bytes, if they are there and are UTF-8.
 fn front(bytes: &[u8], n: usize) -> Option<&str>
     ensures { option_map (λ s. s.now) result ≡ front bytes.now n }
 {
@@ -35,7 +35,7 @@ fn first(bytes: &[u8]) -> Option<&str>
     front(bytes, 4)
 }
 
-/// Appends the character that begins here, and answers how many bytes it has after its first.
+/// Appends the character that begins here, and returns how many bytes it has after its first.
 fn push_first(text: &mut Text, bytes: &[u8]) -> Result<usize, NoMemory>
     ensures { IfOk result (λ n. (n ≡ further (first bytes.now))
         × (text.new ≡ text.old ++ character (first bytes.now))) }

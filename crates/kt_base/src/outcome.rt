@@ -3,10 +3,10 @@
 pub enum Outcome {
     /// By itself, with this exit status.
     Exited(u8),
-    /// By this signal; the truth value tells whether it left a core dump.
+    /// By this signal, and whether it left a core dump.
     Signaled(u8, bool),
     /// It was killed at its limit of time.
     TimedOut,
-    /// The system could not tell how it ended.
+    /// The system could not say how it ended.
     WaitFailed,
 }

@@ -124,7 +124,7 @@ ghost use Rattle.kt_base.specs.Utf8.{utf8};
 fn push_digits(n: u64, text: &mut Text) -> Result<(), NoMemory>
     ensures { OnOk result (text.new ≡ text.old ++ decimal n) }
 {
-    let digits = n.to_string(text.allocator())?;
+    let digits = Text::from_number(text.allocator(), n)?;
     text.push_str(digits.as_str())
 }
 

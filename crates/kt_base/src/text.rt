@@ -1,4 +1,5 @@
 ghost use Rattle.std.specs.Prelude.{◌≡◌, [], ◌∷◌, ◌++◌, List, ℕ, IfOk, OnOk, OnErr};
+ghost use Rattle.std.specs.Fmt.{decimal};
 ghost use Rattle.std.specs.Str.{chars};
 ghost use Rattle.std.specs.String.{string_bytes};
 ghost use Rattle.kt_base.specs.Utf8.{utf8};
@@ -57,6 +58,15 @@ impl Text {
             text.push(*c)?;
         }
         Ok(text)
+    }
+
+    /// A number in decimal, without leading zeros.
+    pub fn from_number(alloc: Global, n: u64) -> Result<Text, NoMemory>
+        ensures { IfOk result (λ t. t ≡ decimal n) }
+    {
+        Ok(Text {
+            string: n.to_string(alloc)?,
+        })
     }
 
     /// The string, which is given back as it is.

@@ -6,18 +6,14 @@ use Rattle.kt_base.specs.declared.role.Role.{Role}
 use Rattle.kt_base.specs.declared.role.Role.TheVariants.{Body, Cleanup}
 use Rattle.kt_child.specs.declared.planning.case.Case.{Case}
 use Rattle.kt_sched.specs.Children.{Child as Shown, same_role}
-use Rattle.kt_child.specs.Driving.ChildrenState.{count_at, is_among, one_if, pending_with, shown, shown_at}
+use Rattle.kt_child.specs.Inner.ChildrenState.{count_at, one_if}
+use Rattle.kt_child.specs.Driving.ChildrenState.{is_among, pending_with, shown, shown_at}
 use Rattle.kt_child.specs.Ending.Ends.{is_over}
 
 -- the first of two tests that hold
 pub and_left : (a b : Bool) → (a && b) ≡ true → a ≡ true
 and_left true b h = refl
 and_left false b h = h
-
--- two tests that hold
-pub both : (a b : Bool) → a ≡ true → b ≡ true → (a && b) ≡ true
-both true b p q = q
-both false b p q = p
 
 -- a test beside one that fails
 pub and_false : (a : Bool) → (a && false) ≡ false

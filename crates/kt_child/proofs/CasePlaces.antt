@@ -1,17 +1,17 @@
 -- Cases and their children at the places of a list of children.
-use Rattle.std.proofs.Common.{◌≡◌, ℕ, zero, suc, ◌+◌, ◌≤◌, ◌==◌, ◌&&◌, List, [], ◌∷◌, ◌++◌, length, Bool, true, false, Some, ◌⊎◌, map, slice_get, refl, sym, ◌∙◌, ap, subst, arith, inl, inr}
+use Rattle.std.proofs.Common.{◌≡◌, ℕ, zero, suc, ◌+◌, ◌≤◌, ◌==◌, ◌&&◌, List, [], ◌∷◌, ◌++◌, length, Bool, true, false, Some, ◌⊎◌, map, slice_get, refl, ◌∙◌, ap, subst, arith, inl, inr, append-nil}
 use Rattle.std.specs.Prelude.{remove}
 use Rattle.kt_sched.specs.Children.{same_role}
 use Rattle.kt_child.specs.declared.system.child.Child.{Child}
 use Rattle.kt_child.specs.declared.polling.watched.Watched.{Watched}
 use Rattle.kt_child.specs.declared.planning.case.Case.{Case}
-use Rattle.kt_child.specs.Driving.ChildrenState.{one_if}
+use Rattle.kt_child.specs.Inner.ChildrenState.{one_if}
 use Rattle.kt_child.specs.Polling.Lives.{same_child}
 use Rattle.kt_child.proofs.Shares.{kept, name_of, named}
 use Rattle.kt_child.proofs.LifeSteps.{child_is_own}
-use Rattle.kt_child.proofs.NameCounts.{case_name, names_head, names_tail, none_named, numbered, other_name, own_named, own_number}
+use Rattle.kt_child.proofs.NameCounts.{case_name, names_head, names_tail, none_named, numbered, other_name, own_number}
 use Rattle.kt_child.proofs.NamedSteps.{named_append}
-use Rattle.kt_child.proofs.Places.{append_none, in_append, some_is}
+use Rattle.kt_child.proofs.Places.{in_append, some_is}
 
 -- what holds of each of these
 abbrev pub Every : {X : Type 0} → (X → Type 0) → List X → Type 0
@@ -57,43 +57,36 @@ at_some (x ∷ cases) zero c e =
     omega (arith, one)
 at_some (x ∷ cases) (suc i) c e = let h = at_some cases i c e in omega (arith, h)
 
--- the child of a case
-pub child_at : (i : ℕ) (ks : List Watched) (cs : List Case) (c : Case) → map name_of ks ≡ map case_name cs → slice_get cs i ≡ Some c
-    → (k : Watched) × (slice_get ks i ≡ Some k) × (k.child ≡ case_name c)
-child_at i ks [] c e at = let no : ⊥ = cc in absurd no
-child_at i [] (d ∷ cs) c e at = let no : ⊥ = cc in absurd no
-child_at zero (k ∷ ks) (d ∷ cs) c e at = (k, refl, names_head k.child (case_name d) (map name_of ks) (map case_name cs) e ∙ ap case_name (some_is d c at))
-child_at (suc i) (k ∷ ks) (d ∷ cs) c e at = child_at i ks cs c (names_tail k.child (case_name d) (map name_of ks) (map case_name cs) e) at
+-- The children of a name whose number stands once, that of this case: the case's own child, where it has the name.
+named_at : (i : ℕ) (ks : List Watched) (cs : List Case) (c : Case) (a : Child) → map name_of ks ≡ map case_name cs → slice_get cs i ≡ Some c
+    → numbered c.attempt cs ≤ 1 → a.attempt ≡ c.attempt
+    → (k : Watched) × (slice_get ks i ≡ Some k) × (k.child ≡ case_name c) × (named a ks ≡ kept (same_child (case_name c) a) k [])
+named_at i ks [] c a e at h n = let no : ⊥ = cc in absurd no
+named_at i [] (d ∷ cs) c a e at h n = let no : ⊥ = cc in absurd no
+named_at zero (k ∷ ks) (d ∷ cs) c a e at h n =
+    let f : k.child ≡ case_name c = names_head k.child (case_name d) (map name_of ks) (map case_name cs) e ∙ ap case_name (some_is d c at) in
+    let one : one_if (c.attempt == d.attempt) ≡ 1 = ap (λ t. one_if (c.attempt == t.attempt)) (some_is d c at) ∙ own_number c.attempt in
+    let rest : numbered c.attempt cs ≡ 0 = omega (arith, one, h) in
+    let none = none_named a ks cs (names_tail k.child (case_name d) (map name_of ks) (map case_name cs) e) (ap (λ t. numbered t cs) n ∙ rest) in
+    (k, refl, f, ap (kept (same_child k.child a) k) none ∙ ap (λ t. kept (same_child t a) k []) f)
+named_at (suc i) (k ∷ ks) (d ∷ cs) c a e at h n =
+    let m = at_some cs i c at in
+    let z : one_if (a.attempt == d.attempt) ≡ 0 = ap (λ t. one_if (t == d.attempt)) n ∙ omega (arith, h, m) in
+    let f = ap (λ t. t.attempt) (names_head k.child (case_name d) (map name_of ks) (map case_name cs) e) in
+    let r = named_at i ks cs c a (names_tail k.child (case_name d) (map name_of ks) (map case_name cs) e) at (omega (arith, h)) n in
+    (r.0, r.1, r.2, ap (λ t. kept t k (named a ks)) (other_name a k.child d.attempt f z) ∙ r.3)
 
--- a case whose number stands once has a child whose name is its own
+-- that child
 pub own_child : (i : ℕ) (ks : List Watched) (cs : List Case) (c : Case) → map name_of ks ≡ map case_name cs → slice_get cs i ≡ Some c
     → numbered c.attempt cs ≤ 1 → (k : Watched) × (slice_get ks i ≡ Some k) × (k.child ≡ case_name c) × (named (case_name c) ks ≡ k ∷ [])
 own_child i ks cs c e at h =
-    let k = child_at i ks cs c e at in
-    let n : ℕ → Type 0 = λ t. numbered t cs ≤ 1 in
-    let P : Child → Type 0 = λ t. named t ks ≡ k.0 ∷ [] in
-    (k.0, k.1, k.2, subst P k.2 (own_named i ks cs k.0 e k.1 (subst n (sym (ap (λ t. t.attempt) k.2)) h)))
+    let r = named_at i ks cs c (case_name c) e at h refl in
+    (r.0, r.1, r.2, r.3 ∙ ap (λ t. kept t r.0 []) (child_is_own (case_name c)))
 
 -- and the other name of its number isn't there
 pub other_absent : (i : ℕ) (ks : List Watched) (cs : List Case) (c : Case) (a : Child) → map name_of ks ≡ map case_name cs → slice_get cs i ≡ Some c
     → numbered c.attempt cs ≤ 1 → a.attempt ≡ c.attempt → same_child (case_name c) a ≡ false → named a ks ≡ []
-other_absent i ks [] c a e at h n o = let no : ⊥ = cc in absurd no
-other_absent i [] (d ∷ cs) c a e at h n o = refl
-other_absent zero (k ∷ ks) (d ∷ cs) c a e at h n o =
-    let f : k.child ≡ case_name d = names_head k.child (case_name d) (map name_of ks) (map case_name cs) e in
-    let s : d ≡ c = some_is d c at in
-    let one : one_if (c.attempt == d.attempt) ≡ 1 = ap (λ t. one_if (c.attempt == t.attempt)) s ∙ own_number c.attempt in
-    let rest : numbered c.attempt cs ≡ 0 = omega (arith, one, h) in
-    let g : same_child k.child a ≡ false = ap (λ t. same_child t a) (f ∙ ap case_name s) ∙ o in
-    ap (λ t. kept t k (named a ks)) g
-    ∙ none_named a ks cs (names_tail k.child (case_name d) (map name_of ks) (map case_name cs) e) (ap (λ t. numbered t cs) n ∙ rest)
-other_absent (suc i) (k ∷ ks) (d ∷ cs) c a e at h n o =
-    let f : k.child ≡ case_name d = names_head k.child (case_name d) (map name_of ks) (map case_name cs) e in
-    let m = at_some cs i c at in
-    let z : one_if (c.attempt == d.attempt) ≡ 0 = omega (arith, m, h) in
-    let g : same_child k.child a ≡ false = other_name a k.child d.attempt (ap (λ t. t.attempt) f) (ap (λ t. one_if (t == d.attempt)) n ∙ z) in
-    ap (λ t. kept t k (named a ks)) g
-    ∙ other_absent i ks cs c a (names_tail k.child (case_name d) (map name_of ks) (map case_name cs) e) at (omega (arith, h)) n o
+other_absent i ks cs c a e at h n o = let r = named_at i ks cs c a e at h n in r.3 ∙ ap (λ t. kept t r.0 []) o
 
 -- a test that does not count fails
 not_one : (t : Bool) → one_if t ≡ 0 → t ≡ false
@@ -106,7 +99,7 @@ other_number d a h = ap (λ t. t && same_role d.role a.role) (not_one (d.attempt
 
 -- a child of another name behind a list of children
 pub named_past : (a : Child) (row : List Watched) (k : Watched) → same_child k.child a ≡ false → named a (row ++ k ∷ []) ≡ named a row
-named_past a row k h = named_append a row (k ∷ []) ∙ ap (λ t. named a row ++ kept t k []) h ∙ append_none (named a row)
+named_past a row k h = named_append a row (k ∷ []) ∙ ap (λ t. named a row ++ kept t k []) h ∙ append-nil (named a row)
 
 -- a child behind a list of children in which its name isn't
 pub named_last : (row : List Watched) (k : Watched) → named k.child row ≡ [] → named k.child (row ++ k ∷ []) ≡ k ∷ []

@@ -1,12 +1,11 @@
 -- What follows the last poll of a child is no poll.
-use Rattle.std.proofs.Common.{◌≡◌, ℕ, zero, suc, List, [], ◌∷◌, ◌++◌, Bool, true, false, Some, Result, map, slice_get, sym, ◌∙◌, ap, subst}
+use Rattle.std.proofs.Common.{◌≡◌, ℕ, zero, suc, List, [], ◌∷◌, ◌++◌, Bool, true, false, Some, Result, map, slice_get, sym, ◌∙◌, ap, subst, append-nil}
 use Rattle.kt_base.specs.declared.role.Role.{Role}
 use Rattle.kt_base.specs.declared.role.Role.TheVariants.{Body, Cleanup}
 use Rattle.kt_base.specs.declared.outcome.Outcome.{Outcome}
 use Rattle.kt_base.specs.declared.interface.Interface.{Interface}
 use Rattle.kt_base.specs.declared.interface.Interface.TheVariants as interface
 use Rattle.kt_claim.specs.declared.evidence.Evidence.{Evidence}
-use Rattle.kt_claim.specs.declared.evidence.Evidence.TheVariants as evidence
 use Rattle.kt_sched.specs.declared.ended.Ended.{Ended}
 use Rattle.kt_child.specs.declared.system.child.Child.{Child}
 use Rattle.kt_child.specs.declared.system.os_fault.OsFault.{OsFault}
@@ -25,7 +24,6 @@ use Rattle.kt_child.specs.Polling.Lives.{heard_by, same_child}
 use Rattle.kt_child.specs.Ending.Parts.{After, Reads, Whole}
 use Rattle.kt_child.specs.Ending.Reads.{bytes_of}
 use Rattle.kt_child.proofs.Shares.{Share, name_of, named}
-use Rattle.kt_child.proofs.Places.{append_none}
 use Rattle.kt_child.proofs.LifeSteps.{heard_append}
 use Rattle.kt_child.proofs.SeveralWaits.{wait_shares}
 
@@ -48,26 +46,12 @@ reads_silent c (suc n) path part limit got calls whole (answer, next, is, after)
     (λ more r. reads_silent c n path part limit (got ++ bytes_of answer) more whole r) after
 
 -- the evidence
-gathers_silent : (c : Child) (kind : Interface) (role : Role) (paths : Paths) (calls : List Call) (told : Evidence)
-    → Gathers kind role paths calls told → heard_by c calls ≡ []
-gathers_silent c interface.Atf Body paths calls (evidence.Atf t) (parts, whole, r, is) = reads_silent c parts _ _ _ [] calls whole r
-gathers_silent c interface.Atf Body paths calls (evidence.Tap t) h = absurd h
-gathers_silent c interface.Atf Body paths calls evidence.Plain h = absurd h
-gathers_silent c interface.Tap Body paths calls (evidence.Atf t) h = absurd h
-gathers_silent c interface.Tap Body paths calls (evidence.Tap t) (parts, whole, r, is) = reads_silent c parts _ _ _ [] calls whole r
-gathers_silent c interface.Tap Body paths calls evidence.Plain h = absurd h
-gathers_silent c interface.Plain Body paths calls (evidence.Atf t) h = absurd h
-gathers_silent c interface.Plain Body paths calls (evidence.Tap t) h = absurd h
-gathers_silent c interface.Plain Body paths calls evidence.Plain h = ap (heard_by c) h
-gathers_silent c interface.Atf Cleanup paths calls (evidence.Atf t) h = absurd h
-gathers_silent c interface.Atf Cleanup paths calls (evidence.Tap t) h = absurd h
-gathers_silent c interface.Atf Cleanup paths calls evidence.Plain h = ap (heard_by c) h
-gathers_silent c interface.Tap Cleanup paths calls (evidence.Atf t) h = absurd h
-gathers_silent c interface.Tap Cleanup paths calls (evidence.Tap t) h = absurd h
-gathers_silent c interface.Tap Cleanup paths calls evidence.Plain h = ap (heard_by c) h
-gathers_silent c interface.Plain Cleanup paths calls (evidence.Atf t) h = absurd h
-gathers_silent c interface.Plain Cleanup paths calls (evidence.Tap t) h = absurd h
-gathers_silent c interface.Plain Cleanup paths calls evidence.Plain h = ap (heard_by c) h
+gathers_silent : (c : Child) (kind : Interface) (role : Role) (paths : Paths) (calls : List Call) (left : Evidence)
+    → Gathers kind role paths calls left → heard_by c calls ≡ []
+gathers_silent c interface.Atf Body paths calls left (told, (parts, whole, r, is), e) = reads_silent c parts _ _ _ [] calls whole r
+gathers_silent c interface.Tap Body paths calls left (told, (parts, whole, r, is), e) = reads_silent c parts _ _ _ [] calls whole r
+gathers_silent c interface.Plain Body paths calls left (none, e) = ap (heard_by c) none
+gathers_silent c kind Cleanup paths calls left (none, e) = ap (heard_by c) none
 
 -- the removal
 pub removes_silent : (c : Child) (b : Bool) (dir : List ℕ) (calls : List Call) → Removes b dir calls → heard_by c calls ≡ []
@@ -90,7 +74,7 @@ shares_at old new calls e c k own w =
     let s = wait_shares old.children w.polls w.place w.outcome w.after c k own w.waited in
     let f : heard_by c calls ≡ heard_by c w.polls =
     ap (heard_by c) w.asked ∙ heard_append c w.polls w.rest ∙ ap (λ t. heard_by c w.polls ++ t) (leaves_silent c w.case w.rest w.outcome e w.left)
-    ∙ append_none (heard_by c w.polls) in
+    ∙ append-nil (heard_by c w.polls) in
     let P : List Heard → Type 0 = λ t. Share c (same_child s.0 c) k t e.outcome new.children in
     let Q : Outcome → Type 0 = λ t. Share c (same_child s.0 c) k (heard_by c w.polls) t new.children in
     let R : List Watched → Type 0 = λ t. Share c (same_child s.0 c) k (heard_by c w.polls) w.outcome t in

@@ -1,6 +1,6 @@
 -- The names of children, as they are compared.
-use Rattle.std.proofs.Common.{◌≡◌, Bool, true, false, refl, sym, ◌∙◌, ap}
-use Rattle.std.specs.Prelude.{◌==◌, ◌&&◌}
+use Rattle.std.proofs.Common.{◌≡◌, ◌==◌, Bool, true, false, refl, sym, ◌∙◌, ap}
+use Rattle.std.proofs.lemmas.Bool.{and_parts}
 use Rattle.kt_base.specs.declared.role.Role.{Role}
 use Rattle.kt_base.specs.declared.role.Role.TheVariants.{Body, Cleanup}
 use Rattle.kt_sched.specs.Children.{same_role}
@@ -8,11 +8,6 @@ use Rattle.kt_child.specs.declared.system.child.Child.{Child}
 use Rattle.kt_child.specs.Polling.Lives.{same_child}
 use Rattle.kt_child.proofs.CaseCounts.{same_position}
 use Rattle.kt_child.proofs.LifeSteps.{child_is_own}
-
-both : (a b : Bool) → (a && b) ≡ true → (a ≡ true) × (b ≡ true)
-both true true e = (refl, refl)
-both true false e = let no : ⊥ = cc in absurd no
-both false b e = let no : ⊥ = cc in absurd no
 
 same_role_is : (a b : Role) → same_role a b ≡ true → a ≡ b
 same_role_is Body Body e = refl
@@ -22,7 +17,7 @@ same_role_is Cleanup Cleanup e = refl
 
 pub same_child_is : (a b : Child) → same_child a b ≡ true → a ≡ b
 same_child_is a b e =
-    let w = both (a.attempt == b.attempt) (same_role a.role b.role) e in
+    let w = and_parts (a.attempt == b.attempt) (same_role a.role b.role) e in
     let attempt = same_position a.attempt b.attempt w.0 in
     let role = same_role_is a.role b.role w.1 in
     λ i. record { attempt = attempt i; role = role i }

@@ -3,7 +3,8 @@ use Rattle.std.proofs.Common.{◌≡◌, ℕ, suc, ◌+◌, ◌<◌, Bool, true,
 use Rattle.kt_child.specs.declared.system.child.Child.{Child}
 use Rattle.kt_child.specs.declared.host.host_child.HostChild.{HostChild}
 use Rattle.kt_child.specs.Polling.Lives.{same_child}
-use Rattle.kt_child.specs.Host.HostStands.{IsPlaceOf, stand_in, stand_of}
+use Rattle.kt_child.specs.Inner.HostStands.{IsPlaceOf}
+use Rattle.kt_child.specs.Host.HostStands.{stand_in, stand_of}
 use Rattle.kt_child.proofs.HostStandings.{pick}
 
 -- none of the first i children has this name

@@ -6,7 +6,8 @@ use Rattle.std.proofs.lemmas.List.{take_all, drop_all, take_at, drop_at, length-
 use Rattle.kt_child.specs.declared.system.file_read.FileRead.{FileRead}
 use Rattle.kt_child.specs.declared.system.os_fault.OsFault.{OsFault}
 use Rattle.kt_child.specs.Host.HostAnswers.{IsFront}
-use Rattle.kt_child.specs.Host.HostFiles.{TakesAtMost, TakesPiece}
+use Rattle.kt_child.specs.Inner.HostFiles.{TakesPiece}
+use Rattle.kt_child.specs.Host.HostFiles.{TakesAtMost}
 
 consumes_nothing : (left : Option (List ℕ)) → Consumes left left []
 consumes_nothing None = tt

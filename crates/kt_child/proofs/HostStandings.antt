@@ -4,7 +4,8 @@ use Rattle.std.specs.Prelude.{IsSome, filter, not, remove, slice_set}
 use Rattle.kt_child.specs.declared.system.child.Child.{Child}
 use Rattle.kt_child.specs.declared.host.host_child.HostChild.{HostChild}
 use Rattle.kt_child.specs.Polling.Lives.{same_child}
-use Rattle.kt_child.specs.Host.HostStands.{Stand, IsPlaceOf, Proceeds, AllProceed, AllStay, OthersStay, is_other, stand_in, stand_of}
+use Rattle.kt_child.specs.Inner.HostStands.{IsPlaceOf, is_other}
+use Rattle.kt_child.specs.Host.HostStands.{Stand, Proceeds, AllProceed, AllStay, OthersStay, stand_in, stand_of}
 use Rattle.kt_child.proofs.LifeSteps.{child_is_own}
 use Rattle.kt_child.proofs.HostNames.{name_other, same_child_is}
 

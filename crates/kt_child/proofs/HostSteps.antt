@@ -4,7 +4,7 @@ use Rattle.std.specs.Str.{bytes_eq}
 use Rattle.std.proofs.lemmas.Slice.Eq.{bytes_eq-Decides}
 use Rattle.kt_base.specs.Utf8.{utf8}
 use Rattle.kt_base.specs.declared.variable.Variable.{Variable}
-use Rattle.kt_child.specs.Host.HostCommands.{after_removed, after_set}
+use Rattle.kt_child.specs.Inner.HostCommands.{after_removed, after_set}
 
 -- what is said of each variable, after something was said of one
 pub said_now : (one : List ℕ) (news : Option (Option (List ℕ))) (old new : List ℕ → Option (Option (List ℕ)))

@@ -1,7 +1,6 @@
 pub mod CaseCounts
 pub mod CasePlaces
 pub mod Chains
-pub mod ChildNames
 pub mod EndSilence
 pub mod EndSteps
 pub mod HostNames
@@ -13,7 +12,6 @@ pub mod IdleStates
 pub mod LifeSteps
 pub mod Mapped
 pub mod NameCounts
-pub mod NameSteps
 pub mod NamedSteps
 pub mod NumberSteps
 pub mod Outcomes
@@ -26,7 +24,6 @@ pub mod Shares
 pub mod ShownCases
 pub mod StartLeavings
 pub mod StartSilence
-pub mod StateSteps
 pub mod StateWaits
 pub mod TraceEnds
 pub mod TraceFacts

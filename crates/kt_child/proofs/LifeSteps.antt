@@ -1,10 +1,11 @@
 -- What a child hears among calls, and that its name is its own.
 use Rattle.std.proofs.Common.{◌≡◌, ◌==◌, true, List, [], ◌∷◌, ◌++◌, refl, sym, ◌∙◌, ap, append_assoc}
+use Rattle.std.proofs.lemmas.Bool.{and_from}
 use Rattle.kt_sched.specs.Children.{same_role}
 use Rattle.kt_child.specs.declared.system.child.Child.{Child}
 use Rattle.kt_child.specs.System.Calls.{Call}
 use Rattle.kt_child.specs.Polling.Lives.{heard_by, heard_in, same_child}
-use Rattle.kt_child.proofs.CaseCounts.{both, own_role, same_number}
+use Rattle.kt_child.proofs.CaseCounts.{own_role, same_number}
 
 -- what is heard in calls that are joined
 pub heard_append : (c : Child) (xs ys : List Call) → heard_by c (xs ++ ys) ≡ heard_by c xs ++ heard_by c ys
@@ -12,4 +13,4 @@ heard_append c [] ys = refl
 heard_append c (x ∷ xs) ys = ap (λ t. heard_in c x ++ t) (heard_append c xs ys) ∙ sym (append_assoc (heard_in c x) (heard_by c xs) (heard_by c ys))
 
 pub child_is_own : (c : Child) → same_child c c ≡ true
-child_is_own c = both (c.attempt == c.attempt) (same_role c.role c.role) (same_number c.attempt) (own_role c.role)
+child_is_own c = and_from (c.attempt == c.attempt) (same_role c.role c.role) (same_number c.attempt) (own_role c.role)

@@ -1,16 +1,21 @@
--- How often a number stands among cases, and what a name of its own follows from.
-use Rattle.std.proofs.Common.{◌≡◌, ℕ, zero, suc, ◌+◌, ◌≤◌, ◌==◌, ◌&&◌, List, [], ◌∷◌, ◌++◌, Bool, true, false, Some, ◌⊎◌, map, slice_get, refl, sym, ◌∙◌, ap, arith, inl, inr}
+-- How often a number stands among cases, what a name of its own follows from, and how names stay apart.
+use Rattle.std.proofs.Common.{◌≡◌, ℕ, zero, suc, ◌+◌, ◌≤◌, ◌==◌, ◌&&◌, List, [], ◌∷◌, ◌++◌, Bool, true, false, Some, ◌⊎◌, map, slice_get, refl, sym, ◌∙◌, ap, arith, inl, inr, if◌then◌else◌}
 use Rattle.std.specs.Prelude.{remove}
 use Rattle.std.proofs.lemmas.Bool.Decides.{nat_tests}
 use Rattle.kt_sched.specs.Children.{same_role}
 use Rattle.kt_child.specs.declared.system.child.Child.{Child}
 use Rattle.kt_child.specs.declared.polling.watched.Watched.{Watched}
 use Rattle.kt_child.specs.declared.planning.case.Case.{Case}
-use Rattle.kt_child.specs.Driving.ChildrenState.{one_if}
+use Rattle.kt_child.specs.Inner.ChildrenState.{one_if}
+use Rattle.kt_child.specs.Driving.ChildrenState.{ChildrenState, Waited, pending_with}
 use Rattle.kt_child.specs.Polling.Lives.{same_child}
 use Rattle.kt_child.proofs.Shares.{kept, name_of, named}
-use Rattle.kt_child.proofs.LifeSteps.{child_is_own}
-use Rattle.kt_child.proofs.Places.{some_is}
+use Rattle.kt_sched.specs.declared.ended.Ended.{Ended}
+use Rattle.kt_child.specs.System.Calls.{Call}
+use Rattle.kt_child.specs.Ending.Ends.{is_over}
+use Rattle.kt_child.specs.Driving.Numbers.{IsBare}
+use Rattle.kt_child.proofs.Places.{mapped_append}
+use Rattle.kt_child.proofs.SeveralWaits.{names_waited}
 
 -- the name of a case's child
 abbrev pub case_name : Case → Child
@@ -71,35 +76,49 @@ none_named a (k ∷ ks) (c ∷ cs) e h =
     let g : same_child k.child a ≡ false = other_name a k.child c.attempt (ap (λ t. t.attempt) f) (omega (arith, h)) in
     ap (λ t. kept t k (named a ks)) g ∙ none_named a ks cs (names_tail k.child (case_name c) (map name_of ks) (map case_name cs) e) (omega (arith, h))
 
-counted : (i : ℕ) (ks : List Watched) (cs : List Case) (k : Watched) → map name_of ks ≡ map case_name cs → slice_get ks i ≡ Some k
-    → 1 ≤ numbered k.child.attempt cs
-counted i [] cs k e at = let no : ⊥ = cc in absurd no
-counted i (j ∷ ks) [] k e at = let no : ⊥ = cc in absurd no
-counted zero (j ∷ ks) (c ∷ cs) k e at =
-    let f : j.child ≡ case_name c = names_head j.child (case_name c) (map name_of ks) (map case_name cs) e in
-    let g : k.child.attempt ≡ c.attempt = ap (λ t. t.child.attempt) (sym (some_is j k at)) ∙ ap (λ t. t.attempt) f in
-    let one : one_if (k.child.attempt == c.attempt) ≡ 1 = ap (λ t. one_if (k.child.attempt == t)) (sym g) ∙ own_number k.child.attempt in
-    omega (arith, one)
-counted (suc i) (j ∷ ks) (c ∷ cs) k e at =
-    let h = counted i ks cs k (names_tail j.child (case_name c) (map name_of ks) (map case_name cs) e) at in
-    omega (arith, h)
+-- each child is that of its case, each number stands once at most, and none from the next on
+abbrev pub Apart : ℕ → ChildrenState → Type 0
+Apart next b =
+    (map name_of b.children ≡ map case_name b.cases)
+    × ((n : ℕ) → (numbered n b.cases + numbered n b.pending ≤ 1) × (next ≤ n → numbered n b.cases + numbered n b.pending ≡ 0))
 
--- a child whose number stands once has a name of its own
-pub own_named : (i : ℕ) (ks : List Watched) (cs : List Case) (k : Watched) → map name_of ks ≡ map case_name cs → slice_get ks i ≡ Some k
-    → numbered k.child.attempt cs ≤ 1 → named k.child ks ≡ k ∷ []
-own_named i [] cs k e at h = let no : ⊥ = cc in absurd no
-own_named i (j ∷ ks) [] k e at h = let no : ⊥ = cc in absurd no
-own_named zero (j ∷ ks) (c ∷ cs) k e at h =
-    let f : j.child ≡ case_name c = names_head j.child (case_name c) (map name_of ks) (map case_name cs) e in
-    let s : j ≡ k = some_is j k at in
-    let g : k.child.attempt ≡ c.attempt = ap (λ t. t.child.attempt) (sym s) ∙ ap (λ t. t.attempt) f in
-    let one : one_if (k.child.attempt == c.attempt) ≡ 1 = ap (λ t. one_if (k.child.attempt == t)) (sym g) ∙ own_number k.child.attempt in
-    let none : named k.child ks ≡ [] = none_named k.child ks cs (names_tail j.child (case_name c) (map name_of ks) (map case_name cs) e) (omega (arith, one, h)) in
-    let own : same_child j.child k.child ≡ true = ap (λ t. same_child t.child k.child) s ∙ child_is_own k.child in
-    ap (λ t. kept t j (named k.child ks)) own ∙ ap (λ t. j ∷ t) none ∙ ap (λ t. t ∷ []) s
-own_named (suc i) (j ∷ ks) (c ∷ cs) k e at h =
-    let f : j.child ≡ case_name c = names_head j.child (case_name c) (map name_of ks) (map case_name cs) e in
-    let t : map name_of ks ≡ map case_name cs = names_tail j.child (case_name c) (map name_of ks) (map case_name cs) e in
-    let m = counted i ks cs k t at in
-    let g : same_child j.child k.child ≡ false = other_name k.child j.child c.attempt (ap (λ u. u.attempt) f) (omega (arith, m, h)) in
-    ap (λ u. kept u j (named k.child ks)) g ∙ own_named i ks cs k t at (omega (arith, h))
+-- one more child with its case
+pub names_more : (ks : List Watched) (cs : List Case) (k : Watched) (c : Case) → map name_of ks ≡ map case_name cs → k.child ≡ case_name c
+    → map name_of (ks ++ k ∷ []) ≡ map case_name (cs ++ c ∷ [])
+names_more ks cs k c e f =
+    mapped_append name_of ks (k ∷ []) ∙ ap (λ t. t ++ k.child ∷ []) e ∙ ap (λ t. map case_name cs ++ t ∷ []) f ∙ sym (mapped_append case_name cs (c ∷ []))
+
+map_remove : {X Y : Type 0} (f : X → Y) (xs : List X) (i : ℕ) → map f (remove xs i) ≡ remove (map f xs) i
+map_remove f [] zero = refl
+map_remove f [] (suc i) = refl
+map_remove f (x ∷ xs) zero = refl
+map_remove f (x ∷ xs) (suc i) = ap (λ t. f x ∷ t) (map_remove f xs i)
+
+-- what is owed after an end has the number once more at most
+pub owed : (n : ℕ) (c : Case) (pending : List Case) → numbered n (pending_with c pending) ≤ numbered n pending + one_if (n == c.attempt)
+owed n c pending = by (is_over c)
+  where
+    by : (t : Bool) → numbered n (if t then pending else pending ++ c ∷ []) ≤ numbered n pending + one_if (n == c.attempt)
+    by true = omega arith
+    by false = let s = numbered_more n pending c in omega (arith, s)
+
+pub wait_apart : (old new : ChildrenState) (calls : List Call) (ended : Ended) (next : ℕ) → Waited old calls ended new → Apart next old → Apart next new
+wait_apart old new calls ended next w (e, h) =
+    let names : map name_of w.after ≡ map name_of old.children = names_waited old.children w.polls w.place w.outcome w.after w.waited in
+    let l : map name_of new.children ≡ remove (map name_of old.children) w.place =
+    ap (map name_of) w.children ∙ map_remove name_of w.after w.place ∙ ap (λ t. remove t w.place) names in
+    let r : map case_name new.cases ≡ remove (map case_name old.cases) w.place = ap (map case_name) w.cases ∙ map_remove case_name old.cases w.place in (
+      l ∙ ap (λ t. remove t w.place) e ∙ sym r,
+      λ n.
+          let s = numbered_less n old.cases w.place w.case w.there in
+          let a = ap (numbered n) w.cases in
+          let p = ap (numbered n) w.pending in
+          let o = owed n w.case old.pending in
+          let m = h n in
+          let one = m.0 in
+          (omega (arith, s, a, p, o, one), λ le. let y = m.1 le in omega (arith, s, a, p, o, y)),
+    )
+
+pub none_yet : (next : ℕ) (b : ChildrenState) → IsBare b → Apart next b
+none_yet next b (x, y, z) =
+    (ap (map name_of) x ∙ sym (ap (map case_name) y), λ n. let p = ap (numbered n) y in let q = ap (numbered n) z in (omega (arith, p, q), λ le. omega (arith, p, q)))

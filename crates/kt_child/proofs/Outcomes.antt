@@ -10,7 +10,8 @@ use Rattle.kt_child.specs.declared.polling.watch.Watch.{Watch}
 use Rattle.kt_child.specs.declared.polling.turn.Turn.{Turn}
 use Rattle.kt_child.specs.declared.polling.turn.Turn.TheVariants.{More, Ended}
 use Rattle.kt_child.specs.Polling.Polls.{turn_of}
-use Rattle.kt_child.specs.Polling.ChildOutcome.{Heard, HeardPoll, HeardKill, Lived, Told, ToldAfterKill, ToldWithin, fresh, heard_of, running}
+use Rattle.kt_child.specs.Inner.ChildOutcome.{Lived, heard_of}
+use Rattle.kt_child.specs.Polling.ChildOutcome.{Heard, HeardPoll, HeardKill, Told, ToldAfterKill, ToldWithin, fresh, running}
 
 last_true : (a : ℕ) (n : ℕ) → a + 1 ≡ n → (a + 1 == n) ≡ true
 last_true a n h = grind (arith, nat_tests)

@@ -7,7 +7,8 @@ use Rattle.kt_base.specs.declared.role.Role.{Role}
 use Rattle.kt_base.specs.declared.role.Role.TheVariants.{Body, Cleanup}
 use Rattle.kt_child.specs.declared.planning.case.Case.{Case}
 use Rattle.kt_sched.specs.Children.{Child as Shown, same_role, with_cleanup_declared}
-use Rattle.kt_child.specs.Driving.ChildrenState.{count_at, is_among, one_if, pending_with, shown, shown_at}
+use Rattle.kt_child.specs.Inner.ChildrenState.{count_at, one_if}
+use Rattle.kt_child.specs.Driving.ChildrenState.{is_among, pending_with, shown, shown_at}
 use Rattle.kt_child.specs.Ending.Ends.{is_over}
 use Rattle.kt_child.proofs.CaseCounts.{among_counts, and_false, count_append, count_remove, same_position}
 

@@ -4,9 +4,11 @@ use Rattle.kt_child.specs.declared.system.os_fault.OsFault.{OsFault}
 use Rattle.kt_child.specs.declared.system.file_read.FileRead.{FileRead}
 use Rattle.kt_child.specs.declared.ending.next_part.NextPart.{NextPart}
 use Rattle.kt_child.specs.declared.ending.next_part.NextPart.TheVariants.{More}
-use Rattle.kt_child.specs.System.Calls.{Call, Chain}
+use Rattle.kt_base.specs.Chains.{Chain}
+use Rattle.kt_child.specs.System.Calls.{Call}
 use Rattle.kt_child.specs.declared.ending.read_end.ReadEnd.{ReadEnd}
-use Rattle.kt_child.specs.Ending.Parts.{After, IsNext, Reads, Takes, Tells, Whole, next_part}
+use Rattle.kt_child.specs.Inner.Parts.{Takes, Tells}
+use Rattle.kt_child.specs.Ending.Parts.{After, IsNext, Reads, Whole, next_part}
 use Rattle.kt_child.specs.Ending.Reads.{bytes_of}
 use Rattle.kt_child.proofs.Chains.{chain_append}
 

@@ -7,7 +7,8 @@ use Rattle.kt_child.specs.declared.system.os_fault.OsFault.{OsFault}
 use Rattle.kt_child.specs.declared.polling.turn.Turn.TheVariants.{More}
 use Rattle.kt_child.specs.declared.polling.watched.Watched.{Watched}
 use Rattle.kt_child.specs.System.Calls.{Call, Poll, Kill, Pause}
-use Rattle.kt_child.specs.Polling.ChildOutcome.{Heard, HeardPoll, HeardKill, heard_of}
+use Rattle.kt_child.specs.Inner.ChildOutcome.{heard_of}
+use Rattle.kt_child.specs.Polling.ChildOutcome.{Heard, HeardPoll, HeardKill}
 use Rattle.kt_child.specs.Polling.Lives.{heard_by, own, same_child}
 use Rattle.kt_child.specs.Polling.Polls.{asked_by_poll, is_killed, turn_of}
 use Rattle.kt_child.proofs.Shares.{GoesOn, LivesOut, Share, Went, kept, named}

@@ -1,19 +1,19 @@
 -- What a wait is for each child of a list of children.
-use Rattle.std.proofs.Common.{◌≡◌, ℕ, zero, suc, ◌<◌, List, [], ◌∷◌, ◌++◌, Bool, true, false, Option, Some, None, ◌⊎◌, map, take, drop, slice_get, refl, sym, ◌∙◌, ap, subst, inl, inr}
+use Rattle.std.proofs.Common.{◌≡◌, ℕ, zero, suc, ◌<◌, List, [], ◌∷◌, ◌++◌, Bool, true, false, Option, Some, None, ◌⊎◌, map, take, drop, slice_get, refl, sym, ◌∙◌, ap, subst, inl, inr, append-nil}
 use Rattle.std.specs.Prelude.{remove}
 use Rattle.kt_base.specs.declared.outcome.Outcome.{Outcome}
 use Rattle.kt_child.specs.declared.system.child.Child.{Child}
 use Rattle.kt_child.specs.declared.polling.watched.Watched.{Watched}
 use Rattle.kt_child.specs.System.Calls.{Call}
-use Rattle.kt_child.specs.Polling.ChildOutcome.{Heard, Told, fresh, heard_of}
+use Rattle.kt_child.specs.Inner.ChildOutcome.{heard_of}
+use Rattle.kt_child.specs.Polling.ChildOutcome.{Heard, Told, fresh}
 use Rattle.kt_child.specs.Polling.Lives.{heard_by, same_child}
 use Rattle.kt_child.specs.Polling.Polls.{is_killed}
 use Rattle.kt_child.proofs.Shares.{GoesOn, LivesOut, Share, kept, name_of, named}
 use Rattle.kt_child.specs.Polling.Turns.{PolledAll, PolledLast, WaitedOn, advanced, after_turns}
-use Rattle.kt_child.proofs.Places.{append_none, some_is}
+use Rattle.kt_child.proofs.Places.{some_is}
 use Rattle.kt_child.proofs.LifeSteps.{child_is_own, heard_append}
-use Rattle.kt_child.proofs.NamedSteps.{at_place, in_parts, is_last, named_append, named_map}
-use Rattle.kt_child.proofs.ChildNames.{name_at, names_below, names_turns, share_removed}
+use Rattle.kt_child.proofs.NamedSteps.{at_place, in_parts, is_last, name_at, named_append, named_map, names_below, names_turns, share_removed}
 use Rattle.kt_child.proofs.Outcomes.{told}
 use Rattle.kt_child.proofs.SeveralSteps.{heard_none, heard_one, one_turn, share_join, silent, whole_turns}
 
@@ -28,7 +28,7 @@ last_own : (c : Child) (o : Watched) (last : List Call) (outcome : Outcome) → 
 last_own c o last outcome same (answer, done, asked, ended) =
     let f : heard_by c last ≡ heard_of o.limit o.watch answer done =
     ap (heard_by c) asked ∙ heard_one (is_killed o.limit o.watch answer) o.child c answer done same in
-    (suc zero, (answer, done, [], f ∙ sym (append_none (heard_of o.limit o.watch answer done)), inl (ended, refl)))
+    (suc zero, (answer, done, [], f ∙ sym (append-nil (heard_of o.limit o.watch answer done)), inl (ended, refl)))
 
 -- and another child hears nothing of it
 pub last_other : (c : Child) (o : Watched) (last : List Call) (outcome : Outcome) → same_child o.child c ≡ false → PolledLast (Some o) last outcome
@@ -64,7 +64,7 @@ ends_by true c k o ms ds xs ys outcome same e polled last =
 ends_by false c k o ms ds xs ys outcome other e polled last =
     let r = turn_part c k ms (o ∷ ds) xs e polled in
     let f : heard_by c xs ++ heard_by c ys ≡ heard_by c xs =
-    ap (λ t. heard_by c xs ++ t) (last_other c o ys outcome other last) ∙ append_none (heard_by c xs) in
+    ap (λ t. heard_by c xs ++ t) (last_other c o ys outcome other last) ∙ append-nil (heard_by c xs) in
     let P : List Heard → Type 0 = λ t. GoesOn k t r.0 in
     (r.0, subst P (sym f) r.1, r.2)
 

@@ -6,7 +6,8 @@ use Rattle.kt_child.specs.declared.system.polled.Polled.{Polled}
 use Rattle.kt_child.specs.declared.system.os_fault.OsFault.{OsFault}
 use Rattle.kt_child.specs.declared.polling.turn.Turn.TheVariants.{More}
 use Rattle.kt_child.specs.declared.polling.watched.Watched.{Watched}
-use Rattle.kt_child.specs.Polling.ChildOutcome.{Heard, Lived, heard_of}
+use Rattle.kt_child.specs.Inner.ChildOutcome.{Lived, heard_of}
+use Rattle.kt_child.specs.Polling.ChildOutcome.{Heard}
 use Rattle.kt_child.specs.Polling.Lives.{same_child}
 use Rattle.kt_child.specs.Polling.Polls.{turn_of}
 use Rattle.kt_child.specs.Polling.Turns.{advanced}

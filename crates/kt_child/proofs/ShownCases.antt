@@ -1,12 +1,13 @@
 -- What is shown of the cases that run.
 use Rattle.std.proofs.Common.{◌≡◌, ℕ, zero, suc, ◌+◌, ◌<◌, ◌≤◌, ◌==◌, ◌&&◌, List, [], ◌∷◌, ◌++◌, slice_get, Bool, true, false, Option, Some, None, refl, sym, ◌∙◌, ap, subst, arith, if◌then◌else◌}
 use Rattle.std.specs.Prelude.{remove}
-use Rattle.std.proofs.lemmas.Bool.Decides.{nat_tests}
+use Rattle.std.proofs.lemmas.Bool.{and_from}
 use Rattle.kt_base.specs.declared.role.Role.{Role}
 use Rattle.kt_child.specs.declared.planning.case.Case.{Case}
 use Rattle.kt_sched.specs.Children.{Child as Shown, same_role}
-use Rattle.kt_child.specs.Driving.ChildrenState.{count_at, one_if, shown, shown_at}
-use Rattle.kt_child.proofs.CaseCounts.{and_left, both, count_there, none_there, other, own_role, same_number}
+use Rattle.kt_child.specs.Inner.ChildrenState.{count_at, one_if}
+use Rattle.kt_child.specs.Driving.ChildrenState.{shown, shown_at}
+use Rattle.kt_child.proofs.CaseCounts.{and_left, count_there, none_there, other, own_role, same_number, same_position}
 
 -- two tests that don't hold together may change places
 swap_tests : {X : Type 0} (a b : Bool) (x y z : X) → (a ≡ true → b ≡ true → ⊥)
@@ -59,12 +60,9 @@ shown_remove (d ∷ cases) zero c k r h once =
     let P : Case → Type 0 = λ t. shown_at cases k r ≡ (if k == t.position && same_role r t.role then None else shown_at (d ∷ cases) k r) in
     subst P e
     (first_step (k == d.position && same_role r d.role) (Some (shown d)) (shown_at cases k r)
-    (λ q. let at : k ≡ d.position = same_of k d.position (and_left (k == d.position) (same_role r d.role) q) in
+    (λ q. let at : k ≡ d.position = same_position k d.position (and_left (k == d.position) (same_role r d.role) q) in
     let Z : ℕ → Type 0 = λ n. count_at n cases ≡ 0 in
     not_shown cases k r (subst Z (sym at) z)))
-  where
-    same_of : (a b : ℕ) → (a == b) ≡ true → a ≡ b
-    same_of a b h = grind (arith, nat_tests)
 shown_remove (d ∷ cases) (suc p) c k r h once =
     let m : count_at c.position cases ≤ 1 = omega arith in
     let there : 0 < count_at c.position cases = count_there cases p c h in
@@ -93,7 +91,7 @@ shown_there (d ∷ cases) zero c h once =
     let e : d ≡ c = cc (h) in
     let P : Case → Type 0 = λ t. shown_at (d ∷ cases) t.position t.role ≡ Some (shown t) in
     subst P e (get_step (d.position == d.position && same_role d.role d.role) (Some (shown d)) (shown_at cases d.position d.role)
-    (both (d.position == d.position) (same_role d.role d.role) (same_number d.position) (own_role d.role)))
+    (and_from (d.position == d.position) (same_role d.role d.role) (same_number d.position) (own_role d.role)))
 shown_there (d ∷ cases) (suc p) c h once =
     let m : count_at c.position cases ≤ 1 = omega arith in
     let there : 0 < count_at c.position cases = count_there cases p c h in

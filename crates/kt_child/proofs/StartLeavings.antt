@@ -1,33 +1,33 @@
--- What a start leaves of what is known of other children.
-use Rattle.std.proofs.Common.{◌≡◌, ℕ, zero, ◌≤◌, ◌==◌, ◌&&◌, List, [], ◌∷◌, ◌++◌, false, Some, ◌⊎◌, slice_get, refl, sym, ◌∙◌, ap, arith, inl, inr}
-use Rattle.std.specs.Prelude.{remove}
+-- What is known of the case that a start takes, and of other cases then.
+use Rattle.std.proofs.Common.{◌≡◌, ℕ, zero, ◌+◌, ◌≤◌, ◌==◌, ◌&&◌, List, [], ◌∷◌, ◌++◌, false, true, Some, ◌⊎◌, slice_get, refl, sym, ◌∙◌, ap, subst, arith, inl, inr}
 use Rattle.kt_base.specs.declared.role.Role.{Role}
 use Rattle.kt_base.specs.declared.role.Role.TheVariants.{Body, Cleanup}
 use Rattle.kt_sched.specs.declared.job.Job.{Job}
 use Rattle.kt_sched.specs.declared.start_answer.StartAnswer.{StartAnswer}
 use Rattle.kt_sched.specs.declared.start_answer.StartAnswer.TheVariants.{Started as StartedAt, Refused as RefusedFor}
 use Rattle.kt_sched.specs.Children.{same_role}
+use Rattle.kt_sched.specs.Plan.{IsPlan}
 use Rattle.kt_sched.specs.Trace.{Trace, Then, Start}
 use Rattle.kt_child.specs.declared.system.child.Child.{Child}
+use Rattle.kt_child.specs.declared.driving.driver.Driver.{Driver}
 use Rattle.kt_child.specs.declared.planning.paths.Paths.{Paths}
 use Rattle.kt_child.specs.declared.polling.watched.Watched.{Watched}
 use Rattle.kt_child.specs.declared.planning.case.Case.{Case}
-use Rattle.kt_child.specs.Driving.Begins.{state_after_start}
-use Rattle.kt_child.specs.Driving.ChildrenState.{ChildrenState, one_if}
+use Rattle.kt_child.specs.Inner.ChildrenState.{one_if}
+use Rattle.kt_child.specs.Driving.ChildrenState.{ChildrenState}
+use Rattle.kt_child.specs.System.Calls.{Call}
 use Rattle.kt_child.specs.Polling.ChildOutcome.{Heard}
-use Rattle.kt_child.specs.Driving.JobPlan.{case_in, case_of, cleaning, watched_of}
+use Rattle.kt_child.specs.Planning.ChildPlan.{paths_of}
+use Rattle.kt_child.specs.Driving.JobPlan.{case_in, cleaning, watched_of}
+use Rattle.kt_child.specs.Driving.Launches.{Takes}
 use Rattle.kt_child.specs.Polling.Lives.{same_child}
+use Rattle.kt_child.specs.Driving.TraceLives.{IsNumberAt, IsNumberOf, following, next_after}
 use Rattle.kt_child.proofs.Shares.{named}
-use Rattle.kt_child.specs.Driving.TraceLives.{IsNumberOf}
 use Rattle.kt_child.proofs.CaseCounts.{and_false}
-use Rattle.kt_child.proofs.CasePlaces.{Every, at_none, at_some, named_last, named_past, other_number}
-use Rattle.kt_child.proofs.NameCounts.{case_name, numbered, numbered_less, numbered_more, one_or}
+use Rattle.kt_child.proofs.CasePlaces.{Every, at_none, at_some, every_left, named_last, named_past, other_number}
+use Rattle.kt_child.proofs.NameCounts.{case_name, numbered, numbered_less, one_or}
 use Rattle.kt_child.proofs.NamedSteps.{head_is}
-use Rattle.kt_child.proofs.TraceFacts.{IsGone, OwedSo, RunsSo, cleaner}
-
--- a state from which a case that is owed its cleanup was taken
-abbrev pub taken : ChildrenState → ℕ → ChildrenState
-taken b place = record { children = b.children; cases = b.cases; pending = remove b.pending place }
+use Rattle.kt_child.proofs.TraceFacts.{IsGone, OwedSo, RunsSo, Stands, cleaner, following_more}
 
 -- what had a number has it still
 abbrev pub Grows : ℕ → Trace → Trace → Type 0
@@ -76,17 +76,6 @@ unequal a b f = by (one_or a b)
     by (inl z) = z
     by (inr (one, e)) = absurd (f e)
 
--- a name that is gone stays so where a body takes the next number
-pub gone_body : (next next' : ℕ) (b : ChildrenState) (job : Job) (p : Paths) (answer : StartAnswer) → next ≤ next' → (c : Child) → IsGone next b c
-    → IsGone next' (state_after_start b (watched_of job Body next) (case_of job next p) answer) c
-gone_body next next' b job p (RefusedFor cause) le c (lt, none, h) = (omega arith, none, h)
-gone_body next next' b job p (StartedAt moment) le c (lt, none, h) =
-    let k : Watched = watched_of job Body next in
-    let z : one_if (next == c.attempt) ≡ 0 = unequal next c.attempt (λ e. omega (arith, e, lt)) in
-    let y : one_if (c.attempt == next) ≡ 0 = unequal c.attempt next (λ e. omega (arith, e, lt)) in
-    let s = numbered_more c.attempt b.cases (case_of job next p) in
-    (omega arith, named_past c b.children k (other_number k.child c z) ∙ none, λ r. let o = h r in omega (arith, s, y, o))
-
 -- the cleanup of a case that is owed is not a child that is gone
 cleaner_apart : (next : ℕ) (b : ChildrenState) (n : ℕ) (c : Child) → 1 ≤ numbered n b.pending → IsGone next b c → (r : Role) → c.role ≡ r → same_child (cleaner n) c ≡ false
 cleaner_apart next b n c one (lt, none, h) Body e = ap (λ t. (n == c.attempt) && same_role Cleanup t) e ∙ and_false (n == c.attempt)
@@ -94,16 +83,90 @@ cleaner_apart next b n c one (lt, none, h) Cleanup e =
     let o = h e in
     other_number (cleaner n) c (unequal n c.attempt (λ f. let g = ap (λ t. numbered t b.pending) f in omega (arith, one, g, o)))
 
--- and where a cleanup is started
-pub gone_cleanup : (next : ℕ) (b : ChildrenState) (job : Job) (place : ℕ) (d : Case) (answer : StartAnswer) → slice_get b.pending place ≡ Some d → (c : Child) → IsGone next b c
-    → IsGone next (state_after_start (taken b place)
-    (watched_of job Cleanup d.attempt) (cleaning d job) answer) c
-gone_cleanup next b job place d (RefusedFor cause) at c (lt, none, h) =
-    let s = numbered_less c.attempt b.pending place d at in
-    (lt, none, λ r. let o = h r in omega (arith, s, o))
-gone_cleanup next b job place d (StartedAt moment) at c (lt, none, h) =
-    let k : Watched = watched_of job Cleanup d.attempt in
-    let s = numbered_less c.attempt b.pending place d at in
-    let m = numbered_more c.attempt b.cases (cleaning d job) in
-    let z = cleaner_apart next b d.attempt c (at_some b.pending place d at) (lt, none, h) c.role refl in
-    (lt, named_past c b.children k z ∙ none, λ r. let o = h r in omega (arith, s, m, o))
+-- a cleanup is no body
+pub not_body : Cleanup ≡ Body → ⊥
+not_body e = let P : Role → Type 0 = λ r. same_role r Cleanup ≡ true in let no : false ≡ true = subst P e refl in cc
+
+-- the case of a cleanup is that of its job, in the directory of its body's number
+cleaning_in : (root : List ℕ) (d : Case) (job : Job) → d.position ≡ job.position → d.paths ≡ paths_of root d.attempt → cleaning d job ≡ case_in root job Cleanup d.attempt
+cleaning_in root d job e f =
+    let P : ℕ → Case = λ t. record { position = t; attempt = d.attempt; role = Cleanup; interface = job.interface; cleanup = job.cleanup; paths = d.paths } in
+    let Q : Paths → Case = λ t. record { position = job.position; attempt = d.attempt; role = Cleanup; interface = job.interface; cleanup = job.cleanup; paths = t } in
+    ap P e ∙ ap Q f
+
+-- what is known of the case that a start takes, of the next number and of the cases that are owed after it
+pub record IsTaken (plan : List Job) (root : List ℕ) (base : ℕ) (T : Trace) (heard : Child → List Heard) (i : ℕ) (job : Job) (role : Role) (old : ℕ) (b : ChildrenState) (c : Case) (next : ℕ) (pending : List Case) : Type 0 where
+  pub rises : old ≤ next
+  pub counts : (n : ℕ) → (numbered n b.cases + one_if (n == c.attempt) + numbered n pending ≤ 1)
+      × (next ≤ n → numbered n b.cases + one_if (n == c.attempt) + numbered n pending ≡ 0)
+  pub number : IsNumberAt base T i role c.attempt
+  pub position : c.position ≡ i
+  pub same : c ≡ case_in root job role c.attempt
+  pub unheard : heard (case_name c) ≡ []
+  pub silent : c.role ≡ Body → heard (cleaner c.attempt) ≡ []
+  pub owed : Every (OwedSo root base T heard) pending
+  pub gone : (x : Child) → IsGone old b x → (same_child (case_name c) x ≡ false)
+      × (x.role ≡ Cleanup → numbered x.attempt b.cases + one_if (x.attempt == c.attempt) + numbered x.attempt pending ≡ 0)
+  pub counted : (answer : StartAnswer) → next ≡ next_after base (Then T (Start i role answer))
+
+-- the case of a start
+pub taken : {O : Type 0} (d : Driver O) (plan : List Job) (base : ℕ) (T : Trace) (heard : Child → List Heard) (i : ℕ) (job : Job) (role : Role) (c : Case) (next : ℕ) (pending : List Case) (past : List Call)
+    → IsPlan plan → slice_get plan i ≡ Some job → Takes d job role c next pending → Stands plan d.source d.root base T heard d.next d.running past
+    → IsTaken plan d.root base T heard i job role d.next d.running c next pending
+taken d plan base T heard i job Body c next pending past is at (l, step, left, e) s =
+    let P : Case → Type 0 = λ t. IsTaken plan d.root base T heard i job Body d.next d.running t next pending in
+    let Q : List Case → Type 0 = λ t. IsTaken plan d.root base T heard i job Body d.next d.running (case_in d.root job Body d.next) next t in
+    subst P (sym e) (subst Q (sym left) (record {
+      rises = omega (arith, step);
+      counts = λ n. count n (one_or n d.next);
+      number = s.counted;
+      position = is.placed i job at;
+      same = refl;
+      unheard = s.unborn d.next Body (omega arith);
+      silent = λ r. s.unborn d.next Cleanup (omega arith);
+      owed = s.owed;
+      gone = λ x g.
+          let lt = g.0 in
+          let y : one_if (x.attempt == d.next) ≡ 0 = unequal x.attempt d.next (λ f. omega (arith, f, lt)) in
+          (other_number (case_name (case_in d.root job Body d.next)) x (unequal d.next x.attempt (λ f. omega (arith, f, lt))), λ r. let o = g.2 r in omega (arith, y, o));
+      counted = λ answer. step ∙ sym (following_more d.next l) ∙ ap following s.counted;
+    }))
+  where
+    count : (n : ℕ) → (one_if (n == d.next) ≡ 0) ⊎ ((one_if (n == d.next) ≡ 1) × (n ≡ d.next))
+        → (numbered n d.running.cases + one_if (n == d.next) + numbered n d.running.pending ≤ 1)
+        × (next ≤ n → numbered n d.running.cases + one_if (n == d.next) + numbered n d.running.pending ≡ 0)
+    count n (inl z) =
+        let a = s.apart in
+        let m = a.1 n in
+        let u = m.0 in
+        (omega (arith, z, u), λ le. let y = m.1 (omega (arith, le, step)) in omega (arith, z, y))
+    count n (inr (z, same)) =
+        let a = s.apart in
+        let m = a.1 n in
+        let y = m.1 (omega (arith, same)) in
+        (omega (arith, z, y), λ le. absurd (omega (arith, le, same, step)))
+taken d plan base T heard i job Cleanup c next pending past is at (place, owed, there, position, step, left, e) s =
+    let o = s.owed place owed there in
+    let placed : owed.position ≡ i = position ∙ is.placed i job at in
+    let N : ℕ → Type 0 = λ t. IsNumberOf base T t owed.attempt in
+    let P : Case → Type 0 = λ t. IsTaken plan d.root base T heard i job Cleanup d.next d.running t next pending in
+    let Q : List Case → Type 0 = λ t. IsTaken plan d.root base T heard i job Cleanup d.next d.running (cleaning owed job) next t in
+    subst P (sym e) (subst Q (sym left) (record {
+      rises = omega (arith, step);
+      counts = λ n.
+          let r = numbered_less n d.running.pending place owed there in
+          let a = s.apart in
+          let m = a.1 n in
+          let u = m.0 in
+          (omega (arith, r, u), λ le. let y = m.1 (omega (arith, le, step)) in omega (arith, r, y));
+      number = subst N placed o.0;
+      position = placed;
+      same = cleaning_in d.root owed job position o.2;
+      unheard = o.1;
+      silent = λ r. absurd (not_body r);
+      owed = every_left (OwedSo d.root base T heard) d.running.pending place s.owed;
+      gone = λ x g.
+          let r = numbered_less x.attempt d.running.pending place owed there in
+          (cleaner_apart d.next d.running owed.attempt x (at_some d.running.pending place owed there) g x.role refl, λ q. let z = g.2 q in omega (arith, r, z));
+      counted = λ answer. step ∙ s.counted;
+    }))

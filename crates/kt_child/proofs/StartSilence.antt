@@ -1,24 +1,18 @@
 -- What a start asks, which is neither poll nor kill.
-use Rattle.std.proofs.Common.{◌≡◌, ℕ, List, [], ◌∷◌, ◌++◌, Some, slice_get, Result, Ok, Err, refl, ◌∙◌, ap, inl, inr}
+use Rattle.std.proofs.Common.{◌≡◌, ℕ, List, [], ◌∷◌, ◌++◌, Result, Ok, Err, refl, ◌∙◌, ap, inl, inr}
 use Rattle.std.specs.Prelude.{⊤, is_err}
 use Rattle.kt_base.specs.declared.role.Role.{Role}
 use Rattle.kt_base.specs.declared.role.Role.TheVariants.{Body, Cleanup}
 use Rattle.kt_base.specs.declared.refused.Refused.{Refused}
 use Rattle.kt_sched.specs.Children.{same_role}
-use Rattle.kt_sched.specs.declared.job.Job.{Job}
 use Rattle.kt_sched.specs.declared.start_answer.StartAnswer.{StartAnswer}
 use Rattle.kt_child.specs.declared.system.child.Child.{Child}
 use Rattle.kt_child.specs.declared.system.os_fault.OsFault.{OsFault}
 use Rattle.kt_child.specs.declared.planning.spawning.Spawning.{Spawning}
-use Rattle.kt_child.specs.declared.driving.driver.Driver.{Driver}
-use Rattle.kt_child.specs.declared.planning.case.Case.{Case}
 use Rattle.kt_child.specs.Driving.Begins.{Begun}
-use Rattle.kt_child.specs.System.Calls.{Call, Chain, Now}
-use Rattle.kt_child.specs.Driving.JobPlan.{spawning_of}
-use Rattle.kt_child.specs.Driving.Launches.{StartsBy}
+use Rattle.kt_child.specs.System.Calls.{Call, Now}
 use Rattle.kt_child.specs.Polling.Lives.{heard_by}
 use Rattle.kt_child.specs.Starting.Starts.{Ask, SetUp, SetUpAs, SetUpIn, SetUpNew, Started, Tried, child_asks, furnish_asks}
-use Rattle.kt_child.specs.Driving.TraceLives.{BodyAsks}
 use Rattle.kt_child.proofs.EndSilence.{removes_silent}
 use Rattle.kt_child.proofs.LifeSteps.{heard_append}
 
@@ -67,23 +61,6 @@ started_silent c p calls (Ok moment) (before, answer, e, s, f) =
     ap (heard_by c) e ∙ heard_append c before (Now answer ∷ []) ∙ ap (λ t. t ++ []) (up_silent c p before (Ok tt) s)
 
 -- with memory for it or without
-begun_silent : (c : Child) (p : Spawning) (calls : List Call) (answer : StartAnswer) → Begun p calls answer → heard_by c calls ≡ []
+pub begun_silent : (c : Child) (p : Spawning) (calls : List Call) (answer : StartAnswer) → Begun p calls answer → heard_by c calls ≡ []
 begun_silent c p calls answer (inl (l, f)) = removes_silent c (same_role p.child.role Cleanup) p.dir calls l
 begun_silent c p calls answer (inr (r, s, f)) = started_silent c p calls r s
-
--- what a start of a driver asks
-abbrev pub StartAsks : {O : Type 0} → Driver O → Job → Role → List Call → StartAnswer → Type 0
-StartAsks d job Body calls answer = BodyAsks d.source d.root job d.next calls answer
-StartAsks d job Cleanup calls answer =
-    (place : ℕ) × (c : Case) × (slice_get d.running.pending place ≡ Some c) × (c.position ≡ job.position)
-    × Begun (spawning_of d.source job Cleanup c.attempt c.paths) calls answer
-
--- no child hears it
-pub start_silent : {O : Type 0} (leads : O → Call → O → Type 0) (old new : Driver O) (job : Job) (role : Role) (answer : StartAnswer)
-    → StartsBy leads old job role answer new
-    → (calls : List Call) × Chain leads old.os calls new.os × ((c : Child) → heard_by c calls ≡ []) × StartAsks old job role calls answer
-start_silent leads old new job Body answer (inl (e, told, s, f, same)) = ([], s, λ c. refl, inl (e, refl, told))
-start_silent leads old new job Body answer (inr (l, e, (calls, chain, begun), same)) =
-    (calls, chain, λ c. begun_silent c _ calls answer begun, inr begun)
-start_silent leads old new job Cleanup answer (place, c, at, position, e, (calls, chain, begun), same) =
-    (calls, chain, λ a. begun_silent a _ calls answer begun, (place, c, at, position, begun))

@@ -1,5 +1,5 @@
 -- A wait keeps what is known of a driver's children, and the end that it tells is that of a life.
-use Rattle.std.proofs.Common.{◌≡◌, ℕ, ◌<◌, ◌≤◌, ◌==◌, ◌&&◌, List, [], ◌∷◌, ◌++◌, Bool, true, false, Some, slice_get, refl, sym, ◌∙◌, ap, subst, arith}
+use Rattle.std.proofs.Common.{◌≡◌, ℕ, ◌<◌, ◌≤◌, ◌==◌, ◌&&◌, List, [], ◌∷◌, ◌++◌, Bool, true, false, Some, slice_get, refl, sym, ◌∙◌, ap, subst, arith, append-nil}
 use Rattle.kt_base.specs.declared.outcome.Outcome.{Outcome}
 use Rattle.kt_base.specs.declared.role.Role.{Role}
 use Rattle.kt_base.specs.declared.role.Role.TheVariants.{Body, Cleanup}
@@ -11,7 +11,8 @@ use Rattle.kt_sched.specs.Trace.{Trace, Then, End}
 use Rattle.kt_child.specs.declared.system.child.Child.{Child}
 use Rattle.kt_child.specs.declared.polling.watched.Watched.{Watched}
 use Rattle.kt_child.specs.declared.planning.case.Case.{Case}
-use Rattle.kt_child.specs.Driving.ChildrenState.{ChildrenState, Waited, one_if}
+use Rattle.kt_child.specs.Inner.ChildrenState.{one_if}
+use Rattle.kt_child.specs.Driving.ChildrenState.{ChildrenState, Waited}
 use Rattle.kt_child.specs.System.Calls.{Call}
 use Rattle.kt_child.specs.Polling.ChildOutcome.{Heard, Told}
 use Rattle.kt_child.specs.Ending.Ends.{Leaves}
@@ -23,12 +24,10 @@ use Rattle.kt_child.proofs.CaseCounts.{and_false}
 use Rattle.kt_child.proofs.CasePlaces.{other_absent, other_number, own_child}
 use Rattle.kt_child.proofs.EndSilence.{shares_at}
 use Rattle.kt_child.proofs.LifeSteps.{child_is_own}
-use Rattle.kt_child.proofs.NameCounts.{case_name, numbered}
-use Rattle.kt_child.proofs.NameSteps.{Apart}
-use Rattle.kt_child.proofs.NamedSteps.{head_is}
+use Rattle.kt_child.proofs.NameCounts.{Apart, case_name, numbered}
+use Rattle.kt_child.proofs.NamedSteps.{head_is, name_at}
 use Rattle.kt_child.proofs.Outcomes.{told}
-use Rattle.kt_child.proofs.Places.{append_none, some_is}
-use Rattle.kt_child.proofs.ChildNames.{name_at}
+use Rattle.kt_child.proofs.Places.{some_is}
 use Rattle.kt_child.proofs.SeveralSteps.{goes_join, lives_join}
 use Rattle.kt_child.proofs.TraceFacts.{IsGone, PastSo, RunsSo, cleaner}
 use Rattle.kt_child.proofs.WaitSilence.{wait_silent}
@@ -40,7 +39,7 @@ heard_after heard calls c = heard c ++ heard_by c calls
 -- a name that hears nothing of a wait
 pub unheard : (heard : Child → List Heard) (c : Child) (old new : ChildrenState) (calls : List Call) (e : Ended) → named c old.children ≡ [] → Waited old calls e new
     → heard_after heard calls c ≡ heard c
-unheard heard c old new calls e none w = ap (λ t. heard c ++ t) (wait_silent c old new calls e none w) ∙ append_none (heard c)
+unheard heard c old new calls e none w = ap (λ t. heard c ++ t) (wait_silent c old new calls e none w) ∙ append-nil (heard c)
 
 -- the share of a child in a wait
 share_of : (old new : ChildrenState) (calls : List Call) (e : Ended) (next : ℕ) (c : Child) (k : Watched) → Apart next old → (w : Waited old calls e new)

@@ -16,8 +16,7 @@ use Rattle.kt_child.specs.Driving.JobPlan.{case_in, limit_of, watched_of}
 use Rattle.kt_child.proofs.Shares.{GoesOn, named}
 use Rattle.kt_child.specs.Driving.TraceLives.{BegunAt, EachWith, IsNumberOf, LeavesAtLast, following, next_after}
 use Rattle.kt_child.proofs.CasePlaces.{Every}
-use Rattle.kt_child.proofs.NameCounts.{case_name, numbered}
-use Rattle.kt_child.proofs.NameSteps.{Apart}
+use Rattle.kt_child.proofs.NameCounts.{Apart, case_name, numbered}
 
 -- the name of the cleanup of a body's number
 abbrev pub cleaner : ℕ → Child

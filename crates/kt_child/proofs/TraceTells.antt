@@ -1,6 +1,5 @@
 -- Over a whole trace the answers of each child are one life, which tells its end.
-use Rattle.std.proofs.Common.{◌≡◌, ℕ, List, [], ◌++◌, refl, sym, ◌∙◌, ap, subst}
-use Rattle.std.specs.Prelude.{Some, slice_get}
+use Rattle.std.proofs.Common.{◌≡◌, ℕ, List, [], ◌++◌, Some, slice_get, refl, sym, ◌∙◌, ap, subst, append-nil}
 use Rattle.kt_base.specs.declared.role.Role.{Role}
 use Rattle.kt_sched.specs.declared.job.Job.{Job}
 use Rattle.kt_sched.specs.declared.start_answer.StartAnswer.{StartAnswer}
@@ -10,19 +9,18 @@ use Rattle.kt_sched.specs.Trace.{Trace, NoEvent, Then, Event, Start, End, Leads}
 use Rattle.kt_child.specs.declared.driving.driver.Driver.{Driver}
 use Rattle.kt_child.specs.declared.system.child.Child.{Child}
 use Rattle.kt_child.specs.Driving.ChildrenState.{ChildrenState}
-use Rattle.kt_child.specs.System.Calls.{Call, Chain}
+use Rattle.kt_base.specs.Chains.{Chain}
+use Rattle.kt_child.specs.System.Calls.{Call}
 use Rattle.kt_child.specs.Polling.ChildOutcome.{Heard, Told}
 use Rattle.kt_child.specs.Driving.JobPlan.{limit_of}
 use Rattle.kt_child.specs.Driving.DriverSteps.{DriverStarts, DriverWaits}
 use Rattle.kt_child.specs.Polling.Lives.{heard_by}
 use Rattle.kt_child.specs.Driving.Numbers.{IsBare}
-use Rattle.kt_child.specs.Driving.TraceLives.{EndsAreTold, ToldAt}
+use Rattle.kt_child.specs.Driving.TraceLives.{EachWith, ToldAt}
 use Rattle.kt_child.proofs.CasePlaces.{Every}
 use Rattle.kt_child.proofs.Chains.{chain_append}
-use Rattle.kt_child.proofs.Places.{append_none}
 use Rattle.kt_child.proofs.LifeSteps.{heard_append}
-use Rattle.kt_child.proofs.NameSteps.{none_yet}
-use Rattle.kt_child.proofs.StartSilence.{start_silent}
+use Rattle.kt_child.proofs.NameCounts.{none_yet}
 use Rattle.kt_child.proofs.TraceEnds.{heard_after}
 use Rattle.kt_child.proofs.TraceFacts.{PastSo, Stands, each_map}
 use Rattle.kt_child.proofs.TraceStarts.{start_stands}
@@ -67,18 +65,16 @@ Left leads plan T d e =
 start_left : {O : Type 0} (leads : O → Call → O → Type 0) (plan : List Job) (T : Trace) (d mid e : Driver O) (job : Job) (i : ℕ) (role : Role) (answer : StartAnswer)
     → IsPlan plan → slice_get plan i ≡ Some job → Left leads plan T d mid → DriverStarts leads mid job role answer e → Left leads plan (Then T (Start i role answer)) d e
 start_left leads plan T d mid e job i role answer is at l h =
-    let q = start_silent leads mid e job role answer h.0 in
     let P : List ℕ → Type 0 = λ t. Stands plan t mid.root d.next T l.1 mid.next mid.running l.0 in
     let Q : List ℕ → Type 0 = λ t. Stands plan d.source t d.next T l.1 mid.next mid.running l.0 in
-    let s : Stands plan mid.source mid.root d.next T l.1 mid.next mid.running l.0 = subst P (sym l.5) (subst Q (sym l.6) l.4) in
-    let r = start_stands leads mid e job role answer plan d.next T l.1 i l.0 q.0 is at h.0 q.3 s in
+    let q = start_stands leads plan d.next T l.1 mid e job i role answer l.0 is at h.0 (subst P (sym l.5) (subst Q (sym l.6) l.4)) in
     let A : List ℕ → Type 0 = λ t. Stands plan t mid.root d.next (Then T (Start i role answer)) l.1 e.next e.running (l.0 ++ q.0) in
     let B : List ℕ → Type 0 = λ t. Stands plan d.source t d.next (Then T (Start i role answer)) l.1 e.next e.running (l.0 ++ q.0) in (
       l.0 ++ q.0,
       l.1,
       chain_append leads d.os mid.os e.os l.0 q.0 l.2 q.1,
-      λ c. heard_append c l.0 q.0 ∙ ap (λ t. heard_by c l.0 ++ t) (q.2 c) ∙ append_none (heard_by c l.0) ∙ l.3 c,
-      subst B l.6 (subst A l.5 r),
+      λ c. heard_append c l.0 q.0 ∙ ap (λ t. heard_by c l.0 ++ t) (q.2 c) ∙ append-nil (heard_by c l.0) ∙ l.3 c,
+      subst B l.6 (subst A l.5 q.3),
       h.1 ∙ l.5,
       h.2 ∙ l.6,
     )
@@ -97,7 +93,7 @@ wait_left leads plan T d mid e ended is l ((calls, chain, waited), source, root,
       root ∙ l.6,
     )
 
--- each trace leaves that
+-- each trace leaves that, of whatever holds a driver
 trace_left : {D O : Type 0} (leads : O → Call → O → Type 0) (driver : D → Driver O) (starts : D → Job → Role → StartAnswer → D → Type 0) (waits : D → Ended → D → Type 0)
     → ((d e : D) (job : Job) (role : Role) (answer : StartAnswer) → starts d job role answer e → DriverStarts leads (driver d) job role answer (driver e))
     → ((d e : D) (ended : Ended) → waits d ended e → DriverWaits leads (driver d) ended (driver e))
@@ -116,7 +112,8 @@ trace_left leads driver starts waits s w plan (Then T (End ended)) d e is bare (
 pub ends_are_told : {D O : Type 0} (leads : O → Call → O → Type 0) (driver : D → Driver O) (starts : D → Job → Role → StartAnswer → D → Type 0) (waits : D → Ended → D → Type 0)
     → ((d e : D) (job : Job) (role : Role) (answer : StartAnswer) → starts d job role answer e → DriverStarts leads (driver d) job role answer (driver e))
     → ((d e : D) (ended : Ended) → waits d ended e → DriverWaits leads (driver d) ended (driver e))
-    → EndsAreTold leads driver starts waits
+    → (plan : List Job) (T : Trace) (d e : D) → IsPlan plan → IsBare (driver d).running → Leads starts waits plan T d e
+    → (calls : List Call) × Chain leads (driver d).os calls (driver e).os × EachWith (ToldAt plan (driver d).source (driver d).root (driver d).next calls) T calls
 ends_are_told leads driver starts waits s w plan T d e is bare led =
     let l = trace_left leads driver starts waits s w plan T d e is bare led in
     let k = l.4 in (

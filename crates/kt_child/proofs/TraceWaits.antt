@@ -1,6 +1,7 @@
 -- What is known of a driver's children after a wait.
-use Rattle.std.proofs.Common.{◌≡◌, ℕ, zero, suc, ◌<◌, ◌≤◌, ◌==◌, ◌&&◌, List, [], ◌∷◌, ◌++◌, Bool, true, false, Some, ◌⊎◌, slice_get, refl, sym, ◌∙◌, ap, subst, arith, inl, inr, if◌then◌else◌}
+use Rattle.std.proofs.Common.{◌≡◌, ℕ, ◌<◌, ◌≤◌, ◌==◌, ◌&&◌, List, [], ◌∷◌, ◌++◌, Bool, true, false, Some, ◌⊎◌, slice_get, refl, sym, ◌∙◌, ap, subst, arith, inl, inr, if◌then◌else◌}
 use Rattle.std.specs.Prelude.{remove}
+use Rattle.std.proofs.lemmas.Bool.{cases_lt}
 use Rattle.kt_base.specs.declared.role.Role.{Role}
 use Rattle.kt_base.specs.declared.role.Role.TheVariants.{Body, Cleanup}
 use Rattle.kt_sched.specs.declared.job.Job.{Job}
@@ -16,25 +17,14 @@ use Rattle.kt_child.specs.Polling.ChildOutcome.{Heard}
 use Rattle.kt_child.specs.Ending.Ends.{is_over}
 use Rattle.kt_child.proofs.CaseCounts.{and_false}
 use Rattle.kt_child.proofs.CasePlaces.{Every, at_none, at_some, every_push, left_at, other_absent}
-use Rattle.kt_child.proofs.NameCounts.{case_name, none_named, numbered, numbered_less, own_number}
-use Rattle.kt_child.proofs.NameSteps.{Apart, owed, wait_apart}
+use Rattle.kt_child.proofs.NameCounts.{Apart, case_name, none_named, numbered, numbered_less, owed, own_number, wait_apart}
 use Rattle.kt_child.proofs.TraceEnds.{ends_so, heard_after, still_runs, unheard}
 use Rattle.kt_child.proofs.TraceFacts.{IsGone, OwedSo, RunsSo, Stands, cleaner, each_more}
 use Rattle.kt_child.proofs.WaitSilence.{wait_none}
 
--- a number is below another, or not
-less_or : (a b : ℕ) → (a < b) ⊎ (b ≤ a)
-less_or a zero = inr (omega arith)
-less_or zero (suc b) = inl (omega arith)
-less_or (suc a) (suc b) = by (less_or a b)
-  where
-    by : (a < b) ⊎ (b ≤ a) → (suc a < suc b) ⊎ (suc b ≤ suc a)
-    by (inl h) = inl (omega (arith, h))
-    by (inr h) = inr (omega (arith, h))
-
 -- the number of a case is below the next one
 below_next : (next : ℕ) (b : ChildrenState) (i : ℕ) (c : Case) → Apart next b → slice_get b.cases i ≡ Some c → c.attempt < next
-below_next next b i c apart at = by (less_or c.attempt next)
+below_next next b i c apart at = by (cases_lt c.attempt next)
   where
     by : (c.attempt < next) ⊎ (next ≤ c.attempt) → c.attempt < next
     by (inl h) = h

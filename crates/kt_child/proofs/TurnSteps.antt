@@ -1,5 +1,5 @@
 -- One turn, poll by poll.
-use Rattle.std.proofs.Common.{◌≡◌, ℕ, zero, suc, ◌+◌, ◌<◌, List, [], ◌∷◌, ◌++◌, length, take, Bool, Option, Result, refl, sym, ◌∙◌, ap, subst, add-one, append_assoc}
+use Rattle.std.proofs.Common.{◌≡◌, ℕ, zero, suc, ◌+◌, ◌<◌, List, [], ◌∷◌, ◌++◌, length, take, Bool, Option, Result, refl, sym, ◌∙◌, ap, subst, add-one, append_assoc, append-nil}
 use Rattle.std.proofs.Math.ListN.{get_or, set}
 use Rattle.std.proofs.lemmas.List.{take_more}
 use Rattle.std.specs.List.{All}
@@ -12,11 +12,12 @@ use Rattle.kt_child.specs.declared.polling.watch.Watch.{Watch}
 use Rattle.kt_child.specs.declared.polling.turn.Turn.{Turn}
 use Rattle.kt_child.specs.declared.polling.turn.Turn.TheVariants.{More, Ended}
 use Rattle.kt_child.specs.declared.polling.watched.Watched.{Watched}
-use Rattle.kt_child.specs.System.Calls.{Call, Chain}
+use Rattle.kt_base.specs.Chains.{Chain}
+use Rattle.kt_child.specs.System.Calls.{Call}
 use Rattle.kt_child.specs.Polling.Polls.{asked_by_poll, turn_of, watch_after}
-use Rattle.kt_child.specs.Polling.Turns.{IsOn, PolledAll, PolledLast, PolledUntil, advanced, advanced_below}
+use Rattle.kt_child.specs.Inner.Turns.{IsOn}
+use Rattle.kt_child.specs.Polling.Turns.{PolledAll, PolledLast, PolledUntil, advanced, advanced_below}
 use Rattle.kt_child.proofs.Chains.{chain_append}
-use Rattle.kt_child.proofs.Places.{append_none}
 
 -- a child that wasn't polled yet is as it was
 pub watched_at : (i : ℕ) (s : List Watched) (d : Watched) → get_or (advanced_below i s) i d ≡ get_or s i d
@@ -42,7 +43,7 @@ polled_snoc : (ks : List Watched) (k : Watched) (xs : List Call) (answer : Resul
     → PolledAll (ks ++ k ∷ []) (xs ++ asked_by_poll k.child k.limit k.watch answer done)
 polled_snoc [] k xs answer done h e =
     let ys : List Call = asked_by_poll k.child k.limit k.watch answer done in
-    (answer, done, [], ap (λ t. t ++ ys) h ∙ sym (append_none ys), sym e, refl)
+    (answer, done, [], ap (λ t. t ++ ys) h ∙ sym (append-nil ys), sym e, refl)
 polled_snoc (j ∷ ks) k xs answer done (a, d, more, eq, went, rest) e =
     let ys : List Call = asked_by_poll k.child k.limit k.watch answer done in (
       a,

@@ -13,8 +13,7 @@ use Rattle.kt_child.specs.Polling.Turns.{PolledUntil, Rounds, WaitedOn, advanced
 use Rattle.kt_child.proofs.EndSilence.{leaves_silent}
 use Rattle.kt_child.proofs.LifeSteps.{heard_append}
 use Rattle.kt_child.proofs.NameCounts.{names_head, names_tail}
-use Rattle.kt_child.proofs.NamedSteps.{at_place, named_append, named_map, none_left, none_right}
-use Rattle.kt_child.proofs.ChildNames.{names_turns}
+use Rattle.kt_child.proofs.NamedSteps.{at_place, named_append, named_map, names_turns, none_left, none_right}
 use Rattle.kt_child.proofs.SeveralSteps.{silent}
 use Rattle.kt_child.proofs.SeveralWaits.{last_of, last_other, names_waited}
 

@@ -7,9 +7,11 @@ use Rattle.kt_base.specs.declared.outcome.Outcome.{Outcome}
 use Rattle.kt_base.specs.declared.role.Role.TheVariants.{Body}
 use Rattle.kt_child.specs.declared.system.child.Child.{Child}
 use Rattle.kt_child.specs.declared.polling.watched.Watched.{Watched}
-use Rattle.kt_child.specs.System.Calls.{Call, Chain, Pause}
-use Rattle.kt_child.specs.Polling.Polls.{IsShort}
-use Rattle.kt_child.specs.Polling.Turns.{IsOn, PolledAll, PolledUntil, Rounds, WaitedOn, advanced, advanced_below, after_turns, polls_left}
+use Rattle.kt_base.specs.Chains.{Chain}
+use Rattle.kt_child.specs.System.Calls.{Call, Pause}
+use Rattle.kt_child.specs.Inner.Polls.{IsShort}
+use Rattle.kt_child.specs.Inner.Turns.{IsOn, polls_left}
+use Rattle.kt_child.specs.Polling.Turns.{PolledAll, PolledUntil, Rounds, WaitedOn, advanced, advanced_below, after_turns}
 use Rattle.kt_child.proofs.Chains.{chain_append}
 
 abbrev pub no_child : Watched

@@ -1,6 +1,7 @@
 pub mod Driving
 pub mod Ending
 pub mod Host
+pub mod Inner
 pub mod Planning
 pub mod Polling
 pub mod Starting

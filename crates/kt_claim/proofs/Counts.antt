@@ -4,8 +4,9 @@ use Rattle.std.specs.Prelude.{◌&&◌, ◌||◌, is_some, IfOk, codes}
 use Rattle.std.specs.List.{list_any, filter, filter_map, cons_option}
 use Rattle.std.specs.Str.{chars}
 use Rattle.std.proofs.lemmas.Bool.{false≢true}
-use Rattle.kt_claim.specs.TapStream.{is_bail, plan, or_else, count, heard, skip_reason}
-use Rattle.kt_claim.specs.TapReading.{one, first, has_second}
+use Rattle.std.specs.Option.{option_or}
+use Rattle.kt_claim.specs.TapStream.{is_bail, plan, count, heard, skip_reason}
+use Rattle.kt_claim.specs.Inner.TapReading.{one, first, has_second}
 use Rattle.kt_claim.proofs.Truth.{or_left, or_right, or_assoc, or_false}
 
 pub no_reason : chars (codes "No reason given") ≡ codes "No reason given"
@@ -76,7 +77,7 @@ pub plans-snoc : (xs : List (List ℕ)) (x : List ℕ) → filter_map plan (xs +
 plans-snoc [] x = refl
 plans-snoc (y ∷ xs) x = ap (cons_option (plan y)) (plans-snoc xs x) ∙ joined (plan y) (filter_map plan xs) (cons_option (plan x) [])
 
-pub first-snoc : (xs : List (ℕ × List ℕ)) (o : Option (ℕ × List ℕ)) → first (xs ++ cons_option o []) ≡ or_else (first xs) o
+pub first-snoc : (xs : List (ℕ × List ℕ)) (o : Option (ℕ × List ℕ)) → first (xs ++ cons_option o []) ≡ option_or (first xs) o
 first-snoc [] None = refl
 first-snoc [] (Some x) = refl
 first-snoc (y ∷ xs) o = refl

@@ -5,8 +5,8 @@ use Rattle.std.proofs.lemmas.Bool.{le-ltb, ne_eqb}
 use Rattle.std.proofs.lemmas.List.{length-append}
 use Rattle.kt_base.specs.Digits.{is_digit, decimal_from}
 use Rattle.kt_claim.specs.Bytes.{is_blank}
-use Rattle.kt_claim.specs.LineStates.{nothing, planning, behind_opening, opened}
-use Rattle.kt_claim.specs.TapStream.{below_limit, trimmed, begins, front, past, ends_plan, planned_from, directive_behind, skips, plan_for}
+use Rattle.kt_claim.specs.Inner.LineStates.{nothing, planning, after_opening, opened}
+use Rattle.kt_claim.specs.TapStream.{below_limit, trimmed, begins, front, past, ends_plan, planned_from, directive_in, skips, plan_for}
 use Rattle.kt_claim.specs.declared.opening.Opening.{Opening}
 use Rattle.kt_claim.proofs.Truth.{and_false}
 
@@ -25,15 +25,15 @@ none_at_all false found none = refl
 
 -- a number that is too large grows no smaller
 pub plans_none : (n : ℕ) (text more : List ℕ) → 1000000000 ≤ n
-    → planning None ≡ planning (option_map (plan_for (skips (directive_behind false more))) (planned_from (Some n) text))
+    → planning None ≡ planning (option_map (plan_for (skips (directive_in false more))) (planned_from (Some n) text))
 plans_none n text more le =
-    ap (λ (o : Option ℕ). planning (option_map (plan_for (skips (directive_behind false more))) o))
+    ap (λ (o : Option ℕ). planning (option_map (plan_for (skips (directive_in false more))) o))
     (sym (none_at_all (ends_plan (past is_blank (past is_digit text))) (below_limit (decimal_from n (front is_digit text))) (too_large n (front is_digit text) le)))
 
 -- ---- the word that a line begins with
 
 -- a word of which nothing is lacking
-pub whole_word : (o : Opening) (lacks more : List ℕ) → length lacks ≡ 0 → behind_opening o more ≡ opened o (begins lacks more) (drop (length lacks) more)
+pub whole_word : (o : Opening) (lacks more : List ℕ) → length lacks ≡ 0 → after_opening o more ≡ opened o (begins lacks more) (drop (length lacks) more)
 whole_word o [] more none = refl
 whole_word o (c ∷ lacks) more none = absurd (omega (arith, none))
 
@@ -62,6 +62,6 @@ part_of_word o [] some = absurd (some refl)
 part_of_word o (c ∷ lacks) some = refl
 
 -- a whole word and nothing else
-pub lone_word : (o : Opening) (lacks : List ℕ) → length lacks ≡ 0 → behind_opening o [] ≡ opened o (begins lacks []) (drop (length lacks) [])
+pub lone_word : (o : Opening) (lacks : List ℕ) → length lacks ≡ 0 → after_opening o [] ≡ opened o (begins lacks []) (drop (length lacks) [])
 lone_word o [] none = refl
 lone_word o (c ∷ lacks) none = absurd (omega (arith, none))

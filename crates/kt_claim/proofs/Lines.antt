@@ -2,10 +2,11 @@
 use Rattle.std.proofs.Common.{◌≡◌, ℕ, ◌≤◌, ◌<◌, ◌^◌, Bool, true, false, List, [], ◌∷◌, ◌++◌, map, length, refl, ap, sym, ◌∙◌, append_assoc, arith}
 use Rattle.std.specs.List.{list_any}
 use Rattle.std.proofs.lemmas.List.{append-nil, length-append}
-use Rattle.kt_claim.specs.Bytes.{is_newline}
-use Rattle.kt_claim.specs.TapStream.{limit, lines, onto, without_return, trimmed, tap_of_lines, lines_of}
-use Rattle.kt_claim.specs.LineStates.{LineState, held_before, facts_of, facts_of_kind, told, is_reason, KeepsFor, Knows}
-use Rattle.kt_claim.specs.TapReading.{IsTally, HasLines}
+use Rattle.kt_base.specs.Lines.{is_newline}
+use Rattle.kt_base.specs.Lines.{lines, onto}
+use Rattle.kt_claim.specs.TapStream.{limit, without_return, trimmed, tap_of_lines, lines_of}
+use Rattle.kt_claim.specs.Inner.LineStates.{LineState, held_before, facts_of, facts_of_kind, facts_with, is_reason, KeepsFor, Knows}
+use Rattle.kt_claim.specs.Inner.TapReading.{IsTally, HasLines}
 use Rattle.kt_claim.specs.declared.tally.Tally.{Tally}
 use Rattle.kt_claim.specs.declared.tap.Tap.{Tap}
 use Rattle.kt_claim.specs.declared.begun.Begun.{Begun}
@@ -38,17 +39,17 @@ length-map (y ∷ xs) = omega (arith, length-map xs)
 
 -- the kind of a line that has ended
 abbrev pub Ends : LineState → LineKind → Type 0
-Ends line kind = (is_reason line.begun ≡ false → (kept : List ℕ) → facts_of_kind kind [] ≡ told line.begun kept []) × (is_reason line.begun ≡ true → kind ≡ Plan 0)
+Ends line kind = (is_reason line.begun ≡ false → (kept : List ℕ) → facts_of_kind kind [] ≡ facts_with line.begun kept []) × (is_reason line.begun ≡ true → kind ≡ Plan 0)
 
 -- nothing is kept unless a reason was begun
 pub ends_at : (b : Begun) (kept : List ℕ) (kind : LineKind) → KeepsFor b kept
-    → (is_reason b ≡ false → (k : List ℕ) → facts_of_kind kind [] ≡ told b k []) → (is_reason b ≡ true → kind ≡ Plan 0)
-    → told b kept [] ≡ facts_of_kind kind (trimmed kept)
+    → (is_reason b ≡ false → (k : List ℕ) → facts_of_kind kind [] ≡ facts_with b k []) → (is_reason b ≡ true → kind ≡ Plan 0)
+    → facts_with b kept [] ≡ facts_of_kind kind (trimmed kept)
 ends_at begun.Reason kept kind keeps plain reason =
     ap (λ (xs : List ℕ). facts_of_kind (Plan 0) (trimmed xs)) (append-nil kept) ∙ ap (λ (k : LineKind). facts_of_kind k (trimmed kept)) (sym (reason refl))
 ends_at b kept kind keeps plain reason = sym (plain refl kept) ∙ ap (λ (xs : List ℕ). facts_of_kind kind (trimmed xs)) (sym keeps)
 
-pub no_more : (held : Bool) (b : Begun) (kept : List ℕ) → told b kept (without_return (held_before held [])) ≡ told b kept []
+pub no_more : (held : Bool) (b : Begun) (kept : List ℕ) → facts_with b kept (without_return (held_before held [])) ≡ facts_with b kept []
 no_more true b kept = refl
 no_more false b kept = refl
 

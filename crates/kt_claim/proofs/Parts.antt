@@ -3,7 +3,7 @@ use Rattle.std.proofs.Common.{◌≡◌, ℕ, Bool, true, false, eqb, List, [], 
 use Rattle.std.proofs.lemmas.Bool.{false≢true}
 use Rattle.std.proofs.lemmas.List.{append-nil}
 use Rattle.kt_claim.specs.Bytes.{is_blank}
-use Rattle.kt_claim.specs.LineStates.{facts_of, planning, told, is_kept, is_decided, is_reason, KeepsIf, KeepsFor, Knows, Released}
+use Rattle.kt_claim.specs.Inner.LineStates.{facts_of, planning, facts_with, is_kept, is_decided, is_reason, KeepsIf, KeepsFor, Knows, Released}
 use Rattle.kt_claim.specs.TapStream.{without_return, past, trimmed, skip_reason}
 use Rattle.kt_claim.specs.declared.begun.Begun.{Begun}
 use Rattle.kt_claim.specs.declared.begun.Begun.TheVariants as begun
@@ -13,13 +13,13 @@ pub past_none : (b : ℕ) (rest : List ℕ) → is_blank b ≡ false → past is
 past_none b rest e = rw e refl
 
 -- what follows a line that is decided changes nothing
-pub decided : (b : Begun) (kept xs ys : List ℕ) → is_decided b ≡ true → told b kept xs ≡ told b kept ys
+pub decided : (b : Begun) (kept xs ys : List ℕ) → is_decided b ≡ true → facts_with b kept xs ≡ facts_with b kept ys
 decided (begun.Decided k) kept xs ys e = refl
 decided _ kept xs ys e = absurd (false≢true e)
 
 -- the bytes of a reason are kept
 pub kept_told : (s : Begun) (kept after more : List ℕ) (b : ℕ) → is_kept s b ≡ true → KeepsFor s kept
-    → told s kept ((b ∷ after) ++ more) ≡ told begun.Reason (kept ++ b ∷ after) more
+    → facts_with s kept ((b ∷ after) ++ more) ≡ facts_with begun.Reason (kept ++ b ∷ after) more
 kept_told begun.Reason kept after more b e keeps = ap (λ (xs : List ℕ). planning (Some (0, skip_reason (trimmed xs)))) (sym (append_assoc kept (b ∷ after) more))
 kept_told begun.Gap kept after more b e keeps =
     ap (λ (xs : List ℕ). planning (Some (0, skip_reason (trimmed xs)))) (past_none b (after ++ more) (not_true (is_blank b) e) ∙ ap (λ (xs : List ℕ). (xs ++ b ∷ after) ++ more) (sym keeps))
@@ -27,21 +27,21 @@ kept_told _ kept after more b e keeps = absurd (false≢true e)
 
 -- what a loop over a part keeps true
 abbrev pub TakesIn : Begun → Begun → List ℕ → List ℕ → List ℕ → List ℕ → Type 0
-TakesIn first state kept now part rest = KeepsFor first kept → (now ≡ kept) × KeepsFor state now × ((more : List ℕ) → told first kept (part ++ more) ≡ told state now (rest ++ more))
+TakesIn first state kept now part rest = KeepsFor first kept → (now ≡ kept) × KeepsFor state now × ((more : List ℕ) → facts_with first kept (part ++ more) ≡ facts_with state now (rest ++ more))
 
 abbrev pub TookIn : Begun → Begun → List ℕ → List ℕ → List ℕ → Type 0
-TookIn first state kept now part = KeepsFor first kept → KeepsFor state now × ((more : List ℕ) → told first kept (part ++ more) ≡ told state now more)
+TookIn first state kept now part = KeepsFor first kept → KeepsFor state now × ((more : List ℕ) → facts_with first kept (part ++ more) ≡ facts_with state now more)
 
 pub takes_none : (first : Begun) (kept part : List ℕ) → TakesIn first first kept kept part part
 takes_none first kept part = λ keeps. (refl, keeps, λ more. refl)
 
 pub takes_step : (first state next : Begun) (kept now part rest after : List ℕ) (b : ℕ) → TakesIn first state kept now part rest → rest ≡ b ∷ after
-    → ((k more : List ℕ) → told next k more ≡ told state k (b ∷ more)) → is_reason next ≡ is_reason state → TakesIn first next kept now part after
+    → ((k more : List ℕ) → facts_with next k more ≡ facts_with state k (b ∷ more)) → is_reason next ≡ is_reason state → TakesIn first next kept now part after
 takes_step first state next kept now part rest after b inv parts steps same = λ keeps.
     let i = inv keeps in (
       i.0,
       subst (λ (t : Bool). KeepsIf t now) (sym same) i.1,
-      λ more. i.2 more ∙ ap (λ (xs : List ℕ). told state now (xs ++ more)) parts ∙ sym (steps now (after ++ more)),
+      λ more. i.2 more ∙ ap (λ (xs : List ℕ). facts_with state now (xs ++ more)) parts ∙ sym (steps now (after ++ more)),
     )
 
 pub takes_end : (first state : Begun) (kept now part rest : List ℕ) → TakesIn first state kept now part rest → length rest ≡ 0 → TookIn first state kept now part
@@ -56,8 +56,8 @@ pub takes_reason : (first state : Begun) (kept now new part rest after : List �
 takes_reason first state kept now new part rest after b inv parts e grown = λ keeps.
     let i = inv keeps in (
       tt,
-      λ more. i.2 more ∙ ap (λ (xs : List ℕ). told state now (xs ++ more)) parts ∙ kept_told state now after more b e i.1
-          ∙ ap (λ (xs : List ℕ). told begun.Reason xs more) (sym (grown ∙ ap (λ (xs : List ℕ). now ++ xs) parts)),
+      λ more. i.2 more ∙ ap (λ (xs : List ℕ). facts_with state now (xs ++ more)) parts ∙ kept_told state now after more b e i.1
+          ∙ ap (λ (xs : List ℕ). facts_with begun.Reason xs more) (sym (grown ∙ ap (λ (xs : List ℕ). now ++ xs) parts)),
     )
 
 -- ---- carriage returns
@@ -78,9 +78,9 @@ pub released : (s next : Begun) (kept now came : List ℕ) → TookIn s next kep
 released s next kept now came took k = let t = took k.keeps in record { keeps = t.0; tells = λ b more. k.tells (b ∷ more) ∙ t.1 (without_return (b ∷ more)) }
 
 pub tells_all : (s : Begun) (kept came : List ℕ) → Released s kept came → (xs : List ℕ) (b : ℕ) (more : List ℕ)
-    → facts_of (without_return (came ++ (xs ++ b ∷ more))) ≡ told s kept (xs ++ without_return (b ∷ more))
+    → facts_of (without_return (came ++ (xs ++ b ∷ more))) ≡ facts_with s kept (xs ++ without_return (b ∷ more))
 tells_all s kept came r [] b more = r.tells b more
-tells_all s kept came r (x ∷ xs) b more = r.tells x (xs ++ b ∷ more) ∙ ap (told s kept) (return-append (x ∷ xs) b more)
+tells_all s kept came r (x ∷ xs) b more = r.tells x (xs ++ b ∷ more) ∙ ap (facts_with s kept) (return-append (x ∷ xs) b more)
 
 pub snoc-more : (came front part more : List ℕ) (b : ℕ) → part ≡ front ++ b ∷ [] → (came ++ part) ++ more ≡ came ++ (front ++ b ∷ more)
 snoc-more came front part more b parts = append_assoc came part more ∙ ap (λ (xs : List ℕ). came ++ xs) (ap (λ (xs : List ℕ). xs ++ more) parts ∙ append_assoc front (b ∷ []) more)
@@ -91,7 +91,7 @@ pub holds_back : (s next : Begun) (kept now came front part : List ℕ) (b : ℕ
 holds_back s next kept now came front part b parts is r took = let t = took r.keeps in record {
   keeps = t.0;
   tells = λ more. ap (λ (xs : List ℕ). facts_of (without_return xs)) (snoc-more came front part more b parts)
-      ∙ tells_all s kept came r front b more ∙ t.1 (without_return (b ∷ more)) ∙ ap (λ (x : ℕ). told next now (without_return (x ∷ more))) is;
+      ∙ tells_all s kept came r front b more ∙ t.1 (without_return (b ∷ more)) ∙ ap (λ (x : ℕ). facts_with next now (without_return (x ∷ more))) is;
 }
 
 -- a part that ends with another byte
@@ -101,7 +101,7 @@ holds_none s next kept now came front part b parts isnt r took = let t = took r.
   keeps = t.0;
   tells = λ more. ap (λ (xs : List ℕ). facts_of (without_return xs)) (snoc-more came front part more b parts)
       ∙ tells_all s kept came r front b more
-      ∙ ap (λ (xs : List ℕ). told s kept xs) (ap (λ (xs : List ℕ). front ++ xs) (no_return b more isnt) ∙ sym (append_assoc front (b ∷ []) (without_return more)) ∙ ap (λ (xs : List ℕ). xs ++ without_return more) (sym parts))
+      ∙ ap (λ (xs : List ℕ). facts_with s kept xs) (ap (λ (xs : List ℕ). front ++ xs) (no_return b more isnt) ∙ sym (append_assoc front (b ∷ []) (without_return more)) ∙ ap (λ (xs : List ℕ). xs ++ without_return more) (sym parts))
       ∙ t.1 (without_return more);
 }
 

@@ -4,10 +4,10 @@ use Rattle.std.specs.Prelude.{◌||◌}
 use Rattle.std.specs.List.{list_any, prefix_len}
 use Rattle.std.proofs.lemmas.Bool.{eqb-true}
 use Rattle.std.proofs.lemmas.List.{append-nil, length-append, nil_from_length, take-append-drop}
-use Rattle.kt_claim.specs.Bytes.{is_newline}
+use Rattle.kt_base.specs.Lines.{is_newline}
 use Rattle.kt_claim.specs.TapStream.{limit}
-use Rattle.kt_claim.specs.LineStates.{LineState}
-use Rattle.kt_claim.specs.TapReading.{HasLines}
+use Rattle.kt_claim.specs.Inner.LineStates.{LineState}
+use Rattle.kt_claim.specs.Inner.TapReading.{HasLines}
 use Rattle.kt_claim.specs.declared.tally.Tally.{Tally}
 
 -- ---- the first line of a piece

@@ -5,10 +5,11 @@ use Rattle.std.specs.List.{prefix_len, ends_with, list_any, find}
 use Rattle.std.proofs.lemmas.Bool.{ltb-false}
 use Rattle.std.proofs.lemmas.List.{take-append-drop}
 use Rattle.std.proofs.lemmas.Slice.Eq.{bytes_eq-Decides}
-use Rattle.kt_claim.specs.Bytes.{newline, is_newline, is_word_byte}
+use Rattle.kt_base.specs.Lines.{is_newline}
+use Rattle.kt_claim.specs.Bytes.{newline, is_word_byte}
 use Rattle.kt_claim.specs.ResultFile.{limit, Says, line, fits_line, fault_of, IsClaimOf}
-use Rattle.kt_claim.specs.ResultFile.{word as first_word, after_word as behind_word}
-use Rattle.kt_claim.specs.ResultReading.{word_of, after_known, claim_of_line, claim_of}
+use Rattle.kt_claim.specs.ResultFile.{word as first_word, after_word}
+use Rattle.kt_claim.specs.Inner.ResultReading.{word_of, after_known, claim_of_line, claim_of}
 use Rattle.kt_claim.specs.declared.claim.Claim.TheVariants as claim
 use Rattle.kt_claim.specs.declared.claim_fault.ClaimFault.{ClaimFault}
 use Rattle.kt_claim.specs.declared.claim_fault.ClaimFault.TheVariants.{TooLong, Empty, NoNewline, SeveralLines, UnknownWord, BadNumber, UnexpectedReason, NoReason}
@@ -26,17 +27,17 @@ pub drop_clean : (n : ℕ) (xs : List ℕ) → list_any is_newline xs ≡ false 
 drop_clean n xs none = any_right (take n xs) (drop n xs) (ap (list_any is_newline) (take-append-drop n xs) ∙ none)
 
 -- the line of a file that is no longer than the limit
-pub line_in_file : (file : List ℕ) → ends_with nat_eq file newline ≡ true → length file ≤ limit → Read (behind_word file) (first_word file)
-    → MatchOption (find (fits_line (first_word file) (behind_word file)) (UnknownWord ∷ BadNumber ∷ UnexpectedReason ∷ NoReason ∷ []))
-    ((length file ≤ limit) × Says file (after_known (word_of (first_word file)) (behind_word file))) (λ g. after_known (word_of (first_word file)) (behind_word file) ≡ claim.Malformed g)
+pub line_in_file : (file : List ℕ) → ends_with nat_eq file newline ≡ true → length file ≤ limit → Read (after_word file) (first_word file)
+    → MatchOption (find (fits_line (first_word file) (after_word file)) (UnknownWord ∷ BadNumber ∷ UnexpectedReason ∷ NoReason ∷ []))
+    ((length file ≤ limit) × Says file (after_known (word_of (first_word file)) (after_word file))) (λ g. after_known (word_of (first_word file)) (after_word file) ≡ claim.Malformed g)
 line_in_file file ends short found =
-    under (find (fits_line (first_word file) (behind_word file)) (UnknownWord ∷ BadNumber ∷ UnexpectedReason ∷ NoReason ∷ [])) (after_known (word_of (first_word file)) (behind_word file))
-    (Says (first_word file ++ (behind_word file ++ newline)) (after_known (word_of (first_word file)) (behind_word file)))
-    ((length file ≤ limit) × Says file (after_known (word_of (first_word file)) (behind_word file)))
+    under (find (fits_line (first_word file) (after_word file)) (UnknownWord ∷ BadNumber ∷ UnexpectedReason ∷ NoReason ∷ [])) (after_known (word_of (first_word file)) (after_word file))
+    (Says (first_word file ++ (after_word file ++ newline)) (after_known (word_of (first_word file)) (after_word file)))
+    ((length file ≤ limit) × Says file (after_known (word_of (first_word file)) (after_word file)))
     (λ said. (
       short,
-      subst (λ (xs : List ℕ). Says xs (after_known (word_of (first_word file)) (behind_word file)))
-          (sym (append_assoc (first_word file) (behind_word file) newline) ∙ ap (λ (xs : List ℕ). xs ++ newline) (take-append-drop (prefix_len is_word_byte (line file)) (line file))
+      subst (λ (xs : List ℕ). Says xs (after_known (word_of (first_word file)) (after_word file)))
+          (sym (append_assoc (first_word file) (after_word file) newline) ∙ ap (λ (xs : List ℕ). xs ++ newline) (take-append-drop (prefix_len is_word_byte (line file)) (line file))
           ∙ line_and_newline file ends) said,
     ))
     found
@@ -49,7 +50,7 @@ read_file file =
     row (not (ends_with nat_eq file newline)) NoNewline _ _ (λ c. (length file ≤ limit) × Says file c) (λ ends.
     row (list_any is_newline (line file)) SeveralLines _ _ (λ c. (length file ≤ limit) × Says file c) (λ one.
     line_in_file file (not_false (ends_with nat_eq file newline) ends) (omega (arith, ltb-false limit (length file) short))
-    (read_word (first_word file) (behind_word file) (drop_clean (prefix_len is_word_byte (line file)) (line file) one))))))
+    (read_word (first_word file) (after_word file) (drop_clean (prefix_len is_word_byte (line file)) (line file) one))))))
 
 pub claims_at : (o : Option ClaimFault) (file : List ℕ) → fault_of file ≡ o → MatchOption o ((length file ≤ limit) × Says file (claim_of file)) (λ g. claim_of file ≡ claim.Malformed g) → IsClaimOf file (claim_of file)
 claims_at None file e h = inl h

@@ -4,9 +4,10 @@ use Rattle.std.specs.Prelude.{◌&&◌, nat_eq, nat_lt, MatchOption}
 use Rattle.std.specs.List.{list_any}
 use Rattle.std.proofs.lemmas.Bool.{false≢true, eqb-true, ltb-true}
 use Rattle.kt_base.specs.Lossy.{lossy}
-use Rattle.kt_claim.specs.Bytes.{newline, is_newline}
+use Rattle.kt_base.specs.Lines.{is_newline}
+use Rattle.kt_claim.specs.Bytes.{newline}
 use Rattle.kt_claim.specs.ResultFile.{IsReason, with_reason, Says, has_reason}
-use Rattle.kt_claim.specs.ResultReading.{reason_in, with_reason_in}
+use Rattle.kt_claim.specs.Inner.ResultReading.{reason_in, with_reason_in}
 use Rattle.kt_claim.specs.declared.claim.Claim.{Claim}
 use Rattle.kt_claim.specs.declared.claim.Claim.TheVariants as claim
 use Rattle.kt_claim.specs.declared.claim_fault.ClaimFault.{ClaimFault}
@@ -41,8 +42,8 @@ reason_parts (a ∷ b ∷ r) e =
     let long : 2 < length (a ∷ b ∷ r) = ltb-true 2 (length (a ∷ b ∷ r)) (and_right (nat_eq 58 a && (nat_eq 32 b && true)) (nat_lt 2 (length (a ∷ b ∷ r))) e) in
     (r, ap (λ (x : ℕ). x ∷ b ∷ r) (sym colon) ∙ ap (λ (x : ℕ). 58 ∷ x ∷ r) (sym space), omega arith)
 
-pub no_newline_behind : (rest r : List ℕ) → rest ≡ 58 ∷ 32 ∷ r → list_any is_newline rest ≡ false → list_any is_newline r ≡ false
-no_newline_behind rest r parts none = sym (ap (list_any is_newline) parts) ∙ none
+pub no_newline_after : (rest r : List ℕ) → rest ≡ 58 ∷ 32 ∷ r → list_any is_newline rest ≡ false → list_any is_newline r ≡ false
+no_newline_after rest r parts none = sym (ap (list_any is_newline) parts) ∙ none
 
 -- a word that wants a reason and is given one, or not
 abbrev pub Wanted : List ℕ → (List ℕ → Claim) → Type 0
@@ -53,7 +54,7 @@ pub reasoned_at : (t : Bool) (w rest : List ℕ) (make : List ℕ → Claim) →
 reasoned_at true w rest make e wants none =
     let p = reason_parts rest e in
     let found : reason_in rest ≡ Some p.0 = rw e (ap (λ (xs : List ℕ). Some (drop 2 xs)) p.1) in
-    let said : Says (w ++ ((58 ∷ 32 ∷ p.0) ++ newline)) (make (lossy p.0)) = wants p.0 (p.2, no_newline_behind rest p.0 p.1 none) in
+    let said : Says (w ++ ((58 ∷ 32 ∷ p.0) ++ newline)) (make (lossy p.0)) = wants p.0 (p.2, no_newline_after rest p.0 p.1 none) in
     subst (λ (o : Option (List ℕ)). Says (w ++ (rest ++ newline)) (with_reason_in make o)) (sym found)
     (subst (λ (xs : List ℕ). Says (w ++ (xs ++ newline)) (make (lossy p.0))) (sym p.1) said)
 reasoned_at false w rest make e wants none = ap (with_reason_in make) found where

@@ -3,9 +3,10 @@ use Rattle.std.proofs.Common.{◌≡◌, ℕ, ◌+◌, ◌<◌, ◌^◌, Bool, t
 use Rattle.std.specs.Prelude.{◌&&◌, ◌||◌, is_some, IfOk}
 use Rattle.std.specs.List.{list_any, filter_map}
 use Rattle.std.proofs.lemmas.List.{append-nil}
-use Rattle.kt_claim.specs.LineStates.{Facts, facts_of, nothing, bailing, testing, planning}
-use Rattle.kt_claim.specs.TapStream.{is_bail, is_test, is_unexcused, plan, or_else, count, heard, tap_of_lines}
-use Rattle.kt_claim.specs.TapReading.{IsTally, one, first, has_second, with_plan}
+use Rattle.kt_claim.specs.Inner.LineStates.{Facts, facts_of, nothing, bailing, testing, planning}
+use Rattle.std.specs.Option.{option_or}
+use Rattle.kt_claim.specs.TapStream.{is_bail, is_test, is_unexcused, plan, count, heard, tap_of_lines}
+use Rattle.kt_claim.specs.Inner.TapReading.{IsTally, one, first, has_second, with_plan}
 use Rattle.kt_claim.specs.declared.tally.Tally.{Tally}
 use Rattle.kt_claim.proofs.Truth.{or_false}
 use Rattle.kt_claim.proofs.Counts.{any-snoc, heard_none, heard_bail, heard_more, heard-le, count-snoc, count-le, plans-snoc, first-snoc, second-snoc}
@@ -32,7 +33,7 @@ after_bail t line lines bailed h =
 
 -- one line more is heard
 pub more_heard : (old new : Tally) (line : List ℕ) (lines : List (List ℕ)) → old.bailed ≡ false → is_bail line ≡ false → new.bailed ≡ false
-    → new.plan ≡ or_else old.plan (plan line) → new.second ≡ (old.second || (is_some old.plan && is_some (plan line)))
+    → new.plan ≡ option_or old.plan (plan line) → new.second ≡ (old.second || (is_some old.plan && is_some (plan line)))
     → new.tests ≡ old.tests + one (is_test line) → new.failures ≡ old.failures + one (is_unexcused line)
     → IsTally old lines → IsTally new (lines ++ line ∷ [])
 more_heard old new line lines was isnt goes plans seconds tests failures h =
@@ -40,7 +41,7 @@ more_heard old new line lines was isnt goes plans seconds tests failures h =
     let more : heard (lines ++ line ∷ []) ≡ heard lines ++ line ∷ [] = heard_more lines line none isnt in
     record {
       bailed = goes ∙ sym (any-snoc is_bail lines line ∙ ap (λ (b : Bool). b || is_bail line) none ∙ isnt);
-      planned = plans ∙ ap (λ (o : Option (ℕ × List ℕ)). or_else o (plan line)) h.planned ∙ sym (first-snoc (filter_map plan (heard lines)) (plan line))
+      planned = plans ∙ ap (λ (o : Option (ℕ × List ℕ)). option_or o (plan line)) h.planned ∙ sym (first-snoc (filter_map plan (heard lines)) (plan line))
           ∙ sym (ap first (plans-snoc (heard lines) line)) ∙ ap (λ (zs : List (List ℕ)). first (filter_map plan zs)) (sym more);
       second = seconds ∙ ap (λ (b : Bool). b || (is_some old.plan && is_some (plan line))) h.second
           ∙ ap (λ (o : Option (ℕ × List ℕ)). has_second (filter_map plan (heard lines)) || (is_some o && is_some (plan line))) h.planned
@@ -56,9 +57,9 @@ few_tests t lines few h = omega (arith, h.tests, count-le is_test (heard lines),
 pub few_failures : (t : Tally) (lines : List (List ℕ)) → length lines < 2 ^ 32 → IsTally t lines → t.failures < 2 ^ 32
 few_failures t lines few h = omega (arith, h.failures, count-le is_unexcused (heard lines), heard-le lines, few)
 
-pub or_else_none : (o : Option (ℕ × List ℕ)) → o ≡ or_else o None
-or_else_none None = refl
-or_else_none (Some x) = refl
+pub option_or_none : (o : Option (ℕ × List ℕ)) → o ≡ option_or o None
+option_or_none None = refl
+option_or_none (Some x) = refl
 
 pub or_and_false : (a b : Bool) → a ≡ (a || (b && false))
 or_and_false true b = refl
@@ -72,7 +73,7 @@ pub no_plan : (old new : Tally) (line : List ℕ) (lines : List (List ℕ)) (tes
 no_plan old new line lines tests fails is was goes plans seconds more worse h =
     let none : plan line ≡ None = ap (λ (f : Facts). f.plans) is in
     more_heard old new line lines was (ap (λ (f : Facts). f.bails) is) goes
-    (plans ∙ or_else_none old.plan ∙ ap (or_else old.plan) (sym none))
+    (plans ∙ option_or_none old.plan ∙ ap (option_or old.plan) (sym none))
     (seconds ∙ or_and_false old.second (is_some old.plan) ∙ ap (λ (o : Option (ℕ × List ℕ)). old.second || (is_some old.plan && is_some o)) (sym none))
     (more ∙ ap (λ (b : Bool). old.tests + one b) (sym (ap (λ (f : Facts). f.tests) is)))
     (worse ∙ ap (λ (b : Bool). old.failures + one b) (sym (ap (λ (f : Facts). f.fails) is))) h
@@ -121,7 +122,7 @@ planned_at t None line lines n reason has is was h =
     let this : plan line ≡ Some (n, reason) = ap (λ (f : Facts). f.plans) is in
     subst (λ (m : Tally). IsTally m (lines ++ line ∷ [])) (first_plan t n reason (ap is_some has))
     (more_heard t (record t { plan = Some (n, reason) }) line lines was (ap (λ (f : Facts). f.bails) is) was
-    (sym (ap (λ (o : Option (ℕ × List ℕ)). or_else o (plan line)) has ∙ this))
+    (sym (ap (λ (o : Option (ℕ × List ℕ)). option_or o (plan line)) has ∙ this))
     (or_and_none t.second t.plan (plan line) has)
     (omega (arith, ap one (ap (λ (f : Facts). f.tests) is)))
     (omega (arith, ap one (ap (λ (f : Facts). f.fails) is))) h)
@@ -129,7 +130,7 @@ planned_at t (Some p) line lines n reason has is was h =
     let this : plan line ≡ Some (n, reason) = ap (λ (f : Facts). f.plans) is in
     subst (λ (m : Tally). IsTally m (lines ++ line ∷ [])) (second_plan t n reason (ap is_some has))
     (more_heard t (record t { second = true }) line lines was (ap (λ (f : Facts). f.bails) is) was
-    (has ∙ sym (ap (λ (o : Option (ℕ × List ℕ)). or_else o (plan line)) has))
+    (has ∙ sym (ap (λ (o : Option (ℕ × List ℕ)). option_or o (plan line)) has))
     (or_and_some t.second t.plan (plan line) p (n, reason) has this)
     (omega (arith, ap one (ap (λ (f : Facts). f.tests) is)))
     (omega (arith, ap one (ap (λ (f : Facts). f.fails) is))) h)

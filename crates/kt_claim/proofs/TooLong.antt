@@ -2,7 +2,7 @@
 use Rattle.std.proofs.Common.{◌≡◌, ℕ, Bool, true, false, List, length, refl}
 use Rattle.std.proofs.lemmas.Bool.{lt-ltb, false≢true}
 use Rattle.kt_claim.specs.ResultFile.{limit}
-use Rattle.kt_claim.specs.ResultReading.{claim_of}
+use Rattle.kt_claim.specs.Inner.ResultReading.{claim_of}
 use Rattle.kt_claim.specs.ClaimReading.{Holds}
 use Rattle.kt_claim.specs.declared.claim.Claim.TheVariants.{Malformed}
 use Rattle.kt_claim.specs.declared.claim_fault.ClaimFault.TheVariants.{TooLong}

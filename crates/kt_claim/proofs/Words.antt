@@ -7,11 +7,12 @@ use Rattle.std.proofs.lemmas.Bool.Decides.{nat_tests}
 use Rattle.std.proofs.lemmas.List.{take-append-drop}
 use Rattle.kt_base.specs.Digits.{is_digit, up_to}
 use Rattle.kt_base.specs.Lossy.{lossy}
-use Rattle.kt_claim.specs.Bytes.{newline, is_newline, number}
+use Rattle.kt_base.specs.Lines.{is_newline}
+use Rattle.kt_claim.specs.Bytes.{newline, number}
 use Rattle.kt_claim.specs.ResultFile.{limit, IsReason, IsNumber, with_reason, with_number, Says, line, is, takes_number, is_known, has_bracket, closes, digits, after_digits, has_number, after_number, has_reason, fits_line, fits, fault_of, IsClaimOf}
-use Rattle.kt_claim.specs.ResultFile.{word as first_word, after_word as behind_word}
+use Rattle.kt_claim.specs.ResultFile.{word as first_word, after_word}
 use Rattle.kt_claim.specs.ResultFile as says
-use Rattle.kt_claim.specs.ResultReading.{claim_with, numbered, reason_in, with_reason_in, closed, value_of, number_in, with_number_in, may_have_number, after_bracket, plainly, after_word}
+use Rattle.kt_claim.specs.Inner.ResultReading.{claim_with, numbered, reason_in, with_reason_in, closed, value_of, number_in, with_number_in, may_have_number, after_bracket, plainly, claim_after}
 use Rattle.kt_claim.specs.declared.claim.Claim.{Claim}
 use Rattle.kt_claim.specs.declared.claim.Claim.TheVariants as claim
 use Rattle.kt_claim.specs.declared.claim_fault.ClaimFault.{ClaimFault}
@@ -42,7 +43,7 @@ plain_at false w rest more b k e parts may plain wants none = rw plain (reasoned
 
 pub plain_word : (w rest : List ℕ) (k : Word) → may_have_number k ≡ false → ((r : List ℕ) → plainly k r ≡ with_reason_in (claim_with k) (reason_in r))
     → Wanted w (claim_with k) → list_any is_newline rest ≡ false
-    → MatchOption (Rows true false false rest) (Says (w ++ (rest ++ newline)) (after_word k rest)) (λ g. after_word k rest ≡ claim.Malformed g)
+    → MatchOption (Rows true false false rest) (Says (w ++ (rest ++ newline)) (claim_after k rest)) (λ g. claim_after k rest ≡ claim.Malformed g)
 plain_word w [] k may plain wants none = plain []
 plain_word w (b ∷ more) k may plain wants none = plain_at (b == 40) w (b ∷ more) more b k refl refl may (plain (b ∷ more)) wants none
 
@@ -55,7 +56,7 @@ passed_at false rest more b e parts = refl
 pub positive : (b : ℕ) (more : List ℕ) → nat_lt 0 (length (b ∷ more)) ≡ true
 positive b more = lt-ltb 0 (length (b ∷ more)) (omega arith)
 
-pub passed_word : (rest : List ℕ) → MatchOption (Rows true false true rest) (Says (codes "passed" ++ (rest ++ newline)) (after_word word.Passed rest)) (λ g. after_word word.Passed rest ≡ claim.Malformed g)
+pub passed_word : (rest : List ℕ) → MatchOption (Rows true false true rest) (Says (codes "passed" ++ (rest ++ newline)) (claim_after word.Passed rest)) (λ g. claim_after word.Passed rest ≡ claim.Malformed g)
 passed_word [] = says.passed
 passed_word (b ∷ more) = rw (positive b more) (passed_at (b == 40) (b ∷ more) more b refl refl)
 
@@ -158,6 +159,6 @@ number_at false w more b k e may plain wants numbers none = rw plain (reasoned w
 
 pub number_word : (w rest : List ℕ) (k : Word) → may_have_number k ≡ true → ((r : List ℕ) → plainly k r ≡ with_reason_in (claim_with k) (reason_in r))
     → Wanted w (claim_with k) → WantedNumber w k → list_any is_newline rest ≡ false
-    → MatchOption (Rows true true false rest) (Says (w ++ (rest ++ newline)) (after_word k rest)) (λ g. after_word k rest ≡ claim.Malformed g)
+    → MatchOption (Rows true true false rest) (Says (w ++ (rest ++ newline)) (claim_after k rest)) (λ g. claim_after k rest ≡ claim.Malformed g)
 number_word w [] k may plain wants numbers none = plain []
 number_word w (b ∷ more) k may plain wants numbers none = number_at (b == 40) w more b k refl may (plain (b ∷ more)) wants numbers none

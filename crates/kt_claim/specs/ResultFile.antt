@@ -3,7 +3,8 @@ use Rattle.std.specs.Prelude.{◌≡◌, ℕ, ◌-◌, ◌<◌, ◌≤◌, ◌�
 use Rattle.std.specs.List.{prefix_len, starts_with, ends_with, list_any, list_all, find}
 use Rattle.kt_base.specs.Lossy.{lossy}
 use Rattle.kt_base.specs.Digits.{is_digit}
-use Rattle.kt_claim.specs.Bytes.{newline, is_newline, is_word_byte, number}
+use Rattle.kt_base.specs.Lines.{is_newline}
+use Rattle.kt_claim.specs.Bytes.{newline, is_word_byte, number}
 use Rattle.kt_claim.specs.declared.claim.Claim.{Claim}
 use Rattle.kt_claim.specs.declared.claim.Claim.TheVariants.{Malformed, Passed, Failed, Skipped, ExpectedFailure, ExpectedDeath, ExpectedTimeout, ExpectedExit, ExpectedSignal}
 use Rattle.kt_claim.specs.declared.claim_fault.ClaimFault.{ClaimFault}
@@ -82,7 +83,7 @@ abbrev pub closes : List ℕ → Bool
 closes [] = false
 closes (b ∷ rest) = b == 41
 
--- the digits behind the bracket
+-- the digits after the bracket
 abbrev pub digits : List ℕ → List ℕ
 digits rest = take (prefix_len is_digit (drop 1 rest)) (drop 1 rest)
 
@@ -118,7 +119,7 @@ fits file NoNewline = not (ends_with nat_eq file newline)
 fits file SeveralLines = list_any is_newline (line file)
 fits file fault = fits_line (word file) (after_word file) fault
 
--- the faults, in the order in which they are told
+-- the faults, the first that fits counts
 abbrev pub rows : List ClaimFault
 rows = TooLong ∷ Empty ∷ NoNewline ∷ SeveralLines ∷ UnknownWord ∷ BadNumber ∷ UnexpectedReason ∷ NoReason ∷ []
 

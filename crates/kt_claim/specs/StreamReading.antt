@@ -1,11 +1,12 @@
 -- What a reader of a TAP stream has read, as callers see it.
 use Rattle.std.specs.Prelude.{◌≡◌, ℕ, ◌<◌, ◌≤◌, ◌⊎◌, Bool, true, false, List, [], ◌++◌, length, Some}
-use Rattle.kt_claim.specs.TapStream.{limit, lines, without_return, trimmed, skip_reason, plan}
-use Rattle.kt_claim.specs.LineStates.{LineState, held_before}
-use Rattle.kt_claim.specs.TapReading.{HasLines}
+use Rattle.kt_base.specs.Lines.{lines}
+use Rattle.kt_claim.specs.TapStream.{limit, without_return, trimmed, skip_reason, plan}
+use Rattle.kt_claim.specs.Inner.LineStates.{LineState, held_before}
+use Rattle.kt_claim.specs.Inner.TapReading.{HasLines}
 use Rattle.kt_claim.specs.declared.tally.Tally.{Tally}
 
--- counts of the whole lines, and what is kept of the line that was begun
+-- counts of the whole lines, and what is kept of the open line
 pub record StreamReading : Type 0 where
   pub tally : Tally
   pub line : LineState
@@ -22,7 +23,7 @@ HoldsStream false reader fed = (reader.length ≡ length fed) × (length fed ≤
 abbrev pub HasStream : StreamReading → List ℕ → Type 0
 HasStream reader fed = (reader.failed ≡ false) × HoldsStream reader.too_long reader fed
 
--- of the line that was begun nothing is kept but the reason of a plan of no tests, as far as it came
+-- of the open line only the reason of a plan of no tests is kept, as far as it came
 abbrev pub KeepsLittle : LineState → List ℕ → Type 0
 KeepsLittle line fed =
     (line.kept ≡ [])

@@ -2,9 +2,11 @@
 use Rattle.std.specs.Prelude.{ℕ, Bool, true, false, not, ◌&&◌, ◌||◌, ◌==◌, nat_lt, if◌then◌else◌, List, [], ◌∷◌, map, length, drop, codes, Option, Some, None, is_some, option_map}
 use Rattle.std.specs.Char.{to_ascii_lowercase}
 use Rattle.std.specs.List.{list_any, filter, filter_map}
+use Rattle.std.specs.Option.{option_or}
 use Rattle.kt_base.specs.Digits.{is_digit, decimal_from}
 use Rattle.kt_base.specs.Lossy.{lossy}
-use Rattle.kt_claim.specs.Bytes.{is_newline, is_blank}
+use Rattle.kt_base.specs.Lines.{lines}
+use Rattle.kt_claim.specs.Bytes.{is_blank}
 use Rattle.kt_claim.specs.declared.tap.Tap.{Tap}
 use Rattle.kt_claim.specs.declared.tap.Tap.TheVariants.{Invalid, BailedOut, SkipAll, Counted}
 use Rattle.kt_claim.specs.declared.tap_fault.TapFault.TheVariants.{TooLong, NoPlan, SecondPlan, PlanDiffers}
@@ -14,16 +16,6 @@ abbrev pub limit : ℕ
 limit = 16777216
 
 -- ---- lines
-
--- a byte before the first of the lines
-abbrev pub onto : ℕ → List (List ℕ) → List (List ℕ)
-onto b [] = (b ∷ []) ∷ []
-onto b (line ∷ lines) = (b ∷ line) ∷ lines
-
--- the lines of a text; a last one without newline counts
-abbrev pub lines : List ℕ → List (List ℕ)
-lines [] = []
-lines (b ∷ text) = if is_newline b then [] ∷ lines text else onto b (lines text)
 
 -- a line without the carriage return at its end
 abbrev pub without_return : List ℕ → List ℕ
@@ -49,7 +41,7 @@ says [] text = true
 says (c ∷ word) [] = false
 says (c ∷ word) (b ∷ text) = to_ascii_lowercase b == c && says word text
 
--- a text from its first byte on that fails a test
+-- a text from its first byte that fails a test
 abbrev pub past : (ℕ → Bool) → List ℕ → List ℕ
 past test [] = []
 past test (b ∷ text) = if test b then past test text else b ∷ text
@@ -63,7 +55,7 @@ front test (b ∷ text) = if test b then b ∷ front test text else []
 abbrev pub not_blank : ℕ → Bool
 not_blank b = not (is_blank b)
 
--- a text up to its last byte that is no blank
+-- a text up to its last byte that isn't a blank
 abbrev pub trimmed : List ℕ → List ℕ
 trimmed [] = []
 trimmed (b ∷ rest) = if is_blank b && length (trimmed rest) == 0 then [] else b ∷ trimmed rest
@@ -79,11 +71,11 @@ abbrev pub is_gap : List ℕ → Bool
 is_gap [] = true
 is_gap (b ∷ rest) = is_blank b
 
--- a word at the beginning of a line, with a gap behind it
+-- a word at the beginning of a line, followed by a gap
 abbrev pub begins_with_word : List ℕ → List ℕ → Bool
 begins_with_word word line = begins word line && is_gap (drop (length word) line)
 
--- a test that failed
+-- a failed test
 abbrev pub is_not_ok : List ℕ → Bool
 is_not_ok line = begins_with_word (codes "not ok") line
 
@@ -108,25 +100,20 @@ directive_at text =
     else if says (codes "skip") text then Some (true, reason_of (drop 4 text))
     else None
 
--- the first of two, if it is there, else the second
-abbrev pub or_else : {T : Type 0} → Option T → Option T → Option T
-or_else None other = other
-or_else (Some x) other = Some x
-
 -- a hash that no backslash precedes, blanks, and a directive
-abbrev pub behind_hash : Bool → ℕ → List ℕ → Option Directive
-behind_hash escaped b rest = if b == 35 && not escaped then directive_at (past is_blank rest) else None
+abbrev pub after_hash : Bool → ℕ → List ℕ → Option Directive
+after_hash escaped b rest = if b == 35 && not escaped then directive_at (past is_blank rest) else None
 
 -- the first directive of a text, before which a backslash may stand
-abbrev pub directive_behind : Bool → List ℕ → Option Directive
-directive_behind escaped [] = None
-directive_behind escaped (b ∷ rest) = or_else (behind_hash escaped b rest) (directive_behind (b == 92) rest)
+abbrev pub directive_in : Bool → List ℕ → Option Directive
+directive_in escaped [] = None
+directive_in escaped (b ∷ rest) = option_or (after_hash escaped b rest) (directive_in (b == 92) rest)
 
 -- the directive of a line
 abbrev pub directive : List ℕ → Option Directive
-directive line = directive_behind false line
+directive line = directive_in false line
 
--- a test that failed, and no directive excuses it
+-- a failed test that no directive excuses
 abbrev pub is_unexcused : List ℕ → Bool
 is_unexcused line = is_not_ok line && not (is_some (directive line))
 
@@ -137,11 +124,11 @@ abbrev pub ends_plan : List ℕ → Bool
 ends_plan [] = true
 ends_plan (b ∷ rest) = b == 35
 
--- a number of tests, if so many may be planned
+-- a number of tests, if it may be planned
 abbrev pub below_limit : ℕ → Option ℕ
 below_limit n = if nat_lt n 1000000000 then Some n else None
 
--- the value of decimal digits behind those of a value; one digit or more
+-- the value of decimal digits that follow those of a value; one digit or more
 abbrev pub value_from : Option ℕ → List ℕ → Option ℕ
 value_from None [] = None
 value_from None (d ∷ digits) = below_limit (decimal_from 0 (d ∷ digits))
@@ -169,7 +156,7 @@ skip_reason (b ∷ reason) = lossy (b ∷ reason)
 abbrev pub why : ℕ → List ℕ → List ℕ
 why n reason = if n == 0 then skip_reason reason else []
 
--- a plan of so many tests, with the reason that is kept of it
+-- a plan of this many tests, with the reason that is kept of it
 abbrev pub plan_for : List ℕ → ℕ → ℕ × List ℕ
 plan_for reason n = (n, why n reason)
 
@@ -188,7 +175,7 @@ heard (line ∷ lines) = if is_bail line then [] else line ∷ heard lines
 abbrev pub count : (List ℕ → Bool) → List (List ℕ) → ℕ
 count test lines = length (filter test lines)
 
--- so many tests, where so many were planned
+-- the number of tests, compared with the number planned
 abbrev pub compared : ℕ → List ℕ → ℕ → ℕ → Tap
 compared planned reason tests failures =
     if not (planned == tests) then Invalid PlanDiffers

@@ -3,29 +3,29 @@ use crate::line_kind::LineKind;
 use crate::opening::Opening;
 use crate::purpose::Purpose;
 
-/// How far a line has come: what may still decide it.
+/// How much of a line was read: what may still decide it.
 #[derive(Clone, Copy, Debug)]
 pub enum Begun {
-    /// No byte of it came.
+    /// Nothing of it.
     Nothing,
-    /// It begins with a word, which lacks these bytes.
+    /// The beginning of a word that lacks these bytes.
     Opened(Opening, &'static [u8]),
-    /// The digits of a plan, with their value; at first there is none.
+    /// The digits of a plan, with their value; `None` before the first digit.
     Digits(Option<u64>),
-    /// Blanks behind the digits of a plan.
+    /// Blanks after the digits of a plan.
     Blanks(u64),
-    /// A directive may follow; the truth value tells that a backslash came last.
+    /// A directive may follow. `true` if the last byte was a backslash.
     Looking(Purpose, bool),
-    /// A hash, and blanks.
+    /// A hash, then blanks.
     Hash(Purpose),
     /// A hash, blanks, and the first letters of a directive.
     Lettered(Purpose, Letters),
-    /// The word of a directive that skips a program.
+    /// A directive that skips the program.
     Word,
-    /// Blanks behind that word.
+    /// Blanks after that word.
     Gap,
-    /// The reason behind them.
+    /// The reason after them.
     Reason,
-    /// Whatever follows, the line is this.
+    /// The line is of this kind, whatever follows.
     Decided(LineKind),
 }

@@ -1,6 +1,5 @@
 ghost use Rattle.std.specs.Prelude.{◌≡◌, IfOk};
 ghost use Rattle.kt_claim.specs.ResultFile.{IsClaimOf};
-ghost use Rattle.kt_claim.specs.ResultReading.{claim_of};
 ghost use Rattle.kt_claim.specs.declared.claim.Claim.{Claim};
 
 use crate::claim::Claim;
@@ -29,8 +28,7 @@ impl Model for ClaimReader {
     ghost view = { λ r. record {
       kept = r.bytes.items;
       too_long = r.too_long;
-      failed = is_some
-          r.failed;
+      failed = is_some r.failed;
     } };
 
     ghost invariant = { λ r. length r.bytes.items ≤ limit };
@@ -40,7 +38,7 @@ impl ClaimReader {
     ghost use Rattle.std.specs.Prelude.{◌≤◌, length, ◌≡◌, ℕ, List, [], ◌++◌, true, IfOk, OnOk, OnErr, IsErr};
     ghost use Rattle.kt_claim.specs.ClaimReading.{HasRead};
     ghost use Rattle.kt_claim.specs.ResultFile.{limit, IsClaimOf};
-    ghost use Rattle.kt_claim.specs.ResultReading.{claim_of};
+    ghost use Rattle.kt_claim.specs.Inner.ResultReading.{claim_of};
     ghost use Rattle.kt_claim.specs.declared.claim.Claim.{Claim};
 
     pub fn new(alloc: Global) -> Self
@@ -54,7 +52,7 @@ impl ClaimReader {
         }
     }
 
-    /// Takes the next piece. Once memory has run out, each later call answers so.
+    /// Takes the next piece. Once memory has run out, each later call returns that.
     pub fn feed(&mut self, piece: &[u8]) -> Result<(), NoMemory>
         ensures ok { OnOk result ((fed : List ℕ) → HasRead self.old fed
             → HasRead self.new (fed ++ piece.now)) }
@@ -97,8 +95,6 @@ impl ClaimReader {
             → IfOk result (λ claim. IsClaimOf fed claim) }
         ensures only { (fed : List ℕ) → HasRead self fed → (claim : Claim) → IsClaimOf fed claim
             → IfOk result (λ c. c ≡ claim) }
-        ensures read { (fed : List ℕ) → HasRead self fed
-            → IfOk result (λ claim. claim ≡ claim_of fed) }
         ensures failed { self.failed ≡ true → IsErr result }
     {
         self.read()
@@ -109,7 +105,6 @@ impl ClaimReader {
 pub fn read_claim(alloc: Global, file: &[u8]) -> Result<Claim, NoMemory>
     ensures value { IfOk result (λ claim. IsClaimOf file.now claim) }
     ensures only { (claim : Claim) → IsClaimOf file.now claim → IfOk result (λ c. c ≡ claim) }
-    ensures read { IfOk result (λ claim. claim ≡ claim_of file.now) }
 {
     let mut reader = ClaimReader::new(alloc);
     reader.feed(file)?;

@@ -2,7 +2,7 @@
 
 ghost use Rattle.std.specs.Prelude.{◌≡◌, None, [], ℕ, List, false, true};
 ghost use Rattle.kt_claim.specs.TapStream.{trimmed};
-ghost use Rattle.kt_claim.specs.LineStates.{behind_opening, directed, facts_of_kind, told, is_reason};
+ghost use Rattle.kt_claim.specs.Inner.LineStates.{after_opening, directed, facts_of_kind, facts_with, is_reason};
 
 use crate::begun::Begun;
 use crate::line_kind::LineKind;
@@ -10,7 +10,7 @@ use crate::line_steps::{LIMIT, is_blank};
 use crate::opening::Opening;
 use crate::purpose::Purpose;
 
-/// The text up to its last byte that is no blank.
+/// The text up to its last byte that isn't a blank.
 pub fn trimmed(text: &[u8]) -> &[u8]
     ensures { result.now ≡ trimmed text.now }
 {
@@ -24,9 +24,9 @@ pub fn trimmed(text: &[u8]) -> &[u8]
     rest
 }
 
-/// A line that is nothing but a word.
+/// A line that is only a word.
 fn lone(opening: Opening) -> LineKind
-    ensures { facts_of_kind result [] ≡ behind_opening opening [] }
+    ensures { facts_of_kind result [] ≡ after_opening opening [] }
 {
     match opening {
         Opening::BailOut => LineKind::Bail,
@@ -36,10 +36,10 @@ fn lone(opening: Opening) -> LineKind
     }
 }
 
-/// A line that began with a word and may lack some of it.
+/// A line that began with a word and may lack its end.
 fn opened(opening: Opening, lacks: &'static [u8]) -> LineKind
     ensures { (kept : List ℕ) → facts_of_kind result []
-        ≡ told (Begun.Opened opening lacks.entry) kept [] }
+        ≡ facts_with (Begun.Opened opening lacks.entry) kept [] }
 {
     if lacks.is_empty() {
         lone(opening)
@@ -49,7 +49,7 @@ fn opened(opening: Opening, lacks: &'static [u8]) -> LineKind
 }
 
 fn planned(tests: u64) -> LineKind
-    ensures { (kept : List ℕ) → facts_of_kind result [] ≡ told (Begun.Blanks tests) kept [] }
+    ensures { (kept : List ℕ) → facts_of_kind result [] ≡ facts_with (Begun.Blanks tests) kept [] }
 {
     if tests < LIMIT {
         LineKind::Plan(tests)
@@ -59,7 +59,7 @@ fn planned(tests: u64) -> LineKind
 }
 
 fn counted(value: Option<u64>) -> LineKind
-    ensures { (kept : List ℕ) → facts_of_kind result [] ≡ told (Begun.Digits value) kept [] }
+    ensures { (kept : List ℕ) → facts_of_kind result [] ≡ facts_with (Begun.Digits value) kept [] }
 {
     match value {
         None => LineKind::Other,
@@ -77,10 +77,10 @@ fn undirected(purpose: Purpose) -> LineKind
     }
 }
 
-/// What the line is; a reason that was begun is not looked at.
+/// The kind of the line; an open reason isn't looked at.
 pub fn ended(begun: Begun) -> LineKind
     ensures plain { is_reason begun ≡ false → (kept : List ℕ)
-        → facts_of_kind result [] ≡ told begun kept [] }
+        → facts_of_kind result [] ≡ facts_with begun kept [] }
     ensures reason { is_reason begun ≡ true → result ≡ LineKind.Plan 0 }
 {
     match begun {

@@ -1,11 +1,11 @@
-/// What a line of a TAP stream is. A test that failed and has a directive counts as a test.
+/// The kind of a line of a TAP stream. A failed test with a directive counts as a test.
 #[derive(Clone, Copy, Debug)]
 pub enum LineKind {
     Other,
     Bail,
     Test,
-    /// A test that failed, and no directive excuses it.
+    /// A failed test that no directive excuses.
     Failure,
-    /// A plan of so many tests.
+    /// A plan of this many tests.
     Plan(u64),
 }

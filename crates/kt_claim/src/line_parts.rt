@@ -1,7 +1,7 @@
 //! The parts in which a line comes.
 
 ghost use Rattle.std.specs.Prelude.{◌≡◌, ◌∷◌, ◌++◌, ℕ, List, [], IfOk, OnOk};
-ghost use Rattle.kt_claim.specs.LineStates.{told, is_kept, is_decided, KeepsFor, Knows, Released};
+ghost use Rattle.kt_claim.specs.Inner.LineStates.{facts_with, is_kept, is_decided, KeepsFor, Knows, Released};
 
 use crate::begun::Begun;
 use crate::line_steps::{is_blank, step};
@@ -24,11 +24,11 @@ fn is_decided(begun: Begun) -> bool
     matches!(begun, Begun::Decided(_))
 }
 
-/// What a part makes of the line. A line that is decided is not looked at any more.
+/// The state of the line after a part. A decided line isn't looked at any more.
 fn take_in(begun: Begun, kept: &mut Vec<u8>, part: &[u8]) -> Result<Begun, NoMemory>
     ensures { IfOk result (λ after. KeepsFor begun kept.old.items → KeepsFor after kept.new.items
-        × ((more : List ℕ) → told begun kept.old.items (part.now ++ more)
-        ≡ told after kept.new.items more)) }
+        × ((more : List ℕ) → facts_with begun kept.old.items (part.now ++ more)
+        ≡ facts_with after kept.new.items more)) }
 {
     let mut state = begun;
     let mut rest = part;
@@ -58,7 +58,7 @@ fn release(begun: Begun, kept: &mut Vec<u8>, held: bool) -> Result<Begun, NoMemo
     }
 }
 
-/// Takes the next part of a line, in which there is no newline.
+/// Takes the next part of a line, which has no newline.
 pub fn go_on(line: &mut OpenLine, part: &[u8]) -> Result<(), NoMemory>
     ensures { OnOk result ((came : List ℕ)
         → Knows line.old.begun line.old.kept.items line.old.held came

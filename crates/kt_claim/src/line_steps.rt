@@ -4,8 +4,8 @@ ghost use Rattle.std.specs.Prelude.{◌≡◌, [], ◌∷◌, ℕ, List, false, 
 ghost use Rattle.std.specs.Prelude.{true, ◌<◌, ◌^◌, ◌-◌};
 ghost use Rattle.kt_base.specs.Digits.{is_digit};
 ghost use Rattle.kt_claim.specs.Bytes.{is_blank};
-ghost use Rattle.kt_claim.specs.TapStream.{directive_behind, planned_from, below_limit, reason_of, skips, plan_for};
-ghost use Rattle.kt_claim.specs.LineStates.{facts_of, planning, behind_opening, opened, directed, begun_directive, told, is_kept, is_reason, next_letter, with_letter};
+ghost use Rattle.kt_claim.specs.TapStream.{directive_in, planned_from, below_limit, reason_of, skips, plan_for};
+ghost use Rattle.kt_claim.specs.Inner.LineStates.{facts_of, planning, after_opening, opened, directed, begun_directive, facts_with, is_kept, is_reason, next_letter, with_letter};
 
 use crate::begun::Begun;
 use crate::letters::Letters;
@@ -14,7 +14,7 @@ use crate::opening::Opening;
 use crate::purpose::Purpose;
 use kt_base::is_digit;
 
-/// A plan has fewer tests.
+/// A plan has fewer tests than this.
 pub const LIMIT: u64 = 1_000_000_000;
 
 pub fn is_blank(b: u8) -> bool
@@ -23,9 +23,9 @@ pub fn is_blank(b: u8) -> bool
     matches!(b, b' ' | b'\t')
 }
 
-/// The first byte of a line.
+/// The state after the first byte of a line.
 fn first(b: u8) -> Begun
-    ensures told { (kept more : List ℕ) → told result kept more ≡ facts_of (b ∷ more) }
+    ensures facts { (kept more : List ℕ) → facts_with result kept more ≡ facts_of (b ∷ more) }
     ensures plain { is_reason result ≡ false }
 {
     match b {
@@ -38,7 +38,7 @@ fn first(b: u8) -> Begun
 }
 
 fn found(purpose: Purpose, is_skip: bool) -> Begun
-    ensures told { (kept more : List ℕ) → told result kept more
+    ensures facts { (kept more : List ℕ) → facts_with result kept more
         ≡ directed purpose (Some (is_skip, reason_of more)) }
     ensures plain { is_reason result ≡ false }
 {
@@ -50,8 +50,8 @@ fn found(purpose: Purpose, is_skip: bool) -> Begun
 }
 
 fn looking(purpose: Purpose, escaped: bool, b: u8) -> Begun
-    ensures told { (kept more : List ℕ) → told result kept more
-        ≡ directed purpose (directive_behind escaped (b ∷ more)) }
+    ensures facts { (kept more : List ℕ) → facts_with result kept more
+        ≡ directed purpose (directive_in escaped (b ∷ more)) }
     ensures plain { is_reason result ≡ false }
 {
     if b == b'#' && !escaped {
@@ -61,9 +61,9 @@ fn looking(purpose: Purpose, escaped: bool, b: u8) -> Begun
     }
 }
 
-fn behind_hash(purpose: Purpose, b: u8) -> Begun
-    ensures told { (kept more : List ℕ) → told result kept more
-        ≡ told (Begun.Hash purpose) kept (b ∷ more) }
+fn after_hash(purpose: Purpose, b: u8) -> Begun
+    ensures facts { (kept more : List ℕ) → facts_with result kept more
+        ≡ facts_with (Begun.Hash purpose) kept (b ∷ more) }
     ensures plain { is_reason result ≡ false }
 {
     if is_blank(b) {
@@ -89,9 +89,9 @@ fn next_letter(letters: Letters) -> u8
     }
 }
 
-/// One letter more.
+/// One more letter.
 fn more_letters(purpose: Purpose, letters: Letters) -> Begun
-    ensures told { (kept more : List ℕ) → told result kept more ≡ with_letter purpose letters more }
+    ensures facts { (kept more : List ℕ) → facts_with result kept more ≡ with_letter purpose letters more }
     ensures plain { is_reason result ≡ false }
 {
     match letters {
@@ -104,9 +104,9 @@ fn more_letters(purpose: Purpose, letters: Letters) -> Begun
     }
 }
 
-fn behind_letters(purpose: Purpose, letters: Letters, b: u8) -> Begun
-    ensures told { (kept more : List ℕ) → told result kept more
-        ≡ told (Begun.Lettered purpose letters) kept (b ∷ more) }
+fn after_letters(purpose: Purpose, letters: Letters, b: u8) -> Begun
+    ensures facts { (kept more : List ℕ) → facts_with result kept more
+        ≡ facts_with (Begun.Lettered purpose letters) kept (b ∷ more) }
     ensures plain { is_reason result ≡ false }
 {
     if b.to_ascii_lowercase() == next_letter(letters) {
@@ -116,10 +116,10 @@ fn behind_letters(purpose: Purpose, letters: Letters, b: u8) -> Begun
     }
 }
 
-/// The hash behind a plan of so many tests. A plan of no tests may have a reason.
+/// The hash after a plan of this many tests. A plan of no tests may have a reason.
 fn hash_of_plan(tests: u64) -> Begun
-    ensures told { (kept more : List ℕ) → told result kept more
-        ≡ planning (option_map (plan_for (skips (directive_behind false (35 ∷ more))))
+    ensures facts { (kept more : List ℕ) → facts_with result kept more
+        ≡ planning (option_map (plan_for (skips (directive_in false (35 ∷ more))))
         (below_limit tests)) }
     ensures plain { is_reason result ≡ false }
 {
@@ -132,9 +132,9 @@ fn hash_of_plan(tests: u64) -> Begun
     }
 }
 
-fn behind_blanks(tests: u64, b: u8) -> Begun
-    ensures told { (kept more : List ℕ) → told result kept more
-        ≡ told (Begun.Blanks tests) kept (b ∷ more) }
+fn after_blanks(tests: u64, b: u8) -> Begun
+    ensures facts { (kept more : List ℕ) → facts_with result kept more
+        ≡ facts_with (Begun.Blanks tests) kept (b ∷ more) }
     ensures plain { is_reason result ≡ false }
 {
     if is_blank(b) {
@@ -148,8 +148,8 @@ fn behind_blanks(tests: u64, b: u8) -> Begun
 
 fn one_digit_more(value: u64, digit: u64) -> Begun
     requires { digit < 2 ^ 8 }
-    ensures told { (b : ℕ) → is_digit b ≡ true → digit ≡ b - 48 → (kept more : List ℕ)
-        → told result kept more ≡ told (Begun.Digits (Some value)) kept (b ∷ more) }
+    ensures facts { (b : ℕ) → is_digit b ≡ true → digit ≡ b - 48 → (kept more : List ℕ)
+        → facts_with result kept more ≡ facts_with (Begun.Digits (Some value)) kept (b ∷ more) }
     ensures plain { is_reason result ≡ false }
 {
     if value < LIMIT {
@@ -160,8 +160,8 @@ fn one_digit_more(value: u64, digit: u64) -> Begun
 }
 
 fn with_digit(value: Option<u64>, b: u8) -> Begun
-    ensures told { is_digit b ≡ true → (kept more : List ℕ)
-        → told result kept more ≡ told (Begun.Digits value) kept (b ∷ more) }
+    ensures facts { is_digit b ≡ true → (kept more : List ℕ)
+        → facts_with result kept more ≡ facts_with (Begun.Digits value) kept (b ∷ more) }
     ensures plain { is_reason result ≡ false }
 {
     let digit = b.saturating_sub(b'0') as u64;
@@ -171,9 +171,9 @@ fn with_digit(value: Option<u64>, b: u8) -> Begun
     }
 }
 
-fn behind_digits(value: Option<u64>, b: u8) -> Begun
-    ensures told { (kept more : List ℕ) → told result kept more
-        ≡ told (Begun.Digits value) kept (b ∷ more) }
+fn after_plan_digits(value: Option<u64>, b: u8) -> Begun
+    ensures facts { (kept more : List ℕ) → facts_with result kept more
+        ≡ facts_with (Begun.Digits value) kept (b ∷ more) }
     ensures plain { is_reason result ≡ false }
 {
     if is_digit(b) {
@@ -181,50 +181,50 @@ fn behind_digits(value: Option<u64>, b: u8) -> Begun
     }
     match value {
         None => Begun::Decided(LineKind::Other),
-        Some(tests) => behind_blanks(tests, b),
+        Some(tests) => after_blanks(tests, b),
     }
 }
 
-fn behind_opening(opening: Opening, b: u8) -> Begun
-    ensures told { (kept more : List ℕ) → told result kept more
-        ≡ behind_opening opening (b ∷ more) }
+fn after_opening(opening: Opening, b: u8) -> Begun
+    ensures facts { (kept more : List ℕ) → facts_with result kept more
+        ≡ after_opening opening (b ∷ more) }
     ensures plain { is_reason result ≡ false }
 {
     match opening {
         Opening::BailOut => Begun::Decided(LineKind::Bail),
         Opening::Ok if is_blank(b) => Begun::Decided(LineKind::Test),
         Opening::NotOk if is_blank(b) => Begun::Looking(Purpose::Excuse, false),
-        Opening::Plan => behind_digits(None, b),
+        Opening::Plan => after_plan_digits(None, b),
         Opening::Ok | Opening::NotOk => Begun::Decided(LineKind::Other),
     }
 }
 
 fn opened(opening: Opening, lacks: &'static [u8], b: u8) -> Begun
-    ensures told { (kept more : List ℕ) → told result kept more
-        ≡ told (Begun.Opened opening lacks.entry) kept (b ∷ more) }
+    ensures facts { (kept more : List ℕ) → facts_with result kept more
+        ≡ facts_with (Begun.Opened opening lacks.entry) kept (b ∷ more) }
     ensures plain { is_reason result ≡ false }
 {
     match lacks.split_first() {
-        None => behind_opening(opening, b),
+        None => after_opening(opening, b),
         Some((c, lacks)) if *c == b => Begun::Opened(opening, lacks),
         Some(_) => Begun::Decided(LineKind::Other),
     }
 }
 
-/// What one more byte makes of a line, unless the byte is one of a reason.
+/// The state of a line after one more byte, unless the byte belongs to a reason.
 pub fn step(begun: Begun, b: u8) -> Begun
-    ensures told { is_kept begun b ≡ false → (kept more : List ℕ)
-        → told result kept more ≡ told begun kept (b ∷ more) }
+    ensures facts { is_kept begun b ≡ false → (kept more : List ℕ)
+        → facts_with result kept more ≡ facts_with begun kept (b ∷ more) }
     ensures kept { is_reason result ≡ is_reason begun }
 {
     match begun {
         Begun::Nothing => first(b),
         Begun::Opened(opening, lacks) => opened(opening, lacks, b),
-        Begun::Digits(value) => behind_digits(value, b),
-        Begun::Blanks(tests) => behind_blanks(tests, b),
+        Begun::Digits(value) => after_plan_digits(value, b),
+        Begun::Blanks(tests) => after_blanks(tests, b),
         Begun::Looking(purpose, escaped) => looking(purpose, escaped, b),
-        Begun::Hash(purpose) => behind_hash(purpose, b),
-        Begun::Lettered(purpose, letters) => behind_letters(purpose, letters, b),
+        Begun::Hash(purpose) => after_hash(purpose, b),
+        Begun::Lettered(purpose, letters) => after_letters(purpose, letters, b),
         Begun::Word if is_blank(b) => Begun::Gap,
         Begun::Word => Begun::Word,
         Begun::Gap => Begun::Gap,

@@ -1,6 +1,6 @@
 use crate::begun::Begun;
 
-/// A line that was begun. Of its bytes none is kept but those of a plan's reason.
+/// An open line. Of its bytes only those of a plan's reason are kept.
 #[derive(Debug, Drop)]
 pub struct OpenLine {
     pub begun: Begun,

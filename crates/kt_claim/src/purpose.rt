@@ -1,4 +1,4 @@
-/// What a directive is looked for.
+/// Why a directive is looked for.
 #[derive(Clone, Copy, Debug)]
 pub enum Purpose {
     /// To excuse a test that failed.

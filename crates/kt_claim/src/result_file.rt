@@ -1,7 +1,7 @@
 //! The reading of a result file.
 
 ghost use Rattle.std.specs.Prelude.{◌≡◌, IfOk};
-ghost use Rattle.kt_claim.specs.ResultReading.{claim_of};
+ghost use Rattle.kt_claim.specs.Inner.ResultReading.{claim_of};
 
 use crate::claim::Claim;
 use crate::claim_fault::ClaimFault;
@@ -13,7 +13,7 @@ use std::alloc::Global;
 pub const LIMIT: usize = 65_536;
 
 /// The claim of a file.
-#[tactic(auto, unfolding(crate::specs::ResultReading::claim_of))]
+#[tactic(auto, unfolding(crate::specs::Inner::ResultReading::claim_of))]
 pub fn claim_of(alloc: Global, file: &[u8]) -> Result<Claim, NoMemory>
     ensures { IfOk result (λ claim. claim ≡ claim_of file.now) }
 {

@@ -3,7 +3,7 @@
 ghost use Rattle.std.specs.Prelude.{◌≡◌, ◌≤◌, ◌<◌, length, IfOk, IfSome, MatchOption, option_map};
 ghost use Rattle.std.specs.List.{prefix_len};
 ghost use Rattle.kt_claim.specs.Bytes.{is_word_byte};
-ghost use Rattle.kt_claim.specs.ResultReading.{value_of, number_in, reason_in, with_reason_in, with_number_in, numbered, claim_with, after_bracket, plainly, after_word, claim_of_line};
+ghost use Rattle.kt_claim.specs.Inner.ResultReading.{value_of, number_in, reason_in, with_reason_in, with_number_in, numbered, claim_with, after_bracket, plainly, claim_after, claim_of_line};
 
 use crate::claim::Claim;
 use crate::claim_fault::ClaimFault;
@@ -35,8 +35,8 @@ fn value_of(digits: &[u8]) -> Option<u8>
     Some(value as u8)
 }
 
-/// The number behind a bracket, and what follows the bracket that closes it.
-#[tactic(auto, unfolding(crate::specs::ResultReading::number_in))]
+/// The number after a bracket, and what follows the closing bracket.
+#[tactic(auto, unfolding(crate::specs::Inner::ResultReading::number_in))]
 fn number(rest: &[u8]) -> Option<(u8, &[u8])>
     ensures { option_map (λ x. (x.0, x.1.now)) result ≡ number_in rest.now }
 {
@@ -116,8 +116,8 @@ fn plainly(alloc: Global, word: Word, rest: &[u8]) -> Result<Claim, NoMemory>
     Ok(claim_with(word, lossy(alloc, reason)?))
 }
 
-fn after_word(alloc: Global, word: Word, rest: &[u8]) -> Result<Claim, NoMemory>
-    ensures { IfOk result (λ claim. claim ≡ after_word word rest.now) }
+fn claim_after(alloc: Global, word: Word, rest: &[u8]) -> Result<Claim, NoMemory>
+    ensures { IfOk result (λ claim. claim ≡ claim_after word rest.now) }
 {
     let Some((b, after)) = rest.split_first() else {
         return plainly(alloc, word, rest);
@@ -130,7 +130,7 @@ fn after_word(alloc: Global, word: Word, rest: &[u8]) -> Result<Claim, NoMemory>
 }
 
 /// The claim of a line.
-#[tactic(auto, unfolding(crate::specs::ResultReading::claim_of_line))]
+#[tactic(auto, unfolding(crate::specs::Inner::ResultReading::claim_of_line))]
 pub fn claim_of_line(alloc: Global, text: &[u8]) -> Result<Claim, NoMemory>
     ensures { IfOk result (λ claim. claim ≡ claim_of_line text.now) }
 {
@@ -138,5 +138,5 @@ pub fn claim_of_line(alloc: Global, text: &[u8]) -> Result<Claim, NoMemory>
     let Some(word) = Word::of(word) else {
         return Ok(Claim::Malformed(ClaimFault::UnknownWord));
     };
-    after_word(alloc, word, rest)
+    claim_after(alloc, word, rest)
 }

@@ -1,7 +1,7 @@
 ghost use Rattle.std.specs.Prelude.{◌≡◌, ◌<◌, ◌^◌, ◌++◌, [], ◌∷◌, ℕ, List, true, false, length, IfOk};
 ghost use Rattle.std.specs.Prelude.{◌+◌};
 ghost use Rattle.kt_claim.specs.TapStream.{skip_reason, why, tap_of_lines};
-ghost use Rattle.kt_claim.specs.LineStates.{facts_of, facts_of_kind};
+ghost use Rattle.kt_claim.specs.Inner.LineStates.{facts_of, facts_of_kind};
 
 use crate::line_kind::LineKind;
 use crate::tap::Tap;
@@ -48,7 +48,7 @@ fn one_more(n: u64) -> u64
 }
 
 impl Tally {
-    ghost use Rattle.kt_claim.specs.TapReading.{IsTally, with_plan};
+    ghost use Rattle.kt_claim.specs.Inner.TapReading.{IsTally, with_plan};
 
     pub fn new() -> Tally
         ensures { IsTally result [] }
@@ -103,8 +103,8 @@ impl Tally {
         Ok(Tally { plan, ..self })
     }
 
-    /// Counts one more line of this kind; the reason is that of a plan of no tests. Lines behind a
-    /// bail out don't count.
+    /// Counts one more line of this kind; `reason` is that of a plan of no tests. Lines after a bail
+    /// out don't count.
     pub fn add(self, alloc: Global, kind: LineKind, reason: &[u8]) -> Result<Tally, NoMemory>
         ensures { IfOk result (λ after. (line : List ℕ) (lines : List (List ℕ))
             → facts_of line ≡ facts_of_kind kind reason.now → length lines < 2 ^ 32
@@ -122,7 +122,7 @@ impl Tally {
         }
     }
 
-    /// What the lines say.
+    /// The answer of the lines that were counted.
     pub fn tap(self) -> Tap
         ensures { (lines : List (List ℕ)) → IsTally self lines → result ≡ tap_of_lines lines }
     {

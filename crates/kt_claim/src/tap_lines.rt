@@ -1,10 +1,10 @@
 //! The lines of a TAP stream that comes in pieces.
 
-ghost use Rattle.std.specs.Prelude.{◌≡◌, ◌<◌, ◌≤◌, ◌+◌, ◌++◌, ◌∷◌, [], not, false, ℕ, List, length, IfOk, OnOk};
-ghost use Rattle.std.specs.List.{list_any, prefix_len};
-ghost use Rattle.kt_claim.specs.Bytes.{is_newline};
+ghost use Rattle.std.specs.Prelude.{◌≡◌, ◌<◌, ◌≤◌, ◌+◌, ◌++◌, ◌∷◌, [], false, ℕ, List, length, IfOk, OnOk};
+ghost use Rattle.std.specs.List.{list_any};
+ghost use Rattle.kt_base.specs.Lines.{is_newline};
 ghost use Rattle.kt_claim.specs.TapStream.{limit, tap_of_lines, lines_of};
-ghost use Rattle.kt_claim.specs.TapReading.{state_of, HasLines};
+ghost use Rattle.kt_claim.specs.Inner.TapReading.{state_of, HasLines};
 ghost use Rattle.kt_claim.specs.declared.tally.Tally.{Tally};
 
 use crate::begun::Begun;
@@ -13,17 +13,10 @@ use crate::line_parts::go_on;
 use crate::open_line::OpenLine;
 use crate::tally::Tally;
 use crate::tap::Tap;
-use kt_base::NoMemory;
+use kt_base::{NoMemory, line_length};
 use std::alloc::Global;
 
-fn line_length(text: &[u8]) -> usize
-    ensures value { result ≡ prefix_len (λ b. not (is_newline b)) text.now }
-    ensures within { result ≤ length text.now }
-{
-    text.iter().take_while(|b| **b != b'\n').count()
-}
-
-/// Goes on with the line that was begun.
+/// Takes the next part of the open line.
 fn take_part(line: &mut OpenLine, part: &[u8]) -> Result<(), NoMemory>
     ensures { OnOk result (list_any is_newline part.now ≡ false → (tally : Tally) (fed : List ℕ)
         → HasLines tally (state_of line.old) fed
@@ -33,7 +26,7 @@ fn take_part(line: &mut OpenLine, part: &[u8]) -> Result<(), NoMemory>
     Ok(())
 }
 
-/// Counts the line that was begun and now has its newline.
+/// Counts the open line, which now has its newline.
 fn end_line(alloc: Global, tally: Tally, line: &mut OpenLine) -> Result<Tally, NoMemory>
     ensures { IfOk result (λ after. (fed : List ℕ) → length fed < limit
         → HasLines tally (state_of line.old) fed
@@ -46,7 +39,7 @@ fn end_line(alloc: Global, tally: Tally, line: &mut OpenLine) -> Result<Tally, N
     Ok(after)
 }
 
-/// What the lines say, the last one too.
+/// The answer of the lines, the last one included.
 pub fn tap_at_end(alloc: Global, tally: Tally, line: &OpenLine) -> Result<Tap, NoMemory>
     ensures { IfOk result (λ tap. (fed : List ℕ) → length fed ≤ limit
         → HasLines tally (state_of line.now) fed → tap ≡ tap_of_lines (lines_of fed)) }
@@ -55,7 +48,7 @@ pub fn tap_at_end(alloc: Global, tally: Tally, line: &OpenLine) -> Result<Tap, N
     Ok(tally.tap())
 }
 
-/// Counts the lines that end in a piece, and begins the last.
+/// Counts the lines that end in a piece, and keeps the beginning of the next.
 pub fn read(
     alloc: Global,
     tally: Tally,

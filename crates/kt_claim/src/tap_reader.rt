@@ -15,8 +15,8 @@ use std::mem;
 /// The most bytes of a stream.
 const LIMIT: usize = 16_777_216;
 
-/// Reads a TAP stream that comes in pieces. It keeps counts, the first plan, and of the line that
-/// was begun how far it has come; no bytes but those of a plan's reason.
+/// Reads a TAP stream that comes in pieces. It keeps counts, the first plan and the state of the
+/// open line, but no bytes other than the reason of a plan.
 #[derive(Drop)]
 pub struct TapReader {
     alloc: Global,
@@ -30,7 +30,7 @@ pub struct TapReader {
 impl Model for TapReader {
     ghost use Rattle.std.specs.Prelude.{◌≤◌, is_some};
     ghost use Rattle.kt_claim.specs.StreamReading.{StreamReading};
-    ghost use Rattle.kt_claim.specs.TapReading.{state_of};
+    ghost use Rattle.kt_claim.specs.Inner.TapReading.{state_of};
     ghost use Rattle.kt_claim.specs.TapStream.{limit};
 
     ghost Value = { StreamReading };
@@ -69,7 +69,7 @@ impl TapReader {
         }
     }
 
-    /// Takes the next piece. Once memory has run out, each later call answers so.
+    /// Takes the next piece. Once memory has run out, each later call returns that.
     pub fn feed(&mut self, piece: &[u8]) -> Result<(), NoMemory>
         ensures ok { OnOk result ((fed : List ℕ) → HasStream self.old fed
             → HasStream self.new (fed ++ piece.now)) }

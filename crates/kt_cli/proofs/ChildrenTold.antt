@@ -3,7 +3,7 @@ use Rattle.std.proofs.Common.{◌≡◌, ◌∙◌, ℕ, List, [], ◌∷◌, �
 use Rattle.kt_sched.specs.declared.job.Job.{Job}
 use Rattle.kt_sched.specs.Plan.{IsPlan}
 use Rattle.kt_sched.specs.Trace.{Trace, NoEvent, Leads}
-use Rattle.kt_suite.specs.Answers.{Chain}
+use Rattle.kt_base.specs.Chains.{Chain}
 use Rattle.kt_child.specs.Driving.ChildrenState.{ChildrenState, idle_state}
 use Rattle.kt_child.specs.System.Calls.{Call}
 use Rattle.kt_child.specs.Driving.Numbers.{IsBare}
@@ -31,7 +31,7 @@ means_runs seen _ _ _ (reported options kinds verbose bytes exit unasked r) = in
 means_runs seen _ _ _ (reported_junit options bytes exit unasked r) = inr unasked.trace
 
 cut_runs : (seen : Seen) (c : Command) (bytes : List ℕ) (exit : ℕ) → CutShort seen c bytes exit → Runs seen
-cut_runs seen _ _ _ (no_memory c options e alone) = inr alone.trace
+cut_runs seen _ _ _ (no_memory c options e _ alone) = inr alone.trace
 cut_runs seen _ _ _ (cut options file picked moment bytes exit prepared t) = inl (plan_fits picked.settings.config prepared.host picked.chosen.cases seen.plan prepared.planned)
 cut_runs seen _ _ _ (report_cut options kinds verbose bytes exit unasked u) = inr unasked.trace
 cut_runs seen _ _ _ (junit_cut options bytes exit unasked u) = inr unasked.trace
@@ -46,7 +46,7 @@ is_bare b e = subst IsBare (sym e) (refl, refl, refl)
 
 module _ {O : Type 0} (leads : O → Call → O → Type 0) where
   -- no question changes what runs
-  all_running_kept : (qs : List Question) (old new : Runner O) → Chain (leads_by IsLook (IsHostAnswer leads)) qs old new → new.driver.running ≡ old.driver.running
+  all_running_kept : (qs : List Question) (old new : Runner O) → Chain (leads_by IsLook (IsHostAnswer leads)) old qs new → new.driver.running ≡ old.driver.running
   all_running_kept [] old new h = ap (λ (r : Runner O). r.driver.running) h
   all_running_kept (OfTree asked ∷ qs) old new h = all_running_kept qs h.0 new h.2 ∙ ap (λ (r : Runner O). r.driver.running) h.1.0
   all_running_kept (OfHost told ∷ qs) old new h = all_running_kept qs h.0 new h.2 ∙ running_kept leads old h.0 told h.1

@@ -11,8 +11,9 @@ use Rattle.kt_sched.specs.EntryOf.{Gains, AreEntries}
 use Rattle.kt_sched.specs.RecordOrder.{recorded as record_order}
 use Rattle.kt_sched.specs.Run.{EndsAs}
 use Rattle.kt_sched.specs.Trace.{Trace}
-use Rattle.kt_cli.specs.Debugging.{Prints, debug_bytes, all_debug_bytes, DebugEnds}
-use Rattle.kt_cli.specs.Pages.{Says}
+use Rattle.kt_cli.specs.Inner.Debugging.{Prints, DebugEnds}
+use Rattle.kt_cli.specs.Debugging.{debug_bytes, all_debug_bytes}
+use Rattle.kt_cli.specs.Inner.Pages.{Says}
 use Rattle.kt_cli.proofs.Gainings.{all_entries}
 use Rattle.kt_cli.proofs.Saying.{tells_both, tells_nothing}
 

@@ -14,9 +14,9 @@ use Rattle.kt_sched.specs.RecordOrder.{recorded}
 use Rattle.kt_sched.specs.Run.{EndsAs}
 use Rattle.kt_sched.specs.Trace.{Trace}
 use Rattle.kt_store.specs.StoreCalls.{StoreCall, Put}
-use Rattle.kt_cli.specs.Pages.{Says}
-use Rattle.kt_cli.specs.Recording.{Recorded}
-use Rattle.kt_cli.specs.Recordings.{RecordEnds}
+use Rattle.kt_cli.specs.Inner.Pages.{Says}
+use Rattle.kt_cli.specs.Inner.Recording.{Recorded}
+use Rattle.kt_cli.specs.Inner.Recordings.{RecordEnds}
 use Rattle.kt_cli.specs.Stores.{Stored, puts}
 use Rattle.kt_cli.specs.Totals.{lines}
 use Rattle.kt_cli.proofs.Saying.{tells_both, tells_nothing}

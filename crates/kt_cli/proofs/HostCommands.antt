@@ -12,7 +12,8 @@ use Rattle.kt_words.specs.declared.report_options.ReportOptions.{ReportOptions}
 use Rattle.kt_cli.specs.declared.surroundings.Surroundings.{Surroundings}
 use Rattle.kt_words.specs.Commands.{cases_of}
 use Rattle.kt_cli.specs.Hosts.{OnDriver, DidWith, DidOnHost}
-use Rattle.kt_cli.specs.Reports.{Reported, ReportedJunit, Unread, JunitOrUnread, DidReport}
+use Rattle.kt_cli.specs.Inner.Reports.{JunitOrUnread, DidReport}
+use Rattle.kt_cli.specs.Reports.{Reported, ReportedJunit, Unread}
 use Rattle.kt_cli.proofs.Testings.{did_report, did_junit}
 
 module _ {O R : Type 0} (leads : O → Call → O → Type 0) (os : O) (around : Surroundings) (Answers : R → StoreCall → R → Type 0) (Stands : R → List Run → Type 0) (Sound : R → Type 0) (Leaves : R → List (List Run) → Type 0) (c : Command) (store after : R) (was now : Option (List ℕ)) (exit : ℕ) where

@@ -8,7 +8,8 @@ use Rattle.kt_sched.specs.declared.start_answer.StartAnswer.{StartAnswer}
 use Rattle.kt_sched.specs.declared.ended.Ended.{Ended}
 use Rattle.kt_sched.specs.Trace.{Trace, NoEvent, Then, Start, End, Leads}
 use Rattle.kt_store.specs.StoreCalls.{StoreCall}
-use Rattle.kt_suite.specs.Answers.{Asked, Chain}
+use Rattle.kt_base.specs.Chains.{Chain}
+use Rattle.kt_suite.specs.Answers.{Asked}
 use Rattle.kt_words.specs.declared.command.Command.{Command}
 use Rattle.kt_cli.specs.Meaning.{Did}
 use Rattle.kt_plan.specs.Questions.{Question, OfTree, OfHost, leads_by}
@@ -16,7 +17,7 @@ use Rattle.kt_plan.specs.Told.{Told}
 
 module _ {W L : Type 0} (seen : W → L) (asks : L → Asked → L → Type 0) (tells : L → Told → L → Type 0) (starts : L → Job → Role → StartAnswer → L → Type 0) (waits : L → Ended → L → Type 0) where
   -- answers by what is seen of a state lead it along
-  along : (qs : List Question) (a b : W) → Chain (leads_by (λ s q t. asks (seen s) q (seen t)) (λ s q t. tells (seen s) q (seen t))) qs a b → Chain (leads_by asks tells) qs (seen a) (seen b)
+  along : (qs : List Question) (a b : W) → Chain (leads_by (λ s q t. asks (seen s) q (seen t)) (λ s q t. tells (seen s) q (seen t))) a qs b → Chain (leads_by asks tells) (seen a) qs (seen b)
   along [] a b h = ap seen h
   along (OfTree q ∷ qs) a b h = (seen h.0, h.1, along qs h.0 b h.2)
   along (OfHost q ∷ qs) a b h = (seen h.0, h.1, along qs h.0 b h.2)

@@ -2,7 +2,6 @@ pub mod ChildrenTold
 pub mod Answering
 pub mod ChosenRuns
 pub mod DebugRuns
-pub mod FaultWords
 pub mod Gainings
 pub mod HostCommands
 pub mod Hosting
@@ -11,7 +10,6 @@ pub mod LineBytes
 pub mod MemoryLaws
 pub mod NewRuns
 pub mod Numbered
-pub mod PathStarts
 pub mod Performances
 pub mod PlanRuns
 pub mod Refusing

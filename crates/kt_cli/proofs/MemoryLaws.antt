@@ -10,7 +10,7 @@ use Rattle.kt_store.specs.Ask.{IsFailure, IsNoMemory, IsStoreFault}
 use Rattle.kt_store.specs.Fault.{Tells}
 use Rattle.sqlite.specs.declared.error.Error.{Error}
 use Rattle.kt_store.specs.Runs.{insert_at, run_at, put_refusal_of, finish_refusal_of}
-use Rattle.kt_cli.specs.MemoryRuns.{PutsEntry, FinishesRun, FindsPlace, entry_refusal, closing_refusal, place_among}
+use Rattle.kt_cli.specs.Inner.MemoryRuns.{PutsEntry, FinishesRun, FindsPlace, entry_refusal, closing_refusal, place_among}
 use Rattle.kt_cli.proofs.Numbered.{entry_placed, finish_placed}
 
 -- memory that runs out is a failure of the store

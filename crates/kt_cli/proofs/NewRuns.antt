@@ -8,7 +8,8 @@ use Rattle.kt_store.specs.declared.store_fault.StoreFault.{StoreFault}
 use Rattle.kt_store.specs.declared.store_fault.StoreFault.TheVariants.{Incomplete}
 use Rattle.kt_store.specs.Runs.{AreNumbered, new_run, insert_at, run_at, finish, finish_refusal, finish_refusal_of}
 use Rattle.kt_cli.specs.SoundStores.{with_new}
-use Rattle.kt_cli.specs.Stores.{put_all, put_among, by_position}
+use Rattle.kt_cli.specs.Inner.Stores.{put_all}
+use Rattle.kt_cli.specs.Stores.{put_among, by_position}
 use Rattle.kt_cli.proofs.Numbered.{entries_last, finish_last}
 
 abbrev new_one : List Run → ℕ → ℕ → Bool → List Entry → Run

@@ -18,12 +18,14 @@ use Rattle.kt_sched.specs.Trace.{NoEvent}
 use Rattle.kt_store.specs.StoreCalls.{StoreCall, Began, Put, Finished}
 use Rattle.kt_store.specs.declared.store_fault.StoreFault.{StoreFault}
 use Rattle.kt_store.specs.declared.store_fault.StoreFault.TheVariants as store
-use Rattle.kt_cli.specs.FaultLines.{memory_line, put_line, refusal_line}
-use Rattle.kt_cli.specs.Pages.{Says}
-use Rattle.kt_cli.specs.Recording.{sink_fault_of}
-use Rattle.kt_cli.specs.Recordings.{Records, RecordEnds, RecordedAll, RecordedSome, RecordedNone}
+use Rattle.kt_cli.specs.Inner.FaultLines.{put_line}
+use Rattle.kt_cli.specs.FaultLines.{memory_line, refusal_line}
+use Rattle.kt_cli.specs.Inner.Pages.{Says}
+use Rattle.kt_cli.specs.Inner.Recording.{sink_fault_of}
+use Rattle.kt_cli.specs.Inner.Recordings.{Records, RecordEnds, RecordedAll, RecordedSome, RecordedNone}
 use Rattle.kt_cli.specs.Stores.{Stored, puts}
-use Rattle.kt_cli.specs.Testing.{ending, exit_of, results, results_exit, recorded as all_recorded, not_begun, not_run, not_put, not_finished, RanPlan}
+use Rattle.kt_cli.specs.Inner.Testing.{RanPlan}
+use Rattle.kt_cli.specs.Testing.{ending, exit_of, results, results_exit, recorded as all_recorded, not_begun, not_run, not_put, not_finished}
 use Rattle.kt_cli.specs.Totals.{lines, good_count, bad_count}
 use Rattle.kt_cli.proofs.Saying.{tells_both}
 use Rattle.kt_cli.proofs.StoreChains.{stored_both, stored_as}

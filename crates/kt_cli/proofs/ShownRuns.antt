@@ -16,8 +16,9 @@ use Rattle.kt_store.specs.declared.store_fault.StoreFault.{StoreFault}
 use Rattle.kt_cli.specs.declared.not_shown.NotShown.{NotShown}
 use Rattle.kt_cli.specs.declared.not_shown.NotShown.TheVariants.{Refused}
 use Rattle.kt_cli.specs.FaultLines.{memory_line}
-use Rattle.kt_cli.specs.Reports.{chosen, run_of, Reported, told, no_run, ReportedJunit, told as told_junit, no_run as no_junit, Unread, no_heads as unread_heads, no_entries as unread_entries, JunitCut, cut, JunitOrUnread, DidReport}
-use Rattle.kt_cli.specs.Shown.{IsMissing, not_shown_line, FindsRun, read, missing, no_heads, no_entries, ReadsRun}
+use Rattle.kt_cli.specs.Inner.Reports.{JunitOrUnread, DidReport}
+use Rattle.kt_cli.specs.Reports.{chosen, run_of, Reported, told, no_run, ReportedJunit, told as told_junit, no_run as no_junit, Unread, no_heads as unread_heads, no_entries as unread_entries, JunitCut, cut}
+use Rattle.kt_cli.specs.Inner.Shown.{IsMissing, not_shown_line, FindsRun, read, missing, no_heads, no_entries, ReadsRun}
 use Rattle.kt_cli.specs.Stores.{Stored}
 use Rattle.kt_cli.proofs.StoreChains.{stored_both}
 

@@ -18,9 +18,11 @@ use Rattle.kt_words.specs.Commands.{number_of}
 use Rattle.kt_cli.specs.Meaning.{Seen, Means, stopped, listed, tested, debugged, idle, reported, reported_junit, CutShort, no_memory, cut, report_cut, junit_cut}
 use Rattle.kt_cli.specs.Pages.{Printed}
 use Rattle.kt_cli.specs.Recordings.{AllRecorded}
-use Rattle.kt_cli.specs.Reports.{chosen, run_of, Reported, told, no_run, ReportedJunit, told as told_junit, no_run as no_junit, Unread, no_heads as unread_heads, no_entries as unread_entries, JunitCut, cut as cut_junit, JunitOrUnread}
+use Rattle.kt_cli.specs.Inner.Reports.{JunitOrUnread}
+use Rattle.kt_cli.specs.Reports.{chosen, run_of, Reported, told, no_run, ReportedJunit, told as told_junit, no_run as no_junit, Unread, no_heads as unread_heads, no_entries as unread_entries, JunitCut, cut as cut_junit}
 use Rattle.kt_cli.specs.SoundStores.{with_new, Comes, not_called, not_begun as comes_not_begun, begun, not_put as comes_not_put, not_finished as comes_not_finished, finished, no_heads, no_run as comes_no_run, no_entries, shown, Left}
-use Rattle.kt_cli.specs.Stores.{put_all, puts, changed_by, beside_by, Agrees, changed, beside, Agree, Stored}
+use Rattle.kt_cli.specs.Inner.Stores.{put_all}
+use Rattle.kt_cli.specs.Stores.{puts, changed_by, beside_by, Agrees, changed, beside, Agree, Stored}
 use Rattle.kt_cli.specs.Testing.{Tested, recorded, TestCut, not_begun, not_run, not_put, not_finished}
 use Rattle.kt_cli.proofs.ChosenRuns.{head_found, run_found, entries_there, not_chosen}
 use Rattle.kt_cli.proofs.NewRuns.{put_new, finish_new, finishes}
@@ -197,7 +199,7 @@ means_coming seen runs c bytes exit h (reported options kinds verbose bs x u r) 
 means_coming seen runs c bytes exit h (reported_junit options bs x u r) a = junit_coming options.run runs h seen.calls bytes exit r a
 
 short_coming : (seen : Seen) (runs : List Run) (c : Command) (bytes : List ℕ) (exit : ℕ) → AreNumbered 1 runs → CutShort seen c bytes exit → Agree runs seen.calls → Coming (number_of c) runs seen.calls
-short_coming seen runs c bytes exit h (no_memory d options e k) a = none_coming (number_of c) runs h seen.calls k.calls
+short_coming seen runs c bytes exit h (no_memory d options e _ k) a = none_coming (number_of c) runs h seen.calls k.calls
 short_coming seen runs c bytes exit h (cut options file picked moment bs x p t) a = cut_coming None runs h seen.plan picked.settings.config.parallelism moment seen.trace seen.calls bytes exit t a
 short_coming seen runs c bytes exit h (report_cut options kinds verbose bs x u r) a = unread_coming options.run runs h seen.calls bytes exit r a
 short_coming seen runs c bytes exit h (junit_cut options bs x u r) a = junit_or_unread options.run runs h seen.calls bytes exit r a

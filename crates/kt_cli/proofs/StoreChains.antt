@@ -2,7 +2,7 @@
 use Rattle.std.proofs.Common.{◌≡◌, List, [], ◌∷◌, ◌++◌, refl, sym, subst}
 use Rattle.kt_base.specs.declared.run.Run.{Run}
 use Rattle.kt_store.specs.StoreCalls.{StoreCall}
-use Rattle.kt_plan.proofs.QuestionChains.{chain_both}
+use Rattle.kt_base.proofs.Chains.{chain-append}
 use Rattle.kt_cli.specs.Stores.{changed_by, beside_by, Agrees, changed, beside, Agree, Stored}
 
 pub changed-append : (xs ys : List StoreCall) (runs : List Run) → changed (xs ++ ys) runs ≡ changed ys (changed xs runs)
@@ -39,7 +39,7 @@ module _ {R : Type 0} (Answers : R → StoreCall → R → Type 0) (Stands : R �
       let x = p.kept in
       let y = q.kept in
       record {
-        answered = chain_both Answers xs ys a b d p.answered q.answered;
+        answered = chain-append Answers xs ys a b d p.answered q.answered;
         kept = record {
           stands = λ runs h. subst (λ (rs : List Run). Stands d rs) (sym (changed-append xs ys runs)) (y.stands (changed xs runs) (x.stands runs h));
           earlier = λ runs h s. x.earlier runs h (y.earlier (changed xs runs) (x.stands runs h) s);

@@ -11,7 +11,8 @@ use Rattle.kt_sched.specs.declared.job.Job.{Job}
 use Rattle.kt_sched.specs.declared.start_answer.StartAnswer.{StartAnswer}
 use Rattle.kt_sched.specs.declared.ended.Ended.{Ended}
 use Rattle.kt_store.specs.StoreCalls.{StoreCall}
-use Rattle.kt_suite.specs.Answers.{Asked, Chain, Answered}
+use Rattle.kt_base.specs.Chains.{Chain}
+use Rattle.kt_suite.specs.Answers.{Asked, Answered}
 use Rattle.kt_suite.specs.Selecting.{most_items}
 use Rattle.kt_plan.specs.declared.candidate.Candidate.{Candidate}
 use Rattle.kt_plan.specs.declared.case_options.CaseOptions.{CaseOptions}
@@ -27,24 +28,30 @@ use Rattle.kt_sched.specs.declared.run_fault.RunFault.TheVariants.{NoMemory}
 use Rattle.kt_sched.specs.declared.totals.Totals.{Totals}
 use Rattle.kt_sched.specs.Trace.{NoEvent}
 use Rattle.kt_words.specs.Commands.{cases_of, needs_case}
-use Rattle.kt_cli.specs.Debugging.{Debugged, all_debug_bytes, debug_exit}
+use Rattle.kt_cli.specs.Inner.Debugging.{Debugged}
+use Rattle.kt_cli.specs.Debugging.{all_debug_bytes, debug_exit}
 use Rattle.kt_cli.specs.FaultLines.{memory_line}
-use Rattle.kt_plan.specs.Selecting.{Selects}
-use Rattle.kt_cli.specs.Meaning.{Seen, Course, listing, listing_exit, IsPrepared, IsAskedOnly, IsUnasked, Means, stopped, listed, tested, debugged, idle, reported, reported_junit, CutShort, no_memory, cut, report_cut, junit_cut, asked_only, ToldOnly, Did}
-use Rattle.kt_cli.specs.Pages.{Printed, Says}
-use Rattle.kt_plan.specs.Planning.{Surveys, ArePlanned}
+use Rattle.kt_plan.specs.Selecting.{Selects, SelectsFirst, SelectsOrShort}
+use Rattle.kt_cli.specs.Inner.Meaning.{asked_only, ToldOnly}
+use Rattle.kt_cli.specs.Meaning.{Seen, Course, listing, listing_exit, IsPrepared, IsAskedOnly, IsUnasked, Means, stopped, listed, tested, debugged, idle, reported, reported_junit, taken, AsksFirst, selecting, preparing, CutShort, no_memory, cut, report_cut, junit_cut, Did}
+use Rattle.kt_cli.specs.Inner.Pages.{Says}
+use Rattle.kt_cli.specs.Pages.{Printed}
+use Rattle.kt_plan.specs.Planning.{Surveys, SurveysFirst, ArePlanned}
 use Rattle.kt_plan.specs.Questions.{Question, leads_by, of_host}
-use Rattle.kt_cli.specs.Reports.{Reported, ReportedJunit, Unread, JunitOrUnread, DidReport}
-use Rattle.kt_plan.specs.Stops.{IsShort}
+use Rattle.kt_cli.specs.Inner.Reports.{JunitOrUnread, DidReport}
+use Rattle.kt_cli.specs.Reports.{Reported, ReportedJunit, Unread}
+use Rattle.kt_plan.proofs.LookLaws.{all_surveyed}
 use Rattle.kt_cli.specs.StopLines.{stop_line, stop_exit}
 use Rattle.kt_base.specs.Shows.{Shows}
 use Rattle.kt_cli.specs.CaseLines.{case_line}
-use Rattle.kt_cli.specs.Testing.{none_idle, Tested, TestCut, RanPlan}
+use Rattle.kt_cli.specs.Inner.Testing.{RanPlan}
+use Rattle.kt_cli.specs.Testing.{none_idle, Tested, TestCut}
 use Rattle.kt_plan.specs.Told.{Told, Now}
 use Rattle.kt_cli.specs.Warnings.{warnings}
 use Rattle.kt_cli.proofs.Saying.{tells_both}
 use Rattle.kt_cli.proofs.StoreChains.{stored_none, stored_as}
-use Rattle.kt_plan.proofs.QuestionChains.{chain_both, chain_of_host}
+use Rattle.kt_base.proofs.Chains.{chain-append}
+use Rattle.kt_plan.proofs.QuestionChains.{chain_of_host}
 
 -- the same answer in other words
 pub debugged_as : {L : Type 0} (starts : L → Job → Role → StartAnswer → L → Type 0) (waits : L → Ended → L → Type 0) (plan : List Job) (old new : L) (was now : Option (List ℕ)) (failed : Bool) (answer other : Result Totals RunFault) → answer ≡ other
@@ -78,10 +85,10 @@ module _ {W : Type 0} (asks : W → Asked → W → Type 0) (tells : W → Told 
   idle_told running pending d e mid new m t j = record { runs = λ k r. d mid new m t k r ∙ j.runs k r; pends = λ k. e mid new m t k ∙ j.pends k }
 
   -- nothing was started
-  course_of : (questions : List Question) (old new : W) → Chain (leads_by asks tells) questions old new → Course asks tells starts waits (asked_only questions) old new
+  course_of : (questions : List Question) (old new : W) → Chain (leads_by asks tells) old questions new → Course asks tells starts waits (asked_only questions) old new
   course_of questions old new p = record { begun = new; asked = p; ran = refl }
 
-  told_only : (c : Command) (old new : W) (was now : Option (List ℕ)) (exit : ℕ) (questions : List Question) (bytes : List ℕ) (due : ℕ) → Chain (leads_by asks tells) questions old new
+  told_only : (c : Command) (old new : W) (was now : Option (List ℕ)) (exit : ℕ) (questions : List Question) (bytes : List ℕ) (due : ℕ) → Chain (leads_by asks tells) old questions new
       → Means (asked_only questions) c bytes due ⊎ CutShort (asked_only questions) c bytes due
       → Printed was now exit bytes due → ToldOnly asks tells starts waits c old new was now exit
   told_only c old new was now exit questions bytes due p m q = record { seen = asked_only questions; course = course_of questions old new p; uncalled = refl; bytes = bytes; due = due; is = m; printed = q }
@@ -90,43 +97,50 @@ module _ {W : Type 0} (asks : W → Asked → W → Type 0) (tells : W → Told 
   only_asked questions = record { trace = refl; calls = refl }
 
   stop_means : (c : Command) (options : CaseOptions) (needed : Bool) (questions : List Question) (fault : Stop) → cases_of c ≡ Some options → needs_case c ≡ needed
-      → IsShort {T = Picked} (Err fault) ⊎ Selects needed options questions (Err fault)
+      → SelectsOrShort needed options questions (Err fault)
       → Means (asked_only questions) c (utf8 (stop_line fault)) (stop_exit fault) ⊎ CutShort (asked_only questions) c (utf8 (stop_line fault)) (stop_exit fault)
   stop_means c options needed questions fault e n (inl s) =
-      inr (subst (λ (x : Stop). CutShort (asked_only questions) c (utf8 (stop_line x)) (stop_exit x)) (sym s.1) (no_memory c options e (only_asked questions)))
+      inr (subst (λ (x : Stop). CutShort (asked_only questions) c (utf8 (stop_line x)) (stop_exit x)) (sym s.0.1)
+      (no_memory c options e (selecting questions (subst (λ (x : Bool). SelectsFirst x options questions) (sym n) s.1)) (only_asked questions)))
   stop_means c options needed questions fault e n (inr s) =
       inl (stopped c options fault e (subst (λ (x : Bool). Selects x options questions (Err fault)) (sym n) s) (only_asked questions))
 
   -- a fault of the steps ended the command
   pub stopped_only : (c : Command) (options : CaseOptions) (needed : Bool) (old new : W) (was now : Option (List ℕ)) (exit : ℕ) (fault : Stop) → cases_of c ≡ Some options → needs_case c ≡ needed
-      → Answered (leads_by asks tells) old new (λ questions. IsShort {T = Picked} (Err fault) ⊎ Selects needed options questions (Err fault))
+      → Answered (leads_by asks tells) old new (λ questions. SelectsOrShort needed options questions (Err fault))
       → Printed was now exit (utf8 (stop_line fault)) (stop_exit fault) → ToldOnly asks tells starts waits c old new was now exit
   stopped_only c options needed old new was now exit fault e n a p =
       told_only c old new was now exit a.asked (utf8 (stop_line fault)) (stop_exit fault) a.chain (stop_means c options needed a.asked fault e n a.holds) p
 
-  picked_is : (needed : Bool) (options : CaseOptions) (questions : List Question) (picked : Picked) → IsShort {T = Picked} (Ok picked) ⊎ Selects needed options questions (Ok picked) → Selects needed options questions (Ok picked)
-  picked_is needed options questions picked (inl s) = absurd s
+  picked_is : (needed : Bool) (options : CaseOptions) (questions : List Question) (picked : Picked) → SelectsOrShort needed options questions (Ok picked) → Selects needed options questions (Ok picked)
+  picked_is needed options questions picked (inl s) = absurd s.0
   picked_is needed options questions picked (inr s) = s
 
   -- cases were listed
   pub listed_only : (options : CaseOptions) (old new : W) (was now : Option (List ℕ)) (exit : ℕ) (picked : Picked)
-      → Answered (leads_by asks tells) old new (λ questions. IsShort {T = Picked} (Ok picked) ⊎ Selects false options questions (Ok picked))
+      → Answered (leads_by asks tells) old new (λ questions. SelectsOrShort false options questions (Ok picked))
       → Printed was now exit (listing options.filters picked.chosen) (listing_exit picked.chosen) → ToldOnly asks tells starts waits (command.List options) old new was now exit
   listed_only options old new was now exit picked a p =
       told_only (command.List options) old new was now exit a.asked (listing options.filters picked.chosen) (listing_exit picked.chosen) a.chain
       (inl (listed options picked (picked_is false options a.asked picked a.holds) (only_asked a.asked))) p
 
+  -- the selection, and the first questions about its cases
+  prepared_first : (needed : Bool) (options : CaseOptions) (questions : List Question) (told : List Told) (picked : Picked) (cases : List Candidate) → SelectsOrShort needed options questions (Ok picked) → cases ≡ taken needed picked.chosen.cases
+      → SurveysFirst cases told → AsksFirst needed options (questions ++ of_host told)
+  prepared_first needed options questions told picked cases a same s =
+      preparing questions picked told (picked_is needed options questions picked a) (subst (λ (cs : List Candidate). SurveysFirst cs told) same s)
+
   -- memory ran out before a plan was made
-  pub short_only : (c : Command) (options : CaseOptions) (old mid new : W) (was now : Option (List ℕ)) (exit : ℕ) (Holds : List Question → Type 0) (HoldsToo : List Told → Type 0) → cases_of c ≡ Some options
-      → Answered (leads_by asks tells) old mid Holds → Answered tells mid new HoldsToo
+  pub short_only : (c : Command) (options : CaseOptions) (needed : Bool) (old mid new : W) (was now : Option (List ℕ)) (exit : ℕ) (picked : Picked) (cases : List Candidate) → cases_of c ≡ Some options → needs_case c ≡ needed
+      → Answered (leads_by asks tells) old mid (λ questions. SelectsOrShort needed options questions (Ok picked)) → cases ≡ taken needed picked.chosen.cases → Answered tells mid new (λ told. SurveysFirst cases told)
       → Printed was now exit (utf8 memory_line) 2 → ToldOnly asks tells starts waits c old new was now exit
-  short_only c options old mid new was now exit Holds HoldsToo e a b p =
-      told_only c old new was now exit (a.asked ++ of_host b.asked) (utf8 memory_line) 2 (chain_both (leads_by asks tells) a.asked (of_host b.asked) old mid new a.chain (chain_of_host asks tells b.asked mid new b.chain))
-      (inr (no_memory c options e (only_asked (a.asked ++ of_host b.asked)))) p
+  short_only c options needed old mid new was now exit picked cases e n a same b p =
+      told_only c old new was now exit (a.asked ++ of_host b.asked) (utf8 memory_line) 2 (chain-append (leads_by asks tells) a.asked (of_host b.asked) old mid new a.chain (chain_of_host asks tells b.asked mid new b.chain))
+      (inr (no_memory c options e (subst (λ (x : Bool). AsksFirst x options (a.asked ++ of_host b.asked)) (sym n) (prepared_first needed options a.asked b.asked picked cases a.holds same b.holds)) (only_asked (a.asked ++ of_host b.asked)))) p
 
   -- no case was selected for `debug`
   pub idle_only : (options : CaseOptions) (old new : W) (was now : Option (List ℕ)) (exit : ℕ) (picked : Picked)
-      → Answered (leads_by asks tells) old new (λ questions. IsShort {T = Picked} (Ok picked) ⊎ Selects true options questions (Ok picked)) → picked.chosen.cases ≡ []
+      → Answered (leads_by asks tells) old new (λ questions. SelectsOrShort true options questions (Ok picked)) → picked.chosen.cases ≡ []
       → Printed was now exit (utf8 (warnings options.filters picked.chosen.unmatched)) 1 → ToldOnly asks tells starts waits (command.Debug options) old new was now exit
   idle_only options old new was now exit picked a n p =
       told_only (command.Debug options) old new was now exit a.asked (utf8 (warnings options.filters picked.chosen.unmatched)) 1 a.chain
@@ -134,7 +148,7 @@ module _ {W : Type 0} (asks : W → Asked → W → Type 0) (tells : W → Told 
 
   -- the same by parts of what was selected
   pub idle_answer : (options : CaseOptions) (old new : W) (was now : Option (List ℕ)) (exit : ℕ) (f : Bool) (picked : Picked) (cases : List Candidate) (words : List (List ℕ)) (unmatched : List ℕ)
-      → Answered (leads_by asks tells) old new (λ questions. IsShort {T = Picked} (Ok picked) ⊎ Selects true options questions (Ok picked)) → cases ≡ picked.chosen.cases → cases ≡ []
+      → Answered (leads_by asks tells) old new (λ questions. SelectsOrShort true options questions (Ok picked)) → cases ≡ picked.chosen.cases → cases ≡ []
       → words ≡ options.filters → unmatched ≡ picked.chosen.unmatched → Shows was now f (utf8 (warnings words unmatched)) → exit ≡ (if f then 2 else 1)
       → ToldOnly asks tells starts waits (command.Debug options) old new was now exit
   idle_answer options old new was now exit f picked cases words unmatched a x n b d s e =
@@ -151,7 +165,7 @@ module _ {W : Type 0} (asks : W → Asked → W → Type 0) (tells : W → Told 
 
   -- one case was run for `debug`
   pub debug_only : (options : CaseOptions) (old mid begun new : W) (was now : Option (List ℕ)) (exit : ℕ) (picked : Picked) (first : Candidate) (others : List Candidate) (plan : List Job) (failed : Bool) (totals : Totals)
-      → Answered (leads_by asks tells) old mid (λ questions. IsShort {T = Picked} (Ok picked) ⊎ Selects true options questions (Ok picked)) → picked.chosen.cases ≡ first ∷ others
+      → Answered (leads_by asks tells) old mid (λ questions. SelectsOrShort true options questions (Ok picked)) → picked.chosen.cases ≡ first ∷ others
       → Answered tells mid begun (Prepares picked (first ∷ []) plan)
       → Debugged starts waits plan begun new was now failed (Ok totals) → exit ≡ (if failed then 2 else (if totals.bad == 0 then 0 else 1))
       → ToldOnly asks tells starts waits (command.Debug options) old new was now exit
@@ -159,7 +173,7 @@ module _ {W : Type 0} (asks : W → Asked → W → Type 0) (tells : W → Told 
     seen = record { questions = a.asked ++ (of_host b.asked ++ []); plan = plan; trace = d.trace; calls = [] };
     course = record {
       begun = begun;
-      asked = chain_both (leads_by asks tells) a.asked (of_host b.asked ++ []) old mid begun a.chain (chain_both (leads_by asks tells) (of_host b.asked) [] mid begun begun (chain_of_host asks tells b.asked mid begun b.chain) refl);
+      asked = chain-append (leads_by asks tells) a.asked (of_host b.asked ++ []) old mid begun a.chain (chain-append (leads_by asks tells) (of_host b.asked) [] mid begun begun (chain_of_host asks tells b.asked mid begun b.chain) refl);
       ran = d.leads;
     };
     uncalled = refl;
@@ -179,7 +193,7 @@ module _ {W : Type 0} (asks : W → Asked → W → Type 0) (tells : W → Told 
 
   -- the same by parts of what was selected
   pub debug_parts : (options : CaseOptions) (old mid begun new : W) (was now : Option (List ℕ)) (exit : ℕ) (picked : Picked) (first : Candidate) (others cases some : List Candidate) (plan : List Job) (failed : Bool) (totals : Totals) (due : ℕ)
-      → Answered (leads_by asks tells) old mid (λ questions. IsShort {T = Picked} (Ok picked) ⊎ Selects true options questions (Ok picked)) → cases ≡ picked.chosen.cases → cases ≡ first ∷ others → some ≡ take 1 cases
+      → Answered (leads_by asks tells) old mid (λ questions. SelectsOrShort true options questions (Ok picked)) → cases ≡ picked.chosen.cases → cases ≡ first ∷ others → some ≡ take 1 cases
       → Answered tells mid begun (Prepares picked some plan)
       → Debugged starts waits plan begun new was now failed (Ok totals) → due ≡ (if totals.bad == 0 then 0 else 1) → exit ≡ (if failed then 2 else due)
       → ToldOnly asks tells starts waits (command.Debug options) old new was now exit
@@ -188,19 +202,19 @@ module _ {W : Type 0} (asks : W → Asked → W → Type 0) (tells : W → Told 
       (subst (λ (xs : List Candidate). Answered tells mid begun (Prepares picked xs plan)) (s ∙ ap (λ (xs : List Candidate). take 1 xs) n) b) d (e ∙ ap (λ (y : ℕ). if failed then 2 else y) k)
 
   -- memory ran out before the case was started
-  pub debug_short : (options : CaseOptions) (old mid begun new : W) (was between now : Option (List ℕ)) (exit : ℕ) (picked : Picked) (plan : List Job) (Holds : List Told → Type 0) (f g : Bool) (refusal : OutOfMemory)
-      → Answered (leads_by asks tells) old mid (λ questions. IsShort {T = Picked} (Ok picked) ⊎ Selects true options questions (Ok picked))
-      → Answered tells mid begun Holds → Debugged starts waits plan begun new was between f (Err (NoMemory refusal)) → Says between f now g (utf8 memory_line) → exit ≡ (if g then 2 else 2)
+  pub debug_short : (options : CaseOptions) (old mid begun new : W) (was between now : Option (List ℕ)) (exit : ℕ) (picked : Picked) (some : List Candidate) (plan : List Job) (f g : Bool) (refusal : OutOfMemory)
+      → Answered (leads_by asks tells) old mid (λ questions. SelectsOrShort true options questions (Ok picked))
+      → some ≡ take 1 picked.chosen.cases → Answered tells mid begun (Prepares picked some plan) → Debugged starts waits plan begun new was between f (Err (NoMemory refusal)) → Says between f now g (utf8 memory_line) → exit ≡ (if g then 2 else 2)
       → ToldOnly asks tells starts waits (command.Debug options) old new was now exit
-  debug_short options old mid begun new was between now exit picked plan Holds f g refusal a b d s e =
+  debug_short options old mid begun new was between now exit picked some plan f g refusal a same b d s e =
       let q = d.ends in
       record {
         seen = record { questions = a.asked ++ of_host b.asked; plan = plan; trace = d.trace; calls = [] };
-        course = record { begun = begun; asked = chain_both (leads_by asks tells) a.asked (of_host b.asked) old mid begun a.chain (chain_of_host asks tells b.asked mid begun b.chain); ran = d.leads };
+        course = record { begun = begun; asked = chain-append (leads_by asks tells) a.asked (of_host b.asked) old mid begun a.chain (chain_of_host asks tells b.asked mid begun b.chain); ran = d.leads };
         uncalled = refl;
         bytes = utf8 memory_line;
         due = 2;
-        is = inr (no_memory (command.Debug options) options refl (record { trace = q.0; calls = refl }));
+        is = inr (no_memory (command.Debug options) options refl (prepared_first true options a.asked b.asked picked some a.holds same (all_surveyed some b.asked b.holds.0 b.holds.1)) (record { trace = q.0; calls = refl }));
         printed = record { failed = g; shows = (tells_both was between now false f g [] (utf8 memory_line) (subst (λ (es : List Entry). Says was false between f (all_debug_bytes es)) q.1 d.says) s).more; exits = e };
       }
 
@@ -219,7 +233,7 @@ module _ {W : Type 0} (asks : W → Asked → W → Type 0) (tells : W → Told 
 
     -- a plan was run
     pub did_test : (after : R) (options : CaseOptions) (file : List ℕ) (old mid asked begun new : W) (picked : Picked) (plan : List Job) (moment width : ℕ)
-        → Answered (leads_by asks tells) old mid (λ questions. IsShort {T = Picked} (Ok picked) ⊎ Selects false options questions (Ok picked))
+        → Answered (leads_by asks tells) old mid (λ questions. SelectsOrShort false options questions (Ok picked))
         → Answered tells mid asked (Prepares picked picked.chosen.cases plan) → tells asked (Now moment) begun → width ≡ picked.settings.config.parallelism
         → RanPlan starts waits Answers Stands Sound Leaves plan width options.filters picked.chosen.unmatched moment begun new store after was now exit
         → Did asks tells starts waits Answers Stands Sound Leaves (command.Test options file) old new store after was now exit
@@ -240,8 +254,8 @@ module _ {W : Type 0} (asks : W → Asked → W → Type 0) (tells : W → Told 
           seen = seen;
           course = record {
             begun = begun;
-            asked = chain_both (leads_by asks tells) a.asked (of_host b.asked ++ of_host (Now moment ∷ [])) old mid begun a.chain
-                (chain_both (leads_by asks tells) (of_host b.asked) (of_host (Now moment ∷ [])) mid asked begun (chain_of_host asks tells b.asked mid asked b.chain) (begun, t, refl));
+            asked = chain-append (leads_by asks tells) a.asked (of_host b.asked ++ of_host (Now moment ∷ [])) old mid begun a.chain
+                (chain-append (leads_by asks tells) (of_host b.asked) (of_host (Now moment ∷ [])) mid asked begun (chain_of_host asks tells b.asked mid asked b.chain) (begun, t, refl));
             ran = r.leads;
           };
           stored = r.stored;
@@ -257,7 +271,7 @@ module _ {W : Type 0} (asks : W → Asked → W → Type 0) (tells : W → Told 
     -- the same by parts of what was selected
     pub did_test_parts : (after : R) (options : CaseOptions) (file : List ℕ) (old mid asked begun new : W) (picked : Picked) (plan : List Job) (moment width : ℕ) (cases : List Candidate) (words : List (List ℕ)) (unmatched : List ℕ)
         → cases ≡ picked.chosen.cases → words ≡ options.filters → unmatched ≡ picked.chosen.unmatched
-        → Answered (leads_by asks tells) old mid (λ questions. IsShort {T = Picked} (Ok picked) ⊎ Selects false options questions (Ok picked))
+        → Answered (leads_by asks tells) old mid (λ questions. SelectsOrShort false options questions (Ok picked))
         → Answered tells mid asked (Prepares picked cases plan) → tells asked (Now moment) begun → width ≡ picked.settings.config.parallelism
         → RanPlan starts waits Answers Stands Sound Leaves plan width words unmatched moment begun new store after was now exit
         → Did asks tells starts waits Answers Stands Sound Leaves (command.Test options file) old new store after was now exit

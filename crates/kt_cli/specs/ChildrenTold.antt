@@ -1,10 +1,11 @@
--- What a command asked of its children over the host, and what they tell.
+-- What a command asked of its children over the host, and what follows from their answers.
 use Rattle.std.specs.Prelude.{List, ◌≡◌, ◌⊎◌}
 use Rattle.kt_sched.specs.declared.job.Job.{Job}
 use Rattle.kt_sched.specs.Plan.{IsPlan}
 use Rattle.kt_sched.specs.Trace.{Trace, NoEvent}
 use Rattle.kt_child.specs.declared.driving.driver.Driver.{Driver}
-use Rattle.kt_child.specs.System.Calls.{Call, Chain}
+use Rattle.kt_base.specs.Chains.{Chain}
+use Rattle.kt_child.specs.System.Calls.{Call}
 use Rattle.kt_child.specs.Driving.Numbers.{IsBare}
 use Rattle.kt_child.specs.Driving.TraceLives.{EachWith, ToldAt}
 use Rattle.kt_cli.specs.declared.runner.Runner.{Runner}

@@ -1,19 +1,7 @@
--- What `debug` tells of the case that it runs.
-use Rattle.std.specs.Prelude.{ℕ, Bool, List, [], ◌++◌, ◌≡◌, ◌==◌, false, Option, Result, Ok, Err, flat_map, if◌then◌else◌}
+-- What `debug` prints of the case that it runs.
+use Rattle.std.specs.Prelude.{ℕ, List, ◌++◌, ◌==◌, flat_map, if◌then◌else◌}
 use Rattle.kt_base.specs.declared.entry.Entry.{Entry}
-use Rattle.kt_base.specs.declared.role.Role.{Role}
 use Rattle.kt_report.specs.Lines.{line_bytes}
-use Rattle.kt_sched.specs.declared.job.Job.{Job}
-use Rattle.kt_sched.specs.declared.start_answer.StartAnswer.{StartAnswer}
-use Rattle.kt_sched.specs.declared.ended.Ended.{Ended}
-use Rattle.kt_sched.specs.declared.run_fault.RunFault.{RunFault}
-use Rattle.kt_sched.specs.declared.run_fault.RunFault.TheVariants.{NoMemory, SinkFailed}
-use Rattle.kt_sched.specs.declared.sink_fault.SinkFault.{SinkFault}
-use Rattle.kt_sched.specs.declared.totals.Totals.{Totals}
-use Rattle.kt_sched.specs.Run.{Counts}
-use Rattle.kt_sched.specs.Trace.{Trace, NoEvent, Leads}
-use Rattle.kt_cli.specs.Pages.{Says}
-use Rattle.kt_cli.specs.Recordings.{AllRecorded}
 use Rattle.kt_cli.specs.Totals.{bad_count}
 
 -- what the body and the cleanup wrote, and the line of the case
@@ -27,21 +15,3 @@ all_debug_bytes entries = flat_map debug_bytes entries
 -- 0 where nothing is bad
 abbrev pub debug_exit : List Entry → ℕ
 debug_exit entries = if bad_count entries == 0 then 0 else 1
-
--- an entry is told, and never refused
-abbrev pub Prints : Bool → Option (List ℕ) → Entry → Result (Unit {0}) SinkFault → Bool → Option (List ℕ) → Type 0
-Prints failed held entry answer failed' held' = (answer ≡ Ok tt) × Says held failed held' failed' (debug_bytes entry)
-
--- how a plan ended that was run for `debug`: each case was told, or memory ran out before one was started
-abbrev pub DebugEnds : List Job → Trace → List Entry → Result Totals RunFault → Type 0
-DebugEnds plan T entries (Ok totals) = AllRecorded plan 1 T entries × Counts entries totals
-DebugEnds plan T entries (Err (NoMemory refusal)) = (T ≡ NoEvent) × (entries ≡ [])
-DebugEnds plan T entries (Err (SinkFailed fault)) = ⊥
-
--- a plan was run one case at a time, and each case told
-pub record Debugged {L : Type 0} (starts : L → Job → Role → StartAnswer → L → Type 0) (waits : L → Ended → L → Type 0) (plan : List Job) (old new : L) (was now : Option (List ℕ)) (failed : Bool) (answer : Result Totals RunFault) : Type 0 where
-  pub trace : Trace
-  pub leads : Leads starts waits plan trace old new
-  pub entries : List Entry
-  pub says : Says was false now failed (all_debug_bytes entries)
-  pub ends : DebugEnds plan trace entries answer

@@ -2,26 +2,21 @@
 use Rattle.std.specs.Prelude.{ℕ, Bool, true, false, ◌≡◌, ◌≤◌, ◌&&◌, ◌||◌, not, List, length, Option, Some, None, IfOk, is_some, bytes_eq, codes}
 use Rattle.std.specs.List.{list_any}
 use Rattle.std.proofs.Common.{ap}
+use Rattle.kt_base.specs.Characters.{is_absolute, is_slash}
 use Rattle.kt_base.specs.declared.role.Role.{Role}
 use Rattle.kt_sched.specs.declared.job.Job.{Job}
 use Rattle.kt_sched.specs.declared.start_answer.StartAnswer.{StartAnswer}
 use Rattle.kt_sched.specs.declared.ended.Ended.{Ended}
 use Rattle.kt_child.specs.System.Calls.{Call}
 use Rattle.kt_child.specs.Driving.DriverSteps.{DriverLists, DriverStarts, DriverWaits}
-use Rattle.kt_suite.specs.Paths.{is_slash}
 use Rattle.kt_cli.specs.declared.runner.Runner.{Runner}
 use Rattle.kt_cli.specs.HostFiles.{read_limit}
-use Rattle.kt_cli.specs.Places.{is_absolute}
 use Rattle.kt_plan.specs.Told.{Told, ReadConfig, Lists, FindsFile, FindsProgram, IsRoot, HasMemory, HasDisk, Now}
 
 -- the user is root, by the value of `USER`
 abbrev pub is_root : Option (List ℕ) → Bool
 is_root None = false
 is_root (Some user) = bytes_eq user (codes "root")
-
--- the longest variable of an environment, in bytes: Linux takes no longer one
-abbrev pub longest_variable : ℕ
-longest_variable = 131072
 
 -- a program is looked for: at its absolute path, or by its name where `PATH` is set
 abbrev pub is_sought : Option (List ℕ) → List ℕ → Bool

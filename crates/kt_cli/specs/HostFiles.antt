@@ -1,14 +1,6 @@
 -- What is read of the host's files.
-use Rattle.std.specs.Prelude.{ℕ, ◌≡◌, ◌==◌, ◌≤◌, length, Bool, not, bit_and, IfOk, ⊤}
+use Rattle.std.specs.Prelude.{ℕ, ◌≡◌, ◌≤◌, length, IfOk, ⊤}
 use Rattle.kt_suite.specs.Answers.{Asked, Read, Exists}
-
--- the longest path that the host takes, in bytes
-abbrev pub longest_path : ℕ
-longest_path = 4095
-
--- a file with these rights may be executed by someone
-abbrev pub may_execute : ℕ → Bool
-may_execute mode = not (bit_and mode 73 == 0)
 
 -- how many bytes of a file are read at the most: one more than a script may have
 abbrev pub read_limit : ℕ

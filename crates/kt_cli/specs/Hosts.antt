@@ -7,7 +7,8 @@ use Rattle.kt_child.specs.declared.driving.driver.Driver.{Driver}
 use Rattle.kt_child.specs.declared.driving.driver_fault.DriverFault.{DriverFault}
 use Rattle.kt_child.specs.declared.driving.driver_fault.DriverFault.TheVariants as driver
 use Rattle.kt_child.specs.Driving.ChildrenState.{idle_state}
-use Rattle.kt_child.specs.System.Calls.{Call, Chain, RemoveTree}
+use Rattle.kt_base.specs.Chains.{Chain}
+use Rattle.kt_child.specs.System.Calls.{Call, RemoveTree}
 use Rattle.kt_child.specs.Driving.Roots.{FindsRoot}
 use Rattle.kt_store.specs.StoreCalls.{StoreCall}
 use Rattle.kt_plan.specs.declared.case_options.CaseOptions.{CaseOptions}
@@ -19,7 +20,8 @@ use Rattle.kt_words.specs.Commands.{cases_of}
 use Rattle.kt_cli.specs.HostAnswers.{IsHostAnswer, RunnerStarts, RunnerWaits}
 use Rattle.kt_cli.specs.HostFiles.{IsLook}
 use Rattle.kt_cli.specs.Meaning.{Did}
-use Rattle.kt_cli.specs.Places.{is_absolute, source_directory}
+use Rattle.kt_base.specs.Characters.{is_absolute}
+use Rattle.kt_cli.specs.Places.{source_directory}
 
 -- a driver for the programs beside a Kyuafile, whose root directory was just made
 pub record IsMade {O : Type 0} (leads : O → Call → O → Type 0) (os : O) (here base kyuafile : List ℕ) (d : Driver O) : Type 0 where
@@ -30,7 +32,7 @@ pub record IsMade {O : Type 0} (leads : O → Call → O → Type 0) (os : O) (h
   pub first : d.next ≡ 0
   pub none_runs : d.running ≡ idle_state
 
--- a command was done over a driver that was made for its options, whose root directory was then to be removed; each end in the trace is told
+-- a command was done over a driver that was made for its options, whose root directory was then to be removed; each end in the trace is explained
 -- by the calls of its own child
 pub record OnDriver {O R : Type 0} (leads : O → Call → O → Type 0) (os : O) (around : Surroundings) (options : CaseOptions) (Answers : R → StoreCall → R → Type 0) (Stands : R → List Run → Type 0) (Sound : R → Type 0) (Leaves : R → List (List Run) → Type 0) (c : Command) (store after : R) (was now : Option (List ℕ)) (exit : ℕ) : Type 0 where
   pub old : Runner O

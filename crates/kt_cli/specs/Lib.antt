@@ -6,6 +6,7 @@ pub mod FaultLines
 pub mod HostAnswers
 pub mod HostFiles
 pub mod Hosts
+pub mod Inner
 pub mod LineOutputs
 pub mod Meaning
 pub mod MemoryRuns
@@ -13,12 +14,10 @@ pub mod Pages
 pub mod Performing
 pub mod Places
 pub mod Platforms
-pub mod Recording
 pub mod Recordings
 pub mod Refused
 pub mod Reports
 pub mod Sequences
-pub mod Shown
 pub mod SoundStores
 pub mod StopLines
 pub mod Stores

@@ -1,5 +1,5 @@
 -- What a command means: by the answers of its world and of its store, the bytes and the exit.
-use Rattle.std.specs.Prelude.{ℕ, Bool, true, false, List, [], ◌∷◌, ◌++◌, ◌≡◌, ◌⊎◌, Option, Some, Ok, Err, flat_map, if◌then◌else◌}
+use Rattle.std.specs.Prelude.{ℕ, Bool, true, false, List, [], ◌∷◌, ◌++◌, ◌≡◌, ◌⊎◌, Option, Some, Ok, Err, take, flat_map, if◌then◌else◌}
 use Rattle.kt_base.specs.declared.entry.Entry.{Entry}
 use Rattle.kt_base.specs.declared.kind.Kind.{Kind}
 use Rattle.kt_base.specs.declared.role.Role.{Role}
@@ -11,7 +11,8 @@ use Rattle.kt_sched.specs.declared.start_answer.StartAnswer.{StartAnswer}
 use Rattle.kt_sched.specs.declared.ended.Ended.{Ended}
 use Rattle.kt_sched.specs.Trace.{Trace, NoEvent, Leads}
 use Rattle.kt_store.specs.StoreCalls.{StoreCall}
-use Rattle.kt_suite.specs.Answers.{Asked, Chain}
+use Rattle.kt_base.specs.Chains.{Chain}
+use Rattle.kt_suite.specs.Answers.{Asked}
 use Rattle.kt_plan.specs.declared.candidate.Candidate.{Candidate}
 use Rattle.kt_plan.specs.declared.case_options.CaseOptions.{CaseOptions}
 use Rattle.kt_plan.specs.declared.chosen.Chosen.{Chosen}
@@ -25,9 +26,9 @@ use Rattle.kt_cli.specs.Debugging.{all_debug_bytes, debug_exit}
 use Rattle.kt_cli.specs.FaultLines.{memory_line}
 use Rattle.kt_cli.specs.CaseLines.{case_line}
 use Rattle.kt_cli.specs.Pages.{Printed}
-use Rattle.kt_plan.specs.Planning.{Surveys, ArePlanned}
+use Rattle.kt_plan.specs.Planning.{Surveys, SurveysFirst, ArePlanned}
 use Rattle.kt_plan.specs.Questions.{Question, leads_by, of_host}
-use Rattle.kt_plan.specs.Selecting.{Selects}
+use Rattle.kt_plan.specs.Selecting.{Selects, SelectsFirst}
 use Rattle.kt_cli.specs.Recordings.{AllRecorded}
 use Rattle.kt_cli.specs.Reports.{Reported, ReportedJunit, Unread, JunitCut}
 use Rattle.kt_cli.specs.StopLines.{stop_line, stop_exit}
@@ -47,7 +48,7 @@ pub record Seen : Type 0 where
 -- these answers lead the world through the command
 pub record Course {W : Type 0} (asks : W → Asked → W → Type 0) (tells : W → Told → W → Type 0) (starts : W → Job → Role → StartAnswer → W → Type 0) (waits : W → Ended → W → Type 0) (seen : Seen) (old new : W) : Type 0 where
   pub begun : W
-  pub asked : Chain (leads_by asks tells) seen.questions old begun
+  pub asked : Chain (leads_by asks tells) old seen.questions begun
   pub ran : Leads starts waits seen.plan seen.trace begun new
 
 -- a line for each selected case, and a warning for each filter that selects none
@@ -97,9 +98,21 @@ pub data Means (seen : Seen) : Command → List ℕ → ℕ → Type 0 where
   reported_junit : (options : ReportOptions) (bytes : List ℕ) (exit : ℕ) → IsUnasked seen → ReportedJunit options.run seen.calls bytes exit
       → Means seen (command.ReportJunit options) bytes exit
 
+-- the cases that a command runs of those that are selected: `debug` runs the first one
+abbrev pub taken : Bool → List Candidate → List Candidate
+taken false cases = cases
+taken true cases = take 1 cases
+
+-- the first questions of a command over test cases, where memory ran out: for its cases, and then for what they require
+pub data AsksFirst (needed : Bool) (options : CaseOptions) : List Question → Type 0 where
+  selecting : (questions : List Question) → SelectsFirst needed options questions → AsksFirst needed options questions
+  preparing : (before : List Question) (picked : Picked) (told : List Told) → Selects needed options before (Ok picked)
+      → SurveysFirst (taken needed picked.chosen.cases) told → AsksFirst needed options (before ++ of_host told)
+
 -- how a command ends that memory or the store cut short
 pub data CutShort (seen : Seen) : Command → List ℕ → ℕ → Type 0 where
-  no_memory : (c : Command) (options : CaseOptions) → cases_of c ≡ Some options → IsAskedOnly seen → CutShort seen c (utf8 memory_line) 2
+  no_memory : (c : Command) (options : CaseOptions) → cases_of c ≡ Some options → AsksFirst (needs_case c) options seen.questions → IsAskedOnly seen
+      → CutShort seen c (utf8 memory_line) 2
   cut : (options : CaseOptions) (file : List ℕ) (picked : Picked) (moment : ℕ) (bytes : List ℕ) (exit : ℕ) → IsPrepared false options seen picked picked.chosen.cases (Now moment ∷ [])
       → TestCut seen.plan picked.settings.config.parallelism moment seen.trace seen.calls bytes exit
       → CutShort seen (command.Test options file) bytes exit
@@ -107,20 +120,6 @@ pub data CutShort (seen : Seen) : Command → List ℕ → ℕ → Type 0 where
       → CutShort seen (command.Report options kinds verbose) bytes exit
   junit_cut : (options : ReportOptions) (bytes : List ℕ) (exit : ℕ) → IsUnasked seen → Unread options.run seen.calls bytes exit ⊎ JunitCut options.run seen.calls bytes exit
       → CutShort seen (command.ReportJunit options) bytes exit
-
--- nothing was started, and the store was not called
-abbrev pub asked_only : List Question → Seen
-asked_only questions = record { questions = questions; plan = []; trace = NoEvent; calls = [] }
-
--- what a command did that calls no store: what it saw, its bytes and its exit
-pub record ToldOnly {W : Type 0} (asks : W → Asked → W → Type 0) (tells : W → Told → W → Type 0) (starts : W → Job → Role → StartAnswer → W → Type 0) (waits : W → Ended → W → Type 0) (c : Command) (old new : W) (was now : Option (List ℕ)) (exit : ℕ) : Type 0 where
-  pub seen : Seen
-  pub course : Course asks tells starts waits seen old new
-  pub uncalled : seen.calls ≡ []
-  pub bytes : List ℕ
-  pub due : ℕ
-  pub is : Means seen c bytes due ⊎ CutShort seen c bytes due
-  pub printed : Printed was now exit bytes due
 
 -- what `execute` did, by what it saw: what the command means, or how memory or the store cut it short; a failed writer holds a proper
 -- prefix of its bytes. The store's own answers are part of it, and what they did to the runs stands apart: nothing else rests on the store

@@ -26,7 +26,7 @@ abbrev pub Surrounds : {P S : Type 0} → (P → Provided S → P → Type 0) �
 Surrounds provides (Some options) old answer new = provides old (Found answer) new
 Surrounds provides None old answer new = (new ≡ old) × (is_ok answer ≡ true)
 
--- a command was done over a store; if nothing tells what is around it, or it has no driver, one line says so and the store is as it was
+-- a command was done over a store; if its surroundings aren't known, or it has no driver, one line says so and the store is as it was
 pub data DoneOver {P S O R : Type 0} (provides : P → Provided S → P → Type 0) (leads : O → Call → O → Type 0) (os : O) (Answers : R → StoreCall → R → Type 0) (Stands : R → List Run → Type 0) (Sound : R → Type 0) (Leaves : R → List (List Run) → Type 0) (c : Command) (old new : P) (store after : R) (was now : Option (List ℕ)) (exit : ℕ) : Type 0 where
   done : (around : Surroundings) → Surrounds provides (cases_of c) old (Ok around) new → DidOnHost leads os around Answers Stands Sound Leaves c store after was now exit
       → DoneOver provides leads os Answers Stands Sound Leaves c old new store after was now exit
@@ -36,7 +36,7 @@ pub data DoneOver {P S O R : Type 0} (provides : P → Provided S → P → Type
       → DoneOver provides leads os Answers Stands Sound Leaves c old new store after was now exit
 
 -- a command was done over the results in a file: they were opened first, and closed last, once and as the command left them; where they
--- could not be opened one line tells why, and nothing else was done
+-- could not be opened one line says why, and nothing else was done
 pub data DoneIn {P S O : Type 0} (provides : P → Provided S → P → Type 0) (leads : O → Call → O → Type 0) (os : O) (Answers : S → StoreCall → S → Type 0) (Stands : S → List Run → Type 0) (Sound : S → Type 0) (Leaves : S → List (List Run) → Type 0) (c : Command) (file : List ℕ) (old new : P) (was now : Option (List ℕ)) (exit : ℕ) : Type 0 where
   not_opened : (fault : StoreFault) → provides old (Opened file (Err fault)) new → Printed was now exit (utf8 (refusal_line fault)) failure_exit
       → DoneIn provides leads os Answers Stands Sound Leaves c file old new was now exit
@@ -62,14 +62,14 @@ pub record Performed {P S O : Type 0} (provides : P → Provided S → P → Typ
   pub done : DoneBy provides leads os Answers Stands Sound Leaves c (results_of c) old new was told due
   pub flushed : Flushed told now held due exit
 
--- memory ran out as the words were read: one line tells it on standard output
+-- memory ran out as the arguments were read: one line says so on standard output
 pub record ToldShortage (was now : Option (List ℕ)) (held : List ℕ) (exit : ℕ) : Type 0 where
   pub told : Option (List ℕ)
   pub due : ℕ
   pub refused : Refused was told due (utf8 memory_line) failure_exit
   pub flushed : Flushed told now held due exit
 
--- words that are no command are told on standard error, and nothing is written on standard output
+-- why arguments are no command is printed on standard error, and nothing on standard output
 abbrev pub Rejected : CommandFault → Option (List ℕ) → Option (List ℕ) → List ℕ → Option (List ℕ) → Option (List ℕ) → ℕ → Type 0
 Rejected (command.NoMemory shortage) was now held errors_was errors_now exit = ToldShortage was now held exit × (errors_now ≡ errors_was)
 Rejected fault was now held errors_was errors_now exit = Refused errors_was errors_now exit (utf8 (command_text fault)) wrong_words_exit × (now ≡ was)

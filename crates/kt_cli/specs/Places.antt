@@ -1,11 +1,7 @@
 -- Where a Kyuafile lies among the host's files.
-use Rattle.std.specs.Prelude.{ℕ, Bool, false, List, [], ◌∷◌, ◌++◌, codes, if◌then◌else◌}
-use Rattle.kt_suite.specs.Paths.{is_slash, parent_of}
-
--- the path begins at the root of the host
-abbrev pub is_absolute : List ℕ → Bool
-is_absolute [] = false
-is_absolute (c ∷ cs) = is_slash c
+use Rattle.std.specs.Prelude.{ℕ, List, ◌++◌, codes, if◌then◌else◌}
+use Rattle.kt_base.specs.Characters.{is_absolute}
+use Rattle.kt_suite.specs.Paths.{parent_of}
 
 -- a path, seen from a directory
 abbrev pub absolute : List ℕ → List ℕ → List ℕ

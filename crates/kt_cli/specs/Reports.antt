@@ -1,5 +1,5 @@
 -- Which run is shown, and what is shown of it.
-use Rattle.std.specs.Prelude.{ℕ, Bool, zero, suc, List, [], ◌∷◌, ◌++◌, ◌-◌, ◌≡◌, ◌⊎◌, Option, Some, None, Ok, Err, codes, length, slice_get}
+use Rattle.std.specs.Prelude.{ℕ, Bool, zero, suc, List, [], ◌∷◌, ◌++◌, ◌-◌, ◌≡◌, Option, Some, None, Ok, Err, codes, length, slice_get}
 use Rattle.std.specs.Fmt.{decimal}
 use Rattle.jiff_core.specs.declared.civil.date.Date.{Date}
 use Rattle.kt_base.specs.declared.entry.Entry.{Entry}
@@ -12,8 +12,6 @@ use Rattle.kt_store.specs.StoreCalls.{StoreCall, Heads, Read}
 use Rattle.kt_store.specs.declared.run_head.RunHead.{RunHead}
 use Rattle.kt_store.specs.declared.store_fault.StoreFault.{StoreFault}
 use Rattle.kt_cli.specs.FaultLines.{memory_line, refusal_line}
-use Rattle.kt_cli.specs.Pages.{Printed}
-use Rattle.kt_cli.specs.Stores.{Stored}
 
 -- the one of a number, counted from 1, or else the last one
 abbrev pub chosen : {X : Type 0} → Option ℕ → List X → Option X
@@ -51,7 +49,7 @@ pub data ReportedJunit (number : Option ℕ) : List StoreCall → List ℕ → �
       → ReportedJunit number (Heads (Ok heads) ∷ Read head.number (Ok entries) ∷ []) (junit_bytes (run_of head entries)) 0
   no_run : (heads : List RunHead) → chosen number heads ≡ None → ReportedJunit number (Heads (Ok heads) ∷ []) (utf8 (missing_line number heads)) 2
 
--- the store refused to be read, and its own answer is told
+-- the store refused to be read, and its own answer is printed
 pub data Unread (number : Option ℕ) : List StoreCall → List ℕ → ℕ → Type 0 where
   no_heads : (fault : StoreFault) → Unread number (Heads (Err fault) ∷ []) (utf8 (refusal_line fault)) 2
   no_entries : (heads : List RunHead) (head : RunHead) (fault : StoreFault) → chosen number heads ≡ Some head
@@ -61,16 +59,3 @@ pub data Unread (number : Option ℕ) : List StoreCall → List ℕ → ℕ → 
 pub data JunitCut (number : Option ℕ) : List StoreCall → List ℕ → ℕ → Type 0 where
   cut : (heads : List RunHead) (head : RunHead) (entries : List Entry) (front rest : List ℕ) (next : ℕ) → chosen number heads ≡ Some head → junit_bytes (run_of head entries) ≡ front ++ next ∷ rest
       → JunitCut number (Heads (Ok heads) ∷ Read head.number (Ok entries) ∷ []) (front ++ utf8 memory_line) 2
-
--- the store refused to be read, or memory ran out in the middle
-abbrev pub JunitOrUnread : Option ℕ → List StoreCall → List ℕ → ℕ → Type 0
-JunitOrUnread number calls bytes exit = Unread number calls bytes exit ⊎ JunitCut number calls bytes exit
-
--- what was read of a store and told of it, in one of two ways
-pub record DidReport {R : Type 0} (Answers : R → StoreCall → R → Type 0) (Stands : R → List Run → Type 0) (Sound : R → Type 0) (Leaves : R → List (List Run) → Type 0) (store after : R) (was now : Option (List ℕ)) (exit : ℕ) (Means Cut : List StoreCall → List ℕ → ℕ → Type 0) : Type 0 where
-  pub calls : List StoreCall
-  pub stored : Stored Answers Stands Sound Leaves calls store after
-  pub bytes : List ℕ
-  pub due : ℕ
-  pub is : Means calls bytes due ⊎ Cut calls bytes due
-  pub printed : Printed was now exit bytes due

@@ -1,5 +1,6 @@
 -- What a command does over a sound store: the runs that it leaves, and what a crash may leave.
 use Rattle.std.specs.Prelude.{ℕ, suc, Bool, true, false, List, [], ◌∷◌, ◌++◌, ◌≡◌, ◌<◌, ◌≤◌, ◌⊎◌, Option, Some, None, Ok, Err, length, map}
+use Rattle.kt_base.specs.Limits.{last_run}
 use Rattle.kt_base.specs.declared.entry.Entry.{Entry}
 use Rattle.kt_base.specs.declared.run.Run.{Run}
 use Rattle.kt_store.specs.Ask.{IsStoreFault}
@@ -27,18 +28,18 @@ with_new runs moment total finished entries = runs ++ record { number = next_num
 -- might leave others before; a call that is refused failed, or was due to be refused, and a crash may leave its change
 pub data Comes (number : Option ℕ) (runs : List Run) : List StoreCall → List Run → (List (List Run) → List (List Run)) → Type 0 where
   not_called : Comes number runs [] runs (λ may. may)
-  not_begun : (total moment : ℕ) (fault : StoreFault) → IsStoreFault fault ⊎ ((fault ≡ StoreFull) × (1000000 ≤ length runs))
+  not_begun : (total moment : ℕ) (fault : StoreFault) → IsStoreFault fault ⊎ ((fault ≡ StoreFull) × (last_run ≤ length runs))
       → Comes number runs (Began total moment (Err fault) ∷ []) runs (λ may. with_new runs moment total false [] ∷ may)
-  begun : (total moment : ℕ) → length runs < 1000000
+  begun : (total moment : ℕ) → length runs < last_run
       → Comes number runs (Began total moment (Ok (next_number runs)) ∷ []) (with_new runs moment total false []) (λ may. [])
-  not_put : (total moment : ℕ) (entries : List Entry) (refused : Entry) (fault : StoreFault) → length runs < 1000000
+  not_put : (total moment : ℕ) (entries : List Entry) (refused : Entry) (fault : StoreFault) → length runs < last_run
       → IsStoreFault fault ⊎ (put_refusal (with_new runs moment total false entries) (next_number runs) refused ≡ Some fault)
       → Comes number runs (Began total moment (Ok (next_number runs)) ∷ (puts (next_number runs) entries ++ Put (next_number runs) refused (Err fault) ∷ []))
       (with_new runs moment total false entries) (λ may. with_new runs moment total false (entries ++ refused ∷ []) ∷ [])
-  not_finished : (total moment : ℕ) (entries : List Entry) (fault : StoreFault) → length runs < 1000000 → length entries ≡ total → IsStoreFault fault
+  not_finished : (total moment : ℕ) (entries : List Entry) (fault : StoreFault) → length runs < last_run → length entries ≡ total → IsStoreFault fault
       → Comes number runs (Began total moment (Ok (next_number runs)) ∷ (puts (next_number runs) entries ++ Finished (next_number runs) (Err fault) ∷ []))
       (with_new runs moment total false entries) (λ may. with_new runs moment total true entries ∷ [])
-  finished : (total moment : ℕ) (entries : List Entry) → length runs < 1000000 → length entries ≡ total
+  finished : (total moment : ℕ) (entries : List Entry) → length runs < last_run → length entries ≡ total
       → Comes number runs (Began total moment (Ok (next_number runs)) ∷ (puts (next_number runs) entries ++ Finished (next_number runs) (Ok tt) ∷ []))
       (with_new runs moment total true entries) (λ may. [])
   no_heads : (fault : StoreFault) → IsStoreFault fault → Comes number runs (Heads (Err fault) ∷ []) runs (λ may. may)

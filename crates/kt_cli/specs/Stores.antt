@@ -1,5 +1,6 @@
 -- The calls that a command makes on a store of runs, and what they do to the runs.
 use Rattle.std.specs.Prelude.{ℕ, List, [], ◌∷◌, ◌++◌, ◌≡◌, ◌<◌, ◌≤◌, ◌⊎◌, ⊤, Some, None, Ok, Err, suc, length, map}
+use Rattle.kt_base.specs.Limits.{last_run}
 use Rattle.kt_base.specs.declared.entry.Entry.{Entry}
 use Rattle.kt_base.specs.declared.run.Run.{Run}
 use Rattle.kt_store.specs.Ask.{IsStoreFault}
@@ -7,12 +8,7 @@ use Rattle.kt_store.specs.Heads.{head_of}
 use Rattle.kt_store.specs.Runs.{new_run, run_at, with_entry, insert_at, put_refusal, finish, finish_refusal}
 use Rattle.kt_store.specs.StoreCalls.{StoreCall, Began, Put, Finished, Heads, Read}
 use Rattle.kt_store.specs.declared.store_fault.StoreFault.TheVariants.{StoreFull, NoRun}
-use Rattle.kt_suite.specs.Answers.{Chain}
-
--- the runs after these entries were put into the run of a number, one after the other
-abbrev pub put_all : ℕ → List Entry → List Run → List Run
-put_all number [] runs = runs
-put_all number (e ∷ es) runs = put_all number es (with_entry number e runs)
+use Rattle.kt_base.specs.Chains.{Chain}
 
 -- entries, each put at its position
 abbrev pub put_among : List Entry → List Entry → List Entry
@@ -54,8 +50,8 @@ beside_by (Read number answer) runs may = may
 
 -- a call's answer agrees with the runs before it
 abbrev pub Agrees : List Run → StoreCall → Type 0
-Agrees runs (Began total moment (Ok number)) = (number ≡ suc (length runs)) × (length runs < 1000000)
-Agrees runs (Began total moment (Err fault)) = IsStoreFault fault ⊎ ((fault ≡ StoreFull) × (1000000 ≤ length runs))
+Agrees runs (Began total moment (Ok number)) = (number ≡ suc (length runs)) × (length runs < last_run)
+Agrees runs (Began total moment (Err fault)) = IsStoreFault fault ⊎ ((fault ≡ StoreFull) × (last_run ≤ length runs))
 Agrees runs (Put number e (Ok done)) = put_refusal runs number e ≡ None
 Agrees runs (Put number e (Err fault)) = IsStoreFault fault ⊎ (put_refusal runs number e ≡ Some fault)
 Agrees runs (Finished number (Ok done)) = finish_refusal runs number ≡ None
@@ -89,5 +85,5 @@ pub record Kept {R : Type 0} (Stands : R → List Run → Type 0) (Sound : R →
 
 -- these calls with their answers led a store from the first state to the second, and did this to its runs
 pub record Stored {R : Type 0} (Answers : R → StoreCall → R → Type 0) (Stands : R → List Run → Type 0) (Sound : R → Type 0) (Leaves : R → List (List Run) → Type 0) (calls : List StoreCall) (old new : R) : Type 0 where
-  pub answered : Chain Answers calls old new
+  pub answered : Chain Answers old calls new
   pub kept : Kept Stands Sound Leaves calls old new

@@ -1,19 +1,14 @@
 -- What becomes of a plan that is run over a store: the calls on the store, the bytes and the exit.
-use Rattle.std.specs.Prelude.{ℕ, Bool, true, false, List, [], ◌∷◌, ◌++◌, ◌≡◌, ◌==◌, ◌&&◌, ◌⊎◌, Option, Ok, Err, length, if◌then◌else◌}
+use Rattle.std.specs.Prelude.{ℕ, Bool, true, false, List, [], ◌∷◌, ◌++◌, ◌≡◌, ◌==◌, ◌&&◌, Ok, Err, length, if◌then◌else◌}
 use Rattle.kt_base.specs.declared.entry.Entry.{Entry}
-use Rattle.kt_base.specs.declared.role.Role.{Role}
-use Rattle.kt_base.specs.declared.run.Run.{Run}
 use Rattle.kt_base.specs.Utf8.{utf8}
 use Rattle.kt_sched.specs.declared.job.Job.{Job}
-use Rattle.kt_sched.specs.declared.start_answer.StartAnswer.{StartAnswer}
-use Rattle.kt_sched.specs.declared.ended.Ended.{Ended}
-use Rattle.kt_sched.specs.Trace.{Trace, NoEvent, Leads}
+use Rattle.kt_sched.specs.Trace.{Trace, NoEvent}
 use Rattle.kt_store.specs.StoreCalls.{StoreCall, Began, Put, Finished}
 use Rattle.kt_store.specs.declared.store_fault.StoreFault.{StoreFault}
 use Rattle.kt_cli.specs.FaultLines.{memory_line, refusal_line}
-use Rattle.kt_cli.specs.Pages.{Printed}
 use Rattle.kt_cli.specs.Recordings.{AllRecorded, IsStopped}
-use Rattle.kt_cli.specs.Stores.{Stored, puts}
+use Rattle.kt_cli.specs.Stores.{puts}
 use Rattle.kt_cli.specs.Totals.{lines, totals_text, good_count, bad_count}
 use Rattle.kt_cli.specs.Warnings.{warnings}
 
@@ -26,7 +21,7 @@ none_idle (position ∷ unmatched) = false
 abbrev pub ending : ℕ → ℕ → ℕ → List (List ℕ) → List ℕ → List ℕ
 ending good total bad words unmatched = utf8 (totals_text good total bad) ++ utf8 (warnings words unmatched)
 
--- the lines, and what stands behind them
+-- the lines, and what follows them
 abbrev pub results : List Entry → List (List ℕ) → List ℕ → List ℕ
 results entries words unmatched = lines entries ++ ending (good_count entries) (length entries) (bad_count entries) words unmatched
 
@@ -38,7 +33,7 @@ exit_of bad unmatched = if bad == 0 && none_idle unmatched then 0 else 1
 abbrev pub results_exit : List Entry → List ℕ → ℕ
 results_exit entries unmatched = exit_of (bad_count entries) unmatched
 
--- a plan was run at a width: each case was put into the run that was begun, and told in the order of recording; then the run was finished
+-- a plan was run at a width: each case was put into the run that was begun, and printed in the order of recording; then the run was finished
 pub data Tested (plan : List Job) (n : ℕ) (words : List (List ℕ)) (unmatched : List ℕ) (moment : ℕ) (T : Trace) : List StoreCall → List ℕ → ℕ → Type 0 where
   recorded : (number : ℕ) (entries : List Entry) → AllRecorded plan n T entries
       → Tested plan n words unmatched moment T (Began (length plan) moment (Ok number) ∷ (puts number entries ++ Finished number (Ok tt) ∷ [])) (results entries words unmatched) (results_exit entries unmatched)
@@ -51,14 +46,3 @@ pub data TestCut (plan : List Job) (n moment : ℕ) (T : Trace) : List StoreCall
       → TestCut plan n moment T (Began (length plan) moment (Ok number) ∷ (puts number entries ++ Put number refused (Err fault) ∷ [])) (lines entries ++ utf8 (refusal_line fault)) 2
   not_finished : (number : ℕ) (entries : List Entry) (fault : StoreFault) → AllRecorded plan n T entries
       → TestCut plan n moment T (Began (length plan) moment (Ok number) ∷ (puts number entries ++ Finished number (Err fault) ∷ [])) (lines entries ++ utf8 (refusal_line fault)) 2
-
--- what was done with a plan
-pub record RanPlan {L R : Type 0} (starts : L → Job → Role → StartAnswer → L → Type 0) (waits : L → Ended → L → Type 0) (Answers : R → StoreCall → R → Type 0) (Stands : R → List Run → Type 0) (Sound : R → Type 0) (Leaves : R → List (List Run) → Type 0) (plan : List Job) (n : ℕ) (words : List (List ℕ)) (unmatched : List ℕ) (moment : ℕ) (old new : L) (store after : R) (was now : Option (List ℕ)) (exit : ℕ) : Type 0 where
-  pub trace : Trace
-  pub leads : Leads starts waits plan trace old new
-  pub calls : List StoreCall
-  pub stored : Stored Answers Stands Sound Leaves calls store after
-  pub bytes : List ℕ
-  pub due : ℕ
-  pub is : Tested plan n words unmatched moment trace calls bytes due ⊎ TestCut plan n moment trace calls bytes due
-  pub printed : Printed was now exit bytes due

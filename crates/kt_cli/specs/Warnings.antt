@@ -1,4 +1,4 @@
--- The lines that tell of filters that select no case.
+-- The lines that warn of filters that select no case.
 use Rattle.std.specs.Prelude.{ℕ, List, [], ◌++◌, Option, Some, None, codes, flat_map, slice_get}
 
 -- the line of a filter, as it was given

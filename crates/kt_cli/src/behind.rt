@@ -1,8 +1,9 @@
 ghost use Rattle.std.specs.Prelude.{is_err};
 ghost use Rattle.kt_base.specs.Utf8.{utf8};
 ghost use Rattle.kt_report.specs.Lines.{line_bytes};
-ghost use Rattle.kt_cli.specs.FaultLines.{memory_line, put_line, refusal_line};
-ghost use Rattle.kt_cli.specs.Pages.{Says};
+ghost use Rattle.kt_cli.specs.Inner.FaultLines.{put_line};
+ghost use Rattle.kt_cli.specs.FaultLines.{memory_line, refusal_line};
+ghost use Rattle.kt_cli.specs.Inner.Pages.{Says};
 
 use crate::fault_line::{write_memory, write_put, write_refusal};
 use kt_base::{Entry, OutputFault};
@@ -11,7 +12,7 @@ use kt_sched::SinkFault;
 use kt_store::StoreFault;
 use std::io::Write;
 
-/// Writes the line of an entry behind what was written, unless that failed. It takes no memory.
+/// Prints the line of an entry, unless an earlier write failed. It takes no memory.
 pub fn line_behind<O: Write>(
     written: Result<(), OutputFault>,
     entry: &Entry,
@@ -24,7 +25,7 @@ pub fn line_behind<O: Write>(
     line(entry, out)
 }
 
-/// Writes that memory ran out behind what was written, unless that failed.
+/// Prints `out of memory`, unless an earlier write failed.
 pub fn memory_behind<O: Write>(
     written: Result<(), OutputFault>,
     out: &mut O,
@@ -36,7 +37,7 @@ pub fn memory_behind<O: Write>(
     write_memory(out)
 }
 
-/// Writes why a put failed behind what was written, unless that failed.
+/// Prints why a put failed, unless an earlier write failed.
 pub fn put_behind<O: Write>(
     written: Result<(), OutputFault>,
     fault: SinkFault,
@@ -49,7 +50,7 @@ pub fn put_behind<O: Write>(
     write_put(fault, out)
 }
 
-/// Writes why the store refused a call behind what was written, unless that failed.
+/// Prints why the store refused a call, unless an earlier write failed.
 pub fn refusal_behind<O: Write>(
     written: Result<(), OutputFault>,
     fault: StoreFault,

@@ -5,9 +5,9 @@ use crate::fault_exit::print_store_fault;
 use kt_store::StoreFault;
 use std::io::Write;
 
-/// The exit of a command whose results were closed. A close that failed is told, and the exit is 2:
-/// the entries are recorded all the same, in the log beside the file. A command that has failed
-/// already has told its fault, and tells no other.
+/// The exit of a command after its results were closed. If the close failed, this prints why and
+/// returns 2; the entries are safe in the log beside the file. A command that already failed prints
+/// nothing more.
 pub fn with_closed<O: Write>(exit: Exit, closed: Result<(), StoreFault>, out: &mut O) -> Exit
     ensures { Concluded closed (O.contents out.old) (O.contents out.new) exit.status result.status }
 {

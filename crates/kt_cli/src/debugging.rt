@@ -1,8 +1,8 @@
 ghost use Rattle.std.specs.Prelude.{◌≡◌, ◌==◌, ◌≤◌, length, if◌then◌else◌, is_err};
 ghost use Rattle.kt_sched.specs.Children.{IsIdle};
 ghost use Rattle.kt_sched.specs.Plan.{IsPlan};
-ghost use Rattle.kt_cli.specs.Debugging.{Debugged};
-ghost use Rattle.kt_cli.specs.Meaning.{ToldOnly};
+ghost use Rattle.kt_cli.specs.Inner.Debugging.{Debugged};
+ghost use Rattle.kt_cli.specs.Inner.Meaning.{ToldOnly};
 ghost use Rattle.kt_words.specs.declared.command.Command.TheVariants as command;
 
 use crate::behind::memory_behind;
@@ -41,7 +41,7 @@ fn print_cases<L: Launcher, O: Write>(
     (answer, printer.written)
 }
 
-/// The status of so many bad cases.
+/// 0 if no case is bad, else 1.
 fn status_of(bad: u64) -> u8
     ensures { result ≡ (if bad == 0 then 0 else 1) }
 {

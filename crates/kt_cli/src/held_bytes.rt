@@ -5,7 +5,7 @@ use std::marker::Model;
 /// How many bytes are held at the most.
 pub const ROOM: usize = 1024;
 
-/// Bytes in a room of their own, which takes no memory. Contracts see them in order.
+/// Bytes in a buffer of their own on the stack. Contracts see them in order.
 #[derive(Drop)]
 pub struct HeldBytes {
     room: [u8; ROOM],
@@ -48,7 +48,7 @@ impl HeldBytes {
         &self.room[..self.count]
     }
 
-    /// Appends bytes for which there is room.
+    /// Appends bytes that fit.
     pub fn append(&mut self, more: &[u8])
         requires { length self.old + length more.now ≤ 1024 }
         ensures { self.new ≡ self.old ++ more.now }

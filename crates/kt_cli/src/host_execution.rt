@@ -9,11 +9,11 @@ ghost use Rattle.kt_cli.specs.Meaning.{Did};
 use crate::execution::execute;
 use crate::exit::Exit;
 use crate::host_world::HostWorld;
-use crate::place::{is_absolute, source_of};
+use crate::place::source_of;
 use crate::reporting::{report, report_junit};
 use crate::runner::Runner;
 use crate::surroundings::Surroundings;
-use kt_base::Text;
+use kt_base::{Text, is_absolute};
 use kt_child::{Driver, DriverFault, Os};
 use kt_plan::CaseOptions;
 use kt_store::ResultStore;
@@ -37,7 +37,7 @@ fn driver_of<O: Os + Drop>(
         (is_among driver.running.pending)) }
     ensures refused { IfErr result (λ e. NoRoot O.leads os work.now e) }
 {
-    if !is_absolute(work) {
+    if !is_absolute(work.as_str()) {
         return Err(DriverFault::NoWorkDirectory);
     }
     let source = match source_of(alloc, here.as_str(), kyuafile) {

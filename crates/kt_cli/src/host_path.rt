@@ -1,5 +1,5 @@
 ghost use Rattle.std.specs.Prelude.{◌≡◌, ◌++◌, ◌+◌, ◌≤◌, ◌<◌, length, take, IfSome, IfNone};
-ghost use Rattle.kt_cli.specs.HostFiles.{longest_path};
+ghost use Rattle.kt_cli.specs.Inner.HostFiles.{longest_path};
 
 /// The longest path that the host takes, in bytes.
 pub const LONGEST_PATH: usize = 4_095;

@@ -1,13 +1,11 @@
-ghost use Rattle.std.specs.Prelude.{◌≡◌, ◌≤◌, IfOk, chars, length};
-ghost use Rattle.std.specs.List.{list_any};
-ghost use Rattle.kt_suite.specs.Paths.{is_slash};
-ghost use Rattle.kt_cli.specs.HostFiles.{may_execute, read_limit};
+ghost use Rattle.std.specs.Prelude.{◌≡◌, ◌≤◌, IfOk, length};
+ghost use Rattle.kt_cli.specs.Inner.HostFiles.{may_execute};
+ghost use Rattle.kt_cli.specs.HostFiles.{read_limit};
 
 use crate::host_path::{LONGEST_PATH, joined_path};
-use crate::place::is_absolute;
 use crate::runner::Runner;
 use kt_atflist::Listing;
-use kt_base::{Bytes, LATEST_MOMENT, NoMemory, Role, Text, Variables};
+use kt_base::{Bytes, LATEST_MOMENT, NoMemory, Role, Text, Variables, has_slash, is_absolute};
 use kt_child::{Os, read_start};
 use kt_plan::World;
 use kt_sched::{Ended, Job, Launcher, StartAnswer};
@@ -36,7 +34,7 @@ pub struct HostWorld<'a, R, O: Os + Drop> {
     pub runner: Runner<O>,
 }
 
-/// What is told of a system call that failed.
+/// The fault of a system call that failed.
 fn fault_of(error: io::Error) -> ReadFault {
     if let Some(refusal) = NoMemory::in_error(&error) {
         return ReadFault::Memory(refusal);
@@ -52,13 +50,6 @@ fn may_execute(mode: u32) -> bool
     ensures { result ≡ may_execute mode }
 {
     mode & EXECUTE_RIGHTS != 0
-}
-
-/// Whether a path has a slash.
-fn has_slash(name: &str) -> bool
-    ensures { result ≡ list_any is_slash (chars name.now) }
-{
-    name.chars().any(|c| c == '/')
 }
 
 impl<'a, R: Files<File = File> + Clock + AllocGlobal, O: Os + Drop> HostWorld<'a, R, O> {
@@ -188,7 +179,7 @@ impl<R: Files<File = File> + Clock + AllocGlobal, O: Os + Drop> World for HostWo
     }
 
     fn program_found(&mut self, name: &Text) -> bool {
-        if is_absolute(name) {
+        if is_absolute(name.as_str()) {
             return self.is_program(name.as_str());
         }
         match &self.runner.around.path {

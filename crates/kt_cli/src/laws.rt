@@ -14,7 +14,7 @@ use kt_child::Os;
 use kt_store::ResultStore;
 
 /// Joins what a command over the host did with the driver's outcome table: of all that was asked of
-/// the system, each start in the trace has its own calls, and each end is told by the polls, the
+/// the system, each start in the trace has its own calls, and each end follows from the polls, the
 /// kill and the files of its own child.
 pub fn law_of_children<O: Os + Drop>()
     ensures { CoursesAreTold O.leads }

@@ -4,10 +4,9 @@ use kt_base::send;
 use std::io;
 use std::io::{ErrorKind, Write};
 
-/// A writer before another one: it holds a line's beginning and hands on what it holds once a line
-/// is whole, or its room is full. An interrupted write is a failed one, and so is one that takes no
-/// byte. After a failed write every call fails, and nothing more is written, by a drop neither. It
-/// takes no memory.
+/// A line-buffered writer: it flushes when a line is complete or its buffer is full. An interrupted
+/// write is a failed one, and so is one that takes no byte. After a failed write every call fails, and
+/// nothing more is written, not even on drop. It takes no memory.
 #[derive(Drop)]
 pub struct LineOutput<W> {
     out: W,
@@ -15,7 +14,7 @@ pub struct LineOutput<W> {
     failed: bool,
 }
 
-/// What is told of a write behind one that failed.
+/// The error of a write after one that failed.
 fn broken() -> io::Error {
     io::Error::from(ErrorKind::BrokenPipe)
 }
@@ -48,12 +47,12 @@ impl<W: Write> LineOutput<W> {
         self.failed = failed;
     }
 
-    /// Whether what is held is handed on behind these bytes: a line is whole, or the room is full.
+    /// Whether to flush after these bytes: a line is complete, or the buffer is full.
     fn is_due(&self, bytes: &[u8]) -> bool {
         self.held.len() == ROOM || bytes.contains(&b'\n')
     }
 
-    /// Takes bytes for which there is room, and hands on what is held where that is due.
+    /// Takes bytes that fit into the buffer, and flushes if that is due.
     fn accept(&mut self, bytes: &[u8])
         requires { length (unwritten self.old) + length bytes.now ≤ 1024 }
         ensures { Appends (given_bytes W.contents self.old)

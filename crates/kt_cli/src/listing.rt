@@ -3,7 +3,7 @@ ghost use Rattle.kt_base.specs.Shows.{Shows};
 ghost use Rattle.kt_base.specs.Utf8.{utf8};
 ghost use Rattle.kt_sched.specs.Children.{IsIdle};
 ghost use Rattle.kt_cli.specs.CaseLines.{case_line};
-ghost use Rattle.kt_cli.specs.Meaning.{ToldOnly};
+ghost use Rattle.kt_cli.specs.Inner.Meaning.{ToldOnly};
 ghost use Rattle.kt_cli.specs.Testing.{none_idle};
 ghost use Rattle.kt_cli.specs.Warnings.{warnings};
 ghost use Rattle.kt_words.specs.declared.command.Command.TheVariants as command;

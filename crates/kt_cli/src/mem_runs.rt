@@ -31,7 +31,7 @@ impl MemRuns {
     ghost use Rattle.kt_store.specs.Ask.{IsStoreFault};
     ghost use Rattle.kt_store.specs.Heads.{head_of};
     ghost use Rattle.kt_store.specs.Runs.{run_at};
-    ghost use Rattle.kt_cli.specs.MemoryRuns.{BeginsRun, FindsPlace, PutsEntry, FinishesRun};
+    ghost use Rattle.kt_cli.specs.Inner.MemoryRuns.{BeginsRun, FindsPlace, PutsEntry, FinishesRun};
 
     /// No runs, which take no memory.
     pub fn new(alloc: Global) -> MemRuns
@@ -138,7 +138,7 @@ impl ResultStore for MemRuns {
     ghost use Rattle.std.specs.Prelude.{◌≡◌, ⊤};
     ghost use Rattle.kt_store.specs.Runs.{AreNumbered};
 
-    // What each call answers is its own clause.
+    // What each call returns is its own clause.
     ghost answers = { λ _ _ _. Unit {0} };
 
     ghost stands = { λ m runs. (m ≡ runs) × AreNumbered 1 runs };
@@ -180,7 +180,7 @@ ghost use Rattle.std.specs.Prelude.{◌≡◌, ◌≤◌, length, map, insert, O
 ghost use Rattle.kt_store.specs.Ask.{IsStoreFault};
 ghost use Rattle.kt_store.specs.Heads.{head_of};
 ghost use Rattle.kt_store.specs.Runs.{has_position, insert_at};
-ghost use Rattle.kt_cli.specs.MemoryRuns.{entry_refusal, closing_refusal, place_among};
+ghost use Rattle.kt_cli.specs.Inner.MemoryRuns.{entry_refusal, closing_refusal, place_among};
 
 /// Memory ran out.
 fn short(refusal: NoMemory) -> StoreFault

@@ -133,7 +133,7 @@ fn reject<W: Write, E: Write>(fault: &CommandFault, out: &mut LineOutput<W>, err
     }
 }
 
-/// Carries out a command line: performs its command, or tells why it is none.
+/// Carries out a command line: performs its command, or prints why it is none.
 pub fn carry_out<
     R: Files<File = File> + Clock + AllocGlobal,
     O: Os + Drop,

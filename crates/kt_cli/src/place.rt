@@ -1,26 +1,16 @@
 ghost use Rattle.std.specs.Prelude.{◌≡◌, IfOk};
 ghost use Rattle.std.specs.Str.{chars};
-ghost use Rattle.kt_cli.specs.Places.{is_absolute, absolute, source_directory};
+ghost use Rattle.kt_cli.specs.Places.{absolute, source_directory};
 
-use kt_base::{NoMemory, Text};
+use kt_base::{NoMemory, Text, is_absolute};
 use kt_suite::parent_path;
 use std::alloc::Global;
-
-/// Whether a path begins at the root of the host.
-pub fn is_absolute(path: &Text) -> bool
-    ensures { result ≡ is_absolute path.now }
-{
-    match path.as_str().chars().next() {
-        Some(c) => c == '/',
-        None => false,
-    }
-}
 
 /// A path, seen from a directory.
 fn absolute(alloc: Global, here: &str, path: &Text) -> Result<Text, NoMemory>
     ensures { IfOk result (λ whole. whole ≡ absolute (chars here.now) path.now) }
 {
-    if is_absolute(path) {
+    if is_absolute(path.as_str()) {
         return Ok(path.copy()?);
     }
     let mut whole = Text::from_str(alloc, here)?;

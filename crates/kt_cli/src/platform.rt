@@ -3,11 +3,10 @@ use kt_base::Text;
 use kt_child::DriverFault;
 use kt_store::{ResultStore, StoreFault};
 
-/// What the program has around its commands: the files of their results, and what is found around
-/// the process.
+/// The surroundings of the program's commands: the files of their results, and those of the process.
 ///
-/// An implementer may answer as it likes: what is promised of a command holds for the answers that
-/// were given to it.
+/// An implementer may return what it likes: what is promised of a command holds for the answers that
+/// it was given.
 pub trait Platform {
     ghost use Rattle.kt_cli.specs.Platforms.{Provided, Opened, Closed, Found};
 

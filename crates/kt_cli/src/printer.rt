@@ -1,7 +1,7 @@
 ghost use Rattle.std.specs.Prelude.{is_err};
 ghost use Rattle.kt_base.specs.Shows.{Shows};
 ghost use Rattle.kt_cli.specs.Debugging.{debug_bytes};
-ghost use Rattle.kt_cli.specs.Pages.{Says};
+ghost use Rattle.kt_cli.specs.Inner.Pages.{Says};
 
 use kt_base::{Entry, OutputFault, emit_all};
 use kt_report::line;
@@ -35,7 +35,7 @@ fn write_entry<O: Write>(entry: &Entry, out: &mut O) -> Result<(), OutputFault>
     line(entry, out)
 }
 
-/// Writes an entry behind what was written, unless that failed.
+/// Prints an entry, unless an earlier write failed.
 fn entry_behind<O: Write>(
     written: Result<(), OutputFault>,
     entry: &Entry,
@@ -50,7 +50,7 @@ fn entry_behind<O: Write>(
 
 impl<O: Write> Sink for Printer<'_, O> {
     ghost use Rattle.std.specs.Prelude.{◌≡◌, is_err};
-    ghost use Rattle.kt_cli.specs.Debugging.{Prints};
+    ghost use Rattle.kt_cli.specs.Inner.Debugging.{Prints};
 
     // It keeps no entry, so nothing is said of those that were put.
     ghost entries = { λ _ _. Unit {0} };

@@ -1,5 +1,5 @@
 ghost use Rattle.std.specs.Prelude.{◌≡◌};
-ghost use Rattle.kt_cli.specs.Recording.{sink_fault_of};
+ghost use Rattle.kt_cli.specs.Inner.Recording.{sink_fault_of};
 
 use crate::behind::line_behind;
 use kt_base::{Entry, OutputFault};
@@ -18,7 +18,7 @@ pub struct Recorder<'a, R, O> {
     pub written: Result<(), OutputFault>,
 }
 
-/// What a scheduler is told of a refused put.
+/// The fault of a refused put, as the scheduler sees it.
 fn sink_fault(fault: StoreFault) -> SinkFault
     ensures { result ≡ sink_fault_of fault }
 {
@@ -30,7 +30,7 @@ fn sink_fault(fault: StoreFault) -> SinkFault
 
 impl<R: ResultStore, O: Write> Sink for Recorder<'_, R, O> {
     ghost use Rattle.std.specs.Prelude.{◌≡◌, is_err};
-    ghost use Rattle.kt_cli.specs.Recording.{Recorded, Took};
+    ghost use Rattle.kt_cli.specs.Inner.Recording.{Recorded, Took};
 
     ghost entries = { λ s put. Took R.stands s.number s.results.now put };
 

@@ -1,8 +1,9 @@
 ghost use Rattle.std.specs.Prelude.{◌≡◌, is_err};
 ghost use Rattle.kt_base.specs.Utf8.{utf8};
 ghost use Rattle.kt_base.specs.Shows.{Shows};
-ghost use Rattle.kt_cli.specs.Reports.{chosen, Reported, ReportedJunit, Unread, JunitOrUnread, DidReport};
-ghost use Rattle.kt_cli.specs.Shown.{IsMissing, ReadsRun, not_shown_line};
+ghost use Rattle.kt_cli.specs.Inner.Reports.{JunitOrUnread, DidReport};
+ghost use Rattle.kt_cli.specs.Reports.{chosen, Reported, ReportedJunit, Unread};
+ghost use Rattle.kt_cli.specs.Inner.Shown.{IsMissing, ReadsRun, not_shown_line};
 
 use crate::exit::{Exit, FAILED, ended};
 use crate::fault_line::{write_memory, write_refusal};

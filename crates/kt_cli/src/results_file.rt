@@ -9,7 +9,7 @@ const OWNER_RIGHTS: u32 = 0o600;
 
 /// Makes a file of results if there is none, with the rights that the umask leaves, and always those
 /// of its owner to read and write it. One that is there keeps its rights. Why none can be made is
-/// told when it is opened; then its log is made too, with the rights of the file.
+/// reported when it is opened; then its log is made too, with the rights of the file.
 pub fn prepare_results<R: Files>(rt: &R, file: &Text) {
     let path = file.as_str();
     let made = OpenOptions::new()

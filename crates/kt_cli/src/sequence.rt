@@ -11,7 +11,7 @@ use kt_words::Command;
 use std::alloc::Global;
 use std::io::Write;
 
-/// Does commands one after the other, and answers how each ended. The memory for the answers is
+/// Executes commands one after the other, and returns the exit of each. The memory for the exits is
 /// taken before the first command.
 pub fn execute_all<W: World, R: ResultStore, O: Write>(
     alloc: Global,
@@ -34,7 +34,7 @@ pub fn execute_all<W: World, R: ResultStore, O: Write>(
     while let Some((command, after)) = rest.split_first() {
         let exit = execute(alloc, command, world, results, out);
         if exits.push(exit).is_err() {
-            // There is room for each.
+            // Memory for each was taken before.
             unreachable!()
         }
         rest = after;

@@ -1,5 +1,6 @@
 ghost use Rattle.std.specs.Prelude.{◌≡◌, IfOk, length};
-ghost use Rattle.kt_cli.specs.HostAnswers.{is_root, longest_variable};
+ghost use Rattle.kt_cli.specs.Inner.HostAnswers.{longest_variable};
+ghost use Rattle.kt_cli.specs.HostAnswers.{is_root};
 
 use kt_base::{NoMemory, Text};
 use kt_child::DriverFault;
@@ -21,7 +22,7 @@ pub struct Surroundings {
     pub user: Option<Text>,
 }
 
-/// The value of a variable, which is copied through a room.
+/// The value of a variable, which is copied through a buffer on the stack.
 fn variable<R: Env + AllocGlobal>(
     rt: &R,
     name: &str,

@@ -1,13 +1,14 @@
 ghost use Rattle.std.specs.Prelude.{◌≡◌, ◌≤◌, length, is_err};
 ghost use Rattle.kt_base.specs.Shows.{Shows};
 ghost use Rattle.kt_sched.specs.Children.{IsIdle};
-ghost use Rattle.kt_sched.specs.Moments.{IsMoment};
+ghost use Rattle.kt_base.specs.Moments.{IsMoment};
 ghost use Rattle.kt_sched.specs.Plan.{IsPlan, IsWidth};
 ghost use Rattle.kt_suite.specs.Selecting.{most_items};
 ghost use Rattle.kt_cli.specs.Meaning.{Did};
-ghost use Rattle.kt_cli.specs.Pages.{Says};
-ghost use Rattle.kt_cli.specs.Recordings.{Records};
-ghost use Rattle.kt_cli.specs.Testing.{RanPlan, ending, exit_of};
+ghost use Rattle.kt_cli.specs.Inner.Pages.{Says};
+ghost use Rattle.kt_cli.specs.Inner.Recordings.{Records};
+ghost use Rattle.kt_cli.specs.Inner.Testing.{RanPlan};
+ghost use Rattle.kt_cli.specs.Testing.{ending, exit_of};
 ghost use Rattle.kt_words.specs.declared.command.Command.TheVariants as command;
 
 use crate::behind::{memory_behind, put_behind, refusal_behind};
@@ -56,7 +57,7 @@ fn record_cases<L: Launcher, R: ResultStore, O: Write>(
     (answer, recorder.written)
 }
 
-/// The status of a run with so many bad cases, and these filters that select none.
+/// 0 if no case is bad and every filter selects some, else 1.
 fn status_of(bad: u64, unmatched: &[usize]) -> u8
     ensures { result ≡ exit_of bad unmatched.now }
 {
@@ -81,7 +82,7 @@ fn write_ending<O: Write>(
     write_warnings(words, unmatched, out)
 }
 
-/// Writes the totals and the warnings behind what was written, unless that failed.
+/// Prints the totals and the warnings, unless an earlier write failed.
 fn ending_behind<O: Write>(
     written: Result<(), OutputFault>,
     totals: Totals,

@@ -9,7 +9,8 @@ use Rattle.kt_base.proofs.Names.{same}
 use Rattle.kt_config.specs.declared.definition.Definition.{Definition}
 use Rattle.kt_config.specs.declared.definition.Definition.TheVariants.{OfSuite}
 use Rattle.kt_config.specs.Values.{Group, Values, variables_of}
-use Rattle.kt_config.specs.Holding.{architecture_in, platform_in, parallelism_in, variable_for, last_given, given_to, if_any, Adds, AddsToSuite}
+use Rattle.kt_config.specs.Holding.{architecture_in, platform_in, parallelism_in, variable_for, last_given, given_to, if_any, Adds}
+use Rattle.kt_config.specs.Inner.{AddsToSuite}
 use Rattle.kt_config.proofs.Puttings.{put-twice}
 
 or-none : {A : Type 0} (o : Option A) → option_or o None ≡ o

@@ -11,7 +11,8 @@ use Rattle.kt_config.specs.declared.fault.ConfigFault.TheVariants.{NoMemory, Unk
 use Rattle.kt_config.specs.Names.{Meaning}
 use Rattle.kt_config.specs.Values.{Values}
 use Rattle.kt_config.specs.Holding.{Holds, Adds}
-use Rattle.kt_config.specs.Reading.{Outcome, with_first, with_meaning, meaning_of, definitions_in, outcome_of, IsDue, IsRead, IfFault, Answers, Refuses, Gives, fault_of_script}
+use Rattle.kt_config.specs.Reading.{Outcome, with_first, with_meaning, meaning_of, definitions_in, outcome_of, IsDue, IsRead, IfFault, Answers, Refuses}
+use Rattle.kt_config.specs.Inner.{Gives, fault_of_script}
 use Rattle.kt_config.proofs.ScriptLaws.{one_script, not_both}
 
 -- ---- statement by statement
@@ -154,3 +155,16 @@ due_in text script.TooLong fault due none d = by_cause text script.TooLong fault
 pub script_due : (text : List ℕ) (cause : ScriptFault) (found : ConfigFault) → found ≡ fault_of_script cause → ((f : ScriptFault) → IsScriptDue text f → ScriptRefuses (Err cause) f)
     → ((stmts : List Stmt) → Spells text stmts → ScriptAnswers (Err cause) stmts) → (fault : ConfigFault) → IsDue text fault → Refuses {T = Values} (Err found) fault
 script_due text cause found e due none fault d = subst (λ (x : ConfigFault). Refuses {T = Values} (Err x) fault) (sym e) (due_in text cause fault due none d)
+
+only_in : (cause : ScriptFault) (stmts : List Stmt) (ds : List Definition) → ScriptAnswers (Err cause) stmts → Answers (Err (fault_of_script cause)) ds
+only_in (script.NoMemory refusal) stmts ds a = tt
+only_in script.NotUtf8 stmts ds a = absurd a
+only_in (script.BadToken line) stmts ds a = absurd a
+only_in (script.NotLiteral line) stmts ds a = absurd a
+only_in (script.Unclosed line) stmts ds a = absurd a
+only_in script.TooLong stmts ds a = absurd a
+
+pub script_only : (text : List ℕ) (cause : ScriptFault) (found : ConfigFault) → found ≡ fault_of_script cause
+    → ((stmts : List Stmt) → Spells text stmts → ScriptAnswers (Err cause) stmts)
+    → (stmts : List Stmt) (ds : List Definition) → Spells text stmts → outcome_of stmts ≡ Ok ds → Answers (Err found) ds
+script_only text cause found e none = λ stmts ds s o. subst (λ (f : ConfigFault). Answers (Err f) ds) (sym e) (only_in cause stmts ds (none stmts s))

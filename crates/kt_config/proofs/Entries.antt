@@ -10,8 +10,8 @@ use Rattle.indexmap.specs.IndexMap.{insert_entry}
 use Rattle.kt_base.specs.declared.variable.Variable.{Variable}
 use Rattle.kt_base.specs.LastValues.{is_named, last_values}
 use Rattle.kt_base.proofs.Names.{same, same-refl}
-use Rattle.kt_config.specs.Values.{Group, variables_of, variable_in, group_in}
-use Rattle.kt_config.specs.Holding.{AddsToSuite}
+use Rattle.kt_config.specs.Inner.{AddsToSuite, group_in}
+use Rattle.kt_config.specs.Values.{Group, variables_of, variable_in}
 use Rattle.kt_base.proofs.Texts.{bytes_eq-chars}
 use Rattle.kt_config.proofs.Puttings.{put, first_value}
 

@@ -1,6 +1,6 @@
-pub mod Parts
 pub mod Puttings
 pub mod Entries
 pub mod Adding
 pub mod ScriptLaws
 pub mod Answering
+pub mod Parts

@@ -5,7 +5,7 @@ use Rattle.std.specs.Str.{bytes_eq}
 use Rattle.std.proofs.lemmas.List.Elements.{filter-append}
 use Rattle.kt_base.specs.declared.variable.Variable.{Variable}
 use Rattle.kt_base.specs.LastValues.{is_named, value_of, without, last_values}
-use Rattle.kt_base.proofs.Names.{same, same-flip, later-none, later-some, value_of-append, last_values-without}
+use Rattle.kt_base.proofs.Names.{same, same-flip, or-none, or-some, value_of-append, last_values-without}
 use Rattle.kt_base.proofs.LastValueLaws.{overlaid}
 
 -- a variable takes the place of the one with its name, or goes last
@@ -95,8 +95,8 @@ first-other m n (y ∷ ys) other = first-other-next m n y ys other (first-other 
 first-last-next : (name : List ℕ) (x : Variable) (xs : List Variable) → first_value name (last_values xs) ≡ value_of name xs
     → (b : Bool) → is_named name x ≡ b → first_value name (last_values (x ∷ xs)) ≡ value_of name (x ∷ xs)
 first-last-next name x xs h true e =
-    rw (e) (ap (λ (m : List ℕ). Some (unwrap_or (value_of m xs) x.value)) (sym (same name x.name e)) ∙ sym (later-some (value_of name xs) x.value))
-first-last-next name x xs h false e = rw e (first-other name x.name (last_values xs) e ∙ h ∙ sym (later-none (value_of name xs)))
+    rw (e) (ap (λ (m : List ℕ). Some (unwrap_or (value_of m xs) x.value)) (sym (same name x.name e)) ∙ sym (or-some (value_of name xs) x.value))
+first-last-next name x xs h false e = rw e (first-other name x.name (last_values xs) e ∙ h ∙ sym (or-none (value_of name xs)))
 
 first-last : (name : List ℕ) (xs : List Variable) → first_value name (last_values xs) ≡ value_of name xs
 first-last name [] = refl

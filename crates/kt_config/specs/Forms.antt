@@ -1,13 +1,10 @@
--- Which values and names are accepted.
+-- The values and names that are accepted.
 use Rattle.std.specs.Prelude.{ℕ, Bool, nat_le, not, ◌==◌, ◌&&◌, ◌||◌, List, Option, Some, None, if◌then◌else◌}
 use Rattle.std.specs.List.{list_any}
 use Rattle.kt_base.specs.Digits.{is_digit, decimal_from}
+use Rattle.kt_base.specs.Limits.{largest_width}
 use Rattle.kt_base.specs.Texts.{is_empty}
 use Rattle.kt_base.specs.Utf8.{utf8}
-
--- the greatest number of cases that may run at once
-abbrev pub greatest_width : ℕ
-greatest_width = 256
 
 -- any byte but 0 to 9
 abbrev pub is_no_digit : ℕ → Bool
@@ -17,7 +14,7 @@ is_no_digit c = not (is_digit c)
 abbrev pub is_zero : ℕ → Bool
 is_zero c = c == 0
 
--- a byte that is no letter, no digit, no `_` and no `-`
+-- any byte but letters, digits, `_` and `-`
 abbrev pub is_strange : ℕ → Bool
 is_strange c = not ((nat_le 97 c && nat_le c 122) || (nat_le 65 c && nat_le c 90) || is_digit c || c == 95 || c == 45)
 
@@ -29,9 +26,9 @@ has_zero value = list_any is_zero (utf8 value)
 abbrev pub is_variable : List ℕ → Bool
 is_variable name = not (is_empty name) && not (list_any is_strange (utf8 name))
 
--- the number, if so many cases may run at once
+-- the number, if it is a width
 abbrev pub in_range : ℕ → Option ℕ
-in_range n = if nat_le 1 n && nat_le n greatest_width then Some n else None
+in_range n = if nat_le 1 n && nat_le n largest_width then Some n else None
 
 -- the width that bytes spell in decimal, leading zeros allowed
 abbrev pub width_in : List ℕ → Option ℕ

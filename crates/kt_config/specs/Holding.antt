@@ -1,11 +1,11 @@
--- Which definitions a configuration has the last values of.
-use Rattle.std.specs.Prelude.{ℕ, ◌≡◌, false, List, [], ◌∷◌, ◌++◌, Option, Some, None, unwrap_or, bytes_eq, if◌then◌else◌}
+-- The definitions whose last values a configuration has.
+use Rattle.std.specs.Prelude.{ℕ, ◌≡◌, List, [], ◌∷◌, ◌++◌, Option, Some, None, unwrap_or, bytes_eq, if◌then◌else◌}
 use Rattle.std.specs.Option.{option_or}
 use Rattle.kt_base.specs.declared.variable.Variable.{Variable}
 use Rattle.kt_base.specs.LastValues.{last_values}
 use Rattle.kt_config.specs.declared.definition.Definition.{Definition}
 use Rattle.kt_config.specs.declared.definition.Definition.TheVariants.{Architecture, Platform, Parallelism, UnprivilegedUser, OfSuite}
-use Rattle.kt_config.specs.Values.{Group, Values, variables_of}
+use Rattle.kt_config.specs.Values.{Values, variables_of}
 
 -- the value that a definition gives to the architecture
 abbrev pub architecture_in : Definition → Option (List ℕ)
@@ -61,11 +61,6 @@ pub record Holds (config : Values) (definitions : List Definition) : Type 0 wher
   pub parallelism : config.parallelism ≡ unwrap_or (last_given parallelism_in definitions) 1
   pub suites : (suite : List ℕ) → variables_of suite config.suites ≡ if_any (last_values (given_to suite definitions))
 
--- whatever definitions stood before, there is one more
+-- a configuration has the values of one more definition, whatever the others were
 abbrev pub Adds : Definition → Values → Values → Type 0
 Adds definition old new = (before : List Definition) → Holds old before → Holds new (before ++ definition ∷ [])
-
--- a suite has one variable more, and the other suites have what they had
-pub record AddsToSuite (suite : List ℕ) (variable : Variable) (old new : List Group) : Type 0 where
-  pub own : variables_of suite new ≡ Some (last_values (unwrap_or (variables_of suite old) [] ++ variable ∷ []))
-  pub others : (other : List ℕ) → bytes_eq other suite ≡ false → variables_of other new ≡ variables_of other old

@@ -1,5 +1,7 @@
+pub mod FaultWords
 pub mod Forms
 pub mod Names
 pub mod Values
 pub mod Holding
 pub mod Reading
+pub mod Inner

@@ -1,5 +1,7 @@
--- Which variable a name stands for, and what a value for it means.
-use Rattle.std.specs.Prelude.{ℕ, Bool, true, false, not, ◌==◌, ◌&&◌, List, [], ◌∷◌, Option, Some, None, Result, Ok, Err, bytes_eq, codes, if◌then◌else◌}
+-- The variable that a name stands for, and what a value for it means.
+use Rattle.std.specs.Prelude.{ℕ, Bool, true, false, not, ◌==◌, ◌&&◌, List, [], ◌∷◌, map, chars, Option, Some, None, Result, Ok, Err, bytes_eq, codes, if◌then◌else◌}
+use Rattle.std.specs.List.{slice_split}
+use Rattle.kt_base.specs.Utf8.{utf8}
 use Rattle.kt_config.specs.declared.definition.Definition.{Definition}
 use Rattle.kt_config.specs.declared.definition.Definition.TheVariants.{Architecture, Platform, Parallelism, UnprivilegedUser, OfSuite}
 use Rattle.kt_config.specs.declared.fault.ConfigFault.{ConfigFault}
@@ -11,12 +13,12 @@ use Rattle.kt_base.specs.Texts.{is_empty}
 abbrev pub Meaning : Type 0
 Meaning = Result Definition ConfigFault
 
--- a definition whose value may be any text but the empty one
+-- a definition whose value must not be empty
 abbrev pub unless_empty : Bool → Definition → Meaning
 unless_empty true definition = Err BadValue
 unless_empty false definition = Ok definition
 
--- a definition of the width
+-- a definition of the width, if the value is one
 abbrev pub of_width : Option ℕ → Meaning
 of_width None = Err BadValue
 of_width (Some width) = Ok (Parallelism width)
@@ -49,15 +51,9 @@ definition_of (root ∷ suite ∷ []) value = Err UnknownVariable
 definition_of (root ∷ suite ∷ name ∷ []) value = suite_definition root suite name value
 definition_of (root ∷ suite ∷ name ∷ more ∷ rest) value = Err UnknownVariable
 
--- a character more in front of the first part
-abbrev pub in_front : ℕ → List (List ℕ) → List (List ℕ)
-in_front c [] = []
-in_front c (part ∷ parts) = (c ∷ part) ∷ parts
-
 -- the parts of a name between its dots
 abbrev pub dotted : List ℕ → List (List ℕ)
-dotted [] = [] ∷ []
-dotted (c ∷ cs) = if c == 46 then [] ∷ dotted cs else in_front c (dotted cs)
+dotted name = map chars (slice_split (λ b. b == 46) (utf8 name))
 
 -- a value for a name with dots
 abbrev pub definition_named : List ℕ → List ℕ → Meaning

@@ -1,7 +1,6 @@
--- What a configuration file defines, and what a call answers.
+-- What a configuration file defines, and the answers of calls.
 use Rattle.std.specs.Prelude.{ℕ, ◌≡◌, Bool, false, ◌==◌, ◌&&◌, List, [], ◌∷◌, Result, Ok, Err, bytes_eq, codes, if◌then◌else◌, ◌⊎◌}
 use Rattle.kt_script.specs.declared.fault.ScriptFault.{ScriptFault}
-use Rattle.kt_script.specs.declared.fault.ScriptFault.TheVariants as script
 use Rattle.kt_script.specs.declared.syntax.Action.{Action}
 use Rattle.kt_script.specs.declared.syntax.Action.TheVariants.{Call, Assign}
 use Rattle.kt_script.specs.declared.syntax.Arg.{Arg}
@@ -43,7 +42,7 @@ abbrev pub with_first : Definition → Outcome → Outcome
 with_first definition (Ok definitions) = Ok (definition ∷ definitions)
 with_first definition (Err fault) = Err fault
 
--- a statement more in front: behind its fault nothing counts
+-- a statement more in front: after its fault nothing counts
 abbrev pub with_meaning : Meaning → Outcome → Outcome
 with_meaning (Ok definition) rest = with_first definition rest
 with_meaning (Err fault) rest = Err fault
@@ -88,23 +87,7 @@ Refuses (Ok x) fault = ⊥
 Refuses (Err (NoMemory refusal)) fault = Unit {0}
 Refuses (Err found) fault = found ≡ fault
 
--- a configuration with the values of what a script defines, or the script's fault
-abbrev pub Gives : Result Values ConfigFault → Outcome → Type 0
-Gives (Ok config) (Ok definitions) = Holds config definitions
-Gives (Ok config) (Err fault) = ⊥
-Gives (Err found) (Ok definitions) = ⊥
-Gives (Err found) (Err fault) = found ≡ fault
-
 -- a value was set by what it means
 abbrev pub Becomes : Values → Values → Meaning → Type 0
 Becomes old new (Ok definition) = Adds definition old new
 Becomes old new (Err fault) = ⊥
-
--- the fault of a file that is no script; memory that runs out is one fault, wherever it comes
-abbrev pub fault_of_script : ScriptFault → ConfigFault
-fault_of_script (script.NoMemory refusal) = NoMemory refusal
-fault_of_script script.NotUtf8 = Script script.NotUtf8
-fault_of_script (script.BadToken line) = Script (script.BadToken line)
-fault_of_script (script.NotLiteral line) = Script (script.NotLiteral line)
-fault_of_script (script.Unclosed line) = Script (script.Unclosed line)
-fault_of_script script.TooLong = Script script.TooLong

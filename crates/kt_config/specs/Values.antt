@@ -33,7 +33,3 @@ variables_in entries = map variable_in entries
 -- each name stands once, so these are their own last values
 abbrev pub IsSettled : List Variable → Type 0
 IsSettled variables = variables ≡ last_values variables
-
--- an entry of a map as a suite
-abbrev pub group_in : {Z : Type 0} → String Z × List Variable → Group
-group_in entry = record { suite = chars (string_bytes entry.0); variables = entry.1 }

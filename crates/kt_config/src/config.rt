@@ -4,7 +4,7 @@ ghost use Rattle.kt_script.specs.Spelling.{Spells};
 ghost use Rattle.kt_script.specs.declared.syntax.Stmt.{Stmt};
 ghost use Rattle.kt_config.specs.declared.definition.Definition.{Definition};
 ghost use Rattle.kt_config.specs.declared.fault.ConfigFault.{ConfigFault};
-ghost use Rattle.kt_config.specs.Forms.{greatest_width};
+ghost use Rattle.kt_base.specs.Limits.{largest_width};
 ghost use Rattle.kt_config.specs.Names.{definition_named};
 ghost use Rattle.kt_config.specs.Values.{Values, variables_of};
 ghost use Rattle.kt_config.specs.Holding.{Holds, Adds};
@@ -23,8 +23,8 @@ use kt_script::parse;
 use std::alloc::Global;
 use std::marker::Model;
 
-/// The variables of the runner and of the test suites, each with the last value that it was given. Contracts see the
-/// values; `Holds` says which definitions they are the last ones of.
+/// The variables of the runner and of the test suites, each with its last value. Contracts see the
+/// values; `Holds` says whose last values they are.
 #[derive(Drop)]
 pub struct Config {
     alloc: Global,
@@ -115,7 +115,7 @@ impl Config {
     /// How many cases may run at once, 1 if nothing was given. It takes no memory.
     pub fn parallelism(&self) -> u32
         ensures value { result ≡ self.now.parallelism }
-        ensures within { (1 ≤ result) × (result ≤ greatest_width) }
+        ensures within { (1 ≤ result) × (result ≤ largest_width) }
     {
         self.parallelism.cases()
     }

@@ -5,26 +5,39 @@ use kt_base::NoMemory;
 use kt_script::ScriptFault;
 use thiserror::Error;
 
-/// Why a configuration file, or one variable, was refused. `Display` is the text of the fault's line (this profile).
+/// Why a configuration file, or one variable, was refused.
 #[derive(Clone, Copy, Debug, PartialEq, Eq, Error)]
+#[error("{}", self.words())]
 pub enum ConfigFault {
-    #[error("out of memory")]
     NoMemory(NoMemory),
     /// No variable has this name.
-    #[error("unknown variable")]
     UnknownVariable,
     /// The variable doesn't accept this value.
-    #[error("bad value")]
     BadValue,
-    /// The file is no script.
-    #[error(transparent)]
+    /// The file is not a script.
     Script(ScriptFault),
     /// The first statement of the file isn't `syntax(2)`.
-    #[error("syntax(2) expected")]
     NoSyntax,
     /// A later statement of the file is a call.
-    #[error("not an assignment")]
     NotAssignment,
+}
+
+impl ConfigFault {
+    ghost use Rattle.kt_config.specs.FaultWords.{config_words};
+
+    /// The words of the fault's line (this profile). `Display` prints them.
+    pub fn words(&self) -> &'static str
+        ensures { result.now ≡ config_words self.now }
+    {
+        match self {
+            ConfigFault::NoMemory(_) => "out of memory",
+            ConfigFault::UnknownVariable => "unknown variable",
+            ConfigFault::BadValue => "bad value",
+            ConfigFault::Script(fault) => fault.words(),
+            ConfigFault::NoSyntax => "syntax(2) expected",
+            ConfigFault::NotAssignment => "not an assignment",
+        }
+    }
 }
 
 impl From<NoMemory> for ConfigFault {

@@ -77,7 +77,8 @@ fn suite_definition(
     Ok(Ok(Definition::OfSuite(suite, Variable { name, value })))
 }
 
-/// What a value for a name in parts means: a definition, or the fault of its name or else of its value.
+/// What a value for a name in parts means: a definition, or the fault of the name, else that of the
+/// value.
 pub fn definition_of(
     parts: &[Text],
     value: Text,

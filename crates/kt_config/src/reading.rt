@@ -1,5 +1,6 @@
 ghost use Rattle.std.specs.Prelude.{◌≡◌, IfOk};
-ghost use Rattle.kt_config.specs.Reading.{is_version, is_opening, meaning_of, definitions_in, outcome_of, fault_of_script, Gives};
+ghost use Rattle.kt_config.specs.Reading.{is_version, is_opening, meaning_of, definitions_in, outcome_of};
+ghost use Rattle.kt_config.specs.Inner.{fault_of_script, Gives};
 
 use crate::config::Config;
 use crate::definition::Definition;
@@ -9,7 +10,7 @@ use kt_base::NoMemory;
 use kt_script::{Action, Arg, Literal, ScriptFault, Stmt};
 use std::alloc::Global;
 
-/// The fault of a file that is no script.
+/// The fault of a file that is not a script.
 pub fn script_fault(fault: ScriptFault) -> ConfigFault
     ensures { result ≡ fault_of_script fault }
 {
@@ -48,18 +49,16 @@ fn meaning_of(alloc: Global, action: &Action) -> Result<Result<Definition, Confi
     }
 }
 
-/// Reads the statements after the first, up to the first fault.
+/// Reads the statements after the first one, up to the first fault.
 fn read_statements(alloc: Global, stmts: &[Stmt]) -> Result<Result<Config, ConfigFault>, NoMemory>
     ensures { IfOk result (λ outcome. Gives outcome (definitions_in stmts.now)) }
 {
     let mut config = Config::new(alloc);
-    let mut rest = stmts;
-    while let Some((stmt, after)) = rest.split_first() {
+    for stmt in stmts {
         match meaning_of(alloc, &stmt.action)? {
             Err(fault) => return Ok(Err(fault)),
             Ok(definition) => config.define(definition)?,
         }
-        rest = after;
     }
     Ok(Ok(config))
 }

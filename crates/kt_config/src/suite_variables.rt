@@ -10,8 +10,8 @@ use kt_base::{NoMemory, Text, Variable, Variables};
 use std::alloc::Global;
 use std::marker::Model;
 
-/// The variables of a test suite, in the order of their first definitions. Contracts see the list of their pairs, in
-/// which each name stands once.
+/// The variables of a test suite, in the order of their first definitions. Contracts see the list of
+/// their pairs, in which each name occurs once.
 #[derive(Drop)]
 pub struct SuiteVariables {
     values: IndexMap<String, Text>,

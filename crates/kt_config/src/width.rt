@@ -1,6 +1,7 @@
 ghost use Rattle.std.specs.Prelude.{◌≡◌, ℕ, ◌≤◌};
 ghost use Rattle.std.specs.List.{list_any};
-ghost use Rattle.kt_config.specs.Forms.{is_no_digit, in_range, width_in, width_of, greatest_width};
+ghost use Rattle.kt_config.specs.Forms.{is_no_digit, in_range, width_in, width_of};
+ghost use Rattle.kt_base.specs.Limits.{largest_width};
 
 use kt_base::{Text, decimal_up_to, is_digit};
 use std::marker::Model;
@@ -8,7 +9,7 @@ use std::marker::Model;
 /// The greatest width.
 const GREATEST: u64 = 256;
 
-/// How many cases may run at once, 1 to 256. Contracts see the number.
+/// The number of cases that may run at once, 1 to 256. Contracts see the number.
 #[derive(Debug, Drop)]
 pub struct Width {
     cases: u32,
@@ -19,7 +20,7 @@ impl Model for Width {
 
     ghost view = { λ w. w.cases };
 
-    ghost invariant = { λ w. (1 ≤ w.cases) × (w.cases ≤ greatest_width) };
+    ghost invariant = { λ w. (1 ≤ w.cases) × (w.cases ≤ largest_width) };
 }
 
 fn has_no_digit(bytes: &[u8]) -> bool
@@ -28,7 +29,7 @@ fn has_no_digit(bytes: &[u8]) -> bool
     bytes.iter().any(|c| !is_digit(*c))
 }
 
-/// A number, if so many cases may run at once.
+/// A number, if it is a width.
 fn in_range(number: u64) -> Option<u32>
     ensures { result ≡ in_range number }
 {
@@ -67,7 +68,7 @@ impl Width {
     /// The number of cases.
     pub fn cases(&self) -> u32
         ensures value { result ≡ self.now }
-        ensures within { (1 ≤ result) × (result ≤ greatest_width) }
+        ensures within { (1 ≤ result) × (result ≤ largest_width) }
     {
         self.cases
     }

@@ -8,7 +8,7 @@ use Rattle.kt_base.specs.LastValues.{last_values}
 use Rattle.kt_base.proofs.LastValueLaws.{overlaid}
 use Rattle.kt_config.specs.Values.{variable_in}
 use Rattle.kt_config.proofs.Puttings.{twice}
-use Rattle.kt_metadata.specs.Overlays.{taken}
+use Rattle.kt_metadata.specs.Inner.Overlays.{taken}
 
 -- only the last values of what lies under count
 pub overlaid-under : (under over : List Variable) → last_values (last_values under ++ over) ≡ last_values (under ++ over)

@@ -2,7 +2,8 @@
 use Rattle.std.proofs.Common.{◌≡◌, ℕ, Bool, true, false, not, List, [], ◌∷◌, ◌++◌, refl, sym, ap, ◌∙◌, subst, append_assoc, append-nil}
 use Rattle.std.specs.List.{list_any}
 use Rattle.std.proofs.lemmas.List.Folds.{list_any-append}
-use Rattle.kt_metadata.specs.Words.{is_space, is_word, IsBreak, AreWords, ended, words_from, words}
+use Rattle.kt_base.specs.Characters.{is_space}
+use Rattle.kt_metadata.specs.Words.{is_word, IsBreak, AreWords, ended, words_from, words}
 use Rattle.kt_metadata.specs.Words as rule
 
 -- characters without white space, of which a word has at least one

@@ -2,7 +2,6 @@
 use Rattle.std.specs.Prelude.{ℕ, Bool, false, List, [], Option, Some, None, unwrap_or}
 use Rattle.kt_base.specs.declared.variable.Variable.{Variable}
 use Rattle.kt_base.specs.LastValues.{value_of}
-use Rattle.kt_metadata.specs.declared.property.Property.{Property}
 use Rattle.kt_metadata.specs.declared.property.Property.TheVariants.{AllowedArchitectures, AllowedPlatforms, Description, HasCleanup, IsExclusive, RequiredConfigs, RequiredDiskSpace, RequiredFiles, RequiredMemory, RequiredPrograms, RequiredUser, Timeout}
 use Rattle.kt_metadata.specs.declared.user.User.{User}
 use Rattle.kt_metadata.specs.declared.user.User.TheVariants.{Any}
@@ -10,10 +9,6 @@ use Rattle.kt_metadata.specs.declared.meta.Meta.{Meta}
 use Rattle.kt_metadata.specs.Properties.{property_name}
 use Rattle.kt_metadata.specs.Words.{words}
 use Rattle.kt_metadata.specs.Values.{truth_of, user_of, size_of, timeout_of}
-
--- the value that some definitions give to a property
-abbrev pub given : Property → List Variable → Option (List ℕ)
-given property definitions = value_of (property_name property) definitions
 
 -- no words by default
 abbrev pub words_value : Option (List ℕ) → List (List ℕ)

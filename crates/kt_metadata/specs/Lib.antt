@@ -1,9 +1,10 @@
-pub mod Words
-pub mod Values
-pub mod Properties
-pub mod ListKeys
-pub mod Overlays
-pub mod Effective
-pub mod Listing
 pub mod Configured
+pub mod Effective
+pub mod Inner
+pub mod ListKeys
+pub mod Listing
+pub mod Overlays
+pub mod Properties
 pub mod Requirements
+pub mod Values
+pub mod Words

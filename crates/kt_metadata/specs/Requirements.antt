@@ -70,7 +70,7 @@ abbrev pub program_row : Meta → Host → Option (List ℕ)
 program_row meta host =
     around (codes "Required program '") (codes "' not found") (find (is_missing host.programs) meta.required_programs)
 
--- the host tells that it has less than is required; one that doesn't tell has enough
+-- the host has less than is required; an unknown amount is enough
 abbrev pub amount_row : Phrase → ℕ → Option ℕ → Option (List ℕ)
 amount_row phrase due None = None
 amount_row phrase due (Some there) =

@@ -1,7 +1,10 @@
 -- Truth values, users, sizes, timeouts and paths, as they are written.
-use Rattle.std.specs.Prelude.{ℕ, ◌*◌, ◌^◌, ◌==◌, ◌||◌, Bool, true, false, not, nat_le, nat_lt, bytes_eq, codes, List, [], ◌∷◌, take, drop, Option, Some, None, if◌then◌else◌}
+use Rattle.std.specs.Prelude.{ℕ, ◌*◌, ◌^◌, ◌==◌, ◌||◌, Bool, true, false, not, nat_le, bytes_eq, codes, List, [], ◌∷◌, take, drop, Option, Some, None, if◌then◌else◌}
 use Rattle.std.specs.List.{list_any, prefix_len}
-use Rattle.kt_base.specs.Digits.{is_digit, decimal_from}
+use Rattle.kt_base.specs.Characters.{is_slash, is_absolute}
+use Rattle.kt_base.specs.Digits.{is_digit, decimal_from, fits}
+use Rattle.kt_base.specs.Limits.{longest_timeout}
+use Rattle.kt_base.specs.Texts.{is_empty}
 use Rattle.kt_base.specs.Utf8.{utf8}
 use Rattle.kt_metadata.specs.declared.user.User.{User}
 use Rattle.kt_metadata.specs.declared.user.User.TheVariants.{Any, Root, Unprivileged}
@@ -15,12 +18,8 @@ truth_of text =
 
 -- the user that a case asks for
 abbrev pub user_of : List ℕ → Option User
-user_of text = if bytes_eq text [] then Some Any else if bytes_eq text (codes "root") then Some Root
+user_of text = if is_empty text then Some Any else if bytes_eq text (codes "root") then Some Root
     else if bytes_eq text (codes "unprivileged") then Some Unprivileged else None
-
--- a number below 2^64
-abbrev pub fits : ℕ → Option ℕ
-fits v = if nat_lt v (2 ^ 64) then Some v else None
 
 -- the number of one or more digits
 abbrev pub number_of : List ℕ → Option ℕ
@@ -61,10 +60,6 @@ size_in bytes = scaled (number_of (digits_of bytes)) (factor_of (after_digits by
 abbrev pub size_of : List ℕ → Option ℕ
 size_of text = size_in (utf8 text)
 
--- the longest timeout, in seconds
-abbrev pub longest_timeout : ℕ
-longest_timeout = 1000000
-
 -- a number with nothing after it as a timeout in seconds; 0 stands for the longest
 abbrev pub limited : Option ℕ → List ℕ → Option ℕ
 limited (Some v) [] = if v == 0 then Some longest_timeout else if nat_le v longest_timeout then Some v else None
@@ -79,19 +74,10 @@ timeout_in bytes = limited (number_of (digits_of bytes)) (after_digits bytes)
 abbrev pub timeout_of : List ℕ → Option ℕ
 timeout_of text = timeout_in (utf8 text)
 
--- a slash
-abbrev pub is_slash : ℕ → Bool
-is_slash c = c == 47
-
--- a path that begins with a slash
-abbrev pub is_absolute : List ℕ → Bool
-is_absolute [] = false
-is_absolute (c ∷ cs) = is_slash c
-
--- a word that doesn't name a required file: it isn't absolute
+-- a word that can't name a required file: it isn't absolute
 abbrev pub is_no_file : List ℕ → Bool
 is_no_file word = not (is_absolute word)
 
--- a word that doesn't name a required program: a relative path with a slash
+-- a word that can't name a required program: a relative path with a slash
 abbrev pub is_no_program : List ℕ → Bool
 is_no_program word = if is_absolute word then false else list_any is_slash word

@@ -1,10 +1,7 @@
 -- The words of a value.
-use Rattle.std.specs.Prelude.{◌≡◌, ℕ, ◌==◌, ◌||◌, ◌&&◌, Bool, true, false, not, nat_le, List, [], ◌∷◌, ◌++◌, if◌then◌else◌}
+use Rattle.std.specs.Prelude.{◌≡◌, ℕ, Bool, true, false, not, List, [], ◌∷◌, ◌++◌, if◌then◌else◌}
 use Rattle.std.specs.List.{list_any}
-
--- white space: the space and the characters 9 to 13
-abbrev pub is_space : ℕ → Bool
-is_space c = c == 32 || (nat_le 9 c && nat_le c 13)
+use Rattle.kt_base.specs.Characters.{is_space}
 
 -- a word has at least one character, and none of them is white space
 abbrev pub is_word : List ℕ → Bool
@@ -16,7 +13,7 @@ abbrev pub IsBreak : List ℕ → Type 0
 IsBreak [] = Unit {0}
 IsBreak (c ∷ cs) = is_space c ≡ true
 
--- these are the words of a text, in its order: what white space leaves, cut where white space or the end follows
+-- the words of a text, in its order: each ends before white space or at the end of the text
 pub data AreWords : List ℕ → List (List ℕ) → Type 0 where
   over : AreWords [] []
   blank : (c : ℕ) (text : List ℕ) (found : List (List ℕ)) → is_space c ≡ true → AreWords text found
@@ -24,7 +21,7 @@ pub data AreWords : List ℕ → List (List ℕ) → Type 0 where
   one : (first text : List ℕ) (found : List (List ℕ)) → is_word first ≡ true → IsBreak text → AreWords text found
       → AreWords (first ++ text) (first ∷ found)
 
--- a word is over: it counts if it has a character
+-- the words, with the word that is over, if it has a character
 abbrev pub ended : List ℕ → List (List ℕ) → List (List ℕ)
 ended [] found = found
 ended (c ∷ cs) found = (c ∷ cs) ∷ found

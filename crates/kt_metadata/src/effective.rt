@@ -1,8 +1,9 @@
 ghost use Rattle.std.specs.Prelude.{◌≡◌, ◌≤◌, List, IfOk};
 ghost use Rattle.kt_base.specs.declared.variable.Variable.{Variable};
 ghost use Rattle.kt_base.specs.LastValues.{value_of, last_values};
-ghost use Rattle.kt_metadata.specs.Values.{longest_timeout};
-ghost use Rattle.kt_metadata.specs.Effective.{given, words_value, text_value, truth_value, size_value, user_value, timeout_value, meta_of, effective};
+ghost use Rattle.kt_base.specs.Limits.{longest_timeout};
+ghost use Rattle.kt_metadata.specs.Inner.Effective.{given};
+ghost use Rattle.kt_metadata.specs.Effective.{words_value, text_value, truth_value, size_value, user_value, timeout_value, meta_of, effective};
 
 use crate::meta::Meta;
 use crate::numbers::{size, timeout};

@@ -9,8 +9,8 @@ pub struct Host {
     pub files: BTreeSet<String>,
     /// The required programs that were found, by their absolute paths or in a directory of `PATH`.
     pub programs: BTreeSet<String>,
-    /// Physical memory in bytes. A host that doesn't tell it has enough.
+    /// Physical memory in bytes; `None` if it isn't known, which is enough.
     pub memory: Option<u64>,
-    /// Free disk space in bytes. A host that doesn't tell it has enough.
+    /// Free disk space in bytes; `None` if it isn't known, which is enough.
     pub disk: Option<u64>,
 }

@@ -31,12 +31,10 @@ fn list_key(property: Property) -> &'static str
 fn keyed_among(key: &Text, properties: &[Property]) -> Option<Property>
     ensures { result ≡ keyed_among key.now properties.now }
 {
-    let mut rest = properties;
-    while let Some((property, after)) = rest.split_first() {
+    for property in properties {
         if key.is_word(list_key(*property)) {
             return Some(*property);
         }
-        rest = after;
     }
     None
 }

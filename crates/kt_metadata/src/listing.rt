@@ -33,10 +33,8 @@ fn add_all_shown(
 ) -> Result<(), NoMemory>
     ensures { OnOk result (pairs.new ≡ pairs.old ++ shown_pairs meta.now properties.now) }
 {
-    let mut rest = properties;
-    while let Some((property, after)) = rest.split_first() {
+    for property in properties {
         add_shown(alloc, pairs, meta, *property)?;
-        rest = after;
     }
     Ok(())
 }

@@ -6,7 +6,7 @@ use kt_base::{decimal_up_to, digits_length};
 /// The longest timeout, in seconds.
 const LONGEST_TIMEOUT: u32 = 1_000_000;
 
-/// The value of one digit or more, if it is below 2^64.
+/// The value of one or more digits, if it is below 2^64.
 fn number(digits: &[u8]) -> Option<u64>
     ensures { result ≡ number_of digits.now }
 {
@@ -19,16 +19,12 @@ fn number(digits: &[u8]) -> Option<u64>
 fn unit(c: u8) -> Option<u64>
     ensures { result ≡ unit_of c }
 {
-    if c == b'K' || c == b'k' {
-        Some(1024)
-    } else if c == b'M' || c == b'm' {
-        Some(1_048_576)
-    } else if c == b'G' || c == b'g' {
-        Some(1_073_741_824)
-    } else if c == b'T' || c == b't' {
-        Some(1_099_511_627_776)
-    } else {
-        None
+    match c {
+        b'K' | b'k' => Some(1024),
+        b'M' | b'm' => Some(1_048_576),
+        b'G' | b'g' => Some(1_073_741_824),
+        b'T' | b't' => Some(1_099_511_627_776),
+        _ => None,
     }
 }
 
@@ -45,13 +41,7 @@ fn factor(rest: &[u8]) -> Option<u64>
 fn scaled(number: Option<u64>, factor: Option<u64>) -> Option<u64>
     ensures { result ≡ scaled number factor }
 {
-    match number {
-        None => None,
-        Some(v) => match factor {
-            None => None,
-            Some(f) => v.checked_mul(f),
-        },
-    }
+    number?.checked_mul(factor?)
 }
 
 /// A size in bytes: digits, and at most one of K, M, G and T.
@@ -65,20 +55,16 @@ pub fn size(text: &[u8]) -> Option<u64>
 fn limited(number: Option<u64>, rest: &[u8]) -> Option<u32>
     ensures { result ≡ limited number rest.now }
 {
-    match number {
-        None => None,
-        Some(v) => {
-            if !rest.is_empty() {
-                return None;
-            }
-            if v == 0 {
-                Some(LONGEST_TIMEOUT)
-            } else if v <= 1_000_000 {
-                Some(v as u32)
-            } else {
-                None
-            }
-        }
+    let seconds = number?;
+    if !rest.is_empty() {
+        return None;
+    }
+    if seconds == 0 {
+        Some(LONGEST_TIMEOUT)
+    } else if seconds <= LONGEST_TIMEOUT as u64 {
+        Some(seconds as u32)
+    } else {
+        None
     }
 }
 

@@ -73,10 +73,7 @@ impl Property {
 pub fn is_custom(name: &str) -> bool
     ensures { result ≡ is_custom (chars name.now) }
 {
-    match own_part(name, "custom.") {
-        None => false,
-        Some(_) => true,
-    }
+    own_part(name, "custom.").is_some()
 }
 
 fn or_custom(custom: bool, found: Option<Property>) -> Option<Property>
@@ -91,12 +88,10 @@ fn or_custom(custom: bool, found: Option<Property>) -> Option<Property>
 fn named_among(name: &Text, properties: &[Property]) -> Option<Property>
     ensures { result ≡ named_among name.now properties.now }
 {
-    let mut rest = properties;
-    while let Some((property, after)) = rest.split_first() {
+    for property in properties {
         if name.is_word(property.name()) {
             return Some(*property);
         }
-        rest = after;
     }
     None
 }

@@ -4,8 +4,9 @@ ghost use Rattle.kt_base.specs.declared.variable.Variable.{Variable};
 ghost use Rattle.kt_base.specs.LastValues.{last_values, value_of};
 ghost use Rattle.kt_config.specs.Values.{variable_in, variables_in, IsSettled};
 ghost use Rattle.kt_metadata.specs.Properties.{definition_fault, IfFault};
-ghost use Rattle.kt_metadata.specs.Overlays.{a_pair, taken};
-ghost use Rattle.kt_metadata.specs.Effective.{given};
+ghost use Rattle.kt_metadata.specs.Inner.Overlays.{taken};
+ghost use Rattle.kt_metadata.specs.Overlays.{a_pair};
+ghost use Rattle.kt_metadata.specs.Inner.Effective.{given};
 ghost use Rattle.kt_metadata.specs.Listing.{custom_pairs};
 
 use crate::definition::fault_of;

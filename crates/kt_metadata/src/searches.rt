@@ -30,7 +30,7 @@ pub fn first_undefined<'a>(words: &'a [Text], config: &Config, suite: &Text) -> 
     words.iter().find(|word| is_undefined(config, suite, *word))
 }
 
-/// The first word that isn't among those that were found.
+/// The first word that wasn't found.
 pub fn first_missing<'a>(words: &'a [Text], found: &BTreeSet<String>) -> Option<&'a Text>
     ensures { option_copied result ≡ find (is_missing found.now) words.now }
 {

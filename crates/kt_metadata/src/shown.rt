@@ -1,5 +1,4 @@
 ghost use Rattle.std.specs.Prelude.{◌≡◌, ◌++◌, chars, IfOk};
-ghost use Rattle.std.specs.Fmt.{decimal};
 ghost use Rattle.kt_metadata.specs.Listing.{joined, spaced, truth_text, user_text, shown};
 
 use crate::meta::Meta;
@@ -7,12 +6,6 @@ use crate::property::Property;
 use crate::user::User;
 use kt_base::{NoMemory, Text};
 use std::alloc::Global;
-
-fn number_text(alloc: Global, number: u64) -> Result<Text, NoMemory>
-    ensures { IfOk result (λ text. text ≡ decimal number) }
-{
-    Ok(Text::from_string(number.to_string(alloc)?))
-}
 
 fn join(alloc: Global, words: &[Text]) -> Result<Text, NoMemory>
     ensures { IfOk result (λ text. text ≡ joined words.now) }
@@ -27,11 +20,9 @@ fn join_after(front: Text, words: &[Text]) -> Result<Text, NoMemory>
     ensures { IfOk result (λ text. text ≡ front ++ spaced words.now) }
 {
     let mut text = front;
-    let mut rest = words;
-    while let Some((word, after)) = rest.split_first() {
+    for word in words {
         text.push(' ')?;
         text.push_str(word.as_str())?;
-        rest = after;
     }
     Ok(text)
 }
@@ -63,12 +54,12 @@ pub fn shown_value(alloc: Global, meta: &Meta, property: Property) -> Result<Tex
         Property::HasCleanup => Text::from_str(alloc, truth_word(meta.has_cleanup)),
         Property::IsExclusive => Text::from_str(alloc, truth_word(meta.is_exclusive)),
         Property::RequiredConfigs => join(alloc, meta.required_configs.as_slice()),
-        Property::RequiredDiskSpace => number_text(alloc, meta.required_disk_space),
+        Property::RequiredDiskSpace => Text::from_number(alloc, meta.required_disk_space),
         Property::RequiredFiles => join(alloc, meta.required_files.as_slice()),
-        Property::RequiredMemory => number_text(alloc, meta.required_memory),
+        Property::RequiredMemory => Text::from_number(alloc, meta.required_memory),
         Property::RequiredPrograms => join(alloc, meta.required_programs.as_slice()),
         Property::RequiredUser => Text::from_str(alloc, user_word(meta.required_user)),
-        Property::Timeout => number_text(alloc, u64::from(meta.timeout)),
+        Property::Timeout => Text::from_number(alloc, u64::from(meta.timeout)),
         Property::Custom => Ok(Text::new(alloc)),
     }
 }

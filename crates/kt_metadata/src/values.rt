@@ -25,7 +25,7 @@ pub fn truth(text: &Text) -> Option<bool>
 pub fn user(text: &Text) -> Option<User>
     ensures { result ≡ user_of text.now }
 {
-    if text.is_word("") {
+    if text.is_empty() {
         Some(User::Any)
     } else if text.is_word("root") {
         Some(User::Root)

@@ -1,5 +1,6 @@
 ghost use Rattle.std.specs.Prelude.{◌≡◌, ◌∷◌, [], ◌++◌, IfOk, OnOk};
-ghost use Rattle.kt_metadata.specs.Words.{is_space, ended, words};
+ghost use Rattle.kt_base.specs.Characters.{is_space};
+ghost use Rattle.kt_metadata.specs.Words.{ended, words};
 
 use kt_base::{Items, NoMemory, Text};
 use std::alloc::Global;

@@ -6,9 +6,10 @@ use Rattle.std.proofs.lemmas.Result.{err_from_is_err_and}
 use Rattle.kt_suite.specs.declared.filter.Filter.{Filter}
 use Rattle.kt_suite.specs.declared.filter_fault.FilterFault.{FilterFault}
 use Rattle.kt_suite.specs.declared.filter_fault.FilterFault.TheVariants.{Repeated, NotDisjoint}
-use Rattle.kt_suite.specs.Disjoint.{IsDisjoint, IsFirstFault, fault_at, fault_behind, is_same_filter, overlap}
+use Rattle.kt_suite.specs.Disjoint.{IsDisjoint, IsFirstFault, fault_at, fault_after, is_same_filter, overlap}
 use Rattle.kt_suite.specs.Disjoint as of
-use Rattle.kt_plan.specs.Configuring.{ChecksTogether, Filters, apart, clash, each_of, filters_of, in_front, lacks_case, position_in, right, shared, unnamed, unparsed}
+use Rattle.kt_plan.specs.Inner.Configuring.{ChecksTogether, apart, position_in, shared}
+use Rattle.kt_plan.specs.Configuring.{Filters, clash, each_of, filters_of, in_front, lacks_case, right, unnamed, unparsed}
 use Rattle.kt_plan.specs.Stops.{IsShort}
 use Rattle.kt_plan.specs.declared.stop.Stop.{Stop}
 use Rattle.kt_plan.specs.declared.stop.Stop.TheVariants as stop
@@ -40,11 +41,11 @@ position_found position filter None fault e = absurd (cc)
 position_found position filter (Some earlier) fault e =
     sym (ap (λ (o : Option FilterFault). position_in (unwrap_or o fault)) e) ∙ position_by (is_same_filter filter earlier) position
 
-position_behind : (earlier : List Filter) (position : ℕ) (o : Option Filter) (fault : FilterFault) → fault_behind earlier position o ≡ Some fault → position_in fault ≡ position
+position_behind : (earlier : List Filter) (position : ℕ) (o : Option Filter) (fault : FilterFault) → fault_after earlier position o ≡ Some fault → position_in fault ≡ position
 position_behind earlier position None fault e = absurd (cc)
 position_behind earlier position (Some filter) fault e = position_found position filter (find (overlap filter) earlier) fault e
 
-within_at : (filters earlier : List Filter) (position : ℕ) (o : Option Filter) (fault : FilterFault) → slice_get filters position ≡ o → fault_behind earlier position o ≡ Some fault → position < length filters
+within_at : (filters earlier : List Filter) (position : ℕ) (o : Option Filter) (fault : FilterFault) → slice_get filters position ≡ o → fault_after earlier position o ≡ Some fault → position < length filters
 within_at filters earlier position None fault g e = absurd (cc)
 within_at filters earlier position (Some filter) fault g e = slice_get_within filters position filter g
 

@@ -1,47 +1,38 @@
 -- Questions to a world, one after the other.
-use Rattle.std.specs.Prelude.{Option, Result, Err, Bool}
-use Rattle.std.proofs.Common.{◌≡◌, ℕ, List, [], ◌∷◌, ◌++◌, refl, sym, ap, ◌∙◌, subst, IfOk}
+use Rattle.std.specs.Prelude.{Option, Result, Err, Bool, MatchResult}
+use Rattle.std.proofs.Common.{◌≡◌, ℕ, List, [], ◌∷◌, refl, sym, ap, ◌∙◌, subst}
 use Rattle.kt_base.specs.declared.role.Role.{Role}
 use Rattle.kt_sched.specs.Children.{Child, IsIdle}
-use Rattle.kt_suite.specs.Answers.{Chain, Answered}
-
--- one chain after the other
-pub chain_append : {W Q : Type 0} (leads : W → Q → W → Type 0) (xs ys : List Q) (a b d : W) → Chain leads xs a b → Chain leads ys b d → Chain leads (xs ++ ys) a d
-chain_append leads [] ys a b d h k = subst (λ (s : _). Chain leads ys s d) h k
-chain_append leads (x ∷ xs) ys a b d h k = (h.0, h.1, chain_append leads xs ys h.0 b d h.2 k)
+use Rattle.kt_base.specs.Chains.{Chain}
+use Rattle.kt_suite.specs.Answers.{Answered}
 
 -- one question
 pub asked_once : {W Q : Type 0} (leads : W → Q → W → Type 0) (old new : W) (q : Q) (P : List Q → Type 0) → leads old q new → P (q ∷ []) → Answered leads old new P
 asked_once leads old new q P h p = record { asked = q ∷ []; chain = (new, h, refl); holds = p }
 
 -- three questions, and others after them
-pub asked_four : {W Q : Type 0} (leads : W → Q → W → Type 0) (old a b d new : W) (x y z : Q) (P : List Q → Type 0) → leads old x a → leads a y b → leads b z d → Answered leads d new P → Answered leads old new (λ asked. Unit {0})
-asked_four leads old a b d new x y z P h i j k = record { asked = x ∷ y ∷ z ∷ k.asked; chain = (a, h, (b, i, (d, j, k.chain))); holds = tt }
+pub asked_four : {W Q : Type 0} (leads : W → Q → W → Type 0) (old a b d new : W) (x y z : Q) (P : List Q → Type 0) → leads old x a → leads a y b → leads b z d → Answered leads d new P
+    → Answered leads old new (λ asked. (more : List Q) × (asked ≡ x ∷ y ∷ z ∷ more) × P more)
+asked_four leads old a b d new x y z P h i j k = record { asked = x ∷ y ∷ z ∷ k.asked; chain = (a, h, (b, i, (d, j, k.chain))); holds = (k.asked, refl, k.holds) }
 
--- nothing is said of what was asked before an error
-pub asked_short : {W Q T E : Type 0} (leads : W → Q → W → Type 0) (old new : W) (P : List Q → Type 0) (R : List Q → T → Type 0) (r : Result T E) (fault : E) → Answered leads old new P → r ≡ Err fault
-    → Answered leads old new (λ asked. IfOk r (λ x. R asked x))
-asked_short leads old new P R r fault a e = record { asked = a.asked; chain = a.chain; holds = subst (λ (z : Result _ _). IfOk z (λ x. R a.asked x)) (sym e) tt }
+-- these were asked before an error
+pub asked_short : {W Q T E : Type 0} (leads : W → Q → W → Type 0) (old new : W) (First : List Q → Type 0) (P : List Q → T → Type 0) (r : Result T E) (fault : E) → r ≡ Err fault → Answered leads old new First
+    → Answered leads old new (λ asked. MatchResult r (P asked) (λ _. First asked))
+asked_short leads old new First P r fault e a = record { asked = a.asked; chain = a.chain; holds = subst (λ (z : Result _ _). MatchResult z (P a.asked) (λ _. First a.asked)) (sym e) a.holds }
 
--- the same after one question
-pub once_short : {W Q T E : Type 0} (leads : W → Q → W → Type 0) (old new : W) (q : Q) (R : List Q → T → Type 0) (r : Result T E) (fault : E) → leads old q new → r ≡ Err fault → Answered leads old new (λ asked. IfOk r (λ x. R asked x))
-once_short leads old new q R r fault h e = asked_short leads old new (λ asked. Unit {0}) R r fault (asked_once leads old new q (λ asked. Unit {0}) h tt) e
-
--- and after others
-pub chain_short : {W Q T E : Type 0} (leads : W → Q → W → Type 0) (old mid new : W) (before : List Q) (P : List Q → Type 0) (R : List Q → T → Type 0) (r : Result T E) (fault : E) → Chain leads before old mid → Answered leads mid new P → r ≡ Err fault
-    → Answered leads old new (λ asked. IfOk r (λ x. R asked x))
-chain_short leads old mid new before P R r fault h a e =
-    asked_short leads old new (λ asked. Unit {0}) R r fault (record { asked = before ++ a.asked; chain = chain_append leads before a.asked old mid new h a.chain; holds = tt }) e
+-- nothing was asked
+pub asked_nothing : {W Q : Type 0} (leads : W → Q → W → Type 0) (world : W) (P : List Q → Type 0) → P [] → Answered leads world world P
+asked_nothing leads world P p = record { asked = []; chain = refl; holds = p }
 
 -- what no question changes, many don't
-still : {W Q X : Type 0} (leads : W → Q → W → Type 0) (view : W → X) → ((s t : W) (q : Q) → leads s q t → view t ≡ view s) → (qs : List Q) (a b : W) → Chain leads qs a b → view b ≡ view a
+still : {W Q X : Type 0} (leads : W → Q → W → Type 0) (view : W → X) → ((s t : W) (q : Q) → leads s q t → view t ≡ view s) → (qs : List Q) (a b : W) → Chain leads a qs b → view b ≡ view a
 still leads view keeps [] a b h = ap view h
 still leads view keeps (q ∷ qs) a b h = still leads view keeps qs h.0 b h.2 ∙ keeps a h.0 q h.1
 
 -- a world is idle after questions that don't change what runs
 pub idle_after : {W Q : Type 0} (leads : W → Q → W → Type 0) (running : W → ℕ → Role → Option Child) (pending : W → ℕ → Bool)
     → ((s t : W) (q : Q) → leads s q t → (k : ℕ) (r : Role) → running t k r ≡ running s k r) → ((s t : W) (q : Q) → leads s q t → (k : ℕ) → pending t k ≡ pending s k)
-    → (old new : W) (qs : List Q) → Chain leads qs old new → IsIdle (running old) (pending old) → IsIdle (running new) (pending new)
+    → (old new : W) (qs : List Q) → Chain leads old qs new → IsIdle (running old) (pending old) → IsIdle (running new) (pending new)
 idle_after leads running pending a b old new qs h i = record {
   runs = λ k r. still leads (λ s. running s k r) (λ s u q x. a s u q x k r) qs old new h ∙ i.runs k r;
   pends = λ k. still leads (λ s. pending s k) (λ s u q x. b s u q x k) qs old new h ∙ i.pends k;

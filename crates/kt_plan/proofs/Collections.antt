@@ -1,9 +1,10 @@
 -- What a world was asked for the tree and then for the lists, and what came of it.
 use Rattle.std.specs.Prelude.{Result, Ok, Err, Bool, not, filter, ◌+◌}
-use Rattle.std.proofs.Common.{arith}
+use Rattle.std.proofs.Common.{IfErr, IfOk, List, OnOk, [], ap, arith, inl, inr, length, refl, subst, sym, ℕ, ◌<◌, ◌∙◌, ◌≡◌, ◌≤◌, ◌⊎◌}
 use Rattle.std.proofs.lemmas.List.Filters.{length-filter_both}
-use Rattle.std.proofs.Common.{◌≡◌, ◌≤◌, ◌<◌, ℕ, List, [], refl, sym, ap, ◌∙◌, subst, length, ◌⊎◌, inl, inr, IfOk, OnOk, IfErr}
+use Rattle.kt_base.specs.declared.no_memory.NoMemory.{NoMemory as OutOfMemory}
 use Rattle.kt_suite.specs.Answers.{Asked, Answered}
+use Rattle.kt_suite.specs.declared.cause.SuiteCause.TheVariants.{NoMemory}
 use Rattle.kt_suite.specs.Faults.{IsNoMemory}
 use Rattle.kt_suite.specs.Selecting.{most_items, is_selected}
 use Rattle.kt_suite.specs.declared.fault.SuiteFault.{SuiteFault}
@@ -14,10 +15,13 @@ use Rattle.kt_plan.specs.declared.chosen.Chosen.{Chosen}
 use Rattle.kt_plan.specs.declared.settings.Settings.{Settings}
 use Rattle.kt_plan.specs.declared.stop.Stop.{Stop}
 use Rattle.kt_plan.specs.declared.stop.Stop.TheVariants as stop
-use Rattle.kt_plan.specs.Collecting.{item_of, selected_cases, chosen_of, Offers, Collects, unloaded, too_many, chosen, Collected}
-use Rattle.kt_plan.specs.Listings.{Loads, RanShort}
+use Rattle.kt_plan.specs.Inner.Collecting.{CollectsOrShort, Collected}
+use Rattle.kt_plan.specs.Collecting.{item_of, selected_cases, chosen_of, Offers, OffersFirst, Collects, unloaded, too_many, chosen, loading, offering}
+use Rattle.kt_plan.specs.Inner.Listings.{LoadsOrShort, RanShort}
+use Rattle.kt_plan.specs.Listings.{Loads, by_tree}
 use Rattle.kt_plan.specs.Stops.{RanOut, IsShort}
 use Rattle.kt_plan.specs.Told.{Told}
+use Rattle.kt_plan.proofs.OfferLaws.{all_first}
 
 err_is : {X Y : Type 0} (r : Result X Y) (x y : Y) → r ≡ Err x → r ≡ Err y → x ≡ y
 err_is r x y e f = cc
@@ -29,8 +33,8 @@ no_ok x y e = absurd (cc)
 never_short : (fault : SuiteFault) → (IsNoMemory fault → ⊥) → RanShort (Err fault) → ⊥
 never_short fault never s = never (s.1.0, err_is (Err fault) fault s.0 refl s.2 ∙ s.1.1)
 
-loaded_all : (programs : List Program) (asked : List Asked) (kyuafile : List ℕ) → RanShort (Ok programs) ⊎ Loads kyuafile asked (Ok programs) → Loads kyuafile asked (Ok programs)
-loaded_all programs asked kyuafile (inl s) = absurd (no_ok programs s.0 s.2)
+loaded_all : (programs : List Program) (asked : List Asked) (kyuafile : List ℕ) → LoadsOrShort kyuafile asked (Ok programs) → Loads kyuafile asked (Ok programs)
+loaded_all programs asked kyuafile (inl s) = absurd (no_ok programs s.0.0 s.0.2)
 loaded_all programs asked kyuafile (inr l) = l
 
 -- not more are selected than there are
@@ -44,34 +48,41 @@ few_chosen filters found (Err why) e few = tt
 
 module _ {W : Type 0} (asks : W → Asked → W → Type 0) (tells : W → Told → W → Type 0) (settings : Settings) (kyuafile : List ℕ) (old mid : W) where
   -- the tree was not loaded
-  pub tree_stopped : (fault : SuiteFault) (why : Stop) → Answered asks old mid (λ asked. RanShort (Err fault) ⊎ Loads kyuafile asked (Err fault)) → RanOut why ⊎ ((why ≡ stop.Tree fault) × (IsNoMemory fault → ⊥))
+  pub tree_stopped : (fault : SuiteFault) (why : Stop) → Answered asks old mid (λ asked. LoadsOrShort kyuafile asked (Err fault))
+      → ((refusal : OutOfMemory) × (why ≡ stop.NoMemory refusal) × (fault.cause ≡ NoMemory refusal)) ⊎ ((why ≡ stop.Tree fault) × (IsNoMemory fault → ⊥))
       → Collected asks tells settings kyuafile old mid (Err why)
   tree_stopped fault why a t = record { asked = a.asked; told = []; loaded = mid; chain = a.chain; lists = refl; holds = by t a.holds }
     where
-      by : RanOut why ⊎ ((why ≡ stop.Tree fault) × (IsNoMemory fault → ⊥)) → RanShort (Err fault) ⊎ Loads kyuafile a.asked (Err fault) → IsShort {T = Chosen} (Err why) ⊎ Collects settings kyuafile a.asked [] (Err why)
-      by (inl short) h = inl short
-      by (inr is) (inl s) = absurd (never_short fault is.1 s)
+      by : ((refusal : OutOfMemory) × (why ≡ stop.NoMemory refusal) × (fault.cause ≡ NoMemory refusal)) ⊎ ((why ≡ stop.Tree fault) × (IsNoMemory fault → ⊥)) → LoadsOrShort kyuafile a.asked (Err fault)
+          → CollectsOrShort settings kyuafile a.asked [] (Err why)
+      by (inl short) (inl s) = inl ((short.0, short.1), loading a.asked s.1)
+      by (inl short) (inr l) = inl ((short.0, short.1), loading a.asked (by_tree a.asked fault short.0 short.2 l))
+      by (inr is) (inl s) = absurd (never_short fault is.1 s.0)
       by (inr is) (inr l) = inr (subst (λ (w : Stop). Collects settings kyuafile a.asked [] (Err w)) (sym is.0) (unloaded a.asked fault l))
 
-  module _ (programs : List Program) (new : W) (a : Answered asks old mid (λ asked. RanShort (Ok programs) ⊎ Loads kyuafile asked (Ok programs))) where
+  module _ (programs : List Program) (new : W) (a : Answered asks old mid (λ asked. LoadsOrShort kyuafile asked (Ok programs))) where
+    loads : Loads kyuafile a.asked (Ok programs)
+    loads = loaded_all programs a.asked kyuafile a.holds
+
     -- memory ran out while the programs were listed
-    pub lists_stopped : (P : List Told → Type 0) (r : Result Chosen Stop) (why : Stop) → Answered tells mid new P → r ≡ Err why → RanOut why → Collected asks tells settings kyuafile old new r
-    lists_stopped P r why b e short = record {
+    pub lists_stopped : (shown : List Program) (r : Result Chosen Stop) (why : Stop) → shown ≡ programs → Answered tells mid new (λ told. OffersFirst settings.config settings.filters shown told) → r ≡ Err why → RanOut why
+        → Collected asks tells settings kyuafile old new r
+    lists_stopped shown r why same b e short = record {
       asked = a.asked;
       told = b.asked;
       loaded = mid;
       chain = a.chain;
       lists = b.chain;
-      holds = inl (subst (λ (x : Result Chosen Stop). IsShort x) (sym e) short);
+      holds = inl (
+        subst (λ (x : Result Chosen Stop). IsShort x) (sym e) short,
+        offering a.asked b.asked programs loads (subst (λ (ps : List Program). OffersFirst settings.config settings.filters ps b.asked) same b.holds),
+      );
     }
 
     module _ (shown : List Program) (filters : List Filter) (found : List Candidate) (same : shown ≡ programs) (own : filters ≡ settings.filters)
         (b : Answered tells mid new (λ told. Offers settings.config settings.filters shown told found)) where
-      collected : (r : Result Chosen Stop) → IsShort r ⊎ Collects settings kyuafile a.asked b.asked r → Collected asks tells settings kyuafile old new r
+      collected : (r : Result Chosen Stop) → CollectsOrShort settings kyuafile a.asked b.asked r → Collected asks tells settings kyuafile old new r
       collected r h = record { asked = a.asked; told = b.asked; loaded = mid; chain = a.chain; lists = b.chain; holds = h }
-
-      loads : Loads kyuafile a.asked (Ok programs)
-      loads = loaded_all programs a.asked kyuafile a.holds
 
       offers : Offers settings.config settings.filters programs b.asked found
       offers = subst (λ (ps : List Program). Offers settings.config settings.filters ps b.asked found) same b.holds
@@ -82,5 +93,5 @@ module _ {W : Type 0} (asks : W → Asked → W → Type 0) (tells : W → Told 
       all_chosen (Ok c) e few s =
           let right : c ≡ chosen_of settings.filters found = e ∙ ap (λ (fs : List Filter). chosen_of fs found) own in
           collected (Ok c) (inr (subst (λ (x : Chosen). Collects settings kyuafile a.asked b.asked (Ok x)) (sym right) (chosen a.asked b.asked programs found loads offers few)))
-      all_chosen (Err why) e few (inl short) = collected (Err why) (inl short)
+      all_chosen (Err why) e few (inl short) = collected (Err why) (inl (short, offering a.asked b.asked programs loads (all_first tells settings.config settings.filters programs b.asked found offers)))
       all_chosen (Err why) e few (inr s) = collected (Err why) (inr (subst (λ (w : Stop). Collects settings kyuafile a.asked b.asked (Err w)) (sym s.0) (too_many a.asked b.asked programs found loads offers s.1)))

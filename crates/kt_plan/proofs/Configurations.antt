@@ -10,7 +10,8 @@ use Rattle.kt_config.specs.Values.{Values}
 use Rattle.kt_suite.specs.Answers.{Answered}
 use Rattle.kt_suite.specs.declared.read_fault.ReadFault.{ReadFault}
 use Rattle.kt_suite.specs.declared.read_fault.ReadFault.TheVariants.{Missing, Failed, Memory}
-use Rattle.kt_plan.specs.Configuring.{Configured, Configures, GivesMore, GivesOne, Gives, IsConfiguration, ReadsConfig, behind, in_front, defined, failed, missing, none, read, refused, seen, stopped, unread, unread_stop, word_meaning, words_meaning}
+use Rattle.kt_plan.specs.Inner.Configuring.{Configured, OrShort, GivesMore, GivesOne, Gives, unread_stop}
+use Rattle.kt_plan.specs.Configuring.{Configures, ReadsFirst, before_file, after_file, IsConfiguration, ReadsConfig, behind, in_front, defined, failed, missing, none, read, refused, seen, stopped, unread, word_meaning, words_meaning}
 use Rattle.kt_plan.specs.declared.case_options.CaseOptions.{CaseOptions}
 use Rattle.kt_plan.specs.Stops.{IsShort}
 use Rattle.kt_plan.specs.Told.{Told, ReadConfig}
@@ -25,6 +26,17 @@ behind-in_front {A} before one (Ok more) = ap (λ (xs : List A). Ok xs) (sym (ap
 behind-in_front before one (Err fault) = refl
 
 -- ---- the configuration file
+
+-- all that is asked for it is what is asked first
+pub file_first : (path : Option (List ℕ)) (told : List Told) (meant : Result (List Definition) Stop) → ReadsConfig path told meant → ReadsFirst path told
+file_first _ _ _ none = before_file None
+file_first _ _ _ (unread path fault u) = after_file path (Err fault)
+file_first _ _ _ (seen path bytes meant c) = after_file path (Ok bytes)
+
+-- and so for the configuration
+pub configuration_first : (options : CaseOptions) (told : List Told) (meant : Result (List Definition) Stop) → Configures options told meant → ReadsFirst options.config told
+configuration_first options told _ (stopped fault r) = file_first options.config told (Err fault) r
+configuration_first options told _ (defined before r) = file_first options.config told (Ok before) r
 
 -- it is read
 pub read_config_file : (bytes : List ℕ) (config : Values) → IsRead bytes config → Configured (IsConfiguration bytes) (Ok config)
@@ -41,11 +53,11 @@ none_given path config e h = record { meant = Ok []; means = subst (λ (p : Opti
 module _ {W : Type 0} (tells : W → Told → W → Type 0) (old new : W) where
   -- the configuration is that of a path, or memory ran out
   abbrev pub Reads : Option (List ℕ) → Result Values Stop → Type 0
-  Reads path outcome = Answered tells old new (λ told. IsShort outcome ⊎ Configured (ReadsConfig path told) outcome)
+  Reads path outcome = Answered tells old new (λ told. OrShort outcome path told (Configured (ReadsConfig path told) outcome))
 
   -- the configuration of a command, or memory ran out
   abbrev pub Configuration : CaseOptions → Result Values Stop → Type 0
-  Configuration options outcome = Answered tells old new (λ told. IsShort outcome ⊎ Configured (Configures options told) outcome)
+  Configuration options outcome = Answered tells old new (λ told. OrShort outcome options.config told (Configured (Configures options told) outcome))
 
   -- the same answers, seen otherwise
   pub answered_as : (P Q : List Told → Type 0) → ((told : List Told) → P told → Q told) → Answered tells old new P → Answered tells old new Q
@@ -58,23 +70,23 @@ module _ {W : Type 0} (tells : W → Told → W → Type 0) (old new : W) where
   -- it can't be read
   pub file_unread : (path : List ℕ) (answer : Result (List ℕ) ReadFault) (fault : ReadFault) → tells old (ReadConfig path answer) new → answer ≡ Err fault → Reads (Some path) (Err (unread_stop fault))
   file_unread path answer fault t e =
-      told_once (ReadConfig path (Err fault)) (λ told. IsShort {T = Values} (Err (unread_stop fault)) ⊎ Configured (ReadsConfig (Some path) told) (Err (unread_stop fault)))
+      told_once (ReadConfig path (Err fault)) (λ told. OrShort {T = Values} (Err (unread_stop fault)) (Some path) told (Configured (ReadsConfig (Some path) told) (Err (unread_stop fault))))
       (subst (λ (a : Result (List ℕ) ReadFault). tells old (ReadConfig path a) new) e t) (by fault)
     where
-      by : (f : ReadFault) → IsShort {T = Values} (Err (unread_stop f)) ⊎ Configured (ReadsConfig (Some path) (ReadConfig path (Err f) ∷ [])) (Err (unread_stop f))
+      by : (f : ReadFault) → OrShort {T = Values} (Err (unread_stop f)) (Some path) (ReadConfig path (Err f) ∷ []) (Configured (ReadsConfig (Some path) (ReadConfig path (Err f) ∷ [])) (Err (unread_stop f)))
       by Missing = inr (record { meant = Err stop.UnreadConfiguration; means = unread path Missing missing; gives = refl })
       by Failed = inr (record { meant = Err stop.UnreadConfiguration; means = unread path Failed failed; gives = refl })
-      by (Memory refusal) = inl (refusal, refl)
+      by (Memory refusal) = inl ((refusal, refl), after_file path (Err (Memory refusal)))
 
-  -- memory ran out behind the answer
+  -- memory ran out after the answer
   pub file_short : (path : List ℕ) (answer : Result (List ℕ) ReadFault) (outcome : Result Values Stop) → tells old (ReadConfig path answer) new → IsShort outcome → Reads (Some path) outcome
-  file_short path answer outcome t s = told_once (ReadConfig path answer) (λ told. IsShort outcome ⊎ Configured (ReadsConfig (Some path) told) outcome) t (inl s)
+  file_short path answer outcome t s = told_once (ReadConfig path answer) (λ told. OrShort outcome (Some path) told (Configured (ReadsConfig (Some path) told) outcome)) t (inl (s, after_file path answer))
 
   -- it is read
   pub file_seen : (path bytes : List ℕ) (answer : Result (List ℕ) ReadFault) (outcome : Result Values Stop) → tells old (ReadConfig path answer) new → answer ≡ Ok bytes
       → Configured (IsConfiguration bytes) outcome → Reads (Some path) outcome
   file_seen path bytes answer outcome t e c =
-      told_once (ReadConfig path (Ok bytes)) (λ told. IsShort outcome ⊎ Configured (ReadsConfig (Some path) told) outcome)
+      told_once (ReadConfig path (Ok bytes)) (λ told. OrShort outcome (Some path) told (Configured (ReadsConfig (Some path) told) outcome))
       (subst (λ (a : Result (List ℕ) ReadFault). tells old (ReadConfig path a) new) e t)
       (inr (record { meant = c.meant; means = seen path bytes c.meant c.means; gives = c.gives }))
 
@@ -83,15 +95,16 @@ module _ {W : Type 0} (tells : W → Told → W → Type 0) (old new : W) where
       → Configuration options outcome
   configured_not options found outcome fault e r a =
       let p = err_from_is_err_and outcome r in
-      answered_as (λ told. IsShort found ⊎ Configured (ReadsConfig options.config told) found) (λ told. IsShort outcome ⊎ Configured (Configures options told) outcome)
-      (λ told h. subst (λ (o : Result Values Stop). IsShort o ⊎ Configured (Configures options told) o) (sym (p.1 ∙ ap (λ (x : Stop). Err x) p.2))
-      (by told (subst (λ (o : Result Values Stop). IsShort o ⊎ Configured (ReadsConfig options.config told) o) e h))) a
+      answered_as (λ told. OrShort found options.config told (Configured (ReadsConfig options.config told) found)) (λ told. OrShort outcome options.config told (Configured (Configures options told) outcome))
+      (λ told h. subst (λ (o : Result Values Stop). OrShort o options.config told (Configured (Configures options told) o)) (sym (p.1 ∙ ap (λ (x : Stop). Err x) p.2))
+      (by told (subst (λ (o : Result Values Stop). OrShort o options.config told (Configured (ReadsConfig options.config told) o)) e h))) a
     where
       meant : (told : List Told) (m : Result (List Definition) Stop) → ReadsConfig options.config told m → Gives (Err fault) m → Configured (Configures options told) (Err fault)
       meant told (Ok definitions) m g = absurd g
       meant told (Err f) m g = record { meant = Err f; means = stopped f m; gives = g }
 
-      by : (told : List Told) → IsShort {T = Values} (Err fault) ⊎ Configured (ReadsConfig options.config told) (Err fault) → IsShort {T = Values} (Err fault) ⊎ Configured (Configures options told) (Err fault)
+      by : (told : List Told) → OrShort {T = Values} (Err fault) options.config told (Configured (ReadsConfig options.config told) (Err fault))
+          → OrShort {T = Values} (Err fault) options.config told (Configured (Configures options told) (Err fault))
       by told (inl s) = inl s
       by told (inr c) = inr (meant told c.meant c.means c.gives)
 
@@ -99,16 +112,26 @@ module _ {W : Type 0} (tells : W → Told → W → Type 0) (old new : W) where
   pub configured_both : (options : CaseOptions) (found outcome : Result Values Stop) (config : Values) → found ≡ Ok config → GivesMore config outcome (words_meaning options.variables) → Reads options.config found
       → Configuration options outcome
   configured_both options found outcome config e m a =
-      answered_as (λ told. IsShort found ⊎ Configured (ReadsConfig options.config told) found) (λ told. IsShort outcome ⊎ Configured (Configures options told) outcome)
-      (λ told h. by told (subst (λ (o : Result Values Stop). IsShort o ⊎ Configured (ReadsConfig options.config told) o) e h)) a
+      answered_as (λ told. OrShort found options.config told (Configured (ReadsConfig options.config told) found)) (λ told. OrShort outcome options.config told (Configured (Configures options told) outcome))
+      (λ told h. by told (subst (λ (o : Result Values Stop). OrShort o options.config told (Configured (ReadsConfig options.config told) o)) e h)) a
     where
       meant : (told : List Told) (r : Result (List Definition) Stop) → ReadsConfig options.config told r → Gives (Ok config) r → Configured (Configures options told) outcome
       meant told (Ok before) r g = record { meant = behind before (words_meaning options.variables); means = defined before r; gives = m before g }
       meant told (Err f) r g = absurd g
 
-      by : (told : List Told) → IsShort {T = Values} (Ok config) ⊎ Configured (ReadsConfig options.config told) (Ok config) → IsShort outcome ⊎ Configured (Configures options told) outcome
-      by told (inl s) = absurd s
+      by : (told : List Told) → OrShort {T = Values} (Ok config) options.config told (Configured (ReadsConfig options.config told) (Ok config)) → OrShort outcome options.config told (Configured (Configures options told) outcome)
+      by told (inl s) = absurd s.0
       by told (inr c) = inr (meant told c.meant c.means c.gives)
+
+  -- memory ran out after the file
+  pub configured_short : (options : CaseOptions) (found outcome : Result Values Stop) (config : Values) → found ≡ Ok config → IsShort outcome → Reads options.config found → Configuration options outcome
+  configured_short options found outcome config e short a =
+      answered_as (λ told. OrShort found options.config told (Configured (ReadsConfig options.config told) found)) (λ told. OrShort outcome options.config told (Configured (Configures options told) outcome))
+      (λ told h. by told (subst (λ (o : Result Values Stop). OrShort o options.config told (Configured (ReadsConfig options.config told) o)) e h)) a
+    where
+      by : (told : List Told) → OrShort {T = Values} (Ok config) options.config told (Configured (ReadsConfig options.config told) (Ok config)) → OrShort outcome options.config told (Configured (Configures options told) outcome)
+      by told (inl s) = absurd s.0
+      by told (inr c) = inl (short, file_first options.config told c.meant c.means)
 
 -- ---- the words of `-v`
 

@@ -12,4 +12,5 @@ pub mod QuestionChains
 pub mod Rests
 pub mod SelectLaws
 pub mod Settling
+pub mod StopWords
 pub mod Wanting

@@ -4,19 +4,20 @@ use Rattle.std.proofs.Common.{◌≡◌, ℕ, List, [], refl, sym, subst, ◌⊎
 use Rattle.kt_suite.specs.declared.cause.SuiteCause.TheVariants.{Unreadable}
 use Rattle.kt_suite.specs.declared.fault.SuiteFault.{SuiteFault}
 use Rattle.kt_suite.specs.Answers.{Asked, Answered}
-use Rattle.kt_suite.specs.Faults.{Blames}
+use Rattle.kt_suite.specs.Inner.Faults.{Blames}
 use Rattle.kt_suite.specs.Paths.{name_in}
 use Rattle.kt_base.specs.Texts.{is_empty}
 use Rattle.kt_suite.specs.Registered.{Outcome, Registered, Unfinished}
-use Rattle.kt_plan.specs.Listings.{Loads, RanShort, named, unnamed}
+use Rattle.kt_plan.specs.Inner.Listings.{LoadsOrShort}
+use Rattle.kt_plan.specs.Listings.{Loads, before_tree, named, unfinished, unnamed}
 
 module _ {T : Type 0} (asks : T → Asked → T → Type 0) (kyuafile : List ℕ) where
   abbrev Loaded : T → T → Outcome → Type 0
-  Loaded old new outcome = Answered asks old new (λ asked. RanShort outcome ⊎ Loads kyuafile asked outcome)
+  Loaded old new outcome = Answered asks old new (λ asked. LoadsOrShort kyuafile asked outcome)
 
   -- the path names no file
   pub not_there : (tree : T) (fault : SuiteFault) → is_empty (name_in kyuafile) ≡ true → Blames kyuafile 0 Unreadable fault → Loaded tree tree (Err fault)
-  not_there tree fault n (inl m) = record { asked = []; chain = refl; holds = inl (fault, m, refl) }
+  not_there tree fault n (inl m) = record { asked = []; chain = refl; holds = inl ((fault, m, refl), before_tree) }
   not_there tree fault n (inr e) = record { asked = []; chain = refl; holds = inr (subst (λ (f : SuiteFault). Loads kyuafile [] (Err f)) (sym e) (unnamed n)) }
 
   -- the tree was loaded
@@ -24,6 +25,6 @@ module _ {T : Type 0} (asks : T → Asked → T → Type 0) (kyuafile : List ℕ
       → Answered asks old new (λ asked. Registered asked root outcome ⊎ Unfinished asked root outcome) → Loaded old new outcome
   loaded old new root outcome same full a = record { asked = a.asked; chain = a.chain; holds = by a.asked a.holds }
     where
-      by : (asked : List Asked) → Registered asked root outcome ⊎ Unfinished asked root outcome → RanShort outcome ⊎ Loads kyuafile asked outcome
-      by asked (inr u) = inl (u.fault, u.no_memory, u.refused)
+      by : (asked : List Asked) → Registered asked root outcome ⊎ Unfinished asked root outcome → LoadsOrShort kyuafile asked outcome
+      by asked (inr u) = inl ((u.fault, u.no_memory, u.refused), unfinished asked outcome (subst (λ (name : List ℕ). Unfinished asked name outcome) same u))
       by asked (inl r) = inr (named asked outcome full (subst (λ (name : List ℕ). Registered asked name outcome) same r))

@@ -7,14 +7,25 @@ use Rattle.kt_config.specs.Values.{Values}
 use Rattle.kt_atflist.specs.Cases.{AreCases}
 use Rattle.kt_atflist.specs.declared.case_def.CaseDef.{CaseDef}
 use Rattle.kt_atflist.specs.declared.listing.Listing.{Listing}
-use Rattle.kt_suite.specs.Answers.{Chain, Answered}
+use Rattle.kt_base.specs.Chains.{Chain}
+use Rattle.kt_suite.specs.Answers.{Answered}
 use Rattle.kt_suite.specs.declared.filter.Filter.{Filter}
 use Rattle.kt_suite.specs.declared.program.Program.{Program}
 use Rattle.kt_plan.specs.declared.candidate.Candidate.{Candidate}
-use Rattle.kt_plan.specs.Collecting.{candidates_of, variables_for, IsWanted, ListsCases, listed, OffersOne, listing, unlisted, single, Offers, none, one_and}
+use Rattle.kt_plan.specs.Inner.Collecting.{ListsFirst, before_list, after_list}
+use Rattle.kt_plan.specs.Collecting.{candidates_of, variables_for, IsWanted, ListsCases, listed, OffersOne, listing, unlisted, single, Offers, none, one_and, OffersFirst, no_further, asks, passes}
 use Rattle.kt_plan.specs.Told.{Told, Lists}
-use Rattle.kt_plan.proofs.Chains.{chain_append}
+use Rattle.kt_base.proofs.Chains.{chain-append}
 use Rattle.kt_plan.proofs.Rests.{none_left}
+
+-- memory ran out after it was asked for its list
+pub list_asked : {W : Type 0} (tells : W → Told → W → Type 0) (config : Values) (program : Program) (variables : List Variable) (old new : W) (answer : Listing) → variables ≡ variables_for config program.suite
+    → tells old (Lists program variables answer) new → Answered tells old new (λ told. ListsFirst config program told)
+list_asked tells config program variables old new answer e h = record {
+  asked = Lists program (variables_for config program.suite) answer ∷ [];
+  chain = (new, subst (λ (vs : List Variable). tells old (Lists program vs answer) new) e h, refl);
+  holds = after_list answer;
+}
 
 -- a program was asked for its list
 pub lists_cases : {W : Type 0} (tells : W → Told → W → Type 0) (config : Values) (program : Program) (variables : List Variable) (old new : W) (answer : Listing) (cases : List CaseDef)
@@ -39,27 +50,75 @@ module _ {W : Type 0} (tells : W → Told → W → Type 0) (config : Values) (f
       → Answered tells world world (λ told. OffersOne config filters program told (candidates_of program cases))
   offers_single program world cases n a = record { asked = []; chain = refl; holds = single cases n a }
 
+  -- a program's questions are the first ones for it and for those after it
+  first_of_one : (program : Program) (rest : List Program) (own more : List Told) (found : List Candidate) → OffersOne config filters program own found → OffersFirst config filters rest more
+      → OffersFirst config filters (program ∷ rest) (own ++ more)
+  first_of_one program rest _ more _ (listing _ _ e w (listed answer cases a)) h = asks program rest answer more e w h
+  first_of_one program rest _ more _ (unlisted e n) h = passes program rest more (λ _. n) h
+  first_of_one program rest _ more _ (single cases n a) h = passes program rest more (λ e _. n e) h
+
+  -- and so are the first ones for it alone
+  first_before : (program : Program) (rest : List Program) (told : List Told) → OffersFirst config filters (program ∷ []) told → OffersFirst config filters (program ∷ rest) told
+  first_before program rest _ (no_further _) = no_further (program ∷ rest)
+  first_before program rest _ (asks _ _ answer _ e w (no_further _)) = asks program rest answer [] e w (no_further rest)
+  first_before program rest _ (passes _ _ _ n (no_further _)) = no_further (program ∷ rest)
+
+  -- all questions are the first ones
+  pub all_first : (programs : List Program) (told : List Told) (found : List Candidate) → Offers config filters programs told found → OffersFirst config filters programs told
+  all_first _ _ _ none = no_further []
+  all_first _ _ _ (one_and program programs told more own others o h) = first_of_one program programs told more own o (all_first programs more others h)
+
+  -- the list of a program that is wanted was asked for, or not yet
+  pub first_listed : (program : Program) (old new : W) → program.interface ≡ Atf → IsWanted filters program → Answered tells old new (λ told. ListsFirst config program told)
+      → Answered tells old new (λ told. OffersFirst config filters (program ∷ []) told)
+  first_listed program old new e w a = record { asked = a.asked; chain = a.chain; holds = by a.asked a.holds }
+    where
+      by : (told : List Told) → ListsFirst config program told → OffersFirst config filters (program ∷ []) told
+      by _ before_list = no_further (program ∷ [])
+      by _ (after_list answer) = asks program [] answer [] e w (no_further [])
+
+  -- the cases of a program were had
+  pub first_offered : (program : Program) (old new : W) (found : List Candidate) → Answered tells old new (λ told. OffersOne config filters program told found)
+      → Answered tells old new (λ told. OffersFirst config filters (program ∷ []) told)
+  first_offered program old new found a = record {
+    asked = a.asked;
+    chain = a.chain;
+    holds = subst (λ (ts : List Told). OffersFirst config filters (program ∷ []) ts) (append-nil a.asked) (first_of_one program [] a.asked [] found a.holds (no_further []));
+  }
+
   -- the cases of some programs so far
   pub record Offering (programs : List Program) (old : W) (rest : List Program) (new : W) (found : List Candidate) : Type 0 where
     pub told : List Told
-    pub chain : Chain tells told old new
+    pub chain : Chain tells old told new
     pub goes : (more : List Told) (others : List Candidate) → Offers config filters rest more others → Offers config filters programs (told ++ more) (found ++ others)
+    pub first : (more : List Told) → OffersFirst config filters rest more → OffersFirst config filters programs (told ++ more)
 
   module _ (programs : List Program) (old : W) where
     pub offers_first : (found : List Candidate) → found ≡ [] → Offering programs old programs old found
-    offers_first found e = record { told = []; chain = refl; goes = λ more others h. subst (λ (cs : List Candidate). Offers config filters programs more (cs ++ others)) (sym e) h }
+    offers_first found e = record { told = []; chain = refl; goes = λ more others h. subst (λ (cs : List Candidate). Offers config filters programs more (cs ++ others)) (sym e) h; first = λ more h. h }
 
     pub offers_next : (rest after : List Program) (program : Program) (mid new : W) (found grown : List Candidate) (cases : List CaseDef) → rest ≡ program ∷ after → Offering programs old rest mid found
         → Answered tells mid new (λ told. OffersOne config filters program told (candidates_of program cases)) → grown ≡ found ++ candidates_of program cases → Offering programs old after new grown
     offers_next rest after program mid new found grown cases e o a g = record {
       told = o.told ++ a.asked;
-      chain = chain_append tells o.told a.asked old mid new o.chain a.chain;
+      chain = chain-append tells o.told a.asked old mid new o.chain a.chain;
       goes = λ more others h.
           let own = candidates_of program cases in
           subst (λ (cs : List Candidate). Offers config filters programs ((o.told ++ a.asked) ++ more) (cs ++ others)) (sym g)
           (subst (λ (cs : List Candidate). Offers config filters programs ((o.told ++ a.asked) ++ more) cs) (sym (append_assoc found own others))
           (subst (λ (ts : List Told). Offers config filters programs ts (found ++ (own ++ others))) (sym (append_assoc o.told a.asked more))
           (o.goes (a.asked ++ more) (own ++ others) (subst (λ (ps : List Program). Offers config filters ps (a.asked ++ more) (own ++ others)) (sym e) (one_and program after a.asked more own others a.holds h)))));
+      first = λ more h. subst (λ (ts : List Told). OffersFirst config filters programs ts) (sym (append_assoc o.told a.asked more))
+          (o.first (a.asked ++ more) (subst (λ (ps : List Program). OffersFirst config filters ps (a.asked ++ more)) (sym e) (first_of_one program after a.asked more (candidates_of program cases) a.holds h)));
+    }
+
+    -- memory ran out at a program
+    pub offers_stopped : (rest after : List Program) (program : Program) (mid new : W) (found : List Candidate) → rest ≡ program ∷ after → Offering programs old rest mid found
+        → Answered tells mid new (λ told. OffersFirst config filters (program ∷ []) told) → Answered tells old new (λ told. OffersFirst config filters programs told)
+    offers_stopped rest after program mid new found e o a = record {
+      asked = o.told ++ a.asked;
+      chain = chain-append tells o.told a.asked old mid new o.chain a.chain;
+      holds = o.first a.asked (subst (λ (ps : List Program). OffersFirst config filters ps a.asked) (sym e) (first_before program after a.asked a.holds));
     }
 
     pub offers_all : (rest : List Program) (new : W) (found : List Candidate) → length rest ≡ 0 → Offering programs old rest new found → Answered tells old new (λ told. Offers config filters programs told found)

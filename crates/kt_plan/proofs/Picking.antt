@@ -1,13 +1,12 @@
 -- Selected cases are picked by their places.
-use Rattle.std.specs.Prelude.{Bool, true, false}
+use Rattle.std.specs.Prelude.{Bool, false, if◌then◌else◌, true}
 use Rattle.std.proofs.Common.{◌≡◌, ℕ, ◌+◌, ◌<◌, ◌≤◌, List, [], ◌∷◌, ◌++◌, cond, refl, sym, ap, ◌∙◌, arith, append_assoc, map}
-use Rattle.std.specs.Prelude.{if◌then◌else◌}
 use Rattle.kt_suite.specs.declared.filter.Filter.{Filter}
 use Rattle.kt_suite.specs.declared.item.Item.{Item}
 use Rattle.kt_suite.specs.Selecting.{places, is_selected}
 use Rattle.kt_plan.specs.declared.candidate.Candidate.{Candidate}
 use Rattle.kt_plan.specs.Collecting.{item_of, selected_cases}
-use Rattle.kt_plan.specs.Picks.{places_from}
+use Rattle.kt_plan.specs.Inner.Picks.{places_from}
 
 same_head : {X : Type 0} (x y : X) (xs ys : List X) → x ∷ xs ≡ y ∷ ys → x ≡ y
 same_head x y xs ys e = cc

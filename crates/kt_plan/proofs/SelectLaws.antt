@@ -1,61 +1,64 @@
 -- What a command selects, step by step.
 use Rattle.std.specs.Prelude.{Ok, Err, Bool}
 use Rattle.std.proofs.Common.{ℕ, List, ◌++◌, ◌⊎◌, inl, inr}
-use Rattle.kt_suite.specs.Answers.{Asked, Chain, Answered}
+use Rattle.kt_base.specs.Chains.{Chain}
+use Rattle.kt_suite.specs.Answers.{Asked, Answered}
 use Rattle.kt_plan.specs.declared.case_options.CaseOptions.{CaseOptions}
 use Rattle.kt_plan.specs.declared.chosen.Chosen.{Chosen}
 use Rattle.kt_plan.specs.declared.picked.Picked.{Picked}
 use Rattle.kt_plan.specs.declared.settings.Settings.{Settings}
 use Rattle.kt_plan.specs.declared.stop.Stop.{Stop}
-use Rattle.kt_plan.specs.Collecting.{Collects, Collected}
+use Rattle.kt_plan.specs.Inner.Collecting.{CollectsOrShort, Collected}
+use Rattle.kt_plan.specs.Collecting.{Collects}
+use Rattle.kt_plan.specs.Inner.Configuring.{SettlesOrShort}
 use Rattle.kt_plan.specs.Configuring.{Settles}
 use Rattle.kt_plan.specs.Questions.{leads_by, of_tree, of_host}
-use Rattle.kt_plan.specs.Selecting.{Selects, unsettled, uncollected, selected}
-use Rattle.kt_plan.specs.Stops.{IsShort}
+use Rattle.kt_plan.specs.Selecting.{SelectsOrShort, collecting, selected, settling, uncollected, unsettled}
 use Rattle.kt_plan.specs.Told.{Told}
-use Rattle.kt_plan.proofs.QuestionChains.{chain_both, chain_of_host, chain_of_tree}
+use Rattle.kt_base.proofs.Chains.{chain-append}
+use Rattle.kt_plan.proofs.QuestionChains.{chain_of_host, chain_of_tree}
 
 module _ {W : Type 0} (asks : W → Asked → W → Type 0) (tells : W → Told → W → Type 0) where
   -- the settings were refused
   pub unsettled_answer : (needed : Bool) (options : CaseOptions) (old new : W) (fault : Stop)
-      → Answered tells old new (λ told. IsShort {T = Settings} (Err fault) ⊎ Settles needed options told (Err fault))
-      → Answered (leads_by asks tells) old new (λ questions. IsShort {T = Picked} (Err fault) ⊎ Selects needed options questions (Err fault))
+      → Answered tells old new (λ told. SettlesOrShort needed options told (Err fault))
+      → Answered (leads_by asks tells) old new (λ questions. SelectsOrShort needed options questions (Err fault))
   unsettled_answer needed options old new fault a = record {
     asked = of_host a.asked;
     chain = chain_of_host asks tells a.asked old new a.chain;
-    holds = elim a.holds [ inl s ↦ inl s | inr s ↦ inr (unsettled a.asked fault s) ];
+    holds = elim a.holds [ inl s ↦ inl (s.0, settling a.asked s.1) | inr s ↦ inr (unsettled a.asked fault s) ];
   }
 
-  settled_is : (needed : Bool) (options : CaseOptions) (told : List Told) (settings : Settings) → IsShort {T = Settings} (Ok settings) ⊎ Settles needed options told (Ok settings) → Settles needed options told (Ok settings)
-  settled_is needed options told settings (inl s) = absurd s
+  settled_is : (needed : Bool) (options : CaseOptions) (told : List Told) (settings : Settings) → SettlesOrShort needed options told (Ok settings) → Settles needed options told (Ok settings)
+  settled_is needed options told settings (inl s) = absurd s.0
   settled_is needed options told settings (inr s) = s
 
-  chain_to : (told : List Told) (asked : List Asked) (lists : List Told) (a b d e : W) → Chain tells told a b → Chain asks asked b d → Chain tells lists d e
-      → Chain (leads_by asks tells) (of_host told ++ (of_tree asked ++ of_host lists)) a e
+  chain_to : (told : List Told) (asked : List Asked) (lists : List Told) (a b d e : W) → Chain tells a told b → Chain asks b asked d → Chain tells d lists e
+      → Chain (leads_by asks tells) a (of_host told ++ (of_tree asked ++ of_host lists)) e
   chain_to told asked lists a b d e x y z =
-      chain_both (leads_by asks tells) (of_host told) (of_tree asked ++ of_host lists) a b e (chain_of_host asks tells told a b x)
-      (chain_both (leads_by asks tells) (of_tree asked) (of_host lists) b d e (chain_of_tree asks tells asked b d y) (chain_of_host asks tells lists d e z))
+      chain-append (leads_by asks tells) (of_host told) (of_tree asked ++ of_host lists) a b e (chain_of_host asks tells told a b x)
+      (chain-append (leads_by asks tells) (of_tree asked) (of_host lists) b d e (chain_of_tree asks tells asked b d y) (chain_of_host asks tells lists d e z))
 
   -- the tree was refused, or its cases
   pub uncollected_answer : (needed : Bool) (options : CaseOptions) (old mid new : W) (settings : Settings) (fault : Stop)
-      → Answered tells old mid (λ told. IsShort {T = Settings} (Ok settings) ⊎ Settles needed options told (Ok settings))
+      → Answered tells old mid (λ told. SettlesOrShort needed options told (Ok settings))
       → Collected asks tells settings options.kyuafile mid new (Err fault)
-      → Answered (leads_by asks tells) old new (λ questions. IsShort {T = Picked} (Err fault) ⊎ Selects needed options questions (Err fault))
+      → Answered (leads_by asks tells) old new (λ questions. SelectsOrShort needed options questions (Err fault))
   uncollected_answer needed options old mid new settings fault a c = record {
     asked = of_host a.asked ++ (of_tree c.asked ++ of_host c.told);
     chain = chain_to a.asked c.asked c.told old mid c.loaded new a.chain c.chain c.lists;
-    holds = elim c.holds [ inl s ↦ inl s | inr s ↦ inr (uncollected a.asked settings c.asked c.told fault (settled_is needed options a.asked settings a.holds) s) ];
+    holds = elim c.holds [ inl s ↦ inl (s.0, collecting a.asked settings c.asked c.told (settled_is needed options a.asked settings a.holds) s.1) | inr s ↦ inr (uncollected a.asked settings c.asked c.told fault (settled_is needed options a.asked settings a.holds) s) ];
   }
 
-  collects_is : (settings : Settings) (kyuafile : List ℕ) (asked : List Asked) (lists : List Told) (chosen : Chosen) → IsShort {T = Chosen} (Ok chosen) ⊎ Collects settings kyuafile asked lists (Ok chosen) → Collects settings kyuafile asked lists (Ok chosen)
-  collects_is settings kyuafile asked lists chosen (inl s) = absurd s
+  collects_is : (settings : Settings) (kyuafile : List ℕ) (asked : List Asked) (lists : List Told) (chosen : Chosen) → CollectsOrShort settings kyuafile asked lists (Ok chosen) → Collects settings kyuafile asked lists (Ok chosen)
+  collects_is settings kyuafile asked lists chosen (inl s) = absurd s.0
   collects_is settings kyuafile asked lists chosen (inr s) = s
 
   -- cases were selected
   pub selected_answer : (needed : Bool) (options : CaseOptions) (old mid new : W) (settings : Settings) (chosen : Chosen)
-      → Answered tells old mid (λ told. IsShort {T = Settings} (Ok settings) ⊎ Settles needed options told (Ok settings))
+      → Answered tells old mid (λ told. SettlesOrShort needed options told (Ok settings))
       → Collected asks tells settings options.kyuafile mid new (Ok chosen)
-      → Answered (leads_by asks tells) old new (λ questions. IsShort {T = Picked} (Ok (record { settings = settings; chosen = chosen })) ⊎ Selects needed options questions (Ok (record { settings = settings; chosen = chosen })))
+      → Answered (leads_by asks tells) old new (λ questions. SelectsOrShort needed options questions (Ok (record { settings = settings; chosen = chosen })))
   selected_answer needed options old mid new settings chosen a c = record {
     asked = of_host a.asked ++ (of_tree c.asked ++ of_host c.told);
     chain = chain_to a.asked c.asked c.told old mid c.loaded new a.chain c.chain c.lists;

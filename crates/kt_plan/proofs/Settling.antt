@@ -3,20 +3,19 @@ use Rattle.std.specs.Prelude.{Option, Result, Ok, Err, IsErrAnd}
 use Rattle.std.proofs.Common.{◌≡◌, ℕ, Bool, List, [], ◌∷◌, sym, ap, ◌∙◌, subst, ◌⊎◌, inl, inr}
 use Rattle.std.proofs.lemmas.Result.{err_from_is_err_and}
 use Rattle.kt_base.specs.declared.no_memory.NoMemory.{NoMemory as OutOfMemory}
-use Rattle.kt_base.specs.declared.role.Role.{Role}
 use Rattle.kt_config.specs.declared.definition.Definition.{Definition}
 use Rattle.kt_config.specs.Values.{Values}
-use Rattle.kt_sched.specs.Children.{Child, IsIdle}
-use Rattle.kt_suite.specs.Answers.{Answered, Chain}
+use Rattle.kt_suite.specs.Answers.{Answered}
 use Rattle.kt_suite.specs.declared.filter.Filter.{Filter}
-use Rattle.kt_plan.specs.Configuring.{Configured, Configures, Filters, Gives, Settles, settled, unconfigured, unfiltered}
+use Rattle.kt_plan.specs.Inner.Configuring.{Configured, Gives, OrShort, SettlesOrShort}
+use Rattle.kt_plan.specs.Configuring.{Configures, Filters, Settles, settled, unconfigured, unfiltered}
 use Rattle.kt_plan.specs.Stops.{IsShort}
 use Rattle.kt_plan.specs.Told.{Told}
 use Rattle.kt_plan.specs.declared.case_options.CaseOptions.{CaseOptions}
 use Rattle.kt_plan.specs.declared.settings.Settings.{Settings}
 use Rattle.kt_plan.specs.declared.stop.Stop.{Stop}
 use Rattle.kt_plan.specs.declared.stop.Stop.TheVariants as stop
-use Rattle.kt_plan.proofs.Configurations.{Configuration, answered_as}
+use Rattle.kt_plan.proofs.Configurations.{Configuration, answered_as, configuration_first}
 
 -- memory ran out
 pub stops_short : {T : Type 0} (result : Result T Stop) (refusal : OutOfMemory) → IsErrAnd result (λ e. e ≡ stop.NoMemory refusal) → IsShort result
@@ -26,21 +25,21 @@ stops_short {T} result refusal r =
 
 module _ {W : Type 0} (tells : W → Told → W → Type 0) (old new : W) (needs_case : Bool) (options : CaseOptions) where
   abbrev pub Settled : Result Settings Stop → Type 0
-  Settled result = Answered tells old new (λ told. IsShort result ⊎ Settles needs_case options told result)
+  Settled result = Answered tells old new (λ told. SettlesOrShort needs_case options told result)
 
   -- there is no configuration
   pub not_configured : (found : Result Values Stop) (result : Result Settings Stop) (fault : Stop) → found ≡ Err fault → IsErrAnd result (λ e. e ≡ fault) → Configuration tells old new options found → Settled result
   not_configured found result fault e r a =
       let p = err_from_is_err_and result r in
-      answered_as tells old new (λ told. IsShort found ⊎ Configured (Configures options told) found) (λ told. IsShort result ⊎ Settles needs_case options told result)
-      (λ told h. subst (λ (o : Result Settings Stop). IsShort o ⊎ Settles needs_case options told o) (sym (p.1 ∙ ap (λ (x : Stop). Err x) p.2))
-      (by told (subst (λ (o : Result Values Stop). IsShort o ⊎ Configured (Configures options told) o) e h))) a
+      answered_as tells old new (λ told. OrShort found options.config told (Configured (Configures options told) found)) (λ told. SettlesOrShort needs_case options told result)
+      (λ told h. subst (λ (o : Result Settings Stop). SettlesOrShort needs_case options told o) (sym (p.1 ∙ ap (λ (x : Stop). Err x) p.2))
+      (by told (subst (λ (o : Result Values Stop). OrShort o options.config told (Configured (Configures options told) o)) e h))) a
     where
       meant : (told : List Told) (m : Result (List Definition) Stop) → Configures options told m → Gives (Err fault) m → Settles needs_case options told (Err fault)
       meant told (Ok definitions) m g = absurd g
       meant told (Err f) m g = subst (λ (x : Stop). Settles needs_case options told (Err x)) (sym g) (unconfigured f m)
 
-      by : (told : List Told) → IsShort {T = Values} (Err fault) ⊎ Configured (Configures options told) (Err fault) → IsShort {T = Settings} (Err fault) ⊎ Settles needs_case options told (Err fault)
+      by : (told : List Told) → OrShort {T = Values} (Err fault) options.config told (Configured (Configures options told) (Err fault)) → SettlesOrShort needs_case options told (Err fault)
       by told (inl s) = inl s
       by told (inr c) = inr (meant told c.meant c.means c.gives)
 
@@ -48,15 +47,15 @@ module _ {W : Type 0} (tells : W → Told → W → Type 0) (old new : W) (needs
     -- the definitions of the configuration, and what follows from them
     with_definitions : (P : List Told → Type 0) → ((told : List Told) (definitions : List Definition) → Configures options told (Ok definitions) → Gives (Ok config) (Ok definitions) → P told) → Answered tells old new P
     with_definitions P f =
-        answered_as tells old new (λ told. IsShort found ⊎ Configured (Configures options told) found) P
-        (λ told h. by told (subst (λ (o : Result Values Stop). IsShort o ⊎ Configured (Configures options told) o) e h)) a
+        answered_as tells old new (λ told. OrShort found options.config told (Configured (Configures options told) found)) P
+        (λ told h. by told (subst (λ (o : Result Values Stop). OrShort o options.config told (Configured (Configures options told) o)) e h)) a
       where
         meant : (told : List Told) (m : Result (List Definition) Stop) → Configures options told m → Gives (Ok config) m → P told
         meant told (Ok definitions) m g = f told definitions m g
         meant told (Err fault) m g = absurd g
 
-        by : (told : List Told) → IsShort {T = Values} (Ok config) ⊎ Configured (Configures options told) (Ok config) → P told
-        by told (inl s) = absurd s
+        by : (told : List Told) → OrShort {T = Values} (Ok config) options.config told (Configured (Configures options told) (Ok config)) → P told
+        by told (inl s) = absurd s.0
         by told (inr c) = meant told c.meant c.means c.gives
 
     -- the filters are wrong
@@ -64,32 +63,24 @@ module _ {W : Type 0} (tells : W → Told → W → Type 0) (old new : W) (needs
         → IsShort read ⊎ Filters needs_case options.filters read → Settled result
     not_filtered read result fault f r h =
         let p = err_from_is_err_and result r in
-        with_definitions (λ told. IsShort result ⊎ Settles needs_case options told result)
-        (λ told definitions m g. subst (λ (o : Result Settings Stop). IsShort o ⊎ Settles needs_case options told o) (sym (p.1 ∙ ap (λ (x : Stop). Err x) p.2))
+        with_definitions (λ told. SettlesOrShort needs_case options told result)
+        (λ told definitions m g. subst (λ (o : Result Settings Stop). SettlesOrShort needs_case options told o) (sym (p.1 ∙ ap (λ (x : Stop). Err x) p.2))
         (by told definitions m (subst (λ (o : Result (List Filter) Stop). IsShort o ⊎ Filters needs_case options.filters o) f h)))
       where
         by : (told : List Told) (definitions : List Definition) → Configures options told (Ok definitions) → IsShort {T = List Filter} (Err fault) ⊎ Filters needs_case options.filters (Err fault)
-            → IsShort {T = Settings} (Err fault) ⊎ Settles needs_case options told (Err fault)
-        by told definitions m (inl s) = inl s
+            → SettlesOrShort needs_case options told (Err fault)
+        by told definitions m (inl s) = inl (s, configuration_first options told (Ok definitions) m)
         by told definitions m (inr w) = inr (unfiltered definitions fault m w)
 
     -- all is right
     pub all_settled : (read : Result (List Filter) Stop) (filters : List Filter) → read ≡ Ok filters → IsShort read ⊎ Filters needs_case options.filters read
         → Settled (Ok (record { config = config; filters = filters }))
     all_settled read filters f h =
-        with_definitions (λ told. IsShort {T = Settings} (Ok (record { config = config; filters = filters })) ⊎ Settles needs_case options told (Ok (record { config = config; filters = filters })))
+        with_definitions (λ told. SettlesOrShort needs_case options told (Ok (record { config = config; filters = filters })))
         (λ told definitions m g. by told definitions m g (subst (λ (o : Result (List Filter) Stop). IsShort o ⊎ Filters needs_case options.filters o) f h))
       where
         by : (told : List Told) (definitions : List Definition) → Configures options told (Ok definitions) → Gives (Ok config) (Ok definitions)
             → IsShort {T = List Filter} (Ok filters) ⊎ Filters needs_case options.filters (Ok filters)
-            → IsShort {T = Settings} (Ok (record { config = config; filters = filters })) ⊎ Settles needs_case options told (Ok (record { config = config; filters = filters }))
+            → SettlesOrShort needs_case options told (Ok (record { config = config; filters = filters }))
         by told definitions m g (inl s) = absurd s
         by told definitions m g (inr w) = inr (settled definitions (record { config = config; filters = filters }) m g w)
-
--- nothing that runs or is pending changes by answers that change none of it
-module _ {W Q : Type 0} (leads : W → Q → W → Type 0) (running : W → ℕ → Role → Option Child) (pending : W → ℕ → Bool)
-    (runs : (s t : W) (q : Q) → leads s q t → (k : ℕ) (r : Role) → running t k r ≡ running s k r) (pends : (s t : W) (q : Q) → leads s q t → (k : ℕ) → pending t k ≡ pending s k) where
-  pub idle_along : (qs : List Q) (old new : W) → Chain leads qs old new → IsIdle (running old) (pending old) → IsIdle (running new) (pending new)
-  idle_along [] old new e i = subst (λ (w : W). IsIdle (running w) (pending w)) (sym e) i
-  idle_along (q ∷ qs) old new c i =
-      idle_along qs c.0 new c.2 (record { runs = λ k r. runs old c.0 q c.1 k r ∙ i.runs k r; pends = λ k. pends old c.0 q c.1 k ∙ i.pends k })

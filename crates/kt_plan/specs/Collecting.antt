@@ -7,7 +7,7 @@ use Rattle.kt_config.specs.Values.{Values, variables_of}
 use Rattle.kt_atflist.specs.Cases.{AreCases}
 use Rattle.kt_atflist.specs.declared.case_def.CaseDef.{CaseDef}
 use Rattle.kt_atflist.specs.declared.listing.Listing.{Listing}
-use Rattle.kt_suite.specs.Answers.{Asked, Chain}
+use Rattle.kt_suite.specs.Answers.{Asked}
 use Rattle.kt_suite.specs.declared.fault.SuiteFault.{SuiteFault}
 use Rattle.kt_suite.specs.declared.filter.Filter.{Filter}
 use Rattle.kt_suite.specs.declared.item.Item.{Item}
@@ -19,8 +19,7 @@ use Rattle.kt_plan.specs.declared.chosen.Chosen.{Chosen}
 use Rattle.kt_plan.specs.declared.settings.Settings.{Settings}
 use Rattle.kt_plan.specs.declared.stop.Stop.{Stop}
 use Rattle.kt_plan.specs.declared.stop.Stop.TheVariants as stop
-use Rattle.kt_plan.specs.Listings.{Loads}
-use Rattle.kt_plan.specs.Stops.{IsShort}
+use Rattle.kt_plan.specs.Listings.{Loads, LoadsFirst}
 use Rattle.kt_plan.specs.Told.{Told, Lists}
 
 -- the variables of a suite, none where it has none
@@ -59,6 +58,14 @@ pub data Offers (config : Values) (filters : List Filter) : List Program → Lis
   one_and : (program : Program) (programs : List Program) (told more : List Told) (own others : List Candidate) → OffersOne config filters program told own
       → Offers config filters programs more others → Offers config filters (program ∷ programs) (told ++ more) (own ++ others)
 
+-- the first questions for them: the programs that are wanted are asked for their lists in order, up to some place
+pub data OffersFirst (config : Values) (filters : List Filter) : List Program → List Told → Type 0 where
+  no_further : (programs : List Program) → OffersFirst config filters programs []
+  asks : (program : Program) (programs : List Program) (listing : Listing) (told : List Told) → program.interface ≡ Atf → IsWanted filters program
+      → OffersFirst config filters programs told → OffersFirst config filters (program ∷ programs) (Lists program (variables_for config program.suite) listing ∷ told)
+  passes : (program : Program) (programs : List Program) (told : List Told) → (program.interface ≡ Atf → IsWanted filters program → ⊥)
+      → OffersFirst config filters programs told → OffersFirst config filters (program ∷ programs) told
+
 -- a case as filters see it
 abbrev pub item_of : Candidate → Item
 item_of candidate = record { path = candidate.path; case_name = candidate.case.name }
@@ -83,11 +90,8 @@ pub data Collects (settings : Settings) (kyuafile : List ℕ) : List Asked → L
       → Offers settings.config settings.filters programs told found → length found ≤ most_items
       → Collects settings kyuafile asked told (Ok (chosen_of settings.filters found))
 
--- a world was asked for the tree and then for the lists: what came of it, or memory ran out
-pub record Collected {W : Type 0} (asks : W → Asked → W → Type 0) (tells : W → Told → W → Type 0) (settings : Settings) (kyuafile : List ℕ) (old new : W) (result : Result Chosen Stop) : Type 0 where
-  pub asked : List Asked
-  pub told : List Told
-  pub loaded : W
-  pub chain : Chain asks asked old loaded
-  pub lists : Chain tells told loaded new
-  pub holds : IsShort result ⊎ Collects settings kyuafile asked told result
+-- the first questions for the selected cases, where memory ran out: to the tree, and then for the lists
+pub data CollectsFirst (settings : Settings) (kyuafile : List ℕ) : List Asked → List Told → Type 0 where
+  loading : (asked : List Asked) → LoadsFirst kyuafile asked → CollectsFirst settings kyuafile asked []
+  offering : (asked : List Asked) (told : List Told) (programs : List Program) → Loads kyuafile asked (Ok programs)
+      → OffersFirst settings.config settings.filters programs told → CollectsFirst settings kyuafile asked told

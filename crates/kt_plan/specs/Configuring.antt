@@ -9,12 +9,10 @@ use Rattle.kt_config.specs.declared.fault.ConfigFault.TheVariants.{BadValue}
 use Rattle.kt_config.specs.Holding.{Holds}
 use Rattle.kt_config.specs.Names.{Meaning, definition_named}
 use Rattle.kt_config.specs.Reading.{outcome_of, IsDue}
-use Rattle.kt_config.specs.Values.{Values}
 use Rattle.kt_suite.specs.declared.filter.Filter.{Filter}
 use Rattle.kt_suite.specs.declared.filter_fault.FilterFault.{FilterFault}
-use Rattle.kt_suite.specs.declared.filter_fault.FilterFault.TheVariants.{Repeated, NotDisjoint}
 use Rattle.kt_suite.specs.declared.read_fault.ReadFault.{ReadFault}
-use Rattle.kt_suite.specs.declared.read_fault.ReadFault.TheVariants.{Missing, Failed, Memory}
+use Rattle.kt_suite.specs.declared.read_fault.ReadFault.TheVariants.{Missing, Failed}
 use Rattle.kt_suite.specs.Disjoint.{fault_at, IsDisjoint}
 use Rattle.kt_suite.specs.Filters.{Meaning as FilterMeaning, filter_meaning}
 use Rattle.kt_plan.specs.declared.case_options.CaseOptions.{CaseOptions}
@@ -25,7 +23,7 @@ use Rattle.kt_plan.specs.Told.{Told, ReadConfig}
 
 -- ---- words in order
 
--- what one word means before what the others mean: behind a stop nothing counts
+-- what one word means before what the others mean: after a stop nothing counts
 abbrev pub in_front : {A : Type 0} → Result A Stop → Result (List A) Stop → Result (List A) Stop
 in_front (Err fault) rest = Err fault
 in_front (Ok first) (Ok rest) = Ok (first ∷ rest)
@@ -68,12 +66,6 @@ pub data IsUnread : ReadFault → Type 0 where
   missing : IsUnread Missing
   failed : IsUnread Failed
 
--- why a command stops whose configuration file can't be read
-abbrev pub unread_stop : ReadFault → Stop
-unread_stop Missing = stop.UnreadConfiguration
-unread_stop Failed = stop.UnreadConfiguration
-unread_stop (Memory refusal) = stop.NoMemory refusal
-
 -- what the bytes of a configuration file define, or why they stop the command
 pub data IsConfiguration (bytes : List ℕ) : Result (List Definition) Stop → Type 0 where
   refused : (fault : ConfigFault) → IsDue bytes fault → IsConfiguration bytes (Err (stop.Configuration fault))
@@ -90,27 +82,6 @@ pub data ReadsConfig : Option (List ℕ) → List Told → Result (List Definiti
 pub data Configures (options : CaseOptions) (told : List Told) : Result (List Definition) Stop → Type 0 where
   stopped : (fault : Stop) → ReadsConfig options.config told (Err fault) → Configures options told (Err fault)
   defined : (before : List Definition) → ReadsConfig options.config told (Ok before) → Configures options told (behind before (words_meaning options.variables))
-
--- a configuration with the last values of these definitions, or the same stop
-abbrev pub Gives : Result Values Stop → Result (List Definition) Stop → Type 0
-Gives (Ok config) (Ok definitions) = Holds config definitions
-Gives (Ok config) (Err fault) = ⊥
-Gives (Err found) (Ok definitions) = ⊥
-Gives (Err found) (Err fault) = found ≡ fault
-
--- a configuration, or a stop, is what some definitions give of which this holds
-pub record Configured (Means : Result (List Definition) Stop → Type 0) (outcome : Result Values Stop) : Type 0 where
-  pub meant : Result (List Definition) Stop
-  pub means : Means meant
-  pub gives : Gives outcome meant
-
--- whatever definitions a configuration has, these come behind them
-abbrev pub GivesMore : Values → Result Values Stop → Result (List Definition) Stop → Type 0
-GivesMore config outcome meant = (before : List Definition) → Holds config before → Gives outcome (behind before meant)
-
--- the same of one definition
-abbrev pub GivesOne : Values → Result Values Stop → Result Definition Stop → Type 0
-GivesOne config outcome meant = GivesMore config outcome (in_front meant (Ok []))
 
 -- ---- filters
 
@@ -133,17 +104,6 @@ pub record IsClash (words : List (List ℕ)) (filters : List Filter) (word : Lis
   pub at : fault_at filters position ≡ Some fault
   pub first : (before : ℕ) → before < position → fault_at filters before ≡ None
   pub named : slice_get words position ≡ Some word
-
--- the position that a fault of several filters names
-abbrev pub position_in : FilterFault → ℕ
-position_in (Repeated position) = position
-position_in (NotDisjoint position) = position
-position_in other = 0
-
--- whether some filters share a case, and the stop at the first that shares one with an earlier one
-pub data ChecksTogether (words : List (List ℕ)) (filters : List Filter) : Option Stop → Type 0 where
-  apart : IsDisjoint filters → ChecksTogether words filters None
-  shared : (word : List ℕ) (fault : FilterFault) → IsClash words filters word fault → ChecksTogether words filters (Some (stop.Filter word fault))
 
 -- there is one filter, of one case
 abbrev pub names_one_case : List Filter → Bool
@@ -174,3 +134,8 @@ pub data Settles (needs_case : Bool) (options : CaseOptions) (told : List Told) 
       → Settles needs_case options told (Err fault)
   settled : (definitions : List Definition) (settings : Settings) → Configures options told (Ok definitions) → Holds settings.config definitions
       → Filters needs_case options.filters (Ok settings.filters) → Settles needs_case options told (Ok settings)
+
+-- the first questions for the configuration file: it is asked for, or not yet
+pub data ReadsFirst : Option (List ℕ) → List Told → Type 0 where
+  before_file : (path : Option (List ℕ)) → ReadsFirst path []
+  after_file : (path : List ℕ) (answer : Result (List ℕ) ReadFault) → ReadsFirst (Some path) (ReadConfig path answer ∷ [])

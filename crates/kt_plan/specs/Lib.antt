@@ -1,9 +1,10 @@
 pub mod Collecting
 pub mod Configuring
+pub mod Inner
 pub mod Listings
-pub mod Picks
 pub mod Planning
 pub mod Questions
 pub mod Selecting
+pub mod StopWords
 pub mod Stops
 pub mod Told

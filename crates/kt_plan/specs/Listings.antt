@@ -3,17 +3,20 @@ use Rattle.std.specs.Prelude.{ℕ, true, false, List, [], ◌≡◌, Err}
 use Rattle.kt_suite.specs.Answers.{Asked}
 use Rattle.kt_suite.specs.Paths.{name_in}
 use Rattle.kt_base.specs.Texts.{is_empty}
-use Rattle.kt_suite.specs.declared.cause.SuiteCause.TheVariants.{Unreadable}
+use Rattle.kt_base.specs.declared.no_memory.NoMemory.{NoMemory as OutOfMemory}
+use Rattle.kt_suite.specs.declared.cause.SuiteCause.TheVariants.{NoMemory, Unreadable}
 use Rattle.kt_suite.specs.declared.fault.SuiteFault.{SuiteFault}
-use Rattle.kt_suite.specs.Faults.{IsNoMemory, fault_at}
-use Rattle.kt_suite.specs.Registered.{Outcome, Registered}
+use Rattle.kt_suite.specs.Faults.{fault_at}
+use Rattle.kt_suite.specs.Registered.{Outcome, Registered, Unfinished}
 
 -- what it registers, for these answers of its tree. A path that names no file, as one that ends in a
--- slash, is unreadable: it is told as it was given, and nothing is asked.
+-- slash, is unreadable: the fault has the path as it was given, and nothing is asked.
 pub data Loads (kyuafile : List ℕ) : List Asked → Outcome → Type 0 where
   unnamed : is_empty (name_in kyuafile) ≡ true → Loads kyuafile [] (Err (fault_at kyuafile 0 Unreadable))
   named : (asked : List Asked) (outcome : Outcome) → is_empty (name_in kyuafile) ≡ false → Registered asked (name_in kyuafile) outcome → Loads kyuafile asked outcome
 
--- memory ran out while it was loaded
-abbrev pub RanShort : Outcome → Type 0
-RanShort outcome = (fault : SuiteFault) × IsNoMemory fault × (outcome ≡ Err fault)
+-- the first questions to the tree, where memory ran out. They are all of them if the tree itself answered so.
+pub data LoadsFirst (kyuafile : List ℕ) : List Asked → Type 0 where
+  before_tree : LoadsFirst kyuafile []
+  unfinished : (asked : List Asked) (outcome : Outcome) → Unfinished asked (name_in kyuafile) outcome → LoadsFirst kyuafile asked
+  by_tree : (asked : List Asked) (fault : SuiteFault) (refusal : OutOfMemory) → fault.cause ≡ NoMemory refusal → Loads kyuafile asked (Err fault) → LoadsFirst kyuafile asked

@@ -1,9 +1,8 @@
 -- What the host is asked for the selected cases, and the plan of them: the third step.
-use Rattle.std.specs.Prelude.{ℕ, suc, Bool, true, false, ◌≡◌, ◌&&◌, ◌||◌, List, [], ◌∷◌, ◌++◌, Option, Some, None, bytes_eq}
+use Rattle.std.specs.Prelude.{ℕ, suc, Bool, true, false, ◌≡◌, ◌&&◌, List, [], ◌∷◌, ◌++◌, Option, Some, None, bytes_eq}
 use Rattle.std.specs.List.{list_any}
 use Rattle.std.specs.Option.{option_map}
-use Rattle.std.specs.BTreeSet.{BTreeSet, contains_text}
-use Rattle.std.specs.declared.string.String.{String}
+use Rattle.std.specs.BTreeSet.{contains_text}
 use Rattle.kt_base.specs.Utf8.{utf8}
 use Rattle.kt_base.specs.Verdicts.{Judged, broken, skipped}
 use Rattle.kt_base.specs.declared.interface.Interface.{Interface}
@@ -18,19 +17,13 @@ use Rattle.kt_metadata.specs.declared.host.Host.{Host}
 use Rattle.kt_metadata.specs.declared.meta.Meta.{Meta}
 use Rattle.kt_sched.specs.declared.job.Job.{Job}
 use Rattle.kt_plan.specs.declared.candidate.Candidate.{Candidate}
-use Rattle.kt_plan.specs.declared.required.Required.{Required}
-use Rattle.kt_plan.specs.declared.required.Required.TheVariants.{File, Program}
 use Rattle.kt_plan.specs.Collecting.{variables_for}
+use Rattle.kt_plan.specs.Questions.{AreFirst}
 use Rattle.kt_plan.specs.Told.{Told, FindsFile, FindsProgram, IsRoot, HasMemory, HasDisk}
 
 -- the effective properties of a case
 abbrev pub meta_in : Candidate → Meta
 meta_in candidate = effective candidate.case.props
-
--- the question to the host for what is required
-abbrev pub question_of : Required → List ℕ → Bool → Told
-question_of File = FindsFile
-question_of Program = FindsProgram
 
 -- questions whether these words are found, in order
 pub data LooksFor (question : List ℕ → Bool → Told) : List (List ℕ) → List Told → Type 0 where
@@ -50,24 +43,15 @@ pub data LooksForAll : List Candidate → List Told → Type 0 where
   one_and : (candidate : Candidate) (candidates : List Candidate) (told more : List Told) → LooksForOne candidate told → LooksForAll candidates more
       → LooksForAll (candidate ∷ candidates) (told ++ more)
 
--- an answer tells that this file is there
+-- an answer says that this file is there
 abbrev pub finds_file : List ℕ → Told → Bool
 finds_file path (FindsFile other answer) = bytes_eq (utf8 other) (utf8 path) && answer
 finds_file path other = false
 
--- an answer tells that this program is there
+-- an answer says that this program is there
 abbrev pub finds_program : List ℕ → Told → Bool
 finds_program name (FindsProgram other answer) = bytes_eq (utf8 other) (utf8 name) && answer
 finds_program name other = false
-
--- an answer tells that what is required is there
-abbrev pub finds_of : Required → List ℕ → Told → Bool
-finds_of File = finds_file
-finds_of Program = finds_program
-
--- the words that these answers tell to be there were added to those that were found
-abbrev pub Notes : {Z : Type 0} → (List ℕ → Told → Bool) → List Told → BTreeSet (String Z) → BTreeSet (String Z) → Type 0
-Notes finds told old new = (word : List ℕ) → contains_text new (utf8 word) ≡ (contains_text old (utf8 word) || list_any (finds word) told)
 
 -- the host is asked whether the runner is root, for its memory and its disk space, and for the files and programs of the cases; a file or
 -- a program is there if one of the answers says so
@@ -77,6 +61,15 @@ pub record Surveys (candidates : List Candidate) (told : List Told) (host : Host
   pub all : LooksForAll candidates looked
   pub files : (path : List ℕ) → contains_text host.files (utf8 path) ≡ list_any (finds_file path) looked
   pub programs : (name : List ℕ) → contains_text host.programs (utf8 name) ≡ list_any (finds_program name) looked
+
+-- the first questions to the host, where memory ran out: those for files and programs come last
+pub record SurveysFirst (candidates : List Candidate) (told : List Told) : Type 0 where
+  pub root : Bool
+  pub memory : Option ℕ
+  pub disk : Option ℕ
+  pub looked : List Told
+  pub asked : told ≡ IsRoot root ∷ HasMemory memory ∷ HasDisk disk ∷ looked
+  pub first : AreFirst (LooksForAll candidates) looked
 
 -- an interface has cleanups
 abbrev pub is_atf : Interface → Bool

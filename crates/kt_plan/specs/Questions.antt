@@ -1,5 +1,5 @@
 -- What a world was asked, in one list: questions to the tree and to the host.
-use Rattle.std.specs.Prelude.{List, map}
+use Rattle.std.specs.Prelude.{List, ◌++◌, map}
 use Rattle.kt_suite.specs.Answers.{Asked}
 use Rattle.kt_plan.specs.Told.{Told}
 
@@ -20,3 +20,7 @@ of_tree asked = map OfTree asked
 -- questions to the host
 abbrev pub of_host : List Told → List Question
 of_host told = map OfHost told
+
+-- these are the first ones of some questions
+abbrev pub AreFirst : {Q : Type 0} → (List Q → Type 0) → List Q → Type 0
+AreFirst {Q} AreAll asked = (more : List Q) × AreAll (asked ++ more)

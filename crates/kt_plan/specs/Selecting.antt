@@ -1,14 +1,15 @@
 -- What the options of a command select.
-use Rattle.std.specs.Prelude.{Bool, List, ◌++◌, Result, Ok, Err}
+use Rattle.std.specs.Prelude.{Bool, List, ◌++◌, ◌⊎◌, Result, Ok, Err}
 use Rattle.kt_suite.specs.Answers.{Asked}
 use Rattle.kt_plan.specs.declared.case_options.CaseOptions.{CaseOptions}
 use Rattle.kt_plan.specs.declared.chosen.Chosen.{Chosen}
 use Rattle.kt_plan.specs.declared.picked.Picked.{Picked}
 use Rattle.kt_plan.specs.declared.settings.Settings.{Settings}
 use Rattle.kt_plan.specs.declared.stop.Stop.{Stop}
-use Rattle.kt_plan.specs.Collecting.{Collects}
-use Rattle.kt_plan.specs.Configuring.{Settles}
+use Rattle.kt_plan.specs.Collecting.{Collects, CollectsFirst}
+use Rattle.kt_plan.specs.Configuring.{ReadsFirst, Settles}
 use Rattle.kt_plan.specs.Questions.{Question, of_tree, of_host}
+use Rattle.kt_plan.specs.Stops.{IsShort}
 use Rattle.kt_plan.specs.Told.{Told}
 
 -- what the options of a command select, by these questions, or the first fault that stops it: the configuration and the filters, and then the tree
@@ -20,3 +21,13 @@ pub data Selects (needed : Bool) (options : CaseOptions) : List Question → Res
   selected : (told : List Told) (settings : Settings) (asked : List Asked) (lists : List Told) (chosen : Chosen) → Settles needed options told (Ok settings)
       → Collects settings options.kyuafile asked lists (Ok chosen)
       → Selects needed options (of_host told ++ (of_tree asked ++ of_host lists)) (Ok (record { settings = settings; chosen = chosen }))
+
+-- the first questions for a selection, where memory ran out
+pub data SelectsFirst (needed : Bool) (options : CaseOptions) : List Question → Type 0 where
+  settling : (told : List Told) → ReadsFirst options.config told → SelectsFirst needed options (of_host told)
+  collecting : (told : List Told) (settings : Settings) (asked : List Asked) (lists : List Told) → Settles needed options told (Ok settings)
+      → CollectsFirst settings options.kyuafile asked lists → SelectsFirst needed options (of_host told ++ (of_tree asked ++ of_host lists))
+
+-- a selection, or memory ran out after the first questions for it
+abbrev pub SelectsOrShort : Bool → CaseOptions → List Question → Result Picked Stop → Type 0
+SelectsOrShort needed options questions result = (IsShort result × SelectsFirst needed options questions) ⊎ Selects needed options questions result

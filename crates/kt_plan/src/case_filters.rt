@@ -1,5 +1,6 @@
 ghost use Rattle.std.specs.Prelude.{◌≡◌, ◌⊎◌, IfOk, length};
-ghost use Rattle.kt_plan.specs.Configuring.{filter_of, filters_of, position_in, names_one_case, lacks_case, ChecksTogether, Filters};
+ghost use Rattle.kt_plan.specs.Inner.Configuring.{position_in, ChecksTogether};
+ghost use Rattle.kt_plan.specs.Configuring.{filter_of, filters_of, names_one_case, lacks_case, Filters};
 ghost use Rattle.kt_plan.specs.Stops.{IsShort};
 
 use crate::stop::Stop;
@@ -23,13 +24,11 @@ fn parse_filters(alloc: Global, words: &[Text]) -> Result<Result<Items<Filter>, 
     ensures { IfOk result (λ outcome. outcome ≡ filters_of words.now) }
 {
     let mut filters = Items::new(alloc);
-    let mut rest = words;
-    while let Some((word, after)) = rest.split_first() {
+    for word in words {
         match filter_of(alloc, word)? {
             Ok(filter) => filters.push(filter)?,
             Err(fault) => return Ok(Err(fault)),
         }
-        rest = after;
     }
     Ok(Ok(filters))
 }

@@ -1,7 +1,7 @@
 ghost use Rattle.std.specs.Prelude.{◌≡◌, ◌≤◌, IfOk};
 ghost use Rattle.kt_metadata.specs.Effective.{effective};
 ghost use Rattle.kt_metadata.specs.Listing.{listing};
-ghost use Rattle.kt_metadata.specs.Values.{longest_timeout};
+ghost use Rattle.kt_base.specs.Limits.{longest_timeout};
 
 use kt_base::{NoMemory, Variables};
 use kt_metadata::{Meta, Props};

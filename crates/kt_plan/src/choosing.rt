@@ -4,7 +4,7 @@ ghost use Rattle.kt_suite.specs.Selecting.{most_items};
 ghost use Rattle.kt_plan.specs.declared.candidate.Candidate.{Candidate};
 ghost use Rattle.kt_plan.specs.declared.stop.Stop.TheVariants as stop;
 ghost use Rattle.kt_plan.specs.Collecting.{item_of, selected_cases, chosen_of};
-ghost use Rattle.kt_plan.specs.Picks.{places_from};
+ghost use Rattle.kt_plan.specs.Inner.Picks.{places_from};
 ghost use Rattle.kt_plan.specs.Stops.{RanOut};
 
 use crate::candidate::Candidate;
@@ -28,15 +28,13 @@ fn items_of(alloc: Global, candidates: &[Candidate]) -> Result<Vec<Item>, NoMemo
     ensures { IfOk result (λ items. items.items ≡ map item_of candidates.now) }
 {
     let mut items = Vec::new(alloc);
-    let mut rest = candidates;
-    while let Some((candidate, after)) = rest.split_first() {
+    for candidate in candidates {
         items.push(item_of(candidate)?)?;
-        rest = after;
     }
     Ok(items)
 }
 
-/// Appends a case if the first of these places is its own, and answers the places after it.
+/// Appends a case if the first of these places is its own, and returns the places that are left.
 fn keep<'a>(
     cases: &mut Items<Candidate>,
     candidate: Candidate,

@@ -1,10 +1,10 @@
 ghost use Rattle.std.specs.Prelude.{◌≡◌, ◌≤◌, ◌⊎◌, length, IfOk};
+ghost use Rattle.kt_base.specs.declared.no_memory.NoMemory.{NoMemory as OutOfMemory};
 ghost use Rattle.kt_sched.specs.Children.{IsIdle};
 ghost use Rattle.kt_suite.specs.Faults.{IsNoMemory};
 ghost use Rattle.kt_suite.specs.Selecting.{most_items};
 ghost use Rattle.kt_plan.specs.declared.stop.Stop.TheVariants as stop;
-ghost use Rattle.kt_plan.specs.Collecting.{Collected};
-ghost use Rattle.kt_plan.specs.Stops.{RanOut};
+ghost use Rattle.kt_plan.specs.Inner.Collecting.{Collected};
 
 use crate::choosing::choose;
 use crate::chosen::Chosen;
@@ -19,7 +19,9 @@ use std::alloc::Global;
 
 /// Why a tree that was refused stops a command.
 fn tree_stop(fault: SuiteFault) -> Stop
-    ensures { RanOut result ⊎ ((result ≡ stop.Tree fault) × (IsNoMemory fault → ⊥)) }
+    ensures { ((refusal : OutOfMemory) × (result ≡ stop.NoMemory refusal)
+        × (fault.cause ≡ SuiteCause.NoMemory refusal))
+        ⊎ ((result ≡ stop.Tree fault) × (IsNoMemory fault → ⊥)) }
 {
     match fault.cause {
         SuiteCause::NoMemory(refusal) => Stop::NoMemory(refusal),

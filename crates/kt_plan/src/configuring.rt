@@ -1,8 +1,8 @@
-ghost use Rattle.std.specs.Prelude.{◌≡◌, ◌⊎◌, IfOk};
+ghost use Rattle.std.specs.Prelude.{◌≡◌, Some, IfOk};
 ghost use Rattle.kt_sched.specs.Children.{IsIdle};
 ghost use Rattle.kt_suite.specs.Answers.{Answered};
-ghost use Rattle.kt_plan.specs.Configuring.{unread_stop, words_meaning, Configured, Configures, IsConfiguration, GivesMore, ReadsConfig, Settles};
-ghost use Rattle.kt_plan.specs.Stops.{IsShort};
+ghost use Rattle.kt_plan.specs.Inner.Configuring.{unread_stop, Configured, GivesMore, OrShort, SettlesOrShort};
+ghost use Rattle.kt_plan.specs.Configuring.{words_meaning, Configures, IsConfiguration, ReadsConfig};
 
 use crate::case_filters::read_filters;
 use crate::case_options::CaseOptions;
@@ -38,8 +38,8 @@ fn unread_stop(fault: ReadFault) -> Stop
 
 /// Reads the configuration file.
 fn read_config<W: World>(alloc: Global, path: &Text, world: &mut W) -> Result<Config, Stop>
-    ensures { Answered W.tells world.old world.new (λ told. IsShort result
-        ⊎ Configured (ReadsConfig (Some path.now) told) result) }
+    ensures { Answered W.tells world.old world.new (λ told. OrShort result (Some path.now) told
+        (Configured (ReadsConfig (Some path.now) told) result)) }
 {
     match world.config(path) {
         Ok(bytes) => config_of(alloc, bytes.as_slice())?,
@@ -49,8 +49,8 @@ fn read_config<W: World>(alloc: Global, path: &Text, world: &mut W) -> Result<Co
 
 /// Reads the configuration file, if one is given.
 fn config_given<W: World>(alloc: Global, path: &Option<Text>, world: &mut W) -> Result<Config, Stop>
-    ensures { Answered W.tells world.old world.new (λ told. IsShort result
-        ⊎ Configured (ReadsConfig path.now told) result) }
+    ensures { Answered W.tells world.old world.new (λ told. OrShort result path.now told
+        (Configured (ReadsConfig path.now told) result)) }
 {
     match path {
         None => Ok(Config::new(alloc)),
@@ -80,8 +80,8 @@ fn set_words(
 
 /// The configuration of a command: its file, and then the words of `-v`.
 fn configure<W: World>(alloc: Global, options: &CaseOptions, world: &mut W) -> Result<Config, Stop>
-    ensures { Answered W.tells world.old world.new (λ told. IsShort result
-        ⊎ Configured (Configures options.now told) result) }
+    ensures { Answered W.tells world.old world.new (λ told. OrShort result options.now.config told
+        (Configured (Configures options.now told) result)) }
 {
     let config = config_given(alloc, &options.config, world)?;
     set_words(alloc, config, options.variables.as_slice())?
@@ -96,8 +96,8 @@ pub fn settle<W: World>(
     world: &mut W,
 ) -> Result<Settings, Stop>
     requires { IsIdle (W.running world.old) (W.pending world.old) }
-    ensures settled { Answered W.tells world.old world.new (λ told. IsShort result
-        ⊎ Settles needs_case options.now told result) }
+    ensures settled { Answered W.tells world.old world.new
+        (λ told. SettlesOrShort needs_case options.now told result) }
     ensures idle { IsIdle (W.running world.new) (W.pending world.new) }
 {
     let config = configure(alloc, options, world)?;

@@ -1,9 +1,10 @@
-ghost use Rattle.std.specs.Prelude.{◌≡◌, ◌||◌, ◌∷◌, [], ℕ, List, OnOk, bytes_eq};
+ghost use Rattle.std.specs.Prelude.{◌≡◌, ◌||◌, ◌∷◌, [], ℕ, List, OnOk, MatchResult, bytes_eq};
 ghost use Rattle.std.specs.BTreeSet.{contains_text};
 ghost use Rattle.kt_base.specs.Utf8.{utf8};
 ghost use Rattle.kt_suite.specs.Answers.{Answered};
-ghost use Rattle.kt_plan.specs.Planning.{question_of, finds_file, finds_program, finds_of};
-ghost use Rattle.kt_plan.specs.Planning.{LooksFor, LooksForOne, LooksForAll, Notes};
+ghost use Rattle.kt_plan.specs.Inner.Planning.{Notes, finds_of, question_of};
+ghost use Rattle.kt_plan.specs.Planning.{LooksFor, LooksForAll, LooksForOne, finds_file, finds_program};
+ghost use Rattle.kt_plan.specs.Questions.{AreFirst};
 
 use crate::candidate::Candidate;
 use crate::case_meta::meta_of;
@@ -38,9 +39,10 @@ fn look_for_word<W: World>(
     world: &mut W,
     found: &mut BTreeSet<String>,
 ) -> Result<(), NoMemory>
-    ensures { Answered W.tells world.old world.new (λ told. OnOk result (
-        LooksFor (question_of required) (word.now ∷ []) told
-        × Notes (finds_of required) told found.old found.new)) }
+    ensures { Answered W.tells world.old world.new (λ told. MatchResult result
+        (λ _. LooksFor (question_of required) (word.now ∷ []) told
+        × Notes (finds_of required) told found.old found.new)
+        (λ _. AreFirst (LooksFor (question_of required) (word.now ∷ [])) told)) }
 {
     if !is_found(required, word, world) {
         return Ok(());
@@ -56,14 +58,13 @@ fn look_for_words<W: World>(
     world: &mut W,
     found: &mut BTreeSet<String>,
 ) -> Result<(), NoMemory>
-    ensures { Answered W.tells world.old world.new (λ told. OnOk result (
-        LooksFor (question_of required) words.now told
-        × Notes (finds_of required) told found.old found.new)) }
+    ensures { Answered W.tells world.old world.new (λ told. MatchResult result
+        (λ _. LooksFor (question_of required) words.now told
+        × Notes (finds_of required) told found.old found.new)
+        (λ _. AreFirst (LooksFor (question_of required) words.now) told)) }
 {
-    let mut rest = words;
-    while let Some((word, after)) = rest.split_first() {
+    for word in words {
         look_for_word(required, word, world, found)?;
-        rest = after;
     }
     Ok(())
 }
@@ -75,10 +76,11 @@ fn look_for_case<W: World>(
     files: &mut BTreeSet<String>,
     programs: &mut BTreeSet<String>,
 ) -> Result<(), NoMemory>
-    ensures { Answered W.tells world.old world.new (λ told. OnOk result (
-        LooksForOne candidate.now told
+    ensures { Answered W.tells world.old world.new (λ told. MatchResult result
+        (λ _. LooksForOne candidate.now told
         × Notes finds_file told files.old files.new
-        × Notes finds_program told programs.old programs.new)) }
+        × Notes finds_program told programs.old programs.new)
+        (λ _. AreFirst (LooksForOne candidate.now) told)) }
 {
     if candidate.case.fault.is_some() {
         return Ok(());
@@ -101,15 +103,14 @@ pub fn look_for_all<W: World>(
     files: &mut BTreeSet<String>,
     programs: &mut BTreeSet<String>,
 ) -> Result<(), NoMemory>
-    ensures { Answered W.tells world.old world.new (λ told. OnOk result (
-        LooksForAll cases.now told
+    ensures { Answered W.tells world.old world.new (λ told. MatchResult result
+        (λ _. LooksForAll cases.now told
         × Notes finds_file told files.old files.new
-        × Notes finds_program told programs.old programs.new)) }
+        × Notes finds_program told programs.old programs.new)
+        (λ _. AreFirst (LooksForAll cases.now) told)) }
 {
-    let mut rest = cases;
-    while let Some((candidate, after)) = rest.split_first() {
+    for candidate in cases {
         look_for_case(candidate, world, files, programs)?;
-        rest = after;
     }
     Ok(())
 }

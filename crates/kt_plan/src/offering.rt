@@ -1,7 +1,8 @@
-ghost use Rattle.std.specs.Prelude.{◌≡◌, ◌++◌, IfOk, OnOk};
+ghost use Rattle.std.specs.Prelude.{◌≡◌, ◌++◌, ◌∷◌, [], IfOk, OnOk, MatchResult};
 ghost use Rattle.kt_sched.specs.Children.{IsIdle};
 ghost use Rattle.kt_suite.specs.Answers.{Answered};
-ghost use Rattle.kt_plan.specs.Collecting.{candidate_of, candidates_of, ListsCases, Offers, OffersOne};
+ghost use Rattle.kt_plan.specs.Inner.Collecting.{ListsFirst};
+ghost use Rattle.kt_plan.specs.Collecting.{candidate_of, candidates_of, ListsCases, Offers, OffersFirst, OffersOne};
 
 use crate::candidate::Candidate;
 use crate::settings::Settings;
@@ -22,8 +23,9 @@ fn listed_cases<W: World>(
     world: &mut W,
 ) -> Result<Items<CaseDef>, NoMemory>
     requires { IsIdle (W.running world.old) (W.pending world.old) }
-    ensures offers { Answered W.tells world.old world.new (λ told. IfOk result (λ cases.
-        ListsCases config.now program.now told cases)) }
+    ensures offers { Answered W.tells world.old world.new (λ told. MatchResult result
+        (ListsCases config.now program.now told)
+        (λ _. ListsFirst config.now program.now told)) }
     ensures idle { IsIdle (W.running world.new) (W.pending world.new) }
 {
     let variables = variables_for(alloc, config, &program.suite)?;
@@ -40,9 +42,10 @@ fn own_cases<W: World>(
     world: &mut W,
 ) -> Result<Items<CaseDef>, NoMemory>
     requires { IsIdle (W.running world.old) (W.pending world.old) }
-    ensures offers { Answered W.tells world.old world.new (λ told. IfOk result (λ cases.
-        OffersOne settings.now.config settings.now.filters program.now told
-        (candidates_of program.now cases))) }
+    ensures offers { Answered W.tells world.old world.new (λ told. MatchResult result
+        (λ cases. OffersOne settings.now.config settings.now.filters program.now told
+        (candidates_of program.now cases))
+        (λ _. OffersFirst settings.now.config settings.now.filters (program.now ∷ []) told)) }
     ensures idle { IsIdle (W.running world.new) (W.pending world.new) }
 {
     match program.interface {
@@ -94,16 +97,15 @@ pub fn offered<W: World>(
     world: &mut W,
 ) -> Result<Items<Candidate>, NoMemory>
     requires { IsIdle (W.running world.old) (W.pending world.old) }
-    ensures offers { Answered W.tells world.old world.new (λ told. IfOk result (λ found.
-        Offers settings.now.config settings.now.filters programs.now told found)) }
+    ensures offers { Answered W.tells world.old world.new (λ told. MatchResult result
+        (Offers settings.now.config settings.now.filters programs.now told)
+        (λ _. OffersFirst settings.now.config settings.now.filters programs.now told)) }
     ensures idle { IsIdle (W.running world.new) (W.pending world.new) }
 {
     let mut found = Items::new(alloc);
-    let mut rest = programs;
-    while let Some((program, after)) = rest.split_first() {
+    for program in programs {
         let cases = own_cases(alloc, settings, program, world)?;
         add_candidates(program, cases, &mut found)?;
-        rest = after;
     }
     Ok(found)
 }

@@ -98,11 +98,9 @@ pub fn make_plan(
 {
     let mut plan = Items::new(alloc);
     let mut position: u32 = 0;
-    let mut rest = cases;
-    while let Some((candidate, after)) = rest.split_first() {
+    for candidate in cases {
         plan.push(job_at(alloc, config, host, position, candidate)?)?;
         position += 1;
-        rest = after;
     }
     Ok(plan)
 }

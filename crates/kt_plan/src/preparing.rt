@@ -1,10 +1,10 @@
-ghost use Rattle.std.specs.Prelude.{◌≡◌, ◌≤◌, length, IfOk};
+ghost use Rattle.std.specs.Prelude.{◌≡◌, ◌≤◌, length, IfOk, MatchResult};
 ghost use Rattle.kt_metadata.specs.declared.host.Host.{Host as Surveyed};
 ghost use Rattle.kt_sched.specs.Children.{IsIdle};
 ghost use Rattle.kt_sched.specs.Plan.{IsPlan};
 ghost use Rattle.kt_suite.specs.Answers.{Answered};
 ghost use Rattle.kt_suite.specs.Selecting.{most_items};
-ghost use Rattle.kt_plan.specs.Planning.{Surveys, ArePlanned};
+ghost use Rattle.kt_plan.specs.Planning.{Surveys, SurveysFirst, ArePlanned};
 
 use crate::candidate::Candidate;
 use crate::planning::make_plan;
@@ -25,8 +25,10 @@ pub fn prepare<W: World>(
     requires few { length cases.now ≤ most_items }
     requires idle { IsIdle (W.running world.old) (W.pending world.old) }
     ensures planned { Answered W.tells world.old world.new
-        (λ told. IfOk result (λ plan. (host : Surveyed) × Surveys cases.now told host
-        × ArePlanned config.now host 0 cases.now plan)) }
+        (λ told. MatchResult result
+        (λ plan. (host : Surveyed) × Surveys cases.now told host
+        × ArePlanned config.now host 0 cases.now plan)
+        (λ _. SurveysFirst cases.now told)) }
     ensures plan { IfOk result (λ plan. IsPlan plan × (length plan ≡ length cases.now)) }
     ensures idle { IsIdle (W.running world.new) (W.pending world.new) }
 {

@@ -1,8 +1,9 @@
-ghost use Rattle.std.specs.Prelude.{◌≡◌, ◌⊎◌, ◌≤◌, length, IfOk};
+ghost use Rattle.std.specs.Prelude.{◌≡◌, ◌≤◌, length, IfOk};
 ghost use Rattle.kt_suite.specs.Answers.{Answered};
-ghost use Rattle.kt_suite.specs.Faults.{Blames, no_memory};
+ghost use Rattle.kt_suite.specs.Inner.Faults.{Blames};
+ghost use Rattle.kt_suite.specs.Faults.{no_memory};
 ghost use Rattle.kt_suite.specs.Registered.{program_limit};
-ghost use Rattle.kt_plan.specs.Listings.{Loads, RanShort};
+ghost use Rattle.kt_plan.specs.Inner.Listings.{LoadsOrShort};
 
 use kt_base::{Items, NoMemory, Text};
 use kt_suite::{Program, SuiteCause, SuiteFault, Tree, load, split_path};
@@ -39,7 +40,7 @@ pub fn programs_of<T: Tree>(
     tree: &mut T,
 ) -> Result<Items<Program>, SuiteFault>
     ensures loaded { Answered T.asks tree.old tree.new
-        (λ asked. RanShort result ⊎ Loads kyuafile.now asked result) }
+        (λ asked. LoadsOrShort kyuafile.now asked result) }
     ensures few { IfOk result (λ programs. length programs ≤ program_limit) }
 {
     let root = match split_path(alloc, kyuafile) {

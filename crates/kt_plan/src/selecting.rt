@@ -1,10 +1,9 @@
-ghost use Rattle.std.specs.Prelude.{◌⊎◌, ◌≤◌, length, IfOk};
+ghost use Rattle.std.specs.Prelude.{◌≤◌, length, IfOk};
 ghost use Rattle.kt_suite.specs.Selecting.{most_items};
 ghost use Rattle.kt_sched.specs.Children.{IsIdle};
 ghost use Rattle.kt_suite.specs.Answers.{Answered};
-ghost use Rattle.kt_plan.specs.Selecting.{Selects};
+ghost use Rattle.kt_plan.specs.Selecting.{SelectsOrShort};
 ghost use Rattle.kt_plan.specs.Questions.{leads_by};
-ghost use Rattle.kt_plan.specs.Stops.{IsShort};
 
 use crate::case_options::CaseOptions;
 use crate::collecting::collect;
@@ -14,8 +13,8 @@ use crate::stop::Stop;
 use crate::world::World;
 use std::alloc::Global;
 
-/// What the options of a command select, or the first fault that stops it. `needed` tells that one filter of one case is
-/// needed.
+/// What the options of a command select, or the first fault that stops it. `needed` says that the command needs exactly
+/// one filter, of one case.
 pub fn select_cases<W: World>(
     alloc: Global,
     needed: bool,
@@ -24,7 +23,7 @@ pub fn select_cases<W: World>(
 ) -> Result<Picked, Stop>
     requires { IsIdle (W.running world.old) (W.pending world.old) }
     ensures selects { Answered (leads_by W.asks W.tells) world.old world.new
-        (λ questions. IsShort result ⊎ Selects needed options.now questions result) }
+        (λ questions. SelectsOrShort needed options.now questions result) }
     ensures few { IfOk result (λ picked. length picked.chosen.cases ≤ most_items) }
     ensures idle { IsIdle (W.running world.new) (W.pending world.new) }
 {

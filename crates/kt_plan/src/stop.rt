@@ -1,13 +1,17 @@
-ghost use Rattle.std.specs.Prelude.{◌≡◌};
+ghost use Rattle.std.specs.Prelude.{◌≡◌, chars, is_err};
+ghost use Rattle.kt_base.specs.Shows.{Shows};
+ghost use Rattle.kt_base.specs.Utf8.{utf8};
+ghost use Rattle.kt_plan.specs.StopWords.{quoted_words, stop_words};
 ghost use Rattle.kt_plan.specs.declared.stop.Stop.TheVariants as stop;
 
-use kt_base::{NoMemory, Text};
+use kt_base::{NoMemory, OutputFault, Text, emit, emit_all};
 use kt_config::ConfigFault;
 use kt_suite::{FilterFault, SuiteFault};
+use std::io::Write;
 use thiserror::Error;
 
-/// Why a command over test cases ended before it did anything: the first fault of its steps. `Display` is the text of the
-/// fault line (this profile).
+/// Why a command over test cases ended before it did anything: the first fault of its steps. `Display` prints the words of the
+/// fault's line (this profile).
 #[derive(Debug, Drop, Error)]
 pub enum Stop {
     #[error("out of memory")]
@@ -18,10 +22,10 @@ pub enum Stop {
     /// The configuration file was refused.
     #[error("configuration: {0}")]
     Configuration(ConfigFault),
-    /// A word of `-v` was refused: its name, or all of it where it has no `=`.
+    /// An argument of `-v` was refused: its name, or all of it if it has no `=`.
     #[error("variable '{}': {}", .0.as_str(), .1)]
     Variable(Text, ConfigFault),
-    /// A filter was refused: the word as it was given.
+    /// A filter was refused: the argument as it was given.
     #[error("filter '{}': {}", .0.as_str(), .1)]
     Filter(Text, FilterFault),
     /// `debug` needs one filter, of one case.
@@ -32,6 +36,68 @@ pub enum Stop {
     /// There are more than 100,000 cases to select from.
     #[error("too many cases")]
     TooManyCases,
+}
+
+impl Stop {
+    /// Writes the words of the fault's line.
+    pub fn print<W: Write>(&self, out: &mut W) -> Result<(), OutputFault>
+        ensures { Shows (W.contents out.old) (W.contents out.new) (is_err result)
+            (utf8 (stop_words self.now)) }
+    {
+        match self {
+            Stop::NoMemory(_) => emit(b"out of memory", out),
+            Stop::UnreadConfiguration => emit(b"configuration: could not be read", out),
+            Stop::Configuration(fault) => print_configuration(*fault, out),
+            Stop::Variable(name, fault) => print_variable(name, *fault, out),
+            Stop::Filter(word, fault) => print_filter(word, *fault, out),
+            Stop::NeedsCase => emit(b"debug needs PROGRAM:CASE", out),
+            Stop::Tree(fault) => fault.print(out),
+            Stop::TooManyCases => emit(b"too many cases", out),
+        }
+    }
+}
+
+fn print_configuration<W: Write>(fault: ConfigFault, out: &mut W) -> Result<(), OutputFault>
+    ensures { Shows (W.contents out.old) (W.contents out.new) (is_err result)
+        (utf8 (stop_words (stop.Configuration fault))) }
+{
+    emit_all(&[b"configuration: ", fault.words().as_bytes()], out)
+}
+
+/// Writes what is wrong with a word.
+fn print_quoted<W: Write>(
+    what: &str,
+    word: &Text,
+    fault: &str,
+    out: &mut W,
+) -> Result<(), OutputFault>
+    ensures { Shows (W.contents out.old) (W.contents out.new) (is_err result)
+        (utf8 (quoted_words (chars what.now) word.now (chars fault.now))) }
+{
+    emit_all(
+        &[
+            what.as_bytes(),
+            b" '",
+            word.as_bytes(),
+            b"': ",
+            fault.as_bytes(),
+        ],
+        out,
+    )
+}
+
+fn print_variable<W: Write>(name: &Text, fault: ConfigFault, out: &mut W) -> Result<(), OutputFault>
+    ensures { Shows (W.contents out.old) (W.contents out.new) (is_err result)
+        (utf8 (stop_words (stop.Variable name.now fault))) }
+{
+    print_quoted("variable", name, fault.words(), out)
+}
+
+fn print_filter<W: Write>(word: &Text, fault: FilterFault, out: &mut W) -> Result<(), OutputFault>
+    ensures { Shows (W.contents out.old) (W.contents out.new) (is_err result)
+        (utf8 (stop_words (stop.Filter word.now fault))) }
+{
+    print_quoted("filter", word, fault.words(), out)
 }
 
 impl From<NoMemory> for Stop {

@@ -1,7 +1,7 @@
-ghost use Rattle.std.specs.Prelude.{IfOk};
+ghost use Rattle.std.specs.Prelude.{MatchResult};
 ghost use Rattle.kt_sched.specs.Children.{IsIdle};
 ghost use Rattle.kt_suite.specs.Answers.{Answered};
-ghost use Rattle.kt_plan.specs.Planning.{Surveys};
+ghost use Rattle.kt_plan.specs.Planning.{Surveys, SurveysFirst};
 
 use crate::candidate::Candidate;
 use crate::looking::look_for_all;
@@ -15,8 +15,8 @@ use std::collections::BTreeSet;
 /// space, and the required files and programs of each case whose list has no fault.
 pub fn survey<W: World>(alloc: Global, cases: &[Candidate], world: &mut W) -> Result<Host, NoMemory>
     requires { IsIdle (W.running world.old) (W.pending world.old) }
-    ensures surveyed { Answered W.tells world.old world.new (λ told.
-        IfOk result (λ host. Surveys cases.now told host)) }
+    ensures surveyed { Answered W.tells world.old world.new (λ told. MatchResult result
+        (Surveys cases.now told) (λ _. SurveysFirst cases.now told)) }
     ensures idle { IsIdle (W.running world.new) (W.pending world.new) }
 {
     let root = world.is_root();

@@ -1,6 +1,7 @@
 ghost use Rattle.std.specs.Prelude.{◌≡◌, IfOk};
 ghost use Rattle.kt_config.specs.Names.{definition_named};
-ghost use Rattle.kt_plan.specs.Configuring.{or_stop_at, word_meaning, GivesOne};
+ghost use Rattle.kt_plan.specs.Inner.Configuring.{GivesOne};
+ghost use Rattle.kt_plan.specs.Configuring.{or_stop_at, word_meaning};
 
 use crate::stop::Stop;
 use kt_base::{NoMemory, Text};

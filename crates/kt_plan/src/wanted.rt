@@ -12,12 +12,10 @@ fn may_match_any(filters: &[Filter], path: &Text) -> bool
     ensures { IsTrue result
         ↔ ((one : Filter) × Contains filters.now one × MayMatch one path.now) }
 {
-    let mut rest = filters;
-    while let Some((filter, after)) = rest.split_first() {
+    for filter in filters {
         if filter.may_match(path) {
             return true;
         }
-        rest = after;
     }
     false
 }

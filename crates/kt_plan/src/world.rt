@@ -8,7 +8,7 @@ pub trait World: Tree + Launcher {
     ghost use Rattle.std.specs.Prelude.{ℕ, ◌≡◌};
     ghost use Rattle.kt_base.specs.declared.role.Role.{Role};
     ghost use Rattle.kt_sched.specs.Children.{IsIdle};
-    ghost use Rattle.kt_sched.specs.Moments.{IsMoment};
+    ghost use Rattle.kt_base.specs.Moments.{IsMoment};
     ghost use Rattle.kt_suite.specs.Answers.{Asked};
     ghost use Rattle.kt_plan.specs.Told.{Told, ReadConfig, Lists, FindsFile, FindsProgram, IsRoot, HasMemory, HasDisk, Now};
 
@@ -38,11 +38,11 @@ pub trait World: Tree + Launcher {
     fn is_root(&mut self) -> bool
         ensures { tells self.old (IsRoot result) self.new };
 
-    /// Physical memory in bytes, if the host tells it.
+    /// Physical memory in bytes, if the host knows it.
     fn memory(&mut self) -> Option<u64>
         ensures { tells self.old (HasMemory result) self.new };
 
-    /// Free disk space in bytes, if the host tells it.
+    /// Free disk space in bytes, if the host knows it.
     fn disk(&mut self) -> Option<u64>
         ensures { tells self.old (HasDisk result) self.new };
 

@@ -1,13 +1,13 @@
 ghost use Rattle.std.specs.Prelude.{◌≡◌, ◌↔◌, ◌≤◌, ◌+◌, ◌-◌, ◌^◌, min, IsTrue};
-ghost use Rattle.kt_removal.specs.Bounds.{IsSpent, at_close, at_once, steps_at_close};
+ghost use Rattle.kt_removal.specs.Inner.Bounds.{IsSpent, at_close, at_once, steps_at_close};
 
 use std::rt::Clock;
 use std::time::Instant;
 
-/// The microseconds for what a removal does at once.
+/// The microseconds that a removal takes at once.
 const AT_ONCE: u64 = 5_000;
 
-/// What a step of a removal counts for where the clock fails, in microseconds.
+/// The microseconds that a step counts for if the clock fails.
 const STEP: u64 = 100;
 
 /// How long a removal may go on at once.
@@ -16,13 +16,13 @@ pub(crate) struct Bound {
     started: Option<Instant>,
     /// In microseconds. No more steps than that are taken, whatever the clock says.
     pub(crate) micros: u64,
-    /// So many steps are taken in any case.
+    /// The number of steps that are taken in any case.
     least: u64,
     /// The steps that were taken.
     steps: u64,
 }
 
-/// Whether a removal that may take so many microseconds has taken them after these steps.
+/// Whether a removal has used up its microseconds after these steps.
 fn is_spent(micros: u64, steps: u64, taken: Option<u128>) -> bool
     ensures { IsTrue result ↔ IsSpent micros steps taken }
 {
@@ -32,7 +32,7 @@ fn is_spent(micros: u64, steps: u64, taken: Option<u128>) -> bool
     }
 }
 
-/// The microseconds for the removal of the root directory, after so many others.
+/// The microseconds for the removal of the root directory, after this many others.
 fn closing_micros(removals: u32) -> u64
     ensures { result ≡ at_close removals }
 {
@@ -69,7 +69,7 @@ impl Bound {
         Bound::starting(clock, AT_ONCE)
     }
 
-    /// The bound of the removal of the root directory, after so many others.
+    /// The bound of the removal of the root directory, after this many others.
     pub(crate) fn closing<C: Clock>(clock: &C, removals: u32) -> Bound
         ensures micros { result.micros ≡ at_close removals }
         ensures least { result.least ≡ steps_at_close removals }
@@ -83,7 +83,7 @@ impl Bound {
         }
     }
 
-    /// The microseconds since it began, where the clock tells.
+    /// The microseconds since it began, if the clock works.
     fn taken<C: Clock>(&self, clock: &C) -> Option<u128> {
         let started = self.started?;
         let now = Instant::now(clock).ok()?;

@@ -9,7 +9,7 @@ use std::os::unix::fs::PermissionsExt;
 use std::rt::Files;
 use std::{fs, io, str};
 
-/// The rights of a directory's owner to read it, to change it and to pass through it.
+/// The permissions of the owner to read a directory, to change it and to pass through it.
 const OWNER_RIGHTS: u32 = 0o700;
 
 /// The path of an entry of a directory. Its name may have any bytes.
@@ -22,7 +22,7 @@ pub(crate) fn entry_path(alloc: Global, directory: &Text, name: &[u8]) -> Result
     Ok(path)
 }
 
-/// What the system answered: 0, or that it failed.
+/// The result of a call of the system, by its status.
 fn answer(status: i32) -> io::Result<()> {
     if status == 0 {
         Ok(())
@@ -31,7 +31,7 @@ fn answer(status: i32) -> io::Result<()> {
     }
 }
 
-/// Removes what is no directory.
+/// Removes an entry that isn't a directory.
 pub(crate) fn remove_file<R: Files>(rt: &R, path: &[u8]) -> io::Result<()> {
     match str::from_utf8(path) {
         Ok(text) => fs::remove_file(rt, text),
@@ -55,7 +55,7 @@ pub(crate) fn move_directory<R: Files>(rt: &R, path: &[u8], to: &Text) -> io::Re
     }
 }
 
-/// Gives its owner all rights to a directory. Returns false if the path is no directory; a link to one is none.
+/// Gives the owner of a directory all permissions. Returns false if the path isn't a directory, but a link, for one.
 fn open_up<R: Files>(rt: &R, path: &str) -> bool {
     match fs::symlink_metadata(rt, path) {
         Ok(metadata) => {
@@ -71,16 +71,16 @@ fn open_up<R: Files>(rt: &R, path: &str) -> bool {
     }
 }
 
-/// The same of an entry that could not be removed as an empty directory, by the cause of that.
+/// The same for an entry that could not be removed as an empty directory, by the cause.
 pub(crate) fn open_up_entry<R: Files>(rt: &R, path: &[u8], cause: ErrorKind) -> bool {
     match str::from_utf8(path) {
         Ok(text) => open_up(rt, text),
-        // Only a directory is one that isn't empty.
+        // Only a directory can be said not to be empty.
         Err(_) => cause == ErrorKind::DirectoryNotEmpty && os::chmod(path, OWNER_RIGHTS) == 0,
     }
 }
 
-/// Opens a directory to read its names; a link in the place of one is not passed.
+/// Opens a directory to read its names; a link to one isn't followed.
 pub(crate) fn open_names<R: Files>(rt: &R, path: &Text) -> Option<R::Dir> {
     if !open_up(rt, path.as_str()) {
         return None;
@@ -93,7 +93,7 @@ pub(crate) fn is_dots(name: &[u8]) -> bool {
     name.is_empty() || name == b".".as_slice() || name == b"..".as_slice()
 }
 
-/// Removes what a mounted directory holds, by one call of the library.
+/// Empties a mounted directory, by one call of the library.
 pub(crate) fn empty_mounted<R: Files + AllocGlobal>(rt: &R, path: &[u8]) {
     if let Ok(text) = str::from_utf8(path) {
         let _ = fs::remove_dir_all(rt, text);

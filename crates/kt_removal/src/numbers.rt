@@ -12,7 +12,7 @@ fn number_text(alloc: Global, number: u64) -> Result<Text, NoMemory>
     Ok(Text::from_string(number.to_string(alloc)?))
 }
 
-/// A path, a text and a number in decimal, one behind the other.
+/// `base`, `between` and the decimal `number`, joined.
 pub fn numbered_path(
     alloc: Global,
     base: &Text,

@@ -1,5 +1,5 @@
 ghost use Rattle.std.specs.Prelude.{◌≡◌, ◌++◌, ◌∷◌, IfOk, IfSome};
-ghost use Rattle.kt_removal.specs.Removals.{moved_dir};
+ghost use Rattle.kt_removal.specs.Inner.Removals.{moved_dir};
 
 use crate::bounds::Bound;
 use crate::entries;
@@ -11,7 +11,7 @@ use std::rt::{Clock, Files};
 use std::time::Duration;
 use std::{fs, thread};
 
-/// The size of the pieces in which names are read, in bytes: 42 names at the most.
+/// The size of the pieces in which names are read, in bytes: at most 42 names.
 const PIECE: usize = 1_024;
 
 /// The removals below a root directory, which go on a step at a time.
@@ -105,7 +105,7 @@ impl Removals {
         entries::move_directory(rt, path, &to).is_ok()
     }
 
-    /// Removes or moves an entry that is no file.
+    /// Removes or moves an entry that isn't a file.
     fn remove_directory<R: Files + AllocGlobal>(&mut self, rt: &R, path: &[u8])
         ensures { self.new.place ≡ self.old.place }
     {
@@ -173,7 +173,7 @@ impl Removals {
         }
     }
 
-    /// A moved directory is done. One to which something was added meanwhile is moved to the end.
+    /// Ends a moved directory. One to which something was added meanwhile is moved to the end.
     fn finish<R: Files + AllocGlobal>(&mut self, rt: &R, path: &Text)
         ensures { self.new.place ≡ self.old.place }
     {
@@ -184,7 +184,7 @@ impl Removals {
         self.done = self.done.saturating_add(1);
     }
 
-    /// Empties a directory, within a bound but for the first piece of its names. Returns whether its end was met.
+    /// Empties a directory, within a bound after the first piece of its names. Returns whether it came to the end.
     fn empty<R: Files + Clock + AllocGlobal>(
         &mut self,
         rt: &R,
@@ -259,8 +259,8 @@ impl Removals {
         let _ = fs::remove_dir(rt, place.as_str());
     }
 
-    /// Removes a directory with all that it holds, and returns whether it is gone from there. No link is followed. What would
-    /// take too long is moved to the others, for later; but for the root itself, where it lies.
+    /// Removes a directory with all that it holds, and returns whether it is gone from there. No link is followed. A
+    /// directory that would take too long is moved to the others, for later; the root itself stays where it is.
     pub fn remove_tree<R: Files + Clock + AllocGlobal>(&mut self, rt: &R, tree: &Text) -> bool
         ensures { self.new.place ≡ self.old.place }
     {
@@ -276,7 +276,7 @@ impl Removals {
     }
 }
 
-/// Lets some microseconds go by: with what removals have left, else asleep.
+/// Spends some microseconds on the removals that are left, or asleep if none is.
 pub fn rest<R: Files + Clock + AllocGlobal>(removals: &mut Option<Removals>, rt: &R, micros: u64) {
     if let Some(removals) = removals {
         if removals.is_pending() {

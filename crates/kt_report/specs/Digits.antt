@@ -1,4 +1,4 @@
--- Numbers with a fixed count of digits, and durations.
+-- Numbers with a fixed number of digits, and durations.
 use Rattle.std.specs.Prelude.{ℕ, ◌+◌, ◌/◌, ◌%◌, List, [], ◌∷◌, ◌++◌, codes}
 use Rattle.std.specs.Fmt.{decimal}
 
@@ -18,6 +18,6 @@ three_digits n = digit (n / 100) ∷ digit (n / 10) ∷ digit n ∷ []
 abbrev pub four_digits : ℕ → List ℕ
 four_digits n = digit (n / 1000) ∷ digit (n / 100) ∷ digit (n / 10) ∷ digit n ∷ []
 
--- milliseconds as seconds with three digits behind the point
+-- milliseconds as seconds with three digits after the point
 abbrev pub seconds : ℕ → List ℕ
 seconds millis = decimal (millis / 1000) ++ codes "." ++ three_digits (millis % 1000)

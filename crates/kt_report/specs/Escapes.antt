@@ -5,7 +5,7 @@ use Rattle.std.specs.Prelude.{ℕ, Bool, if◌then◌else◌, ◌==◌, nat_lt, 
 abbrev pub other : ℕ → List ℕ
 other c = if nat_lt c 32 || c == 65534 || c == 65535 then codes "?" else c ∷ []
 
--- a character in content, or in an attribute, where tab and newline are told by their numbers
+-- a character in content, or in an attribute, where tab and newline are written as their numbers
 abbrev pub escaped : Bool → ℕ → List ℕ
 escaped attribute c =
     if c == 38 then codes "&amp;" else if c == 60 then codes "&lt;" else if c == 62 then codes "&gt;" else if c == 34 then codes "&quot;" else if c == 13 then codes "&#13;"

@@ -11,7 +11,7 @@ use Rattle.kt_report.specs.Cases.{case_texts}
 use Rattle.kt_report.specs.declared.case_texts.CaseTexts.{CaseTexts}
 use Rattle.kt_report.specs.Texts.{count_bytes}
 
--- what became of a case, by its kind, the reason being escaped
+-- the outcome of a case, by its kind, with its escaped reason
 abbrev pub result_element : Kind → List ℕ → List ℕ
 result_element Passed reason = []
 result_element ExpectedFailure reason = []
@@ -19,12 +19,12 @@ result_element Skipped reason = codes "<skipped/>\n"
 result_element Failed reason = codes "<failure message=\"" ++ utf8 reason ++ codes "\"/>\n"
 result_element Broken reason = codes "<error message=\"" ++ utf8 reason ++ codes "\"/>\n"
 
--- what a case printed, escaped, where it printed something
+-- what a case printed, escaped, if it printed anything
 abbrev pub output_element : List ℕ → List ℕ → List ℕ
 output_element name [] = []
 output_element name (c ∷ text) = codes "<" ++ name ++ codes ">" ++ utf8 (c ∷ text) ++ codes "</" ++ name ++ codes ">\n"
 
--- a case of a kind that took so long, its texts being escaped
+-- a case of this kind that took this long, with its escaped texts
 abbrev pub element : CaseTexts → Kind → ℕ → List ℕ
 element texts kind millis =
     codes "<testcase classname=\"" ++ utf8 texts.program ++ codes "\" name=\"" ++ utf8 texts.case_name ++ codes "\" time=\"" ++ seconds millis ++ codes "\">\n"
@@ -40,6 +40,6 @@ heading run =
     codes "<?xml version=\"1.0\" encoding=\"utf-8\"?>\n<testsuite tests=\"" ++ decimal (length run.entries) ++ codes "\" failures=\"" ++ count_bytes Failed run.entries ++ codes "\" errors=\"" ++ count_bytes Broken run.entries
     ++ codes "\" skipped=\"" ++ count_bytes Skipped run.entries ++ codes "\">\n"
 
--- a case each for the entries, by position
+-- a case for each entry, by position
 abbrev pub junit_bytes : Run → List ℕ
 junit_bytes run = heading run ++ flat_map case_bytes run.entries ++ codes "</testsuite>\n"

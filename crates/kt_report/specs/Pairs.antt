@@ -5,7 +5,7 @@ use Rattle.kt_base.specs.declared.variable.Variable.{Variable}
 use Rattle.kt_base.specs.Utf8.{utf8}
 use Rattle.kt_report.specs.Lines.{line_bytes}
 
--- a byte as it is told: a control character is a question mark
+-- a byte as it is shown: a question mark for a control character
 abbrev pub shown_byte : ℕ → ℕ
 shown_byte byte = if nat_lt byte 32 then 63 else byte
 
@@ -13,7 +13,7 @@ shown_byte byte = if nat_lt byte 32 then 63 else byte
 abbrev pub pair_bytes : Variable → List ℕ
 pair_bytes pair = codes "    " ++ utf8 pair.name ++ codes " = " ++ map shown_byte (utf8 pair.value) ++ codes "\n"
 
--- the line of an entry, and where its pairs are told too, they stand beneath
+-- the line of an entry, and below it its pairs, if they are shown too
 abbrev pub entry_bytes : Bool → Entry → List ℕ
 entry_bytes false e = line_bytes e
 entry_bytes true e = line_bytes e ++ flat_map pair_bytes e.meta

@@ -4,6 +4,7 @@ use Rattle.std.specs.List.{filter, list_any}
 use Rattle.std.specs.Fmt.{decimal}
 use Rattle.jiff_core.specs.declared.civil.date.Date.{Date}
 use Rattle.jiff_core.specs.Date.{epoch_day}
+use Rattle.kt_base.specs.Limits.{latest_moment}
 use Rattle.kt_base.specs.declared.kind.Kind.{Kind}
 use Rattle.kt_base.specs.declared.kind.Kind.TheVariants.{Passed, Skipped, ExpectedFailure, Failed, Broken}
 use Rattle.kt_base.specs.declared.entry.Entry.{Entry}
@@ -11,7 +12,7 @@ use Rattle.kt_base.specs.declared.run.Run.{Run}
 use Rattle.kt_report.specs.Digits.{two_digits, three_digits, four_digits, seconds}
 use Rattle.kt_report.specs.Pairs.{entry_bytes}
 
--- whether two kinds are one
+-- two kinds are the same
 abbrev pub same_kind : Kind → Kind → Bool
 same_kind Passed Passed = true
 same_kind Skipped Skipped = true
@@ -20,7 +21,7 @@ same_kind Failed Failed = true
 same_kind Broken Broken = true
 same_kind _ _ = false
 
--- whether an entry has this kind
+-- an entry has this kind
 abbrev pub is_of : Kind → Entry → Bool
 is_of kind e = same_kind kind e.verdict.kind
 
@@ -36,12 +37,12 @@ title ExpectedFailure = codes "Expected failures"
 title Broken = codes "Broken tests"
 title Failed = codes "Failed tests"
 
--- a title over lines, where there is a line
+-- a title over lines, if there are any
 abbrev pub titled : Bool → List ℕ → List Entry → List ℕ
 titled verbose title [] = []
 titled verbose title (e ∷ entries) = codes "===> " ++ title ++ codes "\n" ++ flat_map (entry_bytes verbose) (e ∷ entries)
 
--- the section of a kind, where it is chosen
+-- the section of a kind, if it is chosen
 abbrev pub section : Bool → List Kind → List Entry → Kind → List ℕ
 section verbose kinds entries kind = if list_any (same_kind kind) kinds then titled verbose (title kind) (entries_of kind entries) else []
 
@@ -51,15 +52,15 @@ sections verbose kinds entries =
     section verbose kinds entries Passed ++ section verbose kinds entries Skipped ++ section verbose kinds entries ExpectedFailure
     ++ section verbose kinds entries Broken ++ section verbose kinds entries Failed
 
--- the latest moment that is told
-abbrev pub told_moment : ℕ → ℕ
-told_moment moment = min moment 253402300799999
+-- a moment as it is shown: at most the latest one
+abbrev pub shown_moment : ℕ → ℕ
+shown_moment moment = min moment latest_moment
 
 -- the civil date of a moment, in UTC
 abbrev pub IsDateOf : ℕ → Date → Type 0
-IsDateOf moment date = epoch_day date ≡ pos (told_moment moment / 86400000)
+IsDateOf moment date = epoch_day date ≡ pos (shown_moment moment / 86400000)
 
--- the time of day of so many milliseconds since midnight
+-- the time of day this many milliseconds after midnight
 abbrev pub clock_bytes : ℕ → List ℕ
 clock_bytes millis = two_digits (millis / 3600000) ++ codes ":" ++ two_digits (millis / 60000 % 60) ++ codes ":" ++ two_digits (millis / 1000 % 60) ++ codes "." ++ three_digits (millis % 1000)
 
@@ -69,9 +70,9 @@ date_bytes date = four_digits (unsigned_abs date.year) ++ codes "-" ++ two_digit
 
 -- a moment on its date
 abbrev pub moment_bytes : Date → ℕ → List ℕ
-moment_bytes date moment = date_bytes date ++ codes "T" ++ clock_bytes (told_moment moment % 86400000) ++ codes "Z"
+moment_bytes date moment = date_bytes date ++ codes "T" ++ clock_bytes (shown_moment moment % 86400000) ++ codes "Z"
 
--- what tells that a run is not finished
+-- what stands after an unfinished run
 abbrev pub unfinished_bytes : Bool → List ℕ
 unfinished_bytes true = []
 unfinished_bytes false = codes ", unfinished"
@@ -84,7 +85,7 @@ count_bytes kind entries = decimal (length (entries_of kind entries))
 abbrev pub started_bytes : Date → Run → List ℕ
 started_bytes date run = codes "===> Summary\nRun " ++ decimal run.number ++ codes ", started " ++ moment_bytes date run.started ++ unfinished_bytes run.finished
 
--- how many entries there are, and how many of each kind but passed
+-- the number of entries, and of those of each kind but passed
 abbrev pub counts_bytes : List Entry → List ℕ
 counts_bytes entries =
     codes "\nTest cases: " ++ decimal (length entries) ++ codes " total, " ++ count_bytes Skipped entries ++ codes " skipped, " ++ count_bytes ExpectedFailure entries ++ codes " expected failures, "
@@ -94,6 +95,6 @@ counts_bytes entries =
 abbrev pub summary : Date → Run → List ℕ
 summary date run = started_bytes date run ++ counts_bytes run.entries ++ codes "Total time: " ++ seconds (sum_by (λ e. e.millis) run.entries) ++ codes "s\n"
 
--- the chosen sections, with what the cases declared where `verbose` is set, and the summary
+-- the chosen sections, with what the cases declared if `verbose` is set, and the summary
 abbrev pub text_bytes : Date → List Kind → Bool → Run → List ℕ
 text_bytes date kinds verbose run = sections verbose kinds run.entries ++ summary date run

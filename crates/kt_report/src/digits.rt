@@ -33,7 +33,7 @@ pub fn four_digits(n: u64) -> [u8; 4]
     [digit(n / 1000), digit(n / 100), digit(n / 10), digit(n)]
 }
 
-/// Writes a duration in seconds, with the milliseconds behind the point.
+/// Writes a duration in seconds, with the milliseconds after the point.
 pub fn write_seconds<W: Write>(millis: u128, out: &mut W) -> Result<(), OutputFault>
     ensures { Shows (W.contents out.old) (W.contents out.new) (is_err result) (seconds millis) }
 {

@@ -1,15 +1,15 @@
 ghost use Rattle.std.specs.Prelude.{is_err};
 ghost use Rattle.kt_base.specs.Shows.{Shows};
-ghost use Rattle.kt_report.specs.Lines.{line_bytes, told_reason};
+ghost use Rattle.kt_report.specs.Lines.{line_bytes, shown_reason};
 
 use crate::digits::write_seconds;
 use kt_base::{Entry, Kind, OutputFault, Verdict, emit, emit_all};
 use std::io::Write;
 
-/// Writes the reason of a verdict behind a colon; a passed case has none.
+/// Writes the reason of a verdict after a colon; a passed case has none.
 fn write_reason<W: Write>(verdict: &Verdict, out: &mut W) -> Result<(), OutputFault>
     ensures { Shows (W.contents out.old) (W.contents out.new) (is_err result)
-        (told_reason verdict.now.kind verdict.now.reason) }
+        (shown_reason verdict.now.kind verdict.now.reason) }
 {
     match verdict.kind() {
         Kind::Passed => Ok(()),
@@ -20,7 +20,7 @@ fn write_reason<W: Write>(verdict: &Verdict, out: &mut W) -> Result<(), OutputFa
     }
 }
 
-/// Writes the line of an entry: program and case, what became of it and why, and how long it took
+/// Writes the line of an entry: program and case, the outcome and its reason, and how long it took
 /// in seconds (this profile). It takes no memory. If a write failed, a proper prefix of the line
 /// was written.
 pub fn line<W: Write>(entry: &Entry, out: &mut W) -> Result<(), OutputFault>

@@ -19,7 +19,7 @@ fn write_message<W: Write>(opening: &[u8], reason: &Text, out: &mut W) -> Result
     emit_all(&[opening, reason.as_bytes(), b"\"/>\n"], out)
 }
 
-/// Writes what became of a case.
+/// Writes the outcome of a case.
 fn write_result<W: Write>(kind: Kind, reason: &Text, out: &mut W) -> Result<(), OutputFault>
     ensures { Shows (W.contents out.old) (W.contents out.new) (is_err result)
         (result_element kind reason.now) }
@@ -32,7 +32,7 @@ fn write_result<W: Write>(kind: Kind, reason: &Text, out: &mut W) -> Result<(), 
     }
 }
 
-/// Writes what a case printed, if it printed something.
+/// Writes what a case printed, if it printed anything.
 fn write_output<W: Write>(name: &[u8], text: &Text, out: &mut W) -> Result<(), OutputFault>
     ensures { Shows (W.contents out.old) (W.contents out.new) (is_err result)
         (output_element name.now text.now) }

@@ -1,7 +1,7 @@
 ghost use Rattle.std.specs.Prelude.{◌≡◌, ◌<◌, pos, is_err};
 ghost use Rattle.jiff_core.specs.Date.{epoch_day};
 ghost use Rattle.kt_base.specs.Shows.{Shows};
-ghost use Rattle.kt_report.specs.Texts.{told_moment, IsDateOf, clock_bytes, date_bytes, moment_bytes};
+ghost use Rattle.kt_report.specs.Texts.{shown_moment, IsDateOf, clock_bytes, date_bytes, moment_bytes};
 
 use crate::digits::{four_digits, three_digits, two_digits};
 use jiff::ToSpan;
@@ -11,13 +11,13 @@ use std::io::Write;
 
 const MILLIS_OF_DAY: u64 = 86_400_000;
 
-fn told_moment(moment: u64) -> u64
-    ensures { result ≡ told_moment moment }
+fn shown_moment(moment: u64) -> u64
+    ensures { result ≡ shown_moment moment }
 {
     moment.min(LATEST_MOMENT)
 }
 
-/// The civil date of so many days after the first of January 1970.
+/// The civil date this many days after the first of January 1970.
 fn date_after(days: u64) -> Date
     requires { days < 2932897 }
     ensures { epoch_day result ≡ pos days }
@@ -29,10 +29,10 @@ fn date_after(days: u64) -> Date
 pub fn date_of(moment: u64) -> Date
     ensures { IsDateOf moment result }
 {
-    date_after(told_moment(moment) / MILLIS_OF_DAY)
+    date_after(shown_moment(moment) / MILLIS_OF_DAY)
 }
 
-/// Writes the time of day of so many milliseconds since midnight.
+/// Writes the time of day this many milliseconds after midnight.
 fn write_clock<W: Write>(millis: u64, out: &mut W) -> Result<(), OutputFault>
     ensures { Shows (W.contents out.old) (W.contents out.new) (is_err result)
         (clock_bytes millis) }
@@ -61,6 +61,6 @@ pub fn write_moment<W: Write>(date: Date, moment: u64, out: &mut W) -> Result<()
 {
     write_date(date, out)?;
     emit(b"T", out)?;
-    write_clock(told_moment(moment) % MILLIS_OF_DAY, out)?;
+    write_clock(shown_moment(moment) % MILLIS_OF_DAY, out)?;
     emit(b"Z", out)
 }

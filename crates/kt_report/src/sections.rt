@@ -11,14 +11,7 @@ use std::io::Write;
 fn same_kind(kind: Kind, other: Kind) -> bool
     ensures { result ≡ same_kind kind other }
 {
-    matches!(
-        (kind, other),
-        (Kind::Passed, Kind::Passed)
-            | (Kind::Skipped, Kind::Skipped)
-            | (Kind::ExpectedFailure, Kind::ExpectedFailure)
-            | (Kind::Failed, Kind::Failed)
-            | (Kind::Broken, Kind::Broken)
-    )
+    kind == other
 }
 
 /// Whether the kind is among the chosen ones.
@@ -63,12 +56,10 @@ fn write_lines<W: Write>(
     ensures { Shows (W.contents out.old) (W.contents out.new) (is_err result)
         (flat_map (entry_bytes verbose) (entries_of kind entries.now)) }
 {
-    let mut rest = entries;
-    while let Some((entry, after)) = rest.split_first() {
+    for entry in entries {
         if same_kind(kind, entry.verdict.kind()) {
             write_entry(verbose, entry, out)?;
         }
-        rest = after;
     }
     Ok(())
 }

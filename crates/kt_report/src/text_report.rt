@@ -11,7 +11,7 @@ use std::io::Write;
 
 /// Writes the text report: a section for each of the chosen kinds that has an entry, in the order
 /// passed, skipped, expected failures, broken, failed, and then the summary (this profile). If
-/// `verbose` is set, what a case declared stands beneath its line. It takes no memory. Moments past
+/// `verbose` is set, what a case declared stands below its line. It takes no memory. Moments past
 /// the year 9999 are printed as its last one. If a write failed, a proper prefix of the report was
 /// written.
 pub fn text<W: Write>(

@@ -12,8 +12,9 @@ use Rattle.kt_sched.specs.Trace.{Event, Trace, Then, position_of, event_count}
 use Rattle.kt_sched.specs.History.{mark_of, history, is_whole}
 use Rattle.kt_sched.specs.TurnOrder.{turns}
 use Rattle.kt_sched.specs.RecordOrder.{Due, dues, put_at, finished_by, is_open, was_open, recorded}
-use Rattle.kt_sched.specs.EntryOf.{entry_of, Gains, IsEntryOf, AreEntries}
-use Rattle.kt_sched.specs.Run.{Counts, CanCount, counted}
+use Rattle.kt_sched.specs.EntryOf.{IsEntry, Gains, IsEntryOf, AreEntries}
+use Rattle.kt_sched.specs.Inner.Answers.{CanCount, counted}
+use Rattle.kt_sched.specs.Run.{Counts}
 use Rattle.kt_sched.proofs.Lists.{count-cons}
 use Rattle.kt_sched.proofs.Turns.{some_is}
 use Rattle.kt_sched.proofs.Steps.{of_other}
@@ -36,7 +37,7 @@ entry_stays plan T ev i p e q h (inr x) w = record {
   job = w.job;
   place = w.place;
   whole = ap (λ (es : List Event). is_whole w.job (map mark_of es)) (of_other i p T ev q x) ∙ w.whole;
-  entry_is = ap (entry_of w.job) (of_other i p T ev q x) ∙ w.entry_is;
+  entry_is = subst (λ (es : List Event). IsEntry w.job es e) (sym (of_other i p T ev q x)) w.entry_is;
 }
 
 pub entries_stay : (plan : List Job) (T : Trace) (ev : Event) (i : ℕ) → position_of ev ≡ i → ((job : Job) → slice_get plan i ≡ Some job → is_whole job (history i T) ≡ false) → (ps : List ℕ) (es : List Entry) → AreEntries plan T ps es → AreEntries plan (Then T ev) ps es

@@ -15,8 +15,9 @@ use Rattle.kt_sched.specs.TurnOrder.{turns}
 use Rattle.kt_sched.specs.RecordOrder.{is_open, recorded}
 use Rattle.kt_sched.specs.Plan.{IsPlan}
 use Rattle.kt_sched.specs.Fed.{nothing_fed}
-use Rattle.kt_sched.specs.Cases.{since, RunsSince}
-use Rattle.kt_sched.specs.SchedState.{SchedState, Stands, IsStage, is_active_stage, is_fresh, first_case, first_stage, stage_runs, positions, opened, is_undecided, HasStarted}
+use Rattle.kt_sched.specs.Inner.Cases.{since, RunsSince}
+use Rattle.kt_sched.specs.Inner.Cases.{first_case, first_stage, stage_runs}
+use Rattle.kt_sched.specs.SchedState.{SchedState, Stands, IsStage, is_active_stage, is_fresh, positions, opened, is_undecided, HasStarted}
 use Rattle.kt_sched.proofs.Lists.{count-cons}
 use Rattle.kt_sched.proofs.Decided.{drop_zero}
 use Rattle.kt_sched.proofs.Steps.{put_at_positions}

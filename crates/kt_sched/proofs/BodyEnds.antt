@@ -15,8 +15,9 @@ use Rattle.kt_sched.specs.Children.{same_role}
 use Rattle.kt_sched.specs.Trace.{Event, Start, End, Trace, Then, of}
 use Rattle.kt_sched.specs.ScheduleRules.{owed, declares}
 use Rattle.kt_sched.specs.Fed.{Fed}
-use Rattle.kt_sched.specs.SchedState.{SchedState, Stands, IsStage, is_active_stage, is_fresh, stage_work, listed}
-use Rattle.kt_sched.specs.Cases.{Replaced, plain_record, ended_body, unless, since, RunsSince, Declares}
+use Rattle.kt_sched.specs.SchedState.{SchedState, Stands, IsStage, ended_body, is_active_stage, is_fresh, stage_work, listed}
+use Rattle.kt_sched.specs.Inner.Cases.{Replaced, plain_record, unless, since, RunsSince, Declares}
+use Rattle.kt_status.specs.Tables.{IsVerdict}
 use Rattle.kt_sched.specs.declared.ended_body.EndedBody.{EndedBody}
 use Rattle.kt_sched.proofs.Choice.{nothing_opened}
 use Rattle.kt_sched.proofs.Steps.{is_over}
@@ -50,8 +51,8 @@ owed_by plan T e job b g r c =
     ap (λ (y : Role). if same_role y Body && declares plan e.position then Some e.position else None) r
     ∙ ap (λ x. if x then Some e.position else None) (declares_is plan e.position job g ∙ c)
 
-pub body_finished : (plan : List Job) (n : ℕ) (fed : Fed) (b : SchedState) (e : Ended) (m : ℕ) (rd : Option ℕ) (cs : List Case) (was : Stage) (t : CaseRecord) → Stands plan n fed b → b.asked ≡ next.Wait → e.role ≡ Body → RunsSince b.cases e.position m → Declares b.cases e.position false → t ≡ plain_record m e → Replaced b.cases cs e.position (Finished t) was → rd ≡ unless b.failed e.position → After plan n fed b ((End e)) (record { cases = cs; order = b.order; turn = b.turn; active = b.active - 1; width = b.width; pending = None; ready = rd; asked = next.Done; failed = b.failed })
-body_finished plan n fed b e m rd cs was t h q x v c u r z =
+pub body_finished : (plan : List Job) (n : ℕ) (fed : Fed) (b : SchedState) (e : Ended) (m : ℕ) (rd : Option ℕ) (cs : List Case) (was : Stage) (t : CaseRecord) → Stands plan n fed b → b.asked ≡ next.Wait → e.role ≡ Body → RunsSince b.cases e.position m → Declares b.cases e.position false → IsVerdict e.evidence e.outcome t.verdict → t ≡ plain_record t.verdict m e → Replaced b.cases cs e.position (Finished t) was → rd ≡ unless b.failed e.position → After plan n fed b ((End e)) (record { cases = cs; order = b.order; turn = b.turn; active = b.active - 1; width = b.width; pending = None; ready = rd; asked = next.Done; failed = b.failed })
+body_finished plan n fed b e m rd cs was t h q x v c g u r z =
     let i = e.position in
     let a = asked_as b next.Wait q h.asked in
     let l = located plan n fed b i r.job was h r.found in
@@ -62,11 +63,11 @@ body_finished plan n fed b e m rd cs was t h q x v c u r z =
     let t2 = subst P w l.stands in
     let s : of i fed.trace ≡ Start i Body (told.Started m) ∷ [] = t2.0 in
     finish plan n fed b (End e) i l.job r.job was t cs rd h l.place k refl r.found r.changed (ap is_active_stage w) (ap is_over w)
-    (finished_as i l.job t (plain_record m e) (of i fed.trace ++ End e ∷ []) _ (told_plain i l.job e m x d t2.1) u (ap (λ (es : List Event). es ++ End e ∷ []) s))
-    refl (owed_by plan fed.trace e l.job false l.place x d) a.0 (λ j g o y. no_owing plan n fed b h a.1 j g o) (running_begun was m w) z (λ y. nothing_opened plan n fed b h a.0 a.3 y)
+    (finished_as i l.job t (of i fed.trace ++ End e ∷ []) _ (told_plain i l.job e m t x d t2.1 g u) (ap (λ (es : List Event). es ++ End e ∷ []) s))
+    refl (owed_by plan fed.trace e l.job false l.place x d) a.0 (λ j y o z. no_owing plan n fed b h a.1 j y o) (running_begun was m w) z (λ y. nothing_opened plan n fed b h a.0 a.3 y)
 
-pub body_owes : (plan : List Job) (n : ℕ) (fed : Fed) (b : SchedState) (e : Ended) (m : ℕ) (cs : List Case) (was : Stage) (body : EndedBody) → Stands plan n fed b → b.asked ≡ next.Wait → e.role ≡ Body → RunsSince b.cases e.position m → Declares b.cases e.position true → body ≡ ended_body m e → Replaced b.cases cs e.position (Owing body) was → After plan n fed b ((End e)) (record { cases = cs; order = b.order; turn = b.turn; active = b.active; width = b.width; pending = Some e.position; ready = b.ready; asked = next.Done; failed = b.failed })
-body_owes plan n fed b e m cs was body h q x v c u r =
+pub body_owes : (plan : List Job) (n : ℕ) (fed : Fed) (b : SchedState) (e : Ended) (m : ℕ) (cs : List Case) (was : Stage) (body : EndedBody) → Stands plan n fed b → b.asked ≡ next.Wait → e.role ≡ Body → RunsSince b.cases e.position m → Declares b.cases e.position true → IsVerdict e.evidence e.outcome body.verdict → body ≡ ended_body body.verdict m e → Replaced b.cases cs e.position (Owing body) was → After plan n fed b ((End e)) (record { cases = cs; order = b.order; turn = b.turn; active = b.active; width = b.width; pending = Some e.position; ready = b.ready; asked = next.Done; failed = b.failed })
+body_owes plan n fed b e m cs was body h q x v c f u r =
     let i = e.position in
     let a = asked_as b next.Wait q h.asked in
     let l = located plan n fed b i r.job was h r.found in
@@ -86,7 +87,7 @@ body_owes plan n fed b e m cs was body h q x v c u r =
       found = r.found;
       fresh = ap is_over w;
       works = omega (arith, ap stage_work w);
-      stage = (e, ap (λ (es : List Event). es ++ End e ∷ []) s ∙ ap (λ (y : ℕ). Start i Body (told.Started y) ∷ End e ∷ []) (sym since_then), x, d, u ∙ ap (λ (y : ℕ). ended_body y e) (sym since_then), t2.1);
+      stage = (e, ap (λ (es : List Event). es ++ End e ∷ []) s ∙ ap (λ (y : ℕ). Start i Body (told.Started y) ∷ End e ∷ []) (sym since_then), x, d, f, u ∙ ap (λ (y : ℕ). ended_body body.verdict y e) (sym since_then), t2.1);
       kept = k;
       cases = r.changed;
       width = refl;

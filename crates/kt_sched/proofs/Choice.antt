@@ -20,7 +20,8 @@ use Rattle.kt_sched.specs.ScheduleRules.{IsBusy}
 use Rattle.kt_sched.specs.RecordOrder.{recorded}
 use Rattle.kt_sched.specs.Fed.{Fed, has_failed, role_runs, runs}
 use Rattle.kt_sched.specs.Next.{IsNext}
-use Rattle.kt_sched.specs.SchedState.{SchedState, Stands, IsStage, is_active_stage, IsChosen, IsHeld, IsSettled, IsOrdinary, listed, positions, opened, run_of, room_in, is_decided, is_undecided}
+use Rattle.kt_sched.specs.Inner.Choice.{IsChosen, IsHeld}
+use Rattle.kt_sched.specs.SchedState.{SchedState, Stands, IsStage, is_active_stage, IsSettled, IsOrdinary, listed, positions, opened, run_of, room_in, is_decided, is_undecided}
 use Rattle.kt_sched.proofs.Lists.{slice_get-drop, within_some, counted_some, counted_none}
 use Rattle.kt_sched.proofs.Turns.{some_is, turn_sorted, turn_inside}
 use Rattle.kt_sched.proofs.Alone.{job_kept, alone_body}

@@ -16,8 +16,10 @@ use Rattle.kt_sched.specs.Trace.{Event, Start, End, of}
 use Rattle.kt_sched.specs.ScheduleRules.{declares}
 use Rattle.kt_sched.specs.Fed.{Fed}
 use Rattle.kt_sched.specs.EntryOf.{no_output}
-use Rattle.kt_sched.specs.SchedState.{SchedState, Stands, IsStage, is_active_stage, is_fresh, stage_work, stage_runs, listed}
-use Rattle.kt_sched.specs.Cases.{Replaced, body_in, TookBody, record_of, ended_body, unless}
+use Rattle.kt_sched.specs.Inner.Cases.{stage_runs}
+use Rattle.kt_sched.specs.SchedState.{SchedState, Stands, IsStage, is_active_stage, is_fresh, stage_work, listed}
+use Rattle.kt_sched.specs.Inner.Cases.{Replaced, body_in, TookBody, record_of, unless}
+use Rattle.kt_status.specs.Tables.{IsVerdictAfter}
 use Rattle.kt_sched.specs.declared.ended_body.EndedBody.{EndedBody}
 use Rattle.kt_status.specs.declared.cleanup_end.CleanupEnd.TheVariants as cleanup
 use Rattle.kt_sched.proofs.Choice.{nothing_opened}
@@ -64,7 +66,7 @@ cleanup_started plan n fed b i m mid cs body taken h q took again =
       found = r.found;
       fresh = ap is_over w;
       works = omega (arith, ap stage_work w);
-      stage = (s.0, m, ap (λ (es : List Event). es ++ e ∷ []) s.1, s.2, s.3, s.4, s.5);
+      stage = (s.0, m, ap (λ (es : List Event). es ++ e ∷ []) s.1, s.2, s.3, s.4, s.5, s.6);
       kept = l.kept (owing_kept took.was body w);
       cases = r.changed;
       width = refl;
@@ -91,8 +93,8 @@ cleanup_started plan n fed b i m mid cs body taken h q took again =
       asked = refl;
     })
 
-pub cleanup_refused : (plan : List Job) (n : ℕ) (fed : Fed) (b : SchedState) (i : ℕ) (rd : Option ℕ) (cause : _) (mid cs : List Case) (body : EndedBody) (taken : Stage) (t : CaseRecord) → Stands plan n fed b → b.asked ≡ next.Start i Cleanup → TookBody b.cases mid i body → t ≡ record_of body cleanup.Refused body.ended no_output → Replaced mid cs i (Finished t) taken → rd ≡ unless b.failed i → After plan n fed b ((Start i Cleanup (told.Refused cause))) (record { cases = cs; order = b.order; turn = b.turn; active = b.active - 1; width = b.width; pending = None; ready = rd; asked = next.Done; failed = b.failed })
-cleanup_refused plan n fed b i rd cause mid cs body taken t h q took u again z =
+pub cleanup_refused : (plan : List Job) (n : ℕ) (fed : Fed) (b : SchedState) (i : ℕ) (rd : Option ℕ) (cause : _) (mid cs : List Case) (body : EndedBody) (taken : Stage) (t : CaseRecord) → Stands plan n fed b → b.asked ≡ next.Start i Cleanup → TookBody b.cases mid i body → IsVerdictAfter body.verdict cleanup.Refused t.verdict → t ≡ record_of t.verdict body body.ended no_output → Replaced mid cs i (Finished t) taken → rd ≡ unless b.failed i → After plan n fed b ((Start i Cleanup (told.Refused cause))) (record { cases = cs; order = b.order; turn = b.turn; active = b.active - 1; width = b.width; pending = None; ready = rd; asked = next.Done; failed = b.failed })
+cleanup_refused plan n fed b i rd cause mid cs body taken t h q took v u again z =
     let a = asked_as b (next.Start i Cleanup) q h.asked in
     let r = replaced_twice b.cases mid cs i Taken (Finished t) taken took.was took.replaced again in
     let l = located plan n fed b i r.job took.was h r.found in
@@ -101,7 +103,7 @@ cleanup_refused plan n fed b i rd cause mid cs body taken t h q took u again z =
     let P : Stage → Type 0 = λ s. IsStage i l.job s (of i fed.trace) in
     let s = subst P w l.stands in
     finish plan n fed b e i l.job r.job took.was t cs rd h l.place (l.kept (owing_kept took.was body w)) refl r.found r.changed (ap is_active_stage w) (ap is_over w)
-    (finished_as i l.job t (record_of (ended_body body.started s.0) cleanup.Refused s.0.moment no_output) (of i fed.trace ++ e ∷ []) _ (told_refused i l.job s.0 body.started cause s.2 s.3 s.5) (u ∙ ap (λ (x : EndedBody). record_of x cleanup.Refused x.ended no_output) s.4) (ap (λ (es : List Event). es ++ e ∷ []) s.1))
+    (finished_as i l.job t (of i fed.trace ++ e ∷ []) _ (told_refused i l.job s.0 body t cause s.2 s.3 s.6 s.4 s.5 v u) (ap (λ (es : List Event). es ++ e ∷ []) s.1))
     refl refl a.0 (lone_owing plan n fed b i h a.1) (owing_begun took.was body w) z (λ f. nothing_opened plan n fed b h a.0 a.2 f)
 
 pub cleaning_body : (was : Stage) (body : EndedBody) → stage_runs Cleanup was ≡ true → body_in was ≡ Some body → was ≡ Cleaning body
@@ -119,8 +121,8 @@ cleaning_kept was body e t = absurd (cc)
 pub cleaning_begun : (was : Stage) (body : EndedBody) → was ≡ Cleaning body → is_fresh was ≡ false
 cleaning_begun was body e = ap is_fresh e
 
-pub cleanup_ended : (plan : List Job) (n : ℕ) (fed : Fed) (b : SchedState) (f : Ended) (rd : Option ℕ) (mid cs : List Case) (body : EndedBody) (taken : Stage) (t : CaseRecord) → Stands plan n fed b → b.asked ≡ next.Wait → f.role ≡ Cleanup → ((c : Case) × (slice_get b.cases f.position ≡ Some c) × (stage_runs Cleanup c.stage ≡ true)) → TookBody b.cases mid f.position body → t ≡ record_of body (cleanup.Ended f.outcome) f.moment f.output → Replaced mid cs f.position (Finished t) taken → rd ≡ unless b.failed f.position → After plan n fed b ((End f)) (record { cases = cs; order = b.order; turn = b.turn; active = b.active - 1; width = b.width; pending = None; ready = rd; asked = next.Done; failed = b.failed })
-cleanup_ended plan n fed b f rd mid cs body taken t h q x v took u again z =
+pub cleanup_ended : (plan : List Job) (n : ℕ) (fed : Fed) (b : SchedState) (f : Ended) (rd : Option ℕ) (mid cs : List Case) (body : EndedBody) (taken : Stage) (t : CaseRecord) → Stands plan n fed b → b.asked ≡ next.Wait → f.role ≡ Cleanup → ((c : Case) × (slice_get b.cases f.position ≡ Some c) × (stage_runs Cleanup c.stage ≡ true)) → TookBody b.cases mid f.position body → IsVerdictAfter body.verdict (cleanup.Ended f.outcome) t.verdict → t ≡ record_of t.verdict body f.moment f.output → Replaced mid cs f.position (Finished t) taken → rd ≡ unless b.failed f.position → After plan n fed b ((End f)) (record { cases = cs; order = b.order; turn = b.turn; active = b.active - 1; width = b.width; pending = None; ready = rd; asked = next.Done; failed = b.failed })
+cleanup_ended plan n fed b f rd mid cs body taken t h q x v took g u again z =
     let i = f.position in
     let a = asked_as b next.Wait q h.asked in
     let r = replaced_twice b.cases mid cs i Taken (Finished t) taken took.was took.replaced again in
@@ -130,5 +132,5 @@ cleanup_ended plan n fed b f rd mid cs body taken t h q x v took u again z =
     let P : Stage → Type 0 = λ s. IsStage i l.job s (of i fed.trace) in
     let s = subst P w l.stands in
     finish plan n fed b e i l.job r.job took.was t cs rd h l.place (l.kept (cleaning_kept took.was body w)) refl r.found r.changed (ap is_active_stage w) (ap is_over w)
-    (finished_as i l.job t (record_of (ended_body body.started s.0) (cleanup.Ended f.outcome) f.moment f.output) (of i fed.trace ++ e ∷ []) _ (told_cleaned i l.job s.0 f body.started s.1 s.3 x s.4 s.6) (u ∙ ap (λ (y : EndedBody). record_of y (cleanup.Ended f.outcome) f.moment f.output) s.5) (ap (λ (es : List Event). es ++ e ∷ []) s.2))
-    refl (ap (λ (y : Role). if same_role y Body && declares plan f.position then Some f.position else None) x) a.0 (λ k c g d. no_owing plan n fed b h a.1 k c g) (cleaning_begun took.was body w) z (λ y. nothing_opened plan n fed b h a.0 a.3 y)
+    (finished_as i l.job t (of i fed.trace ++ e ∷ []) _ (told_cleaned i l.job s.0 f body s.1 t s.3 x s.4 s.7 s.5 s.6 g u) (ap (λ (es : List Event). es ++ e ∷ []) s.2))
+    refl (ap (λ (y : Role). if same_role y Body && declares plan f.position then Some f.position else None) x) a.0 (λ k c y d. no_owing plan n fed b h a.1 k c y) (cleaning_begun took.was body w) z (λ y. nothing_opened plan n fed b h a.0 a.3 y)

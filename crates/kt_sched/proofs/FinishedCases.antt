@@ -1,6 +1,6 @@
 -- the stage of a case that is over, by its events
 use Rattle.std.specs.Prelude.{None, is_none, not, ◌&&◌}
-use Rattle.std.proofs.Common.{◌≡◌, ℕ, Bool, true, false, List, [], ◌∷◌, refl, sym, ◌∙◌, ap, subst}
+use Rattle.std.proofs.Common.{◌≡◌, ℕ, ◌-◌, Bool, true, false, List, [], ◌∷◌, sym, ◌∙◌, ap, subst}
 use Rattle.kt_base.specs.declared.role.Role.{Role}
 use Rattle.kt_base.specs.declared.role.Role.TheVariants.{Body, Cleanup}
 use Rattle.kt_sched.specs.declared.job.Job.{Job}
@@ -10,31 +10,46 @@ use Rattle.kt_sched.specs.declared.stage.Stage.TheVariants.{Finished}
 use Rattle.kt_sched.specs.declared.case_record.CaseRecord.{CaseRecord}
 use Rattle.kt_sched.specs.Trace.{Event, Start, End}
 use Rattle.kt_sched.specs.History.{BodyStarted, BodyEnded, CleanupStarted, CleanupRefused, end_mark, is_whole}
-use Rattle.kt_sched.specs.EntryOf.{no_output}
-use Rattle.kt_sched.specs.SchedState.{IsStage}
-use Rattle.kt_sched.specs.Cases.{record_of, plain_record, ended_body}
+use Rattle.kt_sched.specs.EntryOf.{no_output, IsEntry, ended, uncleaned, cleaned}
+use Rattle.kt_sched.specs.SchedState.{IsStage, entry_with, ended_body}
+use Rattle.kt_sched.specs.Inner.Cases.{record_of, plain_record}
+use Rattle.kt_sched.specs.declared.ended_body.EndedBody.{EndedBody}
+use Rattle.kt_status.specs.Tables.{IsVerdict, IsVerdictAfter}
 use Rattle.kt_status.specs.declared.cleanup_end.CleanupEnd.TheVariants as cleanup
 
 pub and_both : (b c : Bool) → b ≡ true → c ≡ true → (b && c) ≡ true
 and_both b c e f = ap (λ x. x && c) e ∙ f
 
-pub told_refused : (i : ℕ) (job : Job) (e : Ended) (s : ℕ) (cause : _) → e.role ≡ Body → job.cleanup ≡ true → job.decided ≡ None → IsStage i job (Finished (record_of (ended_body s e) cleanup.Refused e.moment no_output)) (Start i Body (told.Started s) ∷ End e ∷ Start i Cleanup (told.Refused cause) ∷ [])
-told_refused i job e s cause r c d =
-    (ap (λ (x : Role). is_whole job (BodyStarted ∷ end_mark x ∷ CleanupRefused ∷ [])) r ∙ and_both (is_none job.decided) job.cleanup (ap is_none d) c, refl)
+pub told_refused : (i : ℕ) (job : Job) (e : Ended) (b : EndedBody) (t : CaseRecord) (cause : _) → e.role ≡ Body → job.cleanup ≡ true → job.decided ≡ None
+    → IsVerdict e.evidence e.outcome b.verdict → b ≡ ended_body b.verdict b.started e → IsVerdictAfter b.verdict cleanup.Refused t.verdict → t ≡ record_of t.verdict b b.ended no_output
+    → IsStage i job (Finished t) (Start i Body (told.Started b.started) ∷ End e ∷ Start i Cleanup (told.Refused cause) ∷ [])
+told_refused i job e b t cause r c d v is w t_is =
+    let whole : t ≡ record { verdict = t.verdict; started = b.started; millis = e.moment - b.started; body = e.output; cleanup = no_output }
+    = t_is ∙ ap (λ (x : EndedBody). record_of t.verdict (record { started = b.started; ended = x.ended; verdict = x.verdict; output = x.output }) x.ended no_output) is in
+    let P : CaseRecord → Type 0 = λ x. IsEntry job (Start i Body (told.Started b.started) ∷ End e ∷ Start i Cleanup (told.Refused cause) ∷ []) (entry_with job x) in (
+      ap (λ (x : Role). is_whole job (BodyStarted ∷ end_mark x ∷ CleanupRefused ∷ [])) r ∙ and_both (is_none job.decided) job.cleanup (ap is_none d) c,
+      subst P (sym whole) (uncleaned i b.started e i cause b.verdict t.verdict v w),
+    )
 
-pub told_cleaned : (i : ℕ) (job : Job) (e f : Ended) (s m : ℕ) → e.role ≡ Body → f.role ≡ Cleanup → job.cleanup ≡ true → job.decided ≡ None → IsStage i job (Finished (record_of (ended_body s e) (cleanup.Ended f.outcome) f.moment f.output)) (Start i Body (told.Started s) ∷ End e ∷ Start i Cleanup (told.Started m) ∷ End f ∷ [])
-told_cleaned i job e f s m r x c d = (
-  ap (λ (y : Role). is_whole job (BodyStarted ∷ end_mark y ∷ CleanupStarted ∷ end_mark f.role ∷ [])) r
-      ∙ (ap (λ (y : Role). is_whole job (BodyStarted ∷ BodyEnded ∷ CleanupStarted ∷ end_mark y ∷ [])) x ∙ and_both (is_none job.decided) job.cleanup (ap is_none d) c),
-  refl,
-)
+pub told_cleaned : (i : ℕ) (job : Job) (e f : Ended) (b : EndedBody) (m : ℕ) (t : CaseRecord) → e.role ≡ Body → f.role ≡ Cleanup → job.cleanup ≡ true → job.decided ≡ None
+    → IsVerdict e.evidence e.outcome b.verdict → b ≡ ended_body b.verdict b.started e → IsVerdictAfter b.verdict (cleanup.Ended f.outcome) t.verdict → t ≡ record_of t.verdict b f.moment f.output
+    → IsStage i job (Finished t) (Start i Body (told.Started b.started) ∷ End e ∷ Start i Cleanup (told.Started m) ∷ End f ∷ [])
+told_cleaned i job e f b m t r x c d v is w t_is =
+    let whole : t ≡ record { verdict = t.verdict; started = b.started; millis = f.moment - b.started; body = e.output; cleanup = f.output }
+    = t_is ∙ ap (λ (y : EndedBody). record { verdict = t.verdict; started = b.started; millis = f.moment - b.started; body = y.output; cleanup = f.output }) is in
+    let P : CaseRecord → Type 0 = λ y. IsEntry job (Start i Body (told.Started b.started) ∷ End e ∷ Start i Cleanup (told.Started m) ∷ End f ∷ []) (entry_with job y) in (
+      ap (λ (y : Role). is_whole job (BodyStarted ∷ end_mark y ∷ CleanupStarted ∷ end_mark f.role ∷ [])) r
+          ∙ (ap (λ (y : Role). is_whole job (BodyStarted ∷ BodyEnded ∷ CleanupStarted ∷ end_mark y ∷ [])) x ∙ and_both (is_none job.decided) job.cleanup (ap is_none d) c),
+      subst P (sym whole) (cleaned i b.started e i m f b.verdict t.verdict v w),
+    )
 
-pub told_plain : (i : ℕ) (job : Job) (e : Ended) (s : ℕ) → e.role ≡ Body → job.cleanup ≡ false → job.decided ≡ None → IsStage i job (Finished (plain_record s e)) (Start i Body (told.Started s) ∷ End e ∷ [])
-told_plain i job e s r c d =
-    (ap (λ (x : Role). is_whole job (BodyStarted ∷ end_mark x ∷ [])) r ∙ and_both (is_none job.decided) (not job.cleanup) (ap is_none d) (ap not c), refl)
+pub told_plain : (i : ℕ) (job : Job) (e : Ended) (s : ℕ) (t : CaseRecord) → e.role ≡ Body → job.cleanup ≡ false → job.decided ≡ None
+    → IsVerdict e.evidence e.outcome t.verdict → t ≡ plain_record t.verdict s e → IsStage i job (Finished t) (Start i Body (told.Started s) ∷ End e ∷ [])
+told_plain i job e s t r c d v t_is =
+    let P : CaseRecord → Type 0 = λ y. IsEntry job (Start i Body (told.Started s) ∷ End e ∷ []) (entry_with job y) in (
+      ap (λ (x : Role). is_whole job (BodyStarted ∷ end_mark x ∷ [])) r ∙ and_both (is_none job.decided) (not job.cleanup) (ap is_none d) (ap not c),
+      subst P (sym t_is) (ended i s e t.verdict v),
+    )
 
-pub finished_as : (i : ℕ) (job : Job) (t u : CaseRecord) (es fs : List Event) → IsStage i job (Finished u) fs → t ≡ u → es ≡ fs → IsStage i job (Finished t) es
-finished_as i job t u es fs s e f =
-    let P : List Event → Type 0 = λ xs. IsStage i job (Finished t) xs in
-    let Q : CaseRecord → Type 0 = λ x. IsStage i job (Finished x) fs in
-    subst P (sym f) (subst Q (sym e) s)
+pub finished_as : (i : ℕ) (job : Job) (t : CaseRecord) (es fs : List Event) → IsStage i job (Finished t) fs → es ≡ fs → IsStage i job (Finished t) es
+finished_as i job t es fs s f = let P : List Event → Type 0 = λ xs. IsStage i job (Finished t) xs in subst P (sym f) s

@@ -12,7 +12,7 @@ use Rattle.kt_sched.specs.TurnOrder.{body_start_of}
 use Rattle.kt_sched.specs.ScheduleRules.{owed}
 use Rattle.kt_sched.specs.Fed.{Fed, has_failed}
 use Rattle.kt_sched.specs.SchedState.{SchedState, Stands, IsStage, is_active_stage, is_fresh, stage_work, listed, opened}
-use Rattle.kt_sched.specs.Cases.{unless}
+use Rattle.kt_sched.specs.Inner.Cases.{unless}
 use Rattle.kt_sched.proofs.Steps.{is_over}
 use Rattle.kt_sched.proofs.EventSteps.{some_same}
 use Rattle.kt_sched.proofs.Events.{After, stands_event}

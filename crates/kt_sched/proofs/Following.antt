@@ -13,7 +13,8 @@ use Rattle.kt_sched.specs.History.{mark_of, history, is_whole}
 use Rattle.kt_sched.specs.ScheduleRules.{owed}
 use Rattle.kt_sched.specs.Fed.{Fed}
 use Rattle.kt_sched.specs.Next.{Follows}
-use Rattle.kt_sched.specs.SchedState.{SchedState, Stands, IsAsked, IsUntaken, IsChosen, IsSettled}
+use Rattle.kt_sched.specs.Inner.Choice.{IsChosen}
+use Rattle.kt_sched.specs.SchedState.{SchedState, Stands, IsAsked, IsUntaken, IsSettled}
 use Rattle.kt_sched.proofs.Lists.{within_some}
 use Rattle.kt_sched.proofs.Upcoming.{upcoming}
 use Rattle.kt_sched.proofs.Choice.{something_runs, nothing_runs, busy_where_held}

@@ -16,9 +16,11 @@ use Rattle.kt_sched.specs.History.{history, is_whole}
 use Rattle.kt_sched.specs.RecordOrder.{Due, dues, finished_by, recorded}
 use Rattle.kt_sched.specs.EntryOf.{Gains, IsEntryOf, AreEntries}
 use Rattle.kt_sched.specs.Plan.{IsPlan}
-use Rattle.kt_sched.specs.Fed.{Fed, has_failed, with_event, nothing_fed, runs}
+use Rattle.kt_sched.specs.Inner.Answers.{with_event}
+use Rattle.kt_sched.specs.Fed.{Fed, has_failed, nothing_fed, runs}
 use Rattle.kt_sched.specs.Next.{IsNext, IsUpToDate, Follows}
-use Rattle.kt_sched.specs.Run.{FailedPut, Counts, CanCount, counted}
+use Rattle.kt_sched.specs.Inner.Answers.{CanCount, counted}
+use Rattle.kt_sched.specs.Run.{FailedPut, Counts}
 use Rattle.kt_sched.proofs.Turns.{some_is}
 use Rattle.kt_sched.proofs.Histories.{body_runs_history, cleanup_runs_history}
 use Rattle.kt_sched.proofs.Once.{NotWhole, Recorded, recorded_first, recorded_event, recorded_most}

@@ -13,13 +13,15 @@ use Rattle.kt_sched.specs.declared.next.Next.{Next}
 use Rattle.kt_sched.specs.declared.next.Next.TheVariants as next
 use Rattle.kt_sched.specs.declared.answer.Answer.{Answer}
 use Rattle.kt_sched.specs.Children.{Child, MayStart, IsEvidence, IsIdle, child_of, running_after_start, running_after_end, pending_after_start, pending_after_end}
-use Rattle.kt_sched.specs.Moments.{IsMoment, HasMoment}
+use Rattle.kt_base.specs.Moments.{IsMoment}
+use Rattle.kt_sched.specs.Moments.{HasMoment}
 use Rattle.kt_sched.specs.Plan.{IsPlan}
 use Rattle.kt_sched.specs.Trace.{Event, Start, End, Trace, NoEvent, Then, position_of, of, event_count}
 use Rattle.kt_sched.specs.History.{history}
 use Rattle.kt_sched.specs.TurnOrder.{body_starts, body_start_of, undecided_turns}
 use Rattle.kt_sched.specs.ScheduleRules.{Each, Order, BusyAt, IsCleanupStart}
-use Rattle.kt_sched.specs.Fed.{Fed, has_failed, runs, with_event, fed_after, answer_of, nothing_fed}
+use Rattle.kt_sched.specs.Inner.Answers.{with_event, answer_of}
+use Rattle.kt_sched.specs.Fed.{Fed, has_failed, runs, fed_after, nothing_fed}
 use Rattle.kt_sched.specs.Next.{IsNext, Follows, MayBegin}
 use Rattle.kt_sched.proofs.Lists.{take_one_more}
 use Rattle.kt_sched.proofs.Steps.{same_is, of_other}

@@ -12,7 +12,7 @@ use Rattle.kt_sched.specs.declared.case.Case.{Case}
 use Rattle.kt_sched.specs.Trace.{Trace, of}
 use Rattle.kt_sched.specs.Fed.{Fed}
 use Rattle.kt_sched.specs.SchedState.{SchedState, Stands, IsStage, IsAsked, is_active_stage}
-use Rattle.kt_sched.specs.Cases.{Replaced}
+use Rattle.kt_sched.specs.Inner.Cases.{Replaced}
 use Rattle.kt_sched.proofs.Lists.{within_some, slice_get-set_same, count-cons}
 use Rattle.kt_sched.proofs.Stages.{turn_at}
 use Rattle.kt_sched.proofs.EventSteps.{some_same}

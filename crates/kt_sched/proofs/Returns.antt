@@ -1,15 +1,16 @@
 -- what the run loop has done where it is over
 use Rattle.std.specs.Prelude.{Option, Some, None, is_some, Result, Ok, Err, if◌then◌else◌}
-use Rattle.std.proofs.Common.{ℕ, Bool, List, length, take, sym, ◌∙◌, ap, subst, arith}
+use Rattle.std.proofs.Common.{ℕ, Bool, List, [], refl, append-nil, length, take, sym, ◌∙◌, ap, subst, arith}
 use Rattle.kt_base.specs.declared.role.Role.{Role}
 use Rattle.kt_base.specs.declared.entry.Entry.{Entry}
+use Rattle.kt_base.specs.declared.no_memory.NoMemory.{NoMemory as Refusal}
 use Rattle.kt_sched.specs.declared.job.Job.{Job}
 use Rattle.kt_sched.specs.declared.start_answer.StartAnswer.{StartAnswer}
 use Rattle.kt_sched.specs.declared.ended.Ended.{Ended}
 use Rattle.kt_sched.specs.declared.next.Next.TheVariants as next
 use Rattle.kt_sched.specs.declared.sink_fault.SinkFault.{SinkFault}
 use Rattle.kt_sched.specs.declared.totals.Totals.{Totals}
-use Rattle.kt_sched.specs.declared.run_fault.RunFault.TheVariants.{SinkFailed}
+use Rattle.kt_sched.specs.declared.run_fault.RunFault.TheVariants.{NoMemory, SinkFailed}
 use Rattle.kt_sched.specs.Children.{Child, IsIdle}
 use Rattle.kt_sched.specs.Plan.{IsPlan, IsWidth}
 use Rattle.kt_sched.specs.RecordOrder.{recorded}
@@ -17,6 +18,7 @@ use Rattle.kt_sched.specs.EntryOf.{AreEntries}
 use Rattle.kt_sched.specs.Fed.{Fed}
 use Rattle.kt_sched.specs.Next.{IsNext, Follows}
 use Rattle.kt_sched.specs.Run.{Ran}
+use Rattle.kt_sched.specs.Trace.{NoEvent}
 use Rattle.kt_sched.proofs.Runs.{child_at, is_owed}
 use Rattle.kt_sched.proofs.Going.{Going}
 use Rattle.kt_sched.proofs.Gaining.{Gained, gained_all}
@@ -25,6 +27,20 @@ use Rattle.kt_sched.proofs.Ending.{goes_legal, goes_stopped, four_calls, named_o
 gained_are : {S : Type 0} (puts : S → Entry → Result (Unit {0}) SinkFault → S → Type 0) (entries : S → List Entry → Type 0) (plan : List Job) (n : ℕ) (fed : Fed) (totals : Totals) (fault : Option SinkFault) (before after : S) → (k : Gained puts entries plan n fed totals fault before after) → AreEntries plan fed.trace (take (length k.gained) (recorded plan n fed.trace)) k.gained
 gained_are puts entries plan n fed totals fault before after k =
     subst (λ (m : ℕ). AreEntries plan fed.trace (take m (recorded plan n fed.trace)) k.gained) (sym k.count) k.are
+
+-- memory ran out before anything was done
+pub ran_not : {L S : Type 0} (starts : L → Job → Role → StartAnswer → L → Type 0) (waits : L → Ended → L → Type 0) (puts : S → Entry → Result (Unit {0}) SinkFault → S → Type 0) (entries : S → List Entry → Type 0)
+    (plan : List Job) (n : ℕ) (old : L) (before : S) (refusal : Refusal) → Ran starts waits puts entries plan n old old before before (Err (NoMemory refusal))
+ran_not starts waits puts entries plan n old before refusal = record {
+  trace = NoEvent;
+  leads = refl;
+  fits = tt;
+  calls = λ i. omega arith;
+  gained = [];
+  are = tt;
+  kept = λ put h. subst (entries before) (sym (append-nil put)) h;
+  ends = record { events = refl; entries = refl; same = refl };
+}
 
 -- no put failed
 pub ran_well : {L S : Type 0} (running : L → ℕ → Role → Option Child) (pending : L → ℕ → Bool) (starts : L → Job → Role → StartAnswer → L → Type 0) (waits : L → Ended → L → Type 0) (puts : S → Entry → Result (Unit {0}) SinkFault → S → Type 0) (entries : S → List Entry → Type 0) (plan : List Job) (n : ℕ) (fed : Fed) (totals : Totals) (old new : L) (before after : S)

@@ -1,9 +1,9 @@
 -- a body's start
 use Rattle.std.specs.Prelude.{slice_get, Some, None, is_none, map}
-use Rattle.std.proofs.Common.{◌≡◌, ◌≢◌, ℕ, ◌+◌, ◌<◌, ◌⊎◌, cond, List, [], ◌∷◌, ◌++◌, refl, sym, ◌∙◌, ap, arith, inl, inr}
+use Rattle.std.proofs.Common.{◌≡◌, ◌≢◌, ℕ, ◌+◌, ◌<◌, ◌⊎◌, cond, List, [], ◌∷◌, ◌++◌, refl, sym, subst, ◌∙◌, ap, arith, inl, inr}
 use Rattle.std.proofs.lemmas.Option.{slice_get_within}
 use Rattle.kt_base.specs.declared.role.Role.TheVariants.{Body}
-use Rattle.kt_status.specs.Verdicts.{verdict_of_refusal}
+use Rattle.kt_status.specs.Tables.{IsVerdictOfRefusal}
 use Rattle.kt_sched.specs.declared.job.Job.{Job}
 use Rattle.kt_sched.specs.declared.start_answer.StartAnswer.TheVariants as told
 use Rattle.kt_sched.specs.declared.next.Next.TheVariants as next
@@ -15,9 +15,9 @@ use Rattle.kt_sched.specs.Trace.{Event, Start, of}
 use Rattle.kt_sched.specs.History.{mark_of, is_whole}
 use Rattle.kt_sched.specs.TurnOrder.{turns}
 use Rattle.kt_sched.specs.Fed.{Fed}
-use Rattle.kt_sched.specs.EntryOf.{entry_of, no_output}
-use Rattle.kt_sched.specs.SchedState.{SchedState, Stands, is_active_stage, stage_work, listed, entry_with}
-use Rattle.kt_sched.specs.Cases.{Replaced}
+use Rattle.kt_sched.specs.EntryOf.{IsEntry, refused}
+use Rattle.kt_sched.specs.SchedState.{SchedState, Stands, is_active_stage, stage_work, listed, entry_with, decided_record}
+use Rattle.kt_sched.specs.Inner.Cases.{Replaced}
 use Rattle.std.proofs.lemmas.Bool.{cases_eq}
 use Rattle.kt_sched.proofs.Alone.{none_lonely, none_else}
 use Rattle.kt_sched.proofs.Stages.{one_place}
@@ -81,8 +81,8 @@ body_started plan n fed b i m cs was h q r =
     above k m g t x (inl e) = absurd (x (some_same m i (sym g ∙ (ap (slice_get b.order) e ∙ asked))))
     above k m g t x (inr e) = omega (arith, t, e)
 
-pub body_refused : (plan : List Job) (n : ℕ) (fed : Fed) (b : SchedState) (i : ℕ) (cause : _) (cs : List Case) (was : Stage) (t : CaseRecord) → Stands plan n fed b → b.asked ≡ next.Start i Body → t ≡ record { verdict = verdict_of_refusal cause; started = 0; millis = 0; body = no_output; cleanup = no_output } → Replaced b.cases cs i (Finished t) was → After plan n fed b ((Start i Body (told.Refused cause))) (record { cases = cs; order = b.order; turn = b.turn + 1; active = b.active; width = b.width; pending = b.pending; ready = Some i; asked = next.Done; failed = b.failed })
-body_refused plan n fed b i cause cs was t h q z r =
+pub body_refused : (plan : List Job) (n : ℕ) (fed : Fed) (b : SchedState) (i : ℕ) (cause : _) (cs : List Case) (was : Stage) (t : CaseRecord) → Stands plan n fed b → b.asked ≡ next.Start i Body → IsVerdictOfRefusal cause t.verdict → t ≡ decided_record t.verdict → Replaced b.cases cs i (Finished t) was → After plan n fed b ((Start i Body (told.Refused cause))) (record { cases = cs; order = b.order; turn = b.turn + 1; active = b.active; width = b.width; pending = b.pending; ready = Some i; asked = next.Done; failed = b.failed })
+body_refused plan n fed b i cause cs was t h q v z r =
     let a = asked_as b (next.Start i Body) q h.asked in
     let l = located plan n fed b i r.job was h r.found in
     let u = upcoming plan n fed b i h a.0 a.3 a.2 in
@@ -100,7 +100,7 @@ body_refused plan n fed b i cause cs was t h q z r =
       found = r.found;
       fresh = ap is_over w;
       works = omega (arith, ap stage_work w);
-      stage = (ap (λ (es : List Event). is_whole l.job (map mark_of es)) d ∙ ap is_none free, ap (entry_of l.job) d ∙ ap (λ (s : CaseRecord). Some (entry_with l.job s)) (sym z));
+      stage = (ap (λ (es : List Event). is_whole l.job (map mark_of es)) d ∙ ap is_none free, subst (λ (es : List Event). IsEntry l.job es (entry_with l.job t)) (sym d) (subst (λ (s : CaseRecord). IsEntry l.job (e ∷ []) (entry_with l.job s)) (sym z) (refused i cause t.verdict v)));
       kept = l.kept (not_taken was w);
       cases = r.changed;
       width = refl;

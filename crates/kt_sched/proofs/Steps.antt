@@ -60,8 +60,8 @@ pub undecided_stage : (i : â„•) (job : Job) (stage : Stage) (es : List Event) â†
 undecided_stage i job Waiting es h o = h.1
 undecided_stage i job Decided es h o = absurd (cc)
 undecided_stage i job (Running m) es h o = h.1
-undecided_stage i job (Owing b) es h o = h.5
-undecided_stage i job (Cleaning b) es h o = h.6
+undecided_stage i job (Owing b) es h o = h.6
+undecided_stage i job (Cleaning b) es h o = h.7
 undecided_stage i job (Finished t) es h o = absurd (cc)
 undecided_stage i job Taken es h o = absurd (cc)
 

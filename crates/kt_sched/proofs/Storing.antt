@@ -1,17 +1,15 @@
 -- the moments of an entry
-use Rattle.std.specs.Prelude.{slice_get, Some, None, if◌then◌else◌, ◌==◌, ⊤}
-use Rattle.std.proofs.Common.{◌≡◌, ℕ, ◌-◌, ◌≤◌, Bool, true, false, List, [], ◌∷◌, ◌++◌, refl, sym, subst, arith}
-use Rattle.kt_base.specs.declared.role.Role.TheVariants.{Body, Cleanup}
+use Rattle.std.specs.Prelude.{if◌then◌else◌, ◌==◌, ⊤}
+use Rattle.std.proofs.Common.{ℕ, Bool, true, false, List, [], ◌∷◌, ◌++◌, arith}
 use Rattle.kt_base.specs.declared.entry.Entry.{Entry}
-use Rattle.kt_base.specs.Verdicts.{Judged}
 use Rattle.kt_sched.specs.declared.job.Job.{Job}
-use Rattle.kt_sched.specs.declared.start_answer.StartAnswer.TheVariants.{Started, Refused}
 use Rattle.kt_sched.specs.Trace.{Event, Start, End, Trace, NoEvent, Then, position_of, of}
 use Rattle.kt_sched.specs.ScheduleRules.{Each}
-use Rattle.kt_sched.specs.EntryOf.{entry_of, IsEntryOf}
-use Rattle.kt_sched.specs.Moments.{IsMoment, HasMoment, IsStorable}
+use Rattle.kt_sched.specs.EntryOf.{IsEntry, IsEntryOf}
+use Rattle.kt_sched.specs.EntryOf as recorded
+use Rattle.kt_base.specs.Moments.{IsMoment, IsStorable}
+use Rattle.kt_sched.specs.Moments.{HasMoment}
 use Rattle.kt_sched.specs.Run.{FitsAt}
-use Rattle.kt_sched.proofs.Turns.{some_is}
 
 abbrev HasGoodMoment : Event → Type 0
 HasGoodMoment (Start i role answer) = HasMoment answer
@@ -37,22 +35,12 @@ timely_of plan i (Then T e) h = by (position_of e == i) (timely_of plan i T h.0)
     by true g = timely_more (of i T) e g (good_moment plan T e h.1)
     by false g = g
 
-storable : (job : Job) (es : List Event) (entry : Entry) → entry_of job es ≡ Some entry → AreTimely es → IsStorable entry
-storable job [] entry e t = by job.decided refl
-  where
-    by : (o : _) → job.decided ≡ o → IsStorable entry
-    by None d = absurd (cc (Rattle.std.proofs.Common.ap (λ (o : Rattle.std.specs.Prelude.Option Judged). entry_of (record job { decided = o }) []) d, e))
-    by (Some v) d =
-        subst IsStorable (some_is _ entry (Rattle.std.proofs.Common.◌∙◌ (sym (Rattle.std.proofs.Common.ap (λ (o : Rattle.std.specs.Prelude.Option Judged). entry_of (record job { decided = o }) []) d)) e))
-        (record { started = omega arith; millis = omega arith })
-storable job (Start i Body (Refused cause) ∷ []) entry e t = subst IsStorable (some_is _ entry e) (record { started = omega arith; millis = omega arith })
-storable job (Start i Body (Started m) ∷ End x ∷ []) entry e t =
-    subst IsStorable (some_is _ entry e) (record { started = t.0; millis = omega (arith, t.1.0) })
-storable job (Start i Body (Started m) ∷ End x ∷ Start j Cleanup (Refused cause) ∷ []) entry e t =
-    subst IsStorable (some_is _ entry e) (record { started = t.0; millis = omega (arith, t.1.0) })
-storable job (Start i Body (Started m) ∷ End x ∷ Start j Cleanup (Started k) ∷ End y ∷ []) entry e t =
-    subst IsStorable (some_is _ entry e) (record { started = t.0; millis = omega (arith, t.1.1.1.0) })
-storable job other entry e t = absurd (cc)
+storable : (job : Job) (es : List Event) (entry : Entry) → IsEntry job es entry → AreTimely es → IsStorable entry
+storable job _ _ (recorded.decided v d) t = record { started = omega arith; millis = omega arith }
+storable job _ _ (recorded.refused i cause v w) t = record { started = omega arith; millis = omega arith }
+storable job _ _ (recorded.ended i m e v w) t = record { started = t.0; millis = omega (arith, t.1.0) }
+storable job _ _ (recorded.uncleaned i m e j cause body v w x) t = record { started = t.0; millis = omega (arith, t.1.0) }
+storable job _ _ (recorded.cleaned i m e j k f body v w x) t = record { started = t.0; millis = omega (arith, t.1.1.1.0) }
 
 -- an entry of a trace whose moments lie in the range can be stored
 pub storable_entry : (plan : List Job) (T : Trace) (i : ℕ) (entry : Entry) → Each (FitsAt plan) T → IsEntryOf plan T i entry → IsStorable entry

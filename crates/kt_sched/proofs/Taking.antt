@@ -12,29 +12,29 @@ use Rattle.kt_sched.specs.declared.stage.Stage.TheVariants.{Waiting, Decided, Ru
 use Rattle.kt_sched.specs.declared.case.Case.{Case}
 use Rattle.kt_sched.specs.Trace.{Event, Trace, of}
 use Rattle.kt_sched.specs.History.{mark_of, history, is_whole}
-use Rattle.kt_sched.specs.EntryOf.{entry_of, IsEntryOf}
+use Rattle.kt_sched.specs.EntryOf.{IsEntry, decided, IsEntryOf}
 use Rattle.kt_base.specs.Verdicts.{Judged}
 use Rattle.kt_sched.specs.declared.case_record.CaseRecord.{CaseRecord}
 use Rattle.kt_sched.specs.Fed.{Fed}
-use Rattle.kt_sched.specs.Cases.{TookEntry}
-use Rattle.kt_sched.specs.SchedState.{SchedState, Stands, CaseStands, IsStage, IsAsked, is_active_stage, is_fresh, entry_with, record_in, decided_record_of, stage_work, work}
+use Rattle.kt_sched.specs.Inner.Cases.{TookEntry}
+use Rattle.kt_sched.specs.SchedState.{SchedState, Stands, CaseStands, IsStage, IsAsked, is_active_stage, is_fresh, entry_with, record_in, decided_record, decided_record_of, stage_work, work}
 use Rattle.kt_sched.proofs.Lists.{slice_get-set_same, slice_get-set_other, count_by-set, sum_by-replaced}
 use Rattle.kt_sched.proofs.EventSteps.{some_same}
 use Rattle.kt_sched.proofs.Located.{located}
 
-decided_entry : (job : Job) (t : CaseRecord) → (o : Option Judged) → job.decided ≡ o → decided_record_of o ≡ Some t → entry_of job [] ≡ Some (entry_with job t)
+decided_entry : (job : Job) (t : CaseRecord) → (o : Option Judged) → job.decided ≡ o → decided_record_of o ≡ Some t → IsEntry job [] (entry_with job t)
 decided_entry job t None e f = absurd (cc)
-decided_entry job t (Some v) e f = ap (λ (o : Option Judged). entry_of (record job { decided = o }) []) e ∙ ap (λ (o : Option CaseRecord). elim o as (λ _. Option Entry) [ None ↦ None | Some x ↦ Some (entry_with job x) ]) f
+decided_entry job t (Some v) e f = subst (λ (x : CaseRecord). IsEntry job [] (entry_with job x)) (some_same (decided_record v) t f) (decided v e)
 
 -- what is told of a case is its entry
-told_entry : (i : ℕ) (job : Job) (was : Stage) (es : List Event) (t : CaseRecord) → IsStage i job was es → record_in job was ≡ Some t → (is_whole job (map mark_of es) ≡ true) × (entry_of job es ≡ Some (entry_with job t))
+told_entry : (i : ℕ) (job : Job) (was : Stage) (es : List Event) (t : CaseRecord) → IsStage i job was es → record_in job was ≡ Some t → (is_whole job (map mark_of es) ≡ true) × IsEntry job es (entry_with job t)
 told_entry i job Waiting es t s e = absurd (cc)
 told_entry i job Decided es t s e =
-    (ap (λ (xs : List Event). is_whole job (map mark_of xs)) s.0 ∙ s.1, ap (entry_of job) s.0 ∙ decided_entry job t job.decided refl e)
+    (ap (λ (xs : List Event). is_whole job (map mark_of xs)) s.0 ∙ s.1, subst (λ (xs : List Event). IsEntry job xs (entry_with job t)) (sym s.0) (decided_entry job t job.decided refl e))
 told_entry i job (Running m) es t s e = absurd (cc)
 told_entry i job (Owing o) es t s e = absurd (cc)
 told_entry i job (Cleaning o) es t s e = absurd (cc)
-told_entry i job (Finished x) es t s e = (s.0, s.1 ∙ ap (λ (y : CaseRecord). Some (entry_with job y)) (some_same x t e))
+told_entry i job (Finished x) es t s e = (s.0, subst (λ (y : CaseRecord). IsEntry job es (entry_with job y)) (some_same x t e) s.1)
 told_entry i job Taken es t s e = absurd (cc)
 
 told_idle : (job : Job) (was : Stage) (t : CaseRecord) → record_in job was ≡ Some t → (is_active_stage was ≡ false) × (stage_work was ≡ 1) × (was ≢ Taken) × ((o : _) → was ≢ Owing o)
@@ -52,7 +52,7 @@ record FinishedCases (plan : List Job) (T : Trace) (i : ℕ) (had : Job) (case_r
   pub place : slice_get plan i ≡ Some job
   pub same : had ≡ job
   pub whole : is_whole job (history i T) ≡ true
-  pub entry : entry_of job (of i T) ≡ Some (entry_with job case_record)
+  pub entry : IsEntry job (of i T) (entry_with job case_record)
 
 telling : (plan : List Job) (n : ℕ) (fed : Fed) (b : SchedState) (i : ℕ) (cs : List Case) (entry : Entry) → Stands plan n fed b → (t : TookEntry b.cases cs i entry) → FinishedCases plan fed.trace i t.had t.case_record
 telling plan n fed b i cs entry h t =
@@ -68,7 +68,7 @@ entry_taken plan n fed b i cs entry h t =
       job = l.job;
       place = l.place;
       whole = l.whole;
-      entry_is = l.entry ∙ (ap (λ (j : Job). Some (entry_with j t.case_record)) (sym l.same) ∙ ap Some (sym t.is));
+      entry_is = subst (λ (x : Entry). IsEntry l.job (of i fed.trace) x) (ap (λ (j : Job). entry_with j t.case_record) (sym l.same) ∙ sym t.is) l.entry;
     }
 
 taken_here : (cs xs : List Case) (i : ℕ) (old new : Case) → slice_get xs i ≡ Some old → cs ≡ slice_set xs i new → slice_get cs i ≡ Some new

@@ -14,7 +14,8 @@ use Rattle.kt_sched.specs.History.{Mark, BodyStarted, BodyEnded, CleanupStarted,
 use Rattle.kt_sched.specs.TurnOrder.{next_to_start, turns}
 use Rattle.kt_sched.specs.ScheduleRules.{owed, IsBusy}
 use Rattle.kt_sched.specs.Fed.{Fed, role_runs, runs}
-use Rattle.kt_sched.specs.SchedState.{SchedState, Stands, CaseStands, IsStage, stage_runs, is_active_stage, is_undecided}
+use Rattle.kt_sched.specs.Inner.Cases.{stage_runs}
+use Rattle.kt_sched.specs.SchedState.{SchedState, Stands, CaseStands, IsStage, is_active_stage, is_undecided}
 use Rattle.kt_sched.proofs.Lists.{within_some, counted_some}
 use Rattle.kt_sched.proofs.Turns.{turn_covers}
 use Rattle.kt_sched.proofs.Stages.{whole_quiet, active_is, at_turn}

@@ -35,7 +35,7 @@ same_role Body Cleanup = false
 same_role Cleanup Body = false
 same_role Cleanup Cleanup = true
 
--- a body starts where its case neither runs nor is pending, a cleanup where its case is pending
+-- a body starts if its case neither runs nor is pending, a cleanup if its case is pending
 abbrev pub MayStart : (ℕ → Role → Option Child) → (ℕ → Bool) → ℕ → Role → Type 0
 MayStart running pending i Body = (running i Body ≡ None) × (running i Cleanup ≡ None) × (pending i ≡ false)
 MayStart running pending i Cleanup = pending i ≡ true

@@ -1,11 +1,12 @@
 -- The entry of a case, from its job and its own events.
-use Rattle.std.specs.Prelude.{ℕ, true, List, [], ◌∷◌, ◌≡◌, ◌-◌, Option, Some, None, Result, Ok, slice_get, ⊤}
+use Rattle.std.specs.Prelude.{ℕ, true, List, [], ◌∷◌, ◌≡◌, ◌-◌, Some, Result, Ok, slice_get, ⊤}
 use Rattle.kt_base.specs.declared.role.Role.TheVariants.{Body, Cleanup}
 use Rattle.kt_base.specs.Verdicts.{Judged}
 use Rattle.kt_base.specs.declared.output.Output.{Output}
 use Rattle.kt_base.specs.declared.entry.Entry.{Entry}
+use Rattle.kt_base.specs.declared.refused.Refused.{Refused as Cause}
 use Rattle.kt_status.specs.declared.cleanup_end.CleanupEnd.TheVariants as cleanup
-use Rattle.kt_status.specs.Verdicts.{verdict_of, verdict_of_refusal, verdict_after_cleanup}
+use Rattle.kt_status.specs.Tables.{IsVerdict, IsVerdictOfRefusal, IsVerdictAfter}
 use Rattle.kt_sched.specs.declared.job.Job.{Job}
 use Rattle.kt_sched.specs.declared.start_answer.StartAnswer.TheVariants.{Started, Refused}
 use Rattle.kt_sched.specs.declared.ended.Ended.{Ended}
@@ -17,73 +18,35 @@ use Rattle.kt_sched.specs.History.{history, is_whole}
 abbrev pub no_output : Output
 no_output = record { out = []; err = [] }
 
--- the verdict on a body that ended
-abbrev pub body_of : Ended → Judged
-body_of e = verdict_of e.evidence e.outcome
+-- the entry of a job: its verdict, its start, its time, and the outputs of body and cleanup
+abbrev pub entry : Job → Judged → ℕ → ℕ → Output → Output → Entry
+entry job verdict started millis body cleanup = record {
+  position = job.position;
+  program = job.program;
+  case_name = job.case_name;
+  verdict = verdict;
+  started = started;
+  millis = millis;
+  body = body;
+  cleanup = cleanup;
+  meta = job.meta;
+}
 
 -- the entry of a case, from its job and its own events alone
-abbrev pub entry_of : Job → List Event → Option Entry
-entry_of job [] = elim job.decided [
-  | None ↦ None
-  | Some v ↦ Some (record {
-    position = job.position;
-    program = job.program;
-    case_name = job.case_name;
-    verdict = v;
-    started = 0;
-    millis = 0;
-    body = no_output;
-    cleanup = no_output;
-    meta = job.meta;
-  })
-]
-entry_of job (Start i Body (Refused cause) ∷ []) = Some (record {
-  position = job.position;
-  program = job.program;
-  case_name = job.case_name;
-  verdict = verdict_of_refusal cause;
-  started = 0;
-  millis = 0;
-  body = no_output;
-  cleanup = no_output;
-  meta = job.meta;
-})
-entry_of job (Start i Body (Started m) ∷ End e ∷ []) = Some (record {
-  position = job.position;
-  program = job.program;
-  case_name = job.case_name;
-  verdict = body_of e;
-  started = m;
-  millis = e.moment - m;
-  body = e.output;
-  cleanup = no_output;
-  meta = job.meta;
-})
-entry_of job (Start i Body (Started m) ∷ End e ∷ Start j Cleanup (Refused cause) ∷ []) = Some (record {
-  position = job.position;
-  program = job.program;
-  case_name = job.case_name;
-  verdict = verdict_after_cleanup (body_of e) cleanup.Refused;
-  started = m;
-  millis = e.moment - m;
-  body = e.output;
-  cleanup = no_output;
-  meta = job.meta;
-})
-entry_of job (Start i Body (Started m) ∷ End e ∷ Start j Cleanup (Started k) ∷ End f ∷ []) = Some (record {
-  position = job.position;
-  program = job.program;
-  case_name = job.case_name;
-  verdict = verdict_after_cleanup (body_of e) (cleanup.Ended f.outcome);
-  started = m;
-  millis = f.moment - m;
-  body = e.output;
-  cleanup = f.output;
-  meta = job.meta;
-})
-entry_of job other = None
+pub data IsEntry (job : Job) : List Event → Entry → Type 0 where
+  decided : (v : Judged) → job.decided ≡ Some v → IsEntry job [] (entry job v 0 0 no_output no_output)
+  refused : (i : ℕ) (cause : Cause) (v : Judged) → IsVerdictOfRefusal cause v
+      → IsEntry job (Start i Body (Refused cause) ∷ []) (entry job v 0 0 no_output no_output)
+  ended : (i m : ℕ) (e : Ended) (v : Judged) → IsVerdict e.evidence e.outcome v
+      → IsEntry job (Start i Body (Started m) ∷ End e ∷ []) (entry job v m (e.moment - m) e.output no_output)
+  uncleaned : (i m : ℕ) (e : Ended) (j : ℕ) (cause : Cause) (body v : Judged)
+      → IsVerdict e.evidence e.outcome body → IsVerdictAfter body cleanup.Refused v
+      → IsEntry job (Start i Body (Started m) ∷ End e ∷ Start j Cleanup (Refused cause) ∷ []) (entry job v m (e.moment - m) e.output no_output)
+  cleaned : (i m : ℕ) (e : Ended) (j k : ℕ) (f : Ended) (body v : Judged)
+      → IsVerdict e.evidence e.outcome body → IsVerdictAfter body (cleanup.Ended f.outcome) v
+      → IsEntry job (Start i Body (Started m) ∷ End e ∷ Start j Cleanup (Started k) ∷ End f ∷ []) (entry job v m (f.moment - m) e.output f.output)
 
--- the puts of these entries, all answered Ok, lead a sink from the first state to the second
+-- the puts of these entries, all of them successful, lead a sink from the first state to the second
 abbrev pub Gains : {S : Type 0} → (S → Entry → Result (Unit {0}) SinkFault → S → Type 0) → List Entry → S → S → Type 0
 Gains puts [] old new = new ≡ old
 Gains {S} puts (e ∷ es) old new = (mid : S) × puts old e (Ok tt) mid × Gains puts es mid new
@@ -93,7 +56,7 @@ pub record IsEntryOf (plan : List Job) (T : Trace) (i : ℕ) (entry : Entry) : T
   pub job : Job
   pub place : slice_get plan i ≡ Some job
   pub whole : is_whole job (history i T) ≡ true
-  pub entry_is : entry_of job (of i T) ≡ Some entry
+  pub entry_is : IsEntry job (of i T) entry
 
 -- these are the entries of the cases at these positions, one each
 abbrev pub AreEntries : List Job → Trace → List ℕ → List Entry → Type 0

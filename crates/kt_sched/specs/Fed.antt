@@ -1,17 +1,16 @@
--- What a scheduler was told so far, and what may be told next.
+-- The answers that a scheduler got so far, and those that it may get next.
 use Rattle.std.specs.Prelude.{ℕ, Bool, true, false, List, [], ◌∷◌, ◌≡◌, ◌+◌, Option, Some, None, is_some, ⊤}
 use Rattle.kt_base.specs.declared.role.Role.{Role}
 use Rattle.kt_base.specs.declared.role.Role.TheVariants.{Body, Cleanup}
-use Rattle.kt_sched.specs.declared.start_answer.StartAnswer.{StartAnswer}
 use Rattle.kt_sched.specs.declared.start_answer.StartAnswer.TheVariants as told
 use Rattle.kt_sched.specs.declared.next.Next.{Next}
 use Rattle.kt_sched.specs.declared.next.Next.TheVariants as next
 use Rattle.kt_sched.specs.declared.answer.Answer.{Answer}
 use Rattle.kt_sched.specs.declared.answer.Answer.TheVariants as answer
-use Rattle.kt_sched.specs.Trace.{Event, Start, End, Trace, NoEvent, Then, event_count}
+use Rattle.kt_sched.specs.Trace.{Start, End, Trace, NoEvent, Then, event_count}
 use Rattle.kt_sched.specs.History.{Mark, BodyStarted, BodyEnded, CleanupStarted, history}
 
--- the answers fed so far: the launcher's, how many entries were stored, and the number of events where a put failed
+-- the answers fed so far: those of the launcher, how many entries were stored, and how many events came before a failed put
 pub record Fed : Type 0 where
   pub trace : Trace
   pub stored : ℕ
@@ -25,7 +24,7 @@ nothing_fed = record { trace = NoEvent; stored = 0; stopped = None }
 abbrev pub has_failed : Fed → Bool
 has_failed fed = is_some fed.stopped
 
--- one answer more, to what was asked
+-- one more answer, to what was asked
 abbrev pub fed_after : Fed → Next → Answer → Fed
 fed_after fed (next.Start i role) (answer.Started moment) = record fed { trace = Then fed.trace (Start i role (told.Started moment)) }
 fed_after fed (next.Start i role) (answer.Refused cause) = record fed { trace = Then fed.trace (Start i role (told.Refused cause)) }
@@ -33,15 +32,6 @@ fed_after fed next.Wait (answer.Ended ended) = record fed { trace = Then fed.tra
 fed_after fed (next.Put i) answer.Stored = record fed { stored = fed.stored + 1 }
 fed_after fed (next.Put i) answer.StoreFailed = record fed { stopped = Some (event_count fed.trace) }
 fed_after fed asked other = fed
-
--- one event more
-abbrev pub with_event : Fed → Event → Fed
-with_event fed e = record fed { trace = Then fed.trace e }
-
--- what a launcher answered to a start, as the core is told
-abbrev pub answer_of : StartAnswer → Answer
-answer_of (told.Started moment) = answer.Started moment
-answer_of (told.Refused cause) = answer.Refused cause
 
 -- a body that runs, or a cleanup that does
 abbrev pub role_runs : Role → List Mark → Bool

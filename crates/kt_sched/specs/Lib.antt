@@ -10,5 +10,5 @@ pub mod EntryOf
 pub mod Fed
 pub mod Next
 pub mod SchedState
-pub mod Cases
+pub mod Inner
 pub mod Run

@@ -6,7 +6,7 @@ use Rattle.kt_sched.specs.Trace.{Event, Trace, NoEvent, Then, position_of, event
 use Rattle.kt_sched.specs.History.{has_whole_history, active}
 use Rattle.kt_sched.specs.TurnOrder.{body_starts, turns}
 
--- a put that is due after so many events
+-- a put that is due after this many events
 pub record Due : Type 0 where
   pub position : ℕ
   pub after : ℕ
@@ -36,7 +36,7 @@ abbrev pub finished_by : List Job → Trace → Event → List Job
 finished_by plan T e =
     filter (λ job. job.position == position_of e && (is_none job.decided && (has_whole_history (Then T e) job && not (has_whole_history T job)))) plan
 
--- cases that are due after so many events
+-- cases that are due after this many events
 abbrev pub put_at : ℕ → List Job → List Due
 put_at k jobs = map (λ job. record { position = job.position; after = k }) jobs
 

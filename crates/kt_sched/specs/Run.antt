@@ -1,7 +1,6 @@
 -- What a run did to its launcher and its sink.
-use Rattle.std.specs.Prelude.{ℕ, List, [], ◌++◌, ◌==◌, ◌≡◌, ◌<◌, ◌≤◌, ◌+◌, Result, Ok, Err, slice_get, Some, length, take, count_by, cond, not}
+use Rattle.std.specs.Prelude.{ℕ, List, [], ◌++◌, ◌==◌, ◌≡◌, ◌<◌, ◌≤◌, Result, Ok, Err, slice_get, Some, length, take, count_by, not}
 use Rattle.kt_base.specs.declared.role.Role.{Role}
-use Rattle.kt_base.specs.declared.kind.Kind.{Kind}
 use Rattle.kt_base.specs.declared.entry.Entry.{Entry}
 use Rattle.kt_base.specs.Kinds.{good as is_good}
 use Rattle.kt_sched.specs.declared.job.Job.{Job}
@@ -16,7 +15,8 @@ use Rattle.kt_sched.specs.ScheduleRules.{Each, Legal, Stopped}
 use Rattle.kt_sched.specs.RecordOrder.{Due, dues, recorded}
 use Rattle.kt_sched.specs.EntryOf.{Gains, IsEntryOf, AreEntries}
 use Rattle.kt_sched.specs.Children.{IsEvidence}
-use Rattle.kt_sched.specs.Moments.{IsMoment, HasMoment}
+use Rattle.kt_base.specs.Moments.{IsMoment}
+use Rattle.kt_sched.specs.Moments.{HasMoment}
 
 -- the moment lies in the range, and the evidence is of the job's interface
 abbrev pub FitsAt : List Job → Trace → Event → Type 0
@@ -29,16 +29,6 @@ pub record Counts (entries : List Entry) (t : Totals) : Type 0 where
   pub total : t.total ≡ length entries
   pub good : t.good ≡ count_by (λ (e : Entry). is_good e.verdict.kind) entries
   pub bad : t.bad ≡ count_by (λ (e : Entry). not (is_good e.verdict.kind)) entries
-
--- one entry more is counted
-abbrev pub counted : Totals → Kind → Totals
-counted t kind = record { total = t.total + 1; good = t.good + cond (is_good kind) 1 0; bad = t.bad + cond (not (is_good kind)) 1 0 }
-
--- there is room to count one more
-pub record CanCount (t : Totals) (limit : ℕ) : Type 0 where
-  pub total : t.total + 1 ≤ limit
-  pub good : t.good ≤ t.total
-  pub bad : t.bad ≤ t.total
 
 -- each position of the plan stands in the list once, and nothing else does
 pub record NamesEachOnce (plan : List Job) (positions : List ℕ) : Type 0 where
@@ -74,7 +64,7 @@ pub record RanNot {S : Type 0} (T : Trace) (gained : List Entry) (before after :
   pub entries : gained ≡ []
   pub same : after ≡ before
 
--- what the answer says
+-- what holds at each exit
 abbrev pub EndsAs : {S : Type 0} → (S → Entry → Result (Unit {0}) SinkFault → S → Type 0) → List Job → ℕ → Trace → List Entry → S → S → Result Totals RunFault → Type 0
 EndsAs puts plan n T gained before after (Ok totals) = RanWell puts plan n T gained before after totals
 EndsAs puts plan n T gained before after (Err (SinkFailed fault)) = RanShort puts plan n T gained before after fault

@@ -1,6 +1,5 @@
 -- The scheduler's state, and what it stands for.
 use Rattle.std.specs.Prelude.{ℕ, Bool, true, false, List, [], ◌∷◌, ◌++◌, ◌==◌, ◌≡◌, ◌≢◌, ◌<◌, ◌≤◌, ◌⊎◌, Option, Some, None, map, take, drop, filter, nat_lt, count_by, sum_by, length, slice_get, is_some, is_none, ⊤, if◌then◌else◌}
-use Rattle.kt_base.specs.declared.role.Role.{Role}
 use Rattle.kt_base.specs.declared.role.Role.TheVariants.{Body, Cleanup}
 use Rattle.kt_base.specs.Verdicts.{Judged}
 use Rattle.kt_base.specs.declared.entry.Entry.{Entry}
@@ -14,12 +13,14 @@ use Rattle.kt_sched.specs.declared.stage.Stage.{Stage}
 use Rattle.kt_sched.specs.declared.stage.Stage.TheVariants.{Waiting, Decided, Running, Owing, Cleaning, Finished, Taken}
 use Rattle.kt_sched.specs.declared.case.Case.{Case}
 use Rattle.kt_sched.specs.declared.case_record.CaseRecord.{CaseRecord}
+use Rattle.kt_sched.specs.declared.ended_body.EndedBody.{EndedBody}
+use Rattle.kt_status.specs.Tables.{IsVerdict}
 use Rattle.kt_sched.specs.Trace.{Event, Start, End, Trace, of}
 use Rattle.kt_sched.specs.History.{mark_of, is_whole}
 use Rattle.kt_sched.specs.TurnOrder.{body_starts, turns}
 use Rattle.kt_sched.specs.ScheduleRules.{owed}
 use Rattle.kt_sched.specs.RecordOrder.{is_open, was_open, recorded}
-use Rattle.kt_sched.specs.EntryOf.{entry_of, body_of, no_output}
+use Rattle.kt_sched.specs.EntryOf.{entry, IsEntry, no_output}
 use Rattle.kt_sched.specs.Plan.{IsPlan}
 use Rattle.kt_sched.specs.Fed.{Fed, has_failed, IsAnswerTo}
 
@@ -40,12 +41,6 @@ abbrev pub is_fresh : Stage → Bool
 is_fresh Waiting = true
 is_fresh Decided = true
 is_fresh _ = false
-
--- whether a stage runs in a role
-abbrev pub stage_runs : Role → Stage → Bool
-stage_runs Body (Running m) = true
-stage_runs Cleanup (Cleaning b) = true
-stage_runs role other = false
 
 -- whether a stage is that of an active case
 abbrev pub is_active_stage : Stage → Bool
@@ -75,15 +70,6 @@ Works (next.Start i role) old new = new < old
 Works next.Wait old new = new < old
 Works next.Done old new = ⊤
 
--- the stage before the first answer
-abbrev pub first_stage : Option Judged → Stage
-first_stage None = Waiting
-first_stage (Some verdict) = Decided
-
--- a case before the first answer
-abbrev pub first_case : Job → Case
-first_case job = record { job = job; stage = first_stage job.decided }
-
 -- the record of a decided case
 abbrev pub decided_record : Judged → CaseRecord
 decided_record verdict = record { verdict = verdict; started = 0; millis = 0; body = no_output; cleanup = no_output }
@@ -101,17 +87,11 @@ record_in job _ = None
 
 -- the entry of a job with this record
 abbrev pub entry_with : Job → CaseRecord → Entry
-entry_with job t = record {
-  position = job.position;
-  program = job.program;
-  case_name = job.case_name;
-  verdict = t.verdict;
-  started = t.started;
-  millis = t.millis;
-  body = t.body;
-  cleanup = t.cleanup;
-  meta = job.meta;
-}
+entry_with job t = entry job t.verdict t.started t.millis t.body t.cleanup
+
+-- what is kept of a body with this verdict, which started at this moment and ended so
+abbrev pub ended_body : Judged → ℕ → Ended → EndedBody
+ended_body verdict started e = record { started = started; ended = e.moment; verdict = verdict; output = e.output }
 
 -- how a stage stands for the events of its case
 abbrev pub IsStage : ℕ → Job → Stage → List Event → Type 0
@@ -120,11 +100,11 @@ IsStage i job Decided es = (es ≡ []) × (is_some job.decided ≡ true)
 IsStage i job (Running m) es = (es ≡ Start i Body (told.Started m) ∷ []) × (job.decided ≡ None)
 IsStage i job (Owing b) es =
     (e : Ended) × (es ≡ Start i Body (told.Started b.started) ∷ End e ∷ []) × (e.role ≡ Body) × (job.cleanup ≡ true)
-    × (b ≡ record { started = b.started; ended = e.moment; verdict = body_of e; output = e.output }) × (job.decided ≡ None)
+    × IsVerdict e.evidence e.outcome b.verdict × (b ≡ ended_body b.verdict b.started e) × (job.decided ≡ None)
 IsStage i job (Cleaning b) es =
     (e : Ended) × (m : ℕ) × (es ≡ Start i Body (told.Started b.started) ∷ End e ∷ Start i Cleanup (told.Started m) ∷ []) × (e.role ≡ Body) × (job.cleanup ≡ true)
-    × (b ≡ record { started = b.started; ended = e.moment; verdict = body_of e; output = e.output }) × (job.decided ≡ None)
-IsStage i job (Finished t) es = (is_whole job (map mark_of es) ≡ true) × (entry_of job es ≡ Some (entry_with job t))
+    × IsVerdict e.evidence e.outcome b.verdict × (b ≡ ended_body b.verdict b.started e) × (job.decided ≡ None)
+IsStage i job (Finished t) es = (is_whole job (map mark_of es) ≡ true) × IsEntry job es (entry_with job t)
 IsStage i job Taken es = is_whole job (map mark_of es) ≡ true
 
 -- how a case stands for the events of a trace
@@ -147,10 +127,6 @@ HasExclusive cases i flag = (c : Case) × (slice_get cases i ≡ Some c) × (c.j
 abbrev pub IsOrdinary : List Case → ℕ → Type 0
 IsOrdinary cases i = HasExclusive cases i false
 
--- a case that is
-abbrev pub IsExclusive : List Case → ℕ → Type 0
-IsExclusive cases i = HasExclusive cases i true
-
 -- whether a case that waits for its turn is decided
 abbrev pub is_decided_stage : Stage → Bool
 is_decided_stage Decided = true
@@ -160,19 +136,9 @@ is_decided_stage _ = false
 abbrev pub HasDecided : List Case → ℕ → Bool → Type 0
 HasDecided cases i flag = (c : Case) × (slice_get cases i ≡ Some c) × (is_decided_stage c.stage ≡ flag)
 
--- the case whose turn it is, where there is room for it
+-- the case that has its turn, if there is room for it
 abbrev pub HasTurn : SchedState → ℕ → Type 0
 HasTurn b i = (b.failed ≡ false) × (slice_get b.order b.turn ≡ Some i) × (b.active < b.width) × (b.active ≡ 0 ⊎ IsOrdinary b.cases i)
-
--- there is no such case
-abbrev pub IsHeld : SchedState → Type 0
-IsHeld b =
-    (b.failed ≡ true) ⊎ ((length b.order ≤ b.turn) ⊎ ((b.width ≤ b.active) ⊎ ((0 < b.active) × ((i : ℕ) × (slice_get b.order b.turn ≡ Some i) × IsExclusive b.cases i))))
-
--- the case whose turn it is, if there is room for one
-abbrev pub IsTurn : SchedState → Option ℕ → Type 0
-IsTurn b None = IsHeld b
-IsTurn b (Some i) = HasTurn b i
 
 -- no decided case can be put
 abbrev pub IsSettled : SchedState → Type 0
@@ -185,14 +151,6 @@ IsAsked b (next.Start i Cleanup) = (b.ready ≡ None) × (b.pending ≡ Some i) 
 IsAsked b next.Wait = (b.ready ≡ None) × (b.pending ≡ None) × (0 < b.active) × IsSettled b
 IsAsked b (next.Put i) = (b.failed ≡ false) × (b.ready ≡ Some i)
 IsAsked b next.Done = ⊤
-
--- what is chosen in a state
-abbrev pub IsChosen : SchedState → Next → Type 0
-IsChosen b (next.Put i) = b.ready ≡ Some i
-IsChosen b (next.Start i Cleanup) = (b.ready ≡ None) × (b.pending ≡ Some i)
-IsChosen b (next.Start i Body) = (b.ready ≡ None) × (b.pending ≡ None) × HasTurn b i
-IsChosen b next.Wait = (b.ready ≡ None) × (b.pending ≡ None) × (0 < b.active) × IsHeld b
-IsChosen b next.Done = (b.ready ≡ None) × (b.pending ≡ None) × (b.active ≡ 0) × IsHeld b
 
 -- a case that has a record: its entry can be taken
 abbrev pub HasRecord : List Case → ℕ → Type 0
@@ -214,15 +172,15 @@ HoldsEntry b i = HasRecord b.cases i
 abbrev pub CanLend : SchedState → ℕ → Type 0
 CanLend b i = IsUntaken b.cases i
 
--- whether a verdict is decided
+-- the verdict is decided
 abbrev pub is_decided : Job → Bool
 is_decided job = is_some job.decided
 
--- whether none is
+-- no verdict is decided
 abbrev pub is_undecided : Job → Bool
 is_undecided job = is_none job.decided
 
--- whether there is room for a decided case beside so many active ones
+-- there is room for a decided case beside this many active ones
 abbrev pub room_in : ℕ → ℕ → Job → Bool
 room_in a n job = if job.exclusive then a == 0 else nat_lt a n
 
@@ -231,7 +189,7 @@ abbrev pub run_of : {X : Type 0} → (X → Bool) → (X → Bool) → List X �
 run_of decided room [] = []
 run_of decided room (x ∷ xs) = if decided x then (if room x then x ∷ run_of decided room xs else []) else []
 
--- the decided cases that can be put at a turn, beside so many active ones
+-- the decided cases that can be put at a turn, beside this many active ones
 abbrev pub opened : List Job → ℕ → ℕ → ℕ → List Job
 opened plan n a turn = run_of is_decided (room_in a n) (drop turn (turns plan))
 

@@ -18,7 +18,7 @@ Each P (Then T e) = Each P T × P T e
 abbrev pub Order : List Job → Trace → Type 0
 Order plan T = body_starts T ≡ map (λ job. job.position) (take (length (body_starts T)) (undecided_turns plan))
 
--- a body starts only where fewer than n cases are active
+-- a body starts only while fewer than n cases are active
 abbrev pub WidthAt : List Job → ℕ → Trace → Event → Type 0
 WidthAt plan n T (Start i Body answer) = active plan T < n
 WidthAt plan n T (Start i Cleanup answer) = ⊤
@@ -57,12 +57,12 @@ IsCleanupStart (End ended) owing = ⊥
 abbrev pub PromptAt : List Job → Trace → Event → Type 0
 PromptAt plan T e = IfSome (owed plan T) (IsCleanupStart e)
 
--- a wait comes only where no body may be started
+-- no body may be started
 abbrev pub IsBusy : List Job → ℕ → Trace → Type 0
 IsBusy plan n T =
     (active plan T ≡ n) ⊎ MatchOption (next_to_start plan T) ⊤ (λ job. (job.exclusive ≡ true) × (0 < active plan T))
 
--- a wait comes only where no body may be started
+-- a wait comes only while no body may be started
 abbrev pub BusyAt : List Job → ℕ → Trace → Event → Type 0
 BusyAt plan n T (Start i role answer) = ⊤
 BusyAt plan n T (End ended) = IsBusy plan n T

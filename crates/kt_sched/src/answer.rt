@@ -1,7 +1,7 @@
 use crate::ended::Ended;
 use kt_base::Refused;
 
-/// What came of that which was to be done.
+/// The result of the step that `next` asked for.
 #[derive(Debug, Drop)]
 pub enum Answer {
     /// With the moment, in milliseconds since 1970 in UTC.

@@ -1,7 +1,7 @@
 use crate::job::Job;
 use crate::stage::Stage;
 
-/// A job, and how far its case is.
+/// A job, and the stage of its case.
 #[derive(Debug, Drop)]
 pub struct Case {
     pub job: Job,

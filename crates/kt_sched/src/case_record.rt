@@ -1,6 +1,6 @@
 use kt_base::{Output, Verdict};
 
-/// The record of a case that is over: its entry, without the names.
+/// The record of a case that is over: its entry without the names.
 #[derive(Debug, Drop)]
 pub struct CaseRecord {
     pub verdict: Verdict,

@@ -1,6 +1,7 @@
 ghost use Rattle.std.specs.Prelude.{◌≡◌};
-ghost use Rattle.kt_sched.specs.SchedState.{decided_record};
-ghost use Rattle.kt_sched.specs.Cases.{record_of, plain_record, ended_body, refused_record};
+ghost use Rattle.kt_sched.specs.SchedState.{decided_record, ended_body};
+ghost use Rattle.kt_status.specs.Tables.{IsVerdict, IsVerdictAfter, IsVerdictOfRefusal};
+ghost use Rattle.kt_sched.specs.Inner.Cases.{record_of, plain_record};
 ghost use Rattle.kt_sched.specs.EntryOf.{no_output};
 
 use crate::case_record::CaseRecord;
@@ -42,14 +43,16 @@ pub fn decided_record(alloc: Global, verdict: Verdict) -> CaseRecord
 
 /// The record of a case whose body was refused.
 pub fn refused_record(alloc: Global, cause: Refused) -> CaseRecord
-    ensures { result ≡ refused_record cause }
+    ensures verdict { IsVerdictOfRefusal cause result.verdict }
+    ensures rest { result ≡ decided_record result.verdict }
 {
     unstarted_record(alloc, refused_verdict(cause))
 }
 
-/// A body that ended, of a case that is not over.
+/// What is kept of a body that ended, if its case is not over.
 pub fn ended_body(started: u64, ended: Ended) -> EndedBody
-    ensures { result ≡ ended_body started ended }
+    ensures verdict { IsVerdict ended.evidence ended.outcome result.verdict }
+    ensures rest { result ≡ ended_body result.verdict started ended }
 {
     EndedBody {
         started,
@@ -61,7 +64,8 @@ pub fn ended_body(started: u64, ended: Ended) -> EndedBody
 
 /// The record of a case without a declared cleanup. If the clock went back, the case took no time.
 pub fn plain_record(alloc: Global, started: u64, ended: Ended) -> CaseRecord
-    ensures { result ≡ plain_record started ended }
+    ensures verdict { IsVerdict ended.evidence ended.outcome result.verdict }
+    ensures rest { result ≡ plain_record result.verdict started ended }
 {
     CaseRecord {
         verdict: body_verdict(ended.evidence, ended.outcome),
@@ -74,7 +78,8 @@ pub fn plain_record(alloc: Global, started: u64, ended: Ended) -> CaseRecord
 
 /// The record of a case whose cleanup ended.
 pub fn cleaned_record(body: EndedBody, ended: Ended) -> CaseRecord
-    ensures { result ≡ record_of body (CleanupEnd.Ended ended.outcome) ended.moment ended.output }
+    ensures verdict { IsVerdictAfter body.verdict (CleanupEnd.Ended ended.outcome) result.verdict }
+    ensures rest { result ≡ record_of result.verdict body ended.moment ended.output }
 {
     CaseRecord {
         verdict: with_cleanup(body.verdict, CleanupEnd::Ended(ended.outcome)),
@@ -87,7 +92,8 @@ pub fn cleaned_record(body: EndedBody, ended: Ended) -> CaseRecord
 
 /// The record of a case whose cleanup was refused.
 pub fn uncleaned_record(alloc: Global, body: EndedBody) -> CaseRecord
-    ensures { result ≡ record_of body CleanupEnd.Refused body.ended no_output }
+    ensures verdict { IsVerdictAfter body.verdict CleanupEnd.Refused result.verdict }
+    ensures rest { result ≡ record_of result.verdict body body.ended no_output }
 {
     CaseRecord {
         verdict: with_cleanup(body.verdict, CleanupEnd::Refused),

@@ -1,10 +1,10 @@
 ghost use Rattle.std.specs.Prelude.{◌≡◌, ◌-◌, ◌^◌};
-ghost use Rattle.kt_sched.specs.Run.{CanCount, counted};
+ghost use Rattle.kt_sched.specs.Inner.Answers.{CanCount, counted};
 
 use crate::totals::Totals;
 use kt_base::Kind;
 
-/// Counts one entry more.
+/// The totals with one more entry.
 pub fn counted(totals: Totals, kind: Kind) -> Totals
     requires { CanCount totals (2 ^ 64 - 1) }
     ensures { result ≡ counted totals kind }

@@ -1,6 +1,6 @@
 use kt_base::{Output, Verdict};
 
-/// A body that ended and whose case is not over.
+/// What is kept of a body that ended, if its case is not over.
 #[derive(Debug, Drop)]
 pub struct EndedBody {
     /// In milliseconds since 1970 in UTC.

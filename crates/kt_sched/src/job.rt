@@ -17,8 +17,8 @@ pub struct Job {
     pub exclusive: bool,
     /// Whether a cleanup is declared (`has.cleanup` of atf-test-case(4)).
     pub cleanup: bool,
-    /// The verdict of a case that is not to be started: its requirements are not met, or its program's list failed.
+    /// The verdict of a case that is not started: its requirements are not met, or the list of its program failed.
     pub decided: Option<Verdict>,
-    /// What the case declares, as names with values: its entry has it too.
+    /// What the case declares, as names with values. Its entry has them too.
     pub meta: Variables,
 }

@@ -3,7 +3,7 @@ use crate::job::Job;
 use crate::start_answer::StartAnswer;
 use kt_base::Role;
 
-/// What starts children and waits for them. Its answers lead it from state to state; no history is kept.
+/// Starts children and waits for them. Each answer leads it from one state to the next; it keeps no history.
 pub trait Launcher {
     ghost use Rattle.std.specs.Prelude.{ℕ, Bool, ◌≡◌, Option, Some};
     ghost use Rattle.kt_base.specs.declared.role.Role.{Role};
@@ -11,22 +11,23 @@ pub trait Launcher {
     ghost use Rattle.kt_sched.specs.declared.start_answer.StartAnswer.{StartAnswer};
     ghost use Rattle.kt_sched.specs.declared.ended.Ended.{Ended};
     ghost use Rattle.kt_sched.specs.Children.{Child, MayStart, IsEvidence, running_after_start, running_after_end, pending_after_start, pending_after_end};
-    ghost use Rattle.kt_sched.specs.Moments.{IsMoment, HasMoment};
+    ghost use Rattle.kt_base.specs.Moments.{IsMoment};
+    ghost use Rattle.kt_sched.specs.Moments.{HasMoment};
     ghost use Rattle.kt_sched.specs.Plan.{IsFit};
 
-    /// What is known of the child that runs at a position in a role, if one does.
+    /// What is known of the running child of a position in a role, if there is one.
     ghost running: { Self → ℕ → Role → Option Child };
 
     /// Whether the body at a position ended with a declared cleanup that was not yet asked for.
     ghost pending: { Self → ℕ → Bool };
 
-    /// Whether this start, answered so, leads from the first state to the second.
+    /// Whether this start, with this answer, leads from the first state to the second.
     ghost starts: { Self → Job → Role → StartAnswer → Self → Type 0 };
 
-    /// Whether a wait, answered so, leads from the first state to the second.
+    /// Whether a wait, with this answer, leads from the first state to the second.
     ghost waits: { Self → Ended → Self → Type 0 };
 
-    /// Starts the body or the cleanup of a case. A refused body leaves no cleanup to be asked for.
+    /// Starts the body or the cleanup of a case. After a refused body no cleanup is asked for.
     fn start(&mut self, job: &Job, role: Role) -> StartAnswer
         requires fit { IsFit job.now }
         requires may { MayStart (running self.old) (pending self.old) job.now.position role }
@@ -37,7 +38,7 @@ pub trait Launcher {
         ensures pending { (k : ℕ) → pending self.new k
             ≡ pending_after_start (pending self.old) job.now.position role k };
 
-    /// Waits until a child that runs has ended.
+    /// Waits until a running child has ended.
     fn wait(&mut self) -> Ended
         requires { (i : ℕ) × (role : Role) × (child : Child)
             × (running self.old i role ≡ Some child) }

@@ -1,4 +1,4 @@
-/// How many cases may be active at once, at the most (this profile).
+/// The most cases that may be active at once (this profile).
 pub const MAX_WIDTH: u32 = 256;
 
 /// The longest time that a case is given, in seconds (this profile).

@@ -1,6 +1,6 @@
 ghost use Rattle.kt_sched.specs.Children.{IsIdle};
 ghost use Rattle.kt_sched.specs.Plan.{IsPlan, IsWidth};
-ghost use Rattle.kt_sched.specs.Fed.{answer_of};
+ghost use Rattle.kt_sched.specs.Inner.Answers.{answer_of};
 ghost use Rattle.kt_sched.specs.Run.{Ran};
 ghost use Rattle.std.specs.Prelude.{◌≡◌};
 
@@ -20,7 +20,7 @@ use std::alloc::Global;
 
 /// Runs the cases of a plan over a launcher, at most `width` at once, and puts the entry of each into a sink.
 ///
-/// After its first launcher call it takes no memory of its own.
+/// It takes no memory of its own after its first launcher call.
 pub fn run_cases<L: Launcher, S: Sink>(
     alloc: Global,
     plan: Items<Job>,
@@ -35,10 +35,7 @@ pub fn run_cases<L: Launcher, S: Sink>(
         sink.old sink.new result }
     ensures idle { IsIdle (L.running launcher.new) (L.pending launcher.new) }
 {
-    let mut sched = match Sched::new(alloc, plan, width) {
-        Ok(sched) => sched,
-        Err(refusal) => return Err(RunFault::NoMemory(refusal)),
-    };
+    let mut sched = Sched::new(alloc, plan, width)?;
     let mut totals = Totals::new();
     let mut fault: Option<SinkFault> = None;
     loop {

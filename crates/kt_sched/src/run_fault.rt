@@ -1,3 +1,6 @@
+ghost use Rattle.std.specs.Prelude.{◌≡◌};
+ghost use Rattle.kt_sched.specs.declared.run_fault.RunFault.TheVariants as fault;
+
 use crate::sink_fault::SinkFault;
 use kt_base::NoMemory;
 use thiserror::Error;
@@ -11,4 +14,12 @@ pub enum RunFault {
     /// A put failed. Every child that ran was waited for, and each declared cleanup asked for.
     #[error(transparent)]
     SinkFailed(SinkFault),
+}
+
+impl From<NoMemory> for RunFault {
+    ghost from_gives = { λ refusal f. f ≡ fault.NoMemory refusal };
+
+    fn from(refusal: NoMemory) -> RunFault {
+        RunFault::NoMemory(refusal)
+    }
 }

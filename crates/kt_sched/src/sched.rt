@@ -1,5 +1,5 @@
 ghost use Rattle.std.specs.Prelude.{◌≡◌};
-ghost use Rattle.kt_sched.specs.Cases.{unless};
+ghost use Rattle.kt_sched.specs.Inner.Cases.{unless};
 
 use crate::answer::Answer;
 use crate::case::Case;
@@ -77,13 +77,16 @@ impl Sched {
     ghost use Rattle.kt_base.specs.declared.role.Role.{Role};
     ghost use Rattle.kt_base.specs.declared.role.Role.TheVariants.{Body as TheBody, Cleanup as TheCleanup};
     ghost use Rattle.kt_sched.specs.Plan.{IsPlan, IsWidth};
-    ghost use Rattle.kt_sched.specs.Fed.{Fed, fed_after, with_event, nothing_fed};
+    ghost use Rattle.kt_sched.specs.Inner.Answers.{with_event};
+    ghost use Rattle.kt_sched.specs.Fed.{Fed, fed_after, nothing_fed};
     ghost use Rattle.kt_sched.specs.Next.{IsNext, Follows};
     ghost use Rattle.kt_sched.specs.EntryOf.{IsEntryOf};
-    ghost use Rattle.kt_sched.specs.SchedState.{SchedState, Stands, IsAnswer, IsChosen, IsSettled, stage_runs, HasRecord, CanLend, HoldsEntry, work_left, Works, IsTurn};
-    ghost use Rattle.kt_sched.specs.Cases.{RunsSince, Declares};
+    ghost use Rattle.kt_sched.specs.Inner.Choice.{IsChosen, IsTurn};
+    ghost use Rattle.kt_sched.specs.Inner.Cases.{stage_runs};
+    ghost use Rattle.kt_sched.specs.SchedState.{SchedState, Stands, IsAnswer, IsSettled, HasRecord, CanLend, HoldsEntry, work_left, Works};
+    ghost use Rattle.kt_sched.specs.Inner.Cases.{RunsSince, Declares};
 
-    /// Nothing is fed yet.
+    /// The core before its first answer.
     pub fn new(alloc: Global, plan: Items<Job>, width: u32) -> Result<Sched, NoMemory>
         requires plan { IsPlan plan }
         requires width { IsWidth width }
@@ -132,7 +135,7 @@ impl Sched {
         taken
     }
 
-    /// One answer more.
+    /// Takes the answer to what was asked last.
     pub fn feed(&mut self, answer: Answer)
         requires { IsAnswer self.old answer }
         ensures works { Works self.old.asked (work_left self.old) (work_left self.new) }
@@ -209,7 +212,7 @@ impl Sched {
         next
     }
 
-    /// A decided case whose turn it is can be put.
+    /// Readies a decided case for its put, if it has its turn.
     fn open_decided(&mut self)
         ensures stands { (plan : List Job) (n : ℕ) (fed : Fed) → Stands plan n fed self.old
             → Stands plan n fed self.new }
@@ -231,7 +234,7 @@ impl Sched {
         }
     }
 
-    /// The first that holds.
+    /// What to do next: a put first, then a cleanup, then a body, then a wait.
     fn choice(&self) -> Next
         ensures { IsChosen self.now result }
     {
@@ -248,7 +251,7 @@ impl Sched {
         }
     }
 
-    /// The case whose turn it is, where there is room for it.
+    /// The case that has its turn, if there is room for it.
     fn turn_with_room(&self) -> Option<u32>
         ensures { IsTurn self.now result }
     {
@@ -265,7 +268,7 @@ impl Sched {
         }
     }
 
-    /// The body of the case that was asked for runs.
+    /// The body that was asked for runs.
     fn body_started(&mut self, i: u32, moment: u64)
         requires { self.old.asked ≡ Next.Start i TheBody }
         ensures less { work_left self.new < work_left self.old }
@@ -279,7 +282,7 @@ impl Sched {
         self.asked = Next::Done;
     }
 
-    /// The body of the case that was asked for was refused.
+    /// The body that was asked for was refused.
     fn body_refused(&mut self, i: u32, cause: Refused)
         requires { self.old.asked ≡ Next.Start i TheBody }
         ensures less { work_left self.new < work_left self.old }
@@ -294,7 +297,7 @@ impl Sched {
         self.asked = Next::Done;
     }
 
-    /// The cleanup of the case that was asked for runs.
+    /// The cleanup that was asked for runs.
     fn cleanup_started(&mut self, i: u32, moment: u64)
         requires { self.old.asked ≡ Next.Start i TheCleanup }
         ensures less { work_left self.new < work_left self.old }
@@ -308,7 +311,7 @@ impl Sched {
         self.asked = Next::Done;
     }
 
-    /// The cleanup of the case that was asked for was refused.
+    /// The cleanup that was asked for was refused.
     fn cleanup_refused(&mut self, i: u32, cause: Refused)
         requires { self.old.asked ≡ Next.Start i TheCleanup }
         ensures less { work_left self.new < work_left self.old }

@@ -1,7 +1,8 @@
 ghost use Rattle.std.specs.Prelude.{OnOk, ◌++◌, ◌≡◌, map, IfOk};
 ghost use Rattle.kt_sched.specs.TurnOrder.{turns};
-ghost use Rattle.kt_sched.specs.SchedState.{first_case, positions};
-ghost use Rattle.kt_sched.specs.Cases.{positions_where};
+ghost use Rattle.kt_sched.specs.Inner.Cases.{first_case};
+ghost use Rattle.kt_sched.specs.SchedState.{positions};
+ghost use Rattle.kt_sched.specs.Inner.Cases.{positions_where};
 
 use crate::case::Case;
 use crate::job::Job;

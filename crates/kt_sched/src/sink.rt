@@ -1,21 +1,21 @@
 use crate::sink_fault::SinkFault;
 use kt_base::Entry;
 
-/// Where entries go, in the order in which they are recorded. How a sink keeps them is its own. A put that fails leaves
-/// those that were put.
+/// Takes the entries, in the order in which they are recorded. How a sink keeps them is its own affair. A failed put
+/// leaves those that were put before.
 pub trait Sink {
     ghost use Rattle.std.specs.Prelude.{Result, OnErr, OnOk, ◌++◌, [], ◌∷◌, List};
     ghost use Rattle.kt_base.specs.declared.entry.Entry.{Entry};
     ghost use Rattle.kt_sched.specs.declared.sink_fault.SinkFault.{SinkFault};
-    ghost use Rattle.kt_sched.specs.Moments.{IsStorable};
+    ghost use Rattle.kt_base.specs.Moments.{IsStorable};
 
     /// Whether these are the entries that were put, in the order of the puts.
     ghost entries: { Self → List Entry → Type 0 };
 
-    /// Whether a put of this entry, answered so, leads from the first state to the second.
+    /// Whether a put of this entry, with this answer, leads from the first state to the second.
     ghost puts: { Self → Entry → Result (Unit {0}) SinkFault → Self → Type 0 };
 
-    /// Takes one entry more. Its moments lie in the range that is recorded.
+    /// Takes one more entry. Its moments lie in the range that is recorded.
     fn put(&mut self, entry: Entry) -> Result<(), SinkFault>
         requires { IsStorable entry }
         ensures leads { puts self.old entry result self.new }

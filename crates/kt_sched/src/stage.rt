@@ -1,10 +1,10 @@
 use crate::case_record::CaseRecord;
 use crate::ended_body::EndedBody;
 
-/// How far a case is.
+/// The stage of a case.
 #[derive(Debug, Drop)]
 pub enum Stage {
-    /// It waits for its turn to be started.
+    /// It waits for its turn to start.
     Waiting,
     /// Its verdict is decided, and it waits for its turn to be put.
     Decided,

@@ -1,6 +1,6 @@
 use kt_base::Refused;
 
-/// What a launcher answered to a start.
+/// The answer of a launcher to a start.
 #[derive(Clone, Copy, Debug, PartialEq, Eq)]
 pub enum StartAnswer {
     /// With the moment, in milliseconds since 1970 in UTC.

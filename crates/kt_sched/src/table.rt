@@ -1,7 +1,7 @@
 ghost use Rattle.std.specs.Prelude.{◌≡◌, ◌<◌, ℕ, length, Some, IsSome};
 ghost use Rattle.kt_sched.specs.declared.stage.Stage.TheVariants.{Taken};
 ghost use Rattle.kt_sched.specs.SchedState.{record_in, HasRecord, HasExclusive, HasDecided};
-ghost use Rattle.kt_sched.specs.Cases.{IsEntryFrom, KeepsNames, Replaced, HasBody, TookBody, RunsSince, Declares, TookEntry};
+ghost use Rattle.kt_sched.specs.Inner.Cases.{IsEntryFrom, KeepsNames, Replaced, HasBody, TookBody, RunsSince, Declares, TookEntry};
 
 use crate::case::Case;
 use crate::case_record::CaseRecord;
@@ -12,7 +12,7 @@ use kt_base::{Entry, Text, Variables};
 use std::alloc::Global;
 use std::mem;
 
-/// Gives a case another stage, and answers the one before.
+/// Gives a case another stage, and returns the one before.
 pub fn replace_stage(cases: &mut Vec<Case>, i: u32, stage: Stage) -> Stage
     requires { i < length cases.old.items }
     ensures { Replaced cases.old.items cases.new.items i stage result }
@@ -65,10 +65,7 @@ pub fn is_decided(cases: &Vec<Case>, i: u32) -> bool
     requires { i < length cases.now.items }
     ensures { HasDecided cases.now.items i result }
 {
-    match &cases[i as usize].stage {
-        Stage::Decided => true,
-        _ => false,
-    }
+    matches!(&cases[i as usize].stage, Stage::Decided)
 }
 
 /// Takes the record out of a case that is over.

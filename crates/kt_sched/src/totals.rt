@@ -11,7 +11,7 @@ pub struct Totals {
 }
 
 impl Totals {
-    /// Those of no entry.
+    /// The totals of no entry.
     pub(crate) fn new() -> Totals
         ensures { result ≡ record { total = 0; good = 0; bad = 0 } }
     {

@@ -21,7 +21,7 @@ use Rattle.kt_script.specs.declared.state.Step.{Step}
 use Rattle.kt_script.specs.declared.state.Step.TheVariants.{To, Ends}
 use Rattle.kt_script.specs.Grammar as grammar
 use Rattle.kt_script.specs.Grammar.{token_of, pair, Key, by_name, by_text, Separator, comma, semicolon, no_pairs, last_pair, pair_and, Parts, no_parts, named_part, quoted_part, Statement, call, call_table, call_text, bare_table, assign, kinds, placed, Script, no_stmts, stmt_and, ended_and}
-use Rattle.kt_script.specs.Automaton.{value_of, closed, with_pair, step, next, landed, listed, run, IsResting}
+use Rattle.kt_script.specs.Inner.Automaton.{value_of, closed, with_pair, step, next, landed, listed, run, IsResting}
 
 -- where the rest of a statement leads
 abbrev pub walk : Step → List Kind → Option Step

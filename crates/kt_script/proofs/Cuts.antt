@@ -6,7 +6,8 @@ use Rattle.std.specs.List.{prefix_len}
 use Rattle.std.proofs.lemmas.Bool.{eqb-true, leb-true, and_parts, or_cases, cases_lt}
 use Rattle.std.proofs.lemmas.List.Sums.{prefix_len-le-length, prefix_len_passes, prefix_len_stops}
 use Rattle.std.proofs.lemmas.Str.{IsCharBoundary-start, IsCharBoundary-end, IsCharBoundary-before_ascii, IsCharBoundary-after_ascii}
-use Rattle.kt_script.specs.Letters.{is_space, is_letter, is_word}
+use Rattle.kt_base.specs.Characters.{is_space}
+use Rattle.kt_script.specs.Letters.{is_letter, is_word}
 use Rattle.kt_base.specs.Digits.{is_digit}
 
 -- ---- runs of bytes

@@ -5,8 +5,8 @@ use Rattle.kt_script.specs.declared.place.Place.{Place}
 use Rattle.kt_script.specs.declared.parser.Parser.{Parser}
 use Rattle.kt_script.specs.declared.syntax.Stmt.{Stmt}
 use Rattle.kt_script.specs.Faults.{after_bracket, open_lines}
-use Rattle.kt_script.specs.Automaton.{next, listed, place_of, ended_by}
-use Rattle.kt_script.specs.Reading.{HasRead}
+use Rattle.kt_script.specs.Inner.Automaton.{next, listed, place_of, ended_by}
+use Rattle.kt_script.specs.Inner.Reading.{HasRead}
 use Rattle.kt_script.proofs.Complete.{some_is}
 use Rattle.kt_script.proofs.Sound.{run-push}
 

@@ -13,11 +13,12 @@ use Rattle.kt_script.specs.declared.parser.Parser.{Parser}
 use Rattle.kt_script.specs.declared.state.State.{State}
 use Rattle.kt_script.specs.declared.syntax.Stmt.{Stmt}
 use Rattle.kt_script.specs.Grammar.{Script}
-use Rattle.kt_script.specs.Automaton.{run, IsResting}
+use Rattle.kt_script.specs.Inner.Automaton.{run, IsResting}
 use Rattle.kt_script.specs.Faults.{IfFault, IsFaultOf, last, open_lines, end_fault}
-use Rattle.kt_script.specs.Places.{IsWithin}
-use Rattle.kt_script.specs.Reading.{HasRead, IsMisfit}
-use Rattle.kt_script.specs.Tokens.{piece_at, tokens, tokens_in, line_past}
+use Rattle.kt_script.specs.Inner.Places.{IsWithin}
+use Rattle.kt_script.specs.Inner.Reading.{HasRead, IsMisfit}
+use Rattle.kt_script.specs.Inner.Tokens.{piece_at, tokens, tokens_in}
+use Rattle.kt_script.specs.TokenRules.{line_past}
 use Rattle.kt_script.proofs.Sound.{accepted, misfit, unfinished}
 use Rattle.kt_script.proofs.PieceTokens.{tokens-piece, tokens-end}
 

@@ -13,10 +13,13 @@ use Rattle.kt_script.specs.declared.place.Place.TheVariants.{Start, Whole, Withi
 use Rattle.kt_script.specs.declared.syntax.Stmt.{Stmt}
 use Rattle.kt_script.specs.Grammar.{Script}
 use Rattle.kt_script.specs.Faults.{IfFault, IsFaultOf, fault_of}
-use Rattle.kt_script.specs.Automaton.{next, listed, run}
-use Rattle.kt_script.specs.Spelling.{limit, tokens_of, Spells, IsDue, Refuses, IsAnswer}
+use Rattle.kt_script.specs.Inner.Automaton.{next, listed, run}
+use Rattle.kt_script.specs.Spelling.{limit, Spells, IsDue, Refuses, IsAnswer}
+use Rattle.kt_script.specs.Inner.Tokens.{tokens_of}
 use Rattle.kt_script.proofs.Sound.{accepted, misfit, unfinished, one_script, run-push}
 use Rattle.kt_script.proofs.OneFault.{one_fault}
+use Rattle.kt_script.proofs.OneReading.{same_tokens}
+use Rattle.kt_script.proofs.SomeReading.{some_reading}
 
 -- ---- one at the most
 
@@ -29,15 +32,18 @@ two_due text f g (inr (inl x)) (inr (inl y)) = x.2 ∙ sym y.2
 two_due text f g (inr (inl x)) (inr (inr y)) = absurd (x.1 y.1)
 two_due text f g (inr (inr x)) (inl y) = absurd (omega arith)
 two_due text f g (inr (inr x)) (inr (inl y)) = absurd (y.1 x.1)
-two_due text f g (inr (inr x)) (inr (inr y)) = one_fault (tokens_of text) f g x.2 y.2
+two_due text f g (inr (inr x)) (inr (inr y)) =
+    one_fault x.2 f g x.4 (subst (λ (ts : List Token). IsFaultOf ts g) (same_tokens text y.2 x.2 y.3 x.3) y.4)
 
 not_both : (text : List ℕ) (stmts : List Stmt) (f : ScriptFault) → Spells text stmts → IsDue text f → ⊥
 not_both text stmts f s (inl x) = omega (arith, s.short, x.0)
 not_both text stmts f s (inr (inl x)) = x.1 s.utf8
-not_both text stmts f s (inr (inr x)) = x.2.no_script stmts s.script
+not_both text stmts f s (inr (inr x)) =
+    x.4.no_script stmts (subst (λ (ts : List Token). Script ts stmts) (same_tokens text s.tokens x.2 s.read x.3) s.script)
 
 pub one_answer : (text : List ℕ) (a b : Result (List Stmt) ScriptFault) → IsAnswer text a → IsAnswer text b → a ≡ b
-one_answer text (Ok x) (Ok y) p q = ap Ok (one_script (tokens_of text) x y p.script q.script)
+one_answer text (Ok x) (Ok y) p q =
+    ap Ok (one_script p.tokens x y p.script (subst (λ (ts : List Token). Script ts y) (same_tokens text q.tokens p.tokens q.read p.read) q.script))
 one_answer text (Ok x) (Err g) p q = absurd (not_both text x g p q)
 one_answer text (Err f) (Ok y) p q = absurd (not_both text y f q p)
 one_answer text (Err f) (Err g) p q = ap Err (two_due text f g p q)
@@ -70,8 +76,8 @@ goes_through (t ∷ ts) front p ss e = at_token t ts front p ss e (λ q rs h. go
 
 answer_of_tokens : (text : List ℕ) → length text ≤ limit → IsUtf8 text → (a : Result (List Stmt) ScriptFault) → TokensGive (tokens_of text) a → IsAnswer text a
 unfolding TokensGive
-answer_of_tokens text short utf8 (Ok stmts) h = record { short = short; utf8 = utf8; script = h }
-answer_of_tokens text short utf8 (Err f) h = inr (inr (short, utf8, h))
+answer_of_tokens text short utf8 (Ok stmts) h = record { short = short; utf8 = utf8; tokens = tokens_of text; read = some_reading 1 text; script = h }
+answer_of_tokens text short utf8 (Err f) h = inr (inr (short, utf8, tokens_of text, some_reading 1 text, h))
 
 pub some_answer : (text : List ℕ) → (a : Result (List Stmt) ScriptFault) × IsAnswer text a
 some_answer text =

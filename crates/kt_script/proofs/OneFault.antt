@@ -14,7 +14,7 @@ use Rattle.kt_script.specs.declared.state.Step.{Step}
 use Rattle.kt_script.specs.declared.state.Step.TheVariants.{To, Ends}
 use Rattle.kt_script.specs.Grammar.{Statement, kinds, first_line, placed, Script}
 use Rattle.kt_script.specs.Faults.{Begins, fault_of, last, open_lines, end_fault, Misfit, Unfinished, IsFaultOf}
-use Rattle.kt_script.specs.Automaton.{step, landed, listed, run, IsResting}
+use Rattle.kt_script.specs.Inner.Automaton.{step, landed, listed, run, IsResting}
 use Rattle.kt_script.proofs.Complete.{walk, bind_some, joined, run-append, ends_is, name_from_resting, statement_walks, script_runs}
 use Rattle.kt_script.proofs.Standing.{Script-append, one_stmt, begins_from}
 

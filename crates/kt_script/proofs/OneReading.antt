@@ -10,11 +10,12 @@ use Rattle.kt_script.specs.declared.token.Token.{Token}
 use Rattle.std.specs.Prelude.{IfSome}
 use Rattle.std.proofs.lemmas.Bool.{eqb-true}
 use Rattle.std.proofs.Common.{eqb}
-use Rattle.kt_script.specs.Letters.{is_space}
-use Rattle.kt_script.specs.Pieces.{token, broken}
-use Rattle.kt_script.specs.Words.{begins_with_letter}
+use Rattle.kt_base.specs.Characters.{is_space}
+use Rattle.kt_script.specs.Inner.Pieces.{token, broken}
+use Rattle.kt_script.specs.Inner.Words.{begins_with_letter}
 use Rattle.kt_base.specs.Digits.{decimal_from}
-use Rattle.kt_script.specs.Tokens.{mark_of, piece_at, tokens, tokens_in, line_after, line_past}
+use Rattle.kt_script.specs.TokenRules.{mark_of, line_after, line_past}
+use Rattle.kt_script.specs.Inner.Tokens.{piece_at, tokens, tokens_in}
 use Rattle.kt_script.specs.TokenRules.{Blank, space, line_comment, long_comment, HasFlaw, large_number, lettered_number, endless_string, bad_escape, endless_comment, leveled_comment, lone_dash, strange, Word, a_name, a_number, a_string, a_mark, no_word, IsTokens, the_end, blank_and, word_and}
 use Rattle.kt_script.proofs.PieceTokens.{tokens-piece}
 use Rattle.kt_script.proofs.ReadWords.{at_strange, name_is, digits_are, number_is, large_is, lettered_is}
@@ -101,3 +102,7 @@ one_reading line text ts the_end = sym (tokens-none line)
 one_reading line text ts (blank_and {blank = b} {rest = rest} {ts = us} is more) = one_reading (line_past line b) rest us more ∙ sym (blank_step line b rest is)
 one_reading line text ts (word_and {bytes = w} {rest = rest} {kind = k} {ts = us} is more) =
     ap (λ (xs : List Token). record { line = line; kind = k } ∷ xs) (one_reading (line_past line w) rest us more) ∙ sym (read_step line w rest (Some k) (word_read w rest k is))
+
+-- a text has the same tokens each time
+pub same_tokens : (text : List ℕ) (ts us : List Token) → IsTokens 1 text ts → IsTokens 1 text us → ts ≡ us
+same_tokens text ts us p q = one_reading 1 text ts p ∙ sym (one_reading 1 text us q)

@@ -12,7 +12,8 @@ use Rattle.kt_script.specs.declared.token.Flaw.{Flaw}
 use Rattle.kt_script.specs.declared.token.Flaw.TheVariants.{Endless}
 use Rattle.kt_script.specs.declared.quotation.Stop.{Stop}
 use Rattle.kt_script.specs.declared.quotation.Stop.TheVariants.{Quote, Escape, Flawed}
-use Rattle.kt_script.specs.Strings.{with_front, escape_of, escape_stop, escape_at, stop_at, string_at, decoded, is_plain}
+use Rattle.kt_script.specs.Inner.Strings.{with_front, escape_stop, escape_at, stop_at, string_at, decoded}
+use Rattle.kt_script.specs.Letters.{escape_of, is_plain}
 use Rattle.kt_script.proofs.StringRuns.{with_front_twice, with_front_none, plain_run, no_more, after_stop, stops}
 
 -- ---- the reading of a string

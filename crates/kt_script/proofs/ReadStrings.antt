@@ -7,10 +7,11 @@ use Rattle.std.proofs.lemmas.List.{append-nil}
 use Rattle.kt_script.specs.declared.token.Flaw.{Flaw}
 use Rattle.kt_script.specs.declared.token.Flaw.TheVariants.{Bad, Leveled, Endless}
 use Rattle.kt_script.specs.declared.token.Kind.TheVariants.{Quoted}
-use Rattle.kt_script.specs.Pieces.{blank, token, broken}
-use Rattle.kt_script.specs.Strings.{with_front, escaped, escape_of, string_at, decoded, quoted}
-use Rattle.kt_script.specs.Comments.{closes_at, long_comment, comment_at}
-use Rattle.kt_script.specs.Tokens.{piece_at}
+use Rattle.kt_script.specs.Inner.Pieces.{blank, token, broken}
+use Rattle.kt_script.specs.Inner.Strings.{with_front, escaped, string_at, decoded, quoted}
+use Rattle.kt_script.specs.Letters.{escape_of}
+use Rattle.kt_script.specs.Inner.Comments.{closes_at, long_comment, comment_at}
+use Rattle.kt_script.specs.Inner.Tokens.{piece_at}
 use Rattle.kt_script.specs.TokenRules.{Each, StopsAt, is_quote, in_line, Inside, nothing, itself, escape, NoEscape, Closes, closed, not_yet, NeverCloses, opens_long, opens_level}
 use Rattle.kt_script.proofs.StringRuns.{with_front_twice, with_front_none, plain_is}
 use Rattle.kt_script.proofs.ReadWords.{quote_range, not_so, each_run, at_quote, at_dash}

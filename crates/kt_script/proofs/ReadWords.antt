@@ -5,13 +5,16 @@ use Rattle.std.proofs.Math.Seq.{take-append_seam, drop-append_seam}
 use Rattle.std.proofs.lemmas.Bool.{eqb-true, leb-true, and_parts, or_cases, le-ltb, lt-ltb}
 use Rattle.kt_script.specs.declared.token.Flaw.TheVariants.{Bad}
 use Rattle.kt_script.specs.declared.token.Kind.TheVariants.{Number}
-use Rattle.kt_script.specs.Letters.{is_space, is_letter, is_word}
+use Rattle.kt_base.specs.Characters.{is_space}
+use Rattle.kt_script.specs.Letters.{is_letter, is_word}
 use Rattle.kt_base.specs.Digits.{is_digit, decimal_from}
-use Rattle.kt_script.specs.Pieces.{token, broken}
-use Rattle.kt_script.specs.Words.{word, name_at, number, number_at, begins_with_letter, fits}
-use Rattle.kt_script.specs.Strings.{quoted_at}
-use Rattle.kt_script.specs.Comments.{comment_at}
-use Rattle.kt_script.specs.Tokens.{piece_at}
+use Rattle.kt_script.specs.Inner.Pieces.{token, broken}
+use Rattle.kt_script.specs.TokenRules.{word}
+use Rattle.kt_script.specs.Inner.Words.{name_at, number, number_at, begins_with_letter}
+use Rattle.kt_base.specs.Digits.{fits}
+use Rattle.kt_script.specs.Inner.Strings.{quoted_at}
+use Rattle.kt_script.specs.Inner.Comments.{comment_at}
+use Rattle.kt_script.specs.Inner.Tokens.{piece_at}
 use Rattle.kt_script.specs.TokenRules.{Each, StopsAt, is_quote, IsStrange}
 
 -- ---- classes

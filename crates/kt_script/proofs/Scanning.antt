@@ -2,7 +2,7 @@
 use Rattle.std.proofs.Common.{◌≡◌, ℕ, suc, ◌+◌, Bool, false, cond, List, ◌∷◌, length, Option, Some, None, refl, ap, sym, ◌∙◌, arith}
 use Rattle.std.specs.Prelude.{option_map, nat_eq, codes}
 use Rattle.std.specs.List.{starts_with}
-use Rattle.kt_script.specs.Comments.{closes_at}
+use Rattle.kt_script.specs.Inner.Comments.{closes_at}
 
 -- ---- the end of a comment
 

@@ -9,7 +9,7 @@ use Rattle.kt_script.specs.declared.syntax.Stmt.{Stmt}
 use Rattle.kt_script.specs.declared.state.State.{State}
 use Rattle.kt_script.specs.Grammar.{Script}
 use Rattle.kt_script.specs.Faults.{fault_of, last, open_lines, end_fault, IsFaultOf}
-use Rattle.kt_script.specs.Automaton.{step, next, listed, run, IsResting}
+use Rattle.kt_script.specs.Inner.Automaton.{step, next, listed, run, IsResting}
 use Rattle.kt_script.proofs.Complete.{some_is, joined, run-append, script_runs}
 use Rattle.kt_script.proofs.Standing.{Stands, whole_script, from_start, finished, stands_begins}
 

@@ -15,7 +15,7 @@ use Rattle.kt_script.specs.declared.state.Step.{Step}
 use Rattle.kt_script.specs.declared.state.Step.TheVariants.{To, Ends}
 use Rattle.kt_script.specs.Grammar.{Statement, kinds, placed, Script, no_stmts, stmt_and, ended_and}
 use Rattle.kt_script.specs.Faults.{Begins}
-use Rattle.kt_script.specs.Automaton.{step, begin, go_on, next, landed, listed, run}
+use Rattle.kt_script.specs.Inner.Automaton.{step, begin, go_on, next, landed, listed, run}
 use Rattle.kt_script.proofs.Complete.{bind_some, map_some, some_is, joined}
 use Rattle.kt_script.proofs.Ending.{Ending, EndsFrom}
 use Rattle.kt_script.proofs.EndingSteps.{step_goes, some_end}

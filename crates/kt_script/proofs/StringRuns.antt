@@ -5,7 +5,8 @@ use Rattle.std.proofs.lemmas.Bool.{cases_Bool, and_parts, not-true, eqb-true}
 use Rattle.kt_script.specs.declared.token.Flaw.{Flaw}
 use Rattle.kt_script.specs.declared.quotation.Stop.{Stop}
 use Rattle.kt_script.specs.declared.quotation.Stop.TheVariants.{Quote, Escape, Flawed}
-use Rattle.kt_script.specs.Strings.{with_front, escape_of, escaped, escape_stop, escape_at, stop_at, string_at, is_plain}
+use Rattle.kt_script.specs.Inner.Strings.{with_front, escaped, escape_stop, escape_at, stop_at, string_at}
+use Rattle.kt_script.specs.Letters.{escape_of, is_plain}
 
 pub with_front_twice : (xs ys : List ℕ) (n m : ℕ) (r : Result (List ℕ × ℕ) Flaw) → with_front xs n (with_front ys m r) ≡ with_front (xs ++ ys) (n + m) r
 with_front_twice xs ys n m (Ok x) =

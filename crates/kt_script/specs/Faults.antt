@@ -1,4 +1,4 @@
--- Where tokens that are no script go wrong.
+-- The faults of tokens that are not a script.
 use Rattle.std.specs.Prelude.{◌≡◌, ℕ, ◌-◌, length, take, slice_get, List, [], ◌∷◌, ◌++◌, Option, Some, None, Result, Ok, Err, ◌⊎◌}
 use Rattle.kt_script.specs.declared.fault.ScriptFault.{ScriptFault}
 use Rattle.kt_script.specs.declared.fault.ScriptFault.TheVariants.{NoMemory, BadToken, NotLiteral, Unclosed}
@@ -20,13 +20,13 @@ IfFault (Err fault) P = P fault
 abbrev pub Begins : List Token → Type 0
 Begins ts = (more : List Token) × (stmts : List Stmt) × Script (ts ++ more) stmts
 
--- what a token is told as that is broken or doesn't fit
+-- the fault of a token that is broken or doesn't fit
 abbrev pub own_fault : ℕ → Kind → ScriptFault
 own_fault line (Broken Bad) = BadToken line
 own_fault line (Broken Endless) = Unclosed line
 own_fault line _ = NotLiteral line
 
--- a token's own fault, and otherwise that it doesn't fit
+-- the fault at a token
 abbrev pub fault_of : Token → ScriptFault
 fault_of t = own_fault t.line t.kind
 
@@ -48,7 +48,7 @@ last lines = slice_get lines (length lines - 1)
 abbrev pub without_last : List ℕ → List ℕ
 without_last lines = take (length lines - 1) lines
 
--- the lines of the open brackets, behind one token more
+-- the lines of the open brackets after one more token
 abbrev pub after_bracket : List ℕ → ℕ → Kind → List ℕ
 after_bracket lines line OpenParen = lines ++ line ∷ []
 after_bracket lines line OpenBrace = lines ++ line ∷ []
@@ -63,7 +63,7 @@ abbrev pub open_lines : List ℕ → List Token → List ℕ
 open_lines lines [] = lines
 open_lines lines (t ∷ ts) = open_lines (after_bracket lines t.line t.kind) ts
 
--- the last bracket that is open, and otherwise the statement, which begins on this line
+-- an open bracket is unclosed; without one, the statement that begins on this line is not finished
 abbrev pub end_fault : Option ℕ → ℕ → ScriptFault
 end_fault None line = NotLiteral line
 end_fault (Some bracket) line = Unclosed bracket
@@ -80,7 +80,7 @@ pub record Unfinished (ts : List Token) (fault : ScriptFault) : Type 0 where
   pub statement : Statement (kinds (begun ++ more)) action
   pub is : fault ≡ end_fault (last (open_lines [] ts)) (first_line begun)
 
--- the tokens are no script, and this is their fault
+-- the tokens are not a script, and this is their fault
 pub record IsFaultOf (ts : List Token) (fault : ScriptFault) : Type 0 where
   pub no_script : (stmts : List Stmt) → Script ts stmts → ⊥
   pub is : Misfit ts fault ⊎ Unfinished ts fault

@@ -1,15 +1,19 @@
 -- Classes of bytes.
-use Rattle.std.specs.Prelude.{ℕ, Bool, nat_le, ◌==◌, ◌&&◌, ◌||◌}
+use Rattle.std.specs.Prelude.{ℕ, Bool, not, nat_le, ◌==◌, ◌&&◌, ◌||◌, Option, Some, None, if◌then◌else◌}
 use Rattle.kt_base.specs.Digits.{is_digit}
-
--- the space and bytes 9 to 13
-abbrev pub is_space : ℕ → Bool
-is_space c = c == 32 || (nat_le 9 c && nat_le c 13)
 
 -- a letter or an underscore
 abbrev pub is_letter : ℕ → Bool
 is_letter c = (nat_le 97 c && nat_le c 122) || (nat_le 65 c && nat_le c 90) || c == 95
 
--- what a name goes on with
+-- a byte of a name after its first
 abbrev pub is_word : ℕ → Bool
 is_word c = is_letter c || is_digit c
+
+-- a byte of a string that stands for itself
+abbrev pub is_plain : ℕ → ℕ → Bool
+is_plain quote c = not (c == quote) && not (c == 10) && not (c == 92)
+
+-- the byte that a backslash and this byte stand for: newline, tab, backslash or a quote
+abbrev pub escape_of : ℕ → Option ℕ
+escape_of c = if c == 110 then Some 10 else if c == 116 then Some 9 else if c == 92 || c == 39 || c == 34 then Some c else None

@@ -1,14 +1,8 @@
 pub mod Letters
-pub mod Pieces
-pub mod Words
-pub mod Strings
-pub mod Comments
-pub mod Tokens
 pub mod Grammar
-pub mod Automaton
 pub mod Faults
-pub mod Places
-pub mod Reading
-pub mod Spelling
+pub mod FaultWords
 pub mod TokenRules
+pub mod Spelling
 pub mod LiteralText
+pub mod Inner

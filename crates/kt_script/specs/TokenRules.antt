@@ -1,24 +1,48 @@
 -- The tokens of a text, by rules: white space, comments and tokens one after the other, to its end.
-use Rattle.std.specs.Prelude.{◌≡◌, ℕ, ◌<◌, ◌≤◌, ◌^◌, ◌==◌, ◌||◌, ◌&&◌, Bool, true, false, not, nat_eq, codes, List, [], ◌∷◌, ◌++◌, drop, Some, None, chars}
-use Rattle.std.specs.List.{starts_with}
+use Rattle.std.specs.Prelude.{◌≡◌, ℕ, ◌+◌, ◌<◌, ◌≤◌, ◌^◌, ◌==◌, ◌||◌, ◌&&◌, Bool, true, false, not, nat_eq, bytes_eq, codes, List, [], ◌∷◌, ◌++◌, drop, Option, Some, None, chars, if◌then◌else◌}
+use Rattle.std.specs.List.{starts_with, prefix_len}
+use Rattle.kt_base.specs.Characters.{is_space}
+use Rattle.kt_base.specs.Digits.{is_digit, decimal_from}
 use Rattle.kt_script.specs.declared.token.Flaw.{Flaw}
 use Rattle.kt_script.specs.declared.token.Flaw.TheVariants.{Bad, Leveled, Endless}
 use Rattle.kt_script.specs.declared.token.Kind.{Kind}
-use Rattle.kt_script.specs.declared.token.Kind.TheVariants.{Quoted, Number, Broken}
+use Rattle.kt_script.specs.declared.token.Kind.TheVariants.{Name, Quoted, Number, Truth, OpenParen, CloseParen, OpenBrace, CloseBrace, OpenBracket, CloseBracket, Equals, Comma, Semicolon, Dot, Broken}
 use Rattle.kt_script.specs.declared.token.Token.{Token}
-use Rattle.kt_script.specs.Letters.{is_space, is_letter, is_word}
-use Rattle.kt_base.specs.Digits.{is_digit, decimal_from}
-use Rattle.kt_script.specs.Words.{word}
-use Rattle.kt_script.specs.Strings.{is_plain, escape_of}
-use Rattle.kt_script.specs.Comments.{is_level}
-use Rattle.kt_script.specs.Tokens.{mark_of, line_past}
+use Rattle.kt_script.specs.Letters.{is_letter, is_word, is_plain, escape_of}
+
+-- `( ) { } [ ] = , ; .`
+abbrev pub mark_of : ℕ → Option Kind
+mark_of c =
+    if c == 40 then Some OpenParen else if c == 41 then Some CloseParen
+    else if c == 123 then Some OpenBrace else if c == 125 then Some CloseBrace
+    else if c == 91 then Some OpenBracket else if c == 93 then Some CloseBracket
+    else if c == 61 then Some Equals else if c == 44 then Some Comma
+    else if c == 59 then Some Semicolon else if c == 46 then Some Dot
+    else None
+
+-- the truth value or the name that letters are
+abbrev pub word : List ℕ → Kind
+word letters = if bytes_eq letters (codes "true") then Truth true else if bytes_eq letters (codes "false") then Truth false else Name (chars letters)
+
+-- one or more `=`, and `[`
+abbrev pub is_level : List ℕ → Bool
+is_level text = starts_with nat_eq text (codes "=") && starts_with nat_eq (drop (prefix_len (λ c. c == 61) text) text) (codes "[")
+
+-- the line after a byte
+abbrev pub line_after : ℕ → ℕ → ℕ
+line_after line c = if c == 10 then line + 1 else line
+
+-- the line after these bytes
+abbrev pub line_past : ℕ → List ℕ → ℕ
+line_past line [] = line
+line_past line (c ∷ cs) = line_past (line_after line c) cs
 
 -- each of these bytes passes
 abbrev pub Each : (ℕ → Bool) → List ℕ → Type 0
 Each p [] = Unit {0}
 Each p (c ∷ cs) = (p c ≡ true) × Each p cs
 
--- the first byte, if there is one, does not
+-- the first byte, if there is one, does not pass
 abbrev pub StopsAt : (ℕ → Bool) → List ℕ → Type 0
 StopsAt p [] = Unit {0}
 StopsAt p (c ∷ cs) = p c ≡ false
@@ -37,7 +61,7 @@ pub data Inside (quote : ℕ) : List ℕ → List ℕ → Type 0 where
   itself : {c : ℕ} {cs bytes : List ℕ} → is_plain quote c ≡ true → Inside quote cs bytes → Inside quote (c ∷ cs) (c ∷ bytes)
   escape : {c d : ℕ} {cs bytes : List ℕ} → escape_of c ≡ Some d → Inside quote cs bytes → Inside quote (92 ∷ c ∷ cs) (d ∷ bytes)
 
--- after a backslash: no byte that makes an escape with it
+-- no escape begins with a backslash before these bytes
 abbrev pub NoEscape : List ℕ → Type 0
 NoEscape [] = Unit {0}
 NoEscape (c ∷ cs) = escape_of c ≡ None
@@ -52,21 +76,21 @@ abbrev pub NeverCloses : List ℕ → Type 0
 NeverCloses [] = Unit {0}
 NeverCloses (c ∷ cs) = (starts_with nat_eq (c ∷ cs) (codes "]]") ≡ false) × NeverCloses cs
 
--- `[[`, behind `--`
+-- `[[`, after `--`
 abbrev pub opens_long : List ℕ → Bool
 opens_long text = starts_with nat_eq text (codes "[[")
 
--- `[`, one or more `=`, and `[`, behind `--`
+-- `[`, one or more `=`, and `[`, after `--`
 abbrev pub opens_level : List ℕ → Bool
 opens_level text = starts_with nat_eq text (codes "[") && is_level (drop 1 text)
 
--- bytes that are no token, and what follows them: a byte of white space, and both kinds of comment
+-- bytes that are not a token, and what follows them: a byte of white space, or a comment of either kind
 pub data Blank : List ℕ → List ℕ → Type 0 where
   space : {c : ℕ} {after : List ℕ} → is_space c ≡ true → Blank (c ∷ []) after
   line_comment : {words after : List ℕ} → opens_long (words ++ after) ≡ false → opens_level (words ++ after) ≡ false → Each in_line words → StopsAt in_line after → Blank (45 ∷ 45 ∷ words) after
   long_comment : {words after : List ℕ} → Closes words after → Blank (45 ∷ 45 ∷ 91 ∷ 91 ∷ words) after
 
--- a byte that nothing begins with
+-- a byte that begins no token, comment or white space
 pub record IsStrange (c : ℕ) : Type 0 where
   pub no_space : is_space c ≡ false
   pub no_letter : is_letter c ≡ false
@@ -75,7 +99,7 @@ pub record IsStrange (c : ℕ) : Type 0 where
   pub no_dash : c == 45 ≡ false
   pub no_mark : mark_of c ≡ None
 
--- a text that begins with no token, and what is wrong there
+-- a text that does not begin with a token, and what is wrong with it
 pub data HasFlaw : List ℕ → Flaw → Type 0 where
   large_number : (c : ℕ) (cs after : List ℕ) → Each is_digit (c ∷ cs) → StopsAt is_digit after → 2 ^ 64 ≤ decimal_from 0 (c ∷ cs) → HasFlaw ((c ∷ cs) ++ after) Bad
   lettered_number : (c d : ℕ) (cs after : List ℕ) → Each is_digit (c ∷ cs) → is_letter d ≡ true → HasFlaw ((c ∷ cs) ++ d ∷ after) Bad

@@ -1,13 +1,15 @@
-//! Comments, and what begins with a `-` and is none.
+//! Comments, and what begins with a `-` but is not a comment.
 
-ghost use Rattle.std.specs.Prelude.{◌≡◌, ℕ, ◌+◌, ◌≤◌, not, ◌==◌, length, IfSome};
+ghost use Rattle.std.specs.Prelude.{◌≡◌, ℕ, ◌+◌, ◌≤◌, ◌==◌, length, IfSome};
 ghost use Rattle.std.specs.List.{prefix_len};
-ghost use Rattle.kt_script.specs.Comments.{closes_at, is_level, comment_at};
+ghost use Rattle.kt_script.specs.Inner.Comments.{closes_at, comment_at};
+ghost use Rattle.kt_script.specs.TokenRules.{is_level};
 
 use crate::piece::Piece;
 use crate::token::Flaw;
+use kt_base::line_length;
 
-/// How many bytes there are up to the next `]]`, and with it.
+/// The length of a text up to the end of its first `]]`.
 fn closes(text: &[u8]) -> Option<usize>
     ensures value { result ≡ closes_at text.now }
     ensures within { IfSome result (λ end. end ≤ length text.now) }
@@ -31,15 +33,7 @@ fn equals_length(text: &[u8]) -> usize
     text.iter().take_while(|c| **c == b'=').count()
 }
 
-/// How many bytes there are up to the line's end.
-fn line_length(text: &[u8]) -> usize
-    ensures value { result ≡ prefix_len (λ c. not (c == 10)) text.now }
-    ensures within { result ≤ length text.now }
-{
-    text.iter().take_while(|c| **c != b'\n').count()
-}
-
-/// One or more `=`, and `[`.
+/// Whether one or more `=` and a `[` come next.
 fn is_level(text: &[u8]) -> bool
     ensures { result ≡ is_level text.now }
 {
@@ -47,7 +41,7 @@ fn is_level(text: &[u8]) -> bool
     text.starts_with(b"=") && after.starts_with(b"[")
 }
 
-/// The comment that begins here.
+/// The comment at the beginning of a text.
 pub fn comment(text: &[u8]) -> Piece
     ensures { result ≡ comment_at text.now }
 {

@@ -4,28 +4,41 @@ ghost use Rattle.kt_script.specs.declared.fault.ScriptFault.TheVariants as fault
 use kt_base::NoMemory;
 use thiserror::Error;
 
-/// Why a text was refused. A number is a line, counted from 1: of the token that has the fault or has no place,
-/// of what was opened and not closed, or of the statement that was not finished. `Display` is the text of a fault line (this
-/// profile), which tells the line in another place.
+/// Why a text was refused. A number is a line, counted from 1: the line of the token that is at
+/// fault, of what was opened and not closed, or of the statement that was not finished.
 #[derive(Clone, Copy, Debug, PartialEq, Eq, Error)]
+#[error("{}", self.words())]
 pub enum ScriptFault {
-    #[error("out of memory")]
     NoMemory(NoMemory),
-    /// The bytes are no UTF-8.
-    #[error("not UTF-8")]
+    /// The bytes are not UTF-8.
     NotUtf8,
     /// A byte, a number or an escape that this profile doesn't have.
-    #[error("bad token")]
     BadToken(u32),
-    /// Lua, but not of the literal profile, or no Lua at all.
-    #[error("not in the literal profile")]
+    /// Lua outside the literal profile, or not Lua at all.
     NotLiteral(u32),
     /// A string, a comment or a bracket that isn't closed.
-    #[error("unclosed string, comment or bracket")]
     Unclosed(u32),
-    /// Over 1,048,576 bytes.
-    #[error("file too long")]
+    /// More than 1,048,576 bytes.
     TooLong,
+}
+
+impl ScriptFault {
+    ghost use Rattle.kt_script.specs.FaultWords.{script_words};
+
+    /// The words of the fault's line (this profile), which prints the line number itself. `Display`
+    /// prints them.
+    pub fn words(&self) -> &'static str
+        ensures { result.now ≡ script_words self.now }
+    {
+        match self {
+            ScriptFault::NoMemory(_) => "out of memory",
+            ScriptFault::NotUtf8 => "not UTF-8",
+            ScriptFault::BadToken(_) => "bad token",
+            ScriptFault::NotLiteral(_) => "not in the literal profile",
+            ScriptFault::Unclosed(_) => "unclosed string, comment or bracket",
+            ScriptFault::TooLong => "file too long",
+        }
+    }
 }
 
 impl From<NoMemory> for ScriptFault {

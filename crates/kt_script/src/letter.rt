@@ -1,7 +1,8 @@
 //! Classes of bytes.
 
 ghost use Rattle.std.specs.Prelude.{◌≡◌};
-ghost use Rattle.kt_script.specs.Letters.{is_space, is_letter, is_word};
+ghost use Rattle.kt_base.specs.Characters.{is_space};
+ghost use Rattle.kt_script.specs.Letters.{is_letter, is_word};
 
 use kt_base::is_digit;
 

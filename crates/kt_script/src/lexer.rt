@@ -2,8 +2,9 @@
 
 ghost use Rattle.std.specs.Prelude.{◌≡◌, ℕ, ◌≤◌, length, IfOk};
 ghost use Rattle.std.specs.List.{prefix_len};
-ghost use Rattle.kt_script.specs.Letters.{is_space};
-ghost use Rattle.kt_script.specs.Tokens.{mark_of, marked, piece_at};
+ghost use Rattle.kt_base.specs.Characters.{is_space};
+ghost use Rattle.kt_script.specs.TokenRules.{mark_of};
+ghost use Rattle.kt_script.specs.Inner.Tokens.{marked, piece_at};
 
 use crate::comment::comment;
 use crate::letter::{is_letter, is_space};
@@ -48,8 +49,8 @@ fn marked(text: &[u8], c: u8) -> Piece
     }
 }
 
-#[tactic(auto, unfolding(crate::specs::Tokens::piece_at))]
-/// What begins here: white space, a comment or a token.
+/// The piece at the beginning of a text: white space, a comment or a token.
+#[tactic(auto, unfolding(crate::specs::Inner::Tokens::piece_at))]
 pub fn next_piece(alloc: Global, text: &str) -> Result<Piece, NoMemory>
     ensures { IfOk result (λ piece. piece ≡ piece_at text.now) }
 {

@@ -1,4 +1,4 @@
-//! The literal profile of Lua: scripts of calls and assignments whose values are written out.
+//! The literal profile of Lua: scripts of calls and assignments with literal values.
 #![tactic(auto)]
 
 mod comment;

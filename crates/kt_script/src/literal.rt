@@ -1,10 +1,9 @@
 ghost use Rattle.std.specs.Prelude.{◌≡◌, IfOk};
-ghost use Rattle.std.specs.Fmt.{decimal};
 
 use kt_base::{NoMemory, Text};
 use std::alloc::Global;
 
-/// A value that is written out (kyuafile(5): strings, numbers and truth values).
+/// A literal value: a string, a number or a truth value (kyuafile(5)).
 #[derive(Debug, Drop)]
 pub enum Literal {
     /// The characters of a string, its escapes replaced.
@@ -24,15 +23,9 @@ impl Literal {
     {
         match self {
             Literal::Text(text) => text.copy(),
-            Literal::Number(number) => number_text(alloc, *number),
-            Literal::Truth(true) => Text::from_characters(alloc, &['t', 'r', 'u', 'e']),
-            Literal::Truth(false) => Text::from_characters(alloc, &['f', 'a', 'l', 's', 'e']),
+            Literal::Number(number) => Text::from_number(alloc, *number),
+            Literal::Truth(true) => Text::from_str(alloc, "true"),
+            Literal::Truth(false) => Text::from_str(alloc, "false"),
         }
     }
-}
-
-fn number_text(alloc: Global, number: u64) -> Result<Text, NoMemory>
-    ensures { IfOk result (λ text. text ≡ decimal number) }
-{
-    Ok(Text::from_string(number.to_string(alloc)?))
 }

@@ -1,7 +1,7 @@
 //! The reader of tokens.
 
 ghost use Rattle.std.specs.Prelude.{◌≡◌, ℕ, List, [], ◌∷◌, ◌++◌, None, IfOk, OnOk, IfErr};
-ghost use Rattle.kt_script.specs.Automaton.{next, IsResting};
+ghost use Rattle.kt_script.specs.Inner.Automaton.{next, IsResting};
 ghost use Rattle.kt_script.specs.Faults.{IfFault, fault_of, last, after_bracket, end_fault};
 
 use crate::fault::ScriptFault;
@@ -11,7 +11,7 @@ use crate::token::{Kind, Token};
 use kt_base::{Items, NoMemory};
 use std::alloc::Global;
 
-/// Keeps the lines of the brackets that are open, the last one at the end.
+/// Updates the lines of the open brackets, the last one at the end.
 fn follow(brackets: &mut Vec<u32>, line: u32, kind: &Kind) -> Result<(), NoMemory>
     ensures { OnOk result (brackets.new.items ≡ after_bracket brackets.old.items line kind.now) }
 {
@@ -25,7 +25,7 @@ fn follow(brackets: &mut Vec<u32>, line: u32, kind: &Kind) -> Result<(), NoMemor
     Ok(())
 }
 
-/// What was read of a script beside the place where the reading stands.
+/// What was read of a script, but for the place that it led to.
 #[derive(Drop)]
 pub struct Parser {
     /// The lines of the brackets that are open.
@@ -34,8 +34,8 @@ pub struct Parser {
 }
 
 impl Parser {
-    ghost use Rattle.kt_script.specs.Reading.{HasRead};
-    ghost use Rattle.kt_script.specs.Places.{IsWithin};
+    ghost use Rattle.kt_script.specs.Inner.Reading.{HasRead};
+    ghost use Rattle.kt_script.specs.Inner.Places.{IsWithin};
     ghost use Rattle.kt_script.specs.declared.place.Place.TheVariants.{Start};
     ghost use Rattle.kt_script.specs.declared.token.Token.{Token};
 
@@ -48,7 +48,7 @@ impl Parser {
         }
     }
 
-    /// Reads one more token at a place, and gives the place where it leads.
+    /// Reads one more token at a place. Returns the place where it leads.
     pub fn feed(&mut self, alloc: Global, place: Place, token: Token) -> Result<Place, ScriptFault>
         ensures ok { IfOk result (λ after. (read : List Token) → HasRead place self.old read
             → HasRead after self.new (read ++ token ∷ [])) }
@@ -63,7 +63,7 @@ impl Parser {
         }
     }
 
-    /// The statements that were read up to this place.
+    /// The statements that were read, if the script may end at this place.
     pub fn finish(self, place: &Place) -> Result<Items<Stmt>, ScriptFault>
         ensures ok { IfOk result (λ statements. IsResting place.now
             × (statements ≡ self.statements)) }

@@ -2,7 +2,7 @@ ghost use Rattle.std.specs.Prelude.{◌≡◌, ℕ, length};
 
 use crate::token::{Flaw, Kind};
 
-/// What begins at a place of a text: so many bytes, and the token that they are, if they are one.
+/// The beginning of a text: its length in bytes, and its token, if it is one.
 #[derive(Drop)]
 pub struct Piece {
     pub length: usize,
@@ -10,7 +10,7 @@ pub struct Piece {
 }
 
 impl Piece {
-    ghost use Rattle.kt_script.specs.Pieces.{blank, token, broken};
+    ghost use Rattle.kt_script.specs.Inner.Pieces.{blank, token, broken};
 
     pub fn blank(length: usize) -> Piece
         ensures { result ≡ blank length }
@@ -27,7 +27,7 @@ impl Piece {
         }
     }
 
-    /// A token that can't be read takes the rest of the text.
+    /// A token that can't be read. It takes the rest of the text.
     pub fn broken(text: &[u8], flaw: Flaw) -> Piece
         ensures { result ≡ broken text.now flaw }
     {

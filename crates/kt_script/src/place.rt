@@ -1,7 +1,7 @@
-//! Where in a script the reading stands.
+//! The place in a script that the tokens read so far led to.
 
 ghost use Rattle.std.specs.Prelude.{◌≡◌, ◌++◌, IfOk, OnOk, MatchOption};
-ghost use Rattle.kt_script.specs.Automaton.{begin, go_on, next, place_of, ended_by, IsResting};
+ghost use Rattle.kt_script.specs.Inner.Automaton.{begin, go_on, next, place_of, ended_by, IsResting};
 
 use crate::state::{State, Step};
 use crate::syntax::Stmt;
@@ -9,12 +9,12 @@ use crate::token::{Kind, Token};
 use kt_base::{Items, NoMemory};
 use std::alloc::Global;
 
-/// Where in a script the tokens so far lead.
+/// A place in a script.
 #[derive(Drop)]
 pub enum Place {
     /// Before a statement.
     Start,
-    /// After a statement, which a `;` may end.
+    /// After a statement; a `;` may follow.
     Whole,
     /// Within the statement that begins on a line.
     Within(u32, State),
@@ -40,9 +40,9 @@ fn go_on(line: u32, kind: Kind) -> Option<Place>
 }
 
 impl Place {
-    ghost use Rattle.kt_script.specs.Places.{IsWithin};
+    ghost use Rattle.kt_script.specs.Inner.Places.{IsWithin};
 
-    /// The line of the statement that was begun.
+    /// The line of the statement that is not finished, if there is one.
     pub fn line(&self) -> Option<u32>
         ensures { MatchOption result (IsResting self.now) (λ line. IsWithin self.now line) }
     {
@@ -52,7 +52,8 @@ impl Place {
         }
     }
 
-    /// Where a token leads, or `None` where it doesn't fit. The statement that it ends goes last in the list.
+    /// Where a token leads, or `None` if it doesn't fit. A statement that it ends is appended to
+    /// the list.
     pub fn next(
         self,
         alloc: Global,

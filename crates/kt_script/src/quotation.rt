@@ -3,19 +3,20 @@
 ghost use Rattle.std.specs.Prelude.{◌≡◌, ℕ, ◌+◌, ◌<◌, ◌≤◌, ◌∷◌, false, length, drop, IfOk};
 ghost use Rattle.std.specs.Str.{IsCharBoundary};
 ghost use Rattle.std.specs.List.{prefix_len};
-ghost use Rattle.kt_script.specs.Strings.{is_plain, escape_of, stop_at, escape_at, string_at, decoded, quoted_at};
+ghost use Rattle.kt_script.specs.Letters.{is_plain, escape_of};
+ghost use Rattle.kt_script.specs.Inner.Strings.{stop_at, escape_at, string_at, decoded, quoted_at};
 
 use crate::piece::Piece;
 use crate::token::{Flaw, Kind};
 use kt_base::{NoMemory, Text};
 use std::alloc::Global;
 
-/// Where the bytes of a string that stand for themselves end.
+/// What ends a run of bytes that stand for themselves.
 #[derive(Drop)]
 enum Stop {
     /// The string's last quote.
     Quote,
-    /// A backslash, and the character that it stands for with the byte after it.
+    /// A backslash and the byte after it, which stand for this character.
     Escape(char),
     Flawed(Flaw),
 }
@@ -31,7 +32,7 @@ fn escape(c: u8) -> Option<char>
     }
 }
 
-/// Up to the first byte that may not stand for itself.
+/// How many bytes stand for themselves at the beginning of a text.
 fn plain_length(quote: u8, text: &[u8]) -> usize
     ensures value { result ≡ prefix_len (is_plain quote) text.now }
     ensures within { result ≤ length text.now }
@@ -68,7 +69,8 @@ fn escape_stop(text: &[u8]) -> Stop
     }
 }
 
-/// What a string holds after its first quote, and how many bytes it takes there, with its last quote.
+/// The text of a string after its first quote, and how many bytes it takes, including its last
+/// quote.
 fn string(alloc: Global, quote: u8, text: &str) -> Result<Result<(Text, usize), Flaw>, NoMemory>
     requires { quote < 128 }
     ensures value { IfOk result (λ read. read ≡ decoded (string_at quote false text.now)) }
@@ -90,7 +92,7 @@ fn string(alloc: Global, quote: u8, text: &str) -> Result<Result<(Text, usize), 
     }
 }
 
-/// The string that begins here, with this quote.
+/// The string at the beginning of a text, where this quote stands.
 pub fn quoted(alloc: Global, quote: u8, text: &str) -> Result<Piece, NoMemory>
     requires first { text.now ≡ quote ∷ drop 1 text.now }
     requires small { quote < 128 }

@@ -3,10 +3,11 @@
 ghost use Rattle.std.specs.Prelude.{◌≡◌, ◌+◌, ◌≤◌, ◌<◌, ◌^◌, ◌++◌, List, length, IfOk};
 ghost use Rattle.kt_script.specs.Faults.{IfFault, IsFaultOf};
 ghost use Rattle.kt_script.specs.Grammar.{Script};
-ghost use Rattle.kt_script.specs.Tokens.{tokens, tokens_in, line_past};
+ghost use Rattle.kt_script.specs.Inner.Tokens.{tokens, tokens_in};
+ghost use Rattle.kt_script.specs.TokenRules.{line_past};
 ghost use Rattle.kt_script.specs.Spelling.{limit, Spells, IsDue, Answers, Refuses};
 ghost use Rattle.kt_script.specs.declared.fault.ScriptFault.{ScriptFault};
-ghost use Rattle.kt_script.specs.Reading.{HasRead, IsMisfit};
+ghost use Rattle.kt_script.specs.Inner.Reading.{HasRead, IsMisfit};
 ghost use Rattle.kt_script.specs.declared.syntax.Stmt.{Stmt};
 ghost use Rattle.kt_script.specs.declared.token.Token.{Token};
 
@@ -29,17 +30,15 @@ fn line_past(from: u32, text: &[u8]) -> u32
     ensures within { result ≤ from + length text.now }
 {
     let mut line = from;
-    let mut rest = text;
-    while let Some((c, after)) = rest.split_first() {
+    for c in text {
         if *c == b'\n' {
             line += 1;
         }
-        rest = after;
     }
     line
 }
 
-/// Reads the token of a piece, if it is one, at a place.
+/// Reads the token of a piece, if it is one. Returns the place where it leads.
 fn feed_piece(
     alloc: Global,
     parser: &mut Parser,
@@ -76,15 +75,16 @@ fn statements(alloc: Global, text: &str) -> Result<Items<Stmt>, ScriptFault>
     parser.finish(&place)
 }
 
-/// The statements that a text spells (kyuafile(5), Lua's calls and assignments of values that are written out).
+/// The statements that a text spells: calls and assignments of Lua whose values are written out
+/// (kyuafile(5)).
 pub fn parse(alloc: Global, text: &[u8]) -> Result<Items<Stmt>, ScriptFault>
-    // What is accepted is spelled.
+    // An accepted text spells these statements.
     ensures accepted { IfOk result (λ stmts. Spells text.now stmts) }
-    // What is spelled is accepted, unless memory runs out.
+    // A text that spells statements is accepted, unless memory runs out.
     ensures only { (stmts : List Stmt) → Spells text.now stmts → Answers result stmts }
-    // What is refused for another reason than memory has this fault.
+    // A text that is refused, unless memory ran out, has this fault.
     ensures refused { IfFault result (λ fault. IsDue text.now fault) }
-    // What has a fault is refused for it, unless memory runs out.
+    // A text with a fault is refused for it, unless memory runs out.
     ensures due { (fault : ScriptFault) → IsDue text.now fault → Refuses result fault }
 {
     if text.len() > LIMIT {

@@ -1,7 +1,7 @@
-//! How far a statement was read, and where each token leads from there.
+//! How far a statement was read, and where each token leads.
 
 ghost use Rattle.std.specs.Prelude.{◌≡◌, [], ◌∷◌, ◌++◌, IfOk};
-ghost use Rattle.kt_script.specs.Automaton.{value_of, after_name, after_paren, after_arg, closed, after_comma, after_key_opened, after_key_quoted, after_key, after_key_equals, after_pair, after_dot, after_path_opened, after_path_quoted, after_path, after_path_equals, step};
+ghost use Rattle.kt_script.specs.Inner.Automaton.{value_of, after_name, after_paren, after_arg, closed, after_comma, after_key_opened, after_key_quoted, after_key, after_key_equals, after_pair, after_dot, after_path_opened, after_path_quoted, after_path, after_path_equals, step};
 
 use crate::literal::Literal;
 use crate::syntax::{Action, Arg, Pair};
@@ -17,7 +17,7 @@ pub struct Table {
     pub pairs: Items<Pair>,
 }
 
-/// What of a statement was read last.
+/// What was read last of a statement.
 #[derive(Drop)]
 pub enum State {
     /// The first name of a statement.
@@ -59,7 +59,7 @@ pub enum Step {
 }
 
 impl State {
-    /// Where a token leads, or `None` where it doesn't fit.
+    /// Where a token leads, or `None` if it doesn't fit.
     pub fn step(self, alloc: Global, kind: Kind) -> Result<Option<Step>, NoMemory>
         ensures { IfOk result (λ to. to ≡ step self kind) }
     {
@@ -158,7 +158,7 @@ impl Table {
         }
     }
 
-    /// What the `}` leads to.
+    /// Where the `}` leads.
     fn close(self) -> Step
         ensures { result ≡ closed self }
     {

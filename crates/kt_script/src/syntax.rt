@@ -12,16 +12,16 @@ pub struct Pair {
 #[derive(Debug, Drop)]
 pub enum Arg {
     Value(Literal),
-    /// The pairs in the order in which they are written; a name may stand there again.
+    /// The pairs in the order of the text. A name may occur several times.
     Table(Items<Pair>),
 }
 
-/// What a statement asks for.
+/// What a statement does.
 #[derive(Debug, Drop)]
 pub enum Action {
     /// A function's name and its one argument.
     Call(Text, Arg),
-    /// The parts of a path, one or more, and the value that it is to have.
+    /// The parts of a path, one or more, and its new value.
     Assign(Items<Text>, Literal),
 }
 

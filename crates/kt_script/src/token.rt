@@ -6,11 +6,11 @@ use kt_base::Text;
 /// What is wrong with a token by itself.
 #[derive(Clone, Copy)]
 pub enum Flaw {
-    /// No token of the profile.
+    /// Not a token of the profile.
     Bad,
     /// A long bracket with a level.
     Leveled,
-    /// A string or a comment without its end.
+    /// A string or a comment that isn't closed.
     Endless,
 }
 
@@ -31,11 +31,11 @@ pub enum Kind {
     Comma,
     Semicolon,
     Dot,
-    /// No token of a script: no rule of the grammar mentions it.
+    /// Not a token of a script: no rule of the grammar mentions it.
     Broken(Flaw),
 }
 
-/// A token, and the line on which it begins.
+/// A token with the line on which it begins.
 #[derive(Drop)]
 pub struct Token {
     pub line: u32,
@@ -45,7 +45,7 @@ pub struct Token {
 impl Token {
     ghost use Rattle.kt_script.specs.Faults.{fault_of};
 
-    /// What is wrong where the token doesn't fit.
+    /// The fault of a script in which the token doesn't fit.
     pub fn fault(&self) -> ScriptFault
         ensures { result ≡ fault_of self.now }
     {

@@ -4,7 +4,9 @@ ghost use Rattle.std.specs.Prelude.{◌≡◌, ℕ, ◌+◌, ◌<◌, ◌≤◌,
 ghost use Rattle.std.specs.List.{prefix_len};
 ghost use Rattle.kt_script.specs.Letters.{is_letter, is_word};
 ghost use Rattle.kt_base.specs.Digits.{decimal_from};
-ghost use Rattle.kt_script.specs.Words.{word, fits, begins_with_letter, name_at, number_at};
+ghost use Rattle.kt_script.specs.TokenRules.{word};
+ghost use Rattle.kt_base.specs.Digits.{fits};
+ghost use Rattle.kt_script.specs.Inner.Words.{begins_with_letter, name_at, number_at};
 
 use crate::letter::{is_letter, is_word};
 use crate::piece::Piece;
@@ -31,7 +33,7 @@ fn word(alloc: Global, letters: &str) -> Result<Kind, NoMemory>
     Ok(Kind::Name(Text::from_str(alloc, letters)?))
 }
 
-/// The name or the truth value that begins here.
+/// The name or truth value at the beginning of a text.
 pub fn name(alloc: Global, text: &str) -> Result<Piece, NoMemory>
     ensures { IfOk result (λ piece. piece ≡ name_at text.now) }
 {
@@ -49,13 +51,10 @@ fn decimal(digits: &[u8]) -> Option<u64>
 fn begins_with_letter(text: &[u8]) -> bool
     ensures { result ≡ begins_with_letter text.now }
 {
-    match text.first() {
-        None => false,
-        Some(c) => is_letter(*c),
-    }
+    text.first().is_some_and(|c| is_letter(*c))
 }
 
-/// The number that begins here.
+/// The number at the beginning of a text.
 pub fn number(text: &[u8]) -> Piece
     ensures { result ≡ number_at text.now }
 {

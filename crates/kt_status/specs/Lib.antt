@@ -1,2 +1,2 @@
+pub mod Inner
 pub mod Tables
-pub mod Verdicts

@@ -1,4 +1,4 @@
--- The verdict tables, row by row: a relation for each table, with a case for each row.
+-- The verdict tables: a relation for each table, with a case for each row. The first row that fits decides.
 use Rattle.std.specs.Prelude.{◌≡◌, ℕ, ◌<◌, ◌≤◌, Bool, false, List, ◌++◌, codes, Option, Some, None}
 use Rattle.std.specs.Fmt.{decimal}
 use Rattle.kt_base.specs.declared.outcome.Outcome.{Outcome}
@@ -12,14 +12,34 @@ use Rattle.kt_base.specs.Verdicts.{Judged}
 use Rattle.kt_claim.specs.declared.claim.Claim.{Claim}
 use Rattle.kt_claim.specs.declared.claim.Claim.TheVariants.{Missing, Unreadable, Malformed, Passed, Failed, Skipped, ExpectedFailure, ExpectedDeath, ExpectedTimeout, ExpectedExit, ExpectedSignal}
 use Rattle.kt_claim.specs.declared.claim_fault.ClaimFault.{ClaimFault}
+use Rattle.kt_claim.specs.declared.claim_fault.ClaimFault.TheVariants as result
 use Rattle.kt_claim.specs.declared.tap.Tap.{Tap}
 use Rattle.kt_claim.specs.declared.tap.Tap.TheVariants.{Invalid, BailedOut, SkipAll, Counted}
 use Rattle.kt_claim.specs.declared.tap_fault.TapFault.{TapFault}
+use Rattle.kt_claim.specs.declared.tap_fault.TapFault.TheVariants as stream
 use Rattle.kt_claim.specs.declared.evidence.Evidence.{Evidence}
 use Rattle.kt_claim.specs.declared.evidence.Evidence.TheVariants as evidence
-use Rattle.kt_status.specs.Verdicts.{claim_fault_text, tap_fault_text}
 use Rattle.kt_status.specs.declared.cleanup_end.CleanupEnd.{CleanupEnd}
 use Rattle.kt_status.specs.declared.cleanup_end.CleanupEnd.TheVariants as cleanup
+
+-- what is wrong with a result file
+abbrev pub claim_fault_text : ClaimFault → List ℕ
+claim_fault_text result.TooLong = codes "too long"
+claim_fault_text result.Empty = codes "empty"
+claim_fault_text result.NoNewline = codes "no final newline"
+claim_fault_text result.SeveralLines = codes "several lines"
+claim_fault_text result.UnknownWord = codes "unknown word"
+claim_fault_text result.BadNumber = codes "bad number"
+claim_fault_text result.UnexpectedReason = codes "unexpected reason"
+claim_fault_text result.NoReason = codes "no reason"
+
+-- what is wrong with a TAP stream
+abbrev pub tap_fault_text : TapFault → List ℕ
+tap_fault_text stream.Unreadable = codes "output could not be read"
+tap_fault_text stream.TooLong = codes "output too long"
+tap_fault_text stream.NoPlan = codes "no plan"
+tap_fault_text stream.SecondPlan = codes "second plan"
+tap_fault_text stream.PlanDiffers = codes "plan differs from tests"
 
 -- the process ended by itself
 pub data Ends : Outcome → Type 0 where
@@ -77,7 +97,7 @@ pub data TapRow : ℕ → Tap → Outcome → Judged → Type 0 where
   tap_dubious : (some all code : ℕ)
       → TapRow 9 (Counted some all) (Exited code) (verdict.broken (codes "Dubious test program: reported all tests as passed but returned exit code " ++ decimal code))
 
--- the rows of starts that were refused
+-- the rows of refused starts
 pub data RefusalRow : ℕ → Refused → Judged → Type 0 where
   no_directory : RefusalRow 1 refused.Directory (verdict.broken (codes "Work directory could not be made"))
   no_output : RefusalRow 2 refused.Output (verdict.broken (codes "Output files could not be made"))
@@ -104,7 +124,7 @@ IsVerdict (evidence.Atf claim) ending verdict = FirstOf (λ n v. AtfRow n claim 
 IsVerdict (evidence.Tap tap) ending verdict = FirstOf (λ n v. TapRow n tap ending v) verdict
 IsVerdict evidence.Plain ending verdict = FirstOf (λ n v. PlainRow n ending v) verdict
 
--- the verdict on a start that was refused
+-- the verdict on a refused start
 abbrev pub IsVerdictOfRefusal : Refused → Judged → Type 0
 IsVerdictOfRefusal refused verdict = FirstOf (λ n v. RefusalRow n refused v) verdict
 

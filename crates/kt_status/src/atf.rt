@@ -2,7 +2,8 @@ ghost use Rattle.std.specs.Prelude.{◌≡◌, ◌++◌, codes, if◌then◌else
 ghost use Rattle.kt_base.specs.Reasons.{ending_text};
 ghost use Rattle.kt_base.specs.Phrases.{phrase_text};
 ghost use Rattle.kt_base.specs.Verdicts.{broken};
-ghost use Rattle.kt_status.specs.Verdicts.{claim_fault_text, exits_with, expected_exit, expected_signal, atf_ended, atf_late, atf_verdict};
+ghost use Rattle.kt_status.specs.Tables.{claim_fault_text};
+ghost use Rattle.kt_status.specs.Inner.Verdicts.{exits_with, expected_exit, expected_signal, atf_ended, atf_late, atf_verdict};
 
 use kt_base::{Outcome, Phrase, Reason, Text, Verdict};
 use kt_claim::{Claim, ClaimFault};
@@ -22,7 +23,7 @@ fn fault_phrase(fault: ClaimFault) -> Phrase
     }
 }
 
-/// A claim of a certain end, which did not come.
+/// A claim of a certain end that did not come.
 fn belied(phrase: Phrase, ending: Outcome) -> Verdict
     ensures { result ≡ broken (phrase_text phrase ++ ending_text ending) }
 {
@@ -32,10 +33,7 @@ fn belied(phrase: Phrase, ending: Outcome) -> Verdict
 fn exits_with(code: u8, ending: Outcome) -> bool
     ensures { result ≡ exits_with code ending }
 {
-    match ending {
-        Outcome::Exited(found) => found == code,
-        _ => false,
-    }
+    matches!(ending, Outcome::Exited(found) if found == code)
 }
 
 fn expected_exit(due: Option<u8>, reason: Text, ending: Outcome) -> Verdict
@@ -72,7 +70,7 @@ fn expected_signal(due: Option<u8>, reason: Text, ending: Outcome) -> Verdict
     }
 }
 
-/// A claim that asks for an exit with a code, which the process may not have had.
+/// A claim that requires a certain exit: `due` says whether the process had it.
 fn settled(verdict: Verdict, due: bool, phrase: Phrase, ending: Outcome) -> Verdict
     ensures { result ≡ (if due then verdict
         else broken (phrase_text phrase ++ ending_text ending)) }
@@ -119,7 +117,7 @@ fn ended(claim: Claim, ending: Outcome) -> Verdict
     }
 }
 
-/// The body was killed because its time had come.
+/// The body was killed because it ran out of time.
 fn late(claim: Claim) -> Verdict
     ensures { result ≡ atf_late claim }
 {

@@ -1,7 +1,7 @@
 ghost use Rattle.std.specs.Prelude.{◌≡◌};
 ghost use Rattle.kt_base.specs.Verdicts.{Judged};
 ghost use Rattle.kt_status.specs.Tables.{IsVerdictAfter};
-ghost use Rattle.kt_status.specs.Verdicts.{cleaned, verdict_after_cleanup};
+ghost use Rattle.kt_status.specs.Inner.Verdicts.{cleaned, verdict_after_cleanup};
 
 use crate::cleanup_end::CleanupEnd;
 use kt_base::{Outcome, Phrase, Reason, Verdict};
@@ -10,7 +10,7 @@ fn cleaned(body: Verdict, end: CleanupEnd) -> Verdict
     ensures { result ≡ cleaned body end }
 {
     let phrase = match end {
-        CleanupEnd::Ended(Outcome::Exited(code)) if code == 0 => return body,
+        CleanupEnd::Ended(Outcome::Exited(0)) => return body,
         CleanupEnd::Ended(Outcome::TimedOut) => Phrase::CleanupTimedOut,
         CleanupEnd::Ended(_) => Phrase::CleanupFailed,
         CleanupEnd::Refused => Phrase::CleanupNotStarted,
@@ -22,7 +22,6 @@ fn cleaned(body: Verdict, end: CleanupEnd) -> Verdict
 pub fn with_cleanup(body: Verdict, end: CleanupEnd) -> Verdict
     ensures row { IsVerdictAfter body end result }
     ensures only { (verdict : Judged) → IsVerdictAfter body end verdict → result ≡ verdict }
-    ensures value { result ≡ verdict_after_cleanup body end }
 {
     after(body, end)
 }

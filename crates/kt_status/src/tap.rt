@@ -1,6 +1,7 @@
 ghost use Rattle.std.specs.Prelude.{◌≡◌, ◌++◌, codes};
 ghost use Rattle.kt_base.specs.Phrases.{phrase_text};
-ghost use Rattle.kt_status.specs.Verdicts.{tap_fault_text, tap_exited, tap_verdict};
+ghost use Rattle.kt_status.specs.Tables.{tap_fault_text};
+ghost use Rattle.kt_status.specs.Inner.Verdicts.{tap_exited, tap_verdict};
 ghost use Rattle.kt_claim.specs.declared.tap.Tap.TheVariants.{Counted};
 
 use kt_base::{Outcome, Phrase, Reason, Verdict};

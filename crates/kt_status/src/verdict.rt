@@ -1,7 +1,7 @@
 ghost use Rattle.std.specs.Prelude.{◌≡◌};
 ghost use Rattle.kt_base.specs.Verdicts.{Judged};
 ghost use Rattle.kt_status.specs.Tables.{IsVerdict};
-ghost use Rattle.kt_status.specs.Verdicts.{verdict_of};
+ghost use Rattle.kt_status.specs.Inner.Verdicts.{verdict_of};
 
 use crate::atf::atf_verdict;
 use crate::plain::plain_verdict;
@@ -13,7 +13,6 @@ use kt_claim::Evidence;
 pub fn body_verdict(evidence: Evidence, ending: Outcome) -> Verdict
     ensures row { IsVerdict evidence ending result }
     ensures only { (verdict : Judged) → IsVerdict evidence ending verdict → result ≡ verdict }
-    ensures value { result ≡ verdict_of evidence ending }
 {
     judged(evidence, ending)
 }

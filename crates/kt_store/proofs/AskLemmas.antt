@@ -14,7 +14,7 @@ use Rattle.sqlite.proofs.StateLemmas.{survives_weaker}
 use Rattle.kt_base.specs.declared.run.Run.{Run}
 use Rattle.kt_store.specs.Tables.{schema_2}
 use Rattle.kt_store.specs.Stands.{IsStore, StandsFor}
-use Rattle.kt_store.specs.Ask.{Asked, MayShow}
+use Rattle.kt_store.specs.Inner.Ask.{Asked, MayShow}
 use Rattle.kt_store.proofs.StepLemmas.{same_store}
 
 shown_same : (sql : List ℕ) (params : Row) (old new : State) (rows : List Row) → IsPlain (understood old.now.schema sql) → Shown sql params old new rows → IsUnchanged old new

@@ -1,5 +1,5 @@
 -- What the INSERT of `begin` does.
-use Rattle.std.proofs.Common.{◌≡◌, ◌⊎◌, inl, inr, ℕ, suc, ◌+◌, ◌<◌, ℤ, ◌+ℤ◌, pos, List, [], ◌∷◌, ◌++◌, length, map, fold, Bool, true, false, cond, Some, None, Option, unwrap_or, Ok, refl, sym, ap, subst, ◌∙◌, arith, Less}
+use Rattle.std.proofs.Common.{Bool, IsTrue, Less, List, None, Ok, Option, Some, [], ap, append-nil, arith, cond, drop, false, fold, inl, inr, length, length-append, map, pos, refl, subst, suc, sym, true, unwrap_or, ℕ, ℤ, ◌++◌, ◌+ℤ◌, ◌+◌, ◌<◌, ◌∙◌, ◌∷◌, ◌≡◌, ◌⊎◌}
 use Rattle.std.proofs.lemmas.Int.{ints}
 use Rattle.std.proofs.lemmas.Bool.Decides.{nat_tests}
 use Rattle.sqlite.specs.declared.types.Value.{Value}
@@ -8,8 +8,7 @@ use Rattle.sqlite.specs.Order.{Row}
 use Rattle.sqlite_value.specs.Order.{value_cmp}
 use Rattle.sqlite_value.proofs.OrderLemmas.{value_cmp-Int}
 use Rattle.sqlite_trees.specs.Tree.{rowid, put_row}
-use Rattle.sqlite_rules.specs.Edit.{id_in, next_rowid}
-use Rattle.std.proofs.Common.{drop, length-append, append-nil}
+use Rattle.sqlite_rules.specs.Edit.{id_in, next_rowid, put_all, taken_by}
 use Rattle.std.proofs.lemmas.List.{map-append}
 use Rattle.std.specs.List.Sorted.{IsPermutation}
 use Rattle.sqlite_keyed.proofs.ListLemmas.{all-append}
@@ -17,41 +16,32 @@ use Rattle.sqlite.specs.Ops.{unary}
 use Rattle.sqlite.specs.Kind.TheVariants.{Integer}
 use Rattle.sqlite.specs.Cast.{cast}
 use Rattle.sqlite.specs.Edit.{edit_of}
-use Rattle.sqlite_rules.specs.Edit.{put_all}
 use Rattle.sqlite.specs.Rowids.TheVariants.{Chosen}
 use Rattle.sqlite.specs.Effect.{Database, IsDatabase, value_rows}
-use Rattle.sqlite.specs.Does.{Tally}
+use Rattle.sqlite.specs.Does.{Does, Tally}
 use Rattle.sqlite.specs.Rows.{last_id}
-use Rattle.kt_store.specs.Tables.{schema_2, runs_1}
-use Rattle.kt_store.specs.Runs.{Tables, IsRun, new_run, entry_row, entry_rows, pair_rows, prop_rows}
+use Rattle.kt_store.specs.Tables.{begin_text, runs_1, schema_2}
+use Rattle.kt_store.specs.Runs.{AreNumbered, IsRun, Keeps, Tables, entry_row, entry_rows, new_run, pair_rows, prop_rows, run_row}
 use Rattle.std.specs.List.{flat_map}
 use Rattle.std.proofs.lemmas.Grind.{flat_map-append}
-use Rattle.kt_store.proofs.SqlFacts.{begin_terms}
-use Rattle.kt_store.proofs.InsertLemmas.{Changed}
-use Rattle.std.proofs.Common.{IsTrue}
+use Rattle.kt_store.proofs.SqlFacts.{begin_is, begin_terms}
+use Rattle.kt_store.proofs.InsertLemmas.{Changed, changed}
 use Rattle.sqlite.specs.Tree.{Trees}
 use Rattle.sqlite.specs.declared.run.Mode.{Mode}
 use Rattle.sqlite.specs.Command.{Command}
 use Rattle.sqlite.specs.Command.TheVariants.{Insert, Commit, Release}
 use Rattle.sqlite.specs.Source.TheVariants.{Values}
 use Rattle.sqlite_schema.specs.declared.schema.Keys.TheVariants.{Enforced}
-use Rattle.sqlite_rules.specs.Edit.{taken_by}
 use Rattle.sqlite_rules.specs.Action.{works}
-use Rattle.sqlite.specs.Does.{Does}
 use Rattle.sqlite.specs.Listing.{understood}
 use Rattle.sqlite.specs.State.{State, HasCleanDisk, mode_of, Executes, Writes, CommitsBy, IsNewestNamed, names_in, begins_at}
 use Rattle.sqlite.proofs.Callers.{statement_of, runs_as}
-use Rattle.kt_store.specs.Tables.{begin_text}
-use Rattle.kt_store.specs.Runs.{Keeps}
 use Rattle.kt_store.specs.Stands.{IsStore, StandsFor, Leaves}
-use Rattle.kt_store.specs.Ask.{Told, MayTell}
+use Rattle.kt_store.specs.Inner.Ask.{MayTell, Told}
 use Rattle.sqlite.specs.Store.{Ghosts}
 use Rattle.sqlite.specs.Held.{Held, state}
-use Rattle.kt_store.proofs.SqlFacts.{begin_is}
-use Rattle.kt_store.proofs.InsertLemmas.{changed}
 use Rattle.kt_store.proofs.StepLemmas.{commits_as, same_store}
 use Rattle.kt_base.specs.declared.run.Run.{Run}
-use Rattle.kt_store.specs.Runs.{run_row, AreNumbered}
 
 abbrev above : ℤ → Row → ℤ
 above _ r = id_in (rowid r) +ℤ pos 1

@@ -17,9 +17,10 @@ use Rattle.kt_base.specs.declared.run.Run.{Run}
 use Rattle.kt_base.specs.declared.entry.Entry.{Entry}
 use Rattle.kt_store.specs.declared.store_fault.StoreFault.TheVariants.{RunClosed, Incomplete}
 use Rattle.kt_store.specs.Tables.{finish_text}
-use Rattle.kt_store.specs.Runs.{Tables, Keeps, IsRun, AreRuns, AreNumbered, run_at, entries_of, entry_row, entry_rows, pair_rows, prop_rows, finish, finish_refusal, finish_refusal_of, IsComplete}
+use Rattle.kt_store.specs.Inner.Runs.{entries_of, IsComplete}
+use Rattle.kt_store.specs.Runs.{Tables, Keeps, IsRun, AreRuns, AreNumbered, run_at, entry_row, entry_rows, pair_rows, prop_rows, finish, finish_refusal, finish_refusal_of}
 use Rattle.kt_store.specs.Stands.{IsStore, StandsFor}
-use Rattle.kt_store.specs.Ask.{Told, MayTell}
+use Rattle.kt_store.specs.Inner.Ask.{MayTell, Told}
 use Rattle.kt_store.proofs.SqlFacts.{finish_is}
 use Rattle.kt_store.proofs.CountLemmas.{most}
 use Rattle.kt_store.proofs.FinishLemmas.{finish_program, finish_writes, finished_rows}

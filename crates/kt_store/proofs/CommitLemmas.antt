@@ -14,15 +14,16 @@ use Rattle.kt_base.specs.declared.run.Run.{Run}
 use Rattle.kt_base.specs.declared.entry.Entry.{Entry}
 use Rattle.kt_store.specs.declared.store_fault.StoreFault.{StoreFault}
 use Rattle.kt_store.specs.declared.store_fault.StoreFault.TheVariants.{Store}
-use Rattle.kt_store.specs.Runs.{Tables, Keeps, CanAdd}
+use Rattle.kt_store.specs.Inner.Runs.{CanAdd}
+use Rattle.kt_store.specs.Runs.{Keeps, Tables, entry_row, with_entry}
 use Rattle.kt_store.specs.Stands.{IsStore, StandsFor}
 use Rattle.kt_store.specs.Ask.{Statement}
 use Rattle.kt_store.specs.Fault.{Tells}
 use Rattle.kt_store.specs.Tables.{put_text}
-use Rattle.kt_store.specs.Runs.{entry_row, with_entry}
 use Rattle.kt_store.specs.Calls.{put_statements, entry_statements}
 use Rattle.kt_store.proofs.FillLemmas.{filled_at}
-use Rattle.kt_store.specs.Transactions.{begun, RunInTurn, IsStopped, IsCausedInside}
+use Rattle.kt_store.specs.Inner.Transactions.{IsStopped}
+use Rattle.kt_store.specs.Transactions.{begun, RunInTurn, IsCausedInside}
 
 module _ {S : Type 0} (g : Ghosts S) (old left new : Held S) (runs : List Run) (has : StandsFor (state g old) runs) (earlier : HasCleanDisk (state g new) → HasCleanDisk (state g old)) where
   -- what was undone stands for the runs from before

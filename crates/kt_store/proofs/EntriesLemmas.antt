@@ -18,10 +18,11 @@ use Rattle.sqlite.proofs.Callers.{reads_as}
 use Rattle.kt_base.specs.declared.run.Run.{Run}
 use Rattle.kt_base.specs.declared.entry.Entry.{Entry}
 use Rattle.kt_store.specs.Tables.{entries_text, schema_2}
-use Rattle.kt_store.specs.Runs.{IsRun, IsEntry, entry_row, entry_rows, entries_of, run_at, AreRuns}
-use Rattle.kt_store.specs.Heads.{entry_columns}
+use Rattle.kt_store.specs.Inner.Runs.{entries_of}
+use Rattle.kt_store.specs.Runs.{IsRun, IsEntry, entry_row, entry_rows, run_at, AreRuns}
+use Rattle.kt_store.specs.Inner.Heads.{entry_columns}
 use Rattle.kt_store.specs.Stands.{IsStore, StandsFor}
-use Rattle.kt_store.specs.Ask.{Asked}
+use Rattle.kt_store.specs.Inner.Ask.{Asked}
 use Rattle.kt_store.proofs.SqlFacts.{entries_select_is, entries_query, is}
 use Rattle.kt_store.proofs.QueryLemmas.{answered_sorted}
 use Rattle.kt_store.proofs.EntryLemmas.{back, of_stored, of_run, same_test, one_truth}

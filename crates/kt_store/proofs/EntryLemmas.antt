@@ -12,7 +12,8 @@ use Rattle.std.specs.Ordering.{is_eq}
 use Rattle.sqlite.specs.Ops.{is_true, from_truth}
 use Rattle.kt_base.specs.declared.run.Run.{Run}
 use Rattle.kt_base.specs.declared.entry.Entry.{Entry}
-use Rattle.kt_store.specs.Runs.{entry_row, entry_rows, entries_of, run_at, AreNumbered}
+use Rattle.kt_store.specs.Inner.Runs.{entries_of}
+use Rattle.kt_store.specs.Runs.{entry_row, entry_rows, run_at, AreNumbered}
 
 -- the row as it is stored, whatever its rowid
 abbrev pub back : Row → Row

@@ -12,7 +12,8 @@ use Rattle.sqlite.specs.Held.{Held}
 use Rattle.kt_store.specs.Runs.{flag}
 use Rattle.kt_store.specs.declared.store_fault.StoreFault.{StoreFault}
 use Rattle.kt_store.specs.declared.store_fault.StoreFault.TheVariants.{NoMemory, Store}
-use Rattle.kt_store.specs.Ask.{IsNoMemory, IsFailure, MayFail, Statement, OneFails, IsCaused}
+use Rattle.kt_store.specs.Inner.Ask.{MayFail}
+use Rattle.kt_store.specs.Ask.{IsNoMemory, IsFailure, Statement, OneFails, IsCaused}
 use Rattle.kt_store.specs.Fault.{Tells}
 
 -- a cell that can be read is refused only if memory ran out

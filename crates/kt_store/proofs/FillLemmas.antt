@@ -25,7 +25,8 @@ use Rattle.kt_base.specs.declared.entry.Entry.{Entry}
 use Rattle.kt_base.specs.declared.run.Run.{Run}
 use Rattle.kt_base.specs.declared.variable.Variable.{Variable}
 use Rattle.kt_store.specs.Tables.{schema_2, entries_1, props_1, put_text, pair_text}
-use Rattle.kt_store.specs.Runs.{Tables, IsRun, kind_code, run_row, entry_row, entry_rows, pair_row, pair_rows_from, prop_rows, with_entry, CanAdd}
+use Rattle.kt_store.specs.Inner.Runs.{CanAdd}
+use Rattle.kt_store.specs.Runs.{Tables, IsRun, kind_code, run_row, entry_row, entry_rows, pair_row, pair_rows_from, prop_rows, with_entry}
 use Rattle.kt_store.specs.Ask.{Statement}
 use Rattle.kt_store.specs.Calls.{pair_statements, entry_statements}
 use Rattle.kt_store.specs.Transactions.{RunInTurn, StopInTurn}

@@ -10,14 +10,13 @@ use Rattle.std.specs.Option.{option_to_list}
 use Rattle.sqlite.specs.declared.types.Value.TheVariants.{Int}
 use Rattle.sqlite.specs.Order.{Row}
 use Rattle.sqlite.specs.Term.{lit, col, holds}
-use Rattle.sqlite.specs.State.{State, Shown}
+use Rattle.sqlite.specs.State.{HasCleanDisk, Shown, State}
 use Rattle.sqlite.proofs.Callers.{reads_as}
 use Rattle.kt_base.specs.declared.run.Run.{Run}
 use Rattle.kt_store.specs.Tables.{full_text, schema_2}
 use Rattle.kt_store.specs.Runs.{run_row, run_at}
-use Rattle.sqlite.specs.State.{HasCleanDisk}
 use Rattle.kt_store.specs.Stands.{IsStore, StandsFor}
-use Rattle.kt_store.specs.Ask.{Asked}
+use Rattle.kt_store.specs.Inner.Ask.{Asked}
 use Rattle.sqlite.specs.Store.{Ghosts}
 use Rattle.sqlite.specs.Held.{Held, state}
 use Rattle.kt_store.proofs.AskLemmas.{asked_mid}

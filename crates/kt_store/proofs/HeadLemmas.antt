@@ -21,9 +21,9 @@ use Rattle.sqlite.proofs.Callers.{reads_as}
 use Rattle.kt_base.specs.declared.run.Run.{Run}
 use Rattle.kt_store.specs.Tables.{runs_text, schema_2}
 use Rattle.kt_store.specs.Runs.{run_row, AreNumbered, IsRun}
-use Rattle.kt_store.specs.Heads.{head_columns}
+use Rattle.kt_store.specs.Inner.Heads.{head_columns}
 use Rattle.kt_store.specs.Stands.{IsStore, StandsFor}
-use Rattle.kt_store.specs.Ask.{Asked}
+use Rattle.kt_store.specs.Inner.Ask.{Asked}
 use Rattle.kt_store.proofs.SqlFacts.{runs_select_is, runs_query}
 use Rattle.kt_store.proofs.QueryLemmas.{answered_in_order}
 use Rattle.kt_store.proofs.AskLemmas.{asked_mid}

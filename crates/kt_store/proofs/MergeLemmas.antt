@@ -9,7 +9,7 @@ use Rattle.sqlite_trees.specs.Tree.{IsAscending}
 use Rattle.kt_base.specs.declared.entry.Entry.{Entry}
 use Rattle.kt_base.specs.declared.variable.Variable.{Variable}
 use Rattle.kt_store.specs.Runs.{IsEntry, IsPair}
-use Rattle.kt_store.specs.Heads.{entry_columns, pair_columns, pairs_shown}
+use Rattle.kt_store.specs.Inner.Heads.{entry_columns, pair_columns, pairs_shown}
 
 abbrev pub Later : ℕ → List Entry → Type 0
 Later p others = AllByRecursion (λ (e : Entry). p < e.position) others

@@ -17,8 +17,9 @@ use Rattle.kt_base.specs.declared.run.Run.{Run}
 use Rattle.kt_store.specs.Tables.{meta_text, meta_1, runs_1, entries_1, props_1, index_of, beside_meta}
 use Rattle.kt_store.specs.Stands.{StandsFor, StandsInOld, SaysSchema, SaysNumber, IsEmpty}
 use Rattle.kt_store.specs.Runs.{OldTables}
-use Rattle.kt_store.specs.Ask.{Asked, MayShow, Rests}
-use Rattle.kt_store.specs.Kept.{AsksNumber}
+use Rattle.kt_store.specs.Inner.Ask.{Asked, MayShow}
+use Rattle.kt_store.specs.Ask.{Rests}
+use Rattle.kt_store.specs.Inner.Kept.{AsksNumber}
 use Rattle.kt_store.proofs.AskLemmas.{asked_unchanged, asked_leaves}
 use Rattle.kt_store.proofs.StepLemmas.{same_store}
 use Rattle.kt_store.proofs.SqlFacts.{is}

@@ -24,10 +24,11 @@ use Rattle.kt_base.specs.declared.run.Run.{Run}
 use Rattle.kt_base.specs.declared.entry.Entry.{Entry}
 use Rattle.kt_base.specs.declared.variable.Variable.{Variable}
 use Rattle.kt_store.specs.Tables.{pairs_text, schema_2}
-use Rattle.kt_store.specs.Runs.{pair_row, pair_rows, pair_rows_from, prop_rows, entries_of, run_at, AreNumbered}
-use Rattle.kt_store.specs.Heads.{pair_columns, pairs_shown}
+use Rattle.kt_store.specs.Inner.Runs.{entries_of}
+use Rattle.kt_store.specs.Runs.{pair_row, pair_rows, pair_rows_from, prop_rows, run_at, AreNumbered}
+use Rattle.kt_store.specs.Inner.Heads.{pair_columns, pairs_shown}
 use Rattle.kt_store.specs.Stands.{IsStore, StandsFor}
-use Rattle.kt_store.specs.Ask.{Asked}
+use Rattle.kt_store.specs.Inner.Ask.{Asked}
 use Rattle.kt_store.proofs.SqlFacts.{pairs_select_is, pairs_query, is}
 use Rattle.kt_store.proofs.QueryLemmas.{answered_sorted}
 use Rattle.kt_store.proofs.EntryLemmas.{back, of_stored, same_test, one_truth}

@@ -12,7 +12,7 @@ use Rattle.sqlite_resolve.specs.declared.error.CompileError.{CompileError}
 use Rattle.sqlite.specs.Store.{Ghosts}
 use Rattle.sqlite.specs.Held.{Held, state}
 use Rattle.kt_store.specs.Ask.{IsUnderstood, Rests}
-use Rattle.kt_store.specs.Kept.{AsksNumber, CommitsNothing}
+use Rattle.kt_store.specs.Inner.Kept.{AsksNumber, CommitsNothing}
 use Rattle.kt_store.specs.Stands.{SaysSchema}
 use Rattle.kt_store.specs.Calls.{HasTables}
 

@@ -17,7 +17,7 @@ use Rattle.kt_base.specs.declared.run.Run.{Run}
 use Rattle.kt_store.specs.Tables.{run_text, schema_2}
 use Rattle.kt_store.specs.Runs.{run_row, run_at, flag}
 use Rattle.kt_store.specs.Stands.{IsStore, StandsFor}
-use Rattle.kt_store.specs.Ask.{Asked}
+use Rattle.kt_store.specs.Inner.Ask.{Asked}
 use Rattle.kt_store.proofs.SqlFacts.{run_is, is}
 use Rattle.kt_store.proofs.QueryLemmas.{answered, show, picked}
 use Rattle.kt_store.proofs.FindLemmas.{picked_run}

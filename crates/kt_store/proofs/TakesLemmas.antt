@@ -7,7 +7,8 @@ use Rattle.sqlite_trees.specs.Tree.{IsAscending}
 use Rattle.kt_base.specs.declared.run.Run.{Run}
 use Rattle.kt_base.specs.declared.entry.Entry.{Entry}
 use Rattle.kt_store.specs.declared.store_fault.StoreFault.TheVariants.{RunClosed, BadPosition, RepeatedPosition}
-use Rattle.kt_store.specs.Runs.{AreRuns, put_refusal, put_refusal_of, entries_of, IsRun, IsEntry, insert_at, with_entry, has_position, run_at, AreNumbered, CanAdd}
+use Rattle.kt_store.specs.Inner.Runs.{entries_of, CanAdd}
+use Rattle.kt_store.specs.Runs.{AreRuns, put_refusal, put_refusal_of, IsRun, IsEntry, insert_at, with_entry, has_position, run_at, AreNumbered}
 
 abbrev lower : Entry → Entry → Type 0
 lower a b = a.position < b.position

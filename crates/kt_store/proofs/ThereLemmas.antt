@@ -15,9 +15,10 @@ use Rattle.sqlite.proofs.Callers.{reads_as}
 use Rattle.kt_base.specs.declared.run.Run.{Run}
 use Rattle.kt_base.specs.declared.entry.Entry.{Entry}
 use Rattle.kt_store.specs.Tables.{there_text, schema_2}
-use Rattle.kt_store.specs.Runs.{entry_row, entry_rows, entries_of, run_at, has_position}
+use Rattle.kt_store.specs.Inner.Runs.{entries_of}
+use Rattle.kt_store.specs.Runs.{entry_row, entry_rows, run_at, has_position}
 use Rattle.kt_store.specs.Stands.{IsStore, StandsFor}
-use Rattle.kt_store.specs.Ask.{Asked}
+use Rattle.kt_store.specs.Inner.Ask.{Asked}
 use Rattle.kt_store.proofs.SqlFacts.{there_is, is}
 use Rattle.kt_store.proofs.QueryLemmas.{answered, show}
 use Rattle.kt_store.proofs.EntryLemmas.{back, of_stored, of_run, same_test, two_truths}

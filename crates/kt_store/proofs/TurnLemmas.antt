@@ -12,7 +12,8 @@ use Rattle.kt_store.specs.declared.store_fault.StoreFault.{StoreFault}
 use Rattle.kt_store.specs.Ask.{Statement}
 use Rattle.kt_store.specs.Fault.{Tells}
 use Rattle.kt_store.specs.Calls.{pair_statements}
-use Rattle.kt_store.specs.Transactions.{RunsInside, RunInTurn, StopInTurn, IsStopped}
+use Rattle.kt_store.specs.Inner.Transactions.{IsStopped}
+use Rattle.kt_store.specs.Transactions.{RunsInside, RunInTurn, StopInTurn}
 
 module _ {S : Type 0} (g : Ghosts S) where
   -- a refusal of the first

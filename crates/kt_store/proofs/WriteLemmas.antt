@@ -19,7 +19,7 @@ use Rattle.kt_base.specs.declared.run.Run.{Run}
 use Rattle.kt_store.specs.Tables.{schema_2}
 use Rattle.kt_store.specs.Runs.{Tables, Keeps}
 use Rattle.kt_store.specs.Stands.{IsStore, StandsFor}
-use Rattle.kt_store.specs.Ask.{Told, MayTell}
+use Rattle.kt_store.specs.Inner.Ask.{MayTell, Told}
 use Rattle.kt_store.proofs.StepLemmas.{commits_as, same_store}
 
 abbrev pub Ends : Command → State → Type 0

@@ -1,12 +1,11 @@
 -- A statement that is prepared and run.
 use Rattle.std.specs.Prelude.{◌≡◌, ◌≢◌, ◌⊎◌, ℕ, List, [], ◌∷◌, Ok, Err, ⊤}
 use Rattle.sqlite.specs.Order.{Row}
-use Rattle.sqlite.specs.Tree.{Trees}
 use Rattle.sqlite.specs.Store.{Ghosts}
 use Rattle.sqlite.specs.Held.{Held, state}
 use Rattle.sqlite.specs.Listing.{understood}
 use Rattle.sqlite_resolve.specs.declared.compiled.Compiled.{Compiled}
-use Rattle.sqlite.specs.State.{State, IsUnchanged, IsRolledBack, Shown, Executes, CommitsBy, CommitsShowing, IsNotRun, FailsToQuery}
+use Rattle.sqlite.specs.State.{State, IsUnchanged, IsRolledBack, Executes, IsNotRun, FailsToQuery}
 use Rattle.sqlite.specs.declared.error.ErrorCode.TheVariants as code
 use Rattle.sqlite.specs.declared.error.Error.{Error}
 use Rattle.sqlite.specs.declared.error.Error.TheVariants.{SqliteFailure}
@@ -38,33 +37,11 @@ IsStoreFault (Store statement) = ⊤
 IsStoreFault _ = ⊥
 
 module _ {S : Type 0} (g : Ghosts S) (sql : List ℕ) (params : Row) (old : Held S) where
-  pub record Asked (new : Held S) (rows : List Row) : Type 0 where
-    pub mid : Held S
-    pub same : IsUnchanged (state g old) (state g mid)
-    pub shown : Shown sql params (state g mid) (state g new) rows
-
-  pub record Told (new : Held S) : Type 0 where
-    pub mid : Held S
-    pub same : IsUnchanged (state g old) (state g mid)
-    pub count : ℕ
-    pub ran : Executes sql params (state g mid) (state g new) (Ok count)
-
   -- SQLite refused it, and not because memory ran out: it could not be prepared, or its run failed
   pub record Fails (new : Held S) : Type 0 where
     pub error : Error
     pub other : error ≢ SqliteFailure code.OutOfMemory
     pub cause : IsNotRun (state g old) (state g new) sql params error ⊎ ((mid : Held S) × IsUnchanged (state g old) (state g mid) × (FailsToQuery sql params (state g mid) (state g new) error ⊎ Executes sql params (state g mid) (state g new) (Err error)))
-
-  -- memory ran out, or the statement failed and is told so
-  abbrev pub MayFail : Held S → StoreFault → Type 0
-  MayFail new e = IsNoMemory e ⊎ (IsFailure e × Fails new)
-
-  -- It was prepared, so the connection was open.
-  abbrev pub MayShow : Trees → Type 0
-  MayShow db = (mid : Held S) × IsUnchanged (state g old) (state g mid) × CommitsShowing sql params (state g mid) db
-
-  abbrev pub MayTell : Trees → Type 0
-  MayTell db = (mid : Held S) × IsUnchanged (state g old) (state g mid) × CommitsBy sql params (state g mid) db
 
 -- a text of SQL and the values of its parameters
 abbrev pub Statement : Type 0
@@ -76,7 +53,7 @@ module _ {S : Type 0} (g : Ghosts S) where
   OneFails [] new = ⊥
   OneFails (s ∷ others) new = ((old : Held S) × Fails g s.0 s.1 old new) ⊎ OneFails others new
 
-  -- a call is told that a statement failed only if one of its statements did
+  -- a call reports a failed statement only if one of its statements failed
   abbrev pub IsCaused : List Statement → Held S → StoreFault → Type 0
   IsCaused statements new (Store statement) = OneFails statements new
   IsCaused statements new _ = ⊤

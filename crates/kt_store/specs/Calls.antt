@@ -1,6 +1,7 @@
 -- The statements of each call of a store.
 use Rattle.std.specs.Prelude.{◌≡◌, ℕ, ℤ, suc, nat_le, if◌then◌else◌, pos, List, [], ◌∷◌}
 use Rattle.sqlite.specs.declared.types.Value.TheVariants.{Int}
+use Rattle.kt_base.specs.Limits.{last_run}
 use Rattle.kt_base.specs.declared.entry.Entry.{Entry}
 use Rattle.kt_base.specs.declared.variable.Variable.{Variable}
 use Rattle.sqlite.specs.State.{State}
@@ -10,7 +11,7 @@ use Rattle.kt_store.specs.Tables.{full_text, begin_text, run_text, there_text, p
 
 -- the number that is asked for: 0, which no run has, in place of one past the last that may be
 abbrev pub asked_number : ℕ → ℕ
-asked_number run = if nat_le run 1000000 then run else 0
+asked_number run = if nat_le run last_run then run else 0
 
 -- the run is looked up
 abbrev pub look_statement : ℕ → Statement

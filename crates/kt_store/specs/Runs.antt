@@ -6,6 +6,7 @@ use Rattle.sqlite.specs.Order.{Row}
 use Rattle.sqlite.specs.Effect.{Database, IsDatabase}
 use Rattle.sqlite.specs.Tree.{Trees}
 use Rattle.sqlite_trees.specs.Tree.{IsAscending}
+use Rattle.kt_base.specs.Limits.{last_run}
 use Rattle.kt_base.specs.declared.kind.Kind.{Kind}
 use Rattle.kt_base.specs.declared.kind.Kind.TheVariants.{Passed, Skipped, ExpectedFailure, Failed, Broken}
 use Rattle.kt_base.specs.declared.entry.Entry.{Entry}
@@ -93,7 +94,7 @@ pub record IsRun (r : Run) : Type 0 where
 pub record AreRuns (runs : List Run) : Type 0 where
   pub numbered : AreNumbered 1 runs
   pub each : AllByRecursion IsRun runs
-  pub few : length runs ≤ 1000000
+  pub few : length runs ≤ last_run
 
 -- the database is the tables of schema 2, and their rows are exactly those of these runs
 pub record Tables (db : Database) (runs : List Run) : Type 0 where
@@ -134,7 +135,7 @@ abbrev pub KeepsOne : List (List Run) → Trees → Type 0
 KeepsOne [] trees = ⊥
 KeepsOne (runs ∷ others) trees = Keeps runs trees ⊎ KeepsOne others trees
 
--- the run that begins behind these: unfinished, without entries
+-- the run that begins after these: unfinished, without entries
 abbrev pub new_run : List Run → ℕ → ℕ → Run
 new_run runs total started = record { number = suc (length runs); started = started; total = total; finished = false; entries = [] }
 
@@ -153,23 +154,10 @@ abbrev pub with_entry : ℕ → Entry → List Run → List Run
 with_entry run e [] = []
 with_entry run e (r ∷ runs) = if r.number == run then record r { entries = insert_at e r.entries } ∷ runs else r ∷ with_entry run e runs
 
--- a run with this number is there, and all runs are sound once it has this entry too
-abbrev pub CanAdd : ℕ → Entry → List Run → Type 0
-CanAdd run e runs = (k : ℕ) × (run ≡ suc k) × (k < length runs) × AllByRecursion IsRun (with_entry run e runs)
-
--- a run with this number is there and has all its entries
-abbrev pub IsComplete : ℕ → List Run → Type 0
-IsComplete run runs = (k : ℕ) × (r : Run) × (run ≡ suc k) × (run_at runs run ≡ Some r) × (length r.entries ≡ r.total)
-
 -- the run with this number is finished
 abbrev pub finish : ℕ → List Run → List Run
 finish run [] = []
 finish run (r ∷ runs) = if r.number == run then record r { finished = true } ∷ runs else r ∷ finish run runs
-
--- the entries of a run, if there is one
-abbrev pub entries_of : Option Run → List Entry
-entries_of None = []
-entries_of (Some r) = r.entries
 
 -- whether an entry has this position
 abbrev pub has_position : ℕ → List Entry → Bool

@@ -1,5 +1,5 @@
 -- The statements of a transaction, one after the other.
-use Rattle.std.specs.Prelude.{◌≡◌, ◌≢◌, ◌⊎◌, ℕ, true, List, [], ◌∷◌, Ok, Err, IsTrue, ⊤}
+use Rattle.std.specs.Prelude.{◌≡◌, ◌≢◌, ◌⊎◌, ℕ, true, List, [], ◌∷◌, Ok, Err, ⊤}
 use Rattle.sqlite.specs.Store.{Ghosts}
 use Rattle.sqlite.specs.Held.{Held, state}
 use Rattle.sqlite.specs.State.{ExecutesInside, IsRolledBack, Fails}
@@ -10,9 +10,6 @@ use Rattle.kt_base.specs.declared.run.Run.{Run}
 use Rattle.kt_store.specs.declared.store_fault.StoreFault.{StoreFault}
 use Rattle.kt_store.specs.declared.store_fault.StoreFault.TheVariants.{Store}
 use Rattle.kt_store.specs.Ask.{Statement, OneFails}
-use Rattle.sqlite.specs.Effect.{IsDatabase}
-use Rattle.kt_store.specs.Fault.{Tells}
-use Rattle.kt_store.specs.Runs.{Tables}
 use Rattle.kt_store.specs.Stands.{IsStore, IsOldStore, IsBlank}
 
 -- the same connection, in a transaction that began just now
@@ -34,12 +31,6 @@ module _ {S : Type 0} (g : Ghosts S) where
   StopInTurn [] old new error = ⊥
   StopInTurn (s ∷ others) old new error = ExecutesInside 0 s.0 s.1 (state g old) (state g new) (Err error) ⊎ ((mid : Held S) × RunsInside s old mid × StopInTurn others mid new error)
 
-  -- they were run in turn up to one that was refused, and its error is told as this
-  pub record IsStopped (statements : List Statement) (old new : Held S) (fault : StoreFault) : Type 0 where
-    pub error : Error
-    pub told : Tells error fault
-    pub stop : StopInTurn statements old new error
-
   -- the tables of the connection hold these runs
   abbrev pub HoldsRuns : List Run → Held S → Type 0
   HoldsRuns runs s = IsStore (state g s) runs
@@ -47,10 +38,6 @@ module _ {S : Type 0} (g : Ghosts S) where
   -- the tables of schema 1 hold these runs
   abbrev pub HoldsOldRuns : List Run → Held S → Type 0
   HoldsOldRuns runs s = IsOldStore (state g s) runs
-
-  -- inside the transaction the tables hold these runs, and the last commit is as it was
-  abbrev pub HoldsInside : List Run → Held S → Held S → Type 0
-  HoldsInside runs old new = Tables (state g new).now runs × IsDatabase (state g new).now × ((state g new).committed ≡ (state g old).committed) × IsTrue (state g new).in_transaction
 
   -- there is no table
   abbrev pub HasNoTable : Held S → Type 0
@@ -65,7 +52,7 @@ module _ {S : Type 0} (g : Ghosts S) where
     pub other : error ≢ SqliteFailure code.OutOfMemory
     pub cause : (StopInTurn statements (begun start) left error × IsRolledBack (state g left) (state g new)) ⊎ (RunInTurn statements (begun start) left × Fails (state g left) (state g new) ⊥ error)
 
-  -- a call is told that a statement failed only if one of its own did, or its transaction was undone
+  -- a call reports a failed statement only if one of its own failed, or its transaction was undone
   abbrev pub IsCausedInside : (Held S → Type 0) → List Statement → List Statement → Held S → StoreFault → Type 0
   IsCausedInside Before statements inside new (Store statement) = OneFails g statements new ⊎ IsUndone Before inside new
   IsCausedInside Before statements inside new _ = ⊤

@@ -3,13 +3,15 @@ ghost use Rattle.sqlite.specs.State.{HasCleanDisk, Survives, IsUnchanged, KeepsC
 ghost use Rattle.sqlite_value.specs.Order.{column};
 ghost use Rattle.sqlite_value.specs.declared.value.Value.TheVariants.{Int};
 ghost use Rattle.sqlite.specs.Held.{state};
-ghost use Rattle.kt_store.specs.Ask.{Rests, MayFail, IsUnderstood, IsNoMemory, IsStoreFault, IsCaused};
-ghost use Rattle.kt_store.specs.Kept.{WasClean, CommitsNothing, KeepsRuns, OnlyReads, AsksNumber, LeavesSchema, FindsTables, Renews, RenewsForGood, MayRenew};
+ghost use Rattle.kt_store.specs.Inner.Ask.{MayFail};
+ghost use Rattle.kt_store.specs.Ask.{Rests, IsUnderstood, IsNoMemory, IsStoreFault, IsCaused};
+ghost use Rattle.kt_store.specs.Inner.Kept.{WasClean, CommitsNothing, KeepsRuns, OnlyReads, AsksNumber, LeavesSchema, FindsTables, Renews, RenewsForGood, MayRenew};
 ghost use Rattle.kt_store.specs.Calls.{table_statements, schema_statements, attach_statements, make_statements, raise_statements};
 ghost use Rattle.kt_store.specs.Runs.{OldTables, Keeps, KeepsOld};
 ghost use Rattle.kt_store.specs.Stands.{IsEmpty, StandsFor, StandsInOld, SaysSchema, Leaves};
 ghost use Rattle.kt_store.specs.Tables.{no_schema, runs_text, entries_text, pairs_text, meta_text};
-ghost use Rattle.kt_store.specs.Transactions.{RunInTurn, IsStopped, HoldsOldRuns, HasNoTable, IsCausedInside, HoldsInside};
+ghost use Rattle.kt_store.specs.Inner.Transactions.{HoldsInside, IsStopped};
+ghost use Rattle.kt_store.specs.Transactions.{RunInTurn, HoldsOldRuns, HasNoTable, IsCausedInside};
 
 use crate::statements::{ask, step};
 use crate::store_fault::StoreFault;

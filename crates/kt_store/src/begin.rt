@@ -1,8 +1,10 @@
 ghost use Rattle.std.specs.Prelude.{◌≡◌, ◌<◌, ◌≤◌, ◌++◌, suc, [], ◌∷◌, length, true, false, IfOk, OnOk, OnErr, IfErr, pos};
+ghost use Rattle.kt_base.specs.Limits.{last_run};
+ghost use Rattle.kt_base.specs.Moments.{IsMoment};
 ghost use Rattle.sqlite.specs.State.{HasCleanDisk};
 ghost use Rattle.sqlite.specs.Held.{state};
 ghost use Rattle.kt_store.specs.Ask.{IsStoreFault, IsCaused};
-ghost use Rattle.kt_store.specs.Kept.{KeepsRuns, OnlyReads, Changes, ChangesForGood, MayChange};
+ghost use Rattle.kt_store.specs.Inner.Kept.{KeepsRuns, OnlyReads, Changes, ChangesForGood, MayChange};
 ghost use Rattle.kt_store.specs.Runs.{new_run};
 ghost use Rattle.kt_store.specs.Stands.{StandsFor};
 ghost use Rattle.kt_store.specs.Tables.{full_text, begin_text};
@@ -17,8 +19,8 @@ use sqlite::{Alter, Connection};
 pub(crate) fn is_full<S: Alter>(conn: &mut Connection<S>) -> Result<bool, StoreFault>
     ensures full { (runs : _) → StandsFor (state S.Store conn.old) runs
         → HasCleanDisk (state S.Store conn.new)
-        → IfOk result (λ full. (full ≡ true → 1000000 ≤ length runs)
-        × (full ≡ false → length runs < 1000000)) }
+        → IfOk result (λ full. (full ≡ true → last_run ≤ length runs)
+        × (full ≡ false → length runs < last_run)) }
     ensures stands { KeepsRuns S.Store conn.old conn.new }
     ensures failed { IfErr result IsStoreFault }
     ensures cause { (runs : _) → StandsFor (state S.Store conn.old) runs
@@ -30,19 +32,19 @@ pub(crate) fn is_full<S: Alter>(conn: &mut Connection<S>) -> Result<bool, StoreF
     Ok(has_rows(&rows))
 }
 
-/// Adds the run after the last one, and answers its number.
+/// Adds the run after the last one, and returns its number.
 pub(crate) fn add_run<S: Alter>(
     conn: &mut Connection<S>,
     total: u32,
     moment: u64,
 ) -> Result<u64, StoreFault>
-    requires { moment ≤ 253402300799999 }
+    requires { IsMoment moment }
     ensures number { (runs : _) → StandsFor (state S.Store conn.old) runs
-        → (HasCleanDisk (state S.Store conn.old) → length runs < 1000000)
+        → (HasCleanDisk (state S.Store conn.old) → length runs < last_run)
         → HasCleanDisk (state S.Store conn.new)
         → IfOk result (λ n. n ≡ suc (length runs)) }
     ensures added { OnOk result (Changes S.Store conn.old conn.new
-        (λ runs. length runs < 1000000) (λ runs. runs ++ new_run runs total moment ∷ [])) }
+        (λ runs. length runs < last_run) (λ runs. runs ++ new_run runs total moment ∷ [])) }
     ensures kept { OnErr result (KeepsRuns S.Store conn.old conn.new) }
     ensures failed { IfErr result IsStoreFault }
     ensures cause { (runs : _) → StandsFor (state S.Store conn.old) runs
@@ -50,9 +52,9 @@ pub(crate) fn add_run<S: Alter>(
         → IfErr result (IsCaused S.Store
         ((begin_text, Int (pos moment) ∷ Int (pos total) ∷ []) ∷ []) conn.new) }
     ensures crash { MayChange S.Store conn.old conn.new
-        (λ runs. length runs < 1000000) (λ runs. runs ++ new_run runs total moment ∷ []) }
+        (λ runs. length runs < last_run) (λ runs. runs ++ new_run runs total moment ∷ []) }
     ensures durable { OnOk result (ChangesForGood S.Store conn.old conn.new
-        (λ runs. length runs < 1000000) (λ runs. runs ++ new_run runs total moment ∷ [])) }
+        (λ runs. length runs < last_run) (λ runs. runs ++ new_run runs total moment ∷ [])) }
 {
     tell(
         conn,

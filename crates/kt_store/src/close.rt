@@ -1,9 +1,11 @@
 ghost use Rattle.std.specs.Prelude.{◌≡◌, ◌⊎◌, ◌<◌, ◌≤◌, ◌^◌, min, length, Some, None, IfOk, OnOk, OnErr, IfErr, pos, [], ◌∷◌};
 ghost use Rattle.sqlite.specs.State.{HasCleanDisk};
 ghost use Rattle.sqlite.specs.Held.{state};
+ghost use Rattle.kt_base.specs.Limits.{last_run};
 ghost use Rattle.kt_store.specs.Ask.{IsStoreFault, IsCaused};
-ghost use Rattle.kt_store.specs.Kept.{KeepsRuns, OnlyReads, Changes, ChangesForGood, MayChange};
-ghost use Rattle.kt_store.specs.Runs.{run_at, entries_of, finish, finish_refusal, IsComplete};
+ghost use Rattle.kt_store.specs.Inner.Kept.{KeepsRuns, OnlyReads, Changes, ChangesForGood, MayChange};
+ghost use Rattle.kt_store.specs.Inner.Runs.{entries_of, IsComplete};
+ghost use Rattle.kt_store.specs.Runs.{run_at, finish, finish_refusal};
 ghost use Rattle.kt_store.specs.Stands.{StandsFor};
 ghost use Rattle.kt_store.specs.Calls.{finish_statements};
 ghost use Rattle.kt_store.specs.Tables.{count_text};
@@ -43,7 +45,7 @@ pub(crate) fn count<S: Alter>(conn: &mut Connection<S>, run: u64) -> Result<u64,
 
 /// Asks whether the run may be finished.
 pub(crate) fn check<S: Alter>(conn: &mut Connection<S>, run: u64) -> Result<(), StoreFault>
-    ensures small { OnOk result (run ≤ 1000000) }
+    ensures small { OnOk result (run ≤ last_run) }
     ensures cause { (runs : _) → StandsFor (state S.Store conn.old) runs
         → HasCleanDisk (state S.Store conn.new)
         → IfErr result (IsCaused S.Store (finish_statements run) conn.new) }

@@ -9,11 +9,12 @@ ghost use Rattle.sqlite_value.specs.declared.value.Value.TheVariants.{Int, Text 
 ghost use Rattle.sqlite.specs.State.{HasCleanDisk};
 ghost use Rattle.sqlite.specs.Held.{state};
 ghost use Rattle.kt_store.specs.Ask.{IsNoMemory, IsStoreFault, IsCaused};
-ghost use Rattle.kt_store.specs.Kept.{KeepsRuns, OnlyReads};
+ghost use Rattle.kt_store.specs.Inner.Kept.{KeepsRuns, OnlyReads};
 ghost use Rattle.kt_base.specs.declared.variable.Variable.{Variable as StoredPair};
 ghost use Rattle.sqlite_trees.specs.Tree.{IsAscending};
-ghost use Rattle.kt_store.specs.Runs.{IsEntry, IsPair, IsText, AreRuns, kind_code, run_at, entries_of};
-ghost use Rattle.kt_store.specs.Heads.{entry_columns, pair_columns, pairs_shown};
+ghost use Rattle.kt_store.specs.Inner.Runs.{entries_of};
+ghost use Rattle.kt_store.specs.Runs.{IsEntry, IsPair, IsText, AreRuns, kind_code, run_at};
+ghost use Rattle.kt_store.specs.Inner.Heads.{entry_columns, pair_columns, pairs_shown};
 ghost use Rattle.kt_store.specs.Stands.{StandsFor};
 ghost use Rattle.kt_store.specs.Tables.{entries_text, pairs_text};
 
@@ -91,7 +92,7 @@ pub(crate) fn pair_in(row: &Row) -> Result<Variable, StoreFault>
     Ok(Variable { name, value })
 }
 
-/// The pairs of the entry at this position, which are the first of the rows, and the rows behind
+/// The pairs of the entry at this position, which are the first of the rows, and the rows after
 /// them.
 pub(crate) fn meta_in(
     alloc: Global,

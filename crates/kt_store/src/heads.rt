@@ -4,8 +4,9 @@ ghost use Rattle.kt_base.specs.declared.run.Run.{Run as Stored};
 ghost use Rattle.sqlite.specs.State.{HasCleanDisk};
 ghost use Rattle.sqlite.specs.Held.{state};
 ghost use Rattle.kt_store.specs.Ask.{IsNoMemory, IsStoreFault, IsCaused};
-ghost use Rattle.kt_store.specs.Kept.{KeepsRuns, OnlyReads};
-ghost use Rattle.kt_store.specs.Heads.{head_columns, head_of};
+ghost use Rattle.kt_store.specs.Inner.Kept.{KeepsRuns, OnlyReads};
+ghost use Rattle.kt_store.specs.Inner.Heads.{head_columns};
+ghost use Rattle.kt_store.specs.Heads.{head_of};
 ghost use Rattle.kt_store.specs.Stands.{StandsFor};
 ghost use Rattle.kt_store.specs.Calls.{runs_statements};
 

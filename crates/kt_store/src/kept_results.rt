@@ -11,7 +11,7 @@ impl<S: Alter> ResultStore for Results<S> {
     ghost use Rattle.kt_store.specs.Runs.{AreNumbered, KeepsOne};
     ghost use Rattle.kt_store.specs.Stands.{StandsFor, Leaves};
 
-    // What each call answers is its own clause.
+    // What each call returns is its own clause.
     ghost answers = { λ _ _ _. Unit {0} };
 
     ghost stands = { λ s runs. StandsFor (state S.Store s) runs × AreNumbered 1 runs };

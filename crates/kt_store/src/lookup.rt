@@ -1,9 +1,11 @@
 ghost use Rattle.std.specs.Prelude.{◌≡◌, ◌⊎◌, ◌<◌, ◌≤◌, ◌^◌, IfOk, IfErr, OnOk, Some, None, option_map, unsigned_abs, pos, [], ◌∷◌};
 ghost use Rattle.sqlite.specs.State.{HasCleanDisk};
 ghost use Rattle.sqlite.specs.Held.{state};
+ghost use Rattle.kt_base.specs.Limits.{last_run};
 ghost use Rattle.kt_store.specs.Ask.{IsStoreFault, IsCaused};
-ghost use Rattle.kt_store.specs.Kept.{KeepsRuns, OnlyReads};
-ghost use Rattle.kt_store.specs.Runs.{run_at, flag, AreRuns, entries_of, has_position};
+ghost use Rattle.kt_store.specs.Inner.Kept.{KeepsRuns, OnlyReads};
+ghost use Rattle.kt_store.specs.Inner.Runs.{entries_of};
+ghost use Rattle.kt_store.specs.Runs.{run_at, flag, AreRuns, has_position};
 ghost use Rattle.kt_store.specs.Stands.{StandsFor};
 ghost use Rattle.kt_store.specs.Calls.{asked_number, look_statement, there_statement};
 ghost use Rattle.kt_store.specs.Tables.{run_text};
@@ -49,9 +51,9 @@ pub(crate) fn find<S: Alter>(
 
 /// A number that SQL takes: the run's own, or 0 for one past the last that may be.
 pub(crate) fn key(run: u64) -> u64
-    ensures low { result ≤ 1000000 }
-    ensures same { run ≤ 1000000 → result ≡ run }
-    ensures none { 1000000 < run → result ≡ 0 }
+    ensures low { result ≤ last_run }
+    ensures same { run ≤ last_run → result ≡ run }
+    ensures none { last_run < run → result ≡ 0 }
     ensures asked { result ≡ asked_number run }
 {
     if run <= 1000000 { run } else { 0 }
@@ -59,7 +61,7 @@ pub(crate) fn key(run: u64) -> u64
 
 /// The total of a run that is there, and whether it is finished.
 pub(crate) fn look<S: Alter>(conn: &mut Connection<S>, run: u64) -> Result<(u64, bool), StoreFault>
-    ensures small { OnOk result (run ≤ 1000000) }
+    ensures small { OnOk result (run ≤ last_run) }
     ensures cause { (runs : _) → StandsFor (state S.Store conn.old) runs
         → HasCleanDisk (state S.Store conn.new)
         → IfErr result (IsCaused S.Store (look_statement run ∷ []) conn.new) }

@@ -1,12 +1,16 @@
 ghost use Rattle.std.specs.Prelude.{◌≡◌, ◌⊎◌, false, Some, None, Err, IfOk, ◌<◌, ◌≤◌, ◌^◌, OnOk, OnErr, IfErr, IsTrue};
+ghost use Rattle.kt_base.specs.Limits.{last_run};
+ghost use Rattle.kt_base.specs.Moments.{IsStorable};
 ghost use Rattle.std.specs.List.{AllByRecursion};
 ghost use Rattle.sqlite.specs.State.{HasCleanDisk, ExecutesInside};
 ghost use Rattle.sqlite.specs.Held.{state};
 ghost use Rattle.kt_store.specs.Ask.{IsNoMemory, IsStoreFault, IsCaused};
-ghost use Rattle.kt_store.specs.Kept.{CommitsNothing, KeepsRuns, OnlyReads, Changes, ChangesForGood, MayChange};
+ghost use Rattle.kt_store.specs.Inner.Kept.{CommitsNothing, KeepsRuns, OnlyReads, Changes, ChangesForGood, MayChange};
 ghost use Rattle.kt_store.specs.Fault.{Tells};
-ghost use Rattle.kt_store.specs.Transactions.{RunsInside, RunInTurn, StopInTurn, IsStopped, HoldsRuns, IsCausedInside};
-ghost use Rattle.kt_store.specs.Runs.{IsEntry, IsPair, IsText, pair_row, with_entry, kind_code, put_refusal, run_at, AreRuns, entries_of, has_position, CanAdd};
+ghost use Rattle.kt_store.specs.Inner.Transactions.{IsStopped};
+ghost use Rattle.kt_store.specs.Transactions.{RunsInside, RunInTurn, StopInTurn, HoldsRuns, IsCausedInside};
+ghost use Rattle.kt_store.specs.Inner.Runs.{entries_of, CanAdd};
+ghost use Rattle.kt_store.specs.Runs.{IsEntry, IsPair, IsText, pair_row, with_entry, kind_code, put_refusal, run_at, AreRuns, has_position};
 ghost use Rattle.kt_store.specs.Stands.{StandsFor};
 ghost use Rattle.kt_store.specs.Calls.{put_statements, pair_statements, entry_statements};
 ghost use Rattle.kt_store.specs.Tables.{pair_text};
@@ -139,8 +143,7 @@ pub(crate) fn fill<S: Alter>(
 ) -> Result<(), StoreFault>
     requires run { run < 2 ^ 63 }
     requires reason { reason.now ≡ entry.now.verdict.reason }
-    requires moments { (entry.now.started ≤ 253402300799999)
-        × (entry.now.millis ≤ 253402300799999) }
+    requires moments { IsStorable entry.now }
     ensures same_reference { tx.new.conn.ghost_name ≡ tx.old.conn.ghost_name }
     ensures runs { HasCleanDisk (state S.Store tx.new.conn.now)
         → IsTrue (state S.Store tx.old.conn.now).in_transaction
@@ -185,8 +188,7 @@ pub(crate) fn commit_entry<S: Alter>(
     requires mode { conn.old.in_transaction ≡ false }
     requires run { run < 2 ^ 63 }
     requires reason { reason.now ≡ entry.now.verdict.reason }
-    requires moments { (entry.now.started ≤ 253402300799999)
-        × (entry.now.millis ≤ 253402300799999) }
+    requires moments { IsStorable entry.now }
     ensures added { OnOk result (Changes S.Store conn.old conn.new
         (CanAdd run entry.now) (with_entry run entry.now)) }
     ensures kept { OnErr result (KeepsRuns S.Store conn.old conn.new) }
@@ -216,8 +218,7 @@ pub(crate) fn add_entry<S: Alter>(
 ) -> Result<(), StoreFault>
     requires run { run < 2 ^ 63 }
     requires reason { reason.now ≡ entry.now.verdict.reason }
-    requires moments { (entry.now.started ≤ 253402300799999)
-        × (entry.now.millis ≤ 253402300799999) }
+    requires moments { IsStorable entry.now }
     ensures added { OnOk result (Changes S.Store conn.old conn.new
         (CanAdd run entry.now) (with_entry run entry.now)) }
     ensures kept { OnErr result (KeepsRuns S.Store conn.old conn.new) }
@@ -247,7 +248,7 @@ pub(crate) fn check<S: Alter>(
     run: u64,
     entry: &Entry,
 ) -> Result<(), StoreFault>
-    ensures small { OnOk result (run ≤ 1000000) }
+    ensures small { OnOk result (run ≤ last_run) }
     ensures cause { (runs : _) → StandsFor (state S.Store conn.old) runs
         → HasCleanDisk (state S.Store conn.new)
         → IfErr result (IsCaused S.Store (put_statements run entry.now) conn.new) }

@@ -7,6 +7,8 @@ use kt_base::Entry;
 /// while the store is sound.
 pub trait ResultStore {
     ghost use Rattle.std.specs.Prelude.{ℕ, suc, List, [], ◌∷◌, ◌++◌, Some, None, ◌≡◌, ◌≤◌, ◌<◌, ◌⊎◌, length, map, OnOk, OnErr, IfOk, IfErr};
+    ghost use Rattle.kt_base.specs.Limits.{last_run};
+    ghost use Rattle.kt_base.specs.Moments.{IsMoment, IsStorable};
     ghost use Rattle.kt_base.specs.declared.run.Run.{Run};
     ghost use Rattle.kt_store.specs.Ask.{IsStoreFault};
     ghost use Rattle.kt_store.specs.Heads.{head_of};
@@ -27,21 +29,21 @@ pub trait ResultStore {
     /// Whether a crash at this moment leaves one of these lists of runs, whatever it leaves.
     ghost leaves: { Self → List (List Run) → Type 0 };
 
-    /// Adds an unfinished run of so many cases, and answers its number. The moment is in
+    /// Adds an unfinished run of `total` cases, and returns its number. The moment is in
     /// milliseconds since 1970 in UTC. `StoreFull` where there are 1,000,000 runs.
     fn begin(&mut self, total: u32, moment: u64) -> Result<u64, StoreFault>
-        requires { moment ≤ 253402300799999 }
+        requires { IsMoment moment }
         ensures asked { answers self.old (Began total moment result) self.new }
         ensures added { (runs : List Run) → stands self.old runs
             → OnOk result (stands self.new (runs ++ new_run runs total moment ∷ [])) }
         ensures number { (runs : List Run) → stands self.old runs → sound self.new
             → IfOk result (λ n. n ≡ suc (length runs)) }
         ensures allowed { (runs : List Run) → stands self.old runs → sound self.new
-            → OnOk result (length runs < 1000000) }
+            → OnOk result (length runs < last_run) }
         ensures kept { (runs : List Run) → stands self.old runs
             → OnErr result (stands self.new runs) }
         ensures refused { (runs : List Run) → stands self.old runs → sound self.new
-            → IfErr result (λ e. IsStoreFault e ⊎ ((e ≡ StoreFull) × (1000000 ≤ length runs))) }
+            → IfErr result (λ e. IsStoreFault e ⊎ ((e ≡ StoreFull) × (last_run ≤ length runs))) }
         ensures earlier { (runs : List Run) → stands self.old runs → sound self.new
             → sound self.old }
         // A crash leaves what it left before the call, or the runs with the new one; after Ok
@@ -55,7 +57,7 @@ pub trait ResultStore {
     /// Adds an entry to a run. Refused, in this order, are: no such run, a run that is finished, a
     /// position that is not below the total, a position that is there.
     fn put(&mut self, run: u64, entry: &Entry) -> Result<(), StoreFault>
-        requires { (entry.now.started ≤ 253402300799999) × (entry.now.millis ≤ 253402300799999) }
+        requires { IsStorable entry.now }
         ensures asked { answers self.old (Put run entry.now result) self.new }
         ensures added { (runs : List Run) → stands self.old runs
             → OnOk result (stands self.new (with_entry run entry.now runs)) }

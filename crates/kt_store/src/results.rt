@@ -1,4 +1,6 @@
 ghost use Rattle.std.specs.Prelude.{◌≡◌, false, ◌≢◌, ℤ, pos, Some, None, ◌⊎◌, ◌<◌, ◌≤◌, ◌++◌, suc, [], ◌∷◌, length, map, IfOk, OnOk, OnErr, IfErr, IsTrue};
+ghost use Rattle.kt_base.specs.Limits.{last_run};
+ghost use Rattle.kt_base.specs.Moments.{IsMoment, IsStorable};
 ghost use Rattle.sqlite.specs.State.{HasCleanDisk, Survives};
 ghost use Rattle.sqlite.specs.Held.{state};
 ghost use Rattle.kt_store.specs.Ask.{IsStoreFault, IsCaused, Rests};
@@ -154,10 +156,10 @@ impl<S: Alter> Results<S> {
         conn
     }
 
-    /// Adds an unfinished run of so many cases, and answers its number. The moment is when it was
+    /// Adds an unfinished run of `total` cases, and returns its number. The moment is when it was
     /// started, in milliseconds since 1970 in UTC. `StoreFull` where there are 1,000,000 runs.
     pub fn begin(&mut self, total: u32, moment: u64) -> Result<u64, StoreFault>
-        requires { moment ≤ 253402300799999 }
+        requires { IsMoment moment }
         // The runs are then those from before with the new one.
         ensures added { (runs : _) → StandsFor (state S.Store self.old) runs
             → OnOk result (StandsFor (state S.Store self.new)
@@ -165,14 +167,14 @@ impl<S: Alter> Results<S> {
         ensures number { (runs : _) → StandsFor (state S.Store self.old) runs
             → HasCleanDisk (state S.Store self.new) → IfOk result (λ n. n ≡ suc (length runs)) }
         ensures allowed { (runs : _) → StandsFor (state S.Store self.old) runs
-            → HasCleanDisk (state S.Store self.new) → OnOk result (length runs < 1000000) }
+            → HasCleanDisk (state S.Store self.new) → OnOk result (length runs < last_run) }
         // A refusal changes nothing.
         ensures kept { (runs : _) → StandsFor (state S.Store self.old) runs
             → OnErr result (StandsFor (state S.Store self.new) runs) }
         ensures refused { (runs : _) → StandsFor (state S.Store self.old) runs
             → HasCleanDisk (state S.Store self.new)
             → IfErr result (λ e. IsStoreFault e
-            ⊎ ((e ≡ StoreFault.StoreFull) × (1000000 ≤ length runs))) }
+            ⊎ ((e ≡ StoreFault.StoreFull) × (last_run ≤ length runs))) }
         // `Store` comes only if one of the call's own statements failed.
         ensures cause { (runs : _) → StandsFor (state S.Store self.old) runs
             → HasCleanDisk (state S.Store self.new)
@@ -196,7 +198,7 @@ impl<S: Alter> Results<S> {
     /// run, a run that is finished, a position that is not below the total, a position that is
     /// there. Moments and durations are in milliseconds, up to the end of the year 9999.
     pub fn put(&mut self, run: u64, entry: &Entry) -> Result<(), StoreFault>
-        requires { (entry.now.started ≤ 253402300799999) × (entry.now.millis ≤ 253402300799999) }
+        requires { IsStorable entry.now }
         // The run then has this entry too.
         ensures added { (runs : _) → StandsFor (state S.Store self.old) runs
             → OnOk result (StandsFor (state S.Store self.new) (with_entry run entry.now runs)) }

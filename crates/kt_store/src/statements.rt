@@ -3,8 +3,9 @@ ghost use Rattle.sqlite.specs.Values.{bound};
 ghost use Rattle.sqlite.specs.State.{HasCleanDisk, Survives, ExecutesInside, KeepsCommit};
 ghost use Rattle.sqlite.specs.Held.{state};
 ghost use Rattle.kt_store.specs.Fault.{Tells};
-ghost use Rattle.kt_store.specs.Kept.{CommitsNothing};
-ghost use Rattle.kt_store.specs.Ask.{Rests, Asked, Told, MayFail, MayShow, MayTell, IsStoreFault};
+ghost use Rattle.kt_store.specs.Inner.Kept.{CommitsNothing};
+ghost use Rattle.kt_store.specs.Inner.Ask.{Asked, MayFail, MayShow, MayTell, Told};
+ghost use Rattle.kt_store.specs.Ask.{Rests, IsStoreFault};
 
 use crate::store_fault::StoreFault;
 use sqlite::{Alter, Connection, Row, Transaction};

@@ -11,11 +11,12 @@ use Rattle.kt_suite.specs.declared.meaning.Meaning.{Meaning}
 use Rattle.kt_suite.specs.declared.registry.Registry.{Registry}
 use Rattle.kt_suite.specs.declared.step.Step.{Step}
 use Rattle.kt_suite.specs.declared.step.Step.TheVariants.{Next, Enter}
-use Rattle.kt_suite.specs.Answers.{Asked, Chain}
+use Rattle.kt_base.specs.Chains.{Chain}
+use Rattle.kt_suite.specs.Answers.{Asked}
 use Rattle.kt_suite.specs.Meanings.{meaning_of}
 use Rattle.kt_suite.specs.Marks.{Site, Mark, File, Part, Includes, said, suite_after, entry_fault, Unfolds, end, entered}
 use Rattle.kt_suite.specs.Registered.{file_limit, questions_in}
-use Rattle.kt_suite.specs.Walks.{Counted, Walked, through, stops, short, FileGives, MeaningGives, Stepped, goes, enters, fails}
+use Rattle.kt_suite.specs.Inner.Walks.{Counted, Walked, through, stops, short, FileGives, MeaningGives, Stepped, goes, enters, fails}
 use Rattle.kt_suite.proofs.Counting.{same_reading, next-append}
 use Rattle.kt_suite.proofs.Unfolding.{unfolds_to}
 use Rattle.kt_suite.proofs.Reading.{begun, Reading, reading_next, reading_stops}
@@ -26,7 +27,7 @@ pub walk_include : {T : Type 0} (asks : T → Asked → T → Type 0) (old new :
 walk_include asks old new r at m path _ p e n (through marks after g c k) =
     through (File at ∷ (marks ++ [])) after
     (record { there = true; unfolds = subst (λ (ps : List Part). Unfolds r.reading ps (File at ∷ (marks ++ []))) (sym p) (entered r.reading at path g.parts marks [] [] e g.says g.unfolds (end r.reading)) })
-    (subst (λ (ms : List Mark). Chain asks (questions_in ms) old new) (sym (append-nil marks)) c)
+    (subst (λ (ms : List Mark). Chain asks old (questions_in ms) new) (sym (append-nil marks)) c)
     (n, subst (λ (ms : List Mark). Counted (record r { files = r.files + 1 }) ms after) (sym (append-nil marks)) k)
 walk_include asks old new r at m path _ p e n (stops front back mark last fault g c k d) =
     stops (File at ∷ front) (back ++ []) mark last fault

@@ -17,3 +17,4 @@ pub mod WithinPaths
 pub mod Overlaps
 pub mod Picking
 pub mod FirstMatches
+pub mod FaultWords

@@ -18,7 +18,7 @@ use Rattle.kt_suite.specs.Faults.{IsNoMemory}
 use Rattle.kt_suite.specs.Paths.{beside}
 use Rattle.kt_suite.specs.Marks.{Site, told, looked_up, Mark, Asks, File, Listed, Fault, said, unread, entry_fault, Unfolds, end, says, refused, entered}
 use Rattle.kt_suite.specs.Registered.{file_limit, program_limit, is_fault, file_too_many, program_too_many, no_question}
-use Rattle.kt_suite.specs.Walks.{Walked, through, stops, short, Adds, Enters, refuses, exceeds, counts, scant, MeaningGives, Stepped, goes, enters, fails}
+use Rattle.kt_suite.specs.Inner.Walks.{Walked, through, stops, short, Adds, Enters, refuses, exceeds, counts, scant, MeaningGives, Stepped, goes, enters, fails}
 use Rattle.kt_suite.proofs.Unfolding.{some_file, some_marks}
 
 -- what holds of an out-of-memory fault and of another one

@@ -10,7 +10,7 @@ use Rattle.kt_suite.specs.Answers.{Asked, Read}
 use Rattle.kt_suite.specs.Faults.{read_fault, IsNoMemory}
 use Rattle.kt_suite.specs.Marks.{Asks, Fault, Says, unread, end, says}
 use Rattle.kt_suite.specs.Registered.{is_fault, thrown_away}
-use Rattle.kt_suite.specs.Walks.{Walked, stops, short, FileGives, Opened, opens, declines, lacks}
+use Rattle.kt_suite.specs.Inner.Walks.{Walked, stops, short, FileGives, Opened, opens, declines, lacks}
 use Rattle.kt_suite.proofs.Unfolding.{some_file}
 
 -- memory ran out with the answer for a file's bytes

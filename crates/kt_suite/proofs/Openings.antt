@@ -11,10 +11,12 @@ use Rattle.kt_suite.specs.declared.cause.SuiteCause.{SuiteCause}
 use Rattle.kt_suite.specs.declared.cause.SuiteCause.TheVariants.{NoSyntax, Script}
 use Rattle.kt_suite.specs.declared.fault.SuiteFault.{SuiteFault}
 use Rattle.kt_suite.specs.Answers.{Asked, Read}
-use Rattle.kt_suite.specs.Faults.{fault_at, read_fault, script_line, IsText, IsNoMemory, Blames}
+use Rattle.kt_suite.specs.Inner.Steps.{IsText}
+use Rattle.kt_suite.specs.Inner.Faults.{Blames}
+use Rattle.kt_suite.specs.Faults.{fault_at, read_fault, script_line, IsNoMemory}
 use Rattle.kt_suite.specs.Meanings.{opening_fault}
 use Rattle.kt_suite.specs.Marks.{unread, no_script, no_statement, unopened}
-use Rattle.kt_suite.specs.Walks.{WellOpened, well, empty, badly, unclear, Opened, opens, declines, lacks}
+use Rattle.kt_suite.specs.Inner.Walks.{WellOpened, well, empty, badly, unclear, Opened, opens, declines, lacks}
 
 nothing : {X : Type 0} (xs : List X) → length xs ≡ 0 → xs ≡ []
 nothing [] e = refl

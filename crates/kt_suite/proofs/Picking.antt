@@ -5,7 +5,8 @@ use Rattle.std.specs.Prelude.{◌||◌, not, if◌then◌else◌}
 use Rattle.std.specs.List.{list_any, filter}
 use Rattle.kt_suite.specs.declared.filter.Filter.{Filter}
 use Rattle.kt_suite.specs.declared.item.Item.{Item}
-use Rattle.kt_suite.specs.Selecting.{places, is_idle, idle_places, all_places, is_some_match, is_match, is_miss}
+use Rattle.kt_suite.specs.Inner.Steps.{all_places, is_some_match, is_match, is_miss}
+use Rattle.kt_suite.specs.Selecting.{places, is_idle, idle_places}
 
 -- the filter at a position matches none of these items
 abbrev pub is_idle_at : List Item → List Filter → ℕ → Bool

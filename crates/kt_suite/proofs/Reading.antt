@@ -6,12 +6,13 @@ use Rattle.std.proofs.lemmas.List.{take_at}
 use Rattle.kt_script.specs.declared.syntax.Stmt.{Stmt}
 use Rattle.kt_suite.specs.declared.fault.SuiteFault.{SuiteFault}
 use Rattle.kt_suite.specs.declared.registry.Registry.{Registry}
-use Rattle.kt_suite.specs.Answers.{Asked, Read, Chain}
+use Rattle.kt_base.specs.Chains.{Chain}
+use Rattle.kt_suite.specs.Answers.{Asked, Read}
 use Rattle.kt_suite.specs.Meanings.{meaning_of}
 use Rattle.kt_suite.specs.Marks.{Mark, Asks, Part, Says, said, suite_after, StatementsSay, none, one, opened, Unfolds, end, says}
 use Rattle.kt_suite.specs.Registered.{questions_in}
-use Rattle.kt_suite.specs.Walks.{Counted, Walked, through, stops, short, FileGives, MeaningGives, Opened, opens}
-use Rattle.kt_suite.proofs.Counting.{counted-append, counted-reading, same_reading, chain-append, chain_then, next-append}
+use Rattle.kt_suite.specs.Inner.Walks.{Counted, Walked, through, stops, short, FileGives, MeaningGives, Opened, opens}
+use Rattle.kt_suite.proofs.Counting.{counted-append, counted-reading, same_reading, chain_of_marks, chain_then, next-append}
 use Rattle.kt_suite.proofs.Unfolding.{unfolds-append, some_marks, some_parts}
 
 -- a registry while a file is read
@@ -21,7 +22,7 @@ begun r file = record r { reading = r.reading ++ file ∷ [] }
 -- marks so far, and what the whole file gives, whatever the statements that are left say
 pub record Reading {T : Type 0} (asks : T → Asked → T → Type 0) (old new : T) (start : Registry) (file : List ℕ) (r : Registry) (suite : Option (List ℕ)) (left : List Stmt) : Type 0 where
   pub front : List Mark
-  pub chain : Chain asks (questions_in front) old new
+  pub chain : Chain asks old (questions_in front) new
   pub counted : Counted (begun start file) front r
   pub goes_on : (parts : List Part) (marks : List Mark) → StatementsSay file suite left parts → Unfolds (start.reading ++ file ∷ []) parts marks → FileGives start.reading file (front ++ marks)
 
@@ -51,7 +52,7 @@ reading_next asks old mid new start file r after suite stmt rest left e f (throu
     let same : r.reading ≡ start.reading ++ file ∷ [] = same_reading (begun start file) r f.front f.counted in
     record {
       front = f.front ++ marks;
-      chain = chain-append asks f.front marks old mid new f.chain c;
+      chain = chain_of_marks asks f.front marks old mid new f.chain c;
       counted = counted-append (begun start file) r after f.front marks f.counted k;
       goes_on = λ parts more p u. file_gives_to start.reading file (f.front ++ (marks ++ more)) (f.front ++ marks ++ more) (sym (append_assoc f.front marks more))
           (f.goes_on (said (record { file = file; line = stmt.line }) g.there (meaning_of suite stmt.action) ++ parts) (marks ++ more)
@@ -79,7 +80,7 @@ reading_stops asks old mid new start file r suite stmt rest left _ e f (stops fr
     (f.goes_on (said (record { file = file; line = stmt.line }) g.there (meaning_of suite stmt.action) ++ others.0) (front ++ mark ∷ back ++ more.0)
     (subst (λ (xs : List Stmt). StatementsSay file suite xs (said (record { file = file; line = stmt.line }) g.there (meaning_of suite stmt.action) ++ others.0)) (sym e) (one suite stmt rest g.there others.0 others.1))
     (unfolds-append (start.reading ++ file ∷ []) _ others.0 (front ++ mark ∷ back) more.0 (subst (λ (xs : List (List ℕ)). Unfolds xs (said (record { file = file; line = stmt.line }) g.there (meaning_of suite stmt.action)) (front ++ mark ∷ back)) same g.unfolds) more.1)))
-    (chain-append asks f.front front old mid new f.chain c)
+    (chain_of_marks asks f.front front old mid new f.chain c)
     (counted-reading (begun start file) last (f.front ++ front) start.reading (counted-append (begun start file) r last f.front front f.counted k))
     d
 reading_stops asks old mid new start file r suite stmt rest left _ e f (short front back more last fault g l c k n) =

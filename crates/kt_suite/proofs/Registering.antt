@@ -8,7 +8,7 @@ use Rattle.kt_suite.specs.declared.registry.Registry.{Registry}
 use Rattle.kt_suite.specs.Answers.{Asked, Answered}
 use Rattle.kt_suite.specs.Marks.{Site, Mark, File, Includes, end, entered, TreeGives}
 use Rattle.kt_suite.specs.Registered.{program_limit, Outcome, questions_in, files_in, programs_in, IsUndecided, Decides, Unfinished, Registered, all, stopped}
-use Rattle.kt_suite.specs.Walks.{Counted, Walked, through, stops, short, FileGives}
+use Rattle.kt_suite.specs.Inner.Walks.{Counted, Walked, through, stops, short, FileGives}
 use Rattle.kt_suite.proofs.Counting.{counted_files, counted_programs, counted_faults, counted_few_files, counted_few_programs, next-append}
 use Rattle.kt_suite.proofs.Unfolding.{unfolds_to}
 

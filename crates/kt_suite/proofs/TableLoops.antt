@@ -6,7 +6,9 @@ use Rattle.kt_base.specs.declared.variable.Variable.{Variable}
 use Rattle.kt_script.specs.declared.syntax.Pair.{Pair}
 use Rattle.kt_suite.specs.declared.cause.SuiteCause.{SuiteCause}
 use Rattle.kt_suite.specs.declared.program_table.ProgramTable.{ProgramTable}
-use Rattle.kt_suite.specs.Tables.{definition, definitions, pair_fault, earlier, first_fault, table_of, unless, declared, table_with}
+use Rattle.kt_suite.specs.Inner.Steps.{table_with}
+use Rattle.std.specs.Option.{option_or}
+use Rattle.kt_suite.specs.Tables.{definition, definitions, pair_fault, first_fault, table_of, unless, declared}
 
 -- none of the pairs so far is refused, and they are what was found
 pub record TableSoFar (found : ProgramTable) (rest pairs : List Pair) : Type 0 where
@@ -28,7 +30,7 @@ err_unless (Some other) cause table e = ap (λ (r : Result ProgramTable SuiteCau
 
 -- the faults of the pairs that are left, the next of them first
 left_fault : (pair : Pair) (after rest pairs : List Pair) → rest ≡ pair ∷ after → first_fault (definitions rest) ≡ first_fault (definitions pairs)
-    → earlier (pair_fault (definition pair)) (first_fault (definitions after)) ≡ first_fault (definitions pairs)
+    → option_or (pair_fault (definition pair)) (first_fault (definitions after)) ≡ first_fault (definitions pairs)
 left_fault pair after rest pairs e f = ap (λ (ps : List Pair). first_fault (definitions ps)) (sym e) ∙ f
 
 pub table_next : (found next : ProgramTable) (pair : Pair) (after rest pairs : List Pair) → rest ≡ pair ∷ after → (s : TableSoFar found rest pairs)
@@ -39,7 +41,7 @@ table_next found next pair after rest pairs e s h =
       before = s.before ++ definition pair ∷ [];
       is = u.1;
       whole = append_assoc s.before (definition pair ∷ []) (definitions after) ∙ ap (λ (ps : List Pair). s.before ++ definitions ps) (sym e) ∙ s.whole;
-      fault = ap (λ (f : Option SuiteCause). earlier f (first_fault (definitions after))) (sym u.0) ∙ left_fault pair after rest pairs e s.fault;
+      fault = ap (λ (f : Option SuiteCause). option_or f (first_fault (definitions after))) (sym u.0) ∙ left_fault pair after rest pairs e s.fault;
     }
 
 pub table_stops : (found : ProgramTable) (cause : SuiteCause) (pair : Pair) (after rest pairs : List Pair) → rest ≡ pair ∷ after → (s : TableSoFar found rest pairs)
@@ -47,7 +49,7 @@ pub table_stops : (found : ProgramTable) (cause : SuiteCause) (pair : Pair) (aft
 table_stops found cause pair after rest pairs e s h =
     let u = err_unless (pair_fault (definition pair)) cause (table_of (s.before ++ definition pair ∷ [])) h in
     ap (λ (f : Option SuiteCause). unless f (table_of (definitions pairs)))
-    (ap (λ (f : Option SuiteCause). earlier f (first_fault (definitions after))) (sym u) ∙ left_fault pair after rest pairs e s.fault)
+    (ap (λ (f : Option SuiteCause). option_or f (first_fault (definitions after))) (sym u) ∙ left_fault pair after rest pairs e s.fault)
 
 none_left : (rest : List Pair) → length rest ≡ 0 → rest ≡ []
 none_left [] e = refl

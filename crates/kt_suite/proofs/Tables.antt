@@ -2,10 +2,11 @@
 use Rattle.std.specs.Prelude.{codes, cond, Option, Some, None, Result, Ok, Err, if◌then◌else◌}
 use Rattle.std.proofs.Common.{◌≡◌, ℕ, Bool, true, false, List, [], ◌∷◌, ◌++◌, bytes_eq, refl, sym, ap, ◌∙◌}
 use Rattle.std.specs.List.{filter}
+use Rattle.std.specs.Option.{option_or}
 use mathlib.Core.List.{append-nil}
 use Rattle.std.proofs.lemmas.List.Elements.{filter-append}
 use Rattle.kt_base.specs.declared.variable.Variable.{Variable}
-use Rattle.kt_base.specs.LastValues.{later, value_of, last_values}
+use Rattle.kt_base.specs.LastValues.{value_of, last_values}
 use Rattle.kt_base.proofs.Names.{same, same-flip, value_of-append}
 use Rattle.kt_script.specs.declared.syntax.Pair.{Pair}
 use Rattle.kt_script.specs.LiteralText.{text_of}
@@ -16,7 +17,8 @@ use Rattle.kt_suite.specs.declared.key.Key.{Key}
 use Rattle.kt_suite.specs.declared.key.Key.TheVariants as key
 use Rattle.kt_suite.specs.declared.program_table.ProgramTable.{ProgramTable}
 use Rattle.kt_suite.specs.Calls.{key_named}
-use Rattle.kt_suite.specs.Tables.{definition, is_property, value_cause, key_fault, pair_fault, table_of, unless, props_with, table_with}
+use Rattle.kt_suite.specs.Inner.Steps.{props_with, table_with}
+use Rattle.kt_suite.specs.Tables.{definition, is_property, value_cause, key_fault, pair_fault, table_of, unless}
 
 -- the properties in two lists
 properties-append : (pairs more : List Variable) → filter is_property (pairs ++ more) ≡ filter is_property pairs ++ filter is_property more
@@ -24,7 +26,7 @@ properties-append pairs more = filter-append is_property pairs more
 
 -- a name that isn't a word has no value for it
 other_value : (word : List ℕ) (pair : Variable) → bytes_eq pair.name word ≡ false → value_of word (pair ∷ []) ≡ None
-other_value word pair e = ap (λ (b : Bool). later None (if b then Some pair.value else None)) (same-flip word pair.name ∙ e)
+other_value word pair e = ap (λ (b : Bool). option_or None (if b then Some pair.value else None)) (same-flip word pair.name ∙ e)
 
 property_key : (n : List ℕ) (a b c : Bool) → bytes_eq n (codes "name") ≡ a → bytes_eq n (codes "test_suite") ≡ b → is_kyuafile_property n ≡ c
     → key.Property ≡ (if a then key.Name else if b then key.TestSuite else if c then key.Property else key.Unknown) → (bytes_eq n (codes "name") ≡ false) × (bytes_eq n (codes "test_suite") ≡ false) × (is_kyuafile_property n ≡ true)
@@ -76,8 +78,8 @@ push_property : (before : List Variable) (pair : Variable) → (bytes_eq pair.na
     → table_of (before ++ pair ∷ []) ≡ record (table_of before) { props = last_values (filter is_property before ++ pair ∷ []) }
 push_property before pair k =
     three_parts before pair (value_of (codes "name") before) (value_of (codes "test_suite") before) (filter is_property before ++ pair ∷ [])
-    (value_of-append (codes "name") before (pair ∷ []) ∙ ap (λ (o : Option (List ℕ)). later o (value_of (codes "name") before)) (other_value (codes "name") pair k.0))
-    (value_of-append (codes "test_suite") before (pair ∷ []) ∙ ap (λ (o : Option (List ℕ)). later o (value_of (codes "test_suite") before)) (other_value (codes "test_suite") pair k.1))
+    (value_of-append (codes "name") before (pair ∷ []) ∙ ap (λ (o : Option (List ℕ)). option_or o (value_of (codes "name") before)) (other_value (codes "name") pair k.0))
+    (value_of-append (codes "test_suite") before (pair ∷ []) ∙ ap (λ (o : Option (List ℕ)). option_or o (value_of (codes "test_suite") before)) (other_value (codes "test_suite") pair k.1))
     (properties-append before (pair ∷ []) ∙ ap (λ (ps : List Variable). filter is_property before ++ ps) (one_kept is_property pair k.2))
 
 -- a definition with this key

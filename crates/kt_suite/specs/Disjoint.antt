@@ -41,14 +41,14 @@ ShareCase filter other = (path case_name : List ℕ) × IsTrue (matches filter p
 abbrev pub clash : ℕ → Filter → Filter → FilterFault
 clash position filter earlier = if is_same_filter filter earlier then Repeated position else NotDisjoint position
 
--- what is wrong with a filter behind these: the first of them that it overlaps with decides
-abbrev pub fault_behind : List Filter → ℕ → Option Filter → Option FilterFault
-fault_behind earlier position None = None
-fault_behind earlier position (Some filter) = option_map (clash position filter) (find (overlap filter) earlier)
+-- what is wrong with a filter after these: the first of them that it overlaps with decides
+abbrev pub fault_after : List Filter → ℕ → Option Filter → Option FilterFault
+fault_after earlier position None = None
+fault_after earlier position (Some filter) = option_map (clash position filter) (find (overlap filter) earlier)
 
 -- what is wrong with the filter at a position
 abbrev pub fault_at : List Filter → ℕ → Option FilterFault
-fault_at filters position = fault_behind (take position filters) position (slice_get filters position)
+fault_at filters position = fault_after (take position filters) position (slice_get filters position)
 
 -- nothing is wrong with any filter
 abbrev pub IsDisjoint : List Filter → Type 0

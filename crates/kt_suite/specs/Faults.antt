@@ -1,5 +1,5 @@
 -- The faults of a tree, and where they stand.
-use Rattle.std.specs.Prelude.{ℕ, List, [], ◌≡◌, ◌⊎◌}
+use Rattle.std.specs.Prelude.{ℕ, List, [], ◌≡◌}
 use Rattle.kt_base.specs.declared.no_memory.NoMemory.{NoMemory as Refusal}
 use Rattle.kt_script.specs.declared.fault.ScriptFault.{ScriptFault}
 use Rattle.kt_script.specs.declared.fault.ScriptFault.TheVariants.{NotUtf8, BadToken, NotLiteral, Unclosed, TooLong}
@@ -22,20 +22,11 @@ no_memory refusal = fault_at [] 0 (NoMemory refusal)
 abbrev pub IsNoMemory : SuiteFault → Type 0
 IsNoMemory fault = (refusal : Refusal) × (fault ≡ no_memory refusal)
 
--- a fault on a line of a file, unless memory for its path ran out
-abbrev pub Blames : List ℕ → ℕ → SuiteCause → SuiteFault → Type 0
-Blames file line cause fault = IsNoMemory fault ⊎ (fault ≡ fault_at file line cause)
-
 -- a file that can't be read is unreadable, unless memory ran out
 abbrev pub read_fault : List ℕ → ReadFault → SuiteFault
 read_fault file Missing = fault_at file 0 Unreadable
 read_fault file Failed = fault_at file 0 Unreadable
 read_fault file (Memory refusal) = no_memory refusal
-
--- a script's fault lies in its text
-abbrev pub IsText : ScriptFault → Type 0
-IsText (script.NoMemory refusal) = ⊥
-IsText fault = Unit {0}
 
 -- the line of a script's fault, or 0 if it has none
 abbrev pub script_line : ScriptFault → ℕ

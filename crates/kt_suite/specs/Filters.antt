@@ -1,14 +1,11 @@
 -- What a text says as a filter.
-use Rattle.std.specs.Prelude.{ℕ, ◌≡◌, Bool, not, ◌==◌, ◌&&◌, List, [], ◌∷◌, ◌++◌, Option, Some, None, Result, Ok, Err, filter, bytes_eq, codes, if◌then◌else◌}
+use Rattle.std.specs.Prelude.{ℕ, ◌≡◌, Bool, not, ◌==◌, ◌&&◌, List, [], ◌∷◌, Option, Some, None, Result, Ok, Err, filter, bytes_eq, codes, if◌then◌else◌}
 use Rattle.std.specs.List.{slice_split, join_with_byte}
 use Rattle.kt_suite.specs.declared.filter.Filter.{Filter}
 use Rattle.kt_suite.specs.declared.filter_fault.FilterFault.{FilterFault}
 use Rattle.kt_suite.specs.declared.filter_fault.FilterFault.TheVariants.{NoMemory, Empty, Absolute, EmptyCase}
+use Rattle.kt_base.specs.Characters.{is_slash}
 use Rattle.kt_base.specs.Texts.{is_empty, before, after}
-
--- a character separates components
-abbrev pub is_separator : ℕ → Bool
-is_separator c = c == 47
 
 -- a component counts if it is neither empty nor `.`
 abbrev pub counts : List ℕ → Bool
@@ -16,20 +13,11 @@ counts component = not (is_empty component) && not (bytes_eq component (codes ".
 
 -- the components of a path that count
 abbrev pub components : List ℕ → List (List ℕ)
-components path = filter counts (slice_split is_separator path)
+components path = filter counts (slice_split is_slash path)
 
 -- a path with single slashes and without `.`
 abbrev pub plain_path : List ℕ → List ℕ
 plain_path path = join_with_byte 47 (components path)
-
--- a path with a component more
-abbrev pub joined : List ℕ → List ℕ → List ℕ
-joined [] component = component
-joined (c ∷ path) component = c ∷ path ++ 47 ∷ component
-
--- the same if it counts
-abbrev pub with_component : List ℕ → List ℕ → List ℕ
-with_component path component = if counts component then joined path component else path
 
 -- a case part may not be empty
 abbrev pub case_fault : Option (List ℕ) → Option FilterFault

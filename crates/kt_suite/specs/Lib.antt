@@ -4,9 +4,10 @@ pub mod Paths
 pub mod Tables
 pub mod Meanings
 pub mod Faults
+pub mod FaultWords
 pub mod Marks
 pub mod Registered
-pub mod Walks
+pub mod Inner
 pub mod Matching
 pub mod Filters
 pub mod Disjoint

@@ -1,6 +1,6 @@
 -- Which cases some filters select.
-use Rattle.std.specs.Prelude.{ℕ, Bool, true, false, not, Option, Some, None, slice_get, ◌+◌, List, [], ◌∷◌, if◌then◌else◌}
-use Rattle.std.specs.List.{list_any, position}
+use Rattle.std.specs.Prelude.{ℕ, Bool, true, not, ◌+◌, List, [], ◌∷◌, if◌then◌else◌}
+use Rattle.std.specs.List.{list_any}
 use Rattle.kt_suite.specs.declared.filter.Filter.{Filter}
 use Rattle.kt_suite.specs.declared.item.Item.{Item}
 use Rattle.kt_suite.specs.Matching.{matches}
@@ -42,24 +42,3 @@ is_idle items filter = not (list_any (is_item_of filter) items)
 -- the positions of the filters that match no item
 abbrev pub idle_places : List Item → List Filter → List ℕ
 idle_places items filters = places (is_idle items) 0 filters
-
--- the positions of all filters
-abbrev pub all_places : List Filter → List ℕ
-all_places filters = places (λ filter. true) 0 filters
-
--- the position of the first filter that matches an item
-abbrev pub first_match : List Filter → Item → Option ℕ
-first_match filters item = position (matches_item item) filters
-
--- a filter that may be there matches an item
-abbrev pub is_some_match : Item → Option Filter → Bool
-is_some_match item None = false
-is_some_match item (Some filter) = matches_item item filter
-
--- the filter at a position, if there is one, matches an item
-abbrev pub is_match : List Filter → Item → ℕ → Bool
-is_match filters item place = is_some_match item (slice_get filters place)
-
--- the filter at a position misses an item
-abbrev pub is_miss : List Filter → Item → ℕ → Bool
-is_miss filters item place = not (is_match filters item place)

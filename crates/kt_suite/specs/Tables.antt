@@ -1,6 +1,7 @@
 -- What the table of a program declares.
-use Rattle.std.specs.Prelude.{Bool, List, [], ◌∷◌, ◌++◌, codes, Option, Some, None, Result, Ok, Err}
+use Rattle.std.specs.Prelude.{Bool, List, [], ◌∷◌, codes, Option, Some, None, Result, Ok, Err}
 use Rattle.std.specs.List.{filter}
+use Rattle.std.specs.Option.{option_or}
 use Rattle.kt_base.specs.declared.variable.Variable.{Variable}
 use Rattle.kt_base.specs.LastValues.{value_of, last_values}
 use Rattle.kt_script.specs.declared.syntax.Pair.{Pair}
@@ -43,15 +44,10 @@ key_fault key.Unknown pair = Some UnknownProperty
 abbrev pub pair_fault : Variable → Option SuiteCause
 pair_fault pair = key_fault (key_named pair.name) pair
 
--- the earlier of two causes
-abbrev pub earlier : Option SuiteCause → Option SuiteCause → Option SuiteCause
-earlier None second = second
-earlier (Some first) second = Some first
-
 -- why the first of the refused definitions is refused
 abbrev pub first_fault : List Variable → Option SuiteCause
 first_fault [] = None
-first_fault (pair ∷ pairs) = earlier (pair_fault pair) (first_fault pairs)
+first_fault (pair ∷ pairs) = option_or (pair_fault pair) (first_fault pairs)
 
 -- the last name, the last suite, and the last value of each property
 abbrev pub table_of : List Variable → ProgramTable
@@ -69,12 +65,3 @@ unless (Some cause) there = Err cause
 -- what the pairs of a table declare, or why the first of the refused ones is refused
 abbrev pub declared : List Pair → Result ProgramTable SuiteCause
 declared pairs = unless (first_fault (definitions pairs)) (table_of (definitions pairs))
-
--- properties with one definition more
-abbrev pub props_with : List Variable → Variable → Result (List Variable) SuiteCause
-props_with before pair =
-    unless (value_cause (definition_fault pair.name pair.value)) (last_values (before ++ pair ∷ []))
-
--- a table with one definition more
-abbrev pub table_with : List Variable → Variable → Result ProgramTable SuiteCause
-table_with before pair = unless (pair_fault pair) (table_of (before ++ pair ∷ []))

@@ -1,5 +1,6 @@
 ghost use Rattle.std.specs.Prelude.{◌≡◌};
-ghost use Rattle.kt_suite.specs.Faults.{Blames, no_memory};
+ghost use Rattle.kt_suite.specs.Inner.Faults.{Blames};
+ghost use Rattle.kt_suite.specs.Faults.{no_memory};
 
 use crate::cause::SuiteCause;
 use crate::fault::SuiteFault;

@@ -1,61 +1,102 @@
-ghost use Rattle.std.specs.Prelude.{◌≡◌};
+ghost use Rattle.std.specs.Prelude.{◌≡◌, is_err};
+ghost use Rattle.kt_base.specs.Shows.{Shows};
+ghost use Rattle.kt_base.specs.Utf8.{utf8};
+ghost use Rattle.kt_suite.specs.FaultWords.{cause_words, fixed_words};
 ghost use Rattle.kt_suite.specs.declared.cause.SuiteCause.TheVariants as cause;
 
-use kt_base::NoMemory;
+use kt_base::{Decimal, NoMemory, OutputFault, emit, emit_all};
 use kt_script::ScriptFault;
+use std::io::Write;
 use thiserror::Error;
 
-/// The text of `NoSuite`. It stands here since `rt ci` takes an attribute with the word `test` for a test.
-const NO_SUITE: &str = "no test suite";
+/// Stands before the number of `WrongSyntax`.
+const SYNTAX: &str = "syntax ";
 
-/// Why a tree of Kyuafiles was refused, by the rules of kyuafile(5) and of this profile. `Display` is the text of
-/// the fault's line (this profile).
+/// Stands after the number of `WrongSyntax`.
+const NOT_SUPPORTED: &str = " not supported";
+
+/// Why a tree of Kyuafiles was refused, by the rules of kyuafile(5) and of this profile. `Display`
+/// prints the words of the fault's line (this profile).
 #[derive(Clone, Copy, Debug, PartialEq, Eq, Error)]
+#[error("{}", self.words())]
 pub enum SuiteCause {
-    /// It belongs to no file and to no line.
-    #[error("out of memory")]
+    /// It has no file and no line.
     NoMemory(NoMemory),
     /// The first statement of a file isn't a call of `syntax`.
-    #[error("syntax(2) expected")]
     NoSyntax,
     /// The file declares a syntax other than 2.
-    #[error("syntax {0} not supported")]
+    #[error("{SYNTAX}{0}{NOT_SUPPORTED}")]
     WrongSyntax(u64),
     /// An unknown call, an assignment, or a second `syntax`.
-    #[error("unknown call")]
     UnknownCall,
     /// No property of a Kyuafile has this name.
-    #[error("unknown property")]
     UnknownProperty,
     /// The call, the key or the property doesn't accept this value.
-    #[error("bad value")]
     BadValue,
     /// A program belongs to no test suite.
-    #[error("{NO_SUITE}")]
     NoSuite,
     /// The name of a program leads into another directory.
-    #[error("program name has a directory")]
     PathHasDirectory,
     /// The argument of `include` isn't a relative path of components, or one of them is `.` or `..`.
-    #[error("bad include path")]
     BadInclude,
-    /// The included file is being read.
-    #[error("include loop")]
+    /// The included file is already open.
     IncludeLoop,
     /// More than 32 files, each included by the one before.
-    #[error("includes too deep")]
     TooDeep,
     /// No program stands at the path.
-    #[error("program not found")]
     MissingProgram,
-    #[error("file could not be read")]
+    /// The file could not be read.
     Unreadable,
     /// More than 10,000 programs, or more than 10,000 files.
-    #[error("too many programs or files")]
     TooMany,
     /// The file isn't a script.
-    #[error(transparent)]
     Script(ScriptFault),
+}
+
+impl SuiteCause {
+    /// The words of the cause; none for `WrongSyntax`, whose words have a number.
+    pub fn words(&self) -> &'static str
+        ensures { result.now ≡ fixed_words self.now }
+    {
+        match self {
+            SuiteCause::NoMemory(_) => "out of memory",
+            SuiteCause::NoSyntax => "syntax(2) expected",
+            SuiteCause::WrongSyntax(_) => "",
+            SuiteCause::UnknownCall => "unknown call",
+            SuiteCause::UnknownProperty => "unknown property",
+            SuiteCause::BadValue => "bad value",
+            SuiteCause::NoSuite => "no test suite",
+            SuiteCause::PathHasDirectory => "program name has a directory",
+            SuiteCause::BadInclude => "bad include path",
+            SuiteCause::IncludeLoop => "include loop",
+            SuiteCause::TooDeep => "includes too deep",
+            SuiteCause::MissingProgram => "program not found",
+            SuiteCause::Unreadable => "file could not be read",
+            SuiteCause::TooMany => "too many programs or files",
+            SuiteCause::Script(fault) => fault.words(),
+        }
+    }
+
+    /// Writes the words of the cause.
+    pub fn print<W: Write>(&self, out: &mut W) -> Result<(), OutputFault>
+        ensures { Shows (W.contents out.old) (W.contents out.new) (is_err result)
+            (utf8 (cause_words self.now)) }
+    {
+        match self {
+            SuiteCause::WrongSyntax(n) => {
+                let number = Decimal::new(*n);
+                emit_all(
+                    &[
+                        SYNTAX.as_bytes(),
+                        number.as_bytes(),
+                        NOT_SUPPORTED.as_bytes(),
+                    ],
+                    out,
+                )
+            }
+            _ => emit(self.words().as_bytes(), out),
+        }
+    }
 }
 
 impl From<NoMemory> for SuiteCause {

@@ -60,8 +60,8 @@ fn fault_at(filters: &[Filter], position: usize) -> Option<FilterFault>
     Some(FilterFault::NotDisjoint(position))
 }
 
-/// Whether no case is named by two filters. If not, it says which filter is the first that shares a case with an earlier one,
-/// and the first of these decides whether it is repeated. It takes no memory.
+/// Checks that no case is matched by two filters. The fault is that of the first filter that shares a case with an earlier
+/// one; the first of these decides whether it is a repetition. It takes no memory.
 pub fn check_disjoint(filters: &[Filter]) -> Result<(), FilterFault>
     ensures ok { OnOk result (IsDisjoint filters.now) }
     ensures first { IfErr result (IsFirstFault filters.now) }

@@ -4,27 +4,40 @@ ghost use Rattle.kt_suite.specs.declared.filter_fault.FilterFault.TheVariants as
 use kt_base::NoMemory;
 use thiserror::Error;
 
-/// Why a filter, or a list of them, was refused. A number is a position in the list, from 0. `Display` is the text of the
-/// fault's line (this profile), which tells the filter in another place.
+/// Why a filter, or a list of them, was refused. A number is a position in the list, from 0. `Display`
+/// prints the words of the fault's line (this profile), which shows the filter itself.
 #[derive(Clone, Copy, Debug, PartialEq, Eq, Error)]
+#[error("{}", self.words())]
 pub enum FilterFault {
-    #[error("out of memory")]
     NoMemory(NoMemory),
     /// It names no program.
-    #[error("empty")]
     Empty,
     /// It begins with a slash.
-    #[error("absolute")]
     Absolute,
     /// Nothing follows its first colon.
-    #[error("empty case")]
     EmptyCase,
     /// The filter at this position is equal to an earlier one.
-    #[error("repeated")]
     Repeated(usize),
     /// The filter at this position and an earlier one match the same cases, or one of them more than the other.
-    #[error("not disjoint")]
     NotDisjoint(usize),
+}
+
+impl FilterFault {
+    ghost use Rattle.kt_suite.specs.FaultWords.{filter_words};
+
+    /// The words of the fault.
+    pub fn words(&self) -> &'static str
+        ensures { result.now ≡ filter_words self.now }
+    {
+        match self {
+            FilterFault::NoMemory(_) => "out of memory",
+            FilterFault::Empty => "empty",
+            FilterFault::Absolute => "absolute",
+            FilterFault::EmptyCase => "empty case",
+            FilterFault::Repeated(_) => "repeated",
+            FilterFault::NotDisjoint(_) => "not disjoint",
+        }
+    }
 }
 
 impl From<NoMemory> for FilterFault {

@@ -1,5 +1,6 @@
 ghost use Rattle.std.specs.Prelude.{◌≡◌, IfOk, OnOk};
-ghost use Rattle.kt_suite.specs.Filters.{counts, joined, with_component, plain_path, case_fault, parts_fault};
+ghost use Rattle.kt_suite.specs.Inner.Steps.{joined, with_component};
+ghost use Rattle.kt_suite.specs.Filters.{counts, plain_path, case_fault, parts_fault};
 
 use crate::filter_fault::FilterFault;
 use kt_base::{NoMemory, Text};

@@ -1,7 +1,7 @@
 ghost use Rattle.std.specs.Prelude.{◌≡◌, ◌⊎◌, ◌≤◌, ◌-◌, ◌++◌, [], ◌∷◌, List, ℕ, length, take, drop, IfOk};
 ghost use Rattle.kt_suite.specs.Answers.{Answered};
 ghost use Rattle.kt_suite.specs.Registered.{program_limit, Unfinished, Registered};
-ghost use Rattle.kt_suite.specs.Walks.{Walked, FileGives};
+ghost use Rattle.kt_suite.specs.Inner.Walks.{Walked, FileGives};
 
 use crate::blame::no_memory;
 use crate::fault::SuiteFault;

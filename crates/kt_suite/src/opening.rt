@@ -1,7 +1,8 @@
 ghost use Rattle.std.specs.Prelude.{◌≡◌, ◌⊎◌};
 ghost use Rattle.kt_suite.specs.declared.cause.SuiteCause.TheVariants.{Script};
-ghost use Rattle.kt_suite.specs.Faults.{fault_at, read_fault, script_line, IsText, IsNoMemory};
-ghost use Rattle.kt_suite.specs.Walks.{WellOpened, Opened};
+ghost use Rattle.kt_suite.specs.Inner.Steps.{IsText};
+ghost use Rattle.kt_suite.specs.Faults.{fault_at, read_fault, script_line, IsNoMemory};
+ghost use Rattle.kt_suite.specs.Inner.Walks.{WellOpened, Opened};
 
 use crate::blame::{blame, no_memory};
 use crate::cause::SuiteCause;

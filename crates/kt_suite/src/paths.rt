@@ -1,8 +1,9 @@
 ghost use Rattle.std.specs.Prelude.{◌≡◌, IfOk};
-ghost use Rattle.std.specs.List.{list_any, list_all, slice_split};
-ghost use Rattle.kt_suite.specs.Paths.{directory_of, without_last, parent_of, name_in, beside, has_directory, is_slash, is_component, leads_down};
+ghost use Rattle.std.specs.List.{list_all, slice_split};
+ghost use Rattle.kt_base.specs.Characters.{is_slash};
+ghost use Rattle.kt_suite.specs.Paths.{directory_of, without_last, parent_of, name_in, beside, has_directory, is_component, leads_down};
 
-use kt_base::{NoMemory, Text};
+use kt_base::{NoMemory, Text, has_slash};
 use std::alloc::Global;
 
 /// A path up to and with its last slash.
@@ -60,18 +61,11 @@ pub fn path_beside(alloc: Global, file: &Text, name: &Text) -> Result<Text, NoMe
     Ok(path)
 }
 
-fn has_slash(name: &[char]) -> bool
-    ensures { result ≡ list_any is_slash name.now }
-{
-    name.iter().any(|c| *c == '/')
-}
-
 /// Whether a name leads out of the directory in which it is looked up.
-pub fn leads_away(alloc: Global, name: &Text) -> Result<bool, NoMemory>
-    ensures { IfOk result (λ away. away ≡ has_directory name.now) }
+pub fn leads_away(name: &Text) -> bool
+    ensures { result ≡ has_directory name.now }
 {
-    let characters = name.characters()?;
-    Ok(has_slash(&characters) || name.is_word(".") || name.is_word(".."))
+    has_slash(name.as_str()) || name.is_word(".") || name.is_word("..")
 }
 
 fn is_component(part: &[char]) -> bool

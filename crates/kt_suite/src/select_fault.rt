@@ -4,14 +4,27 @@ ghost use Rattle.kt_suite.specs.declared.select_fault.SelectFault.TheVariants as
 use kt_base::NoMemory;
 use thiserror::Error;
 
-/// Why nothing was selected. `Display` is the text of the fault's line (this profile).
+/// Why nothing was selected. `Display` prints the words of the fault's line (this profile).
 #[derive(Clone, Copy, Debug, PartialEq, Eq, Error)]
+#[error("{}", self.words())]
 pub enum SelectFault {
-    #[error("out of memory")]
     NoMemory(NoMemory),
     /// Over 100,000 items.
-    #[error("too many cases")]
     TooMany,
+}
+
+impl SelectFault {
+    ghost use Rattle.kt_suite.specs.FaultWords.{select_words};
+
+    /// The words of the fault.
+    pub fn words(&self) -> &'static str
+        ensures { result.now ≡ select_words self.now }
+    {
+        match self {
+            SelectFault::NoMemory(_) => "out of memory",
+            SelectFault::TooMany => "too many cases",
+        }
+    }
 }
 
 impl From<NoMemory> for SelectFault {

@@ -1,7 +1,8 @@
 ghost use Rattle.std.specs.Prelude.{◌≡◌, ◌↔◌, ◌<◌, length, Err, Some, IfOk};
 ghost use Rattle.std.specs.List.{filter};
 ghost use Rattle.kt_suite.specs.declared.select_fault.SelectFault.TheVariants.{TooMany};
-ghost use Rattle.kt_suite.specs.Selecting.{most_items, matches_item, is_selected, selected_places, idle_places, all_places, first_match, is_match, is_miss};
+ghost use Rattle.kt_suite.specs.Inner.Steps.{all_places, first_match, is_match, is_miss};
+ghost use Rattle.kt_suite.specs.Selecting.{most_items, matches_item, is_selected, selected_places, idle_places};
 
 use crate::filter::Filter;
 use crate::item::Item;
@@ -34,7 +35,7 @@ fn is_match(filters: &[Filter], item: &Item, place: usize) -> bool
     }
 }
 
-/// Whether a filter misses an item. Of those up to the first that matches it this is known.
+/// Whether a filter misses an item. Up to the first filter that matches it, this is known.
 fn is_miss(filters: &[Filter], item: &Item, first: usize, place: usize) -> bool
     ensures { first_match filters.now item.now ≡ Some first
         → result ≡ is_miss filters.now item.now place }
@@ -53,8 +54,7 @@ fn drop_matches(idle: &mut Vec<usize>, filters: &[Filter], item: &Item, first: u
     idle.retain(|place| is_miss(filters, item, first, *place));
 }
 
-/// Compares an item with each filter once at the most: whether the item is selected. The filters that match it are idle no
-/// more.
+/// Whether an item is selected. Each filter is compared once at most, and those that match the item are no longer idle.
 fn compare_item(filters: &[Filter], item: &Item, idle: &mut Vec<usize>) -> bool
     ensures selected { result ≡ is_selected filters.now item.now }
     ensures idle { idle.new.items ≡ filter (is_miss filters.now item.now) idle.old.items }
@@ -91,18 +91,16 @@ fn compare_items(alloc: Global, items: &[Item], filters: &[Filter]) -> Result<Se
     let mut cases = Vec::new(alloc);
     let mut unmatched = all_places(alloc, filters)?;
     let mut place = 0;
-    let mut rest = items;
-    while let Some((item, after)) = rest.split_first() {
+    for item in items {
         if compare_item(filters, item, &mut unmatched) {
             cases.push(place)?;
         }
         place += 1;
-        rest = after;
     }
     Ok(Selection { cases, unmatched })
 }
 
-/// Selects the items that some filter matches, or all items if there is no filter, and tells which filters match none.
+/// Selects the items that some filter matches, or all items if there is no filter, and lists the filters that match none.
 /// Filters may share cases.
 pub fn select(alloc: Global, items: &[Item], filters: &[Filter]) -> Result<Selection, SelectFault>
     ensures cases { IfOk result (λ s. s.cases.items ≡ selected_places items.now filters.now) }

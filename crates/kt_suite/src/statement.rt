@@ -92,7 +92,7 @@ fn with_name(
             if name.is_empty() {
                 return Ok(Meaning::Wrong(SuiteCause::BadValue));
             }
-            if leads_away(alloc, &name)? {
+            if leads_away(&name) {
                 return Ok(Meaning::Wrong(SuiteCause::PathHasDirectory));
             }
             with_suite(interface, name, file, suite, props)

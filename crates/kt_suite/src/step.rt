@@ -1,7 +1,7 @@
 use crate::registry::Registry;
 use kt_base::Text;
 
-/// What comes after a statement. Each case has the suite of the programs to come.
+/// What comes after a statement, with the suite of the programs to come.
 #[derive(Drop)]
 pub enum Step {
     /// The next statement.

@@ -3,7 +3,7 @@ ghost use Rattle.std.specs.List.{list_any};
 ghost use Rattle.std.specs.Str.{bytes_eq};
 ghost use Rattle.kt_suite.specs.Marks.{entry_fault};
 ghost use Rattle.kt_suite.specs.Meanings.{meaning_of};
-ghost use Rattle.kt_suite.specs.Walks.{Adds, Enters, Stepped};
+ghost use Rattle.kt_suite.specs.Inner.Walks.{Adds, Enters, Stepped};
 
 use crate::blame::{blame, no_memory};
 use crate::cause::SuiteCause;

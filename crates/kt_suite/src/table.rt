@@ -1,7 +1,8 @@
 ghost use Rattle.std.specs.Prelude.{◌≡◌, ◌∷◌, ◌++◌, [], List, IfOk};
 ghost use Rattle.kt_base.specs.declared.variable.Variable.{Variable};
 ghost use Rattle.kt_base.specs.LastValues.{last_values};
-ghost use Rattle.kt_suite.specs.Tables.{definition, props_with, table_of, table_with, declared};
+ghost use Rattle.kt_suite.specs.Inner.Steps.{props_with, table_with};
+ghost use Rattle.kt_suite.specs.Tables.{definition, table_of, declared};
 
 use crate::cause::SuiteCause;
 use crate::key::{Key, key_of};
@@ -71,13 +72,11 @@ pub fn read_table(
         suite: None,
         props: Props::new(alloc),
     };
-    let mut rest = pairs;
-    while let Some((pair, after)) = rest.split_first() {
+    for pair in pairs {
         match take_pair(alloc, found, pair)? {
             Ok(next) => found = next,
             Err(cause) => return Ok(Err(cause)),
         }
-        rest = after;
     }
     Ok(Ok(found))
 }

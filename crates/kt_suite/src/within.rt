@@ -23,7 +23,7 @@ fn ends_component(rest: &str) -> bool
     }
 }
 
-/// Whether a path is this one, or lies under it. One byte tells most paths that don't.
+/// Whether a path is this one, or lies under it. One byte rules out most other paths.
 pub fn is_within(directory: &Text, path: &Text) -> bool
     ensures { result ≡ is_within directory.now path.now }
 {

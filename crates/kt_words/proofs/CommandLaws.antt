@@ -20,7 +20,8 @@ use Rattle.kt_words.specs.declared.command.Command.TheVariants as command
 use Rattle.kt_words.specs.declared.command_fault.CommandFault.{CommandFault}
 use Rattle.kt_words.specs.declared.command_fault.CommandFault.TheVariants as fault
 use Rattle.kt_words.specs.Grammar.{kyua_app}
-use Rattle.kt_words.specs.Reading.{Answers, Reads, RefusesWords, command_in, report_with, junit_with, report_in, junit_in, options_in, results_in, kinds_of, run_of}
+use Rattle.kt_words.specs.Inner.Reading.{Answers}
+use Rattle.kt_words.specs.Reading.{Reads, RefusesWords, command_in, report_with, junit_with, report_in, junit_in, options_in, results_in, kinds_of, run_of}
 
 -- one of the five commands
 abbrev pub is_command : Text → Bool

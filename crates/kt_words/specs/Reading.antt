@@ -44,19 +44,6 @@ abbrev pub kinds_of : Option Text → Option (List Kind)
 kinds_of None = Some default_kinds
 kinds_of (Some word) = kinds_named (comma_words word)
 
--- a run, or that it is none
-abbrev pub ReadsRun : Option (Option ℕ) → Result (Option ℕ) CommandFault → Type 0
-ReadsRun right (Ok run') = right ≡ Some run'
-ReadsRun right (Err fault.BadRun) = right ≡ None
-ReadsRun right other = ⊥
-
--- kinds, or that they are none, unless memory ran out
-abbrev pub ReadsShown : Option (List Kind) → Result (List Kind) CommandFault → Type 0
-ReadsShown right (Ok kinds) = right ≡ Some kinds
-ReadsShown right (Err fault.BadKind) = right ≡ None
-ReadsShown right (Err (fault.NoMemory shortage)) = ⊤
-ReadsShown right (Err other) = ⊥
-
 -- ---- commands
 
 -- the options of a command over test cases: those before the command, and its own
@@ -110,14 +97,6 @@ command_in before None = Err (fault.Usage [])
 command_in before (Some entered) = command_named before entered.0 entered.1
 
 -- ---- answers
-
--- this answer, unless memory ran out
-abbrev pub Answers : {A : Type 0} → Result A CommandFault → Result A CommandFault → Type 0
-Answers right (Err (fault.NoMemory shortage)) = ⊤
-Answers right (Err fault.BadKind) = right ≡ Err fault.BadKind
-Answers right (Err fault.BadRun) = right ≡ Err fault.BadRun
-Answers right (Err (fault.Usage told)) = right ≡ Err (fault.Usage told)
-Answers right (Ok value) = right ≡ Ok value
 
 -- what words are read as: refused if `clap` refuses them, else the command of the values that it finds
 abbrev pub Reads : List Text → Result Command CommandFault → Type 0

@@ -4,11 +4,11 @@ ghost use Rattle.std.specs.Vec.Iter.{into_iter_items};
 ghost use Rattle.clap.specs.Words.{all_of, first_of, found_of, rows_of, subcommand_rows_of};
 ghost use Rattle.std.specs.IoError.{error_kind};
 ghost use Rattle.std.specs.declared.io.ErrorKind.TheVariants.{OutOfMemory};
+ghost use Rattle.kt_base.specs.Limits.{last_run};
 ghost use Rattle.kt_words.specs.declared.command.Command.TheVariants as command;
 ghost use Rattle.kt_words.specs.Commands.{HasRunNumber};
-ghost use Rattle.kt_words.specs.Reading.{text_given, text_or, texts_given, is_true, results_in};
-ghost use Rattle.kt_words.specs.Reading.{run_of, kinds_of, options_in, report_options, report_in, junit_in};
-ghost use Rattle.kt_words.specs.Reading.{command_named, command_in, Answers, Reads, ReadsRun, ReadsShown, RefusesWords};
+ghost use Rattle.kt_words.specs.Reading.{Reads, RefusesWords, command_in, command_named, is_true, junit_in, kinds_of, options_in, report_in, report_options, results_in, run_of, text_given, text_or, texts_given};
+ghost use Rattle.kt_words.specs.Inner.Reading.{Answers, ReadsRun, ReadsShown};
 
 use crate::arguments::{KYUAFILE, RESULTS, WORK, all_words};
 use crate::command::Command;
@@ -100,7 +100,7 @@ fn texts_given<'a>(
 /// The run that is asked for, if one is.
 fn run_of<'a>(matches: &ArgMatches<'a>) -> Result<Option<u64>, CommandFault>
     ensures value { ReadsRun (run_of (first_of (codes "run") (rows_of (found_of matches.now)))) result }
-    ensures range { IfOk result (λ run. IfSome run (λ n. (1 ≤ n) × (n ≤ 1000000))) }
+    ensures range { IfOk result (λ run. IfSome run (λ n. (1 ≤ n) × (n ≤ last_run))) }
 {
     let Some(word) = word_of(matches, "run") else {
         return Ok(None);
@@ -285,7 +285,7 @@ fn read_named<'a>(
     Err(CommandFault::Usage(Text::new(alloc)))
 }
 
-/// The command that the words name, and what stands behind it.
+/// The command that the arguments name, and what follows it.
 fn entered_in<'b, 'a>(matches: &'b ArgMatches<'a>) -> Option<(&'a str, &'b ArgMatches<'a>)>
     ensures { option_map (λ entered. (entered.0.now, rows_of (found_of entered.1.now))) result
         ≡ subcommand_rows_of matches.now }

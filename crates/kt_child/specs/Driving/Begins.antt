@@ -1,19 +1,19 @@
 -- The start of a child, and what it makes of the running children.
-use Rattle.std.specs.Prelude.{ℕ, ◌==◌, ◌&&◌, ◌≡◌, ◌⊎◌, List, [], ◌∷◌, ◌++◌, Option, Some, Result, Ok, Err, if◌then◌else◌}
+use Rattle.std.specs.Prelude.{ℕ, ◌≡◌, ◌⊎◌, List, [], ◌∷◌, ◌++◌, Result, Ok, Err}
 use Rattle.kt_base.specs.declared.role.Role.{Role}
 use Rattle.kt_base.specs.declared.role.Role.TheVariants.{Cleanup}
 use Rattle.kt_base.specs.declared.refused.Refused.{Refused}
 use Rattle.kt_base.specs.declared.refused.Refused.TheVariants.{Memory}
 use Rattle.kt_sched.specs.declared.start_answer.StartAnswer.{StartAnswer}
 use Rattle.kt_sched.specs.declared.start_answer.StartAnswer.TheVariants.{Started as StartedAt, Refused as RefusedFor}
-use Rattle.kt_sched.specs.Children.{Child as Shown, same_role}
+use Rattle.kt_sched.specs.Children.{same_role}
 use Rattle.kt_child.specs.declared.planning.spawning.Spawning.{Spawning}
 use Rattle.kt_child.specs.declared.polling.watched.Watched.{Watched}
 use Rattle.kt_child.specs.declared.planning.case.Case.{Case}
 use Rattle.kt_child.specs.System.Calls.{Call}
 use Rattle.kt_child.specs.Ending.Ends.{Removes}
 use Rattle.kt_child.specs.Starting.Starts.{Started}
-use Rattle.kt_child.specs.Driving.ChildrenState.{ChildrenState, shown}
+use Rattle.kt_child.specs.Driving.ChildrenState.{ChildrenState}
 
 -- the launcher's answer to a start
 abbrev pub answer_of : Result ℕ Refused → StartAnswer
@@ -35,8 +35,3 @@ abbrev pub state_after_start : ChildrenState → Watched → Case → StartAnswe
 state_after_start b child c (StartedAt moment) =
     record { children = b.children ++ child ∷ []; cases = b.cases ++ c ∷ []; pending = b.pending }
 state_after_start b child c (RefusedFor cause) = b
-
--- what is shown of the children after a start
-abbrev pub shown_after : (ℕ → Role → Option Shown) → Case → StartAnswer → ℕ → Role → Option Shown
-shown_after running c (StartedAt moment) k r = if k == c.position && same_role r c.role then Some (shown c) else running k r
-shown_after running c (RefusedFor cause) k r = running k r

@@ -1,5 +1,5 @@
 -- The running children of a driver, and the cases whose cleanup is owed.
-use Rattle.std.specs.Prelude.{ℕ, Bool, true, false, ◌==◌, ◌&&◌, ◌≡◌, ◌+◌, ◌≤◌, List, [], ◌∷◌, ◌++◌, length, Option, Some, None, All, remove, slice_get, if◌then◌else◌}
+use Rattle.std.specs.Prelude.{ℕ, Bool, true, false, ◌==◌, ◌&&◌, ◌≡◌, ◌+◌, List, [], ◌∷◌, ◌++◌, Option, Some, None, remove, slice_get, if◌then◌else◌}
 use Rattle.kt_base.specs.declared.role.Role.{Role}
 use Rattle.kt_base.specs.declared.outcome.Outcome.{Outcome}
 use Rattle.kt_sched.specs.declared.ended.Ended.{Ended}
@@ -7,7 +7,7 @@ use Rattle.kt_sched.specs.Children.{Child as Shown, same_role}
 use Rattle.kt_child.specs.declared.polling.watched.Watched.{Watched}
 use Rattle.kt_child.specs.declared.planning.case.Case.{Case}
 use Rattle.kt_child.specs.System.Calls.{Call}
-use Rattle.kt_child.specs.Polling.Turns.{IsOn, WaitedOn}
+use Rattle.kt_child.specs.Polling.Turns.{WaitedOn}
 use Rattle.kt_child.specs.Ending.Ends.{Leaves, is_over}
 
 -- The running children in the order of their start, each with its case, and the cases whose cleanup is owed.
@@ -33,21 +33,6 @@ shown_at (c ∷ cases) k r = if k == c.position && same_role r c.role then Some 
 abbrev pub is_among : List Case → ℕ → Bool
 is_among [] k = false
 is_among (c ∷ cases) k = if k == c.position then true else is_among cases k
-
-abbrev pub one_if : Bool → ℕ
-one_if true = 1
-one_if false = 0
-
--- how many of these cases have this position
-abbrev pub count_at : ℕ → List Case → ℕ
-count_at i [] = 0
-count_at i (c ∷ cases) = one_if (i == c.position) + count_at i cases
-
--- each child is on and has its case, and no case stands there twice
-pub record IsChildrenState (children : List Watched) (cases : List Case) (pending : List Case) : Type 0 where
-  pub on : All IsOn children
-  pub same : length children ≡ length cases
-  pub once : (i : ℕ) → count_at i cases + count_at i pending ≤ 1
 
 -- the cases whose cleanup is owed, after the end of a child of this case
 abbrev pub pending_with : Case → List Case → List Case

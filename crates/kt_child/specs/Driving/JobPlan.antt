@@ -1,13 +1,16 @@
--- What a job's child is started with.
-use Rattle.std.specs.Prelude.{ℕ, List, ◌++◌, codes, if◌then◌else◌}
+-- What a child is started for, and with.
+use Rattle.std.specs.Prelude.{ℕ, List, [], ◌++◌, codes, if◌then◌else◌}
+use Rattle.kt_base.specs.declared.interface.Interface.{Interface}
+use Rattle.kt_base.specs.declared.interface.Interface.TheVariants.{Atf}
 use Rattle.kt_base.specs.declared.role.Role.{Role}
 use Rattle.kt_base.specs.declared.role.Role.TheVariants.{Body, Cleanup}
+use Rattle.kt_base.specs.declared.variable.Variable.{Variable}
 use Rattle.kt_base.specs.Texts.{is_empty}
 use Rattle.kt_suite.specs.Paths.{parent_of}
 use Rattle.kt_sched.specs.declared.job.Job.{Job}
 use Rattle.kt_child.specs.declared.planning.paths.Paths.{Paths}
 use Rattle.kt_child.specs.declared.planning.want.Want.{Want}
-use Rattle.kt_child.specs.declared.planning.want.Want.TheVariants as want
+use Rattle.kt_child.specs.declared.planning.want.Want.TheVariants.{List as Listing, Body as BodyOf, Cleanup as CleanupOf}
 use Rattle.kt_child.specs.declared.planning.spawning.Spawning.{Spawning}
 use Rattle.kt_child.specs.declared.polling.watched.Watched.{Watched}
 use Rattle.kt_child.specs.declared.planning.case.Case.{Case}
@@ -23,39 +26,66 @@ program_path source program = source ++ codes "/" ++ program
 abbrev pub program_directory : List ℕ → List ℕ
 program_directory path = if is_empty (parent_of path) then codes "/" else parent_of path
 
--- what a child of a case is started for
-abbrev pub want_of : Role → Want
-want_of Body = want.Body
-want_of Cleanup = want.Cleanup
-
 -- the limit of a job's child, in seconds
 abbrev pub limit_of : Job → Role → ℕ
 limit_of job Body = job.timeout
 limit_of job Cleanup = 60
 
--- what a job's child is started with, by the directory of the root Kyuafile, its number and its paths
-abbrev pub spawning_of : List ℕ → Job → Role → ℕ → Paths → Spawning
-spawning_of source job role attempt paths =
+-- what a child is started for, with its limit in seconds
+pub record Purpose : Type 0 where
+  pub role : Role
+  pub want : Want
+  pub interface : Interface
+  pub program : List ℕ
+  pub variables : List Variable
+  pub case_name : List ℕ
+  pub limit : ℕ
+
+-- what a job's child is started for
+abbrev pub want_of : Role → Want
+want_of Body = BodyOf
+want_of Cleanup = CleanupOf
+
+-- a child of a job
+abbrev pub job_purpose : Job → Role → Purpose
+job_purpose job role =
     record {
-      child = record { attempt = attempt; role = role };
+      role = role;
+      want = want_of role;
+      interface = job.interface;
+      program = job.program;
+      variables = job.vars;
+      case_name = job.case_name;
       limit = limit_of job role;
-      program = program_path source job.program;
-      words = words_of job.interface (want_of role) paths.result (program_directory (program_path source job.program)) job.vars job.case_name;
-      env = env_of job.interface job.vars paths.work;
+    }
+
+-- the list of an ATF program, which is asked of a body
+abbrev pub list_purpose : List ℕ → List Variable → Purpose
+list_purpose program variables =
+    record { role = Body; want = Listing; interface = Atf; program = program; variables = variables; case_name = []; limit = 300 }
+
+-- what a child is started with, by the directory of the root Kyuafile, its number and its paths
+abbrev pub spawning_for : List ℕ → Purpose → ℕ → Paths → Spawning
+spawning_for source p attempt paths =
+    record {
+      child = record { attempt = attempt; role = p.role };
+      limit = p.limit;
+      program = program_path source p.program;
+      words = words_of p.interface p.want paths.result (program_directory (program_path source p.program)) p.variables p.case_name;
+      env = env_of p.interface p.variables paths.work;
       dir = paths.dir;
       work = paths.work;
-      out = out_of role paths;
-      err = err_of role paths;
+      out = out_of p.role paths;
+      err = err_of p.role paths;
     }
+
+-- what a job's child is started with
+abbrev pub spawning_of : List ℕ → Job → Role → ℕ → Paths → Spawning
+spawning_of source job role attempt paths = spawning_for source (job_purpose job role) attempt paths
 
 -- a job's child that was just spawned
 abbrev pub watched_of : Job → Role → ℕ → Watched
 watched_of job role attempt = record { child = record { attempt = attempt; role = role }; limit = limit_of job role; watch = fresh }
-
--- the case of a body
-abbrev pub case_of : Job → ℕ → Paths → Case
-case_of job attempt paths =
-    record { position = job.position; attempt = attempt; role = Body; interface = job.interface; cleanup = job.cleanup; paths = paths }
 
 -- the case of a cleanup, which has the number and the paths of its body
 abbrev pub cleaning : Case → Job → Case

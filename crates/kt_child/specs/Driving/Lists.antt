@@ -1,7 +1,5 @@
 -- A program's list of test cases, asked of the program itself.
 use Rattle.std.specs.Prelude.{◌≡◌, ◌<◌, ◌+◌, ◌-◌, ◌^◌, ◌⊎◌, ℕ, List, [], ◌∷◌, ◌++◌, Bool, Result, Ok, Err}
-use Rattle.kt_base.specs.declared.role.Role.TheVariants.{Body}
-use Rattle.kt_base.specs.declared.interface.Interface.TheVariants.{Atf}
 use Rattle.kt_base.specs.declared.refused.Refused.TheVariants.{Memory, Directory}
 use Rattle.kt_base.specs.declared.outcome.Outcome.{Outcome}
 use Rattle.kt_base.specs.declared.variable.Variable.{Variable}
@@ -11,32 +9,16 @@ use Rattle.kt_atflist.specs.declared.listing.Listing.TheVariants.{Refused as Ref
 use Rattle.kt_child.specs.declared.system.os_fault.OsFault.{OsFault}
 use Rattle.kt_child.specs.declared.system.file_read.FileRead.{FileRead}
 use Rattle.kt_child.specs.declared.driving.driver.Driver.{Driver}
-use Rattle.kt_child.specs.declared.planning.paths.Paths.{Paths}
-use Rattle.kt_child.specs.declared.planning.want.Want.TheVariants as want
 use Rattle.kt_child.specs.declared.planning.spawning.Spawning.{Spawning}
-use Rattle.kt_child.specs.System.Calls.{Call, Chain, ReadFile, RemoveTree}
-use Rattle.kt_child.specs.Planning.ChildPlan.{env_of, paths_of, words_of}
+use Rattle.kt_base.specs.Chains.{Chain}
+use Rattle.kt_child.specs.System.Calls.{Call, ReadFile, RemoveTree}
+use Rattle.kt_child.specs.Planning.ChildPlan.{paths_of}
 use Rattle.kt_child.specs.Polling.ChildOutcome.{Told}
 use Rattle.kt_child.specs.Polling.Lives.{heard_by}
-use Rattle.kt_child.specs.Driving.JobPlan.{program_directory, program_path}
+use Rattle.kt_child.specs.Driving.JobPlan.{list_purpose, spawning_for}
 use Rattle.kt_child.specs.Starting.Starts.{SetUp, spawned}
 use Rattle.kt_child.specs.Polling.Turns.{WaitedUntil}
 use Rattle.kt_child.specs.Ending.Reads.{IsListWithin, list_of}
-
--- what a list is started with, by the directory of the root Kyuafile, its number and its paths
-abbrev pub listing_of : List ℕ → List ℕ → List Variable → ℕ → Paths → Spawning
-listing_of source program variables attempt paths =
-    record {
-      child = record { attempt = attempt; role = Body };
-      limit = 300;
-      program = program_path source program;
-      words = words_of Atf want.List paths.result (program_directory (program_path source program)) variables [];
-      env = env_of Atf variables paths.work;
-      dir = paths.dir;
-      work = paths.work;
-      out = paths.out;
-      err = paths.err;
-    }
 
 -- A list that was started: whole turns up to its end, whose outcome is the row of the outcome table that its answers
 -- are; then its output, no more than 1,048,576 bytes, and the removal.
@@ -61,4 +43,4 @@ ListsBy leads old program variables answer new =
     ⊎ ((old.next < 2 ^ 64 - 1) × (new.next ≡ old.next + 1) × (answer ≡ RefusedFor Memory) × (new.os ≡ old.os))
     ⊎ ((old.next < 2 ^ 64 - 1) × (new.next ≡ old.next + 1)
     × ((calls : List Call) × Chain leads old.os calls new.os
-    × RanList (listing_of old.source program variables old.next (paths_of old.root old.next)) calls answer))
+    × RanList (spawning_for old.source (list_purpose program variables) old.next (paths_of old.root old.next)) calls answer))

@@ -7,7 +7,10 @@ use Rattle.kt_atflist.specs.declared.listing.Listing.{Listing}
 use Rattle.kt_sched.specs.declared.job.Job.{Job}
 use Rattle.kt_sched.specs.declared.start_answer.StartAnswer.{StartAnswer}
 use Rattle.kt_sched.specs.declared.ended.Ended.{Ended}
+use Rattle.kt_child.specs.declared.driving.driver.Driver.{Driver}
+use Rattle.kt_child.specs.System.Calls.{Call}
 use Rattle.kt_child.specs.Driving.ChildrenState.{ChildrenState}
+use Rattle.kt_child.specs.Driving.DriverSteps.{DriverLists, DriverStarts, DriverWaits}
 
 -- what is asked of a driver, with its answer
 pub data Request : Type 0 where
@@ -23,21 +26,21 @@ is_attempt (Wait ended) = false
 is_attempt (ListOf program variables answer) = true
 
 -- a request leads a driver from one state to another
-abbrev pub Serves : {D : Type 0} → (D → Job → Role → StartAnswer → D → Type 0) → (D → Ended → D → Type 0) → (D → List ℕ → List Variable → Listing → D → Type 0) → D → Request → D → Type 0
-Serves starts waits lists d (Start job role answer) e = starts d job role answer e
-Serves starts waits lists d (Wait ended) e = waits d ended e
-Serves starts waits lists d (ListOf program variables answer) e = lists d program variables answer e
+abbrev pub Serves : {O : Type 0} → (O → Call → O → Type 0) → Driver O → Request → Driver O → Type 0
+Serves leads d (Start job role answer) e = DriverStarts leads d job role answer e
+Serves leads d (Wait ended) e = DriverWaits leads d ended e
+Serves leads d (ListOf program variables answer) e = DriverLists leads d program variables answer e
 
 -- requests lead a driver from one state to another, one after the other
-abbrev pub ServesAll : {D : Type 0} → (D → Request → D → Type 0) → D → List Request → D → Type 0
-ServesAll serves d [] e = e ≡ d
-ServesAll {D} serves d (request ∷ requests) e = (mid : D) × serves d request mid × ServesAll serves mid requests e
+abbrev pub ServesAll : {O : Type 0} → (O → Call → O → Type 0) → Driver O → List Request → Driver O → Type 0
+ServesAll leads d [] e = e ≡ d
+ServesAll {O} leads d (request ∷ requests) e = (mid : Driver O) × Serves leads d request mid × ServesAll leads mid requests e
 
 -- whatever is asked for after an attempt, the next number is above that attempt's: no two attempts have the same
-abbrev pub AttemptsDiffer : {D : Type 0} → (D → ℕ) → (D → Request → D → Type 0) → Type 0
-AttemptsDiffer {D} next serves =
-    (attempt : Request) (requests : List Request) (d e f : D)
-    → is_attempt attempt ≡ true → next d < 2 ^ 64 - 1 → serves d attempt e → ServesAll serves e requests f → next d < next f
+abbrev pub AttemptsDiffer : {O : Type 0} → (O → Call → O → Type 0) → Type 0
+AttemptsDiffer {O} leads =
+    (attempt : Request) (requests : List Request) (d e f : Driver O)
+    → is_attempt attempt ≡ true → d.next < 2 ^ 64 - 1 → Serves leads d attempt e → ServesAll leads e requests f → d.next < f.next
 
 -- nothing runs, and nothing is owed
 abbrev pub IsBare : ChildrenState → Type 0

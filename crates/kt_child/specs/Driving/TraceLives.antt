@@ -12,15 +12,17 @@ use Rattle.kt_sched.specs.Trace.{Trace, NoEvent, Then, Event, Start, End, Leads}
 use Rattle.kt_child.specs.declared.driving.driver.Driver.{Driver}
 use Rattle.kt_child.specs.declared.planning.case.Case.{Case}
 use Rattle.kt_child.specs.Driving.Begins.{Begun}
-use Rattle.kt_child.specs.System.Calls.{Call, Chain}
+use Rattle.kt_base.specs.Chains.{Chain}
+use Rattle.kt_child.specs.System.Calls.{Call}
 use Rattle.kt_child.specs.Polling.ChildOutcome.{Told}
 use Rattle.kt_child.specs.Planning.ChildPlan.{paths_of}
 use Rattle.kt_child.specs.Ending.Ends.{Leaves}
 use Rattle.kt_child.specs.Driving.JobPlan.{case_in, limit_of, spawning_of}
 use Rattle.kt_child.specs.Polling.Lives.{heard_by}
+use Rattle.kt_child.specs.Driving.DriverSteps.{DriverStarts, DriverWaits}
 use Rattle.kt_child.specs.Driving.Numbers.{IsBare}
 
--- the number behind this one; there is none behind 2 ^ 64 - 1
+-- the number after this one; there is none after 2 ^ 64 - 1
 abbrev pub following : ℕ → ℕ
 following n = if n == 2 ^ 64 - 1 then n else n + 1
 
@@ -45,24 +47,17 @@ EachWith P NoEvent calls = calls ≡ []
 EachWith P (Then T event) calls =
     (before : List Call) × (asked : List Call) × (calls ≡ before ++ asked) × EachWith P T before × P asked T event
 
--- a body is started in the directory of the number that it takes; with the last number nothing is asked
-abbrev pub BodyAsks : List ℕ → List ℕ → Job → ℕ → List Call → StartAnswer → Type 0
-BodyAsks source root job number asked answer =
-    ((number ≡ 2 ^ 64 - 1) × (asked ≡ []) × (answer ≡ Refused Directory))
-    ⊎ Begun (spawning_of source job Body number (paths_of root number)) asked answer
+-- the number of a start after these answers: a body takes the next one, a cleanup has that of its body
+abbrev pub IsNumberAt : ℕ → Trace → ℕ → Role → ℕ → Type 0
+IsNumberAt next T i Body n = n ≡ next_after next T
+IsNumberAt next T i Cleanup n = IsNumberOf next T i n
 
--- a cleanup is started in the directory of its body's number
-abbrev pub CleanupAsks : List ℕ → List ℕ → Job → ℕ → List Call → StartAnswer → Type 0
-CleanupAsks source root job number asked answer =
-    Begun (spawning_of source job Cleanup number (paths_of root number)) asked answer
-
--- what a start asks for its case: a body takes the next number, a cleanup has that of its body
+-- what a start asks for its case, in the directory of its number; a body with the last number asks nothing
 abbrev pub BegunAt : List Job → List ℕ → List ℕ → ℕ → List Call → Trace → ℕ → Role → StartAnswer → Type 0
-BegunAt plan source root next asked T i Body answer =
-    (job : Job) × (slice_get plan i ≡ Some job) × BodyAsks source root job (next_after next T) asked answer
-BegunAt plan source root next asked T i Cleanup answer =
-    (job : Job) × (number : ℕ) × (slice_get plan i ≡ Some job) × IsNumberOf next T i number
-    × CleanupAsks source root job number asked answer
+BegunAt plan source root next asked T i role answer =
+    (job : Job) × (number : ℕ) × (slice_get plan i ≡ Some job) × IsNumberAt next T i role number
+    × (((role ≡ Body) × (number ≡ 2 ^ 64 - 1) × (asked ≡ []) × (answer ≡ Refused Directory))
+    ⊎ Begun (spawning_of source job role number (paths_of root number)) asked answer)
 
 -- the last of these calls are those that follow the last poll of this case's child, and they tell its end
 abbrev pub LeavesAtLast : Case → List Call → Ended → Type 0
@@ -80,16 +75,15 @@ pub record IsTold (plan : List Job) (root : List ℕ) (next : ℕ) (calls asked 
   pub told : Told (limit_of job ended.role) (heard_by (record { attempt = number; role = ended.role }) calls) ended.outcome
   pub left : LeavesAtLast (case_in root job ended.role number) asked ended
 
--- of all these calls an answer has its own: a start is asked by them, an end is told
+-- each answer has its own calls among these: those of a start, or those that end a child
 abbrev pub ToldAt : List Job → List ℕ → List ℕ → ℕ → List Call → List Call → Trace → Event → Type 0
 ToldAt plan source root next calls asked T (Start i role answer) = BegunAt plan source root next asked T i role answer
 ToldAt plan source root next calls asked T (End ended) = IsTold plan root next calls asked T ended
 
 -- whatever is started and waited for, if nothing ran and nothing was owed at first: the calls that are asked of the
 -- system are those of the answers, and tell each end
-abbrev pub EndsAreTold : {D O : Type 0} → (O → Call → O → Type 0) → (D → Driver O) → (D → Job → Role → StartAnswer → D → Type 0) → (D → Ended → D → Type 0) → Type 0
-EndsAreTold {D} leads driver starts waits =
-    (plan : List Job) (T : Trace) (d e : D)
-    → IsPlan plan → IsBare (driver d).running → Leads starts waits plan T d e
-    → (calls : List Call) × Chain leads (driver d).os calls (driver e).os
-    × EachWith (ToldAt plan (driver d).source (driver d).root (driver d).next calls) T calls
+abbrev pub EndsAreTold : {O : Type 0} → (O → Call → O → Type 0) → Type 0
+EndsAreTold {O} leads =
+    (plan : List Job) (T : Trace) (d e : Driver O)
+    → IsPlan plan → IsBare d.running → Leads (DriverStarts leads) (DriverWaits leads) plan T d e
+    → (calls : List Call) × Chain leads d.os calls e.os × EachWith (ToldAt plan d.source d.root d.next calls) T calls

@@ -40,10 +40,13 @@ ReadsClaim path calls told = (parts : ℕ) × (whole : Whole) × Reads parts pat
 abbrev pub ReadsTap : List ℕ → List Call → Tap → Type 0
 ReadsTap path calls told = (parts : ℕ) × (whole : Whole) × Reads parts path 65536 16777216 [] calls whole × IsTap whole told
 
--- An ATF body leaves its result file, a TAP body its output. Of other children nothing is asked.
+-- an ATF body leaves its result file, a TAP body its output
+abbrev pub BodyGathers : Interface → Paths → List Call → Evidence → Type 0
+BodyGathers interface.Atf paths calls left = (told : Claim) × ReadsClaim paths.result calls told × (left ≡ evidence.Atf told)
+BodyGathers interface.Tap paths calls left = (told : Tap) × ReadsTap paths.out calls told × (left ≡ evidence.Tap told)
+BodyGathers interface.Plain paths calls left = (calls ≡ []) × (left ≡ evidence.Plain)
+
+-- of other children nothing is asked
 abbrev pub Gathers : Interface → Role → Paths → List Call → Evidence → Type 0
-Gathers interface.Atf Body paths calls (evidence.Atf told) = ReadsClaim paths.result calls told
-Gathers interface.Tap Body paths calls (evidence.Tap told) = ReadsTap paths.out calls told
-Gathers interface.Plain Body paths calls evidence.Plain = calls ≡ []
-Gathers kind Cleanup paths calls evidence.Plain = calls ≡ []
-Gathers kind role paths calls other = ⊥
+Gathers kind Body paths calls left = BodyGathers kind paths calls left
+Gathers kind Cleanup paths calls left = (calls ≡ []) × (left ≡ evidence.Plain)

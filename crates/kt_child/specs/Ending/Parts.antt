@@ -5,8 +5,6 @@ use Rattle.kt_child.specs.declared.system.file_read.FileRead.{FileRead}
 use Rattle.kt_child.specs.declared.system.file_read.FileRead.TheVariants.{Missing as NoFile, Part}
 use Rattle.kt_child.specs.declared.ending.next_part.NextPart.{NextPart}
 use Rattle.kt_child.specs.declared.ending.next_part.NextPart.TheVariants.{More, All, Absent, Failed, Past}
-use Rattle.kt_child.specs.declared.ending.read_end.ReadEnd.{ReadEnd}
-use Rattle.kt_child.specs.declared.ending.read_end.ReadEnd.TheVariants as read_end
 use Rattle.kt_child.specs.Ending.Reads.{bytes_of}
 use Rattle.kt_child.specs.System.Calls.{Call, ReadPart}
 
@@ -17,11 +15,11 @@ pub data Whole : Type 0 where
   TooLong : Whole
   Bytes : (bytes : List ℕ) → Whole
 
--- what is asked next, after so many bytes
+-- what is asked next, after this many bytes
 abbrev pub next_part : List ℕ → ℕ → ℕ → ℕ → Result FileRead OsFault → Call
 next_part path part limit got answer = ReadPart path got (min part (limit - got)) answer
 
--- what a part makes of a file of which so many bytes were read
+-- what a part makes of a file of which this many bytes were read
 abbrev pub next_of : ℕ → ℕ → FileRead → NextPart
 next_of limit got NoFile = if got == 0 then Absent else Failed
 next_of limit got (Part bytes false) = All
@@ -50,14 +48,3 @@ Reads (suc n) path part limit got calls whole =
     (answer : Result FileRead OsFault) × (next : NextPart) × IsNext limit (length got) answer next
     × After next (got ++ bytes_of answer) (next_part path part limit (length got) answer) calls whole
     (λ more. Reads n path part limit (got ++ bytes_of answer) more whole)
-
--- a reader that has taken some bytes has taken these behind them
-abbrev pub Takes : {R : Type 0} → (R → List ℕ → Type 0) → R → R → List ℕ → Type 0
-Takes has_taken old new bytes = (taken : List ℕ) → has_taken old taken → has_taken new (taken ++ bytes)
-
--- a reading that ended so gave this, and the reader has taken a file that was read whole
-abbrev pub Tells : {R : Type 0} → (R → List ℕ → Type 0) → R → ReadEnd → Whole → Type 0
-Tells has_taken reader read_end.Missing whole = whole ≡ Missing
-Tells has_taken reader read_end.Unreadable whole = whole ≡ Unreadable
-Tells has_taken reader read_end.TooLong whole = whole ≡ TooLong
-Tells has_taken reader read_end.Complete whole = (bytes : List ℕ) × (whole ≡ Bytes bytes) × has_taken reader bytes

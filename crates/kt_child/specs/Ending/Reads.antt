@@ -12,14 +12,14 @@ bytes_of (Err fault) = []
 bytes_of (Ok Missing) = []
 bytes_of (Ok (Part bytes follows)) = bytes
 
--- the list that an answer tells
+-- the list that an answer gives
 abbrev pub list_of : Result FileRead OsFault → ListBytes
 list_of (Err fault) = Unreadable
 list_of (Ok Missing) = Unreadable
 list_of (Ok (Part bytes true)) = TooLong
 list_of (Ok (Part bytes false)) = Read bytes
 
--- a read with this limit answers no more bytes
+-- a read with this limit returns no more bytes
 abbrev pub IsReadWithin : ℕ → Result FileRead OsFault → Type 0
 IsReadWithin limit (Err fault) = Unit {0}
 IsReadWithin limit (Ok Missing) = Unit {0}

@@ -1,5 +1,5 @@
 -- How the children of the host stand.
-use Rattle.std.specs.Prelude.{◌≡◌, ℕ, zero, suc, Bool, true, false, not, Option, Some, None, IsSome, IsSomeAnd, option_map, List, [], ◌∷◌, if◌then◌else◌}
+use Rattle.std.specs.Prelude.{◌≡◌, false, Option, Some, None, IsSome, IsSomeAnd, option_map, List, [], ◌∷◌, if◌then◌else◌}
 use Rattle.std.specs.Process.{child_status}
 use Rattle.std.specs.declared.process.status.ExitStatus.{ExitStatus}
 use Rattle.kt_child.specs.declared.system.child.Child.{Child}
@@ -19,17 +19,7 @@ abbrev pub stand_in : {P I O E : Type 0} → List (HostChild P I O E) → Child 
 stand_in [] c = None
 stand_in (h ∷ held) c = if same_child h.child c then stand_of h else stand_in held c
 
--- a child has another name
-abbrev pub is_other : {P I O E : Type 0} → Child → HostChild P I O E → Bool
-is_other c h = not (same_child h.child c)
-
--- the first of these children with a name stands at this place
-abbrev pub IsPlaceOf : {P I O E : Type 0} → Child → List (HostChild P I O E) → ℕ → Type 0
-IsPlaceOf c [] place = ⊥
-IsPlaceOf c (h ∷ held) zero = same_child h.child c ≡ true
-IsPlaceOf c (h ∷ held) (suc place) = (same_child h.child c ≡ false) × IsPlaceOf c held place
-
--- The child whose end was told last: it has this name, and a process that has this status.
+-- The child whose end was reported last: it has this name, and its process has this status.
 abbrev pub IsLastEnd : {P I O E : Type 0} → Option (HostChild P I O E) → Child → ExitStatus → Type 0
 IsLastEnd last child status = IsSomeAnd last (λ h. (h.child ≡ child) × (stand_of h ≡ Some (Some status)))
 

@@ -34,7 +34,7 @@ paths_of root number =
 abbrev pub variable_word : Variable → List ℕ
 variable_word v = codes "-v" ++ v.name ++ codes "=" ++ v.value
 
--- the words behind a program's path, by its interface and what it is started for
+-- the arguments of a program, by its interface and what it is started for
 abbrev pub words_of : Interface → Want → List ℕ → List ℕ → List Variable → List ℕ → List (List ℕ)
 words_of Atf Listing result source variables case_name = map variable_word variables ++ codes "-l" ∷ []
 words_of Atf Body result source variables case_name =

@@ -1,5 +1,5 @@
 -- One poll of a child: what is asked, what it means, and what is kept.
-use Rattle.std.specs.Prelude.{◌≡◌, ℕ, ◌+◌, ◌*◌, ◌<◌, ◌==◌, List, [], ◌∷◌, Bool, true, false, not, ◌&&◌, Result, Ok, Err, if◌then◌else◌}
+use Rattle.std.specs.Prelude.{ℕ, ◌+◌, ◌*◌, ◌==◌, List, [], ◌∷◌, Bool, true, false, not, ◌&&◌, Result, Ok, Err, if◌then◌else◌}
 use Rattle.kt_base.specs.declared.outcome.Outcome.TheVariants.{Exited, Signaled, TimedOut, WaitFailed}
 use Rattle.kt_child.specs.declared.system.child.Child.{Child}
 use Rattle.kt_child.specs.declared.system.polled.Polled.{Polled}
@@ -9,15 +9,6 @@ use Rattle.kt_child.specs.declared.polling.watch.Watch.{Watch}
 use Rattle.kt_child.specs.declared.polling.turn.Turn.{Turn}
 use Rattle.kt_child.specs.declared.polling.turn.Turn.TheVariants.{More, Ended}
 use Rattle.kt_child.specs.System.Calls.{Call, Poll, Kill}
-
--- a child that is not over: fewer than 100 polls a second of its limit before a kill, fewer than 500 after it
-abbrev pub IsShort : Bool → ℕ → ℕ → ℕ → Type 0
-IsShort true limit before after = after < 500
-IsShort false limit before after = (before < 100 * limit) × (after ≡ 0)
-
--- what is kept of a child with this limit in seconds that is not over
-abbrev pub IsWatched : ℕ → Watch → Type 0
-IsWatched limit w = IsShort w.killed limit w.before w.after
 
 -- one more answer `running` is the last one before the deadline
 abbrev pub is_due : ℕ → Watch → Bool

@@ -1,16 +1,12 @@
 -- Turns over the running children.
-use Rattle.std.specs.Prelude.{◌≡◌, ℕ, zero, suc, ◌≤◌, List, [], ◌∷◌, ◌++◌, Bool, Option, Some, None, Result, take, slice_get, map, ◌+◌, ◌-◌, ◌*◌}
+use Rattle.std.specs.Prelude.{◌≡◌, ℕ, zero, suc, List, [], ◌∷◌, ◌++◌, Bool, Option, Some, None, Result, take, slice_get, map, ◌+◌}
 use Rattle.kt_base.specs.declared.outcome.Outcome.{Outcome}
 use Rattle.kt_child.specs.declared.system.polled.Polled.{Polled}
 use Rattle.kt_child.specs.declared.system.os_fault.OsFault.{OsFault}
 use Rattle.kt_child.specs.declared.polling.turn.Turn.TheVariants.{More, Ended}
 use Rattle.kt_child.specs.declared.polling.watched.Watched.{Watched}
 use Rattle.kt_child.specs.System.Calls.{Call, Pause}
-use Rattle.kt_child.specs.Polling.Polls.{IsWatched, asked_by_poll, turn_of, watch_after}
-
--- a child that isn't over, within the greatest limit
-abbrev pub IsOn : Watched → Type 0
-IsOn k = IsWatched k.limit k.watch × (k.limit ≤ 1000000)
+use Rattle.kt_child.specs.Polling.Polls.{asked_by_poll, turn_of, watch_after}
 
 -- a child after one more Running answer
 abbrev pub advanced : Watched → Watched
@@ -67,7 +63,3 @@ WaitedUntil turns children calls place outcome =
 abbrev pub WaitedOn : List Watched → List Call → ℕ → Outcome → List Watched → Type 0
 WaitedOn children calls place outcome after =
     (turns : ℕ) × WaitedUntil turns children calls place outcome × (after ≡ advanced_below place (after_turns turns children))
-
--- the polls that a child has left
-abbrev pub polls_left : Watched → ℕ
-polls_left k = (100 * k.limit - k.watch.before) + (500 - k.watch.after)

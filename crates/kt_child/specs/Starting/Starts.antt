@@ -70,7 +70,7 @@ abbrev pub SetUpAs : Role → Spawning → List Call → Result (Unit {0}) Refus
 SetUpAs Body p calls result = SetUpNew (furnish_asks p) p.dir calls result
 SetUpAs Cleanup p calls result = SetUpIn (child_asks p) p.dir calls result
 
--- a start, but for the moment of one that succeeded: the limit is said first
+-- a start without its moment: the limit is set first
 abbrev pub SetUp : Spawning → List Call → Result (Unit {0}) Refused → Type 0
 SetUp p calls result = (more : List Call) × (calls ≡ SetLimit p.child p.limit ∷ more) × SetUpAs p.child.role p more result
 

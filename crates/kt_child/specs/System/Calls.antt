@@ -1,12 +1,12 @@
 -- What is asked of the system, and what it answers.
-use Rattle.std.specs.Prelude.{◌≡◌, ℕ, List, [], ◌∷◌, Bool, Result}
+use Rattle.std.specs.Prelude.{ℕ, List, Bool, Result}
 use Rattle.kt_child.specs.declared.system.child.Child.{Child}
 use Rattle.kt_child.specs.declared.system.polled.Polled.{Polled}
 use Rattle.kt_child.specs.declared.system.os_fault.OsFault.{OsFault}
 use Rattle.kt_child.specs.declared.system.file_read.FileRead.{FileRead}
 use Rattle.kt_child.specs.declared.system.env.EnvPlan.{EnvPlan}
 
--- one question with its answer; where the answer is a truth value, it tells whether the call succeeded
+-- one question with its answer; a truth value says whether the call succeeded
 pub data Call : Type 0 where
   SetLimit : (child : Child) (limit : ℕ) → Call
   MakeDir : (path : List ℕ) (answer : Result (Unit {0}) OsFault) → Call
@@ -19,8 +19,3 @@ pub data Call : Type 0 where
   ReadFile : (path : List ℕ) (limit : ℕ) (answer : Result FileRead OsFault) → Call
   ReadPart : (path : List ℕ) (from : ℕ) (limit : ℕ) (answer : Result FileRead OsFault) → Call
   Now : (answer : Result ℕ OsFault) → Call
-
--- these questions with their answers lead from one state to another, one after the other
-abbrev pub Chain : {O : Type 0} → (O → Call → O → Type 0) → O → List Call → O → Type 0
-Chain leads old [] new = new ≡ old
-Chain {O} leads old (call ∷ calls) new = (mid : O) × leads old call mid × Chain leads mid calls new

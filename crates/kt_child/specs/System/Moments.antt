@@ -1,4 +1,4 @@
--- The moments that the system tells.
+-- The moments that the system returns.
 use Rattle.std.specs.Prelude.{ℕ, Result, Ok, Err, leb, if◌then◌else◌}
 use Rattle.kt_base.specs.declared.moment.TheConstants.{LATEST_MOMENT}
 use Rattle.kt_child.specs.declared.system.os_fault.OsFault.{OsFault}
@@ -7,7 +7,7 @@ use Rattle.kt_child.specs.declared.system.os_fault.OsFault.{OsFault}
 abbrev pub recordable_moment : ℕ → ℕ
 recordable_moment moment = if leb moment LATEST_MOMENT then moment else 0
 
--- the moment of an answer, 0 where the clock failed
+-- the moment of an answer, 0 if the clock failed
 abbrev pub moment_of : Result ℕ OsFault → ℕ
 moment_of (Ok moment) = recordable_moment moment
 moment_of (Err fault) = 0

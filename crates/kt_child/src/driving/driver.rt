@@ -14,7 +14,7 @@ pub struct Driver<O: Os + Drop> {
     /// The absolute directory of the root Kyuafile.
     pub(crate) source: Text,
     /// The root directory.
-    pub root: Text,
+    pub(crate) root: Text,
     /// The number of the next start of a body or a list.
     pub(crate) next: u64,
     /// What runs and what is owed.
@@ -47,12 +47,13 @@ impl<O: Os + Drop> Launcher for Driver<O> {
 
 impl<O: Os + Drop> Driver<O> {
     ghost use Rattle.std.specs.Prelude.{◌≡◌, Bool, List, MatchResult, Ok, Err};
-    ghost use Rattle.kt_child.specs.System.Calls.{Call, Chain, RemoveTree};
+    ghost use Rattle.kt_base.specs.Chains.{Chain};
+    ghost use Rattle.kt_child.specs.System.Calls.{Call, RemoveTree};
     ghost use Rattle.kt_child.specs.Driving.Roots.{FindsRoot};
     ghost use Rattle.kt_child.specs.Driving.ChildrenState.{idle_state};
 
     /// Makes the root directory of a driver below `base`. `source` is the absolute directory of the root Kyuafile.
-    /// Where there is no driver the system is handed back.
+    /// An error returns the system, too.
     pub fn new(
         alloc: Global,
         os: O,
@@ -81,7 +82,7 @@ impl<O: Os + Drop> Driver<O> {
         }
     }
 
-    /// Asks for the removal of the root directory, and hands the system back.
+    /// Asks for the removal of the root directory, and returns the system.
     pub fn close(self) -> O
         ensures { (done : Bool) × O.leads self.os (RemoveTree self.root done) result }
     {

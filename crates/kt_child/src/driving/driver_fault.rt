@@ -1,3 +1,6 @@
+ghost use Rattle.std.specs.Prelude.{◌≡◌};
+ghost use Rattle.kt_child.specs.declared.driving.driver_fault.DriverFault.TheVariants as fault;
+
 use kt_base::NoMemory;
 use thiserror::Error;
 
@@ -9,4 +12,12 @@ pub enum DriverFault {
     /// None of the 1,000 root directories could be made.
     #[error("no work directory")]
     NoWorkDirectory,
+}
+
+impl From<NoMemory> for DriverFault {
+    ghost from_gives = { λ refusal e. e ≡ fault.NoMemory refusal };
+
+    fn from(refusal: NoMemory) -> DriverFault {
+        DriverFault::NoMemory(refusal)
+    }
 }

@@ -1,8 +1,7 @@
 ghost use Rattle.std.specs.Prelude.{◌≡◌, ◌≤◌, IfOk};
 ghost use Rattle.kt_sched.specs.Plan.{IsFit};
-ghost use Rattle.kt_child.specs.Planning.ChildPlan.{paths_of};
-ghost use Rattle.kt_child.specs.Polling.Turns.{IsOn};
-ghost use Rattle.kt_child.specs.Driving.JobPlan.{case_of, limit_of, spawning_of, want_of};
+ghost use Rattle.kt_child.specs.Inner.Turns.{IsOn};
+ghost use Rattle.kt_child.specs.Driving.JobPlan.{case_in, limit_of, spawning_for, want_of};
 ghost use Rattle.kt_child.specs.Starting.Starts.{spawned};
 
 use crate::ending::ends::{err_path, out_path};
@@ -10,6 +9,7 @@ use crate::planning::case::Case;
 use crate::planning::environment::env_plan;
 use crate::planning::locations::{absolute_path, program_directory};
 use crate::planning::paths::Paths;
+use crate::planning::purpose::Purpose;
 use crate::planning::spawning::Spawning;
 use crate::planning::want::Want;
 use crate::planning::words::argv_plan;
@@ -22,16 +22,8 @@ use std::alloc::Global;
 /// The limit of a cleanup, in seconds (this profile).
 const CLEANUP_LIMIT: u64 = 60;
 
-fn want(role: Role) -> Want
-    ensures { result ≡ want_of role }
-{
-    match role {
-        Role::Body => Want::Body,
-        Role::Cleanup => Want::Cleanup,
-    }
-}
-
-fn limit(job: &Job, role: Role) -> u64
+/// The limit of a job's child, in seconds.
+pub(crate) fn limit(job: &Job, role: Role) -> u64
     requires { IsFit job.now }
     ensures limit { result ≡ limit_of job.now role }
     ensures some { 1 ≤ result }
@@ -43,32 +35,50 @@ fn limit(job: &Job, role: Role) -> u64
     }
 }
 
-/// What a job's child is started with. `source` is the absolute directory of the root Kyuafile.
+/// What a job's child is started for.
+pub(crate) fn want(role: Role) -> Want
+    ensures { result ≡ want_of role }
+{
+    match role {
+        Role::Body => Want::Body,
+        Role::Cleanup => Want::Cleanup,
+    }
+}
+
+/// What a child is started with. `source` is the absolute directory of the root Kyuafile.
 pub(crate) fn spawning(
     alloc: Global,
     source: &Text,
-    job: &Job,
-    role: Role,
+    purpose: Purpose<'_>,
     attempt: u64,
     paths: &Paths,
 ) -> Result<Spawning, NoMemory>
-    requires { IsFit job.now }
-    ensures plan { IfOk result (λ plan. plan ≡ spawning_of source.now job.now role attempt
-        paths.now) }
+    requires some { 1 ≤ purpose.limit }
+    requires range { purpose.limit ≤ 1000000 }
+    ensures plan { IfOk result (λ plan. plan ≡ spawning_for source.now (record {
+      role = purpose.entry.role;
+      want = purpose.entry.want;
+      interface = purpose.entry.interface;
+      program = purpose.entry.program.now;
+      variables = purpose.entry.variables.now;
+      case_name = purpose.entry.case_name.now;
+      limit = purpose.entry.limit;
+    }) attempt paths.now) }
     ensures on { IfOk result (λ plan. IsOn (spawned plan)) }
 {
-    let program = absolute_path(source, &job.program)?;
+    let role = purpose.role;
+    let program = absolute_path(source, purpose.program)?;
     let directory = program_directory(alloc, &program)?;
     let words = argv_plan(
         alloc,
-        job.interface,
-        want(role),
+        purpose.interface,
+        purpose.want,
         paths,
         &directory,
-        &job.vars,
-        &job.case_name,
+        purpose.variables,
+        purpose.case_name,
     )?;
-    let env = env_plan(alloc, job.interface, &job.vars, &paths.work)?;
+    let env = env_plan(alloc, purpose.interface, purpose.variables, &paths.work)?;
     let dir = paths.dir.copy()?;
     let work = paths.work.copy()?;
     let out = out_path(role, paths).copy()?;
@@ -76,7 +86,7 @@ pub(crate) fn spawning(
     let child = Child { attempt, role };
     Ok(Spawning {
         child,
-        limit: limit(job, role),
+        limit: purpose.limit,
         program,
         words,
         env,
@@ -87,35 +97,22 @@ pub(crate) fn spawning(
     })
 }
 
-/// A body that is to be started.
-#[derive(Debug, Drop)]
-pub(crate) struct Planned {
-    pub case: Case,
-    pub plan: Spawning,
-}
-
-pub(crate) fn plan_body(
+/// The case of a body that takes this number.
+pub(crate) fn body_case(
     alloc: Global,
-    source: &Text,
     root: &Text,
     attempt: u64,
     job: &Job,
-) -> Result<Planned, NoMemory>
-    requires { IsFit job.now }
-    ensures planned { IfOk result (λ p. (p.case ≡ case_of job.now attempt
-        (paths_of root.now attempt)) × (p.plan ≡ spawning_of source.now job.now Role.Body attempt
-        (paths_of root.now attempt))) }
-    ensures on { IfOk result (λ p. IsOn (spawned p.plan)) }
+) -> Result<Case, NoMemory>
+    ensures { IfOk result (λ case. case ≡ case_in root.now job.now Role.Body attempt) }
 {
     let paths = workdir_plan(alloc, root, attempt)?;
-    let plan = spawning(alloc, source, job, Role::Body, attempt, &paths)?;
-    let case = Case {
+    Ok(Case {
         position: job.position,
         attempt,
         role: Role::Body,
         interface: job.interface,
         cleanup: job.cleanup,
         paths,
-    };
-    Ok(Planned { case, plan })
+    })
 }

@@ -1,23 +1,22 @@
 ghost use Rattle.std.specs.Prelude.{◌≡◌, List, IfOk};
-ghost use Rattle.kt_child.specs.System.Calls.{Call, Chain};
+ghost use Rattle.kt_base.specs.Chains.{Chain};
+ghost use Rattle.kt_child.specs.System.Calls.{Call};
 ghost use Rattle.kt_child.specs.Planning.ChildPlan.{paths_of};
-ghost use Rattle.kt_child.specs.Driving.Lists.{RanList, WatchedList, listing_of};
-ghost use Rattle.kt_child.specs.Polling.Turns.{IsOn};
+ghost use Rattle.kt_child.specs.Driving.JobPlan.{list_purpose, spawning_for};
+ghost use Rattle.kt_child.specs.Driving.Lists.{RanList, WatchedList};
+ghost use Rattle.kt_child.specs.Inner.Turns.{IsOn};
 ghost use Rattle.kt_child.specs.Starting.Starts.{spawned};
 
 use crate::driving::driver::Driver;
+use crate::driving::jobs::spawning;
 use crate::ending::reads::read_list;
-use crate::planning::environment::env_plan;
-use crate::planning::locations::{absolute_path, program_directory};
-use crate::planning::paths::Paths;
+use crate::planning::purpose::Purpose;
 use crate::planning::spawning::Spawning;
 use crate::planning::want::Want;
-use crate::planning::words::argv_plan;
 use crate::planning::workdir::workdir_plan;
 use crate::polling::turns::wait;
 use crate::starting::refusals::memory_refusal;
 use crate::starting::starts::{set_up, spawned};
-use crate::system::child::Child;
 use crate::system::os::Os;
 use kt_atflist::{ListBytes, Listing};
 use kt_base::{Interface, NoMemory, Outcome, Refused, Role, Text, Variables};
@@ -55,52 +54,6 @@ fn run_list<O: Os>(os: &mut O, plan: &Spawning) -> Listing
 }
 
 /// What a list is started with. `source` is the absolute directory of the root Kyuafile.
-fn listing(
-    alloc: Global,
-    source: &Text,
-    program: &Text,
-    variables: &Variables,
-    attempt: u64,
-    paths: &Paths,
-) -> Result<Spawning, NoMemory>
-    ensures plan { IfOk result (λ plan. plan ≡ listing_of source.now program.now variables.now
-        attempt paths.now) }
-    ensures on { IfOk result (λ plan. IsOn (spawned plan)) }
-{
-    let program = absolute_path(source, program)?;
-    let directory = program_directory(alloc, &program)?;
-    let none = Text::new(alloc);
-    let words = argv_plan(
-        alloc,
-        Interface::Atf,
-        Want::List,
-        paths,
-        &directory,
-        variables,
-        &none,
-    )?;
-    let env = env_plan(alloc, Interface::Atf, variables, &paths.work)?;
-    let dir = paths.dir.copy()?;
-    let work = paths.work.copy()?;
-    let out = paths.out.copy()?;
-    let err = paths.err.copy()?;
-    let child = Child {
-        attempt,
-        role: Role::Body,
-    };
-    Ok(Spawning {
-        child,
-        limit: LIST_LIMIT,
-        program,
-        words,
-        env,
-        dir,
-        work,
-        out,
-        err,
-    })
-}
-
 fn plan_list(
     alloc: Global,
     source: &Text,
@@ -109,12 +62,22 @@ fn plan_list(
     program: &Text,
     variables: &Variables,
 ) -> Result<Spawning, NoMemory>
-    ensures plan { IfOk result (λ plan. plan ≡ listing_of source.now program.now variables.now
-        attempt (paths_of root.now attempt)) }
+    ensures plan { IfOk result (λ plan. plan ≡ spawning_for source.now
+        (list_purpose program.now variables.now) attempt (paths_of root.now attempt)) }
     ensures on { IfOk result (λ plan. IsOn (spawned plan)) }
 {
     let paths = workdir_plan(alloc, root, attempt)?;
-    let plan = listing(alloc, source, program, variables, attempt, &paths)?;
+    let none = Text::new(alloc);
+    let purpose = Purpose {
+        role: Role::Body,
+        want: Want::List,
+        interface: Interface::Atf,
+        program,
+        variables,
+        case_name: &none,
+        limit: LIST_LIMIT,
+    };
+    let plan = spawning(alloc, source, purpose, attempt, &paths)?;
     Ok(plan)
 }
 

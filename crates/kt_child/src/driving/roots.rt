@@ -1,5 +1,6 @@
 ghost use Rattle.std.specs.Prelude.{◌≡◌, List, IfOk};
-ghost use Rattle.kt_child.specs.System.Calls.{Call, Chain};
+ghost use Rattle.kt_base.specs.Chains.{Chain};
+ghost use Rattle.kt_child.specs.System.Calls.{Call};
 ghost use Rattle.kt_child.specs.Driving.Roots.{FindsRoot, root_of};
 
 use crate::driving::driver_fault::DriverFault;
@@ -17,18 +18,16 @@ pub(crate) fn root_path(alloc: Global, base: &Text, number: u64) -> Result<Text,
 }
 
 /// Makes the root directory of a driver: the first of `kyua.0` to `kyua.999` below `base` that can be made (this
-/// profile). One that is there already, such as that of a runner which was killed, is never used again.
-pub fn find_root<O: Os>(alloc: Global, os: &mut O, base: &Text) -> Result<Text, DriverFault>
+/// profile). One that exists, such as that of a runner that was killed, is never used again.
+pub(crate) fn find_root<O: Os>(alloc: Global, os: &mut O, base: &Text) -> Result<Text, DriverFault>
     ensures { (calls : List Call) × Chain O.leads os.old calls os.new
         × FindsRoot base.now calls result }
 {
     for number in 0..1000 {
-        match root_path(alloc, base, number) {
-            Err(refusal) => return Err(DriverFault::NoMemory(refusal)),
-            Ok(root) => match os.make_dir(&root) {
-                Ok(()) => return Ok(root),
-                Err(_fault) => {}
-            },
+        let root = root_path(alloc, base, number)?;
+        match os.make_dir(&root) {
+            Ok(()) => return Ok(root),
+            Err(_fault) => {}
         }
     }
     Err(DriverFault::NoWorkDirectory)

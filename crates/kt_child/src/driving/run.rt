@@ -3,12 +3,12 @@ ghost use Rattle.kt_sched.specs.Children.{IsIdle};
 ghost use Rattle.kt_sched.specs.Plan.{IsPlan, IsWidth};
 ghost use Rattle.kt_sched.specs.Run.{Ran};
 ghost use Rattle.kt_sched.specs.Trace.{Trace, Leads};
-ghost use Rattle.kt_child.specs.System.Calls.{Call, Chain};
+ghost use Rattle.kt_base.specs.Chains.{Chain};
+ghost use Rattle.kt_child.specs.System.Calls.{Call};
 ghost use Rattle.kt_child.specs.Driving.ChildrenState.{is_among, shown_at};
-ghost use Rattle.kt_child.specs.Driving.DriverSteps.{DriverLists, DriverStarts, DriverWaits};
-ghost use Rattle.kt_child.specs.Driving.Numbers.{AttemptsDiffer, Serves};
+ghost use Rattle.kt_child.specs.Driving.DriverSteps.{DriverStarts, DriverWaits};
+ghost use Rattle.kt_child.specs.Driving.Numbers.{AttemptsDiffer};
 ghost use Rattle.kt_child.specs.Driving.TraceLives.{EachWith, EndsAreTold, ToldAt};
-ghost use Rattle.kt_child.specs.declared.driving.driver.Driver.{Driver};
 
 use crate::driving::driver::Driver;
 use crate::system::os::Os;
@@ -39,17 +39,14 @@ pub fn run_driver<O: Os + Drop, S: Sink>(
     run_cases(alloc, plan, width, driver, sink)
 }
 
-/// The law of numbers: no two attempts of a driver, which are the starts of bodies and the lists, have the same number.
+/// The law of numbers: no two attempts of a driver (starts of bodies, and lists) have the same number.
 pub fn law_of_numbers<O: Os + Drop>()
-    ensures { AttemptsDiffer {D = Driver O} (λ d. d.next)
-        (Serves {D = Driver O} (DriverStarts O.leads) (DriverWaits O.leads) (DriverLists O.leads)) }
+    ensures { AttemptsDiffer O.leads }
 {}
 
 /// The law of traces, if nothing runs and nothing is owed at first: the polls and kills of each child, of all that is
-/// asked of the system, are one life, and its end has the outcome that the outcome table tells of them. Each start and
-/// each end has its own calls in the directory of its body's number: the start, what is read behind the last poll, and
-/// the removal.
+/// asked of the system, are one life, and the outcome of its end is their row of the outcome table. Each start and each
+/// end has its own calls in the directory of its body's number: the start, the reads after the last poll, and the removal.
 pub fn law_of_traces<O: Os + Drop>()
-    ensures { EndsAreTold {D = Driver O} O.leads (λ d. d) (DriverStarts O.leads)
-        (DriverWaits O.leads) }
+    ensures { EndsAreTold O.leads }
 {}

@@ -4,7 +4,8 @@ ghost use Rattle.kt_sched.specs.Children.{same_role};
 ghost use Rattle.kt_child.specs.declared.planning.case.Case.{Case};
 ghost use Rattle.kt_child.specs.Driving.Begins.{Unbegun};
 ghost use Rattle.kt_child.specs.Driving.ChildrenState.{is_among, pending_with};
-ghost use Rattle.kt_child.specs.System.Calls.{Call, Chain};
+ghost use Rattle.kt_base.specs.Chains.{Chain};
+ghost use Rattle.kt_child.specs.System.Calls.{Call};
 
 use crate::ending::ends::{leave, over, remove_if};
 use crate::planning::case::Case;
@@ -22,7 +23,7 @@ use std::marker::Model;
 /// The running children in the order of their start, each with its case, and the cases whose cleanup is owed. Room for
 /// a case's cleanup is taken with its body's start.
 #[derive(Drop)]
-pub struct RunningChildren {
+pub(crate) struct RunningChildren {
     children: Vec<Watched>,
     cases: Vec<Case>,
     pending: Vec<Case>,
@@ -31,7 +32,8 @@ pub struct RunningChildren {
 impl Model for RunningChildren {
     ghost use Rattle.std.specs.Prelude.{◌+◌, ◌≤◌};
     ghost use Rattle.std.specs.Vec.{vec_len, vec_capacity};
-    ghost use Rattle.kt_child.specs.Driving.ChildrenState.{ChildrenState, IsChildrenState};
+    ghost use Rattle.kt_child.specs.Inner.ChildrenState.{IsChildrenState};
+    ghost use Rattle.kt_child.specs.Driving.ChildrenState.{ChildrenState};
 
     ghost Value = { ChildrenState };
 
@@ -109,8 +111,7 @@ fn is_cleanup(role: Role) -> bool
     }
 }
 
-/// Refuses a start for which there is no memory. The directory of a cleanup is removed: its cleanup
-/// isn't asked for again.
+/// Refuses a start for which memory ran out. The directory of a cleanup is removed, since it isn't started again.
 pub(crate) fn refuse<O: Os>(os: &mut O, role: Role, dir: &Text, refusal: NoMemory) -> StartAnswer
     ensures refused { result ≡ StartAnswer.Refused Refused.Memory }
     ensures asked { (calls : List Call) × Chain O.leads os.old calls os.new
@@ -123,15 +124,19 @@ pub(crate) fn refuse<O: Os>(os: &mut O, role: Role, dir: &Text, refusal: NoMemor
 impl RunningChildren {
     ghost use Rattle.std.specs.Prelude.{◌≡◌, ◌==◌, ℕ, ◌+◌, ◌<◌, List, [], length, slice_get, remove, Some, true, false, if◌then◌else◌};
     ghost use Rattle.kt_sched.specs.Children.{Child as Shown, IsEvidence, running_after_end, pending_after_end};
-    ghost use Rattle.kt_sched.specs.Moments.{HasMoment, IsMoment};
-    ghost use Rattle.kt_child.specs.System.Calls.{Call, Chain};
-    ghost use Rattle.kt_child.specs.Polling.Turns.{IsOn};
-    ghost use Rattle.kt_child.specs.Driving.ChildrenState.{Waited, count_at, idle_state, is_among, shown_at};
-    ghost use Rattle.kt_child.specs.Driving.Begins.{Begun, state_after_start, shown_after};
+    ghost use Rattle.kt_base.specs.Moments.{IsMoment};
+    ghost use Rattle.kt_sched.specs.Moments.{HasMoment};
+    ghost use Rattle.kt_base.specs.Chains.{Chain};
+    ghost use Rattle.kt_child.specs.System.Calls.{Call};
+    ghost use Rattle.kt_child.specs.Inner.Turns.{IsOn};
+    ghost use Rattle.kt_child.specs.Inner.ChildrenState.{count_at};
+    ghost use Rattle.kt_child.specs.Driving.ChildrenState.{Waited, idle_state, is_among, shown_at};
+    ghost use Rattle.kt_child.specs.Inner.Begins.{shown_after};
+    ghost use Rattle.kt_child.specs.Driving.Begins.{Begun, state_after_start};
     ghost use Rattle.kt_child.specs.Starting.Starts.{spawned};
 
     /// No running children, which takes no memory.
-    pub fn new(alloc: Global) -> RunningChildren
+    pub(crate) fn new(alloc: Global) -> RunningChildren
         ensures { result ≡ idle_state }
     {
         RunningChildren {
@@ -149,7 +154,7 @@ impl RunningChildren {
     }
 
     /// Takes a case whose cleanup is owed.
-    pub fn take_owed(&mut self, position: u32) -> Case
+    pub(crate) fn take_owed(&mut self, position: u32) -> Case
         requires { is_among self.old.pending position ≡ true }
         ensures taken { (place : ℕ) × (slice_get self.old.pending place ≡ Some result)
             × (self.new ≡ record { children = self.old.children; cases = self.old.cases; pending = remove self.old.pending place }) }
@@ -164,7 +169,7 @@ impl RunningChildren {
     }
 
     /// Starts a child of this case: its body in a new directory, its cleanup in that of the body.
-    pub fn start<O: Os>(&mut self, os: &mut O, case: Case, plan: &Spawning) -> StartAnswer
+    pub(crate) fn start<O: Os>(&mut self, os: &mut O, case: Case, plan: &Spawning) -> StartAnswer
         requires on { IsOn (spawned plan.now) }
         requires free { count_at case.position self.old.cases + count_at case.position
             self.old.pending ≡ 0 }
@@ -189,7 +194,7 @@ impl RunningChildren {
     }
 
     /// Waits for the first child that is over.
-    pub fn wait<O: Os>(&mut self, alloc: Global, os: &mut O) -> Ended
+    pub(crate) fn wait<O: Os>(&mut self, alloc: Global, os: &mut O) -> Ended
         requires { 0 < length self.old.cases }
         ensures waited { (calls : List Call) × Chain O.leads os.old calls os.new
             × Waited self.old calls result self.new }

@@ -1,7 +1,8 @@
 ghost use Rattle.std.specs.Prelude.{◌≡◌, List};
 ghost use Rattle.kt_sched.specs.Children.{IsEvidence};
-ghost use Rattle.kt_sched.specs.Moments.{IsMoment};
-ghost use Rattle.kt_child.specs.System.Calls.{Call, Chain};
+ghost use Rattle.kt_base.specs.Moments.{IsMoment};
+ghost use Rattle.kt_base.specs.Chains.{Chain};
+ghost use Rattle.kt_child.specs.System.Calls.{Call};
 ghost use Rattle.kt_child.specs.Ending.Ends.{Leaves, Removes, err_of, is_over, out_of};
 
 use crate::ending::gathering::gather;
@@ -53,9 +54,8 @@ pub(crate) fn remove_if<O: Os>(os: &mut O, removed: bool, dir: &Text)
     }
 }
 
-/// Deals with a child that is over: asks for the moment, reads what it left, and removes the directory of a case that
-/// is over.
-pub fn leave<O: Os>(alloc: Global, os: &mut O, case: &Case, outcome: Outcome) -> Ended
+/// Ends a child: asks for the moment, reads what it left, and removes the directory if its case is over.
+pub(crate) fn leave<O: Os>(alloc: Global, os: &mut O, case: &Case, outcome: Outcome) -> Ended
     ensures left { (calls : List Call) × Chain O.leads os.old calls os.new
         × Leaves case.now calls outcome result }
     ensures moment { IsMoment result.moment }

@@ -1,7 +1,8 @@
 ghost use Rattle.std.specs.Prelude.{ℕ, List};
 ghost use Rattle.kt_claim.specs.ClaimReading.{HasRead};
 ghost use Rattle.kt_claim.specs.StreamReading.{HasStream};
-ghost use Rattle.kt_child.specs.System.Calls.{Call, Chain};
+ghost use Rattle.kt_base.specs.Chains.{Chain};
+ghost use Rattle.kt_child.specs.System.Calls.{Call};
 ghost use Rattle.kt_child.specs.Ending.Parts.{Bytes};
 ghost use Rattle.kt_child.specs.Ending.Gathering.{Gathers, IsClaim, IsTap, ReadsClaim, ReadsTap};
 ghost use Rattle.kt_sched.specs.Children.{IsEvidence};
@@ -35,7 +36,7 @@ fn claim_read(reader: ClaimReader) -> Claim
     }
 }
 
-/// Reads a result file, and tells what it claims.
+/// Reads a result file, and returns its claim.
 fn read_claim<O: Os>(alloc: Global, os: &mut O, path: &Text) -> Claim
     ensures { (calls : List Call) × Chain O.leads os.old calls os.new
         × ReadsClaim path.now calls result }
@@ -58,7 +59,7 @@ fn tap_read(reader: TapReader) -> Tap
     }
 }
 
-/// Reads an output as a TAP stream, and tells what it says.
+/// Reads an output as a TAP stream, and returns what it says.
 fn read_tap<O: Os>(alloc: Global, os: &mut O, path: &Text) -> Tap
     ensures { (calls : List Call) × Chain O.leads os.old calls os.new
         × ReadsTap path.now calls result }
@@ -86,7 +87,7 @@ fn gather_of_body<O: Os>(alloc: Global, os: &mut O, interface: Interface, paths:
 }
 
 /// Reads the evidence that a child left.
-pub fn gather<O: Os>(
+pub(crate) fn gather<O: Os>(
     alloc: Global,
     os: &mut O,
     interface: Interface,

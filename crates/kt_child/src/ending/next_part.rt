@@ -1,11 +1,11 @@
 /// What follows a part of a file.
 #[derive(Clone, Copy, Debug, PartialEq, Eq)]
-pub enum NextPart {
+pub(crate) enum NextPart {
     /// Another part.
     More,
     /// Nothing: the file was read whole.
     All,
-    /// Nothing: there is no file.
+    /// Nothing: the file is missing.
     Absent,
     /// Nothing: the read failed.
     Failed,

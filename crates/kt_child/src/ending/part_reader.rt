@@ -2,9 +2,9 @@ use kt_base::NoMemory;
 use kt_claim::{ClaimReader, TapReader};
 
 /// What takes the bytes of a file part by part.
-pub trait PartReader {
+pub(crate) trait PartReader {
     ghost use Rattle.std.specs.Prelude.{ℕ, List, OnOk};
-    ghost use Rattle.kt_child.specs.Ending.Parts.{Takes};
+    ghost use Rattle.kt_child.specs.Inner.Parts.{Takes};
 
     /// Whether these bytes, and no others, were taken.
     ghost has_taken: { Self → List ℕ → Type 0 };

@@ -1,9 +1,11 @@
 ghost use Rattle.std.specs.Prelude.{◌≡◌, ℕ, ◌+◌, ◌<◌, List, [], Result, length, Ok, OnOk, OnErr};
 ghost use Rattle.kt_child.specs.declared.system.file_read.FileRead.{FileRead};
 ghost use Rattle.kt_child.specs.declared.system.os_fault.OsFault.{OsFault};
-ghost use Rattle.kt_child.specs.System.Calls.{Call, Chain};
+ghost use Rattle.kt_base.specs.Chains.{Chain};
+ghost use Rattle.kt_child.specs.System.Calls.{Call};
 ghost use Rattle.kt_child.specs.Ending.Reads.{bytes_of};
-ghost use Rattle.kt_child.specs.Ending.Parts.{IsNext, Reads, Takes, Tells, Whole, next_of, next_part};
+ghost use Rattle.kt_child.specs.Inner.Parts.{Takes, Tells};
+ghost use Rattle.kt_child.specs.Ending.Parts.{IsNext, Reads, Whole, next_of, next_part};
 
 use crate::ending::next_part::NextPart;
 use crate::ending::part_reader::PartReader;
@@ -33,7 +35,7 @@ fn count_part(got: &mut u64, bytes: &Bytes, follows: bool, limit: u64) -> NextPa
     NextPart::More
 }
 
-/// Hands bytes to the reader. Where there are none it is left as it is, which takes no memory.
+/// Passes bytes to the reader. No bytes leave it as it is, and take no memory.
 fn hand<R: PartReader>(reader: &mut R, bytes: &Bytes) -> Result<(), NoMemory>
     ensures ok { OnOk result (Takes R.has_taken reader.old reader.new bytes.now) }
     ensures err { OnErr result (0 < length bytes.now) }
@@ -45,7 +47,7 @@ fn hand<R: PartReader>(reader: &mut R, bytes: &Bytes) -> Result<(), NoMemory>
     Ok(())
 }
 
-/// Hands the bytes of a part to the reader.
+/// Passes the bytes of a part to the reader.
 fn take_part<R: PartReader>(
     reader: &mut R,
     got: &mut u64,

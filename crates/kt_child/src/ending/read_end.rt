@@ -1,6 +1,6 @@
 /// How the reading of a file in parts ended.
 #[derive(Clone, Copy, Debug, PartialEq, Eq)]
-pub enum ReadEnd {
+pub(crate) enum ReadEnd {
     /// There is no such file.
     Missing,
     /// A read failed, or a part could not be kept.

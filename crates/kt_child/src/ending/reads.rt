@@ -17,7 +17,7 @@ const KEPT: u64 = 1_048_576;
 const LIST_LIMIT: u64 = 1_048_576;
 
 /// What is kept of an output: its first 1,048,576 bytes, none where they can't be read.
-pub fn read_kept<O: Os>(alloc: Global, os: &mut O, path: &Text) -> Bytes
+pub(crate) fn read_kept<O: Os>(alloc: Global, os: &mut O, path: &Text) -> Bytes
     ensures asked { (answer : Result FileRead OsFault) × O.leads os.old (ReadFile path.now 1048576 answer) os.new
         × (result ≡ bytes_of answer) }
     ensures within { length result ≤ 1048576 }
@@ -29,7 +29,7 @@ pub fn read_kept<O: Os>(alloc: Global, os: &mut O, path: &Text) -> Bytes
 }
 
 /// The list that a program wrote to its output.
-pub fn read_list<O: Os>(os: &mut O, path: &Text) -> ListBytes
+pub(crate) fn read_list<O: Os>(os: &mut O, path: &Text) -> ListBytes
     ensures asked { (answer : Result FileRead OsFault) × O.leads os.old (ReadFile path.now 1048576 answer) os.new
         × (result ≡ list_of answer) }
     ensures within { IsListWithin result }

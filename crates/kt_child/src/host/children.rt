@@ -1,38 +1,23 @@
 ghost use Rattle.std.specs.Prelude.{◌≡◌, ◌<◌, length, filter, None, Some, IsSome, IfSome, OnSome, IfNone, IfOk, OnOk};
-ghost use Rattle.kt_sched.specs.Children.{same_role};
 ghost use Rattle.kt_child.specs.Polling.Lives.{same_child};
-ghost use Rattle.kt_child.specs.Host.HostStands.{AllProceed, AllStay, IsPlaceOf, OthersStay, Proceeds, is_other, stand_in, stand_of};
+ghost use Rattle.kt_child.specs.Inner.HostStands.{IsPlaceOf, is_other};
+ghost use Rattle.kt_child.specs.Host.HostStands.{AllProceed, AllStay, OthersStay, Proceeds, stand_in, stand_of};
 
 use crate::host::command::Asked;
 use crate::host::host_child::HostChild;
 use crate::host::pauses::{PAUSE, slice_after};
 use crate::system::child::Child;
 use crate::system::os_fault::OsFault;
-use kt_base::{NoMemory, Role};
+use kt_base::NoMemory;
 use kt_removal::{Removals, rest};
 use std::fs::File;
 use std::process::{ExitStatus, OpenProcess, Processes};
 use std::rt::{Clock, Files};
 
-fn same_role(a: Role, b: Role) -> bool
-    ensures { result ≡ same_role a b }
-{
-    match a {
-        Role::Body => match b {
-            Role::Body => true,
-            Role::Cleanup => false,
-        },
-        Role::Cleanup => match b {
-            Role::Body => false,
-            Role::Cleanup => true,
-        },
-    }
-}
-
 fn same_name(a: Child, b: Child) -> bool
     ensures { result ≡ same_child a b }
 {
-    a.attempt == b.attempt && same_role(a.role, b.role)
+    a == b
 }
 
 /// The place of the first child with this name.
@@ -58,7 +43,7 @@ pub(crate) fn forget<P: OpenProcess + Drop>(children: &mut Vec<HostChild<P>>, ch
     children.retain(|held| !same_name(held.child, child));
 }
 
-/// Takes a child out.
+/// Removes a child, and returns it.
 pub(crate) fn take_out<P: OpenProcess + Drop>(
     children: &mut Vec<HostChild<P>>,
     child: Child,
@@ -69,17 +54,13 @@ pub(crate) fn take_out<P: OpenProcess + Drop>(
     ensures forgotten { stand_in children.new.items child ≡ None }
     ensures others { OthersStay child (stand_in children.old.items) (stand_in children.new.items) }
 {
-    match place_of(children, child) {
-        Some(place) => {
-            let held = children.remove(place);
-            forget(children, child);
-            Some(held)
-        }
-        None => None,
-    }
+    let place = place_of(children, child)?;
+    let held = children.remove(place);
+    forget(children, child);
+    Some(held)
 }
 
-/// The place of a child of which only the file of its errors is still to come.
+/// The place of the child whose file for errors isn't open yet.
 fn place_for_errors<P: OpenProcess + Drop>(children: &[HostChild<P>], child: Child) -> Option<usize>
     ensures within { IfSome result (λ place. place < length children.now) }
     ensures first { IfSome result (λ place. IsPlaceOf child children.now place) }
@@ -93,7 +74,7 @@ fn place_for_errors<P: OpenProcess + Drop>(children: &[HostChild<P>], child: Chi
     }
 }
 
-/// Keeps the first file of a new child, in the place of any that has its name.
+/// Keeps a file as the output of a new child. Any other child of its name is forgotten.
 fn renew<P: OpenProcess + Drop>(
     children: &mut Vec<HostChild<P>>,
     child: Child,
@@ -110,7 +91,7 @@ fn renew<P: OpenProcess + Drop>(
     }
 }
 
-/// Keeps the file of an output: that of the errors where the other is there, else the first of a new child.
+/// Keeps an opened file: as the errors of the child whose output is open, else as the output of a new child.
 pub(crate) fn keep_output<P: OpenProcess + Drop>(
     children: &mut Vec<HostChild<P>>,
     child: Child,
@@ -130,7 +111,7 @@ pub(crate) fn keep_output<P: OpenProcess + Drop>(
     }
 }
 
-/// Starts a child for which its files were opened.
+/// Starts a child whose files are open.
 pub(crate) fn launch<P: OpenProcess + Drop, R: Processes<Started = P> + Clock + AllocGlobal>(
     children: &mut Vec<HostChild<P>>,
     child: Child,

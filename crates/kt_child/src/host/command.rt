@@ -1,7 +1,7 @@
 ghost use Rattle.std.specs.Prelude.{◌≡◌, ◌++◌, ℕ, List, Some, None, map, false, IfOk, OnOk, if◌then◌else◌};
 ghost use Rattle.std.specs.Process.{SameDir, SameEnv, SameOtherVars, SameProgramAndArgs, clears_env, command_args, command_program, command_var};
 ghost use Rattle.kt_base.specs.Utf8.{utf8};
-ghost use Rattle.kt_child.specs.Host.HostCommands.{IsCommandOf, after_removed, after_set};
+ghost use Rattle.kt_child.specs.Inner.HostCommands.{IsCommandOf, after_removed, after_set};
 
 use crate::host::faults::or_fault;
 use crate::system::env::EnvPlan;
@@ -12,7 +12,7 @@ use std::fs::File;
 use std::process::{Command, Processes, Stdio};
 use std::{io, process};
 
-/// What a program is started with: its path, the words after it, its environment and its directory.
+/// What a program is started with: its path, its arguments, its environment and its directory.
 #[derive(Clone, Copy)]
 pub(crate) struct Asked<'a> {
     pub program: &'a Text,
@@ -77,7 +77,7 @@ fn set_variable(command: &mut Command, variable: &Variable) -> Result<(), NoMemo
     Ok(())
 }
 
-/// Sets variables, of which the last one of a name counts.
+/// Sets variables; the last of a name counts.
 fn set_variables(command: &mut Command, set: &Variables) -> Result<(), NoMemory>
     ensures variables { OnOk result ((name : List ℕ)
         → command_var command.new name ≡ after_set set.now name (command_var command.old name)) }
@@ -91,7 +91,7 @@ fn set_variables(command: &mut Command, set: &Variables) -> Result<(), NoMemory>
     Ok(())
 }
 
-/// The command that starts a program so.
+/// The command that starts a program.
 fn command_of(alloc: Global, asked: Asked<'_>) -> Result<Command, NoMemory>
     ensures { IfOk result (λ command. IsCommandOf asked.entry.program.now asked.entry.words.now
         asked.entry.env.now asked.entry.dir.now command) }
@@ -104,7 +104,7 @@ fn command_of(alloc: Global, asked: Asked<'_>) -> Result<Command, NoMemory>
     Ok(command)
 }
 
-/// Spawns a command, of which only the streams were said since it was made: all else is what was asked for.
+/// Spawns a command on which only the streams were set since it was made: all else is as asked.
 fn spawn_as<R: Processes>(
     rt: &R,
     _asked: Asked<'_>,

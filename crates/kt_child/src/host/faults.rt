@@ -1,12 +1,12 @@
 ghost use Rattle.std.specs.Prelude.{◌≡◌, Ok, IsErr, MatchResult};
 ghost use Rattle.std.specs.IoError.{error_kind};
-ghost use Rattle.kt_child.specs.Host.HostAnswers.{IsFaultOf};
+ghost use Rattle.kt_child.specs.Inner.HostAnswers.{IsFaultOf};
 
 use crate::system::os_fault::OsFault;
 use kt_base::NoMemory;
 use std::io;
 
-/// What is told of an error of the library: whether memory was refused.
+/// The fault for an error of the library: whether memory was refused.
 pub(crate) fn fault_of(error: &io::Error) -> OsFault
     ensures { IsFaultOf (error_kind error.now) result }
 {
@@ -16,7 +16,7 @@ pub(crate) fn fault_of(error: &io::Error) -> OsFault
     }
 }
 
-/// An answer of the library.
+/// A result of the library, with that fault.
 pub(crate) fn or_fault<T: Drop>(answer: io::Result<T>) -> Result<T, OsFault>
     ensures { MatchResult result (λ value. answer ≡ Ok value) (λ _. IsErr answer) }
 {

@@ -9,13 +9,13 @@ use std::rt::Clock;
 use std::time::Duration;
 use std::{process, thread};
 
-/// How many slices of a millisecond a poll sleeps at the most: after so many the time of one more answer has come.
+/// The most slices of a millisecond that a poll sleeps: after this many, one more answer is due.
 const SLICES: u32 = 20;
 
-/// The limit of a child that was killed, in seconds: as long as 500 answers take.
+/// The limit of a child that was killed, in seconds: the time of 500 answers.
 const KILLED_LIMIT: u64 = 5;
 
-/// A child of the host, from the first file that is opened for it until its end is told.
+/// A child of the host, from the opening of its first file until its end is reported.
 #[derive(Drop)]
 pub(crate) struct HostChild<P: OpenProcess> {
     pub(crate) child: Child,
@@ -51,7 +51,7 @@ impl<P: OpenProcess + Drop> HostChild<P> {
         }
     }
 
-    /// Whether the file of its errors is still to come.
+    /// Whether the file for its errors isn't open yet.
     pub(crate) fn wants_errors(&self) -> bool
         ensures { IsTrue result ↔ (IsSome self.now.out × IsNone self.now.err
             × (stand_of self.now ≡ None)) }
@@ -86,7 +86,7 @@ impl<P: OpenProcess + Drop> HostChild<P> {
         Ok(())
     }
 
-    /// How it ended, if it has. An end that was seen is told again.
+    /// How it ended, if it has. An end that was seen is reported again.
     fn status(&mut self) -> Result<Option<ExitStatus>, OsFault>
         ensures proceeds { Proceeds (stand_of self.old) (stand_of self.new) }
         ensures told { IfOk result (λ status. stand_of self.new ≡ Some status) }
@@ -98,7 +98,7 @@ impl<P: OpenProcess + Drop> HostChild<P> {
         }
     }
 
-    /// Sleeps while the answer that it still runs would come too early.
+    /// Sleeps while the answer `running` would come too early.
     fn keep_pace<C: Clock>(&mut self, clock: &C) -> Result<(), OsFault>
         ensures proceeds { Proceeds (stand_of self.old) (stand_of self.new) }
         ensures kept { self.new ≡ record self.old { process = self.new.process } }
@@ -115,7 +115,7 @@ impl<P: OpenProcess + Drop> HostChild<P> {
         Ok(())
     }
 
-    /// How it ended, if it has, once the answer that it runs is due. That answer is counted.
+    /// How it ended, if it has, once the answer `running` is due. That answer is counted.
     pub(crate) fn poll<C: Clock>(&mut self, clock: &C) -> Result<Option<ExitStatus>, OsFault>
         ensures name { self.new.child ≡ self.old.child }
         ensures proceeds { Proceeds (stand_of self.old) (stand_of self.new) }

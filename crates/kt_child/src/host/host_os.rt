@@ -26,31 +26,31 @@ use std::time::SystemTime;
 /// The system itself: the processes, files and clocks of the standard library.
 ///
 /// It keeps the real time of its children. A pause sleeps in slices, the first of 50 microseconds and each a quarter longer.
-/// It is over when a child has ended, at the latest after 10 milliseconds; where nothing has ended for a while it sleeps in
-/// one piece. A poll whose answer `running` would come too early sleeps a little first. The first directory that is made is
-/// the root of all others. A removal that takes long goes on in pauses and at later removals.
+/// It ends when a child has ended, after 10 milliseconds at the latest; if no child has ended for a while, it sleeps in one
+/// piece. A poll whose answer `running` would come too early sleeps a little first. The first directory that is made is the
+/// root of all others. A removal that takes long goes on in pauses and at later removals.
 #[derive(Drop)]
 pub struct HostOs<R: Processes> {
     rt: R,
     /// The removals below the root directory, once it is made.
     removals: Option<Removals>,
-    /// The limit that was said last, in seconds: that of the child which is started next.
+    /// The limit in seconds that was set last, which is that of the next child.
     limit: u64,
     children: Vec<HostChild<R::Started>>,
-    /// The child whose end was told last, so that this end can be said to be its own.
+    /// The child whose end was reported last, which a clause names.
     last: Option<HostChild<R::Started>>,
     /// The pauses since a child was last seen to end.
     quiet: u32,
 }
 
-/// Whether a wait status tells of a core dump.
+/// Whether a wait status reports a core dump.
 fn has_core(status: ExitStatus) -> bool
     ensures { result ≡ (status_bits status / 128 % 2 == 1) }
 {
     status.into_raw().cast_unsigned() / 128 % 2 == 1
 }
 
-/// How a child ended. A status that tells neither an exit nor a signal is a fault.
+/// How a child ended. A status that is neither an exit nor a signal is a fault.
 fn polled(status: ExitStatus) -> Result<Polled, OsFault>
     ensures { IsPolledOf (status_bits status) result }
 {
@@ -87,8 +87,8 @@ impl<R: Processes + AllocGlobal + Drop> HostOs<R> {
 }
 
 impl<R: Processes + Files<File = File> + Clock + AllocGlobal + Clone + Drop> Os for HostOs<R> {
-    // What the system does with its files, its processes and its clock is not said: how the children stand that are
-    // kept here is, and that what is told of them and of a file is what the library answered.
+    // Nothing is promised about files, processes and the clock. What is promised: the state of the children kept here,
+    // and that the answers about them and about a file are those of the library.
     ghost use Rattle.kt_child.specs.Host.HostStands.{IsLastEnd, stand_in};
     ghost use Rattle.kt_child.specs.Host.HostAnswers.{HostLeads};
 
@@ -151,10 +151,9 @@ impl<R: Processes + Files<File = File> + Clock + AllocGlobal + Clone + Drop> Os 
     }
 
     fn poll(&mut self, child: Child) -> Result<Polled, OsFault> {
-        match children::poll(&mut self.children, child, &self.rt) {
-            Err(fault) => Err(fault),
-            Ok(None) => Ok(Polled::Running),
-            Ok(Some(status)) => {
+        match children::poll(&mut self.children, child, &self.rt)? {
+            None => Ok(Polled::Running),
+            Some(status) => {
                 self.last = children::take_out(&mut self.children, child);
                 self.quiet = 0;
                 polled(status)

@@ -12,10 +12,10 @@ use std::os::unix::fs::{DirBuilderExt, OpenOptionsExt, PermissionsExt};
 use std::rt::Files;
 use std::{fs, io};
 
-/// The rights to a directory of the driver, which are its owner's alone (this profile).
+/// The permissions of a directory of the driver, for its owner alone (this profile).
 const DIRECTORY_MODE: u32 = 0o700;
 
-/// The rights to the file of an output (this profile).
+/// The permissions of the file of an output (this profile).
 const OUTPUT_MODE: u32 = 0o600;
 
 /// Makes a directory for its owner alone, whatever the umask is.
@@ -46,7 +46,7 @@ pub(crate) fn create_root<R: Files + AllocGlobal>(rt: &R, path: &Text) -> Result
     Ok(Removals::new(root, place))
 }
 
-/// Whether a path lies in a directory, and not behind a link in the place of one.
+/// Whether the parent of a path is a directory, and not a link to one.
 fn lies_in_directory<R: Files>(rt: &R, path: &str) -> io::Result<bool> {
     match path.rsplit_once('/') {
         Some((parent, _)) => Ok(fs::symlink_metadata(rt, parent)?.is_dir()),
@@ -54,8 +54,8 @@ fn lies_in_directory<R: Files>(rt: &R, path: &str) -> io::Result<bool> {
     }
 }
 
-/// Makes a new file for its owner alone. Where anything is there already, or where its directory was exchanged for a link,
-/// it is a fault, so that nothing is written through a link that a test has planted.
+/// Makes a new file for its owner alone. If the path exists, or its directory was replaced by a link, that is a fault, so
+/// that nothing is written through a link that a test has planted.
 pub(crate) fn create_output<R: Files>(rt: &R, path: &str) -> io::Result<R::File> {
     if !lies_in_directory(rt, path)? {
         return Err(io::Error::from(ErrorKind::InvalidInput));

@@ -1,7 +1,7 @@
 ghost use Rattle.std.specs.Prelude.{◌≡◌, ◌↔◌, ◌+◌, ◌-◌, ◌/◌, ◌^◌, min, None, IsSomeAnd, IsTrue};
 ghost use Rattle.std.specs.Time.{instant_nanos};
 ghost use Rattle.std.specs.declared.time.Instant.{Instant as Moment};
-ghost use Rattle.kt_child.specs.Host.Paces.{IsEarly};
+ghost use Rattle.kt_child.specs.Inner.Paces.{IsEarly};
 
 use std::rt::Clock;
 use std::time::Instant;
@@ -9,10 +9,10 @@ use std::time::Instant;
 /// The milliseconds for each answer of the second half, which is spread over the limit.
 const PERIOD: u128 = 20;
 
-/// The real time of a child, and how often it was told to be running.
+/// The real time of a child, and how often it was reported as running.
 #[derive(Clone, Copy)]
 pub(crate) struct Pace {
-    /// Where the clock failed nothing is known, and no answer is early.
+    /// None if the clock failed: then no answer is early.
     started: Option<Instant>,
     /// In seconds; 100 answers stand for each.
     limit: u64,

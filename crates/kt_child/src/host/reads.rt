@@ -1,7 +1,9 @@
 ghost use Rattle.std.specs.Prelude.{◌≡◌, ◌≢◌, ◌+◌, ◌≤◌, ◌<◌, length, take, drop, Some, MatchResult, IfOk, OnOk, IfSome, IsSomeAnd};
 ghost use Rattle.std.specs.IoError.{error_kind};
-ghost use Rattle.kt_child.specs.Host.HostAnswers.{IsFront, IsHostRead, IsOpened, IsUnopened};
-ghost use Rattle.kt_child.specs.Host.HostFiles.{IsAt, TakesAtMost, TakesPiece};
+ghost use Rattle.kt_child.specs.Inner.HostAnswers.{IsUnopened};
+ghost use Rattle.kt_child.specs.Host.HostAnswers.{IsFront, IsHostRead, IsOpened};
+ghost use Rattle.kt_child.specs.Inner.HostFiles.{IsAt, TakesPiece};
+ghost use Rattle.kt_child.specs.Host.HostFiles.{TakesAtMost};
 
 use crate::host::faults::or_fault;
 use crate::system::file_read::FileRead;
@@ -17,8 +19,7 @@ use std::{fs, io};
 /// The size of the pieces in which a file is read, in bytes.
 const PIECE: usize = 8_192;
 
-/// Appends what one read gives, as far as there is room, and answers how many bytes it gave: none at
-/// the end. An interrupted read is a fault too.
+/// Appends what one read gives, and returns the number of its bytes: 0 at the end. An interrupted read is a fault, too.
 fn read_piece<F: Read>(file: &mut F, room: &mut [u8], bytes: &mut Bytes) -> Result<usize, ReadFault>
     requires { 0 < length room.old }
     ensures taken { IfOk result (λ count. TakesPiece (F.remaining file.old) (F.remaining file.new)
@@ -35,8 +36,7 @@ fn read_piece<F: Read>(file: &mut F, room: &mut [u8], bytes: &mut Bytes) -> Resu
     }
 }
 
-/// Reads to the end of a file, to the limit, or to the first fault. An interrupted read is a fault
-/// too.
+/// Reads to the end of a file, to the limit, or to the first fault. An interrupted read is a fault, too.
 pub fn read_start<F: Read>(alloc: Global, file: &mut F, limit: usize) -> Result<Bytes, ReadFault>
     ensures few { IfOk result (λ bytes. length bytes ≤ limit) }
     // Of a file whose bytes are known, the front is read, and the rest is left.
@@ -51,10 +51,7 @@ pub fn read_start<F: Read>(alloc: Global, file: &mut F, limit: usize) -> Result<
     let mut buffer = [0u8; PIECE];
     while bytes.len() < limit {
         let want = PIECE.min(limit - bytes.len());
-        let count = match read_piece(file, &mut buffer[..want], &mut bytes) {
-            Ok(count) => count,
-            Err(fault) => return Err(fault),
-        };
+        let count = read_piece(file, &mut buffer[..want], &mut bytes)?;
         if count == 0 {
             return Ok(bytes);
         }
@@ -62,8 +59,7 @@ pub fn read_start<F: Read>(alloc: Global, file: &mut F, limit: usize) -> Result<
     Ok(bytes)
 }
 
-/// Reads to the end, to the first fault, or one byte past the limit. An interrupted read is a fault
-/// too.
+/// Reads to the end, to the first fault, or one byte past the limit. An interrupted read is a fault, too.
 pub fn read_front<F: Read>(alloc: Global, file: &mut F, limit: u64) -> Result<FileRead, OsFault>
     ensures within { IsHostRead limit result }
     ensures opened { IsOpened result }
@@ -82,7 +78,7 @@ pub fn read_front<F: Read>(alloc: Global, file: &mut F, limit: u64) -> Result<Fi
     Ok(FileRead::Part(bytes, count > 0))
 }
 
-/// Opens a regular file. Anything else that is there, a link too, is a fault: to open a pipe could take for ever.
+/// Opens a regular file. Anything else, such as a link, is a fault: opening a pipe could block for ever.
 fn open_regular<R: Files>(rt: &R, path: &str) -> io::Result<R::File> {
     if !fs::symlink_metadata(rt, path)?.is_file() {
         return Err(io::Error::from(ErrorKind::InvalidInput));
@@ -90,7 +86,7 @@ fn open_regular<R: Files>(rt: &R, path: &str) -> io::Result<R::File> {
     File::open(rt, path)
 }
 
-/// What a file answers that can't be opened.
+/// The result for a file that can't be opened.
 fn unopened(error: &io::Error) -> Result<FileRead, OsFault>
     ensures { IsUnopened (error_kind error.now) result }
 {

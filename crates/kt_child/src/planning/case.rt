@@ -1,10 +1,9 @@
 use crate::planning::paths::Paths;
 use kt_base::{Interface, Role};
 
-/// What is kept of a case while a child of it runs, or while its cleanup is owed. The paths are those of its body's
-/// start.
+/// What is kept of a case while a child of it runs, or while its cleanup is owed; the paths are its body's.
 #[derive(Debug, Drop)]
-pub struct Case {
+pub(crate) struct Case {
     /// The place in the plan, counted from 0.
     pub position: u32,
     /// The number of its body's start.

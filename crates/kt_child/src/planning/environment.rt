@@ -47,7 +47,7 @@ fn for_test(alloc: Global, variable: &Variable) -> Result<Variable, NoMemory>
     Ok(Variable { name, value })
 }
 
-/// Appends each variable of the suite so.
+/// Appends each variable of the suite in that form.
 fn push_test_variables(
     alloc: Global,
     set: &mut Variables,
@@ -73,7 +73,7 @@ fn common(alloc: Global, work: &Text) -> Result<Variables, NoMemory>
     Ok(set)
 }
 
-/// Appends the variables that a child of an interface gets beside those.
+/// Appends the variables that a child of an interface gets in addition.
 fn push_own(
     alloc: Global,
     set: &mut Variables,

@@ -4,7 +4,7 @@ use kt_base::{Items, Text};
 
 /// All that a child is started with.
 #[derive(Debug, Drop)]
-pub struct Spawning {
+pub(crate) struct Spawning {
     pub child: Child,
     /// How long it may run, in seconds.
     pub limit: u64,

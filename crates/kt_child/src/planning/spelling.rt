@@ -4,7 +4,7 @@ ghost use Rattle.std.specs.Str.{chars};
 use kt_base::{Items, NoMemory, Text};
 use std::alloc::Global;
 
-/// A text with another behind it.
+/// Two texts, joined.
 pub(crate) fn joined(alloc: Global, first: &str, second: &Text) -> Result<Text, NoMemory>
     ensures { IfOk result (λ text. text ≡ chars first.now ++ second.now) }
 {

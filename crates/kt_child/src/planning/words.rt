@@ -81,7 +81,7 @@ fn cleanup_words(
     Ok(words)
 }
 
-/// The words that a program is started with, behind its path: those of atf-test-program(1) for an ATF program, none
+/// The arguments of a program, after its path: those of atf-test-program(1) for an ATF program, none
 /// for others. `source` is the absolute directory of the program.
 pub fn argv_plan(
     alloc: Global,

@@ -2,8 +2,10 @@ ghost use Rattle.std.specs.Prelude.{◌≡◌, ℕ, ◌+◌, ◌*◌, ◌<◌, �
 ghost use Rattle.kt_child.specs.declared.system.os_fault.OsFault.{OsFault};
 ghost use Rattle.kt_child.specs.declared.system.polled.Polled.{Polled};
 ghost use Rattle.kt_child.specs.declared.system.polled.Polled.TheVariants.{Running};
-ghost use Rattle.kt_child.specs.System.Calls.{Chain, Kill};
-ghost use Rattle.kt_child.specs.Polling.Polls.{IsWatched, asked_by_poll, is_due, turn_of, watch_after};
+ghost use Rattle.kt_base.specs.Chains.{Chain};
+ghost use Rattle.kt_child.specs.System.Calls.{Kill};
+ghost use Rattle.kt_child.specs.Inner.Polls.{IsWatched};
+ghost use Rattle.kt_child.specs.Polling.Polls.{asked_by_poll, is_due, turn_of, watch_after};
 
 use crate::polling::turn::Turn;
 use crate::polling::watch::Watch;
@@ -30,7 +32,7 @@ fn ended(watch: &Watch, outcome: Outcome) -> Turn
 }
 
 /// Polls a child once, whose limit is given in seconds, and kills it where the poll failed or its limit is used up.
-pub fn poll_once<O: Os>(os: &mut O, child: Child, limit: u64, watch: &mut Watch) -> Turn
+pub(crate) fn poll_once<O: Os>(os: &mut O, child: Child, limit: u64, watch: &mut Watch) -> Turn
     requires in_range { limit ≤ 1000000 }
     requires watched { IsWatched limit watch.old }
     ensures asked { (answer : Result Polled OsFault) × (done : Bool)

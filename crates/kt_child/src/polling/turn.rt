@@ -2,7 +2,7 @@ use kt_base::Outcome;
 
 /// What a poll makes of a child.
 #[derive(Clone, Copy, Debug, PartialEq, Eq)]
-pub enum Turn {
+pub(crate) enum Turn {
     /// It is not over.
     More,
     Ended(Outcome),

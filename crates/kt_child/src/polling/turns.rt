@@ -1,6 +1,8 @@
 ghost use Rattle.std.specs.Prelude.{◌≡◌, ◌<◌, List, All, IfSome, length, None};
-ghost use Rattle.kt_child.specs.System.Calls.{Call, Chain};
-ghost use Rattle.kt_child.specs.Polling.Turns.{IsOn, PolledAll, PolledUntil, WaitedOn, advanced_below};
+ghost use Rattle.kt_base.specs.Chains.{Chain};
+ghost use Rattle.kt_child.specs.System.Calls.{Call};
+ghost use Rattle.kt_child.specs.Inner.Turns.{IsOn};
+ghost use Rattle.kt_child.specs.Polling.Turns.{PolledAll, PolledUntil, WaitedOn, advanced_below};
 
 use crate::polling::over::Over;
 use crate::polling::polls::poll_once;
@@ -32,8 +34,8 @@ pub(crate) fn turn<O: Os>(os: &mut O, children: &mut [Watched]) -> Option<Over>
     None
 }
 
-/// Polls turn by turn, with a pause after each in which no child is over, up to the first child that is over.
-pub fn wait<O: Os>(os: &mut O, children: &mut [Watched]) -> Over
+/// Polls turn by turn until a child is over. A pause follows each turn in which none is.
+pub(crate) fn wait<O: Os>(os: &mut O, children: &mut [Watched]) -> Over
     requires some { 0 < length children.old }
     requires on { All IsOn children.old }
     ensures waited { (calls : List Call) × Chain O.leads os.old calls os.new

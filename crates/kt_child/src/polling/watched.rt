@@ -3,7 +3,7 @@ use crate::system::child::Child;
 
 /// A running child: its limit in seconds, and what is kept of its answers.
 #[derive(Clone, Copy, Debug, PartialEq, Eq)]
-pub struct Watched {
+pub(crate) struct Watched {
     pub child: Child,
     pub limit: u64,
     pub watch: Watch,

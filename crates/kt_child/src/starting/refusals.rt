@@ -4,7 +4,7 @@ ghost use Rattle.kt_child.specs.Starting.Starts.{cause_of};
 use crate::system::os_fault::OsFault;
 use kt_base::{NoMemory, Refused};
 
-/// The cause of a start for which memory ran out. Nothing else answers that cause.
+/// The cause of a start for which memory ran out. Nothing else returns that cause.
 pub(crate) fn memory_refusal(_refusal: NoMemory) -> Refused
     ensures { result ≡ Refused.Memory }
 {

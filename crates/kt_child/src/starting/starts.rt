@@ -1,12 +1,11 @@
-ghost use Rattle.std.specs.Prelude.{◌≡◌, ◌≤◌, ◌∷◌, [], ℕ, List, Result, Ok, IfOk};
-ghost use Rattle.kt_child.specs.declared.system.os_fault.OsFault.{OsFault};
-ghost use Rattle.kt_child.specs.System.Calls.{Call, Chain, Now};
-ghost use Rattle.kt_child.specs.System.Moments.{moment_of};
+ghost use Rattle.std.specs.Prelude.{◌≡◌, ◌≤◌, ◌∷◌, [], List, IfOk};
+ghost use Rattle.kt_base.specs.Chains.{Chain};
+ghost use Rattle.kt_child.specs.System.Calls.{Call};
 ghost use Rattle.kt_child.specs.Starting.Starts.{SetUp, SetUpIn, SetUpNew, Started, Tried, child_asks, furnish_asks, spawn_ask, spawned};
 
 use crate::ending::ends::remove_if;
 use crate::planning::spawning::Spawning;
-use crate::polling::watch::fresh_watch;
+use crate::polling::watch::Watch;
 use crate::polling::watched::Watched;
 use crate::starting::refusals::cause_of;
 use crate::system::moments::moment;
@@ -17,10 +16,15 @@ use kt_base::{LATEST_MOMENT, Refused, Role};
 pub(crate) fn spawned(plan: &Spawning) -> Watched
     ensures { result ≡ spawned plan.now }
 {
+    let watch = Watch {
+        before: 0,
+        killed: false,
+        after: 0,
+    };
     Watched {
         child: plan.child,
         limit: plan.limit,
-        watch: fresh_watch(),
+        watch,
     }
 }
 
@@ -54,7 +58,7 @@ fn open_and_spawn<O: Os>(os: &mut O, plan: &Spawning) -> Result<(), Refused>
     spawn(os, plan)
 }
 
-/// Makes the work directory, and then as above.
+/// Makes the work directory, then opens the outputs and spawns the child.
 fn furnish<O: Os>(os: &mut O, plan: &Spawning) -> Result<(), Refused>
     ensures { (calls : List Call) × Chain O.leads os.old calls os.new
         × Tried (furnish_asks plan.now) calls result }
@@ -65,7 +69,7 @@ fn furnish<O: Os>(os: &mut O, plan: &Spawning) -> Result<(), Refused>
     open_and_spawn(os, plan)
 }
 
-/// Starts a body or a list in a new directory, which is removed if the start is refused behind it.
+/// Starts a body or a list in a new directory, which is removed if the start is refused after that.
 fn set_up_new<O: Os>(os: &mut O, plan: &Spawning) -> Result<(), Refused>
     ensures { (calls : List Call) × Chain O.leads os.old calls os.new
         × SetUpNew (furnish_asks plan.now) plan.now.dir calls result }
@@ -101,23 +105,12 @@ pub(crate) fn set_up<O: Os>(os: &mut O, plan: &Spawning) -> Result<(), Refused>
     }
 }
 
-/// Asks for the moment of a start that succeeded.
-fn stamp<O: Os>(os: &mut O) -> Result<u64, Refused>
-    ensures asked { (answer : Result ℕ OsFault) × O.leads os.old (Now answer) os.new
-        × (result ≡ Ok (moment_of answer)) }
-    ensures range { IfOk result (λ moment. moment ≤ LATEST_MOMENT) }
-{
-    Ok(moment(os))
-}
-
-/// Starts a child, and answers the moment, in milliseconds since 1970 in UTC.
-pub fn start_child<O: Os>(os: &mut O, plan: &Spawning) -> Result<u64, Refused>
+/// Starts a child, and returns the moment, in milliseconds since 1970 in UTC.
+pub(crate) fn start_child<O: Os>(os: &mut O, plan: &Spawning) -> Result<u64, Refused>
     ensures asked { (calls : List Call) × Chain O.leads os.old calls os.new
         × Started plan.now calls result }
     ensures range { IfOk result (λ moment. moment ≤ LATEST_MOMENT) }
 {
-    match set_up(os, plan) {
-        Ok(()) => stamp(os),
-        Err(cause) => Err(cause),
-    }
+    set_up(os, plan)?;
+    Ok(moment(os))
 }

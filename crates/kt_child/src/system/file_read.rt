@@ -1,9 +1,9 @@
 use kt_base::Bytes;
 
-/// What a read of a file answers.
+/// The result of reading a file.
 #[derive(Debug, Drop)]
 pub enum FileRead {
-    /// There is no such file.
+    /// The file is missing.
     Missing,
     /// The bytes, no more than were asked for, and whether more follow.
     Part(Bytes, bool),

@@ -5,7 +5,7 @@ use crate::system::os_fault::OsFault;
 use crate::system::polled::Polled;
 use kt_base::{Items, Text};
 
-/// The system, as far as children need it. Each call may fail; one relation tells which answer to which question
+/// The system, as far as children need it. Each call may fail; one relation says which answer to which question
 /// leads from which state to which.
 pub trait Os {
     ghost use Rattle.std.specs.Prelude.{◌≡◌, ℕ, is_ok};
@@ -31,7 +31,7 @@ pub trait Os {
     fn open_output(&mut self, child: Child, path: &Text) -> Result<(), OsFault>
         ensures { leads self.old (OpenOutput child path.now result) self.new };
 
-    /// Starts a program with these words behind its path, in this environment and directory, with an empty input.
+    /// Starts a program with these arguments, in this environment and directory, with an empty input.
     /// Its output and its errors go to the two files that were opened for it, in that order.
     fn spawn(
         &mut self,
@@ -48,7 +48,7 @@ pub trait Os {
     fn poll(&mut self, child: Child) -> Result<Polled, OsFault>
         ensures { leads self.old (Poll child result) self.new };
 
-    /// Kills a child, which is still there to be polled.
+    /// Kills a child, which can still be polled.
     fn kill(&mut self, child: Child) -> Result<(), OsFault>
         ensures { leads self.old (Kill child (is_ok result)) self.new };
 

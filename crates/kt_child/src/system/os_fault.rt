@@ -7,7 +7,7 @@ use thiserror::Error;
 /// Why a call to the system failed.
 #[derive(Clone, Copy, Debug, PartialEq, Eq, Error)]
 pub enum OsFault {
-    /// Any other cause. It changes nothing, so it is not told.
+    /// Any other cause. It makes no difference, so it isn't kept.
     #[error("system call failed")]
     Failed,
     /// The call itself was refused memory.

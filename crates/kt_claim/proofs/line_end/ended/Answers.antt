@@ -1,13 +1,13 @@
 use Rattle.std.proofs.Common.{[], ap, sym, ◌∙◌}
-use Rattle.kt_claim.specs.LineStates.{told}
+use Rattle.kt_claim.specs.Inner.LineStates.{facts_with}
 use Rattle.kt_claim.specs.declared.begun.Begun.{Begun}
 use Rattle.kt_claim.proofs.line_end.ended.Goals as goal
 
 pub returns-in-Opened-clause-plain : goal.returns-in-Opened-clause-plain
-returns-in-Opened-clause-plain c = λ plain kept. c.opened.ensures kept ∙ ap (λ (b : Begun). told b kept []) (sym c.in-Opened.is)
+returns-in-Opened-clause-plain c = λ plain kept. c.opened.ensures kept ∙ ap (λ (b : Begun). facts_with b kept []) (sym c.in-Opened.is)
 
 pub returns-in-Digits-clause-plain : goal.returns-in-Digits-clause-plain
-returns-in-Digits-clause-plain c = λ plain kept. c.counted.ensures kept ∙ ap (λ (b : Begun). told b kept []) (sym c.in-Digits.is)
+returns-in-Digits-clause-plain c = λ plain kept. c.counted.ensures kept ∙ ap (λ (b : Begun). facts_with b kept []) (sym c.in-Digits.is)
 
 pub returns-in-Blanks-clause-plain : goal.returns-in-Blanks-clause-plain
-returns-in-Blanks-clause-plain c = λ plain kept. c.planned.ensures kept ∙ ap (λ (b : Begun). told b kept []) (sym c.in-Blanks.is)
+returns-in-Blanks-clause-plain c = λ plain kept. c.planned.ensures kept ∙ ap (λ (b : Begun). facts_with b kept []) (sym c.in-Blanks.is)

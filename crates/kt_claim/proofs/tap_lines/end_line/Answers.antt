@@ -1,6 +1,6 @@
 use Rattle.std.proofs.Common.{List, ℕ, ◌++◌, ◌∷◌, [], false, ap, sym, subst, ◌∙◌}
-use Rattle.kt_claim.specs.LineStates.{facts_of_kind}
-use Rattle.kt_claim.specs.TapReading.{state_of, HasLines}
+use Rattle.kt_claim.specs.Inner.LineStates.{facts_of_kind}
+use Rattle.kt_claim.specs.Inner.TapReading.{state_of, HasLines}
 use Rattle.kt_claim.specs.TapStream.{trimmed}
 use Rattle.kt_claim.specs.declared.begun.Begun.TheVariants.{Nothing}
 use Rattle.kt_claim.proofs.Lines.{line_ends}

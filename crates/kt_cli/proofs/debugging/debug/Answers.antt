@@ -1,6 +1,7 @@
-use Rattle.std.proofs.Common.{rules, ◌≡◌, ◌∷◌, refl}
+use Rattle.std.proofs.Common.{rules, ◌≡◌, ◌∷◌, List, ap, refl, take}
 use Rattle.std.specs.Prelude.{Ok, Err}
 use Rattle.kt_sched.specs.declared.run_fault.RunFault.TheVariants.{NoMemory}
+use Rattle.kt_plan.specs.declared.candidate.Candidate.{Candidate}
 use Rattle.kt_cli.proofs.Saying.{nothing}
 use Rattle.kt_cli.proofs.Testings.{stopped_only, idle_answer, short_only, printed_memory, debug_parts, debug_short, debugged_as}
 use Rattle.kt_cli.proofs.debugging.debug.Goals as goal
@@ -11,7 +12,8 @@ returns-in-Err-clause-told g c =
 
 pub returns-in-Err-prepare-clause-told : goal.returns-in-Err-prepare-clause-told
 returns-in-Err-prepare-clause-told g c =
-    short_only g.W.Tree.asks g.W.World.tells g.W.Launcher.starts g.W.Launcher.waits _ c.args.options.now _ _ _ _ _ _ _ _ refl c.in-Ok.ensures.selects c.in-Err-prepare.ensures.planned (printed_memory _ _ _ _ c.write_memory.ensures c.ended-in-Err-prepare.ensures)
+    let a : c.as_slice-cases.result.now ≡ c.in-Ok.picked.chosen.cases = search rules in
+    short_only g.W.Tree.asks g.W.World.tells g.W.Launcher.starts g.W.Launcher.waits _ c.args.options.now _ _ _ _ _ _ _ c.in-Ok.picked _ refl refl c.in-Ok.ensures.selects (ap (λ (cs : List Candidate). take 1 cs) a) c.in-Err-prepare.ensures.planned (printed_memory _ _ _ _ c.write_memory.ensures c.ended-in-Err-prepare.ensures)
 
 pub returns-in_default-clause-told : goal.returns-in_default-clause-told
 returns-in_default-clause-told g c =
@@ -31,5 +33,6 @@ returns-in-Ok-answer-clause-told g c =
 pub returns-in-Err-NoMemory-clause-told : goal.returns-in-Err-NoMemory-clause-told
 returns-in-Err-NoMemory-clause-told g c =
     let e : c.print_cases-answer.result.0 ≡ Err (NoMemory c.in-Err-NoMemory._refusal) = search rules in
-    debug_short g.W.Tree.asks g.W.World.tells g.W.Launcher.starts g.W.Launcher.waits c.args.options.now _ _ _ _ _ _ _ _ c.in-Ok.picked c.in-Ok-prepare.plan _ _ _ c.in-Err-NoMemory._refusal c.in-Ok.ensures.selects c.in-Ok-prepare.ensures.planned
+    let a : c.as_slice-cases.result.now ≡ c.in-Ok.picked.chosen.cases = search rules in
+    debug_short g.W.Tree.asks g.W.World.tells g.W.Launcher.starts g.W.Launcher.waits c.args.options.now _ _ _ _ _ _ _ _ c.in-Ok.picked _ c.in-Ok-prepare.plan _ _ c.in-Err-NoMemory._refusal c.in-Ok.ensures.selects (ap (λ (cs : List Candidate). take 1 cs) a) c.in-Ok-prepare.ensures.planned
     (debugged_as _ _ _ _ _ _ _ _ _ _ e c.print_cases-answer.ensures.debugged) c.memory_behind.ensures c.ended-in-Err-NoMemory.ensures

@@ -16,7 +16,7 @@ returns-in-Ok-new-clause-idle g c = idle c.in-Ok-new.driver.running (search rule
 pub returns-in-Ok-new-clause-made : goal.returns-in-Ok-new-clause-made
 returns-in-Ok-new-clause-made g c =
     let e = c.in-Ok-new.ensures in
-    record { calls = e.0.0; asked = e.0.1; found = e.0.2; source = e.1 ∙ c.in-Ok.ensures ∙ ap (λ (here : List ℕ). source_directory here c.args.kyuafile.now) c.as_str.ensures.characters; first = e.2; none_runs = e.3 }
+    record { calls = e.0.0; asked = e.0.1; found = e.0.2; source = e.1 ∙ c.in-Ok.ensures ∙ ap (λ (here : List ℕ). source_directory here c.args.kyuafile.now) c.as_str-2.ensures.characters; first = e.2; none_runs = e.3 }
 
 pub returns-then-not-is_absolute-clause-refused : goal.returns-then-not-is_absolute-clause-refused
 returns-then-not-is_absolute-clause-refused g c = not_absolute (search rules)

@@ -10,7 +10,7 @@ returns-in-Err-clause-did g c =
 pub returns-in-Err-prepare-clause-did : goal.returns-in-Err-prepare-clause-did
 returns-in-Err-prepare-clause-did g c =
     did_told g.W.Tree.asks g.W.World.tells g.W.Launcher.starts g.W.Launcher.waits g.R.ResultStore.answers g.R.ResultStore.stands g.R.ResultStore.sound g.R.ResultStore.leaves _ _ _ _ _ _ _
-    (short_only g.W.Tree.asks g.W.World.tells g.W.Launcher.starts g.W.Launcher.waits _ c.args.options.now _ _ _ _ _ _ _ _ refl c.in-Ok.ensures.selects c.in-Err-prepare.ensures.planned (printed_memory _ _ _ _ c.write_memory.ensures c.ended.ensures))
+    (short_only g.W.Tree.asks g.W.World.tells g.W.Launcher.starts g.W.Launcher.waits _ c.args.options.now _ _ _ _ _ _ _ c.in-Ok.picked c.as_slice.result.now refl refl c.in-Ok.ensures.selects (search rules) c.in-Err-prepare.ensures.planned (printed_memory _ _ _ _ c.write_memory.ensures c.ended.ensures))
 
 pub run_plan-requires-clause-few : goal.run_plan-requires-clause-few
 run_plan-requires-clause-few g c =

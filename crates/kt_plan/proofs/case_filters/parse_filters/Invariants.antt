@@ -1,10 +1,7 @@
-use Rattle.std.proofs.Common.{◌≡◌, length}
+use Rattle.std.proofs.Common.{◌≡◌, drop}
 use Rattle.kt_plan.specs.Configuring.{behind, filters_of}
 use Rattle.kt_plan.proofs.case_filters.parse_filters.Given as goal
 
 -- the words before the rest are read
 abbrev pub invariant-loop-word : goal.invariant-loop-word
-invariant-loop-word l = filters_of l.words ≡ behind l.filters (filters_of l.rest)
-
-abbrev pub decreases-loop-word : goal.decreases-loop-word
-decreases-loop-word l = length l.rest
+invariant-loop-word l = filters_of l.words ≡ behind l.filters (filters_of (drop l.word-index l.words))

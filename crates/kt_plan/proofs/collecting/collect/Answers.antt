@@ -20,7 +20,7 @@ offered-requires g c =
 pub returns-in_err-found-clause-collected : goal.returns-in_err-found-clause-collected
 returns-in_err-found-clause-collected g c =
     let p = err_from_is_err_and c.from_residual.result c.from_residual.ensures.1 in
-    lists_stopped g.W.Tree.asks g.W.World.tells c.args.settings.now c.args.kyuafile.now c.args.world.now c.programs_of.new.tree c.in-Ok.programs c.offered.new.world c.in-Ok.ensures.loaded _ c.from_residual.result p.0 c.in_err-found.ensures.offers p.1 (_, p.2)
+    lists_stopped g.W.Tree.asks g.W.World.tells c.args.settings.now c.args.kyuafile.now c.args.world.now c.programs_of.new.tree c.in-Ok.programs c.offered.new.world c.in-Ok.ensures.loaded c.as_slice.result.now c.from_residual.result p.0 c.as_slice.ensures c.in_err-found.ensures.offers p.1 (_, p.2)
 
 pub returns-clause-collected : goal.returns-clause-collected
 returns-clause-collected g c =

@@ -1,5 +1,6 @@
 use Rattle.std.proofs.Common.{rules}
-use Rattle.kt_plan.proofs.Settling.{all_settled, idle_along, not_configured, not_filtered}
+use Rattle.kt_plan.proofs.Chains.{idle_after}
+use Rattle.kt_plan.proofs.Settling.{all_settled, not_configured, not_filtered}
 use Rattle.kt_plan.proofs.configuring.settle.Goals as goal
 
 pub returns-in_err-config-clause-settled : goal.returns-in_err-config-clause-settled
@@ -8,7 +9,7 @@ returns-in_err-config-clause-settled g c =
 
 pub returns-in_err-config-clause-idle : goal.returns-in_err-config-clause-idle
 returns-in_err-config-clause-idle g c =
-    idle_along g.W.World.tells g.W.Launcher.running g.W.Launcher.pending g.met.W.World.runs_told g.met.W.World.pends_told c.configure.ensures.asked _ _ c.configure.ensures.chain c.requires
+    idle_after g.W.World.tells g.W.Launcher.running g.W.Launcher.pending g.met.W.World.runs_told g.met.W.World.pends_told _ _ c.configure.ensures.asked c.configure.ensures.chain c.requires
 
 pub returns-in_err-filters-clause-settled : goal.returns-in_err-filters-clause-settled
 returns-in_err-filters-clause-settled g c =
@@ -17,7 +18,7 @@ returns-in_err-filters-clause-settled g c =
 
 pub returns-in_err-filters-clause-idle : goal.returns-in_err-filters-clause-idle
 returns-in_err-filters-clause-idle g c =
-    idle_along g.W.World.tells g.W.Launcher.running g.W.Launcher.pending g.met.W.World.runs_told g.met.W.World.pends_told c.configure.ensures.asked _ _ c.configure.ensures.chain c.requires
+    idle_after g.W.World.tells g.W.Launcher.running g.W.Launcher.pending g.met.W.World.runs_told g.met.W.World.pends_told _ _ c.configure.ensures.asked c.configure.ensures.chain c.requires
 
 pub returns-clause-settled : goal.returns-clause-settled
 returns-clause-settled g c =
@@ -26,4 +27,4 @@ returns-clause-settled g c =
 
 pub returns-clause-idle : goal.returns-clause-idle
 returns-clause-idle g c =
-    idle_along g.W.World.tells g.W.Launcher.running g.W.Launcher.pending g.met.W.World.runs_told g.met.W.World.pends_told c.configure.ensures.asked _ _ c.configure.ensures.chain c.requires
+    idle_after g.W.World.tells g.W.Launcher.running g.W.Launcher.pending g.met.W.World.runs_told g.met.W.World.pends_told _ _ c.configure.ensures.asked c.configure.ensures.chain c.requires

@@ -1,20 +1,24 @@
-use Rattle.std.proofs.Common.{rules, ◌≡◌, ◌∷◌}
+use Rattle.std.proofs.Common.{rules, ◌≡◌, ◌∷◌, ◌+◌, arith, drop, length}
+use Rattle.std.proofs.lemmas.Grind.{common_steps}
 use Rattle.std.proofs.lemmas.Result.{err_from_is_err_and}
-use Rattle.kt_plan.specs.Planning.{question_of, finds_of}
-use Rattle.kt_plan.proofs.Chains.{chain_short}
-use Rattle.kt_plan.proofs.LookLaws.{words_next, words_all}
+use Rattle.kt_plan.specs.Inner.Planning.{question_of, finds_of}
+use Rattle.kt_plan.proofs.Chains.{asked_short}
+use Rattle.kt_plan.proofs.LookLaws.{words_next, words_all, words_stopped}
 use Rattle.kt_plan.proofs.looking.look_for_words.Goals as goal
 
 pub returns-in_err-look_for_word : goal.returns-in_err-look_for_word
 returns-in_err-look_for_word g c =
     let p = err_from_is_err_and c.from_residual.result c.from_residual.ensures.1 in
-    chain_short g.W.World.tells c.args.world.now c.loop-word.world c.look_for_word.new.world c.loop-word.invariant.told _ _ c.from_residual.result p.0 c.loop-word.invariant.chain c.look_for_word.ensures p.1
+    let e : drop c.loop-word.word-index c.args.words.now ≡ c.word-item.result ∷ drop (c.loop-word.word-index + 1) c.args.words.now = grind (arith, common_steps) in
+    asked_short g.W.World.tells c.args.world.now c.look_for_word.new.world _ _ c.from_residual.result p.0 p.1
+    (words_stopped g.W.World.tells (question_of c.args.required) (finds_of c.args.required) c.args.words.now c.args.world.now c.args.found.now (drop c.loop-word.word-index c.args.words.now) (drop (c.loop-word.word-index + 1) c.args.words.now) c.word-item.result c.loop-word.world c.look_for_word.new.world c.loop-word.found e c.loop-word.invariant c.in_err-look_for_word.ensures)
 
 pub loop-word-preserved : goal.loop-word-preserved
 loop-word-preserved g c =
-    let e : c.loop-word.rest.now ≡ c.in-Some.word.now ∷ c.in-Some.after.now = search rules in
-    words_next g.W.World.tells (question_of c.args.required) (finds_of c.args.required) c.args.words.now c.args.world.now c.args.found.now c.loop-word.rest.now c.in-Some.after.now c.in-Some.word.now c.loop-word.world c.look_for_word.new.world c.loop-word.found c.look_for_word.new.found e c.loop-word.invariant c.in_ok-look_for_word.ensures
+    let e : drop c.loop-word.word-index c.args.words.now ≡ c.word-item.result ∷ drop (c.loop-word.word-index + 1) c.args.words.now = grind (arith, common_steps) in
+    words_next g.W.World.tells (question_of c.args.required) (finds_of c.args.required) c.args.words.now c.args.world.now c.args.found.now (drop c.loop-word.word-index c.args.words.now) (drop (c.loop-word.word-index + 1) c.args.words.now) c.word-item.result c.loop-word.world c.look_for_word.new.world c.loop-word.found c.look_for_word.new.found e c.loop-word.invariant c.in_ok-look_for_word.ensures
 
 pub returns : goal.returns
 returns g c =
-    words_all g.W.World.tells (question_of c.args.required) (finds_of c.args.required) c.args.words.now c.args.world.now c.args.found.now c.loop-word.rest.now c.loop-word.world c.loop-word.found c.in_default.ensures.cases c.loop-word.invariant
+    let none : length (drop c.loop-word.word-index c.args.words.now) ≡ 0 = grind (arith, common_steps) in
+    words_all g.W.World.tells (question_of c.args.required) (finds_of c.args.required) c.args.words.now c.args.world.now c.args.found.now (drop c.loop-word.word-index c.args.words.now) c.loop-word.world c.loop-word.found none c.loop-word.invariant

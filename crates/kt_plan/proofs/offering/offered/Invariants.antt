@@ -1,13 +1,10 @@
-use Rattle.std.proofs.Common.{length}
+use Rattle.std.proofs.Common.{drop}
 use Rattle.kt_sched.specs.Children.{IsIdle}
 use Rattle.kt_plan.proofs.OfferLaws.{Offering}
 use Rattle.kt_plan.proofs.offering.offered.Given as goal
 
 abbrev pub invariant-loop-program : goal.invariant-loop-program
 invariant-loop-program g l = record {
-  offering : Offering g.W.World.tells l.settings.config l.settings.filters l.programs l.fn.world l.rest l.world l.found;
+  offering : Offering g.W.World.tells l.settings.config l.settings.filters l.programs l.fn.world (drop l.program-index l.programs) l.world l.found;
   idle : IsIdle (g.W.Launcher.running l.world) (g.W.Launcher.pending l.world);
 }
-
-abbrev pub decreases-loop-program : goal.decreases-loop-program
-decreases-loop-program g l = length l.rest

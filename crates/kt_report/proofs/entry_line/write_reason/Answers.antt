@@ -4,12 +4,12 @@ use Rattle.kt_base.specs.declared.kind.Kind.{Kind}
 use Rattle.kt_base.specs.declared.kind.Kind.TheVariants.{Passed}
 use Rattle.kt_base.specs.Utf8.{utf8}
 use Rattle.kt_base.proofs.Showing.{shows_as, shows_both, shows_error, shows_more}
-use Rattle.kt_report.specs.Lines.{told_reason}
+use Rattle.kt_report.specs.Lines.{shown_reason}
 use Rattle.kt_report.proofs.entry_line.write_reason.Goals as goal
 
-told : (kind other : Kind) (reason : List ℕ) → kind ≢ Passed → kind ≡ other → codes ": " ++ utf8 reason ≡ told_reason other reason
+told : (kind other : Kind) (reason : List ℕ) → kind ≢ Passed → kind ≡ other → codes ": " ++ utf8 reason ≡ shown_reason other reason
 told Passed other reason n e = absurd (n refl)
-told kind other reason n e = ap (λ (k : Kind). told_reason k reason) e
+told kind other reason n e = ap (λ (k : Kind). shown_reason k reason) e
 
 pub returns-in_err-emit-in_default : goal.returns-in_err-emit-in_default
 returns-in_err-emit-in_default g c =

@@ -1,4 +1,4 @@
-use Rattle.std.proofs.Common.{◌≡◌, ℕ, List, ◌++◌, false, length}
+use Rattle.std.proofs.Common.{◌≡◌, ℕ, List, ◌++◌, false, drop}
 use Rattle.std.specs.Prelude.{flat_map}
 use Rattle.kt_base.specs.Shows.{Shows}
 use Rattle.kt_report.specs.Pairs.{entry_bytes}
@@ -8,7 +8,4 @@ use Rattle.kt_report.proofs.sections.write_lines.Given as goal
 -- what was written, and the lines of the rest
 abbrev pub invariant-loop-entry : goal.invariant-loop-entry
 invariant-loop-entry g l = (front : List ℕ) × Shows (g.W.Write.contents l.fn.out) (g.W.Write.contents l.out) false front
-    × (front ++ flat_map (entry_bytes l.verbose) (entries_of l.kind l.rest) ≡ flat_map (entry_bytes l.verbose) (entries_of l.kind l.fn.entries))
-
-abbrev pub decreases-loop-entry : goal.decreases-loop-entry
-decreases-loop-entry g l = length l.rest
+    × (front ++ flat_map (entry_bytes l.verbose) (entries_of l.kind (drop l.entry-index l.entries)) ≡ flat_map (entry_bytes l.verbose) (entries_of l.kind l.entries))

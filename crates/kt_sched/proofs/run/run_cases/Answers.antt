@@ -7,13 +7,16 @@ use Rattle.kt_sched.specs.declared.totals.Totals.{Totals}
 use Rattle.kt_sched.specs.declared.run_fault.RunFault.{RunFault}
 use Rattle.kt_sched.specs.Trace.{Start, End, event_count}
 use Rattle.kt_sched.specs.Children.{MayStart, child_of}
-use Rattle.kt_sched.specs.Fed.{Fed, IsAnswerTo, with_event, fed_after, nothing_fed}
+use Rattle.kt_sched.specs.Inner.Answers.{with_event}
+use Rattle.kt_sched.specs.Fed.{Fed, IsAnswerTo, fed_after, nothing_fed}
 use Rattle.kt_sched.specs.SchedState.{Stands}
-use Rattle.kt_sched.specs.Run.{Ran, counted}
+use Rattle.kt_sched.specs.Inner.Answers.{counted}
+use Rattle.kt_sched.specs.Run.{Ran}
 use Rattle.kt_sched.proofs.Runs.{child_runs}
 use Rattle.kt_sched.proofs.Goes.{may_start, goes_start, goes_end, goes_stored, goes_failed, goes_first, fed_start, ended_one}
 use Rattle.kt_sched.proofs.Gaining.{Gained, gained_event, gained_put, gained_failed, gained_first, room_to_count, start_not_whole, end_not_whole, nothing_due}
-use Rattle.kt_sched.proofs.Returns.{ran_well, ran_short, goes_idle}
+use Rattle.std.proofs.lemmas.Result.{err_from_is_err_and}
+use Rattle.kt_sched.proofs.Returns.{ran_not, ran_well, ran_short, goes_idle}
 use Rattle.kt_sched.proofs.Storing.{storable_entry}
 use Rattle.kt_sched.proofs.run.run_cases.Goals as goal
 use Rattle.kt_sched.proofs.run.run_cases.Goals.{in-None, in-Some}
@@ -21,12 +24,17 @@ use Rattle.kt_sched.proofs.run.run_cases.Goals.{in-None, in-Some}
 pub loop-i-init : goal.loop-i-init
 loop-i-init g c = (
   nothing_fed,
-  c.in-Ok.ensures.stands,
+  c.in_ok-sched.ensures.stands,
   goes_first g.L.Launcher.running g.L.Launcher.pending g.L.Launcher.starts g.L.Launcher.waits c.args.plan c.args.width c.args.launcher.now c.requires.idle,
   subst (λ (t : Totals). Gained g.S.Sink.puts g.S.Sink.entries c.args.plan c.args.width nothing_fed t None c.args.sink.now c.args.sink.now) (sym c.new-totals.ensures)
       (gained_first g.S.Sink.puts g.S.Sink.entries c.args.plan c.args.width c.args.sink.now c.requires.plan),
-  c.in-Ok.ensures.asked,
+  c.in_ok-sched.ensures.asked,
 )
+
+pub returns-in_err-sched-clause-ran : goal.returns-in_err-sched-clause-ran
+returns-in_err-sched-clause-ran g c =
+    let p = err_from_is_err_and c.from_residual.result c.from_residual.ensures.1 in
+    rw (p.1, p.2) (ran_not g.L.Launcher.starts g.L.Launcher.waits g.S.Sink.puts g.S.Sink.entries c.args.plan c.args.width c.args.launcher.now c.args.sink.now _)
 
 pub start-told-requires-clause-may : goal.start-told-requires-clause-may
 start-told-requires-clause-may g c =
@@ -69,7 +77,7 @@ counted-more-requires g c =
     let s = c.loop-i.invariant.1 in
     let h = c.loop-i.invariant.2 in
     let k = c.loop-i.invariant.3 in
-    room_to_count g.S.Sink.puts g.S.Sink.entries plan n fed c.in-Put.i c.loop-i.totals c.loop-i.fault c.args.sink.now c.loop-i.sink (c.in-Put.ensures.next plan n fed s) c.in-Ok.ensures.room k
+    room_to_count g.S.Sink.puts g.S.Sink.entries plan n fed c.in-Put.i c.loop-i.totals c.loop-i.fault c.args.sink.now c.loop-i.sink (c.in-Put.ensures.next plan n fed s) c.in_ok-sched.ensures.room k
 
 pub put-requires : goal.put-requires
 put-requires g c =
@@ -136,8 +144,8 @@ loop-i-preserved-in-Wait g c =
       c.feed-in-Wait.ensures.asked,
     )
 
-pub loop-i-preserved-in-Ok-put : goal.loop-i-preserved-in-Ok-put
-loop-i-preserved-in-Ok-put g c =
+pub loop-i-preserved-in-Ok : goal.loop-i-preserved-in-Ok
+loop-i-preserved-in-Ok g c =
     let plan = c.args.plan in
     let n = c.args.width in
     let fed = c.loop-i.invariant.0 in
@@ -155,13 +163,13 @@ loop-i-preserved-in-Ok-put g c =
     let t = c.in-Put.ensures.stands plan n fed s in
     let o = c.take-entry.ensures.entry plan n fed t in
     let later = record fed { stored = fed.stored + 1 } in
-    let z = subst (λ (w : Fed). Stands plan n w c.feed-in-Ok-put.new.self) (ap (λ (q : Next). fed_after fed q answer.Stored) c.take-entry.ensures.asked) (c.feed-in-Ok-put.ensures.stands plan n fed (c.take-entry.ensures.stands plan n fed t)) in (
+    let z = subst (λ (w : Fed). Stands plan n w c.feed-in-Ok.new.self) (ap (λ (q : Next). fed_after fed q answer.Stored) c.take-entry.ensures.asked) (c.feed-in-Ok.ensures.stands plan n fed (c.take-entry.ensures.stands plan n fed t)) in (
       later,
       z,
       goes_stored R P S W plan n fed c.args.launcher.now c.loop-i.launcher h,
       subst (λ (u : Totals). Gained U E plan n later u c.loop-i.fault c.args.sink.now c.put.new.self) (sym (c.counted-more.ensures ∙ ap (counted c.loop-i.totals) c.kind.ensures))
-          (gained_put U E plan n fed i c.take-entry.result c.loop-i.totals c.loop-i.fault c.args.sink.now c.loop-i.sink c.put.new.self x o c.in-Ok-put.ensures.leads c.in-Ok-put.ensures.ok k),
-      c.feed-in-Ok-put.ensures.asked,
+          (gained_put U E plan n fed i c.take-entry.result c.loop-i.totals c.loop-i.fault c.args.sink.now c.loop-i.sink c.put.new.self x o c.in-Ok.ensures.leads c.in-Ok.ensures.ok k),
+      c.feed-in-Ok.ensures.asked,
     )
 
 pub loop-i-preserved : goal.loop-i-preserved
@@ -182,12 +190,12 @@ loop-i-preserved g c =
     let x = c.in-Put.ensures.next plan n fed s in
     let t = c.in-Put.ensures.stands plan n fed s in
     let o = c.take-entry.ensures.entry plan n fed t in
-    let z = subst (λ (w : Fed). Stands plan n w c.feed-in-Err-put.new.self) (ap (λ (q : Next). fed_after fed q answer.StoreFailed) c.take-entry.ensures.asked) (c.feed-in-Err-put.ensures.stands plan n fed (c.take-entry.ensures.stands plan n fed t)) in (
+    let z = subst (λ (w : Fed). Stands plan n w c.feed-in-Err.new.self) (ap (λ (q : Next). fed_after fed q answer.StoreFailed) c.take-entry.ensures.asked) (c.feed-in-Err.ensures.stands plan n fed (c.take-entry.ensures.stands plan n fed t)) in (
       record fed { stopped = Some (event_count fed.trace) },
       z,
       goes_failed R P S W plan n fed c.args.launcher.now c.loop-i.launcher x.0 h,
-      gained_failed U E plan n fed i c.take-entry.result c.in-Err-put.cause c.loop-i.totals c.loop-i.fault c.args.sink.now c.loop-i.sink c.put.new.self x o c.in-Err-put.ensures.leads c.in-Err-put.ensures.err k,
-      c.feed-in-Err-put.ensures.asked,
+      gained_failed U E plan n fed i c.take-entry.result c.in-Err.cause c.loop-i.totals c.loop-i.fault c.args.sink.now c.loop-i.sink c.put.new.self x o c.in-Err.ensures.leads c.in-Err.ensures.err k,
+      c.feed-in-Err.ensures.asked,
     )
 
 pub returns-in-Done-clause-ran : goal.returns-in-Done-clause-ran

@@ -2,7 +2,7 @@ use Rattle.std.proofs.Common.{◌≡◌, List, take, arith, length, ap, subst, s
 use Rattle.std.specs.Prelude.{IsUtf8}
 use Rattle.std.proofs.lemmas.Str.{IsUtf8-drop}
 use Rattle.std.proofs.lemmas.Result.{err_from_is_err_and}
-use Rattle.kt_script.specs.Tokens.{line_past}
+use Rattle.kt_script.specs.TokenRules.{line_past}
 use Rattle.kt_script.specs.declared.place.Place.{Place}
 use Rattle.kt_script.specs.declared.syntax.Stmt.{Stmt}
 use Rattle.kt_script.proofs.PieceCuts.{piece_cut_of}

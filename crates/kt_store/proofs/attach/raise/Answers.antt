@@ -1,6 +1,6 @@
 use Rattle.kt_store.specs.Calls.{raise_statements}
 use Rattle.kt_store.proofs.FaultLemmas.{if_same}
-use Rattle.kt_store.specs.Transactions.{IsStopped}
+use Rattle.kt_store.specs.Inner.Transactions.{IsStopped}
 use Rattle.std.proofs.Common.{◌∙◌, arith, inl, inr, refl}
 use Rattle.sqlite.specs.Held.{state}
 use Rattle.sqlite.specs.State.{HasCleanDisk}

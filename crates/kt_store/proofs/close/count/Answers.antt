@@ -2,7 +2,8 @@ use Rattle.std.proofs.Common.{◌∙◌, [], ◌∷◌, pos, min, length, slice_
 use Rattle.std.specs.Option.{option_copied}
 use Rattle.sqlite.specs.declared.types.Value.TheVariants.{Int}
 use Rattle.kt_store.specs.Tables.{count_text}
-use Rattle.kt_store.specs.Runs.{run_at, entries_of}
+use Rattle.kt_store.specs.Inner.Runs.{entries_of}
+use Rattle.kt_store.specs.Runs.{run_at}
 use Rattle.kt_store.proofs.SqlFacts.{count_is}
 use Rattle.kt_store.proofs.AskLemmas.{asked_stands, asked_survives}
 use Rattle.kt_store.proofs.CountLemmas.{asked_count, only_number}

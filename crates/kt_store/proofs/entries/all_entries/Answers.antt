@@ -3,7 +3,8 @@ use Rattle.sqlite.specs.declared.types.Value.TheVariants.{Int}
 use Rattle.sqlite.specs.Held.{state}
 use Rattle.sqlite.specs.State.{HasCleanDisk}
 use Rattle.sqlite.proofs.StateLemmas.{survives_then}
-use Rattle.kt_store.specs.Runs.{run_at, entries_of}
+use Rattle.kt_store.specs.Inner.Runs.{entries_of}
+use Rattle.kt_store.specs.Runs.{run_at}
 use Rattle.kt_store.specs.Tables.{entries_text, pairs_text}
 use Rattle.kt_store.proofs.EntriesLemmas.{sound_of, small_of, up_of}
 use Rattle.kt_store.proofs.FaultLemmas.{caused_before, caused_after, starved}

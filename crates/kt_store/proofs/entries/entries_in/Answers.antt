@@ -4,7 +4,7 @@ use Rattle.kt_base.specs.declared.entry.Entry.{Entry}
 use Rattle.sqlite.specs.Order.{Row}
 use Rattle.sqlite_value.specs.Order.{column}
 use Rattle.sqlite.specs.declared.types.Value.TheVariants.{Int}
-use Rattle.kt_store.specs.Heads.{entry_columns, pair_columns, pairs_shown}
+use Rattle.kt_store.specs.Inner.Heads.{entry_columns, pair_columns, pairs_shown}
 use Rattle.kt_store.proofs.EntriesLemmas.{one_sound}
 use Rattle.kt_store.proofs.MergeLemmas.{Later, at, all_taken, entry_position}
 use Rattle.kt_store.proofs.entries.entries_in.Goals as goal

@@ -3,7 +3,7 @@ use Rattle.kt_base.specs.declared.entry.Entry.{Entry}
 use Rattle.std.specs.List.{AllByRecursion}
 use Rattle.sqlite_trees.specs.Tree.{IsAscending}
 use Rattle.kt_store.specs.Runs.{IsEntry}
-use Rattle.kt_store.specs.Heads.{entry_columns, pairs_shown}
+use Rattle.kt_store.specs.Inner.Heads.{entry_columns, pairs_shown}
 use Rattle.kt_store.proofs.entries.entries_in.Given as goal
 
 abbrev pub invariant-loop-row : goal.invariant-loop-row

@@ -4,7 +4,7 @@ use Rattle.sqlite.specs.State.{HasCleanDisk, Survives}
 use Rattle.sqlite.specs.Effect.{IsDatabase}
 use Rattle.kt_store.specs.Runs.{Keeps, with_entry}
 use Rattle.kt_store.specs.Stands.{IsStore, StandsFor, Leaves}
-use Rattle.kt_store.specs.Kept.{KeepsRuns}
+use Rattle.kt_store.specs.Inner.Kept.{KeepsRuns}
 use Rattle.kt_store.specs.Calls.{put_statements, entry_statements}
 use Rattle.kt_store.specs.Transactions.{begun, HoldsRuns, IsCausedInside}
 use Rattle.kt_store.proofs.BeginLemmas.{leaves_commit}

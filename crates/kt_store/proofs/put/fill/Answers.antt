@@ -3,7 +3,7 @@ use Rattle.sqlite.specs.Held.{state}
 use Rattle.sqlite.specs.State.{HasCleanDisk}
 use Rattle.kt_store.specs.Runs.{entry_row}
 use Rattle.kt_store.specs.Calls.{pair_statements, entry_statements}
-use Rattle.kt_store.specs.Transactions.{IsStopped}
+use Rattle.kt_store.specs.Inner.Transactions.{IsStopped}
 use Rattle.kt_store.specs.Tables.{put_text}
 use Rattle.kt_store.proofs.FaultLemmas.{if_same}
 use Rattle.kt_store.proofs.TurnLemmas.{stop_first, stop_later}

@@ -3,7 +3,7 @@ use Rattle.sqlite.specs.Values.{bound}
 use Rattle.sqlite.specs.State.{Shown, CommitsShowing, FailsToQuery}
 use Rattle.sqlite.specs.Held.{state}
 use Rattle.sqlite.proofs.StateLemmas.{survives_then}
-use Rattle.kt_store.specs.Ask.{MayShow}
+use Rattle.kt_store.specs.Inner.Ask.{MayShow}
 use Rattle.kt_store.proofs.FaultLemmas.{told, if_told, on_err}
 use Rattle.kt_store.proofs.StepLemmas.{not_run, query_refused, rests_then}
 use Rattle.kt_store.proofs.statements.ask.Goals as goal

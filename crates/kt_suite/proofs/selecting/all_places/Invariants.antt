@@ -1,5 +1,6 @@
 use Rattle.std.proofs.Common.{◌≡◌, ◌+◌, ◌++◌, length, true}
-use Rattle.kt_suite.specs.Selecting.{places, all_places}
+use Rattle.kt_suite.specs.Inner.Steps.{all_places}
+use Rattle.kt_suite.specs.Selecting.{places}
 use Rattle.kt_suite.proofs.selecting.all_places.Given as goal
 
 -- what was counted, and what the rest gives

@@ -1,4 +1,6 @@
-use Rattle.std.proofs.Common.{rules, ◌∙◌, ap}
+use Rattle.std.proofs.Common.{rules, ◌≡◌, ◌+◌, ◌∷◌, length, drop, sym, ap, ◌∙◌, drop_of_length-le}
+use Rattle.std.proofs.lemmas.List.{drop_more}
+use Rattle.kt_suite.specs.declared.item.Item.{Item}
 use Rattle.kt_suite.specs.Selecting.{is_selected}
 use Rattle.kt_suite.proofs.Picking.{idle_at_last, idle_after, place_taken, place_passed}
 use Rattle.kt_suite.proofs.selecting.compare_items.Goals.{then-compare_item+in_ok-push, else-compare_item}
@@ -6,24 +8,26 @@ use Rattle.kt_suite.proofs.selecting.compare_items.Goals as goal
 
 pub loop-item-preserved : goal.loop-item-preserved
 loop-item-preserved c =
-    let rest = c.in-Some.ensures.cases.0 in
+    let xs = c.args.items.now in
+    let i = c.loop-item.item-index in
+    let rest : drop i xs ≡ c.item-item.result ∷ drop (i + 1) xs = drop_more xs i _ c.loop-item-test.true ∙ ap (λ (x : Item). x ∷ drop (i + 1) xs) (sym c.item-item.is) in
     record {
       found =
           elim c.if-compare_item.branch [
             | then-compare_item+in_ok-push w ↦
-                place_taken (is_selected c.args.filters.now) c.loop-item.place c.loop-item.rest.now c.in-Some.item.now c.in-Some.after.now c.loop-item.cases.items c.if-compare_item.cases.items _ rest
+                place_taken (is_selected c.args.filters.now) c.loop-item.place (drop i xs) c.item-item.result (drop (i + 1) xs) c.loop-item.cases.items c.if-compare_item.cases.items _ rest
                 w.if-compare_item.ensures.selected (ap (λ v. v.items) w.cases-is ∙ w.in_ok-push.ensures.items) c.loop-item.invariant.found
             | else-compare_item w ↦
-                place_passed (is_selected c.args.filters.now) c.loop-item.place c.loop-item.rest.now c.in-Some.item.now c.in-Some.after.now c.loop-item.cases.items c.if-compare_item.cases.items _ rest
+                place_passed (is_selected c.args.filters.now) c.loop-item.place (drop i xs) c.item-item.result (drop (i + 1) xs) c.loop-item.cases.items c.if-compare_item.cases.items _ rest
                 w.if-compare_item.ensures.selected (ap (λ v. v.items) w.cases-is) c.loop-item.invariant.found
           ];
       counted = search rules;
       left =
-          idle_after c.loop-item.rest.now c.args.filters.now c.in-Some.item.now c.in-Some.after.now c.loop-item.unmatched.items c.compare_item.new.idle.items _ rest c.compare_item.ensures.idle
+          idle_after (drop i xs) c.args.filters.now c.item-item.result (drop (i + 1) xs) c.loop-item.unmatched.items c.compare_item.new.idle.items _ rest c.compare_item.ensures.idle
           c.loop-item.invariant.left;
     }
 
 pub returns-clause-idle : goal.returns-clause-idle
 returns-clause-idle c =
-    idle_at_last c.loop-item.rest.now c.args.filters.now c.loop-item.unmatched.items c.in_default.ensures.cases
+    idle_at_last (drop c.loop-item.item-index c.args.items.now) c.args.filters.now c.loop-item.unmatched.items (ap length (drop_of_length-le c.args.items.now c.loop-item-test.false))
     ∙ c.loop-item.invariant.left

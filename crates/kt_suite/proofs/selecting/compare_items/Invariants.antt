@@ -1,4 +1,4 @@
-use Rattle.std.proofs.Common.{◌≡◌, ◌+◌, ◌++◌, length}
+use Rattle.std.proofs.Common.{◌≡◌, ◌++◌, drop}
 use Rattle.std.specs.List.{filter}
 use Rattle.kt_suite.specs.Selecting.{places, is_selected, selected_places, idle_places}
 use Rattle.kt_suite.proofs.Picking.{is_idle_at}
@@ -7,10 +7,7 @@ use Rattle.kt_suite.proofs.selecting.compare_items.Given as goal
 -- what was found, and what the rest gives; what is idle, and what the rest leaves of it
 abbrev pub invariant-loop-item : goal.invariant-loop-item
 invariant-loop-item l = record {
-  found : l.cases.items ++ places (is_selected l.filters) l.place l.rest ≡ selected_places l.items l.filters;
-  counted : l.place + length l.rest ≡ length l.items;
-  left : filter (is_idle_at l.rest l.filters) l.unmatched.items ≡ idle_places l.items l.filters;
+  found : l.cases.items ++ places (is_selected l.filters) l.place (drop l.item-index l.items) ≡ selected_places l.items l.filters;
+  counted : l.place ≡ l.item-index;
+  left : filter (is_idle_at (drop l.item-index l.items) l.filters) l.unmatched.items ≡ idle_places l.items l.filters;
 }
-
-abbrev pub decreases-loop-item : goal.decreases-loop-item
-decreases-loop-item l = length l.rest

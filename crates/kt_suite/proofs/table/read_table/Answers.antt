@@ -1,22 +1,29 @@
 use Rattle.std.specs.Prelude.{Result, Ok, Err}
-use Rattle.std.proofs.Common.{rules, ◌≡◌, ◌∷◌}
+use Rattle.std.proofs.Common.{rules, ◌≡◌, ◌+◌, ◌∷◌, length, drop, sym, ap, ◌∙◌, drop_of_length-le}
+use Rattle.std.proofs.lemmas.List.{drop_more}
+use Rattle.kt_script.specs.declared.syntax.Pair.{Pair}
 use Rattle.kt_suite.specs.declared.cause.SuiteCause.{SuiteCause}
 use Rattle.kt_suite.specs.declared.program_table.ProgramTable.{ProgramTable}
-use Rattle.kt_suite.specs.Tables.{definition, table_with}
+use Rattle.kt_suite.specs.Inner.Steps.{table_with}
+use Rattle.kt_suite.specs.Tables.{definition}
 use Rattle.kt_suite.proofs.TableLoops.{table_next, table_stops, table_all}
 use Rattle.kt_suite.proofs.table.read_table.Goals as goal
 
 pub returns-in-Err : goal.returns-in-Err
 returns-in-Err c =
-    let e : c.loop-pair.rest.now ≡ c.in-Some.pair.now ∷ c.in-Some.after.now = search rules in
-    let h : ◌≡◌ {A = Result ProgramTable SuiteCause} (Err c.in-Err.cause) (table_with c.loop-pair.invariant.before (definition c.in-Some.pair.now)) = search rules in
+    let xs = c.args.pairs.now in
+    let i = c.loop-pair.pair-index in
+    let e : drop i xs ≡ c.pair-item.result ∷ drop (i + 1) xs = drop_more xs i _ c.loop-pair-test.true ∙ ap (λ (x : Pair). x ∷ drop (i + 1) xs) (sym c.pair-item.is) in
+    let h : ◌≡◌ {A = Result ProgramTable SuiteCause} (Err c.in-Err.cause) (table_with c.loop-pair.invariant.before (definition c.pair-item.result)) = search rules in
     table_stops _ _ _ _ _ _ e c.loop-pair.invariant h
 
 pub loop-pair-preserved : goal.loop-pair-preserved
 loop-pair-preserved c =
-    let e : c.loop-pair.rest.now ≡ c.in-Some.pair.now ∷ c.in-Some.after.now = search rules in
-    let h : ◌≡◌ {A = Result ProgramTable SuiteCause} (Ok c.in-Ok.next) (table_with c.loop-pair.invariant.before (definition c.in-Some.pair.now)) = search rules in
+    let xs = c.args.pairs.now in
+    let i = c.loop-pair.pair-index in
+    let e : drop i xs ≡ c.pair-item.result ∷ drop (i + 1) xs = drop_more xs i _ c.loop-pair-test.true ∙ ap (λ (x : Pair). x ∷ drop (i + 1) xs) (sym c.pair-item.is) in
+    let h : ◌≡◌ {A = Result ProgramTable SuiteCause} (Ok c.in-Ok.next) (table_with c.loop-pair.invariant.before (definition c.pair-item.result)) = search rules in
     table_next _ _ _ _ _ _ e c.loop-pair.invariant h
 
 pub returns : goal.returns
-returns c = table_all _ _ _ c.in_default.ensures.cases c.loop-pair.invariant
+returns c = table_all _ _ _ (ap length (drop_of_length-le c.args.pairs.now c.loop-pair-test.false)) c.loop-pair.invariant

@@ -6,7 +6,8 @@ use Rattle.kt_script.specs.LiteralText.{text_of}
 use Rattle.kt_suite.specs.declared.cause.SuiteCause.{SuiteCause}
 use Rattle.kt_suite.specs.declared.key.Key.TheVariants as key
 use Rattle.kt_suite.specs.Calls.{key_named}
-use Rattle.kt_suite.specs.Tables.{is_property, props_with}
+use Rattle.kt_suite.specs.Inner.Steps.{props_with}
+use Rattle.kt_suite.specs.Tables.{is_property}
 use Rattle.kt_suite.proofs.Tables.{takes_name, takes_suite, takes_property}
 use Rattle.kt_suite.proofs.table.take_pair.Goals as goal
 

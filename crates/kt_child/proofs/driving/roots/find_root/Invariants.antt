@@ -1,5 +1,6 @@
 use Rattle.std.proofs.Common.{List}
-use Rattle.kt_child.specs.System.Calls.{Call, Chain}
+use Rattle.kt_base.specs.Chains.{Chain}
+use Rattle.kt_child.specs.System.Calls.{Call}
 use Rattle.kt_child.specs.Driving.Roots.{FailedRoots}
 use Rattle.kt_child.proofs.driving.roots.find_root.Given as goal
 

@@ -4,5 +4,4 @@ use Rattle.kt_child.proofs.driving.roots.root_path.Goals as goal
 
 pub returns : goal.returns
 unfolding chars
-returns c =
-    rw c.in_ok-path.ensures refl
+returns c = rw c.in_ok-path.ensures refl

@@ -3,7 +3,7 @@ use Rattle.kt_base.specs.declared.role.Role.TheVariants.{Body}
 use Rattle.kt_child.specs.declared.polling.watched.Watched.{Watched}
 use Rattle.kt_child.proofs.TurnSteps.{on_at, step_more, step_over, step_set}
 use Rattle.std.proofs.lemmas.List.Elements.{All-set}
-use Rattle.kt_child.specs.Polling.Turns.{IsOn}
+use Rattle.kt_child.specs.Inner.Turns.{IsOn}
 use Rattle.kt_child.proofs.polling.turns.turn.Goals as goal
 
 abbrev none : Watched

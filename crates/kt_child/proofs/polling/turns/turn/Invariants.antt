@@ -1,7 +1,9 @@
 use Rattle.std.proofs.Common.{◌≡◌, List, take}
-use Rattle.kt_child.specs.System.Calls.{Call, Chain}
+use Rattle.kt_base.specs.Chains.{Chain}
+use Rattle.kt_child.specs.System.Calls.{Call}
 use Rattle.std.specs.List.{All}
-use Rattle.kt_child.specs.Polling.Turns.{IsOn, PolledAll, advanced_below}
+use Rattle.kt_child.specs.Inner.Turns.{IsOn}
+use Rattle.kt_child.specs.Polling.Turns.{PolledAll, advanced_below}
 use Rattle.kt_child.proofs.polling.turns.turn.Given as goal
 
 abbrev pub invariant-loop-i : goal.invariant-loop-i

@@ -1,7 +1,7 @@
 use Rattle.std.proofs.Common.{◌<◌, List, length, refl, sym, subst, is_ok, arith}
 use Rattle.std.proofs.Math.ListN.{get_or}
 use Rattle.kt_child.specs.declared.polling.watched.Watched.{Watched}
-use Rattle.kt_child.specs.Polling.Turns.{polls_left}
+use Rattle.kt_child.specs.Inner.Turns.{polls_left}
 use Rattle.kt_child.proofs.WaitSteps.{Waiting, no_child, turn_falls, waiting_more, waiting_none, waiting_over}
 use Rattle.kt_child.proofs.polling.turns.wait.Goals as goal
 

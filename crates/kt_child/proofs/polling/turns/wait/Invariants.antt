@@ -1,6 +1,6 @@
 use Rattle.std.proofs.Math.ListN.{get_or}
 use Rattle.std.specs.List.{All}
-use Rattle.kt_child.specs.Polling.Turns.{IsOn, polls_left}
+use Rattle.kt_child.specs.Inner.Turns.{IsOn, polls_left}
 use Rattle.kt_child.proofs.WaitSteps.{Waiting, no_child}
 use Rattle.kt_child.proofs.polling.turns.wait.Given as goal
 

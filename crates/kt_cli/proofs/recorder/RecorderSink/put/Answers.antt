@@ -7,7 +7,7 @@ use Rattle.kt_cli.proofs.StoreChains.{stored_one}
 use Rattle.kt_cli.proofs.recorder.RecorderSink.put.Goals as goal
 
 pub put-requires : goal.put-requires
-put-requires g c = (c.requires.started, c.requires.millis)
+put-requires g c = c.requires
 
 pub returns-in-Err-clause-leads : goal.returns-in-Err-clause-leads
 returns-in-Err-clause-leads g c =

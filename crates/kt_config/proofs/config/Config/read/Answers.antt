@@ -1,7 +1,11 @@
 use Rattle.std.proofs.Common.{rules}
-use Rattle.kt_config.specs.Reading.{outcome_of, Gives}
-use Rattle.kt_config.proofs.Answering.{script_due, right_ok, right_only, right_fault, right_due}
+use Rattle.kt_config.specs.Reading.{outcome_of}
+use Rattle.kt_config.specs.Inner.{Gives}
+use Rattle.kt_config.proofs.Answering.{script_due, script_only, right_ok, right_only, right_fault, right_due}
 use Rattle.kt_config.proofs.config.Config.read.Goals as goal
+
+pub returns-in-Err-clause-only : goal.returns-in-Err-clause-only
+returns-in-Err-clause-only c = script_only c.args.text.now c.in-Err.fault c.script_fault.result c.script_fault.ensures c.in-Err.ensures.only
 
 pub returns-in-Err-clause-due : goal.returns-in-Err-clause-due
 returns-in-Err-clause-due c =

@@ -3,7 +3,7 @@ use Rattle.std.specs.String.{string_eq}
 use Rattle.indexmap.specs.IndexMap.{insert_entry}
 use Rattle.kt_base.specs.declared.variable.Variable.{Variable}
 use Rattle.kt_base.specs.LastValues.{last_values}
-use Rattle.kt_config.specs.Values.{group_in}
+use Rattle.kt_config.specs.Inner.{group_in}
 use Rattle.kt_config.proofs.Entries.{unwritten, adds-there, adds-new}
 use Rattle.kt_config.proofs.suites.Suites.put.Goals as goal
 

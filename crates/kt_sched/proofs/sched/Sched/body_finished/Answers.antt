@@ -1,7 +1,7 @@
 use Rattle.std.proofs.Common.{◌<◌, ℕ, sym, ◌∙◌, ap, subst, false}
 use Rattle.kt_sched.specs.SchedState.{SchedState, work, Stands}
-use Rattle.kt_sched.specs.Fed.{with_event}
-use Rattle.kt_sched.specs.Cases.{RunsSince, Declares}
+use Rattle.kt_sched.specs.Inner.Answers.{with_event}
+use Rattle.kt_sched.specs.Inner.Cases.{RunsSince, Declares}
 use Rattle.kt_sched.proofs.BodyEnds.{body_finished}
 use Rattle.kt_sched.proofs.sched.Sched.body_finished.Goals as goal
 
@@ -11,14 +11,14 @@ invariant_of-self c =
     let r = c.replace_stage-was in
     let s = subst (λ (b : SchedState). RunsSince b.cases c.args.ended.position c.args.since) (sym c.self.view_is) c.requires.runs in
     let d = subst (λ (b : SchedState). Declares b.cases c.args.ended.position false) (sym c.self.view_is) c.requires.declares in
-    (v.0, v.1, with_event v.2 _, (body_finished v.0 v.1 v.2 _ c.args.ended c.args.since _ r.new.cases.items r.result _ v.3 (ap (λ (b : SchedState). b.asked) c.self.view_is ∙ c.requires.asked) c.requires.role s d (cc) r.ensures c.unless-self-inside.ensures).stands)
+    (v.0, v.1, with_event v.2 _, (body_finished v.0 v.1 v.2 _ c.args.ended c.args.since _ r.new.cases.items r.result _ v.3 (ap (λ (b : SchedState). b.asked) c.self.view_is ∙ c.requires.asked) c.requires.role s d c.plain_record-case_record.ensures.verdict c.plain_record-case_record.ensures.rest r.ensures c.unless-self-inside.ensures).stands)
 
 pub returns-clause-stands : goal.returns-clause-stands
 returns-clause-stands c = λ plan n fed h.
     let r = c.replace_stage-was in
     let s = subst (λ (b : SchedState). RunsSince b.cases c.args.ended.position c.args.since) (sym c.self.view_is) c.requires.runs in
     let d = subst (λ (b : SchedState). Declares b.cases c.args.ended.position false) (sym c.self.view_is) c.requires.declares in
-    (body_finished plan n fed _ c.args.ended c.args.since _ r.new.cases.items r.result _ (subst (Stands plan n fed) (sym c.self.view_is) h) (ap (λ (b : SchedState). b.asked) c.self.view_is ∙ c.requires.asked) c.requires.role s d (cc) r.ensures c.unless-self-inside.ensures).stands
+    (body_finished plan n fed _ c.args.ended c.args.since _ r.new.cases.items r.result _ (subst (Stands plan n fed) (sym c.self.view_is) h) (ap (λ (b : SchedState). b.asked) c.self.view_is ∙ c.requires.asked) c.requires.role s d c.plain_record-case_record.ensures.verdict c.plain_record-case_record.ensures.rest r.ensures c.unless-self-inside.ensures).stands
 
 pub returns-clause-less : goal.returns-clause-less
 returns-clause-less c =
@@ -27,4 +27,4 @@ returns-clause-less c =
     let s = subst (λ (b : SchedState). RunsSince b.cases c.args.ended.position c.args.since) (sym c.self.view_is) c.requires.runs in
     let d = subst (λ (b : SchedState). Declares b.cases c.args.ended.position false) (sym c.self.view_is) c.requires.declares in
     let f = λ (b : SchedState). work b.cases in
-    subst (λ (k : ℕ). work r.new.cases.items < k) (ap f c.self.view_is) (body_finished v.0 v.1 v.2 _ c.args.ended c.args.since _ r.new.cases.items r.result _ v.3 (ap (λ (b : SchedState). b.asked) c.self.view_is ∙ c.requires.asked) c.requires.role s d (cc) r.ensures c.unless-self-inside.ensures).less
+    subst (λ (k : ℕ). work r.new.cases.items < k) (ap f c.self.view_is) (body_finished v.0 v.1 v.2 _ c.args.ended c.args.since _ r.new.cases.items r.result _ v.3 (ap (λ (b : SchedState). b.asked) c.self.view_is ∙ c.requires.asked) c.requires.role s d c.plain_record-case_record.ensures.verdict c.plain_record-case_record.ensures.rest r.ensures c.unless-self-inside.ensures).less

@@ -2,8 +2,9 @@ use Rattle.std.proofs.Common.{◌≡◌, ◌<◌, ℕ, sym, ◌∙◌, ap, subst
 use Rattle.std.specs.Prelude.{slice_get, Some}
 use Rattle.kt_base.specs.declared.role.Role.TheVariants.{Cleanup}
 use Rattle.kt_sched.specs.declared.case.Case.{Case}
-use Rattle.kt_sched.specs.SchedState.{SchedState, work, Stands, stage_runs}
-use Rattle.kt_sched.specs.Fed.{with_event}
+use Rattle.kt_sched.specs.Inner.Cases.{stage_runs}
+use Rattle.kt_sched.specs.SchedState.{SchedState, work, Stands}
+use Rattle.kt_sched.specs.Inner.Answers.{with_event}
 use Rattle.kt_sched.proofs.Cleaning.{cleanup_ended}
 use Rattle.kt_sched.proofs.sched.Sched.cleanup_ended.Goals as goal
 
@@ -13,14 +14,14 @@ invariant_of-self c =
     let r = c.replace_stage-taken in
     let t = c.take_body-body in
     let runs = let P : SchedState → Type 0 = λ b. (d : Case) × (slice_get b.cases c.args.ended.position ≡ Some d) × (stage_runs Cleanup d.stage ≡ true) in subst P (sym c.self.view_is) c.requires.runs in
-    (v.0, v.1, with_event v.2 _, (cleanup_ended v.0 v.1 v.2 _ c.args.ended _ t.new.cases.items r.new.cases.items t.result r.result _ v.3 (ap (λ (b : SchedState). b.asked) c.self.view_is ∙ c.requires.asked) c.requires.role runs t.ensures (cc) r.ensures c.unless-self-inside.ensures).stands)
+    (v.0, v.1, with_event v.2 _, (cleanup_ended v.0 v.1 v.2 _ c.args.ended _ t.new.cases.items r.new.cases.items t.result r.result _ v.3 (ap (λ (b : SchedState). b.asked) c.self.view_is ∙ c.requires.asked) c.requires.role runs t.ensures c.cleaned_record-case_record.ensures.verdict c.cleaned_record-case_record.ensures.rest r.ensures c.unless-self-inside.ensures).stands)
 
 pub returns-clause-stands : goal.returns-clause-stands
 returns-clause-stands c = λ plan n fed h.
     let r = c.replace_stage-taken in
     let t = c.take_body-body in
     let runs = let P : SchedState → Type 0 = λ b. (d : Case) × (slice_get b.cases c.args.ended.position ≡ Some d) × (stage_runs Cleanup d.stage ≡ true) in subst P (sym c.self.view_is) c.requires.runs in
-    (cleanup_ended plan n fed _ c.args.ended _ t.new.cases.items r.new.cases.items t.result r.result _ (subst (Stands plan n fed) (sym c.self.view_is) h) (ap (λ (b : SchedState). b.asked) c.self.view_is ∙ c.requires.asked) c.requires.role runs t.ensures (cc) r.ensures c.unless-self-inside.ensures).stands
+    (cleanup_ended plan n fed _ c.args.ended _ t.new.cases.items r.new.cases.items t.result r.result _ (subst (Stands plan n fed) (sym c.self.view_is) h) (ap (λ (b : SchedState). b.asked) c.self.view_is ∙ c.requires.asked) c.requires.role runs t.ensures c.cleaned_record-case_record.ensures.verdict c.cleaned_record-case_record.ensures.rest r.ensures c.unless-self-inside.ensures).stands
 
 pub returns-clause-less : goal.returns-clause-less
 returns-clause-less c =
@@ -29,4 +30,4 @@ returns-clause-less c =
     let t = c.take_body-body in
     let runs = let P : SchedState → Type 0 = λ b. (d : Case) × (slice_get b.cases c.args.ended.position ≡ Some d) × (stage_runs Cleanup d.stage ≡ true) in subst P (sym c.self.view_is) c.requires.runs in
     let f = λ (b : SchedState). work b.cases in
-    subst (λ (k : ℕ). work r.new.cases.items < k) (ap f c.self.view_is) (cleanup_ended v.0 v.1 v.2 _ c.args.ended _ t.new.cases.items r.new.cases.items t.result r.result _ v.3 (ap (λ (b : SchedState). b.asked) c.self.view_is ∙ c.requires.asked) c.requires.role runs t.ensures (cc) r.ensures c.unless-self-inside.ensures).less
+    subst (λ (k : ℕ). work r.new.cases.items < k) (ap f c.self.view_is) (cleanup_ended v.0 v.1 v.2 _ c.args.ended _ t.new.cases.items r.new.cases.items t.result r.result _ v.3 (ap (λ (b : SchedState). b.asked) c.self.view_is ∙ c.requires.asked) c.requires.role runs t.ensures c.cleaned_record-case_record.ensures.verdict c.cleaned_record-case_record.ensures.rest r.ensures c.unless-self-inside.ensures).less

@@ -1,7 +1,8 @@
 use Rattle.std.proofs.Common.{◌≡◌, sym, subst, true}
 use Rattle.std.specs.Prelude.{slice_get, Some}
 use Rattle.kt_sched.specs.declared.case.Case.{Case}
-use Rattle.kt_sched.specs.SchedState.{SchedState, stage_runs}
+use Rattle.kt_sched.specs.Inner.Cases.{stage_runs}
+use Rattle.kt_sched.specs.SchedState.{SchedState}
 use Rattle.kt_sched.proofs.Begin.{runs_since}
 use Rattle.kt_sched.proofs.sched.Sched.ended.Goals as goal
 

@@ -4,7 +4,7 @@ use Rattle.sqlite.specs.Held.{state}
 use Rattle.sqlite.specs.State.{HasCleanDisk}
 use Rattle.sqlite.proofs.StateLemmas.{survives_then, survives_weaker}
 use Rattle.kt_store.specs.Runs.{Keeps, new_run}
-use Rattle.kt_store.specs.Kept.{Changes, ChangesForGood}
+use Rattle.kt_store.specs.Inner.Kept.{Changes, ChangesForGood}
 use Rattle.kt_store.specs.Stands.{StandsFor}
 use Rattle.kt_store.proofs.ViewLemmas.{inside_stands, seen_survives}
 use Rattle.sqlite.specs.declared.types.Value.TheVariants.{Int}

@@ -2,7 +2,7 @@ use Rattle.std.proofs.Common.{◌∙◌, ap, arith, rules, pos, [], ◌∷◌}
 use Rattle.sqlite.specs.Held.{state}
 use Rattle.sqlite.specs.State.{HasCleanDisk}
 use Rattle.sqlite.proofs.StateLemmas.{survives_then}
-use Rattle.kt_store.specs.Runs.{entries_of}
+use Rattle.kt_store.specs.Inner.Runs.{entries_of}
 use Rattle.kt_store.specs.Stands.{StandsFor}
 use Rattle.kt_store.proofs.ViewLemmas.{inside_stands, seen_survives}
 use Rattle.sqlite.specs.declared.types.Value.TheVariants.{Int}

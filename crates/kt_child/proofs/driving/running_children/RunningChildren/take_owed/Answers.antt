@@ -2,10 +2,10 @@ use Rattle.std.proofs.Common.{◌≡◌, ◌∙◌, ◌+◌, ◌<◌, ◌==◌, 
 use Rattle.std.specs.Prelude.{remove}
 use Rattle.std.proofs.lemmas.Option.{slice_get-get_or}
 use Rattle.kt_child.specs.declared.planning.case.Case.{Case}
-use Rattle.kt_child.specs.Driving.ChildrenState.{ChildrenState, count_at, is_among}
-use Rattle.kt_child.proofs.StateSteps.{state_taken, free_taken}
+use Rattle.kt_child.specs.Inner.ChildrenState.{count_at}
+use Rattle.kt_child.specs.Driving.ChildrenState.{ChildrenState, is_among}
+use Rattle.kt_child.proofs.StateWaits.{free_taken, once_owed, state_taken}
 use Rattle.kt_child.proofs.OwedCases.{among_remove}
-use Rattle.kt_child.proofs.StateWaits.{once_owed}
 use Rattle.kt_child.proofs.driving.running_children.RunningChildren.take_owed.Goals as goal
 
 at : (c : goal.After-remove) → slice_get c.self.inside.pending.items c.place_of-place.result ≡ Some c.remove.result

@@ -1,10 +1,11 @@
 use Rattle.std.proofs.Common.{◌≡◌, ◌∙◌, ◌<◌, slice_get, Some, ap, sym, subst, arith, length, List}
 use Rattle.std.specs.Prelude.{remove}
 use Rattle.std.proofs.lemmas.Option.{slice_get-get_or}
-use Rattle.kt_child.specs.System.Calls.{Call, Chain}
+use Rattle.kt_base.specs.Chains.{Chain}
+use Rattle.kt_child.specs.System.Calls.{Call}
 use Rattle.kt_sched.specs.Children.{Child as Shown, IsEvidence}
 use Rattle.kt_child.specs.Driving.ChildrenState.{ChildrenState, Waited, shown_at}
-use Rattle.kt_child.proofs.StateWaits.{Once, state_after, same_children, waited_all, waited_one, waited_pending, waited_running}
+use Rattle.kt_child.proofs.StateWaits.{Once, same_children, state_after, waited_all, waited_one, waited_pending, waited_running}
 use Rattle.kt_child.proofs.driving.running_children.RunningChildren.wait.Goals as goal
 
 abbrev At : (g : _) → goal.After-forget g → Type 0

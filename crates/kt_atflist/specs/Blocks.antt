@@ -1,0 +1,31 @@
+-- Cases, as their blocks give them.
+use Rattle.std.specs.Prelude.{ℕ, Bool, not, List, [], ◌∷◌, ◌++◌, bytes_eq, None, is_some}
+use Rattle.std.specs.List.{list_any}
+use Rattle.kt_base.specs.LastValues.{is_named}
+use Rattle.kt_base.specs.declared.variable.Variable.{Variable}
+use Rattle.kt_metadata.specs.Properties.{definition_fault}
+use Rattle.kt_atflist.specs.declared.case_def.CaseDef.{CaseDef}
+
+-- a case has this name
+abbrev pub is_called : List ℕ → CaseDef → Bool
+is_called name case = bytes_eq name case.name
+
+-- one of these cases has this name
+abbrev pub is_listed : List CaseDef → List ℕ → Bool
+is_listed cases name = list_any (is_called name) cases
+
+-- one of these pairs has this name
+abbrev pub is_given : List Variable → List ℕ → Bool
+is_given pairs name = list_any (is_named name) pairs
+
+-- a case of this name, which has no property yet
+abbrev pub named : List ℕ → CaseDef
+named name = record { name = name; props = []; fault = None }
+
+-- a case with one more property
+abbrev pub with_property : CaseDef → List ℕ → List ℕ → CaseDef
+with_property block name value = record { name = block.name; props = block.props ++ record { name = name; value = value } ∷ []; fault = block.fault }
+
+-- a property may have this value
+abbrev pub is_good : List ℕ → List ℕ → Bool
+is_good name value = not (is_some (definition_fault name value))

@@ -1,0 +1,111 @@
+-- A result file, read from the left.
+use Rattle.std.specs.Prelude.{ℕ, Bool, true, false, not, ◌&&◌, ◌==◌, nat_eq, nat_lt, if◌then◌else◌, List, [], ◌∷◌, length, take, drop, codes, bytes_eq, Option, Some, None}
+use Rattle.std.specs.List.{prefix_len, starts_with, ends_with, list_any}
+use Rattle.kt_base.specs.Digits.{is_digit, up_to}
+use Rattle.kt_base.specs.Lossy.{lossy}
+use Rattle.kt_base.specs.Lines.{is_newline}
+use Rattle.kt_claim.specs.Bytes.{newline, is_word_byte, number}
+use Rattle.kt_claim.specs.ResultFile.{limit, line}
+use Rattle.kt_claim.specs.declared.claim.Claim.{Claim}
+use Rattle.kt_claim.specs.declared.claim.Claim.TheVariants as claim
+use Rattle.kt_claim.specs.declared.claim_fault.ClaimFault.TheVariants.{TooLong, Empty, NoNewline, SeveralLines, UnknownWord, BadNumber, UnexpectedReason, NoReason}
+use Rattle.kt_claim.specs.declared.word.Word.{Word}
+use Rattle.kt_claim.specs.declared.word.Word.TheVariants.{Passed, Failed, Skipped, ExpectedDeath, ExpectedFailure, ExpectedTimeout, ExpectedExit, ExpectedSignal}
+
+-- the word that a line begins with, if it is one of the eight
+unfoldable pub word_of : List ℕ → Option Word
+word_of w =
+    if bytes_eq w (codes "passed") then Some Passed
+    else if bytes_eq w (codes "failed") then Some Failed
+    else if bytes_eq w (codes "skipped") then Some Skipped
+    else if bytes_eq w (codes "expected_death") then Some ExpectedDeath
+    else if bytes_eq w (codes "expected_failure") then Some ExpectedFailure
+    else if bytes_eq w (codes "expected_timeout") then Some ExpectedTimeout
+    else if bytes_eq w (codes "expected_exit") then Some ExpectedExit
+    else if bytes_eq w (codes "expected_signal") then Some ExpectedSignal
+    else None
+
+-- a claim without a number
+abbrev pub claim_with : Word → List ℕ → Claim
+claim_with Passed _ = claim.Passed
+claim_with Failed r = claim.Failed r
+claim_with Skipped r = claim.Skipped r
+claim_with ExpectedDeath r = claim.ExpectedDeath r
+claim_with ExpectedFailure r = claim.ExpectedFailure r
+claim_with ExpectedTimeout r = claim.ExpectedTimeout r
+claim_with ExpectedExit r = claim.ExpectedExit None r
+claim_with ExpectedSignal r = claim.ExpectedSignal None r
+
+-- one of the two words that may have a number, with it
+abbrev pub numbered : Word → ℕ → List ℕ → Claim
+numbered ExpectedExit n r = claim.ExpectedExit (Some n) r
+numbered ExpectedSignal n r = claim.ExpectedSignal (Some n) r
+numbered _ n r = claim.Malformed BadNumber
+
+-- the reason, if one is given
+abbrev pub reason_in : List ℕ → Option (List ℕ)
+reason_in rest = if starts_with nat_eq rest (codes ": ") && nat_lt 2 (length rest) then Some (drop 2 rest) else None
+
+-- the claim with the reason that is given; none without one
+abbrev pub with_reason_in : (List ℕ → Claim) → Option (List ℕ) → Claim
+with_reason_in make None = claim.Malformed NoReason
+with_reason_in make (Some reason) = make (lossy reason)
+
+-- the number, and what follows its closing bracket
+abbrev pub closed : Option ℕ → List ℕ → Option (ℕ × List ℕ)
+closed None rest = None
+closed (Some n) [] = None
+closed (Some n) (b ∷ rest) = if b == 41 then Some (n, rest) else None
+
+-- the value of digits, if there are some and it is one of an exit status or of a signal
+abbrev pub value_of : List ℕ → Option ℕ
+value_of [] = None
+value_of (d ∷ digits) = up_to 255 (number (d ∷ digits))
+
+-- the number after an opening bracket, and what follows the closing one
+unfoldable pub number_in : List ℕ → Option (ℕ × List ℕ)
+number_in rest = closed (value_of (take (prefix_len is_digit rest) rest)) (drop (prefix_len is_digit rest) rest)
+
+-- the claim of a word with the number that is given
+abbrev pub with_number_in : Word → Option (ℕ × List ℕ) → Claim
+with_number_in w None = claim.Malformed BadNumber
+with_number_in w (Some found) = with_reason_in (numbered w found.0) (reason_in found.1)
+
+-- whether a word may have a number
+abbrev pub may_have_number : Word → Bool
+may_have_number ExpectedExit = true
+may_have_number ExpectedSignal = true
+may_have_number _ = false
+
+-- what follows the word, where a bracket does
+abbrev pub after_bracket : Word → List ℕ → Claim
+after_bracket w rest = if may_have_number w then with_number_in w (number_in rest) else claim.Malformed BadNumber
+
+-- what follows the word, where no bracket does
+abbrev pub plainly : Word → List ℕ → Claim
+plainly Passed [] = claim.Passed
+plainly Passed (_ ∷ _) = claim.Malformed UnexpectedReason
+plainly w rest = with_reason_in (claim_with w) (reason_in rest)
+
+-- what follows the word
+abbrev pub claim_after : Word → List ℕ → Claim
+claim_after w [] = plainly w []
+claim_after w (b ∷ rest) = if b == 40 then after_bracket w rest else plainly w (b ∷ rest)
+
+-- the claim of a line with this word
+abbrev pub after_known : Option Word → List ℕ → Claim
+after_known None rest = claim.Malformed UnknownWord
+after_known (Some w) rest = claim_after w rest
+
+-- the claim of a line
+unfoldable pub claim_of_line : List ℕ → Claim
+claim_of_line text = after_known (word_of (take (prefix_len is_word_byte text) text)) (drop (prefix_len is_word_byte text) text)
+
+-- the claim of a file
+unfoldable pub claim_of : List ℕ → Claim
+claim_of file =
+    if nat_lt limit (length file) then claim.Malformed TooLong
+    else if length file == 0 then claim.Malformed Empty
+    else if not (ends_with nat_eq file newline) then claim.Malformed NoNewline
+    else if list_any is_newline (line file) then claim.Malformed SeveralLines
+    else claim_of_line (line file)

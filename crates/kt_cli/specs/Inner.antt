@@ -1,0 +1,14 @@
+-- What private functions do: no public clause cites it.
+pub mod Debugging
+pub mod FaultLines
+pub mod HostAnswers
+pub mod HostFiles
+pub mod Meaning
+pub mod MemoryRuns
+pub mod Pages
+pub mod Recording
+pub mod Recordings
+pub mod Reports
+pub mod Shown
+pub mod Stores
+pub mod Testing

@@ -1,0 +1,34 @@
+-- What `debug` prints of the case that it runs.
+use Rattle.std.specs.Prelude.{ℕ, Bool, List, [], ◌≡◌, false, Option, Result, Ok, Err}
+use Rattle.kt_base.specs.declared.entry.Entry.{Entry}
+use Rattle.kt_base.specs.declared.role.Role.{Role}
+use Rattle.kt_sched.specs.declared.job.Job.{Job}
+use Rattle.kt_sched.specs.declared.start_answer.StartAnswer.{StartAnswer}
+use Rattle.kt_sched.specs.declared.ended.Ended.{Ended}
+use Rattle.kt_sched.specs.declared.run_fault.RunFault.{RunFault}
+use Rattle.kt_sched.specs.declared.run_fault.RunFault.TheVariants.{NoMemory, SinkFailed}
+use Rattle.kt_sched.specs.declared.sink_fault.SinkFault.{SinkFault}
+use Rattle.kt_sched.specs.declared.totals.Totals.{Totals}
+use Rattle.kt_sched.specs.Run.{Counts}
+use Rattle.kt_sched.specs.Trace.{Trace, NoEvent, Leads}
+use Rattle.kt_cli.specs.Inner.Pages.{Says}
+use Rattle.kt_cli.specs.Recordings.{AllRecorded}
+use Rattle.kt_cli.specs.Debugging.{all_debug_bytes, debug_bytes}
+
+-- an entry is printed, and never refused
+abbrev pub Prints : Bool → Option (List ℕ) → Entry → Result (Unit {0}) SinkFault → Bool → Option (List ℕ) → Type 0
+Prints failed held entry answer failed' held' = (answer ≡ Ok tt) × Says held failed held' failed' (debug_bytes entry)
+
+-- how a plan that was run for `debug` ended: each case was printed, or memory ran out before one was started
+abbrev pub DebugEnds : List Job → Trace → List Entry → Result Totals RunFault → Type 0
+DebugEnds plan T entries (Ok totals) = AllRecorded plan 1 T entries × Counts entries totals
+DebugEnds plan T entries (Err (NoMemory refusal)) = (T ≡ NoEvent) × (entries ≡ [])
+DebugEnds plan T entries (Err (SinkFailed fault)) = ⊥
+
+-- a plan was run one case at a time, and each case printed
+pub record Debugged {L : Type 0} (starts : L → Job → Role → StartAnswer → L → Type 0) (waits : L → Ended → L → Type 0) (plan : List Job) (old new : L) (was now : Option (List ℕ)) (failed : Bool) (answer : Result Totals RunFault) : Type 0 where
+  pub trace : Trace
+  pub leads : Leads starts waits plan trace old new
+  pub entries : List Entry
+  pub says : Says was false now failed (all_debug_bytes entries)
+  pub ends : DebugEnds plan trace entries answer

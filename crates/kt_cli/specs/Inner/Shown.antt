@@ -1,0 +1,35 @@
+-- The run that is read to be shown, or why none is.
+use Rattle.std.specs.Prelude.{ℕ, List, [], ◌∷◌, ◌≡◌, Option, Some, None, Result, Ok, Err}
+use Rattle.kt_base.specs.declared.entry.Entry.{Entry}
+use Rattle.kt_base.specs.declared.run.Run.{Run}
+use Rattle.kt_store.specs.StoreCalls.{StoreCall, Heads, Read}
+use Rattle.kt_store.specs.declared.run_head.RunHead.{RunHead}
+use Rattle.kt_store.specs.declared.store_fault.StoreFault.{StoreFault}
+use Rattle.kt_cli.specs.declared.not_shown.NotShown.{NotShown}
+use Rattle.kt_cli.specs.declared.not_shown.NotShown.TheVariants.{NoRuns, NoRun, Refused}
+use Rattle.kt_cli.specs.FaultLines.{refusal_line}
+use Rattle.kt_cli.specs.Reports.{chosen, missing_line, no_runs_line, no_run_line, run_of}
+use Rattle.kt_cli.specs.Stores.{Stored}
+
+-- the line that says why no run is shown
+abbrev pub not_shown_line : NotShown → List ℕ
+not_shown_line NoRuns = no_runs_line
+not_shown_line (NoRun number) = no_run_line number
+not_shown_line (Refused fault) = refusal_line fault
+
+-- none of these heads is the chosen one, and the line says so
+abbrev pub IsMissing : Option ℕ → List RunHead → NotShown → Type 0
+IsMissing number heads why = missing_line number heads ≡ not_shown_line why
+
+-- what the store answered to one who looked for the run of a number, and what was found
+pub data FindsRun (number : Option ℕ) : List StoreCall → Result Run NotShown → Type 0 where
+  read : (heads : List RunHead) (head : RunHead) (entries : List Entry) → chosen number heads ≡ Some head → FindsRun number (Heads (Ok heads) ∷ Read head.number (Ok entries) ∷ []) (Ok (run_of head entries))
+  missing : (heads : List RunHead) (why : NotShown) → chosen number heads ≡ None → IsMissing number heads why → FindsRun number (Heads (Ok heads) ∷ []) (Err why)
+  no_heads : (fault : StoreFault) → FindsRun number (Heads (Err fault) ∷ []) (Err (Refused fault))
+  no_entries : (heads : List RunHead) (head : RunHead) (fault : StoreFault) → chosen number heads ≡ Some head → FindsRun number (Heads (Ok heads) ∷ Read head.number (Err fault) ∷ []) (Err (Refused fault))
+
+-- the calls on a store by which a run was looked for
+pub record ReadsRun {R : Type 0} (Answers : R → StoreCall → R → Type 0) (Stands : R → List Run → Type 0) (Sound : R → Type 0) (Leaves : R → List (List Run) → Type 0) (number : Option ℕ) (old new : R) (answer : Result Run NotShown) : Type 0 where
+  pub calls : List StoreCall
+  pub stored : Stored Answers Stands Sound Leaves calls old new
+  pub finds : FindsRun number calls answer

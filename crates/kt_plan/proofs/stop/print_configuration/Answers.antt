@@ -1,0 +1,13 @@
+use lib.Utf8.{encode}
+use Rattle.std.specs.Prelude.{codes}
+use Rattle.std.proofs.Common.{sym, ◌∙◌}
+use Rattle.kt_base.proofs.Showing.{shows_as, utf8-append}
+use Rattle.kt_config.specs.FaultWords.{config_words}
+use Rattle.kt_plan.proofs.StopWords.{utf8-config}
+use Rattle.kt_plan.proofs.stop.print_configuration.Goals as goal
+
+pub returns : goal.returns
+unfolding encode
+returns g c =
+    let words = c.as_bytes.ensures.value ∙ c.words.ensures ∙ sym (utf8-config c.args.fault) in
+    shows_as (sym (utf8-append (codes "configuration: ") (config_words c.args.fault))) (rw words at c.emit_all.ensures)

@@ -1,0 +1,21 @@
+-- The words of a stop, as its line has them.
+use Rattle.std.specs.Prelude.{ℕ, List, ◌++◌, codes}
+use Rattle.kt_config.specs.FaultWords.{config_words}
+use Rattle.kt_suite.specs.FaultWords.{fault_words, filter_words}
+use Rattle.kt_plan.specs.declared.stop.Stop.{Stop}
+use Rattle.kt_plan.specs.declared.stop.Stop.TheVariants as stop
+
+-- a word in quotes, and what is wrong with it
+abbrev pub quoted_words : List ℕ → List ℕ → List ℕ → List ℕ
+quoted_words what word fault = what ++ codes " '" ++ word ++ codes "': " ++ fault
+
+-- the words of a stop
+abbrev pub stop_words : Stop → List ℕ
+stop_words (stop.NoMemory refusal) = codes "out of memory"
+stop_words stop.UnreadConfiguration = codes "configuration: could not be read"
+stop_words (stop.Configuration fault) = codes "configuration: " ++ config_words fault
+stop_words (stop.Variable name fault) = quoted_words (codes "variable") name (config_words fault)
+stop_words (stop.Filter word fault) = quoted_words (codes "filter") word (filter_words fault)
+stop_words stop.NeedsCase = codes "debug needs PROGRAM:CASE"
+stop_words (stop.Tree fault) = fault_words fault
+stop_words stop.TooManyCases = codes "too many cases"

@@ -1,0 +1,3 @@
+-- What private functions do: no public clause cites it.
+pub mod Bounds
+pub mod Removals

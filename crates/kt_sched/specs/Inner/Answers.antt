@@ -1,0 +1,30 @@
+-- How answers are fed and entries counted.
+use Rattle.std.specs.Prelude.{ℕ, not, cond, ◌+◌, ◌≤◌}
+use Rattle.kt_base.specs.declared.kind.Kind.{Kind}
+use Rattle.kt_base.specs.Kinds.{good as is_good}
+use Rattle.kt_sched.specs.declared.start_answer.StartAnswer.{StartAnswer}
+use Rattle.kt_sched.specs.declared.start_answer.StartAnswer.TheVariants as told
+use Rattle.kt_sched.specs.declared.answer.Answer.{Answer}
+use Rattle.kt_sched.specs.declared.answer.Answer.TheVariants as answer
+use Rattle.kt_sched.specs.declared.totals.Totals.{Totals}
+use Rattle.kt_sched.specs.Trace.{Event, Then}
+use Rattle.kt_sched.specs.Fed.{Fed}
+
+-- one more event
+abbrev pub with_event : Fed → Event → Fed
+with_event fed e = record fed { trace = Then fed.trace e }
+
+-- the answer of a launcher to a start, as the core takes it
+abbrev pub answer_of : StartAnswer → Answer
+answer_of (told.Started moment) = answer.Started moment
+answer_of (told.Refused cause) = answer.Refused cause
+
+-- the totals with one more entry
+abbrev pub counted : Totals → Kind → Totals
+counted t kind = record { total = t.total + 1; good = t.good + cond (is_good kind) 1 0; bad = t.bad + cond (not (is_good kind)) 1 0 }
+
+-- one more entry can be counted
+pub record CanCount (t : Totals) (limit : ℕ) : Type 0 where
+  pub total : t.total + 1 ≤ limit
+  pub good : t.good ≤ t.total
+  pub bad : t.bad ≤ t.total

@@ -1,0 +1,121 @@
+-- What the steps of the core do to its cases.
+use Rattle.std.specs.Prelude.{ℕ, Bool, true, false, List, ◌++◌, ◌≡◌, ◌-◌, Option, Some, None, filter, map, drop, not, slice_get, slice_set, is_some, if◌then◌else◌}
+use Rattle.kt_base.specs.declared.entry.Entry.{Entry}
+use Rattle.kt_base.specs.declared.output.Output.{Output}
+use Rattle.kt_base.specs.declared.role.Role.{Role}
+use Rattle.kt_base.specs.declared.role.Role.TheVariants.{Body, Cleanup}
+use Rattle.kt_base.specs.Verdicts.{Judged}
+use Rattle.kt_sched.specs.declared.job.Job.{Job}
+use Rattle.kt_sched.specs.declared.ended.Ended.{Ended}
+use Rattle.kt_sched.specs.declared.stage.Stage.{Stage}
+use Rattle.kt_sched.specs.declared.stage.Stage.TheVariants.{Waiting, Decided, Running, Owing, Cleaning, Taken}
+use Rattle.kt_sched.specs.declared.case.Case.{Case}
+use Rattle.kt_sched.specs.declared.ended_body.EndedBody.{EndedBody}
+use Rattle.kt_sched.specs.declared.case_record.CaseRecord.{CaseRecord}
+use Rattle.kt_sched.specs.EntryOf.{no_output}
+use Rattle.kt_sched.specs.SchedState.{entry_with, record_in}
+
+-- a stage runs in a role
+abbrev pub stage_runs : Role → Stage → Bool
+stage_runs Body (Running m) = true
+stage_runs Cleanup (Cleaning b) = true
+stage_runs role other = false
+
+-- the stage before the first answer
+abbrev pub first_stage : Option Judged → Stage
+first_stage None = Waiting
+first_stage (Some verdict) = Decided
+
+-- a case before the first answer
+abbrev pub first_case : Job → Case
+first_case job = record { job = job; stage = first_stage job.decided }
+
+-- the case at i has this stage in place of that one, and nothing else is changed
+pub record Replaced (old new : List Case) (i : ℕ) (stage was : Stage) : Type 0 where
+  pub job : Job
+  pub found : slice_get old i ≡ Some (record { job = job; stage = was })
+  pub changed : new ≡ slice_set old i (record { job = job; stage = stage })
+
+-- the ended body of a stage
+abbrev pub body_in : Stage → Option EndedBody
+body_in (Owing b) = Some b
+body_in (Cleaning b) = Some b
+body_in _ = None
+
+-- a case that has such a body
+pub record HasBody (cases : List Case) (i : ℕ) : Type 0 where
+  pub case : Case
+  pub found : slice_get cases i ≡ Some case
+  pub is : is_some (body_in case.stage) ≡ true
+
+-- its body was taken out
+pub record TookBody (old new : List Case) (i : ℕ) (body : EndedBody) : Type 0 where
+  pub was : Stage
+  pub is : body_in was ≡ Some body
+  pub replaced : Replaced old new i Taken was
+
+-- the moment since which a stage runs a body
+abbrev pub since : Stage → Option ℕ
+since (Running m) = Some m
+since _ = None
+
+-- a case whose body runs, with the moment
+pub record RunsSince (cases : List Case) (i m : ℕ) : Type 0 where
+  pub case : Case
+  pub found : slice_get cases i ≡ Some case
+  pub is : since case.stage ≡ Some m
+
+-- whether a case declares a cleanup
+pub record Declares (cases : List Case) (i : ℕ) (flag : Bool) : Type 0 where
+  pub case : Case
+  pub found : slice_get cases i ≡ Some case
+  pub is : flag ≡ case.job.cleanup
+
+-- position and names are kept
+pub record KeepsNames (old new : Job) : Type 0 where
+  pub position : new.position ≡ old.position
+  pub program : new.program ≡ old.program
+  pub case_name : new.case_name ≡ old.case_name
+  pub meta : new.meta ≡ old.meta
+
+-- the entry is made from the record of this case
+abbrev pub IsEntryFrom : Case → Entry → Type 0
+IsEntryFrom case entry = (t : CaseRecord) × (record_in case.job case.stage ≡ Some t) × (entry ≡ entry_with case.job t)
+
+-- the entry of a case was taken
+pub record TookEntry (old new : List Case) (i : ℕ) (entry : Entry) : Type 0 where
+  pub had : Job
+  pub was : Stage
+  pub left : Job
+  pub case_record : CaseRecord
+  pub found : slice_get old i ≡ Some (record { job = had; stage = was })
+  pub told : record_in had was ≡ Some case_record
+  pub is : entry ≡ entry_with had case_record
+  pub changed : new ≡ slice_set old i (record { job = left; stage = Taken })
+
+-- the record of a case with this verdict, whose cleanup was over at this last moment
+abbrev pub record_of : Judged → EndedBody → ℕ → Output → CaseRecord
+record_of verdict body last output =
+    record { verdict = verdict; started = body.started; millis = last - body.started; body = body.output; cleanup = output }
+
+-- the record of a case with this verdict and without a declared cleanup
+abbrev pub plain_record : Judged → ℕ → Ended → CaseRecord
+plain_record verdict started e =
+    record { verdict = verdict; started = started; millis = e.moment - started; body = e.output; cleanup = no_output }
+
+-- a position to put, unless a put failed
+abbrev pub unless : Bool → ℕ → Option ℕ
+unless failed i = if failed then None else Some i
+
+-- whether two flags are the same
+abbrev pub same_flag : Bool → Bool → Bool
+same_flag true b = b
+same_flag false b = not b
+
+-- the positions of the cases that are exclusive, or of those that aren't
+abbrev pub positions_where : Bool → List Job → List ℕ
+positions_where flag jobs = map (λ (job : Job). job.position) (filter (λ (job : Job). same_flag flag job.exclusive) jobs)
+
+-- the first i jobs of a plan were visited
+abbrev pub GoneThrough : Bool → List Job → List ℕ → ℕ → List ℕ → Type 0
+GoneThrough flag plan old i order = old ++ positions_where flag plan ≡ order ++ positions_where flag (drop i plan)

@@ -1,0 +1,29 @@
+-- Which case has its turn, and what is chosen.
+use Rattle.std.specs.Prelude.{ℕ, true, ◌≡◌, ◌<◌, ◌≤◌, ◌⊎◌, List, length, slice_get, Option, Some, None}
+use Rattle.kt_base.specs.declared.role.Role.TheVariants.{Body, Cleanup}
+use Rattle.kt_sched.specs.declared.next.Next.{Next}
+use Rattle.kt_sched.specs.declared.next.Next.TheVariants as next
+use Rattle.kt_sched.specs.declared.case.Case.{Case}
+use Rattle.kt_sched.specs.SchedState.{SchedState, HasExclusive, HasTurn}
+
+-- a case that is exclusive
+abbrev pub IsExclusive : List Case → ℕ → Type 0
+IsExclusive cases i = HasExclusive cases i true
+
+-- no case has its turn, or there is no room for it
+abbrev pub IsHeld : SchedState → Type 0
+IsHeld b =
+    (b.failed ≡ true) ⊎ ((length b.order ≤ b.turn) ⊎ ((b.width ≤ b.active) ⊎ ((0 < b.active) × ((i : ℕ) × (slice_get b.order b.turn ≡ Some i) × IsExclusive b.cases i))))
+
+-- the case whose turn it is, if there is room for one
+abbrev pub IsTurn : SchedState → Option ℕ → Type 0
+IsTurn b None = IsHeld b
+IsTurn b (Some i) = HasTurn b i
+
+-- what is chosen in a state
+abbrev pub IsChosen : SchedState → Next → Type 0
+IsChosen b (next.Put i) = b.ready ≡ Some i
+IsChosen b (next.Start i Cleanup) = (b.ready ≡ None) × (b.pending ≡ Some i)
+IsChosen b (next.Start i Body) = (b.ready ≡ None) × (b.pending ≡ None) × HasTurn b i
+IsChosen b next.Wait = (b.ready ≡ None) × (b.pending ≡ None) × (0 < b.active) × IsHeld b
+IsChosen b next.Done = (b.ready ≡ None) × (b.pending ≡ None) × (b.active ≡ 0) × IsHeld b

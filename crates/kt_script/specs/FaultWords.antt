@@ -1,0 +1,13 @@
+-- The words of a fault, as its line has them.
+use Rattle.std.specs.Prelude.{ℕ, List, codes}
+use Rattle.kt_script.specs.declared.fault.ScriptFault.{ScriptFault}
+use Rattle.kt_script.specs.declared.fault.ScriptFault.TheVariants.{NoMemory, NotUtf8, BadToken, NotLiteral, Unclosed, TooLong}
+
+-- the words of a script's fault, which don't say its line
+abbrev pub script_words : ScriptFault → List ℕ
+script_words (NoMemory refusal) = codes "out of memory"
+script_words NotUtf8 = codes "not UTF-8"
+script_words (BadToken line) = codes "bad token"
+script_words (NotLiteral line) = codes "not in the literal profile"
+script_words (Unclosed line) = codes "unclosed string, comment or bracket"
+script_words TooLong = codes "file too long"

@@ -1,0 +1,26 @@
+-- Comments.
+use Rattle.std.specs.Prelude.{ℕ, suc, ◌+◌, ◌&&◌, not, nat_eq, codes, List, [], ◌∷◌, drop, Option, Some, None, option_map, if◌then◌else◌}
+use Rattle.std.specs.List.{starts_with, prefix_len}
+use Rattle.kt_script.specs.declared.token.Flaw.TheVariants.{Bad, Leveled, Endless}
+use Rattle.kt_script.specs.declared.piece.Piece.{Piece}
+use Rattle.kt_base.specs.Lines.{is_newline}
+use Rattle.kt_script.specs.TokenRules.{is_level}
+use Rattle.kt_script.specs.Inner.Pieces.{blank, broken}
+
+-- how many bytes there are up to the next `]]`, and with it
+abbrev pub closes_at : List ℕ → Option ℕ
+closes_at [] = None
+closes_at (c ∷ cs) = if starts_with nat_eq (c ∷ cs) (codes "]]") then Some 2 else option_map suc (closes_at cs)
+
+-- a comment in long brackets
+abbrev pub long_comment : List ℕ → Option ℕ → Piece
+long_comment text None = broken text Endless
+long_comment text (Some n) = blank (n + 4)
+
+-- a comment that may be one of several lines, or goes to its line's end, which may be the text's
+abbrev pub comment_at : List ℕ → Piece
+comment_at text =
+    if starts_with nat_eq text (codes "--[[") then long_comment text (closes_at (drop 4 text))
+    else if starts_with nat_eq text (codes "--[") && is_level (drop 3 text) then broken text Leveled
+    else if starts_with nat_eq text (codes "--") then blank (2 + prefix_len (λ c. not (is_newline c)) (drop 2 text))
+    else broken text Bad

@@ -1,0 +1,46 @@
+-- The tokens of a text, with their lines.
+use Rattle.std.specs.Prelude.{ℕ, zero, suc, ◌-◌, ◌==◌, ◌||◌, List, [], ◌∷◌, ◌++◌, Option, Some, None, if◌then◌else◌}
+use Rattle.std.specs.List.{prefix_len}
+use Rattle.kt_script.specs.declared.token.Flaw.TheVariants.{Bad}
+use Rattle.kt_script.specs.declared.token.Kind.{Kind}
+use Rattle.kt_script.specs.declared.token.Token.{Token}
+use Rattle.kt_script.specs.declared.piece.Piece.{Piece}
+use Rattle.kt_base.specs.Characters.{is_space}
+use Rattle.kt_script.specs.Letters.{is_letter}
+use Rattle.kt_script.specs.TokenRules.{mark_of, line_after}
+use Rattle.kt_base.specs.Digits.{is_digit}
+use Rattle.kt_script.specs.Inner.Pieces.{blank, token, broken}
+use Rattle.kt_script.specs.Inner.Words.{name_at, number_at}
+use Rattle.kt_script.specs.Inner.Strings.{quoted_at}
+use Rattle.kt_script.specs.Inner.Comments.{comment_at}
+
+-- the token of a mark, if the byte is one
+abbrev pub marked : List ℕ → Option Kind → Piece
+marked text None = broken text Bad
+marked text (Some kind) = token 1 kind
+
+-- what begins here
+unfoldable pub piece_at : List ℕ → Piece
+piece_at [] = blank 0
+piece_at (c ∷ cs) =
+    if is_space c then blank (prefix_len is_space (c ∷ cs))
+    else if is_letter c then name_at (c ∷ cs)
+    else if is_digit c then number_at (c ∷ cs)
+    else if c == 34 || c == 39 then quoted_at c (c ∷ cs)
+    else if c == 45 then comment_at (c ∷ cs)
+    else marked (c ∷ cs) (mark_of c)
+
+-- the token of a piece, if it is one
+abbrev pub tokens_in : ℕ → Option Kind → List Token
+tokens_in line None = []
+tokens_in line (Some kind) = record { line = line; kind = kind } ∷ []
+
+-- the tokens of a text that begins on this line, where its first n bytes belong to the piece before
+unfoldable pub tokens : ℕ → ℕ → List ℕ → List Token
+tokens line n [] = []
+tokens line zero (c ∷ cs) = let piece = piece_at (c ∷ cs) in tokens_in line piece.kind ++ tokens (line_after line c) (piece.length - 1) cs
+tokens line (suc n) (c ∷ cs) = tokens (line_after line c) n cs
+
+-- the tokens of a text, from line 1 on
+abbrev pub tokens_of : List ℕ → List Token
+tokens_of text = tokens 1 0 text

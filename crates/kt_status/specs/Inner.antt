@@ -1,0 +1,2 @@
+-- The verdicts as private functions compute them.
+pub mod Verdicts

@@ -1,0 +1,112 @@
+-- The verdict tables as functions. Each line of a definition is a row, and a row fits if none above it does.
+use Rattle.std.specs.Prelude.{ℕ, Bool, false, List, ◌++◌, codes, if◌then◌else◌, nat_eq, nat_lt, Option, Some, None}
+use Rattle.std.specs.Fmt.{decimal}
+use Rattle.kt_base.specs.declared.outcome.Outcome.{Outcome}
+use Rattle.kt_base.specs.declared.outcome.Outcome.TheVariants.{Exited, Signaled, TimedOut, WaitFailed}
+use Rattle.kt_base.specs.declared.refused.Refused.{Refused}
+use Rattle.kt_base.specs.declared.refused.Refused.TheVariants as refused
+use Rattle.kt_base.specs.Reasons.{ending_text}
+use Rattle.kt_base.specs.Kinds.{good}
+use Rattle.kt_base.specs.Verdicts.{Judged, passed, skipped, expected_failure, failed, broken}
+use Rattle.kt_claim.specs.declared.claim.Claim.{Claim}
+use Rattle.kt_claim.specs.declared.claim.Claim.TheVariants.{Missing, Unreadable, Malformed, Passed, Failed, Skipped, ExpectedFailure, ExpectedDeath, ExpectedTimeout, ExpectedExit, ExpectedSignal}
+use Rattle.kt_claim.specs.declared.tap.Tap.{Tap}
+use Rattle.kt_claim.specs.declared.tap.Tap.TheVariants.{Invalid, BailedOut, SkipAll, Counted}
+use Rattle.kt_claim.specs.declared.evidence.Evidence.{Evidence}
+use Rattle.kt_claim.specs.declared.evidence.Evidence.TheVariants as evidence
+use Rattle.kt_status.specs.Tables.{claim_fault_text, tap_fault_text}
+use Rattle.kt_status.specs.declared.cleanup_end.CleanupEnd.{CleanupEnd}
+use Rattle.kt_status.specs.declared.cleanup_end.CleanupEnd.TheVariants as cleanup
+
+-- a process exited with this code
+abbrev pub exits_with : ℕ → Outcome → Bool
+exits_with n (Exited code) = nat_eq code n
+exits_with n _ = false
+
+-- an exit was expected, with this code or with any
+abbrev pub expected_exit : Option ℕ → List ℕ → Outcome → Judged
+expected_exit None reason (Exited _) = expected_failure reason
+expected_exit (Some due) reason (Exited code) =
+    if nat_eq due code then expected_failure reason else failed (codes "Expected exit code " ++ decimal due ++ codes " but got " ++ decimal code)
+expected_exit _ _ ending = broken (codes "Expected clean exit but " ++ ending_text ending)
+
+-- a signal was expected, this one or any
+abbrev pub expected_signal : Option ℕ → List ℕ → Outcome → Judged
+expected_signal None reason (Signaled _ _) = expected_failure reason
+expected_signal (Some due) reason (Signaled signal _) =
+    if nat_eq due signal then expected_failure reason else failed (codes "Expected signal " ++ decimal due ++ codes " but got " ++ decimal signal)
+expected_signal _ _ ending = broken (codes "Expected signal but " ++ ending_text ending)
+
+-- an ATF case whose body ended by itself
+abbrev pub atf_ended : Claim → Outcome → Judged
+atf_ended Missing ending = broken (codes "Premature exit; test case " ++ ending_text ending)
+atf_ended Unreadable ending = broken (codes "Results file could not be read")
+atf_ended (Malformed fault) ending = broken (codes "Invalid result file: " ++ claim_fault_text fault)
+atf_ended Passed ending = if exits_with 0 ending then passed else broken (codes "Passed test case should have reported success but " ++ ending_text ending)
+atf_ended (Skipped reason) ending = if exits_with 0 ending then skipped reason else broken (codes "Skipped test case should have reported success but " ++ ending_text ending)
+atf_ended (ExpectedFailure reason) ending =
+    if exits_with 0 ending then expected_failure reason else broken (codes "Expected failure should have reported success but " ++ ending_text ending)
+atf_ended (Failed reason) ending = if exits_with 1 ending then failed reason else broken (codes "Failed test case should have reported failure but " ++ ending_text ending)
+atf_ended (ExpectedDeath reason) ending = expected_failure reason
+atf_ended (ExpectedExit due reason) ending = expected_exit due reason ending
+atf_ended (ExpectedSignal due reason) ending = expected_signal due reason ending
+atf_ended (ExpectedTimeout reason) ending = broken (codes "Expected timeout but " ++ ending_text ending)
+
+-- an ATF case that ran out of time
+abbrev pub atf_late : Claim → Judged
+atf_late (ExpectedTimeout reason) = expected_failure reason
+atf_late _ = broken (codes "Test case body timed out")
+
+-- an ATF case
+abbrev pub atf_verdict : Claim → Outcome → Judged
+atf_verdict claim WaitFailed = broken (codes "Test case could not be waited for")
+atf_verdict claim TimedOut = atf_late claim
+atf_verdict claim ending = atf_ended claim ending
+
+-- a plain case
+abbrev pub plain_verdict : Outcome → Judged
+plain_verdict WaitFailed = broken (codes "Test case could not be waited for")
+plain_verdict TimedOut = broken (codes "Test case timed out")
+plain_verdict (Signaled signal _) = broken (codes "Received signal " ++ decimal signal)
+plain_verdict (Exited code) = if nat_eq code 0 then passed else failed (codes "Returned non-success exit status " ++ decimal code)
+
+-- a TAP case whose program exited with this code
+abbrev pub tap_exited : Tap → ℕ → Judged
+tap_exited BailedOut code = failed (codes "Bailed out")
+tap_exited (Invalid fault) code = broken (codes "TAP test program yielded invalid data: " ++ tap_fault_text fault)
+tap_exited (SkipAll reason) code = skipped reason
+tap_exited (Counted some all) code =
+    if nat_lt 0 some then failed (decimal some ++ codes " of " ++ decimal all ++ codes " tests failed")
+    else if nat_eq code 0 then passed
+    else broken (codes "Dubious test program: reported all tests as passed but returned exit code " ++ decimal code)
+
+-- a TAP case
+abbrev pub tap_verdict : Tap → Outcome → Judged
+tap_verdict tap WaitFailed = broken (codes "Test case could not be waited for")
+tap_verdict tap TimedOut = broken (codes "Test case timed out")
+tap_verdict tap (Signaled signal _) = broken (codes "Received signal " ++ decimal signal)
+tap_verdict tap (Exited code) = tap_exited tap code
+
+-- the verdict of a body, by the table of its interface
+abbrev pub verdict_of : Evidence → Outcome → Judged
+verdict_of (evidence.Atf claim) ending = atf_verdict claim ending
+verdict_of (evidence.Tap tap) ending = tap_verdict tap ending
+verdict_of evidence.Plain ending = plain_verdict ending
+
+-- a body or a list that could not be started
+abbrev pub verdict_of_refusal : Refused → Judged
+verdict_of_refusal refused.Directory = broken (codes "Work directory could not be made")
+verdict_of_refusal refused.Output = broken (codes "Output files could not be made")
+verdict_of_refusal refused.Spawn = broken (codes "Test program could not be started")
+verdict_of_refusal refused.Memory = broken (codes "Test case could not be started for want of memory")
+
+-- a good verdict after the end of a cleanup
+abbrev pub cleaned : Judged → CleanupEnd → Judged
+cleaned body (cleanup.Ended (Exited code)) = if nat_eq code 0 then body else broken (codes "Test case cleanup did not terminate successfully")
+cleaned body (cleanup.Ended TimedOut) = broken (codes "Test case cleanup timed out")
+cleaned body (cleanup.Ended _) = broken (codes "Test case cleanup did not terminate successfully")
+cleaned body cleanup.Refused = broken (codes "Test case cleanup could not be started")
+
+-- a bad verdict stays
+abbrev pub verdict_after_cleanup : Judged → CleanupEnd → Judged
+verdict_after_cleanup body end = if good body.kind then cleaned body end else body

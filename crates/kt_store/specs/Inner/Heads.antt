@@ -1,0 +1,27 @@
+-- The heads of runs, and the columns that they are read from.
+use Rattle.std.specs.Prelude.{ℕ, pos, List, [], ◌∷◌, map, flat_map}
+use Rattle.sqlite.specs.declared.types.Value.TheVariants.{Int, Text, Blob}
+use Rattle.sqlite.specs.Order.{Row}
+use Rattle.kt_base.specs.declared.run.Run.{Run}
+use Rattle.kt_base.specs.declared.entry.Entry.{Entry}
+use Rattle.kt_base.specs.declared.variable.Variable.{Variable}
+use Rattle.kt_base.specs.Utf8.{utf8}
+use Rattle.kt_store.specs.Runs.{flag, kind_code}
+
+-- the columns of a run, as the query for all runs shows them
+abbrev pub head_columns : Run → Row
+head_columns r = Int (pos r.number) ∷ Int (pos r.started) ∷ Int (pos r.total) ∷ Int (flag r.finished) ∷ []
+
+-- the columns of an entry, as the query for a run's entries shows them
+abbrev pub entry_columns : Entry → Row
+entry_columns e =
+    Int (pos e.position) ∷ Text (utf8 e.program) ∷ Text (utf8 e.case_name) ∷ Int (pos (kind_code e.verdict.kind)) ∷ Text (utf8 e.verdict.reason) ∷ Int (pos e.started) ∷ Int (pos e.millis)
+    ∷ Blob e.body.out ∷ Blob e.body.err ∷ Blob e.cleanup.out ∷ Blob e.cleanup.err ∷ []
+
+-- the columns of a pair of the entry at a position, as the query for a run's pairs shows them
+abbrev pub pair_columns : ℕ → Variable → Row
+pair_columns position v = Int (pos position) ∷ Text (utf8 v.name) ∷ Text (utf8 v.value) ∷ []
+
+-- the rows of the pairs of these entries, as the query for a run's pairs shows them
+abbrev pub pairs_shown : List Entry → List Row
+pairs_shown es = flat_map (λ e. map (pair_columns e.position) e.meta) es

@@ -1,0 +1,66 @@
+-- The words of faults as bytes.
+use Rattle.std.proofs.Common.{◌≡◌, ℕ, List, ◌++◌, refl, ap, ◌∙◌}
+use lib.Utf8.{encode}
+use Rattle.kt_base.specs.Utf8.{utf8}
+use Rattle.kt_base.proofs.Showing.{utf8-append}
+use Rattle.kt_script.specs.declared.fault.ScriptFault.{ScriptFault}
+use Rattle.kt_script.specs.declared.fault.ScriptFault.TheVariants as script
+use Rattle.kt_script.specs.FaultWords.{script_words}
+use Rattle.kt_suite.specs.declared.cause.SuiteCause.{SuiteCause}
+use Rattle.kt_suite.specs.declared.cause.SuiteCause.TheVariants as cause
+use Rattle.kt_suite.specs.FaultWords.{fixed_words, cause_words}
+
+-- a cause without a number has these words
+pub fixed-cause : (c : SuiteCause) → ((n : ℕ) → c ≡ cause.WrongSyntax n → ⊥) → fixed_words c ≡ cause_words c
+fixed-cause (cause.NoMemory refusal) d = refl
+fixed-cause cause.NoSyntax d = refl
+fixed-cause (cause.WrongSyntax n) d = absurd (d n refl)
+fixed-cause cause.UnknownCall d = refl
+fixed-cause cause.UnknownProperty d = refl
+fixed-cause cause.BadValue d = refl
+fixed-cause cause.NoSuite d = refl
+fixed-cause cause.PathHasDirectory d = refl
+fixed-cause cause.BadInclude d = refl
+fixed-cause cause.IncludeLoop d = refl
+fixed-cause cause.TooDeep d = refl
+fixed-cause cause.MissingProgram d = refl
+fixed-cause cause.Unreadable d = refl
+fixed-cause cause.TooMany d = refl
+fixed-cause (cause.Script fault) d = refl
+
+-- the words are ASCII
+utf8-script : (fault : ScriptFault) → utf8 (script_words fault) ≡ script_words fault
+unfolding encode
+utf8-script (script.NoMemory refusal) = refl
+utf8-script script.NotUtf8 = refl
+utf8-script (script.BadToken line) = refl
+utf8-script (script.NotLiteral line) = refl
+utf8-script (script.Unclosed line) = refl
+utf8-script script.TooLong = refl
+
+pub utf8-cause : (c : SuiteCause) → utf8 (fixed_words c) ≡ fixed_words c
+unfolding encode
+utf8-cause (cause.NoMemory refusal) = refl
+utf8-cause cause.NoSyntax = refl
+utf8-cause (cause.WrongSyntax n) = refl
+utf8-cause cause.UnknownCall = refl
+utf8-cause cause.UnknownProperty = refl
+utf8-cause cause.BadValue = refl
+utf8-cause cause.NoSuite = refl
+utf8-cause cause.PathHasDirectory = refl
+utf8-cause cause.BadInclude = refl
+utf8-cause cause.IncludeLoop = refl
+utf8-cause cause.TooDeep = refl
+utf8-cause cause.MissingProgram = refl
+utf8-cause cause.Unreadable = refl
+utf8-cause cause.TooMany = refl
+utf8-cause (cause.Script fault) = utf8-script fault
+
+pub utf8_three : (a b c : List ℕ) → utf8 (a ++ b ++ c) ≡ utf8 a ++ utf8 b ++ utf8 c
+utf8_three a b c = utf8-append (a ++ b) c ∙ ap (λ (z : List ℕ). z ++ utf8 c) (utf8-append a b)
+
+utf8_four : (a b c d : List ℕ) → utf8 (a ++ b ++ c ++ d) ≡ utf8 a ++ utf8 b ++ utf8 c ++ utf8 d
+utf8_four a b c d = utf8-append (a ++ b ++ c) d ∙ ap (λ (z : List ℕ). z ++ utf8 d) (utf8_three a b c)
+
+pub utf8_five : (a b c d e : List ℕ) → utf8 (a ++ b ++ c ++ d ++ e) ≡ utf8 a ++ utf8 b ++ utf8 c ++ utf8 d ++ utf8 e
+utf8_five a b c d e = utf8-append (a ++ b ++ c ++ d) e ∙ ap (λ (z : List ℕ). z ++ utf8 e) (utf8_four a b c d)

@@ -1,0 +1,25 @@
+use lib.Utf8.{encode}
+use Rattle.std.specs.Prelude.{codes}
+use Rattle.std.proofs.Common.{sym, ◌∙◌}
+use Rattle.std.specs.Fmt.{decimal}
+use Rattle.kt_base.specs.Utf8.{utf8}
+use Rattle.kt_base.proofs.Showing.{shows_as, shows_both, shows_error, shows_more}
+use Rattle.kt_suite.specs.FaultWords.{cause_words}
+use Rattle.kt_suite.proofs.FaultWords.{utf8_five}
+use Rattle.kt_suite.proofs.fault.SuiteFault.print_placed.Goals as goal
+
+pub returns-in_err-emit_all : goal.returns-in_err-emit_all
+unfolding encode
+returns-in_err-emit_all g c =
+    let f = c.args.self.now in
+    let line = c.as_bytes-2.ensures ∙ c.new-line.ensures.value ∙ sym c.new-line.ensures.ascii in
+    let whole = sym (utf8_five f.path (codes ":") (decimal f.line) (codes ": ") (cause_words f.cause)) in
+    shows_error _ _ c.from_residual.ensures.1 (shows_as whole (shows_more (utf8 (cause_words f.cause)) (rw (c.as_bytes.ensures, line) at c.in_err-emit_all.ensures)))
+
+pub returns : goal.returns
+unfolding encode
+returns g c =
+    let f = c.args.self.now in
+    let line = c.as_bytes-2.ensures ∙ c.new-line.ensures.value ∙ sym c.new-line.ensures.ascii in
+    let whole = sym (utf8_five f.path (codes ":") (decimal f.line) (codes ": ") (cause_words f.cause)) in
+    shows_as whole (shows_both (rw (c.as_bytes.ensures, line) at c.in_ok-emit_all.ensures) c.print.ensures)

@@ -1,0 +1,4 @@
+-- What the crate's own functions do: cited by private functions alone.
+pub mod Faults
+pub mod Steps
+pub mod Walks

@@ -1,0 +1,59 @@
+-- What private functions return, each a step of a larger walk.
+use Rattle.std.specs.Prelude.{ℕ, Bool, true, false, not, Option, Some, None, Result, slice_get, List, [], ◌∷◌, ◌++◌, if◌then◌else◌}
+use Rattle.std.specs.List.{position}
+use Rattle.kt_base.specs.declared.variable.Variable.{Variable}
+use Rattle.kt_base.specs.LastValues.{last_values}
+use Rattle.kt_metadata.specs.Properties.{definition_fault}
+use Rattle.kt_script.specs.declared.fault.ScriptFault.{ScriptFault}
+use Rattle.kt_script.specs.declared.fault.ScriptFault.TheVariants as script
+use Rattle.kt_suite.specs.declared.cause.SuiteCause.{SuiteCause}
+use Rattle.kt_suite.specs.declared.filter.Filter.{Filter}
+use Rattle.kt_suite.specs.declared.item.Item.{Item}
+use Rattle.kt_suite.specs.declared.program_table.ProgramTable.{ProgramTable}
+use Rattle.kt_suite.specs.Filters.{counts}
+use Rattle.kt_suite.specs.Selecting.{places, matches_item}
+use Rattle.kt_suite.specs.Tables.{value_cause, pair_fault, table_of, unless}
+
+-- properties with one more definition
+abbrev pub props_with : List Variable → Variable → Result (List Variable) SuiteCause
+props_with before pair =
+    unless (value_cause (definition_fault pair.name pair.value)) (last_values (before ++ pair ∷ []))
+
+-- a table with one more definition
+abbrev pub table_with : List Variable → Variable → Result ProgramTable SuiteCause
+table_with before pair = unless (pair_fault pair) (table_of (before ++ pair ∷ []))
+
+-- a path with one more component
+abbrev pub joined : List ℕ → List ℕ → List ℕ
+joined [] component = component
+joined (c ∷ path) component = c ∷ path ++ 47 ∷ component
+
+-- a path with one more component, if it counts
+abbrev pub with_component : List ℕ → List ℕ → List ℕ
+with_component path component = if counts component then joined path component else path
+
+-- the positions of all filters
+abbrev pub all_places : List Filter → List ℕ
+all_places filters = places (λ filter. true) 0 filters
+
+-- the position of the first filter that matches an item
+abbrev pub first_match : List Filter → Item → Option ℕ
+first_match filters item = position (matches_item item) filters
+
+-- a filter that may be there matches an item
+abbrev pub is_some_match : Item → Option Filter → Bool
+is_some_match item None = false
+is_some_match item (Some filter) = matches_item item filter
+
+-- the filter at a position, if there is one, matches an item
+abbrev pub is_match : List Filter → Item → ℕ → Bool
+is_match filters item place = is_some_match item (slice_get filters place)
+
+-- the filter at a position misses an item
+abbrev pub is_miss : List Filter → Item → ℕ → Bool
+is_miss filters item place = not (is_match filters item place)
+
+-- a script's fault lies in its text
+abbrev pub IsText : ScriptFault → Type 0
+IsText (script.NoMemory refusal) = ⊥
+IsText fault = Unit {0}

@@ -1,0 +1,98 @@
+-- What the reader's own functions do, each on its part of a tree.
+use Rattle.std.specs.Prelude.{ℕ, Bool, true, List, [], ◌∷◌, ◌++◌, ◌≡◌, ◌<◌, ◌≤◌, ◌+◌, length, Option, Some, None, Result, Ok, Err}
+use Rattle.kt_script.specs.declared.syntax.Stmt.{Stmt}
+use Rattle.kt_script.specs.Spelling.{Spells}
+use Rattle.kt_suite.specs.declared.read_fault.ReadFault.{ReadFault}
+use Rattle.kt_suite.specs.declared.fault.SuiteFault.{SuiteFault}
+use Rattle.kt_suite.specs.declared.registry.Registry.{Registry}
+use Rattle.kt_suite.specs.declared.program.Program.{Program}
+use Rattle.kt_suite.specs.declared.step.Step.{Step}
+use Rattle.kt_suite.specs.declared.step.Step.TheVariants.{Next, Enter}
+use Rattle.kt_suite.specs.declared.meaning.Meaning.{Meaning}
+use Rattle.kt_base.specs.Chains.{Chain}
+use Rattle.kt_suite.specs.Answers.{Asked, Read, Exists}
+use Rattle.kt_suite.specs.declared.cause.SuiteCause.{SuiteCause}
+use Rattle.kt_suite.specs.declared.cause.SuiteCause.TheVariants.{NoSyntax, TooMany}
+use Rattle.kt_suite.specs.Faults.{fault_at, IsNoMemory}
+use Rattle.kt_suite.specs.Marks.{Site, told, looked_up, Mark, Asks, File, Listed, Fault, Part, Says, Includes, said, suite_after, FileSays, entry_fault, Unfolds}
+use Rattle.kt_suite.specs.Meanings.{opening_fault}
+use Rattle.kt_suite.specs.Registered.{file_limit, program_limit, questions_in, Decides, IsNext}
+
+-- these marks are counted one by one, and none decides
+abbrev pub Counted : Registry → List Mark → Registry → Type 0
+Counted r [] after = after ≡ r
+Counted r (Asks question ∷ marks) after = Counted r marks after
+Counted r (File at ∷ marks) after = (r.files < file_limit) × Counted (record r { files = r.files + 1 }) marks after
+Counted r (Listed at program ∷ marks) after =
+    (length r.programs < program_limit) × Counted (record r { programs = r.programs ++ program ∷ [] }) marks after
+Counted r (Fault fault ∷ marks) after = ⊥
+
+-- the marks of some part of a tree were counted with these answers, up to the one that decides, unless memory ran out
+pub data Walked {S : Type 0} (leads : S → Asked → S → Type 0) (old new : S) (Gives : List Mark → Type 0) (r : Registry)
+    : Result Registry SuiteFault → Type 0 where
+  through : (marks : List Mark) (after : Registry)
+      → Gives marks → Chain leads old (questions_in marks) new → Counted r marks after
+      → Walked leads old new Gives r (Ok after)
+  stops : (front back : List Mark) (mark : Mark) (mid : Registry) (fault : SuiteFault)
+      → Gives (front ++ mark ∷ back) → Chain leads old (questions_in front) new → Counted r front mid
+      → Decides mid.files (length mid.programs) mark fault → Walked leads old new Gives r (Err fault)
+  short : (front back : List Mark) (more : List Asked) (mid : Registry) (fault : SuiteFault)
+      → Gives (front ++ back) → IsNext back more → Chain leads old (questions_in front ++ more) new → Counted r front mid
+      → IsNoMemory fault → Walked leads old new Gives r (Err fault)
+
+-- the marks of a file that is read within these
+pub record FileGives (files : List (List ℕ)) (file : List ℕ) (marks : List Mark) : Type 0 where
+  pub parts : List Part
+  pub says : FileSays file parts
+  pub unfolds : Unfolds (files ++ file ∷ []) parts marks
+
+-- the marks of a statement with this meaning
+pub record MeaningGives (files : List (List ℕ)) (at : Site) (meaning : Meaning) (marks : List Mark) : Type 0 where
+  pub there : Bool
+  pub unfolds : Unfolds files (said at there meaning) marks
+
+-- a program is looked up, and then counted
+abbrev pub Adds : {S : Type 0} → (S → Asked → S → Type 0) → S → S → Site → Registry → Program → Result Registry SuiteFault → Type 0
+Adds leads old new at r program result =
+    Walked leads old new (λ marks. (there : Bool) × (marks ≡ Asks (Exists program.path there) ∷ looked_up at program there ∷ [])) r result
+
+-- an include is refused, or its file counted
+pub data Enters (at : Site) (r : Registry) (path : List ℕ) : Result Registry SuiteFault → Type 0 where
+  refuses : (cause : SuiteCause) → entry_fault r.reading path ≡ Some cause → Enters at r path (Err (told at cause))
+  exceeds : entry_fault r.reading path ≡ None → file_limit ≤ r.files → Enters at r path (Err (told at TooMany))
+  counts : entry_fault r.reading path ≡ None → r.files < file_limit
+      → Enters at r path (Ok (record r { files = r.files + 1 }))
+  scant : (fault : SuiteFault) → IsNoMemory fault → Enters at r path (Err fault)
+
+-- a statement was carried out, or as far as the file that it includes
+pub data Stepped {S : Type 0} (leads : S → Asked → S → Type 0) (old new : S) (r : Registry) (at : Site)
+    (suite : Option (List ℕ)) (meaning : Meaning) : Result Step SuiteFault → Type 0 where
+  goes : (after : Registry) → Walked leads old new (MeaningGives r.reading at meaning) r (Ok after)
+      → Stepped leads old new r at suite meaning (Ok (Next after (suite_after suite meaning)))
+  enters : (path : List ℕ) → said at true meaning ≡ Includes at path ∷ []
+      → entry_fault r.reading path ≡ None → r.files < file_limit → new ≡ old
+      → Stepped leads old new r at suite meaning (Ok (Enter (record r { files = r.files + 1 }) (suite_after suite meaning) path))
+  fails : (fault : SuiteFault) → Walked leads old new (MeaningGives r.reading at meaning) r (Err fault)
+      → Stepped leads old new r at suite meaning (Err fault)
+
+-- the statements of a file are seen to begin with `syntax(2)`
+pub data WellOpened (file : List ℕ) (stmts : List Stmt) : Result (List Stmt) SuiteFault → Type 0 where
+  well : (first : Stmt) (rest : List Stmt) → stmts ≡ first ∷ rest → opening_fault first.action ≡ None
+      → WellOpened file stmts (Ok stmts)
+  empty : stmts ≡ [] → WellOpened file stmts (Err (fault_at file 1 NoSyntax))
+  badly : (first : Stmt) (rest : List Stmt) (cause : SuiteCause)
+      → stmts ≡ first ∷ rest → opening_fault first.action ≡ Some cause
+      → WellOpened file stmts (Err (fault_at file first.line cause))
+  unclear : (fault : SuiteFault) → IsNoMemory fault → WellOpened file stmts (Err fault)
+
+-- a file was asked for, and has statements after `syntax(2)`, or a fault
+pub data Opened {S : Type 0} (leads : S → Asked → S → Type 0) (old new : S) (file : List ℕ)
+    : Result (List Stmt) SuiteFault → Type 0 where
+  opens : (text : List ℕ) (first : Stmt) (rest : List Stmt)
+      → leads old (Read file (Ok text)) new → Spells text (first ∷ rest) → opening_fault first.action ≡ None
+      → Opened leads old new file (Ok (first ∷ rest))
+  declines : (answer : Result (List ℕ) ReadFault) (fault : SuiteFault)
+      → leads old (Read file answer) new → FileSays file (Says (Asks (Read file answer)) ∷ Says (Fault fault) ∷ [])
+      → Opened leads old new file (Err fault)
+  lacks : (answer : Result (List ℕ) ReadFault) (fault : SuiteFault)
+      → leads old (Read file answer) new → IsNoMemory fault → Opened leads old new file (Err fault)

@@ -1,0 +1,26 @@
+-- What a command holds of the values that were found on a command line, each by the name of its option.
+use Rattle.std.specs.Prelude.{◌≡◌, ⊤, ℕ, List, Option, Some, None, Result, Ok, Err}
+use Rattle.kt_base.specs.declared.kind.Kind.{Kind}
+use Rattle.kt_words.specs.declared.command_fault.CommandFault.{CommandFault}
+use Rattle.kt_words.specs.declared.command_fault.CommandFault.TheVariants as fault
+
+-- a run, or that it is none
+abbrev pub ReadsRun : Option (Option ℕ) → Result (Option ℕ) CommandFault → Type 0
+ReadsRun right (Ok run') = right ≡ Some run'
+ReadsRun right (Err fault.BadRun) = right ≡ None
+ReadsRun right other = ⊥
+
+-- kinds, or that they are none, unless memory ran out
+abbrev pub ReadsShown : Option (List Kind) → Result (List Kind) CommandFault → Type 0
+ReadsShown right (Ok kinds) = right ≡ Some kinds
+ReadsShown right (Err fault.BadKind) = right ≡ None
+ReadsShown right (Err (fault.NoMemory shortage)) = ⊤
+ReadsShown right (Err other) = ⊥
+
+-- this answer, unless memory ran out
+abbrev pub Answers : {A : Type 0} → Result A CommandFault → Result A CommandFault → Type 0
+Answers right (Err (fault.NoMemory shortage)) = ⊤
+Answers right (Err fault.BadKind) = right ≡ Err fault.BadKind
+Answers right (Err fault.BadRun) = right ≡ Err fault.BadRun
+Answers right (Err (fault.Usage told)) = right ≡ Err (fault.Usage told)
+Answers right (Ok value) = right ≡ Ok value
