@@ -2,8 +2,7 @@ use crate::lines::push_line;
 use crate::listings::{behind_header, listing_of};
 use crate::numbers::append_numbered;
 use crate::pairs::pair_of;
-use crate::row::Row;
-use crate::row_fault::RowFault;
+use crate::row::{Row, RowFault};
 use crate::shown_props::push_props;
 use crate::verdicts::reason_text;
 use kt_atflist::{CaseDef, cases, parse_list};
@@ -19,8 +18,7 @@ fn push_reason(alloc: Global, out: &mut String, fault: Option<Reason>) -> Result
     Ok(())
 }
 
-/// A case in the form of a row: its name, the properties that differ from the defaults, and its
-/// fault.
+/// A case in the form of a row: its name, the properties that differ from the defaults, and its fault.
 fn push_case(alloc: Global, out: &mut String, case: CaseDef) -> Result<(), RowFault> {
     push_line(out, case.name.as_str())?;
     push_props(alloc, out, &case.props)?;
@@ -40,8 +38,8 @@ fn shown(alloc: Global, row: &Row<'_>, found: Items<CaseDef>) -> Result<String, 
     Ok(out)
 }
 
-/// The text of a list: `list TEXT`, or `blocks TEXT` behind the header and an empty line, and then
-/// `numbered COUNT TEXT`.
+/// The text of a list: `list TEXT`, or `blocks TEXT` behind the header and an empty line, and then `numbered COUNT
+/// TEXT`.
 fn list_text(alloc: Global, row: &Row<'_>) -> Result<Option<Vec<u8>>, RowFault> {
     if let Some(text) = row.bytes(alloc, "list")? {
         return Ok(Some(text));
@@ -67,20 +65,19 @@ fn props_of(alloc: Global, row: &Row<'_>) -> Result<Props, RowFault> {
     Ok(props)
 }
 
-/// The cases of a program: `program INTERFACE`, `set NAME=VALUE` for its properties, and what came
-/// of its listing.
+/// The cases of a program: `program INTERFACE`, `set NAME=VALUE` for its properties, and what came of its listing.
 fn program_cases(alloc: Global, row: &Row<'_>, word: &str) -> Result<String, RowFault> {
-    let props = props_of(alloc, row)?;
+    let interface = match word {
+        "tap" => Interface::Tap,
+        "plain" => Interface::Plain,
+        _ if row.text("lists").is_some() => Interface::Atf,
+        _ => return Err(RowFault::Misspelled("no listing")),
+    };
     let listing = match row.text("lists") {
         Some(text) => Some(listing_of(alloc, text)?),
         None => None,
     };
-    let found = match word {
-        "tap" => cases(alloc, Interface::Tap, &props, &listing)?,
-        "plain" => cases(alloc, Interface::Plain, &props, &listing)?,
-        _ if listing.is_some() => cases(alloc, Interface::Atf, &props, &listing)?,
-        _ => return Err(RowFault::Misspelled("no listing")),
-    };
+    let found = cases(alloc, interface, &props_of(alloc, row)?, &listing)?;
     shown(alloc, row, found)
 }
 

@@ -1,13 +1,36 @@
 use crate::answer;
-use crate::messages::mismatch_lines;
-use crate::row::Row;
-use crate::row_fault::RowFault;
+use crate::row::{Row, RowFault};
 use crate::row_file::read_rows;
+use std::alloc::Global;
+use std::fs::File;
+use std::io::Eprint;
+use std::rt::{Clock, Files, Runtime};
 use std::{env, fs, io};
 
+/// The first 400 bytes of a text, or all of it if they end within a character.
+fn front(text: &str) -> &str {
+    text.get(..400).unwrap_or(text)
+}
+
+/// Where a row is, and the fronts of the answer that it wants and of the one that it got.
+fn mismatch_lines(
+    alloc: Global,
+    file: &str,
+    line: u64,
+    wanted: &[u8],
+    found: &str,
+) -> Result<String, RowFault> {
+    let wanted = String::from_utf8_lossy(alloc, wanted)?;
+    let wanted = front(wanted.as_str());
+    let found = front(found);
+    Ok(format!(in alloc;
+        "{file}:{line}: another answer\n  wanted: {wanted:?}\n  got:    {found:?}"
+    )?)
+}
+
 /// Compares the answer to a row with the one wanted, and returns what is printed if they differ.
-fn mismatch(
-    rt: &HostRuntime,
+fn mismatch<R: Files<File = File> + Clock + AllocGlobal>(
+    rt: &R,
     file: &str,
     subject: &str,
     row: &Row<'_>,
@@ -22,13 +45,18 @@ fn mismatch(
 }
 
 /// Prints why a line of a file has no answer.
-fn print_fault(rt: &HostRuntime, file: &str, line: u64, fault: RowFault) -> io::Result<()> {
+fn print_fault<R: Eprint>(rt: &R, file: &str, line: u64, fault: RowFault) -> io::Result<()> {
     let text = fault.text();
     eprintln!(rt; "{file}:{line}: {text}")
 }
 
 /// Checks a row, and returns whether its answer is the one wanted.
-fn check_row(rt: &HostRuntime, file: &str, subject: &str, row: &Row<'_>) -> io::Result<bool> {
+fn check_row<R: Runtime + Files<File = File> + AllocGlobal>(
+    rt: &R,
+    file: &str,
+    subject: &str,
+    row: &Row<'_>,
+) -> io::Result<bool> {
     match mismatch(rt, file, subject, row) {
         Ok(None) => return Ok(true),
         Ok(Some(lines)) => rt.eprintln(lines)?,
@@ -38,7 +66,11 @@ fn check_row(rt: &HostRuntime, file: &str, subject: &str, row: &Row<'_>) -> io::
 }
 
 /// Checks the rows of a file and prints how many there are.
-fn check_rows(rt: &HostRuntime, file: &str, rows: &[Row<'_>]) -> io::Result<bool> {
+fn check_rows<R: Runtime + Files<File = File> + AllocGlobal>(
+    rt: &R,
+    file: &str,
+    rows: &[Row<'_>],
+) -> io::Result<bool> {
     let subject = file.strip_suffix(".rows").unwrap_or(file);
     let mut is_good = true;
     for row in rows {
@@ -51,7 +83,10 @@ fn check_rows(rt: &HostRuntime, file: &str, rows: &[Row<'_>]) -> io::Result<bool
     Ok(is_good)
 }
 
-fn check_file(rt: &HostRuntime, file: &str) -> io::Result<bool> {
+fn check_file<R: Runtime + Files<File = File> + AllocGlobal>(
+    rt: &R,
+    file: &str,
+) -> io::Result<bool> {
     let text = fs::read_to_string(rt, file)?;
     match read_rows(rt.alloc(), text.as_str()) {
         Ok(rows) => check_rows(rt, file, rows.as_slice()),
@@ -62,9 +97,8 @@ fn check_file(rt: &HostRuntime, file: &str) -> io::Result<bool> {
     }
 }
 
-/// Checks the files that the arguments name, and returns whether each row has the answer that it
-/// wants.
-pub fn check_files(rt: &HostRuntime) -> io::Result<bool> {
+/// Checks the files that the arguments name, and returns whether each row has the answer that it wants.
+pub fn check_files<R: Runtime + Files<File = File> + AllocGlobal>(rt: &R) -> io::Result<bool> {
     let mut is_good = true;
     for file in env::args(rt)?.skip(1) {
         if !check_file(rt, file.as_str())? {

@@ -1,6 +1,5 @@
 use crate::escapes::unescaped;
-use crate::row::Row;
-use crate::row_fault::RowFault;
+use crate::row::{Row, RowFault};
 use kt_words::{Command, CommandFault, read_command};
 use std::alloc::Global;
 

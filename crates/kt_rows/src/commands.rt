@@ -1,16 +1,14 @@
-use crate::command_words::commands_of;
 use crate::lines::push_line;
 use crate::numbers::number;
 use crate::pages::ended_text;
 use crate::printing::writer;
-use crate::row::Row;
-use crate::row_fault::RowFault;
+use crate::row::{Row, RowFault};
 use crate::run_texts::runs_text;
 use crate::scenes::scene_of;
-use crate::stages::{over_system, stage_of, store_of};
+use crate::stages::{row_over, store_of};
 use crate::{disk_tests, fault_exits, line_outputs};
 use kt_cli::Exit;
-use kt_play::{Scene, ScriptedSystem, ScriptedWriter, WriteFault};
+use kt_play::{Scene, ScriptedWriter, WriteFault};
 use std::alloc::Global;
 
 /// The most writes that are let fail in turn.
@@ -27,20 +25,10 @@ struct Played {
 
 /// Does the commands of a row, of whose writes one fails, counted from 1.
 fn play(alloc: Global, row: &Row<'_>, scene: &Scene<'_>, failing: u64) -> Result<Played, RowFault> {
-    let commands = commands_of(alloc, row)?;
-    let stage = stage_of(alloc, row.entries.as_slice())?;
-    let mut results = store_of(alloc, row)?;
     let at_most = number(row.text("takes").unwrap_or("4096"))? as usize;
     let mut page = writer(alloc, at_most, failing, WriteFault::Broken);
-    let os = ScriptedSystem::new(alloc, scene);
-    let (exits, _os) = over_system(
-        alloc,
-        commands.as_slice(),
-        &stage,
-        os,
-        &mut results,
-        &mut page,
-    )?;
+    let mut results = store_of(alloc, row)?;
+    let (exits, _os) = row_over(alloc, row, scene, &mut results, &mut page)?;
     let runs = runs_text(alloc, &mut results, true)?;
     Ok(Played { page, exits, runs })
 }
@@ -54,8 +42,8 @@ fn shown(alloc: Global, row: &Row<'_>, played: &Played) -> Result<String, RowFau
     Ok(out)
 }
 
-/// What is wrong where a write failed: the page is no beginning of the whole one, the last command
-/// doesn't end with 2, or the runs are others.
+/// What is wrong where a write failed: the page is no beginning of the whole one, the last command doesn't end with 2,
+/// or the runs are others.
 fn wrong(whole: &Played, cut: &Played) -> Option<&'static str> {
     let kept = cut.page.kept.as_slice();
     if kept.len() >= whole.page.kept.len() || !whole.page.kept.as_slice().starts_with(kept) {
@@ -102,9 +90,8 @@ fn done(alloc: Global, row: &Row<'_>) -> Result<String, RowFault> {
     }
 }
 
-/// Commands over a scripted world: `do COMMAND LINE` each. Rows that begin with `piece` or `source`
-/// are of pieces that are given to a writer of lines and of the directories of Kyuafiles; those
-/// with `disk` are of a disk that fails.
+/// Commands over a scripted world: `do COMMAND LINE` each. Rows that begin with `piece` or `source` are of pieces that
+/// are given to a writer of lines and of the directories of Kyuafiles; those with `disk` are of a disk that fails.
 pub fn answer(alloc: Global, row: &Row<'_>) -> Result<String, RowFault> {
     if let Some(disk) = row.text("disk") {
         return disk_tests::answer(alloc, row, disk);

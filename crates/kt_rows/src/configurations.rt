@@ -2,8 +2,7 @@ use crate::escapes::text_of;
 use crate::lines::push_line;
 use crate::numbers::append_numbered;
 use crate::pairs::{pair_of, push_pair};
-use crate::row::{Entry, Row};
-use crate::row_fault::RowFault;
+use crate::row::{Entry, Row, RowFault};
 use kt_config::{Config, SuiteVariables};
 use std::alloc::Global;
 
@@ -59,19 +58,26 @@ fn set_line(alloc: Global, config: &mut Config, text: &str) -> Result<String, Ro
     }
 }
 
+/// The answer to the name of a variable that is of no suite.
+fn own_line(alloc: Global, config: &Config, word: &str) -> Result<String, RowFault> {
+    match word {
+        "parallelism" => Ok(config.parallelism().to_string(alloc)?),
+        "architecture" => Ok(String::from_str(alloc, config.architecture())?),
+        "platform" => Ok(String::from_str(alloc, config.platform())?),
+        _ => Err(RowFault::Misspelled("no such word")),
+    }
+}
+
 /// The answer to one line of a row, or none if the line belongs to the file.
 fn line(alloc: Global, config: &mut Config, entry: &Entry<'_>) -> Result<Option<String>, RowFault> {
     let told = match entry.word {
-        "set" => set_line(alloc, config, entry.text)?,
-        "suite" | "count" => suite_line(alloc, config, entry.word, entry.text)?,
-        "value" => value_line(alloc, config, entry.text)?,
-        "parallelism" => config.parallelism().to_string(alloc)?,
-        "architecture" => String::from_str(alloc, config.architecture())?,
-        "platform" => String::from_str(alloc, config.platform())?,
+        "set" => set_line(alloc, config, entry.text),
+        "suite" | "count" => suite_line(alloc, config, entry.word, entry.text),
+        "value" => value_line(alloc, config, entry.text),
         "file" | "numbered" => return Ok(None),
-        _ => return Err(RowFault::Misspelled("no such word")),
+        word => own_line(alloc, config, word),
     };
-    Ok(Some(told))
+    Ok(Some(told?))
 }
 
 /// The answers to the lines of a row, in their order.
@@ -85,8 +91,7 @@ fn lines(alloc: Global, mut config: Config, row: &Row<'_>) -> Result<String, Row
     Ok(out)
 }
 
-/// The answers of a configuration, or why its file is refused. A row without `file` begins with a
-/// new configuration.
+/// The answers of a configuration, or why its file is refused. A row without `file` begins with a new configuration.
 pub fn answer(alloc: Global, row: &Row<'_>) -> Result<String, RowFault> {
     if row.text("file").is_none() {
         return lines(alloc, Config::new(alloc), row);

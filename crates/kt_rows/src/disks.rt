@@ -2,7 +2,7 @@
 
 ghost use Rattle.std.specs.Prelude.{◌≡◌, false, IfSome};
 
-use crate::row_fault::RowFault;
+use crate::row::RowFault;
 use crate::run_texts::told;
 use kt_store::Results;
 use sqlite::{Alter, Connection, Error, FileStore, Options};

@@ -2,7 +2,7 @@
 
 use crate::lines::push_line;
 use crate::pairs::push_pair;
-use crate::row_fault::RowFault;
+use crate::row::RowFault;
 use crate::verdicts;
 use kt_base::Entry;
 use std::alloc::Global;
@@ -44,8 +44,8 @@ fn pairs_text(alloc: Global, entry: &Entry) -> Result<String, RowFault> {
     Ok(text)
 }
 
-/// The verdict of a case, and six digits: 1 where its start and its time are not 0, and how many
-/// bytes are kept of its four outputs.
+/// The verdict of a case, and six digits: 1 where its start and its time are not 0, and how many bytes are kept of its
+/// four outputs.
 pub fn marks(alloc: Global, entry: &Entry) -> Result<String, RowFault> {
     let mut text = verdicts::shown(alloc, &entry.verdict)?;
     text.push(' ')?;

@@ -2,11 +2,10 @@
 
 use crate::entry_texts::{entries_text, marks};
 use crate::lines::push_line;
-use crate::row::Row;
-use crate::row_fault::RowFault;
-use crate::system_runs::{Driven, run_plan};
+use crate::row::{Row, RowFault};
+use crate::system_runs::{Ran, run_plan};
 use kt_base::Entry;
-use kt_play::{Scene, ScriptedSystem};
+use kt_play::Scene;
 use std::alloc::Global;
 
 /// The most calls that are tried.
@@ -27,8 +26,7 @@ fn count_of(log: &str, word: &str) -> usize {
     log.lines().filter(|line| line.starts_with(word)).count()
 }
 
-/// How many directories were made that are to be removed: all but work directories, which lie in
-/// them.
+/// How many directories were made that are to be removed: all but work directories, which lie in them.
 fn made(log: &str) -> usize {
     log.lines()
         .filter(|line| line.starts_with("make "))
@@ -36,30 +34,42 @@ fn made(log: &str) -> usize {
         .count()
 }
 
-/// Tells what a failing call changes: the cases with other marks, a kill, and directories that were
-/// not removed.
+/// Tells of a case that has other marks than this one.
+fn push_change(
+    alloc: Global,
+    out: &mut String,
+    call: u32,
+    sound: &Entry,
+    entries: &[Entry],
+) -> Result<(), RowFault> {
+    let position = sound.position;
+    let due = marks(alloc, sound)?;
+    let told = marks_at(alloc, entries, position)?;
+    if due.as_str() != told.as_str() {
+        push_line(
+            out,
+            format!(in alloc; "at {call}: {position} {told}")?.as_str(),
+        )?;
+    }
+    Ok(())
+}
+
+/// Tells what a failing call changes: the cases with other marks, a kill, and directories that were not removed.
 fn push_changes(
     alloc: Global,
     out: &mut String,
     call: u32,
     sound: &[Entry],
-    run: &Driven<ScriptedSystem<'_>>,
+    run: &Ran<'_>,
 ) -> Result<(), RowFault> {
     for entry in sound {
-        let position = entry.position;
-        let due = marks(alloc, entry)?;
-        let told = marks_at(alloc, run.entries.as_slice(), position)?;
-        if due.as_str() != told.as_str() {
-            let line = format!(in alloc; "at {call}: {position} {told}")?;
-            push_line(out, line.as_str())?;
-        }
+        push_change(alloc, out, call, entry, run.entries.as_slice())?;
     }
     let log = run.os.log.as_str();
     if count_of(log, "kill ") > 0 {
         out.push_str(", killed")?;
     }
-    let made = made(log);
-    let removed = count_of(log, "remove ");
+    let (made, removed) = (made(log), count_of(log, "remove "));
     if made != removed {
         let line = format!(in alloc; "at {call}: {made} made, {removed} removed")?;
         push_line(out, line.as_str())?;
@@ -67,8 +77,26 @@ fn push_changes(
     Ok(())
 }
 
-/// The entries where no call fails, then, for each failing call, what is otherwise, and how many
-/// calls there are.
+/// Tells what a failing call changes, or how many calls there are before it. Answers whether there is such a call.
+fn push_failing(
+    alloc: Global,
+    out: &mut String,
+    row: &Row<'_>,
+    scene: &Scene<'_>,
+    call: u32,
+    sound: &[Entry],
+) -> Result<bool, RowFault> {
+    let run = run_plan(alloc, row, scene)?;
+    let fails = run.os.log.as_str().contains(" failed\n");
+    if fails {
+        push_changes(alloc, out, call, sound, &run)?;
+    } else {
+        push_line(out, format!(in alloc; "{call} calls")?.as_str())?;
+    }
+    Ok(fails)
+}
+
+/// The entries where no call fails, then, for each failing call, what is otherwise, and how many calls there are.
 pub fn each_failing<'a>(
     alloc: Global,
     row: &Row<'a>,
@@ -79,12 +107,9 @@ pub fn each_failing<'a>(
     let mut out = entries_text(alloc, "marks", sound.as_slice())?;
     for call in 1..LIMIT {
         scene.failing = (call, call.saturating_add(1));
-        let run = run_plan(alloc, row, &scene)?;
-        if !run.os.log.as_str().contains(" failed\n") {
-            push_line(&mut out, format!(in alloc; "{call} calls")?.as_str())?;
-            return Ok(out);
+        if !push_failing(alloc, &mut out, row, &scene, call, sound.as_slice())? {
+            break;
         }
-        push_changes(alloc, &mut out, call, sound.as_slice(), &run)?;
     }
     Ok(out)
 }

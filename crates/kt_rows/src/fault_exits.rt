@@ -1,6 +1,6 @@
 //! Why a command line is refused, and what it can't have.
 
-use crate::row_fault::RowFault;
+use crate::row::RowFault;
 use kt_base::{NoMemory, Text};
 use kt_child::DriverFault;
 use kt_cli::source_of;

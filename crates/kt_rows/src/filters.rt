@@ -1,8 +1,7 @@
 use crate::escapes::text_of;
 use crate::lines::push_line;
 use crate::numbers::numbered;
-use crate::row::{Entry, Row};
-use crate::row_fault::RowFault;
+use crate::row::{Entry, Row, RowFault};
 use kt_suite::{Filter, FilterFault, Item, Selection, check_disjoint, select};
 use std::alloc::Global;
 

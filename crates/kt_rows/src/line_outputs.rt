@@ -4,8 +4,7 @@ use crate::escapes::unescaped;
 use crate::lines::push_line;
 use crate::numbers::number;
 use crate::printing::{FAULTS, writer, wrong};
-use crate::row::Row;
-use crate::row_fault::RowFault;
+use crate::row::{Row, RowFault};
 use kt_base::emit;
 use kt_cli::LineOutput;
 use kt_play::WriteFault;
@@ -22,8 +21,7 @@ fn pieces_of(alloc: Global, row: &Row<'_>) -> Result<Vec<Vec<u8>>, RowFault> {
     Ok(pieces)
 }
 
-/// Gives pieces to lines before a writer, also behind a failure, and perhaps flushes them: whether
-/// all went well.
+/// Gives pieces to lines before a writer, also behind a failure, and perhaps flushes them: whether all went well.
 fn given<W: Write>(out: &mut W, pieces: &[Vec<u8>], flushes: bool) -> bool {
     let mut lines = LineOutput::new(out);
     let mut well = true;
@@ -38,8 +36,8 @@ fn given<W: Write>(out: &mut W, pieces: &[Vec<u8>], flushes: bool) -> bool {
     well
 }
 
-/// What is written of pieces, each write failing in turn in each way: `piece TEXT` each, `takes
-/// BYTES` a write at the most.
+/// What is written of pieces, each write failing in turn in each way: `piece TEXT` each, `takes BYTES` a write at the
+/// most.
 fn flushed(alloc: Global, pieces: &[Vec<u8>], at_most: usize) -> Result<String, RowFault> {
     let mut whole = writer(alloc, at_most, 0, WriteFault::Broken);
     let well = given(&mut whole, pieces, true);

@@ -1,7 +1,6 @@
-use crate::endings::ending_of;
 use crate::escapes::unescaped;
-use crate::row_fault::RowFault;
-use crate::verdicts::refused_of;
+use crate::row::RowFault;
+use crate::verdicts::{ending_of, refused_of};
 use kt_atflist::{ListBytes, Listing};
 use kt_base::Bytes;
 use kt_play::Listed;
@@ -39,8 +38,8 @@ fn ended_of<'a>(alloc: Global, text: &'a str) -> Result<(&'a str, ListBytes), Ro
     }
 }
 
-/// What comes of asking a program for its list: `refused WHY`, or `ENDING` and then `blocks TEXT`,
-/// `list TEXT`, `unreadable` or `too-long`.
+/// What comes of asking a program for its list: `refused WHY`, or `ENDING` and then `blocks TEXT`, `list TEXT`,
+/// `unreadable` or `too-long`.
 pub fn listing_of(alloc: Global, text: &str) -> Result<Listing, RowFault> {
     if let Some(cause) = text.strip_prefix("refused ") {
         return Ok(Listing::Refused(refused_of(cause)?));

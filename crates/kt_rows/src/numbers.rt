@@ -1,8 +1,7 @@
 ghost use Rattle.std.specs.Prelude.{IfOk, ◌≤◌};
 
 use crate::escapes::unescaped;
-use crate::row::Row;
-use crate::row_fault::RowFault;
+use crate::row::{Row, RowFault};
 use std::alloc::Global;
 
 pub fn number(text: &str) -> Result<u64, RowFault> {

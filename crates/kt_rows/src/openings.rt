@@ -1,5 +1,4 @@
-//! Command lines over a scripted platform: what it is asked for, what is written, and how each line
-//! ends.
+//! Command lines over a scripted platform: what it is asked for, what is written, and how each line ends.
 
 use crate::command_words::read_line;
 use crate::fault_exits::{driver_fault, shortage, store_fault};
@@ -7,8 +6,7 @@ use crate::lines::push_line;
 use crate::numbers::number;
 use crate::pages::page_text;
 use crate::recorded::content_at;
-use crate::row::Row;
-use crate::row_fault::RowFault;
+use crate::row::{Row, RowFault};
 use crate::run_texts::runs_text;
 use crate::scenes::scene_of;
 use crate::stages::store_of;
@@ -33,8 +31,7 @@ fn results_of(alloc: Global, row: &Row<'_>) -> Result<RefusingStore, RowFault> {
     Ok(results)
 }
 
-/// The platform of a row: `open FAULT`, `close FAULT` and `surroundings FAULT` name its calls that
-/// fail.
+/// The platform of a row: `open FAULT`, `close FAULT` and `surroundings FAULT` name its calls that fail.
 fn platform_of(alloc: Global, row: &Row<'_>) -> Result<ScriptedPlatform, RowFault> {
     let mut platform = ScriptedPlatform::new(alloc, results_of(alloc, row)?);
     if let Some(fault) = row.text("open") {
@@ -56,8 +53,8 @@ struct Pages {
     errors: ScriptedWriter,
 }
 
-/// The pages of a row: `write N` fails on standard output with all behind it, and so does its
-/// `flush fails`; `error N` fails on standard error.
+/// The pages of a row: `write N` fails on standard output with all behind it, and so does its `flush fails`; `error N`
+/// fails on standard error.
 fn pages_of(alloc: Global, row: &Row<'_>) -> Result<Pages, RowFault> {
     let mut out = ScriptedWriter::new(alloc, number(row.text("write").unwrap_or("0"))?);
     out.flush_fails = row.text("flush").is_some();
@@ -79,8 +76,8 @@ fn carried<R: Files<File = File> + Clock + AllocGlobal, W: Write, E: Write>(
     carry_out(rt, os, platform, command, &mut lines, errors).status
 }
 
-/// Carries out the command lines of a row, one after the other: `line WORDS`, or `words no-memory` for
-/// one that is none. Answers how they ended.
+/// Carries out the command lines of a row, one after the other: `line WORDS`, or `words no-memory` for one that is
+/// none. Answers how they ended.
 fn exits_text<R: Files<File = File> + Clock + AllocGlobal>(
     rt: &R,
     row: &Row<'_>,
@@ -118,38 +115,32 @@ fn push_errors(alloc: Global, text: &mut String, page: &ScriptedWriter) -> Resul
     Ok(())
 }
 
-/// The runs that were closed, without their moments, which the clock of this process told.
-fn kept_text(alloc: Global, results: Option<RefusingStore>) -> Result<String, RowFault> {
+/// Appends the runs that were closed, without their moments, which the clock of this process told.
+fn push_runs(
+    alloc: Global,
+    text: &mut String,
+    results: &mut Option<RefusingStore>,
+) -> Result<(), RowFault> {
     match results {
-        Some(mut results) => runs_text(alloc, &mut results, false),
-        None => Ok(String::from_str(alloc, "open")?),
+        Some(results) => push_line(text, runs_text(alloc, results, false)?.as_str())?,
+        None => push_line(text, "open")?,
     }
+    Ok(())
 }
 
-/// What the platform was asked for, the pages, the exits, and where the row says so the runs.
-fn shown(
-    alloc: Global,
-    row: &Row<'_>,
-    platform: ScriptedPlatform,
-    pages: &Pages,
-    exits: &str,
-) -> Result<String, RowFault> {
-    let mut text = platform.calls;
-    if text.is_empty() {
-        text.push_str("nothing")?;
-    }
+/// What the platform was asked for, the pages and the exits.
+fn shown(alloc: Global, calls: &str, pages: &Pages, exits: &str) -> Result<String, RowFault> {
+    let calls = if calls.is_empty() { "nothing" } else { calls };
+    let mut text = String::from_str(alloc, calls)?;
     text.push('\n')?;
     text.push_str(page_text(alloc, &pages.out)?.as_str())?;
     push_errors(alloc, &mut text, &pages.errors)?;
     text.push_str(exits)?;
-    if row.text("show") == Some("runs") {
-        push_line(&mut text, kept_text(alloc, platform.results)?.as_str())?;
-    }
     Ok(text)
 }
 
-/// Command lines over a platform that answers as the row says, with the files of this process: the
-/// calls on the platform on one line, what was written, and how the lines ended.
+/// Command lines over a platform that answers as the row says, with the files of this process: the calls on the
+/// platform on one line, what was written, and how the lines ended.
 pub fn answer<R: Files<File = File> + Clock + AllocGlobal>(
     rt: &R,
     row: &Row<'_>,
@@ -159,5 +150,9 @@ pub fn answer<R: Files<File = File> + Clock + AllocGlobal>(
     let mut platform = platform_of(alloc, row)?;
     let mut pages = pages_of(alloc, row)?;
     let exits = exits_text(rt, row, &scene, &mut platform, &mut pages)?;
-    shown(alloc, row, platform, &pages, exits.as_str())
+    let mut text = shown(alloc, platform.calls.as_str(), &pages, exits.as_str())?;
+    if row.text("show") == Some("runs") {
+        push_runs(alloc, &mut text, &mut platform.results)?;
+    }
+    Ok(text)
 }

@@ -1,6 +1,6 @@
 //! What commands wrote, and how they ended.
 
-use crate::row_fault::RowFault;
+use crate::row::RowFault;
 use kt_cli::Exit;
 use kt_play::ScriptedWriter;
 use std::alloc::Global;

@@ -1,6 +1,5 @@
 use crate::escapes::lossy_of;
-use crate::row::Entry;
-use crate::row_fault::RowFault;
+use crate::row::{Entry, RowFault};
 use kt_base::{Variable, Variables};
 use std::alloc::Global;
 

@@ -1,7 +1,6 @@
 ghost use Rattle.kt_sched.specs.Plan.{IsWidth};
 
-use crate::row::Row;
-use crate::row_fault::RowFault;
+use crate::row::{Row, RowFault};
 use crate::simulation::Simulation;
 use kt_base::Entry;
 use kt_play::{MemorySink, ScriptedLauncher, plan_of};
@@ -43,8 +42,8 @@ fn agrees(
     Ok(has_calls && has_puts && is_done != simulation.failed)
 }
 
-/// How many runs of a plan agree: each put failing or none, at widths 1 to 3, in several orders of
-/// the ends. It stops at the first run that doesn't.
+/// How many runs of a plan agree: each put failing or none, at widths 1 to 3, in several orders of the ends. It stops
+/// at the first run that doesn't.
 fn agreeing(alloc: Global, letters: &[u8]) -> Result<(usize, bool), RowFault> {
     let mut runs = 0usize;
     for failing in 0..=letters.len() {
@@ -91,8 +90,8 @@ fn agreeing_text(alloc: Global, letters: &[u8], length: u32) -> Result<String, R
     Ok(format!(in alloc; "{count} plans, {all} runs")?)
 }
 
-/// Whether the scheduler runs each plan as a simulation does, with each put failing or none, at
-/// widths 1 to 3 and in several orders of the ends. It asks by `letters LETTERS` and `length N`.
+/// Whether the scheduler runs each plan as a simulation does, with each put failing or none, at widths 1 to 3 and in
+/// several orders of the ends. It asks by `letters LETTERS` and `length N`.
 pub fn answer(alloc: Global, row: &Row<'_>) -> Result<String, RowFault> {
     let Some(letters) = row.bytes(alloc, "letters")? else {
         return Err(RowFault::Misspelled("no letters"));

@@ -1,4 +1,4 @@
-use crate::row_fault::RowFault;
+use crate::row::RowFault;
 use kt_base::{Entry, Kind, Run, Verdict, emit, emit_number, emit_wide_number};
 use kt_play::{ScriptedWriter, WriteFault};
 use std::alloc::Global;
@@ -38,8 +38,8 @@ impl Printed<'_> {
     }
 }
 
-/// A writer that takes so many bytes at a time, and of whose writes one fails so, counted from 1,
-/// with all behind it; 0 for none.
+/// A writer that takes so many bytes at a time, and of whose writes one fails so, counted from 1, with all behind it; 0
+/// for none.
 pub fn writer(alloc: Global, at_most: usize, failing: u64, fault: WriteFault) -> ScriptedWriter {
     let mut writer = ScriptedWriter::new(alloc, failing);
     writer.at_most = at_most;
@@ -97,8 +97,8 @@ fn wrong_where_slow(
     wrong_where_cut(alloc, printed, &slow)
 }
 
-/// The text that is printed, if it is the same into each writer: one that takes all at a time,
-/// seven bytes or one, and one that fails at one of its first writes, which gets a beginning.
+/// The text that is printed, if it is the same into each writer: one that takes all at a time, seven bytes or one, and
+/// one that fails at one of its first writes, which gets a beginning.
 pub fn printed_text(alloc: Global, printed: Printed<'_>) -> Result<String, RowFault> {
     let mut out = writer(alloc, usize::MAX, 0, WriteFault::Broken);
     printed.print(&mut out);

@@ -2,8 +2,7 @@ use crate::escapes::text_of;
 use crate::lines::push_line;
 use crate::numbers::{number, numbered};
 use crate::pairs::pair_of;
-use crate::row::{Entry, Row};
-use crate::row_fault::RowFault;
+use crate::row::{Entry, Row, RowFault};
 use crate::verdicts::reason_text;
 use kt_base::{Reason, Text, Variables};
 use kt_config::Config;
@@ -11,8 +10,7 @@ use kt_metadata::{Host, Props, is_kyuafile_property, property_of_key, unmet};
 use std::alloc::Global;
 use std::collections::BTreeSet;
 
-/// What a row has said so far: the properties of a program and of its case, the configuration and
-/// the host.
+/// What a row has said so far: the properties of a program and of its case, the configuration and the host.
 #[derive(Drop)]
 struct Example {
     alloc: Global,
@@ -49,27 +47,6 @@ fn set_variable(alloc: Global, config: &mut Config, raw: &str) -> Result<(), Row
         .map_err(|_| RowFault::Misspelled("there is no such variable"))
 }
 
-/// The value of the first pair with a name, `-` if there is none.
-fn value_in(alloc: Global, pairs: &Variables, name: &str) -> Result<String, RowFault> {
-    for pair in pairs.as_slice() {
-        if pair.name.as_str() == name {
-            return Ok(String::from_str(alloc, pair.value.as_str())?);
-        }
-    }
-    Ok(String::from_str(alloc, "-")?)
-}
-
-/// Pairs as a report has them, a line each.
-fn lines_of(alloc: Global, pairs: &Variables) -> Result<String, RowFault> {
-    let mut out = String::new(alloc);
-    for pair in pairs.as_slice() {
-        push_line(&mut out, pair.name.as_str())?;
-        out.push_str(" = ")?;
-        out.push_str(pair.value.as_str())?;
-    }
-    Ok(out)
-}
-
 fn reason_line(alloc: Global, reason: Option<Reason>) -> Result<String, RowFault> {
     match reason {
         None => Ok(String::from_str(alloc, "met")?),
@@ -88,6 +65,12 @@ fn key_line(alloc: Global, raw: &str) -> Result<String, RowFault> {
 fn kyuafile_line(alloc: Global, raw: &str) -> Result<String, RowFault> {
     let may = is_kyuafile_property(&text_of(alloc, raw)?);
     Ok(String::from_str(alloc, if may { "yes" } else { "no" })?)
+}
+
+/// Adds a name to those that the host has.
+fn insert(alloc: Global, names: &mut BTreeSet<String>, raw: &str) -> Result<(), RowFault> {
+    names.insert(text_of(alloc, raw)?.into_string())?;
+    Ok(())
 }
 
 impl Example {
@@ -133,17 +116,38 @@ impl Example {
         reason_line(self.alloc, reason)
     }
 
+    /// The value of a property as it is listed, `-` if it isn't.
+    fn shown(&self, name: &str) -> Result<String, RowFault> {
+        for pair in self.listing()?.as_slice() {
+            if pair.name.as_str() == name {
+                return Ok(String::from_str(self.alloc, pair.value.as_str())?);
+            }
+        }
+        Ok(String::from_str(self.alloc, "-")?)
+    }
+
+    /// The pairs that are listed, as a report has them, a line each.
+    fn listed(&self) -> Result<String, RowFault> {
+        let mut out = String::new(self.alloc);
+        for pair in self.listing()?.as_slice() {
+            push_line(&mut out, pair.name.as_str())?;
+            out.push_str(" = ")?;
+            out.push_str(pair.value.as_str())?;
+        }
+        Ok(out)
+    }
+
+    /// How many pairs are listed.
+    fn count(&self) -> Result<String, RowFault> {
+        Ok(self.listing()?.len().to_string(self.alloc)?)
+    }
+
     /// Takes a line that says something of the host.
     fn take_host(&mut self, entry: &Entry<'_>) -> Result<(), RowFault> {
-        let text = text_of(self.alloc, entry.text)?.into_string();
         match entry.word {
             "root" => self.host.root = true,
-            "file" => {
-                self.host.files.insert(text)?;
-            }
-            "program" => {
-                self.host.programs.insert(text)?;
-            }
+            "file" => insert(self.alloc, &mut self.host.files, entry.text)?,
+            "program" => insert(self.alloc, &mut self.host.programs, entry.text)?,
             "memory" => self.host.memory = Some(number(entry.text)?),
             "disk" => self.host.disk = Some(number(entry.text)?),
             _ => return Err(RowFault::Misspelled("there is no such word")),
@@ -166,16 +170,24 @@ impl Example {
     /// What a line asks, or what is refused of what it says.
     fn line(&mut self, entry: &Entry<'_>) -> Result<Option<String>, RowFault> {
         let told = match entry.word {
-            "get" => self.given(entry.text)?,
-            "show" => value_in(self.alloc, &self.listing()?, entry.text)?,
-            "listing" => lines_of(self.alloc, &self.listing()?)?,
-            "count" => self.listing()?.len().to_string(self.alloc)?,
-            "unmet" => self.unmet()?,
-            "key" => key_line(self.alloc, entry.text)?,
-            "kyuafile" => kyuafile_line(self.alloc, entry.text)?,
+            "get" => self.given(entry.text),
+            "show" => self.shown(entry.text),
+            "listing" => self.listed(),
+            "count" => self.count(),
+            "unmet" => self.unmet(),
+            "key" => key_line(self.alloc, entry.text),
+            "kyuafile" => kyuafile_line(self.alloc, entry.text),
             _ => return self.take(entry),
         };
-        Ok(Some(told))
+        Ok(Some(told?))
+    }
+
+    /// Appends what a line asks, or what is refused of what it says.
+    fn push_told(&mut self, out: &mut String, entry: &Entry<'_>) -> Result<(), RowFault> {
+        if let Some(told) = self.line(entry)? {
+            push_line(out, told.as_str())?;
+        }
+        Ok(())
     }
 }
 
@@ -184,9 +196,7 @@ pub fn answer(alloc: Global, row: &Row<'_>) -> Result<String, RowFault> {
     let mut example = Example::new(alloc);
     let mut out = String::new(alloc);
     for entry in row.entries.as_slice() {
-        if let Some(told) = example.line(entry)? {
-            push_line(&mut out, told.as_str())?;
-        }
+        example.push_told(&mut out, entry)?;
     }
     Ok(out)
 }

@@ -1,8 +1,7 @@
 //! Reads of a file that never ends.
 
 use crate::numbers::number;
-use crate::row::Row;
-use crate::row_fault::RowFault;
+use crate::row::{Row, RowFault};
 use kt_child::{FileRead, read_front, read_start};
 use kt_play::EndlessReader;
 use std::alloc::Global;

@@ -1,9 +1,8 @@
 use crate::escapes::{lossy_of, unescaped};
-use crate::kinds::kind_of;
 use crate::numbers::number;
 use crate::printing::{Printed, printed_text, writer};
-use crate::row::{Entry, Row};
-use crate::row_fault::RowFault;
+use crate::recorded::kind_of;
+use crate::row::{Entry, Row, RowFault};
 use crate::verdicts::reason_text;
 use kt_base::{Bytes, Reason, lossy, send};
 use kt_play::WriteFault;
@@ -36,8 +35,8 @@ fn number_text(alloc: Global, text: &str) -> Result<String, RowFault> {
     }
 }
 
-/// How much of a text reaches a writer that takes `taking N` bytes at a time and fails from a write
-/// on, `failing WRITE`, and with how many writes.
+/// How much of a text reaches a writer that takes `taking N` bytes at a time and fails from a write on, `failing
+/// WRITE`, and with how many writes.
 fn sent_text(alloc: Global, row: &Row<'_>, bytes: &[u8]) -> Result<String, RowFault> {
     let at_most = number(row.text("taking").unwrap_or("1"))? as usize;
     let failing = number(row.text("failing").unwrap_or("0"))?;
@@ -48,8 +47,8 @@ fn sent_text(alloc: Global, row: &Row<'_>, bytes: &[u8]) -> Result<String, RowFa
     Ok(format!(in alloc; "{count} in {writes} writes, {end}")?)
 }
 
-/// The text of a reason, of a kind, of a number or of bytes: `kind WORD`, `number N`, `words TEXT`
-/// or `nothing`, `bytes TEXT`, `send TEXT` or `emit TEXT`.
+/// The text of a reason, of a kind, of a number or of bytes: `kind WORD`, `number N`, `words TEXT` or `nothing`, `bytes
+/// TEXT`, `send TEXT` or `emit TEXT`.
 pub fn answer(alloc: Global, row: &Row<'_>) -> Result<String, RowFault> {
     let Some(Entry { word, text }) = row.entries.first().copied() else {
         return Err(RowFault::Misspelled("the row is empty"));

@@ -1,11 +1,9 @@
 ghost use Rattle.std.specs.Prelude.{◌≤◌, IfOk};
 
 use crate::escapes::{lossy_of, unescaped};
-use crate::kinds::kind_of;
 use crate::numbers::number;
 use crate::pairs::pairs_of;
-use crate::row::{Entry as Line, Row, text_in};
-use crate::row_fault::RowFault;
+use crate::row::{Entry as Line, Row, RowFault, text_in};
 use kt_base::{Bytes, Entry, Items, Kind, LATEST_MOMENT, Output, Reason, Run, Variables, Verdict};
 use std::alloc::Global;
 
@@ -32,6 +30,27 @@ fn output_in(alloc: Global, lines: &[Line<'_>], out: &str, err: &str) -> Result<
     })
 }
 
+/// The kind of a word.
+pub fn kind_of(word: &str) -> Result<Kind, RowFault> {
+    match word {
+        "passed" => Ok(Kind::Passed),
+        "skipped" => Ok(Kind::Skipped),
+        "expected_failure" => Ok(Kind::ExpectedFailure),
+        "failed" => Ok(Kind::Failed),
+        "broken" => Ok(Kind::Broken),
+        _ => Err(RowFault::Misspelled("no such kind")),
+    }
+}
+
+/// The kinds of these words.
+pub fn kinds_of(alloc: Global, words: &str) -> Result<Vec<Kind>, RowFault> {
+    let mut kinds = Vec::new(alloc);
+    for word in words.split_whitespace() {
+        kinds.push(kind_of(word)?)?;
+    }
+    Ok(kinds)
+}
+
 /// The verdict of a text such as `failed: x`.
 fn verdict_of(alloc: Global, text: &str) -> Result<Verdict, RowFault> {
     let (word, reason) = text.split_once(": ").unwrap_or((text, ""));
@@ -52,17 +71,18 @@ fn no_output(alloc: Global) -> Output {
     }
 }
 
-/// The entry of a case at the first position that took no time and wrote nothing.
+/// The entry of a case at this position that took no time and wrote nothing.
 fn case_entry(
     alloc: Global,
-    program: &str,
-    case_name: &str,
-    verdict: Verdict,
+    content: &[Line<'_>],
+    verdict: &str,
+    position: u32,
 ) -> Result<Entry, RowFault> {
-    let program = lossy_of(alloc, program)?;
-    let case_name = lossy_of(alloc, case_name)?;
+    let program = lossy_of(alloc, text_in(content, "program").unwrap_or("a"))?;
+    let case_name = lossy_of(alloc, text_in(content, "case").unwrap_or("main"))?;
+    let verdict = verdict_of(alloc, verdict)?;
     Ok(Entry {
-        position: 0,
+        position,
         program,
         case_name,
         verdict,
@@ -74,24 +94,32 @@ fn case_entry(
     })
 }
 
-/// The entry with a verdict, and what the lines below it say: `program TEXT`, `case TEXT`, `started
-/// MILLISECONDS`, `took MILLISECONDS`, the outputs `out TEXT`, `err TEXT`, `cleanup-out TEXT` and
-/// `cleanup-err TEXT`; and a line `meta NAME=VALUE` for each pair.
+/// Takes when a case was started, and how long it took.
+fn take_times(entry: &mut Entry, content: &[Line<'_>]) -> Result<(), RowFault> {
+    entry.started = number_in(content, "started", 0)?;
+    entry.millis = number_in(content, "took", 0)?;
+    Ok(())
+}
+
+fn take_content(alloc: Global, entry: &mut Entry, content: &[Line<'_>]) -> Result<(), RowFault> {
+    entry.body = output_in(alloc, content, "out", "err")?;
+    entry.cleanup = output_in(alloc, content, "cleanup-out", "cleanup-err")?;
+    entry.meta = pairs_of(alloc, content, "meta")?;
+    Ok(())
+}
+
+/// The entry with a verdict, and what the lines below it say: `program TEXT`, `case TEXT`, `started MILLISECONDS`,
+/// `took MILLISECONDS`, the outputs `out TEXT`, `err TEXT`, `cleanup-out TEXT` and `cleanup-err TEXT`; and a line `meta
+/// NAME=VALUE` for each pair.
 fn entry_of(
     alloc: Global,
     content: &[Line<'_>],
     verdict: &str,
     position: u32,
 ) -> Result<Entry, RowFault> {
-    let program = text_in(content, "program").unwrap_or("a");
-    let case_name = text_in(content, "case").unwrap_or("main");
-    let mut entry = case_entry(alloc, program, case_name, verdict_of(alloc, verdict)?)?;
-    entry.position = position;
-    entry.started = number_in(content, "started", 0)?;
-    entry.millis = number_in(content, "took", 0)?;
-    entry.body = output_in(alloc, content, "out", "err")?;
-    entry.cleanup = output_in(alloc, content, "cleanup-out", "cleanup-err")?;
-    entry.meta = pairs_of(alloc, content, "meta")?;
+    let mut entry = case_entry(alloc, content, verdict, position)?;
+    take_times(&mut entry, content)?;
+    take_content(alloc, &mut entry, content)?;
     Ok(entry)
 }
 

@@ -1,8 +1,6 @@
-use crate::kinds::kinds_of;
 use crate::printing::{Printed, printed_text};
-use crate::recorded::run_of;
-use crate::row::Row;
-use crate::row_fault::RowFault;
+use crate::recorded::{kinds_of, run_of};
+use crate::row::{Row, RowFault};
 use kt_base::Run;
 use std::alloc::Global;
 
@@ -15,8 +13,7 @@ fn lines_text(alloc: Global, run: &Run) -> Result<String, RowFault> {
     Ok(out)
 }
 
-/// The text report, with the sections of `kinds WORDS` or of all kinds; `verbose` tells what the
-/// cases declared.
+/// The text report, with the sections of `kinds WORDS` or of all kinds; `verbose` tells what the cases declared.
 fn report_text(alloc: Global, row: &Row<'_>, run: &Run) -> Result<String, RowFault> {
     let words = row.text("kinds");
     let kinds = kinds_of(

@@ -1,9 +1,8 @@
 //! What a store tells of its runs.
 
 use crate::entry_texts::{entries_text, shown};
-use crate::lines::push_line;
-use crate::names::name_of;
-use crate::row_fault::RowFault;
+use crate::lines::{name_of, push_line};
+use crate::row::RowFault;
 use kt_base::Entry;
 use kt_store::{ResultStore, RunHead};
 use std::alloc::Global;
@@ -19,8 +18,8 @@ fn state_text(head: &RunHead) -> &'static str {
     }
 }
 
-/// A run with the number of its entries: `run 1 at 500: 2 of 3, unfinished`, or without its moment
-/// `run 1: 2 of 3, unfinished`.
+/// A run with the number of its entries: `run 1 at 500: 2 of 3, unfinished`, or without its moment `run 1: 2 of 3,
+/// unfinished`.
 fn run_text(
     alloc: Global,
     head: &RunHead,

@@ -1,8 +1,7 @@
-use crate::endings::ending_of;
 use crate::escapes::unescaped;
 use crate::numbers::{count, number, numbers};
-use crate::row::{Entry, Row};
-use crate::row_fault::RowFault;
+use crate::row::{Entry, Row, RowFault};
+use crate::verdicts::ending_of;
 use kt_base::Outcome;
 use kt_child::Polled;
 use kt_play::{Holding, Life, PartFault, Scene, ask_too_much};
@@ -84,8 +83,8 @@ fn take<'a>(alloc: Global, scene: &mut Scene<'a>, entry: &Entry<'a>) -> Result<(
     Ok(())
 }
 
-/// The scene of a row: `life LIFE` each, `holds PATH TEXT` each, `clock N` or `moments NUMBERS`,
-/// `fails CALLS` or, for memory, `refuses CALLS`, `odd WHAT`.
+/// The scene of a row: `life LIFE` each, `holds PATH TEXT` each, `clock N` or `moments NUMBERS`, `fails CALLS` or, for
+/// memory, `refuses CALLS`, `odd WHAT`.
 pub fn scene_of<'a>(alloc: Global, row: &Row<'a>) -> Result<Scene<'a>, RowFault> {
     let failing = failing_of(row.text("fails").or(row.text("refuses")))?;
     let shortage = match row.text("refuses") {

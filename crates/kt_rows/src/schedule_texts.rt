@@ -1,4 +1,4 @@
-use crate::row_fault::RowFault;
+use crate::row::RowFault;
 use kt_base::{Entry, Role};
 use kt_play::Call;
 use kt_sched::{RunFault, Totals};
@@ -17,8 +17,7 @@ fn call_text(alloc: Global, call: Call) -> Result<String, RowFault> {
     Ok(format!(in alloc; "{word} {role}{position}")?)
 }
 
-/// The calls of the launcher, and a line with the positions of the entries in the order of their
-/// puts.
+/// The calls of the launcher, and a line with the positions of the entries in the order of their puts.
 pub fn long_text(alloc: Global, calls: &[Call], entries: &[Entry]) -> Result<String, RowFault> {
     let mut out = String::new(alloc);
     for (place, call) in calls.iter().enumerate() {
@@ -62,8 +61,7 @@ fn are_by_position(entries: &[Entry]) -> bool {
     true
 }
 
-/// The calls and puts of a run in short: `20 bodies, 10 cleanups, at most 4 at once; 20 entries by
-/// position`.
+/// The calls and puts of a run in short: `20 bodies, 10 cleanups, at most 4 at once; 20 entries by position`.
 pub fn brief_text(alloc: Global, calls: &[Call], entries: &[Entry]) -> Result<String, RowFault> {
     let (bodies, cleanups, most) = counts(calls);
     let count = entries.len();

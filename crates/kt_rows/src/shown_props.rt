@@ -1,5 +1,5 @@
 use crate::pairs::push_pair;
-use crate::row_fault::RowFault;
+use crate::row::RowFault;
 use kt_base::{Variable, Variables};
 use kt_metadata::Props;
 use std::alloc::Global;

@@ -1,4 +1,4 @@
-use crate::row_fault::RowFault;
+use crate::row::RowFault;
 use kt_base::Role;
 use kt_play::{Call, is_refused};
 use std::alloc::Global;
@@ -13,8 +13,8 @@ enum Stage {
     Over,
 }
 
-/// A schedule as docs/formats/schedule.md has it, played over the stages of all cases: each rule is
-/// a search through the whole plan. It shares nothing with kt_sched.
+/// A schedule as docs/formats/schedule.md has it, played over the stages of all cases: each rule is a search through
+/// the whole plan. It shares nothing with kt_sched.
 #[derive(Drop)]
 pub struct Simulation<'a> {
     letters: &'a [u8],
@@ -111,8 +111,7 @@ impl<'a> Simulation<'a> {
         (0..self.count).all(|j| !self.is_before(j, i) || !self.waits(j))
     }
 
-    /// Whether there is room for a case: none active beside an exclusive one, else fewer than the
-    /// width.
+    /// Whether there is room for a case: none active beside an exclusive one, else fewer than the width.
     fn has_room(&self, i: u32) -> bool {
         if self.is_exclusive(i) {
             self.active() == 0
@@ -211,8 +210,7 @@ impl<'a> Simulation<'a> {
         (0..self.count).find(|i| stages.contains(&self.stage(*i)))
     }
 
-    /// The case whose child ends next: the one that the script names, if its child runs, or else
-    /// the first.
+    /// The case whose child ends next: the one that the script names, if its child runs, or else the first.
     fn next_end(&mut self) -> Option<u32> {
         let first = self.first_at(&[Stage::Body, Stage::Cleanup])?;
         let Some((named, rest)) = self.ends.split_first() else {

@@ -1,15 +1,15 @@
 ghost use Rattle.kt_sched.specs.Children.{IsIdle};
 
+use crate::command_words::commands_of;
 use crate::listings::listed_of;
 use crate::numbers::{number, numbers};
-use crate::row::{Entry, Row, text_in};
-use crate::row_fault::RowFault;
+use crate::row::{Entry, Row, RowFault, text_in};
 use crate::scenes::holding_of;
 use kt_base::{NoMemory, Text};
 use kt_child::{Driver, Os};
 use kt_cli::{Exit, execute_all};
 use kt_plan::World;
-use kt_play::{RefusingStore, ScriptedWorld, Stage, ask_too_much};
+use kt_play::{RefusingStore, Scene, ScriptedSystem, ScriptedWorld, Stage, ask_too_much};
 use kt_sched::Launcher;
 use kt_store::ResultStore;
 use kt_words::Command;
@@ -61,9 +61,9 @@ fn take<'a>(alloc: Global, stage: &mut Stage<'a>, entry: &Entry<'a>) -> Result<(
     Ok(())
 }
 
-/// The world of a row: `holds PATH TEXT`, `program PATH`, `config PATH TEXT`, `locked PATH`, `dear
-/// PATH`, `lists PROGRAM LISTING`, `found-file PATH` and `found-program NAME` each, `root`,
-/// `has-memory N`, `has-disk N`, and `now MOMENTS`.
+/// The world of a row: `holds PATH TEXT`, `program PATH`, `config PATH TEXT`, `locked PATH`, `dear PATH`, `lists
+/// PROGRAM LISTING`, `found-file PATH` and `found-program NAME` each, `root`, `has-memory N`, `has-disk N`, and `now
+/// MOMENTS`.
 pub fn stage_of<'a>(alloc: Global, lines: &[Entry<'a>]) -> Result<Stage<'a>, RowFault> {
     let mut stage = empty_stage(alloc);
     stage.moments = numbers(alloc, text_in(lines, "now").unwrap_or("0"))?;
@@ -127,7 +127,7 @@ pub fn over_launcher<L: Launcher + Drop, R: ResultStore, W: Write>(
 }
 
 /// Does commands over a world with a driver of its own over this system, and hands it back.
-pub fn over_system<O: Os + Drop, R: ResultStore, W: Write>(
+fn over_system<O: Os + Drop, R: ResultStore, W: Write>(
     alloc: Global,
     commands: &[Command],
     stage: &Stage<'_>,
@@ -144,4 +144,18 @@ pub fn over_system<O: Os + Drop, R: ResultStore, W: Write>(
             Ok((done.exits, os))
         }
     }
+}
+
+/// Does the commands of a row over its world, with a driver over a scripted system.
+pub fn row_over<'a, R: ResultStore, W: Write>(
+    alloc: Global,
+    row: &Row<'_>,
+    scene: &'a Scene<'a>,
+    results: &mut R,
+    out: &mut W,
+) -> Result<(Vec<Exit>, ScriptedSystem<'a>), RowFault> {
+    let commands = commands_of(alloc, row)?;
+    let stage = stage_of(alloc, row.entries.as_slice())?;
+    let os = ScriptedSystem::new(alloc, scene);
+    over_system(alloc, commands.as_slice(), &stage, os, results, out)
 }

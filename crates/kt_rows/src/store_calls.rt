@@ -1,10 +1,9 @@
 use crate::command_words::push_command;
-use crate::names::name_of;
+use crate::lines::name_of;
 use crate::numbers::{count, number};
 use crate::pages::ended_text;
 use crate::recorded::storable_entry;
-use crate::row::{Entry, text_in};
-use crate::row_fault::RowFault;
+use crate::row::{Entry, RowFault, text_in};
 use crate::run_texts::{run_entries_text, runs_text};
 use crate::stages::{over_launcher, stage_of};
 use kt_base::LATEST_MOMENT;

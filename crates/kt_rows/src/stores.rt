@@ -1,8 +1,6 @@
-use crate::lines::push_line;
-use crate::names::name_of;
+use crate::lines::{name_of, push_line};
 use crate::recorded::{content_at, is_content};
-use crate::row::{Entry, Row};
-use crate::row_fault::RowFault;
+use crate::row::{Entry, Row, RowFault};
 use crate::store_calls::call;
 use kt_cli::MemRuns;
 use kt_store::{Results, StoreFault};
@@ -113,8 +111,8 @@ fn over_memory(alloc: Global, lines: &[Entry<'_>]) -> Result<String, RowFault> {
     Ok(out)
 }
 
-/// What calls on a store answer, one after the other: over a database in memory, or over runs in
-/// memory where the first line is `memory`.
+/// What calls on a store answer, one after the other: over a database in memory, or over runs in memory where the first
+/// line is `memory`.
 pub fn answer(alloc: Global, row: &Row<'_>) -> Result<String, RowFault> {
     let lines = row.entries.as_slice();
     if row.text("memory").is_some() {

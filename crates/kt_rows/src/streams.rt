@@ -1,9 +1,8 @@
 //! The claims of result files and the results of TAP streams, read whole and in pieces.
 
 use crate::escapes::unescaped;
-use crate::names::name_of;
-use crate::row::Row;
-use crate::row_fault::RowFault;
+use crate::lines::name_of;
+use crate::row::{Row, RowFault};
 use kt_base::NoMemory;
 use kt_claim::{Claim, ClaimReader, Tap, TapReader, read_claim, read_tap};
 use std::alloc::Global;
@@ -105,8 +104,8 @@ fn single_text<R: Pieces>(alloc: Global, bytes: &[u8]) -> Result<String, RowFaul
     reader.told(alloc)
 }
 
-/// What was read of whole bytes, if it is the same byte by byte and, for short ones, in two pieces,
-/// wherever they are cut.
+/// What was read of whole bytes, if it is the same byte by byte and, for short ones, in two pieces, wherever they are
+/// cut.
 fn agreed<R: Pieces>(alloc: Global, bytes: &[u8], whole: String) -> Result<String, RowFault> {
     let cuts = if bytes.len() > LONG { 1 } else { bytes.len() };
     for cut in 0..cuts {

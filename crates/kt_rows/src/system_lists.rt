@@ -1,10 +1,8 @@
 //! The list of a program, asked of a driver of its own.
 
-use crate::lines::push_line;
-use crate::names::name_of;
+use crate::lines::{name_of, push_line};
 use crate::pairs::pairs_of;
-use crate::row::Row;
-use crate::row_fault::RowFault;
+use crate::row::{Row, RowFault};
 use crate::system_texts::calls;
 use kt_atflist::{ListBytes, Listing};
 use kt_base::{Interface, Text, Variables};
@@ -14,8 +12,7 @@ use kt_play::{Scene, ScriptedSystem};
 use kt_suite::Program;
 use std::alloc::Global;
 
-/// A system that was asked for the list of a program, and what came of it; nothing if there was no
-/// driver.
+/// A system that was asked for the list of a program, and what came of it; nothing if there was no driver.
 #[derive(Drop)]
 struct Listed<O: Drop> {
     os: O,
@@ -86,8 +83,7 @@ fn listed_by<'a>(
     Ok(asked_for_list(alloc, os, &base, source, &program, &variables))
 }
 
-/// The words of the calls that ask for a list, and what came of it; with `show spawns` what was
-/// started, too.
+/// The words of the calls that ask for a list, and what came of it; with `show spawns` what was started, too.
 pub fn answer(alloc: Global, row: &Row<'_>, scene: &Scene<'_>) -> Result<String, RowFault> {
     let listed = listed_by(alloc, row, scene)?;
     let mut out = calls(alloc, "words", listed.os.log.as_str())?;

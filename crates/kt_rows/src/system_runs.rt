@@ -3,8 +3,7 @@ ghost use Rattle.kt_sched.specs.Plan.{IsPlan, IsWidth};
 
 use crate::numbers::{limit_of, number};
 use crate::pairs::pairs_of;
-use crate::row::Row;
-use crate::row_fault::RowFault;
+use crate::row::{Row, RowFault};
 use crate::schedules::width_of;
 use kt_base::{Entry, Items, Text};
 use kt_child::{Driver, Os, run_driver};
@@ -19,6 +18,9 @@ pub struct Driven<O: Drop> {
     pub entries: Vec<Entry>,
     pub done: bool,
 }
+
+/// What a run over a scripted system leaves.
+pub type Ran<'a> = Driven<ScriptedSystem<'a>>;
 
 /// Runs a plan over a driver of its own.
 fn drive<O: Os + Drop>(
@@ -52,8 +54,7 @@ fn drive<O: Os + Drop>(
     }
 }
 
-/// The plan of a row: `plan LETTERS`, perhaps `program PATH`, `limit SECONDS` and `variable
-/// NAME=VALUE` each.
+/// The plan of a row: `plan LETTERS`, perhaps `program PATH`, `limit SECONDS` and `variable NAME=VALUE` each.
 fn plan_of(alloc: Global, row: &Row<'_>) -> Result<Items<Job>, RowFault>
     ensures { IfOk result IsPlan }
 {
@@ -65,13 +66,13 @@ fn plan_of(alloc: Global, row: &Row<'_>) -> Result<Items<Job>, RowFault>
     Ok(plan)
 }
 
-/// Runs the plan of a row over a scripted system: what `plan_of` reads, and `width N`, `failing
-/// PUT`, `base PATH` and `source PATH`.
+/// Runs the plan of a row over a scripted system: what `plan_of` reads, and `width N`, `failing PUT`, `base PATH` and
+/// `source PATH`.
 pub fn run_plan<'a>(
     alloc: Global,
     row: &Row<'_>,
     scene: &'a Scene<'a>,
-) -> Result<Driven<ScriptedSystem<'a>>, RowFault> {
+) -> Result<Ran<'a>, RowFault> {
     let width = width_of(row.text("width"))?;
     let failing = number(row.text("failing").unwrap_or("0"))? as usize;
     let base = Text::from_str(alloc, row.text("base").unwrap_or(""))?;

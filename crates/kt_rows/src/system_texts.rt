@@ -1,4 +1,4 @@
-use crate::row_fault::RowFault;
+use crate::row::RowFault;
 use kt_base::{Entry, Kind};
 use kt_play::folded;
 use std::alloc::Global;
@@ -13,8 +13,7 @@ fn call_of<'a>(shown: &str, line: &'a str) -> Option<&'a str> {
     }
 }
 
-/// The calls of a log, folded: all of `calls`, their first `words`, or those for `watching`
-/// children.
+/// The calls of a log, folded: all of `calls`, their first `words`, or those for `watching` children.
 pub fn calls(alloc: Global, shown: &str, log: &str) -> Result<String, RowFault> {
     let mut lines = Vec::new(alloc);
     for line in log.lines() {

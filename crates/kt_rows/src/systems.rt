@@ -1,21 +1,16 @@
 use crate::entry_texts::entries_text;
 use crate::failures::each_failing;
 use crate::lines::push_line;
-use crate::row::Row;
-use crate::row_fault::RowFault;
+use crate::row::{Row, RowFault};
 use crate::scenes::scene_of;
-use crate::system_runs::{Driven, run_plan};
+use crate::system_runs::{Ran, run_plan};
 use crate::system_texts::{calls, totals};
 use crate::{readers, system_lists};
-use kt_play::{Scene, ScriptedSystem};
+use kt_play::Scene;
 use std::alloc::Global;
 
 /// What is shown of a run by a word.
-fn shown_by(
-    alloc: Global,
-    word: &str,
-    run: &Driven<ScriptedSystem<'_>>,
-) -> Result<String, RowFault> {
+fn shown_by(alloc: Global, word: &str, run: &Ran<'_>) -> Result<String, RowFault> {
     match word {
         "calls" | "words" | "watching" => calls(alloc, word, run.os.log.as_str()),
         "spawns" => Ok(String::from_str(alloc, run.os.spawned.as_str().trim())?),
@@ -29,11 +24,7 @@ fn shown_by(
 }
 
 /// What is shown of a run: its entries, where the row doesn't say.
-fn shown(
-    alloc: Global,
-    row: &Row<'_>,
-    run: &Driven<ScriptedSystem<'_>>,
-) -> Result<String, RowFault> {
+fn shown(alloc: Global, row: &Row<'_>, run: &Ran<'_>) -> Result<String, RowFault> {
     let mut out = String::new(alloc);
     for word in row.text("show").unwrap_or("entries").split_whitespace() {
         push_line(&mut out, shown_by(alloc, word, run)?.as_str())?;
@@ -53,8 +44,8 @@ fn plan(alloc: Global, row: &Row<'_>, scene: Scene<'_>) -> Result<String, RowFau
     shown(alloc, row, &run)
 }
 
-/// What is asked of a scripted system, and what it comes to. The first line says for what: `plan
-/// LETTERS`, `list` or `reader`.
+/// What is asked of a scripted system, and what it comes to. The first line says for what: `plan LETTERS`, `list` or
+/// `reader`.
 pub fn answer(alloc: Global, row: &Row<'_>) -> Result<String, RowFault> {
     let scene = scene_of(alloc, row)?;
     let Some(first) = row.entries.first() else {

@@ -1,7 +1,6 @@
 use crate::command_words::words_of;
 use crate::numbers::number;
-use crate::row::Row;
-use crate::row_fault::RowFault;
+use crate::row::{Row, RowFault};
 use kt_base::{Kind, Text};
 use kt_plan::CaseOptions;
 use kt_words::{Command, CommandFault, ReportOptions, read_command};
@@ -35,8 +34,8 @@ fn push_given(
     Ok(())
 }
 
-/// Appends a command over test cases: its Kyuafile and its directory, its results file if it has
-/// one, and what it is given.
+/// Appends a command over test cases: its Kyuafile and its directory, its results file if it has one, and what it is
+/// given.
 fn push_cases(
     out: &mut String,
     name: &str,
@@ -96,6 +95,12 @@ fn push_command(alloc: Global, out: &mut String, command: &Command) -> Result<()
     }
 }
 
+fn command_text(alloc: Global, command: &Command) -> Result<String, RowFault> {
+    let mut out = String::new(alloc);
+    push_command(alloc, &mut out, command)?;
+    Ok(out)
+}
+
 /// Why words are no command. A usage has a text.
 fn fault_text(alloc: Global, fault: &CommandFault) -> Result<String, RowFault> {
     match fault {
@@ -118,8 +123,8 @@ fn push_times(alloc: Global, words: &mut Vec<String>, text: &str) -> Result<(), 
     Ok(())
 }
 
-/// What a command line is read as: `line WORDS`, with spaces between the words, and perhaps
-/// `times N WORD` for a word that follows N times.
+/// What a command line is read as: `line WORDS`, with spaces between the words, and perhaps `times N WORD` for a word
+/// that follows N times.
 pub fn answer(alloc: Global, row: &Row<'_>) -> Result<String, RowFault> {
     let Some(line) = row.text("line") else {
         return Err(RowFault::Misspelled("the row has no command line"));
@@ -129,11 +134,7 @@ pub fn answer(alloc: Global, row: &Row<'_>) -> Result<String, RowFault> {
         push_times(alloc, &mut words, text)?;
     }
     match read_command(alloc, words.as_slice()) {
-        Ok(command) => {
-            let mut out = String::new(alloc);
-            push_command(alloc, &mut out, &command)?;
-            Ok(out)
-        }
+        Ok(command) => command_text(alloc, &command),
         Err(fault) => fault_text(alloc, &fault),
     }
 }
