@@ -67,17 +67,17 @@ fn props_of(alloc: Global, row: &Row<'_>) -> Result<Props, RowFault> {
 
 /// The cases of a program: `program INTERFACE`, `set NAME=VALUE` for its properties, and what came of its listing.
 fn program_cases(alloc: Global, row: &Row<'_>, word: &str) -> Result<String, RowFault> {
-    let interface = match word {
-        "tap" => Interface::Tap,
-        "plain" => Interface::Plain,
-        _ if row.text("lists").is_some() => Interface::Atf,
-        _ => return Err(RowFault::Misspelled("no listing")),
-    };
+    let props = props_of(alloc, row)?;
     let listing = match row.text("lists") {
         Some(text) => Some(listing_of(alloc, text)?),
         None => None,
     };
-    let found = cases(alloc, interface, &props_of(alloc, row)?, &listing)?;
+    let found = match word {
+        "tap" => cases(alloc, Interface::Tap, &props, &listing)?,
+        "plain" => cases(alloc, Interface::Plain, &props, &listing)?,
+        _ if listing.is_some() => cases(alloc, Interface::Atf, &props, &listing)?,
+        _ => return Err(RowFault::Misspelled("no listing")),
+    };
     shown(alloc, row, found)
 }
 
