@@ -13,7 +13,7 @@ use Rattle.kt_suite.specs.declared.filter.Filter.{Filter}
 use Rattle.kt_suite.specs.declared.filter_fault.FilterFault.{FilterFault}
 use Rattle.kt_suite.specs.declared.read_fault.ReadFault.{ReadFault}
 use Rattle.kt_suite.specs.declared.read_fault.ReadFault.TheVariants.{Missing, Failed}
-use Rattle.kt_suite.specs.Disjoint.{fault_at, IsDisjoint}
+use Rattle.kt_suite.specs.Disjoint.{overlap_fault, IsDisjoint}
 use Rattle.kt_suite.specs.Filters.{Meaning as FilterMeaning, filter_meaning}
 use Rattle.kt_plan.specs.declared.case_options.CaseOptions.{CaseOptions}
 use Rattle.kt_plan.specs.declared.settings.Settings.{Settings}
@@ -101,8 +101,8 @@ filters_of words = each_of filter_of words
 -- the filter at a position shares a case with an earlier one, and no filter before it does
 pub record IsClash (words : List (List ℕ)) (filters : List Filter) (word : List ℕ) (fault : FilterFault) : Type 0 where
   pub position : ℕ
-  pub at : fault_at filters position ≡ Some fault
-  pub first : (before : ℕ) → before < position → fault_at filters before ≡ None
+  pub at : overlap_fault filters position ≡ Some fault
+  pub first : (before : ℕ) → before < position → overlap_fault filters before ≡ None
   pub named : slice_get words position ≡ Some word
 
 -- there is one filter, of one case

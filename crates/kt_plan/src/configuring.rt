@@ -67,13 +67,11 @@ fn set_words(
     ensures { IfOk result (λ outcome. GivesMore config outcome (words_meaning words.now)) }
 {
     let mut config = config;
-    let mut rest = words;
-    while let Some((word, after)) = rest.split_first() {
+    for word in words {
         config = match set_word(alloc, config, word)? {
             Ok(next) => next,
             Err(fault) => return Ok(Err(fault)),
         };
-        rest = after;
     }
     Ok(Ok(config))
 }

@@ -8,33 +8,23 @@ use kt_base::{NoMemory, OutputFault, Text, emit, emit_all};
 use kt_config::ConfigFault;
 use kt_suite::{FilterFault, SuiteFault};
 use std::io::Write;
-use thiserror::Error;
 
-/// Why a command over test cases ended before it did anything: the first fault of its steps. `Display` prints the words of the
-/// fault's line (this profile).
-#[derive(Debug, Drop, Error)]
+/// Why a command over test cases ended before it did anything: the first fault of its steps.
+#[derive(Debug, Drop)]
 pub enum Stop {
-    #[error("out of memory")]
     NoMemory(NoMemory),
     /// The configuration file could not be read.
-    #[error("configuration: could not be read")]
     UnreadConfiguration,
     /// The configuration file was refused.
-    #[error("configuration: {0}")]
     Configuration(ConfigFault),
     /// An argument of `-v` was refused: its name, or all of it if it has no `=`.
-    #[error("variable '{}': {}", .0.as_str(), .1)]
     Variable(Text, ConfigFault),
     /// A filter was refused: the argument as it was given.
-    #[error("filter '{}': {}", .0.as_str(), .1)]
     Filter(Text, FilterFault),
     /// `debug` needs one filter, of one case.
-    #[error("debug needs PROGRAM:CASE")]
     NeedsCase,
-    #[error(transparent)]
     Tree(SuiteFault),
     /// There are more than 100,000 cases to select from.
-    #[error("too many cases")]
     TooManyCases,
 }
 

@@ -1,10 +1,7 @@
-use Rattle.std.proofs.Common.{length}
+use Rattle.std.proofs.Common.{drop}
 use Rattle.kt_plan.proofs.Configurations.{HasSet}
 use Rattle.kt_plan.proofs.configuring.set_words.Given as goal
 
 -- the words before the rest are set
 abbrev pub invariant-loop-word : goal.invariant-loop-word
-invariant-loop-word l = HasSet l.fn.config l.config l.words l.rest
-
-abbrev pub decreases-loop-word : goal.decreases-loop-word
-decreases-loop-word l = length l.rest
+invariant-loop-word l = HasSet l.fn.config l.config l.words (drop l.word-index l.words)
