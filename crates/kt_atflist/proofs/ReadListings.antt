@@ -7,7 +7,8 @@ use Rattle.kt_base.specs.declared.phrase.Phrase.TheVariants.{ListUnreadable, Lis
 use Rattle.kt_base.specs.declared.reason.Reason.{Reason}
 use Rattle.kt_base.specs.declared.reason.Reason.TheVariants.{Fixed, Counted}
 use Rattle.kt_base.specs.declared.refused.Refused.{Refused}
-use Rattle.kt_atflist.specs.Listings.{refused_reason, ended_reason, fault_phrase, IsRead, no_list, listed, Lists, unstarted, unlisted, unreadable, too_long, read}
+use Rattle.kt_base.specs.Reasons.{refused_reason}
+use Rattle.kt_atflist.specs.Listings.{ended_reason, fault_phrase, IsRead, no_list, listed, Lists, unstarted, unlisted, unreadable, too_long, read}
 use Rattle.kt_atflist.specs.Spelling.{Outcome, IsOutOfMemory, fault_at}
 use Rattle.kt_atflist.specs.Spelling.{IsAnswer}
 use Rattle.kt_atflist.specs.declared.list_bytes.ListBytes.{ListBytes}

@@ -4,11 +4,11 @@ use Rattle.kt_base.specs.declared.no_memory.NoMemory.{NoMemory}
 use Rattle.kt_base.specs.declared.outcome.Outcome.{Outcome}
 use Rattle.kt_base.specs.declared.outcome.Outcome.TheVariants.{Exited, Signaled, TimedOut, WaitFailed}
 use Rattle.kt_base.specs.declared.phrase.Phrase.{Phrase}
-use Rattle.kt_base.specs.declared.phrase.Phrase.TheVariants.{NoDirectory, NoOutput, NotSpawned, NoMemoryToStart, ListTimedOut, ListNotWaitedFor, NoList, ListUnreadable, ListTooLong, ListBadHeader, ListBadLine, ListNoIdent, ListRepeatedKey, ListRepeatedIdent, ListUnknownKey, ListBadValue, ListEmpty, ListNotUtf8}
+use Rattle.kt_base.specs.declared.phrase.Phrase.TheVariants.{ListTimedOut, ListNotWaitedFor, NoList, ListUnreadable, ListTooLong, ListBadHeader, ListBadLine, ListNoIdent, ListRepeatedKey, ListRepeatedIdent, ListUnknownKey, ListBadValue, ListEmpty, ListNotUtf8}
 use Rattle.kt_base.specs.declared.reason.Reason.{Reason}
 use Rattle.kt_base.specs.declared.reason.Reason.TheVariants.{Fixed, Ended, Counted}
 use Rattle.kt_base.specs.declared.refused.Refused.{Refused}
-use Rattle.kt_base.specs.declared.refused.Refused.TheVariants.{Directory, Output, Spawn, Memory}
+use Rattle.kt_base.specs.Reasons.{refused_reason}
 use Rattle.kt_atflist.specs.declared.list_bytes.ListBytes.{ListBytes}
 use Rattle.kt_atflist.specs.declared.list_bytes.ListBytes.TheVariants as bytes
 use Rattle.kt_atflist.specs.declared.list_cause.ListCause.{ListCause}
@@ -19,13 +19,6 @@ use Rattle.kt_atflist.specs.declared.case_def.CaseDef.{CaseDef}
 use Rattle.kt_atflist.specs.declared.listing.Listing.{Listing}
 use Rattle.kt_atflist.specs.declared.listing.Listing.TheVariants as listing
 use Rattle.kt_atflist.specs.Spelling.{Spells, IsDue}
-
--- why a program was not started
-abbrev pub refused_reason : Refused → Reason
-refused_reason Directory = Fixed NoDirectory
-refused_reason Output = Fixed NoOutput
-refused_reason Spawn = Fixed NotSpawned
-refused_reason Memory = Fixed NoMemoryToStart
 
 -- why a program that ended so did not list its cases
 abbrev pub ended_reason : Outcome → Option Reason

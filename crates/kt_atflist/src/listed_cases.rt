@@ -1,25 +1,14 @@
 //! The cases that a listing gives.
 
 ghost use Rattle.std.specs.Prelude.{◌≡◌, IfOk};
-ghost use Rattle.kt_atflist.specs.Listings.{refused_reason, ended_reason, IsRead, Lists};
+ghost use Rattle.kt_atflist.specs.Listings.{ended_reason, IsRead, Lists};
 
 use crate::case_def::CaseDef;
 use crate::list_bytes::ListBytes;
 use crate::listing::Listing;
 use crate::reader::parse_list;
-use kt_base::{Bytes, Items, NoMemory, Outcome, Phrase, Reason, Refused};
+use kt_base::{Bytes, Items, NoMemory, Outcome, Phrase, Reason};
 use std::alloc::Global;
-
-fn refused_reason(refused: Refused) -> Reason
-    ensures { result ≡ refused_reason refused }
-{
-    match refused {
-        Refused::Directory => Reason::Fixed(Phrase::NoDirectory),
-        Refused::Output => Reason::Fixed(Phrase::NoOutput),
-        Refused::Spawn => Reason::Fixed(Phrase::NotSpawned),
-        Refused::Memory => Reason::Fixed(Phrase::NoMemoryToStart),
-    }
-}
 
 fn ended_reason(outcome: Outcome) -> Option<Reason>
     ensures { result ≡ ended_reason outcome }
@@ -56,7 +45,7 @@ pub fn listed_cases(
     ensures { IfOk result (λ found. Lists listing.now found) }
 {
     match listing {
-        Listing::Refused(refused) => Ok(Err(refused_reason(*refused))),
+        Listing::Refused(refused) => Ok(Err(refused.reason())),
         Listing::Ended(outcome, bytes) => match ended_reason(*outcome) {
             Some(reason) => Ok(Err(reason)),
             None => match bytes {

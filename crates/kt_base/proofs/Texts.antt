@@ -1,11 +1,14 @@
--- A text's characters and its bytes tell it apart from other texts alike.
-use Rattle.std.proofs.Common.{◌≡◌, ℕ, suc, false, List, [], ◌∷◌, bytes_eq, chars, refl, ap, sym, ◌∙◌, arith}
-use Rattle.std.specs.Prelude.{encode_utf8_all, ◌==◌, length}
-use Rattle.std.specs.Str.{IsUtf8}
-use Rattle.std.proofs.lemmas.Str.{encodes-chars, chars-nil}
+-- Texts by their bytes and by their characters.
+use Rattle.std.proofs.Common.{◌≡◌, ℕ, suc, ◌+◌, ◌≤◌, false, List, [], ◌∷◌, ◌++◌, take, drop, bytes_eq, chars, Some, None, refl, ap, sym, subst, ◌∙◌, take-append-drop, arith}
+use Rattle.std.specs.Prelude.{encode_utf8, encode_utf8_all, ◌==◌, length}
+use Rattle.std.specs.Char.{IsScalar, len_utf8}
+use Rattle.std.specs.Str.{IsUtf8, NonePass}
+use Rattle.std.specs.Str.Pattern.{FindsChar}
+use Rattle.std.proofs.lemmas.Bool.{eq-eqb}
+use Rattle.std.proofs.lemmas.Str.{encodes-chars, chars-nil, chars-append, chars_from_encodes, chars_past_char, IsUtf8-append, IsUtf8-drop, IsUtf8-encode, IsUtf8-take, IsCharBoundary-from_drop}
 use Rattle.std.proofs.lemmas.Slice.Eq.{bytes_eq-Decides}
 use Rattle.std.proofs.lemmas.Bool.Decides.{same_from_decides, Decides-like, nat_tests}
-use Rattle.kt_base.specs.Texts.{is_empty}
+use Rattle.kt_base.specs.Texts.{is_empty, before, after}
 
 from_chars : (a b : List ℕ) → IsUtf8 a → IsUtf8 b → chars a ≡ chars b → a ≡ b
 from_chars a b u v e = sym (encodes-chars a u) ∙ ap encode_utf8_all e ∙ encodes-chars b v
@@ -25,3 +28,32 @@ some_bytes b bs (c ∷ cs) e = refl
 pub is_empty-chars : (bs : List ℕ) → IsUtf8 bs → is_empty (chars bs) ≡ (length bs == 0)
 is_empty-chars [] u = ap is_empty chars-nil
 is_empty-chars (b ∷ bs) u = some_bytes b bs (chars (b ∷ bs)) (encodes-chars (b ∷ bs) u) ∙ not_zero (length bs)
+
+-- a text in which a character doesn't stand, and what a first one cuts off
+uncut : (sign : ℕ) (cs : List ℕ) → NonePass (λ d. d == sign) cs → (before sign cs ≡ cs) × (after sign cs ≡ None)
+uncut sign [] none = (refl, refl)
+uncut sign (c ∷ cs) none = let e = uncut sign cs none.1 in rw (none.0, e.0, e.1) (refl, refl)
+
+cut : (sign : ℕ) (cs rest : List ℕ) → NonePass (λ d. d == sign) cs → (before sign (cs ++ sign ∷ rest) ≡ cs) × (after sign (cs ++ sign ∷ rest) ≡ Some rest)
+cut sign [] rest none = rw (eq-eqb sign sign refl) (refl, refl)
+cut sign (c ∷ cs) rest none = let e = cut sign cs rest none.1 in rw (none.0, e.0, e.1) (refl, refl)
+
+-- what `split_once` finds
+pub not_found : (sign : ℕ) (s : List ℕ) → IsUtf8 s → FindsChar sign s None → (chars s ≡ before sign (chars s)) × (None ≡ after sign (chars s))
+not_found sign s u f =
+    let whole = chars_from_encodes f.0 s u f.1 in
+    let e = uncut sign (chars s) (subst (NonePass (λ d. d == sign)) whole f.2) in
+    (sym e.0, sym e.1)
+
+pub found_at : (sign : ℕ) (s : List ℕ) (i j : ℕ) → IsUtf8 s → IsScalar sign → i ≤ length s → FindsChar sign s (Some (i, j))
+    → (chars (take i s) ≡ before sign (chars s)) × (Some (chars (drop j s)) ≡ after sign (chars s))
+found_at sign s i j u scalar within f =
+    let at = f.1 in
+    let past : IsUtf8 (drop j s) = subst (λ (k : ℕ). IsUtf8 (drop k s)) (sym at.ends) (IsUtf8-drop s (i + len_utf8 sign) u at.after) in
+    let from : IsUtf8 (drop i s) = subst IsUtf8 (sym at.split) (IsUtf8-append (encode_utf8 sign) (drop j s) (IsUtf8-encode sign scalar) past) in
+    let until = IsUtf8-take s i u (IsCharBoundary-from_drop s i within from) in
+    let front = chars_from_encodes f.0.0 (take i s) until f.0.1 in
+    let whole : chars s ≡ f.0.0 ++ sign ∷ chars (drop j s) = ap chars (sym (take-append-drop i s)) ∙ chars-append (take i s) (drop i s) until
+    ∙ (λ k. sym front k ++ chars_past_char (drop i s) (drop j s) sign from at.split k) in
+    let e = cut sign f.0.0 (chars (drop j s)) f.0.2 in
+    (sym front ∙ sym e.0 ∙ ap (before sign) (sym whole), sym e.1 ∙ ap (after sign) (sym whole))

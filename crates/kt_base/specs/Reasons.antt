@@ -4,9 +4,11 @@ use Rattle.std.specs.Fmt.{decimal}
 use Rattle.kt_base.specs.declared.outcome.Outcome.{Outcome}
 use Rattle.kt_base.specs.declared.outcome.Outcome.TheVariants.{Exited, Signaled}
 use Rattle.kt_base.specs.declared.phrase.Phrase.{Phrase}
-use Rattle.kt_base.specs.declared.phrase.Phrase.TheVariants.{OtherExitCode, OtherSignal, TestsFailed, MemoryNeeded, DiskNeeded}
+use Rattle.kt_base.specs.declared.phrase.Phrase.TheVariants.{OtherExitCode, OtherSignal, TestsFailed, MemoryNeeded, DiskNeeded, NoDirectory, NoOutput, NotSpawned, NoMemoryToStart}
 use Rattle.kt_base.specs.declared.reason.Reason.{Reason}
 use Rattle.kt_base.specs.declared.reason.Reason.TheVariants.{Nothing, Fixed, Ended, Counted, Owned}
+use Rattle.kt_base.specs.declared.refused.Refused.{Refused}
+use Rattle.kt_base.specs.declared.refused.Refused.TheVariants.{Directory, Output, Spawn, Memory}
 use Rattle.kt_base.specs.Phrases.{phrase_text}
 
 -- what follows a signal that left a core file
@@ -36,3 +38,10 @@ reason_text (Fixed phrase) = phrase_text phrase
 reason_text (Ended phrase ending) = phrase_text phrase ++ ending_text ending
 reason_text (Counted phrase m n) = counted_text phrase m n
 reason_text (Owned text) = text
+
+-- why a program was not started
+abbrev pub refused_reason : Refused → Reason
+refused_reason Directory = Fixed NoDirectory
+refused_reason Output = Fixed NoOutput
+refused_reason Spawn = Fixed NotSpawned
+refused_reason Memory = Fixed NoMemoryToStart

@@ -17,20 +17,19 @@ pub fn digits_length(text: &[u8]) -> usize
     text.iter().take_while(|c| is_digit(**c)).count()
 }
 
-/// The number that decimal digits spell, unless it is above the greatest one. Zeros in front don't count, and no digits spell 0.
+/// The number that decimal digits spell, unless it is above the greatest one. Zeros in front don't
+/// count, and no digits spell 0.
 pub fn decimal_up_to(greatest: u64, digits: &[u8]) -> Option<u64>
     ensures value { result ≡ up_to greatest (decimal_from 0 digits.now) }
     ensures within { IfSome result (λ n. n ≤ greatest) }
 {
     let mut value = 0u64;
-    let mut rest = digits;
-    while let Some((c, after)) = rest.split_first() {
+    for c in digits {
         let next = 10 * value as u128 + c.saturating_sub(b'0') as u128;
         if next > greatest as u128 {
             return None;
         }
         value = next as u64;
-        rest = after;
     }
     Some(value)
 }

@@ -1,64 +1,38 @@
-ghost use Rattle.std.specs.Prelude.{◌≡◌, ◌<◌, ◌+◌, ◌++◌, length, take, drop, option_map, IfOk, IfSome};
-ghost use Rattle.kt_base.specs.Lossy.{front, first, character, further, lossy};
+ghost use Rattle.std.specs.Prelude.{◌≡◌, ◌<◌, ◌++◌, length, IfOk, OnOk};
+ghost use Rattle.std.specs.Str.{chars, IsUtf8};
+ghost use Rattle.kt_base.specs.Lossy.{lossy};
 
 use crate::no_memory::NoMemory;
 use crate::text::Text;
 use std::alloc::Global;
 
-/// The first `n` bytes, if they are there and are UTF-8.
-fn front(bytes: &[u8], n: usize) -> Option<&str>
-    ensures { option_map (λ s. s.now) result ≡ front bytes.now n }
+/// Appends bytes that are UTF-8.
+fn push_utf8(text: &mut Text, bytes: &[u8]) -> Result<(), NoMemory>
+    ensures { OnOk result (IsUtf8 bytes.now → text.new ≡ text.old ++ chars bytes.now) }
 {
-    if n > bytes.len() {
-        return None;
-    }
-    match str::from_utf8(&bytes[..n]) {
-        Ok(s) => Some(s),
-        Err(_) => None,
+    match str::from_utf8(bytes) {
+        Ok(all) => text.push_str(all),
+        Err(_fault) => Ok(()),
     }
 }
 
-/// The character that begins here.
-#[tactic(auto, unfolding(crate::specs::Lossy::first))]
-fn first(bytes: &[u8]) -> Option<&str>
-    ensures { option_map (λ s. s.now) result ≡ first bytes.now }
+/// Appends the characters up to the first byte where none begins, and U+FFFD for that byte. Returns
+/// what follows it.
+fn push_front<'a>(text: &mut Text, bytes: &'a [u8]) -> Result<&'a [u8], NoMemory>
+    ensures text { IfOk result (λ rest. text.new ++ lossy rest.now ≡ text.old ++ lossy bytes.now) }
+    ensures shorter { 0 < length bytes.now → IfOk result (λ rest. length rest.now < length bytes.now) }
 {
-    if let Some(s) = front(bytes, 1) {
-        return Some(s);
-    }
-    if let Some(s) = front(bytes, 2) {
-        return Some(s);
-    }
-    if let Some(s) = front(bytes, 3) {
-        return Some(s);
-    }
-    front(bytes, 4)
-}
-
-/// Appends the character that begins here, and returns how many bytes it has after its first.
-fn push_first(text: &mut Text, bytes: &[u8]) -> Result<usize, NoMemory>
-    ensures { IfOk result (λ n. (n ≡ further (first bytes.now))
-        × (text.new ≡ text.old ++ character (first bytes.now))) }
-{
-    match first(bytes) {
-        None => {
+    match str::from_utf8(bytes) {
+        Ok(all) => {
+            text.push_str(all)?;
+            Ok(&[])
+        }
+        Err(fault) => {
+            let end = fault.valid_up_to();
+            push_utf8(text, &bytes[..end])?;
             text.push(char::REPLACEMENT_CHARACTER)?;
-            Ok(0)
+            Ok(&bytes[end + 1..])
         }
-        Some(s) => {
-            text.push_str(s)?;
-            Ok(s.len().saturating_sub(1))
-        }
-    }
-}
-
-fn past(bytes: &[u8], n: usize) -> &[u8]
-    ensures { result.now ≡ drop n bytes.now }
-{
-    if n <= bytes.len() {
-        &bytes[n..]
-    } else {
-        &bytes[bytes.len()..]
     }
 }
 
@@ -69,9 +43,8 @@ pub fn lossy(alloc: Global, bytes: &[u8]) -> Result<Text, NoMemory>
 {
     let mut text = Text::new(alloc);
     let mut rest = bytes;
-    while let Some((_, after)) = rest.split_first() {
-        let further = push_first(&mut text, rest)?;
-        rest = past(after, further);
+    while !rest.is_empty() {
+        rest = push_front(&mut text, rest)?;
     }
     Ok(text)
 }

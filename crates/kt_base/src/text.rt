@@ -118,17 +118,13 @@ impl Text {
         ensures front { IfOk result (λ parts. parts.0 ≡ before sign self.now) }
         ensures rest { IfOk result (λ parts. parts.1 ≡ after sign self.now) }
     {
-        let characters = self.characters()?;
-        let mut front = Text::new(self.allocator());
-        let mut rest = characters.as_slice();
-        while let Some((c, after)) = rest.split_first() {
-            if *c == sign {
-                return Ok((front, Some(Text::from_characters(self.allocator(), after)?)));
-            }
-            front.push(*c)?;
-            rest = after;
+        match self.as_str().split_once(sign) {
+            None => Ok((self.copy()?, None)),
+            Some((front, rest)) => Ok((
+                Text::from_str(self.allocator(), front)?,
+                Some(Text::from_str(self.allocator(), rest)?),
+            )),
         }
-        Ok((front, None))
     }
 
     /// An equal text with memory of its own.

@@ -3,7 +3,7 @@ ghost use Rattle.kt_base.specs.Verdicts.{Judged};
 ghost use Rattle.kt_status.specs.Tables.{IsVerdictOfRefusal};
 ghost use Rattle.kt_status.specs.Inner.Verdicts.{verdict_of_refusal};
 
-use kt_base::{Phrase, Reason, Refused, Verdict};
+use kt_base::{Refused, Verdict};
 
 /// The verdict on a case whose body, or the list of its program, could not be started.
 pub fn refused_verdict(refused: Refused) -> Verdict
@@ -16,11 +16,5 @@ pub fn refused_verdict(refused: Refused) -> Verdict
 fn refusal(refused: Refused) -> Verdict
     ensures { result ≡ verdict_of_refusal refused }
 {
-    let phrase = match refused {
-        Refused::Directory => Phrase::NoDirectory,
-        Refused::Output => Phrase::NoOutput,
-        Refused::Spawn => Phrase::NotSpawned,
-        Refused::Memory => Phrase::NoMemoryToStart,
-    };
-    Verdict::broken(Reason::Fixed(phrase))
+    Verdict::broken(refused.reason())
 }

@@ -4,8 +4,7 @@ use Rattle.std.specs.Fmt.{decimal}
 use Rattle.kt_base.specs.declared.outcome.Outcome.{Outcome}
 use Rattle.kt_base.specs.declared.outcome.Outcome.TheVariants.{Exited, Signaled, TimedOut, WaitFailed}
 use Rattle.kt_base.specs.declared.refused.Refused.{Refused}
-use Rattle.kt_base.specs.declared.refused.Refused.TheVariants as refused
-use Rattle.kt_base.specs.Reasons.{ending_text}
+use Rattle.kt_base.specs.Reasons.{ending_text, reason_text, refused_reason}
 use Rattle.kt_base.specs.Kinds.{good}
 use Rattle.kt_base.specs.Verdicts.{Judged, passed, skipped, expected_failure, failed, broken}
 use Rattle.kt_claim.specs.declared.claim.Claim.{Claim}
@@ -95,10 +94,7 @@ verdict_of evidence.Plain ending = plain_verdict ending
 
 -- a body or a list that could not be started
 abbrev pub verdict_of_refusal : Refused → Judged
-verdict_of_refusal refused.Directory = broken (codes "Work directory could not be made")
-verdict_of_refusal refused.Output = broken (codes "Output files could not be made")
-verdict_of_refusal refused.Spawn = broken (codes "Test program could not be started")
-verdict_of_refusal refused.Memory = broken (codes "Test case could not be started for want of memory")
+verdict_of_refusal r = broken (reason_text (refused_reason r))
 
 -- a good verdict after the end of a cleanup
 abbrev pub cleaned : Judged → CleanupEnd → Judged

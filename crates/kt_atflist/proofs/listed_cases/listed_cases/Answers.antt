@@ -2,7 +2,7 @@ use Rattle.kt_atflist.proofs.ReadListings.{refused_by, ended_by, unreadable_by, 
 use Rattle.kt_atflist.proofs.listed_cases.listed_cases.Goals as goal
 
 pub returns-in-Refused : goal.returns-in-Refused
-returns-in-Refused c = refused_by _ _ _ c.in-Refused.is c.refused_reason.ensures
+returns-in-Refused c = refused_by _ _ _ c.in-Refused.is c.reason.ensures
 
 pub returns-in-Some : goal.returns-in-Some
 returns-in-Some c = ended_by _ _ _ _ c.in-Ended.is c.in-Some.ensures

@@ -1,7 +1,9 @@
-use Rattle.std.proofs.Common.{arith}
+use Rattle.std.proofs.Common.{suc, drop, get_or, drop-cons, arith}
 use Rattle.kt_base.proofs.Numbers.{overflows}
 use Rattle.kt_base.proofs.decimal_digits.decimal_up_to.Goals as goal
 
 pub returns-then-next-greatest-clause-value : goal.returns-then-next-greatest-clause-value
-returns-then-next-greatest-clause-value c = overflows c.args.greatest c.loop-c.value c.in-Some.c.now c.loop-c.rest.now c.in-Some.after.now c.args.digits.now
-    c.in-Some.ensures.cases.0 c.loop-c.invariant.0 (grind arith)
+returns-then-next-greatest-clause-value c =
+    let i = c.loop-c.c-index in
+    let digits = c.args.digits.now in
+    overflows c.args.greatest c.loop-c.value (get_or digits i 0) (drop i digits) (drop (suc i) digits) digits (drop-cons digits i 0 c.loop-c-test.true) c.loop-c.invariant.0 (grind arith)

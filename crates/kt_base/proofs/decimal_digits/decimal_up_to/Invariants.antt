@@ -1,10 +1,7 @@
-use Rattle.std.proofs.Common.{◌≡◌, ◌≤◌, length}
+use Rattle.std.proofs.Common.{◌≡◌, ◌≤◌, drop}
 use Rattle.kt_base.specs.Digits.{decimal_from}
 use Rattle.kt_base.proofs.decimal_digits.decimal_up_to.Given as goal
 
 -- the number of the digits so far
 abbrev pub invariant-loop-c : goal.invariant-loop-c
-invariant-loop-c l = (decimal_from l.value l.rest ≡ decimal_from 0 l.digits) × (l.value ≤ l.greatest)
-
-abbrev pub decreases-loop-c : goal.decreases-loop-c
-decreases-loop-c l = length l.rest
+invariant-loop-c l = (decimal_from l.value (drop l.c-index l.digits) ≡ decimal_from 0 l.digits) × (l.value ≤ l.greatest)
