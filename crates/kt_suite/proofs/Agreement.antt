@@ -14,7 +14,7 @@ use Rattle.kt_suite.specs.Answers.{Asked, Read, Exists, SameQuestion}
 use Rattle.kt_suite.specs.Faults.{fault_at, read_fault, script_line}
 use Rattle.kt_suite.specs.Meanings.{meaning_of, opening_fault}
 use Rattle.kt_suite.specs.Paths.{beside}
-use Rattle.kt_suite.specs.Marks.{Site, told, looked_up, Mark, Asks, File, Fault, Part, Says, Includes, said, suite_after, StatementsSay, none, one, FileSays, unread, no_script, no_statement, unopened, opened, Unfolds, end, says, refused, entered, TreeGives}
+use Rattle.kt_suite.specs.Marks.{Site, site_fault, looked_up, Mark, Asks, File, Fault, Part, Says, Includes, said, suite_after, StatementsSay, none, one, FileSays, unread, no_script, no_statement, unopened, opened, Unfolds, end, says, refused, entered, TreeGives}
 use Rattle.kt_suite.proofs.ScriptLaws.{one_script, one_fault, not_both}
 
 -- two lists of marks are the same as far as the same answers come
@@ -110,8 +110,8 @@ unfolds_agree : (files : List (List ℕ)) (ps qs : List Part) (ms ns : List Mark
 unfolds_agree files _ _ _ _ no_parts (end _) (end _) = both_end
 unfolds_agree files _ _ _ _ (same_part _ ps qs a) (says _ m _ ms u) (says _ _ _ ns v) = same_mark m ms ns (unfolds_agree files ps qs ms ns a u v)
 unfolds_agree files _ _ _ _ (same_part _ ps qs a) (refused _ at path c _ ms e u) (refused _ _ _ d _ ns f v) =
-    subst (λ (z : SuiteCause). Agree (Fault (told at c) ∷ ms) (Fault (told at z) ∷ ns)) (ap (λ (z : Option SuiteCause). elim z [ None ↦ c | Some cause ↦ cause ]) (sym e ∙ f))
-    (same_mark (Fault (told at c)) ms ns (unfolds_agree files ps qs ms ns a u v))
+    subst (λ (z : SuiteCause). Agree (Fault (site_fault at c) ∷ ms) (Fault (site_fault at z) ∷ ns)) (ap (λ (z : Option SuiteCause). elim z [ None ↦ c | Some cause ↦ cause ]) (sym e ∙ f))
+    (same_mark (Fault (site_fault at c)) ms ns (unfolds_agree files ps qs ms ns a u v))
 unfolds_agree files _ _ _ _ (same_part _ ps qs a) (refused _ at path c _ ms e u) (entered _ _ _ own inner _ ns f s i v) = let z = sym e ∙ f in absurd (cc)
 unfolds_agree files _ _ _ _ (same_part _ ps qs a) (entered _ at path own inner _ ms e s i u) (refused _ _ _ d _ ns f v) = let z = sym e ∙ f in absurd (cc)
 unfolds_agree files _ _ _ _ (same_part _ ps qs a) (entered _ at path own inner _ ms e s i u) (entered _ _ _ own' inner' _ ns f t j v) =

@@ -16,7 +16,7 @@ use Rattle.kt_suite.specs.declared.step.Step.TheVariants.{Next, Enter}
 use Rattle.kt_suite.specs.Answers.{Asked, Exists}
 use Rattle.kt_suite.specs.Faults.{IsNoMemory}
 use Rattle.kt_suite.specs.Paths.{beside}
-use Rattle.kt_suite.specs.Marks.{Site, told, looked_up, Mark, Asks, File, Listed, Fault, said, unread, entry_fault, Unfolds, end, says, refused, entered}
+use Rattle.kt_suite.specs.Marks.{Site, site_fault, looked_up, Mark, Asks, File, Listed, Fault, said, unread, entry_fault, Unfolds, end, says, refused, entered}
 use Rattle.kt_suite.specs.Registered.{file_limit, program_limit, is_fault, file_too_many, program_too_many, no_question}
 use Rattle.kt_suite.specs.Inner.Walks.{Walked, through, stops, short, Adds, Enters, refuses, exceeds, counts, scant, MeaningGives, Stepped, goes, enters, fails}
 use Rattle.kt_suite.proofs.Unfolding.{some_file, some_marks}
@@ -28,21 +28,21 @@ blamed P other fault p q (inr e) = subst P (sym e) q
 
 -- the program isn't there
 pub adds_missing : {S : Type 0} (leads : S → Asked → S → Type 0) (old new : S) (at : Site) (r : Registry) (p : Program) (there : Bool) (fault : SuiteFault) → leads old (Exists p.path there) new → there ≡ false
-    → IsNoMemory fault ⊎ (fault ≡ told at MissingProgram) → Adds leads old new at r p (Err fault)
+    → IsNoMemory fault ⊎ (fault ≡ site_fault at MissingProgram) → Adds leads old new at r p (Err fault)
 adds_missing leads old new at r p there fault h e b =
     let asked = subst (λ (x : Bool). leads old (Exists p.path x) new) e h in
-    blamed (λ f. Adds leads old new at r p (Err f)) (told at MissingProgram) fault
-    (short (Asks (Exists p.path false) ∷ []) (Fault (told at MissingProgram) ∷ []) [] r fault (false, refl) (no_question _) (new, asked, refl) refl)
-    (stops (Asks (Exists p.path false) ∷ []) [] (Fault (told at MissingProgram)) r (told at MissingProgram) (false, refl) (new, asked, refl) refl (is_fault (told at MissingProgram))) b
+    blamed (λ f. Adds leads old new at r p (Err f)) (site_fault at MissingProgram) fault
+    (short (Asks (Exists p.path false) ∷ []) (Fault (site_fault at MissingProgram) ∷ []) [] r fault (false, refl) (no_question _) (new, asked, refl) refl)
+    (stops (Asks (Exists p.path false) ∷ []) [] (Fault (site_fault at MissingProgram)) r (site_fault at MissingProgram) (false, refl) (new, asked, refl) refl (is_fault (site_fault at MissingProgram))) b
 
 -- it is one too many
 pub adds_too_many : {S : Type 0} (leads : S → Asked → S → Type 0) (old new : S) (at : Site) (r : Registry) (p : Program) (there : Bool) (fault : SuiteFault) → leads old (Exists p.path there) new → there ≡ true → program_limit ≤ length r.programs
-    → IsNoMemory fault ⊎ (fault ≡ told at TooMany) → Adds leads old new at r p (Err fault)
+    → IsNoMemory fault ⊎ (fault ≡ site_fault at TooMany) → Adds leads old new at r p (Err fault)
 adds_too_many leads old new at r p there fault h e n b =
     let asked = subst (λ (x : Bool). leads old (Exists p.path x) new) e h in
-    blamed (λ f. Adds leads old new at r p (Err f)) (told at TooMany) fault
+    blamed (λ f. Adds leads old new at r p (Err f)) (site_fault at TooMany) fault
     (short (Asks (Exists p.path true) ∷ []) (Listed at p ∷ []) [] r fault (true, refl) (no_question _) (new, asked, refl) refl)
-    (stops (Asks (Exists p.path true) ∷ []) [] (Listed at p) r (told at TooMany) (true, refl) (new, asked, refl) refl (program_too_many at p n)) b
+    (stops (Asks (Exists p.path true) ∷ []) [] (Listed at p) r (site_fault at TooMany) (true, refl) (new, asked, refl) refl (program_too_many at p n)) b
 
 pub adds_short : {S : Type 0} (leads : S → Asked → S → Type 0) (old new : S) (at : Site) (r : Registry) (p : Program) (there : Bool) (fault : SuiteFault) → leads old (Exists p.path there) new → IsNoMemory fault → Adds leads old new at r p (Err fault)
 adds_short leads old new at r p there fault h n = short (Asks (Exists p.path there) ∷ []) (looked_up at p there ∷ []) [] r fault (there, refl) (no_question _) (new, h, refl) refl n
@@ -53,11 +53,11 @@ adds_one leads old new at r after p there h e n a =
     through (Asks (Exists p.path true) ∷ Listed at p ∷ []) after (true, refl) (new, subst (λ (x : Bool). leads old (Exists p.path x) new) e h, refl) (n, a)
 
 -- an include
-pub enters_refused : (at : Site) (r : Registry) (path : List ℕ) (cause : SuiteCause) (fault : SuiteFault) → Some cause ≡ entry_fault r.reading path → IsNoMemory fault ⊎ (fault ≡ told at cause) → Enters at r path (Err fault)
-enters_refused at r path cause fault e b = blamed (λ f. Enters at r path (Err f)) (told at cause) fault (scant fault) (refuses cause (sym e)) b
+pub enters_refused : (at : Site) (r : Registry) (path : List ℕ) (cause : SuiteCause) (fault : SuiteFault) → Some cause ≡ entry_fault r.reading path → IsNoMemory fault ⊎ (fault ≡ site_fault at cause) → Enters at r path (Err fault)
+enters_refused at r path cause fault e b = blamed (λ f. Enters at r path (Err f)) (site_fault at cause) fault (scant fault) (refuses cause (sym e)) b
 
-pub enters_too_many : (at : Site) (r : Registry) (path : List ℕ) (fault : SuiteFault) → None ≡ entry_fault r.reading path → file_limit ≤ r.files → IsNoMemory fault ⊎ (fault ≡ told at TooMany) → Enters at r path (Err fault)
-enters_too_many at r path fault e n b = blamed (λ f. Enters at r path (Err f)) (told at TooMany) fault (scant fault) (exceeds (sym e) n) b
+pub enters_too_many : (at : Site) (r : Registry) (path : List ℕ) (fault : SuiteFault) → None ≡ entry_fault r.reading path → file_limit ≤ r.files → IsNoMemory fault ⊎ (fault ≡ site_fault at TooMany) → Enters at r path (Err fault)
+enters_too_many at r path fault e n b = blamed (λ f. Enters at r path (Err f)) (site_fault at TooMany) fault (scant fault) (exceeds (sym e) n) b
 
 pub enters_well : (at : Site) (r after : Registry) (path : List ℕ) → None ≡ entry_fault r.reading path → r.files < file_limit → after ≡ (record r { files = r.files + 1 }) → Enters at r path (Ok after)
 enters_well at r after path e n a = subst (λ (x : Registry). Enters at r path (Ok x)) (sym a) (counts (sym e) n)
@@ -70,12 +70,12 @@ pub step_short : {S : Type 0} (leads : S → Asked → S → Type 0) (old : S) (
 step_short leads old r at suite m fault n = fails fault (at_once leads old r at m fault n)
 
 pub step_wrong : {S : Type 0} (leads : S → Asked → S → Type 0) (old : S) (r : Registry) (at : Site) (suite : Option (List ℕ)) (m : Meaning) (cause : SuiteCause) (fault : SuiteFault) → meaning.Wrong cause ≡ m
-    → IsNoMemory fault ⊎ (fault ≡ told at cause) → Stepped leads old old r at suite m (Err fault)
+    → IsNoMemory fault ⊎ (fault ≡ site_fault at cause) → Stepped leads old old r at suite m (Err fault)
 step_wrong leads old r at suite m cause fault e b =
     subst (λ (x : Meaning). Stepped leads old old r at suite x (Err fault)) e
-    (blamed (λ f. Stepped leads old old r at suite (meaning.Wrong cause) (Err f)) (told at cause) fault
+    (blamed (λ f. Stepped leads old old r at suite (meaning.Wrong cause) (Err f)) (site_fault at cause) fault
     (λ n. fails fault (at_once leads old r at (meaning.Wrong cause) fault n))
-    (fails (told at cause) (stops [] [] (Fault (told at cause)) r (told at cause) (record { there = true; unfolds = says _ _ _ _ (end _) }) refl refl (is_fault (told at cause)))) b)
+    (fails (site_fault at cause) (stops [] [] (Fault (site_fault at cause)) r (site_fault at cause) (record { there = true; unfolds = says _ _ _ _ (end _) }) refl refl (is_fault (site_fault at cause)))) b)
 
 pub step_suite : {S : Type 0} (leads : S → Asked → S → Type 0) (old : S) (r : Registry) (at : Site) (suite : Option (List ℕ)) (m : Meaning) (name : List ℕ) → meaning.Suite name ≡ m → Stepped leads old old r at suite m (Ok (Next r (Some name)))
 step_suite leads old r at suite m name e =
@@ -85,9 +85,9 @@ step_suite leads old r at suite m name e =
 step_enter_at : {S : Type 0} (leads : S → Asked → S → Type 0) (old : S) (r : Registry) (at : Site) (suite : Option (List ℕ)) (name : List ℕ) (result : Result Registry SuiteFault) → Enters at r (beside at.file name) result
     → Stepped leads old old r at suite (meaning.Include name) (elim result as (λ _. Result Step SuiteFault) [ Ok next ↦ Ok (Enter next suite (beside at.file name)) | Err fault ↦ Err fault ])
 step_enter_at leads old r at suite name _ (refuses cause e) =
-    fails (told at cause) (stops [] [] (Fault (told at cause)) r (told at cause) (record { there = true; unfolds = refused _ _ _ _ _ _ e (end _) }) refl refl (is_fault (told at cause)))
+    fails (site_fault at cause) (stops [] [] (Fault (site_fault at cause)) r (site_fault at cause) (record { there = true; unfolds = refused _ _ _ _ _ _ e (end _) }) refl refl (is_fault (site_fault at cause)))
 step_enter_at leads old r at suite name _ (exceeds e n) =
-    fails (told at TooMany) (stops [] _ (File at) r (told at TooMany) (record { there = true; unfolds = entered _ _ _ _ _ _ _ e (unread Missing) (some_file _ _) (end _) }) refl refl (file_too_many at n))
+    fails (site_fault at TooMany) (stops [] _ (File at) r (site_fault at TooMany) (record { there = true; unfolds = entered _ _ _ _ _ _ _ e (unread Missing) (some_file _ _) (end _) }) refl refl (file_too_many at n))
 step_enter_at leads old r at suite name _ (counts e n) = enters (beside at.file name) refl e n refl
 step_enter_at leads old r at suite name _ (scant fault n) = fails fault (at_once leads old r at (meaning.Include name) fault n)
 

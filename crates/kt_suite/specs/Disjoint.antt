@@ -47,14 +47,14 @@ fault_after earlier position None = None
 fault_after earlier position (Some filter) = option_map (clash position filter) (find (overlap filter) earlier)
 
 -- what is wrong with the filter at a position
-abbrev pub fault_at : List Filter → ℕ → Option FilterFault
-fault_at filters position = fault_after (take position filters) position (slice_get filters position)
+abbrev pub overlap_fault : List Filter → ℕ → Option FilterFault
+overlap_fault filters position = fault_after (take position filters) position (slice_get filters position)
 
 -- nothing is wrong with any filter
 abbrev pub IsDisjoint : List Filter → Type 0
-IsDisjoint filters = (position : ℕ) → fault_at filters position ≡ None
+IsDisjoint filters = (position : ℕ) → overlap_fault filters position ≡ None
 
 -- this is wrong at some position, and nothing before
 abbrev pub IsFirstFault : List Filter → FilterFault → Type 0
 IsFirstFault filters fault =
-    (position : ℕ) × (fault_at filters position ≡ Some fault) × ((before : ℕ) → before < position → fault_at filters before ≡ None)
+    (position : ℕ) × (overlap_fault filters position ≡ Some fault) × ((before : ℕ) → before < position → overlap_fault filters before ≡ None)

@@ -26,8 +26,8 @@ pub record Site : Type 0 where
   pub line : ℕ
 
 -- a fault of a statement
-abbrev pub told : Site → SuiteCause → SuiteFault
-told at cause = fault_at at.file at.line cause
+abbrev pub site_fault : Site → SuiteCause → SuiteFault
+site_fault at cause = fault_at at.file at.line cause
 
 -- what is met: a question with its answer, a file that is to be read, a program, a fault
 pub data Mark : Type 0 where
@@ -44,11 +44,11 @@ pub data Part : Type 0 where
 -- a program that a statement registers is there or missing
 abbrev pub looked_up : Site → Program → Bool → Mark
 looked_up at program true = Listed at program
-looked_up at program false = Fault (told at MissingProgram)
+looked_up at program false = Fault (site_fault at MissingProgram)
 
 -- a statement says this by its meaning, and by whether its program is there
 abbrev pub said : Site → Bool → Meaning → List Part
-said at there (meaning.Wrong cause) = Says (Fault (told at cause)) ∷ []
+said at there (meaning.Wrong cause) = Says (Fault (site_fault at cause)) ∷ []
 said at there (meaning.Suite name) = []
 said at there (meaning.Include name) = Includes at (beside at.file name) ∷ []
 said at there (meaning.Program interface name suite props) =
@@ -98,7 +98,7 @@ pub data Unfolds : List (List ℕ) → List Part → List Mark → Type 0 where
       → Unfolds files parts marks → Unfolds files (Says mark ∷ parts) (mark ∷ marks)
   refused : (files : List (List ℕ)) (at : Site) (path : List ℕ) (cause : SuiteCause) (parts : List Part) (marks : List Mark)
       → entry_fault files path ≡ Some cause → Unfolds files parts marks
-      → Unfolds files (Includes at path ∷ parts) (Fault (told at cause) ∷ marks)
+      → Unfolds files (Includes at path ∷ parts) (Fault (site_fault at cause) ∷ marks)
   entered : (files : List (List ℕ)) (at : Site) (path : List ℕ) (own : List Part) (inner : List Mark)
       (parts : List Part) (marks : List Mark)
       → entry_fault files path ≡ None → FileSays path own → Unfolds (files ++ path ∷ []) own inner → Unfolds files parts marks

@@ -5,7 +5,7 @@ use Rattle.kt_suite.specs.declared.fault.SuiteFault.{SuiteFault}
 use Rattle.kt_suite.specs.declared.program.Program.{Program}
 use Rattle.kt_suite.specs.Answers.{Asked, SameQuestion}
 use Rattle.kt_suite.specs.Faults.{IsNoMemory}
-use Rattle.kt_suite.specs.Marks.{Site, told, Mark, Asks, File, Listed, Fault, TreeGives}
+use Rattle.kt_suite.specs.Marks.{Site, site_fault, Mark, Asks, File, Listed, Fault, TreeGives}
 
 -- the most files that are read
 abbrev pub file_limit : ℕ
@@ -60,9 +60,9 @@ pub record IsUndecided (marks : List Mark) : Type 0 where
 -- a mark decides after so many files and programs, by this fault
 pub data Decides (files programs : ℕ) : Mark → SuiteFault → Type 0 where
   is_fault : (fault : SuiteFault) → Decides files programs (Fault fault) fault
-  file_too_many : (at : Site) → file_limit ≤ files → Decides files programs (File at) (told at TooMany)
+  file_too_many : (at : Site) → file_limit ≤ files → Decides files programs (File at) (site_fault at TooMany)
   program_too_many : (at : Site) (program : Program) → program_limit ≤ programs
-      → Decides files programs (Listed at program) (told at TooMany)
+      → Decides files programs (Listed at program) (site_fault at TooMany)
 
 -- what a tree registers by these answers; the questions are exactly those before the mark that decides
 pub data Registered (asked : List Asked) (root : List ℕ) : Outcome → Type 0 where

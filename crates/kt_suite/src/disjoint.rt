@@ -1,7 +1,7 @@
 ghost use Rattle.std.specs.Prelude.{◌≡◌, ◌↔◌, List, ℕ, IfErr, IsTrue, OnOk, option_copied, find, slice_get, take};
 ghost use Rattle.kt_suite.specs.declared.filter.Filter.{Filter as OneFilter};
 ghost use Rattle.kt_suite.specs.Matching.{is_within, IsWithin};
-ghost use Rattle.kt_suite.specs.Disjoint.{same_case_part, is_same_filter, covers, overlap, ShareCase, fault_at, IsDisjoint, IsFirstFault};
+ghost use Rattle.kt_suite.specs.Disjoint.{same_case_part, is_same_filter, covers, overlap, ShareCase, overlap_fault, IsDisjoint, IsFirstFault};
 
 use crate::filter::Filter;
 use crate::filter_fault::FilterFault;
@@ -49,8 +49,8 @@ fn first_overlap<'a>(filter: &Filter, earlier: &'a [Filter]) -> Option<&'a Filte
 }
 
 /// What is wrong with the filter at a position.
-fn fault_at(filters: &[Filter], position: usize) -> Option<FilterFault>
-    ensures { result ≡ fault_at filters.now position }
+fn overlap_fault(filters: &[Filter], position: usize) -> Option<FilterFault>
+    ensures { result ≡ overlap_fault filters.now position }
 {
     let filter = filters.get(position)?;
     let earlier = first_overlap(filter, &filters[..position])?;
@@ -67,7 +67,7 @@ pub fn check_disjoint(filters: &[Filter]) -> Result<(), FilterFault>
     ensures first { IfErr result (IsFirstFault filters.now) }
 {
     for position in 0..filters.len() {
-        if let Some(fault) = fault_at(filters, position) {
+        if let Some(fault) = overlap_fault(filters, position) {
             return Err(fault);
         }
     }

@@ -11,13 +11,8 @@ fn case_fault(case_name: &Option<Text>) -> Option<FilterFault>
     ensures { result ≡ case_fault case_name.now }
 {
     match case_name {
-        None => None,
-        Some(name) => {
-            if name.is_empty() {
-                return Some(FilterFault::EmptyCase);
-            }
-            None
-        }
+        Some(name) if name.is_empty() => Some(FilterFault::EmptyCase),
+        _ => None,
     }
 }
 
@@ -67,18 +62,10 @@ pub fn plain_path(alloc: Global, path: &Text) -> Result<Text, NoMemory>
     ensures { IfOk result (λ plain. plain ≡ plain_path path.now) }
 {
     let characters = path.characters()?;
+    let components: Vec<&[char]> = characters.split(|c| *c == '/').collect(alloc)?;
     let mut plain = Text::new(alloc);
-    let mut component = Text::new(alloc);
-    let mut rest = characters.as_slice();
-    while let Some((c, after)) = rest.split_first() {
-        if *c == '/' {
-            add_component(&mut plain, &component)?;
-            component = Text::new(alloc);
-        } else {
-            component.push(*c)?;
-        }
-        rest = after;
+    for component in &components {
+        add_component(&mut plain, &Text::from_characters(alloc, *component)?)?;
     }
-    add_component(&mut plain, &component)?;
     Ok(plain)
 }

@@ -73,11 +73,9 @@ fn all_places(alloc: Global, filters: &[Filter]) -> Result<Vec<usize>, NoMemory>
 {
     let mut all = Vec::new(alloc);
     let mut place = 0;
-    let mut rest = filters;
-    while let Some((_filter, after)) = rest.split_first() {
+    for _filter in filters {
         all.push(place)?;
         place += 1;
-        rest = after;
     }
     Ok(all)
 }

@@ -14,7 +14,7 @@ use Rattle.kt_suite.specs.Answers.{Asked, Read, Exists}
 use Rattle.kt_suite.specs.declared.cause.SuiteCause.{SuiteCause}
 use Rattle.kt_suite.specs.declared.cause.SuiteCause.TheVariants.{NoSyntax, TooMany}
 use Rattle.kt_suite.specs.Faults.{fault_at, IsNoMemory}
-use Rattle.kt_suite.specs.Marks.{Site, told, looked_up, Mark, Asks, File, Listed, Fault, Part, Says, Includes, said, suite_after, FileSays, entry_fault, Unfolds}
+use Rattle.kt_suite.specs.Marks.{Site, site_fault, looked_up, Mark, Asks, File, Listed, Fault, Part, Says, Includes, said, suite_after, FileSays, entry_fault, Unfolds}
 use Rattle.kt_suite.specs.Meanings.{opening_fault}
 use Rattle.kt_suite.specs.Registered.{file_limit, program_limit, questions_in, Decides, IsNext}
 
@@ -58,8 +58,8 @@ Adds leads old new at r program result =
 
 -- an include is refused, or its file counted
 pub data Enters (at : Site) (r : Registry) (path : List ℕ) : Result Registry SuiteFault → Type 0 where
-  refuses : (cause : SuiteCause) → entry_fault r.reading path ≡ Some cause → Enters at r path (Err (told at cause))
-  exceeds : entry_fault r.reading path ≡ None → file_limit ≤ r.files → Enters at r path (Err (told at TooMany))
+  refuses : (cause : SuiteCause) → entry_fault r.reading path ≡ Some cause → Enters at r path (Err (site_fault at cause))
+  exceeds : entry_fault r.reading path ≡ None → file_limit ≤ r.files → Enters at r path (Err (site_fault at TooMany))
   counts : entry_fault r.reading path ≡ None → r.files < file_limit
       → Enters at r path (Ok (record r { files = r.files + 1 }))
   scant : (fault : SuiteFault) → IsNoMemory fault → Enters at r path (Err fault)

@@ -1,11 +1,8 @@
-use Rattle.std.proofs.Common.{◌≡◌, length}
+use Rattle.std.proofs.Common.{◌≡◌, map, drop}
 use Rattle.kt_suite.specs.Filters.{plain_path}
-use Rattle.kt_suite.proofs.Components.{continued}
+use Rattle.kt_suite.proofs.Components.{with_components}
 use Rattle.kt_suite.proofs.filter_text.plain_path.Given as goal
 
--- what was read, with what the rest gives
-abbrev pub invariant-loop-c : goal.invariant-loop-c
-invariant-loop-c l = continued l.plain l.component l.rest ≡ plain_path l.path
-
-abbrev pub decreases-loop-c : goal.decreases-loop-c
-decreases-loop-c l = length l.rest
+-- the components before the rest are joined
+abbrev pub invariant-loop-component : goal.invariant-loop-component
+invariant-loop-component l = with_components l.plain (map (λ x. x.now) (drop l.component-index l.component-items)) ≡ plain_path l.path
