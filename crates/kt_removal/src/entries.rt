@@ -56,7 +56,7 @@ pub(crate) fn move_directory<R: Files>(rt: &R, path: &[u8], to: &Text) -> io::Re
 }
 
 /// Gives the owner of a directory all permissions. Returns false if the path isn't a directory, but a link, for one.
-fn open_up<R: Files>(rt: &R, path: &str) -> bool {
+pub(crate) fn open_up<R: Files>(rt: &R, path: &str) -> bool {
     match fs::symlink_metadata(rt, path) {
         Ok(metadata) => {
             if !metadata.is_dir() {

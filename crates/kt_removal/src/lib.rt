@@ -3,6 +3,7 @@
 
 mod bounds;
 mod entries;
+mod named;
 mod numbers;
 mod removals;
 

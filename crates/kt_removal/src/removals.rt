@@ -3,6 +3,7 @@ ghost use Rattle.kt_removal.specs.Inner.Removals.{moved_dir};
 
 use crate::bounds::Bound;
 use crate::entries;
+use crate::named::is_removed_by_names;
 use crate::numbers::numbered_path;
 use kt_base::{NoMemory, Text};
 use std::alloc::Global;
@@ -259,8 +260,23 @@ impl Removals {
         let _ = fs::remove_dir(rt, place.as_str());
     }
 
-    /// Removes a directory with all that it holds, and returns whether it is gone from there. No link is followed. A
-    /// directory that would take too long is moved to the others, for later; the root itself stays where it is.
+    /// Removes a directory by the names that are read in it, or moves it to the others, and returns
+    /// whether it is gone from there.
+    fn walk<R: Files + Clock + AllocGlobal>(
+        &mut self,
+        rt: &R,
+        tree: &Text,
+        bound: &mut Bound,
+    ) -> bool
+        ensures { self.new.place ≡ self.old.place }
+    {
+        let _ = self.empty(rt, tree, bound);
+        is_removed(rt, tree) || self.take(rt, tree.as_bytes())
+    }
+
+    /// Removes a directory with all that it holds, and returns whether it is gone from there. No
+    /// link is followed. A directory that would take too long is moved to the others, for later;
+    /// the root itself stays where it is.
     pub fn remove_tree<R: Files + Clock + AllocGlobal>(&mut self, rt: &R, tree: &Text) -> bool
         ensures { self.new.place ≡ self.old.place }
     {
@@ -269,8 +285,7 @@ impl Removals {
         }
         self.asked = self.asked.saturating_add(1);
         let mut bound = Bound::at_once(rt);
-        let _ = self.empty(rt, tree, &mut bound);
-        let gone = is_removed(rt, tree) || self.take(rt, tree.as_bytes());
+        let gone = is_removed_by_names(rt, tree) || self.walk(rt, tree, &mut bound);
         self.go_on(rt, &mut bound);
         gone
     }

@@ -1,5 +1,6 @@
 pub mod Days
-pub mod EscapeSteps
 pub mod InTurn
 pub mod LineSteps
+pub mod Outputs
 pub mod PairSteps
+pub mod Runs

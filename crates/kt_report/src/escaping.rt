@@ -1,33 +1,30 @@
-ghost use Rattle.std.specs.Prelude.{◌≡◌, [], ◌∷◌, ◌++◌, false, if◌then◌else◌, IfOk, OnOk};
+ghost use Rattle.std.specs.Prelude.{◌≡◌, ◌<◌, [], ◌∷◌, ◌++◌, ◌==◌, ◌&&◌, not, false, bytes_eq, length, IfOk, OnOk, MatchOption};
+ghost use Rattle.std.specs.List.{prefix_len};
 ghost use Rattle.std.specs.Str.{chars};
 ghost use Rattle.kt_base.specs.Lossy.{lossy};
 ghost use Rattle.kt_report.specs.Cases.{case_texts};
-ghost use Rattle.kt_report.specs.Escapes.{escaped, escapes, other};
+ghost use Rattle.kt_report.specs.Escapes.{escaped, escapes};
 
 use crate::case_texts::CaseTexts;
 use kt_base::{Bytes, Entry, NoMemory, Text, lossy};
 use std::alloc::Global;
 
-/// Appends a tab or a newline, in an attribute by its number.
-fn push_break(text: &mut Text, attribute: bool, number: &str, c: char) -> Result<(), NoMemory>
-    ensures { OnOk result (text.new ≡ text.old
-        ++ (if attribute then chars number.now else c ∷ [])) }
+/// What XML writes for a character that doesn't stand for itself, in an attribute or in content.
+fn replacement(attribute: bool, c: char) -> Option<&'static str>
+    ensures { MatchOption result (escaped attribute c ≡ c ∷ [])
+        (λ words. escaped attribute c ≡ chars words.now) }
 {
-    if attribute {
-        text.push_str(number)
-    } else {
-        text.push(c)
-    }
-}
-
-/// Appends a character, or a question mark where XML has none.
-fn push_other(text: &mut Text, c: char) -> Result<(), NoMemory>
-    ensures { OnOk result (text.new ≡ text.old ++ other c) }
-{
-    if c < ' ' || c == '\u{fffe}' || c == '\u{ffff}' {
-        text.push('?')
-    } else {
-        text.push(c)
+    match c {
+        '&' => Some("&amp;"),
+        '<' => Some("&lt;"),
+        '>' => Some("&gt;"),
+        '"' => Some("&quot;"),
+        '\r' => Some("&#13;"),
+        '\t' if attribute => Some("&#9;"),
+        '\n' if attribute => Some("&#10;"),
+        '\t' | '\n' => None,
+        _ if c < ' ' || c == '\u{fffe}' || c == '\u{ffff}' => Some("?"),
+        _ => None,
     }
 }
 
@@ -35,35 +32,62 @@ fn push_other(text: &mut Text, c: char) -> Result<(), NoMemory>
 fn push_escaped(text: &mut Text, attribute: bool, c: char) -> Result<(), NoMemory>
     ensures { OnOk result (text.new ≡ text.old ++ escaped attribute c) }
 {
-    match c {
-        '&' => text.push_str("&amp;"),
-        '<' => text.push_str("&lt;"),
-        '>' => text.push_str("&gt;"),
-        '"' => text.push_str("&quot;"),
-        '\r' => text.push_str("&#13;"),
-        '\t' => push_break(text, attribute, "&#9;", c),
-        '\n' => push_break(text, attribute, "&#10;", c),
-        _ => push_other(text, c),
+    match replacement(attribute, c) {
+        Some(words) => text.push_str(words),
+        None => text.push(c),
     }
 }
 
-/// Characters as XML has them.
-fn escape_all(alloc: Global, attribute: bool, characters: &[char]) -> Result<Text, NoMemory>
-    ensures { IfOk result (λ t. t ≡ escapes attribute characters.now) }
+/// Whether a byte of UTF-8 stands in XML as it is. The first byte of U+FFFE and U+FFFF doesn't.
+fn stands(attribute: bool, byte: u8) -> bool
+    ensures { result ≡ bytes_eq (escaped attribute byte) (byte ∷ []) && not (byte == 239) }
 {
-    let mut escaped = Text::new(alloc);
-    for c in characters {
-        push_escaped(&mut escaped, attribute, *c)?;
+    match byte {
+        b'&' | b'<' | b'>' | b'"' | b'\r' | 239 => false,
+        b'\t' | b'\n' => !attribute,
+        _ => byte >= b' ',
     }
-    Ok(escaped)
+}
+
+/// How many bytes a text begins with that stand in XML as they are.
+fn run_length(attribute: bool, text: &[u8]) -> usize
+    ensures { result ≡ prefix_len
+        (λ b. bytes_eq (escaped attribute b) (b ∷ []) && not (b == 239)) text.now }
+{
+    text.iter()
+        .take_while(|byte| stands(attribute, **byte))
+        .count()
+}
+
+/// Appends the bytes that stand in XML as they are and the character that follows them, and returns
+/// the rest.
+fn push_run<'a>(escaped: &mut Text, attribute: bool, text: &'a str) -> Result<&'a str, NoMemory>
+    ensures text { IfOk result (λ rest. escaped.new ++ escapes attribute (chars rest.now)
+        ≡ escaped.old ++ escapes attribute (chars text.now)) }
+    ensures shorter { 0 < length text.now → IfOk result (λ rest. length rest.now < length text.now) }
+{
+    let (run, after) = text.split_at(run_length(attribute, text.as_bytes()));
+    escaped.push_str(run)?;
+    let mut characters = after.chars();
+    match characters.next() {
+        None => Ok(""),
+        Some(c) => {
+            push_escaped(escaped, attribute, c)?;
+            Ok(characters.as_str())
+        }
+    }
 }
 
 /// A text as XML has it, in an attribute or in content.
 fn escape(alloc: Global, attribute: bool, text: &Text) -> Result<Text, NoMemory>
     ensures { IfOk result (λ t. t ≡ escapes attribute text.now) }
 {
-    let characters = text.characters()?;
-    escape_all(alloc, attribute, characters.as_slice())
+    let mut escaped = Text::new(alloc);
+    let mut rest = text.as_str();
+    while !rest.is_empty() {
+        rest = push_run(&mut escaped, attribute, rest)?;
+    }
+    Ok(escaped)
 }
 
 /// The outputs of a body and of its cleanup, as XML has them in content.

@@ -1,6 +1,6 @@
 use Rattle.std.proofs.Common.{sym, ◌∙◌}
 use Rattle.kt_base.proofs.Showing.{shows_as, shows_none}
-use Rattle.kt_report.proofs.EscapeSteps.{no_output, some_output}
+use Rattle.kt_report.proofs.Outputs.{no_output, some_output}
 use Rattle.kt_report.proofs.junit_report.write_output.Goals as goal
 
 pub returns-then-is_empty : goal.returns-then-is_empty

@@ -1,0 +1,12 @@
+use denote.Shadow.{shadow}
+use denote.Text.{Utf8}
+use Rattle.std.proofs.Common.{◌≡◌, ◌++◌, length}
+use Rattle.std.specs.Str.{chars}
+use Rattle.kt_report.specs.Escapes.{escapes}
+use Rattle.kt_report.proofs.escaping.escape.Given as goal
+
+abbrev pub invariant-loop-rest : goal.invariant-loop-rest
+invariant-loop-rest l = (l.escaped ++ escapes l.attribute (chars l.rest) ≡ escapes l.attribute l.text) × shadow (Utf8 l.rest)
+
+abbrev pub decreases-loop-rest : goal.decreases-loop-rest
+decreases-loop-rest l = length l.rest
