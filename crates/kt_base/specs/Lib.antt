@@ -1,13 +1,13 @@
 pub mod Chains
 pub mod Characters
 pub mod Digits
+pub mod Inner
 pub mod Kinds
 pub mod LastValues
 pub mod Limits
 pub mod Lines
 pub mod Lossy
 pub mod Moments
-pub mod Parts
 pub mod Phrases
 pub mod Reasons
 pub mod Shows

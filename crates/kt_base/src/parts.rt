@@ -20,7 +20,7 @@ pub struct Parts<'a> {
 impl Parts<'_> {
     ghost use Rattle.std.specs.Prelude.{◌≡◌, ◌++◌, OnOk, OnErr, is_err};
     ghost use Rattle.std.specs.Str.{chars};
-    ghost use Rattle.kt_base.specs.Parts.{parts_text};
+    ghost use Rattle.kt_base.specs.Inner.Parts.{parts_text};
     ghost use Rattle.kt_base.specs.Phrases.{phrase_text};
     ghost use Rattle.kt_base.specs.Reasons.{counted_text, ending_text};
     ghost use Rattle.kt_base.specs.Shows.{Shows};
@@ -116,7 +116,7 @@ impl Parts<'_> {
 ghost use Rattle.std.specs.Prelude.{◌≡◌, ◌++◌, Option, OnOk, OnErr, is_err};
 ghost use Rattle.std.specs.Str.{chars};
 ghost use Rattle.std.specs.Fmt.{decimal};
-ghost use Rattle.kt_base.specs.Parts.{number_text, parts_text};
+ghost use Rattle.kt_base.specs.Inner.Parts.{number_text, parts_text};
 ghost use Rattle.kt_base.specs.Reasons.{core_text};
 ghost use Rattle.kt_base.specs.Shows.{Shows};
 ghost use Rattle.kt_base.specs.Utf8.{utf8};

@@ -19,7 +19,7 @@ pub enum Reason {
 
 impl Reason {
     ghost use Rattle.std.specs.Prelude.{◌≡◌};
-    ghost use Rattle.kt_base.specs.Parts.{parts_text};
+    ghost use Rattle.kt_base.specs.Inner.Parts.{parts_text};
     ghost use Rattle.kt_base.specs.Reasons.{reason_text};
 
     /// The text in parts.

@@ -1,7 +1,7 @@
 use Rattle.std.proofs.Common.{◌++◌}
 use Rattle.std.specs.Str.{chars}
 use Rattle.std.proofs.lemmas.Result.{err_from_is_err_and}
-use Rattle.kt_base.specs.Parts.{number_text}
+use Rattle.kt_base.specs.Inner.Parts.{number_text}
 use Rattle.kt_base.specs.Utf8.{utf8}
 use Rattle.kt_base.proofs.PartTexts.{parts_bytes}
 use Rattle.kt_base.proofs.Showing.{shows_both, shows_more}
