@@ -1,6 +1,7 @@
 # What the scripts begin with: the checkout as $here, and an empty folder as $scratch, which goes away at their end.
 # An argument has a script print the comment that it begins with, and do nothing.
-here=$(cd "$(dirname "$0")/../.." && pwd)
+here=$(cd "$(dirname "$0")" && pwd)
+here=${here%/bench*}
 top=$here
 . "$here/scripts/sources.sh"
 explain "$@"

@@ -1,0 +1,168 @@
+#!/usr/bin/env bash
+# Says what this `kyua` costs beside the original, where that is installed, and beside the floor, which does what no runner can do
+# without (floor.c). The three take turns, and a row has their medians: seconds, processor seconds with those of their children, and
+# MiB of the largest process, which is the runner. The last column has the ratios of processor seconds, to the original's and to
+# the floor's. A row has three rounds; it has one if that takes 10 seconds, or once the script has run for 120.
+# KYUA names the program to measure; else the one that kyua.sh runs. ROUNDS may say how many rounds. It wants a C compiler. It works
+# in memory if there is enough, or where TMPDIR says, writes nothing else, and ends within three minutes on four processors.
+set -eu
+. "$(dirname "$0")/scratch.sh"
+# What is running ends first, and leaves nothing.
+trap 'exit 1' HUP INT TERM
+find_program
+# In memory no disk is measured. All results together take 1 GB.
+if [ -z "${TMPDIR-}" ] && memory=$(mktemp -d /dev/shm/kyua.XXXXXX 2> /dev/null); then
+  printf '#!/bin/sh\n' > "$memory/try"
+  chmod +x "$memory/try"
+  if "$memory/try" 2> /dev/null && df -Pk "$memory" | awk 'NR == 2 && $4 < 2000000 { exit 1 }'; then
+    rmdir "$scratch"
+    scratch=$memory
+  else
+    rm -r "$memory"
+  fi
+fi
+export TMPDIR=$scratch HOME=$scratch LC_ALL=C
+cd "$scratch"
+. "$here/bench/measure.sh"
+rounds=${ROUNDS:-3}
+
+# Measures a runner, which must print as many lines like $line as the row has ($lines).
+runs() {
+  local found
+  measure "$@"
+  found=$(grep -c "$line" out) || true
+  [ "$found" = "$lines" ] || { echo "bench: $found lines and not $lines: ${*:2}" >&2; exit 1; }
+}
+ours() { runs ours "$program" "$@"; }
+theirs() { [ -z "$other" ] || runs theirs "$other" -c none --logfile="$scratch/log" "$@"; }
+
+# A runner's `test` of a Kyuafile. The floor is told the program and the number of its lists and of its cases in its place.
+#   ours_tests KYUAFILE WIDTH RESULTS
+ours_tests() { ours -v parallelism="$2" test -k "$1.kyuafile" -r "$3" --work="$scratch"; }
+theirs_tests() { theirs -v parallelism="$2" test -k "$scratch/$1.kyuafile" -r "$scratch/$3"; }
+#   floor_tests PROGRAM LISTS CASES WIDTH RESULTS
+floor_tests() { runs floor ./floor "$scratch/$1" "${@:2}"; }
+
+# What a round of a row runs.
+#   tests INTERFACE LISTS CASES WIDTH
+tests() {
+  rm -f {ours,theirs,floor}.db*
+  ours_tests "$1" "$4" ours.db
+  theirs_tests "$1" "$4" theirs.db
+  floor_tests "$@" floor.db
+}
+# The original makes a file for each run, and takes none that has results.
+tests_beside_older() {
+  rm -f {ours,floor}.db*
+  cp many.ours ours.db
+  cp many.ours floor.db
+  ours_tests hundred 4 ours.db
+  floor_tests plain 0 100 4 floor.db
+}
+#   lists KYUAFILE
+lists() {
+  ours list -k "$1.kyuafile" --work="$scratch"
+  theirs list -k "$scratch/$1.kyuafile"
+}
+#   reports COMMAND RESULTS
+reports() {
+  ours "$1" -r "$2.ours"
+  [ ! -e "$2.theirs" ] || theirs "$1" -r "$scratch/$2.theirs"
+}
+
+# Prints the median of a column of a runner's figures, which are divided by a number, or a dash if there are none.
+#   median RUNNER COLUMN UNIT
+median() {
+  sort -n -k "$2,$2" "$1.figures" 2> /dev/null | awk -v column="$2" -v unit="$3" '
+    { value[NR] = $column / unit }
+    END {
+      median = (value[int((NR + 1) / 2)] + value[int(NR / 2) + 1]) / 2
+      print NR == 0 ? "-" : sprintf(median < 1 ? "%.3f" : median < 10 ? "%.2f" : median < 100 ? "%.1f" : "%.0f", median)
+    }'
+}
+#   cell COLUMN UNIT
+cell() {
+  printf '%5s / %5s / %5s' "$(median ours "$@")" "$(median theirs "$@")" "$(median floor "$@")"
+}
+#   ratio RUNNER
+ratio() {
+  awk -v ours="$(median ours 2 1)" -v other="$(median "$1" 2 1)" 'BEGIN {
+    print (other + 0 ? sprintf(ours < other / 10 ? "%.3f" : "%.2f", ours / other) : "-")
+  }'
+}
+
+# Measures a row in its rounds, and prints it.
+#   row TITLE LINES LINE FUNCTION [WORD..]
+row() {
+  local title=$1 round begun
+  lines=$2 line=$3
+  rm -f ./*.figures
+  for ((round = 0; round < rounds; round++)); do
+    begun=$SECONDS
+    "${@:4}"
+    if [ $((SECONDS - begun)) -ge 10 ] || [ "$SECONDS" -ge 120 ]; then break; fi
+  done
+  printf '| %-54s | %6d | %s | %s | %s | %5s, %5s |\n' "$title" "$(wc -l < ours.figures)" \
+    "$(cell 1 1)" "$(cell 2 1)" "$(cell 3 1024)" "$(ratio theirs)" "$(ratio floor)"
+}
+
+# A static program costs the least.
+cc -O2 -static -o plain "$here/bench/case.c" 2> log || cc -O2 -o plain "$here/bench/case.c"
+for name in tap atf loud; do ln plain "$name"; done
+keeps='keeps its results with sqlite3'
+cc -O2 -DKEEPS -o floor "$here/bench/floor.c" -lsqlite3 2> log || {
+  keeps='keeps no results, since there is no header of SQLite'
+  cc -O2 -o floor "$here/bench/floor.c"
+}
+programs plain 1000 > plain.kyuafile
+programs plain 100 > hundred.kyuafile
+programs plain 10000 > many.kyuafile
+programs tap 200 tap > tap.kyuafile
+programs atf 50 atf > atf.kyuafile
+programs atf 100 atf > lists.kyuafile
+programs loud 100 > loud.kyuafile
+programs loud 256 > louder.kyuafile
+{ echo 'syntax(2)'; printf "include('tree.%d/Kyuafile')\n" {1..100}; } > tree.kyuafile
+for directory in {1..100}; do
+  mkdir "tree.$directory"
+  ln plain "tree.$directory/plain"
+  programs plain 10 > "tree.$directory/Kyuafile"
+done
+
+echo "Each cell: $program / ${other:-the original, which is not installed} / the floor, which $keeps."
+echo "$(nproc) processors, files in ${scratch%/*}."
+echo
+echo '| what | rounds | seconds | processor seconds | MiB | ratios |'
+echo '|---|---|---|---|---|---|'
+for width in 1 4 8; do row "test of 1,000 plain programs, $width at once" 1000 '  ->  passed' tests plain 0 1000 $width; done
+
+# The results that are reported. 10,000 cases take the original two minutes, so copies of the last 1,000 results stand for them,
+# where sqlite3 is installed.
+line='  ->  passed'
+lines=10000
+ours_tests many 8 many.ours
+lines=256
+ours_tests louder 8 louder.ours
+theirs_tests louder 8 louder.theirs
+if [ -n "$other" ] && type -P sqlite3 > /dev/null; then
+  mv theirs.db many.theirs
+  sqlite3 many.theirs <<'SQL'
+CREATE TEMP TABLE copies AS WITH RECURSIVE c(n) AS (SELECT 1 UNION ALL SELECT n + 1 FROM c WHERE n < 9) SELECT n * 1000000 AS n FROM c;
+INSERT INTO metadatas SELECT metadata_id + n, property_name, property_value FROM metadatas, copies;
+INSERT INTO test_results SELECT test_case_id + n, result_type, result_reason, start_time, end_time FROM test_results, copies;
+INSERT INTO test_cases SELECT test_case_id + n, test_program_id, name, metadata_id + n FROM test_cases, copies;
+SQL
+fi
+
+for width in 1 4 8; do row "test of 200 TAP programs, $width at once" 200 '  ->  passed' tests tap 0 200 $width; done
+for width in 1 4 8; do row "test of 50 ATF programs with 4 cases, $width at once" 200 '  ->  passed' tests atf 50 200 $width; done
+row 'test of 100 programs that print 1 MiB, 4 at once' 100 '  ->  passed' tests loud 0 100 4
+row 'test of 100 programs, beside 10,000 results, 4 at once' 100 '  ->  passed' tests_beside_older
+row 'list of 1,000 plain programs in 100 Kyuafiles' 1000 :main lists tree
+row 'list of 100 ATF programs with 4 cases' 400 atf: lists lists
+row 'report of 10,000 cases' 1 '^Test cases: 10000 total' reports report many
+row 'report-junit of 10,000 cases' 10000 '<testcase ' reports report-junit many
+row 'report of 256 cases that printed 1 MiB' 1 '^Test cases: 256 total' reports report louder
+row 'report-junit of 256 cases that printed 1 MiB' 256 '<testcase ' reports report-junit louder
+echo
+echo "$SECONDS seconds"
