@@ -42,8 +42,11 @@ fn push_escaped(text: &mut Text, attribute: bool, c: char) -> Result<(), NoMemor
 fn stands(attribute: bool, byte: u8) -> bool
     ensures { result ≡ bytes_eq (escaped attribute byte) (byte ∷ []) && not (byte == 239) }
 {
+    if byte > b'>' {
+        return byte != 239;
+    }
     match byte {
-        b'&' | b'<' | b'>' | b'"' | b'\r' | 239 => false,
+        b'&' | b'<' | b'>' | b'"' => false,
         b'\t' | b'\n' => !attribute,
         _ => byte >= b' ',
     }

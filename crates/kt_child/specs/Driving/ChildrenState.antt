@@ -1,5 +1,5 @@
 -- The running children of a driver, and the cases whose cleanup is owed.
-use Rattle.std.specs.Prelude.{ℕ, Bool, true, false, ◌==◌, ◌&&◌, ◌≡◌, ◌+◌, List, [], ◌∷◌, ◌++◌, Option, Some, None, remove, slice_get, if◌then◌else◌}
+use Rattle.std.specs.Prelude.{ℕ, Bool, true, false, ◌==◌, ◌&&◌, ◌≡◌, List, [], ◌∷◌, ◌++◌, Option, Some, None, remove, slice_get, if◌then◌else◌}
 use Rattle.kt_base.specs.declared.role.Role.{Role}
 use Rattle.kt_base.specs.declared.outcome.Outcome.{Outcome}
 use Rattle.kt_sched.specs.declared.ended.Ended.{Ended}

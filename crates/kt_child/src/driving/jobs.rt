@@ -4,7 +4,7 @@ ghost use Rattle.kt_child.specs.Inner.Children.{IsOn};
 ghost use Rattle.kt_child.specs.Driving.JobPlan.{case_in, limit_of, spawning_for, want_of};
 ghost use Rattle.kt_child.specs.Starting.Starts.{spawned};
 
-use crate::ending::ends::{err_path, out_path};
+use crate::ending::ends::output_paths;
 use crate::planning::case::Case;
 use crate::planning::environment::env_plan;
 use crate::planning::locations::{absolute_path, program_directory};
@@ -22,26 +22,17 @@ use std::alloc::Global;
 /// The limit of a cleanup, in seconds (this profile).
 const CLEANUP_LIMIT: u64 = 60;
 
-/// The limit of a job's child, in seconds.
-pub(crate) fn limit(job: &Job, role: Role) -> u64
+/// What a job's child is started for, and its limit in seconds.
+pub(crate) fn want_and_limit(job: &Job, role: Role) -> (Want, u64)
     requires { IsFit job.now }
-    ensures limit { result ≡ limit_of job.now role }
-    ensures some { 1 ≤ result }
-    ensures range { result ≤ 1000000 }
+    ensures want { result.0 ≡ want_of role }
+    ensures limit { result.1 ≡ limit_of job.now role }
+    ensures some { 1 ≤ result.1 }
+    ensures range { result.1 ≤ 1000000 }
 {
     match role {
-        Role::Body => job.timeout as u64,
-        Role::Cleanup => CLEANUP_LIMIT,
-    }
-}
-
-/// What a job's child is started for.
-pub(crate) fn want(role: Role) -> Want
-    ensures { result ≡ want_of role }
-{
-    match role {
-        Role::Body => Want::Body,
-        Role::Cleanup => Want::Cleanup,
+        Role::Body => (Want::Body, job.timeout as u64),
+        Role::Cleanup => (Want::Cleanup, CLEANUP_LIMIT),
     }
 }
 
@@ -81,8 +72,9 @@ pub(crate) fn spawning(
     let env = env_plan(alloc, purpose.interface, purpose.variables, &paths.work)?;
     let dir = paths.dir.copy()?;
     let work = paths.work.copy()?;
-    let out = out_path(role, paths).copy()?;
-    let err = err_path(role, paths).copy()?;
+    let (out, err) = output_paths(role, paths);
+    let out = out.copy()?;
+    let err = err.copy()?;
     let child = Child { attempt, role };
     Ok(Spawning {
         child,

@@ -1,5 +1,5 @@
 use crate::driving::driver::Driver;
-use crate::driving::jobs::{body_case, limit, spawning, want};
+use crate::driving::jobs::{body_case, spawning, want_and_limit};
 use crate::driving::running_children::refuse;
 use crate::planning::case::Case;
 use crate::planning::purpose::Purpose;
@@ -39,14 +39,15 @@ impl<O: Os + Drop> Driver<O> {
         ensures source { self.new.source ≡ self.old.source }
         ensures root { self.new.root ≡ self.old.root }
     {
+        let (want, limit) = want_and_limit(job, case.role);
         let purpose = Purpose {
             role: case.role,
-            want: want(case.role),
+            want,
             interface: job.interface,
             program: &job.program,
             variables: &job.vars,
             case_name: &job.case_name,
-            limit: limit(job, case.role),
+            limit,
         };
         match spawning(self.alloc, &self.source, purpose, case.attempt, &case.paths) {
             Err(refusal) => refuse(&mut self.os, case.role, &case.paths.dir, refusal),
@@ -94,12 +95,10 @@ impl<O: Os + Drop> Driver<O> {
     {
         let owed = self.running.take_owed(job.position);
         let case = Case {
-            position: owed.position,
-            attempt: owed.attempt,
             role: Role::Cleanup,
             interface: job.interface,
             cleanup: job.cleanup,
-            paths: owed.paths,
+            ..owed
         };
         self.begin(job, case)
     }

@@ -1,6 +1,5 @@
 ghost use Rattle.std.specs.Prelude.{◌≡◌, ◌+◌, ◌<◌, ◌≤◌, length, List, slice_get, Some, remove, OnOk, true};
 ghost use Rattle.std.specs.Vec.{vec_len, vec_capacity};
-ghost use Rattle.kt_sched.specs.Children.{same_role};
 ghost use Rattle.kt_child.specs.declared.planning.case.Case.{Case};
 ghost use Rattle.kt_child.specs.Driving.Begins.{Unbegun};
 ghost use Rattle.kt_child.specs.Driving.ChildrenState.{is_among, pending_with};
@@ -102,22 +101,13 @@ fn forget(children: &mut Vec<Watched>, cases: &mut Vec<Case>, pending: &mut Vec<
     pending.push_reserved(case);
 }
 
-fn is_cleanup(role: Role) -> bool
-    ensures { result ≡ same_role role Role.Cleanup }
-{
-    match role {
-        Role::Body => false,
-        Role::Cleanup => true,
-    }
-}
-
 /// Refuses a start for which memory ran out. The directory of a cleanup is removed, since it isn't started again.
 pub(crate) fn refuse<O: Os>(os: &mut O, role: Role, dir: &Text, refusal: NoMemory) -> StartAnswer
     ensures refused { result ≡ StartAnswer.Refused Refused.Memory }
     ensures asked { (calls : List Call) × Chain O.leads os.old calls os.new
         × Unbegun role dir.now calls result }
 {
-    remove_if(os, is_cleanup(role), dir);
+    remove_if(os, role == Role::Cleanup, dir);
     StartAnswer::Refused(memory_refusal(refusal))
 }
 

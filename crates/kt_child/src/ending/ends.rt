@@ -15,23 +15,14 @@ use kt_base::{Outcome, Output, Role, Text};
 use kt_sched::Ended;
 use std::alloc::Global;
 
-/// The file of a child's output.
-pub(crate) fn out_path(role: Role, paths: &Paths) -> &Text
-    ensures { result.now ≡ out_of role paths.now }
+/// The files of a child's output and of its errors.
+pub(crate) fn output_paths(role: Role, paths: &Paths) -> (&Text, &Text)
+    ensures out { result.0.now ≡ out_of role paths.now }
+    ensures err { result.1.now ≡ err_of role paths.now }
 {
     match role {
-        Role::Body => &paths.out,
-        Role::Cleanup => &paths.cleanup_out,
-    }
-}
-
-/// The file of a child's errors.
-pub(crate) fn err_path(role: Role, paths: &Paths) -> &Text
-    ensures { result.now ≡ err_of role paths.now }
-{
-    match role {
-        Role::Body => &paths.err,
-        Role::Cleanup => &paths.cleanup_err,
+        Role::Body => (&paths.out, &paths.err),
+        Role::Cleanup => (&paths.cleanup_out, &paths.cleanup_err),
     }
 }
 
@@ -64,8 +55,9 @@ pub(crate) fn leave<O: Os>(alloc: Global, os: &mut O, case: &Case, outcome: Outc
     // First, so that the time of a case does not include our reading.
     let moment = moment(os);
     let evidence = gather(alloc, os, case.interface, case.role, &case.paths);
-    let out = read_kept(alloc, os, out_path(case.role, &case.paths));
-    let err = read_kept(alloc, os, err_path(case.role, &case.paths));
+    let (out, err) = output_paths(case.role, &case.paths);
+    let out = read_kept(alloc, os, out);
+    let err = read_kept(alloc, os, err);
     // Last, since the files lie in that directory.
     remove_if(os, over(case), &case.paths.dir);
     Ended {

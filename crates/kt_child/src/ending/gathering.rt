@@ -73,20 +73,8 @@ fn read_tap<O: Os>(alloc: Global, os: &mut O, path: &Text) -> Tap
     }
 }
 
-/// Reads what the body of a case left: an ATF program its result file, a TAP program its output.
-fn gather_of_body<O: Os>(alloc: Global, os: &mut O, interface: Interface, paths: &Paths) -> Evidence
-    ensures gathered { (calls : List Call) × Chain O.leads os.old calls os.new
-        × Gathers interface Role.Body paths.now calls result }
-    ensures interface { IsEvidence interface Role.Body result }
-{
-    match interface {
-        Interface::Atf => Evidence::Atf(read_claim(alloc, os, &paths.result)),
-        Interface::Tap => Evidence::Tap(read_tap(alloc, os, &paths.out)),
-        Interface::Plain => Evidence::Plain,
-    }
-}
-
-/// Reads the evidence that a child left.
+/// Reads the evidence that a child left: the body of an ATF program its result file, that of a TAP
+/// program its output.
 pub(crate) fn gather<O: Os>(
     alloc: Global,
     os: &mut O,
@@ -99,7 +87,11 @@ pub(crate) fn gather<O: Os>(
     ensures interface { IsEvidence interface role result }
 {
     match role {
-        Role::Body => gather_of_body(alloc, os, interface, paths),
+        Role::Body => match interface {
+            Interface::Atf => Evidence::Atf(read_claim(alloc, os, &paths.result)),
+            Interface::Tap => Evidence::Tap(read_tap(alloc, os, &paths.out)),
+            Interface::Plain => Evidence::Plain,
+        },
         Role::Cleanup => Evidence::Plain,
     }
 }

@@ -61,7 +61,10 @@ pub(crate) fn take_out<P: OpenProcess + Drop>(
 }
 
 /// The place of the child whose file for errors isn't open yet.
-fn place_for_errors<P: OpenProcess + Drop>(children: &[HostChild<P>], child: Child) -> Option<usize>
+pub(crate) fn place_for_errors<P: OpenProcess + Drop>(
+    children: &[HostChild<P>],
+    child: Child,
+) -> Option<usize>
     ensures within { IfSome result (λ place. place < length children.now) }
     ensures first { IfSome result (λ place. IsPlaceOf child children.now place) }
     ensures idle { OnSome result (stand_in children.now child ≡ None) }
@@ -122,10 +125,7 @@ pub(crate) fn launch<P: OpenProcess + Drop, R: Processes<Started = P> + Clock + 
     ensures others { OthersStay child (stand_in children.old.items) (stand_in children.new.items) }
 {
     match place_of(children, child) {
-        Some(place) => {
-            let held = &mut children[place];
-            held.launch(rt, asked)
-        }
+        Some(place) => children[place].launch(rt, asked),
         None => Err(OsFault::Failed),
     }
 }
@@ -142,10 +142,7 @@ pub(crate) fn poll<P: OpenProcess + Drop, C: Clock>(
     ensures others { OthersStay child (stand_in children.old.items) (stand_in children.new.items) }
 {
     match place_of(children, child) {
-        Some(place) => {
-            let held = &mut children[place];
-            held.poll(clock)
-        }
+        Some(place) => children[place].poll(clock),
         None => Err(OsFault::Failed),
     }
 }
@@ -160,10 +157,7 @@ pub(crate) fn kill<P: OpenProcess + Drop, C: Clock>(
     ensures stay { AllStay (stand_in children.old.items) (stand_in children.new.items) }
 {
     match place_of(children, child) {
-        Some(place) => {
-            let held = &mut children[place];
-            held.kill(clock)
-        }
+        Some(place) => children[place].kill(clock),
         None => Err(OsFault::Failed),
     }
 }

@@ -25,14 +25,16 @@ use std::time::SystemTime;
 
 /// The system itself: the processes, files and clocks of the standard library.
 ///
-/// A pause sleeps in slices, the first of 50 microseconds and each a quarter longer, or in one piece if no child ended
-/// for a while. It is over when a child ends, or after 10 milliseconds. A poll whose answer `running` would be early
-/// sleeps first. The first directory is the root of all others. A long removal goes on in pauses and at later removals.
+/// A pause is over when a child ends, or after 10 milliseconds. A poll whose answer `running` would
+/// be early sleeps first. The first directory is the root of all others. A long removal goes on in
+/// pauses and at later removals.
 #[derive(Drop)]
 pub struct HostOs<R: Processes> {
     rt: R,
     /// The removals below the root directory, once it is made.
     removals: Option<Removals>,
+    /// Whether the umask takes a right from the owner of a new file or directory.
+    narrow: bool,
     /// The limit in seconds that was set last, which is that of the next child.
     limit: u64,
     children: Vec<HostChild<R::Started>>,
@@ -77,6 +79,7 @@ impl<R: Processes + AllocGlobal + Drop> HostOs<R> {
         HostOs {
             rt,
             removals: None,
+            narrow: false,
             limit: 0,
             children,
             last: None,
@@ -99,9 +102,11 @@ impl<R: Processes + Files<File = File> + Clock + AllocGlobal + Clone + Drop> Os 
 
     fn make_dir(&mut self, path: &Text) -> Result<(), OsFault> {
         match self.removals {
-            Some(_) => or_fault(create_directory(&self.rt, path.as_str())),
+            Some(_) => or_fault(create_directory(&self.rt, path.as_str(), self.narrow)),
             None => {
-                self.removals = Some(create_root(&self.rt, path)?);
+                let (removals, narrow) = create_root(&self.rt, path)?;
+                self.removals = Some(removals);
+                self.narrow = narrow;
                 Ok(())
             }
         }
@@ -116,7 +121,8 @@ impl<R: Processes + Files<File = File> + Clock + AllocGlobal + Clone + Drop> Os 
     }
 
     fn open_output(&mut self, child: Child, path: &Text) -> Result<(), OsFault> {
-        match create_output(&self.rt, path.as_str()) {
+        let second = children::place_for_errors(&self.children, child).is_some();
+        match create_output(&self.rt, path.as_str(), second, self.narrow) {
             Ok(file) => children::keep_output(&mut self.children, child, self.limit, file),
             Err(error) => {
                 children::forget(&mut self.children, child);

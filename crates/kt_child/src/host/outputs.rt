@@ -18,32 +18,53 @@ const DIRECTORY_MODE: u32 = 0o700;
 /// The permissions of the file of an output (this profile).
 const OUTPUT_MODE: u32 = 0o600;
 
-/// Makes a directory for its owner alone, whatever the umask is.
-pub(crate) fn create_directory<R: Files>(rt: &R, path: &str) -> io::Result<()> {
-    DirBuilder::new().mode(DIRECTORY_MODE).create(rt, path)?;
-    // The umask may have taken rights of the owner.
-    match fs::set_permissions(rt, path, Permissions::from_mode(DIRECTORY_MODE)) {
-        Ok(()) => Ok(()),
-        Err(error) => {
-            let _ = fs::remove_dir(rt, path);
-            Err(error)
-        }
+/// Gives the owner of a new directory its rights. One that can't have them is removed.
+fn give_rights<R: Files>(rt: &R, path: &str) -> io::Result<()> {
+    let given = fs::set_permissions(rt, path, Permissions::from_mode(DIRECTORY_MODE));
+    if given.is_err() {
+        let _ = fs::remove_dir(rt, path);
     }
+    given
 }
 
-/// Makes a root directory, and in it the one for what its removals move.
-pub(crate) fn create_root<R: Files + AllocGlobal>(rt: &R, path: &Text) -> Result<Removals, OsFault>
-    ensures root { IfOk result (λ removals. removals.root ≡ path.now) }
-    ensures place { IfOk result (λ removals. removals.place ≡ root_of path.now 0) }
+/// Makes a directory for its owner alone, who gets its rights back where the umask is narrow.
+pub(crate) fn create_directory<R: Files>(rt: &R, path: &str, narrow: bool) -> io::Result<()> {
+    DirBuilder::new().mode(DIRECTORY_MODE).create(rt, path)?;
+    if narrow {
+        return give_rights(rt, path);
+    }
+    Ok(())
+}
+
+/// Makes a first directory, and returns whether the umask is narrow: whether it takes a right from
+/// the owner.
+fn create_first<R: Files>(rt: &R, path: &str) -> io::Result<bool> {
+    create_directory(rt, path, false)?;
+    let made = fs::symlink_metadata(rt, path);
+    if made.is_ok_and(|made| made.permissions().mode() & DIRECTORY_MODE == DIRECTORY_MODE) {
+        return Ok(false);
+    }
+    give_rights(rt, path)?;
+    Ok(true)
+}
+
+/// Makes a root directory, and in it the one for what its removals move. Returns whether the umask
+/// is narrow, too.
+pub(crate) fn create_root<R: Files + AllocGlobal>(
+    rt: &R,
+    path: &Text,
+) -> Result<(Removals, bool), OsFault>
+    ensures root { IfOk result (λ made. made.0.root ≡ path.now) }
+    ensures place { IfOk result (λ made. made.0.place ≡ root_of path.now 0) }
 {
     let root = path.copy()?;
     let place = root_path(rt.alloc(), path, 0)?;
-    or_fault(create_directory(rt, root.as_str()))?;
-    if let Err(fault) = or_fault(create_directory(rt, place.as_str())) {
+    let narrow = or_fault(create_first(rt, root.as_str()))?;
+    if let Err(fault) = or_fault(create_directory(rt, place.as_str(), narrow)) {
         let _ = fs::remove_dir(rt, root.as_str());
         return Err(fault);
     }
-    Ok(Removals::new(root, place))
+    Ok((Removals::new(root, place), narrow))
 }
 
 /// Whether the parent of a path is a directory, and not a link to one.
@@ -54,9 +75,15 @@ fn lies_in_directory<R: Files>(rt: &R, path: &str) -> io::Result<bool> {
     }
 }
 
-/// Makes a new file for its owner alone. A path that exists, or a link in place of its directory, is a fault.
-pub(crate) fn create_output<R: Files>(rt: &R, path: &str) -> io::Result<R::File> {
-    if !lies_in_directory(rt, path)? {
+/// Makes a new file for its owner alone. A path that exists, or a link in place of its directory, is
+/// a fault. A second file of a directory is made without another look at that.
+pub(crate) fn create_output<R: Files>(
+    rt: &R,
+    path: &str,
+    second: bool,
+    narrow: bool,
+) -> io::Result<R::File> {
+    if !second && !lies_in_directory(rt, path)? {
         return Err(io::Error::from(ErrorKind::InvalidInput));
     }
     let file = OpenOptions::new()
@@ -64,6 +91,8 @@ pub(crate) fn create_output<R: Files>(rt: &R, path: &str) -> io::Result<R::File>
         .create_new(true)
         .mode(OUTPUT_MODE)
         .open(rt, path)?;
-    file.set_permissions(Permissions::from_mode(OUTPUT_MODE))?;
+    if narrow {
+        file.set_permissions(Permissions::from_mode(OUTPUT_MODE))?;
+    }
     Ok(file)
 }

@@ -21,9 +21,9 @@ planned source job case want limit e f = ap (λ (w : Want). started source job c
 pub returns-in-Ok-clause-begun : goal.returns-in-Ok-clause-begun
 returns-in-Ok-clause-begun g c =
     let B : Spawning → Type 0 = λ s. (calls : List Call) × Chain g.O.Os.leads c.args.self.now.os calls c.start.new.os × Begun s calls c.start.result in
-    subst B (c.in-Ok.ensures.plan ∙ planned c.args.self.now.source c.args.job.now c.args.case _ _ c.want.ensures c.limit.ensures.limit) c.start.ensures.begun
+    subst B (c.in-Ok.ensures.plan ∙ planned c.args.self.now.source c.args.job.now c.args.case _ _ c.want_and_limit-want.ensures.want c.want_and_limit-want.ensures.limit) c.start.ensures.begun
 
 pub returns-in-Ok-clause-state : goal.returns-in-Ok-clause-state
 returns-in-Ok-clause-state g c =
     c.start.ensures.state ∙ ap (λ (s : Spawning). state_after_start c.args.self.now.running (spawned s) c.args.case c.start.result)
-    (c.in-Ok.ensures.plan ∙ planned c.args.self.now.source c.args.job.now c.args.case _ _ c.want.ensures c.limit.ensures.limit)
+    (c.in-Ok.ensures.plan ∙ planned c.args.self.now.source c.args.job.now c.args.case _ _ c.want_and_limit-want.ensures.want c.want_and_limit-want.ensures.limit)
