@@ -2,6 +2,7 @@
 #![tactic(auto)]
 
 mod attach;
+mod batch;
 mod begin;
 mod close;
 mod crashes;
@@ -9,7 +10,6 @@ mod entries;
 mod growth;
 mod heads;
 mod keeping;
-mod kept_results;
 mod lookup;
 mod put;
 mod read;
@@ -25,4 +25,5 @@ pub use keeping::Keeping;
 pub use result_store::ResultStore;
 pub use results::Results;
 pub use run_head::RunHead;
-pub use store_fault::{FailedStatement, Shortage, StoreFault};
+pub use statements::{FailedStatement, Shortage, close_file, open_file};
+pub use store_fault::StoreFault;
