@@ -5,28 +5,15 @@ use Rattle.std.proofs.lemmas.List.{set-get_or}
 use Rattle.kt_base.specs.declared.entry.Entry.{Entry}
 use Rattle.kt_base.specs.declared.run.Run.{Run}
 use Rattle.kt_store.specs.declared.store_fault.StoreFault.{StoreFault}
-use Rattle.kt_store.specs.declared.store_fault.StoreFault.TheVariants as store
-use Rattle.kt_store.specs.Ask.{IsNoMemory, IsStoreFault}
+use Rattle.kt_store.specs.Ask.{IsStoreFault}
 use Rattle.kt_store.specs.Runs.{AreNumbered, insert_at, run_at, put_refusal_of, finish_refusal_of}
 use Rattle.kt_store.specs.Serving.{Agrees, Serves, changed_by}
-use Rattle.kt_store.specs.StoreCalls.{StoreCall, Began, Put, Finished, Heads, Read}
+use Rattle.kt_store.specs.StoreCalls.{StoreCall, Put, Finished}
 use Rattle.kt_store.proofs.Numbered.{numbers_changed}
 use Rattle.kt_store.proofs.ServeLemmas.{always_outlasts}
 use Rattle.kt_cli.specs.MemoryRuns.{LeavesInMemory, memory}
 use Rattle.kt_cli.specs.Inner.MemoryRuns.{ServesInMemory, FindsPlace, entry_refusal, closing_refusal, place_among}
 use Rattle.kt_cli.proofs.Numbered.{entry_placed, finish_placed}
-
--- memory that runs out is a failure of the store
-pub short_fails : (fault : StoreFault) → IsNoMemory fault → IsStoreFault fault
-short_fails (store.NoMemory shortage) is = tt
-short_fails (store.Store statement) is = absurd is
-short_fails store.NoRun is = absurd is
-short_fails store.RunClosed is = absurd is
-short_fails store.RepeatedPosition is = absurd is
-short_fails store.StoreFull is = absurd is
-short_fails store.UnknownSchema is = absurd is
-short_fails store.BadPosition is = absurd is
-short_fails store.Incomplete is = absurd is
 
 -- runs in memory serve a call
 pub serves_in_memory : (old : List Run) (call : StoreCall) (new : List Run) → ServesInMemory old call new → Serves memory call old new
