@@ -1,45 +1,29 @@
 -- Runs in memory are looked up and changed.
 use Rattle.std.specs.Prelude.{Option, Some, None, Ok, Err, Bool, true, false, slice_get, nat_lt, insert, if◌then◌else◌}
-use Rattle.std.proofs.Common.{◌≡◌, ℕ, zero, suc, ◌<◌, ◌≤◌, List, [], ◌∷◌, length, arith, refl, sym, ap, ◌∙◌, get_or, set, inl, inr}
+use Rattle.std.proofs.Common.{◌≡◌, ℕ, zero, suc, ◌<◌, ◌≤◌, List, [], ◌∷◌, length, arith, refl, sym, ap, ◌∙◌, get_or, set, inl, inr, subst}
 use Rattle.std.proofs.lemmas.List.{set-get_or}
 use Rattle.kt_base.specs.declared.entry.Entry.{Entry}
 use Rattle.kt_base.specs.declared.run.Run.{Run}
 use Rattle.kt_store.specs.declared.store_fault.StoreFault.{StoreFault}
-use Rattle.kt_store.specs.declared.store_fault.StoreFault.TheVariants as store
-use Rattle.kt_store.specs.Ask.{IsFailure, IsNoMemory, IsStoreFault}
-use Rattle.kt_store.specs.Fault.{Tells}
-use Rattle.sqlite.specs.declared.error.Error.{Error}
-use Rattle.kt_store.specs.Runs.{insert_at, run_at, put_refusal_of, finish_refusal_of}
-use Rattle.kt_cli.specs.Inner.MemoryRuns.{PutsEntry, FinishesRun, FindsPlace, entry_refusal, closing_refusal, place_among}
+use Rattle.kt_store.specs.Ask.{IsStoreFault}
+use Rattle.kt_store.specs.Runs.{AreNumbered, insert_at, run_at, put_refusal_of, finish_refusal_of}
+use Rattle.kt_store.specs.Serving.{Agrees, Serves, changed_by}
+use Rattle.kt_store.specs.StoreCalls.{StoreCall, Put, Finished}
+use Rattle.kt_store.proofs.Numbered.{numbers_changed}
+use Rattle.kt_store.proofs.ServeLemmas.{always_outlasts}
+use Rattle.kt_cli.specs.MemoryRuns.{LeavesInMemory, memory}
+use Rattle.kt_cli.specs.Inner.MemoryRuns.{ServesInMemory, FindsPlace, entry_refusal, closing_refusal, place_among}
 use Rattle.kt_cli.proofs.Numbered.{entry_placed, finish_placed}
 
--- memory that runs out is a failure of the store
-pub short_fails : (fault : StoreFault) → IsNoMemory fault → IsStoreFault fault
-short_fails (store.NoMemory shortage) is = tt
-short_fails (store.Store statement) is = absurd is
-short_fails store.NoRun is = absurd is
-short_fails store.RunClosed is = absurd is
-short_fails store.RepeatedPosition is = absurd is
-short_fails store.StoreFull is = absurd is
-short_fails store.UnknownSchema is = absurd is
-short_fails store.BadPosition is = absurd is
-short_fails store.Incomplete is = absurd is
-
--- and so is each error of SQLite
-pub told_fails : (error : Error) (fault : StoreFault) → Tells error fault → IsStoreFault fault
-told_fails error fault (inl h) = short_fails fault h.0
-told_fails error fault (inr h) = failed_fails fault h.0
-  where
-    failed_fails : (fault : StoreFault) → IsFailure fault → IsStoreFault fault
-    failed_fails (store.NoMemory shortage) is = absurd is
-    failed_fails (store.Store statement) is = tt
-    failed_fails store.NoRun is = absurd is
-    failed_fails store.RunClosed is = absurd is
-    failed_fails store.RepeatedPosition is = absurd is
-    failed_fails store.StoreFull is = absurd is
-    failed_fails store.UnknownSchema is = absurd is
-    failed_fails store.BadPosition is = absurd is
-    failed_fails store.Incomplete is = absurd is
+-- runs in memory serve a call
+pub serves_in_memory : (old : List Run) (call : StoreCall) (new : List Run) → ServesInMemory old call new → Serves memory call old new
+serves_in_memory old call new h = record {
+  asked = tt;
+  stands = λ runs is. (h.1 (subst (λ (rs : List Run). AreNumbered 1 rs) (sym is.0) is.1) ∙ ap (λ (rs : List Run). changed_by call rs) is.0, numbers_changed call runs is.1);
+  earlier = λ runs is sound. tt;
+  agrees = λ runs is sound. subst (λ (rs : List Run). Agrees rs call) is.0 h.0;
+  crash = λ runs may is. always_outlasts LeavesInMemory (λ _ _. tt) call runs may old new;
+}
 
 read_there : (runs : List Run) (place : ℕ) (run : Run) → place < length runs → run ≡ get_or runs place run → slice_get runs place ≡ Some run
 read_there [] place run f e = absurd (omega (arith, f))
@@ -60,23 +44,23 @@ module _ (old xs : List Run) (number place : ℕ) (run : Run) (s : xs ≡ old) (
   there = found old number place run f (moved xs old place run s r)
 
   -- a put that the run refuses
-  pub put_refused : (e : Entry) (fault : StoreFault) → Some fault ≡ entry_refusal run e.position → PutsEntry old number e (Err fault) (set xs place run)
-  put_refused e fault h = (inr (ap (λ (o : Option Run). put_refusal_of o e) there ∙ sym h), same_list xs old place run s r)
+  pub put_refused : (e : Entry) (fault : StoreFault) → Some fault ≡ entry_refusal run e.position → ServesInMemory old (Put number e (Err fault)) (set xs place run)
+  put_refused e fault h = (inr (ap (λ (o : Option Run). put_refusal_of o e) there ∙ sym h), λ _. same_list xs old place run s r)
 
-  pub put_short : (e : Entry) (entries : List Entry) (fault : StoreFault) → IsStoreFault fault → entries ≡ run.entries → PutsEntry old number e (Err fault) (set xs place (record run { entries = entries }))
-  put_short e entries fault failed k = (inl failed, ap (λ (es : List Entry). set xs place (record run { entries = es })) k ∙ same_list xs old place run s r)
+  pub put_short : (e : Entry) (entries : List Entry) (fault : StoreFault) → IsStoreFault fault → entries ≡ run.entries → ServesInMemory old (Put number e (Err fault)) (set xs place (record run { entries = entries }))
+  put_short e entries fault failed k = (inl failed, λ _. ap (λ (es : List Entry). set xs place (record run { entries = es })) k ∙ same_list xs old place run s r)
 
-  pub put_well : (e : Entry) (entries : List Entry) → None ≡ entry_refusal run e.position → entries ≡ insert_at e run.entries → PutsEntry old number e (Ok tt) (set xs place (record run { entries = entries }))
+  pub put_well : (e : Entry) (entries : List Entry) → None ≡ entry_refusal run e.position → entries ≡ insert_at e run.entries → ServesInMemory old (Put number e (Ok tt)) (set xs place (record run { entries = entries }))
   put_well e entries h k = (
     ap (λ (o : Option Run). put_refusal_of o e) there ∙ sym h,
     λ n. ap (λ (es : List Entry). set xs place (record run { entries = es })) k ∙ ap (λ (l : List Run). set l place (record run { entries = insert_at e run.entries })) s
         ∙ entry_placed 1 place number old run e n (f.0 ∙ omega arith) (read_there old place run f.1 (moved xs old place run s r)),
   )
 
-  pub end_refused : (fault : StoreFault) → Some fault ≡ closing_refusal run → FinishesRun old number (Err fault) (set xs place run)
-  end_refused fault h = (ap finish_refusal_of there ∙ sym h, same_list xs old place run s r)
+  pub end_refused : (fault : StoreFault) → Some fault ≡ closing_refusal run → ServesInMemory old (Finished number (Err fault)) (set xs place run)
+  end_refused fault h = (inr (ap finish_refusal_of there ∙ sym h), λ _. same_list xs old place run s r)
 
-  pub end_well : None ≡ closing_refusal run → FinishesRun old number (Ok tt) (set xs place (record run { finished = true }))
+  pub end_well : None ≡ closing_refusal run → ServesInMemory old (Finished number (Ok tt)) (set xs place (record run { finished = true }))
   end_well h = (
     ap finish_refusal_of there ∙ sym h,
     λ n. ap (λ (l : List Run). set l place (record run { finished = true })) s ∙ finish_placed 1 place number old run n (f.0 ∙ omega arith) (read_there old place run f.1 (moved xs old place run s r)),

@@ -22,7 +22,8 @@ use Rattle.kt_cli.specs.Inner.Reports.{JunitOrUnread}
 use Rattle.kt_cli.specs.Reports.{chosen, run_of, Reported, told, no_run, ReportedJunit, told as told_junit, no_run as no_junit, Unread, no_heads as unread_heads, no_entries as unread_entries, JunitCut, cut as cut_junit}
 use Rattle.kt_cli.specs.SoundStores.{with_new, Comes, not_called, not_begun as comes_not_begun, begun, not_put as comes_not_put, not_finished as comes_not_finished, finished, no_heads, no_run as comes_no_run, no_entries, shown, Left}
 use Rattle.kt_cli.specs.Inner.Stores.{put_all}
-use Rattle.kt_cli.specs.Stores.{puts, changed_by, beside_by, Agrees, changed, beside, Agree, Stored}
+use Rattle.kt_store.specs.Serving.{Agrees, changed_by}
+use Rattle.kt_cli.specs.Stores.{puts, beside_by, changed, beside, Agree, Stored}
 use Rattle.kt_cli.specs.Testing.{Tested, recorded, TestCut, not_begun, not_run, not_put, not_finished}
 use Rattle.kt_cli.proofs.ChosenRuns.{head_found, run_found, entries_there, not_chosen}
 use Rattle.kt_cli.proofs.NewRuns.{put_new, finish_new, finishes}

@@ -1,9 +1,12 @@
 -- Calls on a store, one after the other.
+use Rattle.std.specs.Prelude.{Ok, Err}
 use Rattle.std.proofs.Common.{◌≡◌, List, [], ◌∷◌, ◌++◌, refl, sym, subst}
 use Rattle.kt_base.specs.declared.run.Run.{Run}
-use Rattle.kt_store.specs.StoreCalls.{StoreCall}
+use Rattle.kt_store.specs.StoreCalls.{StoreCall, Began, Put, Finished, Heads, Read}
 use Rattle.kt_base.proofs.Chains.{chain-append}
-use Rattle.kt_cli.specs.Stores.{changed_by, beside_by, Agrees, changed, beside, Agree, Stored}
+use Rattle.kt_store.specs.Serving.{Agrees, Outlasts, Serves, changed_by}
+use Rattle.kt_store.specs.declared.keeping.Keeping as store
+use Rattle.kt_cli.specs.Stores.{beside_by, changed, beside, Agree, Stored}
 
 pub changed-append : (xs ys : List StoreCall) (runs : List Run) → changed (xs ++ ys) runs ≡ changed ys (changed xs runs)
 changed-append [] ys runs = refl
@@ -28,7 +31,7 @@ module _ {R : Type 0} (Answers : R → StoreCall → R → Type 0) (Stands : R �
   stored_none a = record { answered = refl; kept = record { stands = λ runs h. h; earlier = λ runs h s. s; agree = λ runs h s. tt; crash = λ runs may h l. l } }
 
   -- one call
-  pub stored_one : (call : StoreCall) (a b : R) → Answers a call b → ((runs : List Run) → Stands a runs → Stands b (changed_by call runs)) → ((runs : List Run) → Stands a runs → Sound b → Sound a)
+  stored_one : (call : StoreCall) (a b : R) → Answers a call b → ((runs : List Run) → Stands a runs → Stands b (changed_by call runs)) → ((runs : List Run) → Stands a runs → Sound b → Sound a)
       → ((runs : List Run) → Stands a runs → Sound b → Agrees runs call) → ((runs : List Run) (may : List (List Run)) → Stands a runs → Leaves a (runs ∷ may) → Leaves b (changed_by call runs ∷ beside_by call runs may))
       → Stored Answers Stands Sound Leaves (call ∷ []) a b
   stored_one call a b asked stands earlier agrees crash = record { answered = (b, asked, refl); kept = record { stands = stands; earlier = earlier; agree = λ runs h s. (agrees runs h s, tt); crash = crash } }
@@ -52,3 +55,19 @@ module _ {R : Type 0} (Answers : R → StoreCall → R → Type 0) (Stands : R �
   -- the same calls
   pub stored_as : (xs ys : List StoreCall) (a b : R) → xs ≡ ys → Stored Answers Stands Sound Leaves xs a b → Stored Answers Stands Sound Leaves ys a b
   stored_as xs ys a b e p = subst (λ (cs : List StoreCall). Stored Answers Stands Sound Leaves cs a b) e p
+
+-- what a crash leaves beside the runs after a call
+crash_by : {R : Type 0} (Leaves : R → List (List Run) → Type 0) (call : StoreCall) (runs : List Run) (may : List (List Run)) (a b : R) → ((m : List (List Run)) → Outlasts Leaves call runs m a b) → Leaves a (runs ∷ may)
+    → Leaves b (changed_by call runs ∷ beside_by call runs may)
+crash_by Leaves (Began total moment (Ok number)) runs may a b h l = h may
+crash_by Leaves (Began total moment (Err fault)) runs may a b h l = h may l
+crash_by Leaves (Put number e (Ok done)) runs may a b h l = h may
+crash_by Leaves (Put number e (Err fault)) runs may a b h l = h may l
+crash_by Leaves (Finished number (Ok done)) runs may a b h l = h may
+crash_by Leaves (Finished number (Err fault)) runs may a b h l = h may l
+crash_by Leaves (Heads answer) runs may a b h l = h (runs ∷ may) l
+crash_by Leaves (Read number answer) runs may a b h l = h (runs ∷ may) l
+
+-- a call that a store served
+pub stored_call : {R : Type 0} (r : store.Ghosts R) (call : StoreCall) (a b : R) → Serves r call a b → Stored r.answers r.stands r.sound r.leaves (call ∷ []) a b
+stored_call r call a b s = stored_one r.answers r.stands r.sound r.leaves call a b s.asked s.stands s.earlier s.agrees (λ runs may h l. crash_by r.leaves call runs may a b (λ m. s.crash runs m h) l)

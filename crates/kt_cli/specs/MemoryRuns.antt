@@ -3,6 +3,7 @@ use Rattle.std.specs.Prelude.{⊤, List, ◌≡◌}
 use Rattle.kt_base.specs.declared.run.Run.{Run}
 use Rattle.kt_store.specs.StoreCalls.{StoreCall}
 use Rattle.kt_store.specs.Runs.{AreNumbered}
+use Rattle.kt_store.specs.declared.keeping.Keeping as store
 
 -- of what runs in memory answer, each call says all itself
 abbrev pub AnswersInMemory : List Run → StoreCall → List Run → Type 0
@@ -19,3 +20,7 @@ IsSoundInMemory m = ⊤
 -- a crash leaves nothing of them, so it leaves no others
 abbrev pub LeavesInMemory : List Run → List (List Run) → Type 0
 LeavesInMemory m may = ⊤
+
+-- what is known of runs in memory
+abbrev pub memory : store.Ghosts (List Run)
+memory = record { answers = AnswersInMemory; stands = StandsInMemory; sound = IsSoundInMemory; leaves = LeavesInMemory; numbered = λ m runs h. h.1 }

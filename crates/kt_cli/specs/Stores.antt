@@ -1,13 +1,10 @@
 -- The calls that a command makes on a store of runs, and what they do to the runs.
-use Rattle.std.specs.Prelude.{ℕ, List, [], ◌∷◌, ◌++◌, ◌≡◌, ◌<◌, ◌≤◌, ◌⊎◌, ⊤, Some, None, Ok, Err, suc, length, map}
-use Rattle.kt_base.specs.Limits.{last_run}
+use Rattle.std.specs.Prelude.{ℕ, List, [], ◌∷◌, ◌++◌, ⊤, Ok, Err}
 use Rattle.kt_base.specs.declared.entry.Entry.{Entry}
 use Rattle.kt_base.specs.declared.run.Run.{Run}
-use Rattle.kt_store.specs.Ask.{IsStoreFault}
-use Rattle.kt_store.specs.Heads.{head_of}
-use Rattle.kt_store.specs.Runs.{new_run, run_at, with_entry, insert_at, put_refusal, finish, finish_refusal}
+use Rattle.kt_store.specs.Runs.{new_run, with_entry, insert_at, finish}
+use Rattle.kt_store.specs.Serving.{Agrees, changed_by}
 use Rattle.kt_store.specs.StoreCalls.{StoreCall, Began, Put, Finished, Heads, Read}
-use Rattle.kt_store.specs.declared.store_fault.StoreFault.TheVariants.{StoreFull, NoRun}
 use Rattle.kt_base.specs.Chains.{Chain}
 
 -- entries, each put at its position
@@ -24,19 +21,6 @@ abbrev pub puts : ℕ → List Entry → List StoreCall
 puts number [] = []
 puts number (e ∷ es) = Put number e (Ok tt) ∷ puts number es
 
--- ---- what calls do to the runs, by their answers
-
--- the runs after a call: one that is refused changes nothing
-abbrev pub changed_by : StoreCall → List Run → List Run
-changed_by (Began total moment (Ok number)) runs = runs ++ new_run runs total moment ∷ []
-changed_by (Began total moment (Err fault)) runs = runs
-changed_by (Put number e (Ok done)) runs = with_entry number e runs
-changed_by (Put number e (Err fault)) runs = runs
-changed_by (Finished number (Ok done)) runs = finish number runs
-changed_by (Finished number (Err fault)) runs = runs
-changed_by (Heads answer) runs = runs
-changed_by (Read number answer) runs = runs
-
 -- what a crash may leave beside the runs after a call, where it might leave others beside the runs before
 abbrev pub beside_by : StoreCall → List Run → List (List Run) → List (List Run)
 beside_by (Began total moment (Ok number)) runs may = []
@@ -47,19 +31,6 @@ beside_by (Finished number (Ok done)) runs may = []
 beside_by (Finished number (Err fault)) runs may = finish number runs ∷ may
 beside_by (Heads answer) runs may = may
 beside_by (Read number answer) runs may = may
-
--- a call's answer agrees with the runs before it
-abbrev pub Agrees : List Run → StoreCall → Type 0
-Agrees runs (Began total moment (Ok number)) = (number ≡ suc (length runs)) × (length runs < last_run)
-Agrees runs (Began total moment (Err fault)) = IsStoreFault fault ⊎ ((fault ≡ StoreFull) × (last_run ≤ length runs))
-Agrees runs (Put number e (Ok done)) = put_refusal runs number e ≡ None
-Agrees runs (Put number e (Err fault)) = IsStoreFault fault ⊎ (put_refusal runs number e ≡ Some fault)
-Agrees runs (Finished number (Ok done)) = finish_refusal runs number ≡ None
-Agrees runs (Finished number (Err fault)) = IsStoreFault fault ⊎ (finish_refusal runs number ≡ Some fault)
-Agrees runs (Heads (Ok heads)) = heads ≡ map head_of runs
-Agrees runs (Heads (Err fault)) = IsStoreFault fault
-Agrees runs (Read number (Ok entries)) = (run' : Run) × (run_at runs number ≡ Some run') × (entries ≡ run'.entries)
-Agrees runs (Read number (Err fault)) = IsStoreFault fault ⊎ ((fault ≡ NoRun) × (run_at runs number ≡ None))
 
 -- ---- the same of calls one after the other
 

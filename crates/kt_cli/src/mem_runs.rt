@@ -1,6 +1,6 @@
 use crate::copies::{copy_of_entries, copy_of_entry};
 use kt_base::{Entry, Items, NoMemory, Run};
-use kt_store::{ResultStore, RunHead, StoreFault};
+use kt_store::{Keeping, ResultStore, RunHead, StoreFault};
 use std::alloc::Global;
 use std::marker::Model;
 use std::mem;
@@ -26,12 +26,9 @@ impl Model for MemRuns {
 }
 
 impl MemRuns {
-    ghost use Rattle.std.specs.Prelude.{◌≡◌, ◌⊎◌, [], map, IfOk, IfErr, Some, None};
-    ghost use Rattle.kt_base.specs.declared.run.Run.{Run as Recorded};
-    ghost use Rattle.kt_store.specs.Ask.{IsStoreFault};
-    ghost use Rattle.kt_store.specs.Heads.{head_of};
-    ghost use Rattle.kt_store.specs.Runs.{run_at};
-    ghost use Rattle.kt_cli.specs.Inner.MemoryRuns.{BeginsRun, FindsPlace, PutsEntry, FinishesRun};
+    ghost use Rattle.std.specs.Prelude.{◌≡◌, []};
+    ghost use Rattle.kt_store.specs.StoreCalls.{Began, Put, Finished, Heads, Read, seen_as};
+    ghost use Rattle.kt_cli.specs.Inner.MemoryRuns.{FindsPlace, ServesInMemory};
 
     /// No runs, which take no memory.
     pub fn new(alloc: Global) -> MemRuns
@@ -44,7 +41,7 @@ impl MemRuns {
     }
 
     fn add_run(&mut self, total: u32, moment: u64) -> Result<u64, StoreFault>
-        ensures { BeginsRun self.old total moment result self.new }
+        ensures { ServesInMemory self.old (Began total moment result) self.new }
     {
         let count = self.runs.len();
         if count >= RUN_LIMIT {
@@ -75,7 +72,7 @@ impl MemRuns {
     }
 
     fn put_entry(&mut self, number: u64, entry: &Entry) -> Result<(), StoreFault>
-        ensures { PutsEntry self.old number entry.now result self.new }
+        ensures { ServesInMemory self.old (Put number entry.now result) self.new }
     {
         let place = match self.place(number) {
             Ok(place) => place,
@@ -93,7 +90,7 @@ impl MemRuns {
     }
 
     fn end_run(&mut self, number: u64) -> Result<(), StoreFault>
-        ensures { FinishesRun self.old number result self.new }
+        ensures { ServesInMemory self.old (Finished number result) self.new }
     {
         let place = match self.place(number) {
             Ok(place) => place,
@@ -108,10 +105,8 @@ impl MemRuns {
     }
 
     fn entries_of(&self, number: u64) -> Result<Vec<Entry>, StoreFault>
-        ensures found { IfOk result (λ found. (run : Recorded) × (run_at self.now number ≡ Some run)
-            × (found.items ≡ run.entries)) }
-        ensures refused { IfErr result
-            (λ e. IsStoreFault e ⊎ ((e ≡ StoreFault.NoRun) × (run_at self.now number ≡ None))) }
+        ensures { ServesInMemory self.now (Read number (seen_as (λ found. found.items) result))
+            self.now }
     {
         let place = match self.place(number) {
             Ok(place) => place,
@@ -124,8 +119,7 @@ impl MemRuns {
     }
 
     fn heads(&self) -> Result<Vec<RunHead>, StoreFault>
-        ensures all { IfOk result (λ heads. heads.items ≡ map head_of self.now) }
-        ensures failed { IfErr result IsStoreFault }
+        ensures { ServesInMemory self.now (Heads (seen_as (λ heads. heads.items) result)) self.now }
     {
         match heads(self.alloc, &self.runs) {
             Ok(heads) => Ok(heads),
@@ -134,7 +128,7 @@ impl MemRuns {
     }
 }
 
-impl ResultStore for MemRuns {
+impl Keeping for MemRuns {
     ghost use Rattle.std.specs.Prelude.{◌≡◌, ⊤};
     ghost use Rattle.kt_store.specs.Runs.{AreNumbered};
 
@@ -148,32 +142,29 @@ impl ResultStore for MemRuns {
     // A crash leaves nothing of them, so it leaves no others.
     ghost leaves = { λ m may. ⊤ };
 
+    ghost numbered = { λ m runs h. h.1 };
+}
+
+impl ResultStore for MemRuns {
     fn begin(&mut self, total: u32, moment: u64) -> Result<u64, StoreFault> {
-        let number = self.add_run(total, moment)?;
-        Ok(number)
+        self.add_run(total, moment)
     }
 
     fn put(&mut self, run: u64, entry: &Entry) -> Result<(), StoreFault> {
-        self.put_entry(run, entry)?;
-        Ok(())
+        self.put_entry(run, entry)
     }
 
     fn finish(&mut self, run: u64) -> Result<(), StoreFault> {
-        self.end_run(run)?;
-        Ok(())
+        self.end_run(run)
     }
 
     fn runs(&mut self) -> Result<Vec<RunHead>, StoreFault> {
-        let heads = self.heads()?;
-        Ok(heads)
+        self.heads()
     }
 
     fn entries(&mut self, run: u64) -> Result<Vec<Entry>, StoreFault> {
-        let entries = self.entries_of(run)?;
-        Ok(entries)
+        self.entries_of(run)
     }
-
-    ghost numbered = { λ m runs h. h.1 };
 }
 
 ghost use Rattle.std.specs.Prelude.{◌≡◌, ◌≤◌, length, map, insert, OnOk, OnErr, IfOk};

@@ -1,8 +1,22 @@
 use kt_base::{Entry, NoMemory};
 use kt_cli::MemRuns;
-use kt_store::{ResultStore, RunHead, StoreFault};
-use sqlite::{Error, ErrorCode};
+use kt_store::{FailedStatement, Keeping, ResultStore, Results, RunHead, StoreFault};
+use sqlite::Connection;
 use std::alloc::Global;
+
+/// What a statement that failed leaves: the tables of a store are looked for where another table
+/// stands. Nothing if memory ran out.
+pub fn failed_statement(alloc: Global) -> Option<FailedStatement> {
+    let Ok(mut conn) = Connection::open_in_memory(alloc) else {
+        return None;
+    };
+    let _ = conn.execute("CREATE TABLE other (id INTEGER)", &[]);
+    match Results::attach(alloc, conn) {
+        Err((StoreFault::Store(failed), _conn)) => Some(failed),
+        Err((_fault, _conn)) => None,
+        Ok(_results) => None,
+    }
+}
 
 /// Runs in memory, of which some calls are refused.
 #[derive(Drop)]
@@ -12,6 +26,8 @@ pub struct RefusingStore {
     calls: u64,
     /// The calls from the first number on, counted from 1, up to the second one are refused.
     refused: (u64, u64),
+    /// Why they are refused, if memory doesn't run out.
+    failed: FailedStatement,
     /// Why memory ran out, if they are refused for that.
     shortage: Option<NoMemory>,
 }
@@ -21,12 +37,18 @@ impl RefusingStore {
     ghost use Rattle.kt_store.specs.Ask.{IsStoreFault};
 
     /// No runs. The calls from the first number to the last are refused, counted from 1, for a lack
-    /// of memory or, without one, because the store failed.
-    pub fn new(alloc: Global, refused: (u64, u64), shortage: Option<NoMemory>) -> RefusingStore {
+    /// of memory or, without one, because a statement failed.
+    pub fn new(
+        alloc: Global,
+        refused: (u64, u64),
+        failed: FailedStatement,
+        shortage: Option<NoMemory>,
+    ) -> RefusingStore {
         RefusingStore {
             runs: MemRuns::new(alloc),
             calls: 0,
             refused,
+            failed,
             shortage,
         }
     }
@@ -37,7 +59,7 @@ impl RefusingStore {
     {
         match self.shortage {
             Some(refusal) => StoreFault::from(refusal),
-            None => StoreFault::from(Error::SqliteFailure(ErrorCode::SystemIoFailure)),
+            None => StoreFault::Store(self.failed),
         }
     }
 
@@ -52,58 +74,55 @@ impl RefusingStore {
     }
 }
 
-impl ResultStore for RefusingStore {
-    ghost use Rattle.std.specs.Prelude.{◌≡◌, ⊤};
-    ghost use Rattle.kt_store.specs.Runs.{AreNumbered};
+impl Keeping for RefusingStore {
+    ghost use Rattle.std.specs.Prelude.{⊤};
+    ghost use Rattle.kt_cli.specs.MemoryRuns.{StandsInMemory};
 
     // What each call answers is its own clause.
     ghost answers = { λ _ _ _. Unit {0} };
 
-    ghost stands = { λ s runs. (s.runs ≡ runs) × AreNumbered 1 runs };
+    ghost stands = { λ s runs. StandsInMemory s.runs runs };
 
     ghost sound = { λ s. ⊤ };
 
     ghost leaves = { λ s may. ⊤ };
 
+    ghost numbered = { λ s runs h. h.1 };
+}
+
+impl ResultStore for RefusingStore {
     fn begin(&mut self, total: u32, moment: u64) -> Result<u64, StoreFault> {
         if self.refuses() {
             return Err(self.fault());
         }
-        let number = self.runs.begin(total, moment)?;
-        Ok(number)
+        self.runs.begin(total, moment)
     }
 
     fn put(&mut self, run: u64, entry: &Entry) -> Result<(), StoreFault> {
         if self.refuses() {
             return Err(self.fault());
         }
-        self.runs.put(run, entry)?;
-        Ok(())
+        self.runs.put(run, entry)
     }
 
     fn finish(&mut self, run: u64) -> Result<(), StoreFault> {
         if self.refuses() {
             return Err(self.fault());
         }
-        self.runs.finish(run)?;
-        Ok(())
+        self.runs.finish(run)
     }
 
     fn runs(&mut self) -> Result<Vec<RunHead>, StoreFault> {
         if self.refuses() {
             return Err(self.fault());
         }
-        let heads = self.runs.runs()?;
-        Ok(heads)
+        self.runs.runs()
     }
 
     fn entries(&mut self, run: u64) -> Result<Vec<Entry>, StoreFault> {
         if self.refuses() {
             return Err(self.fault());
         }
-        let entries = self.runs.entries(run)?;
-        Ok(entries)
+        self.runs.entries(run)
     }
-
-    ghost numbered = { λ s runs h. h.1 };
 }

@@ -4,9 +4,8 @@ use crate::row::RowFault;
 use kt_base::{NoMemory, Text};
 use kt_child::DriverFault;
 use kt_cli::source_of;
-use kt_play::ask_too_much;
-use kt_store::StoreFault;
-use sqlite::{Error, ErrorCode};
+use kt_play::{ask_too_much, failed_statement};
+use kt_store::{FailedStatement, StoreFault};
 use std::alloc::Global;
 
 /// A refusal of memory.
@@ -17,11 +16,19 @@ pub fn shortage(alloc: Global) -> Result<NoMemory, RowFault> {
     }
 }
 
+/// A statement of a store that failed.
+pub fn failure(alloc: Global) -> Result<FailedStatement, RowFault> {
+    match failed_statement(alloc) {
+        Some(failed) => Ok(failed),
+        None => Err(RowFault::Misspelled("no statement failed")),
+    }
+}
+
 /// Why a store refuses.
 pub fn store_fault(alloc: Global, fault: &str) -> Result<StoreFault, RowFault> {
     match fault {
         "no-memory" => Ok(StoreFault::from(shortage(alloc)?)),
-        "failed" => Ok(StoreFault::from(Error::SqliteFailure(ErrorCode::SystemIoFailure))),
+        "failed" => Ok(StoreFault::Store(failure(alloc)?)),
         "unknown-schema" => Ok(StoreFault::UnknownSchema),
         _ => Err(RowFault::Misspelled("there is no such fault of a store")),
     }

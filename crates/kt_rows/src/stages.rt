@@ -1,5 +1,6 @@
 ghost use Rattle.kt_sched.specs.Children.{IsIdle};
 
+use crate::fault_exits::failure;
 use crate::command_words::commands_of;
 use crate::listings::listed_of;
 use crate::numbers::{number, numbers};
@@ -81,12 +82,13 @@ fn calls_of(text: &str) -> Result<(u64, u64), RowFault> {
 
 /// The store of a row, in memory: `refused CALLS`, or `refused-memory CALLS`.
 pub fn store_of(alloc: Global, row: &Row<'_>) -> Result<RefusingStore, RowFault> {
+    let failed = failure(alloc)?;
     if let Some(calls) = row.text("refused-memory") {
         let shortage = ask_too_much(alloc).err();
-        return Ok(RefusingStore::new(alloc, calls_of(calls)?, shortage));
+        return Ok(RefusingStore::new(alloc, calls_of(calls)?, failed, shortage));
     }
     let calls = calls_of(row.text("refused").unwrap_or("0"))?;
-    Ok(RefusingStore::new(alloc, calls, None))
+    Ok(RefusingStore::new(alloc, calls, failed, None))
 }
 
 /// How commands ended, and the launcher that they used.

@@ -1,86 +1,81 @@
--- What a transaction over the tables of runs leaves.
-use Rattle.std.proofs.Common.{◌≡◌, inl, inr, ℕ, List, false, sym, subst, ◌∙◌, IsTrue}
+-- What statements leave that are run in one commit.
+use Rattle.std.proofs.Common.{◌≡◌, inl, inr, List, false, sym, ap, subst, ◌∙◌, IsTrue, arith}
 use Rattle.std.proofs.lemmas.Bool.{both_ways}
 use Rattle.sqlite.specs.Tree.{Trees}
 use Rattle.sqlite.specs.Store.{Ghosts}
 use Rattle.sqlite.specs.Held.{Held, state}
 use Rattle.sqlite.specs.Effect.{Database, IsDatabase}
 use Rattle.sqlite.specs.Steps.{FailsToCommit}
-use Rattle.sqlite.specs.State.{State, HasCleanDisk, Survives, KeepsCommit, IsRolledBack, IsNotRun, Shows, Fails}
+use Rattle.sqlite.specs.State.{State, HasCleanDisk, Survives, KeepsCommit, IsRolledBack, Fails}
 use Rattle.sqlite.specs.declared.error.Error.{Error}
-use Rattle.sqlite.proofs.StateLemmas.{survives_then}
+use Rattle.sqlite.proofs.StateLemmas.{survives_then, survives_weaker}
 use Rattle.sqlite.proofs.Callers.{survives_begin}
 use Rattle.kt_base.specs.declared.run.Run.{Run}
-use Rattle.kt_base.specs.declared.entry.Entry.{Entry}
-use Rattle.kt_store.specs.declared.store_fault.StoreFault.{StoreFault}
-use Rattle.kt_store.specs.declared.store_fault.StoreFault.TheVariants.{Store}
-use Rattle.kt_store.specs.Inner.Runs.{CanAdd}
-use Rattle.kt_store.specs.Runs.{Keeps, Tables, entry_row, with_entry}
-use Rattle.kt_store.specs.Stands.{IsStore, StandsFor}
-use Rattle.kt_store.specs.Ask.{Statement}
-use Rattle.kt_store.specs.Fault.{Tells}
-use Rattle.kt_store.specs.Tables.{put_text}
-use Rattle.kt_store.specs.Calls.{put_statements, entry_statements}
-use Rattle.kt_store.proofs.FillLemmas.{filled_at}
-use Rattle.kt_store.specs.Inner.Transactions.{IsStopped}
-use Rattle.kt_store.specs.Transactions.{begun, RunInTurn, IsCausedInside}
-
-module _ {S : Type 0} (g : Ghosts S) (old left new : Held S) (runs : List Run) (has : StandsFor (state g old) runs) (earlier : HasCleanDisk (state g new) → HasCleanDisk (state g old)) where
-  -- what was undone stands for the runs from before
-  pub undone_stands : (HasCleanDisk (state g new) → KeepsCommit (state g (begun old)) (state g left)) → (HasCleanDisk (state g new) → IsRolledBack (state g left) (state g new)) → StandsFor (state g new) runs
-  undone_stands keeps back clean opened =
-      let undone = back clean in
-      let kept = keeps clean in
-      let open_left = undone.was_open opened in
-      let it = has (earlier clean) (kept.was_open open_left) in
-      record {
-        autocommit = undone.autocommit;
-        settled = (undone.undone opened).1 ∙ sym (undone.undone opened).0;
-        tables = subst (λ (db : Database). Tables db runs) (sym ((undone.undone opened).0 ∙ kept.committed open_left ∙ it.settled)) it.tables;
-      }
-
-  -- what was committed stands for the runs that were made
-  pub committed_stands : (more : List Run) → Tables (state g left).now more → Shows (state g left) (state g new) (state g left).now (state g left).now false → IsStore (state g new) more
-  committed_stands more tables shown = record { autocommit = shown.mode; settled = shown.committed_is ∙ sym shown.now_is; tables = subst (λ (db : Database). Tables db more) (sym shown.now_is) tables }
-
-  -- a crash leaves what it left before, or what the commit writes
-  pub committed_survives : (more : List Run) → (HasCleanDisk (state g new) → Tables (state g left).now more × IsDatabase (state g left).now)
-      → Survives (state g (begun old)) (state g left) (λ (db : Trees). ⊥) → Survives (state g left) (state g new) (λ db. db ≡ (state g left).now.trees) → Survives (state g old) (state g new) (Keeps more)
-  committed_survives more made inside commit =
-      survives_begin g old (state g new) (Keeps more)
-      (survives_then (state g (begun old)) (state g left) (state g new) (λ _. ⊥) (λ db. db ≡ (state g left).now.trees) (Keeps more) (λ _ db none. absurd none)
-      (λ clean db is. ((state g left).now, (made clean).1, is, (made clean).0)) inside commit)
-
--- what a transaction made of the tables of these runs, before its commit
-module _ {S : Type 0} (g : Ghosts S) (old left : Held S) (runs : List Run) (e : Entry) (run : ℕ) (has : StandsFor (state g old) runs) (fits : HasCleanDisk (state g old) → CanAdd run e runs) where
-  pub made : HasCleanDisk (state g old) → RunInTurn g (entry_statements run e) (begun old) left → Tables (state g left).now (with_entry run e runs) × IsDatabase (state g left).now
-  made clean ran = filled_at g runs e run (fits clean) (begun old) left (has clean ran.1.1.1.was_open).tables ran
+use Rattle.kt_store.specs.Runs.{Keeps, Tables}
+use Rattle.kt_store.specs.Stands.{IsSettled, Holds, StandsFor, Leaves}
+use Rattle.kt_store.specs.Inner.Calls.{Statement}
+use Rattle.kt_store.specs.Inner.Transactions.{begun, IsUndone, RunInTurn, Commits, MayCommit, Undoes}
+use Rattle.kt_store.proofs.StepLemmas.{undone_settled}
 
 -- a commit inside a transaction fails only where the store does
-pub store_fails : (old new : State) (error : Error) → IsTrue old.in_transaction → FailsToCommit old new error → Fails old new ⊥ error
+store_fails : (old new : State) (error : Error) → IsTrue old.in_transaction → FailsToCommit old new error → Fails old new ⊥ error
 store_fails old new error inside (inl failed) = failed
 store_fails old new error inside (inr ended) = absurd (both_ways _ ended.1 inside)
 
-module _ {S : Type 0} (g : Ghosts S) (Before : Held S → Type 0) (statements inside : List Statement) where
-  -- the fault is that of a statement of the transaction
-  pub stop_causes : (old left new : Held S) (fault : StoreFault) → Before old → IsStopped g inside (begun old) left fault → IsRolledBack (state g left) (state g new) → IsCausedInside g Before statements inside new fault
-  stop_causes old left new (Store statement) before it undone = by it.told
-    where
-      by : Tells it.error (Store statement) → IsCausedInside g Before statements inside new (Store statement)
-      by (inl memory) = absurd memory.0
-      by (inr failed) = inr (record { start = old; before = before; left = left; error = it.error; other = failed.1; cause = inl (it.stop, undone) })
-  stop_causes old left new _ before it undone = tt
+module _ {S : Type 0} (g : Ghosts S) (old left new : Held S) where
+  -- a transaction that is rolled back is undone
+  pub rolled_undoes : KeepsCommit (state g (begun old)) (state g left) → IsRolledBack (state g left) (state g new) → Undoes g old new
+  rolled_undoes keeps back = inr (record {
+    was_open = λ opened. keeps.was_open (back.was_open opened);
+    now = λ opened. (back.undone opened).0 ∙ keeps.committed (back.was_open opened);
+    committed = λ opened. (back.undone opened).1 ∙ keeps.committed (back.was_open opened);
+    autocommit = back.autocommit;
+  })
 
-  -- the fault is that of the commit
-  pub commit_causes : (old left new : Held S) (error : Error) (fault : StoreFault) → Before old → RunInTurn g inside (begun old) left → Fails (state g left) (state g new) ⊥ error → Tells error fault
-      → IsCausedInside g Before statements inside new fault
-  commit_causes old left new error (Store statement) before ran failed (inl memory) = absurd memory.0
-  commit_causes old left new error (Store statement) before ran failed (inr told) = inr (record { start = old; before = before; left = left; error = error; other = told.1; cause = inr (ran, failed) })
-  commit_causes old left new error _ before ran failed told = tt
+  -- so is one whose commit failed
+  pub failed_undoes : (error : Error) → IsTrue (state g left).in_transaction → KeepsCommit (state g (begun old)) (state g left) → FailsToCommit (state g left) (state g new) error → Undoes g old new
+  failed_undoes error inside keeps failed = rolled_undoes keeps (store_fails (state g left) (state g new) error inside failed).3
 
--- the fault is that of the statement that was prepared
-pub prepare_causes : {S : Type 0} (g : Ghosts S) (Before : Held S → Type 0) (run : ℕ) (e : Entry) (inside : List Statement) (old new : Held S) (error : Error) (fault : StoreFault)
-    → IsNotRun (state g old) (state g new) put_text (entry_row run e) error → Tells error fault → IsCausedInside g Before (put_statements run e) inside new fault
-prepare_causes g Before run e inside old new error (Store statement) refused (inl memory) = absurd memory.0
-prepare_causes g Before run e inside old new error (Store statement) refused (inr told) = inl (inr (inr (inl (old, record { error = error; other = told.1; cause = inl refused }))))
-prepare_causes g Before run e inside old new error _ refused told = tt
+  -- a crash leaves what it left before, or what the commit writes
+  pub commit_survives : (statements : List Statement) → (HasCleanDisk (state g left) → RunInTurn g statements (begun old) left)
+      → Survives (state g (begun old)) (state g left) (λ (db : Trees). ⊥) → Survives (state g left) (state g new) (λ db. db ≡ (state g left).now.trees) → Survives (state g old) (state g new) (MayCommit g statements old)
+  commit_survives statements ran inside commit =
+      survives_begin g old (state g new) (MayCommit g statements old)
+      (survives_then (state g (begun old)) (state g left) (state g new) (λ _. ⊥) (λ db. db ≡ (state g left).now.trees) (MayCommit g statements old) (λ _ db none. absurd none)
+      (λ clean db is. (left, ran (omega (arith, clean, commit.clean)), is)) inside commit)
+
+  -- or what it left before alone, if nothing was committed
+  pub drop_survives : (P : Trees → Type 0) → Survives (state g (begun old)) (state g left) (λ (db : Trees). ⊥) → Survives (state g left) (state g new) (λ (db : Trees). ⊥) → Survives (state g old) (state g new) P
+  drop_survives P inside back =
+      survives_begin g old (state g new) P (survives_then (state g (begun old)) (state g left) (state g new) (λ _. ⊥) (λ _. ⊥) P (λ _ db none. absurd none) (λ _ db none. absurd none) inside back)
+
+-- what was undone holds what it held
+pub undone_holds : {S : Type 0} (g : Ghosts S) (P : Database → Type 0) (old new : Held S) → Holds P (state g old) → (HasCleanDisk (state g new) → HasCleanDisk (state g old)) → (HasCleanDisk (state g new) → Undoes g old new) → Holds P (state g new)
+undone_holds g P old new has earlier left clean opened = elim (left clean) [
+  | inl same ↦ subst (λ h. HasCleanDisk (state g h) → IsTrue (state g h).is_open → IsSettled P (state g h)) (sym same) has clean opened
+  | inr undone ↦ undone_settled P (state g old) (state g new) (has (earlier clean) (undone.was_open opened)) undone opened
+]
+
+-- statements that make the tables of these runs
+module _ {S : Type 0} (g : Ghosts S) (statements : List Statement) (old new : Held S) (more : List Run) (survives : Survives (state g old) (state g new) (MayCommit g statements old))
+    (made : HasCleanDisk (state g old) → (left : Held S) → RunInTurn g statements (begun old) left → Tables (state g left).now more × IsDatabase (state g left).now) where
+  early : HasCleanDisk (state g new) → HasCleanDisk (state g old)
+  early clean = omega (arith, clean, survives.clean)
+
+  -- so the tables stand for them
+  pub commit_stands : (HasCleanDisk (state g new) → Commits g statements old new) → StandsFor (state g new) more
+  commit_stands done clean opened =
+      let it = done clean in
+      record { autocommit = it.2.mode; settled = it.2.committed_is ∙ sym it.2.now_is; tables = subst (λ (db : Database). Tables db more) (sym it.2.now_is) (made (early clean) it.0 it.1).0 }
+
+  -- and a crash leaves them
+  pub commit_lasts : ((db : Trees) → IsTrue (state g new).is_open → (state g new).may_leave db → db ≡ (state g new).committed.trees) → (HasCleanDisk (state g new) → Commits g statements old new) → Leaves (state g new) (Keeps more)
+  commit_lasts law done clean trees may =
+      let it = done clean in
+      let has = commit_stands done clean it.2.is_open in
+      ((state g new).now, subst IsDatabase (sym it.2.now_is) (made (early clean) it.0 it.1).1, law trees it.2.is_open may ∙ ap (λ (d : Database). d.trees) has.settled, has.tables)
+
+  -- meanwhile a crash leaves what it left before, or them
+  pub commit_crash : Survives (state g old) (state g new) (Keeps more)
+  commit_crash = survives_weaker (state g old) (state g new) (MayCommit g statements old) (Keeps more)
+      (λ clean db it. let all = made (early clean) it.0 it.1 in ((state g it.0).now, all.1, it.2, all.0)) survives

@@ -1,5 +1,4 @@
 -- What a crash leaves of a store, after a call.
-use Rattle.std.specs.Prelude.{Result, Ok, Err, OnOk}
 use Rattle.std.proofs.Common.{◌≡◌, ℕ, ◌≤◌, List, [], ◌∷◌, ◌⊎◌, inl, inr, arith}
 use Rattle.sqlite.specs.Tree.{Trees}
 use Rattle.sqlite.specs.State.{State, Survives}
@@ -29,14 +28,3 @@ untouched old new may s l clean trees h = by (s.crash clean trees h)
     by : old.may_leave trees ⊎ ⊥ → KeepsOne may trees
     by (inl m) = l (was_none _ _ s.clean clean) trees m
     by (inr k) = absurd k
-
--- what alone is left is one of one
-pub lasts : {T E : Type 0} (r : Result T E) (IsClean : Type 0) (may_leave : Trees → Type 0) (change : List Run) → OnOk r (IsClean → (trees : Trees) → may_leave trees → Keeps change trees)
-    → OnOk r (IsClean → (trees : Trees) → may_leave trees → KeepsOne (change ∷ []) trees)
-lasts (Ok x) IsClean may_leave change l = λ clean trees h. inl (l clean trees h)
-lasts (Err e) IsClean may_leave change l = tt
-
--- a fact that always holds, beside one of Ok
-pub on_ok_both : {T E : Type 0} (r : Result T E) (P Q : Type 0) → OnOk r P → Q → OnOk r (P × Q)
-on_ok_both (Ok x) P Q p q = (p, q)
-on_ok_both (Err e) P Q p q = tt

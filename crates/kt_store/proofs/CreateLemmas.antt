@@ -1,5 +1,5 @@
 -- What the statements that make the tables do.
-use Rattle.std.proofs.Common.{◌≡◌, ℕ, pos, List, [], ◌∷◌, map, drop, codes, false, None, Ok, refl, sym, ap, subst, ◌∙◌, IsPermutation, arith}
+use Rattle.std.proofs.Common.{◌≡◌, ℕ, pos, List, [], ◌∷◌, map, drop, codes, false, None, Ok, refl, sym, ap, subst, ◌∙◌, IsPermutation, arith, IsTrue}
 use Rattle.std.proofs.lemmas.List.Sorted.{IsPermutation-refl}
 use Rattle.sqlite.specs.declared.types.Value.TheVariants.{Int, Text}
 use Rattle.sqlite.specs.Order.{Row}
@@ -23,6 +23,10 @@ use Rattle.sqlite.proofs.Callers.{IsPlain, command_of, statement_of, runs_as}
 use Rattle.sqlite_tied.specs.Compute.{everything}
 use Rattle.kt_store.specs.Tables.{no_schema, schema_1, schema_2, meta, runs, entries, props, meta_1, create_meta, create_runs, create_entries, create_props, mark_text}
 use Rattle.kt_store.specs.Runs.{Tables}
+use Rattle.kt_store.specs.Inner.Calls.{make_statements}
+use Rattle.kt_store.specs.Inner.Transactions.{begun, RunInTurn}
+use Rattle.sqlite.specs.Store.{Ghosts}
+use Rattle.sqlite.specs.Held.{Held, state}
 use Rattle.kt_store.proofs.SqlFacts.{mark_is, mark_terms}
 use Rattle.kt_store.proofs.InsertLemmas.{went, same_value, changed}
 use Rattle.kt_store.proofs.BeginLemmas.{cast_null, cast_int}
@@ -107,3 +111,13 @@ made_all a b c m d e i j k o l has one two three fourth four =
       },
       w.sound,
     )
+
+-- the same of a transaction
+pub made_in : {S : Type 0} (g : Ghosts S) (old left : Held S) → (IsTrue (state g old).is_open → (state g old).now.schema ≡ no_schema) → RunInTurn g make_statements (begun old) left → Tables (state g left).now [] × IsDatabase (state g left).now
+made_in g old left has ran =
+    let two = ran.2 in
+    let three = two.2 in
+    let four = three.2 in
+    let five = four.2 in
+    subst (λ h. Tables (state g h).now [] × IsDatabase (state g h).now) (sym five.2)
+    (made_all (state g (begun old)) (state g ran.0) (state g two.0) (state g three.0) (state g four.0) (state g five.0) ran.1.0 two.1.0 three.1.0 four.1.0 five.1.0 (has ran.1.1.1.was_open) ran.1.1.0 two.1.1.0 three.1.1.0 four.1.1.0 five.1.1.0)

@@ -1,9 +1,8 @@
 -- What the statements do that put an entry and its pairs, one after the other.
-use Rattle.std.proofs.Common.{◌≡◌, inl, inr, ℕ, suc, ◌+◌, ◌<◌, pos, List, [], ◌∷◌, ◌++◌, length, map, drop, codes, None, Ok, Err, refl, sym, ap, subst, ◌∙◌, arith, IsPermutation, IsTrue, true, false}
+use Rattle.std.proofs.Common.{◌≡◌, inl, inr, ℕ, suc, ◌+◌, ◌<◌, pos, List, [], ◌∷◌, ◌++◌, length, map, drop, codes, None, Ok, refl, sym, ap, subst, ◌∙◌, arith, IsPermutation, IsTrue, true, false}
 use Rattle.std.specs.List.{AllByRecursion}
 use Rattle.std.proofs.lemmas.List.Sorted.{IsPermutation-cons, IsPermutation-trans, IsPermutation-map, IsPermutation-sym, IsPermutation-middle}
 use Rattle.sqlite.specs.declared.types.Value.TheVariants.{Int, Text}
-use Rattle.sqlite.specs.declared.error.Error.{Error}
 use Rattle.sqlite.specs.Order.{Row}
 use Rattle.sqlite.specs.Tree.{Trees}
 use Rattle.sqlite_rules.specs.Edit.{is_taken, taken_by, put_all, are_fresh, next_rowid}
@@ -18,18 +17,17 @@ use Rattle.sqlite.specs.Listing.{understood}
 use Rattle.sqlite.specs.Store.{Ghosts}
 use Rattle.sqlite.specs.Held.{Held, state}
 use Rattle.sqlite.specs.Effect.{Database, IsDatabase, value_rows}
-use Rattle.sqlite.specs.State.{State, mode_of, Executes, Writes, KeepsCommit}
+use Rattle.sqlite.specs.State.{State, HasCleanDisk, mode_of, Executes, Writes}
 use Rattle.sqlite.proofs.Callers.{statement_of, runs_as}
-use Rattle.sqlite.proofs.InsideLemmas.{inside_keeps, keeps_then}
 use Rattle.kt_base.specs.declared.entry.Entry.{Entry}
 use Rattle.kt_base.specs.declared.run.Run.{Run}
 use Rattle.kt_base.specs.declared.variable.Variable.{Variable}
 use Rattle.kt_store.specs.Tables.{schema_2, entries_1, props_1, put_text, pair_text}
 use Rattle.kt_store.specs.Inner.Runs.{CanAdd}
 use Rattle.kt_store.specs.Runs.{Tables, IsRun, kind_code, run_row, entry_row, entry_rows, pair_row, pair_rows_from, prop_rows, with_entry}
-use Rattle.kt_store.specs.Ask.{Statement}
-use Rattle.kt_store.specs.Calls.{pair_statements, entry_statements}
-use Rattle.kt_store.specs.Transactions.{RunInTurn, StopInTurn}
+use Rattle.kt_store.specs.Inner.Calls.{Statement, pair_statements, entry_statements}
+use Rattle.kt_store.specs.Inner.Transactions.{begun, RunInTurn}
+use Rattle.kt_store.specs.Stands.{StandsFor}
 use Rattle.kt_store.proofs.SqlFacts.{put_is, put_terms, pair_is, pair_terms}
 use Rattle.kt_store.proofs.InsertLemmas.{changed}
 use Rattle.kt_store.proofs.BeginLemmas.{cast_null, cast_int}
@@ -140,18 +138,12 @@ module _ {S : Type 0} (g : Ghosts S) where
       subst (λ n. AllByRecursion IsRun (with_entry n e runs) → RunInTurn g (entry_statements n e) old new → Tables (state g new).now (with_entry n e runs) × IsDatabase (state g new).now) (sym fits.1)
       (λ valid ran. filled runs fits.0 e fits.2 valid old new has ran) fits.3 ran
 
-  -- what was done in a transaction commits nothing
-  pub in_turn : (statements : List Statement) (old new : Held S) → RunInTurn g statements old new
-      → ((state g new).committed ≡ (state g old).committed) × (IsTrue (state g old).in_transaction → IsTrue (state g new).in_transaction) × (IsTrue (state g new).is_open → IsTrue (state g old).is_open)
-  in_turn [] old new is = (ap (λ h. (state g h).committed) is, λ inside. subst (λ h. IsTrue (state g h).in_transaction) (sym is) inside, λ opened. subst (λ h. IsTrue (state g h).is_open) is opened)
-  in_turn (s ∷ others) old new ran =
-      let rest = in_turn others ran.0 new ran.2 in
-      let one = ran.1.1.1 in
-      (rest.0 ∙ one.committed_is, λ inside. rest.1 one.mode, λ opened. one.was_open)
+  -- the same of a transaction
+  pub entry_made : (runs : List Run) (e : Entry) (run : ℕ) (old : Held S) → StandsFor (state g old) runs → (HasCleanDisk (state g old) → CanAdd run e runs) → HasCleanDisk (state g old) → (left : Held S)
+      → RunInTurn g (entry_statements run e) (begun old) left → Tables (state g left).now (with_entry run e runs) × IsDatabase (state g left).now
+  entry_made runs e run old has fits clean left ran = filled_at runs e run (fits clean) (begun old) left (has clean ran.1.1.1.was_open).tables ran
 
-  pub stopped : (statements : List Statement) (old new : Held S) (error : Error) → StopInTurn g statements old new error → KeepsCommit (state g old) (state g new)
-  stopped [] old new error h = absurd h
-  stopped (s ∷ others) old new error (inl failed) = inside_keeps (state g old) (state g new) 0 false s.0 s.1 (Err error) failed
-  stopped (s ∷ others) old new error (inr later) =
-      let one = later.1.1.1 in
-      keeps_then (state g old) (state g later.0) (state g new) (record { was_open = λ _. one.was_open; committed = λ _. one.committed_is }) (stopped others later.0 new error later.2)
+  -- a transaction goes on
+  pub in_turn : (statements : List Statement) (old new : Held S) → RunInTurn g statements old new → IsTrue (state g old).in_transaction → IsTrue (state g new).in_transaction
+  in_turn [] old new is inside = subst (λ h. IsTrue (state g h).in_transaction) (sym is) inside
+  in_turn (s ∷ others) old new ran inside = in_turn others ran.0 new ran.2 ran.1.1.1.mode

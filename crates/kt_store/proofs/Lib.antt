@@ -22,9 +22,9 @@ pub mod HeadLemmas
 pub mod EntriesLemmas
 pub mod MetaLemmas
 pub mod EmptyLemmas
-pub mod ViewLemmas
 pub mod Numbered
 pub mod Crashing
+pub mod ServeLemmas
 pub mod PairLemmas
 pub mod FillLemmas
 pub mod RaiseLemmas
@@ -32,6 +32,6 @@ pub mod PairsLemmas
 pub mod MergeLemmas
 pub mod TurnLemmas
 pub mod CommitLemmas
-pub mod RenewLemmas
+pub mod AttachLemmas
 pub mod UniqueLemmas
 pub mod ProbeLemmas

@@ -15,13 +15,12 @@ use Rattle.sqlite.specs.State.{State, Shown, HasCleanDisk, IsUnchanged, Survives
 use Rattle.sqlite.proofs.Callers.{reads_as, one_permutation}
 use Rattle.kt_base.specs.declared.run.Run.{Run}
 use Rattle.kt_store.specs.Tables.{meta_text, meta_1, runs_1, entries_1, props_1, index_of, beside_meta}
-use Rattle.kt_store.specs.Stands.{StandsFor, StandsInOld, SaysSchema, SaysNumber, IsEmpty}
-use Rattle.kt_store.specs.Runs.{OldTables}
+use Rattle.kt_store.specs.Stands.{Holds, StandsFor, StandsInOld, SaysSchema, SaysNumber, IsEmpty}
 use Rattle.kt_store.specs.Inner.Ask.{Asked, MayShow}
 use Rattle.kt_store.specs.Ask.{Rests}
 use Rattle.kt_store.specs.Inner.Kept.{AsksNumber}
 use Rattle.kt_store.proofs.AskLemmas.{asked_unchanged, asked_leaves}
-use Rattle.kt_store.proofs.StepLemmas.{same_store}
+use Rattle.kt_store.proofs.StepLemmas.{same_settled}
 use Rattle.kt_store.proofs.SqlFacts.{is}
 use Rattle.kt_store.proofs.MetaFacts.{meta_any}
 use Rattle.sqlite.specs.Listing.{understood}
@@ -78,13 +77,12 @@ module _ {S : Type 0} (g : Ghosts S) (old new : Held S) (earlier : HasCleanDisk 
       tells_meta (state g it.mid) (state g new) n rows (says_then (state g old) (state g it.mid) n same has) it.shown
 
 -- what a query for the number keeps, whatever it tells
-module _ {S : Type 0} (g : Ghosts S) (old new : Held S) (mode : old.in_transaction ≡ false → new.in_transaction ≡ false) (survives : Survives (state g old) (state g new) (MayShow g meta_text [] old)) where
+module _ {S : Type 0} (g : Ghosts S) (old new : Held S) (survives : Survives (state g old) (state g new) (MayShow g meta_text [] old)) where
   earlier : HasCleanDisk (state g new) → HasCleanDisk (state g old)
   earlier k = omega (arith, k, survives.clean)
 
   pub asks_number : (HasCleanDisk (state g new) → Rests (state g old) (state g new)) → AsksNumber g old new
   asks_number rests = record {
-    mode = mode;
     earlier = earlier;
     rests = λ n says clean. rests clean;
     crash = λ n says. asked_leaves g old new earlier meta_text (says_plain n _ says) [] survives;
@@ -92,7 +90,6 @@ module _ {S : Type 0} (g : Ghosts S) (old new : Held S) (mode : old.in_transacti
 
   pub tells_number : (rows : List Row) → (HasCleanDisk (state g new) → Asked g meta_text [] old new rows) → AsksNumber g old new
   tells_number rows asked = record {
-    mode = mode;
     earlier = earlier;
     rests = λ n says clean. inl (asked_unchanged g old new earlier meta_text (says_plain n _ says) [] rows clean (asked clean));
     crash = λ n says. asked_leaves g old new earlier meta_text (says_plain n _ says) [] survives;
@@ -135,28 +132,8 @@ module _ (old mid : State) (earlier : HasCleanDisk mid → HasCleanDisk old) (sa
       let has = says (earlier clean) it.0.was_open in
       says_then old mid n it.0.now_is has
 
-  pub still_empty : IsEmpty old → IsEmpty mid
-  still_empty empty clean opened =
-      let it = same clean in
-      let has = empty (earlier clean) it.0.was_open in
-      record {
-        autocommit = it.0.mode ∙ has.autocommit;
-        settled = it.0.committed_is ∙ has.settled ∙ sym it.0.now_is;
-        blank = ap (λ (db : Database). db.schema) it.0.now_is ∙ has.blank;
-      }
-
-  pub still_stands : (runs : List Run) → StandsFor old runs → StandsFor mid runs
-  still_stands runs has clean opened = same_store old mid runs (has (earlier clean) (same clean).0.was_open) (same clean)
-
-  pub still_old : (runs : List Run) → StandsInOld old runs → StandsInOld mid runs
-  still_old runs has clean opened =
-      let it = same clean in
-      let held = has (earlier clean) it.0.was_open in
-      record {
-        autocommit = it.0.mode ∙ held.autocommit;
-        settled = it.0.committed_is ∙ held.settled ∙ sym it.0.now_is;
-        tables = subst (λ db. OldTables db runs) (sym it.0.now_is) held.tables;
-      }
+  pub still_holds : (P : Database → Type 0) → Holds P old → Holds P mid
+  still_holds P has clean opened = same_settled P old mid (has (earlier clean) (same clean).0.was_open) (same clean)
 
   pub says_filled : (n : ℤ) → SaysSchema n old → HasCleanDisk mid → mid.now.schema.tables ≢ []
   says_filled n says clean none =
@@ -168,4 +145,4 @@ module _ (old mid : State) (earlier : HasCleanDisk mid → HasCleanDisk old) (sa
   pub empty_blank : IsEmpty old → HasCleanDisk mid → mid.now.schema.tables ≡ []
   empty_blank empty clean =
       let it = same clean in
-      ap (λ (db : Database). db.schema.tables) it.0.now_is ∙ ap (λ (s : Schema). s.tables) (empty (earlier clean) it.0.was_open).blank
+      ap (λ (db : Database). db.schema.tables) it.0.now_is ∙ ap (λ (s : Schema). s.tables) (empty (earlier clean) it.0.was_open).tables

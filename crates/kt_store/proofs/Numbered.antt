@@ -1,9 +1,11 @@
 -- Runs stay numbered by place.
-use Rattle.std.specs.Prelude.{Bool, true, false, if◌then◌else◌}
+use Rattle.std.specs.Prelude.{Ok, Err, Bool, true, false, if◌then◌else◌}
 use Rattle.std.proofs.Common.{◌≡◌, ℕ, suc, ◌+◌, ◌==◌, List, [], ◌∷◌, ◌++◌, length, arith, ◌∙◌}
 use Rattle.kt_base.specs.declared.entry.Entry.{Entry}
 use Rattle.kt_base.specs.declared.run.Run.{Run}
 use Rattle.kt_store.specs.Runs.{AreNumbered, new_run, insert_at, with_entry, finish}
+use Rattle.kt_store.specs.Serving.{changed_by}
+use Rattle.kt_store.specs.StoreCalls.{StoreCall, Began, Put, Finished, Heads, Read}
 
 numbers_more : (n : ℕ) (runs : List Run) (r : Run) → AreNumbered n runs → r.number ≡ n + length runs → AreNumbered n (runs ++ r ∷ [])
 numbers_more n [] r h e = (e ∙ omega arith, tt)
@@ -23,3 +25,14 @@ numbers_entry k e n (r ∷ runs) h = numbers_of n r (record r { entries = insert
 pub numbers_finish : (k n : ℕ) (runs : List Run) → AreNumbered n runs → AreNumbered n (finish k runs)
 numbers_finish k n [] h = tt
 numbers_finish k n (r ∷ runs) h = numbers_of n r (record r { finished = true }) runs (finish k runs) (r.number == k) h.0 h.0 h.1 (numbers_finish k (suc n) runs h.1)
+
+-- and so they do after each call
+pub numbers_changed : (call : StoreCall) (runs : List Run) → AreNumbered 1 runs → AreNumbered 1 (changed_by call runs)
+numbers_changed (Began total moment (Ok number)) runs h = numbers_new runs total moment h
+numbers_changed (Began total moment (Err fault)) runs h = h
+numbers_changed (Put number e (Ok done)) runs h = numbers_entry number e 1 runs h
+numbers_changed (Put number e (Err fault)) runs h = h
+numbers_changed (Finished number (Ok done)) runs h = numbers_finish number 1 runs h
+numbers_changed (Finished number (Err fault)) runs h = h
+numbers_changed (Heads answer) runs h = h
+numbers_changed (Read number answer) runs h = h

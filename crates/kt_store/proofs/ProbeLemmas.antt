@@ -11,10 +11,9 @@ use Rattle.sqlite_resolve.specs.declared.compiled.Compiled.{Compiled}
 use Rattle.sqlite_resolve.specs.declared.error.CompileError.{CompileError}
 use Rattle.sqlite.specs.Store.{Ghosts}
 use Rattle.sqlite.specs.Held.{Held, state}
-use Rattle.kt_store.specs.Ask.{IsUnderstood, Rests}
+use Rattle.kt_store.specs.Ask.{Rests}
 use Rattle.kt_store.specs.Inner.Kept.{AsksNumber, CommitsNothing}
-use Rattle.kt_store.specs.Stands.{SaysSchema}
-use Rattle.kt_store.specs.Calls.{HasTables}
+use Rattle.kt_store.specs.Stands.{SaysSchema, IsUnderstood, HasTables}
 
 -- a statement that was prepared is understood
 pub outlined : (r : Result Compiled CompileError) (s : Outline) → Outlines r s → (c : Compiled) × (r ≡ Ok c)
@@ -37,10 +36,9 @@ pub nothing_then : (a b c : State) → Survives a b (λ (db : Trees). ⊥) → S
 nothing_then a b c one two = survives_then a b c (λ _. ⊥) (λ _. ⊥) (λ _. ⊥) (λ _ db none. none) (λ _ db none. none) one two
 
 -- a call that commits nothing after one that asked for the number
-pub asks_then : {S : Type 0} (g : Ghosts S) (a b c : Held S) → AsksNumber g a b → (b.in_transaction ≡ false → c.in_transaction ≡ false) → CommitsNothing g b c
+pub asks_then : {S : Type 0} (g : Ghosts S) (a b c : Held S) → AsksNumber g a b → CommitsNothing g b c
     → ((n : ℤ) → SaysSchema n (state g a) → HasCleanDisk (state g c) → Rests (state g a) (state g c)) → AsksNumber g a c
-asks_then g a b c first mode survives rests = record {
-  mode = λ out. mode (first.mode out);
+asks_then g a b c first survives rests = record {
   earlier = λ k. first.earlier (omega (arith, k, survives.clean));
   rests = rests;
   crash = λ n says. nothing_then (state g a) (state g b) (state g c) (first.crash n says) survives;

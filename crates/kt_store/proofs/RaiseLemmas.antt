@@ -1,5 +1,5 @@
 -- What the statements do that take schema 1 to schema 2.
-use Rattle.std.proofs.Common.{◌≡◌, ℕ, pos, List, [], ◌∷◌, map, drop, filter, codes, true, None, Option, Ok, slice_get, refl, sym, ap, subst, ◌∙◌, IsPermutation}
+use Rattle.std.proofs.Common.{◌≡◌, ℕ, pos, List, [], ◌∷◌, map, drop, filter, codes, true, None, Option, Ok, slice_get, refl, sym, ap, subst, ◌∙◌, IsPermutation, IsTrue}
 use Rattle.std.proofs.lemmas.List.Sorted.{IsPermutation-refl}
 use Rattle.sqlite.specs.declared.types.Value.TheVariants.{Int, Text}
 use Rattle.sqlite.specs.Order.{Row}
@@ -24,6 +24,10 @@ use Rattle.sqlite.proofs.Callers.{one_step, one_permutation, statement_of, runs_
 use Rattle.kt_base.specs.declared.run.Run.{Run}
 use Rattle.kt_store.specs.Tables.{schema_1, schema_2, meta_1, props, create_props, raise_text}
 use Rattle.kt_store.specs.Runs.{Tables, OldTables, prop_rows, entry_rows}
+use Rattle.kt_store.specs.Inner.Calls.{raise_statements}
+use Rattle.kt_store.specs.Inner.Transactions.{begun, RunInTurn}
+use Rattle.sqlite.specs.Store.{Ghosts}
+use Rattle.sqlite.specs.Held.{Held, state}
 use Rattle.kt_store.proofs.SqlFacts.{raise_query, raise_is}
 use Rattle.kt_store.proofs.InsertLemmas.{went, concluded}
 use Rattle.kt_store.proofs.BeginLemmas.{cast_int}
@@ -105,3 +109,11 @@ raised_all a b c i j runs has one two =
       },
       w.sound,
     )
+
+-- the same of a transaction
+pub raised_in : {S : Type 0} (g : Ghosts S) (old left : Held S) (runs : List Run) → (IsTrue (state g old).is_open → OldTables (state g old).now runs) → RunInTurn g raise_statements (begun old) left
+    → Tables (state g left).now runs × IsDatabase (state g left).now
+raised_in g old left runs has ran =
+    let two = ran.2 in
+    subst (λ h. Tables (state g h).now runs × IsDatabase (state g h).now) (sym two.2)
+    (raised_all (state g (begun old)) (state g ran.0) (state g two.0) ran.1.0 two.1.0 runs (has ran.1.1.1.was_open) ran.1.1.0 two.1.1.0)

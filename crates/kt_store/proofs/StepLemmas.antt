@@ -9,12 +9,17 @@ use Rattle.sqlite.specs.Listing.{understood}
 use Rattle.std.proofs.lemmas.Bool.{cases_Bool}
 use Rattle.sqlite_resolve.specs.declared.compiled.Compiled.{Compiled}
 use Rattle.sqlite_schema.specs.declared.command.Returning.{Returning}
-use Rattle.sqlite.specs.State.{State, HasCleanDisk, IsUnchanged, IsRolledBack, IsNotRun, Executes, ExecutesIn, RunsCommand, shows_rows, FailsToQuery, FailsToShow, CommitsBy, MayCommit, Survives}
+use Rattle.sqlite.specs.Effect.{Database, IsDatabase}
+use Rattle.sqlite.specs.Store.{Ghosts}
+use Rattle.sqlite.specs.Held.{Held, state}
+use Rattle.sqlite.specs.State.{State, HasCleanDisk, IsLive, IsUnchanged, IsRolledBack, IsNotRun, Executes, ExecutesIn, RunsCommand, shows_rows, FailsToQuery, FailsToShow, CommitsBy, MayCommit, Survives}
 use Rattle.sqlite.proofs.Callers.{IsPlain, command_of, statement_of, unchanged_then}
+use Rattle.sqlite.proofs.StateLemmas.{survives_then}
 use Rattle.kt_base.specs.declared.run.Run.{Run}
 use Rattle.kt_store.specs.Runs.{Tables, Keeps, KeepsOld, KeepsEither}
 use Rattle.kt_store.specs.Ask.{Rests}
-use Rattle.kt_store.specs.Stands.{IsStore, StandsFor, Leaves}
+use Rattle.kt_store.specs.Stands.{IsSettled, Holds, IsStore, StandsFor, Leaves}
+use Rattle.kt_store.specs.Inner.Transactions.{IsUndone}
 
 -- whatever a refused statement is, the connection is as it was or is rolled back
 pub not_run : (old new : State) (sql : List ℕ) (params : Row) (e : Error) → IsNotRun old new sql params e → Rests old new
@@ -43,26 +48,37 @@ unfolding FailsToQuery
 query_refused old new sql params e (inl h) = not_run old new sql params e h
 query_refused old new sql params e (inr h) = show_refused old new sql h.0 _ e h.0.returning h.2
 
+rolled_back : (old new : State) → IsRolledBack old new → IsUndone old new
+rolled_back old new undone = record { was_open = undone.was_open; now = λ opened. (undone.undone opened).0; committed = λ opened. (undone.undone opened).1; autocommit = undone.autocommit }
+
+module _ (P : Database → Type 0) (old new : State) where
+  -- what is unchanged, or as its last commit left it, is settled as before
+  pub same_settled : IsSettled P old → IsUnchanged old new → IsSettled P new
+  same_settled has same = record {
+    autocommit = same.0.mode ∙ has.autocommit;
+    settled = same.0.committed_is ∙ has.settled ∙ sym same.0.now_is;
+    tables = subst P (sym same.0.now_is) has.tables;
+  }
+
+  pub undone_settled : IsSettled P old → IsUndone old new → IsTrue new.is_open → IsSettled P new
+  undone_settled has undone opened = record {
+    autocommit = undone.autocommit;
+    settled = undone.committed opened ∙ sym (undone.now opened);
+    tables = subst P (sym (undone.now opened ∙ has.settled)) has.tables;
+  }
+
+  -- so a refusal changes nothing
+  pub rests_hold : Holds P old → (HasCleanDisk new → HasCleanDisk old) → (HasCleanDisk new → Rests old new) → Holds P new
+  rests_hold has earlier left clean opened = elim (left clean) [
+    | inl same ↦ same_settled (has (earlier clean) same.0.was_open) same
+    | inr undone ↦ undone_settled (has (earlier clean) (undone.was_open opened)) (rolled_back old new undone) opened
+  ]
+
 pub same_store : (old new : State) (runs : List Run) → IsStore old runs → IsUnchanged old new → IsStore new runs
-same_store old new runs has same = record {
-  autocommit = same.0.mode ∙ has.autocommit;
-  settled = same.0.committed_is ∙ has.settled ∙ sym same.0.now_is;
-  tables = subst (λ db. Tables db runs) (sym same.0.now_is) has.tables;
-}
+same_store old new runs has same = same_settled (λ db. Tables db runs) old new has same
 
-pub undone_store : (old new : State) (runs : List Run) → IsStore old runs → IsRolledBack old new → IsTrue new.is_open → IsStore new runs
-undone_store old new runs has undone opened = record {
-  autocommit = undone.autocommit;
-  settled = (undone.undone opened).1 ∙ sym (undone.undone opened).0;
-  tables = subst (λ db. Tables db runs) (sym ((undone.undone opened).0 ∙ has.settled)) has.tables;
-}
-
--- so a refusal changes nothing
 pub rests : (old new : State) (runs : List Run) → StandsFor old runs → (HasCleanDisk new → HasCleanDisk old) → (HasCleanDisk new → Rests old new) → StandsFor new runs
-rests old new runs has earlier left clean opened = elim (left clean) [
-  | inl same ↦ same_store old new runs (has (earlier clean) same.0.was_open) same
-  | inr undone ↦ undone_store old new runs (has (earlier clean) (undone.was_open opened)) undone opened
-]
+rests old new runs has earlier left = rests_hold (λ db. Tables db runs) old new has earlier left
 
 module _ (sql : List ℕ) (params : Row) (old : State) (schema : Schema) (has : old.now.schema ≡ schema) (command : Command) (is : command_of (understood schema sql) ≡ command)
     (plain : IsPlain (understood schema sql)) where
@@ -83,6 +99,10 @@ rests_then a b c same (inr undone) = inr (record {
   counts = record { changes = undone.counts.changes ∙ same.1.changes; last_rowid = undone.counts.last_rowid ∙ same.1.last_rowid };
 })
 
+-- a statement that is prepared and then run
+pub prepare_then : (old mid new : State) (P Q : Trees → Type 0) → Survives old mid (λ _. ⊥) → Survives mid new Q → (HasCleanDisk mid → (db : Trees) → Q db → P db) → Survives old new P
+prepare_then old mid new P Q first second is = survives_then old mid new (λ _. ⊥) Q P (λ _ db none. absurd none) (λ clean db may. is (omega (arith, clean, second.clean)) db may) first second
+
 -- what calls that commit nothing leave of what a crash may leave
 pub outlives : (old new : State) (P : Trees → Type 0) → Survives old new (λ _. ⊥) → Leaves old P → Leaves new P
 outlives old new P it left clean trees may = elim (it.crash clean trees may) [
@@ -96,3 +116,8 @@ either_left old new runs it left clean trees may = elim (it.crash clean trees ma
   | inl earlier ↦ inl (left (omega (arith, clean, it.clean)) trees earlier)
   | inr made ↦ inr made
 ]
+
+-- an open database leaves its last commit
+module _ {S : Type 0} (g : Ghosts S) (s : Held S) (law : (db : Trees) → IsTrue (state g s).is_open → (state g s).may_leave db → db ≡ (state g s).committed.trees) where
+  pub leaves_held : (P : Database → Type 0) → IsLive (state g s) → Holds P (state g s) → IsTrue (state g s).is_open → Leaves (state g s) (λ trees. (db : Database) × IsDatabase db × (trees ≡ db.trees) × P db)
+  leaves_held P live has opened clean trees may = ((state g s).now, (live opened).0, law trees opened may ∙ ap (λ (d : Database). d.trees) (has clean opened).settled, (has clean opened).tables)

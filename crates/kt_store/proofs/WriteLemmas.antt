@@ -1,13 +1,12 @@
--- A write that is one INSERT in its own commit, from what it does to the tables alone.
+-- A write that is one statement in its own commit, from what it does to the tables alone.
 use Rattle.std.proofs.Common.{◌≡◌, ◌⊎◌, inl, inr, ℕ, List, IsTrue, cond, None, Option, Ok, refl, ap, ◌∙◌}
 use Rattle.sqlite.specs.Order.{Row}
 use Rattle.sqlite.specs.Tree.{Trees}
 use Rattle.sqlite.specs.Store.{Ghosts}
 use Rattle.sqlite.specs.Held.{Held, state}
-use Rattle.sqlite.specs.Source.{Source}
 use Rattle.sqlite.specs.Command.{Command}
 use Rattle.sqlite_schema.specs.declared.program.Program.{Program}
-use Rattle.sqlite.specs.Command.TheVariants.{Insert, Update, Commit, Release}
+use Rattle.sqlite.specs.Command.TheVariants.{Update, Commit, Release}
 use Rattle.sqlite.specs.declared.run.Mode.{Mode}
 use Rattle.sqlite_schema.specs.declared.schema.Keys.TheVariants.{Enforced}
 use Rattle.sqlite.specs.Does.{Tally, Does}
@@ -55,22 +54,9 @@ module _ (sql : List ℕ) (params : Row) (command : Command) (is : command_of (u
     pub crash_by : HasCleanDisk (state g new) → (trees : Trees) → MayTell g sql params old trees → Keeps more trees
     crash_by clean trees it = commits (state g it.0) trees (same_store (state g old) (state g it.0) runs (has (earlier clean) it.1.0.was_open) it.1) it.2
 
-no_end_insert : (at : ℕ) (from : Source) (old : State) → Ends (Insert at from) old → ⊥
-no_end_insert at from old (inl e) = cc
-no_end_insert at from old (inr it) = let e = it.2 in cc
-
 no_end_update : (at : ℕ) (q : Program) (old : State) → Ends (Update at q) old → ⊥
 no_end_update at q old (inl e) = cc
 no_end_update at q old (inr it) = let e = it.2 in cc
-
-module _ (sql : List ℕ) (params : Row) (at : ℕ) (from : Source) (is : command_of (understood schema_2 sql) ≡ Insert at from) (plain : IsPlain (understood schema_2 sql)) (runs more : List Run)
-    (step : (limit : Option ℕ) (mode : Mode) (db after : Database) (text : List ℕ) (tally : Tally) → mode.keys ≡ Enforced → Tables db runs → Does limit mode params db text None (Insert at from) (Ok (tally, after)) → Tables after more)
-    {S : Type 0} (g : Ghosts S) (old new : Held S) (has : StandsFor (state g old) runs) (earlier : HasCleanDisk (state g new) → HasCleanDisk (state g old)) where
-  pub told_write : HasCleanDisk (state g new) → Told g sql params old new → IsStore (state g new) more × IsTrue (state g new).is_open × IsDatabase (state g new).now
-  told_write = told_by sql params (Insert at from) is plain (λ _ _ _ _ ran. ran) (no_end_insert at from) runs more step g old new has earlier
-
-  pub crash_write : HasCleanDisk (state g new) → (trees : Trees) → MayTell g sql params old trees → Keeps more trees
-  crash_write = crash_by sql params (Insert at from) is plain (λ _ _ _ _ ran. ran) (no_end_insert at from) runs more step g old new has earlier
 
 module _ (sql : List ℕ) (params : Row) (at : ℕ) (q : Program) (is : command_of (understood schema_2 sql) ≡ Update at q) (plain : IsPlain (understood schema_2 sql)) (runs more : List Run)
     (step : (limit : Option ℕ) (mode : Mode) (db after : Database) (text : List ℕ) (tally : Tally) → mode.keys ≡ Enforced → Tables db runs → Does limit mode params db text None (Update at q) (Ok (tally, after)) → Tables after more)

@@ -1,48 +1,47 @@
 -- When a connection stands for a list of runs.
-use Rattle.std.specs.Prelude.{◌≡◌, false, List, [], ◌∷◌, map, drop, codes, ℤ, IsTrue}
+use Rattle.std.specs.Prelude.{◌≡◌, false, Ok, ℕ, List, [], ◌∷◌, map, drop, codes, ℤ, pos, IsTrue}
 use Rattle.sqlite.specs.declared.types.Value.TheVariants.{Int, Text}
+use Rattle.sqlite.specs.Effect.{Database}
+use Rattle.sqlite.specs.Listing.{understood}
 use Rattle.sqlite.specs.Tree.{Trees}
 use Rattle.sqlite.specs.State.{State, HasCleanDisk}
+use Rattle.sqlite_resolve.specs.declared.compiled.Compiled.{Compiled}
 use Rattle.kt_base.specs.declared.run.Run.{Run}
 use Rattle.sqlite.specs.Table.{Table}
 use Rattle.sqlite_schema.specs.declared.schema.Index.{Index}
 use Rattle.sqlite_schema.specs.declared.schema.View.{View}
-use Rattle.kt_store.specs.Tables.{no_schema, beside_meta}
+use Rattle.kt_store.specs.Tables.{no_schema, beside_meta, runs_text, entries_text, pairs_text}
 use Rattle.kt_store.specs.Runs.{Tables, OldTables}
 
--- no transaction is open, the last commit is what is seen, and the tables hold these runs
-pub record IsStore (s : State) (runs : List Run) : Type 0 where
+-- no transaction is open, and the last commit is what is seen, with P
+pub record IsSettled (P : Database → Type 0) (s : State) : Type 0 where
   pub autocommit : s.in_transaction ≡ false
   pub settled : s.committed ≡ s.now
-  pub tables : Tables s.now runs
+  pub tables : P s.now
+
+-- the same while the disk returns what was written and the connection is open
+abbrev pub Holds : (Database → Type 0) → State → Type 0
+Holds P s = HasCleanDisk s → IsTrue s.is_open → IsSettled P s
+
+-- the tables hold these runs
+abbrev pub IsStore : State → List Run → Type 0
+IsStore s runs = IsSettled (λ db. Tables db runs) s
 
 -- while the disk returns what was written and the connection is open, the tables stand for these runs
 abbrev pub StandsFor : State → List Run → Type 0
-StandsFor s runs = HasCleanDisk s → IsTrue s.is_open → IsStore s runs
+StandsFor s runs = Holds (λ db. Tables db runs) s
 
--- no transaction is open, the last commit is what is seen, and the tables of schema 1 hold these runs
-pub record IsOldStore (s : State) (runs : List Run) : Type 0 where
-  pub autocommit : s.in_transaction ≡ false
-  pub settled : s.committed ≡ s.now
-  pub tables : OldTables s.now runs
-
--- while the disk returns what was written and the connection is open, the tables of schema 1 stand for these runs
+-- the same of the tables of schema 1
 abbrev pub StandsInOld : State → List Run → Type 0
-StandsInOld s runs = HasCleanDisk s → IsTrue s.is_open → IsOldStore s runs
+StandsInOld s runs = Holds (λ db. OldTables db runs) s
+
+-- the same of a database with no table yet
+abbrev pub IsEmpty : State → Type 0
+IsEmpty s = Holds (λ db. db.schema ≡ no_schema) s
 
 -- a crash at this moment leaves trees with P
 abbrev pub Leaves : State → (Trees → Type 0) → Type 0
 Leaves s P = HasCleanDisk s → (trees : Trees) → s.may_leave trees → P trees
-
--- no transaction is open, the last commit is what is seen, and there is no table
-pub record IsBlank (s : State) : Type 0 where
-  pub autocommit : s.in_transaction ≡ false
-  pub settled : s.committed ≡ s.now
-  pub blank : s.now.schema ≡ no_schema
-
--- the same for a database with no table yet
-abbrev pub IsEmpty : State → Type 0
-IsEmpty s = HasCleanDisk s → IsTrue s.is_open → IsBlank s
 
 -- the first table is that of the schema's number, whatever stands beside it, and it says this number
 pub record SaysNumber (n : ℤ) (s : State) : Type 0 where
@@ -55,3 +54,13 @@ pub record SaysNumber (n : ℤ) (s : State) : Type 0 where
 -- the same while the disk returns what was written and the connection is open
 abbrev pub SaysSchema : ℤ → State → Type 0
 SaysSchema n s = HasCleanDisk s → IsTrue s.is_open → SaysNumber n s
+
+-- SQLite understands this text over the tables
+abbrev pub IsUnderstood : State → List ℕ → Type 0
+IsUnderstood s sql = (c : Compiled) × (understood s.now.schema sql ≡ Ok c)
+
+-- SQLite understands the queries of a schema with this number: for runs, for entries and, from 2 on, for pairs
+pub record HasTables (n : ℤ) (s : State) : Type 0 where
+  pub runs : IsUnderstood s runs_text
+  pub entries : IsUnderstood s entries_text
+  pub pairs : n ≡ pos 2 → IsUnderstood s pairs_text

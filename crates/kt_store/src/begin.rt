@@ -1,14 +1,12 @@
-ghost use Rattle.std.specs.Prelude.{◌≡◌, ◌<◌, ◌≤◌, ◌++◌, suc, [], ◌∷◌, length, true, false, IfOk, OnOk, OnErr, IfErr, pos};
+ghost use Rattle.std.specs.Prelude.{◌≡◌, ◌<◌, ◌≤◌, ◌++◌, suc, [], ◌∷◌, length, true, false, IfOk, OnOk, OnErr, IfErr};
 ghost use Rattle.kt_base.specs.Limits.{last_run};
 ghost use Rattle.kt_base.specs.Moments.{IsMoment};
 ghost use Rattle.sqlite.specs.State.{HasCleanDisk};
 ghost use Rattle.sqlite.specs.Held.{state};
-ghost use Rattle.kt_store.specs.Ask.{IsStoreFault, IsCaused};
+ghost use Rattle.kt_store.specs.Ask.{IsStoreFault};
 ghost use Rattle.kt_store.specs.Inner.Kept.{KeepsRuns, OnlyReads, Changes, ChangesForGood, MayChange};
 ghost use Rattle.kt_store.specs.Runs.{new_run};
 ghost use Rattle.kt_store.specs.Stands.{StandsFor};
-ghost use Rattle.kt_store.specs.Tables.{full_text, begin_text};
-ghost use Rattle.sqlite_value.specs.declared.value.Value.TheVariants.{Int};
 
 use crate::statements::{ask, has_rows, tell};
 use crate::store_fault::StoreFault;
@@ -23,9 +21,6 @@ pub(crate) fn is_full<S: Alter>(conn: &mut Connection<S>) -> Result<bool, StoreF
         × (full ≡ false → length runs < last_run)) }
     ensures stands { KeepsRuns S.Store conn.old conn.new }
     ensures failed { IfErr result IsStoreFault }
-    ensures cause { (runs : _) → StandsFor (state S.Store conn.old) runs
-        → HasCleanDisk (state S.Store conn.new)
-        → IfErr result (IsCaused S.Store ((full_text, []) ∷ []) conn.new) }
     ensures crash { OnlyReads S.Store conn.old conn.new }
 {
     let rows = ask(conn, "SELECT id FROM runs WHERE id = 1000000", &[])?;
@@ -47,10 +42,6 @@ pub(crate) fn add_run<S: Alter>(
         (λ runs. length runs < last_run) (λ runs. runs ++ new_run runs total moment ∷ [])) }
     ensures kept { OnErr result (KeepsRuns S.Store conn.old conn.new) }
     ensures failed { IfErr result IsStoreFault }
-    ensures cause { (runs : _) → StandsFor (state S.Store conn.old) runs
-        → HasCleanDisk (state S.Store conn.new)
-        → IfErr result (IsCaused S.Store
-        ((begin_text, Int (pos moment) ∷ Int (pos total) ∷ []) ∷ []) conn.new) }
     ensures crash { MayChange S.Store conn.old conn.new
         (λ runs. length runs < last_run) (λ runs. runs ++ new_run runs total moment ∷ []) }
     ensures durable { OnOk result (ChangesForGood S.Store conn.old conn.new

@@ -1,30 +1,24 @@
-ghost use Rattle.std.specs.Prelude.{◌≡◌, ◌⊎◌, ◌<◌, ◌≤◌, ◌^◌, min, length, Some, None, IfOk, OnOk, OnErr, IfErr, pos, [], ◌∷◌};
+ghost use Rattle.std.specs.Prelude.{◌≡◌, ◌⊎◌, ◌<◌, ◌≤◌, ◌^◌, min, length, Some, None, IfOk, OnOk, OnErr, IfErr};
 ghost use Rattle.sqlite.specs.State.{HasCleanDisk};
 ghost use Rattle.sqlite.specs.Held.{state};
 ghost use Rattle.kt_base.specs.Limits.{last_run};
-ghost use Rattle.kt_store.specs.Ask.{IsStoreFault, IsCaused};
+ghost use Rattle.kt_store.specs.Ask.{IsStoreFault};
 ghost use Rattle.kt_store.specs.Inner.Kept.{KeepsRuns, OnlyReads, Changes, ChangesForGood, MayChange};
 ghost use Rattle.kt_store.specs.Inner.Runs.{entries_of, IsComplete};
 ghost use Rattle.kt_store.specs.Runs.{run_at, finish, finish_refusal};
 ghost use Rattle.kt_store.specs.Stands.{StandsFor};
-ghost use Rattle.kt_store.specs.Calls.{finish_statements};
-ghost use Rattle.kt_store.specs.Tables.{count_text};
-ghost use Rattle.sqlite_value.specs.declared.value.Value.TheVariants.{Int};
 
 use crate::lookup::look;
 use crate::read::number_in;
 use crate::statements::{ask, tell};
 use crate::store_fault::StoreFault;
 use crate::value::int;
-use sqlite::{Alter, Connection, Error};
+use sqlite::{Alter, Connection};
 
-/// How many entries the run has; SQL counts no further than its integers go.
+/// How many entries the run has, none without a row; SQL counts no further than its integers go.
 pub(crate) fn count<S: Alter>(conn: &mut Connection<S>, run: u64) -> Result<u64, StoreFault>
     requires { run < 2 ^ 63 }
     ensures failed { IfErr result IsStoreFault }
-    ensures cause { (runs : _) → StandsFor (state S.Store conn.old) runs
-        → HasCleanDisk (state S.Store conn.new)
-        → IfErr result (IsCaused S.Store ((count_text, Int (pos run) ∷ []) ∷ []) conn.new) }
     ensures stands { KeepsRuns S.Store conn.old conn.new }
     ensures crash { OnlyReads S.Store conn.old conn.new }
     ensures found { (runs : _) → StandsFor (state S.Store conn.old) runs
@@ -37,7 +31,7 @@ pub(crate) fn count<S: Alter>(conn: &mut Connection<S>, run: u64) -> Result<u64,
         &[int(run)],
     )?;
     let Some(row) = rows.first() else {
-        return Err(StoreFault::from(Error::QueryReturnedNoRows));
+        return Ok(0);
     };
     let number = number_in(row, 0)?;
     Ok(number)
@@ -46,9 +40,6 @@ pub(crate) fn count<S: Alter>(conn: &mut Connection<S>, run: u64) -> Result<u64,
 /// Asks whether the run may be finished.
 pub(crate) fn check<S: Alter>(conn: &mut Connection<S>, run: u64) -> Result<(), StoreFault>
     ensures small { OnOk result (run ≤ last_run) }
-    ensures cause { (runs : _) → StandsFor (state S.Store conn.old) runs
-        → HasCleanDisk (state S.Store conn.new)
-        → IfErr result (IsCaused S.Store (finish_statements run) conn.new) }
     ensures stands { KeepsRuns S.Store conn.old conn.new }
     ensures crash { OnlyReads S.Store conn.old conn.new }
     ensures refused { (runs : _) → StandsFor (state S.Store conn.old) runs
@@ -76,9 +67,6 @@ pub(crate) fn mark<S: Alter>(conn: &mut Connection<S>, run: u64) -> Result<(), S
         (IsComplete run) (finish run)) }
     ensures kept { OnErr result (KeepsRuns S.Store conn.old conn.new) }
     ensures failed { IfErr result IsStoreFault }
-    ensures cause { (runs : _) → StandsFor (state S.Store conn.old) runs
-        → HasCleanDisk (state S.Store conn.new)
-        → IfErr result (IsCaused S.Store (finish_statements run) conn.new) }
     ensures crash { MayChange S.Store conn.old conn.new
         (IsComplete run) (finish run) }
     ensures durable { OnOk result (ChangesForGood S.Store conn.old conn.new

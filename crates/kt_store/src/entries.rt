@@ -1,14 +1,14 @@
-ghost use Rattle.std.specs.Prelude.{◌≡◌, ◌<◌, ◌^◌, ℕ, pos, length, map, List, [], ◌∷◌, ◌++◌, Ok, IfOk, OnOk, IfErr};
+ghost use Rattle.std.specs.Prelude.{◌≡◌, ◌<◌, ◌^◌, ℕ, length, map, List, ◌++◌, Ok, IfOk, OnOk, IfErr};
 ghost use Rattle.kt_base.specs.declared.entry.Entry.{Entry as Stored};
 ghost use Rattle.kt_base.specs.declared.kind.Kind.{Kind as Sort};
 ghost use Rattle.kt_base.specs.Utf8.{utf8};
 ghost use Rattle.std.specs.List.{AllByRecursion};
 ghost use Rattle.kt_base.specs.declared.output.Output.{Output as Pair};
 ghost use Rattle.sqlite_value.specs.Order.{column};
-ghost use Rattle.sqlite_value.specs.declared.value.Value.TheVariants.{Int, Text as Words, Blob};
+ghost use Rattle.sqlite_value.specs.declared.value.Value.TheVariants.{Text as Words, Blob};
 ghost use Rattle.sqlite.specs.State.{HasCleanDisk};
 ghost use Rattle.sqlite.specs.Held.{state};
-ghost use Rattle.kt_store.specs.Ask.{IsNoMemory, IsStoreFault, IsCaused};
+ghost use Rattle.kt_store.specs.Ask.{IsNoMemory, IsStoreFault};
 ghost use Rattle.kt_store.specs.Inner.Kept.{KeepsRuns, OnlyReads};
 ghost use Rattle.kt_base.specs.declared.variable.Variable.{Variable as StoredPair};
 ghost use Rattle.sqlite_trees.specs.Tree.{IsAscending};
@@ -16,15 +16,14 @@ ghost use Rattle.kt_store.specs.Inner.Runs.{entries_of};
 ghost use Rattle.kt_store.specs.Runs.{IsEntry, IsPair, IsText, AreRuns, kind_code, run_at};
 ghost use Rattle.kt_store.specs.Inner.Heads.{entry_columns, pair_columns, pairs_shown};
 ghost use Rattle.kt_store.specs.Stands.{StandsFor};
-ghost use Rattle.kt_store.specs.Tables.{entries_text, pairs_text};
 
 use crate::growth::add;
 use crate::read::{number_in, small_in};
-use crate::statements::ask;
+use crate::statements::{ask, out_of_range, value_in};
 use crate::store_fault::StoreFault;
 use crate::value::int;
 use kt_base::{Bytes, Entry, Kind, Output, Text, Variable, Variables, Verdict};
-use sqlite::{Alter, Connection, Error, Row};
+use sqlite::{Alter, Connection, Row};
 use std::alloc::Global;
 
 pub(crate) fn text_in(row: &Row, at: usize) -> Result<Text, StoreFault>
@@ -34,7 +33,7 @@ pub(crate) fn text_in(row: &Row, at: usize) -> Result<Text, StoreFault>
         → column row.now at ≡ Words (utf8 t) → IfErr result IsNoMemory }
     ensures failed { IfErr result IsStoreFault }
 {
-    let string = row.get::<String>(at)?;
+    let string = value_in::<String>(row, at)?;
     Ok(Text::from_string(string))
 }
 
@@ -44,7 +43,7 @@ pub(crate) fn bytes_in(row: &Row, at: usize) -> Result<Bytes, StoreFault>
         → IfErr result IsNoMemory }
     ensures failed { IfErr result IsStoreFault }
 {
-    let items = row.get::<Vec<u8>>(at)?;
+    let items = value_in::<Vec<u8>>(row, at)?;
     Ok(Bytes::from_vec(items))
 }
 
@@ -59,7 +58,7 @@ pub(crate) fn kind_of(code: u64) -> Result<Kind, StoreFault>
         2 => Ok(Kind::ExpectedFailure),
         3 => Ok(Kind::Failed),
         4 => Ok(Kind::Broken),
-        _ => Err(StoreFault::from(Error::IntegralValueOutOfRange(3))),
+        _ => Err(out_of_range(code)),
     }
 }
 
@@ -189,9 +188,6 @@ pub(crate) fn all_pairs<S: Alter>(
         → HasCleanDisk (state S.Store conn.new)
         → IfOk result (λ rows. rows.items ≡ pairs_shown (entries_of (run_at runs run))) }
     ensures failed { IfErr result IsStoreFault }
-    ensures cause { (runs : _) → StandsFor (state S.Store conn.old) runs
-        → HasCleanDisk (state S.Store conn.new)
-        → IfErr result (IsCaused S.Store ((pairs_text, Int (pos run) ∷ []) ∷ []) conn.new) }
     ensures stands { KeepsRuns S.Store conn.old conn.new }
     ensures crash { OnlyReads S.Store conn.old conn.new }
 {
@@ -212,9 +208,6 @@ pub(crate) fn all_rows<S: Alter>(conn: &mut Connection<S>, run: u64) -> Result<V
     ensures valid { (runs : _) → StandsFor (state S.Store conn.old) runs
         → HasCleanDisk (state S.Store conn.new) → OnOk result (AreRuns runs) }
     ensures failed { IfErr result IsStoreFault }
-    ensures cause { (runs : _) → StandsFor (state S.Store conn.old) runs
-        → HasCleanDisk (state S.Store conn.new)
-        → IfErr result (IsCaused S.Store ((entries_text, Int (pos run) ∷ []) ∷ []) conn.new) }
     ensures stands { KeepsRuns S.Store conn.old conn.new }
     ensures crash { OnlyReads S.Store conn.old conn.new }
 {
@@ -237,10 +230,6 @@ pub(crate) fn all_entries<S: Alter>(
         → HasCleanDisk (state S.Store conn.new)
         → IfOk result (λ found. found.items ≡ entries_of (run_at runs run)) }
     ensures failed { IfErr result IsStoreFault }
-    ensures cause { (runs : _) → StandsFor (state S.Store conn.old) runs
-        → HasCleanDisk (state S.Store conn.new)
-        → IfErr result (IsCaused S.Store
-        ((entries_text, Int (pos run) ∷ []) ∷ (pairs_text, Int (pos run) ∷ []) ∷ []) conn.new) }
     ensures stands { KeepsRuns S.Store conn.old conn.new }
     ensures crash { OnlyReads S.Store conn.old conn.new }
 {

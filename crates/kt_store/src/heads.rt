@@ -3,12 +3,11 @@ ghost use Rattle.std.specs.List.{AllByRecursion};
 ghost use Rattle.kt_base.specs.declared.run.Run.{Run as Stored};
 ghost use Rattle.sqlite.specs.State.{HasCleanDisk};
 ghost use Rattle.sqlite.specs.Held.{state};
-ghost use Rattle.kt_store.specs.Ask.{IsNoMemory, IsStoreFault, IsCaused};
+ghost use Rattle.kt_store.specs.Ask.{IsNoMemory, IsStoreFault};
 ghost use Rattle.kt_store.specs.Inner.Kept.{KeepsRuns, OnlyReads};
 ghost use Rattle.kt_store.specs.Inner.Heads.{head_columns};
 ghost use Rattle.kt_store.specs.Heads.{head_of};
 ghost use Rattle.kt_store.specs.Stands.{StandsFor};
-ghost use Rattle.kt_store.specs.Calls.{runs_statements};
 
 use crate::growth::add;
 use crate::read::{number_in, small_in};
@@ -61,9 +60,6 @@ pub(crate) fn all_heads<S: Alter>(
     ensures all { (runs : _) → StandsFor (state S.Store conn.old) runs
         → HasCleanDisk (state S.Store conn.new)
         → IfOk result (λ heads. heads.items ≡ map head_of runs) }
-    ensures cause { (runs : _) → StandsFor (state S.Store conn.old) runs
-        → HasCleanDisk (state S.Store conn.new)
-        → IfErr result (IsCaused S.Store runs_statements conn.new) }
     ensures failed { IfErr result IsStoreFault }
     ensures stands { KeepsRuns S.Store conn.old conn.new }
     ensures crash { OnlyReads S.Store conn.old conn.new }

@@ -2,13 +2,14 @@
 #![tactic(auto)]
 
 mod attach;
+mod batch;
 mod begin;
 mod close;
 mod crashes;
 mod entries;
 mod growth;
 mod heads;
-mod kept_results;
+mod keeping;
 mod lookup;
 mod put;
 mod read;
@@ -20,7 +21,9 @@ mod store_fault;
 mod value;
 
 pub use crashes::law_of_crashes;
+pub use keeping::Keeping;
 pub use result_store::ResultStore;
 pub use results::Results;
 pub use run_head::RunHead;
-pub use store_fault::{FailedStatement, Shortage, StoreFault};
+pub use statements::{FailedStatement, Shortage, close_file, open_file};
+pub use store_fault::StoreFault;

@@ -1,15 +1,12 @@
-ghost use Rattle.std.specs.Prelude.{◌≡◌, ◌⊎◌, ◌<◌, ◌≤◌, ◌^◌, IfOk, IfErr, OnOk, Some, None, option_map, unsigned_abs, pos, [], ◌∷◌};
+ghost use Rattle.std.specs.Prelude.{◌≡◌, ◌⊎◌, ◌<◌, ◌≤◌, ◌^◌, IfOk, IfErr, OnOk, Some, None, option_map, unsigned_abs};
 ghost use Rattle.sqlite.specs.State.{HasCleanDisk};
 ghost use Rattle.sqlite.specs.Held.{state};
 ghost use Rattle.kt_base.specs.Limits.{last_run};
-ghost use Rattle.kt_store.specs.Ask.{IsStoreFault, IsCaused};
+ghost use Rattle.kt_store.specs.Ask.{IsStoreFault};
 ghost use Rattle.kt_store.specs.Inner.Kept.{KeepsRuns, OnlyReads};
 ghost use Rattle.kt_store.specs.Inner.Runs.{entries_of};
 ghost use Rattle.kt_store.specs.Runs.{run_at, flag, AreRuns, has_position};
 ghost use Rattle.kt_store.specs.Stands.{StandsFor};
-ghost use Rattle.kt_store.specs.Calls.{asked_number, look_statement, there_statement};
-ghost use Rattle.kt_store.specs.Tables.{run_text};
-ghost use Rattle.sqlite_value.specs.declared.value.Value.TheVariants.{Int};
 
 use crate::read::number_in;
 use crate::statements::{ask, has_rows};
@@ -24,9 +21,6 @@ pub(crate) fn find<S: Alter>(
 ) -> Result<Option<(u64, u64)>, StoreFault>
     requires { run < 2 ^ 63 }
     ensures failed { IfErr result IsStoreFault }
-    ensures cause { (runs : _) → StandsFor (state S.Store conn.old) runs
-        → HasCleanDisk (state S.Store conn.new)
-        → IfErr result (IsCaused S.Store ((run_text, Int (pos run) ∷ []) ∷ []) conn.new) }
     ensures crash { OnlyReads S.Store conn.old conn.new }
     ensures valid { (runs : _) → StandsFor (state S.Store conn.old) runs
         → HasCleanDisk (state S.Store conn.new) → OnOk result (AreRuns runs) }
@@ -54,7 +48,6 @@ pub(crate) fn key(run: u64) -> u64
     ensures low { result ≤ last_run }
     ensures same { run ≤ last_run → result ≡ run }
     ensures none { last_run < run → result ≡ 0 }
-    ensures asked { result ≡ asked_number run }
 {
     if run <= 1000000 { run } else { 0 }
 }
@@ -62,9 +55,6 @@ pub(crate) fn key(run: u64) -> u64
 /// The total of a run that is there, and whether it is finished.
 pub(crate) fn look<S: Alter>(conn: &mut Connection<S>, run: u64) -> Result<(u64, bool), StoreFault>
     ensures small { OnOk result (run ≤ last_run) }
-    ensures cause { (runs : _) → StandsFor (state S.Store conn.old) runs
-        → HasCleanDisk (state S.Store conn.new)
-        → IfErr result (IsCaused S.Store (look_statement run ∷ []) conn.new) }
     ensures stands { KeepsRuns S.Store conn.old conn.new }
     ensures crash { OnlyReads S.Store conn.old conn.new }
     ensures found { (runs : _) → StandsFor (state S.Store conn.old) runs
@@ -93,9 +83,6 @@ pub(crate) fn there<S: Alter>(
 ) -> Result<bool, StoreFault>
     requires { run < 2 ^ 63 }
     ensures failed { IfErr result IsStoreFault }
-    ensures cause { (runs : _) → StandsFor (state S.Store conn.old) runs
-        → HasCleanDisk (state S.Store conn.new)
-        → IfErr result (IsCaused S.Store (there_statement run position ∷ []) conn.new) }
     ensures stands { KeepsRuns S.Store conn.old conn.new }
     ensures crash { OnlyReads S.Store conn.old conn.new }
     ensures found { (runs : _) → StandsFor (state S.Store conn.old) runs

@@ -1,26 +1,25 @@
-ghost use Rattle.std.specs.Prelude.{◌≡◌, ◌⊎◌, false, Some, None, Err, IfOk, ◌<◌, ◌≤◌, ◌^◌, OnOk, OnErr, IfErr, IsTrue};
+ghost use Rattle.std.specs.Prelude.{◌≡◌, ◌⊎◌, Some, None, Err, IfOk, ◌<◌, ◌≤◌, ◌^◌, OnOk, OnErr, IfErr, IsTrue};
 ghost use Rattle.kt_base.specs.Limits.{last_run};
 ghost use Rattle.kt_base.specs.Moments.{IsStorable};
 ghost use Rattle.std.specs.List.{AllByRecursion};
-ghost use Rattle.sqlite.specs.State.{HasCleanDisk, ExecutesInside};
+ghost use Rattle.sqlite.specs.State.{HasCleanDisk, KeepsCommit};
 ghost use Rattle.sqlite.specs.Held.{state};
-ghost use Rattle.kt_store.specs.Ask.{IsNoMemory, IsStoreFault, IsCaused};
+ghost use Rattle.kt_store.specs.Ask.{IsNoMemory, IsStoreFault};
 ghost use Rattle.kt_store.specs.Inner.Kept.{CommitsNothing, KeepsRuns, OnlyReads, Changes, ChangesForGood, MayChange};
-ghost use Rattle.kt_store.specs.Fault.{Tells};
-ghost use Rattle.kt_store.specs.Inner.Transactions.{IsStopped};
-ghost use Rattle.kt_store.specs.Transactions.{RunsInside, RunInTurn, StopInTurn, HoldsRuns, IsCausedInside};
-ghost use Rattle.kt_store.specs.Inner.Runs.{entries_of, CanAdd};
-ghost use Rattle.kt_store.specs.Runs.{IsEntry, IsPair, IsText, pair_row, with_entry, kind_code, put_refusal, run_at, AreRuns, has_position};
+ghost use Rattle.kt_store.specs.Inner.Transactions.{RunsInside, RunInTurn};
+ghost use Rattle.kt_store.specs.Inner.Runs.{CanAdd};
+ghost use Rattle.kt_store.specs.Runs.{IsEntry, IsPair, IsText, pair_row, with_entry, kind_code, put_refusal};
 ghost use Rattle.kt_store.specs.Stands.{StandsFor};
-ghost use Rattle.kt_store.specs.Calls.{put_statements, pair_statements, entry_statements};
+ghost use Rattle.kt_store.specs.Inner.Calls.{pair_statements, entry_statements};
 ghost use Rattle.kt_store.specs.Tables.{pair_text};
 
+use crate::batch::Batch;
 use crate::lookup::{look, there};
-use crate::statements::step;
+use crate::statements::{commit, step};
 use crate::store_fault::StoreFault;
 use crate::value::{blob, int, text};
 use kt_base::{Entry, Kind, Text, Variable};
-use sqlite::{Alter, Connection, Error, ErrorCode, Transaction};
+use sqlite::{Alter, Connection, Transaction};
 use std::alloc::Global;
 
 pub(crate) fn code(kind: Kind) -> u64
@@ -83,11 +82,8 @@ pub(crate) fn add_pair<S: Alter>(
         → IsTrue (state S.Store tx.old.conn.now).in_transaction
         → OnOk result (RunsInside S.Store
         (pair_text, pair_row run position place pair.now) tx.old.conn.now tx.new.conn.now) }
-    ensures cause { HasCleanDisk (state S.Store tx.new.conn.now)
-        → IsTrue (state S.Store tx.old.conn.now).in_transaction
-        → IfErr result (λ e. (error : _) × Tells error e
-        × ExecutesInside 0 pair_text (pair_row run position place pair.now)
-        (state S.Store tx.old.conn.now) (state S.Store tx.new.conn.now) (Err error)) }
+    ensures keeps { HasCleanDisk (state S.Store tx.new.conn.now)
+        → KeepsCommit (state S.Store tx.old.conn.now) (state S.Store tx.new.conn.now) }
     ensures failed { IfErr result IsStoreFault }
     ensures survives { CommitsNothing S.Store tx.old.conn.now tx.new.conn.now }
 {
@@ -118,11 +114,8 @@ pub(crate) fn add_pairs<S: Alter>(
         → IsTrue (state S.Store tx.old.conn.now).in_transaction
         → OnOk result (RunInTurn S.Store
         (pair_statements run position 0 pairs.now) tx.old.conn.now tx.new.conn.now) }
-    ensures cause { HasCleanDisk (state S.Store tx.new.conn.now)
-        → IsTrue (state S.Store tx.old.conn.now).in_transaction
-        → IfErr result (λ e. (error : _) × Tells error e
-        × StopInTurn S.Store (pair_statements run position 0 pairs.now)
-        tx.old.conn.now tx.new.conn.now error) }
+    ensures keeps { HasCleanDisk (state S.Store tx.new.conn.now)
+        → KeepsCommit (state S.Store tx.old.conn.now) (state S.Store tx.new.conn.now) }
     ensures failed { IfErr result IsStoreFault }
     ensures survives { CommitsNothing S.Store tx.old.conn.now tx.new.conn.now }
 {
@@ -149,10 +142,8 @@ pub(crate) fn fill<S: Alter>(
         → IsTrue (state S.Store tx.old.conn.now).in_transaction
         → OnOk result (RunInTurn S.Store
         (entry_statements run entry.now) tx.old.conn.now tx.new.conn.now) }
-    ensures cause { HasCleanDisk (state S.Store tx.new.conn.now)
-        → IsTrue (state S.Store tx.old.conn.now).in_transaction
-        → IfErr result (IsStopped S.Store
-        (entry_statements run entry.now) tx.old.conn.now tx.new.conn.now) }
+    ensures keeps { HasCleanDisk (state S.Store tx.new.conn.now)
+        → KeepsCommit (state S.Store tx.old.conn.now) (state S.Store tx.new.conn.now) }
     ensures failed { IfErr result IsStoreFault }
     ensures survives { CommitsNothing S.Store tx.old.conn.now tx.new.conn.now }
 {
@@ -178,38 +169,31 @@ pub(crate) fn fill<S: Alter>(
     Ok(())
 }
 
-/// Adds an entry and its pairs to a run that is there, where the run takes it, in one commit.
-pub(crate) fn commit_entry<S: Alter>(
-    conn: &mut Connection<S>,
+/// An entry that is put into a run, with the text of its reason.
+#[derive(Clone, Copy)]
+pub(crate) struct NewEntry<'a> {
     run: u64,
-    entry: &Entry,
-    reason: &Text,
-) -> Result<(), StoreFault>
-    requires mode { conn.old.in_transaction ≡ false }
-    requires run { run < 2 ^ 63 }
-    requires reason { reason.now ≡ entry.now.verdict.reason }
-    requires moments { IsStorable entry.now }
-    ensures added { OnOk result (Changes S.Store conn.old conn.new
-        (CanAdd run entry.now) (with_entry run entry.now)) }
-    ensures kept { OnErr result (KeepsRuns S.Store conn.old conn.new) }
-    ensures failed { IfErr result IsStoreFault }
-    ensures cause { (runs : _) → StandsFor (state S.Store conn.old) runs
-        → IsTrue (state S.Store conn.old).is_open → HasCleanDisk (state S.Store conn.new)
-        → IfErr result (IsCausedInside S.Store (HoldsRuns S.Store runs)
-        (put_statements run entry.now) (entry_statements run entry.now) conn.new) }
-    ensures crash { MayChange S.Store conn.old conn.new
-        (CanAdd run entry.now) (with_entry run entry.now) }
-    ensures durable { OnOk result (ChangesForGood S.Store conn.old conn.new
-        (CanAdd run entry.now) (with_entry run entry.now)) }
-{
-    let mut tx = conn.transaction();
-    fill(&mut tx, run, entry, reason)?;
-    tx.commit()?;
-    Ok(())
+    entry: &'a Entry,
+    reason: &'a Text,
 }
 
-/// Adds an entry and its pairs to a run that is there, where the run takes it. The statement is
-/// prepared first, so that a connection which is shut begins no transaction.
+impl Batch for NewEntry<'_> {
+    ghost use Rattle.std.specs.Prelude.{◌≡◌, ◌<◌, ◌^◌};
+    ghost use Rattle.kt_base.specs.Moments.{IsStorable};
+    ghost use Rattle.kt_store.specs.Inner.Calls.{entry_statements};
+
+    ghost statements = { λ n. entry_statements n.run n.entry.now };
+
+    ghost is_ready = { λ n. (n.run < 2 ^ 63) × (n.reason.now ≡ n.entry.now.verdict.reason)
+        × IsStorable n.entry.now };
+
+    fn fill<S: Alter>(&self, tx: &mut Transaction<'_, S>) -> Result<(), StoreFault> {
+        fill(tx, self.run, self.entry, self.reason)?;
+        Ok(())
+    }
+}
+
+/// Adds an entry and its pairs to a run that is there, where the run takes it, in one commit.
 pub(crate) fn add_entry<S: Alter>(
     conn: &mut Connection<S>,
     run: u64,
@@ -223,22 +207,12 @@ pub(crate) fn add_entry<S: Alter>(
         (CanAdd run entry.now) (with_entry run entry.now)) }
     ensures kept { OnErr result (KeepsRuns S.Store conn.old conn.new) }
     ensures failed { IfErr result IsStoreFault }
-    ensures cause { (runs : _) → StandsFor (state S.Store conn.old) runs
-        → HasCleanDisk (state S.Store conn.new)
-        → IfErr result (IsCausedInside S.Store (HoldsRuns S.Store runs)
-        (put_statements run entry.now) (entry_statements run entry.now) conn.new) }
     ensures crash { MayChange S.Store conn.old conn.new
         (CanAdd run entry.now) (with_entry run entry.now) }
     ensures durable { OnOk result (ChangesForGood S.Store conn.old conn.new
         (CanAdd run entry.now) (with_entry run entry.now)) }
 {
-    let sql =
-        "INSERT INTO entries (run, position, program, case_name, kind, reason, started, millis, body_out, body_err, clean_out, clean_err) VALUES (?1, ?2, ?3, ?4, ?5, ?6, ?7, ?8, ?9, ?10, ?11, ?12)";
-    let statement = conn.prepare(sql)?;
-    if !conn.is_autocommit() {
-        return Err(StoreFault::from(Error::SqliteFailure(ErrorCode::TransactionState)));
-    }
-    commit_entry(conn, run, entry, reason)?;
+    commit(conn, &NewEntry { run, entry, reason })?;
     Ok(())
 }
 
@@ -249,9 +223,6 @@ pub(crate) fn check<S: Alter>(
     entry: &Entry,
 ) -> Result<(), StoreFault>
     ensures small { OnOk result (run ≤ last_run) }
-    ensures cause { (runs : _) → StandsFor (state S.Store conn.old) runs
-        → HasCleanDisk (state S.Store conn.new)
-        → IfErr result (IsCaused S.Store (put_statements run entry.now) conn.new) }
     ensures stands { KeepsRuns S.Store conn.old conn.new }
     ensures crash { OnlyReads S.Store conn.old conn.new }
     ensures refused { (runs : _) → StandsFor (state S.Store conn.old) runs

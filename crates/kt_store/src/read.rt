@@ -3,6 +3,7 @@ ghost use Rattle.sqlite_value.specs.Order.{column};
 ghost use Rattle.sqlite_value.specs.declared.value.Value.TheVariants.{Int};
 ghost use Rattle.kt_store.specs.Ask.{IsNoMemory, IsStoreFault};
 
+use crate::statements::value_in;
 use crate::store_fault::StoreFault;
 use sqlite::Row;
 
@@ -13,7 +14,7 @@ pub(crate) fn number_in(row: &Row, at: usize) -> Result<u64, StoreFault>
         → IfErr result IsNoMemory }
     ensures failed { IfErr result IsStoreFault }
 {
-    let number = row.get::<u64>(at)?;
+    let number = value_in::<u64>(row, at)?;
     Ok(number)
 }
 
@@ -24,6 +25,6 @@ pub(crate) fn small_in(row: &Row, at: usize) -> Result<u32, StoreFault>
         → IfErr result IsNoMemory }
     ensures failed { IfErr result IsStoreFault }
 {
-    let number = row.get::<u32>(at)?;
+    let number = value_in::<u32>(row, at)?;
     Ok(number)
 }

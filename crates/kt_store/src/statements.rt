@@ -1,15 +1,98 @@
-ghost use Rattle.std.specs.Prelude.{◌≡◌, false, Ok, Err, IfOk, OnOk, OnErr, IfErr, IsTrue, nat_lt, length};
+ghost use Rattle.std.specs.Prelude.{◌≡◌, ◌<◌, ◌≤◌, Ok, IfOk, OnOk, OnErr, IfErr, IsTrue, nat_lt, length, []};
 ghost use Rattle.sqlite.specs.Values.{bound};
-ghost use Rattle.sqlite.specs.State.{HasCleanDisk, Survives, ExecutesInside, KeepsCommit};
+ghost use Rattle.sqlite.specs.State.{HasCleanDisk, Survives, ExecutesInside, IsUnchanged, KeepsCommit};
 ghost use Rattle.sqlite.specs.Held.{state};
+ghost use Rattle.sqlite_value.specs.Order.{column};
 ghost use Rattle.kt_store.specs.Fault.{Tells};
 ghost use Rattle.kt_store.specs.Inner.Kept.{CommitsNothing};
-ghost use Rattle.kt_store.specs.Inner.Ask.{Asked, MayFail, MayShow, MayTell, Told};
-ghost use Rattle.kt_store.specs.Ask.{Rests, IsStoreFault};
+ghost use Rattle.kt_store.specs.Inner.Ask.{Asked, MayShow, MayTell, Told};
+ghost use Rattle.kt_store.specs.Inner.Transactions.{Commits, MayCommit, Undoes};
+ghost use Rattle.kt_store.specs.Ask.{Rests, IsNoMemory, IsStoreFault};
+ghost use Rattle.kt_store.specs.Stands.{IsUnderstood};
 
+use crate::batch::Batch;
 use crate::store_fault::StoreFault;
-use sqlite::{Alter, Connection, Row, Transaction};
+use kt_base::{NoMemory, Text};
+use sqlite::types::FromSql;
+use sqlite::{Alter, Connection, Error as SqlError, ErrorCode, File, FileStore, Row, Transaction};
 use sqlite_value::value::ValueRef;
+
+/// Memory ran out. Only a refusal of the allocator, or of SQLite, makes this value.
+#[derive(Clone, Copy, Debug, PartialEq, Eq)]
+pub struct Shortage {
+    refusal: Refusal,
+}
+
+/// A statement failed, a value of a row could not be read, or the file could not be opened or
+/// closed. Only the functions of this module that ask SQLite for these make this value, of its
+/// error.
+#[derive(Clone, Copy, Debug, PartialEq, Eq)]
+pub struct FailedStatement {
+    refusal: Refusal,
+}
+
+/// A type of this module alone, so that no other can write the two above.
+#[derive(Clone, Copy, Debug, PartialEq, Eq)]
+struct Refusal;
+
+impl From<NoMemory> for StoreFault {
+    ghost from_gives = { λ _ fault. IsNoMemory fault };
+
+    fn from(_refusal: NoMemory) -> StoreFault {
+        StoreFault::NoMemory(Shortage { refusal: Refusal })
+    }
+}
+
+/// The fault that an error of SQLite is.
+fn fault_of(error: SqlError) -> StoreFault
+    ensures { Tells error result }
+{
+    match error {
+        SqlError::SqliteFailure(ErrorCode::OutOfMemory) => {
+            StoreFault::NoMemory(Shortage { refusal: Refusal })
+        }
+        _ => StoreFault::Store(FailedStatement { refusal: Refusal }),
+    }
+}
+
+/// A value of a row.
+pub(crate) fn value_in<T: FromSql>(row: &Row, at: usize) -> Result<T, StoreFault>
+    ensures value { IfOk result (λ x. (at < length row.now)
+        × T.FromSql.reads_as (column row.now at) x) }
+    ensures read { at < length row.now → T.FromSql.is_readable (column row.now at)
+        → IfErr result IsNoMemory }
+    ensures failed { IfErr result IsStoreFault }
+{
+    match row.get::<T>(at) {
+        Ok(value) => Ok(value),
+        Err(error) => Err(fault_of(error)),
+    }
+}
+
+/// The fault of a number that should be that of a kind, and is too large.
+pub(crate) fn out_of_range(_code: u64) -> StoreFault
+    requires { 5 ≤ _code }
+    ensures { IsStoreFault result }
+{
+    fault_of(SqlError::IntegralValueOutOfRange(3))
+}
+
+/// Asks whether the connection is open, and its tables those of a statement.
+pub(crate) fn probe<S: Alter>(conn: &mut Connection<S>, sql: &str) -> Result<(), StoreFault>
+    ensures same { HasCleanDisk (state S.Store conn.new)
+        → OnOk result (IsUnchanged (state S.Store conn.old) (state S.Store conn.new)) }
+    ensures rests { HasCleanDisk (state S.Store conn.new)
+        → OnErr result (Rests (state S.Store conn.old) (state S.Store conn.new)) }
+    ensures failed { IfErr result IsStoreFault }
+    ensures understood { HasCleanDisk (state S.Store conn.new)
+        → OnOk result (IsUnderstood (state S.Store conn.old) sql.now) }
+    ensures survives { CommitsNothing S.Store conn.old conn.new }
+{
+    match conn.prepare(sql) {
+        Ok(_statement) => Ok(()),
+        Err(error) => Err(fault_of(error)),
+    }
+}
 
 /// All rows of a query. It is prepared first, so that a connection which is shut is not asked.
 pub(crate) fn ask<S: Alter>(
@@ -20,18 +103,20 @@ pub(crate) fn ask<S: Alter>(
     ensures rows { HasCleanDisk (state S.Store conn.new)
         → IfOk result (λ rows. Asked S.Store sql.now
         (bound params.now) conn.old conn.new rows.items) }
-    ensures cause { HasCleanDisk (state S.Store conn.new)
-        → IfErr result (MayFail S.Store sql.now (bound params.now) conn.old conn.new) }
     ensures rests { HasCleanDisk (state S.Store conn.new)
         → OnErr result (Rests (state S.Store conn.old) (state S.Store conn.new)) }
     ensures failed { IfErr result IsStoreFault }
-    ensures mode { conn.old.in_transaction ≡ false → conn.new.in_transaction ≡ false }
     ensures survives { Survives (state S.Store conn.old) (state S.Store conn.new)
         (MayShow S.Store sql.now (bound params.now) conn.old) }
 {
-    let statement = conn.prepare(sql)?;
-    let rows = statement.query_all(conn, params)?;
-    Ok(rows)
+    let statement = match conn.prepare(sql) {
+        Ok(statement) => statement,
+        Err(error) => return Err(fault_of(error)),
+    };
+    match statement.query_all(conn, params) {
+        Ok(rows) => Ok(rows),
+        Err(error) => Err(fault_of(error)),
+    }
 }
 
 /// Runs a statement that is no query.
@@ -42,17 +127,20 @@ pub(crate) fn tell<S: Alter>(
 ) -> Result<(), StoreFault>
     ensures told { HasCleanDisk (state S.Store conn.new)
         → OnOk result (Told S.Store sql.now (bound params.now) conn.old conn.new) }
-    ensures cause { HasCleanDisk (state S.Store conn.new)
-        → IfErr result (MayFail S.Store sql.now (bound params.now) conn.old conn.new) }
     ensures rests { HasCleanDisk (state S.Store conn.new)
         → OnErr result (Rests (state S.Store conn.old) (state S.Store conn.new)) }
     ensures failed { IfErr result IsStoreFault }
     ensures survives { Survives (state S.Store conn.old) (state S.Store conn.new)
         (MayTell S.Store sql.now (bound params.now) conn.old) }
 {
-    let statement = conn.prepare(sql)?;
-    let count = statement.execute(conn, params)?;
-    Ok(())
+    let statement = match conn.prepare(sql) {
+        Ok(statement) => statement,
+        Err(error) => return Err(fault_of(error)),
+    };
+    match statement.execute(conn, params) {
+        Ok(_count) => Ok(()),
+        Err(error) => Err(fault_of(error)),
+    }
 }
 
 /// Runs a statement of a transaction.
@@ -67,18 +155,62 @@ pub(crate) fn step<S: Alter>(
         → OnOk result ((count : _)
         × ExecutesInside 0 sql.now (bound params.now) (state S.Store tx.old.conn.now)
         (state S.Store tx.new.conn.now) (Ok count)) }
-    ensures cause { HasCleanDisk (state S.Store tx.new.conn.now)
-        → IsTrue (state S.Store tx.old.conn.now).in_transaction
-        → IfErr result (λ e. (error : _) × Tells error e
-        × ExecutesInside 0 sql.now (bound params.now) (state S.Store tx.old.conn.now)
-        (state S.Store tx.new.conn.now) (Err error)) }
     ensures keeps { HasCleanDisk (state S.Store tx.new.conn.now)
         → KeepsCommit (state S.Store tx.old.conn.now) (state S.Store tx.new.conn.now) }
     ensures failed { IfErr result IsStoreFault }
     ensures survives { CommitsNothing S.Store tx.old.conn.now tx.new.conn.now }
 {
-    let count = tx.execute(sql, params)?;
-    Ok(())
+    match tx.execute(sql, params) {
+        Ok(_count) => Ok(()),
+        Err(error) => Err(fault_of(error)),
+    }
+}
+
+/// Runs statements in one transaction, and commits them. A connection that is in a transaction is
+/// refused.
+pub(crate) fn commit<S: Alter, B: Batch>(
+    conn: &mut Connection<S>,
+    batch: &B,
+) -> Result<(), StoreFault>
+    requires { B.is_ready batch.now }
+    ensures done { HasCleanDisk (state S.Store conn.new)
+        → OnOk result (Commits S.Store (B.statements batch.now) conn.old conn.new) }
+    ensures undone { HasCleanDisk (state S.Store conn.new)
+        → OnErr result (Undoes S.Store conn.old conn.new) }
+    ensures failed { IfErr result IsStoreFault }
+    ensures crash { Survives (state S.Store conn.old) (state S.Store conn.new)
+        (MayCommit S.Store (B.statements batch.now) conn.old) }
+{
+    if !conn.is_autocommit() {
+        return Err(fault_of(SqlError::SqliteFailure(ErrorCode::TransactionState)));
+    }
+    let mut tx = conn.transaction();
+    batch.fill(&mut tx)?;
+    match tx.commit() {
+        Ok(()) => Ok(()),
+        Err(error) => Err(fault_of(error)),
+    }
+}
+
+/// Opens the database in a file, which is made where there is none.
+pub fn open_file(rt: &HostRuntime, file: &Text) -> Result<Connection<FileStore<File>>, StoreFault>
+    ensures { IfErr result IsStoreFault }
+{
+    match Connection::open(rt, file.as_str()) {
+        Ok(connection) => Ok(connection),
+        Err(error) => Err(fault_of(error)),
+    }
+}
+
+/// Closes a database. Afterwards the file alone has all; after an error it stands in the file and in
+/// its log.
+pub fn close_file(connection: Connection<FileStore<File>>) -> Result<(), StoreFault>
+    ensures { IfErr result IsStoreFault }
+{
+    match connection.close() {
+        Ok(()) => Ok(()),
+        Err(error) => Err(fault_of(error)),
+    }
 }
 
 pub(crate) fn has_rows(rows: &Vec<Row>) -> bool

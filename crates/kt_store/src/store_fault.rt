@@ -1,26 +1,5 @@
-ghost use Rattle.std.specs.Prelude.{◌≡◌};
-ghost use Rattle.kt_store.specs.Ask.{IsNoMemory};
-ghost use Rattle.kt_store.specs.Fault.{Tells};
-
-use kt_base::NoMemory;
-use sqlite::{Error as SqlError, ErrorCode};
+use crate::statements::{FailedStatement, Shortage};
 use thiserror::Error;
-
-/// Memory ran out. Only a refusal of the allocator, or of SQLite, makes this value.
-#[derive(Clone, Copy, Debug, PartialEq, Eq)]
-pub struct Shortage {
-    told: Told,
-}
-
-/// A statement failed, or the file could not be opened. Only the error of SQLite makes this value.
-#[derive(Clone, Copy, Debug, PartialEq, Eq)]
-pub struct FailedStatement {
-    told: Told,
-}
-
-/// A type of this module alone, so that no other can write the two above.
-#[derive(Clone, Copy, Debug, PartialEq, Eq)]
-struct Told;
 
 /// Why a call of the store is refused. `Display` is the text of the fault line (this profile).
 #[derive(Clone, Copy, Debug, PartialEq, Eq, Error)]
@@ -50,25 +29,4 @@ pub enum StoreFault {
     /// The run has fewer entries than its total.
     #[error("results store failed")]
     Incomplete,
-}
-
-impl From<NoMemory> for StoreFault {
-    ghost from_gives = { λ _ fault. IsNoMemory fault };
-
-    fn from(_refusal: NoMemory) -> StoreFault {
-        StoreFault::NoMemory(Shortage { told: Told })
-    }
-}
-
-impl From<SqlError> for StoreFault {
-    ghost from_gives = { λ error fault. Tells error fault };
-
-    fn from(error: SqlError) -> StoreFault {
-        match error {
-            SqlError::SqliteFailure(ErrorCode::OutOfMemory) => StoreFault::NoMemory(Shortage {
-                told: Told,
-            }),
-            _ => StoreFault::Store(FailedStatement { told: Told }),
-        }
-    }
 }

@@ -4,9 +4,9 @@
 use kt_base::Text;
 use kt_child::{DriverFault, HostOs};
 use kt_cli::{LineOutput, Platform, Surroundings, carry_out, prepare_results};
-use kt_store::{Results, StoreFault};
+use kt_store::{Results, StoreFault, close_file, open_file};
 use kt_words::read_words;
-use sqlite::{Connection, File as StoreFile, FileStore};
+use sqlite::{File as StoreFile, FileStore};
 use std::process::ExitCode;
 use std::{env, io};
 
@@ -24,7 +24,7 @@ impl Platform for Host<'_> {
 
     fn open(&mut self, file: &Text) -> Result<Results<FileStore<StoreFile>>, StoreFault> {
         prepare_results(self.rt, file);
-        let connection = Connection::open(self.rt, file.as_str())?;
+        let connection = open_file(self.rt, file)?;
         match Results::attach(self.rt.alloc(), connection) {
             Ok(results) => Ok(results),
             Err((fault, _)) => Err(fault),
@@ -33,7 +33,7 @@ impl Platform for Host<'_> {
 
     fn close(&mut self, results: Results<FileStore<StoreFile>>) -> Result<(), StoreFault> {
         // The log is copied into the file, so that the file alone has every run.
-        results.detach().close()?;
+        close_file(results.detach())?;
         Ok(())
     }
 

@@ -1,27 +1,16 @@
 -- What the calls on runs in memory do.
-use Rattle.std.specs.Prelude.{ℕ, suc, nat_lt, nat_le, if◌then◌else◌, Option, List, [], ◌∷◌, ◌++◌, ◌≡◌, ◌≤◌, ◌<◌, ◌⊎◌, Some, None, Result, Ok, Err, length}
-use Rattle.kt_base.specs.Limits.{last_run}
+use Rattle.std.specs.Prelude.{ℕ, suc, nat_lt, nat_le, if◌then◌else◌, Option, List, [], ◌∷◌, ◌≡◌, ◌<◌, Some, None, Result, Ok, Err, length}
 use Rattle.kt_base.specs.declared.entry.Entry.{Entry}
 use Rattle.kt_base.specs.declared.run.Run.{Run}
-use Rattle.kt_store.specs.Ask.{IsStoreFault}
-use Rattle.kt_store.specs.Runs.{AreNumbered, new_run, run_at, with_entry, has_position, put_refusal, finish, finish_refusal}
+use Rattle.kt_store.specs.Runs.{AreNumbered, run_at, has_position}
+use Rattle.kt_store.specs.Serving.{Agrees, changed_by}
+use Rattle.kt_store.specs.StoreCalls.{StoreCall}
 use Rattle.kt_store.specs.declared.store_fault.StoreFault.{StoreFault}
-use Rattle.kt_store.specs.declared.store_fault.StoreFault.TheVariants.{StoreFull, NoRun, RunClosed, BadPosition, RepeatedPosition, Incomplete}
+use Rattle.kt_store.specs.declared.store_fault.StoreFault.TheVariants.{NoRun, RunClosed, BadPosition, RepeatedPosition, Incomplete}
 
--- a new run is the last one, and none is begun where the runs are as many as may be
-abbrev pub BeginsRun : List Run → ℕ → ℕ → Result ℕ StoreFault → List Run → Type 0
-BeginsRun old total moment (Ok number) new = (number ≡ suc (length old)) × (length old < last_run) × (new ≡ old ++ new_run old total moment ∷ [])
-BeginsRun old total moment (Err fault) new = (IsStoreFault fault ⊎ ((fault ≡ StoreFull) × (last_run ≤ length old))) × (new ≡ old)
-
--- an entry is put exactly where nothing refuses it
-abbrev pub PutsEntry : List Run → ℕ → Entry → Result (Unit {0}) StoreFault → List Run → Type 0
-PutsEntry old number e (Ok x) new = (put_refusal old number e ≡ None) × (AreNumbered 1 old → new ≡ with_entry number e old)
-PutsEntry old number e (Err fault) new = (IsStoreFault fault ⊎ (put_refusal old number e ≡ Some fault)) × (new ≡ old)
-
--- a run is finished exactly where nothing refuses it
-abbrev pub FinishesRun : List Run → ℕ → Result (Unit {0}) StoreFault → List Run → Type 0
-FinishesRun old number (Ok x) new = (finish_refusal old number ≡ None) × (AreNumbered 1 old → new ≡ finish number old)
-FinishesRun old number (Err fault) new = (finish_refusal old number ≡ Some fault) × (new ≡ old)
+-- a call over runs in memory: its answer agrees with the runs, which change by it
+abbrev pub ServesInMemory : List Run → StoreCall → List Run → Type 0
+ServesInMemory old call new = Agrees old call × (AreNumbered 1 old → new ≡ changed_by call old)
 
 -- a number is looked up
 abbrev pub FindsPlace : List Run → ℕ → Result ℕ StoreFault → Type 0

@@ -1,12 +1,10 @@
--- What a statement that is prepared and run shows, and what it tells.
-use Rattle.std.specs.Prelude.{◌⊎◌, ℕ, List, Ok}
+-- What a statement that is prepared and run shows, and what it does.
+use Rattle.std.specs.Prelude.{ℕ, List, Ok}
 use Rattle.sqlite.specs.Order.{Row}
 use Rattle.sqlite.specs.Tree.{Trees}
 use Rattle.sqlite.specs.Store.{Ghosts}
 use Rattle.sqlite.specs.Held.{Held, state}
 use Rattle.sqlite.specs.State.{IsUnchanged, Shown, Executes, CommitsBy, CommitsShowing}
-use Rattle.kt_store.specs.declared.store_fault.StoreFault.{StoreFault}
-use Rattle.kt_store.specs.Ask.{Fails, IsFailure, IsNoMemory}
 
 module _ {S : Type 0} (g : Ghosts S) (sql : List ℕ) (params : Row) (old : Held S) where
   pub record Asked (new : Held S) (rows : List Row) : Type 0 where
@@ -19,10 +17,6 @@ module _ {S : Type 0} (g : Ghosts S) (sql : List ℕ) (params : Row) (old : Held
     pub same : IsUnchanged (state g old) (state g mid)
     pub count : ℕ
     pub ran : Executes sql params (state g mid) (state g new) (Ok count)
-
-  -- memory ran out, or the statement failed and the fault says so
-  abbrev pub MayFail : Held S → StoreFault → Type 0
-  MayFail new e = IsNoMemory e ⊎ (IsFailure e × Fails g sql params old new)
 
   -- It was prepared, so the connection was open.
   abbrev pub MayShow : Trees → Type 0

@@ -1,13 +1,12 @@
 -- What a call leaves as it was, and what it changes.
-use Rattle.std.specs.Prelude.{◌≡◌, ℤ, false, List}
+use Rattle.std.specs.Prelude.{ℤ, List}
 use Rattle.sqlite.specs.Store.{Ghosts}
 use Rattle.sqlite.specs.Held.{Held, state}
 use Rattle.sqlite.specs.State.{HasCleanDisk, Survives, IsUnchanged}
 use Rattle.kt_base.specs.declared.run.Run.{Run}
 use Rattle.kt_store.specs.Ask.{Rests}
-use Rattle.kt_store.specs.Calls.{HasTables}
 use Rattle.kt_store.specs.Runs.{Keeps}
-use Rattle.kt_store.specs.Stands.{StandsFor, StandsInOld, SaysSchema, Leaves}
+use Rattle.kt_store.specs.Stands.{StandsFor, SaysSchema, HasTables, Leaves}
 
 module _ {S : Type 0} (g : Ghosts S) (old new : Held S) where
   -- a disk that returns what was written after the call did so before it
@@ -26,10 +25,9 @@ module _ {S : Type 0} (g : Ghosts S) (old new : Held S) where
   abbrev pub OnlyReads : Type 0
   OnlyReads = (runs : List Run) → StandsFor (state g old) runs → CommitsNothing
 
-  -- a call that asks for the schema's number: it begins no transaction, and if there is a number, it commits nothing
-  -- and leaves the database as it was, or as its last commit left it
+  -- a call that asks for the schema's number: if there is a number, it commits nothing and leaves the database as it was, or as its last
+  -- commit left it
   pub record AsksNumber : Type 0 where
-    pub mode : old.in_transaction ≡ false → new.in_transaction ≡ false
     pub earlier : WasClean
     pub rests : (n : ℤ) → SaysSchema n (state g old) → HasCleanDisk (state g new) → Rests (state g old) (state g new)
     pub crash : (n : ℤ) → SaysSchema n (state g old) → CommitsNothing
@@ -41,18 +39,6 @@ module _ {S : Type 0} (g : Ghosts S) (old new : Held S) where
   -- if the schema says a number, SQLite understands the queries of that schema
   abbrev pub FindsTables : Type 0
   FindsTables = (n : ℤ) → SaysSchema n (state g old) → HasCleanDisk (state g new) → HasTables n (state g old)
-
-  -- runs of schema 1 stand in schema 2 after the call
-  abbrev pub Renews : Type 0
-  Renews = (runs : List Run) → StandsInOld (state g old) runs → StandsFor (state g new) runs
-
-  -- and a crash leaves them there
-  abbrev pub RenewsForGood : Type 0
-  RenewsForGood = (runs : List Run) → StandsInOld (state g old) runs → Leaves (state g new) (Keeps runs)
-
-  -- over runs of schema 1, a crash leaves what it left before the call, or the same runs in schema 2
-  abbrev pub MayRenew : Type 0
-  MayRenew = (runs : List Run) → StandsInOld (state g old) runs → Survives (state g old) (state g new) (Keeps runs)
 
   module _ (Allowed : List Run → Type 0) (change : List Run → List Run) where
     -- runs that allow the change stand changed after the call

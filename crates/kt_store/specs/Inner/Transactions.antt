@@ -1,23 +1,41 @@
--- A transaction inside which statements are run.
-use Rattle.std.specs.Prelude.{◌≡◌, List, IsTrue}
+-- Statements that are run one after the other, in one commit.
+use Rattle.std.specs.Prelude.{◌≡◌, ◌⊎◌, ℕ, true, false, List, [], ◌∷◌, Ok, IsTrue}
 use Rattle.sqlite.specs.Store.{Ghosts}
 use Rattle.sqlite.specs.Held.{Held, state}
-use Rattle.sqlite.specs.declared.error.Error.{Error}
-use Rattle.kt_base.specs.declared.run.Run.{Run}
-use Rattle.kt_store.specs.declared.store_fault.StoreFault.{StoreFault}
-use Rattle.sqlite.specs.Effect.{IsDatabase}
-use Rattle.kt_store.specs.Ask.{Statement}
-use Rattle.kt_store.specs.Fault.{Tells}
-use Rattle.kt_store.specs.Runs.{Tables}
-use Rattle.kt_store.specs.Transactions.{StopInTurn}
+use Rattle.sqlite.specs.State.{State, ExecutesInside, Shows}
+use Rattle.sqlite.specs.Tree.{Trees}
+use Rattle.kt_store.specs.Inner.Calls.{Statement}
+
+-- the same connection, in a transaction that began just now
+abbrev pub begun : {S : Type 0} → Held S → Held S
+begun h = record h { in_transaction = true }
+
+-- no transaction is open, and what was written since the last commit is undone
+pub record IsUndone (old new : State) : Type 0 where
+  pub was_open : IsTrue new.is_open → IsTrue old.is_open
+  pub now : IsTrue new.is_open → new.now ≡ old.committed
+  pub committed : IsTrue new.is_open → new.committed ≡ old.committed
+  pub autocommit : new.in_transaction ≡ false
 
 module _ {S : Type 0} (g : Ghosts S) where
-  -- they were run in turn up to one that was refused, and its error became this
-  pub record IsStopped (statements : List Statement) (old new : Held S) (fault : StoreFault) : Type 0 where
-    pub error : Error
-    pub told : Tells error fault
-    pub stop : StopInTurn g statements old new error
+  -- a statement was run in a transaction
+  abbrev pub RunsInside : Statement → Held S → Held S → Type 0
+  RunsInside s old new = (count : ℕ) × ExecutesInside 0 s.0 s.1 (state g old) (state g new) (Ok count)
 
-  -- inside the transaction the tables hold these runs, and the last commit is as it was
-  abbrev pub HoldsInside : List Run → Held S → Held S → Type 0
-  HoldsInside runs old new = Tables (state g new).now runs × IsDatabase (state g new).now × ((state g new).committed ≡ (state g old).committed) × IsTrue (state g new).in_transaction
+  -- these statements were run in a transaction, in turn
+  abbrev pub RunInTurn : List Statement → Held S → Held S → Type 0
+  RunInTurn [] old new = new ≡ old
+  RunInTurn (s ∷ others) old new = (mid : Held S) × RunsInside s old mid × RunInTurn others mid new
+
+  module _ (statements : List Statement) (old : Held S) where
+    -- they were run in a transaction of their own, which was committed
+    abbrev pub Commits : Held S → Type 0
+    Commits new = (left : Held S) × RunInTurn statements (begun old) left × Shows (state g left) (state g new) (state g left).now (state g left).now false
+
+    -- what their commit may leave
+    abbrev pub MayCommit : Trees → Type 0
+    MayCommit trees = (left : Held S) × RunInTurn statements (begun old) left × (trees ≡ (state g left).now.trees)
+
+  -- nothing was run, or what was run is undone
+  abbrev pub Undoes : Held S → Held S → Type 0
+  Undoes old new = (new ≡ old) ⊎ IsUndone (state g old) (state g new)

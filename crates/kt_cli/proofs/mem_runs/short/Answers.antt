@@ -1,5 +1,5 @@
-use Rattle.kt_cli.proofs.MemoryLaws.{short_fails}
+use Rattle.kt_store.proofs.FaultLemmas.{starved}
 use Rattle.kt_cli.proofs.mem_runs.short.Goals as goal
 
 pub returns : goal.returns
-returns c = short_fails _ c.from.ensures
+returns c = starved _ c.from.ensures

@@ -1,27 +1,13 @@
 use Rattle.kt_store.proofs.ProbeLemmas.{understood_before, asks_then, never_old_number}
 use Rattle.kt_store.proofs.StepLemmas.{rests_then}
-use Rattle.kt_store.proofs.FaultLemmas.{if_same, caused_before, caused_after}
-use Rattle.kt_store.specs.Calls.{table_statements, schema_statements}
-use Rattle.kt_store.specs.Tables.{runs_text, entries_text, pairs_text, meta_text}
-use Rattle.kt_store.specs.Ask.{IsCaused}
+use Rattle.kt_store.specs.Tables.{runs_text, entries_text, pairs_text}
 use Rattle.sqlite.proofs.Callers.{unchanged_then}
-use Rattle.sqlite.specs.State.{HasCleanDisk}
 use Rattle.sqlite.specs.Held.{state}
-use Rattle.std.proofs.Common.{inl, [], ◌∷◌, arith, rules}
+use Rattle.std.proofs.Common.{inl, arith, rules}
 use Rattle.kt_store.proofs.attach.is_old.Goals as goal
-
-pub returns-in_err-old-clause-cause : goal.returns-in_err-old-clause-cause
-returns-in_err-old-clause-cause g c n says clean =
-    let told : IsCaused g.S.Store schema_statements c.says_old.new.conn c.in_err-old.field-0.0 = caused_before g.S.Store ((meta_text, []) ∷ []) table_statements c.says_old.new.conn c.in_err-old.field-0.0 (c.in_err-old.ensures.cause n says clean) in
-    if_same _ c.from_residual.result c.in_err-old.field-0.0 c.from_residual.ensures.1 told
 
 pub returns-in_err-old-clause-taken : goal.returns-in_err-old-clause-taken
 returns-in_err-old-clause-taken g c n says which clean = let told = c.in_err-old.ensures.taken n says which clean in search rules
-
-pub returns-in_err-find_tables-clause-cause : goal.returns-in_err-find_tables-clause-cause
-returns-in_err-find_tables-clause-cause g c n says clean =
-    let told : IsCaused g.S.Store schema_statements c.find_tables.new.conn c.in_err-find_tables.field-0.0 = caused_after g.S.Store ((meta_text, []) ∷ []) table_statements c.find_tables.new.conn c.in_err-find_tables.field-0.0 (c.in_err-find_tables.ensures.cause clean) in
-    if_same _ c.from_residual-in_err-find_tables.result c.in_err-find_tables.field-0.0 c.from_residual-in_err-find_tables.ensures.1 told
 
 pub returns-clause-same : goal.returns-clause-same
 returns-clause-same g c n says clean = unchanged_then (state g.S.Store c.args.conn.now) (state g.S.Store c.says_old.new.conn) (state g.S.Store c.find_tables.new.conn) (c.in_ok-old.ensures.same n says (omega (arith, clean, c.find_tables.ensures.survives.clean))) (c.in_ok-find_tables.ensures.same clean)
@@ -41,9 +27,9 @@ returns-clause-tables g c n says clean =
     }
 
 pub returns-in_err-find_tables-clause-asks : goal.returns-in_err-find_tables-clause-asks
-returns-in_err-find_tables-clause-asks g c = asks_then g.S.Store c.args.conn.now c.says_old.new.conn c.find_tables.new.conn c.says_old.ensures.asks c.find_tables.ensures.mode c.find_tables.ensures.survives
+returns-in_err-find_tables-clause-asks g c = asks_then g.S.Store c.args.conn.now c.says_old.new.conn c.find_tables.new.conn c.says_old.ensures.asks c.find_tables.ensures.survives
     (λ n says clean. rests_then (state g.S.Store c.args.conn.now) (state g.S.Store c.says_old.new.conn) (state g.S.Store c.find_tables.new.conn) (c.in_ok-old.ensures.same n says (omega (arith, clean, c.find_tables.ensures.survives.clean))) (c.in_err-find_tables.ensures.rests clean))
 
 pub returns-clause-asks : goal.returns-clause-asks
-returns-clause-asks g c = asks_then g.S.Store c.args.conn.now c.says_old.new.conn c.find_tables.new.conn c.says_old.ensures.asks c.find_tables.ensures.mode c.find_tables.ensures.survives
+returns-clause-asks g c = asks_then g.S.Store c.args.conn.now c.says_old.new.conn c.find_tables.new.conn c.says_old.ensures.asks c.find_tables.ensures.survives
     (λ n says clean. inl (unchanged_then (state g.S.Store c.args.conn.now) (state g.S.Store c.says_old.new.conn) (state g.S.Store c.find_tables.new.conn) (c.in_ok-old.ensures.same n says (omega (arith, clean, c.find_tables.ensures.survives.clean))) (c.in_ok-find_tables.ensures.same clean)))

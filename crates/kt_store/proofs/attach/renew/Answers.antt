@@ -1,59 +1,28 @@
-use Rattle.kt_store.specs.Calls.{attach_statements, raise_statements}
-use Rattle.kt_store.specs.Transactions.{begun, HoldsOldRuns, IsCausedInside}
-use Rattle.sqlite.specs.State.{HasCleanDisk}
+use Rattle.std.proofs.Common.{arith}
+use Rattle.kt_store.specs.Inner.Calls.{raise_statements}
+use Rattle.kt_store.specs.Runs.{OldTables}
+use Rattle.kt_store.proofs.CommitLemmas.{undone_holds, commit_stands, commit_lasts, commit_crash}
+use Rattle.kt_store.proofs.RaiseLemmas.{raised_in}
+use Rattle.kt_store.proofs.FaultLemmas.{if_same}
+use Rattle.kt_store.proofs.StepLemmas.{either_left, leaves_held}
 use Rattle.sqlite.specs.Held.{state}
-use Rattle.kt_store.proofs.CommitLemmas.{store_fails, stop_causes, commit_causes}
-use Rattle.kt_store.proofs.FillLemmas.{in_turn}
-use Rattle.kt_store.proofs.FaultLemmas.{if_told}
-use Rattle.std.proofs.Common.{◌≡◌, IfErr, refl, subst, rules, arith}
 use Rattle.kt_store.proofs.attach.renew.Goals as goal
 
-pub returns-in_err-raise-clause-cause : goal.returns-in_err-raise-clause-cause
-returns-in_err-raise-clause-cause g c runs has opened =
-    let old = c.args.conn.now in
-    let left = c.raise.new.tx.conn.now in
-    let end = c.drop-tx.new.self.0 in
-    let starts = c.transaction-tx.ensures.begun in
-    let same : end ≡ c.conn-1.given.0 = search rules in
-    subst (λ h. HasCleanDisk (state g.S.Store h) → IfErr c.from_residual.result (IsCausedInside g.S.Store (HoldsOldRuns g.S.Store runs) attach_statements raise_statements h)) same (λ clean.
-    let early : HasCleanDisk (state g.S.Store left) = omega (arith, clean, c.drop-tx.ensures.survives.clean) in
-    let first : HasCleanDisk (state g.S.Store old) = omega (arith, early, (rw starts at c.raise.ensures.survives).clean) in
-    let told = stop_causes g.S.Store (HoldsOldRuns g.S.Store runs) attach_statements raise_statements old left end _ (has first opened) (rw starts at (c.in_err-raise.ensures.cause early (rw starts refl))) (c.drop-tx.ensures.undone clean) in
-    search rules)
+pub returns-in_err-commit-clause-refused : goal.returns-in_err-commit-clause-refused
+returns-in_err-commit-clause-refused g c runs has =
+    let crash = commit_crash g.S.Store raise_statements c.args.conn.now c.commit.new.conn runs c.commit.ensures.crash (λ clean left ran. raised_in g.S.Store c.args.conn.now left runs (λ opened. (has clean opened).tables) ran) in
+    if_same _ c.from_residual.result c.in_err-commit.field-0.0 c.from_residual.ensures.1 (
+      undone_holds g.S.Store (λ db. OldTables db runs) c.args.conn.now c.commit.new.conn has (λ clean. omega (arith, clean, c.commit.ensures.crash.clean)) (λ clean. c.in_err-commit.ensures.undone clean),
+      crash,
+      λ clean. c.in_err-commit.ensures.failed,
+      λ opened. either_left (state g.S.Store c.args.conn.now) (state g.S.Store c.commit.new.conn) runs crash
+          (leaves_held g.S.Store c.args.conn.now (λ db opened may. g.met.S.Store.settled c.args.conn.now.store db opened may) (λ db. OldTables db runs) c.lives.ensures has opened),
+    )
 
-pub returns-in_err-commit-clause-cause : goal.returns-in_err-commit-clause-cause
-returns-in_err-commit-clause-cause g c runs has opened =
-    let old = c.args.conn.now in
-    let left = c.raise.new.tx.conn.now in
-    let end = c.commit.new.self.0 in
-    let starts = c.transaction-tx.ensures.begun in
-    let same : end ≡ c.conn-2-1.given.0 = search rules in
-    subst (λ h. HasCleanDisk (state g.S.Store h) → IfErr c.from_residual-in_err-commit.result (IsCausedInside g.S.Store (HoldsOldRuns g.S.Store runs) attach_statements raise_statements h)) same (λ clean.
-    let early : HasCleanDisk (state g.S.Store left) = omega (arith, clean, c.commit.ensures.survives.clean) in
-    let first : HasCleanDisk (state g.S.Store old) = omega (arith, early, (rw starts at c.raise.ensures.survives).clean) in
-    let ran = rw starts at (c.in_ok-raise.ensures.runs early (rw starts refl)) in
-    let turn = in_turn g.S.Store raise_statements (begun old) left ran in
-    if_told c.from_residual-in_err-commit.result c.in_err-commit.field-0.0 c.from_residual-in_err-commit.ensures.1 (λ fault tells.
-    commit_causes g.S.Store (HoldsOldRuns g.S.Store runs) attach_statements raise_statements old left end c.in_err-commit.field-0.0 fault (has first opened) ran
-    (store_fails (state g.S.Store left) (state g.S.Store end) c.in_err-commit.field-0.0 (turn.1 refl) (c.in_err-commit.ensures.err clean)) tells))
-
-pub returns-in_err-raise-clause-earlier : goal.returns-in_err-raise-clause-earlier
-returns-in_err-raise-clause-earlier g c =
-    let end = c.drop-tx.new.self.0 in
-    let starts = c.transaction-tx.ensures.begun in
-    let same : end ≡ c.conn-1.given.0 = search rules in
-    subst (λ h. HasCleanDisk (state g.S.Store h) → HasCleanDisk (state g.S.Store c.args.conn.now)) same (λ clean. omega (arith, clean, c.drop-tx.ensures.survives.clean, (rw starts at c.raise.ensures.survives).clean))
-
-pub returns-in_err-commit-clause-earlier : goal.returns-in_err-commit-clause-earlier
-returns-in_err-commit-clause-earlier g c =
-    let end = c.commit.new.self.0 in
-    let starts = c.transaction-tx.ensures.begun in
-    let same : end ≡ c.conn-2-1.given.0 = search rules in
-    subst (λ h. HasCleanDisk (state g.S.Store h) → HasCleanDisk (state g.S.Store c.args.conn.now)) same (λ clean. omega (arith, clean, c.commit.ensures.survives.clean, (rw starts at c.raise.ensures.survives).clean))
-
-pub returns-clause-earlier : goal.returns-clause-earlier
-returns-clause-earlier g c =
-    let end = c.commit.new.self.0 in
-    let starts = c.transaction-tx.ensures.begun in
-    let same : end ≡ c.conn-2-1.given.0 = search rules in
-    subst (λ h. HasCleanDisk (state g.S.Store h) → HasCleanDisk (state g.S.Store c.args.conn.now)) same (λ clean. omega (arith, clean, c.commit.ensures.survives.clean, (rw starts at c.raise.ensures.survives).clean))
+pub returns-clause-taken : goal.returns-clause-taken
+returns-clause-taken g c runs has = (
+  commit_stands g.S.Store raise_statements c.args.conn.now c.commit.new.conn runs c.commit.ensures.crash (λ clean left ran. raised_in g.S.Store c.args.conn.now left runs (λ opened. (has clean opened).tables) ran) (λ clean. c.in_ok-commit.ensures.done clean),
+  commit_lasts g.S.Store raise_statements c.args.conn.now c.commit.new.conn runs c.commit.ensures.crash (λ clean left ran. raised_in g.S.Store c.args.conn.now left runs (λ opened. (has clean opened).tables) ran)
+      (λ db opened may. g.met.S.Store.settled c.commit.new.conn.store db opened may) (λ clean. c.in_ok-commit.ensures.done clean),
+  commit_crash g.S.Store raise_statements c.args.conn.now c.commit.new.conn runs c.commit.ensures.crash (λ clean left ran. raised_in g.S.Store c.args.conn.now left runs (λ opened. (has clean opened).tables) ran),
+)

@@ -18,6 +18,3 @@ returns-then-number-ne2-clause-taken g c n says which clean = elim which [
 pub returns-clause-number : goal.returns-clause-number
 returns-clause-number g c n says clean =
     (λ yes. absurd cc, λ no. sym (c.in_ok-number.ensures.number n says clean) ∙ sym (to_z-of_z w64 c.in_ok-number.number (let fits : SFits w64 c.in_ok-number.number = search rules in fits)) ∙ ap (to_z w64) c.if-number-ne2.false)
-
-pub returns-in_err-number-clause-cause : goal.returns-in_err-number-clause-cause
-returns-in_err-number-clause-cause g c n says clean = let told = c.in_err-number.ensures.cause n says clean in search rules

@@ -1,8 +1,4 @@
-use Rattle.kt_store.proofs.FaultLemmas.{first_failed, starved, only_row}
-use Rattle.sqlite_value.specs.Order.{column}
-use Rattle.sqlite.specs.Order.{Row}
-use Rattle.sqlite.specs.declared.types.Value.TheVariants.{Int}
-use Rattle.std.proofs.Common.{◌∙◌, [], w64, SFits, slice_get, sym, ap, arith, rules, ◌≡◌, ◌∷◌, ◌<◌, length, subst}
+use Rattle.std.proofs.Common.{◌∙◌, [], w64, SFits, slice_get, sym, ap, arith, rules}
 use Rattle.std.proofs.lemmas.Int.{to_z-of_z}
 use Rattle.std.specs.Option.{option_copied}
 use Rattle.kt_store.specs.Tables.{meta_text}
@@ -13,7 +9,7 @@ use Rattle.kt_store.proofs.attach.schema_number.Goals as goal
 pub returns-clause-number : goal.returns-clause-number
 returns-clause-number g c n says clean =
     let are = asked_meta g.S.Store c.args.conn.now c.ask.new.conn (λ k. omega (arith, k, c.ask.ensures.survives.clean)) n c.in_ok-rows.rows.items says clean (c.in_ok-rows.ensures.rows clean) in
-    to_z-of_z w64 c.in_ok-number.number (let fits : SFits w64 c.in_ok-number.number = search rules in fits) ∙ read_it n c.in_ok-number.number c.in_ok-rows.rows.items c.in-Some.row.now are (ap (λ l. slice_get l 0) (sym c.deref.ensures.value) ∙ sym c.first.ensures.value ∙ ap option_copied c.in-Some.is) c.in_ok-number.ensures.number
+    to_z-of_z w64 c.in_ok-number.number (let fits : SFits w64 c.in_ok-number.number = search rules in fits) ∙ read_it n c.in_ok-number.number c.in_ok-rows.rows.items c.in-Some.row.now are (ap (λ l. slice_get l 0) (sym c.deref.ensures.value) ∙ sym c.first.ensures.value ∙ ap option_copied c.in-Some.is) c.in_ok-number.ensures.value.1
 
 pub returns-in_default-clause-taken : goal.returns-in_default-clause-taken
 returns-in_default-clause-taken g c n says clean =
@@ -24,27 +20,14 @@ pub returns-clause-same : goal.returns-clause-same
 returns-clause-same g c n says clean =
     asked_unchanged g.S.Store c.args.conn.now c.ask.new.conn (λ k. omega (arith, k, c.ask.ensures.survives.clean)) meta_text (says_plain n _ says) [] c.in_ok-rows.rows.items clean (c.in_ok-rows.ensures.rows clean)
 
-pub returns-in_err-rows-clause-cause : goal.returns-in_err-rows-clause-cause
-returns-in_err-rows-clause-cause g c n says clean =
-    let told = first_failed g.S.Store (meta_text, []) [] c.args.conn.now c.ask.new.conn _ (c.in_err-rows.ensures.cause clean) in
-    search rules
-
-pub returns-in_err-number-clause-cause : goal.returns-in_err-number-clause-cause
-returns-in_err-number-clause-cause g c n says clean =
-    let are = asked_meta g.S.Store c.args.conn.now c.ask.new.conn (λ k. omega (arith, k, c.ask.ensures.survives.clean)) n c.in_ok-rows.rows.items says clean (c.in_ok-rows.ensures.rows clean) in
-    let first : c.in-Some.row.now ≡ Int n ∷ [] = only_row (Int n) c.in_ok-rows.rows.items c.in-Some.row.now are (ap (λ l. slice_get l 0) (sym c.deref.ensures.value) ∙ sym c.first.ensures.value ∙ ap option_copied c.in-Some.is) in
-    let there : 0 < length c.in-Some.row.now = subst (λ (l : Row). 0 < length l) (sym first) (omega arith) in
-    let told = starved g.S.Store ((meta_text, []) ∷ []) c.ask.new.conn _ (c.in_err-number.ensures.read n there (ap (λ l. column l 0) first)) in
-    search rules
-
 pub returns-in_err-rows-clause-asks : goal.returns-in_err-rows-clause-asks
-returns-in_err-rows-clause-asks g c = asks_number g.S.Store c.args.conn.now c.ask.new.conn c.ask.ensures.mode c.ask.ensures.survives (λ clean. c.in_err-rows.ensures.rests clean)
+returns-in_err-rows-clause-asks g c = asks_number g.S.Store c.args.conn.now c.ask.new.conn c.ask.ensures.survives (λ clean. c.in_err-rows.ensures.rests clean)
 
 pub returns-in_default-clause-asks : goal.returns-in_default-clause-asks
-returns-in_default-clause-asks g c = tells_number g.S.Store c.args.conn.now c.ask.new.conn c.ask.ensures.mode c.ask.ensures.survives c.in_ok-rows.rows.items (λ clean. c.in_ok-rows.ensures.rows clean)
+returns-in_default-clause-asks g c = tells_number g.S.Store c.args.conn.now c.ask.new.conn c.ask.ensures.survives c.in_ok-rows.rows.items (λ clean. c.in_ok-rows.ensures.rows clean)
 
 pub returns-in_err-number-clause-asks : goal.returns-in_err-number-clause-asks
-returns-in_err-number-clause-asks g c = tells_number g.S.Store c.args.conn.now c.ask.new.conn c.ask.ensures.mode c.ask.ensures.survives c.in_ok-rows.rows.items (λ clean. c.in_ok-rows.ensures.rows clean)
+returns-in_err-number-clause-asks g c = tells_number g.S.Store c.args.conn.now c.ask.new.conn c.ask.ensures.survives c.in_ok-rows.rows.items (λ clean. c.in_ok-rows.ensures.rows clean)
 
 pub returns-clause-asks : goal.returns-clause-asks
-returns-clause-asks g c = tells_number g.S.Store c.args.conn.now c.ask.new.conn c.ask.ensures.mode c.ask.ensures.survives c.in_ok-rows.rows.items (λ clean. c.in_ok-rows.ensures.rows clean)
+returns-clause-asks g c = tells_number g.S.Store c.args.conn.now c.ask.new.conn c.ask.ensures.survives c.in_ok-rows.rows.items (λ clean. c.in_ok-rows.ensures.rows clean)

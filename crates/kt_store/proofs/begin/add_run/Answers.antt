@@ -1,13 +1,10 @@
-use Rattle.std.proofs.Common.{◌∙◌, ◌++◌, ◌∷◌, [], w64, SFits, rules, ap, arith, pos}
+use Rattle.std.proofs.Common.{◌∙◌, ◌++◌, ◌∷◌, [], w64, SFits, rules, ap, arith}
 use Rattle.std.specs.Prelude.{unsigned_abs}
 use Rattle.std.proofs.lemmas.Int.{to_z-of_z}
 use Rattle.sqlite.specs.Held.{state}
 use Rattle.sqlite.proofs.StateLemmas.{survives_weaker}
 use Rattle.kt_store.specs.Runs.{Keeps, new_run}
 use Rattle.kt_store.proofs.BeginLemmas.{told_begin, crash_begin, leaves_commit}
-use Rattle.kt_store.proofs.FaultLemmas.{first_failed}
-use Rattle.kt_store.specs.Tables.{begin_text}
-use Rattle.sqlite.specs.declared.types.Value.TheVariants.{Int}
 use Rattle.kt_store.proofs.begin.add_run.Goals as goal
 
 pub returns-in_err-tell-clause-crash : goal.returns-in_err-tell-clause-crash
@@ -38,8 +35,3 @@ returns-clause-durable g c runs has room clean =
     let done = told_begin g.S.Store c.args.conn.now c.tell.new.conn runs c.args.total c.args.moment has room (omega (arith, c.ranges.total.fits)) (λ k. omega (arith, k, c.tell.ensures.survives.clean)) clean
     (rw (c.int.ensures, c.int-2.ensures, c.from.ensures) at (c.in_ok-tell.ensures.told clean)) in
     leaves_commit g.S.Store c.tell.new.conn (runs ++ new_run runs c.args.total c.args.moment ∷ []) (λ db opened may. g.met.S.Store.settled c.tell.new.conn.store db opened may) done.2 done.0 done.3 clean
-
-pub returns-in_err-tell-clause-cause : goal.returns-in_err-tell-clause-cause
-returns-in_err-tell-clause-cause g c runs has clean =
-    let told = first_failed g.S.Store (begin_text, Int (pos c.args.moment) ∷ Int (pos c.args.total) ∷ []) [] c.args.conn.now c.tell.new.conn _ (rw (c.int.ensures, c.int-2.ensures, c.from.ensures) at (c.in_err-tell.ensures.cause clean)) in
-    search rules

@@ -1,9 +1,8 @@
-use Rattle.std.proofs.Common.{◌∙◌, [], length, sym, arith, rules}
+use Rattle.std.proofs.Common.{◌∙◌, [], length, sym, arith}
 use Rattle.kt_store.specs.Tables.{full_text}
 use Rattle.kt_store.proofs.SqlFacts.{full_is}
 use Rattle.kt_store.proofs.AskLemmas.{asked_stands, asked_survives}
 use Rattle.kt_store.proofs.FullLemmas.{asked_full, has_room, has_none, lt_from_true, none_from_false}
-use Rattle.kt_store.proofs.FaultLemmas.{first_failed}
 use Rattle.kt_store.proofs.begin.is_full.Goals as goal
 
 pub returns-in_err-rows-clause-crash : goal.returns-in_err-rows-clause-crash
@@ -23,8 +22,3 @@ returns-clause-stands g c runs has =
 pub returns-clause-crash : goal.returns-clause-crash
 returns-clause-crash g c runs has =
     asked_survives g.S.Store c.args.conn.now c.ask.new.conn runs has (λ clean. omega (arith, clean, c.ask.ensures.survives.clean)) full_text full_is.2 [] c.ask.ensures.survives
-
-pub returns-in_err-rows-clause-cause : goal.returns-in_err-rows-clause-cause
-returns-in_err-rows-clause-cause g c runs has clean =
-    let told = first_failed g.S.Store (full_text, []) [] c.args.conn.now c.ask.new.conn _ (c.in_err-rows.ensures.cause clean) in
-    search rules

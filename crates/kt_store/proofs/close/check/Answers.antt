@@ -1,12 +1,8 @@
-use Rattle.std.proofs.Common.{inr, ◌∙◌, sym, arith, rules, pos, [], ◌∷◌}
+use Rattle.std.proofs.Common.{inr, ◌∙◌, sym, arith}
 use Rattle.sqlite.specs.Held.{state}
 use Rattle.sqlite.specs.State.{HasCleanDisk}
 use Rattle.sqlite.proofs.StateLemmas.{survives_then}
 use Rattle.kt_store.proofs.CloseLemmas.{closed_already, lacks_some, lacks_none}
-use Rattle.kt_store.proofs.FaultLemmas.{caused_before, caused_after}
-use Rattle.kt_store.specs.Calls.{look_statement}
-use Rattle.kt_store.specs.Tables.{count_text, finish_text}
-use Rattle.sqlite.specs.declared.types.Value.TheVariants.{Int}
 use Rattle.kt_store.proofs.close.check.Goals as goal
 
 pub returns-then-finished-clause-refused : goal.returns-then-finished-clause-refused
@@ -51,14 +47,3 @@ pub returns-clause-crash : goal.returns-clause-crash
 returns-clause-crash g c runs has =
     survives_then (state g.S.Store c.args.conn.now) (state g.S.Store c.look.new.conn) (state g.S.Store c.count.new.conn) (λ _. ⊥) (λ _. ⊥) (λ _. ⊥) (λ _ db none. none) (λ _ db none. none)
     (c.look.ensures.crash runs has) (c.count.ensures.crash runs (c.look.ensures.stands runs has))
-
-pub returns-in_err-total-clause-cause : goal.returns-in_err-total-clause-cause
-returns-in_err-total-clause-cause g c runs has clean =
-    let told = caused_before g.S.Store (look_statement c.args.run ∷ []) ((count_text, Int (pos c.args.run) ∷ []) ∷ (finish_text, Int (pos c.args.run) ∷ []) ∷ []) c.look.new.conn _ (c.in_err-total.ensures.cause runs has clean) in
-    search rules
-
-pub returns-in_err-entries-clause-cause : goal.returns-in_err-entries-clause-cause
-returns-in_err-entries-clause-cause g c runs has clean =
-    let mine = caused_before g.S.Store ((count_text, Int (pos c.args.run) ∷ []) ∷ []) ((finish_text, Int (pos c.args.run) ∷ []) ∷ []) c.count.new.conn _ (c.in_err-entries.ensures.cause runs (c.look.ensures.stands runs has) clean) in
-    let told = caused_after g.S.Store (look_statement c.args.run ∷ []) ((count_text, Int (pos c.args.run) ∷ []) ∷ (finish_text, Int (pos c.args.run) ∷ []) ∷ []) c.count.new.conn _ mine in
-    search rules

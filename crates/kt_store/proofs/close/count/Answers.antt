@@ -1,4 +1,4 @@
-use Rattle.std.proofs.Common.{◌∙◌, [], ◌∷◌, pos, min, length, slice_get, sym, ap, arith, rules, ◌<◌, subst}
+use Rattle.std.proofs.Common.{◌∙◌, [], ◌∷◌, pos, min, length, slice_get, sym, ap, arith}
 use Rattle.std.specs.Option.{option_copied}
 use Rattle.sqlite.specs.declared.types.Value.TheVariants.{Int}
 use Rattle.kt_store.specs.Tables.{count_text}
@@ -7,10 +7,7 @@ use Rattle.kt_store.specs.Runs.{run_at}
 use Rattle.kt_store.proofs.SqlFacts.{count_is}
 use Rattle.kt_store.proofs.AskLemmas.{asked_stands, asked_survives}
 use Rattle.kt_store.proofs.CountLemmas.{asked_count, only_number}
-use Rattle.kt_store.proofs.FaultLemmas.{first_failed, starved, only_row}
 use Rattle.kt_store.proofs.MetaLemmas.{some_row}
-use Rattle.sqlite.specs.Order.{Row}
-use Rattle.sqlite_value.specs.Order.{column}
 use Rattle.kt_store.proofs.close.count.Goals as goal
 
 pub returns-clause-found : goal.returns-clause-found
@@ -18,6 +15,11 @@ returns-clause-found g c runs has clean =
     let are = asked_count g.S.Store c.args.conn.now c.ask.new.conn runs has (λ k. omega (arith, k, c.ask.ensures.survives.clean)) c.args.run c.in_ok-rows.rows.items clean (rw c.int.ensures at (c.in_ok-rows.ensures.rows clean)) in
     only_number (min (length (entries_of (run_at runs c.args.run))) 9223372036854775807) c.in_ok-rows.rows.items c.in-Some.row.now c.in_ok-number.number are
     (ap (λ l. slice_get l 0) (sym c.deref.ensures.value) ∙ sym c.first.ensures.value ∙ ap option_copied c.in-Some.is) c.in_ok-number.ensures.number
+
+pub returns-in_default-clause-found : goal.returns-in_default-clause-found
+returns-in_default-clause-found g c runs has clean =
+    let are = asked_count g.S.Store c.args.conn.now c.ask.new.conn runs has (λ k. omega (arith, k, c.ask.ensures.survives.clean)) c.args.run c.in_ok-rows.rows.items clean (rw c.int.ensures at (c.in_ok-rows.ensures.rows clean)) in
+    absurd (some_row (pos (min (length (entries_of (run_at runs c.args.run))) 9223372036854775807)) c.in_ok-rows.rows.items are (ap (λ l. slice_get l 0) (sym c.deref.ensures.value) ∙ sym c.first.ensures.value ∙ ap option_copied c.in_default.is))
 
 pub returns-in_default-clause-stands : goal.returns-in_default-clause-stands
 returns-in_default-clause-stands g c runs has =
@@ -46,21 +48,3 @@ returns-in_err-number-clause-crash g c runs has =
 pub returns-clause-crash : goal.returns-clause-crash
 returns-clause-crash g c runs has =
     asked_survives g.S.Store c.args.conn.now c.ask.new.conn runs has (λ k. omega (arith, k, c.ask.ensures.survives.clean)) count_text count_is.2 (Int (pos c.args.run) ∷ []) (rw c.int.ensures at c.ask.ensures.survives)
-
-pub returns-in_err-rows-clause-cause : goal.returns-in_err-rows-clause-cause
-returns-in_err-rows-clause-cause g c runs has clean =
-    let told = first_failed g.S.Store (count_text, Int (pos c.args.run) ∷ []) [] c.args.conn.now c.ask.new.conn _ (rw c.int.ensures at (c.in_err-rows.ensures.cause clean)) in
-    search rules
-
-pub returns-in_default-clause-cause : goal.returns-in_default-clause-cause
-returns-in_default-clause-cause g c runs has clean =
-    let are = asked_count g.S.Store c.args.conn.now c.ask.new.conn runs has (λ k. omega (arith, k, c.ask.ensures.survives.clean)) c.args.run c.in_ok-rows.rows.items clean (rw c.int.ensures at (c.in_ok-rows.ensures.rows clean)) in
-    absurd (some_row (pos (min (length (entries_of (run_at runs c.args.run))) 9223372036854775807)) c.in_ok-rows.rows.items are (ap (λ l. slice_get l 0) (sym c.deref.ensures.value) ∙ sym c.first.ensures.value ∙ ap option_copied c.in_default.is))
-
-pub returns-in_err-number-clause-cause : goal.returns-in_err-number-clause-cause
-returns-in_err-number-clause-cause g c runs has clean =
-    let are = asked_count g.S.Store c.args.conn.now c.ask.new.conn runs has (λ k. omega (arith, k, c.ask.ensures.survives.clean)) c.args.run c.in_ok-rows.rows.items clean (rw c.int.ensures at (c.in_ok-rows.ensures.rows clean)) in
-    let row = only_row (Int (pos (min (length (entries_of (run_at runs c.args.run))) 9223372036854775807))) c.in_ok-rows.rows.items c.in-Some.row.now are (ap (λ l. slice_get l 0) (sym c.deref.ensures.value) ∙ sym c.first.ensures.value ∙ ap option_copied c.in-Some.is) in
-    let memory = c.in_err-number.ensures.read (min (length (entries_of (run_at runs c.args.run))) 9223372036854775807) (subst (λ (l : Row). 0 < length l) (sym row) (omega arith)) (ap (λ l. column l 0) row) in
-    let told = starved g.S.Store ((count_text, Int (pos c.args.run) ∷ []) ∷ []) c.ask.new.conn _ memory in
-    search rules

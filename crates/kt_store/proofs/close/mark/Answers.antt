@@ -1,13 +1,9 @@
-use Rattle.std.proofs.Common.{arith, rules, pos, [], ◌∷◌}
+use Rattle.std.proofs.Common.{arith}
 use Rattle.sqlite.specs.Held.{state}
 use Rattle.sqlite.proofs.StateLemmas.{survives_weaker}
 use Rattle.kt_store.specs.Runs.{Keeps, finish}
 use Rattle.kt_store.proofs.BeginLemmas.{leaves_commit}
 use Rattle.kt_store.proofs.CloseLemmas.{told_finish, crash_finish}
-use Rattle.kt_store.proofs.FaultLemmas.{first_failed, caused_after}
-use Rattle.kt_store.specs.Calls.{look_statement}
-use Rattle.kt_store.specs.Tables.{count_text, finish_text}
-use Rattle.sqlite.specs.declared.types.Value.TheVariants.{Int}
 use Rattle.kt_store.proofs.close.mark.Goals as goal
 
 pub returns-clause-marked : goal.returns-clause-marked
@@ -30,9 +26,3 @@ returns-clause-crash g c runs has closes =
     survives_weaker (state g.S.Store c.args.conn.now) (state g.S.Store c.tell.new.conn) _ (Keeps (finish c.args.run runs))
     (crash_finish g.S.Store c.args.conn.now c.tell.new.conn runs c.args.run has (λ k. omega (arith, k, c.tell.ensures.survives.clean)) closes)
     (rw c.int.ensures at c.tell.ensures.survives)
-
-pub returns-in_err-tell-clause-cause : goal.returns-in_err-tell-clause-cause
-returns-in_err-tell-clause-cause g c runs has clean =
-    let mine = first_failed g.S.Store (finish_text, Int (pos c.args.run) ∷ []) [] c.args.conn.now c.tell.new.conn _ (rw c.int.ensures at (c.in_err-tell.ensures.cause clean)) in
-    let told = caused_after g.S.Store (look_statement c.args.run ∷ (count_text, Int (pos c.args.run) ∷ []) ∷ []) ((finish_text, Int (pos c.args.run) ∷ []) ∷ []) c.tell.new.conn _ mine in
-    search rules

@@ -1,13 +1,10 @@
-use Rattle.std.proofs.Common.{◌∙◌, [], ◌∷◌, pos, arith, rules}
-use Rattle.sqlite.specs.declared.types.Value.TheVariants.{Int}
+use Rattle.std.proofs.Common.{◌∙◌, arith}
 use Rattle.sqlite.specs.Held.{state}
 use Rattle.sqlite.specs.State.{HasCleanDisk}
 use Rattle.sqlite.proofs.StateLemmas.{survives_then}
 use Rattle.kt_store.specs.Inner.Runs.{entries_of}
 use Rattle.kt_store.specs.Runs.{run_at}
-use Rattle.kt_store.specs.Tables.{entries_text, pairs_text}
-use Rattle.kt_store.proofs.EntriesLemmas.{sound_of, small_of, up_of}
-use Rattle.kt_store.proofs.FaultLemmas.{caused_before, caused_after, starved}
+use Rattle.kt_store.proofs.EntriesLemmas.{sound_of, up_of}
 use Rattle.kt_store.proofs.entries.all_entries.Goals as goal
 
 pub returns-clause-all : goal.returns-clause-all
@@ -16,25 +13,6 @@ returns-clause-all g c runs has clean =
     let valid = c.in_ok-rows.ensures.valid runs has early in
     c.in_ok-entries.ensures.entries (entries_of (run_at runs c.args.run)) (sound_of runs c.args.run valid) (up_of runs c.args.run valid)
     (c.deref.ensures.value ∙ c.in_ok-rows.ensures.all runs has early) (c.deref-2.ensures.value ∙ c.in_ok-pairs.ensures.all runs (c.all_rows.ensures.stands runs has) clean)
-
-pub returns-in_err-entries-clause-cause : goal.returns-in_err-entries-clause-cause
-returns-in_err-entries-clause-cause g c runs has clean =
-    let early : HasCleanDisk (state g.S.Store c.all_rows.new.conn) = omega (arith, clean, (c.all_pairs.ensures.crash runs (c.all_rows.ensures.stands runs has)).clean) in
-    let valid = c.in_ok-rows.ensures.valid runs has early in
-    let memory = c.in_err-entries.ensures.read (entries_of (run_at runs c.args.run)) (sound_of runs c.args.run valid) (up_of runs c.args.run valid) (small_of runs c.args.run valid)
-    (c.deref.ensures.value ∙ c.in_ok-rows.ensures.all runs has early) (c.deref-2.ensures.value ∙ c.in_ok-pairs.ensures.all runs (c.all_rows.ensures.stands runs has) clean) in
-    let caused = starved g.S.Store ((entries_text, Int (pos c.args.run) ∷ []) ∷ (pairs_text, Int (pos c.args.run) ∷ []) ∷ []) c.all_pairs.new.conn _ memory in
-    search rules
-
-pub returns-in_err-rows-clause-cause : goal.returns-in_err-rows-clause-cause
-returns-in_err-rows-clause-cause g c runs has clean =
-    let told = caused_before g.S.Store ((entries_text, Int (pos c.args.run) ∷ []) ∷ []) ((pairs_text, Int (pos c.args.run) ∷ []) ∷ []) c.all_rows.new.conn _ (c.in_err-rows.ensures.cause runs has clean) in
-    search rules
-
-pub returns-in_err-pairs-clause-cause : goal.returns-in_err-pairs-clause-cause
-returns-in_err-pairs-clause-cause g c runs has clean =
-    let told = caused_after g.S.Store ((entries_text, Int (pos c.args.run) ∷ []) ∷ []) ((pairs_text, Int (pos c.args.run) ∷ []) ∷ []) c.all_pairs.new.conn _ (c.in_err-pairs.ensures.cause runs (c.all_rows.ensures.stands runs has) clean) in
-    search rules
 
 pub returns-in_err-pairs-clause-stands : goal.returns-in_err-pairs-clause-stands
 returns-in_err-pairs-clause-stands g c runs has = c.all_pairs.ensures.stands runs (c.all_rows.ensures.stands runs has)

@@ -1,10 +1,9 @@
-use Rattle.std.proofs.Common.{[], ◌∷◌, pos, arith, rules}
+use Rattle.std.proofs.Common.{[], ◌∷◌, pos, arith}
 use Rattle.sqlite.specs.declared.types.Value.TheVariants.{Int}
 use Rattle.kt_store.specs.Tables.{pairs_text}
 use Rattle.kt_store.proofs.SqlFacts.{pairs_select_is}
 use Rattle.kt_store.proofs.AskLemmas.{asked_stands, asked_survives}
 use Rattle.kt_store.proofs.PairsLemmas.{asked_pairs}
-use Rattle.kt_store.proofs.FaultLemmas.{first_failed}
 use Rattle.kt_store.proofs.entries.all_pairs.Goals as goal
 
 pub returns-clause-all : goal.returns-clause-all
@@ -21,8 +20,3 @@ returns-in_err-rows-clause-crash g c runs has =
 pub returns-clause-crash : goal.returns-clause-crash
 returns-clause-crash g c runs has =
     asked_survives g.S.Store c.args.conn.now c.ask.new.conn runs has (λ k. omega (arith, k, c.ask.ensures.survives.clean)) pairs_text pairs_select_is.2 (Int (pos c.args.run) ∷ []) (rw c.int.ensures at c.ask.ensures.survives)
-
-pub returns-in_err-rows-clause-cause : goal.returns-in_err-rows-clause-cause
-returns-in_err-rows-clause-cause g c runs has clean =
-    let told = first_failed g.S.Store (pairs_text, Int (pos c.args.run) ∷ []) [] c.args.conn.now c.ask.new.conn _ (rw c.int.ensures at (c.in_err-rows.ensures.cause clean)) in
-    search rules

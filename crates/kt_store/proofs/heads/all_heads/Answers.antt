@@ -1,10 +1,8 @@
-use Rattle.std.proofs.Common.{rules, ◌∙◌, [], arith}
+use Rattle.std.proofs.Common.{◌∙◌, [], arith}
 use Rattle.kt_store.specs.Tables.{runs_text}
 use Rattle.kt_store.proofs.SqlFacts.{runs_select_is}
 use Rattle.kt_store.proofs.AskLemmas.{asked_stands, asked_survives}
-use Rattle.kt_store.proofs.HeadLemmas.{asked_heads, asked_small}
-use Rattle.kt_store.specs.Calls.{runs_statements}
-use Rattle.kt_store.proofs.FaultLemmas.{first_failed, starved}
+use Rattle.kt_store.proofs.HeadLemmas.{asked_heads}
 use Rattle.kt_store.proofs.heads.all_heads.Goals as goal
 
 pub returns-clause-all : goal.returns-clause-all
@@ -30,17 +28,3 @@ returns-in_err-heads-clause-crash g c runs has =
 pub returns-clause-crash : goal.returns-clause-crash
 returns-clause-crash g c runs has =
     asked_survives g.S.Store c.args.conn.now c.ask.new.conn runs has (λ k. omega (arith, k, c.ask.ensures.survives.clean)) runs_text runs_select_is.2 [] c.ask.ensures.survives
-
-pub returns-in_err-heads-clause-cause : goal.returns-in_err-heads-clause-cause
-returns-in_err-heads-clause-cause g c runs has clean =
-    let asked = c.in_ok-rows.ensures.rows clean in
-    let are = asked_heads g.S.Store c.args.conn.now c.ask.new.conn runs has (λ k. omega (arith, k, c.ask.ensures.survives.clean)) c.in_ok-rows.rows.items clean asked in
-    let small = asked_small g.S.Store c.args.conn.now c.ask.new.conn runs has (λ k. omega (arith, k, c.ask.ensures.survives.clean)) c.in_ok-rows.rows.items clean asked in
-    let memory = c.in_err-heads.ensures.read runs small (c.deref.ensures.value ∙ are) in
-    let told = starved g.S.Store runs_statements c.ask.new.conn _ memory in
-    search rules
-
-pub returns-in_err-rows-clause-cause : goal.returns-in_err-rows-clause-cause
-returns-in_err-rows-clause-cause g c runs has clean =
-    let told = first_failed g.S.Store (runs_text, []) [] c.args.conn.now c.ask.new.conn _ (c.in_err-rows.ensures.cause clean) in
-    search rules

@@ -1,4 +1,4 @@
-use Rattle.std.proofs.Common.{◌∙◌, pos, [], ◌∷◌, slice_get, sym, ap, arith, rules, ◌<◌, subst, length}
+use Rattle.std.proofs.Common.{◌∙◌, pos, [], ◌∷◌, slice_get, sym, ap, arith}
 use Rattle.std.specs.Option.{option_copied}
 use Rattle.kt_store.specs.Runs.{run_at}
 use Rattle.kt_store.proofs.RunLemmas.{asked_run, none_there, some_there, both_read}
@@ -6,9 +6,6 @@ use Rattle.kt_store.specs.Tables.{run_text}
 use Rattle.kt_store.proofs.SqlFacts.{run_is}
 use Rattle.kt_store.proofs.AskLemmas.{asked_stands, asked_survives}
 use Rattle.sqlite.specs.declared.types.Value.TheVariants.{Int}
-use Rattle.kt_store.proofs.FaultLemmas.{first_failed, starved, flag_number}
-use Rattle.sqlite.specs.Order.{Row}
-use Rattle.sqlite_value.specs.Order.{column}
 use Rattle.kt_store.proofs.lookup.find.Goals as goal
 
 pub returns-in_default-clause-found : goal.returns-in_default-clause-found
@@ -59,25 +56,3 @@ returns-in_err-finished-clause-crash g c runs has =
 pub returns-clause-crash : goal.returns-clause-crash
 returns-clause-crash g c runs has =
     asked_survives g.S.Store c.args.conn.now c.ask.new.conn runs has (λ k. omega (arith, k, c.ask.ensures.survives.clean)) run_text run_is.2 (Int (pos c.args.run) ∷ []) (rw c.int.ensures at c.ask.ensures.survives)
-
-pub returns-in_err-rows-clause-cause : goal.returns-in_err-rows-clause-cause
-returns-in_err-rows-clause-cause g c runs has clean =
-    let told = first_failed g.S.Store (run_text, Int (pos c.args.run) ∷ []) [] c.args.conn.now c.ask.new.conn _ (rw c.int.ensures at (c.in_err-rows.ensures.cause clean)) in
-    search rules
-
-pub returns-in_err-total-clause-cause : goal.returns-in_err-total-clause-cause
-returns-in_err-total-clause-cause g c runs has clean =
-    let are = asked_run g.S.Store c.args.conn.now c.ask.new.conn runs has (λ k. omega (arith, k, c.ask.ensures.survives.clean)) c.args.run c.in_ok-rows.rows.items clean (rw c.int.ensures at (c.in_ok-rows.ensures.rows clean)) in
-    let it = some_there (run_at runs c.args.run) c.in_ok-rows.rows.items c.in-Some.row.now are (ap (λ l. slice_get l 0) (sym c.deref.ensures.value) ∙ sym c.first.ensures.value ∙ ap option_copied c.in-Some.is) in
-    let memory = c.in_err-total.ensures.read it.0.total (subst (λ (l : Row). 0 < length l) (sym it.2) (omega arith)) (ap (λ l. column l 0) it.2) in
-    let told = starved g.S.Store ((run_text, Int (pos c.args.run) ∷ []) ∷ []) c.ask.new.conn _ memory in
-    search rules
-
-pub returns-in_err-finished-clause-cause : goal.returns-in_err-finished-clause-cause
-returns-in_err-finished-clause-cause g c runs has clean =
-    let are = asked_run g.S.Store c.args.conn.now c.ask.new.conn runs has (λ k. omega (arith, k, c.ask.ensures.survives.clean)) c.args.run c.in_ok-rows.rows.items clean (rw c.int.ensures at (c.in_ok-rows.ensures.rows clean)) in
-    let it = some_there (run_at runs c.args.run) c.in_ok-rows.rows.items c.in-Some.row.now are (ap (λ l. slice_get l 0) (sym c.deref.ensures.value) ∙ sym c.first.ensures.value ∙ ap option_copied c.in-Some.is) in
-    let number = flag_number it.0.finished in
-    let memory = c.in_err-finished.ensures.read number.0 (subst (λ (l : Row). 1 < length l) (sym it.2) (omega arith)) (ap (λ l. column l 1) it.2 ∙ number.1) in
-    let told = starved g.S.Store ((run_text, Int (pos c.args.run) ∷ []) ∷ []) c.ask.new.conn _ memory in
-    search rules

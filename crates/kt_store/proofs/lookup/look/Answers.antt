@@ -1,4 +1,4 @@
-use Rattle.std.proofs.Common.{◌∙◌, sym, ap, rules}
+use Rattle.std.proofs.Common.{◌∙◌, sym, ap}
 use Rattle.kt_store.specs.Runs.{run_at}
 use Rattle.kt_store.proofs.RunLemmas.{one_found}
 use Rattle.kt_store.proofs.lookup.look.Goals as goal
@@ -7,8 +7,3 @@ pub returns-clause-found : goal.returns-clause-found
 returns-clause-found g c runs has clean =
     let it = one_found (run_at runs c.key-number.result) c.in-Some.total c.in-Some.finished (sym c.in-Some.is ∙ c.in_ok-total.ensures.found runs has clean) in
     (it.0, ap (run_at runs) (sym c.if-number-run.false) ∙ it.1, it.2, it.3, c.in_ok-total.ensures.valid runs has clean)
-
-pub returns-in_err-total-clause-cause : goal.returns-in_err-total-clause-cause
-returns-in_err-total-clause-cause g c runs has clean =
-    let told = rw c.key-number.ensures.asked at (c.in_err-total.ensures.cause runs has clean) in
-    search rules

@@ -1,11 +1,9 @@
-use Rattle.std.proofs.Common.{◌∙◌, [], ◌∷◌, pos, arith, rules}
+use Rattle.std.proofs.Common.{◌∙◌, [], ◌∷◌, pos, arith}
 use Rattle.sqlite.specs.declared.types.Value.TheVariants.{Int}
 use Rattle.kt_store.specs.Tables.{there_text}
 use Rattle.kt_store.proofs.SqlFacts.{there_is}
 use Rattle.kt_store.proofs.AskLemmas.{asked_stands, asked_survives}
 use Rattle.kt_store.proofs.ThereLemmas.{asked_there}
-use Rattle.kt_store.proofs.FaultLemmas.{first_failed}
-use Rattle.kt_store.specs.Calls.{there_statement}
 use Rattle.kt_store.proofs.lookup.there.Goals as goal
 
 pub returns-clause-found : goal.returns-clause-found
@@ -27,8 +25,3 @@ pub returns-clause-crash : goal.returns-clause-crash
 returns-clause-crash g c runs has =
     asked_survives g.S.Store c.args.conn.now c.ask.new.conn runs has (λ k. omega (arith, k, c.ask.ensures.survives.clean)) there_text there_is.2 (Int (pos c.args.run) ∷ Int (pos c.args.position) ∷ [])
     (rw (c.int.ensures, c.int-2.ensures, c.from.ensures) at c.ask.ensures.survives)
-
-pub returns-in_err-rows-clause-cause : goal.returns-in_err-rows-clause-cause
-returns-in_err-rows-clause-cause g c runs has clean =
-    let told = first_failed g.S.Store (there_statement c.args.run c.args.position) [] c.args.conn.now c.ask.new.conn _ (rw (c.int.ensures, c.int-2.ensures, c.from.ensures) at (c.in_err-rows.ensures.cause clean)) in
-    search rules

@@ -1,10 +1,4 @@
-use Rattle.std.proofs.Common.{rules}
 use Rattle.kt_store.proofs.put.add_pair.Goals as goal
-
-pub returns-in_err-step-clause-cause : goal.returns-in_err-step-clause-cause
-returns-in_err-step-clause-cause g c clean inside =
-    let told = rw (c.int.ensures, c.int-2.ensures, c.from.ensures, c.int-3.ensures, c.text.ensures, c.text-2.ensures) at (c.in_err-step.ensures.cause clean inside) in
-    search rules
 
 pub returns-clause-runs : goal.returns-clause-runs
 returns-clause-runs g c clean inside = rw (c.int.ensures, c.int-2.ensures, c.from.ensures, c.int-3.ensures, c.text.ensures, c.text-2.ensures) at (c.in_ok-step.ensures.runs clean inside)

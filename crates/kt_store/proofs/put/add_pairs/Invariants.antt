@@ -1,5 +1,5 @@
 use Rattle.std.proofs.Common.{◌≡◌, drop}
-use Rattle.kt_store.specs.Calls.{pair_statements}
+use Rattle.kt_store.specs.Inner.Calls.{pair_statements}
 use Rattle.kt_store.proofs.TurnLemmas.{SoFar}
 use Rattle.kt_store.proofs.put.add_pairs.Given as goal
 

@@ -1,12 +1,8 @@
-use Rattle.std.proofs.Common.{inr, ◌∙◌, sym, arith, rules, [], ◌∷◌}
+use Rattle.std.proofs.Common.{inr, ◌∙◌, sym, arith}
 use Rattle.sqlite.specs.Held.{state}
 use Rattle.sqlite.specs.State.{HasCleanDisk}
 use Rattle.sqlite.proofs.StateLemmas.{survives_then}
 use Rattle.kt_store.proofs.TakesLemmas.{refused_closed, refused_past, refused_repeated, taken}
-use Rattle.kt_store.proofs.FaultLemmas.{caused_before, caused_after}
-use Rattle.kt_store.specs.Calls.{look_statement, there_statement}
-use Rattle.kt_store.specs.Runs.{entry_row}
-use Rattle.kt_store.specs.Tables.{put_text}
 use Rattle.kt_store.proofs.put.check.Goals as goal
 
 pub returns-then-finished-clause-refused : goal.returns-then-finished-clause-refused
@@ -56,14 +52,3 @@ pub returns-clause-crash : goal.returns-clause-crash
 returns-clause-crash g c runs has =
     survives_then (state g.S.Store c.args.conn.now) (state g.S.Store c.look.new.conn) (state g.S.Store c.there.new.conn) (λ _. ⊥) (λ _. ⊥) (λ _. ⊥) (λ _ db none. none) (λ _ db none. none)
     (c.look.ensures.crash runs has) (c.there.ensures.crash runs (c.look.ensures.stands runs has))
-
-pub returns-in_err-total-clause-cause : goal.returns-in_err-total-clause-cause
-returns-in_err-total-clause-cause g c runs has clean =
-    let told = caused_before g.S.Store (look_statement c.args.run ∷ []) (there_statement c.args.run c.args.entry.now.position ∷ (put_text, entry_row c.args.run c.args.entry.now) ∷ []) c.look.new.conn _ (c.in_err-total.ensures.cause runs has clean) in
-    search rules
-
-pub returns-in_err-there-clause-cause : goal.returns-in_err-there-clause-cause
-returns-in_err-there-clause-cause g c runs has clean =
-    let mine = caused_before g.S.Store (there_statement c.args.run c.args.entry.now.position ∷ []) ((put_text, entry_row c.args.run c.args.entry.now) ∷ []) c.there.new.conn _ (c.in_err-there.ensures.cause runs (c.look.ensures.stands runs has) clean) in
-    let told = caused_after g.S.Store (look_statement c.args.run ∷ []) (there_statement c.args.run c.args.entry.now.position ∷ (put_text, entry_row c.args.run c.args.entry.now) ∷ []) c.there.new.conn _ mine in
-    search rules

@@ -3,7 +3,7 @@ use Rattle.std.proofs.Common.{refl, sym, subst, List}
 use Rattle.kt_base.specs.declared.run.Run.{Run}
 use Rattle.kt_store.specs.StoreCalls.{Put}
 use Rattle.kt_cli.proofs.Numbered.{put_more}
-use Rattle.kt_cli.proofs.StoreChains.{stored_one}
+use Rattle.kt_cli.proofs.StoreChains.{stored_call}
 use Rattle.kt_cli.proofs.recorder.RecorderSink.put.Goals as goal
 
 pub put-requires : goal.put-requires
@@ -19,7 +19,7 @@ returns-in-Err-clause-leads g c =
         (
           c.in-Err.fault,
           c.sink_fault.ensures,
-          stored_one g.R.ResultStore.answers g.R.ResultStore.stands g.R.ResultStore.sound g.R.ResultStore.leaves (Put c.args.self.now.number c.args.entry (Err c.in-Err.fault)) _ _ p.asked p.kept p.earlier p.refused p.crash,
+          stored_call g.R.Keeping (Put c.args.self.now.number c.args.entry (Err c.in-Err.fault)) _ _ p,
         ),
         refl,
         refl,
@@ -27,7 +27,7 @@ returns-in-Err-clause-leads g c =
     )
 
 pub returns-in-Err-clause-err : goal.returns-in-Err-clause-err
-returns-in-Err-clause-err g c put h = (h.0, c.in-Err.ensures.kept _ h.1)
+returns-in-Err-clause-err g c put h = (h.0, c.in-Err.ensures.stands _ h.1)
 
 pub returns-clause-leads : goal.returns-clause-leads
 returns-clause-leads g c =
@@ -36,10 +36,10 @@ returns-clause-leads g c =
       refl,
       (
         refl,
-        stored_one g.R.ResultStore.answers g.R.ResultStore.stands g.R.ResultStore.sound g.R.ResultStore.leaves (Put c.args.self.now.number c.args.entry (Ok tt)) _ _ p.asked p.added p.earlier p.allowed (λ runs may h l. p.durable runs h),
+        stored_call g.R.Keeping (Put c.args.self.now.number c.args.entry (Ok tt)) _ _ p,
         c.line_behind-self.ensures,
       ),
     )
 
 pub returns-clause-ok : goal.returns-clause-ok
-returns-clause-ok g c put h = (h.0, subst (λ (rs : List Run). g.R.ResultStore.stands c.put.new.self rs) (sym (put_more c.args.self.now.number put c.args.entry h.0)) (c.in_default.ensures.added _ h.1))
+returns-clause-ok g c put h = (h.0, subst (λ (rs : List Run). g.R.Keeping.stands c.put.new.self rs) (sym (put_more c.args.self.now.number put c.args.entry h.0)) (c.in_default.ensures.stands _ h.1))

@@ -1,8 +1,5 @@
-use Rattle.kt_cli.proofs.MemoryLaws.{short_fails, told_fails}
+use Rattle.kt_store.proofs.FaultLemmas.{starved}
 use Rattle.kt_play.proofs.refusing_store.RefusingStore.fault.Goals as goal
 
 pub returns-in-Some : goal.returns-in-Some
-returns-in-Some c = short_fails _ c.from.ensures
-
-pub returns-in-None : goal.returns-in-None
-returns-in-None c = told_fails _ _ c.from-in-None.ensures
+returns-in-Some c = starved _ c.from.ensures

@@ -1,0 +1,12 @@
+use Rattle.std.specs.Prelude.{Err}
+use Rattle.std.proofs.Common.{inl, refl}
+use Rattle.kt_store.specs.StoreCalls.{Heads, seen_as}
+use Rattle.kt_play.specs.declared.refusing_store.RefusingStore.{RefusingStore}
+use Rattle.kt_play.proofs.OverMemory.{serves_over, refuses_over}
+use Rattle.kt_play.proofs.refusing_store.RefusingStoreResultStore.runs.Goals as goal
+
+pub returns-then-refuses : goal.returns-then-refuses
+returns-then-refuses c = refuses_over (λ (s : RefusingStore). s.runs) (Heads (Err c.fault.result)) c.args.self.now _ c.refuses.ensures (c.fault.ensures, λ _. refl)
+
+pub returns : goal.returns
+returns c = serves_over (λ (s : RefusingStore). s.runs) (Heads (seen_as (λ heads. heads.items) c.runs.result)) c.args.self.now _ c.refuses.new.self.runs c.refuses.ensures c.runs.ensures

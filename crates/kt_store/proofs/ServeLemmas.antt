@@ -1,0 +1,215 @@
+-- How the tables of a database serve the calls of a store.
+use Rattle.std.specs.Prelude.{Result, Ok, Err}
+use Rattle.std.proofs.Common.{◌≡◌, ◌⊎◌, inl, ℕ, suc, List, [], ◌∷◌, ◌++◌, ◌<◌, ◌≤◌, Some, None, length, map, IsErrAnd, refl, subst, sym, arith}
+use Rattle.sqlite.specs.Tree.{Trees}
+use Rattle.sqlite.specs.Store.{Ghosts}
+use Rattle.sqlite.specs.Held.{Held, state}
+use Rattle.sqlite.specs.State.{State, HasCleanDisk, Survives}
+use Rattle.sqlite.proofs.StateLemmas.{survives_then, survives_weaker}
+use Rattle.kt_base.specs.Limits.{last_run}
+use Rattle.kt_base.specs.declared.entry.Entry.{Entry}
+use Rattle.kt_base.specs.declared.run.Run.{Run}
+use Rattle.kt_store.specs.Ask.{IsStoreFault}
+use Rattle.kt_store.specs.Heads.{head_of}
+use Rattle.kt_store.specs.Inner.Kept.{KeepsRuns, OnlyReads, Changes, ChangesForGood, MayChange}
+use Rattle.kt_store.specs.Runs.{AreNumbered, Keeps, KeepsOne, new_run, run_at, with_entry, put_refusal, finish, finish_refusal}
+use Rattle.kt_store.specs.Serving.{Serves, Agrees, Outlasts}
+use Rattle.kt_store.specs.Stands.{StandsFor, Leaves}
+use Rattle.kt_store.specs.StoreCalls.{StoreCall, Began, Put, Finished, Heads, Read}
+use Rattle.kt_store.specs.declared.keeping.Keeping as store
+use Rattle.kt_store.specs.declared.run_head.RunHead.{RunHead}
+use Rattle.kt_store.specs.declared.store_fault.StoreFault.{StoreFault}
+use Rattle.kt_store.proofs.Crashing.{survived, untouched}
+use Rattle.kt_store.proofs.Numbered.{numbers_new, numbers_entry, numbers_finish}
+
+-- what is known of the results in a database
+abbrev pub results : {S : Type 0} → Ghosts S → store.Ghosts (Held S)
+results g = record {
+  answers = λ _ _ _. Unit {0};
+  stands = λ s runs. StandsFor (state g s) runs × AreNumbered 1 runs;
+  sound = λ s. HasCleanDisk (state g s);
+  leaves = λ s may. Leaves (state g s) (KeepsOne may);
+  numbered = λ s runs h. h.1;
+}
+
+-- what is known of each crash is known after each call
+pub always_outlasts : {R : Type 0} (Leaves : R → List (List Run) → Type 0) → ((s : R) (may : List (List Run)) → Leaves s may) → (call : StoreCall) (runs : List Run) (may : List (List Run)) (old new : R) → Outlasts Leaves call runs may old new
+always_outlasts Leaves h (Began total moment (Ok number)) runs may old new = h new _
+always_outlasts Leaves h (Began total moment (Err fault)) runs may old new = λ _. h new _
+always_outlasts Leaves h (Put number e (Ok done)) runs may old new = h new _
+always_outlasts Leaves h (Put number e (Err fault)) runs may old new = λ _. h new _
+always_outlasts Leaves h (Finished number (Ok done)) runs may old new = h new _
+always_outlasts Leaves h (Finished number (Err fault)) runs may old new = λ _. h new _
+always_outlasts Leaves h (Heads answer) runs may old new = λ _. h new _
+always_outlasts Leaves h (Read number answer) runs may old new = λ _. h new _
+
+-- a crash leaves what it left before, if nothing was called
+pub survives_self : (s : State) → Survives s s (λ (db : Trees). ⊥)
+survives_self s = record { clean = omega arith; shield = λ h. h; counts = omega arith; limit = refl; closes = λ clean opened. inl opened; crash = λ clean db may. inl may }
+
+module _ {S : Type 0} (g : Ghosts S) where
+  -- a call hands on the refusal of a part of it, and is seen as its connection
+  pub failed_at : {T : Type 0} (call : Result T StoreFault → StoreCall) (inside now new : Held S) → inside ≡ now → (r : Result T StoreFault) (e : StoreFault) → IsErrAnd r (λ x. x ≡ e)
+      → Serves (results g) (call (Err e)) inside new → Serves (results g) (call r) now new
+  failed_at call inside now new is (Ok x) e h s = absurd h
+  failed_at call inside now new is (Err fault) e h s = subst (λ o. Serves (results g) (call (Err fault)) o new) is (subst (λ f. Serves (results g) (call (Err f)) inside new) (sym h) s)
+
+  pub seen_at : (call : StoreCall) (inside now new : Held S) → inside ≡ now → Serves (results g) call inside new → Serves (results g) call now new
+  seen_at call inside now new is s = subst (λ o. Serves (results g) call o new) is s
+
+-- calls of which a part only reads
+module _ {S : Type 0} (g : Ghosts S) (old new : Held S) (kept : KeepsRuns g old new) (only : OnlyReads g old new) where
+  early : (runs : List Run) → StandsFor (state g old) runs → HasCleanDisk (state g new) → HasCleanDisk (state g old)
+  early runs has clean = omega (arith, clean, (only runs has).clean)
+
+  unwritten : (change runs : List Run) (may : List (List Run)) → StandsFor (state g old) runs → Leaves (state g old) (KeepsOne (runs ∷ may)) → Leaves (state g new) (KeepsOne (runs ∷ change ∷ may))
+  unwritten change runs may has left =
+      survived (state g old) (state g new) change runs may (survives_weaker (state g old) (state g new) (λ _. ⊥) (Keeps change) (λ _ db none. absurd none) (only runs has)) left
+
+  module _ (fault : StoreFault) where
+    -- one that is refused before it writes
+    pub begin_refused : (total moment : ℕ) → ((runs : List Run) → StandsFor (state g old) runs → HasCleanDisk (state g new) → Agrees runs (Began total moment (Err fault))) → Serves (results g) (Began total moment (Err fault)) old new
+    begin_refused total moment why = record {
+      asked = tt;
+      stands = λ runs h. (kept runs h.0, h.1);
+      earlier = λ runs h clean. early runs h.0 clean;
+      agrees = λ runs h clean. why runs h.0 clean;
+      crash = λ runs may h l. unwritten (runs ++ new_run runs total moment ∷ []) runs may h.0 l;
+    }
+
+    pub put_refused : (number : ℕ) (e : Entry) → ((runs : List Run) → StandsFor (state g old) runs → HasCleanDisk (state g new) → Agrees runs (Put number e (Err fault))) → Serves (results g) (Put number e (Err fault)) old new
+    put_refused number e why = record {
+      asked = tt;
+      stands = λ runs h. (kept runs h.0, h.1);
+      earlier = λ runs h clean. early runs h.0 clean;
+      agrees = λ runs h clean. why runs h.0 clean;
+      crash = λ runs may h l. unwritten (with_entry number e runs) runs may h.0 l;
+    }
+
+    pub finish_refused : (number : ℕ) → ((runs : List Run) → StandsFor (state g old) runs → HasCleanDisk (state g new) → Agrees runs (Finished number (Err fault))) → Serves (results g) (Finished number (Err fault)) old new
+    finish_refused number why = record {
+      asked = tt;
+      stands = λ runs h. (kept runs h.0, h.1);
+      earlier = λ runs h clean. early runs h.0 clean;
+      agrees = λ runs h clean. why runs h.0 clean;
+      crash = λ runs may h l. unwritten (finish number runs) runs may h.0 l;
+    }
+
+  -- one that reads
+  pub heads_read : (answer : Result (List RunHead) StoreFault) → ((runs : List Run) → StandsFor (state g old) runs → HasCleanDisk (state g new) → Agrees runs (Heads answer)) → Serves (results g) (Heads answer) old new
+  heads_read answer why = record {
+    asked = tt;
+    stands = λ runs h. (kept runs h.0, h.1);
+    earlier = λ runs h clean. early runs h.0 clean;
+    agrees = λ runs h clean. why runs h.0 clean;
+    crash = λ runs may h l. untouched (state g old) (state g new) may (only runs h.0) l;
+  }
+
+  pub entries_read : (number : ℕ) (answer : Result (List Entry) StoreFault) → ((runs : List Run) → StandsFor (state g old) runs → HasCleanDisk (state g new) → Agrees runs (Read number answer)) → Serves (results g) (Read number answer) old new
+  entries_read number answer why = record {
+    asked = tt;
+    stands = λ runs h. (kept runs h.0, h.1);
+    earlier = λ runs h clean. early runs h.0 clean;
+    agrees = λ runs h clean. why runs h.0 clean;
+    crash = λ runs may h l. untouched (state g old) (state g new) may (only runs h.0) l;
+  }
+
+-- two parts that read
+module _ {S : Type 0} (g : Ghosts S) (old mid new : Held S) (kept : KeepsRuns g old mid) (only : OnlyReads g old mid) where
+  pub keeps_then : KeepsRuns g mid new → KeepsRuns g old new
+  keeps_then more runs has = more runs (kept runs has)
+
+  pub reads_then : OnlyReads g mid new → OnlyReads g old new
+  reads_then more runs has = survives_then (state g old) (state g mid) (state g new) (λ _. ⊥) (λ _. ⊥) (λ _. ⊥) (λ _ db none. none) (λ _ db none. none) (only runs has) (more runs (kept runs has))
+
+  -- a part that reads, and one that writes
+  module _ (Allowed : List Run → Type 0) (change : List Run → List Run) (allowed : (runs : List Run) → StandsFor (state g old) runs → HasCleanDisk (state g mid) → Allowed runs) (may_change : MayChange g mid new Allowed change) where
+    second : (runs : List Run) → StandsFor (state g old) runs → Survives (state g mid) (state g new) (Keeps (change runs))
+    second runs has = may_change runs (kept runs has) (allowed runs has)
+
+    pub mid_clean : (runs : List Run) → StandsFor (state g old) runs → HasCleanDisk (state g new) → HasCleanDisk (state g mid)
+    mid_clean runs has clean = omega (arith, clean, (second runs has).clean)
+
+    old_clean : (runs : List Run) → StandsFor (state g old) runs → HasCleanDisk (state g new) → HasCleanDisk (state g old)
+    old_clean runs has clean = omega (arith, mid_clean runs has clean, (only runs has).clean)
+
+    written : (runs : List Run) (may : List (List Run)) → StandsFor (state g old) runs → Leaves (state g old) (KeepsOne (runs ∷ may)) → Leaves (state g new) (KeepsOne (runs ∷ change runs ∷ may))
+    written runs may has left =
+        survived (state g old) (state g new) (change runs) runs may
+        (survives_then (state g old) (state g mid) (state g new) (λ _. ⊥) (Keeps (change runs)) (Keeps (change runs)) (λ _ db none. absurd none) (λ _ db it. it) (only runs has) (second runs has)) left
+
+    lasting : ChangesForGood g mid new Allowed change → (runs : List Run) → StandsFor (state g old) runs → Leaves (state g new) (KeepsOne (change runs ∷ []))
+    lasting durable runs has clean trees may = inl (durable runs (kept runs has) (allowed runs has) clean trees may)
+
+    done : Changes g mid new Allowed change → (runs : List Run) → StandsFor (state g old) runs → StandsFor (state g new) (change runs)
+    done changes runs has = changes runs (kept runs has) (allowed runs has)
+
+-- a run is begun after a look
+module _ {S : Type 0} (g : Ghosts S) (old mid new : Held S) (kept : KeepsRuns g old mid) (only : OnlyReads g old mid) (total moment : ℕ)
+    (room : (runs : List Run) → StandsFor (state g old) runs → HasCleanDisk (state g mid) → length runs < last_run) (may_change : MayChange g mid new (λ runs. length runs < last_run) (λ runs. runs ++ new_run runs total moment ∷ [])) where
+  pub begin_done : (number : ℕ) → Changes g mid new (λ runs. length runs < last_run) (λ runs. runs ++ new_run runs total moment ∷ []) → ChangesForGood g mid new (λ runs. length runs < last_run) (λ runs. runs ++ new_run runs total moment ∷ [])
+      → ((runs : List Run) → StandsFor (state g old) runs → HasCleanDisk (state g new) → number ≡ suc (length runs)) → Serves (results g) (Began total moment (Ok number)) old new
+  begin_done number changes durable is = record {
+    asked = tt;
+    stands = λ runs h. (done g old mid new kept only _ _ room may_change changes runs h.0, numbers_new runs total moment h.1);
+    earlier = λ runs h clean. old_clean g old mid new kept only _ _ room may_change runs h.0 clean;
+    agrees = λ runs h clean. (is runs h.0 clean, room runs h.0 (mid_clean g old mid new kept only _ _ room may_change runs h.0 clean));
+    crash = λ runs may h. lasting g old mid new kept only _ _ room may_change durable runs h.0;
+  }
+
+  pub begin_failed : (fault : StoreFault) → IsStoreFault fault → KeepsRuns g mid new → Serves (results g) (Began total moment (Err fault)) old new
+  begin_failed fault failed more = record {
+    asked = tt;
+    stands = λ runs h. (more runs (kept runs h.0), h.1);
+    earlier = λ runs h clean. old_clean g old mid new kept only _ _ room may_change runs h.0 clean;
+    agrees = λ runs h clean. inl failed;
+    crash = λ runs may h l. written g old mid new kept only _ _ room may_change runs may h.0 l;
+  }
+
+-- an entry is put after a look
+module _ {S : Type 0} (g : Ghosts S) (old mid new : Held S) (kept : KeepsRuns g old mid) (only : OnlyReads g old mid) (number : ℕ) (e : Entry) (Fits : List Run → Type 0)
+    (fits : (runs : List Run) → StandsFor (state g old) runs → HasCleanDisk (state g mid) → (put_refusal runs number e ≡ None) × Fits runs) (may_change : MayChange g mid new Fits (with_entry number e)) where
+  may : (runs : List Run) → StandsFor (state g old) runs → HasCleanDisk (state g mid) → Fits runs
+  may runs has clean = (fits runs has clean).1
+
+  pub put_done : Changes g mid new Fits (with_entry number e) → ChangesForGood g mid new Fits (with_entry number e) → Serves (results g) (Put number e (Ok tt)) old new
+  put_done changes durable = record {
+    asked = tt;
+    stands = λ runs h. (done g old mid new kept only _ _ may may_change changes runs h.0, numbers_entry number e 1 runs h.1);
+    earlier = λ runs h clean. old_clean g old mid new kept only _ _ may may_change runs h.0 clean;
+    agrees = λ runs h clean. (fits runs h.0 (mid_clean g old mid new kept only _ _ may may_change runs h.0 clean)).0;
+    crash = λ runs others h. lasting g old mid new kept only _ _ may may_change durable runs h.0;
+  }
+
+  pub put_failed : (fault : StoreFault) → IsStoreFault fault → KeepsRuns g mid new → Serves (results g) (Put number e (Err fault)) old new
+  put_failed fault failed more = record {
+    asked = tt;
+    stands = λ runs h. (more runs (kept runs h.0), h.1);
+    earlier = λ runs h clean. old_clean g old mid new kept only _ _ may may_change runs h.0 clean;
+    agrees = λ runs h clean. inl failed;
+    crash = λ runs others h l. written g old mid new kept only _ _ may may_change runs others h.0 l;
+  }
+
+-- a run is finished after a look
+module _ {S : Type 0} (g : Ghosts S) (old mid new : Held S) (kept : KeepsRuns g old mid) (only : OnlyReads g old mid) (number : ℕ) (Fits : List Run → Type 0)
+    (fits : (runs : List Run) → StandsFor (state g old) runs → HasCleanDisk (state g mid) → (finish_refusal runs number ≡ None) × Fits runs) (may_change : MayChange g mid new Fits (finish number)) where
+  can : (runs : List Run) → StandsFor (state g old) runs → HasCleanDisk (state g mid) → Fits runs
+  can runs has clean = (fits runs has clean).1
+
+  pub finish_done : Changes g mid new Fits (finish number) → ChangesForGood g mid new Fits (finish number) → Serves (results g) (Finished number (Ok tt)) old new
+  finish_done changes durable = record {
+    asked = tt;
+    stands = λ runs h. (done g old mid new kept only _ _ can may_change changes runs h.0, numbers_finish number 1 runs h.1);
+    earlier = λ runs h clean. old_clean g old mid new kept only _ _ can may_change runs h.0 clean;
+    agrees = λ runs h clean. (fits runs h.0 (mid_clean g old mid new kept only _ _ can may_change runs h.0 clean)).0;
+    crash = λ runs others h. lasting g old mid new kept only _ _ can may_change durable runs h.0;
+  }
+
+  pub finish_failed : (fault : StoreFault) → IsStoreFault fault → KeepsRuns g mid new → Serves (results g) (Finished number (Err fault)) old new
+  finish_failed fault failed more = record {
+    asked = tt;
+    stands = λ runs h. (more runs (kept runs h.0), h.1);
+    earlier = λ runs h clean. old_clean g old mid new kept only _ _ can may_change runs h.0 clean;
+    agrees = λ runs h clean. inl failed;
+    crash = λ runs others h l. written g old mid new kept only _ _ can may_change runs others h.0 l;
+  }

@@ -1,0 +1,27 @@
+use Rattle.std.specs.Prelude.{Ok}
+use Rattle.std.proofs.Common.{inl, refl}
+use Rattle.kt_store.specs.StoreCalls.{Put}
+use Rattle.kt_store.specs.Inner.Runs.{CanAdd}
+use Rattle.kt_store.proofs.ServeLemmas.{failed_at, seen_at, survives_self, put_refused, put_done, put_failed}
+use Rattle.kt_store.proofs.FaultLemmas.{starved}
+use Rattle.kt_store.proofs.results.ResultsResultStore.put.Goals as goal
+
+pub returns-in_err-reason : goal.returns-in_err-reason
+returns-in_err-reason g c =
+    failed_at g.S.Store (λ r. Put c.args.run c.args.entry.now r) c.args.self.now c.args.self.now c.args.self.now refl c.from_residual.result c.in_err-reason.field-0.0 c.from_residual.ensures.1
+    (put_refused g.S.Store c.args.self.now c.args.self.now (λ runs has. has) (λ runs has. survives_self _) _ c.args.run c.args.entry.now (λ runs has clean. inl (starved _ c.in_err-reason.ensures.failed)))
+
+pub returns-in_err-check : goal.returns-in_err-check
+returns-in_err-check g c =
+    failed_at g.S.Store (λ r. Put c.args.run c.args.entry.now r) c.self.inside.conn c.args.self.now c.check.new.conn c.self.view_is c.from_residual-in_err-check.result c.in_err-check.field-0.0 c.from_residual-in_err-check.ensures.1
+    (put_refused g.S.Store c.self.inside.conn c.check.new.conn c.check.ensures.stands c.check.ensures.crash _ c.args.run c.args.entry.now (λ runs has clean. c.in_err-check.ensures.refused runs has clean))
+
+pub returns-in_err-add_entry : goal.returns-in_err-add_entry
+returns-in_err-add_entry g c =
+    failed_at g.S.Store (λ r. Put c.args.run c.args.entry.now r) c.self.inside.conn c.args.self.now c.add_entry.new.conn c.self.view_is c.from_residual-in_err-add_entry.result c.in_err-add_entry.field-0.0 c.from_residual-in_err-add_entry.ensures.1
+    (put_failed g.S.Store c.self.inside.conn c.check.new.conn c.add_entry.new.conn c.check.ensures.stands c.check.ensures.crash c.args.run c.args.entry.now (CanAdd c.args.run c.args.entry.now) (λ runs has clean. c.in_ok-check.ensures.taken runs has clean c.in_ok-reason.ensures.sound) c.add_entry.ensures.crash _ c.in_err-add_entry.ensures.failed c.in_err-add_entry.ensures.kept)
+
+pub returns : goal.returns
+returns g c =
+    seen_at g.S.Store (Put c.args.run c.args.entry.now (Ok tt)) c.self.inside.conn c.args.self.now c.add_entry.new.conn c.self.view_is
+    (put_done g.S.Store c.self.inside.conn c.check.new.conn c.add_entry.new.conn c.check.ensures.stands c.check.ensures.crash c.args.run c.args.entry.now (CanAdd c.args.run c.args.entry.now) (λ runs has clean. c.in_ok-check.ensures.taken runs has clean c.in_ok-reason.ensures.sound) c.add_entry.ensures.crash c.in_ok-add_entry.ensures.added c.in_ok-add_entry.ensures.durable)

@@ -1,0 +1,42 @@
+-- What taking the tables of a database does, by what the database was.
+use Rattle.std.specs.Prelude.{◌≡◌, ◌≢◌, ◌⊎◌, ℤ, pos, List, [], IsTrue, ⊤}
+use Rattle.sqlite.specs.State.{State, HasCleanDisk, Survives}
+use Rattle.kt_base.specs.declared.run.Run.{Run}
+use Rattle.kt_store.specs.Ask.{Rests, IsStoreFault}
+use Rattle.kt_store.specs.Runs.{Keeps, KeepsEither}
+use Rattle.kt_store.specs.Stands.{StandsFor, StandsInOld, IsEmpty, SaysSchema, HasTables, Leaves}
+use Rattle.kt_store.specs.declared.store_fault.StoreFault.{StoreFault}
+
+-- a database without tables, one of schema 2 or of schema 1 with these runs, or one whose tables say a number, whatever they hold
+pub data Was : Type 0 where
+  Blank : Was
+  Current : (runs : List Run) → Was
+  Older : (runs : List Run) → Was
+  Numbered : (n : ℤ) → Was
+
+-- the database is such a one
+abbrev pub IsOf : Was → State → Type 0
+IsOf Blank s = IsEmpty s
+IsOf (Current runs) s = StandsFor s runs
+IsOf (Older runs) s = StandsInOld s runs
+IsOf (Numbered n) s = SaysSchema n s
+
+-- it is taken: its tables stand for its runs, which are all that a crash leaves now; a crash meanwhile leaves what it left before or, where tables
+-- are made, these runs in them. No number is taken but 1 and 2, and only with tables that a store can query
+abbrev pub Takes : Was → State → State → Type 0
+Takes Blank old new = StandsFor new [] × Leaves new (Keeps []) × Survives old new (Keeps [])
+Takes (Current runs) old new = StandsFor new runs × Leaves new (Keeps runs) × Survives old new (λ _. ⊥)
+Takes (Older runs) old new = StandsFor new runs × Leaves new (Keeps runs) × Survives old new (Keeps runs)
+Takes (Numbered n) old new = HasCleanDisk new → ((n ≡ pos 1) ⊎ (n ≡ pos 2)) × HasTables n old
+
+-- it is refused, and is as it was; if the connection was open, a crash leaves its runs, in schema 1 or 2 where they were in schema 1
+abbrev pub Refuses : Was → State → State → StoreFault → Type 0
+Refuses Blank old new fault = IsEmpty new × Survives old new (Keeps []) × (HasCleanDisk new → IsStoreFault fault)
+Refuses (Current runs) old new fault = StandsFor new runs × Survives old new (λ _. ⊥) × (HasCleanDisk new → IsStoreFault fault) × (IsTrue old.is_open → Leaves new (Keeps runs))
+Refuses (Older runs) old new fault = StandsInOld new runs × Survives old new (Keeps runs) × (HasCleanDisk new → IsStoreFault fault) × (IsTrue old.is_open → Leaves new (KeepsEither runs))
+Refuses (Numbered n) old new fault = n ≢ pos 1 → (HasCleanDisk new → Rests old new) × Survives old new (λ _. ⊥)
+
+-- tables that say a number
+abbrev pub HasNumber : Was → Type 0
+HasNumber Blank = ⊥
+HasNumber _ = ⊤

@@ -1,0 +1,34 @@
+-- The statements of the calls that write more than one.
+use Rattle.std.specs.Prelude.{ℕ, suc, nat_le, if◌then◌else◌, List, [], ◌∷◌}
+use Rattle.sqlite.specs.Order.{Row}
+use Rattle.kt_base.specs.Limits.{last_run}
+use Rattle.kt_base.specs.declared.entry.Entry.{Entry}
+use Rattle.kt_base.specs.declared.variable.Variable.{Variable}
+use Rattle.kt_store.specs.Runs.{entry_row, pair_row}
+use Rattle.kt_store.specs.Tables.{put_text, pair_text, create_meta, create_runs, create_entries, create_props, mark_text, raise_text}
+
+-- a text of SQL and the values of its parameters
+abbrev pub Statement : Type 0
+Statement = List ℕ × Row
+
+-- these pairs are put, by place from this one on
+abbrev pub pair_statements : ℕ → ℕ → ℕ → List Variable → List Statement
+pair_statements run position place [] = []
+pair_statements run position place (v ∷ pairs) = (pair_text, pair_row run position place v) ∷ pair_statements run position (suc place) pairs
+
+-- an entry and its pairs are put
+abbrev pub entry_statements : ℕ → Entry → List Statement
+entry_statements run e = (put_text, entry_row run e) ∷ pair_statements run e.position 0 e.meta
+
+-- statements without parameters
+abbrev pub plain_statements : List (List ℕ) → List Statement
+plain_statements [] = []
+plain_statements (sql ∷ others) = (sql, []) ∷ plain_statements others
+
+-- the tables are made
+abbrev pub make_statements : List Statement
+make_statements = plain_statements (create_meta ∷ create_runs ∷ create_entries ∷ create_props ∷ mark_text ∷ [])
+
+-- the tables of schema 1 become those of schema 2
+abbrev pub raise_statements : List Statement
+raise_statements = plain_statements (create_props ∷ raise_text ∷ [])

@@ -1,0 +1,55 @@
+-- What a call of a store does to its runs, by its answer.
+use Rattle.std.specs.Prelude.{ℕ, suc, List, [], ◌∷◌, ◌++◌, ◌≡◌, ◌<◌, ◌≤◌, ◌⊎◌, Some, None, Ok, Err, length, map}
+use Rattle.kt_base.specs.Limits.{last_run}
+use Rattle.kt_base.specs.declared.run.Run.{Run}
+use Rattle.kt_store.specs.Ask.{IsStoreFault}
+use Rattle.kt_store.specs.Heads.{head_of}
+use Rattle.kt_store.specs.Runs.{new_run, run_at, with_entry, put_refusal, finish, finish_refusal}
+use Rattle.kt_store.specs.StoreCalls.{StoreCall, Began, Put, Finished, Heads, Read}
+use Rattle.kt_store.specs.declared.keeping.Keeping as store
+use Rattle.kt_store.specs.declared.store_fault.StoreFault.TheVariants.{StoreFull, NoRun}
+
+-- the runs after a call: one that is refused changes nothing
+abbrev pub changed_by : StoreCall → List Run → List Run
+changed_by (Began total moment (Ok number)) runs = runs ++ new_run runs total moment ∷ []
+changed_by (Began total moment (Err fault)) runs = runs
+changed_by (Put number e (Ok done)) runs = with_entry number e runs
+changed_by (Put number e (Err fault)) runs = runs
+changed_by (Finished number (Ok done)) runs = finish number runs
+changed_by (Finished number (Err fault)) runs = runs
+changed_by (Heads answer) runs = runs
+changed_by (Read number answer) runs = runs
+
+-- a call's answer agrees with the runs before it
+abbrev pub Agrees : List Run → StoreCall → Type 0
+Agrees runs (Began total moment (Ok number)) = (number ≡ suc (length runs)) × (length runs < last_run)
+Agrees runs (Began total moment (Err fault)) = IsStoreFault fault ⊎ ((fault ≡ StoreFull) × (last_run ≤ length runs))
+Agrees runs (Put number e (Ok done)) = put_refusal runs number e ≡ None
+Agrees runs (Put number e (Err fault)) = IsStoreFault fault ⊎ (put_refusal runs number e ≡ Some fault)
+Agrees runs (Finished number (Ok done)) = finish_refusal runs number ≡ None
+Agrees runs (Finished number (Err fault)) = IsStoreFault fault ⊎ (finish_refusal runs number ≡ Some fault)
+Agrees runs (Heads (Ok heads)) = heads ≡ map head_of runs
+Agrees runs (Heads (Err fault)) = IsStoreFault fault
+Agrees runs (Read number (Ok entries)) = (run' : Run) × (run_at runs number ≡ Some run') × (entries ≡ run'.entries)
+Agrees runs (Read number (Err fault)) = IsStoreFault fault ⊎ ((fault ≡ NoRun) × (run_at runs number ≡ None))
+
+-- after a call that was done and writes, a crash leaves its runs alone; after one that was refused, what it left before or the runs with its
+-- change; after one that reads, what it left before
+abbrev pub Outlasts : {R : Type 0} → (R → List (List Run) → Type 0) → StoreCall → List Run → List (List Run) → R → R → Type 0
+Outlasts Leaves (Began total moment (Ok number)) runs may old new = Leaves new ((runs ++ new_run runs total moment ∷ []) ∷ [])
+Outlasts Leaves (Began total moment (Err fault)) runs may old new = Leaves old (runs ∷ may) → Leaves new (runs ∷ (runs ++ new_run runs total moment ∷ []) ∷ may)
+Outlasts Leaves (Put number e (Ok done)) runs may old new = Leaves new (with_entry number e runs ∷ [])
+Outlasts Leaves (Put number e (Err fault)) runs may old new = Leaves old (runs ∷ may) → Leaves new (runs ∷ with_entry number e runs ∷ may)
+Outlasts Leaves (Finished number (Ok done)) runs may old new = Leaves new (finish number runs ∷ [])
+Outlasts Leaves (Finished number (Err fault)) runs may old new = Leaves old (runs ∷ may) → Leaves new (runs ∷ finish number runs ∷ may)
+Outlasts Leaves (Heads answer) runs may old new = Leaves old may → Leaves new may
+Outlasts Leaves (Read number answer) runs may old new = Leaves old may → Leaves new may
+
+-- a store serves a call with this answer: whatever runs it stood for, it stands for the changed runs; if it is sound then, it was so before, and
+-- the answer agrees with the runs
+pub record Serves {R : Type 0} (r : store.Ghosts R) (call : StoreCall) (old new : R) : Type 0 where
+  pub asked : r.answers old call new
+  pub stands : (runs : List Run) → r.stands old runs → r.stands new (changed_by call runs)
+  pub earlier : (runs : List Run) → r.stands old runs → r.sound new → r.sound old
+  pub agrees : (runs : List Run) → r.stands old runs → r.sound new → Agrees runs call
+  pub crash : (runs : List Run) (may : List (List Run)) → r.stands old runs → Outlasts r.leaves call runs may old new
