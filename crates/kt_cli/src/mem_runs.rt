@@ -1,6 +1,6 @@
 use crate::copies::{copy_of_entries, copy_of_entry};
 use kt_base::{Entry, Items, NoMemory, Run};
-use kt_store::{ResultStore, RunHead, StoreFault};
+use kt_store::{Keeping, ResultStore, RunHead, StoreFault};
 use std::alloc::Global;
 use std::marker::Model;
 use std::mem;
@@ -134,7 +134,7 @@ impl MemRuns {
     }
 }
 
-impl ResultStore for MemRuns {
+impl Keeping for MemRuns {
     ghost use Rattle.std.specs.Prelude.{◌≡◌, ⊤};
     ghost use Rattle.kt_store.specs.Runs.{AreNumbered};
 
@@ -148,6 +148,10 @@ impl ResultStore for MemRuns {
     // A crash leaves nothing of them, so it leaves no others.
     ghost leaves = { λ m may. ⊤ };
 
+    ghost numbered = { λ m runs h. h.1 };
+}
+
+impl ResultStore for MemRuns {
     fn begin(&mut self, total: u32, moment: u64) -> Result<u64, StoreFault> {
         let number = self.add_run(total, moment)?;
         Ok(number)
@@ -172,8 +176,6 @@ impl ResultStore for MemRuns {
         let entries = self.entries_of(run)?;
         Ok(entries)
     }
-
-    ghost numbered = { λ m runs h. h.1 };
 }
 
 ghost use Rattle.std.specs.Prelude.{◌≡◌, ◌≤◌, length, map, insert, OnOk, OnErr, IfOk};

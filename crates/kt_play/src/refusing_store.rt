@@ -1,6 +1,6 @@
 use kt_base::{Entry, NoMemory};
 use kt_cli::MemRuns;
-use kt_store::{ResultStore, RunHead, StoreFault};
+use kt_store::{Keeping, ResultStore, RunHead, StoreFault};
 use sqlite::{Error, ErrorCode};
 use std::alloc::Global;
 
@@ -52,7 +52,7 @@ impl RefusingStore {
     }
 }
 
-impl ResultStore for RefusingStore {
+impl Keeping for RefusingStore {
     ghost use Rattle.std.specs.Prelude.{◌≡◌, ⊤};
     ghost use Rattle.kt_store.specs.Runs.{AreNumbered};
 
@@ -65,6 +65,10 @@ impl ResultStore for RefusingStore {
 
     ghost leaves = { λ s may. ⊤ };
 
+    ghost numbered = { λ s runs h. h.1 };
+}
+
+impl ResultStore for RefusingStore {
     fn begin(&mut self, total: u32, moment: u64) -> Result<u64, StoreFault> {
         if self.refuses() {
             return Err(self.fault());
@@ -104,6 +108,4 @@ impl ResultStore for RefusingStore {
         let entries = self.runs.entries(run)?;
         Ok(entries)
     }
-
-    ghost numbered = { λ s runs h. h.1 };
 }

@@ -1,3 +1,4 @@
+use crate::keeping::Keeping;
 use crate::result_store::ResultStore;
 use crate::results::Results;
 use crate::run_head::RunHead;
@@ -5,7 +6,7 @@ use crate::store_fault::StoreFault;
 use kt_base::Entry;
 use sqlite::Alter;
 
-impl<S: Alter> ResultStore for Results<S> {
+impl<S: Alter> Keeping for Results<S> {
     ghost use Rattle.sqlite.specs.Held.{state};
     ghost use Rattle.sqlite.specs.State.{HasCleanDisk};
     ghost use Rattle.kt_store.specs.Runs.{AreNumbered, KeepsOne};
@@ -20,6 +21,10 @@ impl<S: Alter> ResultStore for Results<S> {
 
     ghost leaves = { λ s may. Leaves (state S.Store s) (KeepsOne may) };
 
+    ghost numbered = { λ s runs h. h.1 };
+}
+
+impl<S: Alter> ResultStore for Results<S> {
     fn begin(&mut self, total: u32, moment: u64) -> Result<u64, StoreFault> {
         self.begin(total, moment)
     }
@@ -39,6 +44,4 @@ impl<S: Alter> ResultStore for Results<S> {
     fn entries(&mut self, run: u64) -> Result<Vec<Entry>, StoreFault> {
         self.entries(run)
     }
-
-    ghost numbered = { λ s runs h. h.1 };
 }

@@ -8,6 +8,7 @@ mod crashes;
 mod entries;
 mod growth;
 mod heads;
+mod keeping;
 mod kept_results;
 mod lookup;
 mod put;
@@ -20,6 +21,7 @@ mod store_fault;
 mod value;
 
 pub use crashes::law_of_crashes;
+pub use keeping::Keeping;
 pub use result_store::ResultStore;
 pub use results::Results;
 pub use run_head::RunHead;

@@ -7,8 +7,8 @@ use Rattle.kt_cli.proofs.sequence.execute_all.Goals as goal
 
 pub loop-command-init : goal.loop-command-init
 loop-command-init g c = record {
-  goes = subst (λ (xs : List Exit). GoesOn g.W.Tree.asks g.W.World.tells g.W.Launcher.starts g.W.Launcher.waits g.R.ResultStore.answers g.R.ResultStore.stands g.R.ResultStore.sound g.R.ResultStore.leaves c.args.commands.now c.args.commands.now c.args.world.now c.args.world.now c.args.results.now c.args.results.now (g.O.Write.contents c.args.out.now) (g.O.Write.contents c.args.out.now) xs)
-      (sym c.in_ok-exits.ensures.items) (goes_first g.W.Tree.asks g.W.World.tells g.W.Launcher.starts g.W.Launcher.waits g.R.ResultStore.answers g.R.ResultStore.stands g.R.ResultStore.sound g.R.ResultStore.leaves _ _ _ _);
+  goes = subst (λ (xs : List Exit). GoesOn g.W.Tree.asks g.W.World.tells g.W.Launcher.starts g.W.Launcher.waits g.R.Keeping.answers g.R.Keeping.stands g.R.Keeping.sound g.R.Keeping.leaves c.args.commands.now c.args.commands.now c.args.world.now c.args.world.now c.args.results.now c.args.results.now (g.O.Write.contents c.args.out.now) (g.O.Write.contents c.args.out.now) xs)
+      (sym c.in_ok-exits.ensures.items) (goes_first g.W.Tree.asks g.W.World.tells g.W.Launcher.starts g.W.Launcher.waits g.R.Keeping.answers g.R.Keeping.stands g.R.Keeping.sound g.R.Keeping.leaves _ _ _ _);
   idle = c.requires;
   room = omega (arith, c.in_ok-exits.ensures.len, c.in_ok-exits.ensures.capacity);
 }
@@ -23,11 +23,11 @@ loop-command-preserved g c =
     let kept : vec_capacity c.loop-command.exits ≤ vec_capacity c.push.new.self = c.push.ensures.capacity in
     let room : vec_len c.push.new.self + length c.in-Some.after.now ≤ vec_capacity c.push.new.self = omega (arith, i.room, shorter, longer, kept) in
     record {
-      goes = subst (λ (xs : List Exit). GoesOn g.W.Tree.asks g.W.World.tells g.W.Launcher.starts g.W.Launcher.waits g.R.ResultStore.answers g.R.ResultStore.stands g.R.ResultStore.sound g.R.ResultStore.leaves c.args.commands.now c.in-Some.after.now c.args.world.now c.execute-exit.new.world c.args.results.now c.execute-exit.new.results (g.O.Write.contents c.args.out.now) (g.O.Write.contents c.execute-exit.new.out) xs)
-          (sym more) (goes_more g.W.Tree.asks g.W.World.tells g.W.Launcher.starts g.W.Launcher.waits g.R.ResultStore.answers g.R.ResultStore.stands g.R.ResultStore.sound g.R.ResultStore.leaves _ _ _ _ _ _ _ _ _ _ _ _ _ _ _ e i.goes c.execute-exit.ensures.did);
+      goes = subst (λ (xs : List Exit). GoesOn g.W.Tree.asks g.W.World.tells g.W.Launcher.starts g.W.Launcher.waits g.R.Keeping.answers g.R.Keeping.stands g.R.Keeping.sound g.R.Keeping.leaves c.args.commands.now c.in-Some.after.now c.args.world.now c.execute-exit.new.world c.args.results.now c.execute-exit.new.results (g.O.Write.contents c.args.out.now) (g.O.Write.contents c.execute-exit.new.out) xs)
+          (sym more) (goes_more g.W.Tree.asks g.W.World.tells g.W.Launcher.starts g.W.Launcher.waits g.R.Keeping.answers g.R.Keeping.stands g.R.Keeping.sound g.R.Keeping.leaves _ _ _ _ _ _ _ _ _ _ _ _ _ _ _ e i.goes c.execute-exit.ensures.did);
       idle = c.execute-exit.ensures.idle;
       room = room;
     }
 
 pub returns-clause-did : goal.returns-clause-did
-returns-clause-did g c = goes_all g.W.Tree.asks g.W.World.tells g.W.Launcher.starts g.W.Launcher.waits g.R.ResultStore.answers g.R.ResultStore.stands g.R.ResultStore.sound g.R.ResultStore.leaves _ _ _ _ _ _ _ _ _ c.in_default.ensures.cases c.loop-command.invariant.goes
+returns-clause-did g c = goes_all g.W.Tree.asks g.W.World.tells g.W.Launcher.starts g.W.Launcher.waits g.R.Keeping.answers g.R.Keeping.stands g.R.Keeping.sound g.R.Keeping.leaves _ _ _ _ _ _ _ _ _ c.in_default.ensures.cases c.loop-command.invariant.goes

@@ -4,12 +4,12 @@ use Rattle.kt_cli.proofs.testing.test.Goals as goal
 
 pub returns-in-Err-clause-did : goal.returns-in-Err-clause-did
 returns-in-Err-clause-did g c =
-    did_told g.W.Tree.asks g.W.World.tells g.W.Launcher.starts g.W.Launcher.waits g.R.ResultStore.answers g.R.ResultStore.stands g.R.ResultStore.sound g.R.ResultStore.leaves _ _ _ _ _ _ _
+    did_told g.W.Tree.asks g.W.World.tells g.W.Launcher.starts g.W.Launcher.waits g.R.Keeping.answers g.R.Keeping.stands g.R.Keeping.sound g.R.Keeping.leaves _ _ _ _ _ _ _
     (stopped_only g.W.Tree.asks g.W.World.tells g.W.Launcher.starts g.W.Launcher.waits _ c.args.options.now _ _ _ _ _ _ c.in-Err.fault refl refl c.in-Err.ensures.selects c.stopped.ensures)
 
 pub returns-in-Err-prepare-clause-did : goal.returns-in-Err-prepare-clause-did
 returns-in-Err-prepare-clause-did g c =
-    did_told g.W.Tree.asks g.W.World.tells g.W.Launcher.starts g.W.Launcher.waits g.R.ResultStore.answers g.R.ResultStore.stands g.R.ResultStore.sound g.R.ResultStore.leaves _ _ _ _ _ _ _
+    did_told g.W.Tree.asks g.W.World.tells g.W.Launcher.starts g.W.Launcher.waits g.R.Keeping.answers g.R.Keeping.stands g.R.Keeping.sound g.R.Keeping.leaves _ _ _ _ _ _ _
     (short_only g.W.Tree.asks g.W.World.tells g.W.Launcher.starts g.W.Launcher.waits _ c.args.options.now _ _ _ _ _ _ _ c.in-Ok.picked c.as_slice.result.now refl refl c.in-Ok.ensures.selects (search rules) c.in-Err-prepare.ensures.planned (printed_memory _ _ _ _ c.write_memory.ensures c.ended.ensures))
 
 pub run_plan-requires-clause-few : goal.run_plan-requires-clause-few
@@ -29,4 +29,4 @@ returns-clause-did g c =
     let a : c.as_slice.result.now ≡ c.in-Ok.picked.chosen.cases = search rules in
     let b : c.as_slice-2.result.now ≡ c.args.options.now.filters = search rules in
     let d : c.as_slice-3.result.now ≡ c.in-Ok.picked.chosen.unmatched = search rules in
-    did_test g.W.Tree.asks g.W.World.tells g.W.Launcher.starts g.W.Launcher.waits g.R.ResultStore.answers g.R.ResultStore.stands g.R.ResultStore.sound g.R.ResultStore.leaves _ _ _ _ _ c.args.options.now c.args.file.now _ _ _ _ _ c.in-Ok.picked c.in-Ok-prepare.plan _ _ _ _ _ a b d c.in-Ok.ensures.selects c.in-Ok-prepare.ensures.planned c.now-moment.ensures.told c.parallelism.ensures.value c.run_plan.ensures.ran
+    did_test g.W.Tree.asks g.W.World.tells g.W.Launcher.starts g.W.Launcher.waits g.R.Keeping.answers g.R.Keeping.stands g.R.Keeping.sound g.R.Keeping.leaves _ _ _ _ _ c.args.options.now c.args.file.now _ _ _ _ _ c.in-Ok.picked c.in-Ok-prepare.plan _ _ _ _ _ a b d c.in-Ok.ensures.selects c.in-Ok-prepare.ensures.planned c.now-moment.ensures.told c.parallelism.ensures.value c.run_plan.ensures.ran

@@ -19,7 +19,7 @@ returns-in-Err-clause-leads g c =
         (
           c.in-Err.fault,
           c.sink_fault.ensures,
-          stored_one g.R.ResultStore.answers g.R.ResultStore.stands g.R.ResultStore.sound g.R.ResultStore.leaves (Put c.args.self.now.number c.args.entry (Err c.in-Err.fault)) _ _ p.asked p.kept p.earlier p.refused p.crash,
+          stored_one g.R.Keeping.answers g.R.Keeping.stands g.R.Keeping.sound g.R.Keeping.leaves (Put c.args.self.now.number c.args.entry (Err c.in-Err.fault)) _ _ p.asked p.kept p.earlier p.refused p.crash,
         ),
         refl,
         refl,
@@ -36,10 +36,10 @@ returns-clause-leads g c =
       refl,
       (
         refl,
-        stored_one g.R.ResultStore.answers g.R.ResultStore.stands g.R.ResultStore.sound g.R.ResultStore.leaves (Put c.args.self.now.number c.args.entry (Ok tt)) _ _ p.asked p.added p.earlier p.allowed (λ runs may h l. p.durable runs h),
+        stored_one g.R.Keeping.answers g.R.Keeping.stands g.R.Keeping.sound g.R.Keeping.leaves (Put c.args.self.now.number c.args.entry (Ok tt)) _ _ p.asked p.added p.earlier p.allowed (λ runs may h l. p.durable runs h),
         c.line_behind-self.ensures,
       ),
     )
 
 pub returns-clause-ok : goal.returns-clause-ok
-returns-clause-ok g c put h = (h.0, subst (λ (rs : List Run). g.R.ResultStore.stands c.put.new.self rs) (sym (put_more c.args.self.now.number put c.args.entry h.0)) (c.in_default.ensures.added _ h.1))
+returns-clause-ok g c put h = (h.0, subst (λ (rs : List Run). g.R.Keeping.stands c.put.new.self rs) (sym (put_more c.args.self.now.number put c.args.entry h.0)) (c.in_default.ensures.added _ h.1))
