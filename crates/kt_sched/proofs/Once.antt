@@ -1,8 +1,9 @@
 -- each position stands in the record order once
 use Rattle.std.specs.Prelude.{slice_get, filter, count_by, map, Option, Some, None, is_some, is_none, not, nat_lt, ◌==◌, ◌&&◌, ◌||◌, if◌then◌else◌}
 use Rattle.std.specs.List.{list_all}
-use Rattle.std.proofs.Common.{◌≡◌, ◌≢◌, ℕ, suc, ◌+◌, ◌≤◌, ◌⊎◌, Bool, true, false, cond, List, [], ◌∷◌, ◌++◌, length, refl, sym, ◌∙◌, ap, subst, arith, inl, inr}
+use Rattle.std.proofs.Common.{◌≡◌, ◌≢◌, ℕ, zero, suc, ◌+◌, ◌≤◌, ◌⊎◌, Bool, true, false, cond, List, [], ◌∷◌, ◌++◌, length, refl, sym, ◌∙◌, ap, subst, arith, inl, inr}
 use Rattle.std.proofs.lemmas.Bool.{cases_eq}
+use Rattle.std.proofs.lemmas.Bool.Decides.{nat_tests}
 use Rattle.std.proofs.lemmas.List.Sums.{length-filter, count_by-le-length}
 use Rattle.kt_base.specs.Verdicts.{Judged}
 use Rattle.kt_sched.specs.declared.job.Job.{Job}
@@ -166,6 +167,43 @@ count_all {X} (x ∷ xs) = omega (arith, count-cons (λ (y : X). true) x xs, cou
 -- there are no more records than cases
 pub recorded_most : (plan : List Job) (n : ℕ) (T : Trace) → Recorded plan n T → length (recorded plan n T) ≤ length plan
 recorded_most plan n T r = omega (arith, count_all (recorded plan n T), r (λ i. true), count_by-le-length (λ (job : Job). true && is_done plan n T job) plan)
+
+-- a test that holds nowhere
+count_none : (f : Job → Bool) (jobs : List Job) → ((k : ℕ) (job : Job) → slice_get jobs k ≡ Some job → f job ≡ true → ⊥) → count_by f jobs ≡ 0
+count_none f [] h = refl
+count_none f (x ∷ xs) h = by (f x) refl (count_none f xs (λ k job g t. h (suc k) job g t))
+  where
+    by : (b : Bool) → f x ≡ b → count_by f xs ≡ 0 → count_by f (x ∷ xs) ≡ 0
+    by true e more = absurd (h 0 x refl e)
+    by false e more = omega (arith, count-cons f x xs, ap (λ (b : Bool). cond {A = ℕ} b 1 0) e, more)
+
+-- and one that holds of one position at most
+count_one : (f : Job → Bool) (jobs : List Job) (i : ℕ) → ((k : ℕ) (job : Job) → slice_get jobs k ≡ Some job → f job ≡ true → k ≡ i) → count_by f jobs ≤ 1
+count_one f [] i h = omega arith
+count_one f (x ∷ xs) zero h = omega (arith, count-cons f x xs, by (f x) (count_none f xs (λ k job g t. absurd (omega (arith, h (suc k) job g t)))))
+  where
+    by : (b : Bool) → count_by f xs ≡ 0 → cond {A = ℕ} b 1 0 + count_by f xs ≤ 1
+    by true more = omega (arith, more)
+    by false more = omega (arith, more)
+count_one f (x ∷ xs) (suc i) h = by (f x) refl (count_one f xs i (λ k job g t. omega (arith, h (suc k) job g t)))
+  where
+    by : (b : Bool) → f x ≡ b → count_by f xs ≤ 1 → count_by f (x ∷ xs) ≤ 1
+    by true e more = absurd (omega (arith, h 0 x refl e))
+    by false e more = omega (arith, count-cons f x xs, ap (λ (b : Bool). cond {A = ℕ} b 1 0) e, more)
+
+-- none is named twice
+pub named_at_most_once : (plan : List Job) (n : ℕ) (T : Trace) → IsPlan plan → Recorded plan n T → (i : ℕ) → count_by (λ p. p == i) (recorded plan n T) ≤ 1
+named_at_most_once plan n T p r i =
+    omega (
+      arith,
+      r (λ k. k == i),
+      count_one (λ (job : Job). (job.position == i) && is_done plan n T job) plan i
+          (λ k job g t. sym (p.placed k job g) ∙ same (job.position) (is_done plan n T job) t),
+    )
+  where
+    same : (k : ℕ) (b : Bool) → ((k == i) && b) ≡ true → k ≡ i
+    same k true t = grind (arith, nat_tests, t)
+    same k false t = grind (arith, nat_tests, t)
 
 -- where every case was due, each is named once
 pub names_once : (plan : List Job) (n : ℕ) (T : Trace) → IsPlan plan → Recorded plan n T → ((i : ℕ) (job : Job) → slice_get plan i ≡ Some job → is_done plan n T job ≡ true) → NamesEachOnce plan (recorded plan n T)

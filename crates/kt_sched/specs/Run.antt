@@ -6,6 +6,8 @@ use Rattle.kt_base.specs.Kinds.{good as is_good}
 use Rattle.kt_sched.specs.declared.job.Job.{Job}
 use Rattle.kt_sched.specs.declared.start_answer.StartAnswer.{StartAnswer}
 use Rattle.kt_sched.specs.declared.ended.Ended.{Ended}
+use Rattle.kt_sched.specs.declared.launcher.Launcher as launcher
+use Rattle.kt_sched.specs.declared.sink.Sink as sink
 use Rattle.kt_sched.specs.declared.sink_fault.SinkFault.{SinkFault}
 use Rattle.kt_sched.specs.declared.totals.Totals.{Totals}
 use Rattle.kt_sched.specs.declared.run_fault.RunFault.{RunFault}
@@ -35,48 +37,51 @@ pub record NamesEachOnce (plan : List Job) (positions : List ℕ) : Type 0 where
   pub all : length positions ≡ length plan
   pub once : (i : ℕ) → i < length plan → count_by (λ p. p == i) positions ≡ 1
 
--- after these entries, the put of the next one failed
-pub record FailedPut {S : Type 0} (puts : S → Entry → Result (Unit {0}) SinkFault → S → Type 0) (plan : List Job) (n : ℕ) (T : Trace) (gained : List Entry) (fault : SinkFault) (before after : S) : Type 0 where
-  pub next : Due
-  pub is_next : slice_get (dues plan n T) (length gained) ≡ Some next
-  pub refused : Entry
-  pub refused_is : IsEntryOf plan T next.position refused
-  pub mid : S
-  pub gains : Gains puts gained before mid
-  pub fails : puts mid refused (Err fault) after
-
--- no put failed: the trace is legal, and the sink gained the entry of each case, in record order
-pub record RanWell {S : Type 0} (puts : S → Entry → Result (Unit {0}) SinkFault → S → Type 0) (plan : List Job) (n : ℕ) (T : Trace) (gained : List Entry) (before after : S) (totals : Totals) : Type 0 where
-  pub legal : Legal plan n T
-  pub once : NamesEachOnce plan (recorded plan n T)
-  pub all : length gained ≡ length plan
-  pub gains : Gains puts gained before after
-  pub counts : Counts gained totals
-
--- one put failed, and it was the last; the trace was stopped where its entry was due
-pub record RanShort {S : Type 0} (puts : S → Entry → Result (Unit {0}) SinkFault → S → Type 0) (plan : List Job) (n : ℕ) (T : Trace) (gained : List Entry) (before after : S) (fault : SinkFault) : Type 0 where
-  pub failed : FailedPut puts plan n T gained fault before after
-  pub stopped : Stopped plan n T failed.next.after
-
 -- nothing was started and nothing put
 pub record RanNot {S : Type 0} (T : Trace) (gained : List Entry) (before after : S) : Type 0 where
   pub events : T ≡ NoEvent
   pub entries : gained ≡ []
   pub same : after ≡ before
 
--- what holds at each exit
-abbrev pub EndsAs : {S : Type 0} → (S → Entry → Result (Unit {0}) SinkFault → S → Type 0) → List Job → ℕ → Trace → List Entry → S → S → Result Totals RunFault → Type 0
-EndsAs puts plan n T gained before after (Ok totals) = RanWell puts plan n T gained before after totals
-EndsAs puts plan n T gained before after (Err (SinkFailed fault)) = RanShort puts plan n T gained before after fault
-EndsAs puts plan n T gained before after (Err (NoMemory refusal)) = RanNot T gained before after
+module _ {S : Type 0} (puts : S → Entry → Result (Unit {0}) SinkFault → S → Type 0) where
+  -- after these entries, the put of the next one failed
+  pub record FailedPut (plan : List Job) (n : ℕ) (T : Trace) (gained : List Entry) (fault : SinkFault) (before after : S) : Type 0 where
+    pub next : Due
+    pub is_next : slice_get (dues plan n T) (length gained) ≡ Some next
+    pub refused : Entry
+    pub refused_is : IsEntryOf plan T next.position refused
+    pub mid : S
+    pub gains : Gains puts gained before mid
+    pub fails : puts mid refused (Err fault) after
 
--- at every exit: the launcher's answers as a trace, and the entries that the sink gained, those of the first cases in record order
-pub record Ran {L S : Type 0} (starts : L → Job → Role → StartAnswer → L → Type 0) (waits : L → Ended → L → Type 0) (puts : S → Entry → Result (Unit {0}) SinkFault → S → Type 0) (entries : S → List Entry → Type 0) (plan : List Job) (n : ℕ) (old new : L) (before after : S) (result : Result Totals RunFault) : Type 0 where
-  pub trace : Trace
-  pub leads : Leads starts waits plan trace old new
-  pub fits : Each (FitsAt plan) trace
-  pub calls : (i : ℕ) → length (of i trace) ≤ 4
-  pub gained : List Entry
-  pub are : AreEntries plan trace (take (length gained) (recorded plan n trace)) gained
-  pub kept : (put : List Entry) → entries before put → entries after (put ++ gained)
-  pub ends : EndsAs puts plan n trace gained before after result
+  -- no put failed: the trace is legal, and the sink gained the entry of each case, in record order
+  pub record RanWell (plan : List Job) (n : ℕ) (T : Trace) (gained : List Entry) (before after : S) (totals : Totals) : Type 0 where
+    pub legal : Legal plan n T
+    pub once : NamesEachOnce plan (recorded plan n T)
+    pub all : length gained ≡ length plan
+    pub gains : Gains puts gained before after
+    pub counts : Counts gained totals
+
+  -- one put failed, and it was the last; the trace was stopped where its entry was due
+  pub record RanShort (plan : List Job) (n : ℕ) (T : Trace) (gained : List Entry) (before after : S) (fault : SinkFault) : Type 0 where
+    pub failed : FailedPut plan n T gained fault before after
+    pub stopped : Stopped plan n T failed.next.after
+
+  -- what holds at each exit
+  abbrev pub EndsAs : List Job → ℕ → Trace → List Entry → S → S → Result Totals RunFault → Type 0
+  EndsAs plan n T gained before after (Ok totals) = RanWell plan n T gained before after totals
+  EndsAs plan n T gained before after (Err (SinkFailed fault)) = RanShort plan n T gained before after fault
+  EndsAs plan n T gained before after (Err (NoMemory refusal)) = RanNot T gained before after
+
+module _ {L S : Type 0} (l : launcher.Ghosts L) (s : sink.Ghosts S) where
+  -- at every exit: the launcher's answers as a trace, and the entries that the sink gained, those of the first cases in record order
+  pub record Ran (plan : List Job) (n : ℕ) (old new : L) (before after : S) (result : Result Totals RunFault) : Type 0 where
+    pub trace : Trace
+    pub leads : Leads l.starts l.waits plan trace old new
+    pub fits : Each (FitsAt plan) trace
+    pub calls : (i : ℕ) → length (of i trace) ≤ 4
+    pub once : (i : ℕ) → count_by (λ p. p == i) (recorded plan n trace) ≤ 1
+    pub gained : List Entry
+    pub are : AreEntries plan trace (take (length gained) (recorded plan n trace)) gained
+    pub kept : (put : List Entry) → s.entries before put → s.entries after (put ++ gained)
+    pub ends : EndsAs s.puts plan n trace gained before after result

@@ -31,8 +31,8 @@ pub fn run_cases<L: Launcher, S: Sink>(
     requires plan { IsPlan plan }
     requires width { IsWidth width }
     requires idle { IsIdle (L.running launcher.old) (L.pending launcher.old) }
-    ensures ran { Ran L.starts L.waits S.puts S.entries plan width launcher.old launcher.new
-        sink.old sink.new result }
+    ensures ran { Ran L.Launcher S.Sink plan width launcher.old launcher.new sink.old
+        sink.new result }
     ensures idle { IsIdle (L.running launcher.new) (L.pending launcher.new) }
 {
     let mut sched = Sched::new(alloc, plan, width)?;

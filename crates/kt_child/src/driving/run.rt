@@ -13,7 +13,7 @@ ghost use Rattle.kt_child.specs.Driving.TraceLives.{EachWith, EndsAreTold, ToldA
 use crate::driving::driver::Driver;
 use crate::system::os::Os;
 use kt_base::Items;
-use kt_sched::{Job, RunFault, Sink, Totals, run_cases};
+use kt_sched::{Job, Launcher, RunFault, Sink, Totals, run_cases};
 use std::alloc::Global;
 
 /// Runs the cases of a plan over a driver, at most `width` at once, and puts the entry of each into a sink.
@@ -28,8 +28,8 @@ pub fn run_driver<O: Os + Drop, S: Sink>(
     requires width { IsWidth width }
     requires idle { IsIdle (shown_at driver.old.running.cases)
         (is_among driver.old.running.pending) }
-    ensures ran { Ran (DriverStarts O.leads) (DriverWaits O.leads) S.puts S.entries plan width
-        driver.old driver.new sink.old sink.new result }
+    ensures ran { Ran ⟦<Driver<O> as Launcher>⟧ S.Sink plan width driver.old driver.new
+        sink.old sink.new result }
     ensures told { (T : Trace)
         → Leads (DriverStarts O.leads) (DriverWaits O.leads) plan T driver.old driver.new
         → (calls : List Call) × Chain O.leads driver.old.os calls driver.new.os

@@ -34,7 +34,7 @@ loop-i-init g c = (
 pub returns-in_err-sched-clause-ran : goal.returns-in_err-sched-clause-ran
 returns-in_err-sched-clause-ran g c =
     let p = err_from_is_err_and c.from_residual.result c.from_residual.ensures.1 in
-    rw (p.1, p.2) (ran_not g.L.Launcher.starts g.L.Launcher.waits g.S.Sink.puts g.S.Sink.entries c.args.plan c.args.width c.args.launcher.now c.args.sink.now _)
+    rw (p.1, p.2) (ran_not g.L.Launcher g.S.Sink c.args.plan c.args.width c.args.launcher.now c.args.sink.now _ c.requires.plan)
 
 pub start-told-requires-clause-may : goal.start-told-requires-clause-may
 start-told-requires-clause-may g c =
@@ -206,19 +206,15 @@ returns-in-Done-clause-ran g c =
     let s = c.loop-i.invariant.1 in
     let h = c.loop-i.invariant.2 in
     let k = c.loop-i.invariant.3 in
-    let R = g.L.Launcher.running in
-    let P = g.L.Launcher.pending in
-    let S = g.L.Launcher.starts in
-    let W = g.L.Launcher.waits in
     let U = g.S.Sink.puts in
     let E = g.S.Sink.entries in
     let x = c.in-Done.ensures.next plan n fed s in
     let f = c.in-Done.ensures.follows plan n fed s in
     let K = λ (o : Option SinkFault). Gained U E plan n fed c.loop-i.totals o c.args.sink.now c.loop-i.sink in
-    let T = λ (r : Result Totals RunFault). Ran S W U E plan n c.args.launcher.now c.loop-i.launcher c.args.sink.now c.loop-i.sink r in
+    let T = λ (r : Result Totals RunFault). Ran g.L.Launcher g.S.Sink plan n c.args.launcher.now c.loop-i.launcher c.args.sink.now c.loop-i.sink r in
     elim c.match-fault.branch [
-      | in-None w ↦ subst T (sym w.result-is) (ran_well R P S W U E plan n fed c.loop-i.totals c.args.launcher.now c.loop-i.launcher c.args.sink.now c.loop-i.sink c.requires.plan c.requires.width h x f (subst K w.in-None.is k))
-      | in-Some w ↦ subst T (sym w.result-is) (ran_short R P S W U E plan n fed c.loop-i.totals w.in-Some.cause c.args.launcher.now c.loop-i.launcher c.args.sink.now c.loop-i.sink c.requires.plan h f (subst K w.in-Some.is k))
+      | in-None w ↦ subst T (sym w.result-is) (ran_well g.L.Launcher g.S.Sink plan n fed c.loop-i.totals c.args.launcher.now c.loop-i.launcher c.args.sink.now c.loop-i.sink c.requires.plan c.requires.width h x f (subst K w.in-None.is k))
+      | in-Some w ↦ subst T (sym w.result-is) (ran_short g.L.Launcher g.S.Sink plan n fed c.loop-i.totals w.in-Some.cause c.args.launcher.now c.loop-i.launcher c.args.sink.now c.loop-i.sink c.requires.plan h f (subst K w.in-Some.is k))
     ]
 
 pub returns-in-Done-clause-idle : goal.returns-in-Done-clause-idle
