@@ -111,24 +111,21 @@ rule 'asks for memory of a chosen size' <<'PLACES'
 kt_child/src/driving/running_children.rt: cases.reserve(1)?;
 kt_child/src/driving/running_children.rt: children.reserve(1)?;
 kt_child/src/driving/running_children.rt: pending.reserve(cases.len() + 1)?;
-kt_cli/src/sequence.rt: let mut exits = Vec::with_capacity(alloc, commands.len())?;
+kt_cli/src/execution.rt: let mut exits = Vec::with_capacity(alloc, commands.len())?;
 kt_cli/src/surroundings.rt: let mut room = vec![in rt.alloc(); 0u8; LONGEST_VARIABLE]?;
 PLACES
 
 # A value for which no refused allocation is needed, or a line that tells of one. An arm that takes such a value isn't meant.
-lines '(Refused|SinkFault)::Memory($|[^ ]| [^=])|(write_memory|memory_behind)[(]'
+lines '(Refused|SinkFault)::Memory($|[^ ]| [^=])|write_memory[(]'
 rule 'says that memory ran out' <<'PLACES'
 kt_child/src/starting/refusals.rt: Refused::Memory
-kt_cli/src/behind.rt: write_memory(out)
-kt_cli/src/debugging.rt: Err(RunFault::NoMemory(_refusal)) => ended(memory_behind(written, out), FAILED),
 kt_cli/src/debugging.rt: Err(_) => return ended(write_memory(out), FAILED),
 kt_cli/src/fault_exit.rt: CommandFault::NoMemory(_) => write_memory(out),
 kt_cli/src/fault_exit.rt: DriverFault::NoMemory(_) => write_memory(out),
-kt_cli/src/fault_line.rt: SinkFault::Memory => write_memory(out),
+kt_cli/src/fault_line.rt: RunFault::NoMemory(_) | RunFault::SinkFailed(SinkFault::Memory) => write_memory(out),
 kt_cli/src/fault_line.rt: StoreFault::NoMemory(_) => write_memory(out),
 kt_cli/src/recorder.rt: StoreFault::NoMemory(_) => SinkFault::Memory,
 kt_cli/src/reporting.rt: Err(ReportFault::NoMemory(_)) => ended(write_memory(out), FAILED),
-kt_cli/src/testing.rt: Err(RunFault::NoMemory(_refusal)) => ended(memory_behind(written, out), FAILED),
 kt_cli/src/testing.rt: Err(_) => return ended(write_memory(out), FAILED),
 PLACES
 

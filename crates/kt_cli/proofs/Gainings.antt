@@ -1,8 +1,7 @@
 -- Entries are recorded and told one after the other.
-use Rattle.std.specs.Prelude.{Option, Result, Ok, Err, take}
+use Rattle.std.specs.Prelude.{Option, Result, Ok, Err, count_by, take, ◌==◌, ◌≤◌}
 use Rattle.std.proofs.Common.{◌≡◌, ℕ, Bool, List, [], ◌∷◌, ◌++◌, length, refl, sym, ap, ◌∙◌, subst, append-nil}
 use Rattle.kt_base.specs.declared.entry.Entry.{Entry}
-use Rattle.kt_base.specs.declared.run.Run.{Run}
 use Rattle.kt_report.specs.Lines.{line_bytes}
 use Rattle.kt_sched.specs.declared.job.Job.{Job}
 use Rattle.kt_sched.specs.declared.sink_fault.SinkFault.{SinkFault}
@@ -14,8 +13,9 @@ use Rattle.kt_sched.specs.RecordOrder.{recorded}
 use Rattle.kt_sched.specs.Run.{EndsAs}
 use Rattle.kt_sched.specs.Trace.{Trace}
 use Rattle.kt_store.specs.StoreCalls.{StoreCall, Put}
+use Rattle.kt_store.specs.declared.keeping.Keeping as keeping
 use Rattle.kt_cli.specs.Inner.Pages.{Says}
-use Rattle.kt_cli.specs.Inner.Recording.{Recorded}
+use Rattle.kt_cli.specs.Inner.Recording.{Recorded, Recording}
 use Rattle.kt_cli.specs.Inner.Recordings.{RecordEnds}
 use Rattle.kt_cli.specs.Stores.{Stored, puts}
 use Rattle.kt_cli.specs.Totals.{lines}
@@ -30,19 +30,19 @@ take_all (x ∷ xs) n e = subst (λ (k : ℕ). take k (x ∷ xs) ≡ x ∷ xs) (
 pub all_entries : (plan : List Job) (T : Trace) (positions : List ℕ) (es : List Entry) → length es ≡ length positions → AreEntries plan T (take (length es) positions) es → AreEntries plan T positions es
 all_entries plan T positions es e a = subst (λ (ps : List ℕ). AreEntries plan T ps es) (take_all positions (length es) e) a
 
-module _ {S R : Type 0} (Answers : R → StoreCall → R → Type 0) (Stands : R → List Run → Type 0) (Sound : R → Type 0) (Leaves : R → List (List Run) → Type 0) (gives : S → Entry → Result (Unit {0}) SinkFault → S → Type 0) (store : S → R) (number : S → ℕ) (failed : S → Bool) (held : S → Option (List ℕ)) (name other : S → ℕ)
-    (each : (s t : S) (e : Entry) (r : Result (Unit {0}) SinkFault) → gives s e r t → (name t ≡ name s) × (other t ≡ other s) × Recorded Answers Stands Sound Leaves (number s) (store s) (failed s) (held s) e r (number t) (store t) (failed t) (held t)) where
+module _ {S R : Type 0} (keep : keeping.Ghosts R) (gives : S → Entry → Result (Unit {0}) SinkFault → S → Type 0) (state : S → Recording R) (name other : S → ℕ)
+    (each : (s t : S) (e : Entry) (r : Result (Unit {0}) SinkFault) → gives s e r t → (name t ≡ name s) × (other t ≡ other s) × Recorded keep (state s) e r (state t)) where
   -- what a recorder gained, by its parts
   pub record Gained (es : List Entry) (s t : S) : Type 0 where
     pub same_store : name t ≡ name s
     pub same_out : other t ≡ other s
-    pub same_number : number t ≡ number s
-    pub stored : Stored Answers Stands Sound Leaves (puts (number s) es) (store s) (store t)
-    pub says : Says (held s) (failed s) (held t) (failed t) (lines es)
+    pub same_number : (state t).number ≡ (state s).number
+    pub stored : Stored keep (puts (state s).number es) (state s).store (state t).store
+    pub says : Says (state s).held (state s).failed (state t).held (state t).failed (lines es)
 
   pub gains_all : (es : List Entry) (s t : S) → Gains gives es s t → Gained es s t
   gains_all [] s t g =
-      subst (λ (u : S). Gained [] s u) (sym g) (record { same_store = refl; same_out = refl; same_number = refl; stored = stored_none Answers Stands Sound Leaves (store s); says = tells_nothing (held s) (failed s) })
+      subst (λ (u : S). Gained [] s u) (sym g) (record { same_store = refl; same_out = refl; same_number = refl; stored = stored_none keep (state s).store; says = tells_nothing (state s).held (state s).failed })
   gains_all (e ∷ es) s t g =
       let m = g.0 in
       let p = each s m e (Ok tt) g.1 in
@@ -51,9 +51,9 @@ module _ {S R : Type 0} (Answers : R → StoreCall → R → Type 0) (Stands : R
         same_store = r.same_store ∙ p.0;
         same_out = r.same_out ∙ p.1;
         same_number = r.same_number ∙ p.2.0;
-        stored = stored_both Answers Stands Sound Leaves (Put (number s) e (Ok tt) ∷ []) (puts (number s) es) (store s) (store m) (store t) p.2.1
-            (subst (λ (i : ℕ). Stored Answers Stands Sound Leaves (puts i es) (store m) (store t)) p.2.0 r.stored);
-        says = tells_both (held s) (held m) (held t) (failed s) (failed m) (failed t) (line_bytes e) (lines es) p.2.2 r.says;
+        stored = stored_both keep (Put (state s).number e (Ok tt) ∷ []) (puts (state s).number es) (state s).store (state m).store (state t).store p.2.1
+            (subst (λ (i : ℕ). Stored keep (puts i es) (state m).store (state t).store) p.2.0 r.stored);
+        says = tells_both (state s).held (state m).held (state t).held (state s).failed (state m).failed (state t).failed (line_bytes e) (lines es) p.2.2 r.says;
       }
 
   -- what a recorder did over a whole plan
@@ -61,19 +61,19 @@ module _ {S R : Type 0} (Answers : R → StoreCall → R → Type 0) (Stands : R
     pub same_store : name t ≡ name s
     pub same_out : other t ≡ other s
     pub last : List StoreCall
-    pub stored : Stored Answers Stands Sound Leaves (puts (number s) es ++ last) (store s) (store t)
-    pub says : Says (held s) (failed s) (held t) (failed t) (lines es)
-    pub ends : RecordEnds plan n (number s) T es last answer
+    pub stored : Stored keep (puts (state s).number es ++ last) (state s).store (state t).store
+    pub says : Says (state s).held (state s).failed (state t).held (state t).failed (lines es)
+    pub ends : RecordEnds plan n (state s).number T es last answer
 
   none_gained : (es : List Entry) (s t : S) → es ≡ [] → t ≡ s → Gains gives es s t
   none_gained es s t e f = subst (λ (xs : List Entry). Gains gives xs s t) (sym e) f
 
   -- no put was refused
-  none_refused : (es : List Entry) (s t : S) → Gained es s t → Stored Answers Stands Sound Leaves (puts (number s) es ++ []) (store s) (store t)
-  none_refused es s t g = stored_as Answers Stands Sound Leaves (puts (number s) es) (puts (number s) es ++ []) (store s) (store t) (sym (append-nil (puts (number s) es))) g.stored
+  none_refused : (es : List Entry) (s t : S) → Gained es s t → Stored keep (puts (state s).number es ++ []) (state s).store (state t).store
+  none_refused es s t g = stored_as keep (puts (state s).number es) (puts (state s).number es ++ []) (state s).store (state t).store (sym (append-nil (puts (state s).number es))) g.stored
 
-  pub whole : (plan : List Job) (n : ℕ) (T : Trace) (es : List Entry) (answer : Result Totals RunFault) (s t : S) → AreEntries plan T (take (length es) (recorded plan n T)) es → EndsAs gives plan n T es s t answer → Whole plan n T es answer s t
-  whole plan n T es (Ok totals) s t a e =
+  pub whole : (plan : List Job) (n : ℕ) (T : Trace) (es : List Entry) (answer : Result Totals RunFault) (s t : S) → AreEntries plan T (take (length es) (recorded plan n T)) es → ((i : ℕ) → count_by (λ p. p == i) (recorded plan n T) ≤ 1) → EndsAs gives plan n T es s t answer → Whole plan n T es answer s t
+  whole plan n T es (Ok totals) s t a o e =
       let g = gains_all es s t e.gains in
       record {
         same_store = g.same_store;
@@ -83,10 +83,10 @@ module _ {S R : Type 0} (Answers : R → StoreCall → R → Type 0) (Stands : R
         says = g.says;
         ends = record { all = record { legal = e.legal; once = e.once; are = all_entries plan T (recorded plan n T) es (e.all ∙ sym e.once.all) a }; counts = e.counts; taken = refl };
       }
-  whole plan n T es (Err (NoMemory refusal)) s t a e =
+  whole plan n T es (Err (NoMemory refusal)) s t a o e =
       let g = gains_all es s t (none_gained es s t e.entries e.same) in
       record { same_store = g.same_store; same_out = g.same_out; last = []; stored = none_refused es s t g; says = g.says; ends = record { events = e.events; none = e.entries; taken = refl } }
-  whole plan n T es (Err (SinkFailed fault)) s t a e =
+  whole plan n T es (Err (SinkFailed fault)) s t a o e =
       let f = e.failed in
       let g = gains_all es s f.mid f.gains in
       let p = each f.mid t f.refused (Err fault) f.fails in
@@ -94,9 +94,9 @@ module _ {S R : Type 0} (Answers : R → StoreCall → R → Type 0) (Stands : R
       record {
         same_store = p.0 ∙ g.same_store;
         same_out = p.1 ∙ g.same_out;
-        last = Put (number s) f.refused (Err why) ∷ [];
-        stored = stored_both Answers Stands Sound Leaves (puts (number s) es) (Put (number s) f.refused (Err why) ∷ []) (store s) (store f.mid) (store t) g.stored
-            (subst (λ (i : ℕ). Stored Answers Stands Sound Leaves (Put i f.refused (Err why) ∷ []) (store f.mid) (store t)) g.same_number p.2.1.2);
-        says = subst (λ (b : Bool). Says (held s) (failed s) (held t) b (lines es)) (sym p.2.2) (subst (λ (o : Option (List ℕ)). Says (held s) (failed s) o (failed f.mid) (lines es)) (sym p.2.3) g.says);
-        ends = record { entry = f.refused; refusal = why; told = p.2.1.1; one = refl; stopped = record { due = f.next; next = f.is_next; refused_is = f.refused_is; are = a; stopped = e.stopped } };
+        last = Put (state s).number f.refused (Err why) ∷ [];
+        stored = stored_both keep (puts (state s).number es) (Put (state s).number f.refused (Err why) ∷ []) (state s).store (state f.mid).store (state t).store g.stored
+            (subst (λ (i : ℕ). Stored keep (Put i f.refused (Err why) ∷ []) (state f.mid).store (state t).store) g.same_number p.2.1.2);
+        says = subst (λ (b : Bool). Says (state s).held (state s).failed (state t).held b (lines es)) (sym p.2.2) (subst (λ (o : Option (List ℕ)). Says (state s).held (state s).failed o (state f.mid).failed (lines es)) (sym p.2.3) g.says);
+        ends = record { entry = f.refused; refusal = why; told = p.2.1.1; one = refl; stopped = record { due = f.next; next = f.is_next; refused_is = f.refused_is; are = a; once = o; stopped = e.stopped } };
       }

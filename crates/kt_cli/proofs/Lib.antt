@@ -3,7 +3,6 @@ pub mod Answering
 pub mod ChosenRuns
 pub mod DebugRuns
 pub mod Gainings
-pub mod HostCommands
 pub mod Hosting
 pub mod JoinedPaths
 pub mod LineBytes
@@ -19,4 +18,5 @@ pub mod ShownRuns
 pub mod SoundRuns
 pub mod StoreChains
 pub mod Testings
+pub mod Unrepeated
 pub mod Utf8Sums

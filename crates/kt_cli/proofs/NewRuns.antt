@@ -1,12 +1,12 @@
 -- The run that was begun last.
-use Rattle.std.specs.Prelude.{Some, None, Bool, true, false, slice_get, nat_lt, if◌then◌else◌}
+use Rattle.std.specs.Prelude.{Option, Some, None, Bool, true, false, slice_get, nat_le, nat_lt, if◌then◌else◌}
 use Rattle.std.proofs.Common.{◌≡◌, ℕ, suc, ◌+◌, List, [], ◌∷◌, ◌++◌, length, arith, refl, sym, ap, ◌∙◌}
 use Rattle.std.proofs.lemmas.Bool.Decides.{nat_tests}
 use Rattle.kt_base.specs.declared.entry.Entry.{Entry}
 use Rattle.kt_base.specs.declared.run.Run.{Run}
 use Rattle.kt_store.specs.declared.store_fault.StoreFault.{StoreFault}
-use Rattle.kt_store.specs.declared.store_fault.StoreFault.TheVariants.{Incomplete}
-use Rattle.kt_store.specs.Runs.{AreNumbered, new_run, insert_at, run_at, finish, finish_refusal, finish_refusal_of}
+use Rattle.kt_store.specs.declared.store_fault.StoreFault.TheVariants.{BadPosition, Incomplete, RepeatedPosition}
+use Rattle.kt_store.specs.Runs.{AreNumbered, new_run, insert_at, has_position, run_at, put_refusal, put_refusal_of, finish, finish_refusal, finish_refusal_of}
 use Rattle.kt_cli.specs.SoundStores.{with_new}
 use Rattle.kt_cli.specs.Inner.Stores.{put_all}
 use Rattle.kt_cli.specs.Stores.{put_among, by_position}
@@ -42,10 +42,22 @@ among_length there (e ∷ es) = omega (arith, among_length (insert_at e there) e
 not_less : (n m : ℕ) → n ≡ m → nat_lt n m ≡ false
 not_less n m e = grind (arith, nat_tests)
 
+new_there : (runs : List Run) (number total moment : ℕ) (es : List Entry) → number ≡ suc (length runs) → run_at (with_new runs moment total false es) number ≡ Some (new_one runs moment total false (by_position es))
+new_there runs number total moment es n = ap (λ (k : ℕ). run_at (with_new runs moment total false es) k) n ∙ get_last runs (new_one runs moment total false (by_position es))
+
+-- it takes an entry whose position is below its total and that of no other entry
+pub takes_entry : (runs : List Run) (number total moment : ℕ) (es : List Entry) (e : Entry) (fault : StoreFault) → number ≡ suc (length runs) → nat_le total e.position ≡ false → has_position e.position (by_position es) ≡ false
+    → put_refusal (with_new runs moment total false es) number e ≡ Some fault → ⊥
+takes_entry runs number total moment es e fault n below fresh f =
+    let none : put_refusal (with_new runs moment total false es) number e ≡ None =
+    ap (λ (o : Option Run). put_refusal_of o e) (new_there runs number total moment es n)
+    ∙ ap (λ (b : Bool). if b then Some BadPosition else if has_position e.position (by_position es) then Some RepeatedPosition else None) below
+    ∙ ap (λ (b : Bool). if b then Some RepeatedPosition else None) fresh in
+    let z = sym none ∙ f in absurd (cc)
+
 -- a run that has all its entries may be finished
 pub finishes : (runs : List Run) (number total moment : ℕ) (es : List Entry) (fault : StoreFault) → number ≡ suc (length runs) → length es ≡ total → finish_refusal (with_new runs moment total false es) number ≡ Some fault → ⊥
 finishes runs number total moment es fault n l f =
-    let there : run_at (with_new runs moment total false es) number ≡ Some (new_one runs moment total false (by_position es)) = ap (λ (k : ℕ). run_at (with_new runs moment total false es) k) n ∙ get_last runs (new_one runs moment total false (by_position es)) in
     let none : finish_refusal (with_new runs moment total false es) number ≡ None =
-    ap finish_refusal_of there ∙ ap (λ (b : Bool). if b then Some Incomplete else None) (not_less (length (by_position es)) total (among_length [] es ∙ omega (arith, l))) in
+    ap finish_refusal_of (new_there runs number total moment es n) ∙ ap (λ (b : Bool). if b then Some Incomplete else None) (not_less (length (by_position es)) total (among_length [] es ∙ omega (arith, l))) in
     let z = sym none ∙ f in absurd (cc)

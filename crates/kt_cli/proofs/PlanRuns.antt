@@ -5,33 +5,31 @@ use Rattle.kt_base.specs.Shows.{Shows}
 use Rattle.kt_base.specs.Utf8.{utf8}
 use Rattle.kt_base.specs.declared.entry.Entry.{Entry}
 use Rattle.kt_base.specs.declared.no_memory.NoMemory.{NoMemory as OutOfMemory}
-use Rattle.kt_base.specs.declared.role.Role.{Role}
-use Rattle.kt_base.specs.declared.run.Run.{Run}
-use Rattle.kt_sched.specs.declared.job.Job.{Job}
-use Rattle.kt_sched.specs.declared.start_answer.StartAnswer.{StartAnswer}
-use Rattle.kt_sched.specs.declared.ended.Ended.{Ended}
+use Rattle.kt_sched.specs.declared.launcher.Launcher as launcher
 use Rattle.kt_sched.specs.declared.sink_fault.SinkFault.{SinkFault}
 use Rattle.kt_sched.specs.declared.totals.Totals.{Totals}
 use Rattle.kt_sched.specs.declared.run_fault.RunFault.{RunFault}
 use Rattle.kt_sched.specs.declared.run_fault.RunFault.TheVariants.{NoMemory, SinkFailed}
 use Rattle.kt_sched.specs.Trace.{NoEvent}
 use Rattle.kt_store.specs.StoreCalls.{StoreCall, Began, Put, Finished}
+use Rattle.kt_store.specs.declared.keeping.Keeping as keeping
 use Rattle.kt_store.specs.declared.store_fault.StoreFault.{StoreFault}
 use Rattle.kt_store.specs.declared.store_fault.StoreFault.TheVariants as store
-use Rattle.kt_cli.specs.Inner.FaultLines.{put_line}
+use Rattle.kt_cli.specs.Inner.FaultLines.{run_line}
 use Rattle.kt_cli.specs.FaultLines.{memory_line, refusal_line}
 use Rattle.kt_cli.specs.Inner.Pages.{Says}
 use Rattle.kt_cli.specs.Inner.Recording.{sink_fault_of}
 use Rattle.kt_cli.specs.Inner.Recordings.{Records, RecordEnds, RecordedAll, RecordedSome, RecordedNone}
+use Rattle.kt_cli.specs.Scenes.{Scene, scene}
 use Rattle.kt_cli.specs.Stores.{Stored, puts}
 use Rattle.kt_cli.specs.Inner.Testing.{RanPlan}
-use Rattle.kt_cli.specs.Testing.{ending, exit_of, results, results_exit, recorded as all_recorded, not_begun, not_run, not_put, not_finished}
+use Rattle.kt_cli.specs.Testing.{PlannedRun, begins, ending, exit_of, results, results_exit, recorded as all_recorded, not_begun, not_run, not_put, not_finished}
 use Rattle.kt_cli.specs.Totals.{lines, good_count, bad_count}
 use Rattle.kt_cli.proofs.Saying.{tells_both}
 use Rattle.kt_cli.proofs.StoreChains.{stored_both, stored_as}
 
 -- a refused put is told by the line of the store's own refusal
-put_refusal_line : (fault : StoreFault) → put_line (sink_fault_of fault) ≡ refusal_line fault
+put_refusal_line : (fault : StoreFault) → run_line (SinkFailed (sink_fault_of fault)) ≡ refusal_line fault
 put_refusal_line (store.NoMemory shortage) = refl
 put_refusal_line (store.Store statement) = refl
 put_refusal_line store.NoRun = refl
@@ -42,110 +40,114 @@ put_refusal_line store.UnknownSchema = refl
 put_refusal_line store.BadPosition = refl
 put_refusal_line store.Incomplete = refl
 
-module _ {L R : Type 0} (starts : L → Job → Role → StartAnswer → L → Type 0) (waits : L → Ended → L → Type 0) (Answers : R → StoreCall → R → Type 0) (Stands : R → List Run → Type 0) (Sound : R → Type 0) (Leaves : R → List (List Run) → Type 0)
-    (plan : List Job) (n : ℕ) (words : List (List ℕ)) (unmatched : List ℕ) (moment : ℕ) (old : L) (store : R) (was : Option (List ℕ)) where
+module _ {L R : Type 0} (l : launcher.Ghosts L) (keep : keeping.Ghosts R) (planned : PlannedRun) (old : Scene L R) where
   -- no run was begun
-  pub ran_unbegun : (mid : R) (total : ℕ) (why : StoreFault) (now : Option (List ℕ)) (f : Bool) (exit : ℕ) → total ≡ length plan → Stored Answers Stands Sound Leaves (Began total moment (Err why) ∷ []) store mid
-      → Shows was now f (utf8 (refusal_line why)) → exit ≡ (if f then 2 else 2) → RanPlan starts waits Answers Stands Sound Leaves plan n words unmatched moment old old store mid was now exit
+  pub ran_unbegun : (mid : R) (total : ℕ) (why : StoreFault) (now : Option (List ℕ)) (f : Bool) (exit : ℕ) → total ≡ length planned.plan → Stored keep (Began total planned.moment (Err why) ∷ []) old.store mid
+      → Shows old.held now f (utf8 (refusal_line why)) → exit ≡ (if f then 2 else 2) → RanPlan l keep planned old (scene old.world mid now) exit
   ran_unbegun mid total why now f exit t calls s e = record {
     trace = NoEvent;
     leads = refl;
-    calls = Began (length plan) moment (Err why) ∷ [];
-    stored = stored_as Answers Stands Sound Leaves (Began total moment (Err why) ∷ []) (Began (length plan) moment (Err why) ∷ []) store mid (ap (λ (k : ℕ). Began k moment (Err why) ∷ []) t) calls;
+    calls = begins planned (Err why) ∷ [];
+    stored = stored_as keep (Began total planned.moment (Err why) ∷ []) (begins planned (Err why) ∷ []) old.store mid (ap (λ (k : ℕ). Began k planned.moment (Err why) ∷ []) t) calls;
     bytes = utf8 (refusal_line why);
     due = 2;
     is = inr (not_begun why refl);
     printed = record { failed = f; shows = s; exits = e };
   }
 
-  module _ (new : L) (begun after : R) (number total : ℕ) (mid now : Option (List ℕ)) (f g : Bool) (exit : ℕ) (t : total ≡ length plan) (begins : Stored Answers Stands Sound Leaves (Began total moment (Ok number) ∷ []) store begun) where
+  module _ (new : L) (begun after : R) (number total : ℕ) (mid now : Option (List ℕ)) (f g : Bool) (exit : ℕ) (t : total ≡ length planned.plan) (begin : Stored keep (Began total planned.moment (Ok number) ∷ []) old.store begun) where
     -- calls after the run was begun
-    then_calls : (more : List StoreCall) (last : R) → Stored Answers Stands Sound Leaves more begun last → Stored Answers Stands Sound Leaves (Began (length plan) moment (Ok number) ∷ more) store last
+    then_calls : (more : List StoreCall) (last : R) → Stored keep more begun last → Stored keep (begins planned (Ok number) ∷ more) old.store last
     then_calls more last p =
-        stored_both Answers Stands Sound Leaves (Began (length plan) moment (Ok number) ∷ []) more store begun last
-        (stored_as Answers Stands Sound Leaves (Began total moment (Ok number) ∷ []) (Began (length plan) moment (Ok number) ∷ []) store begun (ap (λ (k : ℕ). Began k moment (Ok number) ∷ []) t) begins) p
+        stored_both keep (begins planned (Ok number) ∷ []) more old.store begun last
+        (stored_as keep (Began total planned.moment (Ok number) ∷ []) (begins planned (Ok number) ∷ []) old.store begun (ap (λ (k : ℕ). Began k planned.moment (Ok number) ∷ []) t) begin) p
 
-    module _ (answer : Result Totals RunFault) (r : Records starts waits Answers Stands Sound Leaves plan n number old new begun after was mid answer f) where
+    module _ (answer : Result Totals RunFault) (r : Records l keep planned.plan planned.width number (scene old.world begun old.held) (scene new after mid) answer f) where
       -- memory ran out before a case was started
-      pub ran_none : (refusal : OutOfMemory) → answer ≡ Err (NoMemory refusal) → Says mid f now g (utf8 memory_line) → exit ≡ (if g then 2 else 2) → RanPlan starts waits Answers Stands Sound Leaves plan n words unmatched moment old new store after was now exit
+      ran_none : (refusal : OutOfMemory) → answer ≡ Err (NoMemory refusal) → Says mid f now g (utf8 memory_line) → exit ≡ (if g then 2 else 2) → RanPlan l keep planned old (scene new after now) exit
       ran_none refusal a s e =
-          let none : RecordedNone r.trace r.entries r.last = subst (λ (x : Result Totals RunFault). RecordEnds plan n number r.trace r.entries r.last x) a r.ends in
+          let none : RecordedNone r.trace r.entries r.last = subst (λ (x : Result Totals RunFault). RecordEnds planned.plan planned.width number r.trace r.entries r.last x) a r.ends in
           let no_calls : puts number r.entries ++ r.last ≡ [] = ap (λ (es : List Entry). puts number es ++ r.last) none.none ∙ none.taken in
           record {
             trace = r.trace;
             leads = r.leads;
-            calls = Began (length plan) moment (Ok number) ∷ [];
-            stored = then_calls [] after (stored_as Answers Stands Sound Leaves (puts number r.entries ++ r.last) [] begun after no_calls r.stored);
+            calls = begins planned (Ok number) ∷ [];
+            stored = then_calls [] after (stored_as keep (puts number r.entries ++ r.last) [] begun after no_calls r.stored);
             bytes = utf8 memory_line;
             due = 2;
             is = inr (not_run number none.events);
-            printed = record { failed = g; shows = (subst (λ (es : List Entry). Says was false now g (lines es ++ utf8 memory_line)) none.none (tells_both was mid now false f g (lines r.entries) (utf8 memory_line) r.says s)).more; exits = e };
+            printed = record { failed = g; shows = (subst (λ (es : List Entry). Says old.held false now g (lines es ++ utf8 memory_line)) none.none (tells_both old.held mid now false f g (lines r.entries) (utf8 memory_line) r.says s)).more; exits = e };
           }
 
       -- a put was refused
-      pub ran_some : (why : SinkFault) → answer ≡ Err (SinkFailed why) → Says mid f now g (utf8 (put_line why)) → exit ≡ (if g then 2 else 2) → RanPlan starts waits Answers Stands Sound Leaves plan n words unmatched moment old new store after was now exit
+      ran_some : (why : SinkFault) → answer ≡ Err (SinkFailed why) → Says mid f now g (utf8 (run_line (SinkFailed why))) → exit ≡ (if g then 2 else 2) → RanPlan l keep planned old (scene new after now) exit
       ran_some why a s e =
-          let some : RecordedSome plan n number r.trace r.entries r.last why = subst (λ (x : Result Totals RunFault). RecordEnds plan n number r.trace r.entries r.last x) a r.ends in
+          let some : RecordedSome planned.plan planned.width number r.trace r.entries r.last why = subst (λ (x : Result Totals RunFault). RecordEnds planned.plan planned.width number r.trace r.entries r.last x) a r.ends in
           let refused : List StoreCall = Put number some.entry (Err some.refusal) ∷ [] in
-          let line : put_line why ≡ refusal_line some.refusal = ap put_line some.told ∙ put_refusal_line some.refusal in
+          let line : run_line (SinkFailed why) ≡ refusal_line some.refusal = ap (λ (w : SinkFault). run_line (SinkFailed w)) some.told ∙ put_refusal_line some.refusal in
           record {
             trace = r.trace;
             leads = r.leads;
-            calls = Began (length plan) moment (Ok number) ∷ (puts number r.entries ++ refused);
-            stored = then_calls (puts number r.entries ++ refused) after (stored_as Answers Stands Sound Leaves (puts number r.entries ++ r.last) (puts number r.entries ++ refused) begun after (ap (λ (cs : List StoreCall). puts number r.entries ++ cs) some.one) r.stored);
+            calls = begins planned (Ok number) ∷ (puts number r.entries ++ refused);
+            stored = then_calls (puts number r.entries ++ refused) after (stored_as keep (puts number r.entries ++ r.last) (puts number r.entries ++ refused) begun after (ap (λ (cs : List StoreCall). puts number r.entries ++ cs) some.one) r.stored);
             bytes = lines r.entries ++ utf8 (refusal_line some.refusal);
             due = 2;
             is = inr (not_put number r.entries some.entry some.refusal some.stopped);
             printed = record {
               failed = g;
-              shows = (tells_both was mid now false f g (lines r.entries) (utf8 (refusal_line some.refusal)) r.says (subst (λ (xs : List ℕ). Says mid f now g (utf8 xs)) line s)).more;
+              shows = (tells_both old.held mid now false f g (lines r.entries) (utf8 (refusal_line some.refusal)) r.says (subst (λ (xs : List ℕ). Says mid f now g (utf8 xs)) line s)).more;
               exits = e;
             };
           }
 
+      -- the run failed
+      pub ran_failed : (why : RunFault) → answer ≡ Err why → Says mid f now g (utf8 (run_line why)) → exit ≡ (if g then 2 else 2) → RanPlan l keep planned old (scene new after now) exit
+      ran_failed (NoMemory refusal) a s e = ran_none refusal a s e
+      ran_failed (SinkFailed why) a s e = ran_some why a s e
+
       module _ (last : R) (totals : Totals) (a : answer ≡ Ok totals) where
-        every : RecordedAll plan n r.trace r.entries r.last totals
-        every = subst (λ (x : Result Totals RunFault). RecordEnds plan n number r.trace r.entries r.last x) a r.ends
+        every : RecordedAll planned.plan planned.width r.trace r.entries r.last totals
+        every = subst (λ (x : Result Totals RunFault). RecordEnds planned.plan planned.width number r.trace r.entries r.last x) a r.ends
 
         -- the run was to be finished after all puts
-        then_ends : (end : StoreCall) → Stored Answers Stands Sound Leaves (end ∷ []) after last → Stored Answers Stands Sound Leaves (Began (length plan) moment (Ok number) ∷ (puts number r.entries ++ end ∷ [])) store last
+        then_ends : (end : StoreCall) → Stored keep (end ∷ []) after last → Stored keep (begins planned (Ok number) ∷ (puts number r.entries ++ end ∷ [])) old.store last
         then_ends end p =
             let all : puts number r.entries ++ r.last ≡ puts number r.entries = ap (λ (cs : List StoreCall). puts number r.entries ++ cs) every.taken ∙ append-nil (puts number r.entries) in
             then_calls (puts number r.entries ++ end ∷ []) last
-            (stored_both Answers Stands Sound Leaves (puts number r.entries) (end ∷ []) begun after last (stored_as Answers Stands Sound Leaves (puts number r.entries ++ r.last) (puts number r.entries) begun after all r.stored) p)
+            (stored_both keep (puts number r.entries) (end ∷ []) begun after last (stored_as keep (puts number r.entries ++ r.last) (puts number r.entries) begun after all r.stored) p)
 
         -- the store refused to finish the run
-        pub ran_unfinished : (why : StoreFault) → Stored Answers Stands Sound Leaves (Finished number (Err why) ∷ []) after last
-            → Says mid f now g (utf8 (refusal_line why)) → exit ≡ (if g then 2 else 2) → RanPlan starts waits Answers Stands Sound Leaves plan n words unmatched moment old new store last was now exit
+        pub ran_unfinished : (why : StoreFault) → Stored keep (Finished number (Err why) ∷ []) after last
+            → Says mid f now g (utf8 (refusal_line why)) → exit ≡ (if g then 2 else 2) → RanPlan l keep planned old (scene new last now) exit
         ran_unfinished why p s e = record {
           trace = r.trace;
           leads = r.leads;
-          calls = Began (length plan) moment (Ok number) ∷ (puts number r.entries ++ Finished number (Err why) ∷ []);
+          calls = begins planned (Ok number) ∷ (puts number r.entries ++ Finished number (Err why) ∷ []);
           stored = then_ends (Finished number (Err why)) p;
           bytes = lines r.entries ++ utf8 (refusal_line why);
           due = 2;
           is = inr (not_finished number r.entries why every.all);
-          printed = record { failed = g; shows = (tells_both was mid now false f g (lines r.entries) (utf8 (refusal_line why)) r.says s).more; exits = e };
+          printed = record { failed = g; shows = (tells_both old.held mid now false f g (lines r.entries) (utf8 (refusal_line why)) r.says s).more; exits = e };
         }
 
         -- every case was recorded
-        pub ran_all : (due : ℕ) → Stored Answers Stands Sound Leaves (Finished number (Ok tt) ∷ []) after last → Says mid f now g (ending totals.good totals.total totals.bad words unmatched) → due ≡ exit_of totals.bad unmatched → exit ≡ (if g then 2 else due)
-            → RanPlan starts waits Answers Stands Sound Leaves plan n words unmatched moment old new store last was now exit
+        pub ran_all : (due : ℕ) → Stored keep (Finished number (Ok tt) ∷ []) after last → Says mid f now g (ending totals.good totals.total totals.bad planned.words planned.unmatched) → due ≡ exit_of totals.bad planned.unmatched → exit ≡ (if g then 2 else due)
+            → RanPlan l keep planned old (scene new last now) exit
         ran_all due p s d e =
             let es = r.entries in
-            let text : ending totals.good totals.total totals.bad words unmatched ≡ ending (good_count es) (length es) (bad_count es) words unmatched =
-            ap (λ (x : ℕ). ending x totals.total totals.bad words unmatched) every.counts.good ∙ ap (λ (x : ℕ). ending (good_count es) x totals.bad words unmatched) every.counts.total ∙ ap (λ (x : ℕ). ending (good_count es) (length es) x words unmatched) every.counts.bad in
+            let text : ending totals.good totals.total totals.bad planned.words planned.unmatched ≡ ending (good_count es) (length es) (bad_count es) planned.words planned.unmatched =
+            ap (λ (x : ℕ). ending x totals.total totals.bad planned.words planned.unmatched) every.counts.good ∙ ap (λ (x : ℕ). ending (good_count es) x totals.bad planned.words planned.unmatched) every.counts.total ∙ ap (λ (x : ℕ). ending (good_count es) (length es) x planned.words planned.unmatched) every.counts.bad in
             record {
               trace = r.trace;
               leads = r.leads;
-              calls = Began (length plan) moment (Ok number) ∷ (puts number es ++ Finished number (Ok tt) ∷ []);
+              calls = begins planned (Ok number) ∷ (puts number es ++ Finished number (Ok tt) ∷ []);
               stored = then_ends (Finished number (Ok tt)) p;
-              bytes = results es words unmatched;
-              due = results_exit es unmatched;
+              bytes = results es planned.words planned.unmatched;
+              due = results_exit es planned.unmatched;
               is = inl (all_recorded number es every.all);
               printed = record {
                 failed = g;
-                shows = (subst (λ (x : List ℕ). Says was false now g (lines es ++ x)) text (tells_both was mid now false f g (lines es) (ending totals.good totals.total totals.bad words unmatched) r.says s)).more;
-                exits = e ∙ ap (λ (x : ℕ). if g then 2 else x) (d ∙ ap (λ (x : ℕ). exit_of x unmatched) every.counts.bad);
+                shows = (subst (λ (x : List ℕ). Says old.held false now g (lines es ++ x)) text (tells_both old.held mid now false f g (lines es) (ending totals.good totals.total totals.bad planned.words planned.unmatched) r.says s)).more;
+                exits = e ∙ ap (λ (x : ℕ). if g then 2 else x) (d ∙ ap (λ (x : ℕ). exit_of x planned.unmatched) every.counts.bad);
               };
             }

@@ -33,10 +33,6 @@ pub says_none : {T E : Type 0} (written other : Result T E) (Q : E → Type 0) (
 says_none written (Ok x) Q y a xs e h = absurd h
 says_none written (Err z) Q y a xs e h = subst (λ (f : Bool). Says a f a true xs) (sym (ap is_err e)) (record { more = (refl, refl) })
 
--- a writer that had not failed is given a text
-pub says_first : {T E : Type 0} (written : Result T E) (x : T) (a b : Option (List ℕ)) (f : Bool) (xs : List ℕ) → written ≡ Ok x → Shows a b f xs → Says a (is_err written) b f xs
-says_first written x a b f xs e p = subst (λ (g : Bool). Says a g b f xs) (sym (ap is_err e)) (record { more = p })
-
 -- a list of no length is empty
 pub nothing : {X : Type 0} (xs : List X) → length xs ≡ 0 → xs ≡ []
 nothing [] e = refl

@@ -11,6 +11,7 @@ use Rattle.kt_base.proofs.Showing.{shows_both}
 use Rattle.kt_report.specs.Junits.{junit_bytes}
 use Rattle.kt_report.specs.Texts.{IsDateOf, text_bytes}
 use Rattle.kt_store.specs.StoreCalls.{StoreCall, Heads, Read}
+use Rattle.kt_store.specs.declared.keeping.Keeping as keeping
 use Rattle.kt_store.specs.declared.run_head.RunHead.{RunHead}
 use Rattle.kt_store.specs.declared.store_fault.StoreFault.{StoreFault}
 use Rattle.kt_cli.specs.declared.not_shown.NotShown.{NotShown}
@@ -22,33 +23,33 @@ use Rattle.kt_cli.specs.Inner.Shown.{IsMissing, not_shown_line, FindsRun, read, 
 use Rattle.kt_cli.specs.Stores.{Stored}
 use Rattle.kt_cli.proofs.StoreChains.{stored_both}
 
-module _ {R : Type 0} (Answers : R → StoreCall → R → Type 0) (Stands : R → List Run → Type 0) (Sound : R → Type 0) (Leaves : R → List (List Run) → Type 0) (number : Option ℕ) where
+module _ {R : Type 0} (keep : keeping.Ghosts R) (number : Option ℕ) where
   -- ---- what was read
 
-  pub reads_no_heads : (old new : R) (fault : StoreFault) → Stored Answers Stands Sound Leaves (Heads (Err fault) ∷ []) old new → ReadsRun Answers Stands Sound Leaves number old new (Err (Refused fault))
+  pub reads_no_heads : (old new : R) (fault : StoreFault) → Stored keep (Heads (Err fault) ∷ []) old new → ReadsRun keep number old new (Err (Refused fault))
   reads_no_heads old new fault p = record { calls = Heads (Err fault) ∷ []; stored = p; finds = no_heads fault }
 
-  pub reads_missing : (old new : R) (heads seen again : List RunHead) (why : NotShown) → seen ≡ heads → again ≡ heads → Stored Answers Stands Sound Leaves (Heads (Ok heads) ∷ []) old new → None ≡ chosen number seen → IsMissing number again why
-      → ReadsRun Answers Stands Sound Leaves number old new (Err why)
+  pub reads_missing : (old new : R) (heads seen again : List RunHead) (why : NotShown) → seen ≡ heads → again ≡ heads → Stored keep (Heads (Ok heads) ∷ []) old new → None ≡ chosen number seen → IsMissing number again why
+      → ReadsRun keep number old new (Err why)
   reads_missing old new heads seen again why e f p n m = record {
     calls = Heads (Ok heads) ∷ [];
     stored = p;
     finds = missing heads why (sym (subst (λ (xs : List RunHead). None ≡ chosen number xs) e n)) (subst (λ (xs : List RunHead). IsMissing number xs why) f m);
   }
 
-  pub reads_no_entries : (old mid new : R) (heads seen : List RunHead) (head : RunHead) (fault : StoreFault) → seen ≡ heads → Stored Answers Stands Sound Leaves (Heads (Ok heads) ∷ []) old mid → Some head ≡ chosen number seen
-      → Stored Answers Stands Sound Leaves (Read head.number (Err fault) ∷ []) mid new → ReadsRun Answers Stands Sound Leaves number old new (Err (Refused fault))
+  pub reads_no_entries : (old mid new : R) (heads seen : List RunHead) (head : RunHead) (fault : StoreFault) → seen ≡ heads → Stored keep (Heads (Ok heads) ∷ []) old mid → Some head ≡ chosen number seen
+      → Stored keep (Read head.number (Err fault) ∷ []) mid new → ReadsRun keep number old new (Err (Refused fault))
   reads_no_entries old mid new heads seen head fault e p n q = record {
     calls = Heads (Ok heads) ∷ Read head.number (Err fault) ∷ [];
-    stored = stored_both Answers Stands Sound Leaves (Heads (Ok heads) ∷ []) (Read head.number (Err fault) ∷ []) old mid new p q;
+    stored = stored_both keep (Heads (Ok heads) ∷ []) (Read head.number (Err fault) ∷ []) old mid new p q;
     finds = no_entries heads head fault (sym (subst (λ (xs : List RunHead). Some head ≡ chosen number xs) e n));
   }
 
-  pub reads_run : (old mid new : R) (heads seen : List RunHead) (head : RunHead) (entries kept : List Entry) → seen ≡ heads → kept ≡ entries → Stored Answers Stands Sound Leaves (Heads (Ok heads) ∷ []) old mid → Some head ≡ chosen number seen
-      → Stored Answers Stands Sound Leaves (Read head.number (Ok entries) ∷ []) mid new → ReadsRun Answers Stands Sound Leaves number old new (Ok (run_of head kept))
+  pub reads_run : (old mid new : R) (heads seen : List RunHead) (head : RunHead) (entries kept : List Entry) → seen ≡ heads → kept ≡ entries → Stored keep (Heads (Ok heads) ∷ []) old mid → Some head ≡ chosen number seen
+      → Stored keep (Read head.number (Ok entries) ∷ []) mid new → ReadsRun keep number old new (Ok (run_of head kept))
   reads_run old mid new heads seen head entries kept e k p n q = record {
     calls = Heads (Ok heads) ∷ Read head.number (Ok entries) ∷ [];
-    stored = stored_both Answers Stands Sound Leaves (Heads (Ok heads) ∷ []) (Read head.number (Ok entries) ∷ []) old mid new p q;
+    stored = stored_both keep (Heads (Ok heads) ∷ []) (Read head.number (Ok entries) ∷ []) old mid new p q;
     finds = subst (λ (es : List Entry). FindsRun number (Heads (Ok heads) ∷ Read head.number (Ok entries) ∷ []) (Ok (run_of head es))) (sym k) (read heads head entries (sym (subst (λ (xs : List RunHead). Some head ≡ chosen number xs) e n)));
   }
 
@@ -74,8 +75,8 @@ module _ {R : Type 0} (Answers : R → StoreCall → R → Type 0) (Stands : R �
   no_junit_of calls why (no_entries heads head fault e) = inr (inl (unread_entries heads head fault e))
 
   module _ (old new : R) (was now : Option (List ℕ)) (exit : ℕ) where
-    pub did_tell : (kinds : List Kind) (verbose : Bool) (run : Run) (f : Bool) → ReadsRun Answers Stands Sound Leaves number old new (Ok run) → ((date : Date) × IsDateOf run.started date × Shows was now f (text_bytes date kinds verbose run)) → exit ≡ (if f then 2 else 0)
-        → DidReport Answers Stands Sound Leaves old new was now exit (Reported number kinds verbose) (Unread number)
+    pub did_tell : (kinds : List Kind) (verbose : Bool) (run : Run) (f : Bool) → ReadsRun keep number old new (Ok run) → ((date : Date) × IsDateOf run.started date × Shows was now f (text_bytes date kinds verbose run)) → exit ≡ (if f then 2 else 0)
+        → DidReport keep old new was now exit (Reported number kinds verbose) (Unread number)
     did_tell kinds verbose run f r d e = record {
       calls = r.calls;
       stored = r.stored;
@@ -85,8 +86,8 @@ module _ {R : Type 0} (Answers : R → StoreCall → R → Type 0) (Stands : R �
       printed = record { failed = f; shows = d.2; exits = e };
     }
 
-    pub did_not_tell : (kinds : List Kind) (verbose : Bool) (why : NotShown) (f : Bool) → ReadsRun Answers Stands Sound Leaves number old new (Err why) → Shows was now f (utf8 (not_shown_line why)) → exit ≡ (if f then 2 else 2)
-        → DidReport Answers Stands Sound Leaves old new was now exit (Reported number kinds verbose) (Unread number)
+    pub did_not_tell : (kinds : List Kind) (verbose : Bool) (why : NotShown) (f : Bool) → ReadsRun keep number old new (Err why) → Shows was now f (utf8 (not_shown_line why)) → exit ≡ (if f then 2 else 2)
+        → DidReport keep old new was now exit (Reported number kinds verbose) (Unread number)
     did_not_tell kinds verbose why f r s e = record {
       calls = r.calls;
       stored = r.stored;
@@ -96,8 +97,8 @@ module _ {R : Type 0} (Answers : R → StoreCall → R → Type 0) (Stands : R �
       printed = record { failed = f; shows = s; exits = e };
     }
 
-    pub did_tell_junit : (run : Run) (f : Bool) → ReadsRun Answers Stands Sound Leaves number old new (Ok run) → Shows was now f (junit_bytes run) → exit ≡ (if f then 2 else 0)
-        → DidReport Answers Stands Sound Leaves old new was now exit (ReportedJunit number) (JunitOrUnread number)
+    pub did_tell_junit : (run : Run) (f : Bool) → ReadsRun keep number old new (Ok run) → Shows was now f (junit_bytes run) → exit ≡ (if f then 2 else 0)
+        → DidReport keep old new was now exit (ReportedJunit number) (JunitOrUnread number)
     did_tell_junit run f r s e = record {
       calls = r.calls;
       stored = r.stored;
@@ -107,8 +108,8 @@ module _ {R : Type 0} (Answers : R → StoreCall → R → Type 0) (Stands : R �
       printed = record { failed = f; shows = s; exits = e };
     }
 
-    pub did_not_tell_junit : (why : NotShown) (f : Bool) → ReadsRun Answers Stands Sound Leaves number old new (Err why) → Shows was now f (utf8 (not_shown_line why)) → exit ≡ (if f then 2 else 2)
-        → DidReport Answers Stands Sound Leaves old new was now exit (ReportedJunit number) (JunitOrUnread number)
+    pub did_not_tell_junit : (why : NotShown) (f : Bool) → ReadsRun keep number old new (Err why) → Shows was now f (utf8 (not_shown_line why)) → exit ≡ (if f then 2 else 2)
+        → DidReport keep old new was now exit (ReportedJunit number) (JunitOrUnread number)
     did_not_tell_junit why f r s e = record {
       calls = r.calls;
       stored = r.stored;
@@ -119,8 +120,8 @@ module _ {R : Type 0} (Answers : R → StoreCall → R → Type 0) (Stands : R �
     }
 
     -- memory ran out in the middle
-    pub did_cut : (run : Run) (mid : Option (List ℕ)) (f : Bool) → ReadsRun Answers Stands Sound Leaves number old new (Ok run) → Shows was mid true (junit_bytes run) → Shows mid now f (utf8 memory_line) → exit ≡ (if f then 2 else 2)
-        → DidReport Answers Stands Sound Leaves old new was now exit (ReportedJunit number) (JunitOrUnread number)
+    pub did_cut : (run : Run) (mid : Option (List ℕ)) (f : Bool) → ReadsRun keep number old new (Ok run) → Shows was mid true (junit_bytes run) → Shows mid now f (utf8 memory_line) → exit ≡ (if f then 2 else 2)
+        → DidReport keep old new was now exit (ReportedJunit number) (JunitOrUnread number)
     did_cut run mid f r p s e =
         let h = p.holds in
         record {

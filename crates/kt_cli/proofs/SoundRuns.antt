@@ -5,13 +5,16 @@ use Rattle.kt_base.specs.declared.entry.Entry.{Entry}
 use Rattle.kt_base.specs.declared.run.Run.{Run}
 use Rattle.kt_base.specs.declared.kind.Kind.{Kind}
 use Rattle.kt_sched.specs.declared.job.Job.{Job}
+use Rattle.kt_plan.proofs.PlansFit.{plan_fits}
 use Rattle.kt_sched.specs.EntryOf.{AreEntries}
+use Rattle.kt_sched.specs.Plan.{IsPlan}
 use Rattle.kt_sched.specs.RecordOrder.{recorded as record_order}
 use Rattle.kt_sched.specs.Trace.{Trace}
 use Rattle.kt_store.specs.Ask.{IsStoreFault}
 use Rattle.kt_store.specs.Heads.{head_of}
 use Rattle.kt_store.specs.Runs.{AreNumbered, new_run, with_entry, put_refusal, finish_refusal}
 use Rattle.kt_store.specs.StoreCalls.{StoreCall, Began, Put, Finished, Heads, Read}
+use Rattle.kt_store.specs.declared.keeping.Keeping as keeping
 use Rattle.kt_store.specs.declared.run_head.RunHead.{RunHead}
 use Rattle.kt_words.specs.declared.command.Command.{Command}
 use Rattle.kt_words.specs.Commands.{number_of}
@@ -24,10 +27,11 @@ use Rattle.kt_cli.specs.SoundStores.{with_new, Comes, not_called, not_begun as c
 use Rattle.kt_cli.specs.Inner.Stores.{put_all}
 use Rattle.kt_store.specs.Serving.{Agrees, changed_by}
 use Rattle.kt_cli.specs.Stores.{puts, beside_by, changed, beside, Agree, Stored}
-use Rattle.kt_cli.specs.Testing.{Tested, recorded, TestCut, not_begun, not_run, not_put, not_finished}
+use Rattle.kt_cli.specs.Testing.{PlannedRun, run_for, Tested, recorded, TestCut, not_begun, not_run, not_put, not_finished}
 use Rattle.kt_cli.proofs.ChosenRuns.{head_found, run_found, entries_there, not_chosen}
 use Rattle.kt_cli.proofs.NewRuns.{put_new, finish_new, finishes}
 use Rattle.kt_cli.proofs.Numbered.{put_more}
+use Rattle.kt_cli.proofs.Unrepeated.{due_is_taken}
 use Rattle.kt_cli.proofs.StoreChains.{changed-append, beside-append, agree_later}
 
 changed-puts : (number : ℕ) (es : List Entry) (runs : List Run) → changed (puts number es) runs ≡ put_all number es runs
@@ -94,58 +98,58 @@ module _ (number : Option ℕ) (runs : List Run) (h : AreNumbered 1 runs) where
     one_more : (e : Entry) → with_entry k e with_entries ≡ with_new runs moment total false (es ++ e ∷ [])
     one_more e = ap (λ (rs : List Run). with_entry k e rs) (sym (put_new runs k total moment es h n)) ∙ sym (put_more k es e with_run) ∙ put_new runs k total moment (es ++ e ∷ []) h n
 
-  tested_coming : (plan : List Job) (n : ℕ) (words : List (List ℕ)) (unmatched : List ℕ) (moment : ℕ) (T : Trace) (calls : List StoreCall) (bytes : List ℕ) (exit : ℕ) → Tested plan n words unmatched moment T calls bytes exit → Agree runs calls → Coming number runs calls
-  tested_coming plan n words unmatched moment T calls bytes exit (recorded k es all) a =
-      let total = length plan in
+  tested_coming : (planned : PlannedRun) (T : Trace) (calls : List StoreCall) (bytes : List ℕ) (exit : ℕ) → Tested planned T calls bytes exit → Agree runs calls → Coming number runs calls
+  tested_coming planned T calls bytes exit (recorded k es all) a =
+      let total = length planned.plan in
       let i = a.0.0 in
       record {
-        left = with_new runs moment total true es;
+        left = with_new runs planned.moment total true es;
         others = λ may. [];
-        comes = subst (λ (j : ℕ). Comes number runs (Began total moment (Ok j) ∷ (puts j es ++ Finished j (Ok tt) ∷ [])) (with_new runs moment total true es) (λ may. [])) (sym i)
-            (finished total moment es a.0.1 (all_count plan n T es all));
-        same = after_end k total moment i es (Finished k (Ok tt)) ∙ finish_new runs k total moment es h i;
-        crash = λ may. beside_end k total moment i es (Finished k (Ok tt));
+        comes = subst (λ (j : ℕ). Comes number runs (Began total planned.moment (Ok j) ∷ (puts j es ++ Finished j (Ok tt) ∷ [])) (with_new runs planned.moment total true es) (λ may. [])) (sym i)
+            (finished total planned.moment es a.0.1 (all_count planned.plan planned.width T es all));
+        same = after_end k total planned.moment i es (Finished k (Ok tt)) ∙ finish_new runs k total planned.moment es h i;
+        crash = λ may. beside_end k total planned.moment i es (Finished k (Ok tt));
       }
 
-  cut_coming : (plan : List Job) (n moment : ℕ) (T : Trace) (calls : List StoreCall) (bytes : List ℕ) (exit : ℕ) → TestCut plan n moment T calls bytes exit → Agree runs calls → Coming number runs calls
-  cut_coming plan n moment T calls bytes exit (not_begun why e) a = record {
+  cut_coming : (planned : PlannedRun) (T : Trace) (calls : List StoreCall) (bytes : List ℕ) (exit : ℕ) → IsPlan planned.plan → TestCut planned T calls bytes exit → Agree runs calls → Coming number runs calls
+  cut_coming planned T calls bytes exit is (not_begun why e) a = record {
     left = runs;
-    others = λ may. with_new runs moment (length plan) false [] ∷ may;
-    comes = comes_not_begun (length plan) moment why a.0;
+    others = λ may. with_new runs planned.moment (length planned.plan) false [] ∷ may;
+    comes = comes_not_begun (length planned.plan) planned.moment why a.0;
     same = refl;
     crash = λ may. refl;
   }
-  cut_coming plan n moment T calls bytes exit (not_run k e) a = record {
-    left = with_new runs moment (length plan) false [];
+  cut_coming planned T calls bytes exit is (not_run k e) a = record {
+    left = with_new runs planned.moment (length planned.plan) false [];
     others = λ may. [];
-    comes = subst (λ (j : ℕ). Comes number runs (Began (length plan) moment (Ok j) ∷ []) (with_new runs moment (length plan) false []) (λ may. [])) (sym a.0.0) (begun (length plan) moment a.0.1);
+    comes = subst (λ (j : ℕ). Comes number runs (Began (length planned.plan) planned.moment (Ok j) ∷ []) (with_new runs planned.moment (length planned.plan) false []) (λ may. [])) (sym a.0.0) (begun (length planned.plan) planned.moment a.0.1);
     same = refl;
     crash = λ may. refl;
   }
-  cut_coming plan n moment T calls bytes exit (not_put k es refused why s) a =
-      let total = length plan in
+  cut_coming planned T calls bytes exit is (not_put k es refused why s) a =
+      let total = length planned.plan in
       let i = a.0.0 in
-      let cause = agree_end k total moment i es (Put k refused (Err why)) a.1 in
+      let cause = agree_end k total planned.moment i es (Put k refused (Err why)) a.1 in
       record {
-        left = with_new runs moment total false es;
-        others = λ may. with_new runs moment total false (es ++ refused ∷ []) ∷ [];
-        comes = subst (λ (j : ℕ). Comes number runs (Began total moment (Ok j) ∷ (puts j es ++ Put j refused (Err why) ∷ [])) (with_new runs moment total false es) (λ may. with_new runs moment total false (es ++ refused ∷ []) ∷ [])) (sym i)
-            (comes_not_put total moment es refused why a.0.1 (subst (λ (j : ℕ). IsStoreFault why ⊎ (put_refusal (with_new runs moment total false es) j refused ≡ Some why)) i cause));
-        same = after_end k total moment i es (Put k refused (Err why));
-        crash = λ may. beside_end k total moment i es (Put k refused (Err why)) ∙ ap (λ (rs : List Run). rs ∷ []) (one_more k total moment i es refused);
+        left = with_new runs planned.moment total false es;
+        others = λ may. with_new runs planned.moment total false (es ++ refused ∷ []) ∷ [];
+        comes = subst (λ (j : ℕ). Comes number runs (Began total planned.moment (Ok j) ∷ (puts j es ++ Put j refused (Err why) ∷ [])) (with_new runs planned.moment total false es) (λ may. with_new runs planned.moment total false (es ++ refused ∷ []) ∷ [])) (sym i)
+            (comes_not_put total planned.moment es refused why a.0.1 (only_fault (IsStoreFault why) (put_refusal (with_new runs planned.moment total false es) k refused ≡ Some why) cause (due_is_taken planned.plan T is runs k planned.moment planned.width es refused why i s)));
+        same = after_end k total planned.moment i es (Put k refused (Err why));
+        crash = λ may. beside_end k total planned.moment i es (Put k refused (Err why)) ∙ ap (λ (rs : List Run). rs ∷ []) (one_more k total planned.moment i es refused);
       }
-  cut_coming plan n moment T calls bytes exit (not_finished k es why all) a =
-      let total = length plan in
+  cut_coming planned T calls bytes exit is (not_finished k es why all) a =
+      let total = length planned.plan in
       let i = a.0.0 in
-      let count = all_count plan n T es all in
-      let cause = agree_end k total moment i es (Finished k (Err why)) a.1 in
+      let count = all_count planned.plan planned.width T es all in
+      let cause = agree_end k total planned.moment i es (Finished k (Err why)) a.1 in
       record {
-        left = with_new runs moment total false es;
-        others = λ may. with_new runs moment total true es ∷ [];
-        comes = subst (λ (j : ℕ). Comes number runs (Began total moment (Ok j) ∷ (puts j es ++ Finished j (Err why) ∷ [])) (with_new runs moment total false es) (λ may. with_new runs moment total true es ∷ [])) (sym i)
-            (comes_not_finished total moment es why a.0.1 count (only_fault (IsStoreFault why) (finish_refusal (with_new runs moment total false es) k ≡ Some why) cause (finishes runs k total moment es why i count)));
-        same = after_end k total moment i es (Finished k (Err why));
-        crash = λ may. beside_end k total moment i es (Finished k (Err why)) ∙ ap (λ (rs : List Run). rs ∷ []) (finish_new runs k total moment es h i);
+        left = with_new runs planned.moment total false es;
+        others = λ may. with_new runs planned.moment total true es ∷ [];
+        comes = subst (λ (j : ℕ). Comes number runs (Began total planned.moment (Ok j) ∷ (puts j es ++ Finished j (Err why) ∷ [])) (with_new runs planned.moment total false es) (λ may. with_new runs planned.moment total true es ∷ [])) (sym i)
+            (comes_not_finished total planned.moment es why a.0.1 count (only_fault (IsStoreFault why) (finish_refusal (with_new runs planned.moment total false es) k ≡ Some why) cause (finishes runs k total planned.moment es why i count)));
+        same = after_end k total planned.moment i es (Finished k (Err why));
+        crash = λ may. beside_end k total planned.moment i es (Finished k (Err why)) ∙ ap (λ (rs : List Run). rs ∷ []) (finish_new runs k total planned.moment es h i);
       }
 
   -- ---- a report
@@ -193,7 +197,7 @@ means_coming : (seen : Seen) (runs : List Run) (c : Command) (bytes : List ℕ) 
 means_coming seen runs c bytes exit h (stopped d options fault e s k) a = none_coming (number_of c) runs h seen.calls k.calls
 means_coming seen runs c bytes exit h (listed options picked s k) a = none_coming None runs h seen.calls k.calls
 means_coming seen runs c bytes exit h (tested options file picked moment bs x p t) a =
-    tested_coming None runs h seen.plan picked.settings.config.parallelism options.filters picked.chosen.unmatched moment seen.trace seen.calls bytes exit t a
+    tested_coming None runs h (run_for seen.plan options picked moment) seen.trace seen.calls bytes exit t a
 means_coming seen runs c bytes exit h (debugged options picked first others entries e p all k) a = none_coming None runs h seen.calls k
 means_coming seen runs c bytes exit h (idle options picked s e k) a = none_coming None runs h seen.calls k.calls
 means_coming seen runs c bytes exit h (reported options kinds verbose bs x u r) a = reported_coming options.run runs h kinds verbose seen.calls bytes exit r a
@@ -201,7 +205,7 @@ means_coming seen runs c bytes exit h (reported_junit options bs x u r) a = juni
 
 short_coming : (seen : Seen) (runs : List Run) (c : Command) (bytes : List ℕ) (exit : ℕ) → AreNumbered 1 runs → CutShort seen c bytes exit → Agree runs seen.calls → Coming (number_of c) runs seen.calls
 short_coming seen runs c bytes exit h (no_memory d options e _ k) a = none_coming (number_of c) runs h seen.calls k.calls
-short_coming seen runs c bytes exit h (cut options file picked moment bs x p t) a = cut_coming None runs h seen.plan picked.settings.config.parallelism moment seen.trace seen.calls bytes exit t a
+short_coming seen runs c bytes exit h (cut options file picked moment bs x p t) a = cut_coming None runs h (run_for seen.plan options picked moment) seen.trace seen.calls bytes exit (plan_fits picked.settings.config p.host picked.chosen.cases seen.plan p.planned) t a
 short_coming seen runs c bytes exit h (report_cut options kinds verbose bs x u r) a = unread_coming options.run runs h seen.calls bytes exit r a
 short_coming seen runs c bytes exit h (junit_cut options bs x u r) a = junit_or_unread options.run runs h seen.calls bytes exit r a
 
@@ -210,22 +214,21 @@ either_coming seen runs c bytes exit h (inl m) a = means_coming seen runs c byte
 either_coming seen runs c bytes exit h (inr m) a = short_coming seen runs c bytes exit h m a
 
 -- what a command left of a store that stood for runs
-pub left_by : {R : Type 0} (Answers : R → StoreCall → R → Type 0) (Stands : R → List Run → Type 0) (Sound : R → Type 0) (Leaves : R → List (List Run) → Type 0) (numbered : (s : R) (runs : List Run) → Stands s runs → AreNumbered 1 runs)
-    (seen : Seen) (c : Command) (store after : R) (was now : Option (List ℕ)) (exit : ℕ) (bytes : List ℕ) (due : ℕ) (runs : List Run) → Stored Answers Stands Sound Leaves seen.calls store after → Means seen c bytes due ⊎ CutShort seen c bytes due → Printed was now exit bytes due
-    → Stands store runs → Left Stands Sound Leaves runs store after was now exit seen c
-left_by Answers Stands Sound Leaves numbered seen c store after was now exit bytes due runs s m p h =
+pub left_by : {R : Type 0} (keep : keeping.Ghosts R) (seen : Seen) (c : Command) (store after : R) (was now : Option (List ℕ)) (exit : ℕ) (bytes : List ℕ) (due : ℕ) (runs : List Run) → Stored keep seen.calls store after → Means seen c bytes due ⊎ CutShort seen c bytes due → Printed was now exit bytes due
+    → keep.stands store runs → Left keep runs store after was now exit seen c
+left_by keep seen c store after was now exit bytes due runs s m p h =
     let k = s.kept in
     record {
       left = changed seen.calls runs;
       stands = k.stands runs h;
       earlier = k.earlier runs h;
       done = λ sound.
-          let it = either_coming seen runs c bytes due (numbered store runs h) m (k.agree runs h sound) in
+          let it = either_coming seen runs c bytes due (keep.numbered store runs h) m (k.agree runs h sound) in
           record {
             outcome = record { runs = it.left; bytes = bytes; exit = due; beside = it.others };
             is = record { means = m; comes = it.comes };
             keeps = it.same;
-            crash = λ may l. subst (λ (ms : List (List Run)). Leaves after (changed seen.calls runs ∷ ms)) (it.crash may) (k.crash runs may h l);
+            crash = λ may l. subst (λ (ms : List (List Run)). keep.leaves after (changed seen.calls runs ∷ ms)) (it.crash may) (k.crash runs may h l);
             printed = p;
           };
     }

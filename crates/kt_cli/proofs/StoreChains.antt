@@ -3,9 +3,9 @@ use Rattle.std.specs.Prelude.{Ok, Err}
 use Rattle.std.proofs.Common.{◌≡◌, List, [], ◌∷◌, ◌++◌, refl, sym, subst}
 use Rattle.kt_base.specs.declared.run.Run.{Run}
 use Rattle.kt_store.specs.StoreCalls.{StoreCall, Began, Put, Finished, Heads, Read}
+use Rattle.kt_store.specs.declared.keeping.Keeping as keeping
 use Rattle.kt_base.proofs.Chains.{chain-append}
 use Rattle.kt_store.specs.Serving.{Agrees, Outlasts, Serves, changed_by}
-use Rattle.kt_store.specs.declared.keeping.Keeping as store
 use Rattle.kt_cli.specs.Stores.{beside_by, changed, beside, Agree, Stored}
 
 pub changed-append : (xs ys : List StoreCall) (runs : List Run) → changed (xs ++ ys) runs ≡ changed ys (changed xs runs)
@@ -25,37 +25,6 @@ pub agree_later : (xs ys : List StoreCall) (runs : List Run) → Agree runs (xs 
 agree_later [] ys runs a = a
 agree_later (x ∷ xs) ys runs a = agree_later xs ys (changed_by x runs) a.1
 
-module _ {R : Type 0} (Answers : R → StoreCall → R → Type 0) (Stands : R → List Run → Type 0) (Sound : R → Type 0) (Leaves : R → List (List Run) → Type 0) where
-  -- no call
-  pub stored_none : (a : R) → Stored Answers Stands Sound Leaves [] a a
-  stored_none a = record { answered = refl; kept = record { stands = λ runs h. h; earlier = λ runs h s. s; agree = λ runs h s. tt; crash = λ runs may h l. l } }
-
-  -- one call
-  stored_one : (call : StoreCall) (a b : R) → Answers a call b → ((runs : List Run) → Stands a runs → Stands b (changed_by call runs)) → ((runs : List Run) → Stands a runs → Sound b → Sound a)
-      → ((runs : List Run) → Stands a runs → Sound b → Agrees runs call) → ((runs : List Run) (may : List (List Run)) → Stands a runs → Leaves a (runs ∷ may) → Leaves b (changed_by call runs ∷ beside_by call runs may))
-      → Stored Answers Stands Sound Leaves (call ∷ []) a b
-  stored_one call a b asked stands earlier agrees crash = record { answered = (b, asked, refl); kept = record { stands = stands; earlier = earlier; agree = λ runs h s. (agrees runs h s, tt); crash = crash } }
-
-  -- some calls, and then others
-  pub stored_both : (xs ys : List StoreCall) (a b d : R) → Stored Answers Stands Sound Leaves xs a b → Stored Answers Stands Sound Leaves ys b d → Stored Answers Stands Sound Leaves (xs ++ ys) a d
-  stored_both xs ys a b d p q =
-      let x = p.kept in
-      let y = q.kept in
-      record {
-        answered = chain-append Answers xs ys a b d p.answered q.answered;
-        kept = record {
-          stands = λ runs h. subst (λ (rs : List Run). Stands d rs) (sym (changed-append xs ys runs)) (y.stands (changed xs runs) (x.stands runs h));
-          earlier = λ runs h s. x.earlier runs h (y.earlier (changed xs runs) (x.stands runs h) s);
-          agree = λ runs h s. agree_both xs ys runs (x.agree runs h (y.earlier (changed xs runs) (x.stands runs h) s)) (y.agree (changed xs runs) (x.stands runs h) s);
-          crash = λ runs may h l. subst (λ (rs : List Run). Leaves d (rs ∷ beside (xs ++ ys) runs may)) (sym (changed-append xs ys runs))
-              (subst (λ (ms : List (List Run)). Leaves d (changed ys (changed xs runs) ∷ ms)) (sym (beside-append xs ys runs may)) (y.crash (changed xs runs) (beside xs runs may) (x.stands runs h) (x.crash runs may h l)));
-        };
-      }
-
-  -- the same calls
-  pub stored_as : (xs ys : List StoreCall) (a b : R) → xs ≡ ys → Stored Answers Stands Sound Leaves xs a b → Stored Answers Stands Sound Leaves ys a b
-  stored_as xs ys a b e p = subst (λ (cs : List StoreCall). Stored Answers Stands Sound Leaves cs a b) e p
-
 -- what a crash leaves beside the runs after a call
 crash_by : {R : Type 0} (Leaves : R → List (List Run) → Type 0) (call : StoreCall) (runs : List Run) (may : List (List Run)) (a b : R) → ((m : List (List Run)) → Outlasts Leaves call runs m a b) → Leaves a (runs ∷ may)
     → Leaves b (changed_by call runs ∷ beside_by call runs may)
@@ -68,6 +37,37 @@ crash_by Leaves (Finished number (Err fault)) runs may a b h l = h may l
 crash_by Leaves (Heads answer) runs may a b h l = h (runs ∷ may) l
 crash_by Leaves (Read number answer) runs may a b h l = h (runs ∷ may) l
 
--- a call that a store served
-pub stored_call : {R : Type 0} (r : store.Ghosts R) (call : StoreCall) (a b : R) → Serves r call a b → Stored r.answers r.stands r.sound r.leaves (call ∷ []) a b
-stored_call r call a b s = stored_one r.answers r.stands r.sound r.leaves call a b s.asked s.stands s.earlier s.agrees (λ runs may h l. crash_by r.leaves call runs may a b (λ m. s.crash runs m h) l)
+module _ {R : Type 0} (keep : keeping.Ghosts R) where
+  -- no call
+  pub stored_none : (a : R) → Stored keep [] a a
+  stored_none a = record { answered = refl; kept = record { stands = λ runs h. h; earlier = λ runs h s. s; agree = λ runs h s. tt; crash = λ runs may h l. l } }
+
+  -- one call
+  stored_one : (call : StoreCall) (a b : R) → keep.answers a call b → ((runs : List Run) → keep.stands a runs → keep.stands b (changed_by call runs)) → ((runs : List Run) → keep.stands a runs → keep.sound b → keep.sound a)
+      → ((runs : List Run) → keep.stands a runs → keep.sound b → Agrees runs call) → ((runs : List Run) (may : List (List Run)) → keep.stands a runs → keep.leaves a (runs ∷ may) → keep.leaves b (changed_by call runs ∷ beside_by call runs may))
+      → Stored keep (call ∷ []) a b
+  stored_one call a b asked stands earlier agrees crash = record { answered = (b, asked, refl); kept = record { stands = stands; earlier = earlier; agree = λ runs h s. (agrees runs h s, tt); crash = crash } }
+
+  -- some calls, and then others
+  pub stored_both : (xs ys : List StoreCall) (a b d : R) → Stored keep xs a b → Stored keep ys b d → Stored keep (xs ++ ys) a d
+  stored_both xs ys a b d p q =
+      let x = p.kept in
+      let y = q.kept in
+      record {
+        answered = chain-append keep.answers xs ys a b d p.answered q.answered;
+        kept = record {
+          stands = λ runs h. subst (λ (rs : List Run). keep.stands d rs) (sym (changed-append xs ys runs)) (y.stands (changed xs runs) (x.stands runs h));
+          earlier = λ runs h s. x.earlier runs h (y.earlier (changed xs runs) (x.stands runs h) s);
+          agree = λ runs h s. agree_both xs ys runs (x.agree runs h (y.earlier (changed xs runs) (x.stands runs h) s)) (y.agree (changed xs runs) (x.stands runs h) s);
+          crash = λ runs may h l. subst (λ (rs : List Run). keep.leaves d (rs ∷ beside (xs ++ ys) runs may)) (sym (changed-append xs ys runs))
+              (subst (λ (ms : List (List Run)). keep.leaves d (changed ys (changed xs runs) ∷ ms)) (sym (beside-append xs ys runs may)) (y.crash (changed xs runs) (beside xs runs may) (x.stands runs h) (x.crash runs may h l)));
+        };
+      }
+
+  -- the same calls
+  pub stored_as : (xs ys : List StoreCall) (a b : R) → xs ≡ ys → Stored keep xs a b → Stored keep ys a b
+  stored_as xs ys a b e p = subst (λ (cs : List StoreCall). Stored keep cs a b) e p
+
+  -- a call that a store served
+  pub stored_call : (call : StoreCall) (a b : R) → Serves keep call a b → Stored keep (call ∷ []) a b
+  stored_call call a b s = stored_one call a b s.asked s.stands s.earlier s.agrees (λ runs may h l. crash_by keep.leaves call runs may a b (λ m. s.crash runs m h) l)

@@ -4,15 +4,13 @@ use Rattle.std.proofs.Common.{◌≡◌, ℕ, List, [], ◌∷◌, ◌++◌, ref
 use Rattle.kt_base.specs.Utf8.{utf8}
 use Rattle.kt_base.specs.declared.kind.Kind.{Kind}
 use Rattle.kt_base.specs.declared.role.Role.{Role}
-use Rattle.kt_base.specs.declared.run.Run.{Run}
 use Rattle.kt_metadata.specs.declared.host.Host.{Host}
-use Rattle.kt_sched.specs.Children.{Child, IsIdle}
+use Rattle.kt_sched.specs.Children.{IsIdle}
 use Rattle.kt_sched.specs.declared.job.Job.{Job}
-use Rattle.kt_sched.specs.declared.start_answer.StartAnswer.{StartAnswer}
-use Rattle.kt_sched.specs.declared.ended.Ended.{Ended}
 use Rattle.kt_store.specs.StoreCalls.{StoreCall}
+use Rattle.kt_store.specs.declared.keeping.Keeping as keeping
 use Rattle.kt_base.specs.Chains.{Chain}
-use Rattle.kt_suite.specs.Answers.{Asked, Answered}
+use Rattle.kt_suite.specs.Answers.{Answered}
 use Rattle.kt_suite.specs.Selecting.{most_items}
 use Rattle.kt_plan.specs.declared.candidate.Candidate.{Candidate}
 use Rattle.kt_plan.specs.declared.case_options.CaseOptions.{CaseOptions}
@@ -22,15 +20,16 @@ use Rattle.kt_words.specs.declared.report_options.ReportOptions.{ReportOptions}
 use Rattle.kt_plan.specs.declared.picked.Picked.{Picked}
 use Rattle.kt_plan.specs.declared.stop.Stop.{Stop}
 use Rattle.kt_base.specs.declared.entry.Entry.{Entry}
-use Rattle.kt_base.specs.declared.no_memory.NoMemory.{NoMemory as OutOfMemory}
+use Rattle.kt_sched.specs.declared.launcher.Launcher as launcher
 use Rattle.kt_sched.specs.declared.run_fault.RunFault.{RunFault}
-use Rattle.kt_sched.specs.declared.run_fault.RunFault.TheVariants.{NoMemory}
+use Rattle.kt_sched.specs.declared.run_fault.RunFault.TheVariants.{NoMemory, SinkFailed}
 use Rattle.kt_sched.specs.declared.totals.Totals.{Totals}
 use Rattle.kt_sched.specs.Trace.{NoEvent}
 use Rattle.kt_words.specs.Commands.{cases_of, needs_case}
 use Rattle.kt_cli.specs.Inner.Debugging.{Debugged}
 use Rattle.kt_cli.specs.Debugging.{all_debug_bytes, debug_exit}
 use Rattle.kt_cli.specs.FaultLines.{memory_line}
+use Rattle.kt_cli.specs.Inner.FaultLines.{run_line}
 use Rattle.kt_plan.specs.Selecting.{Selects, SelectsFirst, SelectsOrShort}
 use Rattle.kt_cli.specs.Inner.Meaning.{asked_only, ToldOnly}
 use Rattle.kt_cli.specs.Meaning.{Seen, Course, listing, listing_exit, IsPrepared, IsAskedOnly, IsUnasked, Means, stopped, listed, tested, debugged, idle, reported, reported_junit, taken, AsksFirst, selecting, preparing, CutShort, no_memory, cut, report_cut, junit_cut, Did}
@@ -41,11 +40,12 @@ use Rattle.kt_plan.specs.Questions.{Question, leads_by, of_host}
 use Rattle.kt_cli.specs.Inner.Reports.{JunitOrUnread, DidReport}
 use Rattle.kt_cli.specs.Reports.{Reported, ReportedJunit, Unread}
 use Rattle.kt_plan.proofs.LookLaws.{all_surveyed}
+use Rattle.kt_cli.specs.Scenes.{Scene, scene, World, launcher_of}
 use Rattle.kt_cli.specs.StopLines.{stop_line, stop_exit}
 use Rattle.kt_base.specs.Shows.{Shows}
 use Rattle.kt_cli.specs.CaseLines.{case_line}
 use Rattle.kt_cli.specs.Inner.Testing.{RanPlan}
-use Rattle.kt_cli.specs.Testing.{none_idle, Tested, TestCut}
+use Rattle.kt_cli.specs.Testing.{none_idle, PlannedRun, planned_run, run_for, Tested, TestCut}
 use Rattle.kt_plan.specs.Told.{Told, Now}
 use Rattle.kt_cli.specs.Warnings.{warnings}
 use Rattle.kt_cli.proofs.Saying.{tells_both}
@@ -54,9 +54,9 @@ use Rattle.kt_base.proofs.Chains.{chain-append}
 use Rattle.kt_plan.proofs.QuestionChains.{chain_of_host}
 
 -- the same answer in other words
-pub debugged_as : {L : Type 0} (starts : L → Job → Role → StartAnswer → L → Type 0) (waits : L → Ended → L → Type 0) (plan : List Job) (old new : L) (was now : Option (List ℕ)) (failed : Bool) (answer other : Result Totals RunFault) → answer ≡ other
-    → Debugged starts waits plan old new was now failed answer → Debugged starts waits plan old new was now failed other
-debugged_as starts waits plan old new was now failed answer other e d = subst (λ (x : Result Totals RunFault). Debugged starts waits plan old new was now failed x) e d
+pub debugged_as : {L : Type 0} (l : launcher.Ghosts L) (plan : List Job) (old new : L) (was now : Option (List ℕ)) (failed : Bool) (answer other : Result Totals RunFault) → answer ≡ other
+    → Debugged l plan old new was now failed answer → Debugged l plan old new was now failed other
+debugged_as l plan old new was now failed answer other e d = subst (λ (x : Result Totals RunFault). Debugged l plan old new was now failed x) e d
 
 -- a listing was printed, and its warnings
 pub printed_listing : (options : CaseOptions) (picked : Picked) (cases : List Candidate) (words : List (List ℕ)) (unmatched : List ℕ) (was now : Option (List ℕ)) (f : Bool) (exit due : ℕ)
@@ -77,20 +77,19 @@ printed_memory was now f exit s e = record { failed = f; shows = s; exits = e }
 pub plan_few : (cases given : List Candidate) (plan : List Job) → given ≡ cases → length plan ≡ length given → length cases ≤ most_items → length plan ≤ most_items
 plan_few cases given plan e f l = subst (λ (k : ℕ). k ≤ most_items) (sym (f ∙ ap length e)) l
 
-module _ {W : Type 0} (asks : W → Asked → W → Type 0) (tells : W → Told → W → Type 0) (starts : W → Job → Role → StartAnswer → W → Type 0) (waits : W → Ended → W → Type 0) where
+module _ {W : Type 0} (w : World W) where
   -- a world is idle as before, after a question to its host
-  pub idle_told : (running : W → ℕ → Role → Option Child) (pending : W → ℕ → Bool)
-      → ((s t : W) (q : Told) → tells s q t → (k : ℕ) (r : Role) → running t k r ≡ running s k r) → ((s t : W) (q : Told) → tells s q t → (k : ℕ) → pending t k ≡ pending s k)
-      → (mid new : W) (m : Told) → tells mid m new → IsIdle (running mid) (pending mid) → IsIdle (running new) (pending new)
-  idle_told running pending d e mid new m t j = record { runs = λ k r. d mid new m t k r ∙ j.runs k r; pends = λ k. e mid new m t k ∙ j.pends k }
+  pub idle_told : ((s t : W) (q : Told) → w.tells s q t → (k : ℕ) (role : Role) → w.running t k role ≡ w.running s k role) → ((s t : W) (q : Told) → w.tells s q t → (k : ℕ) → w.pending t k ≡ w.pending s k)
+      → (mid new : W) (m : Told) → w.tells mid m new → IsIdle (w.running mid) (w.pending mid) → IsIdle (w.running new) (w.pending new)
+  idle_told d e mid new m t j = record { runs = λ k role. d mid new m t k role ∙ j.runs k role; pends = λ k. e mid new m t k ∙ j.pends k }
 
   -- nothing was started
-  course_of : (questions : List Question) (old new : W) → Chain (leads_by asks tells) old questions new → Course asks tells starts waits (asked_only questions) old new
+  course_of : (questions : List Question) (old new : W) → Chain (leads_by w.asks w.tells) old questions new → Course w (asked_only questions) old new
   course_of questions old new p = record { begun = new; asked = p; ran = refl }
 
-  told_only : (c : Command) (old new : W) (was now : Option (List ℕ)) (exit : ℕ) (questions : List Question) (bytes : List ℕ) (due : ℕ) → Chain (leads_by asks tells) old questions new
+  told_only : (c : Command) (old new : W) (was now : Option (List ℕ)) (exit : ℕ) (questions : List Question) (bytes : List ℕ) (due : ℕ) → Chain (leads_by w.asks w.tells) old questions new
       → Means (asked_only questions) c bytes due ⊎ CutShort (asked_only questions) c bytes due
-      → Printed was now exit bytes due → ToldOnly asks tells starts waits c old new was now exit
+      → Printed was now exit bytes due → ToldOnly w c old new was now exit
   told_only c old new was now exit questions bytes due p m q = record { seen = asked_only questions; course = course_of questions old new p; uncalled = refl; bytes = bytes; due = due; is = m; printed = q }
 
   only_asked : (questions : List Question) → IsAskedOnly (asked_only questions)
@@ -107,8 +106,8 @@ module _ {W : Type 0} (asks : W → Asked → W → Type 0) (tells : W → Told 
 
   -- a fault of the steps ended the command
   pub stopped_only : (c : Command) (options : CaseOptions) (needed : Bool) (old new : W) (was now : Option (List ℕ)) (exit : ℕ) (fault : Stop) → cases_of c ≡ Some options → needs_case c ≡ needed
-      → Answered (leads_by asks tells) old new (λ questions. SelectsOrShort needed options questions (Err fault))
-      → Printed was now exit (utf8 (stop_line fault)) (stop_exit fault) → ToldOnly asks tells starts waits c old new was now exit
+      → Answered (leads_by w.asks w.tells) old new (λ questions. SelectsOrShort needed options questions (Err fault))
+      → Printed was now exit (utf8 (stop_line fault)) (stop_exit fault) → ToldOnly w c old new was now exit
   stopped_only c options needed old new was now exit fault e n a p =
       told_only c old new was now exit a.asked (utf8 (stop_line fault)) (stop_exit fault) a.chain (stop_means c options needed a.asked fault e n a.holds) p
 
@@ -118,8 +117,8 @@ module _ {W : Type 0} (asks : W → Asked → W → Type 0) (tells : W → Told 
 
   -- cases were listed
   pub listed_only : (options : CaseOptions) (old new : W) (was now : Option (List ℕ)) (exit : ℕ) (picked : Picked)
-      → Answered (leads_by asks tells) old new (λ questions. SelectsOrShort false options questions (Ok picked))
-      → Printed was now exit (listing options.filters picked.chosen) (listing_exit picked.chosen) → ToldOnly asks tells starts waits (command.List options) old new was now exit
+      → Answered (leads_by w.asks w.tells) old new (λ questions. SelectsOrShort false options questions (Ok picked))
+      → Printed was now exit (listing options.filters picked.chosen) (listing_exit picked.chosen) → ToldOnly w (command.List options) old new was now exit
   listed_only options old new was now exit picked a p =
       told_only (command.List options) old new was now exit a.asked (listing options.filters picked.chosen) (listing_exit picked.chosen) a.chain
       (inl (listed options picked (picked_is false options a.asked picked a.holds) (only_asked a.asked))) p
@@ -132,25 +131,25 @@ module _ {W : Type 0} (asks : W → Asked → W → Type 0) (tells : W → Told 
 
   -- memory ran out before a plan was made
   pub short_only : (c : Command) (options : CaseOptions) (needed : Bool) (old mid new : W) (was now : Option (List ℕ)) (exit : ℕ) (picked : Picked) (cases : List Candidate) → cases_of c ≡ Some options → needs_case c ≡ needed
-      → Answered (leads_by asks tells) old mid (λ questions. SelectsOrShort needed options questions (Ok picked)) → cases ≡ taken needed picked.chosen.cases → Answered tells mid new (λ told. SurveysFirst cases told)
-      → Printed was now exit (utf8 memory_line) 2 → ToldOnly asks tells starts waits c old new was now exit
+      → Answered (leads_by w.asks w.tells) old mid (λ questions. SelectsOrShort needed options questions (Ok picked)) → cases ≡ taken needed picked.chosen.cases → Answered w.tells mid new (λ told. SurveysFirst cases told)
+      → Printed was now exit (utf8 memory_line) 2 → ToldOnly w c old new was now exit
   short_only c options needed old mid new was now exit picked cases e n a same b p =
-      told_only c old new was now exit (a.asked ++ of_host b.asked) (utf8 memory_line) 2 (chain-append (leads_by asks tells) a.asked (of_host b.asked) old mid new a.chain (chain_of_host asks tells b.asked mid new b.chain))
+      told_only c old new was now exit (a.asked ++ of_host b.asked) (utf8 memory_line) 2 (chain-append (leads_by w.asks w.tells) a.asked (of_host b.asked) old mid new a.chain (chain_of_host w.asks w.tells b.asked mid new b.chain))
       (inr (no_memory c options e (subst (λ (x : Bool). AsksFirst x options (a.asked ++ of_host b.asked)) (sym n) (prepared_first needed options a.asked b.asked picked cases a.holds same b.holds)) (only_asked (a.asked ++ of_host b.asked)))) p
 
   -- no case was selected for `debug`
   pub idle_only : (options : CaseOptions) (old new : W) (was now : Option (List ℕ)) (exit : ℕ) (picked : Picked)
-      → Answered (leads_by asks tells) old new (λ questions. SelectsOrShort true options questions (Ok picked)) → picked.chosen.cases ≡ []
-      → Printed was now exit (utf8 (warnings options.filters picked.chosen.unmatched)) 1 → ToldOnly asks tells starts waits (command.Debug options) old new was now exit
+      → Answered (leads_by w.asks w.tells) old new (λ questions. SelectsOrShort true options questions (Ok picked)) → picked.chosen.cases ≡ []
+      → Printed was now exit (utf8 (warnings options.filters picked.chosen.unmatched)) 1 → ToldOnly w (command.Debug options) old new was now exit
   idle_only options old new was now exit picked a n p =
       told_only (command.Debug options) old new was now exit a.asked (utf8 (warnings options.filters picked.chosen.unmatched)) 1 a.chain
       (inl (idle options picked (picked_is true options a.asked picked a.holds) n (only_asked a.asked))) p
 
   -- the same by parts of what was selected
   pub idle_answer : (options : CaseOptions) (old new : W) (was now : Option (List ℕ)) (exit : ℕ) (f : Bool) (picked : Picked) (cases : List Candidate) (words : List (List ℕ)) (unmatched : List ℕ)
-      → Answered (leads_by asks tells) old new (λ questions. SelectsOrShort true options questions (Ok picked)) → cases ≡ picked.chosen.cases → cases ≡ []
+      → Answered (leads_by w.asks w.tells) old new (λ questions. SelectsOrShort true options questions (Ok picked)) → cases ≡ picked.chosen.cases → cases ≡ []
       → words ≡ options.filters → unmatched ≡ picked.chosen.unmatched → Shows was now f (utf8 (warnings words unmatched)) → exit ≡ (if f then 2 else 1)
-      → ToldOnly asks tells starts waits (command.Debug options) old new was now exit
+      → ToldOnly w (command.Debug options) old new was now exit
   idle_answer options old new was now exit f picked cases words unmatched a x n b d s e =
       idle_only options old new was now exit picked a (sym x ∙ n)
       (record {
@@ -165,15 +164,15 @@ module _ {W : Type 0} (asks : W → Asked → W → Type 0) (tells : W → Told 
 
   -- one case was run for `debug`
   pub debug_only : (options : CaseOptions) (old mid begun new : W) (was now : Option (List ℕ)) (exit : ℕ) (picked : Picked) (first : Candidate) (others : List Candidate) (plan : List Job) (failed : Bool) (totals : Totals)
-      → Answered (leads_by asks tells) old mid (λ questions. SelectsOrShort true options questions (Ok picked)) → picked.chosen.cases ≡ first ∷ others
-      → Answered tells mid begun (Prepares picked (first ∷ []) plan)
-      → Debugged starts waits plan begun new was now failed (Ok totals) → exit ≡ (if failed then 2 else (if totals.bad == 0 then 0 else 1))
-      → ToldOnly asks tells starts waits (command.Debug options) old new was now exit
+      → Answered (leads_by w.asks w.tells) old mid (λ questions. SelectsOrShort true options questions (Ok picked)) → picked.chosen.cases ≡ first ∷ others
+      → Answered w.tells mid begun (Prepares picked (first ∷ []) plan)
+      → Debugged (launcher_of w) plan begun new was now failed (Ok totals) → exit ≡ (if failed then 2 else (if totals.bad == 0 then 0 else 1))
+      → ToldOnly w (command.Debug options) old new was now exit
   debug_only options old mid begun new was now exit picked first others plan failed totals a n b d e = record {
     seen = record { questions = a.asked ++ (of_host b.asked ++ []); plan = plan; trace = d.trace; calls = [] };
     course = record {
       begun = begun;
-      asked = chain-append (leads_by asks tells) a.asked (of_host b.asked ++ []) old mid begun a.chain (chain-append (leads_by asks tells) (of_host b.asked) [] mid begun begun (chain_of_host asks tells b.asked mid begun b.chain) refl);
+      asked = chain-append (leads_by w.asks w.tells) a.asked (of_host b.asked ++ []) old mid begun a.chain (chain-append (leads_by w.asks w.tells) (of_host b.asked) [] mid begun begun (chain_of_host w.asks w.tells b.asked mid begun b.chain) refl);
       ran = d.leads;
     };
     uncalled = refl;
@@ -193,24 +192,25 @@ module _ {W : Type 0} (asks : W → Asked → W → Type 0) (tells : W → Told 
 
   -- the same by parts of what was selected
   pub debug_parts : (options : CaseOptions) (old mid begun new : W) (was now : Option (List ℕ)) (exit : ℕ) (picked : Picked) (first : Candidate) (others cases some : List Candidate) (plan : List Job) (failed : Bool) (totals : Totals) (due : ℕ)
-      → Answered (leads_by asks tells) old mid (λ questions. SelectsOrShort true options questions (Ok picked)) → cases ≡ picked.chosen.cases → cases ≡ first ∷ others → some ≡ take 1 cases
-      → Answered tells mid begun (Prepares picked some plan)
-      → Debugged starts waits plan begun new was now failed (Ok totals) → due ≡ (if totals.bad == 0 then 0 else 1) → exit ≡ (if failed then 2 else due)
-      → ToldOnly asks tells starts waits (command.Debug options) old new was now exit
+      → Answered (leads_by w.asks w.tells) old mid (λ questions. SelectsOrShort true options questions (Ok picked)) → cases ≡ picked.chosen.cases → cases ≡ first ∷ others → some ≡ take 1 cases
+      → Answered w.tells mid begun (Prepares picked some plan)
+      → Debugged (launcher_of w) plan begun new was now failed (Ok totals) → due ≡ (if totals.bad == 0 then 0 else 1) → exit ≡ (if failed then 2 else due)
+      → ToldOnly w (command.Debug options) old new was now exit
   debug_parts options old mid begun new was now exit picked first others cases some plan failed totals due a x n s b d k e =
       debug_only options old mid begun new was now exit picked first others plan failed totals a (sym x ∙ n)
-      (subst (λ (xs : List Candidate). Answered tells mid begun (Prepares picked xs plan)) (s ∙ ap (λ (xs : List Candidate). take 1 xs) n) b) d (e ∙ ap (λ (y : ℕ). if failed then 2 else y) k)
+      (subst (λ (xs : List Candidate). Answered w.tells mid begun (Prepares picked xs plan)) (s ∙ ap (λ (xs : List Candidate). take 1 xs) n) b) d (e ∙ ap (λ (y : ℕ). if failed then 2 else y) k)
 
   -- memory ran out before the case was started
-  pub debug_short : (options : CaseOptions) (old mid begun new : W) (was between now : Option (List ℕ)) (exit : ℕ) (picked : Picked) (some : List Candidate) (plan : List Job) (f g : Bool) (refusal : OutOfMemory)
-      → Answered (leads_by asks tells) old mid (λ questions. SelectsOrShort true options questions (Ok picked))
-      → some ≡ take 1 picked.chosen.cases → Answered tells mid begun (Prepares picked some plan) → Debugged starts waits plan begun new was between f (Err (NoMemory refusal)) → Says between f now g (utf8 memory_line) → exit ≡ (if g then 2 else 2)
-      → ToldOnly asks tells starts waits (command.Debug options) old new was now exit
-  debug_short options old mid begun new was between now exit picked some plan f g refusal a same b d s e =
+  pub debug_short : (options : CaseOptions) (old mid begun new : W) (was between now : Option (List ℕ)) (exit : ℕ) (picked : Picked) (some : List Candidate) (plan : List Job) (f g : Bool) (fault : RunFault)
+      → Answered (leads_by w.asks w.tells) old mid (λ questions. SelectsOrShort true options questions (Ok picked))
+      → some ≡ take 1 picked.chosen.cases → Answered w.tells mid begun (Prepares picked some plan) → Debugged (launcher_of w) plan begun new was between f (Err fault) → Says between f now g (utf8 (run_line fault)) → exit ≡ (if g then 2 else 2)
+      → ToldOnly w (command.Debug options) old new was now exit
+  debug_short options old mid begun new was between now exit picked some plan f g (SinkFailed why) a same b d s e = absurd d.ends
+  debug_short options old mid begun new was between now exit picked some plan f g (NoMemory refusal) a same b d s e =
       let q = d.ends in
       record {
         seen = record { questions = a.asked ++ of_host b.asked; plan = plan; trace = d.trace; calls = [] };
-        course = record { begun = begun; asked = chain-append (leads_by asks tells) a.asked (of_host b.asked) old mid begun a.chain (chain_of_host asks tells b.asked mid begun b.chain); ran = d.leads };
+        course = record { begun = begun; asked = chain-append (leads_by w.asks w.tells) a.asked (of_host b.asked) old mid begun a.chain (chain_of_host w.asks w.tells b.asked mid begun b.chain); ran = d.leads };
         uncalled = refl;
         bytes = utf8 memory_line;
         due = 2;
@@ -218,13 +218,13 @@ module _ {W : Type 0} (asks : W → Asked → W → Type 0) (tells : W → Told 
         printed = record { failed = g; shows = (tells_both was between now false f g [] (utf8 memory_line) (subst (λ (es : List Entry). Says was false between f (all_debug_bytes es)) q.1 d.says) s).more; exits = e };
       }
 
-  module _ {R : Type 0} (Answers : R → StoreCall → R → Type 0) (Stands : R → List Run → Type 0) (Sound : R → Type 0) (Leaves : R → List (List Run) → Type 0) (store : R) (was now : Option (List ℕ)) (exit : ℕ) where
+  module _ {R : Type 0} (keep : keeping.Ghosts R) where
     -- a command that calls no store is a command
-    pub did_told : (c : Command) (old new : W) → ToldOnly asks tells starts waits c old new was now exit → Did asks tells starts waits Answers Stands Sound Leaves c old new store store was now exit
-    did_told c old new t = record {
+    pub did_told : (c : Command) (old new : W) (store : R) (was now : Option (List ℕ)) (exit : ℕ) → ToldOnly w c old new was now exit → Did w keep c (scene old store was) (scene new store now) exit
+    did_told c old new store was now exit t = record {
       seen = t.seen;
       course = t.course;
-      stored = stored_as Answers Stands Sound Leaves [] t.seen.calls store store (sym t.uncalled) (stored_none Answers Stands Sound Leaves store);
+      stored = stored_as keep [] t.seen.calls store store (sym t.uncalled) (stored_none keep store);
       bytes = t.bytes;
       due = t.due;
       is = t.is;
@@ -232,12 +232,11 @@ module _ {W : Type 0} (asks : W → Asked → W → Type 0) (tells : W → Told 
     }
 
     -- a plan was run
-    pub did_test : (after : R) (options : CaseOptions) (file : List ℕ) (old mid asked begun new : W) (picked : Picked) (plan : List Job) (moment width : ℕ)
-        → Answered (leads_by asks tells) old mid (λ questions. SelectsOrShort false options questions (Ok picked))
-        → Answered tells mid asked (Prepares picked picked.chosen.cases plan) → tells asked (Now moment) begun → width ≡ picked.settings.config.parallelism
-        → RanPlan starts waits Answers Stands Sound Leaves plan width options.filters picked.chosen.unmatched moment begun new store after was now exit
-        → Did asks tells starts waits Answers Stands Sound Leaves (command.Test options file) old new store after was now exit
-    did_test after options file old mid asked begun new picked plan moment width a b t w r =
+    pub did_test : (old new : Scene W R) (options : CaseOptions) (file : List ℕ) (mid asked begun : W) (picked : Picked) (plan : List Job) (moment exit : ℕ)
+        → Answered (leads_by w.asks w.tells) old.world mid (λ questions. SelectsOrShort false options questions (Ok picked))
+        → Answered w.tells mid asked (Prepares picked picked.chosen.cases plan) → w.tells asked (Now moment) begun
+        → RanPlan (launcher_of w) keep (run_for plan options picked moment) (scene begun old.store old.held) new exit → Did w keep (command.Test options file) old new exit
+    did_test old new options file mid asked begun picked plan moment exit a b t r =
         let seen : Seen = record { questions = a.asked ++ (of_host b.asked ++ of_host (Now moment ∷ [])); plan = plan; trace = r.trace; calls = r.calls } in
         let prepared : IsPrepared false options seen picked picked.chosen.cases (Now moment ∷ []) = record {
           before = a.asked;
@@ -248,38 +247,32 @@ module _ {W : Type 0} (asks : W → Asked → W → Type 0) (tells : W → Told 
           asked = refl;
           planned = b.holds.2;
         } in
-        let c = command.Test options file in
-        let n = picked.settings.config.parallelism in
         record {
           seen = seen;
           course = record {
             begun = begun;
-            asked = chain-append (leads_by asks tells) a.asked (of_host b.asked ++ of_host (Now moment ∷ [])) old mid begun a.chain
-                (chain-append (leads_by asks tells) (of_host b.asked) (of_host (Now moment ∷ [])) mid asked begun (chain_of_host asks tells b.asked mid asked b.chain) (begun, t, refl));
+            asked = chain-append (leads_by w.asks w.tells) a.asked (of_host b.asked ++ of_host (Now moment ∷ [])) old.world mid begun a.chain
+                (chain-append (leads_by w.asks w.tells) (of_host b.asked) (of_host (Now moment ∷ [])) mid asked begun (chain_of_host w.asks w.tells b.asked mid asked b.chain) (begun, t, refl));
             ran = r.leads;
           };
           stored = r.stored;
           bytes = r.bytes;
           due = r.due;
-          is = elim r.is [
-            | inl x ↦ inl (tested options file picked moment r.bytes r.due prepared (subst (λ (k : ℕ). Tested plan k options.filters picked.chosen.unmatched moment r.trace r.calls r.bytes r.due) w x))
-            | inr x ↦ inr (cut options file picked moment r.bytes r.due prepared (subst (λ (k : ℕ). TestCut plan k moment r.trace r.calls r.bytes r.due) w x))
-          ];
+          is = elim r.is [ inl x ↦ inl (tested options file picked moment r.bytes r.due prepared x) | inr x ↦ inr (cut options file picked moment r.bytes r.due prepared x) ];
           printed = r.printed;
         }
 
     -- the same by parts of what was selected
-    pub did_test_parts : (after : R) (options : CaseOptions) (file : List ℕ) (old mid asked begun new : W) (picked : Picked) (plan : List Job) (moment width : ℕ) (cases : List Candidate) (words : List (List ℕ)) (unmatched : List ℕ)
-        → cases ≡ picked.chosen.cases → words ≡ options.filters → unmatched ≡ picked.chosen.unmatched
-        → Answered (leads_by asks tells) old mid (λ questions. SelectsOrShort false options questions (Ok picked))
-        → Answered tells mid asked (Prepares picked cases plan) → tells asked (Now moment) begun → width ≡ picked.settings.config.parallelism
-        → RanPlan starts waits Answers Stands Sound Leaves plan width words unmatched moment begun new store after was now exit
-        → Did asks tells starts waits Answers Stands Sound Leaves (command.Test options file) old new store after was now exit
-    did_test_parts after options file old mid asked begun new picked plan moment width cases words unmatched x y z a b t w r =
-        did_test after options file old mid asked begun new picked plan moment width a
-        (subst (λ (xs : List Candidate). Answered tells mid asked (Prepares picked xs plan)) x b) t w
-        (subst (λ (ws : List (List ℕ)). RanPlan starts waits Answers Stands Sound Leaves plan width ws picked.chosen.unmatched moment begun new store after was now exit) y
-        (subst (λ (us : List ℕ). RanPlan starts waits Answers Stands Sound Leaves plan width words us moment begun new store after was now exit) z r))
+    pub did_test_parts : (old new : Scene W R) (options : CaseOptions) (file : List ℕ) (mid asked begun : W) (picked : Picked) (plan : List Job) (moment exit width : ℕ) (cases : List Candidate) (words : List (List ℕ)) (unmatched : List ℕ)
+        → cases ≡ picked.chosen.cases → words ≡ options.filters → unmatched ≡ picked.chosen.unmatched → width ≡ picked.settings.config.parallelism
+        → Answered (leads_by w.asks w.tells) old.world mid (λ questions. SelectsOrShort false options questions (Ok picked))
+        → Answered w.tells mid asked (Prepares picked cases plan) → w.tells asked (Now moment) begun
+        → RanPlan (launcher_of w) keep (planned_run plan width words unmatched moment) (scene begun old.store old.held) new exit
+        → Did w keep (command.Test options file) old new exit
+    did_test_parts old new options file mid asked begun picked plan moment exit width cases words unmatched x y z v a b t r =
+        let same : ◌≡◌ {A = PlannedRun} (planned_run plan width words unmatched moment) (run_for plan options picked moment) = rw (y, z, v) refl in
+        did_test old new options file mid asked begun picked plan moment exit a (subst (λ (xs : List Candidate). Answered w.tells mid asked (Prepares picked xs plan)) x b) t
+        (subst (λ (p : PlannedRun). RanPlan (launcher_of w) keep p (scene begun old.store old.held) new exit) same r)
 
     -- nothing was asked
     abbrev called_only : List StoreCall → Seen
@@ -288,34 +281,35 @@ module _ {W : Type 0} (asks : W → Asked → W → Type 0) (tells : W → Told 
     unasked : (calls : List StoreCall) → IsUnasked (called_only calls)
     unasked calls = record { questions = refl; trace = refl }
 
-    -- `report` is a command
-    pub did_report : (after : R) (options : ReportOptions) (kinds : List Kind) (verbose : Bool) (world : W) → DidReport Answers Stands Sound Leaves store after was now exit (Reported options.run kinds verbose) (Unread options.run)
-        → Did asks tells starts waits Answers Stands Sound Leaves (command.Report options kinds verbose) world world store after was now exit
-    did_report after options kinds verbose world d = record {
-      seen = called_only d.calls;
-      course = record { begun = world; asked = refl; ran = refl };
-      stored = d.stored;
-      bytes = d.bytes;
-      due = d.due;
-      is = elim d.is [
-        | inl x ↦ inl (reported options kinds verbose d.bytes d.due (unasked d.calls) x)
-        | inr x ↦ inr (report_cut options kinds verbose d.bytes d.due (unasked d.calls) x)
-      ];
-      printed = d.printed;
-    }
+    module _ (world : W) (store after : R) (was now : Option (List ℕ)) (exit : ℕ) (options : ReportOptions) where
+      -- `report` is a command
+      pub did_report : (kinds : List Kind) (verbose : Bool) → DidReport keep store after was now exit (Reported options.run kinds verbose) (Unread options.run)
+          → Did w keep (command.Report options kinds verbose) (scene world store was) (scene world after now) exit
+      did_report kinds verbose d = record {
+        seen = called_only d.calls;
+        course = record { begun = world; asked = refl; ran = refl };
+        stored = d.stored;
+        bytes = d.bytes;
+        due = d.due;
+        is = elim d.is [
+          | inl x ↦ inl (reported options kinds verbose d.bytes d.due (unasked d.calls) x)
+          | inr x ↦ inr (report_cut options kinds verbose d.bytes d.due (unasked d.calls) x)
+        ];
+        printed = d.printed;
+      }
 
-    -- `report-junit` is a command
-    pub did_junit : (after : R) (options : ReportOptions) (world : W) → DidReport Answers Stands Sound Leaves store after was now exit (ReportedJunit options.run) (JunitOrUnread options.run)
-        → Did asks tells starts waits Answers Stands Sound Leaves (command.ReportJunit options) world world store after was now exit
-    did_junit after options world d = record {
-      seen = called_only d.calls;
-      course = record { begun = world; asked = refl; ran = refl };
-      stored = d.stored;
-      bytes = d.bytes;
-      due = d.due;
-      is = elim d.is [ inl x ↦ inl (reported_junit options d.bytes d.due (unasked d.calls) x) | inr x ↦ inr (junit_cut options d.bytes d.due (unasked d.calls) x) ];
-      printed = d.printed;
-    }
+      -- `report-junit` is a command
+      pub did_junit : DidReport keep store after was now exit (ReportedJunit options.run) (JunitOrUnread options.run)
+          → Did w keep (command.ReportJunit options) (scene world store was) (scene world after now) exit
+      did_junit d = record {
+        seen = called_only d.calls;
+        course = record { begun = world; asked = refl; ran = refl };
+        stored = d.stored;
+        bytes = d.bytes;
+        due = d.due;
+        is = elim d.is [ inl x ↦ inl (reported_junit options d.bytes d.due (unasked d.calls) x) | inr x ↦ inr (junit_cut options d.bytes d.due (unasked d.calls) x) ];
+        printed = d.printed;
+      }
 
-    pub did_as : (c d : Command) (old new : W) (after : R) → c ≡ d → Did asks tells starts waits Answers Stands Sound Leaves d old new store after was now exit → Did asks tells starts waits Answers Stands Sound Leaves c old new store after was now exit
-    did_as c d old new after e h = subst (λ (x : Command). Did asks tells starts waits Answers Stands Sound Leaves x old new store after was now exit) (sym e) h
+    pub did_as : (c d : Command) (old new : Scene W R) (exit : ℕ) → c ≡ d → Did w keep d old new exit → Did w keep c old new exit
+    did_as c d old new exit e h = subst (λ (x : Command). Did w keep x old new exit) (sym e) h

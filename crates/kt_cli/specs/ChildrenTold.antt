@@ -9,8 +9,7 @@ use Rattle.kt_child.specs.System.Calls.{Call}
 use Rattle.kt_child.specs.Driving.Numbers.{IsBare}
 use Rattle.kt_child.specs.Driving.TraceLives.{EachWith, ToldAt}
 use Rattle.kt_cli.specs.declared.runner.Runner.{Runner}
-use Rattle.kt_cli.specs.HostAnswers.{IsHostAnswer, RunnerStarts, RunnerWaits}
-use Rattle.kt_cli.specs.HostFiles.{IsLook}
+use Rattle.kt_cli.specs.HostAnswers.{runner_world}
 use Rattle.kt_cli.specs.Meaning.{Seen, Course}
 
 -- of all that a driver asked of its system for the answers of a trace, each start has its own calls, and each end is told by those of its own
@@ -22,5 +21,5 @@ ChildrenTell leads plan T old new =
 -- whatever was asked of a runner whose driver had nothing running at first: its children tell each end of the trace
 abbrev pub CoursesAreTold : {O : Type 0} → (O → Call → O → Type 0) → Type 0
 CoursesAreTold {O} leads =
-    (seen : Seen) (old new : Runner O) (course : Course IsLook (IsHostAnswer leads) (RunnerStarts leads) (RunnerWaits leads) seen old new)
+    (seen : Seen) (old new : Runner O) (course : Course (runner_world leads) seen old new)
     → IsBare old.driver.running → IsPlan seen.plan ⊎ (seen.trace ≡ NoEvent) → ChildrenTell leads seen.plan seen.trace course.begun.driver new.driver

@@ -8,9 +8,11 @@ use Rattle.kt_sched.specs.declared.job.Job.{Job}
 use Rattle.kt_sched.specs.declared.start_answer.StartAnswer.{StartAnswer}
 use Rattle.kt_sched.specs.declared.ended.Ended.{Ended}
 use Rattle.kt_child.specs.System.Calls.{Call}
+use Rattle.kt_child.specs.Driving.ChildrenState.{is_among, shown_at}
 use Rattle.kt_child.specs.Driving.DriverSteps.{DriverLists, DriverStarts, DriverWaits}
 use Rattle.kt_cli.specs.declared.runner.Runner.{Runner}
-use Rattle.kt_cli.specs.HostFiles.{read_limit}
+use Rattle.kt_cli.specs.HostFiles.{IsLook, read_limit}
+use Rattle.kt_cli.specs.Scenes.{World}
 use Rattle.kt_plan.specs.Told.{Told, ReadConfig, Lists, FindsFile, FindsProgram, IsRoot, HasMemory, HasDisk, Now}
 
 -- the user is root, by the value of `USER`
@@ -41,6 +43,17 @@ RunnerStarts leads old job role answer new = DriverStarts leads old.driver job r
 -- a wait by the runner's driver
 abbrev pub RunnerWaits : {O : Type 0} → (O → Call → O → Type 0) → Runner O → Ended → Runner O → Type 0
 RunnerWaits leads old ended new = DriverWaits leads old.driver ended new.driver × (new.around ≡ old.around)
+
+-- the relations of a runner, over a system of which this leads from one state to the next
+abbrev pub runner_world : {O : Type 0} → (O → Call → O → Type 0) → World (Runner O)
+runner_world leads = record {
+  running = λ r. shown_at r.driver.running.cases;
+  pending = λ r. is_among r.driver.running.pending;
+  starts = RunnerStarts leads;
+  waits = RunnerWaits leads;
+  asks = IsLook;
+  tells = IsHostAnswer leads;
+}
 
 -- no question changes what runs
 pub running_kept : {O : Type 0} (leads : O → Call → O → Type 0) (old new : Runner O) (told : Told) → IsHostAnswer leads old told new → new.driver.running ≡ old.driver.running

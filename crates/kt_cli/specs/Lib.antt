@@ -17,6 +17,7 @@ pub mod Platforms
 pub mod Recordings
 pub mod Refused
 pub mod Reports
+pub mod Scenes
 pub mod Sequences
 pub mod SoundStores
 pub mod StopLines

@@ -2,17 +2,13 @@
 use Rattle.std.specs.Prelude.{ℕ, Bool, true, false, List, [], ◌∷◌, ◌++◌, ◌≡◌, ◌⊎◌, Option, Some, Ok, Err, take, flat_map, if◌then◌else◌}
 use Rattle.kt_base.specs.declared.entry.Entry.{Entry}
 use Rattle.kt_base.specs.declared.kind.Kind.{Kind}
-use Rattle.kt_base.specs.declared.role.Role.{Role}
-use Rattle.kt_base.specs.declared.run.Run.{Run}
 use Rattle.kt_base.specs.Utf8.{utf8}
 use Rattle.kt_metadata.specs.declared.host.Host.{Host}
 use Rattle.kt_sched.specs.declared.job.Job.{Job}
-use Rattle.kt_sched.specs.declared.start_answer.StartAnswer.{StartAnswer}
-use Rattle.kt_sched.specs.declared.ended.Ended.{Ended}
 use Rattle.kt_sched.specs.Trace.{Trace, NoEvent, Leads}
 use Rattle.kt_store.specs.StoreCalls.{StoreCall}
+use Rattle.kt_store.specs.declared.keeping.Keeping as keeping
 use Rattle.kt_base.specs.Chains.{Chain}
-use Rattle.kt_suite.specs.Answers.{Asked}
 use Rattle.kt_plan.specs.declared.candidate.Candidate.{Candidate}
 use Rattle.kt_plan.specs.declared.case_options.CaseOptions.{CaseOptions}
 use Rattle.kt_plan.specs.declared.chosen.Chosen.{Chosen}
@@ -31,9 +27,10 @@ use Rattle.kt_plan.specs.Questions.{Question, leads_by, of_host}
 use Rattle.kt_plan.specs.Selecting.{Selects, SelectsFirst}
 use Rattle.kt_cli.specs.Recordings.{AllRecorded}
 use Rattle.kt_cli.specs.Reports.{Reported, ReportedJunit, Unread, JunitCut}
+use Rattle.kt_cli.specs.Scenes.{Scene, World}
 use Rattle.kt_cli.specs.StopLines.{stop_line, stop_exit}
 use Rattle.kt_cli.specs.Stores.{Stored}
-use Rattle.kt_cli.specs.Testing.{none_idle, Tested, TestCut}
+use Rattle.kt_cli.specs.Testing.{none_idle, run_for, Tested, TestCut}
 use Rattle.kt_plan.specs.Told.{Told, Now}
 use Rattle.kt_cli.specs.Warnings.{warnings}
 
@@ -46,10 +43,10 @@ pub record Seen : Type 0 where
   pub calls : List StoreCall
 
 -- these answers lead the world through the command
-pub record Course {W : Type 0} (asks : W → Asked → W → Type 0) (tells : W → Told → W → Type 0) (starts : W → Job → Role → StartAnswer → W → Type 0) (waits : W → Ended → W → Type 0) (seen : Seen) (old new : W) : Type 0 where
+pub record Course {W : Type 0} (w : World W) (seen : Seen) (old new : W) : Type 0 where
   pub begun : W
-  pub asked : Chain (leads_by asks tells) old seen.questions begun
-  pub ran : Leads starts waits seen.plan seen.trace begun new
+  pub asked : Chain (leads_by w.asks w.tells) old seen.questions begun
+  pub ran : Leads w.starts w.waits seen.plan seen.trace begun new
 
 -- a line for each selected case, and a warning for each filter that selects none
 abbrev pub listing : List (List ℕ) → Chosen → List ℕ
@@ -86,7 +83,7 @@ pub data Means (seen : Seen) : Command → List ℕ → ℕ → Type 0 where
   listed : (options : CaseOptions) (picked : Picked) → Selects false options seen.questions (Ok picked) → IsAskedOnly seen
       → Means seen (command.List options) (listing options.filters picked.chosen) (listing_exit picked.chosen)
   tested : (options : CaseOptions) (file : List ℕ) (picked : Picked) (moment : ℕ) (bytes : List ℕ) (exit : ℕ) → IsPrepared false options seen picked picked.chosen.cases (Now moment ∷ [])
-      → Tested seen.plan picked.settings.config.parallelism options.filters picked.chosen.unmatched moment seen.trace seen.calls bytes exit
+      → Tested (run_for seen.plan options picked moment) seen.trace seen.calls bytes exit
       → Means seen (command.Test options file) bytes exit
   debugged : (options : CaseOptions) (picked : Picked) (first : Candidate) (others : List Candidate) (entries : List Entry) → picked.chosen.cases ≡ first ∷ others
       → IsPrepared true options seen picked (first ∷ []) [] → AllRecorded seen.plan 1 seen.trace entries → seen.calls ≡ []
@@ -114,20 +111,21 @@ pub data CutShort (seen : Seen) : Command → List ℕ → ℕ → Type 0 where
   no_memory : (c : Command) (options : CaseOptions) → cases_of c ≡ Some options → AsksFirst (needs_case c) options seen.questions → IsAskedOnly seen
       → CutShort seen c (utf8 memory_line) 2
   cut : (options : CaseOptions) (file : List ℕ) (picked : Picked) (moment : ℕ) (bytes : List ℕ) (exit : ℕ) → IsPrepared false options seen picked picked.chosen.cases (Now moment ∷ [])
-      → TestCut seen.plan picked.settings.config.parallelism moment seen.trace seen.calls bytes exit
+      → TestCut (run_for seen.plan options picked moment) seen.trace seen.calls bytes exit
       → CutShort seen (command.Test options file) bytes exit
   report_cut : (options : ReportOptions) (kinds : List Kind) (verbose : Bool) (bytes : List ℕ) (exit : ℕ) → IsUnasked seen → Unread options.run seen.calls bytes exit
       → CutShort seen (command.Report options kinds verbose) bytes exit
   junit_cut : (options : ReportOptions) (bytes : List ℕ) (exit : ℕ) → IsUnasked seen → Unread options.run seen.calls bytes exit ⊎ JunitCut options.run seen.calls bytes exit
       → CutShort seen (command.ReportJunit options) bytes exit
 
--- what `execute` did, by what it saw: what the command means, or how memory or the store cut it short; a failed writer holds a proper
--- prefix of its bytes. The store's own answers are part of it, and what they did to the runs stands apart: nothing else rests on the store
-pub record Did {W R : Type 0} (asks : W → Asked → W → Type 0) (tells : W → Told → W → Type 0) (starts : W → Job → Role → StartAnswer → W → Type 0) (waits : W → Ended → W → Type 0) (Answers : R → StoreCall → R → Type 0) (Stands : R → List Run → Type 0) (Sound : R → Type 0) (Leaves : R → List (List Run) → Type 0) (c : Command) (old new : W) (store after : R) (was now : Option (List ℕ)) (exit : ℕ) : Type 0 where
-  pub seen : Seen
-  pub course : Course asks tells starts waits seen old new
-  pub stored : Stored Answers Stands Sound Leaves seen.calls store after
-  pub bytes : List ℕ
-  pub due : ℕ
-  pub is : Means seen c bytes due ⊎ CutShort seen c bytes due
-  pub printed : Printed was now exit bytes due
+module _ {W R : Type 0} (w : World W) (r : keeping.Ghosts R) where
+  -- what `execute` did, by what it saw: what the command means, or how memory or the store cut it short; a failed writer holds a proper
+  -- prefix of its bytes. The store's own answers are part of it, and what they did to the runs stands apart: nothing else rests on the store
+  pub record Did (c : Command) (old new : Scene W R) (exit : ℕ) : Type 0 where
+    pub seen : Seen
+    pub course : Course w seen old.world new.world
+    pub stored : Stored r seen.calls old.store new.store
+    pub bytes : List ℕ
+    pub due : ℕ
+    pub is : Means seen c bytes due ⊎ CutShort seen c bytes due
+    pub printed : Printed old.held new.held exit bytes due

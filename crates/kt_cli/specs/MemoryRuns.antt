@@ -2,8 +2,8 @@
 use Rattle.std.specs.Prelude.{⊤, List, ◌≡◌}
 use Rattle.kt_base.specs.declared.run.Run.{Run}
 use Rattle.kt_store.specs.StoreCalls.{StoreCall}
+use Rattle.kt_store.specs.declared.keeping.Keeping as keeping
 use Rattle.kt_store.specs.Runs.{AreNumbered}
-use Rattle.kt_store.specs.declared.keeping.Keeping as store
 
 -- of what runs in memory answer, each call says all itself
 abbrev pub AnswersInMemory : List Run → StoreCall → List Run → Type 0
@@ -21,6 +21,6 @@ IsSoundInMemory m = ⊤
 abbrev pub LeavesInMemory : List Run → List (List Run) → Type 0
 LeavesInMemory m may = ⊤
 
--- what is known of runs in memory
-abbrev pub memory : store.Ghosts (List Run)
-memory = record { answers = AnswersInMemory; stands = StandsInMemory; sound = IsSoundInMemory; leaves = LeavesInMemory; numbered = λ m runs h. h.1 }
+-- the relations of runs in memory
+abbrev pub memory_runs : keeping.Ghosts (List Run)
+memory_runs = record { answers = AnswersInMemory; stands = StandsInMemory; sound = IsSoundInMemory; leaves = LeavesInMemory; numbered = λ m runs h. h.1 }

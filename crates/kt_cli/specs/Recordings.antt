@@ -1,5 +1,5 @@
 -- What became of a plan's cases: which were recorded and printed, and how it ended.
-use Rattle.std.specs.Prelude.{ℕ, List, ◌≡◌, Some, length, take, slice_get}
+use Rattle.std.specs.Prelude.{ℕ, List, ◌==◌, ◌≡◌, ◌≤◌, Some, count_by, length, take, slice_get}
 use Rattle.kt_base.specs.declared.entry.Entry.{Entry}
 use Rattle.kt_sched.specs.declared.job.Job.{Job}
 use Rattle.kt_sched.specs.EntryOf.{IsEntryOf, AreEntries}
@@ -20,4 +20,5 @@ pub record IsStopped (plan : List Job) (n : ℕ) (T : Trace) (entries : List Ent
   pub next : slice_get (dues plan n T) (length entries) ≡ Some due
   pub refused_is : IsEntryOf plan T due.position refused
   pub are : AreEntries plan T (take (length entries) (recorded plan n T)) entries
+  pub once : (i : ℕ) → count_by (λ p. p == i) (recorded plan n T) ≤ 1
   pub stopped : Stopped plan n T due.after

@@ -5,8 +5,8 @@ use Rattle.kt_base.specs.declared.entry.Entry.{Entry}
 use Rattle.kt_base.specs.declared.run.Run.{Run}
 use Rattle.kt_store.specs.Ask.{IsStoreFault}
 use Rattle.kt_store.specs.Heads.{head_of}
-use Rattle.kt_store.specs.Runs.{put_refusal}
 use Rattle.kt_store.specs.StoreCalls.{StoreCall, Began, Put, Finished, Heads, Read}
+use Rattle.kt_store.specs.declared.keeping.Keeping as keeping
 use Rattle.kt_store.specs.declared.store_fault.StoreFault.{StoreFault}
 use Rattle.kt_store.specs.declared.store_fault.StoreFault.TheVariants.{StoreFull}
 use Rattle.kt_words.specs.declared.command.Command.{Command}
@@ -32,8 +32,7 @@ pub data Comes (number : Option ℕ) (runs : List Run) : List StoreCall → List
       → Comes number runs (Began total moment (Err fault) ∷ []) runs (λ may. with_new runs moment total false [] ∷ may)
   begun : (total moment : ℕ) → length runs < last_run
       → Comes number runs (Began total moment (Ok (next_number runs)) ∷ []) (with_new runs moment total false []) (λ may. [])
-  not_put : (total moment : ℕ) (entries : List Entry) (refused : Entry) (fault : StoreFault) → length runs < last_run
-      → IsStoreFault fault ⊎ (put_refusal (with_new runs moment total false entries) (next_number runs) refused ≡ Some fault)
+  not_put : (total moment : ℕ) (entries : List Entry) (refused : Entry) (fault : StoreFault) → length runs < last_run → IsStoreFault fault
       → Comes number runs (Began total moment (Ok (next_number runs)) ∷ (puts (next_number runs) entries ++ Put (next_number runs) refused (Err fault) ∷ []))
       (with_new runs moment total false entries) (λ may. with_new runs moment total false (entries ++ refused ∷ []) ∷ [])
   not_finished : (total moment : ℕ) (entries : List Entry) (fault : StoreFault) → length runs < last_run → length entries ≡ total → IsStoreFault fault
@@ -61,18 +60,19 @@ pub record IsOutcome (seen : Seen) (runs : List Run) (c : Command) (outcome : Ou
   pub means : Means seen c outcome.bytes outcome.exit ⊎ CutShort seen c outcome.bytes outcome.exit
   pub comes : Comes (number_of c) runs seen.calls outcome.runs outcome.beside
 
--- a command was done: the runs are as its outcome has them, and so is what a crash leaves; its bytes were written, and a failed writer
--- holds a proper prefix of them
-pub record Done {R : Type 0} (Leaves : R → List (List Run) → Type 0) (runs : List Run) (old new : R) (left : List Run) (was now : Option (List ℕ)) (exit : ℕ) (seen : Seen) (c : Command) : Type 0 where
-  pub outcome : Outcome
-  pub is : IsOutcome seen runs c outcome
-  pub keeps : left ≡ outcome.runs
-  pub crash : (may : List (List Run)) → Leaves old (runs ∷ may) → Leaves new (left ∷ outcome.beside may)
-  pub printed : Printed was now exit outcome.bytes outcome.exit
+module _ {R : Type 0} (r : keeping.Ghosts R) where
+  -- a command was done: the runs are as its outcome has them, and so is what a crash leaves; its bytes were written, and a failed writer
+  -- holds a proper prefix of them
+  pub record Done (runs : List Run) (old new : R) (left : List Run) (was now : Option (List ℕ)) (exit : ℕ) (seen : Seen) (c : Command) : Type 0 where
+    pub outcome : Outcome
+    pub is : IsOutcome seen runs c outcome
+    pub keeps : left ≡ outcome.runs
+    pub crash : (may : List (List Run)) → r.leaves old (runs ∷ may) → r.leaves new (left ∷ outcome.beside may)
+    pub printed : Printed was now exit outcome.bytes outcome.exit
 
--- a store that stood for runs is left with others, and while it is sound the command was done
-pub record Left {R : Type 0} (Stands : R → List Run → Type 0) (Sound : R → Type 0) (Leaves : R → List (List Run) → Type 0) (runs : List Run) (old new : R) (was now : Option (List ℕ)) (exit : ℕ) (seen : Seen) (c : Command) : Type 0 where
-  pub left : List Run
-  pub stands : Stands new left
-  pub earlier : Sound new → Sound old
-  pub done : Sound new → Done Leaves runs old new left was now exit seen c
+  -- a store that stood for runs is left with others, and while it is sound the command was done
+  pub record Left (runs : List Run) (old new : R) (was now : Option (List ℕ)) (exit : ℕ) (seen : Seen) (c : Command) : Type 0 where
+    pub left : List Run
+    pub stands : r.stands new left
+    pub earlier : r.sound new → r.sound old
+    pub done : r.sound new → Done runs old new left was now exit seen c

@@ -5,6 +5,7 @@ use Rattle.kt_base.specs.declared.run.Run.{Run}
 use Rattle.kt_store.specs.Runs.{new_run, with_entry, insert_at, finish}
 use Rattle.kt_store.specs.Serving.{Agrees, changed_by}
 use Rattle.kt_store.specs.StoreCalls.{StoreCall, Began, Put, Finished, Heads, Read}
+use Rattle.kt_store.specs.declared.keeping.Keeping as keeping
 use Rattle.kt_base.specs.Chains.{Chain}
 
 -- entries, each put at its position
@@ -46,15 +47,16 @@ abbrev pub Agree : List Run → List StoreCall → Type 0
 Agree runs [] = ⊤
 Agree runs (call ∷ calls) = Agrees runs call × Agree (changed_by call runs) calls
 
--- what calls did to a store, whatever runs it stood for: it stands for the runs with their changes; if it is sound then, it was sound before
--- and each answer agrees with the runs; where a crash left the runs or others, it then leaves the changed runs, or what stands beside them
-pub record Kept {R : Type 0} (Stands : R → List Run → Type 0) (Sound : R → Type 0) (Leaves : R → List (List Run) → Type 0) (calls : List StoreCall) (old new : R) : Type 0 where
-  pub stands : (runs : List Run) → Stands old runs → Stands new (changed calls runs)
-  pub earlier : (runs : List Run) → Stands old runs → Sound new → Sound old
-  pub agree : (runs : List Run) → Stands old runs → Sound new → Agree runs calls
-  pub crash : (runs : List Run) (may : List (List Run)) → Stands old runs → Leaves old (runs ∷ may) → Leaves new (changed calls runs ∷ beside calls runs may)
+module _ {R : Type 0} (r : keeping.Ghosts R) where
+  -- what calls did to a store, whatever runs it stood for: it stands for the runs with their changes; if it is sound then, it was sound before
+  -- and each answer agrees with the runs; where a crash left the runs or others, it then leaves the changed runs, or what stands beside them
+  pub record Kept (calls : List StoreCall) (old new : R) : Type 0 where
+    pub stands : (runs : List Run) → r.stands old runs → r.stands new (changed calls runs)
+    pub earlier : (runs : List Run) → r.stands old runs → r.sound new → r.sound old
+    pub agree : (runs : List Run) → r.stands old runs → r.sound new → Agree runs calls
+    pub crash : (runs : List Run) (may : List (List Run)) → r.stands old runs → r.leaves old (runs ∷ may) → r.leaves new (changed calls runs ∷ beside calls runs may)
 
--- these calls with their answers led a store from the first state to the second, and did this to its runs
-pub record Stored {R : Type 0} (Answers : R → StoreCall → R → Type 0) (Stands : R → List Run → Type 0) (Sound : R → Type 0) (Leaves : R → List (List Run) → Type 0) (calls : List StoreCall) (old new : R) : Type 0 where
-  pub answered : Chain Answers old calls new
-  pub kept : Kept Stands Sound Leaves calls old new
+  -- these calls with their answers led a store from the first state to the second, and did this to its runs
+  pub record Stored (calls : List StoreCall) (old new : R) : Type 0 where
+    pub answered : Chain r.answers old calls new
+    pub kept : Kept calls old new

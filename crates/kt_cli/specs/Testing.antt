@@ -1,9 +1,11 @@
 -- What becomes of a plan that is run over a store: the calls on the store, the bytes and the exit.
-use Rattle.std.specs.Prelude.{ℕ, Bool, true, false, List, [], ◌∷◌, ◌++◌, ◌≡◌, ◌==◌, ◌&&◌, Ok, Err, length, if◌then◌else◌}
+use Rattle.std.specs.Prelude.{ℕ, Bool, true, false, List, [], ◌∷◌, ◌++◌, ◌≡◌, ◌==◌, ◌&&◌, Result, Ok, Err, length, if◌then◌else◌}
 use Rattle.kt_base.specs.declared.entry.Entry.{Entry}
 use Rattle.kt_base.specs.Utf8.{utf8}
 use Rattle.kt_sched.specs.declared.job.Job.{Job}
 use Rattle.kt_sched.specs.Trace.{Trace, NoEvent}
+use Rattle.kt_plan.specs.declared.case_options.CaseOptions.{CaseOptions}
+use Rattle.kt_plan.specs.declared.picked.Picked.{Picked}
 use Rattle.kt_store.specs.StoreCalls.{StoreCall, Began, Put, Finished}
 use Rattle.kt_store.specs.declared.store_fault.StoreFault.{StoreFault}
 use Rattle.kt_cli.specs.FaultLines.{memory_line, refusal_line}
@@ -33,16 +35,36 @@ exit_of bad unmatched = if bad == 0 && none_idle unmatched then 0 else 1
 abbrev pub results_exit : List Entry → List ℕ → ℕ
 results_exit entries unmatched = exit_of (bad_count entries) unmatched
 
--- a plan was run at a width: each case was put into the run that was begun, and printed in the order of recording; then the run was finished
-pub data Tested (plan : List Job) (n : ℕ) (words : List (List ℕ)) (unmatched : List ℕ) (moment : ℕ) (T : Trace) : List StoreCall → List ℕ → ℕ → Type 0 where
-  recorded : (number : ℕ) (entries : List Entry) → AllRecorded plan n T entries
-      → Tested plan n words unmatched moment T (Began (length plan) moment (Ok number) ∷ (puts number entries ++ Finished number (Ok tt) ∷ [])) (results entries words unmatched) (results_exit entries unmatched)
+-- what is to be run: a plan at a width, begun at this moment, for the words of filters, of which those at some positions select no case
+pub record PlannedRun : Type 0 where
+  pub plan : List Job
+  pub width : ℕ
+  pub words : List (List ℕ)
+  pub unmatched : List ℕ
+  pub moment : ℕ
 
--- how a plan ends that memory or the store cut short: the line is that of the store's own answer
-pub data TestCut (plan : List Job) (n moment : ℕ) (T : Trace) : List StoreCall → List ℕ → ℕ → Type 0 where
-  not_begun : (fault : StoreFault) → T ≡ NoEvent → TestCut plan n moment T (Began (length plan) moment (Err fault) ∷ []) (utf8 (refusal_line fault)) 2
-  not_run : (number : ℕ) → T ≡ NoEvent → TestCut plan n moment T (Began (length plan) moment (Ok number) ∷ []) (utf8 memory_line) 2
-  not_put : (number : ℕ) (entries : List Entry) (refused : Entry) (fault : StoreFault) → IsStopped plan n T entries refused
-      → TestCut plan n moment T (Began (length plan) moment (Ok number) ∷ (puts number entries ++ Put number refused (Err fault) ∷ [])) (lines entries ++ utf8 (refusal_line fault)) 2
-  not_finished : (number : ℕ) (entries : List Entry) (fault : StoreFault) → AllRecorded plan n T entries
-      → TestCut plan n moment T (Began (length plan) moment (Ok number) ∷ (puts number entries ++ Finished number (Err fault) ∷ [])) (lines entries ++ utf8 (refusal_line fault)) 2
+-- the same, made of its parts
+abbrev pub planned_run : List Job → ℕ → List (List ℕ) → List ℕ → ℕ → PlannedRun
+planned_run plan width words unmatched moment = record { plan = plan; width = width; words = words; unmatched = unmatched; moment = moment }
+
+-- the run of a plan, for what was picked by these options
+abbrev pub run_for : List Job → CaseOptions → Picked → ℕ → PlannedRun
+run_for plan options picked moment = planned_run plan picked.settings.config.parallelism options.filters picked.chosen.unmatched moment
+
+-- the call that begins it, with its answer
+abbrev pub begins : PlannedRun → Result ℕ StoreFault → StoreCall
+begins planned answer = Began (length planned.plan) planned.moment answer
+
+-- a plan was run at a width: each case was put into the run that was begun, and printed in the order of recording; then the run was finished
+pub data Tested (planned : PlannedRun) (T : Trace) : List StoreCall → List ℕ → ℕ → Type 0 where
+  recorded : (number : ℕ) (entries : List Entry) → AllRecorded planned.plan planned.width T entries
+      → Tested planned T (begins planned (Ok number) ∷ (puts number entries ++ Finished number (Ok tt) ∷ [])) (results entries planned.words planned.unmatched) (results_exit entries planned.unmatched)
+
+-- how it ends if memory or the store cut it short: the line is that of the store's own answer
+pub data TestCut (planned : PlannedRun) (T : Trace) : List StoreCall → List ℕ → ℕ → Type 0 where
+  not_begun : (fault : StoreFault) → T ≡ NoEvent → TestCut planned T (begins planned (Err fault) ∷ []) (utf8 (refusal_line fault)) 2
+  not_run : (number : ℕ) → T ≡ NoEvent → TestCut planned T (begins planned (Ok number) ∷ []) (utf8 memory_line) 2
+  not_put : (number : ℕ) (entries : List Entry) (refused : Entry) (fault : StoreFault) → IsStopped planned.plan planned.width T entries refused
+      → TestCut planned T (begins planned (Ok number) ∷ (puts number entries ++ Put number refused (Err fault) ∷ [])) (lines entries ++ utf8 (refusal_line fault)) 2
+  not_finished : (number : ℕ) (entries : List Entry) (fault : StoreFault) → AllRecorded planned.plan planned.width T entries
+      → TestCut planned T (begins planned (Ok number) ∷ (puts number entries ++ Finished number (Err fault) ∷ [])) (lines entries ++ utf8 (refusal_line fault)) 2

@@ -1,14 +1,14 @@
 ghost use Rattle.std.specs.Prelude.{is_err};
 ghost use Rattle.kt_base.specs.Utf8.{utf8};
 ghost use Rattle.kt_report.specs.Lines.{line_bytes};
-ghost use Rattle.kt_cli.specs.Inner.FaultLines.{put_line};
-ghost use Rattle.kt_cli.specs.FaultLines.{memory_line, refusal_line};
+ghost use Rattle.kt_cli.specs.Inner.FaultLines.{run_line};
+ghost use Rattle.kt_cli.specs.FaultLines.{refusal_line};
 ghost use Rattle.kt_cli.specs.Inner.Pages.{Says};
 
-use crate::fault_line::{write_memory, write_put, write_refusal};
+use crate::fault_line::{write_refusal, write_run_fault};
 use kt_base::{Entry, OutputFault};
 use kt_report::line;
-use kt_sched::SinkFault;
+use kt_sched::RunFault;
 use kt_store::StoreFault;
 use std::io::Write;
 
@@ -25,29 +25,17 @@ pub fn line_behind<O: Write>(
     line(entry, out)
 }
 
-/// Prints `out of memory`, unless an earlier write failed.
-pub fn memory_behind<O: Write>(
+/// Prints why a run failed, unless an earlier write failed.
+pub fn fault_behind<O: Write>(
     written: Result<(), OutputFault>,
+    fault: RunFault,
     out: &mut O,
 ) -> Result<(), OutputFault>
     ensures { Says (O.contents out.old) (is_err written) (O.contents out.new) (is_err result)
-        (utf8 memory_line) }
+        (utf8 (run_line fault)) }
 {
     written?;
-    write_memory(out)
-}
-
-/// Prints why a put failed, unless an earlier write failed.
-pub fn put_behind<O: Write>(
-    written: Result<(), OutputFault>,
-    fault: SinkFault,
-    out: &mut O,
-) -> Result<(), OutputFault>
-    ensures { Says (O.contents out.old) (is_err written) (O.contents out.new) (is_err result)
-        (utf8 (put_line fault)) }
-{
-    written?;
-    write_put(fault, out)
+    write_run_fault(fault, out)
 }
 
 /// Prints why the store refused a call, unless an earlier write failed.

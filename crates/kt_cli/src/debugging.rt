@@ -5,7 +5,7 @@ ghost use Rattle.kt_cli.specs.Inner.Debugging.{Debugged};
 ghost use Rattle.kt_cli.specs.Inner.Meaning.{ToldOnly};
 ghost use Rattle.kt_words.specs.declared.command.Command.TheVariants as command;
 
-use crate::behind::memory_behind;
+use crate::behind::fault_behind;
 use crate::exit::{Exit, FAILED, ended};
 use crate::fault_line::write_memory;
 use crate::printer::Printer;
@@ -27,7 +27,7 @@ fn print_cases<L: Launcher, O: Write>(
 ) -> (Result<Totals, RunFault>, Result<(), OutputFault>)
     requires plan { IsPlan plan }
     requires idle { IsIdle (L.running launcher.old) (L.pending launcher.old) }
-    ensures debugged { Debugged L.starts L.waits plan launcher.old launcher.new
+    ensures debugged { Debugged L.Launcher plan launcher.old launcher.new
         (O.contents out.old) (O.contents out.new) (is_err result.1) result.0 }
     ensures idle { IsIdle (L.running launcher.new) (L.pending launcher.new) }
 {
@@ -56,8 +56,8 @@ pub fn debug<W: World, O: Write>(
     out: &mut O,
 ) -> Exit
     requires { IsIdle (W.running world.old) (W.pending world.old) }
-    ensures told { ToldOnly W.asks W.tells W.starts W.waits (command.Debug options.now)
-        world.old world.new (O.contents out.old) (O.contents out.new) result.status }
+    ensures told { ToldOnly W.World (command.Debug options.now) world.old world.new
+        (O.contents out.old) (O.contents out.new) result.status }
     ensures idle { IsIdle (W.running world.new) (W.pending world.new) }
 {
     let picked = match select_cases(alloc, true, options, world) {
@@ -77,8 +77,6 @@ pub fn debug<W: World, O: Write>(
     let (answer, written) = print_cases(alloc, plan, world, out);
     match answer {
         Ok(totals) => ended(written, status_of(totals.bad)),
-        Err(RunFault::NoMemory(_refusal)) => ended(memory_behind(written, out), FAILED),
-        // Printing a case is never refused.
-        Err(RunFault::SinkFailed(_fault)) => unreachable!(),
+        Err(fault) => ended(fault_behind(written, fault, out), FAILED),
     }
 }

@@ -1,6 +1,7 @@
 ghost use Rattle.std.specs.Prelude.{◌≡◌, is_err};
 ghost use Rattle.kt_base.specs.Shows.{Shows};
 ghost use Rattle.kt_base.specs.Utf8.{utf8};
+ghost use Rattle.kt_cli.specs.Closings.{Concluded};
 ghost use Rattle.kt_cli.specs.FaultLines.{refusal_line};
 ghost use Rattle.kt_cli.specs.Pages.{Printed};
 ghost use Rattle.kt_cli.specs.Refused.{driver_line, command_text, command_exit, failure_exit, Refused};
@@ -40,6 +41,18 @@ pub fn print_store_fault<O: Write>(fault: StoreFault, out: &mut O) -> Exit
         (utf8 (refusal_line fault)) failure_exit }
 {
     ended(write_refusal(fault, out), FAILED)
+}
+
+/// The exit of a command after its results were closed. If the close failed, this prints why and
+/// returns 2; the entries are safe in the log beside the file. A command that already failed prints
+/// nothing more.
+pub fn with_closed<O: Write>(exit: Exit, closed: Result<(), StoreFault>, out: &mut O) -> Exit
+    ensures { Concluded closed (O.contents out.old) (O.contents out.new) exit.status result.status }
+{
+    match closed {
+        Err(fault) if exit.status != FAILED => print_store_fault(fault, out),
+        _ => exit,
+    }
 }
 
 fn write_command_fault<O: Write>(fault: &CommandFault, out: &mut O) -> Result<(), OutputFault>

@@ -1,11 +1,11 @@
 ghost use Rattle.std.specs.Prelude.{is_err};
 ghost use Rattle.kt_base.specs.Utf8.{utf8};
 ghost use Rattle.kt_base.specs.Shows.{Shows};
-ghost use Rattle.kt_cli.specs.Inner.FaultLines.{put_line};
+ghost use Rattle.kt_cli.specs.Inner.FaultLines.{run_line};
 ghost use Rattle.kt_cli.specs.FaultLines.{memory_line, refusal_line, store_line};
 
 use kt_base::{OutputFault, emit};
-use kt_sched::SinkFault;
+use kt_sched::{RunFault, SinkFault};
 use kt_store::StoreFault;
 use std::io::Write;
 
@@ -23,14 +23,14 @@ fn write_store<O: Write>(out: &mut O) -> Result<(), OutputFault>
     emit(b"kyua: E: results store failed\n", out)
 }
 
-/// Writes why a put failed.
-pub fn write_put<O: Write>(fault: SinkFault, out: &mut O) -> Result<(), OutputFault>
+/// Writes why a run failed.
+pub fn write_run_fault<O: Write>(fault: RunFault, out: &mut O) -> Result<(), OutputFault>
     ensures { Shows (O.contents out.old) (O.contents out.new) (is_err result)
-        (utf8 (put_line fault)) }
+        (utf8 (run_line fault)) }
 {
     match fault {
-        SinkFault::Memory => write_memory(out),
-        SinkFault::Other => write_store(out),
+        RunFault::NoMemory(_) | RunFault::SinkFailed(SinkFault::Memory) => write_memory(out),
+        RunFault::SinkFailed(SinkFault::Other) => write_store(out),
     }
 }
 

@@ -21,13 +21,13 @@ pub fn law_of_children<O: Os + Drop>()
 {}
 
 /// The law of sound stores: what a command's calls come to, whatever runs the store stood for, if
-/// the store has given back what was written. The premises are the parts of what `execute` and
-/// `execute_on_host` say of each command.
+/// the store has given back what was written. The premises are the parts of what `execute` says
+/// of each command.
 pub fn law_of_sound_stores<R: ResultStore>()
     ensures { (seen : Seen) (c : Command) (store after : R) (was now : Option (List ℕ)) (exit : ℕ)
         (bytes : List ℕ) (due : ℕ) (runs : List Run)
-        → Stored R.answers R.stands R.sound R.leaves seen.calls store after
+        → Stored R.Keeping seen.calls store after
         → Means seen c bytes due ⊎ CutShort seen c bytes due → Printed was now exit bytes due
         → R.stands store runs
-        → Left R.stands R.sound R.leaves runs store after was now exit seen c }
+        → Left R.Keeping runs store after was now exit seen c }
 {}

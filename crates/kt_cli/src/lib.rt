@@ -3,7 +3,6 @@
 #![tactic(auto)]
 
 mod behind;
-mod closing;
 mod copies;
 mod debugging;
 mod execution;
@@ -27,18 +26,15 @@ mod recorder;
 mod reporting;
 mod results_file;
 mod runner;
-mod sequence;
-mod stop_line;
 mod stopping;
 mod surroundings;
 mod testing;
 mod totals;
 mod warnings;
 
-pub use execution::execute;
+pub use execution::{execute, execute_all};
 pub use exit::Exit;
 pub use fault_exit::{print_command_fault, print_driver_fault, print_store_fault};
-pub use host_execution::execute_on_host;
 pub use host_world::HostWorld;
 pub use laws::{law_of_children, law_of_sound_stores};
 pub use line_output::LineOutput;
@@ -48,5 +44,4 @@ pub use place::source_of;
 pub use platform::Platform;
 pub use results_file::prepare_results;
 pub use runner::Runner;
-pub use sequence::execute_all;
 pub use surroundings::Surroundings;

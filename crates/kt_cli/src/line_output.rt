@@ -92,6 +92,7 @@ impl<W: Write> Write for LineOutput<W> {
     fn flush(&mut self) -> io::Result<()>
         ensures bytes { Keeps (given_bytes W.contents self.old) (given_bytes W.contents self.new) }
         ensures all { OnOk result (unwritten self.new ≡ []) }
+        ensures failed { is_err result ≡ has_failed self.new }
         ensures silent { has_failed self.old ≡ true → (self.new ≡ self.old)
             × (is_err result ≡ true) }
     {
@@ -113,14 +114,14 @@ impl<W: Write> Write for LineOutput<W> {
 }
 
 impl<W: Write> LineOutput<W> {
-    ghost use Rattle.kt_cli.specs.LineOutputs.{given_bytes, unwritten};
+    ghost use Rattle.kt_cli.specs.LineOutputs.{given_bytes, line_state};
     ghost use Rattle.kt_cli.specs.Performing.{Flushed};
 
     /// The exit of a command that wrote here: what is still held is written, and where that fails
     /// the exit is 2.
     pub fn finish(&mut self, exit: Exit) -> Exit
-        ensures { Flushed (given_bytes W.contents self.old) (given_bytes W.contents self.new)
-            (unwritten self.new) exit.status result.status }
+        ensures { Flushed (given_bytes W.contents self.old) (line_state W.contents self.new)
+            exit.status result.status }
     {
         match self.flush() {
             Ok(()) => exit,

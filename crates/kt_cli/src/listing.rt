@@ -65,8 +65,8 @@ pub fn list<W: World, O: Write>(
     out: &mut O,
 ) -> Exit
     requires { IsIdle (W.running world.old) (W.pending world.old) }
-    ensures told { ToldOnly W.asks W.tells W.starts W.waits (command.List options.now)
-        world.old world.new (O.contents out.old) (O.contents out.new) result.status }
+    ensures told { ToldOnly W.World (command.List options.now) world.old world.new
+        (O.contents out.old) (O.contents out.new) result.status }
     ensures idle { IsIdle (W.running world.new) (W.pending world.new) }
 {
     match select_cases(alloc, false, options, world) {

@@ -74,10 +74,7 @@ impl MemRuns {
     fn put_entry(&mut self, number: u64, entry: &Entry) -> Result<(), StoreFault>
         ensures { ServesInMemory self.old (Put number entry.now result) self.new }
     {
-        let place = match self.place(number) {
-            Ok(place) => place,
-            Err(fault) => return Err(fault),
-        };
+        let place = self.place(number)?;
         let alloc = self.alloc;
         let run = &mut self.runs[place];
         if let Some(fault) = refused_entry(run, entry.position) {
@@ -92,10 +89,7 @@ impl MemRuns {
     fn end_run(&mut self, number: u64) -> Result<(), StoreFault>
         ensures { ServesInMemory self.old (Finished number result) self.new }
     {
-        let place = match self.place(number) {
-            Ok(place) => place,
-            Err(fault) => return Err(fault),
-        };
+        let place = self.place(number)?;
         let run = &mut self.runs[place];
         if let Some(fault) = refused_end(run) {
             return Err(fault);
@@ -108,10 +102,7 @@ impl MemRuns {
         ensures { ServesInMemory self.now (Read number (seen_as (λ found. found.items) result))
             self.now }
     {
-        let place = match self.place(number) {
-            Ok(place) => place,
-            Err(fault) => return Err(fault),
-        };
+        let place = self.place(number)?;
         match copy_of_entries(self.alloc, self.runs[place].entries.as_slice()) {
             Ok(entries) => Ok(entries),
             Err(refusal) => Err(short(refusal)),
@@ -195,10 +186,8 @@ fn heads(alloc: Global, runs: &[Run]) -> Result<Vec<RunHead>, NoMemory>
     ensures { IfOk result (λ heads. heads.items ≡ map head_of runs.now) }
 {
     let mut heads = Vec::new(alloc);
-    let mut rest = runs;
-    while let Some((run, after)) = rest.split_first() {
+    for run in runs {
         heads.push(head(run))?;
-        rest = after;
     }
     Ok(heads)
 }
@@ -208,13 +197,11 @@ fn place_among(entries: &[Entry], position: u32) -> usize
     ensures { result ≡ place_among position entries.now }
 {
     let mut place = 0;
-    let mut rest = entries;
-    while let Some((entry, after)) = rest.split_first() {
+    for entry in entries {
         if position < entry.position {
             return place;
         }
         place += 1;
-        rest = after;
     }
     place
 }

@@ -30,15 +30,15 @@ fn sink_fault(fault: StoreFault) -> SinkFault
 
 impl<R: ResultStore, O: Write> Sink for Recorder<'_, R, O> {
     ghost use Rattle.std.specs.Prelude.{◌≡◌, is_err};
-    ghost use Rattle.kt_cli.specs.Inner.Recording.{Recorded, Took};
+    ghost use Rattle.kt_cli.specs.Inner.Recording.{Recorded, recording, Took};
 
     ghost entries = { λ s put. Took R.stands s.number s.results.now put };
 
     ghost puts = { λ s e r t. (t.results.ghost_name ≡ s.results.ghost_name)
         × (t.out.ghost_name ≡ s.out.ghost_name)
-        × Recorded R.answers R.stands R.sound R.leaves
-        s.number s.results.now (is_err s.written) (O.contents s.out.now) e r
-        t.number t.results.now (is_err t.written) (O.contents t.out.now) };
+        × Recorded R.Keeping
+        (recording s.results.now s.number (is_err s.written) (O.contents s.out.now)) e r
+        (recording t.results.now t.number (is_err t.written) (O.contents t.out.now)) };
 
     fn put(&mut self, entry: Entry) -> Result<(), SinkFault> {
         // The entry is recorded before its line is written.

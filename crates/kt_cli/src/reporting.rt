@@ -40,7 +40,7 @@ fn missing(number: Option<u64>, heads: &[RunHead]) -> NotShown
 
 /// The run that is asked for, or else the last one, with its entries.
 fn read_run<R: ResultStore>(number: Option<u64>, results: &mut R) -> Result<Run, NotShown>
-    ensures { ReadsRun R.answers R.stands R.sound R.leaves number results.old results.new result }
+    ensures { ReadsRun R.Keeping number results.old results.new result }
 {
     let heads = match results.runs() {
         Ok(heads) => heads,
@@ -89,9 +89,8 @@ pub fn report<R: ResultStore, O: Write>(
     results: &mut R,
     out: &mut O,
 ) -> Exit
-    ensures { DidReport R.answers R.stands R.sound R.leaves results.old results.new
-        (O.contents out.old) (O.contents out.new) result.status
-        (Reported number kinds.now verbose) (Unread number) }
+    ensures { DidReport R.Keeping results.old results.new (O.contents out.old)
+        (O.contents out.new) result.status (Reported number kinds.now verbose) (Unread number) }
 {
     match read_run(number, results) {
         Ok(run) => ended(text(&run, kinds, verbose, out), 0),
@@ -106,9 +105,8 @@ pub fn report_junit<R: ResultStore, O: Write>(
     results: &mut R,
     out: &mut O,
 ) -> Exit
-    ensures { DidReport R.answers R.stands R.sound R.leaves results.old results.new
-        (O.contents out.old) (O.contents out.new) result.status
-        (ReportedJunit number) (JunitOrUnread number) }
+    ensures { DidReport R.Keeping results.old results.new (O.contents out.old)
+        (O.contents out.new) result.status (ReportedJunit number) (JunitOrUnread number) }
 {
     let run = match read_run(number, results) {
         Ok(run) => run,

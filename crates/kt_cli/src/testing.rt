@@ -8,10 +8,11 @@ ghost use Rattle.kt_cli.specs.Meaning.{Did};
 ghost use Rattle.kt_cli.specs.Inner.Pages.{Says};
 ghost use Rattle.kt_cli.specs.Inner.Recordings.{Records};
 ghost use Rattle.kt_cli.specs.Inner.Testing.{RanPlan};
-ghost use Rattle.kt_cli.specs.Testing.{ending, exit_of};
+ghost use Rattle.kt_cli.specs.Scenes.{scene};
+ghost use Rattle.kt_cli.specs.Testing.{ending, exit_of, planned_run};
 ghost use Rattle.kt_words.specs.declared.command.Command.TheVariants as command;
 
-use crate::behind::{memory_behind, put_behind, refusal_behind};
+use crate::behind::{fault_behind, refusal_behind};
 use crate::exit::{Exit, FAILED, ended};
 use crate::fault_line::{write_memory, write_refusal};
 use crate::recorder::Recorder;
@@ -39,9 +40,9 @@ fn record_cases<L: Launcher, R: ResultStore, O: Write>(
     requires plan { IsPlan plan }
     requires width { IsWidth width }
     requires idle { IsIdle (L.running launcher.old) (L.pending launcher.old) }
-    ensures records { Records L.starts L.waits R.answers R.stands R.sound R.leaves
-        plan width number launcher.old launcher.new results.old results.new
-        (O.contents out.old) (O.contents out.new) result.0 (is_err result.1) }
+    ensures records { Records L.Launcher R.Keeping plan width number
+        (scene launcher.old results.old (O.contents out.old))
+        (scene launcher.new results.new (O.contents out.new)) result.0 (is_err result.1) }
     ensures idle { IsIdle (L.running launcher.new) (L.pending launcher.new) }
 {
     let mut recorder = Recorder {
@@ -115,9 +116,10 @@ fn run_plan<L: Launcher, R: ResultStore, O: Write>(
     requires width { IsWidth width }
     requires moment { IsMoment moment }
     requires idle { IsIdle (L.running launcher.old) (L.pending launcher.old) }
-    ensures ran { RanPlan L.starts L.waits R.answers R.stands R.sound R.leaves
-        plan width words.now unmatched.now moment launcher.old launcher.new results.old results.new
-        (O.contents out.old) (O.contents out.new) result.status }
+    ensures ran { RanPlan L.Launcher R.Keeping
+        (planned_run plan width words.now unmatched.now moment)
+        (scene launcher.old results.old (O.contents out.old))
+        (scene launcher.new results.new (O.contents out.new)) result.status }
     ensures idle { IsIdle (L.running launcher.new) (L.pending launcher.new) }
 {
     let total = plan.len() as u32;
@@ -127,8 +129,7 @@ fn run_plan<L: Launcher, R: ResultStore, O: Write>(
     };
     let (answer, written) = record_cases(alloc, plan, width, launcher, results, number, out);
     match answer {
-        Err(RunFault::NoMemory(_refusal)) => ended(memory_behind(written, out), FAILED),
-        Err(RunFault::SinkFailed(fault)) => ended(put_behind(written, fault, out), FAILED),
+        Err(fault) => ended(fault_behind(written, fault, out), FAILED),
         Ok(totals) => match results.finish(number) {
             Err(fault) => ended(refusal_behind(written, fault, out), FAILED),
             Ok(()) => {
@@ -149,9 +150,9 @@ pub fn test<W: World, R: ResultStore, O: Write>(
     out: &mut O,
 ) -> Exit
     requires { IsIdle (W.running world.old) (W.pending world.old) }
-    ensures did { Did W.asks W.tells W.starts W.waits R.answers R.stands R.sound R.leaves
-        (command.Test options.now file.now) world.old world.new results.old results.new
-        (O.contents out.old) (O.contents out.new) result.status }
+    ensures did { Did W.World R.Keeping (command.Test options.now file.now)
+        (scene world.old results.old (O.contents out.old))
+        (scene world.new results.new (O.contents out.new)) result.status }
     ensures idle { IsIdle (W.running world.new) (W.pending world.new) }
 {
     let picked = match select_cases(alloc, false, options, world) {

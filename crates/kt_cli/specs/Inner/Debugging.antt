@@ -1,10 +1,8 @@
 -- What `debug` prints of the case that it runs.
 use Rattle.std.specs.Prelude.{ℕ, Bool, List, [], ◌≡◌, false, Option, Result, Ok, Err}
 use Rattle.kt_base.specs.declared.entry.Entry.{Entry}
-use Rattle.kt_base.specs.declared.role.Role.{Role}
 use Rattle.kt_sched.specs.declared.job.Job.{Job}
-use Rattle.kt_sched.specs.declared.start_answer.StartAnswer.{StartAnswer}
-use Rattle.kt_sched.specs.declared.ended.Ended.{Ended}
+use Rattle.kt_sched.specs.declared.launcher.Launcher as launcher
 use Rattle.kt_sched.specs.declared.run_fault.RunFault.{RunFault}
 use Rattle.kt_sched.specs.declared.run_fault.RunFault.TheVariants.{NoMemory, SinkFailed}
 use Rattle.kt_sched.specs.declared.sink_fault.SinkFault.{SinkFault}
@@ -25,10 +23,11 @@ DebugEnds plan T entries (Ok totals) = AllRecorded plan 1 T entries × Counts en
 DebugEnds plan T entries (Err (NoMemory refusal)) = (T ≡ NoEvent) × (entries ≡ [])
 DebugEnds plan T entries (Err (SinkFailed fault)) = ⊥
 
--- a plan was run one case at a time, and each case printed
-pub record Debugged {L : Type 0} (starts : L → Job → Role → StartAnswer → L → Type 0) (waits : L → Ended → L → Type 0) (plan : List Job) (old new : L) (was now : Option (List ℕ)) (failed : Bool) (answer : Result Totals RunFault) : Type 0 where
-  pub trace : Trace
-  pub leads : Leads starts waits plan trace old new
-  pub entries : List Entry
-  pub says : Says was false now failed (all_debug_bytes entries)
-  pub ends : DebugEnds plan trace entries answer
+module _ {L : Type 0} (l : launcher.Ghosts L) where
+  -- a plan was run one case at a time, and each case printed
+  pub record Debugged (plan : List Job) (old new : L) (was now : Option (List ℕ)) (failed : Bool) (answer : Result Totals RunFault) : Type 0 where
+    pub trace : Trace
+    pub leads : Leads l.starts l.waits plan trace old new
+    pub entries : List Entry
+    pub says : Says was false now failed (all_debug_bytes entries)
+    pub ends : DebugEnds plan trace entries answer

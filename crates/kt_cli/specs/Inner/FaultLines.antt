@@ -1,10 +1,12 @@
 -- The lines by which commands report faults.
 use Rattle.std.specs.Prelude.{ℕ, List}
-use Rattle.kt_sched.specs.declared.sink_fault.SinkFault.{SinkFault}
+use Rattle.kt_sched.specs.declared.run_fault.RunFault.{RunFault}
+use Rattle.kt_sched.specs.declared.run_fault.RunFault.TheVariants.{NoMemory, SinkFailed}
 use Rattle.kt_sched.specs.declared.sink_fault.SinkFault.TheVariants as sink
 use Rattle.kt_cli.specs.FaultLines.{memory_line, store_line}
 
--- a put that failed
-abbrev pub put_line : SinkFault → List ℕ
-put_line sink.Memory = memory_line
-put_line sink.Other = store_line
+-- a run that failed
+abbrev pub run_line : RunFault → List ℕ
+run_line (NoMemory refusal) = memory_line
+run_line (SinkFailed sink.Memory) = memory_line
+run_line (SinkFailed sink.Other) = store_line

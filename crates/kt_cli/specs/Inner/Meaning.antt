@@ -1,27 +1,23 @@
 -- What a command means: by the answers of its world and of its store, the bytes and the exit.
 use Rattle.std.specs.Prelude.{ℕ, List, [], ◌≡◌, ◌⊎◌, Option}
-use Rattle.kt_base.specs.declared.role.Role.{Role}
-use Rattle.kt_sched.specs.declared.job.Job.{Job}
-use Rattle.kt_sched.specs.declared.start_answer.StartAnswer.{StartAnswer}
-use Rattle.kt_sched.specs.declared.ended.Ended.{Ended}
 use Rattle.kt_sched.specs.Trace.{NoEvent}
-use Rattle.kt_suite.specs.Answers.{Asked}
 use Rattle.kt_words.specs.declared.command.Command.{Command}
 use Rattle.kt_cli.specs.Pages.{Printed}
 use Rattle.kt_plan.specs.Questions.{Question}
-use Rattle.kt_plan.specs.Told.{Told}
 use Rattle.kt_cli.specs.Meaning.{Course, CutShort, Means, Seen}
+use Rattle.kt_cli.specs.Scenes.{World}
 
 -- nothing was started, and the store was not called
 abbrev pub asked_only : List Question → Seen
 asked_only questions = record { questions = questions; plan = []; trace = NoEvent; calls = [] }
 
--- what a command did that calls no store: what it saw, its bytes and its exit
-pub record ToldOnly {W : Type 0} (asks : W → Asked → W → Type 0) (tells : W → Told → W → Type 0) (starts : W → Job → Role → StartAnswer → W → Type 0) (waits : W → Ended → W → Type 0) (c : Command) (old new : W) (was now : Option (List ℕ)) (exit : ℕ) : Type 0 where
-  pub seen : Seen
-  pub course : Course asks tells starts waits seen old new
-  pub uncalled : seen.calls ≡ []
-  pub bytes : List ℕ
-  pub due : ℕ
-  pub is : Means seen c bytes due ⊎ CutShort seen c bytes due
-  pub printed : Printed was now exit bytes due
+module _ {W : Type 0} (w : World W) where
+  -- what a command did that calls no store: what it saw, its bytes and its exit
+  pub record ToldOnly (c : Command) (old new : W) (was now : Option (List ℕ)) (exit : ℕ) : Type 0 where
+    pub seen : Seen
+    pub course : Course w seen old new
+    pub uncalled : seen.calls ≡ []
+    pub bytes : List ℕ
+    pub due : ℕ
+    pub is : Means seen c bytes due ⊎ CutShort seen c bytes due
+    pub printed : Printed was now exit bytes due

@@ -5,7 +5,8 @@ use Rattle.kt_base.specs.declared.run.Run.{Run}
 use Rattle.kt_report.specs.Lines.{line_bytes}
 use Rattle.kt_sched.specs.declared.sink_fault.SinkFault.{SinkFault}
 use Rattle.kt_sched.specs.declared.sink_fault.SinkFault.TheVariants.{Memory, Other}
-use Rattle.kt_store.specs.StoreCalls.{StoreCall, Put}
+use Rattle.kt_store.specs.StoreCalls.{Put}
+use Rattle.kt_store.specs.declared.keeping.Keeping as keeping
 use Rattle.kt_store.specs.declared.store_fault.StoreFault.{StoreFault}
 use Rattle.kt_store.specs.declared.store_fault.StoreFault.TheVariants.{NoMemory}
 use Rattle.kt_cli.specs.Inner.Pages.{Says}
@@ -21,9 +22,20 @@ sink_fault_of other = Other
 abbrev pub Took : {R : Type 0} → (R → List Run → Type 0) → ℕ → R → List Entry → Type 0
 Took Stands number store put = (first : List Run) × Stands store (put_all number put first)
 
+-- what a recorder has: a store of runs, the number of its run, whether a write failed, and what the writer holds
+pub record Recording (R : Type 0) : Type 0 where
+  pub store : R
+  pub number : ℕ
+  pub failed : Bool
+  pub held : Option (List ℕ)
+
+-- the same, made of its parts
+abbrev pub recording : {R : Type 0} → R → ℕ → Bool → Option (List ℕ) → Recording R
+recording store number failed held = record { store = store; number = number; failed = failed; held = held }
+
 -- the store took the entry and its line was given to the writer, or the store refused it and nothing was written
-abbrev pub Recorded : {R : Type 0} → (R → StoreCall → R → Type 0) → (R → List Run → Type 0) → (R → Type 0) → (R → List (List Run) → Type 0) → ℕ → R → Bool → Option (List ℕ) → Entry → Result (Unit {0}) SinkFault → ℕ → R → Bool → Option (List ℕ) → Type 0
-Recorded Answers Stands Sound Leaves number store failed held e (Ok x) number' store' failed' held' =
-    (number' ≡ number) × Stored Answers Stands Sound Leaves (Put number e (Ok tt) ∷ []) store store' × Says held failed held' failed' (line_bytes e)
-Recorded Answers Stands Sound Leaves number store failed held e (Err f) number' store' failed' held' =
-    (number' ≡ number) × ((fault : StoreFault) × (f ≡ sink_fault_of fault) × Stored Answers Stands Sound Leaves (Put number e (Err fault) ∷ []) store store') × (failed' ≡ failed) × (held' ≡ held)
+abbrev pub Recorded : {R : Type 0} → keeping.Ghosts R → Recording R → Entry → Result (Unit {0}) SinkFault → Recording R → Type 0
+Recorded r old e (Ok x) new =
+    (new.number ≡ old.number) × Stored r (Put old.number e (Ok tt) ∷ []) old.store new.store × Says old.held old.failed new.held new.failed (line_bytes e)
+Recorded r old e (Err f) new =
+    (new.number ≡ old.number) × ((fault : StoreFault) × (f ≡ sink_fault_of fault) × Stored r (Put old.number e (Err fault) ∷ []) old.store new.store) × (new.failed ≡ old.failed) × (new.held ≡ old.held)

@@ -1,11 +1,8 @@
 -- What became of a plan's cases: which were recorded and printed, and how it ended.
-use Rattle.std.specs.Prelude.{ℕ, Bool, false, List, [], ◌∷◌, ◌++◌, ◌≡◌, Option, Result, Ok, Err}
+use Rattle.std.specs.Prelude.{ℕ, Bool, false, List, [], ◌∷◌, ◌++◌, ◌≡◌, Result, Ok, Err}
 use Rattle.kt_base.specs.declared.entry.Entry.{Entry}
-use Rattle.kt_base.specs.declared.role.Role.{Role}
-use Rattle.kt_base.specs.declared.run.Run.{Run}
 use Rattle.kt_sched.specs.declared.job.Job.{Job}
-use Rattle.kt_sched.specs.declared.start_answer.StartAnswer.{StartAnswer}
-use Rattle.kt_sched.specs.declared.ended.Ended.{Ended}
+use Rattle.kt_sched.specs.declared.launcher.Launcher as launcher
 use Rattle.kt_sched.specs.declared.sink_fault.SinkFault.{SinkFault}
 use Rattle.kt_sched.specs.declared.totals.Totals.{Totals}
 use Rattle.kt_sched.specs.declared.run_fault.RunFault.{RunFault}
@@ -13,9 +10,11 @@ use Rattle.kt_sched.specs.declared.run_fault.RunFault.TheVariants.{NoMemory, Sin
 use Rattle.kt_sched.specs.Run.{Counts}
 use Rattle.kt_sched.specs.Trace.{Trace, NoEvent, Leads}
 use Rattle.kt_store.specs.StoreCalls.{StoreCall, Put}
+use Rattle.kt_store.specs.declared.keeping.Keeping as keeping
 use Rattle.kt_store.specs.declared.store_fault.StoreFault.{StoreFault}
 use Rattle.kt_cli.specs.Inner.Pages.{Says}
 use Rattle.kt_cli.specs.Inner.Recording.{sink_fault_of}
+use Rattle.kt_cli.specs.Scenes.{Scene}
 use Rattle.kt_cli.specs.Stores.{Stored, puts}
 use Rattle.kt_cli.specs.Totals.{lines}
 use Rattle.kt_cli.specs.Recordings.{AllRecorded, IsStopped}
@@ -46,12 +45,13 @@ RecordEnds plan n number T entries last (Ok totals) = RecordedAll plan n T entri
 RecordEnds plan n number T entries last (Err (SinkFailed fault)) = RecordedSome plan n number T entries last fault
 RecordEnds plan n number T entries last (Err (NoMemory refusal)) = RecordedNone T entries last
 
--- the launcher's answers, and the entries that were put into the run of a number and printed, in the order of the puts, and the put that was refused
-pub record Records {L R : Type 0} (starts : L → Job → Role → StartAnswer → L → Type 0) (waits : L → Ended → L → Type 0) (Answers : R → StoreCall → R → Type 0) (Stands : R → List Run → Type 0) (Sound : R → Type 0) (Leaves : R → List (List Run) → Type 0) (plan : List Job) (n number : ℕ) (old new : L) (store after : R) (was now : Option (List ℕ)) (answer : Result Totals RunFault) (failed : Bool) : Type 0 where
-  pub trace : Trace
-  pub leads : Leads starts waits plan trace old new
-  pub entries : List Entry
-  pub last : List StoreCall
-  pub stored : Stored Answers Stands Sound Leaves (puts number entries ++ last) store after
-  pub says : Says was false now failed (lines entries)
-  pub ends : RecordEnds plan n number trace entries last answer
+module _ {L R : Type 0} (l : launcher.Ghosts L) (r : keeping.Ghosts R) where
+  -- the launcher's answers, and the entries that were put into the run of a number and printed, in the order of the puts, and the put that was refused
+  pub record Records (plan : List Job) (n number : ℕ) (old new : Scene L R) (answer : Result Totals RunFault) (failed : Bool) : Type 0 where
+    pub trace : Trace
+    pub leads : Leads l.starts l.waits plan trace old.world new.world
+    pub entries : List Entry
+    pub last : List StoreCall
+    pub stored : Stored r (puts number entries ++ last) old.store new.store
+    pub says : Says old.held false new.held failed (lines entries)
+    pub ends : RecordEnds plan n number trace entries last answer

@@ -3,6 +3,7 @@ use Rattle.std.specs.Prelude.{ℕ, List, [], ◌∷◌, ◌≡◌, Option, Some,
 use Rattle.kt_base.specs.declared.entry.Entry.{Entry}
 use Rattle.kt_base.specs.declared.run.Run.{Run}
 use Rattle.kt_store.specs.StoreCalls.{StoreCall, Heads, Read}
+use Rattle.kt_store.specs.declared.keeping.Keeping as keeping
 use Rattle.kt_store.specs.declared.run_head.RunHead.{RunHead}
 use Rattle.kt_store.specs.declared.store_fault.StoreFault.{StoreFault}
 use Rattle.kt_cli.specs.declared.not_shown.NotShown.{NotShown}
@@ -29,7 +30,7 @@ pub data FindsRun (number : Option ℕ) : List StoreCall → Result Run NotShown
   no_entries : (heads : List RunHead) (head : RunHead) (fault : StoreFault) → chosen number heads ≡ Some head → FindsRun number (Heads (Ok heads) ∷ Read head.number (Err fault) ∷ []) (Err (Refused fault))
 
 -- the calls on a store by which a run was looked for
-pub record ReadsRun {R : Type 0} (Answers : R → StoreCall → R → Type 0) (Stands : R → List Run → Type 0) (Sound : R → Type 0) (Leaves : R → List (List Run) → Type 0) (number : Option ℕ) (old new : R) (answer : Result Run NotShown) : Type 0 where
+pub record ReadsRun {R : Type 0} (r : keeping.Ghosts R) (number : Option ℕ) (old new : R) (answer : Result Run NotShown) : Type 0 where
   pub calls : List StoreCall
-  pub stored : Stored Answers Stands Sound Leaves calls old new
+  pub stored : Stored r calls old new
   pub finds : FindsRun number calls answer

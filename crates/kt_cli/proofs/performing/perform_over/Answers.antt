@@ -1,16 +1,15 @@
-use Rattle.std.proofs.Common.{refl}
-use Rattle.kt_cli.specs.Performing.{done, no_place, no_driver}
-use Rattle.kt_cli.proofs.Performances.{first_told}
+use Rattle.std.proofs.Common.{rules, ◌≡◌}
+use Rattle.kt_words.specs.declared.command.Command.TheVariants as command
+use Rattle.kt_cli.specs.Performing.{program}
+use Rattle.kt_cli.proofs.Performances.{over_report, over_junit}
 use Rattle.kt_cli.proofs.performing.perform_over.Goals as goal
 
-pub returns-in-Err : goal.returns-in-Err
-returns-in-Err g c = no_place c.in-Err.fault c.in-Err.ensures refl c.print_driver_fault.ensures
+pub returns-in-Report : goal.returns-in-Report
+returns-in-Report g c =
+    let e : c.args.command.now ≡ command.Report c.in-Report.options c.as_slice.result.now c.in-Report.verbose = search rules in
+    over_report (program g.P.Platform g.P.Results.Keeping g.O.Os) c.args.os c.args.command.now g.S.Keeping _ _ _ _ _ _ c.in-Report.options c.as_slice.result.now c.in-Report.verbose e c.report.ensures
 
-pub returns-in-Ok-execute_on_host : goal.returns-in-Ok-execute_on_host
-returns-in-Ok-execute_on_host g c = done c.in-Ok.around c.in-Ok.ensures c.in-Ok-execute_on_host.ensures.did
-
-pub returns-in-Err-execute_on_host : goal.returns-in-Err-execute_on_host
-returns-in-Err-execute_on_host g c =
-    let unasked = c.in-Err-execute_on_host.ensures.unasked in
-    no_driver c.in-Ok.around c.in-Err-execute_on_host.fault c.in-Ok.ensures c.in-Err-execute_on_host.ensures.refused unasked.0
-    (first_told _ _ _ _ _ _ unasked.1 c.print_driver_fault-in-Err-execute_on_host.ensures)
+pub returns-in-ReportJunit : goal.returns-in-ReportJunit
+returns-in-ReportJunit g c =
+    let e : c.args.command.now ≡ command.ReportJunit c.in-ReportJunit.options = search rules in
+    over_junit (program g.P.Platform g.P.Results.Keeping g.O.Os) c.args.os c.args.command.now g.S.Keeping _ _ _ _ _ _ c.in-ReportJunit.options e c.report_junit.ensures

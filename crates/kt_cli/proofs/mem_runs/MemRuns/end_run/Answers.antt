@@ -3,8 +3,8 @@ use Rattle.kt_cli.proofs.mem_runs.MemRuns.end_run.Goals as goal
 
 pub returns-in-Some : goal.returns-in-Some
 returns-in-Some c =
-    end_refused _ c.self.inside.runs.items _ c.in-Ok.place c.index_mut-run.result.now c.self.view_is c.in-Ok.ensures c.index_mut-run.ensures.value _ c.in-Some.ensures
+    end_refused _ c.self.inside.runs.items _ c.in_ok-place.place c.index_mut-run.result.now c.self.view_is c.in_ok-place.ensures c.index_mut-run.ensures.value _ c.in-Some.ensures
 
 pub returns : goal.returns
 returns c =
-    end_well _ c.self.inside.runs.items _ c.in-Ok.place c.index_mut-run.result.now c.self.view_is c.in-Ok.ensures c.index_mut-run.ensures.value c.in_default.ensures
+    end_well _ c.self.inside.runs.items _ c.in_ok-place.place c.index_mut-run.result.now c.self.view_is c.in_ok-place.ensures c.index_mut-run.ensures.value c.in_default.ensures
