@@ -37,9 +37,10 @@ fn all_with_program(
 ) -> Result<Items<CaseDef>, NoMemory>
     ensures { IfOk result (λ cases. cases ≡ map (over_program props.now) found) }
 {
+    let shared = props.shared()?;
     let mut cases = Items::new(alloc);
     for case in found.into_vec() {
-        let whole = with_program(props, case)?;
+        let whole = with_program(&shared, case)?;
         cases.push(whole)?;
     }
     Ok(cases)

@@ -11,12 +11,12 @@ use Rattle.kt_store.specs.Serving.{Agrees, Serves, changed_by}
 use Rattle.kt_store.specs.StoreCalls.{StoreCall, Put, Finished}
 use Rattle.kt_store.proofs.Numbered.{numbers_changed}
 use Rattle.kt_store.proofs.ServeLemmas.{always_outlasts}
-use Rattle.kt_cli.specs.MemoryRuns.{LeavesInMemory, memory}
+use Rattle.kt_cli.specs.MemoryRuns.{LeavesInMemory, memory_runs}
 use Rattle.kt_cli.specs.Inner.MemoryRuns.{ServesInMemory, FindsPlace, entry_refusal, closing_refusal, place_among}
 use Rattle.kt_cli.proofs.Numbered.{entry_placed, finish_placed}
 
 -- runs in memory serve a call
-pub serves_in_memory : (old : List Run) (call : StoreCall) (new : List Run) → ServesInMemory old call new → Serves memory call old new
+pub serves_in_memory : (old : List Run) (call : StoreCall) (new : List Run) → ServesInMemory old call new → Serves memory_runs call old new
 serves_in_memory old call new h = record {
   asked = tt;
   stands = λ runs is. (h.1 (subst (λ (rs : List Run). AreNumbered 1 rs) (sym is.0) is.1) ∙ ap (λ (rs : List Run). changed_by call rs) is.0, numbers_changed call runs is.1);

@@ -1,79 +1,58 @@
 -- Keys and the names of the properties that they stand for.
-use Rattle.std.proofs.Common.{◌≡◌, ◌≢◌, ℕ, true, false, List, [], ◌∷◌, ◌++◌, refl, sym, ap, ◌∙◌, subst, Option, Some, None, bytes_eq}
-use Rattle.std.specs.Prelude.{◌&&◌, Bool, codes, IfSome, IsSome, option_and_then}
-use Rattle.std.specs.List.{list_all}
-use Rattle.std.proofs.lemmas.Slice.Eq.{bytes_eq-Decides}
-use Rattle.kt_metadata.specs.declared.property.Property.{Property}
-use Rattle.kt_metadata.specs.declared.property.Property.TheVariants.{AllowedArchitectures, AllowedPlatforms, Description, HasCleanup, IsExclusive, RequiredConfigs, RequiredDiskSpace, RequiredFiles, RequiredMemory, RequiredPrograms, RequiredUser, Timeout, Custom}
-use Rattle.kt_metadata.specs.Properties.{property_name, property_named, all_properties, own_part, after_front, filled}
-use Rattle.kt_metadata.specs.ListKeys.{list_key, keyed_among, name_found, name_of_key, StandsFor}
+use Rattle.std.proofs.Common.{◌≡◌, ℕ, zero, suc, Bool, true, false, List, [], ◌∷◌, ◌++◌, refl, sym, ap, ◌∙◌, subst, Option, Some, None, bytes_eq}
+use Rattle.std.specs.Prelude.{◌&&◌, codes, IfSome, IsSome, is_some, option_and_then, slice_get}
+use Rattle.std.specs.List.{find, list_all}
+use Rattle.std.specs.Option.{option_map, option_or}
+use Rattle.kt_base.proofs.Names.{same}
+use Rattle.kt_metadata.specs.Properties.{Row, table, form_named, own_part, after_front, filled}
+use Rattle.kt_metadata.specs.ListKeys.{has_key, name_of_key, StandsFor}
 use Rattle.kt_metadata.specs.ListKeys as key
 use Rattle.kt_metadata.proofs.Fronts.{append-after_front}
 
--- a key of the table
-listed_name : (property : Property) → property ≢ Custom → name_of_key (list_key property) ≡ Some (property_name property)
-listed_name AllowedArchitectures other = refl
-listed_name AllowedPlatforms other = refl
-listed_name Description other = refl
-listed_name HasCleanup other = refl
-listed_name IsExclusive other = refl
-listed_name RequiredConfigs other = refl
-listed_name RequiredDiskSpace other = refl
-listed_name RequiredFiles other = refl
-listed_name RequiredMemory other = refl
-listed_name RequiredPrograms other = refl
-listed_name RequiredUser other = refl
-listed_name Timeout other = refl
-listed_name Custom other = absurd (other refl)
-
--- what a key stands for is found
-pub name-found : (text name : List ℕ) → StandsFor text name → name_of_key text ≡ Some name
-name-found _ _ (key.listed property other) = listed_name property other
-name-found _ _ (key.custom c cs) = refl
-
--- a property with one name
-is_own : Property → Bool
-is_own Custom = false
-is_own AllowedArchitectures = true
-is_own AllowedPlatforms = true
-is_own Description = true
-is_own HasCleanup = true
-is_own IsExclusive = true
-is_own RequiredConfigs = true
-is_own RequiredDiskSpace = true
-is_own RequiredFiles = true
-is_own RequiredMemory = true
-is_own RequiredPrograms = true
-is_own RequiredUser = true
-is_own Timeout = true
-
-own-other : (property : Property) → is_own property ≡ true → property ≢ Custom
-unfolding is_own
-own-other property own e = let f : is_own property ≡ false = ap is_own e in absurd (cc)
-
-own-all : list_all is_own all_properties ≡ true
-unfolding is_own
-own-all = refl
+some_is : {X : Type 0} (x y : X) → Some x ≡ Some y → x ≡ y
+some_is x y e = cc
 
 and-parts : (a b : Bool) → (a && b) ≡ true → (a ≡ true) × (b ≡ true)
 and-parts true b e = (refl, e)
 and-parts false b e = absurd (cc)
 
-keyed-next : (text : List ℕ) (q p : Property) (ps : List Property)
-    → (keyed_among text ps ≡ Some p → (text ≡ list_key p) × (is_own p ≡ true)) → is_own q ≡ true
-    → (b : Bool) → bytes_eq text (list_key q) ≡ b → keyed_among text (q ∷ ps) ≡ Some p → (text ≡ list_key p) × (is_own p ≡ true)
-keyed-next text q p ps h own true e found =
-    let some : Some q ≡ Some p = rw e at found in
-    let same : q ≡ p = cc in
-    (((bytes_eq-Decides text (list_key q)).0 e) ∙ ap list_key same, sym (ap is_own same) ∙ own)
-keyed-next text q p ps h own false e found = h (rw e at found)
+module _ (passes : Row → Bool) where
+  -- a row that is found has a place, and passes
+  found-next : (q : Row) (qs : List Row) (r : Row) → (find passes qs ≡ Some r → (place : ℕ) × (slice_get qs place ≡ Some r) × (passes r ≡ true))
+      → (b : Bool) → passes q ≡ b → find passes (q ∷ qs) ≡ Some r → (place : ℕ) × (slice_get (q ∷ qs) place ≡ Some r) × (passes r ≡ true)
+  found-next q qs r h true t e = let here : Some q ≡ Some r = rw t at e in (zero, here, subst (λ (x : Row). passes x ≡ true) (some_is q r here) t)
+  found-next q qs r h false t e = let later = h (rw t at e) in (suc later.0, later.1, later.2)
 
--- the property that has a key
-keyed : (text : List ℕ) (p : Property) (ps : List Property) → list_all is_own ps ≡ true → keyed_among text ps ≡ Some p → (text ≡ list_key p) × (is_own p ≡ true)
-keyed text p [] own found = absurd (cc)
-keyed text p (q ∷ ps) own found =
-    let both = and-parts (is_own q) (list_all is_own ps) own in
-    keyed-next text q p ps (λ e. keyed text p ps both.1 e) both.0 (bytes_eq text (list_key q)) refl found
+  found-row : (rows : List Row) (r : Row) → find passes rows ≡ Some r → (place : ℕ) × (slice_get rows place ≡ Some r) × (passes r ≡ true)
+  found-row [] r e = absurd (cc)
+  found-row (q ∷ qs) r e = found-next q qs r (found-row qs r) (passes q) refl e
+
+  -- a row passes if all do
+  row-passes : (rows : List Row) (place : ℕ) (r : Row) → list_all passes rows ≡ true → slice_get rows place ≡ Some r → passes r ≡ true
+  row-passes [] place r all e = absurd (cc)
+  row-passes (q ∷ qs) zero r all e = subst (λ (x : Row). passes x ≡ true) (some_is q r e) (and-parts (passes q) (list_all passes qs) all).0
+  row-passes (q ∷ qs) (suc place) r all e = row-passes qs place r (and-parts (passes q) (list_all passes qs) all).1 e
+
+-- the name that was found is this one
+abbrev is_it : List ℕ → Option (List ℕ) → Bool
+is_it name None = false
+is_it name (Some found) = bytes_eq found name
+
+it-is : (name : List ℕ) (found : Option (List ℕ)) → is_it name found ≡ true → found ≡ Some name
+it-is name None e = absurd (cc)
+it-is name (Some found) e = ap (λ (n : List ℕ). Some n) (same found name e)
+
+-- each key of the table leads to its name, and each name has a form
+keys-lead : list_all (λ r. is_it r.name (name_of_key r.key)) table ≡ true
+keys-lead = refl
+
+names-known : list_all (λ r. is_some (form_named r.name)) table ≡ true
+names-known = refl
+
+-- what a key stands for is found
+pub name-found : (text name : List ℕ) → StandsFor text name → name_of_key text ≡ Some name
+name-found _ _ (key.listed place r at) = it-is r.name (name_of_key r.key) (row-passes (λ r. is_it r.name (name_of_key r.key)) table place r keys-lead at)
+name-found _ _ (key.custom c cs) = refl
 
 -- what follows a front has a character
 filled-parts : (rest part : List ℕ) → filled rest ≡ Some part → (c : ℕ) × (cs : List ℕ) × (rest ≡ c ∷ cs) × (part ≡ c ∷ cs)
@@ -88,7 +67,7 @@ own-parts front text part (Some rest) e f =
     (parts.0, parts.1, append-after_front front text rest e ∙ ap (λ (r : List ℕ). front ++ r) parts.2, parts.3)
 
 -- a name that is found is what the key stands for
-custom-stands : (text name : List ℕ) (part : Option (List ℕ)) → own_part (codes "X-") text ≡ part → name_found None part ≡ Some name → StandsFor text name
+custom-stands : (text name : List ℕ) (part : Option (List ℕ)) → own_part (codes "X-") text ≡ part → option_map (λ p. codes "custom." ++ p) part ≡ Some name → StandsFor text name
 custom-stands text name None e f = absurd (cc)
 custom-stands text name (Some part) e f =
     let parts = own-parts (codes "X-") text part (after_front (codes "X-") text) refl e in
@@ -97,38 +76,23 @@ custom-stands text name (Some part) e f =
     (subst (λ (n : List ℕ). StandsFor (codes "X-" ++ (parts.0 ∷ parts.1)) n) (ap (λ (p : List ℕ). codes "custom." ++ p) (sym parts.3) ∙ named)
     (key.custom parts.0 parts.1))
 
-stands-next : (text name : List ℕ) (found : Option Property) → keyed_among text all_properties ≡ found
-    → name_found found (own_part (codes "X-") text) ≡ Some name → StandsFor text name
+stands-next : (text name : List ℕ) (found : Option Row) → find (has_key text) table ≡ found
+    → option_or (option_map (λ r. r.name) found) (option_map (λ p. codes "custom." ++ p) (own_part (codes "X-") text)) ≡ Some name → StandsFor text name
 stands-next text name None e f = custom-stands text name (own_part (codes "X-") text) refl f
-stands-next text name (Some p) e f =
-    let parts = keyed text p all_properties own-all e in
-    let named : property_name p ≡ name = cc in
-    subst (λ (t : List ℕ). StandsFor t name) (sym parts.0) (subst (λ (n : List ℕ). StandsFor (list_key p) n) named (key.listed p (own-other p parts.1)))
+stands-next text name (Some r) e f =
+    let row = found-row (has_key text) table r e in
+    let named : r.name ≡ name = cc in
+    subst (λ (t : List ℕ). StandsFor t name) (sym (same text r.key row.2)) (subst (λ (n : List ℕ). StandsFor r.key n) named (key.listed row.0 r row.1))
 
 pub stands : (text : List ℕ) (found : Option (List ℕ)) → found ≡ name_of_key text → IfSome found (λ name. StandsFor text name)
 stands text None e = tt
-stands text (Some name) e = stands-next text name (keyed_among text all_properties) refl (sym e)
+stands text (Some name) e = stands-next text name (find (has_key text) table) refl (sym e)
 
 -- such a name is known
-known-listed : (property : Property) → property ≢ Custom → IsSome (property_named (property_name property))
-known-listed AllowedArchitectures other = refl
-known-listed AllowedPlatforms other = refl
-known-listed Description other = refl
-known-listed HasCleanup other = refl
-known-listed IsExclusive other = refl
-known-listed RequiredConfigs other = refl
-known-listed RequiredDiskSpace other = refl
-known-listed RequiredFiles other = refl
-known-listed RequiredMemory other = refl
-known-listed RequiredPrograms other = refl
-known-listed RequiredUser other = refl
-known-listed Timeout other = refl
-known-listed Custom other = absurd (other refl)
-
-known-next : (text name : List ℕ) → StandsFor text name → IsSome (property_named name)
-known-next _ _ (key.listed property other) = known-listed property other
+known-next : (text name : List ℕ) → StandsFor text name → IsSome (form_named name)
+known-next _ _ (key.listed place r at) = row-passes (λ r. is_some (form_named r.name)) table place r names-known at
 known-next _ _ (key.custom c cs) = refl
 
-pub known : (text : List ℕ) (found : Option (List ℕ)) → found ≡ name_of_key text → IfSome found (λ name. IsSome (property_named name))
+pub known : (text : List ℕ) (found : Option (List ℕ)) → found ≡ name_of_key text → IfSome found (λ name. IsSome (form_named name))
 known text None e = tt
 known text (Some name) e = known-next text name (stands text (Some name) e)

@@ -2,7 +2,9 @@ pub mod Encodings
 pub mod Fronts
 pub mod Joining
 pub mod KeyLaws
-pub mod Overlaying
+pub mod Layers
 pub mod Rows
+pub mod Tables
+pub mod Timeouts
 pub mod WordLaws
 pub mod WordsEnding

@@ -1,65 +1,67 @@
 -- The properties of a case, with their defaults.
-use Rattle.std.specs.Prelude.{ℕ, Bool, false, List, [], Option, Some, None, unwrap_or}
+use Rattle.std.specs.Prelude.{ℕ, Bool, false, codes, List, [], Option, Some, unwrap_or, option_and_then}
 use Rattle.kt_base.specs.declared.variable.Variable.{Variable}
 use Rattle.kt_base.specs.LastValues.{value_of}
-use Rattle.kt_metadata.specs.declared.property.Property.TheVariants.{AllowedArchitectures, AllowedPlatforms, Description, HasCleanup, IsExclusive, RequiredConfigs, RequiredDiskSpace, RequiredFiles, RequiredMemory, RequiredPrograms, RequiredUser, Timeout}
 use Rattle.kt_metadata.specs.declared.user.User.{User}
 use Rattle.kt_metadata.specs.declared.user.User.TheVariants.{Any}
+use Rattle.kt_metadata.specs.declared.value.Value.{Value}
+use Rattle.kt_metadata.specs.declared.value.Value.TheVariants.{Words, Truth, Size, User as OfUser, Timeout}
 use Rattle.kt_metadata.specs.declared.meta.Meta.{Meta}
-use Rattle.kt_metadata.specs.Properties.{property_name}
-use Rattle.kt_metadata.specs.Words.{words}
-use Rattle.kt_metadata.specs.Values.{truth_of, user_of, size_of, timeout_of}
+use Rattle.kt_metadata.specs.Properties.{value_named}
+
+-- the text of a name by its last definition
+abbrev pub texts_of : List Variable → List ℕ → Option (List ℕ)
+texts_of definitions name = value_of name definitions
+
+-- the value of a name whose texts are these
+abbrev pub given : (List ℕ → Option (List ℕ)) → List ℕ → Option Value
+given texts name = option_and_then (value_named name) (texts name)
 
 -- no words by default
-abbrev pub words_value : Option (List ℕ) → List (List ℕ)
-words_value None = []
-words_value (Some text) = words text
-
--- the empty text by default
-abbrev pub text_value : Option (List ℕ) → List ℕ
-text_value None = []
-text_value (Some text) = text
+abbrev pub words_in : Option Value → List (List ℕ)
+words_in (Some (Words found)) = found
+words_in other = []
 
 -- false by default
-abbrev pub truth_value : Option (List ℕ) → Bool
-truth_value None = false
-truth_value (Some text) = unwrap_or (truth_of text) false
+abbrev pub truth_in : Option Value → Bool
+truth_in (Some (Truth b)) = b
+truth_in other = false
 
 -- 0 by default
-abbrev pub size_value : Option (List ℕ) → ℕ
-size_value None = 0
-size_value (Some text) = unwrap_or (size_of text) 0
+abbrev pub size_in : Option Value → ℕ
+size_in (Some (Size bytes)) = bytes
+size_in other = 0
 
 -- any user by default
-abbrev pub user_value : Option (List ℕ) → User
-user_value None = Any
-user_value (Some text) = unwrap_or (user_of text) Any
+abbrev pub user_in : Option Value → User
+user_in (Some (OfUser user)) = user
+user_in other = Any
 
 -- the timeout of a case that declares none, in seconds
 abbrev pub default_timeout : ℕ
 default_timeout = 300
 
-abbrev pub timeout_value : Option (List ℕ) → ℕ
-timeout_value None = default_timeout
-timeout_value (Some text) = unwrap_or (timeout_of text) default_timeout
+abbrev pub timeout_in : Option Value → ℕ
+timeout_in (Some (Timeout seconds)) = seconds
+timeout_in other = default_timeout
 
 -- each property by the value of its name, else by its default
 abbrev pub meta_of : (List ℕ → Option (List ℕ)) → Meta
-meta_of value = record {
-  allowed_architectures = words_value (value (property_name AllowedArchitectures));
-  allowed_platforms = words_value (value (property_name AllowedPlatforms));
-  description = text_value (value (property_name Description));
-  has_cleanup = truth_value (value (property_name HasCleanup));
-  is_exclusive = truth_value (value (property_name IsExclusive));
-  required_configs = words_value (value (property_name RequiredConfigs));
-  required_disk_space = size_value (value (property_name RequiredDiskSpace));
-  required_files = words_value (value (property_name RequiredFiles));
-  required_memory = size_value (value (property_name RequiredMemory));
-  required_programs = words_value (value (property_name RequiredPrograms));
-  required_user = user_value (value (property_name RequiredUser));
-  timeout = timeout_value (value (property_name Timeout));
+meta_of texts = record {
+  allowed_architectures = words_in (given texts (codes "allowed_architectures"));
+  allowed_platforms = words_in (given texts (codes "allowed_platforms"));
+  description = unwrap_or (texts (codes "description")) [];
+  has_cleanup = truth_in (given texts (codes "has_cleanup"));
+  is_exclusive = truth_in (given texts (codes "is_exclusive"));
+  required_configs = words_in (given texts (codes "required_configs"));
+  required_disk_space = size_in (given texts (codes "required_disk_space"));
+  required_files = words_in (given texts (codes "required_files"));
+  required_memory = size_in (given texts (codes "required_memory"));
+  required_programs = words_in (given texts (codes "required_programs"));
+  required_user = user_in (given texts (codes "required_user"));
+  timeout = timeout_in (given texts (codes "timeout"));
 }
 
 -- each property by its last definition, else by its default
 abbrev pub effective : List Variable → Meta
-effective definitions = meta_of (λ name. value_of name definitions)
+effective definitions = meta_of (texts_of definitions)

@@ -1,3 +1,3 @@
 -- What private functions do: no public clause cites it.
-pub mod Effective
-pub mod Overlays
+pub mod Layers
+pub mod Rows

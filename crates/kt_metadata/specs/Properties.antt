@@ -1,34 +1,40 @@
--- The table of properties.
-use Rattle.std.specs.Prelude.{ℕ, Bool, true, false, not, ◌==◌, bytes_eq, codes, List, [], ◌∷◌, Option, Some, None, is_some, option_and_then, if◌then◌else◌, Result, Ok, Err}
-use Rattle.std.specs.List.{list_any}
-use Rattle.kt_metadata.specs.declared.property.Property.{Property}
-use Rattle.kt_metadata.specs.declared.property.Property.TheVariants.{AllowedArchitectures, AllowedPlatforms, Description, HasCleanup, IsExclusive, RequiredConfigs, RequiredDiskSpace, RequiredFiles, RequiredMemory, RequiredPrograms, RequiredUser, Timeout, Custom}
+-- The table of properties, and how their values are read.
+use Rattle.std.specs.Prelude.{ℕ, Bool, not, ◌==◌, ◌&&◌, bytes_eq, codes, List, [], ◌∷◌, Option, Some, None, is_some, option_and_then, if◌then◌else◌, Result, Ok, Err}
+use Rattle.std.specs.List.{find, list_any}
+use Rattle.std.specs.Option.{option_map}
+use Rattle.kt_metadata.specs.declared.form.Form.{Form}
+use Rattle.kt_metadata.specs.declared.form.Form.TheVariants as form
+use Rattle.kt_metadata.specs.declared.value.Value.{Value}
+use Rattle.kt_metadata.specs.declared.value.Value.TheVariants as value
 use Rattle.kt_metadata.specs.declared.fault.PropFault.{PropFault}
 use Rattle.kt_metadata.specs.declared.fault.PropFault.TheVariants.{NoMemory, UnknownProperty, BadValue}
 use Rattle.kt_metadata.specs.Words.{words}
 use Rattle.kt_metadata.specs.Values.{truth_of, user_of, size_of, timeout_of, is_no_file, is_no_program}
 
--- the properties with one name, in the order in which they are listed
-abbrev pub all_properties : List Property
-all_properties =
-    AllowedArchitectures ∷ AllowedPlatforms ∷ Description ∷ HasCleanup ∷ IsExclusive ∷ RequiredConfigs
-    ∷ RequiredDiskSpace ∷ RequiredFiles ∷ RequiredMemory ∷ RequiredPrograms ∷ RequiredUser ∷ Timeout ∷ []
+-- a property with one name: the name, its key in lists of ATF cases, and the form of its values
+pub record Row : Type 0 where
+  pub name : List ℕ
+  pub key : List ℕ
+  pub form : Form
 
--- the name of a property; the front of a custom one
-abbrev pub property_name : Property → List ℕ
-property_name AllowedArchitectures = codes "allowed_architectures"
-property_name AllowedPlatforms = codes "allowed_platforms"
-property_name Description = codes "description"
-property_name HasCleanup = codes "has_cleanup"
-property_name IsExclusive = codes "is_exclusive"
-property_name RequiredConfigs = codes "required_configs"
-property_name RequiredDiskSpace = codes "required_disk_space"
-property_name RequiredFiles = codes "required_files"
-property_name RequiredMemory = codes "required_memory"
-property_name RequiredPrograms = codes "required_programs"
-property_name RequiredUser = codes "required_user"
-property_name Timeout = codes "timeout"
-property_name Custom = codes "custom."
+abbrev row : List ℕ → List ℕ → Form → Row
+row name key f = record { name = name; key = key; form = f }
+
+-- the properties with one name, in the order in which they are listed
+abbrev pub table : List Row
+table =
+    row (codes "allowed_architectures") (codes "require.arch") form.Words
+    ∷ row (codes "allowed_platforms") (codes "require.machine") form.Words
+    ∷ row (codes "description") (codes "descr") form.Text
+    ∷ row (codes "has_cleanup") (codes "has.cleanup") form.Truth
+    ∷ row (codes "is_exclusive") (codes "is.exclusive") form.Truth
+    ∷ row (codes "required_configs") (codes "require.config") form.Words
+    ∷ row (codes "required_disk_space") (codes "require.diskspace") form.Size
+    ∷ row (codes "required_files") (codes "require.files") form.Files
+    ∷ row (codes "required_memory") (codes "require.memory") form.Size
+    ∷ row (codes "required_programs") (codes "require.progs") form.Programs
+    ∷ row (codes "required_user") (codes "require.user") form.User
+    ∷ row (codes "timeout") (codes "timeout") form.Timeout ∷ []
 
 -- at least one character
 abbrev pub filled : List ℕ → Option (List ℕ)
@@ -45,59 +51,49 @@ after_front (c ∷ front) (d ∷ text) = if c == d then after_front front text e
 abbrev pub own_part : List ℕ → List ℕ → Option (List ℕ)
 own_part front text = option_and_then filled (after_front front text)
 
--- a property with one name, else a custom one, else none
-abbrev pub or_custom : Bool → Option Property → Option Property
-or_custom custom (Some property) = Some property
-or_custom true None = Some Custom
-or_custom false None = None
-
--- the first of these properties that has this name
-abbrev pub named_among : List ℕ → List Property → Option Property
-named_among name [] = None
-named_among name (p ∷ ps) = if bytes_eq name (property_name p) then Some p else named_among name ps
-
 -- a name is that of a custom property
 abbrev pub is_custom : List ℕ → Bool
 is_custom name = is_some (own_part (codes "custom.") name)
 
--- the property of a name
-abbrev pub property_named : List ℕ → Option Property
-property_named name = or_custom (is_custom name) (named_among name all_properties)
+-- a row has this name
+abbrev pub has_name : List ℕ → Row → Bool
+has_name name r = bytes_eq name r.name
+
+-- the form of a name's values: any text for a custom property, else that of the table
+abbrev pub form_named : List ℕ → Option Form
+form_named name = if is_custom name then Some form.Text else option_map (λ r. r.form) (find (has_name name) table)
 
 -- a Kyuafile may set this property: each but `has_cleanup`, which belongs to a list of ATF cases
-abbrev pub is_for_kyuafile : Option Property → Bool
-is_for_kyuafile None = false
-is_for_kyuafile (Some HasCleanup) = false
-is_for_kyuafile (Some property) = true
-
--- a Kyuafile may set the property of this name
 abbrev pub is_kyuafile_property : List ℕ → Bool
-is_kyuafile_property name = is_for_kyuafile (property_named name)
+is_kyuafile_property name = not (bytes_eq name (codes "has_cleanup")) && is_some (form_named name)
 
--- a text is a value of a property
-abbrev pub is_value : Property → List ℕ → Bool
-is_value HasCleanup text = is_some (truth_of text)
-is_value IsExclusive text = is_some (truth_of text)
-is_value RequiredDiskSpace text = is_some (size_of text)
-is_value RequiredMemory text = is_some (size_of text)
-is_value RequiredFiles text = not (list_any is_no_file (words text))
-is_value RequiredPrograms text = not (list_any is_no_program (words text))
-is_value RequiredUser text = is_some (user_of text)
-is_value Timeout text = is_some (timeout_of text)
-is_value AllowedArchitectures text = true
-is_value AllowedPlatforms text = true
-is_value Description text = true
-is_value RequiredConfigs text = true
-is_value Custom text = true
+-- words among which none is of the wrong kind
+abbrev pub words_but : (List ℕ → Bool) → List (List ℕ) → Option Value
+words_but is_wrong found = if list_any is_wrong found then None else Some (value.Words found)
 
--- why a value of this property is refused
-abbrev pub value_fault : Option Property → List ℕ → Option PropFault
+-- a text as a value of a form
+abbrev pub value_in : Form → List ℕ → Option Value
+value_in form.Words text = Some (value.Words (words text))
+value_in form.Files text = words_but is_no_file (words text)
+value_in form.Programs text = words_but is_no_program (words text)
+value_in form.Text text = Some value.Text
+value_in form.Truth text = option_map (λ b. value.Truth b) (truth_of text)
+value_in form.Size text = option_map (λ n. value.Size n) (size_of text)
+value_in form.User text = option_map (λ u. value.User u) (user_of text)
+value_in form.Timeout text = option_map (λ n. value.Timeout n) (timeout_of text)
+
+-- a text as a value of the property of a name
+abbrev pub value_named : List ℕ → List ℕ → Option Value
+value_named name text = option_and_then (λ f. value_in f text) (form_named name)
+
+-- why a value of this form is refused
+abbrev pub value_fault : Option Form → List ℕ → Option PropFault
 value_fault None text = Some UnknownProperty
-value_fault (Some property) text = if is_value property text then None else Some BadValue
+value_fault (Some f) text = if is_some (value_in f text) then None else Some BadValue
 
 -- why a definition is refused: an unknown name before a bad value
 abbrev pub definition_fault : List ℕ → List ℕ → Option PropFault
-definition_fault name text = value_fault (property_named name) text
+definition_fault name text = value_fault (form_named name) text
 
 -- what holds of a refusal for another reason than memory
 abbrev pub IfFault : {T : Type 0} → Result T PropFault → (PropFault → Type 0) → Type 0

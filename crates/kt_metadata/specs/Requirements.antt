@@ -2,8 +2,7 @@
 use Rattle.std.specs.Prelude.{ℕ, Bool, true, false, not, nat_lt, ◌==◌, ◌||◌, bytes_eq, codes, length, List, [], ◌∷◌, ◌++◌, Option, Some, None, if◌then◌else◌}
 use Rattle.std.specs.List.{list_any, find}
 use Rattle.std.specs.Option.{option_map}
-use Rattle.std.specs.BTreeSet.{BTreeSet, contains_text}
-use Rattle.std.specs.declared.string.String.{String}
+use Rattle.std.specs.BTreeSet.{contains_text}
 use Rattle.kt_base.specs.Utf8.{utf8}
 use Rattle.kt_base.specs.Reasons.{counted_text, reason_text}
 use Rattle.kt_base.specs.declared.reason.Reason.{Reason}
@@ -11,6 +10,8 @@ use Rattle.kt_base.specs.declared.phrase.Phrase.{Phrase}
 use Rattle.kt_base.specs.declared.phrase.Phrase.TheVariants.{MemoryNeeded, DiskNeeded}
 use Rattle.kt_config.specs.Values.{Values}
 use Rattle.kt_metadata.specs.declared.meta.Meta.{Meta}
+use Rattle.kt_metadata.specs.declared.need.Need.{Need}
+use Rattle.kt_metadata.specs.declared.need.Need.TheVariants.{File, Program}
 use Rattle.kt_metadata.specs.declared.host.Host.{Host}
 use Rattle.kt_metadata.specs.declared.user.User.{User}
 use Rattle.kt_metadata.specs.declared.user.User.TheVariants.{Root, Unprivileged}
@@ -24,10 +25,6 @@ text_in reason = option_map reason_text reason
 abbrev pub around : List ℕ → List ℕ → Option (List ℕ) → Option (List ℕ)
 around front back word = option_map (λ w. front ++ (w ++ back)) word
 
--- a word isn't among those that were found
-abbrev pub is_missing : {Z : Type 0} → BTreeSet (String Z) → List ℕ → Bool
-is_missing found word = not (contains_text found (utf8 word))
-
 -- nothing is listed, or this word is
 abbrev pub is_allowed : List (List ℕ) → List ℕ → Bool
 is_allowed listed word = length listed == 0 || list_any (λ w. bytes_eq w word) listed
@@ -38,17 +35,17 @@ config_row meta config suite =
     around (codes "Required configuration property '") (codes "' not defined")
     (find (is_undefined config suite) meta.required_configs)
 
--- architectures are listed, and the configured one isn't among them
-abbrev pub architecture_row : Meta → Values → Option (List ℕ)
-architecture_row meta config =
-    if is_allowed meta.allowed_architectures (architecture_of config) then None
-    else Some (codes "Current architecture '" ++ (architecture_of config ++ codes "' not supported"))
+-- words are listed, and the configured one isn't among them
+abbrev pub listed_row : List ℕ → List (List ℕ) → List ℕ → Option (List ℕ)
+listed_row front listed word = if is_allowed listed word then None else Some (front ++ (word ++ codes "' not supported"))
 
--- platforms are listed, and the configured one isn't among them
+-- an architecture that isn't listed
+abbrev pub architecture_row : Meta → Values → Option (List ℕ)
+architecture_row meta config = listed_row (codes "Current architecture '") meta.allowed_architectures (architecture_of config)
+
+-- a platform that isn't listed
 abbrev pub platform_row : Meta → Values → Option (List ℕ)
-platform_row meta config =
-    if is_allowed meta.allowed_platforms (platform_of config) then None
-    else Some (codes "Current platform '" ++ (platform_of config ++ codes "' not supported"))
+platform_row meta config = listed_row (codes "Current platform '") meta.allowed_platforms (platform_of config)
 
 -- a case for root, and the host isn't root
 abbrev pub root_row : User → Bool → Option (List ℕ)
@@ -60,15 +57,24 @@ abbrev pub unprivileged_row : User → Bool → Option (List ℕ)
 unprivileged_row Unprivileged true = Some (codes "Requires an unprivileged user")
 unprivileged_row user root = None
 
--- the first file that wasn't found
-abbrev pub file_row : Meta → Host → Option (List ℕ)
-file_row meta host =
-    around (codes "Required file '") (codes "' not found") (find (is_missing host.files) meta.required_files)
+-- the words that must be found
+abbrev pub needed : Need → Meta → List (List ℕ)
+needed File meta = meta.required_files
+needed Program meta = meta.required_programs
 
--- the first program that wasn't found
-abbrev pub program_row : Meta → Host → Option (List ℕ)
-program_row meta host =
-    around (codes "Required program '") (codes "' not found") (find (is_missing host.programs) meta.required_programs)
+-- a word is among those that were found on the host
+abbrev pub is_found : Need → Host → List ℕ → Bool
+is_found File host word = contains_text host.files (utf8 word)
+is_found Program host word = contains_text host.programs (utf8 word)
+
+-- the beginning of the reason
+abbrev pub need_text : Need → List ℕ
+need_text File = codes "Required file '"
+need_text Program = codes "Required program '"
+
+-- the first such word that wasn't found
+abbrev pub need_row : Need → Meta → Host → Option (List ℕ)
+need_row need meta host = around (need_text need) (codes "' not found") (find (λ word. not (is_found need host word)) (needed need meta))
 
 -- the host has less than is required; an unknown amount is enough
 abbrev pub amount_row : Phrase → ℕ → Option ℕ → Option (List ℕ)
@@ -80,7 +86,7 @@ amount_row phrase due (Some there) =
 abbrev pub host_rows : Meta → Host → List (Option (List ℕ))
 host_rows meta host =
     root_row meta.required_user host.root ∷ unprivileged_row meta.required_user host.root
-    ∷ file_row meta host ∷ program_row meta host
+    ∷ need_row File meta host ∷ need_row Program meta host
     ∷ amount_row MemoryNeeded meta.required_memory host.memory
     ∷ amount_row DiskNeeded meta.required_disk_space host.disk ∷ []
 

@@ -1,106 +1,93 @@
-ghost use Rattle.std.specs.Prelude.{◌≡◌, ◌≤◌, List, IfOk};
+ghost use Rattle.std.specs.Prelude.{◌≡◌, ◌≤◌, [], List, IfOk, chars, unwrap_or};
 ghost use Rattle.kt_base.specs.declared.variable.Variable.{Variable};
-ghost use Rattle.kt_base.specs.LastValues.{value_of, last_values};
+ghost use Rattle.kt_base.specs.LastValues.{last_values};
 ghost use Rattle.kt_base.specs.Limits.{longest_timeout};
-ghost use Rattle.kt_metadata.specs.Inner.Effective.{given};
-ghost use Rattle.kt_metadata.specs.Effective.{words_value, text_value, truth_value, size_value, user_value, timeout_value, meta_of, effective};
+ghost use Rattle.kt_metadata.specs.Effective.{texts_of, given, words_in, truth_in, size_in, user_in, timeout_in, effective};
 
+use crate::form::DEFAULT_TIMEOUT;
 use crate::meta::Meta;
-use crate::numbers::{size, timeout};
-use crate::property::Property;
 use crate::props::Props;
 use crate::user::User;
-use crate::values::{truth, user};
-use crate::words::words;
+use crate::value::{Value, copy_of_words};
 use kt_base::{Items, NoMemory, Text};
-use std::alloc::Global;
-
-/// The timeout of a case that declares none, in seconds.
-const DEFAULT_TIMEOUT: u32 = 300;
 
 impl Props {
-    fn words_of(&self, property: Property) -> Result<Items<Text>, NoMemory>
-        ensures { IfOk result (λ found. found ≡ words_value (given property self.now)) }
+    fn words(&self, name: &str) -> Result<Items<Text>, NoMemory>
+        ensures { IfOk result (λ found. found
+            ≡ words_in (given (texts_of self.now) (chars name.now))) }
     {
-        let alloc = self.allocator();
-        match self.value(property) {
-            None => Ok(Items::new(alloc)),
-            Some(text) => words(alloc, text),
+        match self.value(name) {
+            Some(Value::Words(words)) => copy_of_words(self.allocator(), words.as_slice()),
+            _ => Ok(Items::new(self.allocator())),
         }
     }
 
-    fn text_of(&self, property: Property) -> Result<Text, NoMemory>
-        ensures { IfOk result (λ text. text ≡ text_value (given property self.now)) }
+    fn description(&self, name: &str) -> Result<Text, NoMemory>
+        ensures { IfOk result (λ text. text ≡ unwrap_or (texts_of self.now (chars name.now)) []) }
     {
-        match self.value(property) {
+        match self.find(name) {
+            Some(given) => given.text.copy(),
             None => Ok(Text::new(self.allocator())),
-            Some(text) => text.copy(),
         }
     }
 
-    fn truth_of(&self, property: Property) -> bool
-        ensures { result ≡ truth_value (given property self.now) }
+    fn truth(&self, name: &str) -> bool
+        ensures { result ≡ truth_in (given (texts_of self.now) (chars name.now)) }
     {
-        match self.value(property) {
-            None => false,
-            Some(text) => truth(text).unwrap_or(false),
+        match self.value(name) {
+            Some(Value::Truth(truth)) => *truth,
+            _ => false,
         }
     }
 
-    fn size_of(&self, property: Property) -> u64
-        ensures { result ≡ size_value (given property self.now) }
+    fn size(&self, name: &str) -> u64
+        ensures { result ≡ size_in (given (texts_of self.now) (chars name.now)) }
     {
-        match self.value(property) {
-            None => 0,
-            Some(text) => size(text.as_bytes()).unwrap_or(0),
+        match self.value(name) {
+            Some(Value::Size(bytes)) => *bytes,
+            _ => 0,
         }
     }
 
-    fn user_of(&self, property: Property) -> User
-        ensures { result ≡ user_value (given property self.now) }
+    fn user(&self, name: &str) -> User
+        ensures { result ≡ user_in (given (texts_of self.now) (chars name.now)) }
     {
-        match self.value(property) {
-            None => User::Any,
-            Some(text) => user(text).unwrap_or(User::Any),
+        match self.value(name) {
+            Some(Value::User(user)) => *user,
+            _ => User::Any,
         }
     }
 
-    fn timeout_of(&self, property: Property) -> u32
-        ensures { result ≡ timeout_value (given property self.now) }
+    fn timeout(&self, name: &str) -> u32
+        ensures { result ≡ timeout_in (given (texts_of self.now) (chars name.now)) }
     {
-        match self.value(property) {
-            None => DEFAULT_TIMEOUT,
-            Some(text) => timeout(text.as_bytes()).unwrap_or(DEFAULT_TIMEOUT),
+        match self.value(name) {
+            Some(Value::Timeout(seconds)) => *seconds,
+            _ => DEFAULT_TIMEOUT,
         }
-    }
-
-    fn meta(&self) -> Result<Meta, NoMemory>
-        ensures { IfOk result (λ meta. meta ≡ meta_of (λ name. value_of name self.now)) }
-    {
-        Ok(Meta {
-            allowed_architectures: self.words_of(Property::AllowedArchitectures)?,
-            allowed_platforms: self.words_of(Property::AllowedPlatforms)?,
-            description: self.text_of(Property::Description)?,
-            has_cleanup: self.truth_of(Property::HasCleanup),
-            is_exclusive: self.truth_of(Property::IsExclusive),
-            required_configs: self.words_of(Property::RequiredConfigs)?,
-            required_disk_space: self.size_of(Property::RequiredDiskSpace),
-            required_files: self.words_of(Property::RequiredFiles)?,
-            required_memory: self.size_of(Property::RequiredMemory),
-            required_programs: self.words_of(Property::RequiredPrograms)?,
-            required_user: self.user_of(Property::RequiredUser),
-            timeout: self.timeout_of(Property::Timeout),
-        })
     }
 
     /// Each property by its value, else by its default. The timeout 0 is the longest.
     pub fn effective(&self) -> Result<Meta, NoMemory>
-        ensures value { (definitions : List Variable) → self.now ≡ last_values definitions
+        ensures value { IfOk result (λ meta. meta ≡ effective self.now) }
+        ensures defined { (definitions : List Variable) → self.now ≡ last_values definitions
             → IfOk result (λ meta. meta ≡ effective definitions) }
         ensures timeout { IfOk result (λ meta. (1 ≤ meta.timeout)
             × (meta.timeout ≤ longest_timeout)) }
     {
-        let meta = self.meta()?;
-        Ok(meta)
+        Ok(Meta {
+            allowed_architectures: self.words("allowed_architectures")?,
+            allowed_platforms: self.words("allowed_platforms")?,
+            description: self.description("description")?,
+            has_cleanup: self.truth("has_cleanup"),
+            is_exclusive: self.truth("is_exclusive"),
+            required_configs: self.words("required_configs")?,
+            required_disk_space: self.size("required_disk_space"),
+            required_files: self.words("required_files")?,
+            required_memory: self.size("required_memory"),
+            required_programs: self.words("required_programs")?,
+            required_user: self.user("required_user"),
+            timeout: self.timeout("timeout"),
+        })
     }
 }

@@ -1,3 +1,5 @@
+use crate::need::Need;
+use kt_base::Text;
 use std::collections::BTreeSet;
 
 /// What is known of the host when a run begins.
@@ -13,4 +15,19 @@ pub struct Host {
     pub memory: Option<u64>,
     /// Free disk space in bytes; `None` if it isn't known, which is enough.
     pub disk: Option<u64>,
+}
+
+impl Host {
+    ghost use Rattle.std.specs.Prelude.{◌≡◌};
+    ghost use Rattle.kt_metadata.specs.Requirements.{is_found};
+
+    /// Whether a required file or program was found.
+    pub(crate) fn has(&self, need: Need, word: &Text) -> bool
+        ensures { result ≡ is_found need self.now word.now }
+    {
+        match need {
+            Need::File => self.files.contains(word.as_str()),
+            Need::Program => self.programs.contains(word.as_str()),
+        }
+    }
 }

@@ -1,25 +1,28 @@
 //! The properties of test programs and cases, and the requirements among them.
 #![tactic(auto)]
 
-mod definition;
 mod effective;
 mod fault;
+mod form;
+mod given;
 mod host;
 mod laws;
+mod layer;
 mod list_keys;
 mod listing;
 mod meta;
+mod need;
 mod numbers;
 mod pairs;
 mod paths;
-mod property;
 mod props;
 mod reasons;
 mod requirements;
 mod searches;
-mod shown;
+mod table;
 mod texts;
 mod user;
+mod value;
 mod values;
 mod words;
 
@@ -28,7 +31,8 @@ pub use host::Host;
 pub use laws::words_laws;
 pub use list_keys::property_of_key;
 pub use meta::Meta;
-pub use property::is_kyuafile_property;
+pub use need::Need;
 pub use props::Props;
 pub use requirements::unmet;
+pub use table::is_kyuafile_property;
 pub use user::User;

@@ -1,43 +1,12 @@
-ghost use Rattle.std.specs.Prelude.{◌≡◌, ◌++◌, List, ℕ, chars, codes, None, Some, IfOk, IfSome, IsSome};
-ghost use Rattle.kt_metadata.specs.Properties.{own_part, property_named};
-ghost use Rattle.kt_metadata.specs.ListKeys.{list_key, keyed_among, name_found, name_of_key, StandsFor};
+ghost use Rattle.std.specs.Prelude.{◌≡◌, ◌++◌, List, ℕ, chars, codes, Some, IfOk, IfSome, IsSome};
+ghost use Rattle.std.specs.Option.{option_map};
+ghost use Rattle.kt_metadata.specs.Properties.{own_part, form_named};
+ghost use Rattle.kt_metadata.specs.ListKeys.{name_of_key, StandsFor};
 
-use crate::property::{ALL, Property};
+use crate::table::{TABLE, row_keyed};
 use crate::texts::own_part;
 use kt_base::{NoMemory, Text};
 use std::alloc::Global;
-
-/// The key in a list of ATF cases; the front of a custom property's. The keys are this profile's.
-fn list_key(property: Property) -> &'static str
-    ensures { chars result.now ≡ list_key property }
-{
-    match property {
-        Property::AllowedArchitectures => "require.arch",
-        Property::AllowedPlatforms => "require.machine",
-        Property::Description => "descr",
-        Property::HasCleanup => "has.cleanup",
-        Property::IsExclusive => "is.exclusive",
-        Property::RequiredConfigs => "require.config",
-        Property::RequiredDiskSpace => "require.diskspace",
-        Property::RequiredFiles => "require.files",
-        Property::RequiredMemory => "require.memory",
-        Property::RequiredPrograms => "require.progs",
-        Property::RequiredUser => "require.user",
-        Property::Timeout => "timeout",
-        Property::Custom => "X-",
-    }
-}
-
-fn keyed_among(key: &Text, properties: &[Property]) -> Option<Property>
-    ensures { result ≡ keyed_among key.now properties.now }
-{
-    for property in properties {
-        if key.is_word(list_key(*property)) {
-            return Some(*property);
-        }
-    }
-    None
-}
 
 fn custom_name(alloc: Global, part: &str) -> Result<Text, NoMemory>
     ensures { IfOk result (λ name. name ≡ codes "custom." ++ chars part.now) }
@@ -48,7 +17,8 @@ fn custom_name(alloc: Global, part: &str) -> Result<Text, NoMemory>
 }
 
 fn name_of_custom_key(alloc: Global, key: &Text) -> Result<Option<Text>, NoMemory>
-    ensures { IfOk result (λ found. found ≡ name_found None (own_part (codes "X-") key.now)) }
+    ensures { IfOk result (λ found. found
+        ≡ option_map (λ part. codes "custom." ++ part) (own_part (codes "X-") key.now)) }
 {
     match own_part(key.as_str(), "X-") {
         None => Ok(None),
@@ -62,8 +32,8 @@ fn name_of_custom_key(alloc: Global, key: &Text) -> Result<Option<Text>, NoMemor
 fn name_of_key(alloc: Global, key: &Text) -> Result<Option<Text>, NoMemory>
     ensures { IfOk result (λ found. found ≡ name_of_key key.now) }
 {
-    match keyed_among(key, &ALL) {
-        Some(property) => Ok(Some(Text::from_str(alloc, property.name())?)),
+    match row_keyed(key, &TABLE) {
+        Some(row) => Ok(Some(Text::from_str(alloc, row.0)?)),
         None => {
             let found = name_of_custom_key(alloc, key)?;
             Ok(found)
@@ -79,7 +49,7 @@ pub fn property_of_key(alloc: Global, key: &Text) -> Result<Option<Text>, NoMemo
         → IfOk result (λ found. found ≡ Some name) }
 
     // No name is unknown to `set`.
-    ensures known { IfOk result (λ found. IfSome found (λ name. IsSome (property_named name))) }
+    ensures known { IfOk result (λ found. IfSome found (λ name. IsSome (form_named name))) }
     ensures value { IfOk result (λ found. found ≡ name_of_key key.now) }
 {
     let found = name_of_key(alloc, key)?;

@@ -1,57 +1,49 @@
-ghost use Rattle.std.specs.Prelude.{◌≡◌, ◌++◌, ◌∷◌, [], List, IfOk, OnOk};
+ghost use Rattle.std.specs.Prelude.{◌≡◌, ◌++◌, List, map, IfOk, OnOk};
 ghost use Rattle.kt_base.specs.declared.variable.Variable.{Variable};
 ghost use Rattle.kt_base.specs.LastValues.{last_values};
-ghost use Rattle.kt_metadata.specs.Listing.{shown_pairs, listing};
+ghost use Rattle.kt_metadata.specs.Effective.{texts_of};
+ghost use Rattle.kt_metadata.specs.Inner.Rows.{row_in};
+ghost use Rattle.kt_metadata.specs.Listing.{shown_pairs, shown_text, listing};
 
-use crate::meta::Meta;
 use crate::pairs::add;
-use crate::property::{ALL, Property};
 use crate::props::Props;
-use crate::shown::shown_value;
+use crate::table::{Row, TABLE};
 use kt_base::{NoMemory, Text, Variables};
-use std::alloc::Global;
-
-fn add_shown(
-    alloc: Global,
-    pairs: &mut Variables,
-    meta: &Meta,
-    property: Property,
-) -> Result<(), NoMemory>
-    ensures { OnOk result (pairs.new ≡ pairs.old ++ shown_pairs meta.now (property ∷ [])) }
-{
-    let name = Text::from_str(alloc, property.name())?;
-    let value = shown_value(alloc, meta, property)?;
-    add(pairs, name, value)?;
-    Ok(())
-}
-
-fn add_all_shown(
-    alloc: Global,
-    pairs: &mut Variables,
-    meta: &Meta,
-    properties: &[Property],
-) -> Result<(), NoMemory>
-    ensures { OnOk result (pairs.new ≡ pairs.old ++ shown_pairs meta.now properties.now) }
-{
-    for property in properties {
-        add_shown(alloc, pairs, meta, *property)?;
-    }
-    Ok(())
-}
 
 impl Props {
+    fn shown(&self, row: &Row) -> Result<Text, NoMemory>
+        ensures { IfOk result (λ text. text ≡ shown_text (texts_of self.now) (row_in row.now)) }
+    {
+        let alloc = self.allocator();
+        match self.find(row.0) {
+            Some(given) => given.value.shown(alloc, given.text.as_str()),
+            None => row.2.default_value(alloc).shown(alloc, ""),
+        }
+    }
+
+    fn add_shown(&self, pairs: &mut Variables, rows: &[Row]) -> Result<(), NoMemory>
+        ensures { OnOk result (pairs.new
+            ≡ pairs.old ++ shown_pairs (texts_of self.now) (map row_in rows.now)) }
+    {
+        for row in rows {
+            let name = Text::from_str(self.allocator(), row.0)?;
+            add(pairs, name, self.shown(row)?)?;
+        }
+        Ok(())
+    }
+
     /// The properties as names with texts: the effective ones in the order of the table, then the
     /// custom ones in the order of their first definitions. Words are joined by one space, numbers
     /// are decimal, and a property with an empty value is left out.
     pub fn listing(&self) -> Result<Variables, NoMemory>
-        ensures { (definitions : List Variable) → self.now ≡ last_values definitions
+        ensures value { IfOk result (λ pairs. pairs ≡ listing self.now) }
+        ensures defined { (definitions : List Variable) → self.now ≡ last_values definitions
             → IfOk result (λ pairs. pairs ≡ listing definitions) }
     {
-        let alloc = self.allocator();
-        let meta = self.effective()?;
-        let mut pairs = Variables::new(alloc);
-        add_all_shown(alloc, &mut pairs, &meta, &ALL)?;
-        self.add_custom(&mut pairs)?;
+        let mut pairs = Variables::new(self.allocator());
+        self.add_shown(&mut pairs, &TABLE)?;
+        let all = self.merged()?;
+        all.add_custom(&mut pairs)?;
         Ok(pairs)
     }
 }

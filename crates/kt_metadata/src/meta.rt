@@ -1,3 +1,4 @@
+use crate::need::Need;
 use crate::user::User;
 use kt_base::{Items, Text};
 
@@ -21,4 +22,19 @@ pub struct Meta {
     pub required_user: User,
     /// In seconds, 1 to 1,000,000.
     pub timeout: u32,
+}
+
+impl Meta {
+    ghost use Rattle.std.specs.Prelude.{◌≡◌};
+    ghost use Rattle.kt_metadata.specs.Requirements.{needed};
+
+    /// The words that must be found on the host.
+    pub fn needed(&self, need: Need) -> &[Text]
+        ensures { result.now ≡ needed need self.now }
+    {
+        match need {
+            Need::File => self.required_files.as_slice(),
+            Need::Program => self.required_programs.as_slice(),
+        }
+    }
 }

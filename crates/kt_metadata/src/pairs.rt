@@ -3,7 +3,7 @@ ghost use Rattle.std.specs.List.{filter};
 ghost use Rattle.kt_metadata.specs.Listing.{is_valued, custom_pairs};
 ghost use Rattle.kt_metadata.specs.Overlays.{a_pair};
 
-use crate::property::is_custom;
+use crate::table::is_custom;
 use kt_base::{NoMemory, Text, Variable, Variables};
 use std::alloc::Global;
 

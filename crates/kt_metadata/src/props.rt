@@ -1,36 +1,49 @@
-ghost use Rattle.std.specs.Prelude.{◌≡◌, ◌≢◌, true, false, [], ◌∷◌, ◌++◌, List, None, Some, IfOk, OnOk, OnErr};
-ghost use Rattle.std.specs.Option.{option_copied};
+ghost use Rattle.std.specs.Prelude.{◌≡◌, [], ◌∷◌, ◌++◌, chars, List, None, Some, IfOk, OnOk, OnErr};
+ghost use Rattle.std.specs.Option.{option_copied, option_map};
 ghost use Rattle.kt_base.specs.declared.variable.Variable.{Variable};
 ghost use Rattle.kt_base.specs.LastValues.{last_values, value_of};
-ghost use Rattle.kt_config.specs.Values.{variable_in, variables_in, IsSettled};
-ghost use Rattle.kt_metadata.specs.Properties.{definition_fault, IfFault};
-ghost use Rattle.kt_metadata.specs.Inner.Overlays.{taken};
+ghost use Rattle.kt_metadata.specs.Effective.{texts_of, given};
+ghost use Rattle.kt_metadata.specs.Inner.Layers.{beneath};
 ghost use Rattle.kt_metadata.specs.Overlays.{a_pair};
-ghost use Rattle.kt_metadata.specs.Inner.Effective.{given};
-ghost use Rattle.kt_metadata.specs.Listing.{custom_pairs};
+ghost use Rattle.kt_metadata.specs.Properties.{definition_fault, IfFault};
 
-use crate::definition::fault_of;
 use crate::fault::PropFault;
-use crate::pairs::add_if_custom;
-use crate::property::Property;
-use indexmap::IndexMap;
-use kt_base::{NoMemory, Text, Variables};
+use crate::given::Given;
+use crate::layer::Layer;
+use crate::table::read_definition;
+use crate::value::Value;
+use kt_base::{NoMemory, Text};
 use std::alloc::Global;
 use std::marker::Model;
+use std::rc::Rc;
 
 /// Properties with their values as texts. Contracts see the last values of the accepted definitions,
-/// in the order of the first ones.
+/// in the order of the first ones. The properties of a case share the memory of its program's.
 #[derive(Drop)]
 pub struct Props {
-    values: IndexMap<String, Text>,
+    program: Option<Rc<Layer>>,
+    own: Layer,
 }
 
 impl Model for Props {
+    ghost use Rattle.std.specs.Prelude.{List, ◌++◌};
+    ghost use Rattle.kt_base.specs.declared.variable.Variable.{Variable};
+    ghost use Rattle.kt_base.specs.LastValues.{last_values};
+    ghost use Rattle.kt_metadata.specs.Inner.Layers.{beneath};
+
     ghost Value = { List Variable };
 
-    ghost view = { λ p. variables_in p.values.entries };
+    ghost view = { λ p. last_values (beneath p.program ++ p.own) };
+}
 
-    ghost invariant = { λ p. IsSettled (variables_in p.values.entries) };
+/// The same layer, if there is one.
+fn beneath(program: &Option<Rc<Layer>>) -> Result<Option<Rc<Layer>>, NoMemory>
+    ensures { IfOk result (λ layer. beneath layer ≡ beneath program.now) }
+{
+    match program {
+        None => Ok(None),
+        Some(layer) => Ok(Some(layer.clone()?)),
+    }
 }
 
 impl Props {
@@ -39,43 +52,58 @@ impl Props {
         ensures { result ≡ [] }
     {
         Props {
-            values: IndexMap::new(alloc),
+            program: None,
+            own: Layer::new(alloc),
         }
     }
 
-    /// Whether no property has a value.
-    pub fn is_empty(&self) -> bool
-        ensures empty { result ≡ true → self.now ≡ [] }
-        ensures set { result ≡ false → self.now ≢ [] }
-    {
-        self.values.is_empty()
-    }
-
-    /// A theorem: the properties are their own last values.
-    pub fn named_once(&self)
+    /// The allocator that the properties take their memory from.
+    pub(crate) fn allocator(&self) -> Global
+        // Each name has one value.
         ensures { self.now ≡ last_values self.now }
     {
-        let _ = &self.values;
+        self.own.allocator()
+    }
+
+    /// What was given to a name last, to the case or else to its program.
+    pub(crate) fn find(&self, name: &str) -> Option<&Given>
+        ensures text { option_map (λ it. it.text) (option_copied result)
+            ≡ texts_of self.now (chars name.now) }
+        ensures value { option_map (λ it. it.value) (option_copied result)
+            ≡ given (texts_of self.now) (chars name.now) }
+    {
+        match self.own.get(name) {
+            Some(given) => Some(given),
+            None => match &self.program {
+                Some(layer) => layer.get(name),
+                None => None,
+            },
+        }
     }
 
     /// The last value that was given to a name. It takes no memory.
     pub fn get(&self, key: &Text) -> Option<&Text>
-        ensures { (definitions : List Variable) → self.now ≡ last_values definitions
+        ensures value { (definitions : List Variable) → self.now ≡ last_values definitions
             → option_copied result ≡ value_of key.now definitions }
+
+        // Each name has one value.
+        ensures once { self.now ≡ last_values self.now }
     {
-        self.values.get(key.as_str())
+        let _ = &self.own;
+        match self.find(key.as_str()) {
+            Some(given) => Some(&given.text),
+            None => None,
+        }
     }
 
-    /// The value of a property with one name.
-    pub(crate) fn value(&self, property: Property) -> Option<&Text>
-        ensures { option_copied result ≡ given property self.now }
+    /// The value that was given to a name, as it was read when it was set.
+    pub(crate) fn value(&self, name: &str) -> Option<&Value>
+        ensures { option_copied result ≡ given (texts_of self.now) (chars name.now) }
     {
-        self.values.get(property.name())
-    }
-
-    /// The allocator that the properties take their memory from.
-    pub(crate) fn allocator(&self) -> Global {
-        *self.values.allocator()
+        match self.find(name) {
+            Some(given) => Some(&given.value),
+            None => None,
+        }
     }
 
     /// Gives a property a value, in the place of an earlier one. A refused call changes nothing.
@@ -87,44 +115,48 @@ impl Props {
         ensures refused { IfFault result (λ fault. definition_fault key.now text.now ≡ Some fault) }
     {
         let alloc = self.allocator();
-        match fault_of(alloc, key, text)? {
-            Some(fault) => Err(fault),
+        let value = read_definition(alloc, key, text)?;
+        let text = text.copy()?;
+        self.own.put(key.as_str(), Given { text, value })?;
+        Ok(())
+    }
+
+    /// Lays all properties over what a layer has.
+    fn lay_over(&self, layer: &mut Layer) -> Result<(), NoMemory>
+        ensures { OnOk result (layer.new ≡ last_values (layer.old ++ self.now)) }
+    {
+        match &self.program {
             None => {
-                self.define(alloc, key, text)?;
+                layer.put_all(&self.own)?;
+                Ok(())
+            }
+            Some(program) => {
+                layer.put_all(program)?;
+                layer.put_all(&self.own)?;
                 Ok(())
             }
         }
     }
 
-    fn define(&mut self, alloc: Global, key: &Text, text: &Text) -> Result<(), NoMemory>
-        ensures ok { OnOk result (self.new
-            ≡ last_values (self.old ++ a_pair key.now text.now ∷ [])) }
-        ensures err { OnErr result (self.new ≡ self.old) }
+    /// All properties in one layer with memory of its own.
+    pub(crate) fn merged(&self) -> Result<Layer, NoMemory>
+        ensures { IfOk result (λ layer. layer ≡ self.now) }
     {
-        let name = String::from_str(alloc, key.as_str())?;
-        let value = text.copy()?;
-        self.put(name, value)?;
-        Ok(())
+        let mut layer = Layer::new(self.allocator());
+        self.lay_over(&mut layer)?;
+        Ok(layer)
     }
 
-    fn put(&mut self, name: String, value: Text) -> Result<(), NoMemory>
-        ensures ok { OnOk result (self.new
-            ≡ last_values (self.old ++ variable_in (name, value) ∷ [])) }
-        ensures err { OnErr result (self.new ≡ self.old) }
+    /// Equal properties, whose memory each `overlay` over them shares.
+    pub fn shared(&self) -> Result<Props, NoMemory>
+        ensures { IfOk result (λ props. props ≡ self.now) }
     {
-        self.values.insert(name, value)?;
-        Ok(())
-    }
-
-    fn put_all(&mut self, more: &Props) -> Result<(), NoMemory>
-        ensures { OnOk result (self.new ≡ taken self.old more.now) }
-    {
-        let mut rest = more.values.as_slice();
-        while let Some(((name, value), after)) = rest.split_first() {
-            self.put(name.clone()?, value.copy()?)?;
-            rest = after;
-        }
-        Ok(())
+        let alloc = self.allocator();
+        let layer = Rc::new(alloc, self.merged()?)?;
+        Ok(Props {
+            program: Some(layer),
+            own: Layer::new(alloc),
+        })
     }
 
     /// A program's properties, with a case's own over them.
@@ -134,22 +166,12 @@ impl Props {
             → IfOk result (λ props. props ≡ last_values (under ++ over)) }
         ensures value { IfOk result (λ props. props ≡ last_values (program.now ++ case.now)) }
     {
-        let mut props = Props::new(*program.values.allocator());
-        props.put_all(program)?;
-        props.put_all(case)?;
-        Ok(props)
-    }
-
-    /// Appends the custom properties that have a value.
-    pub(crate) fn add_custom(&self, pairs: &mut Variables) -> Result<(), NoMemory>
-        ensures { OnOk result (pairs.new ≡ pairs.old ++ custom_pairs self.now) }
-    {
-        let alloc = self.allocator();
-        let mut rest = self.values.as_slice();
-        while let Some(((name, value), after)) = rest.split_first() {
-            add_if_custom(alloc, pairs, name.as_str(), value)?;
-            rest = after;
-        }
-        Ok(())
+        let mut own = Layer::new(program.allocator());
+        own.put_all(&program.own)?;
+        case.lay_over(&mut own)?;
+        Ok(Props {
+            program: beneath(&program.program)?,
+            own,
+        })
     }
 }

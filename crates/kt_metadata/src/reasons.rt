@@ -1,9 +1,10 @@
 ghost use Rattle.std.specs.Prelude.{◌≡◌, ◌++◌, chars, IfOk};
 ghost use Rattle.kt_base.specs.Reasons.{reason_text};
-ghost use Rattle.kt_metadata.specs.Requirements.{text_in, config_row, architecture_row, platform_row, root_row, unprivileged_row, file_row, program_row, amount_row};
+ghost use Rattle.kt_metadata.specs.Requirements.{text_in, config_row, listed_row, root_row, unprivileged_row, need_row, amount_row};
 
 use crate::host::Host;
 use crate::meta::Meta;
+use crate::need::Need;
 use crate::searches::{first_missing, first_undefined, is_allowed};
 use crate::user::User;
 use kt_base::{NoMemory, Phrase, Reason, Text};
@@ -43,40 +44,20 @@ pub fn config_reason(
     }
 }
 
-/// An architecture that isn't among those that are listed.
-pub fn architecture_reason(
+/// An architecture or a platform that isn't among those that are listed.
+pub fn listed_reason(
     alloc: Global,
-    meta: &Meta,
-    config: &Config,
+    front: &str,
+    listed: &[Text],
+    word: &str,
 ) -> Result<Option<Reason>, NoMemory>
-    ensures { IfOk result (λ reason. text_in reason ≡ architecture_row meta.now config.now) }
+    ensures { IfOk result (λ reason. text_in reason
+        ≡ listed_row (chars front.now) listed.now (chars word.now)) }
 {
-    let architecture = config.architecture();
-    if is_allowed(meta.allowed_architectures.as_slice(), architecture) {
+    if is_allowed(listed, word) {
         return Ok(None);
     }
-    let reason = about(
-        alloc,
-        "Current architecture '",
-        architecture,
-        "' not supported",
-    )?;
-    Ok(Some(reason))
-}
-
-/// A platform that isn't among those that are listed.
-pub fn platform_reason(
-    alloc: Global,
-    meta: &Meta,
-    config: &Config,
-) -> Result<Option<Reason>, NoMemory>
-    ensures { IfOk result (λ reason. text_in reason ≡ platform_row meta.now config.now) }
-{
-    let platform = config.platform();
-    if is_allowed(meta.allowed_platforms.as_slice(), platform) {
-        return Ok(None);
-    }
-    let reason = about(alloc, "Current platform '", platform, "' not supported")?;
+    let reason = about(alloc, front, word, "' not supported")?;
     Ok(Some(reason))
 }
 
@@ -108,27 +89,19 @@ pub fn unprivileged_reason(user: User, root: bool) -> Option<Reason>
     }
 }
 
-/// A file that wasn't found.
-pub fn file_reason(alloc: Global, meta: &Meta, host: &Host) -> Result<Option<Reason>, NoMemory>
-    ensures { IfOk result (λ reason. text_in reason ≡ file_row meta.now host.now) }
+/// A file or a program that wasn't found.
+pub fn need_reason(
+    alloc: Global,
+    need: Need,
+    meta: &Meta,
+    host: &Host,
+) -> Result<Option<Reason>, NoMemory>
+    ensures { IfOk result (λ reason. text_in reason ≡ need_row need meta.now host.now) }
 {
-    match first_missing(meta.required_files.as_slice(), &host.files) {
+    match first_missing(need, meta, host) {
         None => Ok(None),
         Some(word) => {
-            let reason = about(alloc, "Required file '", word.as_str(), "' not found")?;
-            Ok(Some(reason))
-        }
-    }
-}
-
-/// A program that wasn't found.
-pub fn program_reason(alloc: Global, meta: &Meta, host: &Host) -> Result<Option<Reason>, NoMemory>
-    ensures { IfOk result (λ reason. text_in reason ≡ program_row meta.now host.now) }
-{
-    match first_missing(meta.required_programs.as_slice(), &host.programs) {
-        None => Ok(None),
-        Some(word) => {
-            let reason = about(alloc, "Required program '", word.as_str(), "' not found")?;
+            let reason = about(alloc, need.text(), word.as_str(), "' not found")?;
             Ok(Some(reason))
         }
     }

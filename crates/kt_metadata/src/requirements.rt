@@ -1,15 +1,40 @@
 ghost use Rattle.std.specs.Prelude.{◌≡◌, IfOk};
-ghost use Rattle.kt_metadata.specs.Requirements.{text_in, rows, host_rows, first_reason};
+ghost use Rattle.kt_metadata.specs.Requirements.{text_in, architecture_row, platform_row, rows, host_rows, first_reason};
 
 use crate::host::Host;
 use crate::meta::Meta;
+use crate::need::Need;
 use crate::reasons::{
-    amount_reason, architecture_reason, config_reason, file_reason, platform_reason,
-    program_reason, root_reason, unprivileged_reason,
+    amount_reason, config_reason, listed_reason, need_reason, root_reason, unprivileged_reason,
 };
 use kt_base::{NoMemory, Phrase, Reason, Text};
 use kt_config::Config;
 use std::alloc::Global;
+
+fn architecture_reason(
+    alloc: Global,
+    meta: &Meta,
+    config: &Config,
+) -> Result<Option<Reason>, NoMemory>
+    ensures { IfOk result (λ reason. text_in reason ≡ architecture_row meta.now config.now) }
+{
+    let listed = meta.allowed_architectures.as_slice();
+    let reason = listed_reason(
+        alloc,
+        "Current architecture '",
+        listed,
+        config.architecture(),
+    )?;
+    Ok(reason)
+}
+
+fn platform_reason(alloc: Global, meta: &Meta, config: &Config) -> Result<Option<Reason>, NoMemory>
+    ensures { IfOk result (λ reason. text_in reason ≡ platform_row meta.now config.now) }
+{
+    let listed = meta.allowed_platforms.as_slice();
+    let reason = listed_reason(alloc, "Current platform '", listed, config.platform())?;
+    Ok(reason)
+}
 
 fn host_reason(alloc: Global, meta: &Meta, host: &Host) -> Result<Option<Reason>, NoMemory>
     ensures { IfOk result (λ reason. text_in reason ≡ first_reason (host_rows meta.now host.now)) }
@@ -20,10 +45,10 @@ fn host_reason(alloc: Global, meta: &Meta, host: &Host) -> Result<Option<Reason>
     if let Some(reason) = unprivileged_reason(meta.required_user, host.root) {
         return Ok(Some(reason));
     }
-    if let Some(reason) = file_reason(alloc, meta, host)? {
+    if let Some(reason) = need_reason(alloc, Need::File, meta, host)? {
         return Ok(Some(reason));
     }
-    if let Some(reason) = program_reason(alloc, meta, host)? {
+    if let Some(reason) = need_reason(alloc, Need::Program, meta, host)? {
         return Ok(Some(reason));
     }
     if let Some(reason) = amount_reason(Phrase::MemoryNeeded, meta.required_memory, host.memory) {

@@ -1,12 +1,14 @@
-ghost use Rattle.std.specs.Prelude.{◌≡◌, bytes_eq, chars};
+ghost use Rattle.std.specs.Prelude.{◌≡◌, bytes_eq, chars, not};
 ghost use Rattle.std.specs.List.{list_any, find};
 ghost use Rattle.std.specs.Option.{option_copied};
 ghost use Rattle.kt_metadata.specs.Configured.{is_undefined};
-ghost use Rattle.kt_metadata.specs.Requirements.{is_missing, is_allowed};
+ghost use Rattle.kt_metadata.specs.Requirements.{is_allowed, is_found, needed};
 
+use crate::host::Host;
+use crate::meta::Meta;
+use crate::need::Need;
 use kt_base::Text;
 use kt_config::Config;
-use std::collections::BTreeSet;
 
 fn is_undefined(config: &Config, suite: &Text, name: &Text) -> bool
     ensures { result ≡ is_undefined config.now suite.now name.now }
@@ -17,12 +19,6 @@ fn is_undefined(config: &Config, suite: &Text, name: &Text) -> bool
     }
 }
 
-fn is_missing(found: &BTreeSet<String>, word: &Text) -> bool
-    ensures { result ≡ is_missing found.now word.now }
-{
-    !found.contains(word.as_str())
-}
-
 /// The first word that isn't a variable of a suite.
 pub fn first_undefined<'a>(words: &'a [Text], config: &Config, suite: &Text) -> Option<&'a Text>
     ensures { option_copied result ≡ find (is_undefined config.now suite.now) words.now }
@@ -30,11 +26,13 @@ pub fn first_undefined<'a>(words: &'a [Text], config: &Config, suite: &Text) -> 
     words.iter().find(|word| is_undefined(config, suite, *word))
 }
 
-/// The first word that wasn't found.
-pub fn first_missing<'a>(words: &'a [Text], found: &BTreeSet<String>) -> Option<&'a Text>
-    ensures { option_copied result ≡ find (is_missing found.now) words.now }
+/// The first word that must be found on the host and wasn't.
+pub fn first_missing<'a>(need: Need, meta: &'a Meta, host: &Host) -> Option<&'a Text>
+    ensures { option_copied result
+        ≡ find (λ word. not (is_found need host.now word)) (needed need meta.now) }
 {
-    words.iter().find(|word| is_missing(found, *word))
+    let words = meta.needed(need);
+    words.iter().find(|word| !host.has(need, *word))
 }
 
 fn is_listed(words: &[Text], word: &str) -> bool

@@ -1,6 +1,6 @@
-ghost use Rattle.std.specs.Prelude.{◌≡◌, ◌∷◌, [], ◌++◌, IfOk, OnOk};
+ghost use Rattle.std.specs.Prelude.{◌≡◌, ◌∷◌, [], ◌++◌, List, ℕ, IfOk, OnOk};
 ghost use Rattle.kt_base.specs.Characters.{is_space};
-ghost use Rattle.kt_metadata.specs.Words.{ended, words};
+ghost use Rattle.kt_metadata.specs.Words.{ended, words, words_from};
 
 use kt_base::{Items, NoMemory, Text};
 use std::alloc::Global;
@@ -21,6 +21,20 @@ fn end_word(words: &mut Items<Text>, word: Text) -> Result<(), NoMemory>
     Ok(())
 }
 
+/// The word that has begun after one character more; white space ends it.
+fn next_word(alloc: Global, words: &mut Items<Text>, word: Text, c: char) -> Result<Text, NoMemory>
+    ensures { IfOk result (λ next. (rest : List ℕ) → words.new ++ words_from next rest
+        ≡ words.old ++ words_from word (c ∷ rest)) }
+{
+    if is_space(c) {
+        end_word(words, word)?;
+        return Ok(Text::new(alloc));
+    }
+    let mut word = word;
+    word.push(c)?;
+    Ok(word)
+}
+
 /// The words of a text, which white space separates.
 pub fn words(alloc: Global, text: &Text) -> Result<Items<Text>, NoMemory>
     ensures { IfOk result (λ found. found ≡ words text.now) }
@@ -28,15 +42,8 @@ pub fn words(alloc: Global, text: &Text) -> Result<Items<Text>, NoMemory>
     let characters = text.characters()?;
     let mut found = Items::new(alloc);
     let mut word = Text::new(alloc);
-    let mut rest = characters.as_slice();
-    while let Some((c, after)) = rest.split_first() {
-        if is_space(*c) {
-            end_word(&mut found, word)?;
-            word = Text::new(alloc);
-        } else {
-            word.push(*c)?;
-        }
-        rest = after;
+    for c in &characters {
+        word = next_word(alloc, &mut found, word, *c)?;
     }
     end_word(&mut found, word)?;
     Ok(found)

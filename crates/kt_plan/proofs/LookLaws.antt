@@ -1,6 +1,6 @@
 -- What the host is asked for, and what is noted of its answers.
 use Rattle.std.specs.Prelude.{Bool, true, false, Option, Some, None, is_some}
-use Rattle.std.proofs.Common.{◌≡◌, ℕ, List, [], ◌∷◌, ◌++◌, ◌&&◌, ◌||◌, cond, refl, sym, ap, ◌∙◌, subst, bytes_eq, string_bytes, BTreeSet, append_assoc, append-nil, Global, length, nat_cmp}
+use Rattle.std.proofs.Common.{◌≡◌, ℕ, List, [], ◌∷◌, ◌++◌, ◌&&◌, ◌||◌, cond, refl, sym, ap, ◌∙◌, subst, bytes_eq, string_bytes, BTreeSet, append_assoc, append-nil, Global, nat_cmp}
 use Rattle.std.specs.List.{list_any}
 use Rattle.std.specs.BTreeSet.{contains_text, IsEmpty}
 use Rattle.std.specs.BTreeMap.{is_at}
@@ -12,16 +12,17 @@ use Rattle.kt_base.specs.Utf8.{utf8}
 use Rattle.kt_base.specs.Chains.{Chain}
 use Rattle.kt_suite.specs.Answers.{Answered}
 use Rattle.kt_base.specs.declared.reason.Reason.{Reason}
+use Rattle.kt_metadata.specs.Requirements.{is_found, needed}
 use Rattle.kt_metadata.specs.declared.host.Host.{Host}
+use Rattle.kt_metadata.specs.declared.meta.Meta.{Meta}
+use Rattle.kt_metadata.specs.declared.need.Need.{Need}
+use Rattle.kt_metadata.specs.declared.need.Need.TheVariants.{File, Program}
 use Rattle.kt_plan.specs.declared.candidate.Candidate.{Candidate}
-use Rattle.kt_plan.specs.declared.required.Required.{Required}
-use Rattle.kt_plan.specs.declared.required.Required.TheVariants.{File, Program}
-use Rattle.kt_plan.specs.Inner.Planning.{question_of, finds_of, Notes}
-use Rattle.kt_plan.specs.Planning.{finds_file, finds_program, meta_in, LooksFor, no_word, asked, LooksForOne, unasked, looked, LooksForAll, no_case, one_and, Surveys, SurveysFirst}
+use Rattle.kt_plan.specs.Inner.Planning.{Notes}
+use Rattle.kt_plan.specs.Planning.{finds, meta_in, needs_by, needs_in, needs_of, LooksFor, nothing, asked, Surveys, SurveysFirst}
 use Rattle.kt_plan.specs.Questions.{AreFirst}
-use Rattle.kt_plan.specs.Told.{Told, FindsFile, FindsProgram, IsRoot, HasMemory, HasDisk}
+use Rattle.kt_plan.specs.Told.{Told, Finds, IsRoot, HasMemory, HasDisk}
 use Rattle.kt_base.proofs.Chains.{chain-append}
-use Rattle.kt_plan.proofs.Rests.{none_left}
 
 pub or_last : (b x : Bool) → cond b true x ≡ (x || b)
 or_last true true = refl
@@ -41,117 +42,85 @@ or_assoc : (a b d : Bool) → ((a || b) || d) ≡ (a || (b || d))
 or_assoc true b d = refl
 or_assoc false b d = refl
 
--- an answer tells of the word that was asked for
-finds_asked : (required : Required) (word name : List ℕ) (answer : Bool) → finds_of required word (question_of required name answer) ≡ (bytes_eq (utf8 name) (utf8 word) && answer)
-finds_asked File word name answer = refl
-finds_asked Program word name answer = refl
+-- nothing was asked
+notes_nothing : (host : Host) → Notes [] host host
+notes_nothing host = record { found = λ need word. sym (or-false (is_found need host word)); root = refl; memory = refl; disk = refl }
 
-module _ {Z : Type 0} where
-  -- nothing was asked
-  pub notes_nothing : (finds : List ℕ → Told → Bool) (found : BTreeSet (String Z)) → Notes finds [] found found
-  notes_nothing finds found word = sym (or-false (contains_text found (utf8 word)))
+-- more was asked
+notes_more : (told more : List Told) (a b d : Host) → Notes told a b → Notes more b d → Notes (told ++ more) a d
+notes_more told more a b d h k = record {
+  found = λ need word.
+      k.found need word ∙ ap (λ (x : Bool). x || list_any (finds need word) more) (h.found need word)
+      ∙ or_assoc (is_found need a word) (list_any (finds need word) told) (list_any (finds need word) more)
+      ∙ ap (λ (x : Bool). is_found need a word || x) (sym (list_any-append (finds need word) told more));
+  root = k.root ∙ h.root;
+  memory = k.memory ∙ h.memory;
+  disk = k.disk ∙ h.disk;
+}
 
-  -- more was asked
-  pub notes_more : (finds : List ℕ → Told → Bool) (told more : List Told) (a b d : BTreeSet (String Z)) → Notes finds told a b → Notes finds more b d → Notes finds (told ++ more) a d
-  notes_more finds told more a b d h k word =
-      k word ∙ ap (λ (x : Bool). x || list_any (finds word) more) (h word) ∙ or_assoc (contains_text a (utf8 word)) (list_any (finds word) told) (list_any (finds word) more)
-      ∙ ap (λ (x : Bool). contains_text a (utf8 word) || x) (sym (list_any-append (finds word) told more))
+-- what isn't there is not noted
+finds_false : (need other : Need) (word name : List ℕ) → finds need word (Finds other name false) ≡ false
+finds_false File File word name = and_false (bytes_eq (utf8 name) (utf8 word))
+finds_false Program Program word name = and_false (bytes_eq (utf8 name) (utf8 word))
+finds_false File Program word name = refl
+finds_false Program File word name = refl
 
-  -- the answers tell of something else
-  pub notes_others : (finds : List ℕ → Told → Bool) (told : List Told) (found : BTreeSet (String Z)) → ((word : List ℕ) → list_any (finds word) told ≡ false) → Notes finds told found found
-  notes_others finds told found h word = sym (or-false (contains_text found (utf8 word))) ∙ ap (λ (x : Bool). contains_text found (utf8 word) || x) (sym (h word))
+notes_missing : (need : Need) (name : List ℕ) (host : Host) → Notes (Finds need name false ∷ []) host host
+notes_missing need name host = record {
+  found = λ other word. sym (or-false (is_found other host word)) ∙ ap (λ (x : Bool). is_found other host word || x) (sym (or-false (finds other word (Finds need name false)) ∙ finds_false other need word name));
+  root = refl;
+  memory = refl;
+  disk = refl;
+}
 
-  -- a word was added
-  abbrev pub Adds : List ℕ → BTreeSet (String Z) → BTreeSet (String Z) → Type 0
-  Adds word old new = (bytes : List ℕ) → contains_text new bytes ≡ (contains_text old bytes || bytes_eq (utf8 word) bytes)
+-- a word was added to a set of those that were found
+added : (name word : List ℕ) (old new : BTreeSet (String Global)) → ((bytes : List ℕ) → contains_text new bytes ≡ (contains_text old bytes || bytes_eq (utf8 name) bytes))
+    → contains_text new (utf8 word) ≡ (contains_text old (utf8 word) || ((bytes_eq (utf8 name) (utf8 word) && true) || false))
+added name word old new h =
+    h (utf8 word) ∙ ap (λ (x : Bool). contains_text old (utf8 word) || x) (sym (or-false (bytes_eq (utf8 name) (utf8 word) && true) ∙ and_true (bytes_eq (utf8 name) (utf8 word))))
 
-  -- it is there, and was added
-  pub word_noted : (required : Required) (name : List ℕ) (old new : BTreeSet (String Z)) → Adds name old new → Notes (finds_of required) (question_of required name true ∷ []) old new
-  word_noted required name old new h word =
-      h (utf8 word) ∙ ap (λ (x : Bool). contains_text old (utf8 word) || x)
-      (sym (or-false (finds_of required word (question_of required name true)) ∙ finds_asked required word name true ∙ and_true (bytes_eq (utf8 name) (utf8 word))))
+-- a file is there
+pub notes_file : (name : List ℕ) (old : Host) (files : BTreeSet (String Global)) → ((bytes : List ℕ) → contains_text files bytes ≡ (contains_text old.files bytes || bytes_eq (utf8 name) bytes))
+    → Notes (Finds File name true ∷ []) old (record { root = old.root; files = files; programs = old.programs; memory = old.memory; disk = old.disk })
+notes_file name old files h = record { found = by; root = refl; memory = refl; disk = refl }
+  where
+    by : (need : Need) (word : List ℕ) → is_found need (record { root = old.root; files = files; programs = old.programs; memory = old.memory; disk = old.disk }) word ≡ (is_found need old word || (finds need word (Finds File name true) || false))
+    by File word = added name word old.files files h
+    by Program word = sym (or-false (contains_text old.programs (utf8 word)))
 
-  -- it isn't there
-  pub word_passed : (required : Required) (name : List ℕ) (found : BTreeSet (String Z)) → Notes (finds_of required) (question_of required name false ∷ []) found found
-  word_passed required name found = notes_others (finds_of required) (question_of required name false ∷ []) found
-      (λ word. or-false (finds_of required word (question_of required name false)) ∙ finds_asked required word name false ∙ and_false (bytes_eq (utf8 name) (utf8 word)))
+-- a program is there
+pub notes_program : (name : List ℕ) (old : Host) (programs : BTreeSet (String Global)) → ((bytes : List ℕ) → contains_text programs bytes ≡ (contains_text old.programs bytes || bytes_eq (utf8 name) bytes))
+    → Notes (Finds Program name true ∷ []) old (record { root = old.root; files = old.files; programs = programs; memory = old.memory; disk = old.disk })
+notes_program name old programs h = record { found = by; root = refl; memory = refl; disk = refl }
+  where
+    by : (need : Need) (word : List ℕ) → is_found need (record { root = old.root; files = old.files; programs = programs; memory = old.memory; disk = old.disk }) word ≡ (is_found need old word || (finds need word (Finds Program name true) || false))
+    by File word = sym (or-false (contains_text old.files (utf8 word)))
+    by Program word = added name word old.programs programs h
 
--- a question about one word
-pub asks_one : (question : List ℕ → Bool → Told) (name : List ℕ) (answer : Bool) → LooksFor question (name ∷ []) (question name answer ∷ [])
-asks_one question name answer = asked name [] answer [] no_word
+-- questions, and others after them
+looks_append : (some after : List (Need × List ℕ)) (told more : List Told) → LooksFor some told → LooksFor after more → LooksFor (some ++ after) (told ++ more)
+looks_append _ after _ more nothing k = k
+looks_append _ after _ more (asked need word needs answer told h) k = asked need word (needs ++ after) answer (told ++ more) (looks_append needs after told more h k)
 
--- questions about the first word, and about those after it
-pub asks_more : (question : List ℕ → Bool → Told) (name : List ℕ) (names : List (List ℕ)) (told more : List Told) → LooksFor question (name ∷ []) told → LooksFor question names more → LooksFor question (name ∷ names) (told ++ more)
-asks_more question name names _ more (asked _ _ answer _ no_word) k = asked name names answer more k
-
--- there are questions about any words
-asks_all : (question : List ℕ → Bool → Told) (names : List (List ℕ)) → (told : List Told) × LooksFor question names told
-asks_all question [] = ([], no_word)
-asks_all question (name ∷ names) = let rest = asks_all question names in (question name false ∷ rest.0, asked name names false rest.0 rest.1)
+-- there are questions about any needs
+asks_all : (needs : List (Need × List ℕ)) → (told : List Told) × LooksFor needs told
+asks_all [] = ([], nothing)
+asks_all (first ∷ needs) = let rest = asks_all needs in (Finds first.0 first.1 false ∷ rest.0, asked first.0 first.1 needs false rest.0 rest.1)
 
 -- some questions, more, and others after them
 rejoined : (a b d e : List Told) → a ++ ((b ++ d) ++ e) ≡ (a ++ b) ++ (d ++ e)
 rejoined a b d e = ap (λ (ts : List Told). a ++ ts) (append_assoc b d e) ∙ sym (append_assoc a b (d ++ e))
 
--- questions of another kind tell of no word
-pub others_only : (question : List ℕ → Bool → Told) (finds : List ℕ → Told → Bool) (word : List ℕ) → ((name : List ℕ) (answer : Bool) → finds word (question name answer) ≡ false)
-    → (names : List (List ℕ)) (told : List Told) → LooksFor question names told → list_any (finds word) told ≡ false
-others_only question finds word e _ _ no_word = refl
-others_only question finds word e _ _ (asked name names answer told h) = ap (λ (b : Bool). b || list_any (finds word) told) (e name answer) ∙ others_only question finds word e names told h
+-- a case whose list has a fault needs nothing
+needs_nothing : (fault : Option Reason) (meta : Meta) → is_some fault ≡ true → needs_by fault meta ≡ []
+needs_nothing None meta e = absurd (cc)
+needs_nothing (Some reason) meta e = refl
 
--- the questions about some words so far, and what was noted
-pub record Looking {W Z : Type 0} (tells : W → Told → W → Type 0) (question : List ℕ → Bool → Told) (finds : List ℕ → Told → Bool) (names rest : List (List ℕ)) (old new : W) (was now : BTreeSet (String Z)) : Type 0 where
-  pub told : List Told
-  pub chain : Chain tells old told new
-  pub goes : (more : List Told) → LooksFor question rest more → LooksFor question names (told ++ more)
-  pub notes : Notes finds told was now
-
-module _ {W Z : Type 0} (tells : W → Told → W → Type 0) (question : List ℕ → Bool → Told) (finds : List ℕ → Told → Bool) (names : List (List ℕ)) (old : W) (was : BTreeSet (String Z)) where
-  abbrev pub Words : List (List ℕ) → W → BTreeSet (String Z) → Type 0
-  Words rest new now = Looking tells question finds names rest old new was now
-
-  pub words_first : Words names old was
-  words_first = record { told = []; chain = refl; goes = λ more h. h; notes = notes_nothing finds was }
-
-  pub words_next : (rest after : List (List ℕ)) (name : List ℕ) (mid new : W) (then now : BTreeSet (String Z)) → rest ≡ name ∷ after → Words rest mid then
-      → Answered tells mid new (λ told. LooksFor question (name ∷ []) told × Notes finds told then now) → Words after new now
-  words_next rest after name mid new then now e l a = record {
-    told = l.told ++ a.asked;
-    chain = chain-append tells l.told a.asked old mid new l.chain a.chain;
-    goes = λ more h. subst (λ (ts : List Told). LooksFor question names ts) (sym (append_assoc l.told a.asked more))
-        (l.goes (a.asked ++ more) (subst (λ (ns : List (List ℕ)). LooksFor question ns (a.asked ++ more)) (sym e) (asks_more question name after a.asked more a.holds.0 h)));
-    notes = notes_more finds l.told a.asked was then now l.notes a.holds.1;
-  }
-
-  -- memory ran out at a word
-  pub words_stopped : (rest after : List (List ℕ)) (name : List ℕ) (mid new : W) (then : BTreeSet (String Z)) → rest ≡ name ∷ after → Words rest mid then
-      → Answered tells mid new (λ told. AreFirst (LooksFor question (name ∷ [])) told) → Answered tells old new (λ told. AreFirst (LooksFor question names) told)
-  words_stopped rest after name mid new then e l a =
-      let others = asks_all question after in
-      record {
-        asked = l.told ++ a.asked;
-        chain = chain-append tells l.told a.asked old mid new l.chain a.chain;
-        holds = (
-          a.holds.0 ++ others.0,
-          subst (λ (ts : List Told). LooksFor question names ts) (rejoined l.told a.asked a.holds.0 others.0)
-              (l.goes ((a.asked ++ a.holds.0) ++ others.0) (subst (λ (ns : List (List ℕ)). LooksFor question ns ((a.asked ++ a.holds.0) ++ others.0)) (sym e) (asks_more question name after (a.asked ++ a.holds.0) others.0 a.holds.1 others.1))),
-        );
-      }
-
-  pub words_all : (rest : List (List ℕ)) (new : W) (now : BTreeSet (String Z)) → length rest ≡ 0 → Words rest new now → Answered tells old new (λ told. LooksFor question names told × Notes finds told was now)
-  words_all rest new now e l = record {
-    asked = l.told;
-    chain = l.chain;
-    holds = (subst (λ (ts : List Told). LooksFor question names ts) (append-nil l.told) (l.goes [] (subst (λ (ns : List (List ℕ)). LooksFor question ns []) (sym (none_left rest e)) no_word)), l.notes);
-  }
-
-some_of : {X : Type 0} (o : Option X) → is_some o ≡ true → (x : X) × (o ≡ Some x)
-some_of None e = absurd (cc)
-some_of (Some x) e = (x, refl)
-
-none_of : {X : Type 0} (o : Option X) → is_some o ≡ false → o ≡ None
-none_of None e = refl
-none_of (Some x) e = absurd (cc)
+-- another one needs its files and its programs
+needs_both : (fault : Option Reason) (meta : Meta) (files programs : List (List ℕ)) → is_some fault ≡ false → files ≡ needed File meta → programs ≡ needed Program meta
+    → needs_by fault meta ≡ needs_in File files ++ needs_in Program programs
+needs_both None meta files programs e f p = ap (λ (words : List (List ℕ)). needs_in File words ++ needs_in Program (needed Program meta)) (sym f) ∙ ap (λ (words : List (List ℕ)). needs_in File files ++ needs_in Program words) (sym p)
+needs_both (Some reason) meta files programs e f p = absurd (cc)
 
 -- all questions to the host are the first ones
 pub all_surveyed : (cases : List Candidate) (told : List Told) (host : Host) → Surveys cases told host → SurveysFirst cases told
@@ -161,188 +130,146 @@ all_surveyed cases told host s = record {
   disk = host.disk;
   looked = s.looked;
   asked = s.asked;
-  first = ([], subst (λ (ts : List Told). LooksForAll cases ts) (sym (append-nil s.looked)) s.all);
+  first = ([], subst (λ (ts : List Told). LooksFor (needs_of cases) ts) (sym (append-nil s.looked)) s.all);
 }
 
--- there are questions about any case
-asks_one_case : (candidate : Candidate) → (told : List Told) × LooksForOne candidate told
-asks_one_case candidate = by candidate.case.fault refl
-  where
-    by : (fault : Option Reason) → candidate.case.fault ≡ fault → (told : List Told) × LooksForOne candidate told
-    by (Some reason) e = ([], unasked reason e)
-    by None e =
-        let files = asks_all FindsFile (meta_in candidate).required_files in
-        let programs = asks_all FindsProgram (meta_in candidate).required_programs in
-        (files.0 ++ programs.0, looked files.0 programs.0 e files.1 programs.1)
-
--- and about any cases
-asks_all_cases : (candidates : List Candidate) → (told : List Told) × LooksForAll candidates told
-asks_all_cases [] = ([], no_case)
-asks_all_cases (candidate ∷ candidates) =
-    let one = asks_one_case candidate in
-    let rest = asks_all_cases candidates in
-    (one.0 ++ rest.0, one_and candidate candidates one.0 rest.0 one.1 rest.1)
-
 module _ {W : Type 0} (tells : W → Told → W → Type 0) where
-  -- memory ran out after a question about a word
-  pub word_asked : (required : Required) (name : List ℕ) (old new : W) (answer : Bool) → tells old (question_of required name answer) new
-      → Answered tells old new (λ told. AreFirst (LooksFor (question_of required) (name ∷ [])) told)
-  word_asked required name old new answer h = record {
-    asked = question_of required name answer ∷ [];
-    chain = (new, h, refl);
-    holds = ([], asks_one (question_of required) name answer);
-  }
-
-  -- memory ran out before the questions about a case
-  pub case_unasked : (candidate : Candidate) (world : W) → Answered tells world world (λ told. AreFirst (LooksForOne candidate) told)
-  case_unasked candidate world = record { asked = []; chain = refl; holds = asks_one_case candidate }
-
   -- a required file or program isn't there
-  pub word_missing : (required : Required) (name : List ℕ) (old new : W) (found : BTreeSet (String Global)) (answer : Bool) → answer ≡ false → tells old (question_of required name answer) new
-      → Answered tells old new (λ told. LooksFor (question_of required) (name ∷ []) told × Notes (finds_of required) told found found)
-  word_missing required name old new found answer missing h = record {
-    asked = question_of required name false ∷ [];
-    chain = (new, subst (λ (b : Bool). tells old (question_of required name b) new) missing h, refl);
-    holds = (asks_one (question_of required) name false, word_passed required name found);
+  pub word_missing : (need : Need) (name : List ℕ) (old new : W) (host : Host) (answer : Bool) → answer ≡ false → tells old (Finds need name answer) new
+      → Answered tells old new (λ told. LooksFor ((need, name) ∷ []) told × Notes told host host)
+  word_missing need name old new host answer missing h = record {
+    asked = Finds need name false ∷ [];
+    chain = (new, subst (λ (b : Bool). tells old (Finds need name b) new) missing h, refl);
+    holds = (asked need name [] false [] nothing, notes_missing need name host);
   }
 
   -- it is there
-  pub word_there : (required : Required) (name : List ℕ) (old new : W) (found grown : BTreeSet (String Global)) (answer : Bool) → answer ≡ true → tells old (question_of required name answer) new → Adds name found grown
-      → Answered tells old new (λ told. LooksFor (question_of required) (name ∷ []) told × Notes (finds_of required) told found grown)
-  word_there required name old new found grown answer there h a = record {
-    asked = question_of required name true ∷ [];
-    chain = (new, subst (λ (b : Bool). tells old (question_of required name b) new) there h, refl);
-    holds = (asks_one (question_of required) name true, word_noted required name found grown a);
+  pub word_there : (need : Need) (name : List ℕ) (old new : W) (was now : Host) (answer : Bool) → answer ≡ true → tells old (Finds need name answer) new → Notes (Finds need name true ∷ []) was now
+      → Answered tells old new (λ told. LooksFor ((need, name) ∷ []) told × Notes told was now)
+  word_there need name old new was now answer there h n = record {
+    asked = Finds need name true ∷ [];
+    chain = (new, subst (λ (b : Bool). tells old (Finds need name b) new) there h, refl);
+    holds = (asked need name [] true [] nothing, n);
   }
 
-  -- a case whose list has a fault
-  pub looks_for_none : (candidate : Candidate) (world : W) (files programs : BTreeSet (String Global)) → is_some candidate.case.fault ≡ true
-      → Answered tells world world (λ told. LooksForOne candidate told × Notes finds_file told files files × Notes finds_program told programs programs)
-  looks_for_none candidate world files programs e =
-      let f = some_of candidate.case.fault e in
-      record { asked = []; chain = refl; holds = (unasked f.0 f.1, notes_nothing finds_file files, notes_nothing finds_program programs) }
-
-  -- the files and then the programs of a case
-  pub looked_for : (candidate : Candidate) (old mid new : W) (paths names : List (List ℕ)) (files there programs noted : BTreeSet (String Global)) → is_some candidate.case.fault ≡ false
-      → paths ≡ (meta_in candidate).required_files → names ≡ (meta_in candidate).required_programs → Answered tells old mid (λ told. LooksFor FindsFile paths told × Notes finds_file told files there)
-      → Answered tells mid new (λ told. LooksFor FindsProgram names told × Notes finds_program told programs noted)
-      → Answered tells old new (λ told. LooksForOne candidate told × Notes finds_file told files there × Notes finds_program told programs noted)
-  looked_for candidate old mid new paths names files there programs noted e p n a b = record {
-    asked = a.asked ++ b.asked;
-    chain = chain-append tells a.asked b.asked old mid new a.chain b.chain;
-    holds = (
-      looked a.asked b.asked (none_of candidate.case.fault e) (subst (λ (ns : List (List ℕ)). LooksFor FindsFile ns a.asked) p a.holds.0) (subst (λ (ns : List (List ℕ)). LooksFor FindsProgram ns b.asked) n b.holds.0),
-      notes_more finds_file a.asked b.asked files there there a.holds.1 (notes_others finds_file b.asked there (λ word. others_only FindsProgram finds_file word (λ name answer. refl) names b.asked b.holds.0)),
-      notes_more finds_program a.asked b.asked programs programs noted (notes_others finds_program a.asked programs (λ word. others_only FindsFile finds_program word (λ name answer. refl) paths a.asked a.holds.0)) b.holds.1,
-    );
+  -- memory ran out after a question about a word
+  pub word_asked : (need : Need) (name : List ℕ) (old new : W) (answer : Bool) → tells old (Finds need name answer) new → Answered tells old new (λ told. AreFirst (LooksFor ((need, name) ∷ [])) told)
+  word_asked need name old new answer h = record {
+    asked = Finds need name answer ∷ [];
+    chain = (new, h, refl);
+    holds = ([], asked need name [] answer [] nothing);
   }
 
-  -- memory ran out at the files of a case
-  pub files_stopped : (candidate : Candidate) (old new : W) (paths : List (List ℕ)) → is_some candidate.case.fault ≡ false → paths ≡ (meta_in candidate).required_files
-      → Answered tells old new (λ told. AreFirst (LooksFor FindsFile paths) told) → Answered tells old new (λ told. AreFirst (LooksForOne candidate) told)
-  files_stopped candidate old new paths e p a =
-      let programs = asks_all FindsProgram (meta_in candidate).required_programs in
-      record {
-        asked = a.asked;
-        chain = a.chain;
-        holds = (
-          a.holds.0 ++ programs.0,
-          subst (λ (ts : List Told). LooksForOne candidate ts) (append_assoc a.asked a.holds.0 programs.0)
-              (looked (a.asked ++ a.holds.0) programs.0 (none_of candidate.case.fault e) (subst (λ (ns : List (List ℕ)). LooksFor FindsFile ns (a.asked ++ a.holds.0)) p a.holds.1) programs.1),
-        );
-      }
+  -- memory ran out before any question
+  pub unasked : (needs : List (Need × List ℕ)) (world : W) → Answered tells world world (λ told. AreFirst (LooksFor needs) told)
+  unasked needs world = record { asked = []; chain = refl; holds = asks_all needs }
 
-  -- or at its programs
-  pub programs_stopped : (candidate : Candidate) (old mid new : W) (paths names : List (List ℕ)) (files there : BTreeSet (String Global)) → is_some candidate.case.fault ≡ false
-      → paths ≡ (meta_in candidate).required_files → names ≡ (meta_in candidate).required_programs → Answered tells old mid (λ told. LooksFor FindsFile paths told × Notes finds_file told files there)
-      → Answered tells mid new (λ told. AreFirst (LooksFor FindsProgram names) told) → Answered tells old new (λ told. AreFirst (LooksForOne candidate) told)
-  programs_stopped candidate old mid new paths names files there e p n a b = record {
-    asked = a.asked ++ b.asked;
-    chain = chain-append tells a.asked b.asked old mid new a.chain b.chain;
-    holds = (
-      b.holds.0,
-      subst (λ (ts : List Told). LooksForOne candidate ts) (sym (append_assoc a.asked b.asked b.holds.0))
-          (looked a.asked (b.asked ++ b.holds.0) (none_of candidate.case.fault e) (subst (λ (ns : List (List ℕ)). LooksFor FindsFile ns a.asked) p a.holds.0)
-          (subst (λ (ns : List (List ℕ)). LooksFor FindsProgram ns (b.asked ++ b.holds.0)) n b.holds.1)),
-    );
-  }
-
-  module _ (cases : List Candidate) (old : W) (was owned : BTreeSet (String Global)) where
-    -- the questions about some cases so far, and what was noted
-    pub record Cases (rest : List Candidate) (new : W) (files programs : BTreeSet (String Global)) : Type 0 where
+  module _ (needs : List (Need × List ℕ)) (old : W) (was : Host) where
+    -- the questions so far, and what was noted
+    pub record Looking (rest : List (Need × List ℕ)) (new : W) (now : Host) : Type 0 where
       pub told : List Told
       pub chain : Chain tells old told new
-      pub goes : (more : List Told) → LooksForAll rest more → LooksForAll cases (told ++ more)
-      pub noted_files : Notes finds_file told was files
-      pub noted_programs : Notes finds_program told owned programs
+      pub goes : (more : List Told) → LooksFor rest more → LooksFor needs (told ++ more)
+      pub notes : Notes told was now
 
-    pub cases_first : Cases cases old was owned
-    cases_first = record { told = []; chain = refl; goes = λ more h. h; noted_files = notes_nothing finds_file was; noted_programs = notes_nothing finds_program owned }
+    pub looking_first : Looking needs old was
+    looking_first = record { told = []; chain = refl; goes = λ more h. h; notes = notes_nothing was }
 
-    pub cases_next : (rest after : List Candidate) (candidate : Candidate) (mid new : W) (files there programs noted : BTreeSet (String Global)) → rest ≡ candidate ∷ after → Cases rest mid files programs
-        → Answered tells mid new (λ told. LooksForOne candidate told × Notes finds_file told files there × Notes finds_program told programs noted) → Cases after new there noted
-    cases_next rest after candidate mid new files there programs noted e l a = record {
+    pub looking_next : (rest some after : List (Need × List ℕ)) (mid new : W) (then now : Host) → rest ≡ some ++ after → Looking rest mid then
+        → Answered tells mid new (λ told. LooksFor some told × Notes told then now) → Looking after new now
+    looking_next rest some after mid new then now e l a = record {
       told = l.told ++ a.asked;
       chain = chain-append tells l.told a.asked old mid new l.chain a.chain;
-      goes = λ more h. subst (λ (ts : List Told). LooksForAll cases ts) (sym (append_assoc l.told a.asked more))
-          (l.goes (a.asked ++ more) (subst (λ (cs : List Candidate). LooksForAll cs (a.asked ++ more)) (sym e) (one_and candidate after a.asked more a.holds.0 h)));
-      noted_files = notes_more finds_file l.told a.asked was files there l.noted_files a.holds.1;
-      noted_programs = notes_more finds_program l.told a.asked owned programs noted l.noted_programs a.holds.2;
+      goes = λ more h. subst (λ (ts : List Told). LooksFor needs ts) (sym (append_assoc l.told a.asked more))
+          (l.goes (a.asked ++ more) (subst (λ (ns : List (Need × List ℕ)). LooksFor ns (a.asked ++ more)) (sym e) (looks_append some after a.asked more a.holds.0 h)));
+      notes = notes_more l.told a.asked was then now l.notes a.holds.1;
     }
 
-    -- memory ran out at a case
-    pub cases_stopped : (rest after : List Candidate) (candidate : Candidate) (mid new : W) (files programs : BTreeSet (String Global)) → rest ≡ candidate ∷ after → Cases rest mid files programs
-        → Answered tells mid new (λ told. AreFirst (LooksForOne candidate) told) → Answered tells old new (λ told. AreFirst (LooksForAll cases) told)
-    cases_stopped rest after candidate mid new files programs e l a =
-        let others = asks_all_cases after in
+    -- memory ran out
+    pub looking_stopped : (rest some after : List (Need × List ℕ)) (mid new : W) (then : Host) → rest ≡ some ++ after → Looking rest mid then
+        → Answered tells mid new (λ told. AreFirst (LooksFor some) told) → Answered tells old new (λ told. AreFirst (LooksFor needs) told)
+    looking_stopped rest some after mid new then e l a =
+        let others = asks_all after in
         record {
           asked = l.told ++ a.asked;
           chain = chain-append tells l.told a.asked old mid new l.chain a.chain;
           holds = (
             a.holds.0 ++ others.0,
-            subst (λ (ts : List Told). LooksForAll cases ts) (rejoined l.told a.asked a.holds.0 others.0)
-                (l.goes ((a.asked ++ a.holds.0) ++ others.0) (subst (λ (cs : List Candidate). LooksForAll cs ((a.asked ++ a.holds.0) ++ others.0)) (sym e) (one_and candidate after (a.asked ++ a.holds.0) others.0 a.holds.1 others.1))),
+            subst (λ (ts : List Told). LooksFor needs ts) (rejoined l.told a.asked a.holds.0 others.0)
+                (l.goes ((a.asked ++ a.holds.0) ++ others.0) (subst (λ (ns : List (Need × List ℕ)). LooksFor ns ((a.asked ++ a.holds.0) ++ others.0)) (sym e) (looks_append some after (a.asked ++ a.holds.0) others.0 a.holds.1 others.1))),
           );
         }
 
-    pub cases_all : (rest : List Candidate) (new : W) (files programs : BTreeSet (String Global)) → length rest ≡ 0 → Cases rest new files programs
-        → Answered tells old new (λ told. LooksForAll cases told × Notes finds_file told was files × Notes finds_program told owned programs)
-    cases_all rest new files programs e l = record {
+    pub looking_all : (rest : List (Need × List ℕ)) (new : W) (now : Host) → rest ≡ [] → Looking rest new now → Answered tells old new (λ told. LooksFor needs told × Notes told was now)
+    looking_all rest new now e l = record {
       asked = l.told;
       chain = l.chain;
-      holds = (subst (λ (ts : List Told). LooksForAll cases ts) (append-nil l.told) (l.goes [] (subst (λ (cs : List Candidate). LooksForAll cs []) (sym (none_left rest e)) no_case)), l.noted_files, l.noted_programs);
+      holds = (subst (λ (ts : List Told). LooksFor needs ts) (append-nil l.told) (l.goes [] (subst (λ (ns : List (Need × List ℕ)). LooksFor ns []) (sym e) nothing)), l.notes);
     }
+
+  -- a case whose list has a fault
+  pub case_unlooked : (candidate : Candidate) (world : W) (host : Host) → is_some candidate.case.fault ≡ true
+      → Answered tells world world (λ told. LooksFor (needs_by candidate.case.fault (meta_in candidate)) told × Notes told host host)
+  case_unlooked candidate world host e =
+      let needs = needs_by candidate.case.fault (meta_in candidate) in
+      looking_all needs world host needs world host (needs_nothing candidate.case.fault (meta_in candidate) e) (looking_first needs world host)
+
+  module _ (candidate : Candidate) (old : W) where
+    -- memory ran out at the files of a case
+    pub case_first : (new : W) (was : Host) (files : List (List ℕ)) → is_some candidate.case.fault ≡ false → files ≡ needed File (meta_in candidate)
+        → Answered tells old new (λ told. AreFirst (LooksFor (needs_in File files)) told) → Answered tells old new (λ told. AreFirst (LooksFor (needs_by candidate.case.fault (meta_in candidate))) told)
+    case_first new was files e f a =
+        let needs = needs_by candidate.case.fault (meta_in candidate) in
+        let programs = needed Program (meta_in candidate) in
+        looking_stopped needs old was needs (needs_in File files) (needs_in Program programs) old new was (needs_both candidate.case.fault (meta_in candidate) files programs e f refl) (looking_first needs old was) a
+
+    -- or at its programs
+    pub case_next : (mid new : W) (was then : Host) (files programs : List (List ℕ)) → is_some candidate.case.fault ≡ false → files ≡ needed File (meta_in candidate) → programs ≡ needed Program (meta_in candidate)
+        → Answered tells old mid (λ told. LooksFor (needs_in File files) told × Notes told was then) → Answered tells mid new (λ told. AreFirst (LooksFor (needs_in Program programs)) told)
+        → Answered tells old new (λ told. AreFirst (LooksFor (needs_by candidate.case.fault (meta_in candidate))) told)
+    case_next mid new was then files programs e f p a b =
+        let needs = needs_by candidate.case.fault (meta_in candidate) in
+        looking_stopped needs old was (needs_in Program programs) (needs_in Program programs) [] mid new then (sym (append-nil (needs_in Program programs)))
+        (looking_next needs old was needs (needs_in File files) (needs_in Program programs) old mid was then (needs_both candidate.case.fault (meta_in candidate) files programs e f p) (looking_first needs old was) a) b
+
+    -- all was asked
+    pub case_looked : (mid new : W) (was then now : Host) (files programs : List (List ℕ)) → is_some candidate.case.fault ≡ false → files ≡ needed File (meta_in candidate) → programs ≡ needed Program (meta_in candidate)
+        → Answered tells old mid (λ told. LooksFor (needs_in File files) told × Notes told was then) → Answered tells mid new (λ told. LooksFor (needs_in Program programs) told × Notes told then now)
+        → Answered tells old new (λ told. LooksFor (needs_by candidate.case.fault (meta_in candidate)) told × Notes told was now)
+    case_looked mid new was then now files programs e f p a b =
+        let needs = needs_by candidate.case.fault (meta_in candidate) in
+        looking_all needs old was [] new now refl
+        (looking_next needs old was (needs_in Program programs) (needs_in Program programs) [] mid new then now (sym (append-nil (needs_in Program programs)))
+        (looking_next needs old was needs (needs_in File files) (needs_in Program programs) old mid was then (needs_both candidate.case.fault (meta_in candidate) files programs e f p) (looking_first needs old was) a) b)
 
   -- nothing is in an empty set
   nothing_in : (found : BTreeSet (String Global)) (bytes : List ℕ) → IsEmpty found → contains_text found bytes ≡ false
   nothing_in found bytes e = ap (λ (keys : List (String Global)). list_any (is_at (λ (k : String Global). slice_cmp nat_cmp bytes (string_bytes k))) keys) e
 
+  nothing_found : (host : Host) → IsEmpty host.files → IsEmpty host.programs → (need : Need) (word : List ℕ) → is_found need host word ≡ false
+  nothing_found host e f File word = nothing_in host.files (utf8 word) e
+  nothing_found host e f Program word = nothing_in host.programs (utf8 word) f
+
   -- all that the host was asked
-  pub surveyed : (cases : List Candidate) (old a b d new : W) (root : Bool) (memory disk : Option ℕ) (files found programs owned : BTreeSet (String Global)) → IsEmpty files → IsEmpty programs
-      → tells old (IsRoot root) a → tells a (HasMemory memory) b → tells b (HasDisk disk) d
-      → Answered tells d new (λ told. LooksForAll cases told × Notes finds_file told files found × Notes finds_program told programs owned)
-      → Answered tells old new (λ told. Surveys cases told (record { root = root; files = found; programs = owned; memory = memory; disk = disk }))
-  surveyed cases old a b d new root memory disk files found programs owned e f x y z h = record {
-    asked = IsRoot root ∷ HasMemory memory ∷ HasDisk disk ∷ h.asked;
+  pub surveyed : (cases : List Candidate) (old a b d new : W) (was now : Host) → IsEmpty was.files → IsEmpty was.programs
+      → tells old (IsRoot was.root) a → tells a (HasMemory was.memory) b → tells b (HasDisk was.disk) d
+      → Answered tells d new (λ told. LooksFor (needs_of cases) told × Notes told was now) → Answered tells old new (λ told. Surveys cases told now)
+  surveyed cases old a b d new was now e f x y z h = record {
+    asked = IsRoot was.root ∷ HasMemory was.memory ∷ HasDisk was.disk ∷ h.asked;
     chain = (a, x, (b, y, (d, z, h.chain)));
     holds = record {
       looked = h.asked;
-      asked = refl;
+      asked = rw (h.holds.1.root, h.holds.1.memory, h.holds.1.disk) refl;
       all = h.holds.0;
-      files = λ path. h.holds.1 path ∙ ap (λ (t : Bool). t || list_any (finds_file path) h.asked) (nothing_in files (utf8 path) e);
-      programs = λ name. h.holds.2 name ∙ ap (λ (t : Bool). t || list_any (finds_program name) h.asked) (nothing_in programs (utf8 name) f);
+      found = λ need word. h.holds.1.found need word ∙ ap (λ (t : Bool). t || list_any (finds need word) h.asked) (nothing_found was e f need word);
     };
   }
 
   -- memory ran out as the host was asked
   pub survey_stopped : (cases : List Candidate) (old a b d new : W) (root : Bool) (memory disk : Option ℕ) → tells old (IsRoot root) a → tells a (HasMemory memory) b → tells b (HasDisk disk) d
-      → Answered tells d new (λ told. AreFirst (LooksForAll cases) told) → Answered tells old new (λ told. SurveysFirst cases told)
+      → Answered tells d new (λ told. AreFirst (LooksFor (needs_of cases)) told) → Answered tells old new (λ told. SurveysFirst cases told)
   survey_stopped cases old a b d new root memory disk x y z h = record {
     asked = IsRoot root ∷ HasMemory memory ∷ HasDisk disk ∷ h.asked;
     chain = (a, x, (b, y, (d, z, h.chain)));
     holds = record { root = root; memory = memory; disk = disk; looked = h.asked; asked = refl; first = h.holds };
   }
-
-  -- memory ran out after all was asked
-  pub survey_first : (cases : List Candidate) (old new : W) (host : Host) → Answered tells old new (λ told. Surveys cases told host) → Answered tells old new (λ told. SurveysFirst cases told)
-  survey_first cases old new host a = record { asked = a.asked; chain = a.chain; holds = all_surveyed cases a.asked host a.holds }

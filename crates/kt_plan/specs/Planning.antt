@@ -1,8 +1,7 @@
 -- What the host is asked for the selected cases, and the plan of them: the third step.
-use Rattle.std.specs.Prelude.{ℕ, suc, Bool, true, false, ◌≡◌, ◌&&◌, List, [], ◌∷◌, ◌++◌, Option, Some, None, bytes_eq}
+use Rattle.std.specs.Prelude.{ℕ, suc, Bool, true, false, ◌≡◌, ◌&&◌, List, [], ◌∷◌, ◌++◌, Option, Some, None, bytes_eq, map}
 use Rattle.std.specs.List.{list_any}
 use Rattle.std.specs.Option.{option_map}
-use Rattle.std.specs.BTreeSet.{contains_text}
 use Rattle.kt_base.specs.Utf8.{utf8}
 use Rattle.kt_base.specs.Verdicts.{Judged, broken, skipped}
 use Rattle.kt_base.specs.declared.interface.Interface.{Interface}
@@ -12,55 +11,54 @@ use Rattle.kt_base.specs.Reasons.{reason_text}
 use Rattle.kt_config.specs.Values.{Values}
 use Rattle.kt_metadata.specs.Effective.{effective}
 use Rattle.kt_metadata.specs.Listing.{listing}
-use Rattle.kt_metadata.specs.Requirements.{first_reason, rows}
+use Rattle.kt_metadata.specs.Requirements.{first_reason, is_found, needed, rows}
 use Rattle.kt_metadata.specs.declared.host.Host.{Host}
 use Rattle.kt_metadata.specs.declared.meta.Meta.{Meta}
+use Rattle.kt_metadata.specs.declared.need.Need.{Need}
+use Rattle.kt_metadata.specs.declared.need.Need.TheVariants.{File, Program}
 use Rattle.kt_sched.specs.declared.job.Job.{Job}
 use Rattle.kt_plan.specs.declared.candidate.Candidate.{Candidate}
 use Rattle.kt_plan.specs.Collecting.{variables_for}
 use Rattle.kt_plan.specs.Questions.{AreFirst}
-use Rattle.kt_plan.specs.Told.{Told, FindsFile, FindsProgram, IsRoot, HasMemory, HasDisk}
+use Rattle.kt_plan.specs.Told.{Told, Finds, IsRoot, HasMemory, HasDisk}
 
 -- the effective properties of a case
 abbrev pub meta_in : Candidate → Meta
 meta_in candidate = effective candidate.case.props
 
--- questions whether these words are found, in order
-pub data LooksFor (question : List ℕ → Bool → Told) : List (List ℕ) → List Told → Type 0 where
-  no_word : LooksFor question [] []
-  asked : (name : List ℕ) (names : List (List ℕ)) (answer : Bool) (told : List Told) → LooksFor question names told
-      → LooksFor question (name ∷ names) (question name answer ∷ told)
+-- these words are files or programs
+abbrev pub needs_in : Need → List (List ℕ) → List (Need × List ℕ)
+needs_in need words = map (λ word. (need, word)) words
 
--- what the host is asked for a case: its required files, and then its required programs; nothing for one whose list has a fault
-pub data LooksForOne (candidate : Candidate) : List Told → Type 0 where
-  unasked : (reason : Reason) → candidate.case.fault ≡ Some reason → LooksForOne candidate []
-  looked : (files programs : List Told) → candidate.case.fault ≡ None → LooksFor FindsFile (meta_in candidate).required_files files
-      → LooksFor FindsProgram (meta_in candidate).required_programs programs → LooksForOne candidate (files ++ programs)
+-- what must be found for a case: its required files, and then its required programs; nothing if its list has a fault
+abbrev pub needs_by : Option Reason → Meta → List (Need × List ℕ)
+needs_by (Some reason) meta = []
+needs_by None meta = needs_in File (needed File meta) ++ needs_in Program (needed Program meta)
 
--- what the host is asked for some cases, in their order
-pub data LooksForAll : List Candidate → List Told → Type 0 where
-  no_case : LooksForAll [] []
-  one_and : (candidate : Candidate) (candidates : List Candidate) (told more : List Told) → LooksForOne candidate told → LooksForAll candidates more
-      → LooksForAll (candidate ∷ candidates) (told ++ more)
+-- what must be found for some cases, in their order
+abbrev pub needs_of : List Candidate → List (Need × List ℕ)
+needs_of [] = []
+needs_of (candidate ∷ candidates) = needs_by candidate.case.fault (meta_in candidate) ++ needs_of candidates
 
--- an answer says that this file is there
-abbrev pub finds_file : List ℕ → Told → Bool
-finds_file path (FindsFile other answer) = bytes_eq (utf8 other) (utf8 path) && answer
-finds_file path other = false
+-- the host is asked whether each of these is found, in their order
+pub data LooksFor : List (Need × List ℕ) → List Told → Type 0 where
+  nothing : LooksFor [] []
+  asked : (need : Need) (word : List ℕ) (needs : List (Need × List ℕ)) (answer : Bool) (told : List Told) → LooksFor needs told
+      → LooksFor ((need, word) ∷ needs) (Finds need word answer ∷ told)
 
--- an answer says that this program is there
-abbrev pub finds_program : List ℕ → Told → Bool
-finds_program name (FindsProgram other answer) = bytes_eq (utf8 other) (utf8 name) && answer
-finds_program name other = false
+-- an answer says that this file or program is there
+abbrev pub finds : Need → List ℕ → Told → Bool
+finds File path (Finds File other answer) = bytes_eq (utf8 other) (utf8 path) && answer
+finds Program name (Finds Program other answer) = bytes_eq (utf8 other) (utf8 name) && answer
+finds need word other = false
 
 -- the host is asked whether the runner is root, for its memory and its disk space, and for the files and programs of the cases; a file or
 -- a program is there if one of the answers says so
 pub record Surveys (candidates : List Candidate) (told : List Told) (host : Host) : Type 0 where
   pub looked : List Told
   pub asked : told ≡ IsRoot host.root ∷ HasMemory host.memory ∷ HasDisk host.disk ∷ looked
-  pub all : LooksForAll candidates looked
-  pub files : (path : List ℕ) → contains_text host.files (utf8 path) ≡ list_any (finds_file path) looked
-  pub programs : (name : List ℕ) → contains_text host.programs (utf8 name) ≡ list_any (finds_program name) looked
+  pub all : LooksFor (needs_of candidates) looked
+  pub found : (need : Need) (word : List ℕ) → is_found need host word ≡ list_any (finds need word) looked
 
 -- the first questions to the host, where memory ran out: those for files and programs come last
 pub record SurveysFirst (candidates : List Candidate) (told : List Told) : Type 0 where
@@ -69,7 +67,7 @@ pub record SurveysFirst (candidates : List Candidate) (told : List Told) : Type 
   pub disk : Option ℕ
   pub looked : List Told
   pub asked : told ≡ IsRoot root ∷ HasMemory memory ∷ HasDisk disk ∷ looked
-  pub first : AreFirst (LooksForAll candidates) looked
+  pub first : AreFirst (LooksFor (needs_of candidates)) looked
 
 -- an interface has cleanups
 abbrev pub is_atf : Interface → Bool

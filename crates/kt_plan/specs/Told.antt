@@ -2,6 +2,7 @@
 use Rattle.std.specs.Prelude.{ℕ, Bool, List, Option, Result}
 use Rattle.kt_base.specs.declared.variable.Variable.{Variable}
 use Rattle.kt_atflist.specs.declared.listing.Listing.{Listing}
+use Rattle.kt_metadata.specs.declared.need.Need.{Need}
 use Rattle.kt_suite.specs.declared.program.Program.{Program}
 use Rattle.kt_suite.specs.declared.read_fault.ReadFault.{ReadFault}
 
@@ -10,8 +11,7 @@ use Rattle.kt_suite.specs.declared.read_fault.ReadFault.{ReadFault}
 pub data Told : Type 0 where
   ReadConfig : (path : List ℕ) (answer : Result (List ℕ) ReadFault) → Told
   Lists : (program : Program) (variables : List Variable) (answer : Listing) → Told
-  FindsFile : (path : List ℕ) (answer : Bool) → Told
-  FindsProgram : (name : List ℕ) (answer : Bool) → Told
+  Finds : (need : Need) (word : List ℕ) (answer : Bool) → Told
   IsRoot : (answer : Bool) → Told
   HasMemory : (answer : Option ℕ) → Told
   HasDisk : (answer : Option ℕ) → Told

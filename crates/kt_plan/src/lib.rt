@@ -3,7 +3,6 @@
 
 mod candidate;
 mod case_filters;
-mod case_meta;
 mod case_options;
 mod choosing;
 mod chosen;
@@ -15,7 +14,6 @@ mod picked;
 mod planning;
 mod preparing;
 mod programs;
-mod required;
 mod selecting;
 mod settings;
 mod stop;

@@ -1,70 +1,73 @@
-ghost use Rattle.std.specs.Prelude.{◌≡◌, ◌||◌, ◌∷◌, [], ℕ, List, OnOk, MatchResult, bytes_eq};
-ghost use Rattle.std.specs.BTreeSet.{contains_text};
-ghost use Rattle.kt_base.specs.Utf8.{utf8};
+ghost use Rattle.std.specs.Prelude.{◌≡◌, ◌∷◌, [], OnOk, MatchResult, true};
 ghost use Rattle.kt_suite.specs.Answers.{Answered};
-ghost use Rattle.kt_plan.specs.Inner.Planning.{Notes, finds_of, question_of};
-ghost use Rattle.kt_plan.specs.Planning.{LooksFor, LooksForAll, LooksForOne, finds_file, finds_program};
+ghost use Rattle.kt_plan.specs.Inner.Planning.{Notes};
+ghost use Rattle.kt_plan.specs.Planning.{LooksFor, meta_in, needs_by, needs_in, needs_of};
 ghost use Rattle.kt_plan.specs.Questions.{AreFirst};
+ghost use Rattle.kt_plan.specs.Told.{Finds};
 
 use crate::candidate::Candidate;
-use crate::case_meta::meta_of;
-use crate::required::Required;
 use crate::world::World;
 use kt_base::{NoMemory, Text};
-use std::collections::BTreeSet;
+use kt_metadata::{Host, Need};
 
-/// Adds a word to those that were found.
-fn note(word: &Text, found: &mut BTreeSet<String>) -> Result<(), NoMemory>
-    ensures { OnOk result ((bytes : List ℕ) → contains_text found.new bytes
-        ≡ (contains_text found.old bytes || bytes_eq (utf8 word.now) bytes)) }
+/// Notes that a required file or program is there.
+fn note(need: Need, word: &Text, host: &mut Host) -> Result<(), NoMemory>
+    ensures { OnOk result (Notes (Finds need word.now true ∷ []) host.old host.new) }
 {
-    found.insert(word.copy()?.into_string())?;
-    Ok(())
+    let name = word.copy()?.into_string();
+    match need {
+        Need::File => {
+            host.files.insert(name)?;
+            Ok(())
+        }
+        Need::Program => {
+            host.programs.insert(name)?;
+            Ok(())
+        }
+    }
 }
 
 /// Asks whether a required file or program is found.
-fn is_found<W: World>(required: Required, word: &Text, world: &mut W) -> bool
-    ensures { W.tells world.old (question_of required word.now result) world.new }
+fn is_found<W: World>(need: Need, word: &Text, world: &mut W) -> bool
+    ensures { W.tells world.old (Finds need word.now result) world.new }
 {
-    match required {
-        Required::File => world.file_exists(word),
-        Required::Program => world.program_found(word),
+    match need {
+        Need::File => world.file_exists(word),
+        Need::Program => world.program_found(word),
     }
 }
 
 /// Asks for a required file or program, and notes it if it is there.
 fn look_for_word<W: World>(
-    required: Required,
+    need: Need,
     word: &Text,
     world: &mut W,
-    found: &mut BTreeSet<String>,
+    host: &mut Host,
 ) -> Result<(), NoMemory>
     ensures { Answered W.tells world.old world.new (λ told. MatchResult result
-        (λ _. LooksFor (question_of required) (word.now ∷ []) told
-        × Notes (finds_of required) told found.old found.new)
-        (λ _. AreFirst (LooksFor (question_of required) (word.now ∷ [])) told)) }
+        (λ _. LooksFor ((need, word.now) ∷ []) told × Notes told host.old host.new)
+        (λ _. AreFirst (LooksFor ((need, word.now) ∷ [])) told)) }
 {
-    if !is_found(required, word, world) {
+    if !is_found(need, word, world) {
         return Ok(());
     }
-    note(word, found)?;
+    note(need, word, host)?;
     Ok(())
 }
 
 /// Asks for each of some required files or programs, in order, and notes those that are there.
 fn look_for_words<W: World>(
-    required: Required,
+    need: Need,
     words: &[Text],
     world: &mut W,
-    found: &mut BTreeSet<String>,
+    host: &mut Host,
 ) -> Result<(), NoMemory>
     ensures { Answered W.tells world.old world.new (λ told. MatchResult result
-        (λ _. LooksFor (question_of required) words.now told
-        × Notes (finds_of required) told found.old found.new)
-        (λ _. AreFirst (LooksFor (question_of required) words.now) told)) }
+        (λ _. LooksFor (needs_in need words.now) told × Notes told host.old host.new)
+        (λ _. AreFirst (LooksFor (needs_in need words.now)) told)) }
 {
     for word in words {
-        look_for_word(required, word, world, found)?;
+        look_for_word(need, word, world, host)?;
     }
     Ok(())
 }
@@ -73,26 +76,20 @@ fn look_for_words<W: World>(
 fn look_for_case<W: World>(
     candidate: &Candidate,
     world: &mut W,
-    files: &mut BTreeSet<String>,
-    programs: &mut BTreeSet<String>,
+    host: &mut Host,
 ) -> Result<(), NoMemory>
     ensures { Answered W.tells world.old world.new (λ told. MatchResult result
-        (λ _. LooksForOne candidate.now told
-        × Notes finds_file told files.old files.new
-        × Notes finds_program told programs.old programs.new)
-        (λ _. AreFirst (LooksForOne candidate.now) told)) }
+        (λ _. LooksFor (needs_by candidate.now.case.fault (meta_in candidate.now)) told
+        × Notes told host.old host.new)
+        (λ _. AreFirst (LooksFor (needs_by candidate.now.case.fault (meta_in candidate.now)))
+        told)) }
 {
     if candidate.case.fault.is_some() {
         return Ok(());
     }
-    let meta = meta_of(&candidate.case.props)?;
-    look_for_words(Required::File, meta.required_files.as_slice(), world, files)?;
-    look_for_words(
-        Required::Program,
-        meta.required_programs.as_slice(),
-        world,
-        programs,
-    )?;
+    let meta = candidate.case.props.effective()?;
+    look_for_words(Need::File, meta.needed(Need::File), world, host)?;
+    look_for_words(Need::Program, meta.needed(Need::Program), world, host)?;
     Ok(())
 }
 
@@ -100,17 +97,14 @@ fn look_for_case<W: World>(
 pub fn look_for_all<W: World>(
     cases: &[Candidate],
     world: &mut W,
-    files: &mut BTreeSet<String>,
-    programs: &mut BTreeSet<String>,
+    host: &mut Host,
 ) -> Result<(), NoMemory>
     ensures { Answered W.tells world.old world.new (λ told. MatchResult result
-        (λ _. LooksForAll cases.now told
-        × Notes finds_file told files.old files.new
-        × Notes finds_program told programs.old programs.new)
-        (λ _. AreFirst (LooksForAll cases.now) told)) }
+        (λ _. LooksFor (needs_of cases.now) told × Notes told host.old host.new)
+        (λ _. AreFirst (LooksFor (needs_of cases.now)) told)) }
 {
     for candidate in cases {
-        look_for_case(candidate, world, files, programs)?;
+        look_for_case(candidate, world, host)?;
     }
     Ok(())
 }

@@ -5,7 +5,6 @@ ghost use Rattle.kt_suite.specs.Selecting.{most_items};
 ghost use Rattle.kt_plan.specs.Planning.{is_atf, ArePlanned, IsDecided, IsJobOf};
 
 use crate::candidate::Candidate;
-use crate::case_meta::{declared_of, meta_of};
 use crate::suite_vars::variables_for;
 use kt_base::{Interface, Items, NoMemory, Reason, Verdict};
 use kt_config::Config;
@@ -68,7 +67,7 @@ fn job_at(
     ensures is { IfOk result (λ job. IsJobOf config.now host.now position candidate.now job) }
     ensures fit { IfOk result (λ job. IsFit job) }
 {
-    let meta = meta_of(&candidate.case.props)?;
+    let meta = candidate.case.props.effective()?;
     let decided = decided(alloc, candidate, &meta, config, host)?;
     Ok(Job {
         position,
@@ -80,7 +79,7 @@ fn job_at(
         exclusive: meta.is_exclusive,
         cleanup: declares_cleanup(candidate.interface, &meta),
         decided,
-        meta: declared_of(&candidate.case.props)?,
+        meta: candidate.case.props.listing()?,
     })
 }
 

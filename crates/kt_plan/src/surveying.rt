@@ -22,14 +22,13 @@ pub fn survey<W: World>(alloc: Global, cases: &[Candidate], world: &mut W) -> Re
     let root = world.is_root();
     let memory = world.memory();
     let disk = world.disk();
-    let mut files = BTreeSet::new(alloc);
-    let mut programs = BTreeSet::new(alloc);
-    look_for_all(cases, world, &mut files, &mut programs)?;
-    Ok(Host {
+    let mut host = Host {
         root,
-        files,
-        programs,
+        files: BTreeSet::new(alloc),
+        programs: BTreeSet::new(alloc),
         memory,
         disk,
-    })
+    };
+    look_for_all(cases, world, &mut host)?;
+    Ok(host)
 }

@@ -1,5 +1,6 @@
 use kt_atflist::Listing;
 use kt_base::{Bytes, Text, Variables};
+use kt_metadata::Need;
 use kt_sched::Launcher;
 use kt_suite::{Program, ReadFault, Tree};
 
@@ -10,7 +11,7 @@ pub trait World: Tree + Launcher {
     ghost use Rattle.kt_sched.specs.Children.{IsIdle};
     ghost use Rattle.kt_base.specs.Moments.{IsMoment};
     ghost use Rattle.kt_suite.specs.Answers.{Asked};
-    ghost use Rattle.kt_plan.specs.Told.{Told, ReadConfig, Lists, FindsFile, FindsProgram, IsRoot, HasMemory, HasDisk, Now};
+    ghost use Rattle.kt_plan.specs.Told.{Told, ReadConfig, Lists, Finds, IsRoot, HasMemory, HasDisk, Now};
 
     /// Whether this answer of the host leads from the first state to the second.
     ghost tells: { Self → Told → Self → Type 0 };
@@ -27,12 +28,12 @@ pub trait World: Tree + Launcher {
 
     /// Whether there is a file at an absolute path (`required_files` of kyuafile(5)).
     fn file_exists(&mut self, path: &Text) -> bool
-        ensures { tells self.old (FindsFile path.now result) self.new };
+        ensures { tells self.old (Finds Need.File path.now result) self.new };
 
     /// Whether a program is found: at an absolute path, or by its name in a directory of `PATH` (`required_programs` of
     /// kyuafile(5)).
     fn program_found(&mut self, name: &Text) -> bool
-        ensures { tells self.old (FindsProgram name.now result) self.new };
+        ensures { tells self.old (Finds Need.Program name.now result) self.new };
 
     /// Whether the runner is root.
     fn is_root(&mut self) -> bool

@@ -6,7 +6,7 @@ use Rattle.kt_store.specs.Serving.{Serves}
 use Rattle.kt_store.specs.StoreCalls.{StoreCall}
 use Rattle.kt_store.specs.declared.keeping.Keeping as store
 use Rattle.kt_store.proofs.ServeLemmas.{always_outlasts}
-use Rattle.kt_cli.specs.MemoryRuns.{StandsInMemory, memory}
+use Rattle.kt_cli.specs.MemoryRuns.{StandsInMemory, memory_runs}
 use Rattle.kt_cli.specs.Inner.MemoryRuns.{ServesInMemory}
 use Rattle.kt_cli.proofs.MemoryLaws.{serves_in_memory}
 
@@ -16,7 +16,7 @@ over see = record { answers = λ _ _ _. Unit {0}; stands = λ s runs. StandsInMe
 
 module _ {T : Type 0} (see : T → List Run) (call : StoreCall) (old new : T) where
   -- its runs serve the call
-  pub serves_over : (m : List Run) → m ≡ see old → Serves memory call m (see new) → Serves (over see) call old new
+  pub serves_over : (m : List Run) → m ≡ see old → Serves memory_runs call m (see new) → Serves (over see) call old new
   serves_over m same s = record {
     asked = tt;
     stands = λ runs h. s.stands runs (subst (λ (l : List Run). StandsInMemory l runs) (sym same) h);
@@ -27,4 +27,4 @@ module _ {T : Type 0} (see : T → List Run) (call : StoreCall) (old new : T) wh
 
   -- or the call is refused, and they stay
   pub refuses_over : see new ≡ see old → ServesInMemory (see old) call (see old) → Serves (over see) call old new
-  refuses_over same h = serves_over (see old) refl (subst (λ (l : List Run). Serves memory call (see old) l) (sym same) (serves_in_memory (see old) call (see old) h))
+  refuses_over same h = serves_over (see old) refl (subst (λ (l : List Run). Serves memory_runs call (see old) l) (sym same) (serves_in_memory (see old) call (see old) h))

@@ -1,10 +1,7 @@
-use Rattle.std.proofs.Common.{◌≡◌, ◌++◌, length}
+use Rattle.std.proofs.Common.{◌≡◌, ◌++◌, drop}
 use Rattle.kt_metadata.specs.Words.{words, words_from}
 use Rattle.kt_metadata.proofs.words.words.Given as goal
 
 -- the words so far, and those of what is left
 abbrev pub invariant-loop-c : goal.invariant-loop-c
-invariant-loop-c l = l.found ++ words_from l.word l.rest ≡ words l.text
-
-abbrev pub decreases-loop-c : goal.decreases-loop-c
-decreases-loop-c l = length l.rest
+invariant-loop-c l = l.found ++ words_from l.word (drop l.c-index l.c-items) ≡ words l.text

@@ -18,5 +18,5 @@ returns-clause-is c =
       exclusive = ap (λ (meta : Meta). meta.is_exclusive) m;
       cleanup = c.declares_cleanup.ensures ∙ ap (λ (meta : Meta). is_atf candidate.interface && meta.has_cleanup) m;
       decided = subst (λ (meta : Meta). IsDecided candidate.case.fault (first_reason (rows meta c.args.config.now candidate.suite c.args.host.now)) c.in_ok-decided.decided) m c.in_ok-decided.ensures;
-      meta = c.in_ok-declared_of.ensures;
+      meta = c.in_ok-listing.ensures.value;
     }

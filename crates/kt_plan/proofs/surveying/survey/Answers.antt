@@ -16,7 +16,8 @@ returns-in_err-look_for_all-clause-idle g c =
 
 pub returns-clause-surveyed : goal.returns-clause-surveyed
 returns-clause-surveyed g c =
-    surveyed g.W.World.tells c.args.cases.now c.args.world.now c.is_root-root.new.self c.memory-memory.new.self c.disk-disk.new.self c.look_for_all.new.world c.is_root-root.result c.memory-memory.result c.disk-disk.result c.new-files.result c.look_for_all.new.files c.new-programs.result c.look_for_all.new.programs c.new-files.ensures.empty c.new-programs.ensures.empty
+    surveyed g.W.World.tells c.args.cases.now c.args.world.now c.is_root-root.new.self c.memory-memory.new.self c.disk-disk.new.self c.look_for_all.new.world
+    (record { root = c.is_root-root.result; files = c.new.result; programs = c.new-2.result; memory = c.memory-memory.result; disk = c.disk-disk.result }) c.look_for_all.new.host c.new.ensures.empty c.new-2.ensures.empty
     c.is_root-root.ensures c.memory-memory.ensures c.disk-disk.ensures c.in_ok-look_for_all.ensures
 
 pub returns-clause-idle : goal.returns-clause-idle

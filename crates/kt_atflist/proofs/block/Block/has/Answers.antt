@@ -6,5 +6,5 @@ use Rattle.kt_atflist.proofs.block.Block.has.Goals as goal
 
 pub returns : goal.returns
 returns c =
-    c.is_some.ensures ∙ sym (copied c.get.result) ∙ ap is_some (c.get.ensures c.self.inside.props c.self.invariant) ∙ given c.args.name.now c.self.inside.props
+    c.is_some.ensures ∙ sym (copied c.get.result) ∙ ap is_some (c.get.ensures.value c.self.inside.props c.self.invariant) ∙ given c.args.name.now c.self.inside.props
     ∙ ap (λ (case : CaseDef). is_given case.props c.args.name.now) c.self.view_is

@@ -1,10 +1,49 @@
-use Rattle.std.proofs.Common.{List, ℕ, ap, ◌∙◌}
+use Rattle.std.proofs.Common.{◌≡◌, ◌∙◌, ℕ, Bool, List, [], Option, ap, refl, sym, subst}
 use Rattle.std.proofs.Math.Path.{fun_ext}
+use Rattle.std.specs.Prelude.{codes, unwrap_or}
+use Rattle.std.specs.Str.{chars}
 use Rattle.kt_base.specs.LastValues.{value_of}
 use Rattle.kt_base.proofs.LastValueLaws.{value_is}
-use Rattle.kt_metadata.specs.Effective.{meta_of}
+use Rattle.kt_metadata.specs.declared.meta.Meta.{Meta}
+use Rattle.kt_metadata.specs.declared.user.User.{User}
+use Rattle.kt_metadata.specs.Effective.{given, words_in, truth_in, size_in, user_in, timeout_in, meta_of, texts_of}
+use Rattle.kt_metadata.proofs.Timeouts.{IsTimeout, timeout-within}
 use Rattle.kt_metadata.proofs.props.Props.effective.Goals as goal
 
+meta-is : (texts : List ℕ → Option (List ℕ)) {a b f h i : List (List ℕ)} {d : List ℕ} {t x : Bool} {k m s : ℕ} {u : User}
+    → a ≡ words_in (given texts (codes "allowed_architectures")) → b ≡ words_in (given texts (codes "allowed_platforms")) → d ≡ unwrap_or (texts (codes "description")) []
+    → t ≡ truth_in (given texts (codes "has_cleanup")) → x ≡ truth_in (given texts (codes "is_exclusive")) → f ≡ words_in (given texts (codes "required_configs"))
+    → k ≡ size_in (given texts (codes "required_disk_space")) → h ≡ words_in (given texts (codes "required_files")) → m ≡ size_in (given texts (codes "required_memory"))
+    → i ≡ words_in (given texts (codes "required_programs")) → u ≡ user_in (given texts (codes "required_user")) → s ≡ timeout_in (given texts (codes "timeout"))
+    → ◌≡◌ {A = Meta} (record {
+      allowed_architectures = a;
+      allowed_platforms = b;
+      description = d;
+      has_cleanup = t;
+      is_exclusive = x;
+      required_configs = f;
+      required_disk_space = k;
+      required_files = h;
+      required_memory = m;
+      required_programs = i;
+      required_user = u;
+      timeout = s;
+    }) (meta_of texts)
+meta-is texts a b d t x f k h m i u s = rw (a, b, d, t, x, f, k, h, m, i, u, s) refl
+
 pub returns-clause-value : goal.returns-clause-value
-returns-clause-value c = λ definitions last.
-    c.in_ok-meta.ensures ∙ ap meta_of (fun_ext (λ (name : List ℕ). ap (value_of name) last ∙ value_is name definitions))
+unfolding chars
+returns-clause-value c =
+    meta-is (texts_of c.args.self.now) c.in_ok-words.ensures c.in_ok-words-2.ensures c.in_ok-description.ensures c.truth.ensures c.truth-2.ensures c.in_ok-words-3.ensures c.size.ensures
+    c.in_ok-words-4.ensures c.size-2.ensures c.in_ok-words-5.ensures c.user.ensures c.timeout.ensures
+
+pub returns-clause-defined : goal.returns-clause-defined
+unfolding chars
+returns-clause-defined c = λ definitions last.
+    meta-is (texts_of c.args.self.now) c.in_ok-words.ensures c.in_ok-words-2.ensures c.in_ok-description.ensures c.truth.ensures c.truth-2.ensures c.in_ok-words-3.ensures c.size.ensures
+    c.in_ok-words-4.ensures c.size-2.ensures c.in_ok-words-5.ensures c.user.ensures c.timeout.ensures
+    ∙ ap meta_of (fun_ext (λ (name : List ℕ). ap (value_of name) last ∙ value_is name definitions))
+
+pub returns-clause-timeout : goal.returns-clause-timeout
+unfolding chars
+returns-clause-timeout c = subst IsTimeout (sym c.timeout.ensures) (timeout-within (texts_of c.args.self.now))

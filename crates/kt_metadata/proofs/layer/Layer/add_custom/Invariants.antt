@@ -1,0 +1,8 @@
+use Rattle.std.proofs.Common.{◌≡◌, ◌++◌}
+use Rattle.kt_metadata.specs.Inner.Layers.{pairs_in}
+use Rattle.kt_metadata.specs.Listing.{custom_pairs}
+use Rattle.kt_metadata.proofs.layer.Layer.add_custom.Given as goal
+
+-- the pairs so far, and those of what is left
+abbrev pub invariant-loop-name : goal.invariant-loop-name
+invariant-loop-name l = l.pairs ++ custom_pairs (pairs_in l.name-iterator) ≡ l.initial.pairs ++ custom_pairs l.self

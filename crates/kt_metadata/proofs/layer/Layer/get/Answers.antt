@@ -1,0 +1,18 @@
+use Rattle.std.proofs.Common.{◌∙◌, ap, chars, List}
+use Rattle.std.specs.Option.{option_map}
+use Rattle.kt_base.specs.declared.variable.Variable.{Variable}
+use Rattle.kt_base.specs.LastValues.{value_of}
+use Rattle.kt_metadata.specs.declared.given.Given.{Given}
+use Rattle.kt_metadata.specs.Effective.{texts_of, given}
+use Rattle.kt_metadata.proofs.Layers.{text-found, value-found}
+use Rattle.kt_metadata.proofs.layer.Layer.get.Goals as goal
+
+pub returns-clause-text : goal.returns-clause-text
+returns-clause-text c =
+    ap (option_map (λ (it : Given). it.text)) c.get.ensures.value ∙ text-found c.args.name.now c.utf8.name c.self.inside.given.entries c.self.invariant
+    ∙ ap (value_of (chars c.args.name.now)) c.self.view_is
+
+pub returns-clause-value : goal.returns-clause-value
+returns-clause-value c =
+    ap (option_map (λ (it : Given). it.value)) c.get.ensures.value ∙ value-found c.args.name.now c.utf8.name c.self.inside.given.entries c.self.invariant
+    ∙ ap (λ (pairs : List Variable). given (texts_of pairs) (chars c.args.name.now)) c.self.view_is

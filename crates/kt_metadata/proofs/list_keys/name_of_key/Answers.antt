@@ -1,0 +1,15 @@
+use Rattle.std.proofs.Common.{◌∙◌, ap, sym, Some, None, List, ℕ}
+use Rattle.std.specs.Option.{option_copied, option_map}
+use Rattle.std.specs.Str.{chars}
+use Rattle.kt_metadata.specs.Inner.Rows.{row_in}
+use Rattle.kt_metadata.proofs.Tables.{key-found}
+use Rattle.kt_metadata.proofs.list_keys.name_of_key.Goals as goal
+
+pub returns-in_ok-from_str-in-Some : goal.returns-in_ok-from_str-in-Some
+unfolding chars
+returns-in_ok-from_str-in-Some c =
+    ap (λ (n : List ℕ). Some n) c.in_ok-from_str-in-Some.ensures ∙ sym (key-found c.args.key.now (Some c.in-Some.row.now) (ap (λ o. option_map row_in (option_copied o)) (sym c.in-Some.is) ∙ c.row_keyed.ensures))
+
+pub returns-in_ok-found-in-None : goal.returns-in_ok-found-in-None
+unfolding chars
+returns-in_ok-found-in-None c = c.in_ok-found-in-None.ensures ∙ sym (key-found c.args.key.now None (ap (λ o. option_map row_in (option_copied o)) (sym c.in-None.is) ∙ c.row_keyed.ensures))

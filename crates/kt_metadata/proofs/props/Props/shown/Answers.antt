@@ -1,0 +1,7 @@
+use Rattle.std.proofs.Common.{rules}
+use Rattle.std.specs.Str.{chars}
+use Rattle.kt_metadata.proofs.props.Props.shown.Goals as goal
+
+pub returns-in-None : goal.returns-in-None
+unfolding chars
+returns-in-None c = search rules

@@ -1,0 +1,11 @@
+use Rattle.std.proofs.Common.{◌∙◌, ap, List, ℕ}
+use Rattle.std.specs.Prelude.{codes}
+use Rattle.std.specs.Str.{chars}
+use Rattle.kt_metadata.specs.Requirements.{listed_row}
+use Rattle.kt_metadata.proofs.requirements.architecture_reason.Goals as goal
+
+pub returns : goal.returns
+unfolding chars
+returns c =
+    c.in_ok-reason.ensures ∙ ap (λ (listed : List (List ℕ)). listed_row (codes "Current architecture '") listed (chars c.architecture.result.now)) c.as_slice-listed.ensures
+    ∙ ap (listed_row (codes "Current architecture '") c.args.meta.now.allowed_architectures) c.architecture.ensures

@@ -1,0 +1,13 @@
+use Rattle.std.proofs.Common.{◌≡◌, ◌∙◌, ap, sym, refl, Option, Some, None}
+use Rattle.std.specs.Prelude.{is_some}
+use Rattle.std.specs.Option.{option_map}
+use Rattle.std.specs.Str.{chars}
+use Rattle.kt_metadata.proofs.table.is_custom.Goals as goal
+
+mapped : {A B : Type 0} (f : A → B) (o : Option A) → is_some (option_map f o) ≡ is_some o
+mapped f None = refl
+mapped f (Some x) = refl
+
+pub returns : goal.returns
+unfolding chars
+returns c = c.is_some.ensures ∙ sym (mapped (λ part. chars part.now) c.own_part.result) ∙ ap is_some c.own_part.ensures

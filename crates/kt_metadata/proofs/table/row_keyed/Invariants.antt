@@ -1,0 +1,8 @@
+use Rattle.std.proofs.Common.{◌≡◌, drop, map}
+use Rattle.std.specs.List.{find}
+use Rattle.kt_metadata.specs.Inner.Rows.{row_in}
+use Rattle.kt_metadata.specs.ListKeys.{has_key}
+use Rattle.kt_metadata.proofs.table.row_keyed.Given as goal
+
+abbrev pub invariant-loop-row : goal.invariant-loop-row
+invariant-loop-row l = find (has_key l.key) (map row_in (drop l.row-index l.rows)) ≡ find (has_key l.key) (map row_in l.rows)

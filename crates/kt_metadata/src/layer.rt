@@ -1,0 +1,97 @@
+ghost use Rattle.std.specs.Prelude.{◌≡◌, ◌∷◌, ◌++◌, [], List, IfOk, OnOk, OnErr, chars};
+ghost use Rattle.std.specs.Option.{option_copied, option_map};
+ghost use Rattle.kt_base.specs.declared.variable.Variable.{Variable};
+ghost use Rattle.kt_base.specs.LastValues.{last_values, value_of};
+ghost use Rattle.kt_metadata.specs.Effective.{texts_of, given};
+ghost use Rattle.kt_metadata.specs.Inner.Layers.{IsRead};
+ghost use Rattle.kt_metadata.specs.Listing.{custom_pairs};
+ghost use Rattle.kt_metadata.specs.Overlays.{a_pair};
+
+use crate::given::Given;
+use crate::pairs::add_if_custom;
+use indexmap::IndexMap;
+use kt_base::{NoMemory, Variables};
+use std::alloc::Global;
+use std::marker::Model;
+
+/// What was given to names, in the order of the first definitions. Contracts see the pairs of the
+/// names with their texts, in which each name occurs once.
+#[derive(Drop)]
+pub struct Layer {
+    given: IndexMap<String, Given>,
+}
+
+impl Model for Layer {
+    ghost use Rattle.std.specs.Prelude.{List};
+    ghost use Rattle.kt_base.specs.declared.variable.Variable.{Variable};
+    ghost use Rattle.kt_metadata.specs.Inner.Layers.{pairs_in, AreSound};
+
+    ghost Value = { List Variable };
+
+    ghost view = { λ l. pairs_in l.given.entries };
+
+    ghost invariant = { λ l. AreSound l.given.entries };
+}
+
+impl Layer {
+    /// Nothing, which takes no memory.
+    pub fn new(alloc: Global) -> Layer
+        ensures { result ≡ [] }
+    {
+        Layer {
+            given: IndexMap::new(alloc),
+        }
+    }
+
+    /// The allocator that the layer takes its memory from.
+    pub fn allocator(&self) -> Global
+        // Each name occurs once.
+        ensures { self.now ≡ last_values self.now }
+    {
+        *self.given.allocator()
+    }
+
+    /// What was given to a name. It takes constant time.
+    pub fn get(&self, name: &str) -> Option<&Given>
+        ensures text { option_map (λ it. it.text) (option_copied result)
+            ≡ value_of (chars name.now) self.now }
+        ensures value { option_map (λ it. it.value) (option_copied result)
+            ≡ given (texts_of self.now) (chars name.now) }
+    {
+        self.given.get(name)
+    }
+
+    /// Gives a name what was read for it, in the place of an earlier one or else at the end.
+    pub fn put(&mut self, name: &str, given: Given) -> Result<(), NoMemory>
+        requires { IsRead (chars name.now) given }
+        ensures ok { OnOk result (self.new
+            ≡ last_values (self.old ++ a_pair (chars name.now) given.text ∷ [])) }
+        ensures err { OnErr result (self.new ≡ self.old) }
+    {
+        let name = String::from_str(self.allocator(), name)?;
+        self.given.insert(name, given)?;
+        Ok(())
+    }
+
+    /// Gives each name what another layer gives it.
+    pub fn put_all(&mut self, more: &Layer) -> Result<(), NoMemory>
+        ensures { OnOk result (self.new ≡ last_values (self.old ++ more.now)) }
+    {
+        let alloc = self.allocator();
+        for (name, given) in more.given.iter() {
+            self.put(name.as_str(), given.copy(alloc)?)?;
+        }
+        Ok(())
+    }
+
+    /// Appends the custom properties that have a value.
+    pub fn add_custom(&self, pairs: &mut Variables) -> Result<(), NoMemory>
+        ensures { OnOk result (pairs.new ≡ pairs.old ++ custom_pairs self.now) }
+    {
+        let alloc = self.allocator();
+        for (name, given) in self.given.iter() {
+            add_if_custom(alloc, pairs, name.as_str(), &given.text)?;
+        }
+        Ok(())
+    }
+}

@@ -1,0 +1,101 @@
+ghost use Rattle.std.specs.Prelude.{◌≡◌, chars, map, IfOk, Some};
+ghost use Rattle.std.specs.List.{find};
+ghost use Rattle.std.specs.Option.{option_copied, option_map};
+ghost use Rattle.kt_metadata.specs.Inner.Rows.{row_in};
+ghost use Rattle.kt_metadata.specs.ListKeys.{has_key};
+ghost use Rattle.kt_metadata.specs.Properties.{has_name, is_custom, form_named, is_kyuafile_property, value_named, definition_fault, IfFault};
+
+use crate::fault::PropFault;
+use crate::form::Form;
+use crate::texts::own_part;
+use crate::value::Value;
+use kt_base::Text;
+use std::alloc::Global;
+
+/// A property with one name: the name, the key, and the form of the values.
+pub type Row = (&'static str, &'static str, Form);
+
+/// The properties with one name, in the order in which they are listed: the name in a Kyuafile
+/// (kyuafile(5); `has_cleanup` is that of atf-test-case(4)), the key in a list of ATF cases, which is
+/// this profile's, and the form of the values.
+pub const TABLE: [Row; 12] = [
+    ("allowed_architectures", "require.arch", Form::Words),
+    ("allowed_platforms", "require.machine", Form::Words),
+    ("description", "descr", Form::Text),
+    ("has_cleanup", "has.cleanup", Form::Truth),
+    ("is_exclusive", "is.exclusive", Form::Truth),
+    ("required_configs", "require.config", Form::Words),
+    ("required_disk_space", "require.diskspace", Form::Size),
+    ("required_files", "require.files", Form::Files),
+    ("required_memory", "require.memory", Form::Size),
+    ("required_programs", "require.progs", Form::Programs),
+    ("required_user", "require.user", Form::User),
+    ("timeout", "timeout", Form::Timeout),
+];
+
+/// Whether a name is that of a custom property.
+pub fn is_custom(name: &str) -> bool
+    ensures { result ≡ is_custom (chars name.now) }
+{
+    own_part(name, "custom.").is_some()
+}
+
+fn row_named<'a>(name: &Text, rows: &'a [Row]) -> Option<&'a Row>
+    ensures { option_map row_in (option_copied result)
+        ≡ find (has_name name.now) (map row_in rows.now) }
+{
+    for row in rows {
+        if name.is_word(row.0) {
+            return Some(row);
+        }
+    }
+    None
+}
+
+/// The row of a key in a list of ATF cases.
+pub fn row_keyed<'a>(key: &Text, rows: &'a [Row]) -> Option<&'a Row>
+    ensures { option_map row_in (option_copied result)
+        ≡ find (has_key key.now) (map row_in rows.now) }
+{
+    for row in rows {
+        if key.is_word(row.1) {
+            return Some(row);
+        }
+    }
+    None
+}
+
+/// The form of the values of a name, if it is that of a property.
+fn form_named(name: &Text) -> Option<Form>
+    ensures { result ≡ form_named name.now }
+{
+    if is_custom(name.as_str()) {
+        return Some(Form::Text);
+    }
+    match row_named(name, &TABLE) {
+        Some(row) => Some(row.2),
+        None => None,
+    }
+}
+
+/// Whether a Kyuafile may set the property of this name. A list of ATF cases alone sets
+/// `has_cleanup`.
+pub fn is_kyuafile_property(name: &Text) -> bool
+    ensures { result ≡ is_kyuafile_property name.now }
+{
+    !name.is_word("has_cleanup") && form_named(name).is_some()
+}
+
+/// The value that a definition gives, or why it is refused: an unknown name before a bad value.
+pub fn read_definition(alloc: Global, name: &Text, text: &Text) -> Result<Value, PropFault>
+    ensures value { IfOk result (λ value. value_named name.now text.now ≡ Some value) }
+    ensures refused { IfFault result (λ fault. definition_fault name.now text.now ≡ Some fault) }
+{
+    match form_named(name) {
+        None => Err(PropFault::UnknownProperty),
+        Some(form) => match form.read(alloc, text)? {
+            None => Err(PropFault::BadValue),
+            Some(value) => Ok(value),
+        },
+    }
+}
