@@ -1,7 +1,7 @@
 #!/usr/bin/env bash
 # Tests this repository from scratch: every proof, the edits that must be refused, the rows of data and the program by `rt ci`,
-# the search for faults that are made by hand, then the runner's own suite with the program that was proved, and then the program
-# in dist/, if there is one. The last line is 'N passed, M failed', over all.
+# the searches for faults that are made by hand and for definitions that no caller needs, rows in a process of their own, then the
+# runner's own suite with the program that was proved, and then the program in dist/, if there is one. The last line is 'N passed, M failed', over all.
 # rt is taken from PATH, else from the kit that RATTLE_KIT names.
 set -u -o pipefail
 top=$(cd "$(dirname "$0")" && pwd)
@@ -34,6 +34,8 @@ idle=$(grep -c -e ': BAD EDIT' -e ': NOT TRIED' "$room/log" || true)
 [ "$idle" = 0 ] || echo "proofs, edits and rows: $idle edits refused nothing, since they are bad or were not tried"
 failed=$((failed + idle))
 part 'faults made by hand' scripts/faults.sh
+part 'definitions' scripts/definitions.sh
+part 'rows alone' scripts/rows_alone.sh
 # rt ci leaves the program that it proved. If a proof failed there is none, and the suite fails too.
 part 'the suite' env KYUA="$PWD/crates/kyua/out/kyua" SUITE_STEP=1 tests/run.sh
 # A program that is shipped with these sources is the one that they give.

@@ -18,7 +18,9 @@ pub struct ScriptedPlatform {
     /// Why nothing is found around the process.
     pub not_found: Option<DriverFault>,
     /// The calls, with commas between them: `open FILE`, `surroundings` and `close`.
-    pub calls: String,
+    calls: String,
+    /// The refusal of memory for a call, if there was one.
+    refusal: Option<NoMemory>,
 }
 
 impl ScriptedPlatform {
@@ -31,17 +33,35 @@ impl ScriptedPlatform {
             not_closed: None,
             not_found: None,
             calls: String::new(alloc),
+            refusal: None,
         }
     }
 
-    /// Keeps the word of a call.
-    fn note(&mut self, word: &str, file: &str) -> Result<(), NoMemory> {
+    /// The calls, unless there was no memory for one.
+    pub fn calls(&self) -> Result<&str, NoMemory> {
+        match self.refusal {
+            None => Ok(self.calls.as_str()),
+            Some(refusal) => Err(refusal),
+        }
+    }
+
+    /// Appends the word of a call.
+    fn append(&mut self, word: &str, file: &str) -> Result<(), NoMemory> {
         if !self.calls.is_empty() {
             self.calls.push_str(", ")?;
         }
         self.calls.push_str(word)?;
         self.calls.push_str(file)?;
         Ok(())
+    }
+
+    /// Keeps the word of a call, or the refusal of memory for it.
+    fn note(&mut self, word: &str, file: &str) -> Result<(), NoMemory> {
+        let noted = self.append(word, file);
+        if let Err(refusal) = noted {
+            self.refusal = Some(refusal);
+        }
+        noted
     }
 
     /// The results that are opened.

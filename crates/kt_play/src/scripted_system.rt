@@ -18,9 +18,11 @@ pub struct ScriptedSystem<'a> {
     /// How many moments of the scene were told, and which was last.
     told: usize,
     moment: u64,
-    pub log: String,
+    log: String,
     /// A line for each program that was started: its words, its directory and its variables.
-    pub spawned: String,
+    spawned: String,
+    /// The refusal of memory for a line, if there was one.
+    refusal: Option<NoMemory>,
 }
 
 /// The life of the child that was started as this one.
@@ -175,7 +177,30 @@ impl<'a> ScriptedSystem<'a> {
             moment: 0,
             log: String::new(alloc),
             spawned: String::new(alloc),
+            refusal: None,
         }
+    }
+
+    /// The lines of the calls, unless there was no memory for one.
+    pub fn log(&self) -> Result<&str, NoMemory> {
+        match self.refusal {
+            None => Ok(self.log.as_str()),
+            Some(refusal) => Err(refusal),
+        }
+    }
+
+    /// A line for each program that was started.
+    pub fn spawned(&self) -> &str {
+        self.spawned.as_str()
+    }
+
+    /// Keeps the refusal of memory for a line.
+    fn keep(&mut self, noted: Result<(), NoMemory>) -> Result<(), OsFault> {
+        if let Err(refusal) = noted {
+            self.refusal = Some(refusal);
+            return Err(OsFault::Memory(refusal));
+        }
+        Ok(())
     }
 
     /// Whether the next call is done.
@@ -189,7 +214,8 @@ impl<'a> ScriptedSystem<'a> {
     /// Writes the line of the next call, and answers whether it is done.
     fn ask(&mut self, word: &str, about: &str) -> Result<(), OsFault> {
         let done = self.goes();
-        note(&mut self.log, word, about, done)?;
+        let noted = note(&mut self.log, word, about, done);
+        self.keep(noted)?;
         match self.scene.shortage {
             _ if done => Ok(()),
             Some(refusal) => Err(OsFault::Memory(refusal)),
@@ -198,8 +224,10 @@ impl<'a> ScriptedSystem<'a> {
     }
 
     fn ask_child(&mut self, word: &str, child: Child) -> Result<(), OsFault> {
-        let about = child_text(self.alloc, child)?;
-        self.ask(word, about.as_str())
+        match child_text(self.alloc, child) {
+            Ok(about) => self.ask(word, about.as_str()),
+            Err(refusal) => self.keep(Err(refusal)),
+        }
     }
 
     fn next_moment(&mut self) -> u64 {
@@ -218,7 +246,8 @@ impl Os for ScriptedSystem<'_> {
     ghost leads = { λ _ _ _. Unit {0} };
 
     fn set_limit(&mut self, child: Child, limit: u64) {
-        let _noted = note_limit(self.alloc, &mut self.log, child, limit);
+        let noted = note_limit(self.alloc, &mut self.log, child, limit);
+        let _ = self.keep(noted);
     }
 
     fn make_dir(&mut self, path: &Text) -> Result<(), OsFault> {
@@ -242,10 +271,11 @@ impl Os for ScriptedSystem<'_> {
         dir: &Text,
     ) -> Result<(), OsFault> {
         self.ask("spawn", program.as_str())?;
-        note_spawn(&mut self.spawned, program, words, env, dir)?;
+        let noted = note_spawn(&mut self.spawned, program, words, env, dir);
+        self.keep(noted)?;
         match self.children.push((child, 0)) {
             Ok(()) => Ok(()),
-            Err(refusal) => Err(OsFault::Memory(NoMemory::from(refusal))),
+            Err(refusal) => self.keep(Err(NoMemory::from(refusal))),
         }
     }
 

@@ -1,3 +1,4 @@
+use kt_base::NoMemory;
 use std::alloc::Global;
 use std::io;
 use std::io::{ErrorKind, Write};
@@ -15,7 +16,9 @@ pub enum WriteFault {
 /// writes on.
 #[derive(Drop)]
 pub struct ScriptedWriter {
-    pub kept: Vec<u8>,
+    kept: Vec<u8>,
+    /// The refusal of memory for a write, if there was one.
+    refusal: Option<NoMemory>,
     /// How many bytes a write takes at the most.
     pub at_most: usize,
     /// How many writes there were.
@@ -32,11 +35,20 @@ impl ScriptedWriter {
     pub fn new(alloc: Global, failing: u64) -> ScriptedWriter {
         ScriptedWriter {
             kept: Vec::new(alloc),
+            refusal: None,
             at_most: usize::MAX,
             writes: 0,
             failing,
             fault: WriteFault::Broken,
             flush_fails: false,
+        }
+    }
+
+    /// What was written, unless there was no memory for a part of it.
+    pub fn kept(&self) -> Result<&[u8], NoMemory> {
+        match self.refusal {
+            None => Ok(self.kept.as_slice()),
+            Some(refusal) => Err(refusal),
         }
     }
 }
@@ -52,8 +64,13 @@ impl Write for ScriptedWriter {
             };
         }
         let taken = bytes.len().min(self.at_most);
-        self.kept.extend_from_slice(&bytes[..taken])?;
-        Ok(taken)
+        match self.kept.extend_from_slice(&bytes[..taken]) {
+            Ok(()) => Ok(taken),
+            Err(refusal) => {
+                self.refusal = Some(NoMemory::from(refusal));
+                Err(io::Error::from(refusal))
+            }
+        }
     }
 
     fn flush(&mut self) -> io::Result<()> {

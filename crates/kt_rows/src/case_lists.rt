@@ -1,7 +1,6 @@
-use crate::lines::push_line;
+use crate::lines::{pair_of, push_line};
 use crate::listings::{behind_header, listing_of};
 use crate::numbers::append_numbered;
-use crate::pairs::pair_of;
 use crate::row::{Row, RowFault};
 use crate::shown_props::push_props;
 use crate::verdicts::reason_text;

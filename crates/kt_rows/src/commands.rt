@@ -1,7 +1,6 @@
 use crate::lines::push_line;
 use crate::numbers::number;
-use crate::pages::ended_text;
-use crate::printing::writer;
+use crate::printing::{ended_text, writer};
 use crate::row::{Row, RowFault};
 use crate::run_texts::runs_text;
 use crate::scenes::scene_of;
@@ -44,17 +43,17 @@ fn shown(alloc: Global, row: &Row<'_>, played: &Played) -> Result<String, RowFau
 
 /// What is wrong where a write failed: the page is no beginning of the whole one, the last command doesn't end with 2,
 /// or the runs are others.
-fn wrong(whole: &Played, cut: &Played) -> Option<&'static str> {
-    let kept = cut.page.kept.as_slice();
-    if kept.len() >= whole.page.kept.len() || !whole.page.kept.as_slice().starts_with(kept) {
-        return Some("the page is no beginning");
+fn wrong(whole: &Played, cut: &Played) -> Result<Option<&'static str>, RowFault> {
+    let (whole_page, cut_page) = (whole.page.kept()?, cut.page.kept()?);
+    if cut_page.len() >= whole_page.len() || !whole_page.starts_with(cut_page) {
+        return Ok(Some("the page is no beginning"));
     }
     if cut.runs.as_str() != whole.runs.as_str() {
-        return Some("the runs are others");
+        return Ok(Some("the runs are others"));
     }
     match cut.exits.last() {
-        Some(exit) if exit.status == 2 => None,
-        _ => Some("the exit is another one"),
+        Some(exit) if exit.status == 2 => Ok(None),
+        _ => Ok(Some("the exit is another one")),
     }
 }
 
@@ -67,7 +66,7 @@ fn each_failing(alloc: Global, row: &Row<'_>, scene: &Scene<'_>) -> Result<Strin
         if cut.page.writes < failing {
             break;
         }
-        if let Some(what) = wrong(&whole, &cut) {
+        if let Some(what) = wrong(&whole, &cut)? {
             push_line(
                 &mut out,
                 format!(in alloc; "at write {failing}: {what}")?.as_str(),

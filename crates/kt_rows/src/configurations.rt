@@ -1,7 +1,6 @@
 use crate::escapes::text_of;
-use crate::lines::push_line;
+use crate::lines::{pair_of, push_line, push_pair};
 use crate::numbers::append_numbered;
-use crate::pairs::{pair_of, push_pair};
 use crate::row::{Entry, Row, RowFault};
 use kt_config::{Config, SuiteVariables};
 use std::alloc::Global;

@@ -161,9 +161,9 @@ impl Trial<'_> {
             return Err(RowFault::Misspelled("there is no command"));
         };
         Ok(Tested {
-            page: String::from_utf8_lossy(self.alloc, page.kept.as_slice())?,
+            page: String::from_utf8_lossy(self.alloc, page.kept()?)?,
             status: exit.status,
-            spawned: !os.spawned.is_empty(),
+            spawned: !os.spawned().is_empty(),
         })
     }
 

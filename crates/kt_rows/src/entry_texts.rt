@@ -1,7 +1,6 @@
 //! Entries as rows have them.
 
-use crate::lines::push_line;
-use crate::pairs::push_pair;
+use crate::lines::{push_line, push_pair};
 use crate::row::RowFault;
 use crate::verdicts;
 use kt_base::Entry;

@@ -65,7 +65,7 @@ fn push_changes(
     for entry in sound {
         push_change(alloc, out, call, entry, run.entries.as_slice())?;
     }
-    let log = run.os.log.as_str();
+    let log = run.os.log()?;
     if count_of(log, "kill ") > 0 {
         out.push_str(", killed")?;
     }
@@ -87,7 +87,7 @@ fn push_failing(
     sound: &[Entry],
 ) -> Result<bool, RowFault> {
     let run = run_plan(alloc, row, scene)?;
-    let fails = run.os.log.as_str().contains(" failed\n");
+    let fails = run.os.log()?.contains(" failed\n");
     if fails {
         push_changes(alloc, out, call, sound, &run)?;
     } else {

@@ -41,7 +41,7 @@ fn given<W: Write>(out: &mut W, pieces: &[Vec<u8>], flushes: bool) -> bool {
 fn flushed(alloc: Global, pieces: &[Vec<u8>], at_most: usize) -> Result<String, RowFault> {
     let mut whole = writer(alloc, at_most, 0, WriteFault::Broken);
     let well = given(&mut whole, pieces, true);
-    let mut out = String::from_utf8_lossy(alloc, whole.kept.as_slice())?;
+    let mut out = String::from_utf8_lossy(alloc, whole.kept()?)?;
     if !well {
         push_line(&mut out, "failed")?;
     }
@@ -49,7 +49,7 @@ fn flushed(alloc: Global, pieces: &[Vec<u8>], at_most: usize) -> Result<String, 
         for fault in &FAULTS {
             let mut cut = writer(alloc, at_most, before + 1, *fault);
             let well = given(&mut cut, pieces, true);
-            if let Some(what) = wrong(whole.kept.as_slice(), &cut, well) {
+            if let Some(what) = wrong(whole.kept()?, &cut, well)? {
                 push_line(&mut out, what)?;
             }
         }
@@ -63,7 +63,7 @@ pub fn answer(alloc: Global, row: &Row<'_>) -> Result<String, RowFault> {
     if row.text("unflushed").is_some() {
         let mut out = writer(alloc, usize::MAX, 0, WriteFault::Broken);
         given(&mut out, pieces.as_slice(), false);
-        return Ok(String::from_utf8_lossy(alloc, out.kept.as_slice())?);
+        return Ok(String::from_utf8_lossy(alloc, out.kept()?)?);
     }
     let at_most = number(row.text("takes").unwrap_or("4096"))? as usize;
     flushed(alloc, pieces.as_slice(), at_most)

@@ -4,7 +4,7 @@ use crate::command_words::read_line;
 use crate::fault_exits::{driver_fault, shortage, store_fault};
 use crate::lines::push_line;
 use crate::numbers::number;
-use crate::pages::page_text;
+use crate::printing::page_text;
 use crate::recorded::content_at;
 use crate::row::{Row, RowFault};
 use crate::run_texts::runs_text;
@@ -102,7 +102,7 @@ fn exits_text<R: Files<File = File> + Clock + AllocGlobal>(
 
 /// Appends what was written on standard error, a usage by that word alone.
 fn push_errors(alloc: Global, text: &mut String, page: &ScriptedWriter) -> Result<(), RowFault> {
-    if page.kept.is_empty() {
+    if page.kept()?.is_empty() {
         return Ok(());
     }
     let written = page_text(alloc, page)?;
@@ -150,7 +150,7 @@ pub fn answer<R: Files<File = File> + Clock + AllocGlobal>(
     let mut platform = platform_of(alloc, row)?;
     let mut pages = pages_of(alloc, row)?;
     let exits = exits_text(rt, row, &scene, &mut platform, &mut pages)?;
-    let mut text = shown(alloc, platform.calls.as_str(), &pages, exits.as_str())?;
+    let mut text = shown(alloc, platform.calls()?, &pages, exits.as_str())?;
     if row.text("show") == Some("runs") {
         push_runs(alloc, &mut text, &mut platform.results)?;
     }

@@ -1,6 +1,8 @@
 use crate::row::RowFault;
-use kt_base::{Entry, Kind, Run, Verdict, emit, emit_number, emit_wide_number};
+use kt_base::{Entry, Kind, NoMemory, Run, Verdict, emit, emit_number, emit_wide_number};
+use kt_cli::Exit;
 use kt_play::{ScriptedWriter, WriteFault};
+use kt_report::ReportFault;
 use std::alloc::Global;
 
 /// The ways in which a write fails.
@@ -25,16 +27,20 @@ pub enum Printed<'a> {
 
 impl Printed<'_> {
     /// Prints it, and returns whether all went well.
-    fn print(self, out: &mut ScriptedWriter) -> bool {
-        match self {
+    fn print(self, out: &mut ScriptedWriter) -> Result<bool, NoMemory> {
+        let well = match self {
             Printed::Bytes(bytes) => emit(bytes, out).is_ok(),
             Printed::Number(n) => emit_number(n, out).is_ok(),
             Printed::WideNumber(n) => emit_wide_number(n, out).is_ok(),
             Printed::Reason(verdict) => verdict.print_reason(out).is_ok(),
             Printed::Line(entry) => kt_report::line(entry, out).is_ok(),
             Printed::Text(run, kinds, verbose) => kt_report::text(run, kinds, verbose, out).is_ok(),
-            Printed::Junit(alloc, run) => kt_report::junit(alloc, run, out).is_ok(),
-        }
+            Printed::Junit(alloc, run) => match kt_report::junit(alloc, run, out) {
+                Err(ReportFault::NoMemory(refusal)) => return Err(refusal),
+                done => done.is_ok(),
+            },
+        };
+        Ok(well)
     }
 }
 
@@ -48,18 +54,22 @@ pub fn writer(alloc: Global, at_most: usize, failing: u64, fault: WriteFault) ->
 }
 
 /// What is wrong with a writer of whose writes one failed.
-pub fn wrong(whole: &[u8], cut: &ScriptedWriter, well: bool) -> Option<&'static str> {
-    let kept = cut.kept.as_slice();
+pub fn wrong(
+    whole: &[u8],
+    cut: &ScriptedWriter,
+    well: bool,
+) -> Result<Option<&'static str>, NoMemory> {
+    let kept = cut.kept()?;
     if well {
-        return Some("all went well");
+        return Ok(Some("all went well"));
     }
     if cut.writes != cut.failing {
-        return Some("something was written behind it");
+        return Ok(Some("something was written behind it"));
     }
     if kept.len() >= whole.len() || !whole.starts_with(kept) {
-        return Some("no beginning was written");
+        return Ok(Some("no beginning was written"));
     }
-    None
+    Ok(None)
 }
 
 /// What is wrong where one of the first writes fails: of a hundred, of a long text of two.
@@ -67,19 +77,20 @@ fn wrong_where_cut(
     alloc: Global,
     printed: Printed<'_>,
     whole: &ScriptedWriter,
-) -> Option<&'static str> {
-    let tries = if whole.kept.len() > 65_536 { 2 } else { 100 };
+) -> Result<Option<&'static str>, NoMemory> {
+    let text = whole.kept()?;
+    let tries = if text.len() > 65_536 { 2 } else { 100 };
     for failing in 1..=whole.writes.min(tries) {
         for fault in &FAULTS {
             let mut cut = writer(alloc, whole.at_most, failing, *fault);
-            let well = printed.print(&mut cut);
-            let what = wrong(whole.kept.as_slice(), &cut, well);
+            let well = printed.print(&mut cut)?;
+            let what = wrong(text, &cut, well)?;
             if what.is_some() {
-                return what;
+                return Ok(what);
             }
         }
     }
-    None
+    Ok(None)
 }
 
 /// What is wrong with a text before a writer that takes so many bytes at a time.
@@ -88,11 +99,11 @@ fn wrong_where_slow(
     printed: Printed<'_>,
     at_most: usize,
     text: &[u8],
-) -> Option<&'static str> {
+) -> Result<Option<&'static str>, NoMemory> {
     let mut slow = writer(alloc, at_most, 0, WriteFault::Broken);
-    let well = printed.print(&mut slow);
-    if !well || slow.kept.as_slice() != text {
-        return Some("another text into a slow writer");
+    let well = printed.print(&mut slow)?;
+    if slow.kept()? != text || !well {
+        return Ok(Some("another text into a slow writer"));
     }
     wrong_where_cut(alloc, printed, &slow)
 }
@@ -101,12 +112,36 @@ fn wrong_where_slow(
 /// one that fails at one of its first writes, which gets a beginning.
 pub fn printed_text(alloc: Global, printed: Printed<'_>) -> Result<String, RowFault> {
     let mut out = writer(alloc, usize::MAX, 0, WriteFault::Broken);
-    printed.print(&mut out);
-    let text = out.kept.as_slice();
+    printed.print(&mut out)?;
+    let text = out.kept()?;
     for at_most in [usize::MAX, 7, 1] {
-        if let Some(what) = wrong_where_slow(alloc, printed, at_most, text) {
+        if let Some(what) = wrong_where_slow(alloc, printed, at_most, text)? {
             return Ok(String::from_str(alloc, what)?);
         }
     }
     Ok(String::from_utf8_lossy(alloc, text)?)
+}
+
+/// What was written on a page. One that doesn't end in a newline was cut.
+pub fn page_text(alloc: Global, page: &ScriptedWriter) -> Result<String, RowFault> {
+    let mut text = String::from_utf8_lossy(alloc, page.kept()?)?;
+    if !text.is_empty() && !text.as_str().ends_with('\n') {
+        text.push_str("(cut)\n")?;
+    }
+    Ok(text)
+}
+
+/// What was written on a page, and how the commands ended.
+pub fn ended_text(
+    alloc: Global,
+    page: &ScriptedWriter,
+    exits: &[Exit],
+) -> Result<String, RowFault> {
+    let mut text = page_text(alloc, page)?;
+    text.push_str("exit")?;
+    for exit in exits {
+        let status = exit.status;
+        text.push_str(format!(in alloc; " {status}")?.as_str())?;
+    }
+    Ok(text)
 }

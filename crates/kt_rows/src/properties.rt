@@ -1,7 +1,6 @@
 use crate::escapes::text_of;
-use crate::lines::push_line;
+use crate::lines::{pair_of, push_line};
 use crate::numbers::{number, numbered};
-use crate::pairs::pair_of;
 use crate::row::{Entry, Row, RowFault};
 use crate::verdicts::reason_text;
 use kt_base::{Reason, Text, Variables};

@@ -42,6 +42,7 @@ fn sent_text(alloc: Global, row: &Row<'_>, bytes: &[u8]) -> Result<String, RowFa
     let failing = number(row.text("failing").unwrap_or("0"))?;
     let mut out = writer(alloc, at_most, failing, WriteFault::Broken);
     let (count, failed) = send(bytes, &mut out);
+    out.kept()?;
     let writes = out.writes;
     let end = if failed { "failed" } else { "done" };
     Ok(format!(in alloc; "{count} in {writes} writes, {end}")?)

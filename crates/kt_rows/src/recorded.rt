@@ -1,10 +1,10 @@
 ghost use Rattle.std.specs.Prelude.{◌≤◌, IfOk};
 
 use crate::escapes::{lossy_of, unescaped};
+use crate::lines::pairs_of;
 use crate::numbers::number;
-use crate::pairs::pairs_of;
 use crate::row::{Entry as Line, Row, RowFault, text_in};
-use kt_base::{Bytes, Entry, Items, Kind, LATEST_MOMENT, Output, Reason, Run, Variables, Verdict};
+use kt_base::{Bytes, Entry, Items, Kind, LATEST_MOMENT, Output, Run, Variables, Verdict};
 use std::alloc::Global;
 
 /// The bytes behind a word among these lines; none if the word isn't there.
@@ -54,14 +54,7 @@ pub fn kinds_of(alloc: Global, words: &str) -> Result<Vec<Kind>, RowFault> {
 /// The verdict of a text such as `failed: x`.
 fn verdict_of(alloc: Global, text: &str) -> Result<Verdict, RowFault> {
     let (word, reason) = text.split_once(": ").unwrap_or((text, ""));
-    let reason = Reason::Owned(lossy_of(alloc, reason)?);
-    Ok(match kind_of(word)? {
-        Kind::Passed => Verdict::passed(),
-        Kind::Skipped => Verdict::skipped(reason),
-        Kind::ExpectedFailure => Verdict::expected_failure(reason),
-        Kind::Failed => Verdict::failed(reason),
-        Kind::Broken => Verdict::broken(reason),
-    })
+    Ok(Verdict::of(kind_of(word)?, lossy_of(alloc, reason)?))
 }
 
 fn no_output(alloc: Global) -> Output {
@@ -140,30 +133,18 @@ pub fn storable_entry(
 
 /// Whether a line says what the entry above it holds.
 pub fn is_content(line: &Line<'_>) -> bool {
-    matches!(
-        line.word,
-        "program"
-            | "case"
-            | "started"
-            | "took"
-            | "out"
-            | "err"
-            | "cleanup-out"
-            | "cleanup-err"
-            | "meta"
-            | "times"
-    )
+    match line.word {
+        "program" | "case" | "started" | "took" | "meta" | "times" => true,
+        "out" | "err" | "cleanup-out" | "cleanup-err" => true,
+        _ => false,
+    }
 }
 
 /// The lines below a place that say what its entry holds.
 pub fn content_at<'a, 'b>(lines: &'b [Line<'a>], place: usize) -> &'b [Line<'a>] {
     let (_, rest) = lines.split_at(place.saturating_add(1).min(lines.len()));
-    for (length, line) in rest.iter().enumerate() {
-        if !is_content(line) {
-            return rest.split_at(length.min(rest.len())).0;
-        }
-    }
-    rest
+    let length = rest.iter().take_while(|line| is_content(*line)).count();
+    rest.split_at(length.min(rest.len())).0
 }
 
 fn count_of(entries: &Items<Entry>) -> Result<u32, RowFault> {

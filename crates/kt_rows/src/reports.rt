@@ -1,7 +1,8 @@
-use crate::printing::{Printed, printed_text};
+use crate::printing::{Printed, printed_text, writer};
 use crate::recorded::{kinds_of, run_of};
 use crate::row::{Row, RowFault};
 use kt_base::Run;
+use kt_play::WriteFault;
 use std::alloc::Global;
 
 /// The lines of a run's entries.
@@ -35,7 +36,15 @@ fn moment_text(alloc: Global, run: &Run) -> Result<String, RowFault> {
     }
 }
 
-/// A report of the run in the row: `report line`, `report text`, `report junit` or `report moment`.
+/// Why a report ends early whose first write fails, by `Display`.
+fn fault_text(alloc: Global, run: &Run) -> Result<String, RowFault> {
+    match kt_report::junit(alloc, run, &mut writer(alloc, 1, 1, WriteFault::Broken)) {
+        Ok(()) => Err(RowFault::Misspelled("a report without a write")),
+        Err(fault) => Ok(fault.to_string(alloc)?),
+    }
+}
+
+/// A report of the run in the row: `report line`, `report text`, `report junit`, `report moment` or `report fault`.
 pub fn answer(alloc: Global, row: &Row<'_>) -> Result<String, RowFault> {
     let run = run_of(alloc, row)?;
     match row.text("report") {
@@ -43,6 +52,7 @@ pub fn answer(alloc: Global, row: &Row<'_>) -> Result<String, RowFault> {
         Some("text") => report_text(alloc, row, &run),
         Some("junit") => printed_text(alloc, Printed::Junit(alloc, &run)),
         Some("moment") => moment_text(alloc, &run),
+        Some("fault") => fault_text(alloc, &run),
         _ => Err(RowFault::Misspelled("no such report")),
     }
 }

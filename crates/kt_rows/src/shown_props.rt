@@ -1,4 +1,4 @@
-use crate::pairs::push_pair;
+use crate::lines::push_pair;
 use crate::row::RowFault;
 use kt_base::{Variable, Variables};
 use kt_metadata::Props;

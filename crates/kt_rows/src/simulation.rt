@@ -88,13 +88,10 @@ impl<'a> Simulation<'a> {
 
     /// How many cases are active.
     fn active(&self) -> u32 {
-        let mut count = 0u32;
-        for stage in self.stages.iter() {
-            if is_active(*stage) {
-                count = count.wrapping_add(1);
-            }
-        }
-        count
+        self.stages
+            .iter()
+            .filter(|stage| is_active(**stage))
+            .count() as u32
     }
 
     /// Whether one case comes before another in turn order.
@@ -143,23 +140,20 @@ impl<'a> Simulation<'a> {
         Ok(())
     }
 
+    /// Whether a case is decided, and its entry due.
+    fn is_due(&self, i: u32) -> bool {
+        is_decided(self.letter(i))
+            && self.stage(i) == Stage::Waiting
+            && self.has_its_turn(i)
+            && self.has_room(i)
+    }
+
     /// The decided case that is due next, in turn order.
     fn due(&self) -> Option<u32> {
-        let mut found: Option<u32> = None;
-        for i in 0..self.count {
-            let is_due = is_decided(self.letter(i))
-                && self.stage(i) == Stage::Waiting
-                && self.has_its_turn(i)
-                && self.has_room(i);
-            let is_first = match found {
-                None => true,
-                Some(j) => self.is_before(i, j),
-            };
-            if is_due && is_first {
-                found = Some(i);
-            }
+        match (0..self.count).find(|i| self.is_due(*i) && !self.is_exclusive(*i)) {
+            None => (0..self.count).find(|i| self.is_due(*i)),
+            found => found,
         }
-        found
     }
 
     /// Puts the decided cases that are due.

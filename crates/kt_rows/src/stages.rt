@@ -159,5 +159,7 @@ pub fn row_over<'a, R: ResultStore, W: Write>(
     let commands = commands_of(alloc, row)?;
     let stage = stage_of(alloc, row.entries.as_slice())?;
     let os = ScriptedSystem::new(alloc, scene);
-    over_system(alloc, commands.as_slice(), &stage, os, results, out)
+    let (exits, os) = over_system(alloc, commands.as_slice(), &stage, os, results, out)?;
+    os.log()?;
+    Ok((exits, os))
 }

@@ -1,7 +1,7 @@
 use crate::command_words::push_command;
 use crate::lines::name_of;
 use crate::numbers::{count, number};
-use crate::pages::ended_text;
+use crate::printing::ended_text;
 use crate::recorded::storable_entry;
 use crate::row::{Entry, RowFault, text_in};
 use crate::run_texts::{run_entries_text, runs_text};

@@ -1,7 +1,6 @@
 //! The list of a program, asked of a driver of its own.
 
-use crate::lines::{name_of, push_line};
-use crate::pairs::pairs_of;
+use crate::lines::{name_of, pairs_of, push_line};
 use crate::row::{Row, RowFault};
 use crate::system_texts::calls;
 use kt_atflist::{ListBytes, Listing};
@@ -86,9 +85,9 @@ fn listed_by<'a>(
 /// The words of the calls that ask for a list, and what came of it; with `show spawns` what was started, too.
 pub fn answer(alloc: Global, row: &Row<'_>, scene: &Scene<'_>) -> Result<String, RowFault> {
     let listed = listed_by(alloc, row, scene)?;
-    let mut out = calls(alloc, "words", listed.os.log.as_str())?;
+    let mut out = calls(alloc, "words", listed.os.log()?)?;
     if row.text("show") == Some("spawns") {
-        push_line(&mut out, listed.os.spawned.as_str().trim())?;
+        push_line(&mut out, listed.os.spawned().trim())?;
     }
     push_line(&mut out, listing_text(alloc, &listed.listing)?.as_str())?;
     Ok(out)

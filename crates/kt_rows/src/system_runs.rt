@@ -1,26 +1,37 @@
 ghost use Rattle.std.specs.Prelude.{IfOk};
 ghost use Rattle.kt_sched.specs.Plan.{IsPlan, IsWidth};
 
+use crate::lines::pairs_of;
 use crate::numbers::{limit_of, number};
-use crate::pairs::pairs_of;
 use crate::row::{Row, RowFault};
 use crate::schedules::width_of;
 use kt_base::{Entry, Items, Text};
-use kt_child::{Driver, Os, run_driver};
+use kt_child::{Driver, DriverFault, Os, run_driver};
 use kt_play::{MemorySink, Scene, ScriptedSystem, cases_of};
-use kt_sched::Job;
+use kt_sched::{Job, RunFault, SinkFault};
 use std::alloc::Global;
 
-/// What a run leaves: its system, its entries in the order of recording, and whether it ended well.
+/// What a run leaves: its system, its entries in the order of recording, and why it ended early, if it did.
 #[derive(Drop)]
 pub struct Driven<O: Drop> {
     pub os: O,
     pub entries: Vec<Entry>,
-    pub done: bool,
+    pub fault: Option<&'static str>,
 }
 
 /// What a run over a scripted system leaves.
 pub type Ran<'a> = Driven<ScriptedSystem<'a>>;
+
+fn is_short(fault: RunFault) -> bool {
+    matches!(
+        fault,
+        RunFault::NoMemory(_) | RunFault::SinkFailed(SinkFault::Memory)
+    )
+}
+
+fn fault_text(is_short: bool) -> Option<&'static str> {
+    Some(if is_short { "out of memory" } else { "failed" })
+}
 
 /// Runs a plan over a driver of its own.
 fn drive<O: Os + Drop>(
@@ -37,18 +48,21 @@ fn drive<O: Os + Drop>(
 {
     let mut sink = sink;
     match Driver::new(alloc, os, base, source) {
-        Err((_fault, os)) => Driven {
+        Err((fault, os)) => Driven {
             os,
             entries: sink.entries,
-            done: false,
+            fault: fault_text(matches!(fault, DriverFault::NoMemory(_))),
         },
         Ok(driver) => {
             let mut driver = driver;
-            let done = run_driver(alloc, plan, width, &mut driver, &mut sink).is_ok();
+            let fault = match run_driver(alloc, plan, width, &mut driver, &mut sink) {
+                Ok(_) => None,
+                Err(fault) => fault_text(is_short(fault)),
+            };
             Driven {
                 os: driver.close(),
                 entries: sink.entries,
-                done,
+                fault,
             }
         }
     }
@@ -80,5 +94,7 @@ pub fn run_plan<'a>(
     let plan = plan_of(alloc, row)?;
     let sink = MemorySink::new(alloc, failing);
     let os = ScriptedSystem::new(alloc, scene);
-    Ok(drive(alloc, os, plan, width, &base, source, sink))
+    let run = drive(alloc, os, plan, width, &base, source, sink);
+    run.os.log()?;
+    Ok(run)
 }

@@ -12,10 +12,10 @@ use std::alloc::Global;
 /// What is shown of a run by a word.
 fn shown_by(alloc: Global, word: &str, run: &Ran<'_>) -> Result<String, RowFault> {
     match word {
-        "calls" | "words" | "watching" => calls(alloc, word, run.os.log.as_str()),
-        "spawns" => Ok(String::from_str(alloc, run.os.spawned.as_str().trim())?),
+        "calls" | "words" | "watching" => calls(alloc, word, run.os.log()?),
+        "spawns" => Ok(String::from_str(alloc, run.os.spawned().trim())?),
         "spawned" => {
-            let count = run.os.spawned.as_str().lines().count();
+            let count = run.os.spawned().lines().count();
             Ok(format!(in alloc; "{count} spawned")?)
         }
         "totals" => totals(alloc, run.entries.as_slice()),
@@ -29,8 +29,8 @@ fn shown(alloc: Global, row: &Row<'_>, run: &Ran<'_>) -> Result<String, RowFault
     for word in row.text("show").unwrap_or("entries").split_whitespace() {
         push_line(&mut out, shown_by(alloc, word, run)?.as_str())?;
     }
-    if !run.done {
-        push_line(&mut out, "failed")?;
+    if let Some(fault) = run.fault {
+        push_line(&mut out, fault)?;
     }
     Ok(out)
 }
