@@ -13,12 +13,10 @@ const LIMIT: u32 = 10_000;
 
 /// The marks of the case at a position, or a text without a verdict.
 fn marks_at(alloc: Global, entries: &[Entry], position: u32) -> Result<String, RowFault> {
-    for entry in entries {
-        if entry.position == position {
-            return marks(alloc, entry);
-        }
+    match entries.iter().find(|entry| entry.position == position) {
+        Some(entry) => marks(alloc, entry),
+        None => Ok(String::from_str(alloc, "no entry")?),
     }
-    Ok(String::from_str(alloc, "no entry")?)
 }
 
 /// How many calls of a log begin with a word.
