@@ -96,7 +96,7 @@ sources > "$room/sources"
 paths '(^|[^A-Za-z])OutOfMemory([^A-Za-z]|$)'
 rule 'names the error of a refused allocation' <<'PLACES'
 kt_base/src/no_memory.rt
-kt_store/src/store_fault.rt
+kt_store/src/statements.rt
 kt_words/src/command_fault.rt
 PLACES
 

@@ -13,7 +13,8 @@ use Rattle.kt_child.specs.Driving.DriverSteps.{DriverLists, DriverStarts, Driver
 use Rattle.kt_cli.specs.declared.runner.Runner.{Runner}
 use Rattle.kt_cli.specs.HostFiles.{IsLook, read_limit}
 use Rattle.kt_cli.specs.Scenes.{World}
-use Rattle.kt_plan.specs.Told.{Told, ReadConfig, Lists, FindsFile, FindsProgram, IsRoot, HasMemory, HasDisk, Now}
+use Rattle.kt_metadata.specs.declared.need.Need.TheVariants.{File, Program}
+use Rattle.kt_plan.specs.Told.{Told, ReadConfig, Lists, Finds, IsRoot, HasMemory, HasDisk, Now}
 
 -- the user is root, by the value of `USER`
 abbrev pub is_root : Option (List ℕ) → Bool
@@ -29,8 +30,8 @@ is_sought path name = is_absolute name || (is_some path && not (list_any is_slas
 abbrev pub IsHostAnswer : {O : Type 0} → (O → Call → O → Type 0) → Runner O → Told → Runner O → Type 0
 IsHostAnswer leads old (ReadConfig path answer) new = (new ≡ old) × IfOk answer (λ bytes. length bytes ≤ read_limit)
 IsHostAnswer leads old (Lists program variables answer) new = DriverLists leads old.driver program.path variables answer new.driver × (new.around ≡ old.around)
-IsHostAnswer leads old (FindsFile path answer) new = new ≡ old
-IsHostAnswer leads old (FindsProgram name answer) new = (new ≡ old) × (answer ≡ true → is_sought old.around.path name ≡ true)
+IsHostAnswer leads old (Finds File path answer) new = new ≡ old
+IsHostAnswer leads old (Finds Program name answer) new = (new ≡ old) × (answer ≡ true → is_sought old.around.path name ≡ true)
 IsHostAnswer leads old (IsRoot answer) new = (new ≡ old) × (answer ≡ is_root old.around.user)
 IsHostAnswer leads old (HasMemory answer) new = (new ≡ old) × (answer ≡ None)
 IsHostAnswer leads old (HasDisk answer) new = (new ≡ old) × (answer ≡ None)
@@ -59,8 +60,8 @@ runner_world leads = record {
 pub running_kept : {O : Type 0} (leads : O → Call → O → Type 0) (old new : Runner O) (told : Told) → IsHostAnswer leads old told new → new.driver.running ≡ old.driver.running
 running_kept {O} leads old new (ReadConfig path answer) h = ap (λ (r : Runner O). r.driver.running) h.0
 running_kept {O} leads old new (Lists program variables answer) h = h.0.1
-running_kept {O} leads old new (FindsFile path answer) h = ap (λ (r : Runner O). r.driver.running) h
-running_kept {O} leads old new (FindsProgram name answer) h = ap (λ (r : Runner O). r.driver.running) h.0
+running_kept {O} leads old new (Finds File path answer) h = ap (λ (r : Runner O). r.driver.running) h
+running_kept {O} leads old new (Finds Program name answer) h = ap (λ (r : Runner O). r.driver.running) h.0
 running_kept {O} leads old new (IsRoot answer) h = ap (λ (r : Runner O). r.driver.running) h.0
 running_kept {O} leads old new (HasMemory answer) h = ap (λ (r : Runner O). r.driver.running) h.0
 running_kept {O} leads old new (HasDisk answer) h = ap (λ (r : Runner O). r.driver.running) h.0

@@ -9,7 +9,8 @@ use Rattle.sqlite.specs.State.{State, HasCleanDisk, IsLive, IsUnchanged, Survive
 use Rattle.sqlite.proofs.StateLemmas.{survives_then, survives_weaker}
 use Rattle.kt_base.specs.declared.run.Run.{Run}
 use Rattle.kt_store.specs.Ask.{Rests, IsStoreFault}
-use Rattle.kt_store.specs.Attaching.{Was, Blank, Current, Older, Numbered, HasNumber, IsOf, Takes, Refuses}
+use Rattle.kt_store.specs.Attaching.{Was, Blank, Current, Older, Numbered, IsOf, Takes, Refuses}
+use Rattle.kt_store.specs.Inner.Attaching.{HasNumber}
 use Rattle.kt_store.specs.Runs.{Keeps, Tables, OldTables}
 use Rattle.kt_store.specs.Stands.{IsEmpty, StandsInOld, SaysSchema, HasTables}
 use Rattle.kt_store.specs.Tables.{no_schema}

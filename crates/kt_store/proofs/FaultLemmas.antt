@@ -6,7 +6,7 @@ use Rattle.sqlite.specs.declared.error.Error.TheVariants.{SqliteFailure}
 use Rattle.kt_store.specs.declared.store_fault.StoreFault.{StoreFault}
 use Rattle.kt_store.specs.declared.store_fault.StoreFault.TheVariants.{NoMemory, Store}
 use Rattle.kt_store.specs.Ask.{IsNoMemory, IsStoreFault}
-use Rattle.kt_store.specs.Fault.{Tells}
+use Rattle.kt_store.specs.Inner.Fault.{Tells}
 
 -- a cell that can be read is refused only if memory ran out
 pub only_memory : (error : Error) (fault : StoreFault) → Tells error fault → ¬ (error ≢ SqliteFailure code.OutOfMemory) → IsNoMemory fault

@@ -22,10 +22,10 @@ use Rattle.sqlite.proofs.Callers.{statement_of, runs_as}
 use Rattle.kt_base.specs.declared.entry.Entry.{Entry}
 use Rattle.kt_base.specs.declared.run.Run.{Run}
 use Rattle.kt_base.specs.declared.variable.Variable.{Variable}
-use Rattle.kt_store.specs.Tables.{schema_2, entries_1, props_1, put_text, pair_text}
+use Rattle.kt_store.specs.Tables.{schema_2, entries_1, props_1, put_text}
 use Rattle.kt_store.specs.Inner.Runs.{CanAdd}
 use Rattle.kt_store.specs.Runs.{Tables, IsRun, kind_code, run_row, entry_row, entry_rows, pair_row, pair_rows_from, prop_rows, with_entry}
-use Rattle.kt_store.specs.Inner.Calls.{Statement, pair_statements, entry_statements}
+use Rattle.kt_store.specs.Inner.Calls.{Statement, pair_statements, entry_statements, pair_text}
 use Rattle.kt_store.specs.Inner.Transactions.{begun, RunInTurn}
 use Rattle.kt_store.specs.Stands.{StandsFor}
 use Rattle.kt_store.proofs.SqlFacts.{put_is, put_terms, pair_is, pair_terms}

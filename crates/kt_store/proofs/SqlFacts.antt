@@ -14,7 +14,8 @@ use Rattle.sqlite.proofs.Callers.{IsPlain, command_of}
 use Rattle.sqlite_sql.specs.declared.ops.BinaryOp.TheVariants.{Compare}
 use Rattle.sqlite_sql.specs.declared.ops.CompareOp.TheVariants.{Eq}
 use Rattle.sqlite_tied.specs.Compute.{everything}
-use Rattle.kt_store.specs.Tables.{schema_2, full_text, begin_text, run_text, count_text, finish_text, runs_text, there_text, put_text, pair_text, entries_text, pairs_text, meta_text, mark_text, raise_text}
+use Rattle.kt_store.specs.Tables.{schema_2, full_text, begin_text, run_text, count_text, finish_text, runs_text, there_text, put_text, entries_text, pairs_text, meta_text, mark_text, raise_text}
+use Rattle.kt_store.specs.Inner.Calls.{pair_text}
 
 abbrev pub query : Query
 query = record { from = end; filter = []; group = None; project = []; distinct = false; collations = []; order = []; limit = lit (Int (negsuc 0)); offset = lit (Int (pos 0)) }

@@ -1,5 +1,5 @@
 -- What taking the tables of a database does, by what the database was.
-use Rattle.std.specs.Prelude.{◌≡◌, ◌≢◌, ◌⊎◌, ℤ, pos, List, [], IsTrue, ⊤}
+use Rattle.std.specs.Prelude.{◌≡◌, ◌≢◌, ◌⊎◌, ℤ, pos, List, [], IsTrue}
 use Rattle.sqlite.specs.State.{State, HasCleanDisk, Survives}
 use Rattle.kt_base.specs.declared.run.Run.{Run}
 use Rattle.kt_store.specs.Ask.{Rests, IsStoreFault}
@@ -35,8 +35,3 @@ Refuses Blank old new fault = IsEmpty new × Survives old new (Keeps []) × (Has
 Refuses (Current runs) old new fault = StandsFor new runs × Survives old new (λ _. ⊥) × (HasCleanDisk new → IsStoreFault fault) × (IsTrue old.is_open → Leaves new (Keeps runs))
 Refuses (Older runs) old new fault = StandsInOld new runs × Survives old new (Keeps runs) × (HasCleanDisk new → IsStoreFault fault) × (IsTrue old.is_open → Leaves new (KeepsEither runs))
 Refuses (Numbered n) old new fault = n ≢ pos 1 → (HasCleanDisk new → Rests old new) × Survives old new (λ _. ⊥)
-
--- tables that say a number
-abbrev pub HasNumber : Was → Type 0
-HasNumber Blank = ⊥
-HasNumber _ = ⊤

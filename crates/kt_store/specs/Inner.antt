@@ -1,6 +1,8 @@
 -- What private functions do: no public clause cites it.
 pub mod Ask
+pub mod Attaching
 pub mod Calls
+pub mod Fault
 pub mod Heads
 pub mod Kept
 pub mod Runs

@@ -191,10 +191,6 @@ put_text = codes "INSERT INTO entries (run, position, program, case_name, kind, 
 abbrev pub entries_text : List ℕ
 entries_text = codes "SELECT position, program, case_name, kind, reason, started, millis, body_out, body_err, clean_out, clean_err FROM entries WHERE run = ?1 ORDER BY position"
 
--- a new pair of an entry
-abbrev pub pair_text : List ℕ
-pair_text = codes "INSERT INTO props (run, position, place, name, value) VALUES (?1, ?2, ?3, ?4, ?5)"
-
 -- the pairs of a run by position and place
 abbrev pub pairs_text : List ℕ
 pairs_text = codes "SELECT position, name, value FROM props WHERE run = ?1 ORDER BY position, place"

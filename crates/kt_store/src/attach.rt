@@ -2,7 +2,8 @@ ghost use Rattle.std.specs.Prelude.{◌≡◌, ◌≢◌, ◌⊎◌, ◌<◌, �
 ghost use Rattle.sqlite.specs.State.{HasCleanDisk, IsLive, IsUnchanged};
 ghost use Rattle.sqlite.specs.Held.{state};
 ghost use Rattle.kt_store.specs.Ask.{Rests, IsStoreFault};
-ghost use Rattle.kt_store.specs.Attaching.{Blank, Older, HasNumber, IsOf, Takes, Refuses};
+ghost use Rattle.kt_store.specs.Attaching.{Blank, Older, IsOf, Takes, Refuses};
+ghost use Rattle.kt_store.specs.Inner.Attaching.{HasNumber};
 ghost use Rattle.kt_store.specs.Inner.Kept.{WasClean, CommitsNothing, AsksNumber, LeavesSchema, FindsTables};
 ghost use Rattle.kt_store.specs.Stands.{SaysSchema, IsUnderstood};
 ghost use Rattle.kt_store.specs.Tables.{runs_text, entries_text, pairs_text};

@@ -10,8 +10,7 @@ ghost use Rattle.kt_store.specs.Inner.Transactions.{RunsInside, RunInTurn};
 ghost use Rattle.kt_store.specs.Inner.Runs.{CanAdd};
 ghost use Rattle.kt_store.specs.Runs.{IsEntry, IsPair, IsText, pair_row, with_entry, kind_code, put_refusal};
 ghost use Rattle.kt_store.specs.Stands.{StandsFor};
-ghost use Rattle.kt_store.specs.Inner.Calls.{pair_statements, entry_statements};
-ghost use Rattle.kt_store.specs.Tables.{pair_text};
+ghost use Rattle.kt_store.specs.Inner.Calls.{pair_statements, entry_statements, pair_text};
 
 use crate::batch::Batch;
 use crate::lookup::{look, there};

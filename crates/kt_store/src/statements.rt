@@ -3,7 +3,7 @@ ghost use Rattle.sqlite.specs.Values.{bound};
 ghost use Rattle.sqlite.specs.State.{HasCleanDisk, Survives, ExecutesInside, IsUnchanged, KeepsCommit};
 ghost use Rattle.sqlite.specs.Held.{state};
 ghost use Rattle.sqlite_value.specs.Order.{column};
-ghost use Rattle.kt_store.specs.Fault.{Tells};
+ghost use Rattle.kt_store.specs.Inner.Fault.{Tells};
 ghost use Rattle.kt_store.specs.Inner.Kept.{CommitsNothing};
 ghost use Rattle.kt_store.specs.Inner.Ask.{Asked, MayShow, MayTell, Told};
 ghost use Rattle.kt_store.specs.Inner.Transactions.{Commits, MayCommit, Undoes};

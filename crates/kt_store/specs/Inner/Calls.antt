@@ -1,15 +1,19 @@
 -- The statements of the calls that write more than one.
-use Rattle.std.specs.Prelude.{ℕ, suc, nat_le, if◌then◌else◌, List, [], ◌∷◌}
+use Rattle.std.specs.Prelude.{ℕ, suc, nat_le, if◌then◌else◌, List, [], ◌∷◌, codes}
 use Rattle.sqlite.specs.Order.{Row}
 use Rattle.kt_base.specs.Limits.{last_run}
 use Rattle.kt_base.specs.declared.entry.Entry.{Entry}
 use Rattle.kt_base.specs.declared.variable.Variable.{Variable}
 use Rattle.kt_store.specs.Runs.{entry_row, pair_row}
-use Rattle.kt_store.specs.Tables.{put_text, pair_text, create_meta, create_runs, create_entries, create_props, mark_text, raise_text}
+use Rattle.kt_store.specs.Tables.{put_text, create_meta, create_runs, create_entries, create_props, mark_text, raise_text}
 
 -- a text of SQL and the values of its parameters
 abbrev pub Statement : Type 0
 Statement = List ℕ × Row
+
+-- a new pair of an entry
+abbrev pub pair_text : List ℕ
+pair_text = codes "INSERT INTO props (run, position, place, name, value) VALUES (?1, ?2, ?3, ?4, ?5)"
 
 -- these pairs are put, by place from this one on
 abbrev pub pair_statements : ℕ → ℕ → ℕ → List Variable → List Statement

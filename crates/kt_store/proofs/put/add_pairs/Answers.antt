@@ -1,7 +1,6 @@
 use Rattle.std.proofs.Common.{◌≡◌, ◌+◌, ◌∷◌, suc, ap, subst, arith, rules, drop}
-use Rattle.kt_store.specs.Inner.Calls.{pair_statements}
+use Rattle.kt_store.specs.Inner.Calls.{pair_statements, pair_text}
 use Rattle.kt_store.specs.Runs.{pair_row}
-use Rattle.kt_store.specs.Tables.{pair_text}
 use Rattle.kt_store.proofs.TurnLemmas.{SoFar, one_done, pairs_at}
 use Rattle.kt_store.proofs.put.add_pairs.Goals as goal
 
