@@ -27,7 +27,7 @@ pub struct RefusingStore {
     /// The calls from the first number on, counted from 1, up to the second one are refused.
     refused: (u64, u64),
     /// Why they are refused, if memory doesn't run out.
-    failed: FailedStatement,
+    pub(crate) failed: FailedStatement,
     /// Why memory ran out, if they are refused for that.
     shortage: Option<NoMemory>,
 }

@@ -2,13 +2,14 @@ use crate::refusing_store::RefusingStore;
 use kt_base::{NoMemory, Text};
 use kt_child::DriverFault;
 use kt_cli::{Platform, Surroundings};
-use kt_store::StoreFault;
+use kt_store::{FailedStatement, StoreFault};
 use std::alloc::Global;
 
 /// A platform with one file of results, whatever its name, that keeps a line of its calls.
 #[derive(Drop)]
 pub struct ScriptedPlatform {
     alloc: Global,
+    failed: FailedStatement,
     /// The results while they are closed. Without them, empty ones are opened.
     pub results: Option<RefusingStore>,
     /// Why results aren't opened.
@@ -28,6 +29,7 @@ impl ScriptedPlatform {
     pub fn new(alloc: Global, results: RefusingStore) -> ScriptedPlatform {
         ScriptedPlatform {
             alloc,
+            failed: results.failed,
             results: Some(results),
             not_opened: None,
             not_closed: None,
@@ -68,7 +70,7 @@ impl ScriptedPlatform {
     fn take_results(&mut self) -> RefusingStore {
         match self.results.take() {
             Some(results) => results,
-            None => RefusingStore::new(self.alloc, (0, 0), None),
+            None => RefusingStore::new(self.alloc, (0, 0), self.failed, None),
         }
     }
 
