@@ -1,0 +1,41 @@
+-- What a command finds and leaves, and the relations of its world.
+use Rattle.std.specs.Prelude.{ℕ, Bool, List, Option}
+use Rattle.kt_base.specs.declared.role.Role.{Role}
+use Rattle.kt_sched.specs.declared.job.Job.{Job}
+use Rattle.kt_sched.specs.declared.launcher.Launcher as launcher
+use Rattle.kt_sched.specs.declared.start_answer.StartAnswer.{StartAnswer}
+use Rattle.kt_sched.specs.declared.ended.Ended.{Ended}
+use Rattle.kt_sched.specs.Children.{Child}
+use Rattle.kt_suite.specs.Answers.{Asked}
+use Rattle.kt_suite.specs.declared.tree.Tree as tree
+use Rattle.kt_plan.specs.Told.{Told}
+use Rattle.kt_plan.specs.declared.world.World as world
+
+-- a world, a store of runs, and what a writer holds
+pub record Scene (W R : Type 0) : Type 0 where
+  pub world : W
+  pub store : R
+  pub held : Option (List ℕ)
+
+-- the same, made of its parts
+abbrev pub scene : {W R : Type 0} → W → R → Option (List ℕ) → Scene W R
+scene world store held = record { world = world; store = store; held = held }
+
+-- the relations of a world: those of the launcher and the tree that it is, and its own
+abbrev pub World : Type 0 → Type 1
+World W = record {
+  running : W → ℕ → Role → Option Child;
+  pending : W → ℕ → Bool;
+  starts : W → Job → Role → StartAnswer → W → Type 0;
+  waits : W → Ended → W → Type 0;
+  asks : W → Asked → W → Type 0;
+  tells : W → Told → W → Type 0;
+}
+
+-- the same by the records of the three traits
+abbrev pub world_of : {W : Type 0} → tree.Ghosts W → launcher.Ghosts W → world.Ghosts W → World W
+world_of t l w = record { running = l.running; pending = l.pending; starts = l.starts; waits = l.waits; asks = t.asks; tells = w.tells }
+
+-- the launcher of a world
+abbrev pub launcher_of : {W : Type 0} → World W → launcher.Ghosts W
+launcher_of w = record { running = w.running; pending = w.pending; starts = w.starts; waits = w.waits }
