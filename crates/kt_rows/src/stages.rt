@@ -1,7 +1,7 @@
 ghost use Rattle.kt_sched.specs.Children.{IsIdle};
 
-use crate::fault_exits::failure;
 use crate::command_words::commands_of;
+use crate::fault_exits::failure;
 use crate::listings::listed_of;
 use crate::numbers::{number, numbers};
 use crate::row::{Entry, Row, RowFault, text_in};
