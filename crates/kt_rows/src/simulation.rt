@@ -87,11 +87,11 @@ impl<'a> Simulation<'a> {
     }
 
     /// How many cases are active.
-    fn active(&self) -> u32 {
+    fn active(&self) -> usize {
         self.stages
             .iter()
             .filter(|stage| is_active(**stage))
-            .count() as u32
+            .count()
     }
 
     /// Whether one case comes before another in turn order.
@@ -113,7 +113,7 @@ impl<'a> Simulation<'a> {
         if self.is_exclusive(i) {
             self.active() == 0
         } else {
-            self.active() < self.width
+            self.active() < self.width as usize
         }
     }
 
@@ -220,7 +220,9 @@ impl<'a> Simulation<'a> {
     /// The case whose body starts next, if one may start now.
     fn next_body(&self) -> Option<u32> {
         let first = (0..self.count).find(|i| self.waits(*i) && self.has_its_turn(*i))?;
-        let may_start = self.has_room(first) && self.active() < self.width && !self.is_reserved();
+        let may_start = self.has_room(first)
+            && self.active() < self.width as usize
+            && !self.is_reserved();
         if may_start && !self.failed {
             Some(first)
         } else {
