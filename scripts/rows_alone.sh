@@ -3,14 +3,14 @@
 #
 # - each row that repeats something 4,000 times or more under a limit of one processor second, or of N below a comment `# At most N
 #   processor seconds.`: ten times what it takes. A body whose time grows with the square of what is large in the row needs more;
-# - each other row with its allocations refused, one in each run, until a run has refused none. Its answer must be the one that is
+# - with ROWS_STEP, each other row with its allocations refused, one in each run, until a run has refused none. Its answer must be the one that is
 #   due, or say that memory ran out; or there is none, since the row could not be set up. Where no C compiler is, these are left out.
 #
 # Rows that try many things each, as a failure of each write, of each call of a disk, or each plan of some letters, are left out. Of
 # systems.rows nothing is refused, since the system that they script takes memory in each of its calls, nor where the first writes fail.
 #
-# Of a row's allocations every 31st is refused, or each ROWS_STEPth. KT_ROWS names another program. The last line is 'N passed, M
-# failed', over the rows.
+# Of a row's allocations each ROWS_STEPth is refused; of a row whose answer is long only its front is seen. KT_ROWS names another
+# program. The last line is 'N passed, M failed', over the rows.
 set -eu -o pipefail
 top=$(cd "$(dirname "$0")/.." && pwd)
 . "$top/scripts/sources.sh"
@@ -20,11 +20,11 @@ program=$(realpath -m "${KT_ROWS:-$top/crates/kt_rows/out/kt_rows}")
 [ -x "$program" ] || { echo "rows_alone.sh: there is no program $program; rows.sh makes it" >&2; echo '0 passed, 1 failed'; exit 1; }
 room=$(mktemp -d)
 trap 'rm -rf "$room"' EXIT
-step=${ROWS_STEP:-31}
+step=${ROWS_STEP:-}
 # What an answer says where memory ran out, and what kt_rows says of a row that it could not set up.
 short='memory|NoMemory|could not be read|cleanup could not be started|__test_cases_list__'
 unasked='out of memory|there is no such command|no tables were taken|the statement fails|there is no driver|there is no such property or value'
-unasked="$unasked|a filter that is refused is asked for by \`read\`"
+unasked="$unasked|a filter that is refused is asked for by \`read\`|no statement failed"
 export room program step short unasked data
 
 # Puts each row of a file into a folder of its own, FILE.LINE, as that file, with its limit if it has one.
@@ -106,7 +106,7 @@ check() {
 }
 export -f check within_limit without_memory
 
-if command -v cc > /dev/null 2>&1; then
+if [ -n "$step" ] && command -v cc > /dev/null 2>&1; then
   cc -O2 -shared -fPIC -o "$room/refuse.so" "$top/tests/refuse.c" -ldl
 fi
 mkdir "$room/rows"
