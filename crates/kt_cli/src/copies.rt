@@ -6,7 +6,6 @@ use std::alloc::Global;
 fn copy_of_verdict(alloc: Global, verdict: &Verdict) -> Result<Verdict, NoMemory>
     ensures { IfOk result (λ copy. copy ≡ verdict.now) }
 {
-    verdict.passed_without_reason();
     let mut reason = Text::new(alloc);
     verdict.write_reason(&mut reason)?;
     Ok(Verdict::of(verdict.kind(), reason))

@@ -59,7 +59,6 @@ pub(crate) fn reason_of(alloc: Global, entry: &Entry) -> Result<Text, StoreFault
 {
     let mut reason = Text::new(alloc);
     entry.verdict.write_reason(&mut reason)?;
-    entry.verdict.passed_without_reason();
     text_is_spelled(&entry.program);
     text_is_spelled(&entry.case_name);
     text_is_spelled(&reason);
