@@ -111,22 +111,22 @@ rule 'asks for memory of a chosen size' <<'PLACES'
 kt_child/src/driving/running_children.rt: cases.reserve(1)?;
 kt_child/src/driving/running_children.rt: children.reserve(1)?;
 kt_child/src/driving/running_children.rt: pending.reserve(cases.len() + 1)?;
-kt_cli/src/execution.rt: let mut exits = Vec::with_capacity(alloc, commands.len())?;
-kt_cli/src/surroundings.rt: let mut room = vec![in rt.alloc(); 0u8; LONGEST_VARIABLE]?;
+kt_cli/src/commands/execution.rt: let mut exits = Vec::with_capacity(alloc, commands.len())?;
+kt_cli/src/host/surroundings.rt: let mut room = vec![in rt.alloc(); 0u8; LONGEST_VARIABLE]?;
 PLACES
 
 # A value for which no refused allocation is needed, or a line that tells of one. An arm that takes such a value isn't meant.
 lines '(Refused|SinkFault)::Memory($|[^ ]| [^=])|write_memory[(]'
 rule 'says that memory ran out' <<'PLACES'
 kt_child/src/starting/refusals.rt: Refused::Memory
-kt_cli/src/debugging.rt: Err(_) => return ended(write_memory(out), FAILED),
-kt_cli/src/fault_exit.rt: CommandFault::NoMemory(_) => write_memory(out),
-kt_cli/src/fault_exit.rt: DriverFault::NoMemory(_) => write_memory(out),
-kt_cli/src/fault_line.rt: RunFault::NoMemory(_) | RunFault::SinkFailed(SinkFault::Memory) => write_memory(out),
-kt_cli/src/fault_line.rt: StoreFault::NoMemory(_) => write_memory(out),
-kt_cli/src/recorder.rt: StoreFault::NoMemory(_) => SinkFault::Memory,
-kt_cli/src/reporting.rt: Err(ReportFault::NoMemory(_)) => ended(write_memory(out), FAILED),
-kt_cli/src/testing.rt: Err(_) => return ended(write_memory(out), FAILED),
+kt_cli/src/commands/debugging.rt: Err(_) => return ended(write_memory(out), FAILED),
+kt_cli/src/messages/fault_exit.rt: CommandFault::NoMemory(_) => write_memory(out),
+kt_cli/src/messages/fault_exit.rt: DriverFault::NoMemory(_) => write_memory(out),
+kt_cli/src/messages/fault_line.rt: RunFault::NoMemory(_) | RunFault::SinkFailed(SinkFault::Memory) => write_memory(out),
+kt_cli/src/messages/fault_line.rt: StoreFault::NoMemory(_) => write_memory(out),
+kt_cli/src/commands/recorder.rt: StoreFault::NoMemory(_) => SinkFault::Memory,
+kt_cli/src/commands/reporting.rt: Err(ReportFault::NoMemory(_)) => ended(write_memory(out), FAILED),
+kt_cli/src/commands/testing.rt: Err(_) => return ended(write_memory(out), FAILED),
 PLACES
 
 lines '(Claim|TapFault|ListBytes|ReadEnd)::Unreadable($|[^ ]| [^=])'
@@ -142,17 +142,17 @@ PLACES
 
 lines 'status: FAILED'
 rule 'ends a command that failed' <<'PLACES'
-kt_cli/src/line_output.rt: Err(_fault) => Exit { status: FAILED },
-kt_cli/src/reporting.rt: Err(ReportFault::Output(_)) => Exit { status: FAILED },
+kt_cli/src/output/line_output.rt: Err(_fault) => Exit { status: FAILED },
+kt_cli/src/commands/reporting.rt: Err(ReportFault::Output(_)) => Exit { status: FAILED },
 PLACES
 
 own_writers > "$room/found"
 rule 'writes to a writer of its own' <<'PLACES'
-kt_cli/src/line_output.rt: send(self.held.as_slice(), &mut self.out)
-kt_cli/src/performing.rt: print_command_fault(fault, errors)
-kt_cli/src/performing.rt: reject(&fault, out, errors)
-kt_cli/src/printer.rt: entry_behind(self.written, &entry, self.out)
-kt_cli/src/recorder.rt: line_behind(self.written, &entry, self.out)
+kt_cli/src/output/line_output.rt: send(self.held.as_slice(), &mut self.out)
+kt_cli/src/host/performing.rt: print_command_fault(fault, errors)
+kt_cli/src/host/performing.rt: reject(&fault, out, errors)
+kt_cli/src/commands/printer.rt: entry_behind(self.written, &entry, self.out)
+kt_cli/src/commands/recorder.rt: line_behind(self.written, &entry, self.out)
 PLACES
 
 echo "$passed passed, $failed failed"

@@ -10,7 +10,7 @@ use Rattle.kt_child.specs.Driving.Numbers.{IsBare}
 use Rattle.kt_child.proofs.TraceTells.{ends_are_told}
 use Rattle.kt_plan.proofs.PlansFit.{plan_fits}
 use Rattle.kt_plan.specs.Questions.{Question, OfTree, OfHost, leads_by}
-use Rattle.kt_cli.specs.declared.runner.Runner.{Runner}
+use Rattle.kt_cli.specs.declared.host.runner.Runner.{Runner}
 use Rattle.kt_cli.specs.ChildrenTold.{ChildrenTell, CoursesAreTold}
 use Rattle.kt_cli.specs.HostAnswers.{IsHostAnswer, RunnerStarts, RunnerWaits, running_kept}
 use Rattle.kt_cli.specs.HostFiles.{IsLook}

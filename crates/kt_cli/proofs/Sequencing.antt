@@ -2,7 +2,7 @@
 use Rattle.std.proofs.Common.{◌≡◌, List, [], ◌∷◌, ◌++◌, length, refl, sym, subst, append_assoc, append-nil, arith}
 use Rattle.kt_store.specs.declared.keeping.Keeping as keeping
 use Rattle.kt_words.specs.declared.command.Command.{Command}
-use Rattle.kt_cli.specs.declared.exit.Exit.{Exit}
+use Rattle.kt_cli.specs.declared.output.exit.Exit.{Exit}
 use Rattle.kt_cli.specs.Meaning.{Did}
 use Rattle.kt_cli.specs.Scenes.{Scene, World}
 use Rattle.kt_cli.specs.Sequences.{DidAll, none_left, one_and}

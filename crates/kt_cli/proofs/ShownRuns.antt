@@ -14,8 +14,8 @@ use Rattle.kt_store.specs.StoreCalls.{StoreCall, Heads, Read}
 use Rattle.kt_store.specs.declared.keeping.Keeping as keeping
 use Rattle.kt_store.specs.declared.run_head.RunHead.{RunHead}
 use Rattle.kt_store.specs.declared.store_fault.StoreFault.{StoreFault}
-use Rattle.kt_cli.specs.declared.not_shown.NotShown.{NotShown}
-use Rattle.kt_cli.specs.declared.not_shown.NotShown.TheVariants.{Refused}
+use Rattle.kt_cli.specs.declared.commands.not_shown.NotShown.{NotShown}
+use Rattle.kt_cli.specs.declared.commands.not_shown.NotShown.TheVariants.{Refused}
 use Rattle.kt_cli.specs.FaultLines.{memory_line}
 use Rattle.kt_cli.specs.Inner.Reports.{JunitOrUnread, DidReport}
 use Rattle.kt_cli.specs.Reports.{chosen, run_of, Reported, told, no_run, ReportedJunit, told as told_junit, no_run as no_junit, Unread, no_heads as unread_heads, no_entries as unread_entries, JunitCut, cut}

@@ -10,7 +10,7 @@ use Rattle.kt_sched.specs.declared.ended.Ended.{Ended}
 use Rattle.kt_child.specs.System.Calls.{Call}
 use Rattle.kt_child.specs.Driving.ChildrenState.{is_among, shown_at}
 use Rattle.kt_child.specs.Driving.DriverSteps.{DriverLists, DriverStarts, DriverWaits}
-use Rattle.kt_cli.specs.declared.runner.Runner.{Runner}
+use Rattle.kt_cli.specs.declared.host.runner.Runner.{Runner}
 use Rattle.kt_cli.specs.HostFiles.{IsLook, read_limit}
 use Rattle.kt_cli.specs.Scenes.{World}
 use Rattle.kt_metadata.specs.declared.need.Need.TheVariants.{File, Program}

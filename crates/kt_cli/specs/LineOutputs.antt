@@ -1,7 +1,7 @@
 -- A writer that writes line for line.
 use Rattle.std.specs.Prelude.{ℕ, Bool, List, Option}
 use Rattle.std.specs.Io.KnownBytes.{append_known}
-use Rattle.kt_cli.specs.declared.line_output.LineOutput.{LineOutput}
+use Rattle.kt_cli.specs.declared.output.line_output.LineOutput.{LineOutput}
 
 -- the bytes that it was given and that are not written; after a failure they never are
 abbrev pub unwritten : {W : Type 0} → LineOutput W → List ℕ

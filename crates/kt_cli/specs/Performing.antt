@@ -5,15 +5,15 @@ use Rattle.kt_base.specs.declared.run.Run.{Run}
 use Rattle.kt_base.specs.Utf8.{utf8}
 use Rattle.kt_child.specs.declared.driving.driver_fault.DriverFault.{DriverFault}
 use Rattle.kt_child.specs.declared.system.os.Os as system
-use Rattle.kt_plan.specs.declared.case_options.CaseOptions.{CaseOptions}
+use Rattle.kt_plan.specs.declared.options.case_options.CaseOptions.{CaseOptions}
 use Rattle.kt_store.specs.declared.keeping.Keeping as keeping
 use Rattle.kt_store.specs.declared.store_fault.StoreFault.{StoreFault}
 use Rattle.kt_words.specs.declared.command.Command.{Command}
 use Rattle.kt_words.specs.declared.command_fault.CommandFault.{CommandFault}
 use Rattle.kt_words.specs.declared.command_fault.CommandFault.TheVariants as command
 use Rattle.kt_words.specs.Commands.{cases_of, results_of}
-use Rattle.kt_cli.specs.declared.platform.Platform as platform
-use Rattle.kt_cli.specs.declared.surroundings.Surroundings.{Surroundings}
+use Rattle.kt_cli.specs.declared.host.platform.Platform as platform
+use Rattle.kt_cli.specs.declared.host.surroundings.Surroundings.{Surroundings}
 use Rattle.kt_cli.specs.Closings.{Concluded}
 use Rattle.kt_cli.specs.FaultLines.{memory_line, refusal_line}
 use Rattle.kt_cli.specs.Hosts.{DidAlone, NoRoot, OnDriver}

@@ -12,7 +12,7 @@ use Rattle.kt_suite.specs.declared.read_fault.ReadFault.{ReadFault}
 use Rattle.kt_suite.specs.declared.read_fault.ReadFault.TheVariants.{Missing, Failed, Memory}
 use Rattle.kt_plan.specs.Inner.Configuring.{Configured, OrShort, GivesMore, GivesOne, Gives, unread_stop}
 use Rattle.kt_plan.specs.Configuring.{Configures, ReadsFirst, before_file, after_file, IsConfiguration, ReadsConfig, behind, in_front, defined, failed, missing, none, read, refused, seen, stopped, unread, word_meaning, words_meaning}
-use Rattle.kt_plan.specs.declared.case_options.CaseOptions.{CaseOptions}
+use Rattle.kt_plan.specs.declared.options.case_options.CaseOptions.{CaseOptions}
 use Rattle.kt_plan.specs.Stops.{IsShort}
 use Rattle.kt_plan.specs.Told.{Told, ReadConfig}
 use Rattle.kt_plan.specs.declared.stop.Stop.{Stop}

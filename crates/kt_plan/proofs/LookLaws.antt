@@ -17,7 +17,7 @@ use Rattle.kt_metadata.specs.declared.host.Host.{Host}
 use Rattle.kt_metadata.specs.declared.meta.Meta.{Meta}
 use Rattle.kt_metadata.specs.declared.need.Need.{Need}
 use Rattle.kt_metadata.specs.declared.need.Need.TheVariants.{File, Program}
-use Rattle.kt_plan.specs.declared.candidate.Candidate.{Candidate}
+use Rattle.kt_plan.specs.declared.cases.candidate.Candidate.{Candidate}
 use Rattle.kt_plan.specs.Inner.Planning.{Notes}
 use Rattle.kt_plan.specs.Planning.{finds, meta_in, needs_by, needs_in, needs_of, LooksFor, nothing, asked, Surveys, SurveysFirst}
 use Rattle.kt_plan.specs.Questions.{AreFirst}

@@ -11,7 +11,7 @@ use Rattle.kt_base.specs.Chains.{Chain}
 use Rattle.kt_suite.specs.Answers.{Answered}
 use Rattle.kt_suite.specs.declared.filter.Filter.{Filter}
 use Rattle.kt_suite.specs.declared.program.Program.{Program}
-use Rattle.kt_plan.specs.declared.candidate.Candidate.{Candidate}
+use Rattle.kt_plan.specs.declared.cases.candidate.Candidate.{Candidate}
 use Rattle.kt_plan.specs.Inner.Collecting.{ListsFirst, before_list, after_list}
 use Rattle.kt_plan.specs.Collecting.{candidates_of, variables_for, IsWanted, ListsCases, listed, OffersOne, listing, unlisted, single, Offers, none, one_and, OffersFirst, no_further, asks, passes}
 use Rattle.kt_plan.specs.Told.{Told, Lists}

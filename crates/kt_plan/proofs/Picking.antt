@@ -4,7 +4,7 @@ use Rattle.std.proofs.Common.{◌≡◌, ℕ, ◌+◌, ◌<◌, ◌≤◌, List,
 use Rattle.kt_suite.specs.declared.filter.Filter.{Filter}
 use Rattle.kt_suite.specs.declared.item.Item.{Item}
 use Rattle.kt_suite.specs.Selecting.{places, is_selected}
-use Rattle.kt_plan.specs.declared.candidate.Candidate.{Candidate}
+use Rattle.kt_plan.specs.declared.cases.candidate.Candidate.{Candidate}
 use Rattle.kt_plan.specs.Collecting.{item_of, selected_cases}
 use Rattle.kt_plan.specs.Inner.Picks.{places_from}
 

@@ -5,7 +5,7 @@ use Rattle.kt_config.specs.Values.{Values}
 use Rattle.kt_metadata.specs.declared.host.Host.{Host}
 use Rattle.kt_sched.specs.declared.job.Job.{Job}
 use Rattle.kt_sched.specs.Plan.{IsFit, IsPlan}
-use Rattle.kt_plan.specs.declared.candidate.Candidate.{Candidate}
+use Rattle.kt_plan.specs.declared.cases.candidate.Candidate.{Candidate}
 use Rattle.kt_plan.specs.Planning.{ArePlanned, no_job, planned, IsJobOf}
 use Rattle.kt_plan.proofs.Rests.{none_left}
 

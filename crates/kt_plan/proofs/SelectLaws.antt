@@ -3,10 +3,10 @@ use Rattle.std.specs.Prelude.{Ok, Err, Bool}
 use Rattle.std.proofs.Common.{ℕ, List, ◌++◌, ◌⊎◌, inl, inr}
 use Rattle.kt_base.specs.Chains.{Chain}
 use Rattle.kt_suite.specs.Answers.{Asked, Answered}
-use Rattle.kt_plan.specs.declared.case_options.CaseOptions.{CaseOptions}
-use Rattle.kt_plan.specs.declared.chosen.Chosen.{Chosen}
-use Rattle.kt_plan.specs.declared.picked.Picked.{Picked}
-use Rattle.kt_plan.specs.declared.settings.Settings.{Settings}
+use Rattle.kt_plan.specs.declared.options.case_options.CaseOptions.{CaseOptions}
+use Rattle.kt_plan.specs.declared.cases.chosen.Chosen.{Chosen}
+use Rattle.kt_plan.specs.declared.cases.picked.Picked.{Picked}
+use Rattle.kt_plan.specs.declared.options.settings.Settings.{Settings}
 use Rattle.kt_plan.specs.declared.stop.Stop.{Stop}
 use Rattle.kt_plan.specs.Inner.Collecting.{CollectsOrShort, Collected}
 use Rattle.kt_plan.specs.Collecting.{Collects}

@@ -11,8 +11,8 @@ use Rattle.kt_plan.specs.Inner.Configuring.{Configured, Gives, OrShort, SettlesO
 use Rattle.kt_plan.specs.Configuring.{Configures, Filters, Settles, settled, unconfigured, unfiltered}
 use Rattle.kt_plan.specs.Stops.{IsShort}
 use Rattle.kt_plan.specs.Told.{Told}
-use Rattle.kt_plan.specs.declared.case_options.CaseOptions.{CaseOptions}
-use Rattle.kt_plan.specs.declared.settings.Settings.{Settings}
+use Rattle.kt_plan.specs.declared.options.case_options.CaseOptions.{CaseOptions}
+use Rattle.kt_plan.specs.declared.options.settings.Settings.{Settings}
 use Rattle.kt_plan.specs.declared.stop.Stop.{Stop}
 use Rattle.kt_plan.specs.declared.stop.Stop.TheVariants as stop
 use Rattle.kt_plan.proofs.Configurations.{Configuration, answered_as, configuration_first}

@@ -14,9 +14,9 @@ use Rattle.kt_suite.specs.declared.item.Item.{Item}
 use Rattle.kt_suite.specs.declared.program.Program.{Program}
 use Rattle.kt_suite.specs.Matching.{MayMatch}
 use Rattle.kt_suite.specs.Selecting.{most_items, is_selected, idle_places}
-use Rattle.kt_plan.specs.declared.candidate.Candidate.{Candidate}
-use Rattle.kt_plan.specs.declared.chosen.Chosen.{Chosen}
-use Rattle.kt_plan.specs.declared.settings.Settings.{Settings}
+use Rattle.kt_plan.specs.declared.cases.candidate.Candidate.{Candidate}
+use Rattle.kt_plan.specs.declared.cases.chosen.Chosen.{Chosen}
+use Rattle.kt_plan.specs.declared.options.settings.Settings.{Settings}
 use Rattle.kt_plan.specs.declared.stop.Stop.{Stop}
 use Rattle.kt_plan.specs.declared.stop.Stop.TheVariants as stop
 use Rattle.kt_plan.specs.Listings.{Loads, LoadsFirst}

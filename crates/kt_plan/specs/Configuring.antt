@@ -15,8 +15,8 @@ use Rattle.kt_suite.specs.declared.read_fault.ReadFault.{ReadFault}
 use Rattle.kt_suite.specs.declared.read_fault.ReadFault.TheVariants.{Missing, Failed}
 use Rattle.kt_suite.specs.Disjoint.{overlap_fault, IsDisjoint}
 use Rattle.kt_suite.specs.Filters.{Meaning as FilterMeaning, filter_meaning}
-use Rattle.kt_plan.specs.declared.case_options.CaseOptions.{CaseOptions}
-use Rattle.kt_plan.specs.declared.settings.Settings.{Settings}
+use Rattle.kt_plan.specs.declared.options.case_options.CaseOptions.{CaseOptions}
+use Rattle.kt_plan.specs.declared.options.settings.Settings.{Settings}
 use Rattle.kt_plan.specs.declared.stop.Stop.{Stop}
 use Rattle.kt_plan.specs.declared.stop.Stop.TheVariants as stop
 use Rattle.kt_plan.specs.Told.{Told, ReadConfig}

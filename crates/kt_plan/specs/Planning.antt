@@ -17,7 +17,7 @@ use Rattle.kt_metadata.specs.declared.meta.Meta.{Meta}
 use Rattle.kt_metadata.specs.declared.need.Need.{Need}
 use Rattle.kt_metadata.specs.declared.need.Need.TheVariants.{File, Program}
 use Rattle.kt_sched.specs.declared.job.Job.{Job}
-use Rattle.kt_plan.specs.declared.candidate.Candidate.{Candidate}
+use Rattle.kt_plan.specs.declared.cases.candidate.Candidate.{Candidate}
 use Rattle.kt_plan.specs.Collecting.{variables_for}
 use Rattle.kt_plan.specs.Questions.{AreFirst}
 use Rattle.kt_plan.specs.Told.{Told, Finds, IsRoot, HasMemory, HasDisk}

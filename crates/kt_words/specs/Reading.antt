@@ -3,7 +3,7 @@ use Rattle.std.specs.Prelude.{◌≡◌, ◌≢◌, ⊤, ℕ, Bool, false, List,
 use Rattle.std.specs.Str.{chars}
 use Rattle.clap.specs.Words.{Row, Text, all_of, fault_of, first_of, matches_of, subcommand_of}
 use Rattle.kt_base.specs.declared.kind.Kind.{Kind}
-use Rattle.kt_plan.specs.declared.case_options.CaseOptions.{CaseOptions}
+use Rattle.kt_plan.specs.declared.options.case_options.CaseOptions.{CaseOptions}
 use Rattle.kt_words.specs.declared.command.Command.{Command}
 use Rattle.kt_words.specs.declared.command.Command.TheVariants as command
 use Rattle.kt_words.specs.declared.command_fault.CommandFault.{CommandFault}

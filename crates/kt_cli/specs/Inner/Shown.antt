@@ -6,8 +6,8 @@ use Rattle.kt_store.specs.StoreCalls.{StoreCall, Heads, Read}
 use Rattle.kt_store.specs.declared.keeping.Keeping as keeping
 use Rattle.kt_store.specs.declared.run_head.RunHead.{RunHead}
 use Rattle.kt_store.specs.declared.store_fault.StoreFault.{StoreFault}
-use Rattle.kt_cli.specs.declared.not_shown.NotShown.{NotShown}
-use Rattle.kt_cli.specs.declared.not_shown.NotShown.TheVariants.{NoRuns, NoRun, Refused}
+use Rattle.kt_cli.specs.declared.commands.not_shown.NotShown.{NotShown}
+use Rattle.kt_cli.specs.declared.commands.not_shown.NotShown.TheVariants.{NoRuns, NoRun, Refused}
 use Rattle.kt_cli.specs.FaultLines.{refusal_line}
 use Rattle.kt_cli.specs.Reports.{chosen, missing_line, no_runs_line, no_run_line, run_of}
 use Rattle.kt_cli.specs.Stores.{Stored}

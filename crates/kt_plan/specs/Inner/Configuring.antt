@@ -10,8 +10,8 @@ use Rattle.kt_suite.specs.declared.filter_fault.FilterFault.TheVariants.{Repeate
 use Rattle.kt_suite.specs.declared.read_fault.ReadFault.{ReadFault}
 use Rattle.kt_suite.specs.declared.read_fault.ReadFault.TheVariants.{Missing, Failed, Memory}
 use Rattle.kt_suite.specs.Disjoint.{IsDisjoint}
-use Rattle.kt_plan.specs.declared.case_options.CaseOptions.{CaseOptions}
-use Rattle.kt_plan.specs.declared.settings.Settings.{Settings}
+use Rattle.kt_plan.specs.declared.options.case_options.CaseOptions.{CaseOptions}
+use Rattle.kt_plan.specs.declared.options.settings.Settings.{Settings}
 use Rattle.kt_plan.specs.declared.stop.Stop.{Stop}
 use Rattle.kt_plan.specs.declared.stop.Stop.TheVariants as stop
 use Rattle.kt_plan.specs.Stops.{IsShort}

@@ -1,0 +1,14 @@
+use Rattle.std.proofs.Common.{◌+◌, ◌≤◌, drop, length}
+use Rattle.std.specs.Vec.{vec_len, vec_capacity}
+use Rattle.kt_sched.specs.Children.{IsIdle}
+use Rattle.kt_cli.specs.Scenes.{scene, world_of}
+use Rattle.kt_cli.proofs.Sequencing.{GoesOn}
+use Rattle.kt_cli.proofs.commands.execution.execute_all.Given as goal
+
+-- what is done goes on with what is left, and there is room for each answer
+abbrev pub invariant-loop-command : goal.invariant-loop-command
+invariant-loop-command g l = record {
+  goes : GoesOn (world_of g.W.Tree g.W.Launcher g.W.World) g.R.Keeping l.commands (drop l.command-index l.commands) (scene l.fn.world l.fn.results (g.O.Write.contents l.fn.out)) (scene l.world l.results (g.O.Write.contents l.out)) l.exits.items;
+  idle : IsIdle (g.W.Launcher.running l.world) (g.W.Launcher.pending l.world);
+  room : vec_len l.exits + length (drop l.command-index l.commands) ≤ vec_capacity l.exits;
+}

@@ -1,0 +1,12 @@
+use lib.Utf8.{encode}
+use Rattle.std.specs.Prelude.{codes}
+use Rattle.std.proofs.Common.{sym}
+use Rattle.kt_base.proofs.Showing.{shows_as}
+use Rattle.kt_cli.proofs.Utf8Sums.{utf8_four}
+use Rattle.kt_cli.proofs.commands.listing.write_case.Goals as goal
+
+pub returns : goal.returns
+unfolding encode
+returns g c =
+    let case = c.args.case.now in
+    shows_as (sym (utf8_four case.path (codes ":") case.case.name (codes "\n"))) (rw (c.as_bytes.ensures, c.as_bytes-name.ensures) at c.emit_all.ensures)

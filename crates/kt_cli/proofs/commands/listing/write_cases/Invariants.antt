@@ -1,0 +1,10 @@
+use Rattle.std.proofs.Common.{false, take}
+use Rattle.std.specs.Prelude.{flat_map}
+use Rattle.kt_base.specs.Shows.{Shows}
+use Rattle.kt_base.specs.Utf8.{utf8}
+use Rattle.kt_cli.specs.CaseLines.{case_line}
+use Rattle.kt_cli.proofs.commands.listing.write_cases.Given as goal
+
+-- the cases so far were written
+abbrev pub invariant-loop-case : goal.invariant-loop-case
+invariant-loop-case g l = Shows (g.O.Write.contents l.fn.out) (g.O.Write.contents l.out) false (flat_map (λ k. utf8 (case_line k)) (take l.case-index l.cases))

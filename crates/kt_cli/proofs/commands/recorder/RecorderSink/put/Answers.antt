@@ -1,0 +1,45 @@
+use Rattle.std.specs.Prelude.{Ok, Err}
+use Rattle.std.proofs.Common.{refl, sym, subst, List}
+use Rattle.kt_base.specs.declared.run.Run.{Run}
+use Rattle.kt_store.specs.StoreCalls.{Put}
+use Rattle.kt_cli.proofs.Numbered.{put_more}
+use Rattle.kt_cli.proofs.StoreChains.{stored_call}
+use Rattle.kt_cli.proofs.commands.recorder.RecorderSink.put.Goals as goal
+
+pub put-requires : goal.put-requires
+put-requires g c = c.requires
+
+pub returns-in-Err-clause-leads : goal.returns-in-Err-clause-leads
+returns-in-Err-clause-leads g c =
+    let p = c.in-Err.ensures in (
+      refl,
+      refl,
+      (
+        refl,
+        (
+          c.in-Err.fault,
+          c.sink_fault.ensures,
+          stored_call g.R.Keeping (Put c.args.self.now.number c.args.entry (Err c.in-Err.fault)) _ _ p,
+        ),
+        refl,
+        refl,
+      ),
+    )
+
+pub returns-in-Err-clause-err : goal.returns-in-Err-clause-err
+returns-in-Err-clause-err g c put h = (h.0, c.in-Err.ensures.stands _ h.1)
+
+pub returns-clause-leads : goal.returns-clause-leads
+returns-clause-leads g c =
+    let p = c.in_default.ensures in (
+      refl,
+      refl,
+      (
+        refl,
+        stored_call g.R.Keeping (Put c.args.self.now.number c.args.entry (Ok tt)) _ _ p,
+        c.line_behind-self.ensures,
+      ),
+    )
+
+pub returns-clause-ok : goal.returns-clause-ok
+returns-clause-ok g c put h = (h.0, subst (λ (rs : List Run). g.R.Keeping.stands c.put.new.self rs) (sym (put_more c.args.self.now.number put c.args.entry h.0)) (c.in_default.ensures.stands _ h.1))

@@ -1,0 +1,13 @@
+use lib.Utf8.{encode}
+use Rattle.std.specs.Prelude.{codes}
+use Rattle.std.proofs.Common.{sym, ◌∙◌}
+use Rattle.std.specs.Fmt.{decimal}
+use Rattle.kt_base.proofs.Showing.{shows_as}
+use Rattle.kt_cli.proofs.Utf8Sums.{utf8_three}
+use Rattle.kt_cli.proofs.commands.reporting.write_no_run.Goals as goal
+
+pub returns : goal.returns
+unfolding encode
+returns g c =
+    let digits = c.as_bytes.ensures ∙ c.new-digits.ensures.value ∙ sym c.new-digits.ensures.ascii in
+    shows_as (sym (utf8_three (codes "kyua: E: no run ") (decimal c.args.number) (codes "\n"))) (rw digits at c.emit_all.ensures)

@@ -1,0 +1,21 @@
+use Rattle.kt_words.specs.Commands.{results_of}
+use Rattle.kt_cli.specs.LineOutputs.{given_bytes}
+use Rattle.kt_cli.specs.Performing.{program}
+use Rattle.kt_cli.proofs.Performances.{by_file, by_memory}
+use Rattle.kt_cli.proofs.host.performing.perform.Goals as goal
+
+pub returns-in-Some : goal.returns-in-Some
+returns-in-Some g c = record {
+  told = given_bytes g.W.Write.contents c.perform_in_file-exit.new.out;
+  due = c.perform_in_file-exit.result.status;
+  done = by_file (program g.P.Platform g.P.Results.Keeping g.O.Os) c.args.os c.args.command.now _ _ _ _ _ c.in-Some.file.now (results_of c.args.command.now) c.in-Some.ensures c.perform_in_file-exit.ensures;
+  flushed = c.finish.ensures;
+}
+
+pub returns-in-None : goal.returns-in-None
+returns-in-None g c = record {
+  told = given_bytes g.W.Write.contents c.perform_over-exit.new.out;
+  due = c.perform_over-exit.result.status;
+  done = by_memory (program g.P.Platform g.P.Results.Keeping g.O.Os) c.args.os c.args.command.now _ _ _ _ _ (results_of c.args.command.now) c.new-results.result c.perform_over-exit.new.results c.in-None.ensures c.new-results.ensures c.perform_over-exit.ensures;
+  flushed = c.finish-in-None.ensures;
+}

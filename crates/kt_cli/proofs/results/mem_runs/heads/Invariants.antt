@@ -1,0 +1,8 @@
+use Rattle.std.specs.Prelude.{map}
+use Rattle.std.proofs.Common.{◌≡◌, ◌++◌, drop}
+use Rattle.kt_store.specs.Heads.{head_of}
+use Rattle.kt_cli.proofs.results.mem_runs.heads.Given as goal
+
+-- the heads of the rest go behind those so far
+abbrev pub invariant-loop-run : goal.invariant-loop-run
+invariant-loop-run l = map head_of l.runs ≡ l.heads.items ++ map head_of (drop l.run-index l.runs)

@@ -1,0 +1,10 @@
+use Rattle.std.proofs.Common.{◌≡◌, ◌+◌, drop}
+use Rattle.kt_cli.specs.Inner.MemoryRuns.{place_among}
+use Rattle.kt_cli.proofs.results.mem_runs.place_among.Given as goal
+
+-- the place among the rest, counted from here
+abbrev pub invariant-loop-entry : goal.invariant-loop-entry
+invariant-loop-entry l = record {
+  goes : place_among l.position l.entries ≡ l.place + place_among l.position (drop l.entry-index l.entries);
+  counts : l.place ≡ l.entry-index;
+}

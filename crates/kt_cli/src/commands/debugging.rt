@@ -1,0 +1,82 @@
+ghost use Rattle.std.specs.Prelude.{◌≡◌, ◌==◌, ◌≤◌, length, if◌then◌else◌, is_err};
+ghost use Rattle.kt_sched.specs.Children.{IsIdle};
+ghost use Rattle.kt_sched.specs.Plan.{IsPlan};
+ghost use Rattle.kt_cli.specs.Inner.Debugging.{Debugged};
+ghost use Rattle.kt_cli.specs.Inner.Meaning.{ToldOnly};
+ghost use Rattle.kt_words.specs.declared.command.Command.TheVariants as command;
+
+use crate::commands::printer::Printer;
+use crate::messages::behind::fault_behind;
+use crate::messages::fault_line::write_memory;
+use crate::messages::stopping::stopped;
+use crate::messages::warnings::write_warnings;
+use crate::output::exit::{Exit, FAILED, ended};
+use kt_base::{Items, OutputFault};
+use kt_plan::{CaseOptions, World, prepare, select_cases};
+use kt_sched::{Job, Launcher, RunFault, Totals, run_cases};
+use std::alloc::Global;
+use std::io::Write;
+
+/// Runs a plan one case at a time, and prints what each case wrote and its line. Returns how it
+/// ended, and whether all of it could be written.
+fn print_cases<L: Launcher, O: Write>(
+    alloc: Global,
+    plan: Items<Job>,
+    launcher: &mut L,
+    out: &mut O,
+) -> (Result<Totals, RunFault>, Result<(), OutputFault>)
+    requires plan { IsPlan plan }
+    requires idle { IsIdle (L.running launcher.old) (L.pending launcher.old) }
+    ensures debugged { Debugged L.Launcher plan launcher.old launcher.new
+        (O.contents out.old) (O.contents out.new) (is_err result.1) result.0 }
+    ensures idle { IsIdle (L.running launcher.new) (L.pending launcher.new) }
+{
+    let mut printer = Printer {
+        out,
+        written: Ok(()),
+    };
+    let answer = run_cases(alloc, plan, 1, launcher, &mut printer);
+    // No effect when it runs: from this use the proof reads what was lent to the printer.
+    let _ = &*printer.out;
+    (answer, printer.written)
+}
+
+/// 0 if no case is bad, else 1.
+fn status_of(bad: u64) -> u8
+    ensures { result ≡ (if bad == 0 then 0 else 1) }
+{
+    if bad == 0 { 0 } else { 1 }
+}
+
+/// The command `debug`: the first selected case runs alone, and nothing is recorded.
+pub fn debug<W: World, O: Write>(
+    alloc: Global,
+    options: &CaseOptions,
+    world: &mut W,
+    out: &mut O,
+) -> Exit
+    requires { IsIdle (W.running world.old) (W.pending world.old) }
+    ensures told { ToldOnly W.World (command.Debug options.now) world.old world.new
+        (O.contents out.old) (O.contents out.new) result.status }
+    ensures idle { IsIdle (W.running world.new) (W.pending world.new) }
+{
+    let picked = match select_cases(alloc, true, options, world) {
+        Ok(picked) => picked,
+        Err(fault) => return stopped(&fault, out),
+    };
+    let cases = picked.chosen.cases.as_slice();
+    let Some((_first, _others)) = cases.split_first() else {
+        let unmatched = picked.chosen.unmatched.as_slice();
+        let warned = write_warnings(options.filters.as_slice(), unmatched, out);
+        return ended(warned, 1);
+    };
+    let plan = match prepare(alloc, &picked.settings.config, &cases[..1], world) {
+        Ok(plan) => plan,
+        Err(_) => return ended(write_memory(out), FAILED),
+    };
+    let (answer, written) = print_cases(alloc, plan, world, out);
+    match answer {
+        Ok(totals) => ended(written, status_of(totals.bad)),
+        Err(fault) => ended(fault_behind(written, fault, out), FAILED),
+    }
+}

@@ -1,0 +1,76 @@
+ghost use Rattle.std.specs.Prelude.{IfOk, OnErr, ◌≡◌};
+ghost use Rattle.kt_sched.specs.Children.{IsIdle};
+ghost use Rattle.kt_cli.specs.Meaning.{Did};
+ghost use Rattle.kt_cli.specs.Scenes.{scene};
+ghost use Rattle.kt_cli.specs.Sequences.{DidAll};
+
+use crate::commands::debugging::debug;
+use crate::commands::listing::list;
+use crate::commands::reporting::{report, report_junit};
+use crate::commands::testing::test;
+use crate::output::exit::Exit;
+use kt_base::NoMemory;
+use kt_plan::World;
+use kt_store::ResultStore;
+use kt_words::Command;
+use std::alloc::Global;
+use std::io::Write;
+
+/// Does a command over a world and a store of runs, and writes its text.
+pub fn execute<W: World, R: ResultStore, O: Write>(
+    alloc: Global,
+    command: &Command,
+    world: &mut W,
+    results: &mut R,
+    out: &mut O,
+) -> Exit
+    requires { IsIdle (W.running world.old) (W.pending world.old) }
+    ensures did { Did W.World R.Keeping command.now
+        (scene world.old results.old (O.contents out.old))
+        (scene world.new results.new (O.contents out.new)) result.status }
+    ensures idle { IsIdle (W.running world.new) (W.pending world.new) }
+{
+    match command {
+        Command::List(options) => list(alloc, options, world, out),
+        Command::Test {
+            options,
+            results: file,
+        } => test(alloc, options, file, world, results, out),
+        Command::Debug(options) => debug(alloc, options, world, out),
+        Command::Report {
+            options,
+            kinds,
+            verbose,
+        } => report(options.run, kinds.as_slice(), *verbose, results, out),
+        Command::ReportJunit(options) => report_junit(alloc, options.run, results, out),
+    }
+}
+
+/// Executes commands one after the other, and returns the exit of each. The memory for the exits is
+/// taken before the first command.
+pub fn execute_all<W: World, R: ResultStore, O: Write>(
+    alloc: Global,
+    commands: &[Command],
+    world: &mut W,
+    results: &mut R,
+    out: &mut O,
+) -> Result<Vec<Exit>, NoMemory>
+    requires { IsIdle (W.running world.old) (W.pending world.old) }
+    ensures did { IfOk result (λ exits. DidAll W.World R.Keeping commands.now
+        (scene world.old results.old (O.contents out.old))
+        (scene world.new results.new (O.contents out.new)) exits.items) }
+    ensures idle { IsIdle (W.running world.new) (W.pending world.new) }
+    ensures unasked { OnErr result
+        ((world.new ≡ world.old) × (results.new ≡ results.old)
+        × (O.contents out.new ≡ O.contents out.old)) }
+{
+    let mut exits = Vec::with_capacity(alloc, commands.len())?;
+    for command in commands {
+        let exit = execute(alloc, command, world, results, out);
+        if exits.push(exit).is_err() {
+            // Memory for each was taken before.
+            unreachable!()
+        }
+    }
+    Ok(exits)
+}

@@ -1,0 +1,81 @@
+ghost use Rattle.std.specs.Prelude.{◌≡◌, ◌++◌, flat_map, if◌then◌else◌, is_err};
+ghost use Rattle.kt_base.specs.Shows.{Shows};
+ghost use Rattle.kt_base.specs.Utf8.{utf8};
+ghost use Rattle.kt_sched.specs.Children.{IsIdle};
+ghost use Rattle.kt_cli.specs.CaseLines.{case_line};
+ghost use Rattle.kt_cli.specs.Inner.Meaning.{ToldOnly};
+ghost use Rattle.kt_cli.specs.Testing.{none_idle};
+ghost use Rattle.kt_cli.specs.Warnings.{warnings};
+ghost use Rattle.kt_words.specs.declared.command.Command.TheVariants as command;
+
+use crate::messages::stopping::stopped;
+use crate::messages::warnings::write_warnings;
+use crate::output::exit::{Exit, ended};
+use kt_base::{OutputFault, Text, emit_all};
+use kt_plan::{Candidate, CaseOptions, World, select_cases};
+use std::alloc::Global;
+use std::io::Write;
+
+/// Writes the line of a case.
+fn write_case<O: Write>(case: &Candidate, out: &mut O) -> Result<(), OutputFault>
+    ensures { Shows (O.contents out.old) (O.contents out.new) (is_err result)
+        (utf8 (case_line case.now)) }
+{
+    let name = case.case.name.as_bytes();
+    emit_all(&[case.path.as_bytes(), b":", name, b"\n"], out)
+}
+
+/// Writes the lines of cases.
+fn write_cases<O: Write>(cases: &[Candidate], out: &mut O) -> Result<(), OutputFault>
+    ensures { Shows (O.contents out.old) (O.contents out.new) (is_err result)
+        (utf8 (flat_map case_line cases.now)) }
+{
+    for case in cases {
+        write_case(case, out)?;
+    }
+    Ok(())
+}
+
+/// Writes the lines of cases, and warns of the filters at these positions.
+fn write_listing<O: Write>(
+    cases: &[Candidate],
+    words: &[Text],
+    unmatched: &[usize],
+    out: &mut O,
+) -> Result<(), OutputFault>
+    ensures { Shows (O.contents out.old) (O.contents out.new) (is_err result)
+        (utf8 (flat_map case_line cases.now) ++ utf8 (warnings words.now unmatched.now)) }
+{
+    write_cases(cases, out)?;
+    write_warnings(words, unmatched, out)
+}
+
+/// The status of a command by the filters that select no case.
+pub fn status_by(unmatched: &[usize]) -> u8
+    ensures { result ≡ (if none_idle unmatched.now then 0 else 1) }
+{
+    if unmatched.is_empty() { 0 } else { 1 }
+}
+
+/// The command `list`.
+pub fn list<W: World, O: Write>(
+    alloc: Global,
+    options: &CaseOptions,
+    world: &mut W,
+    out: &mut O,
+) -> Exit
+    requires { IsIdle (W.running world.old) (W.pending world.old) }
+    ensures told { ToldOnly W.World (command.List options.now) world.old world.new
+        (O.contents out.old) (O.contents out.new) result.status }
+    ensures idle { IsIdle (W.running world.new) (W.pending world.new) }
+{
+    match select_cases(alloc, false, options, world) {
+        Ok(picked) => {
+            let cases = picked.chosen.cases.as_slice();
+            let unmatched = picked.chosen.unmatched.as_slice();
+            let written = write_listing(cases, options.filters.as_slice(), unmatched, out);
+            ended(written, status_by(unmatched))
+        }
+        Err(fault) => stopped(&fault, out),
+    }
+}

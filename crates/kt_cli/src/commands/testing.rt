@@ -1,0 +1,179 @@
+ghost use Rattle.std.specs.Prelude.{◌≡◌, ◌≤◌, length, is_err};
+ghost use Rattle.kt_base.specs.Shows.{Shows};
+ghost use Rattle.kt_sched.specs.Children.{IsIdle};
+ghost use Rattle.kt_base.specs.Moments.{IsMoment};
+ghost use Rattle.kt_sched.specs.Plan.{IsPlan, IsWidth};
+ghost use Rattle.kt_suite.specs.Selecting.{most_items};
+ghost use Rattle.kt_cli.specs.Meaning.{Did};
+ghost use Rattle.kt_cli.specs.Inner.Pages.{Says};
+ghost use Rattle.kt_cli.specs.Inner.Recordings.{Records};
+ghost use Rattle.kt_cli.specs.Inner.Testing.{RanPlan};
+ghost use Rattle.kt_cli.specs.Scenes.{scene};
+ghost use Rattle.kt_cli.specs.Testing.{ending, exit_of, planned_run};
+ghost use Rattle.kt_words.specs.declared.command.Command.TheVariants as command;
+
+use crate::commands::recorder::Recorder;
+use crate::messages::behind::{fault_behind, refusal_behind};
+use crate::messages::fault_line::{write_memory, write_refusal};
+use crate::messages::stopping::stopped;
+use crate::messages::totals::write_totals;
+use crate::messages::warnings::write_warnings;
+use crate::output::exit::{Exit, FAILED, ended};
+use kt_base::{Items, OutputFault, Text};
+use kt_plan::{CaseOptions, World, prepare, select_cases};
+use kt_sched::{Job, Launcher, RunFault, Totals, run_cases};
+use kt_store::ResultStore;
+use std::alloc::Global;
+use std::io::Write;
+
+/// Runs a plan, `width` cases at once at most, and records and prints each entry. Returns how it
+/// ended, and whether all lines could be written.
+fn record_cases<L: Launcher, R: ResultStore, O: Write>(
+    alloc: Global,
+    plan: Items<Job>,
+    width: u32,
+    launcher: &mut L,
+    results: &mut R,
+    number: u64,
+    out: &mut O,
+) -> (Result<Totals, RunFault>, Result<(), OutputFault>)
+    requires plan { IsPlan plan }
+    requires width { IsWidth width }
+    requires idle { IsIdle (L.running launcher.old) (L.pending launcher.old) }
+    ensures records { Records L.Launcher R.Keeping plan width number
+        (scene launcher.old results.old (O.contents out.old))
+        (scene launcher.new results.new (O.contents out.new)) result.0 (is_err result.1) }
+    ensures idle { IsIdle (L.running launcher.new) (L.pending launcher.new) }
+{
+    let mut recorder = Recorder {
+        results,
+        out,
+        number,
+        written: Ok(()),
+    };
+    let answer = run_cases(alloc, plan, width, launcher, &mut recorder);
+    // No effect when it runs: from these uses the proof reads what was lent to the recorder.
+    let _ = &*recorder.results;
+    let _ = &*recorder.out;
+    (answer, recorder.written)
+}
+
+/// 0 if no case is bad and every filter selects some, else 1.
+fn status_of(bad: u64, unmatched: &[usize]) -> u8
+    ensures { result ≡ exit_of bad unmatched.now }
+{
+    if bad == 0 && unmatched.is_empty() {
+        0
+    } else {
+        1
+    }
+}
+
+/// Writes the totals, and warns of the filters that select no case.
+fn write_ending<O: Write>(
+    totals: Totals,
+    words: &[Text],
+    unmatched: &[usize],
+    out: &mut O,
+) -> Result<(), OutputFault>
+    ensures { Shows (O.contents out.old) (O.contents out.new) (is_err result)
+        (ending totals.good totals.total totals.bad words.now unmatched.now) }
+{
+    write_totals(totals.good, totals.total, totals.bad, out)?;
+    write_warnings(words, unmatched, out)
+}
+
+/// Prints the totals and the warnings, unless an earlier write failed.
+fn ending_behind<O: Write>(
+    written: Result<(), OutputFault>,
+    totals: Totals,
+    words: &[Text],
+    unmatched: &[usize],
+    out: &mut O,
+) -> Result<(), OutputFault>
+    ensures { Says (O.contents out.old) (is_err written) (O.contents out.new) (is_err result)
+        (ending totals.good totals.total totals.bad words.now unmatched.now) }
+{
+    written?;
+    write_ending(totals, words, unmatched, out)
+}
+
+/// Begins a run, runs its plan, `width` cases at once at most, and finishes it. `words` are the
+/// filters as they were given, and `unmatched` the positions of those that select no case.
+fn run_plan<L: Launcher, R: ResultStore, O: Write>(
+    alloc: Global,
+    plan: Items<Job>,
+    width: u32,
+    words: &[Text],
+    unmatched: &[usize],
+    moment: u64,
+    launcher: &mut L,
+    results: &mut R,
+    out: &mut O,
+) -> Exit
+    requires plan { IsPlan plan }
+    requires few { length plan ≤ most_items }
+    requires width { IsWidth width }
+    requires moment { IsMoment moment }
+    requires idle { IsIdle (L.running launcher.old) (L.pending launcher.old) }
+    ensures ran { RanPlan L.Launcher R.Keeping
+        (planned_run plan width words.now unmatched.now moment)
+        (scene launcher.old results.old (O.contents out.old))
+        (scene launcher.new results.new (O.contents out.new)) result.status }
+    ensures idle { IsIdle (L.running launcher.new) (L.pending launcher.new) }
+{
+    let total = plan.len() as u32;
+    let number = match results.begin(total, moment) {
+        Ok(number) => number,
+        Err(fault) => return ended(write_refusal(fault, out), FAILED),
+    };
+    let (answer, written) = record_cases(alloc, plan, width, launcher, results, number, out);
+    match answer {
+        Err(fault) => ended(fault_behind(written, fault, out), FAILED),
+        Ok(totals) => match results.finish(number) {
+            Err(fault) => ended(refusal_behind(written, fault, out), FAILED),
+            Ok(()) => {
+                let all = ending_behind(written, totals, words, unmatched, out);
+                ended(all, status_of(totals.bad, unmatched))
+            }
+        },
+    }
+}
+
+/// The command `test`. `file` is the name of the results, which stand open already.
+pub fn test<W: World, R: ResultStore, O: Write>(
+    alloc: Global,
+    options: &CaseOptions,
+    file: &Text,
+    world: &mut W,
+    results: &mut R,
+    out: &mut O,
+) -> Exit
+    requires { IsIdle (W.running world.old) (W.pending world.old) }
+    ensures did { Did W.World R.Keeping (command.Test options.now file.now)
+        (scene world.old results.old (O.contents out.old))
+        (scene world.new results.new (O.contents out.new)) result.status }
+    ensures idle { IsIdle (W.running world.new) (W.pending world.new) }
+{
+    let picked = match select_cases(alloc, false, options, world) {
+        Ok(picked) => picked,
+        Err(fault) => return stopped(&fault, out),
+    };
+    let config = &picked.settings.config;
+    let plan = match prepare(alloc, config, picked.chosen.cases.as_slice(), world) {
+        Ok(plan) => plan,
+        Err(_) => return ended(write_memory(out), FAILED),
+    };
+    let moment = world.now();
+    run_plan(
+        alloc,
+        plan,
+        config.parallelism(),
+        options.filters.as_slice(),
+        picked.chosen.unmatched.as_slice(),
+        moment,
+        world,
+        results,
+        out,
+    )
+}

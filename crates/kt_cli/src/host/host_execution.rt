@@ -1,0 +1,78 @@
+ghost use Rattle.std.specs.Prelude.{◌≡◌, IfOk, IfErr, OnErr};
+ghost use Rattle.kt_sched.specs.Children.{IsIdle};
+ghost use Rattle.kt_child.specs.Driving.ChildrenState.{is_among, shown_at};
+ghost use Rattle.kt_cli.specs.Hosts.{IsMade, NoRoot, OnDriver};
+
+use crate::commands::execution::execute;
+use crate::host::host_world::HostWorld;
+use crate::host::place::source_of;
+use crate::host::runner::Runner;
+use crate::host::surroundings::Surroundings;
+use crate::output::exit::Exit;
+use kt_base::{Text, is_absolute};
+use kt_child::{Driver, DriverFault, Os};
+use kt_plan::CaseOptions;
+use kt_store::ResultStore;
+use kt_suite::split_path;
+use kt_words::Command;
+use std::alloc::Global;
+use std::fs::File;
+use std::io::Write;
+use std::rt::{Clock, Files};
+
+/// Makes the driver of a command over this system. `here` is the absolute working directory.
+fn driver_of<O: Os + Drop>(
+    alloc: Global,
+    os: O,
+    here: &Text,
+    work: &Text,
+    kyuafile: &Text,
+) -> Result<Driver<O>, DriverFault>
+    ensures made { IfOk result (λ driver. IsMade O.Os os here.now work.now kyuafile.now driver) }
+    ensures idle { IfOk result (λ driver. IsIdle (shown_at driver.running.cases)
+        (is_among driver.running.pending)) }
+    ensures refused { IfErr result (λ e. NoRoot O.Os os work.now e) }
+{
+    if !is_absolute(work.as_str()) {
+        return Err(DriverFault::NoWorkDirectory);
+    }
+    let source = source_of(alloc, here.as_str(), kyuafile)?;
+    match Driver::new(alloc, os, work, source) {
+        Ok(driver) => Ok(driver),
+        Err((fault, _)) => Err(fault),
+    }
+}
+
+/// Does a command over test cases of the host and this system, with work directories of its own,
+/// which are removed at the end.
+pub fn execute_over_cases<
+    R: Files<File = File> + Clock + AllocGlobal,
+    O: Os + Drop,
+    S: ResultStore,
+    W: Write,
+>(
+    rt: &R,
+    os: O,
+    around: Surroundings,
+    command: &Command,
+    options: &CaseOptions,
+    results: &mut S,
+    out: &mut W,
+) -> Result<Exit, DriverFault>
+    ensures did { IfOk result (λ exit. OnDriver O.Os os S.Keeping around options.now
+        command.now results.old results.new (W.contents out.old) (W.contents out.new)
+        exit.status) }
+    ensures refused { IfErr result (λ e. NoRoot O.Os os options.now.work e) }
+    ensures unasked { OnErr result
+        ((results.new ≡ results.old) × (W.contents out.new ≡ W.contents out.old)) }
+{
+    let (directory, _) = split_path(rt.alloc(), &options.kyuafile)?;
+    let (work, kyuafile) = (&options.work, &options.kyuafile);
+    let driver = driver_of(rt.alloc(), os, &around.here, work, kyuafile)?;
+    let mut world = HostWorld::new(rt, directory, Runner { driver, around });
+    let exit = execute(rt.alloc(), command, &mut world, results, out);
+    let runner = world.runner;
+    // The root directory goes, whatever was done.
+    let _ = runner.driver.close();
+    Ok(exit)
+}

@@ -1,0 +1,265 @@
+use crate::results::copies::{copy_of_entries, copy_of_entry};
+use kt_base::{Entry, Items, NoMemory, Run};
+use kt_store::{Keeping, ResultStore, RunHead, StoreFault};
+use std::alloc::Global;
+use std::marker::Model;
+use std::mem;
+
+/// The most runs that are recorded.
+const RUN_LIMIT: usize = 1_000_000;
+
+/// Recorded runs in memory. Contracts see their list; a run's number is its place in it, counted
+/// from 1.
+#[derive(Drop)]
+pub struct MemRuns {
+    runs: Vec<Run>,
+    alloc: Global,
+}
+
+impl Model for MemRuns {
+    ghost use Rattle.std.specs.Prelude.{List};
+    ghost use Rattle.kt_base.specs.declared.run.Run.{Run};
+
+    ghost Value = { List Run };
+
+    ghost view = { λ m. m.runs.items };
+}
+
+impl MemRuns {
+    ghost use Rattle.std.specs.Prelude.{◌≡◌, []};
+    ghost use Rattle.kt_store.specs.StoreCalls.{Began, Put, Finished, Heads, Read, seen_as};
+    ghost use Rattle.kt_cli.specs.Inner.MemoryRuns.{FindsPlace, ServesInMemory};
+
+    /// No runs, which take no memory.
+    pub fn new(alloc: Global) -> MemRuns
+        ensures { result ≡ [] }
+    {
+        MemRuns {
+            runs: Vec::new(alloc),
+            alloc,
+        }
+    }
+
+    fn add_run(&mut self, total: u32, moment: u64) -> Result<u64, StoreFault>
+        ensures { ServesInMemory self.old (Began total moment result) self.new }
+    {
+        let count = self.runs.len();
+        if count >= RUN_LIMIT {
+            return Err(StoreFault::StoreFull);
+        }
+        let number = count as u64 + 1;
+        let run = Run {
+            number,
+            started: moment,
+            total,
+            finished: false,
+            entries: Items::new(self.alloc),
+        };
+        match self.runs.push(run) {
+            Ok(()) => Ok(number),
+            Err(refusal) => Err(short(NoMemory::from(refusal))),
+        }
+    }
+
+    /// The place of a run in the list.
+    fn place(&self, number: u64) -> Result<usize, StoreFault>
+        ensures { FindsPlace self.now number result }
+    {
+        if number == 0 || number > self.runs.len() as u64 {
+            return Err(StoreFault::NoRun);
+        }
+        Ok((number - 1) as usize)
+    }
+
+    fn put_entry(&mut self, number: u64, entry: &Entry) -> Result<(), StoreFault>
+        ensures { ServesInMemory self.old (Put number entry.now result) self.new }
+    {
+        let place = self.place(number)?;
+        let alloc = self.alloc;
+        let run = &mut self.runs[place];
+        if let Some(fault) = refused_entry(run, entry.position) {
+            return Err(fault);
+        }
+        if let Err(refusal) = add_copy(alloc, &mut run.entries, entry) {
+            return Err(short(refusal));
+        }
+        Ok(())
+    }
+
+    fn end_run(&mut self, number: u64) -> Result<(), StoreFault>
+        ensures { ServesInMemory self.old (Finished number result) self.new }
+    {
+        let place = self.place(number)?;
+        let run = &mut self.runs[place];
+        if let Some(fault) = refused_end(run) {
+            return Err(fault);
+        }
+        run.finished = true;
+        Ok(())
+    }
+
+    fn entries_of(&self, number: u64) -> Result<Vec<Entry>, StoreFault>
+        ensures { ServesInMemory self.now (Read number (seen_as (λ found. found.items) result))
+            self.now }
+    {
+        let place = self.place(number)?;
+        match copy_of_entries(self.alloc, self.runs[place].entries.as_slice()) {
+            Ok(entries) => Ok(entries),
+            Err(refusal) => Err(short(refusal)),
+        }
+    }
+
+    fn heads(&self) -> Result<Vec<RunHead>, StoreFault>
+        ensures { ServesInMemory self.now (Heads (seen_as (λ heads. heads.items) result)) self.now }
+    {
+        match heads(self.alloc, &self.runs) {
+            Ok(heads) => Ok(heads),
+            Err(refusal) => Err(short(refusal)),
+        }
+    }
+}
+
+impl Keeping for MemRuns {
+    ghost use Rattle.std.specs.Prelude.{◌≡◌, ⊤};
+    ghost use Rattle.kt_store.specs.Runs.{AreNumbered};
+
+    // What each call returns is its own clause.
+    ghost answers = { λ _ _ _. Unit {0} };
+
+    ghost stands = { λ m runs. (m ≡ runs) × AreNumbered 1 runs };
+
+    ghost sound = { λ m. ⊤ };
+
+    // A crash leaves nothing of them, so it leaves no others.
+    ghost leaves = { λ m may. ⊤ };
+
+    ghost numbered = { λ m runs h. h.1 };
+}
+
+impl ResultStore for MemRuns {
+    fn begin(&mut self, total: u32, moment: u64) -> Result<u64, StoreFault> {
+        self.add_run(total, moment)
+    }
+
+    fn put(&mut self, run: u64, entry: &Entry) -> Result<(), StoreFault> {
+        self.put_entry(run, entry)
+    }
+
+    fn finish(&mut self, run: u64) -> Result<(), StoreFault> {
+        self.end_run(run)
+    }
+
+    fn runs(&mut self) -> Result<Vec<RunHead>, StoreFault> {
+        self.heads()
+    }
+
+    fn entries(&mut self, run: u64) -> Result<Vec<Entry>, StoreFault> {
+        self.entries_of(run)
+    }
+}
+
+ghost use Rattle.std.specs.Prelude.{◌≡◌, ◌≤◌, length, map, insert, OnOk, OnErr, IfOk};
+ghost use Rattle.kt_store.specs.Ask.{IsStoreFault};
+ghost use Rattle.kt_store.specs.Heads.{head_of};
+ghost use Rattle.kt_store.specs.Runs.{has_position, insert_at};
+ghost use Rattle.kt_cli.specs.Inner.MemoryRuns.{entry_refusal, closing_refusal, place_among};
+
+/// Memory ran out.
+fn short(refusal: NoMemory) -> StoreFault
+    ensures { IsStoreFault result }
+{
+    StoreFault::from(refusal)
+}
+
+fn head(run: &Run) -> RunHead
+    ensures { result ≡ head_of run.now }
+{
+    RunHead {
+        number: run.number,
+        started: run.started,
+        total: run.total,
+        finished: run.finished,
+    }
+}
+
+fn heads(alloc: Global, runs: &[Run]) -> Result<Vec<RunHead>, NoMemory>
+    ensures { IfOk result (λ heads. heads.items ≡ map head_of runs.now) }
+{
+    let mut heads = Vec::new(alloc);
+    for run in runs {
+        heads.push(head(run))?;
+    }
+    Ok(heads)
+}
+
+/// How many entries stand before one at this position.
+fn place_among(entries: &[Entry], position: u32) -> usize
+    ensures { result ≡ place_among position entries.now }
+{
+    let mut place = 0;
+    for entry in entries {
+        if position < entry.position {
+            return place;
+        }
+        place += 1;
+    }
+    place
+}
+
+/// Adds an entry at its position.
+fn insert_entry(alloc: Global, entries: &mut Items<Entry>, entry: Entry) -> Result<(), NoMemory>
+    ensures ok { OnOk result (entries.new ≡ insert_at entry entries.old) }
+    ensures err { OnErr result (entries.new ≡ entries.old) }
+{
+    let mut kept = mem::replace(entries, Items::new(alloc)).into_vec();
+    let place = place_among(&kept, entry.position);
+    let inserted = kept.insert(place, entry);
+    *entries = Items::from_vec(kept);
+    inserted?;
+    Ok(())
+}
+
+/// Adds a copy of an entry at its position.
+fn add_copy(alloc: Global, entries: &mut Items<Entry>, entry: &Entry) -> Result<(), NoMemory>
+    ensures ok { OnOk result (entries.new ≡ insert_at entry.now entries.old) }
+    ensures err { OnErr result (entries.new ≡ entries.old) }
+{
+    let copy = copy_of_entry(alloc, entry)?;
+    insert_entry(alloc, entries, copy)?;
+    Ok(())
+}
+
+fn has_position(entries: &[Entry], position: u32) -> bool
+    ensures { result ≡ has_position position entries.now }
+{
+    entries.iter().any(|x| x.position == position)
+}
+
+/// Why an entry at this position may not be put into a run.
+fn refused_entry(run: &Run, position: u32) -> Option<StoreFault>
+    ensures { result ≡ entry_refusal run.now position }
+{
+    if run.finished {
+        return Some(StoreFault::RunClosed);
+    }
+    if run.total <= position {
+        return Some(StoreFault::BadPosition);
+    }
+    if has_position(run.entries.as_slice(), position) {
+        return Some(StoreFault::RepeatedPosition);
+    }
+    None
+}
+
+/// Why a run may not be finished.
+fn refused_end(run: &Run) -> Option<StoreFault>
+    ensures { result ≡ closing_refusal run.now }
+{
+    if run.finished {
+        return Some(StoreFault::RunClosed);
+    }
+    if run.entries.len() < run.total as usize {
+        return Some(StoreFault::Incomplete);
+    }
+    None
+}

@@ -1,7 +1,0 @@
-use Rattle.std.proofs.Common.{◌≡◌, drop}
-use Rattle.kt_plan.specs.Configuring.{behind, filters_of}
-use Rattle.kt_plan.proofs.case_filters.parse_filters.Given as goal
-
--- the words before the rest are read
-abbrev pub invariant-loop-word : goal.invariant-loop-word
-invariant-loop-word l = filters_of l.words ≡ behind l.filters (filters_of (drop l.word-index l.words))

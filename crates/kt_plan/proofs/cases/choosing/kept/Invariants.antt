@@ -1,0 +1,13 @@
+use Rattle.std.proofs.Common.{◌≡◌, ◌++◌, ◌+◌, ◌≤◌, List, length}
+use Rattle.kt_suite.specs.declared.filter.Filter.{Filter}
+use Rattle.kt_plan.specs.Collecting.{selected_cases}
+use Rattle.kt_plan.specs.Inner.Picks.{places_from}
+use Rattle.kt_plan.proofs.cases.choosing.kept.Given as goal
+
+-- the cases so far, and the selected ones of the rest, are the selected ones of all; the places left are those of the rest
+abbrev pub invariant-loop-candidate : goal.invariant-loop-candidate
+invariant-loop-candidate l = record {
+  room : l.place + length l.candidate-iterator.rest.items ≤ 100000;
+  rest : (filters : List Filter) → l.places ≡ places_from filters 0 l.fn.found
+      → (l.rest ≡ places_from filters l.place l.candidate-iterator.rest.items) × (l.cases ++ selected_cases filters l.candidate-iterator.rest.items ≡ selected_cases filters l.fn.found);
+}

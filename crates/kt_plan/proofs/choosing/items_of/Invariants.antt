@@ -1,7 +1,0 @@
-use Rattle.std.proofs.Common.{◌≡◌, ◌++◌, drop, map}
-use Rattle.kt_plan.specs.Collecting.{item_of}
-use Rattle.kt_plan.proofs.choosing.items_of.Given as goal
-
--- the items so far, and those of the rest, are those of all
-abbrev pub invariant-loop-candidate : goal.invariant-loop-candidate
-invariant-loop-candidate l = l.items.items ++ map item_of (drop l.candidate-index l.candidates) ≡ map item_of l.candidates

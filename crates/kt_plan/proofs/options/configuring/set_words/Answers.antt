@@ -1,0 +1,10 @@
+use Rattle.std.proofs.Common.{◌≡◌, ◌∷◌, ◌+◌, drop, rules, arith}
+use Rattle.std.proofs.lemmas.Grind.{common_steps}
+use Rattle.kt_plan.proofs.Configurations.{one_set}
+use Rattle.kt_plan.proofs.options.configuring.set_words.Goals as goal
+
+pub loop-word-preserved : goal.loop-word-preserved
+loop-word-preserved c =
+    let i = c.loop-word.word-index in
+    let parts : drop i c.args.words.now ≡ c.word-item.result ∷ drop (i + 1) c.args.words.now = grind (arith, common_steps) in
+    one_set c.args.config c.loop-word.config c.in-Ok.next c.args.words.now (drop i c.args.words.now) (drop (i + 1) c.args.words.now) c.word-item.result c.loop-word.invariant parts (search rules)

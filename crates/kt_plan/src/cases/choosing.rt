@@ -1,0 +1,99 @@
+ghost use Rattle.std.specs.Prelude.{◌≡◌, ◌≤◌, ◌<◌, ◌+◌, ◌⊎◌, ◌∷◌, ◌++◌, List, length, map, IfOk, IfErr, OnOk};
+ghost use Rattle.kt_suite.specs.declared.filter.Filter.{Filter};
+ghost use Rattle.kt_suite.specs.Selecting.{most_items};
+ghost use Rattle.kt_plan.specs.declared.cases.candidate.Candidate.{Candidate};
+ghost use Rattle.kt_plan.specs.declared.stop.Stop.TheVariants as stop;
+ghost use Rattle.kt_plan.specs.Collecting.{item_of, selected_cases, chosen_of};
+ghost use Rattle.kt_plan.specs.Inner.Picks.{places_from};
+ghost use Rattle.kt_plan.specs.Stops.{RanOut};
+
+use crate::cases::candidate::Candidate;
+use crate::cases::chosen::Chosen;
+use crate::stop::Stop;
+use kt_base::{Items, NoMemory};
+use kt_suite::{Filter, Item, SelectFault, select};
+use std::alloc::Global;
+
+/// A case as filters see it.
+fn item_of(candidate: &Candidate) -> Result<Item, NoMemory>
+    ensures { IfOk result (λ item. item ≡ item_of candidate.now) }
+{
+    Ok(Item {
+        path: candidate.path.copy()?,
+        case_name: candidate.case.name.copy()?,
+    })
+}
+
+fn items_of(alloc: Global, candidates: &[Candidate]) -> Result<Vec<Item>, NoMemory>
+    ensures { IfOk result (λ items. items.items ≡ map item_of candidates.now) }
+{
+    let mut items = Vec::new(alloc);
+    for candidate in candidates {
+        items.push(item_of(candidate)?)?;
+    }
+    Ok(items)
+}
+
+/// Appends a case if the first of these places is its own, and returns the places that are left.
+fn keep<'a>(
+    cases: &mut Items<Candidate>,
+    candidate: Candidate,
+    place: usize,
+    places: &'a [usize],
+) -> Result<&'a [usize], NoMemory>
+    ensures { (filters : List Filter) → (rest : List Candidate)
+        → places.now ≡ places_from filters place (candidate ∷ rest)
+        → IfOk result (λ after. (after.now ≡ places_from filters (place + 1) rest)
+        × (cases.new ++ selected_cases filters rest
+        ≡ cases.old ++ selected_cases filters (candidate ∷ rest))) }
+{
+    let Some((first, after)) = places.split_first() else {
+        return Ok(places);
+    };
+    if *first != place {
+        return Ok(places);
+    }
+    cases.push(candidate)?;
+    Ok(after)
+}
+
+/// The selected cases, by their places.
+fn kept(
+    alloc: Global,
+    found: Items<Candidate>,
+    places: &[usize],
+) -> Result<Items<Candidate>, NoMemory>
+    requires { length found ≤ most_items }
+    ensures { (filters : List Filter) → places.now ≡ places_from filters 0 found
+        → IfOk result (λ cases. cases ≡ selected_cases filters found) }
+{
+    let mut cases = Items::new(alloc);
+    let mut place = 0;
+    let mut rest = places;
+    for candidate in found.into_vec() {
+        rest = keep(&mut cases, candidate, place, rest)?;
+        place += 1;
+    }
+    Ok(cases)
+}
+
+/// What filters select of some cases.
+pub fn choose(alloc: Global, filters: &[Filter], found: Items<Candidate>) -> Result<Chosen, Stop>
+    ensures chosen { IfOk result (λ chosen. chosen ≡ chosen_of filters.now found) }
+    ensures few { OnOk result (length found ≤ most_items) }
+    ensures stopped { IfErr result (λ fault. RanOut fault
+        ⊎ ((fault ≡ stop.TooManyCases) × (most_items < length found))) }
+{
+    let items = items_of(alloc, found.as_slice())?;
+    match select(alloc, items.as_slice(), filters) {
+        Err(SelectFault::NoMemory(refusal)) => Err(Stop::NoMemory(refusal)),
+        Err(SelectFault::TooMany) => Err(Stop::TooManyCases),
+        Ok(selection) => {
+            let cases = kept(alloc, found, selection.cases.as_slice())?;
+            Ok(Chosen {
+                cases,
+                unmatched: Items::from_vec(selection.unmatched),
+            })
+        }
+    }
+}

@@ -1,0 +1,111 @@
+ghost use Rattle.std.specs.Prelude.{◌≡◌, ◌++◌, ◌∷◌, [], IfOk, OnOk, MatchResult};
+ghost use Rattle.kt_sched.specs.Children.{IsIdle};
+ghost use Rattle.kt_suite.specs.Answers.{Answered};
+ghost use Rattle.kt_plan.specs.Inner.Collecting.{ListsFirst};
+ghost use Rattle.kt_plan.specs.Collecting.{candidate_of, candidates_of, ListsCases, Offers, OffersFirst, OffersOne};
+
+use crate::cases::candidate::Candidate;
+use crate::cases::wanted::is_wanted;
+use crate::options::settings::Settings;
+use crate::options::suite_vars::variables_for;
+use crate::world::World;
+use kt_atflist::{CaseDef, cases};
+use kt_base::{Interface, Items, NoMemory};
+use kt_config::Config;
+use kt_suite::Program;
+use std::alloc::Global;
+
+/// The cases that an ATF program lists, given the variables of its suite.
+fn listed_cases<W: World>(
+    alloc: Global,
+    config: &Config,
+    program: &Program,
+    world: &mut W,
+) -> Result<Items<CaseDef>, NoMemory>
+    requires { IsIdle (W.running world.old) (W.pending world.old) }
+    ensures offers { Answered W.tells world.old world.new (λ told. MatchResult result
+        (ListsCases config.now program.now told)
+        (λ _. ListsFirst config.now program.now told)) }
+    ensures idle { IsIdle (W.running world.new) (W.pending world.new) }
+{
+    let variables = variables_for(alloc, config, &program.suite)?;
+    let listing = Some(world.list(program, &variables));
+    let found = cases(alloc, Interface::Atf, &program.props, &listing)?;
+    Ok(found)
+}
+
+/// The cases of a program. An ATF program is asked for its list if its cases are wanted, and else has none.
+fn own_cases<W: World>(
+    alloc: Global,
+    settings: &Settings,
+    program: &Program,
+    world: &mut W,
+) -> Result<Items<CaseDef>, NoMemory>
+    requires { IsIdle (W.running world.old) (W.pending world.old) }
+    ensures offers { Answered W.tells world.old world.new (λ told. MatchResult result
+        (λ cases. OffersOne settings.now.config settings.now.filters program.now told
+        (candidates_of program.now cases))
+        (λ _. OffersFirst settings.now.config settings.now.filters (program.now ∷ []) told)) }
+    ensures idle { IsIdle (W.running world.new) (W.pending world.new) }
+{
+    match program.interface {
+        Interface::Atf => {
+            if !is_wanted(settings.filters.as_slice(), program) {
+                return Ok(Items::new(alloc));
+            }
+            let found = listed_cases(alloc, &settings.config, program, world)?;
+            Ok(found)
+        }
+        other => {
+            let found = cases(alloc, other, &program.props, &None)?;
+            Ok(found)
+        }
+    }
+}
+
+/// A case of a program, with memory of its own.
+fn candidate_of(program: &Program, case: CaseDef) -> Result<Candidate, NoMemory>
+    ensures { IfOk result (λ candidate. candidate ≡ candidate_of program.now case) }
+{
+    Ok(Candidate {
+        interface: program.interface,
+        path: program.path.copy()?,
+        suite: program.suite.copy()?,
+        case,
+    })
+}
+
+/// Appends the cases of a program.
+fn add_candidates(
+    program: &Program,
+    cases: Items<CaseDef>,
+    found: &mut Items<Candidate>,
+) -> Result<(), NoMemory>
+    ensures { OnOk result (found.new ≡ found.old ++ candidates_of program.now cases) }
+{
+    for case in cases.into_vec() {
+        found.push(candidate_of(program, case)?)?;
+    }
+    Ok(())
+}
+
+/// The cases of some programs, in their order. Each list is asked for while nothing runs.
+pub fn offered<W: World>(
+    alloc: Global,
+    settings: &Settings,
+    programs: &[Program],
+    world: &mut W,
+) -> Result<Items<Candidate>, NoMemory>
+    requires { IsIdle (W.running world.old) (W.pending world.old) }
+    ensures offers { Answered W.tells world.old world.new (λ told. MatchResult result
+        (Offers settings.now.config settings.now.filters programs.now told)
+        (λ _. OffersFirst settings.now.config settings.now.filters programs.now told)) }
+    ensures idle { IsIdle (W.running world.new) (W.pending world.new) }
+{
+    let mut found = Items::new(alloc);
+    for program in programs {
+        let cases = own_cases(alloc, settings, program, world)?;
+        add_candidates(program, cases, &mut found)?;
+    }
+    Ok(found)
+}

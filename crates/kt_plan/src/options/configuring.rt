@@ -1,0 +1,104 @@
+ghost use Rattle.std.specs.Prelude.{◌≡◌, Some, IfOk};
+ghost use Rattle.kt_sched.specs.Children.{IsIdle};
+ghost use Rattle.kt_suite.specs.Answers.{Answered};
+ghost use Rattle.kt_plan.specs.Inner.Configuring.{unread_stop, Configured, GivesMore, OrShort, SettlesOrShort};
+ghost use Rattle.kt_plan.specs.Configuring.{words_meaning, Configures, IsConfiguration, ReadsConfig};
+
+use crate::options::case_filters::read_filters;
+use crate::options::case_options::CaseOptions;
+use crate::options::settings::Settings;
+use crate::options::variable_word::set_word;
+use crate::stop::Stop;
+use crate::world::World;
+use kt_base::{NoMemory, Text};
+use kt_config::{Config, ConfigFault};
+use kt_suite::ReadFault;
+use std::alloc::Global;
+
+/// The configuration that the bytes of a file spell.
+fn config_of(alloc: Global, bytes: &[u8]) -> Result<Result<Config, Stop>, NoMemory>
+    ensures { IfOk result (Configured (IsConfiguration bytes.now)) }
+{
+    match Config::read(alloc, bytes) {
+        Ok(config) => Ok(Ok(config)),
+        Err(ConfigFault::NoMemory(refusal)) => Err(refusal),
+        Err(fault) => Ok(Err(Stop::Configuration(fault))),
+    }
+}
+
+/// Why a command stops whose configuration file can't be read.
+fn unread_stop(fault: ReadFault) -> Stop
+    ensures { result ≡ unread_stop fault }
+{
+    match fault {
+        ReadFault::Memory(refusal) => Stop::NoMemory(refusal),
+        ReadFault::Missing | ReadFault::Failed => Stop::UnreadConfiguration,
+    }
+}
+
+/// Reads the configuration file.
+fn read_config<W: World>(alloc: Global, path: &Text, world: &mut W) -> Result<Config, Stop>
+    ensures { Answered W.tells world.old world.new (λ told. OrShort result (Some path.now) told
+        (Configured (ReadsConfig (Some path.now) told) result)) }
+{
+    match world.config(path) {
+        Ok(bytes) => config_of(alloc, bytes.as_slice())?,
+        Err(fault) => Err(unread_stop(fault)),
+    }
+}
+
+/// Reads the configuration file, if one is given.
+fn config_given<W: World>(alloc: Global, path: &Option<Text>, world: &mut W) -> Result<Config, Stop>
+    ensures { Answered W.tells world.old world.new (λ told. OrShort result path.now told
+        (Configured (ReadsConfig path.now told) result)) }
+{
+    match path {
+        None => Ok(Config::new(alloc)),
+        Some(path) => read_config(alloc, path, world),
+    }
+}
+
+/// Sets what the words of `-v` define, in order, up to the first that is wrong.
+fn set_words(
+    alloc: Global,
+    config: Config,
+    words: &[Text],
+) -> Result<Result<Config, Stop>, NoMemory>
+    ensures { IfOk result (λ outcome. GivesMore config outcome (words_meaning words.now)) }
+{
+    let mut config = config;
+    for word in words {
+        config = match set_word(alloc, config, word)? {
+            Ok(next) => next,
+            Err(fault) => return Ok(Err(fault)),
+        };
+    }
+    Ok(Ok(config))
+}
+
+/// The configuration of a command: its file, and then the words of `-v`.
+fn configure<W: World>(alloc: Global, options: &CaseOptions, world: &mut W) -> Result<Config, Stop>
+    ensures { Answered W.tells world.old world.new (λ told. OrShort result options.now.config told
+        (Configured (Configures options.now told) result)) }
+{
+    let config = config_given(alloc, &options.config, world)?;
+    set_words(alloc, config, options.variables.as_slice())?
+}
+
+/// Reads what a command over test cases is configured with, and its filters. The first fault stops the command: of the
+/// configuration file, of the words of `-v`, of a filter, of the filters together, and that `debug` needs one case.
+pub fn settle<W: World>(
+    alloc: Global,
+    needs_case: bool,
+    options: &CaseOptions,
+    world: &mut W,
+) -> Result<Settings, Stop>
+    requires { IsIdle (W.running world.old) (W.pending world.old) }
+    ensures settled { Answered W.tells world.old world.new
+        (λ told. SettlesOrShort needs_case options.now told result) }
+    ensures idle { IsIdle (W.running world.new) (W.pending world.new) }
+{
+    let config = configure(alloc, options, world)?;
+    let filters = read_filters(alloc, needs_case, options.filters.as_slice())?;
+    Ok(Settings { config, filters })
+}

@@ -1,0 +1,8 @@
+//! The settings of a command over test cases, by its options and its configuration.
+
+pub(crate) mod case_filters;
+pub(crate) mod case_options;
+pub(crate) mod configuring;
+pub(crate) mod settings;
+pub(crate) mod suite_vars;
+pub(crate) mod variable_word;

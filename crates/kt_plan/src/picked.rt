@@ -1,9 +1,0 @@
-use crate::chosen::Chosen;
-use crate::settings::Settings;
-
-/// What a command over test cases is configured with, and the cases that it selects.
-#[derive(Drop)]
-pub struct Picked {
-    pub settings: Settings,
-    pub chosen: Chosen,
-}

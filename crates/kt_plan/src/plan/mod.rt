@@ -1,0 +1,6 @@
+//! The plan of the selected cases, with what the host was asked for it.
+
+pub(crate) mod looking;
+pub(crate) mod planning;
+pub(crate) mod preparing;
+pub(crate) mod surveying;

@@ -1,0 +1,105 @@
+ghost use Rattle.std.specs.Prelude.{◌≡◌, ◌≤◌, ◌&&◌, length, IfOk};
+ghost use Rattle.kt_metadata.specs.Requirements.{first_reason, rows};
+ghost use Rattle.kt_sched.specs.Plan.{IsFit, IsPlan};
+ghost use Rattle.kt_suite.specs.Selecting.{most_items};
+ghost use Rattle.kt_plan.specs.Planning.{is_atf, ArePlanned, IsDecided, IsJobOf};
+
+use crate::cases::candidate::Candidate;
+use crate::options::suite_vars::variables_for;
+use kt_base::{Interface, Items, NoMemory, Reason, Verdict};
+use kt_config::Config;
+use kt_metadata::{Host, Meta, unmet};
+use kt_sched::Job;
+use std::alloc::Global;
+
+/// An equal reason with memory of its own.
+fn copy_of_reason(reason: &Reason) -> Result<Reason, NoMemory>
+    ensures { IfOk result (λ copy. copy ≡ reason.now) }
+{
+    match reason {
+        Reason::Nothing => Ok(Reason::Nothing),
+        Reason::Fixed(phrase) => Ok(Reason::Fixed(*phrase)),
+        Reason::Ended(phrase, outcome) => Ok(Reason::Ended(*phrase, *outcome)),
+        Reason::Counted(phrase, m, n) => Ok(Reason::Counted(*phrase, *m, *n)),
+        Reason::Owned(text) => Ok(Reason::Owned(text.copy()?)),
+    }
+}
+
+/// Whether a case declares a cleanup, which cases of ATF programs alone may have.
+fn declares_cleanup(interface: Interface, meta: &Meta) -> bool
+    ensures { result ≡ (is_atf interface && meta.now.has_cleanup) }
+{
+    match interface {
+        Interface::Atf => meta.has_cleanup,
+        Interface::Tap | Interface::Plain => false,
+    }
+}
+
+/// The verdict of a case that isn't to be started: its list has a fault, or else a requirement
+/// isn't met.
+fn decided(
+    alloc: Global,
+    candidate: &Candidate,
+    meta: &Meta,
+    config: &Config,
+    host: &Host,
+) -> Result<Option<Verdict>, NoMemory>
+    ensures { IfOk result (λ decided. IsDecided candidate.now.case.fault
+        (first_reason (rows meta.now config.now candidate.now.suite host.now)) decided) }
+{
+    if let Some(reason) = &candidate.case.fault {
+        return Ok(Some(Verdict::broken(copy_of_reason(reason)?)));
+    }
+    match unmet(alloc, meta, config, &candidate.suite, host)? {
+        Some(reason) => Ok(Some(Verdict::skipped(reason))),
+        None => Ok(None),
+    }
+}
+
+/// The job of a case at a position.
+fn job_at(
+    alloc: Global,
+    config: &Config,
+    host: &Host,
+    position: u32,
+    candidate: &Candidate,
+) -> Result<Job, NoMemory>
+    ensures is { IfOk result (λ job. IsJobOf config.now host.now position candidate.now job) }
+    ensures fit { IfOk result (λ job. IsFit job) }
+{
+    let meta = candidate.case.props.effective()?;
+    let decided = decided(alloc, candidate, &meta, config, host)?;
+    Ok(Job {
+        position,
+        interface: candidate.interface,
+        program: candidate.path.copy()?,
+        case_name: candidate.case.name.copy()?,
+        vars: variables_for(alloc, config, &candidate.suite)?,
+        timeout: meta.timeout,
+        exclusive: meta.is_exclusive,
+        cleanup: declares_cleanup(candidate.interface, &meta),
+        decided,
+        meta: candidate.case.props.listing()?,
+    })
+}
+
+/// The plan of some cases, at most 100,000: one job a case, in order. A case whose list has a fault
+/// is broken before it is started, and one with an unmet requirement is skipped.
+pub fn make_plan(
+    alloc: Global,
+    config: &Config,
+    host: &Host,
+    cases: &[Candidate],
+) -> Result<Items<Job>, NoMemory>
+    requires { length cases.now ≤ most_items }
+    ensures planned { IfOk result (λ plan. ArePlanned config.now host.now 0 cases.now plan) }
+    ensures plan { IfOk result (λ plan. IsPlan plan × (length plan ≡ length cases.now)) }
+{
+    let mut plan = Items::new(alloc);
+    let mut position: u32 = 0;
+    for candidate in cases {
+        plan.push(job_at(alloc, config, host, position, candidate)?)?;
+        position += 1;
+    }
+    Ok(plan)
+}
