@@ -1,7 +1,14 @@
 -- What the program has around its commands.
-use Rattle.std.specs.Prelude.{ℕ, List, Result}
+use Rattle.std.specs.Prelude.{ℕ, ◌⊎◌, ◌≡◌, List, Result, Ok, Err, ⊤}
+use Rattle.sqlite_disk.specs.declared.Disk as disk
+use Rattle.sqlite_store.specs.declared.store.FileStore.{FileStore}
+use Rattle.sqlite_wal.specs.Recovery.{Image}
+use Rattle.sqlite.specs.Held.{Held}
 use Rattle.kt_child.specs.declared.driving.driver_fault.DriverFault.{DriverFault}
+use Rattle.kt_store.specs.Ask.{IsStoreFault}
+use Rattle.kt_store.specs.Files.{AreOver, IsClosed}
 use Rattle.kt_store.specs.declared.store_fault.StoreFault.{StoreFault}
+use Rattle.kt_store.specs.declared.store_fault.StoreFault.TheVariants.{UnknownSchema}
 use Rattle.kt_cli.specs.declared.host.surroundings.Surroundings.{Surroundings}
 
 -- what a platform was asked for, with its answer: to open the results in a file, to close them, and what is found around the process
@@ -9,3 +16,12 @@ pub data Provided (S : Type 0) : Type 0 where
   Opened : (file : List ℕ) (answer : Result S StoreFault) → Provided S
   Closed : (results : S) (answer : Result (Unit {0}) StoreFault) → Provided S
   Found : (answer : Result Surroundings DriverFault) → Provided S
+
+-- what a platform does whose results are in a file that held this: opened results are those of its database, as `attach` takes them, and closed
+-- ones are in the database file alone
+abbrev pub InFiles : {D : Type 0} {g : disk.Ghosts D} → Image → Provided (Held (FileStore D g)) → Type 0
+InFiles image (Opened file (Ok results)) = AreOver image results
+InFiles image (Opened file (Err fault)) = IsStoreFault fault ⊎ (fault ≡ UnknownSchema)
+InFiles image (Closed results (Ok done)) = IsClosed results
+InFiles image (Closed results (Err fault)) = IsStoreFault fault
+InFiles image (Found answer) = ⊤

@@ -22,8 +22,8 @@ fn pieces_of(alloc: Global, row: &Row<'_>) -> Result<Vec<Vec<u8>>, RowFault> {
 }
 
 /// Gives pieces to lines before a writer, also behind a failure, and perhaps flushes them: whether all went well.
-fn given<W: Write>(out: &mut W, pieces: &[Vec<u8>], flushes: bool) -> bool {
-    let mut lines = LineOutput::new(out);
+fn given<W: Write>(out: &mut W, pieces: &[Vec<u8>], by_line: bool, flushes: bool) -> bool {
+    let mut lines = LineOutput::new(out, by_line);
     let mut well = true;
     for piece in pieces {
         if emit(piece.as_slice(), &mut lines).is_err() {
@@ -40,7 +40,7 @@ fn given<W: Write>(out: &mut W, pieces: &[Vec<u8>], flushes: bool) -> bool {
 /// most.
 fn flushed(alloc: Global, pieces: &[Vec<u8>], at_most: usize) -> Result<String, RowFault> {
     let mut whole = writer(alloc, at_most, 0, WriteFault::Broken);
-    let well = given(&mut whole, pieces, true);
+    let well = given(&mut whole, pieces, true, true);
     let mut out = String::from_utf8_lossy(alloc, whole.kept()?)?;
     if !well {
         push_line(&mut out, "failed")?;
@@ -48,7 +48,7 @@ fn flushed(alloc: Global, pieces: &[Vec<u8>], at_most: usize) -> Result<String, 
     for before in 0..whole.writes {
         for fault in &FAULTS {
             let mut cut = writer(alloc, at_most, before + 1, *fault);
-            let well = given(&mut cut, pieces, true);
+            let well = given(&mut cut, pieces, true, true);
             if let Some(what) = wrong(whole.kept()?, &cut, well)? {
                 push_line(&mut out, what)?;
             }
@@ -57,12 +57,13 @@ fn flushed(alloc: Global, pieces: &[Vec<u8>], at_most: usize) -> Result<String, 
     Ok(out)
 }
 
-/// What is written of pieces; with `unflushed` before the flush.
+/// What is written of pieces; with `unflushed` before the flush, and with `held` too if lines are held.
 pub fn answer(alloc: Global, row: &Row<'_>) -> Result<String, RowFault> {
     let pieces = pieces_of(alloc, row)?;
     if row.text("unflushed").is_some() {
         let mut out = writer(alloc, usize::MAX, 0, WriteFault::Broken);
-        given(&mut out, pieces.as_slice(), false);
+        let by_line = row.text("held").is_none();
+        given(&mut out, pieces.as_slice(), by_line, false);
         return Ok(String::from_utf8_lossy(alloc, out.kept()?)?);
     }
     let at_most = number(row.text("takes").unwrap_or("4096"))? as usize;

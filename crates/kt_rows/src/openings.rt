@@ -72,7 +72,7 @@ fn carried<R: Files<File = File> + Clock + AllocGlobal, W: Write, E: Write>(
     errors: &mut E,
 ) -> u8 {
     let os = ScriptedSystem::new(rt.alloc(), scene);
-    let mut lines = LineOutput::new(out);
+    let mut lines = LineOutput::new(out, true);
     carry_out(rt, os, platform, command, &mut lines, errors).status
 }
 

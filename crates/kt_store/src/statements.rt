@@ -8,13 +8,17 @@ ghost use Rattle.kt_store.specs.Inner.Kept.{CommitsNothing};
 ghost use Rattle.kt_store.specs.Inner.Ask.{Asked, MayShow, MayTell, Told};
 ghost use Rattle.kt_store.specs.Inner.Transactions.{Commits, MayCommit, Undoes};
 ghost use Rattle.kt_store.specs.Ask.{Rests, IsNoMemory, IsStoreFault};
+ghost use Rattle.sqlite_wal.specs.Files.{image_at};
+ghost use Rattle.kt_store.specs.Files.{IsOver, IsClosed};
 ghost use Rattle.kt_store.specs.Stands.{IsUnderstood};
 
 use crate::batch::Batch;
 use crate::store_fault::StoreFault;
 use kt_base::{NoMemory, Text};
 use sqlite::types::FromSql;
-use sqlite::{Alter, Connection, Error as SqlError, ErrorCode, File, FileStore, Row, Transaction};
+use sqlite::{
+    Alter, Connection, Error as SqlError, ErrorCode, FileFrom, FileStore, Row, Start, Transaction,
+};
 use sqlite_value::value::ValueRef;
 
 /// Memory ran out. Only a refusal of the allocator, or of SQLite, makes this value.
@@ -193,23 +197,34 @@ pub(crate) fn commit<S: Alter, B: Batch>(
 }
 
 /// Opens the database in a file, which is made where there is none.
-pub fn open_file(rt: &HostRuntime, file: &Text) -> Result<Connection<FileStore<File>>, StoreFault>
-    ensures { IfErr result IsStoreFault }
+pub(crate) fn open_file<S: Start>(
+    rt: &HostRuntime,
+    file: &Text,
+    start: S,
+) -> Result<Connection<FileStore<FileFrom<S>>>, StoreFault>
+    ensures opened { IfOk result (IsOver (image_at S.Start)) }
+    ensures failed { IfErr result IsStoreFault }
 {
-    match Connection::open(rt, file.as_str()) {
+    match Connection::open_from(rt, file.as_str(), false, start) {
         Ok(connection) => Ok(connection),
-        Err(error) => Err(fault_of(error)),
+        Err((error, _left)) => Err(fault_of(error)),
     }
 }
 
 /// Closes a database. Afterwards the file alone has all; after an error it stands in the file and in
 /// its log.
-pub fn close_file(connection: Connection<FileStore<File>>) -> Result<(), StoreFault>
-    ensures { IfErr result IsStoreFault }
+pub(crate) fn close_file<S: Start>(
+    connection: Connection<FileStore<FileFrom<S>>>,
+) -> Result<(), StoreFault>
+    ensures closed { OnOk result (IsClosed connection) }
+    ensures failed { IfErr result IsStoreFault }
 {
-    match connection.close() {
-        Ok(()) => Ok(()),
-        Err(error) => Err(fault_of(error)),
+    match connection.close_files() {
+        Ok(_files) => Ok(()),
+        Err((error, store)) => {
+            drop(store.close());
+            Err(fault_of(error))
+        }
     }
 }
 

@@ -4,36 +4,48 @@
 use kt_base::Text;
 use kt_child::{DriverFault, HostOs};
 use kt_cli::{LineOutput, Platform, Surroundings, carry_out, prepare_results};
-use kt_store::{Results, StoreFault, close_file, open_file};
-use kt_words::read_words;
-use sqlite::{File as StoreFile, FileStore};
+use kt_store::{Results, StoreFault};
+use kt_words::{Command, read_words};
+use sqlite::{FileFrom, FileStore, Start, Unknown};
+use std::marker::PhantomData;
 use std::process::ExitCode;
 use std::{env, io};
 
-/// The host: results are kept in files of SQLite.
-#[derive(Drop)]
-struct Host<'a> {
-    rt: &'a HostRuntime,
+/// What the files held, for contracts: no code reads it.
+trait Past: Start {
+    fn unread() -> Self;
 }
 
-impl Platform for Host<'_> {
-    type Results = Results<FileStore<StoreFile>>;
+impl Past for Unknown {
+    fn unread() -> Unknown {
+        Unknown
+    }
+}
 
-    // What real files hold is not said.
-    ghost provides = { λ _ _ _. Unit {0} };
+/// The host: results are kept in files of SQLite, which held `S` at first.
+#[derive(Drop)]
+struct Host<'a, S> {
+    rt: &'a HostRuntime,
+    past: PhantomData<S>,
+}
 
-    fn open(&mut self, file: &Text) -> Result<Results<FileStore<StoreFile>>, StoreFault> {
+impl<S: Past> Platform for Host<'_, S> {
+    ghost use Rattle.sqlite_wal.specs.Files.{image_at};
+    ghost use Rattle.kt_cli.specs.Platforms.{InFiles};
+
+    type Results = Results<FileStore<FileFrom<S>>>;
+
+    ghost provides = { λ _ asked _. InFiles (image_at S.Start) asked };
+
+    fn open(&mut self, file: &Text) -> Result<Results<FileStore<FileFrom<S>>>, StoreFault> {
         prepare_results(self.rt, file);
-        let connection = open_file(self.rt, file)?;
-        match Results::attach(self.rt.alloc(), connection) {
-            Ok(results) => Ok(results),
-            Err((fault, _)) => Err(fault),
-        }
+        let results = Results::open(self.rt, file, S::unread())?;
+        Ok(results)
     }
 
-    fn close(&mut self, results: Results<FileStore<StoreFile>>) -> Result<(), StoreFault> {
+    fn close(&mut self, results: Results<FileStore<FileFrom<S>>>) -> Result<(), StoreFault> {
         // The log is copied into the file, so that the file alone has every run.
-        close_file(results.detach())?;
+        results.close()?;
         Ok(())
     }
 
@@ -42,17 +54,24 @@ impl Platform for Host<'_> {
     }
 }
 
-fn main(rt: HostRuntime) -> ExitCode {
-    let command = read_words(rt.alloc(), env::args(&rt));
-    let mut host = Host { rt: &rt };
-    let mut out = LineOutput::new(io::writer(&rt));
+/// The program, whatever `S` the files of results held.
+fn run<S: Past>(rt: &HostRuntime, past: PhantomData<S>) -> ExitCode {
+    let command = read_words(rt.alloc(), env::args(rt));
+    let mut host = Host { rt, past };
+    // The line of a case is seen when the case is over.
+    let by_line = matches!(command, Ok(Command::Test { .. }));
+    let mut out = LineOutput::new(io::writer(rt), by_line);
     let exit = carry_out(
-        &rt,
-        HostOs::new(&rt),
+        rt,
+        HostOs::new(rt),
         &mut host,
         command,
         &mut out,
         &mut rt.stderr(),
     );
     ExitCode::from(exit.status)
+}
+
+fn main(rt: HostRuntime) -> ExitCode {
+    run::<Unknown>(&rt, PhantomData)
 }

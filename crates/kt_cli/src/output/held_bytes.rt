@@ -3,7 +3,7 @@ ghost use Rattle.std.specs.Prelude.{◌≡◌, ◌≤◌, ◌+◌, ◌++◌, [],
 use std::marker::Model;
 
 /// How many bytes are held at the most.
-pub const ROOM: usize = 1024;
+pub const ROOM: usize = 65_536;
 
 /// Bytes in a buffer of their own on the stack. Contracts see them in order.
 #[derive(Drop)]
@@ -19,7 +19,7 @@ impl Model for HeldBytes {
 
     ghost view = { λ h. take h.count h.room };
 
-    ghost invariant = { λ h. h.count ≤ 1024 };
+    ghost invariant = { λ h. h.count ≤ 65536 };
 }
 
 impl HeldBytes {
@@ -36,7 +36,7 @@ impl HeldBytes {
     /// How many bytes there are.
     pub fn len(&self) -> usize
         ensures value { result ≡ length self.now }
-        ensures bound { result ≤ 1024 }
+        ensures bound { result ≤ 65536 }
     {
         self.count
     }
@@ -50,7 +50,7 @@ impl HeldBytes {
 
     /// Appends bytes that fit.
     pub fn append(&mut self, more: &[u8])
-        requires { length self.old + length more.now ≤ 1024 }
+        requires { length self.old + length more.now ≤ 65536 }
         ensures { self.new ≡ self.old ++ more.now }
     {
         let count = self.count;

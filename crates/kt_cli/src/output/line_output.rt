@@ -4,13 +4,14 @@ use kt_base::send;
 use std::io;
 use std::io::{ErrorKind, Write};
 
-/// A line-buffered writer: it flushes when a line is complete or its buffer is full. An interrupted
-/// write is a failed one, and so is one that takes no byte. After a failed write every call fails, and
-/// nothing more is written, not even on drop. It takes no memory.
+/// A buffered writer: it flushes when its buffer of 64 KiB is full and, if it is to, when a line is
+/// complete. An interrupted write is a failed one, and so is one that takes no byte. After a failed
+/// write every call fails, and nothing more is written, not even on drop. It takes no memory.
 #[derive(Drop)]
 pub struct LineOutput<W> {
     out: W,
     held: HeldBytes,
+    by_line: bool,
     failed: bool,
 }
 
@@ -24,8 +25,9 @@ impl<W: Write> LineOutput<W> {
     ghost use Rattle.std.specs.Io.KnownBytes.{Keeps, Appends};
     ghost use Rattle.kt_cli.specs.LineOutputs.{given_bytes, has_failed, unwritten};
 
-    /// A writer before this one, which holds nothing yet.
-    pub fn new(out: W) -> LineOutput<W>
+    /// A writer before this one, which holds nothing yet. If `by_line` is set, each line is written
+    /// when it is complete.
+    pub fn new(out: W, by_line: bool) -> LineOutput<W>
         ensures bytes { Keeps (W.contents out) (given_bytes W.contents result) }
         ensures held { unwritten result ≡ [] }
         ensures whole { has_failed result ≡ false }
@@ -33,6 +35,7 @@ impl<W: Write> LineOutput<W> {
         LineOutput {
             out,
             held: HeldBytes::new(),
+            by_line,
             failed: false,
         }
     }
@@ -47,14 +50,14 @@ impl<W: Write> LineOutput<W> {
         self.failed = failed;
     }
 
-    /// Whether to flush after these bytes: a line is complete, or the buffer is full.
+    /// Whether to flush after these bytes: the buffer is full, or a line is complete.
     fn is_due(&self, bytes: &[u8]) -> bool {
-        self.held.len() == ROOM || bytes.contains(&b'\n')
+        self.held.len() == ROOM || (self.by_line && bytes.contains(&b'\n'))
     }
 
     /// Takes bytes that fit into the buffer, and flushes if that is due.
     fn accept(&mut self, bytes: &[u8])
-        requires { length (unwritten self.old) + length bytes.now ≤ 1024 }
+        requires { length (unwritten self.old) + length bytes.now ≤ 65536 }
         ensures { Appends (given_bytes W.contents self.old)
             (given_bytes W.contents self.new) bytes.now }
     {
