@@ -1,5 +1,4 @@
 pub mod ChildrenTold
-pub mod Answering
 pub mod ChosenRuns
 pub mod DebugRuns
 pub mod Gainings

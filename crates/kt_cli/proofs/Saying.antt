@@ -28,11 +28,6 @@ tells_nothing a true = record { more = (refl, refl) }
 pub tells_both : (a b d : Option (List ℕ)) (f g h : Bool) (xs ys : List ℕ) → Says a f b g xs → Says b g d h ys → Says a f d h (xs ++ ys)
 tells_both a b d f g h xs ys p q = record { more = says_bytes a b d f g h xs ys p.more q.more }
 
--- a writer that had failed is given nothing
-pub says_none : {T E : Type 0} (written other : Result T E) (Q : E → Type 0) (y : E) (a : Option (List ℕ)) (xs : List ℕ) → written ≡ Err y → IsErrAnd other Q → Says a (is_err written) a (is_err other) xs
-says_none written (Ok x) Q y a xs e h = absurd h
-says_none written (Err z) Q y a xs e h = subst (λ (f : Bool). Says a f a true xs) (sym (ap is_err e)) (record { more = (refl, refl) })
-
 -- a list of no length is empty
 pub nothing : {X : Type 0} (xs : List X) → length xs ≡ 0 → xs ≡ []
 nothing [] e = refl
