@@ -1,6 +1,7 @@
 pub mod Days
 pub mod InTurn
 pub mod LineSteps
+pub mod Outlines
 pub mod Outputs
 pub mod PairSteps
 pub mod Runs

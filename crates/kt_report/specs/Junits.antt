@@ -40,6 +40,10 @@ heading run =
     codes "<?xml version=\"1.0\" encoding=\"utf-8\"?>\n<testsuite tests=\"" ++ decimal (length run.entries) ++ codes "\" failures=\"" ++ count_bytes Failed run.entries ++ codes "\" errors=\"" ++ count_bytes Broken run.entries
     ++ codes "\" skipped=\"" ++ count_bytes Skipped run.entries ++ codes "\">\n"
 
+-- what stands behind them
+abbrev pub ending : List ℕ
+ending = codes "</testsuite>\n"
+
 -- a case for each entry, by position
 abbrev pub junit_bytes : Run → List ℕ
-junit_bytes run = heading run ++ flat_map case_bytes run.entries ++ codes "</testsuite>\n"
+junit_bytes run = heading run ++ flat_map case_bytes run.entries ++ ending

@@ -2,11 +2,11 @@ ghost use Rattle.std.specs.Prelude.{◌≡◌, ◌<◌, [], ◌∷◌, ◌++◌,
 ghost use Rattle.std.specs.List.{prefix_len};
 ghost use Rattle.std.specs.Str.{chars};
 ghost use Rattle.kt_base.specs.Lossy.{lossy};
-ghost use Rattle.kt_report.specs.Cases.{case_texts};
+ghost use Rattle.kt_report.specs.Cases.{case_texts, with_outputs};
 ghost use Rattle.kt_report.specs.Escapes.{escaped, escapes};
 
 use crate::case_texts::CaseTexts;
-use kt_base::{Bytes, Entry, NoMemory, Text, lossy};
+use kt_base::{Bytes, Entry, NoMemory, Output, Text, lossy};
 use std::alloc::Global;
 
 /// What XML writes for a character that doesn't stand for itself, in an attribute or in content.
@@ -103,9 +103,14 @@ fn escape_outputs(alloc: Global, body: &Bytes, cleanup: &Bytes) -> Result<Text, 
     escape(alloc, false, &text)
 }
 
-/// The texts of an entry as XML has them.
-pub fn case_texts(alloc: Global, entry: &Entry) -> Result<CaseTexts, NoMemory>
-    ensures { IfOk result (λ t. t ≡ case_texts entry.now) }
+/// The texts of an entry with these outputs, as XML has them.
+pub fn case_texts(
+    alloc: Global,
+    entry: &Entry,
+    body: &Output,
+    cleanup: &Output,
+) -> Result<CaseTexts, NoMemory>
+    ensures { IfOk result (λ t. t ≡ case_texts (with_outputs entry.now body.now cleanup.now)) }
 {
     let mut reason = Text::new(alloc);
     entry.verdict.write_reason(&mut reason)?;
@@ -113,7 +118,7 @@ pub fn case_texts(alloc: Global, entry: &Entry) -> Result<CaseTexts, NoMemory>
         program: escape(alloc, true, &entry.program)?,
         case_name: escape(alloc, true, &entry.case_name)?,
         reason: escape(alloc, true, &reason)?,
-        out: escape_outputs(alloc, &entry.body.out, &entry.cleanup.out)?,
-        err: escape_outputs(alloc, &entry.body.err, &entry.cleanup.err)?,
+        out: escape_outputs(alloc, &body.out, &cleanup.out)?,
+        err: escape_outputs(alloc, &body.err, &cleanup.err)?,
     })
 }

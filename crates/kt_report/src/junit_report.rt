@@ -1,14 +1,15 @@
 ghost use Rattle.std.specs.Prelude.{◌≡◌, ◌++◌, false, is_err, flat_map, codes};
 ghost use Rattle.kt_base.specs.Utf8.{utf8};
 ghost use Rattle.kt_base.specs.Shows.{Shows};
-ghost use Rattle.kt_report.specs.Junits.{result_element, output_element, element, case_bytes, heading, junit_bytes};
+ghost use Rattle.kt_report.specs.Cases.{with_outputs};
+ghost use Rattle.kt_report.specs.Junits.{result_element, output_element, element, case_bytes, heading, ending, junit_bytes};
 
 use crate::case_texts::CaseTexts;
 use crate::digits::write_seconds;
 use crate::escaping::case_texts;
 use crate::report_fault::ReportFault;
 use crate::summary::count_digits;
-use kt_base::{Decimal, Entry, Kind, OutputFault, Run, Text, emit, emit_all};
+use kt_base::{Decimal, Entry, Kind, Output, OutputFault, Run, Text, emit, emit_all};
 use std::alloc::Global;
 use std::io::Write;
 
@@ -71,7 +72,9 @@ fn write_element<W: Write>(
     emit(b"</testcase>\n", out)
 }
 
-fn write_heading<W: Write>(run: &Run, out: &mut W) -> Result<(), OutputFault>
+/// Writes what stands in the JUnit report before the cases of a run. The outputs of its entries
+/// don't matter.
+pub fn junit_heading<W: Write>(run: &Run, out: &mut W) -> Result<(), OutputFault>
     ensures { Shows (W.contents out.old) (W.contents out.new) (is_err result) (heading run.now) }
 {
     let entries = run.entries.as_slice();
@@ -95,12 +98,19 @@ fn write_heading<W: Write>(run: &Run, out: &mut W) -> Result<(), OutputFault>
     )
 }
 
-/// Writes an entry. If memory was refused, nothing of it was written.
-fn write_case<W: Write>(alloc: Global, entry: &Entry, out: &mut W) -> Result<(), ReportFault>
+/// Writes the case of an entry with these outputs of its body and its cleanup. If memory was
+/// refused, nothing of it was written.
+pub fn junit_case<W: Write>(
+    alloc: Global,
+    entry: &Entry,
+    body: &Output,
+    cleanup: &Output,
+    out: &mut W,
+) -> Result<(), ReportFault>
     ensures { Shows (W.contents out.old) (W.contents out.new) (is_err result)
-        (case_bytes entry.now) }
+        (case_bytes (with_outputs entry.now body.now cleanup.now)) }
 {
-    let texts = case_texts(alloc, entry)?;
+    let texts = case_texts(alloc, entry, body, cleanup)?;
     write_element(&texts, entry.verdict.kind(), entry.millis, out)?;
     Ok(())
 }
@@ -111,9 +121,16 @@ fn write_cases<W: Write>(alloc: Global, entries: &[Entry], out: &mut W) -> Resul
         (flat_map case_bytes entries.now) }
 {
     for entry in entries {
-        write_case(alloc, entry, out)?;
+        junit_case(alloc, entry, &entry.body, &entry.cleanup, out)?;
     }
     Ok(())
+}
+
+/// Writes what stands in the JUnit report behind the cases.
+pub fn junit_end<W: Write>(out: &mut W) -> Result<(), OutputFault>
+    ensures { Shows (W.contents out.old) (W.contents out.new) (is_err result) ending }
+{
+    emit(b"</testsuite>\n", out)
 }
 
 /// Writes the JUnit report: a suite with a case for each recorded entry, by position (this
@@ -123,8 +140,8 @@ pub fn junit<W: Write>(alloc: Global, run: &Run, out: &mut W) -> Result<(), Repo
     ensures { Shows (W.contents out.old) (W.contents out.new) (is_err result)
         (junit_bytes run.now) }
 {
-    write_heading(run, out)?;
+    junit_heading(run, out)?;
     write_cases(alloc, run.entries.as_slice(), out)?;
-    emit(b"</testsuite>\n", out)?;
+    junit_end(out)?;
     Ok(())
 }

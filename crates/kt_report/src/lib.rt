@@ -6,6 +6,7 @@ mod digits;
 mod entry_line;
 mod escaping;
 mod junit_report;
+mod laws;
 mod moments;
 mod pairs;
 mod report_fault;
@@ -14,6 +15,7 @@ mod summary;
 mod text_report;
 
 pub use entry_line::line;
-pub use junit_report::junit;
+pub use junit_report::{junit, junit_case, junit_end, junit_heading};
+pub use laws::law_of_outlines;
 pub use report_fault::ReportFault;
 pub use text_report::text;

@@ -1,76 +1,29 @@
 -- What the query for the entries of a run answers.
-use Rattle.std.proofs.Common.{◌≡◌, ◌==◌, ◌&&◌, ℕ, zero, suc, ◌<◌, ◌≤◌, pos, List, [], ◌∷◌, ◌++◌, length, map, filter, drop, take, Bool, true, Some, None, Option, Less, refl, ap, subst, ◌∙◌, arith, IsPermutation}
-use Rattle.std.specs.List.{AllByRecursion, list_all}
+use Rattle.std.proofs.Common.{◌≡◌, ◌==◌, ◌&&◌, ℕ, zero, suc, ◌<◌, pos, List, [], ◌∷◌, ◌++◌, length, map, filter, take, true, Some, None, Option, refl, ap, ◌∙◌, arith}
+use Rattle.std.specs.List.{AllByRecursion}
 use Rattle.std.specs.Prelude.{get_or}
-use Rattle.sqlite_keyed.proofs.ListLemmas.{map-map}
 use Rattle.sqlite.specs.declared.types.Value.TheVariants.{Int}
 use Rattle.sqlite.specs.Order.{Row}
 use Rattle.sqlite_trees.specs.Tree.{IsAscending}
-use Rattle.sqlite_value.specs.Keys.{ascending}
-use Rattle.sqlite.specs.Term.{Term, col, holds}
+use Rattle.sqlite.specs.Term.{Term, col}
 use Rattle.sqlite.specs.Ops.{is_true, from_truth, binary}
-use Rattle.sqlite.specs.Query.{Output, output, output_cmp}
-use Rattle.sqlite.specs.Collation.TheVariants.{Binary}
 use Rattle.sqlite.specs.Store.{Ghosts}
 use Rattle.sqlite.specs.Held.{Held, state}
 use Rattle.sqlite.specs.State.{State, Shown, HasCleanDisk}
 use Rattle.sqlite.proofs.Callers.{reads_as}
 use Rattle.kt_base.specs.declared.run.Run.{Run}
 use Rattle.kt_base.specs.declared.entry.Entry.{Entry}
-use Rattle.kt_store.specs.Tables.{entries_text, schema_2}
+use Rattle.kt_store.specs.Tables.{outline_text, schema_2}
 use Rattle.kt_store.specs.Inner.Runs.{entries_of}
-use Rattle.kt_store.specs.Runs.{IsRun, IsEntry, entry_row, entry_rows, run_at, AreRuns}
+use Rattle.kt_store.specs.Runs.{IsRun, IsEntry, entry_row, run_at, AreRuns}
 use Rattle.kt_store.specs.Inner.Heads.{entry_columns}
 use Rattle.kt_store.specs.Stands.{IsStore, StandsFor}
 use Rattle.kt_store.specs.Inner.Ask.{Asked}
-use Rattle.kt_store.proofs.SqlFacts.{entries_select_is, entries_query, is}
-use Rattle.kt_store.proofs.QueryLemmas.{answered_sorted}
-use Rattle.kt_store.proofs.EntryLemmas.{back, of_stored, of_run, same_test, one_truth}
-use Rattle.kt_store.proofs.HeadLemmas.{below}
+use Rattle.kt_store.proofs.SqlFacts.{outline_select_is, outline_query, is}
+use Rattle.kt_store.proofs.KeptEntries.{passes, Same, tells_kept}
+use Rattle.kt_store.proofs.EntryLemmas.{back, same_test, one_truth}
 use Rattle.kt_store.proofs.CloseLemmas.{run_of}
 use Rattle.kt_store.proofs.AskLemmas.{asked_mid}
-
-abbrev tests : List Term
-tests = is (col 1 1) (col 0 0) ∷ []
-
-abbrev passes : Row → Row → Bool
-passes params r = list_all (holds (params ∷ r ∷ [])) tests
-
-same_passes : (params r : Row) → passes params r ≡ passes params (back (drop 1 r))
-same_passes params [] = refl
-same_passes params (x ∷ r) = refl
-
-each : (n m : ℕ) (e : Entry) → passes (Int (pos n) ∷ []) (back (entry_row m e)) ≡ (m == n) && true
-unfolding binary
-each n m e = ap (λ a. is_true (from_truth (Some a)) && true) (same_test m n) ∙ one_truth (m == n)
-
-all_pass : (es : List Entry) → filter (λ (e : Entry). true) es ≡ es
-all_pass [] = refl
-all_pass (e ∷ es) = ap (λ l. e ∷ l) (all_pass es)
-
-abbrev out : Row → Row → Output
-out params r = output entries_query (params ∷ r ∷ [])
-
-same_out : (params r : Row) → out params r ≡ out params (back (drop 1 r))
-same_out params [] = refl
-same_out params (x ∷ r) = refl
-
-abbrev entry_out : ℕ → Entry → Output
-entry_out n e = out (Int (pos n) ∷ []) (back (entry_row n e))
-
-abbrev lower : Output → Output → Type 0
-lower x y = output_cmp entries_query x y ≡ Less
-
-lower_entries : (n : ℕ) (d e : Entry) → d.position < e.position → lower (entry_out n d) (entry_out n e)
-lower_entries n d e h = rw (below d.position e.position h) refl
-
-all_lower : (n : ℕ) (d : Entry) (es : List Entry) → AllByRecursion (λ (e : Entry). d.position < e.position) es → AllByRecursion (lower (entry_out n d)) (map (entry_out n) es)
-all_lower n d [] h = tt
-all_lower n d (e ∷ es) h = (lower_entries n d e h.0, all_lower n d es h.1)
-
-rises : (n : ℕ) (es : List Entry) → IsAscending (λ (a b : Entry). a.position < b.position) es → IsAscending lower (map (entry_out n) es)
-rises n [] h = tt
-rises n (e ∷ es) h = (all_lower n e es h.0, rises n es h.1)
 
 abbrev Up : List Entry → Type 0
 Up es = IsAscending (λ (a b : Entry). a.position < b.position) es
@@ -89,33 +42,33 @@ sound_of runs n valid = go (run_at runs n) (λ r there. run_of n runs r valid th
     go None h = tt
     go (Some r) h = (h r refl).sound
 
-all_below : (es : List Entry) (total : ℕ) → total < 4294967296 → AllByRecursion (λ (e : Entry). e.position < total) es → AllByRecursion (λ (e : Entry). e.position < 4294967296) es
-all_below [] total small h = tt
-all_below (e ∷ es) total small h = (omega (arith, small, h.0), all_below es total small h.1)
+abbrev entries_params : ℕ → Row
+entries_params n = Int (pos n) ∷ []
 
-pub small_of : (runs : List Run) (n : ℕ) → AreRuns runs → AllByRecursion (λ (e : Entry). e.position < 4294967296) (entries_of (run_at runs n))
-small_of runs n valid = go (run_at runs n) (λ r there. run_of n runs r valid there)
-  where
-    go : (o : Option Run) → ((r : Run) → o ≡ Some r → IsRun r) → AllByRecursion (λ (e : Entry). e.position < 4294967296) (entries_of o)
-    go None h = tt
-    go (Some r) h = all_below r.entries r.total (h r refl).small (h r refl).below
+abbrev tests : List Term
+tests = is (col 1 1) (col 0 0) ∷ []
 
-pub tells_entries : (old new : State) (runs : List Run) (n : ℕ) (rows : List Row) → IsStore old runs → Shown entries_text (Int (pos n) ∷ []) old new rows → rows ≡ map entry_columns (entries_of (run_at runs n))
+each : (n m : ℕ) (e : Entry) → passes tests outline_query.project (entries_params n) (back (entry_row m e)) ≡ (m == n) && true
+unfolding binary
+each n m e = ap (λ a. is_true (from_truth (Some a)) && true) (same_test m n) ∙ one_truth (m == n)
+
+all_pass : (es : List Entry) → filter (λ (e : Entry). true) es ≡ es
+all_pass [] = refl
+all_pass (e ∷ es) = ap (λ l. e ∷ l) (all_pass es)
+
+same_rows : (n : ℕ) (r : Row) → Same tests outline_query.project (entries_params n) r
+same_rows n [] = (refl, refl)
+same_rows n (x ∷ r) = (refl, refl)
+
+pub tells_entries : (old new : State) (runs : List Run) (n : ℕ) (rows : List Row) → IsStore old runs → Shown outline_text (entries_params n) old new rows → rows ≡ map entry_columns (entries_of (run_at runs n))
 tells_entries old new runs n rows has h =
-    let params : Row = Int (pos n) ∷ [] in
-    let es = entries_of (run_at runs n) in
-    let reads = reads_as entries_text params old new schema_2 has.tables.schema _ entries_select_is.0 entries_select_is.2 entries_select_is.1 rows h in
-    let from = of_stored (old.now.trees 3) (entry_rows runs) has.tables.entries_are (passes params) (out params) (same_passes params) (same_out params) in
-    let of_one = of_run (λ r. passes params (back r)) (λ (e : Entry). true) n runs (each n) has.tables.valid.numbered ∙ ap (map (entry_row n)) (all_pass es) in
-    let outs : map (λ r. out params (back r)) (filter (λ r. passes params (back r)) (entry_rows runs)) ≡ map (entry_out n) es =
-    ap (map (λ r. out params (back r))) of_one ∙ map-map (λ r. out params (back r)) (entry_row n) es in
-    let same = subst (λ l. IsPermutation l (map (out params) (filter (passes params) (old.now.trees 3)))) outs from in
-    answered_sorted 3 tests entries_query.project ((col 1 2, ascending Binary) ∷ []) old.now.trees params rows reads.answer (map (entry_out n) es) same (rises n es (up_of runs n has.tables.valid))
-    ∙ map-map (λ (o : Output). o.1) (entry_out n) es
+    let reads = reads_as outline_text (entries_params n) old new schema_2 has.tables.schema _ outline_select_is.0 outline_select_is.2 outline_select_is.1 rows h in
+    tells_kept tests outline_query.project (entries_params n) (same_rows n) n (λ (e : Entry). true) (each n) old runs rows has (up_of runs n has.tables.valid) reads.answer
+    ∙ ap (map entry_columns) (all_pass (entries_of (run_at runs n)))
 
 module _ {S : Type 0} (g : Ghosts S) (old new : Held S) (runs : List Run) (has : StandsFor (state g old) runs) (earlier : HasCleanDisk (state g new) → HasCleanDisk (state g old)) where
-  pub asked_entries : (n : ℕ) (rows : List Row) → HasCleanDisk (state g new) → Asked g entries_text (Int (pos n) ∷ []) old new rows → rows ≡ map entry_columns (entries_of (run_at runs n))
-  asked_entries n rows clean it = tells_entries (state g it.mid) (state g new) runs n rows (asked_mid g old new runs has earlier entries_text entries_select_is.2 (Int (pos n) ∷ []) rows clean it) it.shown
+  pub asked_entries : (n : ℕ) (rows : List Row) → HasCleanDisk (state g new) → Asked g outline_text (Int (pos n) ∷ []) old new rows → rows ≡ map entry_columns (entries_of (run_at runs n))
+  asked_entries n rows clean it = tells_entries (state g it.mid) (state g new) runs n rows (asked_mid g old new runs has earlier outline_text outline_select_is.2 (Int (pos n) ∷ []) rows clean it) it.shown
 
 -- the next of them, with what all of them have
 pub one_sound : {X Y Z : Type 0} (P : X → Type 0) (f : X → Y) (h : X → Z) (xs : List X) (i : ℕ) (y : Y) → AllByRecursion P xs → i < length xs → y ≡ get_or (map f xs) i y
@@ -125,15 +78,3 @@ one_sound P f h (x ∷ xs) zero y all low is = (x, all.0, is, refl)
 one_sound P f h (x ∷ xs) (suc i) y all low is =
     let it = one_sound P f h xs i y all.1 (omega (arith, low)) is in
     (it.0, it.1, it.2, ap (λ l. h x ∷ l) it.3)
-
-pub all_taken : (es found : List Entry) (i : ℕ) → found ≡ map (λ (e : Entry). e) (take i es) → length es ≤ i → found ≡ es
-all_taken es found i is long = is ∙ whole i es long
-  where
-    whole : (i : ℕ) (es : List Entry) → length es ≤ i → map (λ (e : Entry). e) (take i es) ≡ es
-    whole i [] long = empty i
-      where
-        empty : (i : ℕ) → map (λ (e : Entry). e) (take i []) ≡ []
-        empty zero = refl
-        empty (suc i) = refl
-    whole zero (e ∷ es) long = absurd (omega (arith, long))
-    whole (suc i) (e ∷ es) long = ap (λ l. e ∷ l) (whole i es (omega (arith, long)))

@@ -19,7 +19,9 @@ pub mod ThereLemmas
 pub mod CountLemmas
 pub mod CloseLemmas
 pub mod HeadLemmas
+pub mod KeptEntries
 pub mod EntriesLemmas
+pub mod OutputsLemmas
 pub mod MetaLemmas
 pub mod EmptyLemmas
 pub mod Numbered

@@ -120,18 +120,3 @@ at (e ∷ es) zero y sound up low is = record { entry = e; sound = sound.0; row 
 at (e ∷ es) (suc i) y sound up low is =
     let it = at es i y sound.1 up.1 (omega (arith, low)) is in
     record { entry = it.entry; sound = it.sound; row = it.row; before = ap (λ l. e ∷ l) it.before; behind = it.behind; later = it.later }
-
-abbrev no_entries : List Entry
-no_entries = []
-
-pub all_taken : (es found : List Entry) (i : ℕ) → found ≡ take i es → length es ≤ i → found ≡ es
-all_taken es found i is long = is ∙ whole i es long
-  where
-    whole : (i : ℕ) (es : List Entry) → length es ≤ i → take i es ≡ es
-    whole i [] long = empty i
-      where
-        empty : (i : ℕ) → take i no_entries ≡ no_entries
-        empty zero = refl
-        empty (suc i) = refl
-    whole zero (e ∷ es) long = absurd (omega (arith, long))
-    whole (suc i) (e ∷ es) long = ap (λ l. e ∷ l) (whole i es (omega (arith, long)))

@@ -5,7 +5,7 @@ use Rattle.kt_base.specs.declared.entry.Entry.{Entry}
 use Rattle.kt_base.specs.declared.run.Run.{Run}
 use Rattle.kt_store.specs.Runs.{AreNumbered, new_run, insert_at, with_entry, finish}
 use Rattle.kt_store.specs.Serving.{changed_by}
-use Rattle.kt_store.specs.StoreCalls.{StoreCall, Began, Put, Finished, Heads, Read}
+use Rattle.kt_store.specs.StoreCalls.{StoreCall, Began, Put, Finished, Heads, Outline, Outputs}
 
 numbers_more : (n : ℕ) (runs : List Run) (r : Run) → AreNumbered n runs → r.number ≡ n + length runs → AreNumbered n (runs ++ r ∷ [])
 numbers_more n [] r h e = (e ∙ omega arith, tt)
@@ -35,4 +35,5 @@ numbers_changed (Put number e (Err fault)) runs h = h
 numbers_changed (Finished number (Ok done)) runs h = numbers_finish number 1 runs h
 numbers_changed (Finished number (Err fault)) runs h = h
 numbers_changed (Heads answer) runs h = h
-numbers_changed (Read number answer) runs h = h
+numbers_changed (Outline number answer) runs h = h
+numbers_changed (Outputs number position answer) runs h = h

@@ -15,7 +15,8 @@ use Rattle.kt_store.specs.Inner.Kept.{KeepsRuns, OnlyReads, Changes, ChangesForG
 use Rattle.kt_store.specs.Runs.{AreNumbered, Keeps, KeepsOne, new_run, run_at, with_entry, put_refusal, finish, finish_refusal}
 use Rattle.kt_store.specs.Serving.{Serves, Agrees, Outlasts}
 use Rattle.kt_store.specs.Stands.{StandsFor, Leaves}
-use Rattle.kt_store.specs.StoreCalls.{StoreCall, Began, Put, Finished, Heads, Read}
+use Rattle.kt_store.specs.StoreCalls.{StoreCall, Began, Put, Finished, Heads, Outline, Outputs}
+use Rattle.kt_store.specs.declared.case_outputs.CaseOutputs.{CaseOutputs}
 use Rattle.kt_store.specs.declared.keeping.Keeping as store
 use Rattle.kt_store.specs.declared.run_head.RunHead.{RunHead}
 use Rattle.kt_store.specs.declared.store_fault.StoreFault.{StoreFault}
@@ -41,7 +42,8 @@ always_outlasts Leaves h (Put number e (Err fault)) runs may old new = λ _. h n
 always_outlasts Leaves h (Finished number (Ok done)) runs may old new = h new _
 always_outlasts Leaves h (Finished number (Err fault)) runs may old new = λ _. h new _
 always_outlasts Leaves h (Heads answer) runs may old new = λ _. h new _
-always_outlasts Leaves h (Read number answer) runs may old new = λ _. h new _
+always_outlasts Leaves h (Outline number answer) runs may old new = λ _. h new _
+always_outlasts Leaves h (Outputs number position answer) runs may old new = λ _. h new _
 
 -- a crash leaves what it left before, if nothing was called
 pub survives_self : (s : State) → Survives s s (λ (db : Trees). ⊥)
@@ -105,8 +107,17 @@ module _ {S : Type 0} (g : Ghosts S) (old new : Held S) (kept : KeepsRuns g old 
     crash = λ runs may h l. untouched (state g old) (state g new) may (only runs h.0) l;
   }
 
-  pub entries_read : (number : ℕ) (answer : Result (List Entry) StoreFault) → ((runs : List Run) → StandsFor (state g old) runs → HasCleanDisk (state g new) → Agrees runs (Read number answer)) → Serves (results g) (Read number answer) old new
-  entries_read number answer why = record {
+  pub outline_read : (number : ℕ) (answer : Result (List Entry) StoreFault) → ((runs : List Run) → StandsFor (state g old) runs → HasCleanDisk (state g new) → Agrees runs (Outline number answer)) → Serves (results g) (Outline number answer) old new
+  outline_read number answer why = record {
+    asked = tt;
+    stands = λ runs h. (kept runs h.0, h.1);
+    earlier = λ runs h clean. early runs h.0 clean;
+    agrees = λ runs h clean. why runs h.0 clean;
+    crash = λ runs may h l. untouched (state g old) (state g new) may (only runs h.0) l;
+  }
+
+  pub outputs_read : (number position : ℕ) (answer : Result CaseOutputs StoreFault) → ((runs : List Run) → StandsFor (state g old) runs → HasCleanDisk (state g new) → Agrees runs (Outputs number position answer)) → Serves (results g) (Outputs number position answer) old new
+  outputs_read number position answer why = record {
     asked = tt;
     stands = λ runs h. (kept runs h.0, h.1);
     earlier = λ runs h clean. early runs h.0 clean;

@@ -14,7 +14,7 @@ use Rattle.sqlite.proofs.Callers.{IsPlain, command_of}
 use Rattle.sqlite_sql.specs.declared.ops.BinaryOp.TheVariants.{Compare}
 use Rattle.sqlite_sql.specs.declared.ops.CompareOp.TheVariants.{Eq}
 use Rattle.sqlite_tied.specs.Compute.{everything}
-use Rattle.kt_store.specs.Tables.{schema_2, full_text, begin_text, run_text, count_text, finish_text, runs_text, there_text, put_text, entries_text, pairs_text, meta_text, mark_text, raise_text}
+use Rattle.kt_store.specs.Tables.{schema_2, full_text, begin_text, run_text, count_text, finish_text, runs_text, there_text, put_text, outline_text, outputs_text, pairs_text, meta_text, mark_text, raise_text}
 use Rattle.kt_store.specs.Inner.Calls.{pair_text}
 
 abbrev pub query : Query
@@ -102,19 +102,32 @@ pub pairs_select_is : (command_of (understood schema_2 pairs_text) ≡ select pa
 unfolding understood everything
 pairs_select_is = (refl, refl, (refl, refl))
 
-abbrev pub entries_query : Query
-entries_query = record query {
+abbrev pub outline_query : Query
+outline_query = record query {
   from = inner 3 end;
   filter = is (col 1 1) (col 0 0) ∷ [];
-  project = col 1 2 ∷ col 1 3 ∷ col 1 4 ∷ col 1 5 ∷ col 1 6 ∷ col 1 7 ∷ col 1 8 ∷ col 1 9 ∷ col 1 10 ∷ col 1 11 ∷ col 1 12 ∷ [];
+  project = col 1 2 ∷ col 1 3 ∷ col 1 4 ∷ col 1 5 ∷ col 1 6 ∷ col 1 7 ∷ col 1 8 ∷ [];
   order = (col 1 2, ascending Binary) ∷ [];
 }
 
-pub entries_select_is : (command_of (understood schema_2 entries_text)
-    ≡ select entries_query (codes "position" ∷ codes "program" ∷ codes "case_name" ∷ codes "kind" ∷ codes "reason" ∷ codes "started" ∷ codes "millis" ∷ codes "body_out" ∷ codes "body_err" ∷ codes "clean_out" ∷ codes "clean_err" ∷ []))
-    × (reads_listing schema_2 entries_text ≡ false) × IsPlain (understood schema_2 entries_text)
+pub outline_select_is : (command_of (understood schema_2 outline_text)
+    ≡ select outline_query (codes "position" ∷ codes "program" ∷ codes "case_name" ∷ codes "kind" ∷ codes "reason" ∷ codes "started" ∷ codes "millis" ∷ []))
+    × (reads_listing schema_2 outline_text ≡ false) × IsPlain (understood schema_2 outline_text)
 unfolding understood everything
-entries_select_is = (refl, refl, (refl, refl))
+outline_select_is = (refl, refl, (refl, refl))
+
+abbrev pub outputs_query : Query
+outputs_query = record query {
+  from = inner 3 end;
+  filter = is (col 1 1) (col 0 0) ∷ is (col 1 2) (col 0 1) ∷ [];
+  project = col 1 9 ∷ col 1 10 ∷ col 1 11 ∷ col 1 12 ∷ [];
+  order = (col 1 2, ascending Binary) ∷ [];
+}
+
+pub outputs_select_is : (command_of (understood schema_2 outputs_text) ≡ select outputs_query (codes "body_out" ∷ codes "body_err" ∷ codes "clean_out" ∷ codes "clean_err" ∷ []))
+    × (reads_listing schema_2 outputs_text ≡ false) × IsPlain (understood schema_2 outputs_text)
+unfolding understood everything
+outputs_select_is = (refl, refl, (refl, refl))
 
 abbrev pub meta_query : Query
 meta_query = record query { from = inner 0 end; filter = is (col 1 1) (lit (Text (codes "schema"))) ∷ []; project = col 1 2 ∷ [] }

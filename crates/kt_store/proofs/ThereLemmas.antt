@@ -27,10 +27,10 @@ use Rattle.kt_store.proofs.AskLemmas.{asked_mid}
 no_row : Row
 no_row = []
 
-abbrev there_params : ℕ → ℕ → Row
+abbrev pub there_params : ℕ → ℕ → Row
 there_params n p = Int (pos n) ∷ Int (pos p) ∷ []
 
-abbrev there_tests : List Term
+abbrev pub there_tests : List Term
 there_tests = is (col 1 1) (col 0 0) ∷ is (col 1 2) (col 0 1) ∷ []
 
 abbrev passes : Row → Row → Bool
@@ -40,7 +40,7 @@ same_passes : (params r : Row) → passes params r ≡ passes params (back (drop
 same_passes params [] = refl
 same_passes params (x ∷ r) = refl
 
-each : (n p m : ℕ) (e : Entry) → passes (there_params n p) (back (entry_row m e)) ≡ (m == n) && (e.position == p)
+pub each : (n p m : ℕ) (e : Entry) → passes (there_params n p) (back (entry_row m e)) ≡ (m == n) && (e.position == p)
 unfolding binary
 each n p m e =
     ap₂ (λ a b. is_true (from_truth (Some a)) && (is_true (from_truth (Some b)) && true)) (same_test m n) (same_test e.position p) ∙ two_truths (m == n) (e.position == p)

@@ -1,7 +1,29 @@
--- The heads of runs, and the columns that they are read from.
+-- What a call shows of runs and of entries: the heads of runs, entries without their outputs, and the outputs.
+use Rattle.std.specs.Prelude.{ℕ, ◌==◌, [], Option, Some, None}
+use Rattle.std.specs.List.{find}
+use Rattle.kt_base.specs.declared.entry.Entry.{Entry}
+use Rattle.kt_base.specs.declared.output.Output.{Output}
 use Rattle.kt_base.specs.declared.run.Run.{Run}
+use Rattle.kt_store.specs.declared.case_outputs.CaseOutputs.{CaseOutputs}
 use Rattle.kt_store.specs.declared.run_head.RunHead.{RunHead}
 
 -- a run without its entries
 abbrev pub head_of : Run → RunHead
 head_of r = record { number = r.number; started = r.started; total = r.total; finished = r.finished }
+
+-- nothing was printed
+abbrev pub no_output : Output
+no_output = record { out = []; err = [] }
+
+-- an entry without its outputs
+abbrev pub without_outputs : Entry → Entry
+without_outputs e = record e { body = no_output; cleanup = no_output }
+
+-- the outputs of an entry
+abbrev pub outputs_of : Entry → CaseOutputs
+outputs_of e = record { body = e.body; cleanup = e.cleanup }
+
+-- the entry of a run at a position
+abbrev pub entry_at : Option Run → ℕ → Option Entry
+entry_at None position = None
+entry_at (Some r) position = find (λ (e : Entry). e.position == position) r.entries

@@ -187,9 +187,17 @@ there_text = codes "SELECT position FROM entries WHERE run = ?1 AND position = ?
 abbrev pub put_text : List ℕ
 put_text = codes "INSERT INTO entries (run, position, program, case_name, kind, reason, started, millis, body_out, body_err, clean_out, clean_err) VALUES (?1, ?2, ?3, ?4, ?5, ?6, ?7, ?8, ?9, ?10, ?11, ?12)"
 
--- the entries of a run by position
+-- the entries of a run by position, with all that `attach` looks for
 abbrev pub entries_text : List ℕ
 entries_text = codes "SELECT position, program, case_name, kind, reason, started, millis, body_out, body_err, clean_out, clean_err FROM entries WHERE run = ?1 ORDER BY position"
+
+-- the entries of a run by position, without their outputs
+abbrev pub outline_text : List ℕ
+outline_text = codes "SELECT position, program, case_name, kind, reason, started, millis FROM entries WHERE run = ?1 ORDER BY position"
+
+-- the outputs of the entry of a run at a position
+abbrev pub outputs_text : List ℕ
+outputs_text = codes "SELECT body_out, body_err, clean_out, clean_err FROM entries WHERE run = ?1 AND position = ?2 ORDER BY position"
 
 -- the pairs of a run by position and place
 abbrev pub pairs_text : List ℕ

@@ -3,12 +3,12 @@ ghost use Rattle.kt_base.specs.declared.entry.Entry.{Entry as Stored};
 ghost use Rattle.kt_base.specs.declared.kind.Kind.{Kind as Sort};
 ghost use Rattle.kt_base.specs.Utf8.{utf8};
 ghost use Rattle.std.specs.List.{AllByRecursion};
-ghost use Rattle.kt_base.specs.declared.output.Output.{Output as Pair};
 ghost use Rattle.sqlite_value.specs.Order.{column};
-ghost use Rattle.sqlite_value.specs.declared.value.Value.TheVariants.{Text as Words, Blob};
+ghost use Rattle.sqlite_value.specs.declared.value.Value.TheVariants.{Text as Words};
 ghost use Rattle.sqlite.specs.State.{HasCleanDisk};
 ghost use Rattle.sqlite.specs.Held.{state};
 ghost use Rattle.kt_store.specs.Ask.{IsNoMemory, IsStoreFault};
+ghost use Rattle.kt_store.specs.Heads.{no_output, without_outputs};
 ghost use Rattle.kt_store.specs.Inner.Kept.{KeepsRuns, OnlyReads};
 ghost use Rattle.kt_base.specs.declared.variable.Variable.{Variable as StoredPair};
 ghost use Rattle.sqlite_trees.specs.Tree.{IsAscending};
@@ -37,16 +37,6 @@ pub(crate) fn text_in(row: &Row, at: usize) -> Result<Text, StoreFault>
     Ok(Text::from_string(string))
 }
 
-pub(crate) fn bytes_in(row: &Row, at: usize) -> Result<Bytes, StoreFault>
-    ensures bytes { IfOk result (λ b. column row.now at ≡ Blob b) }
-    ensures read { (b : List ℕ) → at < length row.now → column row.now at ≡ Blob b
-        → IfErr result IsNoMemory }
-    ensures failed { IfErr result IsStoreFault }
-{
-    let items = value_in::<Vec<u8>>(row, at)?;
-    Ok(Bytes::from_vec(items))
-}
-
 /// The kind that is kept as this number.
 pub(crate) fn kind_of(code: u64) -> Result<Kind, StoreFault>
     ensures kind { (k : Sort) → code ≡ kind_code k → result ≡ Ok k }
@@ -60,22 +50,6 @@ pub(crate) fn kind_of(code: u64) -> Result<Kind, StoreFault>
         4 => Ok(Kind::Broken),
         _ => Err(out_of_range(code)),
     }
-}
-
-pub(crate) fn output_in(row: &Row, out: usize, err: usize) -> Result<Output, StoreFault>
-    ensures output { (o : Pair) → column row.now out ≡ Blob o.out → column row.now err ≡ Blob o.err
-        → IfOk result (λ x. x ≡ o) }
-    ensures read { (o : Pair) → out < length row.now → err < length row.now
-        → column row.now out ≡ Blob o.out → column row.now err ≡ Blob o.err
-        → IfErr result IsNoMemory }
-    ensures failed { IfErr result IsStoreFault }
-{
-    let first = bytes_in(row, out)?;
-    let second = bytes_in(row, err)?;
-    Ok(Output {
-        out: first,
-        err: second,
-    })
 }
 
 /// The pair in a row.
@@ -120,10 +94,20 @@ pub(crate) fn meta_in(
     Ok((meta, rest))
 }
 
-/// The entry in a row, with these pairs.
-pub(crate) fn entry_in(row: &Row, meta: Variables) -> Result<Entry, StoreFault>
+/// What a case printed that printed nothing.
+pub fn no_output(alloc: Global) -> Output
+    ensures { result ≡ no_output }
+{
+    Output {
+        out: Bytes::new(alloc),
+        err: Bytes::new(alloc),
+    }
+}
+
+/// The entry in a row, with these pairs and without its outputs.
+pub(crate) fn entry_in(alloc: Global, row: &Row, meta: Variables) -> Result<Entry, StoreFault>
     ensures entry { (e : Stored) → IsEntry e → row.now ≡ entry_columns e → meta ≡ e.meta
-        → IfOk result (λ x. x ≡ e) }
+        → IfOk result (λ x. x ≡ without_outputs e) }
     ensures read { (e : Stored) → IsEntry e → e.position < 2 ^ 32 → row.now ≡ entry_columns e
         → IfErr result IsNoMemory }
     ensures failed { IfErr result IsStoreFault }
@@ -136,8 +120,6 @@ pub(crate) fn entry_in(row: &Row, meta: Variables) -> Result<Entry, StoreFault>
     let reason = text_in(row, 4)?;
     let started = number_in(row, 5)?;
     let millis = number_in(row, 6)?;
-    let body = output_in(row, 7, 8)?;
-    let cleanup = output_in(row, 9, 10)?;
     Ok(Entry {
         position,
         program,
@@ -145,13 +127,13 @@ pub(crate) fn entry_in(row: &Row, meta: Variables) -> Result<Entry, StoreFault>
         verdict: Verdict::of(kind, reason),
         started,
         millis,
-        body,
-        cleanup,
+        body: no_output(alloc),
+        cleanup: no_output(alloc),
         meta,
     })
 }
 
-/// The entries in the rows, with the pairs in the others.
+/// The entries in the rows, with the pairs in the others and without their outputs.
 pub(crate) fn entries_in(
     alloc: Global,
     rows: &[Row],
@@ -160,7 +142,7 @@ pub(crate) fn entries_in(
     ensures entries { (es : List Stored) → AllByRecursion IsEntry es
         → IsAscending (λ (a b : Stored). a.position < b.position) es
         → rows.now ≡ map entry_columns es → pairs.now ≡ pairs_shown es
-        → IfOk result (λ found. found.items ≡ es) }
+        → IfOk result (λ found. found.items ≡ map without_outputs es) }
     ensures read { (es : List Stored) → AllByRecursion IsEntry es
         → IsAscending (λ (a b : Stored). a.position < b.position) es
         → AllByRecursion (λ (e : Stored). e.position < 2 ^ 32) es
@@ -171,7 +153,7 @@ pub(crate) fn entries_in(
     let mut rest = pairs;
     for row in rows {
         let (meta, after) = meta_in(alloc, rest, small_in(row, 0)?)?;
-        let entry = entry_in(row, meta)?;
+        let entry = entry_in(alloc, row, meta)?;
         add(&mut entries, entry)?;
         rest = after;
     }
@@ -199,7 +181,7 @@ pub(crate) fn all_pairs<S: Alter>(
     Ok(rows)
 }
 
-/// The rows of a run's entries, by position.
+/// The rows of a run's entries without their outputs, by position.
 pub(crate) fn all_rows<S: Alter>(conn: &mut Connection<S>, run: u64) -> Result<Vec<Row>, StoreFault>
     requires { run < 2 ^ 63 }
     ensures all { (runs : _) → StandsFor (state S.Store conn.old) runs
@@ -213,13 +195,13 @@ pub(crate) fn all_rows<S: Alter>(conn: &mut Connection<S>, run: u64) -> Result<V
 {
     let rows = ask(
         conn,
-        "SELECT position, program, case_name, kind, reason, started, millis, body_out, body_err, clean_out, clean_err FROM entries WHERE run = ?1 ORDER BY position",
+        "SELECT position, program, case_name, kind, reason, started, millis FROM entries WHERE run = ?1 ORDER BY position",
         &[int(run)],
     )?;
     Ok(rows)
 }
 
-/// The entries of a run, by position.
+/// The entries of a run without their outputs, by position.
 pub(crate) fn all_entries<S: Alter>(
     conn: &mut Connection<S>,
     alloc: Global,
@@ -228,7 +210,7 @@ pub(crate) fn all_entries<S: Alter>(
     requires { run < 2 ^ 63 }
     ensures all { (runs : _) → StandsFor (state S.Store conn.old) runs
         → HasCleanDisk (state S.Store conn.new)
-        → IfOk result (λ found. found.items ≡ entries_of (run_at runs run)) }
+        → IfOk result (λ found. found.items ≡ map without_outputs (entries_of (run_at runs run))) }
     ensures failed { IfErr result IsStoreFault }
     ensures stands { KeepsRuns S.Store conn.old conn.new }
     ensures crash { OnlyReads S.Store conn.old conn.new }

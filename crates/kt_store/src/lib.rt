@@ -4,6 +4,7 @@
 mod attach;
 mod batch;
 mod begin;
+mod case_outputs;
 mod close;
 mod crashes;
 mod entries;
@@ -12,6 +13,7 @@ mod growth;
 mod heads;
 mod keeping;
 mod lookup;
+mod outputs;
 mod put;
 mod read;
 mod result_store;
@@ -21,7 +23,9 @@ mod statements;
 mod store_fault;
 mod value;
 
+pub use case_outputs::CaseOutputs;
 pub use crashes::law_of_crashes;
+pub use entries::no_output;
 pub use keeping::Keeping;
 pub use result_store::ResultStore;
 pub use results::Results;

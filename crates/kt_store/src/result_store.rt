@@ -1,3 +1,4 @@
+use crate::case_outputs::CaseOutputs;
 use crate::keeping::Keeping;
 use crate::run_head::RunHead;
 use crate::store_fault::StoreFault;
@@ -7,9 +8,11 @@ use kt_base::Entry;
 /// `NoMemory` and `Store` come where memory or the store itself failed. What was read is right
 /// while the store is sound.
 pub trait ResultStore: Keeping {
+    ghost use Rattle.std.specs.Prelude.{IfErr};
     ghost use Rattle.kt_base.specs.Moments.{IsMoment, IsStorable};
+    ghost use Rattle.kt_store.specs.Ask.{IsStoreFault};
     ghost use Rattle.kt_store.specs.Serving.{Serves};
-    ghost use Rattle.kt_store.specs.StoreCalls.{Began, Put, Finished, Heads, Read, seen_as};
+    ghost use Rattle.kt_store.specs.StoreCalls.{Began, Put, Finished, Heads, Outline, Outputs, seen_as};
 
     /// Adds an unfinished run of `total` cases, and returns its number. The moment is in
     /// milliseconds since 1970 in UTC. `StoreFull` where there are 1,000,000 runs.
@@ -31,12 +34,18 @@ pub trait ResultStore: Keeping {
 
     /// All runs without their entries, by number.
     fn runs(&mut self) -> Result<Vec<RunHead>, StoreFault>
-        ensures { Serves Self.Keeping (Heads (seen_as (λ heads. heads.items) result))
+        ensures served { Serves Self.Keeping (Heads (seen_as (λ heads. heads.items) result))
+            self.old self.new }
+        ensures failed { IfErr result IsStoreFault };
+
+    /// The entries of a run with their pairs and without their outputs, by position. `NoRun` where
+    /// no run has the number. A reason comes back as its text.
+    fn outline(&mut self, run: u64) -> Result<Vec<Entry>, StoreFault>
+        ensures { Serves Self.Keeping (Outline run (seen_as (λ found. found.items) result))
             self.old self.new };
 
-    /// The entries of a run with their pairs, by position. `NoRun` where no run has the number. A
-    /// reason comes back as its text.
-    fn entries(&mut self, run: u64) -> Result<Vec<Entry>, StoreFault>
-        ensures { Serves Self.Keeping (Read run (seen_as (λ found. found.items) result))
-            self.old self.new };
+    /// The outputs of the entry of a run at a position. `NoRun` where no run has the number, or the
+    /// run has no entry there.
+    fn outputs(&mut self, run: u64, position: u32) -> Result<CaseOutputs, StoreFault>
+        ensures { Serves Self.Keeping (Outputs run position result) self.old self.new };
 }

@@ -5,11 +5,13 @@ ghost use Rattle.kt_store.specs.Attaching.{IsOf, Takes, Refuses};
 
 use crate::attach::settle;
 use crate::begin::{add_run, is_full};
+use crate::case_outputs::CaseOutputs;
 use crate::close::{self, mark};
 use crate::entries::all_entries;
 use crate::heads::all_heads;
 use crate::keeping::Keeping;
 use crate::lookup::look;
+use crate::outputs::find_outputs;
 use crate::put::{add_entry, check, reason_of};
 use crate::result_store::ResultStore;
 use crate::run_head::RunHead;
@@ -115,9 +117,15 @@ impl<S: Alter> ResultStore for Results<S> {
         Ok(found)
     }
 
-    fn entries(&mut self, run: u64) -> Result<Vec<Entry>, StoreFault> {
+    fn outline(&mut self, run: u64) -> Result<Vec<Entry>, StoreFault> {
         look(&mut self.conn, run)?;
         let found = all_entries(&mut self.conn, self.alloc, run)?;
+        Ok(found)
+    }
+
+    fn outputs(&mut self, run: u64, position: u32) -> Result<CaseOutputs, StoreFault> {
+        look(&mut self.conn, run)?;
+        let found = find_outputs(&mut self.conn, run, position)?;
         Ok(found)
     }
 }

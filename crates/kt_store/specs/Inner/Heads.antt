@@ -1,4 +1,4 @@
--- The heads of runs, and the columns that they are read from.
+-- The columns that heads, entries, their pairs and their outputs are read from.
 use Rattle.std.specs.Prelude.{ℕ, pos, List, [], ◌∷◌, map, flat_map}
 use Rattle.sqlite.specs.declared.types.Value.TheVariants.{Int, Text, Blob}
 use Rattle.sqlite.specs.Order.{Row}
@@ -12,11 +12,14 @@ use Rattle.kt_store.specs.Runs.{flag, kind_code}
 abbrev pub head_columns : Run → Row
 head_columns r = Int (pos r.number) ∷ Int (pos r.started) ∷ Int (pos r.total) ∷ Int (flag r.finished) ∷ []
 
--- the columns of an entry, as the query for a run's entries shows them
+-- the columns of an entry without its outputs, as the query for a run's entries shows them
 abbrev pub entry_columns : Entry → Row
 entry_columns e =
-    Int (pos e.position) ∷ Text (utf8 e.program) ∷ Text (utf8 e.case_name) ∷ Int (pos (kind_code e.verdict.kind)) ∷ Text (utf8 e.verdict.reason) ∷ Int (pos e.started) ∷ Int (pos e.millis)
-    ∷ Blob e.body.out ∷ Blob e.body.err ∷ Blob e.cleanup.out ∷ Blob e.cleanup.err ∷ []
+    Int (pos e.position) ∷ Text (utf8 e.program) ∷ Text (utf8 e.case_name) ∷ Int (pos (kind_code e.verdict.kind)) ∷ Text (utf8 e.verdict.reason) ∷ Int (pos e.started) ∷ Int (pos e.millis) ∷ []
+
+-- the columns of an entry's outputs, as the query for one entry shows them
+abbrev pub output_columns : Entry → Row
+output_columns e = Blob e.body.out ∷ Blob e.body.err ∷ Blob e.cleanup.out ∷ Blob e.cleanup.err ∷ []
 
 -- the columns of a pair of the entry at a position, as the query for a run's pairs shows them
 abbrev pub pair_columns : ℕ → Variable → Row

@@ -1,12 +1,13 @@
 use Rattle.std.proofs.Common.{rules, pos, ◌≡◌, ◌∙◌, ◌<◌, ◌+◌, suc, [], ◌∷◌, ◌++◌, map, take, drop, get_or, length, sym, ap, subst, arith}
-use Rattle.std.proofs.lemmas.List.{length-map}
+use Rattle.std.proofs.lemmas.List.{length-map, map-append, take_all}
 use Rattle.kt_base.specs.declared.entry.Entry.{Entry}
 use Rattle.sqlite.specs.Order.{Row}
 use Rattle.sqlite_value.specs.Order.{column}
 use Rattle.sqlite.specs.declared.types.Value.TheVariants.{Int}
+use Rattle.kt_store.specs.Heads.{without_outputs}
 use Rattle.kt_store.specs.Inner.Heads.{entry_columns, pair_columns, pairs_shown}
 use Rattle.kt_store.proofs.EntriesLemmas.{one_sound}
-use Rattle.kt_store.proofs.MergeLemmas.{Later, at, all_taken, entry_position}
+use Rattle.kt_store.proofs.MergeLemmas.{Later, at, entry_position}
 use Rattle.kt_store.proofs.entries.entries_in.Goals as goal
 
 pub loop-row-preserved : goal.loop-row-preserved
@@ -20,12 +21,15 @@ loop-row-preserved c es sound up are pairs =
     (c.loop-row.invariant es sound up are pairs).1 ∙ ap pairs_shown it.behind ∙ ap (λ p. map (pair_columns p) it.entry.meta ++ pairs_shown (drop (suc i) es)) (sym position) in
     let later : Later c.in_ok-small_in.field-0 (drop (suc i) es) = subst (λ p. Later p (drop (suc i) es)) (sym position) it.later in
     let found = c.in_ok-meta.ensures.meta it.entry.meta (drop (suc i) es) it.sound.meta later rest in
-    let entry : c.in_ok-entry.entry ≡ it.entry = c.in_ok-entry.ensures.entry it.entry it.sound it.row found.0 in
-    let place : suc i ≡ i + 1 = omega arith in
-    (pushed ∙ ap (λ e. c.loop-row.entries.items ++ e ∷ []) entry ∙ ap (λ l. l ++ it.entry ∷ []) (c.loop-row.invariant es sound up are pairs).0 ∙ sym it.before ∙ ap (λ k. take k es) place, found.1 ∙ ap (λ k. pairs_shown (drop k es)) place)
+    let entry : c.in_ok-entry.entry ≡ without_outputs it.entry = c.in_ok-entry.ensures.entry it.entry it.sound it.row found.0 in
+    let place : suc i ≡ i + 1 = omega arith in (
+      pushed ∙ ap (λ e. c.loop-row.entries.items ++ e ∷ []) entry ∙ ap (λ l. l ++ without_outputs it.entry ∷ []) (c.loop-row.invariant es sound up are pairs).0
+          ∙ sym (map-append without_outputs (take i es) (it.entry ∷ [])) ∙ ap (map without_outputs) (sym it.before) ∙ ap (λ k. map without_outputs (take k es)) place,
+      found.1 ∙ ap (λ k. pairs_shown (drop k es)) place,
+    )
 
 pub returns-clause-entries : goal.returns-clause-entries
-returns-clause-entries c es sound up are pairs = all_taken es c.loop-row.entries.items c.loop-row.row-index (c.loop-row.invariant es sound up are pairs).0 (omega (arith, c.loop-row-test.false, ap length are, length-map es entry_columns))
+returns-clause-entries c es sound up are pairs = (c.loop-row.invariant es sound up are pairs).0 ∙ ap (map without_outputs) (take_all c.loop-row.row-index es (omega (arith, c.loop-row-test.false, ap length are, length-map es entry_columns)))
 
 pub returns-in_err-small_in-clause-read : goal.returns-in_err-small_in-clause-read
 returns-in_err-small_in-clause-read c es sound up small are pairs =

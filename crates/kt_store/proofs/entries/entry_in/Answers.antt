@@ -15,6 +15,4 @@ returns-clause-entry c e sound is meta =
     let verdict : c.of.result ≡ e.verdict = c.of.ensures (λ passed. reason ∙ sound.passed (sym kind ∙ passed)) ∙ rw (kind, reason) refl in
     let started : c.in_ok-started.started ≡ e.started = let q : Int (pos c.in_ok-started.started) ≡ Int (pos e.started) = sym c.in_ok-started.ensures.number ∙ ap (λ l. column l 5) is in cc in
     let millis : c.in_ok-millis.millis ≡ e.millis = let q : Int (pos c.in_ok-millis.millis) ≡ Int (pos e.millis) = sym c.in_ok-millis.ensures.number ∙ ap (λ l. column l 6) is in cc in
-    let body : c.in_ok-body.body ≡ e.body = c.in_ok-body.ensures.output e.body (ap (λ l. column l 7) is) (ap (λ l. column l 8) is) in
-    let cleanup : c.in_ok-cleanup.cleanup ≡ e.cleanup = c.in_ok-cleanup.ensures.output e.cleanup (ap (λ l. column l 9) is) (ap (λ l. column l 10) is) in
-    rw (position, program, case_name, verdict, started, millis, body, cleanup, meta) refl
+    rw (position, program, case_name, verdict, started, millis, c.no_output.ensures, c.no_output-2.ensures, meta) refl

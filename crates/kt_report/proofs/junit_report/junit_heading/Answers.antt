@@ -2,7 +2,7 @@ use Rattle.std.proofs.Common.{ap, length, ◌∙◌}
 use Rattle.std.specs.Fmt.{decimal}
 use Rattle.kt_base.specs.declared.kind.Kind.TheVariants.{Skipped, Failed, Broken}
 use Rattle.kt_report.specs.Texts.{count_bytes}
-use Rattle.kt_report.proofs.junit_report.write_heading.Goals as goal
+use Rattle.kt_report.proofs.junit_report.junit_heading.Goals as goal
 
 pub returns : goal.returns
 returns g c =

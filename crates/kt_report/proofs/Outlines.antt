@@ -1,0 +1,68 @@
+-- What the outputs of entries don't change.
+use Rattle.std.specs.Prelude.{codes, flat_map, fold, if◌then◌else◌}
+use Rattle.std.specs.Fmt.{decimal}
+use Rattle.std.specs.List.{list_any}
+use Rattle.std.proofs.Common.{◌≡◌, ℕ, ◌+◌, Bool, true, false, cond, List, [], ◌∷◌, ◌++◌, length, map, refl, ap, ap₂, ◌∙◌}
+use Rattle.std.proofs.lemmas.List.{length-map}
+use Rattle.jiff_core.specs.declared.civil.date.Date.{Date}
+use Rattle.kt_base.specs.declared.entry.Entry.{Entry}
+use Rattle.kt_base.specs.declared.kind.Kind.{Kind}
+use Rattle.kt_base.specs.declared.kind.Kind.TheVariants.{Passed, Skipped, ExpectedFailure, Failed, Broken}
+use Rattle.kt_base.specs.declared.run.Run.{Run}
+use Rattle.kt_report.specs.Digits.{seconds}
+use Rattle.kt_report.specs.Junits.{heading}
+use Rattle.kt_report.specs.Outlines.{ChangesOutputs, with_entries}
+use Rattle.kt_report.specs.Pairs.{entry_bytes}
+use Rattle.kt_report.specs.Texts.{same_kind, is_of, entries_of, title, titled, section, sections, count_bytes, counts_bytes, started_bytes, text_bytes}
+
+module _ (change : Entry → Entry) (same : ChangesOutputs change) where
+  of_kind : (kind : Kind) (es : List Entry) → entries_of kind (map change es) ≡ map change (entries_of kind es)
+  of_kind kind [] = refl
+  of_kind kind (e ∷ es) = rw (ap (is_of kind) (same e)) (by (is_of kind e) (of_kind kind es))
+    where
+      by : (b : Bool) → entries_of kind (map change es) ≡ map change (entries_of kind es)
+          → cond b (change e ∷ entries_of kind (map change es)) (entries_of kind (map change es)) ≡ map change (cond b (e ∷ entries_of kind es) (entries_of kind es))
+      by true more = ap (λ l. change e ∷ l) more
+      by false more = more
+
+  one : (v : Bool) (e : Entry) → entry_bytes v (change e) ≡ entry_bytes v e
+  one false e = ap (entry_bytes false) (same e)
+  one true e = ap (entry_bytes true) (same e)
+
+  lines : (v : Bool) (es : List Entry) → flat_map (entry_bytes v) (map change es) ≡ flat_map (entry_bytes v) es
+  lines v [] = refl
+  lines v (e ∷ es) = ap₂ (λ x y. x ++ y) (one v e) (lines v es)
+
+  titles : (v : Bool) (name : List ℕ) (es : List Entry) → titled v name (map change es) ≡ titled v name es
+  titles v name [] = refl
+  titles v name (e ∷ es) = ap (λ l. codes "===> " ++ name ++ codes "\n" ++ l) (lines v (e ∷ es))
+
+  one_section : (v : Bool) (kinds : List Kind) (es : List Entry) (kind : Kind) → section v kinds (map change es) kind ≡ section v kinds es kind
+  one_section v kinds es kind = by (list_any (same_kind kind) kinds)
+    where
+      by : (b : Bool) → (if b then titled v (title kind) (entries_of kind (map change es)) else []) ≡ (if b then titled v (title kind) (entries_of kind es) else [])
+      by true = ap (titled v (title kind)) (of_kind kind es) ∙ titles v (title kind) (entries_of kind es)
+      by false = refl
+
+  all_sections : (v : Bool) (kinds : List Kind) (es : List Entry) → sections v kinds (map change es) ≡ sections v kinds es
+  all_sections v kinds es =
+      ap₂ (λ x y. x ++ y) (ap₂ (λ x y. x ++ y) (ap₂ (λ x y. x ++ y) (ap₂ (λ x y. x ++ y) (one_section v kinds es Passed) (one_section v kinds es Skipped)) (one_section v kinds es ExpectedFailure))
+      (one_section v kinds es Broken)) (one_section v kinds es Failed)
+
+  one_count : (kind : Kind) (es : List Entry) → count_bytes kind (map change es) ≡ count_bytes kind es
+  one_count kind es = ap (λ l. decimal (length l)) (of_kind kind es) ∙ ap decimal (length-map (entries_of kind es) change)
+
+  all_counts : (es : List Entry) → counts_bytes (map change es) ≡ counts_bytes es
+  all_counts es = rw (length-map es change, one_count Skipped es, one_count ExpectedFailure es, one_count Broken es, one_count Failed es) refl
+
+  times : (n : ℕ) (es : List Entry) → fold (λ a (e : Entry). a + e.millis) n (map change es) ≡ fold (λ a (e : Entry). a + e.millis) n es
+  times n [] = refl
+  times n (e ∷ es) = ap (λ m. fold (λ a (e : Entry). a + e.millis) (n + m) (map change es)) (ap (λ (d : Entry). d.millis) (same e)) ∙ times (n + e.millis) es
+
+  pub same_text : (date : Date) (kinds : List Kind) (v : Bool) (run : Run) → text_bytes date kinds v (with_entries change run) ≡ text_bytes date kinds v run
+  same_text date kinds v run =
+      ap₂ (λ x y. x ++ y) (all_sections v kinds run.entries)
+      (ap₂ (λ x y. started_bytes date run ++ x ++ codes "Total time: " ++ seconds y ++ codes "s\n") (all_counts run.entries) (times 0 run.entries))
+
+  pub same_heading : (run : Run) → heading (with_entries change run) ≡ heading run
+  same_heading run = rw (length-map run.entries change, one_count Failed run.entries, one_count Broken run.entries, one_count Skipped run.entries) refl

@@ -1,0 +1,74 @@
+-- What the query for the outputs of an entry answers.
+use Rattle.std.proofs.Common.{◌≡◌, ◌==◌, ◌&&◌, ℕ, pos, List, [], ◌∷◌, map, filter, Bool, true, false, cond, Some, None, Option, slice_get, refl, sym, ap, ◌∙◌, ◌⊎◌, inl, inr}
+use Rattle.std.specs.List.{find}
+use Rattle.sqlite.specs.Order.{Row}
+use Rattle.sqlite.specs.Store.{Ghosts}
+use Rattle.sqlite.specs.Held.{Held, state}
+use Rattle.sqlite.specs.State.{State, Shown, HasCleanDisk}
+use Rattle.sqlite.proofs.Callers.{reads_as}
+use Rattle.kt_base.specs.declared.run.Run.{Run}
+use Rattle.kt_base.specs.declared.entry.Entry.{Entry}
+use Rattle.kt_store.specs.Ask.{IsStoreFault}
+use Rattle.kt_store.specs.Heads.{entry_at}
+use Rattle.kt_store.specs.declared.store_fault.StoreFault.{StoreFault}
+use Rattle.kt_store.specs.declared.store_fault.StoreFault.TheVariants.{NoRun}
+use Rattle.kt_store.specs.Tables.{outputs_text, schema_2}
+use Rattle.kt_store.specs.Inner.Heads.{output_columns}
+use Rattle.kt_store.specs.Inner.Runs.{entries_of}
+use Rattle.kt_store.specs.Runs.{run_at}
+use Rattle.kt_store.specs.Stands.{IsStore, StandsFor}
+use Rattle.kt_store.specs.Inner.Ask.{Asked}
+use Rattle.kt_store.proofs.SqlFacts.{outputs_select_is, outputs_query}
+use Rattle.kt_store.proofs.KeptEntries.{Same, tells_kept}
+use Rattle.kt_store.proofs.EntriesLemmas.{up_of}
+use Rattle.kt_store.proofs.ThereLemmas.{there_params, there_tests, each}
+use Rattle.kt_store.proofs.AskLemmas.{asked_mid}
+
+-- an entry has this position
+abbrev pub has : ℕ → Entry → Bool
+has p e = e.position == p
+
+same_rows : (n p : ℕ) (r : Row) → Same there_tests outputs_query.project (there_params n p) r
+same_rows n p [] = (refl, refl)
+same_rows n p (x ∷ r) = (refl, refl)
+
+tells_outputs : (old new : State) (runs : List Run) (n p : ℕ) (rows : List Row) → IsStore old runs → Shown outputs_text (there_params n p) old new rows → rows ≡ map output_columns (filter (has p) (entries_of (run_at runs n)))
+tells_outputs old new runs n p rows is h =
+    let reads = reads_as outputs_text (there_params n p) old new schema_2 is.tables.schema _ outputs_select_is.0 outputs_select_is.2 outputs_select_is.1 rows h in
+    tells_kept there_tests outputs_query.project (there_params n p) (same_rows n p) n (has p) (each n p) old runs rows is (up_of runs n is.tables.valid) reads.answer
+
+module _ {S : Type 0} (g : Ghosts S) (old new : Held S) (runs : List Run) (stands : StandsFor (state g old) runs) (earlier : HasCleanDisk (state g new) → HasCleanDisk (state g old)) where
+  pub asked_outputs : (n p : ℕ) (rows : List Row) → HasCleanDisk (state g new) → Asked g outputs_text (there_params n p) old new rows → rows ≡ map output_columns (filter (has p) (entries_of (run_at runs n)))
+  asked_outputs n p rows clean it = tells_outputs (state g it.mid) (state g new) runs n p rows (asked_mid g old new runs stands earlier outputs_text outputs_select_is.2 (there_params n p) rows clean it) it.shown
+
+-- the first row is that of the entry at the position
+first_is : (p : ℕ) (es : List Entry) (row : Row) → slice_get (map output_columns (filter (has p) es)) 0 ≡ Some row → (e : Entry) × (find (has p) es ≡ Some e) × (row ≡ output_columns e)
+first_is p [] row h = absurd cc
+first_is p (e ∷ es) row h = by (has p e) (first_is p es row) h
+  where
+    by : (b : Bool) → (slice_get (map output_columns (filter (has p) es)) 0 ≡ Some row → (d : Entry) × (find (has p) es ≡ Some d) × (row ≡ output_columns d))
+        → slice_get (map output_columns (cond b (e ∷ filter (has p) es) (filter (has p) es))) 0 ≡ Some row → (d : Entry) × (cond b (Some e) (find (has p) es) ≡ Some d) × (row ≡ output_columns d)
+    by true more h = (e, refl, let same : row ≡ output_columns e = cc in same)
+    by false more h = more h
+
+none_is : (p : ℕ) (es : List Entry) → slice_get (map output_columns (filter (has p) es)) 0 ≡ None → find (has p) es ≡ None
+none_is p [] h = refl
+none_is p (e ∷ es) h = by (has p e) (none_is p es) h
+  where
+    by : (b : Bool) → (slice_get (map output_columns (filter (has p) es)) 0 ≡ None → find (has p) es ≡ None)
+        → slice_get (map output_columns (cond b (e ∷ filter (has p) es) (filter (has p) es))) 0 ≡ None → cond b (Some e) (find (has p) es) ≡ None
+    by true more h = absurd cc
+    by false more h = more h
+
+pub outputs_there : (o : Option Run) (p : ℕ) (rows : List Row) (row : Row) → rows ≡ map output_columns (filter (has p) (entries_of o)) → slice_get rows 0 ≡ Some row → (e : Entry) × (entry_at o p ≡ Some e) × (row ≡ output_columns e)
+outputs_there None p rows row are first = absurd (let e : None ≡ Some row = sym (ap (λ l. slice_get l 0) are) ∙ first in cc)
+outputs_there (Some r) p rows row are first = first_is p r.entries row (sym (ap (λ l. slice_get l 0) are) ∙ first)
+
+pub no_outputs : (o : Option Run) (p : ℕ) (rows : List Row) → rows ≡ map output_columns (filter (has p) (entries_of o)) → slice_get rows 0 ≡ None → entry_at o p ≡ None
+no_outputs None p rows are none = refl
+no_outputs (Some r) p rows are none = none_is p r.entries (sym (ap (λ l. slice_get l 0) are) ∙ none)
+
+-- a run that isn't there has no entry
+pub no_run_no_entry : (runs : List Run) (n p : ℕ) (fault : StoreFault) → IsStoreFault fault ⊎ ((fault ≡ NoRun) × (run_at runs n ≡ None)) → IsStoreFault fault ⊎ ((fault ≡ NoRun) × (entry_at (run_at runs n) p ≡ None))
+no_run_no_entry runs n p fault (inl failed) = inl failed
+no_run_no_entry runs n p fault (inr none) = inr (none.0, ap (λ (o : Option Run). entry_at o p) none.1)

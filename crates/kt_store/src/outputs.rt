@@ -1,0 +1,109 @@
+ghost use Rattle.std.specs.Prelude.{◌≡◌, ◌⊎◌, ◌<◌, ◌^◌, ◌==◌, ℕ, length, map, List, Some, None, IfOk, IfErr};
+ghost use Rattle.std.specs.List.{filter};
+ghost use Rattle.kt_base.specs.declared.entry.Entry.{Entry};
+ghost use Rattle.kt_base.specs.declared.output.Output.{Output as Pair};
+ghost use Rattle.sqlite_value.specs.Order.{column};
+ghost use Rattle.sqlite_value.specs.declared.value.Value.TheVariants.{Blob};
+ghost use Rattle.sqlite.specs.State.{HasCleanDisk};
+ghost use Rattle.sqlite.specs.Held.{state};
+ghost use Rattle.kt_store.specs.Ask.{IsNoMemory, IsStoreFault};
+ghost use Rattle.kt_store.specs.Heads.{outputs_of, entry_at};
+ghost use Rattle.kt_store.specs.Inner.Kept.{KeepsRuns, OnlyReads};
+ghost use Rattle.kt_store.specs.Inner.Heads.{output_columns};
+ghost use Rattle.kt_store.specs.Inner.Runs.{entries_of};
+ghost use Rattle.kt_store.specs.Runs.{run_at};
+ghost use Rattle.kt_store.specs.Stands.{StandsFor};
+
+use crate::case_outputs::CaseOutputs;
+use crate::statements::{ask, value_in};
+use crate::store_fault::StoreFault;
+use crate::value::int;
+use kt_base::{Bytes, Output};
+use sqlite::{Alter, Connection, Row};
+
+fn bytes_in(row: &Row, at: usize) -> Result<Bytes, StoreFault>
+    ensures bytes { IfOk result (λ b. column row.now at ≡ Blob b) }
+    ensures read { (b : List ℕ) → at < length row.now → column row.now at ≡ Blob b
+        → IfErr result IsNoMemory }
+    ensures failed { IfErr result IsStoreFault }
+{
+    let items = value_in::<Vec<u8>>(row, at)?;
+    Ok(Bytes::from_vec(items))
+}
+
+fn output_in(row: &Row, out: usize, err: usize) -> Result<Output, StoreFault>
+    ensures output { (o : Pair) → column row.now out ≡ Blob o.out → column row.now err ≡ Blob o.err
+        → IfOk result (λ x. x ≡ o) }
+    ensures read { (o : Pair) → out < length row.now → err < length row.now
+        → column row.now out ≡ Blob o.out → column row.now err ≡ Blob o.err
+        → IfErr result IsNoMemory }
+    ensures failed { IfErr result IsStoreFault }
+{
+    let first = bytes_in(row, out)?;
+    let second = bytes_in(row, err)?;
+    Ok(Output {
+        out: first,
+        err: second,
+    })
+}
+
+/// The outputs in a row.
+fn outputs_in(row: &Row) -> Result<CaseOutputs, StoreFault>
+    ensures outputs { (e : Entry) → row.now ≡ output_columns e
+        → IfOk result (λ o. o ≡ outputs_of e) }
+    ensures read { (e : Entry) → row.now ≡ output_columns e → IfErr result IsNoMemory }
+    ensures failed { IfErr result IsStoreFault }
+{
+    let body = output_in(row, 0, 1)?;
+    let cleanup = output_in(row, 2, 3)?;
+    Ok(CaseOutputs { body, cleanup })
+}
+
+/// The row of the outputs of a run's entry at a position, if it has one.
+fn output_rows<S: Alter>(
+    conn: &mut Connection<S>,
+    run: u64,
+    position: u32,
+) -> Result<Vec<Row>, StoreFault>
+    requires { run < 2 ^ 63 }
+    ensures all { (runs : _) → StandsFor (state S.Store conn.old) runs
+        → HasCleanDisk (state S.Store conn.new)
+        → IfOk result (λ rows. rows.items ≡ map output_columns
+        (filter (λ (e : Entry). e.position == position) (entries_of (run_at runs run)))) }
+    ensures failed { IfErr result IsStoreFault }
+    ensures stands { KeepsRuns S.Store conn.old conn.new }
+    ensures crash { OnlyReads S.Store conn.old conn.new }
+{
+    let rows = ask(
+        conn,
+        "SELECT body_out, body_err, clean_out, clean_err FROM entries WHERE run = ?1 AND position = ?2 ORDER BY position",
+        &[int(run), int(u64::from(position))],
+    )?;
+    Ok(rows)
+}
+
+/// The outputs of a run's entry at a position.
+pub(crate) fn find_outputs<S: Alter>(
+    conn: &mut Connection<S>,
+    run: u64,
+    position: u32,
+) -> Result<CaseOutputs, StoreFault>
+    requires { run < 2 ^ 63 }
+    ensures found { (runs : _) → StandsFor (state S.Store conn.old) runs
+        → HasCleanDisk (state S.Store conn.new)
+        → IfOk result (λ o. (e : Entry) × (entry_at (run_at runs run) position ≡ Some e)
+        × (o ≡ outputs_of e)) }
+    ensures refused { (runs : _) → StandsFor (state S.Store conn.old) runs
+        → HasCleanDisk (state S.Store conn.new)
+        → IfErr result (λ e. IsStoreFault e
+        ⊎ ((e ≡ StoreFault.NoRun) × (entry_at (run_at runs run) position ≡ None))) }
+    ensures stands { KeepsRuns S.Store conn.old conn.new }
+    ensures crash { OnlyReads S.Store conn.old conn.new }
+{
+    let rows = output_rows(conn, run, position)?;
+    let Some(row) = rows.first() else {
+        return Err(StoreFault::NoRun);
+    };
+    let outputs = outputs_in(row)?;
+    Ok(outputs)
+}
