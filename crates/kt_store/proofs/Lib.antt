@@ -37,3 +37,4 @@ pub mod CommitLemmas
 pub mod AttachLemmas
 pub mod UniqueLemmas
 pub mod ProbeLemmas
+pub mod WholeEntries

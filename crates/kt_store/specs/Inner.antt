@@ -7,3 +7,4 @@ pub mod Heads
 pub mod Kept
 pub mod Runs
 pub mod Transactions
+pub mod Whole

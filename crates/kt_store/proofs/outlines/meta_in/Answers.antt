@@ -1,6 +1,6 @@
 use Rattle.std.proofs.Common.{◌∙◌, sym, rules}
 use Rattle.kt_store.proofs.MergeLemmas.{next_is, first_column, next_pair, one_read, all_read, no_more}
-use Rattle.kt_store.proofs.entries.meta_in.Goals as goal
+use Rattle.kt_store.proofs.outlines.meta_in.Goals as goal
 
 pub returns-in_err-number_in-clause-read : goal.returns-in_err-number_in-clause-read
 returns-in_err-number_in-clause-read c vs others sound later are =

@@ -8,7 +8,7 @@ use Rattle.kt_store.specs.Heads.{without_outputs}
 use Rattle.kt_store.specs.Inner.Heads.{entry_columns, pair_columns, pairs_shown}
 use Rattle.kt_store.proofs.EntriesLemmas.{one_sound}
 use Rattle.kt_store.proofs.MergeLemmas.{Later, at, entry_position}
-use Rattle.kt_store.proofs.entries.entries_in.Goals as goal
+use Rattle.kt_store.proofs.outlines.entries_in.Goals as goal
 
 pub loop-row-preserved : goal.loop-row-preserved
 loop-row-preserved c es sound up are pairs =

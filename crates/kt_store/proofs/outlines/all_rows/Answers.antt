@@ -4,7 +4,7 @@ use Rattle.kt_store.specs.Tables.{outline_text}
 use Rattle.kt_store.proofs.SqlFacts.{outline_select_is}
 use Rattle.kt_store.proofs.AskLemmas.{asked_mid, asked_stands, asked_survives}
 use Rattle.kt_store.proofs.EntriesLemmas.{asked_entries}
-use Rattle.kt_store.proofs.entries.all_rows.Goals as goal
+use Rattle.kt_store.proofs.outlines.all_rows.Goals as goal
 
 pub returns-clause-all : goal.returns-clause-all
 returns-clause-all g c runs has clean = asked_entries g.S.Store c.args.conn.now c.ask.new.conn runs has (λ k. omega (arith, k, c.ask.ensures.survives.clean)) c.args.run c.in_ok-rows.rows.items clean (rw c.int.ensures at (c.in_ok-rows.ensures.rows clean))

@@ -5,7 +5,7 @@ use Rattle.sqlite.proofs.StateLemmas.{survives_then}
 use Rattle.kt_store.specs.Inner.Runs.{entries_of}
 use Rattle.kt_store.specs.Runs.{run_at}
 use Rattle.kt_store.proofs.EntriesLemmas.{sound_of, up_of}
-use Rattle.kt_store.proofs.entries.all_entries.Goals as goal
+use Rattle.kt_store.proofs.outlines.all_entries.Goals as goal
 
 pub returns-clause-all : goal.returns-clause-all
 returns-clause-all g c runs has clean =

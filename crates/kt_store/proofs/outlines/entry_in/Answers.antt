@@ -2,7 +2,7 @@ use Rattle.std.proofs.Common.{◌≡◌, ◌∙◌, pos, refl, sym, ap}
 use Rattle.sqlite_value.specs.Order.{column}
 use Rattle.kt_store.specs.Runs.{kind_code}
 use Rattle.sqlite.specs.declared.types.Value.TheVariants.{Int}
-use Rattle.kt_store.proofs.entries.entry_in.Goals as goal
+use Rattle.kt_store.proofs.outlines.entry_in.Goals as goal
 
 pub returns-clause-entry : goal.returns-clause-entry
 returns-clause-entry c e sound is meta =

@@ -5,7 +5,7 @@ use Rattle.sqlite_trees.specs.Tree.{IsAscending}
 use Rattle.kt_store.specs.Runs.{IsEntry}
 use Rattle.kt_store.specs.Heads.{without_outputs}
 use Rattle.kt_store.specs.Inner.Heads.{entry_columns, pairs_shown}
-use Rattle.kt_store.proofs.entries.entries_in.Given as goal
+use Rattle.kt_store.proofs.outlines.entries_in.Given as goal
 
 abbrev pub invariant-loop-row : goal.invariant-loop-row
 invariant-loop-row l = (es : List Entry) → AllByRecursion IsEntry es → IsAscending (λ (a b : Entry). a.position < b.position) es → l.rows ≡ map entry_columns es → l.pairs ≡ pairs_shown es

@@ -4,7 +4,7 @@ use Rattle.kt_store.specs.Tables.{pairs_text}
 use Rattle.kt_store.proofs.SqlFacts.{pairs_select_is}
 use Rattle.kt_store.proofs.AskLemmas.{asked_stands, asked_survives}
 use Rattle.kt_store.proofs.PairsLemmas.{asked_pairs}
-use Rattle.kt_store.proofs.entries.all_pairs.Goals as goal
+use Rattle.kt_store.proofs.outlines.all_pairs.Goals as goal
 
 pub returns-clause-all : goal.returns-clause-all
 returns-clause-all g c runs has clean = asked_pairs g.S.Store c.args.conn.now c.ask.new.conn runs has (λ k. omega (arith, k, c.ask.ensures.survives.clean)) c.args.run c.in_ok-rows.rows.items clean (rw c.int.ensures at (c.in_ok-rows.ensures.rows clean))

@@ -1,6 +1,6 @@
 use Rattle.std.proofs.Common.{length}
 use Rattle.kt_store.proofs.MergeLemmas.{SoFar}
-use Rattle.kt_store.proofs.entries.meta_in.Given as goal
+use Rattle.kt_store.proofs.outlines.meta_in.Given as goal
 
 abbrev pub invariant-loop-row : goal.invariant-loop-row
 invariant-loop-row l = SoFar l.position l.rows l.meta l.rest

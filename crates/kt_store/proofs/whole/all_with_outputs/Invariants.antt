@@ -1,0 +1,16 @@
+use Rattle.std.proofs.Common.{◌≡◌, ◌++◌, List, map}
+use Rattle.kt_base.specs.declared.entry.Entry.{Entry}
+use Rattle.kt_base.specs.declared.run.Run.{Run}
+use Rattle.kt_store.specs.Heads.{without_outputs}
+use Rattle.kt_store.specs.Inner.Whole.{AreAt}
+use Rattle.kt_store.specs.Runs.{run_at}
+use Rattle.kt_store.proofs.whole.all_with_outputs.Given as goal
+
+-- the store stands for the same runs, and the entries so far, and those of the rest, are the run's
+abbrev pub invariant-loop-entry : goal.invariant-loop-entry
+invariant-loop-entry g l = record {
+  stands : (runs : List Run) → g.R.Keeping.stands l.fn.results runs → g.R.Keeping.stands l.results runs;
+  earlier : (runs : List Run) → g.R.Keeping.stands l.fn.results runs → g.R.Keeping.sound l.results → g.R.Keeping.sound l.fn.results;
+  filled : (runs : List Run) (es : List Entry) → g.R.Keeping.stands l.fn.results runs → g.R.Keeping.sound l.results → AreAt (run_at runs l.fn.run) es → l.fn.outline.items ≡ map without_outputs es
+      → (rest : List Entry) × AreAt (run_at runs l.fn.run) rest × (l.entry-iterator.rest.items ≡ map without_outputs rest) × (l.entries.items ++ rest ≡ es);
+}
