@@ -17,19 +17,16 @@ use Rattle.sqlite.specs.Collation.TheVariants.{Binary}
 use Rattle.sqlite.specs.Program.{overlay}
 use Rattle.sqlite.specs.Store.{Ghosts}
 use Rattle.sqlite.specs.Held.{Held, state}
-use Rattle.sqlite.specs.State.{State, Shown, HasCleanDisk}
 use Rattle.sqlite.proofs.Callers.{reads_as, one_permutation}
 use Rattle.kt_base.specs.declared.run.Run.{Run}
 use Rattle.kt_base.specs.declared.entry.Entry.{Entry}
 use Rattle.kt_store.specs.Tables.{count_text, schema_2}
 use Rattle.kt_store.specs.Inner.Runs.{entries_of}
 use Rattle.kt_store.specs.Runs.{entry_row, entry_rows, run_at}
-use Rattle.kt_store.specs.Stands.{IsStore, StandsFor}
-use Rattle.kt_store.specs.Inner.Ask.{Asked}
+use Rattle.kt_store.specs.Inner.Ask.{ShowsOf}
 use Rattle.kt_store.proofs.SqlFacts.{count_is, count_query, is}
 use Rattle.kt_store.proofs.QueryLemmas.{found, overlay_none}
 use Rattle.kt_store.proofs.EntryLemmas.{back, of_stored, of_run, same_test, one_truth}
-use Rattle.kt_store.proofs.AskLemmas.{asked_mid}
 
 abbrev tests : List Term
 tests = is (col 1 1) (col 0 0) ∷ []
@@ -96,21 +93,17 @@ all_pass : (es : List Entry) → filter (λ (e : Entry). true) es ≡ es
 all_pass [] = refl
 all_pass (e ∷ es) = ap (λ l. e ∷ l) (all_pass es)
 
-pub tells_count : (old new : State) (runs : List Run) (n : ℕ) (rows : List Row) → IsStore old runs → Shown count_text (Int (pos n) ∷ []) old new rows
+pub tells_count : {S : Type 0} (g : Ghosts S) (new : Held S) (runs : List Run) (n : ℕ) (rows : List Row) → ShowsOf g runs count_text (Int (pos n) ∷ []) new rows
     → rows ≡ (Int (pos (min (length (entries_of (run_at runs n))) most)) ∷ []) ∷ []
-tells_count old new runs n rows has h =
+tells_count g new runs n rows it =
     let params : Row = Int (pos n) ∷ [] in
-    let reads = reads_as count_text params old new schema_2 has.tables.schema _ count_is.0 count_is.2 count_is.1 rows h in
-    let is = counted old.now.trees params rows reads.answer in
-    let from = of_stored (old.now.trees 3) (entry_rows runs) has.tables.entries_are (passes params) (λ r. no_row) (same_passes params) (λ r. refl) in
-    let of_one = of_run (λ r. passes params (back r)) (λ (e : Entry). true) n runs (each n) has.tables.valid.numbered in
-    let long : length (filter (passes params) (old.now.trees 3)) ≡ length (entries_of (run_at runs n)) =
+    let reads = reads_as count_text params (state g it.mid) (state g new) schema_2 it.stored.tables.schema _ count_is.0 count_is.2 count_is.1 rows it.shown in
+    let is = counted (state g it.mid).now.trees params rows reads.answer in
+    let from = of_stored ((state g it.mid).now.trees 3) (entry_rows runs) it.stored.tables.entries_are (passes params) (λ r. no_row) (same_passes params) (λ r. refl) in
+    let of_one = of_run (λ r. passes params (back r)) (λ (e : Entry). true) n runs (each n) it.stored.tables.valid.numbered in
+    let long : length (filter (passes params) ((state g it.mid).now.trees 3)) ≡ length (entries_of (run_at runs n)) =
     sym (length-map _ (λ (r : Row). no_row)) ∙ length_permutation _ _ from ∙ length-map _ _ ∙ ap length of_one ∙ length-map _ (entry_row n) ∙ ap length (all_pass (entries_of (run_at runs n))) in
     is ∙ ap (λ k. (Int (pos (min k most)) ∷ []) ∷ []) long
-
-module _ {S : Type 0} (g : Ghosts S) (old new : Held S) (runs : List Run) (has : StandsFor (state g old) runs) (earlier : HasCleanDisk (state g new) → HasCleanDisk (state g old)) where
-  pub asked_count : (n : ℕ) (rows : List Row) → HasCleanDisk (state g new) → Asked g count_text (Int (pos n) ∷ []) old new rows → rows ≡ (Int (pos (min (length (entries_of (run_at runs n))) most)) ∷ []) ∷ []
-  asked_count n rows clean it = tells_count (state g it.mid) (state g new) runs n rows (asked_mid g old new runs has earlier count_text count_is.2 (Int (pos n) ∷ []) rows clean it) it.shown
 
 pub only_number : (n : ℕ) (rows : List Row) (first : Row) (read : ℕ) → rows ≡ (Int (pos n) ∷ []) ∷ [] → slice_get rows 0 ≡ Some first
     → column first 0 ≡ Int (pos read) → read ≡ n

@@ -89,17 +89,6 @@ sound_of runs n valid = go (run_at runs n) (λ r there. run_of n runs r valid th
     go None h = tt
     go (Some r) h = (h r refl).sound
 
-all_below : (es : List Entry) (total : ℕ) → total < 4294967296 → AllByRecursion (λ (e : Entry). e.position < total) es → AllByRecursion (λ (e : Entry). e.position < 4294967296) es
-all_below [] total small h = tt
-all_below (e ∷ es) total small h = (omega (arith, small, h.0), all_below es total small h.1)
-
-pub small_of : (runs : List Run) (n : ℕ) → AreRuns runs → AllByRecursion (λ (e : Entry). e.position < 4294967296) (entries_of (run_at runs n))
-small_of runs n valid = go (run_at runs n) (λ r there. run_of n runs r valid there)
-  where
-    go : (o : Option Run) → ((r : Run) → o ≡ Some r → IsRun r) → AllByRecursion (λ (e : Entry). e.position < 4294967296) (entries_of o)
-    go None h = tt
-    go (Some r) h = all_below r.entries r.total (h r refl).small (h r refl).below
-
 pub tells_entries : (old new : State) (runs : List Run) (n : ℕ) (rows : List Row) → IsStore old runs → Shown entries_text (Int (pos n) ∷ []) old new rows → rows ≡ map entry_columns (entries_of (run_at runs n))
 tells_entries old new runs n rows has h =
     let params : Row = Int (pos n) ∷ [] in

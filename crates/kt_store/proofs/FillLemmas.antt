@@ -1,5 +1,5 @@
 -- What the statements do that put an entry and its pairs, one after the other.
-use Rattle.std.proofs.Common.{◌≡◌, inl, inr, ℕ, suc, ◌+◌, ◌<◌, pos, List, [], ◌∷◌, ◌++◌, length, map, drop, codes, None, Ok, refl, sym, ap, subst, ◌∙◌, arith, IsPermutation, IsTrue, true, false}
+use Rattle.std.proofs.Common.{◌≡◌, ℕ, suc, ◌+◌, ◌<◌, pos, List, [], ◌∷◌, ◌++◌, length, map, drop, codes, None, Ok, refl, sym, ap, subst, ◌∙◌, arith, IsPermutation, IsTrue, true, false}
 use Rattle.std.specs.List.{AllByRecursion}
 use Rattle.std.proofs.lemmas.List.Sorted.{IsPermutation-cons, IsPermutation-trans, IsPermutation-map, IsPermutation-sym, IsPermutation-middle}
 use Rattle.sqlite.specs.declared.types.Value.TheVariants.{Int, Text}
@@ -31,8 +31,9 @@ use Rattle.kt_store.specs.Stands.{StandsFor}
 use Rattle.kt_store.proofs.SqlFacts.{put_is, put_terms, pair_is, pair_terms}
 use Rattle.kt_store.proofs.InsertLemmas.{changed}
 use Rattle.kt_store.proofs.BeginLemmas.{cast_null, cast_int}
-use Rattle.kt_store.proofs.PutLemmas.{put_beside, same_runs, same_numbers, as_many, more_rows, put_rows, put_works, free_from_fresh}
+use Rattle.kt_store.proofs.PutLemmas.{put_beside, same_runs, as_many, more_rows, put_rows, put_works, free_from_fresh}
 use Rattle.kt_store.proofs.PairLemmas.{more_pairs}
+use Rattle.kt_store.proofs.Numbered.{numbers_entry}
 
 -- the tables of schema 2 with the rows of these runs, of these entries and of these pairs
 pub record Holds (runs : List Run) (entries props : List Row) (db : Database) : Type 0 where
@@ -127,7 +128,7 @@ module _ {S : Type 0} (g : Ghosts S) where
           runs_are = all.0.runs_are ∙ sym (same_runs (suc k) e runs);
           entries_are = IsPermutation-trans _ _ _ (IsPermutation-sym _ _ rows) all.0.entries_are;
           props_are = IsPermutation-trans _ _ _ (IsPermutation-sym _ _ pairs) all.0.props_are;
-          valid = record { numbered = same_numbers (suc k) e 1 runs has.valid.numbered; each = valid; few = omega (arith, has.valid.few, as_many (suc k) e runs) };
+          valid = record { numbered = numbers_entry (suc k) e 1 runs has.valid.numbered; each = valid; few = omega (arith, has.valid.few, as_many (suc k) e runs) };
         },
         all.1,
       )

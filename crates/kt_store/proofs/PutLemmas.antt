@@ -54,14 +54,6 @@ same_runs run e (r ∷ runs) = go (r.number == run) (same_runs run e runs)
     go true more = refl
     go false more = ap (λ l. run_row r ∷ l) more
 
-pub same_numbers : (run : ℕ) (e : Entry) (from : ℕ) (runs : List Run) → AreNumbered from runs → AreNumbered from (with_entry run e runs)
-same_numbers run e from [] h = tt
-same_numbers run e from (r ∷ runs) h = go (r.number == run) (same_numbers run e (suc from) runs h.1)
-  where
-    go : (b : Bool) → AreNumbered (suc from) (with_entry run e runs) → AreNumbered from (cond b (record r { entries = insert_at e r.entries } ∷ runs) (r ∷ with_entry run e runs))
-    go true more = (h.0, h.1)
-    go false more = (h.0, more)
-
 pub as_many : (run : ℕ) (e : Entry) (runs : List Run) → length (with_entry run e runs) ≡ length runs
 as_many run e [] = refl
 as_many run e (r ∷ runs) = go (r.number == run) (as_many run e runs)

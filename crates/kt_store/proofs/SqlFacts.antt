@@ -14,7 +14,7 @@ use Rattle.sqlite.proofs.Callers.{IsPlain, command_of}
 use Rattle.sqlite_sql.specs.declared.ops.BinaryOp.TheVariants.{Compare}
 use Rattle.sqlite_sql.specs.declared.ops.CompareOp.TheVariants.{Eq}
 use Rattle.sqlite_tied.specs.Compute.{everything}
-use Rattle.kt_store.specs.Tables.{schema_2, full_text, begin_text, run_text, count_text, finish_text, runs_text, there_text, put_text, entries_text, pairs_text, meta_text, mark_text, raise_text}
+use Rattle.kt_store.specs.Tables.{schema_2, full_text, begin_text, run_text, count_text, finish_text, runs_text, there_text, put_text, entries_text, pairs_text, mark_text, raise_text}
 use Rattle.kt_store.specs.Inner.Calls.{pair_text}
 
 abbrev pub query : Query
@@ -118,10 +118,6 @@ entries_select_is = (refl, refl, (refl, refl))
 
 abbrev pub meta_query : Query
 meta_query = record query { from = inner 0 end; filter = is (col 1 1) (lit (Text (codes "schema"))) ∷ []; project = col 1 2 ∷ [] }
-
-pub meta_select_is : (command_of (understood schema_2 meta_text) ≡ select meta_query (codes "value" ∷ [])) × (reads_listing schema_2 meta_text ≡ false) × IsPlain (understood schema_2 meta_text)
-unfolding understood everything
-meta_select_is = (refl, refl, (refl, refl))
 
 abbrev pub mark_terms : List Term
 mark_terms = lit Null ∷ lit (Text (codes "schema")) ∷ lit (Int (pos 2)) ∷ []

@@ -1,5 +1,5 @@
 -- Statements of a transaction, one after the other.
-use Rattle.std.proofs.Common.{◌≡◌, ◌∙◌, ℕ, zero, suc, ◌+◌, ◌<◌, ◌≤◌, List, [], ◌∷◌, length, map, drop, refl, sym, ap, subst, arith, IsTrue}
+use Rattle.std.proofs.Common.{◌≡◌, ◌∙◌, ℕ, zero, suc, ◌+◌, ◌<◌, List, [], ◌∷◌, length, map, drop, refl, sym, ap, subst, arith, IsTrue}
 use Rattle.std.specs.Prelude.{get_or}
 use Rattle.sqlite.specs.Store.{Ghosts}
 use Rattle.sqlite.specs.Held.{Held, state}
@@ -18,10 +18,6 @@ module _ {S : Type 0} (g : Ghosts S) where
     pub keeps : HasCleanDisk (state g now) → KeepsCommit (state g start) (state g now)
     pub inside : HasCleanDisk (state g now) → IsTrue (state g start).in_transaction → IsTrue (state g now).in_transaction
     pub runs : HasCleanDisk (state g now) → IsTrue (state g start).in_transaction → (end : Held S) → RunInTurn g rest now end → RunInTurn g statements start end
-
-  -- nothing is done yet
-  pub at_start : (statements : List Statement) (start : Held S) → Survives (state g start) (state g start) (λ (db : Trees). ⊥) → SoFar statements statements start start
-  at_start statements start same = record { survives = same; keeps = λ clean. record { was_open = λ h. h; committed = λ h. refl }; inside = λ clean inside. inside; runs = λ clean inside end ran. ran }
 
   -- one more is done
   pub one_done : (statements rest : List Statement) (s : Statement) (start now next : Held S) → SoFar statements (s ∷ rest) start now → Survives (state g now) (state g next) (λ (db : Trees). ⊥)
@@ -43,26 +39,12 @@ dropped_or (x ∷ vs) (suc i) d low = dropped_or vs i d (omega (arith, low))
 dropped : {T : Type 0} (vs : List T) (i : ℕ) (v : T) → i < length vs → v ≡ get_or vs i v → drop i vs ≡ v ∷ drop (suc i) vs
 dropped vs i v low is = dropped_or vs i v low ∙ ap (λ y. y ∷ drop (suc i) vs) (sym is)
 
-none : {T : Type 0} (vs : List T) (i : ℕ) → length vs ≤ i → drop i vs ≡ []
-none [] zero long = refl
-none [] (suc i) long = refl
-none (x ∷ vs) zero long = absurd (omega (arith, long))
-none (x ∷ vs) (suc i) long = none vs i (omega (arith, long))
-
 -- the pair at a place, and those after it
 pub pairs_at : (run position i : ℕ) (vs : List Variable) (v : Variable) → i < length vs → v ≡ get_or vs i v → pair_statements run position i (drop i vs) ≡ pair_statements run position i (v ∷ drop (suc i) vs)
 pairs_at run position i vs v low is = ap (pair_statements run position i) (dropped vs i v low is)
-
--- after the last pair there is none
-pub pairs_end : (run position i : ℕ) (vs : List Variable) → length vs ≤ i → pair_statements run position i (drop i vs) ≡ []
-pairs_end run position i vs long = ap (pair_statements run position i) (none vs i long)
 
 -- the text at a place, and those after it
 pub texts_at : {T : Type 0} (see : T → List ℕ) (i : ℕ) (vs : List T) (d : T) → i < length vs → plain_statements (map see (drop i vs)) ≡ (see (get_or vs i d), []) ∷ plain_statements (map see (drop (i + 1) vs))
 texts_at see i vs d low =
     let next : suc i ≡ i + 1 = omega arith in
     subst (λ k. plain_statements (map see (drop i vs)) ≡ (see (get_or vs i d), []) ∷ plain_statements (map see (drop k vs))) next (ap (λ l. plain_statements (map see l)) (dropped_or vs i d low))
-
--- after the last text there is none
-pub texts_end : {T : Type 0} (see : T → List ℕ) (i : ℕ) (vs : List T) → length vs ≤ i → plain_statements (map see (drop i vs)) ≡ []
-texts_end see i vs long = ap (λ l. plain_statements (map see l)) (none vs i long)
