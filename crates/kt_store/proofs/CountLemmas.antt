@@ -1,15 +1,14 @@
 -- How many entries a run has, as its query tells.
-use Rattle.std.proofs.Common.{◌≡◌, ◌==◌, ◌&&◌, ℕ, min, pos, List, [], ◌∷◌, length, map, drop, filter, Bool, true, false, Some, refl, sym, ap, subst, ◌∙◌, IsPermutation}
+use Rattle.std.proofs.Common.{◌≡◌, ℕ, min, pos, List, [], ◌∷◌, length, map, filter, true, false, Some, refl, sym, ap, subst, ◌∙◌, IsPermutation}
 use Rattle.std.proofs.lemmas.List.Sorted.{length_permutation}
 use Rattle.std.proofs.lemmas.List.{length-map}
-use Rattle.std.specs.List.{list_all, flat_map, AllZip}
+use Rattle.std.specs.List.{flat_map, AllZip}
 use Rattle.sqlite.specs.declared.types.Value.TheVariants.{Null, Int}
 use Rattle.sqlite.specs.Order.{Row}
 use Rattle.sqlite.specs.Tree.{Trees}
 use Rattle.sqlite_value.specs.Order.{column}
 use Rattle.std.specs.Prelude.{slice_get}
-use Rattle.sqlite.specs.Term.{Term, Env, lit, col, holds}
-use Rattle.sqlite.specs.Ops.{is_true, from_truth, binary}
+use Rattle.sqlite.specs.Term.{Env, lit}
 use Rattle.sqlite.specs.Query.{inner, end, matches_as, IsAnswerAs, IsSureAnswer, Output, output}
 use Rattle.sqlite_sql.specs.Group.{Grouping, IsSummary, value_over}
 use Rattle.sqlite_sql.specs.declared.aggregate.AggregateOp.TheVariants.{CountRows}
@@ -26,13 +25,7 @@ use Rattle.kt_store.specs.Runs.{entry_row, entry_rows, run_at}
 use Rattle.kt_store.specs.Inner.Ask.{ShowsOf}
 use Rattle.kt_store.proofs.SqlFacts.{count_is, count_query, is}
 use Rattle.kt_store.proofs.QueryLemmas.{found, overlay_none}
-use Rattle.kt_store.proofs.EntryLemmas.{back, of_stored, of_run, same_test, one_truth}
-
-abbrev tests : List Term
-tests = is (col 1 1) (col 0 0) ∷ []
-
-abbrev passes : Row → Row → Bool
-passes params r = list_all (holds (params ∷ r ∷ [])) tests
+use Rattle.kt_store.proofs.EntryLemmas.{back, of_stored, of_run, tests, passes, same_passes, each, all_pass}
 
 abbrev pub most : ℕ
 most = 9223372036854775807
@@ -78,20 +71,8 @@ module _ (db : Trees) (params : Row) (rows : List Row) (sure : IsSureAnswer coun
       let ordered : a.ordered ≡ output count_query (params ∷ number ∷ []) ∷ [] = one_permutation _ a.ordered (subst (λ k. IsPermutation k a.ordered) kept a.same) in
       a.shown ∙ ap (map (λ (o : Output). o.1)) ordered ∙ ap (λ n. (Int (pos (min n most)) ∷ []) ∷ []) as_many
 
-same_passes : (params r : Row) → passes params r ≡ passes params (back (drop 1 r))
-same_passes params [] = refl
-same_passes params (x ∷ r) = refl
-
-each : (n m : ℕ) (e : Entry) → passes (Int (pos n) ∷ []) (back (entry_row m e)) ≡ (m == n) && true
-unfolding binary
-each n m e = ap (λ a. is_true (from_truth (Some a)) && true) (same_test m n) ∙ one_truth (m == n)
-
 no_row : Row
 no_row = []
-
-all_pass : (es : List Entry) → filter (λ (e : Entry). true) es ≡ es
-all_pass [] = refl
-all_pass (e ∷ es) = ap (λ l. e ∷ l) (all_pass es)
 
 pub tells_count : {S : Type 0} (g : Ghosts S) (new : Held S) (runs : List Run) (n : ℕ) (rows : List Row) → ShowsOf g runs count_text (Int (pos n) ∷ []) new rows
     → rows ≡ (Int (pos (min (length (entries_of (run_at runs n))) most)) ∷ []) ∷ []

@@ -1,14 +1,13 @@
 -- What the query for the entries of a run answers.
-use Rattle.std.proofs.Common.{◌≡◌, ◌==◌, ◌&&◌, ℕ, zero, suc, ◌<◌, ◌≤◌, pos, List, [], ◌∷◌, ◌++◌, length, map, filter, drop, take, Bool, true, Some, None, Option, Less, refl, ap, subst, ◌∙◌, arith, IsPermutation}
-use Rattle.std.specs.List.{AllByRecursion, list_all}
+use Rattle.std.proofs.Common.{◌≡◌, ℕ, zero, suc, ◌<◌, ◌≤◌, pos, List, [], ◌∷◌, ◌++◌, length, map, filter, drop, take, true, Some, None, Option, Less, refl, ap, subst, ◌∙◌, arith, IsPermutation}
+use Rattle.std.specs.List.{AllByRecursion}
 use Rattle.std.specs.Prelude.{get_or}
 use Rattle.sqlite_keyed.proofs.ListLemmas.{map-map}
 use Rattle.sqlite.specs.declared.types.Value.TheVariants.{Int}
 use Rattle.sqlite.specs.Order.{Row}
 use Rattle.sqlite_trees.specs.Tree.{IsAscending}
 use Rattle.sqlite_value.specs.Keys.{ascending}
-use Rattle.sqlite.specs.Term.{Term, col, holds}
-use Rattle.sqlite.specs.Ops.{is_true, from_truth, binary}
+use Rattle.sqlite.specs.Term.{col}
 use Rattle.sqlite.specs.Query.{Output, output, output_cmp}
 use Rattle.sqlite.specs.Collation.TheVariants.{Binary}
 use Rattle.sqlite.specs.Store.{Ghosts}
@@ -25,28 +24,10 @@ use Rattle.kt_store.specs.Stands.{IsStore, StandsFor}
 use Rattle.kt_store.specs.Inner.Ask.{Asked}
 use Rattle.kt_store.proofs.SqlFacts.{entries_select_is, entries_query, is}
 use Rattle.kt_store.proofs.QueryLemmas.{answered_sorted}
-use Rattle.kt_store.proofs.EntryLemmas.{back, of_stored, of_run, same_test, one_truth}
+use Rattle.kt_store.proofs.EntryLemmas.{back, of_stored, of_run, tests, passes, same_passes, each, all_pass}
 use Rattle.kt_store.proofs.HeadLemmas.{below}
 use Rattle.kt_store.proofs.CloseLemmas.{run_of}
 use Rattle.kt_store.proofs.AskLemmas.{asked_mid}
-
-abbrev tests : List Term
-tests = is (col 1 1) (col 0 0) ∷ []
-
-abbrev passes : Row → Row → Bool
-passes params r = list_all (holds (params ∷ r ∷ [])) tests
-
-same_passes : (params r : Row) → passes params r ≡ passes params (back (drop 1 r))
-same_passes params [] = refl
-same_passes params (x ∷ r) = refl
-
-each : (n m : ℕ) (e : Entry) → passes (Int (pos n) ∷ []) (back (entry_row m e)) ≡ (m == n) && true
-unfolding binary
-each n m e = ap (λ a. is_true (from_truth (Some a)) && true) (same_test m n) ∙ one_truth (m == n)
-
-all_pass : (es : List Entry) → filter (λ (e : Entry). true) es ≡ es
-all_pass [] = refl
-all_pass (e ∷ es) = ap (λ l. e ∷ l) (all_pass es)
 
 abbrev out : Row → Row → Output
 out params r = output entries_query (params ∷ r ∷ [])

@@ -15,7 +15,7 @@ use Rattle.sqlite_sql.specs.declared.ops.BinaryOp.TheVariants.{Compare}
 use Rattle.sqlite_sql.specs.declared.ops.CompareOp.TheVariants.{Eq}
 use Rattle.sqlite_tied.specs.Compute.{everything}
 use Rattle.kt_store.specs.Tables.{schema_2, full_text, begin_text, run_text, count_text, finish_text, runs_text, there_text, put_text, entries_text, pairs_text, mark_text, raise_text}
-use Rattle.kt_store.specs.Inner.Calls.{pair_text}
+use Rattle.kt_store.specs.Inner.Calls.{five_text, pair_text}
 
 abbrev pub query : Query
 query = record { from = end; filter = []; group = None; project = []; distinct = false; collations = []; order = []; limit = lit (Int (negsuc 0)); offset = lit (Int (pos 0)) }
@@ -88,6 +88,15 @@ pair_terms = lit Null ∷ col 0 0 ∷ col 0 1 ∷ col 0 2 ∷ col 0 3 ∷ col 0 
 pub pair_is : (command_of (understood schema_2 pair_text) ≡ Insert 3 (Values pair_terms 6)) × IsPlain (understood schema_2 pair_text)
 unfolding understood everything
 pair_is = (refl, (refl, refl))
+
+abbrev pub five_terms : List Term
+five_terms =
+    lit Null ∷ col 0 0 ∷ col 0 1 ∷ col 0 2 ∷ col 0 3 ∷ col 0 4 ∷ lit Null ∷ col 0 0 ∷ col 0 1 ∷ col 0 5 ∷ col 0 6 ∷ col 0 7 ∷ lit Null ∷ col 0 0 ∷ col 0 1 ∷ col 0 8 ∷ col 0 9 ∷ col 0 10
+    ∷ lit Null ∷ col 0 0 ∷ col 0 1 ∷ col 0 11 ∷ col 0 12 ∷ col 0 13 ∷ lit Null ∷ col 0 0 ∷ col 0 1 ∷ col 0 14 ∷ col 0 15 ∷ col 0 16 ∷ []
+
+pub five_is : (command_of (understood schema_2 five_text) ≡ Insert 3 (Values five_terms 6)) × IsPlain (understood schema_2 five_text)
+unfolding understood everything
+five_is = (refl, (refl, refl))
 
 abbrev pub pairs_query : Query
 pairs_query = record query {

@@ -1,5 +1,5 @@
 -- Statements of a transaction, one after the other.
-use Rattle.std.proofs.Common.{◌≡◌, ◌∙◌, ℕ, zero, suc, ◌+◌, ◌<◌, List, [], ◌∷◌, length, map, drop, refl, sym, ap, subst, arith, IsTrue}
+use Rattle.std.proofs.Common.{◌≡◌, ◌≤◌, pos, ◌∙◌, ℕ, zero, suc, ◌+◌, ◌<◌, List, [], ◌∷◌, length, map, drop, refl, sym, ap, subst, arith, IsTrue}
 use Rattle.std.specs.Prelude.{get_or}
 use Rattle.sqlite.specs.Store.{Ghosts}
 use Rattle.sqlite.specs.Held.{Held, state}
@@ -8,7 +8,9 @@ use Rattle.sqlite.specs.State.{HasCleanDisk, KeepsCommit, Survives}
 use Rattle.sqlite.proofs.InsideLemmas.{keeps_then}
 use Rattle.sqlite.proofs.StateLemmas.{survives_then}
 use Rattle.kt_base.specs.declared.variable.Variable.{Variable}
-use Rattle.kt_store.specs.Inner.Calls.{Statement, pair_statements, plain_statements}
+use Rattle.kt_store.specs.Inner.Calls.{Statement, pair_text, five_text, pair_values, five_values, single_statements, pair_statements, plain_statements}
+use Rattle.kt_store.specs.Runs.{pair_row}
+use Rattle.sqlite.specs.declared.types.Value.TheVariants.{Int}
 use Rattle.kt_store.specs.Inner.Transactions.{RunsInside, RunInTurn}
 
 module _ {S : Type 0} (g : Ghosts S) where
@@ -40,8 +42,44 @@ dropped : {T : Type 0} (vs : List T) (i : ℕ) (v : T) → i < length vs → v �
 dropped vs i v low is = dropped_or vs i v low ∙ ap (λ y. y ∷ drop (suc i) vs) (sym is)
 
 -- the pair at a place, and those after it
-pub pairs_at : (run position i : ℕ) (vs : List Variable) (v : Variable) → i < length vs → v ≡ get_or vs i v → pair_statements run position i (drop i vs) ≡ pair_statements run position i (v ∷ drop (suc i) vs)
-pairs_at run position i vs v low is = ap (pair_statements run position i) (dropped vs i v low is)
+pub pairs_at : (run position place i : ℕ) (vs : List Variable) (v : Variable) → i < length vs → v ≡ get_or vs i v → single_statements run position place (drop i vs) ≡ (pair_text, pair_row run position place v) ∷ single_statements run position (suc place) (drop (suc i) vs)
+pairs_at run position place i vs v low is = ap (single_statements run position place) (dropped vs i v low is)
+
+-- the first five pairs, and those after them
+pub five_at : (run position place : ℕ) (vs : List Variable) → 5 ≤ length vs → pair_statements run position place vs ≡ (five_text, five_values run position place vs) ∷ pair_statements run position (place + 5) (drop 5 vs)
+five_at run position place [] enough = absurd (omega (arith, enough))
+five_at run position place (a ∷ []) enough = absurd (omega (arith, enough))
+five_at run position place (a ∷ b ∷ []) enough = absurd (omega (arith, enough))
+five_at run position place (a ∷ b ∷ c ∷ []) enough = absurd (omega (arith, enough))
+five_at run position place (a ∷ b ∷ c ∷ d ∷ []) enough = absurd (omega (arith, enough))
+five_at run position place (a ∷ b ∷ c ∷ d ∷ e ∷ vs) enough =
+    let next : suc (suc (suc (suc (suc place)))) ≡ place + 5 = omega arith in
+    ap (λ k. (five_text, five_values run position place (a ∷ b ∷ c ∷ d ∷ e ∷ vs)) ∷ pair_statements run position k vs) next
+
+-- fewer than five pairs
+pub few_at : (run position place : ℕ) (vs : List Variable) → length vs < 5 → pair_statements run position place vs ≡ single_statements run position place vs
+few_at run position place [] few = refl
+few_at run position place (a ∷ []) few = refl
+few_at run position place (a ∷ b ∷ []) few = refl
+few_at run position place (a ∷ b ∷ c ∷ []) few = refl
+few_at run position place (a ∷ b ∷ c ∷ d ∷ []) few = refl
+few_at run position place (a ∷ b ∷ c ∷ d ∷ e ∷ vs) few = absurd (omega (arith, few))
+
+-- the values of the first five pairs
+pub values_at : (run position place : ℕ) (vs : List Variable) (a b c d e : Variable) → 5 ≤ length vs → a ≡ get_or vs 0 a → b ≡ get_or vs 1 b → c ≡ get_or vs 2 c → d ≡ get_or vs 3 d → e ≡ get_or vs 4 e
+    → Int (pos run) ∷ Int (pos position) ∷ pair_values place a (pair_values (place + 1) b (pair_values (place + 2) c (pair_values (place + 3) d (pair_values (place + 4) e [])))) ≡ five_values run position place vs
+values_at run position place [] a b c d e enough p q r s t = absurd (omega (arith, enough))
+values_at run position place (x ∷ []) a b c d e enough p q r s t = absurd (omega (arith, enough))
+values_at run position place (x ∷ y ∷ []) a b c d e enough p q r s t = absurd (omega (arith, enough))
+values_at run position place (x ∷ y ∷ z ∷ []) a b c d e enough p q r s t = absurd (omega (arith, enough))
+values_at run position place (x ∷ y ∷ z ∷ u ∷ []) a b c d e enough p q r s t = absurd (omega (arith, enough))
+values_at run position place (x ∷ y ∷ z ∷ u ∷ v ∷ vs) a b c d e enough p q r s t =
+    let one : a ≡ x = p in
+    let two : b ≡ y = q in
+    let three : c ≡ z = r in
+    let four : d ≡ u = s in
+    let five : e ≡ v = t in
+    rw (one, two, three, four, five) refl
 
 -- the text at a place, and those after it
 pub texts_at : {T : Type 0} (see : T → List ℕ) (i : ℕ) (vs : List T) (d : T) → i < length vs → plain_statements (map see (drop i vs)) ≡ (see (get_or vs i d), []) ∷ plain_statements (map see (drop (i + 1) vs))

@@ -11,6 +11,7 @@ mod growth;
 mod heads;
 mod keeping;
 mod lookup;
+mod pairs;
 mod put;
 mod read;
 mod result_store;

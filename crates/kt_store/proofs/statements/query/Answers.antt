@@ -1,6 +1,5 @@
 use Rattle.std.proofs.Common.{arith}
 use Rattle.sqlite.specs.Values.{bound}
-use Rattle.sqlite.specs.Held.{state}
 use Rattle.kt_store.proofs.AskLemmas.{asked_mid, asked_stands, asked_survives}
 use Rattle.kt_store.proofs.statements.query.Goals as goal
 
