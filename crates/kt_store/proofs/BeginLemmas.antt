@@ -1,12 +1,10 @@
 -- What the INSERT of `begin` does.
 use Rattle.std.proofs.Common.{Bool, IsTrue, Less, List, None, Ok, Option, Some, [], ap, append-nil, arith, cond, drop, false, fold, inl, inr, length, length-append, map, pos, refl, subst, suc, sym, true, unwrap_or, ℕ, ℤ, ◌++◌, ◌+ℤ◌, ◌+◌, ◌<◌, ◌∙◌, ◌∷◌, ◌≡◌}
 use Rattle.std.proofs.lemmas.Int.{ints}
-use Rattle.std.proofs.lemmas.Bool.Decides.{nat_tests}
 use Rattle.sqlite.specs.declared.types.Value.{Value}
 use Rattle.sqlite.specs.declared.types.Value.TheVariants.{Null, Int}
 use Rattle.sqlite.specs.Order.{Row}
 use Rattle.sqlite_value.specs.Order.{value_cmp}
-use Rattle.sqlite_value.proofs.OrderLemmas.{value_cmp-Int}
 use Rattle.sqlite_trees.specs.Tree.{rowid, put_row}
 use Rattle.sqlite_rules.specs.Edit.{id_in, next_rowid, put_all, taken_by}
 use Rattle.std.proofs.lemmas.List.{map-append}
@@ -25,6 +23,7 @@ use Rattle.kt_store.specs.Runs.{AreNumbered, IsRun, Keeps, Tables, entry_row, en
 use Rattle.std.specs.List.{flat_map}
 use Rattle.std.proofs.lemmas.Grind.{flat_map-append}
 use Rattle.kt_store.proofs.SqlFacts.{begin_is, begin_terms}
+use Rattle.kt_store.proofs.EntryLemmas.{below}
 use Rattle.kt_store.proofs.InsertLemmas.{Changed, changed}
 use Rattle.sqlite.specs.Tree.{Trees}
 use Rattle.sqlite.specs.declared.run.Mode.{Mode}
@@ -51,14 +50,11 @@ next_is n (r ∷ runs) h =
     let e : id_in (rowid (run_row r)) +ℤ pos 1 ≡ pos (suc n) = ap (λ k. pos k +ℤ pos 1) h.0 ∙ grind (arith, ints) in
     ap (λ z. fold above z (map run_row runs)) e ∙ next_is (suc n) runs h.1 ∙ ap pos (omega arith)
 
-lower : (m n : ℕ) → m < n → value_cmp (Int (pos m)) (Int (pos n)) ≡ Less
-lower m n h = value_cmp-Int (pos m) (pos n) ∙ grind (arith, ints, nat_tests)
-
 put_after : (n : ℕ) (runs : List Run) (new : Row) → AreNumbered n runs → rowid new ≡ Int (pos (n + length runs)) → put_row new (map run_row runs) ≡ map run_row runs ++ new ∷ []
 put_after n [] new h id = refl
 put_after n (r ∷ runs) new h id =
-    let below : value_cmp (rowid (run_row r)) (rowid new) ≡ Less = rw (id, h.0) (lower n (n + length (r ∷ runs)) (omega arith)) in
-    rw below (ap (λ x. run_row r ∷ x) (put_after (suc n) runs new h.1 (id ∙ ap (λ k. Int (pos k)) (omega arith))))
+    let first : value_cmp (rowid (run_row r)) (rowid new) ≡ Less = rw (id, h.0) (below n (n + length (r ∷ runs)) (omega arith)) in
+    rw first (ap (λ x. run_row r ∷ x) (put_after (suc n) runs new h.1 (id ∙ ap (λ k. Int (pos k)) (omega arith))))
 
 either : (b : Bool) (x : Value) → cond b x x ≡ x
 either true x = refl

@@ -1,5 +1,5 @@
 -- What queries of the entries answer.
-use Rattle.std.proofs.Common.{◌≡◌, ◌≢◌, ◌==◌, ◌&&◌, ℕ, zero, suc, ◌+◌, ◌<◌, pos, List, [], ◌∷◌, ◌++◌, map, drop, filter, Bool, true, false, cond, Some, None, Option, slice_get, refl, sym, ap, ap₂, subst, ◌∙◌, arith, IsPermutation, append-nil}
+use Rattle.std.proofs.Common.{◌≡◌, ◌≢◌, ◌==◌, ◌&&◌, ℕ, zero, suc, ◌+◌, ◌<◌, pos, List, [], ◌∷◌, ◌++◌, map, drop, filter, Bool, true, false, cond, Less, Equal, Greater, Some, None, Option, slice_get, refl, sym, ap, ap₂, subst, ◌∙◌, arith, IsPermutation, append-nil}
 use Rattle.std.proofs.lemmas.Int.{ints}
 use Rattle.std.proofs.lemmas.Bool.Decides.{nat_tests}
 use Rattle.std.proofs.lemmas.List.Sorted.{IsPermutation-map}
@@ -87,6 +87,15 @@ of_run test keep n runs each h =
     found : (o : Option Run) → flat_map (λ (r : Run). map (entry_row n) (filter keep r.entries)) (option_to_list o) ≡ map (entry_row n) (filter keep (entries_of o))
     found None = refl
     found (Some r) = append-nil (map (entry_row n) (filter keep r.entries))
+
+pub below : (m n : ℕ) → m < n → value_cmp (Int (pos m)) (Int (pos n)) ≡ Less
+below m n h = value_cmp-Int (pos m) (pos n) ∙ grind (arith, ints, nat_tests)
+
+pub above : (m n : ℕ) → n < m → value_cmp (Int (pos m)) (Int (pos n)) ≡ Greater
+above m n h = value_cmp-Int (pos m) (pos n) ∙ grind (arith, ints, nat_tests)
+
+pub equal : (n : ℕ) → value_cmp (Int (pos n)) (Int (pos n)) ≡ Equal
+equal n = value_cmp-Int (pos n) (pos n) ∙ grind (arith, ints, nat_tests)
 
 pub same_test : (m n : ℕ) → is_eq (value_cmp (Int (pos m)) (Int (pos n))) ≡ (m == n)
 same_test m n = ap is_eq (value_cmp-Int (pos m) (pos n)) ∙ grind (arith, ints, nat_tests)

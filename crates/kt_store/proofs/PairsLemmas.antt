@@ -1,16 +1,13 @@
 -- What the query for the pairs of a run answers.
-use Rattle.std.proofs.Common.{◌≡◌, ◌≢◌, ◌==◌, ◌&&◌, ℕ, suc, ◌+◌, ◌<◌, pos, List, [], ◌∷◌, ◌++◌, map, filter, drop, Bool, true, false, Some, None, Option, Less, Equal, refl, sym, ap, ap₂, subst, ◌∙◌, arith, IsPermutation, append-nil}
+use Rattle.std.proofs.Common.{◌≡◌, ◌≢◌, ◌==◌, ◌&&◌, ℕ, suc, ◌+◌, ◌<◌, pos, List, [], ◌∷◌, ◌++◌, map, filter, drop, Bool, true, false, Some, None, Option, Less, refl, sym, ap, ap₂, subst, ◌∙◌, arith, IsPermutation, append-nil}
 use Rattle.std.specs.List.{AllByRecursion, flat_map}
 use Rattle.std.specs.Option.{option_to_list}
 use Rattle.std.proofs.lemmas.Bool.Decides.{nat_tests}
-use Rattle.std.proofs.lemmas.Int.{ints}
 use Rattle.std.proofs.lemmas.List.{map-append}
 use Rattle.std.proofs.lemmas.List.Elements.{filter-append}
 use Rattle.sqlite_keyed.proofs.ListLemmas.{map-map, all-append}
 use Rattle.sqlite.specs.declared.types.Value.TheVariants.{Int}
 use Rattle.sqlite.specs.Order.{Row}
-use Rattle.sqlite_value.specs.Order.{value_cmp}
-use Rattle.sqlite_value.proofs.OrderLemmas.{value_cmp-Int}
 use Rattle.sqlite_trees.specs.Tree.{IsAscending}
 use Rattle.sqlite_value.specs.Keys.{ascending}
 use Rattle.sqlite.specs.Term.{col}
@@ -32,7 +29,7 @@ use Rattle.kt_store.specs.Stands.{IsStore, StandsFor}
 use Rattle.kt_store.specs.Inner.Ask.{Asked}
 use Rattle.kt_store.proofs.SqlFacts.{pairs_select_is, pairs_query, is}
 use Rattle.kt_store.proofs.QueryLemmas.{answered_sorted}
-use Rattle.kt_store.proofs.EntryLemmas.{back, of_stored, of_one, same_test, one_truth, tests, passes, same_passes}
+use Rattle.kt_store.proofs.EntryLemmas.{back, equal, of_stored, of_one, same_test, one_truth, tests, passes, same_passes}
 use Rattle.kt_store.proofs.EntriesLemmas.{up_of}
 use Rattle.kt_store.proofs.HeadLemmas.{below}
 use Rattle.kt_store.proofs.AskLemmas.{asked_mid}
@@ -90,9 +87,6 @@ lower x y = output_cmp pairs_query x y ≡ Less
 module _ (n : ℕ) where
   abbrev shows : Row → Output
   shows r = out (Int (pos n) ∷ []) (back r)
-
-  equal : (k : ℕ) → value_cmp (Int (pos k)) (Int (pos k)) ≡ Equal
-  equal k = value_cmp-Int (pos k) (pos k) ∙ grind (arith, ints, nat_tests)
 
   lower_positions : (p q k j : ℕ) (v w : Variable) → p < q → lower (shows (pair_row n p k v)) (shows (pair_row n q j w))
   lower_positions p q k j v w h = rw (below p q h) refl
