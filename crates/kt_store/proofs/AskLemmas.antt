@@ -22,26 +22,7 @@ unfolding Shown
 shown_same sql params old new rows plain h =
     let none = (subst IsPlain h.1.is plain).0 in (subst (ShowsRows old new sql h.0 (timed params h.0.formats h.1.now) rows) none h.2).3
 
-module _ {S : Type 0} (g : Ghosts S) (old new : Held S) (runs : List Run) (has : StandsFor (state g old) runs) (survives : HasCleanDisk (state g new) → HasCleanDisk (state g old))
-    (sql : List ℕ) (plain : IsPlain (understood schema_2 sql)) (params : Row) where
-  pub asked_mid : (rows : List Row) → HasCleanDisk (state g new) → (it : Asked g sql params old new rows) → IsStore (state g it.mid) runs
-  asked_mid rows clean it = same_store (state g old) (state g it.mid) runs (has (survives clean) it.same.0.was_open) it.same
-
-  pub asked_stands : (rows : List Row) → (HasCleanDisk (state g new) → Asked g sql params old new rows) → StandsFor (state g new) runs
-  asked_stands rows asked clean opened =
-      let it = asked clean in
-      let mid = asked_mid rows clean it in
-      same_store (state g it.mid) (state g new) runs mid (shown_same sql params (state g it.mid) (state g new) rows (subst (λ s. IsPlain (understood s sql)) (sym mid.tables.schema) plain) it.shown)
-
-  never_shown : HasCleanDisk (state g new) → (trees : Trees) → ¬ MayShow g sql params old trees
-  never_shown clean trees it =
-      let mid = same_store (state g old) (state g it.0) runs (has (survives clean) it.1.0.was_open) it.1 in
-      never_commits sql params (state g it.0) trees (subst (λ s. IsPlain (understood s sql)) (sym mid.tables.schema) plain) it.2
-
-  pub asked_survives : Survives (state g old) (state g new) (MayShow g sql params old) → Survives (state g old) (state g new) (λ _. ⊥)
-  asked_survives h = survives_weaker (state g old) (state g new) (MayShow g sql params old) (λ _. ⊥) never_shown h
-
--- the same where only the statement is known
+-- where only the statement is known
 module _ {S : Type 0} (g : Ghosts S) (old new : Held S) (survives : HasCleanDisk (state g new) → HasCleanDisk (state g old))
     (sql : List ℕ) (plain : HasCleanDisk (state g old) → IsTrue (state g old).is_open → IsPlain (understood (state g old).now.schema sql)) (params : Row) where
   mid_plain : HasCleanDisk (state g new) → (mid : Held S) → IsUnchanged (state g old) (state g mid) → IsPlain (understood (state g mid).now.schema sql)
@@ -56,3 +37,19 @@ module _ {S : Type 0} (g : Ghosts S) (old new : Held S) (survives : HasCleanDisk
 
   pub asked_leaves : Survives (state g old) (state g new) (MayShow g sql params old) → Survives (state g old) (state g new) (λ _. ⊥)
   asked_leaves h = survives_weaker (state g old) (state g new) (MayShow g sql params old) (λ _. ⊥) shows_nothing h
+
+-- the same where the tables stand for runs
+module _ {S : Type 0} (g : Ghosts S) (old new : Held S) (runs : List Run) (has : StandsFor (state g old) runs) (survives : HasCleanDisk (state g new) → HasCleanDisk (state g old))
+    (sql : List ℕ) (plain : IsPlain (understood schema_2 sql)) (params : Row) where
+  stored_plain : HasCleanDisk (state g old) → IsTrue (state g old).is_open → IsPlain (understood (state g old).now.schema sql)
+  stored_plain clean opened = subst (λ s. IsPlain (understood s sql)) (sym (has clean opened).tables.schema) plain
+
+  pub asked_mid : (rows : List Row) → HasCleanDisk (state g new) → (it : Asked g sql params old new rows) → IsStore (state g it.mid) runs
+  asked_mid rows clean it = same_store (state g old) (state g it.mid) runs (has (survives clean) it.same.0.was_open) it.same
+
+  pub asked_stands : (rows : List Row) → (HasCleanDisk (state g new) → Asked g sql params old new rows) → StandsFor (state g new) runs
+  asked_stands rows asked clean opened =
+      same_store (state g old) (state g new) runs (has (survives clean) (asked clean).same.0.was_open) (asked_unchanged g old new survives sql stored_plain params rows clean (asked clean))
+
+  pub asked_survives : Survives (state g old) (state g new) (MayShow g sql params old) → Survives (state g old) (state g new) (λ _. ⊥)
+  asked_survives h = asked_leaves g old new survives sql stored_plain params h

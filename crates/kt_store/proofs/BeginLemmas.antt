@@ -1,12 +1,10 @@
 -- What the INSERT of `begin` does.
-use Rattle.std.proofs.Common.{Bool, IsTrue, Less, List, None, Ok, Option, Some, [], ap, append-nil, arith, cond, drop, false, fold, inl, inr, length, length-append, map, pos, refl, subst, suc, sym, true, unwrap_or, ℕ, ℤ, ◌++◌, ◌+ℤ◌, ◌+◌, ◌<◌, ◌∙◌, ◌∷◌, ◌≡◌, ◌⊎◌}
+use Rattle.std.proofs.Common.{Bool, IsTrue, Less, List, None, Ok, Option, Some, [], ap, append-nil, arith, cond, drop, false, fold, inl, inr, length, length-append, map, pos, refl, subst, suc, sym, true, unwrap_or, ℕ, ℤ, ◌++◌, ◌+ℤ◌, ◌+◌, ◌<◌, ◌∙◌, ◌∷◌, ◌≡◌}
 use Rattle.std.proofs.lemmas.Int.{ints}
-use Rattle.std.proofs.lemmas.Bool.Decides.{nat_tests}
 use Rattle.sqlite.specs.declared.types.Value.{Value}
 use Rattle.sqlite.specs.declared.types.Value.TheVariants.{Null, Int}
 use Rattle.sqlite.specs.Order.{Row}
 use Rattle.sqlite_value.specs.Order.{value_cmp}
-use Rattle.sqlite_value.proofs.OrderLemmas.{value_cmp-Int}
 use Rattle.sqlite_trees.specs.Tree.{rowid, put_row}
 use Rattle.sqlite_rules.specs.Edit.{id_in, next_rowid, put_all, taken_by}
 use Rattle.std.proofs.lemmas.List.{map-append}
@@ -25,22 +23,22 @@ use Rattle.kt_store.specs.Runs.{AreNumbered, IsRun, Keeps, Tables, entry_row, en
 use Rattle.std.specs.List.{flat_map}
 use Rattle.std.proofs.lemmas.Grind.{flat_map-append}
 use Rattle.kt_store.proofs.SqlFacts.{begin_is, begin_terms}
+use Rattle.kt_store.proofs.EntryLemmas.{below}
 use Rattle.kt_store.proofs.InsertLemmas.{Changed, changed}
 use Rattle.sqlite.specs.Tree.{Trees}
 use Rattle.sqlite.specs.declared.run.Mode.{Mode}
 use Rattle.sqlite.specs.Command.{Command}
-use Rattle.sqlite.specs.Command.TheVariants.{Insert, Commit, Release}
+use Rattle.sqlite.specs.Command.TheVariants.{Insert}
 use Rattle.sqlite.specs.Source.TheVariants.{Values}
 use Rattle.sqlite_schema.specs.declared.schema.Keys.TheVariants.{Enforced}
 use Rattle.sqlite_rules.specs.Action.{works}
-use Rattle.sqlite.specs.Listing.{understood}
-use Rattle.sqlite.specs.State.{State, HasCleanDisk, mode_of, Executes, Writes, CommitsBy, IsNewestNamed, names_in, begins_at}
-use Rattle.sqlite.proofs.Callers.{statement_of, runs_as}
+use Rattle.sqlite.specs.State.{State, HasCleanDisk}
 use Rattle.kt_store.specs.Stands.{IsStore, StandsFor, Leaves}
 use Rattle.kt_store.specs.Inner.Ask.{MayTell, Told}
 use Rattle.sqlite.specs.Store.{Ghosts}
 use Rattle.sqlite.specs.Held.{Held, state}
-use Rattle.kt_store.proofs.StepLemmas.{commits_as, same_store}
+use Rattle.kt_store.proofs.Numbered.{numbers_new}
+use Rattle.kt_store.proofs.WriteLemmas.{Ends, told_by, crash_by}
 use Rattle.kt_base.specs.declared.run.Run.{Run}
 
 abbrev above : ℤ → Row → ℤ
@@ -52,14 +50,11 @@ next_is n (r ∷ runs) h =
     let e : id_in (rowid (run_row r)) +ℤ pos 1 ≡ pos (suc n) = ap (λ k. pos k +ℤ pos 1) h.0 ∙ grind (arith, ints) in
     ap (λ z. fold above z (map run_row runs)) e ∙ next_is (suc n) runs h.1 ∙ ap pos (omega arith)
 
-lower : (m n : ℕ) → m < n → value_cmp (Int (pos m)) (Int (pos n)) ≡ Less
-lower m n h = value_cmp-Int (pos m) (pos n) ∙ grind (arith, ints, nat_tests)
-
 put_after : (n : ℕ) (runs : List Run) (new : Row) → AreNumbered n runs → rowid new ≡ Int (pos (n + length runs)) → put_row new (map run_row runs) ≡ map run_row runs ++ new ∷ []
 put_after n [] new h id = refl
 put_after n (r ∷ runs) new h id =
-    let below : value_cmp (rowid (run_row r)) (rowid new) ≡ Less = rw (id, h.0) (lower n (n + length (r ∷ runs)) (omega arith)) in
-    rw below (ap (λ x. run_row r ∷ x) (put_after (suc n) runs new h.1 (id ∙ ap (λ k. Int (pos k)) (omega arith))))
+    let first : value_cmp (rowid (run_row r)) (rowid new) ≡ Less = rw (id, h.0) (below n (n + length (r ∷ runs)) (omega arith)) in
+    rw first (ap (λ x. run_row r ∷ x) (put_after (suc n) runs new h.1 (id ∙ ap (λ k. Int (pos k)) (omega arith))))
 
 either : (b : Bool) (x : Value) → cond b x x ≡ x
 either true x = refl
@@ -72,10 +67,6 @@ cast_null = either _ Null
 pub cast_int : (n : ℤ) → cast Integer (Int n) ≡ Int n
 unfolding unary
 cast_int n = either _ (Int n)
-
-numbered_push : (n : ℕ) (runs : List Run) (r : Run) → AreNumbered n runs → r.number ≡ n + length runs → AreNumbered n (runs ++ r ∷ [])
-numbered_push n [] r h is = (is ∙ omega arith, tt)
-numbered_push n (x ∷ runs) r h is = (h.0, numbered_push (suc n) runs r h.1 (is ∙ omega arith))
 
 abbrev pub begin_params : ℕ → ℕ → Row
 begin_params total started = Int (pos started) ∷ Int (pos total) ∷ []
@@ -107,7 +98,7 @@ module _ (runs : List Run) (total started : ℕ) (db after : Database) (tally : 
         props_are = subst (λ rows. IsPermutation rows (map (drop 1) (after.trees 5))) (sym (flat_map-append (λ (r : Run). flat_map (pair_rows r.number) r.entries) runs (new ∷ []) ∙ append-nil (prop_rows runs)))
             (subst (λ rows. IsPermutation (prop_rows runs) (map (drop 1) rows)) (sym (changed.applies.tables.1.1.1.0 (λ e. cc))) has.props_are);
         valid = record {
-          numbered = numbered_push 1 runs new has.valid.numbered (omega arith);
+          numbered = numbers_new runs total started has.valid.numbered;
           each = all-append IsRun runs (new ∷ []) has.valid.each (record { small = small; ordered = tt; below = tt; sound = tt; whole = λ e. absurd cc }, tt);
           few = omega (arith, length-append runs (new ∷ []));
         };
@@ -125,49 +116,29 @@ begin_changed : (limit : Option ℕ) (mode : Mode) (total started : ℕ) (db aft
 begin_changed limit mode total started db after text tally enforced has does =
     changed schema_2 1 runs_1 begin_terms 5 refl refl refl begin_works limit mode (begin_params total started) db after text tally enforced has does
 
-module _ (runs : List Run) (total started : ℕ) (old : State) (has : IsStore old runs) (room : length runs < 1000000) (small : total < 4294967296) where
-  abbrev pub more : List Run
-  more = runs ++ new_run runs total started ∷ []
-
-  pub began : (new : State) (count : ℕ) → Executes begin_text (begin_params total started) old new (Ok count) → IsStore new more × (new.last_rowid ≡ pos (suc (length runs))) × IsTrue new.is_open × IsDatabase new.now
-  began new count h =
-      let text = statement_of begin_text (understood schema_2 begin_text) in
-      let w : Writes old new None begin_command text (begin_params total started) count = runs_as begin_text (begin_params total started) old new schema_2 has.tables.schema begin_command begin_is.0 begin_is.1 count h in
-      let did = begin_changed old.step_limit (mode_of old) total started old.now new.now text w.tally refl has.tables.schema w.changed in (
-        record {
-          autocommit = w.shown.mode ∙ has.autocommit;
-          settled = w.shown.committed_is ∙ ap (λ b. cond b old.committed new.now) has.autocommit;
-          tables = begun runs total started old.now new.now w.tally has.tables room small did;
-        },
-        w.last_rowid ∙ ap (λ o. unwrap_or o old.last_rowid) (last_begun runs total started old.now new.now w.tally has.tables room small did),
-        w.shown.is_open,
-        w.sound,
-      )
-
-  pub commits_begin : (trees : Trees) → CommitsBy begin_text (begin_params total started) old trees → Keeps more trees
-  commits_begin trees h = elim (commits_as begin_text (begin_params total started) old schema_2 has.tables.schema begin_command begin_is.0 begin_is.1 trees h) [
-    | inl ends ↦ absurd (no_end ends.0)
-    | inr it ↦
-        let did = begin_changed old.step_limit (mode_of old) total started old.now it.2 (statement_of begin_text (understood schema_2 begin_text)) it.1 refl has.tables.schema it.3 in
-        (it.2, it.4, it.5, begun runs total started old.now it.2 it.1 has.tables room small did)
-  ]
-    where
-      no_end : ((begin_command ≡ Commit) ⊎ ((name : List ℕ) × (at : ℕ) × (begin_command ≡ Release name) × IsNewestNamed (names_in old) name at × IsTrue (begins_at old at))) → ⊥
-      no_end (inl e) = cc
-      no_end (inr it) = let e = it.2 in cc
+no_end : (old : State) → Ends begin_command old → ⊥
+no_end old (inl e) = cc
+no_end old (inr it) = let e = it.2 in cc
 
 module _ {S : Type 0} (g : Ghosts S) (old new : Held S) (runs : List Run) (total started : ℕ) (has : StandsFor (state g old) runs) (room : HasCleanDisk (state g old) → length runs < 1000000) (small : total < 4294967296) (earlier : HasCleanDisk (state g new) → HasCleanDisk (state g old)) where
+  abbrev IsLast : Tally → Type 0
+  IsLast tally = tally.last ≡ Some (pos (suc (length runs)))
+
+  step : HasCleanDisk (state g new) → (limit : Option ℕ) (mode : Mode) (db after : Database) (text : List ℕ) (tally : Tally) → mode.keys ≡ Enforced → Tables db runs
+      → Does limit mode (begin_params total started) db text None begin_command (Ok (tally, after)) → Tables after (runs ++ new_run runs total started ∷ []) × IsLast tally
+  step clean limit mode db after text tally enforced has does =
+      let did = begin_changed limit mode total started db after text tally enforced has.schema does in
+      (begun runs total started db after tally has (room (earlier clean)) small did, last_begun runs total started db after tally has (room (earlier clean)) small did)
+
   pub told_begin : HasCleanDisk (state g new) → Told g begin_text (begin_params total started) old new
       → IsStore (state g new) (runs ++ new_run runs total started ∷ []) × ((state g new).last_rowid ≡ pos (suc (length runs))) × IsTrue (state g new).is_open × IsDatabase (state g new).now
   told_begin clean it =
-      let mid = same_store (state g old) (state g it.mid) runs (has (earlier clean) it.same.0.was_open) it.same in
-      let done = began runs total started (state g it.mid) mid (room (earlier clean)) small (state g new) it.count it.ran in
-      done
+      let done = told_by begin_text (begin_params total started) begin_command begin_is.0 begin_is.1 (λ _ _ _ _ ran. ran) no_end runs (runs ++ new_run runs total started ∷ []) IsLast (step clean) g old new has earlier clean it in
+      (done.0, done.5 ∙ ap (λ o. unwrap_or o (state g it.mid).last_rowid) done.4, done.1, done.2)
 
   pub crash_begin : HasCleanDisk (state g new) → (trees : Trees) → MayTell g begin_text (begin_params total started) old trees → Keeps (runs ++ new_run runs total started ∷ []) trees
   crash_begin clean trees it =
-      let mid = same_store (state g old) (state g it.0) runs (has (earlier clean) it.1.0.was_open) it.1 in
-      commits_begin runs total started (state g it.0) mid (room (earlier clean)) small trees it.2
+      crash_by begin_text (begin_params total started) begin_command begin_is.0 begin_is.1 (λ _ _ _ _ ran. ran) no_end runs (runs ++ new_run runs total started ∷ []) IsLast (step clean) g old new has earlier clean trees it
 
 -- an open store leaves its last commit
 pub leaves_commit : {S : Type 0} (g : Ghosts S) (s : Held S) (runs : List Run) → ((db : Trees) → IsTrue (state g s).is_open → (state g s).may_leave db → db ≡ (state g s).committed.trees)

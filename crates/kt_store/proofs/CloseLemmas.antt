@@ -24,6 +24,7 @@ use Rattle.kt_store.specs.Inner.Ask.{MayTell, Told}
 use Rattle.kt_store.proofs.SqlFacts.{finish_is}
 use Rattle.kt_store.proofs.CountLemmas.{most}
 use Rattle.kt_store.proofs.FinishLemmas.{finish_program, finish_writes, finished_rows}
+use Rattle.kt_store.proofs.Numbered.{numbers_finish}
 use Rattle.kt_store.proofs.WriteLemmas.{told_update, crash_update}
 
 same_entries : (run : ℕ) (runs : List Run) → entry_rows (finish run runs) ≡ entry_rows runs
@@ -41,14 +42,6 @@ same_props run (r ∷ runs) = go (r.number == run) (same_props run runs)
     go : (b : Bool) → prop_rows (finish run runs) ≡ prop_rows runs → prop_rows (cond b (record r { finished = true } ∷ runs) (r ∷ finish run runs)) ≡ flat_map (pair_rows r.number) r.entries ++ prop_rows runs
     go true more = refl
     go false more = ap (λ l. flat_map (pair_rows r.number) r.entries ++ l) more
-
-same_numbers : (run from : ℕ) (runs : List Run) → AreNumbered from runs → AreNumbered from (finish run runs)
-same_numbers run from [] h = tt
-same_numbers run from (r ∷ runs) h = go (r.number == run) (same_numbers run (suc from) runs h.1)
-  where
-    go : (b : Bool) → AreNumbered (suc from) (finish run runs) → AreNumbered from (cond b (record r { finished = true } ∷ runs) (r ∷ finish run runs))
-    go true more = (h.0, h.1)
-    go false more = (h.0, more)
 
 as_many : (run : ℕ) (runs : List Run) → length (finish run runs) ≡ length runs
 as_many run [] = refl
@@ -87,7 +80,7 @@ finish_step runs k r there whole limit mode db after text tally enforced has doe
       props_are = subst (λ l. IsPermutation l (map (drop 1) (after.trees 5))) (sym (same_props (suc k) runs))
           (subst (λ l. IsPermutation (prop_rows runs) (map (drop 1) l)) (sym (did.1.tables.1.1.1.0 (λ e. cc))) has.props_are);
       valid = record {
-        numbered = same_numbers (suc k) 1 runs has.valid.numbered;
+        numbered = numbers_finish (suc k) 1 runs has.valid.numbered;
         each = subst (λ n. AllByRecursion IsRun (finish n runs)) place (each_from 1 k runs r has.valid.numbered has.valid.each there whole);
         few = omega (arith, has.valid.few, as_many (suc k) runs);
       };

@@ -1,5 +1,5 @@
 -- What statements leave that are run in one commit.
-use Rattle.std.proofs.Common.{◌≡◌, inl, inr, List, false, sym, ap, subst, ◌∙◌, IsTrue, arith}
+use Rattle.std.proofs.Common.{◌≡◌, inl, inr, List, sym, ap, subst, ◌∙◌, IsTrue, arith}
 use Rattle.std.proofs.lemmas.Bool.{both_ways}
 use Rattle.sqlite.specs.Tree.{Trees}
 use Rattle.sqlite.specs.Store.{Ghosts}
@@ -14,7 +14,7 @@ use Rattle.kt_base.specs.declared.run.Run.{Run}
 use Rattle.kt_store.specs.Runs.{Keeps, Tables}
 use Rattle.kt_store.specs.Stands.{IsSettled, Holds, StandsFor, Leaves}
 use Rattle.kt_store.specs.Inner.Calls.{Statement}
-use Rattle.kt_store.specs.Inner.Transactions.{begun, IsUndone, RunInTurn, Commits, MayCommit, Undoes}
+use Rattle.kt_store.specs.Inner.Transactions.{begun, RunInTurn, Commits, MayCommit, Undoes}
 use Rattle.kt_store.proofs.StepLemmas.{undone_settled}
 
 -- a commit inside a transaction fails only where the store does
@@ -43,11 +43,6 @@ module _ {S : Type 0} (g : Ghosts S) (old left new : Held S) where
       survives_begin g old (state g new) (MayCommit g statements old)
       (survives_then (state g (begun old)) (state g left) (state g new) (λ _. ⊥) (λ db. db ≡ (state g left).now.trees) (MayCommit g statements old) (λ _ db none. absurd none)
       (λ clean db is. (left, ran (omega (arith, clean, commit.clean)), is)) inside commit)
-
-  -- or what it left before alone, if nothing was committed
-  pub drop_survives : (P : Trees → Type 0) → Survives (state g (begun old)) (state g left) (λ (db : Trees). ⊥) → Survives (state g left) (state g new) (λ (db : Trees). ⊥) → Survives (state g old) (state g new) P
-  drop_survives P inside back =
-      survives_begin g old (state g new) P (survives_then (state g (begun old)) (state g left) (state g new) (λ _. ⊥) (λ _. ⊥) P (λ _ db none. absurd none) (λ _ db none. absurd none) inside back)
 
 -- what was undone holds what it held
 pub undone_holds : {S : Type 0} (g : Ghosts S) (P : Database → Type 0) (old new : Held S) → Holds P (state g old) → (HasCleanDisk (state g new) → HasCleanDisk (state g old)) → (HasCleanDisk (state g new) → Undoes g old new) → Holds P (state g new)

@@ -1,15 +1,14 @@
 -- How many entries a run has, as its query tells.
-use Rattle.std.proofs.Common.{◌≡◌, ◌==◌, ◌&&◌, ℕ, min, pos, List, [], ◌∷◌, length, map, drop, filter, Bool, true, false, Some, refl, sym, ap, subst, ◌∙◌, IsPermutation}
+use Rattle.std.proofs.Common.{◌≡◌, ℕ, min, pos, List, [], ◌∷◌, length, map, filter, true, false, Some, refl, sym, ap, subst, ◌∙◌, IsPermutation}
 use Rattle.std.proofs.lemmas.List.Sorted.{length_permutation}
 use Rattle.std.proofs.lemmas.List.{length-map}
-use Rattle.std.specs.List.{list_all, flat_map, AllZip}
+use Rattle.std.specs.List.{flat_map, AllZip}
 use Rattle.sqlite.specs.declared.types.Value.TheVariants.{Null, Int}
 use Rattle.sqlite.specs.Order.{Row}
 use Rattle.sqlite.specs.Tree.{Trees}
 use Rattle.sqlite_value.specs.Order.{column}
 use Rattle.std.specs.Prelude.{slice_get}
-use Rattle.sqlite.specs.Term.{Term, Env, lit, col, holds}
-use Rattle.sqlite.specs.Ops.{is_true, from_truth, binary}
+use Rattle.sqlite.specs.Term.{Env, lit}
 use Rattle.sqlite.specs.Query.{inner, end, matches_as, IsAnswerAs, IsSureAnswer, Output, output}
 use Rattle.sqlite_sql.specs.Group.{Grouping, IsSummary, value_over}
 use Rattle.sqlite_sql.specs.declared.aggregate.AggregateOp.TheVariants.{CountRows}
@@ -17,25 +16,16 @@ use Rattle.sqlite.specs.Collation.TheVariants.{Binary}
 use Rattle.sqlite.specs.Program.{overlay}
 use Rattle.sqlite.specs.Store.{Ghosts}
 use Rattle.sqlite.specs.Held.{Held, state}
-use Rattle.sqlite.specs.State.{State, Shown, HasCleanDisk}
 use Rattle.sqlite.proofs.Callers.{reads_as, one_permutation}
 use Rattle.kt_base.specs.declared.run.Run.{Run}
 use Rattle.kt_base.specs.declared.entry.Entry.{Entry}
 use Rattle.kt_store.specs.Tables.{count_text, schema_2}
 use Rattle.kt_store.specs.Inner.Runs.{entries_of}
 use Rattle.kt_store.specs.Runs.{entry_row, entry_rows, run_at}
-use Rattle.kt_store.specs.Stands.{IsStore, StandsFor}
-use Rattle.kt_store.specs.Inner.Ask.{Asked}
+use Rattle.kt_store.specs.Inner.Ask.{ShowsOf}
 use Rattle.kt_store.proofs.SqlFacts.{count_is, count_query, is}
 use Rattle.kt_store.proofs.QueryLemmas.{found, overlay_none}
-use Rattle.kt_store.proofs.EntryLemmas.{back, of_stored, of_run, same_test, one_truth}
-use Rattle.kt_store.proofs.AskLemmas.{asked_mid}
-
-abbrev tests : List Term
-tests = is (col 1 1) (col 0 0) ∷ []
-
-abbrev passes : Row → Row → Bool
-passes params r = list_all (holds (params ∷ r ∷ [])) tests
+use Rattle.kt_store.proofs.EntryLemmas.{back, of_stored, of_run, tests, passes, same_passes, each, all_pass}
 
 abbrev pub most : ℕ
 most = 9223372036854775807
@@ -81,36 +71,20 @@ module _ (db : Trees) (params : Row) (rows : List Row) (sure : IsSureAnswer coun
       let ordered : a.ordered ≡ output count_query (params ∷ number ∷ []) ∷ [] = one_permutation _ a.ordered (subst (λ k. IsPermutation k a.ordered) kept a.same) in
       a.shown ∙ ap (map (λ (o : Output). o.1)) ordered ∙ ap (λ n. (Int (pos (min n most)) ∷ []) ∷ []) as_many
 
-same_passes : (params r : Row) → passes params r ≡ passes params (back (drop 1 r))
-same_passes params [] = refl
-same_passes params (x ∷ r) = refl
-
-each : (n m : ℕ) (e : Entry) → passes (Int (pos n) ∷ []) (back (entry_row m e)) ≡ (m == n) && true
-unfolding binary
-each n m e = ap (λ a. is_true (from_truth (Some a)) && true) (same_test m n) ∙ one_truth (m == n)
-
 no_row : Row
 no_row = []
 
-all_pass : (es : List Entry) → filter (λ (e : Entry). true) es ≡ es
-all_pass [] = refl
-all_pass (e ∷ es) = ap (λ l. e ∷ l) (all_pass es)
-
-pub tells_count : (old new : State) (runs : List Run) (n : ℕ) (rows : List Row) → IsStore old runs → Shown count_text (Int (pos n) ∷ []) old new rows
+pub tells_count : {S : Type 0} (g : Ghosts S) (new : Held S) (runs : List Run) (n : ℕ) (rows : List Row) → ShowsOf g runs count_text (Int (pos n) ∷ []) new rows
     → rows ≡ (Int (pos (min (length (entries_of (run_at runs n))) most)) ∷ []) ∷ []
-tells_count old new runs n rows has h =
+tells_count g new runs n rows it =
     let params : Row = Int (pos n) ∷ [] in
-    let reads = reads_as count_text params old new schema_2 has.tables.schema _ count_is.0 count_is.2 count_is.1 rows h in
-    let is = counted old.now.trees params rows reads.answer in
-    let from = of_stored (old.now.trees 3) (entry_rows runs) has.tables.entries_are (passes params) (λ r. no_row) (same_passes params) (λ r. refl) in
-    let of_one = of_run (λ r. passes params (back r)) (λ (e : Entry). true) n runs (each n) has.tables.valid.numbered in
-    let long : length (filter (passes params) (old.now.trees 3)) ≡ length (entries_of (run_at runs n)) =
+    let reads = reads_as count_text params (state g it.mid) (state g new) schema_2 it.stored.tables.schema _ count_is.0 count_is.2 count_is.1 rows it.shown in
+    let is = counted (state g it.mid).now.trees params rows reads.answer in
+    let from = of_stored ((state g it.mid).now.trees 3) (entry_rows runs) it.stored.tables.entries_are (passes params) (λ r. no_row) (same_passes params) (λ r. refl) in
+    let of_one = of_run (λ r. passes params (back r)) (λ (e : Entry). true) n runs (each n) it.stored.tables.valid.numbered in
+    let long : length (filter (passes params) ((state g it.mid).now.trees 3)) ≡ length (entries_of (run_at runs n)) =
     sym (length-map _ (λ (r : Row). no_row)) ∙ length_permutation _ _ from ∙ length-map _ _ ∙ ap length of_one ∙ length-map _ (entry_row n) ∙ ap length (all_pass (entries_of (run_at runs n))) in
     is ∙ ap (λ k. (Int (pos (min k most)) ∷ []) ∷ []) long
-
-module _ {S : Type 0} (g : Ghosts S) (old new : Held S) (runs : List Run) (has : StandsFor (state g old) runs) (earlier : HasCleanDisk (state g new) → HasCleanDisk (state g old)) where
-  pub asked_count : (n : ℕ) (rows : List Row) → HasCleanDisk (state g new) → Asked g count_text (Int (pos n) ∷ []) old new rows → rows ≡ (Int (pos (min (length (entries_of (run_at runs n))) most)) ∷ []) ∷ []
-  asked_count n rows clean it = tells_count (state g it.mid) (state g new) runs n rows (asked_mid g old new runs has earlier count_text count_is.2 (Int (pos n) ∷ []) rows clean it) it.shown
 
 pub only_number : (n : ℕ) (rows : List Row) (first : Row) (read : ℕ) → rows ≡ (Int (pos n) ∷ []) ∷ [] → slice_get rows 0 ≡ Some first
     → column first 0 ≡ Int (pos read) → read ≡ n

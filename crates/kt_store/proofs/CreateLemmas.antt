@@ -81,9 +81,6 @@ makes schema sql table is old new count has h =
 abbrev mark_command : Rattle.sqlite.specs.Command.Command
 mark_command = Insert 0 (Values mark_terms 3)
 
-abbrev mark_rows : List Row
-mark_rows = value_rows [] 3 1 mark_terms
-
 mark_works : (params : Row) (trees : Trees) → let edit = edit_of trees meta_1 [] Chosen 0 (value_rows params 3 1 mark_terms) in works schema_2 Enforced 0 edit.table.tree (taken_by trees edit) edit.news ≡ []
 mark_works params trees = refl
 

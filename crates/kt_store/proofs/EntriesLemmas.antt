@@ -5,8 +5,6 @@ use Rattle.std.specs.Prelude.{get_or}
 use Rattle.sqlite.specs.declared.types.Value.TheVariants.{Int}
 use Rattle.sqlite.specs.Order.{Row}
 use Rattle.sqlite_trees.specs.Tree.{IsAscending}
-use Rattle.sqlite.specs.Term.{Term, col}
-use Rattle.sqlite.specs.Ops.{is_true, from_truth, binary}
 use Rattle.sqlite.specs.Store.{Ghosts}
 use Rattle.sqlite.specs.Held.{Held, state}
 use Rattle.sqlite.specs.State.{State, Shown, HasCleanDisk}
@@ -19,9 +17,9 @@ use Rattle.kt_store.specs.Runs.{IsRun, IsEntry, entry_row, run_at, AreRuns}
 use Rattle.kt_store.specs.Inner.Heads.{entry_columns}
 use Rattle.kt_store.specs.Stands.{IsStore, StandsFor}
 use Rattle.kt_store.specs.Inner.Ask.{Asked}
-use Rattle.kt_store.proofs.SqlFacts.{outline_select_is, outline_query, is}
-use Rattle.kt_store.proofs.KeptEntries.{passes, Same, tells_kept}
-use Rattle.kt_store.proofs.EntryLemmas.{back, same_test, one_truth}
+use Rattle.kt_store.proofs.SqlFacts.{outline_select_is, outline_query}
+use Rattle.kt_store.proofs.KeptEntries.{Same, tells_kept}
+use Rattle.kt_store.proofs.EntryLemmas.{tests, each, all_pass}
 use Rattle.kt_store.proofs.CloseLemmas.{run_of}
 use Rattle.kt_store.proofs.AskLemmas.{asked_mid}
 
@@ -44,17 +42,6 @@ sound_of runs n valid = go (run_at runs n) (λ r there. run_of n runs r valid th
 
 abbrev entries_params : ℕ → Row
 entries_params n = Int (pos n) ∷ []
-
-abbrev tests : List Term
-tests = is (col 1 1) (col 0 0) ∷ []
-
-each : (n m : ℕ) (e : Entry) → passes tests outline_query.project (entries_params n) (back (entry_row m e)) ≡ (m == n) && true
-unfolding binary
-each n m e = ap (λ a. is_true (from_truth (Some a)) && true) (same_test m n) ∙ one_truth (m == n)
-
-all_pass : (es : List Entry) → filter (λ (e : Entry). true) es ≡ es
-all_pass [] = refl
-all_pass (e ∷ es) = ap (λ l. e ∷ l) (all_pass es)
 
 same_rows : (n : ℕ) (r : Row) → Same tests outline_query.project (entries_params n) r
 same_rows n [] = (refl, refl)

@@ -1,18 +1,23 @@
 -- What queries of the entries answer.
-use Rattle.std.proofs.Common.{◌≡◌, ◌≢◌, ◌==◌, ◌&&◌, ℕ, zero, suc, ◌+◌, ◌<◌, pos, List, [], ◌∷◌, ◌++◌, map, drop, filter, Bool, true, false, cond, Some, slice_get, refl, sym, ap, ap₂, subst, ◌∙◌, arith, IsPermutation}
+use Rattle.std.proofs.Common.{◌≡◌, ◌≢◌, ◌==◌, ◌&&◌, ℕ, zero, suc, ◌+◌, ◌<◌, pos, List, [], ◌∷◌, ◌++◌, map, drop, filter, Bool, true, false, cond, Less, Equal, Greater, Some, None, Option, slice_get, refl, sym, ap, ap₂, subst, ◌∙◌, arith, IsPermutation, append-nil}
 use Rattle.std.proofs.lemmas.Int.{ints}
 use Rattle.std.proofs.lemmas.Bool.Decides.{nat_tests}
 use Rattle.std.proofs.lemmas.List.Sorted.{IsPermutation-map}
+use Rattle.std.proofs.lemmas.List.Elements.{filter-append}
+use Rattle.std.specs.List.{flat_map, list_all}
+use Rattle.std.specs.Option.{option_to_list}
+use Rattle.sqlite.specs.Term.{Term, col, holds}
 use Rattle.sqlite_keyed.proofs.ListLemmas.{IsPermutation-filter}
 use Rattle.sqlite.specs.declared.types.Value.TheVariants.{Null, Int}
 use Rattle.sqlite.specs.Order.{Row}
 use Rattle.sqlite_value.specs.Order.{value_cmp}
 use Rattle.sqlite_value.proofs.OrderLemmas.{value_cmp-Int}
 use Rattle.std.specs.Ordering.{is_eq}
-use Rattle.sqlite.specs.Ops.{is_true, from_truth}
+use Rattle.sqlite.specs.Ops.{is_true, from_truth, binary}
 use Rattle.kt_base.specs.declared.run.Run.{Run}
 use Rattle.kt_base.specs.declared.entry.Entry.{Entry}
 use Rattle.kt_store.specs.Inner.Runs.{entries_of}
+use Rattle.kt_store.proofs.SqlFacts.{is}
 use Rattle.kt_store.specs.Runs.{entry_row, entry_rows, run_at, AreNumbered}
 
 -- the row as it is stored, whatever its rowid
@@ -34,55 +39,63 @@ module _ {X : Type 0} (stored all : List Row) (are : IsPermutation all (map (dro
   of_stored = subst (λ l. IsPermutation (map (λ r. show (back r)) (filter (λ r. passes (back r)) all)) l) (sym (without_id stored))
       (IsPermutation-map (λ r. show (back r)) _ _ (IsPermutation-filter (λ r. passes (back r)) all (map (drop 1) stored) are))
 
+-- the rows of one run, of those of all
+module _ (test : Row → Bool) (rows shown : Run → List Row) (n : ℕ) (here : (r : Run) → r.number ≡ n → filter test (rows r) ≡ shown r) (apart : (r : Run) → r.number ≢ n → filter test (rows r) ≡ []) where
+  none_later : (from : ℕ) (runs : List Run) → AreNumbered from runs → n < from → filter test (flat_map rows runs) ≡ []
+  none_later from [] h low = refl
+  none_later from (r ∷ runs) h low =
+      filter-append test (rows r) (flat_map rows runs) ∙ ap₂ (λ x y. x ++ y) (apart r (λ e. omega (arith, e, h.0, low))) (none_later (suc from) runs h.1 (omega (arith, low)))
+
+  one_from : (from k : ℕ) (runs : List Run) → n ≡ from + k → AreNumbered from runs → filter test (flat_map rows runs) ≡ flat_map shown (option_to_list (slice_get runs k))
+  one_from from k [] is h = refl
+  one_from from zero (r ∷ runs) is h =
+      filter-append test (rows r) (flat_map rows runs) ∙ ap₂ (λ x y. x ++ y) (here r (omega (arith, is, h.0))) (none_later (suc from) runs h.1 (omega (arith, is)))
+  one_from from (suc k) (r ∷ runs) is h =
+      filter-append test (rows r) (flat_map rows runs) ∙ ap₂ (λ x y. x ++ y) (apart r (λ e. omega (arith, e, is, h.0))) (one_from (suc from) k runs (omega (arith, is)) h.1)
+
+pub of_one : (test : Row → Bool) (rows shown : Run → List Row) (n : ℕ) → ((r : Run) → r.number ≡ n → filter test (rows r) ≡ shown r) → ((r : Run) → r.number ≢ n → filter test (rows r) ≡ [])
+    → (runs : List Run) → AreNumbered 1 runs → filter test (flat_map rows runs) ≡ flat_map shown (option_to_list (run_at runs n))
+of_one test rows shown zero here apart runs h = none_later test rows shown 0 here apart 1 runs h (omega arith)
+of_one test rows shown (suc k) here apart runs h = one_from test rows shown (suc k) here apart 1 k runs (omega arith) h
+
 -- the entries of one run, of those of all
-module _ (test : Row → Bool) (n : ℕ) (keep : Entry → Bool) (each : (m : ℕ) (e : Entry) → test (entry_row m e) ≡ (m == n) && keep e) where
-  hit : (m : ℕ) → m ≡ n → (es : List Entry) (rest : List Row) → filter test (map (entry_row m) es ++ rest) ≡ map (entry_row n) (filter keep es) ++ filter test rest
-  hit m is [] rest = refl
-  hit m is (e ∷ es) rest =
+module _ (test : Row → Bool) (keep : Entry → Bool) (n : ℕ) (each : (m : ℕ) (e : Entry) → test (entry_row m e) ≡ (m == n) && keep e) where
+  hit : (m : ℕ) → m ≡ n → (es : List Entry) → filter test (map (entry_row m) es) ≡ map (entry_row n) (filter keep es)
+  hit m is [] = refl
+  hit m is (e ∷ es) =
       let same : (m == n) ≡ true = grind (arith, nat_tests, is) in
       let tested : test (entry_row m e) ≡ keep e = rw (each m e, same) refl in
-      rw tested (go (keep e) (hit m is es rest))
+      rw tested (go (keep e) (hit m is es))
     where
-      go : (b : Bool) → filter test (map (entry_row m) es ++ rest) ≡ map (entry_row n) (filter keep es) ++ filter test rest
-          → cond b (entry_row m e ∷ filter test (map (entry_row m) es ++ rest)) (filter test (map (entry_row m) es ++ rest)) ≡ map (entry_row n) (cond b (e ∷ filter keep es) (filter keep es)) ++ filter test rest
+      go : (b : Bool) → filter test (map (entry_row m) es) ≡ map (entry_row n) (filter keep es) → cond b (entry_row m e ∷ filter test (map (entry_row m) es)) (filter test (map (entry_row m) es)) ≡ map (entry_row n) (cond b (e ∷ filter keep es) (filter keep es))
       go true more = ap₂ (λ x xs. x ∷ xs) (ap (λ k. entry_row k e) is) more
       go false more = more
 
-  miss : (m : ℕ) → m ≢ n → (es : List Entry) (rest : List Row) → filter test (map (entry_row m) es ++ rest) ≡ filter test rest
-  miss m apart [] rest = refl
-  miss m apart (e ∷ es) rest =
+  miss : (m : ℕ) → m ≢ n → (es : List Entry) → filter test (map (entry_row m) es) ≡ []
+  miss m apart [] = refl
+  miss m apart (e ∷ es) =
       let other : (m == n) ≡ false = grind (arith, nat_tests, apart) in
       let tested : test (entry_row m e) ≡ false = rw (each m e, other) refl in
-      rw tested (miss m apart es rest)
-
-  none_later : (from : ℕ) (runs : List Run) → AreNumbered from runs → n < from → filter test (entry_rows runs) ≡ []
-  none_later from [] h low = refl
-  none_later from (r ∷ runs) h low = miss r.number (λ e. omega (arith, e, h.0)) r.entries (entry_rows runs) ∙ none_later (suc from) runs h.1 (omega arith)
-
-pub of_run_from : (test : Row → Bool) (keep : Entry → Bool) (from k : ℕ) (runs : List Run) → ((m : ℕ) (e : Entry) → test (entry_row m e) ≡ (m == from + k) && keep e) → AreNumbered from runs
-    → filter test (entry_rows runs) ≡ map (entry_row (from + k)) (filter keep (entries_of (slice_get runs k)))
-of_run_from test keep from k [] each h = refl
-of_run_from test keep from zero (r ∷ runs) each h =
-    hit test (from + 0) keep each r.number (omega (arith, h.0)) r.entries (entry_rows runs)
-    ∙ ap (λ l. map (entry_row (from + 0)) (filter keep r.entries) ++ l) (none_later test (from + 0) keep each (suc from) runs h.1 (omega arith))
-    ∙ rw (append_none (map (entry_row (from + 0)) (filter keep r.entries))) refl
-  where
-    append_none : (l : List Row) → l ++ [] ≡ l
-    append_none [] = refl
-    append_none (x ∷ l) = ap (λ m. x ∷ m) (append_none l)
-of_run_from test keep from (suc k) (r ∷ runs) each h =
-    let place : suc from + k ≡ from + suc k = omega arith in
-    miss test (from + suc k) keep each r.number (λ e. omega (arith, e, h.0)) r.entries (entry_rows runs)
-    ∙ subst (λ n. filter test (entry_rows runs) ≡ map (entry_row n) (filter keep (entries_of (slice_get runs k)))) place
-    (of_run_from test keep (suc from) k runs (λ m e. each m e ∙ ap (λ n. (m == n) && keep e) (sym place)) h.1)
+      rw tested (miss m apart es)
 
 pub of_run : (test : Row → Bool) (keep : Entry → Bool) (n : ℕ) (runs : List Run) → ((m : ℕ) (e : Entry) → test (entry_row m e) ≡ (m == n) && keep e) → AreNumbered 1 runs
     → filter test (entry_rows runs) ≡ map (entry_row n) (filter keep (entries_of (run_at runs n)))
-of_run test keep zero runs each h = none_later test 0 keep each 1 runs h (omega arith)
-of_run test keep (suc k) runs each h =
-    let place : 1 + k ≡ suc k = omega arith in
-    subst (λ n. filter test (entry_rows runs) ≡ map (entry_row n) (filter keep (entries_of (slice_get runs k)))) place
-    (of_run_from test keep 1 k runs (λ m e. each m e ∙ ap (λ n. (m == n) && keep e) (sym place)) h)
+of_run test keep n runs each h =
+    of_one test (λ (r : Run). map (entry_row r.number) r.entries) (λ (r : Run). map (entry_row n) (filter keep r.entries)) n (λ r is. hit test keep n each r.number is r.entries) (λ r other. miss test keep n each r.number other r.entries) runs h
+    ∙ found (run_at runs n)
+  where
+    found : (o : Option Run) → flat_map (λ (r : Run). map (entry_row n) (filter keep r.entries)) (option_to_list o) ≡ map (entry_row n) (filter keep (entries_of o))
+    found None = refl
+    found (Some r) = append-nil (map (entry_row n) (filter keep r.entries))
+
+pub below : (m n : ℕ) → m < n → value_cmp (Int (pos m)) (Int (pos n)) ≡ Less
+below m n h = value_cmp-Int (pos m) (pos n) ∙ grind (arith, ints, nat_tests)
+
+pub above : (m n : ℕ) → n < m → value_cmp (Int (pos m)) (Int (pos n)) ≡ Greater
+above m n h = value_cmp-Int (pos m) (pos n) ∙ grind (arith, ints, nat_tests)
+
+pub equal : (n : ℕ) → value_cmp (Int (pos n)) (Int (pos n)) ≡ Equal
+equal n = value_cmp-Int (pos n) (pos n) ∙ grind (arith, ints, nat_tests)
 
 pub same_test : (m n : ℕ) → is_eq (value_cmp (Int (pos m)) (Int (pos n))) ≡ (m == n)
 same_test m n = ap is_eq (value_cmp-Int (pos m) (pos n)) ∙ grind (arith, ints, nat_tests)
@@ -96,3 +109,22 @@ two_truths true true = refl
 two_truths true false = refl
 two_truths false true = refl
 two_truths false false = refl
+
+-- a WHERE on the run
+abbrev pub tests : List Term
+tests = is (col 1 1) (col 0 0) ∷ []
+
+abbrev pub passes : Row → Row → Bool
+passes params r = list_all (holds (params ∷ r ∷ [])) tests
+
+pub same_passes : (params r : Row) → passes params r ≡ passes params (back (drop 1 r))
+same_passes params [] = refl
+same_passes params (x ∷ r) = refl
+
+pub each : (n m : ℕ) (e : Entry) → passes (Int (pos n) ∷ []) (back (entry_row m e)) ≡ (m == n) && true
+unfolding binary
+each n m e = ap (λ a. is_true (from_truth (Some a)) && true) (same_test m n) ∙ one_truth (m == n)
+
+pub all_pass : (es : List Entry) → filter (λ (e : Entry). true) es ≡ es
+all_pass [] = refl
+all_pass (e ∷ es) = ap (λ l. e ∷ l) (all_pass es)

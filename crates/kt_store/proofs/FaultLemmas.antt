@@ -1,17 +1,9 @@
 -- What a refusal is reported as.
-use Rattle.std.proofs.Common.{◌≡◌, ◌≢◌, inl, inr, sym, subst, Result, Ok, Err, IsErrAnd, IfErr, OnErr}
+use Rattle.std.proofs.Common.{◌≡◌, sym, subst, Result, Ok, Err, IsErrAnd, IfErr, OnErr}
 use Rattle.sqlite.specs.declared.error.ErrorCode.TheVariants as code
-use Rattle.sqlite.specs.declared.error.Error.{Error}
-use Rattle.sqlite.specs.declared.error.Error.TheVariants.{SqliteFailure}
 use Rattle.kt_store.specs.declared.store_fault.StoreFault.{StoreFault}
 use Rattle.kt_store.specs.declared.store_fault.StoreFault.TheVariants.{NoMemory, Store}
 use Rattle.kt_store.specs.Ask.{IsNoMemory, IsStoreFault}
-use Rattle.kt_store.specs.Inner.Fault.{Tells}
-
--- a cell that can be read is refused only if memory ran out
-pub only_memory : (error : Error) (fault : StoreFault) → Tells error fault → ¬ (error ≢ SqliteFailure code.OutOfMemory) → IsNoMemory fault
-only_memory error fault (inl h) readable = h.0
-only_memory error fault (inr h) readable = absurd (readable h.1)
 
 -- what is known of a fault is known of the answer that hands it on
 pub if_same : {T : Type 0} (Q : StoreFault → Type 0) (r : Result T StoreFault) (e : StoreFault) → IsErrAnd r (λ x. x ≡ e) → Q e → IfErr r Q

@@ -1,11 +1,12 @@
 -- What the statements do that put an entry and its pairs, one after the other.
-use Rattle.std.proofs.Common.{◌≡◌, inl, inr, ℕ, suc, ◌+◌, ◌<◌, pos, List, [], ◌∷◌, ◌++◌, length, map, drop, codes, None, Ok, refl, sym, ap, subst, ◌∙◌, arith, IsPermutation, IsTrue, true, false}
+use Rattle.std.proofs.Common.{◌≡◌, ◌&&◌, ◌/◌, Bool, not, ℕ, suc, ◌+◌, ◌<◌, pos, List, [], ◌∷◌, ◌++◌, length, map, drop, codes, None, Ok, refl, sym, ap, subst, ◌∙◌, arith, IsPermutation, IsTrue, true, false}
 use Rattle.std.specs.List.{AllByRecursion}
 use Rattle.std.proofs.lemmas.List.Sorted.{IsPermutation-cons, IsPermutation-trans, IsPermutation-map, IsPermutation-sym, IsPermutation-middle}
 use Rattle.sqlite.specs.declared.types.Value.TheVariants.{Int, Text}
 use Rattle.sqlite.specs.Order.{Row}
 use Rattle.sqlite.specs.Tree.{Trees}
-use Rattle.sqlite_rules.specs.Edit.{is_taken, taken_by, put_all, are_fresh, next_rowid}
+use Rattle.sqlite_rules.specs.Edit.{is_taken, taken_by, put_all, are_fresh, next_rowid, numbered}
+use Rattle.sqlite_rules.specs.Cast.{cast_row}
 use Rattle.sqlite_trees.specs.Tree.{put_row}
 use Rattle.sqlite_rules.specs.Action.{works}
 use Rattle.sqlite.specs.Source.TheVariants.{Values}
@@ -18,21 +19,24 @@ use Rattle.sqlite.specs.Store.{Ghosts}
 use Rattle.sqlite.specs.Held.{Held, state}
 use Rattle.sqlite.specs.Effect.{Database, IsDatabase, value_rows}
 use Rattle.sqlite.specs.State.{State, HasCleanDisk, mode_of, Executes, Writes}
-use Rattle.sqlite.proofs.Callers.{statement_of, runs_as}
+use Rattle.sqlite.specs.Term.{Term}
+use Rattle.sqlite.proofs.Callers.{IsPlain, command_of, statement_of, runs_as}
 use Rattle.kt_base.specs.declared.entry.Entry.{Entry}
 use Rattle.kt_base.specs.declared.run.Run.{Run}
 use Rattle.kt_base.specs.declared.variable.Variable.{Variable}
 use Rattle.kt_store.specs.Tables.{schema_2, entries_1, props_1, put_text}
 use Rattle.kt_store.specs.Inner.Runs.{CanAdd}
 use Rattle.kt_store.specs.Runs.{Tables, IsRun, kind_code, run_row, entry_row, entry_rows, pair_row, pair_rows_from, prop_rows, with_entry}
-use Rattle.kt_store.specs.Inner.Calls.{Statement, pair_statements, entry_statements, pair_text}
+use Rattle.kt_store.specs.Inner.Calls.{Statement, single_statements, pair_statements, entry_statements, pair_text, five_text, five_values}
 use Rattle.kt_store.specs.Inner.Transactions.{begun, RunInTurn}
 use Rattle.kt_store.specs.Stands.{StandsFor}
-use Rattle.kt_store.proofs.SqlFacts.{put_is, put_terms, pair_is, pair_terms}
+use Rattle.kt_store.proofs.SqlFacts.{put_is, put_terms, pair_is, pair_terms, five_is, five_terms}
 use Rattle.kt_store.proofs.InsertLemmas.{changed}
 use Rattle.kt_store.proofs.BeginLemmas.{cast_null, cast_int}
-use Rattle.kt_store.proofs.PutLemmas.{put_beside, same_runs, same_numbers, as_many, more_rows, put_rows, put_works, free_from_fresh}
-use Rattle.kt_store.proofs.PairLemmas.{more_pairs}
+use Rattle.kt_store.proofs.PutLemmas.{put_beside, same_runs, as_many, more_rows, put_rows, put_works}
+use Rattle.kt_store.proofs.PairLemmas.{more_pairs, swap_blocks}
+use Rattle.kt_store.proofs.EntryLemmas.{back}
+use Rattle.kt_store.proofs.Numbered.{numbers_entry}
 
 -- the tables of schema 2 with the rows of these runs, of these entries and of these pairs
 pub record Holds (runs : List Run) (entries props : List Row) (db : Database) : Type 0 where
@@ -43,12 +47,33 @@ pub record Holds (runs : List Run) (entries props : List Row) (db : Database) : 
   pub props_are : IsPermutation props (map (drop 1) (db.trees 5))
 
 -- a new row with a rowid of its own
-one_more : (stored after : List Row) (rows : List Row) (new row : Row) → drop 1 new ≡ row → are_fresh stored (new ∷ []) ≡ true → after ≡ put_row new stored → IsPermutation rows (map (drop 1) stored) → IsPermutation (row ∷ rows) (map (drop 1) after)
-one_more stored after rows new row bare fresh is have =
-    let free : is_taken stored new ≡ false = free_from_fresh stored new fresh in
+one_more : (stored : List Row) (rows : List Row) (new row : Row) → drop 1 new ≡ row → is_taken stored new ≡ false → IsPermutation rows (map (drop 1) stored) → IsPermutation (row ∷ rows) (map (drop 1) (put_row new stored))
+one_more stored rows new row bare free have =
     let beside = IsPermutation-map (drop 1) (new ∷ stored) (put_row new stored) (put_beside new stored free) in
-    subst (λ l. IsPermutation (row ∷ rows) (map (drop 1) l)) (sym is)
-    (IsPermutation-trans _ _ _ (IsPermutation-cons row rows (map (drop 1) stored) have) (subst (λ x. IsPermutation (x ∷ map (drop 1) stored) (map (drop 1) (put_row new stored))) bare beside))
+    IsPermutation-trans _ _ _ (IsPermutation-cons row rows (map (drop 1) stored) have) (subst (λ x. IsPermutation (x ∷ map (drop 1) stored) (map (drop 1) (put_row new stored))) bare beside)
+
+both_fresh : (taken rest : Bool) → (not taken && rest) ≡ true → (taken ≡ false) × (rest ≡ true)
+both_fresh true rest h = absurd (let e : false ≡ true = h in cc)
+both_fresh false rest h = (refl, h)
+
+-- new rows, each numbered above those before it
+rows_more : (stored new rows : List Row) → are_fresh stored (numbered Chosen stored (map back new)) ≡ true → IsPermutation rows (map (drop 1) stored)
+    → IsPermutation (new ++ rows) (map (drop 1) (put_all stored (numbered Chosen stored (map back new))))
+rows_more stored [] rows fresh have = have
+rows_more stored (r ∷ new) rows fresh have =
+    let row : Row = Int (next_rowid stored) ∷ r in
+    let both = both_fresh (is_taken stored row) (are_fresh (put_row row stored) (numbered Chosen (put_row row stored) (map back new))) fresh in
+    IsPermutation-trans _ _ _ (IsPermutation-sym _ _ (IsPermutation-middle new r rows)) (rows_more (put_row row stored) new (r ∷ rows) both.1 (one_more stored rows row r refl both.0 have))
+
+-- the same pairs in another order
+moved : (runs : List Run) (entries props more : List Row) (db : Database) → IsPermutation more props → Holds runs entries props db → Holds runs entries more db
+moved runs entries props more db same has = record {
+  schema = has.schema;
+  marked = has.marked;
+  runs_are = has.runs_are;
+  entries_are = has.entries_are;
+  props_are = IsPermutation-trans _ _ _ same has.props_are;
+}
 
 module _ (runs : List Run) (entries props : List Row) (old new : State) (count : ℕ) (has : Holds runs entries props old.now) where
   pub put_inside : (n : ℕ) (e : Entry) → Executes put_text (entry_row n e) old new (Ok count) → Holds runs (entry_row n e ∷ entries) props new.now × IsDatabase new.now
@@ -56,66 +81,83 @@ module _ (runs : List Run) (entries props : List Row) (old new : State) (count :
       let text = statement_of put_text (understood schema_2 put_text) in
       let w : Writes old new None (Insert 2 (Values put_terms 13)) text (entry_row n e) count = runs_as put_text (entry_row n e) old new schema_2 has.schema (Insert 2 (Values put_terms 13)) put_is.0 put_is.1 count h in
       let did = changed schema_2 2 entries_1 put_terms 13 refl refl refl put_works old.step_limit (mode_of old) (entry_row n e) old.now new.now text w.tally refl has.schema w.changed in
-      let row : Row = Int (next_rowid (old.now.trees 3)) ∷ entry_row n e in
-      let news_are : (edit_of old.now.trees entries_1 [] Chosen 0 (put_rows n e)).news ≡ row ∷ [] =
+      let news_are : (edit_of old.now.trees entries_1 [] Chosen 0 (put_rows n e)).news ≡ numbered Chosen (old.now.trees 3) (map back (entry_row n e ∷ [])) =
       rw (cast_null, cast_int (pos n), cast_int (pos e.position), cast_int (pos (kind_code e.verdict.kind)), cast_int (pos e.started), cast_int (pos e.millis)) refl in (
         record {
           schema = did.schema_is;
           marked = ap (map (drop 1)) (did.applies.tables.0 (λ e. cc)) ∙ has.marked;
           runs_are = did.applies.tables.1.0 (λ e. cc) ∙ has.runs_are;
-          entries_are = one_more (old.now.trees 3) (new.now.trees 3) entries row (entry_row n e) refl (subst (λ news. are_fresh (old.now.trees 3) news ≡ true) news_are did.applies.fresh)
-              (did.applies.rows ∙ ap (λ news. put_all (old.now.trees 3) news) news_are) has.entries_are;
+          entries_are = subst (λ l. IsPermutation (entry_row n e ∷ entries) (map (drop 1) l)) (sym (did.applies.rows ∙ ap (put_all (old.now.trees 3)) news_are))
+              (rows_more (old.now.trees 3) (entry_row n e ∷ []) entries (subst (λ news. are_fresh (old.now.trees 3) news ≡ true) news_are did.applies.fresh) has.entries_are);
           props_are = subst (λ l. IsPermutation props (map (drop 1) l)) (sym (did.applies.tables.1.1.1.0 (λ e. cc))) has.props_are;
         },
         w.sound,
       )
 
-  pair_works : (params : Row) (trees : Trees) → let edit = edit_of trees props_1 [] Chosen 0 (value_rows params 6 1 pair_terms) in works schema_2 Enforced 0 edit.table.tree (taken_by trees edit) edit.news ≡ []
-  pair_works params trees = refl
-
-  pub pair_inside : (n p k : ℕ) (v : Variable) → Executes pair_text (pair_row n p k v) old new (Ok count) → Holds runs entries (pair_row n p k v ∷ props) new.now × IsDatabase new.now
-  pair_inside n p k v h =
-      let text = statement_of pair_text (understood schema_2 pair_text) in
-      let w : Writes old new None (Insert 3 (Values pair_terms 6)) text (pair_row n p k v) count = runs_as pair_text (pair_row n p k v) old new schema_2 has.schema (Insert 3 (Values pair_terms 6)) pair_is.0 pair_is.1 count h in
-      let did = changed schema_2 3 props_1 pair_terms 6 refl refl refl pair_works old.step_limit (mode_of old) (pair_row n p k v) old.now new.now text w.tally refl has.schema w.changed in
-      let row : Row = Int (next_rowid (old.now.trees 5)) ∷ pair_row n p k v in
-      let news_are : (edit_of old.now.trees props_1 [] Chosen 0 (value_rows (pair_row n p k v) 6 1 pair_terms)).news ≡ row ∷ [] =
-      rw (cast_null, cast_int (pos n), cast_int (pos p), cast_int (pos k)) refl in (
+  -- an INSERT of pairs
+  pairs_put : (sql : List ℕ) (terms : List Term) (params : Row) (rows : List Row) → command_of (understood schema_2 sql) ≡ Insert 3 (Values terms 6) → IsPlain (understood schema_2 sql)
+      → ((params : Row) (trees : Trees) → let edit = edit_of trees props_1 [] Chosen 0 (value_rows params 6 (length terms / 6) terms) in works schema_2 Enforced 0 edit.table.tree (taken_by trees edit) edit.news ≡ [])
+      → map (λ s. cast_row props_1 (drop 0 s)) (value_rows params 6 (length terms / 6) terms) ≡ map back rows → Executes sql params old new (Ok count) → Holds runs entries (rows ++ props) new.now × IsDatabase new.now
+  pairs_put sql terms params rows is plain none rows_are h =
+      let text = statement_of sql (understood schema_2 sql) in
+      let w : Writes old new None (Insert 3 (Values terms 6)) text params count = runs_as sql params old new schema_2 has.schema (Insert 3 (Values terms 6)) is plain count h in
+      let did = changed schema_2 3 props_1 terms 6 refl refl refl none old.step_limit (mode_of old) params old.now new.now text w.tally refl has.schema w.changed in
+      let news_are : (edit_of old.now.trees props_1 [] Chosen 0 (value_rows params 6 (length terms / 6) terms)).news ≡ numbered Chosen (old.now.trees 5) (map back rows) = ap (numbered Chosen (old.now.trees 5)) rows_are in (
         record {
           schema = did.schema_is;
           marked = ap (map (drop 1)) (did.applies.tables.0 (λ e. cc)) ∙ has.marked;
           runs_are = did.applies.tables.1.0 (λ e. cc) ∙ has.runs_are;
           entries_are = subst (λ l. IsPermutation entries (map (drop 1) l)) (sym (did.applies.tables.1.1.0 (λ e. cc))) has.entries_are;
-          props_are = one_more (old.now.trees 5) (new.now.trees 5) props row (pair_row n p k v) refl (subst (λ news. are_fresh (old.now.trees 5) news ≡ true) news_are did.applies.fresh)
-              (did.applies.rows ∙ ap (λ news. put_all (old.now.trees 5) news) news_are) has.props_are;
+          props_are = subst (λ l. IsPermutation (rows ++ props) (map (drop 1) l)) (sym (did.applies.rows ∙ ap (put_all (old.now.trees 5)) news_are))
+              (rows_more (old.now.trees 5) rows props (subst (λ news. are_fresh (old.now.trees 5) news ≡ true) news_are did.applies.fresh) has.props_are);
         },
         w.sound,
       )
 
-module _ {S : Type 0} (g : Ghosts S) where
-  pairs_inside : (runs : List Run) (entries props : List Row) (n p k : ℕ) (vs : List Variable) (old new : Held S) → Holds runs entries props (state g old).now → IsDatabase (state g old).now
-      → RunInTurn g (pair_statements n p k vs) old new → Holds runs entries (pair_rows_from n p k vs ++ props) (state g new).now × IsDatabase (state g new).now
-  pairs_inside runs entries props n p k [] old new has sound is = subst (λ h. Holds runs entries props (state g h).now × IsDatabase (state g h).now) (sym is) (has, sound)
-  pairs_inside runs entries props n p k (v ∷ vs) old new has sound ran =
-      let one = pair_inside runs entries props (state g old) (state g ran.0) ran.1.0 has n p k v ran.1.1.0 in
-      let all = pairs_inside runs entries (pair_row n p k v ∷ props) n p (suc k) vs ran.0 new one.0 one.1 ran.2 in (
-        record {
-          schema = all.0.schema;
-          marked = all.0.marked;
-          runs_are = all.0.runs_are;
-          entries_are = all.0.entries_are;
-          props_are = IsPermutation-trans _ _ _ (IsPermutation-sym _ _ (IsPermutation-middle (pair_rows_from n p (suc k) vs) (pair_row n p k v) props)) all.0.props_are;
-        },
-        all.1,
-      )
+  pair_inside : (n p k : ℕ) (v : Variable) → Executes pair_text (pair_row n p k v) old new (Ok count) → Holds runs entries (pair_row n p k v ∷ props) new.now × IsDatabase new.now
+  pair_inside n p k v = pairs_put pair_text pair_terms (pair_row n p k v) (pair_row n p k v ∷ []) pair_is.0 pair_is.1 (λ _ _. refl) (rw (cast_null, cast_int (pos n), cast_int (pos p), cast_int (pos k)) refl)
 
+  five_inside : (n p k : ℕ) (a b c d e : Variable) → let five = a ∷ b ∷ c ∷ d ∷ e ∷ [] in Executes five_text (five_values n p k five) old new (Ok count) → Holds runs entries (pair_rows_from n p k five ++ props) new.now × IsDatabase new.now
+  five_inside n p k a b c d e =
+      let one : k + 1 ≡ suc k = omega arith in
+      let two : k + 2 ≡ suc (suc k) = omega arith in
+      let three : k + 3 ≡ suc (suc (suc k)) = omega arith in
+      let four : k + 4 ≡ suc (suc (suc (suc k))) = omega arith in
+      let five = a ∷ b ∷ c ∷ d ∷ e ∷ [] in
+      pairs_put five_text five_terms (five_values n p k five) (pair_rows_from n p k five) five_is.0 five_is.1 (λ _ _. refl)
+      (rw (cast_null, cast_int (pos n), cast_int (pos p), cast_int (pos k), cast_int (pos (k + 1)), cast_int (pos (k + 2)), cast_int (pos (k + 3)), cast_int (pos (k + 4)), one, two, three, four) refl)
+
+module _ {S : Type 0} (g : Ghosts S) (runs : List Run) (entries : List Row) (n p : ℕ) where
+  singles_inside : (k : ℕ) (vs : List Variable) (props : List Row) (old new : Held S) → Holds runs entries props (state g old).now → IsDatabase (state g old).now
+      → RunInTurn g (single_statements n p k vs) old new → Holds runs entries (pair_rows_from n p k vs ++ props) (state g new).now × IsDatabase (state g new).now
+  singles_inside k [] props old new has sound is = subst (λ h. Holds runs entries props (state g h).now × IsDatabase (state g h).now) (sym is) (has, sound)
+  singles_inside k (v ∷ vs) props old new has sound ran =
+      let one = pair_inside runs entries props (state g old) (state g ran.0) ran.1.0 has n p k v ran.1.1.0 in
+      let all = singles_inside (suc k) vs (pair_row n p k v ∷ props) ran.0 new one.0 one.1 ran.2 in
+      (moved runs entries _ _ (state g new).now (IsPermutation-sym _ _ (IsPermutation-middle (pair_rows_from n p (suc k) vs) (pair_row n p k v) props)) all.0, all.1)
+
+  pairs_inside : (k : ℕ) (vs : List Variable) (props : List Row) (old new : Held S) → Holds runs entries props (state g old).now → IsDatabase (state g old).now
+      → RunInTurn g (pair_statements n p k vs) old new → Holds runs entries (pair_rows_from n p k vs ++ props) (state g new).now × IsDatabase (state g new).now
+  pairs_inside k [] props old new has sound ran = singles_inside k [] props old new has sound ran
+  pairs_inside k (a ∷ []) props old new has sound ran = singles_inside k (a ∷ []) props old new has sound ran
+  pairs_inside k (a ∷ b ∷ []) props old new has sound ran = singles_inside k (a ∷ b ∷ []) props old new has sound ran
+  pairs_inside k (a ∷ b ∷ c ∷ []) props old new has sound ran = singles_inside k (a ∷ b ∷ c ∷ []) props old new has sound ran
+  pairs_inside k (a ∷ b ∷ c ∷ d ∷ []) props old new has sound ran = singles_inside k (a ∷ b ∷ c ∷ d ∷ []) props old new has sound ran
+  pairs_inside k (a ∷ b ∷ c ∷ d ∷ e ∷ vs) props old new has sound ran =
+      let first = pair_rows_from n p k (a ∷ b ∷ c ∷ d ∷ e ∷ []) in
+      let next = suc (suc (suc (suc (suc k)))) in
+      let one = five_inside runs entries props (state g old) (state g ran.0) ran.1.0 has n p k a b c d e ran.1.1.0 in
+      let all = pairs_inside next vs (first ++ props) ran.0 new one.0 one.1 ran.2 in
+      (moved runs entries _ _ (state g new).now (swap_blocks first (pair_rows_from n p next vs) props) all.0, all.1)
+
+module _ {S : Type 0} (g : Ghosts S) where
   -- the entry and its pairs are in the tables of the runs that have it
   pub filled : (runs : List Run) (k : ℕ) (e : Entry) → k < length runs → AllByRecursion IsRun (with_entry (suc k) e runs) → (old new : Held S) → Tables (state g old).now runs
       → RunInTurn g (entry_statements (suc k) e) old new → Tables (state g new).now (with_entry (suc k) e runs) × IsDatabase (state g new).now
   filled runs k e low valid old new has ran =
       let start : Holds runs (entry_rows runs) (prop_rows runs) (state g old).now = record { schema = has.schema; marked = has.marked; runs_are = has.runs_are; entries_are = has.entries_are; props_are = has.props_are } in
       let one = put_inside runs (entry_rows runs) (prop_rows runs) (state g old) (state g ran.0) ran.1.0 start (suc k) e ran.1.1.0 in
-      let all = pairs_inside runs (entry_row (suc k) e ∷ entry_rows runs) (prop_rows runs) (suc k) e.position 0 e.meta ran.0 new one.0 one.1 ran.2 in
+      let all = pairs_inside g runs (entry_row (suc k) e ∷ entry_rows runs) (suc k) e.position 0 e.meta (prop_rows runs) ran.0 new one.0 one.1 ran.2 in
       let number : 1 + k ≡ suc k = omega arith in
       let rows : IsPermutation (entry_row (suc k) e ∷ entry_rows runs) (entry_rows (with_entry (suc k) e runs)) =
       subst (λ n. IsPermutation (entry_row n e ∷ entry_rows runs) (entry_rows (with_entry n e runs))) number (more_rows 1 k e runs has.valid.numbered low) in
@@ -127,7 +169,7 @@ module _ {S : Type 0} (g : Ghosts S) where
           runs_are = all.0.runs_are ∙ sym (same_runs (suc k) e runs);
           entries_are = IsPermutation-trans _ _ _ (IsPermutation-sym _ _ rows) all.0.entries_are;
           props_are = IsPermutation-trans _ _ _ (IsPermutation-sym _ _ pairs) all.0.props_are;
-          valid = record { numbered = same_numbers (suc k) e 1 runs has.valid.numbered; each = valid; few = omega (arith, has.valid.few, as_many (suc k) e runs) };
+          valid = record { numbered = numbers_entry (suc k) e 1 runs has.valid.numbered; each = valid; few = omega (arith, has.valid.few, as_many (suc k) e runs) };
         },
         all.1,
       )

@@ -1,13 +1,11 @@
 -- What the UPDATE of `finish` does.
-use Rattle.std.proofs.Common.{◌≡◌, ◌==◌, ℕ, zero, suc, ◌+◌, ◌<◌, pos, List, [], ◌∷◌, map, filter, Bool, true, false, not, Some, None, Option, slice_get, Ok, refl, sym, ap, subst, ◌∙◌, arith, IsPermutation, Less, Equal, Greater, is_eq}
-use Rattle.std.proofs.lemmas.Int.{ints}
+use Rattle.std.proofs.Common.{◌≡◌, ◌==◌, ℕ, zero, suc, ◌+◌, ◌<◌, pos, List, [], ◌∷◌, map, filter, Bool, true, false, not, Some, None, Option, slice_get, Ok, refl, sym, ap, subst, ◌∙◌, arith, IsPermutation, Less, is_eq}
 use Rattle.std.proofs.lemmas.Bool.Decides.{nat_tests}
 use Rattle.std.specs.Option.{option_to_list}
 use Rattle.sqlite.specs.declared.types.Value.TheVariants.{Null, Int}
 use Rattle.sqlite.specs.Order.{Row}
 use Rattle.sqlite.specs.Tree.{Trees}
 use Rattle.sqlite_value.specs.Order.{value_cmp}
-use Rattle.sqlite_value.proofs.OrderLemmas.{value_cmp-Int}
 use Rattle.sqlite_trees.specs.Tree.{rowid, put_row, without_rowid}
 use Rattle.sqlite.specs.Term.{lit, col}
 use Rattle.sqlite.specs.declared.run.Mode.{Mode}
@@ -28,6 +26,7 @@ use Rattle.kt_store.specs.Tables.{schema_2, runs_1}
 use Rattle.kt_store.specs.Runs.{Tables, AreNumbered, run_row, run_at, finish}
 use Rattle.kt_store.proofs.SqlFacts.{finish_query, is}
 use Rattle.kt_store.proofs.InsertLemmas.{went, same_value, concluded}
+use Rattle.kt_store.proofs.EntryLemmas.{below, above, equal}
 use Rattle.kt_store.proofs.FindLemmas.{picked_run}
 use Rattle.kt_store.proofs.BeginLemmas.{cast_null, cast_int}
 use Rattle.kt_store.proofs.QueryLemmas.{answered, picked, show}
@@ -71,15 +70,6 @@ finish_writes limit mode n db after text tally runs r enforced has there does =
     let edit : Writes schema_2 Enforced db.trees (edit_of db.trees runs_1 (ids_of (done_row r ∷ [])) Given 1 (done_row r ∷ [])) (Ok done.0.trees) =
     subst (λ l. Writes schema_2 Enforced db.trees (edit_of db.trees runs_1 (ids_of l) Given 1 l) (Ok done.0.trees)) one wrote.2 in
     (ap (λ (d : Database). d.schema) ends.1, subst (Applies schema_2 Enforced db.trees _) (sym (ap (λ (d : Database). d.trees) ends.1)) (one_step schema_2 Enforced db.trees done.0.trees _ (finish_works r db.trees) edit))
-
-below : (m n : ℕ) → m < n → value_cmp (Int (pos m)) (Int (pos n)) ≡ Less
-below m n h = value_cmp-Int (pos m) (pos n) ∙ grind (arith, ints, nat_tests)
-
-above : (m n : ℕ) → n < m → value_cmp (Int (pos m)) (Int (pos n)) ≡ Greater
-above m n h = value_cmp-Int (pos m) (pos n) ∙ grind (arith, ints, nat_tests)
-
-equal : (n : ℕ) → value_cmp (Int (pos n)) (Int (pos n)) ≡ Equal
-equal n = value_cmp-Int (pos n) (pos n) ∙ grind (arith, ints, nat_tests)
 
 abbrev lacks : ℕ → Row → Bool
 lacks n r = not (is_eq (value_cmp (rowid r) (Int (pos n))))

@@ -20,7 +20,7 @@ use Rattle.sqlite.specs.State.{State, Shown, HasCleanDisk}
 use Rattle.sqlite.proofs.Callers.{reads_as}
 use Rattle.kt_base.specs.declared.run.Run.{Run}
 use Rattle.kt_store.specs.Tables.{runs_text, schema_2}
-use Rattle.kt_store.specs.Runs.{run_row, AreNumbered, IsRun}
+use Rattle.kt_store.specs.Runs.{run_row, AreNumbered}
 use Rattle.kt_store.specs.Inner.Heads.{head_columns}
 use Rattle.kt_store.specs.Stands.{IsStore, StandsFor}
 use Rattle.kt_store.specs.Inner.Ask.{Asked}
@@ -63,14 +63,6 @@ tells_heads old new runs rows has h =
 module _ {S : Type 0} (g : Ghosts S) (old new : Held S) (runs : List Run) (has : StandsFor (state g old) runs) (earlier : HasCleanDisk (state g new) → HasCleanDisk (state g old)) where
   pub asked_heads : (rows : List Row) → HasCleanDisk (state g new) → Asked g runs_text [] old new rows → rows ≡ map head_columns runs
   asked_heads rows clean it = tells_heads (state g it.mid) (state g new) runs rows (asked_mid g old new runs has earlier runs_text runs_select_is.2 [] rows clean it) it.shown
-
-all_small : (runs : List Run) → AllByRecursion IsRun runs → AllByRecursion (λ (r : Run). r.total < 4294967296) runs
-all_small [] h = tt
-all_small (r ∷ runs) h = (h.0.small, all_small runs h.1)
-
-module _ {S : Type 0} (g : Ghosts S) (old new : Held S) (runs : List Run) (has : StandsFor (state g old) runs) (earlier : HasCleanDisk (state g new) → HasCleanDisk (state g old)) where
-  pub asked_small : (rows : List Row) → HasCleanDisk (state g new) → Asked g runs_text [] old new rows → AllByRecursion (λ (r : Run). r.total < 4294967296) runs
-  asked_small rows clean it = all_small runs (asked_mid g old new runs has earlier runs_text runs_select_is.2 [] rows clean it).tables.valid.each
 
 pub one_more : {X Y Z : Type 0} (f : X → Y) (h : X → Z) (xs : List X) (i : ℕ) (y : Y) → i < length xs → y ≡ get_or (map f xs) i y → (x : X) × (y ≡ f x) × (map h (take (suc i) xs) ≡ map h (take i xs) ++ h x ∷ [])
 one_more f h [] i y low is = absurd (omega (arith, low))

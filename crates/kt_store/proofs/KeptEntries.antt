@@ -16,8 +16,7 @@ use Rattle.kt_store.specs.Inner.Runs.{entries_of}
 use Rattle.kt_store.specs.Runs.{entry_row, entry_rows, run_at}
 use Rattle.kt_store.specs.Stands.{IsStore}
 use Rattle.kt_store.proofs.QueryLemmas.{selects, answered_sorted}
-use Rattle.kt_store.proofs.EntryLemmas.{back, of_stored, of_run}
-use Rattle.kt_store.proofs.HeadLemmas.{below}
+use Rattle.kt_store.proofs.EntryLemmas.{back, of_stored, of_run, below}
 
 module _ (tests project : List Term) (params : Row) where
   abbrev pub query : Query

@@ -40,11 +40,6 @@ next_is p (v ∷ rest) others shown after later is =
     let behind : after ≡ map (pair_columns p) rest ++ pairs_shown others = cc in
     inl (v, rest, refl, same, behind)
 
--- behind the last row there is no pair
-pub none_is : (p : ℕ) (more : List Variable) (others : List Entry) (rows : List Row) → rows ≡ [] → rows ≡ map (pair_columns p) more ++ pairs_shown others → more ≡ []
-none_is p [] others rows none is = refl
-none_is p (v ∷ rest) others rows none is = absurd (let e : [] ≡ pair_columns p v ∷ (map (pair_columns p) rest ++ pairs_shown others) = sym none ∙ is in cc)
-
 -- what was read of the first column is the position
 pub read_position : (p n : ℕ) (v : Variable) (shown : Row) → shown ≡ pair_columns p v → column shown 0 ≡ Int (pos n) → n ≡ p
 read_position p n v shown is read = let e : Int (pos n) ≡ Int (pos p) = sym read ∙ ap (λ l. column l 0) is in cc

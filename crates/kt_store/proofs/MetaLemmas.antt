@@ -1,5 +1,5 @@
 -- The number of the schema, as its query tells.
-use Rattle.std.proofs.Common.{◌≡◌, ◌≢◌, ℤ, pos, List, IsTrue, inl, arith, false, [], ◌∷◌, map, filter, drop, codes, Bool, true, Some, None, slice_get, refl, sym, ap, subst, ◌∙◌, IsPermutation}
+use Rattle.std.proofs.Common.{◌≡◌, ◌≢◌, ℤ, pos, List, IsTrue, inl, arith, [], ◌∷◌, map, filter, drop, codes, Bool, true, Some, None, slice_get, refl, sym, ap, subst, ◌∙◌, IsPermutation}
 use Rattle.std.specs.List.{list_all}
 use Rattle.sqlite.specs.declared.types.Value.TheVariants.{Int, Text}
 use Rattle.sqlite.specs.declared.types.Value.{Value}

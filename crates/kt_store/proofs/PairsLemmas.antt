@@ -1,18 +1,16 @@
 -- What the query for the pairs of a run answers.
-use Rattle.std.proofs.Common.{◌≡◌, ◌≢◌, ◌==◌, ◌&&◌, ℕ, zero, suc, ◌+◌, ◌<◌, pos, List, [], ◌∷◌, ◌++◌, map, filter, drop, Bool, true, false, Some, Less, Equal, slice_get, refl, sym, ap, ap₂, subst, ◌∙◌, arith, IsPermutation, append-nil}
-use Rattle.std.specs.List.{AllByRecursion, list_all, flat_map}
+use Rattle.std.proofs.Common.{◌≡◌, ◌≢◌, ◌==◌, ◌&&◌, ℕ, suc, ◌+◌, ◌<◌, pos, List, [], ◌∷◌, ◌++◌, map, filter, drop, Bool, true, false, Some, None, Option, Less, refl, sym, ap, ap₂, subst, ◌∙◌, arith, IsPermutation, append-nil}
+use Rattle.std.specs.List.{AllByRecursion, flat_map}
+use Rattle.std.specs.Option.{option_to_list}
 use Rattle.std.proofs.lemmas.Bool.Decides.{nat_tests}
-use Rattle.std.proofs.lemmas.Int.{ints}
 use Rattle.std.proofs.lemmas.List.{map-append}
 use Rattle.std.proofs.lemmas.List.Elements.{filter-append}
 use Rattle.sqlite_keyed.proofs.ListLemmas.{map-map, all-append}
 use Rattle.sqlite.specs.declared.types.Value.TheVariants.{Int}
 use Rattle.sqlite.specs.Order.{Row}
-use Rattle.sqlite_value.specs.Order.{value_cmp}
-use Rattle.sqlite_value.proofs.OrderLemmas.{value_cmp-Int}
 use Rattle.sqlite_trees.specs.Tree.{IsAscending}
 use Rattle.sqlite_value.specs.Keys.{ascending}
-use Rattle.sqlite.specs.Term.{Term, col, holds}
+use Rattle.sqlite.specs.Term.{col}
 use Rattle.sqlite.specs.Ops.{is_true, from_truth, binary}
 use Rattle.sqlite.specs.Query.{Output, output, output_cmp}
 use Rattle.sqlite.specs.Collation.TheVariants.{Binary}
@@ -31,7 +29,7 @@ use Rattle.kt_store.specs.Stands.{IsStore, StandsFor}
 use Rattle.kt_store.specs.Inner.Ask.{Asked}
 use Rattle.kt_store.proofs.SqlFacts.{pairs_select_is, pairs_query, is}
 use Rattle.kt_store.proofs.QueryLemmas.{answered_sorted}
-use Rattle.kt_store.proofs.EntryLemmas.{back, of_stored, same_test, one_truth}
+use Rattle.kt_store.proofs.EntryLemmas.{back, equal, of_stored, of_one, same_test, one_truth, tests, passes, same_passes}
 use Rattle.kt_store.proofs.EntriesLemmas.{up_of}
 use Rattle.kt_store.proofs.HeadLemmas.{below}
 use Rattle.kt_store.proofs.AskLemmas.{asked_mid}
@@ -58,45 +56,15 @@ module _ (test : Row → Bool) (n : ℕ) (each : (m p k : ℕ) (v : Variable) �
   miss m apart [] = refl
   miss m apart (e ∷ es) = filter-append test (pair_rows m e) (flat_map (pair_rows m) es) ∙ ap₂ (λ x y. x ++ y) (miss_pairs m apart e.position 0 e.meta) (miss m apart es)
 
-  none_later : (from : ℕ) (runs : List Run) → AreNumbered from runs → n < from → filter test (prop_rows runs) ≡ []
-  none_later from [] h low = refl
-  none_later from (r ∷ runs) h low =
-      filter-append test (flat_map (pair_rows r.number) r.entries) (prop_rows runs) ∙ ap₂ (λ x y. x ++ y) (miss r.number (λ e. omega (arith, e, h.0)) r.entries) (none_later (suc from) runs h.1 (omega arith))
-
-of_run_from : (test : Row → Bool) (from k : ℕ) (runs : List Run) → ((m p j : ℕ) (v : Variable) → test (pair_row m p j v) ≡ (m == from + k)) → AreNumbered from runs
-    → filter test (prop_rows runs) ≡ flat_map (pair_rows (from + k)) (entries_of (slice_get runs k))
-of_run_from test from k [] each h = refl
-of_run_from test from zero (r ∷ runs) each h =
-    filter-append test (flat_map (pair_rows r.number) r.entries) (prop_rows runs)
-    ∙ ap₂ (λ x y. x ++ y) (hit test (from + 0) each r.number (omega (arith, h.0)) r.entries) (none_later test (from + 0) each (suc from) runs h.1 (omega arith))
-    ∙ append-nil (flat_map (pair_rows (from + 0)) r.entries)
-of_run_from test from (suc k) (r ∷ runs) each h =
-    let place : suc from + k ≡ from + suc k = omega arith in
-    filter-append test (flat_map (pair_rows r.number) r.entries) (prop_rows runs)
-    ∙ ap (λ x. x ++ filter test (prop_rows runs)) (miss test (from + suc k) each r.number (λ e. omega (arith, e, h.0)) r.entries)
-    ∙ subst (λ n. filter test (prop_rows runs) ≡ flat_map (pair_rows n) (entries_of (slice_get runs k))) place
-    (of_run_from test (suc from) k runs (λ m p j v. each m p j v ∙ ap (λ n. m == n) (sym place)) h.1)
-
-of_run : (test : Row → Bool) (n : ℕ) (runs : List Run) → ((m p j : ℕ) (v : Variable) → test (pair_row m p j v) ≡ (m == n)) → AreNumbered 1 runs
+of_pairs : (test : Row → Bool) (n : ℕ) (runs : List Run) → ((m p j : ℕ) (v : Variable) → test (pair_row m p j v) ≡ (m == n)) → AreNumbered 1 runs
     → filter test (prop_rows runs) ≡ flat_map (pair_rows n) (entries_of (run_at runs n))
-of_run test zero runs each h = none_later test 0 each 1 runs h (omega arith) ∙ sym (nothing [])
+of_pairs test n runs each h =
+    of_one test (λ (r : Run). flat_map (pair_rows r.number) r.entries) (λ (r : Run). flat_map (pair_rows n) r.entries) n (λ r is. hit test n each r.number is r.entries) (λ r other. miss test n each r.number other r.entries) runs h
+    ∙ found (run_at runs n)
   where
-    nothing : (es : List Entry) → flat_map (pair_rows 0) [] ≡ []
-    nothing es = refl
-of_run test (suc k) runs each h =
-    let place : 1 + k ≡ suc k = omega arith in
-    subst (λ n. filter test (prop_rows runs) ≡ flat_map (pair_rows n) (entries_of (slice_get runs k))) place
-    (of_run_from test 1 k runs (λ m p j v. each m p j v ∙ ap (λ n. m == n) (sym place)) h)
-
-abbrev tests : List Term
-tests = is (col 1 1) (col 0 0) ∷ []
-
-abbrev passes : Row → Row → Bool
-passes params r = list_all (holds (params ∷ r ∷ [])) tests
-
-same_passes : (params r : Row) → passes params r ≡ passes params (back (drop 1 r))
-same_passes params [] = refl
-same_passes params (x ∷ r) = refl
+    found : (o : Option Run) → flat_map (λ (r : Run). flat_map (pair_rows n) r.entries) (option_to_list o) ≡ flat_map (pair_rows n) (entries_of o)
+    found None = refl
+    found (Some r) = append-nil (flat_map (pair_rows n) r.entries)
 
 and_true : (b : Bool) → b && true ≡ b
 and_true true = refl
@@ -119,9 +87,6 @@ lower x y = output_cmp pairs_query x y ≡ Less
 module _ (n : ℕ) where
   abbrev shows : Row → Output
   shows r = out (Int (pos n) ∷ []) (back r)
-
-  equal : (k : ℕ) → value_cmp (Int (pos k)) (Int (pos k)) ≡ Equal
-  equal k = value_cmp-Int (pos k) (pos k) ∙ grind (arith, ints, nat_tests)
 
   lower_positions : (p q k j : ℕ) (v w : Variable) → p < q → lower (shows (pair_row n p k v)) (shows (pair_row n q j w))
   lower_positions p q k j v w h = rw (below p q h) refl
@@ -167,7 +132,7 @@ tells_pairs old new runs n rows has h =
     let es = entries_of (run_at runs n) in
     let reads = reads_as pairs_text params old new schema_2 has.tables.schema _ pairs_select_is.0 pairs_select_is.2 pairs_select_is.1 rows h in
     let from = of_stored (old.now.trees 5) (prop_rows runs) has.tables.props_are (passes params) (out params) (same_passes params) (same_out params) in
-    let of_one = of_run (λ r. passes params (back r)) n runs (each_pair n) has.tables.valid.numbered in
+    let of_one = of_pairs (λ r. passes params (back r)) n runs (each_pair n) has.tables.valid.numbered in
     let same = subst (λ l. IsPermutation l (map (out params) (filter (passes params) (old.now.trees 5)))) (ap (map (shows n)) of_one) from in
     answered_sorted 5 tests pairs_query.project ((col 1 2, ascending Binary) ∷ (col 1 3, ascending Binary) ∷ []) old.now.trees params rows reads.answer (map (shows n) (flat_map (pair_rows n) es)) same (rises n es (up_of runs n has.tables.valid))
     ∙ map-map (λ (o : Output). o.1) (shows n) (flat_map (pair_rows n) es) ∙ columns n es

@@ -1,5 +1,5 @@
 -- What the INSERT of `put` does.
-use Rattle.std.proofs.Common.{◌≡◌, ◌||◌, nat_lt, ℕ, zero, suc, ◌+◌, ◌<◌, ◌==◌, List, [], ◌∷◌, ◌++◌, length, map, Bool, true, false, cond, not, refl, sym, ap, subst, arith, IsPermutation, Less, Equal, Greater, Ordering, is_eq}
+use Rattle.std.proofs.Common.{◌≡◌, ◌||◌, nat_lt, ℕ, zero, suc, ◌+◌, ◌<◌, ◌==◌, List, [], ◌∷◌, ◌++◌, length, map, Bool, true, false, cond, refl, sym, ap, subst, arith, IsPermutation, Less, Equal, Greater, Ordering, is_eq}
 use Rattle.std.specs.Ordering.{match_ordering}
 use Rattle.std.proofs.lemmas.List.Sorted.{IsPermutation-refl, IsPermutation-cons, IsPermutation-trans, IsPermutation-sym, IsPermutation-middle, IsPermutation-append_left, IsPermutation-append_right}
 use Rattle.std.proofs.lemmas.Bool.Decides.{nat_tests}
@@ -7,11 +7,10 @@ use Rattle.sqlite.specs.Order.{Row}
 use Rattle.sqlite_value.specs.Order.{value_cmp}
 use Rattle.sqlite_trees.specs.Tree.{rowid, put_row}
 use Rattle.sqlite_rules.specs.Edit.{is_taken}
-use Rattle.std.proofs.Common.{◌&&◌}
 use Rattle.sqlite.specs.Tree.{Trees}
 use Rattle.sqlite.specs.Rowids.TheVariants.{Chosen}
 use Rattle.sqlite.specs.Edit.{edit_of}
-use Rattle.sqlite_rules.specs.Edit.{taken_by, are_fresh}
+use Rattle.sqlite_rules.specs.Edit.{taken_by}
 use Rattle.sqlite_rules.specs.Action.{works}
 use Rattle.sqlite_schema.specs.declared.schema.Keys.TheVariants.{Enforced}
 use Rattle.sqlite.specs.Effect.{value_rows}
@@ -54,14 +53,6 @@ same_runs run e (r ∷ runs) = go (r.number == run) (same_runs run e runs)
     go true more = refl
     go false more = ap (λ l. run_row r ∷ l) more
 
-pub same_numbers : (run : ℕ) (e : Entry) (from : ℕ) (runs : List Run) → AreNumbered from runs → AreNumbered from (with_entry run e runs)
-same_numbers run e from [] h = tt
-same_numbers run e from (r ∷ runs) h = go (r.number == run) (same_numbers run e (suc from) runs h.1)
-  where
-    go : (b : Bool) → AreNumbered (suc from) (with_entry run e runs) → AreNumbered from (cond b (record r { entries = insert_at e r.entries } ∷ runs) (r ∷ with_entry run e runs))
-    go true more = (h.0, h.1)
-    go false more = (h.0, more)
-
 pub as_many : (run : ℕ) (e : Entry) (runs : List Run) → length (with_entry run e runs) ≡ length runs
 as_many run e [] = refl
 as_many run e (r ∷ runs) = go (r.number == run) (as_many run e runs)
@@ -93,10 +84,3 @@ put_rows run e = value_rows (entry_row run e) 13 1 put_terms
 
 pub put_works : (params : Row) (trees : Trees) → let edit = edit_of trees entries_1 [] Chosen 0 (value_rows params 13 1 put_terms) in works schema_2 Enforced 0 edit.table.tree (taken_by trees edit) edit.news ≡ []
 put_works params trees = refl
-
-pub free_from_fresh : (rows : List Row) (new : Row) → are_fresh rows (new ∷ []) ≡ true → is_taken rows new ≡ false
-free_from_fresh rows new h = go (is_taken rows new) h
-  where
-    go : (b : Bool) → (not b && true) ≡ true → b ≡ false
-    go true h = absurd (let e : false ≡ true = h in cc)
-    go false h = refl

@@ -10,18 +10,15 @@ use Rattle.sqlite.specs.Tree.{Trees}
 use Rattle.sqlite.specs.Term.{col, holds}
 use Rattle.sqlite.specs.Store.{Ghosts}
 use Rattle.sqlite.specs.Held.{Held, state}
-use Rattle.sqlite.specs.State.{State, Shown, HasCleanDisk}
 use Rattle.sqlite.proofs.Callers.{reads_as, one_permutation}
 use Rattle.std.specs.Prelude.{unsigned_abs}
 use Rattle.kt_base.specs.declared.run.Run.{Run}
 use Rattle.kt_store.specs.Tables.{run_text, schema_2}
 use Rattle.kt_store.specs.Runs.{run_row, run_at, flag}
-use Rattle.kt_store.specs.Stands.{IsStore, StandsFor}
-use Rattle.kt_store.specs.Inner.Ask.{Asked}
+use Rattle.kt_store.specs.Inner.Ask.{ShowsOf}
 use Rattle.kt_store.proofs.SqlFacts.{run_is, is}
 use Rattle.kt_store.proofs.QueryLemmas.{answered, show, picked}
 use Rattle.kt_store.proofs.FindLemmas.{picked_run}
-use Rattle.kt_store.proofs.AskLemmas.{asked_mid}
 
 abbrev pub head_row : Run → Row
 head_row r = Int (pos r.total) ∷ Int (flag r.finished) ∷ []
@@ -39,20 +36,16 @@ shown_rows : (trees : Trees) (n : ℕ) (o : Option Run) (rows : List Row)
 shown_rows trees n None rows h = h
 shown_rows trees n (Some r) rows h = h
 
-pub tells_run : (old new : State) (runs : List Run) (n : ℕ) (rows : List Row) → IsStore old runs → Shown run_text (Int (pos n) ∷ []) old new rows → rows ≡ map head_row (option_to_list (run_at runs n))
-tells_run old new runs n rows has h =
+pub tells_run : {S : Type 0} (g : Ghosts S) (new : Held S) (runs : List Run) (n : ℕ) (rows : List Row) → ShowsOf g runs run_text (Int (pos n) ∷ []) new rows → rows ≡ map head_row (option_to_list (run_at runs n))
+tells_run g new runs n rows it =
     let params = Int (pos n) ∷ [] in
-    let reads = reads_as run_text params old new schema_2 has.tables.schema _ run_is.0 run_is.2 run_is.1 rows h in
+    let reads = reads_as run_text params (state g it.mid) (state g new) schema_2 it.stored.tables.schema _ run_is.0 run_is.2 run_is.1 rows it.shown in
     let tests = is (col 1 0) (col 0 0) ∷ [] in
     let project = col 1 3 ∷ col 1 4 ∷ [] in
-    let all = answered 2 tests project [] old.now.trees params rows reads.answer in
-    let found : picked 2 tests project [] old.now.trees params ≡ map run_row (option_to_list (run_at runs n)) =
-    ap (filter (λ r. list_all (holds (params ∷ r ∷ [])) tests)) has.tables.runs_are ∙ picked_run n (col 0 0) params (λ r. refl) runs has.tables.valid.numbered in
-    at_most_one (run_at runs n) rows (shown_rows old.now.trees n (run_at runs n) rows (subst (λ l. IsPermutation (map (show 2 tests project [] old.now.trees params) l) rows) found all))
-
-module _ {S : Type 0} (g : Ghosts S) (old new : Held S) (runs : List Run) (has : StandsFor (state g old) runs) (earlier : HasCleanDisk (state g new) → HasCleanDisk (state g old)) where
-  pub asked_run : (n : ℕ) (rows : List Row) → HasCleanDisk (state g new) → Asked g run_text (Int (pos n) ∷ []) old new rows → rows ≡ map head_row (option_to_list (run_at runs n))
-  asked_run n rows clean it = tells_run (state g it.mid) (state g new) runs n rows (asked_mid g old new runs has earlier run_text run_is.2 (Int (pos n) ∷ []) rows clean it) it.shown
+    let all = answered 2 tests project [] (state g it.mid).now.trees params rows reads.answer in
+    let found : picked 2 tests project [] (state g it.mid).now.trees params ≡ map run_row (option_to_list (run_at runs n)) =
+    ap (filter (λ r. list_all (holds (params ∷ r ∷ [])) tests)) it.stored.tables.runs_are ∙ picked_run n (col 0 0) params (λ r. refl) runs it.stored.tables.valid.numbered in
+    at_most_one (run_at runs n) rows (shown_rows (state g it.mid).now.trees n (run_at runs n) rows (subst (λ l. IsPermutation (map (show 2 tests project [] (state g it.mid).now.trees params) l) rows) found all))
 
 abbrev pub head : Run → ℕ × ℕ
 head r = (r.total, unsigned_abs (flag r.finished))

@@ -14,8 +14,8 @@ use Rattle.sqlite.proofs.Callers.{IsPlain, command_of}
 use Rattle.sqlite_sql.specs.declared.ops.BinaryOp.TheVariants.{Compare}
 use Rattle.sqlite_sql.specs.declared.ops.CompareOp.TheVariants.{Eq}
 use Rattle.sqlite_tied.specs.Compute.{everything}
-use Rattle.kt_store.specs.Tables.{schema_2, full_text, begin_text, run_text, count_text, finish_text, runs_text, there_text, put_text, outline_text, outputs_text, pairs_text, meta_text, mark_text, raise_text}
-use Rattle.kt_store.specs.Inner.Calls.{pair_text}
+use Rattle.kt_store.specs.Tables.{schema_2, full_text, begin_text, run_text, count_text, finish_text, runs_text, there_text, put_text, outline_text, outputs_text, pairs_text, mark_text, raise_text}
+use Rattle.kt_store.specs.Inner.Calls.{five_text, pair_text}
 
 abbrev pub query : Query
 query = record { from = end; filter = []; group = None; project = []; distinct = false; collations = []; order = []; limit = lit (Int (negsuc 0)); offset = lit (Int (pos 0)) }
@@ -89,6 +89,15 @@ pub pair_is : (command_of (understood schema_2 pair_text) ≡ Insert 3 (Values p
 unfolding understood everything
 pair_is = (refl, (refl, refl))
 
+abbrev pub five_terms : List Term
+five_terms =
+    lit Null ∷ col 0 0 ∷ col 0 1 ∷ col 0 2 ∷ col 0 3 ∷ col 0 4 ∷ lit Null ∷ col 0 0 ∷ col 0 1 ∷ col 0 5 ∷ col 0 6 ∷ col 0 7 ∷ lit Null ∷ col 0 0 ∷ col 0 1 ∷ col 0 8 ∷ col 0 9 ∷ col 0 10
+    ∷ lit Null ∷ col 0 0 ∷ col 0 1 ∷ col 0 11 ∷ col 0 12 ∷ col 0 13 ∷ lit Null ∷ col 0 0 ∷ col 0 1 ∷ col 0 14 ∷ col 0 15 ∷ col 0 16 ∷ []
+
+pub five_is : (command_of (understood schema_2 five_text) ≡ Insert 3 (Values five_terms 6)) × IsPlain (understood schema_2 five_text)
+unfolding understood everything
+five_is = (refl, (refl, refl))
+
 abbrev pub pairs_query : Query
 pairs_query = record query {
   from = inner 5 end;
@@ -131,10 +140,6 @@ outputs_select_is = (refl, refl, (refl, refl))
 
 abbrev pub meta_query : Query
 meta_query = record query { from = inner 0 end; filter = is (col 1 1) (lit (Text (codes "schema"))) ∷ []; project = col 1 2 ∷ [] }
-
-pub meta_select_is : (command_of (understood schema_2 meta_text) ≡ select meta_query (codes "value" ∷ [])) × (reads_listing schema_2 meta_text ≡ false) × IsPlain (understood schema_2 meta_text)
-unfolding understood everything
-meta_select_is = (refl, refl, (refl, refl))
 
 abbrev pub mark_terms : List Term
 mark_terms = lit Null ∷ lit (Text (codes "schema")) ∷ lit (Int (pos 2)) ∷ []

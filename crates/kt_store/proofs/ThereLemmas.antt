@@ -10,19 +10,16 @@ use Rattle.sqlite.specs.Term.{Term, col, holds}
 use Rattle.sqlite.specs.Ops.{is_true, from_truth, binary}
 use Rattle.sqlite.specs.Store.{Ghosts}
 use Rattle.sqlite.specs.Held.{Held, state}
-use Rattle.sqlite.specs.State.{State, Shown, HasCleanDisk}
 use Rattle.sqlite.proofs.Callers.{reads_as}
 use Rattle.kt_base.specs.declared.run.Run.{Run}
 use Rattle.kt_base.specs.declared.entry.Entry.{Entry}
 use Rattle.kt_store.specs.Tables.{there_text, schema_2}
 use Rattle.kt_store.specs.Inner.Runs.{entries_of}
 use Rattle.kt_store.specs.Runs.{entry_row, entry_rows, run_at, has_position}
-use Rattle.kt_store.specs.Stands.{IsStore, StandsFor}
-use Rattle.kt_store.specs.Inner.Ask.{Asked}
+use Rattle.kt_store.specs.Inner.Ask.{ShowsOf}
 use Rattle.kt_store.proofs.SqlFacts.{there_is, is}
 use Rattle.kt_store.proofs.QueryLemmas.{answered, show}
 use Rattle.kt_store.proofs.EntryLemmas.{back, of_stored, of_run, same_test, two_truths}
-use Rattle.kt_store.proofs.AskLemmas.{asked_mid}
 
 no_row : Row
 no_row = []
@@ -54,20 +51,16 @@ any_left p (e ∷ es) = go (e.position == p) (any_left p es)
     go true more = grind (arith, nat_tests)
     go false more = more
 
-pub tells_there : (old new : State) (runs : List Run) (n p : ℕ) (rows : List Row) → IsStore old runs → Shown there_text (there_params n p) old new rows → nat_lt 0 (length rows) ≡ has_position p (entries_of (run_at runs n))
-tells_there old new runs n p rows has h =
+pub tells_there : {S : Type 0} (g : Ghosts S) (new : Held S) (runs : List Run) (n p : ℕ) (rows : List Row) → ShowsOf g runs there_text (there_params n p) new rows → nat_lt 0 (length rows) ≡ has_position p (entries_of (run_at runs n))
+tells_there g new runs n p rows it =
     let params = there_params n p in
     let project = col 1 2 ∷ [] in
-    let reads = reads_as there_text params old new schema_2 has.tables.schema _ there_is.0 there_is.2 there_is.1 rows h in
-    let all = answered 3 there_tests project [] old.now.trees params rows reads.answer in
-    let from = of_stored (old.now.trees 3) (entry_rows runs) has.tables.entries_are (passes params) (λ r. no_row) (same_passes params) (λ r. refl) in
+    let reads = reads_as there_text params (state g it.mid) (state g new) schema_2 it.stored.tables.schema _ there_is.0 there_is.2 there_is.1 rows it.shown in
+    let all = answered 3 there_tests project [] (state g it.mid).now.trees params rows reads.answer in
+    let from = of_stored ((state g it.mid).now.trees 3) (entry_rows runs) it.stored.tables.entries_are (passes params) (λ r. no_row) (same_passes params) (λ r. refl) in
     let counted = length_permutation _ _ from in
-    let of_one = of_run (λ r. passes params (back r)) (λ (e : Entry). e.position == p) n runs (each n p) has.tables.valid.numbered in
+    let of_one = of_run (λ r. passes params (back r)) (λ (e : Entry). e.position == p) n runs (each n p) it.stored.tables.valid.numbered in
     let rows_are : length rows ≡ length (filter (λ (e : Entry). e.position == p) (entries_of (run_at runs n))) =
-    length_permutation _ rows all ∙ length-map _ (show 3 there_tests project [] old.now.trees params) ∙ sym (length-map _ (λ (r : Row). no_row))
+    length_permutation _ rows all ∙ length-map _ (show 3 there_tests project [] (state g it.mid).now.trees params) ∙ sym (length-map _ (λ (r : Row). no_row))
     ∙ counted ∙ length-map _ _ ∙ ap length of_one ∙ length-map _ (entry_row n) in
     ap (nat_lt 0) rows_are ∙ any_left p (entries_of (run_at runs n))
-
-module _ {S : Type 0} (g : Ghosts S) (old new : Held S) (runs : List Run) (has : StandsFor (state g old) runs) (earlier : HasCleanDisk (state g new) → HasCleanDisk (state g old)) where
-  pub asked_there : (n p : ℕ) (rows : List Row) → HasCleanDisk (state g new) → Asked g there_text (there_params n p) old new rows → nat_lt 0 (length rows) ≡ has_position p (entries_of (run_at runs n))
-  asked_there n p rows clean it = tells_there (state g it.mid) (state g new) runs n p rows (asked_mid g old new runs has earlier there_text there_is.2 (there_params n p) rows clean it) it.shown

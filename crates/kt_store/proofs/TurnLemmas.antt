@@ -1,5 +1,5 @@
 -- Statements of a transaction, one after the other.
-use Rattle.std.proofs.Common.{◌≡◌, ◌∙◌, ℕ, zero, suc, ◌+◌, ◌<◌, ◌≤◌, List, [], ◌∷◌, length, map, drop, refl, sym, ap, subst, arith, IsTrue}
+use Rattle.std.proofs.Common.{◌≡◌, ◌≤◌, pos, ◌∙◌, ℕ, zero, suc, ◌+◌, ◌<◌, List, [], ◌∷◌, length, map, drop, refl, sym, ap, subst, arith, IsTrue}
 use Rattle.std.specs.Prelude.{get_or}
 use Rattle.sqlite.specs.Store.{Ghosts}
 use Rattle.sqlite.specs.Held.{Held, state}
@@ -8,7 +8,9 @@ use Rattle.sqlite.specs.State.{HasCleanDisk, KeepsCommit, Survives}
 use Rattle.sqlite.proofs.InsideLemmas.{keeps_then}
 use Rattle.sqlite.proofs.StateLemmas.{survives_then}
 use Rattle.kt_base.specs.declared.variable.Variable.{Variable}
-use Rattle.kt_store.specs.Inner.Calls.{Statement, pair_statements, plain_statements}
+use Rattle.kt_store.specs.Inner.Calls.{Statement, pair_text, five_text, pair_values, five_values, single_statements, pair_statements, plain_statements}
+use Rattle.kt_store.specs.Runs.{pair_row}
+use Rattle.sqlite.specs.declared.types.Value.TheVariants.{Int}
 use Rattle.kt_store.specs.Inner.Transactions.{RunsInside, RunInTurn}
 
 module _ {S : Type 0} (g : Ghosts S) where
@@ -18,10 +20,6 @@ module _ {S : Type 0} (g : Ghosts S) where
     pub keeps : HasCleanDisk (state g now) → KeepsCommit (state g start) (state g now)
     pub inside : HasCleanDisk (state g now) → IsTrue (state g start).in_transaction → IsTrue (state g now).in_transaction
     pub runs : HasCleanDisk (state g now) → IsTrue (state g start).in_transaction → (end : Held S) → RunInTurn g rest now end → RunInTurn g statements start end
-
-  -- nothing is done yet
-  pub at_start : (statements : List Statement) (start : Held S) → Survives (state g start) (state g start) (λ (db : Trees). ⊥) → SoFar statements statements start start
-  at_start statements start same = record { survives = same; keeps = λ clean. record { was_open = λ h. h; committed = λ h. refl }; inside = λ clean inside. inside; runs = λ clean inside end ran. ran }
 
   -- one more is done
   pub one_done : (statements rest : List Statement) (s : Statement) (start now next : Held S) → SoFar statements (s ∷ rest) start now → Survives (state g now) (state g next) (λ (db : Trees). ⊥)
@@ -43,26 +41,48 @@ dropped_or (x ∷ vs) (suc i) d low = dropped_or vs i d (omega (arith, low))
 dropped : {T : Type 0} (vs : List T) (i : ℕ) (v : T) → i < length vs → v ≡ get_or vs i v → drop i vs ≡ v ∷ drop (suc i) vs
 dropped vs i v low is = dropped_or vs i v low ∙ ap (λ y. y ∷ drop (suc i) vs) (sym is)
 
-none : {T : Type 0} (vs : List T) (i : ℕ) → length vs ≤ i → drop i vs ≡ []
-none [] zero long = refl
-none [] (suc i) long = refl
-none (x ∷ vs) zero long = absurd (omega (arith, long))
-none (x ∷ vs) (suc i) long = none vs i (omega (arith, long))
-
 -- the pair at a place, and those after it
-pub pairs_at : (run position i : ℕ) (vs : List Variable) (v : Variable) → i < length vs → v ≡ get_or vs i v → pair_statements run position i (drop i vs) ≡ pair_statements run position i (v ∷ drop (suc i) vs)
-pairs_at run position i vs v low is = ap (pair_statements run position i) (dropped vs i v low is)
+pub pairs_at : (run position place i : ℕ) (vs : List Variable) (v : Variable) → i < length vs → v ≡ get_or vs i v → single_statements run position place (drop i vs) ≡ (pair_text, pair_row run position place v) ∷ single_statements run position (suc place) (drop (suc i) vs)
+pairs_at run position place i vs v low is = ap (single_statements run position place) (dropped vs i v low is)
 
--- after the last pair there is none
-pub pairs_end : (run position i : ℕ) (vs : List Variable) → length vs ≤ i → pair_statements run position i (drop i vs) ≡ []
-pairs_end run position i vs long = ap (pair_statements run position i) (none vs i long)
+-- the first five pairs, and those after them
+pub five_at : (run position place : ℕ) (vs : List Variable) → 5 ≤ length vs → pair_statements run position place vs ≡ (five_text, five_values run position place vs) ∷ pair_statements run position (place + 5) (drop 5 vs)
+five_at run position place [] enough = absurd (omega (arith, enough))
+five_at run position place (a ∷ []) enough = absurd (omega (arith, enough))
+five_at run position place (a ∷ b ∷ []) enough = absurd (omega (arith, enough))
+five_at run position place (a ∷ b ∷ c ∷ []) enough = absurd (omega (arith, enough))
+five_at run position place (a ∷ b ∷ c ∷ d ∷ []) enough = absurd (omega (arith, enough))
+five_at run position place (a ∷ b ∷ c ∷ d ∷ e ∷ vs) enough =
+    let next : suc (suc (suc (suc (suc place)))) ≡ place + 5 = omega arith in
+    ap (λ k. (five_text, five_values run position place (a ∷ b ∷ c ∷ d ∷ e ∷ vs)) ∷ pair_statements run position k vs) next
+
+-- fewer than five pairs
+pub few_at : (run position place : ℕ) (vs : List Variable) → length vs < 5 → pair_statements run position place vs ≡ single_statements run position place vs
+few_at run position place [] few = refl
+few_at run position place (a ∷ []) few = refl
+few_at run position place (a ∷ b ∷ []) few = refl
+few_at run position place (a ∷ b ∷ c ∷ []) few = refl
+few_at run position place (a ∷ b ∷ c ∷ d ∷ []) few = refl
+few_at run position place (a ∷ b ∷ c ∷ d ∷ e ∷ vs) few = absurd (omega (arith, few))
+
+-- the values of the first five pairs
+pub values_at : (run position place : ℕ) (vs : List Variable) (a b c d e : Variable) → 5 ≤ length vs → a ≡ get_or vs 0 a → b ≡ get_or vs 1 b → c ≡ get_or vs 2 c → d ≡ get_or vs 3 d → e ≡ get_or vs 4 e
+    → Int (pos run) ∷ Int (pos position) ∷ pair_values place a (pair_values (place + 1) b (pair_values (place + 2) c (pair_values (place + 3) d (pair_values (place + 4) e [])))) ≡ five_values run position place vs
+values_at run position place [] a b c d e enough p q r s t = absurd (omega (arith, enough))
+values_at run position place (x ∷ []) a b c d e enough p q r s t = absurd (omega (arith, enough))
+values_at run position place (x ∷ y ∷ []) a b c d e enough p q r s t = absurd (omega (arith, enough))
+values_at run position place (x ∷ y ∷ z ∷ []) a b c d e enough p q r s t = absurd (omega (arith, enough))
+values_at run position place (x ∷ y ∷ z ∷ u ∷ []) a b c d e enough p q r s t = absurd (omega (arith, enough))
+values_at run position place (x ∷ y ∷ z ∷ u ∷ v ∷ vs) a b c d e enough p q r s t =
+    let one : a ≡ x = p in
+    let two : b ≡ y = q in
+    let three : c ≡ z = r in
+    let four : d ≡ u = s in
+    let five : e ≡ v = t in
+    rw (one, two, three, four, five) refl
 
 -- the text at a place, and those after it
 pub texts_at : {T : Type 0} (see : T → List ℕ) (i : ℕ) (vs : List T) (d : T) → i < length vs → plain_statements (map see (drop i vs)) ≡ (see (get_or vs i d), []) ∷ plain_statements (map see (drop (i + 1) vs))
 texts_at see i vs d low =
     let next : suc i ≡ i + 1 = omega arith in
     subst (λ k. plain_statements (map see (drop i vs)) ≡ (see (get_or vs i d), []) ∷ plain_statements (map see (drop k vs))) next (ap (λ l. plain_statements (map see l)) (dropped_or vs i d low))
-
--- after the last text there is none
-pub texts_end : {T : Type 0} (see : T → List ℕ) (i : ℕ) (vs : List T) → length vs ≤ i → plain_statements (map see (drop i vs)) ≡ []
-texts_end see i vs long = ap (λ l. plain_statements (map see l)) (none vs i long)

@@ -1,5 +1,6 @@
 -- A write that is one statement in its own commit, from what it does to the tables alone.
-use Rattle.std.proofs.Common.{◌≡◌, ◌⊎◌, inl, inr, ℕ, List, IsTrue, cond, None, Option, Ok, refl, ap, ◌∙◌}
+use Rattle.std.proofs.Common.{◌≡◌, ◌⊎◌, inl, inr, ℕ, List, IsTrue, cond, None, Option, Ok, refl, ap, ◌∙◌, unwrap_or}
+use Rattle.std.specs.Prelude.{⊤}
 use Rattle.sqlite.specs.Order.{Row}
 use Rattle.sqlite.specs.Tree.{Trees}
 use Rattle.sqlite.specs.Store.{Ghosts}
@@ -26,29 +27,37 @@ Ends command old = (command ≡ Commit) ⊎ ((name : List ℕ) × (place : ℕ) 
 
 module _ (sql : List ℕ) (params : Row) (command : Command) (is : command_of (understood schema_2 sql) ≡ command) (plain : IsPlain (understood schema_2 sql))
     (writes : (old new : State) (text : List ℕ) (count : ℕ) → Runs old new None command text params count → Writes old new None command text params count) (no_end : (old : State) → Ends command old → ⊥)
-    (runs more : List Run)
-    (step : (limit : Option ℕ) (mode : Mode) (db after : Database) (text : List ℕ) (tally : Tally) → mode.keys ≡ Enforced → Tables db runs → Does limit mode params db text None command (Ok (tally, after)) → Tables after more) where
-  wrote : (old new : State) (count : ℕ) → IsStore old runs → Executes sql params old new (Ok count) → IsStore new more × IsTrue new.is_open × IsDatabase new.now
+    (runs more : List Run) (Says : Tally → Type 0)
+    (step : (limit : Option ℕ) (mode : Mode) (db after : Database) (text : List ℕ) (tally : Tally) → mode.keys ≡ Enforced → Tables db runs → Does limit mode params db text None command (Ok (tally, after)) → Tables after more × Says tally) where
+  -- the tables stand for more runs, and the last rowid is what its tally says
+  abbrev pub Wrote : State → State → Type 0
+  Wrote old new = IsStore new more × IsTrue new.is_open × IsDatabase new.now × (tally : Tally) × Says tally × (new.last_rowid ≡ unwrap_or tally.last old.last_rowid)
+
+  wrote : (old new : State) (count : ℕ) → IsStore old runs → Executes sql params old new (Ok count) → Wrote old new
   wrote old new count has h =
       let text = statement_of sql (understood schema_2 sql) in
-      let w : Writes old new None command text params count = writes old new text count (runs_as sql params old new schema_2 has.tables.schema command is plain count h) in (
+      let w : Writes old new None command text params count = writes old new text count (runs_as sql params old new schema_2 has.tables.schema command is plain count h) in
+      let did = step old.step_limit (mode_of old) old.now new.now text w.tally refl has.tables w.changed in (
         record {
           autocommit = w.shown.mode ∙ has.autocommit;
           settled = w.shown.committed_is ∙ ap (λ b. cond b old.committed new.now) has.autocommit;
-          tables = step old.step_limit (mode_of old) old.now new.now text w.tally refl has.tables w.changed;
+          tables = did.0;
         },
         w.shown.is_open,
         w.sound,
+        w.tally,
+        did.1,
+        w.last_rowid,
       )
 
   commits : (old : State) (trees : Trees) → IsStore old runs → CommitsBy sql params old trees → Keeps more trees
   commits old trees has h = elim (commits_as sql params old schema_2 has.tables.schema command is plain trees h) [
     | inl ends ↦ absurd (no_end old ends.0)
-    | inr it ↦ (it.2, it.4, it.5, step old.step_limit (mode_of old) old.now it.2 (statement_of sql (understood schema_2 sql)) it.1 refl has.tables it.3)
+    | inr it ↦ (it.2, it.4, it.5, (step old.step_limit (mode_of old) old.now it.2 (statement_of sql (understood schema_2 sql)) it.1 refl has.tables it.3).0)
   ]
 
   module _ {S : Type 0} (g : Ghosts S) (old new : Held S) (has : StandsFor (state g old) runs) (earlier : HasCleanDisk (state g new) → HasCleanDisk (state g old)) where
-    pub told_by : HasCleanDisk (state g new) → Told g sql params old new → IsStore (state g new) more × IsTrue (state g new).is_open × IsDatabase (state g new).now
+    pub told_by : HasCleanDisk (state g new) → (it : Told g sql params old new) → Wrote (state g it.mid) (state g new)
     told_by clean it = wrote (state g it.mid) (state g new) it.count (same_store (state g old) (state g it.mid) runs (has (earlier clean) it.same.0.was_open) it.same) it.ran
 
     pub crash_by : HasCleanDisk (state g new) → (trees : Trees) → MayTell g sql params old trees → Keeps more trees
@@ -62,7 +71,9 @@ module _ (sql : List ℕ) (params : Row) (at : ℕ) (q : Program) (is : command_
     (step : (limit : Option ℕ) (mode : Mode) (db after : Database) (text : List ℕ) (tally : Tally) → mode.keys ≡ Enforced → Tables db runs → Does limit mode params db text None (Update at q) (Ok (tally, after)) → Tables after more)
     {S : Type 0} (g : Ghosts S) (old new : Held S) (has : StandsFor (state g old) runs) (earlier : HasCleanDisk (state g new) → HasCleanDisk (state g old)) where
   pub told_update : HasCleanDisk (state g new) → Told g sql params old new → IsStore (state g new) more × IsTrue (state g new).is_open × IsDatabase (state g new).now
-  told_update = told_by sql params (Update at q) is plain (λ _ _ _ _ ran. ran) (no_end_update at q) runs more step g old new has earlier
+  told_update clean it =
+      let done = told_by sql params (Update at q) is plain (λ _ _ _ _ ran. ran) (no_end_update at q) runs more (λ _. ⊤) (λ limit mode db after text tally enforced has does. (step limit mode db after text tally enforced has does, tt)) g old new has earlier clean it in
+      (done.0, done.1, done.2)
 
   pub crash_update : HasCleanDisk (state g new) → (trees : Trees) → MayTell g sql params old trees → Keeps more trees
-  crash_update = crash_by sql params (Update at q) is plain (λ _ _ _ _ ran. ran) (no_end_update at q) runs more step g old new has earlier
+  crash_update = crash_by sql params (Update at q) is plain (λ _ _ _ _ ran. ran) (no_end_update at q) runs more (λ _. ⊤) (λ limit mode db after text tally enforced has does. (step limit mode db after text tally enforced has does, tt)) g old new has earlier

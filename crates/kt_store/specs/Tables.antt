@@ -203,10 +203,6 @@ outputs_text = codes "SELECT body_out, body_err, clean_out, clean_err FROM entri
 abbrev pub pairs_text : List ℕ
 pairs_text = codes "SELECT position, name, value FROM props WHERE run = ?1 ORDER BY position, place"
 
--- whether the connection is open
-abbrev pub probe_text : List ℕ
-probe_text = codes "SELECT 1"
-
 -- the schema's number
 abbrev pub meta_text : List ℕ
 meta_text = codes "SELECT value FROM meta WHERE name = 'schema'"

@@ -8,7 +8,7 @@ ghost use Rattle.kt_store.specs.Inner.Kept.{KeepsRuns, OnlyReads, Changes, Chang
 ghost use Rattle.kt_store.specs.Runs.{new_run};
 ghost use Rattle.kt_store.specs.Stands.{StandsFor};
 
-use crate::statements::{ask, has_rows, tell};
+use crate::statements::{has_rows, query, tell};
 use crate::store_fault::StoreFault;
 use crate::value::{int, magnitude};
 use sqlite::{Alter, Connection};
@@ -23,7 +23,7 @@ pub(crate) fn is_full<S: Alter>(conn: &mut Connection<S>) -> Result<bool, StoreF
     ensures failed { IfErr result IsStoreFault }
     ensures crash { OnlyReads S.Store conn.old conn.new }
 {
-    let rows = ask(conn, "SELECT id FROM runs WHERE id = 1000000", &[])?;
+    let rows = query(conn, "SELECT id FROM runs WHERE id = 1000000", &[])?;
     Ok(has_rows(&rows))
 }
 

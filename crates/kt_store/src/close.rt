@@ -10,7 +10,7 @@ ghost use Rattle.kt_store.specs.Stands.{StandsFor};
 
 use crate::lookup::look;
 use crate::read::number_in;
-use crate::statements::{ask, tell};
+use crate::statements::{query, tell};
 use crate::store_fault::StoreFault;
 use crate::value::int;
 use sqlite::{Alter, Connection};
@@ -25,7 +25,7 @@ pub(crate) fn count<S: Alter>(conn: &mut Connection<S>, run: u64) -> Result<u64,
         → HasCleanDisk (state S.Store conn.new)
         → IfOk result (λ n. n ≡ min (length (entries_of (run_at runs run))) 9223372036854775807) }
 {
-    let rows = ask(
+    let rows = query(
         conn,
         "SELECT count(*) FROM entries WHERE run = ?1",
         &[int(run)],

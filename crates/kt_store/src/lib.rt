@@ -14,6 +14,7 @@ mod keeping;
 mod lookup;
 mod outlines;
 mod outputs;
+mod pairs;
 mod put;
 mod read;
 mod result_store;

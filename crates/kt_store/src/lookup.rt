@@ -9,7 +9,7 @@ ghost use Rattle.kt_store.specs.Runs.{run_at, flag, AreRuns, has_position};
 ghost use Rattle.kt_store.specs.Stands.{StandsFor};
 
 use crate::read::number_in;
-use crate::statements::{ask, has_rows};
+use crate::statements::{has_rows, query};
 use crate::store_fault::StoreFault;
 use crate::value::int;
 use sqlite::{Alter, Connection};
@@ -30,7 +30,7 @@ pub(crate) fn find<S: Alter>(
         → IfOk result (λ o. o ≡ option_map (λ r. (r.total, unsigned_abs (flag r.finished)))
         (run_at runs run)) }
 {
-    let rows = ask(
+    let rows = query(
         conn,
         "SELECT total, finished FROM runs WHERE id = ?1",
         &[int(run)],
@@ -89,7 +89,7 @@ pub(crate) fn there<S: Alter>(
         → HasCleanDisk (state S.Store conn.new)
         → IfOk result (λ b. b ≡ has_position position (entries_of (run_at runs run))) }
 {
-    let rows = ask(
+    let rows = query(
         conn,
         "SELECT position FROM entries WHERE run = ?1 AND position = ?2",
         &[int(run), int(u64::from(position))],

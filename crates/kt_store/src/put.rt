@@ -6,14 +6,15 @@ ghost use Rattle.sqlite.specs.State.{HasCleanDisk, KeepsCommit};
 ghost use Rattle.sqlite.specs.Held.{state};
 ghost use Rattle.kt_store.specs.Ask.{IsNoMemory, IsStoreFault};
 ghost use Rattle.kt_store.specs.Inner.Kept.{CommitsNothing, KeepsRuns, OnlyReads, Changes, ChangesForGood, MayChange};
-ghost use Rattle.kt_store.specs.Inner.Transactions.{RunsInside, RunInTurn};
+ghost use Rattle.kt_store.specs.Inner.Transactions.{RunInTurn};
 ghost use Rattle.kt_store.specs.Inner.Runs.{CanAdd};
-ghost use Rattle.kt_store.specs.Runs.{IsEntry, IsPair, IsText, pair_row, with_entry, kind_code, put_refusal};
+ghost use Rattle.kt_store.specs.Runs.{IsEntry, IsPair, IsText, with_entry, kind_code, put_refusal};
 ghost use Rattle.kt_store.specs.Stands.{StandsFor};
-ghost use Rattle.kt_store.specs.Inner.Calls.{pair_statements, entry_statements, pair_text};
+ghost use Rattle.kt_store.specs.Inner.Calls.{entry_statements};
 
 use crate::batch::Batch;
 use crate::lookup::{look, there};
+use crate::pairs::add_pairs;
 use crate::statements::{commit, step};
 use crate::store_fault::StoreFault;
 use crate::value::{blob, int, text};
@@ -64,65 +65,6 @@ pub(crate) fn reason_of(alloc: Global, entry: &Entry) -> Result<Text, StoreFault
     text_is_spelled(&reason);
     pairs_are_spelled(entry.meta.as_slice());
     Ok(reason)
-}
-
-/// Adds the pair at a place among those of an entry, inside a transaction.
-pub(crate) fn add_pair<S: Alter>(
-    tx: &mut Transaction<'_, S>,
-    run: u64,
-    position: u32,
-    place: u64,
-    pair: &Variable,
-) -> Result<(), StoreFault>
-    requires { (run < 2 ^ 63) × (place < 2 ^ 63) }
-    ensures same_reference { tx.new.conn.ghost_name ≡ tx.old.conn.ghost_name }
-    ensures runs { HasCleanDisk (state S.Store tx.new.conn.now)
-        → IsTrue (state S.Store tx.old.conn.now).in_transaction
-        → OnOk result (RunsInside S.Store
-        (pair_text, pair_row run position place pair.now) tx.old.conn.now tx.new.conn.now) }
-    ensures keeps { HasCleanDisk (state S.Store tx.new.conn.now)
-        → KeepsCommit (state S.Store tx.old.conn.now) (state S.Store tx.new.conn.now) }
-    ensures failed { IfErr result IsStoreFault }
-    ensures survives { CommitsNothing S.Store tx.old.conn.now tx.new.conn.now }
-{
-    step(
-        tx,
-        "INSERT INTO props (run, position, place, name, value) VALUES (?1, ?2, ?3, ?4, ?5)",
-        &[
-            int(run),
-            int(u64::from(position)),
-            int(place),
-            text(&pair.name),
-            text(&pair.value),
-        ],
-    )?;
-    Ok(())
-}
-
-/// Adds the pairs of an entry, inside a transaction.
-pub(crate) fn add_pairs<S: Alter>(
-    tx: &mut Transaction<'_, S>,
-    run: u64,
-    position: u32,
-    pairs: &[Variable],
-) -> Result<(), StoreFault>
-    requires { run < 2 ^ 63 }
-    ensures same_reference { tx.new.conn.ghost_name ≡ tx.old.conn.ghost_name }
-    ensures runs { HasCleanDisk (state S.Store tx.new.conn.now)
-        → IsTrue (state S.Store tx.old.conn.now).in_transaction
-        → OnOk result (RunInTurn S.Store
-        (pair_statements run position 0 pairs.now) tx.old.conn.now tx.new.conn.now) }
-    ensures keeps { HasCleanDisk (state S.Store tx.new.conn.now)
-        → KeepsCommit (state S.Store tx.old.conn.now) (state S.Store tx.new.conn.now) }
-    ensures failed { IfErr result IsStoreFault }
-    ensures survives { CommitsNothing S.Store tx.old.conn.now tx.new.conn.now }
-{
-    let mut place = 0;
-    for pair in pairs {
-        add_pair(tx, run, position, place, pair)?;
-        place += 1;
-    }
-    Ok(())
 }
 
 /// Adds an entry and its pairs, inside a transaction.

@@ -1,16 +1,19 @@
 ghost use Rattle.std.specs.Prelude.{◌≡◌, ◌<◌, ◌≤◌, Ok, IfOk, OnOk, OnErr, IfErr, IsTrue, nat_lt, length, []};
 ghost use Rattle.sqlite.specs.Values.{bound};
+ghost use Rattle.sqlite.specs.Given.{IsPlain};
+ghost use Rattle.sqlite.specs.Listing.{understood};
 ghost use Rattle.sqlite.specs.State.{HasCleanDisk, Survives, ExecutesInside, IsUnchanged, KeepsCommit};
 ghost use Rattle.sqlite.specs.Held.{state};
 ghost use Rattle.sqlite_value.specs.Order.{column};
 ghost use Rattle.kt_store.specs.Inner.Fault.{Tells};
-ghost use Rattle.kt_store.specs.Inner.Kept.{CommitsNothing};
-ghost use Rattle.kt_store.specs.Inner.Ask.{Asked, MayShow, MayTell, Told};
+ghost use Rattle.kt_store.specs.Inner.Kept.{CommitsNothing, KeepsRuns, OnlyReads};
+ghost use Rattle.kt_store.specs.Inner.Ask.{Asked, MayShow, MayTell, ShowsOf, Told};
 ghost use Rattle.kt_store.specs.Inner.Transactions.{Commits, MayCommit, Undoes};
 ghost use Rattle.kt_store.specs.Ask.{Rests, IsNoMemory, IsStoreFault};
 ghost use Rattle.sqlite_wal.specs.Files.{image_at};
 ghost use Rattle.kt_store.specs.Files.{IsOver, IsClosed};
-ghost use Rattle.kt_store.specs.Stands.{IsUnderstood};
+ghost use Rattle.kt_store.specs.Stands.{IsUnderstood, StandsFor};
+ghost use Rattle.kt_store.specs.Tables.{schema_2};
 
 use crate::batch::Batch;
 use crate::store_fault::StoreFault;
@@ -121,6 +124,25 @@ pub(crate) fn ask<S: Alter>(
         Ok(rows) => Ok(rows),
         Err(error) => Err(fault_of(error)),
     }
+}
+
+/// All rows of a query over the tables of a store, which stay as they are.
+pub(crate) fn query<S: Alter>(
+    conn: &mut Connection<S>,
+    sql: &str,
+    params: &[ValueRef<'_>],
+) -> Result<Vec<Row>, StoreFault>
+    requires { IsPlain (understood schema_2 sql.now) }
+    ensures shown { (runs : _) → StandsFor (state S.Store conn.old) runs
+        → HasCleanDisk (state S.Store conn.new)
+        → IfOk result (λ rows. ShowsOf S.Store runs sql.now (bound params.now)
+        conn.new rows.items) }
+    ensures stands { KeepsRuns S.Store conn.old conn.new }
+    ensures failed { IfErr result IsStoreFault }
+    ensures crash { OnlyReads S.Store conn.old conn.new }
+{
+    let rows = ask(conn, sql, params)?;
+    Ok(rows)
 }
 
 /// Runs a statement that is no query.

@@ -5,6 +5,14 @@ use Rattle.sqlite.specs.Tree.{Trees}
 use Rattle.sqlite.specs.Store.{Ghosts}
 use Rattle.sqlite.specs.Held.{Held, state}
 use Rattle.sqlite.specs.State.{IsUnchanged, Shown, Executes, CommitsBy, CommitsShowing}
+use Rattle.kt_base.specs.declared.run.Run.{Run}
+use Rattle.kt_store.specs.Stands.{IsStore}
+
+-- tables that hold these runs showed these rows
+pub record ShowsOf {S : Type 0} (g : Ghosts S) (runs : List Run) (sql : List ℕ) (params : Row) (new : Held S) (rows : List Row) : Type 0 where
+  pub mid : Held S
+  pub stored : IsStore (state g mid) runs
+  pub shown : Shown sql params (state g mid) (state g new) rows
 
 module _ {S : Type 0} (g : Ghosts S) (sql : List ℕ) (params : Row) (old : Held S) where
   pub record Asked (new : Held S) (rows : List Row) : Type 0 where

@@ -1,7 +1,7 @@
 use Rattle.std.proofs.Common.{inr, ◌∙◌, sym, arith}
 use Rattle.sqlite.specs.Held.{state}
 use Rattle.sqlite.specs.State.{HasCleanDisk}
-use Rattle.sqlite.proofs.StateLemmas.{survives_then}
+use Rattle.kt_store.proofs.ServeLemmas.{reads_then}
 use Rattle.kt_store.proofs.CloseLemmas.{closed_already, lacks_some, lacks_none}
 use Rattle.kt_store.proofs.close.check.Goals as goal
 
@@ -28,22 +28,16 @@ pub returns-in_err-entries-clause-stands : goal.returns-in_err-entries-clause-st
 returns-in_err-entries-clause-stands g c runs has = c.count.ensures.stands runs (c.look.ensures.stands runs has)
 
 pub returns-in_err-entries-clause-crash : goal.returns-in_err-entries-clause-crash
-returns-in_err-entries-clause-crash g c runs has =
-    survives_then (state g.S.Store c.args.conn.now) (state g.S.Store c.look.new.conn) (state g.S.Store c.count.new.conn) (λ _. ⊥) (λ _. ⊥) (λ _. ⊥) (λ _ db none. none) (λ _ db none. none)
-    (c.look.ensures.crash runs has) (c.count.ensures.crash runs (c.look.ensures.stands runs has))
+returns-in_err-entries-clause-crash g c = reads_then g.S.Store c.args.conn.now c.look.new.conn c.count.new.conn c.look.ensures.stands c.look.ensures.crash c.count.ensures.crash
 
 pub returns-then-entries-total-clause-stands : goal.returns-then-entries-total-clause-stands
 returns-then-entries-total-clause-stands g c runs has = c.count.ensures.stands runs (c.look.ensures.stands runs has)
 
 pub returns-then-entries-total-clause-crash : goal.returns-then-entries-total-clause-crash
-returns-then-entries-total-clause-crash g c runs has =
-    survives_then (state g.S.Store c.args.conn.now) (state g.S.Store c.look.new.conn) (state g.S.Store c.count.new.conn) (λ _. ⊥) (λ _. ⊥) (λ _. ⊥) (λ _ db none. none) (λ _ db none. none)
-    (c.look.ensures.crash runs has) (c.count.ensures.crash runs (c.look.ensures.stands runs has))
+returns-then-entries-total-clause-crash g c = reads_then g.S.Store c.args.conn.now c.look.new.conn c.count.new.conn c.look.ensures.stands c.look.ensures.crash c.count.ensures.crash
 
 pub returns-clause-stands : goal.returns-clause-stands
 returns-clause-stands g c runs has = c.count.ensures.stands runs (c.look.ensures.stands runs has)
 
 pub returns-clause-crash : goal.returns-clause-crash
-returns-clause-crash g c runs has =
-    survives_then (state g.S.Store c.args.conn.now) (state g.S.Store c.look.new.conn) (state g.S.Store c.count.new.conn) (λ _. ⊥) (λ _. ⊥) (λ _. ⊥) (λ _ db none. none) (λ _ db none. none)
-    (c.look.ensures.crash runs has) (c.count.ensures.crash runs (c.look.ensures.stands runs has))
+returns-clause-crash g c = reads_then g.S.Store c.args.conn.now c.look.new.conn c.count.new.conn c.look.ensures.stands c.look.ensures.crash c.count.ensures.crash

@@ -1,27 +1,11 @@
-use Rattle.std.proofs.Common.{◌∙◌, [], ◌∷◌, pos, arith}
-use Rattle.sqlite.specs.declared.types.Value.TheVariants.{Int}
-use Rattle.kt_store.specs.Tables.{there_text}
+use Rattle.std.proofs.Common.{◌∙◌}
 use Rattle.kt_store.proofs.SqlFacts.{there_is}
-use Rattle.kt_store.proofs.AskLemmas.{asked_stands, asked_survives}
-use Rattle.kt_store.proofs.ThereLemmas.{asked_there}
+use Rattle.kt_store.proofs.ThereLemmas.{tells_there}
 use Rattle.kt_store.proofs.lookup.there.Goals as goal
+
+pub query-requires : goal.query-requires
+query-requires g c = there_is.2
 
 pub returns-clause-found : goal.returns-clause-found
 returns-clause-found g c runs has clean =
-    c.has_rows.ensures ∙ asked_there g.S.Store c.args.conn.now c.ask.new.conn runs has (λ k. omega (arith, k, c.ask.ensures.survives.clean)) c.args.run c.args.position c.in_ok-rows.rows.items clean
-    (rw (c.int.ensures, c.int-2.ensures, c.from.ensures) at (c.in_ok-rows.ensures.rows clean))
-
-pub returns-clause-stands : goal.returns-clause-stands
-returns-clause-stands g c runs has =
-    asked_stands g.S.Store c.args.conn.now c.ask.new.conn runs has (λ k. omega (arith, k, c.ask.ensures.survives.clean)) there_text there_is.2 (Int (pos c.args.run) ∷ Int (pos c.args.position) ∷ []) c.in_ok-rows.rows.items
-    (λ clean. rw (c.int.ensures, c.int-2.ensures, c.from.ensures) at (c.in_ok-rows.ensures.rows clean))
-
-pub returns-in_err-rows-clause-crash : goal.returns-in_err-rows-clause-crash
-returns-in_err-rows-clause-crash g c runs has =
-    asked_survives g.S.Store c.args.conn.now c.ask.new.conn runs has (λ k. omega (arith, k, c.ask.ensures.survives.clean)) there_text there_is.2 (Int (pos c.args.run) ∷ Int (pos c.args.position) ∷ [])
-    (rw (c.int.ensures, c.int-2.ensures, c.from.ensures) at c.ask.ensures.survives)
-
-pub returns-clause-crash : goal.returns-clause-crash
-returns-clause-crash g c runs has =
-    asked_survives g.S.Store c.args.conn.now c.ask.new.conn runs has (λ k. omega (arith, k, c.ask.ensures.survives.clean)) there_text there_is.2 (Int (pos c.args.run) ∷ Int (pos c.args.position) ∷ [])
-    (rw (c.int.ensures, c.int-2.ensures, c.from.ensures) at c.ask.ensures.survives)
+    c.has_rows.ensures ∙ tells_there g.S.Store c.query.new.conn runs c.args.run c.args.position c.in_ok-rows.rows.items (rw (c.int.ensures, c.int-2.ensures, c.from.ensures) at (c.in_ok-rows.ensures.shown runs has clean))

@@ -1,7 +1,7 @@
 use Rattle.std.proofs.Common.{inr, ◌∙◌, sym, arith}
 use Rattle.sqlite.specs.Held.{state}
 use Rattle.sqlite.specs.State.{HasCleanDisk}
-use Rattle.sqlite.proofs.StateLemmas.{survives_then}
+use Rattle.kt_store.proofs.ServeLemmas.{reads_then}
 use Rattle.kt_store.proofs.TakesLemmas.{refused_closed, refused_past, refused_repeated, taken}
 use Rattle.kt_store.proofs.put.check.Goals as goal
 
@@ -33,22 +33,16 @@ pub returns-in_err-there-clause-stands : goal.returns-in_err-there-clause-stands
 returns-in_err-there-clause-stands g c runs has = c.there.ensures.stands runs (c.look.ensures.stands runs has)
 
 pub returns-in_err-there-clause-crash : goal.returns-in_err-there-clause-crash
-returns-in_err-there-clause-crash g c runs has =
-    survives_then (state g.S.Store c.args.conn.now) (state g.S.Store c.look.new.conn) (state g.S.Store c.there.new.conn) (λ _. ⊥) (λ _. ⊥) (λ _. ⊥) (λ _ db none. none) (λ _ db none. none)
-    (c.look.ensures.crash runs has) (c.there.ensures.crash runs (c.look.ensures.stands runs has))
+returns-in_err-there-clause-crash g c = reads_then g.S.Store c.args.conn.now c.look.new.conn c.there.new.conn c.look.ensures.stands c.look.ensures.crash c.there.ensures.crash
 
 pub returns-then-branch-clause-stands : goal.returns-then-branch-clause-stands
 returns-then-branch-clause-stands g c runs has = c.there.ensures.stands runs (c.look.ensures.stands runs has)
 
 pub returns-then-branch-clause-crash : goal.returns-then-branch-clause-crash
-returns-then-branch-clause-crash g c runs has =
-    survives_then (state g.S.Store c.args.conn.now) (state g.S.Store c.look.new.conn) (state g.S.Store c.there.new.conn) (λ _. ⊥) (λ _. ⊥) (λ _. ⊥) (λ _ db none. none) (λ _ db none. none)
-    (c.look.ensures.crash runs has) (c.there.ensures.crash runs (c.look.ensures.stands runs has))
+returns-then-branch-clause-crash g c = reads_then g.S.Store c.args.conn.now c.look.new.conn c.there.new.conn c.look.ensures.stands c.look.ensures.crash c.there.ensures.crash
 
 pub returns-clause-stands : goal.returns-clause-stands
 returns-clause-stands g c runs has = c.there.ensures.stands runs (c.look.ensures.stands runs has)
 
 pub returns-clause-crash : goal.returns-clause-crash
-returns-clause-crash g c runs has =
-    survives_then (state g.S.Store c.args.conn.now) (state g.S.Store c.look.new.conn) (state g.S.Store c.there.new.conn) (λ _. ⊥) (λ _. ⊥) (λ _. ⊥) (λ _ db none. none) (λ _ db none. none)
-    (c.look.ensures.crash runs has) (c.there.ensures.crash runs (c.look.ensures.stands runs has))
+returns-clause-crash g c = reads_then g.S.Store c.args.conn.now c.look.new.conn c.there.new.conn c.look.ensures.stands c.look.ensures.crash c.there.ensures.crash

@@ -16,7 +16,11 @@ loop-entry-preserved g c =
           let stood = v.stands runs h in
           let f = v.filled runs es h (c.in_ok-whole.ensures.earlier runs stood s) at outline in
           let n = first_of (run_at runs c.args.run) f.0 _ _ _ f.1 f.2 is in
-          let whole = c.in_ok-whole.ensures.filled runs n.0 stood s n.3 n.5 in
-          (n.1, n.4, n.6, ap (λ (l : List Entry). l ++ n.1) c.in_ok-add.ensures.added ∙ append_assoc so_far (c.in_ok-whole.whole ∷ []) n.1
-          ∙ ap (λ (e : Entry). so_far ++ e ∷ n.1) whole ∙ ap (λ (l : List Entry). so_far ++ l) (sym n.2) ∙ f.3);
+          let whole = c.in_ok-whole.ensures.filled runs n.0 stood s n.3 n.5 in (
+            n.1,
+            n.4,
+            n.6,
+            ap (λ (l : List Entry). l ++ n.1) c.in_ok-add.ensures.added ∙ append_assoc so_far (c.in_ok-whole.whole ∷ []) n.1
+                ∙ ap (λ (e : Entry). so_far ++ e ∷ n.1) whole ∙ ap (λ (l : List Entry). so_far ++ l) (sym n.2) ∙ f.3,
+          );
     }
