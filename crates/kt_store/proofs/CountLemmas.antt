@@ -23,7 +23,7 @@ use Rattle.kt_store.specs.Tables.{count_text, schema_2}
 use Rattle.kt_store.specs.Inner.Runs.{entries_of}
 use Rattle.kt_store.specs.Runs.{entry_row, entry_rows, run_at}
 use Rattle.kt_store.specs.Inner.Ask.{ShowsOf}
-use Rattle.kt_store.proofs.SqlFacts.{count_is, count_query, is}
+use Rattle.kt_store.proofs.SqlFacts.{count_is, count_query}
 use Rattle.kt_store.proofs.QueryLemmas.{found, overlay_none}
 use Rattle.kt_store.proofs.EntryLemmas.{back, of_stored, of_run, tests, passes, same_passes, each, all_pass}
 

@@ -1,27 +1,23 @@
 -- What the query for the entries of a run answers.
-use Rattle.std.proofs.Common.{◌≡◌, ◌==◌, ◌&&◌, ℕ, zero, suc, ◌<◌, pos, List, [], ◌∷◌, ◌++◌, length, map, filter, take, true, Some, None, Option, refl, ap, ◌∙◌, arith}
+use Rattle.std.proofs.Common.{◌≡◌, ℕ, zero, suc, ◌<◌, pos, List, [], ◌∷◌, ◌++◌, length, map, take, true, Some, None, Option, refl, ap, ◌∙◌, arith}
 use Rattle.std.specs.List.{AllByRecursion}
 use Rattle.std.specs.Prelude.{get_or}
 use Rattle.sqlite.specs.declared.types.Value.TheVariants.{Int}
 use Rattle.sqlite.specs.Order.{Row}
 use Rattle.sqlite_trees.specs.Tree.{IsAscending}
-use Rattle.sqlite.specs.Store.{Ghosts}
-use Rattle.sqlite.specs.Held.{Held, state}
-use Rattle.sqlite.specs.State.{State, Shown, HasCleanDisk}
+use Rattle.sqlite.specs.State.{State, Shown}
 use Rattle.sqlite.proofs.Callers.{reads_as}
 use Rattle.kt_base.specs.declared.run.Run.{Run}
 use Rattle.kt_base.specs.declared.entry.Entry.{Entry}
 use Rattle.kt_store.specs.Tables.{outline_text, schema_2}
 use Rattle.kt_store.specs.Inner.Runs.{entries_of}
-use Rattle.kt_store.specs.Runs.{IsRun, IsEntry, entry_row, run_at, AreRuns}
+use Rattle.kt_store.specs.Runs.{IsRun, IsEntry, run_at, AreRuns}
 use Rattle.kt_store.specs.Inner.Heads.{entry_columns}
-use Rattle.kt_store.specs.Stands.{IsStore, StandsFor}
-use Rattle.kt_store.specs.Inner.Ask.{Asked}
+use Rattle.kt_store.specs.Stands.{IsStore}
 use Rattle.kt_store.proofs.SqlFacts.{outline_select_is, outline_query}
 use Rattle.kt_store.proofs.KeptEntries.{Same, tells_kept}
 use Rattle.kt_store.proofs.EntryLemmas.{tests, each, all_pass}
 use Rattle.kt_store.proofs.CloseLemmas.{run_of}
-use Rattle.kt_store.proofs.AskLemmas.{asked_mid}
 
 abbrev Up : List Entry → Type 0
 Up es = IsAscending (λ (a b : Entry). a.position < b.position) es
@@ -52,10 +48,6 @@ tells_entries old new runs n rows has h =
     let reads = reads_as outline_text (entries_params n) old new schema_2 has.tables.schema _ outline_select_is.0 outline_select_is.2 outline_select_is.1 rows h in
     tells_kept tests outline_query.project (entries_params n) (same_rows n) n (λ (e : Entry). true) (each n) old runs rows has (up_of runs n has.tables.valid) reads.answer
     ∙ ap (map entry_columns) (all_pass (entries_of (run_at runs n)))
-
-module _ {S : Type 0} (g : Ghosts S) (old new : Held S) (runs : List Run) (has : StandsFor (state g old) runs) (earlier : HasCleanDisk (state g new) → HasCleanDisk (state g old)) where
-  pub asked_entries : (n : ℕ) (rows : List Row) → HasCleanDisk (state g new) → Asked g outline_text (Int (pos n) ∷ []) old new rows → rows ≡ map entry_columns (entries_of (run_at runs n))
-  asked_entries n rows clean it = tells_entries (state g it.mid) (state g new) runs n rows (asked_mid g old new runs has earlier outline_text outline_select_is.2 (Int (pos n) ∷ []) rows clean it) it.shown
 
 -- the next of them, with what all of them have
 pub one_sound : {X Y Z : Type 0} (P : X → Type 0) (f : X → Y) (h : X → Z) (xs : List X) (i : ℕ) (y : Y) → AllByRecursion P xs → i < length xs → y ≡ get_or (map f xs) i y

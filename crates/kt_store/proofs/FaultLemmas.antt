@@ -1,6 +1,5 @@
 -- What a refusal is reported as.
 use Rattle.std.proofs.Common.{◌≡◌, sym, subst, Result, Ok, Err, IsErrAnd, IfErr, OnErr}
-use Rattle.sqlite.specs.declared.error.ErrorCode.TheVariants as code
 use Rattle.kt_store.specs.declared.store_fault.StoreFault.{StoreFault}
 use Rattle.kt_store.specs.declared.store_fault.StoreFault.TheVariants.{NoMemory, Store}
 use Rattle.kt_store.specs.Ask.{IsNoMemory, IsStoreFault}

@@ -14,19 +14,15 @@ use Rattle.sqlite_value.proofs.OrderLemmas.{value_cmp-Int}
 use Rattle.sqlite.specs.Term.{col}
 use Rattle.sqlite.specs.Query.{output, output_cmp}
 use Rattle.sqlite.specs.Collation.TheVariants.{Binary}
-use Rattle.sqlite.specs.Store.{Ghosts}
-use Rattle.sqlite.specs.Held.{Held, state}
-use Rattle.sqlite.specs.State.{State, Shown, HasCleanDisk}
+use Rattle.sqlite.specs.State.{State, Shown}
 use Rattle.sqlite.proofs.Callers.{reads_as}
 use Rattle.kt_base.specs.declared.run.Run.{Run}
 use Rattle.kt_store.specs.Tables.{runs_text, schema_2}
 use Rattle.kt_store.specs.Runs.{run_row, AreNumbered}
 use Rattle.kt_store.specs.Inner.Heads.{head_columns}
-use Rattle.kt_store.specs.Stands.{IsStore, StandsFor}
-use Rattle.kt_store.specs.Inner.Ask.{Asked}
+use Rattle.kt_store.specs.Stands.{IsStore}
 use Rattle.kt_store.proofs.SqlFacts.{runs_select_is, runs_query}
 use Rattle.kt_store.proofs.QueryLemmas.{answered_in_order}
-use Rattle.kt_store.proofs.AskLemmas.{asked_mid}
 
 abbrev params_of : Row → List Row
 params_of r = [] ∷ r ∷ []
@@ -59,10 +55,6 @@ tells_heads old new runs rows has h =
     answered_in_order 2 [] (col 1 0 ∷ col 1 2 ∷ col 1 3 ∷ col 1 4 ∷ []) ((col 1 0, ascending Binary) ∷ []) old.now.trees [] rows reads.answer
     (subst (IsAscending lower) (sym picked) (rises 1 runs has.tables.valid.numbered))
     ∙ ap (map (λ r. column r 0 ∷ column r 2 ∷ column r 3 ∷ column r 4 ∷ [])) picked ∙ map-map _ run_row runs
-
-module _ {S : Type 0} (g : Ghosts S) (old new : Held S) (runs : List Run) (has : StandsFor (state g old) runs) (earlier : HasCleanDisk (state g new) → HasCleanDisk (state g old)) where
-  pub asked_heads : (rows : List Row) → HasCleanDisk (state g new) → Asked g runs_text [] old new rows → rows ≡ map head_columns runs
-  asked_heads rows clean it = tells_heads (state g it.mid) (state g new) runs rows (asked_mid g old new runs has earlier runs_text runs_select_is.2 [] rows clean it) it.shown
 
 pub one_more : {X Y Z : Type 0} (f : X → Y) (h : X → Z) (xs : List X) (i : ℕ) (y : Y) → i < length xs → y ≡ get_or (map f xs) i y → (x : X) × (y ≡ f x) × (map h (take (suc i) xs) ≡ map h (take i xs) ++ h x ∷ [])
 one_more f h [] i y low is = absurd (omega (arith, low))

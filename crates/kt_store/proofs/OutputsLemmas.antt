@@ -1,10 +1,8 @@
 -- What the query for the outputs of an entry answers.
-use Rattle.std.proofs.Common.{◌≡◌, ◌==◌, ◌&&◌, ℕ, pos, List, [], ◌∷◌, map, filter, Bool, true, false, cond, Some, None, Option, slice_get, refl, sym, ap, ◌∙◌, ◌⊎◌, inl, inr}
+use Rattle.std.proofs.Common.{◌≡◌, ◌==◌, ℕ, List, [], ◌∷◌, map, filter, Bool, true, false, cond, Some, None, Option, slice_get, refl, sym, ap, ◌∙◌, ◌⊎◌, inl, inr}
 use Rattle.std.specs.List.{find}
 use Rattle.sqlite.specs.Order.{Row}
-use Rattle.sqlite.specs.Store.{Ghosts}
-use Rattle.sqlite.specs.Held.{Held, state}
-use Rattle.sqlite.specs.State.{State, Shown, HasCleanDisk}
+use Rattle.sqlite.specs.State.{State, Shown}
 use Rattle.sqlite.proofs.Callers.{reads_as}
 use Rattle.kt_base.specs.declared.run.Run.{Run}
 use Rattle.kt_base.specs.declared.entry.Entry.{Entry}
@@ -16,13 +14,11 @@ use Rattle.kt_store.specs.Tables.{outputs_text, schema_2}
 use Rattle.kt_store.specs.Inner.Heads.{output_columns}
 use Rattle.kt_store.specs.Inner.Runs.{entries_of}
 use Rattle.kt_store.specs.Runs.{run_at}
-use Rattle.kt_store.specs.Stands.{IsStore, StandsFor}
-use Rattle.kt_store.specs.Inner.Ask.{Asked}
+use Rattle.kt_store.specs.Stands.{IsStore}
 use Rattle.kt_store.proofs.SqlFacts.{outputs_select_is, outputs_query}
 use Rattle.kt_store.proofs.KeptEntries.{Same, tells_kept}
 use Rattle.kt_store.proofs.EntriesLemmas.{up_of}
 use Rattle.kt_store.proofs.ThereLemmas.{there_params, there_tests, each}
-use Rattle.kt_store.proofs.AskLemmas.{asked_mid}
 
 -- an entry has this position
 abbrev pub has : ℕ → Entry → Bool
@@ -32,14 +28,10 @@ same_rows : (n p : ℕ) (r : Row) → Same there_tests outputs_query.project (th
 same_rows n p [] = (refl, refl)
 same_rows n p (x ∷ r) = (refl, refl)
 
-tells_outputs : (old new : State) (runs : List Run) (n p : ℕ) (rows : List Row) → IsStore old runs → Shown outputs_text (there_params n p) old new rows → rows ≡ map output_columns (filter (has p) (entries_of (run_at runs n)))
+pub tells_outputs : (old new : State) (runs : List Run) (n p : ℕ) (rows : List Row) → IsStore old runs → Shown outputs_text (there_params n p) old new rows → rows ≡ map output_columns (filter (has p) (entries_of (run_at runs n)))
 tells_outputs old new runs n p rows is h =
     let reads = reads_as outputs_text (there_params n p) old new schema_2 is.tables.schema _ outputs_select_is.0 outputs_select_is.2 outputs_select_is.1 rows h in
     tells_kept there_tests outputs_query.project (there_params n p) (same_rows n p) n (has p) (each n p) old runs rows is (up_of runs n is.tables.valid) reads.answer
-
-module _ {S : Type 0} (g : Ghosts S) (old new : Held S) (runs : List Run) (stands : StandsFor (state g old) runs) (earlier : HasCleanDisk (state g new) → HasCleanDisk (state g old)) where
-  pub asked_outputs : (n p : ℕ) (rows : List Row) → HasCleanDisk (state g new) → Asked g outputs_text (there_params n p) old new rows → rows ≡ map output_columns (filter (has p) (entries_of (run_at runs n)))
-  asked_outputs n p rows clean it = tells_outputs (state g it.mid) (state g new) runs n p rows (asked_mid g old new runs stands earlier outputs_text outputs_select_is.2 (there_params n p) rows clean it) it.shown
 
 -- the first row is that of the entry at the position
 first_is : (p : ℕ) (es : List Entry) (row : Row) → slice_get (map output_columns (filter (has p) es)) 0 ≡ Some row → (e : Entry) × (find (has p) es ≡ Some e) × (row ≡ output_columns e)

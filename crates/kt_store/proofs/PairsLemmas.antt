@@ -1,5 +1,5 @@
 -- What the query for the pairs of a run answers.
-use Rattle.std.proofs.Common.{◌≡◌, ◌≢◌, ◌==◌, ◌&&◌, ℕ, suc, ◌+◌, ◌<◌, pos, List, [], ◌∷◌, ◌++◌, map, filter, drop, Bool, true, false, Some, None, Option, Less, refl, sym, ap, ap₂, subst, ◌∙◌, arith, IsPermutation, append-nil}
+use Rattle.std.proofs.Common.{◌≡◌, ◌≢◌, ◌==◌, ◌&&◌, ℕ, suc, ◌<◌, pos, List, [], ◌∷◌, ◌++◌, map, filter, drop, Bool, true, false, Some, None, Option, Less, refl, sym, ap, ap₂, subst, ◌∙◌, arith, IsPermutation, append-nil}
 use Rattle.std.specs.List.{AllByRecursion, flat_map}
 use Rattle.std.specs.Option.{option_to_list}
 use Rattle.std.proofs.lemmas.Bool.Decides.{nat_tests}
@@ -14,9 +14,7 @@ use Rattle.sqlite.specs.Term.{col}
 use Rattle.sqlite.specs.Ops.{is_true, from_truth, binary}
 use Rattle.sqlite.specs.Query.{Output, output, output_cmp}
 use Rattle.sqlite.specs.Collation.TheVariants.{Binary}
-use Rattle.sqlite.specs.Store.{Ghosts}
-use Rattle.sqlite.specs.Held.{Held, state}
-use Rattle.sqlite.specs.State.{State, Shown, HasCleanDisk}
+use Rattle.sqlite.specs.State.{State, Shown}
 use Rattle.sqlite.proofs.Callers.{reads_as}
 use Rattle.kt_base.specs.declared.run.Run.{Run}
 use Rattle.kt_base.specs.declared.entry.Entry.{Entry}
@@ -25,14 +23,12 @@ use Rattle.kt_store.specs.Tables.{pairs_text, schema_2}
 use Rattle.kt_store.specs.Inner.Runs.{entries_of}
 use Rattle.kt_store.specs.Runs.{pair_row, pair_rows, pair_rows_from, prop_rows, run_at, AreNumbered}
 use Rattle.kt_store.specs.Inner.Heads.{pair_columns, pairs_shown}
-use Rattle.kt_store.specs.Stands.{IsStore, StandsFor}
-use Rattle.kt_store.specs.Inner.Ask.{Asked}
-use Rattle.kt_store.proofs.SqlFacts.{pairs_select_is, pairs_query, is}
+use Rattle.kt_store.specs.Stands.{IsStore}
+use Rattle.kt_store.proofs.SqlFacts.{pairs_select_is, pairs_query}
 use Rattle.kt_store.proofs.QueryLemmas.{answered_sorted}
 use Rattle.kt_store.proofs.EntryLemmas.{back, equal, of_stored, of_one, same_test, one_truth, tests, passes, same_passes}
 use Rattle.kt_store.proofs.EntriesLemmas.{up_of}
 use Rattle.kt_store.proofs.HeadLemmas.{below}
-use Rattle.kt_store.proofs.AskLemmas.{asked_mid}
 
 -- the pairs of one run, of those of all
 module _ (test : Row → Bool) (n : ℕ) (each : (m p k : ℕ) (v : Variable) → test (pair_row m p k v) ≡ (m == n)) where
@@ -136,7 +132,3 @@ tells_pairs old new runs n rows has h =
     let same = subst (λ l. IsPermutation l (map (out params) (filter (passes params) (old.now.trees 5)))) (ap (map (shows n)) of_one) from in
     answered_sorted 5 tests pairs_query.project ((col 1 2, ascending Binary) ∷ (col 1 3, ascending Binary) ∷ []) old.now.trees params rows reads.answer (map (shows n) (flat_map (pair_rows n) es)) same (rises n es (up_of runs n has.tables.valid))
     ∙ map-map (λ (o : Output). o.1) (shows n) (flat_map (pair_rows n) es) ∙ columns n es
-
-module _ {S : Type 0} (g : Ghosts S) (old new : Held S) (runs : List Run) (has : StandsFor (state g old) runs) (earlier : HasCleanDisk (state g new) → HasCleanDisk (state g old)) where
-  pub asked_pairs : (n : ℕ) (rows : List Row) → HasCleanDisk (state g new) → Asked g pairs_text (Int (pos n) ∷ []) old new rows → rows ≡ pairs_shown (entries_of (run_at runs n))
-  asked_pairs n rows clean it = tells_pairs (state g it.mid) (state g new) runs n rows (asked_mid g old new runs has earlier pairs_text pairs_select_is.2 (Int (pos n) ∷ []) rows clean it) it.shown

@@ -1,6 +1,6 @@
 -- How the tables of a database serve the calls of a store.
 use Rattle.std.specs.Prelude.{Result, Ok, Err}
-use Rattle.std.proofs.Common.{◌≡◌, ◌⊎◌, inl, ℕ, suc, List, [], ◌∷◌, ◌++◌, ◌<◌, ◌≤◌, Some, None, length, map, IsErrAnd, refl, subst, sym, arith}
+use Rattle.std.proofs.Common.{◌≡◌, inl, ℕ, suc, List, [], ◌∷◌, ◌++◌, ◌<◌, None, length, IsErrAnd, refl, subst, sym, arith}
 use Rattle.sqlite.specs.Tree.{Trees}
 use Rattle.sqlite.specs.Store.{Ghosts}
 use Rattle.sqlite.specs.Held.{Held, state}
@@ -10,9 +10,8 @@ use Rattle.kt_base.specs.Limits.{last_run}
 use Rattle.kt_base.specs.declared.entry.Entry.{Entry}
 use Rattle.kt_base.specs.declared.run.Run.{Run}
 use Rattle.kt_store.specs.Ask.{IsStoreFault}
-use Rattle.kt_store.specs.Heads.{head_of}
 use Rattle.kt_store.specs.Inner.Kept.{KeepsRuns, OnlyReads, Changes, ChangesForGood, MayChange}
-use Rattle.kt_store.specs.Runs.{AreNumbered, Keeps, KeepsOne, new_run, run_at, with_entry, put_refusal, finish, finish_refusal}
+use Rattle.kt_store.specs.Runs.{AreNumbered, Keeps, KeepsOne, new_run, with_entry, put_refusal, finish, finish_refusal}
 use Rattle.kt_store.specs.Serving.{Serves, Agrees, Outlasts}
 use Rattle.kt_store.specs.Stands.{StandsFor, Leaves}
 use Rattle.kt_store.specs.StoreCalls.{StoreCall, Began, Put, Finished, Heads, Outline, Outputs}

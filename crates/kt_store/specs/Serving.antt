@@ -1,5 +1,5 @@
 -- What a call of a store does to its runs, by its answer.
-use Rattle.std.specs.Prelude.{ℕ, suc, List, [], ◌∷◌, ◌++◌, ◌≡◌, ◌<◌, ◌≤◌, ◌⊎◌, Some, None, Ok, Err, length, map}
+use Rattle.std.specs.Prelude.{suc, List, [], ◌∷◌, ◌++◌, ◌≡◌, ◌<◌, ◌≤◌, ◌⊎◌, Some, None, Ok, Err, length, map}
 use Rattle.kt_base.specs.Limits.{last_run}
 use Rattle.kt_base.specs.declared.entry.Entry.{Entry}
 use Rattle.kt_base.specs.declared.run.Run.{Run}

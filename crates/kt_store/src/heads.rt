@@ -12,7 +12,7 @@ ghost use Rattle.kt_store.specs.Stands.{StandsFor};
 use crate::growth::add;
 use crate::read::{number_in, small_in};
 use crate::run_head::RunHead;
-use crate::statements::ask;
+use crate::statements::query;
 use crate::store_fault::StoreFault;
 use sqlite::{Alter, Connection, Row};
 use std::alloc::Global;
@@ -64,7 +64,7 @@ pub(crate) fn all_heads<S: Alter>(
     ensures stands { KeepsRuns S.Store conn.old conn.new }
     ensures crash { OnlyReads S.Store conn.old conn.new }
 {
-    let rows = ask(
+    let rows = query(
         conn,
         "SELECT id, started, total, finished FROM runs ORDER BY id",
         &[],

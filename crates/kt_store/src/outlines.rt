@@ -19,7 +19,7 @@ ghost use Rattle.kt_store.specs.Stands.{StandsFor};
 
 use crate::growth::add;
 use crate::read::{number_in, small_in};
-use crate::statements::{ask, out_of_range, value_in};
+use crate::statements::{out_of_range, query, value_in};
 use crate::store_fault::StoreFault;
 use crate::value::int;
 use kt_base::{Bytes, Entry, Kind, Output, Text, Variable, Variables, Verdict};
@@ -173,7 +173,7 @@ pub(crate) fn all_pairs<S: Alter>(
     ensures stands { KeepsRuns S.Store conn.old conn.new }
     ensures crash { OnlyReads S.Store conn.old conn.new }
 {
-    let rows = ask(
+    let rows = query(
         conn,
         "SELECT position, name, value FROM props WHERE run = ?1 ORDER BY position, place",
         &[int(run)],
@@ -193,7 +193,7 @@ pub(crate) fn all_rows<S: Alter>(conn: &mut Connection<S>, run: u64) -> Result<V
     ensures stands { KeepsRuns S.Store conn.old conn.new }
     ensures crash { OnlyReads S.Store conn.old conn.new }
 {
-    let rows = ask(
+    let rows = query(
         conn,
         "SELECT position, program, case_name, kind, reason, started, millis FROM entries WHERE run = ?1 ORDER BY position",
         &[int(run)],

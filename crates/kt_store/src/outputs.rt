@@ -15,7 +15,7 @@ ghost use Rattle.kt_store.specs.Runs.{run_at};
 ghost use Rattle.kt_store.specs.Stands.{StandsFor};
 
 use crate::case_outputs::CaseOutputs;
-use crate::statements::{ask, value_in};
+use crate::statements::{query, value_in};
 use crate::store_fault::StoreFault;
 use crate::value::int;
 use kt_base::{Bytes, Output};
@@ -74,7 +74,7 @@ fn output_rows<S: Alter>(
     ensures stands { KeepsRuns S.Store conn.old conn.new }
     ensures crash { OnlyReads S.Store conn.old conn.new }
 {
-    let rows = ask(
+    let rows = query(
         conn,
         "SELECT body_out, body_err, clean_out, clean_err FROM entries WHERE run = ?1 AND position = ?2 ORDER BY position",
         &[int(run), int(u64::from(position))],

@@ -1,30 +1,13 @@
-use Rattle.std.proofs.Common.{◌∙◌, [], arith}
-use Rattle.kt_store.specs.Tables.{runs_text}
+use Rattle.std.proofs.Common.{◌∙◌}
+use Rattle.sqlite.specs.Held.{state}
 use Rattle.kt_store.proofs.SqlFacts.{runs_select_is}
-use Rattle.kt_store.proofs.AskLemmas.{asked_stands, asked_survives}
-use Rattle.kt_store.proofs.HeadLemmas.{asked_heads}
+use Rattle.kt_store.proofs.HeadLemmas.{tells_heads}
 use Rattle.kt_store.proofs.heads.all_heads.Goals as goal
+
+pub query-requires : goal.query-requires
+query-requires g c = runs_select_is.2
 
 pub returns-clause-all : goal.returns-clause-all
 returns-clause-all g c runs has clean =
-    c.in_ok-heads.ensures.heads runs (c.deref.ensures.value ∙ asked_heads g.S.Store c.args.conn.now c.ask.new.conn runs has (λ k. omega (arith, k, c.ask.ensures.survives.clean)) c.in_ok-rows.rows.items clean (c.in_ok-rows.ensures.rows clean))
-
-pub returns-in_err-heads-clause-stands : goal.returns-in_err-heads-clause-stands
-returns-in_err-heads-clause-stands g c runs has =
-    asked_stands g.S.Store c.args.conn.now c.ask.new.conn runs has (λ k. omega (arith, k, c.ask.ensures.survives.clean)) runs_text runs_select_is.2 [] c.in_ok-rows.rows.items (λ clean. c.in_ok-rows.ensures.rows clean)
-
-pub returns-clause-stands : goal.returns-clause-stands
-returns-clause-stands g c runs has =
-    asked_stands g.S.Store c.args.conn.now c.ask.new.conn runs has (λ k. omega (arith, k, c.ask.ensures.survives.clean)) runs_text runs_select_is.2 [] c.in_ok-rows.rows.items (λ clean. c.in_ok-rows.ensures.rows clean)
-
-pub returns-in_err-rows-clause-crash : goal.returns-in_err-rows-clause-crash
-returns-in_err-rows-clause-crash g c runs has =
-    asked_survives g.S.Store c.args.conn.now c.ask.new.conn runs has (λ k. omega (arith, k, c.ask.ensures.survives.clean)) runs_text runs_select_is.2 [] c.ask.ensures.survives
-
-pub returns-in_err-heads-clause-crash : goal.returns-in_err-heads-clause-crash
-returns-in_err-heads-clause-crash g c runs has =
-    asked_survives g.S.Store c.args.conn.now c.ask.new.conn runs has (λ k. omega (arith, k, c.ask.ensures.survives.clean)) runs_text runs_select_is.2 [] c.ask.ensures.survives
-
-pub returns-clause-crash : goal.returns-clause-crash
-returns-clause-crash g c runs has =
-    asked_survives g.S.Store c.args.conn.now c.ask.new.conn runs has (λ k. omega (arith, k, c.ask.ensures.survives.clean)) runs_text runs_select_is.2 [] c.ask.ensures.survives
+    let it = c.in_ok-rows.ensures.shown runs has clean in
+    c.in_ok-heads.ensures.heads runs (c.deref.ensures.value ∙ tells_heads (state g.S.Store it.mid) (state g.S.Store c.query.new.conn) runs c.in_ok-rows.rows.items it.stored it.shown)

@@ -1,27 +1,12 @@
-use Rattle.std.proofs.Common.{[], ◌∷◌, pos, arith}
-use Rattle.sqlite.specs.declared.types.Value.TheVariants.{Int}
-use Rattle.kt_store.specs.Tables.{outputs_text}
+use Rattle.sqlite.specs.Held.{state}
 use Rattle.kt_store.proofs.SqlFacts.{outputs_select_is}
-use Rattle.kt_store.proofs.AskLemmas.{asked_stands, asked_survives}
-use Rattle.kt_store.proofs.OutputsLemmas.{asked_outputs}
+use Rattle.kt_store.proofs.OutputsLemmas.{tells_outputs}
 use Rattle.kt_store.proofs.outputs.output_rows.Goals as goal
+
+pub query-requires : goal.query-requires
+query-requires g c = outputs_select_is.2
 
 pub returns-clause-all : goal.returns-clause-all
 returns-clause-all g c runs has clean =
-    asked_outputs g.S.Store c.args.conn.now c.ask.new.conn runs has (λ k. omega (arith, k, c.ask.ensures.survives.clean)) c.args.run c.args.position c.in_ok-rows.rows.items clean
-    (rw (c.int.ensures, c.int-2.ensures, c.from.ensures) at (c.in_ok-rows.ensures.rows clean))
-
-pub returns-clause-stands : goal.returns-clause-stands
-returns-clause-stands g c runs has =
-    asked_stands g.S.Store c.args.conn.now c.ask.new.conn runs has (λ k. omega (arith, k, c.ask.ensures.survives.clean)) outputs_text outputs_select_is.2 (Int (pos c.args.run) ∷ Int (pos c.args.position) ∷ []) c.in_ok-rows.rows.items
-    (λ clean. rw (c.int.ensures, c.int-2.ensures, c.from.ensures) at (c.in_ok-rows.ensures.rows clean))
-
-pub returns-in_err-rows-clause-crash : goal.returns-in_err-rows-clause-crash
-returns-in_err-rows-clause-crash g c runs has =
-    asked_survives g.S.Store c.args.conn.now c.ask.new.conn runs has (λ k. omega (arith, k, c.ask.ensures.survives.clean)) outputs_text outputs_select_is.2 (Int (pos c.args.run) ∷ Int (pos c.args.position) ∷ [])
-    (rw (c.int.ensures, c.int-2.ensures, c.from.ensures) at c.ask.ensures.survives)
-
-pub returns-clause-crash : goal.returns-clause-crash
-returns-clause-crash g c runs has =
-    asked_survives g.S.Store c.args.conn.now c.ask.new.conn runs has (λ k. omega (arith, k, c.ask.ensures.survives.clean)) outputs_text outputs_select_is.2 (Int (pos c.args.run) ∷ Int (pos c.args.position) ∷ [])
-    (rw (c.int.ensures, c.int-2.ensures, c.from.ensures) at c.ask.ensures.survives)
+    let it = rw (c.int.ensures, c.int-2.ensures, c.from.ensures) at (c.in_ok-rows.ensures.shown runs has clean) in
+    tells_outputs (state g.S.Store it.mid) (state g.S.Store c.query.new.conn) runs c.args.run c.args.position c.in_ok-rows.rows.items it.stored it.shown

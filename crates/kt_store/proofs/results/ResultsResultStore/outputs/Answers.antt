@@ -1,7 +1,4 @@
-use Rattle.std.specs.Prelude.{Ok, Option}
-use Rattle.std.proofs.Common.{inl, inr, ap, ◌∙◌}
-use Rattle.kt_base.specs.declared.run.Run.{Run}
-use Rattle.kt_store.specs.Heads.{entry_at}
+use Rattle.std.specs.Prelude.{Ok}
 use Rattle.kt_store.specs.StoreCalls.{Outputs}
 use Rattle.kt_store.proofs.ServeLemmas.{failed_at, seen_at, keeps_then, reads_then, outputs_read}
 use Rattle.kt_store.proofs.OutputsLemmas.{no_run_no_entry}
