@@ -1,15 +1,15 @@
 -- What the query for the outputs of an entry answers.
-use Rattle.std.proofs.Common.{◌≡◌, ◌==◌, ℕ, List, [], ◌∷◌, map, filter, Bool, true, false, cond, Some, None, Option, slice_get, refl, sym, ap, ◌∙◌, ◌⊎◌, inl, inr}
+use Rattle.std.proofs.Common.{length, ◌<◌, ◌≤◌, zero, suc, subst, arith, ◌≡◌, ◌==◌, ℕ, List, [], ◌∷◌, map, filter, Bool, true, false, cond, Some, None, Option, slice_get, refl, sym, ap, ◌∙◌, inl, inr}
+use Rattle.std.proofs.lemmas.Bool.{cases_lt}
+use Rattle.std.proofs.lemmas.Option.{slice_get_past}
 use Rattle.std.specs.List.{find}
+use Rattle.kt_base.specs.Limits.{last_run}
 use Rattle.sqlite.specs.Order.{Row}
 use Rattle.sqlite.specs.State.{State, Shown}
 use Rattle.sqlite.proofs.Callers.{reads_as}
 use Rattle.kt_base.specs.declared.run.Run.{Run}
 use Rattle.kt_base.specs.declared.entry.Entry.{Entry}
-use Rattle.kt_store.specs.Ask.{IsStoreFault}
 use Rattle.kt_store.specs.Heads.{entry_at}
-use Rattle.kt_store.specs.declared.store_fault.StoreFault.{StoreFault}
-use Rattle.kt_store.specs.declared.store_fault.StoreFault.TheVariants.{NoRun}
 use Rattle.kt_store.specs.Tables.{outputs_text, schema_2}
 use Rattle.kt_store.specs.Inner.Heads.{output_columns}
 use Rattle.kt_store.specs.Inner.Runs.{entries_of}
@@ -60,7 +60,13 @@ pub no_outputs : (o : Option Run) (p : ℕ) (rows : List Row) → rows ≡ map o
 no_outputs None p rows are none = refl
 no_outputs (Some r) p rows are none = none_is p r.entries (sym (ap (λ l. slice_get l 0) are) ∙ none)
 
--- a run that isn't there has no entry
-pub no_run_no_entry : (runs : List Run) (n p : ℕ) (fault : StoreFault) → IsStoreFault fault ⊎ ((fault ≡ NoRun) × (run_at runs n ≡ None)) → IsStoreFault fault ⊎ ((fault ≡ NoRun) × (entry_at (run_at runs n) p ≡ None))
-no_run_no_entry runs n p fault (inl failed) = inl failed
-no_run_no_entry runs n p fault (inr none) = inr (none.0, ap (λ (o : Option Run). entry_at o p) none.1)
+run_past : (runs : List Run) (run : ℕ) → length runs < run → run_at runs run ≡ None
+run_past runs zero low = refl
+run_past runs (suc k) low = slice_get_past runs k (omega (arith, low))
+
+-- a run that has no number of its own has no entry
+pub no_entry : (runs : List Run) (run number p : ℕ) → length runs ≤ last_run → (run ≤ last_run → number ≡ run) → entry_at (run_at runs number) p ≡ None → entry_at (run_at runs run) p ≡ None
+no_entry runs run number p few same none = elim (cases_lt last_run run) [
+  | inl past ↦ ap (λ (o : Option Run). entry_at o p) (run_past runs run (omega (arith, few, past)))
+  | inr low ↦ subst (λ (n : ℕ). entry_at (run_at runs n) p ≡ None) (same low) none
+]

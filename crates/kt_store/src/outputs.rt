@@ -1,4 +1,4 @@
-ghost use Rattle.std.specs.Prelude.{◌≡◌, ◌⊎◌, ◌<◌, ◌^◌, ◌==◌, ℕ, length, map, List, Some, None, IfOk, IfErr};
+ghost use Rattle.std.specs.Prelude.{◌≡◌, ◌⊎◌, ◌<◌, ◌^◌, ◌==◌, ℕ, length, map, List, Some, None, IfOk, OnOk, IfErr};
 ghost use Rattle.std.specs.List.{filter};
 ghost use Rattle.kt_base.specs.declared.entry.Entry.{Entry};
 ghost use Rattle.kt_base.specs.declared.output.Output.{Output as Pair};
@@ -11,10 +11,11 @@ ghost use Rattle.kt_store.specs.Heads.{outputs_of, entry_at};
 ghost use Rattle.kt_store.specs.Inner.Kept.{KeepsRuns, OnlyReads};
 ghost use Rattle.kt_store.specs.Inner.Heads.{output_columns};
 ghost use Rattle.kt_store.specs.Inner.Runs.{entries_of};
-ghost use Rattle.kt_store.specs.Runs.{run_at};
+ghost use Rattle.kt_store.specs.Runs.{AreRuns, run_at};
 ghost use Rattle.kt_store.specs.Stands.{StandsFor};
 
 use crate::case_outputs::CaseOutputs;
+use crate::lookup::key;
 use crate::statements::{query, value_in};
 use crate::store_fault::StoreFault;
 use crate::value::int;
@@ -70,6 +71,8 @@ fn output_rows<S: Alter>(
         → HasCleanDisk (state S.Store conn.new)
         → IfOk result (λ rows. rows.items ≡ map output_columns
         (filter (λ (e : Entry). e.position == position) (entries_of (run_at runs run)))) }
+    ensures valid { (runs : _) → StandsFor (state S.Store conn.old) runs
+        → HasCleanDisk (state S.Store conn.new) → OnOk result (AreRuns runs) }
     ensures failed { IfErr result IsStoreFault }
     ensures stands { KeepsRuns S.Store conn.old conn.new }
     ensures crash { OnlyReads S.Store conn.old conn.new }
@@ -88,7 +91,6 @@ pub(crate) fn find_outputs<S: Alter>(
     run: u64,
     position: u32,
 ) -> Result<CaseOutputs, StoreFault>
-    requires { run < 2 ^ 63 }
     ensures found { (runs : _) → StandsFor (state S.Store conn.old) runs
         → HasCleanDisk (state S.Store conn.new)
         → IfOk result (λ o. (e : Entry) × (entry_at (run_at runs run) position ≡ Some e)
@@ -100,10 +102,14 @@ pub(crate) fn find_outputs<S: Alter>(
     ensures stands { KeepsRuns S.Store conn.old conn.new }
     ensures crash { OnlyReads S.Store conn.old conn.new }
 {
-    let rows = output_rows(conn, run, position)?;
+    let number = key(run);
+    let rows = output_rows(conn, number, position)?;
     let Some(row) = rows.first() else {
         return Err(StoreFault::NoRun);
     };
+    if number != run {
+        return Err(StoreFault::NoRun);
+    }
     let outputs = outputs_in(row)?;
     Ok(outputs)
 }

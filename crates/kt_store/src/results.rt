@@ -124,7 +124,6 @@ impl<S: Alter> ResultStore for Results<S> {
     }
 
     fn outputs(&mut self, run: u64, position: u32) -> Result<CaseOutputs, StoreFault> {
-        look(&mut self.conn, run)?;
         let found = find_outputs(&mut self.conn, run, position)?;
         Ok(found)
     }

@@ -1,14 +1,19 @@
 use Rattle.std.specs.Option.{option_copied}
-use Rattle.std.proofs.Common.{◌∙◌, inr, slice_get, refl, sym, ap}
+use Rattle.std.proofs.Common.{◌∙◌, ℕ, inr, slice_get, refl, sym, ap}
+use Rattle.kt_store.specs.Heads.{entry_at}
 use Rattle.kt_store.specs.Runs.{run_at}
-use Rattle.kt_store.proofs.OutputsLemmas.{outputs_there, no_outputs}
+use Rattle.kt_store.proofs.OutputsLemmas.{outputs_there, no_outputs, no_entry}
 use Rattle.kt_store.proofs.outputs.find_outputs.Goals as goal
 
 pub returns-in_default-clause-refused : goal.returns-in_default-clause-refused
 returns-in_default-clause-refused g c runs has clean =
-    inr (refl, no_outputs (run_at runs c.args.run) c.args.position c.in_ok-rows.rows.items (c.in_ok-rows.ensures.all runs has clean) (ap (λ l. slice_get l 0) (sym c.deref.ensures.value) ∙ sym c.first.ensures.value ∙ ap option_copied c.in_default.is))
+    inr (
+      refl,
+      no_entry runs c.args.run c.key-number.result c.args.position (c.in_ok-rows.ensures.valid runs has clean).few c.key-number.ensures.same
+          (no_outputs (run_at runs c.key-number.result) c.args.position c.in_ok-rows.rows.items (c.in_ok-rows.ensures.all runs has clean) (ap (λ l. slice_get l 0) (sym c.deref.ensures.value) ∙ sym c.first.ensures.value ∙ ap option_copied c.in_default.is)),
+    )
 
 pub returns-clause-found : goal.returns-clause-found
 returns-clause-found g c runs has clean =
-    let it = outputs_there (run_at runs c.args.run) c.args.position c.in_ok-rows.rows.items c.in-Some.row.now (c.in_ok-rows.ensures.all runs has clean) (ap (λ l. slice_get l 0) (sym c.deref.ensures.value) ∙ sym c.first.ensures.value ∙ ap option_copied c.in-Some.is) in
-    (it.0, it.1, c.in_ok-outputs.ensures.outputs it.0 it.2)
+    let it = outputs_there (run_at runs c.key-number.result) c.args.position c.in_ok-rows.rows.items c.in-Some.row.now (c.in_ok-rows.ensures.all runs has clean) (ap (λ l. slice_get l 0) (sym c.deref.ensures.value) ∙ sym c.first.ensures.value ∙ ap option_copied c.in-Some.is) in
+    (it.0, ap (λ (n : ℕ). entry_at (run_at runs n) c.args.position) (sym c.if-number-run.false) ∙ it.1, c.in_ok-outputs.ensures.outputs it.0 it.2)

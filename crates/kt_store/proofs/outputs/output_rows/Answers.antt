@@ -10,3 +10,6 @@ pub returns-clause-all : goal.returns-clause-all
 returns-clause-all g c runs has clean =
     let it = rw (c.int.ensures, c.int-2.ensures, c.from.ensures) at (c.in_ok-rows.ensures.shown runs has clean) in
     tells_outputs (state g.S.Store it.mid) (state g.S.Store c.query.new.conn) runs c.args.run c.args.position c.in_ok-rows.rows.items it.stored it.shown
+
+pub returns-clause-valid : goal.returns-clause-valid
+returns-clause-valid g c runs has clean = (c.in_ok-rows.ensures.shown runs has clean).stored.tables.valid
