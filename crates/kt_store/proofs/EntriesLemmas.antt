@@ -1,5 +1,5 @@
 -- What the query for the entries of a run answers.
-use Rattle.std.proofs.Common.{◌≡◌, ℕ, zero, suc, ◌<◌, ◌≤◌, pos, List, [], ◌∷◌, ◌++◌, length, map, filter, drop, take, true, Some, None, Option, Less, refl, ap, subst, ◌∙◌, arith, IsPermutation}
+use Rattle.std.proofs.Common.{◌≡◌, ℕ, zero, suc, ◌<◌, pos, List, [], ◌∷◌, ◌++◌, length, map, filter, drop, take, true, Some, None, Option, Less, refl, ap, subst, ◌∙◌, arith, IsPermutation}
 use Rattle.std.specs.List.{AllByRecursion}
 use Rattle.std.specs.Prelude.{get_or}
 use Rattle.sqlite_keyed.proofs.ListLemmas.{map-map}
@@ -95,15 +95,3 @@ one_sound P f h (x ∷ xs) zero y all low is = (x, all.0, is, refl)
 one_sound P f h (x ∷ xs) (suc i) y all low is =
     let it = one_sound P f h xs i y all.1 (omega (arith, low)) is in
     (it.0, it.1, it.2, ap (λ l. h x ∷ l) it.3)
-
-pub all_taken : (es found : List Entry) (i : ℕ) → found ≡ map (λ (e : Entry). e) (take i es) → length es ≤ i → found ≡ es
-all_taken es found i is long = is ∙ whole i es long
-  where
-    whole : (i : ℕ) (es : List Entry) → length es ≤ i → map (λ (e : Entry). e) (take i es) ≡ es
-    whole i [] long = empty i
-      where
-        empty : (i : ℕ) → map (λ (e : Entry). e) (take i []) ≡ []
-        empty zero = refl
-        empty (suc i) = refl
-    whole zero (e ∷ es) long = absurd (omega (arith, long))
-    whole (suc i) (e ∷ es) long = ap (λ l. e ∷ l) (whole i es (omega (arith, long)))
