@@ -1,6 +1,5 @@
 -- Whether the store is full, as its query tells.
-use Rattle.std.proofs.Common.{◌≡◌, ℕ, zero, suc, ◌<◌, ◌≤◌, pos, List, [], ◌∷◌, length, map, filter, nat_lt, inl, inr, true, false, slice_get, refl, sym, ap, ◌∙◌, arith}
-use Rattle.std.proofs.lemmas.Bool.Decides.{nat_tests}
+use Rattle.std.proofs.Common.{◌≡◌, ℕ, zero, suc, ◌<◌, ◌≤◌, pos, List, [], ◌∷◌, length, map, filter, inl, inr, slice_get, refl, sym, ap, ◌∙◌, arith}
 use Rattle.std.proofs.lemmas.Option.{slice_get_past}
 use Rattle.std.proofs.lemmas.List.Sorted.{length_permutation}
 use Rattle.std.proofs.lemmas.List.{length-map}
@@ -46,9 +45,3 @@ has_none runs rows same some = elim (cases_lt 999999 (length runs)) [
   | inl past ↦ omega (arith, past)
   | inr room ↦ absurd (omega (arith, some, same ∙ is_past runs 999999 room))
 ]
-
-pub lt_from_true : (m n : ℕ) → nat_lt m n ≡ true → m < n
-lt_from_true m n h = grind (arith, nat_tests, h)
-
-pub none_from_false : (n : ℕ) → nat_lt 0 n ≡ false → n ≡ 0
-none_from_false n h = grind (arith, nat_tests, h)

@@ -18,7 +18,7 @@ use Rattle.sqlite.proofs.StateLemmas.{survives_then}
 use Rattle.kt_base.specs.declared.run.Run.{Run}
 use Rattle.kt_store.specs.Runs.{Tables, Keeps, KeepsOld, KeepsEither}
 use Rattle.kt_store.specs.Ask.{Rests}
-use Rattle.kt_store.specs.Stands.{IsSettled, Holds, IsStore, StandsFor, Leaves}
+use Rattle.kt_store.specs.Stands.{IsSettled, Holds, IsStore, Leaves}
 use Rattle.kt_store.specs.Inner.Transactions.{IsUndone}
 
 -- whatever a refused statement is, the connection is as it was or is rolled back
@@ -76,9 +76,6 @@ module _ (P : Database → Type 0) (old new : State) where
 
 pub same_store : (old new : State) (runs : List Run) → IsStore old runs → IsUnchanged old new → IsStore new runs
 same_store old new runs has same = same_settled (λ db. Tables db runs) old new has same
-
-pub rests : (old new : State) (runs : List Run) → StandsFor old runs → (HasCleanDisk new → HasCleanDisk old) → (HasCleanDisk new → Rests old new) → StandsFor new runs
-rests old new runs has earlier left = rests_hold (λ db. Tables db runs) old new has earlier left
 
 module _ (sql : List ℕ) (params : Row) (old : State) (schema : Schema) (has : old.now.schema ≡ schema) (command : Command) (is : command_of (understood schema sql) ≡ command)
     (plain : IsPlain (understood schema sql)) where

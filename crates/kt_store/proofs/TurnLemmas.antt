@@ -56,15 +56,6 @@ five_at run position place (a ∷ b ∷ c ∷ d ∷ e ∷ vs) enough =
     let next : suc (suc (suc (suc (suc place)))) ≡ place + 5 = omega arith in
     ap (λ k. (five_text, five_values run position place (a ∷ b ∷ c ∷ d ∷ e ∷ vs)) ∷ pair_statements run position k vs) next
 
--- fewer than five pairs
-pub few_at : (run position place : ℕ) (vs : List Variable) → length vs < 5 → pair_statements run position place vs ≡ single_statements run position place vs
-few_at run position place [] few = refl
-few_at run position place (a ∷ []) few = refl
-few_at run position place (a ∷ b ∷ []) few = refl
-few_at run position place (a ∷ b ∷ c ∷ []) few = refl
-few_at run position place (a ∷ b ∷ c ∷ d ∷ []) few = refl
-few_at run position place (a ∷ b ∷ c ∷ d ∷ e ∷ vs) few = absurd (omega (arith, few))
-
 -- the values of the first five pairs
 pub values_at : (run position place : ℕ) (vs : List Variable) (a b c d e : Variable) → 5 ≤ length vs → a ≡ get_or vs 0 a → b ≡ get_or vs 1 b → c ≡ get_or vs 2 c → d ≡ get_or vs 3 d → e ≡ get_or vs 4 e
     → Int (pos run) ∷ Int (pos position) ∷ pair_values place a (pair_values (place + 1) b (pair_values (place + 2) c (pair_values (place + 3) d (pair_values (place + 4) e [])))) ≡ five_values run position place vs

@@ -1,6 +1,7 @@
-use Rattle.std.proofs.Common.{◌∙◌, length, sym}
+use Rattle.std.proofs.Common.{◌∙◌, sym, arith}
+use Rattle.std.proofs.lemmas.Bool.Decides.{nat_tests}
 use Rattle.kt_store.proofs.SqlFacts.{full_is}
-use Rattle.kt_store.proofs.FullLemmas.{tells_full, has_room, has_none, lt_from_true, none_from_false}
+use Rattle.kt_store.proofs.FullLemmas.{tells_full, has_room, has_none}
 use Rattle.kt_store.proofs.begin.is_full.Goals as goal
 
 pub query-requires : goal.query-requires
@@ -10,4 +11,4 @@ pub returns-clause-full : goal.returns-clause-full
 returns-clause-full g c runs has clean =
     let items = c.in_ok-rows.rows.items in
     let same = tells_full g.S.Store c.query.new.conn runs items (c.in_ok-rows.ensures.shown runs has clean) in
-    (λ yes. has_none runs items same (lt_from_true 0 (length items) (sym c.has_rows.ensures ∙ yes)), λ no. has_room runs items same (none_from_false (length items) (sym c.has_rows.ensures ∙ no)))
+    (λ yes. has_none runs items same (grind (arith, nat_tests, sym c.has_rows.ensures ∙ yes)), λ no. has_room runs items same (grind (arith, nat_tests, sym c.has_rows.ensures ∙ no)))
