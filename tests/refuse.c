@@ -5,6 +5,7 @@
 #include <errno.h>
 #include <fcntl.h>
 #include <stddef.h>
+#include <stdio.h>
 #include <stdlib.h>
 #include <string.h>
 #include <unistd.h>
@@ -16,7 +17,7 @@ static void *(*real_aligned_alloc)(size_t, size_t);
 static int (*real_posix_memalign)(void **, size_t, size_t);
 
 static long count, wanted;
-static char told[4096];
+static char told[4096], counted[4096];
 
 // Of what the loader asks for before it runs this, nothing is refused.
 __attribute__((constructor)) static void begin(void)
@@ -26,18 +27,30 @@ __attribute__((constructor)) static void begin(void)
     real_realloc = dlsym(RTLD_NEXT, "realloc");
     real_aligned_alloc = dlsym(RTLD_NEXT, "aligned_alloc");
     real_posix_memalign = dlsym(RTLD_NEXT, "posix_memalign");
-    const char *number = getenv("REFUSE"), *file = getenv("REFUSED");
+    const char *number = getenv("REFUSE"), *file = getenv("REFUSED"), *sum = getenv("COUNTED");
     if (file)
         strncpy(told, file, sizeof told - 1);
+    if (sum)
+        strncpy(counted, sum, sizeof counted - 1);
     wanted = number ? atol(number) : 0;
     unsetenv("LD_PRELOAD");
     unsetenv("REFUSE");
     unsetenv("REFUSED");
+    unsetenv("COUNTED");
+}
+
+__attribute__((destructor)) static void end(void)
+{
+    int file = *counted ? open(counted, O_CREAT | O_WRONLY | O_TRUNC, 0600) : -1;
+    if (file >= 0) {
+        dprintf(file, "%ld\n", count);
+        close(file);
+    }
 }
 
 static int is_refused(void)
 {
-    if (!wanted || ++count != wanted)
+    if (++count != wanted)
         return 0;
     int file = open(told, O_CREAT | O_WRONLY, 0600);
     if (file >= 0)

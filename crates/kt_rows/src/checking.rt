@@ -7,22 +7,41 @@ use std::io::Eprint;
 use std::rt::{Clock, Files, Runtime};
 use std::{env, fs, io};
 
-/// The first 400 bytes of a text, or all of it if they end within a character.
-fn front(text: &str) -> &str {
-    text.get(..400).unwrap_or(text)
+/// How many bytes of an answer are printed.
+const SHOWN: usize = 1_000;
+
+/// Where the first line begins in which two answers differ.
+fn differing_line(wanted: &[u8], found: &[u8]) -> usize {
+    let mut line = 0usize;
+    for (place, (due, told)) in wanted.iter().zip(found).enumerate() {
+        if *due != *told {
+            break;
+        }
+        if *due == b'\n' {
+            line = place.saturating_add(1);
+        }
+    }
+    line
 }
 
-/// Where a row is, and the fronts of the answer that it wants and of the one that it got.
+/// The front of what an answer has from a place on.
+fn part(alloc: Global, answer: &[u8], from: usize) -> Result<String, RowFault> {
+    let rest = answer.get(from..).unwrap_or(&[]);
+    let part = rest.get(..SHOWN).unwrap_or(rest);
+    Ok(String::from_utf8_lossy(alloc, part)?)
+}
+
+/// Where a row is, with the answers that are due and told from the first line that differs.
 fn mismatch_lines(
     alloc: Global,
     file: &str,
     line: u64,
     wanted: &[u8],
-    found: &str,
+    found: &[u8],
 ) -> Result<String, RowFault> {
-    let wanted = String::from_utf8_lossy(alloc, wanted)?;
-    let wanted = front(wanted.as_str());
-    let found = front(found);
+    let from = differing_line(wanted, found);
+    let wanted = part(alloc, wanted, from)?;
+    let found = part(alloc, found, from)?;
     Ok(format!(in alloc;
         "{file}:{line}: another answer\n  wanted: {wanted:?}\n  got:    {found:?}"
     )?)
@@ -38,10 +57,11 @@ fn mismatch<R: Files<File = File> + Clock + AllocGlobal>(
     let alloc = rt.alloc();
     let wanted = row.wanted(alloc)?;
     let found = answer(rt, subject, row)?;
-    if found.as_bytes() == wanted.as_slice() {
+    let found = found.as_bytes();
+    if found == wanted.as_slice() {
         return Ok(None);
     }
-    Ok(Some(mismatch_lines(alloc, file, row.line, &wanted, &found)?))
+    Ok(Some(mismatch_lines(alloc, file, row.line, &wanted, found)?))
 }
 
 /// Prints why a line of a file has no answer.

@@ -1,4 +1,5 @@
 use crate::row::RowFault;
+use crate::verdicts::shown;
 use kt_base::{Entry, Kind};
 use kt_play::folded;
 use std::alloc::Global;
@@ -24,12 +25,20 @@ pub fn calls(alloc: Global, shown: &str, log: &str) -> Result<String, RowFault> 
     Ok(folded(alloc, &lines)?)
 }
 
-/// How many cases passed.
+/// How many cases passed, and the verdict of the first that didn't.
 pub fn totals(alloc: Global, entries: &[Entry]) -> Result<String, RowFault> {
     let passed = entries
         .iter()
         .filter(|entry| entry.verdict.kind() == Kind::Passed)
         .count();
     let all = entries.len();
-    Ok(format!(in alloc; "{passed} of {all} passed")?)
+    let mut text = format!(in alloc; "{passed} of {all} passed")?;
+    let other = entries
+        .iter()
+        .find(|entry| entry.verdict.kind() != Kind::Passed);
+    if let Some(entry) = other {
+        text.push_str(", ")?;
+        text.push_str(shown(alloc, &entry.verdict)?.as_str())?;
+    }
+    Ok(text)
 }
