@@ -1,21 +1,23 @@
 -- The run that is shown is the chosen one.
-use Rattle.std.specs.Prelude.{Option, Some, None, slice_get, map, ◌-◌}
+use Rattle.std.specs.Prelude.{Option, Some, None, slice_get, map, ◌-◌, ◌==◌}
+use Rattle.std.specs.List.{find}
 use Rattle.std.specs.Option.{option_map}
-use Rattle.std.proofs.Common.{◌≡◌, ℕ, zero, suc, List, length, arith, refl, sym, ap, ◌∙◌, ◌⊎◌, inl, inr}
+use Rattle.std.proofs.Common.{◌≡◌, ℕ, zero, suc, Bool, true, false, cond, List, [], ◌∷◌, length, arith, refl, sym, ap, ◌∙◌, ◌⊎◌, inl, inr}
+use Rattle.std.proofs.lemmas.Bool.Decides.{nat_tests}
 use Rattle.std.proofs.lemmas.Option.{slice_get-map}
 use Rattle.std.proofs.lemmas.List.{length-map}
 use Rattle.kt_base.specs.declared.entry.Entry.{Entry}
 use Rattle.kt_base.specs.declared.run.Run.{Run}
 use Rattle.kt_store.specs.Ask.{IsStoreFault}
-use Rattle.kt_store.specs.Heads.{head_of}
+use Rattle.kt_store.specs.Heads.{head_of, without_outputs}
 use Rattle.kt_store.specs.Runs.{AreNumbered, run_at}
 use Rattle.kt_store.specs.declared.run_head.RunHead.{RunHead}
 use Rattle.kt_store.specs.declared.store_fault.StoreFault.{StoreFault}
 use Rattle.kt_store.specs.declared.store_fault.StoreFault.TheVariants.{NoRun as Absent}
-use Rattle.kt_cli.specs.Reports.{chosen, run_of}
+use Rattle.kt_cli.specs.Reports.{chosen}
 use Rattle.kt_cli.proofs.Numbered.{number_at}
 
-some_is : {X : Type 0} (x y : X) → Some x ≡ Some y → x ≡ y
+pub some_is : {X : Type 0} (x y : X) → Some x ≡ Some y → x ≡ y
 some_is x y e = cc
 
 chosen-map : {X Y : Type 0} (f : X → Y) (number : Option ℕ) (xs : List X) → chosen number (map f xs) ≡ option_map f (chosen number xs)
@@ -39,25 +41,34 @@ head_found number runs heads head e f = by (chosen number runs) (sym (chosen-map
     by None g = absurd (cc)
     by (Some r) g = (r, refl, some_is (head_of r) head g)
 
--- the run of the chosen head, with its entries
-pub run_found : (number : Option ℕ) (runs : List Run) (heads : List RunHead) (head : RunHead) (entries : List Entry) → AreNumbered 1 runs → heads ≡ map head_of runs → chosen number heads ≡ Some head
-    → ((r : Run) × (run_at runs head.number ≡ Some r) × (entries ≡ r.entries)) → chosen number runs ≡ Some (run_of head entries)
-run_found number runs heads head entries h e f there =
+-- the run of the chosen head has its number
+pub run_found : (number : Option ℕ) (runs : List Run) (heads : List RunHead) (head : RunHead) → AreNumbered 1 runs → heads ≡ map head_of runs → chosen number heads ≡ Some head
+    → (r : Run) × (chosen number runs ≡ Some r) × (head_of r ≡ head) × (run_at runs r.number ≡ Some r)
+run_found number runs heads head h e f =
     let c = head_found number runs heads head e f in
-    let r = c.0 in
-    let n : run_at runs head.number ≡ Some r = ap (λ (x : RunHead). run_at runs x.number) (sym c.2) ∙ at_number number runs r h c.1 in
-    let same : there.0 ≡ r = some_is there.0 r (sym there.1 ∙ n) in
-    let es : r.entries ≡ entries = sym (there.2 ∙ ap (λ (x : Run). x.entries) same) in
-    c.1 ∙ ap (λ (x : RunHead). Some (run_of x r.entries)) c.2 ∙ ap (λ (xs : List Entry). Some (run_of head xs)) es
+    (c.0, c.1, c.2, at_number number runs c.0 h c.1)
 
 -- a run that has a head has entries
 pub entries_there : (number : Option ℕ) (runs : List Run) (heads : List RunHead) (head : RunHead) (fault : StoreFault) → AreNumbered 1 runs → heads ≡ map head_of runs → chosen number heads ≡ Some head
     → IsStoreFault fault ⊎ ((fault ≡ Absent) × (run_at runs head.number ≡ None)) → IsStoreFault fault
 entries_there number runs heads head fault h e f (inl s) = s
 entries_there number runs heads head fault h e f (inr s) =
-    let c = head_found number runs heads head e f in
-    let n : run_at runs head.number ≡ Some c.0 = ap (λ (x : RunHead). run_at runs x.number) (sym c.2) ∙ at_number number runs c.0 h c.1 in
+    let c = run_found number runs heads head h e f in
+    let n : run_at runs head.number ≡ Some c.0 = ap (λ (x : RunHead). run_at runs x.number) (sym c.2) ∙ c.3 in
     let z = sym s.1 ∙ n in absurd (cc)
+
+-- an entry of an outline is found in the run by its position
+pub entry_found : (es : List Entry) (k : ℕ) (e : Entry) → slice_get (map without_outputs es) k ≡ Some e → find (λ (d : Entry). d.position == e.position) es ≡ None → ⊥
+entry_found [] k e there none = absurd (cc)
+entry_found (x ∷ es) zero e there none =
+    let same : x.position ≡ e.position = ap (λ (d : Entry). d.position) (some_is (without_outputs x) e there) in
+    let test : (x.position == e.position) ≡ true = grind (arith, nat_tests, same) in
+    let z : Some x ≡ None = rw test at none in absurd (cc)
+entry_found (x ∷ es) (suc k) e there none = by (x.position == e.position) (entry_found es k e there) none
+  where
+    by : (b : Bool) → (find (λ (d : Entry). d.position == e.position) es ≡ None → ⊥) → cond b (Some x) (find (λ (d : Entry). d.position == e.position) es) ≡ None → ⊥
+    by true more n = absurd (cc)
+    by false more n = more n
 
 -- no run is chosen where no head is
 pub not_chosen : (number : Option ℕ) (runs : List Run) (heads : List RunHead) → heads ≡ map head_of runs → chosen number heads ≡ None → chosen number runs ≡ None

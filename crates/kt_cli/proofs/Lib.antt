@@ -4,6 +4,7 @@ pub mod DebugRuns
 pub mod Gainings
 pub mod Hosting
 pub mod JoinedPaths
+pub mod JunitSteps
 pub mod LineBytes
 pub mod MemoryLaws
 pub mod NewRuns

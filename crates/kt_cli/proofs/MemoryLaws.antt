@@ -1,14 +1,18 @@
 -- Runs in memory are looked up and changed.
-use Rattle.std.specs.Prelude.{Option, Some, None, Ok, Err, Bool, true, false, slice_get, nat_lt, insert, if◌then◌else◌}
+use Rattle.std.specs.Prelude.{Option, Some, None, Ok, Err, Bool, true, false, slice_get, nat_lt, insert, map, ◌==◌, if◌then◌else◌}
+use Rattle.std.specs.List.{find}
 use Rattle.std.proofs.Common.{◌≡◌, ℕ, zero, suc, ◌<◌, ◌≤◌, List, [], ◌∷◌, length, arith, refl, sym, ap, ◌∙◌, get_or, set, inl, inr, subst}
 use Rattle.std.proofs.lemmas.List.{set-get_or}
 use Rattle.kt_base.specs.declared.entry.Entry.{Entry}
 use Rattle.kt_base.specs.declared.run.Run.{Run}
 use Rattle.kt_store.specs.declared.store_fault.StoreFault.{StoreFault}
+use Rattle.kt_store.specs.declared.store_fault.StoreFault.TheVariants.{NoRun}
+use Rattle.kt_store.specs.declared.case_outputs.CaseOutputs.{CaseOutputs}
 use Rattle.kt_store.specs.Ask.{IsStoreFault}
+use Rattle.kt_store.specs.Heads.{without_outputs, outputs_of, entry_at}
 use Rattle.kt_store.specs.Runs.{AreNumbered, insert_at, run_at, put_refusal_of, finish_refusal_of}
 use Rattle.kt_store.specs.Serving.{Agrees, Serves, changed_by}
-use Rattle.kt_store.specs.StoreCalls.{StoreCall, Put, Finished}
+use Rattle.kt_store.specs.StoreCalls.{StoreCall, Put, Finished, Outline, Outputs}
 use Rattle.kt_store.proofs.Numbered.{numbers_changed}
 use Rattle.kt_store.proofs.ServeLemmas.{always_outlasts}
 use Rattle.kt_cli.specs.MemoryRuns.{LeavesInMemory, memory_runs}
@@ -57,6 +61,16 @@ module _ (old xs : List Run) (number place : ℕ) (run : Run) (s : xs ≡ old) (
         ∙ entry_placed 1 place number old run e n (f.0 ∙ omega arith) (read_there old place run f.1 (moved xs old place run s r)),
   )
 
+  pub outline_well : (entries : List Entry) → entries ≡ map without_outputs run.entries → ServesInMemory old (Outline number (Ok entries)) old
+  outline_well entries e = ((run, there, e), λ _. refl)
+
+  pub outputs_well : (position : ℕ) (e : Entry) (outputs : CaseOutputs) → Some e ≡ find (λ (x : Entry). x.position == position) run.entries → outputs ≡ outputs_of e
+      → ServesInMemory old (Outputs number position (Ok outputs)) old
+  outputs_well position e outputs at is = ((e, ap (λ (o : Option Run). entry_at o position) there ∙ sym at, is), λ _. refl)
+
+  pub outputs_missing : (position : ℕ) → None ≡ find (λ (x : Entry). x.position == position) run.entries → ServesInMemory old (Outputs number position (Err NoRun)) old
+  outputs_missing position at = (inr (refl, ap (λ (o : Option Run). entry_at o position) there ∙ sym at), λ _. refl)
+
   pub end_refused : (fault : StoreFault) → Some fault ≡ closing_refusal run → ServesInMemory old (Finished number (Err fault)) (set xs place run)
   end_refused fault h = (inr (ap finish_refusal_of there ∙ sym h), λ _. same_list xs old place run s r)
 
@@ -65,6 +79,10 @@ module _ (old xs : List Run) (number place : ℕ) (run : Run) (s : xs ≡ old) (
     ap finish_refusal_of there ∙ sym h,
     λ n. ap (λ (l : List Run). set l place (record run { finished = true })) s ∙ finish_placed 1 place number old run n (f.0 ∙ omega arith) (read_there old place run f.1 (moved xs old place run s r)),
   )
+
+-- no run, no outputs
+pub outputs_unplaced : (runs : List Run) (number position : ℕ) (fault : StoreFault) → FindsPlace runs number (Err fault) → ServesInMemory runs (Outputs number position (Err fault)) runs
+outputs_unplaced runs number position fault f = (inr (f.0, ap (λ (o : Option Run). entry_at o position) f.1), λ _. refl)
 
 -- an entry is inserted at its place
 pub inserted : (e : Entry) (es : List Entry) → insert es (place_among e.position es) e ≡ insert_at e es

@@ -1,5 +1,6 @@
 -- What the calls of a command come to over the runs of a sound store.
-use Rattle.std.specs.Prelude.{Option, Some, None, Ok, Err, Bool, true, false, map}
+use Rattle.std.specs.Prelude.{Option, Some, None, Ok, Err, Bool, true, false, map, slice_get}
+use Rattle.std.specs.List.{AllByRecursion}
 use Rattle.std.proofs.Common.{◌≡◌, ℕ, suc, List, [], ◌∷◌, ◌++◌, length, refl, sym, ap, ◌∙◌, subst, ◌⊎◌, inl, inr}
 use Rattle.kt_base.specs.declared.entry.Entry.{Entry}
 use Rattle.kt_base.specs.declared.run.Run.{Run}
@@ -11,24 +12,26 @@ use Rattle.kt_sched.specs.Plan.{IsPlan}
 use Rattle.kt_sched.specs.RecordOrder.{recorded as record_order}
 use Rattle.kt_sched.specs.Trace.{Trace}
 use Rattle.kt_store.specs.Ask.{IsStoreFault}
-use Rattle.kt_store.specs.Heads.{head_of}
-use Rattle.kt_store.specs.Runs.{AreNumbered, new_run, with_entry, put_refusal, finish_refusal}
-use Rattle.kt_store.specs.StoreCalls.{StoreCall, Began, Put, Finished, Heads, Read}
+use Rattle.kt_store.specs.Heads.{head_of, without_outputs, entry_at}
+use Rattle.kt_store.specs.Runs.{AreNumbered, new_run, run_at, with_entry, put_refusal, finish_refusal}
+use Rattle.kt_store.specs.StoreCalls.{StoreCall, Began, Put, Finished, Heads, Outline, Outputs}
+use Rattle.kt_store.specs.declared.case_outputs.CaseOutputs.{CaseOutputs}
 use Rattle.kt_store.specs.declared.keeping.Keeping as keeping
 use Rattle.kt_store.specs.declared.run_head.RunHead.{RunHead}
+use Rattle.kt_store.specs.declared.store_fault.StoreFault.{StoreFault}
 use Rattle.kt_words.specs.declared.command.Command.{Command}
 use Rattle.kt_words.specs.Commands.{number_of}
 use Rattle.kt_cli.specs.Meaning.{Seen, Means, stopped, listed, tested, debugged, idle, reported, reported_junit, CutShort, no_memory, cut, report_cut, junit_cut}
 use Rattle.kt_cli.specs.Pages.{Printed}
 use Rattle.kt_cli.specs.Recordings.{AllRecorded}
 use Rattle.kt_cli.specs.Inner.Reports.{JunitOrUnread}
-use Rattle.kt_cli.specs.Reports.{chosen, run_of, Reported, told, no_run, ReportedJunit, told as told_junit, no_run as no_junit, Unread, no_heads as unread_heads, no_entries as unread_entries, JunitCut, cut as cut_junit}
-use Rattle.kt_cli.specs.SoundStores.{with_new, Comes, not_called, not_begun as comes_not_begun, begun, not_put as comes_not_put, not_finished as comes_not_finished, finished, no_heads, no_run as comes_no_run, no_entries, shown, Left}
+use Rattle.kt_cli.specs.Reports.{chosen, Reported, told, no_run, ReportedJunit, told as told_junit, no_run as no_junit, Unread, no_heads as unread_heads, no_outline as unread_outline, JunitCut, no_outputs as cut_outputs, no_memory as cut_junit, asked_outputs}
+use Rattle.kt_cli.specs.SoundStores.{with_new, Comes, not_called, not_begun as comes_not_begun, begun, not_put as comes_not_put, not_finished as comes_not_finished, finished, no_heads, no_run as comes_no_run, no_outline, shown, ReadsOutputs, told as told_outputs, failed as failed_outputs, Left}
 use Rattle.kt_cli.specs.Inner.Stores.{put_all}
 use Rattle.kt_store.specs.Serving.{Agrees, changed_by}
 use Rattle.kt_cli.specs.Stores.{puts, beside_by, changed, beside, Agree, Stored}
 use Rattle.kt_cli.specs.Testing.{PlannedRun, run_for, Tested, recorded, TestCut, not_begun, not_run, not_put, not_finished}
-use Rattle.kt_cli.proofs.ChosenRuns.{head_found, run_found, entries_there, not_chosen}
+use Rattle.kt_cli.proofs.ChosenRuns.{some_is, run_found, entries_there, entry_found, not_chosen}
 use Rattle.kt_cli.proofs.NewRuns.{put_new, finish_new, finishes}
 use Rattle.kt_cli.proofs.Numbered.{put_more}
 use Rattle.kt_cli.proofs.Unrepeated.{due_is_taken}
@@ -158,10 +161,59 @@ module _ (number : Option ℕ) (runs : List Run) (h : AreNumbered 1 runs) where
   reading : (calls : List StoreCall) → Comes number runs calls runs (λ may. may) → changed calls runs ≡ runs → ((may : List (List Run)) → beside calls runs may ≡ may) → Coming number runs calls
   reading calls p s b = record { left = runs; others = λ may. may; comes = p; same = s; crash = b }
 
-  shown_coming : (heads : List RunHead) (head : RunHead) (entries : List Entry) → chosen number heads ≡ Some head → Agree runs (Heads (Ok heads) ∷ Read head.number (Ok entries) ∷ []) → Coming number runs (Heads (Ok heads) ∷ Read head.number (Ok entries) ∷ [])
-  shown_coming heads head entries e a =
-      reading (Heads (Ok heads) ∷ Read head.number (Ok entries) ∷ [])
-      (subst (λ (hs : List RunHead). Comes number runs (Heads (Ok hs) ∷ Read head.number (Ok entries) ∷ []) runs (λ may. may)) (sym a.0) (shown (run_of head entries) (run_found number runs heads head entries h a.0 e a.1.0))) refl (λ may. refl)
+  -- calls for the outputs of a run
+  unchanged : (r : Run) (calls : List StoreCall) → AllByRecursion (ReadsOutputs r) calls → (changed calls runs ≡ runs) × ((may : List (List Run)) → beside calls runs may ≡ may)
+  unchanged r [] all = (refl, λ may. refl)
+  unchanged r (call ∷ calls) all = by call all.0 (unchanged r calls all.1)
+    where
+      by : (call : StoreCall) → ReadsOutputs r call → (changed calls runs ≡ runs) × ((may : List (List Run)) → beside calls runs may ≡ may)
+          → (changed (call ∷ calls) runs ≡ runs) × ((may : List (List Run)) → beside (call ∷ calls) runs may ≡ may)
+      by call (told_outputs position e there) more = more
+      by call (failed_outputs position fault failed) more = more
+
+  shown_coming : (heads : List RunHead) (head : RunHead) (outline : List Entry) (calls : ℕ → List StoreCall) → chosen number heads ≡ Some head
+      → Agree runs (Heads (Ok heads) ∷ Outline head.number (Ok outline) ∷ calls head.number)
+      → ((r : Run) → run_at runs r.number ≡ Some r → outline ≡ map without_outputs r.entries → Agree runs (calls r.number) → AllByRecursion (ReadsOutputs r) (calls r.number))
+      → Coming number runs (Heads (Ok heads) ∷ Outline head.number (Ok outline) ∷ calls head.number)
+  shown_coming heads head outline calls e a reads =
+      let c = run_found number runs heads head h a.0 e in
+      let r = c.0 in
+      let n : r.number ≡ head.number = ap (λ (x : RunHead). x.number) c.2 in
+      let same : a.1.0.0 ≡ r = some_is a.1.0.0 r (sym a.1.0.1 ∙ ap (λ (k : ℕ). run_at runs k) (sym n) ∙ c.3) in
+      let is : outline ≡ map without_outputs r.entries = a.1.0.2 ∙ ap (λ (x : Run). map without_outputs x.entries) same in
+      let all = reads r c.3 is (subst (λ (k : ℕ). Agree runs (calls k)) (sym n) a.1.1) in
+      let rest = unchanged r (calls r.number) all in
+      subst (λ (hs : List RunHead). Coming number runs (Heads (Ok hs) ∷ Outline head.number (Ok outline) ∷ calls head.number)) (sym a.0)
+      (subst (λ (k : ℕ). Coming number runs (Heads (Ok (map head_of runs)) ∷ Outline k (Ok outline) ∷ calls k)) n
+      (subst (λ (es : List Entry). Coming number runs (Heads (Ok (map head_of runs)) ∷ Outline r.number (Ok es) ∷ calls r.number)) (sym is)
+      (reading (Heads (Ok (map head_of runs)) ∷ Outline r.number (Ok (map without_outputs r.entries)) ∷ calls r.number) (shown r (calls r.number) c.1 all) rest.0 rest.1)))
+
+  reads_one : (r : Run) → run_at runs r.number ≡ Some r → (position : ℕ) (o : CaseOutputs) → Agrees runs (Outputs r.number position (Ok o)) → ReadsOutputs r (Outputs r.number position (Ok o))
+  reads_one r is position o a =
+      subst (λ (x : CaseOutputs). ReadsOutputs r (Outputs r.number position (Ok x))) (sym a.2) (told_outputs position a.0 (ap (λ (x : Option Run). entry_at x position) (sym is) ∙ a.1))
+
+  reads_outputs : (r : Run) → run_at runs r.number ≡ Some r → (outline : List Entry) (outputs : List CaseOutputs) → Agree runs (asked_outputs r.number outline outputs)
+      → AllByRecursion (ReadsOutputs r) (asked_outputs r.number outline outputs)
+  reads_outputs r is outline [] a = tt
+  reads_outputs r is [] (o ∷ outputs) a = tt
+  reads_outputs r is (e ∷ outline) (o ∷ outputs) a = (reads_one r is e.position o a.0, reads_outputs r is outline outputs a.1)
+
+  reads_last : (r : Run) → run_at runs r.number ≡ Some r → (position : ℕ) (fault : StoreFault) → (entry_at (Some r) position ≡ None → ⊥) → Agree runs (Outputs r.number position (Err fault) ∷ [])
+      → AllByRecursion (ReadsOutputs r) (Outputs r.number position (Err fault) ∷ [])
+  reads_last r is position fault never a =
+      (failed_outputs position fault (only_fault (IsStoreFault fault) _ a.0 (λ none. never (ap (λ (x : Option Run). entry_at x position) (sym is) ∙ none.1))), tt)
+
+  reads_refused : (r : Run) → run_at runs r.number ≡ Some r → (position : ℕ) (fault : StoreFault) → (entry_at (Some r) position ≡ None → ⊥) → (outline : List Entry) (outputs : List CaseOutputs)
+      → Agree runs (asked_outputs r.number outline outputs ++ Outputs r.number position (Err fault) ∷ [])
+      → AllByRecursion (ReadsOutputs r) (asked_outputs r.number outline outputs ++ Outputs r.number position (Err fault) ∷ [])
+  reads_refused r is position fault never outline [] a = reads_last r is position fault never a
+  reads_refused r is position fault never [] (o ∷ outputs) a = reads_last r is position fault never a
+  reads_refused r is position fault never (e ∷ outline) (o ∷ outputs) a = (reads_one r is e.position o a.0, reads_refused r is position fault never outline outputs a.1)
+
+  outline_coming : (heads : List RunHead) (head : RunHead) (outline : List Entry) (outputs : List CaseOutputs) → chosen number heads ≡ Some head
+      → Agree runs (Heads (Ok heads) ∷ Outline head.number (Ok outline) ∷ asked_outputs head.number outline outputs)
+      → Coming number runs (Heads (Ok heads) ∷ Outline head.number (Ok outline) ∷ asked_outputs head.number outline outputs)
+  outline_coming heads head outline outputs e a = shown_coming heads head outline (λ n. asked_outputs n outline outputs) e a (λ r is outline_is asked. reads_outputs r is outline outputs asked)
 
   missing_coming : (heads : List RunHead) → chosen number heads ≡ None → Agree runs (Heads (Ok heads) ∷ []) → Coming number runs (Heads (Ok heads) ∷ [])
   missing_coming heads e a =
@@ -169,23 +221,26 @@ module _ (number : Option ℕ) (runs : List Run) (h : AreNumbered 1 runs) where
 
   unread_coming : (calls : List StoreCall) (bytes : List ℕ) (exit : ℕ) → Unread number calls bytes exit → Agree runs calls → Coming number runs calls
   unread_coming calls bytes exit (unread_heads why) a = reading (Heads (Err why) ∷ []) (no_heads why a.0) refl (λ may. refl)
-  unread_coming calls bytes exit (unread_entries heads head why e) a =
-      let c = head_found number runs heads head a.0 e in
-      reading (Heads (Ok heads) ∷ Read head.number (Err why) ∷ [])
-      (subst (λ (hs : List RunHead). Comes number runs (Heads (Ok hs) ∷ Read head.number (Err why) ∷ []) runs (λ may. may)) (sym a.0)
-      (subst (λ (j : ℕ). Comes number runs (Heads (Ok (map head_of runs)) ∷ Read j (Err why) ∷ []) runs (λ may. may)) (ap (λ (x : RunHead). x.number) c.2)
-      (no_entries c.0 why c.1 (entries_there number runs heads head why h a.0 e a.1.0)))) refl (λ may. refl)
+  unread_coming calls bytes exit (unread_outline heads head why e) a =
+      let c = run_found number runs heads head h a.0 e in
+      reading (Heads (Ok heads) ∷ Outline head.number (Err why) ∷ [])
+      (subst (λ (hs : List RunHead). Comes number runs (Heads (Ok hs) ∷ Outline head.number (Err why) ∷ []) runs (λ may. may)) (sym a.0)
+      (subst (λ (j : ℕ). Comes number runs (Heads (Ok (map head_of runs)) ∷ Outline j (Err why) ∷ []) runs (λ may. may)) (ap (λ (x : RunHead). x.number) c.2)
+      (no_outline c.0 why c.1 (entries_there number runs heads head why h a.0 e a.1.0)))) refl (λ may. refl)
 
   reported_coming : (kinds : List Kind) (verbose : Bool) (calls : List StoreCall) (bytes : List ℕ) (exit : ℕ) → Reported number kinds verbose calls bytes exit → Agree runs calls → Coming number runs calls
-  reported_coming kinds verbose calls bytes exit (told heads head entries date e d) a = shown_coming heads head entries e a
+  reported_coming kinds verbose calls bytes exit (told heads head outline date e d) a = outline_coming heads head outline [] e a
   reported_coming kinds verbose calls bytes exit (no_run heads e) a = missing_coming heads e a
 
   junit_coming : (calls : List StoreCall) (bytes : List ℕ) (exit : ℕ) → ReportedJunit number calls bytes exit → Agree runs calls → Coming number runs calls
-  junit_coming calls bytes exit (told_junit heads head entries e) a = shown_coming heads head entries e a
+  junit_coming calls bytes exit (told_junit heads head outline outputs e all) a = outline_coming heads head outline outputs e a
   junit_coming calls bytes exit (no_junit heads e) a = missing_coming heads e a
 
   junit_cut_coming : (calls : List StoreCall) (bytes : List ℕ) (exit : ℕ) → JunitCut number calls bytes exit → Agree runs calls → Coming number runs calls
-  junit_cut_coming calls bytes exit (cut_junit heads head entries front rest next e s) a = shown_coming heads head entries e a
+  junit_cut_coming calls bytes exit (cut_outputs heads head outline outputs last why e there) a =
+      shown_coming heads head outline (λ n. asked_outputs n outline outputs ++ Outputs n last.position (Err why) ∷ []) e a
+      (λ r is outline_is asked. reads_refused r is last.position why (entry_found r.entries (length outputs) last (ap (λ (es : List Entry). slice_get es (length outputs)) (sym outline_is) ∙ there)) outline outputs asked)
+  junit_cut_coming calls bytes exit (cut_junit heads head outline outputs front rest next e s) a = outline_coming heads head outline outputs e a
 
   junit_or_unread : (calls : List StoreCall) (bytes : List ℕ) (exit : ℕ) → JunitOrUnread number calls bytes exit → Agree runs calls → Coming number runs calls
   junit_or_unread calls bytes exit (inl u) a = unread_coming calls bytes exit u a

@@ -2,7 +2,7 @@
 use Rattle.std.specs.Prelude.{Ok, Err}
 use Rattle.std.proofs.Common.{◌≡◌, List, [], ◌∷◌, ◌++◌, refl, sym, subst}
 use Rattle.kt_base.specs.declared.run.Run.{Run}
-use Rattle.kt_store.specs.StoreCalls.{StoreCall, Began, Put, Finished, Heads, Read}
+use Rattle.kt_store.specs.StoreCalls.{StoreCall, Began, Put, Finished, Heads, Outline, Outputs}
 use Rattle.kt_store.specs.declared.keeping.Keeping as keeping
 use Rattle.kt_base.proofs.Chains.{chain-append}
 use Rattle.kt_store.specs.Serving.{Agrees, Outlasts, Serves, changed_by}
@@ -35,7 +35,8 @@ crash_by Leaves (Put number e (Err fault)) runs may a b h l = h may l
 crash_by Leaves (Finished number (Ok done)) runs may a b h l = h may
 crash_by Leaves (Finished number (Err fault)) runs may a b h l = h may l
 crash_by Leaves (Heads answer) runs may a b h l = h (runs ∷ may) l
-crash_by Leaves (Read number answer) runs may a b h l = h (runs ∷ may) l
+crash_by Leaves (Outline number answer) runs may a b h l = h (runs ∷ may) l
+crash_by Leaves (Outputs number position answer) runs may a b h l = h (runs ∷ may) l
 
 module _ {R : Type 0} (keep : keeping.Ghosts R) where
   -- no call

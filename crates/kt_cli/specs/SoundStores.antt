@@ -1,11 +1,12 @@
 -- What a command does over a sound store: the runs that it leaves, and what a crash may leave.
 use Rattle.std.specs.Prelude.{ℕ, suc, Bool, true, false, List, [], ◌∷◌, ◌++◌, ◌≡◌, ◌<◌, ◌≤◌, ◌⊎◌, Option, Some, None, Ok, Err, length, map}
+use Rattle.std.specs.List.{AllByRecursion}
 use Rattle.kt_base.specs.Limits.{last_run}
 use Rattle.kt_base.specs.declared.entry.Entry.{Entry}
 use Rattle.kt_base.specs.declared.run.Run.{Run}
 use Rattle.kt_store.specs.Ask.{IsStoreFault}
-use Rattle.kt_store.specs.Heads.{head_of}
-use Rattle.kt_store.specs.StoreCalls.{StoreCall, Began, Put, Finished, Heads, Read}
+use Rattle.kt_store.specs.Heads.{head_of, without_outputs, outputs_of, entry_at}
+use Rattle.kt_store.specs.StoreCalls.{StoreCall, Began, Put, Finished, Heads, Outline, Outputs}
 use Rattle.kt_store.specs.declared.keeping.Keeping as keeping
 use Rattle.kt_store.specs.declared.store_fault.StoreFault.{StoreFault}
 use Rattle.kt_store.specs.declared.store_fault.StoreFault.TheVariants.{StoreFull}
@@ -23,6 +24,11 @@ next_number runs = suc (length runs)
 -- the runs with one more, which has these entries
 abbrev pub with_new : List Run → ℕ → ℕ → Bool → List Entry → List Run
 with_new runs moment total finished entries = runs ++ record { number = next_number runs; started = moment; total = total; finished = finished; entries = by_position entries } ∷ []
+
+-- a call for the outputs at a position of this run, which told those of its entry there, or failed
+pub data ReadsOutputs (run' : Run) : StoreCall → Type 0 where
+  told : (position : ℕ) (e : Entry) → entry_at (Some run') position ≡ Some e → ReadsOutputs run' (Outputs run'.number position (Ok (outputs_of e)))
+  failed : (position : ℕ) (fault : StoreFault) → IsStoreFault fault → ReadsOutputs run' (Outputs run'.number position (Err fault))
 
 -- what a command's calls come to over the runs of a sound store: the runs that they leave, and what a crash may leave beside them where it
 -- might leave others before; a call that is refused failed, or was due to be refused, and a crash may leave its change
@@ -43,10 +49,10 @@ pub data Comes (number : Option ℕ) (runs : List Run) : List StoreCall → List
       (with_new runs moment total true entries) (λ may. [])
   no_heads : (fault : StoreFault) → IsStoreFault fault → Comes number runs (Heads (Err fault) ∷ []) runs (λ may. may)
   no_run : chosen number runs ≡ None → Comes number runs (Heads (Ok (map head_of runs)) ∷ []) runs (λ may. may)
-  no_entries : (run' : Run) (fault : StoreFault) → chosen number runs ≡ Some run' → IsStoreFault fault
-      → Comes number runs (Heads (Ok (map head_of runs)) ∷ Read run'.number (Err fault) ∷ []) runs (λ may. may)
-  shown : (run' : Run) → chosen number runs ≡ Some run'
-      → Comes number runs (Heads (Ok (map head_of runs)) ∷ Read run'.number (Ok run'.entries) ∷ []) runs (λ may. may)
+  no_outline : (run' : Run) (fault : StoreFault) → chosen number runs ≡ Some run' → IsStoreFault fault
+      → Comes number runs (Heads (Ok (map head_of runs)) ∷ Outline run'.number (Err fault) ∷ []) runs (λ may. may)
+  shown : (run' : Run) (calls : List StoreCall) → chosen number runs ≡ Some run' → AllByRecursion (ReadsOutputs run') calls
+      → Comes number runs (Heads (Ok (map head_of runs)) ∷ Outline run'.number (Ok (map without_outputs run'.entries)) ∷ calls) runs (λ may. may)
 
 -- what a command leaves: the runs, its bytes, its exit, and what a crash may leave beside the runs, where it might leave others before
 pub record Outcome : Type 0 where

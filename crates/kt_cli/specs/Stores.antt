@@ -4,7 +4,7 @@ use Rattle.kt_base.specs.declared.entry.Entry.{Entry}
 use Rattle.kt_base.specs.declared.run.Run.{Run}
 use Rattle.kt_store.specs.Runs.{new_run, with_entry, insert_at, finish}
 use Rattle.kt_store.specs.Serving.{Agrees, changed_by}
-use Rattle.kt_store.specs.StoreCalls.{StoreCall, Began, Put, Finished, Heads, Read}
+use Rattle.kt_store.specs.StoreCalls.{StoreCall, Began, Put, Finished, Heads, Outline, Outputs}
 use Rattle.kt_store.specs.declared.keeping.Keeping as keeping
 use Rattle.kt_base.specs.Chains.{Chain}
 
@@ -31,7 +31,8 @@ beside_by (Put number e (Err fault)) runs may = with_entry number e runs ∷ may
 beside_by (Finished number (Ok done)) runs may = []
 beside_by (Finished number (Err fault)) runs may = finish number runs ∷ may
 beside_by (Heads answer) runs may = may
-beside_by (Read number answer) runs may = may
+beside_by (Outline number answer) runs may = may
+beside_by (Outputs number position answer) runs may = may
 
 -- ---- the same of calls one after the other
 

@@ -2,7 +2,7 @@
 use Rattle.std.specs.Prelude.{ℕ, List, [], ◌∷◌, ◌≡◌, Option, Some, None, Result, Ok, Err}
 use Rattle.kt_base.specs.declared.entry.Entry.{Entry}
 use Rattle.kt_base.specs.declared.run.Run.{Run}
-use Rattle.kt_store.specs.StoreCalls.{StoreCall, Heads, Read}
+use Rattle.kt_store.specs.StoreCalls.{StoreCall, Heads, Outline}
 use Rattle.kt_store.specs.declared.keeping.Keeping as keeping
 use Rattle.kt_store.specs.declared.run_head.RunHead.{RunHead}
 use Rattle.kt_store.specs.declared.store_fault.StoreFault.{StoreFault}
@@ -24,10 +24,10 @@ IsMissing number heads why = missing_line number heads ≡ not_shown_line why
 
 -- what the store answered to one who looked for the run of a number, and what was found
 pub data FindsRun (number : Option ℕ) : List StoreCall → Result Run NotShown → Type 0 where
-  read : (heads : List RunHead) (head : RunHead) (entries : List Entry) → chosen number heads ≡ Some head → FindsRun number (Heads (Ok heads) ∷ Read head.number (Ok entries) ∷ []) (Ok (run_of head entries))
+  read : (heads : List RunHead) (head : RunHead) (outline : List Entry) → chosen number heads ≡ Some head → FindsRun number (Heads (Ok heads) ∷ Outline head.number (Ok outline) ∷ []) (Ok (run_of head outline))
   missing : (heads : List RunHead) (why : NotShown) → chosen number heads ≡ None → IsMissing number heads why → FindsRun number (Heads (Ok heads) ∷ []) (Err why)
   no_heads : (fault : StoreFault) → FindsRun number (Heads (Err fault) ∷ []) (Err (Refused fault))
-  no_entries : (heads : List RunHead) (head : RunHead) (fault : StoreFault) → chosen number heads ≡ Some head → FindsRun number (Heads (Ok heads) ∷ Read head.number (Err fault) ∷ []) (Err (Refused fault))
+  no_outline : (heads : List RunHead) (head : RunHead) (fault : StoreFault) → chosen number heads ≡ Some head → FindsRun number (Heads (Ok heads) ∷ Outline head.number (Err fault) ∷ []) (Err (Refused fault))
 
 -- the calls on a store by which a run was looked for
 pub record ReadsRun {R : Type 0} (r : keeping.Ghosts R) (number : Option ℕ) (old new : R) (answer : Result Run NotShown) : Type 0 where

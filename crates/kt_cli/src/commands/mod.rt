@@ -2,6 +2,7 @@
 
 pub(crate) mod debugging;
 pub(crate) mod execution;
+pub(crate) mod junit_stop;
 pub(crate) mod listing;
 pub(crate) mod not_shown;
 pub(crate) mod printer;

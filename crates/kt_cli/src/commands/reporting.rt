@@ -1,15 +1,16 @@
 ghost use Rattle.std.specs.Prelude.{◌≡◌, is_err};
 ghost use Rattle.kt_base.specs.Utf8.{utf8};
 ghost use Rattle.kt_base.specs.Shows.{Shows};
-ghost use Rattle.kt_cli.specs.Inner.Reports.{JunitOrUnread, DidReport};
+ghost use Rattle.kt_cli.specs.Inner.Reports.{JunitOrUnread, DidReport, WritesCase, WritesJunit};
 ghost use Rattle.kt_cli.specs.Reports.{chosen, Reported, ReportedJunit, Unread};
 ghost use Rattle.kt_cli.specs.Inner.Shown.{IsMissing, ReadsRun, not_shown_line};
 
+use crate::commands::junit_stop::JunitStop;
 use crate::commands::not_shown::NotShown;
 use crate::messages::fault_line::{write_memory, write_refusal};
 use crate::output::exit::{Exit, FAILED, ended};
-use kt_base::{Decimal, Items, Kind, OutputFault, Run, emit, emit_all};
-use kt_report::{ReportFault, junit, text};
+use kt_base::{Decimal, Entry, Items, Kind, OutputFault, Run, emit, emit_all};
+use kt_report::{ReportFault, junit_case, junit_end, junit_heading, text};
 use kt_store::{ResultStore, RunHead};
 use std::alloc::Global;
 use std::io::Write;
@@ -38,7 +39,7 @@ fn missing(number: Option<u64>, heads: &[RunHead]) -> NotShown
     }
 }
 
-/// The run that is asked for, or else the last one, with its entries.
+/// The run that is asked for, or else the last one, with its entries without their outputs.
 fn read_run<R: ResultStore>(number: Option<u64>, results: &mut R) -> Result<Run, NotShown>
     ensures { ReadsRun R.Keeping number results.old results.new result }
 {
@@ -49,7 +50,7 @@ fn read_run<R: ResultStore>(number: Option<u64>, results: &mut R) -> Result<Run,
     let Some(head) = chosen_head(number, heads.as_slice()) else {
         return Err(missing(number, heads.as_slice()));
     };
-    match results.entries(head.number) {
+    match results.outline(head.number) {
         Ok(entries) => Ok(Run {
             number: head.number,
             started: head.started,
@@ -98,6 +99,41 @@ pub fn report<R: ResultStore, O: Write>(
     }
 }
 
+/// Writes the case of an entry, for whose outputs it asks.
+fn write_case<R: ResultStore, O: Write>(
+    alloc: Global,
+    run: u64,
+    entry: &Entry,
+    results: &mut R,
+    out: &mut O,
+) -> Result<(), JunitStop>
+    ensures { WritesCase R.Keeping results.old results.new (O.contents out.old)
+        (O.contents out.new) run entry.now result }
+{
+    let outputs = results.outputs(run, entry.position)?;
+    junit_case(alloc, entry, &outputs.body, &outputs.cleanup, out)?;
+    Ok(())
+}
+
+/// Writes the JUnit report of a run whose entries have no outputs. At no time it holds the outputs
+/// of more than one entry.
+fn write_junit<R: ResultStore, O: Write>(
+    alloc: Global,
+    run: &Run,
+    results: &mut R,
+    out: &mut O,
+) -> Result<(), JunitStop>
+    ensures { WritesJunit R.Keeping results.old results.new (O.contents out.old)
+        (O.contents out.new) run.now result }
+{
+    junit_heading(run, out)?;
+    for entry in run.entries.as_slice() {
+        write_case(alloc, run.number, entry, results, out)?;
+    }
+    junit_end(out)?;
+    Ok(())
+}
+
 /// The command `report-junit`.
 pub fn report_junit<R: ResultStore, O: Write>(
     alloc: Global,
@@ -112,9 +148,10 @@ pub fn report_junit<R: ResultStore, O: Write>(
         Ok(run) => run,
         Err(why) => return ended(write_not_shown(why, out), FAILED),
     };
-    match junit(alloc, &run, out) {
+    match write_junit(alloc, &run, results, out) {
         Ok(()) => Exit { status: 0 },
-        Err(ReportFault::Output(_)) => Exit { status: FAILED },
-        Err(ReportFault::NoMemory(_)) => ended(write_memory(out), FAILED),
+        Err(JunitStop::Refused(fault)) => ended(write_refusal(fault, out), FAILED),
+        Err(JunitStop::Report(ReportFault::Output(_))) => Exit { status: FAILED },
+        Err(JunitStop::Report(ReportFault::NoMemory(_))) => ended(write_memory(out), FAILED),
     }
 }

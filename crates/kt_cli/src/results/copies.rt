@@ -1,6 +1,9 @@
-ghost use Rattle.std.specs.Prelude.{◌≡◌, IfOk};
+ghost use Rattle.std.specs.Prelude.{◌≡◌, map, IfOk};
+ghost use Rattle.kt_report.specs.Cases.{with_outputs};
+ghost use Rattle.kt_store.specs.Heads.{without_outputs, outputs_of};
 
 use kt_base::{Entry, NoMemory, Output, Text, Verdict};
+use kt_store::{CaseOutputs, no_output};
 use std::alloc::Global;
 
 fn copy_of_verdict(alloc: Global, verdict: &Verdict) -> Result<Verdict, NoMemory>
@@ -20,9 +23,19 @@ fn copy_of_output(output: &Output) -> Result<Output, NoMemory>
     })
 }
 
-/// An equal entry with memory of its own. Its reason is kept as its text.
-pub fn copy_of_entry(alloc: Global, entry: &Entry) -> Result<Entry, NoMemory>
-    ensures { IfOk result (λ copy. copy ≡ entry.now) }
+/// Equal outputs with memory of their own.
+pub fn copy_of_outputs(entry: &Entry) -> Result<CaseOutputs, NoMemory>
+    ensures { IfOk result (λ copy. copy ≡ outputs_of entry.now) }
+{
+    Ok(CaseOutputs {
+        body: copy_of_output(&entry.body)?,
+        cleanup: copy_of_output(&entry.cleanup)?,
+    })
+}
+
+/// A copy of an entry with these outputs. Its reason is kept as its text.
+fn copy_with(alloc: Global, entry: &Entry, body: Output, cleanup: Output) -> Result<Entry, NoMemory>
+    ensures { IfOk result (λ copy. copy ≡ with_outputs entry.now body cleanup) }
 {
     Ok(Entry {
         position: entry.position,
@@ -31,19 +44,34 @@ pub fn copy_of_entry(alloc: Global, entry: &Entry) -> Result<Entry, NoMemory>
         verdict: copy_of_verdict(alloc, &entry.verdict)?,
         started: entry.started,
         millis: entry.millis,
-        body: copy_of_output(&entry.body)?,
-        cleanup: copy_of_output(&entry.cleanup)?,
+        body,
+        cleanup,
         meta: entry.meta.copy()?,
     })
 }
 
-/// Equal entries with memory of their own.
-pub fn copy_of_entries(alloc: Global, entries: &[Entry]) -> Result<Vec<Entry>, NoMemory>
-    ensures { IfOk result (λ copies. copies.items ≡ entries.now) }
+/// An equal entry with memory of its own.
+pub fn copy_of_entry(alloc: Global, entry: &Entry) -> Result<Entry, NoMemory>
+    ensures { IfOk result (λ copy. copy ≡ entry.now) }
+{
+    let outputs = copy_of_outputs(entry)?;
+    copy_with(alloc, entry, outputs.body, outputs.cleanup)
+}
+
+/// A copy of an entry without its outputs.
+fn copy_without_outputs(alloc: Global, entry: &Entry) -> Result<Entry, NoMemory>
+    ensures { IfOk result (λ copy. copy ≡ without_outputs entry.now) }
+{
+    copy_with(alloc, entry, no_output(alloc), no_output(alloc))
+}
+
+/// Copies of entries without their outputs.
+pub fn copies_without_outputs(alloc: Global, entries: &[Entry]) -> Result<Vec<Entry>, NoMemory>
+    ensures { IfOk result (λ copies. copies.items ≡ map without_outputs entries.now) }
 {
     let mut copies = Vec::new(alloc);
     for entry in entries {
-        copies.push(copy_of_entry(alloc, entry)?)?;
+        copies.push(copy_without_outputs(alloc, entry)?)?;
     }
     Ok(copies)
 }

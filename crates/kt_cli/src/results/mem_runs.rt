@@ -1,6 +1,6 @@
-use crate::results::copies::{copy_of_entries, copy_of_entry};
+use crate::results::copies::{copies_without_outputs, copy_of_entry, copy_of_outputs};
 use kt_base::{Entry, Items, NoMemory, Run};
-use kt_store::{Keeping, ResultStore, RunHead, StoreFault};
+use kt_store::{CaseOutputs, Keeping, ResultStore, RunHead, StoreFault};
 use std::alloc::Global;
 use std::marker::Model;
 use std::mem;
@@ -26,8 +26,9 @@ impl Model for MemRuns {
 }
 
 impl MemRuns {
-    ghost use Rattle.std.specs.Prelude.{◌≡◌, []};
-    ghost use Rattle.kt_store.specs.StoreCalls.{Began, Put, Finished, Heads, Read, seen_as};
+    ghost use Rattle.std.specs.Prelude.{◌≡◌, [], IfErr};
+    ghost use Rattle.kt_store.specs.Ask.{IsStoreFault};
+    ghost use Rattle.kt_store.specs.StoreCalls.{Began, Put, Finished, Heads, Outline, Outputs, seen_as};
     ghost use Rattle.kt_cli.specs.Inner.MemoryRuns.{FindsPlace, ServesInMemory};
 
     /// No runs, which take no memory.
@@ -98,19 +99,34 @@ impl MemRuns {
         Ok(())
     }
 
-    fn entries_of(&self, number: u64) -> Result<Vec<Entry>, StoreFault>
-        ensures { ServesInMemory self.now (Read number (seen_as (λ found. found.items) result))
+    fn outline_of(&self, number: u64) -> Result<Vec<Entry>, StoreFault>
+        ensures { ServesInMemory self.now (Outline number (seen_as (λ found. found.items) result))
             self.now }
     {
         let place = self.place(number)?;
-        match copy_of_entries(self.alloc, self.runs[place].entries.as_slice()) {
+        match copies_without_outputs(self.alloc, self.runs[place].entries.as_slice()) {
             Ok(entries) => Ok(entries),
             Err(refusal) => Err(short(refusal)),
         }
     }
 
+    fn outputs_at(&self, number: u64, position: u32) -> Result<CaseOutputs, StoreFault>
+        ensures { ServesInMemory self.now (Outputs number position result) self.now }
+    {
+        let place = self.place(number)?;
+        let Some(entry) = entry_at(self.runs[place].entries.as_slice(), position) else {
+            return Err(StoreFault::NoRun);
+        };
+        match copy_of_outputs(entry) {
+            Ok(outputs) => Ok(outputs),
+            Err(refusal) => Err(short(refusal)),
+        }
+    }
+
     fn heads(&self) -> Result<Vec<RunHead>, StoreFault>
-        ensures { ServesInMemory self.now (Heads (seen_as (λ heads. heads.items) result)) self.now }
+        ensures served { ServesInMemory self.now
+            (Heads (seen_as (λ heads. heads.items) result)) self.now }
+        ensures failed { IfErr result IsStoreFault }
     {
         match heads(self.alloc, &self.runs) {
             Ok(heads) => Ok(heads),
@@ -153,12 +169,19 @@ impl ResultStore for MemRuns {
         self.heads()
     }
 
-    fn entries(&mut self, run: u64) -> Result<Vec<Entry>, StoreFault> {
-        self.entries_of(run)
+    fn outline(&mut self, run: u64) -> Result<Vec<Entry>, StoreFault> {
+        self.outline_of(run)
+    }
+
+    fn outputs(&mut self, run: u64, position: u32) -> Result<CaseOutputs, StoreFault> {
+        self.outputs_at(run, position)
     }
 }
 
-ghost use Rattle.std.specs.Prelude.{◌≡◌, ◌≤◌, length, map, insert, OnOk, OnErr, IfOk};
+ghost use Rattle.std.specs.Prelude.{◌≡◌, ◌≤◌, ◌==◌, length, map, insert, OnOk, OnErr, IfOk};
+ghost use Rattle.std.specs.List.{find};
+ghost use Rattle.std.specs.Option.{option_copied};
+ghost use Rattle.kt_base.specs.declared.entry.Entry.{Entry as Recorded};
 ghost use Rattle.kt_store.specs.Ask.{IsStoreFault};
 ghost use Rattle.kt_store.specs.Heads.{head_of};
 ghost use Rattle.kt_store.specs.Runs.{has_position, insert_at};
@@ -227,6 +250,14 @@ fn add_copy(alloc: Global, entries: &mut Items<Entry>, entry: &Entry) -> Result<
     let copy = copy_of_entry(alloc, entry)?;
     insert_entry(alloc, entries, copy)?;
     Ok(())
+}
+
+/// The first entry at this position.
+fn entry_at(entries: &[Entry], position: u32) -> Option<&Entry>
+    ensures { option_copied result
+        ≡ find (λ (e : Recorded). e.position == position) entries.now }
+{
+    entries.iter().find(|x| x.position == position)
 }
 
 fn has_position(entries: &[Entry], position: u32) -> bool

@@ -1,16 +1,25 @@
-use Rattle.std.specs.Prelude.{true, false}
 use Rattle.std.proofs.Common.{refl}
-use Rattle.kt_cli.proofs.ShownRuns.{did_tell_junit, did_not_tell_junit, did_cut}
+use Rattle.kt_cli.proofs.JunitSteps.{stopped_as}
+use Rattle.kt_cli.proofs.ShownRuns.{did_tell_junit, did_not_tell_junit, did_refuse, did_cut, did_stop}
 use Rattle.kt_cli.proofs.commands.reporting.report_junit.Goals as goal
 
 pub returns-in-Err : goal.returns-in-Err
 returns-in-Err g c = did_not_tell_junit g.R.Keeping c.args.number _ _ _ _ _ c.in-Err.why _ c.in-Err.ensures c.write_not_shown.ensures c.ended.ensures
 
-pub returns-in-Ok-junit : goal.returns-in-Ok-junit
-returns-in-Ok-junit g c = did_tell_junit g.R.Keeping c.args.number _ _ _ _ _ c.in-Ok.run' false c.in-Ok.ensures c.in-Ok-junit.ensures refl
+pub returns-in-Ok-write_junit : goal.returns-in-Ok-write_junit
+returns-in-Ok-write_junit g c = did_tell_junit g.R.Keeping c.args.number _ _ _ _ _ _ c.in-Ok.run' c.in-Ok.ensures c.in-Ok-write_junit.ensures refl
 
-pub returns-in-Err-Output : goal.returns-in-Err-Output
-returns-in-Err-Output g c = did_tell_junit g.R.Keeping c.args.number _ _ _ _ _ c.in-Ok.run' true c.in-Ok.ensures c.in-Err-Output.ensures refl
+pub returns-in-Err-Refused : goal.returns-in-Err-Refused
+returns-in-Err-Refused g c =
+    did_refuse g.R.Keeping c.args.number _ _ _ _ _ _ c.in-Ok.run' _ _ c.in-Err-Refused.fault c.in-Ok.ensures
+    (stopped_as g.R.Keeping c.read_run.new.results c.write_junit.new.results (g.O.Write.contents c.args.out.now) (g.O.Write.contents c.write_junit.new.out) c.in-Ok.run' _ _ c.in-Err-Refused.field-0-is c.in-Err-Refused.ensures) c.write_refusal.ensures c.ended-in-Err-Refused.ensures
+
+pub returns-in-Err-Report-Output : goal.returns-in-Err-Report-Output
+returns-in-Err-Report-Output g c =
+    did_stop g.R.Keeping c.args.number _ _ _ _ _ _ c.in-Ok.run' _ c.in-Ok.ensures
+    (stopped_as g.R.Keeping c.read_run.new.results c.write_junit.new.results (g.O.Write.contents c.args.out.now) (g.O.Write.contents c.write_junit.new.out) c.in-Ok.run' _ _ c.in-Err-Report-Output.field-0-is c.in-Err-Report-Output.ensures) refl refl
 
 pub returns : goal.returns
-returns g c = did_cut g.R.Keeping c.args.number _ _ _ _ _ c.in-Ok.run' _ _ c.in-Ok.ensures c.in-Err-NoMemory.ensures c.write_memory.ensures c.ended-in-Err-NoMemory.ensures
+returns g c =
+    did_cut g.R.Keeping c.args.number _ _ _ _ _ _ c.in-Ok.run' _ c.in-Ok.ensures
+    (stopped_as g.R.Keeping c.read_run.new.results c.write_junit.new.results (g.O.Write.contents c.args.out.now) (g.O.Write.contents c.write_junit.new.out) c.in-Ok.run' _ _ c.in-Err-Report-NoMemory.field-0-is c.in-Err-Report-NoMemory.ensures) _ c.write_memory.ensures c.ended-in-Err-Report-NoMemory.ensures

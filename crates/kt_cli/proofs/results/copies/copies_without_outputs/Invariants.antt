@@ -1,6 +1,8 @@
-use Rattle.std.proofs.Common.{◌≡◌, take}
-use Rattle.kt_cli.proofs.results.copies.copy_of_entries.Given as goal
+use Rattle.std.specs.Prelude.{map}
+use Rattle.std.proofs.Common.{◌≡◌, ◌++◌, drop}
+use Rattle.kt_store.specs.Heads.{without_outputs}
+use Rattle.kt_cli.proofs.results.copies.copies_without_outputs.Given as goal
 
--- the entries so far were copied
+-- the copies of the rest go behind those so far
 abbrev pub invariant-loop-entry : goal.invariant-loop-entry
-invariant-loop-entry l = l.copies.items ≡ take l.entry-index l.entries
+invariant-loop-entry l = map without_outputs l.entries ≡ l.copies.items ++ map without_outputs (drop l.entry-index l.entries)

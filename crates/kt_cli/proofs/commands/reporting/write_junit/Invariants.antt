@@ -1,0 +1,6 @@
+use Rattle.kt_cli.specs.Inner.Reports.{WritesFirst}
+use Rattle.kt_cli.proofs.commands.reporting.write_junit.Given as goal
+
+-- the cases so far were written
+abbrev pub invariant-loop-entry : goal.invariant-loop-entry
+invariant-loop-entry g l = WritesFirst g.R.Keeping l.fn.results l.results (g.O.Write.contents l.fn.out) (g.O.Write.contents l.out) l.fn.run l.entry-index
