@@ -1,4 +1,4 @@
-use crate::lines::{name_of, push_line};
+use crate::lines::{name_of, owned, push_line};
 use crate::recorded::{content_at, is_content};
 use crate::row::{Entry, Row, RowFault};
 use crate::store_calls::call;
@@ -38,7 +38,7 @@ fn attach<S: Alter + Drop>(
 
 fn attached_text(alloc: Global, fault: Option<StoreFault>) -> Result<String, RowFault> {
     match fault {
-        None => Ok(String::from_str(alloc, "attached")?),
+        None => owned(alloc, "attached"),
         Some(fault) => name_of(alloc, &fault),
     }
 }
