@@ -1,7 +1,8 @@
 use crate::escapes::text_of;
-use crate::lines::{pair_of, push_line, push_pair};
+use crate::lines::{owned, pair_of, push_line, push_pair};
 use crate::numbers::append_numbered;
 use crate::row::{Entry, Row, RowFault};
+use kt_base::Text;
 use kt_config::{Config, SuiteVariables};
 use std::alloc::Global;
 
@@ -27,9 +28,24 @@ fn all_variables(alloc: Global, variables: &SuiteVariables) -> Result<String, Ro
 /// The answer to `suite NAME`, or to `count NAME`.
 fn suite_line(alloc: Global, config: &Config, word: &str, suite: &str) -> Result<String, RowFault> {
     match config.suite_vars(&text_of(alloc, suite)?) {
-        None => Ok(String::from_str(alloc, "none")?),
+        None => owned(alloc, "none"),
         Some(variables) if word == "count" => Ok(variables.copy()?.len().to_string(alloc)?),
         Some(variables) => all_variables(alloc, variables),
+    }
+}
+
+/// The value of a variable among those of a suite.
+fn value_in(
+    alloc: Global,
+    variables: Option<&SuiteVariables>,
+    name: &Text,
+) -> Result<String, RowFault> {
+    match variables {
+        None => owned(alloc, "no suite"),
+        Some(variables) => match variables.get(name) {
+            Some(value) if variables.is_defined(name) => owned(alloc, value.as_str()),
+            _ => owned(alloc, "no variable"),
+        },
     }
 }
 
@@ -39,20 +55,14 @@ fn value_line(alloc: Global, config: &Config, text: &str) -> Result<String, RowF
         return Err(RowFault::Misspelled("no suite and name"));
     };
     let name = text_of(alloc, name)?;
-    let Some(variables) = config.suite_vars(&text_of(alloc, suite)?) else {
-        return Ok(String::from_str(alloc, "no suite")?);
-    };
-    match variables.get(&name) {
-        Some(value) if variables.is_defined(&name) => Ok(String::from_str(alloc, value.as_str())?),
-        _ => Ok(String::from_str(alloc, "no variable")?),
-    }
+    value_in(alloc, config.suite_vars(&text_of(alloc, suite)?), &name)
 }
 
 /// The answer to `set NAME=VALUE`.
 fn set_line(alloc: Global, config: &mut Config, text: &str) -> Result<String, RowFault> {
     let pair = pair_of(alloc, text)?;
     match config.set(&pair.name, &pair.value) {
-        Ok(()) => Ok(String::from_str(alloc, "set")?),
+        Ok(()) => owned(alloc, "set"),
         Err(fault) => Ok(fault.to_string(alloc)?),
     }
 }
@@ -61,8 +71,8 @@ fn set_line(alloc: Global, config: &mut Config, text: &str) -> Result<String, Ro
 fn own_line(alloc: Global, config: &Config, word: &str) -> Result<String, RowFault> {
     match word {
         "parallelism" => Ok(config.parallelism().to_string(alloc)?),
-        "architecture" => Ok(String::from_str(alloc, config.architecture())?),
-        "platform" => Ok(String::from_str(alloc, config.platform())?),
+        "architecture" => owned(alloc, config.architecture()),
+        "platform" => owned(alloc, config.platform()),
         _ => Err(RowFault::Misspelled("no such word")),
     }
 }
@@ -80,10 +90,10 @@ fn line(alloc: Global, config: &mut Config, entry: &Entry<'_>) -> Result<Option<
 }
 
 /// The answers to the lines of a row, in their order.
-fn lines(alloc: Global, mut config: Config, row: &Row<'_>) -> Result<String, RowFault> {
+fn lines(alloc: Global, config: &mut Config, row: &Row<'_>) -> Result<String, RowFault> {
     let mut out = String::new(alloc);
     for entry in row.entries.as_slice() {
-        if let Some(told) = line(alloc, &mut config, entry)? {
+        if let Some(told) = line(alloc, config, entry)? {
             push_line(&mut out, told.as_str())?;
         }
     }
@@ -93,10 +103,10 @@ fn lines(alloc: Global, mut config: Config, row: &Row<'_>) -> Result<String, Row
 /// The answers of a configuration, or why its file is refused. A row without `file` begins with a new configuration.
 pub fn answer(alloc: Global, row: &Row<'_>) -> Result<String, RowFault> {
     if row.text("file").is_none() {
-        return lines(alloc, Config::new(alloc), row);
+        return lines(alloc, &mut Config::new(alloc), row);
     }
     match Config::read(alloc, &file_of(alloc, row)?) {
-        Ok(config) => lines(alloc, config, row),
+        Ok(mut config) => lines(alloc, &mut config, row),
         Err(fault) => Ok(fault.to_string(alloc)?),
     }
 }

@@ -1,7 +1,7 @@
 //! Each call of a run failing in turn.
 
 use crate::entry_texts::{entries_text, marks};
-use crate::lines::push_line;
+use crate::lines::{owned, push_line};
 use crate::row::{Row, RowFault};
 use crate::system_runs::{Ran, run_plan};
 use kt_base::Entry;
@@ -15,7 +15,7 @@ const LIMIT: u32 = 10_000;
 fn marks_at(alloc: Global, entries: &[Entry], position: u32) -> Result<String, RowFault> {
     match entries.iter().find(|entry| entry.position == position) {
         Some(entry) => marks(alloc, entry),
-        None => Ok(String::from_str(alloc, "no entry")?),
+        None => owned(alloc, "no entry"),
     }
 }
 

@@ -1,5 +1,5 @@
 use crate::escapes::text_of;
-use crate::lines::push_line;
+use crate::lines::{owned, push_line};
 use crate::numbers::numbered;
 use crate::row::{Entry, Row, RowFault};
 use kt_suite::{Filter, FilterFault, Item, Selection, check_disjoint, select};
@@ -36,7 +36,7 @@ fn filter_of(alloc: Global, raw: &str) -> Result<Filter, RowFault> {
 fn shown(alloc: Global, filter: &Filter) -> Result<String, RowFault> {
     let program = filter.program.as_str();
     match &filter.case_name {
-        None => Ok(String::from_str(alloc, program)?),
+        None => owned(alloc, program),
         Some(case_name) => {
             let case_name = case_name.as_str();
             Ok(format!(in alloc; "{program}, case {case_name}")?)
@@ -128,7 +128,7 @@ impl Example {
 
     fn disjoint_line(&self) -> Result<String, RowFault> {
         match check_disjoint(&self.filters) {
-            Ok(()) => Ok(String::from_str(self.alloc, "disjoint")?),
+            Ok(()) => owned(self.alloc, "disjoint"),
             Err(FilterFault::Repeated(place)) => Ok(format!(in self.alloc; "repeated at {place}")?),
             Err(FilterFault::NotDisjoint(place)) => Ok(format!(in self.alloc;
                 "not disjoint at {place}"

@@ -13,11 +13,16 @@ pub fn push_line(out: &mut String, line: &str) -> Result<(), NoMemory> {
     Ok(())
 }
 
+/// A copy of a text. It is for arms of a `match`: each `?` there makes the proof longer.
+pub fn owned(alloc: Global, text: &str) -> Result<String, RowFault> {
+    Ok(String::from_str(alloc, text)?)
+}
+
 /// The name of a value's variant, without what it holds.
 pub fn name_of<T: Debug>(alloc: Global, value: &T) -> Result<String, RowFault> {
     let text = format!(in alloc; "{value:?}")?;
     let (name, _) = text.as_str().split_once('(').unwrap_or((text.as_str(), ""));
-    Ok(String::from_str(alloc, name)?)
+    owned(alloc, name)
 }
 
 /// `NAME=VALUE`, cut at the first `=`.

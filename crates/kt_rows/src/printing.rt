@@ -1,3 +1,4 @@
+use crate::lines::owned;
 use crate::row::RowFault;
 use kt_base::{Entry, Kind, NoMemory, Run, Verdict, emit, emit_number, emit_wide_number};
 use kt_cli::Exit;
@@ -116,7 +117,7 @@ pub fn printed_text(alloc: Global, printed: Printed<'_>) -> Result<String, RowFa
     let text = out.kept()?;
     for at_most in [usize::MAX, 7, 1] {
         if let Some(what) = wrong_where_slow(alloc, printed, at_most, text)? {
-            return Ok(String::from_str(alloc, what)?);
+            return owned(alloc, what);
         }
     }
     Ok(String::from_utf8_lossy(alloc, text)?)

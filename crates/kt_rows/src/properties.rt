@@ -1,5 +1,5 @@
 use crate::escapes::text_of;
-use crate::lines::{pair_of, push_line};
+use crate::lines::{owned, pair_of, push_line};
 use crate::numbers::{number, numbered};
 use crate::row::{Entry, Row, RowFault};
 use crate::verdicts::reason_text;
@@ -48,7 +48,7 @@ fn set_variable(alloc: Global, config: &mut Config, raw: &str) -> Result<(), Row
 
 fn reason_line(alloc: Global, reason: Option<Reason>) -> Result<String, RowFault> {
     match reason {
-        None => Ok(String::from_str(alloc, "met")?),
+        None => owned(alloc, "met"),
         Some(reason) => reason_text(alloc, reason),
     }
 }
@@ -57,13 +57,13 @@ fn reason_line(alloc: Global, reason: Option<Reason>) -> Result<String, RowFault
 fn key_line(alloc: Global, raw: &str) -> Result<String, RowFault> {
     match property_of_key(alloc, &text_of(alloc, raw)?)? {
         Some(name) => Ok(name.into_string()),
-        None => Ok(String::from_str(alloc, "unknown")?),
+        None => owned(alloc, "unknown"),
     }
 }
 
 fn kyuafile_line(alloc: Global, raw: &str) -> Result<String, RowFault> {
     let may = is_kyuafile_property(&text_of(alloc, raw)?);
-    Ok(String::from_str(alloc, if may { "yes" } else { "no" })?)
+    owned(alloc, if may { "yes" } else { "no" })
 }
 
 /// Adds a name to those that the host has.
@@ -102,8 +102,8 @@ impl Example {
         let props = self.overlaid()?;
         let name = text_of(self.alloc, raw)?;
         match props.get(&name) {
-            Some(value) => Ok(String::from_str(self.alloc, value.as_str())?),
-            None => Ok(String::from_str(self.alloc, "-")?),
+            Some(value) => owned(self.alloc, value.as_str()),
+            None => owned(self.alloc, "-"),
         }
     }
 
@@ -119,10 +119,10 @@ impl Example {
     fn shown(&self, name: &str) -> Result<String, RowFault> {
         for pair in self.listing()?.as_slice() {
             if pair.name.as_str() == name {
-                return Ok(String::from_str(self.alloc, pair.value.as_str())?);
+                return owned(self.alloc, pair.value.as_str());
             }
         }
-        Ok(String::from_str(self.alloc, "-")?)
+        owned(self.alloc, "-")
     }
 
     /// The pairs that are listed, as a report has them, a line each.

@@ -1,3 +1,4 @@
+use crate::lines::owned;
 use crate::printing::{Printed, printed_text, writer};
 use crate::recorded::{kinds_of, run_of};
 use crate::row::{Row, RowFault};
@@ -31,7 +32,7 @@ fn moment_text(alloc: Global, run: &Run) -> Result<String, RowFault> {
     let rest = report.as_str().split_once("started ");
     let moment = rest.and_then(|(_, rest)| rest.split_once('\n'));
     match moment {
-        Some((moment, _)) => Ok(String::from_str(alloc, moment)?),
+        Some((moment, _)) => owned(alloc, moment),
         None => Ok(report),
     }
 }

@@ -1,5 +1,5 @@
 use crate::command_words::push_command;
-use crate::lines::name_of;
+use crate::lines::{name_of, owned};
 use crate::numbers::{count, number};
 use crate::printing::ended_text;
 use crate::recorded::storable_entry;
@@ -14,7 +14,7 @@ use std::alloc::Global;
 /// What a call answers that has nothing to tell.
 fn plain_text(alloc: Global, answer: Result<(), StoreFault>) -> Result<String, RowFault> {
     match answer {
-        Ok(()) => Ok(String::from_str(alloc, "done")?),
+        Ok(()) => owned(alloc, "done"),
         Err(fault) => name_of(alloc, &fault),
     }
 }
@@ -56,7 +56,7 @@ fn put<R: ResultStore>(
             return name_of(alloc, &fault);
         }
     }
-    Ok(String::from_str(alloc, "done")?)
+    owned(alloc, "done")
 }
 
 /// How many runs there are.

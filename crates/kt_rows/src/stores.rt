@@ -1,9 +1,9 @@
-use crate::lines::{name_of, push_line};
+use crate::lines::{name_of, owned, push_line};
 use crate::recorded::{content_at, is_content};
 use crate::row::{Entry, Row, RowFault};
 use crate::store_calls::call;
 use kt_cli::MemRuns;
-use kt_store::{Results, StoreFault};
+use kt_store::{ResultStore, Results, StoreFault};
 use sqlite::{Alter, Connection};
 use std::alloc::Global;
 
@@ -38,9 +38,31 @@ fn attach<S: Alter + Drop>(
 
 fn attached_text(alloc: Global, fault: Option<StoreFault>) -> Result<String, RowFault> {
     match fault {
-        None => Ok(String::from_str(alloc, "attached")?),
+        None => owned(alloc, "attached"),
         Some(fault) => name_of(alloc, &fault),
     }
+}
+
+/// Appends whether the tables were taken.
+fn push_attached(
+    alloc: Global,
+    out: &mut String,
+    fault: Option<StoreFault>,
+) -> Result<(), RowFault> {
+    push_line(out, attached_text(alloc, fault)?.as_str())?;
+    Ok(())
+}
+
+/// Appends what a call answers.
+fn push_call<R: ResultStore>(
+    alloc: Global,
+    results: &mut R,
+    line: &Entry<'_>,
+    content: &[Entry<'_>],
+    out: &mut String,
+) -> Result<(), RowFault> {
+    push_line(out, call(alloc, results, line, content)?.as_str())?;
+    Ok(())
 }
 
 /// Runs a statement.
@@ -63,19 +85,17 @@ fn step<S: Alter + Drop>(
     match line.word {
         "attach" => {
             let (database, fault) = attach(alloc, detached(database))?;
-            push_line(out, attached_text(alloc, fault)?.as_str())?;
+            push_attached(alloc, out, fault)?;
             Ok(database)
         }
         "sql" => {
-            let database = run_sql(detached(database), line.text)?;
             push_line(out, "done")?;
-            Ok(database)
+            run_sql(detached(database), line.text)
         }
         _ => match database {
             Database::Open(_) => Err(RowFault::Misspelled("no tables were taken")),
             Database::Attached(mut results) => {
-                let answer = call(alloc, &mut results, line, content)?;
-                push_line(out, answer.as_str())?;
+                push_call(alloc, &mut results, line, content, out)?;
                 Ok(Database::Attached(results))
             }
         },
@@ -104,8 +124,13 @@ fn over_memory(alloc: Global, lines: &[Entry<'_>]) -> Result<String, RowFault> {
     let mut out = String::new(alloc);
     for (place, line) in lines.iter().enumerate() {
         if !is_content(line) && line.word != "memory" {
-            let answer = call(alloc, &mut results, line, content_at(lines, place))?;
-            push_line(&mut out, answer.as_str())?;
+            push_call(
+                alloc,
+                &mut results,
+                line,
+                content_at(lines, place),
+                &mut out,
+            )?;
         }
     }
     Ok(out)

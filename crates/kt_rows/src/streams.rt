@@ -1,7 +1,7 @@
 //! The claims of result files and the results of TAP streams, read whole and in pieces.
 
 use crate::escapes::unescaped;
-use crate::lines::name_of;
+use crate::lines::{name_of, owned};
 use crate::row::{Row, RowFault};
 use kt_base::NoMemory;
 use kt_claim::{Claim, ClaimReader, Tap, TapReader, read_claim, read_tap};
@@ -77,7 +77,7 @@ fn claim_text(alloc: Global, claim: &Claim) -> Result<String, RowFault> {
 fn tap_text(alloc: Global, tap: &Tap) -> Result<String, RowFault> {
     match tap {
         Tap::Invalid(fault) => Ok(format!(in alloc; "invalid: {fault:?}")?),
-        Tap::BailedOut => Ok(String::from_str(alloc, "bailed out")?),
+        Tap::BailedOut => owned(alloc, "bailed out"),
         Tap::SkipAll(reason) => {
             let reason = reason.as_str();
             Ok(format!(in alloc; "skipped: {reason}")?)

@@ -1,6 +1,6 @@
 //! The list of a program, asked of a driver of its own.
 
-use crate::lines::{name_of, pairs_of, push_line};
+use crate::lines::{name_of, owned, pairs_of, push_line};
 use crate::row::{Row, RowFault};
 use crate::system_texts::calls;
 use kt_atflist::{ListBytes, Listing};
@@ -43,7 +43,7 @@ fn asked_for_list<O: Os + Drop>(
 /// How a list ended, and how long it is or why it isn't read; or why it was refused.
 fn listing_text(alloc: Global, listing: &Option<Listing>) -> Result<String, RowFault> {
     match listing {
-        None => Ok(String::from_str(alloc, "no driver")?),
+        None => owned(alloc, "no driver"),
         Some(Listing::Refused(cause)) => Ok(format!(in alloc; "Refused({cause:?})")?),
         Some(Listing::Ended(outcome, ListBytes::Read(bytes))) => {
             let length = bytes.len();

@@ -1,6 +1,6 @@
 use crate::entry_texts::entries_text;
 use crate::failures::each_failing;
-use crate::lines::push_line;
+use crate::lines::{owned, push_line};
 use crate::row::{Row, RowFault};
 use crate::scenes::scene_of;
 use crate::system_runs::{Ran, run_plan};
@@ -13,7 +13,7 @@ use std::alloc::Global;
 fn shown_by(alloc: Global, word: &str, run: &Ran<'_>) -> Result<String, RowFault> {
     match word {
         "calls" | "words" | "watching" => calls(alloc, word, run.os.log()?),
-        "spawns" => Ok(String::from_str(alloc, run.os.spawned().trim())?),
+        "spawns" => owned(alloc, run.os.spawned().trim()),
         "spawned" => {
             let count = run.os.spawned().lines().count();
             Ok(format!(in alloc; "{count} spawned")?)

@@ -1,4 +1,5 @@
 use crate::command_words::words_of;
+use crate::lines::owned;
 use crate::numbers::number;
 use crate::row::{Row, RowFault};
 use kt_base::{Kind, Text};
@@ -105,9 +106,9 @@ fn command_text(alloc: Global, command: &Command) -> Result<String, RowFault> {
 fn fault_text(alloc: Global, fault: &CommandFault) -> Result<String, RowFault> {
     match fault {
         CommandFault::Usage(text) if text.as_str().is_empty() => {
-            Ok(String::from_str(alloc, "usage without a text")?)
+            owned(alloc, "usage without a text")
         }
-        CommandFault::Usage(_) => Ok(String::from_str(alloc, "usage")?),
+        CommandFault::Usage(_) => owned(alloc, "usage"),
         _ => Ok(fault.to_string(alloc)?),
     }
 }
