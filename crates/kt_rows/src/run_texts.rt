@@ -4,7 +4,7 @@ use crate::entry_texts::{entries_text, shown};
 use crate::lines::{name_of, push_line};
 use crate::row::RowFault;
 use kt_base::Entry;
-use kt_store::{ResultStore, RunHead};
+use kt_store::{ResultStore, RunHead, entries};
 use std::alloc::Global;
 
 /// The last line of a run that isn't finished.
@@ -46,7 +46,7 @@ pub fn runs_text<R: ResultStore>(
     };
     let mut text = String::new(alloc);
     for head in heads.as_slice() {
-        let line = match results.entries(head.number) {
+        let line = match results.outline(head.number) {
             Ok(entries) => run_text(alloc, head, entries.len(), moments)?,
             Err(fault) => name_of(alloc, &fault)?,
         };
@@ -62,15 +62,15 @@ pub fn run_entries_text<R: ResultStore>(
     word: &str,
     run: u64,
 ) -> Result<String, RowFault> {
-    let entries = match results.entries(run) {
-        Ok(entries) => entries,
+    let found = match entries(alloc, results, run) {
+        Ok(found) => found,
         Err(fault) => return name_of(alloc, &fault),
     };
     if word == "count" {
-        let count = entries.len();
+        let count = found.len();
         return Ok(format!(in alloc; "{count} entries")?);
     }
-    entries_text(alloc, word, entries.as_slice())
+    entries_text(alloc, word, found.as_slice())
 }
 
 /// All that is told of an entry.
@@ -91,10 +91,10 @@ fn push_run<R: ResultStore>(
 ) -> Result<(), RowFault> {
     let (number, started, total) = (head.number, head.started, head.total);
     told.push(format!(in alloc; "run {number} at {started}, {total} cases")?)?;
-    let Ok(entries) = results.entries(number) else {
+    let Ok(found) = entries(alloc, results, number) else {
         return Err(RowFault::Misspelled("its entries can not be told"));
     };
-    for entry in entries.as_slice() {
+    for entry in found.as_slice() {
         told.push(whole_text(alloc, entry)?)?;
     }
     told.push(String::from_str(alloc, state_text(head))?)?;
