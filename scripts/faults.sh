@@ -118,7 +118,7 @@ PLACES
 # A value for which no refused allocation is needed, or a line that tells of one. An arm that takes such a value isn't meant.
 lines '(Refused|SinkFault)::Memory($|[^ ]| [^=])|write_memory[(]'
 rule 'says that memory ran out' <<'PLACES'
-kt_child/src/starting/refusals.rt: Refused::Memory
+kt_child/src/starting/starts.rt: Refused::Memory
 kt_cli/src/commands/debugging.rt: Err(_) => return ended(write_memory(out), FAILED),
 kt_cli/src/messages/fault_exit.rt: CommandFault::NoMemory(_) => write_memory(out),
 kt_cli/src/messages/fault_exit.rt: DriverFault::NoMemory(_) => write_memory(out),

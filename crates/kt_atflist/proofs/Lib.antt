@@ -3,7 +3,6 @@ pub mod FirstLines
 pub mod Keys
 pub mod LineCases
 pub mod Lists
-pub mod NextLines
 pub mod OneListing
 pub mod ProgramCases
 pub mod ReadListings

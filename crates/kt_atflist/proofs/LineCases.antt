@@ -9,11 +9,11 @@ use Rattle.kt_metadata.specs.ListKeys.{name_of_key}
 use Rattle.kt_atflist.specs.Blocks.{is_listed, is_given, named, with_property, is_good}
 use Rattle.kt_atflist.specs.Inner.Reading.{begin_with, set_property, go_on, step_from}
 use Rattle.kt_atflist.specs.Spelling.{Goes, begins, gives, ends, fits_first, fits_further, first_rows, further_rows, Fails, first, further}
-use Rattle.kt_atflist.specs.declared.list_cause.ListCause.TheVariants.{BadLine, NoIdent, RepeatedKey, RepeatedIdent, UnknownKey, BadValue}
+use Rattle.kt_atflist.specs.declared.list_fault.ListCause.TheVariants.{BadLine, NoIdent, RepeatedKey, RepeatedIdent, UnknownKey, BadValue}
 use Rattle.kt_atflist.specs.declared.case_def.CaseDef.{CaseDef}
 use Rattle.kt_atflist.specs.Read.{Read}
-use Rattle.kt_atflist.specs.declared.step.Step.{Step}
-use Rattle.kt_atflist.specs.declared.step.Step.TheVariants.{To, Wrong}
+use Rattle.kt_atflist.specs.declared.reading.Step.{Step}
+use Rattle.kt_atflist.specs.declared.reading.Step.TheVariants.{To, Wrong}
 
 -- where a line leads, or its fault
 abbrev pub Led : List CaseDef → List ℕ → Option CaseDef → Step → Type 0

@@ -6,19 +6,17 @@ use Rattle.std.proofs.Common.{◌≡◌, ◌⊎◌, ℕ, ◌+◌, Bool, true, fa
 use Rattle.std.proofs.lemmas.Bool.{false≢true}
 use Rattle.std.proofs.lemmas.Str.{IsUtf8-from_is_utf8, is_utf8-from_IsUtf8}
 use Rattle.kt_base.specs.Lines.{lines}
-use Rattle.kt_atflist.specs.Spelling.{header}
+use Rattle.kt_atflist.specs.Spelling.{header, Outcome, fault_at, Goes, begins, gives, ends, Spelled, no_block, last_block, line, fits_first, fits_further, first_rows, further_rows, Fails, first, further, Faulty, here, later, IsList, list, IsFault, no_first, other_first, no_second, other_second, no_third, in_blocks, IsAnswer, IsOutOfMemory, IsUnlessMemory}
 use Rattle.kt_base.specs.Texts.{is_empty}
 use Rattle.kt_atflist.specs.BlockLines.{ident_in, key_in, value_in}
-use Rattle.kt_atflist.specs.Spelling.{Outcome, fault_at}
 use Rattle.kt_atflist.specs.Inner.Reading.{led, closed, step_from, read_from, nothing_read, read_blocks, read_second, read_lines, read_list}
-use Rattle.kt_atflist.specs.Spelling.{Goes, begins, gives, ends, Spelled, no_block, last_block, line, fits_first, fits_further, first_rows, further_rows, Fails, first, further, Faulty, here, later, IsList, list, IsFault, no_first, other_first, no_second, other_second, no_third, in_blocks, IsAnswer, IsOutOfMemory, IsUnlessMemory}
-use Rattle.kt_atflist.specs.declared.list_cause.ListCause.{ListCause}
-use Rattle.kt_atflist.specs.declared.list_cause.ListCause.TheVariants.{BadHeader}
+use Rattle.kt_atflist.specs.declared.list_fault.ListCause.{ListCause}
+use Rattle.kt_atflist.specs.declared.list_fault.ListCause.TheVariants.{BadHeader}
 use Rattle.kt_atflist.specs.declared.list_fault.ListFault.{ListFault}
 use Rattle.kt_atflist.specs.declared.case_def.CaseDef.{CaseDef}
 use Rattle.kt_atflist.specs.Read.{Read}
-use Rattle.kt_atflist.specs.declared.step.Step.{Step}
-use Rattle.kt_atflist.specs.declared.step.Step.TheVariants.{To, Wrong}
+use Rattle.kt_atflist.specs.declared.reading.Step.{Step}
+use Rattle.kt_atflist.specs.declared.reading.Step.TheVariants.{To, Wrong}
 use Rattle.kt_atflist.proofs.LineCases.{Led, led_by, step_goes}
 use Rattle.kt_atflist.proofs.Utf8.{read_utf8, read_other}
 

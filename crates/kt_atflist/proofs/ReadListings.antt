@@ -9,14 +9,13 @@ use Rattle.kt_base.specs.declared.reason.Reason.TheVariants.{Fixed, Counted}
 use Rattle.kt_base.specs.declared.refused.Refused.{Refused}
 use Rattle.kt_base.specs.Reasons.{refused_reason}
 use Rattle.kt_atflist.specs.Listings.{ended_reason, fault_phrase, IsRead, no_list, listed, Lists, unstarted, unlisted, unreadable, too_long, read}
-use Rattle.kt_atflist.specs.Spelling.{Outcome, IsOutOfMemory, fault_at}
-use Rattle.kt_atflist.specs.Spelling.{IsAnswer}
-use Rattle.kt_atflist.specs.declared.list_bytes.ListBytes.{ListBytes}
-use Rattle.kt_atflist.specs.declared.list_bytes.ListBytes.TheVariants as bytes
+use Rattle.kt_atflist.specs.Spelling.{Outcome, IsOutOfMemory, fault_at, IsAnswer}
+use Rattle.kt_atflist.specs.declared.listing.ListBytes.{ListBytes}
+use Rattle.kt_atflist.specs.declared.listing.ListBytes.TheVariants as bytes
 use Rattle.kt_atflist.specs.declared.listing.Listing.{Listing}
 use Rattle.kt_atflist.specs.declared.listing.Listing.TheVariants as listing
 use Rattle.kt_base.specs.declared.no_memory.NoMemory.{NoMemory}
-use Rattle.kt_atflist.specs.declared.list_cause.ListCause.TheVariants as cause
+use Rattle.kt_atflist.specs.declared.list_fault.ListCause.TheVariants as cause
 use Rattle.kt_atflist.specs.declared.list_fault.ListFault.{ListFault}
 use Rattle.kt_atflist.specs.declared.case_def.CaseDef.{CaseDef}
 

@@ -9,11 +9,11 @@ use Rattle.kt_base.specs.declared.reason.Reason.{Reason}
 use Rattle.kt_base.specs.declared.reason.Reason.TheVariants.{Fixed, Ended, Counted}
 use Rattle.kt_base.specs.declared.refused.Refused.{Refused}
 use Rattle.kt_base.specs.Reasons.{refused_reason}
-use Rattle.kt_atflist.specs.declared.list_bytes.ListBytes.{ListBytes}
-use Rattle.kt_atflist.specs.declared.list_bytes.ListBytes.TheVariants as bytes
-use Rattle.kt_atflist.specs.declared.list_cause.ListCause.{ListCause}
-use Rattle.kt_atflist.specs.declared.list_cause.ListCause.TheVariants as cause
-use Rattle.kt_atflist.specs.declared.list_cause.ListCause.TheVariants.{BadHeader, BadLine, NoIdent, RepeatedKey, RepeatedIdent, UnknownKey, BadValue, EmptyList, NotUtf8}
+use Rattle.kt_atflist.specs.declared.listing.ListBytes.{ListBytes}
+use Rattle.kt_atflist.specs.declared.listing.ListBytes.TheVariants as bytes
+use Rattle.kt_atflist.specs.declared.list_fault.ListCause.{ListCause}
+use Rattle.kt_atflist.specs.declared.list_fault.ListCause.TheVariants as cause
+use Rattle.kt_atflist.specs.declared.list_fault.ListCause.TheVariants.{BadHeader, BadLine, NoIdent, RepeatedKey, RepeatedIdent, UnknownKey, BadValue, EmptyList, NotUtf8}
 use Rattle.kt_atflist.specs.declared.list_fault.ListFault.{ListFault}
 use Rattle.kt_atflist.specs.declared.case_def.CaseDef.{CaseDef}
 use Rattle.kt_atflist.specs.declared.listing.Listing.{Listing}

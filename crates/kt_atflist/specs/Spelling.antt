@@ -10,9 +10,9 @@ use Rattle.kt_base.specs.Texts.{is_empty}
 use Rattle.kt_atflist.specs.BlockLines.{ident_in, is_name, key_in, value_in}
 use Rattle.kt_metadata.specs.ListKeys.{name_of_key}
 use Rattle.kt_atflist.specs.Blocks.{is_listed, is_given, named, with_property, is_good}
-use Rattle.kt_atflist.specs.declared.list_cause.ListCause.{ListCause}
-use Rattle.kt_atflist.specs.declared.list_cause.ListCause.TheVariants as cause
-use Rattle.kt_atflist.specs.declared.list_cause.ListCause.TheVariants.{BadHeader, BadLine, NoIdent, RepeatedKey, RepeatedIdent, UnknownKey, BadValue, EmptyList, NotUtf8}
+use Rattle.kt_atflist.specs.declared.list_fault.ListCause.{ListCause}
+use Rattle.kt_atflist.specs.declared.list_fault.ListCause.TheVariants as cause
+use Rattle.kt_atflist.specs.declared.list_fault.ListCause.TheVariants.{BadHeader, BadLine, NoIdent, RepeatedKey, RepeatedIdent, UnknownKey, BadValue, EmptyList, NotUtf8}
 use Rattle.kt_atflist.specs.declared.list_fault.ListFault.{ListFault}
 use Rattle.kt_atflist.specs.declared.case_def.CaseDef.{CaseDef}
 use Rattle.kt_atflist.specs.Read.{Read}

@@ -3,10 +3,6 @@
 
 mod block;
 mod case_def;
-mod laws;
-mod lines;
-mod list_bytes;
-mod list_cause;
 mod list_fault;
 mod list_line;
 mod listed_cases;
@@ -15,14 +11,10 @@ mod names;
 mod program_cases;
 mod reader;
 mod reading;
-mod step;
 mod steps;
 
 pub use case_def::CaseDef;
-pub use laws::law_of_one_answer;
-pub use list_bytes::ListBytes;
-pub use list_cause::ListCause;
-pub use list_fault::ListFault;
-pub use listing::Listing;
-pub use program_cases::cases;
+pub use list_fault::{ListCause, ListFault};
+pub use listing::{ListBytes, Listing};
+pub use program_cases::{cases, law_of_one_answer};
 pub use reader::parse_list;

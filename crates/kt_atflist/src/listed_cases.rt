@@ -4,8 +4,7 @@ ghost use Rattle.std.specs.Prelude.{◌≡◌, IfOk};
 ghost use Rattle.kt_atflist.specs.Listings.{ended_reason, IsRead, Lists};
 
 use crate::case_def::CaseDef;
-use crate::list_bytes::ListBytes;
-use crate::listing::Listing;
+use crate::listing::{ListBytes, Listing};
 use crate::reader::parse_list;
 use kt_base::{Bytes, Items, NoMemory, Outcome, Phrase, Reason};
 use std::alloc::Global;

@@ -1,9 +1,14 @@
 //! The test cases of a program.
 
-ghost use Rattle.std.specs.Prelude.{◌≡◌, ◌∷◌, [], List, map, chars, Some, None, IfOk, IsSome};
+ghost use Rattle.std.specs.Prelude.{◌≡◌, ◌∷◌, [], List, map, chars, Some, None, IfOk, IsSome, ℕ, Option, Result};
 ghost use Rattle.kt_base.specs.declared.interface.Interface.TheVariants.{Atf};
 ghost use Rattle.kt_base.specs.declared.variable.Variable.{Variable};
 ghost use Rattle.kt_atflist.specs.Cases.{over_program, main_case, list_case, AreCases};
+ghost use Rattle.kt_base.specs.declared.interface.Interface.{Interface};
+ghost use Rattle.kt_atflist.specs.Spelling.{IsAnswer};
+ghost use Rattle.kt_atflist.specs.declared.case_def.CaseDef.{CaseDef};
+ghost use Rattle.kt_atflist.specs.declared.list_fault.ListFault.{ListFault};
+ghost use Rattle.kt_atflist.specs.declared.listing.Listing.{Listing};
 
 use crate::case_def::CaseDef;
 use crate::listed_cases::listed_cases;
@@ -128,3 +133,13 @@ pub fn cases(
         },
     }
 }
+
+/// A text has one answer, a list of cases or a fault. A program has one list of cases.
+pub fn law_of_one_answer()
+    ensures text { (text : List ℕ) → (first : Result (List CaseDef) ListFault)
+        → (second : Result (List CaseDef) ListFault) → IsAnswer text first → IsAnswer text second
+        → first ≡ second }
+    ensures program { (props : List Variable) → (interface : Interface) → (listing : Option Listing)
+        → (first : List CaseDef) → (second : List CaseDef) → AreCases props interface listing first
+        → AreCases props interface listing second → first ≡ second }
+{}

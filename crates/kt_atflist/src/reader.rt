@@ -1,22 +1,34 @@
 //! The reading of a list.
 
-ghost use Rattle.std.specs.Prelude.{◌⊎◌, List, Result};
-ghost use Rattle.kt_atflist.specs.Spelling.{IsAnswer};
+ghost use Rattle.std.specs.Prelude.{◌⊎◌, List, Result, ◌≡◌, ◌<◌, ◌∷◌, [], length, MatchOption, IfSome};
+ghost use Rattle.kt_atflist.specs.Spelling.{IsAnswer, IsOutOfMemory, IsUnlessMemory};
 ghost use Rattle.kt_atflist.specs.declared.list_fault.ListFault.{ListFault};
 ghost use Rattle.kt_atflist.specs.declared.case_def.CaseDef.{CaseDef};
 ghost use Rattle.kt_base.specs.Lines.{lines};
 ghost use Rattle.kt_atflist.specs.Inner.Reading.{read_from, nothing_read, read_blocks, read_second, read_lines};
-ghost use Rattle.kt_atflist.specs.Spelling.{IsOutOfMemory, IsUnlessMemory};
 
 use crate::case_def::CaseDef;
-use crate::lines::first_line;
-use crate::list_cause::ListCause;
-use crate::list_fault::ListFault;
-use crate::reading::Reading;
-use crate::step::Step;
+use crate::list_fault::{ListCause, ListFault};
+use crate::reading::{Reading, Step};
 use crate::steps::{finish, step};
-use kt_base::Items;
+use kt_base::{Items, line_length};
 use std::alloc::Global;
+
+/// The first line of a text, and what follows its newline.
+fn first_line(text: &[u8]) -> Option<(&[u8], &[u8])>
+    ensures value { MatchOption result (lines text.now ≡ [])
+        (λ parts. lines text.now ≡ parts.0.now ∷ lines parts.1.now) }
+    ensures shorter { IfSome result (λ parts. length parts.1.now < length text.now) }
+{
+    if text.is_empty() {
+        return None;
+    }
+    let (line, rest) = text.split_at(line_length(text));
+    match rest.split_first() {
+        None => Some((line, rest)),
+        Some((_, after)) => Some((line, after)),
+    }
+}
 
 /// The line that each list begins with.
 const HEADER: &[u8] = b"Content-Type: application/X-atf-tp; version=\"1\"";

@@ -3,6 +3,7 @@ ghost use Rattle.kt_atflist.specs.Inner.Reading.{nothing_read};
 
 use crate::block::Block;
 use crate::case_def::CaseDef;
+use crate::list_fault::ListCause;
 use crate::names::Names;
 use kt_base::Items;
 use std::alloc::Global;
@@ -40,4 +41,11 @@ impl Reading {
             block: None,
         }
     }
+}
+
+/// The result of a line.
+#[derive(Drop)]
+pub enum Step {
+    To(Reading),
+    Wrong(ListCause),
 }

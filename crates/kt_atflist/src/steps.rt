@@ -7,11 +7,10 @@ ghost use Rattle.kt_atflist.specs.BlockLines.{ident_in, key_in, value_in};
 
 use crate::block::Block;
 use crate::case_def::CaseDef;
-use crate::list_cause::ListCause;
+use crate::list_fault::ListCause;
 use crate::list_line::{ident_in, is_name, key_in, value_in};
 use crate::names::Names;
-use crate::reading::Reading;
-use crate::step::Step;
+use crate::reading::{Reading, Step};
 use kt_base::{Items, NoMemory, Text, lossy};
 use kt_metadata::{PropFault, property_of_key};
 use std::alloc::Global;

@@ -7,14 +7,14 @@ use Rattle.kt_base.specs.declared.interface.Interface.{Interface}
 use Rattle.kt_base.specs.declared.interface.Interface.TheVariants as interface
 use Rattle.kt_claim.specs.declared.evidence.Evidence.{Evidence}
 use Rattle.kt_sched.specs.declared.ended.Ended.{Ended}
-use Rattle.kt_child.specs.declared.system.child.Child.{Child}
+use Rattle.kt_child.specs.declared.system.values.Child.{Child}
 use Rattle.kt_child.specs.declared.system.os_fault.OsFault.{OsFault}
-use Rattle.kt_child.specs.declared.system.file_read.FileRead.{FileRead}
-use Rattle.kt_child.specs.declared.planning.paths.Paths.{Paths}
+use Rattle.kt_child.specs.declared.system.values.FileRead.{FileRead}
+use Rattle.kt_child.specs.declared.planning.workdir.Paths.{Paths}
 use Rattle.kt_child.specs.declared.planning.case.Case.{Case}
 use Rattle.kt_child.specs.declared.polling.watched.Watched.{Watched}
-use Rattle.kt_child.specs.declared.ending.next_part.NextPart.{NextPart}
-use Rattle.kt_child.specs.declared.ending.next_part.NextPart.TheVariants.{More, All, Absent, Failed, Past}
+use Rattle.kt_child.specs.declared.ending.parts.NextPart.{NextPart}
+use Rattle.kt_child.specs.declared.ending.parts.NextPart.TheVariants.{More, All, Absent, Failed, Past}
 use Rattle.kt_child.specs.Driving.ChildrenState.{ChildrenState, Waited}
 use Rattle.kt_child.specs.System.Calls.{Call, ReadFile, ReadPart}
 use Rattle.kt_child.specs.Polling.ChildOutcome.{Heard}

@@ -1,6 +1,6 @@
 -- A search for the first child of a name among those of the host.
-use Rattle.std.proofs.Common.{◌≡◌, ℕ, suc, ◌+◌, ◌<◌, Bool, true, false, List, ◌∷◌, length, drop, drop-cons, get_or, refl, sym, ◌∙◌, ap, subst, arith}
-use Rattle.kt_child.specs.declared.system.child.Child.{Child}
+use Rattle.std.proofs.Common.{◌≡◌, ℕ, suc, ◌+◌, ◌<◌, Bool, true, false, List, ◌∷◌, length, drop, drop-cons, get_or, sym, ◌∙◌, ap, subst, arith}
+use Rattle.kt_child.specs.declared.system.values.Child.{Child}
 use Rattle.kt_child.specs.declared.host.host_child.HostChild.{HostChild}
 use Rattle.kt_child.specs.Polling.Lives.{same_child}
 use Rattle.kt_child.specs.Inner.Host.{IsPlaceOf}
@@ -11,13 +11,6 @@ use Rattle.kt_child.proofs.HostStandings.{pick}
 pub record Passed {P I O E : Type 0} (child : Child) (all : List (HostChild P I O E)) (i : ℕ) : Type 0 where
   pub stands : stand_in (drop i all) child ≡ stand_in all child
   pub places : (k : ℕ) → IsPlaceOf child (drop i all) k → IsPlaceOf child all (i + k)
-
-pub passed_none : {P I O E : Type 0} (child : Child) (all : List (HostChild P I O E)) → Passed child all 0
-passed_none {P} {I} {O} {E} child all =
-    record {
-      stands = refl;
-      places = λ k at. let n : k ≡ 0 + k = omega arith in subst (λ (t : ℕ). IsPlaceOf child all t) n at;
-    }
 
 -- one child more that has another name
 pub passed_one : {P I O E : Type 0} (child : Child) (all : List (HostChild P I O E)) (i : ℕ) (h : HostChild P I O E) → i < length all

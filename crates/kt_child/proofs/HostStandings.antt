@@ -1,7 +1,7 @@
 -- How the children of the host stand, where one of them changes, is forgotten or is new.
 use Rattle.std.proofs.Common.{◌≡◌, ℕ, zero, suc, ◌<◌, Bool, true, false, Some, None, List, [], ◌∷◌, ◌++◌, length, get_or, refl, sym, ◌∙◌, ap, subst, arith, if◌then◌else◌}
 use Rattle.std.specs.Prelude.{IsSome, filter, not, remove, slice_set}
-use Rattle.kt_child.specs.declared.system.child.Child.{Child}
+use Rattle.kt_child.specs.declared.system.values.Child.{Child}
 use Rattle.kt_child.specs.declared.host.host_child.HostChild.{HostChild}
 use Rattle.kt_child.specs.Polling.Lives.{same_child}
 use Rattle.kt_child.specs.Inner.Host.{IsPlaceOf, is_other}

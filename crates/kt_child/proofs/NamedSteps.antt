@@ -1,6 +1,6 @@
 -- The children of one name, in lists that are cut, joined and polled.
 use Rattle.std.proofs.Common.{◌≡◌, ℕ, zero, suc, List, [], ◌∷◌, ◌++◌, Bool, true, false, Some, ◌⊎◌, map, take, drop, slice_get, refl, ◌∙◌, ap, inl, inr, sym}
-use Rattle.kt_child.specs.declared.system.child.Child.{Child}
+use Rattle.kt_child.specs.declared.system.values.Child.{Child}
 use Rattle.kt_child.specs.declared.polling.watched.Watched.{Watched}
 use Rattle.kt_child.specs.Polling.Lives.{same_child}
 use Rattle.kt_child.specs.Polling.Turns.{advanced, advanced_below, after_turns}

@@ -3,12 +3,12 @@ use Rattle.std.proofs.Common.{◌≡◌, ℕ, zero, suc, ◌+◌, ◌-◌, ◌*�
 use Rattle.std.proofs.lemmas.Bool.Decides.{nat_tests}
 use Rattle.kt_base.specs.declared.outcome.Outcome.{Outcome}
 use Rattle.kt_base.specs.declared.outcome.Outcome.TheVariants.{Exited, Signaled, WaitFailed}
-use Rattle.kt_child.specs.declared.system.polled.Polled.{Polled}
-use Rattle.kt_child.specs.declared.system.polled.Polled.TheVariants.{Running, Exited as PolledExit, Signaled as PolledSignal}
+use Rattle.kt_child.specs.declared.system.values.Polled.{Polled}
+use Rattle.kt_child.specs.declared.system.values.Polled.TheVariants.{Running, Exited as PolledExit, Signaled as PolledSignal}
 use Rattle.kt_child.specs.declared.system.os_fault.OsFault.{OsFault}
-use Rattle.kt_child.specs.declared.polling.watch.Watch.{Watch}
-use Rattle.kt_child.specs.declared.polling.turn.Turn.{Turn}
-use Rattle.kt_child.specs.declared.polling.turn.Turn.TheVariants.{More, Ended}
+use Rattle.kt_child.specs.declared.polling.watched.Watch.{Watch}
+use Rattle.kt_child.specs.declared.polling.polls.Turn.{Turn}
+use Rattle.kt_child.specs.declared.polling.polls.Turn.TheVariants.{More, Ended}
 use Rattle.kt_child.specs.Polling.Polls.{turn_of}
 use Rattle.kt_child.specs.Inner.Children.{Lived, heard_of}
 use Rattle.kt_child.specs.Polling.ChildOutcome.{Heard, HeardPoll, HeardKill, Told, ToldAfterKill, ToldWithin, fresh, running}

@@ -1,12 +1,12 @@
 -- A file that is read in parts: what is known after some of them.
 use Rattle.std.proofs.Common.{◌≡◌, ℕ, suc, ◌+◌, List, [], ◌∷◌, ◌++◌, length, Result, refl, sym, ◌∙◌, ap, subst, arith, append_assoc, length-append, zero-add}
 use Rattle.kt_child.specs.declared.system.os_fault.OsFault.{OsFault}
-use Rattle.kt_child.specs.declared.system.file_read.FileRead.{FileRead}
-use Rattle.kt_child.specs.declared.ending.next_part.NextPart.{NextPart}
-use Rattle.kt_child.specs.declared.ending.next_part.NextPart.TheVariants.{More}
+use Rattle.kt_child.specs.declared.system.values.FileRead.{FileRead}
+use Rattle.kt_child.specs.declared.ending.parts.NextPart.{NextPart}
+use Rattle.kt_child.specs.declared.ending.parts.NextPart.TheVariants.{More}
 use Rattle.kt_base.specs.Chains.{Chain}
 use Rattle.kt_child.specs.System.Calls.{Call}
-use Rattle.kt_child.specs.declared.ending.read_end.ReadEnd.{ReadEnd}
+use Rattle.kt_child.specs.declared.ending.parts.ReadEnd.{ReadEnd}
 use Rattle.kt_child.specs.Inner.Children.{Takes, Tells}
 use Rattle.kt_child.specs.Ending.Parts.{After, IsNext, Reads, Whole, next_part}
 use Rattle.kt_child.specs.Ending.Reads.{bytes_of}

@@ -1,10 +1,10 @@
 -- What the children of one name hear in polls of a list of children.
 use Rattle.std.proofs.Common.{◌≡◌, ℕ, zero, suc, List, [], ◌∷◌, ◌++◌, Bool, true, false, Result, map, refl, sym, ◌∙◌, ap, subst, inr, append_assoc, if◌then◌else◌}
 use Rattle.kt_base.specs.declared.outcome.Outcome.{Outcome}
-use Rattle.kt_child.specs.declared.system.child.Child.{Child}
-use Rattle.kt_child.specs.declared.system.polled.Polled.{Polled}
+use Rattle.kt_child.specs.declared.system.values.Child.{Child}
+use Rattle.kt_child.specs.declared.system.values.Polled.{Polled}
 use Rattle.kt_child.specs.declared.system.os_fault.OsFault.{OsFault}
-use Rattle.kt_child.specs.declared.polling.turn.Turn.TheVariants.{More}
+use Rattle.kt_child.specs.declared.polling.polls.Turn.TheVariants.{More}
 use Rattle.kt_child.specs.declared.polling.watched.Watched.{Watched}
 use Rattle.kt_child.specs.System.Calls.{Call, Poll, Kill, Pause}
 use Rattle.kt_child.specs.Inner.Children.{heard_of}

@@ -2,7 +2,7 @@
 use Rattle.std.proofs.Common.{◌≡◌, ℕ, zero, suc, ◌<◌, List, [], ◌∷◌, ◌++◌, Bool, true, false, Option, Some, None, ◌⊎◌, map, take, drop, slice_get, refl, sym, ◌∙◌, ap, subst, inl, inr, append-nil}
 use Rattle.std.specs.Prelude.{remove}
 use Rattle.kt_base.specs.declared.outcome.Outcome.{Outcome}
-use Rattle.kt_child.specs.declared.system.child.Child.{Child}
+use Rattle.kt_child.specs.declared.system.values.Child.{Child}
 use Rattle.kt_child.specs.declared.polling.watched.Watched.{Watched}
 use Rattle.kt_child.specs.System.Calls.{Call}
 use Rattle.kt_child.specs.Inner.Children.{heard_of}

@@ -9,7 +9,7 @@ use Rattle.kt_sched.specs.declared.ended.Ended.{Ended}
 use Rattle.kt_sched.specs.Children.{same_role}
 use Rattle.kt_sched.specs.Plan.{IsPlan}
 use Rattle.kt_sched.specs.Trace.{Trace, Then, End}
-use Rattle.kt_child.specs.declared.system.child.Child.{Child}
+use Rattle.kt_child.specs.declared.system.values.Child.{Child}
 use Rattle.kt_child.specs.declared.planning.case.Case.{Case}
 use Rattle.kt_child.specs.Driving.ChildrenState.{ChildrenState, Waited}
 use Rattle.kt_child.specs.System.Calls.{Call}

@@ -6,11 +6,11 @@ use Rattle.std.specs.List.{All}
 use Rattle.std.proofs.lemmas.List.Elements.{All-get_or}
 use Rattle.std.proofs.lemmas.Option.{slice_get-get_or}
 use Rattle.kt_base.specs.declared.outcome.Outcome.{Outcome}
-use Rattle.kt_child.specs.declared.system.polled.Polled.{Polled}
+use Rattle.kt_child.specs.declared.system.values.Polled.{Polled}
 use Rattle.kt_child.specs.declared.system.os_fault.OsFault.{OsFault}
-use Rattle.kt_child.specs.declared.polling.watch.Watch.{Watch}
-use Rattle.kt_child.specs.declared.polling.turn.Turn.{Turn}
-use Rattle.kt_child.specs.declared.polling.turn.Turn.TheVariants.{More, Ended}
+use Rattle.kt_child.specs.declared.polling.watched.Watch.{Watch}
+use Rattle.kt_child.specs.declared.polling.polls.Turn.{Turn}
+use Rattle.kt_child.specs.declared.polling.polls.Turn.TheVariants.{More, Ended}
 use Rattle.kt_child.specs.declared.polling.watched.Watched.{Watched}
 use Rattle.kt_base.specs.Chains.{Chain}
 use Rattle.kt_child.specs.System.Calls.{Call}

@@ -10,15 +10,14 @@ use Rattle.kt_base.specs.Digits.{is_digit}
 use Rattle.kt_base.specs.Lossy.{lossy}
 use Rattle.kt_base.specs.Lines.{is_newline}
 use Rattle.kt_claim.specs.Bytes.{newline, number}
-use Rattle.kt_claim.specs.ResultFile.{limit, IsReason, IsNumber, with_reason, with_number, Says, line, is, takes_number, is_known, has_bracket, closes, digits, after_digits, has_number, after_number, has_reason, fits_line, fits, fault_of, IsClaimOf}
-use Rattle.kt_claim.specs.ResultFile.{word as first_word, after_word}
+use Rattle.kt_claim.specs.ResultFile.{limit, IsReason, IsNumber, with_reason, with_number, Says, line, is, IsClaimOf}
 use Rattle.kt_claim.specs.ResultFile as says
 use Rattle.kt_claim.specs.Inner.ResultReading.{word_of, claim_with, numbered, reason_in, with_reason_in, value_of, number_in, with_number_in, claim_of_line, claim_of}
 use Rattle.kt_claim.specs.declared.claim.Claim.{Claim}
 use Rattle.kt_claim.specs.declared.claim.Claim.TheVariants as claim
-use Rattle.kt_claim.specs.declared.claim_fault.ClaimFault.{ClaimFault}
-use Rattle.kt_claim.specs.declared.word.Word.{Word}
-use Rattle.kt_claim.specs.declared.word.Word.TheVariants as word
+use Rattle.kt_claim.specs.declared.claim.ClaimFault.{ClaimFault}
+use Rattle.kt_claim.specs.declared.result_line.Word.{Word}
+use Rattle.kt_claim.specs.declared.result_line.Word.TheVariants as word
 use Rattle.kt_claim.proofs.Truth.{and_left, and_right}
 use Rattle.kt_claim.proofs.Words.{valued}
 use Rattle.kt_claim.proofs.ReadFiles.{read_file, claims}

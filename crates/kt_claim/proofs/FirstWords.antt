@@ -5,11 +5,9 @@ use Rattle.std.specs.Str.{bytes_eq}
 use Rattle.std.specs.List.{list_any}
 use Rattle.std.proofs.lemmas.Slice.Eq.{bytes_eq-Decides}
 use Rattle.kt_base.specs.Lines.{is_newline}
-use Rattle.kt_claim.specs.ResultFile.{limit, IsReason, IsNumber, with_reason, with_number, Says, line, is, takes_number, is_known, has_bracket, closes, digits, after_digits, has_number, after_number, has_reason, fits_line, fits, fault_of, IsClaimOf}
-use Rattle.kt_claim.specs.ResultFile.{word as first_word, after_word}
 use Rattle.kt_claim.specs.ResultFile as says
 use Rattle.kt_claim.specs.Inner.ResultReading.{word_of, after_known}
-use Rattle.kt_claim.specs.declared.word.Word.TheVariants as word
+use Rattle.kt_claim.specs.declared.result_line.Word.TheVariants as word
 use Rattle.kt_claim.proofs.Words.{Agrees, plain_word, passed_word, number_word}
 
 -- ---- each word

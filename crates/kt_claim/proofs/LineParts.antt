@@ -7,7 +7,7 @@ use Rattle.kt_base.specs.Digits.{is_digit, decimal_from}
 use Rattle.kt_claim.specs.Bytes.{is_blank}
 use Rattle.kt_claim.specs.Inner.LineStates.{nothing, planning, after_opening, opened}
 use Rattle.kt_claim.specs.TapStream.{below_limit, trimmed, begins, front, past, ends_plan, planned_from, directive_in, skips, plan_for}
-use Rattle.kt_claim.specs.declared.opening.Opening.{Opening}
+use Rattle.kt_claim.specs.declared.begun.Opening.{Opening}
 use Rattle.kt_claim.proofs.Truth.{and_false}
 
 -- ---- the number of a plan
@@ -60,8 +60,3 @@ trim_ends rest front text b so_far parts word = parts ∙ sym (trimmed-word fron
 pub part_of_word : (o : Opening) (lacks : List ℕ) → (length lacks ≡ 0 → ⊥) → nothing ≡ opened o (begins lacks []) (drop (length lacks) [])
 part_of_word o [] some = absurd (some refl)
 part_of_word o (c ∷ lacks) some = refl
-
--- a whole word and nothing else
-pub lone_word : (o : Opening) (lacks : List ℕ) → length lacks ≡ 0 → after_opening o [] ≡ opened o (begins lacks []) (drop (length lacks) [])
-lone_word o [] none = refl
-lone_word o (c ∷ lacks) none = absurd (omega (arith, none))

@@ -7,12 +7,11 @@ use Rattle.std.proofs.lemmas.List.{take-append-drop}
 use Rattle.std.proofs.lemmas.Slice.Eq.{bytes_eq-Decides}
 use Rattle.kt_base.specs.Lines.{is_newline}
 use Rattle.kt_claim.specs.Bytes.{newline, is_word_byte}
-use Rattle.kt_claim.specs.ResultFile.{limit, Says, line, fits_line, fault_of, IsClaimOf}
-use Rattle.kt_claim.specs.ResultFile.{word as first_word, after_word}
+use Rattle.kt_claim.specs.ResultFile.{limit, Says, line, fits_line, fault_of, IsClaimOf, word as first_word, after_word}
 use Rattle.kt_claim.specs.Inner.ResultReading.{word_of, after_known, claim_of_line, claim_of}
 use Rattle.kt_claim.specs.declared.claim.Claim.TheVariants as claim
-use Rattle.kt_claim.specs.declared.claim_fault.ClaimFault.{ClaimFault}
-use Rattle.kt_claim.specs.declared.claim_fault.ClaimFault.TheVariants.{TooLong, Empty, NoNewline, SeveralLines, UnknownWord, BadNumber, UnexpectedReason, NoReason}
+use Rattle.kt_claim.specs.declared.claim.ClaimFault.{ClaimFault}
+use Rattle.kt_claim.specs.declared.claim.ClaimFault.TheVariants.{TooLong, Empty, NoNewline, SeveralLines, UnknownWord, BadNumber, UnexpectedReason, NoReason}
 use Rattle.kt_claim.proofs.Truth.{not_false}
 use Rattle.kt_claim.proofs.Reasons.{row, under}
 use Rattle.kt_claim.proofs.Words.{any_right}

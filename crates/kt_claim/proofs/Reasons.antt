@@ -10,8 +10,8 @@ use Rattle.kt_claim.specs.ResultFile.{IsReason, with_reason, Says, has_reason}
 use Rattle.kt_claim.specs.Inner.ResultReading.{reason_in, with_reason_in}
 use Rattle.kt_claim.specs.declared.claim.Claim.{Claim}
 use Rattle.kt_claim.specs.declared.claim.Claim.TheVariants as claim
-use Rattle.kt_claim.specs.declared.claim_fault.ClaimFault.{ClaimFault}
-use Rattle.kt_claim.specs.declared.claim_fault.ClaimFault.TheVariants.{NoReason}
+use Rattle.kt_claim.specs.declared.claim.ClaimFault.{ClaimFault}
+use Rattle.kt_claim.specs.declared.claim.ClaimFault.TheVariants.{NoReason}
 use Rattle.kt_claim.proofs.Truth.{and_left, and_right}
 
 -- ---- rows

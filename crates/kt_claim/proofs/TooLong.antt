@@ -5,7 +5,7 @@ use Rattle.kt_claim.specs.ResultFile.{limit}
 use Rattle.kt_claim.specs.Inner.ResultReading.{claim_of}
 use Rattle.kt_claim.specs.ClaimReading.{Holds}
 use Rattle.kt_claim.specs.declared.claim.Claim.TheVariants.{Malformed}
-use Rattle.kt_claim.specs.declared.claim_fault.ClaimFault.TheVariants.{TooLong}
+use Rattle.kt_claim.specs.declared.claim.ClaimFault.TheVariants.{TooLong}
 
 pub long : (too_long : Bool) (kept fed : List ℕ) → too_long ≡ true → Holds too_long kept fed → Malformed TooLong ≡ claim_of fed
 unfolding claim_of

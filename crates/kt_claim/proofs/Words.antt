@@ -9,16 +9,15 @@ use Rattle.kt_base.specs.Digits.{is_digit, up_to}
 use Rattle.kt_base.specs.Lossy.{lossy}
 use Rattle.kt_base.specs.Lines.{is_newline}
 use Rattle.kt_claim.specs.Bytes.{newline, number}
-use Rattle.kt_claim.specs.ResultFile.{limit, IsReason, IsNumber, with_reason, with_number, Says, line, is, takes_number, is_known, has_bracket, closes, digits, after_digits, has_number, after_number, has_reason, fits_line, fits, fault_of, IsClaimOf}
-use Rattle.kt_claim.specs.ResultFile.{word as first_word, after_word}
+use Rattle.kt_claim.specs.ResultFile.{IsReason, IsNumber, with_reason, with_number, Says, has_bracket, closes, digits, after_digits, has_number, after_number, has_reason, fits_line}
 use Rattle.kt_claim.specs.ResultFile as says
 use Rattle.kt_claim.specs.Inner.ResultReading.{claim_with, numbered, reason_in, with_reason_in, closed, value_of, number_in, with_number_in, may_have_number, after_bracket, plainly, claim_after}
 use Rattle.kt_claim.specs.declared.claim.Claim.{Claim}
 use Rattle.kt_claim.specs.declared.claim.Claim.TheVariants as claim
-use Rattle.kt_claim.specs.declared.claim_fault.ClaimFault.{ClaimFault}
-use Rattle.kt_claim.specs.declared.claim_fault.ClaimFault.TheVariants.{UnknownWord, BadNumber, UnexpectedReason, NoReason}
-use Rattle.kt_claim.specs.declared.word.Word.{Word}
-use Rattle.kt_claim.specs.declared.word.Word.TheVariants as word
+use Rattle.kt_claim.specs.declared.claim.ClaimFault.{ClaimFault}
+use Rattle.kt_claim.specs.declared.claim.ClaimFault.TheVariants.{UnknownWord, BadNumber, UnexpectedReason, NoReason}
+use Rattle.kt_claim.specs.declared.result_line.Word.{Word}
+use Rattle.kt_claim.specs.declared.result_line.Word.TheVariants as word
 use Rattle.kt_claim.proofs.Truth.{or_right, and_left, and_right}
 use Rattle.kt_claim.proofs.Reasons.{Wanted, reasoned}
 

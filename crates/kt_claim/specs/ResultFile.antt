@@ -7,8 +7,8 @@ use Rattle.kt_base.specs.Lines.{is_newline}
 use Rattle.kt_claim.specs.Bytes.{newline, is_word_byte, number}
 use Rattle.kt_claim.specs.declared.claim.Claim.{Claim}
 use Rattle.kt_claim.specs.declared.claim.Claim.TheVariants.{Malformed, Passed, Failed, Skipped, ExpectedFailure, ExpectedDeath, ExpectedTimeout, ExpectedExit, ExpectedSignal}
-use Rattle.kt_claim.specs.declared.claim_fault.ClaimFault.{ClaimFault}
-use Rattle.kt_claim.specs.declared.claim_fault.ClaimFault.TheVariants.{TooLong, Empty, NoNewline, SeveralLines, UnknownWord, BadNumber, UnexpectedReason, NoReason}
+use Rattle.kt_claim.specs.declared.claim.ClaimFault.{ClaimFault}
+use Rattle.kt_claim.specs.declared.claim.ClaimFault.TheVariants.{TooLong, Empty, NoNewline, SeveralLines, UnknownWord, BadNumber, UnexpectedReason, NoReason}
 
 -- the most bytes of a result file
 abbrev pub limit : ℕ

@@ -9,7 +9,7 @@ use Rattle.kt_base.specs.Lines.{lines}
 use Rattle.kt_claim.specs.Bytes.{is_blank}
 use Rattle.kt_claim.specs.declared.tap.Tap.{Tap}
 use Rattle.kt_claim.specs.declared.tap.Tap.TheVariants.{Invalid, BailedOut, SkipAll, Counted}
-use Rattle.kt_claim.specs.declared.tap_fault.TapFault.TheVariants.{TooLong, NoPlan, SecondPlan, PlanDiffers}
+use Rattle.kt_claim.specs.declared.tap.TapFault.TheVariants.{TooLong, NoPlan, SecondPlan, PlanDiffers}
 
 -- the most bytes of a stream
 abbrev pub limit : ℕ

@@ -1,7 +1,43 @@
-use crate::letters::Letters;
-use crate::line_kind::LineKind;
-use crate::opening::Opening;
-use crate::purpose::Purpose;
+/// The kind of a line of a TAP stream. A failed test with a directive counts as a test.
+#[derive(Clone, Copy, Debug)]
+pub enum LineKind {
+    Other,
+    Bail,
+    Test,
+    /// A failed test that no directive excuses.
+    Failure,
+    /// A plan of this many tests.
+    Plan(u64),
+}
+
+/// The first letters of a directive, in any case.
+#[derive(Clone, Copy, Debug)]
+pub enum Letters {
+    T,
+    To,
+    Tod,
+    S,
+    Sk,
+    Ski,
+}
+
+/// Why a directive is looked for.
+#[derive(Clone, Copy, Debug)]
+pub enum Purpose {
+    /// To excuse a test that failed.
+    Excuse,
+    /// To say why no tests are planned.
+    Explain,
+}
+
+/// The words with which the lines that count begin.
+#[derive(Clone, Copy, Debug)]
+pub enum Opening {
+    BailOut,
+    Ok,
+    NotOk,
+    Plan,
+}
 
 /// How much of a line was read: what may still decide it.
 #[derive(Clone, Copy, Debug)]
@@ -28,4 +64,14 @@ pub enum Begun {
     Reason,
     /// The line is of this kind, whatever follows.
     Decided(LineKind),
+}
+
+/// An open line. Of its bytes only those of a plan's reason are kept.
+#[derive(Debug, Drop)]
+pub struct OpenLine {
+    pub begun: Begun,
+    /// The reason of a plan of no tests, as far as it came.
+    pub kept: Vec<u8>,
+    /// A carriage return came last. It belongs to the line only if more of the line follows.
+    pub held: bool,
 }

@@ -4,11 +4,8 @@ ghost use Rattle.std.specs.Prelude.{◌≡◌, None, [], ℕ, List, false, true}
 ghost use Rattle.kt_claim.specs.TapStream.{trimmed};
 ghost use Rattle.kt_claim.specs.Inner.LineStates.{after_opening, directed, facts_of_kind, facts_with, is_reason};
 
-use crate::begun::Begun;
-use crate::line_kind::LineKind;
+use crate::begun::{Begun, LineKind, Opening, Purpose};
 use crate::line_steps::{LIMIT, is_blank};
-use crate::opening::Opening;
-use crate::purpose::Purpose;
 
 /// The text up to its last byte that isn't a blank.
 pub fn trimmed(text: &[u8]) -> &[u8]

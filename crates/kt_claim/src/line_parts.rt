@@ -3,9 +3,8 @@
 ghost use Rattle.std.specs.Prelude.{◌≡◌, ◌∷◌, ◌++◌, ℕ, List, [], IfOk, OnOk};
 ghost use Rattle.kt_claim.specs.Inner.LineStates.{facts_with, is_kept, is_decided, KeepsFor, Knows, Released};
 
-use crate::begun::Begun;
+use crate::begun::{Begun, OpenLine};
 use crate::line_steps::{is_blank, step};
-use crate::open_line::OpenLine;
 use kt_base::NoMemory;
 
 fn is_kept(begun: Begun, b: u8) -> bool

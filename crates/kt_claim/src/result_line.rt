@@ -3,13 +3,63 @@
 ghost use Rattle.std.specs.Prelude.{◌≡◌, ◌≤◌, ◌<◌, length, IfOk, IfSome, MatchOption, option_map};
 ghost use Rattle.std.specs.List.{prefix_len};
 ghost use Rattle.kt_claim.specs.Bytes.{is_word_byte};
-ghost use Rattle.kt_claim.specs.Inner.ResultReading.{value_of, number_in, reason_in, with_reason_in, with_number_in, numbered, claim_with, after_bracket, plainly, claim_after, claim_of_line};
+ghost use Rattle.kt_claim.specs.Inner.ResultReading.{value_of, number_in, reason_in, with_reason_in, with_number_in, numbered, claim_with, after_bracket, plainly, claim_after, claim_of_line, word_of, may_have_number};
 
-use crate::claim::Claim;
-use crate::claim_fault::ClaimFault;
-use crate::word::Word;
+use crate::claim::{Claim, ClaimFault};
 use kt_base::{NoMemory, Text, decimal_up_to, digits_length, lossy};
 use std::alloc::Global;
+
+/// The words of result files.
+#[derive(Clone, Copy, Debug, PartialEq, Eq)]
+pub enum Word {
+    Passed,
+    Failed,
+    Skipped,
+    ExpectedDeath,
+    ExpectedFailure,
+    ExpectedTimeout,
+    ExpectedExit,
+    ExpectedSignal,
+}
+
+impl Word {
+    #[tactic(auto, unfolding(crate::specs::Inner::ResultReading::word_of))]
+    pub fn of(word: &[u8]) -> Option<Word>
+        ensures { result ≡ word_of word.now }
+    {
+        if word == b"passed".as_slice() {
+            return Some(Word::Passed);
+        }
+        if word == b"failed".as_slice() {
+            return Some(Word::Failed);
+        }
+        if word == b"skipped".as_slice() {
+            return Some(Word::Skipped);
+        }
+        if word == b"expected_death".as_slice() {
+            return Some(Word::ExpectedDeath);
+        }
+        if word == b"expected_failure".as_slice() {
+            return Some(Word::ExpectedFailure);
+        }
+        if word == b"expected_timeout".as_slice() {
+            return Some(Word::ExpectedTimeout);
+        }
+        if word == b"expected_exit".as_slice() {
+            return Some(Word::ExpectedExit);
+        }
+        if word == b"expected_signal".as_slice() {
+            return Some(Word::ExpectedSignal);
+        }
+        None
+    }
+
+    pub fn may_have_number(self) -> bool
+        ensures { result ≡ may_have_number self }
+    {
+        matches!(self, Word::ExpectedExit | Word::ExpectedSignal)
+    }
+}
 
 fn is_word_byte(b: u8) -> bool
     ensures { result ≡ is_word_byte b }

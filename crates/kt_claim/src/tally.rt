@@ -1,11 +1,9 @@
-ghost use Rattle.std.specs.Prelude.{◌≡◌, ◌<◌, ◌^◌, ◌++◌, [], ◌∷◌, ℕ, List, true, false, length, IfOk};
-ghost use Rattle.std.specs.Prelude.{◌+◌};
+ghost use Rattle.std.specs.Prelude.{◌≡◌, ◌<◌, ◌^◌, ◌++◌, [], ◌∷◌, ℕ, List, true, false, length, IfOk, ◌+◌};
 ghost use Rattle.kt_claim.specs.TapStream.{skip_reason, why, tap_of_lines};
 ghost use Rattle.kt_claim.specs.Inner.LineStates.{facts_of, facts_of_kind};
 
-use crate::line_kind::LineKind;
-use crate::tap::Tap;
-use crate::tap_fault::TapFault;
+use crate::begun::LineKind;
+use crate::tap::{Tap, TapFault};
 use kt_base::{NoMemory, Text, lossy};
 use std::alloc::Global;
 

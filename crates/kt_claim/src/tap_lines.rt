@@ -7,10 +7,9 @@ ghost use Rattle.kt_claim.specs.TapStream.{limit, tap_of_lines, lines_of};
 ghost use Rattle.kt_claim.specs.Inner.TapReading.{state_of, HasLines};
 ghost use Rattle.kt_claim.specs.declared.tally.Tally.{Tally};
 
-use crate::begun::Begun;
+use crate::begun::{Begun, OpenLine};
 use crate::line_end::{ended, trimmed};
 use crate::line_parts::go_on;
-use crate::open_line::OpenLine;
 use crate::tally::Tally;
 use crate::tap::Tap;
 use kt_base::{NoMemory, line_length};

@@ -1,11 +1,9 @@
 ghost use Rattle.std.specs.Prelude.{◌≡◌, IfOk};
 ghost use Rattle.kt_claim.specs.TapStream.{tap_of};
 
-use crate::begun::Begun;
-use crate::open_line::OpenLine;
+use crate::begun::{Begun, OpenLine};
 use crate::tally::Tally;
-use crate::tap::Tap;
-use crate::tap_fault::TapFault;
+use crate::tap::{Tap, TapFault};
 use crate::tap_lines::{read, tap_at_end};
 use kt_base::NoMemory;
 use std::alloc::Global;

@@ -1,7 +1,7 @@
 -- Why there is no driver.
 use Rattle.std.proofs.Common.{List, ℕ, [], arith, refl}
 use Rattle.kt_base.specs.declared.no_memory.NoMemory.{NoMemory as OutOfMemory}
-use Rattle.kt_child.specs.declared.driving.driver_fault.DriverFault.TheVariants.{NoMemory}
+use Rattle.kt_child.specs.declared.driving.driver.DriverFault.TheVariants.{NoMemory}
 use Rattle.kt_child.specs.declared.system.os.Os as system
 use Rattle.kt_cli.specs.Hosts.{NoRoot, none_made}
 

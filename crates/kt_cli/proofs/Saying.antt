@@ -5,7 +5,7 @@ use Rattle.std.proofs.Common.{◌≡◌, ℕ, Bool, true, false, List, [], ◌�
 use Rattle.kt_base.specs.Shows.{Shows}
 use Rattle.kt_base.specs.Utf8.{utf8}
 use Rattle.kt_base.proofs.Showing.{shows_as, shows_both, shows_more, shows_none, shows_of, utf8-append}
-use Rattle.kt_plan.specs.declared.cases.candidate.Candidate.{Candidate}
+use Rattle.kt_plan.specs.declared.cases.offering.Candidate.{Candidate}
 use Rattle.kt_cli.specs.Inner.Pages.{Says, SaysMore}
 use Rattle.kt_cli.specs.CaseLines.{case_line}
 

@@ -12,12 +12,12 @@ use Rattle.kt_store.specs.declared.keeping.Keeping as keeping
 use Rattle.kt_base.specs.Chains.{Chain}
 use Rattle.kt_suite.specs.Answers.{Answered}
 use Rattle.kt_suite.specs.Selecting.{most_items}
-use Rattle.kt_plan.specs.declared.cases.candidate.Candidate.{Candidate}
+use Rattle.kt_plan.specs.declared.cases.offering.Candidate.{Candidate}
 use Rattle.kt_plan.specs.declared.options.case_options.CaseOptions.{CaseOptions}
 use Rattle.kt_words.specs.declared.command.Command.{Command}
 use Rattle.kt_words.specs.declared.command.Command.TheVariants as command
 use Rattle.kt_words.specs.declared.report_options.ReportOptions.{ReportOptions}
-use Rattle.kt_plan.specs.declared.cases.picked.Picked.{Picked}
+use Rattle.kt_plan.specs.declared.cases.selecting.Picked.{Picked}
 use Rattle.kt_plan.specs.declared.stop.Stop.{Stop}
 use Rattle.kt_base.specs.declared.entry.Entry.{Entry}
 use Rattle.kt_sched.specs.declared.launcher.Launcher as launcher

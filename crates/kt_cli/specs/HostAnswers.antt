@@ -13,7 +13,7 @@ use Rattle.kt_child.specs.Driving.DriverSteps.{DriverLists, DriverStarts, Driver
 use Rattle.kt_cli.specs.declared.host.runner.Runner.{Runner}
 use Rattle.kt_cli.specs.HostFiles.{IsLook, read_limit}
 use Rattle.kt_cli.specs.Scenes.{World}
-use Rattle.kt_metadata.specs.declared.need.Need.TheVariants.{File, Program}
+use Rattle.kt_metadata.specs.declared.host.Need.TheVariants.{File, Program}
 use Rattle.kt_plan.specs.Told.{Told, ReadConfig, Lists, Finds, IsRoot, HasMemory, HasDisk, Now}
 
 -- the user is root, by the value of `USER`

@@ -4,8 +4,8 @@ use Rattle.std.specs.Prelude.{ℕ, Bool, false, List, ◌≡◌, Option, None, O
 use Rattle.kt_base.specs.Chains.{Chain}
 use Rattle.kt_base.specs.Characters.{is_absolute}
 use Rattle.kt_child.specs.declared.driving.driver.Driver.{Driver}
-use Rattle.kt_child.specs.declared.driving.driver_fault.DriverFault.{DriverFault}
-use Rattle.kt_child.specs.declared.driving.driver_fault.DriverFault.TheVariants.{NoWorkDirectory}
+use Rattle.kt_child.specs.declared.driving.driver.DriverFault.{DriverFault}
+use Rattle.kt_child.specs.declared.driving.driver.DriverFault.TheVariants.{NoWorkDirectory}
 use Rattle.kt_child.specs.declared.system.os.Os as system
 use Rattle.kt_child.specs.Driving.ChildrenState.{idle_state}
 use Rattle.kt_child.specs.Driving.Roots.{FindsRoot}

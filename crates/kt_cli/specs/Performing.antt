@@ -3,7 +3,7 @@ use Rattle.std.specs.Prelude.{ℕ, Bool, true, false, List, [], ◌≡◌, Optio
 use Rattle.std.specs.Io.KnownBytes.{Keeps}
 use Rattle.kt_base.specs.declared.run.Run.{Run}
 use Rattle.kt_base.specs.Utf8.{utf8}
-use Rattle.kt_child.specs.declared.driving.driver_fault.DriverFault.{DriverFault}
+use Rattle.kt_child.specs.declared.driving.driver.DriverFault.{DriverFault}
 use Rattle.kt_child.specs.declared.system.os.Os as system
 use Rattle.kt_plan.specs.declared.options.case_options.CaseOptions.{CaseOptions}
 use Rattle.kt_store.specs.declared.keeping.Keeping as keeping

@@ -4,7 +4,7 @@ use Rattle.sqlite_disk.specs.declared.Disk as disk
 use Rattle.sqlite_store.specs.declared.store.FileStore.{FileStore}
 use Rattle.sqlite_wal.specs.Recovery.{Image}
 use Rattle.sqlite.specs.Held.{Held}
-use Rattle.kt_child.specs.declared.driving.driver_fault.DriverFault.{DriverFault}
+use Rattle.kt_child.specs.declared.driving.driver.DriverFault.{DriverFault}
 use Rattle.kt_store.specs.Ask.{IsStoreFault}
 use Rattle.kt_store.specs.Files.{AreOver, IsClosed}
 use Rattle.kt_store.specs.declared.store_fault.StoreFault.{StoreFault}

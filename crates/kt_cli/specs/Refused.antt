@@ -1,8 +1,8 @@
 -- The lines by which a command line is refused before its command begins, and the exits.
 use Rattle.std.specs.Prelude.{ℕ, Bool, List, ◌≡◌, Option, codes}
 use Rattle.kt_base.specs.Shows.{Shows}
-use Rattle.kt_child.specs.declared.driving.driver_fault.DriverFault.{DriverFault}
-use Rattle.kt_child.specs.declared.driving.driver_fault.DriverFault.TheVariants as driver
+use Rattle.kt_child.specs.declared.driving.driver.DriverFault.{DriverFault}
+use Rattle.kt_child.specs.declared.driving.driver.DriverFault.TheVariants as driver
 use Rattle.kt_words.specs.declared.command_fault.CommandFault.{CommandFault}
 use Rattle.kt_words.specs.declared.command_fault.CommandFault.TheVariants as command
 use Rattle.kt_cli.specs.FaultLines.{memory_line}

@@ -6,8 +6,8 @@ use Rattle.std.specs.Str.{bytes_eq}
 use Rattle.kt_base.specs.declared.variable.Variable.{Variable}
 use Rattle.kt_base.specs.LastValues.{last_values}
 use Rattle.kt_base.proofs.Names.{same}
-use Rattle.kt_config.specs.declared.definition.Definition.{Definition}
-use Rattle.kt_config.specs.declared.definition.Definition.TheVariants.{OfSuite}
+use Rattle.kt_config.specs.declared.meaning.Definition.{Definition}
+use Rattle.kt_config.specs.declared.meaning.Definition.TheVariants.{OfSuite}
 use Rattle.kt_config.specs.Values.{Group, Values, variables_of}
 use Rattle.kt_config.specs.Holding.{architecture_in, platform_in, parallelism_in, variable_for, last_given, given_to, if_any, Adds}
 use Rattle.kt_config.specs.Inner.{AddsToSuite}

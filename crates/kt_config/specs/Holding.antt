@@ -3,8 +3,8 @@ use Rattle.std.specs.Prelude.{ℕ, ◌≡◌, List, [], ◌∷◌, ◌++◌, Opt
 use Rattle.std.specs.Option.{option_or}
 use Rattle.kt_base.specs.declared.variable.Variable.{Variable}
 use Rattle.kt_base.specs.LastValues.{last_values}
-use Rattle.kt_config.specs.declared.definition.Definition.{Definition}
-use Rattle.kt_config.specs.declared.definition.Definition.TheVariants.{Architecture, Platform, Parallelism, UnprivilegedUser, OfSuite}
+use Rattle.kt_config.specs.declared.meaning.Definition.{Definition}
+use Rattle.kt_config.specs.declared.meaning.Definition.TheVariants.{Architecture, Platform, Parallelism, UnprivilegedUser, OfSuite}
 use Rattle.kt_config.specs.Values.{Values, variables_of}
 
 -- the value that a definition gives to the architecture

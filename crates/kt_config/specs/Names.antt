@@ -2,8 +2,8 @@
 use Rattle.std.specs.Prelude.{ℕ, Bool, true, false, not, ◌==◌, ◌&&◌, List, [], ◌∷◌, map, chars, Option, Some, None, Result, Ok, Err, bytes_eq, codes, if◌then◌else◌}
 use Rattle.std.specs.List.{slice_split}
 use Rattle.kt_base.specs.Utf8.{utf8}
-use Rattle.kt_config.specs.declared.definition.Definition.{Definition}
-use Rattle.kt_config.specs.declared.definition.Definition.TheVariants.{Architecture, Platform, Parallelism, UnprivilegedUser, OfSuite}
+use Rattle.kt_config.specs.declared.meaning.Definition.{Definition}
+use Rattle.kt_config.specs.declared.meaning.Definition.TheVariants.{Architecture, Platform, Parallelism, UnprivilegedUser, OfSuite}
 use Rattle.kt_config.specs.declared.fault.ConfigFault.{ConfigFault}
 use Rattle.kt_config.specs.declared.fault.ConfigFault.TheVariants.{UnknownVariable, BadValue}
 use Rattle.kt_config.specs.Forms.{has_zero, is_variable, width_of}

@@ -9,7 +9,7 @@ use Rattle.kt_script.specs.declared.syntax.Stmt.{Stmt}
 use Rattle.kt_script.specs.declared.literal.Literal.TheVariants.{Text, Number, Truth}
 use Rattle.kt_script.specs.LiteralText.{text_of}
 use Rattle.kt_script.specs.Spelling.{Spells, IsDue as IsScriptDue}
-use Rattle.kt_config.specs.declared.definition.Definition.{Definition}
+use Rattle.kt_config.specs.declared.meaning.Definition.{Definition}
 use Rattle.kt_config.specs.declared.fault.ConfigFault.{ConfigFault}
 use Rattle.kt_config.specs.declared.fault.ConfigFault.TheVariants.{NoMemory, NotAssignment, NoSyntax, Script}
 use Rattle.kt_config.specs.Names.{Meaning, definition_of}

@@ -2,10 +2,8 @@
 #![tactic(auto)]
 
 mod config;
-mod definition;
 mod fault;
 mod meaning;
-mod names;
 mod reading;
 mod suite_variables;
 mod suites;

@@ -1,11 +1,24 @@
 ghost use Rattle.std.specs.Prelude.{◌≡◌, IfOk};
 ghost use Rattle.kt_config.specs.Names.{unless_empty, of_width, runner_definition, is_suite_variable, suite_definition, definition_of};
 
-use crate::definition::Definition;
 use crate::fault::ConfigFault;
 use crate::width::Width;
 use crate::words::{has_zero, is_variable};
 use kt_base::{NoMemory, Text, Variable};
+
+/// A variable with the value that it is given.
+#[derive(Debug, Drop)]
+pub enum Definition {
+    Architecture(Text),
+    Platform(Text),
+    /// How many cases may run at once.
+    Parallelism(Width),
+    /// The user for tests that ask for an unprivileged one. This profile runs every test as its own
+    /// user, so the value has no effect.
+    UnprivilegedUser,
+    /// A variable of a test suite.
+    OfSuite(Text, Variable),
+}
 
 fn unless_empty(empty: bool, definition: Definition) -> Result<Definition, ConfigFault>
     ensures { result ≡ unless_empty empty definition }

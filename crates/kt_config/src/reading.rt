@@ -3,9 +3,8 @@ ghost use Rattle.kt_config.specs.Reading.{is_version, is_opening, meaning_of, de
 ghost use Rattle.kt_config.specs.Inner.{fault_of_script, Gives};
 
 use crate::config::Config;
-use crate::definition::Definition;
 use crate::fault::ConfigFault;
-use crate::meaning::definition_of;
+use crate::meaning::{Definition, definition_of};
 use kt_base::NoMemory;
 use kt_script::{Action, Arg, Literal, ScriptFault, Stmt};
 use std::alloc::Global;

@@ -1,9 +1,11 @@
-ghost use Rattle.std.specs.Prelude.{◌≡◌, chars};
+ghost use Rattle.std.specs.Prelude.{◌≡◌, chars, IfOk};
 ghost use Rattle.std.specs.List.{list_any};
 ghost use Rattle.std.specs.String.{string_bytes};
 ghost use Rattle.kt_config.specs.Forms.{is_zero, is_strange, has_zero, is_variable};
+ghost use Rattle.kt_config.specs.Names.{dotted};
 
-use kt_base::Text;
+use kt_base::{Items, NoMemory, Text};
+use std::alloc::Global;
 
 /// Whether a text has a zero byte.
 pub fn has_zero(text: &Text) -> bool
@@ -38,4 +40,16 @@ pub fn key_of(text: Text) -> String
     // A slice shows that the bytes are those of the characters.
     let _characters = text.as_str();
     text.into_string()
+}
+
+/// The parts of a name between its dots.
+pub fn dotted(alloc: Global, name: &Text) -> Result<Items<Text>, NoMemory>
+    ensures { IfOk result (λ parts. parts ≡ dotted name.now) }
+{
+    let between: Vec<&str> = name.as_str().split('.').collect(alloc)?;
+    let mut parts = Items::new(alloc);
+    for part in &between {
+        parts.push(Text::from_str(alloc, *part)?)?;
+    }
+    Ok(parts)
 }

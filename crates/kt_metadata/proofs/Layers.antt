@@ -14,7 +14,7 @@ use Rattle.kt_base.proofs.LastValueLaws.{overlaid, value_is}
 use Rattle.kt_base.proofs.Names.{same, value_of-append}
 use Rattle.kt_base.proofs.Texts.{bytes_eq-chars}
 use Rattle.kt_config.proofs.Puttings.{put, first_value, first-settled, put-settled, settled-put, twice}
-use Rattle.kt_metadata.specs.declared.given.Given.{Given}
+use Rattle.kt_metadata.specs.declared.value.Given.{Given}
 use Rattle.kt_metadata.specs.Inner.Layers.{pair_in, pairs_in, IsRead, AreRead, AreSound}
 use Rattle.kt_metadata.specs.Overlays.{a_pair}
 use Rattle.kt_metadata.specs.Properties.{value_named}

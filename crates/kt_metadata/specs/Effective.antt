@@ -2,8 +2,8 @@
 use Rattle.std.specs.Prelude.{ℕ, Bool, false, codes, List, [], Option, Some, unwrap_or, option_and_then}
 use Rattle.kt_base.specs.declared.variable.Variable.{Variable}
 use Rattle.kt_base.specs.LastValues.{value_of}
-use Rattle.kt_metadata.specs.declared.user.User.{User}
-use Rattle.kt_metadata.specs.declared.user.User.TheVariants.{Any}
+use Rattle.kt_metadata.specs.declared.value.User.{User}
+use Rattle.kt_metadata.specs.declared.value.User.TheVariants.{Any}
 use Rattle.kt_metadata.specs.declared.value.Value.{Value}
 use Rattle.kt_metadata.specs.declared.value.Value.TheVariants.{Words, Truth, Size, User as OfUser, Timeout}
 use Rattle.kt_metadata.specs.declared.meta.Meta.{Meta}

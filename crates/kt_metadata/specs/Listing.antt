@@ -7,8 +7,8 @@ use Rattle.kt_base.specs.LastValues.{last_values}
 use Rattle.kt_base.specs.Texts.{is_empty}
 use Rattle.kt_metadata.specs.declared.form.Form.{Form}
 use Rattle.kt_metadata.specs.declared.form.Form.TheVariants as form
-use Rattle.kt_metadata.specs.declared.user.User.{User}
-use Rattle.kt_metadata.specs.declared.user.User.TheVariants.{Any, Root, Unprivileged}
+use Rattle.kt_metadata.specs.declared.value.User.{User}
+use Rattle.kt_metadata.specs.declared.value.User.TheVariants.{Any, Root, Unprivileged}
 use Rattle.kt_metadata.specs.declared.value.Value.{Value}
 use Rattle.kt_metadata.specs.declared.value.Value.TheVariants as value
 use Rattle.kt_metadata.specs.Properties.{Row, table, is_custom}

@@ -1,5 +1,5 @@
 -- The requirements of a case, row by row.
-use Rattle.std.specs.Prelude.{ℕ, Bool, true, false, not, nat_lt, ◌==◌, ◌||◌, bytes_eq, codes, length, List, [], ◌∷◌, ◌++◌, Option, Some, None, if◌then◌else◌}
+use Rattle.std.specs.Prelude.{◌≡◌, ℕ, Bool, true, false, not, nat_lt, ◌==◌, ◌||◌, bytes_eq, codes, length, List, [], ◌∷◌, ◌++◌, Option, Some, None, if◌then◌else◌}
 use Rattle.std.specs.List.{list_any, find}
 use Rattle.std.specs.Option.{option_map}
 use Rattle.std.specs.BTreeSet.{contains_text}
@@ -10,11 +10,11 @@ use Rattle.kt_base.specs.declared.phrase.Phrase.{Phrase}
 use Rattle.kt_base.specs.declared.phrase.Phrase.TheVariants.{MemoryNeeded, DiskNeeded}
 use Rattle.kt_config.specs.Values.{Values}
 use Rattle.kt_metadata.specs.declared.meta.Meta.{Meta}
-use Rattle.kt_metadata.specs.declared.need.Need.{Need}
-use Rattle.kt_metadata.specs.declared.need.Need.TheVariants.{File, Program}
+use Rattle.kt_metadata.specs.declared.host.Need.{Need}
+use Rattle.kt_metadata.specs.declared.host.Need.TheVariants.{File, Program}
 use Rattle.kt_metadata.specs.declared.host.Host.{Host}
-use Rattle.kt_metadata.specs.declared.user.User.{User}
-use Rattle.kt_metadata.specs.declared.user.User.TheVariants.{Root, Unprivileged}
+use Rattle.kt_metadata.specs.declared.value.User.{User}
+use Rattle.kt_metadata.specs.declared.value.User.TheVariants.{Root, Unprivileged}
 use Rattle.kt_metadata.specs.Configured.{is_undefined, architecture_of, platform_of}
 
 -- the text of a reason, if there is one
@@ -47,15 +47,15 @@ architecture_row meta config = listed_row (codes "Current architecture '") meta.
 abbrev pub platform_row : Meta → Values → Option (List ℕ)
 platform_row meta config = listed_row (codes "Current platform '") meta.allowed_platforms (platform_of config)
 
--- a case for root, and the host isn't root
-abbrev pub root_row : User → Bool → Option (List ℕ)
-root_row Root false = Some (codes "Requires root privileges")
-root_row user root = None
+-- a case for root, and the host isn't root; or for another user, and it is
+abbrev pub user_row : User → Bool → Option (List ℕ)
+user_row Root false = Some (codes "Requires root privileges")
+user_row Unprivileged true = Some (codes "Requires an unprivileged user")
+user_row user root = None
 
--- a case for another user than root, and the host is root
-abbrev pub unprivileged_row : User → Bool → Option (List ℕ)
-unprivileged_row Unprivileged true = Some (codes "Requires an unprivileged user")
-unprivileged_row user root = None
+-- all kinds of needs, in their order
+abbrev pub all_needs : List Need
+all_needs = File ∷ Program ∷ []
 
 -- the words that must be found
 abbrev pub needed : Need → Meta → List (List ℕ)
@@ -66,6 +66,19 @@ needed Program meta = meta.required_programs
 abbrev pub is_found : Need → Host → List ℕ → Bool
 is_found File host word = contains_text host.files (utf8 word)
 is_found Program host word = contains_text host.programs (utf8 word)
+
+-- this word is that one, of the same kind
+abbrev pub is_same_need : Need → List ℕ → Need → List ℕ → Bool
+is_same_need File path File other = bytes_eq (utf8 path) (utf8 other)
+is_same_need Program name Program other = bytes_eq (utf8 name) (utf8 other)
+is_same_need need word other_need other = false
+
+-- a word was added to what was found, and nothing else has changed
+pub record IsNoted (need : Need) (word : List ℕ) (old new : Host) : Type 0 where
+  pub found : (other_need : Need) (other : List ℕ) → is_found other_need new other ≡ (is_found other_need old other || is_same_need need word other_need other)
+  pub root : new.root ≡ old.root
+  pub memory : new.memory ≡ old.memory
+  pub disk : new.disk ≡ old.disk
 
 -- the beginning of the reason
 abbrev pub need_text : Need → List ℕ
@@ -85,12 +98,11 @@ amount_row phrase due (Some there) =
 -- the rows that only the host decides, in their order
 abbrev pub host_rows : Meta → Host → List (Option (List ℕ))
 host_rows meta host =
-    root_row meta.required_user host.root ∷ unprivileged_row meta.required_user host.root
-    ∷ need_row File meta host ∷ need_row Program meta host
+    user_row meta.required_user host.root ∷ need_row File meta host ∷ need_row Program meta host
     ∷ amount_row MemoryNeeded meta.required_memory host.memory
     ∷ amount_row DiskNeeded meta.required_disk_space host.disk ∷ []
 
--- all nine rows in their order, each with its reason if it is unmet
+-- all eight rows in their order, each with its reason if it is unmet
 abbrev pub rows : Meta → Values → List ℕ → Host → List (Option (List ℕ))
 rows meta config suite host =
     config_row meta config suite ∷ architecture_row meta config

@@ -6,8 +6,8 @@ use Rattle.kt_base.specs.Digits.{is_digit, decimal_from, fits}
 use Rattle.kt_base.specs.Limits.{longest_timeout}
 use Rattle.kt_base.specs.Texts.{is_empty}
 use Rattle.kt_base.specs.Utf8.{utf8}
-use Rattle.kt_metadata.specs.declared.user.User.{User}
-use Rattle.kt_metadata.specs.declared.user.User.TheVariants.{Any, Root, Unprivileged}
+use Rattle.kt_metadata.specs.declared.value.User.{User}
+use Rattle.kt_metadata.specs.declared.value.User.TheVariants.{Any, Root, Unprivileged}
 
 -- a truth value
 abbrev pub truth_of : List ℕ → Option Bool

@@ -7,8 +7,7 @@ ghost use Rattle.kt_metadata.specs.Effective.{texts_of, given, words_in, truth_i
 use crate::form::DEFAULT_TIMEOUT;
 use crate::meta::Meta;
 use crate::props::Props;
-use crate::user::User;
-use crate::value::{Value, copy_of_words};
+use crate::value::{User, Value, copy_of_words};
 use kt_base::{Items, NoMemory, Text};
 
 impl Props {

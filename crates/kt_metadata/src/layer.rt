@@ -1,16 +1,17 @@
 ghost use Rattle.std.specs.Prelude.{◌≡◌, ◌∷◌, ◌++◌, [], List, IfOk, OnOk, OnErr, chars};
 ghost use Rattle.std.specs.Option.{option_copied, option_map};
+ghost use Rattle.std.specs.List.{filter};
 ghost use Rattle.kt_base.specs.declared.variable.Variable.{Variable};
 ghost use Rattle.kt_base.specs.LastValues.{last_values, value_of};
 ghost use Rattle.kt_metadata.specs.Effective.{texts_of, given};
 ghost use Rattle.kt_metadata.specs.Inner.Layers.{IsRead};
-ghost use Rattle.kt_metadata.specs.Listing.{custom_pairs};
+ghost use Rattle.kt_metadata.specs.Listing.{custom_pairs, is_valued};
 ghost use Rattle.kt_metadata.specs.Overlays.{a_pair};
 
-use crate::given::Given;
-use crate::pairs::add_if_custom;
+use crate::table::is_custom;
+use crate::value::Given;
 use indexmap::IndexMap;
-use kt_base::{NoMemory, Variables};
+use kt_base::{NoMemory, Text, Variable, Variables};
 use std::alloc::Global;
 use std::marker::Model;
 
@@ -94,4 +95,32 @@ impl Layer {
         }
         Ok(())
     }
+}
+
+/// Appends a pair, unless its value is empty.
+pub fn add(pairs: &mut Variables, name: Text, value: Text) -> Result<(), NoMemory>
+    ensures { OnOk result (pairs.new ≡ pairs.old ++ filter is_valued (a_pair name value ∷ [])) }
+{
+    if value.is_empty() {
+        return Ok(());
+    }
+    pairs.push(Variable { name, value })?;
+    Ok(())
+}
+
+/// Appends the pair of a custom property, unless its value is empty.
+fn add_if_custom(
+    alloc: Global,
+    pairs: &mut Variables,
+    name: &str,
+    value: &Text,
+) -> Result<(), NoMemory>
+    ensures { OnOk result (pairs.new
+        ≡ pairs.old ++ custom_pairs (a_pair (chars name.now) value.now ∷ [])) }
+{
+    if !is_custom(name) {
+        return Ok(());
+    }
+    add(pairs, Text::from_str(alloc, name)?, value.copy()?)?;
+    Ok(())
 }

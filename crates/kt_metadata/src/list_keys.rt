@@ -3,8 +3,7 @@ ghost use Rattle.std.specs.Option.{option_map};
 ghost use Rattle.kt_metadata.specs.Properties.{own_part, form_named};
 ghost use Rattle.kt_metadata.specs.ListKeys.{name_of_key, StandsFor};
 
-use crate::table::{TABLE, row_keyed};
-use crate::texts::own_part;
+use crate::table::{TABLE, own_part, row_keyed};
 use kt_base::{NoMemory, Text};
 use std::alloc::Global;
 

@@ -5,7 +5,7 @@ ghost use Rattle.kt_metadata.specs.Effective.{texts_of};
 ghost use Rattle.kt_metadata.specs.Inner.Rows.{row_in};
 ghost use Rattle.kt_metadata.specs.Listing.{shown_pairs, shown_text, listing};
 
-use crate::pairs::add;
+use crate::layer::add;
 use crate::props::Props;
 use crate::table::{Row, TABLE};
 use kt_base::{NoMemory, Text, Variables};

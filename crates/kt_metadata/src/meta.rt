@@ -1,5 +1,5 @@
-use crate::need::Need;
-use crate::user::User;
+use crate::host::Need;
+use crate::value::User;
 use kt_base::{Items, Text};
 
 /// The properties of a case as kyuafile(5) names them, each by its value or its default.

@@ -8,10 +8,9 @@ ghost use Rattle.kt_metadata.specs.Overlays.{a_pair};
 ghost use Rattle.kt_metadata.specs.Properties.{definition_fault, IfFault};
 
 use crate::fault::PropFault;
-use crate::given::Given;
 use crate::layer::Layer;
 use crate::table::read_definition;
-use crate::value::Value;
+use crate::value::{Given, Value};
 use kt_base::{NoMemory, Text};
 use std::alloc::Global;
 use std::marker::Model;

@@ -1,15 +1,54 @@
-ghost use Rattle.std.specs.Prelude.{◌≡◌, ◌++◌, chars, IfOk};
+ghost use Rattle.std.specs.Prelude.{◌≡◌, ◌++◌, chars, IfOk, bytes_eq, not};
+ghost use Rattle.std.specs.List.{list_any, find};
+ghost use Rattle.std.specs.Option.{option_copied};
 ghost use Rattle.kt_base.specs.Reasons.{reason_text};
-ghost use Rattle.kt_metadata.specs.Requirements.{text_in, config_row, listed_row, root_row, unprivileged_row, need_row, amount_row};
+ghost use Rattle.kt_metadata.specs.Requirements.{text_in, config_row, listed_row, user_row, need_row, amount_row, is_allowed, is_found, needed};
+ghost use Rattle.kt_metadata.specs.Configured.{is_undefined};
 
-use crate::host::Host;
+use crate::host::{Host, Need};
 use crate::meta::Meta;
-use crate::need::Need;
-use crate::searches::{first_missing, first_undefined, is_allowed};
-use crate::user::User;
+use crate::value::User;
 use kt_base::{NoMemory, Phrase, Reason, Text};
 use kt_config::Config;
 use std::alloc::Global;
+
+fn is_undefined(config: &Config, suite: &Text, name: &Text) -> bool
+    ensures { result ≡ is_undefined config.now suite.now name.now }
+{
+    match config.suite_vars(suite) {
+        None => true,
+        Some(variables) => !variables.is_defined(name),
+    }
+}
+
+/// The first word that isn't a variable of a suite.
+fn first_undefined<'a>(words: &'a [Text], config: &Config, suite: &Text) -> Option<&'a Text>
+    ensures { option_copied result ≡ find (is_undefined config.now suite.now) words.now }
+{
+    words.iter().find(|word| is_undefined(config, suite, *word))
+}
+
+/// The first word that must be found on the host and wasn't.
+fn first_missing<'a>(need: Need, meta: &'a Meta, host: &Host) -> Option<&'a Text>
+    ensures { option_copied result
+        ≡ find (λ word. not (is_found need host.now word)) (needed need meta.now) }
+{
+    let words = meta.needed(need);
+    words.iter().find(|word| !host.has(need, *word))
+}
+
+fn is_listed(words: &[Text], word: &str) -> bool
+    ensures { result ≡ list_any (λ w. bytes_eq w (chars word.now)) words.now }
+{
+    words.iter().any(|listed| listed.is_word(word))
+}
+
+/// Whether nothing is listed, or this word is.
+fn is_allowed(words: &[Text], word: &str) -> bool
+    ensures { result ≡ is_allowed words.now (chars word.now) }
+{
+    words.is_empty() || is_listed(words, word)
+}
 
 fn about(alloc: Global, front: &str, word: &str, back: &str) -> Result<Reason, NoMemory>
     ensures { IfOk result (λ reason. reason_text reason
@@ -61,31 +100,14 @@ pub fn listed_reason(
     Ok(Some(reason))
 }
 
-/// A case for root on a host that isn't root.
-pub fn root_reason(user: User, root: bool) -> Option<Reason>
-    ensures { text_in result ≡ root_row user root }
+/// A case for root on a host that isn't root, or for another user on one that is.
+pub fn user_reason(user: User, root: bool) -> Option<Reason>
+    ensures { text_in result ≡ user_row user root }
 {
-    match user {
-        User::Root => if root {
-            None
-        } else {
-            Some(Reason::Fixed(Phrase::RootNeeded))
-        },
-        User::Any | User::Unprivileged => None,
-    }
-}
-
-/// A case for another user than root on a host that is root.
-pub fn unprivileged_reason(user: User, root: bool) -> Option<Reason>
-    ensures { text_in result ≡ unprivileged_row user root }
-{
-    match user {
-        User::Unprivileged => if root {
-            Some(Reason::Fixed(Phrase::UnprivilegedNeeded))
-        } else {
-            None
-        },
-        User::Any | User::Root => None,
+    match (user, root) {
+        (User::Root, false) => Some(Reason::Fixed(Phrase::RootNeeded)),
+        (User::Unprivileged, true) => Some(Reason::Fixed(Phrase::UnprivilegedNeeded)),
+        _ => None,
     }
 }
 

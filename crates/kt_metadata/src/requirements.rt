@@ -1,12 +1,9 @@
 ghost use Rattle.std.specs.Prelude.{◌≡◌, IfOk};
 ghost use Rattle.kt_metadata.specs.Requirements.{text_in, architecture_row, platform_row, rows, host_rows, first_reason};
 
-use crate::host::Host;
+use crate::host::{Host, Need};
 use crate::meta::Meta;
-use crate::need::Need;
-use crate::reasons::{
-    amount_reason, config_reason, listed_reason, need_reason, root_reason, unprivileged_reason,
-};
+use crate::reasons::{amount_reason, config_reason, listed_reason, need_reason, user_reason};
 use kt_base::{NoMemory, Phrase, Reason, Text};
 use kt_config::Config;
 use std::alloc::Global;
@@ -39,10 +36,7 @@ fn platform_reason(alloc: Global, meta: &Meta, config: &Config) -> Result<Option
 fn host_reason(alloc: Global, meta: &Meta, host: &Host) -> Result<Option<Reason>, NoMemory>
     ensures { IfOk result (λ reason. text_in reason ≡ first_reason (host_rows meta.now host.now)) }
 {
-    if let Some(reason) = root_reason(meta.required_user, host.root) {
-        return Ok(Some(reason));
-    }
-    if let Some(reason) = unprivileged_reason(meta.required_user, host.root) {
+    if let Some(reason) = user_reason(meta.required_user, host.root) {
         return Ok(Some(reason));
     }
     if let Some(reason) = need_reason(alloc, Need::File, meta, host)? {

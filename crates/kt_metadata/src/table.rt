@@ -3,11 +3,10 @@ ghost use Rattle.std.specs.List.{find};
 ghost use Rattle.std.specs.Option.{option_copied, option_map};
 ghost use Rattle.kt_metadata.specs.Inner.Rows.{row_in};
 ghost use Rattle.kt_metadata.specs.ListKeys.{has_key};
-ghost use Rattle.kt_metadata.specs.Properties.{has_name, is_custom, form_named, is_kyuafile_property, value_named, definition_fault, IfFault};
+ghost use Rattle.kt_metadata.specs.Properties.{has_name, is_custom, form_named, is_kyuafile_property, value_named, definition_fault, IfFault, filled, own_part};
 
 use crate::fault::PropFault;
 use crate::form::Form;
-use crate::texts::own_part;
 use crate::value::Value;
 use kt_base::Text;
 use std::alloc::Global;
@@ -97,5 +96,25 @@ pub fn read_definition(alloc: Global, name: &Text, text: &Text) -> Result<Value,
             None => Err(PropFault::BadValue),
             Some(value) => Ok(value),
         },
+    }
+}
+
+fn filled(text: &str) -> Option<&str>
+    ensures { option_map (λ part. chars part.now) result ≡ filled (chars text.now) }
+{
+    if text.is_empty() {
+        return None;
+    }
+    Some(text)
+}
+
+/// What follows a front, in a text that goes on after it.
+pub fn own_part<'a>(text: &'a str, front: &str) -> Option<&'a str>
+    ensures { option_map (λ part. chars part.now) result
+        ≡ own_part (chars front.now) (chars text.now) }
+{
+    match text.strip_prefix(front) {
+        None => None,
+        Some(part) => filled(part),
     }
 }

@@ -1,9 +1,17 @@
 ghost use Rattle.std.specs.Prelude.{◌≡◌, ◌++◌, chars, IfOk, OnOk};
 ghost use Rattle.kt_metadata.specs.Listing.{joined, spaced, truth_text, user_text, shown};
 
-use crate::user::User;
 use kt_base::{Items, NoMemory, Text};
 use std::alloc::Global;
+
+/// The user that a case asks for.
+#[derive(Clone, Copy, Debug, PartialEq, Eq)]
+pub enum User {
+    Any,
+    Root,
+    /// Any user but root.
+    Unprivileged,
+}
 
 /// The value of a property, as its form reads it.
 #[derive(Debug, Drop)]
@@ -93,5 +101,26 @@ impl Value {
             Value::User(user) => Text::from_str(alloc, user_word(*user)),
             Value::Timeout(seconds) => Text::from_number(alloc, u64::from(*seconds)),
         }
+    }
+}
+
+/// What was given to a name: the text, as it was written, and the value that it was read as.
+#[derive(Debug, Drop)]
+pub struct Given {
+    pub text: Text,
+    pub value: Value,
+}
+
+impl Given {
+    ghost use Rattle.std.specs.Prelude.{◌≡◌, IfOk};
+
+    /// The same with memory of its own.
+    pub fn copy(&self, alloc: Global) -> Result<Given, NoMemory>
+        ensures { IfOk result (λ given. given ≡ self.now) }
+    {
+        Ok(Given {
+            text: self.text.copy()?,
+            value: self.value.copy(alloc)?,
+        })
     }
 }

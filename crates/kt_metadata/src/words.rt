@@ -1,6 +1,6 @@
 ghost use Rattle.std.specs.Prelude.{◌≡◌, ◌∷◌, [], ◌++◌, List, ℕ, IfOk, OnOk};
 ghost use Rattle.kt_base.specs.Characters.{is_space};
-ghost use Rattle.kt_metadata.specs.Words.{ended, words, words_from};
+ghost use Rattle.kt_metadata.specs.Words.{ended, words, words_from, AreWords};
 
 use kt_base::{Items, NoMemory, Text};
 use std::alloc::Global;
@@ -48,3 +48,10 @@ pub fn words(alloc: Global, text: &Text) -> Result<Items<Text>, NoMemory>
     end_word(&mut found, word)?;
     Ok(found)
 }
+
+/// The law of words, for whoever reads a value of words by its rule. It does nothing.
+pub fn words_laws()
+    ensures words { (text : List ℕ) → AreWords text (words text) }
+    ensures only { (text : List ℕ) → (found : List (List ℕ)) → AreWords text found
+        → found ≡ words text }
+{}

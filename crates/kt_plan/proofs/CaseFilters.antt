@@ -4,9 +4,9 @@ use Rattle.std.proofs.Common.{◌≡◌, ℕ, suc, ◌<◌, Bool, true, false, L
 use Rattle.std.proofs.lemmas.Option.{slice_get_read, slice_get_within}
 use Rattle.std.proofs.lemmas.Result.{err_from_is_err_and}
 use Rattle.kt_suite.specs.declared.filter.Filter.{Filter}
-use Rattle.kt_suite.specs.declared.filter_fault.FilterFault.{FilterFault}
-use Rattle.kt_suite.specs.declared.filter_fault.FilterFault.TheVariants.{Repeated, NotDisjoint}
-use Rattle.kt_suite.specs.Disjoint.{IsDisjoint, IsFirstFault, overlap_fault, fault_after, is_same_filter, overlap}
+use Rattle.kt_suite.specs.declared.filter.FilterFault.{FilterFault}
+use Rattle.kt_suite.specs.declared.filter.FilterFault.TheVariants.{Repeated, NotDisjoint}
+use Rattle.kt_suite.specs.Disjoint.{IsDisjoint, IsFirstFault, fault_after, is_same_filter, overlap}
 use Rattle.kt_suite.specs.Disjoint as of
 use Rattle.kt_plan.specs.Inner.Configuring.{ChecksTogether, apart, position_in, shared}
 use Rattle.kt_plan.specs.Configuring.{Filters, clash, each_of, filters_of, in_front, lacks_case, right, unnamed, unparsed}

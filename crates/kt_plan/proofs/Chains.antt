@@ -6,10 +6,6 @@ use Rattle.kt_sched.specs.Children.{Child, IsIdle}
 use Rattle.kt_base.specs.Chains.{Chain}
 use Rattle.kt_suite.specs.Answers.{Answered}
 
--- one question
-pub asked_once : {W Q : Type 0} (leads : W → Q → W → Type 0) (old new : W) (q : Q) (P : List Q → Type 0) → leads old q new → P (q ∷ []) → Answered leads old new P
-asked_once leads old new q P h p = record { asked = q ∷ []; chain = (new, h, refl); holds = p }
-
 -- three questions, and others after them
 pub asked_four : {W Q : Type 0} (leads : W → Q → W → Type 0) (old a b d new : W) (x y z : Q) (P : List Q → Type 0) → leads old x a → leads a y b → leads b z d → Answered leads d new P
     → Answered leads old new (λ asked. (more : List Q) × (asked ≡ x ∷ y ∷ z ∷ more) × P more)

@@ -10,9 +10,9 @@ use Rattle.kt_suite.specs.Selecting.{most_items, is_selected}
 use Rattle.kt_suite.specs.declared.fault.SuiteFault.{SuiteFault}
 use Rattle.kt_suite.specs.declared.filter.Filter.{Filter}
 use Rattle.kt_suite.specs.declared.program.Program.{Program}
-use Rattle.kt_plan.specs.declared.cases.candidate.Candidate.{Candidate}
-use Rattle.kt_plan.specs.declared.cases.chosen.Chosen.{Chosen}
-use Rattle.kt_plan.specs.declared.options.settings.Settings.{Settings}
+use Rattle.kt_plan.specs.declared.cases.offering.Candidate.{Candidate}
+use Rattle.kt_plan.specs.declared.cases.choosing.Chosen.{Chosen}
+use Rattle.kt_plan.specs.declared.options.configuring.Settings.{Settings}
 use Rattle.kt_plan.specs.declared.stop.Stop.{Stop}
 use Rattle.kt_plan.specs.declared.stop.Stop.TheVariants as stop
 use Rattle.kt_plan.specs.Inner.Collecting.{CollectsOrShort, Collected}

@@ -1,34 +1,22 @@
 -- What the host is asked for, and what is noted of its answers.
 use Rattle.std.specs.Prelude.{Bool, true, false, Option, Some, None, is_some}
-use Rattle.std.proofs.Common.{◌≡◌, ℕ, List, [], ◌∷◌, ◌++◌, ◌&&◌, ◌||◌, cond, refl, sym, ap, ◌∙◌, subst, bytes_eq, string_bytes, BTreeSet, append_assoc, append-nil, Global, nat_cmp}
+use Rattle.std.proofs.Common.{◌≡◌, ℕ, List, [], ◌∷◌, ◌++◌, ◌&&◌, ◌||◌, refl, sym, ap, ◌∙◌, subst, append_assoc, append-nil}
 use Rattle.std.specs.List.{list_any}
-use Rattle.std.specs.BTreeSet.{contains_text, IsEmpty}
-use Rattle.std.specs.BTreeMap.{is_at}
-use Rattle.std.specs.Cmp.Lexicographic.{slice_cmp}
-use Rattle.std.specs.declared.string.String.{String}
 use Rattle.std.proofs.lemmas.List.Folds.{list_any-append}
 use Rattle.std.proofs.Math.Bool.{or-false}
-use Rattle.kt_base.specs.Utf8.{utf8}
 use Rattle.kt_base.specs.Chains.{Chain}
 use Rattle.kt_suite.specs.Answers.{Answered}
 use Rattle.kt_base.specs.declared.reason.Reason.{Reason}
-use Rattle.kt_metadata.specs.Requirements.{is_found, needed}
+use Rattle.kt_metadata.specs.Requirements.{all_needs, is_found, is_same_need, IsNoted}
 use Rattle.kt_metadata.specs.declared.host.Host.{Host}
 use Rattle.kt_metadata.specs.declared.meta.Meta.{Meta}
-use Rattle.kt_metadata.specs.declared.need.Need.{Need}
-use Rattle.kt_metadata.specs.declared.need.Need.TheVariants.{File, Program}
-use Rattle.kt_plan.specs.declared.cases.candidate.Candidate.{Candidate}
+use Rattle.kt_metadata.specs.declared.host.Need.{Need}
+use Rattle.kt_plan.specs.declared.cases.offering.Candidate.{Candidate}
 use Rattle.kt_plan.specs.Inner.Planning.{Notes}
-use Rattle.kt_plan.specs.Planning.{finds, meta_in, needs_by, needs_in, needs_of, LooksFor, nothing, asked, Surveys, SurveysFirst}
+use Rattle.kt_plan.specs.Planning.{finds, meta_in, needs_among, needs_by, needs_of, LooksFor, nothing, asked, Surveys, SurveysFirst}
 use Rattle.kt_plan.specs.Questions.{AreFirst}
 use Rattle.kt_plan.specs.Told.{Told, Finds, IsRoot, HasMemory, HasDisk}
 use Rattle.kt_base.proofs.Chains.{chain-append}
-
-pub or_last : (b x : Bool) → cond b true x ≡ (x || b)
-or_last true true = refl
-or_last true false = refl
-or_last false true = refl
-or_last false false = refl
 
 and_true : (b : Bool) → (b && true) ≡ b
 and_true true = refl
@@ -59,43 +47,22 @@ notes_more told more a b d h k = record {
 }
 
 -- what isn't there is not noted
-finds_false : (need other : Need) (word name : List ℕ) → finds need word (Finds other name false) ≡ false
-finds_false File File word name = and_false (bytes_eq (utf8 name) (utf8 word))
-finds_false Program Program word name = and_false (bytes_eq (utf8 name) (utf8 word))
-finds_false File Program word name = refl
-finds_false Program File word name = refl
-
 notes_missing : (need : Need) (name : List ℕ) (host : Host) → Notes (Finds need name false ∷ []) host host
 notes_missing need name host = record {
-  found = λ other word. sym (or-false (is_found other host word)) ∙ ap (λ (x : Bool). is_found other host word || x) (sym (or-false (finds other word (Finds need name false)) ∙ finds_false other need word name));
+  found = λ other word. sym (or-false (is_found other host word)) ∙ ap (λ (x : Bool). is_found other host word || x) (sym (or-false (is_same_need need name other word && false) ∙ and_false (is_same_need need name other word)));
   root = refl;
   memory = refl;
   disk = refl;
 }
 
--- a word was added to a set of those that were found
-added : (name word : List ℕ) (old new : BTreeSet (String Global)) → ((bytes : List ℕ) → contains_text new bytes ≡ (contains_text old bytes || bytes_eq (utf8 name) bytes))
-    → contains_text new (utf8 word) ≡ (contains_text old (utf8 word) || ((bytes_eq (utf8 name) (utf8 word) && true) || false))
-added name word old new h =
-    h (utf8 word) ∙ ap (λ (x : Bool). contains_text old (utf8 word) || x) (sym (or-false (bytes_eq (utf8 name) (utf8 word) && true) ∙ and_true (bytes_eq (utf8 name) (utf8 word))))
-
--- a file is there
-pub notes_file : (name : List ℕ) (old : Host) (files : BTreeSet (String Global)) → ((bytes : List ℕ) → contains_text files bytes ≡ (contains_text old.files bytes || bytes_eq (utf8 name) bytes))
-    → Notes (Finds File name true ∷ []) old (record { root = old.root; files = files; programs = old.programs; memory = old.memory; disk = old.disk })
-notes_file name old files h = record { found = by; root = refl; memory = refl; disk = refl }
-  where
-    by : (need : Need) (word : List ℕ) → is_found need (record { root = old.root; files = files; programs = old.programs; memory = old.memory; disk = old.disk }) word ≡ (is_found need old word || (finds need word (Finds File name true) || false))
-    by File word = added name word old.files files h
-    by Program word = sym (or-false (contains_text old.programs (utf8 word)))
-
--- a program is there
-pub notes_program : (name : List ℕ) (old : Host) (programs : BTreeSet (String Global)) → ((bytes : List ℕ) → contains_text programs bytes ≡ (contains_text old.programs bytes || bytes_eq (utf8 name) bytes))
-    → Notes (Finds Program name true ∷ []) old (record { root = old.root; files = old.files; programs = programs; memory = old.memory; disk = old.disk })
-notes_program name old programs h = record { found = by; root = refl; memory = refl; disk = refl }
-  where
-    by : (need : Need) (word : List ℕ) → is_found need (record { root = old.root; files = old.files; programs = programs; memory = old.memory; disk = old.disk }) word ≡ (is_found need old word || (finds need word (Finds Program name true) || false))
-    by File word = sym (or-false (contains_text old.files (utf8 word)))
-    by Program word = added name word old.programs programs h
+-- what is there is noted
+notes_there : (need : Need) (name : List ℕ) (old new : Host) → IsNoted need name old new → Notes (Finds need name true ∷ []) old new
+notes_there need name old new k = record {
+  found = λ other word. k.found other word ∙ ap (λ (x : Bool). is_found other old word || x) (sym (or-false (is_same_need need name other word && true) ∙ and_true (is_same_need need name other word)));
+  root = k.root;
+  memory = k.memory;
+  disk = k.disk;
+}
 
 -- questions, and others after them
 looks_append : (some after : List (Need × List ℕ)) (told more : List Told) → LooksFor some told → LooksFor after more → LooksFor (some ++ after) (told ++ more)
@@ -116,11 +83,10 @@ needs_nothing : (fault : Option Reason) (meta : Meta) → is_some fault ≡ true
 needs_nothing None meta e = absurd (cc)
 needs_nothing (Some reason) meta e = refl
 
--- another one needs its files and its programs
-needs_both : (fault : Option Reason) (meta : Meta) (files programs : List (List ℕ)) → is_some fault ≡ false → files ≡ needed File meta → programs ≡ needed Program meta
-    → needs_by fault meta ≡ needs_in File files ++ needs_in Program programs
-needs_both None meta files programs e f p = ap (λ (words : List (List ℕ)). needs_in File words ++ needs_in Program (needed Program meta)) (sym f) ∙ ap (λ (words : List (List ℕ)). needs_in File files ++ needs_in Program words) (sym p)
-needs_both (Some reason) meta files programs e f p = absurd (cc)
+-- another one needs all that its properties require
+pub needs_all : (fault : Option Reason) (needs : List Need) (meta due : Meta) → is_some fault ≡ false → needs ≡ all_needs → meta ≡ due → needs_among needs meta ≡ needs_by fault due
+needs_all None needs meta due e n m = ap (λ (ns : List Need). needs_among ns meta) n ∙ ap (needs_among all_needs) m
+needs_all (Some reason) needs meta due e n m = absurd (cc)
 
 -- all questions to the host are the first ones
 pub all_surveyed : (cases : List Candidate) (told : List Told) (host : Host) → Surveys cases told host → SurveysFirst cases told
@@ -144,12 +110,12 @@ module _ {W : Type 0} (tells : W → Told → W → Type 0) where
   }
 
   -- it is there
-  pub word_there : (need : Need) (name : List ℕ) (old new : W) (was now : Host) (answer : Bool) → answer ≡ true → tells old (Finds need name answer) new → Notes (Finds need name true ∷ []) was now
+  pub word_there : (need : Need) (name : List ℕ) (old new : W) (was now : Host) (answer : Bool) → answer ≡ true → tells old (Finds need name answer) new → IsNoted need name was now
       → Answered tells old new (λ told. LooksFor ((need, name) ∷ []) told × Notes told was now)
   word_there need name old new was now answer there h n = record {
     asked = Finds need name true ∷ [];
     chain = (new, subst (λ (b : Bool). tells old (Finds need name b) new) there h, refl);
-    holds = (asked need name [] true [] nothing, n);
+    holds = (asked need name [] true [] nothing, notes_there need name was now n);
   }
 
   -- memory ran out after a question about a word
@@ -214,54 +180,18 @@ module _ {W : Type 0} (tells : W → Told → W → Type 0) where
       let needs = needs_by candidate.case.fault (meta_in candidate) in
       looking_all needs world host needs world host (needs_nothing candidate.case.fault (meta_in candidate) e) (looking_first needs world host)
 
-  module _ (candidate : Candidate) (old : W) where
-    -- memory ran out at the files of a case
-    pub case_first : (new : W) (was : Host) (files : List (List ℕ)) → is_some candidate.case.fault ≡ false → files ≡ needed File (meta_in candidate)
-        → Answered tells old new (λ told. AreFirst (LooksFor (needs_in File files)) told) → Answered tells old new (λ told. AreFirst (LooksFor (needs_by candidate.case.fault (meta_in candidate))) told)
-    case_first new was files e f a =
-        let needs = needs_by candidate.case.fault (meta_in candidate) in
-        let programs = needed Program (meta_in candidate) in
-        looking_stopped needs old was needs (needs_in File files) (needs_in Program programs) old new was (needs_both candidate.case.fault (meta_in candidate) files programs e f refl) (looking_first needs old was) a
-
-    -- or at its programs
-    pub case_next : (mid new : W) (was then : Host) (files programs : List (List ℕ)) → is_some candidate.case.fault ≡ false → files ≡ needed File (meta_in candidate) → programs ≡ needed Program (meta_in candidate)
-        → Answered tells old mid (λ told. LooksFor (needs_in File files) told × Notes told was then) → Answered tells mid new (λ told. AreFirst (LooksFor (needs_in Program programs)) told)
-        → Answered tells old new (λ told. AreFirst (LooksFor (needs_by candidate.case.fault (meta_in candidate))) told)
-    case_next mid new was then files programs e f p a b =
-        let needs = needs_by candidate.case.fault (meta_in candidate) in
-        looking_stopped needs old was (needs_in Program programs) (needs_in Program programs) [] mid new then (sym (append-nil (needs_in Program programs)))
-        (looking_next needs old was needs (needs_in File files) (needs_in Program programs) old mid was then (needs_both candidate.case.fault (meta_in candidate) files programs e f p) (looking_first needs old was) a) b
-
-    -- all was asked
-    pub case_looked : (mid new : W) (was then now : Host) (files programs : List (List ℕ)) → is_some candidate.case.fault ≡ false → files ≡ needed File (meta_in candidate) → programs ≡ needed Program (meta_in candidate)
-        → Answered tells old mid (λ told. LooksFor (needs_in File files) told × Notes told was then) → Answered tells mid new (λ told. LooksFor (needs_in Program programs) told × Notes told then now)
-        → Answered tells old new (λ told. LooksFor (needs_by candidate.case.fault (meta_in candidate)) told × Notes told was now)
-    case_looked mid new was then now files programs e f p a b =
-        let needs = needs_by candidate.case.fault (meta_in candidate) in
-        looking_all needs old was [] new now refl
-        (looking_next needs old was (needs_in Program programs) (needs_in Program programs) [] mid new then now (sym (append-nil (needs_in Program programs)))
-        (looking_next needs old was needs (needs_in File files) (needs_in Program programs) old mid was then (needs_both candidate.case.fault (meta_in candidate) files programs e f p) (looking_first needs old was) a) b)
-
-  -- nothing is in an empty set
-  nothing_in : (found : BTreeSet (String Global)) (bytes : List ℕ) → IsEmpty found → contains_text found bytes ≡ false
-  nothing_in found bytes e = ap (λ (keys : List (String Global)). list_any (is_at (λ (k : String Global). slice_cmp nat_cmp bytes (string_bytes k))) keys) e
-
-  nothing_found : (host : Host) → IsEmpty host.files → IsEmpty host.programs → (need : Need) (word : List ℕ) → is_found need host word ≡ false
-  nothing_found host e f File word = nothing_in host.files (utf8 word) e
-  nothing_found host e f Program word = nothing_in host.programs (utf8 word) f
-
   -- all that the host was asked
-  pub surveyed : (cases : List Candidate) (old a b d new : W) (was now : Host) → IsEmpty was.files → IsEmpty was.programs
-      → tells old (IsRoot was.root) a → tells a (HasMemory was.memory) b → tells b (HasDisk was.disk) d
+  pub surveyed : (cases : List Candidate) (old a b d new : W) (was now : Host) (root : Bool) (memory disk : Option ℕ) → was.root ≡ root → was.memory ≡ memory → was.disk ≡ disk
+      → ((need : Need) (word : List ℕ) → is_found need was word ≡ false) → tells old (IsRoot root) a → tells a (HasMemory memory) b → tells b (HasDisk disk) d
       → Answered tells d new (λ told. LooksFor (needs_of cases) told × Notes told was now) → Answered tells old new (λ told. Surveys cases told now)
-  surveyed cases old a b d new was now e f x y z h = record {
-    asked = IsRoot was.root ∷ HasMemory was.memory ∷ HasDisk was.disk ∷ h.asked;
+  surveyed cases old a b d new was now root memory disk r m k none x y z h = record {
+    asked = IsRoot root ∷ HasMemory memory ∷ HasDisk disk ∷ h.asked;
     chain = (a, x, (b, y, (d, z, h.chain)));
     holds = record {
       looked = h.asked;
-      asked = rw (h.holds.1.root, h.holds.1.memory, h.holds.1.disk) refl;
+      asked = rw (h.holds.1.root ∙ r, h.holds.1.memory ∙ m, h.holds.1.disk ∙ k) refl;
       all = h.holds.0;
-      found = λ need word. h.holds.1.found need word ∙ ap (λ (t : Bool). t || list_any (finds need word) h.asked) (nothing_found was e f need word);
+      found = λ need word. h.holds.1.found need word ∙ ap (λ (t : Bool). t || list_any (finds need word) h.asked) (none need word);
     };
   }
 

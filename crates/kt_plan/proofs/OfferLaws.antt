@@ -11,7 +11,7 @@ use Rattle.kt_base.specs.Chains.{Chain}
 use Rattle.kt_suite.specs.Answers.{Answered}
 use Rattle.kt_suite.specs.declared.filter.Filter.{Filter}
 use Rattle.kt_suite.specs.declared.program.Program.{Program}
-use Rattle.kt_plan.specs.declared.cases.candidate.Candidate.{Candidate}
+use Rattle.kt_plan.specs.declared.cases.offering.Candidate.{Candidate}
 use Rattle.kt_plan.specs.Inner.Collecting.{ListsFirst, before_list, after_list}
 use Rattle.kt_plan.specs.Collecting.{candidates_of, variables_for, IsWanted, ListsCases, listed, OffersOne, listing, unlisted, single, Offers, none, one_and, OffersFirst, no_further, asks, passes}
 use Rattle.kt_plan.specs.Told.{Told, Lists}
@@ -94,9 +94,6 @@ module _ {W : Type 0} (tells : W → Told → W → Type 0) (config : Values) (f
     pub first : (more : List Told) → OffersFirst config filters rest more → OffersFirst config filters programs (told ++ more)
 
   module _ (programs : List Program) (old : W) where
-    pub offers_first : (found : List Candidate) → found ≡ [] → Offering programs old programs old found
-    offers_first found e = record { told = []; chain = refl; goes = λ more others h. subst (λ (cs : List Candidate). Offers config filters programs more (cs ++ others)) (sym e) h; first = λ more h. h }
-
     pub offers_next : (rest after : List Program) (program : Program) (mid new : W) (found grown : List Candidate) (cases : List CaseDef) → rest ≡ program ∷ after → Offering programs old rest mid found
         → Answered tells mid new (λ told. OffersOne config filters program told (candidates_of program cases)) → grown ≡ found ++ candidates_of program cases → Offering programs old after new grown
     offers_next rest after program mid new found grown cases e o a g = record {

@@ -2,9 +2,9 @@
 use Rattle.std.specs.Prelude.{Bool, false, if◌then◌else◌, true}
 use Rattle.std.proofs.Common.{◌≡◌, ℕ, ◌+◌, ◌<◌, ◌≤◌, List, [], ◌∷◌, ◌++◌, cond, refl, sym, ap, ◌∙◌, arith, append_assoc, map}
 use Rattle.kt_suite.specs.declared.filter.Filter.{Filter}
-use Rattle.kt_suite.specs.declared.item.Item.{Item}
+use Rattle.kt_suite.specs.declared.selecting.Item.{Item}
 use Rattle.kt_suite.specs.Selecting.{places, is_selected}
-use Rattle.kt_plan.specs.declared.cases.candidate.Candidate.{Candidate}
+use Rattle.kt_plan.specs.declared.cases.offering.Candidate.{Candidate}
 use Rattle.kt_plan.specs.Collecting.{item_of, selected_cases}
 use Rattle.kt_plan.specs.Inner.Picks.{places_from}
 
@@ -33,9 +33,6 @@ no_earlier test n (item ∷ items) m ms e = by (test item) refl (no_earlier test
         omega (arith, less)
 
 module _ (filters : List Filter) (candidate : Candidate) (rest : List Candidate) (place : ℕ) where
-  abbrev Test : Item → Bool
-  Test = is_selected filters
-
   abbrev after : List ℕ
   after = places_from filters (place + 1) rest
 
@@ -49,25 +46,6 @@ module _ (filters : List Filter) (candidate : Candidate) (rest : List Candidate)
   -- what is to be shown of a case that was or wasn't kept
   abbrev pub Keeps : List Candidate → List Candidate → List ℕ → Type 0
   Keeps old new left = (left ≡ after) × (new ++ selected_cases filters rest ≡ old ++ selected_cases filters (candidate ∷ rest))
-
-  passed_by : (cases : List Candidate) (now : List ℕ) → now ≡ places_from filters place (candidate ∷ rest) → is_selected filters (item_of candidate) ≡ false → Keeps cases cases now
-  passed_by cases now h e = (h ∙ places_by false e, ap (λ (cs : List Candidate). cases ++ cs) (sym (cases_by false e)))
-
-  -- no place is left
-  pub passed_last : (cases : List Candidate) (now : List ℕ) → now ≡ [] → now ≡ places_from filters place (candidate ∷ rest) → Keeps cases cases now
-  passed_last cases now none h = by (is_selected filters (item_of candidate)) refl
-    where
-      by : (b : Bool) → is_selected filters (item_of candidate) ≡ b → Keeps cases cases now
-      by true e = absurd (no_head place after (sym (places_by true e) ∙ (sym h ∙ none)))
-      by false e = passed_by cases now h e
-
-  -- the next place is another one
-  pub passed_other : (cases : List Candidate) (now : List ℕ) (first : ℕ) (others : List ℕ) → now ≡ first ∷ others → (first ≡ place → ⊥) → now ≡ places_from filters place (candidate ∷ rest) → Keeps cases cases now
-  passed_other cases now first others is other h = by (is_selected filters (item_of candidate)) refl
-    where
-      by : (b : Bool) → is_selected filters (item_of candidate) ≡ b → Keeps cases cases now
-      by true e = absurd (other (same_head first place others after (sym is ∙ (h ∙ places_by true e))))
-      by false e = passed_by cases now h e
 
   -- the next place is the case's own
   pub picked : (cases new : List Candidate) (now : List ℕ) (first : ℕ) (others : List ℕ) → now ≡ first ∷ others → first ≡ place → new ≡ cases ++ candidate ∷ [] → now ≡ places_from filters place (candidate ∷ rest) → Keeps cases new others

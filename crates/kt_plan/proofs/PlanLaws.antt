@@ -5,7 +5,7 @@ use Rattle.kt_config.specs.Values.{Values}
 use Rattle.kt_metadata.specs.declared.host.Host.{Host}
 use Rattle.kt_sched.specs.declared.job.Job.{Job}
 use Rattle.kt_sched.specs.Plan.{IsFit, IsPlan}
-use Rattle.kt_plan.specs.declared.cases.candidate.Candidate.{Candidate}
+use Rattle.kt_plan.specs.declared.cases.offering.Candidate.{Candidate}
 use Rattle.kt_plan.specs.Planning.{ArePlanned, no_job, planned, IsJobOf}
 use Rattle.kt_plan.proofs.Rests.{none_left}
 
@@ -15,9 +15,6 @@ some_is x y e = cc
 -- each job so far can be started
 abbrev pub AreFit : List Job → Type 0
 AreFit plan = (i : ℕ) (job : Job) → slice_get plan i ≡ Some job → IsFit job
-
-none_fit : AreFit []
-none_fit i job e = absurd (cc)
 
 last_of : (plan : List Job) (last : Job) (i : ℕ) (job : Job) → slice_get (plan ++ last ∷ []) i ≡ Some job → (slice_get plan i ≡ Some job) ⊎ (last ≡ job)
 last_of [] last zero job e = inr (some_is last job e)
@@ -49,13 +46,6 @@ module _ (config : Values) (host : Host) where
     pub fit : AreFit plan
 
   module _ (cases : List Candidate) where
-    pub jobs_first : (plan : List Job) → plan ≡ [] → length cases ≤ 100000 → Jobs cases 0 cases plan
-    jobs_first plan e few = record {
-      goes = λ more h. subst (λ (jobs : List Job). ArePlanned config host 0 cases (jobs ++ more)) (sym e) h;
-      room = omega (arith, few);
-      fit = subst AreFit (sym e) none_fit;
-    }
-
     pub jobs_next : (position : ℕ) (rest after : List Candidate) (candidate : Candidate) (plan grown : List Job) (job : Job) → rest ≡ candidate ∷ after → Jobs cases position rest plan
         → IsJobOf config host position candidate job → IsFit job → grown ≡ plan ++ job ∷ [] → Jobs cases (position + 1) after grown
     jobs_next position rest after candidate plan grown job e j is f g = record {

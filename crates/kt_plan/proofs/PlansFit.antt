@@ -9,7 +9,7 @@ use Rattle.kt_metadata.specs.Effective.{texts_of}
 use Rattle.kt_metadata.proofs.Timeouts.{IsTimeout, timeout-within}
 use Rattle.kt_sched.specs.declared.job.Job.{Job}
 use Rattle.kt_sched.specs.Plan.{IsFit, IsPlan}
-use Rattle.kt_plan.specs.declared.cases.candidate.Candidate.{Candidate}
+use Rattle.kt_plan.specs.declared.cases.offering.Candidate.{Candidate}
 use Rattle.kt_plan.specs.Planning.{ArePlanned, no_job, planned, IsJobOf, is_atf, meta_in}
 use Rattle.kt_plan.proofs.PlanLaws.{placed_from}
 

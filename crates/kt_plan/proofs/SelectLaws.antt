@@ -1,12 +1,11 @@
 -- What a command selects, step by step.
 use Rattle.std.specs.Prelude.{Ok, Err, Bool}
-use Rattle.std.proofs.Common.{ℕ, List, ◌++◌, ◌⊎◌, inl, inr}
+use Rattle.std.proofs.Common.{ℕ, List, ◌++◌, inl, inr}
 use Rattle.kt_base.specs.Chains.{Chain}
 use Rattle.kt_suite.specs.Answers.{Asked, Answered}
 use Rattle.kt_plan.specs.declared.options.case_options.CaseOptions.{CaseOptions}
-use Rattle.kt_plan.specs.declared.cases.chosen.Chosen.{Chosen}
-use Rattle.kt_plan.specs.declared.cases.picked.Picked.{Picked}
-use Rattle.kt_plan.specs.declared.options.settings.Settings.{Settings}
+use Rattle.kt_plan.specs.declared.cases.choosing.Chosen.{Chosen}
+use Rattle.kt_plan.specs.declared.options.configuring.Settings.{Settings}
 use Rattle.kt_plan.specs.declared.stop.Stop.{Stop}
 use Rattle.kt_plan.specs.Inner.Collecting.{CollectsOrShort, Collected}
 use Rattle.kt_plan.specs.Collecting.{Collects}

@@ -1,18 +1,18 @@
 -- The words of stops as characters and as bytes.
-use Rattle.std.proofs.Common.{◌≡◌, ℕ, List, ◌++◌, refl, ap, ◌∙◌}
+use Rattle.std.proofs.Common.{◌≡◌, refl}
 use Rattle.std.specs.Str.{chars}
 use lib.Utf8.{encode}
 use Rattle.kt_base.specs.Utf8.{utf8}
-use Rattle.kt_base.proofs.Showing.{utf8-append}
 use Rattle.kt_script.specs.declared.fault.ScriptFault.{ScriptFault}
 use Rattle.kt_script.specs.declared.fault.ScriptFault.TheVariants as script
 use Rattle.kt_script.specs.FaultWords.{script_words}
 use Rattle.kt_config.specs.declared.fault.ConfigFault.{ConfigFault}
 use Rattle.kt_config.specs.declared.fault.ConfigFault.TheVariants as config
 use Rattle.kt_config.specs.FaultWords.{config_words}
-use Rattle.kt_suite.specs.declared.filter_fault.FilterFault.{FilterFault}
-use Rattle.kt_suite.specs.declared.filter_fault.FilterFault.TheVariants as filter
+use Rattle.kt_suite.specs.declared.filter.FilterFault.{FilterFault}
+use Rattle.kt_suite.specs.declared.filter.FilterFault.TheVariants as filter
 use Rattle.kt_suite.specs.FaultWords.{filter_words}
+use Rattle.kt_suite.proofs.FaultWords.{utf8-script}
 
 chars-script : (fault : ScriptFault) → chars (script_words fault) ≡ script_words fault
 unfolding chars
@@ -41,15 +41,6 @@ chars-filter filter.EmptyCase = refl
 chars-filter (filter.Repeated position) = refl
 chars-filter (filter.NotDisjoint position) = refl
 
-utf8-script : (fault : ScriptFault) → utf8 (script_words fault) ≡ script_words fault
-unfolding encode
-utf8-script (script.NoMemory refusal) = refl
-utf8-script script.NotUtf8 = refl
-utf8-script (script.BadToken line) = refl
-utf8-script (script.NotLiteral line) = refl
-utf8-script (script.Unclosed line) = refl
-utf8-script script.TooLong = refl
-
 pub utf8-config : (fault : ConfigFault) → utf8 (config_words fault) ≡ config_words fault
 unfolding encode
 utf8-config (config.NoMemory refusal) = refl
@@ -58,9 +49,3 @@ utf8-config config.BadValue = refl
 utf8-config (config.Script fault) = utf8-script fault
 utf8-config config.NoSyntax = refl
 utf8-config config.NotAssignment = refl
-
--- the bytes of five texts, one after the other
-pub utf8_five : (a b c d e : List ℕ) → utf8 (a ++ b ++ c ++ d ++ e) ≡ utf8 a ++ utf8 b ++ utf8 c ++ utf8 d ++ utf8 e
-utf8_five a b c d e =
-    utf8-append (a ++ b ++ c ++ d) e ∙ ap (λ (z : List ℕ). z ++ utf8 e) (utf8-append (a ++ b ++ c) d ∙ ap (λ (z : List ℕ). z ++ utf8 d)
-    (utf8-append (a ++ b) c ∙ ap (λ (z : List ℕ). z ++ utf8 c) (utf8-append a b)))

@@ -22,9 +22,6 @@ only_in f one h = by (Contains-push_cases [] f one h)
 abbrev pub AreAmong : List Filter → List Filter → Type 0
 AreAmong rest all = (one : Filter) → Contains rest one → Contains all one
 
-pub among_all : (all : List Filter) → AreAmong all all
-among_all all one h = h
-
 pub among_after : (f : Filter) (after rest all : List Filter) → rest ≡ f ∷ after → AreAmong rest all → AreAmong after all
 among_after f after rest all e h one c = h one (subst (λ (xs : List Filter). Contains xs one) (sym e) (Contains-append_right (f ∷ []) after one c))
 

@@ -10,13 +10,13 @@ use Rattle.kt_atflist.specs.declared.listing.Listing.{Listing}
 use Rattle.kt_suite.specs.Answers.{Asked}
 use Rattle.kt_suite.specs.declared.fault.SuiteFault.{SuiteFault}
 use Rattle.kt_suite.specs.declared.filter.Filter.{Filter}
-use Rattle.kt_suite.specs.declared.item.Item.{Item}
+use Rattle.kt_suite.specs.declared.selecting.Item.{Item}
 use Rattle.kt_suite.specs.declared.program.Program.{Program}
 use Rattle.kt_suite.specs.Matching.{MayMatch}
 use Rattle.kt_suite.specs.Selecting.{most_items, is_selected, idle_places}
-use Rattle.kt_plan.specs.declared.cases.candidate.Candidate.{Candidate}
-use Rattle.kt_plan.specs.declared.cases.chosen.Chosen.{Chosen}
-use Rattle.kt_plan.specs.declared.options.settings.Settings.{Settings}
+use Rattle.kt_plan.specs.declared.cases.offering.Candidate.{Candidate}
+use Rattle.kt_plan.specs.declared.cases.choosing.Chosen.{Chosen}
+use Rattle.kt_plan.specs.declared.options.configuring.Settings.{Settings}
 use Rattle.kt_plan.specs.declared.stop.Stop.{Stop}
 use Rattle.kt_plan.specs.declared.stop.Stop.TheVariants as stop
 use Rattle.kt_plan.specs.Listings.{Loads, LoadsFirst}

@@ -3,20 +3,20 @@ use Rattle.std.specs.Prelude.{ℕ, Bool, true, false, not, ◌≡◌, ◌<◌, �
 use Rattle.kt_base.specs.Texts.{before, after}
 use Rattle.kt_script.specs.Spelling.{Spells}
 use Rattle.kt_script.specs.declared.syntax.Stmt.{Stmt}
-use Rattle.kt_config.specs.declared.definition.Definition.{Definition}
+use Rattle.kt_config.specs.declared.meaning.Definition.{Definition}
 use Rattle.kt_config.specs.declared.fault.ConfigFault.{ConfigFault}
 use Rattle.kt_config.specs.declared.fault.ConfigFault.TheVariants.{BadValue}
 use Rattle.kt_config.specs.Holding.{Holds}
 use Rattle.kt_config.specs.Names.{Meaning, definition_named}
 use Rattle.kt_config.specs.Reading.{outcome_of, IsDue}
 use Rattle.kt_suite.specs.declared.filter.Filter.{Filter}
-use Rattle.kt_suite.specs.declared.filter_fault.FilterFault.{FilterFault}
-use Rattle.kt_suite.specs.declared.read_fault.ReadFault.{ReadFault}
-use Rattle.kt_suite.specs.declared.read_fault.ReadFault.TheVariants.{Missing, Failed}
+use Rattle.kt_suite.specs.declared.filter.FilterFault.{FilterFault}
+use Rattle.kt_suite.specs.declared.tree.ReadFault.{ReadFault}
+use Rattle.kt_suite.specs.declared.tree.ReadFault.TheVariants.{Missing, Failed}
 use Rattle.kt_suite.specs.Disjoint.{overlap_fault, IsDisjoint}
 use Rattle.kt_suite.specs.Filters.{Meaning as FilterMeaning, filter_meaning}
 use Rattle.kt_plan.specs.declared.options.case_options.CaseOptions.{CaseOptions}
-use Rattle.kt_plan.specs.declared.options.settings.Settings.{Settings}
+use Rattle.kt_plan.specs.declared.options.configuring.Settings.{Settings}
 use Rattle.kt_plan.specs.declared.stop.Stop.{Stop}
 use Rattle.kt_plan.specs.declared.stop.Stop.TheVariants as stop
 use Rattle.kt_plan.specs.Told.{Told, ReadConfig}

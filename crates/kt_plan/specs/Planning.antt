@@ -1,8 +1,7 @@
 -- What the host is asked for the selected cases, and the plan of them: the third step.
-use Rattle.std.specs.Prelude.{ℕ, suc, Bool, true, false, ◌≡◌, ◌&&◌, List, [], ◌∷◌, ◌++◌, Option, Some, None, bytes_eq, map}
+use Rattle.std.specs.Prelude.{ℕ, suc, Bool, true, false, ◌≡◌, ◌&&◌, List, [], ◌∷◌, ◌++◌, Option, Some, None, map}
 use Rattle.std.specs.List.{list_any}
 use Rattle.std.specs.Option.{option_map}
-use Rattle.kt_base.specs.Utf8.{utf8}
 use Rattle.kt_base.specs.Verdicts.{Judged, broken, skipped}
 use Rattle.kt_base.specs.declared.interface.Interface.{Interface}
 use Rattle.kt_base.specs.declared.interface.Interface.TheVariants.{Atf, Tap, Plain}
@@ -11,13 +10,12 @@ use Rattle.kt_base.specs.Reasons.{reason_text}
 use Rattle.kt_config.specs.Values.{Values}
 use Rattle.kt_metadata.specs.Effective.{effective}
 use Rattle.kt_metadata.specs.Listing.{listing}
-use Rattle.kt_metadata.specs.Requirements.{first_reason, is_found, needed, rows}
+use Rattle.kt_metadata.specs.Requirements.{all_needs, first_reason, is_found, is_same_need, needed, rows}
 use Rattle.kt_metadata.specs.declared.host.Host.{Host}
 use Rattle.kt_metadata.specs.declared.meta.Meta.{Meta}
-use Rattle.kt_metadata.specs.declared.need.Need.{Need}
-use Rattle.kt_metadata.specs.declared.need.Need.TheVariants.{File, Program}
+use Rattle.kt_metadata.specs.declared.host.Need.{Need}
 use Rattle.kt_sched.specs.declared.job.Job.{Job}
-use Rattle.kt_plan.specs.declared.cases.candidate.Candidate.{Candidate}
+use Rattle.kt_plan.specs.declared.cases.offering.Candidate.{Candidate}
 use Rattle.kt_plan.specs.Collecting.{variables_for}
 use Rattle.kt_plan.specs.Questions.{AreFirst}
 use Rattle.kt_plan.specs.Told.{Told, Finds, IsRoot, HasMemory, HasDisk}
@@ -30,10 +28,15 @@ meta_in candidate = effective candidate.case.props
 abbrev pub needs_in : Need → List (List ℕ) → List (Need × List ℕ)
 needs_in need words = map (λ word. (need, word)) words
 
+-- what must be found of these kinds
+abbrev pub needs_among : List Need → Meta → List (Need × List ℕ)
+needs_among [] meta = []
+needs_among (need ∷ needs) meta = needs_in need (needed need meta) ++ needs_among needs meta
+
 -- what must be found for a case: its required files, and then its required programs; nothing if its list has a fault
 abbrev pub needs_by : Option Reason → Meta → List (Need × List ℕ)
 needs_by (Some reason) meta = []
-needs_by None meta = needs_in File (needed File meta) ++ needs_in Program (needed Program meta)
+needs_by None meta = needs_among all_needs meta
 
 -- what must be found for some cases, in their order
 abbrev pub needs_of : List Candidate → List (Need × List ℕ)
@@ -48,8 +51,7 @@ pub data LooksFor : List (Need × List ℕ) → List Told → Type 0 where
 
 -- an answer says that this file or program is there
 abbrev pub finds : Need → List ℕ → Told → Bool
-finds File path (Finds File other answer) = bytes_eq (utf8 other) (utf8 path) && answer
-finds Program name (Finds Program other answer) = bytes_eq (utf8 other) (utf8 name) && answer
+finds need word (Finds other_need other answer) = is_same_need other_need other need word && answer
 finds need word other = false
 
 -- the host is asked whether the runner is root, for its memory and its disk space, and for the files and programs of the cases; a file or

@@ -7,12 +7,11 @@ mod plan;
 mod stop;
 mod world;
 
-pub use cases::candidate::Candidate;
-pub use cases::chosen::Chosen;
-pub use cases::picked::Picked;
-pub use cases::selecting::select_cases;
+pub use cases::choosing::Chosen;
+pub use cases::offering::Candidate;
+pub use cases::selecting::{Picked, select_cases};
 pub use options::case_options::CaseOptions;
-pub use options::settings::Settings;
+pub use options::configuring::Settings;
 pub use plan::preparing::prepare;
 pub use stop::Stop;
 pub use world::World;

@@ -5,9 +5,8 @@ use crate::row::{Entry, Row, RowFault};
 use crate::verdicts::reason_text;
 use kt_base::{Reason, Text, Variables};
 use kt_config::Config;
-use kt_metadata::{Host, Props, is_kyuafile_property, property_of_key, unmet};
+use kt_metadata::{Host, Need, Props, is_kyuafile_property, property_of_key, unmet};
 use std::alloc::Global;
-use std::collections::BTreeSet;
 
 /// What a row has said so far: the properties of a program and of its case, the configuration and the host.
 #[derive(Drop)]
@@ -66,12 +65,6 @@ fn kyuafile_line(alloc: Global, raw: &str) -> Result<String, RowFault> {
     owned(alloc, if may { "yes" } else { "no" })
 }
 
-/// Adds a name to those that the host has.
-fn insert(alloc: Global, names: &mut BTreeSet<String>, raw: &str) -> Result<(), RowFault> {
-    names.insert(text_of(alloc, raw)?.into_string())?;
-    Ok(())
-}
-
 impl Example {
     fn new(alloc: Global) -> Example {
         Example {
@@ -79,13 +72,7 @@ impl Example {
             program: Props::new(alloc),
             case: Props::new(alloc),
             config: Config::new(alloc),
-            host: Host {
-                root: false,
-                files: BTreeSet::new(alloc),
-                programs: BTreeSet::new(alloc),
-                memory: None,
-                disk: None,
-            },
+            host: Host::new(alloc, false, None, None),
         }
     }
 
@@ -145,8 +132,12 @@ impl Example {
     fn take_host(&mut self, entry: &Entry<'_>) -> Result<(), RowFault> {
         match entry.word {
             "root" => self.host.root = true,
-            "file" => insert(self.alloc, &mut self.host.files, entry.text)?,
-            "program" => insert(self.alloc, &mut self.host.programs, entry.text)?,
+            "file" => self
+                .host
+                .note(Need::File, &text_of(self.alloc, entry.text)?)?,
+            "program" => self
+                .host
+                .note(Need::Program, &text_of(self.alloc, entry.text)?)?,
             "memory" => self.host.memory = Some(number(entry.text)?),
             "disk" => self.host.disk = Some(number(entry.text)?),
             _ => return Err(RowFault::Misspelled("there is no such word")),

@@ -15,7 +15,7 @@ use Rattle.kt_script.specs.declared.state.State.TheVariants.{Named, Opened, Clos
 use Rattle.kt_script.specs.declared.state.Step.{Step}
 use Rattle.kt_script.specs.declared.state.Step.TheVariants.{To, Ends}
 use Rattle.kt_script.specs.Grammar as grammar
-use Rattle.kt_script.specs.Grammar.{token_of, pair, Key, by_name, by_text, Separator, comma, semicolon, no_pairs, last_pair, pair_and, Parts, no_parts, named_part, quoted_part, Statement, call, call_table, call_text, bare_table, assign}
+use Rattle.kt_script.specs.Grammar.{token_of, pair, Key, Separator, no_pairs, last_pair, pair_and, Parts, no_parts, named_part, quoted_part, Statement, assign}
 use Rattle.kt_script.specs.Inner.Automaton.{closed, with_pair}
 
 abbrev pub closing : Bool → List Kind

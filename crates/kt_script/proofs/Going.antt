@@ -6,7 +6,7 @@ use Rattle.kt_script.specs.declared.fault.ScriptFault.{ScriptFault}
 use Rattle.kt_script.specs.declared.fault.ScriptFault.TheVariants.{NoMemory, NotUtf8, BadToken, NotLiteral, Unclosed, TooLong}
 use Rattle.kt_script.specs.declared.token.Token.{Token}
 use Rattle.kt_script.specs.declared.token.Kind.{Kind}
-use Rattle.kt_script.specs.declared.piece.Piece.{Piece}
+use Rattle.kt_script.specs.declared.token.Piece.{Piece}
 use Rattle.kt_script.specs.declared.place.Place.{Place}
 use Rattle.kt_script.specs.declared.place.Place.TheVariants.{Start, Whole, Within}
 use Rattle.kt_script.specs.declared.parser.Parser.{Parser}

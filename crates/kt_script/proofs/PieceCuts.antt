@@ -12,17 +12,14 @@ use Rattle.kt_script.specs.declared.token.Flaw.{Flaw}
 use Rattle.kt_script.specs.declared.token.Flaw.TheVariants.{Endless}
 use Rattle.kt_script.specs.declared.token.Kind.{Kind}
 use Rattle.kt_script.specs.declared.token.Kind.TheVariants.{OpenParen, CloseParen, OpenBrace, CloseBrace, OpenBracket, CloseBracket, Equals, Comma, Semicolon, Dot}
-use Rattle.kt_script.specs.declared.piece.Piece.{Piece}
+use Rattle.kt_script.specs.declared.token.Piece.{Piece}
 use Rattle.kt_base.specs.Characters.{is_space}
-use Rattle.kt_script.specs.Letters.{is_letter, is_word}
-use Rattle.kt_base.specs.Digits.{is_digit, decimal_from}
+use Rattle.kt_script.specs.Letters.{is_letter, is_word, escape_of}
+use Rattle.kt_base.specs.Digits.{is_digit, decimal_from, fits}
 use Rattle.kt_script.specs.Inner.Words.{number, begins_with_letter}
-use Rattle.kt_base.specs.Digits.{fits}
 use Rattle.kt_script.specs.Inner.Strings.{with_front, escaped, string_at, decoded, quoted}
-use Rattle.kt_script.specs.Letters.{escape_of}
 use Rattle.kt_script.specs.Inner.Comments.{closes_at, long_comment, comment_at}
-use Rattle.kt_script.specs.TokenRules.{is_level}
-use Rattle.kt_script.specs.TokenRules.{mark_of}
+use Rattle.kt_script.specs.TokenRules.{is_level, mark_of}
 use Rattle.kt_script.specs.Inner.Tokens.{marked, piece_at}
 use Rattle.kt_script.proofs.Cuts.{passing_cut, stopping_cut, first_cut, space_small, digit_small, word_small}
 

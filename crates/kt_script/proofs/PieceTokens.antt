@@ -1,6 +1,6 @@
 -- The tokens of a text, piece by piece.
 use Rattle.std.proofs.Common.{◌≡◌, ℕ, zero, suc, ◌-◌, ◌<◌, ◌≤◌, List, [], ◌∷◌, ◌++◌, length, take, drop, refl, ap, sym, ◌∙◌, arith}
-use Rattle.kt_script.specs.declared.piece.Piece.{Piece}
+use Rattle.kt_script.specs.declared.token.Piece.{Piece}
 use Rattle.kt_script.specs.declared.token.Token.{Token}
 use Rattle.kt_script.specs.Inner.Tokens.{piece_at, tokens, tokens_in}
 use Rattle.kt_script.specs.TokenRules.{line_after, line_past}

@@ -7,15 +7,13 @@ use Rattle.kt_script.specs.declared.token.Flaw.TheVariants.{Bad}
 use Rattle.kt_script.specs.declared.token.Kind.TheVariants.{Number}
 use Rattle.kt_base.specs.Characters.{is_space}
 use Rattle.kt_script.specs.Letters.{is_letter, is_word}
-use Rattle.kt_base.specs.Digits.{is_digit, decimal_from}
+use Rattle.kt_base.specs.Digits.{is_digit, decimal_from, fits}
 use Rattle.kt_script.specs.Inner.Pieces.{token, broken}
-use Rattle.kt_script.specs.TokenRules.{word}
+use Rattle.kt_script.specs.TokenRules.{word, Each, StopsAt, is_quote, IsStrange}
 use Rattle.kt_script.specs.Inner.Words.{name_at, number, number_at, begins_with_letter}
-use Rattle.kt_base.specs.Digits.{fits}
 use Rattle.kt_script.specs.Inner.Strings.{quoted_at}
 use Rattle.kt_script.specs.Inner.Comments.{comment_at}
 use Rattle.kt_script.specs.Inner.Tokens.{piece_at}
-use Rattle.kt_script.specs.TokenRules.{Each, StopsAt, is_quote, IsStrange}
 
 -- ---- classes
 

@@ -9,9 +9,8 @@ use Rattle.kt_script.specs.declared.token.Token.{Token}
 use Rattle.kt_base.specs.Characters.{is_space}
 use Rattle.kt_script.specs.Letters.{is_letter}
 use Rattle.kt_base.specs.Digits.{is_digit}
-use Rattle.kt_script.specs.TokenRules.{mark_of, line_past}
+use Rattle.kt_script.specs.TokenRules.{mark_of, line_past, is_quote, in_line, Closes, closed, not_yet, NeverCloses, opens_long, opens_level, space, line_comment, long_comment, endless_comment, leveled_comment, lone_dash, strange, a_mark, IsTokens, the_end, blank_and, word_and}
 use Rattle.kt_script.specs.Inner.Tokens.{tokens}
-use Rattle.kt_script.specs.TokenRules.{is_quote, in_line, Closes, closed, not_yet, NeverCloses, opens_long, opens_level, space, line_comment, long_comment, endless_comment, leveled_comment, lone_dash, strange, a_mark, IsTokens, the_end, blank_and, word_and}
 use Rattle.kt_script.proofs.PieceCuts.{begins_with}
 use Rattle.kt_script.proofs.OneReading.{one_reading}
 use Rattle.kt_script.proofs.WordsFirst.{BlankFirst, WordFirst, run, flawed, name_first, number_then, quotation, string_first}

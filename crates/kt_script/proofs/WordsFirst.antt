@@ -6,9 +6,8 @@ use Rattle.kt_script.specs.declared.token.Flaw.{Flaw}
 use Rattle.kt_script.specs.declared.token.Flaw.TheVariants.{Bad, Endless}
 use Rattle.kt_script.specs.declared.token.Kind.{Kind}
 use Rattle.kt_script.specs.declared.token.Kind.TheVariants.{Broken}
-use Rattle.kt_script.specs.Letters.{is_letter, is_word}
+use Rattle.kt_script.specs.Letters.{is_letter, is_word, escape_of, is_plain}
 use Rattle.kt_base.specs.Digits.{is_digit, decimal_from}
-use Rattle.kt_script.specs.Letters.{escape_of, is_plain}
 use Rattle.kt_script.specs.TokenRules.{Each, StopsAt, is_quote, in_line, Inside, nothing, itself, escape, NoEscape, Blank, HasFlaw, large_number, lettered_number, endless_string, bad_escape, Word, a_name, a_number, a_string, no_word}
 
 -- ---- what a text begins with

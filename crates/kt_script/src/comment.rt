@@ -5,8 +5,7 @@ ghost use Rattle.std.specs.List.{prefix_len};
 ghost use Rattle.kt_script.specs.Inner.Comments.{closes_at, comment_at};
 ghost use Rattle.kt_script.specs.TokenRules.{is_level};
 
-use crate::piece::Piece;
-use crate::token::Flaw;
+use crate::token::{Flaw, Piece};
 use kt_base::line_length;
 
 /// The length of a text up to the end of its first `]]`.

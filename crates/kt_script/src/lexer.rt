@@ -7,11 +7,9 @@ ghost use Rattle.kt_script.specs.TokenRules.{mark_of};
 ghost use Rattle.kt_script.specs.Inner.Tokens.{marked, piece_at};
 
 use crate::comment::comment;
-use crate::letter::{is_letter, is_space};
-use crate::piece::Piece;
 use crate::quotation::quoted;
-use crate::token::{Flaw, Kind};
-use crate::words::{name, number};
+use crate::token::{Flaw, Kind, Piece};
+use crate::words::{is_letter, is_space, name, number};
 use kt_base::{NoMemory, is_digit};
 use std::alloc::Global;
 

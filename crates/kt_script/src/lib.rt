@@ -3,12 +3,9 @@
 
 mod comment;
 mod fault;
-mod laws;
-mod letter;
 mod lexer;
 mod literal;
 mod parser;
-mod piece;
 mod place;
 mod quotation;
 mod script;
@@ -18,7 +15,6 @@ mod token;
 mod words;
 
 pub use fault::ScriptFault;
-pub use laws::{law_of_one_answer, law_of_tokens};
 pub use literal::Literal;
-pub use script::parse;
+pub use script::{law_of_one_answer, law_of_tokens, parse};
 pub use syntax::{Action, Arg, Pair, Stmt};

@@ -6,8 +6,7 @@ ghost use Rattle.std.specs.List.{prefix_len};
 ghost use Rattle.kt_script.specs.Letters.{is_plain, escape_of};
 ghost use Rattle.kt_script.specs.Inner.Strings.{stop_at, escape_at, string_at, decoded, quoted_at};
 
-use crate::piece::Piece;
-use crate::token::{Flaw, Kind};
+use crate::token::{Flaw, Kind, Piece};
 use kt_base::{NoMemory, Text};
 use std::alloc::Global;
 

@@ -1,11 +1,11 @@
 //! The reading of a script.
 
-ghost use Rattle.std.specs.Prelude.{◌≡◌, ◌+◌, ◌≤◌, ◌<◌, ◌^◌, ◌++◌, List, length, IfOk};
+ghost use Rattle.std.specs.Prelude.{◌≡◌, ◌+◌, ◌≤◌, ◌<◌, ◌^◌, ◌++◌, List, length, IfOk, Result};
 ghost use Rattle.kt_script.specs.Faults.{IfFault, IsFaultOf};
 ghost use Rattle.kt_script.specs.Grammar.{Script};
 ghost use Rattle.kt_script.specs.Inner.Tokens.{tokens, tokens_in};
-ghost use Rattle.kt_script.specs.TokenRules.{line_past};
-ghost use Rattle.kt_script.specs.Spelling.{limit, Spells, IsDue, Answers, Refuses};
+ghost use Rattle.kt_script.specs.TokenRules.{line_past, IsTokens};
+ghost use Rattle.kt_script.specs.Spelling.{limit, Spells, IsDue, Answers, Refuses, IsAnswer};
 ghost use Rattle.kt_script.specs.declared.fault.ScriptFault.{ScriptFault};
 ghost use Rattle.kt_script.specs.Inner.Reading.{HasRead, IsMisfit};
 ghost use Rattle.kt_script.specs.declared.syntax.Stmt.{Stmt};
@@ -94,4 +94,21 @@ pub fn parse(alloc: Global, text: &[u8]) -> Result<Items<Stmt>, ScriptFault>
         return Err(ScriptFault::NotUtf8);
     };
     statements(alloc, text)
+}
+
+/// Each text has exactly one answer: its statements or its fault.
+pub fn law_of_one_answer(text: &[u8])
+    ensures some { (answer : Result (List Stmt) ScriptFault) × IsAnswer text.now answer }
+    ensures one { (a b : Result (List Stmt) ScriptFault) → IsAnswer text.now a → IsAnswer text.now b
+        → a ≡ b }
+{
+    let _ = text;
+}
+
+/// Each text has exactly one list of tokens.
+pub fn law_of_tokens(text: &[u8])
+    ensures some { (tokens : List Token) × IsTokens 1 text.now tokens }
+    ensures one { (a b : List Token) → IsTokens 1 text.now a → IsTokens 1 text.now b → a ≡ b }
+{
+    let _ = text;
 }

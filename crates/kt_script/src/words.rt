@@ -3,16 +3,32 @@
 ghost use Rattle.std.specs.Prelude.{◌≡◌, ℕ, ◌+◌, ◌<◌, ◌≤◌, length, IfOk, take, drop};
 ghost use Rattle.std.specs.List.{prefix_len};
 ghost use Rattle.kt_script.specs.Letters.{is_letter, is_word};
-ghost use Rattle.kt_base.specs.Digits.{decimal_from};
+ghost use Rattle.kt_base.specs.Digits.{decimal_from, fits};
 ghost use Rattle.kt_script.specs.TokenRules.{word};
-ghost use Rattle.kt_base.specs.Digits.{fits};
 ghost use Rattle.kt_script.specs.Inner.Words.{begins_with_letter, name_at, number_at};
+ghost use Rattle.kt_base.specs.Characters.{is_space};
 
-use crate::letter::{is_letter, is_word};
-use crate::piece::Piece;
-use crate::token::{Flaw, Kind};
-use kt_base::{NoMemory, Text, decimal_up_to, digits_length};
+use crate::token::{Flaw, Kind, Piece};
+use kt_base::{NoMemory, Text, decimal_up_to, digits_length, is_digit};
 use std::alloc::Global;
+
+pub fn is_space(c: u8) -> bool
+    ensures { result ≡ is_space c }
+{
+    matches!(c, b' ' | b'\t'..=b'\r')
+}
+
+pub fn is_letter(c: u8) -> bool
+    ensures { result ≡ is_letter c }
+{
+    matches!(c, b'a'..=b'z' | b'A'..=b'Z' | b'_')
+}
+
+fn is_word(c: u8) -> bool
+    ensures { result ≡ is_word c }
+{
+    is_letter(c) || is_digit(c)
+}
 
 fn word_length(text: &[u8]) -> usize
     ensures value { result ≡ prefix_len is_word text.now }

@@ -8,7 +8,7 @@ use Rattle.kt_base.specs.Verdicts.{Judged}
 use Rattle.kt_claim.specs.declared.claim.Claim.{Claim}
 use Rattle.kt_claim.specs.declared.claim.Claim.TheVariants.{Missing, Unreadable, Malformed, Passed, Failed, Skipped, ExpectedFailure, ExpectedDeath, ExpectedTimeout, ExpectedExit, ExpectedSignal}
 use Rattle.kt_status.specs.Tables as row
-use Rattle.kt_status.specs.Tables.{Ends, AtfRow, PlainRow, TapRow, RefusalRow, CleanupRow, FirstOf, IsVerdict, IsVerdictOfRefusal, IsVerdictAfter}
+use Rattle.kt_status.specs.Tables.{AtfRow}
 use Rattle.kt_status.specs.Inner.Verdicts.{atf_verdict}
 use Rattle.kt_status.proofs.RowOrder.{at_or_next, at_equal, Least, passes, next, here}
 

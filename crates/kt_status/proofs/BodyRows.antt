@@ -11,7 +11,7 @@ use Rattle.kt_claim.specs.declared.tap.Tap.TheVariants.{Invalid, BailedOut, Skip
 use Rattle.kt_claim.specs.declared.evidence.Evidence.{Evidence}
 use Rattle.kt_claim.specs.declared.evidence.Evidence.TheVariants as evidence
 use Rattle.kt_status.specs.Tables as row
-use Rattle.kt_status.specs.Tables.{Ends, AtfRow, PlainRow, TapRow, RefusalRow, CleanupRow, FirstOf, IsVerdict, IsVerdictOfRefusal, IsVerdictAfter}
+use Rattle.kt_status.specs.Tables.{AtfRow, PlainRow, TapRow, IsVerdict}
 use Rattle.kt_status.specs.Inner.Verdicts.{atf_verdict, plain_verdict, tap_verdict, verdict_of}
 use Rattle.kt_status.proofs.RowOrder.{at_or_next, at_equal, Least, next, here, found, alone}
 use Rattle.kt_status.proofs.AtfRows.{atf_row, atf_fits, atf_least}

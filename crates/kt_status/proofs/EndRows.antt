@@ -9,7 +9,7 @@ use Rattle.kt_base.specs.Kinds.{good}
 use Rattle.kt_base.specs.Verdicts as verdict
 use Rattle.kt_base.specs.Verdicts.{Judged}
 use Rattle.kt_status.specs.Tables as row
-use Rattle.kt_status.specs.Tables.{Ends, AtfRow, PlainRow, TapRow, RefusalRow, CleanupRow, FirstOf, IsVerdict, IsVerdictOfRefusal, IsVerdictAfter}
+use Rattle.kt_status.specs.Tables.{RefusalRow, CleanupRow, IsVerdictOfRefusal, IsVerdictAfter}
 use Rattle.kt_status.specs.Inner.Verdicts.{verdict_of_refusal, cleaned, verdict_after_cleanup}
 use Rattle.kt_status.specs.declared.cleanup_end.CleanupEnd.{CleanupEnd}
 use Rattle.kt_status.specs.declared.cleanup_end.CleanupEnd.TheVariants as cleanup

@@ -11,12 +11,12 @@ use Rattle.kt_base.specs.Verdicts as verdict
 use Rattle.kt_base.specs.Verdicts.{Judged}
 use Rattle.kt_claim.specs.declared.claim.Claim.{Claim}
 use Rattle.kt_claim.specs.declared.claim.Claim.TheVariants.{Missing, Unreadable, Malformed, Passed, Failed, Skipped, ExpectedFailure, ExpectedDeath, ExpectedTimeout, ExpectedExit, ExpectedSignal}
-use Rattle.kt_claim.specs.declared.claim_fault.ClaimFault.{ClaimFault}
-use Rattle.kt_claim.specs.declared.claim_fault.ClaimFault.TheVariants as result
+use Rattle.kt_claim.specs.declared.claim.ClaimFault.{ClaimFault}
+use Rattle.kt_claim.specs.declared.claim.ClaimFault.TheVariants as result
 use Rattle.kt_claim.specs.declared.tap.Tap.{Tap}
 use Rattle.kt_claim.specs.declared.tap.Tap.TheVariants.{Invalid, BailedOut, SkipAll, Counted}
-use Rattle.kt_claim.specs.declared.tap_fault.TapFault.{TapFault}
-use Rattle.kt_claim.specs.declared.tap_fault.TapFault.TheVariants as stream
+use Rattle.kt_claim.specs.declared.tap.TapFault.{TapFault}
+use Rattle.kt_claim.specs.declared.tap.TapFault.TheVariants as stream
 use Rattle.kt_claim.specs.declared.evidence.Evidence.{Evidence}
 use Rattle.kt_claim.specs.declared.evidence.Evidence.TheVariants as evidence
 use Rattle.kt_status.specs.declared.cleanup_end.CleanupEnd.{CleanupEnd}

@@ -5,11 +5,9 @@ mod atf;
 mod cleanup;
 mod cleanup_end;
 mod plain;
-mod refusal;
 mod tap;
 mod verdict;
 
 pub use cleanup::with_cleanup;
 pub use cleanup_end::CleanupEnd;
-pub use refusal::refused_verdict;
-pub use verdict::body_verdict;
+pub use verdict::{body_verdict, refused_verdict};

@@ -1,12 +1,12 @@
 ghost use Rattle.std.specs.Prelude.{◌≡◌};
 ghost use Rattle.kt_base.specs.Verdicts.{Judged};
-ghost use Rattle.kt_status.specs.Tables.{IsVerdict};
-ghost use Rattle.kt_status.specs.Inner.Verdicts.{verdict_of};
+ghost use Rattle.kt_status.specs.Tables.{IsVerdict, IsVerdictOfRefusal};
+ghost use Rattle.kt_status.specs.Inner.Verdicts.{verdict_of, verdict_of_refusal};
 
 use crate::atf::atf_verdict;
 use crate::plain::plain_verdict;
 use crate::tap::tap_verdict;
-use kt_base::{Outcome, Verdict};
+use kt_base::{Outcome, Refused, Verdict};
 use kt_claim::Evidence;
 
 /// The verdict on a case, from what it said of itself and how its body ended.
@@ -25,4 +25,18 @@ fn judged(evidence: Evidence, ending: Outcome) -> Verdict
         Evidence::Tap(tap) => tap_verdict(tap, ending),
         Evidence::Plain => plain_verdict(ending),
     }
+}
+
+/// The verdict on a case whose body, or the list of its program, could not be started.
+pub fn refused_verdict(refused: Refused) -> Verdict
+    ensures row { IsVerdictOfRefusal refused result }
+    ensures only { (verdict : Judged) → IsVerdictOfRefusal refused verdict → result ≡ verdict }
+{
+    refusal(refused)
+}
+
+fn refusal(refused: Refused) -> Verdict
+    ensures { result ≡ verdict_of_refusal refused }
+{
+    Verdict::broken(refused.reason())
 }

@@ -4,11 +4,11 @@ use Rattle.std.proofs.Common.{◌≡◌, ℕ, List, [], ◌∷◌, ◌++◌, ref
 use Rattle.kt_script.specs.declared.fault.ScriptFault.{ScriptFault}
 use Rattle.kt_script.specs.declared.syntax.Stmt.{Stmt}
 use Rattle.kt_script.specs.Spelling.{Spells, IsDue}
-use Rattle.kt_suite.specs.declared.read_fault.ReadFault.{ReadFault}
+use Rattle.kt_suite.specs.declared.tree.ReadFault.{ReadFault}
 use Rattle.kt_suite.specs.declared.cause.SuiteCause.{SuiteCause}
 use Rattle.kt_suite.specs.declared.cause.SuiteCause.TheVariants.{NoSyntax, Script}
-use Rattle.kt_suite.specs.declared.meaning.Meaning.{Meaning}
-use Rattle.kt_suite.specs.declared.meaning.Meaning.TheVariants as meaning
+use Rattle.kt_suite.specs.declared.statement.Meaning.{Meaning}
+use Rattle.kt_suite.specs.declared.statement.Meaning.TheVariants as meaning
 use Rattle.kt_suite.specs.declared.program.Program.{Program}
 use Rattle.kt_suite.specs.Answers.{Asked, Read, Exists, SameQuestion}
 use Rattle.kt_suite.specs.Faults.{fault_at, read_fault, script_line}

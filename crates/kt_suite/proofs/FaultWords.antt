@@ -29,7 +29,7 @@ fixed-cause cause.TooMany d = refl
 fixed-cause (cause.Script fault) d = refl
 
 -- the words are ASCII
-utf8-script : (fault : ScriptFault) → utf8 (script_words fault) ≡ script_words fault
+pub utf8-script : (fault : ScriptFault) → utf8 (script_words fault) ≡ script_words fault
 unfolding encode
 utf8-script (script.NoMemory refusal) = refl
 utf8-script script.NotUtf8 = refl

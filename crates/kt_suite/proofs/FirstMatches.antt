@@ -4,7 +4,7 @@ use Rattle.std.specs.Prelude.{◌||◌, ◌==◌, nat_eq, not, if◌then◌else�
 use Rattle.std.specs.List.{filter, position_from}
 use Rattle.std.proofs.lemmas.Iterator.Adapters.{position_from-zero}
 use Rattle.kt_suite.specs.declared.filter.Filter.{Filter}
-use Rattle.kt_suite.specs.declared.item.Item.{Item}
+use Rattle.kt_suite.specs.declared.selecting.Item.{Item}
 use Rattle.kt_suite.proofs.Picking.{kept_all}
 use Rattle.kt_suite.specs.Inner.Steps.{first_match, is_some_match, is_match, is_miss}
 use Rattle.kt_suite.specs.Selecting.{matches_item, is_matched, is_selected}

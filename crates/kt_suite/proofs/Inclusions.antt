@@ -7,10 +7,10 @@ use Rattle.kt_suite.specs.declared.cause.SuiteCause.TheVariants.{IncludeLoop, To
 use mathlib.Core.List.{append_assoc, append-nil}
 use Rattle.kt_script.specs.declared.syntax.Stmt.{Stmt}
 use Rattle.kt_suite.specs.declared.fault.SuiteFault.{SuiteFault}
-use Rattle.kt_suite.specs.declared.meaning.Meaning.{Meaning}
+use Rattle.kt_suite.specs.declared.statement.Meaning.{Meaning}
 use Rattle.kt_suite.specs.declared.registry.Registry.{Registry}
-use Rattle.kt_suite.specs.declared.step.Step.{Step}
-use Rattle.kt_suite.specs.declared.step.Step.TheVariants.{Next, Enter}
+use Rattle.kt_suite.specs.declared.registry.Step.{Step}
+use Rattle.kt_suite.specs.declared.registry.Step.TheVariants.{Next, Enter}
 use Rattle.kt_base.specs.Chains.{Chain}
 use Rattle.kt_suite.specs.Answers.{Asked}
 use Rattle.kt_suite.specs.Meanings.{meaning_of}

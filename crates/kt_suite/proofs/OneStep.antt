@@ -6,13 +6,13 @@ use Rattle.kt_base.specs.declared.variable.Variable.{Variable}
 use Rattle.kt_suite.specs.declared.cause.SuiteCause.{SuiteCause}
 use Rattle.kt_suite.specs.declared.cause.SuiteCause.TheVariants.{MissingProgram, TooMany}
 use Rattle.kt_suite.specs.declared.fault.SuiteFault.{SuiteFault}
-use Rattle.kt_suite.specs.declared.meaning.Meaning.{Meaning}
-use Rattle.kt_suite.specs.declared.meaning.Meaning.TheVariants as meaning
+use Rattle.kt_suite.specs.declared.statement.Meaning.{Meaning}
+use Rattle.kt_suite.specs.declared.statement.Meaning.TheVariants as meaning
 use Rattle.kt_suite.specs.declared.program.Program.{Program}
 use Rattle.kt_suite.specs.declared.registry.Registry.{Registry}
-use Rattle.kt_suite.specs.declared.read_fault.ReadFault.TheVariants.{Missing}
-use Rattle.kt_suite.specs.declared.step.Step.{Step}
-use Rattle.kt_suite.specs.declared.step.Step.TheVariants.{Next, Enter}
+use Rattle.kt_suite.specs.declared.tree.ReadFault.TheVariants.{Missing}
+use Rattle.kt_suite.specs.declared.registry.Step.{Step}
+use Rattle.kt_suite.specs.declared.registry.Step.TheVariants.{Next, Enter}
 use Rattle.kt_suite.specs.Answers.{Asked, Exists}
 use Rattle.kt_suite.specs.Faults.{IsNoMemory}
 use Rattle.kt_suite.specs.Paths.{beside}

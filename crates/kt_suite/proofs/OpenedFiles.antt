@@ -1,9 +1,9 @@
 -- A file was asked for, and perhaps opened.
 use Rattle.std.specs.Prelude.{Result, Ok, Err}
-use Rattle.std.proofs.Common.{◌<◌, ℕ, List, [], ◌∷◌, ◌++◌, length, arith, refl}
+use Rattle.std.proofs.Common.{ℕ, List, [], ◌∷◌, ◌++◌, refl}
 use Rattle.kt_script.specs.declared.syntax.Stmt.{Stmt}
-use Rattle.kt_suite.specs.declared.read_fault.ReadFault.{ReadFault}
-use Rattle.kt_suite.specs.declared.read_fault.ReadFault.TheVariants.{Missing}
+use Rattle.kt_suite.specs.declared.tree.ReadFault.{ReadFault}
+use Rattle.kt_suite.specs.declared.tree.ReadFault.TheVariants.{Missing}
 use Rattle.kt_suite.specs.declared.fault.SuiteFault.{SuiteFault}
 use Rattle.kt_suite.specs.declared.registry.Registry.{Registry}
 use Rattle.kt_suite.specs.Answers.{Asked, Read}
@@ -29,6 +29,3 @@ unopened_file asks old new r file _ (lacks answer fault h n) = file_short asks o
 -- it was, and memory ran out
 pub opened_short : {T : Type 0} (asks : T → Asked → T → Type 0) (old new : T) (r : Registry) (file : List ℕ) (stmts : List Stmt) (fault : SuiteFault) → Opened asks old new file (Ok stmts) → IsNoMemory fault → Walked asks old new (FileGives r.reading file) r (Err fault)
 opened_short asks old new r file _ fault (opens text first rest h s w) n = file_short asks old new r file (Ok text) fault h n
-
-pub opened_some : {T : Type 0} (asks : T → Asked → T → Type 0) (old new : T) (file : List ℕ) (stmts : List Stmt) → Opened asks old new file (Ok stmts) → 0 < length stmts
-opened_some asks old new file _ (opens text first rest h s w) = omega arith

@@ -6,7 +6,7 @@ use Rattle.kt_script.specs.declared.fault.ScriptFault.TheVariants as script
 use Rattle.kt_script.specs.declared.syntax.Stmt.{Stmt}
 use Rattle.kt_script.specs.Faults.{IfFault}
 use Rattle.kt_script.specs.Spelling.{Spells, IsDue}
-use Rattle.kt_suite.specs.declared.read_fault.ReadFault.{ReadFault}
+use Rattle.kt_suite.specs.declared.tree.ReadFault.{ReadFault}
 use Rattle.kt_suite.specs.declared.cause.SuiteCause.{SuiteCause}
 use Rattle.kt_suite.specs.declared.cause.SuiteCause.TheVariants.{NoSyntax, Script}
 use Rattle.kt_suite.specs.declared.fault.SuiteFault.{SuiteFault}

@@ -4,7 +4,7 @@ use mathlib.Core.List.{append_assoc}
 use Rattle.std.specs.Prelude.{◌||◌, not, if◌then◌else◌}
 use Rattle.std.specs.List.{list_any, filter}
 use Rattle.kt_suite.specs.declared.filter.Filter.{Filter}
-use Rattle.kt_suite.specs.declared.item.Item.{Item}
+use Rattle.kt_suite.specs.declared.selecting.Item.{Item}
 use Rattle.kt_suite.specs.Inner.Steps.{all_places, is_some_match, is_match, is_miss}
 use Rattle.kt_suite.specs.Selecting.{places, is_idle, idle_places}
 

@@ -5,7 +5,7 @@ use mathlib.Core.List.{append_assoc, append-nil}
 use Rattle.kt_base.specs.declared.variable.Variable.{Variable}
 use Rattle.kt_script.specs.declared.syntax.Pair.{Pair}
 use Rattle.kt_suite.specs.declared.cause.SuiteCause.{SuiteCause}
-use Rattle.kt_suite.specs.declared.program_table.ProgramTable.{ProgramTable}
+use Rattle.kt_suite.specs.declared.table.ProgramTable.{ProgramTable}
 use Rattle.kt_suite.specs.Inner.Steps.{table_with}
 use Rattle.std.specs.Option.{option_or}
 use Rattle.kt_suite.specs.Tables.{definition, definitions, pair_fault, first_fault, table_of, unless, declared}
@@ -16,9 +16,6 @@ pub record TableSoFar (found : ProgramTable) (rest pairs : List Pair) : Type 0 w
   pub is : found ≡ table_of before
   pub whole : before ++ definitions rest ≡ definitions pairs
   pub fault : first_fault (definitions rest) ≡ first_fault (definitions pairs)
-
-pub table_first : (found : ProgramTable) (pairs : List Pair) → found ≡ table_of [] → TableSoFar found pairs pairs
-table_first found pairs e = record { before = []; is = e; whole = refl; fault = refl }
 
 ok_unless : (fault : Option SuiteCause) (next table : ProgramTable) → ◌≡◌ {A = Result ProgramTable SuiteCause} (Ok next) (unless fault table) → (fault ≡ None) × (next ≡ table)
 ok_unless None next table e = (refl, ap (λ (r : Result ProgramTable SuiteCause). elim r [ Ok t ↦ t | Err cause ↦ next ]) e)

@@ -12,10 +12,9 @@ use Rattle.kt_script.specs.declared.syntax.Pair.{Pair}
 use Rattle.kt_script.specs.LiteralText.{text_of}
 use Rattle.kt_metadata.specs.Properties.{is_kyuafile_property, definition_fault}
 use Rattle.kt_suite.specs.declared.cause.SuiteCause.{SuiteCause}
-use Rattle.kt_suite.specs.declared.cause.SuiteCause.TheVariants.{UnknownProperty}
-use Rattle.kt_suite.specs.declared.key.Key.{Key}
-use Rattle.kt_suite.specs.declared.key.Key.TheVariants as key
-use Rattle.kt_suite.specs.declared.program_table.ProgramTable.{ProgramTable}
+use Rattle.kt_suite.specs.declared.call.Key.{Key}
+use Rattle.kt_suite.specs.declared.call.Key.TheVariants as key
+use Rattle.kt_suite.specs.declared.table.ProgramTable.{ProgramTable}
 use Rattle.kt_suite.specs.Calls.{key_named}
 use Rattle.kt_suite.specs.Inner.Steps.{props_with, table_with}
 use Rattle.kt_suite.specs.Tables.{definition, is_property, value_cause, key_fault, pair_fault, table_of, unless}
@@ -85,9 +84,6 @@ push_property before pair k =
 -- a definition with this key
 by_key : (before : List Variable) (pair : Variable) (k : Key) (table : ProgramTable) → k ≡ key_named pair.name → table_of (before ++ pair ∷ []) ≡ table → unless (key_fault k pair) table ≡ table_with before pair
 by_key before pair k table e t = ap (λ (x : Key). unless (key_fault x pair) table) e ∙ ap (λ (x : ProgramTable). unless (pair_fault pair) x) (sym t)
-
-pub takes_unknown : (before : List Variable) (pair : Pair) → key.Unknown ≡ key_named pair.name → ◌≡◌ {A = Result ProgramTable SuiteCause} (Err UnknownProperty) (table_with before (definition pair))
-takes_unknown before pair e = by_key before (definition pair) key.Unknown (table_of (before ++ definition pair ∷ [])) e refl
 
 pub takes_name : (before : List Variable) (pair : Pair) (found : ProgramTable) (text : List ℕ) → key.Name ≡ key_named pair.name → text ≡ text_of pair.value → found ≡ table_of before
     → ◌≡◌ {A = Result ProgramTable SuiteCause} (Ok (record found { name = Some text })) (table_with before (definition pair))

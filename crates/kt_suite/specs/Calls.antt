@@ -4,8 +4,8 @@ use Rattle.kt_base.specs.declared.interface.Interface.TheVariants.{Atf, Tap, Pla
 use Rattle.kt_metadata.specs.Properties.{is_kyuafile_property}
 use Rattle.kt_suite.specs.declared.call.Call.{Call}
 use Rattle.kt_suite.specs.declared.call.Call.TheVariants as call
-use Rattle.kt_suite.specs.declared.key.Key.{Key}
-use Rattle.kt_suite.specs.declared.key.Key.TheVariants as key
+use Rattle.kt_suite.specs.declared.call.Key.{Key}
+use Rattle.kt_suite.specs.declared.call.Key.TheVariants as key
 
 -- what a call of this name asks for
 abbrev pub call_named : List ℕ → Call

@@ -5,12 +5,12 @@ use Rattle.kt_script.specs.FaultWords.{script_words}
 use Rattle.kt_suite.specs.declared.cause.SuiteCause.{SuiteCause}
 use Rattle.kt_suite.specs.declared.cause.SuiteCause.TheVariants as cause
 use Rattle.kt_suite.specs.declared.fault.SuiteFault.{SuiteFault}
-use Rattle.kt_suite.specs.declared.filter_fault.FilterFault.{FilterFault}
-use Rattle.kt_suite.specs.declared.filter_fault.FilterFault.TheVariants as filter
-use Rattle.kt_suite.specs.declared.read_fault.ReadFault.{ReadFault}
-use Rattle.kt_suite.specs.declared.read_fault.ReadFault.TheVariants as read
-use Rattle.kt_suite.specs.declared.select_fault.SelectFault.{SelectFault}
-use Rattle.kt_suite.specs.declared.select_fault.SelectFault.TheVariants as select
+use Rattle.kt_suite.specs.declared.filter.FilterFault.{FilterFault}
+use Rattle.kt_suite.specs.declared.filter.FilterFault.TheVariants as filter
+use Rattle.kt_suite.specs.declared.tree.ReadFault.{ReadFault}
+use Rattle.kt_suite.specs.declared.tree.ReadFault.TheVariants as read
+use Rattle.kt_suite.specs.declared.selecting.SelectFault.{SelectFault}
+use Rattle.kt_suite.specs.declared.selecting.SelectFault.TheVariants as select
 
 -- the words of a cause without a number
 abbrev pub fixed_words : SuiteCause → List ℕ

@@ -12,9 +12,9 @@ use Rattle.kt_suite.specs.declared.call.Call.{Call as CallKind}
 use Rattle.kt_suite.specs.declared.call.Call.TheVariants as call
 use Rattle.kt_suite.specs.declared.cause.SuiteCause.{SuiteCause}
 use Rattle.kt_suite.specs.declared.cause.SuiteCause.TheVariants.{NoSyntax, WrongSyntax, UnknownCall, BadValue, NoSuite, PathHasDirectory, BadInclude}
-use Rattle.kt_suite.specs.declared.meaning.Meaning.{Meaning}
-use Rattle.kt_suite.specs.declared.meaning.Meaning.TheVariants as meaning
-use Rattle.kt_suite.specs.declared.program_table.ProgramTable.{ProgramTable}
+use Rattle.kt_suite.specs.declared.statement.Meaning.{Meaning}
+use Rattle.kt_suite.specs.declared.statement.Meaning.TheVariants as meaning
+use Rattle.kt_suite.specs.declared.table.ProgramTable.{ProgramTable}
 use Rattle.kt_suite.specs.Calls.{call_named}
 use Rattle.kt_suite.specs.Tables.{declared}
 use Rattle.kt_suite.specs.Paths.{has_directory, leads_down}

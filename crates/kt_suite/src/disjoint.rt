@@ -3,10 +3,8 @@ ghost use Rattle.kt_suite.specs.declared.filter.Filter.{Filter as OneFilter};
 ghost use Rattle.kt_suite.specs.Matching.{is_within, IsWithin};
 ghost use Rattle.kt_suite.specs.Disjoint.{same_case_part, is_same_filter, covers, overlap, ShareCase, overlap_fault, IsDisjoint, IsFirstFault};
 
-use crate::filter::Filter;
-use crate::filter_fault::FilterFault;
-use crate::within::is_within;
-use crate::words::is_same;
+use crate::filter::{Filter, FilterFault};
+use crate::within::{is_same, is_within};
 use kt_base::Text;
 
 fn same_case_part(own: &Option<Text>, other: &Option<Text>) -> bool

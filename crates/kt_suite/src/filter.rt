@@ -1,11 +1,56 @@
-ghost use Rattle.std.specs.Prelude.{◌≡◌, ◌↔◌, IsTrue};
+ghost use Rattle.std.specs.Prelude.{◌≡◌, ◌↔◌, IsTrue, IfOk, OnOk};
+ghost use Rattle.kt_suite.specs.Inner.Steps.{joined, with_component};
+ghost use Rattle.kt_suite.specs.Filters.{counts, plain_path, case_fault, parts_fault};
+ghost use Rattle.kt_suite.specs.declared.filter.FilterFault.TheVariants as fault;
 
-use crate::filter_fault::FilterFault;
-use crate::filter_text::{parts_fault, plain_path};
-use crate::within::is_within;
-use crate::words::is_same;
-use kt_base::Text;
+use crate::within::{is_same, is_within};
+use kt_base::{NoMemory, Text};
 use std::alloc::Global;
+use thiserror::Error;
+
+/// Why a filter, or a list of them, was refused. A number is a position in the list, from 0. `Display`
+/// prints the words of the fault's line (this profile), which shows the filter itself.
+#[derive(Clone, Copy, Debug, PartialEq, Eq, Error)]
+#[error("{}", self.words())]
+pub enum FilterFault {
+    NoMemory(NoMemory),
+    /// It names no program.
+    Empty,
+    /// It begins with a slash.
+    Absolute,
+    /// Nothing follows its first colon.
+    EmptyCase,
+    /// The filter at this position is equal to an earlier one.
+    Repeated(usize),
+    /// The filter at this position and an earlier one match the same cases, or one of them more than the other.
+    NotDisjoint(usize),
+}
+
+impl FilterFault {
+    ghost use Rattle.kt_suite.specs.FaultWords.{filter_words};
+
+    /// The words of the fault.
+    pub fn words(&self) -> &'static str
+        ensures { result.now ≡ filter_words self.now }
+    {
+        match self {
+            FilterFault::NoMemory(_) => "out of memory",
+            FilterFault::Empty => "empty",
+            FilterFault::Absolute => "absolute",
+            FilterFault::EmptyCase => "empty case",
+            FilterFault::Repeated(_) => "repeated",
+            FilterFault::NotDisjoint(_) => "not disjoint",
+        }
+    }
+}
+
+impl From<NoMemory> for FilterFault {
+    ghost from_gives = { λ refusal e. e ≡ fault.NoMemory refusal };
+
+    fn from(refusal: NoMemory) -> FilterFault {
+        FilterFault::NoMemory(refusal)
+    }
+}
 
 /// Names cases to run: those of a program, of all programs under a directory, or one case (kyua(1)).
 #[derive(Debug, Drop)]
@@ -55,4 +100,68 @@ impl Filter {
             Some(_) => is_same(path, &self.program),
         }
     }
+}
+
+/// What is wrong with a case part.
+fn case_fault(case_name: &Option<Text>) -> Option<FilterFault>
+    ensures { result ≡ case_fault case_name.now }
+{
+    match case_name {
+        Some(name) if name.is_empty() => Some(FilterFault::EmptyCase),
+        _ => None,
+    }
+}
+
+/// The first thing that is wrong with the two parts of a filter as they are written.
+fn parts_fault(path: &Text, case_name: &Option<Text>) -> Option<FilterFault>
+    ensures { result ≡ parts_fault path.now case_name.now }
+{
+    match path.as_str().chars().next() {
+        None => Some(FilterFault::Empty),
+        Some('/') => Some(FilterFault::Absolute),
+        Some(_) => case_fault(case_name),
+    }
+}
+
+/// Whether a component is neither empty nor `.`.
+fn counts(component: &Text) -> bool
+    ensures { result ≡ counts component.now }
+{
+    !component.is_empty() && !component.is_word(".")
+}
+
+/// Appends a component that counts.
+fn push_component(path: &mut Text, component: &Text) -> Result<(), NoMemory>
+    ensures { OnOk result (path.new ≡ joined path.old component.now) }
+{
+    if path.is_empty() {
+        path.push_str(component.as_str())?;
+        return Ok(());
+    }
+    path.push('/')?;
+    path.push_str(component.as_str())?;
+    Ok(())
+}
+
+/// Appends a component if it counts.
+fn add_component(path: &mut Text, component: &Text) -> Result<(), NoMemory>
+    ensures { OnOk result (path.new ≡ with_component path.old component.now) }
+{
+    if counts(component) {
+        push_component(path, component)?;
+    }
+    Ok(())
+}
+
+/// A path with single slashes and without `.`.
+fn plain_path(alloc: Global, path: &Text) -> Result<Text, NoMemory>
+    ensures { IfOk result (λ plain. plain ≡ plain_path path.now) }
+{
+    let characters = path.characters()?;
+    let components: Vec<&[char]> = characters.split(|c| *c == '/').collect(alloc)?;
+    let mut plain = Text::new(alloc);
+    for component in &components {
+        add_component(&mut plain, &Text::from_characters(alloc, *component)?)?;
+    }
+    Ok(plain)
 }

@@ -1,14 +1,12 @@
 ghost use Rattle.std.specs.Prelude.{◌≡◌, ◌⊎◌, ◌≤◌, ◌-◌, ◌++◌, [], ◌∷◌, List, ℕ, length, take, drop, IfOk};
-ghost use Rattle.kt_suite.specs.Answers.{Answered};
-ghost use Rattle.kt_suite.specs.Registered.{program_limit, Unfinished, Registered};
+ghost use Rattle.kt_suite.specs.Answers.{Answered, Asked, IsSteady};
+ghost use Rattle.kt_suite.specs.Registered.{program_limit, Unfinished, Registered, Outcome};
 ghost use Rattle.kt_suite.specs.Inner.Walks.{Walked, FileGives};
 
-use crate::blame::no_memory;
-use crate::fault::SuiteFault;
+use crate::fault::{SuiteFault, no_memory};
 use crate::opening::open_file;
 use crate::program::Program;
-use crate::registry::Registry;
-use crate::step::Step;
+use crate::registry::{Registry, Step};
 use crate::stepping::step;
 use crate::tree::Tree;
 use kt_base::{Items, NoMemory, Text};
@@ -103,3 +101,13 @@ pub fn load<T: Tree>(alloc: Global, tree: &mut T, root: &Text) -> Result<Items<P
         Ok(registry) => Ok(registry.programs),
     }
 }
+
+/// States that loading an unchanged tree always gives the same result. It does nothing.
+pub fn registers_once()
+    ensures steady { (first second : List Asked) (root : List ℕ) (r s : Outcome)
+        → IsSteady (first ++ second) → Registered first root r → Registered second root s → r ≡ s }
+
+    // One list of answers has one result, whether or not the tree changed.
+    ensures decided { (asked : List Asked) (root : List ℕ) (r s : Outcome)
+        → Registered asked root r → Registered asked root s → r ≡ s }
+{}

@@ -4,12 +4,10 @@ ghost use Rattle.kt_suite.specs.Inner.Steps.{IsText};
 ghost use Rattle.kt_suite.specs.Faults.{fault_at, read_fault, script_line, IsNoMemory};
 ghost use Rattle.kt_suite.specs.Inner.Walks.{WellOpened, Opened};
 
-use crate::blame::{blame, no_memory};
 use crate::cause::SuiteCause;
-use crate::fault::SuiteFault;
-use crate::read_fault::ReadFault;
+use crate::fault::{SuiteFault, blame, no_memory};
 use crate::statement::wrong_opening;
-use crate::tree::Tree;
+use crate::tree::{ReadFault, Tree};
 use kt_base::{Items, Text};
 use kt_script::{ScriptFault, Stmt, parse};
 use std::alloc::Global;

@@ -1,15 +1,62 @@
 ghost use Rattle.std.specs.Prelude.{◌≡◌, ◌↔◌, ◌<◌, length, Err, Some, IfOk};
 ghost use Rattle.std.specs.List.{filter};
-ghost use Rattle.kt_suite.specs.declared.select_fault.SelectFault.TheVariants.{TooMany};
+ghost use Rattle.kt_suite.specs.declared.selecting.SelectFault.TheVariants.{TooMany};
 ghost use Rattle.kt_suite.specs.Inner.Steps.{all_places, first_match, is_match, is_miss};
 ghost use Rattle.kt_suite.specs.Selecting.{most_items, matches_item, is_selected, selected_places, idle_places};
+ghost use Rattle.kt_suite.specs.declared.selecting.SelectFault.TheVariants as fault;
 
 use crate::filter::Filter;
-use crate::item::Item;
-use crate::select_fault::SelectFault;
-use crate::selection::Selection;
-use kt_base::NoMemory;
+use kt_base::{NoMemory, Text};
 use std::alloc::Global;
+use thiserror::Error;
+
+/// Why nothing was selected. `Display` prints the words of the fault's line (this profile).
+#[derive(Clone, Copy, Debug, PartialEq, Eq, Error)]
+#[error("{}", self.words())]
+pub enum SelectFault {
+    NoMemory(NoMemory),
+    /// Over 100,000 items.
+    TooMany,
+}
+
+impl SelectFault {
+    ghost use Rattle.kt_suite.specs.FaultWords.{select_words};
+
+    /// The words of the fault.
+    pub fn words(&self) -> &'static str
+        ensures { result.now ≡ select_words self.now }
+    {
+        match self {
+            SelectFault::NoMemory(_) => "out of memory",
+            SelectFault::TooMany => "too many cases",
+        }
+    }
+}
+
+impl From<NoMemory> for SelectFault {
+    ghost from_gives = { λ refusal e. e ≡ fault.NoMemory refusal };
+
+    fn from(refusal: NoMemory) -> SelectFault {
+        SelectFault::NoMemory(refusal)
+    }
+}
+
+/// A case of a program, as filters see it.
+#[derive(Debug, Drop)]
+pub struct Item {
+    /// The program's path, relative to the directory of the root Kyuafile.
+    pub path: Text,
+    pub case_name: Text,
+}
+
+/// What filters select among some items.
+#[derive(Debug, Drop)]
+pub struct Selection {
+    /// The positions of the selected items, ascending, from 0.
+    pub cases: Vec<usize>,
+    /// The positions of the filters that match no item, ascending, from 0.
+    pub unmatched: Vec<usize>,
+}
 
 /// The most items to select from.
 const MOST_ITEMS: usize = 100_000;

@@ -3,14 +3,24 @@ ghost use Rattle.kt_suite.specs.Meanings.{version_fault, first_call_fault, openi
 
 use crate::call::{Call, call_of};
 use crate::cause::SuiteCause;
-use crate::meaning::Meaning;
 use crate::paths::{leads_away, leads_down};
-use crate::program_table::ProgramTable;
-use crate::table::read_table;
+use crate::table::{ProgramTable, read_table};
 use kt_base::{Interface, NoMemory, Text};
 use kt_metadata::Props;
 use kt_script::{Action, Arg, Literal};
 use std::alloc::Global;
+
+/// What a statement asks for.
+#[derive(Drop)]
+pub enum Meaning {
+    /// The suite of the programs after it.
+    Suite(Text),
+    /// The path of a file below this directory.
+    Include(Text),
+    /// A program's interface, its name in this directory, its suite and its properties.
+    Program(Interface, Text, Text, Props),
+    Wrong(SuiteCause),
+}
 
 /// Why a first statement is refused; `syntax(2)` isn't.
 pub fn wrong_opening(action: &Action) -> Option<SuiteCause>

@@ -4,13 +4,20 @@ ghost use Rattle.kt_base.specs.LastValues.{last_values};
 ghost use Rattle.kt_suite.specs.Inner.Steps.{props_with, table_with};
 ghost use Rattle.kt_suite.specs.Tables.{definition, table_of, declared};
 
+use crate::call::{Key, key_of};
 use crate::cause::SuiteCause;
-use crate::key::{Key, key_of};
-use crate::program_table::ProgramTable;
 use kt_base::{NoMemory, Text};
 use kt_metadata::{PropFault, Props};
 use kt_script::Pair;
 use std::alloc::Global;
+
+/// What the table of a program declares.
+#[derive(Drop)]
+pub struct ProgramTable {
+    pub name: Option<Text>,
+    pub suite: Option<Text>,
+    pub props: Props,
+}
 
 /// Properties with one definition more, or why it is refused.
 fn set_property(

@@ -1,4 +1,4 @@
-ghost use Rattle.std.specs.Prelude.{◌≡◌, [], chars, drop};
+ghost use Rattle.std.specs.Prelude.{◌≡◌, [], chars, drop, bytes_eq};
 ghost use Rattle.kt_suite.specs.Matching.{is_within};
 
 use kt_base::Text;
@@ -36,4 +36,11 @@ pub fn is_within(directory: &Text, path: &Text) -> bool
         None => false,
         Some(rest) => ends_component(rest),
     }
+}
+
+/// Whether two texts are the same.
+pub fn is_same(one: &Text, other: &Text) -> bool
+    ensures { result ≡ bytes_eq one.now other.now }
+{
+    one.as_str() == other.as_str()
 }

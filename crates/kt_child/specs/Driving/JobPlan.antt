@@ -8,9 +8,9 @@ use Rattle.kt_base.specs.declared.variable.Variable.{Variable}
 use Rattle.kt_base.specs.Texts.{is_empty}
 use Rattle.kt_suite.specs.Paths.{parent_of}
 use Rattle.kt_sched.specs.declared.job.Job.{Job}
-use Rattle.kt_child.specs.declared.planning.paths.Paths.{Paths}
-use Rattle.kt_child.specs.declared.planning.want.Want.{Want}
-use Rattle.kt_child.specs.declared.planning.want.Want.TheVariants.{List as Listing, Body as BodyOf, Cleanup as CleanupOf}
+use Rattle.kt_child.specs.declared.planning.workdir.Paths.{Paths}
+use Rattle.kt_child.specs.declared.planning.purpose.Want.{Want}
+use Rattle.kt_child.specs.declared.planning.purpose.Want.TheVariants.{List as Listing, Body as BodyOf, Cleanup as CleanupOf}
 use Rattle.kt_child.specs.declared.planning.spawning.Spawning.{Spawning}
 use Rattle.kt_child.specs.declared.polling.watched.Watched.{Watched}
 use Rattle.kt_child.specs.declared.planning.case.Case.{Case}

@@ -6,8 +6,8 @@ use Rattle.kt_base.specs.declared.outcome.Outcome.{Outcome}
 use Rattle.kt_sched.specs.declared.ended.Ended.{Ended}
 use Rattle.kt_sched.specs.Children.{same_role}
 use Rattle.kt_child.specs.declared.system.os_fault.OsFault.{OsFault}
-use Rattle.kt_child.specs.declared.system.file_read.FileRead.{FileRead}
-use Rattle.kt_child.specs.declared.planning.paths.Paths.{Paths}
+use Rattle.kt_child.specs.declared.system.values.FileRead.{FileRead}
+use Rattle.kt_child.specs.declared.planning.workdir.Paths.{Paths}
 use Rattle.kt_child.specs.declared.planning.case.Case.{Case}
 use Rattle.kt_child.specs.System.Calls.{Call, Now, ReadFile, RemoveTree}
 use Rattle.kt_child.specs.System.Moments.{moment_of}

@@ -8,13 +8,13 @@ use Rattle.kt_claim.specs.declared.evidence.Evidence.{Evidence}
 use Rattle.kt_claim.specs.declared.evidence.Evidence.TheVariants as evidence
 use Rattle.kt_claim.specs.declared.claim.Claim.{Claim}
 use Rattle.kt_claim.specs.declared.claim.Claim.TheVariants as claim
-use Rattle.kt_claim.specs.declared.claim_fault.ClaimFault.TheVariants as claim_fault
+use Rattle.kt_claim.specs.declared.claim.ClaimFault.TheVariants as claim_fault
 use Rattle.kt_claim.specs.declared.tap.Tap.{Tap}
 use Rattle.kt_claim.specs.declared.tap.Tap.TheVariants as tap
-use Rattle.kt_claim.specs.declared.tap_fault.TapFault.TheVariants as tap_fault
+use Rattle.kt_claim.specs.declared.tap.TapFault.TheVariants as tap_fault
 use Rattle.kt_claim.specs.ResultFile.{IsClaimOf}
 use Rattle.kt_claim.specs.TapStream.{tap_of}
-use Rattle.kt_child.specs.declared.planning.paths.Paths.{Paths}
+use Rattle.kt_child.specs.declared.planning.workdir.Paths.{Paths}
 use Rattle.kt_child.specs.System.Calls.{Call}
 use Rattle.kt_child.specs.Ending.Parts.{Whole, Missing, Unreadable, TooLong, Bytes, Reads}
 

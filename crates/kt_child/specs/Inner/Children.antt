@@ -7,16 +7,16 @@ use Rattle.kt_sched.specs.Children.{Child as Shown, same_role}
 use Rattle.kt_child.specs.declared.planning.case.Case.{Case}
 use Rattle.kt_child.specs.Driving.ChildrenState.{shown}
 use Rattle.kt_child.specs.declared.polling.watched.Watched.{Watched}
-use Rattle.kt_child.specs.declared.polling.watch.Watch.{Watch}
+use Rattle.kt_child.specs.declared.polling.watched.Watch.{Watch}
 use Rattle.kt_base.specs.declared.outcome.Outcome.{Outcome}
-use Rattle.kt_child.specs.declared.system.polled.Polled.{Polled}
+use Rattle.kt_child.specs.declared.system.values.Polled.{Polled}
 use Rattle.kt_child.specs.declared.system.os_fault.OsFault.{OsFault}
-use Rattle.kt_child.specs.declared.polling.turn.Turn.TheVariants.{More, Ended}
+use Rattle.kt_child.specs.declared.polling.polls.Turn.TheVariants.{More, Ended}
 use Rattle.kt_child.specs.Polling.Polls.{is_killed, turn_of, watch_after}
 use Rattle.kt_child.specs.Polling.ChildOutcome.{Heard, HeardKill, HeardPoll}
-use Rattle.kt_child.specs.declared.ending.read_end.ReadEnd.{ReadEnd}
+use Rattle.kt_child.specs.declared.ending.parts.ReadEnd.{ReadEnd}
 use Rattle.kt_child.specs.Ending.Parts.{Bytes, Missing, TooLong, Unreadable, Whole}
-use Rattle.kt_child.specs.declared.ending.read_end.ReadEnd.TheVariants as read_end
+use Rattle.kt_child.specs.declared.ending.parts.ReadEnd.TheVariants as read_end
 
 -- a child that is not over: fewer than 100 polls a second of its limit before a kill, fewer than 500 after it
 abbrev pub IsShort : Bool → ℕ → ℕ → ℕ → Type 0

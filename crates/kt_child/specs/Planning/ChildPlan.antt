@@ -4,10 +4,10 @@ use Rattle.std.specs.Fmt.{decimal}
 use Rattle.kt_base.specs.declared.interface.Interface.{Interface}
 use Rattle.kt_base.specs.declared.interface.Interface.TheVariants.{Atf, Tap, Plain}
 use Rattle.kt_base.specs.declared.variable.Variable.{Variable}
-use Rattle.kt_child.specs.declared.planning.paths.Paths.{Paths}
-use Rattle.kt_child.specs.declared.system.env.EnvPlan.{EnvPlan}
-use Rattle.kt_child.specs.declared.planning.want.Want.{Want}
-use Rattle.kt_child.specs.declared.planning.want.Want.TheVariants.{List as Listing, Body, Cleanup}
+use Rattle.kt_child.specs.declared.planning.workdir.Paths.{Paths}
+use Rattle.kt_child.specs.declared.system.values.EnvPlan.{EnvPlan}
+use Rattle.kt_child.specs.declared.planning.purpose.Want.{Want}
+use Rattle.kt_child.specs.declared.planning.purpose.Want.TheVariants.{List as Listing, Body, Cleanup}
 
 -- the directory of an attempt
 abbrev pub attempt_dir : List ℕ → ℕ → List ℕ

@@ -1,10 +1,34 @@
-use crate::driving::driver_fault::DriverFault;
-use crate::driving::roots::find_root;
+ghost use Rattle.std.specs.Prelude.{◌≡◌, List, IfOk};
+ghost use Rattle.kt_base.specs.Chains.{Chain};
+ghost use Rattle.kt_child.specs.System.Calls.{Call};
+ghost use Rattle.kt_child.specs.Driving.Roots.{FindsRoot, root_of};
+ghost use Rattle.kt_child.specs.declared.driving.driver.DriverFault.TheVariants as fault;
+
 use crate::driving::running_children::RunningChildren;
 use crate::system::os::Os;
-use kt_base::{Role, Text};
+use kt_base::{NoMemory, Role, Text};
+use kt_removal::numbered_path;
 use kt_sched::{Ended, Job, Launcher, StartAnswer};
 use std::alloc::Global;
+use thiserror::Error;
+
+/// Why there is no driver. `Display` is the text of the fault line (this profile).
+#[derive(Clone, Copy, Debug, PartialEq, Eq, Error)]
+pub enum DriverFault {
+    #[error("out of memory")]
+    NoMemory(NoMemory),
+    /// None of the 1,000 root directories could be made.
+    #[error("no work directory")]
+    NoWorkDirectory,
+}
+
+impl From<NoMemory> for DriverFault {
+    ghost from_gives = { λ refusal e. e ≡ fault.NoMemory refusal };
+
+    fn from(refusal: NoMemory) -> DriverFault {
+        DriverFault::NoMemory(refusal)
+    }
+}
 
 /// Starts children in directories below its own root directory, watches them and cleans up after them.
 #[derive(Drop)]
@@ -90,4 +114,28 @@ impl<O: Os + Drop> Driver<O> {
         let _ = os.remove_tree(&root);
         os
     }
+}
+
+/// A root directory by its number.
+pub(crate) fn root_path(alloc: Global, base: &Text, number: u64) -> Result<Text, NoMemory>
+    ensures { IfOk result (λ path. path ≡ root_of base.now number) }
+{
+    let path = numbered_path(alloc, base, "/kyua.", number)?;
+    Ok(path)
+}
+
+/// Makes the root directory of a driver: the first of `kyua.0` to `kyua.999` below `base` that can be made (this
+/// profile). One that exists, such as that of a runner that was killed, is never used again.
+fn find_root<O: Os>(alloc: Global, os: &mut O, base: &Text) -> Result<Text, DriverFault>
+    ensures { (calls : List Call) × Chain O.leads os.old calls os.new
+        × FindsRoot base.now calls result }
+{
+    for number in 0..1000 {
+        let root = root_path(alloc, base, number)?;
+        match os.make_dir(&root) {
+            Ok(()) => return Ok(root),
+            Err(_fault) => {}
+        }
+    }
+    Err(DriverFault::NoWorkDirectory)
 }

@@ -3,7 +3,7 @@ use crate::driving::jobs::{body_case, spawning, want_and_limit};
 use crate::driving::running_children::refuse;
 use crate::planning::case::Case;
 use crate::planning::purpose::Purpose;
-use crate::starting::refusals::memory_refusal;
+use crate::starting::starts::memory_refusal;
 use crate::system::os::Os;
 use kt_base::{Refused, Role};
 use kt_sched::{Job, StartAnswer};

@@ -1,10 +1,8 @@
 //! The driver: it starts children, waits for them and asks for lists.
 
 pub(crate) mod driver;
-pub(crate) mod driver_fault;
 pub(crate) mod jobs;
 pub(crate) mod launches;
 pub(crate) mod lists;
-pub(crate) mod roots;
 pub(crate) mod run;
 pub(crate) mod running_children;

@@ -8,7 +8,7 @@ ghost use Rattle.kt_child.specs.Ending.Ends.{Leaves, Removes, err_of, is_over, o
 use crate::ending::gathering::gather;
 use crate::ending::reads::read_kept;
 use crate::planning::case::Case;
-use crate::planning::paths::Paths;
+use crate::planning::workdir::Paths;
 use crate::system::moments::moment;
 use crate::system::os::Os;
 use kt_base::{Outcome, Output, Role, Text};

@@ -7,9 +7,8 @@ ghost use Rattle.kt_child.specs.Ending.Parts.{Bytes};
 ghost use Rattle.kt_child.specs.Ending.Gathering.{Gathers, IsClaim, IsTap, ReadsClaim, ReadsTap};
 ghost use Rattle.kt_sched.specs.Children.{IsEvidence};
 
-use crate::ending::parts::read_in_parts;
-use crate::ending::read_end::ReadEnd;
-use crate::planning::paths::Paths;
+use crate::ending::parts::{ReadEnd, read_in_parts};
+use crate::planning::workdir::Paths;
 use crate::system::os::Os;
 use kt_base::{Interface, Role, Text};
 use kt_claim::{Claim, ClaimFault, ClaimReader, Evidence, Tap, TapFault, TapReader};

@@ -2,8 +2,5 @@
 
 pub(crate) mod ends;
 pub(crate) mod gathering;
-pub(crate) mod next_part;
-pub(crate) mod part_reader;
 pub(crate) mod parts;
-pub(crate) mod read_end;
 pub(crate) mod reads;

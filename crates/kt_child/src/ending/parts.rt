@@ -1,5 +1,5 @@
 ghost use Rattle.std.specs.Prelude.{◌≡◌, ℕ, ◌+◌, ◌<◌, List, [], Result, length, Ok, OnOk, OnErr};
-ghost use Rattle.kt_child.specs.declared.system.file_read.FileRead.{FileRead};
+ghost use Rattle.kt_child.specs.declared.system.values.FileRead.{FileRead};
 ghost use Rattle.kt_child.specs.declared.system.os_fault.OsFault.{OsFault};
 ghost use Rattle.kt_base.specs.Chains.{Chain};
 ghost use Rattle.kt_child.specs.System.Calls.{Call};
@@ -7,12 +7,71 @@ ghost use Rattle.kt_child.specs.Ending.Reads.{bytes_of};
 ghost use Rattle.kt_child.specs.Inner.Children.{Takes, Tells};
 ghost use Rattle.kt_child.specs.Ending.Parts.{IsNext, Reads, Whole, next_of, next_part};
 
-use crate::ending::next_part::NextPart;
-use crate::ending::part_reader::PartReader;
-use crate::ending::read_end::ReadEnd;
-use crate::system::file_read::FileRead;
 use crate::system::os::Os;
+use crate::system::values::FileRead;
 use kt_base::{Bytes, NoMemory, Text};
+use kt_claim::{ClaimReader, TapReader};
+
+/// What takes the bytes of a file part by part.
+pub(crate) trait PartReader {
+    ghost use Rattle.std.specs.Prelude.{ℕ, List, OnOk};
+    ghost use Rattle.kt_child.specs.Inner.Children.{Takes};
+
+    /// Whether these bytes, and no others, were taken.
+    ghost has_taken: { Self → List ℕ → Type 0 };
+
+    /// Takes the next part.
+    fn take(&mut self, part: &[u8]) -> Result<(), NoMemory>
+        ensures { OnOk result (Takes has_taken self.old self.new part.now) };
+}
+
+impl PartReader for ClaimReader {
+    ghost use Rattle.kt_claim.specs.ClaimReading.{HasRead};
+
+    ghost has_taken = { λ reader bytes. HasRead reader bytes };
+
+    fn take(&mut self, part: &[u8]) -> Result<(), NoMemory> {
+        self.feed(part)
+    }
+}
+
+impl PartReader for TapReader {
+    ghost use Rattle.kt_claim.specs.StreamReading.{HasStream};
+
+    ghost has_taken = { λ reader bytes. HasStream reader bytes };
+
+    fn take(&mut self, part: &[u8]) -> Result<(), NoMemory> {
+        self.feed(part)
+    }
+}
+
+/// What follows a part of a file.
+#[derive(Clone, Copy, Debug, PartialEq, Eq)]
+enum NextPart {
+    /// Another part.
+    More,
+    /// Nothing: the file was read whole.
+    All,
+    /// Nothing: the file is missing.
+    Absent,
+    /// Nothing: the read failed.
+    Failed,
+    /// Nothing: the limit was reached.
+    Past,
+}
+
+/// How the reading of a file in parts ended.
+#[derive(Clone, Copy, Debug, PartialEq, Eq)]
+pub(crate) enum ReadEnd {
+    /// There is no such file.
+    Missing,
+    /// A read failed, or a part could not be kept.
+    Unreadable,
+    /// The limit was reached, and more followed.
+    TooLong,
+    /// The file was read whole.
+    Complete,
+}
 
 /// What follows a part that was kept.
 fn count_part(got: &mut u64, bytes: &Bytes, follows: bool, limit: u64) -> NextPart

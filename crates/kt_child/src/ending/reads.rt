@@ -1,11 +1,11 @@
 ghost use Rattle.std.specs.Prelude.{◌≡◌, ◌≤◌, Result, length};
-ghost use Rattle.kt_child.specs.declared.system.file_read.FileRead.{FileRead};
+ghost use Rattle.kt_child.specs.declared.system.values.FileRead.{FileRead};
 ghost use Rattle.kt_child.specs.declared.system.os_fault.OsFault.{OsFault};
 ghost use Rattle.kt_child.specs.System.Calls.{ReadFile};
 ghost use Rattle.kt_child.specs.Ending.Reads.{IsListWithin, bytes_of, list_of};
 
-use crate::system::file_read::FileRead;
 use crate::system::os::Os;
+use crate::system::values::FileRead;
 use kt_atflist::ListBytes;
 use kt_base::{Bytes, Text};
 use std::alloc::Global;

@@ -5,9 +5,9 @@ ghost use Rattle.kt_child.specs.Host.HostStands.{AllProceed, AllStay, OthersStay
 
 use crate::host::command::Asked;
 use crate::host::host_child::HostChild;
-use crate::host::pauses::{PAUSE, slice_after};
-use crate::system::child::Child;
+use crate::host::pace::{PAUSE, slice_after};
 use crate::system::os_fault::OsFault;
+use crate::system::values::Child;
 use kt_base::NoMemory;
 use kt_removal::{Removals, rest};
 use std::fs::File;

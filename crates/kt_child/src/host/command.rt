@@ -4,8 +4,8 @@ ghost use Rattle.kt_base.specs.Utf8.{utf8};
 ghost use Rattle.kt_child.specs.Inner.Host.{IsCommandOf, after_removed, after_set};
 
 use crate::host::faults::or_fault;
-use crate::system::env::EnvPlan;
 use crate::system::os_fault::OsFault;
+use crate::system::values::EnvPlan;
 use kt_base::{Items, NoMemory, Text, Variable, Variables};
 use std::alloc::Global;
 use std::fs::File;

@@ -1,8 +1,8 @@
 use crate::host::command::{Asked, spawn};
 use crate::host::faults::or_fault;
 use crate::host::pace::Pace;
-use crate::system::child::Child;
 use crate::system::os_fault::OsFault;
+use crate::system::values::Child;
 use std::fs::File;
 use std::process::{ExitStatus, OpenProcess, Processes};
 use std::rt::Clock;

@@ -7,14 +7,11 @@ use crate::host::command::Asked;
 use crate::host::faults::{fault_of, or_fault};
 use crate::host::host_child::HostChild;
 use crate::host::outputs::{create_directory, create_output, create_root};
-use crate::host::pauses::{PAUSE, is_quiet};
+use crate::host::pace::{PAUSE, is_quiet};
 use crate::host::reads::read_regular;
-use crate::system::child::Child;
-use crate::system::env::EnvPlan;
-use crate::system::file_read::FileRead;
 use crate::system::os::Os;
 use crate::system::os_fault::OsFault;
-use crate::system::polled::Polled;
+use crate::system::values::{Child, EnvPlan, FileRead, Polled};
 use kt_base::{Items, Text};
 use kt_removal::{Removals, rest};
 use std::fs::File;
@@ -68,7 +65,7 @@ fn polled(status: ExitStatus) -> Result<Polled, OsFault>
 
 impl<R: Processes + AllocGlobal + Drop> HostOs<R> {
     ghost use Rattle.std.specs.Prelude.{◌≡◌, None};
-    ghost use Rattle.kt_child.specs.declared.system.child.Child.{Child as Name};
+    ghost use Rattle.kt_child.specs.declared.system.values.Child.{Child as Name};
     ghost use Rattle.kt_child.specs.Host.HostStands.{stand_in};
 
     /// The system, with no child.

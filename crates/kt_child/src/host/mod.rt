@@ -7,5 +7,4 @@ pub(crate) mod host_child;
 pub(crate) mod host_os;
 pub(crate) mod outputs;
 pub(crate) mod pace;
-pub(crate) mod pauses;
 pub(crate) mod reads;

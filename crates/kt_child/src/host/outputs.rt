@@ -1,7 +1,7 @@
 ghost use Rattle.std.specs.Prelude.{◌≡◌, IfOk};
 ghost use Rattle.kt_child.specs.Driving.Roots.{root_of};
 
-use crate::driving::roots::root_path;
+use crate::driving::driver::root_path;
 use crate::host::faults::or_fault;
 use crate::system::os_fault::OsFault;
 use kt_base::Text;

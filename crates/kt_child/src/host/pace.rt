@@ -1,10 +1,30 @@
-ghost use Rattle.std.specs.Prelude.{◌≡◌, ◌↔◌, ◌+◌, ◌-◌, ◌/◌, ◌^◌, min, None, IsSomeAnd, IsTrue};
+ghost use Rattle.std.specs.Prelude.{◌≡◌, ◌↔◌, ◌+◌, ◌-◌, ◌/◌, ◌^◌, min, None, IsSomeAnd, IsTrue, ◌≤◌};
 ghost use Rattle.std.specs.Time.{instant_nanos};
 ghost use Rattle.std.specs.declared.time.Instant.{Instant as Moment};
-ghost use Rattle.kt_child.specs.Inner.Host.{IsEarly};
+ghost use Rattle.kt_child.specs.Inner.Host.{IsEarly, next_slice};
 
 use std::rt::Clock;
 use std::time::Instant;
+
+/// The longest pause, in microseconds.
+pub(crate) const PAUSE: u64 = 10_000;
+
+/// After this many pauses without an end, a pause no longer looks for one.
+const QUIET_PAUSES: u32 = 20;
+
+/// The microseconds of the next slice of a pause, after this many.
+pub(crate) fn slice_after(micros: u64) -> u64
+    ensures { result ≡ next_slice micros }
+{
+    (50 + micros / 4).min(PAUSE.saturating_sub(micros))
+}
+
+/// Whether a pause no longer looks for an end, after this many without one.
+pub(crate) fn is_quiet(pauses: u32) -> bool
+    ensures { IsTrue result ↔ (20 ≤ pauses) }
+{
+    pauses >= QUIET_PAUSES
+}
 
 /// The milliseconds for each answer of the second half, which is spread over the limit.
 const PERIOD: u128 = 20;

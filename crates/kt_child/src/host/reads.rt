@@ -5,8 +5,8 @@ ghost use Rattle.kt_child.specs.Host.HostAnswers.{IsFront, IsHostRead, IsOpened}
 ghost use Rattle.kt_child.specs.Host.HostFiles.{TakesAtMost};
 
 use crate::host::faults::or_fault;
-use crate::system::file_read::FileRead;
 use crate::system::os_fault::OsFault;
+use crate::system::values::FileRead;
 use kt_base::{Bytes, Text};
 use kt_suite::ReadFault;
 use std::alloc::Global;

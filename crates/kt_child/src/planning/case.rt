@@ -1,4 +1,4 @@
-use crate::planning::paths::Paths;
+use crate::planning::workdir::Paths;
 use kt_base::{Interface, Role};
 
 /// What is kept of a case while a child of it runs, or while its cleanup is owed; the paths are its body's.

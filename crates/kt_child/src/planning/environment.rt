@@ -3,7 +3,7 @@ ghost use Rattle.std.specs.Str.{chars};
 ghost use Rattle.kt_child.specs.Planning.ChildPlan.{common_variables, env_of, own_variables, removed_names, test_variable, variable};
 
 use crate::planning::spelling::{joined, push_text};
-use crate::system::env::EnvPlan;
+use crate::system::values::EnvPlan;
 use kt_base::{Interface, Items, NoMemory, Text, Variable, Variables};
 use std::alloc::Global;
 

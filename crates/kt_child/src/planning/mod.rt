@@ -3,10 +3,8 @@
 pub(crate) mod case;
 pub(crate) mod environment;
 pub(crate) mod locations;
-pub(crate) mod paths;
 pub(crate) mod purpose;
 pub(crate) mod spawning;
 pub(crate) mod spelling;
-pub(crate) mod want;
 pub(crate) mod words;
 pub(crate) mod workdir;

@@ -1,5 +1,15 @@
-use crate::planning::want::Want;
 use kt_base::{Interface, Role, Text, Variables};
+
+/// What an ATF program is started for (atf-test-program(1)).
+#[derive(Clone, Copy, Debug, PartialEq, Eq)]
+pub enum Want {
+    /// The list of its test cases.
+    List,
+    /// The body of a case.
+    Body,
+    /// The cleanup of a case.
+    Cleanup,
+}
 
 /// What a child is started for.
 #[derive(Clone, Copy)]

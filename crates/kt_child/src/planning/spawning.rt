@@ -1,5 +1,4 @@
-use crate::system::child::Child;
-use crate::system::env::EnvPlan;
+use crate::system::values::{Child, EnvPlan};
 use kt_base::{Items, Text};
 
 /// All that a child is started with.

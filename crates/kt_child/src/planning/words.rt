@@ -1,9 +1,9 @@
 ghost use Rattle.std.specs.Prelude.{◌≡◌, [], ◌∷◌, ◌++◌, map, codes, IfOk, OnOk};
 ghost use Rattle.kt_child.specs.Planning.ChildPlan.{variable_word, words_of};
 
-use crate::planning::paths::Paths;
+use crate::planning::purpose::Want;
 use crate::planning::spelling::{joined, push_text};
-use crate::planning::want::Want;
+use crate::planning::workdir::Paths;
 use kt_base::{Interface, Items, NoMemory, Text, Variable, Variables};
 use std::alloc::Global;
 

@@ -2,13 +2,29 @@ ghost use Rattle.std.specs.Prelude.{◌≡◌, IfOk};
 ghost use Rattle.std.specs.Str.{chars};
 ghost use Rattle.kt_child.specs.Planning.ChildPlan.{attempt_dir, below, paths_of};
 
-use crate::planning::paths::Paths;
 use kt_base::{NoMemory, Text};
 use kt_removal::numbered_path;
 use std::alloc::Global;
 
+/// The absolute paths of one attempt (this profile).
+#[derive(Debug, Drop)]
+pub struct Paths {
+    /// The directory that holds all of them.
+    pub dir: Text,
+    /// The directory that the child runs in.
+    pub work: Text,
+    /// The result file of an ATF program.
+    pub result: Text,
+    /// The output of the body, or of the list.
+    pub out: Text,
+    /// What the body, or the list, wrote of its errors.
+    pub err: Text,
+    pub cleanup_out: Text,
+    pub cleanup_err: Text,
+}
+
 /// The directory of an attempt.
-pub(crate) fn attempt_path(alloc: Global, root: &Text, number: u64) -> Result<Text, NoMemory>
+fn attempt_path(alloc: Global, root: &Text, number: u64) -> Result<Text, NoMemory>
     ensures { IfOk result (λ path. path ≡ attempt_dir root.now number) }
 {
     let path = numbered_path(alloc, root, "/", number)?;

@@ -1,18 +1,24 @@
 ghost use Rattle.std.specs.Prelude.{◌≡◌, ℕ, ◌+◌, ◌*◌, ◌<◌, ◌≤◌, ◌^◌, [], ◌∷◌, Ok, Bool, Result, if◌then◌else◌, is_ok};
 ghost use Rattle.kt_child.specs.declared.system.os_fault.OsFault.{OsFault};
-ghost use Rattle.kt_child.specs.declared.system.polled.Polled.{Polled};
-ghost use Rattle.kt_child.specs.declared.system.polled.Polled.TheVariants.{Running};
+ghost use Rattle.kt_child.specs.declared.system.values.Polled.{Polled};
+ghost use Rattle.kt_child.specs.declared.system.values.Polled.TheVariants.{Running};
 ghost use Rattle.kt_base.specs.Chains.{Chain};
 ghost use Rattle.kt_child.specs.System.Calls.{Kill};
 ghost use Rattle.kt_child.specs.Inner.Children.{IsWatched};
 ghost use Rattle.kt_child.specs.Polling.Polls.{asked_by_poll, is_due, turn_of, watch_after};
 
-use crate::polling::turn::Turn;
-use crate::polling::watch::Watch;
-use crate::system::child::Child;
+use crate::polling::watched::Watch;
 use crate::system::os::Os;
-use crate::system::polled::Polled;
+use crate::system::values::{Child, Polled};
 use kt_base::Outcome;
+
+/// What a poll makes of a child.
+#[derive(Clone, Copy, Debug, PartialEq, Eq)]
+pub(crate) enum Turn {
+    /// It is not over.
+    More,
+    Ended(Outcome),
+}
 
 /// How often a running child is polled in a second (this profile).
 const POLLS_A_SECOND: u64 = 100;

@@ -4,14 +4,20 @@ ghost use Rattle.kt_child.specs.System.Calls.{Call};
 ghost use Rattle.kt_child.specs.Inner.Children.{IsOn};
 ghost use Rattle.kt_child.specs.Polling.Turns.{PolledAll, PolledUntil, WaitedOn, advanced_below};
 
-use crate::polling::over::Over;
-use crate::polling::polls::poll_once;
-use crate::polling::turn::Turn;
+use crate::polling::polls::{Turn, poll_once};
 use crate::polling::watched::Watched;
 use crate::system::os::Os;
+use kt_base::Outcome;
+
+/// The child that is over, by its place among the running children.
+#[derive(Clone, Copy, Debug, PartialEq, Eq)]
+pub(crate) struct Over {
+    pub place: usize,
+    pub outcome: Outcome,
+}
 
 /// Polls the children in order, up to the first that is over.
-pub(crate) fn turn<O: Os>(os: &mut O, children: &mut [Watched]) -> Option<Over>
+fn turn<O: Os>(os: &mut O, children: &mut [Watched]) -> Option<Over>
     requires { All IsOn children.old }
     ensures none { result ≡ None → (calls : List Call) × Chain O.leads os.old calls os.new
         × PolledAll children.old calls }

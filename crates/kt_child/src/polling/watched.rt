@@ -1,5 +1,15 @@
-use crate::polling::watch::Watch;
-use crate::system::child::Child;
+use crate::system::values::Child;
+
+/// What is kept of a running child's answers. The deadline is counted in polls, of which there are 100 a second.
+#[derive(Clone, Copy, Debug, PartialEq, Eq)]
+pub(crate) struct Watch {
+    /// How often it was running before a kill.
+    pub before: u64,
+    /// Whether a kill was done.
+    pub killed: bool,
+    /// How often it was running after the kill.
+    pub after: u64,
+}
 
 /// A running child: its limit in seconds, and what is kept of its answers.
 #[derive(Clone, Copy, Debug, PartialEq, Eq)]

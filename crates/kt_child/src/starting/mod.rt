@@ -1,4 +1,3 @@
 //! How a child is started, and why a start is refused.
 
-pub(crate) mod refusals;
 pub(crate) mod starts;

@@ -1,16 +1,32 @@
 ghost use Rattle.std.specs.Prelude.{◌≡◌, ◌≤◌, ◌∷◌, [], List, IfOk};
 ghost use Rattle.kt_base.specs.Chains.{Chain};
 ghost use Rattle.kt_child.specs.System.Calls.{Call};
-ghost use Rattle.kt_child.specs.Starting.Starts.{SetUp, SetUpIn, SetUpNew, Started, Tried, child_asks, furnish_asks, spawn_ask, spawned};
+ghost use Rattle.kt_child.specs.Starting.Starts.{SetUp, SetUpIn, SetUpNew, Started, Tried, child_asks, furnish_asks, spawn_ask, spawned, cause_of};
 
 use crate::ending::ends::remove_if;
 use crate::planning::spawning::Spawning;
-use crate::polling::watch::Watch;
-use crate::polling::watched::Watched;
-use crate::starting::refusals::cause_of;
+use crate::polling::watched::{Watch, Watched};
 use crate::system::moments::moment;
 use crate::system::os::Os;
-use kt_base::{LATEST_MOMENT, Refused, Role};
+use crate::system::os_fault::OsFault;
+use kt_base::{LATEST_MOMENT, NoMemory, Refused, Role};
+
+/// The cause of a start for which memory ran out. Nothing else returns that cause.
+pub(crate) fn memory_refusal(_refusal: NoMemory) -> Refused
+    ensures { result ≡ Refused.Memory }
+{
+    Refused::Memory
+}
+
+/// The cause of a start that a failed call refuses: its own, unless the call was refused memory.
+fn cause_of(cause: Refused, fault: OsFault) -> Refused
+    ensures { result ≡ cause_of cause fault }
+{
+    match fault {
+        OsFault::Failed => cause,
+        OsFault::Memory(refusal) => memory_refusal(refusal),
+    }
+}
 
 /// A child that was just spawned.
 pub(crate) fn spawned(plan: &Spawning) -> Watched

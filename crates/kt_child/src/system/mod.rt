@@ -1,9 +1,6 @@
 //! What is asked of the system: the trait, its values, and the clock.
 
-pub(crate) mod child;
-pub(crate) mod env;
-pub(crate) mod file_read;
 pub(crate) mod moments;
 pub(crate) mod os;
 pub(crate) mod os_fault;
-pub(crate) mod polled;
+pub(crate) mod values;

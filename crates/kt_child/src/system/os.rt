@@ -1,8 +1,5 @@
-use crate::system::child::Child;
-use crate::system::env::EnvPlan;
-use crate::system::file_read::FileRead;
 use crate::system::os_fault::OsFault;
-use crate::system::polled::Polled;
+use crate::system::values::{Child, EnvPlan, FileRead, Polled};
 use kt_base::{Items, Text};
 
 /// The system as children need it. Each call may fail; one relation says which answer leads from which state to which.

@@ -5,14 +5,14 @@ use Rattle.std.specs.Option.{option_or}
 use Rattle.kt_claim.specs.TapStream.{without_return, begins, says, past, trimmed, is_bail, is_gap, is_test, is_unexcused, Directive, reason_of, directive_at, directive_in, ends_plan, below_limit, planned_from, skips, skip_reason, plan_for, plan}
 use Rattle.kt_claim.specs.declared.begun.Begun.{Begun}
 use Rattle.kt_claim.specs.declared.begun.Begun.TheVariants as begun
-use Rattle.kt_claim.specs.declared.letters.Letters.{Letters}
-use Rattle.kt_claim.specs.declared.letters.Letters.TheVariants.{T, To, Tod, S, Sk, Ski}
-use Rattle.kt_claim.specs.declared.line_kind.LineKind.{LineKind}
-use Rattle.kt_claim.specs.declared.line_kind.LineKind.TheVariants as kind
-use Rattle.kt_claim.specs.declared.opening.Opening.{Opening}
-use Rattle.kt_claim.specs.declared.opening.Opening.TheVariants as opening
-use Rattle.kt_claim.specs.declared.purpose.Purpose.{Purpose}
-use Rattle.kt_claim.specs.declared.purpose.Purpose.TheVariants.{Excuse, Explain}
+use Rattle.kt_claim.specs.declared.begun.Letters.{Letters}
+use Rattle.kt_claim.specs.declared.begun.Letters.TheVariants.{T, To, Tod, S, Sk, Ski}
+use Rattle.kt_claim.specs.declared.begun.LineKind.{LineKind}
+use Rattle.kt_claim.specs.declared.begun.LineKind.TheVariants as kind
+use Rattle.kt_claim.specs.declared.begun.Opening.{Opening}
+use Rattle.kt_claim.specs.declared.begun.Opening.TheVariants as opening
+use Rattle.kt_claim.specs.declared.begun.Purpose.{Purpose}
+use Rattle.kt_claim.specs.declared.begun.Purpose.TheVariants.{Excuse, Explain}
 
 -- all that counts of a line
 pub record Facts : Type 0 where

@@ -8,9 +8,9 @@ use Rattle.kt_claim.specs.Bytes.{newline, is_word_byte, number}
 use Rattle.kt_claim.specs.ResultFile.{limit, line}
 use Rattle.kt_claim.specs.declared.claim.Claim.{Claim}
 use Rattle.kt_claim.specs.declared.claim.Claim.TheVariants as claim
-use Rattle.kt_claim.specs.declared.claim_fault.ClaimFault.TheVariants.{TooLong, Empty, NoNewline, SeveralLines, UnknownWord, BadNumber, UnexpectedReason, NoReason}
-use Rattle.kt_claim.specs.declared.word.Word.{Word}
-use Rattle.kt_claim.specs.declared.word.Word.TheVariants.{Passed, Failed, Skipped, ExpectedDeath, ExpectedFailure, ExpectedTimeout, ExpectedExit, ExpectedSignal}
+use Rattle.kt_claim.specs.declared.claim.ClaimFault.TheVariants.{TooLong, Empty, NoNewline, SeveralLines, UnknownWord, BadNumber, UnexpectedReason, NoReason}
+use Rattle.kt_claim.specs.declared.result_line.Word.{Word}
+use Rattle.kt_claim.specs.declared.result_line.Word.TheVariants.{Passed, Failed, Skipped, ExpectedDeath, ExpectedFailure, ExpectedTimeout, ExpectedExit, ExpectedSignal}
 
 -- the word that a line begins with, if it is one of the eight
 unfoldable pub word_of : List ℕ → Option Word

@@ -1,11 +1,10 @@
 -- What a reader of a TAP stream has read.
 use Rattle.std.specs.Prelude.{◌≡◌, ℕ, ◌+◌, ◌≤◌, Bool, true, false, if◌then◌else◌, List, [], ◌∷◌, ◌++◌, map, length, Option, Some, None, is_some}
 use Rattle.std.specs.List.{list_any, filter_map}
-use Rattle.kt_base.specs.Lines.{is_newline}
+use Rattle.kt_base.specs.Lines.{is_newline, lines}
 use Rattle.kt_claim.specs.Inner.LineStates.{LineState, Knows}
-use Rattle.kt_base.specs.Lines.{lines}
 use Rattle.kt_claim.specs.TapStream.{is_bail, is_test, is_unexcused, plan, count, heard, without_return}
-use Rattle.kt_claim.specs.declared.open_line.OpenLine.{OpenLine}
+use Rattle.kt_claim.specs.declared.begun.OpenLine.{OpenLine}
 use Rattle.kt_claim.specs.declared.tally.Tally.{Tally}
 
 -- 1 for true, 0 for false

@@ -6,7 +6,7 @@ use Rattle.std.specs.declared.rc.Rc.{Rc}
 use Rattle.std.specs.declared.string.String.{String}
 use Rattle.kt_base.specs.declared.variable.Variable.{Variable}
 use Rattle.kt_base.specs.LastValues.{last_values}
-use Rattle.kt_metadata.specs.declared.given.Given.{Given}
+use Rattle.kt_metadata.specs.declared.value.Given.{Given}
 use Rattle.kt_metadata.specs.Properties.{value_named}
 
 -- an entry as a pair

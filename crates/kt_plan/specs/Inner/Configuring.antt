@@ -1,17 +1,17 @@
 -- What a command over test cases is configured with, and which filters it has: the first step.
 use Rattle.std.specs.Prelude.{ℕ, Bool, ◌≡◌, ◌⊎◌, List, [], Option, Some, None, Result, Ok, Err}
 use Rattle.kt_base.specs.Texts.{before}
-use Rattle.kt_config.specs.declared.definition.Definition.{Definition}
+use Rattle.kt_config.specs.declared.meaning.Definition.{Definition}
 use Rattle.kt_config.specs.Holding.{Holds}
 use Rattle.kt_config.specs.Values.{Values}
 use Rattle.kt_suite.specs.declared.filter.Filter.{Filter}
-use Rattle.kt_suite.specs.declared.filter_fault.FilterFault.{FilterFault}
-use Rattle.kt_suite.specs.declared.filter_fault.FilterFault.TheVariants.{Repeated, NotDisjoint}
-use Rattle.kt_suite.specs.declared.read_fault.ReadFault.{ReadFault}
-use Rattle.kt_suite.specs.declared.read_fault.ReadFault.TheVariants.{Missing, Failed, Memory}
+use Rattle.kt_suite.specs.declared.filter.FilterFault.{FilterFault}
+use Rattle.kt_suite.specs.declared.filter.FilterFault.TheVariants.{Repeated, NotDisjoint}
+use Rattle.kt_suite.specs.declared.tree.ReadFault.{ReadFault}
+use Rattle.kt_suite.specs.declared.tree.ReadFault.TheVariants.{Missing, Failed, Memory}
 use Rattle.kt_suite.specs.Disjoint.{IsDisjoint}
 use Rattle.kt_plan.specs.declared.options.case_options.CaseOptions.{CaseOptions}
-use Rattle.kt_plan.specs.declared.options.settings.Settings.{Settings}
+use Rattle.kt_plan.specs.declared.options.configuring.Settings.{Settings}
 use Rattle.kt_plan.specs.declared.stop.Stop.{Stop}
 use Rattle.kt_plan.specs.declared.stop.Stop.TheVariants as stop
 use Rattle.kt_plan.specs.Stops.{IsShort}

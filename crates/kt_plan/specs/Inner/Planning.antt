@@ -3,7 +3,7 @@ use Rattle.std.specs.Prelude.{ℕ, ◌≡◌, ◌||◌, List}
 use Rattle.std.specs.List.{list_any}
 use Rattle.kt_metadata.specs.Requirements.{is_found}
 use Rattle.kt_metadata.specs.declared.host.Host.{Host}
-use Rattle.kt_metadata.specs.declared.need.Need.{Need}
+use Rattle.kt_metadata.specs.declared.host.Need.{Need}
 use Rattle.kt_plan.specs.Planning.{finds}
 use Rattle.kt_plan.specs.Told.{Told}
 

@@ -6,11 +6,10 @@ ghost use Rattle.kt_suite.specs.Selecting.{most_items};
 ghost use Rattle.kt_plan.specs.declared.stop.Stop.TheVariants as stop;
 ghost use Rattle.kt_plan.specs.Inner.Collecting.{Collected};
 
-use crate::cases::choosing::choose;
-use crate::cases::chosen::Chosen;
+use crate::cases::choosing::{Chosen, choose};
 use crate::cases::offering::offered;
 use crate::cases::programs::programs_of;
-use crate::options::settings::Settings;
+use crate::options::configuring::Settings;
 use crate::stop::Stop;
 use crate::world::World;
 use kt_base::Text;

@@ -1,11 +1,7 @@
 //! The test cases of a suite that a command selects.
 
-pub(crate) mod candidate;
 pub(crate) mod choosing;
-pub(crate) mod chosen;
 pub(crate) mod collecting;
 pub(crate) mod offering;
-pub(crate) mod picked;
 pub(crate) mod programs;
 pub(crate) mod selecting;
-pub(crate) mod wanted;

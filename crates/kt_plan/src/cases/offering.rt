@@ -1,19 +1,32 @@
-ghost use Rattle.std.specs.Prelude.{◌≡◌, ◌++◌, ◌∷◌, [], IfOk, OnOk, MatchResult};
+ghost use Rattle.std.specs.Prelude.{◌≡◌, ◌++◌, ◌∷◌, [], IfOk, OnOk, MatchResult, ◌↔◌, IsTrue};
 ghost use Rattle.kt_sched.specs.Children.{IsIdle};
 ghost use Rattle.kt_suite.specs.Answers.{Answered};
 ghost use Rattle.kt_plan.specs.Inner.Collecting.{ListsFirst};
-ghost use Rattle.kt_plan.specs.Collecting.{candidate_of, candidates_of, ListsCases, Offers, OffersFirst, OffersOne};
+ghost use Rattle.kt_plan.specs.Collecting.{candidate_of, candidates_of, ListsCases, Offers, OffersFirst, OffersOne, IsWanted};
+ghost use Rattle.std.specs.List.{Contains};
+ghost use Rattle.kt_suite.specs.declared.filter.Filter.{Filter};
+ghost use Rattle.kt_suite.specs.Matching.{MayMatch};
 
-use crate::cases::candidate::Candidate;
-use crate::cases::wanted::is_wanted;
-use crate::options::settings::Settings;
+use crate::options::configuring::Settings;
 use crate::options::suite_vars::variables_for;
 use crate::world::World;
 use kt_atflist::{CaseDef, cases};
-use kt_base::{Interface, Items, NoMemory};
+use kt_base::{Interface, Items, NoMemory, Text};
 use kt_config::Config;
-use kt_suite::Program;
+use kt_suite::{Filter, Program};
 use std::alloc::Global;
+
+/// A test case that may be run, with what its program says of it.
+#[derive(Drop)]
+pub struct Candidate {
+    pub interface: Interface,
+    /// The path of the test program, relative to the directory of the root Kyuafile.
+    pub path: Text,
+    /// The test suite of the program.
+    pub suite: Text,
+    /// Its name and its properties, over those of the program.
+    pub case: CaseDef,
+}
 
 /// The cases that an ATF program lists, given the variables of its suite.
 fn listed_cases<W: World>(
@@ -108,4 +121,25 @@ pub fn offered<W: World>(
         add_candidates(program, cases, &mut found)?;
     }
     Ok(found)
+}
+
+/// Whether one of some filters selects some case that a program could have.
+fn may_match_any(filters: &[Filter], path: &Text) -> bool
+    ensures { IsTrue result
+        ↔ ((one : Filter) × Contains filters.now one × MayMatch one path.now) }
+{
+    for filter in filters {
+        if filter.may_match(path) {
+            return true;
+        }
+    }
+    false
+}
+
+/// Whether the cases of a program are wanted: there is no filter, or one of them selects some case
+/// that it could have. It takes no memory.
+fn is_wanted(filters: &[Filter], program: &Program) -> bool
+    ensures { IsTrue result ↔ IsWanted filters.now program.now }
+{
+    filters.is_empty() || may_match_any(filters, &program.path)
 }

@@ -5,13 +5,20 @@ ghost use Rattle.kt_suite.specs.Answers.{Answered};
 ghost use Rattle.kt_plan.specs.Selecting.{SelectsOrShort};
 ghost use Rattle.kt_plan.specs.Questions.{leads_by};
 
+use crate::cases::choosing::Chosen;
 use crate::cases::collecting::collect;
-use crate::cases::picked::Picked;
 use crate::options::case_options::CaseOptions;
-use crate::options::configuring::settle;
+use crate::options::configuring::{Settings, settle};
 use crate::stop::Stop;
 use crate::world::World;
 use std::alloc::Global;
+
+/// What a command over test cases is configured with, and the cases that it selects.
+#[derive(Drop)]
+pub struct Picked {
+    pub settings: Settings,
+    pub chosen: Chosen,
+}
 
 /// What the options of a command select, or the first fault that stops it. `needed` says that the command needs exactly
 /// one filter, of one case.

@@ -1,19 +1,50 @@
 ghost use Rattle.std.specs.Prelude.{◌≡◌, Some, IfOk};
 ghost use Rattle.kt_sched.specs.Children.{IsIdle};
 ghost use Rattle.kt_suite.specs.Answers.{Answered};
-ghost use Rattle.kt_plan.specs.Inner.Configuring.{unread_stop, Configured, GivesMore, OrShort, SettlesOrShort};
-ghost use Rattle.kt_plan.specs.Configuring.{words_meaning, Configures, IsConfiguration, ReadsConfig};
+ghost use Rattle.kt_plan.specs.Inner.Configuring.{unread_stop, Configured, GivesMore, OrShort, SettlesOrShort, GivesOne};
+ghost use Rattle.kt_plan.specs.Configuring.{words_meaning, Configures, IsConfiguration, ReadsConfig, or_stop_at, word_meaning};
+ghost use Rattle.kt_config.specs.Names.{definition_named};
 
 use crate::options::case_filters::read_filters;
 use crate::options::case_options::CaseOptions;
-use crate::options::settings::Settings;
-use crate::options::variable_word::set_word;
 use crate::stop::Stop;
 use crate::world::World;
-use kt_base::{NoMemory, Text};
+use kt_base::{Items, NoMemory, Text};
 use kt_config::{Config, ConfigFault};
-use kt_suite::ReadFault;
+use kt_suite::{Filter, ReadFault};
 use std::alloc::Global;
+
+/// Sets a variable, or stops at its name.
+fn set(config: Config, name: Text, value: &Text) -> Result<Result<Config, Stop>, NoMemory>
+    ensures { IfOk result (λ outcome.
+        GivesOne config outcome (or_stop_at name (definition_named name value.now))) }
+{
+    let mut config = config;
+    match config.set(&name, value) {
+        Ok(()) => Ok(Ok(config)),
+        Err(ConfigFault::NoMemory(refusal)) => Err(refusal),
+        Err(fault) => Ok(Err(Stop::Variable(name, fault))),
+    }
+}
+
+/// Sets what a word `NAME=VALUE` defines, or stops at its name.
+fn set_word(alloc: Global, config: Config, word: &Text) -> Result<Result<Config, Stop>, NoMemory>
+    ensures { IfOk result (λ outcome. GivesOne config outcome (word_meaning word.now)) }
+{
+    let (name, value) = word.split_at_first('=')?;
+    match value {
+        None => Ok(Err(Stop::Variable(name, ConfigFault::BadValue))),
+        Some(value) => set(config, name, &value),
+    }
+}
+
+/// What a command over test cases is configured with, and the cases that it is to select.
+#[derive(Drop)]
+pub struct Settings {
+    pub config: Config,
+    /// A filter for each word that was given, in order. No two share a case.
+    pub filters: Items<Filter>,
+}
 
 /// The configuration that the bytes of a file spell.
 fn config_of(alloc: Global, bytes: &[u8]) -> Result<Result<Config, Stop>, NoMemory>

@@ -3,6 +3,4 @@
 pub(crate) mod case_filters;
 pub(crate) mod case_options;
 pub(crate) mod configuring;
-pub(crate) mod settings;
 pub(crate) mod suite_vars;
-pub(crate) mod variable_word;

@@ -1,31 +1,16 @@
-ghost use Rattle.std.specs.Prelude.{◌≡◌, ◌∷◌, [], OnOk, MatchResult, true};
+ghost use Rattle.std.specs.Prelude.{◌∷◌, [], MatchResult};
 ghost use Rattle.kt_suite.specs.Answers.{Answered};
 ghost use Rattle.kt_plan.specs.Inner.Planning.{Notes};
-ghost use Rattle.kt_plan.specs.Planning.{LooksFor, meta_in, needs_by, needs_in, needs_of};
+ghost use Rattle.kt_plan.specs.Planning.{LooksFor, meta_in, needs_among, needs_by, needs_in, needs_of, Surveys, SurveysFirst};
 ghost use Rattle.kt_plan.specs.Questions.{AreFirst};
 ghost use Rattle.kt_plan.specs.Told.{Finds};
+ghost use Rattle.kt_sched.specs.Children.{IsIdle};
 
-use crate::cases::candidate::Candidate;
+use crate::cases::offering::Candidate;
 use crate::world::World;
 use kt_base::{NoMemory, Text};
-use kt_metadata::{Host, Need};
-
-/// Notes that a required file or program is there.
-fn note(need: Need, word: &Text, host: &mut Host) -> Result<(), NoMemory>
-    ensures { OnOk result (Notes (Finds need word.now true ∷ []) host.old host.new) }
-{
-    let name = word.copy()?.into_string();
-    match need {
-        Need::File => {
-            host.files.insert(name)?;
-            Ok(())
-        }
-        Need::Program => {
-            host.programs.insert(name)?;
-            Ok(())
-        }
-    }
-}
+use kt_metadata::{Host, Meta, Need};
+use std::alloc::Global;
 
 /// Asks whether a required file or program is found.
 fn is_found<W: World>(need: Need, word: &Text, world: &mut W) -> bool
@@ -51,7 +36,7 @@ fn look_for_word<W: World>(
     if !is_found(need, word, world) {
         return Ok(());
     }
-    note(need, word, host)?;
+    host.note(need, word)?;
     Ok(())
 }
 
@@ -72,6 +57,23 @@ fn look_for_words<W: World>(
     Ok(())
 }
 
+/// Asks for all of these kinds that a case requires, and notes what is there.
+fn look_for_needs<W: World>(
+    needs: &[Need],
+    meta: &Meta,
+    world: &mut W,
+    host: &mut Host,
+) -> Result<(), NoMemory>
+    ensures { Answered W.tells world.old world.new (λ told. MatchResult result
+        (λ _. LooksFor (needs_among needs.now meta.now) told × Notes told host.old host.new)
+        (λ _. AreFirst (LooksFor (needs_among needs.now meta.now)) told)) }
+{
+    for need in needs {
+        look_for_words(*need, meta.needed(*need), world, host)?;
+    }
+    Ok(())
+}
+
 /// Asks for what a case requires, unless its list has a fault.
 fn look_for_case<W: World>(
     candidate: &Candidate,
@@ -88,13 +90,12 @@ fn look_for_case<W: World>(
         return Ok(());
     }
     let meta = candidate.case.props.effective()?;
-    look_for_words(Need::File, meta.needed(Need::File), world, host)?;
-    look_for_words(Need::Program, meta.needed(Need::Program), world, host)?;
+    look_for_needs(Need::all(), &meta, world, host)?;
     Ok(())
 }
 
 /// Asks for what each of some cases requires, in their order, and notes what is there.
-pub fn look_for_all<W: World>(
+fn look_for_all<W: World>(
     cases: &[Candidate],
     world: &mut W,
     host: &mut Host,
@@ -107,4 +108,20 @@ pub fn look_for_all<W: World>(
         look_for_case(candidate, world, host)?;
     }
     Ok(())
+}
+
+/// Asks the host for what some cases may require: whether the runner is root, memory and disk
+/// space, and the required files and programs of each case whose list has no fault.
+pub fn survey<W: World>(alloc: Global, cases: &[Candidate], world: &mut W) -> Result<Host, NoMemory>
+    requires { IsIdle (W.running world.old) (W.pending world.old) }
+    ensures surveyed { Answered W.tells world.old world.new (λ told. MatchResult result
+        (Surveys cases.now told) (λ _. SurveysFirst cases.now told)) }
+    ensures idle { IsIdle (W.running world.new) (W.pending world.new) }
+{
+    let root = world.is_root();
+    let memory = world.memory();
+    let disk = world.disk();
+    let mut host = Host::new(alloc, root, memory, disk);
+    look_for_all(cases, world, &mut host)?;
+    Ok(host)
 }

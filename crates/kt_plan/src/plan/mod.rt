@@ -3,4 +3,3 @@
 pub(crate) mod looking;
 pub(crate) mod planning;
 pub(crate) mod preparing;
-pub(crate) mod surveying;

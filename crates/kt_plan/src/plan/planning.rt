@@ -4,7 +4,7 @@ ghost use Rattle.kt_sched.specs.Plan.{IsFit, IsPlan};
 ghost use Rattle.kt_suite.specs.Selecting.{most_items};
 ghost use Rattle.kt_plan.specs.Planning.{is_atf, ArePlanned, IsDecided, IsJobOf};
 
-use crate::cases::candidate::Candidate;
+use crate::cases::offering::Candidate;
 use crate::options::suite_vars::variables_for;
 use kt_base::{Interface, Items, NoMemory, Reason, Verdict};
 use kt_config::Config;

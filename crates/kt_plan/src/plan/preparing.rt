@@ -6,9 +6,9 @@ ghost use Rattle.kt_suite.specs.Answers.{Answered};
 ghost use Rattle.kt_suite.specs.Selecting.{most_items};
 ghost use Rattle.kt_plan.specs.Planning.{Surveys, SurveysFirst, ArePlanned};
 
-use crate::cases::candidate::Candidate;
+use crate::cases::offering::Candidate;
+use crate::plan::looking::survey;
 use crate::plan::planning::make_plan;
-use crate::plan::surveying::survey;
 use crate::world::World;
 use kt_base::{Items, NoMemory};
 use kt_config::Config;

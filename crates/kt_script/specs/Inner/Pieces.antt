@@ -3,7 +3,7 @@ use Rattle.std.specs.Prelude.{ℕ, List, length, Some, None}
 use Rattle.kt_script.specs.declared.token.Flaw.{Flaw}
 use Rattle.kt_script.specs.declared.token.Kind.{Kind}
 use Rattle.kt_script.specs.declared.token.Kind.TheVariants.{Broken}
-use Rattle.kt_script.specs.declared.piece.Piece.{Piece}
+use Rattle.kt_script.specs.declared.token.Piece.{Piece}
 
 -- n bytes that are not a token
 abbrev pub blank : ℕ → Piece

@@ -3,7 +3,7 @@ use Rattle.std.specs.Prelude.{ℕ, ◌+◌, ◌==◌, Bool, true, false, List, [
 use Rattle.kt_script.specs.declared.token.Flaw.{Flaw}
 use Rattle.kt_script.specs.declared.token.Flaw.TheVariants.{Bad, Endless}
 use Rattle.kt_script.specs.declared.token.Kind.TheVariants.{Quoted}
-use Rattle.kt_script.specs.declared.piece.Piece.{Piece}
+use Rattle.kt_script.specs.declared.token.Piece.{Piece}
 use Rattle.kt_script.specs.declared.quotation.Stop.{Stop}
 use Rattle.kt_script.specs.declared.quotation.Stop.TheVariants as stop
 use Rattle.kt_script.specs.Letters.{escape_of}

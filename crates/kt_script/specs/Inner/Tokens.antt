@@ -4,7 +4,7 @@ use Rattle.std.specs.List.{prefix_len}
 use Rattle.kt_script.specs.declared.token.Flaw.TheVariants.{Bad}
 use Rattle.kt_script.specs.declared.token.Kind.{Kind}
 use Rattle.kt_script.specs.declared.token.Token.{Token}
-use Rattle.kt_script.specs.declared.piece.Piece.{Piece}
+use Rattle.kt_script.specs.declared.token.Piece.{Piece}
 use Rattle.kt_base.specs.Characters.{is_space}
 use Rattle.kt_script.specs.Letters.{is_letter}
 use Rattle.kt_script.specs.TokenRules.{mark_of, line_after}

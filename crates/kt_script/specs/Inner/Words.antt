@@ -3,7 +3,7 @@ use Rattle.std.specs.Prelude.{ℕ, Bool, true, false, List, [], ◌∷◌, take,
 use Rattle.std.specs.List.{prefix_len}
 use Rattle.kt_script.specs.declared.token.Flaw.TheVariants.{Bad}
 use Rattle.kt_script.specs.declared.token.Kind.TheVariants.{Number}
-use Rattle.kt_script.specs.declared.piece.Piece.{Piece}
+use Rattle.kt_script.specs.declared.token.Piece.{Piece}
 use Rattle.kt_script.specs.Letters.{is_letter, is_word}
 use Rattle.kt_base.specs.Digits.{is_digit, decimal_from, fits}
 use Rattle.kt_script.specs.TokenRules.{word}

@@ -8,8 +8,8 @@ use Rattle.kt_script.specs.declared.fault.ScriptFault.{ScriptFault}
 use Rattle.kt_script.specs.declared.fault.ScriptFault.TheVariants as script
 use Rattle.kt_suite.specs.declared.cause.SuiteCause.{SuiteCause}
 use Rattle.kt_suite.specs.declared.filter.Filter.{Filter}
-use Rattle.kt_suite.specs.declared.item.Item.{Item}
-use Rattle.kt_suite.specs.declared.program_table.ProgramTable.{ProgramTable}
+use Rattle.kt_suite.specs.declared.selecting.Item.{Item}
+use Rattle.kt_suite.specs.declared.table.ProgramTable.{ProgramTable}
 use Rattle.kt_suite.specs.Filters.{counts}
 use Rattle.kt_suite.specs.Selecting.{places, matches_item}
 use Rattle.kt_suite.specs.Tables.{value_cause, pair_fault, table_of, unless}

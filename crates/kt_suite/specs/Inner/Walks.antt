@@ -2,13 +2,13 @@
 use Rattle.std.specs.Prelude.{ℕ, Bool, true, List, [], ◌∷◌, ◌++◌, ◌≡◌, ◌<◌, ◌≤◌, ◌+◌, length, Option, Some, None, Result, Ok, Err}
 use Rattle.kt_script.specs.declared.syntax.Stmt.{Stmt}
 use Rattle.kt_script.specs.Spelling.{Spells}
-use Rattle.kt_suite.specs.declared.read_fault.ReadFault.{ReadFault}
+use Rattle.kt_suite.specs.declared.tree.ReadFault.{ReadFault}
 use Rattle.kt_suite.specs.declared.fault.SuiteFault.{SuiteFault}
 use Rattle.kt_suite.specs.declared.registry.Registry.{Registry}
 use Rattle.kt_suite.specs.declared.program.Program.{Program}
-use Rattle.kt_suite.specs.declared.step.Step.{Step}
-use Rattle.kt_suite.specs.declared.step.Step.TheVariants.{Next, Enter}
-use Rattle.kt_suite.specs.declared.meaning.Meaning.{Meaning}
+use Rattle.kt_suite.specs.declared.registry.Step.{Step}
+use Rattle.kt_suite.specs.declared.registry.Step.TheVariants.{Next, Enter}
+use Rattle.kt_suite.specs.declared.statement.Meaning.{Meaning}
 use Rattle.kt_base.specs.Chains.{Chain}
 use Rattle.kt_suite.specs.Answers.{Asked, Read, Exists}
 use Rattle.kt_suite.specs.declared.cause.SuiteCause.{SuiteCause}

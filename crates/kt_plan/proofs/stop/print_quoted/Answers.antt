@@ -4,7 +4,7 @@ use Rattle.std.proofs.Common.{sym, ◌∙◌}
 use Rattle.std.specs.Str.{chars}
 use Rattle.std.proofs.lemmas.Str.{encodes-chars}
 use Rattle.kt_base.proofs.Showing.{shows_as}
-use Rattle.kt_plan.proofs.StopWords.{utf8_five}
+use Rattle.kt_suite.proofs.FaultWords.{utf8_five}
 use Rattle.kt_plan.proofs.stop.print_quoted.Goals as goal
 
 pub returns : goal.returns

@@ -3,7 +3,7 @@ use Rattle.std.proofs.Common.{rules, ◌≡◌, ◌+◌, ◌∷◌, length, drop
 use Rattle.std.proofs.lemmas.List.{drop_more}
 use Rattle.kt_script.specs.declared.syntax.Pair.{Pair}
 use Rattle.kt_suite.specs.declared.cause.SuiteCause.{SuiteCause}
-use Rattle.kt_suite.specs.declared.program_table.ProgramTable.{ProgramTable}
+use Rattle.kt_suite.specs.declared.table.ProgramTable.{ProgramTable}
 use Rattle.kt_suite.specs.Inner.Steps.{table_with}
 use Rattle.kt_suite.specs.Tables.{definition}
 use Rattle.kt_suite.proofs.TableLoops.{table_next, table_stops, table_all}

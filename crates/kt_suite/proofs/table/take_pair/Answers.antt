@@ -4,7 +4,7 @@ use Rattle.std.proofs.Common.{rules, ◌≡◌, List}
 use Rattle.kt_base.specs.declared.variable.Variable.{Variable}
 use Rattle.kt_script.specs.LiteralText.{text_of}
 use Rattle.kt_suite.specs.declared.cause.SuiteCause.{SuiteCause}
-use Rattle.kt_suite.specs.declared.key.Key.TheVariants as key
+use Rattle.kt_suite.specs.declared.call.Key.TheVariants as key
 use Rattle.kt_suite.specs.Calls.{key_named}
 use Rattle.kt_suite.specs.Inner.Steps.{props_with}
 use Rattle.kt_suite.specs.Tables.{is_property}

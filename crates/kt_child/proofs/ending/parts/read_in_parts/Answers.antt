@@ -1,6 +1,6 @@
 use Rattle.std.proofs.Common.{[], refl}
-use Rattle.kt_child.specs.declared.ending.next_part.NextPart.TheVariants.{All, Absent, Failed, Past}
-use Rattle.kt_child.specs.declared.ending.read_end.ReadEnd.TheVariants as read_end
+use Rattle.kt_child.specs.declared.ending.parts.NextPart.TheVariants.{All, Absent, Failed, Past}
+use Rattle.kt_child.specs.declared.ending.parts.ReadEnd.TheVariants as read_end
 use Rattle.kt_child.specs.Ending.Parts.{Missing, Unreadable, TooLong, Bytes}
 use Rattle.kt_child.proofs.PartSteps.{reading_none, taking_more, taking_over}
 use Rattle.kt_child.proofs.ending.parts.read_in_parts.Goals as goal

@@ -1,6 +1,6 @@
 use Rattle.std.proofs.Common.{rules, ◌≡◌, ◌∷◌, List, ap, refl, take}
 use Rattle.std.specs.Prelude.{Ok, Err}
-use Rattle.kt_plan.specs.declared.cases.candidate.Candidate.{Candidate}
+use Rattle.kt_plan.specs.declared.cases.offering.Candidate.{Candidate}
 use Rattle.kt_cli.specs.Scenes.{world_of}
 use Rattle.kt_cli.proofs.Saying.{nothing}
 use Rattle.kt_cli.proofs.Testings.{stopped_only, idle_answer, short_only, printed_memory, debug_parts, debug_short, debugged_as}

@@ -2,7 +2,7 @@ use Rattle.std.proofs.Common.{◌∙◌, ap, chars, List}
 use Rattle.std.specs.Option.{option_map}
 use Rattle.kt_base.specs.declared.variable.Variable.{Variable}
 use Rattle.kt_base.specs.LastValues.{value_of}
-use Rattle.kt_metadata.specs.declared.given.Given.{Given}
+use Rattle.kt_metadata.specs.declared.value.Given.{Given}
 use Rattle.kt_metadata.specs.Effective.{texts_of, given}
 use Rattle.kt_metadata.proofs.Layers.{text-found, value-found}
 use Rattle.kt_metadata.proofs.layer.Layer.get.Goals as goal

@@ -3,7 +3,7 @@ use Rattle.std.specs.String.{string_bytes}
 use Rattle.kt_base.specs.declared.variable.Variable.{Variable}
 use Rattle.kt_base.specs.LastValues.{last_values}
 use Rattle.kt_config.proofs.Puttings.{twice}
-use Rattle.kt_metadata.specs.declared.given.Given.{Given}
+use Rattle.kt_metadata.specs.declared.value.Given.{Given}
 use Rattle.kt_metadata.specs.Inner.Layers.{pairs_in, AreRead, IsRead}
 use Rattle.kt_metadata.specs.Overlays.{a_pair}
 use Rattle.kt_metadata.proofs.Layers.{next-entry}

@@ -1,4 +1,4 @@
-use Rattle.std.proofs.Common.{rules, ◌≡◌, ◌∷◌, ◌+◌, arith, drop, length}
+use Rattle.std.proofs.Common.{◌≡◌, ◌∷◌, ◌+◌, arith, drop, length}
 use Rattle.std.proofs.lemmas.Grind.{common_steps}
 use Rattle.std.proofs.lemmas.Result.{err_from_is_err_and}
 use Rattle.kt_plan.proofs.Chains.{asked_short}

@@ -19,4 +19,4 @@ returns-in_err-note g c =
 pub returns : goal.returns
 returns g c =
     let there : c.is_found.result ≡ true = search rules in
-    word_there g.W.World.tells c.args.need c.args.word.now c.args.world.now c.is_found.new.world c.args.host.now c.note.new.host c.is_found.result there c.is_found.ensures c.in_ok-note.ensures
+    word_there g.W.World.tells c.args.need c.args.word.now c.args.world.now c.is_found.new.world c.args.host.now c.note.new.self c.is_found.result there c.is_found.ensures c.in_ok-note.ensures

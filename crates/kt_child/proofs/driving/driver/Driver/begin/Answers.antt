@@ -3,7 +3,7 @@ use Rattle.kt_base.specs.Chains.{Chain}
 use Rattle.kt_sched.specs.declared.job.Job.{Job}
 use Rattle.kt_child.specs.declared.planning.case.Case.{Case}
 use Rattle.kt_child.specs.declared.planning.spawning.Spawning.{Spawning}
-use Rattle.kt_child.specs.declared.planning.want.Want.{Want}
+use Rattle.kt_child.specs.declared.planning.purpose.Want.{Want}
 use Rattle.kt_child.specs.System.Calls.{Call}
 use Rattle.kt_child.specs.Driving.Begins.{Begun, state_after_start}
 use Rattle.kt_child.specs.Driving.JobPlan.{job_purpose, limit_of, spawning_for, spawning_of, want_of}

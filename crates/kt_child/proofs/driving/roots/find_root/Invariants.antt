@@ -1,8 +1,0 @@
-use Rattle.std.proofs.Common.{List}
-use Rattle.kt_base.specs.Chains.{Chain}
-use Rattle.kt_child.specs.System.Calls.{Call}
-use Rattle.kt_child.specs.Driving.Roots.{FailedRoots}
-use Rattle.kt_child.proofs.driving.roots.find_root.Given as goal
-
-abbrev pub invariant-loop-number : goal.invariant-loop-number
-invariant-loop-number g l = (calls : List Call) × Chain g.O.Os.leads l.initial.os calls l.os × FailedRoots l.base l.number calls

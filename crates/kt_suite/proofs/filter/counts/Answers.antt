@@ -1,0 +1,7 @@
+use Rattle.std.proofs.Common.{rules}
+use Rattle.std.specs.Str.{chars}
+use Rattle.kt_suite.proofs.filter.counts.Goals as goal
+
+pub returns-then-not-is_empty : goal.returns-then-not-is_empty
+unfolding chars
+returns-then-not-is_empty c = search rules
