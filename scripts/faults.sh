@@ -125,7 +125,7 @@ kt_cli/src/messages/fault_exit.rt: DriverFault::NoMemory(_) => write_memory(out)
 kt_cli/src/messages/fault_line.rt: RunFault::NoMemory(_) | RunFault::SinkFailed(SinkFault::Memory) => write_memory(out),
 kt_cli/src/messages/fault_line.rt: StoreFault::NoMemory(_) => write_memory(out),
 kt_cli/src/commands/recorder.rt: StoreFault::NoMemory(_) => SinkFault::Memory,
-kt_cli/src/commands/reporting.rt: Err(ReportFault::NoMemory(_)) => ended(write_memory(out), FAILED),
+kt_cli/src/commands/reporting.rt: Err(JunitStop::Report(ReportFault::NoMemory(_))) => ended(write_memory(out), FAILED),
 kt_cli/src/commands/testing.rt: Err(_) => return ended(write_memory(out), FAILED),
 PLACES
 
@@ -143,7 +143,7 @@ PLACES
 lines 'status: FAILED'
 rule 'ends a command that failed' <<'PLACES'
 kt_cli/src/output/line_output.rt: Err(_fault) => Exit { status: FAILED },
-kt_cli/src/commands/reporting.rt: Err(ReportFault::Output(_)) => Exit { status: FAILED },
+kt_cli/src/commands/reporting.rt: Err(JunitStop::Report(ReportFault::Output(_))) => Exit { status: FAILED },
 PLACES
 
 own_writers > "$room/found"
