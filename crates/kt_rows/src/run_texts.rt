@@ -4,7 +4,7 @@ use crate::entry_texts::{entries_text, shown};
 use crate::lines::{name_of, push_line};
 use crate::row::RowFault;
 use kt_base::Entry;
-use kt_store::{ResultStore, RunHead};
+use kt_store::{CaseOutputs, ResultStore, RunHead, StoreFault};
 use std::alloc::Global;
 
 /// The last line of a run that isn't finished.
@@ -46,13 +46,36 @@ pub fn runs_text<R: ResultStore>(
     };
     let mut text = String::new(alloc);
     for head in heads.as_slice() {
-        let line = match results.entries(head.number) {
+        let line = match results.outline(head.number) {
             Ok(entries) => run_text(alloc, head, entries.len(), moments)?,
             Err(fault) => name_of(alloc, &fault)?,
         };
         push_line(&mut text, line.as_str())?;
     }
     Ok(text)
+}
+
+/// The entries of a run with their outputs.
+fn whole_entries<R: ResultStore>(results: &mut R, run: u64) -> Result<Vec<Entry>, StoreFault> {
+    let mut entries = results.outline(run)?;
+    for entry in entries.iter_mut() {
+        let CaseOutputs { body, cleanup } = results.outputs(run, entry.position)?;
+        entry.body = body;
+        entry.cleanup = cleanup;
+    }
+    Ok(entries)
+}
+
+/// The entries of a run, with their outputs if a word shows these.
+fn entries_for<R: ResultStore>(
+    results: &mut R,
+    word: &str,
+    run: u64,
+) -> Result<Vec<Entry>, StoreFault> {
+    if word == "outputs" {
+        return whole_entries(results, run);
+    }
+    results.outline(run)
 }
 
 /// What a word shows of the entries of a run, or how many they are.
@@ -62,7 +85,7 @@ pub fn run_entries_text<R: ResultStore>(
     word: &str,
     run: u64,
 ) -> Result<String, RowFault> {
-    let entries = match results.entries(run) {
+    let entries = match entries_for(results, word, run) {
         Ok(entries) => entries,
         Err(fault) => return name_of(alloc, &fault),
     };
@@ -91,7 +114,7 @@ fn push_run<R: ResultStore>(
 ) -> Result<(), RowFault> {
     let (number, started, total) = (head.number, head.started, head.total);
     told.push(format!(in alloc; "run {number} at {started}, {total} cases")?)?;
-    let Ok(entries) = results.entries(number) else {
+    let Ok(entries) = whole_entries(results, number) else {
         return Err(RowFault::Misspelled("its entries can not be told"));
     };
     for entry in entries.as_slice() {
