@@ -1,6 +1,6 @@
 use kt_base::{Entry, NoMemory};
 use kt_cli::MemRuns;
-use kt_store::{FailedStatement, Keeping, ResultStore, Results, RunHead, StoreFault};
+use kt_store::{CaseOutputs, FailedStatement, Keeping, ResultStore, Results, RunHead, StoreFault};
 use sqlite::Connection;
 use std::alloc::Global;
 
@@ -119,10 +119,17 @@ impl ResultStore for RefusingStore {
         self.runs.runs()
     }
 
-    fn entries(&mut self, run: u64) -> Result<Vec<Entry>, StoreFault> {
+    fn outline(&mut self, run: u64) -> Result<Vec<Entry>, StoreFault> {
         if self.refuses() {
             return Err(self.fault());
         }
-        self.runs.entries(run)
+        self.runs.outline(run)
+    }
+
+    fn outputs(&mut self, run: u64, position: u32) -> Result<CaseOutputs, StoreFault> {
+        if self.refuses() {
+            return Err(self.fault());
+        }
+        self.runs.outputs(run, position)
     }
 }

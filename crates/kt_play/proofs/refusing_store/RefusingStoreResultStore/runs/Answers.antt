@@ -5,8 +5,8 @@ use Rattle.kt_play.specs.declared.refusing_store.RefusingStore.{RefusingStore}
 use Rattle.kt_play.proofs.OverMemory.{serves_over, refuses_over}
 use Rattle.kt_play.proofs.refusing_store.RefusingStoreResultStore.runs.Goals as goal
 
-pub returns-then-refuses : goal.returns-then-refuses
-returns-then-refuses c = refuses_over (λ (s : RefusingStore). s.runs) (Heads (Err c.fault.result)) c.args.self.now _ c.refuses.ensures (c.fault.ensures, λ _. refl)
+pub returns-then-refuses-clause-served : goal.returns-then-refuses-clause-served
+returns-then-refuses-clause-served c = refuses_over (λ (s : RefusingStore). s.runs) (Heads (Err c.fault.result)) c.args.self.now _ c.refuses.ensures (c.fault.ensures, λ _. refl)
 
-pub returns : goal.returns
-returns c = serves_over (λ (s : RefusingStore). s.runs) (Heads (seen_as (λ heads. heads.items) c.runs.result)) c.args.self.now _ c.refuses.new.self.runs c.refuses.ensures c.runs.ensures
+pub returns-clause-served : goal.returns-clause-served
+returns-clause-served c = serves_over (λ (s : RefusingStore). s.runs) (Heads (seen_as (λ heads. heads.items) c.runs.result)) c.args.self.now _ c.refuses.new.self.runs c.refuses.ensures c.runs.ensures.served
