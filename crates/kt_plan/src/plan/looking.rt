@@ -1,4 +1,5 @@
 ghost use Rattle.std.specs.Prelude.{◌∷◌, [], MatchResult};
+ghost use Rattle.kt_metadata.specs.Requirements.{needed};
 ghost use Rattle.kt_suite.specs.Answers.{Answered};
 ghost use Rattle.kt_plan.specs.Inner.Planning.{Notes};
 ghost use Rattle.kt_plan.specs.Planning.{LooksFor, meta_in, needs_among, needs_by, needs_in, needs_of, Surveys, SurveysFirst};
@@ -57,6 +58,22 @@ fn look_for_words<W: World>(
     Ok(())
 }
 
+/// Asks for all of a kind that a case requires, and notes what is there.
+fn look_for_need<W: World>(
+    need: &Need,
+    meta: &Meta,
+    world: &mut W,
+    host: &mut Host,
+) -> Result<(), NoMemory>
+    ensures { Answered W.tells world.old world.new (λ told. MatchResult result
+        (λ _. LooksFor (needs_in need.now (needed need.now meta.now)) told
+        × Notes told host.old host.new)
+        (λ _. AreFirst (LooksFor (needs_in need.now (needed need.now meta.now))) told)) }
+{
+    look_for_words(*need, meta.needed(*need), world, host)?;
+    Ok(())
+}
+
 /// Asks for all of these kinds that a case requires, and notes what is there.
 fn look_for_needs<W: World>(
     needs: &[Need],
@@ -69,7 +86,7 @@ fn look_for_needs<W: World>(
         (λ _. AreFirst (LooksFor (needs_among needs.now meta.now)) told)) }
 {
     for need in needs {
-        look_for_words(*need, meta.needed(*need), world, host)?;
+        look_for_need(need, meta, world, host)?;
     }
     Ok(())
 }
