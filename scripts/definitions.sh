@@ -1,8 +1,8 @@
 #!/usr/bin/env bash
 # Looks for definitions of specs/ that only private functions need. What a caller or a reader is promised stands in specs/; what
 # describes a private function's own steps stands in specs/Inner of its crate.
-# A definition is needed if a clause or a ghost member of an exported function, type or trait names it, or a definition that is
-# needed does. Prints each other definition outside Inner that a clause names all the same. The last line is 'N passed, M failed',
+# A definition is needed if a clause or a ghost member of an exported function, type or trait, or of the program's platform, names
+# it, or a definition that is needed does. Prints each other definition outside Inner that a clause names all the same. The last line is 'N passed, M failed',
 # over the crates.
 set -eu -o pipefail
 top=$(cd "$(dirname "$0")/.." && pwd)
@@ -124,7 +124,7 @@ found=$(echo "$files" | LC_ALL=C xargs awk '
     in_clause = 0
   }
   # Ghost members of a type or of a trait.
-  /^[ \t]*ghost [a-z_]+( =|:)/ { is_public = (crate, owner) in exported; in_clause = 1 }
+  /^[ \t]*ghost [a-z_]+( =|:)/ { is_public = (crate, owner) in exported || crate == "kyua"; in_clause = 1 }
   /^[ \t]*(requires|ensures) / { in_clause = 1 }
   /^[ \t]*{$/ { in_clause = 0 }
   in_clause { note(is_public ? "public" : "private", $0); if (/;$/) in_clause = 0 }
