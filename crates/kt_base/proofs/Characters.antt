@@ -1,10 +1,6 @@
 -- A text with more at its end.
-use Rattle.std.proofs.Common.{◌≡◌, ℕ, List, [], ◌∷◌, ◌++◌, ap, ◌∙◌, sym}
-use Rattle.std.specs.Str.{chars, IsUtf8}
-use Rattle.std.specs.Char.{IsScalar}
-use Rattle.std.specs.Prelude.{encode_utf8}
-use Rattle.std.proofs.lemmas.Str.{chars-append, chars_past_char, chars-nil, IsUtf8-encode}
-use Rattle.std.proofs.lemmas.List.{append-nil}
+use Rattle.std.proofs.Common.{◌≡◌, ℕ, List, [], ◌∷◌, ◌++◌, ap, ◌∙◌, sym, encode_utf8}
+use Rattle.kt_base.proofs.Common.{chars, IsUtf8, IsScalar, chars-append, chars_past_char, chars-nil, IsUtf8-encode, append-nil}
 
 chars-push : (bs : List ℕ) (c : ℕ) → IsUtf8 bs → IsScalar c → chars (bs ++ encode_utf8 c) ≡ chars bs ++ c ∷ []
 chars-push bs c u s =

@@ -1,6 +1,6 @@
 -- The digits of a number, as they are written.
 use Rattle.std.proofs.Common.{◌≡◌, ℕ, false, List, length, drop, ap, arith}
-use Rattle.std.specs.Fmt.{decimal, digits, digits_onto}
+use Rattle.kt_base.proofs.Common.{decimal, digits, digits_onto}
 use Rattle.std.proofs.Math.ListN.{drop_of_length-le}
 
 pub whole_number : (n : ℕ) (room : List ℕ) → length room ≡ 64 → digits_onto 64 10 false n (drop 64 room) ≡ decimal n

@@ -1,14 +1,8 @@
 -- Bytes read as a text: the characters that they begin with, and a byte where none begins.
-use Rattle.std.proofs.Common.{◌≡◌, ℕ, zero, suc, ◌+◌, ◌-◌, ◌<◌, ◌≤◌, Bool, true, false, List, [], ◌∷◌, ◌++◌, length, take, drop, get_or, Some, None, Option, refl, ap, ◌∙◌, sym, subst, append_assoc, length-append, take-append-drop, drop-cons, add-one, arith}
-use Rattle.std.specs.Prelude.{nat_le, ◌==◌, encode_utf8, encode_utf8_all}
-use Rattle.std.specs.Char.{IsScalar}
-use Rattle.std.specs.Str.{IsUtf8, IsValidUpTo, is_utf8, chars}
+use Rattle.std.proofs.Common.{◌≡◌, ℕ, zero, suc, ◌+◌, ◌-◌, ◌<◌, ◌≤◌, Bool, true, false, List, [], ◌∷◌, ◌++◌, length, take, drop, get_or, Some, None, Option, refl, ap, ◌∙◌, sym, subst, append_assoc, length-append, take-append-drop, drop-cons, add-one, arith, nat_le, ◌==◌, encode_utf8, encode_utf8_all}
+use Rattle.kt_base.proofs.Common.{IsScalar, IsUtf8, IsValidUpTo, is_utf8, chars, append-nil, length-take-le, le-leb, leb-true, eqb-true, false_from_ne_true, and_parts, IsUtf8-from_is_utf8, is_utf8-from_IsUtf8, IsUtf8-encode, IsUtf8-append, chars-encodes, chars_from_encodes, encode_same, len_utf8_bounds, length-encode, front, first, character, further, lossy_after, lossy}
 use Rattle.std.proofs.Math.Utf8.{scalars}
 use Rattle.std.proofs.Math.Seq.{drop-append_seam, take-append_seam, take-add}
-use Rattle.std.proofs.lemmas.List.{append-nil, length-take-le}
-use Rattle.std.proofs.lemmas.Bool.{le-leb, leb-true, eqb-true, false_from_ne_true, and_parts}
-use Rattle.std.proofs.lemmas.Str.{IsUtf8-from_is_utf8, is_utf8-from_IsUtf8, IsUtf8-encode, IsUtf8-append, chars-encodes, chars_from_encodes, encode_same, len_utf8_bounds, length-encode}
-use Rattle.kt_base.specs.Lossy.{front, first, character, further, lossy_after, lossy}
 
 -- a front that isn't UTF-8, or isn't there
 front_none : (n : ℕ) (bytes : List ℕ) → (n ≤ length bytes → IsUtf8 (take n bytes) → ⊥) → front bytes n ≡ None

@@ -1,7 +1,6 @@
 -- Parts that are written one after the other.
 use Rattle.std.proofs.Common.{◌≡◌, ◌≤◌, ◌<◌, ◌+◌, ℕ, List, [], ◌∷◌, ◌++◌, Bor, length, drop, get_or, map, sym, ap, ◌∙◌, append_assoc, drop-cons, add-one, drop_of_length-le}
-use Rattle.std.proofs.lemmas.List.{append-nil}
-use Rattle.kt_base.specs.Shows.{joined, joined_behind}
+use Rattle.kt_base.proofs.Common.{append-nil, joined, joined_behind}
 
 -- parts as they are lent
 abbrev pub lent : List (Bor (List ℕ)) → List (List ℕ)

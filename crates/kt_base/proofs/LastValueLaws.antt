@@ -1,11 +1,7 @@
 -- The laws of names with their last values.
-use Rattle.std.proofs.Common.{◌≡◌, ℕ, Bool, true, false, not, List, [], ◌∷◌, ◌++◌, refl, sym, ap, ◌∙◌, subst, Option, Some, None, append-nil}
-use Rattle.std.specs.Prelude.{if◌then◌else◌, unwrap_or, IsSome}
-use Rattle.std.specs.Option.{option_or}
-use Rattle.std.specs.Str.{bytes_eq}
+use Rattle.std.proofs.Common.{◌≡◌, ℕ, Bool, true, false, not, List, [], ◌∷◌, ◌++◌, refl, sym, ap, ◌∙◌, subst, Option, Some, None, if◌then◌else◌, unwrap_or, IsSome, append-nil}
+use Rattle.kt_base.proofs.Common.{option_or, bytes_eq, Variable, is_named, value_of, without, last_values, IsReplaced}
 use Rattle.std.proofs.lemmas.List.Elements.{filter-append}
-use Rattle.kt_base.specs.declared.variable.Variable.{Variable}
-use Rattle.kt_base.specs.LastValues.{is_named, value_of, without, last_values, IsReplaced}
 use Rattle.kt_base.proofs.Names.{same, same-flip, or-none, or-some, unwrap-or, value_of-append, without-same, without-other, without-twice, last_values-without}
 
 -- what a pair that stands first is in the last values

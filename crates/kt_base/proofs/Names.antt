@@ -1,11 +1,6 @@
 -- Pairs by their names.
-use Rattle.std.proofs.Common.{◌≡◌, ℕ, Bool, true, false, List, [], ◌∷◌, ◌++◌, refl, sym, ap, ◌∙◌, subst, Option, Some, None}
-use Rattle.std.specs.Prelude.{if◌then◌else◌, unwrap_or}
-use Rattle.std.specs.Option.{option_or}
-use Rattle.std.specs.Str.{bytes_eq}
-use Rattle.std.proofs.lemmas.Slice.Eq.{bytes_eq-Decides}
-use Rattle.kt_base.specs.declared.variable.Variable.{Variable}
-use Rattle.kt_base.specs.LastValues.{is_named, value_of, without, last_values}
+use Rattle.std.proofs.Common.{◌≡◌, ℕ, Bool, true, false, List, [], ◌∷◌, ◌++◌, refl, sym, ap, ◌∙◌, subst, Option, Some, None, if◌then◌else◌, unwrap_or}
+use Rattle.kt_base.proofs.Common.{option_or, bytes_eq, bytes_eq-Decides, Variable, is_named, value_of, without, last_values}
 
 pub same : (m n : List ℕ) → bytes_eq m n ≡ true → m ≡ n
 same m n e = (bytes_eq-Decides m n).0 e

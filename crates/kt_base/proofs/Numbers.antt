@@ -1,8 +1,6 @@
 -- Decimal digits only grow.
-use Rattle.std.proofs.Common.{◌≡◌, ℕ, ◌+◌, ◌*◌, ◌-◌, ◌<◌, ◌≤◌, false, List, [], ◌∷◌, None, refl, ap, sym, ◌∙◌, arith}
-use Rattle.std.specs.Prelude.{nat_le}
-use Rattle.std.proofs.lemmas.Bool.Decides.{nat_tests}
-use Rattle.kt_base.specs.Digits.{decimal_from, up_to}
+use Rattle.std.proofs.Common.{◌≡◌, ℕ, ◌+◌, ◌*◌, ◌-◌, ◌<◌, ◌≤◌, false, List, [], ◌∷◌, None, refl, ap, sym, ◌∙◌, arith, nat_le}
+use Rattle.kt_base.proofs.Common.{nat_tests, decimal_from, up_to}
 
 decimal_from-grows : (v : ℕ) (cs : List ℕ) → v ≤ decimal_from v cs
 decimal_from-grows v [] = omega arith

@@ -1,16 +1,9 @@
 -- The parts of a reason's text, joined.
-use Rattle.std.proofs.Common.{◌≡◌, ◌≢◌, ℕ, Bool, true, List, [], ◌++◌, refl, sym, ◌∙◌, append_assoc, append-nil}
-use Rattle.std.specs.Prelude.{codes}
-use Rattle.std.specs.Fmt.{decimal}
-use Rattle.std.specs.Str.{chars}
-use Rattle.std.proofs.lemmas.Str.{chars-nil, encodes-append}
-use Rattle.kt_base.specs.declared.outcome.Outcome.{Outcome}
-use Rattle.kt_base.specs.declared.outcome.Outcome.TheVariants.{Exited, Signaled}
-use Rattle.kt_base.specs.declared.phrase.Phrase.{Phrase}
-use Rattle.kt_base.specs.declared.phrase.Phrase.TheVariants.{OtherExitCode, OtherSignal, TestsFailed, MemoryNeeded, DiskNeeded}
-use Rattle.kt_base.specs.Phrases.{phrase_text}
+use Rattle.std.proofs.Common.{◌≡◌, ◌≢◌, ℕ, Bool, true, List, [], ◌++◌, refl, sym, ◌∙◌, append_assoc, codes, append-nil}
+use Rattle.kt_base.proofs.Common.{decimal, chars, chars-nil, encodes-append, Phrase, OtherExitCode, OtherSignal, TestsFailed, MemoryNeeded, DiskNeeded, phrase_text, utf8}
+use Rattle.kt_base.specs.declared.child.Outcome.{Outcome}
+use Rattle.kt_base.specs.declared.child.Outcome.TheVariants.{Exited, Signaled}
 use Rattle.kt_base.specs.Reasons.{core_text, ending_text, counted_text}
-use Rattle.kt_base.specs.Utf8.{utf8}
 use Rattle.kt_base.proofs.PhraseWords.{chars-phrase}
 
 pub words_text : (head : List ℕ) → chars head ++ (chars [] ++ ([] ++ (chars [] ++ ([] ++ chars [])))) ≡ chars head

@@ -1,12 +1,7 @@
 -- What a writer holds goes on.
-use Rattle.std.specs.Prelude.{Option, Some, None, Result, Ok, Err, is_err}
+use Rattle.std.proofs.Common.{Option, Some, None, Result, Ok, Err, is_err, arith, ◌≡◌, ◌<◌, ℕ, Bool, true, false, List, [], ◌∷◌, ◌++◌, length, take, drop, refl, ap, ◌∙◌, sym, subst, append_assoc, take-append-drop}
+use Rattle.kt_base.proofs.Common.{append-nil, length-drop, encodes-append, Appends, Keeps, Holds, Shows, utf8}
 use Rattle.std.specs.Result.{IsErrAnd}
-use Rattle.std.proofs.Common.{arith, ◌≡◌, ◌<◌, ℕ, Bool, true, false, List, [], ◌∷◌, ◌++◌, length, take, drop, refl, ap, ◌∙◌, sym, subst, append_assoc, take-append-drop}
-use Rattle.std.proofs.lemmas.List.{append-nil, length-drop}
-use Rattle.std.proofs.lemmas.Str.{encodes-append}
-use Rattle.std.specs.Io.KnownBytes.{Appends, Keeps}
-use Rattle.kt_base.specs.Shows.{Holds, Shows}
-use Rattle.kt_base.specs.Utf8.{utf8}
 
 -- the bytes of a text, and of another behind it
 pub utf8-append : (xs ys : List ℕ) → utf8 (xs ++ ys) ≡ utf8 xs ++ utf8 ys

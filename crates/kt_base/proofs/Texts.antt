@@ -1,14 +1,7 @@
 -- Texts by their bytes and by their characters.
-use Rattle.std.proofs.Common.{◌≡◌, ℕ, suc, ◌+◌, ◌≤◌, false, List, [], ◌∷◌, ◌++◌, take, drop, bytes_eq, chars, Some, None, refl, ap, sym, subst, ◌∙◌, take-append-drop, arith}
-use Rattle.std.specs.Prelude.{encode_utf8, encode_utf8_all, ◌==◌, length}
-use Rattle.std.specs.Char.{IsScalar, len_utf8}
-use Rattle.std.specs.Str.{IsUtf8, NonePass}
+use Rattle.std.proofs.Common.{◌≡◌, ℕ, suc, ◌+◌, ◌≤◌, false, List, [], ◌∷◌, ◌++◌, take, drop, Some, None, refl, ap, sym, subst, ◌∙◌, take-append-drop, arith, encode_utf8, encode_utf8_all, ◌==◌, length, bytes_eq}
+use Rattle.kt_base.proofs.Common.{chars, IsScalar, len_utf8, IsUtf8, NonePass, eq-eqb, encodes-chars, chars-nil, chars-append, chars_from_encodes, chars_past_char, IsUtf8-append, IsUtf8-drop, IsUtf8-encode, IsUtf8-take, IsCharBoundary-from_drop, bytes_eq-Decides, same_from_decides, Decides-like, nat_tests, is_empty, before, after}
 use Rattle.std.specs.Str.Pattern.{FindsChar}
-use Rattle.std.proofs.lemmas.Bool.{eq-eqb}
-use Rattle.std.proofs.lemmas.Str.{encodes-chars, chars-nil, chars-append, chars_from_encodes, chars_past_char, IsUtf8-append, IsUtf8-drop, IsUtf8-encode, IsUtf8-take, IsCharBoundary-from_drop}
-use Rattle.std.proofs.lemmas.Slice.Eq.{bytes_eq-Decides}
-use Rattle.std.proofs.lemmas.Bool.Decides.{same_from_decides, Decides-like, nat_tests}
-use Rattle.kt_base.specs.Texts.{is_empty, before, after}
 
 from_chars : (a b : List ℕ) → IsUtf8 a → IsUtf8 b → chars a ≡ chars b → a ≡ b
 from_chars a b u v e = sym (encodes-chars a u) ∙ ap encode_utf8_all e ∙ encodes-chars b v

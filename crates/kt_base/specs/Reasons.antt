@@ -1,14 +1,14 @@
 -- The texts of reasons.
 use Rattle.std.specs.Prelude.{ℕ, Bool, true, false, List, [], ◌++◌, codes}
 use Rattle.std.specs.Fmt.{decimal}
-use Rattle.kt_base.specs.declared.outcome.Outcome.{Outcome}
-use Rattle.kt_base.specs.declared.outcome.Outcome.TheVariants.{Exited, Signaled}
+use Rattle.kt_base.specs.declared.child.Outcome.{Outcome}
+use Rattle.kt_base.specs.declared.child.Outcome.TheVariants.{Exited, Signaled}
 use Rattle.kt_base.specs.declared.phrase.Phrase.{Phrase}
 use Rattle.kt_base.specs.declared.phrase.Phrase.TheVariants.{OtherExitCode, OtherSignal, TestsFailed, MemoryNeeded, DiskNeeded, NoDirectory, NoOutput, NotSpawned, NoMemoryToStart}
-use Rattle.kt_base.specs.declared.reason.Reason.{Reason}
-use Rattle.kt_base.specs.declared.reason.Reason.TheVariants.{Nothing, Fixed, Ended, Counted, Owned}
-use Rattle.kt_base.specs.declared.refused.Refused.{Refused}
-use Rattle.kt_base.specs.declared.refused.Refused.TheVariants.{Directory, Output, Spawn, Memory}
+use Rattle.kt_base.specs.declared.verdict.Reason.{Reason}
+use Rattle.kt_base.specs.declared.verdict.Reason.TheVariants.{Nothing, Fixed, Ended, Counted, Owned}
+use Rattle.kt_base.specs.declared.child.Refused.{Refused}
+use Rattle.kt_base.specs.declared.child.Refused.TheVariants.{Directory, Output, Spawn, Memory}
 use Rattle.kt_base.specs.Phrases.{phrase_text}
 
 -- what follows a signal that left a core file

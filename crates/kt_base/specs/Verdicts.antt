@@ -1,7 +1,7 @@
 -- Verdicts as callers see them: a kind, and the text of the reason.
 use Rattle.std.specs.Prelude.{ℕ, List, []}
-use Rattle.kt_base.specs.declared.kind.Kind.{Kind}
-use Rattle.kt_base.specs.declared.kind.Kind.TheVariants.{Passed, Skipped, ExpectedFailure, Failed, Broken}
+use Rattle.kt_base.specs.declared.verdict.Kind.{Kind}
+use Rattle.kt_base.specs.declared.verdict.Kind.TheVariants.{Passed, Skipped, ExpectedFailure, Failed, Broken}
 
 -- a kind with the text of its reason
 pub record Judged : Type 0 where

@@ -1,6 +1,5 @@
 ghost use Rattle.std.specs.Prelude.{◌≡◌, ◌≤◌, false, length, drop};
-ghost use Rattle.std.specs.Fmt.{decimal, digits_onto};
-ghost use Rattle.kt_base.specs.Utf8.{utf8};
+ghost use Rattle.kt_base.specs.Common.{decimal, digits_onto, utf8};
 
 use std::marker::Model;
 

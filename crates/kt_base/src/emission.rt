@@ -1,6 +1,5 @@
 ghost use Rattle.std.specs.Prelude.{◌≡◌, ◌≤◌, ◌<◌, true, false, is_err, length, map, take};
-ghost use Rattle.std.specs.Io.KnownBytes.{Appends};
-ghost use Rattle.kt_base.specs.Shows.{Shows, joined};
+ghost use Rattle.kt_base.specs.Common.{Appends, Shows, joined};
 
 use std::io::Write;
 

@@ -1,7 +1,14 @@
-use crate::output::Output;
-use crate::text::Text;
-use crate::variables::Variables;
-use crate::verdict::Verdict;
+use crate::{Bytes, Items, Text, Variables, Verdict};
+
+/// The latest moment that is recorded, in milliseconds since 1970 in UTC: the last one of the year 9999. The earliest is 0.
+pub const LATEST_MOMENT: u64 = 253_402_300_799_999;
+
+/// What is kept of the two output streams of a child process.
+#[derive(Debug, Drop)]
+pub struct Output {
+    pub out: Bytes,
+    pub err: Bytes,
+}
 
 /// What is recorded of one test case of a run.
 #[derive(Debug, Drop)]
@@ -20,4 +27,18 @@ pub struct Entry {
     pub cleanup: Output,
     /// What the case declared, as names with values.
     pub meta: Variables,
+}
+
+/// A run of `kyua test`, with the entries recorded so far.
+#[derive(Debug, Drop)]
+pub struct Run {
+    /// Counted from 1.
+    pub number: u64,
+    /// In milliseconds since 1970 in UTC.
+    pub started: u64,
+    /// How many cases were selected.
+    pub total: u32,
+    pub finished: bool,
+    /// By position.
+    pub entries: Items<Entry>,
 }

@@ -1,6 +1,5 @@
 ghost use Rattle.std.specs.Prelude.{◌≡◌, ℕ, List, [], ◌∷◌, ◌++◌, None, IsSome};
-ghost use Rattle.kt_base.specs.declared.variable.Variable.{Variable};
-ghost use Rattle.kt_base.specs.LastValues.{value_of, last_values, IsReplaced};
+ghost use Rattle.kt_base.specs.Common.{Variable, value_of, last_values, IsReplaced};
 
 /// The laws of names with their last values, for whoever keeps such a list in place. It does nothing.
 pub fn last_values_laws()

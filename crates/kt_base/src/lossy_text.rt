@@ -1,9 +1,7 @@
 ghost use Rattle.std.specs.Prelude.{◌≡◌, ◌<◌, ◌++◌, length, IfOk, OnOk};
-ghost use Rattle.std.specs.Str.{chars, IsUtf8};
-ghost use Rattle.kt_base.specs.Lossy.{lossy};
+ghost use Rattle.kt_base.specs.Common.{chars, IsUtf8, lossy};
 
-use crate::no_memory::NoMemory;
-use crate::text::Text;
+use crate::{NoMemory, Text};
 use std::alloc::Global;
 
 /// Appends bytes that are UTF-8.
@@ -16,8 +14,7 @@ fn push_utf8(text: &mut Text, bytes: &[u8]) -> Result<(), NoMemory>
     }
 }
 
-/// Appends the characters up to the first byte where none begins, and U+FFFD for that byte. Returns
-/// what follows it.
+/// Appends the characters up to the first byte where none begins, and U+FFFD for that byte. Returns what follows it.
 fn push_front<'a>(text: &mut Text, bytes: &'a [u8]) -> Result<&'a [u8], NoMemory>
     ensures text { IfOk result (λ rest. text.new ++ lossy rest.now ≡ text.old ++ lossy bytes.now) }
     ensures shorter { 0 < length bytes.now → IfOk result (λ rest. length rest.now < length bytes.now) }
@@ -36,8 +33,7 @@ fn push_front<'a>(text: &mut Text, bytes: &'a [u8]) -> Result<&'a [u8], NoMemory
     }
 }
 
-/// The bytes as a text. From the left, each well-formed character is kept, and a byte where none
-/// begins becomes U+FFFD.
+/// The bytes as a text. From the left, each well-formed character is kept, and a byte where none begins becomes U+FFFD.
 pub fn lossy(alloc: Global, bytes: &[u8]) -> Result<Text, NoMemory>
     ensures { IfOk result (λ text. text ≡ lossy bytes.now) }
 {

@@ -16,7 +16,7 @@ struct Refusal;
 
 impl NoMemory {
     ghost use Rattle.std.specs.Prelude.{◌≡◌, is_some, true};
-    ghost use Rattle.std.specs.IoError.{error_kind};
+    ghost use Rattle.kt_base.specs.Common.{error_kind};
 
     /// What an error of the system says of memory: nothing if it has another cause.
     pub fn in_error(error: &io::Error) -> Option<NoMemory>

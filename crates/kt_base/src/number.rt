@@ -1,10 +1,7 @@
 ghost use Rattle.std.specs.Prelude.{◌≡◌, is_err};
-ghost use Rattle.std.specs.Fmt.{decimal};
-ghost use Rattle.kt_base.specs.Shows.{Shows};
-ghost use Rattle.kt_base.specs.Utf8.{utf8};
+ghost use Rattle.kt_base.specs.Common.{decimal, Shows, utf8};
 
-use crate::decimal::Decimal;
-use crate::emission::{OutputFault, emit};
+use crate::{Decimal, OutputFault, emit};
 use std::io::Write;
 
 /// Writes a number of up to 128 bits in decimal, or a proper prefix of its digits if a write failed. It takes no memory.

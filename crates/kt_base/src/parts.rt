@@ -1,30 +1,10 @@
-use crate::emission::{OutputFault, emit};
-use crate::no_memory::NoMemory;
-use crate::number::emit_number;
-use crate::outcome::Outcome;
-use crate::phrase::Phrase;
-use crate::text::Text;
+use crate::verdict::Parts;
+use crate::{NoMemory, Outcome, OutputFault, Phrase, Text, emit, emit_number};
 use std::io::Write;
-
-/// The text of a reason, cut so that each part is written without memory.
-#[derive(Clone, Copy, Debug)]
-pub struct Parts<'a> {
-    pub head: &'a str,
-    pub lead: &'static str,
-    pub first: Option<u64>,
-    pub between: &'static str,
-    pub second: Option<u64>,
-    pub tail: &'static str,
-}
 
 impl Parts<'_> {
     ghost use Rattle.std.specs.Prelude.{◌≡◌, ◌++◌, OnOk, OnErr, is_err};
-    ghost use Rattle.std.specs.Str.{chars};
-    ghost use Rattle.kt_base.specs.Inner.Parts.{parts_text};
-    ghost use Rattle.kt_base.specs.Phrases.{phrase_text};
-    ghost use Rattle.kt_base.specs.Reasons.{counted_text, ending_text};
-    ghost use Rattle.kt_base.specs.Shows.{Shows};
-    ghost use Rattle.kt_base.specs.Utf8.{utf8};
+    ghost use Rattle.kt_base.specs.Common.{chars, parts_text, phrase_text, counted_text, ending_text, Shows, utf8};
 
     /// Words without numbers.
     pub fn words(head: &str) -> Parts<'_>
@@ -114,12 +94,7 @@ impl Parts<'_> {
 }
 
 ghost use Rattle.std.specs.Prelude.{◌≡◌, ◌++◌, Option, OnOk, OnErr, is_err};
-ghost use Rattle.std.specs.Str.{chars};
-ghost use Rattle.std.specs.Fmt.{decimal};
-ghost use Rattle.kt_base.specs.Inner.Parts.{number_text, parts_text};
-ghost use Rattle.kt_base.specs.Reasons.{core_text};
-ghost use Rattle.kt_base.specs.Shows.{Shows};
-ghost use Rattle.kt_base.specs.Utf8.{utf8};
+ghost use Rattle.kt_base.specs.Common.{chars, decimal, number_text, parts_text, core_text, Shows, utf8};
 
 fn push_digits(n: u64, text: &mut Text) -> Result<(), NoMemory>
     ensures { OnOk result (text.new ≡ text.old ++ decimal n) }

@@ -4,7 +4,7 @@ ghost use Rattle.std.specs.Str.{chars};
 ghost use Rattle.std.specs.String.{string_bytes};
 ghost use Rattle.kt_base.specs.Utf8.{utf8};
 
-use crate::no_memory::NoMemory;
+use crate::NoMemory;
 use std::alloc::Global;
 use std::marker::Model;
 
@@ -22,7 +22,7 @@ impl Model for Text {
 
 impl Text {
     ghost use Rattle.std.specs.Prelude.{bytes_eq};
-    ghost use Rattle.kt_base.specs.Texts.{is_empty, before, after};
+    ghost use Rattle.kt_base.specs.Common.{is_empty, before, after};
 
     /// The empty text, which takes no memory.
     pub fn new(alloc: Global) -> Text

@@ -1,5 +1,4 @@
-use crate::no_memory::NoMemory;
-use crate::text::Text;
+use crate::{NoMemory, Text};
 
 /// A name with its value, such as a variable of a test suite.
 #[derive(Debug, Drop)]

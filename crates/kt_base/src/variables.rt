@@ -1,8 +1,7 @@
 ghost use Rattle.std.specs.Prelude.{◌≡◌, ◌↔◌, [], ◌∷◌, ◌++◌, List, length, IfOk, OnOk, OnErr, IsTrue};
 ghost use Rattle.kt_base.specs.declared.variable.Variable.{Variable};
 
-use crate::no_memory::NoMemory;
-use crate::variable::Variable;
+use crate::{NoMemory, Variable};
 use std::alloc::Global;
 use std::marker::Model;
 

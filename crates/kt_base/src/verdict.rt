@@ -1,10 +1,73 @@
-use crate::emission::OutputFault;
-use crate::kind::Kind;
-use crate::no_memory::NoMemory;
-use crate::reason::Reason;
-use crate::text::Text;
+use crate::{NoMemory, Outcome, OutputFault, Phrase, Text};
 use std::io::Write;
 use std::marker::Model;
+
+/// Why a case has its verdict, kept without memory where its words are fixed.
+#[derive(Debug, Drop)]
+pub enum Reason {
+    /// A passed case needs none.
+    Nothing,
+    Fixed(Phrase),
+    /// The words, and an ending by exit or by signal.
+    Ended(Phrase, Outcome),
+    /// The words with their numbers. A phrase with one number takes the first.
+    Counted(Phrase, u64, u64),
+    /// The test program's own words, or a text with names in it.
+    Owned(Text),
+}
+
+impl Reason {
+    ghost use Rattle.std.specs.Prelude.{◌≡◌};
+    ghost use Rattle.kt_base.specs.Common.{parts_text, reason_text};
+
+    /// The text in parts.
+    pub(crate) fn parts(&self) -> Parts<'_>
+        ensures { parts_text result ≡ reason_text self.now }
+    {
+        match self {
+            Reason::Nothing => Parts::words(""),
+            Reason::Fixed(phrase) => Parts::words(phrase.text()),
+            Reason::Ended(phrase, ending) => Parts::ended(*phrase, *ending),
+            Reason::Counted(phrase, m, n) => Parts::counted(*phrase, *m, *n),
+            Reason::Owned(text) => Parts::words(text.as_str()),
+        }
+    }
+}
+
+/// What became of a test case.
+#[derive(Clone, Copy, Debug, PartialEq, Eq)]
+pub enum Kind {
+    Passed,
+    Skipped,
+    ExpectedFailure,
+    Failed,
+    Broken,
+}
+
+impl Kind {
+    ghost use Rattle.std.specs.Prelude.{◌≡◌};
+    ghost use Rattle.kt_base.specs.Common.{good, word};
+
+    /// Whether the case counts as a success.
+    pub fn good(self) -> bool
+        ensures { result ≡ good self }
+    {
+        matches!(self, Kind::Passed | Kind::Skipped | Kind::ExpectedFailure)
+    }
+
+    /// The word by which a report names the kind (this profile).
+    pub fn word(self) -> &'static str
+        ensures { result.now ≡ word self }
+    {
+        match self {
+            Kind::Passed => "passed",
+            Kind::Skipped => "skipped",
+            Kind::ExpectedFailure => "expected_failure",
+            Kind::Failed => "failed",
+            Kind::Broken => "broken",
+        }
+    }
+}
 
 /// What became of a case, and why. Contracts see the kind and the text of the reason.
 #[derive(Debug, Drop)]
@@ -15,7 +78,7 @@ pub struct Verdict {
 
 impl Model for Verdict {
     ghost use Rattle.std.specs.Prelude.{◌≡◌, []};
-    ghost use Rattle.kt_base.specs.declared.kind.Kind.TheVariants.{Passed};
+    ghost use Rattle.kt_base.specs.declared.verdict.Kind.TheVariants.{Passed};
     ghost use Rattle.kt_base.specs.Reasons.{reason_text};
     ghost use Rattle.kt_base.specs.Verdicts.{Judged};
 
@@ -28,11 +91,7 @@ impl Model for Verdict {
 
 impl Verdict {
     ghost use Rattle.std.specs.Prelude.{◌≡◌, [], ◌++◌, OnOk, OnErr, is_err};
-    ghost use Rattle.kt_base.specs.declared.kind.Kind.TheVariants.{Passed};
-    ghost use Rattle.kt_base.specs.Reasons.{reason_text};
-    ghost use Rattle.kt_base.specs.Shows.{Shows};
-    ghost use Rattle.kt_base.specs.Utf8.{utf8};
-    ghost use Rattle.kt_base.specs.Verdicts.{passed, skipped, expected_failure, failed, broken};
+    ghost use Rattle.kt_base.specs.Common.{Passed, reason_text, Shows, utf8, passed, skipped, expected_failure, failed, broken};
 
     /// The case did what it was to do. It needs no reason.
     pub fn passed() -> Verdict
@@ -121,4 +180,15 @@ impl Verdict {
     {
         self.reason.parts().print(out)
     }
+}
+
+/// The text of a reason, cut so that each part is written without memory.
+#[derive(Clone, Copy, Debug)]
+pub struct Parts<'a> {
+    pub head: &'a str,
+    pub lead: &'static str,
+    pub first: Option<u64>,
+    pub between: &'static str,
+    pub second: Option<u64>,
+    pub tail: &'static str,
 }

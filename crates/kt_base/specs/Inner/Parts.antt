@@ -2,7 +2,7 @@
 use Rattle.std.specs.Prelude.{ℕ, List, [], ◌++◌, Option, Some, None}
 use Rattle.std.specs.Str.{chars}
 use Rattle.std.specs.Fmt.{decimal}
-use Rattle.kt_base.specs.declared.parts.Parts.{Parts}
+use Rattle.kt_base.specs.declared.verdict.Parts.{Parts}
 
 -- a number in decimal, if there is one
 abbrev pub number_text : Option ℕ → List ℕ

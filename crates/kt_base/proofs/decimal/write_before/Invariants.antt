@@ -1,5 +1,5 @@
 use Rattle.std.proofs.Common.{◌≡◌, ◌≤◌, false, length, drop}
-use Rattle.std.specs.Fmt.{digits_onto}
+use Rattle.kt_base.proofs.Common.{digits_onto}
 use Rattle.kt_base.proofs.decimal.write_before.Given as goal
 
 -- the digits that are left to write complete the whole

@@ -1,5 +1,5 @@
 use Rattle.std.proofs.Common.{◌++◌, ◌+◌, [], drop, get_or, ◌∙◌, refl}
-use Rattle.kt_base.specs.Shows.{joined}
+use Rattle.kt_base.proofs.Common.{joined}
 use Rattle.kt_base.proofs.Joining.{lent, next_part, next_cut, no_part}
 use Rattle.kt_base.proofs.Showing.{shows_as, shows_both, shows_error, shows_more, shows_none}
 use Rattle.kt_base.proofs.emission.emit_all.Goals as goal

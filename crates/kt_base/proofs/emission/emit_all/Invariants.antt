@@ -1,5 +1,5 @@
 use Rattle.std.proofs.Common.{◌≡◌, ℕ, List, false, drop}
-use Rattle.kt_base.specs.Shows.{Shows, joined, joined_behind}
+use Rattle.kt_base.proofs.Common.{Shows, joined, joined_behind}
 use Rattle.kt_base.proofs.Joining.{lent}
 use Rattle.kt_base.proofs.emission.emit_all.Given as goal
 

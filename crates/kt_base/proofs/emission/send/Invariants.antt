@@ -1,5 +1,5 @@
 use Rattle.std.proofs.Common.{◌-◌, ◌≤◌, length, take}
-use Rattle.std.specs.Io.KnownBytes.{Appends}
+use Rattle.kt_base.proofs.Common.{Appends}
 use Rattle.kt_base.proofs.emission.send.Given as goal
 
 -- so much of the bytes is in the writer

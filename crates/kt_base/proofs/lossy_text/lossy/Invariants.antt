@@ -1,5 +1,5 @@
 use Rattle.std.proofs.Common.{◌≡◌, ◌++◌, length}
-use Rattle.kt_base.specs.Lossy.{lossy}
+use Rattle.kt_base.proofs.Common.{lossy}
 use Rattle.kt_base.proofs.lossy_text.lossy.Given as goal
 
 abbrev pub invariant-loop-rest : goal.invariant-loop-rest

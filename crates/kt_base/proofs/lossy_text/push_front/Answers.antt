@@ -1,4 +1,4 @@
-use Rattle.std.proofs.lemmas.List.{take_rest}
+use Rattle.kt_base.proofs.Common.{take_rest}
 use Rattle.kt_base.proofs.Fronts.{all_text, one_fault}
 use Rattle.kt_base.proofs.lossy_text.push_front.Goals as goal
 

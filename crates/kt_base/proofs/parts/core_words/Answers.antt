@@ -1,4 +1,4 @@
-use Rattle.std.proofs.lemmas.Str.{chars-nil}
+use Rattle.kt_base.proofs.Common.{chars-nil}
 use Rattle.kt_base.proofs.PartTexts.{dumped_words}
 use Rattle.kt_base.proofs.parts.core_words.Goals as goal
 

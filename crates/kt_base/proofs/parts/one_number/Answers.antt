@@ -1,5 +1,4 @@
-use Rattle.std.specs.Str.{chars}
-use Rattle.std.specs.Fmt.{decimal}
+use Rattle.kt_base.proofs.Common.{chars, decimal}
 use Rattle.kt_base.proofs.PartTexts.{one_number_text}
 use Rattle.kt_base.proofs.parts.one_number.Goals as goal
 

@@ -1,7 +1,4 @@
-use Rattle.std.specs.Str.{chars}
-use Rattle.std.proofs.lemmas.Result.{err_from_is_err_and}
-use Rattle.kt_base.specs.Inner.Parts.{number_text}
-use Rattle.kt_base.specs.Utf8.{utf8}
+use Rattle.kt_base.proofs.Common.{chars, err_from_is_err_and, number_text, utf8}
 use Rattle.kt_base.proofs.Showing.{shows_both, shows_more, utf8-append}
 use Rattle.kt_base.proofs.parts.print_numbered.Goals as goal
 

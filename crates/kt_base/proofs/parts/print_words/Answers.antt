@@ -1,4 +1,4 @@
-use Rattle.std.proofs.lemmas.Str.{encodes-chars}
+use Rattle.kt_base.proofs.Common.{encodes-chars}
 use Rattle.kt_base.proofs.parts.print_words.Goals as goal
 
 pub returns : goal.returns

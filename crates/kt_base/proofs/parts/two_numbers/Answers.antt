@@ -1,5 +1,4 @@
-use Rattle.std.specs.Str.{chars}
-use Rattle.std.specs.Fmt.{decimal}
+use Rattle.kt_base.proofs.Common.{chars, decimal}
 use Rattle.kt_base.proofs.PartTexts.{two_numbers_text}
 use Rattle.kt_base.proofs.parts.two_numbers.Goals as goal
 

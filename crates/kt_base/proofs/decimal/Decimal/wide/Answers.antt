@@ -1,7 +1,5 @@
 use Rattle.std.proofs.Common.{ℕ, ◌<◌, ◌^◌, arith}
-use Rattle.std.specs.Fmt.{decimal}
-use Rattle.std.proofs.lemmas.Fmt.{IsAscii-decimal_wide}
-use Rattle.std.proofs.lemmas.Str.{encodes-IsAscii}
+use Rattle.kt_base.proofs.Common.{decimal, IsAscii-decimal_wide, encodes-IsAscii}
 use Rattle.kt_base.proofs.decimal.Decimal.wide.Goals as goal
 
 below : (n : ℕ) → n < 2 ^ 128 → n < 10 ^ 64

@@ -1,7 +1,5 @@
 use Rattle.std.proofs.Common.{sym, ap, ◌∙◌}
-use Rattle.std.specs.String.{string_bytes}
-use Rattle.std.proofs.lemmas.Str.{encodes-chars, IsUtf8-string_bytes}
-use Rattle.kt_base.specs.Utf8.{utf8}
+use Rattle.kt_base.proofs.Common.{string_bytes, encodes-chars, IsUtf8-string_bytes, utf8}
 use Rattle.kt_base.proofs.text.Text.as_str.Goals as goal
 
 pub returns-clause-bytes : goal.returns-clause-bytes

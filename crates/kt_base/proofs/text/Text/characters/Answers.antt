@@ -1,5 +1,5 @@
 use Rattle.std.proofs.Common.{rules}
-use Rattle.std.proofs.lemmas.Str.{chars_from_encodes}
+use Rattle.kt_base.proofs.Common.{chars_from_encodes}
 use Rattle.kt_base.proofs.text.Text.characters.Goals as goal
 
 pub returns : goal.returns

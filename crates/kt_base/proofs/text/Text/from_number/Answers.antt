@@ -1,8 +1,5 @@
 use Rattle.std.proofs.Common.{ap, ◌∙◌}
-use Rattle.std.specs.Fmt.{decimal}
-use Rattle.std.specs.Str.{chars}
-use Rattle.std.proofs.lemmas.Fmt.{IsAscii-decimal}
-use Rattle.std.proofs.lemmas.Str.{chars-IsAscii}
+use Rattle.kt_base.proofs.Common.{decimal, chars, IsAscii-decimal, chars-IsAscii}
 use Rattle.kt_base.proofs.text.Text.from_number.Goals as goal
 
 pub returns : goal.returns

@@ -1,5 +1,5 @@
 use Rattle.std.proofs.Common.{◌∙◌, ap, sym}
-use Rattle.kt_base.specs.Texts.{is_empty}
+use Rattle.kt_base.proofs.Common.{is_empty}
 use Rattle.kt_base.proofs.Texts.{is_empty-chars}
 use Rattle.kt_base.proofs.text.Text.is_empty.Goals as goal
 

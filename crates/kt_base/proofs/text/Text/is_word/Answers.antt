@@ -1,4 +1,5 @@
-use Rattle.std.proofs.Common.{◌∙◌, bytes_eq, ap, List, ℕ, chars}
+use Rattle.std.proofs.Common.{◌∙◌, ap, List, ℕ, bytes_eq}
+use Rattle.kt_base.proofs.Common.{chars}
 use Rattle.kt_base.proofs.Texts.{bytes_eq-chars}
 use Rattle.kt_base.proofs.text.Text.is_word.Goals as goal
 

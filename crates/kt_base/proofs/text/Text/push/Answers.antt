@@ -1,5 +1,4 @@
-use Rattle.std.specs.String.{string_bytes}
-use Rattle.std.proofs.lemmas.Str.{IsUtf8-string_bytes}
+use Rattle.kt_base.proofs.Common.{string_bytes, IsUtf8-string_bytes}
 use Rattle.kt_base.proofs.Characters.{pushed}
 use Rattle.kt_base.proofs.text.Text.push.Goals as goal
 

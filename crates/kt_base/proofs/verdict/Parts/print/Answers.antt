@@ -1,11 +1,8 @@
 use Rattle.std.proofs.Common.{◌++◌}
-use Rattle.std.specs.Str.{chars}
-use Rattle.std.proofs.lemmas.Result.{err_from_is_err_and}
-use Rattle.kt_base.specs.Inner.Parts.{number_text}
-use Rattle.kt_base.specs.Utf8.{utf8}
+use Rattle.kt_base.proofs.Common.{chars, err_from_is_err_and, number_text, utf8}
 use Rattle.kt_base.proofs.PartTexts.{parts_bytes}
 use Rattle.kt_base.proofs.Showing.{shows_both, shows_more}
-use Rattle.kt_base.proofs.parts.Parts.print.Goals as goal
+use Rattle.kt_base.proofs.verdict.Parts.print.Goals as goal
 
 pub returns-in_err-print_words : goal.returns-in_err-print_words
 returns-in_err-print_words g c =

@@ -1,6 +1,6 @@
 use Rattle.std.proofs.Common.{◌≡◌, ◌≤◌, drop}
-use Rattle.kt_base.specs.Digits.{decimal_from}
-use Rattle.kt_base.proofs.decimal_digits.decimal_up_to.Given as goal
+use Rattle.kt_base.proofs.Common.{decimal_from}
+use Rattle.kt_base.proofs.scanning.decimal_up_to.Given as goal
 
 -- the number of the digits so far
 abbrev pub invariant-loop-c : goal.invariant-loop-c

@@ -1,6 +1,27 @@
-ghost use Rattle.std.specs.Prelude.{◌≡◌, ◌≤◌, length, IfSome};
-ghost use Rattle.std.specs.List.{prefix_len};
-ghost use Rattle.kt_base.specs.Digits.{is_digit, decimal_from, up_to};
+ghost use Rattle.std.specs.Prelude.{◌≡◌, ◌≤◌, not, length, chars, IfSome};
+ghost use Rattle.kt_base.specs.Common.{prefix_len, is_newline, list_any, is_absolute, is_slash, is_digit, decimal_from, up_to};
+
+/// How many bytes the first line of a text has, without its newline.
+pub fn line_length(text: &[u8]) -> usize
+    ensures value { result ≡ prefix_len (λ b. not (is_newline b)) text.now }
+    ensures within { result ≤ length text.now }
+{
+    text.iter().take_while(|b| **b != b'\n').count()
+}
+
+/// Whether a path begins with a slash.
+pub fn is_absolute(path: &str) -> bool
+    ensures { result ≡ is_absolute (chars path.now) }
+{
+    path.chars().next() == Some('/')
+}
+
+/// Whether a path has more than one component, or a slash at an end.
+pub fn has_slash(path: &str) -> bool
+    ensures { result ≡ list_any is_slash (chars path.now) }
+{
+    path.chars().any(|c| c == '/')
+}
 
 /// Whether a byte is one of `0` to `9`.
 pub fn is_digit(c: u8) -> bool

@@ -1,7 +1,7 @@
 use Rattle.std.proofs.Common.{◌∙◌}
-use Rattle.std.proofs.lemmas.Str.{chars-nil}
+use Rattle.kt_base.proofs.Common.{chars-nil}
 use Rattle.kt_base.proofs.PartTexts.{phrase_alone}
-use Rattle.kt_base.proofs.reason.Reason.parts.Goals as goal
+use Rattle.kt_base.proofs.verdict.Reason.parts.Goals as goal
 
 pub returns-in-Nothing : goal.returns-in-Nothing
 returns-in-Nothing c = rw c.in-Nothing.is (c.words.ensures ∙ chars-nil)

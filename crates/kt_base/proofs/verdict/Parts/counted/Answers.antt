@@ -1,5 +1,5 @@
 use Rattle.kt_base.proofs.PartTexts.{exit_codes_text, signals_text, tests_failed_text, memory_text, disk_text, count_text}
-use Rattle.kt_base.proofs.parts.Parts.counted.Goals as goal
+use Rattle.kt_base.proofs.verdict.Parts.counted.Goals as goal
 
 pub returns-in-OtherExitCode : goal.returns-in-OtherExitCode
 returns-in-OtherExitCode c = exit_codes_text _ c.args.phrase c.args.m c.args.n c.two_numbers.ensures c.in-OtherExitCode.is

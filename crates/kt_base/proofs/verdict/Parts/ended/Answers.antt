@@ -1,5 +1,5 @@
 use Rattle.kt_base.proofs.PartTexts.{exited_text, signaled_text, unended_text}
-use Rattle.kt_base.proofs.parts.Parts.ended.Goals as goal
+use Rattle.kt_base.proofs.verdict.Parts.ended.Goals as goal
 
 pub returns-in-Exited : goal.returns-in-Exited
 returns-in-Exited c = exited_text _ c.text.result.now c.args.phrase c.args.ending c.in-Exited.code c.one_number.ensures c.text.ensures c.in-Exited.is

@@ -1,6 +1,6 @@
 use Rattle.std.proofs.Common.{suc, drop, get_or, drop-cons, arith}
 use Rattle.kt_base.proofs.Numbers.{overflows}
-use Rattle.kt_base.proofs.decimal_digits.decimal_up_to.Goals as goal
+use Rattle.kt_base.proofs.scanning.decimal_up_to.Goals as goal
 
 pub returns-then-next-greatest-clause-value : goal.returns-then-next-greatest-clause-value
 returns-then-next-greatest-clause-value c =

@@ -1,5 +1,5 @@
 use Rattle.kt_base.proofs.PartTexts.{words_text}
-use Rattle.kt_base.proofs.parts.Parts.words.Goals as goal
+use Rattle.kt_base.proofs.verdict.Parts.words.Goals as goal
 
 pub returns : goal.returns
 returns c = words_text c.args.head.now
