@@ -1,14 +1,6 @@
 -- From the characters' tokens to the text.
-use Rattle.std.proofs.Common.{◌≡◌, ℕ, ◌≤◌, List, length, Result, Ok, Err, sym, subst, inr}
-use Rattle.std.specs.Prelude.{IfOk, IsUtf8}
-use Rattle.kt_script.specs.declared.fault.ScriptFault.{ScriptFault}
-use Rattle.kt_script.specs.declared.fault.ScriptFault.TheVariants.{NoMemory, NotUtf8, BadToken, NotLiteral, Unclosed, TooLong}
-use Rattle.kt_script.specs.declared.syntax.Stmt.{Stmt}
-use Rattle.kt_script.specs.declared.token.Token.{Token}
-use Rattle.kt_script.specs.Grammar.{Script}
-use Rattle.kt_script.specs.Faults.{IfFault, IsFaultOf}
-use Rattle.kt_script.specs.Inner.Tokens.{tokens}
-use Rattle.kt_script.specs.Spelling.{limit, Spells, IsDue, Answers}
+use Rattle.std.proofs.Common.{◌≡◌, ℕ, ◌≤◌, List, length, Result, Ok, Err, sym, subst, inr, IfOk, IsUtf8}
+use Rattle.kt_script.proofs.Common.{ScriptFault, NoMemory, NotUtf8, BadToken, NotLiteral, Unclosed, TooLong, Stmt, Token, Script, IfFault, IsFaultOf, tokens, limit, Spells, IsDue, Answers}
 use Rattle.kt_script.proofs.Sound.{one_script}
 use Rattle.kt_script.proofs.OneReading.{one_reading}
 use Rattle.kt_script.proofs.SomeReading.{some_reading}

@@ -1,14 +1,6 @@
 -- Where a text may be cut: after a piece, the rest is UTF-8 again.
-use Rattle.std.proofs.Common.{◌≡◌, ℕ, zero, suc, ◌+◌, ◌<◌, ◌≤◌, Bool, true, false, eqb, leb, ◌&&◌, ◌||◌, List, ◌∷◌, length, drop, get_or, refl, ap, sym, subst, ◌∙◌, arith, inl, inr}
-use Rattle.std.specs.Prelude.{IsUtf8}
-use Rattle.std.specs.Str.{IsCharBoundary}
-use Rattle.std.specs.List.{prefix_len}
-use Rattle.std.proofs.lemmas.Bool.{eqb-true, leb-true, and_parts, or_cases, cases_lt}
-use Rattle.std.proofs.lemmas.List.Sums.{prefix_len-le-length, prefix_len_passes, prefix_len_stops}
-use Rattle.std.proofs.lemmas.Str.{IsCharBoundary-start, IsCharBoundary-end, IsCharBoundary-before_ascii, IsCharBoundary-after_ascii}
-use Rattle.kt_base.specs.Characters.{is_space}
-use Rattle.kt_script.specs.Letters.{is_letter, is_word}
-use Rattle.kt_base.specs.Digits.{is_digit}
+use Rattle.std.proofs.Common.{◌≡◌, ℕ, zero, suc, ◌+◌, ◌<◌, ◌≤◌, Bool, true, false, eqb, leb, ◌&&◌, ◌||◌, List, ◌∷◌, length, drop, get_or, refl, ap, sym, subst, ◌∙◌, arith, inl, inr, IsUtf8}
+use Rattle.kt_script.proofs.Common.{IsCharBoundary, prefix_len, eqb-true, leb-true, and_parts, or_cases, cases_lt, prefix_len-le-length, prefix_len_passes, prefix_len_stops, IsCharBoundary-start, IsCharBoundary-end, IsCharBoundary-before_ascii, IsCharBoundary-after_ascii, is_space, is_letter, is_word, is_digit}
 
 -- ---- runs of bytes
 

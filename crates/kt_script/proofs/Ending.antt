@@ -1,22 +1,8 @@
 -- What may still come: which words end the statement that a state is within.
-use Rattle.std.proofs.Common.{◌≡◌, ℕ, Bool, true, false, List, [], ◌∷◌, ◌++◌, ap, sym, subst, append_assoc}
-use Rattle.std.specs.Prelude.{if◌then◌else◌}
-use Rattle.std.proofs.lemmas.List.{append-nil}
-use Rattle.kt_script.specs.declared.token.Kind.{Kind}
-use Rattle.kt_script.specs.declared.token.Kind.TheVariants.{Name, Quoted, OpenParen, CloseParen, CloseBrace, OpenBracket, CloseBracket, Equals, Dot}
-use Rattle.kt_script.specs.declared.literal.Literal.{Literal}
-use Rattle.kt_script.specs.declared.syntax.Pair.{Pair}
+use Rattle.std.proofs.Common.{◌≡◌, ℕ, Bool, true, false, List, [], ◌∷◌, ◌++◌, ap, sym, subst, append_assoc, if◌then◌else◌}
+use Rattle.kt_script.proofs.Common.{append-nil, Kind, Name, Quoted, OpenParen, CloseParen, CloseBrace, OpenBracket, CloseBracket, Equals, Dot, Literal, Pair, Action, Call, Assign, Table, State, Named, Opened, Closing, Pairs, KeyOpened, KeyQuoted, Keyed, KeyEquals, Paired, Dotted, PathOpened, PathQuoted, Path, PathEquals, Step, To, Ends, token_of, pair, Key, Separator, no_pairs, last_pair, pair_and, Parts, no_parts, named_part, quoted_part, Statement, assign, closed, with_pair}
 use Rattle.kt_script.specs.declared.syntax.Arg.TheVariants as arg
-use Rattle.kt_script.specs.declared.syntax.Action.{Action}
-use Rattle.kt_script.specs.declared.syntax.Action.TheVariants.{Call, Assign}
-use Rattle.kt_script.specs.declared.state.Table.{Table}
-use Rattle.kt_script.specs.declared.state.State.{State}
-use Rattle.kt_script.specs.declared.state.State.TheVariants.{Named, Opened, Closing, Pairs, KeyOpened, KeyQuoted, Keyed, KeyEquals, Paired, Dotted, PathOpened, PathQuoted, Path, PathEquals}
-use Rattle.kt_script.specs.declared.state.Step.{Step}
-use Rattle.kt_script.specs.declared.state.Step.TheVariants.{To, Ends}
 use Rattle.kt_script.specs.Grammar as grammar
-use Rattle.kt_script.specs.Grammar.{token_of, pair, Key, Separator, no_pairs, last_pair, pair_and, Parts, no_parts, named_part, quoted_part, Statement, assign}
-use Rattle.kt_script.specs.Inner.Automaton.{closed, with_pair}
 
 abbrev pub closing : Bool → List Kind
 closing true = CloseBrace ∷ CloseParen ∷ []

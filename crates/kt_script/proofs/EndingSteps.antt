@@ -1,18 +1,8 @@
 -- Whatever ends a statement after a token ended it before, with the token; and each state has an ending.
-use Rattle.std.proofs.Common.{ℕ, true, false, List, [], ◌∷◌, ◌++◌, Option, refl, ap}
-use Rattle.std.specs.Prelude.{IfSome}
-use Rattle.kt_script.specs.declared.token.Kind.{Kind}
-use Rattle.kt_script.specs.declared.token.Kind.TheVariants.{Name, Quoted, Number, Truth, OpenParen, CloseParen, OpenBrace, CloseBrace, OpenBracket, CloseBracket, Equals, Comma, Semicolon, Dot}
-use Rattle.kt_script.specs.declared.literal.Literal.TheVariants as literal
+use Rattle.std.proofs.Common.{ℕ, true, false, List, [], ◌∷◌, ◌++◌, Option, refl, ap, IfSome}
+use Rattle.kt_script.proofs.Common.{Kind, Name, Quoted, Number, Truth, OpenParen, CloseParen, OpenBrace, CloseBrace, OpenBracket, CloseBracket, Equals, Comma, Semicolon, Dot, Action, Call, Table, State, Named, Opened, Closing, Pairs, KeyOpened, KeyQuoted, Keyed, KeyEquals, Paired, Dotted, PathOpened, PathQuoted, Path, PathEquals, Step, by_name, by_text, comma, semicolon, no_pairs, Statement, call, call_table, call_text, bare_table, with_pair, step, after_name, after_paren, after_arg, after_comma, after_key_opened, after_key_quoted, after_key, after_key_equals, after_pair, after_dot, after_path_opened, after_path_quoted, after_path, after_path_equals}
+use Rattle.kt_script.specs.declared.syntax.Literal.TheVariants as literal
 use Rattle.kt_script.specs.declared.syntax.Arg.TheVariants as arg
-use Rattle.kt_script.specs.declared.syntax.Action.{Action}
-use Rattle.kt_script.specs.declared.syntax.Action.TheVariants.{Call}
-use Rattle.kt_script.specs.declared.state.Table.{Table}
-use Rattle.kt_script.specs.declared.state.State.{State}
-use Rattle.kt_script.specs.declared.state.State.TheVariants.{Named, Opened, Closing, Pairs, KeyOpened, KeyQuoted, Keyed, KeyEquals, Paired, Dotted, PathOpened, PathQuoted, Path, PathEquals}
-use Rattle.kt_script.specs.declared.state.Step.{Step}
-use Rattle.kt_script.specs.Grammar.{by_name, by_text, comma, semicolon, no_pairs, Statement, call, call_table, call_text, bare_table}
-use Rattle.kt_script.specs.Inner.Automaton.{with_pair, step, after_name, after_paren, after_arg, after_comma, after_key_opened, after_key_quoted, after_key, after_key_equals, after_pair, after_dot, after_path_opened, after_path_quoted, after_path, after_path_equals}
 use Rattle.kt_script.proofs.Ending.{closing, EndsTable, table_ends, AfterPair, pair_closes, pair_goes_on, key_goes_on, Ending, EndsFrom, closes_pair, closes_table, key_then, name_then, text_then, value_then, path_is}
 
 -- ---- steps

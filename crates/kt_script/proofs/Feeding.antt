@@ -1,12 +1,6 @@
 -- What a parser has read after one token more.
 use Rattle.std.proofs.Common.{◌≡◌, ℕ, List, [], ◌∷◌, ◌++◌, Option, Some, None, refl, ap, sym, ◌∙◌}
-use Rattle.kt_script.specs.declared.token.Token.{Token}
-use Rattle.kt_script.specs.declared.place.Place.{Place}
-use Rattle.kt_script.specs.declared.parser.Parser.{Parser}
-use Rattle.kt_script.specs.declared.syntax.Stmt.{Stmt}
-use Rattle.kt_script.specs.Faults.{after_bracket, open_lines}
-use Rattle.kt_script.specs.Inner.Automaton.{next, listed, place_of, ended_by}
-use Rattle.kt_script.specs.Inner.Reading.{HasRead}
+use Rattle.kt_script.proofs.Common.{Token, Place, Parser, Stmt, after_bracket, open_lines, next, listed, place_of, ended_by, HasRead}
 use Rattle.kt_script.proofs.Complete.{some_is}
 use Rattle.kt_script.proofs.Sound.{run-push}
 

@@ -1,24 +1,7 @@
 -- What is read of a text, and what is left of it.
-use Rattle.std.proofs.Common.{◌≡◌, ℕ, ◌+◌, ◌<◌, ◌≤◌, List, [], ◌∷◌, ◌++◌, length, take, drop, Option, Some, None, Result, Ok, Err, refl, ap, sym, ◌∙◌, subst, append_assoc, arith, length-take, length-drop}
-use Rattle.std.specs.Prelude.{IfOk, IfErr}
-use Rattle.std.proofs.lemmas.List.{append-nil, nil_from_length}
-use Rattle.kt_script.specs.declared.fault.ScriptFault.{ScriptFault}
-use Rattle.kt_script.specs.declared.fault.ScriptFault.TheVariants.{NoMemory, NotUtf8, BadToken, NotLiteral, Unclosed, TooLong}
-use Rattle.kt_script.specs.declared.token.Token.{Token}
-use Rattle.kt_script.specs.declared.token.Kind.{Kind}
-use Rattle.kt_script.specs.declared.token.Piece.{Piece}
-use Rattle.kt_script.specs.declared.place.Place.{Place}
-use Rattle.kt_script.specs.declared.place.Place.TheVariants.{Start, Whole, Within}
-use Rattle.kt_script.specs.declared.parser.Parser.{Parser}
-use Rattle.kt_script.specs.declared.state.State.{State}
-use Rattle.kt_script.specs.declared.syntax.Stmt.{Stmt}
-use Rattle.kt_script.specs.Grammar.{Script}
-use Rattle.kt_script.specs.Inner.Automaton.{run, IsResting}
-use Rattle.kt_script.specs.Faults.{IfFault, IsFaultOf, last, open_lines, end_fault}
+use Rattle.std.proofs.Common.{◌≡◌, ℕ, ◌+◌, ◌<◌, ◌≤◌, List, [], ◌∷◌, ◌++◌, length, take, drop, Option, Some, None, Result, Ok, Err, refl, ap, sym, ◌∙◌, subst, append_assoc, arith, length-take, length-drop, IfOk, IfErr}
+use Rattle.kt_script.proofs.Common.{append-nil, nil_from_length, ScriptFault, NoMemory, NotUtf8, BadToken, NotLiteral, Unclosed, TooLong, Token, Kind, Piece, Place, Start, Whole, Within, Parser, State, Stmt, Script, run, IsResting, IfFault, IsFaultOf, last, open_lines, end_fault, HasRead, IsMisfit, piece_at, tokens, tokens_in, line_past}
 use Rattle.kt_script.specs.Inner.Places.{IsWithin}
-use Rattle.kt_script.specs.Inner.Reading.{HasRead, IsMisfit}
-use Rattle.kt_script.specs.Inner.Tokens.{piece_at, tokens, tokens_in}
-use Rattle.kt_script.specs.TokenRules.{line_past}
 use Rattle.kt_script.proofs.Sound.{accepted, misfit, unfinished}
 use Rattle.kt_script.proofs.PieceTokens.{tokens-piece, tokens-end}
 

@@ -1,3 +1,4 @@
+pub mod Common
 pub mod Complete
 pub mod Ending
 pub mod EndingSteps

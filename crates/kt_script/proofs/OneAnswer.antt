@@ -1,21 +1,6 @@
 -- Each text has one answer: its statements or its fault.
-use Rattle.std.proofs.Common.{◌≡◌, ℕ, ◌≤◌, List, [], ◌∷◌, ◌++◌, length, Option, Some, None, Result, Ok, Err, refl, ap, sym, ◌∙◌, subst, append_assoc, arith, inl, inr}
-use Rattle.std.specs.Prelude.{IfOk, IsUtf8}
-use Rattle.std.specs.Str.{is_utf8}
-use Rattle.std.proofs.lemmas.Bool.{cases_lt, cases_Bool, false≢true}
-use Rattle.std.proofs.lemmas.List.{append-nil}
-use Rattle.std.proofs.lemmas.Str.{IsUtf8-from_is_utf8, is_utf8-from_IsUtf8}
-use Rattle.kt_script.specs.declared.fault.ScriptFault.{ScriptFault}
-use Rattle.kt_script.specs.declared.fault.ScriptFault.TheVariants.{NoMemory, NotUtf8, BadToken, NotLiteral, Unclosed, TooLong}
-use Rattle.kt_script.specs.declared.token.Token.{Token}
-use Rattle.kt_script.specs.declared.place.Place.{Place}
-use Rattle.kt_script.specs.declared.place.Place.TheVariants.{Start, Whole, Within}
-use Rattle.kt_script.specs.declared.syntax.Stmt.{Stmt}
-use Rattle.kt_script.specs.Grammar.{Script}
-use Rattle.kt_script.specs.Faults.{IfFault, IsFaultOf, fault_of}
-use Rattle.kt_script.specs.Inner.Automaton.{next, listed, run}
-use Rattle.kt_script.specs.Spelling.{limit, Spells, IsDue, Refuses, IsAnswer}
-use Rattle.kt_script.specs.Inner.Tokens.{tokens_of}
+use Rattle.std.proofs.Common.{◌≡◌, ℕ, ◌≤◌, List, [], ◌∷◌, ◌++◌, length, Option, Some, None, Result, Ok, Err, refl, ap, sym, ◌∙◌, subst, append_assoc, arith, inl, inr, IfOk, IsUtf8}
+use Rattle.kt_script.proofs.Common.{is_utf8, cases_lt, cases_Bool, false≢true, append-nil, IsUtf8-from_is_utf8, is_utf8-from_IsUtf8, ScriptFault, NoMemory, NotUtf8, BadToken, NotLiteral, Unclosed, TooLong, Token, Place, Start, Whole, Within, Stmt, Script, IfFault, IsFaultOf, fault_of, next, listed, run, limit, Spells, IsDue, Refuses, IsAnswer, tokens_of}
 use Rattle.kt_script.proofs.Sound.{accepted, misfit, unfinished, one_script, run-push}
 use Rattle.kt_script.proofs.OneFault.{one_fault}
 use Rattle.kt_script.proofs.OneReading.{same_tokens}

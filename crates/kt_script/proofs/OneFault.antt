@@ -1,20 +1,6 @@
 -- Tokens that are no script have one fault.
-use Rattle.std.proofs.Common.{◌≡◌, ℕ, List, [], ◌∷◌, ◌++◌, Option, Some, refl, ap, sym, ◌∙◌, subst, append_assoc, ◌⊎◌, inl, inr}
-use Rattle.std.specs.Prelude.{option_map}
-use Rattle.std.proofs.lemmas.List.{append-nil}
-use Rattle.kt_script.specs.declared.fault.ScriptFault.{ScriptFault}
-use Rattle.kt_script.specs.declared.token.Token.{Token}
-use Rattle.kt_script.specs.declared.place.Place.{Place}
-use Rattle.kt_script.specs.declared.place.Place.TheVariants.{Start, Within}
-use Rattle.kt_script.specs.declared.syntax.Stmt.{Stmt}
-use Rattle.kt_script.specs.declared.syntax.Action.{Action}
-use Rattle.kt_script.specs.declared.state.State.{State}
-use Rattle.kt_script.specs.declared.state.State.TheVariants.{Named}
-use Rattle.kt_script.specs.declared.state.Step.{Step}
-use Rattle.kt_script.specs.declared.state.Step.TheVariants.{To, Ends}
-use Rattle.kt_script.specs.Grammar.{Statement, kinds, first_line, placed, Script}
-use Rattle.kt_script.specs.Faults.{Begins, fault_of, last, open_lines, end_fault, Misfit, Unfinished, IsFaultOf}
-use Rattle.kt_script.specs.Inner.Automaton.{step, landed, listed, run, IsResting}
+use Rattle.std.proofs.Common.{◌≡◌, ℕ, List, [], ◌∷◌, ◌++◌, Option, Some, refl, ap, sym, ◌∙◌, subst, append_assoc, ◌⊎◌, inl, inr, option_map}
+use Rattle.kt_script.proofs.Common.{append-nil, ScriptFault, Token, Place, Start, Within, Stmt, Action, State, Named, Step, To, Ends, Statement, kinds, first_line, placed, Script, Begins, fault_of, last, open_lines, end_fault, Misfit, Unfinished, IsFaultOf, step, landed, listed, run, IsResting}
 use Rattle.kt_script.proofs.Complete.{walk, bind_some, joined, run-append, ends_is, name_from_resting, statement_walks, script_runs}
 use Rattle.kt_script.proofs.Standing.{Script-append, one_stmt, begins_from}
 

@@ -1,20 +1,6 @@
 -- A text has no other tokens than those that are read.
-use Rattle.std.proofs.Common.{◌≡◌, ℕ, suc, ◌+◌, ◌-◌, ◌<◌, Bool, true, false, cond, List, [], ◌∷◌, ◌++◌, length, drop, Option, Some, None, refl, ap, sym, subst, ◌∙◌, arith, length-append, eqb}
-use Rattle.std.specs.List.{prefix_len}
-use Rattle.std.proofs.Math.Seq.{take-append_seam, drop-append_seam}
-use Rattle.std.proofs.lemmas.List.{append-nil}
-use Rattle.kt_script.specs.declared.token.Flaw.{Flaw}
-use Rattle.kt_script.specs.declared.token.Kind.{Kind}
-use Rattle.kt_script.specs.declared.token.Kind.TheVariants.{OpenParen, CloseParen, OpenBrace, CloseBrace, OpenBracket, CloseBracket, Equals, Comma, Semicolon, Dot}
-use Rattle.kt_script.specs.declared.token.Token.{Token}
-use Rattle.std.specs.Prelude.{IfSome}
-use Rattle.std.proofs.lemmas.Bool.{eqb-true}
-use Rattle.kt_base.specs.Characters.{is_space}
-use Rattle.kt_script.specs.Inner.Pieces.{token, broken}
-use Rattle.kt_script.specs.Inner.Words.{begins_with_letter}
-use Rattle.kt_base.specs.Digits.{decimal_from}
-use Rattle.kt_script.specs.TokenRules.{mark_of, line_after, line_past, Blank, space, line_comment, long_comment, HasFlaw, large_number, lettered_number, endless_string, bad_escape, endless_comment, leveled_comment, lone_dash, strange, Word, a_name, a_number, a_string, a_mark, no_word, IsTokens, the_end, blank_and, word_and}
-use Rattle.kt_script.specs.Inner.Tokens.{piece_at, tokens, tokens_in}
+use Rattle.std.proofs.Common.{◌≡◌, ℕ, suc, ◌+◌, ◌-◌, ◌<◌, Bool, true, false, cond, List, [], ◌∷◌, ◌++◌, length, drop, Option, Some, None, refl, ap, sym, subst, ◌∙◌, arith, length-append, eqb, IfSome}
+use Rattle.kt_script.proofs.Common.{prefix_len, take-append_seam, drop-append_seam, append-nil, Flaw, Kind, OpenParen, CloseParen, OpenBrace, CloseBrace, OpenBracket, CloseBracket, Equals, Comma, Semicolon, Dot, Token, eqb-true, is_space, token, broken, begins_with_letter, decimal_from, mark_of, line_after, line_past, Blank, space, line_comment, long_comment, HasFlaw, large_number, lettered_number, endless_string, bad_escape, endless_comment, leveled_comment, lone_dash, strange, Word, a_name, a_number, a_string, a_mark, no_word, IsTokens, the_end, blank_and, word_and, piece_at, tokens, tokens_in}
 use Rattle.kt_script.proofs.PieceTokens.{tokens-piece}
 use Rattle.kt_script.proofs.ReadWords.{at_strange, name_is, digits_are, number_is, large_is, lettered_is}
 use Rattle.kt_script.proofs.ReadStrings.{string_is, endless_is, bad_escape_is, long_is, endless_comment_is, leveled_is, line_is, dash_is}

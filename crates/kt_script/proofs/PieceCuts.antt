@@ -1,26 +1,9 @@
 -- A piece is not empty, and the text may be cut after it.
-use Rattle.std.proofs.Common.{◌≡◌, ℕ, suc, ◌+◌, ◌-◌, ◌<◌, ◌≤◌, Bool, true, false, cond, eqb, not, ◌&&◌, ◌||◌, List, [], ◌∷◌, ◌++◌, length, take, drop, get_or, Option, Some, None, Result, Ok, Err, refl, ap, sym, subst, ◌∙◌, arith, length-drop, inl, inr}
-use Rattle.std.specs.Prelude.{IsUtf8, IfSome, IfOk, nat_eq, codes, option_map}
-use Rattle.std.specs.Str.{IsCharBoundary}
-use Rattle.std.specs.List.{prefix_len, starts_with}
-use Rattle.std.proofs.lemmas.Bool.{eqb-true, or_cases, not-false}
+use Rattle.std.proofs.Common.{◌≡◌, ℕ, suc, ◌+◌, ◌-◌, ◌<◌, ◌≤◌, Bool, true, false, cond, eqb, not, ◌&&◌, ◌||◌, List, [], ◌∷◌, ◌++◌, length, take, drop, get_or, Option, Some, None, Result, Ok, Err, refl, ap, sym, subst, ◌∙◌, arith, length-drop, inl, inr, IsUtf8, IfSome, IfOk, nat_eq, codes, option_map}
+use Rattle.kt_script.proofs.Common.{IsCharBoundary, prefix_len, starts_with, eqb-true, or_cases, not-false, get_or-drop, IsCharBoundary-end, IsCharBoundary-after_ascii, IsCharBoundary-from_rest, Flaw, Endless, Kind, OpenParen, CloseParen, OpenBrace, CloseBrace, OpenBracket, CloseBracket, Equals, Comma, Semicolon, Dot, Piece, is_space, is_letter, is_word, escape_of, is_digit, decimal_from, fits, number, begins_with_letter, with_front, escaped, string_at, decoded, quoted, closes_at, comment_at, is_level, mark_of, marked, piece_at}
 use Rattle.std.proofs.lemmas.Bool.Decides.{Decides-eqb}
-use Rattle.std.proofs.lemmas.List.{get_or-drop}
 use Rattle.std.proofs.lemmas.Slice.Eq.{starts_is}
-use Rattle.std.proofs.lemmas.Str.{IsCharBoundary-end, IsCharBoundary-after_ascii, IsCharBoundary-from_rest}
-use Rattle.kt_script.specs.declared.token.Flaw.{Flaw}
-use Rattle.kt_script.specs.declared.token.Flaw.TheVariants.{Endless}
-use Rattle.kt_script.specs.declared.token.Kind.{Kind}
-use Rattle.kt_script.specs.declared.token.Kind.TheVariants.{OpenParen, CloseParen, OpenBrace, CloseBrace, OpenBracket, CloseBracket, Equals, Comma, Semicolon, Dot}
-use Rattle.kt_script.specs.declared.token.Piece.{Piece}
-use Rattle.kt_base.specs.Characters.{is_space}
-use Rattle.kt_script.specs.Letters.{is_letter, is_word, escape_of}
-use Rattle.kt_base.specs.Digits.{is_digit, decimal_from, fits}
-use Rattle.kt_script.specs.Inner.Words.{number, begins_with_letter}
-use Rattle.kt_script.specs.Inner.Strings.{with_front, escaped, string_at, decoded, quoted}
-use Rattle.kt_script.specs.Inner.Comments.{closes_at, long_comment, comment_at}
-use Rattle.kt_script.specs.TokenRules.{is_level, mark_of}
-use Rattle.kt_script.specs.Inner.Tokens.{marked, piece_at}
+use Rattle.kt_script.specs.Inner.Comments.{long_comment}
 use Rattle.kt_script.proofs.Cuts.{passing_cut, stopping_cut, first_cut, space_small, digit_small, word_small}
 
 -- so many bytes, one or more, after which the rest is UTF-8

@@ -1,9 +1,6 @@
 -- The tokens of a text, piece by piece.
 use Rattle.std.proofs.Common.{◌≡◌, ℕ, zero, suc, ◌-◌, ◌<◌, ◌≤◌, List, [], ◌∷◌, ◌++◌, length, take, drop, refl, ap, sym, ◌∙◌, arith}
-use Rattle.kt_script.specs.declared.token.Piece.{Piece}
-use Rattle.kt_script.specs.declared.token.Token.{Token}
-use Rattle.kt_script.specs.Inner.Tokens.{piece_at, tokens, tokens_in}
-use Rattle.kt_script.specs.TokenRules.{line_after, line_past}
+use Rattle.kt_script.proofs.Common.{Piece, Token, piece_at, tokens, tokens_in, line_after, line_past}
 
 -- tokens after a piece of which n characters are left
 past_piece : (n line : ℕ) (cs : List ℕ) → n ≤ length cs → tokens line n cs ≡ tokens (line_past line (take n cs)) 0 (drop n cs)

@@ -1,19 +1,7 @@
 -- The reading of a string: what was read of it and what is left.
-use Rattle.std.proofs.Common.{◌≡◌, ℕ, zero, suc, ◌+◌, ◌-◌, ◌<◌, ◌≤◌, Bool, true, false, cond, eqb, not, ◌&&◌, ◌||◌, List, [], ◌∷◌, ◌++◌, length, take, drop, Option, Some, None, Ok, Err, refl, ap, sym, ◌∙◌, subst, arith, length-drop, inl, inr}
-use Rattle.std.specs.Prelude.{IsUtf8, chars}
-use Rattle.std.specs.Str.{IsAscii, IsCharBoundary}
-use Rattle.std.specs.List.{prefix_len}
-use Rattle.std.proofs.lemmas.Bool.{and_cases, not-false, eqb-true, or_cases}
-use Rattle.std.proofs.lemmas.List.{append-nil}
-use Rattle.std.proofs.lemmas.List.Sums.{prefix_len-le-length}
-use Rattle.std.proofs.lemmas.Str.{chars-nil, chars-append, chars-IsAscii, IsUtf8-nil, IsUtf8-append, IsUtf8-from_ascii, IsUtf8-take, IsUtf8-drop, IsCharBoundary-after_ascii}
+use Rattle.std.proofs.Common.{◌≡◌, ℕ, zero, suc, ◌+◌, ◌-◌, ◌<◌, ◌≤◌, Bool, true, false, cond, eqb, not, ◌&&◌, ◌||◌, List, [], ◌∷◌, ◌++◌, length, take, drop, Option, Some, None, Ok, Err, refl, ap, sym, ◌∙◌, subst, arith, length-drop, inl, inr, IsUtf8}
+use Rattle.kt_script.proofs.Common.{chars, IsAscii, IsCharBoundary, prefix_len, and_cases, not-false, eqb-true, or_cases, append-nil, prefix_len-le-length, chars-nil, chars-append, chars-IsAscii, IsUtf8-nil, IsUtf8-append, IsUtf8-from_ascii, IsUtf8-take, IsUtf8-drop, IsCharBoundary-after_ascii, Flaw, Endless, Stop, Quote, Escape, Flawed, with_front, escape_stop, escape_at, stop_at, string_at, decoded, escape_of, is_plain}
 use Rattle.kt_script.proofs.Cuts.{stopping_cut_at}
-use Rattle.kt_script.specs.declared.token.Flaw.{Flaw}
-use Rattle.kt_script.specs.declared.token.Flaw.TheVariants.{Endless}
-use Rattle.kt_script.specs.declared.quotation.Stop.{Stop}
-use Rattle.kt_script.specs.declared.quotation.Stop.TheVariants.{Quote, Escape, Flawed}
-use Rattle.kt_script.specs.Inner.Strings.{with_front, escape_stop, escape_at, stop_at, string_at, decoded}
-use Rattle.kt_script.specs.Letters.{escape_of, is_plain}
 use Rattle.kt_script.proofs.StringRuns.{with_front_twice, with_front_none, plain_run, no_more, after_stop, stops}
 
 -- ---- the reading of a string

@@ -1,18 +1,8 @@
 -- The bytes of a string or a comment are the piece that is read there.
-use Rattle.std.proofs.Common.{◌≡◌, ℕ, suc, ◌+◌, Bool, true, false, cond, eqb, ◌&&◌, List, [], ◌∷◌, ◌++◌, length, Option, Some, None, Result, Ok, Err, refl, ap, sym, ◌∙◌, arith, append_assoc, length-append}
-use Rattle.std.specs.Prelude.{nat_eq, codes, option_map, chars}
-use Rattle.std.specs.List.{prefix_len, starts_with}
-use Rattle.std.proofs.lemmas.Bool.{eqb-true, eq-eqb, not-false}
-use Rattle.std.proofs.lemmas.List.{append-nil}
-use Rattle.kt_script.specs.declared.token.Flaw.{Flaw}
-use Rattle.kt_script.specs.declared.token.Flaw.TheVariants.{Bad, Leveled, Endless}
-use Rattle.kt_script.specs.declared.token.Kind.TheVariants.{Quoted}
-use Rattle.kt_script.specs.Inner.Pieces.{blank, token, broken}
-use Rattle.kt_script.specs.Inner.Strings.{with_front, escaped, string_at, decoded, quoted}
-use Rattle.kt_script.specs.Letters.{escape_of}
-use Rattle.kt_script.specs.Inner.Comments.{closes_at, long_comment, comment_at}
-use Rattle.kt_script.specs.Inner.Tokens.{piece_at}
-use Rattle.kt_script.specs.TokenRules.{Each, StopsAt, is_quote, in_line, Inside, nothing, itself, escape, NoEscape, Closes, closed, not_yet, NeverCloses, opens_long, opens_level}
+use Rattle.std.proofs.Common.{◌≡◌, ℕ, suc, ◌+◌, Bool, true, false, cond, eqb, ◌&&◌, List, [], ◌∷◌, ◌++◌, length, Option, Some, None, Result, Ok, Err, refl, ap, sym, ◌∙◌, arith, append_assoc, length-append, nat_eq, codes, option_map}
+use Rattle.kt_script.proofs.Common.{chars, prefix_len, starts_with, eqb-true, eq-eqb, not-false, append-nil, Flaw, Bad, Leveled, Endless, Quoted, blank, token, broken, with_front, escaped, string_at, decoded, quoted, escape_of, closes_at, comment_at, piece_at, Each, StopsAt, is_quote, in_line, Inside, nothing, itself, escape, NoEscape, Closes, not_yet, NeverCloses, opens_long, opens_level}
+use Rattle.kt_script.specs.Inner.Comments.{long_comment}
+use Rattle.kt_script.specs.TokenRules.{closed}
 use Rattle.kt_script.proofs.StringRuns.{with_front_twice, with_front_none, plain_is}
 use Rattle.kt_script.proofs.ReadWords.{quote_range, not_so, each_run, at_quote, at_dash}
 

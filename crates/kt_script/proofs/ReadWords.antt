@@ -1,19 +1,6 @@
 -- The bytes of a name or a number are the piece that is read there.
 use Rattle.std.proofs.Common.{◌≡◌, ℕ, suc, ◌+◌, ◌<◌, ◌≤◌, ◌^◌, Bool, true, false, cond, eqb, leb, ◌&&◌, ◌||◌, List, [], ◌∷◌, ◌++◌, length, take, drop, Some, None, refl, ap, sym, ◌∙◌, arith, inl, inr}
-use Rattle.std.specs.List.{prefix_len}
-use Rattle.std.proofs.Math.Seq.{take-append_seam, drop-append_seam}
-use Rattle.std.proofs.lemmas.Bool.{eqb-true, leb-true, and_parts, or_cases, le-ltb, lt-ltb}
-use Rattle.kt_script.specs.declared.token.Flaw.TheVariants.{Bad}
-use Rattle.kt_script.specs.declared.token.Kind.TheVariants.{Number}
-use Rattle.kt_base.specs.Characters.{is_space}
-use Rattle.kt_script.specs.Letters.{is_letter, is_word}
-use Rattle.kt_base.specs.Digits.{is_digit, decimal_from, fits}
-use Rattle.kt_script.specs.Inner.Pieces.{token, broken}
-use Rattle.kt_script.specs.TokenRules.{word, Each, StopsAt, is_quote, IsStrange}
-use Rattle.kt_script.specs.Inner.Words.{name_at, number, number_at, begins_with_letter}
-use Rattle.kt_script.specs.Inner.Strings.{quoted_at}
-use Rattle.kt_script.specs.Inner.Comments.{comment_at}
-use Rattle.kt_script.specs.Inner.Tokens.{piece_at}
+use Rattle.kt_script.proofs.Common.{prefix_len, take-append_seam, drop-append_seam, eqb-true, leb-true, and_parts, or_cases, le-ltb, lt-ltb, Bad, Number, is_space, is_letter, is_word, is_digit, decimal_from, fits, token, broken, word, Each, StopsAt, is_quote, IsStrange, name_at, number, number_at, begins_with_letter, quoted_at, comment_at, piece_at}
 
 -- ---- classes
 

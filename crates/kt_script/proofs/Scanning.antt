@@ -1,7 +1,6 @@
 -- What is read of a text is what was read before, and then the rest.
-use Rattle.std.proofs.Common.{◌≡◌, ℕ, ◌+◌, List, length}
-use Rattle.std.specs.Prelude.{option_map}
-use Rattle.kt_script.specs.Inner.Comments.{closes_at}
+use Rattle.std.proofs.Common.{◌≡◌, ℕ, ◌+◌, List, length, option_map}
+use Rattle.kt_script.proofs.Common.{closes_at}
 
 -- ---- the end of a comment
 

@@ -1,16 +1,7 @@
 -- Each text has tokens by the rules, and they are those that are read.
-use Rattle.std.proofs.Common.{◌≡◌, ℕ, zero, suc, ◌≤◌, Bool, true, false, eqb, ◌&&◌, List, [], ◌∷◌, ◌++◌, length, drop, Option, Some, None, refl, ap, sym, subst, ◌∙◌, arith, length-append, ◌⊎◌, inl, inr}
-use Rattle.std.specs.Prelude.{nat_eq, codes}
-use Rattle.std.specs.List.{starts_with}
-use Rattle.std.proofs.lemmas.Bool.{cases_Bool, eqb-true}
-use Rattle.kt_script.specs.declared.token.Flaw.TheVariants.{Bad, Leveled, Endless}
-use Rattle.kt_script.specs.declared.token.Kind.{Kind}
-use Rattle.kt_script.specs.declared.token.Token.{Token}
-use Rattle.kt_base.specs.Characters.{is_space}
-use Rattle.kt_script.specs.Letters.{is_letter}
-use Rattle.kt_base.specs.Digits.{is_digit}
-use Rattle.kt_script.specs.TokenRules.{mark_of, line_past, is_quote, in_line, Closes, closed, not_yet, NeverCloses, opens_long, opens_level, space, line_comment, long_comment, endless_comment, leveled_comment, lone_dash, strange, a_mark, IsTokens, the_end, blank_and, word_and}
-use Rattle.kt_script.specs.Inner.Tokens.{tokens}
+use Rattle.std.proofs.Common.{◌≡◌, ℕ, zero, suc, ◌≤◌, Bool, true, false, eqb, ◌&&◌, List, [], ◌∷◌, ◌++◌, length, drop, Option, Some, None, refl, ap, sym, subst, ◌∙◌, arith, length-append, ◌⊎◌, inl, inr, nat_eq, codes}
+use Rattle.kt_script.proofs.Common.{starts_with, cases_Bool, eqb-true, Bad, Leveled, Endless, Kind, Token, is_space, is_letter, is_digit, mark_of, line_past, is_quote, in_line, Closes, not_yet, NeverCloses, opens_long, opens_level, space, line_comment, long_comment, endless_comment, leveled_comment, lone_dash, strange, a_mark, IsTokens, the_end, blank_and, word_and, tokens}
+use Rattle.kt_script.specs.TokenRules.{closed}
 use Rattle.kt_script.proofs.PieceCuts.{begins_with}
 use Rattle.kt_script.proofs.OneReading.{one_reading}
 use Rattle.kt_script.proofs.WordsFirst.{BlankFirst, WordFirst, run, flawed, name_first, number_then, quotation, string_first}

@@ -1,15 +1,6 @@
 -- Where the code's steps lead, a script is or begins; where they don't go on, none does.
-use Rattle.std.proofs.Common.{◌≡◌, ℕ, List, [], ◌∷◌, ◌++◌, Option, Some, None, refl, ap, sym, ◌∙◌, subst, append_assoc, inl, inr}
-use Rattle.std.specs.Prelude.{option_map}
-use Rattle.std.proofs.lemmas.List.{append-nil}
-use Rattle.kt_script.specs.declared.token.Token.{Token}
-use Rattle.kt_script.specs.declared.place.Place.{Place}
-use Rattle.kt_script.specs.declared.place.Place.TheVariants.{Start, Whole, Within}
-use Rattle.kt_script.specs.declared.syntax.Stmt.{Stmt}
-use Rattle.kt_script.specs.declared.state.State.{State}
-use Rattle.kt_script.specs.Grammar.{Script}
-use Rattle.kt_script.specs.Faults.{fault_of, last, open_lines, end_fault, IsFaultOf}
-use Rattle.kt_script.specs.Inner.Automaton.{step, next, listed, run, IsResting}
+use Rattle.std.proofs.Common.{◌≡◌, ℕ, List, [], ◌∷◌, ◌++◌, Option, Some, None, refl, ap, sym, ◌∙◌, subst, append_assoc, inl, inr, option_map}
+use Rattle.kt_script.proofs.Common.{append-nil, Token, Place, Start, Whole, Within, Stmt, State, Script, fault_of, last, open_lines, end_fault, IsFaultOf, step, next, listed, run, IsResting}
 use Rattle.kt_script.proofs.Complete.{some_is, joined, run-append, script_runs}
 use Rattle.kt_script.proofs.Standing.{Stands, whole_script, from_start, finished, stands_begins}
 

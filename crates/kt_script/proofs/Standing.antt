@@ -1,21 +1,6 @@
 -- What holds where tokens have led to a place: a script is done, or a statement has begun.
-use Rattle.std.proofs.Common.{◌≡◌, ℕ, List, [], ◌∷◌, ◌++◌, Option, Some, None, refl, ap, sym, ◌∙◌, subst, append_assoc, ◌⊎◌, inl, inr}
-use Rattle.std.specs.Prelude.{option_map, IfSome}
-use Rattle.std.proofs.lemmas.List.{append-nil}
-use Rattle.kt_script.specs.declared.token.Token.{Token}
-use Rattle.kt_script.specs.declared.token.Kind.{Kind}
-use Rattle.kt_script.specs.declared.token.Kind.TheVariants.{Name, Semicolon}
-use Rattle.kt_script.specs.declared.place.Place.{Place}
-use Rattle.kt_script.specs.declared.place.Place.TheVariants.{Start, Whole, Within}
-use Rattle.kt_script.specs.declared.syntax.Stmt.{Stmt}
-use Rattle.kt_script.specs.declared.syntax.Action.{Action}
-use Rattle.kt_script.specs.declared.state.State.{State}
-use Rattle.kt_script.specs.declared.state.State.TheVariants.{Named}
-use Rattle.kt_script.specs.declared.state.Step.{Step}
-use Rattle.kt_script.specs.declared.state.Step.TheVariants.{To, Ends}
-use Rattle.kt_script.specs.Grammar.{Statement, kinds, placed, Script, no_stmts, stmt_and, ended_and}
-use Rattle.kt_script.specs.Faults.{Begins}
-use Rattle.kt_script.specs.Inner.Automaton.{step, begin, go_on, next, landed, listed, run}
+use Rattle.std.proofs.Common.{◌≡◌, ℕ, List, [], ◌∷◌, ◌++◌, Option, Some, None, refl, ap, sym, ◌∙◌, subst, append_assoc, ◌⊎◌, inl, inr, option_map, IfSome}
+use Rattle.kt_script.proofs.Common.{append-nil, Token, Kind, Name, Semicolon, Place, Start, Whole, Within, Stmt, Action, State, Named, Step, To, Ends, Statement, kinds, placed, Script, no_stmts, stmt_and, ended_and, Begins, step, begin, go_on, next, landed, listed, run}
 use Rattle.kt_script.proofs.Complete.{bind_some, map_some, some_is, joined}
 use Rattle.kt_script.proofs.Ending.{Ending, EndsFrom}
 use Rattle.kt_script.proofs.EndingSteps.{step_goes, some_end}

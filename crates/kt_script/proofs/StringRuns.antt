@@ -1,12 +1,6 @@
 -- A string, run by run of bytes that stand for themselves.
 use Rattle.std.proofs.Common.{◌≡◌, ℕ, suc, ◌+◌, Bool, true, false, cond, eqb, not, ◌&&◌, List, [], ◌∷◌, ◌++◌, take, drop, Option, Some, None, Result, Ok, Err, refl, ap, sym, ◌∙◌, subst, append_assoc, arith, inl, inr}
-use Rattle.std.specs.List.{prefix_len}
-use Rattle.std.proofs.lemmas.Bool.{cases_Bool, and_parts, not-true, eqb-true}
-use Rattle.kt_script.specs.declared.token.Flaw.{Flaw}
-use Rattle.kt_script.specs.declared.quotation.Stop.{Stop}
-use Rattle.kt_script.specs.declared.quotation.Stop.TheVariants.{Quote, Escape, Flawed}
-use Rattle.kt_script.specs.Inner.Strings.{with_front, escaped, escape_stop, escape_at, stop_at, string_at}
-use Rattle.kt_script.specs.Letters.{escape_of, is_plain}
+use Rattle.kt_script.proofs.Common.{prefix_len, cases_Bool, and_parts, not-true, eqb-true, Flaw, Stop, Quote, Escape, Flawed, with_front, escaped, escape_stop, escape_at, stop_at, string_at, escape_of, is_plain}
 
 pub with_front_twice : (xs ys : List ℕ) (n m : ℕ) (r : Result (List ℕ × ℕ) Flaw) → with_front xs n (with_front ys m r) ≡ with_front (xs ++ ys) (n + m) r
 with_front_twice xs ys n m (Ok x) =

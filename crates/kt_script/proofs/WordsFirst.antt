@@ -1,14 +1,6 @@
 -- What a text begins with, where that is a name, a number or a string.
 use Rattle.std.proofs.Common.{◌≡◌, ℕ, ◌<◌, ◌^◌, Bool, true, false, eqb, not, ◌||◌, List, [], ◌∷◌, ◌++◌, length, Option, Some, None, refl, ap, sym, subst, ◌∙◌, arith, append_assoc, inl, inr}
-use Rattle.std.proofs.lemmas.Bool.{cases_Bool, cases_lt, eqb-true}
-use Rattle.std.proofs.lemmas.List.{append-nil}
-use Rattle.kt_script.specs.declared.token.Flaw.{Flaw}
-use Rattle.kt_script.specs.declared.token.Flaw.TheVariants.{Bad, Endless}
-use Rattle.kt_script.specs.declared.token.Kind.{Kind}
-use Rattle.kt_script.specs.declared.token.Kind.TheVariants.{Broken}
-use Rattle.kt_script.specs.Letters.{is_letter, is_word, escape_of, is_plain}
-use Rattle.kt_base.specs.Digits.{is_digit, decimal_from}
-use Rattle.kt_script.specs.TokenRules.{Each, StopsAt, is_quote, in_line, Inside, nothing, itself, escape, NoEscape, Blank, HasFlaw, large_number, lettered_number, endless_string, bad_escape, Word, a_name, a_number, a_string, no_word}
+use Rattle.kt_script.proofs.Common.{cases_Bool, cases_lt, eqb-true, append-nil, Flaw, Bad, Endless, Kind, Broken, is_letter, is_word, escape_of, is_plain, is_digit, decimal_from, Each, StopsAt, is_quote, in_line, Inside, nothing, itself, escape, NoEscape, Blank, HasFlaw, large_number, lettered_number, endless_string, bad_escape, Word, a_name, a_number, a_string, no_word}
 
 -- ---- what a text begins with
 

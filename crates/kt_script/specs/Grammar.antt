@@ -5,8 +5,8 @@ use Rattle.kt_script.specs.declared.token.Kind.{Kind}
 use Rattle.kt_script.specs.declared.token.Kind.TheVariants.{Name, Quoted, Number, Truth, OpenParen, CloseParen, OpenBrace, CloseBrace, OpenBracket, CloseBracket, Equals, Comma, Semicolon, Dot}
 use Rattle.kt_script.specs.declared.syntax.Pair.{Pair}
 use Rattle.kt_script.specs.declared.syntax.Stmt.{Stmt}
-use Rattle.kt_script.specs.declared.literal.Literal.{Literal}
-use Rattle.kt_script.specs.declared.literal.Literal.TheVariants as literal
+use Rattle.kt_script.specs.declared.syntax.Literal.{Literal}
+use Rattle.kt_script.specs.declared.syntax.Literal.TheVariants as literal
 use Rattle.kt_script.specs.declared.syntax.Arg.TheVariants.{Value, Table}
 use Rattle.kt_script.specs.declared.syntax.Action.{Action}
 use Rattle.kt_script.specs.declared.syntax.Action.TheVariants.{Call, Assign}

@@ -1,3 +1,4 @@
+pub mod Common
 pub mod Letters
 pub mod Grammar
 pub mod Faults

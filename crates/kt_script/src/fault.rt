@@ -25,8 +25,7 @@ pub enum ScriptFault {
 impl ScriptFault {
     ghost use Rattle.kt_script.specs.FaultWords.{script_words};
 
-    /// The words of the fault's line (this profile), which prints the line number itself. `Display`
-    /// prints them.
+    /// The words of the fault's line (this profile), which prints the line number itself. `Display` prints them.
     pub fn words(&self) -> &'static str
         ensures { result.now ≡ script_words self.now }
     {

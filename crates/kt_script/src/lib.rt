@@ -1,10 +1,8 @@
 //! The literal profile of Lua: scripts of calls and assignments with literal values.
 #![tactic(auto)]
 
-mod comment;
 mod fault;
 mod lexer;
-mod literal;
 mod parser;
 mod place;
 mod quotation;
@@ -15,6 +13,5 @@ mod token;
 mod words;
 
 pub use fault::ScriptFault;
-pub use literal::Literal;
 pub use script::{law_of_one_answer, law_of_tokens, parse};
-pub use syntax::{Action, Arg, Pair, Stmt};
+pub use syntax::{Action, Arg, Literal, Pair, Stmt};

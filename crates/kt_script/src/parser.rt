@@ -4,10 +4,9 @@ ghost use Rattle.std.specs.Prelude.{◌≡◌, ℕ, List, [], ◌∷◌, ◌++�
 ghost use Rattle.kt_script.specs.Inner.Automaton.{next, IsResting};
 ghost use Rattle.kt_script.specs.Faults.{IfFault, fault_of, last, after_bracket, end_fault};
 
-use crate::fault::ScriptFault;
 use crate::place::Place;
-use crate::syntax::Stmt;
 use crate::token::{Kind, Token};
+use crate::{ScriptFault, Stmt};
 use kt_base::{Items, NoMemory};
 use std::alloc::Global;
 
@@ -34,10 +33,7 @@ pub struct Parser {
 }
 
 impl Parser {
-    ghost use Rattle.kt_script.specs.Inner.Reading.{HasRead};
-    ghost use Rattle.kt_script.specs.Inner.Places.{IsWithin};
-    ghost use Rattle.kt_script.specs.declared.place.Place.TheVariants.{Start};
-    ghost use Rattle.kt_script.specs.declared.token.Token.{Token};
+    ghost use Rattle.kt_script.specs.Common.{HasRead, IsWithin, Start, Token};
 
     pub fn new(alloc: Global) -> Self
         ensures { HasRead Start result [] }

@@ -3,8 +3,8 @@
 ghost use Rattle.std.specs.Prelude.{◌≡◌, ◌++◌, IfOk, OnOk, MatchOption};
 ghost use Rattle.kt_script.specs.Inner.Automaton.{begin, go_on, next, place_of, ended_by, IsResting};
 
+use crate::Stmt;
 use crate::state::{State, Step};
-use crate::syntax::Stmt;
 use crate::token::{Kind, Token};
 use kt_base::{Items, NoMemory};
 use std::alloc::Global;
@@ -52,8 +52,7 @@ impl Place {
         }
     }
 
-    /// Where a token leads, or `None` if it doesn't fit. A statement that it ends is appended to
-    /// the list.
+    /// Where a token leads, or `None` if it doesn't fit. A statement that it ends is appended to the list.
     pub fn next(
         self,
         alloc: Global,

@@ -1,24 +1,11 @@
 //! Strings.
 
 ghost use Rattle.std.specs.Prelude.{◌≡◌, ℕ, ◌+◌, ◌<◌, ◌≤◌, ◌∷◌, false, length, drop, IfOk};
-ghost use Rattle.std.specs.Str.{IsCharBoundary};
-ghost use Rattle.std.specs.List.{prefix_len};
-ghost use Rattle.kt_script.specs.Letters.{is_plain, escape_of};
-ghost use Rattle.kt_script.specs.Inner.Strings.{stop_at, escape_at, string_at, decoded, quoted_at};
+ghost use Rattle.kt_script.specs.Common.{IsCharBoundary, prefix_len, is_plain, escape_of, stop_at, escape_at, string_at, decoded, quoted_at};
 
-use crate::token::{Flaw, Kind, Piece};
+use crate::token::{Flaw, Kind, Piece, Stop};
 use kt_base::{NoMemory, Text};
 use std::alloc::Global;
-
-/// What ends a run of bytes that stand for themselves.
-#[derive(Drop)]
-enum Stop {
-    /// The string's last quote.
-    Quote,
-    /// A backslash and the byte after it, which stand for this character.
-    Escape(char),
-    Flawed(Flaw),
-}
 
 fn escape(c: u8) -> Option<char>
     ensures { result ≡ escape_of c }
@@ -68,8 +55,7 @@ fn escape_stop(text: &[u8]) -> Stop
     }
 }
 
-/// The text of a string after its first quote, and how many bytes it takes, including its last
-/// quote.
+/// The text of a string after its first quote, and how many bytes it takes, including its last quote.
 fn string(alloc: Global, quote: u8, text: &str) -> Result<Result<(Text, usize), Flaw>, NoMemory>
     requires { quote < 128 }
     ensures value { IfOk result (λ read. read ≡ decoded (string_at quote false text.now)) }

@@ -1,22 +1,13 @@
 //! The reading of a script.
 
 ghost use Rattle.std.specs.Prelude.{◌≡◌, ◌+◌, ◌≤◌, ◌<◌, ◌^◌, ◌++◌, List, length, IfOk, Result};
-ghost use Rattle.kt_script.specs.Faults.{IfFault, IsFaultOf};
-ghost use Rattle.kt_script.specs.Grammar.{Script};
-ghost use Rattle.kt_script.specs.Inner.Tokens.{tokens, tokens_in};
-ghost use Rattle.kt_script.specs.TokenRules.{line_past, IsTokens};
-ghost use Rattle.kt_script.specs.Spelling.{limit, Spells, IsDue, Answers, Refuses, IsAnswer};
-ghost use Rattle.kt_script.specs.declared.fault.ScriptFault.{ScriptFault};
-ghost use Rattle.kt_script.specs.Inner.Reading.{HasRead, IsMisfit};
-ghost use Rattle.kt_script.specs.declared.syntax.Stmt.{Stmt};
-ghost use Rattle.kt_script.specs.declared.token.Token.{Token};
+ghost use Rattle.kt_script.specs.Common.{IfFault, IsFaultOf, Script, tokens, tokens_in, line_past, IsTokens, limit, Spells, IsDue, Answers, Refuses, IsAnswer, ScriptFault, HasRead, IsMisfit, Stmt, Token};
 
-use crate::fault::ScriptFault;
 use crate::lexer::next_piece;
 use crate::parser::Parser;
 use crate::place::Place;
-use crate::syntax::Stmt;
 use crate::token::{Kind, Token};
+use crate::{ScriptFault, Stmt};
 use kt_base::Items;
 use std::alloc::Global;
 
@@ -75,8 +66,7 @@ fn statements(alloc: Global, text: &str) -> Result<Items<Stmt>, ScriptFault>
     parser.finish(&place)
 }
 
-/// The statements that a text spells: calls and assignments of Lua whose values are written out
-/// (kyuafile(5)).
+/// The statements that a text spells: calls and assignments of Lua whose values are written out (kyuafile(5)).
 pub fn parse(alloc: Global, text: &[u8]) -> Result<Items<Stmt>, ScriptFault>
     // An accepted text spells these statements.
     ensures accepted { IfOk result (λ stmts. Spells text.now stmts) }

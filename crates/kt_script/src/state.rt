@@ -3,9 +3,8 @@
 ghost use Rattle.std.specs.Prelude.{◌≡◌, [], ◌∷◌, ◌++◌, IfOk};
 ghost use Rattle.kt_script.specs.Inner.Automaton.{value_of, after_name, after_paren, after_arg, closed, after_comma, after_key_opened, after_key_quoted, after_key, after_key_equals, after_pair, after_dot, after_path_opened, after_path_quoted, after_path, after_path_equals, step};
 
-use crate::literal::Literal;
-use crate::syntax::{Action, Arg, Pair};
 use crate::token::Kind;
+use crate::{Action, Arg, Literal, Pair};
 use kt_base::{Items, NoMemory, Text};
 use std::alloc::Global;
 

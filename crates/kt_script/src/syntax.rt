@@ -1,5 +1,34 @@
-use crate::literal::Literal;
-use kt_base::{Items, Text};
+ghost use Rattle.std.specs.Prelude.{◌≡◌, IfOk};
+
+use kt_base::{Items, NoMemory, Text};
+use std::alloc::Global;
+
+/// A literal value: a string, a number or a truth value (kyuafile(5)).
+#[derive(Debug, Drop)]
+pub enum Literal {
+    /// The characters of a string, its escapes replaced.
+    Text(Text),
+    /// A decimal number, 0 to 2^64 - 1.
+    Number(u64),
+    /// `true` or `false`.
+    Truth(bool),
+}
+
+impl Literal {
+    ghost use Rattle.kt_script.specs.LiteralText.{text_of};
+
+    /// The value as a property's text (this profile): `007` is `7`, and a truth value is its word.
+    pub fn text(&self, alloc: Global) -> Result<Text, NoMemory>
+        ensures { IfOk result (λ text. text ≡ text_of self.now) }
+    {
+        match self {
+            Literal::Text(text) => text.copy(),
+            Literal::Number(number) => Text::from_number(alloc, *number),
+            Literal::Truth(true) => Text::from_str(alloc, "true"),
+            Literal::Truth(false) => Text::from_str(alloc, "false"),
+        }
+    }
+}
 
 /// A pair of a table.
 #[derive(Debug, Drop)]

@@ -1,6 +1,6 @@
 ghost use Rattle.std.specs.Prelude.{◌≡◌, ℕ, length};
 
-use crate::fault::ScriptFault;
+use crate::ScriptFault;
 use kt_base::Text;
 
 /// What is wrong with a token by itself.
@@ -88,4 +88,14 @@ impl Piece {
     {
         Piece::token(text.len(), Kind::Broken(flaw))
     }
+}
+
+/// What ends a run of bytes that stand for themselves.
+#[derive(Drop)]
+pub(crate) enum Stop {
+    /// The string's last quote.
+    Quote,
+    /// A backslash and the byte after it, which stand for this character.
+    Escape(char),
+    Flawed(Flaw),
 }

@@ -1,12 +1,7 @@
 //! Names and numbers.
 
 ghost use Rattle.std.specs.Prelude.{◌≡◌, ℕ, ◌+◌, ◌<◌, ◌≤◌, length, IfOk, take, drop};
-ghost use Rattle.std.specs.List.{prefix_len};
-ghost use Rattle.kt_script.specs.Letters.{is_letter, is_word};
-ghost use Rattle.kt_base.specs.Digits.{decimal_from, fits};
-ghost use Rattle.kt_script.specs.TokenRules.{word};
-ghost use Rattle.kt_script.specs.Inner.Words.{begins_with_letter, name_at, number_at};
-ghost use Rattle.kt_base.specs.Characters.{is_space};
+ghost use Rattle.kt_script.specs.Common.{prefix_len, is_letter, is_word, decimal_from, fits, word, begins_with_letter, name_at, number_at, is_space};
 
 use crate::token::{Flaw, Kind, Piece};
 use kt_base::{NoMemory, Text, decimal_up_to, digits_length, is_digit};

@@ -6,8 +6,8 @@ use Rattle.kt_script.specs.declared.token.Token.{Token}
 use Rattle.kt_script.specs.declared.place.Place.{Place}
 use Rattle.kt_script.specs.declared.place.Place.TheVariants.{Start, Whole, Within}
 use Rattle.kt_script.specs.declared.syntax.Stmt.{Stmt}
-use Rattle.kt_script.specs.declared.literal.Literal.{Literal}
-use Rattle.kt_script.specs.declared.literal.Literal.TheVariants as literal
+use Rattle.kt_script.specs.declared.syntax.Literal.{Literal}
+use Rattle.kt_script.specs.declared.syntax.Literal.TheVariants as literal
 use Rattle.kt_script.specs.declared.syntax.Arg.TheVariants as arg
 use Rattle.kt_script.specs.declared.syntax.Action.{Action}
 use Rattle.kt_script.specs.declared.syntax.Action.TheVariants.{Call, Assign}

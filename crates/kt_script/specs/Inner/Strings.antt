@@ -4,8 +4,8 @@ use Rattle.kt_script.specs.declared.token.Flaw.{Flaw}
 use Rattle.kt_script.specs.declared.token.Flaw.TheVariants.{Bad, Endless}
 use Rattle.kt_script.specs.declared.token.Kind.TheVariants.{Quoted}
 use Rattle.kt_script.specs.declared.token.Piece.{Piece}
-use Rattle.kt_script.specs.declared.quotation.Stop.{Stop}
-use Rattle.kt_script.specs.declared.quotation.Stop.TheVariants as stop
+use Rattle.kt_script.specs.declared.token.Stop.{Stop}
+use Rattle.kt_script.specs.declared.token.Stop.TheVariants as stop
 use Rattle.kt_script.specs.Letters.{escape_of}
 use Rattle.kt_script.specs.Inner.Pieces.{token, broken}
 

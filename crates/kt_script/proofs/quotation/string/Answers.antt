@@ -1,5 +1,5 @@
 use Rattle.std.proofs.Common.{refl, sym, subst}
-use Rattle.kt_script.specs.declared.quotation.Stop.TheVariants.{Quote, Escape, Flawed}
+use Rattle.kt_script.proofs.Common.{Quote, Escape, Flawed}
 use Rattle.kt_script.proofs.Quotations.{ReadsOn, comes_to, begins, plain_cut, escape_cut, reads_escape, reads_end, reads_flaw}
 use Rattle.kt_script.proofs.quotation.string.Goals as goal
 

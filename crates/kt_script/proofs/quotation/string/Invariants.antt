@@ -1,6 +1,5 @@
 use Rattle.std.proofs.Common.{length}
-use denote.Text.{Utf8}
-use denote.Shadow.{shadow}
+use Rattle.kt_script.proofs.Common.{Utf8, shadow}
 use Rattle.kt_script.proofs.Quotations.{ReadsOn}
 use Rattle.kt_script.proofs.quotation.string.Given as goal
 

@@ -1,4 +1,4 @@
-use Rattle.kt_script.specs.Inner.Tokens.{tokens_of}
+use Rattle.kt_script.proofs.Common.{tokens_of}
 use Rattle.kt_script.proofs.OneReading.{same_tokens}
 use Rattle.kt_script.proofs.SomeReading.{some_reading}
 use Rattle.kt_script.proofs.script.law_of_tokens.Goals as goal

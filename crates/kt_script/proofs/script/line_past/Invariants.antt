@@ -1,5 +1,5 @@
 use Rattle.std.proofs.Common.{◌≡◌, ◌+◌, ◌≤◌, drop}
-use Rattle.kt_script.specs.TokenRules.{line_past}
+use Rattle.kt_script.proofs.Common.{line_past}
 use Rattle.kt_script.proofs.script.line_past.Given as goal
 
 abbrev pub invariant-loop-c : goal.invariant-loop-c

@@ -1,10 +1,6 @@
-use Rattle.std.proofs.Common.{◌≡◌, List, take, arith, length, ap, subst, sym, ◌∙◌}
-use Rattle.std.specs.Prelude.{IsUtf8}
-use Rattle.std.proofs.lemmas.Str.{IsUtf8-drop}
+use Rattle.std.proofs.Common.{◌≡◌, List, take, arith, length, ap, subst, sym, ◌∙◌, IsUtf8}
+use Rattle.kt_script.proofs.Common.{IsUtf8-drop, line_past, Place, Stmt}
 use Rattle.std.proofs.lemmas.Result.{err_from_is_err_and}
-use Rattle.kt_script.specs.TokenRules.{line_past}
-use Rattle.kt_script.specs.declared.place.Place.{Place}
-use Rattle.kt_script.specs.declared.syntax.Stmt.{Stmt}
 use Rattle.kt_script.proofs.PieceCuts.{piece_cut_of}
 use Rattle.kt_script.proofs.Going.{goes_on, stops, ends_ok, ends_fault, none_left}
 use Rattle.kt_script.proofs.script.statements.Goals as goal

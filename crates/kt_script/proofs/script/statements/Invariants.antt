@@ -1,6 +1,5 @@
 use Rattle.std.proofs.Common.{length}
-use denote.Text.{Utf8}
-use denote.Shadow.{shadow}
+use Rattle.kt_script.proofs.Common.{Utf8, shadow}
 use Rattle.kt_script.proofs.Going.{GoesOn}
 use Rattle.kt_script.proofs.script.statements.Given as goal
 

@@ -1,4 +1,4 @@
-use Rattle.kt_script.specs.Letters.{is_word}
+use Rattle.kt_script.proofs.Common.{is_word}
 use Rattle.kt_script.proofs.Cuts.{word_small, passing_cut_at}
 use Rattle.kt_script.proofs.words.name.Goals as goal
 

@@ -1,7 +1,5 @@
 use Rattle.std.proofs.Common.{◌≡◌, None, refl, sym, ◌∙◌}
-use Rattle.kt_script.specs.declared.place.Place.{Place}
-use Rattle.kt_script.specs.Inner.Automaton.{next}
-use Rattle.kt_script.specs.Faults.{fault_of}
+use Rattle.kt_script.proofs.Common.{Place, next, fault_of}
 use Rattle.kt_script.proofs.Going.{some_fault}
 use Rattle.kt_script.proofs.Feeding.{fed, unfit}
 use Rattle.kt_script.proofs.parser.Parser.feed.Goals as goal

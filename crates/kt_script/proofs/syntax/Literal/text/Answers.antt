@@ -1,10 +1,8 @@
-use Rattle.std.proofs.Common.{◌≡◌, ◌∙◌, ap, sym, subst}
-use Rattle.std.specs.Prelude.{IfOk}
-use Rattle.std.specs.Str.{chars}
-use Rattle.kt_script.specs.declared.literal.Literal.{Literal}
-use Rattle.kt_script.specs.declared.literal.Literal.TheVariants.{Truth}
+use Rattle.std.proofs.Common.{◌≡◌, ◌∙◌, ap, sym, subst, IfOk}
+use Rattle.kt_script.proofs.Common.{chars, Literal}
+use Rattle.kt_script.specs.declared.syntax.Literal.TheVariants.{Truth}
 use Rattle.kt_script.specs.LiteralText.{text_of}
-use Rattle.kt_script.proofs.literal.Literal.text.Goals as goal
+use Rattle.kt_script.proofs.syntax.Literal.text.Goals as goal
 
 pub returns-in-Truth-true : goal.returns-in-Truth-true
 unfolding chars
