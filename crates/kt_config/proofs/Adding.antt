@@ -1,16 +1,8 @@
 -- A definition more.
-use Rattle.std.proofs.Common.{◌≡◌, ℕ, Bool, true, false, List, [], ◌∷◌, ◌++◌, refl, sym, ap, ◌∙◌, subst, Option, Some, None, append-nil, append_assoc}
-use Rattle.std.specs.Prelude.{unwrap_or}
+use Rattle.std.proofs.Common.{◌≡◌, ℕ, Bool, true, false, List, [], ◌∷◌, ◌++◌, refl, sym, ap, ◌∙◌, subst, Option, Some, None, append-nil, append_assoc, unwrap_or}
+use Rattle.kt_config.proofs.Common.{bytes_eq, Variable, last_values, same, Definition, Group, Values, variables_of, architecture_in, platform_in, parallelism_in, variable_for, last_given, given_to, if_any, Adds, AddsToSuite}
 use Rattle.std.specs.Option.{option_or}
-use Rattle.std.specs.Str.{bytes_eq}
-use Rattle.kt_base.specs.declared.variable.Variable.{Variable}
-use Rattle.kt_base.specs.LastValues.{last_values}
-use Rattle.kt_base.proofs.Names.{same}
-use Rattle.kt_config.specs.declared.meaning.Definition.{Definition}
 use Rattle.kt_config.specs.declared.meaning.Definition.TheVariants.{OfSuite}
-use Rattle.kt_config.specs.Values.{Group, Values, variables_of}
-use Rattle.kt_config.specs.Holding.{architecture_in, platform_in, parallelism_in, variable_for, last_given, given_to, if_any, Adds}
-use Rattle.kt_config.specs.Inner.{AddsToSuite}
 use Rattle.kt_config.proofs.Puttings.{put-twice}
 
 or-none : {A : Type 0} (o : Option A) → option_or o None ≡ o

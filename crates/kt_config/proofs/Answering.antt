@@ -1,18 +1,11 @@
 -- A file's values, or its one fault.
-use Rattle.std.specs.Prelude.{Result, Ok, Err, IfOk}
-use Rattle.std.proofs.Common.{◌≡◌, ℕ, List, [], ◌∷◌, ◌++◌, refl, sym, ap, ◌∙◌, subst, inl, inr, append-nil, append_assoc}
-use Rattle.kt_script.specs.declared.fault.ScriptFault.{ScriptFault}
-use Rattle.kt_script.specs.declared.fault.ScriptFault.TheVariants as script
-use Rattle.kt_script.specs.declared.syntax.Stmt.{Stmt}
-use Rattle.kt_script.specs.Spelling.{Spells, IsDue as IsScriptDue, Answers as ScriptAnswers, Refuses as ScriptRefuses}
-use Rattle.kt_config.specs.declared.meaning.Definition.{Definition}
+use Rattle.std.proofs.Common.{Result, Ok, Err, IfOk, ◌≡◌, ℕ, List, [], ◌∷◌, ◌++◌, refl, sym, ap, ◌∙◌, subst, inl, inr, append-nil, append_assoc}
+use Rattle.kt_config.proofs.Common.{ScriptFault, Stmt, Spells, Definition, Values, Holds, Adds, Outcome, with_first, with_meaning, meaning_of, definitions_in, outcome_of, IsDue, IsRead, IfFault, Answers, Refuses, Gives, fault_of_script}
+use Rattle.kt_script.specs.Spelling.{IsDue as IsScriptDue, Answers as ScriptAnswers, Refuses as ScriptRefuses}
 use Rattle.kt_config.specs.declared.fault.ConfigFault.{ConfigFault}
 use Rattle.kt_config.specs.declared.fault.ConfigFault.TheVariants.{NoMemory, UnknownVariable, BadValue, Script, NoSyntax, NotAssignment}
 use Rattle.kt_config.specs.Names.{Meaning}
-use Rattle.kt_config.specs.Values.{Values}
-use Rattle.kt_config.specs.Holding.{Holds, Adds}
-use Rattle.kt_config.specs.Reading.{Outcome, with_first, with_meaning, meaning_of, definitions_in, outcome_of, IsDue, IsRead, IfFault, Answers, Refuses}
-use Rattle.kt_config.specs.Inner.{Gives, fault_of_script}
+use Rattle.kt_script.specs.declared.fault.ScriptFault.TheVariants as script
 use Rattle.kt_config.proofs.ScriptLaws.{one_script, not_both}
 
 -- ---- statement by statement

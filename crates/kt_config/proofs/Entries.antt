@@ -1,17 +1,9 @@
 -- The entries of maps whose keys are strings, as variables and as suites.
-use Rattle.std.proofs.Common.{◌≡◌, ℕ, Bool, true, false, List, [], ◌∷◌, ◌++◌, refl, sym, ap, ◌∙◌, subst, map, chars, Option, Some, None}
-use Rattle.std.specs.Prelude.{unwrap_or, if◌then◌else◌}
-use Rattle.std.specs.Str.{bytes_eq, IsUtf8}
-use Rattle.std.specs.String.{string_bytes, string_eq}
+use Rattle.std.proofs.Common.{◌≡◌, ℕ, Bool, true, false, List, [], ◌∷◌, ◌++◌, refl, sym, ap, ◌∙◌, subst, map, Option, Some, None, unwrap_or, if◌then◌else◌}
+use Rattle.kt_config.proofs.Common.{chars, bytes_eq, IsUtf8, string_bytes, string_eq, insert_entry, Variable, is_named, last_values, same, same-refl, AddsToSuite, group_in, Group, variables_of, variable_in}
 use Rattle.std.specs.declared.string.String.{String}
 use Rattle.std.specs.Map.{lookup, set_value}
 use Rattle.std.proofs.lemmas.Str.{IsUtf8-string_bytes}
-use Rattle.indexmap.specs.IndexMap.{insert_entry}
-use Rattle.kt_base.specs.declared.variable.Variable.{Variable}
-use Rattle.kt_base.specs.LastValues.{is_named, last_values}
-use Rattle.kt_base.proofs.Names.{same, same-refl}
-use Rattle.kt_config.specs.Inner.{AddsToSuite, group_in}
-use Rattle.kt_config.specs.Values.{Group, variables_of, variable_in}
 use Rattle.kt_base.proofs.Texts.{bytes_eq-chars}
 use Rattle.kt_config.proofs.Puttings.{put, first_value}
 

@@ -1,3 +1,4 @@
+pub mod Common
 pub mod Puttings
 pub mod Entries
 pub mod Adding

@@ -1,11 +1,7 @@
 -- Last values that are kept in place.
-use Rattle.std.proofs.Common.{◌≡◌, ℕ, Bool, true, false, not, List, [], ◌∷◌, ◌++◌, refl, sym, ap, ◌∙◌, subst, Option, Some, None, append-nil}
-use Rattle.std.specs.Prelude.{if◌then◌else◌, unwrap_or}
-use Rattle.std.specs.Str.{bytes_eq}
+use Rattle.std.proofs.Common.{◌≡◌, ℕ, Bool, true, false, not, List, [], ◌∷◌, ◌++◌, refl, sym, ap, ◌∙◌, subst, Option, Some, None, append-nil, if◌then◌else◌, unwrap_or}
+use Rattle.kt_config.proofs.Common.{bytes_eq, Variable, is_named, value_of, without, last_values, same, same-flip, or-none, or-some, value_of-append, last_values-without}
 use Rattle.std.proofs.lemmas.List.Elements.{filter-append}
-use Rattle.kt_base.specs.declared.variable.Variable.{Variable}
-use Rattle.kt_base.specs.LastValues.{is_named, value_of, without, last_values}
-use Rattle.kt_base.proofs.Names.{same, same-flip, or-none, or-some, value_of-append, last_values-without}
 use Rattle.kt_base.proofs.LastValueLaws.{overlaid}
 
 -- a variable takes the place of the one with its name, or goes last

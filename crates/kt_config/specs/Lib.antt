@@ -1,3 +1,4 @@
+pub mod Common
 pub mod FaultWords
 pub mod Forms
 pub mod Names

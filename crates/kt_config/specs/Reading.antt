@@ -6,7 +6,7 @@ use Rattle.kt_script.specs.declared.syntax.Action.TheVariants.{Call, Assign}
 use Rattle.kt_script.specs.declared.syntax.Arg.{Arg}
 use Rattle.kt_script.specs.declared.syntax.Arg.TheVariants.{Value, Table}
 use Rattle.kt_script.specs.declared.syntax.Stmt.{Stmt}
-use Rattle.kt_script.specs.declared.literal.Literal.TheVariants.{Text, Number, Truth}
+use Rattle.kt_script.specs.declared.syntax.Literal.TheVariants.{Text, Number, Truth}
 use Rattle.kt_script.specs.LiteralText.{text_of}
 use Rattle.kt_script.specs.Spelling.{Spells, IsDue as IsScriptDue}
 use Rattle.kt_config.specs.declared.meaning.Definition.{Definition}

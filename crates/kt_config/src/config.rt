@@ -1,22 +1,12 @@
 ghost use Rattle.std.specs.Prelude.{◌≡◌, ◌≤◌, [], List, OnOk, OnErr, IfOk, Ok, Err, unwrap_or, codes, chars};
-ghost use Rattle.std.specs.Option.{option_copied};
-ghost use Rattle.kt_script.specs.Spelling.{Spells};
-ghost use Rattle.kt_script.specs.declared.syntax.Stmt.{Stmt};
-ghost use Rattle.kt_config.specs.declared.meaning.Definition.{Definition};
-ghost use Rattle.kt_config.specs.declared.fault.ConfigFault.{ConfigFault};
-ghost use Rattle.kt_base.specs.Limits.{largest_width};
-ghost use Rattle.kt_config.specs.Names.{definition_named};
-ghost use Rattle.kt_config.specs.Values.{Values, variables_of};
-ghost use Rattle.kt_config.specs.Holding.{Holds, Adds};
-ghost use Rattle.kt_config.specs.Reading.{outcome_of, IsDue, IsRead, IfFault, Answers, Refuses, Becomes};
+ghost use Rattle.kt_config.specs.Common.{option_copied, Spells, Stmt, Definition, ConfigFault, largest_width, definition_named, Values, variables_of, Holds, Adds, outcome_of, IsDue, IsRead, IfFault, Answers, Refuses, Becomes};
 
-use crate::fault::ConfigFault;
 use crate::meaning::{Definition, definition_of};
 use crate::reading::{read_script, script_fault};
-use crate::suite_variables::SuiteVariables;
 use crate::suites::Suites;
 use crate::width::Width;
 use crate::words::dotted;
+use crate::{ConfigFault, SuiteVariables};
 use kt_base::{NoMemory, Text};
 use kt_script::parse;
 use std::alloc::Global;

@@ -1,7 +1,7 @@
 ghost use Rattle.std.specs.Prelude.{◌≡◌, IfOk};
 ghost use Rattle.kt_config.specs.Names.{unless_empty, of_width, runner_definition, is_suite_variable, suite_definition, definition_of};
 
-use crate::fault::ConfigFault;
+use crate::ConfigFault;
 use crate::width::Width;
 use crate::words::{has_zero, is_variable};
 use kt_base::{NoMemory, Text, Variable};
@@ -90,8 +90,7 @@ fn suite_definition(
     Ok(Ok(Definition::OfSuite(suite, Variable { name, value })))
 }
 
-/// What a value for a name in parts means: a definition, or the fault of the name, else that of the
-/// value.
+/// What a value for a name in parts means: a definition, or the fault of the name, else that of the value.
 pub fn definition_of(
     parts: &[Text],
     value: Text,

@@ -1,10 +1,8 @@
 ghost use Rattle.std.specs.Prelude.{◌≡◌, IfOk};
-ghost use Rattle.kt_config.specs.Reading.{is_version, is_opening, meaning_of, definitions_in, outcome_of};
-ghost use Rattle.kt_config.specs.Inner.{fault_of_script, Gives};
+ghost use Rattle.kt_config.specs.Common.{is_version, is_opening, meaning_of, definitions_in, outcome_of, fault_of_script, Gives};
 
-use crate::config::Config;
-use crate::fault::ConfigFault;
 use crate::meaning::{Definition, definition_of};
+use crate::{Config, ConfigFault};
 use kt_base::NoMemory;
 use kt_script::{Action, Arg, Literal, ScriptFault, Stmt};
 use std::alloc::Global;

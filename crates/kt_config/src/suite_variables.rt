@@ -1,8 +1,5 @@
 ghost use Rattle.std.specs.Prelude.{◌≡◌, [], ◌∷◌, ◌++◌, List, is_some, IfOk, OnOk, OnErr};
-ghost use Rattle.std.specs.Option.{option_copied};
-ghost use Rattle.kt_base.specs.declared.variable.Variable.{Variable};
-ghost use Rattle.kt_base.specs.LastValues.{value_of, last_values};
-ghost use Rattle.kt_config.specs.Values.{variables_in, IsSettled};
+ghost use Rattle.kt_config.specs.Common.{option_copied, Variable, value_of, last_values, variables_in, IsSettled};
 
 use crate::words::key_of;
 use indexmap::IndexMap;

@@ -1,9 +1,7 @@
 ghost use Rattle.std.specs.Prelude.{◌≡◌, [], List, map, OnOk, OnErr};
-ghost use Rattle.std.specs.Option.{option_copied};
-ghost use Rattle.kt_config.specs.Inner.{AddsToSuite, group_in};
-ghost use Rattle.kt_config.specs.Values.{Group, variables_of};
+ghost use Rattle.kt_config.specs.Common.{option_copied, AddsToSuite, group_in, Group, variables_of};
 
-use crate::suite_variables::SuiteVariables;
+use crate::SuiteVariables;
 use crate::words::key_of;
 use indexmap::IndexMap;
 use kt_base::{NoMemory, Text, Variable};

@@ -1,8 +1,5 @@
 ghost use Rattle.std.specs.Prelude.{◌≡◌, chars, IfOk};
-ghost use Rattle.std.specs.List.{list_any};
-ghost use Rattle.std.specs.String.{string_bytes};
-ghost use Rattle.kt_config.specs.Forms.{is_zero, is_strange, has_zero, is_variable};
-ghost use Rattle.kt_config.specs.Names.{dotted};
+ghost use Rattle.kt_config.specs.Common.{list_any, string_bytes, is_zero, is_strange, has_zero, is_variable, dotted};
 
 use kt_base::{Items, NoMemory, Text};
 use std::alloc::Global;

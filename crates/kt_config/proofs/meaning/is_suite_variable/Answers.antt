@@ -1,5 +1,5 @@
 use Rattle.std.proofs.Common.{rules}
-use Rattle.std.specs.Str.{chars}
+use Rattle.kt_config.proofs.Common.{chars}
 use Rattle.kt_config.proofs.meaning.is_suite_variable.Goals as goal
 
 pub returns-then-not-is_word : goal.returns-then-not-is_word

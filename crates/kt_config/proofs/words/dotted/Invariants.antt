@@ -1,5 +1,5 @@
 use Rattle.std.proofs.Common.{◌≡◌, map, take}
-use Rattle.std.specs.Str.{chars}
+use Rattle.kt_config.proofs.Common.{chars}
 use Rattle.kt_config.proofs.words.dotted.Given as goal
 
 abbrev pub invariant-loop-part : goal.invariant-loop-part

@@ -1,5 +1,5 @@
-use Rattle.std.specs.Str.{chars}
 use Rattle.std.proofs.Common.{rules}
+use Rattle.kt_config.proofs.Common.{chars}
 use Rattle.kt_config.proofs.config.Config.platform.Goals as goal
 
 pub returns-in-None : goal.returns-in-None

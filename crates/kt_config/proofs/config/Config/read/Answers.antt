@@ -1,6 +1,5 @@
 use Rattle.std.proofs.Common.{rules}
-use Rattle.kt_config.specs.Reading.{outcome_of}
-use Rattle.kt_config.specs.Inner.{Gives}
+use Rattle.kt_config.proofs.Common.{outcome_of, Gives}
 use Rattle.kt_config.proofs.Answering.{script_due, script_only, right_ok, right_only, right_fault, right_due}
 use Rattle.kt_config.proofs.config.Config.read.Goals as goal
 

@@ -1,5 +1,5 @@
 use Rattle.std.proofs.Common.{◌≡◌, ◌++◌, map, length}
-use Rattle.kt_config.specs.Values.{variable_in}
+use Rattle.kt_config.proofs.Common.{variable_in}
 use Rattle.kt_config.proofs.suite_variables.SuiteVariables.copy.Given as goal
 
 -- what was copied, and what is left

@@ -1,6 +1,5 @@
-use Rattle.std.proofs.Common.{◌∙◌, ap, map, List, ℕ, chars}
-use Rattle.kt_base.specs.LastValues.{value_of}
-use Rattle.kt_config.specs.Values.{variable_in}
+use Rattle.std.proofs.Common.{◌∙◌, ap, map, List, ℕ}
+use Rattle.kt_config.proofs.Common.{chars, value_of, variable_in}
 use Rattle.kt_config.proofs.Entries.{found}
 use Rattle.kt_config.proofs.Puttings.{first-settled}
 use Rattle.kt_config.proofs.suite_variables.SuiteVariables.get.Goals as goal

@@ -1,7 +1,5 @@
 use Rattle.std.proofs.Common.{◌≡◌, ◌∙◌, ap, map, [], ◌∷◌, ◌++◌, List, ℕ}
-use Rattle.kt_base.specs.declared.variable.Variable.{Variable}
-use Rattle.kt_base.specs.LastValues.{last_values}
-use Rattle.kt_config.specs.Values.{variable_in}
+use Rattle.kt_config.proofs.Common.{Variable, last_values, variable_in}
 use Rattle.kt_config.proofs.Entries.{inserted}
 use Rattle.kt_config.proofs.Puttings.{put, put-settled, settled-put}
 use Rattle.kt_config.proofs.suite_variables.SuiteVariables.put.Goals as goal

@@ -1,5 +1,5 @@
-use Rattle.std.proofs.Common.{◌∙◌, ap, List, ℕ, chars}
-use Rattle.kt_config.specs.Values.{variables_of}
+use Rattle.std.proofs.Common.{◌∙◌, ap, List, ℕ}
+use Rattle.kt_config.proofs.Common.{chars, variables_of}
 use Rattle.kt_config.proofs.Entries.{suite-found}
 use Rattle.kt_config.proofs.suites.Suites.get.Goals as goal
 

@@ -1,9 +1,5 @@
 use Rattle.std.proofs.Common.{rules, ◌≡◌, ◌∙◌, ap, map, sym, List, [], ◌∷◌, ◌++◌, Some}
-use Rattle.std.specs.String.{string_eq}
-use Rattle.indexmap.specs.IndexMap.{insert_entry}
-use Rattle.kt_base.specs.declared.variable.Variable.{Variable}
-use Rattle.kt_base.specs.LastValues.{last_values}
-use Rattle.kt_config.specs.Inner.{group_in}
+use Rattle.kt_config.proofs.Common.{string_eq, insert_entry, Variable, last_values, group_in}
 use Rattle.kt_config.proofs.Entries.{unwritten, adds-there, adds-new}
 use Rattle.kt_config.proofs.suites.Suites.put.Goals as goal
 

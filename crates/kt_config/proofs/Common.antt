@@ -1,0 +1,16 @@
+-- The names that most proofs of this crate cite, passed on from one place. Declares nothing.
+pub use Rattle.std.specs.Str.{IsUtf8, bytes_eq}
+unfoldable pub use Rattle.std.specs.Str.{chars}
+pub use Rattle.std.specs.String.{string_bytes, string_eq}
+pub use Rattle.indexmap.specs.IndexMap.{insert_entry}
+pub use Rattle.kt_base.proofs.Names.{last_values-without, or-none, or-some, same, same-flip, same-refl, value_of-append}
+pub use Rattle.kt_base.specs.LastValues.{is_named, last_values, value_of, without}
+pub use Rattle.kt_base.specs.declared.variable.Variable.{Variable}
+pub use Rattle.kt_script.specs.Spelling.{Spells}
+pub use Rattle.kt_script.specs.declared.fault.ScriptFault.{ScriptFault}
+pub use Rattle.kt_script.specs.declared.syntax.Stmt.{Stmt}
+pub use Rattle.kt_config.specs.Holding.{Adds, Holds, architecture_in, given_to, if_any, last_given, parallelism_in, platform_in, variable_for}
+pub use Rattle.kt_config.specs.Inner.{AddsToSuite, Gives, fault_of_script, group_in}
+pub use Rattle.kt_config.specs.Reading.{Answers, IfFault, IsDue, IsRead, Outcome, Refuses, definitions_in, meaning_of, outcome_of, with_first, with_meaning}
+pub use Rattle.kt_config.specs.Values.{Group, Values, variable_in, variables_of}
+pub use Rattle.kt_config.specs.declared.meaning.Definition.{Definition}

@@ -1,0 +1,17 @@
+-- The words that the clauses of this crate cite, passed on from one place. Declares nothing.
+pub use Rattle.std.specs.List.{list_any}
+pub use Rattle.std.specs.Option.{option_copied}
+pub use Rattle.std.specs.String.{string_bytes}
+pub use Rattle.kt_base.specs.LastValues.{last_values, value_of}
+pub use Rattle.kt_base.specs.Limits.{largest_width}
+pub use Rattle.kt_base.specs.declared.variable.Variable.{Variable}
+pub use Rattle.kt_script.specs.Spelling.{Spells}
+pub use Rattle.kt_script.specs.declared.syntax.Stmt.{Stmt}
+pub use Rattle.kt_config.specs.Forms.{has_zero, is_strange, is_variable, is_zero}
+pub use Rattle.kt_config.specs.Holding.{Adds, Holds}
+pub use Rattle.kt_config.specs.Inner.{AddsToSuite, Gives, fault_of_script, group_in}
+pub use Rattle.kt_config.specs.Names.{definition_named, dotted}
+pub use Rattle.kt_config.specs.Reading.{Answers, Becomes, IfFault, IsDue, IsRead, Refuses, definitions_in, is_opening, is_version, meaning_of, outcome_of}
+pub use Rattle.kt_config.specs.Values.{Group, IsSettled, Values, variables_in, variables_of}
+pub use Rattle.kt_config.specs.declared.fault.ConfigFault.{ConfigFault}
+pub use Rattle.kt_config.specs.declared.meaning.Definition.{Definition}
