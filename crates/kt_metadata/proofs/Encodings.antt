@@ -1,9 +1,6 @@
 -- A text's characters and its bytes tell it apart from other texts alike.
-use Rattle.std.proofs.Common.{◌≡◌, ℕ, List, [], ◌∷◌, length, Some, None, chars, ap, sym, refl, arith}
-use Rattle.std.specs.Str.{IsUtf8}
-use Rattle.std.proofs.lemmas.Str.{chars-nil, encodes-chars}
-use Rattle.std.specs.Prelude.{encode_utf8_all}
-use Rattle.kt_metadata.specs.Properties.{filled}
+use Rattle.std.proofs.Common.{◌≡◌, ℕ, List, [], ◌∷◌, length, Some, None, ap, sym, refl, arith, encode_utf8_all}
+use Rattle.kt_metadata.proofs.Common.{chars, IsUtf8, chars-nil, encodes-chars, filled}
 
 -- a text with bytes has characters
 pub filled-empty : (bs : List ℕ) → length bs ≡ 0 → filled (chars bs) ≡ None

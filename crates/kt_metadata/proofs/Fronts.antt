@@ -1,10 +1,7 @@
 -- What follows a front.
-use Rattle.std.proofs.Common.{◌≡◌, ℕ, Bool, true, false, List, [], ◌∷◌, ◌++◌, refl, sym, ap, ◌∙◌, Option, Some, None, chars}
-use Rattle.std.specs.Prelude.{option_and_then, encode_utf8_all, ◌==◌}
-use Rattle.std.specs.Str.{IsUtf8}
-use Rattle.std.proofs.lemmas.Str.{encodes-chars, chars-append, encodes-append}
+use Rattle.std.proofs.Common.{◌≡◌, ℕ, Bool, true, false, List, [], ◌∷◌, ◌++◌, refl, sym, ap, ◌∙◌, Option, Some, None, option_and_then, encode_utf8_all, ◌==◌}
+use Rattle.kt_metadata.proofs.Common.{chars, IsUtf8, encodes-chars, chars-append, encodes-append, after_front, own_part, filled}
 use Rattle.std.proofs.lemmas.Bool.{eq-eqb, eqb-true}
-use Rattle.kt_metadata.specs.Properties.{after_front, own_part, filled}
 
 -- a text that begins with the front
 pub after_front-append : (front rest : List ℕ) → after_front front (front ++ rest) ≡ Some rest

@@ -1,11 +1,6 @@
 -- Keys and the names of the properties that they stand for.
-use Rattle.std.proofs.Common.{◌≡◌, ℕ, zero, suc, Bool, true, false, List, [], ◌∷◌, ◌++◌, refl, sym, ap, ◌∙◌, subst, Option, Some, None, bytes_eq}
-use Rattle.std.specs.Prelude.{◌&&◌, codes, IfSome, IsSome, is_some, option_and_then, slice_get}
-use Rattle.std.specs.List.{find, list_all}
-use Rattle.std.specs.Option.{option_map, option_or}
-use Rattle.kt_base.proofs.Names.{same}
-use Rattle.kt_metadata.specs.Properties.{Row, table, form_named, own_part, after_front, filled}
-use Rattle.kt_metadata.specs.ListKeys.{has_key, name_of_key, StandsFor}
+use Rattle.std.proofs.Common.{◌≡◌, ℕ, zero, suc, Bool, true, false, List, [], ◌∷◌, ◌++◌, refl, sym, ap, ◌∙◌, subst, Option, Some, None, bytes_eq, ◌&&◌, codes, IfSome, IsSome, is_some, option_and_then, slice_get}
+use Rattle.kt_metadata.proofs.Common.{find, list_all, option_map, option_or, same, Row, table, form_named, own_part, after_front, filled, has_key, name_of_key, StandsFor}
 use Rattle.kt_metadata.specs.ListKeys as key
 use Rattle.kt_metadata.proofs.Fronts.{append-after_front}
 

@@ -1,23 +1,10 @@
 -- What is found in a layer, and one entry more in it.
-use Rattle.std.proofs.Common.{◌≡◌, ℕ, Bool, true, false, List, [], ◌∷◌, ◌++◌, refl, sym, ap, ◌∙◌, subst, chars, Option, Some, None, append_assoc}
-use Rattle.std.specs.Prelude.{option_and_then}
-use Rattle.std.specs.Option.{option_map, option_or}
-use Rattle.std.specs.Str.{bytes_eq, IsUtf8}
-use Rattle.std.specs.String.{string_bytes, string_eq}
-use Rattle.std.specs.declared.string.String.{String}
+use Rattle.std.proofs.Common.{◌≡◌, ℕ, Bool, true, false, List, [], ◌∷◌, ◌++◌, refl, sym, ap, ◌∙◌, subst, Option, Some, None, append_assoc, option_and_then}
+use Rattle.kt_metadata.proofs.Common.{chars, option_map, option_or, IsUtf8, string_bytes, string_eq, String, IsUtf8-string_bytes, Variable, value_of, last_values, overlaid, value_is, same, value_of-append, put, first_value, first-settled, put-settled, settled-put, twice, Given, pair_in, pairs_in, IsRead, AreRead, AreSound, a_pair, value_named}
+use Rattle.std.specs.Str.{bytes_eq}
 use Rattle.std.specs.Map.{lookup}
-use Rattle.std.proofs.lemmas.Str.{IsUtf8-string_bytes}
 use Rattle.indexmap.specs.IndexMap.{insert_entry}
-use Rattle.kt_base.specs.declared.variable.Variable.{Variable}
-use Rattle.kt_base.specs.LastValues.{value_of, last_values}
-use Rattle.kt_base.proofs.LastValueLaws.{overlaid, value_is}
-use Rattle.kt_base.proofs.Names.{same, value_of-append}
 use Rattle.kt_base.proofs.Texts.{bytes_eq-chars}
-use Rattle.kt_config.proofs.Puttings.{put, first_value, first-settled, put-settled, settled-put, twice}
-use Rattle.kt_metadata.specs.declared.value.Given.{Given}
-use Rattle.kt_metadata.specs.Inner.Layers.{pair_in, pairs_in, IsRead, AreRead, AreSound}
-use Rattle.kt_metadata.specs.Overlays.{a_pair}
-use Rattle.kt_metadata.specs.Properties.{value_named}
 
 key-chars : {Z : Type 0} (q : List ℕ) → IsUtf8 q → (k : String Z) → bytes_eq q (string_bytes k) ≡ bytes_eq (chars q) (chars (string_bytes k))
 key-chars q u k = bytes_eq-chars q (string_bytes k) u (IsUtf8-string_bytes k)

@@ -1,3 +1,4 @@
+pub mod Common
 pub mod Encodings
 pub mod Fronts
 pub mod Joining

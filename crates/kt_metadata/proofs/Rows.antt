@@ -1,9 +1,8 @@
 -- The words of a reason.
-use Rattle.std.proofs.Common.{◌≡◌, ℕ, Bool, false, List, ◌++◌, sym, ap, ◌∙◌, Option, Some}
-use Rattle.std.specs.Prelude.{codes}
-use Rattle.kt_base.specs.declared.reason.Reason.{Reason}
+use Rattle.std.proofs.Common.{◌≡◌, ℕ, Bool, false, List, ◌++◌, sym, ap, ◌∙◌, Option, Some, codes}
+use Rattle.kt_metadata.proofs.Common.{around, is_allowed, listed_row}
+use Rattle.kt_base.specs.declared.verdict.Reason.{Reason}
 use Rattle.kt_base.specs.Reasons.{reason_text}
-use Rattle.kt_metadata.specs.Requirements.{around, is_allowed, listed_row}
 
 -- a word that is found stands in the reason
 pub around_found : (front back word text : List ℕ) (found : Option (List ℕ)) → found ≡ Some word → text ≡ front ++ (word ++ back) → Some text ≡ around front back found

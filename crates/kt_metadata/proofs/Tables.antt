@@ -1,13 +1,8 @@
 -- What is found in the table of the code.
-use Rattle.std.proofs.Common.{◌≡◌, ℕ, List, ◌++◌, refl, sym, ap, ◌∙◌, Option, Some, None, false, Bor, chars}
-use Rattle.std.specs.Prelude.{codes, option_and_then}
-use Rattle.std.specs.List.{find}
-use Rattle.std.specs.Option.{option_map, option_or}
+use Rattle.std.proofs.Common.{◌≡◌, ℕ, List, ◌++◌, refl, sym, ap, ◌∙◌, Option, Some, None, false, Bor, codes, option_and_then}
+use Rattle.kt_metadata.proofs.Common.{chars, find, option_map, option_or, row_in, has_key, name_of_key, Row, table, has_name, is_custom, form_named, own_part, value_fault, value_in}
 use Rattle.kt_metadata.specs.declared.form.Form.{Form}
 use Rattle.kt_metadata.specs.declared.value.Value.{Value}
-use Rattle.kt_metadata.specs.Inner.Rows.{row_in}
-use Rattle.kt_metadata.specs.ListKeys.{has_key, name_of_key}
-use Rattle.kt_metadata.specs.Properties.{Row, table, has_name, is_custom, form_named, own_part, value_fault, value_in}
 
 -- a row in the code
 abbrev pub Kept : Type 0

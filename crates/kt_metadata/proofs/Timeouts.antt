@@ -1,11 +1,8 @@
 -- The timeout of a case lies between the least and the longest.
-use Rattle.std.proofs.Common.{◌≡◌, ℕ, Bool, true, false, List, [], ◌∷◌, ◌≤◌, arith, refl, Option, Some, None}
-use Rattle.std.specs.Prelude.{codes, nat_le, if◌then◌else◌, ◌==◌}
-use Rattle.std.specs.Option.{option_map}
+use Rattle.std.proofs.Common.{◌≡◌, ℕ, Bool, true, false, List, [], ◌∷◌, ◌≤◌, arith, refl, Option, Some, None, codes, nat_le, if◌then◌else◌, ◌==◌}
+use Rattle.kt_metadata.proofs.Common.{option_map, utf8, given, timeout_in}
 use Rattle.std.proofs.lemmas.Bool.Decides.{nat_tests}
-use Rattle.kt_base.specs.Utf8.{utf8}
 use Rattle.kt_metadata.specs.declared.value.Value.TheVariants.{Timeout}
-use Rattle.kt_metadata.specs.Effective.{given, timeout_in}
 use Rattle.kt_metadata.specs.Values.{limited, digits_of, after_digits, number_of}
 
 abbrev pub IsTimeout : ℕ → Type 0

@@ -1,9 +1,7 @@
 -- The walk over a text finds its words, and no others are its words.
 use Rattle.std.proofs.Common.{◌≡◌, ℕ, Bool, true, false, not, List, [], ◌∷◌, ◌++◌, refl, sym, ap, ◌∙◌, subst, append_assoc, append-nil}
-use Rattle.std.specs.List.{list_any}
+use Rattle.kt_metadata.proofs.Common.{list_any, is_space, is_word, IsBreak, AreWords, ended, words_from, words}
 use Rattle.std.proofs.lemmas.List.Folds.{list_any-append}
-use Rattle.kt_base.specs.Characters.{is_space}
-use Rattle.kt_metadata.specs.Words.{is_word, IsBreak, AreWords, ended, words_from, words}
 use Rattle.kt_metadata.specs.Words as rule
 
 -- characters without white space, of which a word has at least one

@@ -1,8 +1,7 @@
 -- How words end.
 use Rattle.std.proofs.Common.{◌≡◌, ℕ, true, false, List, [], ◌∷◌, ◌++◌, refl, sym, ◌∙◌, arith, length}
+use Rattle.kt_metadata.proofs.Common.{is_space, ended, words_from}
 use Rattle.kt_base.specs.Texts.{is_empty}
-use Rattle.kt_base.specs.Characters.{is_space}
-use Rattle.kt_metadata.specs.Words.{ended, words_from}
 
 -- an empty word doesn't count
 pub nothing : (word : List ℕ) → is_empty word ≡ true → ended word [] ≡ []

@@ -1,3 +1,4 @@
+pub mod Common
 pub mod Configured
 pub mod Effective
 pub mod Inner

@@ -5,7 +5,7 @@ use Rattle.std.specs.Option.{option_map}
 use Rattle.std.specs.BTreeSet.{contains_text}
 use Rattle.kt_base.specs.Utf8.{utf8}
 use Rattle.kt_base.specs.Reasons.{counted_text, reason_text}
-use Rattle.kt_base.specs.declared.reason.Reason.{Reason}
+use Rattle.kt_base.specs.declared.verdict.Reason.{Reason}
 use Rattle.kt_base.specs.declared.phrase.Phrase.{Phrase}
 use Rattle.kt_base.specs.declared.phrase.Phrase.TheVariants.{MemoryNeeded, DiskNeeded}
 use Rattle.kt_config.specs.Values.{Values}

@@ -2,9 +2,9 @@ ghost use Rattle.std.specs.Prelude.{◌≡◌, Some, None, IfOk, if◌then◌els
 ghost use Rattle.kt_metadata.specs.Listing.{default_value};
 ghost use Rattle.kt_metadata.specs.Properties.{value_in};
 
-use crate::value::{User, Value};
-use crate::values::{has_no_file, has_no_program, size, timeout, truth, user};
-use crate::words::words;
+use crate::User;
+use crate::value::Value;
+use crate::values::{has_no_file, has_no_program, size, timeout, truth, user, words};
 use kt_base::{Items, NoMemory, Text};
 use std::alloc::Global;
 

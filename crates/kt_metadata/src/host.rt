@@ -52,8 +52,7 @@ pub struct Host {
 
 impl Host {
     ghost use Rattle.std.specs.Prelude.{◌≡◌, List, ℕ, OnOk, false};
-    ghost use Rattle.kt_metadata.specs.Requirements.{is_found, IsNoted};
-    ghost use Rattle.kt_metadata.specs.declared.host.Need.{Need};
+    ghost use Rattle.kt_metadata.specs.Common.{is_found, IsNoted, Need};
 
     /// A host on which nothing was found yet.
     pub fn new(alloc: Global, root: bool, memory: Option<u64>, disk: Option<u64>) -> Host

@@ -1,12 +1,5 @@
 ghost use Rattle.std.specs.Prelude.{◌≡◌, ◌∷◌, ◌++◌, [], List, IfOk, OnOk, OnErr, chars};
-ghost use Rattle.std.specs.Option.{option_copied, option_map};
-ghost use Rattle.std.specs.List.{filter};
-ghost use Rattle.kt_base.specs.declared.variable.Variable.{Variable};
-ghost use Rattle.kt_base.specs.LastValues.{last_values, value_of};
-ghost use Rattle.kt_metadata.specs.Effective.{texts_of, given};
-ghost use Rattle.kt_metadata.specs.Inner.Layers.{IsRead};
-ghost use Rattle.kt_metadata.specs.Listing.{custom_pairs, is_valued};
-ghost use Rattle.kt_metadata.specs.Overlays.{a_pair};
+ghost use Rattle.kt_metadata.specs.Common.{option_copied, option_map, filter, Variable, last_values, value_of, texts_of, given, IsRead, custom_pairs, is_valued, a_pair};
 
 use crate::table::is_custom;
 use crate::value::Given;

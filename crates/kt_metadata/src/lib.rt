@@ -1,13 +1,11 @@
 //! The properties of test programs and cases, and the requirements among them.
 #![tactic(auto)]
 
-mod effective;
 mod fault;
 mod form;
 mod host;
 mod layer;
 mod list_keys;
-mod listing;
 mod meta;
 mod props;
 mod reasons;
@@ -15,7 +13,6 @@ mod requirements;
 mod table;
 mod value;
 mod values;
-mod words;
 
 pub use fault::PropFault;
 pub use host::{Host, Need};
@@ -25,4 +22,4 @@ pub use props::Props;
 pub use requirements::unmet;
 pub use table::is_kyuafile_property;
 pub use value::User;
-pub use words::words_laws;
+pub use values::words_laws;

@@ -1,7 +1,5 @@
 ghost use Rattle.std.specs.Prelude.{◌≡◌, ◌++◌, List, ℕ, chars, codes, Some, IfOk, IfSome, IsSome};
-ghost use Rattle.std.specs.Option.{option_map};
-ghost use Rattle.kt_metadata.specs.Properties.{own_part, form_named};
-ghost use Rattle.kt_metadata.specs.ListKeys.{name_of_key, StandsFor};
+ghost use Rattle.kt_metadata.specs.Common.{option_map, own_part, form_named, name_of_key, StandsFor};
 
 use crate::table::{TABLE, own_part, row_keyed};
 use kt_base::{NoMemory, Text};

@@ -1,6 +1,7 @@
-use crate::host::Need;
-use crate::value::User;
-use kt_base::{Items, Text};
+use crate::form::DEFAULT_TIMEOUT;
+use crate::value::{Value, copy_of_words};
+use crate::{Need, Props, User};
+use kt_base::{Items, NoMemory, Text};
 
 /// The properties of a case as kyuafile(5) names them, each by its value or its default.
 #[derive(Debug, Drop)]
@@ -26,7 +27,7 @@ pub struct Meta {
 
 impl Meta {
     ghost use Rattle.std.specs.Prelude.{◌≡◌};
-    ghost use Rattle.kt_metadata.specs.Requirements.{needed};
+    ghost use Rattle.kt_metadata.specs.Common.{needed};
 
     /// The words that must be found on the host.
     pub fn needed(&self, need: Need) -> &[Text]
@@ -36,5 +37,89 @@ impl Meta {
             Need::File => self.required_files.as_slice(),
             Need::Program => self.required_programs.as_slice(),
         }
+    }
+}
+
+impl Props {
+    ghost use Rattle.std.specs.Prelude.{◌≡◌, ◌≤◌, [], List, IfOk, chars, unwrap_or};
+    ghost use Rattle.kt_metadata.specs.Common.{Variable, last_values, longest_timeout, texts_of, given, words_in, truth_in, size_in, user_in, timeout_in, effective};
+
+    fn words(&self, name: &str) -> Result<Items<Text>, NoMemory>
+        ensures { IfOk result (λ found. found
+            ≡ words_in (given (texts_of self.now) (chars name.now))) }
+    {
+        match self.value(name) {
+            Some(Value::Words(words)) => copy_of_words(self.allocator(), words.as_slice()),
+            _ => Ok(Items::new(self.allocator())),
+        }
+    }
+
+    fn description(&self, name: &str) -> Result<Text, NoMemory>
+        ensures { IfOk result (λ text. text ≡ unwrap_or (texts_of self.now (chars name.now)) []) }
+    {
+        match self.find(name) {
+            Some(given) => given.text.copy(),
+            None => Ok(Text::new(self.allocator())),
+        }
+    }
+
+    fn truth(&self, name: &str) -> bool
+        ensures { result ≡ truth_in (given (texts_of self.now) (chars name.now)) }
+    {
+        match self.value(name) {
+            Some(Value::Truth(truth)) => *truth,
+            _ => false,
+        }
+    }
+
+    fn size(&self, name: &str) -> u64
+        ensures { result ≡ size_in (given (texts_of self.now) (chars name.now)) }
+    {
+        match self.value(name) {
+            Some(Value::Size(bytes)) => *bytes,
+            _ => 0,
+        }
+    }
+
+    fn user(&self, name: &str) -> User
+        ensures { result ≡ user_in (given (texts_of self.now) (chars name.now)) }
+    {
+        match self.value(name) {
+            Some(Value::User(user)) => *user,
+            _ => User::Any,
+        }
+    }
+
+    fn timeout(&self, name: &str) -> u32
+        ensures { result ≡ timeout_in (given (texts_of self.now) (chars name.now)) }
+    {
+        match self.value(name) {
+            Some(Value::Timeout(seconds)) => *seconds,
+            _ => DEFAULT_TIMEOUT,
+        }
+    }
+
+    /// Each property by its value, else by its default. The timeout 0 is the longest.
+    pub fn effective(&self) -> Result<Meta, NoMemory>
+        ensures value { IfOk result (λ meta. meta ≡ effective self.now) }
+        ensures defined { (definitions : List Variable) → self.now ≡ last_values definitions
+            → IfOk result (λ meta. meta ≡ effective definitions) }
+        ensures timeout { IfOk result (λ meta. (1 ≤ meta.timeout)
+            × (meta.timeout ≤ longest_timeout)) }
+    {
+        Ok(Meta {
+            allowed_architectures: self.words("allowed_architectures")?,
+            allowed_platforms: self.words("allowed_platforms")?,
+            description: self.description("description")?,
+            has_cleanup: self.truth("has_cleanup"),
+            is_exclusive: self.truth("is_exclusive"),
+            required_configs: self.words("required_configs")?,
+            required_disk_space: self.size("required_disk_space"),
+            required_files: self.words("required_files")?,
+            required_memory: self.size("required_memory"),
+            required_programs: self.words("required_programs")?,
+            required_user: self.user("required_user"),
+            timeout: self.timeout("timeout"),
+        })
     }
 }

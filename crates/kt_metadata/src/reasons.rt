@@ -1,13 +1,7 @@
 ghost use Rattle.std.specs.Prelude.{◌≡◌, ◌++◌, chars, IfOk, bytes_eq, not};
-ghost use Rattle.std.specs.List.{list_any, find};
-ghost use Rattle.std.specs.Option.{option_copied};
-ghost use Rattle.kt_base.specs.Reasons.{reason_text};
-ghost use Rattle.kt_metadata.specs.Requirements.{text_in, config_row, listed_row, user_row, need_row, amount_row, is_allowed, is_found, needed};
-ghost use Rattle.kt_metadata.specs.Configured.{is_undefined};
+ghost use Rattle.kt_metadata.specs.Common.{list_any, find, option_copied, reason_text, text_in, config_row, listed_row, user_row, need_row, amount_row, is_allowed, is_found, needed, is_undefined};
 
-use crate::host::{Host, Need};
-use crate::meta::Meta;
-use crate::value::User;
+use crate::{Host, Meta, Need, User};
 use kt_base::{NoMemory, Phrase, Reason, Text};
 use kt_config::Config;
 use std::alloc::Global;

@@ -1,9 +1,8 @@
 ghost use Rattle.std.specs.Prelude.{◌≡◌, IfOk};
-ghost use Rattle.kt_metadata.specs.Requirements.{text_in, architecture_row, platform_row, rows, host_rows, first_reason};
+ghost use Rattle.kt_metadata.specs.Common.{text_in, architecture_row, platform_row, rows, host_rows, first_reason};
 
-use crate::host::{Host, Need};
-use crate::meta::Meta;
 use crate::reasons::{amount_reason, config_reason, listed_reason, need_reason, user_reason};
+use crate::{Host, Meta, Need};
 use kt_base::{NoMemory, Phrase, Reason, Text};
 use kt_config::Config;
 use std::alloc::Global;

@@ -1,11 +1,7 @@
 ghost use Rattle.std.specs.Prelude.{◌≡◌, chars, map, IfOk, Some};
-ghost use Rattle.std.specs.List.{find};
-ghost use Rattle.std.specs.Option.{option_copied, option_map};
-ghost use Rattle.kt_metadata.specs.Inner.Rows.{row_in};
-ghost use Rattle.kt_metadata.specs.ListKeys.{has_key};
-ghost use Rattle.kt_metadata.specs.Properties.{has_name, is_custom, form_named, is_kyuafile_property, value_named, definition_fault, IfFault, filled, own_part};
+ghost use Rattle.kt_metadata.specs.Common.{find, option_copied, option_map, row_in, has_key, has_name, is_custom, form_named, is_kyuafile_property, value_named, definition_fault, IfFault, filled, own_part};
 
-use crate::fault::PropFault;
+use crate::PropFault;
 use crate::form::Form;
 use crate::value::Value;
 use kt_base::Text;
@@ -77,8 +73,7 @@ fn form_named(name: &Text) -> Option<Form>
     }
 }
 
-/// Whether a Kyuafile may set the property of this name. A list of ATF cases alone sets
-/// `has_cleanup`.
+/// Whether a Kyuafile may set the property of this name. A list of ATF cases alone sets `has_cleanup`.
 pub fn is_kyuafile_property(name: &Text) -> bool
     ensures { result ≡ is_kyuafile_property name.now }
 {

@@ -1,5 +1,5 @@
 use Rattle.std.proofs.Common.{rules}
-use Rattle.std.specs.Str.{chars}
+use Rattle.kt_metadata.proofs.Common.{chars}
 use Rattle.kt_metadata.proofs.list_keys.custom_name.Goals as goal
 
 pub returns : goal.returns

@@ -1,5 +1,5 @@
 use Rattle.std.proofs.Common.{rules}
-use Rattle.std.specs.Str.{chars}
+use Rattle.kt_metadata.proofs.Common.{chars}
 use Rattle.kt_metadata.proofs.list_keys.name_of_custom_key.Goals as goal
 
 pub returns-in-None : goal.returns-in-None

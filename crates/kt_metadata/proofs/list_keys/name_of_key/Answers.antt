@@ -1,7 +1,5 @@
 use Rattle.std.proofs.Common.{◌∙◌, ap, sym, Some, None, List, ℕ}
-use Rattle.std.specs.Option.{option_copied, option_map}
-use Rattle.std.specs.Str.{chars}
-use Rattle.kt_metadata.specs.Inner.Rows.{row_in}
+use Rattle.kt_metadata.proofs.Common.{option_copied, option_map, chars, row_in}
 use Rattle.kt_metadata.proofs.Tables.{key-found}
 use Rattle.kt_metadata.proofs.list_keys.name_of_key.Goals as goal
 

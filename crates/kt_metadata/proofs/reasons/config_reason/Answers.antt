@@ -1,8 +1,5 @@
-use Rattle.std.proofs.Common.{List, ℕ, ◌++◌, ◌∙◌, ap, sym}
-use Rattle.std.specs.Prelude.{codes}
-use Rattle.std.specs.List.{find}
-use Rattle.std.specs.Option.{option_copied}
-use Rattle.std.specs.Str.{chars}
+use Rattle.std.proofs.Common.{List, ℕ, ◌++◌, ◌∙◌, ap, sym, codes}
+use Rattle.kt_metadata.proofs.Common.{find, option_copied, chars}
 use Rattle.kt_metadata.specs.Configured.{is_undefined}
 use Rattle.kt_metadata.proofs.Rows.{around_found}
 use Rattle.kt_metadata.proofs.reasons.config_reason.Goals as goal

@@ -1,4 +1,4 @@
-use Rattle.std.specs.Str.{chars}
+use Rattle.kt_metadata.proofs.Common.{chars}
 use Rattle.kt_metadata.proofs.Rows.{unlisted_told}
 use Rattle.kt_metadata.proofs.reasons.listed_reason.Goals as goal
 

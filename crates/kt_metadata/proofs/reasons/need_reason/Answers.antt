@@ -1,9 +1,5 @@
-use Rattle.std.proofs.Common.{List, ℕ, ◌++◌, ◌∙◌, ap, sym}
-use Rattle.std.specs.Prelude.{codes, not}
-use Rattle.std.specs.List.{find}
-use Rattle.std.specs.Option.{option_copied}
-use Rattle.std.specs.Str.{chars}
-use Rattle.kt_metadata.specs.Requirements.{is_found, need_text, needed}
+use Rattle.std.proofs.Common.{List, ℕ, ◌++◌, ◌∙◌, ap, sym, codes, not}
+use Rattle.kt_metadata.proofs.Common.{find, option_copied, chars, is_found, need_text, needed}
 use Rattle.kt_metadata.proofs.Rows.{around_found}
 use Rattle.kt_metadata.proofs.reasons.need_reason.Goals as goal
 

@@ -1,7 +1,5 @@
-use Rattle.std.proofs.Common.{◌∙◌, ap, List, ℕ}
-use Rattle.std.specs.Prelude.{codes}
-use Rattle.std.specs.Str.{chars}
-use Rattle.kt_metadata.specs.Requirements.{listed_row}
+use Rattle.std.proofs.Common.{◌∙◌, ap, List, ℕ, codes}
+use Rattle.kt_metadata.proofs.Common.{chars, listed_row}
 use Rattle.kt_metadata.proofs.requirements.platform_reason.Goals as goal
 
 pub returns : goal.returns

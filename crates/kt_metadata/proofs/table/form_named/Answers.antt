@@ -1,8 +1,5 @@
 use Rattle.std.proofs.Common.{◌≡◌, ◌∙◌, ap, sym, Some, None, false}
-use Rattle.std.specs.Option.{option_copied, option_map}
-use Rattle.std.specs.Str.{chars}
-use Rattle.kt_metadata.specs.Inner.Rows.{row_in}
-use Rattle.kt_metadata.specs.Properties.{is_custom}
+use Rattle.kt_metadata.proofs.Common.{option_copied, option_map, chars, row_in, is_custom}
 use Rattle.kt_metadata.proofs.Tables.{form-found}
 use Rattle.kt_metadata.proofs.table.form_named.Goals as goal
 

@@ -1,7 +1,5 @@
-use Rattle.std.proofs.Common.{◌∙◌, ap}
-use Rattle.std.specs.Prelude.{not, ◌&&◌, Bool, is_some}
-use Rattle.std.specs.Str.{chars}
-use Rattle.kt_metadata.specs.Properties.{form_named}
+use Rattle.std.proofs.Common.{◌∙◌, ap, not, ◌&&◌, Bool, is_some}
+use Rattle.kt_metadata.proofs.Common.{chars, form_named}
 use Rattle.kt_metadata.proofs.table.is_kyuafile_property.Goals as goal
 
 pub returns-then-not-is_word : goal.returns-then-not-is_word

@@ -1,7 +1,5 @@
 use Rattle.std.proofs.Common.{◌≡◌, drop, map}
-use Rattle.std.specs.List.{find}
-use Rattle.kt_metadata.specs.Inner.Rows.{row_in}
-use Rattle.kt_metadata.specs.Properties.{has_name}
+use Rattle.kt_metadata.proofs.Common.{find, row_in, has_name}
 use Rattle.kt_metadata.proofs.table.row_named.Given as goal
 
 abbrev pub invariant-loop-row : goal.invariant-loop-row

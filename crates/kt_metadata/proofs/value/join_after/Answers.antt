@@ -1,5 +1,5 @@
 use Rattle.std.proofs.Common.{◌≡◌, ◌∙◌, ◌++◌, ◌∷◌, ◌+◌, List, ℕ, ap, arith, drop, length}
-use Rattle.std.proofs.lemmas.Grind.{common_steps}
+use Rattle.kt_metadata.proofs.Common.{common_steps}
 use Rattle.kt_metadata.proofs.Joining.{next-word, last-word}
 use Rattle.kt_metadata.proofs.value.join_after.Goals as goal
 

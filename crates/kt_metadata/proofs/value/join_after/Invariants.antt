@@ -1,5 +1,5 @@
 use Rattle.std.proofs.Common.{◌≡◌, drop, ◌++◌}
-use Rattle.kt_metadata.specs.Listing.{spaced}
+use Rattle.kt_metadata.proofs.Common.{spaced}
 use Rattle.kt_metadata.proofs.value.join_after.Given as goal
 
 -- the text so far, and the words that are left

@@ -1,6 +1,5 @@
 use Rattle.std.proofs.Common.{ap, sym}
-use Rattle.std.specs.Str.{chars}
-use Rattle.kt_metadata.specs.Listing.{truth_text}
+use Rattle.kt_metadata.proofs.Common.{chars, truth_text}
 use Rattle.kt_metadata.proofs.value.truth_word.Goals as goal
 
 pub returns-then-value : goal.returns-then-value

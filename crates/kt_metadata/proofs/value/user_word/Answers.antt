@@ -1,6 +1,5 @@
 use Rattle.std.proofs.Common.{ap, sym}
-use Rattle.std.specs.Str.{chars}
-use Rattle.kt_metadata.specs.Listing.{user_text}
+use Rattle.kt_metadata.proofs.Common.{chars, user_text}
 use Rattle.kt_metadata.proofs.value.user_word.Goals as goal
 
 pub returns-in-Any : goal.returns-in-Any

@@ -1,14 +1,7 @@
-use Rattle.std.proofs.Common.{◌≡◌, ℕ, false, List, ap, string_bytes, BTreeSet, Global, nat_cmp}
-use Rattle.std.specs.List.{list_any}
-use Rattle.std.specs.BTreeSet.{contains_text, IsEmpty}
+use Rattle.std.proofs.Common.{◌≡◌, ℕ, false, List, ap, BTreeSet, Global, nat_cmp, string_bytes}
+use Rattle.kt_metadata.proofs.Common.{list_any, contains_text, IsEmpty, String, utf8, is_found, Host, Need, File, Program}
 use Rattle.std.specs.BTreeMap.{is_at}
 use Rattle.std.specs.Cmp.Lexicographic.{slice_cmp}
-use Rattle.std.specs.declared.string.String.{String}
-use Rattle.kt_base.specs.Utf8.{utf8}
-use Rattle.kt_metadata.specs.Requirements.{is_found}
-use Rattle.kt_metadata.specs.declared.host.Host.{Host}
-use Rattle.kt_metadata.specs.declared.host.Need.{Need}
-use Rattle.kt_metadata.specs.declared.host.Need.TheVariants.{File, Program}
 use Rattle.kt_metadata.proofs.host.Host.new.Goals as goal
 
 -- nothing is in an empty set

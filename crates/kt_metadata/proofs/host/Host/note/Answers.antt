@@ -1,14 +1,7 @@
-use Rattle.std.specs.Prelude.{Bool, true, false}
-use Rattle.std.proofs.Common.{◌≡◌, ℕ, List, ◌||◌, cond, refl, sym, ap, ◌∙◌, bytes_eq, string_bytes, BTreeSet, Global}
-use Rattle.std.specs.BTreeSet.{contains_text}
-use Rattle.std.specs.declared.string.String.{String}
+use Rattle.std.proofs.Common.{Bool, true, false, ◌≡◌, ℕ, List, ◌||◌, cond, refl, sym, ap, ◌∙◌, bytes_eq, BTreeSet, Global, string_bytes}
+use Rattle.kt_metadata.proofs.Common.{contains_text, String, utf8, is_found, is_same_need, IsNoted, Host, Need, File, Program}
 use Rattle.std.proofs.Math.Bool.{or-false}
 use Rattle.std.proofs.lemmas.Map.Text.{btree_set_updates_text}
-use Rattle.kt_base.specs.Utf8.{utf8}
-use Rattle.kt_metadata.specs.Requirements.{is_found, is_same_need, IsNoted}
-use Rattle.kt_metadata.specs.declared.host.Host.{Host}
-use Rattle.kt_metadata.specs.declared.host.Need.{Need}
-use Rattle.kt_metadata.specs.declared.host.Need.TheVariants.{File, Program}
 use Rattle.kt_metadata.proofs.host.Host.note.Goals as goal
 
 or_last : (b x : Bool) → cond b true x ≡ (x || b)

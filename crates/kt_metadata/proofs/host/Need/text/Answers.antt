@@ -1,6 +1,5 @@
 use Rattle.std.proofs.Common.{ap, sym}
-use Rattle.std.specs.Str.{chars}
-use Rattle.kt_metadata.specs.Requirements.{need_text}
+use Rattle.kt_metadata.proofs.Common.{chars, need_text}
 use Rattle.kt_metadata.proofs.host.Need.text.Goals as goal
 
 pub returns-in-File : goal.returns-in-File

@@ -1,6 +1,5 @@
 use Rattle.std.proofs.Common.{◌≡◌, ◌++◌}
-use Rattle.kt_metadata.specs.Inner.Layers.{pairs_in}
-use Rattle.kt_metadata.specs.Listing.{custom_pairs}
+use Rattle.kt_metadata.proofs.Common.{pairs_in, custom_pairs}
 use Rattle.kt_metadata.proofs.layer.Layer.add_custom.Given as goal
 
 -- the pairs so far, and those of what is left

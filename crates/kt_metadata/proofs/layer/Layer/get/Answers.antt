@@ -1,9 +1,5 @@
-use Rattle.std.proofs.Common.{◌∙◌, ap, chars, List}
-use Rattle.std.specs.Option.{option_map}
-use Rattle.kt_base.specs.declared.variable.Variable.{Variable}
-use Rattle.kt_base.specs.LastValues.{value_of}
-use Rattle.kt_metadata.specs.declared.value.Given.{Given}
-use Rattle.kt_metadata.specs.Effective.{texts_of, given}
+use Rattle.std.proofs.Common.{◌∙◌, ap, List}
+use Rattle.kt_metadata.proofs.Common.{chars, option_map, Variable, value_of, Given, texts_of, given}
 use Rattle.kt_metadata.proofs.Layers.{text-found, value-found}
 use Rattle.kt_metadata.proofs.layer.Layer.get.Goals as goal
 

@@ -1,8 +1,5 @@
-use Rattle.std.proofs.Common.{◌∙◌, ap, chars, List, [], ◌∷◌, ◌++◌, ℕ, subst, sym}
-use Rattle.kt_base.specs.declared.variable.Variable.{Variable}
-use Rattle.kt_base.specs.LastValues.{last_values}
-use Rattle.kt_metadata.specs.Inner.Layers.{IsRead, pair_in}
-use Rattle.kt_metadata.specs.Overlays.{a_pair}
+use Rattle.std.proofs.Common.{◌∙◌, ap, List, [], ◌∷◌, ◌++◌, ℕ, subst, sym}
+use Rattle.kt_metadata.proofs.Common.{chars, Variable, last_values, IsRead, pair_in, a_pair}
 use Rattle.kt_metadata.proofs.Layers.{inserted-last, still-sound}
 use Rattle.kt_metadata.proofs.layer.Layer.put.Goals as goal
 

@@ -1,11 +1,5 @@
-use Rattle.std.proofs.Common.{◌≡◌, ◌∙◌, ◌∷◌, ◌++◌, [], ap, append-nil, sym, List, ℕ, String, Global, chars, subst, rules}
-use Rattle.std.specs.String.{string_bytes}
-use Rattle.kt_base.specs.declared.variable.Variable.{Variable}
-use Rattle.kt_base.specs.LastValues.{last_values}
-use Rattle.kt_config.proofs.Puttings.{twice}
-use Rattle.kt_metadata.specs.declared.value.Given.{Given}
-use Rattle.kt_metadata.specs.Inner.Layers.{pairs_in, AreRead, IsRead}
-use Rattle.kt_metadata.specs.Overlays.{a_pair}
+use Rattle.std.proofs.Common.{◌≡◌, ◌∙◌, ◌∷◌, ◌++◌, [], ap, append-nil, sym, List, ℕ, Global, subst, rules, String}
+use Rattle.kt_metadata.proofs.Common.{chars, string_bytes, Variable, last_values, twice, Given, pairs_in, AreRead, IsRead, a_pair}
 use Rattle.kt_metadata.proofs.Layers.{next-entry}
 use Rattle.kt_metadata.proofs.layer.Layer.put_all.Goals as goal
 

@@ -1,6 +1,5 @@
 use Rattle.std.proofs.Common.{◌≡◌, ◌++◌}
-use Rattle.kt_base.specs.LastValues.{last_values}
-use Rattle.kt_metadata.specs.Inner.Layers.{pairs_in, AreRead}
+use Rattle.kt_metadata.proofs.Common.{last_values, pairs_in, AreRead}
 use Rattle.kt_metadata.proofs.layer.Layer.put_all.Given as goal
 
 -- what is left goes over what was taken

@@ -1,7 +1,5 @@
 use Rattle.std.proofs.Common.{◌≡◌, ◌++◌, drop, map}
-use Rattle.kt_metadata.specs.Effective.{texts_of}
-use Rattle.kt_metadata.specs.Inner.Rows.{row_in}
-use Rattle.kt_metadata.specs.Listing.{shown_pairs}
+use Rattle.kt_metadata.proofs.Common.{texts_of, row_in, shown_pairs}
 use Rattle.kt_metadata.proofs.props.Props.add_shown.Given as goal
 
 -- the pairs so far, and those of what is left

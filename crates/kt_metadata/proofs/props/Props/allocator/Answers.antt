@@ -1,4 +1,4 @@
-use Rattle.kt_metadata.specs.Inner.Layers.{beneath}
+use Rattle.kt_metadata.proofs.Common.{beneath}
 use Rattle.kt_metadata.proofs.Layers.{once}
 use Rattle.kt_metadata.proofs.props.Props.allocator.Goals as goal
 

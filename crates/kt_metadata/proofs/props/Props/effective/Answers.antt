@@ -1,12 +1,7 @@
-use Rattle.std.proofs.Common.{◌≡◌, ◌∙◌, ℕ, Bool, List, [], Option, ap, refl, sym, subst}
-use Rattle.std.proofs.Math.Path.{fun_ext}
-use Rattle.std.specs.Prelude.{codes, unwrap_or}
-use Rattle.std.specs.Str.{chars}
-use Rattle.kt_base.specs.LastValues.{value_of}
-use Rattle.kt_base.proofs.LastValueLaws.{value_is}
+use Rattle.std.proofs.Common.{◌≡◌, ◌∙◌, ℕ, Bool, List, [], Option, ap, refl, sym, subst, codes, unwrap_or}
+use Rattle.kt_metadata.proofs.Common.{fun_ext, chars, value_of, value_is, given, words_in, truth_in, size_in, user_in, timeout_in, meta_of, texts_of}
 use Rattle.kt_metadata.specs.declared.meta.Meta.{Meta}
 use Rattle.kt_metadata.specs.declared.value.User.{User}
-use Rattle.kt_metadata.specs.Effective.{given, words_in, truth_in, size_in, user_in, timeout_in, meta_of, texts_of}
 use Rattle.kt_metadata.proofs.Timeouts.{IsTimeout, timeout-within}
 use Rattle.kt_metadata.proofs.props.Props.effective.Goals as goal
 

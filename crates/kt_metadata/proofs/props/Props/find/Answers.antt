@@ -1,9 +1,6 @@
-use Rattle.std.proofs.Common.{◌∙◌, ap, chars, ◌++◌, [], sym}
-use Rattle.std.specs.Prelude.{option_and_then}
+use Rattle.std.proofs.Common.{◌∙◌, ap, ◌++◌, [], sym, option_and_then}
+use Rattle.kt_metadata.proofs.Common.{chars, last_values, value_of, beneath, value_named}
 use Rattle.std.specs.Rc.{rc_value}
-use Rattle.kt_base.specs.LastValues.{last_values, value_of}
-use Rattle.kt_metadata.specs.Inner.Layers.{beneath}
-use Rattle.kt_metadata.specs.Properties.{value_named}
 use Rattle.kt_metadata.proofs.Layers.{given-over, given-beneath}
 use Rattle.kt_metadata.proofs.props.Props.find.Goals as goal
 

@@ -1,7 +1,5 @@
 use Rattle.std.proofs.Common.{◌∙◌, ◌++◌, ap, sym, List}
-use Rattle.kt_base.specs.declared.variable.Variable.{Variable}
-use Rattle.kt_base.specs.LastValues.{last_values}
-use Rattle.kt_metadata.specs.Inner.Layers.{beneath}
+use Rattle.kt_metadata.proofs.Common.{Variable, last_values, beneath}
 use Rattle.kt_metadata.proofs.Layers.{overlaid-over, laid-over}
 use Rattle.kt_metadata.proofs.props.Props.lay_over.Goals as goal
 

@@ -1,12 +1,5 @@
 use Rattle.std.proofs.Common.{◌∙◌, ◌++◌, ap, List, ℕ, Option}
-use Rattle.std.proofs.Math.Path.{fun_ext}
-use Rattle.std.specs.Str.{chars}
-use Rattle.kt_base.specs.declared.variable.Variable.{Variable}
-use Rattle.kt_base.specs.LastValues.{last_values, value_of}
-use Rattle.kt_base.proofs.LastValueLaws.{value_is}
-use Rattle.kt_metadata.specs.Effective.{texts_of}
-use Rattle.kt_metadata.specs.Listing.{custom_pairs, shown_pairs}
-use Rattle.kt_metadata.specs.Properties.{table}
+use Rattle.kt_metadata.proofs.Common.{fun_ext, chars, Variable, last_values, value_of, value_is, texts_of, custom_pairs, shown_pairs, table}
 use Rattle.kt_metadata.proofs.props.Props.listing.Goals as goal
 
 pub returns-clause-value : goal.returns-clause-value

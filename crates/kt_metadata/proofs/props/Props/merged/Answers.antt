@@ -1,6 +1,5 @@
 use Rattle.std.proofs.Common.{◌∙◌, ◌++◌, ap, sym, List}
-use Rattle.kt_base.specs.declared.variable.Variable.{Variable}
-use Rattle.kt_base.specs.LastValues.{last_values}
+use Rattle.kt_metadata.proofs.Common.{Variable, last_values}
 use Rattle.kt_metadata.proofs.props.Props.merged.Goals as goal
 
 pub returns : goal.returns

@@ -1,5 +1,5 @@
 use Rattle.std.proofs.Common.{rules}
-use Rattle.std.specs.Str.{chars}
+use Rattle.kt_metadata.proofs.Common.{chars}
 use Rattle.kt_metadata.proofs.props.Props.shown.Goals as goal
 
 pub returns-in-None : goal.returns-in-None

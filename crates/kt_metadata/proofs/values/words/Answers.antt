@@ -1,8 +1,7 @@
 use Rattle.std.proofs.Common.{◌≡◌, ◌∙◌, ◌∷◌, ◌++◌, ◌+◌, List, ℕ, ap, sym, arith, drop, length}
-use Rattle.std.proofs.lemmas.Grind.{common_steps}
-use Rattle.kt_metadata.specs.Words.{words, words_from}
+use Rattle.kt_metadata.proofs.Common.{common_steps, words, words_from}
 use Rattle.kt_metadata.proofs.WordsEnding.{no-length}
-use Rattle.kt_metadata.proofs.words.words.Goals as goal
+use Rattle.kt_metadata.proofs.values.words.Goals as goal
 
 pub loop-c-init : goal.loop-c-init
 loop-c-init c =

@@ -1,7 +1,7 @@
 use Rattle.std.proofs.Common.{◌∙◌, ◌++◌, [], ap, sym, append_assoc, List, ℕ}
-use Rattle.kt_metadata.specs.Words.{ended, words_from}
+use Rattle.kt_metadata.proofs.Common.{ended, words_from}
 use Rattle.kt_metadata.proofs.WordsEnding.{at-space, in-word}
-use Rattle.kt_metadata.proofs.words.next_word.Goals as goal
+use Rattle.kt_metadata.proofs.values.next_word.Goals as goal
 
 pub returns-then-is_space : goal.returns-then-is_space
 returns-then-is_space c = λ rest.

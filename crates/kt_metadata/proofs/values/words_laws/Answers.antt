@@ -1,5 +1,5 @@
 use Rattle.kt_metadata.proofs.WordLaws.{are-words, no-others}
-use Rattle.kt_metadata.proofs.words.words_laws.Goals as goal
+use Rattle.kt_metadata.proofs.values.words_laws.Goals as goal
 
 pub returns-clause-words : goal.returns-clause-words
 returns-clause-words c = λ text. are-words text

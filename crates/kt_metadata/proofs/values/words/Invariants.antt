@@ -1,6 +1,6 @@
 use Rattle.std.proofs.Common.{◌≡◌, ◌++◌, drop}
-use Rattle.kt_metadata.specs.Words.{words, words_from}
-use Rattle.kt_metadata.proofs.words.words.Given as goal
+use Rattle.kt_metadata.proofs.Common.{words, words_from}
+use Rattle.kt_metadata.proofs.values.words.Given as goal
 
 -- the words so far, and those of what is left
 abbrev pub invariant-loop-c : goal.invariant-loop-c

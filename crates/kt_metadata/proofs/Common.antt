@@ -1,0 +1,31 @@
+-- The names that most proofs of this crate cite, passed on from one place. Declares nothing.
+pub use Rattle.std.proofs.Math.Path.{fun_ext}
+pub use Rattle.std.proofs.lemmas.Grind.{common_steps}
+pub use Rattle.std.proofs.lemmas.Str.{IsUtf8-string_bytes, chars-append, chars-nil, encodes-append, encodes-chars}
+pub use Rattle.std.specs.BTreeSet.{IsEmpty, contains_text}
+pub use Rattle.std.specs.List.{find, list_all, list_any}
+pub use Rattle.std.specs.Option.{option_copied, option_map, option_or}
+pub use Rattle.std.specs.Str.{IsUtf8}
+unfoldable pub use Rattle.std.specs.Str.{chars}
+pub use Rattle.std.specs.String.{string_bytes, string_eq}
+pub use Rattle.std.specs.declared.string.String.{String}
+pub use Rattle.kt_base.proofs.LastValueLaws.{overlaid, value_is}
+pub use Rattle.kt_base.proofs.Names.{same, value_of-append}
+pub use Rattle.kt_base.specs.Characters.{is_space}
+pub use Rattle.kt_base.specs.LastValues.{last_values, value_of}
+pub use Rattle.kt_base.specs.Utf8.{utf8}
+pub use Rattle.kt_base.specs.declared.variable.Variable.{Variable}
+pub use Rattle.kt_config.proofs.Puttings.{first-settled, first_value, put, put-settled, settled-put, twice}
+pub use Rattle.kt_metadata.specs.Effective.{given, meta_of, size_in, texts_of, timeout_in, truth_in, user_in, words_in}
+pub use Rattle.kt_metadata.specs.Inner.Layers.{AreRead, AreSound, IsRead, beneath, pair_in, pairs_in}
+pub use Rattle.kt_metadata.specs.Inner.Rows.{row_in}
+pub use Rattle.kt_metadata.specs.ListKeys.{StandsFor, has_key, name_of_key}
+pub use Rattle.kt_metadata.specs.Listing.{custom_pairs, shown_pairs, spaced, truth_text, user_text}
+pub use Rattle.kt_metadata.specs.Overlays.{a_pair}
+pub use Rattle.kt_metadata.specs.Properties.{Row, after_front, filled, form_named, has_name, is_custom, own_part, table, value_fault, value_in, value_named}
+pub use Rattle.kt_metadata.specs.Requirements.{IsNoted, around, is_allowed, is_found, is_same_need, listed_row, need_text, needed}
+pub use Rattle.kt_metadata.specs.Words.{AreWords, IsBreak, ended, is_word, words, words_from}
+pub use Rattle.kt_metadata.specs.declared.host.Host.{Host}
+pub use Rattle.kt_metadata.specs.declared.host.Need.{Need}
+pub use Rattle.kt_metadata.specs.declared.host.Need.TheVariants.{File, Program}
+pub use Rattle.kt_metadata.specs.declared.value.Given.{Given}
