@@ -1,13 +1,8 @@
 -- Properties that a block gives once, and names that a list gives once.
 use Rattle.std.proofs.Common.{◌≡◌, ℕ, Bool, true, false, List, [], ◌∷◌, ◌++◌, Option, Some, None, Result, Ok, Err, OnOk, OnErr, is_some, refl, ap, sym, map, ◌∙◌, bytes_eq, Bor, option_copied}
-use Rattle.std.specs.List.{list_any}
-use Rattle.std.proofs.lemmas.List.{append-nil}
+use Rattle.kt_atflist.proofs.Common.{list_any, append-nil, Variable, name_of, names_of, is_listed, is_given, with_property, CaseDef}
 use Rattle.kt_base.specs.LastValues.{is_named, value_of, last_values}
-use Rattle.kt_base.specs.declared.variable.Variable.{Variable}
 use Rattle.kt_base.proofs.LastValueLaws.{overlaid, appended}
-use Rattle.kt_atflist.specs.Inner.Keys.{name_of, names_of}
-use Rattle.kt_atflist.specs.Blocks.{is_listed, is_given, with_property}
-use Rattle.kt_atflist.specs.declared.case_def.CaseDef.{CaseDef}
 
 -- ---- properties
 

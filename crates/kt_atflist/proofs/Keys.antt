@@ -1,12 +1,9 @@
 -- The keys of a set of names, seen as characters.
-use Rattle.std.proofs.Common.{◌≡◌, ℕ, false, List, [], ◌∷◌, ◌++◌, refl, ap, map, chars, ◌∙◌, bytes_eq}
-use Rattle.std.specs.List.{list_any}
-use Rattle.std.specs.Str.{IsUtf8}
+use Rattle.std.proofs.Common.{◌≡◌, ℕ, false, List, [], ◌∷◌, ◌++◌, refl, ap, map, ◌∙◌, bytes_eq}
+use Rattle.kt_atflist.proofs.Common.{chars, list_any, IsUtf8, IsUtf8-string_bytes, characters}
 use Rattle.std.specs.String.{string_bytes, string_eq}
 use Rattle.std.specs.declared.string.String.{String}
-use Rattle.std.proofs.lemmas.Str.{IsUtf8-string_bytes}
 use Rattle.indexmap.specs.IndexSet.{insert_key}
-use Rattle.kt_atflist.specs.Inner.Keys.{characters}
 use Rattle.kt_base.proofs.Texts.{bytes_eq-chars}
 
 same : {Z : Type 0} (q : List ℕ) → IsUtf8 q → (k : String Z) → bytes_eq q (string_bytes k) ≡ bytes_eq (chars q) (characters k)

@@ -1,19 +1,8 @@
 -- A line leads on, or it has a fault.
-use Rattle.std.specs.Prelude.{codes, bytes_eq}
-use Rattle.std.specs.List.{find}
-use Rattle.std.proofs.Common.{◌≡◌, ℕ, Bool, true, false, List, [], ◌∷◌, ◌++◌, Option, Some, None, refl, ap, sym, subst, ◌∙◌}
+use Rattle.std.proofs.Common.{codes, bytes_eq, ◌≡◌, ℕ, Bool, true, false, List, [], ◌∷◌, ◌++◌, Option, Some, None, refl, ap, sym, subst, ◌∙◌}
+use Rattle.kt_atflist.proofs.Common.{find, is_empty, ident_in, is_name, key_in, value_in, is_listed, is_given, named, with_property, is_good, begin_with, set_property, go_on, step_from, Goes, begins, gives, ends, fits_first, fits_further, first_rows, further_rows, Fails, first, further, BadLine, NoIdent, RepeatedKey, RepeatedIdent, UnknownKey, BadValue, CaseDef, Read, Step, To, Wrong}
 use Rattle.kt_base.specs.Lossy.{lossy}
-use Rattle.kt_base.specs.Texts.{is_empty}
-use Rattle.kt_atflist.specs.BlockLines.{ident_in, is_name, key_in, value_in}
 use Rattle.kt_metadata.specs.ListKeys.{name_of_key}
-use Rattle.kt_atflist.specs.Blocks.{is_listed, is_given, named, with_property, is_good}
-use Rattle.kt_atflist.specs.Inner.Reading.{begin_with, set_property, go_on, step_from}
-use Rattle.kt_atflist.specs.Spelling.{Goes, begins, gives, ends, fits_first, fits_further, first_rows, further_rows, Fails, first, further}
-use Rattle.kt_atflist.specs.declared.list_fault.ListCause.TheVariants.{BadLine, NoIdent, RepeatedKey, RepeatedIdent, UnknownKey, BadValue}
-use Rattle.kt_atflist.specs.declared.case_def.CaseDef.{CaseDef}
-use Rattle.kt_atflist.specs.Read.{Read}
-use Rattle.kt_atflist.specs.declared.reading.Step.{Step}
-use Rattle.kt_atflist.specs.declared.reading.Step.TheVariants.{To, Wrong}
 
 -- where a line leads, or its fault
 abbrev pub Led : List CaseDef → List ℕ → Option CaseDef → Step → Type 0

@@ -1,22 +1,7 @@
 -- The reading line by line gives what a text spells, or the fault that is due.
-use Rattle.std.specs.Prelude.{Ok, Err, bytes_eq}
-use Rattle.std.specs.List.{find}
-use Rattle.std.specs.Str.{IsUtf8, is_utf8}
-use Rattle.std.proofs.Common.{◌≡◌, ◌⊎◌, ℕ, ◌+◌, Bool, true, false, List, [], ◌∷◌, Option, Some, None, refl, ap, sym, subst, ◌∙◌, inl, inr}
-use Rattle.std.proofs.lemmas.Bool.{false≢true}
-use Rattle.std.proofs.lemmas.Str.{IsUtf8-from_is_utf8, is_utf8-from_IsUtf8}
-use Rattle.kt_base.specs.Lines.{lines}
-use Rattle.kt_atflist.specs.Spelling.{header, Outcome, fault_at, Goes, begins, gives, ends, Spelled, no_block, last_block, line, fits_first, fits_further, first_rows, further_rows, Fails, first, further, Faulty, here, later, IsList, list, IsFault, no_first, other_first, no_second, other_second, no_third, in_blocks, IsAnswer, IsOutOfMemory, IsUnlessMemory}
-use Rattle.kt_base.specs.Texts.{is_empty}
-use Rattle.kt_atflist.specs.BlockLines.{ident_in, key_in, value_in}
-use Rattle.kt_atflist.specs.Inner.Reading.{led, closed, step_from, read_from, nothing_read, read_blocks, read_second, read_lines, read_list}
+use Rattle.std.proofs.Common.{Ok, Err, bytes_eq, ◌≡◌, ◌⊎◌, ℕ, ◌+◌, Bool, true, false, List, [], ◌∷◌, Option, Some, None, refl, ap, sym, subst, ◌∙◌, inl, inr}
+use Rattle.kt_atflist.proofs.Common.{find, IsUtf8, is_utf8, false≢true, IsUtf8-from_is_utf8, is_utf8-from_IsUtf8, lines, header, Outcome, fault_at, Goes, begins, gives, ends, Spelled, no_block, last_block, line, fits_first, fits_further, first_rows, further_rows, Fails, first, further, Faulty, here, later, IsList, list, IsFault, no_first, other_first, no_second, other_second, no_third, in_blocks, IsAnswer, IsOutOfMemory, IsUnlessMemory, is_empty, ident_in, key_in, value_in, led, closed, step_from, read_from, nothing_read, read_blocks, read_second, read_lines, read_list, BadHeader, ListFault, CaseDef, Read, Step, To, Wrong}
 use Rattle.kt_atflist.specs.declared.list_fault.ListCause.{ListCause}
-use Rattle.kt_atflist.specs.declared.list_fault.ListCause.TheVariants.{BadHeader}
-use Rattle.kt_atflist.specs.declared.list_fault.ListFault.{ListFault}
-use Rattle.kt_atflist.specs.declared.case_def.CaseDef.{CaseDef}
-use Rattle.kt_atflist.specs.Read.{Read}
-use Rattle.kt_atflist.specs.declared.reading.Step.{Step}
-use Rattle.kt_atflist.specs.declared.reading.Step.TheVariants.{To, Wrong}
 use Rattle.kt_atflist.proofs.LineCases.{Led, led_by, step_goes}
 use Rattle.kt_atflist.proofs.Utf8.{read_utf8, read_other}
 

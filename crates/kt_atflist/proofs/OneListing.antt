@@ -1,18 +1,7 @@
 -- A listing comes to one thing, and a program has one list of cases.
-use Rattle.std.specs.Prelude.{Result, Ok, Err}
-use Rattle.std.proofs.Common.{◌≡◌, ℕ, List, [], ◌∷◌, Option, Some, None, map, refl, ap, sym, ◌∙◌}
-use Rattle.kt_base.specs.declared.interface.Interface.{Interface}
-use Rattle.kt_base.specs.declared.no_memory.NoMemory.{NoMemory}
-use Rattle.kt_base.specs.declared.phrase.Phrase.{Phrase}
-use Rattle.kt_base.specs.declared.reason.Reason.{Reason}
-use Rattle.kt_base.specs.declared.reason.Reason.TheVariants.{Counted}
-use Rattle.kt_base.specs.declared.variable.Variable.{Variable}
-use Rattle.kt_atflist.specs.Cases.{over_program, list_case, AreCases, tap, plain, listed, unlisted}
-use Rattle.kt_atflist.specs.Listings.{fault_phrase, ended_reason, IsRead, no_list, listed as read_list, Lists, unstarted, unlisted as unread, unreadable, too_long, read}
-use Rattle.kt_atflist.specs.Spelling.{Outcome}
-use Rattle.kt_atflist.specs.declared.case_def.CaseDef.{CaseDef}
-use Rattle.kt_atflist.specs.declared.list_fault.ListFault.{ListFault}
-use Rattle.kt_atflist.specs.declared.listing.Listing.{Listing}
+use Rattle.std.proofs.Common.{Result, Ok, Err, ◌≡◌, ℕ, List, [], ◌∷◌, Option, Some, None, map, refl, ap, sym, ◌∙◌}
+use Rattle.kt_atflist.proofs.Common.{Interface, NoMemory, Phrase, Reason, Counted, Variable, over_program, list_case, AreCases, tap, plain, listed, unlisted, fault_phrase, ended_reason, IsRead, no_list, Lists, unstarted, unreadable, too_long, read, Outcome, CaseDef, ListFault, Listing}
+use Rattle.kt_atflist.specs.Listings.{listed as read_list, unlisted as unread}
 use Rattle.kt_atflist.proofs.Lists.{one_answer}
 
 -- what a listing comes to

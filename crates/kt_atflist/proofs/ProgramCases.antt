@@ -1,14 +1,7 @@
 -- The test cases of a program, by its interface and by what its listing came to.
-use Rattle.std.specs.Prelude.{Result, Ok, Err}
-use Rattle.std.proofs.Common.{◌≡◌, List, [], ◌∷◌, Option, Some, map, sym, subst}
-use Rattle.kt_base.specs.declared.interface.Interface.{Interface}
-use Rattle.kt_base.specs.declared.interface.Interface.TheVariants.{Atf, Tap, Plain}
-use Rattle.kt_base.specs.declared.reason.Reason.{Reason}
-use Rattle.kt_base.specs.declared.variable.Variable.{Variable}
-use Rattle.kt_atflist.specs.Cases.{over_program, main_case, list_case, AreCases, tap, plain, listed, unlisted}
-use Rattle.kt_atflist.specs.Listings.{Lists}
-use Rattle.kt_atflist.specs.declared.case_def.CaseDef.{CaseDef}
-use Rattle.kt_atflist.specs.declared.listing.Listing.{Listing}
+use Rattle.std.proofs.Common.{Result, Ok, Err, ◌≡◌, List, [], ◌∷◌, Option, Some, map, sym, subst}
+use Rattle.kt_atflist.proofs.Common.{Interface, Reason, Variable, over_program, main_case, list_case, AreCases, tap, plain, listed, unlisted, Lists, CaseDef, Listing}
+use Rattle.kt_base.specs.declared.child.Interface.TheVariants.{Atf, Tap, Plain}
 
 pub listed_by : (props : List Variable) (listing : Listing) (found : Result (List CaseDef) Reason) (own cases : List CaseDef) → Lists listing found → found ≡ Ok own
     → cases ≡ map (over_program props) own → AreCases props Atf (Some listing) cases

@@ -1,23 +1,15 @@
 -- What the bytes of a listing give.
-use Rattle.std.specs.Prelude.{Result, Ok, Err}
-use Rattle.std.proofs.Common.{◌≡◌, ◌⊎◌, ℕ, List, Some, None, ap, sym, subst, ◌∙◌, inl, inr}
-use Rattle.kt_base.specs.declared.outcome.Outcome.{Outcome as Ending}
-use Rattle.kt_base.specs.declared.phrase.Phrase.{Phrase}
+use Rattle.std.proofs.Common.{Result, Ok, Err, ◌≡◌, ◌⊎◌, ℕ, List, Some, None, ap, sym, subst, ◌∙◌, inl, inr}
+use Rattle.kt_atflist.proofs.Common.{Phrase, Reason, Fixed, Counted, ended_reason, fault_phrase, IsRead, no_list, Lists, unstarted, unreadable, too_long, read, Outcome, IsOutOfMemory, fault_at, IsAnswer, Listing, NoMemory, ListFault, CaseDef}
+use Rattle.kt_base.specs.declared.child.Outcome.{Outcome as Ending}
 use Rattle.kt_base.specs.declared.phrase.Phrase.TheVariants.{ListUnreadable, ListTooLong}
-use Rattle.kt_base.specs.declared.reason.Reason.{Reason}
-use Rattle.kt_base.specs.declared.reason.Reason.TheVariants.{Fixed, Counted}
-use Rattle.kt_base.specs.declared.refused.Refused.{Refused}
+use Rattle.kt_base.specs.declared.child.Refused.{Refused}
 use Rattle.kt_base.specs.Reasons.{refused_reason}
-use Rattle.kt_atflist.specs.Listings.{ended_reason, fault_phrase, IsRead, no_list, listed, Lists, unstarted, unlisted, unreadable, too_long, read}
-use Rattle.kt_atflist.specs.Spelling.{Outcome, IsOutOfMemory, fault_at, IsAnswer}
+use Rattle.kt_atflist.specs.Listings.{listed, unlisted}
 use Rattle.kt_atflist.specs.declared.listing.ListBytes.{ListBytes}
 use Rattle.kt_atflist.specs.declared.listing.ListBytes.TheVariants as bytes
-use Rattle.kt_atflist.specs.declared.listing.Listing.{Listing}
 use Rattle.kt_atflist.specs.declared.listing.Listing.TheVariants as listing
-use Rattle.kt_base.specs.declared.no_memory.NoMemory.{NoMemory}
 use Rattle.kt_atflist.specs.declared.list_fault.ListCause.TheVariants as cause
-use Rattle.kt_atflist.specs.declared.list_fault.ListFault.{ListFault}
-use Rattle.kt_atflist.specs.declared.case_def.CaseDef.{CaseDef}
 
 -- cases are no refusal of memory
 pub cases_read : (slice text : List ℕ) (cases : List CaseDef) → slice ≡ text → IsOutOfMemory (Ok cases) ⊎ IsAnswer slice (Ok cases) → IsRead text (Ok cases)

@@ -4,7 +4,7 @@ use Rattle.std.specs.List.{list_any}
 use Rattle.kt_base.specs.LastValues.{is_named}
 use Rattle.kt_base.specs.declared.variable.Variable.{Variable}
 use Rattle.kt_metadata.specs.Properties.{definition_fault}
-use Rattle.kt_atflist.specs.declared.case_def.CaseDef.{CaseDef}
+use Rattle.kt_atflist.specs.declared.listing.CaseDef.{CaseDef}
 
 -- a case has this name
 abbrev pub is_called : List ℕ → CaseDef → Bool

@@ -1,3 +1,4 @@
+pub mod Common
 pub mod BlockLines
 pub mod Blocks
 pub mod Cases

@@ -1,13 +1,13 @@
 -- What a listing gives: cases, or the reason why it can't be used.
 use Rattle.std.specs.Prelude.{◌≡◌, ℕ, ◌==◌, if◌then◌else◌, List, Option, Some, None, Result, Ok, Err}
 use Rattle.kt_base.specs.declared.no_memory.NoMemory.{NoMemory}
-use Rattle.kt_base.specs.declared.outcome.Outcome.{Outcome}
-use Rattle.kt_base.specs.declared.outcome.Outcome.TheVariants.{Exited, Signaled, TimedOut, WaitFailed}
+use Rattle.kt_base.specs.declared.child.Outcome.{Outcome}
+use Rattle.kt_base.specs.declared.child.Outcome.TheVariants.{Exited, Signaled, TimedOut, WaitFailed}
 use Rattle.kt_base.specs.declared.phrase.Phrase.{Phrase}
 use Rattle.kt_base.specs.declared.phrase.Phrase.TheVariants.{ListTimedOut, ListNotWaitedFor, NoList, ListUnreadable, ListTooLong, ListBadHeader, ListBadLine, ListNoIdent, ListRepeatedKey, ListRepeatedIdent, ListUnknownKey, ListBadValue, ListEmpty, ListNotUtf8}
-use Rattle.kt_base.specs.declared.reason.Reason.{Reason}
-use Rattle.kt_base.specs.declared.reason.Reason.TheVariants.{Fixed, Ended, Counted}
-use Rattle.kt_base.specs.declared.refused.Refused.{Refused}
+use Rattle.kt_base.specs.declared.verdict.Reason.{Reason}
+use Rattle.kt_base.specs.declared.verdict.Reason.TheVariants.{Fixed, Ended, Counted}
+use Rattle.kt_base.specs.declared.child.Refused.{Refused}
 use Rattle.kt_base.specs.Reasons.{refused_reason}
 use Rattle.kt_atflist.specs.declared.listing.ListBytes.{ListBytes}
 use Rattle.kt_atflist.specs.declared.listing.ListBytes.TheVariants as bytes
@@ -15,7 +15,7 @@ use Rattle.kt_atflist.specs.declared.list_fault.ListCause.{ListCause}
 use Rattle.kt_atflist.specs.declared.list_fault.ListCause.TheVariants as cause
 use Rattle.kt_atflist.specs.declared.list_fault.ListCause.TheVariants.{BadHeader, BadLine, NoIdent, RepeatedKey, RepeatedIdent, UnknownKey, BadValue, EmptyList, NotUtf8}
 use Rattle.kt_atflist.specs.declared.list_fault.ListFault.{ListFault}
-use Rattle.kt_atflist.specs.declared.case_def.CaseDef.{CaseDef}
+use Rattle.kt_atflist.specs.declared.listing.CaseDef.{CaseDef}
 use Rattle.kt_atflist.specs.declared.listing.Listing.{Listing}
 use Rattle.kt_atflist.specs.declared.listing.Listing.TheVariants as listing
 use Rattle.kt_atflist.specs.Spelling.{Spells, IsDue}

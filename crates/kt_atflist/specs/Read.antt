@@ -1,6 +1,6 @@
 -- What was read of a list so far.
 use Rattle.std.specs.Prelude.{List, Option}
-use Rattle.kt_atflist.specs.declared.case_def.CaseDef.{CaseDef}
+use Rattle.kt_atflist.specs.declared.listing.CaseDef.{CaseDef}
 
 pub record Read : Type 0 where
   -- the cases of the blocks that have ended

@@ -14,7 +14,7 @@ use Rattle.kt_atflist.specs.declared.list_fault.ListCause.{ListCause}
 use Rattle.kt_atflist.specs.declared.list_fault.ListCause.TheVariants as cause
 use Rattle.kt_atflist.specs.declared.list_fault.ListCause.TheVariants.{BadHeader, BadLine, NoIdent, RepeatedKey, RepeatedIdent, UnknownKey, BadValue, EmptyList, NotUtf8}
 use Rattle.kt_atflist.specs.declared.list_fault.ListFault.{ListFault}
-use Rattle.kt_atflist.specs.declared.case_def.CaseDef.{CaseDef}
+use Rattle.kt_atflist.specs.declared.listing.CaseDef.{CaseDef}
 use Rattle.kt_atflist.specs.Read.{Read}
 
 -- the cases of a list, or its fault

@@ -2,7 +2,7 @@ ghost use Rattle.std.specs.Prelude.{◌≡◌, Bool, false, None, Some, IfOk, On
 ghost use Rattle.kt_metadata.specs.Properties.{definition_fault, IfFault};
 ghost use Rattle.kt_atflist.specs.Blocks.{is_given, named, with_property};
 
-use crate::case_def::CaseDef;
+use crate::CaseDef;
 use kt_base::Text;
 use kt_metadata::{PropFault, Props};
 use std::alloc::Global;
@@ -18,7 +18,7 @@ pub struct Block {
 impl Model for Block {
     ghost use Rattle.std.specs.Prelude.{◌≡◌, None};
     ghost use Rattle.kt_base.specs.LastValues.{last_values};
-    ghost use Rattle.kt_atflist.specs.declared.case_def.CaseDef.{CaseDef};
+    ghost use Rattle.kt_atflist.specs.declared.listing.CaseDef.{CaseDef};
 
     ghost Value = { CaseDef };
 

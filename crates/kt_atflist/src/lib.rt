@@ -2,7 +2,6 @@
 #![tactic(auto)]
 
 mod block;
-mod case_def;
 mod list_fault;
 mod list_line;
 mod listed_cases;
@@ -13,8 +12,7 @@ mod reader;
 mod reading;
 mod steps;
 
-pub use case_def::CaseDef;
 pub use list_fault::{ListCause, ListFault};
-pub use listing::{ListBytes, Listing};
+pub use listing::{CaseDef, ListBytes, Listing};
 pub use program_cases::{cases, law_of_one_answer};
 pub use reader::parse_list;

@@ -1,11 +1,9 @@
 //! The cases that a listing gives.
 
 ghost use Rattle.std.specs.Prelude.{◌≡◌, IfOk};
-ghost use Rattle.kt_atflist.specs.Listings.{ended_reason, IsRead, Lists};
+ghost use Rattle.kt_atflist.specs.Common.{ended_reason, IsRead, Lists};
 
-use crate::case_def::CaseDef;
-use crate::listing::{ListBytes, Listing};
-use crate::reader::parse_list;
+use crate::{CaseDef, ListBytes, Listing, parse_list};
 use kt_base::{Bytes, Items, NoMemory, Outcome, Phrase, Reason};
 use std::alloc::Global;
 

@@ -1,18 +1,10 @@
 //! The test cases of a program.
 
 ghost use Rattle.std.specs.Prelude.{◌≡◌, ◌∷◌, [], List, map, chars, Some, None, IfOk, IsSome, ℕ, Option, Result};
-ghost use Rattle.kt_base.specs.declared.interface.Interface.TheVariants.{Atf};
-ghost use Rattle.kt_base.specs.declared.variable.Variable.{Variable};
-ghost use Rattle.kt_atflist.specs.Cases.{over_program, main_case, list_case, AreCases};
-ghost use Rattle.kt_base.specs.declared.interface.Interface.{Interface};
-ghost use Rattle.kt_atflist.specs.Spelling.{IsAnswer};
-ghost use Rattle.kt_atflist.specs.declared.case_def.CaseDef.{CaseDef};
-ghost use Rattle.kt_atflist.specs.declared.list_fault.ListFault.{ListFault};
-ghost use Rattle.kt_atflist.specs.declared.listing.Listing.{Listing};
+ghost use Rattle.kt_atflist.specs.Common.{Atf, Variable, over_program, main_case, list_case, AreCases, Interface, IsAnswer, CaseDef, ListFault, Listing};
 
-use crate::case_def::CaseDef;
 use crate::listed_cases::listed_cases;
-use crate::listing::Listing;
+use crate::{CaseDef, Listing};
 use kt_base::{Interface, Items, NoMemory, Reason, Text};
 use kt_metadata::Props;
 use std::alloc::Global;
@@ -102,10 +94,9 @@ fn listed(alloc: Global, props: &Props, listing: &Listing) -> Result<Items<CaseD
     }
 }
 
-/// The test cases of a program, in order. A TAP or plain program has the one case `main`. An ATF
-/// program has the cases of its listing; if the listing can't be used, it has the one case
-/// `__test_cases_list__`, whose fault says why. A case's own properties take precedence over the
-/// program's.
+/// The test cases of a program, in order. A TAP or plain program has the one case `main`. An ATF program has the cases
+/// of its listing; if the listing can't be used, it has the one case `__test_cases_list__`, whose fault says why. A
+/// case's own properties take precedence over the program's.
 pub fn cases(
     alloc: Global,
     interface: Interface,

@@ -1,16 +1,11 @@
 //! The reading of a list.
 
 ghost use Rattle.std.specs.Prelude.{◌⊎◌, List, Result, ◌≡◌, ◌<◌, ◌∷◌, [], length, MatchOption, IfSome};
-ghost use Rattle.kt_atflist.specs.Spelling.{IsAnswer, IsOutOfMemory, IsUnlessMemory};
-ghost use Rattle.kt_atflist.specs.declared.list_fault.ListFault.{ListFault};
-ghost use Rattle.kt_atflist.specs.declared.case_def.CaseDef.{CaseDef};
-ghost use Rattle.kt_base.specs.Lines.{lines};
-ghost use Rattle.kt_atflist.specs.Inner.Reading.{read_from, nothing_read, read_blocks, read_second, read_lines};
+ghost use Rattle.kt_atflist.specs.Common.{IsAnswer, IsOutOfMemory, IsUnlessMemory, ListFault, CaseDef, lines, read_from, nothing_read, read_blocks, read_second, read_lines};
 
-use crate::case_def::CaseDef;
-use crate::list_fault::{ListCause, ListFault};
 use crate::reading::{Reading, Step};
 use crate::steps::{finish, step};
+use crate::{CaseDef, ListCause, ListFault};
 use kt_base::{Items, line_length};
 use std::alloc::Global;
 

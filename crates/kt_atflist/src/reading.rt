@@ -2,9 +2,8 @@ ghost use Rattle.std.specs.Prelude.{◌≡◌};
 ghost use Rattle.kt_atflist.specs.Inner.Reading.{nothing_read};
 
 use crate::block::Block;
-use crate::case_def::CaseDef;
-use crate::list_fault::ListCause;
 use crate::names::Names;
+use crate::{CaseDef, ListCause};
 use kt_base::Items;
 use std::alloc::Global;
 use std::marker::Model;

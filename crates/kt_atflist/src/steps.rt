@@ -1,16 +1,13 @@
 //! Where a line of a list leads.
 
 ghost use Rattle.std.specs.Prelude.{◌≡◌, List, ℕ, None, Some, IfOk};
-ghost use Rattle.kt_atflist.specs.Inner.Keys.{names_of};
-ghost use Rattle.kt_atflist.specs.Inner.Reading.{begin_named, begin_with, set_property, set_key, go_on_with, go_on, step_of, closed, finished};
-ghost use Rattle.kt_atflist.specs.BlockLines.{ident_in, key_in, value_in};
+ghost use Rattle.kt_atflist.specs.Common.{names_of, begin_named, begin_with, set_property, set_key, go_on_with, go_on, step_of, closed, finished, ident_in, key_in, value_in};
 
 use crate::block::Block;
-use crate::case_def::CaseDef;
-use crate::list_fault::ListCause;
 use crate::list_line::{ident_in, is_name, key_in, value_in};
 use crate::names::Names;
 use crate::reading::{Reading, Step};
+use crate::{CaseDef, ListCause};
 use kt_base::{Items, NoMemory, Text, lossy};
 use kt_metadata::{PropFault, property_of_key};
 use std::alloc::Global;

@@ -8,7 +8,7 @@ use Rattle.kt_base.specs.Texts.{is_empty}
 use Rattle.kt_atflist.specs.BlockLines.{ident_in, is_name, key_in, value_in}
 use Rattle.kt_atflist.specs.Blocks.{is_listed, is_given, named, with_property, is_good}
 use Rattle.kt_atflist.specs.Spelling.{Outcome, header, fault_at}
-use Rattle.kt_atflist.specs.declared.case_def.CaseDef.{CaseDef}
+use Rattle.kt_atflist.specs.declared.listing.CaseDef.{CaseDef}
 use Rattle.kt_atflist.specs.declared.list_fault.ListCause.TheVariants.{BadHeader, BadLine, NoIdent, RepeatedKey, RepeatedIdent, UnknownKey, BadValue, EmptyList, NotUtf8}
 use Rattle.kt_atflist.specs.Read.{Read}
 use Rattle.kt_atflist.specs.declared.reading.Step.{Step}

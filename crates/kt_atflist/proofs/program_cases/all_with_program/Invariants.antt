@@ -1,5 +1,5 @@
 use Rattle.std.proofs.Common.{◌≡◌, ◌++◌, map}
-use Rattle.kt_atflist.specs.Cases.{over_program}
+use Rattle.kt_atflist.proofs.Common.{over_program}
 use Rattle.kt_atflist.proofs.program_cases.all_with_program.Given as goal
 
 -- the cases so far, and those of the rest, are those of all

@@ -1,4 +1,4 @@
-use Rattle.std.specs.Str.{chars}
+use Rattle.kt_atflist.proofs.Common.{chars}
 use Rattle.kt_atflist.proofs.program_cases.main_of.Goals as goal
 
 pub returns : goal.returns

@@ -1,5 +1,5 @@
 use Rattle.std.proofs.Common.{◌≡◌, ◌∙◌, sym, true, false, refl}
-use Rattle.kt_atflist.specs.Blocks.{is_listed}
+use Rattle.kt_atflist.proofs.Common.{is_listed}
 use Rattle.kt_atflist.proofs.Blocks.{among-names}
 use Rattle.kt_atflist.proofs.steps.begin_named.Goals as goal
 

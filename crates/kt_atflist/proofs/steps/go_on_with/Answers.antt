@@ -1,6 +1,5 @@
 use Rattle.std.proofs.Common.{◌≡◌, ◌∙◌, ap, sym, false, List, ℕ, length, [], ◌∷◌, refl, rules, arith}
-use Rattle.kt_base.specs.Texts.{is_empty}
-use Rattle.kt_atflist.specs.BlockLines.{key_in}
+use Rattle.kt_atflist.proofs.Common.{is_empty, key_in}
 use Rattle.kt_atflist.proofs.steps.go_on_with.Goals as goal
 
 filled : (bytes : List ℕ) → (length bytes ≡ 0 → ⊥) → is_empty bytes ≡ false

@@ -1,6 +1,5 @@
 use Rattle.std.proofs.Common.{◌∙◌, ap, sym, is_some}
-use Rattle.kt_atflist.specs.Blocks.{is_given}
-use Rattle.kt_atflist.specs.declared.case_def.CaseDef.{CaseDef}
+use Rattle.kt_atflist.proofs.Common.{is_given, CaseDef}
 use Rattle.kt_atflist.proofs.Blocks.{copied, given}
 use Rattle.kt_atflist.proofs.block.Block.has.Goals as goal
 

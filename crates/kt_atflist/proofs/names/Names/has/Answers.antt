@@ -1,5 +1,5 @@
-use Rattle.std.proofs.Common.{◌∙◌, ap, ℕ, List, bytes_eq, chars}
-use Rattle.std.specs.List.{list_any}
+use Rattle.std.proofs.Common.{◌∙◌, ap, ℕ, List, bytes_eq}
+use Rattle.kt_atflist.proofs.Common.{chars, list_any}
 use Rattle.kt_atflist.proofs.Keys.{among}
 use Rattle.kt_atflist.proofs.names.Names.has.Goals as goal
 

@@ -1,6 +1,5 @@
-use Rattle.std.proofs.Common.{◌≡◌, ◌∙◌, ◌∷◌, ◌++◌, [], false, ap, map, chars, bytes_eq, ℕ, List}
-use Rattle.std.specs.List.{list_any}
-use Rattle.kt_atflist.specs.Inner.Keys.{characters}
+use Rattle.std.proofs.Common.{◌≡◌, ◌∙◌, ◌∷◌, ◌++◌, [], false, ap, map, bytes_eq, ℕ, List}
+use Rattle.kt_atflist.proofs.Common.{chars, list_any, characters}
 use Rattle.kt_atflist.proofs.Keys.{inserted}
 use Rattle.kt_atflist.proofs.names.Names.push.Goals as goal
 

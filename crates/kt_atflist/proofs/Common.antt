@@ -1,0 +1,29 @@
+-- The names that most proofs of this crate cite, passed on from one place. Declares nothing.
+pub use Rattle.std.proofs.lemmas.Bool.{false_from_ne_true, false≢true}
+pub use Rattle.std.proofs.lemmas.List.{append-nil, nil_from_length}
+pub use Rattle.std.proofs.lemmas.Str.{IsUtf8-from_is_utf8, IsUtf8-string_bytes, is_utf8-from_IsUtf8}
+pub use Rattle.std.specs.List.{find, list_any, prefix_len}
+pub use Rattle.std.specs.Str.{IsUtf8, is_utf8}
+unfoldable pub use Rattle.std.specs.Str.{chars}
+pub use Rattle.kt_base.specs.Lines.{is_newline, lines, onto}
+pub use Rattle.kt_base.specs.Texts.{is_empty}
+pub use Rattle.kt_base.specs.declared.child.Interface.{Interface}
+pub use Rattle.kt_base.specs.declared.no_memory.NoMemory.{NoMemory}
+pub use Rattle.kt_base.specs.declared.phrase.Phrase.{Phrase}
+pub use Rattle.kt_base.specs.declared.verdict.Reason.{Reason}
+pub use Rattle.kt_base.specs.declared.verdict.Reason.TheVariants.{Counted, Fixed}
+pub use Rattle.kt_base.specs.declared.variable.Variable.{Variable}
+pub use Rattle.kt_atflist.specs.BlockLines.{ident_in, is_name, key_in, value_in}
+pub use Rattle.kt_atflist.specs.Blocks.{is_given, is_good, is_listed, named, with_property}
+pub use Rattle.kt_atflist.specs.Cases.{AreCases, list_case, listed, main_case, over_program, plain, tap, unlisted}
+pub use Rattle.kt_atflist.specs.Inner.Keys.{characters, name_of, names_of}
+pub use Rattle.kt_atflist.specs.Inner.Reading.{begin_with, closed, go_on, led, nothing_read, read_blocks, read_from, read_lines, read_list, read_second, set_property, step_from}
+pub use Rattle.kt_atflist.specs.Listings.{IsRead, Lists, ended_reason, fault_phrase, no_list, read, too_long, unreadable, unstarted}
+pub use Rattle.kt_atflist.specs.Read.{Read}
+pub use Rattle.kt_atflist.specs.Spelling.{Fails, Faulty, Goes, IsAnswer, IsFault, IsList, IsOutOfMemory, IsUnlessMemory, Outcome, Spelled, begins, ends, fault_at, first, first_rows, fits_first, fits_further, further, further_rows, gives, header, here, in_blocks, last_block, later, line, list, no_block, no_first, no_second, no_third, other_first, other_second}
+pub use Rattle.kt_atflist.specs.declared.listing.CaseDef.{CaseDef}
+pub use Rattle.kt_atflist.specs.declared.list_fault.ListCause.TheVariants.{BadHeader, BadLine, BadValue, NoIdent, NotUtf8, RepeatedIdent, RepeatedKey, UnknownKey}
+pub use Rattle.kt_atflist.specs.declared.list_fault.ListFault.{ListFault}
+pub use Rattle.kt_atflist.specs.declared.listing.Listing.{Listing}
+pub use Rattle.kt_atflist.specs.declared.reading.Step.{Step}
+pub use Rattle.kt_atflist.specs.declared.reading.Step.TheVariants.{To, Wrong}
