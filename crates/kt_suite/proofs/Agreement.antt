@@ -1,20 +1,7 @@
 -- Two lists of what a tree gives agree as long as the same answers come.
-use Rattle.std.specs.Prelude.{Option, Some, None, Result, Ok, Err, Bool}
-use Rattle.std.proofs.Common.{◌≡◌, ℕ, List, [], ◌∷◌, ◌++◌, refl, sym, subst, ap, ◌∙◌}
-use Rattle.kt_script.specs.declared.fault.ScriptFault.{ScriptFault}
-use Rattle.kt_script.specs.declared.syntax.Stmt.{Stmt}
-use Rattle.kt_script.specs.Spelling.{Spells, IsDue}
-use Rattle.kt_suite.specs.declared.tree.ReadFault.{ReadFault}
-use Rattle.kt_suite.specs.declared.cause.SuiteCause.{SuiteCause}
-use Rattle.kt_suite.specs.declared.cause.SuiteCause.TheVariants.{NoSyntax, Script}
-use Rattle.kt_suite.specs.declared.statement.Meaning.{Meaning}
+use Rattle.std.proofs.Common.{Option, Some, None, Result, Ok, Err, Bool, ◌≡◌, ℕ, List, [], ◌∷◌, ◌++◌, refl, sym, subst, ap, ◌∙◌}
+use Rattle.kt_suite.proofs.Common.{ScriptFault, Stmt, Spells, IsDue, ReadFault, SuiteCause, NoSyntax, Script, Meaning, Program, Asked, Read, Exists, SameQuestion, fault_at, read_fault, script_line, meaning_of, opening_fault, beside, Site, site_fault, looked_up, Mark, Asks, File, Fault, Part, Says, Includes, said, suite_after, StatementsSay, none, one, FileSays, unread, no_script, no_statement, unopened, opened, Unfolds, end, says, refused, entered, TreeGives}
 use Rattle.kt_suite.specs.declared.statement.Meaning.TheVariants as meaning
-use Rattle.kt_suite.specs.declared.program.Program.{Program}
-use Rattle.kt_suite.specs.Answers.{Asked, Read, Exists, SameQuestion}
-use Rattle.kt_suite.specs.Faults.{fault_at, read_fault, script_line}
-use Rattle.kt_suite.specs.Meanings.{meaning_of, opening_fault}
-use Rattle.kt_suite.specs.Paths.{beside}
-use Rattle.kt_suite.specs.Marks.{Site, site_fault, looked_up, Mark, Asks, File, Fault, Part, Says, Includes, said, suite_after, StatementsSay, none, one, FileSays, unread, no_script, no_statement, unopened, opened, Unfolds, end, says, refused, entered, TreeGives}
 use Rattle.kt_suite.proofs.ScriptLaws.{one_script, one_fault, not_both}
 
 -- two lists of marks are the same as far as the same answers come

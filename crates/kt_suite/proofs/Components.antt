@@ -1,9 +1,6 @@
 -- A path whose components are appended one by one.
-use Rattle.std.proofs.Common.{◌≡◌, ℕ, Bool, true, false, List, [], ◌∷◌, ◌++◌, refl, ◌∙◌, append_assoc}
-use Rattle.std.specs.Prelude.{cond, filter, if◌then◌else◌}
-use Rattle.std.specs.List.{join_with_byte}
-use Rattle.kt_suite.specs.Inner.Steps.{with_component}
-use Rattle.kt_suite.specs.Filters.{counts}
+use Rattle.std.proofs.Common.{◌≡◌, ℕ, Bool, true, false, List, [], ◌∷◌, ◌++◌, refl, ◌∙◌, cond, if◌then◌else◌, append_assoc, filter}
+use Rattle.kt_suite.proofs.Common.{join_with_byte, with_component, counts}
 
 -- a path with further components
 abbrev pub with_components : List ℕ → List (List ℕ) → List ℕ

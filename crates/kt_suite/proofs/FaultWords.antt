@@ -1,14 +1,9 @@
 -- The words of faults as bytes.
 use Rattle.std.proofs.Common.{◌≡◌, ℕ, List, ◌++◌, refl, ap, ◌∙◌}
-use lib.Utf8.{encode}
-use Rattle.kt_base.specs.Utf8.{utf8}
-use Rattle.kt_base.proofs.Showing.{utf8-append}
-use Rattle.kt_script.specs.declared.fault.ScriptFault.{ScriptFault}
-use Rattle.kt_script.specs.declared.fault.ScriptFault.TheVariants as script
+use Rattle.kt_suite.proofs.Common.{encode, utf8, utf8-append, ScriptFault, SuiteCause, fixed_words, cause_words}
 use Rattle.kt_script.specs.FaultWords.{script_words}
-use Rattle.kt_suite.specs.declared.cause.SuiteCause.{SuiteCause}
+use Rattle.kt_script.specs.declared.fault.ScriptFault.TheVariants as script
 use Rattle.kt_suite.specs.declared.cause.SuiteCause.TheVariants as cause
-use Rattle.kt_suite.specs.FaultWords.{fixed_words, cause_words}
 
 -- a cause without a number has these words
 pub fixed-cause : (c : SuiteCause) → ((n : ℕ) → c ≡ cause.WrongSyntax n → ⊥) → fixed_words c ≡ cause_words c

@@ -1,13 +1,8 @@
 -- The first filter that matches an item.
-use Rattle.std.proofs.Common.{◌≡◌, ℕ, ◌+◌, ◌<◌, zero, suc, Bool, true, false, List, [], ◌∷◌, refl, sym, subst, ◌∙◌, arith, length, slice_get, Some, None, rules}
-use Rattle.std.specs.Prelude.{◌||◌, ◌==◌, nat_eq, not, if◌then◌else◌}
-use Rattle.std.specs.List.{filter, position_from}
+use Rattle.std.proofs.Common.{◌≡◌, ℕ, ◌+◌, ◌<◌, zero, suc, Bool, true, false, List, [], ◌∷◌, refl, sym, subst, ◌∙◌, arith, length, slice_get, Some, None, rules, ◌||◌, ◌==◌, nat_eq, not, if◌then◌else◌}
+use Rattle.kt_suite.proofs.Common.{filter, position_from, Filter, Item, first_match, is_some_match, is_match, is_miss, matches_item, is_matched, is_selected}
 use Rattle.std.proofs.lemmas.Iterator.Adapters.{position_from-zero}
-use Rattle.kt_suite.specs.declared.filter.Filter.{Filter}
-use Rattle.kt_suite.specs.declared.selecting.Item.{Item}
 use Rattle.kt_suite.proofs.Picking.{kept_all}
-use Rattle.kt_suite.specs.Inner.Steps.{first_match, is_some_match, is_match, is_miss}
-use Rattle.kt_suite.specs.Selecting.{matches_item, is_matched, is_selected}
 
 not_false : (b : Bool) → b ≡ false → not b ≡ true
 not_false b e = rw e refl

@@ -1,22 +1,6 @@
 -- A statement includes a file, or the next statement follows.
-use Rattle.std.specs.Prelude.{Bool, true, false, nat_le, bytes_eq, if◌then◌else◌, Option, Some, None, Result, Ok, Err}
-use Rattle.std.proofs.Common.{◌≡◌, ◌<◌, ◌+◌, ◌-◌, ℕ, List, [], ◌∷◌, ◌++◌, length, arith, length-append, refl, sym, subst, ap}
-use Rattle.std.proofs.lemmas.Bool.Decides.{nat_tests}
-use Rattle.std.specs.List.{list_any}
-use Rattle.kt_suite.specs.declared.cause.SuiteCause.TheVariants.{IncludeLoop, TooDeep}
-use mathlib.Core.List.{append_assoc, append-nil}
-use Rattle.kt_script.specs.declared.syntax.Stmt.{Stmt}
-use Rattle.kt_suite.specs.declared.fault.SuiteFault.{SuiteFault}
-use Rattle.kt_suite.specs.declared.statement.Meaning.{Meaning}
-use Rattle.kt_suite.specs.declared.registry.Registry.{Registry}
-use Rattle.kt_suite.specs.declared.registry.Step.{Step}
-use Rattle.kt_suite.specs.declared.registry.Step.TheVariants.{Next, Enter}
-use Rattle.kt_base.specs.Chains.{Chain}
-use Rattle.kt_suite.specs.Answers.{Asked}
-use Rattle.kt_suite.specs.Meanings.{meaning_of}
-use Rattle.kt_suite.specs.Marks.{Site, Mark, File, Part, Includes, said, suite_after, entry_fault, Unfolds, end, entered}
-use Rattle.kt_suite.specs.Registered.{file_limit, questions_in}
-use Rattle.kt_suite.specs.Inner.Walks.{Counted, Walked, through, stops, short, FileGives, MeaningGives, Stepped, goes, enters, fails}
+use Rattle.std.proofs.Common.{Bool, true, false, nat_le, bytes_eq, if◌then◌else◌, Option, Some, None, Result, Ok, Err, ◌≡◌, ◌<◌, ◌+◌, ◌-◌, ℕ, List, [], ◌∷◌, ◌++◌, length, arith, length-append, refl, sym, subst, ap}
+use Rattle.kt_suite.proofs.Common.{nat_tests, list_any, IncludeLoop, TooDeep, append_assoc, append-nil, Stmt, SuiteFault, Meaning, Registry, Step, Next, Enter, Chain, Asked, meaning_of, Site, Mark, File, Part, Includes, said, suite_after, entry_fault, Unfolds, end, entered, file_limit, questions_in, Counted, Walked, through, stops, short, FileGives, MeaningGives, Stepped, goes, enters, fails}
 use Rattle.kt_suite.proofs.Counting.{same_reading, next-append}
 use Rattle.kt_suite.proofs.Unfolding.{unfolds_to}
 use Rattle.kt_suite.proofs.Reading.{begun, Reading, reading_next, reading_stops}

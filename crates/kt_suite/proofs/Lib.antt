@@ -1,3 +1,4 @@
+pub mod Common
 pub mod Directories
 pub mod Tables
 pub mod TableLoops

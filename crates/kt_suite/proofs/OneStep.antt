@@ -1,24 +1,9 @@
 -- One statement more is read.
-use Rattle.std.specs.Prelude.{Bool, true, false, Option, Some, None, Result, Ok, Err}
-use Rattle.std.proofs.Common.{◌≡◌, ◌≤◌, ◌<◌, ◌+◌, ℕ, List, [], ◌∷◌, ◌++◌, length, refl, sym, subst, ◌⊎◌, inl, inr}
-use Rattle.kt_base.specs.declared.interface.Interface.{Interface}
-use Rattle.kt_base.specs.declared.variable.Variable.{Variable}
-use Rattle.kt_suite.specs.declared.cause.SuiteCause.{SuiteCause}
-use Rattle.kt_suite.specs.declared.cause.SuiteCause.TheVariants.{MissingProgram, TooMany}
-use Rattle.kt_suite.specs.declared.fault.SuiteFault.{SuiteFault}
-use Rattle.kt_suite.specs.declared.statement.Meaning.{Meaning}
+use Rattle.std.proofs.Common.{Bool, true, false, Option, Some, None, Result, Ok, Err, ◌≡◌, ◌≤◌, ◌<◌, ◌+◌, ℕ, List, [], ◌∷◌, ◌++◌, length, refl, sym, subst, ◌⊎◌, inl, inr}
+use Rattle.kt_suite.proofs.Common.{Variable, SuiteCause, MissingProgram, TooMany, SuiteFault, Meaning, Program, Registry, Missing, Step, Next, Enter, Asked, Exists, IsNoMemory, beside, Site, site_fault, looked_up, Mark, Asks, File, Listed, Fault, said, unread, entry_fault, Unfolds, end, says, refused, entered, file_limit, program_limit, is_fault, file_too_many, program_too_many, no_question, Walked, through, stops, short, Adds, Enters, refuses, exceeds, scant, MeaningGives, Stepped, goes, enters, fails}
+use Rattle.kt_base.specs.declared.child.Interface.{Interface}
+use Rattle.kt_suite.specs.Inner.Walks.{counts}
 use Rattle.kt_suite.specs.declared.statement.Meaning.TheVariants as meaning
-use Rattle.kt_suite.specs.declared.program.Program.{Program}
-use Rattle.kt_suite.specs.declared.registry.Registry.{Registry}
-use Rattle.kt_suite.specs.declared.tree.ReadFault.TheVariants.{Missing}
-use Rattle.kt_suite.specs.declared.registry.Step.{Step}
-use Rattle.kt_suite.specs.declared.registry.Step.TheVariants.{Next, Enter}
-use Rattle.kt_suite.specs.Answers.{Asked, Exists}
-use Rattle.kt_suite.specs.Faults.{IsNoMemory}
-use Rattle.kt_suite.specs.Paths.{beside}
-use Rattle.kt_suite.specs.Marks.{Site, site_fault, looked_up, Mark, Asks, File, Listed, Fault, said, unread, entry_fault, Unfolds, end, says, refused, entered}
-use Rattle.kt_suite.specs.Registered.{file_limit, program_limit, is_fault, file_too_many, program_too_many, no_question}
-use Rattle.kt_suite.specs.Inner.Walks.{Walked, through, stops, short, Adds, Enters, refuses, exceeds, counts, scant, MeaningGives, Stepped, goes, enters, fails}
 use Rattle.kt_suite.proofs.Unfolding.{some_file, some_marks}
 
 -- what holds of an out-of-memory fault and of another one

@@ -1,16 +1,6 @@
 -- A file was asked for, and perhaps opened.
-use Rattle.std.specs.Prelude.{Result, Ok, Err}
-use Rattle.std.proofs.Common.{ℕ, List, [], ◌∷◌, ◌++◌, refl}
-use Rattle.kt_script.specs.declared.syntax.Stmt.{Stmt}
-use Rattle.kt_suite.specs.declared.tree.ReadFault.{ReadFault}
-use Rattle.kt_suite.specs.declared.tree.ReadFault.TheVariants.{Missing}
-use Rattle.kt_suite.specs.declared.fault.SuiteFault.{SuiteFault}
-use Rattle.kt_suite.specs.declared.registry.Registry.{Registry}
-use Rattle.kt_suite.specs.Answers.{Asked, Read}
-use Rattle.kt_suite.specs.Faults.{read_fault, IsNoMemory}
-use Rattle.kt_suite.specs.Marks.{Asks, Fault, Says, unread, end, says}
-use Rattle.kt_suite.specs.Registered.{is_fault, thrown_away}
-use Rattle.kt_suite.specs.Inner.Walks.{Walked, stops, short, FileGives, Opened, opens, declines, lacks}
+use Rattle.std.proofs.Common.{Result, Ok, Err, ℕ, List, [], ◌∷◌, ◌++◌, refl}
+use Rattle.kt_suite.proofs.Common.{Stmt, ReadFault, Missing, SuiteFault, Registry, Asked, Read, read_fault, IsNoMemory, Asks, Fault, Says, unread, end, says, is_fault, thrown_away, Walked, stops, short, FileGives, Opened, opens, declines, lacks}
 use Rattle.kt_suite.proofs.Unfolding.{some_file}
 
 -- memory ran out with the answer for a file's bytes

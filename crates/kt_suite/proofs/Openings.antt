@@ -1,22 +1,9 @@
 -- A file is asked for and opened.
-use Rattle.std.specs.Prelude.{Some, None, Result, Ok, Err}
-use Rattle.std.proofs.Common.{◌≡◌, ℕ, List, [], ◌∷◌, length, arith, refl, sym, subst, ◌⊎◌, inl, inr}
-use Rattle.kt_script.specs.declared.fault.ScriptFault.{ScriptFault}
-use Rattle.kt_script.specs.declared.fault.ScriptFault.TheVariants as script
-use Rattle.kt_script.specs.declared.syntax.Stmt.{Stmt}
+use Rattle.std.proofs.Common.{Some, None, Result, Ok, Err, ◌≡◌, ℕ, List, [], ◌∷◌, length, arith, refl, sym, subst, ◌⊎◌, inl, inr}
+use Rattle.kt_suite.proofs.Common.{ScriptFault, Stmt, Spells, IsDue, ReadFault, SuiteCause, NoSyntax, Script, SuiteFault, Asked, Read, IsText, fault_at, read_fault, script_line, IsNoMemory, opening_fault, unread, no_script, no_statement, unopened, WellOpened, well, empty, badly, unclear, Opened, opens, declines, lacks}
 use Rattle.kt_script.specs.Faults.{IfFault}
-use Rattle.kt_script.specs.Spelling.{Spells, IsDue}
-use Rattle.kt_suite.specs.declared.tree.ReadFault.{ReadFault}
-use Rattle.kt_suite.specs.declared.cause.SuiteCause.{SuiteCause}
-use Rattle.kt_suite.specs.declared.cause.SuiteCause.TheVariants.{NoSyntax, Script}
-use Rattle.kt_suite.specs.declared.fault.SuiteFault.{SuiteFault}
-use Rattle.kt_suite.specs.Answers.{Asked, Read}
-use Rattle.kt_suite.specs.Inner.Steps.{IsText}
 use Rattle.kt_suite.specs.Inner.Faults.{Blames}
-use Rattle.kt_suite.specs.Faults.{fault_at, read_fault, script_line, IsNoMemory}
-use Rattle.kt_suite.specs.Meanings.{opening_fault}
-use Rattle.kt_suite.specs.Marks.{unread, no_script, no_statement, unopened}
-use Rattle.kt_suite.specs.Inner.Walks.{WellOpened, well, empty, badly, unclear, Opened, opens, declines, lacks}
+use Rattle.kt_script.specs.declared.fault.ScriptFault.TheVariants as script
 
 nothing : {X : Type 0} (xs : List X) → length xs ≡ 0 → xs ≡ []
 nothing [] e = refl

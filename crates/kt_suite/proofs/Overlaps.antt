@@ -1,11 +1,7 @@
 -- Filters that share a case.
-use Rattle.std.proofs.Common.{◌≡◌, ℕ, Bool, true, false, List, [], ◌∷◌, ◌++◌, refl, sym, ap, ◌∙◌, Option, Some, None, ◌⊎◌, inl, inr, append-nil}
-use Rattle.std.specs.Prelude.{◌==◌, ◌&&◌, ◌||◌, IsTrue, bytes_eq}
-use Rattle.std.proofs.lemmas.Bool.{eq-eqb, eqb-true, and_parts, and_from}
+use Rattle.std.proofs.Common.{◌≡◌, ℕ, Bool, true, false, List, [], ◌∷◌, ◌++◌, refl, sym, ap, ◌∙◌, Option, Some, None, ◌⊎◌, inl, inr, ◌==◌, ◌&&◌, ◌||◌, IsTrue, bytes_eq, append-nil}
+use Rattle.kt_suite.proofs.Common.{eq-eqb, eqb-true, and_parts, and_from, Filter, is_within, IsWithin, parts_match, matches, parts_cover, covers, overlap, ShareCase}
 use Rattle.std.proofs.lemmas.Slice.Eq.{bytes_eq-Decides}
-use Rattle.kt_suite.specs.declared.filter.Filter.{Filter}
-use Rattle.kt_suite.specs.Matching.{is_within, IsWithin, parts_match, matches}
-use Rattle.kt_suite.specs.Disjoint.{parts_cover, covers, overlap, ShareCase}
 use Rattle.kt_suite.proofs.WithinPaths.{within-append, append-within}
 
 eqb_is : (xs ys : List ℕ) → bytes_eq xs ys ≡ true → xs ≡ ys

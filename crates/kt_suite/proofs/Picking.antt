@@ -1,12 +1,6 @@
 -- The filters that match no item are what the items leave of all filters.
-use Rattle.std.proofs.Common.{◌≡◌, ℕ, ◌+◌, suc, Bool, true, false, List, [], ◌∷◌, ◌++◌, refl, sym, ap, ◌∙◌, arith, length, slice_get, Option}
-use mathlib.Core.List.{append_assoc}
-use Rattle.std.specs.Prelude.{◌||◌, not, if◌then◌else◌}
-use Rattle.std.specs.List.{list_any, filter}
-use Rattle.kt_suite.specs.declared.filter.Filter.{Filter}
-use Rattle.kt_suite.specs.declared.selecting.Item.{Item}
-use Rattle.kt_suite.specs.Inner.Steps.{all_places, is_some_match, is_match, is_miss}
-use Rattle.kt_suite.specs.Selecting.{places, is_idle, idle_places}
+use Rattle.std.proofs.Common.{◌≡◌, ℕ, ◌+◌, suc, Bool, true, false, List, [], ◌∷◌, ◌++◌, refl, sym, ap, ◌∙◌, arith, length, slice_get, Option, ◌||◌, not, if◌then◌else◌}
+use Rattle.kt_suite.proofs.Common.{append_assoc, list_any, filter, Filter, Item, all_places, is_some_match, is_match, is_miss, places, is_idle, idle_places}
 
 -- the filter at a position matches none of these items
 abbrev pub is_idle_at : List Item → List Filter → ℕ → Bool

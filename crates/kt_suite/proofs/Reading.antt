@@ -1,17 +1,6 @@
 -- A file is read statement by statement.
-use Rattle.std.specs.Prelude.{drop, Option, None, Ok, Err}
-use Rattle.std.proofs.Common.{◌≡◌, ◌-◌, ℕ, List, [], ◌∷◌, ◌++◌, length, take, arith, length-append, refl, sym, subst, ap, ◌∙◌}
-use mathlib.Core.List.{append_assoc, append-nil}
-use Rattle.std.proofs.lemmas.List.{take_at}
-use Rattle.kt_script.specs.declared.syntax.Stmt.{Stmt}
-use Rattle.kt_suite.specs.declared.fault.SuiteFault.{SuiteFault}
-use Rattle.kt_suite.specs.declared.registry.Registry.{Registry}
-use Rattle.kt_base.specs.Chains.{Chain}
-use Rattle.kt_suite.specs.Answers.{Asked, Read}
-use Rattle.kt_suite.specs.Meanings.{meaning_of}
-use Rattle.kt_suite.specs.Marks.{Mark, Asks, Part, Says, said, suite_after, StatementsSay, none, one, opened, Unfolds, end, says}
-use Rattle.kt_suite.specs.Registered.{questions_in}
-use Rattle.kt_suite.specs.Inner.Walks.{Counted, Walked, through, stops, short, FileGives, MeaningGives, Opened, opens}
+use Rattle.std.proofs.Common.{drop, Option, None, Ok, Err, ◌≡◌, ◌-◌, ℕ, List, [], ◌∷◌, ◌++◌, length, take, arith, length-append, refl, sym, subst, ap, ◌∙◌}
+use Rattle.kt_suite.proofs.Common.{append_assoc, append-nil, take_at, Stmt, SuiteFault, Registry, Chain, Asked, Read, meaning_of, Mark, Asks, Part, Says, said, suite_after, StatementsSay, none, one, opened, Unfolds, end, says, questions_in, Counted, Walked, through, stops, short, FileGives, MeaningGives, Opened, opens}
 use Rattle.kt_suite.proofs.Counting.{counted-append, counted-reading, same_reading, chain_of_marks, chain_then, next-append}
 use Rattle.kt_suite.proofs.Unfolding.{unfolds-append, some_marks, some_parts}
 

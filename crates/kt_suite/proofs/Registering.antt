@@ -1,14 +1,6 @@
 -- The root is read, and what was counted decides.
-use Rattle.std.specs.Prelude.{Result, Ok, Err}
-use Rattle.std.proofs.Common.{◌≡◌, ◌≤◌, ◌+◌, ℕ, List, [], ◌∷◌, ◌++◌, length, arith, refl, sym, subst, ap, ◌⊎◌, inl, inr}
-use mathlib.Core.List.{append_assoc, append-nil}
-use Rattle.kt_suite.specs.declared.fault.SuiteFault.{SuiteFault}
-use Rattle.kt_suite.specs.declared.program.Program.{Program}
-use Rattle.kt_suite.specs.declared.registry.Registry.{Registry}
-use Rattle.kt_suite.specs.Answers.{Asked, Answered}
-use Rattle.kt_suite.specs.Marks.{Site, Mark, File, Includes, end, entered, TreeGives}
-use Rattle.kt_suite.specs.Registered.{program_limit, Outcome, questions_in, files_in, programs_in, IsUndecided, Decides, Unfinished, Registered, all, stopped}
-use Rattle.kt_suite.specs.Inner.Walks.{Counted, Walked, through, stops, short, FileGives}
+use Rattle.std.proofs.Common.{Result, Ok, Err, ◌≡◌, ◌≤◌, ◌+◌, ℕ, List, [], ◌∷◌, ◌++◌, length, arith, refl, sym, subst, ap, ◌⊎◌, inl, inr}
+use Rattle.kt_suite.proofs.Common.{append_assoc, append-nil, SuiteFault, Program, Registry, Asked, Answered, Site, Mark, File, Includes, end, entered, TreeGives, program_limit, Outcome, questions_in, files_in, programs_in, IsUndecided, Decides, Unfinished, Registered, all, stopped, Counted, Walked, through, stops, short, FileGives}
 use Rattle.kt_suite.proofs.Counting.{counted_files, counted_programs, counted_faults, counted_few_files, counted_few_programs, next-append}
 use Rattle.kt_suite.proofs.Unfolding.{unfolds_to}
 

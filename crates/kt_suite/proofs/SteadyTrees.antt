@@ -1,13 +1,6 @@
 -- A tree that doesn't change has one meaning.
-use Rattle.std.specs.Prelude.{Option, Some, None, Ok, Err}
-use Rattle.std.specs.List.{Contains}
-use Rattle.std.proofs.Common.{◌≡◌, ◌≤◌, ◌<◌, ◌+◌, ℕ, List, [], ◌∷◌, ◌++◌, length, arith, refl, sym, subst, ap, ◌∙◌}
-use Rattle.std.proofs.lemmas.List.Elements.{Contains-push, Contains-append_left, Contains-append_right}
-use Rattle.kt_suite.specs.declared.fault.SuiteFault.{SuiteFault}
-use Rattle.kt_suite.specs.declared.program.Program.{Program}
-use Rattle.kt_suite.specs.Answers.{Asked, SameQuestion, IsSteady}
-use Rattle.kt_suite.specs.Marks.{Site, Mark, Asks, File, Listed, Fault, TreeGives}
-use Rattle.kt_suite.specs.Registered.{file_limit, program_limit, Outcome, questions_in, files_in, programs_in, faults_in, Decides, is_fault, file_too_many, program_too_many, Registered, all, stopped}
+use Rattle.std.proofs.Common.{Option, Some, None, Ok, Err, ◌≡◌, ◌≤◌, ◌<◌, ◌+◌, ℕ, List, [], ◌∷◌, ◌++◌, length, arith, refl, sym, subst, ap, ◌∙◌}
+use Rattle.kt_suite.proofs.Common.{Contains, Contains-push, Contains-append_left, Contains-append_right, SuiteFault, Program, Asked, SameQuestion, IsSteady, Site, Mark, Asks, File, Listed, Fault, TreeGives, file_limit, program_limit, Outcome, questions_in, files_in, programs_in, faults_in, Decides, is_fault, file_too_many, program_too_many, Registered, all, stopped}
 use Rattle.kt_suite.proofs.Agreement.{Agree, both_end, same_mark, both_ask, trees_agree}
 
 -- marks up to the one that decides, behind so many files and programs: the questions, the programs and the fault

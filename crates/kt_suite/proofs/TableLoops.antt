@@ -1,14 +1,6 @@
 -- The pairs of a table are taken one by one.
-use Rattle.std.specs.Prelude.{Option, Some, None, Result, Ok, Err}
-use Rattle.std.proofs.Common.{◌≡◌, List, [], ◌∷◌, ◌++◌, length, arith, refl, sym, ap, ◌∙◌}
-use mathlib.Core.List.{append_assoc, append-nil}
-use Rattle.kt_base.specs.declared.variable.Variable.{Variable}
-use Rattle.kt_script.specs.declared.syntax.Pair.{Pair}
-use Rattle.kt_suite.specs.declared.cause.SuiteCause.{SuiteCause}
-use Rattle.kt_suite.specs.declared.table.ProgramTable.{ProgramTable}
-use Rattle.kt_suite.specs.Inner.Steps.{table_with}
-use Rattle.std.specs.Option.{option_or}
-use Rattle.kt_suite.specs.Tables.{definition, definitions, pair_fault, first_fault, table_of, unless, declared}
+use Rattle.std.proofs.Common.{Option, Some, None, Result, Ok, Err, ◌≡◌, List, [], ◌∷◌, ◌++◌, length, arith, refl, sym, ap, ◌∙◌}
+use Rattle.kt_suite.proofs.Common.{append_assoc, append-nil, Variable, Pair, SuiteCause, ProgramTable, table_with, option_or, definition, definitions, pair_fault, first_fault, table_of, unless, declared}
 
 -- none of the pairs so far is refused, and they are what was found
 pub record TableSoFar (found : ProgramTable) (rest pairs : List Pair) : Type 0 where

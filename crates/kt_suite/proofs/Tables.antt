@@ -1,23 +1,11 @@
 -- A table with one definition more.
-use Rattle.std.specs.Prelude.{codes, cond, Option, Some, None, Result, Ok, Err, if◌then◌else◌}
-use Rattle.std.proofs.Common.{◌≡◌, ℕ, Bool, true, false, List, [], ◌∷◌, ◌++◌, bytes_eq, refl, sym, ap, ◌∙◌}
-use Rattle.std.specs.List.{filter}
-use Rattle.std.specs.Option.{option_or}
-use mathlib.Core.List.{append-nil}
-use Rattle.std.proofs.lemmas.List.Elements.{filter-append}
-use Rattle.kt_base.specs.declared.variable.Variable.{Variable}
+use Rattle.std.proofs.Common.{codes, cond, Option, Some, None, Result, Ok, Err, if◌then◌else◌, ◌≡◌, ℕ, Bool, true, false, List, [], ◌∷◌, ◌++◌, bytes_eq, refl, sym, ap, ◌∙◌}
+use Rattle.kt_suite.proofs.Common.{filter, option_or, append-nil, filter-append, Variable, Pair, text_of, SuiteCause, ProgramTable, key_named, props_with, table_with, definition, is_property, value_cause, key_fault, pair_fault, table_of, unless}
 use Rattle.kt_base.specs.LastValues.{value_of, last_values}
 use Rattle.kt_base.proofs.Names.{same, same-flip, value_of-append}
-use Rattle.kt_script.specs.declared.syntax.Pair.{Pair}
-use Rattle.kt_script.specs.LiteralText.{text_of}
 use Rattle.kt_metadata.specs.Properties.{is_kyuafile_property, definition_fault}
-use Rattle.kt_suite.specs.declared.cause.SuiteCause.{SuiteCause}
 use Rattle.kt_suite.specs.declared.call.Key.{Key}
 use Rattle.kt_suite.specs.declared.call.Key.TheVariants as key
-use Rattle.kt_suite.specs.declared.table.ProgramTable.{ProgramTable}
-use Rattle.kt_suite.specs.Calls.{key_named}
-use Rattle.kt_suite.specs.Inner.Steps.{props_with, table_with}
-use Rattle.kt_suite.specs.Tables.{definition, is_property, value_cause, key_fault, pair_fault, table_of, unless}
 
 -- the properties in two lists
 properties-append : (pairs more : List Variable) → filter is_property (pairs ++ more) ≡ filter is_property pairs ++ filter is_property more

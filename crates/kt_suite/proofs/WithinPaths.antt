@@ -1,11 +1,8 @@
 -- Paths that lie within others, and their bytes.
-use Rattle.std.proofs.Common.{◌≡◌, ℕ, Bool, true, false, List, [], ◌∷◌, ◌++◌, refl, sym, ap, ◌∙◌, chars, arith, drop, length}
-use Rattle.std.specs.Prelude.{encode_utf8_all, ◌==◌}
-use Rattle.std.specs.Str.{IsUtf8}
+use Rattle.std.proofs.Common.{◌≡◌, ℕ, Bool, true, false, List, [], ◌∷◌, ◌++◌, refl, sym, ap, ◌∙◌, arith, drop, length, encode_utf8_all, ◌==◌}
+use Rattle.kt_suite.proofs.Common.{chars, IsUtf8, eq-eqb, eqb-true, and_parts, is_within}
 use Rattle.std.proofs.lemmas.Str.{encodes-chars, chars-append, encodes-append, encode_ascii}
 use Rattle.std.proofs.lemmas.List.Prefix.{front_rest}
-use Rattle.std.proofs.lemmas.Bool.{eq-eqb, eqb-true, and_parts}
-use Rattle.kt_suite.specs.Matching.{is_within}
 
 -- a path that begins with the directory
 pub within-append : (directory rest : List ℕ) → is_within directory (directory ++ rest) ≡ is_within [] rest

@@ -1,6 +1,6 @@
 -- The calls and keys that a Kyuafile knows by name.
 use Rattle.std.specs.Prelude.{ℕ, List, codes, bytes_eq, if◌then◌else◌}
-use Rattle.kt_base.specs.declared.interface.Interface.TheVariants.{Atf, Tap, Plain}
+use Rattle.kt_base.specs.declared.child.Interface.TheVariants.{Atf, Tap, Plain}
 use Rattle.kt_metadata.specs.Properties.{is_kyuafile_property}
 use Rattle.kt_suite.specs.declared.call.Call.{Call}
 use Rattle.kt_suite.specs.declared.call.Call.TheVariants as call

@@ -8,7 +8,7 @@ use Rattle.kt_suite.specs.declared.tree.ReadFault.{ReadFault}
 use Rattle.kt_suite.specs.declared.cause.SuiteCause.{SuiteCause}
 use Rattle.kt_suite.specs.declared.cause.SuiteCause.TheVariants.{NoSyntax, MissingProgram, IncludeLoop, TooDeep, Script}
 use Rattle.kt_suite.specs.declared.fault.SuiteFault.{SuiteFault}
-use Rattle.kt_suite.specs.declared.program.Program.{Program}
+use Rattle.kt_suite.specs.declared.registry.Program.{Program}
 use Rattle.kt_suite.specs.declared.statement.Meaning.{Meaning}
 use Rattle.kt_suite.specs.declared.statement.Meaning.TheVariants as meaning
 use Rattle.kt_suite.specs.Answers.{Asked, Read, Exists}

@@ -1,12 +1,12 @@
 -- What one statement of a Kyuafile means, before the tree is asked.
 use Rattle.std.specs.Prelude.{ℕ, List, ◌==◌, Option, Some, None, Result, Ok, Err, if◌then◌else◌}
-use Rattle.kt_base.specs.declared.interface.Interface.{Interface}
+use Rattle.kt_base.specs.declared.child.Interface.{Interface}
 use Rattle.kt_base.specs.declared.variable.Variable.{Variable}
 use Rattle.kt_script.specs.declared.syntax.Action.{Action}
 use Rattle.kt_script.specs.declared.syntax.Action.TheVariants.{Call, Assign}
 use Rattle.kt_script.specs.declared.syntax.Arg.{Arg}
 use Rattle.kt_script.specs.declared.syntax.Arg.TheVariants.{Value, Table}
-use Rattle.kt_script.specs.declared.literal.Literal.TheVariants.{Text, Number, Truth}
+use Rattle.kt_script.specs.declared.syntax.Literal.TheVariants.{Text, Number, Truth}
 use Rattle.kt_script.specs.LiteralText.{text_of}
 use Rattle.kt_suite.specs.declared.call.Call.{Call as CallKind}
 use Rattle.kt_suite.specs.declared.call.Call.TheVariants as call
@@ -14,7 +14,7 @@ use Rattle.kt_suite.specs.declared.cause.SuiteCause.{SuiteCause}
 use Rattle.kt_suite.specs.declared.cause.SuiteCause.TheVariants.{NoSyntax, WrongSyntax, UnknownCall, BadValue, NoSuite, PathHasDirectory, BadInclude}
 use Rattle.kt_suite.specs.declared.statement.Meaning.{Meaning}
 use Rattle.kt_suite.specs.declared.statement.Meaning.TheVariants as meaning
-use Rattle.kt_suite.specs.declared.table.ProgramTable.{ProgramTable}
+use Rattle.kt_suite.specs.declared.registry.ProgramTable.{ProgramTable}
 use Rattle.kt_suite.specs.Calls.{call_named}
 use Rattle.kt_suite.specs.Tables.{declared}
 use Rattle.kt_suite.specs.Paths.{has_directory, leads_down}

@@ -2,7 +2,7 @@
 use Rattle.std.specs.Prelude.{ℕ, List, [], ◌∷◌, ◌++◌, ◌≡◌, ◌≤◌, ◌+◌, length, Result, Ok, Err}
 use Rattle.kt_suite.specs.declared.cause.SuiteCause.TheVariants.{TooMany}
 use Rattle.kt_suite.specs.declared.fault.SuiteFault.{SuiteFault}
-use Rattle.kt_suite.specs.declared.program.Program.{Program}
+use Rattle.kt_suite.specs.declared.registry.Program.{Program}
 use Rattle.kt_suite.specs.Answers.{Asked, SameQuestion}
 use Rattle.kt_suite.specs.Faults.{IsNoMemory}
 use Rattle.kt_suite.specs.Marks.{Site, site_fault, Mark, Asks, File, Listed, Fault, TreeGives}

@@ -12,7 +12,7 @@ use Rattle.kt_suite.specs.declared.call.Key.{Key}
 use Rattle.kt_suite.specs.declared.call.Key.TheVariants as key
 use Rattle.kt_suite.specs.declared.cause.SuiteCause.{SuiteCause}
 use Rattle.kt_suite.specs.declared.cause.SuiteCause.TheVariants.{UnknownProperty, BadValue}
-use Rattle.kt_suite.specs.declared.table.ProgramTable.{ProgramTable}
+use Rattle.kt_suite.specs.declared.registry.ProgramTable.{ProgramTable}
 use Rattle.kt_suite.specs.Calls.{key_named}
 
 -- a pair of a table, with its value as a text

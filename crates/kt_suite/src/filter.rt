@@ -63,8 +63,7 @@ pub struct Filter {
 }
 
 impl Filter {
-    ghost use Rattle.kt_suite.specs.Filters.{filter_meaning, Answers};
-    ghost use Rattle.kt_suite.specs.Matching.{matches, MayMatch};
+    ghost use Rattle.kt_suite.specs.Common.{filter_meaning, Answers, matches, MayMatch};
 
     /// Reads a filter: `PROGRAM` or `PROGRAM:CASE`, split at the first colon.
     pub fn parse(alloc: Global, text: &Text) -> Result<Filter, FilterFault>

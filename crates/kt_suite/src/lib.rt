@@ -3,13 +3,10 @@
 
 mod call;
 mod cause;
-mod disjoint;
 mod fault;
 mod filter;
 mod loader;
-mod opening;
 mod paths;
-mod program;
 mod registry;
 mod selecting;
 mod statement;
@@ -19,11 +16,11 @@ mod tree;
 mod within;
 
 pub use cause::SuiteCause;
-pub use disjoint::{check_disjoint, filter_laws};
 pub use fault::SuiteFault;
 pub use filter::{Filter, FilterFault};
 pub use loader::{load, registers_once};
 pub use paths::{parent_path, split_path};
-pub use program::Program;
+pub use registry::Program;
 pub use selecting::{Item, SelectFault, Selection, select};
 pub use tree::{ReadFault, Tree};
+pub use within::{check_disjoint, filter_laws};

@@ -1,7 +1,5 @@
 ghost use Rattle.std.specs.Prelude.{◌≡◌, IfOk};
-ghost use Rattle.std.specs.List.{list_all, slice_split};
-ghost use Rattle.kt_base.specs.Characters.{is_slash};
-ghost use Rattle.kt_suite.specs.Paths.{directory_of, without_last, parent_of, name_in, beside, has_directory, is_component, leads_down};
+ghost use Rattle.kt_suite.specs.Common.{list_all, slice_split, is_slash, directory_of, without_last, parent_of, name_in, beside, has_directory, is_component, leads_down};
 
 use kt_base::{NoMemory, Text, has_slash};
 use std::alloc::Global;

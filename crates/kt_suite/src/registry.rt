@@ -1,5 +1,17 @@
-use crate::program::Program;
-use kt_base::{Items, Text};
+use kt_base::{Interface, Items, Text};
+use kt_metadata::Props;
+
+/// A test program that a Kyuafile registers.
+#[derive(Drop)]
+pub struct Program {
+    pub interface: Interface,
+    /// Relative to the directory of the root Kyuafile.
+    pub path: Text,
+    /// The test suite that the program belongs to. It isn't empty.
+    pub suite: Text,
+    /// The properties that the program's table sets.
+    pub props: Props,
+}
 
 /// What was read of a tree so far.
 #[derive(Drop)]
@@ -18,4 +30,12 @@ pub enum Step {
     Next(Registry, Option<Text>),
     /// The file at this path, and then the next statement.
     Enter(Registry, Option<Text>, Text),
+}
+
+/// What the table of a program declares.
+#[derive(Drop)]
+pub struct ProgramTable {
+    pub name: Option<Text>,
+    pub suite: Option<Text>,
+    pub props: Props,
 }

@@ -5,7 +5,7 @@ ghost use Rattle.kt_suite.specs.Inner.Steps.{all_places, first_match, is_match, 
 ghost use Rattle.kt_suite.specs.Selecting.{most_items, matches_item, is_selected, selected_places, idle_places};
 ghost use Rattle.kt_suite.specs.declared.selecting.SelectFault.TheVariants as fault;
 
-use crate::filter::Filter;
+use crate::Filter;
 use kt_base::{NoMemory, Text};
 use std::alloc::Global;
 use thiserror::Error;

@@ -1,10 +1,11 @@
 ghost use Rattle.std.specs.Prelude.{◌≡◌, IfOk, List, ℕ, Option};
 ghost use Rattle.kt_suite.specs.Meanings.{version_fault, first_call_fault, opening_fault, suite_meaning, suited, named, declared_meaning, program_meaning, new_include, include_meaning, call_meaning, meaning_of};
 
+use crate::SuiteCause;
 use crate::call::{Call, call_of};
-use crate::cause::SuiteCause;
 use crate::paths::{leads_away, leads_down};
-use crate::table::{ProgramTable, read_table};
+use crate::registry::ProgramTable;
+use crate::table::read_table;
 use kt_base::{Interface, NoMemory, Text};
 use kt_metadata::Props;
 use kt_script::{Action, Arg, Literal};

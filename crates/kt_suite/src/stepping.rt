@@ -1,18 +1,12 @@
 ghost use Rattle.std.specs.Prelude.{◌≡◌};
-ghost use Rattle.std.specs.List.{list_any};
-ghost use Rattle.std.specs.Str.{bytes_eq};
-ghost use Rattle.kt_suite.specs.Marks.{entry_fault};
-ghost use Rattle.kt_suite.specs.Meanings.{meaning_of};
-ghost use Rattle.kt_suite.specs.Inner.Walks.{Adds, Enters, Stepped};
+ghost use Rattle.kt_suite.specs.Common.{list_any, bytes_eq, entry_fault, meaning_of, Adds, Enters, Stepped};
 
-use crate::cause::SuiteCause;
-use crate::fault::{SuiteFault, blame, no_memory};
+use crate::fault::{blame, no_memory};
 use crate::paths::path_beside;
-use crate::program::Program;
 use crate::registry::{Registry, Step};
 use crate::statement::{Meaning, read_statement};
-use crate::tree::Tree;
 use crate::within::is_same;
+use crate::{Program, SuiteCause, SuiteFault, Tree};
 use kt_base::Text;
 use kt_script::Stmt;
 use std::alloc::Global;

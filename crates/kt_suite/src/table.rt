@@ -1,23 +1,13 @@
 ghost use Rattle.std.specs.Prelude.{◌≡◌, ◌∷◌, ◌++◌, [], List, IfOk};
-ghost use Rattle.kt_base.specs.declared.variable.Variable.{Variable};
-ghost use Rattle.kt_base.specs.LastValues.{last_values};
-ghost use Rattle.kt_suite.specs.Inner.Steps.{props_with, table_with};
-ghost use Rattle.kt_suite.specs.Tables.{definition, table_of, declared};
+ghost use Rattle.kt_suite.specs.Common.{Variable, last_values, props_with, table_with, definition, table_of, declared};
 
+use crate::SuiteCause;
 use crate::call::{Key, key_of};
-use crate::cause::SuiteCause;
+use crate::registry::ProgramTable;
 use kt_base::{NoMemory, Text};
 use kt_metadata::{PropFault, Props};
 use kt_script::Pair;
 use std::alloc::Global;
-
-/// What the table of a program declares.
-#[derive(Drop)]
-pub struct ProgramTable {
-    pub name: Option<Text>,
-    pub suite: Option<Text>,
-    pub props: Props,
-}
 
 /// Properties with one definition more, or why it is refused.
 fn set_property(
@@ -25,8 +15,7 @@ fn set_property(
     name: &Text,
     value: &Text,
 ) -> Result<Result<Props, SuiteCause>, NoMemory>
-    ensures { (before : List Variable) → props ≡ last_values before
-        → IfOk result (λ next. next
+    ensures { (before : List Variable) → props ≡ last_values before → IfOk result (λ next. next
         ≡ props_with before (record { name = name.now; value = value.now })) }
 {
     let mut props = props;

@@ -9,7 +9,7 @@ use Rattle.kt_script.specs.declared.fault.ScriptFault.TheVariants as script
 use Rattle.kt_suite.specs.declared.cause.SuiteCause.{SuiteCause}
 use Rattle.kt_suite.specs.declared.filter.Filter.{Filter}
 use Rattle.kt_suite.specs.declared.selecting.Item.{Item}
-use Rattle.kt_suite.specs.declared.table.ProgramTable.{ProgramTable}
+use Rattle.kt_suite.specs.declared.registry.ProgramTable.{ProgramTable}
 use Rattle.kt_suite.specs.Filters.{counts}
 use Rattle.kt_suite.specs.Selecting.{places, matches_item}
 use Rattle.kt_suite.specs.Tables.{value_cause, pair_fault, table_of, unless}

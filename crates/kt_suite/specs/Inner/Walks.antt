@@ -5,7 +5,7 @@ use Rattle.kt_script.specs.Spelling.{Spells}
 use Rattle.kt_suite.specs.declared.tree.ReadFault.{ReadFault}
 use Rattle.kt_suite.specs.declared.fault.SuiteFault.{SuiteFault}
 use Rattle.kt_suite.specs.declared.registry.Registry.{Registry}
-use Rattle.kt_suite.specs.declared.program.Program.{Program}
+use Rattle.kt_suite.specs.declared.registry.Program.{Program}
 use Rattle.kt_suite.specs.declared.registry.Step.{Step}
 use Rattle.kt_suite.specs.declared.registry.Step.TheVariants.{Next, Enter}
 use Rattle.kt_suite.specs.declared.statement.Meaning.{Meaning}

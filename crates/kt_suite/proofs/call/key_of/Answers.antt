@@ -1,5 +1,5 @@
 use Rattle.std.proofs.Common.{rules}
-use Rattle.std.specs.Str.{chars}
+use Rattle.kt_suite.proofs.Common.{chars}
 use Rattle.kt_suite.proofs.call.key_of.Goals as goal
 
 pub returns-then-is_word : goal.returns-then-is_word

@@ -1,9 +1,7 @@
 use Rattle.std.proofs.Common.{◌≡◌, ◌∙◌, ap, map, List, [], ℕ, rules, tests}
-use Rattle.std.specs.List.{slice_split}
+use Rattle.kt_suite.proofs.Common.{slice_split, YieldsList-from_slice_split, is_slash}
 use Rattle.std.proofs.lemmas.Iterator.Consumers.{map_from_collect}
-use Rattle.std.proofs.lemmas.Iterator.Splits.{YieldsList-from_slice_split}
 use Rattle.std.proofs.lemmas.Result.{IfOk-at_ok}
-use Rattle.kt_base.specs.Characters.{is_slash}
 use Rattle.kt_suite.proofs.Components.{with_components, with-join}
 use Rattle.kt_suite.proofs.filter.plain_path.Goals as goal
 

@@ -1,5 +1,5 @@
 use Rattle.std.proofs.Common.{◌≡◌, map, drop}
-use Rattle.kt_suite.specs.Filters.{plain_path}
+use Rattle.kt_suite.proofs.Common.{plain_path}
 use Rattle.kt_suite.proofs.Components.{with_components}
 use Rattle.kt_suite.proofs.filter.plain_path.Given as goal
 

@@ -1,7 +1,5 @@
-use Rattle.std.specs.Prelude.{List, drop}
-use Rattle.std.proofs.Common.{rules, ◌≡◌, ◌<◌, ◌-◌, length, ◌∷◌, refl, ap, ◌∙◌}
-use Rattle.std.proofs.lemmas.List.{take_rest}
-use Rattle.kt_script.specs.declared.syntax.Stmt.{Stmt}
+use Rattle.std.proofs.Common.{List, drop, rules, ◌≡◌, ◌<◌, ◌-◌, length, ◌∷◌, refl, ap, ◌∙◌}
+use Rattle.kt_suite.proofs.Common.{take_rest, Stmt}
 use Rattle.kt_suite.proofs.Inclusions.{step_stops, step_next, step_inner, step_inner_stops, deeper}
 use Rattle.kt_suite.proofs.OpenedFiles.{unopened_file, opened_short}
 use Rattle.kt_suite.proofs.Reading.{reading_first, reading_all}

@@ -1,6 +1,5 @@
 use Rattle.std.proofs.Common.{◌≡◌, ◌++◌, drop, true}
-use Rattle.kt_suite.specs.Inner.Steps.{all_places}
-use Rattle.kt_suite.specs.Selecting.{places}
+use Rattle.kt_suite.proofs.Common.{all_places, places}
 use Rattle.kt_suite.proofs.selecting.all_places.Given as goal
 
 -- what was counted, and what the rest gives

@@ -1,7 +1,5 @@
 use Rattle.std.proofs.Common.{rules, ◌≡◌, ◌+◌, ◌∷◌, length, drop, sym, ap, ◌∙◌, drop_of_length-le}
-use Rattle.std.proofs.lemmas.List.{drop_more}
-use Rattle.kt_suite.specs.declared.selecting.Item.{Item}
-use Rattle.kt_suite.specs.Selecting.{is_selected}
+use Rattle.kt_suite.proofs.Common.{drop_more, Item, is_selected}
 use Rattle.kt_suite.proofs.Picking.{idle_at_last, idle_after, place_taken, place_passed}
 use Rattle.kt_suite.proofs.selecting.compare_items.Goals.{then-compare_item+in_ok-push, else-compare_item}
 use Rattle.kt_suite.proofs.selecting.compare_items.Goals as goal

@@ -1,6 +1,5 @@
 use Rattle.std.proofs.Common.{◌≡◌, ◌++◌, drop}
-use Rattle.std.specs.List.{filter}
-use Rattle.kt_suite.specs.Selecting.{places, is_selected, selected_places, idle_places}
+use Rattle.kt_suite.proofs.Common.{filter, places, is_selected, selected_places, idle_places}
 use Rattle.kt_suite.proofs.Picking.{is_idle_at}
 use Rattle.kt_suite.proofs.selecting.compare_items.Given as goal
 

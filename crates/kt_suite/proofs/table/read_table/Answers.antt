@@ -1,11 +1,5 @@
-use Rattle.std.specs.Prelude.{Result, Ok, Err}
-use Rattle.std.proofs.Common.{rules, ◌≡◌, ◌+◌, ◌∷◌, length, drop, sym, ap, ◌∙◌, drop_of_length-le}
-use Rattle.std.proofs.lemmas.List.{drop_more}
-use Rattle.kt_script.specs.declared.syntax.Pair.{Pair}
-use Rattle.kt_suite.specs.declared.cause.SuiteCause.{SuiteCause}
-use Rattle.kt_suite.specs.declared.table.ProgramTable.{ProgramTable}
-use Rattle.kt_suite.specs.Inner.Steps.{table_with}
-use Rattle.kt_suite.specs.Tables.{definition}
+use Rattle.std.proofs.Common.{Result, Ok, Err, rules, ◌≡◌, ◌+◌, ◌∷◌, length, drop, sym, ap, ◌∙◌, drop_of_length-le}
+use Rattle.kt_suite.proofs.Common.{drop_more, Pair, SuiteCause, ProgramTable, table_with, definition}
 use Rattle.kt_suite.proofs.TableLoops.{table_next, table_stops, table_all}
 use Rattle.kt_suite.proofs.table.read_table.Goals as goal
 

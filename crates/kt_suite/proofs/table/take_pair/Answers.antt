@@ -1,13 +1,6 @@
-use Rattle.std.specs.Prelude.{Result, Ok, Err}
-use Rattle.std.specs.List.{filter}
-use Rattle.std.proofs.Common.{rules, ◌≡◌, List}
-use Rattle.kt_base.specs.declared.variable.Variable.{Variable}
-use Rattle.kt_script.specs.LiteralText.{text_of}
-use Rattle.kt_suite.specs.declared.cause.SuiteCause.{SuiteCause}
+use Rattle.std.proofs.Common.{Result, Ok, Err, rules, ◌≡◌, List}
+use Rattle.kt_suite.proofs.Common.{filter, Variable, text_of, SuiteCause, key_named, props_with, is_property}
 use Rattle.kt_suite.specs.declared.call.Key.TheVariants as key
-use Rattle.kt_suite.specs.Calls.{key_named}
-use Rattle.kt_suite.specs.Inner.Steps.{props_with}
-use Rattle.kt_suite.specs.Tables.{is_property}
 use Rattle.kt_suite.proofs.Tables.{takes_name, takes_suite, takes_property}
 use Rattle.kt_suite.proofs.table.take_pair.Goals as goal
 

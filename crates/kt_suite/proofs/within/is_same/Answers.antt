@@ -1,4 +1,5 @@
-use Rattle.std.proofs.Common.{◌∙◌, bytes_eq, ap, List, ℕ, chars}
+use Rattle.std.proofs.Common.{◌∙◌, bytes_eq, ap, List, ℕ}
+use Rattle.kt_suite.proofs.Common.{chars}
 use Rattle.kt_base.proofs.Texts.{bytes_eq-chars}
 use Rattle.kt_suite.proofs.within.is_same.Goals as goal
 

@@ -1,5 +1,5 @@
-use Rattle.std.proofs.Common.{rules, ◌≡◌, List, ℕ, false, sym, ap, ◌∙◌, ◌++◌, [], chars, drop, length}
-use Rattle.kt_suite.specs.Matching.{is_within}
+use Rattle.std.proofs.Common.{rules, ◌≡◌, List, ℕ, false, sym, ap, ◌∙◌, ◌++◌, [], drop, length}
+use Rattle.kt_suite.proofs.Common.{chars, is_within}
 use Rattle.kt_suite.proofs.WithinPaths.{within-found, within-none, within-past}
 use Rattle.kt_suite.proofs.within.is_within.Goals as goal
 

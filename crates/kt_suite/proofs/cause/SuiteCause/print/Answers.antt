@@ -1,9 +1,5 @@
-use lib.Utf8.{encode}
-use Rattle.std.specs.Prelude.{codes}
-use Rattle.std.proofs.Common.{ap, sym, ◌∙◌}
-use Rattle.std.specs.Fmt.{decimal}
-use Rattle.kt_base.specs.Utf8.{utf8}
-use Rattle.kt_base.proofs.Showing.{shows_as}
+use Rattle.std.proofs.Common.{codes, ap, sym, ◌∙◌}
+use Rattle.kt_suite.proofs.Common.{encode, decimal, utf8, shows_as}
 use Rattle.kt_suite.proofs.FaultWords.{utf8-cause, fixed-cause, utf8_three}
 use Rattle.kt_suite.proofs.cause.SuiteCause.print.Goals as goal
 

@@ -1,10 +1,5 @@
-use lib.Utf8.{encode}
-use Rattle.std.specs.Prelude.{codes}
-use Rattle.std.proofs.Common.{sym, ◌∙◌}
-use Rattle.std.specs.Fmt.{decimal}
-use Rattle.kt_base.specs.Utf8.{utf8}
-use Rattle.kt_base.proofs.Showing.{shows_as, shows_both, shows_error, shows_more}
-use Rattle.kt_suite.specs.FaultWords.{cause_words}
+use Rattle.std.proofs.Common.{codes, sym, ◌∙◌}
+use Rattle.kt_suite.proofs.Common.{encode, decimal, utf8, shows_as, shows_both, shows_error, shows_more, cause_words}
 use Rattle.kt_suite.proofs.FaultWords.{utf8_five}
 use Rattle.kt_suite.proofs.fault.SuiteFault.print_placed.Goals as goal
 

@@ -1,6 +1,6 @@
 use Rattle.std.proofs.Common.{◌≡◌, ℕ, ◌<◌, None}
-use Rattle.kt_suite.specs.Disjoint.{overlap_fault}
-use Rattle.kt_suite.proofs.disjoint.check_disjoint.Given as goal
+use Rattle.kt_suite.proofs.Common.{overlap_fault}
+use Rattle.kt_suite.proofs.within.check_disjoint.Given as goal
 
 -- nothing is wrong before
 abbrev pub invariant-loop-position : goal.invariant-loop-position
