@@ -1,5 +1,5 @@
 ghost use Rattle.std.specs.Prelude.{◌≡◌, ◌↔◌, ◌≤◌, ◌+◌, ◌-◌, ◌^◌, min, IsTrue};
-ghost use Rattle.kt_removal.specs.Inner.Bounds.{IsSpent, at_close, at_once, steps_at_close};
+ghost use Rattle.kt_removal.specs.Common.{IsSpent, at_close, at_once, steps_at_close};
 
 use std::rt::Clock;
 use std::time::Instant;

@@ -1,5 +1,5 @@
 ghost use Rattle.std.specs.Prelude.{◌≡◌, ◌++◌, ◌∷◌, IfOk};
-ghost use Rattle.kt_base.specs.Utf8.{utf8};
+ghost use Rattle.kt_removal.specs.Common.{utf8};
 
 use kt_base::{Bytes, NoMemory, Text};
 use std::alloc::Global;

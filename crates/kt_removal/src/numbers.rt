@@ -1,6 +1,5 @@
 ghost use Rattle.std.specs.Prelude.{◌≡◌, ◌++◌, IfOk};
-ghost use Rattle.std.specs.Str.{chars};
-ghost use Rattle.std.specs.Fmt.{decimal};
+ghost use Rattle.kt_removal.specs.Common.{chars, decimal};
 
 use kt_base::{NoMemory, Text};
 use std::alloc::Global;

@@ -1,10 +1,9 @@
 ghost use Rattle.std.specs.Prelude.{◌≡◌, ◌++◌, ◌∷◌, IfOk, IfSome};
-ghost use Rattle.kt_removal.specs.Inner.Removals.{moved_dir};
+ghost use Rattle.kt_removal.specs.Common.{moved_dir};
 
 use crate::bounds::Bound;
-use crate::entries;
 use crate::named::is_removed_by_names;
-use crate::numbers::numbered_path;
+use crate::{entries, numbered_path};
 use kt_base::{NoMemory, Text};
 use std::alloc::Global;
 use std::io::{ErrorKind, Read};
@@ -274,9 +273,8 @@ impl Removals {
         is_removed(rt, tree) || self.take(rt, tree.as_bytes())
     }
 
-    /// Removes a directory with all that it holds, and returns whether it is gone from there. No
-    /// link is followed. A directory that would take too long is moved to the others, for later;
-    /// the root itself stays where it is.
+    /// Removes a directory with all that it holds, and returns whether it is gone from there. No link is followed. A
+    /// directory that would take too long is moved to the others, for later; the root itself stays where it is.
     pub fn remove_tree<R: Files + Clock + AllocGlobal>(&mut self, rt: &R, tree: &Text) -> bool
         ensures { self.new.place ≡ self.old.place }
     {

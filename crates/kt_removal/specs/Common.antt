@@ -1,0 +1,6 @@
+-- The words that the clauses of this crate cite, passed on from one place. Declares nothing.
+pub use Rattle.std.specs.Fmt.{decimal}
+pub use Rattle.std.specs.Str.{chars}
+pub use Rattle.kt_base.specs.Utf8.{utf8}
+pub use Rattle.kt_removal.specs.Inner.Bounds.{IsSpent, at_close, at_once, steps_at_close}
+pub use Rattle.kt_removal.specs.Inner.Removals.{moved_dir}
