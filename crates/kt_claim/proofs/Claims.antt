@@ -1,22 +1,9 @@
 -- A file has no other claim than the one that is read.
-use Rattle.std.proofs.Common.{◌≡◌, ℕ, ◌-◌, ◌≤◌, ◌<◌, true, false, eqb, ltb, List, [], ◌∷◌, ◌++◌, length, drop, Option, Some, Result, Ok, Err, refl, ap, sym, subst, ◌∙◌, append_assoc, inl, inr, arith}
-use Rattle.std.specs.Prelude.{nat_eq, codes, MatchOption, IfOk}
-use Rattle.std.specs.Str.{bytes_eq}
-use Rattle.std.specs.List.{prefix_len, ends_with, list_any, list_all}
-use Rattle.std.proofs.lemmas.Bool.{false≢true, lt-ltb, le-ltb, ne_eqb}
-use Rattle.std.proofs.lemmas.List.{length-append}
+use Rattle.std.proofs.Common.{◌≡◌, ℕ, ◌-◌, ◌≤◌, ◌<◌, true, false, eqb, ltb, List, [], ◌∷◌, ◌++◌, length, drop, Option, Some, Result, Ok, Err, refl, ap, sym, subst, ◌∙◌, append_assoc, inl, inr, arith, nat_eq, codes, MatchOption, IfOk}
+use Rattle.kt_claim.proofs.Common.{bytes_eq, prefix_len, ends_with, list_any, list_all, false≢true, lt-ltb, le-ltb, ne_eqb, length-append, is_digit, lossy, is_newline, newline, number, limit, IsReason, IsNumber, with_reason, with_number, Says, line, is, IsClaimOf, word_of, claim_with, numbered, reason_in, with_reason_in, value_of, number_in, with_number_in, claim_of_line, claim_of, Claim, ClaimFault, Word}
 use Rattle.std.proofs.Math.Seq.{take-append_seam, drop-append_seam}
-use Rattle.kt_base.specs.Digits.{is_digit}
-use Rattle.kt_base.specs.Lossy.{lossy}
-use Rattle.kt_base.specs.Lines.{is_newline}
-use Rattle.kt_claim.specs.Bytes.{newline, number}
-use Rattle.kt_claim.specs.ResultFile.{limit, IsReason, IsNumber, with_reason, with_number, Says, line, is, IsClaimOf}
 use Rattle.kt_claim.specs.ResultFile as says
-use Rattle.kt_claim.specs.Inner.ResultReading.{word_of, claim_with, numbered, reason_in, with_reason_in, value_of, number_in, with_number_in, claim_of_line, claim_of}
-use Rattle.kt_claim.specs.declared.claim.Claim.{Claim}
-use Rattle.kt_claim.specs.declared.claim.Claim.TheVariants as claim
-use Rattle.kt_claim.specs.declared.claim.ClaimFault.{ClaimFault}
-use Rattle.kt_claim.specs.declared.result_line.Word.{Word}
+use Rattle.kt_claim.specs.declared.evidence.Claim.TheVariants as claim
 use Rattle.kt_claim.specs.declared.result_line.Word.TheVariants as word
 use Rattle.kt_claim.proofs.Truth.{and_left, and_right}
 use Rattle.kt_claim.proofs.Words.{valued}

@@ -1,12 +1,6 @@
 -- The lines before the first bail out, and their counts.
-use Rattle.std.proofs.Common.{◌≡◌, ℕ, ◌+◌, ◌≤◌, Bool, true, false, cond, List, [], ◌∷◌, ◌++◌, length, Option, Some, None, Result, Ok, Err, refl, ap, ◌∙◌, arith}
-use Rattle.std.specs.Prelude.{◌&&◌, ◌||◌, is_some, IfOk, codes}
-use Rattle.std.specs.List.{list_any, filter, filter_map, cons_option}
-use Rattle.std.specs.Str.{chars}
-use Rattle.std.proofs.lemmas.Bool.{false≢true}
-use Rattle.std.specs.Option.{option_or}
-use Rattle.kt_claim.specs.TapStream.{is_bail, plan, count, heard, skip_reason}
-use Rattle.kt_claim.specs.Inner.TapReading.{one, first, has_second}
+use Rattle.std.proofs.Common.{◌≡◌, ℕ, ◌+◌, ◌≤◌, Bool, true, false, cond, List, [], ◌∷◌, ◌++◌, length, Option, Some, None, Result, Ok, Err, refl, ap, ◌∙◌, arith, ◌&&◌, ◌||◌, is_some, IfOk, codes}
+use Rattle.kt_claim.proofs.Common.{list_any, filter, filter_map, cons_option, chars, false≢true, option_or, is_bail, plan, count, heard, skip_reason, one, first, has_second}
 use Rattle.kt_claim.proofs.Truth.{or_left, or_right, or_assoc, or_false}
 
 pub no_reason : chars (codes "No reason given") ≡ codes "No reason given"

@@ -1,12 +1,7 @@
 -- The word that a line begins with.
-use Rattle.std.proofs.Common.{◌≡◌, ℕ, Bool, true, false, List, refl, sym, subst}
-use Rattle.std.specs.Prelude.{codes}
-use Rattle.std.specs.Str.{bytes_eq}
-use Rattle.std.specs.List.{list_any}
-use Rattle.std.proofs.lemmas.Slice.Eq.{bytes_eq-Decides}
-use Rattle.kt_base.specs.Lines.{is_newline}
+use Rattle.std.proofs.Common.{◌≡◌, ℕ, Bool, true, false, List, refl, sym, subst, codes}
+use Rattle.kt_claim.proofs.Common.{bytes_eq, list_any, bytes_eq-Decides, is_newline, word_of, after_known}
 use Rattle.kt_claim.specs.ResultFile as says
-use Rattle.kt_claim.specs.Inner.ResultReading.{word_of, after_known}
 use Rattle.kt_claim.specs.declared.result_line.Word.TheVariants as word
 use Rattle.kt_claim.proofs.Words.{Agrees, plain_word, passed_word, number_word}
 

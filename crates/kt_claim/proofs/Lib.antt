@@ -1,3 +1,4 @@
+pub mod Common
 pub mod Claims
 pub mod Counts
 pub mod FirstWords

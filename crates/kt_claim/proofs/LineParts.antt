@@ -1,12 +1,6 @@
 -- What a line's parts are, read byte by byte.
-use Rattle.std.proofs.Common.{◌≡◌, ℕ, ◌+◌, ◌*◌, ◌-◌, ◌≤◌, Bool, true, false, eqb, List, [], ◌∷◌, ◌++◌, length, drop, Option, Some, None, refl, ap, sym, ◌∙◌, arith}
-use Rattle.std.specs.Prelude.{if◌then◌else◌, option_map}
-use Rattle.std.proofs.lemmas.Bool.{le-ltb, ne_eqb}
-use Rattle.std.proofs.lemmas.List.{length-append}
-use Rattle.kt_base.specs.Digits.{is_digit, decimal_from}
-use Rattle.kt_claim.specs.Bytes.{is_blank}
-use Rattle.kt_claim.specs.Inner.LineStates.{nothing, planning, after_opening, opened}
-use Rattle.kt_claim.specs.TapStream.{below_limit, trimmed, begins, front, past, ends_plan, planned_from, directive_in, skips, plan_for}
+use Rattle.std.proofs.Common.{◌≡◌, ℕ, ◌+◌, ◌*◌, ◌-◌, ◌≤◌, Bool, true, false, eqb, List, [], ◌∷◌, ◌++◌, length, drop, Option, Some, None, refl, ap, sym, ◌∙◌, arith, if◌then◌else◌, option_map}
+use Rattle.kt_claim.proofs.Common.{le-ltb, ne_eqb, length-append, is_digit, decimal_from, is_blank, nothing, planning, after_opening, opened, below_limit, trimmed, begins, front, past, ends_plan, planned_from, directive_in, skips, plan_for}
 use Rattle.kt_claim.specs.declared.begun.Opening.{Opening}
 use Rattle.kt_claim.proofs.Truth.{and_false}
 

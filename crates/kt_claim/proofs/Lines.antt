@@ -1,17 +1,10 @@
 -- The lines of a text that comes in pieces.
 use Rattle.std.proofs.Common.{◌≡◌, ℕ, ◌≤◌, ◌<◌, ◌^◌, Bool, true, false, List, [], ◌∷◌, ◌++◌, map, length, refl, ap, sym, ◌∙◌, append_assoc, arith}
-use Rattle.std.specs.List.{list_any}
-use Rattle.std.proofs.lemmas.List.{append-nil, length-append}
-use Rattle.kt_base.specs.Lines.{is_newline, lines, onto}
-use Rattle.kt_claim.specs.TapStream.{limit, without_return, trimmed, tap_of_lines, lines_of}
-use Rattle.kt_claim.specs.Inner.LineStates.{LineState, held_before, facts_of, facts_of_kind, facts_with, is_reason, KeepsFor, Knows}
-use Rattle.kt_claim.specs.Inner.TapReading.{IsTally, HasLines}
-use Rattle.kt_claim.specs.declared.tally.Tally.{Tally}
-use Rattle.kt_claim.specs.declared.tap.Tap.{Tap}
-use Rattle.kt_claim.specs.declared.begun.Begun.{Begun}
-use Rattle.kt_claim.specs.declared.begun.Begun.TheVariants as begun
-use Rattle.kt_claim.specs.declared.begun.LineKind.{LineKind}
+use Rattle.kt_claim.proofs.Common.{list_any, append-nil, length-append, is_newline, lines, onto, without_return, trimmed, tap_of_lines, lines_of, LineState, held_before, facts_of, facts_of_kind, facts_with, is_reason, KeepsFor, Knows, IsTally, HasLines, Tally, Begun, LineKind}
+use Rattle.kt_claim.specs.TapStream.{limit}
+use Rattle.kt_claim.specs.declared.evidence.Tap.{Tap}
 use Rattle.kt_claim.specs.declared.begun.LineKind.TheVariants.{Plan}
+use Rattle.kt_claim.specs.declared.begun.Begun.TheVariants as begun
 use Rattle.kt_claim.proofs.Tallies.{quiet}
 use Rattle.kt_claim.proofs.Truth.{or_left, or_right}
 

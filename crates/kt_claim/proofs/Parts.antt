@@ -1,9 +1,6 @@
 -- The parts in which a line comes.
 use Rattle.std.proofs.Common.{◌≡◌, ℕ, true, false, eqb, List, [], ◌∷◌, ◌++◌, refl, ap, sym, ◌∙◌, append_assoc}
-use Rattle.std.proofs.lemmas.Bool.{false≢true}
-use Rattle.kt_claim.specs.Inner.LineStates.{facts_of, facts_with, is_decided, KeepsFor, Knows, Released}
-use Rattle.kt_claim.specs.TapStream.{without_return}
-use Rattle.kt_claim.specs.declared.begun.Begun.{Begun}
+use Rattle.kt_claim.proofs.Common.{false≢true, facts_of, facts_with, is_decided, KeepsFor, Knows, Released, without_return, Begun}
 use Rattle.kt_claim.specs.declared.begun.Begun.TheVariants as begun
 
 -- what follows a line that is decided changes nothing

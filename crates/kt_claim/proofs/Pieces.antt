@@ -1,14 +1,7 @@
 -- The loop over a piece.
-use Rattle.std.proofs.Common.{◌≡◌, ℕ, suc, ◌+◌, ◌≤◌, ◌<◌, Bool, true, false, not, List, [], ◌∷◌, ◌++◌, length, take, drop, refl, ap, sym, subst, ◌∙◌, append_assoc, arith}
-use Rattle.std.specs.Prelude.{◌||◌}
-use Rattle.std.specs.List.{list_any, prefix_len}
-use Rattle.std.proofs.lemmas.Bool.{eqb-true}
-use Rattle.std.proofs.lemmas.List.{append-nil, length-append, nil_from_length, take-append-drop}
-use Rattle.kt_base.specs.Lines.{is_newline}
+use Rattle.std.proofs.Common.{◌≡◌, ℕ, suc, ◌+◌, ◌≤◌, ◌<◌, Bool, true, false, not, List, [], ◌∷◌, ◌++◌, length, take, drop, refl, ap, sym, subst, ◌∙◌, append_assoc, arith, ◌||◌}
+use Rattle.kt_claim.proofs.Common.{list_any, prefix_len, eqb-true, append-nil, length-append, nil_from_length, take-append-drop, is_newline, LineState, HasLines, Tally}
 use Rattle.kt_claim.specs.TapStream.{limit}
-use Rattle.kt_claim.specs.Inner.LineStates.{LineState}
-use Rattle.kt_claim.specs.Inner.TapReading.{HasLines}
-use Rattle.kt_claim.specs.declared.tally.Tally.{Tally}
 
 -- ---- the first line of a piece
 

@@ -1,17 +1,8 @@
 -- Reading from the left finds the claim of a file.
-use Rattle.std.proofs.Common.{◌≡◌, ℕ, ◌-◌, ◌≤◌, true, false, not, List, [], ◌∷◌, ◌++◌, length, take, drop, Option, Some, None, refl, ap, sym, subst, ◌∙◌, append_assoc, inl, inr, arith}
-use Rattle.std.specs.Prelude.{◌==◌, nat_eq, nat_lt, MatchOption}
-use Rattle.std.specs.List.{prefix_len, ends_with, list_any, find}
-use Rattle.std.proofs.lemmas.Bool.{ltb-false}
-use Rattle.std.proofs.lemmas.List.{take-append-drop}
-use Rattle.std.proofs.lemmas.Slice.Eq.{bytes_eq-Decides}
-use Rattle.kt_base.specs.Lines.{is_newline}
-use Rattle.kt_claim.specs.Bytes.{newline, is_word_byte}
-use Rattle.kt_claim.specs.ResultFile.{limit, Says, line, fits_line, fault_of, IsClaimOf, word as first_word, after_word}
-use Rattle.kt_claim.specs.Inner.ResultReading.{word_of, after_known, claim_of_line, claim_of}
-use Rattle.kt_claim.specs.declared.claim.Claim.TheVariants as claim
-use Rattle.kt_claim.specs.declared.claim.ClaimFault.{ClaimFault}
-use Rattle.kt_claim.specs.declared.claim.ClaimFault.TheVariants.{TooLong, Empty, NoNewline, SeveralLines, UnknownWord, BadNumber, UnexpectedReason, NoReason}
+use Rattle.std.proofs.Common.{◌≡◌, ℕ, ◌-◌, ◌≤◌, true, false, not, List, [], ◌∷◌, ◌++◌, length, take, drop, Option, Some, None, refl, ap, sym, subst, ◌∙◌, append_assoc, inl, inr, arith, ◌==◌, nat_eq, nat_lt, MatchOption}
+use Rattle.kt_claim.proofs.Common.{prefix_len, ends_with, list_any, find, ltb-false, take-append-drop, bytes_eq-Decides, is_newline, newline, is_word_byte, limit, Says, line, fits_line, fault_of, IsClaimOf, after_word, word_of, after_known, claim_of_line, claim_of, ClaimFault, TooLong, Empty, NoNewline, SeveralLines, UnknownWord, BadNumber, UnexpectedReason, NoReason}
+use Rattle.kt_claim.specs.ResultFile.{word as first_word}
+use Rattle.kt_claim.specs.declared.evidence.Claim.TheVariants as claim
 use Rattle.kt_claim.proofs.Truth.{not_false}
 use Rattle.kt_claim.proofs.Reasons.{row, under}
 use Rattle.kt_claim.proofs.Words.{any_right}

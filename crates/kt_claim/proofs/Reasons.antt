@@ -1,17 +1,7 @@
 -- The rows of a result file, and its reason.
-use Rattle.std.proofs.Common.{◌≡◌, ℕ, ◌<◌, Bool, true, false, not, cond, List, [], ◌∷◌, ◌++◌, length, drop, Option, Some, None, refl, ap, sym, subst, ◌∙◌, arith}
-use Rattle.std.specs.Prelude.{◌&&◌, nat_eq, nat_lt, MatchOption}
-use Rattle.std.specs.List.{list_any}
-use Rattle.std.proofs.lemmas.Bool.{false≢true, eqb-true, ltb-true}
-use Rattle.kt_base.specs.Lossy.{lossy}
-use Rattle.kt_base.specs.Lines.{is_newline}
-use Rattle.kt_claim.specs.Bytes.{newline}
-use Rattle.kt_claim.specs.ResultFile.{IsReason, with_reason, Says, has_reason}
-use Rattle.kt_claim.specs.Inner.ResultReading.{reason_in, with_reason_in}
-use Rattle.kt_claim.specs.declared.claim.Claim.{Claim}
-use Rattle.kt_claim.specs.declared.claim.Claim.TheVariants as claim
-use Rattle.kt_claim.specs.declared.claim.ClaimFault.{ClaimFault}
-use Rattle.kt_claim.specs.declared.claim.ClaimFault.TheVariants.{NoReason}
+use Rattle.std.proofs.Common.{◌≡◌, ℕ, ◌<◌, Bool, true, false, not, cond, List, [], ◌∷◌, ◌++◌, length, drop, Option, Some, None, refl, ap, sym, subst, ◌∙◌, arith, ◌&&◌, nat_eq, nat_lt, MatchOption}
+use Rattle.kt_claim.proofs.Common.{list_any, false≢true, eqb-true, ltb-true, lossy, is_newline, newline, IsReason, with_reason, Says, has_reason, reason_in, with_reason_in, Claim, ClaimFault, NoReason}
+use Rattle.kt_claim.specs.declared.evidence.Claim.TheVariants as claim
 use Rattle.kt_claim.proofs.Truth.{and_left, and_right}
 
 -- ---- rows

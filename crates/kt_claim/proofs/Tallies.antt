@@ -1,13 +1,6 @@
 -- A tally with one line more.
-use Rattle.std.proofs.Common.{◌≡◌, ℕ, ◌+◌, ◌<◌, ◌^◌, Bool, true, false, List, [], ◌∷◌, ◌++◌, length, Option, Some, None, Result, Ok, Err, refl, ap, sym, subst, ◌∙◌, arith}
-use Rattle.std.specs.Prelude.{◌&&◌, ◌||◌, is_some, IfOk}
-use Rattle.std.specs.List.{list_any, filter_map}
-use Rattle.std.proofs.lemmas.List.{append-nil}
-use Rattle.kt_claim.specs.Inner.LineStates.{Facts, facts_of, nothing, bailing, testing, planning}
-use Rattle.std.specs.Option.{option_or}
-use Rattle.kt_claim.specs.TapStream.{is_bail, is_test, is_unexcused, plan, count, heard, tap_of_lines}
-use Rattle.kt_claim.specs.Inner.TapReading.{IsTally, one, first, has_second, with_plan}
-use Rattle.kt_claim.specs.declared.tally.Tally.{Tally}
+use Rattle.std.proofs.Common.{◌≡◌, ℕ, ◌+◌, ◌<◌, ◌^◌, Bool, true, false, List, [], ◌∷◌, ◌++◌, length, Option, Some, None, Result, Ok, Err, refl, ap, sym, subst, ◌∙◌, arith, ◌&&◌, ◌||◌, is_some, IfOk}
+use Rattle.kt_claim.proofs.Common.{list_any, filter_map, append-nil, Facts, facts_of, nothing, bailing, testing, planning, option_or, is_bail, is_test, is_unexcused, plan, count, heard, tap_of_lines, IsTally, one, first, has_second, with_plan, Tally}
 use Rattle.kt_claim.proofs.Truth.{or_false}
 use Rattle.kt_claim.proofs.Counts.{any-snoc, heard_none, heard_bail, heard_more, heard-le, count-snoc, count-le, plans-snoc, first-snoc, second-snoc}
 

@@ -1,22 +1,9 @@
 -- The words of a result file, with a number or without.
-use Rattle.std.proofs.Common.{◌≡◌, ℕ, suc, ◌+◌, Bool, true, false, not, cond, List, [], ◌∷◌, ◌++◌, length, take, drop, Option, Some, None, refl, ap, sym, subst, ◌∙◌, append_assoc, arith}
-use Rattle.std.specs.Prelude.{◌&&◌, ◌==◌, nat_le, nat_lt, codes, MatchOption, if◌then◌else◌}
-use Rattle.std.specs.List.{prefix_len, list_any, list_all, find}
-use Rattle.std.proofs.lemmas.Bool.{false≢true, eqb-true, ltb-true, lt-ltb}
+use Rattle.std.proofs.Common.{◌≡◌, ℕ, suc, ◌+◌, Bool, true, false, not, cond, List, [], ◌∷◌, ◌++◌, length, take, drop, Option, Some, None, refl, ap, sym, subst, ◌∙◌, append_assoc, arith, ◌&&◌, ◌==◌, nat_le, nat_lt, codes, MatchOption, if◌then◌else◌}
+use Rattle.kt_claim.proofs.Common.{prefix_len, list_any, list_all, find, false≢true, eqb-true, ltb-true, lt-ltb, take-append-drop, is_digit, up_to, lossy, is_newline, newline, number, IsReason, IsNumber, with_reason, with_number, Says, has_bracket, closes, digits, after_digits, has_number, after_number, has_reason, fits_line, claim_with, numbered, reason_in, with_reason_in, closed, value_of, number_in, with_number_in, may_have_number, after_bracket, plainly, claim_after, Claim, ClaimFault, UnknownWord, BadNumber, UnexpectedReason, NoReason, Word}
 use Rattle.std.proofs.lemmas.Bool.Decides.{nat_tests}
-use Rattle.std.proofs.lemmas.List.{take-append-drop}
-use Rattle.kt_base.specs.Digits.{is_digit, up_to}
-use Rattle.kt_base.specs.Lossy.{lossy}
-use Rattle.kt_base.specs.Lines.{is_newline}
-use Rattle.kt_claim.specs.Bytes.{newline, number}
-use Rattle.kt_claim.specs.ResultFile.{IsReason, IsNumber, with_reason, with_number, Says, has_bracket, closes, digits, after_digits, has_number, after_number, has_reason, fits_line}
 use Rattle.kt_claim.specs.ResultFile as says
-use Rattle.kt_claim.specs.Inner.ResultReading.{claim_with, numbered, reason_in, with_reason_in, closed, value_of, number_in, with_number_in, may_have_number, after_bracket, plainly, claim_after}
-use Rattle.kt_claim.specs.declared.claim.Claim.{Claim}
-use Rattle.kt_claim.specs.declared.claim.Claim.TheVariants as claim
-use Rattle.kt_claim.specs.declared.claim.ClaimFault.{ClaimFault}
-use Rattle.kt_claim.specs.declared.claim.ClaimFault.TheVariants.{UnknownWord, BadNumber, UnexpectedReason, NoReason}
-use Rattle.kt_claim.specs.declared.result_line.Word.{Word}
+use Rattle.kt_claim.specs.declared.evidence.Claim.TheVariants as claim
 use Rattle.kt_claim.specs.declared.result_line.Word.TheVariants as word
 use Rattle.kt_claim.proofs.Truth.{or_right, and_left, and_right}
 use Rattle.kt_claim.proofs.Reasons.{Wanted, reasoned}

@@ -5,10 +5,10 @@ use Rattle.kt_base.specs.Lossy.{lossy}
 use Rattle.kt_base.specs.Digits.{is_digit}
 use Rattle.kt_base.specs.Lines.{is_newline}
 use Rattle.kt_claim.specs.Bytes.{newline, is_word_byte, number}
-use Rattle.kt_claim.specs.declared.claim.Claim.{Claim}
-use Rattle.kt_claim.specs.declared.claim.Claim.TheVariants.{Malformed, Passed, Failed, Skipped, ExpectedFailure, ExpectedDeath, ExpectedTimeout, ExpectedExit, ExpectedSignal}
-use Rattle.kt_claim.specs.declared.claim.ClaimFault.{ClaimFault}
-use Rattle.kt_claim.specs.declared.claim.ClaimFault.TheVariants.{TooLong, Empty, NoNewline, SeveralLines, UnknownWord, BadNumber, UnexpectedReason, NoReason}
+use Rattle.kt_claim.specs.declared.evidence.Claim.{Claim}
+use Rattle.kt_claim.specs.declared.evidence.Claim.TheVariants.{Malformed, Passed, Failed, Skipped, ExpectedFailure, ExpectedDeath, ExpectedTimeout, ExpectedExit, ExpectedSignal}
+use Rattle.kt_claim.specs.declared.evidence.ClaimFault.{ClaimFault}
+use Rattle.kt_claim.specs.declared.evidence.ClaimFault.TheVariants.{TooLong, Empty, NoNewline, SeveralLines, UnknownWord, BadNumber, UnexpectedReason, NoReason}
 
 -- the most bytes of a result file
 abbrev pub limit : ℕ

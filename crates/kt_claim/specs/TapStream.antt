@@ -7,9 +7,9 @@ use Rattle.kt_base.specs.Digits.{is_digit, decimal_from}
 use Rattle.kt_base.specs.Lossy.{lossy}
 use Rattle.kt_base.specs.Lines.{lines}
 use Rattle.kt_claim.specs.Bytes.{is_blank}
-use Rattle.kt_claim.specs.declared.tap.Tap.{Tap}
-use Rattle.kt_claim.specs.declared.tap.Tap.TheVariants.{Invalid, BailedOut, SkipAll, Counted}
-use Rattle.kt_claim.specs.declared.tap.TapFault.TheVariants.{TooLong, NoPlan, SecondPlan, PlanDiffers}
+use Rattle.kt_claim.specs.declared.evidence.Tap.{Tap}
+use Rattle.kt_claim.specs.declared.evidence.Tap.TheVariants.{Invalid, BailedOut, SkipAll, Counted}
+use Rattle.kt_claim.specs.declared.evidence.TapFault.TheVariants.{TooLong, NoPlan, SecondPlan, PlanDiffers}
 
 -- the most bytes of a stream
 abbrev pub limit : ℕ

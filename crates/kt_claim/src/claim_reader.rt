@@ -1,10 +1,8 @@
 ghost use Rattle.std.specs.Prelude.{◌≡◌, IfOk};
-ghost use Rattle.kt_claim.specs.ResultFile.{IsClaimOf};
-ghost use Rattle.kt_claim.specs.declared.claim.Claim.{Claim};
-ghost use Rattle.kt_claim.specs.Inner.ResultReading.{claim_of};
+ghost use Rattle.kt_claim.specs.Common.{IsClaimOf, Claim, claim_of};
 
-use crate::claim::{Claim, ClaimFault};
 use crate::result_line::claim_of_line;
+use crate::{Claim, ClaimFault};
 use kt_base::NoMemory;
 use std::alloc::Global;
 use std::marker::Model;
@@ -60,10 +58,7 @@ impl Model for ClaimReader {
 
 impl ClaimReader {
     ghost use Rattle.std.specs.Prelude.{◌≤◌, length, ◌≡◌, ℕ, List, [], ◌++◌, true, IfOk, OnOk, OnErr, IsErr};
-    ghost use Rattle.kt_claim.specs.ClaimReading.{HasRead};
-    ghost use Rattle.kt_claim.specs.ResultFile.{limit, IsClaimOf};
-    ghost use Rattle.kt_claim.specs.Inner.ResultReading.{claim_of};
-    ghost use Rattle.kt_claim.specs.declared.claim.Claim.{Claim};
+    ghost use Rattle.kt_claim.specs.Common.{HasRead, limit, IsClaimOf, claim_of, Claim};
 
     pub fn new(alloc: Global) -> Self
         ensures { HasRead result [] }

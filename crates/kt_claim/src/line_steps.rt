@@ -1,10 +1,7 @@
 //! What the next byte makes of a line.
 
 ghost use Rattle.std.specs.Prelude.{◌≡◌, [], ◌∷◌, ℕ, List, false, option_map, Some, true, ◌<◌, ◌^◌, ◌-◌};
-ghost use Rattle.kt_base.specs.Digits.{is_digit};
-ghost use Rattle.kt_claim.specs.Bytes.{is_blank};
-ghost use Rattle.kt_claim.specs.TapStream.{directive_in, planned_from, below_limit, reason_of, skips, plan_for};
-ghost use Rattle.kt_claim.specs.Inner.LineStates.{facts_of, planning, after_opening, opened, directed, begun_directive, facts_with, is_kept, is_reason, next_letter, with_letter};
+ghost use Rattle.kt_claim.specs.Common.{is_digit, is_blank, directive_in, planned_from, below_limit, reason_of, skips, plan_for, facts_of, planning, after_opening, opened, directed, begun_directive, facts_with, is_kept, is_reason, next_letter, with_letter};
 
 use crate::begun::{Begun, Letters, LineKind, Opening, Purpose};
 use kt_base::is_digit;

@@ -3,7 +3,7 @@ ghost use Rattle.kt_claim.specs.TapStream.{skip_reason, why, tap_of_lines};
 ghost use Rattle.kt_claim.specs.Inner.LineStates.{facts_of, facts_of_kind};
 
 use crate::begun::LineKind;
-use crate::tap::{Tap, TapFault};
+use crate::{Tap, TapFault};
 use kt_base::{NoMemory, Text, lossy};
 use std::alloc::Global;
 
@@ -101,8 +101,7 @@ impl Tally {
         Ok(Tally { plan, ..self })
     }
 
-    /// Counts one more line of this kind; `reason` is that of a plan of no tests. Lines after a bail
-    /// out don't count.
+    /// Counts one more line of this kind; `reason` is that of a plan of no tests. Lines after a bail out don't count.
     pub fn add(self, alloc: Global, kind: LineKind, reason: &[u8]) -> Result<Tally, NoMemory>
         ensures { IfOk result (λ after. (line : List ℕ) (lines : List (List ℕ))
             → facts_of line ≡ facts_of_kind kind reason.now → length lines < 2 ^ 32

@@ -1,17 +1,13 @@
 //! The lines of a TAP stream that comes in pieces.
 
 ghost use Rattle.std.specs.Prelude.{◌≡◌, ◌<◌, ◌≤◌, ◌+◌, ◌++◌, ◌∷◌, [], false, ℕ, List, length, IfOk, OnOk};
-ghost use Rattle.std.specs.List.{list_any};
-ghost use Rattle.kt_base.specs.Lines.{is_newline};
-ghost use Rattle.kt_claim.specs.TapStream.{limit, tap_of_lines, lines_of};
-ghost use Rattle.kt_claim.specs.Inner.TapReading.{state_of, HasLines};
-ghost use Rattle.kt_claim.specs.declared.tally.Tally.{Tally};
+ghost use Rattle.kt_claim.specs.Common.{list_any, is_newline, tap_of_lines, lines_of, state_of, HasLines, Tally};
+ghost use Rattle.kt_claim.specs.TapStream.{limit};
 
+use crate::Tap;
 use crate::begun::{Begun, OpenLine};
-use crate::line_end::{ended, trimmed};
-use crate::line_parts::go_on;
+use crate::line_parts::{ended, go_on, trimmed};
 use crate::tally::Tally;
-use crate::tap::Tap;
 use kt_base::{NoMemory, line_length};
 use std::alloc::Global;
 

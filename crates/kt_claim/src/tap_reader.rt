@@ -1,10 +1,10 @@
 ghost use Rattle.std.specs.Prelude.{◌≡◌, IfOk};
-ghost use Rattle.kt_claim.specs.TapStream.{tap_of};
+ghost use Rattle.kt_claim.specs.Common.{tap_of};
 
 use crate::begun::{Begun, OpenLine};
 use crate::tally::Tally;
-use crate::tap::{Tap, TapFault};
 use crate::tap_lines::{read, tap_at_end};
+use crate::{Tap, TapFault};
 use kt_base::NoMemory;
 use std::alloc::Global;
 use std::marker::Model;
@@ -46,8 +46,7 @@ impl Model for TapReader {
 
 impl TapReader {
     ghost use Rattle.std.specs.Prelude.{false, ◌≡◌, ◌++◌, ℕ, List, [], true, IfOk, OnOk, OnErr, IsErr};
-    ghost use Rattle.kt_claim.specs.StreamReading.{HasStream, KeepsLittle};
-    ghost use Rattle.kt_claim.specs.TapStream.{tap_of};
+    ghost use Rattle.kt_claim.specs.Common.{HasStream, KeepsLittle, tap_of};
 
     /// A reader that has read nothing.
     pub fn new(alloc: Global) -> Self

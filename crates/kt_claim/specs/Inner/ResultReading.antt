@@ -6,9 +6,9 @@ use Rattle.kt_base.specs.Lossy.{lossy}
 use Rattle.kt_base.specs.Lines.{is_newline}
 use Rattle.kt_claim.specs.Bytes.{newline, is_word_byte, number}
 use Rattle.kt_claim.specs.ResultFile.{limit, line}
-use Rattle.kt_claim.specs.declared.claim.Claim.{Claim}
-use Rattle.kt_claim.specs.declared.claim.Claim.TheVariants as claim
-use Rattle.kt_claim.specs.declared.claim.ClaimFault.TheVariants.{TooLong, Empty, NoNewline, SeveralLines, UnknownWord, BadNumber, UnexpectedReason, NoReason}
+use Rattle.kt_claim.specs.declared.evidence.Claim.{Claim}
+use Rattle.kt_claim.specs.declared.evidence.Claim.TheVariants as claim
+use Rattle.kt_claim.specs.declared.evidence.ClaimFault.TheVariants.{TooLong, Empty, NoNewline, SeveralLines, UnknownWord, BadNumber, UnexpectedReason, NoReason}
 use Rattle.kt_claim.specs.declared.result_line.Word.{Word}
 use Rattle.kt_claim.specs.declared.result_line.Word.TheVariants.{Passed, Failed, Skipped, ExpectedDeath, ExpectedFailure, ExpectedTimeout, ExpectedExit, ExpectedSignal}
 

@@ -1,4 +1,4 @@
-use Rattle.std.proofs.lemmas.Bool.{ne_eqb}
+use Rattle.kt_claim.proofs.Common.{ne_eqb}
 use Rattle.kt_claim.proofs.Parts.{holds_back, holds_none}
 use Rattle.kt_claim.proofs.line_parts.go_on.Goals as goal
 

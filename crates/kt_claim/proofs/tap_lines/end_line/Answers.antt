@@ -1,8 +1,5 @@
 use Rattle.std.proofs.Common.{List, ℕ, ◌++◌, ◌∷◌, [], false, ap, sym, subst, ◌∙◌}
-use Rattle.kt_claim.specs.Inner.LineStates.{facts_of_kind}
-use Rattle.kt_claim.specs.Inner.TapReading.{state_of, HasLines}
-use Rattle.kt_claim.specs.TapStream.{trimmed}
-use Rattle.kt_claim.specs.declared.begun.Begun.TheVariants.{Nothing}
+use Rattle.kt_claim.proofs.Common.{facts_of_kind, state_of, HasLines, trimmed, Nothing}
 use Rattle.kt_claim.proofs.Lines.{line_ends}
 use Rattle.kt_claim.proofs.tap_lines.end_line.Goals as goal
 

@@ -1,4 +1,4 @@
-use Rattle.kt_claim.specs.Inner.TapReading.{state_of}
+use Rattle.kt_claim.proofs.Common.{state_of}
 use Rattle.kt_claim.proofs.Pieces.{piece_ends, piece_goes_on}
 use Rattle.kt_claim.proofs.tap_lines.read.Goals as goal
 

@@ -1,5 +1,5 @@
 use Rattle.std.proofs.Common.{length}
-use Rattle.kt_claim.specs.Inner.TapReading.{state_of}
+use Rattle.kt_claim.proofs.Common.{state_of}
 use Rattle.kt_claim.proofs.Pieces.{Reaches}
 use Rattle.kt_claim.proofs.tap_lines.read.Given as goal
 

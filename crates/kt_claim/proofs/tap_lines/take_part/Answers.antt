@@ -1,4 +1,4 @@
-use Rattle.kt_claim.specs.Inner.TapReading.{state_of}
+use Rattle.kt_claim.proofs.Common.{state_of}
 use Rattle.kt_claim.proofs.Lines.{line_goes_on}
 use Rattle.kt_claim.proofs.tap_lines.take_part.Goals as goal
 

@@ -1,7 +1,5 @@
 use Rattle.std.proofs.Common.{ap, sym, ◌∙◌}
-use Rattle.kt_claim.specs.Inner.LineStates.{facts_of_kind}
-use Rattle.kt_claim.specs.Inner.TapReading.{state_of}
-use Rattle.kt_claim.specs.TapStream.{trimmed}
+use Rattle.kt_claim.proofs.Common.{facts_of_kind, state_of, trimmed}
 use Rattle.kt_claim.proofs.Lines.{tap_at_end}
 use Rattle.kt_claim.proofs.tap_lines.tap_at_end.Goals as goal
 

@@ -1,5 +1,5 @@
 use Rattle.std.proofs.Common.{sym, ap, ◌∙◌}
-use Rattle.kt_claim.specs.ClaimReading.{ClaimReading}
+use Rattle.kt_claim.proofs.Common.{ClaimReading}
 use Rattle.kt_claim.proofs.TooLong.{long}
 use Rattle.kt_claim.proofs.claim_reader.ClaimReader.read.Goals as goal
 

@@ -1,8 +1,6 @@
 use Rattle.std.proofs.Common.{ap, ◌∙◌}
-use Rattle.kt_claim.specs.Inner.LineStates.{facts_of_kind}
-use Rattle.kt_claim.specs.declared.begun.LineKind.{LineKind}
+use Rattle.kt_claim.proofs.Common.{facts_of_kind, LineKind, why}
 use Rattle.kt_claim.proofs.Tallies.{after_bail, with_other, with_bail, with_test, with_failure, with_one_plan, if_ok}
-use Rattle.kt_claim.specs.TapStream.{why}
 use Rattle.kt_claim.proofs.tally.Tally.add.Goals as goal
 
 pub returns-then-self : goal.returns-then-self

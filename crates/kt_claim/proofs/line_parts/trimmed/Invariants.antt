@@ -1,6 +1,6 @@
 use Rattle.std.proofs.Common.{◌≡◌, length}
-use Rattle.kt_claim.specs.TapStream.{trimmed}
-use Rattle.kt_claim.proofs.line_end.trimmed.Given as goal
+use Rattle.kt_claim.proofs.Common.{trimmed}
+use Rattle.kt_claim.proofs.line_parts.trimmed.Given as goal
 
 abbrev pub invariant-loop-b : goal.invariant-loop-b
 invariant-loop-b l = trimmed l.rest ≡ trimmed l.text

@@ -1,7 +1,6 @@
 use Rattle.std.proofs.Common.{[], ap, sym, ◌∙◌}
-use Rattle.kt_claim.specs.Inner.LineStates.{facts_with}
-use Rattle.kt_claim.specs.declared.begun.Begun.{Begun}
-use Rattle.kt_claim.proofs.line_end.ended.Goals as goal
+use Rattle.kt_claim.proofs.Common.{facts_with, Begun}
+use Rattle.kt_claim.proofs.line_parts.ended.Goals as goal
 
 pub returns-in-Opened-clause-plain : goal.returns-in-Opened-clause-plain
 returns-in-Opened-clause-plain c = λ plain kept. c.opened.ensures kept ∙ ap (λ (b : Begun). facts_with b kept []) (sym c.in-Opened.is)

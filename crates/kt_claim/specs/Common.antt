@@ -1,0 +1,14 @@
+-- The words that the clauses of this crate cite, passed on from one place. Declares nothing.
+pub use Rattle.std.specs.List.{list_any}
+pub use Rattle.kt_base.specs.Digits.{is_digit}
+pub use Rattle.kt_base.specs.Lines.{is_newline}
+pub use Rattle.kt_claim.specs.Bytes.{is_blank}
+pub use Rattle.kt_claim.specs.ClaimReading.{HasRead}
+pub use Rattle.kt_claim.specs.Inner.LineStates.{KeepsFor, Knows, Released, after_opening, begun_directive, directed, facts_of, facts_of_kind, facts_with, is_decided, is_kept, is_reason, next_letter, opened, planning, with_letter}
+pub use Rattle.kt_claim.specs.Inner.ResultReading.{claim_of}
+pub use Rattle.kt_claim.specs.Inner.TapReading.{HasLines, state_of}
+pub use Rattle.kt_claim.specs.ResultFile.{IsClaimOf, limit}
+pub use Rattle.kt_claim.specs.StreamReading.{HasStream, KeepsLittle}
+pub use Rattle.kt_claim.specs.TapStream.{below_limit, directive_in, lines_of, plan_for, planned_from, reason_of, skips, tap_of, tap_of_lines, trimmed}
+pub use Rattle.kt_claim.specs.declared.evidence.Claim.{Claim}
+pub use Rattle.kt_claim.specs.declared.tally.Tally.{Tally}
