@@ -1,15 +1,10 @@
 -- The ATF table.
-use Rattle.std.proofs.Common.{ℕ, Some, None, refl, sym, subst, arith}
-use Rattle.std.specs.Prelude.{codes, nat_eq}
-use Rattle.kt_base.specs.declared.outcome.Outcome.{Outcome}
-use Rattle.kt_base.specs.declared.outcome.Outcome.TheVariants.{Exited, Signaled, TimedOut, WaitFailed}
+use Rattle.std.proofs.Common.{ℕ, Some, None, refl, sym, subst, arith, codes, nat_eq}
+use Rattle.kt_status.proofs.Common.{Outcome, Exited, Signaled, TimedOut, WaitFailed, Judged, AtfRow, atf_verdict}
+use Rattle.kt_claim.specs.declared.evidence.Claim.{Claim}
+use Rattle.kt_claim.specs.declared.evidence.Claim.TheVariants.{Missing, Unreadable, Malformed, Passed, Failed, Skipped, ExpectedFailure, ExpectedDeath, ExpectedTimeout, ExpectedExit, ExpectedSignal}
 use Rattle.kt_base.specs.Verdicts as verdict
-use Rattle.kt_base.specs.Verdicts.{Judged}
-use Rattle.kt_claim.specs.declared.claim.Claim.{Claim}
-use Rattle.kt_claim.specs.declared.claim.Claim.TheVariants.{Missing, Unreadable, Malformed, Passed, Failed, Skipped, ExpectedFailure, ExpectedDeath, ExpectedTimeout, ExpectedExit, ExpectedSignal}
 use Rattle.kt_status.specs.Tables as row
-use Rattle.kt_status.specs.Tables.{AtfRow}
-use Rattle.kt_status.specs.Inner.Verdicts.{atf_verdict}
 use Rattle.kt_status.proofs.RowOrder.{at_or_next, at_equal, Least, passes, next, here}
 
 abbrev pub late_row : Claim → ℕ

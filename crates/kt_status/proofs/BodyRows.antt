@@ -1,18 +1,12 @@
 -- The tables of plain programs and of TAP; the verdict on a body.
-use Rattle.std.proofs.Common.{◌≡◌, ℕ, ◌<◌, Bool, true, false, refl, sym, subst, arith}
-use Rattle.std.specs.Prelude.{nat_eq, nat_lt, if◌then◌else◌}
-use Rattle.std.proofs.lemmas.Bool.{ltb-true, lt-ltb}
-use Rattle.kt_base.specs.declared.outcome.Outcome.{Outcome}
-use Rattle.kt_base.specs.declared.outcome.Outcome.TheVariants.{Exited, Signaled, TimedOut, WaitFailed}
-use Rattle.kt_base.specs.Verdicts as verdict
-use Rattle.kt_base.specs.Verdicts.{Judged}
-use Rattle.kt_claim.specs.declared.tap.Tap.{Tap}
-use Rattle.kt_claim.specs.declared.tap.Tap.TheVariants.{Invalid, BailedOut, SkipAll, Counted}
+use Rattle.std.proofs.Common.{◌≡◌, ℕ, ◌<◌, Bool, true, false, refl, sym, subst, arith, nat_eq, nat_lt, if◌then◌else◌}
+use Rattle.kt_status.proofs.Common.{ltb-true, lt-ltb, Outcome, Exited, Signaled, TimedOut, WaitFailed, Judged, AtfRow, PlainRow, TapRow, IsVerdict, atf_verdict, plain_verdict, tap_verdict, verdict_of}
+use Rattle.kt_claim.specs.declared.evidence.Tap.{Tap}
+use Rattle.kt_claim.specs.declared.evidence.Tap.TheVariants.{Invalid, BailedOut, SkipAll, Counted}
 use Rattle.kt_claim.specs.declared.evidence.Evidence.{Evidence}
+use Rattle.kt_base.specs.Verdicts as verdict
 use Rattle.kt_claim.specs.declared.evidence.Evidence.TheVariants as evidence
 use Rattle.kt_status.specs.Tables as row
-use Rattle.kt_status.specs.Tables.{AtfRow, PlainRow, TapRow, IsVerdict}
-use Rattle.kt_status.specs.Inner.Verdicts.{atf_verdict, plain_verdict, tap_verdict, verdict_of}
 use Rattle.kt_status.proofs.RowOrder.{at_or_next, at_equal, Least, next, here, found, alone}
 use Rattle.kt_status.proofs.AtfRows.{atf_row, atf_fits, atf_least}
 

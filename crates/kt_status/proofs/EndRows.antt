@@ -1,17 +1,12 @@
 -- The tables of refused starts and of cleanups.
-use Rattle.std.proofs.Common.{◌≡◌, ℕ, ◌<◌, Bool, true, false, refl, sym, subst, arith}
-use Rattle.std.specs.Prelude.{codes, nat_eq, if◌then◌else◌}
-use Rattle.kt_base.specs.declared.outcome.Outcome.{Outcome}
-use Rattle.kt_base.specs.declared.outcome.Outcome.TheVariants.{Exited, Signaled, TimedOut, WaitFailed}
-use Rattle.kt_base.specs.declared.refused.Refused.{Refused}
-use Rattle.kt_base.specs.declared.refused.Refused.TheVariants as refused
+use Rattle.std.proofs.Common.{◌≡◌, ℕ, ◌<◌, Bool, true, false, refl, sym, subst, arith, codes, nat_eq, if◌then◌else◌}
+use Rattle.kt_status.proofs.Common.{Outcome, Exited, Signaled, TimedOut, WaitFailed, Judged, RefusalRow, CleanupRow, IsVerdictOfRefusal, IsVerdictAfter, verdict_of_refusal, cleaned, verdict_after_cleanup}
+use Rattle.kt_base.specs.declared.child.Refused.{Refused}
 use Rattle.kt_base.specs.Kinds.{good}
-use Rattle.kt_base.specs.Verdicts as verdict
-use Rattle.kt_base.specs.Verdicts.{Judged}
-use Rattle.kt_status.specs.Tables as row
-use Rattle.kt_status.specs.Tables.{RefusalRow, CleanupRow, IsVerdictOfRefusal, IsVerdictAfter}
-use Rattle.kt_status.specs.Inner.Verdicts.{verdict_of_refusal, cleaned, verdict_after_cleanup}
 use Rattle.kt_status.specs.declared.cleanup_end.CleanupEnd.{CleanupEnd}
+use Rattle.kt_base.specs.declared.child.Refused.TheVariants as refused
+use Rattle.kt_base.specs.Verdicts as verdict
+use Rattle.kt_status.specs.Tables as row
 use Rattle.kt_status.specs.declared.cleanup_end.CleanupEnd.TheVariants as cleanup
 use Rattle.kt_status.proofs.RowOrder.{at_or_next, at_equal, Least, next, here, found, alone}
 

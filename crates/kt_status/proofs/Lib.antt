@@ -1,3 +1,4 @@
+pub mod Common
 pub mod AtfRows
 pub mod BodyRows
 pub mod EndRows

@@ -1,9 +1,6 @@
 -- The first row that fits.
-use Rattle.std.proofs.Common.{◌≡◌, ℕ, ◌<◌, ◌≤◌, Bool, true, false, refl, sym, arith}
-use Rattle.std.specs.Prelude.{nat_eq, if◌then◌else◌}
-use Rattle.std.proofs.lemmas.Bool.{eqb-true, eq-eqb}
-use Rattle.kt_base.specs.Verdicts.{Judged}
-use Rattle.kt_status.specs.Tables.{FirstOf}
+use Rattle.std.proofs.Common.{◌≡◌, ℕ, ◌<◌, ◌≤◌, Bool, true, false, refl, sym, arith, nat_eq, if◌then◌else◌}
+use Rattle.kt_status.proofs.Common.{eqb-true, eq-eqb, Judged, FirstOf}
 
 -- ---- numbers of rows
 

@@ -1,2 +1,3 @@
+pub mod Common
 pub mod Inner
 pub mod Tables

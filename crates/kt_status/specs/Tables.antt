@@ -1,22 +1,22 @@
 -- The verdict tables: a relation for each table, with a case for each row. The first row that fits decides.
 use Rattle.std.specs.Prelude.{◌≡◌, ℕ, ◌<◌, ◌≤◌, Bool, false, List, ◌++◌, codes, Option, Some, None}
 use Rattle.std.specs.Fmt.{decimal}
-use Rattle.kt_base.specs.declared.outcome.Outcome.{Outcome}
-use Rattle.kt_base.specs.declared.outcome.Outcome.TheVariants.{Exited, Signaled, TimedOut, WaitFailed}
-use Rattle.kt_base.specs.declared.refused.Refused.{Refused}
-use Rattle.kt_base.specs.declared.refused.Refused.TheVariants as refused
+use Rattle.kt_base.specs.declared.child.Outcome.{Outcome}
+use Rattle.kt_base.specs.declared.child.Outcome.TheVariants.{Exited, Signaled, TimedOut, WaitFailed}
+use Rattle.kt_base.specs.declared.child.Refused.{Refused}
+use Rattle.kt_base.specs.declared.child.Refused.TheVariants as refused
 use Rattle.kt_base.specs.Reasons.{ending_text}
 use Rattle.kt_base.specs.Kinds.{good}
 use Rattle.kt_base.specs.Verdicts as verdict
 use Rattle.kt_base.specs.Verdicts.{Judged}
-use Rattle.kt_claim.specs.declared.claim.Claim.{Claim}
-use Rattle.kt_claim.specs.declared.claim.Claim.TheVariants.{Missing, Unreadable, Malformed, Passed, Failed, Skipped, ExpectedFailure, ExpectedDeath, ExpectedTimeout, ExpectedExit, ExpectedSignal}
-use Rattle.kt_claim.specs.declared.claim.ClaimFault.{ClaimFault}
-use Rattle.kt_claim.specs.declared.claim.ClaimFault.TheVariants as result
-use Rattle.kt_claim.specs.declared.tap.Tap.{Tap}
-use Rattle.kt_claim.specs.declared.tap.Tap.TheVariants.{Invalid, BailedOut, SkipAll, Counted}
-use Rattle.kt_claim.specs.declared.tap.TapFault.{TapFault}
-use Rattle.kt_claim.specs.declared.tap.TapFault.TheVariants as stream
+use Rattle.kt_claim.specs.declared.evidence.Claim.{Claim}
+use Rattle.kt_claim.specs.declared.evidence.Claim.TheVariants.{Missing, Unreadable, Malformed, Passed, Failed, Skipped, ExpectedFailure, ExpectedDeath, ExpectedTimeout, ExpectedExit, ExpectedSignal}
+use Rattle.kt_claim.specs.declared.evidence.ClaimFault.{ClaimFault}
+use Rattle.kt_claim.specs.declared.evidence.ClaimFault.TheVariants as result
+use Rattle.kt_claim.specs.declared.evidence.Tap.{Tap}
+use Rattle.kt_claim.specs.declared.evidence.Tap.TheVariants.{Invalid, BailedOut, SkipAll, Counted}
+use Rattle.kt_claim.specs.declared.evidence.TapFault.{TapFault}
+use Rattle.kt_claim.specs.declared.evidence.TapFault.TheVariants as stream
 use Rattle.kt_claim.specs.declared.evidence.Evidence.{Evidence}
 use Rattle.kt_claim.specs.declared.evidence.Evidence.TheVariants as evidence
 use Rattle.kt_status.specs.declared.cleanup_end.CleanupEnd.{CleanupEnd}

@@ -1,9 +1,5 @@
 ghost use Rattle.std.specs.Prelude.{◌≡◌, ◌++◌, codes, if◌then◌else◌};
-ghost use Rattle.kt_base.specs.Reasons.{ending_text};
-ghost use Rattle.kt_base.specs.Phrases.{phrase_text};
-ghost use Rattle.kt_base.specs.Verdicts.{broken};
-ghost use Rattle.kt_status.specs.Tables.{claim_fault_text};
-ghost use Rattle.kt_status.specs.Inner.Verdicts.{exits_with, expected_exit, expected_signal, atf_ended, atf_late, atf_verdict};
+ghost use Rattle.kt_status.specs.Common.{ending_text, phrase_text, broken, claim_fault_text, exits_with, expected_exit, expected_signal, atf_ended, atf_late, atf_verdict};
 
 use kt_base::{Outcome, Phrase, Reason, Text, Verdict};
 use kt_claim::{Claim, ClaimFault};

@@ -1,9 +1,7 @@
 ghost use Rattle.std.specs.Prelude.{◌≡◌};
-ghost use Rattle.kt_base.specs.Verdicts.{Judged};
-ghost use Rattle.kt_status.specs.Tables.{IsVerdictAfter};
-ghost use Rattle.kt_status.specs.Inner.Verdicts.{cleaned, verdict_after_cleanup};
+ghost use Rattle.kt_status.specs.Common.{Judged, IsVerdictAfter, cleaned, verdict_after_cleanup};
 
-use crate::cleanup_end::CleanupEnd;
+use crate::CleanupEnd;
 use kt_base::{Outcome, Phrase, Reason, Verdict};
 
 fn cleaned(body: Verdict, end: CleanupEnd) -> Verdict

@@ -4,7 +4,6 @@
 mod atf;
 mod cleanup;
 mod cleanup_end;
-mod plain;
 mod tap;
 mod verdict;
 

@@ -1,8 +1,5 @@
 ghost use Rattle.std.specs.Prelude.{◌≡◌, ◌++◌, codes};
-ghost use Rattle.kt_base.specs.Phrases.{phrase_text};
-ghost use Rattle.kt_status.specs.Tables.{tap_fault_text};
-ghost use Rattle.kt_status.specs.Inner.Verdicts.{tap_exited, tap_verdict};
-ghost use Rattle.kt_claim.specs.declared.tap.Tap.TheVariants.{Counted};
+ghost use Rattle.kt_status.specs.Common.{phrase_text, tap_fault_text, tap_exited, tap_verdict, Counted};
 
 use kt_base::{Outcome, Phrase, Reason, Verdict};
 use kt_claim::{Tap, TapFault};

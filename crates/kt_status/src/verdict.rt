@@ -1,13 +1,27 @@
 ghost use Rattle.std.specs.Prelude.{◌≡◌};
-ghost use Rattle.kt_base.specs.Verdicts.{Judged};
-ghost use Rattle.kt_status.specs.Tables.{IsVerdict, IsVerdictOfRefusal};
-ghost use Rattle.kt_status.specs.Inner.Verdicts.{verdict_of, verdict_of_refusal};
+ghost use Rattle.kt_status.specs.Common.{Judged, IsVerdict, IsVerdictOfRefusal, verdict_of, verdict_of_refusal, plain_verdict};
 
 use crate::atf::atf_verdict;
-use crate::plain::plain_verdict;
 use crate::tap::tap_verdict;
-use kt_base::{Outcome, Refused, Verdict};
+use kt_base::{Outcome, Phrase, Reason, Refused, Verdict};
 use kt_claim::Evidence;
+
+/// The verdict on a plain case.
+pub fn plain_verdict(ending: Outcome) -> Verdict
+    ensures { result ≡ plain_verdict ending }
+{
+    match ending {
+        Outcome::WaitFailed => Verdict::broken(Reason::Fixed(Phrase::CaseNotWaitedFor)),
+        Outcome::TimedOut => Verdict::broken(Reason::Fixed(Phrase::CaseTimedOut)),
+        Outcome::Signaled(signal, _) => {
+            Verdict::broken(Reason::Counted(Phrase::ReceivedSignal, signal as u64, 0))
+        }
+        Outcome::Exited(0) => Verdict::passed(),
+        Outcome::Exited(code) => {
+            Verdict::failed(Reason::Counted(Phrase::NonSuccess, code as u64, 0))
+        }
+    }
+}
 
 /// The verdict on a case, from what it said of itself and how its body ended.
 pub fn body_verdict(evidence: Evidence, ending: Outcome) -> Verdict

@@ -1,6 +1,5 @@
 use Rattle.std.proofs.Common.{sym, subst, ◌∙◌}
-use Rattle.kt_base.specs.Verdicts.{Judged}
-use Rattle.kt_status.specs.Tables.{IsVerdictAfter}
+use Rattle.kt_status.proofs.Common.{Judged, IsVerdictAfter}
 use Rattle.kt_status.proofs.EndRows.{cleanup_found, cleanup_alone}
 use Rattle.kt_status.proofs.cleanup.with_cleanup.Goals as goal
 

@@ -1,6 +1,5 @@
 use Rattle.std.proofs.Common.{sym, subst, ◌∙◌}
-use Rattle.kt_base.specs.Verdicts.{Judged}
-use Rattle.kt_status.specs.Tables.{IsVerdict}
+use Rattle.kt_status.proofs.Common.{Judged, IsVerdict}
 use Rattle.kt_status.proofs.BodyRows.{verdict_found, verdict_alone}
 use Rattle.kt_status.proofs.verdict.body_verdict.Goals as goal
 

@@ -1,6 +1,5 @@
 use Rattle.std.proofs.Common.{sym, subst, ◌∙◌}
-use Rattle.kt_base.specs.Verdicts.{Judged}
-use Rattle.kt_status.specs.Tables.{IsVerdictOfRefusal}
+use Rattle.kt_status.proofs.Common.{Judged, IsVerdictOfRefusal}
 use Rattle.kt_status.proofs.EndRows.{refusal_found, refusal_alone}
 use Rattle.kt_status.proofs.verdict.refused_verdict.Goals as goal
 
