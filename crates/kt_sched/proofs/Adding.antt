@@ -1,20 +1,7 @@
 -- entries, records and totals, one more
-use Rattle.std.specs.Prelude.{slice_get, filter, count_by, Some, None, map, Result, Ok, not, ◌&&◌}
-use Rattle.std.proofs.Common.{◌≡◌, ◌≢◌, ℕ, zero, suc, ◌+◌, ◌≤◌, ◌⊎◌, Bool, true, false, List, [], ◌∷◌, ◌++◌, length, take, refl, sym, ◌∙◌, ap, subst, arith, cond, length-append, inl, inr}
-use Rattle.std.proofs.lemmas.List.{map-append}
-use Rattle.std.proofs.lemmas.Bool.{cases_eq}
+use Rattle.std.proofs.Common.{slice_get, filter, count_by, Some, None, map, Result, Ok, not, ◌&&◌, ◌≡◌, ◌≢◌, ℕ, zero, suc, ◌+◌, ◌≤◌, ◌⊎◌, Bool, true, false, List, [], ◌∷◌, ◌++◌, length, take, refl, sym, ◌∙◌, ap, subst, arith, cond, length-append, inl, inr}
+use Rattle.kt_sched.proofs.Common.{map-append, cases_eq, Entry, Job, SinkFault, Totals, Event, Trace, Then, position_of, event_count, mark_of, history, is_whole, turns, Due, dues, put_at, finished_by, is_open, was_open, recorded, IsEntry, Gains, IsEntryOf, AreEntries, CanCount, counted, Counts}
 use Rattle.kt_base.specs.Kinds.{good as is_good}
-use Rattle.kt_base.specs.declared.entry.Entry.{Entry}
-use Rattle.kt_sched.specs.declared.job.Job.{Job}
-use Rattle.kt_sched.specs.declared.sink_fault.SinkFault.{SinkFault}
-use Rattle.kt_sched.specs.declared.totals.Totals.{Totals}
-use Rattle.kt_sched.specs.Trace.{Event, Trace, Then, position_of, event_count}
-use Rattle.kt_sched.specs.History.{mark_of, history, is_whole}
-use Rattle.kt_sched.specs.TurnOrder.{turns}
-use Rattle.kt_sched.specs.RecordOrder.{Due, dues, put_at, finished_by, is_open, was_open, recorded}
-use Rattle.kt_sched.specs.EntryOf.{IsEntry, Gains, IsEntryOf, AreEntries}
-use Rattle.kt_sched.specs.Inner.Answers.{CanCount, counted}
-use Rattle.kt_sched.specs.Run.{Counts}
 use Rattle.kt_sched.proofs.Lists.{count-cons}
 use Rattle.kt_sched.proofs.Turns.{some_is}
 use Rattle.kt_sched.proofs.Steps.{of_other}

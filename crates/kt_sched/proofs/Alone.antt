@@ -1,19 +1,6 @@
 -- exclusive cases run alone
-use Rattle.std.specs.Prelude.{slice_get, count_by, Some, ◌||◌, ◌&&◌}
-use Rattle.std.specs.List.{list_all}
-use Rattle.std.proofs.Common.{◌≡◌, ◌≢◌, ℕ, zero, suc, ◌<◌, ◌≤◌, ◌⊎◌, Bool, true, false, cond, List, [], ◌∷◌, refl, sym, ◌∙◌, ap, arith, inl, inr}
-use Rattle.std.proofs.lemmas.Bool.{cases_lt, cases_eq}
-use Rattle.kt_base.specs.declared.role.Role.TheVariants.{Body, Cleanup}
-use Rattle.kt_sched.specs.declared.job.Job.{Job}
-use Rattle.kt_sched.specs.declared.stage.Stage.{Stage}
-use Rattle.kt_sched.specs.declared.stage.Stage.TheVariants.{Waiting, Decided, Running, Owing, Cleaning, Finished, Taken}
-use Rattle.kt_sched.specs.declared.case.Case.{Case}
-use Rattle.kt_sched.specs.Trace.{of}
-use Rattle.kt_sched.specs.History.{history, is_whole, has_whole_history, is_active}
-use Rattle.kt_sched.specs.TurnOrder.{turns}
-use Rattle.kt_sched.specs.ScheduleRules.{owed, IsQuiet, AloneAtStart}
-use Rattle.kt_sched.specs.Fed.{Fed}
-use Rattle.kt_sched.specs.SchedState.{SchedState, Stands, IsOrdinary, is_active_stage, is_fresh}
+use Rattle.std.proofs.Common.{slice_get, count_by, Some, ◌||◌, ◌&&◌, ◌≡◌, ◌≢◌, ℕ, zero, suc, ◌<◌, ◌≤◌, ◌⊎◌, Bool, true, false, cond, List, [], ◌∷◌, refl, sym, ◌∙◌, ap, arith, inl, inr}
+use Rattle.kt_sched.proofs.Common.{list_all, cases_lt, cases_eq, Body, Cleanup, Job, Stage, Waiting, Decided, Running, Owing, Cleaning, Finished, Taken, Case, of, history, is_whole, has_whole_history, is_active, turns, owed, IsQuiet, AloneAtStart, Fed, SchedState, Stands, IsOrdinary, is_active_stage, is_fresh}
 use Rattle.kt_sched.proofs.Lists.{counted_none, count-cons}
 use Rattle.kt_sched.proofs.Turns.{turn_covers, turn_sorted}
 use Rattle.kt_sched.proofs.Stages.{turn_at, at_turn, active_is, stage_active, marks_active}

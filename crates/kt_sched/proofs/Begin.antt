@@ -1,29 +1,12 @@
 -- the first state, and what is taken
-use Rattle.std.specs.Prelude.{slice_get, count_by, filter, Option, Some, None, is_some, map}
-use Rattle.std.specs.Option.{option_map}
-use Rattle.std.proofs.Common.{◌≡◌, ◌≢◌, ℕ, zero, suc, ◌+◌, ◌<◌, Bool, true, false, cond, List, [], ◌∷◌, length, take, drop, refl, sym, ◌∙◌, ap, subst, arith}
-use Rattle.std.proofs.lemmas.Option.{slice_get-map}
-use Rattle.kt_sched.specs.declared.job.Job.{Job}
+use Rattle.std.proofs.Common.{slice_get, count_by, filter, Option, Some, None, is_some, map, ◌≡◌, ◌≢◌, ℕ, zero, suc, ◌+◌, ◌<◌, Bool, true, false, cond, List, [], ◌∷◌, length, take, drop, refl, sym, ◌∙◌, ap, subst, arith}
+use Rattle.kt_sched.proofs.Common.{option_map, slice_get-map, Job, Waiting, Decided, Running, Owing, Cleaning, Finished, Taken, Case, Role, Body, Stage, NoEvent, turns, is_open, recorded, IsPlan, nothing_fed, since, RunsSince, first_case, first_stage, stage_runs, SchedState, Stands, IsStage, is_active_stage, is_fresh, positions, opened, is_undecided, HasStarted, Judged}
 use Rattle.kt_sched.specs.declared.next.Next.TheVariants as next
-use Rattle.kt_sched.specs.declared.stage.Stage.TheVariants.{Waiting, Decided, Running, Owing, Cleaning, Finished, Taken}
-use Rattle.kt_sched.specs.declared.case.Case.{Case}
-use Rattle.kt_base.specs.declared.role.Role.{Role}
-use Rattle.kt_base.specs.declared.role.Role.TheVariants.{Body}
-use Rattle.kt_sched.specs.declared.stage.Stage.{Stage}
-use Rattle.kt_sched.specs.Trace.{NoEvent}
-use Rattle.kt_sched.specs.TurnOrder.{turns}
-use Rattle.kt_sched.specs.RecordOrder.{is_open, recorded}
-use Rattle.kt_sched.specs.Plan.{IsPlan}
-use Rattle.kt_sched.specs.Fed.{nothing_fed}
-use Rattle.kt_sched.specs.Inner.Cases.{since, RunsSince}
-use Rattle.kt_sched.specs.Inner.Cases.{first_case, first_stage, stage_runs}
-use Rattle.kt_sched.specs.SchedState.{SchedState, Stands, IsStage, is_active_stage, is_fresh, positions, opened, is_undecided, HasStarted}
 use Rattle.kt_sched.proofs.Lists.{count-cons}
 use Rattle.kt_sched.proofs.Decided.{drop_zero}
 use Rattle.kt_sched.proofs.Steps.{put_at_positions}
 use Rattle.kt_sched.proofs.Stages.{active_of}
 use Rattle.kt_sched.proofs.Recording.{open_from}
-use Rattle.kt_base.specs.Verdicts.{Judged}
 use Rattle.kt_sched.proofs.EventSteps.{some_same}
 
 length_map : {X Y : Type 0} (f : X → Y) (xs : List X) → length (map f xs) ≡ length xs

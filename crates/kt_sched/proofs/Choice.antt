@@ -1,27 +1,8 @@
 -- what is chosen is the first that holds
-use Rattle.std.specs.Prelude.{slice_get, Option, Some, None, map, drop, filter, is_some, nat_lt, ◌==◌, MatchOption, ⊤, ◌⊎◌, if◌then◌else◌}
-use Rattle.std.proofs.Common.{◌≡◌, ℕ, ◌+◌, ◌<◌, ◌≤◌, Bool, true, false, List, [], ◌∷◌, ◌++◌, length, refl, sym, ◌∙◌, ap, subst, arith, inl, inr}
+use Rattle.std.proofs.Common.{slice_get, Option, Some, None, map, drop, filter, is_some, nat_lt, ◌==◌, MatchOption, ◌⊎◌, if◌then◌else◌, ◌≡◌, ℕ, ◌+◌, ◌<◌, ◌≤◌, Bool, true, false, List, [], ◌∷◌, ◌++◌, length, refl, sym, ◌∙◌, ap, subst, arith, inl, inr}
+use Rattle.kt_sched.proofs.Common.{⊤, slice_get_within, cases_lt, nat_tests, Role, Body, Cleanup, Job, Next, Stage, Waiting, Decided, Running, Owing, Cleaning, Finished, Taken, Case, Event, Trace, of, BodyStarted, CleanupStarted, end_mark, mark_of, active, turns, next_to_start, IsBusy, recorded, Fed, has_failed, role_runs, runs, IsNext, IsChosen, IsHeld, SchedState, Stands, IsStage, is_active_stage, IsSettled, IsOrdinary, listed, positions, opened, run_of, room_in, is_decided, is_undecided}
 use Rattle.std.proofs.Math.ListN.{drop_of_length-le}
-use Rattle.std.proofs.lemmas.Option.{slice_get_within}
-use Rattle.std.proofs.lemmas.Bool.{cases_lt}
-use Rattle.std.proofs.lemmas.Bool.Decides.{nat_tests}
-use Rattle.kt_base.specs.declared.role.Role.{Role}
-use Rattle.kt_base.specs.declared.role.Role.TheVariants.{Body, Cleanup}
-use Rattle.kt_sched.specs.declared.job.Job.{Job}
-use Rattle.kt_sched.specs.declared.next.Next.{Next}
 use Rattle.kt_sched.specs.declared.next.Next.TheVariants as next
-use Rattle.kt_sched.specs.declared.stage.Stage.{Stage}
-use Rattle.kt_sched.specs.declared.stage.Stage.TheVariants.{Waiting, Decided, Running, Owing, Cleaning, Finished, Taken}
-use Rattle.kt_sched.specs.declared.case.Case.{Case}
-use Rattle.kt_sched.specs.Trace.{Event, Trace, of}
-use Rattle.kt_sched.specs.History.{BodyStarted, CleanupStarted, end_mark, mark_of, active}
-use Rattle.kt_sched.specs.TurnOrder.{turns, next_to_start}
-use Rattle.kt_sched.specs.ScheduleRules.{IsBusy}
-use Rattle.kt_sched.specs.RecordOrder.{recorded}
-use Rattle.kt_sched.specs.Fed.{Fed, has_failed, role_runs, runs}
-use Rattle.kt_sched.specs.Next.{IsNext}
-use Rattle.kt_sched.specs.Inner.Choice.{IsChosen, IsHeld}
-use Rattle.kt_sched.specs.SchedState.{SchedState, Stands, IsStage, is_active_stage, IsSettled, IsOrdinary, listed, positions, opened, run_of, room_in, is_decided, is_undecided}
 use Rattle.kt_sched.proofs.Lists.{slice_get-drop, within_some, counted_some, counted_none}
 use Rattle.kt_sched.proofs.Turns.{some_is, turn_sorted, turn_inside}
 use Rattle.kt_sched.proofs.Alone.{job_kept, alone_body}

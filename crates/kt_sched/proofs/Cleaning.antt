@@ -1,26 +1,8 @@
 -- a cleanup's start and end
-use Rattle.std.specs.Prelude.{slice_get, Option, Some, None, if◌then◌else◌, ◌&&◌}
-use Rattle.std.proofs.Common.{◌≡◌, ◌≢◌, ℕ, ◌-◌, true, false, cond, List, [], ◌∷◌, ◌++◌, refl, sym, ◌∙◌, ap, subst, arith, inl}
-use Rattle.kt_base.specs.declared.role.Role.{Role}
-use Rattle.kt_base.specs.declared.role.Role.TheVariants.{Body, Cleanup}
-use Rattle.kt_sched.specs.declared.job.Job.{Job}
-use Rattle.kt_sched.specs.declared.start_answer.StartAnswer.TheVariants as told
-use Rattle.kt_sched.specs.declared.ended.Ended.{Ended}
+use Rattle.std.proofs.Common.{slice_get, Option, Some, None, if◌then◌else◌, ◌&&◌, ◌≡◌, ◌≢◌, ℕ, ◌-◌, true, false, cond, List, [], ◌∷◌, ◌++◌, refl, sym, ◌∙◌, ap, subst, arith, inl}
+use Rattle.kt_sched.proofs.Common.{Role, Body, Cleanup, Job, Ended, Stage, Waiting, Decided, Running, Owing, Cleaning, Finished, Taken, Case, CaseRecord, same_role, Event, Start, End, of, declares, Fed, no_output, stage_runs, SchedState, Stands, IsStage, is_active_stage, is_fresh, stage_work, listed, Replaced, body_in, TookBody, record_of, unless, IsVerdictAfter, EndedBody}
+use Rattle.kt_sched.specs.declared.job.StartAnswer.TheVariants as told
 use Rattle.kt_sched.specs.declared.next.Next.TheVariants as next
-use Rattle.kt_sched.specs.declared.stage.Stage.{Stage}
-use Rattle.kt_sched.specs.declared.stage.Stage.TheVariants.{Waiting, Decided, Running, Owing, Cleaning, Finished, Taken}
-use Rattle.kt_sched.specs.declared.case.Case.{Case}
-use Rattle.kt_sched.specs.declared.case_record.CaseRecord.{CaseRecord}
-use Rattle.kt_sched.specs.Children.{same_role}
-use Rattle.kt_sched.specs.Trace.{Event, Start, End, of}
-use Rattle.kt_sched.specs.ScheduleRules.{declares}
-use Rattle.kt_sched.specs.Fed.{Fed}
-use Rattle.kt_sched.specs.EntryOf.{no_output}
-use Rattle.kt_sched.specs.Inner.Cases.{stage_runs}
-use Rattle.kt_sched.specs.SchedState.{SchedState, Stands, IsStage, is_active_stage, is_fresh, stage_work, listed}
-use Rattle.kt_sched.specs.Inner.Cases.{Replaced, body_in, TookBody, record_of, unless}
-use Rattle.kt_status.specs.Tables.{IsVerdictAfter}
-use Rattle.kt_sched.specs.declared.ended_body.EndedBody.{EndedBody}
 use Rattle.kt_status.specs.declared.cleanup_end.CleanupEnd.TheVariants as cleanup
 use Rattle.kt_sched.proofs.Choice.{nothing_opened}
 use Rattle.kt_sched.proofs.Steps.{is_over}

@@ -1,14 +1,6 @@
 -- what the literal record order says of decided cases, as a run from a place in the turn order on
-use Rattle.std.specs.Prelude.{slice_get, filter, take, drop, Some, nat_lt, ◌==◌, ◌&&◌, ◌||◌, if◌then◌else◌}
-use Rattle.std.specs.List.{list_all, list_any}
-use Rattle.std.proofs.Common.{◌≡◌, ℕ, zero, suc, ◌+◌, ◌<◌, ◌≤◌, Bool, true, false, List, [], ◌∷◌, refl, sym, ◌∙◌, ap, arith}
-use Rattle.std.proofs.lemmas.Bool.Decides.{nat_tests}
-use Rattle.kt_sched.specs.declared.job.Job.{Job}
-use Rattle.kt_sched.specs.Trace.{Trace}
-use Rattle.kt_sched.specs.History.{active}
-use Rattle.kt_sched.specs.TurnOrder.{turns, body_starts}
-use Rattle.kt_sched.specs.RecordOrder.{is_open, is_begun, ahead}
-use Rattle.kt_sched.specs.SchedState.{run_of, is_decided, room_in}
+use Rattle.std.proofs.Common.{slice_get, filter, take, drop, Some, nat_lt, ◌==◌, ◌&&◌, ◌||◌, if◌then◌else◌, ◌≡◌, ℕ, zero, suc, ◌+◌, ◌<◌, ◌≤◌, Bool, true, false, List, [], ◌∷◌, refl, sym, ◌∙◌, ap, arith}
+use Rattle.kt_sched.proofs.Common.{list_all, list_any, nat_tests, Job, Trace, active, turns, body_starts, is_open, is_begun, ahead, run_of, is_decided, room_in}
 use Rattle.kt_sched.proofs.Steps.{same_is, other_is_not}
 use Rattle.kt_sched.proofs.Lists.{filter_none}
 use Rattle.kt_sched.proofs.Turns.{filter_step, Distinct, Placed, tail_distinct, turn_distinct, turn_sorted}

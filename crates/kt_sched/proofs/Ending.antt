@@ -1,29 +1,9 @@
 -- what holds where the run loop is done
-use Rattle.std.specs.Prelude.{slice_get, count_by, map, Option, Some, None, is_some, not, nat_lt, ◌==◌, ◌&&◌, ◌||◌, if◌then◌else◌}
-use Rattle.std.specs.List.{list_all, list_any}
-use Rattle.std.proofs.Common.{◌≡◌, ◌≢◌, ℕ, zero, suc, ◌+◌, ◌<◌, ◌≤◌, ◌⊎◌, Bool, true, false, List, [], ◌∷◌, ◌++◌, length, refl, sym, ◌∙◌, ap, subst, arith, inl, inr, append-nil}
-use Rattle.std.proofs.lemmas.Bool.{cases_lt}
-use Rattle.std.proofs.lemmas.Bool.Decides.{nat_tests}
-use Rattle.std.proofs.lemmas.List.{map-append}
+use Rattle.std.proofs.Common.{slice_get, count_by, map, Option, Some, None, is_some, not, nat_lt, ◌==◌, ◌&&◌, ◌||◌, if◌then◌else◌, ◌≡◌, ◌≢◌, ℕ, zero, suc, ◌+◌, ◌<◌, ◌≤◌, ◌⊎◌, Bool, true, false, List, [], ◌∷◌, ◌++◌, length, refl, sym, ◌∙◌, ap, subst, arith, inl, inr, append-nil}
+use Rattle.kt_sched.proofs.Common.{list_all, list_any, cases_lt, nat_tests, map-append, Role, Body, Cleanup, Judged, Job, StartAnswer, Ended, Child, IsPlan, Event, Start, End, Trace, NoEvent, Then, position_of, of, Mark, BodyStarted, BodyRefused, BodyEnded, CleanupStarted, CleanupRefused, CleanupEnded, mark_of, end_mark, history, is_whole, has_whole_history, is_body_started, is_active, active, body_starts, body_start_of, turns, Each, BusyAt, Legal, Stopped, is_open, was_open, is_begun, ahead, recorded, Fed, Follows, AreWhole, NamesEachOnce}
 use Rattle.std.proofs.lemmas.List.Folds.{list_any-append}
-use Rattle.kt_base.specs.declared.role.Role.{Role}
-use Rattle.kt_base.specs.declared.role.Role.TheVariants.{Body, Cleanup}
-use Rattle.kt_base.specs.Verdicts.{Judged}
-use Rattle.kt_sched.specs.declared.job.Job.{Job}
-use Rattle.kt_sched.specs.declared.start_answer.StartAnswer.{StartAnswer}
-use Rattle.kt_sched.specs.declared.start_answer.StartAnswer.TheVariants as told
-use Rattle.kt_sched.specs.declared.ended.Ended.{Ended}
+use Rattle.kt_sched.specs.declared.job.StartAnswer.TheVariants as told
 use Rattle.kt_sched.specs.declared.next.Next.TheVariants as next
-use Rattle.kt_sched.specs.Children.{Child}
-use Rattle.kt_sched.specs.Plan.{IsPlan}
-use Rattle.kt_sched.specs.Trace.{Event, Start, End, Trace, NoEvent, Then, position_of, of}
-use Rattle.kt_sched.specs.History.{Mark, BodyStarted, BodyRefused, BodyEnded, CleanupStarted, CleanupRefused, CleanupEnded, mark_of, end_mark, history, is_whole, has_whole_history, is_body_started, is_active, active}
-use Rattle.kt_sched.specs.TurnOrder.{body_starts, body_start_of, turns}
-use Rattle.kt_sched.specs.ScheduleRules.{Each, BusyAt, Legal, Stopped}
-use Rattle.kt_sched.specs.RecordOrder.{is_open, was_open, is_begun, ahead, recorded}
-use Rattle.kt_sched.specs.Fed.{Fed}
-use Rattle.kt_sched.specs.Next.{Follows, AreWhole}
-use Rattle.kt_sched.specs.Run.{NamesEachOnce}
 use Rattle.kt_sched.proofs.Lists.{within_some, count-cons}
 use Rattle.kt_sched.proofs.Turns.{turn_inside}
 use Rattle.kt_sched.proofs.Steps.{same_is}

@@ -1,15 +1,7 @@
 -- what makes a state one event later, case by case
-use Rattle.std.specs.Prelude.{slice_get, Some, None, if◌then◌else◌}
-use Rattle.std.proofs.Common.{◌≡◌, ◌≢◌, ℕ, ◌+◌, ◌<◌, ◌≤◌, ◌⊎◌, true, false, cond, List, [], ◌∷◌, ◌++◌, length, sym, ◌∙◌, ap, subst, slice_set, inl, inr}
-use Rattle.std.proofs.lemmas.Option.{slice_get_within}
-use Rattle.kt_sched.specs.declared.job.Job.{Job}
+use Rattle.std.proofs.Common.{slice_get, Some, None, if◌then◌else◌, ◌≡◌, ◌≢◌, ℕ, ◌+◌, ◌<◌, ◌≤◌, ◌⊎◌, true, false, cond, List, [], ◌∷◌, ◌++◌, length, sym, ◌∙◌, ap, subst, slice_set, inl, inr}
+use Rattle.kt_sched.proofs.Common.{slice_get_within, Job, Waiting, Owing, Finished, Case, Event, Then, position_of, of, owed, Fed, has_failed, SchedState, Stands, CaseStands, IsStage, is_active_stage, is_fresh, listed, opened, HasStarted, stage_work}
 use Rattle.kt_sched.specs.declared.next.Next.TheVariants as next
-use Rattle.kt_sched.specs.declared.stage.Stage.TheVariants.{Waiting, Owing, Finished}
-use Rattle.kt_sched.specs.declared.case.Case.{Case}
-use Rattle.kt_sched.specs.Trace.{Event, Then, position_of, of}
-use Rattle.kt_sched.specs.ScheduleRules.{owed}
-use Rattle.kt_sched.specs.Fed.{Fed, has_failed}
-use Rattle.kt_sched.specs.SchedState.{SchedState, Stands, CaseStands, IsStage, is_active_stage, is_fresh, listed, opened, HasStarted, stage_work}
 use Rattle.kt_sched.proofs.Lists.{slice_get-set_same, slice_get-set_other}
 use Rattle.kt_sched.proofs.Steps.{of_same, of_other, is_over}
 use Rattle.kt_sched.proofs.Recording.{GoesOver}

@@ -1,18 +1,6 @@
 -- a state after one event more stands for one event more
-use Rattle.std.specs.Prelude.{filter, not, ◌&&◌, slice_get, count_by, sum_by, Some, None, map, if◌then◌else◌}
-use Rattle.std.proofs.Common.{◌≡◌, ◌≢◌, ℕ, ◌+◌, ◌<◌, ◌≤◌, ◌⊎◌, true, false, cond, List, [], ◌∷◌, ◌++◌, length, drop, sym, ◌∙◌, ap, subst, arith, slice_set, inl, inr, length-append}
-use Rattle.std.proofs.lemmas.List.{drop-append-le, length-set}
-use Rattle.std.proofs.lemmas.Option.{slice_get_within}
-use Rattle.std.proofs.lemmas.Bool.{cases_lt, cases_eq}
-use Rattle.kt_sched.specs.declared.job.Job.{Job}
-use Rattle.kt_sched.specs.declared.stage.Stage.{Stage}
-use Rattle.kt_sched.specs.declared.case.Case.{Case}
-use Rattle.kt_sched.specs.Trace.{Event, Trace, Then, of}
-use Rattle.kt_sched.specs.History.{mark_of, history, is_whole}
-use Rattle.kt_sched.specs.TurnOrder.{turns}
-use Rattle.kt_sched.specs.RecordOrder.{is_open, was_open, recorded}
-use Rattle.kt_sched.specs.Fed.{Fed, has_failed}
-use Rattle.kt_sched.specs.SchedState.{SchedState, Stands, CaseStands, IsAsked, is_active_stage, record_in, listed, positions, opened, stage_work, work}
+use Rattle.std.proofs.Common.{filter, not, ◌&&◌, slice_get, count_by, sum_by, Some, None, map, if◌then◌else◌, ◌≡◌, ◌≢◌, ℕ, ◌+◌, ◌<◌, ◌≤◌, ◌⊎◌, true, false, cond, List, [], ◌∷◌, ◌++◌, length, drop, sym, ◌∙◌, ap, subst, arith, slice_set, inl, inr, length-append}
+use Rattle.kt_sched.proofs.Common.{drop-append-le, length-set, slice_get_within, cases_lt, cases_eq, Job, Stage, Case, Event, Trace, Then, of, mark_of, history, is_whole, turns, is_open, was_open, recorded, Fed, has_failed, SchedState, Stands, CaseStands, IsAsked, is_active_stage, record_in, listed, positions, opened, stage_work, work}
 use Rattle.kt_sched.proofs.Lists.{count_by-set, sum_by-replaced}
 use Rattle.kt_sched.proofs.Alone.{counted_one}
 use Rattle.kt_sched.proofs.Steps.{of_same, of_other, is_over, stage_over, undecided_stage, recorded_more, finished_is}

@@ -1,20 +1,7 @@
 -- the stage of a case that is over, by its events
-use Rattle.std.specs.Prelude.{None, is_none, not, ◌&&◌}
-use Rattle.std.proofs.Common.{◌≡◌, ℕ, ◌-◌, Bool, true, false, List, [], ◌∷◌, sym, ◌∙◌, ap, subst}
-use Rattle.kt_base.specs.declared.role.Role.{Role}
-use Rattle.kt_base.specs.declared.role.Role.TheVariants.{Body, Cleanup}
-use Rattle.kt_sched.specs.declared.job.Job.{Job}
-use Rattle.kt_sched.specs.declared.start_answer.StartAnswer.TheVariants as told
-use Rattle.kt_sched.specs.declared.ended.Ended.{Ended}
-use Rattle.kt_sched.specs.declared.stage.Stage.TheVariants.{Finished}
-use Rattle.kt_sched.specs.declared.case_record.CaseRecord.{CaseRecord}
-use Rattle.kt_sched.specs.Trace.{Event, Start, End}
-use Rattle.kt_sched.specs.History.{BodyStarted, BodyEnded, CleanupStarted, CleanupRefused, end_mark, is_whole}
-use Rattle.kt_sched.specs.EntryOf.{no_output, IsEntry, ended, uncleaned, cleaned}
-use Rattle.kt_sched.specs.SchedState.{IsStage, entry_with, ended_body}
-use Rattle.kt_sched.specs.Inner.Cases.{record_of, plain_record}
-use Rattle.kt_sched.specs.declared.ended_body.EndedBody.{EndedBody}
-use Rattle.kt_status.specs.Tables.{IsVerdict, IsVerdictAfter}
+use Rattle.std.proofs.Common.{None, is_none, not, ◌&&◌, ◌≡◌, ℕ, ◌-◌, Bool, true, false, List, [], ◌∷◌, sym, ◌∙◌, ap, subst}
+use Rattle.kt_sched.proofs.Common.{Role, Body, Cleanup, Job, Ended, Finished, CaseRecord, Event, Start, End, BodyStarted, BodyEnded, CleanupStarted, CleanupRefused, end_mark, is_whole, no_output, IsEntry, ended, uncleaned, cleaned, IsStage, entry_with, ended_body, record_of, plain_record, EndedBody, IsVerdict, IsVerdictAfter}
+use Rattle.kt_sched.specs.declared.job.StartAnswer.TheVariants as told
 use Rattle.kt_status.specs.declared.cleanup_end.CleanupEnd.TheVariants as cleanup
 
 pub and_both : (b c : Bool) → b ≡ true → c ≡ true → (b && c) ≡ true

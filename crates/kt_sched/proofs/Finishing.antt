@@ -1,18 +1,7 @@
 -- an event that finishes a case
-use Rattle.std.specs.Prelude.{slice_get, Option, Some, None}
-use Rattle.std.proofs.Common.{◌≡◌, ◌≢◌, ℕ, ◌-◌, ◌<◌, Bool, true, false, cond, List, [], ◌∷◌, ◌++◌, refl, sym, ◌∙◌, ap, arith, slice_set, inl}
-use Rattle.kt_sched.specs.declared.job.Job.{Job}
+use Rattle.std.proofs.Common.{slice_get, Option, Some, None, ◌≡◌, ◌≢◌, ℕ, ◌-◌, ◌<◌, Bool, true, false, cond, List, [], ◌∷◌, ◌++◌, refl, sym, ◌∙◌, ap, arith, slice_set, inl}
+use Rattle.kt_sched.proofs.Common.{Job, Stage, Waiting, Decided, Running, Owing, Cleaning, Finished, Taken, Case, CaseRecord, Event, Then, position_of, of, body_start_of, owed, Fed, has_failed, SchedState, Stands, IsStage, is_active_stage, is_fresh, stage_work, listed, opened, unless}
 use Rattle.kt_sched.specs.declared.next.Next.TheVariants as next
-use Rattle.kt_sched.specs.declared.stage.Stage.{Stage}
-use Rattle.kt_sched.specs.declared.stage.Stage.TheVariants.{Waiting, Decided, Running, Owing, Cleaning, Finished, Taken}
-use Rattle.kt_sched.specs.declared.case.Case.{Case}
-use Rattle.kt_sched.specs.declared.case_record.CaseRecord.{CaseRecord}
-use Rattle.kt_sched.specs.Trace.{Event, Then, position_of, of}
-use Rattle.kt_sched.specs.TurnOrder.{body_start_of}
-use Rattle.kt_sched.specs.ScheduleRules.{owed}
-use Rattle.kt_sched.specs.Fed.{Fed, has_failed}
-use Rattle.kt_sched.specs.SchedState.{SchedState, Stands, IsStage, is_active_stage, is_fresh, stage_work, listed, opened}
-use Rattle.kt_sched.specs.Inner.Cases.{unless}
 use Rattle.kt_sched.proofs.Steps.{is_over}
 use Rattle.kt_sched.proofs.EventSteps.{some_same}
 use Rattle.kt_sched.proofs.Events.{After, stands_event}

@@ -1,20 +1,7 @@
 -- what follows of a choice
-use Rattle.std.specs.Prelude.{Some, None, is_none, is_some, map}
-use Rattle.std.proofs.Common.{◌≡◌, ◌≢◌, ℕ, Bool, true, false, List, [], length, refl, sym, ◌∙◌, ap, arith}
-use Rattle.std.proofs.lemmas.Option.{slice_get_within}
-use Rattle.std.proofs.lemmas.Bool.{cases_lt}
-use Rattle.kt_base.specs.declared.role.Role.{Role}
-use Rattle.kt_base.specs.declared.role.Role.TheVariants.{Body, Cleanup}
-use Rattle.kt_sched.specs.declared.job.Job.{Job}
-use Rattle.kt_sched.specs.declared.next.Next.{Next}
+use Rattle.std.proofs.Common.{Some, None, is_none, is_some, map, ◌≡◌, ◌≢◌, ℕ, Bool, true, false, List, [], length, refl, sym, ◌∙◌, ap, arith}
+use Rattle.kt_sched.proofs.Common.{slice_get_within, cases_lt, Role, Body, Cleanup, Job, Next, Owing, mark_of, history, is_whole, owed, Fed, Follows, IsChosen, SchedState, Stands, IsAsked, IsUntaken, IsSettled}
 use Rattle.kt_sched.specs.declared.next.Next.TheVariants as next
-use Rattle.kt_sched.specs.declared.stage.Stage.TheVariants.{Owing}
-use Rattle.kt_sched.specs.History.{mark_of, history, is_whole}
-use Rattle.kt_sched.specs.ScheduleRules.{owed}
-use Rattle.kt_sched.specs.Fed.{Fed}
-use Rattle.kt_sched.specs.Next.{Follows}
-use Rattle.kt_sched.specs.Inner.Choice.{IsChosen}
-use Rattle.kt_sched.specs.SchedState.{SchedState, Stands, IsAsked, IsUntaken, IsSettled}
 use Rattle.kt_sched.proofs.Lists.{within_some}
 use Rattle.kt_sched.proofs.Upcoming.{upcoming}
 use Rattle.kt_sched.proofs.Choice.{something_runs, nothing_runs, busy_where_held}

@@ -1,26 +1,7 @@
 -- what a sink gains
-use Rattle.std.specs.Prelude.{slice_get, Err, Option, Some, None, map, Result, Ok, is_some, ◌^◌}
-use Rattle.std.proofs.Common.{◌≡◌, ℕ, ◌+◌, ◌-◌, ◌<◌, ◌≤◌, true, false, List, [], ◌∷◌, ◌++◌, length, take, refl, sym, ◌∙◌, ap, subst, arith, length-append, append_assoc, append-nil}
-use Rattle.std.proofs.lemmas.List.{take-append-le}
-use Rattle.std.proofs.lemmas.Bool.{cases_eq}
-use Rattle.std.proofs.lemmas.Option.{slice_get_within}
-use Rattle.kt_base.specs.declared.role.Role.{Role}
-use Rattle.kt_base.specs.declared.role.Role.TheVariants.{Body, Cleanup}
-use Rattle.kt_base.specs.declared.entry.Entry.{Entry}
-use Rattle.kt_sched.specs.declared.job.Job.{Job}
+use Rattle.std.proofs.Common.{slice_get, Err, Option, Some, None, map, Result, Ok, is_some, ◌^◌, ◌≡◌, ℕ, ◌+◌, ◌-◌, ◌<◌, ◌≤◌, true, false, List, [], ◌∷◌, ◌++◌, length, take, refl, sym, ◌∙◌, ap, subst, arith, length-append, append_assoc, append-nil}
+use Rattle.kt_sched.proofs.Common.{take-append-le, cases_eq, slice_get_within, Role, Body, Cleanup, Entry, Job, SinkFault, Totals, Event, Trace, NoEvent, Then, position_of, event_count, history, is_whole, Due, dues, finished_by, recorded, Gains, IsEntryOf, AreEntries, IsPlan, with_event, Fed, has_failed, nothing_fed, runs, IsNext, IsUpToDate, Follows, CanCount, counted, FailedPut, Counts}
 use Rattle.kt_sched.specs.declared.next.Next.TheVariants as next
-use Rattle.kt_sched.specs.declared.sink_fault.SinkFault.{SinkFault}
-use Rattle.kt_sched.specs.declared.totals.Totals.{Totals}
-use Rattle.kt_sched.specs.Trace.{Event, Trace, NoEvent, Then, position_of, event_count}
-use Rattle.kt_sched.specs.History.{history, is_whole}
-use Rattle.kt_sched.specs.RecordOrder.{Due, dues, finished_by, recorded}
-use Rattle.kt_sched.specs.EntryOf.{Gains, IsEntryOf, AreEntries}
-use Rattle.kt_sched.specs.Plan.{IsPlan}
-use Rattle.kt_sched.specs.Inner.Answers.{with_event}
-use Rattle.kt_sched.specs.Fed.{Fed, has_failed, nothing_fed, runs}
-use Rattle.kt_sched.specs.Next.{IsNext, IsUpToDate, Follows}
-use Rattle.kt_sched.specs.Inner.Answers.{CanCount, counted}
-use Rattle.kt_sched.specs.Run.{FailedPut, Counts}
 use Rattle.kt_sched.proofs.Turns.{some_is}
 use Rattle.kt_sched.proofs.Histories.{body_runs_history, cleanup_runs_history}
 use Rattle.kt_sched.proofs.Once.{NotWhole, Recorded, recorded_first, recorded_event, recorded_most}

@@ -1,28 +1,8 @@
 -- each answer leads the run loop on
-use Rattle.std.specs.Prelude.{slice_get, Option, Some, None, map, if◌then◌else◌, IfSome}
-use Rattle.std.proofs.Common.{append-nil, ◌≡◌, ℕ, ◌+◌, ◌≤◌, ◌==◌, Bool, true, false, List, [], ◌∷◌, ◌++◌, length, take, refl, sym, ◌∙◌, ap, subst, arith, length-append}
-use Rattle.std.proofs.lemmas.Bool.{cases_eq}
-use Rattle.std.proofs.lemmas.Option.{slice_get_within}
-use Rattle.kt_base.specs.declared.role.Role.{Role}
-use Rattle.kt_base.specs.declared.role.Role.TheVariants.{Body, Cleanup}
-use Rattle.kt_sched.specs.declared.job.Job.{Job}
-use Rattle.kt_sched.specs.declared.start_answer.StartAnswer.{StartAnswer}
-use Rattle.kt_sched.specs.declared.start_answer.StartAnswer.TheVariants as told
-use Rattle.kt_sched.specs.declared.ended.Ended.{Ended}
-use Rattle.kt_sched.specs.declared.next.Next.{Next}
+use Rattle.std.proofs.Common.{slice_get, Option, Some, None, map, if◌then◌else◌, IfSome, append-nil, ◌≡◌, ℕ, ◌+◌, ◌≤◌, ◌==◌, Bool, true, false, List, [], ◌∷◌, ◌++◌, length, take, refl, sym, ◌∙◌, ap, subst, arith, length-append}
+use Rattle.kt_sched.proofs.Common.{cases_eq, slice_get_within, Role, Body, Cleanup, Job, StartAnswer, Ended, Next, Answer, Child, MayStart, IsEvidence, IsIdle, child_of, running_after_start, running_after_end, pending_after_start, pending_after_end, IsMoment, HasMoment, IsPlan, Event, Start, End, Trace, NoEvent, Then, position_of, of, event_count, history, body_starts, body_start_of, undecided_turns, Each, Order, BusyAt, IsCleanupStart, with_event, answer_of, Fed, has_failed, runs, fed_after, nothing_fed, IsNext, Follows, MayBegin}
+use Rattle.kt_sched.specs.declared.job.StartAnswer.TheVariants as told
 use Rattle.kt_sched.specs.declared.next.Next.TheVariants as next
-use Rattle.kt_sched.specs.declared.answer.Answer.{Answer}
-use Rattle.kt_sched.specs.Children.{Child, MayStart, IsEvidence, IsIdle, child_of, running_after_start, running_after_end, pending_after_start, pending_after_end}
-use Rattle.kt_base.specs.Moments.{IsMoment}
-use Rattle.kt_sched.specs.Moments.{HasMoment}
-use Rattle.kt_sched.specs.Plan.{IsPlan}
-use Rattle.kt_sched.specs.Trace.{Event, Start, End, Trace, NoEvent, Then, position_of, of, event_count}
-use Rattle.kt_sched.specs.History.{history}
-use Rattle.kt_sched.specs.TurnOrder.{body_starts, body_start_of, undecided_turns}
-use Rattle.kt_sched.specs.ScheduleRules.{Each, Order, BusyAt, IsCleanupStart}
-use Rattle.kt_sched.specs.Inner.Answers.{with_event, answer_of}
-use Rattle.kt_sched.specs.Fed.{Fed, has_failed, runs, fed_after, nothing_fed}
-use Rattle.kt_sched.specs.Next.{IsNext, Follows, MayBegin}
 use Rattle.kt_sched.proofs.Lists.{take_one_more}
 use Rattle.kt_sched.proofs.Steps.{same_is, of_other}
 use Rattle.kt_sched.proofs.Runs.{running_of, is_owed, runs_now, start_runs, cleared, runs_true, while_runs, end_runs, end_owes}

@@ -1,17 +1,6 @@
 -- a launcher after a trace, as the run loop knows it
-use Rattle.std.specs.Prelude.{is_some, nat_le, Option, Some, None, if◌then◌else◌, IfSome}
-use Rattle.std.proofs.Common.{append-nil, ◌≡◌, ℕ, ◌+◌, ◌≤◌, Bool, true, false, List, [], ◌++◌, length, refl, sym, ◌∙◌, ap, subst, arith}
-use Rattle.std.proofs.lemmas.Bool.Decides.{nat_tests}
-use Rattle.kt_base.specs.declared.role.Role.{Role}
-use Rattle.kt_sched.specs.declared.job.Job.{Job}
-use Rattle.kt_sched.specs.declared.start_answer.StartAnswer.{StartAnswer}
-use Rattle.kt_sched.specs.declared.ended.Ended.{Ended}
-use Rattle.kt_sched.specs.Children.{Child}
-use Rattle.kt_sched.specs.Trace.{Event, Trace, NoEvent, Then, Leads, of, first, event_count}
-use Rattle.kt_sched.specs.TurnOrder.{body_starts, body_start_of}
-use Rattle.kt_sched.specs.ScheduleRules.{Each, Order, WidthAt, AloneAt, PromptAt, BusyAt, owed}
-use Rattle.kt_sched.specs.Fed.{Fed}
-use Rattle.kt_sched.specs.Run.{FitsAt}
+use Rattle.std.proofs.Common.{is_some, nat_le, Option, Some, None, if◌then◌else◌, IfSome, append-nil, ◌≡◌, ℕ, ◌+◌, ◌≤◌, Bool, true, false, List, [], ◌++◌, length, refl, sym, ◌∙◌, ap, subst, arith}
+use Rattle.kt_sched.proofs.Common.{nat_tests, Role, Job, StartAnswer, Ended, Child, Event, Trace, NoEvent, Then, Leads, of, first, event_count, body_starts, body_start_of, Each, Order, WidthAt, AloneAt, PromptAt, BusyAt, owed, Fed, FitsAt}
 use Rattle.kt_sched.proofs.Runs.{running_of, is_owed}
 
 -- the events up to a failed put, if one failed

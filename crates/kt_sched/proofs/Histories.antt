@@ -1,11 +1,6 @@
 -- histories of cases, event by event
-use Rattle.std.specs.Prelude.{map}
-use Rattle.std.proofs.Common.{◌≡◌, ◌≢◌, ℕ, true, List, [], ◌∷◌, ◌++◌, refl, ◌∙◌, ap}
-use Rattle.std.proofs.lemmas.List.{map-append}
-use Rattle.kt_base.specs.declared.role.Role.TheVariants.{Body, Cleanup}
-use Rattle.kt_sched.specs.Trace.{Event, Trace, Then, position_of, of}
-use Rattle.kt_sched.specs.History.{Mark, BodyStarted, BodyEnded, CleanupStarted, mark_of, history}
-use Rattle.kt_sched.specs.Fed.{role_runs}
+use Rattle.std.proofs.Common.{map, ◌≡◌, ◌≢◌, ℕ, true, List, [], ◌∷◌, ◌++◌, refl, ◌∙◌, ap}
+use Rattle.kt_sched.proofs.Common.{map-append, Body, Cleanup, Event, Trace, Then, position_of, of, Mark, BodyStarted, BodyEnded, CleanupStarted, mark_of, history, role_runs}
 use Rattle.kt_sched.proofs.Steps.{of_same, of_other}
 
 pub history_same : (i : ℕ) (T : Trace) (e : Event) → position_of e ≡ i → history i (Then T e) ≡ history i T ++ mark_of e ∷ []

@@ -1,18 +1,7 @@
 -- the case of an event
-use Rattle.std.specs.Prelude.{slice_get, count_by, Some, None}
-use Rattle.std.proofs.Common.{◌≡◌, ◌≢◌, ℕ, zero, suc, ◌<◌, Bool, true, cond, List, [], ◌∷◌, length, refl, sym, ◌∙◌, ap, subst, arith, slice_set}
-use Rattle.std.proofs.lemmas.Option.{slice_get_within}
-use Rattle.kt_base.specs.declared.role.Role.TheVariants.{Body, Cleanup}
-use Rattle.kt_sched.specs.declared.job.Job.{Job}
-use Rattle.kt_sched.specs.declared.next.Next.{Next}
+use Rattle.std.proofs.Common.{slice_get, count_by, Some, None, ◌≡◌, ◌≢◌, ℕ, zero, suc, ◌<◌, Bool, true, cond, List, [], ◌∷◌, length, refl, sym, ◌∙◌, ap, subst, arith, slice_set}
+use Rattle.kt_sched.proofs.Common.{slice_get_within, Body, Cleanup, Job, Next, Stage, Waiting, Owing, Taken, Case, Trace, of, Fed, SchedState, Stands, IsStage, IsAsked, is_active_stage, Replaced}
 use Rattle.kt_sched.specs.declared.next.Next.TheVariants as next
-use Rattle.kt_sched.specs.declared.stage.Stage.{Stage}
-use Rattle.kt_sched.specs.declared.stage.Stage.TheVariants.{Waiting, Owing, Taken}
-use Rattle.kt_sched.specs.declared.case.Case.{Case}
-use Rattle.kt_sched.specs.Trace.{Trace, of}
-use Rattle.kt_sched.specs.Fed.{Fed}
-use Rattle.kt_sched.specs.SchedState.{SchedState, Stands, IsStage, IsAsked, is_active_stage}
-use Rattle.kt_sched.specs.Inner.Cases.{Replaced}
 use Rattle.kt_sched.proofs.Lists.{within_some, slice_get-set_same, count-cons}
 use Rattle.kt_sched.proofs.Stages.{turn_at}
 use Rattle.kt_sched.proofs.EventSteps.{some_same}

@@ -1,19 +1,6 @@
 -- each position stands in the record order once
-use Rattle.std.specs.Prelude.{slice_get, filter, count_by, map, Option, Some, None, is_some, is_none, not, nat_lt, ◌==◌, ◌&&◌, ◌||◌, if◌then◌else◌}
-use Rattle.std.specs.List.{list_all}
-use Rattle.std.proofs.Common.{◌≡◌, ◌≢◌, ℕ, zero, suc, ◌+◌, ◌≤◌, ◌⊎◌, Bool, true, false, cond, List, [], ◌∷◌, ◌++◌, length, refl, sym, ◌∙◌, ap, subst, arith, inl, inr}
-use Rattle.std.proofs.lemmas.Bool.{cases_eq}
-use Rattle.std.proofs.lemmas.Bool.Decides.{nat_tests}
-use Rattle.std.proofs.lemmas.List.Sums.{length-filter, count_by-le-length}
-use Rattle.kt_base.specs.Verdicts.{Judged}
-use Rattle.kt_sched.specs.declared.job.Job.{Job}
-use Rattle.kt_sched.specs.Trace.{Event, Trace, NoEvent, Then, position_of}
-use Rattle.kt_sched.specs.History.{history, is_whole, has_whole_history, active}
-use Rattle.kt_sched.specs.TurnOrder.{turns}
-use Rattle.kt_sched.specs.RecordOrder.{finished_by, is_open, was_open, is_begun, ahead, recorded}
-use Rattle.kt_sched.specs.Plan.{IsPlan}
-use Rattle.kt_sched.specs.SchedState.{is_decided, positions}
-use Rattle.kt_sched.specs.Run.{NamesEachOnce}
+use Rattle.std.proofs.Common.{slice_get, filter, count_by, map, Option, Some, None, is_some, is_none, not, nat_lt, ◌==◌, ◌&&◌, ◌||◌, if◌then◌else◌, ◌≡◌, ◌≢◌, ℕ, zero, suc, ◌+◌, ◌≤◌, ◌⊎◌, Bool, true, false, cond, List, [], ◌∷◌, ◌++◌, length, refl, sym, ◌∙◌, ap, subst, arith, inl, inr}
+use Rattle.kt_sched.proofs.Common.{list_all, cases_eq, nat_tests, length-filter, count_by-le-length, Judged, Job, Event, Trace, NoEvent, Then, position_of, history, is_whole, has_whole_history, active, turns, finished_by, is_open, was_open, is_begun, ahead, recorded, IsPlan, is_decided, positions, NamesEachOnce}
 use Rattle.kt_sched.proofs.Lists.{count-cons, count_alike, count_by-append, filter_one, within_some}
 use Rattle.kt_sched.proofs.Steps.{same_is, other_is_not, of_other, put_at_positions, recorded_more}
 

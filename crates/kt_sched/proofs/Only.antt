@@ -1,17 +1,7 @@
 -- what is to be done next is determined by the answers so far
-use Rattle.std.specs.Prelude.{slice_get, Option, is_none, MatchOption, ⊤}
-use Rattle.std.proofs.Common.{◌≡◌, ℕ, ◌<◌, true, List, length, refl, sym, ◌∙◌, ap, subst, arith, inl, inr}
-use Rattle.kt_base.specs.declared.role.Role.TheVariants.{Body, Cleanup}
-use Rattle.kt_sched.specs.declared.job.Job.{Job}
-use Rattle.kt_sched.specs.declared.next.Next.{Next}
+use Rattle.std.proofs.Common.{slice_get, Option, is_none, MatchOption, ◌≡◌, ℕ, ◌<◌, true, List, length, refl, sym, ◌∙◌, ap, subst, arith, inl, inr}
+use Rattle.kt_sched.proofs.Common.{⊤, Body, Cleanup, Job, Next, IsPlan, Trace, active, turns, body_starts, IsBusy, Fed, IsNext, MayBegin}
 use Rattle.kt_sched.specs.declared.next.Next.TheVariants as next
-use Rattle.kt_sched.specs.Plan.{IsPlan}
-use Rattle.kt_sched.specs.Trace.{Trace}
-use Rattle.kt_sched.specs.History.{active}
-use Rattle.kt_sched.specs.TurnOrder.{turns, body_starts}
-use Rattle.kt_sched.specs.ScheduleRules.{IsBusy}
-use Rattle.kt_sched.specs.Fed.{Fed}
-use Rattle.kt_sched.specs.Next.{IsNext, MayBegin}
 use Rattle.kt_sched.proofs.Turns.{some_is, filter_in, turn_inside}
 
 -- where a body may begin, a wait isn't due

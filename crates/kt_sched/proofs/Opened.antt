@@ -1,22 +1,7 @@
 -- a decided case whose turn it is becomes ready
-use Rattle.std.specs.Prelude.{slice_get, filter, take, Option, Some, None, is_some, is_none, nat_lt, ◌==◌, if◌then◌else◌}
-use Rattle.std.proofs.Common.{◌≡◌, ◌≢◌, ℕ, zero, suc, ◌+◌, ◌<◌, ◌⊎◌, Bool, true, false, List, [], ◌∷◌, ◌++◌, refl, sym, ◌∙◌, ap, subst, arith, inl, inr}
-use Rattle.std.proofs.lemmas.Option.{slice_get_within}
-use Rattle.std.proofs.lemmas.Bool.{cases_eq}
-use Rattle.std.proofs.lemmas.Bool.Decides.{nat_tests}
-use Rattle.kt_base.specs.Verdicts.{Judged}
-use Rattle.kt_sched.specs.declared.job.Job.{Job}
+use Rattle.std.proofs.Common.{slice_get, filter, take, Option, Some, None, is_some, is_none, nat_lt, ◌==◌, if◌then◌else◌, ◌≡◌, ◌≢◌, ℕ, zero, suc, ◌+◌, ◌<◌, ◌⊎◌, Bool, true, false, List, [], ◌∷◌, ◌++◌, refl, sym, ◌∙◌, ap, subst, arith, inl, inr}
+use Rattle.kt_sched.proofs.Common.{slice_get_within, cases_eq, nat_tests, Judged, Job, Stage, Waiting, Decided, Running, Owing, Cleaning, Finished, Taken, Case, CaseRecord, of, active, turns, was_open, Fed, has_failed, SchedState, Stands, IsStage, HasRecord, HasTurn, HasDecided, AreGone, is_decided, is_undecided, is_decided_stage, decided_record_of, decided_record, record_in, listed, positions, opened, room_in, run_of}
 use Rattle.kt_sched.specs.declared.next.Next.TheVariants as next
-use Rattle.kt_sched.specs.declared.stage.Stage.{Stage}
-use Rattle.kt_sched.specs.declared.stage.Stage.TheVariants.{Waiting, Decided, Running, Owing, Cleaning, Finished, Taken}
-use Rattle.kt_sched.specs.declared.case.Case.{Case}
-use Rattle.kt_sched.specs.declared.case_record.CaseRecord.{CaseRecord}
-use Rattle.kt_sched.specs.Trace.{of}
-use Rattle.kt_sched.specs.History.{active}
-use Rattle.kt_sched.specs.TurnOrder.{turns}
-use Rattle.kt_sched.specs.RecordOrder.{was_open}
-use Rattle.kt_sched.specs.Fed.{Fed, has_failed}
-use Rattle.kt_sched.specs.SchedState.{SchedState, Stands, IsStage, HasRecord, HasTurn, HasDecided, AreGone, is_decided, is_undecided, is_decided_stage, decided_record_of, decided_record, record_in, listed, positions, opened, room_in, run_of}
 use Rattle.kt_sched.proofs.Lists.{drop_at}
 use Rattle.kt_sched.proofs.Turns.{some_is, filter_step}
 use Rattle.kt_sched.proofs.Stages.{turn_at, one_place, active_is}

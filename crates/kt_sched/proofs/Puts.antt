@@ -1,12 +1,7 @@
 -- an answer to a put
-use Rattle.std.specs.Prelude.{Some, None}
-use Rattle.std.proofs.Common.{◌≡◌, ℕ, zero, suc, ◌+◌, ◌≤◌, true, false, List, [], ◌∷◌, ◌++◌, length, drop, refl, sym, ◌∙◌, ap, arith}
-use Rattle.kt_sched.specs.declared.job.Job.{Job}
+use Rattle.std.proofs.Common.{Some, None, ◌≡◌, ℕ, zero, suc, ◌+◌, ◌≤◌, true, false, List, [], ◌∷◌, ◌++◌, length, drop, refl, sym, ◌∙◌, ap, arith}
+use Rattle.kt_sched.proofs.Common.{Job, event_count, recorded, Fed, has_failed, SchedState, Stands, listed, positions, opened}
 use Rattle.kt_sched.specs.declared.next.Next.TheVariants as next
-use Rattle.kt_sched.specs.Trace.{event_count}
-use Rattle.kt_sched.specs.RecordOrder.{recorded}
-use Rattle.kt_sched.specs.Fed.{Fed, has_failed}
-use Rattle.kt_sched.specs.SchedState.{SchedState, Stands, listed, positions, opened}
 use Rattle.kt_sched.proofs.Located.{asked_as}
 
 pub drop_next : (xs ys : List ℕ) (k i : ℕ) → drop k xs ≡ i ∷ ys → (drop (k + 1) xs ≡ ys) × (k + 1 ≤ length xs)

@@ -1,20 +1,6 @@
 -- what an event adds to the decided cases that had their due
-use Rattle.std.specs.Prelude.{slice_get, filter, take, drop, Option, Some, None, is_some, is_none, not, nat_lt, ◌==◌, ◌&&◌, ◌||◌, if◌then◌else◌}
-use Rattle.std.specs.List.{list_all, list_any}
-use Rattle.std.specs.Option.{option_map}
-use Rattle.std.proofs.Common.{◌≡◌, ℕ, zero, suc, ◌+◌, ◌-◌, ◌<◌, ◌≤◌, ◌⊎◌, Bool, true, false, List, [], ◌∷◌, ◌++◌, refl, sym, ◌∙◌, ap, arith, inl, inr}
-use Rattle.std.proofs.lemmas.List.{take-append-drop}
-use Rattle.std.proofs.lemmas.List.Elements.{filter-append}
-use Rattle.std.proofs.lemmas.Option.{slice_get-map}
-use Rattle.std.proofs.lemmas.Bool.{cases_lt}
-use Rattle.kt_base.specs.Verdicts.{Judged}
-use Rattle.kt_sched.specs.declared.job.Job.{Job}
-use Rattle.kt_sched.specs.Trace.{Event, Trace, Then}
-use Rattle.kt_sched.specs.History.{active}
-use Rattle.kt_sched.specs.TurnOrder.{turns}
-use Rattle.kt_sched.specs.RecordOrder.{is_open, was_open, is_begun}
-use Rattle.kt_sched.specs.Plan.{IsPlan}
-use Rattle.kt_sched.specs.SchedState.{HasStarted, AreGone, opened, positions, is_decided, is_undecided}
+use Rattle.std.proofs.Common.{slice_get, filter, take, drop, Option, Some, None, is_some, is_none, not, nat_lt, ◌==◌, ◌&&◌, ◌||◌, if◌then◌else◌, ◌≡◌, ℕ, zero, suc, ◌+◌, ◌-◌, ◌<◌, ◌≤◌, ◌⊎◌, Bool, true, false, List, [], ◌∷◌, ◌++◌, refl, sym, ◌∙◌, ap, arith, inl, inr}
+use Rattle.kt_sched.proofs.Common.{list_all, list_any, option_map, take-append-drop, filter-append, slice_get-map, cases_lt, Judged, Job, Event, Trace, Then, active, turns, is_open, was_open, is_begun, IsPlan, HasStarted, AreGone, opened, positions, is_decided, is_undecided}
 use Rattle.kt_sched.proofs.Steps.{same_is, other_is_not}
 use Rattle.kt_sched.proofs.Lists.{filter_none}
 use Rattle.kt_sched.proofs.Turns.{some_is, filter_in, filter_at, turn_distinct}

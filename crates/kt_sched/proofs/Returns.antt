@@ -1,26 +1,11 @@
 -- what the run loop has done where it is over
-use Rattle.std.specs.Prelude.{Option, Some, None, is_some, Result, Ok, Err, if◌then◌else◌}
-use Rattle.std.proofs.Common.{ℕ, Bool, List, [], refl, append-nil, length, take, sym, ◌∙◌, ap, subst, arith}
-use Rattle.kt_base.specs.declared.role.Role.{Role}
-use Rattle.kt_base.specs.declared.entry.Entry.{Entry}
+use Rattle.std.proofs.Common.{Option, Some, None, is_some, Result, Ok, Err, if◌then◌else◌, ℕ, Bool, List, [], refl, append-nil, length, take, sym, ◌∙◌, ap, subst, arith}
+use Rattle.kt_sched.proofs.Common.{Role, Entry, Job, StartAnswer, Ended, SinkFault, Totals, Child, IsIdle, IsPlan, IsWidth, recorded, AreEntries, Fed, IsNext, Follows, Ran, NoEvent}
 use Rattle.kt_base.specs.declared.no_memory.NoMemory.{NoMemory as Refusal}
-use Rattle.kt_sched.specs.declared.job.Job.{Job}
-use Rattle.kt_sched.specs.declared.start_answer.StartAnswer.{StartAnswer}
-use Rattle.kt_sched.specs.declared.ended.Ended.{Ended}
-use Rattle.kt_sched.specs.declared.next.Next.TheVariants as next
-use Rattle.kt_sched.specs.declared.sink_fault.SinkFault.{SinkFault}
-use Rattle.kt_sched.specs.declared.totals.Totals.{Totals}
 use Rattle.kt_sched.specs.declared.run_fault.RunFault.TheVariants.{NoMemory, SinkFailed}
-use Rattle.kt_sched.specs.Children.{Child, IsIdle}
-use Rattle.kt_sched.specs.Plan.{IsPlan, IsWidth}
-use Rattle.kt_sched.specs.RecordOrder.{recorded}
-use Rattle.kt_sched.specs.EntryOf.{AreEntries}
-use Rattle.kt_sched.specs.Fed.{Fed}
-use Rattle.kt_sched.specs.Next.{IsNext, Follows}
-use Rattle.kt_sched.specs.Run.{Ran}
+use Rattle.kt_sched.specs.declared.next.Next.TheVariants as next
 use Rattle.kt_sched.specs.declared.launcher.Launcher as launcher
 use Rattle.kt_sched.specs.declared.sink.Sink as sink
-use Rattle.kt_sched.specs.Trace.{NoEvent}
 use Rattle.kt_sched.proofs.Runs.{child_at, is_owed}
 use Rattle.kt_sched.proofs.Going.{Going}
 use Rattle.kt_sched.proofs.Gaining.{Gained, gained_all}

@@ -1,18 +1,7 @@
 -- what runs and what is owed after a trace, as a launcher shows it
-use Rattle.std.specs.Prelude.{slice_get, Option, Some, None, if◌then◌else◌, ◌&&◌}
-use Rattle.std.specs.Option.{option_map}
-use Rattle.std.proofs.Common.{◌≡◌, ◌≢◌, ℕ, ◌⊎◌, ◌==◌, Bool, true, false, List, [], ◌∷◌, ◌++◌, refl, sym, ◌∙◌, ap, subst, inl, inr}
-use Rattle.kt_base.specs.declared.role.Role.{Role}
-use Rattle.kt_base.specs.declared.role.Role.TheVariants.{Body, Cleanup}
-use Rattle.kt_sched.specs.declared.job.Job.{Job}
-use Rattle.kt_sched.specs.declared.start_answer.StartAnswer.{StartAnswer}
-use Rattle.kt_sched.specs.declared.start_answer.StartAnswer.TheVariants as told
-use Rattle.kt_sched.specs.declared.ended.Ended.{Ended}
-use Rattle.kt_sched.specs.Children.{Child, child_of, same_role, running_after_start, running_after_end, pending_after_end, with_cleanup_declared}
-use Rattle.kt_sched.specs.Trace.{Event, Start, End, Trace, Then, position_of}
-use Rattle.kt_sched.specs.History.{Mark, BodyStarted, BodyEnded, CleanupStarted, mark_of, end_mark, start_mark, history}
-use Rattle.kt_sched.specs.ScheduleRules.{owed, declares}
-use Rattle.kt_sched.specs.Fed.{role_runs, runs}
+use Rattle.std.proofs.Common.{slice_get, Option, Some, None, if◌then◌else◌, ◌&&◌, ◌≡◌, ◌≢◌, ℕ, ◌⊎◌, ◌==◌, Bool, true, false, List, [], ◌∷◌, ◌++◌, refl, sym, ◌∙◌, ap, subst, inl, inr}
+use Rattle.kt_sched.proofs.Common.{option_map, Role, Body, Cleanup, Job, StartAnswer, Ended, Child, child_of, same_role, running_after_start, running_after_end, pending_after_end, with_cleanup_declared, Event, Start, End, Trace, Then, position_of, Mark, BodyStarted, BodyEnded, CleanupStarted, mark_of, end_mark, start_mark, history, owed, declares, role_runs, runs}
+use Rattle.kt_sched.specs.declared.job.StartAnswer.TheVariants as told
 use Rattle.kt_sched.proofs.Steps.{same_is, other_is_not}
 use Rattle.kt_sched.proofs.Histories.{history_same, history_other, body_runs_history, cleanup_runs_history}
 

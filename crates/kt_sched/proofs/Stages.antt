@@ -1,21 +1,6 @@
 -- what a stage says of its case's history
-use Rattle.std.specs.Prelude.{slice_get, count_by, Some, is_none, map, not, ◌&&◌}
-use Rattle.std.specs.List.{list_any}
-use Rattle.std.proofs.Common.{◌≡◌, ℕ, zero, suc, Bool, true, false, List, [], ◌∷◌, length, refl, sym, ◌∙◌, ap}
-use Rattle.kt_base.specs.declared.role.Role.{Role}
-use Rattle.kt_base.specs.declared.role.Role.TheVariants.{Body, Cleanup}
-use Rattle.kt_sched.specs.declared.job.Job.{Job}
-use Rattle.kt_sched.specs.declared.stage.Stage.{Stage}
-use Rattle.kt_sched.specs.declared.stage.Stage.TheVariants.{Waiting, Decided, Running, Owing, Cleaning, Finished, Taken}
-use Rattle.kt_sched.specs.declared.case.Case.{Case}
-use Rattle.kt_sched.specs.Trace.{Event, Trace, of}
-use Rattle.kt_sched.specs.History.{Mark, BodyStarted, BodyEnded, CleanupStarted, mark_of, end_mark, history, is_whole, is_body_started, is_active, active}
-use Rattle.kt_sched.specs.TurnOrder.{turns}
-use Rattle.kt_sched.specs.Plan.{IsPlan}
-use Rattle.kt_sched.specs.Fed.{Fed, role_runs}
-use Rattle.kt_sched.specs.SchedState.{SchedState, Stands, CaseStands, IsStage, is_active_stage}
-use Rattle.std.proofs.lemmas.Option.{slice_get-map}
-use Rattle.std.specs.Option.{option_map}
+use Rattle.std.proofs.Common.{slice_get, count_by, Some, is_none, map, not, ◌&&◌, ◌≡◌, ℕ, zero, suc, Bool, true, false, List, [], ◌∷◌, length, refl, sym, ◌∙◌, ap}
+use Rattle.kt_sched.proofs.Common.{list_any, Role, Body, Cleanup, Job, Stage, Waiting, Decided, Running, Owing, Cleaning, Finished, Taken, Case, Event, Trace, of, Mark, BodyStarted, BodyEnded, CleanupStarted, mark_of, end_mark, history, is_whole, is_body_started, is_active, active, turns, IsPlan, Fed, role_runs, SchedState, Stands, CaseStands, IsStage, is_active_stage, slice_get-map, option_map}
 use Rattle.kt_sched.proofs.Turns.{turn_inside, turn_distinct}
 use Rattle.kt_sched.proofs.Lists.{count_alike}
 

@@ -1,24 +1,8 @@
 -- a body's start
-use Rattle.std.specs.Prelude.{slice_get, Some, None, is_none, map}
-use Rattle.std.proofs.Common.{◌≡◌, ◌≢◌, ℕ, ◌+◌, ◌<◌, ◌⊎◌, cond, List, [], ◌∷◌, ◌++◌, refl, sym, subst, ◌∙◌, ap, arith, inl, inr}
-use Rattle.std.proofs.lemmas.Option.{slice_get_within}
-use Rattle.kt_base.specs.declared.role.Role.TheVariants.{Body}
-use Rattle.kt_status.specs.Tables.{IsVerdictOfRefusal}
-use Rattle.kt_sched.specs.declared.job.Job.{Job}
-use Rattle.kt_sched.specs.declared.start_answer.StartAnswer.TheVariants as told
+use Rattle.std.proofs.Common.{slice_get, Some, None, is_none, map, ◌≡◌, ◌≢◌, ℕ, ◌+◌, ◌<◌, ◌⊎◌, cond, List, [], ◌∷◌, ◌++◌, refl, sym, subst, ◌∙◌, ap, arith, inl, inr}
+use Rattle.kt_sched.proofs.Common.{slice_get_within, Body, IsVerdictOfRefusal, Job, Stage, Waiting, Running, Finished, Case, CaseRecord, Event, Start, of, mark_of, is_whole, turns, Fed, IsEntry, refused, SchedState, Stands, is_active_stage, stage_work, listed, entry_with, decided_record, Replaced, cases_eq}
+use Rattle.kt_sched.specs.declared.job.StartAnswer.TheVariants as told
 use Rattle.kt_sched.specs.declared.next.Next.TheVariants as next
-use Rattle.kt_sched.specs.declared.stage.Stage.{Stage}
-use Rattle.kt_sched.specs.declared.stage.Stage.TheVariants.{Waiting, Running, Finished}
-use Rattle.kt_sched.specs.declared.case.Case.{Case}
-use Rattle.kt_sched.specs.declared.case_record.CaseRecord.{CaseRecord}
-use Rattle.kt_sched.specs.Trace.{Event, Start, of}
-use Rattle.kt_sched.specs.History.{mark_of, is_whole}
-use Rattle.kt_sched.specs.TurnOrder.{turns}
-use Rattle.kt_sched.specs.Fed.{Fed}
-use Rattle.kt_sched.specs.EntryOf.{IsEntry, refused}
-use Rattle.kt_sched.specs.SchedState.{SchedState, Stands, is_active_stage, stage_work, listed, entry_with, decided_record}
-use Rattle.kt_sched.specs.Inner.Cases.{Replaced}
-use Rattle.std.proofs.lemmas.Bool.{cases_eq}
 use Rattle.kt_sched.proofs.Alone.{none_lonely, none_else}
 use Rattle.kt_sched.proofs.Stages.{one_place}
 use Rattle.kt_sched.proofs.Upcoming.{upcoming}

@@ -1,18 +1,6 @@
 -- one event more
-use Rattle.std.specs.Prelude.{slice_get, filter, Some, None, is_none, is_some, map, not, ◌&&◌, ◌==◌, if◌then◌else◌}
-use Rattle.std.proofs.Common.{◌≡◌, ◌≢◌, ℕ, ◌⊎◌, Bool, true, false, List, [], ◌∷◌, ◌++◌, refl, sym, ◌∙◌, ap, arith, inl, inr}
-use Rattle.std.proofs.lemmas.List.{map-append}
-use Rattle.std.proofs.lemmas.Bool.Decides.{nat_tests}
-use Rattle.kt_base.specs.declared.role.Role.{Role}
-use Rattle.kt_sched.specs.declared.job.Job.{Job}
-use Rattle.kt_sched.specs.declared.stage.Stage.{Stage}
-use Rattle.kt_sched.specs.declared.stage.Stage.TheVariants.{Waiting, Decided, Running, Owing, Cleaning, Finished, Taken}
-use Rattle.kt_sched.specs.Trace.{Event, Trace, Then, position_of, of, event_count}
-use Rattle.kt_sched.specs.History.{BodyStarted, CleanupStarted, mark_of, end_mark, history, is_whole, has_whole_history}
-use Rattle.kt_sched.specs.TurnOrder.{turns}
-use Rattle.kt_sched.specs.RecordOrder.{Due, dues, put_at, finished_by, is_open, was_open, recorded}
-use Rattle.kt_sched.specs.Plan.{IsPlan}
-use Rattle.kt_sched.specs.SchedState.{IsStage, positions}
+use Rattle.std.proofs.Common.{slice_get, filter, Some, None, is_none, is_some, map, not, ◌&&◌, ◌==◌, if◌then◌else◌, ◌≡◌, ◌≢◌, ℕ, ◌⊎◌, Bool, true, false, List, [], ◌∷◌, ◌++◌, refl, sym, ◌∙◌, ap, arith, inl, inr}
+use Rattle.kt_sched.proofs.Common.{map-append, nat_tests, Role, Job, Stage, Waiting, Decided, Running, Owing, Cleaning, Finished, Taken, Event, Trace, Then, position_of, of, event_count, BodyStarted, CleanupStarted, mark_of, end_mark, history, is_whole, has_whole_history, turns, Due, dues, put_at, finished_by, is_open, was_open, recorded, IsPlan, IsStage, positions}
 use Rattle.kt_sched.proofs.Lists.{filter_none, filter_one}
 
 pub same_is : (i : ℕ) → (i == i) ≡ true

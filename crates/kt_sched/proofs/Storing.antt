@@ -1,15 +1,7 @@
 -- the moments of an entry
-use Rattle.std.specs.Prelude.{if◌then◌else◌, ◌==◌, ⊤}
-use Rattle.std.proofs.Common.{ℕ, Bool, true, false, List, [], ◌∷◌, ◌++◌, arith}
-use Rattle.kt_base.specs.declared.entry.Entry.{Entry}
-use Rattle.kt_sched.specs.declared.job.Job.{Job}
-use Rattle.kt_sched.specs.Trace.{Event, Start, End, Trace, NoEvent, Then, position_of, of}
-use Rattle.kt_sched.specs.ScheduleRules.{Each}
-use Rattle.kt_sched.specs.EntryOf.{IsEntry, IsEntryOf}
+use Rattle.std.proofs.Common.{if◌then◌else◌, ◌==◌, ℕ, Bool, true, false, List, [], ◌∷◌, ◌++◌, arith}
+use Rattle.kt_sched.proofs.Common.{⊤, Entry, Job, Event, Start, End, Trace, NoEvent, Then, position_of, of, Each, IsEntry, IsEntryOf, IsMoment, IsStorable, HasMoment, FitsAt}
 use Rattle.kt_sched.specs.EntryOf as recorded
-use Rattle.kt_base.specs.Moments.{IsMoment, IsStorable}
-use Rattle.kt_sched.specs.Moments.{HasMoment}
-use Rattle.kt_sched.specs.Run.{FitsAt}
 
 abbrev HasGoodMoment : Event → Type 0
 HasGoodMoment (Start i role answer) = HasMoment answer

@@ -1,23 +1,7 @@
 -- what is taken
-use Rattle.std.specs.Prelude.{slice_get, count_by, sum_by, Option, Some, None, map}
-use Rattle.std.proofs.Common.{◌≡◌, ◌≢◌, ℕ, ◌+◌, ◌<◌, ◌≤◌, ◌⊎◌, Bool, true, false, cond, List, [], length, refl, sym, ◌∙◌, ap, subst, arith, slice_set, inl, inr}
-use Rattle.std.proofs.lemmas.List.{length-set}
-use Rattle.std.proofs.lemmas.Option.{slice_get_within}
-use Rattle.std.proofs.lemmas.Bool.{cases_eq}
-use Rattle.kt_base.specs.declared.entry.Entry.{Entry}
-use Rattle.kt_sched.specs.declared.job.Job.{Job}
+use Rattle.std.proofs.Common.{slice_get, count_by, sum_by, Option, Some, None, map, ◌≡◌, ◌≢◌, ℕ, ◌+◌, ◌<◌, ◌≤◌, ◌⊎◌, Bool, true, false, cond, List, [], length, refl, sym, ◌∙◌, ap, subst, arith, slice_set, inl, inr}
+use Rattle.kt_sched.proofs.Common.{length-set, slice_get_within, cases_eq, Entry, Job, Stage, Waiting, Decided, Running, Owing, Cleaning, Finished, Taken, Case, Event, Trace, of, mark_of, history, is_whole, IsEntry, decided, IsEntryOf, Judged, CaseRecord, Fed, TookEntry, SchedState, Stands, CaseStands, IsStage, IsAsked, is_active_stage, is_fresh, entry_with, record_in, decided_record, decided_record_of, stage_work, work}
 use Rattle.kt_sched.specs.declared.next.Next.TheVariants as next
-use Rattle.kt_sched.specs.declared.stage.Stage.{Stage}
-use Rattle.kt_sched.specs.declared.stage.Stage.TheVariants.{Waiting, Decided, Running, Owing, Cleaning, Finished, Taken}
-use Rattle.kt_sched.specs.declared.case.Case.{Case}
-use Rattle.kt_sched.specs.Trace.{Event, Trace, of}
-use Rattle.kt_sched.specs.History.{mark_of, history, is_whole}
-use Rattle.kt_sched.specs.EntryOf.{IsEntry, decided, IsEntryOf}
-use Rattle.kt_base.specs.Verdicts.{Judged}
-use Rattle.kt_sched.specs.declared.case_record.CaseRecord.{CaseRecord}
-use Rattle.kt_sched.specs.Fed.{Fed}
-use Rattle.kt_sched.specs.Inner.Cases.{TookEntry}
-use Rattle.kt_sched.specs.SchedState.{SchedState, Stands, CaseStands, IsStage, IsAsked, is_active_stage, is_fresh, entry_with, record_in, decided_record, decided_record_of, stage_work, work}
 use Rattle.kt_sched.proofs.Lists.{slice_get-set_same, slice_get-set_other, count_by-set, sum_by-replaced}
 use Rattle.kt_sched.proofs.EventSteps.{some_same}
 use Rattle.kt_sched.proofs.Located.{located}

@@ -1,13 +1,6 @@
 -- the bodies started before a turn
-use Rattle.std.specs.Prelude.{filter, slice_get, Some, None, is_none, is_some}
-use Rattle.std.proofs.Common.{◌≡◌, ℕ, zero, suc, ◌+◌, Bool, true, false, List, [], ◌∷◌, ◌++◌, take, refl, sym, ◌∙◌, ap, arith, append-nil}
-use Rattle.std.proofs.lemmas.List.{map-append}
-use Rattle.kt_base.specs.declared.role.Role.TheVariants.{Body}
-use Rattle.kt_sched.specs.declared.job.Job.{Job}
-use Rattle.kt_sched.specs.declared.start_answer.StartAnswer.{StartAnswer}
-use Rattle.kt_sched.specs.Trace.{Event, Start, Trace, Then}
-use Rattle.kt_sched.specs.TurnOrder.{body_starts, body_start_of, turns}
-use Rattle.kt_sched.specs.SchedState.{is_undecided, positions, HasStarted}
+use Rattle.std.proofs.Common.{filter, slice_get, Some, None, is_none, is_some, ◌≡◌, ℕ, zero, suc, ◌+◌, Bool, true, false, List, [], ◌∷◌, ◌++◌, take, refl, sym, ◌∙◌, ap, arith, append-nil}
+use Rattle.kt_sched.proofs.Common.{map-append, Body, Job, StartAnswer, Event, Start, Trace, Then, body_starts, body_start_of, turns, is_undecided, positions, HasStarted}
 use Rattle.kt_sched.proofs.Turns.{filter_step}
 use Rattle.kt_sched.proofs.Recording.{GoesOver}
 use Rattle.kt_sched.proofs.EventSteps.{some_same}

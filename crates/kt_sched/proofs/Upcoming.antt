@@ -1,16 +1,6 @@
 -- the next body in turn order
-use Rattle.std.specs.Prelude.{slice_get, Some, None, map, take, drop, filter, is_none}
-use Rattle.std.proofs.Common.{◌≡◌, ℕ, suc, ◌+◌, Bool, true, false, List, [], ◌∷◌, ◌++◌, length, refl, sym, ◌∙◌, ap, subst, arith}
-use Rattle.std.proofs.lemmas.List.{take-append-drop}
-use Rattle.std.proofs.lemmas.List.Elements.{filter-append}
-use Rattle.kt_sched.specs.declared.job.Job.{Job}
-use Rattle.kt_sched.specs.declared.stage.Stage.{Stage}
-use Rattle.kt_sched.specs.declared.stage.Stage.TheVariants.{Waiting, Decided, Running, Owing, Cleaning, Finished, Taken}
-use Rattle.kt_sched.specs.declared.case.Case.{Case}
-use Rattle.kt_sched.specs.Trace.{of}
-use Rattle.kt_sched.specs.TurnOrder.{turns, body_starts, undecided_turns, next_to_start}
-use Rattle.kt_sched.specs.Fed.{Fed}
-use Rattle.kt_sched.specs.SchedState.{SchedState, Stands, IsStage, is_fresh, is_decided_stage, HasTurn, IsSettled, is_undecided}
+use Rattle.std.proofs.Common.{slice_get, Some, None, map, take, drop, filter, is_none, ◌≡◌, ℕ, suc, ◌+◌, Bool, true, false, List, [], ◌∷◌, ◌++◌, length, refl, sym, ◌∙◌, ap, subst, arith}
+use Rattle.kt_sched.proofs.Common.{take-append-drop, filter-append, Job, Stage, Waiting, Decided, Running, Owing, Cleaning, Finished, Taken, Case, of, turns, body_starts, undecided_turns, next_to_start, Fed, SchedState, Stands, IsStage, is_fresh, is_decided_stage, HasTurn, IsSettled, is_undecided}
 use Rattle.kt_sched.proofs.Lists.{slice_get-drop}
 use Rattle.kt_sched.proofs.Turns.{some_is, filter_in, filter_step}
 use Rattle.kt_sched.proofs.Decided.{get_drop}

@@ -1,21 +1,6 @@
 -- histories and stages
-use Rattle.std.specs.Prelude.{slice_get, filter, drop, Option, Some, None, is_none, map, ◌&&◌, MatchOption, ⊤}
-use Rattle.std.specs.List.{list_all}
-use Rattle.std.proofs.Common.{◌≡◌, ◌≢◌, ℕ, suc, ◌<◌, ◌≤◌, ◌⊎◌, Bool, true, false, List, [], ◌∷◌, length, refl, sym, ◌∙◌, ap, arith, inl, inr}
-use Rattle.std.proofs.lemmas.Bool.{cases_lt}
-use Rattle.kt_base.specs.declared.role.Role.{Role}
-use Rattle.kt_base.specs.declared.role.Role.TheVariants.{Body, Cleanup}
-use Rattle.kt_sched.specs.declared.job.Job.{Job}
-use Rattle.kt_sched.specs.declared.stage.Stage.{Stage}
-use Rattle.kt_sched.specs.declared.stage.Stage.TheVariants.{Waiting, Decided, Running, Owing, Cleaning, Finished, Taken}
-use Rattle.kt_sched.specs.declared.case.Case.{Case}
-use Rattle.kt_sched.specs.Trace.{Event, of}
-use Rattle.kt_sched.specs.History.{Mark, BodyStarted, BodyEnded, CleanupStarted, mark_of, end_mark, history, is_whole, has_whole_history, active}
-use Rattle.kt_sched.specs.TurnOrder.{next_to_start, turns}
-use Rattle.kt_sched.specs.ScheduleRules.{owed, IsBusy}
-use Rattle.kt_sched.specs.Fed.{Fed, role_runs, runs}
-use Rattle.kt_sched.specs.Inner.Cases.{stage_runs}
-use Rattle.kt_sched.specs.SchedState.{SchedState, Stands, CaseStands, IsStage, is_active_stage, is_undecided}
+use Rattle.std.proofs.Common.{slice_get, filter, drop, Option, Some, None, is_none, map, ◌&&◌, MatchOption, ◌≡◌, ◌≢◌, ℕ, suc, ◌<◌, ◌≤◌, ◌⊎◌, Bool, true, false, List, [], ◌∷◌, length, refl, sym, ◌∙◌, ap, arith, inl, inr}
+use Rattle.kt_sched.proofs.Common.{⊤, list_all, cases_lt, Role, Body, Cleanup, Job, Stage, Waiting, Decided, Running, Owing, Cleaning, Finished, Taken, Case, Event, of, Mark, BodyStarted, BodyEnded, CleanupStarted, mark_of, end_mark, history, is_whole, has_whole_history, active, next_to_start, turns, owed, IsBusy, Fed, role_runs, runs, stage_runs, SchedState, Stands, CaseStands, IsStage, is_active_stage, is_undecided}
 use Rattle.kt_sched.proofs.Lists.{within_some, counted_some}
 use Rattle.kt_sched.proofs.Turns.{turn_covers}
 use Rattle.kt_sched.proofs.Stages.{whole_quiet, active_is, at_turn}

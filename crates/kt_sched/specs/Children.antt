@@ -1,13 +1,13 @@
 -- Which children of a launcher run, and which cleanups are pending.
 use Rattle.std.specs.Prelude.{ℕ, Bool, true, false, ◌==◌, ◌&&◌, ◌≡◌, Option, Some, None, ⊤, if◌then◌else◌}
-use Rattle.kt_base.specs.declared.role.Role.{Role}
-use Rattle.kt_base.specs.declared.role.Role.TheVariants.{Body, Cleanup}
+use Rattle.kt_base.specs.declared.child.Role.{Role}
+use Rattle.kt_base.specs.declared.child.Role.TheVariants.{Body, Cleanup}
 use Rattle.kt_sched.specs.declared.job.Job.{Job}
-use Rattle.kt_sched.specs.declared.start_answer.StartAnswer.{StartAnswer}
-use Rattle.kt_sched.specs.declared.start_answer.StartAnswer.TheVariants.{Started, Refused}
-use Rattle.kt_sched.specs.declared.ended.Ended.{Ended}
-use Rattle.kt_base.specs.declared.interface.Interface.{Interface}
-use Rattle.kt_base.specs.declared.interface.Interface.TheVariants as interface
+use Rattle.kt_sched.specs.declared.job.StartAnswer.{StartAnswer}
+use Rattle.kt_sched.specs.declared.job.StartAnswer.TheVariants.{Started, Refused}
+use Rattle.kt_sched.specs.declared.job.Ended.{Ended}
+use Rattle.kt_base.specs.declared.child.Interface.{Interface}
+use Rattle.kt_base.specs.declared.child.Interface.TheVariants as interface
 use Rattle.kt_claim.specs.declared.evidence.Evidence.{Evidence}
 use Rattle.kt_claim.specs.declared.evidence.Evidence.TheVariants as evidence
 

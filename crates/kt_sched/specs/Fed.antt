@@ -1,12 +1,12 @@
 -- The answers that a scheduler got so far, and those that it may get next.
 use Rattle.std.specs.Prelude.{ℕ, Bool, true, false, List, [], ◌∷◌, ◌≡◌, ◌+◌, Option, Some, None, is_some, ⊤}
-use Rattle.kt_base.specs.declared.role.Role.{Role}
-use Rattle.kt_base.specs.declared.role.Role.TheVariants.{Body, Cleanup}
-use Rattle.kt_sched.specs.declared.start_answer.StartAnswer.TheVariants as told
+use Rattle.kt_base.specs.declared.child.Role.{Role}
+use Rattle.kt_base.specs.declared.child.Role.TheVariants.{Body, Cleanup}
+use Rattle.kt_sched.specs.declared.job.StartAnswer.TheVariants as told
 use Rattle.kt_sched.specs.declared.next.Next.{Next}
 use Rattle.kt_sched.specs.declared.next.Next.TheVariants as next
-use Rattle.kt_sched.specs.declared.answer.Answer.{Answer}
-use Rattle.kt_sched.specs.declared.answer.Answer.TheVariants as answer
+use Rattle.kt_sched.specs.declared.next.Answer.{Answer}
+use Rattle.kt_sched.specs.declared.next.Answer.TheVariants as answer
 use Rattle.kt_sched.specs.Trace.{Start, End, Trace, NoEvent, Then, event_count}
 use Rattle.kt_sched.specs.History.{Mark, BodyStarted, BodyEnded, CleanupStarted, history}
 

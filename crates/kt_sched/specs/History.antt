@@ -1,11 +1,11 @@
 -- Histories: what the events of one case say, and which of them are whole.
 use Rattle.std.specs.Prelude.{ℕ, Bool, true, false, List, [], ◌∷◌, ◌&&◌, not, map, count_by, is_some, is_none}
 use Rattle.std.specs.List.{list_any}
-use Rattle.kt_base.specs.declared.role.Role.{Role}
-use Rattle.kt_base.specs.declared.role.Role.TheVariants.{Body, Cleanup}
+use Rattle.kt_base.specs.declared.child.Role.{Role}
+use Rattle.kt_base.specs.declared.child.Role.TheVariants.{Body, Cleanup}
 use Rattle.kt_sched.specs.declared.job.Job.{Job}
-use Rattle.kt_sched.specs.declared.start_answer.StartAnswer.{StartAnswer}
-use Rattle.kt_sched.specs.declared.start_answer.StartAnswer.TheVariants.{Started, Refused}
+use Rattle.kt_sched.specs.declared.job.StartAnswer.{StartAnswer}
+use Rattle.kt_sched.specs.declared.job.StartAnswer.TheVariants.{Started, Refused}
 use Rattle.kt_sched.specs.Trace.{Event, Start, End, Trace, of}
 
 -- what an event says of its case

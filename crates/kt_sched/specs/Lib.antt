@@ -1,3 +1,4 @@
+pub mod Common
 pub mod Plan
 pub mod Moments
 pub mod Children

@@ -1,19 +1,19 @@
 -- The scheduler's state, and what it stands for.
 use Rattle.std.specs.Prelude.{ℕ, Bool, true, false, List, [], ◌∷◌, ◌++◌, ◌==◌, ◌≡◌, ◌≢◌, ◌<◌, ◌≤◌, ◌⊎◌, Option, Some, None, map, take, drop, filter, nat_lt, count_by, sum_by, length, slice_get, is_some, is_none, ⊤, if◌then◌else◌}
-use Rattle.kt_base.specs.declared.role.Role.TheVariants.{Body, Cleanup}
+use Rattle.kt_base.specs.declared.child.Role.TheVariants.{Body, Cleanup}
 use Rattle.kt_base.specs.Verdicts.{Judged}
 use Rattle.kt_base.specs.declared.entry.Entry.{Entry}
 use Rattle.kt_sched.specs.declared.job.Job.{Job}
-use Rattle.kt_sched.specs.declared.start_answer.StartAnswer.TheVariants as told
-use Rattle.kt_sched.specs.declared.ended.Ended.{Ended}
+use Rattle.kt_sched.specs.declared.job.StartAnswer.TheVariants as told
+use Rattle.kt_sched.specs.declared.job.Ended.{Ended}
 use Rattle.kt_sched.specs.declared.next.Next.{Next}
 use Rattle.kt_sched.specs.declared.next.Next.TheVariants as next
-use Rattle.kt_sched.specs.declared.answer.Answer.{Answer}
+use Rattle.kt_sched.specs.declared.next.Answer.{Answer}
 use Rattle.kt_sched.specs.declared.stage.Stage.{Stage}
 use Rattle.kt_sched.specs.declared.stage.Stage.TheVariants.{Waiting, Decided, Running, Owing, Cleaning, Finished, Taken}
-use Rattle.kt_sched.specs.declared.case.Case.{Case}
-use Rattle.kt_sched.specs.declared.case_record.CaseRecord.{CaseRecord}
-use Rattle.kt_sched.specs.declared.ended_body.EndedBody.{EndedBody}
+use Rattle.kt_sched.specs.declared.stage.Case.{Case}
+use Rattle.kt_sched.specs.declared.stage.CaseRecord.{CaseRecord}
+use Rattle.kt_sched.specs.declared.stage.EndedBody.{EndedBody}
 use Rattle.kt_status.specs.Tables.{IsVerdict}
 use Rattle.kt_sched.specs.Trace.{Event, Start, End, Trace, of}
 use Rattle.kt_sched.specs.History.{mark_of, is_whole}

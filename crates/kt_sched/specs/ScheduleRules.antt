@@ -1,8 +1,8 @@
 -- The rules of the schedule, as facts on each event and the events before it.
 use Rattle.std.specs.Prelude.{ℕ, Bool, true, false, List, [], ◌&&◌, ◌||◌, ◌≡◌, ◌<◌, ◌⊎◌, Option, Some, None, map, take, length, slice_get, IfSome, MatchOption, if◌then◌else◌, ⊤}
 use Rattle.std.specs.List.{list_all}
-use Rattle.kt_base.specs.declared.role.Role.{Role}
-use Rattle.kt_base.specs.declared.role.Role.TheVariants.{Body, Cleanup}
+use Rattle.kt_base.specs.declared.child.Role.{Role}
+use Rattle.kt_base.specs.declared.child.Role.TheVariants.{Body, Cleanup}
 use Rattle.kt_sched.specs.declared.job.Job.{Job}
 use Rattle.kt_sched.specs.Children.{same_role}
 use Rattle.kt_sched.specs.Trace.{Event, Start, End, Trace, NoEvent, Then, of, first}

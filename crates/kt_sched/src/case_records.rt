@@ -1,12 +1,8 @@
 ghost use Rattle.std.specs.Prelude.{◌≡◌};
-ghost use Rattle.kt_sched.specs.SchedState.{decided_record, ended_body};
-ghost use Rattle.kt_status.specs.Tables.{IsVerdict, IsVerdictAfter, IsVerdictOfRefusal};
-ghost use Rattle.kt_sched.specs.Inner.Cases.{record_of, plain_record};
-ghost use Rattle.kt_sched.specs.EntryOf.{no_output};
+ghost use Rattle.kt_sched.specs.Common.{decided_record, ended_body, IsVerdict, IsVerdictAfter, IsVerdictOfRefusal, record_of, plain_record, no_output};
 
-use crate::case_record::CaseRecord;
-use crate::ended::Ended;
-use crate::ended_body::EndedBody;
+use crate::Ended;
+use crate::stage::{CaseRecord, EndedBody};
 use kt_base::{Bytes, Output, Refused, Verdict};
 use kt_status::{CleanupEnd, body_verdict, refused_verdict, with_cleanup};
 use std::alloc::Global;

@@ -1,7 +1,7 @@
 ghost use Rattle.std.specs.Prelude.{◌≡◌, ◌-◌, ◌^◌};
-ghost use Rattle.kt_sched.specs.Inner.Answers.{CanCount, counted};
+ghost use Rattle.kt_sched.specs.Common.{CanCount, counted};
 
-use crate::totals::Totals;
+use crate::Totals;
 use kt_base::Kind;
 
 /// The totals with one more entry.

@@ -1,4 +1,11 @@
-use kt_base::{Interface, Text, Variables, Verdict};
+use kt_base::{Interface, Outcome, Output, Refused, Role, Text, Variables, Verdict};
+use kt_claim::Evidence;
+
+/// The most cases that may be active at once (this profile).
+pub const MAX_WIDTH: u32 = 256;
+
+/// The longest time that a case is given, in seconds (this profile).
+pub const MAX_TIMEOUT: u32 = 1_000_000;
 
 /// One test case of a plan.
 #[derive(Debug, Drop)]
@@ -21,4 +28,25 @@ pub struct Job {
     pub decided: Option<Verdict>,
     /// What the case declares, as names with values. Its entry has them too.
     pub meta: Variables,
+}
+
+/// The answer of a launcher to a start.
+#[derive(Clone, Copy, Debug, PartialEq, Eq)]
+pub enum StartAnswer {
+    /// With the moment, in milliseconds since 1970 in UTC.
+    Started(u64),
+    Refused(Refused),
+}
+
+/// The end of a child that a launcher started.
+#[derive(Debug, Drop)]
+pub struct Ended {
+    pub position: u32,
+    pub role: Role,
+    pub outcome: Outcome,
+    /// Of the job's interface; `Plain` for a cleanup, where it is not used.
+    pub evidence: Evidence,
+    pub output: Output,
+    /// In milliseconds since 1970 in UTC.
+    pub moment: u64,
 }

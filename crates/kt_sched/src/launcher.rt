@@ -1,15 +1,13 @@
-use crate::ended::Ended;
-use crate::job::Job;
-use crate::start_answer::StartAnswer;
+use crate::{Ended, Job, StartAnswer};
 use kt_base::Role;
 
 /// Starts children and waits for them. Each answer leads it from one state to the next; it keeps no history.
 pub trait Launcher {
     ghost use Rattle.std.specs.Prelude.{ℕ, Bool, ◌≡◌, Option, Some};
-    ghost use Rattle.kt_base.specs.declared.role.Role.{Role};
+    ghost use Rattle.kt_base.specs.declared.child.Role.{Role};
     ghost use Rattle.kt_sched.specs.declared.job.Job.{Job};
-    ghost use Rattle.kt_sched.specs.declared.start_answer.StartAnswer.{StartAnswer};
-    ghost use Rattle.kt_sched.specs.declared.ended.Ended.{Ended};
+    ghost use Rattle.kt_sched.specs.declared.job.StartAnswer.{StartAnswer};
+    ghost use Rattle.kt_sched.specs.declared.job.Ended.{Ended};
     ghost use Rattle.kt_sched.specs.Children.{Child, MayStart, IsEvidence, running_after_start, running_after_end, pending_after_start, pending_after_end};
     ghost use Rattle.kt_base.specs.Moments.{IsMoment};
     ghost use Rattle.kt_sched.specs.Moments.{HasMoment};

@@ -1,20 +1,8 @@
-ghost use Rattle.kt_sched.specs.Children.{IsIdle};
-ghost use Rattle.kt_sched.specs.Plan.{IsPlan, IsWidth};
-ghost use Rattle.kt_sched.specs.Inner.Answers.{answer_of};
-ghost use Rattle.kt_sched.specs.Run.{Ran};
 ghost use Rattle.std.specs.Prelude.{◌≡◌};
+ghost use Rattle.kt_sched.specs.Common.{IsIdle, IsPlan, IsWidth, answer_of, Ran};
 
-use crate::answer::Answer;
 use crate::count::counted;
-use crate::job::Job;
-use crate::launcher::Launcher;
-use crate::next::Next;
-use crate::run_fault::RunFault;
-use crate::sched::Sched;
-use crate::sink::Sink;
-use crate::sink_fault::SinkFault;
-use crate::start_answer::StartAnswer;
-use crate::totals::Totals;
+use crate::{Answer, Job, Launcher, Next, RunFault, Sched, Sink, SinkFault, StartAnswer, Totals};
 use kt_base::Items;
 use std::alloc::Global;
 

@@ -1,7 +1,7 @@
 ghost use Rattle.std.specs.Prelude.{◌≡◌};
 ghost use Rattle.kt_sched.specs.declared.run_fault.RunFault.TheVariants as fault;
 
-use crate::sink_fault::SinkFault;
+use crate::SinkFault;
 use kt_base::NoMemory;
 use thiserror::Error;
 

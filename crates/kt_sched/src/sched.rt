@@ -1,19 +1,15 @@
 ghost use Rattle.std.specs.Prelude.{◌≡◌};
-ghost use Rattle.kt_sched.specs.Inner.Cases.{unless};
+ghost use Rattle.kt_sched.specs.Common.{unless};
 
-use crate::answer::Answer;
-use crate::case::Case;
 use crate::case_records::{
     cleaned_record, ended_body, plain_record, refused_record, uncleaned_record,
 };
-use crate::ended::Ended;
-use crate::job::Job;
-use crate::next::Next;
 use crate::setup::{first_cases, turn_order};
-use crate::stage::Stage;
+use crate::stage::{Case, Stage};
 use crate::table::{
     declares_cleanup, is_decided, is_exclusive, replace_stage, running_since, take_body, take_entry,
 };
+use crate::{Answer, Ended, Job, Next};
 use kt_base::{Entry, Items, NoMemory, Refused, Role};
 use std::alloc::Global;
 use std::marker::Model;
@@ -69,22 +65,9 @@ impl Model for Sched {
 
 impl Sched {
     ghost use Rattle.std.specs.Prelude.{ℕ, List, length, ◌^◌, Some, slice_get, IfOk, ◌<◌, ◌+◌, true, false};
-    ghost use Rattle.kt_sched.specs.declared.job.Job.{Job};
-    ghost use Rattle.kt_sched.specs.declared.next.Next.{Next};
-    ghost use Rattle.kt_sched.specs.Trace.{Start, End, event_count};
-    ghost use Rattle.kt_sched.specs.declared.case.Case.{Case};
-    ghost use Rattle.kt_sched.specs.declared.start_answer.StartAnswer.TheVariants as told;
-    ghost use Rattle.kt_base.specs.declared.role.Role.{Role};
-    ghost use Rattle.kt_base.specs.declared.role.Role.TheVariants.{Body as TheBody, Cleanup as TheCleanup};
-    ghost use Rattle.kt_sched.specs.Plan.{IsPlan, IsWidth};
-    ghost use Rattle.kt_sched.specs.Inner.Answers.{with_event};
-    ghost use Rattle.kt_sched.specs.Fed.{Fed, fed_after, nothing_fed};
-    ghost use Rattle.kt_sched.specs.Next.{IsNext, Follows};
-    ghost use Rattle.kt_sched.specs.EntryOf.{IsEntryOf};
-    ghost use Rattle.kt_sched.specs.Inner.Choice.{IsChosen, IsTurn};
-    ghost use Rattle.kt_sched.specs.Inner.Cases.{stage_runs};
-    ghost use Rattle.kt_sched.specs.SchedState.{SchedState, Stands, IsAnswer, IsSettled, HasRecord, CanLend, HoldsEntry, work_left, Works};
-    ghost use Rattle.kt_sched.specs.Inner.Cases.{RunsSince, Declares};
+    ghost use Rattle.kt_sched.specs.Common.{Job, Next, Start, End, event_count, Case, Role, IsPlan, IsWidth, with_event, Fed, fed_after, nothing_fed, IsNext, Follows, IsEntryOf, IsChosen, IsTurn, stage_runs, RunsSince, Declares, SchedState, Stands, IsAnswer, IsSettled, HasRecord, CanLend, HoldsEntry, work_left, Works};
+    ghost use Rattle.kt_sched.specs.declared.job.StartAnswer.TheVariants as told;
+    ghost use Rattle.kt_base.specs.declared.child.Role.TheVariants.{Body as TheBody, Cleanup as TheCleanup};
 
     /// The core before its first answer.
     pub fn new(alloc: Global, plan: Items<Job>, width: u32) -> Result<Sched, NoMemory>

@@ -1,12 +1,8 @@
 ghost use Rattle.std.specs.Prelude.{OnOk, ◌++◌, ◌≡◌, map, IfOk};
-ghost use Rattle.kt_sched.specs.TurnOrder.{turns};
-ghost use Rattle.kt_sched.specs.Inner.Cases.{first_case};
-ghost use Rattle.kt_sched.specs.SchedState.{positions};
-ghost use Rattle.kt_sched.specs.Inner.Cases.{positions_where};
+ghost use Rattle.kt_sched.specs.Common.{turns, first_case, positions_where, positions};
 
-use crate::case::Case;
-use crate::job::Job;
-use crate::stage::Stage;
+use crate::Job;
+use crate::stage::{Case, Stage};
 use kt_base::NoMemory;
 use std::alloc::Global;
 

@@ -1,12 +1,21 @@
-use crate::sink_fault::SinkFault;
 use kt_base::Entry;
+use thiserror::Error;
+
+/// Why an entry was not put.
+#[derive(Clone, Copy, Debug, PartialEq, Eq, Error)]
+pub enum SinkFault {
+    #[error("out of memory")]
+    Memory,
+    #[error("results store failed")]
+    Other,
+}
 
 /// Takes the entries, in the order in which they are recorded. How a sink keeps them is its own affair. A failed put
 /// leaves those that were put before.
 pub trait Sink {
     ghost use Rattle.std.specs.Prelude.{Result, OnErr, OnOk, ◌++◌, [], ◌∷◌, List};
     ghost use Rattle.kt_base.specs.declared.entry.Entry.{Entry};
-    ghost use Rattle.kt_sched.specs.declared.sink_fault.SinkFault.{SinkFault};
+    ghost use Rattle.kt_sched.specs.declared.sink.SinkFault.{SinkFault};
     ghost use Rattle.kt_base.specs.Moments.{IsStorable};
 
     /// Whether these are the entries that were put, in the order of the puts.

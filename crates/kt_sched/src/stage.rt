@@ -1,5 +1,5 @@
-use crate::case_record::CaseRecord;
-use crate::ended_body::EndedBody;
+use crate::Job;
+use kt_base::{Output, Verdict};
 
 /// The stage of a case.
 #[derive(Debug, Drop)]
@@ -18,4 +18,33 @@ pub enum Stage {
     Finished(CaseRecord),
     /// Its entry was taken.
     Taken,
+}
+
+/// The record of a case that is over: its entry without the names.
+#[derive(Debug, Drop)]
+pub struct CaseRecord {
+    pub verdict: Verdict,
+    /// In milliseconds since 1970 in UTC.
+    pub started: u64,
+    pub millis: u64,
+    pub body: Output,
+    pub cleanup: Output,
+}
+
+/// What is kept of a body that ended, if its case is not over.
+#[derive(Debug, Drop)]
+pub struct EndedBody {
+    /// In milliseconds since 1970 in UTC.
+    pub started: u64,
+    /// In milliseconds since 1970 in UTC.
+    pub ended: u64,
+    pub verdict: Verdict,
+    pub output: Output,
+}
+
+/// A job, and the stage of its case.
+#[derive(Debug, Drop)]
+pub struct Case {
+    pub job: Job,
+    pub stage: Stage,
 }

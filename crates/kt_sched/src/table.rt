@@ -1,13 +1,8 @@
 ghost use Rattle.std.specs.Prelude.{◌≡◌, ◌<◌, ℕ, length, Some, IsSome};
-ghost use Rattle.kt_sched.specs.declared.stage.Stage.TheVariants.{Taken};
-ghost use Rattle.kt_sched.specs.SchedState.{record_in, HasRecord, HasExclusive, HasDecided};
-ghost use Rattle.kt_sched.specs.Inner.Cases.{IsEntryFrom, KeepsNames, Replaced, HasBody, TookBody, RunsSince, Declares, TookEntry};
+ghost use Rattle.kt_sched.specs.Common.{Taken, record_in, HasRecord, HasExclusive, HasDecided, IsEntryFrom, KeepsNames, Replaced, HasBody, TookBody, RunsSince, Declares, TookEntry};
 
-use crate::case::Case;
-use crate::case_record::CaseRecord;
 use crate::case_records::decided_record;
-use crate::ended_body::EndedBody;
-use crate::stage::Stage;
+use crate::stage::{Case, CaseRecord, EndedBody, Stage};
 use kt_base::{Entry, Text, Variables};
 use std::alloc::Global;
 use std::mem;

@@ -1,11 +1,11 @@
 -- How answers are fed and entries counted.
 use Rattle.std.specs.Prelude.{ℕ, not, cond, ◌+◌, ◌≤◌}
-use Rattle.kt_base.specs.declared.kind.Kind.{Kind}
+use Rattle.kt_base.specs.declared.verdict.Kind.{Kind}
 use Rattle.kt_base.specs.Kinds.{good as is_good}
-use Rattle.kt_sched.specs.declared.start_answer.StartAnswer.{StartAnswer}
-use Rattle.kt_sched.specs.declared.start_answer.StartAnswer.TheVariants as told
-use Rattle.kt_sched.specs.declared.answer.Answer.{Answer}
-use Rattle.kt_sched.specs.declared.answer.Answer.TheVariants as answer
+use Rattle.kt_sched.specs.declared.job.StartAnswer.{StartAnswer}
+use Rattle.kt_sched.specs.declared.job.StartAnswer.TheVariants as told
+use Rattle.kt_sched.specs.declared.next.Answer.{Answer}
+use Rattle.kt_sched.specs.declared.next.Answer.TheVariants as answer
 use Rattle.kt_sched.specs.declared.totals.Totals.{Totals}
 use Rattle.kt_sched.specs.Trace.{Event, Then}
 use Rattle.kt_sched.specs.Fed.{Fed}

@@ -1,17 +1,17 @@
 -- What the steps of the core do to its cases.
 use Rattle.std.specs.Prelude.{ℕ, Bool, true, false, List, ◌++◌, ◌≡◌, ◌-◌, Option, Some, None, filter, map, drop, not, slice_get, slice_set, is_some, if◌then◌else◌}
 use Rattle.kt_base.specs.declared.entry.Entry.{Entry}
-use Rattle.kt_base.specs.declared.output.Output.{Output}
-use Rattle.kt_base.specs.declared.role.Role.{Role}
-use Rattle.kt_base.specs.declared.role.Role.TheVariants.{Body, Cleanup}
+use Rattle.kt_base.specs.declared.entry.Output.{Output}
+use Rattle.kt_base.specs.declared.child.Role.{Role}
+use Rattle.kt_base.specs.declared.child.Role.TheVariants.{Body, Cleanup}
 use Rattle.kt_base.specs.Verdicts.{Judged}
 use Rattle.kt_sched.specs.declared.job.Job.{Job}
-use Rattle.kt_sched.specs.declared.ended.Ended.{Ended}
+use Rattle.kt_sched.specs.declared.job.Ended.{Ended}
 use Rattle.kt_sched.specs.declared.stage.Stage.{Stage}
 use Rattle.kt_sched.specs.declared.stage.Stage.TheVariants.{Waiting, Decided, Running, Owing, Cleaning, Taken}
-use Rattle.kt_sched.specs.declared.case.Case.{Case}
-use Rattle.kt_sched.specs.declared.ended_body.EndedBody.{EndedBody}
-use Rattle.kt_sched.specs.declared.case_record.CaseRecord.{CaseRecord}
+use Rattle.kt_sched.specs.declared.stage.Case.{Case}
+use Rattle.kt_sched.specs.declared.stage.EndedBody.{EndedBody}
+use Rattle.kt_sched.specs.declared.stage.CaseRecord.{CaseRecord}
 use Rattle.kt_sched.specs.EntryOf.{no_output}
 use Rattle.kt_sched.specs.SchedState.{entry_with, record_in}
 

@@ -1,9 +1,9 @@
 -- Which case has its turn, and what is chosen.
 use Rattle.std.specs.Prelude.{ℕ, true, ◌≡◌, ◌<◌, ◌≤◌, ◌⊎◌, List, length, slice_get, Option, Some, None}
-use Rattle.kt_base.specs.declared.role.Role.TheVariants.{Body, Cleanup}
+use Rattle.kt_base.specs.declared.child.Role.TheVariants.{Body, Cleanup}
 use Rattle.kt_sched.specs.declared.next.Next.{Next}
 use Rattle.kt_sched.specs.declared.next.Next.TheVariants as next
-use Rattle.kt_sched.specs.declared.case.Case.{Case}
+use Rattle.kt_sched.specs.declared.stage.Case.{Case}
 use Rattle.kt_sched.specs.SchedState.{SchedState, HasExclusive, HasTurn}
 
 -- a case that is exclusive

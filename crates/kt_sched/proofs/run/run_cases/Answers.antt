@@ -1,21 +1,11 @@
-use Rattle.std.proofs.Common.{◌+◌, sym, ◌∙◌, ap, subst}
-use Rattle.std.specs.Prelude.{Option, Some, None, Result}
-use Rattle.kt_sched.specs.declared.next.Next.{Next}
-use Rattle.kt_sched.specs.declared.answer.Answer.TheVariants as answer
-use Rattle.kt_sched.specs.declared.sink_fault.SinkFault.{SinkFault}
-use Rattle.kt_sched.specs.declared.totals.Totals.{Totals}
+use Rattle.std.proofs.Common.{◌+◌, sym, ◌∙◌, ap, subst, Option, Some, None, Result}
+use Rattle.kt_sched.proofs.Common.{Next, SinkFault, Totals, Start, End, event_count, MayStart, child_of, with_event, Fed, IsAnswerTo, fed_after, nothing_fed, Stands, counted, Ran}
 use Rattle.kt_sched.specs.declared.run_fault.RunFault.{RunFault}
-use Rattle.kt_sched.specs.Trace.{Start, End, event_count}
-use Rattle.kt_sched.specs.Children.{MayStart, child_of}
-use Rattle.kt_sched.specs.Inner.Answers.{with_event}
-use Rattle.kt_sched.specs.Fed.{Fed, IsAnswerTo, fed_after, nothing_fed}
-use Rattle.kt_sched.specs.SchedState.{Stands}
-use Rattle.kt_sched.specs.Inner.Answers.{counted}
-use Rattle.kt_sched.specs.Run.{Ran}
+use Rattle.std.proofs.lemmas.Result.{err_from_is_err_and}
+use Rattle.kt_sched.specs.declared.next.Answer.TheVariants as answer
 use Rattle.kt_sched.proofs.Runs.{child_runs}
 use Rattle.kt_sched.proofs.Goes.{may_start, goes_start, goes_end, goes_stored, goes_failed, goes_first, fed_start, ended_one}
 use Rattle.kt_sched.proofs.Gaining.{Gained, gained_event, gained_put, gained_failed, gained_first, room_to_count, start_not_whole, end_not_whole, nothing_due}
-use Rattle.std.proofs.lemmas.Result.{err_from_is_err_and}
 use Rattle.kt_sched.proofs.Returns.{ran_not, ran_well, ran_short, goes_idle}
 use Rattle.kt_sched.proofs.Storing.{storable_entry}
 use Rattle.kt_sched.proofs.run.run_cases.Goals as goal

@@ -1,7 +1,6 @@
 use Rattle.std.proofs.Common.{◌≡◌}
+use Rattle.kt_sched.proofs.Common.{Fed, Stands, work_left}
 use Rattle.kt_sched.specs.declared.next.Next.TheVariants as next
-use Rattle.kt_sched.specs.Fed.{Fed}
-use Rattle.kt_sched.specs.SchedState.{Stands, work_left}
 use Rattle.kt_sched.proofs.Going.{Going}
 use Rattle.kt_sched.proofs.Gaining.{Gained}
 use Rattle.kt_sched.proofs.run.run_cases.Given as goal

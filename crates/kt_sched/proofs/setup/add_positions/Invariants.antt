@@ -1,5 +1,5 @@
 use Rattle.std.proofs.Common.{length, ◌-◌}
-use Rattle.kt_sched.specs.Inner.Cases.{GoneThrough}
+use Rattle.kt_sched.proofs.Common.{GoneThrough}
 use Rattle.kt_sched.proofs.setup.add_positions.Given as goal
 
 -- the positions of the first jobs are added

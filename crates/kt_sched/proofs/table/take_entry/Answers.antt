@@ -1,6 +1,5 @@
 use Rattle.std.proofs.Common.{length, refl, ap}
-use Rattle.std.proofs.lemmas.Option.{slice_get_read, slice_get_within}
-use Rattle.kt_sched.specs.declared.stage.Stage.{Stage}
+use Rattle.kt_sched.proofs.Common.{slice_get_read, slice_get_within, Stage}
 use Rattle.kt_sched.proofs.table.take_entry.Goals as goal
 
 pub returns : goal.returns

@@ -1,7 +1,5 @@
 use Rattle.std.proofs.Common.{◌<◌, ℕ, sym, ◌∙◌, ap, subst, false}
-use Rattle.kt_sched.specs.SchedState.{SchedState, work, Stands}
-use Rattle.kt_sched.specs.Inner.Answers.{with_event}
-use Rattle.kt_sched.specs.Inner.Cases.{RunsSince, Declares}
+use Rattle.kt_sched.proofs.Common.{SchedState, work, Stands, with_event, RunsSince, Declares}
 use Rattle.kt_sched.proofs.BodyEnds.{body_finished}
 use Rattle.kt_sched.proofs.sched.Sched.body_finished.Goals as goal
 

@@ -1,10 +1,5 @@
-use Rattle.std.proofs.Common.{◌≡◌, ◌<◌, ℕ, sym, ◌∙◌, ap, subst, true}
-use Rattle.std.specs.Prelude.{slice_get, Some}
-use Rattle.kt_base.specs.declared.role.Role.TheVariants.{Cleanup}
-use Rattle.kt_sched.specs.declared.case.Case.{Case}
-use Rattle.kt_sched.specs.Inner.Cases.{stage_runs}
-use Rattle.kt_sched.specs.SchedState.{SchedState, work, Stands}
-use Rattle.kt_sched.specs.Inner.Answers.{with_event}
+use Rattle.std.proofs.Common.{◌≡◌, ◌<◌, ℕ, sym, ◌∙◌, ap, subst, true, slice_get, Some}
+use Rattle.kt_sched.proofs.Common.{Cleanup, Case, stage_runs, SchedState, work, Stands, with_event}
 use Rattle.kt_sched.proofs.Cleaning.{cleanup_ended}
 use Rattle.kt_sched.proofs.sched.Sched.cleanup_ended.Goals as goal
 

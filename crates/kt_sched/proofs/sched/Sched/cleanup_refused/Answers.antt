@@ -1,6 +1,5 @@
 use Rattle.std.proofs.Common.{◌<◌, ℕ, sym, ◌∙◌, ap, subst, arith}
-use Rattle.kt_sched.specs.SchedState.{SchedState, work, Stands}
-use Rattle.kt_sched.specs.Inner.Answers.{with_event}
+use Rattle.kt_sched.proofs.Common.{SchedState, work, Stands, with_event}
 use Rattle.kt_sched.proofs.Cleaning.{cleanup_refused}
 use Rattle.kt_sched.proofs.Located.{owing_active}
 use Rattle.kt_sched.proofs.sched.Sched.cleanup_refused.Goals as goal

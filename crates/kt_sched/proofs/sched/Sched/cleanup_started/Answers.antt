@@ -1,6 +1,5 @@
 use Rattle.std.proofs.Common.{◌<◌, ℕ, sym, ◌∙◌, ap, subst}
-use Rattle.kt_sched.specs.SchedState.{SchedState, work, Stands}
-use Rattle.kt_sched.specs.Inner.Answers.{with_event}
+use Rattle.kt_sched.proofs.Common.{SchedState, work, Stands, with_event}
 use Rattle.kt_sched.proofs.Cleaning.{cleanup_started}
 use Rattle.kt_sched.proofs.sched.Sched.cleanup_started.Goals as goal
 

@@ -1,8 +1,5 @@
-use Rattle.std.proofs.Common.{◌≡◌, sym, subst, true}
-use Rattle.std.specs.Prelude.{slice_get, Some}
-use Rattle.kt_sched.specs.declared.case.Case.{Case}
-use Rattle.kt_sched.specs.Inner.Cases.{stage_runs}
-use Rattle.kt_sched.specs.SchedState.{SchedState}
+use Rattle.std.proofs.Common.{◌≡◌, sym, subst, true, slice_get, Some}
+use Rattle.kt_sched.proofs.Common.{Case, stage_runs, SchedState}
 use Rattle.kt_sched.proofs.Begin.{runs_since}
 use Rattle.kt_sched.proofs.sched.Sched.ended.Goals as goal
 

@@ -1,9 +1,6 @@
 use Rattle.std.proofs.Common.{sym, ◌∙◌, ap, subst}
-use Rattle.kt_sched.specs.declared.next.Next.{Next}
-use Rattle.kt_sched.specs.declared.answer.Answer.{Answer}
+use Rattle.kt_sched.proofs.Common.{Next, Answer, SchedState, IsAnswerTo}
 use Rattle.kt_sched.specs.declared.next.Next.TheVariants as next
-use Rattle.kt_sched.specs.SchedState.{SchedState}
-use Rattle.kt_sched.specs.Fed.{IsAnswerTo}
 use Rattle.kt_sched.proofs.Words.{runs_stage}
 use Rattle.kt_sched.proofs.sched.Sched.feed.Goals as goal
 

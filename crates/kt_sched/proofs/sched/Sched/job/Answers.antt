@@ -1,9 +1,5 @@
-use Rattle.std.proofs.Common.{◌≡◌, ◌≢◌, length, refl, sym, ◌∙◌, ap, subst}
-use Rattle.std.specs.Prelude.{slice_get, Some}
-use Rattle.std.proofs.lemmas.Option.{slice_get_read, slice_get_within}
-use Rattle.kt_sched.specs.declared.stage.Stage.TheVariants.{Taken}
-use Rattle.kt_sched.specs.declared.case.Case.{Case}
-use Rattle.kt_sched.specs.SchedState.{SchedState, Stands}
+use Rattle.std.proofs.Common.{◌≡◌, ◌≢◌, length, refl, sym, ◌∙◌, ap, subst, slice_get, Some}
+use Rattle.kt_sched.proofs.Common.{slice_get_read, slice_get_within, Taken, Case, SchedState, Stands}
 use Rattle.kt_sched.proofs.EventSteps.{some_same}
 use Rattle.kt_sched.proofs.Words.{job_is}
 use Rattle.kt_sched.proofs.sched.Sched.job.Goals as goal

@@ -1,10 +1,5 @@
-use Rattle.std.proofs.Common.{List, ap, ◌∙◌, arith}
-use Rattle.std.specs.Prelude.{map}
-use Rattle.kt_sched.specs.declared.job.Job.{Job}
-use Rattle.kt_sched.specs.TurnOrder.{turns}
-use Rattle.kt_sched.specs.Inner.Cases.{first_case}
-use Rattle.kt_sched.specs.SchedState.{positions}
-use Rattle.kt_sched.specs.Fed.{nothing_fed}
+use Rattle.std.proofs.Common.{List, ap, ◌∙◌, arith, map}
+use Rattle.kt_sched.proofs.Common.{Job, turns, first_case, positions, nothing_fed}
 use Rattle.kt_sched.proofs.Begin.{new_stands, stands_first}
 use Rattle.kt_sched.proofs.sched.Sched.new.Goals as goal
 

@@ -1,8 +1,6 @@
 use Rattle.std.proofs.Common.{sym, subst}
-use Rattle.kt_sched.specs.declared.next.Next.{Next}
+use Rattle.kt_sched.proofs.Common.{Next, IsChosen, SchedState, Stands, IsSettled}
 use Rattle.kt_sched.specs.declared.next.Next.TheVariants as next
-use Rattle.kt_sched.specs.Inner.Choice.{IsChosen}
-use Rattle.kt_sched.specs.SchedState.{SchedState, Stands, IsSettled}
 use Rattle.kt_sched.proofs.Choice.{is_next}
 use Rattle.kt_sched.proofs.Only.{only_next}
 use Rattle.kt_sched.proofs.Following.{follows, untaken_start, stands_asked}

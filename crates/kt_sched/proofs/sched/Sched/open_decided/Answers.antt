@@ -1,5 +1,5 @@
 use Rattle.std.proofs.Common.{sym, subst}
-use Rattle.kt_sched.specs.SchedState.{SchedState, Stands, HasTurn, HasDecided, HasRecord}
+use Rattle.kt_sched.proofs.Common.{SchedState, Stands, HasTurn, HasDecided, HasRecord}
 use Rattle.kt_sched.proofs.Turns.{some_is}
 use Rattle.kt_sched.proofs.Located.{start_within}
 use Rattle.kt_sched.proofs.Opened.{stands_opened, told_now}

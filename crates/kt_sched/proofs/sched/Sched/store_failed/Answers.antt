@@ -1,7 +1,5 @@
-use Rattle.std.proofs.Common.{sym, ◌∙◌, ap, subst}
-use Rattle.std.specs.Prelude.{Some}
-use Rattle.kt_sched.specs.Trace.{event_count}
-use Rattle.kt_sched.specs.SchedState.{SchedState, Stands}
+use Rattle.std.proofs.Common.{sym, ◌∙◌, ap, subst, Some}
+use Rattle.kt_sched.proofs.Common.{event_count, SchedState, Stands}
 use Rattle.kt_sched.proofs.Puts.{store_failed}
 use Rattle.kt_sched.proofs.sched.Sched.store_failed.Goals as goal
 

@@ -1,5 +1,5 @@
 use Rattle.std.proofs.Common.{sym, ◌∙◌, ap, subst, ◌+◌}
-use Rattle.kt_sched.specs.SchedState.{SchedState, Stands}
+use Rattle.kt_sched.proofs.Common.{SchedState, Stands}
 use Rattle.kt_sched.proofs.Puts.{stored}
 use Rattle.kt_sched.proofs.sched.Sched.stored.Goals as goal
 

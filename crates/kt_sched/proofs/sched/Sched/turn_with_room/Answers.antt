@@ -1,9 +1,5 @@
-use Rattle.std.proofs.Common.{◌<◌, length, refl, subst, arith, inl, inr}
-use Rattle.std.proofs.lemmas.Bool.Decides.{nat_tests}
-use Rattle.std.specs.Prelude.{slice_get, Some, Option}
-use Rattle.std.proofs.lemmas.Option.{slice_get_read}
-use Rattle.kt_sched.specs.Inner.Choice.{IsTurn}
-use Rattle.kt_sched.specs.SchedState.{SchedState, HasExclusive}
+use Rattle.std.proofs.Common.{◌<◌, length, refl, subst, arith, inl, inr, slice_get, Some, Option}
+use Rattle.kt_sched.proofs.Common.{nat_tests, slice_get_read, IsTurn, SchedState, HasExclusive}
 use Rattle.kt_sched.proofs.Located.{start_within}
 use Rattle.kt_sched.proofs.sched.Sched.turn_with_room.Goals as goal
 

@@ -1,0 +1,44 @@
+-- The names that most proofs of this crate cite, passed on from one place. Declares nothing.
+pub use Rattle.std.proofs.lemmas.Bool.{cases_eq, cases_lt}
+pub use Rattle.std.proofs.lemmas.Bool.Decides.{nat_tests}
+pub use Rattle.std.proofs.lemmas.List.{drop-append-le, length-set, map-append, take-append-drop, take-append-le}
+pub use Rattle.std.proofs.lemmas.List.Elements.{filter-append}
+pub use Rattle.std.proofs.lemmas.List.Sums.{count_by-le-length, length-filter, sum_by-cons}
+pub use Rattle.std.proofs.lemmas.Option.{slice_get-map, slice_get_read, slice_get_within}
+pub use Rattle.std.specs.List.{list_all, list_any}
+pub use Rattle.std.specs.Option.{option_map}
+pub use Rattle.std.specs.Prelude.{⊤}
+pub use Rattle.kt_base.specs.Moments.{IsMoment, IsStorable}
+pub use Rattle.kt_base.specs.Verdicts.{Judged}
+pub use Rattle.kt_base.specs.declared.entry.Entry.{Entry}
+pub use Rattle.kt_base.specs.declared.child.Role.{Role}
+pub use Rattle.kt_base.specs.declared.child.Role.TheVariants.{Body, Cleanup}
+pub use Rattle.kt_status.specs.Tables.{IsVerdict, IsVerdictAfter, IsVerdictOfRefusal}
+pub use Rattle.kt_sched.specs.Children.{Child, IsEvidence, IsIdle, MayStart, child_of, pending_after_end, pending_after_start, running_after_end, running_after_start, same_role, with_cleanup_declared}
+pub use Rattle.kt_sched.specs.EntryOf.{AreEntries, Gains, IsEntry, IsEntryOf, cleaned, decided, ended, no_output, refused, uncleaned}
+pub use Rattle.kt_sched.specs.Fed.{Fed, IsAnswerTo, fed_after, has_failed, nothing_fed, role_runs, runs}
+pub use Rattle.kt_sched.specs.History.{BodyEnded, BodyRefused, BodyStarted, CleanupEnded, CleanupRefused, CleanupStarted, Mark, active, end_mark, has_whole_history, history, is_active, is_body_started, is_whole, mark_of, start_mark}
+pub use Rattle.kt_sched.specs.Inner.Answers.{CanCount, answer_of, counted, with_event}
+pub use Rattle.kt_sched.specs.Inner.Cases.{Declares, GoneThrough, Replaced, RunsSince, TookBody, TookEntry, body_in, first_case, first_stage, plain_record, record_of, since, stage_runs, unless}
+pub use Rattle.kt_sched.specs.Inner.Choice.{IsChosen, IsHeld, IsTurn}
+pub use Rattle.kt_sched.specs.Moments.{HasMoment}
+pub use Rattle.kt_sched.specs.Next.{AreWhole, Follows, IsNext, IsUpToDate, MayBegin}
+pub use Rattle.kt_sched.specs.Plan.{IsPlan, IsWidth}
+pub use Rattle.kt_sched.specs.RecordOrder.{Due, ahead, dues, finished_by, is_begun, is_open, put_at, recorded, was_open}
+pub use Rattle.kt_sched.specs.Run.{Counts, FailedPut, FitsAt, NamesEachOnce, Ran}
+pub use Rattle.kt_sched.specs.SchedState.{AreGone, CaseStands, HasDecided, HasExclusive, HasRecord, HasStarted, HasTurn, IsAsked, IsOrdinary, IsSettled, IsStage, IsUntaken, SchedState, Stands, decided_record, decided_record_of, ended_body, entry_with, is_active_stage, is_decided, is_decided_stage, is_fresh, is_undecided, listed, opened, positions, record_in, room_in, run_of, stage_work, work, work_left}
+pub use Rattle.kt_sched.specs.ScheduleRules.{AloneAt, AloneAtStart, BusyAt, Each, IsBusy, IsCleanupStart, IsQuiet, Legal, Order, PromptAt, Stopped, WidthAt, declares, owed}
+pub use Rattle.kt_sched.specs.Trace.{End, Event, Leads, NoEvent, Start, Then, Trace, event_count, first, of, position_of}
+pub use Rattle.kt_sched.specs.TurnOrder.{body_start_of, body_starts, next_to_start, turns, undecided_turns}
+pub use Rattle.kt_sched.specs.declared.next.Answer.{Answer}
+pub use Rattle.kt_sched.specs.declared.stage.Case.{Case}
+pub use Rattle.kt_sched.specs.declared.stage.CaseRecord.{CaseRecord}
+pub use Rattle.kt_sched.specs.declared.job.Ended.{Ended}
+pub use Rattle.kt_sched.specs.declared.stage.EndedBody.{EndedBody}
+pub use Rattle.kt_sched.specs.declared.job.Job.{Job}
+pub use Rattle.kt_sched.specs.declared.next.Next.{Next}
+pub use Rattle.kt_sched.specs.declared.sink.SinkFault.{SinkFault}
+pub use Rattle.kt_sched.specs.declared.stage.Stage.{Stage}
+pub use Rattle.kt_sched.specs.declared.stage.Stage.TheVariants.{Cleaning, Decided, Finished, Owing, Running, Taken, Waiting}
+pub use Rattle.kt_sched.specs.declared.job.StartAnswer.{StartAnswer}
+pub use Rattle.kt_sched.specs.declared.totals.Totals.{Totals}
