@@ -1,13 +1,10 @@
 -- Days counted from the first of January 1970.
-use Rattle.std.proofs.Common.{arith, ◌≡◌, ℕ, ◌<◌, ℤ, pos, ◌∙◌}
-use Rattle.std.specs.Prelude.{◌+ℤ◌, ◌-ℤ◌}
+use Rattle.std.proofs.Common.{arith, ◌≡◌, ℕ, ◌<◌, ℤ, pos, ◌∙◌, ◌+ℤ◌, ◌-ℤ◌}
+use Rattle.kt_report.proofs.Common.{Date, Day, IsOnly}
 use Rattle.jiff.proofs.SpanFacts.{signed_arith, date_add-days, can_add-days}
-use Rattle.jiff_core.specs.declared.civil.date.Date.{Date}
 use Rattle.jiff_core.specs.declared.span.Span.{Span}
-use Rattle.jiff_core.specs.declared.unit.Unit.TheVariants.{Day}
 use Rattle.jiff_core.specs.Calendar.{day_count, days_from_civil, IsEpochDay}
 use Rattle.jiff_core.specs.Date.{epoch_day}
-use Rattle.jiff_core.specs.Span.{IsOnly}
 use Rattle.jiff.specs.Words.{CanAddToDate, date_add}
 
 none : (n : ℕ) → pos n -ℤ pos n ≡ pos 0

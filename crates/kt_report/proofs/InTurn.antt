@@ -1,10 +1,6 @@
 -- Texts of items that are written one after the other.
-use Rattle.std.proofs.Common.{◌≡◌, ◌≤◌, ◌<◌, ◌+◌, ℕ, true, false, List, [], ◌++◌, length, take, drop, get_or, sym, ap, ◌∙◌, take-append-drop}
-use Rattle.std.specs.Prelude.{flat_map, Option}
-use Rattle.std.proofs.lemmas.Grind.{flat_map-append}
-use Rattle.std.proofs.lemmas.List.{take_all, take_more, flat_map_more}
-use Rattle.kt_base.proofs.Showing.{shows_as, shows_both, shows_more}
-use Rattle.kt_base.specs.Shows.{Shows}
+use Rattle.std.proofs.Common.{◌≡◌, ◌≤◌, ◌<◌, ◌+◌, ℕ, true, false, List, [], ◌++◌, length, take, drop, get_or, sym, ap, ◌∙◌, take-append-drop, flat_map, Option}
+use Rattle.kt_report.proofs.Common.{flat_map-append, take_all, take_more, flat_map_more, shows_as, shows_both, shows_more, Shows}
 
 -- those so far, and the next one
 one_more : {X : Type 0} (f : X → List ℕ) (xs : List X) (i : ℕ) (d : X) → i < length xs → flat_map f (take i xs) ++ f (get_or xs i d) ≡ flat_map f (take (i + 1) xs)

@@ -1,11 +1,6 @@
 -- The lines of entries, one by one.
-use Rattle.std.proofs.Common.{◌≡◌, ◌≢◌, ℕ, Bool, true, false, List, [], ◌∷◌, ◌++◌, length, refl, sym, ◌∙◌, append_assoc, append-nil}
-use Rattle.std.specs.Prelude.{flat_map, codes}
-use Rattle.std.specs.List.{list_any}
-use Rattle.kt_base.specs.declared.kind.Kind.{Kind}
-use Rattle.kt_base.specs.declared.entry.Entry.{Entry}
-use Rattle.kt_report.specs.Pairs.{entry_bytes}
-use Rattle.kt_report.specs.Texts.{same_kind, entries_of, title, titled, section}
+use Rattle.std.proofs.Common.{◌≡◌, ◌≢◌, ℕ, Bool, true, false, List, [], ◌∷◌, ◌++◌, length, refl, sym, ◌∙◌, append_assoc, append-nil, flat_map, codes}
+use Rattle.kt_report.proofs.Common.{list_any, Kind, Entry, entry_bytes, same_kind, entries_of, title, titled, section}
 
 pub lines_more : (v : Bool) (kind : Kind) (rest after : List Entry) (e : Entry) (told whole : List ℕ) → rest ≡ e ∷ after → same_kind kind e.verdict.kind ≡ true
     → told ++ flat_map (entry_bytes v) (entries_of kind rest) ≡ whole → (told ++ entry_bytes v e) ++ flat_map (entry_bytes v) (entries_of kind after) ≡ whole

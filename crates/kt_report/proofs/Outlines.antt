@@ -1,19 +1,8 @@
 -- What the outputs of entries don't change.
-use Rattle.std.specs.Prelude.{codes, flat_map, fold, if◌then◌else◌}
-use Rattle.std.specs.Fmt.{decimal}
-use Rattle.std.specs.List.{list_any}
-use Rattle.std.proofs.Common.{◌≡◌, ℕ, ◌+◌, Bool, true, false, cond, List, [], ◌∷◌, ◌++◌, length, map, refl, ap, ap₂, ◌∙◌}
-use Rattle.std.proofs.lemmas.List.{length-map}
-use Rattle.jiff_core.specs.declared.civil.date.Date.{Date}
-use Rattle.kt_base.specs.declared.entry.Entry.{Entry}
-use Rattle.kt_base.specs.declared.kind.Kind.{Kind}
-use Rattle.kt_base.specs.declared.kind.Kind.TheVariants.{Passed, Skipped, ExpectedFailure, Failed, Broken}
-use Rattle.kt_base.specs.declared.run.Run.{Run}
-use Rattle.kt_report.specs.Digits.{seconds}
-use Rattle.kt_report.specs.Junits.{heading}
+use Rattle.std.proofs.Common.{codes, flat_map, fold, if◌then◌else◌, ◌≡◌, ℕ, ◌+◌, Bool, true, false, cond, List, [], ◌∷◌, ◌++◌, length, map, refl, ap, ap₂, ◌∙◌}
+use Rattle.kt_report.proofs.Common.{decimal, list_any, length-map, Date, Entry, Kind, Passed, Skipped, ExpectedFailure, Failed, Broken, seconds, heading, entry_bytes, same_kind, is_of, entries_of, title, titled, section, sections, count_bytes, counts_bytes, started_bytes, text_bytes}
+use Rattle.kt_base.specs.declared.entry.Run.{Run}
 use Rattle.kt_report.specs.Outlines.{ChangesOutputs, with_entries}
-use Rattle.kt_report.specs.Pairs.{entry_bytes}
-use Rattle.kt_report.specs.Texts.{same_kind, is_of, entries_of, title, titled, section, sections, count_bytes, counts_bytes, started_bytes, text_bytes}
 
 module _ (change : Entry → Entry) (same : ChangesOutputs change) where
   of_kind : (kind : Kind) (es : List Entry) → entries_of kind (map change es) ≡ map change (entries_of kind es)

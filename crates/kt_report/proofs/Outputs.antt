@@ -1,10 +1,6 @@
 -- What a case printed, in XML.
-use Rattle.std.proofs.Common.{◌≡◌, ℕ, true, false, List, [], ◌∷◌, ◌++◌, length, refl, ap, nat_eq, arith}
-use Rattle.std.specs.Prelude.{codes}
-use Rattle.std.proofs.lemmas.Str.{length-le-encodes}
-use Rattle.std.proofs.lemmas.Bool.{eqb-true}
-use Rattle.kt_base.specs.Utf8.{utf8}
-use Rattle.kt_report.specs.Junits.{output_element}
+use Rattle.std.proofs.Common.{◌≡◌, ℕ, true, false, List, [], ◌∷◌, ◌++◌, length, refl, ap, nat_eq, arith, codes}
+use Rattle.kt_report.proofs.Common.{length-le-encodes, eqb-true, utf8, output_element}
 
 -- a text without characters has no bytes, and no other has none
 pub no_output : (name text bytes : List ℕ) → bytes ≡ utf8 text → nat_eq (length bytes) 0 ≡ true → [] ≡ output_element name text

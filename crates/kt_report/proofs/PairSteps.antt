@@ -1,12 +1,7 @@
 -- The line of an entry with its pairs.
-use Rattle.std.proofs.Common.{◌≡◌, ℕ, Bool, true, false, ap, List, ◌++◌, sym, ◌∙◌}
-use Rattle.std.specs.Prelude.{flat_map, Option}
-use Rattle.kt_base.specs.Shows.{Shows}
-use Rattle.kt_base.proofs.Showing.{shows_more}
+use Rattle.std.proofs.Common.{◌≡◌, ℕ, Bool, true, false, ap, List, ◌++◌, sym, ◌∙◌, flat_map, Option}
+use Rattle.kt_report.proofs.Common.{Shows, shows_more, Entry, line_bytes, pair_bytes, entry_bytes}
 use Rattle.kt_base.specs.declared.variable.Variable.{Variable}
-use Rattle.kt_base.specs.declared.entry.Entry.{Entry}
-use Rattle.kt_report.specs.Lines.{line_bytes}
-use Rattle.kt_report.specs.Pairs.{pair_bytes, entry_bytes}
 
 -- a line with the pairs beneath
 pub entry_with : (verbose : Bool) (e : Entry) (pairs : List Variable) → verbose ≡ true → pairs ≡ e.meta → line_bytes e ++ flat_map pair_bytes pairs ≡ entry_bytes verbose e

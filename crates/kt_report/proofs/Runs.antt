@@ -1,17 +1,10 @@
 -- Bytes that stand in XML as they are.
-use Rattle.std.proofs.Common.{◌≡◌, ℕ, ◌<◌, ◌≤◌, Bool, true, false, List, [], ◌∷◌, ◌++◌, length, take, drop, get_or, ◌+◌, ◌⊎◌, inl, inr, bytes_eq, refl, ap, ◌∙◌, sym, subst, append_assoc, length-append, take-append-drop, arith}
-use Rattle.std.specs.Prelude.{◌==◌, ◌&&◌, not, encode_utf8, encode_utf8_all}
-use Rattle.std.specs.List.{prefix_len}
-use Rattle.std.specs.Str.{chars, IsUtf8, IsCharBoundary}
+use Rattle.std.proofs.Common.{◌≡◌, ℕ, ◌<◌, ◌≤◌, Bool, true, false, List, [], ◌∷◌, ◌++◌, length, take, drop, get_or, ◌+◌, ◌⊎◌, inl, inr, bytes_eq, refl, ap, ◌∙◌, sym, subst, append_assoc, length-append, take-append-drop, arith, ◌==◌, ◌&&◌, not, encode_utf8, encode_utf8_all}
+use Rattle.kt_report.proofs.Common.{prefix_len, chars, IsUtf8, IsCharBoundary, get_or-append-add, get_or-take, length-take, nil_from_length, and_parts, false≢true, eqb-true, cases_lt, ne_eqb, nat_tests, flat_map-append, encode_ascii, chars-nil, chars-append, chars_past_char, encodes-chars, length-encode, len_utf8_bounds, IsUtf8-take, IsUtf8-drop, escaped, escapes}
 use lib.Utf8.{encode}
-use Rattle.std.proofs.lemmas.List.{get_or-append-add, append-nil, get_or-take, length-take, nil_from_length}
-use Rattle.std.proofs.lemmas.Bool.{and_parts, false≢true, eqb-true, cases_lt, ne_eqb}
-use Rattle.std.proofs.lemmas.Bool.Decides.{nat_tests}
-use Rattle.std.proofs.lemmas.Grind.{flat_map-append}
+use Rattle.std.proofs.lemmas.List.{append-nil}
 use Rattle.std.proofs.lemmas.List.Sums.{prefix_len-le-length, prefix_len_passes, prefix_len_stops}
 use Rattle.std.proofs.lemmas.Slice.Eq.{bytes_eq-Decides}
-use Rattle.std.proofs.lemmas.Str.{encode_ascii, chars-nil, chars-append, chars_past_char, encodes-chars, length-encode, len_utf8_bounds, IsUtf8-take, IsUtf8-drop}
-use Rattle.kt_report.specs.Escapes.{escaped, escapes}
 
 -- as `stands` answers
 abbrev pub stands : Bool → ℕ → Bool

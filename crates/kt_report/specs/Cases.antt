@@ -1,7 +1,7 @@
 -- The texts of a case as XML has them.
 use Rattle.std.specs.Prelude.{true, false, ◌++◌}
 use Rattle.kt_base.specs.declared.entry.Entry.{Entry}
-use Rattle.kt_base.specs.declared.output.Output.{Output}
+use Rattle.kt_base.specs.declared.entry.Output.{Output}
 use Rattle.kt_base.specs.Lossy.{lossy}
 use Rattle.kt_report.specs.declared.case_texts.CaseTexts.{CaseTexts}
 use Rattle.kt_report.specs.Escapes.{escapes}

@@ -1,7 +1,7 @@
 -- Runs of which the outputs aren't known.
 use Rattle.std.specs.Prelude.{◌≡◌, map}
 use Rattle.kt_base.specs.declared.entry.Entry.{Entry}
-use Rattle.kt_base.specs.declared.run.Run.{Run}
+use Rattle.kt_base.specs.declared.entry.Run.{Run}
 use Rattle.kt_report.specs.Cases.{with_outputs}
 
 -- no more than the outputs of an entry is changed

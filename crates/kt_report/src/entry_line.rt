@@ -1,8 +1,7 @@
 ghost use Rattle.std.specs.Prelude.{is_err};
-ghost use Rattle.kt_base.specs.Shows.{Shows};
-ghost use Rattle.kt_report.specs.Lines.{line_bytes, shown_reason};
+ghost use Rattle.kt_report.specs.Common.{Shows, line_bytes, shown_reason};
 
-use crate::digits::write_seconds;
+use crate::moments::write_seconds;
 use kt_base::{Entry, Kind, OutputFault, Verdict, emit, emit_all};
 use std::io::Write;
 
@@ -20,9 +19,8 @@ fn write_reason<W: Write>(verdict: &Verdict, out: &mut W) -> Result<(), OutputFa
     }
 }
 
-/// Writes the line of an entry: program and case, the outcome and its reason, and how long it took
-/// in seconds (this profile). It takes no memory. If a write failed, a proper prefix of the line
-/// was written.
+/// Writes the line of an entry: program and case, the outcome and its reason, and how long it took in seconds (this
+/// profile). It takes no memory. If a write failed, a proper prefix of the line was written.
 pub fn line<W: Write>(entry: &Entry, out: &mut W) -> Result<(), OutputFault>
     ensures { Shows (W.contents out.old) (W.contents out.new) (is_err result)
         (line_bytes entry.now) }

@@ -1,9 +1,5 @@
 ghost use Rattle.std.specs.Prelude.{◌≡◌, ◌<◌, [], ◌∷◌, ◌++◌, ◌==◌, ◌&&◌, not, false, bytes_eq, length, IfOk, OnOk, MatchOption};
-ghost use Rattle.std.specs.List.{prefix_len};
-ghost use Rattle.std.specs.Str.{chars};
-ghost use Rattle.kt_base.specs.Lossy.{lossy};
-ghost use Rattle.kt_report.specs.Cases.{case_texts, with_outputs};
-ghost use Rattle.kt_report.specs.Escapes.{escaped, escapes};
+ghost use Rattle.kt_report.specs.Common.{prefix_len, chars, lossy, case_texts, with_outputs, escaped, escapes};
 
 use crate::case_texts::CaseTexts;
 use kt_base::{Bytes, Entry, NoMemory, Output, Text, lossy};
@@ -62,8 +58,7 @@ fn run_length(attribute: bool, text: &[u8]) -> usize
         .count()
 }
 
-/// Appends the bytes that stand in XML as they are and the character that follows them, and returns
-/// the rest.
+/// Appends the bytes that stand in XML as they are and the character that follows them, and returns the rest.
 fn push_run<'a>(escaped: &mut Text, attribute: bool, text: &'a str) -> Result<&'a str, NoMemory>
     ensures text { IfOk result (λ rest. escaped.new ++ escapes attribute (chars rest.now)
         ≡ escaped.old ++ escapes attribute (chars text.now)) }

@@ -1,13 +1,10 @@
 ghost use Rattle.std.specs.Prelude.{◌≡◌, ◌++◌, false, is_err, flat_map, codes};
-ghost use Rattle.kt_base.specs.Utf8.{utf8};
-ghost use Rattle.kt_base.specs.Shows.{Shows};
-ghost use Rattle.kt_report.specs.Cases.{with_outputs};
-ghost use Rattle.kt_report.specs.Junits.{result_element, output_element, element, case_bytes, heading, ending, junit_bytes};
+ghost use Rattle.kt_report.specs.Common.{utf8, Shows, with_outputs, result_element, output_element, element, case_bytes, heading, ending, junit_bytes};
 
+use crate::ReportFault;
 use crate::case_texts::CaseTexts;
-use crate::digits::write_seconds;
 use crate::escaping::case_texts;
-use crate::report_fault::ReportFault;
+use crate::moments::write_seconds;
 use crate::summary::count_digits;
 use kt_base::{Decimal, Entry, Kind, Output, OutputFault, Run, Text, emit, emit_all};
 use std::alloc::Global;
@@ -72,8 +69,7 @@ fn write_element<W: Write>(
     emit(b"</testcase>\n", out)
 }
 
-/// Writes what stands in the JUnit report before the cases of a run. The outputs of its entries
-/// don't matter.
+/// Writes what stands in the JUnit report before the cases of a run. The outputs of its entries don't matter.
 pub fn junit_heading<W: Write>(run: &Run, out: &mut W) -> Result<(), OutputFault>
     ensures { Shows (W.contents out.old) (W.contents out.new) (is_err result) (heading run.now) }
 {
@@ -126,16 +122,15 @@ fn write_cases<W: Write>(alloc: Global, entries: &[Entry], out: &mut W) -> Resul
     Ok(())
 }
 
-/// Writes what stands in the JUnit report behind the cases.
+/// Writes what stands in the JUnit report after the cases.
 pub fn junit_end<W: Write>(out: &mut W) -> Result<(), OutputFault>
     ensures { Shows (W.contents out.old) (W.contents out.new) (is_err result) ending }
 {
     emit(b"</testsuite>\n", out)
 }
 
-/// Writes the JUnit report: a suite with a case for each recorded entry, by position (this
-/// profile). It takes memory for the texts of one entry at a time. After an error a proper prefix
-/// of the report was written.
+/// Writes the JUnit report: a suite with a case for each recorded entry, by position (this profile). It takes memory
+/// for the texts of one entry at a time. After an error a proper prefix of the report was written.
 pub fn junit<W: Write>(alloc: Global, run: &Run, out: &mut W) -> Result<(), ReportFault>
     ensures { Shows (W.contents out.old) (W.contents out.new) (is_err result)
         (junit_bytes run.now) }

@@ -2,11 +2,9 @@
 #![tactic(auto)]
 
 mod case_texts;
-mod digits;
 mod entry_line;
 mod escaping;
 mod junit_report;
-mod laws;
 mod moments;
 mod pairs;
 mod report_fault;
@@ -16,6 +14,5 @@ mod text_report;
 
 pub use entry_line::line;
 pub use junit_report::{junit, junit_case, junit_end, junit_heading};
-pub use laws::law_of_outlines;
 pub use report_fault::ReportFault;
-pub use text_report::text;
+pub use text_report::{law_of_outlines, text};

@@ -1,13 +1,47 @@
 ghost use Rattle.std.specs.Prelude.{◌≡◌, ◌<◌, pos, is_err};
-ghost use Rattle.jiff_core.specs.Date.{epoch_day};
-ghost use Rattle.kt_base.specs.Shows.{Shows};
-ghost use Rattle.kt_report.specs.Texts.{shown_moment, IsDateOf, clock_bytes, date_bytes, moment_bytes};
+ghost use Rattle.kt_report.specs.Common.{epoch_day, Shows, shown_moment, IsDateOf, clock_bytes, date_bytes, moment_bytes, digit, two_digits, three_digits, four_digits, seconds};
 
-use crate::digits::{four_digits, three_digits, two_digits};
 use jiff::ToSpan;
 use jiff::civil::{Date, date};
-use kt_base::{LATEST_MOMENT, OutputFault, emit, emit_all};
+use kt_base::{Decimal, LATEST_MOMENT, OutputFault, emit, emit_all};
 use std::io::Write;
+
+/// The last digit of a number.
+fn digit(n: u64) -> u8
+    ensures { result ≡ digit n }
+{
+    b'0' + (n % 10) as u8
+}
+
+/// The last two digits of a number.
+pub fn two_digits(n: u64) -> [u8; 2]
+    ensures { result ≡ two_digits n }
+{
+    [digit(n / 10), digit(n)]
+}
+
+/// The last three digits of a number.
+pub fn three_digits(n: u64) -> [u8; 3]
+    ensures { result ≡ three_digits n }
+{
+    [digit(n / 100), digit(n / 10), digit(n)]
+}
+
+/// The last four digits of a number.
+pub fn four_digits(n: u64) -> [u8; 4]
+    ensures { result ≡ four_digits n }
+{
+    [digit(n / 1000), digit(n / 100), digit(n / 10), digit(n)]
+}
+
+/// Writes a duration in seconds, with the milliseconds after the point.
+pub fn write_seconds<W: Write>(millis: u128, out: &mut W) -> Result<(), OutputFault>
+    ensures { Shows (W.contents out.old) (W.contents out.new) (is_err result) (seconds millis) }
+{
+    let whole = Decimal::wide(millis / 1000);
+    let rest = three_digits((millis % 1000) as u64);
+    emit_all(&[whole.as_bytes(), b".", &rest], out)
+}
 
 const MILLIS_OF_DAY: u64 = 86_400_000;
 
@@ -34,8 +68,7 @@ pub fn date_of(moment: u64) -> Date
 
 /// Writes the time of day this many milliseconds after midnight.
 fn write_clock<W: Write>(millis: u64, out: &mut W) -> Result<(), OutputFault>
-    ensures { Shows (W.contents out.old) (W.contents out.new) (is_err result)
-        (clock_bytes millis) }
+    ensures { Shows (W.contents out.old) (W.contents out.new) (is_err result) (clock_bytes millis) }
 {
     let hours = two_digits(millis / 3_600_000);
     let minutes = two_digits(millis / 60_000 % 60);

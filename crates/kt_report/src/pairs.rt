@@ -1,8 +1,7 @@
 ghost use Rattle.std.specs.Prelude.{◌≡◌, flat_map, map, is_err};
-ghost use Rattle.kt_base.specs.Shows.{Shows};
-ghost use Rattle.kt_report.specs.Pairs.{shown_byte, pair_bytes, entry_bytes};
+ghost use Rattle.kt_report.specs.Common.{Shows, shown_byte, pair_bytes, entry_bytes};
 
-use crate::entry_line::line;
+use crate::line;
 use kt_base::{Entry, OutputFault, Variable, emit, emit_all};
 use std::io::Write;
 

@@ -1,8 +1,5 @@
 ghost use Rattle.std.specs.Prelude.{◌≡◌, length, flat_map, is_err};
-ghost use Rattle.std.specs.List.{list_any};
-ghost use Rattle.kt_base.specs.Shows.{Shows};
-ghost use Rattle.kt_report.specs.Pairs.{entry_bytes};
-ghost use Rattle.kt_report.specs.Texts.{same_kind, entries_of, title, section, sections};
+ghost use Rattle.kt_report.specs.Common.{list_any, Shows, entry_bytes, same_kind, entries_of, title, section, sections};
 
 use crate::pairs::write_entry;
 use kt_base::{Entry, Kind, OutputFault, emit_all};

@@ -1,9 +1,7 @@
 ghost use Rattle.std.specs.Prelude.{◌≡◌, sum_by, is_err};
-ghost use Rattle.kt_base.specs.Shows.{Shows};
-ghost use Rattle.kt_report.specs.Texts.{count_bytes, unfinished_bytes, summary, started_bytes, counts_bytes};
+ghost use Rattle.kt_report.specs.Common.{Shows, count_bytes, unfinished_bytes, summary, started_bytes, counts_bytes};
 
-use crate::digits::write_seconds;
-use crate::moments::write_moment;
+use crate::moments::{write_moment, write_seconds};
 use crate::sections::count;
 use jiff::civil::Date;
 use kt_base::{Decimal, Entry, Kind, OutputFault, Run, emit, emit_all};

@@ -1,7 +1,5 @@
-ghost use Rattle.std.specs.Prelude.{is_err};
-ghost use Rattle.jiff_core.specs.declared.civil.date.Date.{Date};
-ghost use Rattle.kt_base.specs.Shows.{Shows};
-ghost use Rattle.kt_report.specs.Texts.{IsDateOf, text_bytes};
+ghost use Rattle.std.specs.Prelude.{is_err, ◌≡◌, Bool, List};
+ghost use Rattle.kt_report.specs.Common.{Date, Shows, IsDateOf, text_bytes, Entry, Kind, Run, heading, ChangesOutputs, with_entries};
 
 use crate::moments::date_of;
 use crate::sections::write_sections;
@@ -9,11 +7,10 @@ use crate::summary::write_summary;
 use kt_base::{Kind, OutputFault, Run};
 use std::io::Write;
 
-/// Writes the text report: a section for each of the chosen kinds that has an entry, in the order
-/// passed, skipped, expected failures, broken, failed, and then the summary (this profile). If
-/// `verbose` is set, what a case declared stands below its line. It takes no memory. Moments past
-/// the year 9999 are printed as its last one. If a write failed, a proper prefix of the report was
-/// written.
+/// Writes the text report: a section for each of the chosen kinds that has an entry, in the order passed, skipped,
+/// expected failures, broken, failed, and then the summary (this profile). If `verbose` is set, what a case declared
+/// stands below its line. It takes no memory. Moments past the year 9999 are printed as its last one. If a write
+/// failed, a proper prefix of the report was written.
 pub fn text<W: Write>(
     run: &Run,
     kinds: &[Kind],
@@ -28,3 +25,14 @@ pub fn text<W: Write>(
     write_sections(verbose, kinds, run.entries.as_slice(), out)?;
     write_summary(date, run, out)
 }
+
+/// The law of outlines: the text report and the heading of the JUnit report of a run are the same
+/// whatever the outputs of its entries are.
+pub fn law_of_outlines()
+    ensures text { (change : Entry → Entry) (date : Date) (kinds : List Kind) (verbose : Bool)
+        (run : Run) → ChangesOutputs change
+        → text_bytes date kinds verbose (with_entries change run)
+        ≡ text_bytes date kinds verbose run }
+    ensures heading { (change : Entry → Entry) (run : Run) → ChangesOutputs change
+        → heading (with_entries change run) ≡ heading run }
+{}

@@ -1,9 +1,6 @@
-use Rattle.std.proofs.Common.{ap, ◌∙◌}
-use Rattle.std.specs.Prelude.{codes}
+use Rattle.std.proofs.Common.{ap, ◌∙◌, codes}
+use Rattle.kt_report.proofs.Common.{seconds, shown_reason, shows_as, shows_both, shows_error, shows_more}
 use Rattle.kt_base.specs.Kinds.{word}
-use Rattle.kt_report.specs.Digits.{seconds}
-use Rattle.kt_report.specs.Lines.{shown_reason}
-use Rattle.kt_base.proofs.Showing.{shows_as, shows_both, shows_error, shows_more}
 use Rattle.kt_report.proofs.entry_line.line.Goals as goal
 
 pub returns-in_err-emit_all : goal.returns-in_err-emit_all

@@ -1,10 +1,5 @@
-use Rattle.std.proofs.Common.{◌≡◌, ◌≢◌, ℕ, List, ◌++◌, refl, ap}
-use Rattle.std.specs.Prelude.{codes}
-use Rattle.kt_base.specs.declared.kind.Kind.{Kind}
-use Rattle.kt_base.specs.declared.kind.Kind.TheVariants.{Passed}
-use Rattle.kt_base.specs.Utf8.{utf8}
-use Rattle.kt_base.proofs.Showing.{shows_as, shows_both, shows_error, shows_more}
-use Rattle.kt_report.specs.Lines.{shown_reason}
+use Rattle.std.proofs.Common.{◌≡◌, ◌≢◌, ℕ, List, ◌++◌, refl, ap, codes}
+use Rattle.kt_report.proofs.Common.{Kind, Passed, utf8, shows_as, shows_both, shows_error, shows_more, shown_reason}
 use Rattle.kt_report.proofs.entry_line.write_reason.Goals as goal
 
 told : (kind other : Kind) (reason : List ℕ) → kind ≢ Passed → kind ≡ other → codes ": " ++ utf8 reason ≡ shown_reason other reason

@@ -1,8 +1,7 @@
+use Rattle.std.proofs.Common.{◌≡◌, ◌++◌, length}
+use Rattle.kt_report.proofs.Common.{chars, escapes}
 use denote.Shadow.{shadow}
 use denote.Text.{Utf8}
-use Rattle.std.proofs.Common.{◌≡◌, ◌++◌, length}
-use Rattle.std.specs.Str.{chars}
-use Rattle.kt_report.specs.Escapes.{escapes}
 use Rattle.kt_report.proofs.escaping.escape.Given as goal
 
 abbrev pub invariant-loop-rest : goal.invariant-loop-rest

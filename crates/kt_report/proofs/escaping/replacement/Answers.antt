@@ -1,6 +1,5 @@
 use Rattle.std.proofs.Common.{refl, arith}
-use Rattle.std.proofs.lemmas.Bool.Decides.{nat_tests}
-use Rattle.std.specs.Str.{chars}
+use Rattle.kt_report.proofs.Common.{nat_tests, chars}
 use Rattle.kt_report.proofs.escaping.replacement.Goals as goal
 
 pub returns-in-38 : goal.returns-in-38

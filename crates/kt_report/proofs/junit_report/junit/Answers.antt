@@ -1,7 +1,5 @@
-use Rattle.std.proofs.Common.{ap}
-use Rattle.std.specs.Prelude.{flat_map}
-use Rattle.kt_report.specs.Junits.{case_bytes, ending}
-use Rattle.kt_base.proofs.Showing.{shows_as, shows_both, shows_error, shows_more}
+use Rattle.std.proofs.Common.{ap, flat_map}
+use Rattle.kt_report.proofs.Common.{case_bytes, ending, shows_as, shows_both, shows_error, shows_more}
 use Rattle.kt_report.proofs.junit_report.junit.Goals as goal
 
 pub returns-in_err-junit_heading : goal.returns-in_err-junit_heading

@@ -1,7 +1,6 @@
 use Rattle.std.proofs.Common.{ap, ◌∙◌}
-use Rattle.kt_base.proofs.Showing.{shows_as, shows_error, shows_nothing}
+use Rattle.kt_report.proofs.Common.{shows_as, shows_error, shows_nothing, element}
 use Rattle.kt_report.specs.Cases.{case_texts, with_outputs}
-use Rattle.kt_report.specs.Junits.{element}
 use Rattle.kt_report.proofs.junit_report.junit_case.Goals as goal
 
 pub returns-in_err-texts : goal.returns-in_err-texts

@@ -1,7 +1,5 @@
 use Rattle.std.proofs.Common.{ap, length, ◌∙◌}
-use Rattle.std.specs.Fmt.{decimal}
-use Rattle.kt_base.specs.declared.kind.Kind.TheVariants.{Skipped, Failed, Broken}
-use Rattle.kt_report.specs.Texts.{count_bytes}
+use Rattle.kt_report.proofs.Common.{decimal, Skipped, Failed, Broken, count_bytes}
 use Rattle.kt_report.proofs.junit_report.junit_heading.Goals as goal
 
 pub returns : goal.returns

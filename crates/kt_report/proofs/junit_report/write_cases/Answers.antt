@@ -1,6 +1,5 @@
 use Rattle.std.proofs.Common.{ap}
-use Rattle.kt_base.proofs.Showing.{shows_as, shows_error, shows_none}
-use Rattle.kt_report.specs.Junits.{case_bytes}
+use Rattle.kt_report.proofs.Common.{shows_as, shows_error, shows_none, case_bytes}
 use Rattle.kt_report.proofs.InTurn.{shows_next, shows_cut_off, shows_whole}
 use Rattle.kt_report.proofs.junit_report.write_cases.Goals as goal
 

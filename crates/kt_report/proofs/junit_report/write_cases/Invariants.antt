@@ -1,7 +1,5 @@
-use Rattle.std.proofs.Common.{false, take}
-use Rattle.std.specs.Prelude.{flat_map}
-use Rattle.kt_base.specs.Shows.{Shows}
-use Rattle.kt_report.specs.Junits.{case_bytes}
+use Rattle.std.proofs.Common.{false, take, flat_map}
+use Rattle.kt_report.proofs.Common.{Shows, case_bytes}
 use Rattle.kt_report.proofs.junit_report.write_cases.Given as goal
 
 -- the cases so far were written

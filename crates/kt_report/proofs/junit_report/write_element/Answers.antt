@@ -1,8 +1,5 @@
-use Rattle.std.proofs.Common.{ap}
-use Rattle.std.specs.Prelude.{codes}
-use Rattle.kt_report.specs.Digits.{seconds}
-use Rattle.kt_report.specs.Junits.{result_element, output_element}
-use Rattle.kt_base.proofs.Showing.{shows_as, shows_both, shows_error, shows_more}
+use Rattle.std.proofs.Common.{ap, codes}
+use Rattle.kt_report.proofs.Common.{seconds, result_element, output_element, shows_as, shows_both, shows_error, shows_more}
 use Rattle.kt_report.proofs.junit_report.write_element.Goals as goal
 
 pub returns-in_err-emit_all : goal.returns-in_err-emit_all

@@ -1,5 +1,5 @@
 use Rattle.std.proofs.Common.{sym, ◌∙◌}
-use Rattle.kt_base.proofs.Showing.{shows_as, shows_none}
+use Rattle.kt_report.proofs.Common.{shows_as, shows_none}
 use Rattle.kt_report.proofs.Outputs.{no_output, some_output}
 use Rattle.kt_report.proofs.junit_report.write_output.Goals as goal
 

@@ -1,7 +1,6 @@
 use Rattle.std.proofs.Common.{arith, w64, ◌<◌, ◌^◌, ℤ, subst, ◌∙◌}
+use Rattle.kt_report.proofs.Common.{IsOnly, Day}
 use Rattle.std.proofs.lemmas.Int.{to_z_pos}
-use Rattle.jiff_core.specs.Span.{IsOnly}
-use Rattle.jiff_core.specs.declared.unit.Unit.TheVariants.{Day}
 use Rattle.kt_report.proofs.Days.{first_day, days_after}
 use Rattle.kt_report.proofs.moments.date_after.Goals as goal
 

@@ -1,7 +1,5 @@
-use Rattle.std.proofs.Common.{ℕ, ◌%◌, ap}
-use Rattle.std.specs.Prelude.{codes}
-use Rattle.kt_report.specs.Texts.{clock_bytes, shown_moment}
-use Rattle.kt_base.proofs.Showing.{shows_as, shows_both, shows_error, shows_more}
+use Rattle.std.proofs.Common.{ℕ, ◌%◌, ap, codes}
+use Rattle.kt_report.proofs.Common.{clock_bytes, shown_moment, shows_as, shows_both, shows_error, shows_more}
 use Rattle.kt_report.proofs.moments.write_moment.Goals as goal
 
 pub returns-in_err-write_date : goal.returns-in_err-write_date

@@ -1,5 +1,5 @@
 use Rattle.std.proofs.Common.{rules, ◌≡◌, true}
-use Rattle.kt_base.proofs.Showing.{shows_as, shows_both, shows_error}
+use Rattle.kt_report.proofs.Common.{shows_as, shows_both, shows_error}
 use Rattle.kt_report.proofs.PairSteps.{entry_with, entry_cut}
 use Rattle.kt_report.proofs.pairs.write_entry.Goals as goal
 

@@ -1,8 +1,5 @@
-use Rattle.std.proofs.Common.{ap, map}
-use Rattle.std.specs.Prelude.{codes}
-use Rattle.kt_base.specs.Utf8.{utf8}
-use Rattle.kt_report.specs.Pairs.{shown_byte}
-use Rattle.kt_base.proofs.Showing.{shows_as, shows_both, shows_error, shows_more}
+use Rattle.std.proofs.Common.{ap, map, codes}
+use Rattle.kt_report.proofs.Common.{utf8, shown_byte, shows_as, shows_both, shows_error, shows_more}
 use Rattle.kt_report.proofs.pairs.write_pair.Goals as goal
 
 pub returns-in_err-emit_all : goal.returns-in_err-emit_all

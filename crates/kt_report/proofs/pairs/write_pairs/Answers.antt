@@ -1,6 +1,5 @@
 use Rattle.std.proofs.Common.{ap}
-use Rattle.kt_base.proofs.Showing.{shows_as, shows_error, shows_none}
-use Rattle.kt_report.specs.Pairs.{pair_bytes}
+use Rattle.kt_report.proofs.Common.{shows_as, shows_error, shows_none, pair_bytes}
 use Rattle.kt_report.proofs.InTurn.{shows_next, shows_cut_off, shows_whole}
 use Rattle.kt_report.proofs.pairs.write_pairs.Goals as goal
 

@@ -1,7 +1,5 @@
-use Rattle.std.proofs.Common.{false, take}
-use Rattle.std.specs.Prelude.{flat_map}
-use Rattle.kt_base.specs.Shows.{Shows}
-use Rattle.kt_report.specs.Pairs.{pair_bytes}
+use Rattle.std.proofs.Common.{false, take, flat_map}
+use Rattle.kt_report.proofs.Common.{Shows, pair_bytes}
 use Rattle.kt_report.proofs.pairs.write_pairs.Given as goal
 
 -- the pairs so far were written

@@ -1,7 +1,6 @@
 use Rattle.std.proofs.Common.{◌∷◌, [], ℕ, ap}
+use Rattle.kt_report.proofs.Common.{shows_as, shows_error, shows_none, shown_byte}
 use Rattle.std.proofs.lemmas.List.Concat.{flat_map_single}
-use Rattle.kt_base.proofs.Showing.{shows_as, shows_error, shows_none}
-use Rattle.kt_report.specs.Pairs.{shown_byte}
 use Rattle.kt_report.proofs.InTurn.{shows_next, shows_cut_off, shows_whole}
 use Rattle.kt_report.proofs.pairs.write_value.Goals as goal
 

@@ -1,7 +1,5 @@
-use Rattle.std.proofs.Common.{[], ◌∷◌, ℕ, false, take}
-use Rattle.std.specs.Prelude.{flat_map}
-use Rattle.kt_base.specs.Shows.{Shows}
-use Rattle.kt_report.specs.Pairs.{shown_byte}
+use Rattle.std.proofs.Common.{[], ◌∷◌, ℕ, false, take, flat_map}
+use Rattle.kt_report.proofs.Common.{Shows, shown_byte}
 use Rattle.kt_report.proofs.pairs.write_value.Given as goal
 
 -- the bytes so far were written

@@ -1,5 +1,5 @@
 use Rattle.std.proofs.Common.{◌≡◌, ◌≤◌, length, take}
-use Rattle.kt_report.specs.Texts.{entries_of}
+use Rattle.kt_report.proofs.Common.{entries_of}
 use Rattle.kt_report.proofs.sections.count.Given as goal
 
 -- those found among the entries so far

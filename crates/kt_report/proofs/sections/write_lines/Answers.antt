@@ -1,9 +1,5 @@
-use Rattle.std.proofs.Common.{◌≡◌, ◌+◌, ◌++◌, [], length, drop, get_or, true, ap, sym, ◌∙◌, refl, drop_of_length-le}
-use Rattle.std.specs.Prelude.{flat_map}
-use Rattle.std.proofs.lemmas.List.{drop_more}
-use Rattle.kt_base.proofs.Showing.{shows_as, shows_both, shows_error, shows_more, shows_none}
-use Rattle.kt_report.specs.Pairs.{entry_bytes}
-use Rattle.kt_report.specs.Texts.{same_kind, is_of, entries_of}
+use Rattle.std.proofs.Common.{◌≡◌, ◌+◌, ◌++◌, [], length, drop, get_or, true, ap, sym, ◌∙◌, refl, drop_of_length-le, flat_map}
+use Rattle.kt_report.proofs.Common.{drop_more, shows_as, shows_both, shows_error, shows_more, shows_none, entry_bytes, same_kind, is_of, entries_of}
 use Rattle.kt_report.proofs.LineSteps.{lines_more, lines_same, lines_all}
 use Rattle.kt_report.proofs.sections.write_lines.Goals.{then-same_kind+in_ok-write_entry, else-same_kind}
 use Rattle.kt_report.proofs.sections.write_lines.Goals as goal

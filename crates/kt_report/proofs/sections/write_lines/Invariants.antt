@@ -1,8 +1,5 @@
-use Rattle.std.proofs.Common.{◌≡◌, ℕ, List, ◌++◌, false, drop}
-use Rattle.std.specs.Prelude.{flat_map}
-use Rattle.kt_base.specs.Shows.{Shows}
-use Rattle.kt_report.specs.Pairs.{entry_bytes}
-use Rattle.kt_report.specs.Texts.{entries_of}
+use Rattle.std.proofs.Common.{◌≡◌, ℕ, List, ◌++◌, false, drop, flat_map}
+use Rattle.kt_report.proofs.Common.{Shows, entry_bytes, entries_of}
 use Rattle.kt_report.proofs.sections.write_lines.Given as goal
 
 -- what was written, and the lines of the rest

@@ -1,9 +1,6 @@
-use Rattle.std.proofs.Common.{rules, ◌≡◌, ◌≢◌, true, length, sym, ◌∙◌}
-use Rattle.std.specs.Prelude.{flat_map}
-use Rattle.kt_report.specs.Pairs.{entry_bytes}
-use Rattle.kt_report.specs.Texts.{entries_of}
+use Rattle.std.proofs.Common.{rules, ◌≡◌, ◌≢◌, true, length, sym, ◌∙◌, flat_map}
+use Rattle.kt_report.proofs.Common.{entry_bytes, entries_of, shows_as, shows_both, shows_error, shows_more}
 use Rattle.kt_report.proofs.LineSteps.{section_is}
-use Rattle.kt_base.proofs.Showing.{shows_as, shows_both, shows_error, shows_more}
 use Rattle.kt_report.proofs.sections.write_section.Goals as goal
 
 pub returns-in_err-emit_all : goal.returns-in_err-emit_all

@@ -1,6 +1,4 @@
-use Rattle.kt_base.specs.declared.kind.Kind.TheVariants.{Skipped, ExpectedFailure, Failed, Broken}
-use Rattle.kt_report.specs.Texts.{section}
-use Rattle.kt_base.proofs.Showing.{shows_both, shows_error, shows_more}
+use Rattle.kt_report.proofs.Common.{Skipped, ExpectedFailure, Failed, Broken, section, shows_both, shows_error, shows_more}
 use Rattle.kt_report.proofs.sections.write_sections.Goals as goal
 
 pub returns-in_err-write_section : goal.returns-in_err-write_section

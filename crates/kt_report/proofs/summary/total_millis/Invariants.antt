@@ -1,6 +1,5 @@
-use Rattle.std.proofs.Common.{◌≡◌, ◌*◌, ◌^◌, ◌≤◌, take}
-use Rattle.std.specs.Prelude.{sum_by}
-use Rattle.kt_base.specs.declared.entry.Entry.{Entry}
+use Rattle.std.proofs.Common.{◌≡◌, ◌*◌, ◌^◌, ◌≤◌, take, sum_by}
+use Rattle.kt_report.proofs.Common.{Entry}
 use Rattle.kt_report.proofs.summary.total_millis.Given as goal
 
 -- the sum so far; each entry adds less than 2 ^ 64

@@ -1,5 +1,4 @@
-use Rattle.kt_report.specs.Texts.{moment_bytes, unfinished_bytes}
-use Rattle.kt_base.proofs.Showing.{shows_both, shows_error, shows_more}
+use Rattle.kt_report.proofs.Common.{moment_bytes, unfinished_bytes, shows_both, shows_error, shows_more}
 use Rattle.kt_report.proofs.summary.write_started.Goals as goal
 
 pub returns-in_err-emit_all : goal.returns-in_err-emit_all

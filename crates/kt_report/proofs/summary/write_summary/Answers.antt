@@ -1,9 +1,5 @@
-use Rattle.std.proofs.Common.{ap, ◌∙◌}
-use Rattle.std.specs.Prelude.{codes, sum_by}
-use Rattle.kt_base.specs.declared.entry.Entry.{Entry}
-use Rattle.kt_report.specs.Digits.{seconds}
-use Rattle.kt_report.specs.Texts.{counts_bytes}
-use Rattle.kt_base.proofs.Showing.{shows_as, shows_both, shows_error, shows_more}
+use Rattle.std.proofs.Common.{ap, ◌∙◌, codes, sum_by}
+use Rattle.kt_report.proofs.Common.{Entry, seconds, counts_bytes, shows_as, shows_both, shows_error, shows_more}
 use Rattle.kt_report.proofs.summary.write_summary.Goals as goal
 
 pub returns-in_err-write_started : goal.returns-in_err-write_started

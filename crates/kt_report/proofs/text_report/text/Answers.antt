@@ -1,6 +1,5 @@
 use Rattle.std.proofs.Common.{ap}
-use Rattle.kt_report.specs.Texts.{sections, summary}
-use Rattle.kt_base.proofs.Showing.{shows_as, shows_both, shows_error, shows_more}
+use Rattle.kt_report.proofs.Common.{sections, summary, shows_as, shows_both, shows_error, shows_more}
 use Rattle.kt_report.proofs.text_report.text.Goals as goal
 
 pub returns-in_err-write_sections : goal.returns-in_err-write_sections

@@ -1,5 +1,5 @@
 use Rattle.kt_report.proofs.Outlines.{same_text, same_heading}
-use Rattle.kt_report.proofs.laws.law_of_outlines.Goals as goal
+use Rattle.kt_report.proofs.text_report.law_of_outlines.Goals as goal
 
 pub returns-clause-text : goal.returns-clause-text
 returns-clause-text c change date kinds verbose run same = same_text change same date kinds verbose run
