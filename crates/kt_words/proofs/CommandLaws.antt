@@ -1,27 +1,19 @@
 -- Each command line that `clap` takes names a command.
-use Rattle.std.proofs.Common.{◌≡◌, ◌∙◌, ℕ, Bool, true, false, cond, ◌||◌, ◌&&◌, List, [], ◌∷◌, Option, Some, None, refl, ap, ap₂, sym, subst, is_some, inl, inr}
-use Rattle.std.specs.Prelude.{Result, Ok, Err, bytes_eq, codes, find, option_map}
-use Rattle.std.specs.List.{list_all}
+use Rattle.std.proofs.Common.{◌≡◌, ◌∙◌, ℕ, Bool, true, false, cond, ◌||◌, ◌&&◌, List, [], ◌∷◌, Option, Some, None, refl, ap, ap₂, sym, subst, is_some, inl, inr, Result, Ok, Err, bytes_eq, codes, find, option_map}
+use Rattle.kt_words.proofs.Common.{list_all, App, HasKind, IsAmong, IsParsedFrom, Row, Shape, Text, app_of, built, fault_of, first_of, is_simple, is_simple_and_free, kind_of, matches_of, subcommand_of, subcommand_rows_of, out-Command, out-ArgMatches, argument_words, entered, label_of, names_of, rows_at, Kind, kyua_app, Reads, RefusesWords, command_in, report_with, junit_with, report_in, junit_in, options_in, results_in, kinds_of, run_of}
 use Rattle.std.specs.Option.{option_map_or}
-use Rattle.clap.specs.Words.{App, HasKind, IsAmong, IsParsedFrom, Row, Shape, Text, app_of, built, fault_of, first_of, is_simple, is_simple_and_free, kind_of, matches_of, subcommand_of, subcommand_rows_of}
 use Rattle.clap.specs.declared.builder.command.Command.{Command as Line}
-use Rattle.clap.specs.declared.builder.command.Command.TheViews.{out-Command}
 use Rattle.clap.specs.declared.error.Error.{Error}
 use Rattle.clap.specs.declared.error.kind.ErrorKind.TheVariants.{OutOfMemory}
 use Rattle.clap.specs.declared.parser.matches.ArgMatches.{ArgMatches}
-use Rattle.clap.specs.declared.parser.matches.ArgMatches.TheViews.{out-ArgMatches}
 use Rattle.clap.proofs.TakesLemmas.{some_rows}
-use Rattle.clap.specs.Simple.{argument_words, entered, label_of, names_of, rows_at}
 use Rattle.clap.specs.Walk.{answers_to, stop_after}
 use Rattle.clap.proofs.OnLiterals.{clap_on_literals}
-use Rattle.kt_base.specs.declared.kind.Kind.{Kind}
 use Rattle.kt_words.specs.declared.command.Command.{Command}
-use Rattle.kt_words.specs.declared.command.Command.TheVariants as command
 use Rattle.kt_words.specs.declared.command_fault.CommandFault.{CommandFault}
-use Rattle.kt_words.specs.declared.command_fault.CommandFault.TheVariants as fault
-use Rattle.kt_words.specs.Grammar.{kyua_app}
 use Rattle.kt_words.specs.Inner.Reading.{Answers}
-use Rattle.kt_words.specs.Reading.{Reads, RefusesWords, command_in, report_with, junit_with, report_in, junit_in, options_in, results_in, kinds_of, run_of}
+use Rattle.kt_words.specs.declared.command.Command.TheVariants as command
+use Rattle.kt_words.specs.declared.command_fault.CommandFault.TheVariants as fault
 
 -- one of the five commands
 abbrev pub is_command : Text → Bool

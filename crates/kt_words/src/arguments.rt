@@ -1,10 +1,6 @@
 ghost use Rattle.std.specs.Prelude.{◌≡◌, IfOk, false};
-ghost use Rattle.clap.specs.Words.{app_of, new_app, rule_of};
+ghost use Rattle.kt_words.specs.Common.{app_of, new_app, rule_of, config_rule, variable_rule, kyuafile_rule, work_rule, results_rule, filters_rule, case_rule, run_rule, kinds_rule, verbose_rule, list_app, test_app, debug_app, report_app, junit_app, kyua_app};
 ghost use Rattle.clap.specs.declared.builder.command.Command.TheViews.{out-Command as fields_of};
-ghost use Rattle.kt_words.specs.Grammar.{config_rule, variable_rule, kyuafile_rule, work_rule};
-ghost use Rattle.kt_words.specs.Grammar.{results_rule, filters_rule, case_rule, run_rule, kinds_rule};
-ghost use Rattle.kt_words.specs.Grammar.{verbose_rule, list_app, test_app, debug_app, report_app};
-ghost use Rattle.kt_words.specs.Grammar.{junit_app, kyua_app};
 
 use clap::{Arg, ArgAction};
 use kt_base::NoMemory;

@@ -1,21 +1,11 @@
 ghost use Rattle.std.specs.Prelude.{◌≡◌, ◌≤◌, drop, map, chars, codes, option_map, IfOk, IfErr, IfSome, IsErrAnd};
-ghost use Rattle.std.specs.String.{string_bytes};
-ghost use Rattle.std.specs.Vec.Iter.{into_iter_items};
-ghost use Rattle.clap.specs.Words.{all_of, first_of, found_of, rows_of, subcommand_rows_of};
-ghost use Rattle.std.specs.IoError.{error_kind};
-ghost use Rattle.std.specs.declared.io.ErrorKind.TheVariants.{OutOfMemory};
-ghost use Rattle.kt_base.specs.Limits.{last_run};
+ghost use Rattle.kt_words.specs.Common.{string_bytes, into_iter_items, all_of, first_of, found_of, rows_of, subcommand_rows_of, error_kind, OutOfMemory, last_run, HasRunNumber, Reads, RefusesWords, command_in, command_named, is_true, junit_in, kinds_of, options_in, report_in, report_options, results_in, run_of, text_given, text_or, texts_given, Answers, ReadsRun, ReadsShown};
 ghost use Rattle.kt_words.specs.declared.command.Command.TheVariants as command;
-ghost use Rattle.kt_words.specs.Commands.{HasRunNumber};
-ghost use Rattle.kt_words.specs.Reading.{Reads, RefusesWords, command_in, command_named, is_true, junit_in, kinds_of, options_in, report_in, report_options, results_in, run_of, text_given, text_or, texts_given};
-ghost use Rattle.kt_words.specs.Inner.Reading.{Answers, ReadsRun, ReadsShown};
 
 use crate::arguments::{KYUAFILE, RESULTS, WORK, all_words};
-use crate::command::Command;
-use crate::command_fault::CommandFault;
 use crate::filter::{default_kinds, kinds_in};
 use crate::numbers::run_number;
-use crate::report_options::ReportOptions;
+use crate::{Command, CommandFault, ReportOptions};
 use clap::ArgMatches;
 use clap::error::ErrorKind;
 use kt_base::{Items, Kind, NoMemory, Text};

@@ -1,6 +1,6 @@
 -- What a command holds of the values that were found on a command line, each by the name of its option.
 use Rattle.std.specs.Prelude.{◌≡◌, ⊤, ℕ, List, Option, Some, None, Result, Ok, Err}
-use Rattle.kt_base.specs.declared.kind.Kind.{Kind}
+use Rattle.kt_base.specs.declared.verdict.Kind.{Kind}
 use Rattle.kt_words.specs.declared.command_fault.CommandFault.{CommandFault}
 use Rattle.kt_words.specs.declared.command_fault.CommandFault.TheVariants as fault
 

@@ -1,6 +1,6 @@
 -- What the arguments of a command line's options mean.
 use Rattle.std.specs.Prelude.{ℕ, Bool, not, ◌≡◌, ◌==◌, ⊤, List, Some, None, Result, Ok, Err}
-use Rattle.kt_base.specs.declared.kind.Kind.{Kind}
+use Rattle.kt_base.specs.declared.verdict.Kind.{Kind}
 use Rattle.kt_words.specs.declared.command_fault.CommandFault.{CommandFault}
 use Rattle.kt_words.specs.declared.command_fault.CommandFault.TheVariants as fault
 use Rattle.kt_words.specs.Words.{comma_words, kinds_named}
