@@ -1,14 +1,7 @@
 -- How many cases have a position.
-use Rattle.std.proofs.Common.{◌≡◌, ℕ, zero, suc, ◌+◌, ◌<◌, ◌≤◌, ◌==◌, ◌&&◌, List, [], ◌∷◌, ◌++◌, slice_get, Bool, true, false, Option, Some, None, refl, sym, subst, arith, if◌then◌else◌, nat_lt, ◌∙◌, ap}
-use Rattle.std.specs.Prelude.{remove}
-use Rattle.std.proofs.lemmas.Bool.Decides.{nat_tests}
-use Rattle.kt_base.specs.declared.role.Role.{Role}
-use Rattle.kt_base.specs.declared.role.Role.TheVariants.{Body, Cleanup}
-use Rattle.kt_child.specs.declared.planning.case.Case.{Case}
-use Rattle.kt_sched.specs.Children.{Child as Shown, same_role}
-use Rattle.kt_child.specs.Inner.Children.{count_at, one_if}
-use Rattle.kt_child.specs.Driving.ChildrenState.{is_among, pending_with, shown, shown_at}
-use Rattle.kt_child.specs.Ending.Ends.{is_over}
+use Rattle.std.proofs.Common.{◌≡◌, ℕ, zero, suc, ◌+◌, ◌<◌, ◌≤◌, ◌==◌, ◌&&◌, List, [], ◌∷◌, ◌++◌, slice_get, Bool, true, false, Option, Some, None, refl, sym, subst, arith, if◌then◌else◌, nat_lt, ◌∙◌, ap, remove}
+use Rattle.kt_child.proofs.Common.{nat_tests, Role, Body, Cleanup, Case, same_role, count_at, one_if, is_among, pending_with, shown, shown_at, is_over}
+use Rattle.kt_sched.specs.Children.{Child as Shown}
 
 -- the first of two tests that hold
 pub and_left : (a b : Bool) → (a && b) ≡ true → a ≡ true

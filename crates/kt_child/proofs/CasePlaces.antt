@@ -1,12 +1,6 @@
 -- Cases and their children at the places of a list of children.
-use Rattle.std.proofs.Common.{◌≡◌, ℕ, zero, suc, ◌+◌, ◌≤◌, ◌==◌, ◌&&◌, List, [], ◌∷◌, ◌++◌, length, Bool, true, false, Some, ◌⊎◌, map, slice_get, refl, ◌∙◌, ap, subst, arith, inl, inr, append-nil}
-use Rattle.std.specs.Prelude.{remove}
-use Rattle.kt_sched.specs.Children.{same_role}
-use Rattle.kt_child.specs.declared.system.values.Child.{Child}
-use Rattle.kt_child.specs.declared.polling.watched.Watched.{Watched}
-use Rattle.kt_child.specs.declared.planning.case.Case.{Case}
-use Rattle.kt_child.specs.Inner.Children.{one_if}
-use Rattle.kt_child.specs.Polling.Lives.{same_child}
+use Rattle.std.proofs.Common.{◌≡◌, ℕ, zero, suc, ◌+◌, ◌≤◌, ◌==◌, ◌&&◌, List, [], ◌∷◌, ◌++◌, length, Bool, true, false, Some, ◌⊎◌, map, slice_get, refl, ◌∙◌, ap, subst, arith, inl, inr, append-nil, remove}
+use Rattle.kt_child.proofs.Common.{same_role, Child, Watched, Case, one_if, same_child}
 use Rattle.kt_child.proofs.Shares.{kept, name_of, named}
 use Rattle.kt_child.proofs.LifeSteps.{child_is_own}
 use Rattle.kt_child.proofs.NameCounts.{case_name, names_head, names_tail, none_named, numbered, other_name, own_number}

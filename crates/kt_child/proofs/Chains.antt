@@ -1,10 +1,6 @@
 -- Chains of questions, joined.
 use Rattle.std.proofs.Common.{◌≡◌, List, [], ◌∷◌, ◌++◌, Result, Ok, Err, refl, inl, inr, subst}
-use Rattle.kt_base.specs.declared.refused.Refused.{Refused}
-use Rattle.kt_child.specs.declared.system.os_fault.OsFault.{OsFault}
-use Rattle.kt_base.specs.Chains.{Chain}
-use Rattle.kt_child.specs.System.Calls.{Call}
-use Rattle.kt_child.specs.Starting.Starts.{Ask, Tried, cause_of}
+use Rattle.kt_child.proofs.Common.{Refused, OsFault, Chain, Call, Ask, Tried, cause_of}
 
 -- two chains, one after the other
 pub chain_append : {O : Type 0} (leads : O → Call → O → Type 0) (a b d : O) (xs ys : List Call)

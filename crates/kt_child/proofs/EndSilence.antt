@@ -1,28 +1,10 @@
 -- What follows the last poll of a child is no poll.
 use Rattle.std.proofs.Common.{◌≡◌, ℕ, zero, suc, List, [], ◌∷◌, ◌++◌, Bool, true, false, Some, Result, map, slice_get, sym, ◌∙◌, ap, subst, append-nil}
-use Rattle.kt_base.specs.declared.role.Role.{Role}
-use Rattle.kt_base.specs.declared.role.Role.TheVariants.{Body, Cleanup}
-use Rattle.kt_base.specs.declared.outcome.Outcome.{Outcome}
-use Rattle.kt_base.specs.declared.interface.Interface.{Interface}
-use Rattle.kt_base.specs.declared.interface.Interface.TheVariants as interface
-use Rattle.kt_claim.specs.declared.evidence.Evidence.{Evidence}
-use Rattle.kt_sched.specs.declared.ended.Ended.{Ended}
-use Rattle.kt_child.specs.declared.system.values.Child.{Child}
-use Rattle.kt_child.specs.declared.system.os_fault.OsFault.{OsFault}
-use Rattle.kt_child.specs.declared.system.values.FileRead.{FileRead}
-use Rattle.kt_child.specs.declared.planning.workdir.Paths.{Paths}
-use Rattle.kt_child.specs.declared.planning.case.Case.{Case}
-use Rattle.kt_child.specs.declared.polling.watched.Watched.{Watched}
-use Rattle.kt_child.specs.declared.ending.parts.NextPart.{NextPart}
-use Rattle.kt_child.specs.declared.ending.parts.NextPart.TheVariants.{More, All, Absent, Failed, Past}
-use Rattle.kt_child.specs.Driving.ChildrenState.{ChildrenState, Waited}
-use Rattle.kt_child.specs.System.Calls.{Call, ReadFile, ReadPart}
-use Rattle.kt_child.specs.Polling.ChildOutcome.{Heard}
-use Rattle.kt_child.specs.Ending.Ends.{Leaves, Removes, err_of, is_over, out_of}
+use Rattle.kt_child.proofs.Common.{Role, Body, Cleanup, Outcome, Evidence, Ended, Child, OsFault, FileRead, Paths, Case, Watched, NextPart, Absent, Failed, Past, ChildrenState, Waited, Call, ReadFile, ReadPart, Heard, Leaves, Removes, err_of, is_over, out_of, heard_by, same_child, After, Reads, Whole, bytes_of}
+use Rattle.kt_base.specs.declared.child.Interface.{Interface}
+use Rattle.kt_child.specs.declared.ending.NextPart.TheVariants.{More, All}
 use Rattle.kt_child.specs.Ending.Gathering.{Gathers}
-use Rattle.kt_child.specs.Polling.Lives.{heard_by, same_child}
-use Rattle.kt_child.specs.Ending.Parts.{After, Reads, Whole}
-use Rattle.kt_child.specs.Ending.Reads.{bytes_of}
+use Rattle.kt_base.specs.declared.child.Interface.TheVariants as interface
 use Rattle.kt_child.proofs.Shares.{Share, name_of, named}
 use Rattle.kt_child.proofs.LifeSteps.{heard_append}
 use Rattle.kt_child.proofs.SeveralWaits.{wait_shares}

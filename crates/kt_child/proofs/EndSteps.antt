@@ -1,7 +1,6 @@
 -- The questions at an end, joined.
 use Rattle.std.proofs.Common.{List, ◌∷◌, ◌++◌}
-use Rattle.kt_base.specs.Chains.{Chain}
-use Rattle.kt_child.specs.System.Calls.{Call}
+use Rattle.kt_child.proofs.Common.{Chain, Call}
 use Rattle.kt_child.proofs.Chains.{chain_append}
 
 -- one question, some, two more, and some

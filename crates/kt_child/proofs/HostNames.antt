@@ -1,11 +1,6 @@
 -- The names of children, as they are compared.
 use Rattle.std.proofs.Common.{◌≡◌, ◌==◌, Bool, true, false, refl, sym, ◌∙◌, ap}
-use Rattle.std.proofs.lemmas.Bool.{and_parts}
-use Rattle.kt_base.specs.declared.role.Role.{Role}
-use Rattle.kt_base.specs.declared.role.Role.TheVariants.{Body, Cleanup}
-use Rattle.kt_sched.specs.Children.{same_role}
-use Rattle.kt_child.specs.declared.system.values.Child.{Child}
-use Rattle.kt_child.specs.Polling.Lives.{same_child}
+use Rattle.kt_child.proofs.Common.{and_parts, Role, Body, Cleanup, same_role, Child, same_child}
 use Rattle.kt_child.proofs.CaseCounts.{same_position}
 use Rattle.kt_child.proofs.LifeSteps.{child_is_own}
 

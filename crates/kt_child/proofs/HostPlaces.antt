@@ -1,10 +1,6 @@
 -- A search for the first child of a name among those of the host.
 use Rattle.std.proofs.Common.{◌≡◌, ℕ, suc, ◌+◌, ◌<◌, Bool, true, false, List, ◌∷◌, length, drop, drop-cons, get_or, sym, ◌∙◌, ap, subst, arith}
-use Rattle.kt_child.specs.declared.system.values.Child.{Child}
-use Rattle.kt_child.specs.declared.host.host_child.HostChild.{HostChild}
-use Rattle.kt_child.specs.Polling.Lives.{same_child}
-use Rattle.kt_child.specs.Inner.Host.{IsPlaceOf}
-use Rattle.kt_child.specs.Host.HostStands.{stand_in, stand_of}
+use Rattle.kt_child.proofs.Common.{Child, HostChild, same_child, IsPlaceOf, stand_in, stand_of}
 use Rattle.kt_child.proofs.HostStandings.{pick}
 
 -- none of the first i children has this name

@@ -1,12 +1,8 @@
 -- What is read of a file is its front.
-use Rattle.std.specs.Prelude.{Option, Some, None, IfSome, Result, Ok, Err, IsErrAnd, OnOk, take, drop, min, ◌-◌}
+use Rattle.std.proofs.Common.{Option, Some, None, IfSome, Result, Ok, Err, IsErrAnd, OnOk, take, drop, min, ◌-◌, ◌≡◌, ℕ, zero, suc, ◌+◌, ◌≤◌, ◌<◌, List, [], ◌∷◌, ◌++◌, length, arith, refl, sym, ap, ◌∙◌, subst, append_assoc, append-nil, length-append}
+use Rattle.kt_child.proofs.Common.{take_all, drop_all, take_at, drop_at, length-take-le, FileRead, OsFault, TakesPiece}
 use Rattle.std.specs.Io.KnownBytes.{Consumes, IsAtEnd}
-use Rattle.std.proofs.Common.{◌≡◌, ℕ, zero, suc, ◌+◌, ◌≤◌, ◌<◌, List, [], ◌∷◌, ◌++◌, length, arith, refl, sym, ap, ◌∙◌, subst, append_assoc, append-nil, length-append}
-use Rattle.std.proofs.lemmas.List.{take_all, drop_all, take_at, drop_at, length-take-le}
-use Rattle.kt_child.specs.declared.system.values.FileRead.{FileRead}
-use Rattle.kt_child.specs.declared.system.os_fault.OsFault.{OsFault}
 use Rattle.kt_child.specs.Host.HostAnswers.{IsFront}
-use Rattle.kt_child.specs.Inner.Host.{TakesPiece}
 use Rattle.kt_child.specs.Host.HostFiles.{TakesAtMost}
 
 consumes_nothing : (left : Option (List ℕ)) → Consumes left left []

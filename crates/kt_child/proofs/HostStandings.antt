@@ -1,11 +1,6 @@
 -- How the children of the host stand, where one of them changes, is forgotten or is new.
-use Rattle.std.proofs.Common.{◌≡◌, ℕ, zero, suc, ◌<◌, Bool, true, false, Some, None, List, [], ◌∷◌, ◌++◌, length, get_or, refl, sym, ◌∙◌, ap, subst, arith, if◌then◌else◌}
-use Rattle.std.specs.Prelude.{IsSome, filter, not, remove, slice_set}
-use Rattle.kt_child.specs.declared.system.values.Child.{Child}
-use Rattle.kt_child.specs.declared.host.host_child.HostChild.{HostChild}
-use Rattle.kt_child.specs.Polling.Lives.{same_child}
-use Rattle.kt_child.specs.Inner.Host.{IsPlaceOf, is_other}
-use Rattle.kt_child.specs.Host.HostStands.{Stand, Proceeds, AllProceed, AllStay, OthersStay, stand_in, stand_of}
+use Rattle.std.proofs.Common.{◌≡◌, ℕ, zero, suc, ◌<◌, Bool, true, false, Some, None, List, [], ◌∷◌, ◌++◌, length, get_or, refl, sym, ◌∙◌, ap, subst, arith, if◌then◌else◌, IsSome, filter, not, remove, slice_set}
+use Rattle.kt_child.proofs.Common.{Child, HostChild, same_child, IsPlaceOf, is_other, Stand, Proceeds, AllProceed, AllStay, OthersStay, stand_in, stand_of}
 use Rattle.kt_child.proofs.LifeSteps.{child_is_own}
 use Rattle.kt_child.proofs.HostNames.{name_other, same_child_is}
 

@@ -1,10 +1,8 @@
 -- What a command says of variables, one after the other.
 use Rattle.std.proofs.Common.{◌≡◌, ◌≢◌, ℕ, suc, ◌+◌, ◌<◌, List, ◌∷◌, length, drop, drop-cons, get_or, Bool, true, false, Option, Some, None, refl, sym, ◌∙◌, ap, arith, if◌then◌else◌}
-use Rattle.std.specs.Str.{bytes_eq}
+use Rattle.kt_child.proofs.Common.{bytes_eq, utf8, after_removed, after_set}
 use Rattle.std.proofs.lemmas.Slice.Eq.{bytes_eq-Decides}
-use Rattle.kt_base.specs.Utf8.{utf8}
 use Rattle.kt_base.specs.declared.variable.Variable.{Variable}
-use Rattle.kt_child.specs.Inner.Host.{after_removed, after_set}
 
 -- what is said of each variable, after something was said of one
 pub said_now : (one : List ℕ) (news : Option (Option (List ℕ))) (old new : List ℕ → Option (Option (List ℕ)))

@@ -1,12 +1,6 @@
 -- A state in which nothing runs and nothing is owed.
 use Rattle.std.proofs.Common.{◌≡◌, ℕ, zero, List, [], ◌∷◌, length, None, false, refl, ◌∙◌, ap, arith}
-use Rattle.kt_base.specs.declared.role.Role.{Role}
-use Rattle.kt_base.specs.declared.role.Role.TheVariants.{Body, Cleanup}
-use Rattle.kt_sched.specs.Children.{IsIdle}
-use Rattle.kt_child.specs.declared.polling.watched.Watched.{Watched}
-use Rattle.kt_child.specs.declared.planning.case.Case.{Case}
-use Rattle.kt_child.specs.Driving.ChildrenState.{ChildrenState, is_among, shown_at}
-use Rattle.kt_child.specs.Driving.Numbers.{IsBare}
+use Rattle.kt_child.proofs.Common.{Role, Body, Cleanup, IsIdle, Watched, Case, ChildrenState, is_among, shown_at, IsBare}
 use Rattle.kt_child.proofs.CaseCounts.{count_there, none_among, none_shown}
 
 -- no case, where none is shown

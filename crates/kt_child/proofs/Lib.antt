@@ -1,3 +1,4 @@
+pub mod Common
 pub mod CaseCounts
 pub mod CasePlaces
 pub mod Chains

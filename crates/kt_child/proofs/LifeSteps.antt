@@ -1,10 +1,6 @@
 -- What a child hears among calls, and that its name is its own.
 use Rattle.std.proofs.Common.{◌≡◌, ◌==◌, true, List, [], ◌∷◌, ◌++◌, refl, sym, ◌∙◌, ap, append_assoc}
-use Rattle.std.proofs.lemmas.Bool.{and_from}
-use Rattle.kt_sched.specs.Children.{same_role}
-use Rattle.kt_child.specs.declared.system.values.Child.{Child}
-use Rattle.kt_child.specs.System.Calls.{Call}
-use Rattle.kt_child.specs.Polling.Lives.{heard_by, heard_in, same_child}
+use Rattle.kt_child.proofs.Common.{and_from, same_role, Child, Call, heard_by, heard_in, same_child}
 use Rattle.kt_child.proofs.CaseCounts.{own_role, same_number}
 
 -- what is heard in calls that are joined

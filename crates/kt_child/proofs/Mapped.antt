@@ -1,6 +1,6 @@
 -- A list that is made by a function of each element of another.
 use Rattle.std.proofs.Common.{◌≡◌, ℕ, ◌+◌, ◌<◌, List, [], ◌∷◌, ◌++◌, map, take, length, get_or, sym, ◌∙◌, ap, append_assoc}
-use Rattle.std.proofs.lemmas.List.{map_more}
+use Rattle.kt_child.proofs.Common.{map_more}
 
 -- one element more
 pub mapped_more : {X Y : Type 0} (f : X → Y) (start now new : List Y) (xs : List X) (i : ℕ) (x : X) (y : Y)

@@ -1,19 +1,7 @@
 -- How often a number stands among cases, what a name of its own follows from, and how names stay apart.
-use Rattle.std.proofs.Common.{◌≡◌, ℕ, zero, suc, ◌+◌, ◌≤◌, ◌==◌, ◌&&◌, List, [], ◌∷◌, ◌++◌, Bool, true, false, Some, ◌⊎◌, map, slice_get, refl, sym, ◌∙◌, ap, arith, inl, inr, if◌then◌else◌}
-use Rattle.std.specs.Prelude.{remove}
-use Rattle.std.proofs.lemmas.Bool.Decides.{nat_tests}
-use Rattle.kt_sched.specs.Children.{same_role}
-use Rattle.kt_child.specs.declared.system.values.Child.{Child}
-use Rattle.kt_child.specs.declared.polling.watched.Watched.{Watched}
-use Rattle.kt_child.specs.declared.planning.case.Case.{Case}
-use Rattle.kt_child.specs.Inner.Children.{one_if}
-use Rattle.kt_child.specs.Driving.ChildrenState.{ChildrenState, Waited, pending_with}
-use Rattle.kt_child.specs.Polling.Lives.{same_child}
+use Rattle.std.proofs.Common.{◌≡◌, ℕ, zero, suc, ◌+◌, ◌≤◌, ◌==◌, ◌&&◌, List, [], ◌∷◌, ◌++◌, Bool, true, false, Some, ◌⊎◌, map, slice_get, refl, sym, ◌∙◌, ap, arith, inl, inr, if◌then◌else◌, remove}
+use Rattle.kt_child.proofs.Common.{nat_tests, same_role, Child, Watched, Case, one_if, ChildrenState, Waited, pending_with, same_child, Ended, Call, is_over, IsBare}
 use Rattle.kt_child.proofs.Shares.{kept, name_of, named}
-use Rattle.kt_sched.specs.declared.ended.Ended.{Ended}
-use Rattle.kt_child.specs.System.Calls.{Call}
-use Rattle.kt_child.specs.Ending.Ends.{is_over}
-use Rattle.kt_child.specs.Driving.Numbers.{IsBare}
 use Rattle.kt_child.proofs.Places.{mapped_append}
 use Rattle.kt_child.proofs.SeveralWaits.{names_waited}
 

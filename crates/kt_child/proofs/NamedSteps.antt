@@ -1,14 +1,8 @@
 -- The children of one name, in lists that are cut, joined and polled.
-use Rattle.std.proofs.Common.{◌≡◌, ℕ, zero, suc, List, [], ◌∷◌, ◌++◌, Bool, true, false, Some, ◌⊎◌, map, take, drop, slice_get, refl, ◌∙◌, ap, inl, inr, sym}
-use Rattle.kt_child.specs.declared.system.values.Child.{Child}
-use Rattle.kt_child.specs.declared.polling.watched.Watched.{Watched}
-use Rattle.kt_child.specs.Polling.Lives.{same_child}
-use Rattle.kt_child.specs.Polling.Turns.{advanced, advanced_below, after_turns}
+use Rattle.std.proofs.Common.{◌≡◌, ℕ, zero, suc, List, [], ◌∷◌, ◌++◌, Bool, true, false, Some, ◌⊎◌, map, take, drop, slice_get, refl, ◌∙◌, ap, inl, inr, sym, remove}
+use Rattle.kt_child.proofs.Common.{Child, Watched, same_child, advanced, advanced_below, after_turns, Outcome, Heard}
 use Rattle.kt_child.proofs.Shares.{kept, named, Share, name_of}
 use Rattle.kt_child.proofs.Places.{some_is}
-use Rattle.std.specs.Prelude.{remove}
-use Rattle.kt_base.specs.declared.outcome.Outcome.{Outcome}
-use Rattle.kt_child.specs.Polling.ChildOutcome.{Heard}
 
 kept_append : (b : Bool) (k : Watched) (xs ys : List Watched) → kept b k (xs ++ ys) ≡ kept b k xs ++ ys
 kept_append true k xs ys = refl

@@ -1,9 +1,7 @@
 -- The next number of a driver never falls, and each attempt takes one.
 use Rattle.std.proofs.Common.{◌≡◌, ◌-◌, ◌^◌, ◌<◌, ◌≤◌, List, [], ◌∷◌, true, ap, arith, inl, inr}
-use Rattle.kt_base.specs.declared.role.Role.TheVariants.{Body, Cleanup}
-use Rattle.kt_child.specs.System.Calls.{Call}
-use Rattle.kt_child.specs.declared.driving.driver.Driver.{Driver}
-use Rattle.kt_child.specs.Driving.Numbers.{AttemptsDiffer, Request, Start, Wait, ListOf, Serves, ServesAll, is_attempt}
+use Rattle.kt_child.proofs.Common.{Body, Cleanup, Call, Driver, AttemptsDiffer, Request, Wait, ListOf, Serves, ServesAll, is_attempt}
+use Rattle.kt_child.specs.Driving.Numbers.{Start}
 
 -- no request lets the number fall
 rises : {O : Type 0} (leads : O → Call → O → Type 0) (d e : Driver O) (request : Request) → Serves leads d request e → d.next ≤ e.next

@@ -1,17 +1,9 @@
 -- A life, poll by poll, comes to what the table tells of it.
 use Rattle.std.proofs.Common.{◌≡◌, ℕ, zero, suc, ◌+◌, ◌-◌, ◌*◌, ◌<◌, ◌==◌, List, [], ◌∷◌, ◌++◌, Bool, true, false, Result, Ok, Err, ◌⊎◌, refl, sym, ◌∙◌, ap, subst, arith, inl, inr, if◌then◌else◌}
-use Rattle.std.proofs.lemmas.Bool.Decides.{nat_tests}
-use Rattle.kt_base.specs.declared.outcome.Outcome.{Outcome}
-use Rattle.kt_base.specs.declared.outcome.Outcome.TheVariants.{Exited, Signaled, WaitFailed}
-use Rattle.kt_child.specs.declared.system.values.Polled.{Polled}
-use Rattle.kt_child.specs.declared.system.values.Polled.TheVariants.{Running, Exited as PolledExit, Signaled as PolledSignal}
-use Rattle.kt_child.specs.declared.system.os_fault.OsFault.{OsFault}
-use Rattle.kt_child.specs.declared.polling.watched.Watch.{Watch}
-use Rattle.kt_child.specs.declared.polling.polls.Turn.{Turn}
-use Rattle.kt_child.specs.declared.polling.polls.Turn.TheVariants.{More, Ended}
-use Rattle.kt_child.specs.Polling.Polls.{turn_of}
-use Rattle.kt_child.specs.Inner.Children.{Lived, heard_of}
-use Rattle.kt_child.specs.Polling.ChildOutcome.{Heard, HeardPoll, HeardKill, Told, ToldAfterKill, ToldWithin, fresh, running}
+use Rattle.kt_child.proofs.Common.{nat_tests, Outcome, Polled, OsFault, Watch, Turn, More, turn_of, Lived, heard_of, Heard, HeardPoll, HeardKill, Told, ToldAfterKill, ToldWithin, fresh, running}
+use Rattle.kt_base.specs.declared.child.Outcome.TheVariants.{Exited, Signaled, WaitFailed}
+use Rattle.kt_child.specs.declared.system.Polled.TheVariants.{Running, Exited as PolledExit, Signaled as PolledSignal}
+use Rattle.kt_child.specs.declared.polling.Turn.TheVariants.{Ended}
 
 last_true : (a : ℕ) (n : ℕ) → a + 1 ≡ n → (a + 1 == n) ≡ true
 last_true a n h = grind (arith, nat_tests)

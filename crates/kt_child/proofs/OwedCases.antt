@@ -1,15 +1,7 @@
 -- Which cases are owed a cleanup.
-use Rattle.std.proofs.Common.{◌≡◌, ℕ, ◌+◌, ◌≤◌, ◌==◌, ◌&&◌, List, [], ◌∷◌, ◌++◌, length, drop, slice_get, Bool, true, false, Option, Some, refl, sym, ◌∙◌, ap, subst, arith, if◌then◌else◌, nat_lt}
-use Rattle.std.specs.Prelude.{remove}
-use Rattle.std.proofs.lemmas.Bool.Decides.{nat_tests}
-use Rattle.std.proofs.lemmas.List.{drop_all}
-use Rattle.kt_base.specs.declared.role.Role.{Role}
-use Rattle.kt_base.specs.declared.role.Role.TheVariants.{Body, Cleanup}
-use Rattle.kt_child.specs.declared.planning.case.Case.{Case}
-use Rattle.kt_sched.specs.Children.{Child as Shown, same_role, with_cleanup_declared}
-use Rattle.kt_child.specs.Inner.Children.{count_at, one_if}
-use Rattle.kt_child.specs.Driving.ChildrenState.{is_among, pending_with, shown, shown_at}
-use Rattle.kt_child.specs.Ending.Ends.{is_over}
+use Rattle.std.proofs.Common.{◌≡◌, ℕ, ◌+◌, ◌≤◌, ◌==◌, ◌&&◌, List, [], ◌∷◌, ◌++◌, slice_get, Bool, true, false, Option, Some, refl, sym, ◌∙◌, ap, subst, arith, if◌then◌else◌, nat_lt, remove}
+use Rattle.kt_child.proofs.Common.{nat_tests, Role, Body, Cleanup, Case, same_role, with_cleanup_declared, count_at, one_if, is_among, pending_with, shown, shown_at, is_over}
+use Rattle.kt_sched.specs.Children.{Child as Shown}
 use Rattle.kt_child.proofs.CaseCounts.{among_counts, and_false, count_append, count_remove, same_position}
 
 -- a case behind those that are owed
@@ -55,10 +47,6 @@ among_owed cases pending c k e =
     among_if (is_over c) pending (pending ++ c ∷ []) k
     ∙ owed_step (k == c.position) c.role c.cleanup (shown c) (shown_at cases c.position) (is_among pending k) (is_among (pending ++ c ∷ []) k)
     e refl (among_append pending c k)
-
--- no case is behind the end
-pub among_end : (cases : List Case) (i k : ℕ) → length cases ≤ i → is_among (drop i cases) k ≡ true → ⊥
-among_end cases i k le h = absurd (cc (subst (λ t. is_among t k ≡ true) (drop_all i cases le) h))
 
 -- a case taken from those that are owed
 pub among_remove : (cases : List Case) (p : ℕ) (c : Case) (k : ℕ) → slice_get cases p ≡ Some c → count_at c.position cases ≤ 1

@@ -1,15 +1,8 @@
 -- A file that is read in parts: what is known after some of them.
 use Rattle.std.proofs.Common.{◌≡◌, ℕ, suc, ◌+◌, List, [], ◌∷◌, ◌++◌, length, Result, refl, sym, ◌∙◌, ap, subst, arith, append_assoc, length-append, zero-add}
-use Rattle.kt_child.specs.declared.system.os_fault.OsFault.{OsFault}
-use Rattle.kt_child.specs.declared.system.values.FileRead.{FileRead}
-use Rattle.kt_child.specs.declared.ending.parts.NextPart.{NextPart}
-use Rattle.kt_child.specs.declared.ending.parts.NextPart.TheVariants.{More}
-use Rattle.kt_base.specs.Chains.{Chain}
-use Rattle.kt_child.specs.System.Calls.{Call}
-use Rattle.kt_child.specs.declared.ending.parts.ReadEnd.{ReadEnd}
-use Rattle.kt_child.specs.Inner.Children.{Takes, Tells}
-use Rattle.kt_child.specs.Ending.Parts.{After, IsNext, Reads, Whole, next_part}
-use Rattle.kt_child.specs.Ending.Reads.{bytes_of}
+use Rattle.kt_child.proofs.Common.{OsFault, FileRead, NextPart, Chain, Call, Takes, Tells, After, IsNext, Reads, Whole, next_part, bytes_of}
+use Rattle.kt_child.specs.declared.ending.NextPart.TheVariants.{More}
+use Rattle.kt_child.specs.declared.ending.ReadEnd.{ReadEnd}
 use Rattle.kt_child.proofs.Chains.{chain_append}
 
 -- what is known after some parts: whatever the rest of the reading is, it is the rest of the whole reading

@@ -1,18 +1,7 @@
 -- What the children of one name hear in polls of a list of children.
 use Rattle.std.proofs.Common.{◌≡◌, ℕ, zero, suc, List, [], ◌∷◌, ◌++◌, Bool, true, false, Result, map, refl, sym, ◌∙◌, ap, subst, inr, append_assoc, if◌then◌else◌}
-use Rattle.kt_base.specs.declared.outcome.Outcome.{Outcome}
-use Rattle.kt_child.specs.declared.system.values.Child.{Child}
-use Rattle.kt_child.specs.declared.system.values.Polled.{Polled}
-use Rattle.kt_child.specs.declared.system.os_fault.OsFault.{OsFault}
-use Rattle.kt_child.specs.declared.polling.polls.Turn.TheVariants.{More}
-use Rattle.kt_child.specs.declared.polling.watched.Watched.{Watched}
-use Rattle.kt_child.specs.System.Calls.{Call, Poll, Kill, Pause}
-use Rattle.kt_child.specs.Inner.Children.{heard_of}
-use Rattle.kt_child.specs.Polling.ChildOutcome.{Heard, HeardPoll, HeardKill}
-use Rattle.kt_child.specs.Polling.Lives.{heard_by, own, same_child}
-use Rattle.kt_child.specs.Polling.Polls.{asked_by_poll, is_killed, turn_of}
+use Rattle.kt_child.proofs.Common.{Outcome, Child, Polled, OsFault, More, Watched, Call, Poll, Kill, Pause, heard_of, Heard, HeardPoll, HeardKill, heard_by, own, same_child, asked_by_poll, is_killed, turn_of, PolledAll, Rounds, advanced, after_turns}
 use Rattle.kt_child.proofs.Shares.{GoesOn, LivesOut, Share, Went, kept, named}
-use Rattle.kt_child.specs.Polling.Turns.{PolledAll, Rounds, advanced, after_turns}
 use Rattle.kt_child.proofs.LifeSteps.{heard_append}
 use Rattle.kt_child.proofs.NamedSteps.{named_map}
 

@@ -1,16 +1,7 @@
 -- What a wait is for each child of a list of children.
-use Rattle.std.proofs.Common.{◌≡◌, ℕ, zero, suc, ◌<◌, List, [], ◌∷◌, ◌++◌, Bool, true, false, Option, Some, None, ◌⊎◌, map, take, drop, slice_get, refl, sym, ◌∙◌, ap, subst, inl, inr, append-nil}
-use Rattle.std.specs.Prelude.{remove}
-use Rattle.kt_base.specs.declared.outcome.Outcome.{Outcome}
-use Rattle.kt_child.specs.declared.system.values.Child.{Child}
-use Rattle.kt_child.specs.declared.polling.watched.Watched.{Watched}
-use Rattle.kt_child.specs.System.Calls.{Call}
-use Rattle.kt_child.specs.Inner.Children.{heard_of}
-use Rattle.kt_child.specs.Polling.ChildOutcome.{Heard, Told, fresh}
-use Rattle.kt_child.specs.Polling.Lives.{heard_by, same_child}
-use Rattle.kt_child.specs.Polling.Polls.{is_killed}
+use Rattle.std.proofs.Common.{◌≡◌, ℕ, zero, suc, ◌<◌, List, [], ◌∷◌, ◌++◌, Bool, true, false, Option, Some, None, ◌⊎◌, map, take, drop, slice_get, refl, sym, ◌∙◌, ap, subst, inl, inr, append-nil, remove}
+use Rattle.kt_child.proofs.Common.{Outcome, Child, Watched, Call, heard_of, Heard, Told, fresh, heard_by, same_child, is_killed, PolledAll, PolledLast, WaitedOn, advanced, after_turns}
 use Rattle.kt_child.proofs.Shares.{GoesOn, LivesOut, Share, kept, name_of, named}
-use Rattle.kt_child.specs.Polling.Turns.{PolledAll, PolledLast, WaitedOn, advanced, after_turns}
 use Rattle.kt_child.proofs.Places.{some_is}
 use Rattle.kt_child.proofs.LifeSteps.{child_is_own, heard_append}
 use Rattle.kt_child.proofs.NamedSteps.{at_place, in_parts, is_last, name_at, named_append, named_map, names_below, names_turns, share_removed}

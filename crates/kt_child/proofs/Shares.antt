@@ -1,16 +1,6 @@
 -- What one of several running children answers: a part of its life, the rest of it, or its share of a wait.
-use Rattle.std.specs.Prelude.{◌≡◌, ℕ, zero, suc, List, [], ◌∷◌, ◌++◌, Bool, true, false, Result}
-use Rattle.kt_base.specs.declared.outcome.Outcome.{Outcome}
-use Rattle.kt_child.specs.declared.system.values.Child.{Child}
-use Rattle.kt_child.specs.declared.system.values.Polled.{Polled}
-use Rattle.kt_child.specs.declared.system.os_fault.OsFault.{OsFault}
-use Rattle.kt_child.specs.declared.polling.polls.Turn.TheVariants.{More}
-use Rattle.kt_child.specs.declared.polling.watched.Watched.{Watched}
-use Rattle.kt_child.specs.Inner.Children.{Lived, heard_of}
-use Rattle.kt_child.specs.Polling.ChildOutcome.{Heard}
-use Rattle.kt_child.specs.Polling.Lives.{same_child}
-use Rattle.kt_child.specs.Polling.Polls.{turn_of}
-use Rattle.kt_child.specs.Polling.Turns.{advanced}
+use Rattle.std.proofs.Common.{◌≡◌, ℕ, zero, suc, List, [], ◌∷◌, ◌++◌, Bool, true, false, Result}
+use Rattle.kt_child.proofs.Common.{Outcome, Child, Polled, OsFault, More, Watched, Lived, heard_of, Heard, same_child, turn_of, advanced}
 
 abbrev pub name_of : Watched → Child
 name_of k = k.child

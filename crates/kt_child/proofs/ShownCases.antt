@@ -1,12 +1,7 @@
 -- What is shown of the cases that run.
-use Rattle.std.proofs.Common.{◌≡◌, ℕ, zero, suc, ◌+◌, ◌<◌, ◌≤◌, ◌==◌, ◌&&◌, List, [], ◌∷◌, ◌++◌, slice_get, Bool, true, false, Option, Some, None, refl, sym, ◌∙◌, ap, subst, arith, if◌then◌else◌}
-use Rattle.std.specs.Prelude.{remove}
-use Rattle.std.proofs.lemmas.Bool.{and_from}
-use Rattle.kt_base.specs.declared.role.Role.{Role}
-use Rattle.kt_child.specs.declared.planning.case.Case.{Case}
-use Rattle.kt_sched.specs.Children.{Child as Shown, same_role}
-use Rattle.kt_child.specs.Inner.Children.{count_at, one_if}
-use Rattle.kt_child.specs.Driving.ChildrenState.{shown, shown_at}
+use Rattle.std.proofs.Common.{◌≡◌, ℕ, zero, suc, ◌+◌, ◌<◌, ◌≤◌, ◌==◌, ◌&&◌, List, [], ◌∷◌, ◌++◌, slice_get, Bool, true, false, Option, Some, None, refl, sym, ◌∙◌, ap, subst, arith, if◌then◌else◌, remove}
+use Rattle.kt_child.proofs.Common.{and_from, Role, Case, same_role, count_at, one_if, shown, shown_at}
+use Rattle.kt_sched.specs.Children.{Child as Shown}
 use Rattle.kt_child.proofs.CaseCounts.{and_left, count_there, none_there, other, own_role, same_number, same_position}
 
 -- two tests that don't hold together may change places

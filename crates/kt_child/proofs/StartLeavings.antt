@@ -1,27 +1,8 @@
 -- What is known of the case that a start takes, and of other cases then.
 use Rattle.std.proofs.Common.{◌≡◌, ℕ, zero, ◌+◌, ◌≤◌, ◌==◌, ◌&&◌, List, [], ◌∷◌, ◌++◌, false, true, Some, ◌⊎◌, slice_get, refl, sym, ◌∙◌, ap, subst, arith, inl, inr}
-use Rattle.kt_base.specs.declared.role.Role.{Role}
-use Rattle.kt_base.specs.declared.role.Role.TheVariants.{Body, Cleanup}
-use Rattle.kt_sched.specs.declared.job.Job.{Job}
-use Rattle.kt_sched.specs.declared.start_answer.StartAnswer.{StartAnswer}
-use Rattle.kt_sched.specs.declared.start_answer.StartAnswer.TheVariants.{Started as StartedAt, Refused as RefusedFor}
-use Rattle.kt_sched.specs.Children.{same_role}
-use Rattle.kt_sched.specs.Plan.{IsPlan}
-use Rattle.kt_sched.specs.Trace.{Trace, Then, Start}
-use Rattle.kt_child.specs.declared.system.values.Child.{Child}
-use Rattle.kt_child.specs.declared.driving.driver.Driver.{Driver}
-use Rattle.kt_child.specs.declared.planning.workdir.Paths.{Paths}
-use Rattle.kt_child.specs.declared.polling.watched.Watched.{Watched}
-use Rattle.kt_child.specs.declared.planning.case.Case.{Case}
-use Rattle.kt_child.specs.Inner.Children.{one_if}
-use Rattle.kt_child.specs.Driving.ChildrenState.{ChildrenState}
-use Rattle.kt_child.specs.System.Calls.{Call}
-use Rattle.kt_child.specs.Polling.ChildOutcome.{Heard}
-use Rattle.kt_child.specs.Planning.ChildPlan.{paths_of}
-use Rattle.kt_child.specs.Driving.JobPlan.{case_in, cleaning, watched_of}
+use Rattle.kt_child.proofs.Common.{Role, Body, Cleanup, Job, StartAnswer, same_role, IsPlan, Trace, Then, Start, Child, Driver, Paths, Watched, Case, one_if, ChildrenState, Call, Heard, paths_of, case_in, cleaning, watched_of, same_child, IsNumberAt, IsNumberOf, following, next_after}
+use Rattle.kt_sched.specs.declared.job.StartAnswer.TheVariants.{Started as StartedAt, Refused as RefusedFor}
 use Rattle.kt_child.specs.Driving.Launches.{Takes}
-use Rattle.kt_child.specs.Polling.Lives.{same_child}
-use Rattle.kt_child.specs.Driving.TraceLives.{IsNumberAt, IsNumberOf, following, next_after}
 use Rattle.kt_child.proofs.Shares.{named}
 use Rattle.kt_child.proofs.CaseCounts.{and_false}
 use Rattle.kt_child.proofs.CasePlaces.{Every, at_none, at_some, every_left, named_last, named_past, other_number}

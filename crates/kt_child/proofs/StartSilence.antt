@@ -1,18 +1,7 @@
 -- What a start asks, which is neither poll nor kill.
-use Rattle.std.proofs.Common.{◌≡◌, ℕ, List, [], ◌∷◌, ◌++◌, Result, Ok, Err, refl, ◌∙◌, ap, inl, inr}
-use Rattle.std.specs.Prelude.{⊤, is_err}
-use Rattle.kt_base.specs.declared.role.Role.{Role}
-use Rattle.kt_base.specs.declared.role.Role.TheVariants.{Body, Cleanup}
-use Rattle.kt_base.specs.declared.refused.Refused.{Refused}
-use Rattle.kt_sched.specs.Children.{same_role}
-use Rattle.kt_sched.specs.declared.start_answer.StartAnswer.{StartAnswer}
-use Rattle.kt_child.specs.declared.system.values.Child.{Child}
-use Rattle.kt_child.specs.declared.system.os_fault.OsFault.{OsFault}
-use Rattle.kt_child.specs.declared.planning.spawning.Spawning.{Spawning}
-use Rattle.kt_child.specs.Driving.Begins.{Begun}
-use Rattle.kt_child.specs.System.Calls.{Call, Now}
-use Rattle.kt_child.specs.Polling.Lives.{heard_by}
-use Rattle.kt_child.specs.Starting.Starts.{Ask, SetUp, SetUpAs, SetUpIn, SetUpNew, Started, Tried, child_asks, furnish_asks}
+use Rattle.std.proofs.Common.{◌≡◌, ℕ, List, [], ◌∷◌, ◌++◌, Result, Ok, Err, refl, ◌∙◌, ap, inl, inr, is_err}
+use Rattle.kt_child.proofs.Common.{Role, Body, Cleanup, Refused, same_role, StartAnswer, Child, OsFault, Spawning, Begun, Call, Now, heard_by, Ask, SetUp, SetUpAs, SetUpIn, SetUpNew, Started, Tried, child_asks, furnish_asks}
+use Rattle.std.specs.Prelude.{⊤}
 use Rattle.kt_child.proofs.EndSilence.{removes_silent}
 use Rattle.kt_child.proofs.LifeSteps.{heard_append}
 

@@ -1,23 +1,8 @@
 -- A state after a start, after a wait, and after a case was taken from those that are owed.
-use Rattle.std.proofs.Common.{◌≡◌, ℕ, suc, ◌+◌, ◌<◌, ◌≤◌, List, ◌++◌, length, slice_get, take, drop, Bool, true, Option, Some, None, refl, sym, ◌∙◌, ap, subst, arith, ◌==◌, ◌&&◌, if◌then◌else◌, [], ◌∷◌, length-append, false}
-use Rattle.std.specs.Prelude.{remove, All}
-use Rattle.std.proofs.lemmas.List.{take_at}
+use Rattle.std.proofs.Common.{◌≡◌, ℕ, suc, ◌+◌, ◌<◌, ◌≤◌, List, ◌++◌, length, slice_get, take, drop, Bool, true, Option, Some, None, refl, sym, ◌∙◌, ap, subst, arith, ◌==◌, ◌&&◌, if◌then◌else◌, [], ◌∷◌, length-append, false, remove, All}
+use Rattle.kt_child.proofs.Common.{take_at, All-append, All-take, All-drop, All-push, Role, Body, Outcome, Evidence, Watched, Case, Ended, Chain, Call, IsChildrenState, IsOn, count_at, one_if, WaitedOn, IsEvidence, same_role, running_after_end, pending_after_end, with_cleanup_declared, ChildrenState, Waited, is_among, pending_with, shown, shown_at, Leaves}
 use Rattle.std.proofs.lemmas.List.Edits.{length-remove}
-use Rattle.std.proofs.lemmas.List.Elements.{All-append, All-take, All-drop, All-push}
-use Rattle.kt_base.specs.declared.role.Role.{Role}
-use Rattle.kt_base.specs.declared.role.Role.TheVariants.{Body}
-use Rattle.kt_base.specs.declared.outcome.Outcome.{Outcome}
-use Rattle.kt_claim.specs.declared.evidence.Evidence.{Evidence}
-use Rattle.kt_child.specs.declared.polling.watched.Watched.{Watched}
-use Rattle.kt_child.specs.declared.planning.case.Case.{Case}
-use Rattle.kt_sched.specs.declared.ended.Ended.{Ended}
-use Rattle.kt_base.specs.Chains.{Chain}
-use Rattle.kt_child.specs.System.Calls.{Call}
-use Rattle.kt_child.specs.Inner.Children.{IsChildrenState, IsOn, count_at, one_if}
-use Rattle.kt_child.specs.Polling.Turns.{WaitedOn}
-use Rattle.kt_sched.specs.Children.{Child as Shown, IsEvidence, same_role, running_after_end, pending_after_end, with_cleanup_declared}
-use Rattle.kt_child.specs.Driving.ChildrenState.{ChildrenState, Waited, is_among, pending_with, shown, shown_at}
-use Rattle.kt_child.specs.Ending.Ends.{Leaves}
+use Rattle.kt_sched.specs.Children.{Child as Shown}
 use Rattle.kt_child.proofs.Chains.{chain_append}
 use Rattle.kt_child.proofs.CaseCounts.{count_owed, count_remove, count_append, same_number, same_position}
 use Rattle.kt_child.proofs.OwedCases.{among_owed}

@@ -1,25 +1,7 @@
 -- A wait keeps what is known of a driver's children, and the end that it tells is that of a life.
 use Rattle.std.proofs.Common.{◌≡◌, ℕ, ◌<◌, ◌≤◌, ◌==◌, ◌&&◌, List, [], ◌∷◌, ◌++◌, Bool, true, false, Some, slice_get, refl, sym, ◌∙◌, ap, subst, arith, append-nil}
-use Rattle.kt_base.specs.declared.outcome.Outcome.{Outcome}
-use Rattle.kt_base.specs.declared.role.Role.{Role}
-use Rattle.kt_base.specs.declared.role.Role.TheVariants.{Body, Cleanup}
-use Rattle.kt_sched.specs.declared.job.Job.{Job}
-use Rattle.kt_sched.specs.declared.ended.Ended.{Ended}
-use Rattle.kt_sched.specs.Children.{same_role}
-use Rattle.kt_sched.specs.Plan.{IsPlan}
-use Rattle.kt_sched.specs.Trace.{Trace, Then, End}
-use Rattle.kt_child.specs.declared.system.values.Child.{Child}
-use Rattle.kt_child.specs.declared.polling.watched.Watched.{Watched}
-use Rattle.kt_child.specs.declared.planning.case.Case.{Case}
-use Rattle.kt_child.specs.Inner.Children.{one_if}
-use Rattle.kt_child.specs.Driving.ChildrenState.{ChildrenState, Waited}
-use Rattle.kt_child.specs.System.Calls.{Call}
-use Rattle.kt_child.specs.Polling.ChildOutcome.{Heard, Told}
-use Rattle.kt_child.specs.Ending.Ends.{Leaves}
-use Rattle.kt_child.specs.Driving.JobPlan.{case_in, limit_of, watched_of}
-use Rattle.kt_child.specs.Polling.Lives.{heard_by, same_child}
+use Rattle.kt_child.proofs.Common.{Outcome, Role, Body, Cleanup, Job, Ended, same_role, IsPlan, Trace, Then, End, Child, Watched, Case, one_if, ChildrenState, Waited, Call, Heard, Told, Leaves, case_in, limit_of, watched_of, heard_by, same_child, IsNumberOf, LeavesAtLast}
 use Rattle.kt_child.proofs.Shares.{GoesOn, LivesOut, Share, named}
-use Rattle.kt_child.specs.Driving.TraceLives.{IsNumberOf, LeavesAtLast}
 use Rattle.kt_child.proofs.CaseCounts.{and_false}
 use Rattle.kt_child.proofs.CasePlaces.{other_absent, other_number, own_child}
 use Rattle.kt_child.proofs.EndSilence.{shares_at}

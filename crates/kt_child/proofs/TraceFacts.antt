@@ -1,20 +1,7 @@
 -- What is known of a driver's children after a trace, by what each name answered, and of each answer by its calls.
 use Rattle.std.proofs.Common.{◌≡◌, ℕ, ◌+◌, ◌-◌, ◌^◌, ◌<◌, ◌≤◌, ◌==◌, List, [], ◌∷◌, ◌++◌, true, false, Some, slice_get, refl, sym, ap, subst, arith, if◌then◌else◌}
-use Rattle.std.proofs.lemmas.Bool.Decides.{nat_tests}
-use Rattle.kt_base.specs.declared.role.Role.{Role}
-use Rattle.kt_base.specs.declared.role.Role.TheVariants.{Body, Cleanup}
-use Rattle.kt_sched.specs.declared.job.Job.{Job}
-use Rattle.kt_sched.specs.Trace.{Trace, NoEvent, Then, Event, Start, End}
-use Rattle.kt_child.specs.declared.system.values.Child.{Child}
-use Rattle.kt_child.specs.declared.polling.watched.Watched.{Watched}
-use Rattle.kt_child.specs.declared.planning.case.Case.{Case}
-use Rattle.kt_child.specs.Driving.ChildrenState.{ChildrenState}
-use Rattle.kt_child.specs.Polling.ChildOutcome.{Heard, Told}
-use Rattle.kt_child.specs.System.Calls.{Call}
-use Rattle.kt_child.specs.Planning.ChildPlan.{paths_of}
-use Rattle.kt_child.specs.Driving.JobPlan.{case_in, limit_of, watched_of}
+use Rattle.kt_child.proofs.Common.{nat_tests, Role, Body, Cleanup, Job, Trace, NoEvent, Then, Event, Start, End, Child, Watched, Case, ChildrenState, Heard, Told, Call, paths_of, case_in, limit_of, watched_of, BegunAt, EachWith, IsNumberOf, LeavesAtLast, following, next_after}
 use Rattle.kt_child.proofs.Shares.{GoesOn, named}
-use Rattle.kt_child.specs.Driving.TraceLives.{BegunAt, EachWith, IsNumberOf, LeavesAtLast, following, next_after}
 use Rattle.kt_child.proofs.CasePlaces.{Every}
 use Rattle.kt_child.proofs.NameCounts.{Apart, case_name, numbered}
 

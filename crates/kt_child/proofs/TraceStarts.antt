@@ -1,27 +1,8 @@
 -- A start keeps what is known of a driver's children, and is known by its own calls.
 use Rattle.std.proofs.Common.{◌≡◌, ℕ, ◌≤◌, List, [], ◌∷◌, ◌++◌, Some, slice_get, refl, sym, ◌∙◌, ap, subst, arith, inl, inr}
-use Rattle.kt_base.specs.declared.role.Role.{Role}
-use Rattle.kt_base.specs.declared.role.Role.TheVariants.{Body, Cleanup}
-use Rattle.kt_base.specs.declared.refused.Refused.{Refused}
-use Rattle.kt_base.specs.declared.refused.Refused.TheVariants.{Directory}
-use Rattle.kt_sched.specs.declared.job.Job.{Job}
-use Rattle.kt_sched.specs.declared.start_answer.StartAnswer.{StartAnswer}
-use Rattle.kt_sched.specs.declared.start_answer.StartAnswer.TheVariants.{Started as StartedAt, Refused as RefusedFor}
-use Rattle.kt_sched.specs.Plan.{IsPlan}
-use Rattle.kt_sched.specs.Trace.{Trace, Then, Start}
-use Rattle.kt_child.specs.declared.system.values.Child.{Child}
-use Rattle.kt_child.specs.declared.driving.driver.Driver.{Driver}
-use Rattle.kt_child.specs.declared.polling.watched.Watched.{Watched}
-use Rattle.kt_child.specs.declared.planning.case.Case.{Case}
-use Rattle.kt_child.specs.Driving.Begins.{Begun, state_after_start}
-use Rattle.kt_child.specs.Driving.ChildrenState.{ChildrenState}
-use Rattle.kt_base.specs.Chains.{Chain}
-use Rattle.kt_child.specs.System.Calls.{Call}
-use Rattle.kt_child.specs.Polling.ChildOutcome.{Heard}
-use Rattle.kt_child.specs.Driving.JobPlan.{case_in, spawning_of, watched_of}
-use Rattle.kt_child.specs.Driving.Launches.{StartsBy, with_pending}
-use Rattle.kt_child.specs.Polling.Lives.{heard_by}
-use Rattle.kt_child.specs.Driving.TraceLives.{BegunAt, IsNumberAt, IsNumberOf, following, next_after}
+use Rattle.kt_child.proofs.Common.{Role, Body, Cleanup, Refused, Job, StartAnswer, IsPlan, Trace, Then, Start, Child, Driver, Watched, Case, Begun, state_after_start, ChildrenState, Chain, Call, Heard, case_in, spawning_of, watched_of, StartsBy, with_pending, heard_by, BegunAt, IsNumberAt, IsNumberOf, following, next_after}
+use Rattle.kt_base.specs.declared.child.Refused.TheVariants.{Directory}
+use Rattle.kt_sched.specs.declared.job.StartAnswer.TheVariants.{Started as StartedAt, Refused as RefusedFor}
 use Rattle.kt_child.proofs.CasePlaces.{Every, every_push, named_past}
 use Rattle.kt_child.proofs.NameCounts.{Apart, case_name, names_more, none_named, numbered, numbered_more, own_number}
 use Rattle.kt_child.proofs.StartSilence.{begun_silent}

@@ -1,22 +1,7 @@
 -- Over a whole trace the answers of each child are one life, which tells its end.
 use Rattle.std.proofs.Common.{◌≡◌, ℕ, List, [], ◌++◌, Some, slice_get, refl, sym, ◌∙◌, ap, subst, append-nil}
-use Rattle.kt_base.specs.declared.role.Role.{Role}
-use Rattle.kt_sched.specs.declared.job.Job.{Job}
-use Rattle.kt_sched.specs.declared.start_answer.StartAnswer.{StartAnswer}
-use Rattle.kt_sched.specs.declared.ended.Ended.{Ended}
-use Rattle.kt_sched.specs.Plan.{IsPlan}
-use Rattle.kt_sched.specs.Trace.{Trace, NoEvent, Then, Event, Start, End, Leads}
-use Rattle.kt_child.specs.declared.driving.driver.Driver.{Driver}
-use Rattle.kt_child.specs.declared.system.values.Child.{Child}
-use Rattle.kt_child.specs.Driving.ChildrenState.{ChildrenState}
-use Rattle.kt_base.specs.Chains.{Chain}
-use Rattle.kt_child.specs.System.Calls.{Call}
-use Rattle.kt_child.specs.Polling.ChildOutcome.{Heard, Told}
-use Rattle.kt_child.specs.Driving.JobPlan.{limit_of}
+use Rattle.kt_child.proofs.Common.{Role, Job, StartAnswer, Ended, IsPlan, Trace, NoEvent, Then, Event, Start, End, Leads, Driver, Child, ChildrenState, Chain, Call, Heard, Told, limit_of, heard_by, IsBare, EachWith, ToldAt}
 use Rattle.kt_child.specs.Driving.DriverSteps.{DriverStarts, DriverWaits}
-use Rattle.kt_child.specs.Polling.Lives.{heard_by}
-use Rattle.kt_child.specs.Driving.Numbers.{IsBare}
-use Rattle.kt_child.specs.Driving.TraceLives.{EachWith, ToldAt}
 use Rattle.kt_child.proofs.CasePlaces.{Every}
 use Rattle.kt_child.proofs.Chains.{chain_append}
 use Rattle.kt_child.proofs.LifeSteps.{heard_append}

@@ -1,20 +1,6 @@
 -- What is known of a driver's children after a wait.
-use Rattle.std.proofs.Common.{◌≡◌, ℕ, ◌<◌, ◌≤◌, ◌==◌, ◌&&◌, List, [], ◌∷◌, ◌++◌, Bool, true, false, Some, ◌⊎◌, slice_get, refl, sym, ◌∙◌, ap, subst, arith, inl, inr, if◌then◌else◌}
-use Rattle.std.specs.Prelude.{remove}
-use Rattle.std.proofs.lemmas.Bool.{cases_lt}
-use Rattle.kt_base.specs.declared.role.Role.{Role}
-use Rattle.kt_base.specs.declared.role.Role.TheVariants.{Body, Cleanup}
-use Rattle.kt_sched.specs.declared.job.Job.{Job}
-use Rattle.kt_sched.specs.declared.ended.Ended.{Ended}
-use Rattle.kt_sched.specs.Children.{same_role}
-use Rattle.kt_sched.specs.Plan.{IsPlan}
-use Rattle.kt_sched.specs.Trace.{Trace, Then, End}
-use Rattle.kt_child.specs.declared.system.values.Child.{Child}
-use Rattle.kt_child.specs.declared.planning.case.Case.{Case}
-use Rattle.kt_child.specs.Driving.ChildrenState.{ChildrenState, Waited}
-use Rattle.kt_child.specs.System.Calls.{Call}
-use Rattle.kt_child.specs.Polling.ChildOutcome.{Heard}
-use Rattle.kt_child.specs.Ending.Ends.{is_over}
+use Rattle.std.proofs.Common.{◌≡◌, ℕ, ◌<◌, ◌≤◌, ◌==◌, ◌&&◌, List, [], ◌∷◌, ◌++◌, Bool, true, false, Some, ◌⊎◌, slice_get, refl, sym, ◌∙◌, ap, subst, arith, inl, inr, if◌then◌else◌, remove}
+use Rattle.kt_child.proofs.Common.{cases_lt, Role, Body, Cleanup, Job, Ended, same_role, IsPlan, Trace, Then, End, Child, Case, ChildrenState, Waited, Call, Heard, is_over}
 use Rattle.kt_child.proofs.CaseCounts.{and_false}
 use Rattle.kt_child.proofs.CasePlaces.{Every, at_none, at_some, every_push, left_at, other_absent}
 use Rattle.kt_child.proofs.NameCounts.{Apart, case_name, none_named, numbered, numbered_less, owed, own_number, wait_apart}

@@ -1,22 +1,8 @@
 -- One turn, poll by poll.
 use Rattle.std.proofs.Common.{◌≡◌, ℕ, zero, suc, ◌+◌, ◌<◌, List, [], ◌∷◌, ◌++◌, length, take, Bool, Option, Result, refl, sym, ◌∙◌, ap, subst, add-one, append_assoc, append-nil}
-use Rattle.std.proofs.Math.ListN.{get_or, set}
-use Rattle.std.proofs.lemmas.List.{take_more}
-use Rattle.std.specs.List.{All}
-use Rattle.std.proofs.lemmas.List.Elements.{All-get_or}
-use Rattle.std.proofs.lemmas.Option.{slice_get-get_or}
-use Rattle.kt_base.specs.declared.outcome.Outcome.{Outcome}
-use Rattle.kt_child.specs.declared.system.values.Polled.{Polled}
-use Rattle.kt_child.specs.declared.system.os_fault.OsFault.{OsFault}
-use Rattle.kt_child.specs.declared.polling.watched.Watch.{Watch}
-use Rattle.kt_child.specs.declared.polling.polls.Turn.{Turn}
-use Rattle.kt_child.specs.declared.polling.polls.Turn.TheVariants.{More, Ended}
-use Rattle.kt_child.specs.declared.polling.watched.Watched.{Watched}
-use Rattle.kt_base.specs.Chains.{Chain}
-use Rattle.kt_child.specs.System.Calls.{Call}
-use Rattle.kt_child.specs.Polling.Polls.{asked_by_poll, turn_of, watch_after}
-use Rattle.kt_child.specs.Inner.Children.{IsOn}
-use Rattle.kt_child.specs.Polling.Turns.{PolledAll, PolledLast, PolledUntil, advanced, advanced_below}
+use Rattle.kt_child.proofs.Common.{set, take_more, All, All-get_or, slice_get-get_or, Outcome, Polled, OsFault, Watch, Turn, More, Watched, Chain, Call, asked_by_poll, turn_of, watch_after, IsOn, PolledAll, PolledLast, PolledUntil, advanced, advanced_below}
+use Rattle.std.proofs.Math.ListN.{get_or}
+use Rattle.kt_child.specs.declared.polling.Turn.TheVariants.{Ended}
 use Rattle.kt_child.proofs.Chains.{chain_append}
 
 -- a child that wasn't polled yet is as it was

@@ -1,15 +1,7 @@
 -- A child that doesn't run hears nothing in a wait.
-use Rattle.std.proofs.Common.{◌≡◌, ℕ, zero, suc, List, [], ◌∷◌, ◌++◌, Bool, true, false, map, take, drop, slice_get, refl, sym, ◌∙◌, ap}
-use Rattle.std.specs.Prelude.{remove}
-use Rattle.kt_base.specs.declared.outcome.Outcome.{Outcome}
-use Rattle.kt_sched.specs.declared.ended.Ended.{Ended}
-use Rattle.kt_child.specs.declared.system.values.Child.{Child}
-use Rattle.kt_child.specs.declared.polling.watched.Watched.{Watched}
-use Rattle.kt_child.specs.Driving.ChildrenState.{ChildrenState, Waited}
-use Rattle.kt_child.specs.System.Calls.{Call, Pause}
-use Rattle.kt_child.specs.Polling.Lives.{heard_by, same_child}
+use Rattle.std.proofs.Common.{◌≡◌, ℕ, zero, suc, List, [], ◌∷◌, ◌++◌, Bool, true, false, map, take, drop, slice_get, refl, sym, ◌∙◌, ap, remove}
+use Rattle.kt_child.proofs.Common.{Outcome, Ended, Child, Watched, ChildrenState, Waited, Call, Pause, heard_by, same_child, PolledUntil, Rounds, WaitedOn, advanced, after_turns}
 use Rattle.kt_child.proofs.Shares.{kept, name_of, named}
-use Rattle.kt_child.specs.Polling.Turns.{PolledUntil, Rounds, WaitedOn, advanced, after_turns}
 use Rattle.kt_child.proofs.EndSilence.{leaves_silent}
 use Rattle.kt_child.proofs.LifeSteps.{heard_append}
 use Rattle.kt_child.proofs.NameCounts.{names_head, names_tail}

@@ -1,16 +1,7 @@
 -- Whole turns, one after the other.
 use Rattle.std.proofs.Common.{◌≡◌, ℕ, zero, suc, ◌<◌, List, [], ◌∷◌, ◌++◌, length, map, Bool, true, false, refl, ◌∙◌, ap, subst, arith, append_assoc}
+use Rattle.kt_child.proofs.Common.{All, All-get_or, Outcome, Body, Child, Watched, Chain, Call, Pause, IsOn, IsShort, polls_left, PolledAll, PolledUntil, Rounds, WaitedOn, advanced, advanced_below, after_turns}
 use Rattle.std.proofs.Math.ListN.{get_or}
-use Rattle.std.specs.List.{All}
-use Rattle.std.proofs.lemmas.List.Elements.{All-get_or}
-use Rattle.kt_base.specs.declared.outcome.Outcome.{Outcome}
-use Rattle.kt_base.specs.declared.role.Role.TheVariants.{Body}
-use Rattle.kt_child.specs.declared.system.values.Child.{Child}
-use Rattle.kt_child.specs.declared.polling.watched.Watched.{Watched}
-use Rattle.kt_base.specs.Chains.{Chain}
-use Rattle.kt_child.specs.System.Calls.{Call, Pause}
-use Rattle.kt_child.specs.Inner.Children.{IsOn, IsShort, polls_left}
-use Rattle.kt_child.specs.Polling.Turns.{PolledAll, PolledUntil, Rounds, WaitedOn, advanced, advanced_below, after_turns}
 use Rattle.kt_child.proofs.Chains.{chain_append}
 
 abbrev pub no_child : Watched

@@ -7,4 +7,5 @@ pub mod Launches
 pub mod Lists
 pub mod Numbers
 pub mod Roots
+pub mod Starts
 pub mod TraceLives

@@ -1,8 +1,8 @@
+pub mod Common
 pub mod Driving
 pub mod Ending
 pub mod Host
 pub mod Inner
 pub mod Planning
 pub mod Polling
-pub mod Starting
 pub mod System

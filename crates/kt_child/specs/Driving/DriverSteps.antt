@@ -1,11 +1,11 @@
 -- What a driver does as a launcher: its starts, its waits and its lists.
 use Rattle.std.specs.Prelude.{◌≡◌, ℕ, List}
-use Rattle.kt_base.specs.declared.role.Role.{Role}
+use Rattle.kt_base.specs.declared.child.Role.{Role}
 use Rattle.kt_base.specs.declared.variable.Variable.{Variable}
 use Rattle.kt_atflist.specs.declared.listing.Listing.{Listing}
 use Rattle.kt_sched.specs.declared.job.Job.{Job}
-use Rattle.kt_sched.specs.declared.start_answer.StartAnswer.{StartAnswer}
-use Rattle.kt_sched.specs.declared.ended.Ended.{Ended}
+use Rattle.kt_sched.specs.declared.job.StartAnswer.{StartAnswer}
+use Rattle.kt_sched.specs.declared.job.Ended.{Ended}
 use Rattle.kt_child.specs.declared.driving.driver.Driver.{Driver}
 use Rattle.kt_base.specs.Chains.{Chain}
 use Rattle.kt_child.specs.System.Calls.{Call}

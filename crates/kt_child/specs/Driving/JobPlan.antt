@@ -1,19 +1,19 @@
 -- What a child is started for, and with.
 use Rattle.std.specs.Prelude.{ℕ, List, [], ◌++◌, codes, if◌then◌else◌}
-use Rattle.kt_base.specs.declared.interface.Interface.{Interface}
-use Rattle.kt_base.specs.declared.interface.Interface.TheVariants.{Atf}
-use Rattle.kt_base.specs.declared.role.Role.{Role}
-use Rattle.kt_base.specs.declared.role.Role.TheVariants.{Body, Cleanup}
+use Rattle.kt_base.specs.declared.child.Interface.{Interface}
+use Rattle.kt_base.specs.declared.child.Interface.TheVariants.{Atf}
+use Rattle.kt_base.specs.declared.child.Role.{Role}
+use Rattle.kt_base.specs.declared.child.Role.TheVariants.{Body, Cleanup}
 use Rattle.kt_base.specs.declared.variable.Variable.{Variable}
 use Rattle.kt_base.specs.Texts.{is_empty}
 use Rattle.kt_suite.specs.Paths.{parent_of}
 use Rattle.kt_sched.specs.declared.job.Job.{Job}
 use Rattle.kt_child.specs.declared.planning.workdir.Paths.{Paths}
-use Rattle.kt_child.specs.declared.planning.purpose.Want.{Want}
-use Rattle.kt_child.specs.declared.planning.purpose.Want.TheVariants.{List as Listing, Body as BodyOf, Cleanup as CleanupOf}
-use Rattle.kt_child.specs.declared.planning.spawning.Spawning.{Spawning}
-use Rattle.kt_child.specs.declared.polling.watched.Watched.{Watched}
-use Rattle.kt_child.specs.declared.planning.case.Case.{Case}
+use Rattle.kt_child.specs.declared.planning.Want.{Want}
+use Rattle.kt_child.specs.declared.planning.Want.TheVariants.{List as Listing, Body as BodyOf, Cleanup as CleanupOf}
+use Rattle.kt_child.specs.declared.planning.Spawning.{Spawning}
+use Rattle.kt_child.specs.declared.polling.Watched.{Watched}
+use Rattle.kt_child.specs.declared.planning.Case.{Case}
 use Rattle.kt_child.specs.Planning.ChildPlan.{env_of, paths_of, words_of}
 use Rattle.kt_child.specs.Polling.ChildOutcome.{fresh}
 use Rattle.kt_child.specs.Ending.Ends.{err_of, out_of}

@@ -1,13 +1,13 @@
 -- The starts of a driver.
 use Rattle.std.specs.Prelude.{ℕ, ◌≡◌, ◌+◌, ◌-◌, ◌<◌, ◌^◌, ◌⊎◌, List, Some, slice_get, remove}
-use Rattle.kt_base.specs.declared.role.Role.{Role}
-use Rattle.kt_base.specs.declared.role.Role.TheVariants.{Body, Cleanup}
-use Rattle.kt_base.specs.declared.refused.Refused.TheVariants.{Directory}
+use Rattle.kt_base.specs.declared.child.Role.{Role}
+use Rattle.kt_base.specs.declared.child.Role.TheVariants.{Body, Cleanup}
+use Rattle.kt_base.specs.declared.child.Refused.TheVariants.{Directory}
 use Rattle.kt_sched.specs.declared.job.Job.{Job}
-use Rattle.kt_sched.specs.declared.start_answer.StartAnswer.{StartAnswer}
-use Rattle.kt_sched.specs.declared.start_answer.StartAnswer.TheVariants.{Refused as RefusedFor}
+use Rattle.kt_sched.specs.declared.job.StartAnswer.{StartAnswer}
+use Rattle.kt_sched.specs.declared.job.StartAnswer.TheVariants.{Refused as RefusedFor}
 use Rattle.kt_child.specs.declared.driving.driver.Driver.{Driver}
-use Rattle.kt_child.specs.declared.planning.case.Case.{Case}
+use Rattle.kt_child.specs.declared.planning.Case.{Case}
 use Rattle.kt_base.specs.Chains.{Chain}
 use Rattle.kt_child.specs.System.Calls.{Call}
 use Rattle.kt_child.specs.Driving.JobPlan.{case_in, cleaning, spawning_of, watched_of}

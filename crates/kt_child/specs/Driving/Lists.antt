@@ -1,22 +1,22 @@
 -- A program's list of test cases, asked of the program itself.
 use Rattle.std.specs.Prelude.{◌≡◌, ◌<◌, ◌+◌, ◌-◌, ◌^◌, ◌⊎◌, ℕ, List, [], ◌∷◌, ◌++◌, Bool, Result, Ok, Err}
-use Rattle.kt_base.specs.declared.refused.Refused.TheVariants.{Memory, Directory}
-use Rattle.kt_base.specs.declared.outcome.Outcome.{Outcome}
+use Rattle.kt_base.specs.declared.child.Refused.TheVariants.{Memory, Directory}
+use Rattle.kt_base.specs.declared.child.Outcome.{Outcome}
 use Rattle.kt_base.specs.declared.variable.Variable.{Variable}
 use Rattle.kt_atflist.specs.declared.listing.ListBytes.{ListBytes}
 use Rattle.kt_atflist.specs.declared.listing.Listing.{Listing}
 use Rattle.kt_atflist.specs.declared.listing.Listing.TheVariants.{Refused as RefusedFor, Ended}
-use Rattle.kt_child.specs.declared.system.os_fault.OsFault.{OsFault}
-use Rattle.kt_child.specs.declared.system.values.FileRead.{FileRead}
+use Rattle.kt_child.specs.declared.system.OsFault.{OsFault}
+use Rattle.kt_child.specs.declared.system.FileRead.{FileRead}
 use Rattle.kt_child.specs.declared.driving.driver.Driver.{Driver}
-use Rattle.kt_child.specs.declared.planning.spawning.Spawning.{Spawning}
+use Rattle.kt_child.specs.declared.planning.Spawning.{Spawning}
 use Rattle.kt_base.specs.Chains.{Chain}
 use Rattle.kt_child.specs.System.Calls.{Call, ReadFile, RemoveTree}
 use Rattle.kt_child.specs.Planning.ChildPlan.{paths_of}
 use Rattle.kt_child.specs.Polling.ChildOutcome.{Told}
 use Rattle.kt_child.specs.Polling.Lives.{heard_by}
 use Rattle.kt_child.specs.Driving.JobPlan.{list_purpose, spawning_for}
-use Rattle.kt_child.specs.Starting.Starts.{SetUp, spawned}
+use Rattle.kt_child.specs.Driving.Starts.{SetUp, spawned}
 use Rattle.kt_child.specs.Polling.Turns.{WaitedUntil}
 use Rattle.kt_child.specs.Ending.Reads.{IsListWithin, list_of}
 

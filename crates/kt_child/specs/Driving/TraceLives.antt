@@ -1,16 +1,16 @@
 -- What is asked over a whole trace of a driver, answer by answer, and what its children answer.
 use Rattle.std.specs.Prelude.{◌≡◌, ℕ, ◌+◌, ◌-◌, ◌^◌, ◌==◌, ◌⊎◌, List, [], ◌++◌, Some, slice_get, if◌then◌else◌}
-use Rattle.kt_base.specs.declared.role.Role.{Role}
-use Rattle.kt_base.specs.declared.role.Role.TheVariants.{Body, Cleanup}
-use Rattle.kt_base.specs.declared.refused.Refused.TheVariants.{Directory}
+use Rattle.kt_base.specs.declared.child.Role.{Role}
+use Rattle.kt_base.specs.declared.child.Role.TheVariants.{Body, Cleanup}
+use Rattle.kt_base.specs.declared.child.Refused.TheVariants.{Directory}
 use Rattle.kt_sched.specs.declared.job.Job.{Job}
-use Rattle.kt_sched.specs.declared.start_answer.StartAnswer.{StartAnswer}
-use Rattle.kt_sched.specs.declared.start_answer.StartAnswer.TheVariants.{Started, Refused}
-use Rattle.kt_sched.specs.declared.ended.Ended.{Ended}
+use Rattle.kt_sched.specs.declared.job.StartAnswer.{StartAnswer}
+use Rattle.kt_sched.specs.declared.job.StartAnswer.TheVariants.{Started, Refused}
+use Rattle.kt_sched.specs.declared.job.Ended.{Ended}
 use Rattle.kt_sched.specs.Plan.{IsPlan}
 use Rattle.kt_sched.specs.Trace.{Trace, NoEvent, Then, Event, Start, End, Leads}
 use Rattle.kt_child.specs.declared.driving.driver.Driver.{Driver}
-use Rattle.kt_child.specs.declared.planning.case.Case.{Case}
+use Rattle.kt_child.specs.declared.planning.Case.{Case}
 use Rattle.kt_child.specs.Driving.Begins.{Begun}
 use Rattle.kt_base.specs.Chains.{Chain}
 use Rattle.kt_child.specs.System.Calls.{Call}

@@ -1,17 +1,17 @@
 -- The evidence that a child left.
 use Rattle.std.specs.Prelude.{◌≡◌, ℕ, List, [], ◌⊎◌}
-use Rattle.kt_base.specs.declared.role.Role.{Role}
-use Rattle.kt_base.specs.declared.role.Role.TheVariants.{Body, Cleanup}
-use Rattle.kt_base.specs.declared.interface.Interface.{Interface}
-use Rattle.kt_base.specs.declared.interface.Interface.TheVariants as interface
+use Rattle.kt_base.specs.declared.child.Role.{Role}
+use Rattle.kt_base.specs.declared.child.Role.TheVariants.{Body, Cleanup}
+use Rattle.kt_base.specs.declared.child.Interface.{Interface}
+use Rattle.kt_base.specs.declared.child.Interface.TheVariants as interface
 use Rattle.kt_claim.specs.declared.evidence.Evidence.{Evidence}
 use Rattle.kt_claim.specs.declared.evidence.Evidence.TheVariants as evidence
-use Rattle.kt_claim.specs.declared.claim.Claim.{Claim}
-use Rattle.kt_claim.specs.declared.claim.Claim.TheVariants as claim
-use Rattle.kt_claim.specs.declared.claim.ClaimFault.TheVariants as claim_fault
-use Rattle.kt_claim.specs.declared.tap.Tap.{Tap}
-use Rattle.kt_claim.specs.declared.tap.Tap.TheVariants as tap
-use Rattle.kt_claim.specs.declared.tap.TapFault.TheVariants as tap_fault
+use Rattle.kt_claim.specs.declared.evidence.Claim.{Claim}
+use Rattle.kt_claim.specs.declared.evidence.Claim.TheVariants as claim
+use Rattle.kt_claim.specs.declared.evidence.ClaimFault.TheVariants as claim_fault
+use Rattle.kt_claim.specs.declared.evidence.Tap.{Tap}
+use Rattle.kt_claim.specs.declared.evidence.Tap.TheVariants as tap
+use Rattle.kt_claim.specs.declared.evidence.TapFault.TheVariants as tap_fault
 use Rattle.kt_claim.specs.ResultFile.{IsClaimOf}
 use Rattle.kt_claim.specs.TapStream.{tap_of}
 use Rattle.kt_child.specs.declared.planning.workdir.Paths.{Paths}

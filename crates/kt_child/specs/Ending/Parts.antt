@@ -1,10 +1,10 @@
 -- A file that is read in parts.
 use Rattle.std.specs.Prelude.{◌≡◌, ℕ, zero, suc, ◌+◌, ◌-◌, ◌<◌, ◌==◌, min, List, [], ◌∷◌, ◌++◌, length, true, false, Result, Ok, Err, ◌⊎◌, leb, if◌then◌else◌}
-use Rattle.kt_child.specs.declared.system.os_fault.OsFault.{OsFault}
-use Rattle.kt_child.specs.declared.system.values.FileRead.{FileRead}
-use Rattle.kt_child.specs.declared.system.values.FileRead.TheVariants.{Missing as NoFile, Part}
-use Rattle.kt_child.specs.declared.ending.parts.NextPart.{NextPart}
-use Rattle.kt_child.specs.declared.ending.parts.NextPart.TheVariants.{More, All, Absent, Failed, Past}
+use Rattle.kt_child.specs.declared.system.OsFault.{OsFault}
+use Rattle.kt_child.specs.declared.system.FileRead.{FileRead}
+use Rattle.kt_child.specs.declared.system.FileRead.TheVariants.{Missing as NoFile, Part}
+use Rattle.kt_child.specs.declared.ending.NextPart.{NextPart}
+use Rattle.kt_child.specs.declared.ending.NextPart.TheVariants.{More, All, Absent, Failed, Past}
 use Rattle.kt_child.specs.Ending.Reads.{bytes_of}
 use Rattle.kt_child.specs.System.Calls.{Call, ReadPart}
 

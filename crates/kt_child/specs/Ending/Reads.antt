@@ -2,9 +2,9 @@
 use Rattle.std.specs.Prelude.{ℕ, ◌≤◌, List, [], length, true, false, Result, Ok, Err}
 use Rattle.kt_atflist.specs.declared.listing.ListBytes.{ListBytes}
 use Rattle.kt_atflist.specs.declared.listing.ListBytes.TheVariants.{Read, Unreadable, TooLong}
-use Rattle.kt_child.specs.declared.system.os_fault.OsFault.{OsFault}
-use Rattle.kt_child.specs.declared.system.values.FileRead.{FileRead}
-use Rattle.kt_child.specs.declared.system.values.FileRead.TheVariants.{Missing, Part}
+use Rattle.kt_child.specs.declared.system.OsFault.{OsFault}
+use Rattle.kt_child.specs.declared.system.FileRead.{FileRead}
+use Rattle.kt_child.specs.declared.system.FileRead.TheVariants.{Missing, Part}
 
 -- the bytes of an answer
 abbrev pub bytes_of : Result FileRead OsFault → List ℕ

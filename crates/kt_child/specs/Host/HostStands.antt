@@ -2,7 +2,7 @@
 use Rattle.std.specs.Prelude.{◌≡◌, false, Option, Some, None, IsSome, IsSomeAnd, option_map, List, [], ◌∷◌, if◌then◌else◌}
 use Rattle.std.specs.Process.{child_status}
 use Rattle.std.specs.declared.process.status.ExitStatus.{ExitStatus}
-use Rattle.kt_child.specs.declared.system.values.Child.{Child}
+use Rattle.kt_child.specs.declared.system.Child.{Child}
 use Rattle.kt_child.specs.declared.host.host_child.HostChild.{HostChild}
 use Rattle.kt_child.specs.Polling.Lives.{same_child}
 

@@ -1,22 +1,22 @@
 -- The children of a driver, as private functions keep and poll them.
 use Rattle.std.specs.Prelude.{ℕ, ◌==◌, ◌&&◌, Option, Some, if◌then◌else◌, Bool, true, false, ◌≡◌, ◌+◌, ◌≤◌, List, [], ◌∷◌, length, All, ◌-◌, ◌*◌, ◌<◌, zero, suc, ◌++◌, Result, ◌⊎◌}
-use Rattle.kt_base.specs.declared.role.Role.{Role}
-use Rattle.kt_sched.specs.declared.start_answer.StartAnswer.{StartAnswer}
-use Rattle.kt_sched.specs.declared.start_answer.StartAnswer.TheVariants.{Started as StartedAt, Refused as RefusedFor}
+use Rattle.kt_base.specs.declared.child.Role.{Role}
+use Rattle.kt_sched.specs.declared.job.StartAnswer.{StartAnswer}
+use Rattle.kt_sched.specs.declared.job.StartAnswer.TheVariants.{Started as StartedAt, Refused as RefusedFor}
 use Rattle.kt_sched.specs.Children.{Child as Shown, same_role}
-use Rattle.kt_child.specs.declared.planning.case.Case.{Case}
+use Rattle.kt_child.specs.declared.planning.Case.{Case}
 use Rattle.kt_child.specs.Driving.ChildrenState.{shown}
-use Rattle.kt_child.specs.declared.polling.watched.Watched.{Watched}
-use Rattle.kt_child.specs.declared.polling.watched.Watch.{Watch}
-use Rattle.kt_base.specs.declared.outcome.Outcome.{Outcome}
-use Rattle.kt_child.specs.declared.system.values.Polled.{Polled}
-use Rattle.kt_child.specs.declared.system.os_fault.OsFault.{OsFault}
-use Rattle.kt_child.specs.declared.polling.polls.Turn.TheVariants.{More, Ended}
+use Rattle.kt_child.specs.declared.polling.Watched.{Watched}
+use Rattle.kt_child.specs.declared.polling.Watch.{Watch}
+use Rattle.kt_base.specs.declared.child.Outcome.{Outcome}
+use Rattle.kt_child.specs.declared.system.Polled.{Polled}
+use Rattle.kt_child.specs.declared.system.OsFault.{OsFault}
+use Rattle.kt_child.specs.declared.polling.Turn.TheVariants.{More, Ended}
 use Rattle.kt_child.specs.Polling.Polls.{is_killed, turn_of, watch_after}
 use Rattle.kt_child.specs.Polling.ChildOutcome.{Heard, HeardKill, HeardPoll}
-use Rattle.kt_child.specs.declared.ending.parts.ReadEnd.{ReadEnd}
+use Rattle.kt_child.specs.declared.ending.ReadEnd.{ReadEnd}
 use Rattle.kt_child.specs.Ending.Parts.{Bytes, Missing, TooLong, Unreadable, Whole}
-use Rattle.kt_child.specs.declared.ending.parts.ReadEnd.TheVariants as read_end
+use Rattle.kt_child.specs.declared.ending.ReadEnd.TheVariants as read_end
 
 -- a child that is not over: fewer than 100 polls a second of its limit before a kill, fewer than 500 after it
 abbrev pub IsShort : Bool → ℕ → ℕ → ℕ → Type 0

@@ -2,18 +2,18 @@
 use Rattle.std.specs.Prelude.{◌≡◌, ◌≢◌, Result, Ok, Err, ℕ, List, [], ◌∷◌, false, Option, Some, None, map, if◌then◌else◌, ◌++◌, ◌+◌, ◌≤◌, ◌<◌, length, IfSome, zero, suc, Bool, true, not, ◌*◌, ◌-◌, ◌/◌, min}
 use Rattle.std.specs.declared.io.ErrorKind.{ErrorKind}
 use Rattle.std.specs.declared.io.ErrorKind.TheVariants.{NotFound, OutOfMemory}
-use Rattle.kt_child.specs.declared.system.os_fault.OsFault.{OsFault}
-use Rattle.kt_child.specs.declared.system.os_fault.OsFault.TheVariants.{Failed, Memory}
-use Rattle.kt_child.specs.declared.system.values.FileRead.{FileRead}
-use Rattle.kt_child.specs.declared.system.values.FileRead.TheVariants.{Missing, Part}
+use Rattle.kt_child.specs.declared.system.OsFault.{OsFault}
+use Rattle.kt_child.specs.declared.system.OsFault.TheVariants.{Failed, Memory}
+use Rattle.kt_child.specs.declared.system.FileRead.{FileRead}
+use Rattle.kt_child.specs.declared.system.FileRead.TheVariants.{Missing, Part}
 use Rattle.std.specs.Str.{bytes_eq}
 use Rattle.std.specs.Process.{clears_env, command_args, command_dir, command_program, command_var}
 use Rattle.std.specs.declared.process.command.Command.{Command}
 use Rattle.kt_base.specs.Utf8.{utf8}
 use Rattle.kt_base.specs.declared.variable.Variable.{Variable}
-use Rattle.kt_child.specs.declared.system.values.EnvPlan.{EnvPlan}
+use Rattle.kt_child.specs.declared.system.EnvPlan.{EnvPlan}
 use Rattle.std.specs.Io.KnownBytes.{Consumes, IsAtEnd}
-use Rattle.kt_child.specs.declared.system.values.Child.{Child}
+use Rattle.kt_child.specs.declared.system.Child.{Child}
 use Rattle.kt_child.specs.declared.host.host_child.HostChild.{HostChild}
 use Rattle.kt_child.specs.Polling.Lives.{same_child}
 

@@ -1,13 +1,13 @@
 -- What a child is given: its paths, its environment and its words.
 use Rattle.std.specs.Prelude.{ℕ, List, [], ◌∷◌, ◌++◌, map, codes}
 use Rattle.std.specs.Fmt.{decimal}
-use Rattle.kt_base.specs.declared.interface.Interface.{Interface}
-use Rattle.kt_base.specs.declared.interface.Interface.TheVariants.{Atf, Tap, Plain}
+use Rattle.kt_base.specs.declared.child.Interface.{Interface}
+use Rattle.kt_base.specs.declared.child.Interface.TheVariants.{Atf, Tap, Plain}
 use Rattle.kt_base.specs.declared.variable.Variable.{Variable}
 use Rattle.kt_child.specs.declared.planning.workdir.Paths.{Paths}
-use Rattle.kt_child.specs.declared.system.values.EnvPlan.{EnvPlan}
-use Rattle.kt_child.specs.declared.planning.purpose.Want.{Want}
-use Rattle.kt_child.specs.declared.planning.purpose.Want.TheVariants.{List as Listing, Body, Cleanup}
+use Rattle.kt_child.specs.declared.system.EnvPlan.{EnvPlan}
+use Rattle.kt_child.specs.declared.planning.Want.{Want}
+use Rattle.kt_child.specs.declared.planning.Want.TheVariants.{List as Listing, Body, Cleanup}
 
 -- the directory of an attempt
 abbrev pub attempt_dir : List ℕ → ℕ → List ℕ

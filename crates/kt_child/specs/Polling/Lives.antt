@@ -1,7 +1,7 @@
 -- What one child answers in a wait.
 use Rattle.std.specs.Prelude.{Bool, true, false, ◌==◌, ◌&&◌, List, [], ◌∷◌, ◌++◌}
 use Rattle.kt_sched.specs.Children.{same_role}
-use Rattle.kt_child.specs.declared.system.values.Child.{Child}
+use Rattle.kt_child.specs.declared.system.Child.{Child}
 use Rattle.kt_child.specs.System.Calls.{Call, Poll, Kill}
 use Rattle.kt_child.specs.Polling.ChildOutcome.{Heard, HeardPoll, HeardKill}
 

@@ -1,13 +1,13 @@
 -- One poll of a child: what is asked, what it means, and what is kept.
 use Rattle.std.specs.Prelude.{ℕ, ◌+◌, ◌*◌, ◌==◌, List, [], ◌∷◌, Bool, true, false, not, ◌&&◌, Result, Ok, Err, if◌then◌else◌}
-use Rattle.kt_base.specs.declared.outcome.Outcome.TheVariants.{Exited, Signaled, TimedOut, WaitFailed}
-use Rattle.kt_child.specs.declared.system.values.Child.{Child}
-use Rattle.kt_child.specs.declared.system.values.Polled.{Polled}
-use Rattle.kt_child.specs.declared.system.values.Polled.TheVariants.{Running, Exited as PolledExit, Signaled as PolledSignal}
-use Rattle.kt_child.specs.declared.system.os_fault.OsFault.{OsFault}
-use Rattle.kt_child.specs.declared.polling.watched.Watch.{Watch}
-use Rattle.kt_child.specs.declared.polling.polls.Turn.{Turn}
-use Rattle.kt_child.specs.declared.polling.polls.Turn.TheVariants.{More, Ended}
+use Rattle.kt_base.specs.declared.child.Outcome.TheVariants.{Exited, Signaled, TimedOut, WaitFailed}
+use Rattle.kt_child.specs.declared.system.Child.{Child}
+use Rattle.kt_child.specs.declared.system.Polled.{Polled}
+use Rattle.kt_child.specs.declared.system.Polled.TheVariants.{Running, Exited as PolledExit, Signaled as PolledSignal}
+use Rattle.kt_child.specs.declared.system.OsFault.{OsFault}
+use Rattle.kt_child.specs.declared.polling.Watch.{Watch}
+use Rattle.kt_child.specs.declared.polling.Turn.{Turn}
+use Rattle.kt_child.specs.declared.polling.Turn.TheVariants.{More, Ended}
 use Rattle.kt_child.specs.System.Calls.{Call, Poll, Kill}
 
 -- one more answer `running` is the last one before the deadline

@@ -1,10 +1,10 @@
 -- Turns over the running children.
 use Rattle.std.specs.Prelude.{◌≡◌, ℕ, zero, suc, List, [], ◌∷◌, ◌++◌, Bool, Option, Some, None, Result, take, slice_get, map}
-use Rattle.kt_base.specs.declared.outcome.Outcome.{Outcome}
-use Rattle.kt_child.specs.declared.system.values.Polled.{Polled}
-use Rattle.kt_child.specs.declared.system.os_fault.OsFault.{OsFault}
-use Rattle.kt_child.specs.declared.polling.polls.Turn.TheVariants.{More, Ended}
-use Rattle.kt_child.specs.declared.polling.watched.Watched.{Watched}
+use Rattle.kt_base.specs.declared.child.Outcome.{Outcome}
+use Rattle.kt_child.specs.declared.system.Polled.{Polled}
+use Rattle.kt_child.specs.declared.system.OsFault.{OsFault}
+use Rattle.kt_child.specs.declared.polling.Turn.TheVariants.{More, Ended}
+use Rattle.kt_child.specs.declared.polling.Watched.{Watched}
 use Rattle.kt_child.specs.System.Calls.{Call, Pause}
 use Rattle.kt_child.specs.Polling.Polls.{asked_by_poll, turn_of, watch_after}
 

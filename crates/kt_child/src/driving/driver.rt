@@ -1,12 +1,14 @@
-ghost use Rattle.std.specs.Prelude.{◌≡◌, List, IfOk};
+ghost use Rattle.std.specs.Prelude.{◌≡◌, List, IfOk, length};
 ghost use Rattle.kt_base.specs.Chains.{Chain};
 ghost use Rattle.kt_child.specs.System.Calls.{Call};
 ghost use Rattle.kt_child.specs.Driving.Roots.{FindsRoot, root_of};
 ghost use Rattle.kt_child.specs.declared.driving.driver.DriverFault.TheVariants as fault;
 
-use crate::driving::running_children::RunningChildren;
-use crate::system::os::Os;
-use kt_base::{NoMemory, Role, Text};
+use crate::Os;
+use crate::driving::running_children::{RunningChildren, refuse};
+use crate::driving::starts::{body_case, memory_refusal, spawning, want_and_limit};
+use crate::planning::{Case, Purpose};
+use kt_base::{NoMemory, Refused, Role, Text};
 use kt_removal::numbered_path;
 use kt_sched::{Ended, Job, Launcher, StartAnswer};
 use std::alloc::Global;
@@ -32,7 +34,7 @@ impl From<NoMemory> for DriverFault {
 
 /// Starts children in directories below its own root directory, watches them and cleans up after them.
 #[derive(Drop)]
-pub struct Driver<O: Os + Drop> {
+pub struct Driver<O: Drop> {
     pub(crate) os: O,
     pub(crate) alloc: Global,
     /// The absolute directory of the root Kyuafile.
@@ -41,13 +43,13 @@ pub struct Driver<O: Os + Drop> {
     pub(crate) root: Text,
     /// The number of the next start of a body or a list.
     pub(crate) next: u64,
-    /// What runs and what is owed.
+    /// What runs and what is owed; each running child has its case.
     pub(crate) running: RunningChildren,
+    ghost paired: { length running.children ≡ length running.cases },
 }
 
 impl<O: Os + Drop> Launcher for Driver<O> {
-    ghost use Rattle.kt_child.specs.Driving.ChildrenState.{is_among, shown_at};
-    ghost use Rattle.kt_child.specs.Driving.DriverSteps.{DriverStarts, DriverWaits};
+    ghost use Rattle.kt_child.specs.Common.{is_among, shown_at, DriverStarts, DriverWaits};
 
     ghost running = { λ d. shown_at d.running.cases };
 
@@ -71,10 +73,7 @@ impl<O: Os + Drop> Launcher for Driver<O> {
 
 impl<O: Os + Drop> Driver<O> {
     ghost use Rattle.std.specs.Prelude.{◌≡◌, Bool, List, MatchResult, Ok, Err};
-    ghost use Rattle.kt_base.specs.Chains.{Chain};
-    ghost use Rattle.kt_child.specs.System.Calls.{Call, RemoveTree};
-    ghost use Rattle.kt_child.specs.Driving.Roots.{FindsRoot};
-    ghost use Rattle.kt_child.specs.Driving.ChildrenState.{idle_state};
+    ghost use Rattle.kt_child.specs.Common.{Chain, Call, RemoveTree, FindsRoot, idle_state};
 
     /// Makes a root directory in `base`. `source` is the absolute directory of the root Kyuafile. Errors return `os`.
     pub fn new(
@@ -138,4 +137,91 @@ fn find_root<O: Os>(alloc: Global, os: &mut O, base: &Text) -> Result<Text, Driv
         }
     }
     Err(DriverFault::NoWorkDirectory)
+}
+
+impl<O: Os + Drop> Driver<O> {
+    ghost use Rattle.std.specs.Prelude.{◌≡◌, ◌+◌, ℕ, List};
+    ghost use Rattle.kt_child.specs.Common.{MayStart, pending_after_start, running_after_start, HasMoment, IsFit, Chain, Call, count_at, shown_after, Begun, state_after_start, is_among, shown_at, spawning_of, watched_of, StartsBy};
+    ghost use Rattle.kt_base.specs.declared.child.Role.{Role as Part};
+
+    /// Starts a child of a job's case.
+    fn begin(&mut self, job: &Job, case: Case) -> StartAnswer
+        requires fit { IsFit job.now }
+        requires free { count_at case.position self.old.running.cases
+            + count_at case.position self.old.running.pending ≡ 0 }
+        ensures begun { (calls : List Call) × Chain O.leads self.old.os calls self.new.os
+            × Begun (spawning_of self.old.source job.now case.role case.attempt case.paths)
+            calls result }
+        ensures state { self.new.running ≡ state_after_start self.old.running
+            (watched_of job.now case.role case.attempt) case result }
+        ensures shown { (k : ℕ) (r : Part) → shown_at self.new.running.cases k r
+            ≡ shown_after (shown_at self.old.running.cases) case result k r }
+        ensures moment { HasMoment result }
+        ensures next { self.new.next ≡ self.old.next }
+        ensures source { self.new.source ≡ self.old.source }
+        ensures root { self.new.root ≡ self.old.root }
+    {
+        let (want, limit) = want_and_limit(job, case.role);
+        let purpose = Purpose {
+            role: case.role,
+            want,
+            interface: job.interface,
+            program: &job.program,
+            variables: &job.vars,
+            case_name: &job.case_name,
+            limit,
+        };
+        match spawning(self.alloc, &self.source, purpose, case.attempt, &case.paths) {
+            Err(refusal) => refuse(&mut self.os, case.role, &case.paths.dir, refusal),
+            Ok(plan) => self.running.start(&mut self.os, case, &plan),
+        }
+    }
+
+    /// Starts the body of a job with the next number.
+    pub(crate) fn start_body(&mut self, job: &Job) -> StartAnswer
+        requires fit { IsFit job.now }
+        requires may { MayStart (shown_at self.old.running.cases)
+            (is_among self.old.running.pending) job.now.position Role.Body }
+        ensures starts { StartsBy O.leads self.old job.now Role.Body result self.new }
+        ensures source { self.new.source ≡ self.old.source }
+        ensures root { self.new.root ≡ self.old.root }
+        ensures moment { HasMoment result }
+        ensures running { (k : ℕ) (r : Part) → shown_at self.new.running.cases k r
+            ≡ running_after_start (shown_at self.old.running.cases) job.now Role.Body result k r }
+        ensures pending { self.new.running.pending ≡ self.old.running.pending }
+    {
+        if self.next == u64::MAX {
+            return StartAnswer::Refused(Refused::Directory);
+        }
+        let attempt = self.next;
+        self.next += 1;
+        match body_case(self.alloc, &self.root, attempt, job) {
+            Err(refusal) => StartAnswer::Refused(memory_refusal(refusal)),
+            Ok(case) => self.begin(job, case),
+        }
+    }
+
+    /// Starts the cleanup of a job, which is owed, with the number and the paths of its body.
+    pub(crate) fn start_cleanup(&mut self, job: &Job) -> StartAnswer
+        requires fit { IsFit job.now }
+        requires may { MayStart (shown_at self.old.running.cases)
+            (is_among self.old.running.pending) job.now.position Role.Cleanup }
+        ensures starts { StartsBy O.leads self.old job.now Role.Cleanup result self.new }
+        ensures source { self.new.source ≡ self.old.source }
+        ensures root { self.new.root ≡ self.old.root }
+        ensures moment { HasMoment result }
+        ensures running { (k : ℕ) (r : Part) → shown_at self.new.running.cases k r
+            ≡ running_after_start (shown_at self.old.running.cases) job.now Role.Cleanup result k r }
+        ensures pending { (k : ℕ) → is_among self.new.running.pending k
+            ≡ pending_after_start (is_among self.old.running.pending) job.now.position Role.Cleanup k }
+    {
+        let owed = self.running.take_owed(job.position);
+        let case = Case {
+            role: Role::Cleanup,
+            interface: job.interface,
+            cleanup: job.cleanup,
+            ..owed
+        };
+        self.begin(job, case)
+    }
 }

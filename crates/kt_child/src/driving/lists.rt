@@ -1,21 +1,11 @@
 ghost use Rattle.std.specs.Prelude.{◌≡◌, List, IfOk};
-ghost use Rattle.kt_base.specs.Chains.{Chain};
-ghost use Rattle.kt_child.specs.System.Calls.{Call};
-ghost use Rattle.kt_child.specs.Planning.ChildPlan.{paths_of};
-ghost use Rattle.kt_child.specs.Driving.JobPlan.{list_purpose, spawning_for};
-ghost use Rattle.kt_child.specs.Driving.Lists.{RanList, WatchedList};
-ghost use Rattle.kt_child.specs.Inner.Children.{IsOn};
-ghost use Rattle.kt_child.specs.Starting.Starts.{spawned};
+ghost use Rattle.kt_child.specs.Common.{Chain, Call, paths_of, list_purpose, spawning_for, RanList, WatchedList, IsOn, spawned};
 
-use crate::driving::driver::Driver;
-use crate::driving::jobs::spawning;
-use crate::ending::reads::read_list;
-use crate::planning::purpose::{Purpose, Want};
-use crate::planning::spawning::Spawning;
-use crate::planning::workdir::workdir_plan;
-use crate::polling::turns::wait;
-use crate::starting::starts::{memory_refusal, set_up, spawned};
-use crate::system::os::Os;
+use crate::driving::starts::{memory_refusal, set_up, spawned, spawning};
+use crate::ending::ends::read_list;
+use crate::planning::{Purpose, Spawning};
+use crate::polling::polls::wait;
+use crate::{Driver, Os, Want, workdir_plan};
 use kt_atflist::{ListBytes, Listing};
 use kt_base::{Interface, NoMemory, Outcome, Refused, Role, Text, Variables};
 use kt_suite::Program;
@@ -81,7 +71,7 @@ fn plan_list(
 
 impl<O: Os + Drop> Driver<O> {
     ghost use Rattle.std.specs.Prelude.{◌≡◌};
-    ghost use Rattle.kt_child.specs.Driving.Lists.{ListsBy};
+    ghost use Rattle.kt_child.specs.Common.{ListsBy};
 
     /// Asks an ATF program for its list of test cases, with the variables of its suite.
     pub fn list(&mut self, program: &Program, variables: &Variables) -> Listing

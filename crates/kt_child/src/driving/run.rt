@@ -1,17 +1,7 @@
 ghost use Rattle.std.specs.Prelude.{◌≡◌, List};
-ghost use Rattle.kt_sched.specs.Children.{IsIdle};
-ghost use Rattle.kt_sched.specs.Plan.{IsPlan, IsWidth};
-ghost use Rattle.kt_sched.specs.Run.{Ran};
-ghost use Rattle.kt_sched.specs.Trace.{Trace, Leads};
-ghost use Rattle.kt_base.specs.Chains.{Chain};
-ghost use Rattle.kt_child.specs.System.Calls.{Call};
-ghost use Rattle.kt_child.specs.Driving.ChildrenState.{is_among, shown_at};
-ghost use Rattle.kt_child.specs.Driving.DriverSteps.{DriverStarts, DriverWaits};
-ghost use Rattle.kt_child.specs.Driving.Numbers.{AttemptsDiffer};
-ghost use Rattle.kt_child.specs.Driving.TraceLives.{EachWith, EndsAreTold, ToldAt};
+ghost use Rattle.kt_child.specs.Common.{IsIdle, IsPlan, IsWidth, Ran, Trace, Leads, Chain, Call, is_among, shown_at, DriverStarts, DriverWaits, AttemptsDiffer, EachWith, EndsAreTold, ToldAt};
 
-use crate::driving::driver::Driver;
-use crate::system::os::Os;
+use crate::{Driver, Os};
 use kt_base::Items;
 use kt_sched::{Job, Launcher, RunFault, Sink, Totals, run_cases};
 use std::alloc::Global;
@@ -35,7 +25,6 @@ pub fn run_driver<O: Os + Drop, S: Sink>(
         → (calls : List Call) × Chain O.leads driver.old.os calls driver.new.os
         × EachWith (ToldAt plan driver.old.source driver.old.root driver.old.next calls) T calls }
 {
-    driver.running.paired();
     run_cases(alloc, plan, width, driver, sink)
 }
 

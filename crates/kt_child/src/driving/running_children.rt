@@ -1,18 +1,17 @@
 ghost use Rattle.std.specs.Prelude.{◌≡◌, ◌+◌, ◌<◌, ◌≤◌, length, List, slice_get, Some, remove, OnOk, true};
 ghost use Rattle.std.specs.Vec.{vec_len, vec_capacity};
-ghost use Rattle.kt_child.specs.declared.planning.case.Case.{Case};
+ghost use Rattle.kt_child.specs.declared.planning.Case.{Case};
 ghost use Rattle.kt_child.specs.Driving.Begins.{Unbegun};
 ghost use Rattle.kt_child.specs.Driving.ChildrenState.{is_among, pending_with};
 ghost use Rattle.kt_base.specs.Chains.{Chain};
 ghost use Rattle.kt_child.specs.System.Calls.{Call};
 
+use crate::Os;
+use crate::driving::starts::{memory_refusal, spawned, start_child};
 use crate::ending::ends::{leave, over, remove_if};
-use crate::planning::case::Case;
-use crate::planning::spawning::Spawning;
-use crate::polling::turns::wait;
-use crate::polling::watched::Watched;
-use crate::starting::starts::{memory_refusal, spawned, start_child};
-use crate::system::os::Os;
+use crate::planning::{Case, Spawning};
+use crate::polling::Watched;
+use crate::polling::polls::wait;
 use kt_base::{NoMemory, Refused, Role, Text};
 use kt_sched::{Ended, StartAnswer};
 use std::alloc::Global;
@@ -73,12 +72,11 @@ fn place_of(cases: &[Case], position: u32) -> usize
     ensures within { result < length cases.now }
     ensures position { (c : Case) → slice_get cases.now result ≡ Some c → c.position ≡ position }
 {
-    for i in 0..cases.len() {
-        if cases[i].position == position {
-            return i;
-        }
+    let mut place = 0;
+    while cases[place].position != position {
+        place += 1;
     }
-    unreachable!()
+    place
 }
 
 /// Removes the child at this place. Its case is kept if its cleanup is still to come.
@@ -112,15 +110,8 @@ pub(crate) fn refuse<O: Os>(os: &mut O, role: Role, dir: &Text, refusal: NoMemor
 
 impl RunningChildren {
     ghost use Rattle.std.specs.Prelude.{◌≡◌, ◌==◌, ℕ, ◌+◌, ◌<◌, List, [], length, slice_get, remove, Some, true, false, if◌then◌else◌};
-    ghost use Rattle.kt_sched.specs.Children.{Child as Shown, IsEvidence, running_after_end, pending_after_end};
-    ghost use Rattle.kt_base.specs.Moments.{IsMoment};
-    ghost use Rattle.kt_sched.specs.Moments.{HasMoment};
-    ghost use Rattle.kt_base.specs.Chains.{Chain};
-    ghost use Rattle.kt_child.specs.System.Calls.{Call};
-    ghost use Rattle.kt_child.specs.Inner.Children.{IsOn, count_at, shown_after};
-    ghost use Rattle.kt_child.specs.Driving.ChildrenState.{Waited, idle_state, is_among, shown_at};
-    ghost use Rattle.kt_child.specs.Driving.Begins.{Begun, state_after_start};
-    ghost use Rattle.kt_child.specs.Starting.Starts.{spawned};
+    ghost use Rattle.kt_child.specs.Common.{IsEvidence, running_after_end, pending_after_end, IsMoment, HasMoment, Chain, Call, IsOn, count_at, shown_after, Waited, idle_state, is_among, shown_at, Begun, state_after_start, spawned};
+    ghost use Rattle.kt_sched.specs.Children.{Child as Shown};
 
     /// No running children, which takes no memory.
     pub(crate) fn new(alloc: Global) -> RunningChildren
@@ -131,13 +122,6 @@ impl RunningChildren {
             cases: Vec::new(alloc),
             pending: Vec::new(alloc),
         }
-    }
-
-    /// Says that each child has its case. It does nothing when it runs.
-    pub(crate) fn paired(&self)
-        ensures { length self.now.children ≡ length self.now.cases }
-    {
-        let _ = &self.cases;
     }
 
     /// Takes a case whose cleanup is owed.
@@ -185,6 +169,7 @@ impl RunningChildren {
         requires { 0 < length self.old.cases }
         ensures waited { (calls : List Call) × Chain O.leads os.old calls os.new
             × Waited self.old calls result self.new }
+        ensures paired { length self.new.children ≡ length self.new.cases }
         ensures moment { IsMoment result.moment }
         ensures one_that_ran { (s : Shown) × (shown_at self.old.cases result.position result.role
             ≡ Some s) × IsEvidence s.interface result.role result.evidence }

@@ -1,19 +1,45 @@
-ghost use Rattle.std.specs.Prelude.{◌≡◌, List};
-ghost use Rattle.kt_sched.specs.Children.{IsEvidence};
-ghost use Rattle.kt_base.specs.Moments.{IsMoment};
-ghost use Rattle.kt_base.specs.Chains.{Chain};
-ghost use Rattle.kt_child.specs.System.Calls.{Call};
-ghost use Rattle.kt_child.specs.Ending.Ends.{Leaves, Removes, err_of, is_over, out_of};
+ghost use Rattle.std.specs.Prelude.{◌≡◌, List, ◌≤◌, Result, length};
+ghost use Rattle.kt_child.specs.Common.{IsEvidence, IsMoment, Chain, Call, Leaves, Removes, err_of, is_over, out_of, FileRead, OsFault, ReadFile, IsListWithin, bytes_of, list_of};
 
 use crate::ending::gathering::gather;
-use crate::ending::reads::read_kept;
-use crate::planning::case::Case;
-use crate::planning::workdir::Paths;
+use crate::planning::Case;
 use crate::system::moments::moment;
-use crate::system::os::Os;
-use kt_base::{Outcome, Output, Role, Text};
+use crate::{FileRead, Os, Paths};
+use kt_atflist::ListBytes;
+use kt_base::{Bytes, Outcome, Output, Role, Text};
 use kt_sched::Ended;
 use std::alloc::Global;
+
+/// How many bytes are kept of an output (this profile).
+const KEPT: u64 = 1_048_576;
+
+/// How many bytes a list has at the most (this profile).
+const LIST_LIMIT: u64 = 1_048_576;
+
+/// What is kept of an output: its first 1,048,576 bytes, none where they can't be read.
+pub(crate) fn read_kept<O: Os>(alloc: Global, os: &mut O, path: &Text) -> Bytes
+    ensures asked { (answer : Result FileRead OsFault) × O.leads os.old (ReadFile path.now 1048576 answer) os.new
+        × (result ≡ bytes_of answer) }
+    ensures within { length result ≤ 1048576 }
+{
+    match os.read_file(path, KEPT) {
+        Ok(FileRead::Part(bytes, _)) => bytes,
+        Ok(FileRead::Missing) | Err(_) => Bytes::new(alloc),
+    }
+}
+
+/// The list that a program wrote to its output.
+pub(crate) fn read_list<O: Os>(os: &mut O, path: &Text) -> ListBytes
+    ensures asked { (answer : Result FileRead OsFault) × O.leads os.old (ReadFile path.now 1048576 answer) os.new
+        × (result ≡ list_of answer) }
+    ensures within { IsListWithin result }
+{
+    match os.read_file(path, LIST_LIMIT) {
+        Ok(FileRead::Part(bytes, false)) => ListBytes::Read(bytes),
+        Ok(FileRead::Part(_, true)) => ListBytes::TooLong,
+        Ok(FileRead::Missing) | Err(_) => ListBytes::Unreadable,
+    }
+}
 
 /// The files of a child's output and of its errors.
 pub(crate) fn output_paths(role: Role, paths: &Paths) -> (&Text, &Text)

@@ -1,15 +1,9 @@
 ghost use Rattle.std.specs.Prelude.{ℕ, List};
-ghost use Rattle.kt_claim.specs.ClaimReading.{HasRead};
-ghost use Rattle.kt_claim.specs.StreamReading.{HasStream};
-ghost use Rattle.kt_base.specs.Chains.{Chain};
-ghost use Rattle.kt_child.specs.System.Calls.{Call};
-ghost use Rattle.kt_child.specs.Ending.Parts.{Bytes};
-ghost use Rattle.kt_child.specs.Ending.Gathering.{Gathers, IsClaim, IsTap, ReadsClaim, ReadsTap};
-ghost use Rattle.kt_sched.specs.Children.{IsEvidence};
+ghost use Rattle.kt_child.specs.Common.{HasRead, HasStream, Chain, Call, Bytes, Gathers, IsClaim, IsTap, ReadsClaim, ReadsTap, IsEvidence};
 
-use crate::ending::parts::{ReadEnd, read_in_parts};
-use crate::planning::workdir::Paths;
-use crate::system::os::Os;
+use crate::ending::ReadEnd;
+use crate::ending::parts::read_in_parts;
+use crate::{Os, Paths};
 use kt_base::{Interface, Role, Text};
 use kt_claim::{Claim, ClaimFault, ClaimReader, Evidence, Tap, TapFault, TapReader};
 use std::alloc::Global;
@@ -72,8 +66,7 @@ fn read_tap<O: Os>(alloc: Global, os: &mut O, path: &Text) -> Tap
     }
 }
 
-/// Reads the evidence that a child left: the body of an ATF program its result file, that of a TAP
-/// program its output.
+/// Reads the evidence that a child left: the body of an ATF program its result file, that of a TAP program its output.
 pub(crate) fn gather<O: Os>(
     alloc: Global,
     os: &mut O,

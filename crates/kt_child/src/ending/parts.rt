@@ -1,14 +1,8 @@
 ghost use Rattle.std.specs.Prelude.{◌≡◌, ℕ, ◌+◌, ◌<◌, List, [], Result, length, Ok, OnOk, OnErr};
-ghost use Rattle.kt_child.specs.declared.system.values.FileRead.{FileRead};
-ghost use Rattle.kt_child.specs.declared.system.os_fault.OsFault.{OsFault};
-ghost use Rattle.kt_base.specs.Chains.{Chain};
-ghost use Rattle.kt_child.specs.System.Calls.{Call};
-ghost use Rattle.kt_child.specs.Ending.Reads.{bytes_of};
-ghost use Rattle.kt_child.specs.Inner.Children.{Takes, Tells};
-ghost use Rattle.kt_child.specs.Ending.Parts.{IsNext, Reads, Whole, next_of, next_part};
+ghost use Rattle.kt_child.specs.Common.{FileRead, OsFault, Chain, Call, bytes_of, Takes, Tells, IsNext, Reads, Whole, next_of, next_part};
 
-use crate::system::os::Os;
-use crate::system::values::FileRead;
+use crate::ending::{NextPart, ReadEnd};
+use crate::{FileRead, Os};
 use kt_base::{Bytes, NoMemory, Text};
 use kt_claim::{ClaimReader, TapReader};
 
@@ -43,34 +37,6 @@ impl PartReader for TapReader {
     fn take(&mut self, part: &[u8]) -> Result<(), NoMemory> {
         self.feed(part)
     }
-}
-
-/// What follows a part of a file.
-#[derive(Clone, Copy, Debug, PartialEq, Eq)]
-enum NextPart {
-    /// Another part.
-    More,
-    /// Nothing: the file was read whole.
-    All,
-    /// Nothing: the file is missing.
-    Absent,
-    /// Nothing: the read failed.
-    Failed,
-    /// Nothing: the limit was reached.
-    Past,
-}
-
-/// How the reading of a file in parts ended.
-#[derive(Clone, Copy, Debug, PartialEq, Eq)]
-pub(crate) enum ReadEnd {
-    /// There is no such file.
-    Missing,
-    /// A read failed, or a part could not be kept.
-    Unreadable,
-    /// The limit was reached, and more followed.
-    TooLong,
-    /// The file was read whole.
-    Complete,
 }
 
 /// What follows a part that was kept.

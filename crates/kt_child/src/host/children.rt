@@ -1,13 +1,10 @@
 ghost use Rattle.std.specs.Prelude.{◌≡◌, ◌<◌, length, filter, None, Some, IsSome, IfSome, OnSome, IfNone, IfOk, OnOk};
-ghost use Rattle.kt_child.specs.Polling.Lives.{same_child};
-ghost use Rattle.kt_child.specs.Inner.Host.{IsPlaceOf, is_other};
-ghost use Rattle.kt_child.specs.Host.HostStands.{AllProceed, AllStay, OthersStay, Proceeds, stand_in, stand_of};
+ghost use Rattle.kt_child.specs.Common.{same_child, IsPlaceOf, is_other, AllProceed, AllStay, OthersStay, Proceeds, stand_in, stand_of};
 
 use crate::host::command::Asked;
 use crate::host::host_child::HostChild;
 use crate::host::pace::{PAUSE, slice_after};
-use crate::system::os_fault::OsFault;
-use crate::system::values::Child;
+use crate::{Child, OsFault};
 use kt_base::NoMemory;
 use kt_removal::{Removals, rest};
 use std::fs::File;

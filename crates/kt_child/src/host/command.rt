@@ -1,11 +1,8 @@
 ghost use Rattle.std.specs.Prelude.{◌≡◌, ◌++◌, ℕ, List, Some, None, map, false, IfOk, OnOk, if◌then◌else◌};
-ghost use Rattle.std.specs.Process.{SameDir, SameEnv, SameOtherVars, SameProgramAndArgs, clears_env, command_args, command_program, command_var};
-ghost use Rattle.kt_base.specs.Utf8.{utf8};
-ghost use Rattle.kt_child.specs.Inner.Host.{IsCommandOf, after_removed, after_set};
+ghost use Rattle.kt_child.specs.Common.{SameDir, SameEnv, SameOtherVars, SameProgramAndArgs, clears_env, command_args, command_program, command_var, utf8, IsCommandOf, after_removed, after_set};
 
-use crate::host::faults::or_fault;
-use crate::system::os_fault::OsFault;
-use crate::system::values::EnvPlan;
+use crate::host::or_fault;
+use crate::{EnvPlan, OsFault};
 use kt_base::{Items, NoMemory, Text, Variable, Variables};
 use std::alloc::Global;
 use std::fs::File;
@@ -51,8 +48,7 @@ fn remove_variable(command: &mut Command, name: &Text) -> Result<(), NoMemory>
 /// Removes the variables of these names from what a child gets of the runner's environment.
 fn remove_variables(command: &mut Command, names: &Items<Text>) -> Result<(), NoMemory>
     requires { clears_env command.old ≡ false }
-    ensures variables { OnOk result ((name : List ℕ)
-        → command_var command.new name
+    ensures variables { OnOk result ((name : List ℕ) → command_var command.new name
         ≡ after_removed names.now name (command_var command.old name)) }
     ensures inherits { OnOk result (clears_env command.new ≡ false) }
     ensures call { OnOk result (SameProgramAndArgs command.old command.new) }

@@ -1,8 +1,7 @@
 use crate::host::command::{Asked, spawn};
-use crate::host::faults::or_fault;
+use crate::host::or_fault;
 use crate::host::pace::Pace;
-use crate::system::os_fault::OsFault;
-use crate::system::values::Child;
+use crate::{Child, OsFault};
 use std::fs::File;
 use std::process::{ExitStatus, OpenProcess, Processes};
 use std::rt::Clock;
@@ -29,8 +28,8 @@ pub(crate) struct HostChild<P: OpenProcess> {
 
 impl<P: OpenProcess + Drop> HostChild<P> {
     ghost use Rattle.std.specs.Prelude.{◌≡◌, ◌↔◌, ◌+◌, ◌-◌, ◌^◌, min, Some, None, Ok, true, false, IsTrue, IsSome, IsNone, IsOk, IsErr, IfOk, OnOk};
+    ghost use Rattle.kt_child.specs.Common.{Proceeds, stand_of};
     ghost use Rattle.std.specs.declared.process.status.ExitStatus.{ExitStatus as Status};
-    ghost use Rattle.kt_child.specs.Host.HostStands.{Proceeds, stand_of};
 
     /// A child that does not run, with its limit in seconds and the file of its output.
     pub(crate) fn new(child: Child, limit: u64, out: File) -> HostChild<P>

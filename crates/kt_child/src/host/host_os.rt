@@ -1,17 +1,13 @@
 ghost use Rattle.std.specs.Prelude.{◌≡◌, ◌==◌, ◌/◌, ◌%◌};
-ghost use Rattle.std.specs.Process.{status_bits};
-ghost use Rattle.kt_child.specs.Host.HostAnswers.{IsPolledOf};
+ghost use Rattle.kt_child.specs.Common.{status_bits, IsPolledOf};
 
-use crate::host::children;
 use crate::host::command::Asked;
-use crate::host::faults::{fault_of, or_fault};
 use crate::host::host_child::HostChild;
 use crate::host::outputs::{create_directory, create_output, create_root};
 use crate::host::pace::{PAUSE, is_quiet};
 use crate::host::reads::read_regular;
-use crate::system::os::Os;
-use crate::system::os_fault::OsFault;
-use crate::system::values::{Child, EnvPlan, FileRead, Polled};
+use crate::host::{children, fault_of, or_fault};
+use crate::{Child, EnvPlan, FileRead, Os, OsFault, Polled};
 use kt_base::{Items, Text};
 use kt_removal::{Removals, rest};
 use std::fs::File;
@@ -22,9 +18,8 @@ use std::time::SystemTime;
 
 /// The system itself: the processes, files and clocks of the standard library.
 ///
-/// A pause is over when a child ends, or after 10 milliseconds. A poll whose answer `running` would
-/// be early sleeps first. The first directory is the root of all others. A long removal goes on in
-/// pauses and at later removals.
+/// A pause is over when a child ends, or after 10 milliseconds. A poll whose answer `running` would be early sleeps
+/// first. The first directory is the root of all others. A long removal goes on in pauses and at later removals.
 #[derive(Drop)]
 pub struct HostOs<R: Processes> {
     rt: R,
@@ -65,8 +60,8 @@ fn polled(status: ExitStatus) -> Result<Polled, OsFault>
 
 impl<R: Processes + AllocGlobal + Drop> HostOs<R> {
     ghost use Rattle.std.specs.Prelude.{◌≡◌, None};
-    ghost use Rattle.kt_child.specs.declared.system.values.Child.{Child as Name};
-    ghost use Rattle.kt_child.specs.Host.HostStands.{stand_in};
+    ghost use Rattle.kt_child.specs.Common.{stand_in};
+    ghost use Rattle.kt_child.specs.declared.system.Child.{Child as Name};
 
     /// The system, with no child.
     pub fn new(rt: R) -> HostOs<R>
@@ -87,8 +82,7 @@ impl<R: Processes + AllocGlobal + Drop> HostOs<R> {
 
 impl<R: Processes + Files<File = File> + Clock + AllocGlobal + Clone + Drop> Os for HostOs<R> {
     // Promised: the state of the children that are kept here, and that answers about them and a file are the library's.
-    ghost use Rattle.kt_child.specs.Host.HostStands.{IsLastEnd, stand_in};
-    ghost use Rattle.kt_child.specs.Host.HostAnswers.{HostLeads};
+    ghost use Rattle.kt_child.specs.Common.{IsLastEnd, stand_in, HostLeads};
 
     ghost leads = { λ old call new. HostLeads (stand_in old.children.items) call
         (stand_in new.children.items) (IsLastEnd new.last) };

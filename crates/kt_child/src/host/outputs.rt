@@ -1,9 +1,9 @@
 ghost use Rattle.std.specs.Prelude.{◌≡◌, IfOk};
-ghost use Rattle.kt_child.specs.Driving.Roots.{root_of};
+ghost use Rattle.kt_child.specs.Common.{root_of};
 
+use crate::OsFault;
 use crate::driving::driver::root_path;
-use crate::host::faults::or_fault;
-use crate::system::os_fault::OsFault;
+use crate::host::or_fault;
 use kt_base::Text;
 use kt_removal::Removals;
 use std::fs::{DirBuilder, OpenFile, OpenOptions, Permissions};
@@ -36,8 +36,7 @@ pub(crate) fn create_directory<R: Files>(rt: &R, path: &str, narrow: bool) -> io
     Ok(())
 }
 
-/// Makes a first directory, and returns whether the umask is narrow: whether it takes a right from
-/// the owner.
+/// Makes a first directory, and returns whether the umask is narrow: whether it takes a right from the owner.
 fn create_first<R: Files>(rt: &R, path: &str) -> io::Result<bool> {
     create_directory(rt, path, false)?;
     let made = fs::symlink_metadata(rt, path);
@@ -48,8 +47,7 @@ fn create_first<R: Files>(rt: &R, path: &str) -> io::Result<bool> {
     Ok(true)
 }
 
-/// Makes a root directory, and in it the one for what its removals move. Returns whether the umask
-/// is narrow, too.
+/// Makes a root directory, and in it the one for what its removals move. Returns whether the umask is narrow, too.
 pub(crate) fn create_root<R: Files + AllocGlobal>(
     rt: &R,
     path: &Text,

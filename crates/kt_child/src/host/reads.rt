@@ -1,12 +1,8 @@
 ghost use Rattle.std.specs.Prelude.{◌≡◌, ◌≢◌, ◌+◌, ◌≤◌, ◌<◌, length, take, drop, Some, MatchResult, IfOk, OnOk, IfSome, IsSomeAnd};
-ghost use Rattle.std.specs.IoError.{error_kind};
-ghost use Rattle.kt_child.specs.Inner.Host.{IsAt, IsUnopened, TakesPiece};
-ghost use Rattle.kt_child.specs.Host.HostAnswers.{IsFront, IsHostRead, IsOpened};
-ghost use Rattle.kt_child.specs.Host.HostFiles.{TakesAtMost};
+ghost use Rattle.kt_child.specs.Common.{error_kind, IsAt, IsUnopened, TakesPiece, IsFront, IsHostRead, IsOpened, TakesAtMost};
 
-use crate::host::faults::or_fault;
-use crate::system::os_fault::OsFault;
-use crate::system::values::FileRead;
+use crate::host::or_fault;
+use crate::{FileRead, OsFault};
 use kt_base::{Bytes, Text};
 use kt_suite::ReadFault;
 use std::alloc::Global;

@@ -1,9 +1,8 @@
 ghost use Rattle.std.specs.Prelude.{◌≡◌, [], ◌∷◌, ◌++◌, map, IfOk, OnOk};
-ghost use Rattle.std.specs.Str.{chars};
-ghost use Rattle.kt_child.specs.Planning.ChildPlan.{common_variables, env_of, own_variables, removed_names, test_variable, variable};
+ghost use Rattle.kt_child.specs.Common.{chars, common_variables, env_of, own_variables, removed_names, test_variable, variable};
 
-use crate::planning::spelling::{joined, push_text};
-use crate::system::values::EnvPlan;
+use crate::EnvPlan;
+use crate::planning::words::{joined, push_text};
 use kt_base::{Interface, Items, NoMemory, Text, Variable, Variables};
 use std::alloc::Global;
 

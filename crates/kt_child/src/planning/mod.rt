@@ -1,10 +1,66 @@
 //! What a child is given: its paths, words and environment, and its case.
 
-pub(crate) mod case;
 pub(crate) mod environment;
-pub(crate) mod locations;
-pub(crate) mod purpose;
-pub(crate) mod spawning;
-pub(crate) mod spelling;
 pub(crate) mod words;
 pub(crate) mod workdir;
+
+use crate::{Child, EnvPlan, Paths};
+use kt_base::{Interface, Items, Role, Text, Variables};
+
+/// What an ATF program is started for (atf-test-program(1)).
+#[derive(Clone, Copy, Debug, PartialEq, Eq)]
+pub enum Want {
+    /// The list of its test cases.
+    List,
+    /// The body of a case.
+    Body,
+    /// The cleanup of a case.
+    Cleanup,
+}
+
+/// What a child is started for.
+#[derive(Clone, Copy)]
+pub(crate) struct Purpose<'a> {
+    /// The role of the child; a program that is asked for its list is a body.
+    pub role: Role,
+    pub want: Want,
+    pub interface: Interface,
+    /// The path of its program, from the directory of the root Kyuafile.
+    pub program: &'a Text,
+    pub variables: &'a Variables,
+    pub case_name: &'a Text,
+    /// How long it may run, in seconds.
+    pub limit: u64,
+}
+
+/// What is kept of a case while a child of it runs, or while its cleanup is owed; the paths are its body's.
+#[derive(Debug, Drop)]
+pub(crate) struct Case {
+    /// The place in the plan, counted from 0.
+    pub position: u32,
+    /// The number of its body's start.
+    pub attempt: u64,
+    /// Which of its children runs, or ran last.
+    pub role: Role,
+    pub interface: Interface,
+    /// Whether a cleanup is declared.
+    pub cleanup: bool,
+    pub paths: Paths,
+}
+
+/// All that a child is started with.
+#[derive(Debug, Drop)]
+pub(crate) struct Spawning {
+    pub child: Child,
+    /// How long it may run, in seconds.
+    pub limit: u64,
+    pub program: Text,
+    pub words: Items<Text>,
+    pub env: EnvPlan,
+    /// The directory of its attempt, which holds the other paths.
+    pub dir: Text,
+    /// The directory that it runs in.
+    pub work: Text,
+    pub out: Text,
+    pub err: Text,
+}

@@ -1,11 +1,49 @@
 ghost use Rattle.std.specs.Prelude.{◌≡◌, [], ◌∷◌, ◌++◌, map, codes, IfOk, OnOk};
-ghost use Rattle.kt_child.specs.Planning.ChildPlan.{variable_word, words_of};
+ghost use Rattle.kt_child.specs.Common.{variable_word, words_of, chars, program_directory, program_path};
 
-use crate::planning::purpose::Want;
-use crate::planning::spelling::{joined, push_text};
-use crate::planning::workdir::Paths;
+use crate::{Paths, Want};
 use kt_base::{Interface, Items, NoMemory, Text, Variable, Variables};
+use kt_suite::parent_path;
 use std::alloc::Global;
+
+/// The absolute path of a program, by the absolute directory of the root Kyuafile.
+pub(crate) fn absolute_path(source: &Text, program: &Text) -> Result<Text, NoMemory>
+    ensures { IfOk result (λ path. path ≡ program_path source.now program.now) }
+{
+    let mut path = source.copy()?;
+    path.push_str("/")?;
+    path.push_str(program.as_str())?;
+    Ok(path)
+}
+
+/// The directory of an absolute path, `/` for a path directly below it.
+pub(crate) fn program_directory(alloc: Global, path: &Text) -> Result<Text, NoMemory>
+    ensures { IfOk result (λ directory. directory ≡ program_directory path.now) }
+{
+    let parent = parent_path(alloc, path)?;
+    if parent.is_empty() {
+        return Text::from_str(alloc, "/");
+    }
+    Ok(parent)
+}
+
+/// Two texts, joined.
+pub(crate) fn joined(alloc: Global, first: &str, second: &Text) -> Result<Text, NoMemory>
+    ensures { IfOk result (λ text. text ≡ chars first.now ++ second.now) }
+{
+    let mut text = Text::from_str(alloc, first)?;
+    text.push_str(second.as_str())?;
+    Ok(text)
+}
+
+/// Appends a text to a list of texts.
+pub(crate) fn push_text(alloc: Global, texts: &mut Items<Text>, text: &str) -> Result<(), NoMemory>
+    ensures { OnOk result (texts.new ≡ texts.old ++ chars text.now ∷ []) }
+{
+    let text = Text::from_str(alloc, text)?;
+    texts.push(text)?;
+    Ok(())
+}
 
 /// The word that hands a variable to an ATF program.
 fn word_of_variable(alloc: Global, variable: &Variable) -> Result<Text, NoMemory>

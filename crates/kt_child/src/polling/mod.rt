@@ -1,5 +1,33 @@
 //! How running children are watched, in turns of polls.
 
 pub(crate) mod polls;
-pub(crate) mod turns;
-pub(crate) mod watched;
+
+use crate::Child;
+use kt_base::Outcome;
+
+/// What is kept of a running child's answers. The deadline is counted in polls, of which there are 100 a second.
+#[derive(Clone, Copy, Debug, PartialEq, Eq)]
+pub(crate) struct Watch {
+    /// How often it was running before a kill.
+    pub before: u64,
+    /// Whether a kill was done.
+    pub killed: bool,
+    /// How often it was running after the kill.
+    pub after: u64,
+}
+
+/// A running child: its limit in seconds, and what is kept of its answers.
+#[derive(Clone, Copy, Debug, PartialEq, Eq)]
+pub(crate) struct Watched {
+    pub child: Child,
+    pub limit: u64,
+    pub watch: Watch,
+}
+
+/// What a poll makes of a child.
+#[derive(Clone, Copy, Debug, PartialEq, Eq)]
+pub(crate) enum Turn {
+    /// It is not over.
+    More,
+    Ended(Outcome),
+}

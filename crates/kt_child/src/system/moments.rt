@@ -1,9 +1,7 @@
 ghost use Rattle.std.specs.Prelude.{◌≡◌, ◌≤◌, ℕ, Result};
-ghost use Rattle.kt_child.specs.declared.system.os_fault.OsFault.{OsFault};
-ghost use Rattle.kt_child.specs.System.Calls.{Now};
-ghost use Rattle.kt_child.specs.System.Moments.{moment_of, recordable_moment};
+ghost use Rattle.kt_child.specs.Common.{OsFault, Now, moment_of, recordable_moment};
 
-use crate::system::os::Os;
+use crate::Os;
 use kt_base::LATEST_MOMENT;
 
 fn recordable(moment: u64) -> u64

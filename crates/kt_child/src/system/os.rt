@@ -1,12 +1,10 @@
-use crate::system::os_fault::OsFault;
-use crate::system::values::{Child, EnvPlan, FileRead, Polled};
+use crate::{Child, EnvPlan, FileRead, OsFault, Polled};
 use kt_base::{Items, Text};
 
 /// The system as children need it. Each call may fail; one relation says which answer leads from which state to which.
 pub trait Os {
     ghost use Rattle.std.specs.Prelude.{◌≡◌, ℕ, is_ok};
-    ghost use Rattle.kt_child.specs.System.Calls.{Call, Kill, MakeDir, Now, OpenOutput, Pause, Poll, ReadFile, ReadPart, RemoveTree, SetLimit, Spawn};
-    ghost use Rattle.kt_child.specs.Ending.Reads.{IsReadWithin};
+    ghost use Rattle.kt_child.specs.Common.{Call, Kill, MakeDir, Now, OpenOutput, Pause, Poll, ReadFile, ReadPart, RemoveTree, SetLimit, Spawn, IsReadWithin};
 
     /// Whether a question with its answer leads from the first state to the second.
     ghost leads: { Self → Call → Self → Type 0 };

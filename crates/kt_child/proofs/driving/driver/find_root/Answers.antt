@@ -1,6 +1,5 @@
 use Rattle.std.proofs.Common.{arith, ◌≡◌, ℕ, List, [], ◌∷◌, ◌++◌, Ok, Err, refl, sym, subst, add-one}
-use Rattle.kt_child.specs.System.Calls.{Call, MakeDir}
-use Rattle.kt_child.specs.Driving.Roots.{FailedRoots, root_of}
+use Rattle.kt_child.proofs.Common.{Call, MakeDir, FailedRoots, root_of}
 use Rattle.kt_child.proofs.Chains.{chain_append}
 use Rattle.kt_child.proofs.driving.driver.find_root.Goals as goal
 

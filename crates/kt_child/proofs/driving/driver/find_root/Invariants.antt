@@ -1,7 +1,5 @@
 use Rattle.std.proofs.Common.{List}
-use Rattle.kt_base.specs.Chains.{Chain}
-use Rattle.kt_child.specs.System.Calls.{Call}
-use Rattle.kt_child.specs.Driving.Roots.{FailedRoots}
+use Rattle.kt_child.proofs.Common.{Chain, Call, FailedRoots}
 use Rattle.kt_child.proofs.driving.driver.find_root.Given as goal
 
 abbrev pub invariant-loop-number : goal.invariant-loop-number

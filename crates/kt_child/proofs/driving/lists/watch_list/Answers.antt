@@ -1,8 +1,5 @@
 use Rattle.std.proofs.Common.{List, [], ◌∷◌, ◌++◌, refl, subst, arith, is_ok}
-use Rattle.kt_child.specs.declared.polling.watched.Watched.{Watched}
-use Rattle.kt_child.specs.Polling.Turns.{WaitedOn}
-use Rattle.kt_child.specs.System.Calls.{Call, ReadFile, RemoveTree}
-use Rattle.kt_child.specs.Starting.Starts.{spawned}
+use Rattle.kt_child.proofs.Common.{Watched, WaitedOn, Call, ReadFile, RemoveTree, spawned}
 use Rattle.kt_child.proofs.Chains.{chain_append}
 use Rattle.kt_child.proofs.SeveralWaits.{one_outcome}
 use Rattle.kt_child.proofs.driving.lists.watch_list.Goals as goal

@@ -1,6 +1,5 @@
 use Rattle.std.proofs.Common.{◌∷◌, ◌++◌, List, Bool, refl, subst, ℕ}
-use Rattle.kt_child.specs.System.Calls.{Now, ReadFile}
-use Rattle.kt_child.specs.Ending.Ends.{Removes, out_of, err_of}
+use Rattle.kt_child.proofs.Common.{Now, ReadFile, Removes, out_of, err_of}
 use Rattle.kt_child.proofs.EndSteps.{chain_ends}
 use Rattle.kt_child.proofs.ending.ends.leave.Goals as goal
 

@@ -1,6 +1,5 @@
 use Rattle.std.proofs.Common.{◌∷◌, [], List, Bool, refl, sym, subst, is_ok}
-use Rattle.kt_child.specs.System.Calls.{Call, RemoveTree}
-use Rattle.kt_child.specs.Ending.Ends.{Removes}
+use Rattle.kt_child.proofs.Common.{Call, RemoveTree, Removes}
 use Rattle.kt_child.proofs.ending.ends.remove_if.Goals as goal
 
 pub returns-then-removed : goal.returns-then-removed

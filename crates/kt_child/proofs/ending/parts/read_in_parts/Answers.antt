@@ -1,7 +1,7 @@
 use Rattle.std.proofs.Common.{[], refl}
-use Rattle.kt_child.specs.declared.ending.parts.NextPart.TheVariants.{All, Absent, Failed, Past}
-use Rattle.kt_child.specs.declared.ending.parts.ReadEnd.TheVariants as read_end
-use Rattle.kt_child.specs.Ending.Parts.{Missing, Unreadable, TooLong, Bytes}
+use Rattle.kt_child.proofs.Common.{Absent, Failed, Past, Missing, Unreadable, TooLong, Bytes}
+use Rattle.kt_child.specs.declared.ending.NextPart.TheVariants.{All}
+use Rattle.kt_child.specs.declared.ending.ReadEnd.TheVariants as read_end
 use Rattle.kt_child.proofs.PartSteps.{reading_none, taking_more, taking_over}
 use Rattle.kt_child.proofs.ending.parts.read_in_parts.Goals as goal
 

@@ -1,5 +1,5 @@
 use Rattle.std.proofs.Common.{◌-◌}
-use Rattle.kt_child.specs.Host.HostStands.{AllProceed, stand_in}
+use Rattle.kt_child.proofs.Common.{AllProceed, stand_in}
 use Rattle.kt_child.proofs.host.children.await_end.Given as goal
 
 abbrev pub invariant-loop-rested : goal.invariant-loop-rested

@@ -1,5 +1,5 @@
 use Rattle.std.proofs.Common.{◌<◌, length, rules, length-set, ◌∙◌}
-use Rattle.kt_child.specs.Host.HostStands.{stand_in}
+use Rattle.kt_child.proofs.Common.{stand_in}
 use Rattle.kt_child.proofs.HostStandings.{all_proceed_more, all_proceed_set}
 use Rattle.kt_child.proofs.host.children.has_new_end.Goals as goal
 

@@ -1,5 +1,5 @@
 use Rattle.std.proofs.Common.{◌≡◌, length}
-use Rattle.kt_child.specs.Host.HostStands.{AllProceed, stand_in}
+use Rattle.kt_child.proofs.Common.{AllProceed, stand_in}
 use Rattle.kt_child.proofs.host.children.has_new_end.Given as goal
 
 abbrev pub invariant-loop-place : goal.invariant-loop-place

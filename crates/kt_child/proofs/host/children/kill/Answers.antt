@@ -1,6 +1,5 @@
-use Rattle.std.proofs.Common.{sym, ◌∙◌, subst}
-use Rattle.std.specs.Prelude.{IsSome, OnOk}
-use Rattle.kt_child.specs.Host.HostStands.{Stand, stand_in}
+use Rattle.std.proofs.Common.{sym, ◌∙◌, subst, IsSome, OnOk}
+use Rattle.kt_child.proofs.Common.{Stand, stand_in}
 use Rattle.kt_child.proofs.HostStandings.{all_stay, changed}
 use Rattle.kt_child.proofs.host.children.kill.Goals as goal
 

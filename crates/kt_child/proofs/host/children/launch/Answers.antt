@@ -1,6 +1,5 @@
-use Rattle.std.proofs.Common.{sym, subst}
-use Rattle.std.specs.Prelude.{IsSome, OnOk}
-use Rattle.kt_child.specs.Host.HostStands.{Stand}
+use Rattle.std.proofs.Common.{sym, subst, IsSome, OnOk}
+use Rattle.kt_child.proofs.Common.{Stand}
 use Rattle.kt_child.proofs.HostStandings.{changed}
 use Rattle.kt_child.proofs.host.children.launch.Goals as goal
 

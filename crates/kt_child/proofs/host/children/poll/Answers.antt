@@ -1,6 +1,5 @@
-use Rattle.std.proofs.Common.{◌≡◌, Some, sym, subst}
-use Rattle.std.specs.Prelude.{IfOk}
-use Rattle.kt_child.specs.Host.HostStands.{Stand}
+use Rattle.std.proofs.Common.{◌≡◌, Some, sym, subst, IfOk}
+use Rattle.kt_child.proofs.Common.{Stand}
 use Rattle.kt_child.proofs.HostStandings.{changed, proceeds_by}
 use Rattle.kt_child.proofs.host.children.poll.Goals as goal
 

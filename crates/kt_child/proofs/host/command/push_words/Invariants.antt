@@ -1,6 +1,5 @@
 use Rattle.std.proofs.Common.{◌≡◌, ◌++◌, map, take}
-use Rattle.std.specs.Process.{SameDir, SameEnv, command_args, command_program}
-use Rattle.kt_base.specs.Utf8.{utf8}
+use Rattle.kt_child.proofs.Common.{SameDir, SameEnv, command_args, command_program, utf8}
 use Rattle.kt_child.proofs.host.command.push_words.Given as goal
 
 abbrev pub invariant-loop-word : goal.invariant-loop-word

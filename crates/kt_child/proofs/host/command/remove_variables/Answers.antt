@@ -1,6 +1,5 @@
 use Rattle.std.proofs.Common.{◌≡◌, ℕ, List, Option, Some, None, ◌∙◌, ap, if◌then◌else◌}
-use Rattle.std.specs.Process.{command_var}
-use Rattle.kt_base.specs.Utf8.{utf8}
+use Rattle.kt_child.proofs.Common.{command_var, utf8}
 use Rattle.kt_child.proofs.HostSteps.{removed_step, said_now}
 use Rattle.kt_child.proofs.host.command.remove_variables.Goals as goal
 

@@ -1,6 +1,5 @@
 use Rattle.std.proofs.Common.{◌≡◌, ℕ, List, drop, false}
-use Rattle.std.specs.Process.{SameDir, SameProgramAndArgs, clears_env, command_var}
-use Rattle.kt_child.specs.Inner.Host.{after_removed}
+use Rattle.kt_child.proofs.Common.{SameDir, SameProgramAndArgs, clears_env, command_var, after_removed}
 use Rattle.kt_child.proofs.host.command.remove_variables.Given as goal
 
 abbrev pub invariant-loop-name : goal.invariant-loop-name

@@ -1,6 +1,5 @@
 use Rattle.std.proofs.Common.{◌≡◌, ℕ, List, drop}
-use Rattle.std.specs.Process.{SameDir, SameProgramAndArgs, clears_env, command_var}
-use Rattle.kt_child.specs.Inner.Host.{after_set}
+use Rattle.kt_child.proofs.Common.{SameDir, SameProgramAndArgs, clears_env, command_var, after_set}
 use Rattle.kt_child.proofs.host.command.set_variables.Given as goal
 
 abbrev pub invariant-loop-variable : goal.invariant-loop-variable

@@ -1,7 +1,6 @@
-use Rattle.std.proofs.Common.{◌<◌, ◌^◌, ℕ, Bool, ◌∙◌, ap, rules}
-use Rattle.std.specs.Prelude.{◌==◌, ◌/◌, ◌%◌}
+use Rattle.std.proofs.Common.{◌<◌, ◌^◌, ℕ, Bool, ◌∙◌, ap, rules, ◌==◌, ◌/◌, ◌%◌}
+use Rattle.kt_child.proofs.Common.{status_bits}
 use Rattle.std.specs.Int.{w32, cast_unsigned, cast_signed}
-use Rattle.std.specs.Process.{status_bits}
 use Rattle.std.proofs.lemmas.Int.{of_z-to_z}
 use Rattle.kt_child.proofs.host.host_os.has_core.Goals as goal
 

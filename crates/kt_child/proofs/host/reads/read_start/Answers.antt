@@ -1,5 +1,4 @@
-use Rattle.std.proofs.Common.{rules, arith, ◌≡◌, length}
-use Rattle.std.specs.Prelude.{min, ◌-◌}
+use Rattle.std.proofs.Common.{rules, arith, ◌≡◌, length, min, ◌-◌}
 use Rattle.kt_child.proofs.HostReads.{fits_room, read_none, read_more, full_front, full_rest, whole_front, whole_rest}
 use Rattle.kt_child.proofs.host.reads.read_start.Goals as goal
 

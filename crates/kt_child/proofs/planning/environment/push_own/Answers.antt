@@ -1,4 +1,4 @@
-use Rattle.std.specs.Str.{chars}
+use Rattle.kt_child.proofs.Common.{chars}
 use Rattle.kt_child.proofs.planning.environment.push_own.Goals as goal
 
 pub returns-in-Atf : goal.returns-in-Atf

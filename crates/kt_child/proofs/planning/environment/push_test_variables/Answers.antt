@@ -1,4 +1,4 @@
-use Rattle.kt_child.specs.Planning.ChildPlan.{test_variable}
+use Rattle.kt_child.proofs.Common.{test_variable}
 use Rattle.kt_child.proofs.Mapped.{mapped_more}
 use Rattle.kt_child.proofs.planning.environment.push_test_variables.Goals as goal
 

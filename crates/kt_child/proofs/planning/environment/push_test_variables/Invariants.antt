@@ -1,5 +1,5 @@
 use Rattle.std.proofs.Common.{◌≡◌, ◌++◌, map, take}
-use Rattle.kt_child.specs.Planning.ChildPlan.{test_variable}
+use Rattle.kt_child.proofs.Common.{test_variable}
 use Rattle.kt_child.proofs.planning.environment.push_test_variables.Given as goal
 
 abbrev pub invariant-loop-variable : goal.invariant-loop-variable

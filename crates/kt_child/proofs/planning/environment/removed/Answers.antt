@@ -1,5 +1,5 @@
 use Rattle.std.proofs.Common.{refl}
-use Rattle.std.specs.Str.{chars}
+use Rattle.kt_child.proofs.Common.{chars}
 use Rattle.kt_child.proofs.planning.environment.removed.Goals as goal
 
 pub returns : goal.returns

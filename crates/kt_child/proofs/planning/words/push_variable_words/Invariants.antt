@@ -1,5 +1,5 @@
 use Rattle.std.proofs.Common.{◌≡◌, ◌++◌, map, take}
-use Rattle.kt_child.specs.Planning.ChildPlan.{variable_word}
+use Rattle.kt_child.proofs.Common.{variable_word}
 use Rattle.kt_child.proofs.planning.words.push_variable_words.Given as goal
 
 abbrev pub invariant-loop-variable : goal.invariant-loop-variable

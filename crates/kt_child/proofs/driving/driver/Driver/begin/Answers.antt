@@ -1,13 +1,6 @@
 use Rattle.std.proofs.Common.{◌≡◌, ◌∙◌, ℕ, List, subst, ap}
-use Rattle.kt_base.specs.Chains.{Chain}
-use Rattle.kt_sched.specs.declared.job.Job.{Job}
-use Rattle.kt_child.specs.declared.planning.case.Case.{Case}
-use Rattle.kt_child.specs.declared.planning.spawning.Spawning.{Spawning}
-use Rattle.kt_child.specs.declared.planning.purpose.Want.{Want}
-use Rattle.kt_child.specs.System.Calls.{Call}
-use Rattle.kt_child.specs.Driving.Begins.{Begun, state_after_start}
-use Rattle.kt_child.specs.Driving.JobPlan.{job_purpose, limit_of, spawning_for, spawning_of, want_of}
-use Rattle.kt_child.specs.Starting.Starts.{spawned}
+use Rattle.kt_child.proofs.Common.{Chain, Job, Case, Spawning, Call, Begun, state_after_start, job_purpose, limit_of, spawning_for, spawning_of, want_of, spawned}
+use Rattle.kt_child.specs.declared.planning.Want.{Want}
 use Rattle.kt_child.proofs.driving.driver.Driver.begin.Goals as goal
 
 -- what a job's child is started for, by this word and this limit

@@ -1,9 +1,5 @@
-use Rattle.std.proofs.Common.{◌∙◌, refl, ap, inr}
-use Rattle.std.specs.Prelude.{remove}
-use Rattle.kt_base.specs.declared.role.Role.TheVariants.{Cleanup}
-use Rattle.kt_child.specs.Driving.Begins.{state_after_start}
-use Rattle.kt_child.specs.Driving.JobPlan.{cleaning, watched_of}
-use Rattle.kt_child.specs.Driving.ChildrenState.{ChildrenState}
+use Rattle.std.proofs.Common.{◌∙◌, refl, ap, inr, remove}
+use Rattle.kt_child.proofs.Common.{Cleanup, state_after_start, cleaning, watched_of, ChildrenState}
 use Rattle.kt_child.proofs.driving.driver.Driver.start_cleanup.Goals as goal
 
 pub returns-clause-starts : goal.returns-clause-starts

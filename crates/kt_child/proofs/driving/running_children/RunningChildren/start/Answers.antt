@@ -1,8 +1,6 @@
 use Rattle.std.proofs.Common.{rules, ◌==◌, ◌&&◌, Option, Some, if◌then◌else◌, ◌≡◌, ◌∙◌, ◌+◌, ◌++◌, ◌∷◌, [], ap, sym, subst, arith, refl, inl, inr, Ok, Err}
-use Rattle.kt_child.specs.Inner.Children.{count_at}
-use Rattle.kt_child.specs.Driving.ChildrenState.{ChildrenState, shown, shown_at}
-use Rattle.kt_child.specs.Starting.Starts.{spawned}
-use Rattle.kt_sched.specs.Children.{Child as Shown, same_role}
+use Rattle.kt_child.proofs.Common.{count_at, ChildrenState, shown, shown_at, spawned, same_role}
+use Rattle.kt_sched.specs.Children.{Child as Shown}
 use Rattle.kt_child.proofs.StateWaits.{state_started}
 use Rattle.kt_child.proofs.ShownCases.{shown_append}
 use Rattle.kt_child.proofs.driving.running_children.RunningChildren.start.Goals as goal

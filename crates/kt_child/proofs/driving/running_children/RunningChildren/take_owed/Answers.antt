@@ -1,9 +1,5 @@
-use Rattle.std.proofs.Common.{◌≡◌, ◌∙◌, ◌+◌, ◌<◌, ◌==◌, Bool, false, ℕ, List, slice_get, Some, ap, sym, subst, arith, length, if◌then◌else◌}
-use Rattle.std.specs.Prelude.{remove}
-use Rattle.std.proofs.lemmas.Option.{slice_get-get_or}
-use Rattle.kt_child.specs.declared.planning.case.Case.{Case}
-use Rattle.kt_child.specs.Inner.Children.{count_at}
-use Rattle.kt_child.specs.Driving.ChildrenState.{ChildrenState, is_among}
+use Rattle.std.proofs.Common.{◌≡◌, ◌∙◌, ◌+◌, ◌<◌, ◌==◌, Bool, false, ℕ, List, slice_get, Some, ap, sym, subst, arith, length, if◌then◌else◌, remove}
+use Rattle.kt_child.proofs.Common.{slice_get-get_or, Case, count_at, ChildrenState, is_among}
 use Rattle.kt_child.proofs.StateWaits.{free_taken, once_owed, state_taken}
 use Rattle.kt_child.proofs.OwedCases.{among_remove}
 use Rattle.kt_child.proofs.driving.running_children.RunningChildren.take_owed.Goals as goal

@@ -1,10 +1,6 @@
-use Rattle.std.proofs.Common.{◌≡◌, ◌∙◌, ◌<◌, slice_get, Some, ap, sym, subst, arith, length, List}
-use Rattle.std.specs.Prelude.{remove}
-use Rattle.std.proofs.lemmas.Option.{slice_get-get_or}
-use Rattle.kt_base.specs.Chains.{Chain}
-use Rattle.kt_child.specs.System.Calls.{Call}
-use Rattle.kt_sched.specs.Children.{Child as Shown, IsEvidence}
-use Rattle.kt_child.specs.Driving.ChildrenState.{ChildrenState, Waited, shown_at}
+use Rattle.std.proofs.Common.{◌≡◌, ◌∙◌, ◌<◌, slice_get, Some, ap, sym, subst, arith, length, List, remove}
+use Rattle.kt_child.proofs.Common.{slice_get-get_or, Chain, Call, IsEvidence, ChildrenState, Waited, shown_at}
+use Rattle.kt_sched.specs.Children.{Child as Shown}
 use Rattle.kt_child.proofs.StateWaits.{Once, same_children, state_after, waited_all, waited_one, waited_pending, waited_running}
 use Rattle.kt_child.proofs.driving.running_children.RunningChildren.wait.Goals as goal
 
@@ -61,3 +57,6 @@ returns-clause-running g c k r = waited_running _ _ _ _ (once g c) (returns-clau
 
 pub returns-clause-pending : goal.returns-clause-pending
 returns-clause-pending g c k = waited_pending _ _ _ _ (once g c) (returns-clause-waited g c).2 k
+
+pub returns-clause-paired : goal.returns-clause-paired
+returns-clause-paired g c = (invariant_of-self g c).0.same

@@ -1,5 +1,5 @@
 use Rattle.std.proofs.Common.{◌≡◌}
-use Rattle.kt_child.specs.Host.HostStands.{Proceeds, stand_of}
+use Rattle.kt_child.proofs.Common.{Proceeds, stand_of}
 use Rattle.kt_child.proofs.host.host_child.HostChild.keep_pace.Given as goal
 
 abbrev pub invariant-loop : goal.invariant-loop

@@ -1,0 +1,21 @@
+use Rattle.std.proofs.Common.{[], ◌∷◌}
+use Rattle.kt_child.proofs.Common.{open_ask, spawn_ask}
+use Rattle.kt_child.proofs.Chains.{tries_failed, tries_more}
+use Rattle.kt_child.proofs.driving.starts.open_and_spawn.Goals as goal
+
+pub returns-in-Err : goal.returns-in-Err
+returns-in-Err g c =
+    let p = c.args.plan.now in
+    tries_failed g.O.Os.leads _ _ (open_ask p p.out) (open_ask p p.err ∷ spawn_ask p ∷ []) c.in-Err.fault _ c.in-Err.ensures c.cause_of.ensures
+
+pub returns-in-Err-open_output : goal.returns-in-Err-open_output
+returns-in-Err-open_output g c =
+    let p = c.args.plan.now in
+    tries_more g.O.Os.leads _ _ _ (open_ask p p.out) (open_ask p p.err ∷ spawn_ask p ∷ []) _ c.in_default.ensures
+    (tries_failed g.O.Os.leads _ _ (open_ask p p.err) (spawn_ask p ∷ []) c.in-Err-open_output.fault _ c.in-Err-open_output.ensures c.cause_of-in-Err-open_output.ensures)
+
+pub returns : goal.returns
+returns g c =
+    let p = c.args.plan.now in
+    tries_more g.O.Os.leads _ _ _ (open_ask p p.out) (open_ask p p.err ∷ spawn_ask p ∷ []) _ c.in_default.ensures
+    (tries_more g.O.Os.leads _ _ _ (open_ask p p.err) (spawn_ask p ∷ []) _ c.in_default-open_output.ensures c.spawn.ensures)

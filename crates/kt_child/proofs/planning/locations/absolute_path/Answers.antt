@@ -1,7 +1,0 @@
-use Rattle.std.proofs.Common.{refl}
-use Rattle.std.specs.Str.{chars}
-use Rattle.kt_child.proofs.planning.locations.absolute_path.Goals as goal
-
-pub returns : goal.returns
-unfolding chars
-returns c = rw (c.in_ok-push_str-2.ensures.ok, c.in_ok-push_str.ensures.ok, c.in_ok-path.ensures, c.as_str.ensures.characters) refl

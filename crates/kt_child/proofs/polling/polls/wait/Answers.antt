@@ -1,0 +1,30 @@
+use Rattle.std.proofs.Common.{◌<◌, List, length, refl, sym, subst, is_ok, arith}
+use Rattle.kt_child.proofs.Common.{Watched, polls_left}
+use Rattle.std.proofs.Math.ListN.{get_or}
+use Rattle.kt_child.proofs.WaitSteps.{Waiting, no_child, turn_falls, waiting_more, waiting_none, waiting_over}
+use Rattle.kt_child.proofs.polling.polls.wait.Goals as goal
+
+pub turns-init : goal.turns-init
+turns-init g c = record { waiting = waiting_none g.O.Os.leads c.args.os.now c.args.children.now; on = c.requires.on }
+
+pub returns-in-Some-clause-waited : goal.returns-in-Some-clause-waited
+returns-in-Some-clause-waited g c =
+    waiting_over g.O.Os.leads c.args.os.now c.turns.os c.turn.new.os c.args.children.now c.turns.children c.turn.new.children
+    c.in-Some.over.place c.in-Some.over.outcome c.turns.invariant.waiting c.in-Some.ensures.over c.in-Some.ensures.before
+
+pub turns-smaller : goal.turns-smaller
+turns-smaller g c =
+    let P : List Watched → Type 0 = λ t. polls_left (get_or t 0 no_child) < polls_left (get_or c.turns.children 0 no_child) in
+    let some : 0 < length c.turns.children = omega arith in
+    subst P (sym (c.in-None.ensures.went_on refl)) (turn_falls c.turns.children some c.turns.invariant.on)
+
+pub turns-preserved : goal.turns-preserved
+turns-preserved g c =
+    let P : List Watched → Type 0 = λ t. Waiting g.O.Os.leads c.args.os.now c.args.children.now c.pause.new.self t in
+    record {
+      waiting =
+          subst P (sym (c.in-None.ensures.went_on refl))
+          (waiting_more g.O.Os.leads c.args.os.now c.turns.os c.turn.new.os c.pause.new.self c.args.children.now c.turns.children
+          (is_ok c.pause.result) c.turns.invariant.waiting (c.in-None.ensures.none refl) c.pause.ensures);
+      on = c.turn.ensures.on;
+    }

@@ -1,0 +1,14 @@
+use Rattle.kt_child.proofs.Common.{All, IsOn, polls_left}
+use Rattle.std.proofs.Math.ListN.{get_or}
+use Rattle.kt_child.proofs.WaitSteps.{Waiting, no_child}
+use Rattle.kt_child.proofs.polling.polls.wait.Given as goal
+
+abbrev pub invariant-turns : goal.invariant-turns
+invariant-turns g l =
+    record {
+      waiting : Waiting g.O.Os.leads l.initial.os l.initial.children l.os l.children;
+      on : All IsOn l.children;
+    }
+
+abbrev pub decreases-turns : goal.decreases-turns
+decreases-turns g l = polls_left (get_or l.children 0 no_child)

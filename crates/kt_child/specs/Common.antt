@@ -1,0 +1,43 @@
+-- The words that the clauses of this crate cite, passed on from one place. Declares nothing.
+pub use Rattle.std.specs.IoError.{error_kind}
+pub use Rattle.std.specs.Process.{SameDir, SameEnv, SameOtherVars, SameProgramAndArgs, clears_env, command_args, command_program, command_var, status_bits}
+pub use Rattle.std.specs.Str.{chars}
+pub use Rattle.kt_base.specs.Chains.{Chain}
+pub use Rattle.kt_base.specs.Moments.{IsMoment}
+pub use Rattle.kt_base.specs.Utf8.{utf8}
+pub use Rattle.kt_claim.specs.ClaimReading.{HasRead}
+pub use Rattle.kt_claim.specs.StreamReading.{HasStream}
+pub use Rattle.kt_sched.specs.Children.{IsEvidence, IsIdle, MayStart, pending_after_end, pending_after_start, running_after_end, running_after_start}
+pub use Rattle.kt_sched.specs.Moments.{HasMoment}
+pub use Rattle.kt_sched.specs.Plan.{IsFit, IsPlan, IsWidth}
+pub use Rattle.kt_sched.specs.Run.{Ran}
+pub use Rattle.kt_sched.specs.Trace.{Leads, Trace}
+pub use Rattle.kt_child.specs.Driving.Begins.{Begun, state_after_start}
+pub use Rattle.kt_child.specs.Driving.ChildrenState.{Waited, idle_state, is_among, shown_at}
+pub use Rattle.kt_child.specs.Driving.DriverSteps.{DriverStarts, DriverWaits}
+pub use Rattle.kt_child.specs.Driving.JobPlan.{case_in, limit_of, list_purpose, program_directory, program_path, spawning_for, spawning_of, want_of, watched_of}
+pub use Rattle.kt_child.specs.Driving.Launches.{StartsBy}
+pub use Rattle.kt_child.specs.Driving.Lists.{ListsBy, RanList, WatchedList}
+pub use Rattle.kt_child.specs.Driving.Numbers.{AttemptsDiffer}
+pub use Rattle.kt_child.specs.Driving.Roots.{FindsRoot, root_of}
+pub use Rattle.kt_child.specs.Driving.Starts.{SetUp, SetUpIn, SetUpNew, Started, Tried, cause_of, child_asks, furnish_asks, spawn_ask, spawned}
+pub use Rattle.kt_child.specs.Driving.TraceLives.{EachWith, EndsAreTold, ToldAt}
+pub use Rattle.kt_child.specs.Ending.Ends.{Leaves, Removes, err_of, is_over, out_of}
+pub use Rattle.kt_child.specs.Ending.Gathering.{Gathers, IsClaim, IsTap, ReadsClaim, ReadsTap}
+pub use Rattle.kt_child.specs.Ending.Parts.{Bytes, IsNext, Reads, Whole, next_of, next_part}
+pub use Rattle.kt_child.specs.Ending.Reads.{IsListWithin, IsReadWithin, bytes_of, list_of}
+pub use Rattle.kt_child.specs.Host.HostAnswers.{HostLeads, IsFront, IsHostRead, IsOpened, IsPolledOf}
+pub use Rattle.kt_child.specs.Host.HostFiles.{TakesAtMost}
+pub use Rattle.kt_child.specs.Host.HostStands.{AllProceed, AllStay, IsLastEnd, OthersStay, Proceeds, stand_in, stand_of}
+pub use Rattle.kt_child.specs.Inner.Children.{IsOn, IsWatched, Takes, Tells, count_at, shown_after}
+pub use Rattle.kt_child.specs.Inner.Host.{IsAt, IsCommandOf, IsFaultOf, IsPlaceOf, IsUnopened, TakesPiece, after_removed, after_set, is_other}
+pub use Rattle.kt_child.specs.Planning.ChildPlan.{common_variables, env_of, own_variables, paths_of, removed_names, test_variable, variable, variable_word, words_of}
+pub use Rattle.kt_child.specs.Polling.Lives.{same_child}
+pub use Rattle.kt_child.specs.Polling.Polls.{asked_by_poll, is_due, turn_of, watch_after}
+pub use Rattle.kt_child.specs.Polling.Turns.{PolledAll, PolledUntil, WaitedOn, advanced_below}
+pub use Rattle.kt_child.specs.System.Calls.{Call, Kill, MakeDir, Now, OpenOutput, Pause, Poll, ReadFile, ReadPart, RemoveTree, SetLimit, Spawn}
+pub use Rattle.kt_child.specs.System.Moments.{moment_of, recordable_moment}
+pub use Rattle.kt_child.specs.declared.system.FileRead.{FileRead}
+pub use Rattle.kt_child.specs.declared.system.OsFault.{OsFault}
+pub use Rattle.kt_child.specs.declared.system.Polled.TheVariants.{Running}
+pub use Rattle.kt_child.specs.declared.system.Polled.{Polled}

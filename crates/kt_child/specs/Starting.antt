@@ -1,2 +1,0 @@
--- How a child is started, and why a start is refused.
-pub mod Starts

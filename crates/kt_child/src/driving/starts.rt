@@ -1,0 +1,222 @@
+ghost use Rattle.std.specs.Prelude.{◌≡◌, ◌≤◌, ◌∷◌, [], List, IfOk};
+ghost use Rattle.kt_child.specs.Common.{Chain, Call, SetUp, SetUpIn, SetUpNew, Started, Tried, child_asks, furnish_asks, spawn_ask, spawned, cause_of, IsFit, IsOn, case_in, limit_of, spawning_for, want_of};
+
+use crate::ending::ends::{output_paths, remove_if};
+use crate::planning::words::{absolute_path, program_directory};
+use crate::planning::{Case, Purpose, Spawning};
+use crate::polling::{Watch, Watched};
+use crate::system::moments::moment;
+use crate::{Child, Os, OsFault, Paths, Want, argv_plan, env_plan, workdir_plan};
+use kt_base::{LATEST_MOMENT, NoMemory, Refused, Role, Text};
+use kt_sched::Job;
+use std::alloc::Global;
+
+/// The limit of a cleanup, in seconds (this profile).
+const CLEANUP_LIMIT: u64 = 60;
+
+/// What a job's child is started for, and its limit in seconds.
+pub(crate) fn want_and_limit(job: &Job, role: Role) -> (Want, u64)
+    requires { IsFit job.now }
+    ensures want { result.0 ≡ want_of role }
+    ensures limit { result.1 ≡ limit_of job.now role }
+    ensures some { 1 ≤ result.1 }
+    ensures range { result.1 ≤ 1000000 }
+{
+    match role {
+        Role::Body => (Want::Body, job.timeout as u64),
+        Role::Cleanup => (Want::Cleanup, CLEANUP_LIMIT),
+    }
+}
+
+/// What a child is started with. `source` is the absolute directory of the root Kyuafile.
+pub(crate) fn spawning(
+    alloc: Global,
+    source: &Text,
+    purpose: Purpose<'_>,
+    attempt: u64,
+    paths: &Paths,
+) -> Result<Spawning, NoMemory>
+    requires some { 1 ≤ purpose.limit }
+    requires range { purpose.limit ≤ 1000000 }
+    ensures plan { IfOk result (λ plan. plan ≡ spawning_for source.now (record {
+      role = purpose.entry.role;
+      want = purpose.entry.want;
+      interface = purpose.entry.interface;
+      program = purpose.entry.program.now;
+      variables = purpose.entry.variables.now;
+      case_name = purpose.entry.case_name.now;
+      limit = purpose.entry.limit;
+    }) attempt paths.now) }
+    ensures on { IfOk result (λ plan. IsOn (spawned plan)) }
+{
+    let role = purpose.role;
+    let program = absolute_path(source, purpose.program)?;
+    let directory = program_directory(alloc, &program)?;
+    let words = argv_plan(
+        alloc,
+        purpose.interface,
+        purpose.want,
+        paths,
+        &directory,
+        purpose.variables,
+        purpose.case_name,
+    )?;
+    let env = env_plan(alloc, purpose.interface, purpose.variables, &paths.work)?;
+    let dir = paths.dir.copy()?;
+    let work = paths.work.copy()?;
+    let (out, err) = output_paths(role, paths);
+    let out = out.copy()?;
+    let err = err.copy()?;
+    let child = Child { attempt, role };
+    Ok(Spawning {
+        child,
+        limit: purpose.limit,
+        program,
+        words,
+        env,
+        dir,
+        work,
+        out,
+        err,
+    })
+}
+
+/// The case of a body that takes this number.
+pub(crate) fn body_case(
+    alloc: Global,
+    root: &Text,
+    attempt: u64,
+    job: &Job,
+) -> Result<Case, NoMemory>
+    ensures { IfOk result (λ case. case ≡ case_in root.now job.now Role.Body attempt) }
+{
+    let paths = workdir_plan(alloc, root, attempt)?;
+    Ok(Case {
+        position: job.position,
+        attempt,
+        role: Role::Body,
+        interface: job.interface,
+        cleanup: job.cleanup,
+        paths,
+    })
+}
+
+/// The cause of a start for which memory ran out. Nothing else returns that cause.
+pub(crate) fn memory_refusal(_refusal: NoMemory) -> Refused
+    ensures { result ≡ Refused.Memory }
+{
+    Refused::Memory
+}
+
+/// The cause of a start that a failed call refuses: its own, unless the call was refused memory.
+fn cause_of(cause: Refused, fault: OsFault) -> Refused
+    ensures { result ≡ cause_of cause fault }
+{
+    match fault {
+        OsFault::Failed => cause,
+        OsFault::Memory(refusal) => memory_refusal(refusal),
+    }
+}
+
+/// A child that was just spawned.
+pub(crate) fn spawned(plan: &Spawning) -> Watched
+    ensures { result ≡ spawned plan.now }
+{
+    let watch = Watch {
+        before: 0,
+        killed: false,
+        after: 0,
+    };
+    Watched {
+        child: plan.child,
+        limit: plan.limit,
+        watch,
+    }
+}
+
+fn spawn<O: Os>(os: &mut O, plan: &Spawning) -> Result<(), Refused>
+    ensures { (calls : List Call) × Chain O.leads os.old calls os.new
+        × Tried (spawn_ask plan.now ∷ []) calls result }
+{
+    match os.spawn(
+        plan.child,
+        &plan.program,
+        &plan.words,
+        &plan.env,
+        &plan.work,
+    ) {
+        Ok(()) => Ok(()),
+        Err(fault) => Err(cause_of(Refused::Spawn, fault)),
+    }
+}
+
+/// Opens the two outputs and spawns the child.
+fn open_and_spawn<O: Os>(os: &mut O, plan: &Spawning) -> Result<(), Refused>
+    ensures { (calls : List Call) × Chain O.leads os.old calls os.new
+        × Tried (child_asks plan.now) calls result }
+{
+    if let Err(fault) = os.open_output(plan.child, &plan.out) {
+        return Err(cause_of(Refused::Output, fault));
+    }
+    if let Err(fault) = os.open_output(plan.child, &plan.err) {
+        return Err(cause_of(Refused::Output, fault));
+    }
+    spawn(os, plan)
+}
+
+/// Makes the work directory, then opens the outputs and spawns the child.
+fn furnish<O: Os>(os: &mut O, plan: &Spawning) -> Result<(), Refused>
+    ensures { (calls : List Call) × Chain O.leads os.old calls os.new
+        × Tried (furnish_asks plan.now) calls result }
+{
+    if let Err(fault) = os.make_dir(&plan.work) {
+        return Err(cause_of(Refused::Directory, fault));
+    }
+    open_and_spawn(os, plan)
+}
+
+/// Starts a body or a list in a new directory, which is removed if the start is refused after that.
+fn set_up_new<O: Os>(os: &mut O, plan: &Spawning) -> Result<(), Refused>
+    ensures { (calls : List Call) × Chain O.leads os.old calls os.new
+        × SetUpNew (furnish_asks plan.now) plan.now.dir calls result }
+{
+    if let Err(fault) = os.make_dir(&plan.dir) {
+        return Err(cause_of(Refused::Directory, fault));
+    }
+    let tried = furnish(os, plan);
+    remove_if(os, tried.is_err(), &plan.dir);
+    tried
+}
+
+/// Starts a cleanup in the directory of its body, which is removed if the start is refused.
+fn set_up_in<O: Os>(os: &mut O, plan: &Spawning) -> Result<(), Refused>
+    ensures { (calls : List Call) × Chain O.leads os.old calls os.new
+        × SetUpIn (child_asks plan.now) plan.now.dir calls result }
+{
+    let tried = open_and_spawn(os, plan);
+    remove_if(os, tried.is_err(), &plan.dir);
+    tried
+}
+
+/// Starts a child, and asks for no moment.
+pub(crate) fn set_up<O: Os>(os: &mut O, plan: &Spawning) -> Result<(), Refused>
+    ensures { (calls : List Call) × Chain O.leads os.old calls os.new
+        × SetUp plan.now calls result }
+{
+    // First, since the system keeps the child's time from its start on.
+    os.set_limit(plan.child, plan.limit);
+    match plan.child.role {
+        Role::Body => set_up_new(os, plan),
+        Role::Cleanup => set_up_in(os, plan),
+    }
+}
+
+/// Starts a child, and returns the moment, in milliseconds since 1970 in UTC.
+pub(crate) fn start_child<O: Os>(os: &mut O, plan: &Spawning) -> Result<u64, Refused>
+    ensures asked { (calls : List Call) × Chain O.leads os.old calls os.new
+        × Started plan.now calls result }
+    ensures range { IfOk result (λ moment. moment ≤ LATEST_MOMENT) }
+{
+    set_up(os, plan)?;
+    Ok(moment(os))
+}
