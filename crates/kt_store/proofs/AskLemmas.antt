@@ -1,20 +1,8 @@
 -- What a query leaves of a connection that stands for runs, whatever its text.
 use Rattle.std.proofs.Common.{ℕ, List, IsTrue, sym, ap, subst}
-use Rattle.sqlite.specs.Order.{Row}
-use Rattle.sqlite.specs.Tree.{Trees}
-use Rattle.sqlite.specs.Store.{Ghosts}
-use Rattle.sqlite.specs.Held.{Held, state}
-use Rattle.sqlite.specs.Listing.{understood}
+use Rattle.kt_store.proofs.Common.{Row, Trees, Ghosts, Held, state, understood, Database, State, HasCleanDisk, Survives, IsUnchanged, Shown, ShowsRows, never_commits, unchanged_then, survives_weaker, Run, schema_2, IsStore, StandsFor, Asked, MayShow}
 use Rattle.sqlite.specs.Given.{IsPlain}
-use Rattle.sqlite.specs.Effect.{Database}
-use Rattle.sqlite.specs.State.{State, HasCleanDisk, Survives, IsUnchanged, Shown, ShowsRows}
 use Rattle.sqlite.specs.Clock.{timed}
-use Rattle.sqlite.proofs.Callers.{never_commits, unchanged_then}
-use Rattle.sqlite.proofs.StateLemmas.{survives_weaker}
-use Rattle.kt_base.specs.declared.run.Run.{Run}
-use Rattle.kt_store.specs.Tables.{schema_2}
-use Rattle.kt_store.specs.Stands.{IsStore, StandsFor}
-use Rattle.kt_store.specs.Inner.Ask.{Asked, MayShow}
 use Rattle.kt_store.proofs.StepLemmas.{same_store}
 
 shown_same : (sql : List ℕ) (params : Row) (old new : State) (rows : List Row) → IsPlain (understood old.now.schema sql) → Shown sql params old new rows → IsUnchanged old new

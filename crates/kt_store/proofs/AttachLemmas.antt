@@ -1,19 +1,8 @@
 -- Taking the tables of a database, by what it was.
 use Rattle.std.proofs.Common.{◌≡◌, ◌≢◌, ◌⊎◌, inl, inr, ℤ, pos, List, [], IsTrue, refl, arith}
-use Rattle.std.specs.Prelude.{⊤}
-use Rattle.sqlite.specs.Tree.{Trees}
-use Rattle.sqlite.specs.Store.{Ghosts}
-use Rattle.sqlite.specs.Held.{Held, state}
-use Rattle.sqlite.specs.State.{State, HasCleanDisk, IsLive, IsUnchanged, Survives}
-use Rattle.sqlite.proofs.StateLemmas.{survives_then, survives_weaker}
-use Rattle.kt_base.specs.declared.run.Run.{Run}
-use Rattle.kt_store.specs.Ask.{Rests, IsStoreFault}
+use Rattle.kt_store.proofs.Common.{⊤, Trees, Ghosts, Held, state, State, HasCleanDisk, IsLive, IsUnchanged, Survives, survives_then, survives_weaker, Run, Rests, IsStoreFault, Keeps, Tables, OldTables, IsEmpty, StandsInOld, SaysSchema, HasTables, no_schema, StoreFault}
 use Rattle.kt_store.specs.Attaching.{Was, Blank, Current, Older, Numbered, IsOf, Takes, Refuses}
 use Rattle.kt_store.specs.Inner.Attaching.{HasNumber}
-use Rattle.kt_store.specs.Runs.{Keeps, Tables, OldTables}
-use Rattle.kt_store.specs.Stands.{IsEmpty, StandsInOld, SaysSchema, HasTables}
-use Rattle.kt_store.specs.Tables.{no_schema}
-use Rattle.kt_store.specs.declared.store_fault.StoreFault.{StoreFault}
 use Rattle.kt_store.proofs.StepLemmas.{rests_hold, rests_then, outlives, either_left, leaves_held}
 use Rattle.kt_store.proofs.MetaLemmas.{says_one, says_two, says_filled, empty_blank, still_holds, still_says}
 use Rattle.kt_store.proofs.ProbeLemmas.{tables_before}

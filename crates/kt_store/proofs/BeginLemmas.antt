@@ -1,45 +1,13 @@
 -- What the INSERT of `begin` does.
 use Rattle.std.proofs.Common.{Bool, IsTrue, Less, List, None, Ok, Option, Some, [], ap, append-nil, arith, cond, drop, false, fold, inl, inr, length, length-append, map, pos, refl, subst, suc, sym, true, unwrap_or, ℕ, ℤ, ◌++◌, ◌+ℤ◌, ◌+◌, ◌<◌, ◌∙◌, ◌∷◌, ◌≡◌}
-use Rattle.std.proofs.lemmas.Int.{ints}
-use Rattle.sqlite.specs.declared.types.Value.{Value}
-use Rattle.sqlite.specs.declared.types.Value.TheVariants.{Null, Int}
-use Rattle.sqlite.specs.Order.{Row}
-use Rattle.sqlite_value.specs.Order.{value_cmp}
-use Rattle.sqlite_trees.specs.Tree.{rowid, put_row}
-use Rattle.sqlite_rules.specs.Edit.{id_in, next_rowid, put_all, taken_by}
-use Rattle.std.proofs.lemmas.List.{map-append}
+use Rattle.kt_store.proofs.Common.{ints, Value, Null, Int, Row, value_cmp, rowid, put_row, id_in, next_rowid, put_all, taken_by, map-append, all-append, unary, Integer, cast, edit_of, Chosen, Database, IsDatabase, value_rows, Does, Tally, last_id, begin_text, runs_1, schema_2, AreNumbered, IsRun, Keeps, Tables, entry_row, entry_rows, new_run, pair_rows, prop_rows, run_row, flat_map, Trees, Mode, Command, Insert, Values, Enforced, works, State, HasCleanDisk, IsStore, StandsFor, Leaves, MayTell, Told, Ghosts, Held, state, Run}
 use Rattle.std.specs.List.Sorted.{IsPermutation}
-use Rattle.sqlite_keyed.proofs.ListLemmas.{all-append}
-use Rattle.sqlite.specs.Ops.{unary}
-use Rattle.sqlite.specs.Kind.TheVariants.{Integer}
-use Rattle.sqlite.specs.Cast.{cast}
-use Rattle.sqlite.specs.Edit.{edit_of}
-use Rattle.sqlite.specs.Rowids.TheVariants.{Chosen}
-use Rattle.sqlite.specs.Effect.{Database, IsDatabase, value_rows}
-use Rattle.sqlite.specs.Does.{Does, Tally}
-use Rattle.sqlite.specs.Rows.{last_id}
-use Rattle.kt_store.specs.Tables.{begin_text, runs_1, schema_2}
-use Rattle.kt_store.specs.Runs.{AreNumbered, IsRun, Keeps, Tables, entry_row, entry_rows, new_run, pair_rows, prop_rows, run_row}
-use Rattle.std.specs.List.{flat_map}
 use Rattle.std.proofs.lemmas.Grind.{flat_map-append}
 use Rattle.kt_store.proofs.SqlFacts.{begin_is, begin_terms}
 use Rattle.kt_store.proofs.EntryLemmas.{below}
 use Rattle.kt_store.proofs.InsertLemmas.{Changed, changed}
-use Rattle.sqlite.specs.Tree.{Trees}
-use Rattle.sqlite.specs.declared.run.Mode.{Mode}
-use Rattle.sqlite.specs.Command.{Command}
-use Rattle.sqlite.specs.Command.TheVariants.{Insert}
-use Rattle.sqlite.specs.Source.TheVariants.{Values}
-use Rattle.sqlite_schema.specs.declared.schema.Keys.TheVariants.{Enforced}
-use Rattle.sqlite_rules.specs.Action.{works}
-use Rattle.sqlite.specs.State.{State, HasCleanDisk}
-use Rattle.kt_store.specs.Stands.{IsStore, StandsFor, Leaves}
-use Rattle.kt_store.specs.Inner.Ask.{MayTell, Told}
-use Rattle.sqlite.specs.Store.{Ghosts}
-use Rattle.sqlite.specs.Held.{Held, state}
 use Rattle.kt_store.proofs.Numbered.{numbers_new}
 use Rattle.kt_store.proofs.WriteLemmas.{Ends, told_by, crash_by}
-use Rattle.kt_base.specs.declared.run.Run.{Run}
 
 abbrev above : ℤ → Row → ℤ
 above _ r = id_in (rowid r) +ℤ pos 1

@@ -1,26 +1,6 @@
 -- A run is finished.
 use Rattle.std.proofs.Common.{◌≡◌, ◌==◌, nat_lt, min, ℕ, zero, suc, ◌+◌, ◌<◌, ◌≤◌, pos, List, [], ◌∷◌, ◌++◌, length, map, drop, Bool, true, false, cond, Some, None, Option, Ok, slice_get, refl, sym, ap, subst, ◌∙◌, arith, IsPermutation, IsTrue}
-use Rattle.std.proofs.lemmas.Bool.Decides.{nat_tests}
-use Rattle.std.specs.List.{AllByRecursion, flat_map}
-use Rattle.sqlite.specs.declared.types.Value.TheVariants.{Int}
-use Rattle.sqlite.specs.Tree.{Trees}
-use Rattle.sqlite_trees.specs.Tree.{IsAscending}
-use Rattle.sqlite.specs.declared.run.Mode.{Mode}
-use Rattle.sqlite.specs.Command.TheVariants.{Update}
-use Rattle.sqlite_schema.specs.declared.schema.Keys.TheVariants.{Enforced}
-use Rattle.sqlite.specs.Does.{Tally, Does}
-use Rattle.sqlite.specs.Effect.{Database, IsDatabase}
-use Rattle.sqlite.specs.Store.{Ghosts}
-use Rattle.sqlite.specs.Held.{Held, state}
-use Rattle.sqlite.specs.State.{HasCleanDisk}
-use Rattle.kt_base.specs.declared.run.Run.{Run}
-use Rattle.kt_base.specs.declared.entry.Entry.{Entry}
-use Rattle.kt_store.specs.declared.store_fault.StoreFault.TheVariants.{RunClosed, Incomplete}
-use Rattle.kt_store.specs.Tables.{finish_text}
-use Rattle.kt_store.specs.Inner.Runs.{entries_of, IsComplete}
-use Rattle.kt_store.specs.Runs.{Tables, Keeps, IsRun, AreRuns, AreNumbered, run_at, entry_row, entry_rows, pair_rows, prop_rows, finish, finish_refusal, finish_refusal_of}
-use Rattle.kt_store.specs.Stands.{IsStore, StandsFor}
-use Rattle.kt_store.specs.Inner.Ask.{MayTell, Told}
+use Rattle.kt_store.proofs.Common.{nat_tests, AllByRecursion, flat_map, Int, Trees, IsAscending, Mode, Update, Enforced, Tally, Does, Database, IsDatabase, Ghosts, Held, state, HasCleanDisk, Run, Entry, RunClosed, Incomplete, finish_text, entries_of, IsComplete, Tables, Keeps, IsRun, AreRuns, AreNumbered, run_at, entry_row, entry_rows, pair_rows, prop_rows, finish, finish_refusal, finish_refusal_of, IsStore, StandsFor, MayTell, Told}
 use Rattle.kt_store.proofs.SqlFacts.{finish_is}
 use Rattle.kt_store.proofs.CountLemmas.{most}
 use Rattle.kt_store.proofs.FinishLemmas.{finish_program, finish_writes, finished_rows}

@@ -1,20 +1,6 @@
 -- What statements leave that are run in one commit.
 use Rattle.std.proofs.Common.{◌≡◌, inl, inr, List, sym, ap, subst, ◌∙◌, IsTrue, arith}
-use Rattle.std.proofs.lemmas.Bool.{both_ways}
-use Rattle.sqlite.specs.Tree.{Trees}
-use Rattle.sqlite.specs.Store.{Ghosts}
-use Rattle.sqlite.specs.Held.{Held, state}
-use Rattle.sqlite.specs.Effect.{Database, IsDatabase}
-use Rattle.sqlite.specs.Steps.{FailsToCommit}
-use Rattle.sqlite.specs.State.{State, HasCleanDisk, Survives, KeepsCommit, IsRolledBack, Fails}
-use Rattle.sqlite.specs.declared.error.Error.{Error}
-use Rattle.sqlite.proofs.StateLemmas.{survives_then, survives_weaker}
-use Rattle.sqlite.proofs.Callers.{survives_begin}
-use Rattle.kt_base.specs.declared.run.Run.{Run}
-use Rattle.kt_store.specs.Runs.{Keeps, Tables}
-use Rattle.kt_store.specs.Stands.{IsSettled, Holds, StandsFor, Leaves}
-use Rattle.kt_store.specs.Inner.Calls.{Statement}
-use Rattle.kt_store.specs.Inner.Transactions.{begun, RunInTurn, Commits, MayCommit, Undoes}
+use Rattle.kt_store.proofs.Common.{both_ways, Trees, Ghosts, Held, state, Database, IsDatabase, FailsToCommit, State, HasCleanDisk, Survives, KeepsCommit, IsRolledBack, Fails, Error, survives_then, survives_weaker, survives_begin, Run, Keeps, Tables, IsSettled, Holds, StandsFor, Leaves, Statement, begun, RunInTurn, Commits, MayCommit, Undoes}
 use Rattle.kt_store.proofs.StepLemmas.{undone_settled}
 
 -- a commit inside a transaction fails only where the store does

@@ -1,28 +1,7 @@
 -- How many entries a run has, as its query tells.
-use Rattle.std.proofs.Common.{◌≡◌, ℕ, min, pos, List, [], ◌∷◌, length, map, filter, true, false, Some, refl, sym, ap, subst, ◌∙◌, IsPermutation}
-use Rattle.std.proofs.lemmas.List.Sorted.{length_permutation}
-use Rattle.std.proofs.lemmas.List.{length-map}
-use Rattle.std.specs.List.{flat_map, AllZip}
-use Rattle.sqlite.specs.declared.types.Value.TheVariants.{Null, Int}
-use Rattle.sqlite.specs.Order.{Row}
-use Rattle.sqlite.specs.Tree.{Trees}
-use Rattle.sqlite_value.specs.Order.{column}
-use Rattle.std.specs.Prelude.{slice_get}
-use Rattle.sqlite.specs.Term.{Env, lit}
-use Rattle.sqlite.specs.Query.{inner, end, matches_as, IsAnswerAs, IsSureAnswer, Output, output}
+use Rattle.std.proofs.Common.{◌≡◌, ℕ, min, pos, List, [], ◌∷◌, length, map, filter, true, false, Some, refl, sym, ap, subst, ◌∙◌, IsPermutation, slice_get}
+use Rattle.kt_store.proofs.Common.{length_permutation, length-map, flat_map, AllZip, Null, Int, Row, Trees, column, Env, lit, inner, end, matches_as, IsAnswerAs, IsSureAnswer, Output, output, CountRows, Binary, overlay, Ghosts, Held, state, reads_as, one_permutation, Run, Entry, count_text, schema_2, entries_of, entry_row, entry_rows, run_at, ShowsOf}
 use Rattle.sqlite_sql.specs.Group.{Grouping, IsSummary, value_over}
-use Rattle.sqlite_sql.specs.declared.aggregate.AggregateOp.TheVariants.{CountRows}
-use Rattle.sqlite.specs.Collation.TheVariants.{Binary}
-use Rattle.sqlite.specs.Program.{overlay}
-use Rattle.sqlite.specs.Store.{Ghosts}
-use Rattle.sqlite.specs.Held.{Held, state}
-use Rattle.sqlite.proofs.Callers.{reads_as, one_permutation}
-use Rattle.kt_base.specs.declared.run.Run.{Run}
-use Rattle.kt_base.specs.declared.entry.Entry.{Entry}
-use Rattle.kt_store.specs.Tables.{count_text, schema_2}
-use Rattle.kt_store.specs.Inner.Runs.{entries_of}
-use Rattle.kt_store.specs.Runs.{entry_row, entry_rows, run_at}
-use Rattle.kt_store.specs.Inner.Ask.{ShowsOf}
 use Rattle.kt_store.proofs.SqlFacts.{count_is, count_query}
 use Rattle.kt_store.proofs.QueryLemmas.{found, overlay_none}
 use Rattle.kt_store.proofs.EntryLemmas.{back, of_stored, of_run, tests, passes, same_passes, each, all_pass}

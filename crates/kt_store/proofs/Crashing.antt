@@ -1,9 +1,6 @@
 -- What a crash leaves of a store, after a call.
 use Rattle.std.proofs.Common.{◌≡◌, ℕ, ◌≤◌, List, ◌∷◌, ◌⊎◌, inl, inr, arith}
-use Rattle.sqlite.specs.State.{State, Survives}
-use Rattle.kt_base.specs.declared.run.Run.{Run}
-use Rattle.kt_store.specs.Runs.{Keeps, KeepsOne}
-use Rattle.kt_store.specs.Stands.{Leaves}
+use Rattle.kt_store.proofs.Common.{State, Survives, Run, Keeps, KeepsOne, Leaves}
 
 was_none : (a b : ℕ) → a ≤ b → b ≡ 0 → a ≡ 0
 was_none a b h e = omega (arith, h, e)

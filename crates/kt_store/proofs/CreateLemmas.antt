@@ -1,32 +1,8 @@
 -- What the statements that make the tables do.
 use Rattle.std.proofs.Common.{◌≡◌, ℕ, pos, List, [], ◌∷◌, map, drop, codes, false, None, Ok, refl, sym, ap, subst, ◌∙◌, IsPermutation, arith, IsTrue}
-use Rattle.std.proofs.lemmas.List.Sorted.{IsPermutation-refl}
-use Rattle.sqlite.specs.declared.types.Value.TheVariants.{Int, Text}
-use Rattle.sqlite.specs.Order.{Row}
-use Rattle.sqlite.specs.Tree.{Trees}
-use Rattle.sqlite.specs.Table.{Table}
-use Rattle.sqlite.specs.Schema.{Schema}
+use Rattle.kt_store.proofs.Common.{IsPermutation-refl, Int, Text, Row, Trees, Table, Schema, CreateTable, Insert, Values, Chosen, edit_of, taken_by, works, Enforced, Tally, lacks_sequence, understood, Database, IsDatabase, value_rows, State, mode_of, Writes, Executes, IsPlain, command_of, statement_of, runs_as, everything, no_schema, schema_1, schema_2, meta, runs, entries, props, meta_1, create_meta, create_runs, create_entries, create_props, mark_text, Tables, make_statements, begun, RunInTurn, Ghosts, Held, state}
 use Rattle.sqlite.specs.Compile.{table_defined_by}
-use Rattle.sqlite.specs.Command.TheVariants.{CreateTable, Insert}
-use Rattle.sqlite.specs.Source.TheVariants.{Values}
-use Rattle.sqlite.specs.Rowids.TheVariants.{Chosen}
-use Rattle.sqlite.specs.Edit.{edit_of}
-use Rattle.sqlite_rules.specs.Edit.{taken_by}
-use Rattle.sqlite_rules.specs.Action.{works}
-use Rattle.sqlite_schema.specs.declared.schema.Keys.TheVariants.{Enforced}
 use Rattle.sqlite.specs.Change.{created, next_tree, KeepsRows}
-use Rattle.sqlite.specs.Does.{Tally, lacks_sequence}
-use Rattle.sqlite.specs.Listing.{understood}
-use Rattle.sqlite.specs.Effect.{Database, IsDatabase, value_rows}
-use Rattle.sqlite.specs.State.{State, mode_of, Writes, Executes}
-use Rattle.sqlite.proofs.Callers.{IsPlain, command_of, statement_of, runs_as}
-use Rattle.sqlite_tied.specs.Compute.{everything}
-use Rattle.kt_store.specs.Tables.{no_schema, schema_1, schema_2, meta, runs, entries, props, meta_1, create_meta, create_runs, create_entries, create_props, mark_text}
-use Rattle.kt_store.specs.Runs.{Tables}
-use Rattle.kt_store.specs.Inner.Calls.{make_statements}
-use Rattle.kt_store.specs.Inner.Transactions.{begun, RunInTurn}
-use Rattle.sqlite.specs.Store.{Ghosts}
-use Rattle.sqlite.specs.Held.{Held, state}
 use Rattle.kt_store.proofs.SqlFacts.{mark_is, mark_terms}
 use Rattle.kt_store.proofs.InsertLemmas.{went, same_value, changed}
 use Rattle.kt_store.proofs.BeginLemmas.{cast_null, cast_int}

@@ -1,12 +1,6 @@
 -- What a statement of a transaction keeps.
 use Rattle.std.proofs.Common.{◌≡◌, inl, inr, ℕ, List, false, IsTrue, Result, refl, sym, subst}
-use Rattle.std.proofs.lemmas.Bool.{cases_Bool}
-use Rattle.sqlite.specs.declared.error.Error.{Error}
-use Rattle.sqlite.specs.Order.{Row}
-use Rattle.sqlite.specs.Store.{Ghosts}
-use Rattle.sqlite.specs.Held.{Held, state}
-use Rattle.sqlite.specs.State.{KeepsCommit, ExecutesInside}
-use Rattle.sqlite.proofs.InsideLemmas.{inside_keeps}
+use Rattle.kt_store.proofs.Common.{cases_Bool, Error, Row, Ghosts, Held, state, KeepsCommit, ExecutesInside, inside_keeps}
 
 -- a statement inside a transaction commits nothing
 pub step_keeps : {S : Type 0} (g : Ghosts S) (old new : Held S) (sql : List ℕ) (params : Row) (r : Result ℕ Error)

@@ -1,19 +1,6 @@
 -- What the query for the entries of a run answers.
-use Rattle.std.proofs.Common.{◌≡◌, ℕ, zero, suc, ◌<◌, pos, List, [], ◌∷◌, ◌++◌, length, map, take, true, Some, None, Option, refl, ap, ◌∙◌, arith}
-use Rattle.std.specs.List.{AllByRecursion}
-use Rattle.std.specs.Prelude.{get_or}
-use Rattle.sqlite.specs.declared.types.Value.TheVariants.{Int}
-use Rattle.sqlite.specs.Order.{Row}
-use Rattle.sqlite_trees.specs.Tree.{IsAscending}
-use Rattle.sqlite.specs.State.{State, Shown}
-use Rattle.sqlite.proofs.Callers.{reads_as}
-use Rattle.kt_base.specs.declared.run.Run.{Run}
-use Rattle.kt_base.specs.declared.entry.Entry.{Entry}
-use Rattle.kt_store.specs.Tables.{outline_text, schema_2}
-use Rattle.kt_store.specs.Inner.Runs.{entries_of}
-use Rattle.kt_store.specs.Runs.{IsRun, IsEntry, run_at, AreRuns}
-use Rattle.kt_store.specs.Inner.Heads.{entry_columns}
-use Rattle.kt_store.specs.Stands.{IsStore}
+use Rattle.std.proofs.Common.{◌≡◌, ℕ, zero, suc, ◌<◌, pos, List, [], ◌∷◌, ◌++◌, length, map, take, true, Some, None, Option, refl, ap, ◌∙◌, arith, get_or}
+use Rattle.kt_store.proofs.Common.{AllByRecursion, Int, Row, IsAscending, State, Shown, reads_as, Run, Entry, outline_text, schema_2, entries_of, IsRun, IsEntry, run_at, AreRuns, entry_columns, IsStore}
 use Rattle.kt_store.proofs.SqlFacts.{outline_select_is, outline_query}
 use Rattle.kt_store.proofs.KeptEntries.{Same, tells_kept}
 use Rattle.kt_store.proofs.EntryLemmas.{tests, each, all_pass}

@@ -1,24 +1,8 @@
 -- What queries of the entries answer.
 use Rattle.std.proofs.Common.{◌≡◌, ◌≢◌, ◌==◌, ◌&&◌, ℕ, zero, suc, ◌+◌, ◌<◌, pos, List, [], ◌∷◌, ◌++◌, map, drop, filter, Bool, true, false, cond, Less, Equal, Greater, Some, None, Option, slice_get, refl, sym, ap, ap₂, subst, ◌∙◌, arith, IsPermutation, append-nil}
-use Rattle.std.proofs.lemmas.Int.{ints}
-use Rattle.std.proofs.lemmas.Bool.Decides.{nat_tests}
-use Rattle.std.proofs.lemmas.List.Sorted.{IsPermutation-map}
-use Rattle.std.proofs.lemmas.List.Elements.{filter-append}
-use Rattle.std.specs.List.{flat_map, list_all}
-use Rattle.std.specs.Option.{option_to_list}
-use Rattle.sqlite.specs.Term.{Term, col, holds}
-use Rattle.sqlite_keyed.proofs.ListLemmas.{IsPermutation-filter}
-use Rattle.sqlite.specs.declared.types.Value.TheVariants.{Null, Int}
-use Rattle.sqlite.specs.Order.{Row}
-use Rattle.sqlite_value.specs.Order.{value_cmp}
-use Rattle.sqlite_value.proofs.OrderLemmas.{value_cmp-Int}
+use Rattle.kt_store.proofs.Common.{ints, nat_tests, IsPermutation-map, filter-append, flat_map, list_all, option_to_list, Term, col, holds, IsPermutation-filter, Null, Int, Row, value_cmp, value_cmp-Int, is_true, from_truth, binary, Run, Entry, entries_of, entry_row, entry_rows, run_at, AreNumbered}
 use Rattle.std.specs.Ordering.{is_eq}
-use Rattle.sqlite.specs.Ops.{is_true, from_truth, binary}
-use Rattle.kt_base.specs.declared.run.Run.{Run}
-use Rattle.kt_base.specs.declared.entry.Entry.{Entry}
-use Rattle.kt_store.specs.Inner.Runs.{entries_of}
 use Rattle.kt_store.proofs.SqlFacts.{is}
-use Rattle.kt_store.specs.Runs.{entry_row, entry_rows, run_at, AreNumbered}
 
 -- the row as it is stored, whatever its rowid
 abbrev pub back : Row → Row

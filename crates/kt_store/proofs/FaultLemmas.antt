@@ -1,8 +1,6 @@
 -- What a refusal is reported as.
 use Rattle.std.proofs.Common.{◌≡◌, sym, subst, Result, Ok, Err, IsErrAnd, IfErr, OnErr}
-use Rattle.kt_store.specs.declared.store_fault.StoreFault.{StoreFault}
-use Rattle.kt_store.specs.declared.store_fault.StoreFault.TheVariants.{NoMemory, Store}
-use Rattle.kt_store.specs.Ask.{IsNoMemory, IsStoreFault}
+use Rattle.kt_store.proofs.Common.{StoreFault, NoMemory, Store, IsNoMemory, IsStoreFault}
 
 -- what is known of a fault is known of the answer that hands it on
 pub if_same : {T : Type 0} (Q : StoreFault → Type 0) (r : Result T StoreFault) (e : StoreFault) → IsErrAnd r (λ x. x ≡ e) → Q e → IfErr r Q

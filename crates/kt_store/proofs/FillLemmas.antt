@@ -1,35 +1,7 @@
 -- What the statements do that put an entry and its pairs, one after the other.
 use Rattle.std.proofs.Common.{◌≡◌, ◌&&◌, ◌/◌, Bool, not, ℕ, suc, ◌+◌, ◌<◌, pos, List, [], ◌∷◌, ◌++◌, length, map, drop, codes, None, Ok, refl, sym, ap, subst, ◌∙◌, arith, IsPermutation, IsTrue, true, false}
-use Rattle.std.specs.List.{AllByRecursion}
-use Rattle.std.proofs.lemmas.List.Sorted.{IsPermutation-cons, IsPermutation-trans, IsPermutation-map, IsPermutation-sym, IsPermutation-middle}
-use Rattle.sqlite.specs.declared.types.Value.TheVariants.{Int, Text}
-use Rattle.sqlite.specs.Order.{Row}
-use Rattle.sqlite.specs.Tree.{Trees}
-use Rattle.sqlite_rules.specs.Edit.{is_taken, taken_by, put_all, are_fresh, next_rowid, numbered}
+use Rattle.kt_store.proofs.Common.{AllByRecursion, IsPair, IsText, HasTexts, pair_texts, IsPermutation-cons, IsPermutation-trans, IsPermutation-map, IsPermutation-sym, IsPermutation-middle, Int, Text, Row, Trees, is_taken, taken_by, put_all, are_fresh, next_rowid, numbered, put_row, works, Values, Insert, Chosen, edit_of, Enforced, understood, Ghosts, Held, state, Database, IsDatabase, value_rows, State, HasCleanDisk, mode_of, Executes, Writes, Term, IsPlain, command_of, statement_of, runs_as, Entry, Run, Variable, schema_2, entries_1, props_1, put_text, CanAdd, Tables, IsRun, kind_code, run_row, entry_row, entry_rows, pair_row, pair_rows_from, prop_rows, with_entry, Statement, single_statements, pair_statements, entry_statements, pair_text, five_text, five_values, begun, RunInTurn, StandsFor}
 use Rattle.sqlite_rules.specs.Cast.{cast_row}
-use Rattle.sqlite_trees.specs.Tree.{put_row}
-use Rattle.sqlite_rules.specs.Action.{works}
-use Rattle.sqlite.specs.Source.TheVariants.{Values}
-use Rattle.sqlite.specs.Command.TheVariants.{Insert}
-use Rattle.sqlite.specs.Rowids.TheVariants.{Chosen}
-use Rattle.sqlite.specs.Edit.{edit_of}
-use Rattle.sqlite_schema.specs.declared.schema.Keys.TheVariants.{Enforced}
-use Rattle.sqlite.specs.Listing.{understood}
-use Rattle.sqlite.specs.Store.{Ghosts}
-use Rattle.sqlite.specs.Held.{Held, state}
-use Rattle.sqlite.specs.Effect.{Database, IsDatabase, value_rows}
-use Rattle.sqlite.specs.State.{State, HasCleanDisk, mode_of, Executes, Writes}
-use Rattle.sqlite.specs.Term.{Term}
-use Rattle.sqlite.proofs.Callers.{IsPlain, command_of, statement_of, runs_as}
-use Rattle.kt_base.specs.declared.entry.Entry.{Entry}
-use Rattle.kt_base.specs.declared.run.Run.{Run}
-use Rattle.kt_base.specs.declared.variable.Variable.{Variable}
-use Rattle.kt_store.specs.Tables.{schema_2, entries_1, props_1, put_text}
-use Rattle.kt_store.specs.Inner.Runs.{CanAdd}
-use Rattle.kt_store.specs.Runs.{Tables, IsRun, kind_code, run_row, entry_row, entry_rows, pair_row, pair_rows_from, prop_rows, with_entry}
-use Rattle.kt_store.specs.Inner.Calls.{Statement, single_statements, pair_statements, entry_statements, pair_text, five_text, five_values}
-use Rattle.kt_store.specs.Inner.Transactions.{begun, RunInTurn}
-use Rattle.kt_store.specs.Stands.{StandsFor}
 use Rattle.kt_store.proofs.SqlFacts.{put_is, put_terms, pair_is, pair_terms, five_is, five_terms}
 use Rattle.kt_store.proofs.InsertLemmas.{changed}
 use Rattle.kt_store.proofs.BeginLemmas.{cast_null, cast_int}
@@ -150,6 +122,24 @@ module _ {S : Type 0} (g : Ghosts S) (runs : List Run) (entries : List Row) (n p
       let all = pairs_inside next vs (first ++ props) ran.0 new one.0 one.1 ran.2 in
       (moved runs entries _ _ (state g new).now (swap_blocks first (pair_rows_from n p next vs) props) all.0, all.1)
 
+-- the texts of pairs that were put
+module _ {S : Type 0} (g : Ghosts S) (n p : ℕ) where
+  singles_spelled : (k : ℕ) (vs : List Variable) (old new : Held S) → RunInTurn g (single_statements n p k vs) old new → AllByRecursion IsPair vs
+  singles_spelled k [] old new ran = tt
+  singles_spelled k (v ∷ vs) old new ran = ((ran.1.2.0, ran.1.2.1.0), singles_spelled (suc k) vs ran.0 new ran.2)
+
+  pairs_spelled : (k : ℕ) (vs : List Variable) (old new : Held S) → RunInTurn g (pair_statements n p k vs) old new → AllByRecursion IsPair vs
+  pairs_spelled k [] old new ran = tt
+  pairs_spelled k (a ∷ []) old new ran = singles_spelled k (a ∷ []) old new ran
+  pairs_spelled k (a ∷ b ∷ []) old new ran = singles_spelled k (a ∷ b ∷ []) old new ran
+  pairs_spelled k (a ∷ b ∷ c ∷ []) old new ran = singles_spelled k (a ∷ b ∷ c ∷ []) old new ran
+  pairs_spelled k (a ∷ b ∷ c ∷ d ∷ []) old new ran = singles_spelled k (a ∷ b ∷ c ∷ d ∷ []) old new ran
+  pairs_spelled k (a ∷ b ∷ c ∷ d ∷ e ∷ vs) old new ran = paired (a ∷ b ∷ c ∷ d ∷ e ∷ []) vs ran.1.2 (pairs_spelled (suc (suc (suc (suc (suc k))))) vs ran.0 new ran.2)
+    where
+      paired : (vs others : List Variable) → AllByRecursion IsText (pair_texts vs) → AllByRecursion IsPair others → AllByRecursion IsPair (vs ++ others)
+      paired [] others has more = more
+      paired (v ∷ vs) others has more = ((has.0, has.1.0), paired vs others has.1.1 more)
+
 module _ {S : Type 0} (g : Ghosts S) where
   -- the entry and its pairs are in the tables of the runs that have it
   pub filled : (runs : List Run) (k : ℕ) (e : Entry) → k < length runs → AllByRecursion IsRun (with_entry (suc k) e runs) → (old new : Held S) → Tables (state g old).now runs
@@ -174,11 +164,15 @@ module _ {S : Type 0} (g : Ghosts S) where
         all.1,
       )
 
+  -- its texts are texts
+  spelled : (n : ℕ) (e : Entry) (old new : Held S) → RunInTurn g (entry_statements n e) old new → HasTexts e
+  spelled n e old new ran = (ran.1.2.0, ran.1.2.1.0, ran.1.2.1.1.0, pairs_spelled g n e.position 0 e.meta ran.0 new ran.2)
+
   pub filled_at : (runs : List Run) (e : Entry) (run : ℕ) → CanAdd run e runs → (old new : Held S) → Tables (state g old).now runs
       → RunInTurn g (entry_statements run e) old new → Tables (state g new).now (with_entry run e runs) × IsDatabase (state g new).now
   filled_at runs e run fits old new has ran =
       subst (λ n. AllByRecursion IsRun (with_entry n e runs) → RunInTurn g (entry_statements n e) old new → Tables (state g new).now (with_entry n e runs) × IsDatabase (state g new).now) (sym fits.1)
-      (λ valid ran. filled runs fits.0 e fits.2 valid old new has ran) fits.3 ran
+      (λ valid ran. filled runs fits.0 e fits.2 valid old new has ran) (fits.3 (spelled run e old new ran)) ran
 
   -- the same of a transaction
   pub entry_made : (runs : List Run) (e : Entry) (run : ℕ) (old : Held S) → StandsFor (state g old) runs → (HasCleanDisk (state g old) → CanAdd run e runs) → HasCleanDisk (state g old) → (left : Held S)

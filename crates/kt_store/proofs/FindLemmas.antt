@@ -1,23 +1,7 @@
 -- A run is found by its number.
-use Rattle.std.proofs.Common.{◌≡◌, ◌≢◌, ℕ, pos, List, [], ◌∷◌, map, filter, Bool, true, false, Some, refl, sym, ap, ◌∙◌, arith}
-use Rattle.std.proofs.lemmas.Bool.Decides.{nat_tests}
-use Rattle.std.specs.List.{flat_map, list_all}
-use Rattle.std.specs.Option.{option_to_list}
+use Rattle.std.proofs.Common.{◌≡◌, ◌≢◌, ℕ, pos, List, [], ◌∷◌, map, filter, Bool, true, false, Some, refl, sym, ap, ◌∙◌, arith, ◌&&◌}
+use Rattle.kt_store.proofs.Common.{nat_tests, flat_map, list_all, option_to_list, Int, Row, value_cmp, rowid, Term, col, holds, eval, is_true, from_truth, binary, Compare, Eq, Binary, filter-map, filter_same, Run, run_row, AreNumbered, run_at}
 use Rattle.std.specs.Ordering.{is_eq}
-use Rattle.sqlite.specs.declared.types.Value.TheVariants.{Int}
-use Rattle.sqlite.specs.Order.{Row}
-use Rattle.sqlite_value.specs.Order.{value_cmp}
-use Rattle.sqlite_trees.specs.Tree.{rowid}
-use Rattle.sqlite.specs.Term.{Term, col, holds}
-use Rattle.std.proofs.Common.{◌&&◌}
-use Rattle.sqlite.specs.Term.{eval}
-use Rattle.sqlite.specs.Ops.{is_true, from_truth, binary}
-use Rattle.sqlite_sql.specs.declared.ops.BinaryOp.TheVariants.{Compare}
-use Rattle.sqlite_sql.specs.declared.ops.CompareOp.TheVariants.{Eq}
-use Rattle.sqlite.specs.Collation.TheVariants.{Binary}
-use Rattle.sqlite_keyed.proofs.ListLemmas.{filter-map, filter_same}
-use Rattle.kt_base.specs.declared.run.Run.{Run}
-use Rattle.kt_store.specs.Runs.{run_row, AreNumbered, run_at}
 use Rattle.kt_store.proofs.EntryLemmas.{of_one, same_test}
 use Rattle.kt_store.proofs.SqlFacts.{is}
 

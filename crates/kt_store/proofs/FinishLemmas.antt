@@ -1,29 +1,7 @@
 -- What the UPDATE of `finish` does.
 use Rattle.std.proofs.Common.{◌≡◌, ◌==◌, ℕ, zero, suc, ◌+◌, ◌<◌, pos, List, [], ◌∷◌, map, filter, Bool, true, false, not, Some, None, Option, slice_get, Ok, refl, sym, ap, subst, ◌∙◌, arith, IsPermutation, Less, is_eq}
-use Rattle.std.proofs.lemmas.Bool.Decides.{nat_tests}
-use Rattle.std.specs.Option.{option_to_list}
-use Rattle.sqlite.specs.declared.types.Value.TheVariants.{Null, Int}
-use Rattle.sqlite.specs.Order.{Row}
-use Rattle.sqlite.specs.Tree.{Trees}
-use Rattle.sqlite_value.specs.Order.{value_cmp}
-use Rattle.sqlite_trees.specs.Tree.{rowid, put_row, without_rowid}
-use Rattle.sqlite.specs.Term.{lit, col}
-use Rattle.sqlite.specs.declared.run.Mode.{Mode}
-use Rattle.sqlite.specs.Command.TheVariants.{Update}
-use Rattle.sqlite.specs.Rowids.TheVariants.{Given}
-use Rattle.sqlite.specs.Edit.{edit_of}
-use Rattle.sqlite_rules.specs.Edit.{taken_by, put_all, Applies}
-use Rattle.sqlite_rules.specs.Action.{works, Writes}
-use Rattle.sqlite_rules.specs.Calls.{ids_of}
-use Rattle.sqlite_schema.specs.declared.schema.Keys.TheVariants.{Enforced}
-use Rattle.sqlite_schema.specs.declared.program.Program.{Program}
-use Rattle.sqlite.specs.Does.{Tally, AtPlace, OnRows, Does}
-use Rattle.sqlite.specs.Rows.{Task, Written, Updates}
-use Rattle.sqlite.specs.Effect.{Database, Answers}
-use Rattle.sqlite.proofs.Callers.{one_step, one_permutation}
-use Rattle.kt_base.specs.declared.run.Run.{Run}
-use Rattle.kt_store.specs.Tables.{schema_2, runs_1}
-use Rattle.kt_store.specs.Runs.{Tables, AreNumbered, run_row, run_at, finish}
+use Rattle.kt_store.proofs.Common.{nat_tests, option_to_list, Null, Int, Row, Trees, value_cmp, rowid, put_row, without_rowid, lit, col, Mode, Update, Given, edit_of, taken_by, put_all, Applies, works, ids_of, Enforced, Program, Tally, AtPlace, OnRows, Does, Task, Written, Updates, Database, Answers, one_step, one_permutation, Run, schema_2, runs_1, Tables, AreNumbered, run_row, run_at, finish}
+use Rattle.sqlite_rules.specs.Action.{Writes}
 use Rattle.kt_store.proofs.SqlFacts.{finish_query, is}
 use Rattle.kt_store.proofs.InsertLemmas.{went, same_value, concluded}
 use Rattle.kt_store.proofs.EntryLemmas.{below, above, equal}

@@ -1,21 +1,6 @@
 -- Whether the store is full, as its query tells.
 use Rattle.std.proofs.Common.{◌≡◌, ℕ, zero, suc, ◌<◌, ◌≤◌, pos, List, [], ◌∷◌, length, map, filter, inl, inr, slice_get, refl, sym, ap, ◌∙◌, arith}
-use Rattle.std.proofs.lemmas.Option.{slice_get_past}
-use Rattle.std.proofs.lemmas.List.Sorted.{length_permutation}
-use Rattle.std.proofs.lemmas.List.{length-map}
-use Rattle.std.proofs.lemmas.Bool.{cases_lt}
-use Rattle.std.specs.List.{list_all}
-use Rattle.std.specs.Option.{option_to_list}
-use Rattle.sqlite.specs.declared.types.Value.TheVariants.{Int}
-use Rattle.sqlite.specs.Order.{Row}
-use Rattle.sqlite.specs.Term.{lit, col, holds}
-use Rattle.sqlite.specs.Store.{Ghosts}
-use Rattle.sqlite.specs.Held.{Held, state}
-use Rattle.sqlite.proofs.Callers.{reads_as}
-use Rattle.kt_base.specs.declared.run.Run.{Run}
-use Rattle.kt_store.specs.Tables.{full_text, schema_2}
-use Rattle.kt_store.specs.Runs.{run_row, run_at}
-use Rattle.kt_store.specs.Inner.Ask.{ShowsOf}
+use Rattle.kt_store.proofs.Common.{slice_get_past, length_permutation, length-map, cases_lt, list_all, option_to_list, Int, Row, lit, col, holds, Ghosts, Held, state, reads_as, Run, full_text, schema_2, run_row, run_at, ShowsOf}
 use Rattle.kt_store.proofs.SqlFacts.{full_is, is}
 use Rattle.kt_store.proofs.QueryLemmas.{answered, show, picked}
 use Rattle.kt_store.proofs.FindLemmas.{picked_run}

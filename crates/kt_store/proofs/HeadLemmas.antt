@@ -1,26 +1,6 @@
 -- What the query for all runs answers.
-use Rattle.std.proofs.Common.{◌≡◌, ℕ, zero, suc, ◌<◌, pos, List, [], ◌∷◌, ◌++◌, length, map, filter, take, true, Less, refl, sym, ap, subst, ◌∙◌, arith}
-use Rattle.std.proofs.lemmas.Int.{ints}
-use Rattle.std.proofs.lemmas.Bool.Decides.{nat_tests}
-use Rattle.std.specs.List.{AllByRecursion}
-use Rattle.std.specs.Prelude.{get_or}
-use Rattle.sqlite_keyed.proofs.ListLemmas.{map-map}
-use Rattle.sqlite.specs.declared.types.Value.TheVariants.{Int}
-use Rattle.sqlite.specs.Order.{Row}
-use Rattle.sqlite_trees.specs.Tree.{IsAscending}
-use Rattle.sqlite_value.specs.Order.{value_cmp, column}
-use Rattle.sqlite_value.specs.Keys.{ascending}
-use Rattle.sqlite_value.proofs.OrderLemmas.{value_cmp-Int}
-use Rattle.sqlite.specs.Term.{col}
-use Rattle.sqlite.specs.Query.{output, output_cmp}
-use Rattle.sqlite.specs.Collation.TheVariants.{Binary}
-use Rattle.sqlite.specs.State.{State, Shown}
-use Rattle.sqlite.proofs.Callers.{reads_as}
-use Rattle.kt_base.specs.declared.run.Run.{Run}
-use Rattle.kt_store.specs.Tables.{runs_text, schema_2}
-use Rattle.kt_store.specs.Runs.{run_row, AreNumbered}
-use Rattle.kt_store.specs.Inner.Heads.{head_columns}
-use Rattle.kt_store.specs.Stands.{IsStore}
+use Rattle.std.proofs.Common.{◌≡◌, ℕ, zero, suc, ◌<◌, pos, List, [], ◌∷◌, ◌++◌, length, map, filter, take, true, Less, refl, sym, ap, subst, ◌∙◌, arith, get_or}
+use Rattle.kt_store.proofs.Common.{ints, nat_tests, AllByRecursion, map-map, Int, Row, IsAscending, value_cmp, column, ascending, value_cmp-Int, col, output, output_cmp, Binary, State, Shown, reads_as, Run, runs_text, schema_2, run_row, AreNumbered, head_columns, IsStore}
 use Rattle.kt_store.proofs.SqlFacts.{runs_select_is, runs_query}
 use Rattle.kt_store.proofs.QueryLemmas.{answered_in_order}
 

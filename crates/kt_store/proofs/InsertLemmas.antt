@@ -1,24 +1,7 @@
 -- An INSERT of rows that are written out, into a table that SQL does not number, where no foreign key acts.
-use Rattle.std.proofs.Common.{◌≡◌, ◌⊎◌, inl, inr, ℕ, ◌/◌, ℤ, List, [], length, false, cond, slice_get, Some, None, Option, Ok, Err, Result, refl, sym, ap, subst, ◌∙◌, append-nil}
-use Rattle.sqlite.specs.Order.{Row}
-use Rattle.sqlite.specs.Tree.{Trees}
-use Rattle.sqlite.specs.Term.{Term}
-use Rattle.sqlite.specs.Table.{Table}
-use Rattle.sqlite.specs.Schema.{Schema}
-use Rattle.sqlite_schema.specs.declared.schema.Keys.TheVariants.{Enforced}
-use Rattle.sqlite.specs.Source.TheVariants.{Values}
-use Rattle.sqlite.specs.Command.TheVariants.{Insert}
-use Rattle.sqlite.specs.Rowids.TheVariants.{Chosen, Above}
-use Rattle.sqlite.specs.Edit.{Edit, edit_of}
-use Rattle.sqlite_rules.specs.Edit.{Applies, taken_by}
-use Rattle.sqlite_rules.specs.Action.{works, Writes}
-use Rattle.sqlite.specs.Does.{Tally, AtPlace, OnRows, Concludes, Does}
-use Rattle.sqlite.specs.declared.run.Mode.{Mode}
-use Rattle.sqlite.specs.Rows.{Written, Task, Counts, CountsIn, Inserts, Gives, sequence, stamped, last_id, rowids_for, count_of}
-use Rattle.std.specs.Prelude.{MatchBool}
-use Rattle.std.specs.Ordering.{is_lt, int_cmp}
-use Rattle.sqlite.specs.Effect.{Database, value_rows}
-use Rattle.sqlite.proofs.Callers.{one_step}
+use Rattle.std.proofs.Common.{◌≡◌, ◌⊎◌, inl, inr, ℕ, ◌/◌, ℤ, List, [], length, false, cond, slice_get, Some, None, Option, Ok, Err, Result, refl, sym, ap, subst, ◌∙◌, append-nil, MatchBool}
+use Rattle.kt_store.proofs.Common.{Row, Trees, Term, Table, Schema, Enforced, Values, Insert, Chosen, Above, Edit, edit_of, Applies, taken_by, works, Tally, AtPlace, OnRows, Concludes, Does, Mode, Written, Task, Counts, CountsIn, Inserts, Gives, sequence, stamped, last_id, rowids_for, count_of, is_lt, int_cmp, Database, value_rows, one_step}
+use Rattle.sqlite_rules.specs.Action.{Writes}
 
 -- a part that gave a value did not stop on the way
 pub went : {B E R : Type 0} {b : B} {Stops : E → Type 0} → ((stop : E) × Stops stop × (Ok b ≡ Err stop)) ⊎ R → R

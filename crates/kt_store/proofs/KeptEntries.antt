@@ -1,20 +1,6 @@
 -- What a query of the entries by position shows.
 use Rattle.std.proofs.Common.{◌≡◌, ◌==◌, ◌&&◌, ℕ, ◌<◌, List, [], ◌∷◌, map, filter, drop, Bool, Less, refl, ap, subst, ◌∙◌, IsPermutation}
-use Rattle.std.specs.List.{AllByRecursion, list_all}
-use Rattle.sqlite_keyed.proofs.ListLemmas.{map-map, ascending-filter}
-use Rattle.sqlite.specs.Order.{Row}
-use Rattle.sqlite.specs.Program.{overlay}
-use Rattle.sqlite_trees.specs.Tree.{IsAscending}
-use Rattle.sqlite_value.specs.Keys.{ascending}
-use Rattle.sqlite.specs.Term.{Term, col, holds}
-use Rattle.sqlite.specs.Query.{Query, Output, output, output_cmp, IsSureAnswer}
-use Rattle.sqlite.specs.Collation.TheVariants.{Binary}
-use Rattle.sqlite.specs.State.{State}
-use Rattle.kt_base.specs.declared.run.Run.{Run}
-use Rattle.kt_base.specs.declared.entry.Entry.{Entry}
-use Rattle.kt_store.specs.Inner.Runs.{entries_of}
-use Rattle.kt_store.specs.Runs.{entry_row, entry_rows, run_at}
-use Rattle.kt_store.specs.Stands.{IsStore}
+use Rattle.kt_store.proofs.Common.{AllByRecursion, list_all, map-map, ascending-filter, Row, overlay, IsAscending, ascending, Term, col, holds, Query, Output, output, output_cmp, IsSureAnswer, Binary, State, Run, Entry, entries_of, entry_row, entry_rows, run_at, IsStore}
 use Rattle.kt_store.proofs.QueryLemmas.{selects, answered_sorted}
 use Rattle.kt_store.proofs.EntryLemmas.{back, of_stored, of_run, below}
 

@@ -1,3 +1,4 @@
+pub mod Common
 pub mod SqlFacts
 pub mod FaultLemmas
 pub mod MetaFacts

@@ -1,15 +1,6 @@
 -- The rows of pairs beside those of their entries.
-use Rattle.std.proofs.Common.{◌≡◌, ◌≢◌, ◌⊎◌, inl, inr, ℕ, zero, suc, ◌<◌, pos, List, [], ◌∷◌, ◌++◌, length, map, take, drop, refl, sym, ap, subst, ◌∙◌, arith}
-use Rattle.std.specs.List.{AllByRecursion}
-use Rattle.std.specs.Prelude.{get_or}
-use Rattle.sqlite.specs.declared.types.Value.TheVariants.{Int}
-use Rattle.sqlite.specs.Order.{Row}
-use Rattle.sqlite_value.specs.Order.{column}
-use Rattle.sqlite_trees.specs.Tree.{IsAscending}
-use Rattle.kt_base.specs.declared.entry.Entry.{Entry}
-use Rattle.kt_base.specs.declared.variable.Variable.{Variable}
-use Rattle.kt_store.specs.Runs.{IsEntry, IsPair}
-use Rattle.kt_store.specs.Inner.Heads.{entry_columns, pair_columns, pairs_shown}
+use Rattle.std.proofs.Common.{◌≡◌, ◌≢◌, ◌⊎◌, inl, inr, ℕ, zero, suc, ◌<◌, pos, List, [], ◌∷◌, ◌++◌, length, map, take, drop, refl, sym, ap, subst, ◌∙◌, arith, get_or}
+use Rattle.kt_store.proofs.Common.{AllByRecursion, Int, Row, column, IsAscending, Entry, Variable, IsEntry, IsPair, entry_columns, pair_columns, pairs_shown}
 
 abbrev pub Later : ℕ → List Entry → Type 0
 Later p others = AllByRecursion (λ (e : Entry). p < e.position) others

@@ -1,30 +1,11 @@
 -- The number of the schema, as its query tells.
 use Rattle.std.proofs.Common.{◌≡◌, ◌≢◌, ℤ, pos, List, IsTrue, inl, arith, [], ◌∷◌, map, filter, drop, codes, Bool, true, Some, None, slice_get, refl, sym, ap, subst, ◌∙◌, IsPermutation}
-use Rattle.std.specs.List.{list_all}
-use Rattle.sqlite.specs.declared.types.Value.TheVariants.{Int, Text}
-use Rattle.sqlite.specs.declared.types.Value.{Value}
-use Rattle.sqlite.specs.Effect.{Database}
-use Rattle.sqlite.specs.Schema.{Schema}
-use Rattle.sqlite.specs.Order.{Row}
-use Rattle.sqlite_value.specs.Order.{column, value_cmp}
-use Rattle.sqlite.specs.Term.{Term, lit, col, holds}
-use Rattle.sqlite.specs.Ops.{binary}
-use Rattle.sqlite.specs.Store.{Ghosts}
-use Rattle.sqlite.specs.Held.{Held, state}
-use Rattle.sqlite.specs.State.{State, Shown, HasCleanDisk, IsUnchanged, Survives}
-use Rattle.sqlite.proofs.Callers.{reads_as, one_permutation}
-use Rattle.kt_base.specs.declared.run.Run.{Run}
-use Rattle.kt_store.specs.Tables.{meta_text, meta_1, runs_1, entries_1, props_1, index_of, beside_meta}
-use Rattle.kt_store.specs.Stands.{Holds, StandsFor, StandsInOld, SaysSchema, SaysNumber, IsEmpty}
-use Rattle.kt_store.specs.Inner.Ask.{Asked, MayShow}
-use Rattle.kt_store.specs.Ask.{Rests}
-use Rattle.kt_store.specs.Inner.Kept.{AsksNumber}
+use Rattle.kt_store.proofs.Common.{list_all, Int, Text, Value, Database, Schema, Row, column, value_cmp, Term, lit, col, holds, binary, Ghosts, Held, state, State, Shown, HasCleanDisk, IsUnchanged, Survives, reads_as, one_permutation, Run, meta_text, meta_1, runs_1, entries_1, props_1, index_of, beside_meta, Holds, StandsFor, StandsInOld, SaysSchema, SaysNumber, IsEmpty, Asked, MayShow, Rests, AsksNumber, understood}
+use Rattle.sqlite.specs.Given.{IsPlain}
 use Rattle.kt_store.proofs.AskLemmas.{asked_unchanged, asked_leaves}
 use Rattle.kt_store.proofs.StepLemmas.{same_settled}
 use Rattle.kt_store.proofs.SqlFacts.{is}
 use Rattle.kt_store.proofs.MetaFacts.{meta_any}
-use Rattle.sqlite.specs.Listing.{understood}
-use Rattle.sqlite.specs.Given.{IsPlain}
 use Rattle.kt_store.proofs.QueryLemmas.{answered}
 
 abbrev pub tests : List Term

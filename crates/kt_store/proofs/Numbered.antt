@@ -1,11 +1,6 @@
 -- Runs stay numbered by place.
-use Rattle.std.specs.Prelude.{Ok, Err, Bool, true, false, if◌then◌else◌}
-use Rattle.std.proofs.Common.{◌≡◌, ℕ, suc, ◌+◌, ◌==◌, List, [], ◌∷◌, ◌++◌, length, arith, ◌∙◌}
-use Rattle.kt_base.specs.declared.entry.Entry.{Entry}
-use Rattle.kt_base.specs.declared.run.Run.{Run}
-use Rattle.kt_store.specs.Runs.{AreNumbered, new_run, insert_at, with_entry, finish}
-use Rattle.kt_store.specs.Serving.{changed_by}
-use Rattle.kt_store.specs.StoreCalls.{StoreCall, Began, Put, Finished, Heads, Outline, Outputs}
+use Rattle.std.proofs.Common.{Ok, Err, Bool, true, false, if◌then◌else◌, ◌≡◌, ℕ, suc, ◌+◌, ◌==◌, List, [], ◌∷◌, ◌++◌, length, arith, ◌∙◌}
+use Rattle.kt_store.proofs.Common.{Entry, Run, AreNumbered, new_run, insert_at, with_entry, finish, changed_by, StoreCall, Began, Put, Finished, Heads, Outline, Outputs}
 
 numbers_more : (n : ℕ) (runs : List Run) (r : Run) → AreNumbered n runs → r.number ≡ n + length runs → AreNumbered n (runs ++ r ∷ [])
 numbers_more n [] r h e = (e ∙ omega arith, tt)

@@ -1,20 +1,6 @@
 -- What the query for the outputs of an entry answers.
 use Rattle.std.proofs.Common.{length, ◌<◌, ◌≤◌, zero, suc, subst, arith, ◌≡◌, ◌==◌, ℕ, List, [], ◌∷◌, map, filter, Bool, true, false, cond, Some, None, Option, slice_get, refl, sym, ap, ◌∙◌, inl, inr}
-use Rattle.std.proofs.lemmas.Bool.{cases_lt}
-use Rattle.std.proofs.lemmas.Option.{slice_get_past}
-use Rattle.std.specs.List.{find}
-use Rattle.kt_base.specs.Limits.{last_run}
-use Rattle.sqlite.specs.Order.{Row}
-use Rattle.sqlite.specs.State.{State, Shown}
-use Rattle.sqlite.proofs.Callers.{reads_as}
-use Rattle.kt_base.specs.declared.run.Run.{Run}
-use Rattle.kt_base.specs.declared.entry.Entry.{Entry}
-use Rattle.kt_store.specs.Heads.{entry_at}
-use Rattle.kt_store.specs.Tables.{outputs_text, schema_2}
-use Rattle.kt_store.specs.Inner.Heads.{output_columns}
-use Rattle.kt_store.specs.Inner.Runs.{entries_of}
-use Rattle.kt_store.specs.Runs.{run_at}
-use Rattle.kt_store.specs.Stands.{IsStore}
+use Rattle.kt_store.proofs.Common.{cases_lt, slice_get_past, find, last_run, Row, State, Shown, reads_as, Run, Entry, entry_at, outputs_text, schema_2, output_columns, entries_of, run_at, IsStore}
 use Rattle.kt_store.proofs.SqlFacts.{outputs_select_is, outputs_query}
 use Rattle.kt_store.proofs.KeptEntries.{Same, tells_kept}
 use Rattle.kt_store.proofs.EntriesLemmas.{up_of}

@@ -1,29 +1,6 @@
 -- What the query for the pairs of a run answers.
 use Rattle.std.proofs.Common.{◌≡◌, ◌≢◌, ◌==◌, ◌&&◌, ℕ, suc, ◌<◌, pos, List, [], ◌∷◌, ◌++◌, map, filter, drop, Bool, true, false, Some, None, Option, Less, refl, sym, ap, ap₂, subst, ◌∙◌, arith, IsPermutation, append-nil}
-use Rattle.std.specs.List.{AllByRecursion, flat_map}
-use Rattle.std.specs.Option.{option_to_list}
-use Rattle.std.proofs.lemmas.Bool.Decides.{nat_tests}
-use Rattle.std.proofs.lemmas.List.{map-append}
-use Rattle.std.proofs.lemmas.List.Elements.{filter-append}
-use Rattle.sqlite_keyed.proofs.ListLemmas.{map-map, all-append}
-use Rattle.sqlite.specs.declared.types.Value.TheVariants.{Int}
-use Rattle.sqlite.specs.Order.{Row}
-use Rattle.sqlite_trees.specs.Tree.{IsAscending}
-use Rattle.sqlite_value.specs.Keys.{ascending}
-use Rattle.sqlite.specs.Term.{col}
-use Rattle.sqlite.specs.Ops.{is_true, from_truth, binary}
-use Rattle.sqlite.specs.Query.{Output, output, output_cmp}
-use Rattle.sqlite.specs.Collation.TheVariants.{Binary}
-use Rattle.sqlite.specs.State.{State, Shown}
-use Rattle.sqlite.proofs.Callers.{reads_as}
-use Rattle.kt_base.specs.declared.run.Run.{Run}
-use Rattle.kt_base.specs.declared.entry.Entry.{Entry}
-use Rattle.kt_base.specs.declared.variable.Variable.{Variable}
-use Rattle.kt_store.specs.Tables.{pairs_text, schema_2}
-use Rattle.kt_store.specs.Inner.Runs.{entries_of}
-use Rattle.kt_store.specs.Runs.{pair_row, pair_rows, pair_rows_from, prop_rows, run_at, AreNumbered}
-use Rattle.kt_store.specs.Inner.Heads.{pair_columns, pairs_shown}
-use Rattle.kt_store.specs.Stands.{IsStore}
+use Rattle.kt_store.proofs.Common.{AllByRecursion, flat_map, option_to_list, nat_tests, map-append, filter-append, map-map, all-append, Int, Row, IsAscending, ascending, col, is_true, from_truth, binary, Output, output, output_cmp, Binary, State, Shown, reads_as, Run, Entry, Variable, pairs_text, schema_2, entries_of, pair_row, pair_rows, pair_rows_from, prop_rows, run_at, AreNumbered, pair_columns, pairs_shown, IsStore}
 use Rattle.kt_store.proofs.SqlFacts.{pairs_select_is, pairs_query}
 use Rattle.kt_store.proofs.QueryLemmas.{answered_sorted}
 use Rattle.kt_store.proofs.EntryLemmas.{back, equal, of_stored, of_one, same_test, one_truth, tests, passes, same_passes}

@@ -1,19 +1,8 @@
 -- What prepared statements tell of the tables.
 use Rattle.std.proofs.Common.{◌≡◌, ◌∙◌, ℕ, ℤ, pos, Bool, true, false, List, Result, Ok, Err, sym, ap, refl, arith}
-use Rattle.sqlite.specs.Tree.{Trees}
-use Rattle.sqlite.specs.Effect.{Database}
+use Rattle.kt_store.proofs.Common.{Trees, Database, Outlines, understood, State, HasCleanDisk, Survives, IsUnchanged, survives_then, Compiled, Ghosts, Held, state, Rests, AsksNumber, CommitsNothing, SaysSchema, IsUnderstood, HasTables}
 use Rattle.sqlite.specs.Outline.{Outline}
-use Rattle.sqlite.specs.Steps.{Outlines}
-use Rattle.sqlite.specs.Listing.{understood}
-use Rattle.sqlite.specs.State.{State, HasCleanDisk, Survives, IsUnchanged}
-use Rattle.sqlite.proofs.StateLemmas.{survives_then}
-use Rattle.sqlite_resolve.specs.declared.compiled.Compiled.{Compiled}
 use Rattle.sqlite_resolve.specs.declared.error.CompileError.{CompileError}
-use Rattle.sqlite.specs.Store.{Ghosts}
-use Rattle.sqlite.specs.Held.{Held, state}
-use Rattle.kt_store.specs.Ask.{Rests}
-use Rattle.kt_store.specs.Inner.Kept.{AsksNumber, CommitsNothing}
-use Rattle.kt_store.specs.Stands.{SaysSchema, IsUnderstood, HasTables}
 
 -- a statement that was prepared is understood
 pub outlined : (r : Result Compiled CompileError) (s : Outline) → Outlines r s → (c : Compiled) × (r ≡ Ok c)

@@ -1,24 +1,7 @@
 -- What the INSERT of `put` does.
 use Rattle.std.proofs.Common.{◌≡◌, ◌||◌, nat_lt, ℕ, zero, suc, ◌+◌, ◌<◌, ◌==◌, List, [], ◌∷◌, ◌++◌, length, map, Bool, true, false, cond, refl, sym, ap, subst, arith, IsPermutation, Less, Equal, Greater, Ordering, is_eq}
-use Rattle.std.specs.Ordering.{match_ordering}
-use Rattle.std.proofs.lemmas.List.Sorted.{IsPermutation-refl, IsPermutation-cons, IsPermutation-trans, IsPermutation-sym, IsPermutation-middle, IsPermutation-append_left, IsPermutation-append_right}
-use Rattle.std.proofs.lemmas.Bool.Decides.{nat_tests}
-use Rattle.sqlite.specs.Order.{Row}
-use Rattle.sqlite_value.specs.Order.{value_cmp}
-use Rattle.sqlite_trees.specs.Tree.{rowid, put_row}
-use Rattle.sqlite_rules.specs.Edit.{is_taken}
-use Rattle.sqlite.specs.Tree.{Trees}
-use Rattle.sqlite.specs.Rowids.TheVariants.{Chosen}
-use Rattle.sqlite.specs.Edit.{edit_of}
-use Rattle.sqlite_rules.specs.Edit.{taken_by}
-use Rattle.sqlite_rules.specs.Action.{works}
-use Rattle.sqlite_schema.specs.declared.schema.Keys.TheVariants.{Enforced}
-use Rattle.sqlite.specs.Effect.{value_rows}
-use Rattle.kt_store.specs.Tables.{schema_2, entries_1}
+use Rattle.kt_store.proofs.Common.{match_ordering, IsPermutation-refl, IsPermutation-cons, IsPermutation-trans, IsPermutation-sym, IsPermutation-middle, IsPermutation-append_left, IsPermutation-append_right, nat_tests, Row, value_cmp, rowid, put_row, is_taken, Trees, Chosen, edit_of, taken_by, works, Enforced, value_rows, schema_2, entries_1, Entry, Run, run_row, entry_row, entry_rows, with_entry, insert_at, AreNumbered}
 use Rattle.kt_store.proofs.SqlFacts.{put_terms}
-use Rattle.kt_base.specs.declared.entry.Entry.{Entry}
-use Rattle.kt_base.specs.declared.run.Run.{Run}
-use Rattle.kt_store.specs.Runs.{run_row, entry_row, entry_rows, with_entry, insert_at, AreNumbered}
 
 swap_two : {X : Type 0} (a b : X) (xs : List X) → IsPermutation (a ∷ b ∷ xs) (b ∷ a ∷ xs)
 swap_two a b xs = IsPermutation-middle (a ∷ []) b xs

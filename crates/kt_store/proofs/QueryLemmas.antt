@@ -1,18 +1,9 @@
 -- What a query of one table answers.
 use Rattle.std.proofs.Common.{◌≡◌, ℕ, pos, negsuc, ◌^◌, nat_le, List, [], ◌∷◌, ◌++◌, map, filter, Bool, true, false, cond, None, refl, sym, ap, subst, ◌∙◌, IsPermutation, Less, unwrap_or}
-use Rattle.std.specs.List.{list_all, flat_map}
-use Rattle.std.proofs.lemmas.List.Sorted.{IsPermutation-map, IsPermutation-trans}
-use Rattle.sqlite.specs.declared.types.Value.TheVariants.{Null, Int}
-use Rattle.sqlite.specs.Order.{Row}
-use Rattle.sqlite.specs.Tree.{Trees}
-use Rattle.sqlite_trees.specs.Tree.{IsAscending}
-use Rattle.sqlite.specs.Term.{Term, lit, eval_all, holds}
+use Rattle.kt_store.proofs.Common.{list_all, flat_map, IsPermutation-map, IsPermutation-trans, Null, Int, Row, Trees, IsAscending, Term, lit, eval_all, holds, Query, inner, end, matches_as, IsAnswerAs, IsSureAnswer, Output, output, output_cmp, overlay, map-map, ascending-map}
 use Rattle.sqlite_value.specs.declared.keys.Key.{Key}
-use Rattle.sqlite.specs.Query.{Query, inner, end, matches_as, IsAnswerAs, IsSureAnswer, Output, output, output_cmp}
-use Rattle.sqlite.specs.Program.{overlay}
 use Rattle.sqlite_sql.proofs.QueryLemmas.{output_cmp_total}
 use Rattle.sqlite_keyed.proofs.SortLemmas.{sorted_unique}
-use Rattle.sqlite_keyed.proofs.ListLemmas.{map-map, ascending-map}
 
 abbrev pub selects : ℕ → List Term → List Term → List (Term × Key) → Query
 selects t tests project order = record { from = inner t end; filter = tests; group = None; project = project; distinct = false; collations = []; order = order; limit = lit (Int (negsuc 0)); offset = lit (Int (pos 0)) }

@@ -1,33 +1,8 @@
 -- What the statements do that take schema 1 to schema 2.
 use Rattle.std.proofs.Common.{◌≡◌, ℕ, pos, List, [], ◌∷◌, map, drop, filter, codes, true, None, Option, Ok, slice_get, refl, sym, ap, subst, ◌∙◌, IsPermutation, IsTrue}
-use Rattle.std.proofs.lemmas.List.Sorted.{IsPermutation-refl}
-use Rattle.sqlite.specs.declared.types.Value.TheVariants.{Int, Text}
-use Rattle.sqlite.specs.Order.{Row}
-use Rattle.sqlite.specs.Tree.{Trees}
-use Rattle.sqlite.specs.Term.{Term, lit, col}
-use Rattle.sqlite.specs.declared.run.Mode.{Mode}
-use Rattle.sqlite.specs.Command.TheVariants.{Update}
-use Rattle.sqlite.specs.Rowids.TheVariants.{Given}
-use Rattle.sqlite.specs.Edit.{edit_of}
-use Rattle.sqlite_rules.specs.Edit.{taken_by, put_all, Applies, id_in, are_fresh, have_rowids}
-use Rattle.sqlite_rules.specs.Action.{works, Writes}
-use Rattle.sqlite_rules.specs.Calls.{ids_of}
-use Rattle.sqlite_schema.specs.declared.schema.Keys.TheVariants.{Enforced}
-use Rattle.sqlite_schema.specs.declared.program.Program.{Program}
-use Rattle.sqlite.specs.Does.{Tally, AtPlace, OnRows, Does}
-use Rattle.sqlite.specs.Rows.{Task}
-use Rattle.sqlite.specs.Effect.{Database, IsDatabase}
-use Rattle.sqlite.specs.Listing.{understood}
+use Rattle.kt_store.proofs.Common.{IsPermutation-refl, Int, Text, Row, Trees, Term, lit, col, Mode, Update, Given, edit_of, taken_by, put_all, Applies, id_in, are_fresh, have_rowids, works, ids_of, Enforced, Program, Tally, AtPlace, OnRows, Does, Task, Database, IsDatabase, understood, State, mode_of, Executes, one_step, one_permutation, statement_of, runs_as, Run, schema_1, schema_2, meta_1, props, create_props, raise_text, Tables, OldTables, prop_rows, entry_rows, raise_statements, begun, RunInTurn, Ghosts, Held, state, Value, Integer, cast, has_rowid, without_rowid, Unique}
+use Rattle.sqlite_rules.specs.Action.{Writes}
 use Rattle.sqlite.specs.State as told
-use Rattle.sqlite.specs.State.{State, mode_of, Executes}
-use Rattle.sqlite.proofs.Callers.{one_step, one_permutation, statement_of, runs_as}
-use Rattle.kt_base.specs.declared.run.Run.{Run}
-use Rattle.kt_store.specs.Tables.{schema_1, schema_2, meta_1, props, create_props, raise_text}
-use Rattle.kt_store.specs.Runs.{Tables, OldTables, prop_rows, entry_rows}
-use Rattle.kt_store.specs.Inner.Calls.{raise_statements}
-use Rattle.kt_store.specs.Inner.Transactions.{begun, RunInTurn}
-use Rattle.sqlite.specs.Store.{Ghosts}
-use Rattle.sqlite.specs.Held.{Held, state}
 use Rattle.kt_store.proofs.SqlFacts.{raise_query, raise_is}
 use Rattle.kt_store.proofs.InsertLemmas.{went, concluded}
 use Rattle.kt_store.proofs.BeginLemmas.{cast_int}
@@ -36,11 +11,6 @@ use Rattle.kt_store.proofs.FinishLemmas.{updates}
 use Rattle.kt_store.proofs.MetaLemmas.{tests, passes_it}
 use Rattle.kt_store.proofs.PairLemmas.{no_pairs}
 use Rattle.kt_store.proofs.UniqueLemmas.{number_row, next_row, one_row, alone}
-use Rattle.sqlite.specs.declared.types.Value.{Value}
-use Rattle.sqlite.specs.Kind.TheVariants.{Integer}
-use Rattle.sqlite.specs.Cast.{cast}
-use Rattle.sqlite_trees.specs.Tree.{has_rowid, without_rowid}
-use Rattle.sqlite_schema.specs.declared.schema.Constraint.TheVariants.{Unique}
 use Rattle.kt_store.proofs.QueryLemmas.{answered, picked, show}
 
 abbrev raise_program : Program

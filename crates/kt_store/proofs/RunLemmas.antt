@@ -1,21 +1,6 @@
 -- What the query for one run answers.
-use Rattle.std.proofs.Common.{Bool, true, false, nat_lt, ◌≡◌, ℕ, pos, List, [], ◌∷◌, length, map, filter, slice_get, Some, None, Option, option_map, ap₂, arith, arith, refl, sym, ap, subst, ◌∙◌, IsPermutation}
-use Rattle.std.proofs.lemmas.List.Sorted.{length_permutation}
-use Rattle.std.specs.List.{list_all}
-use Rattle.std.specs.Option.{option_to_list}
-use Rattle.sqlite.specs.declared.types.Value.TheVariants.{Int}
-use Rattle.sqlite.specs.Order.{Row}
-use Rattle.sqlite_value.specs.Order.{column}
-use Rattle.sqlite.specs.Tree.{Trees}
-use Rattle.sqlite.specs.Term.{col, holds}
-use Rattle.sqlite.specs.Store.{Ghosts}
-use Rattle.sqlite.specs.Held.{Held, state}
-use Rattle.sqlite.proofs.Callers.{reads_as, one_permutation}
-use Rattle.std.specs.Prelude.{unsigned_abs}
-use Rattle.kt_base.specs.declared.run.Run.{Run}
-use Rattle.kt_store.specs.Tables.{run_text, schema_2}
-use Rattle.kt_store.specs.Runs.{run_row, run_at, flag}
-use Rattle.kt_store.specs.Inner.Ask.{ShowsOf}
+use Rattle.std.proofs.Common.{Bool, true, false, nat_lt, ◌≡◌, ℕ, pos, List, [], ◌∷◌, length, map, filter, slice_get, Some, None, Option, option_map, ap₂, arith, refl, sym, ap, subst, ◌∙◌, IsPermutation, unsigned_abs}
+use Rattle.kt_store.proofs.Common.{length_permutation, list_all, option_to_list, Int, Row, column, Trees, col, holds, Ghosts, Held, state, reads_as, one_permutation, Run, run_text, schema_2, run_row, run_at, flag, ShowsOf}
 use Rattle.kt_store.proofs.SqlFacts.{run_is, is}
 use Rattle.kt_store.proofs.QueryLemmas.{answered, show, picked}
 use Rattle.kt_store.proofs.FindLemmas.{picked_run}

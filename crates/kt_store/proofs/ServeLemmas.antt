@@ -1,24 +1,9 @@
 -- How the tables of a database serve the calls of a store.
-use Rattle.std.specs.Prelude.{Result, Ok, Err}
-use Rattle.std.proofs.Common.{◌≡◌, inl, ℕ, suc, List, [], ◌∷◌, ◌++◌, ◌<◌, None, length, IsErrAnd, refl, subst, sym, arith}
-use Rattle.sqlite.specs.Tree.{Trees}
-use Rattle.sqlite.specs.Store.{Ghosts}
-use Rattle.sqlite.specs.Held.{Held, state}
-use Rattle.sqlite.specs.State.{State, HasCleanDisk, Survives}
-use Rattle.sqlite.proofs.StateLemmas.{survives_then, survives_weaker}
-use Rattle.kt_base.specs.Limits.{last_run}
-use Rattle.kt_base.specs.declared.entry.Entry.{Entry}
-use Rattle.kt_base.specs.declared.run.Run.{Run}
-use Rattle.kt_store.specs.Ask.{IsStoreFault}
-use Rattle.kt_store.specs.Inner.Kept.{KeepsRuns, OnlyReads, Changes, ChangesForGood, MayChange}
-use Rattle.kt_store.specs.Runs.{AreNumbered, Keeps, KeepsOne, new_run, with_entry, put_refusal, finish, finish_refusal}
-use Rattle.kt_store.specs.Serving.{Serves, Agrees, Outlasts}
-use Rattle.kt_store.specs.Stands.{StandsFor, Leaves}
-use Rattle.kt_store.specs.StoreCalls.{StoreCall, Began, Put, Finished, Heads, Outline, Outputs}
-use Rattle.kt_store.specs.declared.case_outputs.CaseOutputs.{CaseOutputs}
-use Rattle.kt_store.specs.declared.keeping.Keeping as store
-use Rattle.kt_store.specs.declared.run_head.RunHead.{RunHead}
-use Rattle.kt_store.specs.declared.store_fault.StoreFault.{StoreFault}
+use Rattle.std.proofs.Common.{Result, Ok, Err, ◌≡◌, inl, ℕ, suc, List, [], ◌∷◌, ◌++◌, ◌<◌, None, length, IsErrAnd, refl, subst, sym, arith}
+use Rattle.kt_store.proofs.Common.{Trees, Ghosts, Held, state, State, HasCleanDisk, Survives, survives_then, survives_weaker, last_run, Entry, Run, IsStoreFault, KeepsRuns, OnlyReads, Changes, MayChange, AreNumbered, Keeps, KeepsOne, new_run, with_entry, put_refusal, finish, finish_refusal, Serves, Agrees, Outlasts, StandsFor, Leaves, StoreCall, Began, Put, Finished, Heads, Outline, Outputs, StoreFault}
+use Rattle.kt_store.specs.declared.result_store.CaseOutputs.{CaseOutputs}
+use Rattle.kt_store.specs.declared.result_store.RunHead.{RunHead}
+use Rattle.kt_store.specs.declared.result_store.Keeping as store
 use Rattle.kt_store.proofs.Crashing.{survived, untouched}
 use Rattle.kt_store.proofs.Numbered.{numbers_new, numbers_entry, numbers_finish}
 
@@ -148,23 +133,23 @@ module _ {S : Type 0} (g : Ghosts S) (old mid new : Held S) (kept : KeepsRuns g 
         survived (state g old) (state g new) (change runs) runs may
         (survives_then (state g old) (state g mid) (state g new) (λ _. ⊥) (Keeps (change runs)) (Keeps (change runs)) (λ _ db none. absurd none) (λ _ db it. it) (only runs has) (second runs has)) left
 
-    lasting : ChangesForGood g mid new Allowed change → (runs : List Run) → StandsFor (state g old) runs → Leaves (state g new) (KeepsOne (change runs ∷ []))
-    lasting durable runs has clean trees may = inl (durable runs (kept runs has) (allowed runs has) clean trees may)
+    lasting : Changes g mid new Allowed change → (runs : List Run) → StandsFor (state g old) runs → Leaves (state g new) (KeepsOne (change runs ∷ []))
+    lasting changes runs has clean trees may = inl (changes.lasts runs (kept runs has) (allowed runs has) clean trees may)
 
     done : Changes g mid new Allowed change → (runs : List Run) → StandsFor (state g old) runs → StandsFor (state g new) (change runs)
-    done changes runs has = changes runs (kept runs has) (allowed runs has)
+    done changes runs has = changes.stands runs (kept runs has) (allowed runs has)
 
 -- a run is begun after a look
 module _ {S : Type 0} (g : Ghosts S) (old mid new : Held S) (kept : KeepsRuns g old mid) (only : OnlyReads g old mid) (total moment : ℕ)
     (room : (runs : List Run) → StandsFor (state g old) runs → HasCleanDisk (state g mid) → length runs < last_run) (may_change : MayChange g mid new (λ runs. length runs < last_run) (λ runs. runs ++ new_run runs total moment ∷ [])) where
-  pub begin_done : (number : ℕ) → Changes g mid new (λ runs. length runs < last_run) (λ runs. runs ++ new_run runs total moment ∷ []) → ChangesForGood g mid new (λ runs. length runs < last_run) (λ runs. runs ++ new_run runs total moment ∷ [])
+  pub begin_done : (number : ℕ) → Changes g mid new (λ runs. length runs < last_run) (λ runs. runs ++ new_run runs total moment ∷ [])
       → ((runs : List Run) → StandsFor (state g old) runs → HasCleanDisk (state g new) → number ≡ suc (length runs)) → Serves (results g) (Began total moment (Ok number)) old new
-  begin_done number changes durable is = record {
+  begin_done number changes is = record {
     asked = tt;
     stands = λ runs h. (done g old mid new kept only _ _ room may_change changes runs h.0, numbers_new runs total moment h.1);
     earlier = λ runs h clean. old_clean g old mid new kept only _ _ room may_change runs h.0 clean;
     agrees = λ runs h clean. (is runs h.0 clean, room runs h.0 (mid_clean g old mid new kept only _ _ room may_change runs h.0 clean));
-    crash = λ runs may h. lasting g old mid new kept only _ _ room may_change durable runs h.0;
+    crash = λ runs may h. lasting g old mid new kept only _ _ room may_change changes runs h.0;
   }
 
   pub begin_failed : (fault : StoreFault) → IsStoreFault fault → KeepsRuns g mid new → Serves (results g) (Began total moment (Err fault)) old new
@@ -182,13 +167,13 @@ module _ {S : Type 0} (g : Ghosts S) (old mid new : Held S) (kept : KeepsRuns g 
   may : (runs : List Run) → StandsFor (state g old) runs → HasCleanDisk (state g mid) → Fits runs
   may runs has clean = (fits runs has clean).1
 
-  pub put_done : Changes g mid new Fits (with_entry number e) → ChangesForGood g mid new Fits (with_entry number e) → Serves (results g) (Put number e (Ok tt)) old new
-  put_done changes durable = record {
+  pub put_done : Changes g mid new Fits (with_entry number e) → Serves (results g) (Put number e (Ok tt)) old new
+  put_done changes = record {
     asked = tt;
     stands = λ runs h. (done g old mid new kept only _ _ may may_change changes runs h.0, numbers_entry number e 1 runs h.1);
     earlier = λ runs h clean. old_clean g old mid new kept only _ _ may may_change runs h.0 clean;
     agrees = λ runs h clean. (fits runs h.0 (mid_clean g old mid new kept only _ _ may may_change runs h.0 clean)).0;
-    crash = λ runs others h. lasting g old mid new kept only _ _ may may_change durable runs h.0;
+    crash = λ runs others h. lasting g old mid new kept only _ _ may may_change changes runs h.0;
   }
 
   pub put_failed : (fault : StoreFault) → IsStoreFault fault → KeepsRuns g mid new → Serves (results g) (Put number e (Err fault)) old new
@@ -206,13 +191,13 @@ module _ {S : Type 0} (g : Ghosts S) (old mid new : Held S) (kept : KeepsRuns g 
   can : (runs : List Run) → StandsFor (state g old) runs → HasCleanDisk (state g mid) → Fits runs
   can runs has clean = (fits runs has clean).1
 
-  pub finish_done : Changes g mid new Fits (finish number) → ChangesForGood g mid new Fits (finish number) → Serves (results g) (Finished number (Ok tt)) old new
-  finish_done changes durable = record {
+  pub finish_done : Changes g mid new Fits (finish number) → Serves (results g) (Finished number (Ok tt)) old new
+  finish_done changes = record {
     asked = tt;
     stands = λ runs h. (done g old mid new kept only _ _ can may_change changes runs h.0, numbers_finish number 1 runs h.1);
     earlier = λ runs h clean. old_clean g old mid new kept only _ _ can may_change runs h.0 clean;
     agrees = λ runs h clean. (fits runs h.0 (mid_clean g old mid new kept only _ _ can may_change runs h.0 clean)).0;
-    crash = λ runs others h. lasting g old mid new kept only _ _ can may_change durable runs h.0;
+    crash = λ runs others h. lasting g old mid new kept only _ _ can may_change changes runs h.0;
   }
 
   pub finish_failed : (fault : StoreFault) → IsStoreFault fault → KeepsRuns g mid new → Serves (results g) (Finished number (Err fault)) old new

@@ -1,25 +1,8 @@
 -- What a statement leaves of a connection that stands for runs.
 use Rattle.std.proofs.Common.{◌≡◌, inl, inr, ℕ, List, false, IsTrue, Some, None, Option, Err, sym, ap, subst, subst₂, ◌∙◌, append-nil, arith}
-use Rattle.sqlite.specs.Order.{Row}
-use Rattle.sqlite.specs.Tree.{Trees}
-use Rattle.sqlite.specs.Schema.{Schema}
-use Rattle.sqlite.specs.Command.{Command}
-use Rattle.sqlite.specs.declared.error.Error.{Error}
-use Rattle.sqlite.specs.Listing.{understood}
-use Rattle.std.proofs.lemmas.Bool.{cases_Bool}
-use Rattle.sqlite_resolve.specs.declared.compiled.Compiled.{Compiled}
+use Rattle.kt_store.proofs.Common.{Row, Trees, Schema, Command, Error, understood, cases_Bool, Compiled, Database, IsDatabase, Ghosts, Held, state, State, HasCleanDisk, IsLive, IsUnchanged, IsRolledBack, IsNotRun, Executes, ExecutesIn, RunsCommand, shows_rows, FailsToQuery, FailsToShow, CommitsBy, Survives, IsPlain, command_of, statement_of, unchanged_then, survives_then, Run, Tables, Keeps, KeepsOld, KeepsEither, Rests, IsSettled, Holds, IsStore, Leaves, IsUndone}
 use Rattle.sqlite_schema.specs.declared.command.Returning.{Returning}
-use Rattle.sqlite.specs.Effect.{Database, IsDatabase}
-use Rattle.sqlite.specs.Store.{Ghosts}
-use Rattle.sqlite.specs.Held.{Held, state}
-use Rattle.sqlite.specs.State.{State, HasCleanDisk, IsLive, IsUnchanged, IsRolledBack, IsNotRun, Executes, ExecutesIn, RunsCommand, shows_rows, FailsToQuery, FailsToShow, CommitsBy, MayCommit, Survives}
-use Rattle.sqlite.proofs.Callers.{IsPlain, command_of, statement_of, unchanged_then}
-use Rattle.sqlite.proofs.StateLemmas.{survives_then}
-use Rattle.kt_base.specs.declared.run.Run.{Run}
-use Rattle.kt_store.specs.Runs.{Tables, Keeps, KeepsOld, KeepsEither}
-use Rattle.kt_store.specs.Ask.{Rests}
-use Rattle.kt_store.specs.Stands.{IsSettled, Holds, IsStore, Leaves}
-use Rattle.kt_store.specs.Inner.Transactions.{IsUndone}
+use Rattle.sqlite.specs.State.{MayCommit}
 
 -- whatever a refused statement is, the connection is as it was or is rolled back
 pub not_run : (old new : State) (sql : List ℕ) (params : Row) (e : Error) → IsNotRun old new sql params e → Rests old new

@@ -1,14 +1,6 @@
 -- When a run takes an entry.
 use Rattle.std.proofs.Common.{◌≡◌, ◌==◌, ◌||◌, inl, inr, nat_lt, nat_le, ℕ, zero, suc, ◌+◌, ◌<◌, ◌≤◌, List, [], ◌∷◌, length, Bool, true, false, cond, Some, None, slice_get, refl, sym, ap, subst, ◌∙◌, arith}
-use Rattle.std.proofs.lemmas.Bool.{cases_Bool}
-use Rattle.std.proofs.lemmas.Bool.Decides.{nat_tests}
-use Rattle.std.specs.List.{AllByRecursion}
-use Rattle.sqlite_trees.specs.Tree.{IsAscending}
-use Rattle.kt_base.specs.declared.run.Run.{Run}
-use Rattle.kt_base.specs.declared.entry.Entry.{Entry}
-use Rattle.kt_store.specs.declared.store_fault.StoreFault.TheVariants.{RunClosed, BadPosition, RepeatedPosition}
-use Rattle.kt_store.specs.Inner.Runs.{entries_of, CanAdd}
-use Rattle.kt_store.specs.Runs.{AreRuns, put_refusal, put_refusal_of, IsRun, IsEntry, insert_at, with_entry, has_position, run_at, AreNumbered}
+use Rattle.kt_store.proofs.Common.{cases_Bool, nat_tests, AllByRecursion, IsAscending, Run, Entry, RunClosed, BadPosition, RepeatedPosition, entries_of, CanAdd, IsBareIfPassed, AreRuns, put_refusal, put_refusal_of, IsRun, IsEntry, insert_at, with_entry, has_position, run_at, AreNumbered}
 
 abbrev lower : Entry → Entry → Type 0
 lower a b = a.position < b.position
@@ -52,24 +44,24 @@ run_takes e r sound is unclosed low free = record {
   whole = λ done. absurd (let e : true ≡ false = sym done ∙ unclosed in cc);
 }
 
-takes_from : (from k : ℕ) (e : Entry) (runs : List Run) (r : Run) → IsEntry e → AreNumbered from runs → AllByRecursion IsRun runs → slice_get runs k ≡ Some r → r.finished ≡ false → e.position < r.total
-    → has_position e.position r.entries ≡ false → (k < length runs) × AllByRecursion IsRun (with_entry (from + k) e runs)
-takes_from from k e [] r sound h valid there unclosed low free = absurd cc
-takes_from from zero e (x ∷ runs) r sound h valid there unclosed low free =
+takes_from : (from k : ℕ) (e : Entry) (runs : List Run) (r : Run) → AreNumbered from runs → AllByRecursion IsRun runs → slice_get runs k ≡ Some r → r.finished ≡ false → e.position < r.total
+    → has_position e.position r.entries ≡ false → (k < length runs) × (IsEntry e → AllByRecursion IsRun (with_entry (from + k) e runs))
+takes_from from k e [] r h valid there unclosed low free = absurd cc
+takes_from from zero e (x ∷ runs) r h valid there unclosed low free =
     let same : x ≡ r = cc in
     let number : (x.number == from + 0) ≡ true = grind (arith, nat_tests, h.0) in
-    (omega arith, rw number (subst (λ (y : Run). IsRun (record y { entries = insert_at e y.entries })) (sym same) (run_takes e r sound (subst IsRun same valid.0) unclosed low free), valid.1))
-takes_from from (suc k) e (x ∷ runs) r sound h valid there unclosed low free =
+    (omega arith, λ sound. rw number (subst (λ (y : Run). IsRun (record y { entries = insert_at e y.entries })) (sym same) (run_takes e r sound (subst IsRun same valid.0) unclosed low free), valid.1))
+takes_from from (suc k) e (x ∷ runs) r h valid there unclosed low free =
     let place : suc from + k ≡ from + suc k = omega arith in
     let apart : (x.number == from + suc k) ≡ false = grind (arith, nat_tests, h.0) in
-    let rest = takes_from (suc from) k e runs r sound h.1 valid.1 there unclosed low free in
-    (omega (arith, rest.0), rw apart (valid.0, subst (λ n. AllByRecursion IsRun (with_entry n e runs)) place rest.1))
+    let rest = takes_from (suc from) k e runs r h.1 valid.1 there unclosed low free in
+    (omega (arith, rest.0), λ sound. rw apart (valid.0, subst (λ n. AllByRecursion IsRun (with_entry n e runs)) place (rest.1 sound)))
 
-pub takes : (k : ℕ) (e : Entry) (runs : List Run) (r : Run) → IsEntry e → AreNumbered 1 runs → AllByRecursion IsRun runs → run_at runs (suc k) ≡ Some r → r.finished ≡ false → e.position < r.total
-    → has_position e.position r.entries ≡ false → (k < length runs) × AllByRecursion IsRun (with_entry (suc k) e runs)
-takes k e runs r sound h valid there unclosed low free =
+pub takes : (k : ℕ) (e : Entry) (runs : List Run) (r : Run) → AreNumbered 1 runs → AllByRecursion IsRun runs → run_at runs (suc k) ≡ Some r → r.finished ≡ false → e.position < r.total
+    → has_position e.position r.entries ≡ false → (k < length runs) × (IsEntry e → AllByRecursion IsRun (with_entry (suc k) e runs))
+takes k e runs r h valid there unclosed low free =
     let place : 1 + k ≡ suc k = omega arith in
-    subst (λ n. (k < length runs) × AllByRecursion IsRun (with_entry n e runs)) place (takes_from 1 k e runs r sound h valid there unclosed low free)
+    subst (λ n. (k < length runs) × (IsEntry e → AllByRecursion IsRun (with_entry n e runs))) place (takes_from 1 k e runs r h valid there unclosed low free)
 
 module _ (runs : List Run) (run : ℕ) (e : Entry) (r : Run) (there : run_at runs run ≡ Some r) where
   pub refused_closed : r.finished ≡ true → put_refusal runs run e ≡ Some RunClosed
@@ -90,12 +82,14 @@ module _ (runs : List Run) (run : ℕ) (e : Entry) (r : Run) (there : run_at run
           let is : has_position e.position r.entries ≡ true = ap (λ o. has_position e.position (entries_of o)) (sym there) ∙ here in
           ap (λ o. put_refusal_of o e) there ∙ rw (unclosed, under, is) refl
 
-      pub taken : IsEntry e → AreRuns runs → has_position e.position (entries_of (run_at runs run)) ≡ false
+      pub taken : IsBareIfPassed e → AreRuns runs → has_position e.position (entries_of (run_at runs run)) ≡ false
           → (put_refusal runs run e ≡ None) × CanAdd run e runs
-      taken sound valid free =
+      taken passed valid free =
           let is : has_position e.position r.entries ≡ false = ap (λ o. has_position e.position (entries_of o)) (sym there) ∙ free in
           (ap (λ o. put_refusal_of o e) there ∙ rw (unclosed, under, is) refl, fits run there valid is)
         where
           fits : (run : ℕ) → run_at runs run ≡ Some r → AreRuns runs → has_position e.position r.entries ≡ false → CanAdd run e runs
           fits zero there valid is = absurd cc
-          fits (suc k) there valid is = let both = takes k e runs r sound valid.numbered valid.each there unclosed low is in (k, refl, both.0, both.1)
+          fits (suc k) there valid is =
+              let both = takes k e runs r valid.numbered valid.each there unclosed low is in
+              (k, refl, both.0, λ has. both.1 (record { program = has.0; case_name = has.1; reason = has.2; passed = passed; meta = has.3 }))

@@ -1,22 +1,6 @@
 -- Whether a run has an entry at a position, as its query tells.
 use Rattle.std.proofs.Common.{◌≡◌, ◌==◌, ◌&&◌, ◌||◌, ℕ, pos, List, [], ◌∷◌, length, drop, filter, nat_lt, Bool, true, false, cond, refl, sym, ap, Some, ap₂, ◌∙◌, arith}
-use Rattle.std.proofs.lemmas.Bool.Decides.{nat_tests}
-use Rattle.std.proofs.lemmas.List.Sorted.{length_permutation}
-use Rattle.std.proofs.lemmas.List.{length-map}
-use Rattle.std.specs.List.{list_all}
-use Rattle.sqlite.specs.declared.types.Value.TheVariants.{Int}
-use Rattle.sqlite.specs.Order.{Row}
-use Rattle.sqlite.specs.Term.{Term, col, holds}
-use Rattle.sqlite.specs.Ops.{is_true, from_truth, binary}
-use Rattle.sqlite.specs.Store.{Ghosts}
-use Rattle.sqlite.specs.Held.{Held, state}
-use Rattle.sqlite.proofs.Callers.{reads_as}
-use Rattle.kt_base.specs.declared.run.Run.{Run}
-use Rattle.kt_base.specs.declared.entry.Entry.{Entry}
-use Rattle.kt_store.specs.Tables.{there_text, schema_2}
-use Rattle.kt_store.specs.Inner.Runs.{entries_of}
-use Rattle.kt_store.specs.Runs.{entry_row, entry_rows, run_at, has_position}
-use Rattle.kt_store.specs.Inner.Ask.{ShowsOf}
+use Rattle.kt_store.proofs.Common.{nat_tests, length_permutation, length-map, list_all, Int, Row, Term, col, holds, is_true, from_truth, binary, Ghosts, Held, state, reads_as, Run, Entry, there_text, schema_2, entries_of, entry_row, entry_rows, run_at, has_position, ShowsOf}
 use Rattle.kt_store.proofs.SqlFacts.{there_is, is}
 use Rattle.kt_store.proofs.QueryLemmas.{answered, show}
 use Rattle.kt_store.proofs.EntryLemmas.{back, of_stored, of_run, same_test, two_truths}

@@ -1,17 +1,6 @@
 -- Statements of a transaction, one after the other.
-use Rattle.std.proofs.Common.{◌≡◌, ◌≤◌, pos, ◌∙◌, ℕ, zero, suc, ◌+◌, ◌<◌, List, [], ◌∷◌, length, map, drop, refl, sym, ap, subst, arith, IsTrue}
-use Rattle.std.specs.Prelude.{get_or}
-use Rattle.sqlite.specs.Store.{Ghosts}
-use Rattle.sqlite.specs.Held.{Held, state}
-use Rattle.sqlite.specs.Tree.{Trees}
-use Rattle.sqlite.specs.State.{HasCleanDisk, KeepsCommit, Survives}
-use Rattle.sqlite.proofs.InsideLemmas.{keeps_then}
-use Rattle.sqlite.proofs.StateLemmas.{survives_then}
-use Rattle.kt_base.specs.declared.variable.Variable.{Variable}
-use Rattle.kt_store.specs.Inner.Calls.{Statement, pair_text, five_text, pair_values, five_values, single_statements, pair_statements, plain_statements}
-use Rattle.kt_store.specs.Runs.{pair_row}
-use Rattle.sqlite.specs.declared.types.Value.TheVariants.{Int}
-use Rattle.kt_store.specs.Inner.Transactions.{RunsInside, RunInTurn}
+use Rattle.std.proofs.Common.{◌≡◌, ◌≤◌, pos, ◌∙◌, ℕ, zero, suc, ◌+◌, ◌<◌, List, [], ◌∷◌, length, map, take, drop, refl, sym, ap, subst, arith, IsTrue, get_or}
+use Rattle.kt_store.proofs.Common.{Ghosts, Held, state, Trees, HasCleanDisk, KeepsCommit, Survives, keeps_then, survives_then, Variable, Statement, pair_statement, five_statement, pair_texts, pair_values, five_values, single_statements, pair_statements, plain_statements, Int, CommitsLater, RunsOne, RunInTurn}
 
 module _ {S : Type 0} (g : Ghosts S) where
   -- what is done now, and what the rest does to the whole
@@ -22,13 +11,12 @@ module _ {S : Type 0} (g : Ghosts S) where
     pub runs : HasCleanDisk (state g now) → IsTrue (state g start).in_transaction → (end : Held S) → RunInTurn g rest now end → RunInTurn g statements start end
 
   -- one more is done
-  pub one_done : (statements rest : List Statement) (s : Statement) (start now next : Held S) → SoFar statements (s ∷ rest) start now → Survives (state g now) (state g next) (λ (db : Trees). ⊥)
-      → (HasCleanDisk (state g next) → KeepsCommit (state g now) (state g next)) → (HasCleanDisk (state g next) → IsTrue (state g now).in_transaction → RunsInside g s now next) → SoFar statements rest start next
-  one_done statements rest s start now next so_far survives keeps ran =
-      let early : HasCleanDisk (state g next) → HasCleanDisk (state g now) = λ clean. omega (arith, clean, survives.clean) in
+  pub one_done : (statements rest : List Statement) (s : Statement) (start now next : Held S) → SoFar statements (s ∷ rest) start now → CommitsLater g now next → RunsOne g s now next → SoFar statements rest start next
+  one_done statements rest s start now next so_far later ran =
+      let early : HasCleanDisk (state g next) → HasCleanDisk (state g now) = λ clean. omega (arith, clean, later.survives.clean) in
       record {
-        survives = survives_then (state g start) (state g now) (state g next) (λ _. ⊥) (λ _. ⊥) (λ _. ⊥) (λ _ db none. none) (λ _ db none. none) so_far.survives survives;
-        keeps = λ clean. keeps_then (state g start) (state g now) (state g next) (so_far.keeps (early clean)) (keeps clean);
+        survives = survives_then (state g start) (state g now) (state g next) (λ _. ⊥) (λ _. ⊥) (λ _. ⊥) (λ _ db none. none) (λ _ db none. none) so_far.survives later.survives;
+        keeps = λ clean. keeps_then (state g start) (state g now) (state g next) (so_far.keeps (early clean)) (later.keeps clean);
         inside = λ clean inside. (ran clean (so_far.inside (early clean) inside)).1.1.mode;
         runs = λ clean inside end later. so_far.runs (early clean) inside end (next, ran clean (so_far.inside (early clean) inside), later);
       }
@@ -42,11 +30,11 @@ dropped : {T : Type 0} (vs : List T) (i : ℕ) (v : T) → i < length vs → v �
 dropped vs i v low is = dropped_or vs i v low ∙ ap (λ y. y ∷ drop (suc i) vs) (sym is)
 
 -- the pair at a place, and those after it
-pub pairs_at : (run position place i : ℕ) (vs : List Variable) (v : Variable) → i < length vs → v ≡ get_or vs i v → single_statements run position place (drop i vs) ≡ (pair_text, pair_row run position place v) ∷ single_statements run position (suc place) (drop (suc i) vs)
+pub pairs_at : (run position place i : ℕ) (vs : List Variable) (v : Variable) → i < length vs → v ≡ get_or vs i v → single_statements run position place (drop i vs) ≡ pair_statement run position place v ∷ single_statements run position (suc place) (drop (suc i) vs)
 pairs_at run position place i vs v low is = ap (single_statements run position place) (dropped vs i v low is)
 
 -- the first five pairs, and those after them
-pub five_at : (run position place : ℕ) (vs : List Variable) → 5 ≤ length vs → pair_statements run position place vs ≡ (five_text, five_values run position place vs) ∷ pair_statements run position (place + 5) (drop 5 vs)
+pub five_at : (run position place : ℕ) (vs : List Variable) → 5 ≤ length vs → pair_statements run position place vs ≡ five_statement run position place vs ∷ pair_statements run position (place + 5) (drop 5 vs)
 five_at run position place [] enough = absurd (omega (arith, enough))
 five_at run position place (a ∷ []) enough = absurd (omega (arith, enough))
 five_at run position place (a ∷ b ∷ []) enough = absurd (omega (arith, enough))
@@ -54,7 +42,7 @@ five_at run position place (a ∷ b ∷ c ∷ []) enough = absurd (omega (arith,
 five_at run position place (a ∷ b ∷ c ∷ d ∷ []) enough = absurd (omega (arith, enough))
 five_at run position place (a ∷ b ∷ c ∷ d ∷ e ∷ vs) enough =
     let next : suc (suc (suc (suc (suc place)))) ≡ place + 5 = omega arith in
-    ap (λ k. (five_text, five_values run position place (a ∷ b ∷ c ∷ d ∷ e ∷ vs)) ∷ pair_statements run position k vs) next
+    ap (λ k. five_statement run position place (a ∷ b ∷ c ∷ d ∷ e ∷ vs) ∷ pair_statements run position k vs) next
 
 -- the values of the first five pairs
 pub values_at : (run position place : ℕ) (vs : List Variable) (a b c d e : Variable) → 5 ≤ length vs → a ≡ get_or vs 0 a → b ≡ get_or vs 1 b → c ≡ get_or vs 2 c → d ≡ get_or vs 3 d → e ≡ get_or vs 4 e
@@ -72,8 +60,24 @@ values_at run position place (x ∷ y ∷ z ∷ u ∷ v ∷ vs) a b c d e enough
     let five : e ≡ v = t in
     rw (one, two, three, four, five) refl
 
+-- the texts of the first five pairs
+pub pair_texts_at : (vs : List Variable) (a b c d e : Variable) → 5 ≤ length vs → a ≡ get_or vs 0 a → b ≡ get_or vs 1 b → c ≡ get_or vs 2 c → d ≡ get_or vs 3 d → e ≡ get_or vs 4 e
+    → pair_texts (a ∷ b ∷ c ∷ d ∷ e ∷ []) ≡ pair_texts (take 5 vs)
+pair_texts_at [] a b c d e enough p q r s t = absurd (omega (arith, enough))
+pair_texts_at (x ∷ []) a b c d e enough p q r s t = absurd (omega (arith, enough))
+pair_texts_at (x ∷ y ∷ []) a b c d e enough p q r s t = absurd (omega (arith, enough))
+pair_texts_at (x ∷ y ∷ z ∷ []) a b c d e enough p q r s t = absurd (omega (arith, enough))
+pair_texts_at (x ∷ y ∷ z ∷ u ∷ []) a b c d e enough p q r s t = absurd (omega (arith, enough))
+pair_texts_at (x ∷ y ∷ z ∷ u ∷ v ∷ vs) a b c d e enough p q r s t =
+    let one : a ≡ x = p in
+    let two : b ≡ y = q in
+    let three : c ≡ z = r in
+    let four : d ≡ u = s in
+    let five : e ≡ v = t in
+    rw (one, two, three, four, five) refl
+
 -- the text at a place, and those after it
-pub texts_at : {T : Type 0} (see : T → List ℕ) (i : ℕ) (vs : List T) (d : T) → i < length vs → plain_statements (map see (drop i vs)) ≡ (see (get_or vs i d), []) ∷ plain_statements (map see (drop (i + 1) vs))
+pub texts_at : {T : Type 0} (see : T → List ℕ) (i : ℕ) (vs : List T) (d : T) → i < length vs → plain_statements (map see (drop i vs)) ≡ (see (get_or vs i d), [], []) ∷ plain_statements (map see (drop (i + 1) vs))
 texts_at see i vs d low =
     let next : suc i ≡ i + 1 = omega arith in
-    subst (λ k. plain_statements (map see (drop i vs)) ≡ (see (get_or vs i d), []) ∷ plain_statements (map see (drop k vs))) next (ap (λ l. plain_statements (map see l)) (dropped_or vs i d low))
+    subst (λ k. plain_statements (map see (drop i vs)) ≡ (see (get_or vs i d), [], []) ∷ plain_statements (map see (drop k vs))) next (ap (λ l. plain_statements (map see l)) (dropped_or vs i d low))

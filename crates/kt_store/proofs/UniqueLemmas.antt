@@ -1,24 +1,8 @@
 -- The row of the schema's number is one row, whatever its rowid was.
 use Rattle.std.proofs.Common.{◌≡◌, ◌&&◌, ◌||◌, pos, List, [], ◌∷◌, map, drop, codes, Bool, true, false, cond, not, Ordering, Less, Equal, Greater, is_eq, refl, sym, ap, subst, ◌∙◌, arith}
-use Rattle.std.specs.List.{AllByRecursion}
-use Rattle.std.specs.Ordering.{match_ordering}
-use Rattle.std.proofs.lemmas.Int.{ints}
-use Rattle.sqlite.specs.declared.types.Value.{Value}
-use Rattle.sqlite.specs.declared.types.Value.TheVariants.{Null, Int, Real, Text, Blob}
-use Rattle.sqlite.specs.Order.{Row}
-use Rattle.sqlite.specs.Tree.{Trees}
-use Rattle.sqlite.specs.Ops.{binary, is_null}
-use Rattle.sqlite_value.specs.Order.{value_cmp}
-use Rattle.sqlite_value.specs.Keys.{plain, first_key}
-use Rattle.sqlite_value.proofs.OrderLemmas.{value_cmp-Int}
-use Rattle.sqlite_trees.specs.Tree.{has_rowid}
+use Rattle.kt_store.proofs.Common.{AllByRecursion, match_ordering, ints, Value, Null, Int, Real, Text, Blob, Row, Trees, binary, is_null, value_cmp, plain, first_key, value_cmp-Int, has_rowid, id_in, put_all, are_fresh, have_rowids, Unique, Integer, cast, schema_2, meta_1}
 use Rattle.sqlite_trees.specs.View.{is_int}
-use Rattle.sqlite_rules.specs.Edit.{id_in, put_all, are_fresh, have_rowids}
-use Rattle.sqlite_schema.specs.declared.schema.Constraint.TheVariants.{Unique}
 use Rattle.sqlite_schema.specs.Rules.{agree, differ, clashes, passes}
-use Rattle.sqlite.specs.Kind.TheVariants.{Integer}
-use Rattle.sqlite.specs.Cast.{cast}
-use Rattle.kt_store.specs.Tables.{schema_2, meta_1}
 use Rattle.kt_store.proofs.BeginLemmas.{cast_null}
 
 -- the row of the schema's number, and what it becomes

@@ -1,13 +1,6 @@
 -- The entries of a run are found at their positions.
 use Rattle.std.proofs.Common.{◌≡◌, ◌==◌, ◌<◌, ℕ, List, [], ◌∷◌, map, false, Option, Some, refl, sym, ◌∙◌, subst, arith}
-use Rattle.std.specs.List.{AllByRecursion, find}
-use Rattle.std.proofs.lemmas.Bool.{eq-eqb}
-use Rattle.std.proofs.lemmas.Bool.Decides.{nat_tests}
-use Rattle.sqlite_trees.specs.Tree.{IsAscending}
-use Rattle.kt_base.specs.declared.entry.Entry.{Entry}
-use Rattle.kt_base.specs.declared.run.Run.{Run}
-use Rattle.kt_store.specs.Heads.{entry_at, without_outputs}
-use Rattle.kt_store.specs.Inner.Whole.{AreAt}
+use Rattle.kt_store.proofs.Common.{AllByRecursion, find, eq-eqb, nat_tests, IsAscending, Entry, Run, entry_at, without_outputs, AreAt}
 use Rattle.kt_store.proofs.OutputsLemmas.{has}
 
 differs : (p q : ℕ) → p < q → (p == q) ≡ false

@@ -1,25 +1,6 @@
 -- A write that is one statement in its own commit, from what it does to the tables alone.
 use Rattle.std.proofs.Common.{◌≡◌, ◌⊎◌, inl, inr, ℕ, List, IsTrue, cond, None, Option, Ok, refl, ap, ◌∙◌, unwrap_or}
-use Rattle.std.specs.Prelude.{⊤}
-use Rattle.sqlite.specs.Order.{Row}
-use Rattle.sqlite.specs.Tree.{Trees}
-use Rattle.sqlite.specs.Store.{Ghosts}
-use Rattle.sqlite.specs.Held.{Held, state}
-use Rattle.sqlite.specs.Command.{Command}
-use Rattle.sqlite_schema.specs.declared.program.Program.{Program}
-use Rattle.sqlite.specs.Command.TheVariants.{Update, Commit, Release}
-use Rattle.sqlite.specs.declared.run.Mode.{Mode}
-use Rattle.sqlite_schema.specs.declared.schema.Keys.TheVariants.{Enforced}
-use Rattle.sqlite.specs.Does.{Tally, Does}
-use Rattle.sqlite.specs.Effect.{Database, IsDatabase}
-use Rattle.sqlite.specs.Listing.{understood}
-use Rattle.sqlite.specs.State.{State, HasCleanDisk, mode_of, Executes, Runs, Writes, CommitsBy, IsNewestNamed, names_in, begins_at}
-use Rattle.sqlite.proofs.Callers.{IsPlain, command_of, statement_of, runs_as}
-use Rattle.kt_base.specs.declared.run.Run.{Run}
-use Rattle.kt_store.specs.Tables.{schema_2}
-use Rattle.kt_store.specs.Runs.{Tables, Keeps}
-use Rattle.kt_store.specs.Stands.{IsStore, StandsFor}
-use Rattle.kt_store.specs.Inner.Ask.{MayTell, Told}
+use Rattle.kt_store.proofs.Common.{⊤, Row, Trees, Ghosts, Held, state, Command, Program, Update, Commit, Release, Mode, Enforced, Tally, Does, Database, IsDatabase, understood, State, HasCleanDisk, mode_of, Executes, Runs, Writes, CommitsBy, IsNewestNamed, names_in, begins_at, IsPlain, command_of, statement_of, runs_as, Run, schema_2, Tables, Keeps, IsStore, StandsFor, MayTell, Told}
 use Rattle.kt_store.proofs.StepLemmas.{commits_as, same_store}
 
 abbrev pub Ends : Command → State → Type 0

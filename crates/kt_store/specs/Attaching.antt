@@ -1,7 +1,7 @@
 -- What taking the tables of a database does, by what the database was.
 use Rattle.std.specs.Prelude.{◌≡◌, ◌≢◌, ◌⊎◌, ℤ, pos, List, [], IsTrue}
 use Rattle.sqlite.specs.State.{State, HasCleanDisk, Survives}
-use Rattle.kt_base.specs.declared.run.Run.{Run}
+use Rattle.kt_base.specs.declared.entry.Run.{Run}
 use Rattle.kt_store.specs.Ask.{Rests, IsStoreFault}
 use Rattle.kt_store.specs.Runs.{Keeps, KeepsEither}
 use Rattle.kt_store.specs.Stands.{StandsFor, StandsInOld, IsEmpty, SaysSchema, HasTables, Leaves}

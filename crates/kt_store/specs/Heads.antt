@@ -2,10 +2,10 @@
 use Rattle.std.specs.Prelude.{ℕ, ◌==◌, [], Option, Some, None}
 use Rattle.std.specs.List.{find}
 use Rattle.kt_base.specs.declared.entry.Entry.{Entry}
-use Rattle.kt_base.specs.declared.output.Output.{Output}
-use Rattle.kt_base.specs.declared.run.Run.{Run}
-use Rattle.kt_store.specs.declared.case_outputs.CaseOutputs.{CaseOutputs}
-use Rattle.kt_store.specs.declared.run_head.RunHead.{RunHead}
+use Rattle.kt_base.specs.declared.entry.Output.{Output}
+use Rattle.kt_base.specs.declared.entry.Run.{Run}
+use Rattle.kt_store.specs.declared.result_store.CaseOutputs.{CaseOutputs}
+use Rattle.kt_store.specs.declared.result_store.RunHead.{RunHead}
 
 -- a run without its entries
 abbrev pub head_of : Run → RunHead

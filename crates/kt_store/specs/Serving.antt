@@ -2,12 +2,12 @@
 use Rattle.std.specs.Prelude.{suc, List, [], ◌∷◌, ◌++◌, ◌≡◌, ◌<◌, ◌≤◌, ◌⊎◌, Some, None, Ok, Err, length, map}
 use Rattle.kt_base.specs.Limits.{last_run}
 use Rattle.kt_base.specs.declared.entry.Entry.{Entry}
-use Rattle.kt_base.specs.declared.run.Run.{Run}
+use Rattle.kt_base.specs.declared.entry.Run.{Run}
 use Rattle.kt_store.specs.Ask.{IsStoreFault}
 use Rattle.kt_store.specs.Heads.{head_of, without_outputs, outputs_of, entry_at}
 use Rattle.kt_store.specs.Runs.{new_run, run_at, with_entry, put_refusal, finish, finish_refusal}
 use Rattle.kt_store.specs.StoreCalls.{StoreCall, Began, Put, Finished, Heads, Outline, Outputs}
-use Rattle.kt_store.specs.declared.keeping.Keeping as store
+use Rattle.kt_store.specs.declared.result_store.Keeping as store
 use Rattle.kt_store.specs.declared.store_fault.StoreFault.TheVariants.{StoreFull, NoRun}
 
 -- the runs after a call: one that is refused changes nothing

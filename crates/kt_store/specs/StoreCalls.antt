@@ -1,8 +1,8 @@
 -- What is asked of a store of runs, and what it answers.
 use Rattle.std.specs.Prelude.{ℕ, List, Result, Ok, Err}
 use Rattle.kt_base.specs.declared.entry.Entry.{Entry}
-use Rattle.kt_store.specs.declared.case_outputs.CaseOutputs.{CaseOutputs}
-use Rattle.kt_store.specs.declared.run_head.RunHead.{RunHead}
+use Rattle.kt_store.specs.declared.result_store.CaseOutputs.{CaseOutputs}
+use Rattle.kt_store.specs.declared.result_store.RunHead.{RunHead}
 use Rattle.kt_store.specs.declared.store_fault.StoreFault.{StoreFault}
 
 -- a call with its answer: a run of a total begins at a moment, an entry is put, a run is finished, all heads are read, the entries of a run

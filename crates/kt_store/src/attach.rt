@@ -1,16 +1,9 @@
 ghost use Rattle.std.specs.Prelude.{◌≡◌, ◌≢◌, ◌⊎◌, ◌<◌, ℤ, pos, true, false, [], IfOk, OnOk, OnErr, IfErr};
-ghost use Rattle.sqlite.specs.State.{HasCleanDisk, IsLive, IsUnchanged};
-ghost use Rattle.sqlite.specs.Held.{state};
-ghost use Rattle.kt_store.specs.Ask.{Rests, IsStoreFault};
-ghost use Rattle.kt_store.specs.Attaching.{Blank, Older, IsOf, Takes, Refuses};
-ghost use Rattle.kt_store.specs.Inner.Attaching.{HasNumber};
-ghost use Rattle.kt_store.specs.Inner.Kept.{WasClean, CommitsNothing, AsksNumber, LeavesSchema, FindsTables};
-ghost use Rattle.kt_store.specs.Stands.{SaysSchema, IsUnderstood};
-ghost use Rattle.kt_store.specs.Tables.{runs_text, entries_text, pairs_text};
+ghost use Rattle.kt_store.specs.Common.{HasCleanDisk, IsLive, IsUnchanged, state, Rests, IsStoreFault, Blank, Older, IsOf, Takes, Refuses, HasNumber, WasClean, CommitsNothing, AsksNumber, LeavesSchema, FindsTables, SaysSchema, IsUnderstood, runs_text, entries_text, pairs_text};
 
+use crate::StoreFault;
 use crate::batch::Texts;
-use crate::statements::{ask, commit, probe, value_in};
-use crate::store_fault::StoreFault;
+use crate::store_fault::statements::{ask, commit, probe, value_in};
 use sqlite::{Alter, Connection};
 
 /// A theorem: what a connection sees is a database, while it is open.
@@ -120,8 +113,7 @@ pub(crate) fn find_tables<S: Alter>(conn: &mut Connection<S>, old: bool) -> Resu
     Ok(())
 }
 
-/// Whether the tables are those of schema 1. Any number but 1 and 2 is refused, and so are tables
-/// that can't be read.
+/// Whether the tables are those of schema 1. Any number but 1 and 2 is refused, and so are tables that can't be read.
 pub(crate) fn is_old<S: Alter>(conn: &mut Connection<S>) -> Result<bool, StoreFault>
     ensures asks { AsksNumber S.Store conn.old conn.new }
     ensures same { OnOk result (LeavesSchema S.Store conn.old conn.new) }

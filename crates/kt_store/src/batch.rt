@@ -1,16 +1,11 @@
-use crate::statements::step;
-use crate::store_fault::StoreFault;
+use crate::StoreFault;
+use crate::store_fault::statements::step;
 use sqlite::{Alter, Transaction};
 
 /// Statements that are run one after the other, in one commit.
 pub(crate) trait Batch {
-    ghost use Rattle.std.specs.Prelude.{List, ◌≡◌, OnOk, IfErr, IsTrue};
-    ghost use Rattle.sqlite.specs.State.{HasCleanDisk, KeepsCommit};
-    ghost use Rattle.sqlite.specs.Held.{state};
-    ghost use Rattle.kt_store.specs.Ask.{IsStoreFault};
-    ghost use Rattle.kt_store.specs.Inner.Calls.{Statement};
-    ghost use Rattle.kt_store.specs.Inner.Kept.{CommitsNothing};
-    ghost use Rattle.kt_store.specs.Inner.Transactions.{RunInTurn};
+    ghost use Rattle.std.specs.Prelude.{List, ◌≡◌, OnOk, IfErr};
+    ghost use Rattle.kt_store.specs.Common.{IsStoreFault, Statement, CommitsLater, RunsAll};
 
     /// The statements, each with its parameters.
     ghost statements: { Self → List Statement };
@@ -22,14 +17,10 @@ pub(crate) trait Batch {
     fn fill<S: Alter>(&self, tx: &mut Transaction<'_, S>) -> Result<(), StoreFault>
         requires { is_ready self.now }
         ensures same_reference { tx.new.conn.ghost_name ≡ tx.old.conn.ghost_name }
-        ensures runs { HasCleanDisk (state S.Store tx.new.conn.now)
-            → IsTrue (state S.Store tx.old.conn.now).in_transaction
-            → OnOk result (RunInTurn S.Store (statements self.now)
+        ensures runs { OnOk result (RunsAll S.Store (statements self.now)
             tx.old.conn.now tx.new.conn.now) }
-        ensures keeps { HasCleanDisk (state S.Store tx.new.conn.now)
-            → KeepsCommit (state S.Store tx.old.conn.now) (state S.Store tx.new.conn.now) }
-        ensures failed { IfErr result IsStoreFault }
-        ensures survives { CommitsNothing S.Store tx.old.conn.now tx.new.conn.now };
+        ensures uncommitted { CommitsLater S.Store tx.old.conn.now tx.new.conn.now }
+        ensures failed { IfErr result IsStoreFault };
 }
 
 /// Texts of SQL without parameters.
@@ -40,7 +31,7 @@ pub(crate) struct Texts<'a> {
 
 impl Batch for Texts<'_> {
     ghost use Rattle.std.specs.Prelude.{map, ⊤};
-    ghost use Rattle.kt_store.specs.Inner.Calls.{plain_statements};
+    ghost use Rattle.kt_store.specs.Common.{plain_statements};
 
     ghost statements = { λ t. plain_statements (map (λ sql. sql.now) t.texts.now) };
 

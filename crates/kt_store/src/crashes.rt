@@ -1,9 +1,5 @@
 ghost use Rattle.std.specs.Prelude.{List, [], ◌∷◌};
-ghost use Rattle.kt_base.specs.declared.run.Run.{Run};
-ghost use Rattle.sqlite.specs.Held.{Held, state};
-ghost use Rattle.sqlite.specs.State.{Survives};
-ghost use Rattle.kt_store.specs.Runs.{Keeps, KeepsOne};
-ghost use Rattle.kt_store.specs.Stands.{Leaves};
+ghost use Rattle.kt_store.specs.Common.{Run, Held, state, Survives, Keeps, KeepsOne, Leaves};
 
 use sqlite::Alter;
 

@@ -1,21 +1,21 @@
-ghost use Rattle.std.specs.Prelude.{◌≡◌, ◌<◌, ◌^◌, map, List, IfOk, IfErr};
-ghost use Rattle.std.specs.List.{AllByRecursion};
-ghost use Rattle.kt_base.specs.declared.run.Run.{Run as Stored};
-ghost use Rattle.sqlite.specs.State.{HasCleanDisk};
-ghost use Rattle.sqlite.specs.Held.{state};
-ghost use Rattle.kt_store.specs.Ask.{IsNoMemory, IsStoreFault};
-ghost use Rattle.kt_store.specs.Inner.Kept.{KeepsRuns, OnlyReads};
-ghost use Rattle.kt_store.specs.Inner.Heads.{head_columns};
-ghost use Rattle.kt_store.specs.Heads.{head_of};
-ghost use Rattle.kt_store.specs.Stands.{StandsFor};
+ghost use Rattle.std.specs.Prelude.{◌≡◌, ◌<◌, ◌^◌, map, List, IfOk, IfErr, ◌++◌, [], ◌∷◌, OnOk};
+ghost use Rattle.kt_store.specs.Common.{AllByRecursion, HasCleanDisk, state, IsNoMemory, IsStoreFault, KeepsRuns, OnlyReads, head_columns, head_of, StandsFor};
+ghost use Rattle.kt_base.specs.declared.entry.Run.{Run as Stored};
 
-use crate::growth::add;
-use crate::read::{number_in, small_in};
-use crate::run_head::RunHead;
-use crate::statements::query;
-use crate::store_fault::StoreFault;
+use crate::store_fault::statements::query;
+use crate::value::{number_in, small_in};
+use crate::{RunHead, StoreFault};
+use kt_base::NoMemory;
 use sqlite::{Alter, Connection, Row};
 use std::alloc::Global;
+
+/// Adds an item at the end.
+pub(crate) fn add<T: Drop>(items: &mut Vec<T>, item: T) -> Result<(), NoMemory>
+    ensures added { OnOk result (items.new.items ≡ items.old.items ++ item ∷ []) }
+{
+    items.push(item)?;
+    Ok(())
+}
 
 /// The head in a row.
 pub(crate) fn head_in(row: &Row) -> Result<RunHead, StoreFault>

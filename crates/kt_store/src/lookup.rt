@@ -1,17 +1,9 @@
 ghost use Rattle.std.specs.Prelude.{◌≡◌, ◌⊎◌, ◌<◌, ◌≤◌, ◌^◌, IfOk, IfErr, OnOk, Some, None, option_map, unsigned_abs};
-ghost use Rattle.sqlite.specs.State.{HasCleanDisk};
-ghost use Rattle.sqlite.specs.Held.{state};
-ghost use Rattle.kt_base.specs.Limits.{last_run};
-ghost use Rattle.kt_store.specs.Ask.{IsStoreFault};
-ghost use Rattle.kt_store.specs.Inner.Kept.{KeepsRuns, OnlyReads};
-ghost use Rattle.kt_store.specs.Inner.Runs.{entries_of};
-ghost use Rattle.kt_store.specs.Runs.{run_at, flag, AreRuns, has_position};
-ghost use Rattle.kt_store.specs.Stands.{StandsFor};
+ghost use Rattle.kt_store.specs.Common.{HasCleanDisk, state, last_run, IsStoreFault, KeepsRuns, OnlyReads, entries_of, run_at, flag, AreRuns, has_position, StandsFor};
 
-use crate::read::number_in;
-use crate::statements::{has_rows, query};
-use crate::store_fault::StoreFault;
-use crate::value::int;
+use crate::StoreFault;
+use crate::store_fault::statements::{has_rows, query};
+use crate::value::{int, number_in};
 use sqlite::{Alter, Connection};
 
 /// The total of a run, and 1 where it is finished.

@@ -1,27 +1,14 @@
 ghost use Rattle.std.specs.Prelude.{◌≡◌, ◌<◌, ◌^◌, ℕ, length, map, List, ◌++◌, Ok, IfOk, OnOk, IfErr};
+ghost use Rattle.kt_store.specs.Common.{utf8, AllByRecursion, column, HasCleanDisk, state, IsNoMemory, IsStoreFault, no_output, without_outputs, KeepsRuns, OnlyReads, IsAscending, entries_of, IsEntry, IsPair, IsText, AreRuns, kind_code, run_at, entry_columns, pair_columns, pairs_shown, StandsFor};
 ghost use Rattle.kt_base.specs.declared.entry.Entry.{Entry as Stored};
-ghost use Rattle.kt_base.specs.declared.kind.Kind.{Kind as Sort};
-ghost use Rattle.kt_base.specs.Utf8.{utf8};
-ghost use Rattle.std.specs.List.{AllByRecursion};
-ghost use Rattle.sqlite_value.specs.Order.{column};
+ghost use Rattle.kt_base.specs.declared.verdict.Kind.{Kind as Sort};
 ghost use Rattle.sqlite_value.specs.declared.value.Value.TheVariants.{Text as Words};
-ghost use Rattle.sqlite.specs.State.{HasCleanDisk};
-ghost use Rattle.sqlite.specs.Held.{state};
-ghost use Rattle.kt_store.specs.Ask.{IsNoMemory, IsStoreFault};
-ghost use Rattle.kt_store.specs.Heads.{no_output, without_outputs};
-ghost use Rattle.kt_store.specs.Inner.Kept.{KeepsRuns, OnlyReads};
 ghost use Rattle.kt_base.specs.declared.variable.Variable.{Variable as StoredPair};
-ghost use Rattle.sqlite_trees.specs.Tree.{IsAscending};
-ghost use Rattle.kt_store.specs.Inner.Runs.{entries_of};
-ghost use Rattle.kt_store.specs.Runs.{IsEntry, IsPair, IsText, AreRuns, kind_code, run_at};
-ghost use Rattle.kt_store.specs.Inner.Heads.{entry_columns, pair_columns, pairs_shown};
-ghost use Rattle.kt_store.specs.Stands.{StandsFor};
 
-use crate::growth::add;
-use crate::read::{number_in, small_in};
-use crate::statements::{out_of_range, query, value_in};
-use crate::store_fault::StoreFault;
-use crate::value::int;
+use crate::StoreFault;
+use crate::heads::add;
+use crate::store_fault::statements::{out_of_range, query, value_in};
+use crate::value::{int, number_in, small_in};
 use kt_base::{Bytes, Entry, Kind, Output, Text, Variable, Variables, Verdict};
 use sqlite::{Alter, Connection, Row};
 use std::alloc::Global;
@@ -65,8 +52,7 @@ pub(crate) fn pair_in(row: &Row) -> Result<Variable, StoreFault>
     Ok(Variable { name, value })
 }
 
-/// The pairs of the entry at this position, which are the first of the rows, and the rows after
-/// them.
+/// The pairs of the entry at this position, which are the first of the rows, and the rows after them.
 pub(crate) fn meta_in(
     alloc: Global,
     rows: &[Row],

@@ -1,24 +1,11 @@
 ghost use Rattle.std.specs.Prelude.{◌≡◌, ◌⊎◌, ◌<◌, ◌^◌, ◌==◌, ℕ, length, map, List, Some, None, IfOk, OnOk, IfErr};
-ghost use Rattle.std.specs.List.{filter};
-ghost use Rattle.kt_base.specs.declared.entry.Entry.{Entry};
-ghost use Rattle.kt_base.specs.declared.output.Output.{Output as Pair};
-ghost use Rattle.sqlite_value.specs.Order.{column};
-ghost use Rattle.sqlite_value.specs.declared.value.Value.TheVariants.{Blob};
-ghost use Rattle.sqlite.specs.State.{HasCleanDisk};
-ghost use Rattle.sqlite.specs.Held.{state};
-ghost use Rattle.kt_store.specs.Ask.{IsNoMemory, IsStoreFault};
-ghost use Rattle.kt_store.specs.Heads.{outputs_of, entry_at};
-ghost use Rattle.kt_store.specs.Inner.Kept.{KeepsRuns, OnlyReads};
-ghost use Rattle.kt_store.specs.Inner.Heads.{output_columns};
-ghost use Rattle.kt_store.specs.Inner.Runs.{entries_of};
-ghost use Rattle.kt_store.specs.Runs.{AreRuns, run_at};
-ghost use Rattle.kt_store.specs.Stands.{StandsFor};
+ghost use Rattle.kt_store.specs.Common.{filter, Entry, column, Blob, HasCleanDisk, state, IsNoMemory, IsStoreFault, outputs_of, entry_at, KeepsRuns, OnlyReads, output_columns, entries_of, AreRuns, run_at, StandsFor};
+ghost use Rattle.kt_base.specs.declared.entry.Output.{Output as Pair};
 
-use crate::case_outputs::CaseOutputs;
 use crate::lookup::key;
-use crate::statements::{query, value_in};
-use crate::store_fault::StoreFault;
+use crate::store_fault::statements::{query, value_in};
 use crate::value::int;
+use crate::{CaseOutputs, StoreFault};
 use kt_base::{Bytes, Output};
 use sqlite::{Alter, Connection, Row};
 
@@ -96,8 +83,7 @@ pub(crate) fn find_outputs<S: Alter>(
         → IfOk result (λ o. (e : Entry) × (entry_at (run_at runs run) position ≡ Some e)
         × (o ≡ outputs_of e)) }
     ensures refused { (runs : _) → StandsFor (state S.Store conn.old) runs
-        → HasCleanDisk (state S.Store conn.new)
-        → IfErr result (λ e. IsStoreFault e
+        → HasCleanDisk (state S.Store conn.new) → IfErr result (λ e. IsStoreFault e
         ⊎ ((e ≡ StoreFault.NoRun) × (entry_at (run_at runs run) position ≡ None))) }
     ensures stands { KeepsRuns S.Store conn.old conn.new }
     ensures crash { OnlyReads S.Store conn.old conn.new }

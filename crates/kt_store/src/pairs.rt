@@ -1,14 +1,8 @@
-ghost use Rattle.std.specs.Prelude.{◌≡◌, ◌+◌, ◌<◌, ◌≤◌, ◌^◌, length, OnOk, IfErr, IsTrue};
-ghost use Rattle.sqlite.specs.State.{HasCleanDisk, KeepsCommit};
-ghost use Rattle.sqlite.specs.Held.{state};
-ghost use Rattle.kt_store.specs.Ask.{IsStoreFault};
-ghost use Rattle.kt_store.specs.Inner.Kept.{CommitsNothing};
-ghost use Rattle.kt_store.specs.Inner.Transactions.{RunsInside, RunInTurn};
-ghost use Rattle.kt_store.specs.Runs.{pair_row};
-ghost use Rattle.kt_store.specs.Inner.Calls.{five_text, five_values, pair_statements, pair_text, single_statements};
+ghost use Rattle.std.specs.Prelude.{◌≡◌, ◌+◌, ◌<◌, ◌≤◌, ◌^◌, length, OnOk, IfErr};
+ghost use Rattle.kt_store.specs.Common.{IsStoreFault, CommitsLater, RunsAll, RunsOne, five_statement, pair_statement, pair_statements, single_statements};
 
-use crate::statements::step;
-use crate::store_fault::StoreFault;
+use crate::StoreFault;
+use crate::store_fault::statements::step;
 use crate::value::{int, text};
 use kt_base::Variable;
 use sqlite::{Alter, Transaction};
@@ -23,14 +17,10 @@ fn add_pair<S: Alter>(
 ) -> Result<(), StoreFault>
     requires { (run < 2 ^ 63) × (place < 2 ^ 63) }
     ensures same_reference { tx.new.conn.ghost_name ≡ tx.old.conn.ghost_name }
-    ensures runs { HasCleanDisk (state S.Store tx.new.conn.now)
-        → IsTrue (state S.Store tx.old.conn.now).in_transaction
-        → OnOk result (RunsInside S.Store
-        (pair_text, pair_row run position place pair.now) tx.old.conn.now tx.new.conn.now) }
-    ensures keeps { HasCleanDisk (state S.Store tx.new.conn.now)
-        → KeepsCommit (state S.Store tx.old.conn.now) (state S.Store tx.new.conn.now) }
+    ensures runs { OnOk result (RunsOne S.Store (pair_statement run position place pair.now)
+        tx.old.conn.now tx.new.conn.now) }
+    ensures uncommitted { CommitsLater S.Store tx.old.conn.now tx.new.conn.now }
     ensures failed { IfErr result IsStoreFault }
-    ensures survives { CommitsNothing S.Store tx.old.conn.now tx.new.conn.now }
 {
     step(
         tx,
@@ -56,14 +46,10 @@ fn add_five<S: Alter>(
 ) -> Result<(), StoreFault>
     requires { (run < 2 ^ 63) × (place + 4 < 2 ^ 63) × (5 ≤ length pairs.now) }
     ensures same_reference { tx.new.conn.ghost_name ≡ tx.old.conn.ghost_name }
-    ensures runs { HasCleanDisk (state S.Store tx.new.conn.now)
-        → IsTrue (state S.Store tx.old.conn.now).in_transaction
-        → OnOk result (RunsInside S.Store
-        (five_text, five_values run position place pairs.now) tx.old.conn.now tx.new.conn.now) }
-    ensures keeps { HasCleanDisk (state S.Store tx.new.conn.now)
-        → KeepsCommit (state S.Store tx.old.conn.now) (state S.Store tx.new.conn.now) }
+    ensures runs { OnOk result (RunsOne S.Store (five_statement run position place pairs.now)
+        tx.old.conn.now tx.new.conn.now) }
+    ensures uncommitted { CommitsLater S.Store tx.old.conn.now tx.new.conn.now }
     ensures failed { IfErr result IsStoreFault }
-    ensures survives { CommitsNothing S.Store tx.old.conn.now tx.new.conn.now }
 {
     let first = &pairs[0];
     let second = &pairs[1];
@@ -106,14 +92,10 @@ fn add_singly<S: Alter>(
 ) -> Result<(), StoreFault>
     requires { (run < 2 ^ 63) × (first + length pairs.now < 2 ^ 63) }
     ensures same_reference { tx.new.conn.ghost_name ≡ tx.old.conn.ghost_name }
-    ensures runs { HasCleanDisk (state S.Store tx.new.conn.now)
-        → IsTrue (state S.Store tx.old.conn.now).in_transaction
-        → OnOk result (RunInTurn S.Store
-        (single_statements run position first pairs.now) tx.old.conn.now tx.new.conn.now) }
-    ensures keeps { HasCleanDisk (state S.Store tx.new.conn.now)
-        → KeepsCommit (state S.Store tx.old.conn.now) (state S.Store tx.new.conn.now) }
+    ensures runs { OnOk result (RunsAll S.Store (single_statements run position first pairs.now)
+        tx.old.conn.now tx.new.conn.now) }
+    ensures uncommitted { CommitsLater S.Store tx.old.conn.now tx.new.conn.now }
     ensures failed { IfErr result IsStoreFault }
-    ensures survives { CommitsNothing S.Store tx.old.conn.now tx.new.conn.now }
 {
     let mut place = first;
     for pair in pairs {
@@ -123,8 +105,7 @@ fn add_singly<S: Alter>(
     Ok(())
 }
 
-/// Adds the pairs of an entry, inside a transaction: five by one statement, and the last ones one
-/// by one.
+/// Adds the pairs of an entry, inside a transaction: five by one statement, and the last ones one by one.
 pub(crate) fn add_pairs<S: Alter>(
     tx: &mut Transaction<'_, S>,
     run: u64,
@@ -133,14 +114,10 @@ pub(crate) fn add_pairs<S: Alter>(
 ) -> Result<(), StoreFault>
     requires { run < 2 ^ 63 }
     ensures same_reference { tx.new.conn.ghost_name ≡ tx.old.conn.ghost_name }
-    ensures runs { HasCleanDisk (state S.Store tx.new.conn.now)
-        → IsTrue (state S.Store tx.old.conn.now).in_transaction
-        → OnOk result (RunInTurn S.Store
-        (pair_statements run position 0 pairs.now) tx.old.conn.now tx.new.conn.now) }
-    ensures keeps { HasCleanDisk (state S.Store tx.new.conn.now)
-        → KeepsCommit (state S.Store tx.old.conn.now) (state S.Store tx.new.conn.now) }
+    ensures runs { OnOk result (RunsAll S.Store (pair_statements run position 0 pairs.now)
+        tx.old.conn.now tx.new.conn.now) }
+    ensures uncommitted { CommitsLater S.Store tx.old.conn.now tx.new.conn.now }
     ensures failed { IfErr result IsStoreFault }
-    ensures survives { CommitsNothing S.Store tx.old.conn.now tx.new.conn.now }
 {
     let mut place = 0;
     let mut rest = pairs;

@@ -1,24 +1,13 @@
-ghost use Rattle.std.specs.Prelude.{◌≡◌, ◌⊎◌, Some, None, Err, IfOk, ◌<◌, ◌≤◌, ◌^◌, OnOk, OnErr, IfErr, IsTrue};
-ghost use Rattle.kt_base.specs.Limits.{last_run};
-ghost use Rattle.kt_base.specs.Moments.{IsStorable};
-ghost use Rattle.std.specs.List.{AllByRecursion};
-ghost use Rattle.sqlite.specs.State.{HasCleanDisk, KeepsCommit};
-ghost use Rattle.sqlite.specs.Held.{state};
-ghost use Rattle.kt_store.specs.Ask.{IsNoMemory, IsStoreFault};
-ghost use Rattle.kt_store.specs.Inner.Kept.{CommitsNothing, KeepsRuns, OnlyReads, Changes, ChangesForGood, MayChange};
-ghost use Rattle.kt_store.specs.Inner.Transactions.{RunInTurn};
-ghost use Rattle.kt_store.specs.Inner.Runs.{CanAdd};
-ghost use Rattle.kt_store.specs.Runs.{IsEntry, IsPair, IsText, with_entry, kind_code, put_refusal};
-ghost use Rattle.kt_store.specs.Stands.{StandsFor};
-ghost use Rattle.kt_store.specs.Inner.Calls.{entry_statements};
+ghost use Rattle.std.specs.Prelude.{◌≡◌, ◌⊎◌, Some, None, IfOk, ◌<◌, ◌≤◌, ◌^◌, OnOk, OnErr, IfErr};
+ghost use Rattle.kt_store.specs.Common.{last_run, IsStorable, HasCleanDisk, state, IsNoMemory, IsStoreFault, KeepsRuns, OnlyReads, Changes, MayChange, CommitsLater, RunsAll, CanAdd, IsBareIfPassed, with_entry, kind_code, put_refusal, StandsFor, entry_statements};
 
+use crate::StoreFault;
 use crate::batch::Batch;
 use crate::lookup::{look, there};
 use crate::pairs::add_pairs;
-use crate::statements::{commit, step};
-use crate::store_fault::StoreFault;
+use crate::store_fault::statements::{commit, step};
 use crate::value::{blob, int, text};
-use kt_base::{Entry, Kind, Text, Variable};
+use kt_base::{Entry, Kind, Text};
 use sqlite::{Alter, Connection, Transaction};
 use std::alloc::Global;
 
@@ -35,35 +24,14 @@ pub(crate) fn code(kind: Kind) -> u64
     }
 }
 
-/// A theorem: the bytes of a text spell it.
-fn text_is_spelled(text: &Text)
-    ensures { IsText text.now }
-{
-    let _ = text.as_str();
-}
-
-/// A theorem: the bytes of the texts of these pairs spell them.
-pub(crate) fn pairs_are_spelled(pairs: &[Variable])
-    ensures { AllByRecursion IsPair pairs.now }
-{
-    for pair in pairs {
-        text_is_spelled(&pair.name);
-        text_is_spelled(&pair.value);
-    }
-}
-
 /// The text of the reason.
 pub(crate) fn reason_of(alloc: Global, entry: &Entry) -> Result<Text, StoreFault>
     ensures text { IfOk result (λ t. t ≡ entry.now.verdict.reason) }
-    ensures sound { OnOk result (IsEntry entry.now) }
+    ensures passed { OnOk result (IsBareIfPassed entry.now) }
     ensures failed { IfErr result IsNoMemory }
 {
     let mut reason = Text::new(alloc);
     entry.verdict.write_reason(&mut reason)?;
-    text_is_spelled(&entry.program);
-    text_is_spelled(&entry.case_name);
-    text_is_spelled(&reason);
-    pairs_are_spelled(entry.meta.as_slice());
     Ok(reason)
 }
 
@@ -78,14 +46,10 @@ pub(crate) fn fill<S: Alter>(
     requires reason { reason.now ≡ entry.now.verdict.reason }
     requires moments { IsStorable entry.now }
     ensures same_reference { tx.new.conn.ghost_name ≡ tx.old.conn.ghost_name }
-    ensures runs { HasCleanDisk (state S.Store tx.new.conn.now)
-        → IsTrue (state S.Store tx.old.conn.now).in_transaction
-        → OnOk result (RunInTurn S.Store
-        (entry_statements run entry.now) tx.old.conn.now tx.new.conn.now) }
-    ensures keeps { HasCleanDisk (state S.Store tx.new.conn.now)
-        → KeepsCommit (state S.Store tx.old.conn.now) (state S.Store tx.new.conn.now) }
+    ensures runs { OnOk result (RunsAll S.Store (entry_statements run entry.now)
+        tx.old.conn.now tx.new.conn.now) }
+    ensures uncommitted { CommitsLater S.Store tx.old.conn.now tx.new.conn.now }
     ensures failed { IfErr result IsStoreFault }
-    ensures survives { CommitsNothing S.Store tx.old.conn.now tx.new.conn.now }
 {
     step(
         tx,
@@ -119,8 +83,7 @@ pub(crate) struct NewEntry<'a> {
 
 impl Batch for NewEntry<'_> {
     ghost use Rattle.std.specs.Prelude.{◌≡◌, ◌<◌, ◌^◌};
-    ghost use Rattle.kt_base.specs.Moments.{IsStorable};
-    ghost use Rattle.kt_store.specs.Inner.Calls.{entry_statements};
+    ghost use Rattle.kt_store.specs.Common.{IsStorable, entry_statements};
 
     ghost statements = { λ n. entry_statements n.run n.entry.now };
 
@@ -149,8 +112,6 @@ pub(crate) fn add_entry<S: Alter>(
     ensures failed { IfErr result IsStoreFault }
     ensures crash { MayChange S.Store conn.old conn.new
         (CanAdd run entry.now) (with_entry run entry.now) }
-    ensures durable { OnOk result (ChangesForGood S.Store conn.old conn.new
-        (CanAdd run entry.now) (with_entry run entry.now)) }
 {
     commit(conn, &NewEntry { run, entry, reason })?;
     Ok(())
@@ -170,7 +131,7 @@ pub(crate) fn check<S: Alter>(
         → IfErr result (λ e. IsStoreFault e ⊎ (put_refusal runs run entry.now ≡ Some e)) }
     ensures taken { (runs : _) → StandsFor (state S.Store conn.old) runs
         → HasCleanDisk (state S.Store conn.new)
-        → OnOk result (IsEntry entry.now → (put_refusal runs run entry.now ≡ None)
+        → OnOk result (IsBareIfPassed entry.now → (put_refusal runs run entry.now ≡ None)
         × CanAdd run entry.now runs) }
 {
     let (total, finished) = look(conn, run)?;

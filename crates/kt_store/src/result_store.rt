@@ -1,18 +1,54 @@
-use crate::case_outputs::CaseOutputs;
-use crate::keeping::Keeping;
-use crate::run_head::RunHead;
-use crate::store_fault::StoreFault;
-use kt_base::Entry;
+use crate::StoreFault;
+use kt_base::{Entry, Output};
 
-/// Where runs are recorded. Each call's refusals come in a stated order and change nothing;
-/// `NoMemory` and `Store` come where memory or the store itself failed. What was read is right
-/// while the store is sound.
+/// A run without its entries.
+#[derive(Clone, Copy, Debug, PartialEq, Eq)]
+pub struct RunHead {
+    /// Counted from 1.
+    pub number: u64,
+    /// In milliseconds since 1970 in UTC.
+    pub started: u64,
+    /// How many cases were selected.
+    pub total: u32,
+    /// Whether all of them are recorded and the run is closed.
+    pub finished: bool,
+}
+
+/// What is kept of the outputs of a test case.
+#[derive(Debug, Drop)]
+pub struct CaseOutputs {
+    pub body: Output,
+    pub cleanup: Output,
+}
+
+/// What is known of a store, for contracts alone: which runs it stands for, and what a crash leaves of them.
+pub trait Keeping {
+    ghost use Rattle.std.specs.Prelude.{List};
+    ghost use Rattle.kt_base.specs.declared.entry.Run.{Run};
+    ghost use Rattle.kt_store.specs.Runs.{AreNumbered};
+    ghost use Rattle.kt_store.specs.StoreCalls.{StoreCall};
+
+    /// Whether a call with its answer leads from the first state to the second, whatever the store gives back later.
+    ghost answers: { Self → StoreCall → Self → Type 0 };
+
+    /// Whether the store stands for these runs.
+    ghost stands: { Self → List Run → Type 0 };
+
+    /// Whether the store has given back what was written, so far.
+    ghost sound: { Self → Type 0 };
+
+    /// Whether a crash at this moment leaves one of these lists of runs, whatever it leaves.
+    ghost leaves: { Self → List (List Run) → Type 0 };
+
+    /// A run's number is its place, counted from 1.
+    ghost numbered: { (s : Self) (runs : List Run) → Self.stands s runs → AreNumbered 1 runs };
+}
+
+/// Where runs are recorded. Each call's refusals come in a stated order and change nothing; `NoMemory` and `Store` come
+/// where memory or the store itself failed. What was read is right while the store is sound.
 pub trait ResultStore: Keeping {
     ghost use Rattle.std.specs.Prelude.{IfErr};
-    ghost use Rattle.kt_base.specs.Moments.{IsMoment, IsStorable};
-    ghost use Rattle.kt_store.specs.Ask.{IsStoreFault};
-    ghost use Rattle.kt_store.specs.Serving.{Serves};
-    ghost use Rattle.kt_store.specs.StoreCalls.{Began, Put, Finished, Heads, Outline, Outputs, seen_as};
+    ghost use Rattle.kt_store.specs.Common.{IsMoment, IsStorable, IsStoreFault, Serves, Began, Put, Finished, Heads, Outline, Outputs, seen_as};
 
     /// Adds an unfinished run of `total` cases, and returns its number. The moment is in
     /// milliseconds since 1970 in UTC. `StoreFull` where there are 1,000,000 runs.

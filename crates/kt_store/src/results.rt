@@ -1,23 +1,17 @@
 ghost use Rattle.std.specs.Prelude.{◌≡◌, ◌⊎◌, ◌<◌, IfOk, IfErr};
-ghost use Rattle.sqlite.specs.Held.{state};
-ghost use Rattle.kt_store.specs.Ask.{IsStoreFault};
-ghost use Rattle.kt_store.specs.Attaching.{IsOf, Takes, Refuses};
+ghost use Rattle.kt_store.specs.Common.{state, IsStoreFault, IsOf, Takes, Refuses};
 
 use crate::attach::settle;
-use crate::begin::{add_run, is_full};
-use crate::case_outputs::CaseOutputs;
-use crate::close::{self, mark};
 use crate::heads::all_heads;
-use crate::keeping::Keeping;
 use crate::lookup::look;
 use crate::outlines::all_entries;
 use crate::outputs::find_outputs;
 use crate::put::{add_entry, check, reason_of};
-use crate::result_store::ResultStore;
-use crate::run_head::RunHead;
-use crate::store_fault::StoreFault;
-use kt_base::Entry;
-use sqlite::{Alter, Connection};
+use crate::run_rows::{self, add_run, is_full, mark};
+use crate::store_fault::statements::{close_file, open_file};
+use crate::{CaseOutputs, Keeping, ResultStore, RunHead, StoreFault};
+use kt_base::{Entry, Text};
+use sqlite::{Alter, Connection, FileFrom, FileStore, Start};
 use std::alloc::Global;
 use std::marker::Model;
 
@@ -41,10 +35,9 @@ impl<S: Alter> Model for Results<S> {
 }
 
 impl<S: Alter> Results<S> {
-    /// Takes the tables of a database; in an empty one it makes them, in one commit, and so it
-    /// takes those of schema 1 to schema 2. A refusal hands the connection back: `UnknownSchema`
-    /// where the tables say a number other than 1 and 2, `Store` where the connection is in a
-    /// transaction. Of a database with other tables nothing is said.
+    /// Takes the tables of a database; in an empty one it makes them, in one commit, and so it takes those of schema 1
+    /// to schema 2. A refusal hands the connection back: `UnknownSchema` where the tables say a number other than 1 and
+    /// 2, `Store` where the connection is in a transaction. Of a database with other tables nothing is said.
     pub fn attach(
         alloc: Global,
         connection: Connection<S>,
@@ -73,10 +66,7 @@ impl<S: Alter> Results<S> {
 }
 
 impl<S: Alter> Keeping for Results<S> {
-    ghost use Rattle.sqlite.specs.Held.{state};
-    ghost use Rattle.sqlite.specs.State.{HasCleanDisk};
-    ghost use Rattle.kt_store.specs.Runs.{AreNumbered, KeepsOne};
-    ghost use Rattle.kt_store.specs.Stands.{StandsFor, Leaves};
+    ghost use Rattle.kt_store.specs.Common.{state, HasCleanDisk, AreNumbered, KeepsOne, StandsFor, Leaves};
 
     // What each call returns is its own clause.
     ghost answers = { λ _ _ _. Unit {0} };
@@ -107,7 +97,7 @@ impl<S: Alter> ResultStore for Results<S> {
     }
 
     fn finish(&mut self, run: u64) -> Result<(), StoreFault> {
-        close::check(&mut self.conn, run)?;
+        run_rows::check(&mut self.conn, run)?;
         mark(&mut self.conn, run)?;
         Ok(())
     }
@@ -126,5 +116,32 @@ impl<S: Alter> ResultStore for Results<S> {
     fn outputs(&mut self, run: u64, position: u32) -> Result<CaseOutputs, StoreFault> {
         let found = find_outputs(&mut self.conn, run, position)?;
         Ok(found)
+    }
+}
+
+impl<S: Start> Results<FileStore<FileFrom<S>>> {
+    ghost use Rattle.std.specs.Prelude.{◌≡◌, ◌⊎◌, IfOk, OnOk, IfErr};
+    ghost use Rattle.kt_store.specs.Common.{image_at, IsStoreFault, AreOver, IsClosed};
+
+    /// Opens the results in a file, which is made where there is none. `S` stands for what the file
+    /// held, which no code reads. `UnknownSchema` where the tables say a number other than 1 and 2.
+    pub fn open(rt: &HostRuntime, file: &Text, start: S) -> Result<Self, StoreFault>
+        ensures opened { IfOk result (AreOver (image_at S.Start)) }
+        ensures due { IfErr result (λ e. IsStoreFault e ⊎ (e ≡ StoreFault.UnknownSchema)) }
+    {
+        let connection = open_file(rt, file, start)?;
+        match Results::attach(rt.alloc(), connection) {
+            Ok(results) => Ok(results),
+            Err((fault, _connection)) => Err(fault),
+        }
+    }
+
+    /// Closes the results. Afterwards the file alone has them all; after an error they stand in it and in its log.
+    pub fn close(self) -> Result<(), StoreFault>
+        ensures closed { OnOk result (IsClosed self) }
+        ensures failed { IfErr result IsStoreFault }
+    {
+        close_file(self.detach())?;
+        Ok(())
     }
 }

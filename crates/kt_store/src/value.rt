@@ -1,9 +1,11 @@
-ghost use Rattle.std.specs.Prelude.{◌≡◌, ◌<◌, ◌^◌, pos, unsigned_abs};
-ghost use Rattle.kt_base.specs.Utf8.{utf8};
-ghost use Rattle.sqlite_value.specs.Value.{owned};
-ghost use Rattle.sqlite_value.specs.declared.value.Value.TheVariants.{Int, Text as Words, Blob};
+ghost use Rattle.std.specs.Prelude.{◌≡◌, ◌<◌, ◌^◌, pos, unsigned_abs, ℕ, length, IfOk, IfErr};
+ghost use Rattle.kt_store.specs.Common.{utf8, owned, Int, Blob, IsText, column, IsNoMemory, IsStoreFault};
+ghost use Rattle.sqlite_value.specs.declared.value.Value.TheVariants.{Text as Words};
 
+use crate::StoreFault;
+use crate::store_fault::statements::value_in;
 use kt_base::{Bytes, Text};
+use sqlite::Row;
 use sqlite_value::value::ValueRef;
 
 // As SQL takes them.
@@ -16,7 +18,8 @@ pub(crate) fn int<'a>(n: u64) -> ValueRef<'a>
 }
 
 pub(crate) fn text(text: &Text) -> ValueRef<'_>
-    ensures { owned result ≡ Words (utf8 text.entry.now) }
+    ensures value { owned result ≡ Words (utf8 text.entry.now) }
+    ensures spelled { IsText text.entry.now }
 {
     ValueRef::Text(text.as_str().as_bytes())
 }
@@ -31,4 +34,26 @@ pub(crate) fn magnitude(n: i64) -> u64
     ensures { result ≡ unsigned_abs n }
 {
     n.unsigned_abs()
+}
+
+/// A number of a row. A negative one is refused.
+pub(crate) fn number_in(row: &Row, at: usize) -> Result<u64, StoreFault>
+    ensures number { IfOk result (λ n. column row.now at ≡ Int (pos n)) }
+    ensures read { (n : ℕ) → at < length row.now → column row.now at ≡ Int (pos n)
+        → IfErr result IsNoMemory }
+    ensures failed { IfErr result IsStoreFault }
+{
+    let number = value_in::<u64>(row, at)?;
+    Ok(number)
+}
+
+/// A number of a row, 0 to 4,294,967,295. Any other is refused.
+pub(crate) fn small_in(row: &Row, at: usize) -> Result<u32, StoreFault>
+    ensures number { IfOk result (λ n. column row.now at ≡ Int (pos n)) }
+    ensures read { (n : ℕ) → n < 2 ^ 32 → at < length row.now → column row.now at ≡ Int (pos n)
+        → IfErr result IsNoMemory }
+    ensures failed { IfErr result IsStoreFault }
+{
+    let number = value_in::<u32>(row, at)?;
+    Ok(number)
 }

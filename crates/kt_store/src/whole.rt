@@ -1,13 +1,9 @@
 ghost use Rattle.std.specs.Prelude.{◌≡◌, List, Some, IfOk, map};
+ghost use Rattle.kt_store.specs.Common.{Run, entry_at, without_outputs, AreAt, AreRuns, run_at};
 ghost use Rattle.kt_base.specs.declared.entry.Entry.{Entry as Stored};
-ghost use Rattle.kt_base.specs.declared.run.Run.{Run};
-ghost use Rattle.kt_store.specs.Heads.{entry_at, without_outputs};
-ghost use Rattle.kt_store.specs.Inner.Whole.{AreAt};
-ghost use Rattle.kt_store.specs.Runs.{AreRuns, run_at};
 
-use crate::growth::add;
-use crate::result_store::ResultStore;
-use crate::store_fault::StoreFault;
+use crate::heads::add;
+use crate::{ResultStore, StoreFault};
 use kt_base::Entry;
 use std::alloc::Global;
 
@@ -54,8 +50,7 @@ fn all_with_outputs<R: ResultStore>(
     Ok(entries)
 }
 
-/// The entries of a run with their pairs and their outputs, by position. `NoRun` where no run has
-/// the number.
+/// The entries of a run with their pairs and their outputs, by position. `NoRun` where no run has the number.
 pub fn entries<R: ResultStore>(
     alloc: Global,
     results: &mut R,

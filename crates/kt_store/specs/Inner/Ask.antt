@@ -5,7 +5,7 @@ use Rattle.sqlite.specs.Tree.{Trees}
 use Rattle.sqlite.specs.Store.{Ghosts}
 use Rattle.sqlite.specs.Held.{Held, state}
 use Rattle.sqlite.specs.State.{IsUnchanged, Shown, Executes, CommitsBy, CommitsShowing}
-use Rattle.kt_base.specs.declared.run.Run.{Run}
+use Rattle.kt_base.specs.declared.entry.Run.{Run}
 use Rattle.kt_store.specs.Stands.{IsStore}
 
 -- tables that hold these runs showed these rows

@@ -3,7 +3,7 @@ use Rattle.std.specs.Prelude.{ℤ, List}
 use Rattle.sqlite.specs.Store.{Ghosts}
 use Rattle.sqlite.specs.Held.{Held, state}
 use Rattle.sqlite.specs.State.{HasCleanDisk, Survives, IsUnchanged}
-use Rattle.kt_base.specs.declared.run.Run.{Run}
+use Rattle.kt_base.specs.declared.entry.Run.{Run}
 use Rattle.kt_store.specs.Ask.{Rests}
 use Rattle.kt_store.specs.Runs.{Keeps}
 use Rattle.kt_store.specs.Stands.{StandsFor, SaysSchema, HasTables, Leaves}
@@ -41,13 +41,10 @@ module _ {S : Type 0} (g : Ghosts S) (old new : Held S) where
   FindsTables = (n : ℤ) → SaysSchema n (state g old) → HasCleanDisk (state g new) → HasTables n (state g old)
 
   module _ (Allowed : List Run → Type 0) (change : List Run → List Run) where
-    -- runs that allow the change stand changed after the call
-    abbrev pub Changes : Type 0
-    Changes = (runs : List Run) → StandsFor (state g old) runs → (HasCleanDisk (state g old) → Allowed runs) → StandsFor (state g new) (change runs)
-
-    -- and a crash leaves them changed
-    abbrev pub ChangesForGood : Type 0
-    ChangesForGood = (runs : List Run) → StandsFor (state g old) runs → (HasCleanDisk (state g old) → Allowed runs) → Leaves (state g new) (Keeps (change runs))
+    -- runs that allow the change stand changed after the call, and a crash leaves them changed
+    pub record Changes : Type 0 where
+      pub stands : (runs : List Run) → StandsFor (state g old) runs → (HasCleanDisk (state g old) → Allowed runs) → StandsFor (state g new) (change runs)
+      pub lasts : (runs : List Run) → StandsFor (state g old) runs → (HasCleanDisk (state g old) → Allowed runs) → Leaves (state g new) (Keeps (change runs))
 
     -- over runs that allow the change, a crash leaves what it left before the call, or the runs changed
     abbrev pub MayChange : Type 0

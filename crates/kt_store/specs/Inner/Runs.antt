@@ -2,12 +2,21 @@
 use Rattle.std.specs.Prelude.{◌≡◌, ℕ, suc, Option, None, ◌<◌, List, [], length, Some}
 use Rattle.std.specs.List.{AllByRecursion}
 use Rattle.kt_base.specs.declared.entry.Entry.{Entry}
-use Rattle.kt_base.specs.declared.run.Run.{Run}
-use Rattle.kt_store.specs.Runs.{IsRun, run_at, with_entry}
+use Rattle.kt_base.specs.declared.verdict.Kind.TheVariants.{Passed}
+use Rattle.kt_base.specs.declared.entry.Run.{Run}
+use Rattle.kt_store.specs.Runs.{IsPair, IsRun, IsText, run_at, with_entry}
 
--- a run with this number is there, and all runs are sound once it has this entry too
+-- a passed case has the empty reason
+abbrev pub IsBareIfPassed : Entry → Type 0
+IsBareIfPassed e = e.verdict.kind ≡ Passed → e.verdict.reason ≡ []
+
+-- its texts are texts
+abbrev pub HasTexts : Entry → Type 0
+HasTexts e = IsText e.program × IsText e.case_name × IsText e.verdict.reason × AllByRecursion IsPair e.meta
+
+-- a run with this number is there, and all runs are sound once it has this entry too, if the texts of that are texts
 abbrev pub CanAdd : ℕ → Entry → List Run → Type 0
-CanAdd run e runs = (k : ℕ) × (run ≡ suc k) × (k < length runs) × AllByRecursion IsRun (with_entry run e runs)
+CanAdd run e runs = (k : ℕ) × (run ≡ suc k) × (k < length runs) × (HasTexts e → AllByRecursion IsRun (with_entry run e runs))
 
 -- a run with this number is there and has all its entries
 abbrev pub IsComplete : ℕ → List Run → Type 0

@@ -1,6 +1,5 @@
 use Rattle.std.proofs.Common.{[], ◌≡◌, arith}
-use Rattle.kt_store.specs.Inner.Calls.{make_statements}
-use Rattle.kt_store.specs.Tables.{no_schema}
+use Rattle.kt_store.proofs.Common.{make_statements, no_schema}
 use Rattle.kt_store.proofs.CommitLemmas.{undone_holds, commit_stands, commit_lasts, commit_crash}
 use Rattle.kt_store.proofs.CreateLemmas.{made_in}
 use Rattle.kt_store.proofs.FaultLemmas.{if_same}

@@ -1,8 +1,6 @@
 use Rattle.kt_store.proofs.ProbeLemmas.{understood_before}
-use Rattle.kt_store.specs.Tables.{entries_text, pairs_text}
-use Rattle.sqlite.proofs.Callers.{unchanged_then}
-use Rattle.sqlite.specs.Held.{state}
 use Rattle.std.proofs.Common.{◌≡◌, ◌∙◌, true, false, sym, arith}
+use Rattle.kt_store.proofs.Common.{entries_text, pairs_text, unchanged_then, state}
 use Rattle.kt_store.proofs.attach.find_tables.Goals as goal
 
 pub returns-then-old-clause-understood : goal.returns-then-old-clause-understood

@@ -1,9 +1,7 @@
 use Rattle.kt_store.proofs.ProbeLemmas.{understood_before, asks_then, never_old_number}
 use Rattle.kt_store.proofs.StepLemmas.{rests_then}
-use Rattle.kt_store.specs.Tables.{runs_text, entries_text, pairs_text}
-use Rattle.sqlite.proofs.Callers.{unchanged_then}
-use Rattle.sqlite.specs.Held.{state}
 use Rattle.std.proofs.Common.{inl, arith, rules}
+use Rattle.kt_store.proofs.Common.{runs_text, entries_text, pairs_text, unchanged_then, state}
 use Rattle.kt_store.proofs.attach.is_old.Goals as goal
 
 pub returns-in_err-old-clause-taken : goal.returns-in_err-old-clause-taken

@@ -1,11 +1,9 @@
 use Rattle.std.proofs.Common.{arith}
-use Rattle.kt_store.specs.Inner.Calls.{raise_statements}
-use Rattle.kt_store.specs.Runs.{OldTables}
+use Rattle.kt_store.proofs.Common.{raise_statements, OldTables, state}
 use Rattle.kt_store.proofs.CommitLemmas.{undone_holds, commit_stands, commit_lasts, commit_crash}
 use Rattle.kt_store.proofs.RaiseLemmas.{raised_in}
 use Rattle.kt_store.proofs.FaultLemmas.{if_same}
 use Rattle.kt_store.proofs.StepLemmas.{either_left, leaves_held}
-use Rattle.sqlite.specs.Held.{state}
 use Rattle.kt_store.proofs.attach.renew.Goals as goal
 
 pub returns-in_err-commit-clause-refused : goal.returns-in_err-commit-clause-refused

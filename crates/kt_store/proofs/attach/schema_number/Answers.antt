@@ -1,7 +1,5 @@
 use Rattle.std.proofs.Common.{◌∙◌, [], w64, SFits, slice_get, sym, ap, arith, rules}
-use Rattle.std.proofs.lemmas.Int.{to_z-of_z}
-use Rattle.std.specs.Option.{option_copied}
-use Rattle.kt_store.specs.Tables.{meta_text}
+use Rattle.kt_store.proofs.Common.{to_z-of_z, option_copied, meta_text}
 use Rattle.kt_store.proofs.AskLemmas.{asked_unchanged}
 use Rattle.kt_store.proofs.MetaLemmas.{asked_meta, says_plain, read_it, some_row, asks_number, tells_number}
 use Rattle.kt_store.proofs.attach.schema_number.Goals as goal

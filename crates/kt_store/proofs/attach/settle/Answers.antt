@@ -1,4 +1,4 @@
-use Rattle.sqlite.specs.Held.{state}
+use Rattle.kt_store.proofs.Common.{state}
 use Rattle.kt_store.proofs.AttachLemmas.{all_due, look_refuses, create_refuses, create_takes, take_refuses, take_takes}
 use Rattle.kt_store.proofs.FaultLemmas.{if_same}
 use Rattle.kt_store.proofs.attach.settle.Goals as goal

@@ -1,4 +1,4 @@
-use Rattle.sqlite.specs.Held.{state}
+use Rattle.kt_store.proofs.Common.{state}
 use Rattle.kt_store.proofs.AttachLemmas.{number_of, says_of, known_due, look_refuses, look_takes, renew_refuses, renew_takes}
 use Rattle.kt_store.proofs.FaultLemmas.{if_same}
 use Rattle.kt_store.proofs.attach.take.Goals as goal

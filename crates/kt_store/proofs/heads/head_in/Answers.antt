@@ -1,8 +1,5 @@
-use Rattle.std.proofs.Common.{◌≡◌, ◌∙◌, pos, nat_lt, refl, sym, ap}
-use Rattle.std.specs.Prelude.{unsigned_abs}
-use Rattle.sqlite_value.specs.Order.{column}
-use Rattle.sqlite.specs.declared.types.Value.TheVariants.{Int}
-use Rattle.kt_store.specs.Runs.{flag}
+use Rattle.std.proofs.Common.{◌≡◌, ◌∙◌, pos, nat_lt, refl, sym, ap, unsigned_abs}
+use Rattle.kt_store.proofs.Common.{column, Int, flag}
 use Rattle.kt_store.proofs.RunLemmas.{set, flag_read}
 use Rattle.kt_store.proofs.heads.head_in.Goals as goal
 

@@ -1,8 +1,5 @@
 use Rattle.std.proofs.Common.{rules, ◌≡◌, ◌∙◌, ◌<◌, ◌+◌, suc, [], ◌∷◌, ◌++◌, map, take, get_or, length, refl, sym, ap, subst, arith}
-use Rattle.std.proofs.lemmas.List.{length-map}
-use Rattle.kt_base.specs.declared.run.Run.{Run}
-use Rattle.kt_store.specs.Inner.Heads.{head_columns}
-use Rattle.kt_store.specs.Heads.{head_of}
+use Rattle.kt_store.proofs.Common.{length-map, Run, head_columns, head_of}
 use Rattle.kt_store.proofs.EntriesLemmas.{one_sound}
 use Rattle.kt_store.proofs.HeadLemmas.{one_more}
 use Rattle.kt_store.proofs.heads.heads_in.Goals as goal

@@ -1,7 +1,5 @@
 use Rattle.std.proofs.Common.{◌≡◌, List, map, take}
-use Rattle.kt_base.specs.declared.run.Run.{Run}
-use Rattle.kt_store.specs.Inner.Heads.{head_columns}
-use Rattle.kt_store.specs.Heads.{head_of}
+use Rattle.kt_store.proofs.Common.{Run, head_columns, head_of}
 use Rattle.kt_store.proofs.heads.heads_in.Given as goal
 
 abbrev pub invariant-loop-row : goal.invariant-loop-row

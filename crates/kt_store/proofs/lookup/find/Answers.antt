@@ -1,6 +1,5 @@
 use Rattle.std.proofs.Common.{◌∙◌, slice_get, sym, ap}
-use Rattle.std.specs.Option.{option_copied}
-use Rattle.kt_store.specs.Runs.{run_at}
+use Rattle.kt_store.proofs.Common.{option_copied, run_at}
 use Rattle.kt_store.proofs.RunLemmas.{tells_run, none_there, some_there, both_read}
 use Rattle.kt_store.proofs.SqlFacts.{run_is}
 use Rattle.kt_store.proofs.lookup.find.Goals as goal

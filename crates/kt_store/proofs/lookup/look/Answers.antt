@@ -1,5 +1,5 @@
 use Rattle.std.proofs.Common.{◌∙◌, sym, ap}
-use Rattle.kt_store.specs.Runs.{run_at}
+use Rattle.kt_store.proofs.Common.{run_at}
 use Rattle.kt_store.proofs.RunLemmas.{one_found}
 use Rattle.kt_store.proofs.lookup.look.Goals as goal
 

@@ -1,9 +1,5 @@
 use Rattle.std.proofs.Common.{◌∙◌, arith}
-use Rattle.sqlite.specs.Held.{state}
-use Rattle.sqlite.specs.State.{HasCleanDisk}
-use Rattle.sqlite.proofs.StateLemmas.{survives_then}
-use Rattle.kt_store.specs.Inner.Runs.{entries_of}
-use Rattle.kt_store.specs.Runs.{run_at}
+use Rattle.kt_store.proofs.Common.{state, HasCleanDisk, survives_then, entries_of, run_at}
 use Rattle.kt_store.proofs.EntriesLemmas.{sound_of, up_of}
 use Rattle.kt_store.proofs.outlines.all_entries.Goals as goal
 

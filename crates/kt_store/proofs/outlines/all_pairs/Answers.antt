@@ -1,4 +1,4 @@
-use Rattle.sqlite.specs.Held.{state}
+use Rattle.kt_store.proofs.Common.{state}
 use Rattle.kt_store.proofs.SqlFacts.{pairs_select_is}
 use Rattle.kt_store.proofs.PairsLemmas.{tells_pairs}
 use Rattle.kt_store.proofs.outlines.all_pairs.Goals as goal

@@ -1,4 +1,4 @@
-use Rattle.sqlite.specs.Held.{state}
+use Rattle.kt_store.proofs.Common.{state}
 use Rattle.kt_store.proofs.SqlFacts.{outline_select_is}
 use Rattle.kt_store.proofs.EntriesLemmas.{tells_entries}
 use Rattle.kt_store.proofs.outlines.all_rows.Goals as goal

@@ -1,11 +1,5 @@
 use Rattle.std.proofs.Common.{rules, pos, ◌≡◌, ◌∙◌, ◌<◌, ◌+◌, suc, [], ◌∷◌, ◌++◌, map, take, drop, get_or, length, sym, ap, subst, arith}
-use Rattle.std.proofs.lemmas.List.{length-map, map-append, take_all}
-use Rattle.kt_base.specs.declared.entry.Entry.{Entry}
-use Rattle.sqlite.specs.Order.{Row}
-use Rattle.sqlite_value.specs.Order.{column}
-use Rattle.sqlite.specs.declared.types.Value.TheVariants.{Int}
-use Rattle.kt_store.specs.Heads.{without_outputs}
-use Rattle.kt_store.specs.Inner.Heads.{entry_columns, pair_columns, pairs_shown}
+use Rattle.kt_store.proofs.Common.{length-map, map-append, take_all, Entry, Row, column, Int, without_outputs, entry_columns, pair_columns, pairs_shown}
 use Rattle.kt_store.proofs.EntriesLemmas.{one_sound}
 use Rattle.kt_store.proofs.MergeLemmas.{Later, at, entry_position}
 use Rattle.kt_store.proofs.outlines.entries_in.Goals as goal

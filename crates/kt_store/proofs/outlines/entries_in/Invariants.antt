@@ -1,10 +1,5 @@
 use Rattle.std.proofs.Common.{◌≡◌, ◌<◌, List, map, take, drop}
-use Rattle.kt_base.specs.declared.entry.Entry.{Entry}
-use Rattle.std.specs.List.{AllByRecursion}
-use Rattle.sqlite_trees.specs.Tree.{IsAscending}
-use Rattle.kt_store.specs.Runs.{IsEntry}
-use Rattle.kt_store.specs.Heads.{without_outputs}
-use Rattle.kt_store.specs.Inner.Heads.{entry_columns, pairs_shown}
+use Rattle.kt_store.proofs.Common.{Entry, AllByRecursion, IsAscending, IsEntry, without_outputs, entry_columns, pairs_shown}
 use Rattle.kt_store.proofs.outlines.entries_in.Given as goal
 
 abbrev pub invariant-loop-row : goal.invariant-loop-row

@@ -1,7 +1,5 @@
 use Rattle.std.proofs.Common.{◌≡◌, ◌∙◌, pos, refl, sym, ap}
-use Rattle.sqlite_value.specs.Order.{column}
-use Rattle.kt_store.specs.Runs.{kind_code}
-use Rattle.sqlite.specs.declared.types.Value.TheVariants.{Int}
+use Rattle.kt_store.proofs.Common.{column, kind_code, Int}
 use Rattle.kt_store.proofs.outlines.entry_in.Goals as goal
 
 pub returns-clause-entry : goal.returns-clause-entry

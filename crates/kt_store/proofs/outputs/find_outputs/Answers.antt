@@ -1,7 +1,5 @@
-use Rattle.std.specs.Option.{option_copied}
 use Rattle.std.proofs.Common.{◌∙◌, ℕ, inr, slice_get, refl, sym, ap}
-use Rattle.kt_store.specs.Heads.{entry_at}
-use Rattle.kt_store.specs.Runs.{run_at}
+use Rattle.kt_store.proofs.Common.{option_copied, entry_at, run_at}
 use Rattle.kt_store.proofs.OutputsLemmas.{outputs_there, no_outputs, no_entry}
 use Rattle.kt_store.proofs.outputs.find_outputs.Goals as goal
 

@@ -1,4 +1,4 @@
-use Rattle.sqlite.specs.Held.{state}
+use Rattle.kt_store.proofs.Common.{state}
 use Rattle.kt_store.proofs.SqlFacts.{outputs_select_is}
 use Rattle.kt_store.proofs.OutputsLemmas.{tells_outputs}
 use Rattle.kt_store.proofs.outputs.output_rows.Goals as goal

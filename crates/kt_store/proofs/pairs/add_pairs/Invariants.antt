@@ -1,5 +1,5 @@
 use Rattle.std.proofs.Common.{◌≡◌, ◌+◌, length}
-use Rattle.kt_store.specs.Inner.Calls.{pair_statements}
+use Rattle.kt_store.proofs.Common.{pair_statements}
 use Rattle.kt_store.proofs.TurnLemmas.{SoFar}
 use Rattle.kt_store.proofs.pairs.add_pairs.Given as goal
 

@@ -1,5 +1,5 @@
 use Rattle.std.proofs.Common.{◌≡◌, ◌+◌, drop}
-use Rattle.kt_store.specs.Inner.Calls.{single_statements}
+use Rattle.kt_store.proofs.Common.{single_statements}
 use Rattle.kt_store.proofs.TurnLemmas.{SoFar}
 use Rattle.kt_store.proofs.pairs.add_singly.Given as goal
 

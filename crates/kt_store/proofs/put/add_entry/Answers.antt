@@ -1,6 +1,5 @@
 use Rattle.std.proofs.Common.{arith}
-use Rattle.kt_store.specs.Inner.Calls.{entry_statements}
-use Rattle.kt_store.specs.Runs.{Tables, with_entry}
+use Rattle.kt_store.proofs.Common.{entry_statements, Tables, with_entry}
 use Rattle.kt_store.proofs.CommitLemmas.{undone_holds, commit_stands, commit_lasts, commit_crash}
 use Rattle.kt_store.proofs.FaultLemmas.{on_err}
 use Rattle.kt_store.proofs.FillLemmas.{entry_made}
@@ -15,15 +14,15 @@ returns-in_err-commit-clause-crash g c runs has fits =
     commit_crash g.S.Store (entry_statements c.args.run c.args.entry.now) c.args.conn.now c.commit.new.conn (with_entry c.args.run c.args.entry.now runs) c.commit.ensures.crash (entry_made g.S.Store runs c.args.entry.now c.args.run c.args.conn.now has fits)
 
 pub returns-clause-added : goal.returns-clause-added
-returns-clause-added g c runs has fits =
-    commit_stands g.S.Store (entry_statements c.args.run c.args.entry.now) c.args.conn.now c.commit.new.conn (with_entry c.args.run c.args.entry.now runs) c.commit.ensures.crash (entry_made g.S.Store runs c.args.entry.now c.args.run c.args.conn.now has fits)
-    (λ clean. c.in_ok-commit.ensures.done clean)
+returns-clause-added g c = record {
+  stands = λ runs has fits.
+      commit_stands g.S.Store (entry_statements c.args.run c.args.entry.now) c.args.conn.now c.commit.new.conn (with_entry c.args.run c.args.entry.now runs) c.commit.ensures.crash (entry_made g.S.Store runs c.args.entry.now c.args.run c.args.conn.now has fits)
+      (λ clean. c.in_ok-commit.ensures.done clean);
+  lasts = λ runs has fits.
+      commit_lasts g.S.Store (entry_statements c.args.run c.args.entry.now) c.args.conn.now c.commit.new.conn (with_entry c.args.run c.args.entry.now runs) c.commit.ensures.crash (entry_made g.S.Store runs c.args.entry.now c.args.run c.args.conn.now has fits)
+      (λ db opened may. g.met.S.Store.settled c.commit.new.conn.store db opened may) (λ clean. c.in_ok-commit.ensures.done clean);
+}
 
 pub returns-clause-crash : goal.returns-clause-crash
 returns-clause-crash g c runs has fits =
     commit_crash g.S.Store (entry_statements c.args.run c.args.entry.now) c.args.conn.now c.commit.new.conn (with_entry c.args.run c.args.entry.now runs) c.commit.ensures.crash (entry_made g.S.Store runs c.args.entry.now c.args.run c.args.conn.now has fits)
-
-pub returns-clause-durable : goal.returns-clause-durable
-returns-clause-durable g c runs has fits =
-    commit_lasts g.S.Store (entry_statements c.args.run c.args.entry.now) c.args.conn.now c.commit.new.conn (with_entry c.args.run c.args.entry.now runs) c.commit.ensures.crash (entry_made g.S.Store runs c.args.entry.now c.args.run c.args.conn.now has fits)
-    (λ db opened may. g.met.S.Store.settled c.commit.new.conn.store db opened may) (λ clean. c.in_ok-commit.ensures.done clean)

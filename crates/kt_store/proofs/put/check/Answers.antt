@@ -1,6 +1,5 @@
 use Rattle.std.proofs.Common.{inr, ◌∙◌, sym, arith}
-use Rattle.sqlite.specs.Held.{state}
-use Rattle.sqlite.specs.State.{HasCleanDisk}
+use Rattle.kt_store.proofs.Common.{state, HasCleanDisk}
 use Rattle.kt_store.proofs.ServeLemmas.{reads_then}
 use Rattle.kt_store.proofs.TakesLemmas.{refused_closed, refused_past, refused_repeated, taken}
 use Rattle.kt_store.proofs.put.check.Goals as goal
@@ -23,11 +22,11 @@ returns-then-branch-clause-refused g c runs has clean =
     inr (refused_repeated runs c.args.run c.args.entry.now it.0 it.1 (sym it.3 ∙ c.if-finished.false) (omega (arith, c.if-from-total.false, c.from.ensures, it.2)) (sym (c.in_ok-there.ensures.found runs stands clean) ∙ c.if-branch.true))
 
 pub returns-clause-taken : goal.returns-clause-taken
-returns-clause-taken g c runs has clean sound =
+returns-clause-taken g c runs has clean passed =
     let stands = c.look.ensures.stands runs has in
     let early : HasCleanDisk (state g.S.Store c.look.new.conn) = omega (arith, clean, (c.there.ensures.crash runs stands).clean) in
     let it = c.in_ok-total.ensures.found runs has early in
-    taken runs c.args.run c.args.entry.now it.0 it.1 (sym it.3 ∙ c.if-finished.false) (omega (arith, c.if-from-total.false, c.from.ensures, it.2)) sound it.4 (sym (c.in_ok-there.ensures.found runs stands clean) ∙ c.if-branch.false)
+    taken runs c.args.run c.args.entry.now it.0 it.1 (sym it.3 ∙ c.if-finished.false) (omega (arith, c.if-from-total.false, c.from.ensures, it.2)) passed it.4 (sym (c.in_ok-there.ensures.found runs stands clean) ∙ c.if-branch.false)
 
 pub returns-in_err-there-clause-stands : goal.returns-in_err-there-clause-stands
 returns-in_err-there-clause-stands g c runs has = c.there.ensures.stands runs (c.look.ensures.stands runs has)

@@ -1,6 +1,5 @@
 use Rattle.std.proofs.Common.{rules, ◌≡◌, ◌++◌, List, [], ◌∷◌, sym, ap, ◌∙◌, append_assoc}
-use Rattle.kt_base.specs.declared.entry.Entry.{Entry}
-use Rattle.kt_store.specs.Runs.{run_at}
+use Rattle.kt_store.proofs.Common.{Entry, run_at}
 use Rattle.kt_store.proofs.WholeEntries.{first_of}
 use Rattle.kt_store.proofs.whole.all_with_outputs.Goals as goal
 

@@ -1,9 +1,5 @@
 use Rattle.std.proofs.Common.{◌≡◌, ◌++◌, List, map}
-use Rattle.kt_base.specs.declared.entry.Entry.{Entry}
-use Rattle.kt_base.specs.declared.run.Run.{Run}
-use Rattle.kt_store.specs.Heads.{without_outputs}
-use Rattle.kt_store.specs.Inner.Whole.{AreAt}
-use Rattle.kt_store.specs.Runs.{run_at}
+use Rattle.kt_store.proofs.Common.{Entry, Run, without_outputs, AreAt, run_at}
 use Rattle.kt_store.proofs.whole.all_with_outputs.Given as goal
 
 -- the store stands for the same runs, and the entries so far, and those of the rest, are the run's

@@ -1,9 +1,5 @@
 use Rattle.std.proofs.Common.{◌<◌, Option, subst}
-use Rattle.sqlite_trees.specs.Tree.{IsAscending}
-use Rattle.kt_base.specs.declared.entry.Entry.{Entry}
-use Rattle.kt_base.specs.declared.run.Run.{Run}
-use Rattle.kt_store.specs.Inner.Runs.{entries_of}
-use Rattle.kt_store.specs.Runs.{run_at}
+use Rattle.kt_store.proofs.Common.{IsAscending, Entry, Run, entries_of, run_at}
 use Rattle.kt_store.proofs.EntriesLemmas.{up_of}
 use Rattle.kt_store.proofs.WholeEntries.{are_at}
 use Rattle.kt_store.proofs.whole.entries.Goals as goal

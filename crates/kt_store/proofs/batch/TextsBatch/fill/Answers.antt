@@ -1,5 +1,5 @@
 use Rattle.std.proofs.Common.{◌∙◌, ◌+◌, [], drop, map, subst}
-use Rattle.kt_store.specs.Inner.Calls.{plain_statements}
+use Rattle.kt_store.proofs.Common.{plain_statements}
 use Rattle.kt_store.proofs.TurnLemmas.{SoFar, one_done, texts_at}
 use Rattle.kt_store.proofs.batch.TextsBatch.fill.Goals as goal
 
@@ -11,5 +11,5 @@ loop-text-preserved g c =
     let rest = plain_statements (map (λ sql. sql.now) (drop (i + 1) vs)) in
     let so_far = subst (λ l. SoFar g.S.Store all l c.args.tx.now.conn.now c.loop-text.tx.conn.now) (texts_at (λ sql. sql.now) i vs _ c.loop-text-test.true) c.loop-text.invariant.1 in (
       c.step.ensures.same_reference ∙ c.loop-text.invariant.0,
-      one_done g.S.Store all rest (_, []) c.args.tx.now.conn.now c.loop-text.tx.conn.now c.step.new.tx.conn.now so_far c.step.ensures.survives (λ clean. c.step.ensures.keeps clean) (λ clean inside. c.in_ok-step.ensures.runs clean inside),
+      one_done g.S.Store all rest (_, [], []) c.args.tx.now.conn.now c.loop-text.tx.conn.now c.step.new.tx.conn.now so_far c.step.ensures.uncommitted (λ clean inside. c.in_ok-step.ensures.runs clean inside),
     )

@@ -1,5 +1,5 @@
 use Rattle.std.proofs.Common.{◌≡◌, drop, map}
-use Rattle.kt_store.specs.Inner.Calls.{plain_statements}
+use Rattle.kt_store.proofs.Common.{plain_statements}
 use Rattle.kt_store.proofs.TurnLemmas.{SoFar}
 use Rattle.kt_store.proofs.batch.TextsBatch.fill.Given as goal
 

@@ -1,7 +1,5 @@
-use Rattle.std.specs.Prelude.{Ok, Err}
-use Rattle.std.proofs.Common.{inl, inr, refl}
-use Rattle.kt_store.specs.StoreCalls.{Began}
-use Rattle.kt_store.specs.declared.store_fault.StoreFault.TheVariants.{StoreFull}
+use Rattle.std.proofs.Common.{Ok, Err, inl, inr, refl}
+use Rattle.kt_store.proofs.Common.{Began, StoreFull}
 use Rattle.kt_store.proofs.ServeLemmas.{failed_at, seen_at, begin_refused, begin_done, begin_failed}
 use Rattle.kt_store.proofs.results.ResultsResultStore.begin.Goals as goal
 
@@ -23,5 +21,5 @@ returns-in_err-number g c =
 pub returns : goal.returns
 returns g c =
     seen_at g.S.Store (Began c.args.total c.args.moment (Ok c.in_ok-number.number)) c.self.inside.conn c.args.self.now c.add_run.new.conn c.self.view_is
-    (begin_done g.S.Store c.self.inside.conn c.is_full.new.conn c.add_run.new.conn c.is_full.ensures.stands c.is_full.ensures.crash c.args.total c.args.moment (λ runs has clean. (c.in_ok-is_full.ensures.full runs has clean).1 c.if-branch.false) c.add_run.ensures.crash c.in_ok-number.number c.in_ok-number.ensures.added c.in_ok-number.ensures.durable
+    (begin_done g.S.Store c.self.inside.conn c.is_full.new.conn c.add_run.new.conn c.is_full.ensures.stands c.is_full.ensures.crash c.args.total c.args.moment (λ runs has clean. (c.in_ok-is_full.ensures.full runs has clean).1 c.if-branch.false) c.add_run.ensures.crash c.in_ok-number.number c.in_ok-number.ensures.added
     (λ runs has clean. c.in_ok-number.ensures.number runs (c.is_full.ensures.stands runs has) (λ k. (c.in_ok-is_full.ensures.full runs has k).1 c.if-branch.false) clean))

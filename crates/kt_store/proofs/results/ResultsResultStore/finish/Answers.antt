@@ -1,6 +1,5 @@
-use Rattle.std.specs.Prelude.{Ok}
-use Rattle.kt_store.specs.StoreCalls.{Finished}
-use Rattle.kt_store.specs.Inner.Runs.{IsComplete}
+use Rattle.std.proofs.Common.{Ok}
+use Rattle.kt_store.proofs.Common.{Finished, IsComplete}
 use Rattle.kt_store.proofs.ServeLemmas.{failed_at, seen_at, finish_refused, finish_done, finish_failed}
 use Rattle.kt_store.proofs.results.ResultsResultStore.finish.Goals as goal
 
@@ -17,4 +16,4 @@ returns-in_err-mark g c =
 pub returns : goal.returns
 returns g c =
     seen_at g.S.Store (Finished c.args.run (Ok tt)) c.self.inside.conn c.args.self.now c.mark.new.conn c.self.view_is
-    (finish_done g.S.Store c.self.inside.conn c.check.new.conn c.mark.new.conn c.check.ensures.stands c.check.ensures.crash c.args.run (IsComplete c.args.run) (λ runs has clean. c.in_ok-check.ensures.taken runs has clean) c.mark.ensures.crash c.in_ok-mark.ensures.marked c.in_ok-mark.ensures.durable)
+    (finish_done g.S.Store c.self.inside.conn c.check.new.conn c.mark.new.conn c.check.ensures.stands c.check.ensures.crash c.args.run (IsComplete c.args.run) (λ runs has clean. c.in_ok-check.ensures.taken runs has clean) c.mark.ensures.crash c.in_ok-mark.ensures.marked)

@@ -1,10 +1,5 @@
-use Rattle.std.specs.Prelude.{Ok}
-use Rattle.std.proofs.Common.{◌∙◌, inl, map, ap, arith}
-use Rattle.sqlite.specs.Held.{state}
-use Rattle.sqlite.specs.State.{HasCleanDisk}
-use Rattle.kt_store.specs.Heads.{without_outputs}
-use Rattle.kt_store.specs.Inner.Runs.{entries_of}
-use Rattle.kt_store.specs.StoreCalls.{Outline, seen_as}
+use Rattle.std.proofs.Common.{Ok, ◌∙◌, inl, map, ap, arith}
+use Rattle.kt_store.proofs.Common.{state, HasCleanDisk, without_outputs, entries_of, Outline, seen_as}
 use Rattle.kt_store.proofs.ServeLemmas.{failed_at, seen_at, keeps_then, reads_then, outline_read}
 use Rattle.kt_store.proofs.results.ResultsResultStore.outline.Goals as goal
 

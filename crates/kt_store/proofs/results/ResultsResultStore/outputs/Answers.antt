@@ -1,5 +1,5 @@
-use Rattle.std.specs.Prelude.{Ok}
-use Rattle.kt_store.specs.StoreCalls.{Outputs}
+use Rattle.std.proofs.Common.{Ok}
+use Rattle.kt_store.proofs.Common.{Outputs}
 use Rattle.kt_store.proofs.ServeLemmas.{failed_at, seen_at, outputs_read}
 use Rattle.kt_store.proofs.results.ResultsResultStore.outputs.Goals as goal
 

@@ -1,5 +1,5 @@
-use Rattle.std.specs.Prelude.{Ok}
-use Rattle.kt_store.specs.StoreCalls.{Heads, seen_as}
+use Rattle.std.proofs.Common.{Ok}
+use Rattle.kt_store.proofs.Common.{Heads, seen_as}
 use Rattle.kt_store.proofs.ServeLemmas.{failed_at, seen_at, heads_read}
 use Rattle.kt_store.proofs.results.ResultsResultStore.runs.Goals as goal
 

@@ -1,0 +1,33 @@
+use Rattle.std.proofs.Common.{◌∙◌, ◌++◌, ◌∷◌, [], w64, SFits, rules, ap, arith, unsigned_abs}
+use Rattle.kt_store.proofs.Common.{to_z-of_z, state, survives_weaker, Keeps, new_run}
+use Rattle.kt_store.proofs.BeginLemmas.{told_begin, crash_begin, leaves_commit}
+use Rattle.kt_store.proofs.run_rows.add_run.Goals as goal
+
+pub returns-in_err-tell-clause-crash : goal.returns-in_err-tell-clause-crash
+returns-in_err-tell-clause-crash g c runs has room =
+    survives_weaker (state g.S.Store c.args.conn.now) (state g.S.Store c.tell.new.conn) _ (Keeps (runs ++ new_run runs c.args.total c.args.moment ∷ []))
+    (crash_begin g.S.Store c.args.conn.now c.tell.new.conn runs c.args.total c.args.moment has room (omega (arith, c.ranges.total.fits)) (λ k. omega (arith, k, c.tell.ensures.survives.clean)))
+    (rw (c.int.ensures, c.int-2.ensures, c.from.ensures) at c.tell.ensures.survives)
+
+pub returns-clause-number : goal.returns-clause-number
+returns-clause-number g c runs has room clean =
+    let done = told_begin g.S.Store c.args.conn.now c.tell.new.conn runs c.args.total c.args.moment has room (omega (arith, c.ranges.total.fits)) (λ k. omega (arith, k, c.tell.ensures.survives.clean)) clean
+    (rw (c.int.ensures, c.int-2.ensures, c.from.ensures) at (c.in_ok-tell.ensures.told clean)) in
+    c.magnitude.ensures ∙ ap unsigned_abs (to_z-of_z w64 c.last_insert_rowid.result (let fits : SFits w64 c.last_insert_rowid.result = search rules in fits) ∙ c.last_insert_rowid.ensures ∙ done.1)
+
+pub returns-clause-added : goal.returns-clause-added
+returns-clause-added g c = record {
+  stands = λ runs has room clean opened.
+      (told_begin g.S.Store c.args.conn.now c.tell.new.conn runs c.args.total c.args.moment has room (omega (arith, c.ranges.total.fits)) (λ k. omega (arith, k, c.tell.ensures.survives.clean)) clean
+      (rw (c.int.ensures, c.int-2.ensures, c.from.ensures) at (c.in_ok-tell.ensures.told clean))).0;
+  lasts = λ runs has room clean.
+      let done = told_begin g.S.Store c.args.conn.now c.tell.new.conn runs c.args.total c.args.moment has room (omega (arith, c.ranges.total.fits)) (λ k. omega (arith, k, c.tell.ensures.survives.clean)) clean
+      (rw (c.int.ensures, c.int-2.ensures, c.from.ensures) at (c.in_ok-tell.ensures.told clean)) in
+      leaves_commit g.S.Store c.tell.new.conn (runs ++ new_run runs c.args.total c.args.moment ∷ []) (λ db opened may. g.met.S.Store.settled c.tell.new.conn.store db opened may) done.2 done.0 done.3 clean;
+}
+
+pub returns-clause-crash : goal.returns-clause-crash
+returns-clause-crash g c runs has room =
+    survives_weaker (state g.S.Store c.args.conn.now) (state g.S.Store c.tell.new.conn) _ (Keeps (runs ++ new_run runs c.args.total c.args.moment ∷ []))
+    (crash_begin g.S.Store c.args.conn.now c.tell.new.conn runs c.args.total c.args.moment has room (omega (arith, c.ranges.total.fits)) (λ k. omega (arith, k, c.tell.ensures.survives.clean)))
+    (rw (c.int.ensures, c.int-2.ensures, c.from.ensures) at c.tell.ensures.survives)

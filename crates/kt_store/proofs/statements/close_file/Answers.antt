@@ -1,4 +1,0 @@
-use Rattle.kt_store.proofs.statements.close_file.Goals as goal
-
-pub returns-in-Ok-clause-closed : goal.returns-in-Ok-clause-closed
-returns-in-Ok-clause-closed g c = (c.in-Ok._files, c.in-Ok.ensures.copied)

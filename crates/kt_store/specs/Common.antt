@@ -1,0 +1,35 @@
+-- The words that the clauses of this crate cite, passed on from one place. Declares nothing.
+pub use Rattle.std.specs.List.{AllByRecursion, filter}
+pub use Rattle.kt_base.specs.Limits.{last_run}
+pub use Rattle.kt_base.specs.Moments.{IsMoment, IsStorable}
+pub use Rattle.kt_base.specs.Utf8.{utf8}
+pub use Rattle.kt_base.specs.declared.entry.Entry.{Entry}
+pub use Rattle.kt_base.specs.declared.entry.Run.{Run}
+pub use Rattle.sqlite.specs.Given.{IsPlain}
+pub use Rattle.sqlite.specs.Held.{Held, state}
+pub use Rattle.sqlite.specs.Listing.{understood}
+pub use Rattle.sqlite.specs.State.{HasCleanDisk, IsLive, IsUnchanged, Survives}
+pub use Rattle.sqlite.specs.Values.{bound}
+pub use Rattle.sqlite_trees.specs.Tree.{IsAscending}
+pub use Rattle.sqlite_value.specs.Order.{column}
+pub use Rattle.sqlite_value.specs.Value.{owned}
+pub use Rattle.sqlite_value.specs.declared.value.Value.TheVariants.{Blob, Int}
+pub use Rattle.sqlite_wal.specs.Files.{image_at}
+pub use Rattle.kt_store.specs.Ask.{IsNoMemory, IsStoreFault, Rests}
+pub use Rattle.kt_store.specs.Attaching.{Blank, IsOf, Older, Refuses, Takes}
+pub use Rattle.kt_store.specs.Files.{AreOver, IsClosed, IsOver}
+pub use Rattle.kt_store.specs.Heads.{entry_at, head_of, no_output, outputs_of, without_outputs}
+pub use Rattle.kt_store.specs.Inner.Ask.{Asked, MayShow, MayTell, ShowsOf, Told}
+pub use Rattle.kt_store.specs.Inner.Attaching.{HasNumber}
+pub use Rattle.kt_store.specs.Inner.Calls.{Statement, entry_statements, five_statement, pair_statement, pair_statements, plain_statements, single_statements}
+pub use Rattle.kt_store.specs.Inner.Fault.{Tells}
+pub use Rattle.kt_store.specs.Inner.Heads.{entry_columns, head_columns, output_columns, pair_columns, pairs_shown}
+pub use Rattle.kt_store.specs.Inner.Kept.{AsksNumber, Changes, CommitsNothing, FindsTables, KeepsRuns, LeavesSchema, MayChange, OnlyReads, WasClean}
+pub use Rattle.kt_store.specs.Inner.Runs.{CanAdd, IsBareIfPassed, IsComplete, entries_of}
+pub use Rattle.kt_store.specs.Inner.Transactions.{Commits, CommitsLater, MayCommit, RunsAll, RunsOne, Undoes}
+pub use Rattle.kt_store.specs.Inner.Whole.{AreAt}
+pub use Rattle.kt_store.specs.Runs.{AreNumbered, AreRuns, IsEntry, IsPair, IsText, Keeps, KeepsOne, finish, finish_refusal, flag, has_position, kind_code, new_run, put_refusal, run_at, with_entry}
+pub use Rattle.kt_store.specs.Serving.{Serves}
+pub use Rattle.kt_store.specs.Stands.{IsUnderstood, Leaves, SaysSchema, StandsFor}
+pub use Rattle.kt_store.specs.StoreCalls.{Began, Finished, Heads, Outline, Outputs, Put, seen_as}
+pub use Rattle.kt_store.specs.Tables.{entries_text, pairs_text, runs_text, schema_2}

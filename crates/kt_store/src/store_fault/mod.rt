@@ -1,0 +1,52 @@
+//! Why a call of the store is refused, and the statements that SQLite is asked for.
+
+pub(crate) mod statements;
+
+use thiserror::Error;
+
+/// Why a call of the store is refused. `Display` is the text of the fault line (this profile).
+#[derive(Clone, Copy, Debug, PartialEq, Eq, Error)]
+pub enum StoreFault {
+    #[error("out of memory")]
+    NoMemory(Shortage),
+    #[error("results store failed")]
+    Store(FailedStatement),
+    /// No run has this number.
+    #[error("results store failed")]
+    NoRun,
+    /// The run is finished.
+    #[error("results store failed")]
+    RunClosed,
+    /// The run has an entry with this position.
+    #[error("results store failed")]
+    RepeatedPosition,
+    /// There are 1,000,000 runs, as many as this profile keeps.
+    #[error("results store failed")]
+    StoreFull,
+    /// The tables say another number than that of this profile's schema.
+    #[error("results store failed")]
+    UnknownSchema,
+    /// The position is not below the total of the run.
+    #[error("results store failed")]
+    BadPosition,
+    /// The run has fewer entries than its total.
+    #[error("results store failed")]
+    Incomplete,
+}
+
+/// Memory ran out. Only a refusal of the allocator, or of SQLite, makes this value.
+#[derive(Clone, Copy, Debug, PartialEq, Eq)]
+pub struct Shortage {
+    refusal: Refusal,
+}
+
+/// A statement failed, a value of a row could not be read, or the file could not be opened or closed. Only the
+/// functions of `statements` make this value, of an error of SQLite.
+#[derive(Clone, Copy, Debug, PartialEq, Eq)]
+pub struct FailedStatement {
+    refusal: Refusal,
+}
+
+/// A type of this module and of `statements`, so that no other can write the two above.
+#[derive(Clone, Copy, Debug, PartialEq, Eq)]
+struct Refusal;

@@ -1,0 +1,219 @@
+ghost use Rattle.std.specs.Prelude.{◌≡◌, ◌<◌, ◌≤◌, IfOk, OnOk, OnErr, IfErr, nat_lt, length, []};
+ghost use Rattle.kt_store.specs.Common.{bound, IsPlain, understood, HasCleanDisk, Survives, IsUnchanged, state, column, Tells, CommitsNothing, KeepsRuns, OnlyReads, Asked, MayShow, MayTell, ShowsOf, Told, Commits, CommitsLater, MayCommit, RunsOne, Undoes, Rests, IsNoMemory, IsStoreFault, image_at, IsOver, IsClosed, IsUnderstood, StandsFor, schema_2};
+
+use crate::StoreFault;
+use crate::batch::Batch;
+use crate::store_fault::{FailedStatement, Refusal, Shortage};
+use kt_base::{NoMemory, Text};
+use sqlite::types::FromSql;
+use sqlite::{
+    Alter, Connection, Error as SqlError, ErrorCode, FileFrom, FileStore, Row, Start, Transaction,
+};
+use sqlite_value::value::ValueRef;
+
+impl From<NoMemory> for StoreFault {
+    ghost from_gives = { λ _ fault. IsNoMemory fault };
+
+    fn from(_refusal: NoMemory) -> StoreFault {
+        StoreFault::NoMemory(Shortage { refusal: Refusal })
+    }
+}
+
+/// The fault that an error of SQLite is.
+fn fault_of(error: SqlError) -> StoreFault
+    ensures { Tells error result }
+{
+    match error {
+        SqlError::SqliteFailure(ErrorCode::OutOfMemory) => {
+            StoreFault::NoMemory(Shortage { refusal: Refusal })
+        }
+        _ => StoreFault::Store(FailedStatement { refusal: Refusal }),
+    }
+}
+
+/// A value of a row.
+pub(crate) fn value_in<T: FromSql>(row: &Row, at: usize) -> Result<T, StoreFault>
+    ensures value { IfOk result (λ x. (at < length row.now)
+        × T.FromSql.reads_as (column row.now at) x) }
+    ensures read { at < length row.now → T.FromSql.is_readable (column row.now at)
+        → IfErr result IsNoMemory }
+    ensures failed { IfErr result IsStoreFault }
+{
+    match row.get::<T>(at) {
+        Ok(value) => Ok(value),
+        Err(error) => Err(fault_of(error)),
+    }
+}
+
+/// The fault of a number that should be that of a kind, and is too large.
+pub(crate) fn out_of_range(_code: u64) -> StoreFault
+    requires { 5 ≤ _code }
+    ensures { IsStoreFault result }
+{
+    fault_of(SqlError::IntegralValueOutOfRange(3))
+}
+
+/// Asks whether the connection is open, and its tables those of a statement.
+pub(crate) fn probe<S: Alter>(conn: &mut Connection<S>, sql: &str) -> Result<(), StoreFault>
+    ensures same { HasCleanDisk (state S.Store conn.new)
+        → OnOk result (IsUnchanged (state S.Store conn.old) (state S.Store conn.new)) }
+    ensures rests { HasCleanDisk (state S.Store conn.new)
+        → OnErr result (Rests (state S.Store conn.old) (state S.Store conn.new)) }
+    ensures failed { IfErr result IsStoreFault }
+    ensures understood { HasCleanDisk (state S.Store conn.new)
+        → OnOk result (IsUnderstood (state S.Store conn.old) sql.now) }
+    ensures survives { CommitsNothing S.Store conn.old conn.new }
+{
+    match conn.prepare(sql) {
+        Ok(_statement) => Ok(()),
+        Err(error) => Err(fault_of(error)),
+    }
+}
+
+/// All rows of a query. It is prepared first, so that a connection which is shut is not asked.
+pub(crate) fn ask<S: Alter>(
+    conn: &mut Connection<S>,
+    sql: &str,
+    params: &[ValueRef<'_>],
+) -> Result<Vec<Row>, StoreFault>
+    ensures rows { HasCleanDisk (state S.Store conn.new)
+        → IfOk result (λ rows. Asked S.Store sql.now
+        (bound params.now) conn.old conn.new rows.items) }
+    ensures rests { HasCleanDisk (state S.Store conn.new)
+        → OnErr result (Rests (state S.Store conn.old) (state S.Store conn.new)) }
+    ensures failed { IfErr result IsStoreFault }
+    ensures survives { Survives (state S.Store conn.old) (state S.Store conn.new)
+        (MayShow S.Store sql.now (bound params.now) conn.old) }
+{
+    let statement = match conn.prepare(sql) {
+        Ok(statement) => statement,
+        Err(error) => return Err(fault_of(error)),
+    };
+    match statement.query_all(conn, params) {
+        Ok(rows) => Ok(rows),
+        Err(error) => Err(fault_of(error)),
+    }
+}
+
+/// All rows of a query over the tables of a store, which stay as they are.
+pub(crate) fn query<S: Alter>(
+    conn: &mut Connection<S>,
+    sql: &str,
+    params: &[ValueRef<'_>],
+) -> Result<Vec<Row>, StoreFault>
+    requires { IsPlain (understood schema_2 sql.now) }
+    ensures shown { (runs : _) → StandsFor (state S.Store conn.old) runs
+        → HasCleanDisk (state S.Store conn.new)
+        → IfOk result (λ rows. ShowsOf S.Store runs sql.now (bound params.now)
+        conn.new rows.items) }
+    ensures stands { KeepsRuns S.Store conn.old conn.new }
+    ensures failed { IfErr result IsStoreFault }
+    ensures crash { OnlyReads S.Store conn.old conn.new }
+{
+    let rows = ask(conn, sql, params)?;
+    Ok(rows)
+}
+
+/// Runs a statement that is no query.
+pub(crate) fn tell<S: Alter>(
+    conn: &mut Connection<S>,
+    sql: &str,
+    params: &[ValueRef<'_>],
+) -> Result<(), StoreFault>
+    ensures told { HasCleanDisk (state S.Store conn.new)
+        → OnOk result (Told S.Store sql.now (bound params.now) conn.old conn.new) }
+    ensures rests { HasCleanDisk (state S.Store conn.new)
+        → OnErr result (Rests (state S.Store conn.old) (state S.Store conn.new)) }
+    ensures failed { IfErr result IsStoreFault }
+    ensures survives { Survives (state S.Store conn.old) (state S.Store conn.new)
+        (MayTell S.Store sql.now (bound params.now) conn.old) }
+{
+    let statement = match conn.prepare(sql) {
+        Ok(statement) => statement,
+        Err(error) => return Err(fault_of(error)),
+    };
+    match statement.execute(conn, params) {
+        Ok(_count) => Ok(()),
+        Err(error) => Err(fault_of(error)),
+    }
+}
+
+/// Runs a statement of a transaction.
+pub(crate) fn step<S: Alter>(
+    tx: &mut Transaction<'_, S>,
+    sql: &str,
+    params: &[ValueRef<'_>],
+) -> Result<(), StoreFault>
+    ensures same_reference { tx.new.conn.ghost_name ≡ tx.old.conn.ghost_name }
+    ensures runs { OnOk result (RunsOne S.Store (sql.now, bound params.now, [])
+        tx.old.conn.now tx.new.conn.now) }
+    ensures uncommitted { CommitsLater S.Store tx.old.conn.now tx.new.conn.now }
+    ensures failed { IfErr result IsStoreFault }
+{
+    match tx.execute(sql, params) {
+        Ok(_count) => Ok(()),
+        Err(error) => Err(fault_of(error)),
+    }
+}
+
+/// Runs statements in one transaction, and commits them. A connection that is in a transaction is refused.
+pub(crate) fn commit<S: Alter, B: Batch>(
+    conn: &mut Connection<S>,
+    batch: &B,
+) -> Result<(), StoreFault>
+    requires { B.is_ready batch.now }
+    ensures done { HasCleanDisk (state S.Store conn.new)
+        → OnOk result (Commits S.Store (B.statements batch.now) conn.old conn.new) }
+    ensures undone { HasCleanDisk (state S.Store conn.new)
+        → OnErr result (Undoes S.Store conn.old conn.new) }
+    ensures failed { IfErr result IsStoreFault }
+    ensures crash { Survives (state S.Store conn.old) (state S.Store conn.new)
+        (MayCommit S.Store (B.statements batch.now) conn.old) }
+{
+    if !conn.is_autocommit() {
+        return Err(fault_of(SqlError::SqliteFailure(ErrorCode::TransactionState)));
+    }
+    let mut tx = conn.transaction();
+    batch.fill(&mut tx)?;
+    match tx.commit() {
+        Ok(()) => Ok(()),
+        Err(error) => Err(fault_of(error)),
+    }
+}
+
+/// Opens the database in a file, which is made where there is none.
+pub(crate) fn open_file<S: Start>(
+    rt: &HostRuntime,
+    file: &Text,
+    start: S,
+) -> Result<Connection<FileStore<FileFrom<S>>>, StoreFault>
+    ensures opened { IfOk result (IsOver (image_at S.Start)) }
+    ensures failed { IfErr result IsStoreFault }
+{
+    match Connection::open_from(rt, file.as_str(), false, start) {
+        Ok(connection) => Ok(connection),
+        Err((error, _left)) => Err(fault_of(error)),
+    }
+}
+
+/// Closes a database. Afterwards the file alone has all; after an error it stands in the file and in its log.
+pub(crate) fn close_file<S: Start>(
+    connection: Connection<FileStore<FileFrom<S>>>,
+) -> Result<(), StoreFault>
+    ensures closed { OnOk result (IsClosed connection) }
+    ensures failed { IfErr result IsStoreFault }
+{
+    match connection.close_files() {
+        Ok(_files) => Ok(()),
+        Err((error, store)) => {
+            drop(store.close());
+            Err(fault_of(error))
+        }
+    }
+}
+
+pub(crate) fn has_rows(rows: &[Row]) -> bool
+    ensures { result ≡ nat_lt 0 (length rows.now) }
+{
+    rows.len() > 0
+}
