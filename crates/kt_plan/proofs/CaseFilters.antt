@@ -1,17 +1,10 @@
 -- The filters of a command, word by word and together.
-use Rattle.std.specs.Prelude.{Option, Some, None, Result, Ok, Err, IsErrAnd, find, unwrap_or, option_map, slice_get, if◌then◌else◌}
-use Rattle.std.proofs.Common.{◌≡◌, ℕ, suc, ◌<◌, Bool, true, false, List, [], ◌∷◌, length, get_or, take, refl, sym, ap, ◌∙◌, subst, ◌⊎◌, inr}
+use Rattle.std.proofs.Common.{Option, Some, None, Result, Ok, Err, IsErrAnd, find, unwrap_or, option_map, slice_get, if◌then◌else◌, ◌≡◌, ℕ, suc, ◌<◌, Bool, true, false, List, [], ◌∷◌, length, get_or, take, refl, sym, ap, ◌∙◌, subst, ◌⊎◌, inr}
+use Rattle.kt_plan.proofs.Common.{err_from_is_err_and, Filter, FilterFault, ChecksTogether, apart, position_in, shared, Filters, clash, each_of, filters_of, in_front, lacks_case, right, unnamed, unparsed, IsShort, Stop}
 use Rattle.std.proofs.lemmas.Option.{slice_get_read, slice_get_within}
-use Rattle.std.proofs.lemmas.Result.{err_from_is_err_and}
-use Rattle.kt_suite.specs.declared.filter.Filter.{Filter}
-use Rattle.kt_suite.specs.declared.filter.FilterFault.{FilterFault}
 use Rattle.kt_suite.specs.declared.filter.FilterFault.TheVariants.{Repeated, NotDisjoint}
 use Rattle.kt_suite.specs.Disjoint.{IsDisjoint, IsFirstFault, fault_after, is_same_filter, overlap}
 use Rattle.kt_suite.specs.Disjoint as of
-use Rattle.kt_plan.specs.Inner.Configuring.{ChecksTogether, apart, position_in, shared}
-use Rattle.kt_plan.specs.Configuring.{Filters, clash, each_of, filters_of, in_front, lacks_case, right, unnamed, unparsed}
-use Rattle.kt_plan.specs.Stops.{IsShort}
-use Rattle.kt_plan.specs.declared.stop.Stop.{Stop}
 use Rattle.kt_plan.specs.declared.stop.Stop.TheVariants as stop
 
 -- ---- how many there are

@@ -1,10 +1,7 @@
 -- Questions to a world, one after the other.
-use Rattle.std.specs.Prelude.{Option, Result, Err, Bool, MatchResult}
-use Rattle.std.proofs.Common.{◌≡◌, ℕ, List, [], ◌∷◌, refl, sym, ap, ◌∙◌, subst}
-use Rattle.kt_base.specs.declared.role.Role.{Role}
-use Rattle.kt_sched.specs.Children.{Child, IsIdle}
-use Rattle.kt_base.specs.Chains.{Chain}
-use Rattle.kt_suite.specs.Answers.{Answered}
+use Rattle.std.proofs.Common.{Option, Result, Err, Bool, MatchResult, ◌≡◌, ℕ, List, [], ◌∷◌, refl, sym, ap, ◌∙◌, subst}
+use Rattle.kt_plan.proofs.Common.{Child, IsIdle, Chain, Answered}
+use Rattle.kt_base.specs.declared.child.Role.{Role}
 
 -- three questions, and others after them
 pub asked_four : {W Q : Type 0} (leads : W → Q → W → Type 0) (old a b d new : W) (x y z : Q) (P : List Q → Type 0) → leads old x a → leads a y b → leads b z d → Answered leads d new P

@@ -1,26 +1,10 @@
 -- What a world was asked for the tree and then for the lists, and what came of it.
-use Rattle.std.specs.Prelude.{Result, Ok, Err, Bool, not, filter, ◌+◌}
-use Rattle.std.proofs.Common.{IfErr, IfOk, List, OnOk, [], ap, arith, inl, inr, length, refl, subst, sym, ℕ, ◌<◌, ◌∙◌, ◌≡◌, ◌≤◌, ◌⊎◌}
+use Rattle.std.proofs.Common.{Result, Ok, Err, Bool, not, filter, ◌+◌, IfErr, IfOk, List, OnOk, [], ap, arith, inl, inr, length, refl, subst, sym, ℕ, ◌<◌, ◌∙◌, ◌≡◌, ◌≤◌, ◌⊎◌}
+use Rattle.kt_plan.proofs.Common.{Asked, Answered, NoMemory, most_items, is_selected, SuiteFault, Filter, Program, Candidate, Chosen, Settings, Stop, CollectsOrShort, Collected, item_of, selected_cases, chosen_of, Offers, OffersFirst, Collects, unloaded, too_many, chosen, loading, offering, LoadsOrShort, RanShort, Loads, by_tree, RanOut, IsShort, Told}
 use Rattle.std.proofs.lemmas.List.Filters.{length-filter_both}
 use Rattle.kt_base.specs.declared.no_memory.NoMemory.{NoMemory as OutOfMemory}
-use Rattle.kt_suite.specs.Answers.{Asked, Answered}
-use Rattle.kt_suite.specs.declared.cause.SuiteCause.TheVariants.{NoMemory}
 use Rattle.kt_suite.specs.Faults.{IsNoMemory}
-use Rattle.kt_suite.specs.Selecting.{most_items, is_selected}
-use Rattle.kt_suite.specs.declared.fault.SuiteFault.{SuiteFault}
-use Rattle.kt_suite.specs.declared.filter.Filter.{Filter}
-use Rattle.kt_suite.specs.declared.program.Program.{Program}
-use Rattle.kt_plan.specs.declared.cases.offering.Candidate.{Candidate}
-use Rattle.kt_plan.specs.declared.cases.choosing.Chosen.{Chosen}
-use Rattle.kt_plan.specs.declared.options.configuring.Settings.{Settings}
-use Rattle.kt_plan.specs.declared.stop.Stop.{Stop}
 use Rattle.kt_plan.specs.declared.stop.Stop.TheVariants as stop
-use Rattle.kt_plan.specs.Inner.Collecting.{CollectsOrShort, Collected}
-use Rattle.kt_plan.specs.Collecting.{item_of, selected_cases, chosen_of, Offers, OffersFirst, Collects, unloaded, too_many, chosen, loading, offering}
-use Rattle.kt_plan.specs.Inner.Listings.{LoadsOrShort, RanShort}
-use Rattle.kt_plan.specs.Listings.{Loads, by_tree}
-use Rattle.kt_plan.specs.Stops.{RanOut, IsShort}
-use Rattle.kt_plan.specs.Told.{Told}
 use Rattle.kt_plan.proofs.OfferLaws.{all_first}
 
 err_is : {X Y : Type 0} (r : Result X Y) (x y : Y) → r ≡ Err x → r ≡ Err y → x ≡ y

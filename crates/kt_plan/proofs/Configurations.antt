@@ -1,21 +1,10 @@
 -- What a command is configured with, word by word.
-use Rattle.std.specs.Prelude.{Option, Some, None, Result, Ok, Err, IsErrAnd}
-use Rattle.std.proofs.Common.{◌≡◌, ℕ, List, [], ◌∷◌, ◌++◌, refl, sym, ap, ◌∙◌, subst, inl, inr, append_assoc}
-use Rattle.std.proofs.lemmas.Result.{err_from_is_err_and}
-use Rattle.kt_config.specs.declared.meaning.Definition.{Definition}
-use Rattle.kt_config.specs.declared.fault.ConfigFault.{ConfigFault}
+use Rattle.std.proofs.Common.{Option, Some, None, Result, Ok, Err, IsErrAnd, ◌≡◌, ℕ, List, [], ◌∷◌, ◌++◌, refl, sym, ap, ◌∙◌, subst, inl, inr, append_assoc}
+use Rattle.kt_plan.proofs.Common.{err_from_is_err_and, Definition, ConfigFault, Values, Answered, Configured, OrShort, GivesMore, GivesOne, Gives, unread_stop, Configures, ReadsFirst, before_file, after_file, IsConfiguration, ReadsConfig, behind, in_front, defined, failed, missing, none, read, refused, seen, stopped, unread, word_meaning, words_meaning, CaseOptions, IsShort, Told, ReadConfig, Stop}
 use Rattle.kt_config.specs.Holding.{Holds}
 use Rattle.kt_config.specs.Reading.{IsDue, IsRead}
-use Rattle.kt_config.specs.Values.{Values}
-use Rattle.kt_suite.specs.Answers.{Answered}
 use Rattle.kt_suite.specs.declared.tree.ReadFault.{ReadFault}
 use Rattle.kt_suite.specs.declared.tree.ReadFault.TheVariants.{Missing, Failed, Memory}
-use Rattle.kt_plan.specs.Inner.Configuring.{Configured, OrShort, GivesMore, GivesOne, Gives, unread_stop}
-use Rattle.kt_plan.specs.Configuring.{Configures, ReadsFirst, before_file, after_file, IsConfiguration, ReadsConfig, behind, in_front, defined, failed, missing, none, read, refused, seen, stopped, unread, word_meaning, words_meaning}
-use Rattle.kt_plan.specs.declared.options.case_options.CaseOptions.{CaseOptions}
-use Rattle.kt_plan.specs.Stops.{IsShort}
-use Rattle.kt_plan.specs.Told.{Told, ReadConfig}
-use Rattle.kt_plan.specs.declared.stop.Stop.{Stop}
 use Rattle.kt_plan.specs.declared.stop.Stop.TheVariants as stop
 
 -- ---- words in order

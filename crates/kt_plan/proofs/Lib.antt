@@ -1,3 +1,4 @@
+pub mod Common
 pub mod CaseFilters
 pub mod Chains
 pub mod Collections

@@ -1,15 +1,9 @@
 -- What the Kyuafile of a command registers.
-use Rattle.std.specs.Prelude.{Err, true, false}
-use Rattle.std.proofs.Common.{◌≡◌, ℕ, List, [], refl, sym, subst, ◌⊎◌, inl, inr}
-use Rattle.kt_suite.specs.declared.cause.SuiteCause.TheVariants.{Unreadable}
-use Rattle.kt_suite.specs.declared.fault.SuiteFault.{SuiteFault}
-use Rattle.kt_suite.specs.Answers.{Asked, Answered}
+use Rattle.std.proofs.Common.{Err, true, false, ◌≡◌, ℕ, List, [], refl, sym, subst, ◌⊎◌, inl, inr}
+use Rattle.kt_plan.proofs.Common.{Unreadable, SuiteFault, Asked, Answered, name_in, is_empty, LoadsOrShort, Loads, before_tree, named, unfinished}
 use Rattle.kt_suite.specs.Inner.Faults.{Blames}
-use Rattle.kt_suite.specs.Paths.{name_in}
-use Rattle.kt_base.specs.Texts.{is_empty}
 use Rattle.kt_suite.specs.Registered.{Outcome, Registered, Unfinished}
-use Rattle.kt_plan.specs.Inner.Listings.{LoadsOrShort}
-use Rattle.kt_plan.specs.Listings.{Loads, before_tree, named, unfinished, unnamed}
+use Rattle.kt_plan.specs.Listings.{unnamed}
 
 module _ {T : Type 0} (asks : T → Asked → T → Type 0) (kyuafile : List ℕ) where
   abbrev Loaded : T → T → Outcome → Type 0

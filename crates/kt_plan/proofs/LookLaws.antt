@@ -1,22 +1,10 @@
 -- What the host is asked for, and what is noted of its answers.
-use Rattle.std.specs.Prelude.{Bool, true, false, Option, Some, None, is_some}
-use Rattle.std.proofs.Common.{◌≡◌, ℕ, List, [], ◌∷◌, ◌++◌, ◌&&◌, ◌||◌, refl, sym, ap, ◌∙◌, subst, append_assoc, append-nil}
+use Rattle.std.proofs.Common.{Bool, true, false, Option, Some, None, is_some, ◌≡◌, ℕ, List, [], ◌∷◌, ◌++◌, ◌&&◌, ◌||◌, refl, sym, ap, ◌∙◌, subst, append_assoc, append-nil}
+use Rattle.kt_plan.proofs.Common.{Chain, Answered, all_needs, is_found, is_same_need, IsNoted, Host, Meta, Need, Candidate, Notes, finds, meta_in, needs_among, needs_by, needs_of, LooksFor, nothing, asked, Surveys, SurveysFirst, AreFirst, Told, Finds, IsRoot, HasMemory, HasDisk, chain-append}
 use Rattle.std.specs.List.{list_any}
 use Rattle.std.proofs.lemmas.List.Folds.{list_any-append}
 use Rattle.std.proofs.Math.Bool.{or-false}
-use Rattle.kt_base.specs.Chains.{Chain}
-use Rattle.kt_suite.specs.Answers.{Answered}
-use Rattle.kt_base.specs.declared.reason.Reason.{Reason}
-use Rattle.kt_metadata.specs.Requirements.{all_needs, is_found, is_same_need, IsNoted}
-use Rattle.kt_metadata.specs.declared.host.Host.{Host}
-use Rattle.kt_metadata.specs.declared.meta.Meta.{Meta}
-use Rattle.kt_metadata.specs.declared.host.Need.{Need}
-use Rattle.kt_plan.specs.declared.cases.offering.Candidate.{Candidate}
-use Rattle.kt_plan.specs.Inner.Planning.{Notes}
-use Rattle.kt_plan.specs.Planning.{finds, meta_in, needs_among, needs_by, needs_of, LooksFor, nothing, asked, Surveys, SurveysFirst}
-use Rattle.kt_plan.specs.Questions.{AreFirst}
-use Rattle.kt_plan.specs.Told.{Told, Finds, IsRoot, HasMemory, HasDisk}
-use Rattle.kt_base.proofs.Chains.{chain-append}
+use Rattle.kt_base.specs.declared.verdict.Reason.{Reason}
 
 and_true : (b : Bool) → (b && true) ≡ b
 and_true true = refl

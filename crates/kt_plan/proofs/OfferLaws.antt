@@ -1,21 +1,11 @@
 -- The cases of programs, and what the world is asked for them.
-use Rattle.std.specs.Prelude.{Some, None}
-use Rattle.std.proofs.Common.{◌≡◌, ◌≢◌, List, [], ◌∷◌, ◌++◌, refl, sym, subst, append_assoc, append-nil, length}
-use Rattle.kt_base.specs.declared.interface.Interface.TheVariants.{Atf}
+use Rattle.std.proofs.Common.{Some, None, ◌≡◌, ◌≢◌, List, [], ◌∷◌, ◌++◌, refl, sym, subst, append_assoc, append-nil, length}
+use Rattle.kt_plan.proofs.Common.{Atf, Values, Chain, Answered, Filter, Program, Candidate, ListsFirst, before_list, after_list, candidates_of, variables_for, IsWanted, ListsCases, listed, OffersOne, listing, unlisted, single, Offers, one_and, OffersFirst, no_further, asks, passes, Told, Lists, chain-append}
 use Rattle.kt_base.specs.declared.variable.Variable.{Variable}
-use Rattle.kt_config.specs.Values.{Values}
 use Rattle.kt_atflist.specs.Cases.{AreCases}
-use Rattle.kt_atflist.specs.declared.case_def.CaseDef.{CaseDef}
+use Rattle.kt_atflist.specs.declared.listing.CaseDef.{CaseDef}
 use Rattle.kt_atflist.specs.declared.listing.Listing.{Listing}
-use Rattle.kt_base.specs.Chains.{Chain}
-use Rattle.kt_suite.specs.Answers.{Answered}
-use Rattle.kt_suite.specs.declared.filter.Filter.{Filter}
-use Rattle.kt_suite.specs.declared.program.Program.{Program}
-use Rattle.kt_plan.specs.declared.cases.offering.Candidate.{Candidate}
-use Rattle.kt_plan.specs.Inner.Collecting.{ListsFirst, before_list, after_list}
-use Rattle.kt_plan.specs.Collecting.{candidates_of, variables_for, IsWanted, ListsCases, listed, OffersOne, listing, unlisted, single, Offers, none, one_and, OffersFirst, no_further, asks, passes}
-use Rattle.kt_plan.specs.Told.{Told, Lists}
-use Rattle.kt_base.proofs.Chains.{chain-append}
+use Rattle.kt_plan.specs.Collecting.{none}
 use Rattle.kt_plan.proofs.Rests.{none_left}
 
 -- memory ran out after it was asked for its list

@@ -1,12 +1,7 @@
 -- Selected cases are picked by their places.
-use Rattle.std.specs.Prelude.{Bool, false, if◌then◌else◌, true}
-use Rattle.std.proofs.Common.{◌≡◌, ℕ, ◌+◌, ◌<◌, ◌≤◌, List, [], ◌∷◌, ◌++◌, cond, refl, sym, ap, ◌∙◌, arith, append_assoc, map}
-use Rattle.kt_suite.specs.declared.filter.Filter.{Filter}
+use Rattle.std.proofs.Common.{Bool, false, if◌then◌else◌, true, ◌≡◌, ℕ, ◌+◌, ◌<◌, ◌≤◌, List, [], ◌∷◌, ◌++◌, cond, refl, sym, ap, ◌∙◌, arith, append_assoc, map}
+use Rattle.kt_plan.proofs.Common.{Filter, places, is_selected, Candidate, item_of, selected_cases, places_from}
 use Rattle.kt_suite.specs.declared.selecting.Item.{Item}
-use Rattle.kt_suite.specs.Selecting.{places, is_selected}
-use Rattle.kt_plan.specs.declared.cases.offering.Candidate.{Candidate}
-use Rattle.kt_plan.specs.Collecting.{item_of, selected_cases}
-use Rattle.kt_plan.specs.Inner.Picks.{places_from}
 
 same_head : {X : Type 0} (x y : X) (xs ys : List X) → x ∷ xs ≡ y ∷ ys → x ≡ y
 same_head x y xs ys e = cc

@@ -1,12 +1,6 @@
 -- The plan of some cases can be run.
-use Rattle.std.specs.Prelude.{Some, slice_get}
-use Rattle.std.proofs.Common.{◌≡◌, ℕ, zero, suc, ◌+◌, ◌≤◌, List, [], ◌∷◌, ◌++◌, length, arith, refl, ap, ◌∙◌, sym, subst, add-zero, add-one, append_assoc, append-nil, ◌⊎◌, inl, inr}
-use Rattle.kt_config.specs.Values.{Values}
-use Rattle.kt_metadata.specs.declared.host.Host.{Host}
-use Rattle.kt_sched.specs.declared.job.Job.{Job}
-use Rattle.kt_sched.specs.Plan.{IsFit, IsPlan}
-use Rattle.kt_plan.specs.declared.cases.offering.Candidate.{Candidate}
-use Rattle.kt_plan.specs.Planning.{ArePlanned, no_job, planned, IsJobOf}
+use Rattle.std.proofs.Common.{Some, slice_get, ◌≡◌, ℕ, zero, suc, ◌+◌, ◌≤◌, List, [], ◌∷◌, ◌++◌, length, arith, refl, ap, ◌∙◌, sym, subst, add-zero, add-one, append_assoc, append-nil, ◌⊎◌, inl, inr}
+use Rattle.kt_plan.proofs.Common.{Values, Host, Job, IsFit, IsPlan, Candidate, ArePlanned, no_job, planned, IsJobOf}
 use Rattle.kt_plan.proofs.Rests.{none_left}
 
 some_is : {X : Type 0} (x y : X) → Some x ≡ Some y → x ≡ y

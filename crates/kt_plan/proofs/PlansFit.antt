@@ -1,16 +1,9 @@
 -- The plan of any cases can be run.
-use Rattle.std.specs.Prelude.{Some, slice_get, ◌&&◌}
-use Rattle.std.proofs.Common.{◌≡◌, ◌∙◌, ℕ, zero, suc, Bool, true, List, arith, refl, subst, sym}
-use Rattle.kt_base.specs.declared.interface.Interface.{Interface}
-use Rattle.kt_base.specs.declared.interface.Interface.TheVariants.{Atf, Tap, Plain}
-use Rattle.kt_config.specs.Values.{Values}
-use Rattle.kt_metadata.specs.declared.host.Host.{Host}
+use Rattle.std.proofs.Common.{Some, slice_get, ◌&&◌, ◌≡◌, ◌∙◌, ℕ, zero, suc, Bool, true, List, arith, refl, subst, sym}
+use Rattle.kt_plan.proofs.Common.{Atf, Tap, Plain, Values, Host, Job, IsFit, IsPlan, Candidate, ArePlanned, no_job, planned, IsJobOf, is_atf, meta_in}
+use Rattle.kt_base.specs.declared.child.Interface.{Interface}
 use Rattle.kt_metadata.specs.Effective.{texts_of}
 use Rattle.kt_metadata.proofs.Timeouts.{IsTimeout, timeout-within}
-use Rattle.kt_sched.specs.declared.job.Job.{Job}
-use Rattle.kt_sched.specs.Plan.{IsFit, IsPlan}
-use Rattle.kt_plan.specs.declared.cases.offering.Candidate.{Candidate}
-use Rattle.kt_plan.specs.Planning.{ArePlanned, no_job, planned, IsJobOf, is_atf, meta_in}
 use Rattle.kt_plan.proofs.PlanLaws.{placed_from}
 
 some_is : {X : Type 0} (x y : X) → Some x ≡ Some y → x ≡ y

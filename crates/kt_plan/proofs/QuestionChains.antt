@@ -1,9 +1,6 @@
 -- Questions to a tree and to a host, in one list.
 use Rattle.std.proofs.Common.{List, [], ◌∷◌}
-use Rattle.kt_base.specs.Chains.{Chain}
-use Rattle.kt_suite.specs.Answers.{Asked}
-use Rattle.kt_plan.specs.Questions.{leads_by, of_tree, of_host}
-use Rattle.kt_plan.specs.Told.{Told}
+use Rattle.kt_plan.proofs.Common.{Chain, Asked, leads_by, of_tree, of_host, Told}
 
 module _ {W : Type 0} (asks : W → Asked → W → Type 0) (tells : W → Told → W → Type 0) where
   -- answers of a tree are answers of its world

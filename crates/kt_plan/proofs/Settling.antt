@@ -1,19 +1,7 @@
 -- The settings of a command.
-use Rattle.std.specs.Prelude.{Result, Ok, Err, IsErrAnd}
-use Rattle.std.proofs.Common.{◌≡◌, Bool, List, sym, ap, ◌∙◌, subst, ◌⊎◌, inl, inr}
-use Rattle.std.proofs.lemmas.Result.{err_from_is_err_and}
+use Rattle.std.proofs.Common.{Result, Ok, Err, IsErrAnd, ◌≡◌, Bool, List, sym, ap, ◌∙◌, subst, ◌⊎◌, inl, inr}
+use Rattle.kt_plan.proofs.Common.{err_from_is_err_and, Definition, Values, Answered, Filter, Configured, Gives, OrShort, SettlesOrShort, Configures, Filters, Settles, settled, unconfigured, unfiltered, IsShort, Told, CaseOptions, Settings, Stop}
 use Rattle.kt_base.specs.declared.no_memory.NoMemory.{NoMemory as OutOfMemory}
-use Rattle.kt_config.specs.declared.meaning.Definition.{Definition}
-use Rattle.kt_config.specs.Values.{Values}
-use Rattle.kt_suite.specs.Answers.{Answered}
-use Rattle.kt_suite.specs.declared.filter.Filter.{Filter}
-use Rattle.kt_plan.specs.Inner.Configuring.{Configured, Gives, OrShort, SettlesOrShort}
-use Rattle.kt_plan.specs.Configuring.{Configures, Filters, Settles, settled, unconfigured, unfiltered}
-use Rattle.kt_plan.specs.Stops.{IsShort}
-use Rattle.kt_plan.specs.Told.{Told}
-use Rattle.kt_plan.specs.declared.options.case_options.CaseOptions.{CaseOptions}
-use Rattle.kt_plan.specs.declared.options.configuring.Settings.{Settings}
-use Rattle.kt_plan.specs.declared.stop.Stop.{Stop}
 use Rattle.kt_plan.specs.declared.stop.Stop.TheVariants as stop
 use Rattle.kt_plan.proofs.Configurations.{Configuration, answered_as, configuration_first}
 

@@ -1,18 +1,12 @@
 -- The words of stops as characters and as bytes.
 use Rattle.std.proofs.Common.{◌≡◌, refl}
-use Rattle.std.specs.Str.{chars}
-use lib.Utf8.{encode}
-use Rattle.kt_base.specs.Utf8.{utf8}
+use Rattle.kt_plan.proofs.Common.{chars, encode, utf8, ConfigFault, config_words, FilterFault, utf8-script}
 use Rattle.kt_script.specs.declared.fault.ScriptFault.{ScriptFault}
-use Rattle.kt_script.specs.declared.fault.ScriptFault.TheVariants as script
 use Rattle.kt_script.specs.FaultWords.{script_words}
-use Rattle.kt_config.specs.declared.fault.ConfigFault.{ConfigFault}
-use Rattle.kt_config.specs.declared.fault.ConfigFault.TheVariants as config
-use Rattle.kt_config.specs.FaultWords.{config_words}
-use Rattle.kt_suite.specs.declared.filter.FilterFault.{FilterFault}
-use Rattle.kt_suite.specs.declared.filter.FilterFault.TheVariants as filter
 use Rattle.kt_suite.specs.FaultWords.{filter_words}
-use Rattle.kt_suite.proofs.FaultWords.{utf8-script}
+use Rattle.kt_script.specs.declared.fault.ScriptFault.TheVariants as script
+use Rattle.kt_config.specs.declared.fault.ConfigFault.TheVariants as config
+use Rattle.kt_suite.specs.declared.filter.FilterFault.TheVariants as filter
 
 chars-script : (fault : ScriptFault) → chars (script_words fault) ≡ script_words fault
 unfolding chars

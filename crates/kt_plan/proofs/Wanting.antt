@@ -1,8 +1,7 @@
 -- Whether some filter selects a case that a program could have.
 use Rattle.std.proofs.Common.{◌≡◌, ℕ, ◌<◌, List, [], ◌∷◌, sym, subst, ◌⊎◌, inl, inr, Contains, arith}
+use Rattle.kt_plan.proofs.Common.{Filter, MayMatch}
 use Rattle.std.proofs.lemmas.List.Elements.{Contains-append_left, Contains-append_right, Contains-append_cases, Contains-push, Contains-push_cases}
-use Rattle.kt_suite.specs.declared.filter.Filter.{Filter}
-use Rattle.kt_suite.specs.Matching.{MayMatch}
 
 -- one of some filters selects a case of a program
 abbrev pub AnyMatches : List Filter → List ℕ → Type 0

@@ -1,22 +1,22 @@
 -- Which cases the programs of a tree have, and which of them are selected: the second step.
 use Rattle.std.specs.Prelude.{ℕ, ◌≡◌, ◌≢◌, ◌≤◌, ◌<◌, ◌⊎◌, List, [], ◌∷◌, ◌++◌, Some, None, Result, Ok, Err, length, map, filter, unwrap_or}
 use Rattle.std.specs.List.{Contains}
-use Rattle.kt_base.specs.declared.interface.Interface.TheVariants.{Atf}
+use Rattle.kt_base.specs.declared.child.Interface.TheVariants.{Atf}
 use Rattle.kt_base.specs.declared.variable.Variable.{Variable}
 use Rattle.kt_config.specs.Values.{Values, variables_of}
 use Rattle.kt_atflist.specs.Cases.{AreCases}
-use Rattle.kt_atflist.specs.declared.case_def.CaseDef.{CaseDef}
+use Rattle.kt_atflist.specs.declared.listing.CaseDef.{CaseDef}
 use Rattle.kt_atflist.specs.declared.listing.Listing.{Listing}
 use Rattle.kt_suite.specs.Answers.{Asked}
 use Rattle.kt_suite.specs.declared.fault.SuiteFault.{SuiteFault}
 use Rattle.kt_suite.specs.declared.filter.Filter.{Filter}
 use Rattle.kt_suite.specs.declared.selecting.Item.{Item}
-use Rattle.kt_suite.specs.declared.program.Program.{Program}
+use Rattle.kt_suite.specs.declared.registry.Program.{Program}
 use Rattle.kt_suite.specs.Matching.{MayMatch}
 use Rattle.kt_suite.specs.Selecting.{most_items, is_selected, idle_places}
-use Rattle.kt_plan.specs.declared.cases.offering.Candidate.{Candidate}
-use Rattle.kt_plan.specs.declared.cases.choosing.Chosen.{Chosen}
-use Rattle.kt_plan.specs.declared.options.configuring.Settings.{Settings}
+use Rattle.kt_plan.specs.declared.cases.Candidate.{Candidate}
+use Rattle.kt_plan.specs.declared.cases.Chosen.{Chosen}
+use Rattle.kt_plan.specs.declared.options.Settings.{Settings}
 use Rattle.kt_plan.specs.declared.stop.Stop.{Stop}
 use Rattle.kt_plan.specs.declared.stop.Stop.TheVariants as stop
 use Rattle.kt_plan.specs.Listings.{Loads, LoadsFirst}

@@ -1,3 +1,4 @@
+pub mod Common
 pub mod Collecting
 pub mod Configuring
 pub mod Inner

@@ -3,9 +3,9 @@ use Rattle.std.specs.Prelude.{ℕ, suc, Bool, true, false, ◌≡◌, ◌&&◌, 
 use Rattle.std.specs.List.{list_any}
 use Rattle.std.specs.Option.{option_map}
 use Rattle.kt_base.specs.Verdicts.{Judged, broken, skipped}
-use Rattle.kt_base.specs.declared.interface.Interface.{Interface}
-use Rattle.kt_base.specs.declared.interface.Interface.TheVariants.{Atf, Tap, Plain}
-use Rattle.kt_base.specs.declared.reason.Reason.{Reason}
+use Rattle.kt_base.specs.declared.child.Interface.{Interface}
+use Rattle.kt_base.specs.declared.child.Interface.TheVariants.{Atf, Tap, Plain}
+use Rattle.kt_base.specs.declared.verdict.Reason.{Reason}
 use Rattle.kt_base.specs.Reasons.{reason_text}
 use Rattle.kt_config.specs.Values.{Values}
 use Rattle.kt_metadata.specs.Effective.{effective}
@@ -15,7 +15,7 @@ use Rattle.kt_metadata.specs.declared.host.Host.{Host}
 use Rattle.kt_metadata.specs.declared.meta.Meta.{Meta}
 use Rattle.kt_metadata.specs.declared.host.Need.{Need}
 use Rattle.kt_sched.specs.declared.job.Job.{Job}
-use Rattle.kt_plan.specs.declared.cases.offering.Candidate.{Candidate}
+use Rattle.kt_plan.specs.declared.cases.Candidate.{Candidate}
 use Rattle.kt_plan.specs.Collecting.{variables_for}
 use Rattle.kt_plan.specs.Questions.{AreFirst}
 use Rattle.kt_plan.specs.Told.{Told, Finds, IsRoot, HasMemory, HasDisk}

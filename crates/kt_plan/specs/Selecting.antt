@@ -1,10 +1,10 @@
 -- What the options of a command select.
 use Rattle.std.specs.Prelude.{Bool, List, ◌++◌, ◌⊎◌, Result, Ok, Err}
 use Rattle.kt_suite.specs.Answers.{Asked}
-use Rattle.kt_plan.specs.declared.options.case_options.CaseOptions.{CaseOptions}
-use Rattle.kt_plan.specs.declared.cases.choosing.Chosen.{Chosen}
-use Rattle.kt_plan.specs.declared.cases.selecting.Picked.{Picked}
-use Rattle.kt_plan.specs.declared.options.configuring.Settings.{Settings}
+use Rattle.kt_plan.specs.declared.options.CaseOptions.{CaseOptions}
+use Rattle.kt_plan.specs.declared.cases.Chosen.{Chosen}
+use Rattle.kt_plan.specs.declared.cases.Picked.{Picked}
+use Rattle.kt_plan.specs.declared.options.Settings.{Settings}
 use Rattle.kt_plan.specs.declared.stop.Stop.{Stop}
 use Rattle.kt_plan.specs.Collecting.{Collects, CollectsFirst}
 use Rattle.kt_plan.specs.Configuring.{ReadsFirst, Settles}

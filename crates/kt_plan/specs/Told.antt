@@ -3,7 +3,7 @@ use Rattle.std.specs.Prelude.{ℕ, Bool, List, Option, Result}
 use Rattle.kt_base.specs.declared.variable.Variable.{Variable}
 use Rattle.kt_atflist.specs.declared.listing.Listing.{Listing}
 use Rattle.kt_metadata.specs.declared.host.Need.{Need}
-use Rattle.kt_suite.specs.declared.program.Program.{Program}
+use Rattle.kt_suite.specs.declared.registry.Program.{Program}
 use Rattle.kt_suite.specs.declared.tree.ReadFault.{ReadFault}
 
 -- a question to the host with its answer: the bytes of a configuration file, what a program lists with the variables of its suite,

@@ -7,11 +7,9 @@ mod plan;
 mod stop;
 mod world;
 
-pub use cases::choosing::Chosen;
-pub use cases::offering::Candidate;
-pub use cases::selecting::{Picked, select_cases};
-pub use options::case_options::CaseOptions;
-pub use options::configuring::Settings;
-pub use plan::preparing::prepare;
+pub use cases::collecting::select_cases;
+pub use cases::{Candidate, Chosen, Picked};
+pub use options::{CaseOptions, Settings};
+pub use plan::planning::prepare;
 pub use stop::Stop;
 pub use world::World;

@@ -7,11 +7,7 @@ use kt_suite::{Program, ReadFault, Tree};
 /// What commands ask: the files of a test suite, a launcher of test programs, and the host.
 pub trait World: Tree + Launcher {
     ghost use Rattle.std.specs.Prelude.{ℕ, ◌≡◌};
-    ghost use Rattle.kt_base.specs.declared.role.Role.{Role};
-    ghost use Rattle.kt_sched.specs.Children.{IsIdle};
-    ghost use Rattle.kt_base.specs.Moments.{IsMoment};
-    ghost use Rattle.kt_suite.specs.Answers.{Asked};
-    ghost use Rattle.kt_plan.specs.Told.{Told, ReadConfig, Lists, Finds, IsRoot, HasMemory, HasDisk, Now};
+    ghost use Rattle.kt_plan.specs.Common.{Role, IsIdle, IsMoment, Asked, Told, ReadConfig, Lists, Finds, IsRoot, HasMemory, HasDisk, Now};
 
     /// Whether this answer of the host leads from the first state to the second.
     ghost tells: { Self → Told → Self → Type 0 };

@@ -4,9 +4,9 @@ use Rattle.kt_config.specs.Values.{Values}
 use Rattle.kt_atflist.specs.declared.listing.Listing.{Listing}
 use Rattle.kt_base.specs.Chains.{Chain}
 use Rattle.kt_suite.specs.Answers.{Asked}
-use Rattle.kt_suite.specs.declared.program.Program.{Program}
-use Rattle.kt_plan.specs.declared.cases.choosing.Chosen.{Chosen}
-use Rattle.kt_plan.specs.declared.options.configuring.Settings.{Settings}
+use Rattle.kt_suite.specs.declared.registry.Program.{Program}
+use Rattle.kt_plan.specs.declared.cases.Chosen.{Chosen}
+use Rattle.kt_plan.specs.declared.options.Settings.{Settings}
 use Rattle.kt_plan.specs.declared.stop.Stop.{Stop}
 use Rattle.kt_plan.specs.Stops.{IsShort}
 use Rattle.kt_plan.specs.Told.{Told, Lists}

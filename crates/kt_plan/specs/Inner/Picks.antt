@@ -2,7 +2,7 @@
 use Rattle.std.specs.Prelude.{ℕ, List, map}
 use Rattle.kt_suite.specs.declared.filter.Filter.{Filter}
 use Rattle.kt_suite.specs.Selecting.{places, is_selected}
-use Rattle.kt_plan.specs.declared.cases.offering.Candidate.{Candidate}
+use Rattle.kt_plan.specs.declared.cases.Candidate.{Candidate}
 use Rattle.kt_plan.specs.Collecting.{item_of}
 
 -- the places of the cases that filters select, the first case at this place

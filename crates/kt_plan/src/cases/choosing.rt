@@ -1,26 +1,11 @@
 ghost use Rattle.std.specs.Prelude.{◌≡◌, ◌≤◌, ◌<◌, ◌+◌, ◌⊎◌, ◌∷◌, ◌++◌, List, length, map, IfOk, IfErr, OnOk};
-ghost use Rattle.kt_suite.specs.declared.filter.Filter.{Filter};
-ghost use Rattle.kt_suite.specs.Selecting.{most_items};
-ghost use Rattle.kt_plan.specs.declared.cases.offering.Candidate.{Candidate};
+ghost use Rattle.kt_plan.specs.Common.{Filter, most_items, Candidate, item_of, selected_cases, chosen_of, places_from, RanOut};
 ghost use Rattle.kt_plan.specs.declared.stop.Stop.TheVariants as stop;
-ghost use Rattle.kt_plan.specs.Collecting.{item_of, selected_cases, chosen_of};
-ghost use Rattle.kt_plan.specs.Inner.Picks.{places_from};
-ghost use Rattle.kt_plan.specs.Stops.{RanOut};
 
-use crate::cases::offering::Candidate;
-use crate::stop::Stop;
+use crate::{Candidate, Chosen, Stop};
 use kt_base::{Items, NoMemory};
 use kt_suite::{Filter, Item, SelectFault, select};
 use std::alloc::Global;
-
-/// What filters select of a tree.
-#[derive(Drop)]
-pub struct Chosen {
-    /// The selected cases, in the order of their programs and lists.
-    pub cases: Items<Candidate>,
-    /// The positions of the filters that match no case, ascending, from 0.
-    pub unmatched: Items<usize>,
-}
 
 /// A case as filters see it.
 fn item_of(candidate: &Candidate) -> Result<Item, NoMemory>

@@ -1,20 +1,59 @@
 ghost use Rattle.std.specs.Prelude.{◌≡◌, ◌≤◌, ◌⊎◌, length, IfOk};
+ghost use Rattle.kt_plan.specs.Common.{IsIdle, IsNoMemory, most_items, Collected, Answered, Blames, no_memory, program_limit, LoadsOrShort, SelectsOrShort, leads_by};
 ghost use Rattle.kt_base.specs.declared.no_memory.NoMemory.{NoMemory as OutOfMemory};
-ghost use Rattle.kt_sched.specs.Children.{IsIdle};
-ghost use Rattle.kt_suite.specs.Faults.{IsNoMemory};
-ghost use Rattle.kt_suite.specs.Selecting.{most_items};
 ghost use Rattle.kt_plan.specs.declared.stop.Stop.TheVariants as stop;
-ghost use Rattle.kt_plan.specs.Inner.Collecting.{Collected};
 
-use crate::cases::choosing::{Chosen, choose};
+use crate::cases::choosing::choose;
 use crate::cases::offering::offered;
-use crate::cases::programs::programs_of;
-use crate::options::configuring::Settings;
-use crate::stop::Stop;
-use crate::world::World;
-use kt_base::Text;
-use kt_suite::{SuiteCause, SuiteFault};
+use crate::options::configuring::settle;
+use crate::{CaseOptions, Chosen, Picked, Settings, Stop, World};
+use kt_base::{Items, NoMemory, Text};
+use kt_suite::{Program, SuiteCause, SuiteFault, Tree, load, split_path};
 use std::alloc::Global;
+
+fn out_of_memory(alloc: Global, refusal: NoMemory) -> SuiteFault
+    ensures { result ≡ no_memory refusal }
+{
+    SuiteFault {
+        cause: SuiteCause::NoMemory(refusal),
+        path: Text::new(alloc),
+        line: 0,
+    }
+}
+
+/// The fault of a file as a whole.
+fn fault_of(alloc: Global, file: &Text, cause: SuiteCause) -> SuiteFault
+    ensures { Blames file.now 0 cause result }
+{
+    match file.copy() {
+        Ok(path) => SuiteFault {
+            cause,
+            path,
+            line: 0,
+        },
+        Err(refusal) => out_of_memory(alloc, refusal),
+    }
+}
+
+/// The programs that a Kyuafile registers, whose directory is the root of the tree.
+pub fn programs_of<T: Tree>(
+    alloc: Global,
+    kyuafile: &Text,
+    tree: &mut T,
+) -> Result<Items<Program>, SuiteFault>
+    ensures loaded { Answered T.asks tree.old tree.new
+        (λ asked. LoadsOrShort kyuafile.now asked result) }
+    ensures few { IfOk result (λ programs. length programs ≤ program_limit) }
+{
+    let root = match split_path(alloc, kyuafile) {
+        Ok((_, root)) => root,
+        Err(refusal) => return Err(out_of_memory(alloc, refusal)),
+    };
+    if root.is_empty() {
+        return Err(fault_of(alloc, kyuafile, SuiteCause::Unreadable));
+    }
+    load(alloc, tree, &root)
+}
 
 /// Why a tree that was refused stops a command.
 fn tree_stop(fault: SuiteFault) -> Stop
@@ -28,9 +67,8 @@ fn tree_stop(fault: SuiteFault) -> Stop
     }
 }
 
-/// The selected cases of a tree: the Kyuafiles are read, each ATF program that some filter may
-/// match is asked for its list, one after the other, and the filters select among all cases
-/// (kyua(1)).
+/// The selected cases of a tree: the Kyuafiles are read, each ATF program that some filter may match is asked for its
+/// list, one after the other, and the filters select among all cases (kyua(1)).
 pub fn collect<W: World>(
     alloc: Global,
     settings: &Settings,
@@ -49,4 +87,23 @@ pub fn collect<W: World>(
     };
     let found = offered(alloc, settings, programs.as_slice(), world)?;
     choose(alloc, settings.filters.as_slice(), found)
+}
+
+/// What the options of a command select, or the first fault that stops it. `needed` says that the command needs exactly
+/// one filter, of one case.
+pub fn select_cases<W: World>(
+    alloc: Global,
+    needed: bool,
+    options: &CaseOptions,
+    world: &mut W,
+) -> Result<Picked, Stop>
+    requires { IsIdle (W.running world.old) (W.pending world.old) }
+    ensures selects { Answered (leads_by W.asks W.tells) world.old world.new
+        (λ questions. SelectsOrShort needed options.now questions result) }
+    ensures few { IfOk result (λ picked. length picked.chosen.cases ≤ most_items) }
+    ensures idle { IsIdle (W.running world.new) (W.pending world.new) }
+{
+    let settings = settle(alloc, needed, options, world)?;
+    let chosen = collect(alloc, &settings, &options.kyuafile, world)?;
+    Ok(Picked { settings, chosen })
 }

@@ -1,32 +1,13 @@
 ghost use Rattle.std.specs.Prelude.{◌≡◌, ◌++◌, ◌∷◌, [], IfOk, OnOk, MatchResult, ◌↔◌, IsTrue};
-ghost use Rattle.kt_sched.specs.Children.{IsIdle};
-ghost use Rattle.kt_suite.specs.Answers.{Answered};
-ghost use Rattle.kt_plan.specs.Inner.Collecting.{ListsFirst};
-ghost use Rattle.kt_plan.specs.Collecting.{candidate_of, candidates_of, ListsCases, Offers, OffersFirst, OffersOne, IsWanted};
-ghost use Rattle.std.specs.List.{Contains};
-ghost use Rattle.kt_suite.specs.declared.filter.Filter.{Filter};
-ghost use Rattle.kt_suite.specs.Matching.{MayMatch};
+ghost use Rattle.kt_plan.specs.Common.{IsIdle, Answered, ListsFirst, candidate_of, candidates_of, ListsCases, Offers, OffersFirst, OffersOne, IsWanted, Contains, Filter, MayMatch};
 
-use crate::options::configuring::Settings;
-use crate::options::suite_vars::variables_for;
-use crate::world::World;
+use crate::options::configuring::variables_for;
+use crate::{Candidate, Settings, World};
 use kt_atflist::{CaseDef, cases};
 use kt_base::{Interface, Items, NoMemory, Text};
 use kt_config::Config;
 use kt_suite::{Filter, Program};
 use std::alloc::Global;
-
-/// A test case that may be run, with what its program says of it.
-#[derive(Drop)]
-pub struct Candidate {
-    pub interface: Interface,
-    /// The path of the test program, relative to the directory of the root Kyuafile.
-    pub path: Text,
-    /// The test suite of the program.
-    pub suite: Text,
-    /// Its name and its properties, over those of the program.
-    pub case: CaseDef,
-}
 
 /// The cases that an ATF program lists, given the variables of its suite.
 fn listed_cases<W: World>(
@@ -37,8 +18,7 @@ fn listed_cases<W: World>(
 ) -> Result<Items<CaseDef>, NoMemory>
     requires { IsIdle (W.running world.old) (W.pending world.old) }
     ensures offers { Answered W.tells world.old world.new (λ told. MatchResult result
-        (ListsCases config.now program.now told)
-        (λ _. ListsFirst config.now program.now told)) }
+        (ListsCases config.now program.now told) (λ _. ListsFirst config.now program.now told)) }
     ensures idle { IsIdle (W.running world.new) (W.pending world.new) }
 {
     let variables = variables_for(alloc, config, &program.suite)?;
@@ -125,8 +105,7 @@ pub fn offered<W: World>(
 
 /// Whether one of some filters selects some case that a program could have.
 fn may_match_any(filters: &[Filter], path: &Text) -> bool
-    ensures { IsTrue result
-        ↔ ((one : Filter) × Contains filters.now one × MayMatch one path.now) }
+    ensures { IsTrue result ↔ ((one : Filter) × Contains filters.now one × MayMatch one path.now) }
 {
     for filter in filters {
         if filter.may_match(path) {

@@ -1,9 +1,7 @@
 ghost use Rattle.std.specs.Prelude.{◌≡◌, ◌⊎◌, IfOk, length};
-ghost use Rattle.kt_plan.specs.Inner.Configuring.{position_in, ChecksTogether};
-ghost use Rattle.kt_plan.specs.Configuring.{filter_of, filters_of, names_one_case, lacks_case, Filters};
-ghost use Rattle.kt_plan.specs.Stops.{IsShort};
+ghost use Rattle.kt_plan.specs.Common.{position_in, ChecksTogether, filter_of, filters_of, names_one_case, lacks_case, Filters, IsShort};
 
-use crate::stop::Stop;
+use crate::Stop;
 use kt_base::{Items, NoMemory, Text};
 use kt_suite::{Filter, FilterFault, check_disjoint};
 use std::alloc::Global;

@@ -1,18 +1,22 @@
 ghost use Rattle.std.specs.Prelude.{◌≡◌, Some, IfOk};
-ghost use Rattle.kt_sched.specs.Children.{IsIdle};
-ghost use Rattle.kt_suite.specs.Answers.{Answered};
-ghost use Rattle.kt_plan.specs.Inner.Configuring.{unread_stop, Configured, GivesMore, OrShort, SettlesOrShort, GivesOne};
-ghost use Rattle.kt_plan.specs.Configuring.{words_meaning, Configures, IsConfiguration, ReadsConfig, or_stop_at, word_meaning};
-ghost use Rattle.kt_config.specs.Names.{definition_named};
+ghost use Rattle.kt_plan.specs.Common.{IsIdle, Answered, unread_stop, Configured, GivesMore, OrShort, SettlesOrShort, GivesOne, words_meaning, Configures, IsConfiguration, ReadsConfig, or_stop_at, word_meaning, definition_named, variables_for};
 
 use crate::options::case_filters::read_filters;
-use crate::options::case_options::CaseOptions;
-use crate::stop::Stop;
-use crate::world::World;
-use kt_base::{Items, NoMemory, Text};
+use crate::{CaseOptions, Settings, Stop, World};
+use kt_base::{NoMemory, Text, Variables};
 use kt_config::{Config, ConfigFault};
-use kt_suite::{Filter, ReadFault};
+use kt_suite::ReadFault;
 use std::alloc::Global;
+
+/// The variables of a suite, none if it has none.
+pub fn variables_for(alloc: Global, config: &Config, suite: &Text) -> Result<Variables, NoMemory>
+    ensures { IfOk result (λ variables. variables ≡ variables_for config.now suite.now) }
+{
+    match config.suite_vars(suite) {
+        Some(variables) => variables.copy(),
+        None => Ok(Variables::new(alloc)),
+    }
+}
 
 /// Sets a variable, or stops at its name.
 fn set(config: Config, name: Text, value: &Text) -> Result<Result<Config, Stop>, NoMemory>
@@ -36,14 +40,6 @@ fn set_word(alloc: Global, config: Config, word: &Text) -> Result<Result<Config,
         None => Ok(Err(Stop::Variable(name, ConfigFault::BadValue))),
         Some(value) => set(config, name, &value),
     }
-}
-
-/// What a command over test cases is configured with, and the cases that it is to select.
-#[derive(Drop)]
-pub struct Settings {
-    pub config: Config,
-    /// A filter for each word that was given, in order. No two share a case.
-    pub filters: Items<Filter>,
 }
 
 /// The configuration that the bytes of a file spell.
@@ -79,11 +75,15 @@ fn read_config<W: World>(alloc: Global, path: &Text, world: &mut W) -> Result<Co
 }
 
 /// Reads the configuration file, if one is given.
-fn config_given<W: World>(alloc: Global, path: &Option<Text>, world: &mut W) -> Result<Config, Stop>
-    ensures { Answered W.tells world.old world.new (λ told. OrShort result path.now told
-        (Configured (ReadsConfig path.now told) result)) }
+fn config_given<W: World>(
+    alloc: Global,
+    options: &CaseOptions,
+    world: &mut W,
+) -> Result<Config, Stop>
+    ensures { Answered W.tells world.old world.new (λ told. OrShort result options.now.config told
+        (Configured (ReadsConfig options.now.config told) result)) }
 {
-    match path {
+    match &options.config {
         None => Ok(Config::new(alloc)),
         Some(path) => read_config(alloc, path, world),
     }
@@ -112,7 +112,7 @@ fn configure<W: World>(alloc: Global, options: &CaseOptions, world: &mut W) -> R
     ensures { Answered W.tells world.old world.new (λ told. OrShort result options.now.config told
         (Configured (Configures options.now told) result)) }
 {
-    let config = config_given(alloc, &options.config, world)?;
+    let config = config_given(alloc, options, world)?;
     set_words(alloc, config, options.variables.as_slice())?
 }
 

@@ -1,6 +1,31 @@
 //! The settings of a command over test cases, by its options and its configuration.
 
 pub(crate) mod case_filters;
-pub(crate) mod case_options;
 pub(crate) mod configuring;
-pub(crate) mod suite_vars;
+
+use kt_base::{Items, Text};
+use kt_config::Config;
+use kt_suite::Filter;
+
+/// The options of a command over test cases (kyua(1)).
+#[derive(Debug, Drop)]
+pub struct CaseOptions {
+    /// The configuration file, if one is given (`-c`).
+    pub config: Option<Text>,
+    /// The words `NAME=VALUE` of `-v`, in order.
+    pub variables: Items<Text>,
+    /// The Kyuafile (`-k`). Its directory is the tree's root.
+    pub kyuafile: Text,
+    /// The directory that the root directory of the runner is made in (`--work`).
+    pub work: Text,
+    /// The filters as they were given, in order.
+    pub filters: Items<Text>,
+}
+
+/// What a command over test cases is configured with, and the cases that it is to select.
+#[derive(Drop)]
+pub struct Settings {
+    pub config: Config,
+    /// A filter for each word that was given, in order. No two share a case.
+    pub filters: Items<Filter>,
+}

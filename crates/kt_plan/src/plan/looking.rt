@@ -1,14 +1,7 @@
 ghost use Rattle.std.specs.Prelude.{◌∷◌, [], MatchResult};
-ghost use Rattle.kt_metadata.specs.Requirements.{needed};
-ghost use Rattle.kt_suite.specs.Answers.{Answered};
-ghost use Rattle.kt_plan.specs.Inner.Planning.{Notes};
-ghost use Rattle.kt_plan.specs.Planning.{LooksFor, meta_in, needs_among, needs_by, needs_in, needs_of, Surveys, SurveysFirst};
-ghost use Rattle.kt_plan.specs.Questions.{AreFirst};
-ghost use Rattle.kt_plan.specs.Told.{Finds};
-ghost use Rattle.kt_sched.specs.Children.{IsIdle};
+ghost use Rattle.kt_plan.specs.Common.{needed, Answered, Notes, LooksFor, meta_in, needs_among, needs_by, needs_in, needs_of, Surveys, SurveysFirst, AreFirst, Finds, IsIdle};
 
-use crate::cases::offering::Candidate;
-use crate::world::World;
+use crate::{Candidate, World};
 use kt_base::{NoMemory, Text};
 use kt_metadata::{Host, Meta, Need};
 use std::alloc::Global;

@@ -2,4 +2,3 @@
 
 pub(crate) mod looking;
 pub(crate) mod planning;
-pub(crate) mod preparing;

@@ -1,11 +1,10 @@
-ghost use Rattle.std.specs.Prelude.{◌≡◌, ◌≤◌, ◌&&◌, length, IfOk};
-ghost use Rattle.kt_metadata.specs.Requirements.{first_reason, rows};
-ghost use Rattle.kt_sched.specs.Plan.{IsFit, IsPlan};
-ghost use Rattle.kt_suite.specs.Selecting.{most_items};
-ghost use Rattle.kt_plan.specs.Planning.{is_atf, ArePlanned, IsDecided, IsJobOf};
+ghost use Rattle.std.specs.Prelude.{◌≡◌, ◌≤◌, ◌&&◌, length, IfOk, MatchResult};
+ghost use Rattle.kt_plan.specs.Common.{first_reason, rows, IsFit, IsPlan, most_items, is_atf, ArePlanned, IsDecided, IsJobOf, IsIdle, Answered, Surveys, SurveysFirst};
+ghost use Rattle.kt_metadata.specs.declared.host.Host.{Host as Surveyed};
 
-use crate::cases::offering::Candidate;
-use crate::options::suite_vars::variables_for;
+use crate::options::configuring::variables_for;
+use crate::plan::looking::survey;
+use crate::{Candidate, World};
 use kt_base::{Interface, Items, NoMemory, Reason, Verdict};
 use kt_config::Config;
 use kt_metadata::{Host, Meta, unmet};
@@ -35,8 +34,7 @@ fn declares_cleanup(interface: Interface, meta: &Meta) -> bool
     }
 }
 
-/// The verdict of a case that isn't to be started: its list has a fault, or else a requirement
-/// isn't met.
+/// The verdict of a case that isn't to be started: its list has a fault, or else a requirement isn't met.
 fn decided(
     alloc: Global,
     candidate: &Candidate,
@@ -101,5 +99,25 @@ pub fn make_plan(
         plan.push(job_at(alloc, config, host, position, candidate)?)?;
         position += 1;
     }
+    Ok(plan)
+}
+
+/// Asks the host for what some cases require, and makes the plan of them.
+pub fn prepare<W: World>(
+    alloc: Global,
+    config: &Config,
+    cases: &[Candidate],
+    world: &mut W,
+) -> Result<Items<Job>, NoMemory>
+    requires few { length cases.now ≤ most_items }
+    requires idle { IsIdle (W.running world.old) (W.pending world.old) }
+    ensures planned { Answered W.tells world.old world.new (λ told. MatchResult result
+        (λ plan. (host : Surveyed) × Surveys cases.now told host
+        × ArePlanned config.now host 0 cases.now plan) (λ _. SurveysFirst cases.now told)) }
+    ensures plan { IfOk result (λ plan. IsPlan plan × (length plan ≡ length cases.now)) }
+    ensures idle { IsIdle (W.running world.new) (W.pending world.new) }
+{
+    let host = survey(alloc, cases, world)?;
+    let plan = make_plan(alloc, config, &host, cases)?;
     Ok(plan)
 }

@@ -1,8 +1,5 @@
-use lib.Utf8.{encode}
-use Rattle.std.specs.Prelude.{codes}
-use Rattle.std.proofs.Common.{sym, ◌∙◌}
-use Rattle.kt_base.proofs.Showing.{shows_as, utf8-append}
-use Rattle.kt_config.specs.FaultWords.{config_words}
+use Rattle.std.proofs.Common.{codes, sym, ◌∙◌}
+use Rattle.kt_plan.proofs.Common.{encode, shows_as, utf8-append, config_words}
 use Rattle.kt_plan.proofs.StopWords.{utf8-config}
 use Rattle.kt_plan.proofs.stop.print_configuration.Goals as goal
 

@@ -1,9 +1,5 @@
-use Rattle.std.proofs.Common.{◌∙◌, ap, List, ℕ}
-use Rattle.std.specs.Str.{chars}
-use Rattle.std.specs.Prelude.{codes}
-use Rattle.kt_base.specs.Utf8.{utf8}
-use Rattle.kt_base.proofs.Showing.{shows_as}
-use Rattle.kt_plan.specs.StopWords.{quoted_words}
+use Rattle.std.proofs.Common.{◌∙◌, ap, List, ℕ, codes}
+use Rattle.kt_plan.proofs.Common.{chars, utf8, shows_as, quoted_words}
 use Rattle.kt_plan.proofs.StopWords.{chars-filter}
 use Rattle.kt_plan.proofs.stop.print_filter.Goals as goal
 

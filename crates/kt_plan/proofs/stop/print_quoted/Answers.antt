@@ -1,10 +1,6 @@
-use lib.Utf8.{encode}
-use Rattle.std.specs.Prelude.{codes}
-use Rattle.std.proofs.Common.{sym, ◌∙◌}
-use Rattle.std.specs.Str.{chars}
+use Rattle.std.proofs.Common.{codes, sym, ◌∙◌}
+use Rattle.kt_plan.proofs.Common.{encode, chars, shows_as, utf8_five}
 use Rattle.std.proofs.lemmas.Str.{encodes-chars}
-use Rattle.kt_base.proofs.Showing.{shows_as}
-use Rattle.kt_suite.proofs.FaultWords.{utf8_five}
 use Rattle.kt_plan.proofs.stop.print_quoted.Goals as goal
 
 pub returns : goal.returns

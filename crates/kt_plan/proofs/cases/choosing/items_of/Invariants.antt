@@ -1,5 +1,5 @@
 use Rattle.std.proofs.Common.{◌≡◌, ◌++◌, drop, map}
-use Rattle.kt_plan.specs.Collecting.{item_of}
+use Rattle.kt_plan.proofs.Common.{item_of}
 use Rattle.kt_plan.proofs.cases.choosing.items_of.Given as goal
 
 -- the items so far, and those of the rest, are those of all

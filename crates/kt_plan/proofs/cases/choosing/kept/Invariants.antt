@@ -1,7 +1,5 @@
 use Rattle.std.proofs.Common.{◌≡◌, ◌++◌, ◌+◌, ◌≤◌, List, length}
-use Rattle.kt_suite.specs.declared.filter.Filter.{Filter}
-use Rattle.kt_plan.specs.Collecting.{selected_cases}
-use Rattle.kt_plan.specs.Inner.Picks.{places_from}
+use Rattle.kt_plan.proofs.Common.{Filter, selected_cases, places_from}
 use Rattle.kt_plan.proofs.cases.choosing.kept.Given as goal
 
 -- the cases so far, and the selected ones of the rest, are the selected ones of all; the places left are those of the rest

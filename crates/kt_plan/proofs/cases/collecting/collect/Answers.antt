@@ -1,4 +1,4 @@
-use Rattle.std.proofs.lemmas.Result.{err_from_is_err_and}
+use Rattle.kt_plan.proofs.Common.{err_from_is_err_and}
 use Rattle.kt_plan.proofs.Chains.{idle_after}
 use Rattle.kt_plan.proofs.Collections.{tree_stopped, lists_stopped, all_chosen, few_chosen}
 use Rattle.kt_plan.proofs.cases.collecting.collect.Goals as goal

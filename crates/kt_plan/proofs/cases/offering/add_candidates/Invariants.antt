@@ -1,5 +1,5 @@
 use Rattle.std.proofs.Common.{◌≡◌, ◌++◌}
-use Rattle.kt_plan.specs.Collecting.{candidates_of}
+use Rattle.kt_plan.proofs.Common.{candidates_of}
 use Rattle.kt_plan.proofs.cases.offering.add_candidates.Given as goal
 
 -- the cases so far, and those of the rest, are those of all

@@ -1,5 +1,4 @@
-use Rattle.std.proofs.lemmas.Result.{err_from_is_err_and}
-use Rattle.kt_plan.specs.Inner.Collecting.{before_list}
+use Rattle.kt_plan.proofs.Common.{err_from_is_err_and, before_list}
 use Rattle.kt_plan.proofs.Chains.{asked_nothing, asked_short, idle_once}
 use Rattle.kt_plan.proofs.OfferLaws.{list_asked, lists_cases}
 use Rattle.kt_plan.proofs.cases.offering.listed_cases.Goals as goal

@@ -1,7 +1,5 @@
-use Rattle.std.specs.Prelude.{true, false}
-use Rattle.std.proofs.Common.{◌≡◌, ◌∷◌, ◌∙◌, sym, refl, ◌+◌, arith, drop, length}
-use Rattle.std.proofs.lemmas.Grind.{common_steps}
-use Rattle.kt_suite.specs.Matching.{MayMatch}
+use Rattle.std.proofs.Common.{true, false, ◌≡◌, ◌∷◌, ◌∙◌, sym, refl, ◌+◌, arith, drop, length}
+use Rattle.kt_plan.proofs.Common.{common_steps, MayMatch}
 use Rattle.kt_plan.proofs.Rests.{none_left}
 use Rattle.kt_plan.proofs.Wanting.{among_after, found_first, ahead_after, none_matches}
 use Rattle.kt_plan.proofs.cases.offering.may_match_any.Goals as goal

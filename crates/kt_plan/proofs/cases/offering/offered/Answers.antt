@@ -1,6 +1,5 @@
 use Rattle.std.proofs.Common.{◌≡◌, ◌∷◌, ◌+◌, arith, drop, length}
-use Rattle.std.proofs.lemmas.Grind.{common_steps}
-use Rattle.std.proofs.lemmas.Result.{err_from_is_err_and}
+use Rattle.kt_plan.proofs.Common.{common_steps, err_from_is_err_and}
 use Rattle.kt_plan.proofs.Chains.{asked_short}
 use Rattle.kt_plan.proofs.OfferLaws.{first_offered, offers_next, offers_all, offers_stopped}
 use Rattle.kt_plan.proofs.cases.offering.offered.Goals as goal

@@ -1,5 +1,5 @@
 use Rattle.std.proofs.Common.{drop}
-use Rattle.kt_sched.specs.Children.{IsIdle}
+use Rattle.kt_plan.proofs.Common.{IsIdle}
 use Rattle.kt_plan.proofs.OfferLaws.{Offering}
 use Rattle.kt_plan.proofs.cases.offering.offered.Given as goal
 

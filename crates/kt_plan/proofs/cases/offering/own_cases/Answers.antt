@@ -1,8 +1,5 @@
-use Rattle.std.specs.Prelude.{true, false}
-use Rattle.std.proofs.Common.{List, ◌≡◌, ◌∙◌, sym, subst}
-use Rattle.kt_suite.specs.declared.filter.Filter.{Filter}
-use Rattle.std.proofs.lemmas.Result.{err_from_is_err_and}
-use Rattle.kt_plan.specs.Collecting.{IsWanted, no_further}
+use Rattle.std.proofs.Common.{true, false, List, ◌≡◌, ◌∙◌, sym, subst}
+use Rattle.kt_plan.proofs.Common.{Filter, err_from_is_err_and, IsWanted, no_further}
 use Rattle.kt_plan.proofs.Chains.{asked_nothing, asked_short}
 use Rattle.kt_plan.proofs.OfferLaws.{first_listed, offers_listed, offers_none, offers_single}
 use Rattle.kt_plan.proofs.cases.offering.own_cases.Goals as goal

@@ -1,4 +1,4 @@
-use Rattle.kt_plan.specs.Inner.Configuring.{apart}
+use Rattle.kt_plan.proofs.Common.{apart}
 use Rattle.kt_plan.proofs.CaseFilters.{names_word}
 use Rattle.kt_plan.proofs.options.case_filters.clash_of.Goals as goal
 

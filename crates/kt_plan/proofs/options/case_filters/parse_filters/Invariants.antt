@@ -1,5 +1,5 @@
 use Rattle.std.proofs.Common.{◌≡◌, drop}
-use Rattle.kt_plan.specs.Configuring.{behind, filters_of}
+use Rattle.kt_plan.proofs.Common.{behind, filters_of}
 use Rattle.kt_plan.proofs.options.case_filters.parse_filters.Given as goal
 
 -- the words before the rest are read

@@ -1,6 +1,5 @@
 use Rattle.std.proofs.Common.{rules, sym, ◌∙◌, ◌≡◌, ap, Ok, Some}
-use Rattle.kt_plan.specs.Inner.Configuring.{ChecksTogether}
-use Rattle.kt_plan.specs.Configuring.{filter_of, filters_of}
+use Rattle.kt_plan.proofs.Common.{ChecksTogether, filter_of, filters_of}
 use Rattle.kt_plan.proofs.CaseFilters.{all_right, length_of_each, not_apart, not_one_case, not_parsed}
 use Rattle.kt_plan.proofs.options.case_filters.read_filters.Goals as goal
 

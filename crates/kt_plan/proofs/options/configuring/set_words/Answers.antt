@@ -1,5 +1,5 @@
 use Rattle.std.proofs.Common.{◌≡◌, ◌∷◌, ◌+◌, drop, rules, arith}
-use Rattle.std.proofs.lemmas.Grind.{common_steps}
+use Rattle.kt_plan.proofs.Common.{common_steps}
 use Rattle.kt_plan.proofs.Configurations.{one_set}
 use Rattle.kt_plan.proofs.options.configuring.set_words.Goals as goal
 

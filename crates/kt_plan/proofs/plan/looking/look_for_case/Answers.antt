@@ -1,11 +1,5 @@
-use Rattle.std.specs.Prelude.{true, false, is_some}
-use Rattle.std.proofs.Common.{rules, ◌≡◌, subst, List, ℕ}
-use Rattle.std.proofs.lemmas.Result.{err_from_is_err_and}
-use Rattle.kt_suite.specs.Answers.{Answered}
-use Rattle.kt_metadata.specs.declared.host.Need.{Need}
-use Rattle.kt_plan.specs.Inner.Planning.{Notes}
-use Rattle.kt_plan.specs.Planning.{LooksFor, meta_in, needs_by}
-use Rattle.kt_plan.specs.Questions.{AreFirst}
+use Rattle.std.proofs.Common.{true, false, is_some, rules, ◌≡◌, subst, List, ℕ}
+use Rattle.kt_plan.proofs.Common.{err_from_is_err_and, Answered, Need, Notes, LooksFor, meta_in, needs_by, AreFirst}
 use Rattle.kt_plan.proofs.Chains.{asked_short}
 use Rattle.kt_plan.proofs.LookLaws.{case_unlooked, needs_all, unasked}
 use Rattle.kt_plan.proofs.plan.looking.look_for_case.Goals as goal

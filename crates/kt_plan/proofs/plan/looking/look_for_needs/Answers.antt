@@ -1,10 +1,5 @@
 use Rattle.std.proofs.Common.{◌≡◌, ◌∷◌, ◌++◌, ◌+◌, ◌<◌, ap, arith, drop, get_or, length, List, ℕ}
-use Rattle.std.proofs.lemmas.Grind.{common_steps}
-use Rattle.std.proofs.lemmas.Result.{err_from_is_err_and}
-use Rattle.kt_metadata.specs.declared.host.Need.{Need}
-use Rattle.kt_metadata.specs.declared.meta.Meta.{Meta}
-use Rattle.kt_metadata.specs.Requirements.{needed}
-use Rattle.kt_plan.specs.Planning.{needs_among, needs_in}
+use Rattle.kt_plan.proofs.Common.{common_steps, err_from_is_err_and, Need, Meta, needed, needs_among, needs_in}
 use Rattle.kt_plan.proofs.Chains.{asked_short}
 use Rattle.kt_plan.proofs.LookLaws.{looking_next, looking_all, looking_stopped}
 use Rattle.kt_plan.proofs.Rests.{none_left}

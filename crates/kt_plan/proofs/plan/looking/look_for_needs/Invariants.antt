@@ -1,5 +1,5 @@
 use Rattle.std.proofs.Common.{drop}
-use Rattle.kt_plan.specs.Planning.{needs_among}
+use Rattle.kt_plan.proofs.Common.{needs_among}
 use Rattle.kt_plan.proofs.LookLaws.{Looking}
 use Rattle.kt_plan.proofs.plan.looking.look_for_needs.Given as goal
 

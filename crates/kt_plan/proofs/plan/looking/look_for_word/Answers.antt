@@ -1,6 +1,5 @@
-use Rattle.std.specs.Prelude.{true, false}
-use Rattle.std.proofs.Common.{rules, ◌≡◌}
-use Rattle.std.proofs.lemmas.Result.{err_from_is_err_and}
+use Rattle.std.proofs.Common.{true, false, rules, ◌≡◌}
+use Rattle.kt_plan.proofs.Common.{err_from_is_err_and}
 use Rattle.kt_plan.proofs.Chains.{asked_short}
 use Rattle.kt_plan.proofs.LookLaws.{word_asked, word_missing, word_there}
 use Rattle.kt_plan.proofs.plan.looking.look_for_word.Goals as goal

@@ -1,4 +1,4 @@
-use Rattle.std.proofs.lemmas.Result.{err_from_is_err_and}
+use Rattle.kt_plan.proofs.Common.{err_from_is_err_and}
 use Rattle.kt_plan.proofs.Chains.{asked_short, asked_four, idle_after}
 use Rattle.kt_plan.proofs.LookLaws.{survey_stopped, surveyed}
 use Rattle.kt_plan.proofs.plan.looking.survey.Goals as goal

@@ -1,7 +1,5 @@
 use Rattle.std.proofs.Common.{refl, ap, ◌∙◌, subst, ◌&&◌}
-use Rattle.kt_metadata.specs.declared.meta.Meta.{Meta}
-use Rattle.kt_metadata.specs.Requirements.{first_reason, rows}
-use Rattle.kt_plan.specs.Planning.{is_atf, IsDecided}
+use Rattle.kt_plan.proofs.Common.{Meta, first_reason, rows, is_atf, IsDecided}
 use Rattle.kt_plan.proofs.plan.planning.job_at.Goals as goal
 
 pub returns-clause-is : goal.returns-clause-is

@@ -1,5 +1,5 @@
 use Rattle.std.proofs.Common.{◌≡◌, ◌∷◌, ◌+◌, arith, drop, length}
-use Rattle.std.proofs.lemmas.Grind.{common_steps}
+use Rattle.kt_plan.proofs.Common.{common_steps}
 use Rattle.kt_plan.proofs.PlanLaws.{jobs_next, jobs_all, jobs_run}
 use Rattle.kt_plan.proofs.plan.planning.make_plan.Goals as goal
 

@@ -1,4 +1,4 @@
-use lib.Utf8.{encode}
+use Rattle.kt_plan.proofs.Common.{encode}
 use Rattle.kt_plan.proofs.stop.Stop.print.Goals as goal
 
 pub returns-in-NoMemory : goal.returns-in-NoMemory

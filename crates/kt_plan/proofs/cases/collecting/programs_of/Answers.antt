@@ -1,10 +1,7 @@
-use Rattle.std.proofs.Common.{◌≡◌, ◌∙◌, [], ap, sym, refl, inl}
-use Rattle.std.specs.Prelude.{false, true}
-use Rattle.kt_suite.specs.Paths.{name_in}
-use Rattle.kt_base.specs.Texts.{is_empty}
-use Rattle.kt_plan.specs.Listings.{before_tree}
+use Rattle.std.proofs.Common.{◌≡◌, ◌∙◌, [], ap, sym, refl, inl, false, true}
+use Rattle.kt_plan.proofs.Common.{name_in, is_empty, before_tree}
 use Rattle.kt_plan.proofs.Loading.{not_there, loaded}
-use Rattle.kt_plan.proofs.cases.programs.programs_of.Goals as goal
+use Rattle.kt_plan.proofs.cases.collecting.programs_of.Goals as goal
 
 pub returns-in-Err-clause-loaded : goal.returns-in-Err-clause-loaded
 returns-in-Err-clause-loaded g c = record { asked = []; chain = refl; holds = inl ((_, (c.in-Err.refusal, c.out_of_memory.ensures), refl), before_tree) }
