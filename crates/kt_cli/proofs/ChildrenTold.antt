@@ -1,21 +1,11 @@
 -- Each end in the trace of a command is told by its own child.
 use Rattle.std.proofs.Common.{◌≡◌, ◌∙◌, ℕ, List, [], ◌∷◌, ◌⊎◌, inl, inr, refl, ap, subst, sym}
-use Rattle.kt_sched.specs.declared.job.Job.{Job}
-use Rattle.kt_sched.specs.Plan.{IsPlan}
-use Rattle.kt_sched.specs.Trace.{Trace, NoEvent, Leads}
-use Rattle.kt_base.specs.Chains.{Chain}
-use Rattle.kt_child.specs.Driving.ChildrenState.{ChildrenState, idle_state}
+use Rattle.kt_cli.proofs.Common.{Job, IsPlan, Trace, NoEvent, Leads, Chain, ChildrenState, idle_state, plan_fits, Question, OfTree, OfHost, leads_by, Runner, IsHostAnswer, RunnerStarts, RunnerWaits, running_kept, Seen, Means, CutShort, stopped, listed, tested, debugged, idle, reported, reported_junit, no_memory, cut, report_cut, junit_cut, Command}
 use Rattle.kt_child.specs.System.Calls.{Call}
 use Rattle.kt_child.specs.Driving.Numbers.{IsBare}
 use Rattle.kt_child.proofs.TraceTells.{ends_are_told}
-use Rattle.kt_plan.proofs.PlansFit.{plan_fits}
-use Rattle.kt_plan.specs.Questions.{Question, OfTree, OfHost, leads_by}
-use Rattle.kt_cli.specs.declared.host.runner.Runner.{Runner}
 use Rattle.kt_cli.specs.ChildrenTold.{ChildrenTell, CoursesAreTold}
-use Rattle.kt_cli.specs.HostAnswers.{IsHostAnswer, RunnerStarts, RunnerWaits, running_kept}
 use Rattle.kt_cli.specs.HostFiles.{IsLook}
-use Rattle.kt_cli.specs.Meaning.{Seen, Means, CutShort, stopped, listed, tested, debugged, idle, reported, reported_junit, no_memory, cut, report_cut, junit_cut}
-use Rattle.kt_words.specs.declared.command.Command.{Command}
 
 -- what was lent to a launcher can be run, or nothing was started
 abbrev pub Runs : Seen → Type 0

@@ -1,20 +1,7 @@
 -- The run that is shown is the chosen one.
-use Rattle.std.specs.Prelude.{Option, Some, None, slice_get, map, ◌-◌, ◌==◌}
-use Rattle.std.specs.List.{find}
-use Rattle.std.specs.Option.{option_map}
-use Rattle.std.proofs.Common.{◌≡◌, ℕ, zero, suc, Bool, true, false, cond, List, [], ◌∷◌, length, arith, refl, sym, ap, ◌∙◌, ◌⊎◌, inl, inr}
-use Rattle.std.proofs.lemmas.Bool.Decides.{nat_tests}
-use Rattle.std.proofs.lemmas.Option.{slice_get-map}
-use Rattle.std.proofs.lemmas.List.{length-map}
-use Rattle.kt_base.specs.declared.entry.Entry.{Entry}
-use Rattle.kt_base.specs.declared.run.Run.{Run}
-use Rattle.kt_store.specs.Ask.{IsStoreFault}
-use Rattle.kt_store.specs.Heads.{head_of, without_outputs}
-use Rattle.kt_store.specs.Runs.{AreNumbered, run_at}
-use Rattle.kt_store.specs.declared.run_head.RunHead.{RunHead}
-use Rattle.kt_store.specs.declared.store_fault.StoreFault.{StoreFault}
+use Rattle.std.proofs.Common.{Option, Some, None, slice_get, map, ◌-◌, ◌==◌, ◌≡◌, ℕ, zero, suc, Bool, true, false, cond, List, [], ◌∷◌, length, arith, refl, sym, ap, ◌∙◌, ◌⊎◌, inl, inr}
+use Rattle.kt_cli.proofs.Common.{find, option_map, nat_tests, slice_get-map, length-map, Entry, Run, IsStoreFault, head_of, without_outputs, AreNumbered, run_at, RunHead, StoreFault, chosen}
 use Rattle.kt_store.specs.declared.store_fault.StoreFault.TheVariants.{NoRun as Absent}
-use Rattle.kt_cli.specs.Reports.{chosen}
 use Rattle.kt_cli.proofs.Numbered.{number_at}
 
 pub some_is : {X : Type 0} (x y : X) → Some x ≡ Some y → x ≡ y

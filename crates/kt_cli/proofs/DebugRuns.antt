@@ -1,19 +1,7 @@
 -- Cases are run and told one after the other.
-use Rattle.std.specs.Prelude.{Option, Result, Ok, Err, take}
-use Rattle.std.proofs.Common.{◌≡◌, ℕ, Bool, List, [], ◌∷◌, length, refl, sym, ◌∙◌, subst}
-use Rattle.kt_base.specs.declared.entry.Entry.{Entry}
-use Rattle.kt_sched.specs.declared.job.Job.{Job}
-use Rattle.kt_sched.specs.declared.sink_fault.SinkFault.{SinkFault}
-use Rattle.kt_sched.specs.declared.totals.Totals.{Totals}
-use Rattle.kt_sched.specs.declared.run_fault.RunFault.{RunFault}
-use Rattle.kt_sched.specs.declared.run_fault.RunFault.TheVariants.{NoMemory, SinkFailed}
-use Rattle.kt_sched.specs.EntryOf.{Gains, AreEntries}
+use Rattle.std.proofs.Common.{Option, Result, Ok, Err, take, ◌≡◌, ℕ, Bool, List, [], ◌∷◌, length, refl, sym, ◌∙◌, subst}
+use Rattle.kt_cli.proofs.Common.{Entry, Job, SinkFault, Totals, RunFault, NoMemory, SinkFailed, Gains, AreEntries, EndsAs, Trace, Prints, DebugEnds, debug_bytes, all_debug_bytes, Says}
 use Rattle.kt_sched.specs.RecordOrder.{recorded as record_order}
-use Rattle.kt_sched.specs.Run.{EndsAs}
-use Rattle.kt_sched.specs.Trace.{Trace}
-use Rattle.kt_cli.specs.Inner.Debugging.{Prints, DebugEnds}
-use Rattle.kt_cli.specs.Debugging.{debug_bytes, all_debug_bytes}
-use Rattle.kt_cli.specs.Inner.Pages.{Says}
 use Rattle.kt_cli.proofs.Gainings.{all_entries}
 use Rattle.kt_cli.proofs.Saying.{tells_both, tells_nothing}
 

@@ -1,24 +1,7 @@
 -- Entries are recorded and told one after the other.
-use Rattle.std.specs.Prelude.{Option, Result, Ok, Err, count_by, take, ◌==◌, ◌≤◌}
-use Rattle.std.proofs.Common.{◌≡◌, ℕ, Bool, List, [], ◌∷◌, ◌++◌, length, refl, sym, ap, ◌∙◌, subst, append-nil}
-use Rattle.kt_base.specs.declared.entry.Entry.{Entry}
-use Rattle.kt_report.specs.Lines.{line_bytes}
-use Rattle.kt_sched.specs.declared.job.Job.{Job}
-use Rattle.kt_sched.specs.declared.sink_fault.SinkFault.{SinkFault}
-use Rattle.kt_sched.specs.declared.totals.Totals.{Totals}
-use Rattle.kt_sched.specs.declared.run_fault.RunFault.{RunFault}
-use Rattle.kt_sched.specs.declared.run_fault.RunFault.TheVariants.{NoMemory, SinkFailed}
-use Rattle.kt_sched.specs.EntryOf.{Gains, AreEntries}
-use Rattle.kt_sched.specs.RecordOrder.{recorded}
-use Rattle.kt_sched.specs.Run.{EndsAs}
-use Rattle.kt_sched.specs.Trace.{Trace}
-use Rattle.kt_store.specs.StoreCalls.{StoreCall, Put}
-use Rattle.kt_store.specs.declared.keeping.Keeping as keeping
-use Rattle.kt_cli.specs.Inner.Pages.{Says}
-use Rattle.kt_cli.specs.Inner.Recording.{Recorded, Recording}
-use Rattle.kt_cli.specs.Inner.Recordings.{RecordEnds}
-use Rattle.kt_cli.specs.Stores.{Stored, puts}
-use Rattle.kt_cli.specs.Totals.{lines}
+use Rattle.std.proofs.Common.{Option, Result, Ok, Err, count_by, take, ◌==◌, ◌≤◌, ◌≡◌, ℕ, Bool, List, [], ◌∷◌, ◌++◌, length, refl, sym, ap, ◌∙◌, subst, append-nil}
+use Rattle.kt_cli.proofs.Common.{Entry, line_bytes, Job, SinkFault, Totals, RunFault, NoMemory, SinkFailed, Gains, AreEntries, recorded, EndsAs, Trace, StoreCall, Put, Says, Recorded, Recording, RecordEnds, Stored, puts, lines}
+use Rattle.kt_store.specs.declared.result_store.Keeping as keeping
 use Rattle.kt_cli.proofs.Saying.{tells_both, tells_nothing}
 use Rattle.kt_cli.proofs.StoreChains.{stored_none, stored_both, stored_as}
 

@@ -1,13 +1,7 @@
 -- A command over a world, as what stands in it sees the answers.
 use Rattle.std.proofs.Common.{◌≡◌, ℕ, List, [], ◌∷◌, ap, subst}
-use Rattle.kt_sched.specs.declared.job.Job.{Job}
-use Rattle.kt_sched.specs.Trace.{Trace, NoEvent, Then, Start, End, Leads}
-use Rattle.kt_store.specs.declared.keeping.Keeping as keeping
-use Rattle.kt_base.specs.Chains.{Chain}
-use Rattle.kt_words.specs.declared.command.Command.{Command}
-use Rattle.kt_cli.specs.Meaning.{Did}
-use Rattle.kt_cli.specs.Scenes.{Scene, World}
-use Rattle.kt_plan.specs.Questions.{Question, OfTree, OfHost, leads_by}
+use Rattle.kt_cli.proofs.Common.{Job, Trace, NoEvent, Then, Start, End, Leads, Chain, Command, Did, Scene, World, Question, OfTree, OfHost, leads_by}
+use Rattle.kt_store.specs.declared.result_store.Keeping as keeping
 
 module _ {W L : Type 0} (seen : W → L) (w : World L) where
   -- the relations of a world of which this is seen

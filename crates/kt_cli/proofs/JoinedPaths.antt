@@ -1,6 +1,5 @@
 -- A path that is put together of texts is a text.
-use Rattle.std.specs.Prelude.{◌≡◌, ℕ, Bool, true, false, Option, Some, None, IfNone, Result, Ok, Err, is_some, is_ok, MatchResult, List, ◌++◌}
-use Rattle.std.proofs.Common.{IsUtf8, subst, sym, ap, ◌∙◌, append_assoc}
+use Rattle.std.proofs.Common.{◌≡◌, ℕ, true, false, Option, Some, None, IfNone, Result, Ok, Err, is_some, is_ok, MatchResult, List, ◌++◌, IsUtf8, subst, sym, ap, ◌∙◌, append_assoc}
 use Rattle.std.proofs.lemmas.Str.{IsUtf8-append}
 
 pub joins : (first second path directory between name : List ℕ) → first ≡ directory → second ≡ first ++ between → path ≡ second ++ name → path ≡ directory ++ (between ++ name)

@@ -1,25 +1,10 @@
 -- A JUnit report is written, an entry at a time.
-use Rattle.std.specs.Prelude.{Option, Some, Result, Ok, Err, true, false, slice_get, get_or, flat_map}
-use Rattle.std.specs.Result.{IsErrAnd}
-use Rattle.std.proofs.Common.{◌≡◌, ◌<◌, ◌≤◌, ◌+◌, ℕ, List, [], ◌∷◌, ◌++◌, length, map, refl, ap, ◌∙◌, sym, subst, append_assoc, append-nil, length-append, arith}
-use Rattle.std.proofs.lemmas.Grind.{flat_map-append}
-use Rattle.std.proofs.lemmas.Option.{slice_get-get_or}
-use Rattle.kt_base.specs.declared.entry.Entry.{Entry}
-use Rattle.kt_base.specs.declared.run.Run.{Run}
-use Rattle.kt_base.specs.Shows.{Shows}
-use Rattle.kt_base.proofs.Showing.{shows_as, shows_both, shows_more}
+use Rattle.std.proofs.Common.{Option, Some, Result, Ok, Err, true, false, slice_get, get_or, flat_map, ◌≡◌, ◌<◌, ◌≤◌, ◌+◌, ℕ, List, [], ◌∷◌, ◌++◌, length, map, refl, ap, ◌∙◌, sym, subst, append_assoc, append-nil, length-append, arith}
+use Rattle.kt_cli.proofs.Common.{IsErrAnd, flat_map-append, slice_get-get_or, Entry, Run, Shows, shows_as, shows_both, shows_more, heading, case_bytes, ending, without_outputs, Outputs, CaseOutputs, Refused, Report, WritesCase, WritesFirst, CutsJunit, WritesJunit, filled, asked_outputs, Stored}
 use Rattle.kt_report.specs.Cases.{with_outputs}
-use Rattle.kt_report.specs.Junits.{heading, case_bytes, ending}
 use Rattle.kt_report.proofs.Outlines.{same_heading}
-use Rattle.kt_store.specs.Heads.{without_outputs}
-use Rattle.kt_store.specs.StoreCalls.{Outputs}
-use Rattle.kt_store.specs.declared.case_outputs.CaseOutputs.{CaseOutputs}
-use Rattle.kt_store.specs.declared.keeping.Keeping as keeping
-use Rattle.kt_cli.specs.declared.commands.junit_stop.JunitStop.{JunitStop}
-use Rattle.kt_cli.specs.declared.commands.junit_stop.JunitStop.TheVariants.{Refused, Report}
-use Rattle.kt_cli.specs.Inner.Reports.{WritesCase, WritesFirst, CutsJunit, WritesJunit}
-use Rattle.kt_cli.specs.Reports.{filled, asked_outputs}
-use Rattle.kt_cli.specs.Stores.{Stored}
+use Rattle.kt_cli.specs.declared.commands.report_stop.JunitStop.{JunitStop}
+use Rattle.kt_store.specs.declared.result_store.Keeping as keeping
 use Rattle.kt_cli.proofs.ChosenRuns.{some_is}
 use Rattle.kt_cli.proofs.StoreChains.{stored_none, stored_both, stored_as}
 
@@ -50,20 +35,10 @@ heading_filled run outputs all =
     sym (same_heading without_outputs (λ e. refl) run) ∙ ap (λ (es : List Entry). heading (record run { entries = es })) (sym (filled_bare run.entries outputs all))
     ∙ same_heading without_outputs (λ e. refl) (record run { entries = filled run.entries outputs })
 
-module _ {R : Type 0} (keep : keeping.Ghosts R) (store after : R) (was now : Option (List ℕ)) where
-  -- ---- the exit of a `?`
-
-  pub case_error : (number : ℕ) (e : Entry) (r : Result (Unit {0}) JunitStop) (stop : JunitStop) → IsErrAnd r (λ x. x ≡ stop) → WritesCase keep store after was now number e (Err stop) → WritesCase keep store after was now number e r
-  case_error number e (Ok done) stop is p = absurd is
-  case_error number e (Err other) stop is p = subst (λ (s : JunitStop). WritesCase keep store after was now number e (Err s)) (sym is) p
-
-  pub junit_error : (run : Run) (r : Result (Unit {0}) JunitStop) (stop : JunitStop) → IsErrAnd r (λ x. x ≡ stop) → WritesJunit keep store after was now run (Err stop) → WritesJunit keep store after was now run r
-  junit_error run (Ok done) stop is p = absurd is
-  junit_error run (Err other) stop is p = subst (λ (s : JunitStop). WritesJunit keep store after was now run (Err s)) (sym is) p
-
-  -- why it ended is known
-  pub stopped_as : (run : Run) (stop known : JunitStop) → stop ≡ known → WritesJunit keep store after was now run (Err stop) → WritesJunit keep store after was now run (Err known)
-  stopped_as run stop known is p = subst (λ (s : JunitStop). WritesJunit keep store after was now run (Err s)) is p
+-- the exit of a `?`: the fault is the one that was met
+pub error_is : {T E : Type 0} (P : Result T E → Type 0) (r : Result T E) (fault : E) → IsErrAnd r (λ x. x ≡ fault) → P (Err fault) → P r
+error_is P (Ok done) fault is p = absurd is
+error_is {T} {E} P (Err other) fault is p = subst (λ (f : E). P (Err f)) (sym is) p
 
 module _ {R : Type 0} (keep : keeping.Ghosts R) (run : Run) (store : R) (was : Option (List ℕ)) where
   -- ---- the heading

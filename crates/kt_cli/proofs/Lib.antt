@@ -1,3 +1,4 @@
+pub mod Common
 pub mod ChildrenTold
 pub mod ChosenRuns
 pub mod DebugRuns

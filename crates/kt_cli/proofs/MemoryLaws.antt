@@ -1,22 +1,8 @@
 -- Runs in memory are looked up and changed.
-use Rattle.std.specs.Prelude.{Option, Some, None, Ok, Err, Bool, true, false, slice_get, nat_lt, insert, map, ◌==◌, if◌then◌else◌}
-use Rattle.std.specs.List.{find}
-use Rattle.std.proofs.Common.{◌≡◌, ℕ, zero, suc, ◌<◌, ◌≤◌, List, [], ◌∷◌, length, arith, refl, sym, ap, ◌∙◌, get_or, set, inl, inr, subst}
-use Rattle.std.proofs.lemmas.List.{set-get_or}
-use Rattle.kt_base.specs.declared.entry.Entry.{Entry}
-use Rattle.kt_base.specs.declared.run.Run.{Run}
-use Rattle.kt_store.specs.declared.store_fault.StoreFault.{StoreFault}
-use Rattle.kt_store.specs.declared.store_fault.StoreFault.TheVariants.{NoRun}
-use Rattle.kt_store.specs.declared.case_outputs.CaseOutputs.{CaseOutputs}
-use Rattle.kt_store.specs.Ask.{IsStoreFault}
-use Rattle.kt_store.specs.Heads.{without_outputs, outputs_of, entry_at}
-use Rattle.kt_store.specs.Runs.{AreNumbered, insert_at, run_at, put_refusal_of, finish_refusal_of}
-use Rattle.kt_store.specs.Serving.{Agrees, Serves, changed_by}
-use Rattle.kt_store.specs.StoreCalls.{StoreCall, Put, Finished, Outline, Outputs}
+use Rattle.std.proofs.Common.{Option, Some, None, Ok, Err, Bool, true, false, slice_get, nat_lt, insert, map, ◌==◌, if◌then◌else◌, ◌≡◌, ℕ, zero, suc, ◌<◌, ◌≤◌, List, [], ◌∷◌, length, arith, refl, sym, ap, ◌∙◌, get_or, set, inl, inr, subst}
+use Rattle.kt_cli.proofs.Common.{find, set-get_or, Entry, Run, StoreFault, NoRun, CaseOutputs, IsStoreFault, without_outputs, outputs_of, entry_at, AreNumbered, insert_at, run_at, put_refusal_of, finish_refusal_of, Agrees, Serves, changed_by, StoreCall, Put, Finished, Outline, Outputs, LeavesInMemory, memory_runs, ServesInMemory, FindsPlace, entry_refusal, closing_refusal, place_among}
 use Rattle.kt_store.proofs.Numbered.{numbers_changed}
 use Rattle.kt_store.proofs.ServeLemmas.{always_outlasts}
-use Rattle.kt_cli.specs.MemoryRuns.{LeavesInMemory, memory_runs}
-use Rattle.kt_cli.specs.Inner.MemoryRuns.{ServesInMemory, FindsPlace, entry_refusal, closing_refusal, place_among}
 use Rattle.kt_cli.proofs.Numbered.{entry_placed, finish_placed}
 
 -- runs in memory serve a call

@@ -1,15 +1,6 @@
 -- The run that was begun last.
-use Rattle.std.specs.Prelude.{Option, Some, None, Bool, true, false, slice_get, nat_le, nat_lt, if◌then◌else◌}
-use Rattle.std.proofs.Common.{◌≡◌, ℕ, suc, ◌+◌, List, [], ◌∷◌, ◌++◌, length, arith, refl, sym, ap, ◌∙◌}
-use Rattle.std.proofs.lemmas.Bool.Decides.{nat_tests}
-use Rattle.kt_base.specs.declared.entry.Entry.{Entry}
-use Rattle.kt_base.specs.declared.run.Run.{Run}
-use Rattle.kt_store.specs.declared.store_fault.StoreFault.{StoreFault}
-use Rattle.kt_store.specs.declared.store_fault.StoreFault.TheVariants.{BadPosition, Incomplete, RepeatedPosition}
-use Rattle.kt_store.specs.Runs.{AreNumbered, new_run, insert_at, has_position, run_at, put_refusal, put_refusal_of, finish, finish_refusal, finish_refusal_of}
-use Rattle.kt_cli.specs.SoundStores.{with_new}
-use Rattle.kt_cli.specs.Inner.Stores.{put_all}
-use Rattle.kt_cli.specs.Stores.{put_among, by_position}
+use Rattle.std.proofs.Common.{Option, Some, None, Bool, true, false, slice_get, nat_le, nat_lt, if◌then◌else◌, ◌≡◌, ℕ, suc, ◌+◌, List, [], ◌∷◌, ◌++◌, length, arith, refl, sym, ap, ◌∙◌}
+use Rattle.kt_cli.proofs.Common.{nat_tests, Entry, Run, StoreFault, BadPosition, Incomplete, RepeatedPosition, AreNumbered, new_run, insert_at, has_position, run_at, put_refusal, put_refusal_of, finish, finish_refusal, finish_refusal_of, with_new, put_all, put_among, by_position}
 use Rattle.kt_cli.proofs.Numbered.{entries_last, finish_last}
 
 abbrev new_one : List Run → ℕ → ℕ → Bool → List Entry → Run

@@ -1,12 +1,6 @@
 -- The number of a run is its place.
-use Rattle.std.specs.Prelude.{Some, Bool, true, false, slice_get, slice_set, if◌then◌else◌}
-use Rattle.std.proofs.Common.{◌≡◌, ℕ, zero, suc, ◌+◌, ◌==◌, List, [], ◌∷◌, ◌++◌, length, arith, refl, sym, ap, ◌∙◌}
-use Rattle.std.proofs.lemmas.Bool.Decides.{nat_tests}
-use Rattle.kt_base.specs.declared.entry.Entry.{Entry}
-use Rattle.kt_base.specs.declared.run.Run.{Run}
-use Rattle.kt_store.specs.Runs.{AreNumbered, insert_at, with_entry, finish}
-use Rattle.kt_cli.specs.Inner.Stores.{put_all}
-use Rattle.kt_cli.specs.Stores.{put_among}
+use Rattle.std.proofs.Common.{Some, Bool, true, false, slice_get, slice_set, if◌then◌else◌, ◌≡◌, ℕ, zero, suc, ◌+◌, ◌==◌, List, [], ◌∷◌, ◌++◌, length, arith, refl, sym, ap, ◌∙◌}
+use Rattle.kt_cli.proofs.Common.{nat_tests, Entry, Run, AreNumbered, insert_at, with_entry, finish, put_all, put_among}
 
 -- the number of the run at a place
 pub number_at : (n k : ℕ) (runs : List Run) (r : Run) → AreNumbered n runs → slice_get runs k ≡ Some r → r.number ≡ n + k

@@ -1,18 +1,8 @@
 -- A command of the program over its own store.
-use Rattle.std.specs.Prelude.{Bool, Option, Some, None}
-use Rattle.std.proofs.Common.{◌≡◌, ℕ, List, [], refl, subst, sym}
-use Rattle.kt_base.specs.declared.kind.Kind.{Kind}
-use Rattle.kt_base.specs.declared.run.Run.{Run}
-use Rattle.kt_store.specs.declared.keeping.Keeping as keeping
-use Rattle.kt_words.specs.declared.command.Command.{Command}
+use Rattle.std.proofs.Common.{Bool, Option, Some, None, ◌≡◌, ℕ, List, [], refl, subst, sym}
+use Rattle.kt_cli.proofs.Common.{Kind, Run, Command, ReportOptions, no_world, JunitOrUnread, DidReport, memory_runs, Printed, alone, DoneBy, DoneIn, DoneOver, Program, Reported, ReportedJunit, Unread}
+use Rattle.kt_store.specs.declared.result_store.Keeping as keeping
 use Rattle.kt_words.specs.declared.command.Command.TheVariants as command
-use Rattle.kt_words.specs.declared.report_options.ReportOptions.{ReportOptions}
-use Rattle.kt_cli.specs.Hosts.{no_world}
-use Rattle.kt_cli.specs.Inner.Reports.{JunitOrUnread, DidReport}
-use Rattle.kt_cli.specs.MemoryRuns.{memory_runs}
-use Rattle.kt_cli.specs.Pages.{Printed}
-use Rattle.kt_cli.specs.Performing.{alone, DoneBy, DoneIn, DoneOver, Program}
-use Rattle.kt_cli.specs.Reports.{Reported, ReportedJunit, Unread}
 use Rattle.kt_cli.proofs.Testings.{did_report, did_junit}
 
 -- a line is told where nothing was written before it

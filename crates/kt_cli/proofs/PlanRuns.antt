@@ -1,30 +1,11 @@
 -- What was done with a plan.
-use Rattle.std.specs.Prelude.{Option, Result, Ok, Err, Bool, false, if◌then◌else◌}
-use Rattle.std.proofs.Common.{◌≡◌, ℕ, List, [], ◌∷◌, ◌++◌, length, refl, ap, ◌∙◌, subst, append-nil, inl, inr}
-use Rattle.kt_base.specs.Shows.{Shows}
-use Rattle.kt_base.specs.Utf8.{utf8}
-use Rattle.kt_base.specs.declared.entry.Entry.{Entry}
+use Rattle.std.proofs.Common.{Option, Result, Ok, Err, Bool, false, if◌then◌else◌, ◌≡◌, ℕ, List, [], ◌∷◌, ◌++◌, length, refl, ap, ◌∙◌, subst, append-nil, inl, inr}
+use Rattle.kt_cli.proofs.Common.{Shows, utf8, Entry, SinkFault, Totals, RunFault, NoMemory, SinkFailed, NoEvent, StoreCall, Began, Put, Finished, StoreFault, run_line, memory_line, refusal_line, Says, sink_fault_of, Records, RecordEnds, RecordedAll, RecordedSome, RecordedNone, Scene, scene, Stored, puts, RanPlan, PlannedRun, begins, exit_of, results, results_exit, not_begun, not_run, not_put, not_finished, lines, good_count, bad_count}
 use Rattle.kt_base.specs.declared.no_memory.NoMemory.{NoMemory as OutOfMemory}
+use Rattle.kt_cli.specs.Testing.{ending, recorded as all_recorded}
 use Rattle.kt_sched.specs.declared.launcher.Launcher as launcher
-use Rattle.kt_sched.specs.declared.sink_fault.SinkFault.{SinkFault}
-use Rattle.kt_sched.specs.declared.totals.Totals.{Totals}
-use Rattle.kt_sched.specs.declared.run_fault.RunFault.{RunFault}
-use Rattle.kt_sched.specs.declared.run_fault.RunFault.TheVariants.{NoMemory, SinkFailed}
-use Rattle.kt_sched.specs.Trace.{NoEvent}
-use Rattle.kt_store.specs.StoreCalls.{StoreCall, Began, Put, Finished}
-use Rattle.kt_store.specs.declared.keeping.Keeping as keeping
-use Rattle.kt_store.specs.declared.store_fault.StoreFault.{StoreFault}
+use Rattle.kt_store.specs.declared.result_store.Keeping as keeping
 use Rattle.kt_store.specs.declared.store_fault.StoreFault.TheVariants as store
-use Rattle.kt_cli.specs.Inner.FaultLines.{run_line}
-use Rattle.kt_cli.specs.FaultLines.{memory_line, refusal_line}
-use Rattle.kt_cli.specs.Inner.Pages.{Says}
-use Rattle.kt_cli.specs.Inner.Recording.{sink_fault_of}
-use Rattle.kt_cli.specs.Inner.Recordings.{Records, RecordEnds, RecordedAll, RecordedSome, RecordedNone}
-use Rattle.kt_cli.specs.Scenes.{Scene, scene}
-use Rattle.kt_cli.specs.Stores.{Stored, puts}
-use Rattle.kt_cli.specs.Inner.Testing.{RanPlan}
-use Rattle.kt_cli.specs.Testing.{PlannedRun, begins, ending, exit_of, results, results_exit, recorded as all_recorded, not_begun, not_run, not_put, not_finished}
-use Rattle.kt_cli.specs.Totals.{lines, good_count, bad_count}
 use Rattle.kt_cli.proofs.Saying.{tells_both}
 use Rattle.kt_cli.proofs.StoreChains.{stored_both, stored_as}
 
@@ -39,6 +20,9 @@ put_refusal_line store.StoreFull = refl
 put_refusal_line store.UnknownSchema = refl
 put_refusal_line store.BadPosition = refl
 put_refusal_line store.Incomplete = refl
+
+refused_line : (told : SinkFault) (fault : StoreFault) → told ≡ sink_fault_of fault → run_line (SinkFailed told) ≡ refusal_line fault
+refused_line told fault is = ap (λ (f : SinkFault). run_line (SinkFailed f)) is ∙ put_refusal_line fault
 
 module _ {L R : Type 0} (l : launcher.Ghosts L) (keep : keeping.Ghosts R) (planned : PlannedRun) (old : Scene L R) where
   -- no run was begun
@@ -84,7 +68,6 @@ module _ {L R : Type 0} (l : launcher.Ghosts L) (keep : keeping.Ghosts R) (plann
       ran_some why a s e =
           let some : RecordedSome planned.plan planned.width number r.trace r.entries r.last why = subst (λ (x : Result Totals RunFault). RecordEnds planned.plan planned.width number r.trace r.entries r.last x) a r.ends in
           let refused : List StoreCall = Put number some.entry (Err some.refusal) ∷ [] in
-          let line : run_line (SinkFailed why) ≡ refusal_line some.refusal = ap (λ (w : SinkFault). run_line (SinkFailed w)) some.told ∙ put_refusal_line some.refusal in
           record {
             trace = r.trace;
             leads = r.leads;
@@ -95,7 +78,7 @@ module _ {L R : Type 0} (l : launcher.Ghosts L) (keep : keeping.Ghosts R) (plann
             is = inr (not_put number r.entries some.entry some.refusal some.stopped);
             printed = record {
               failed = g;
-              shows = (tells_both old.held mid now false f g (lines r.entries) (utf8 (refusal_line some.refusal)) r.says (subst (λ (xs : List ℕ). Says mid f now g (utf8 xs)) line s)).more;
+              shows = (tells_both old.held mid now false f g (lines r.entries) (utf8 (refusal_line some.refusal)) r.says (subst (λ (xs : List ℕ). Says mid f now g (utf8 xs)) (refused_line why some.refusal some.told) s)).more;
               exits = e;
             };
           }
@@ -117,9 +100,9 @@ module _ {L R : Type 0} (l : launcher.Ghosts L) (keep : keeping.Ghosts R) (plann
             (stored_both keep (puts number r.entries) (end ∷ []) begun after last (stored_as keep (puts number r.entries ++ r.last) (puts number r.entries) begun after all r.stored) p)
 
         -- the store refused to finish the run
-        pub ran_unfinished : (why : StoreFault) → Stored keep (Finished number (Err why) ∷ []) after last
-            → Says mid f now g (utf8 (refusal_line why)) → exit ≡ (if g then 2 else 2) → RanPlan l keep planned old (scene new last now) exit
-        ran_unfinished why p s e = record {
+        pub ran_unfinished : (why : StoreFault) → Stored keep (Finished number (Err why) ∷ []) after last → (fault : SinkFault) → fault ≡ sink_fault_of why
+            → Says mid f now g (utf8 (run_line (SinkFailed fault))) → exit ≡ (if g then 2 else 2) → RanPlan l keep planned old (scene new last now) exit
+        ran_unfinished why p fault is s e = record {
           trace = r.trace;
           leads = r.leads;
           calls = begins planned (Ok number) ∷ (puts number r.entries ++ Finished number (Err why) ∷ []);
@@ -127,7 +110,7 @@ module _ {L R : Type 0} (l : launcher.Ghosts L) (keep : keeping.Ghosts R) (plann
           bytes = lines r.entries ++ utf8 (refusal_line why);
           due = 2;
           is = inr (not_finished number r.entries why every.all);
-          printed = record { failed = g; shows = (tells_both old.held mid now false f g (lines r.entries) (utf8 (refusal_line why)) r.says s).more; exits = e };
+          printed = record { failed = g; shows = (tells_both old.held mid now false f g (lines r.entries) (utf8 (refusal_line why)) r.says (subst (λ (xs : List ℕ). Says mid f now g (utf8 xs)) (refused_line fault why is) s)).more; exits = e };
         }
 
         -- every case was recorded

@@ -1,9 +1,9 @@
 -- Why there is no driver.
 use Rattle.std.proofs.Common.{List, ℕ, [], arith, refl}
+use Rattle.kt_cli.proofs.Common.{NoRoot, none_made}
 use Rattle.kt_base.specs.declared.no_memory.NoMemory.{NoMemory as OutOfMemory}
 use Rattle.kt_child.specs.declared.driving.driver.DriverFault.TheVariants.{NoMemory}
 use Rattle.kt_child.specs.declared.system.os.Os as system
-use Rattle.kt_cli.specs.Hosts.{NoRoot, none_made}
 
 -- memory ran out before a root directory was asked for
 pub none_asked : {O : Type 0} (o : system.Ghosts O) (os : O) (base : List ℕ) (refusal : OutOfMemory) → NoRoot o os base (NoMemory refusal)

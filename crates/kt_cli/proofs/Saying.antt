@@ -1,13 +1,6 @@
 -- A page goes on.
-use Rattle.std.specs.Prelude.{Option, Result, Ok, Err, is_err, flat_map}
-use Rattle.std.specs.Result.{IsErrAnd}
-use Rattle.std.proofs.Common.{◌≡◌, ℕ, Bool, true, false, List, [], ◌∷◌, ◌++◌, length, refl, sym, ap, ◌∙◌, subst, append_assoc, append-nil, arith}
-use Rattle.kt_base.specs.Shows.{Shows}
-use Rattle.kt_base.specs.Utf8.{utf8}
-use Rattle.kt_base.proofs.Showing.{shows_as, shows_both, shows_more, shows_none, shows_of, utf8-append}
-use Rattle.kt_plan.specs.declared.cases.offering.Candidate.{Candidate}
-use Rattle.kt_cli.specs.Inner.Pages.{Says, SaysMore}
-use Rattle.kt_cli.specs.CaseLines.{case_line}
+use Rattle.std.proofs.Common.{Option, ◌≡◌, ℕ, Bool, true, false, List, [], ◌∷◌, ◌++◌, length, refl, sym, ◌∙◌, subst, arith}
+use Rattle.kt_cli.proofs.Common.{Shows, shows_both, shows_more, shows_none, shows_of, Says, SaysMore}
 
 -- more is said on a page
 says_more : (a b d : Option (List ℕ)) (f g : Bool) (xs ys : List ℕ) → Shows a b f xs → SaysMore b f d g ys → Shows a d g (xs ++ ys)
@@ -19,6 +12,13 @@ says_bytes a b d false g h xs ys p q = says_more a b d g h xs ys p q
 says_bytes a b d true g h xs ys p q =
     let r : SaysMore b true d h ys = subst (λ (x : Bool). SaysMore b x d h ys) p.1 q in
     (r.0 ∙ p.0, r.1)
+
+-- a writer that failed before is given nothing, and another is given the bytes
+pub says_on : {was now : Option (List ℕ)} {f g : Bool} {xs : List ℕ} → f ≡ false → Shows was now g xs → Says was f now g xs
+says_on {was} {now} {f} {g} {xs} e s = record { more = subst (λ (b : Bool). SaysMore was b now g xs) (sym e) s }
+
+pub says_no_more : {was : Option (List ℕ)} {f : Bool} {xs : List ℕ} → f ≡ true → Says was f was f xs
+says_no_more {was} {f} {xs} e = record { more = subst (λ (b : Bool). SaysMore was b was b xs) (sym e) (refl, refl) }
 
 pub tells_nothing : (a : Option (List ℕ)) (f : Bool) → Says a f a f []
 tells_nothing a false = record { more = shows_none }

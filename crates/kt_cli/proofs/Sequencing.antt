@@ -1,11 +1,8 @@
 -- One command more.
-use Rattle.std.proofs.Common.{◌≡◌, List, [], ◌∷◌, ◌++◌, length, refl, sym, subst, append_assoc, append-nil, arith}
-use Rattle.kt_store.specs.declared.keeping.Keeping as keeping
-use Rattle.kt_words.specs.declared.command.Command.{Command}
-use Rattle.kt_cli.specs.declared.output.exit.Exit.{Exit}
-use Rattle.kt_cli.specs.Meaning.{Did}
-use Rattle.kt_cli.specs.Scenes.{Scene, World}
+use Rattle.std.proofs.Common.{List, [], ◌∷◌, ◌++◌, sym, subst, append_assoc, append-nil}
+use Rattle.kt_cli.proofs.Common.{Command, Exit, Did, Scene, World}
 use Rattle.kt_cli.specs.Sequences.{DidAll, none_left, one_and}
+use Rattle.kt_store.specs.declared.result_store.Keeping as keeping
 
 module _ {W R : Type 0} (w : World W) (keep : keeping.Ghosts R) where
   -- whatever the rest does from here, all of them did from the start

@@ -1,30 +1,14 @@
 -- A run is read and shown.
-use lib.Utf8.{encode}
-use Rattle.std.specs.Prelude.{Option, Some, None, Ok, Err, Bool, true, false, ◌⊎◌, if◌then◌else◌, slice_get, flat_map}
-use Rattle.std.proofs.Common.{◌≡◌, ℕ, List, [], ◌∷◌, ◌++◌, length, refl, ap, sym, subst, inl, inr}
+use Rattle.std.proofs.Common.{Option, Some, None, Ok, Err, Bool, true, false, ◌⊎◌, if◌then◌else◌, slice_get, flat_map, ◌≡◌, ℕ, List, [], ◌∷◌, ◌++◌, length, refl, ap, sym, subst, inl, inr}
+use Rattle.kt_cli.proofs.Common.{encode, Shows, utf8, Entry, Kind, Run, shows_as, shows_both, heading, case_bytes, ending, junit_bytes, CaseOutputs, StoreCall, Heads, Outline, Outputs, RunHead, StoreFault, Refused, memory_line, refusal_line, JunitOrUnread, DidReport, CutsJunit, WritesJunit, chosen, run_of, Reported, told, no_run, ReportedJunit, Unread, JunitCut, no_outputs, filled, asked_outputs, Stored}
 use Rattle.std.specs.Io.KnownBytes.{Appends}
 use Rattle.jiff_core.specs.declared.civil.date.Date.{Date}
-use Rattle.kt_base.specs.Shows.{Shows}
-use Rattle.kt_base.specs.Utf8.{utf8}
-use Rattle.kt_base.specs.declared.entry.Entry.{Entry}
-use Rattle.kt_base.specs.declared.kind.Kind.{Kind}
-use Rattle.kt_base.specs.declared.run.Run.{Run}
-use Rattle.kt_base.proofs.Showing.{shows_as, shows_both}
-use Rattle.kt_report.specs.Junits.{heading, case_bytes, ending, junit_bytes}
-use Rattle.kt_store.specs.declared.case_outputs.CaseOutputs.{CaseOutputs}
 use Rattle.kt_report.specs.Texts.{IsDateOf, text_bytes}
-use Rattle.kt_store.specs.StoreCalls.{StoreCall, Heads, Outline, Outputs}
-use Rattle.kt_store.specs.declared.keeping.Keeping as keeping
-use Rattle.kt_store.specs.declared.run_head.RunHead.{RunHead}
-use Rattle.kt_store.specs.declared.store_fault.StoreFault.{StoreFault}
-use Rattle.kt_cli.specs.declared.commands.not_shown.NotShown.{NotShown}
-use Rattle.kt_cli.specs.declared.commands.not_shown.NotShown.TheVariants.{Refused as Unshown}
-use Rattle.kt_cli.specs.declared.commands.junit_stop.JunitStop.TheVariants.{Refused}
-use Rattle.kt_cli.specs.FaultLines.{memory_line, refusal_line}
-use Rattle.kt_cli.specs.Inner.Reports.{JunitOrUnread, DidReport, CutsJunit, WritesJunit}
-use Rattle.kt_cli.specs.Reports.{chosen, run_of, Reported, told, no_run, ReportedJunit, told as told_junit, no_run as no_junit, Unread, no_heads as unread_heads, no_outline as unread_outline, JunitCut, no_outputs, no_memory, filled, asked_outputs}
+use Rattle.kt_cli.specs.declared.commands.report_stop.NotShown.{NotShown}
+use Rattle.kt_cli.specs.declared.commands.report_stop.NotShown.TheVariants.{Refused as Unshown}
+use Rattle.kt_cli.specs.Reports.{told as told_junit, no_run as no_junit, no_heads as unread_heads, no_outline as unread_outline, no_memory}
 use Rattle.kt_cli.specs.Inner.Shown.{IsMissing, not_shown_line, FindsRun, read, missing, no_heads, no_outline, ReadsRun}
-use Rattle.kt_cli.specs.Stores.{Stored}
+use Rattle.kt_store.specs.declared.result_store.Keeping as keeping
 use Rattle.kt_cli.proofs.JunitSteps.{heading_filled}
 use Rattle.kt_cli.proofs.StoreChains.{stored_both}
 

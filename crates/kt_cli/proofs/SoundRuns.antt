@@ -1,36 +1,11 @@
 -- What the calls of a command come to over the runs of a sound store.
-use Rattle.std.specs.Prelude.{Option, Some, None, Ok, Err, Bool, true, false, map, slice_get}
-use Rattle.std.specs.List.{AllByRecursion}
-use Rattle.std.proofs.Common.{◌≡◌, ℕ, suc, List, [], ◌∷◌, ◌++◌, length, refl, sym, ap, ◌∙◌, subst, ◌⊎◌, inl, inr}
-use Rattle.kt_base.specs.declared.entry.Entry.{Entry}
-use Rattle.kt_base.specs.declared.run.Run.{Run}
-use Rattle.kt_base.specs.declared.kind.Kind.{Kind}
-use Rattle.kt_sched.specs.declared.job.Job.{Job}
-use Rattle.kt_plan.proofs.PlansFit.{plan_fits}
-use Rattle.kt_sched.specs.EntryOf.{AreEntries}
-use Rattle.kt_sched.specs.Plan.{IsPlan}
+use Rattle.std.proofs.Common.{Option, Some, None, Ok, Err, Bool, true, false, map, slice_get, ◌≡◌, ℕ, suc, List, [], ◌∷◌, ◌++◌, length, refl, sym, ap, ◌∙◌, subst, ◌⊎◌, inl, inr}
+use Rattle.kt_cli.proofs.Common.{AllByRecursion, Entry, Run, Kind, Job, plan_fits, AreEntries, IsPlan, Trace, IsStoreFault, head_of, without_outputs, entry_at, AreNumbered, new_run, run_at, with_entry, put_refusal, finish_refusal, StoreCall, Began, Put, Finished, Heads, Outline, Outputs, CaseOutputs, RunHead, StoreFault, Command, number_of, Seen, Means, stopped, listed, tested, debugged, idle, reported, reported_junit, CutShort, no_memory, cut, report_cut, junit_cut, Printed, AllRecorded, JunitOrUnread, chosen, Reported, told, no_run, ReportedJunit, Unread, JunitCut, asked_outputs, with_new, Comes, not_called, begun, finished, shown, ReadsOutputs, Left, put_all, Agrees, changed_by, puts, beside_by, changed, beside, Agree, Stored, PlannedRun, run_for, Tested, TestCut, not_begun, not_run, not_put, not_finished}
 use Rattle.kt_sched.specs.RecordOrder.{recorded as record_order}
-use Rattle.kt_sched.specs.Trace.{Trace}
-use Rattle.kt_store.specs.Ask.{IsStoreFault}
-use Rattle.kt_store.specs.Heads.{head_of, without_outputs, entry_at}
-use Rattle.kt_store.specs.Runs.{AreNumbered, new_run, run_at, with_entry, put_refusal, finish_refusal}
-use Rattle.kt_store.specs.StoreCalls.{StoreCall, Began, Put, Finished, Heads, Outline, Outputs}
-use Rattle.kt_store.specs.declared.case_outputs.CaseOutputs.{CaseOutputs}
-use Rattle.kt_store.specs.declared.keeping.Keeping as keeping
-use Rattle.kt_store.specs.declared.run_head.RunHead.{RunHead}
-use Rattle.kt_store.specs.declared.store_fault.StoreFault.{StoreFault}
-use Rattle.kt_words.specs.declared.command.Command.{Command}
-use Rattle.kt_words.specs.Commands.{number_of}
-use Rattle.kt_cli.specs.Meaning.{Seen, Means, stopped, listed, tested, debugged, idle, reported, reported_junit, CutShort, no_memory, cut, report_cut, junit_cut}
-use Rattle.kt_cli.specs.Pages.{Printed}
-use Rattle.kt_cli.specs.Recordings.{AllRecorded}
-use Rattle.kt_cli.specs.Inner.Reports.{JunitOrUnread}
-use Rattle.kt_cli.specs.Reports.{chosen, Reported, told, no_run, ReportedJunit, told as told_junit, no_run as no_junit, Unread, no_heads as unread_heads, no_outline as unread_outline, JunitCut, no_outputs as cut_outputs, no_memory as cut_junit, asked_outputs}
-use Rattle.kt_cli.specs.SoundStores.{with_new, Comes, not_called, not_begun as comes_not_begun, begun, not_put as comes_not_put, not_finished as comes_not_finished, finished, no_heads, no_run as comes_no_run, no_outline, shown, ReadsOutputs, told as told_outputs, failed as failed_outputs, Left}
-use Rattle.kt_cli.specs.Inner.Stores.{put_all}
-use Rattle.kt_store.specs.Serving.{Agrees, changed_by}
-use Rattle.kt_cli.specs.Stores.{puts, beside_by, changed, beside, Agree, Stored}
-use Rattle.kt_cli.specs.Testing.{PlannedRun, run_for, Tested, recorded, TestCut, not_begun, not_run, not_put, not_finished}
+use Rattle.kt_cli.specs.Reports.{told as told_junit, no_run as no_junit, no_heads as unread_heads, no_outline as unread_outline, no_outputs as cut_outputs, no_memory as cut_junit}
+use Rattle.kt_cli.specs.SoundStores.{not_begun as comes_not_begun, not_put as comes_not_put, not_finished as comes_not_finished, no_heads, no_run as comes_no_run, no_outline, told as told_outputs, failed as failed_outputs}
+use Rattle.kt_cli.specs.Testing.{recorded}
+use Rattle.kt_store.specs.declared.result_store.Keeping as keeping
 use Rattle.kt_cli.proofs.ChosenRuns.{some_is, run_found, entries_there, entry_found, not_chosen}
 use Rattle.kt_cli.proofs.NewRuns.{put_new, finish_new, finishes}
 use Rattle.kt_cli.proofs.Numbered.{put_more}

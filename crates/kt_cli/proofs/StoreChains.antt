@@ -1,12 +1,7 @@
 -- Calls on a store, one after the other.
-use Rattle.std.specs.Prelude.{Ok, Err}
-use Rattle.std.proofs.Common.{◌≡◌, List, [], ◌∷◌, ◌++◌, refl, sym, subst}
-use Rattle.kt_base.specs.declared.run.Run.{Run}
-use Rattle.kt_store.specs.StoreCalls.{StoreCall, Began, Put, Finished, Heads, Outline, Outputs}
-use Rattle.kt_store.specs.declared.keeping.Keeping as keeping
-use Rattle.kt_base.proofs.Chains.{chain-append}
-use Rattle.kt_store.specs.Serving.{Agrees, Outlasts, Serves, changed_by}
-use Rattle.kt_cli.specs.Stores.{beside_by, changed, beside, Agree, Stored}
+use Rattle.std.proofs.Common.{Ok, Err, ◌≡◌, List, [], ◌∷◌, ◌++◌, refl, sym, subst}
+use Rattle.kt_cli.proofs.Common.{Run, StoreCall, Began, Put, Finished, Heads, Outline, Outputs, chain-append, Agrees, Outlasts, Serves, changed_by, beside_by, changed, beside, Agree, Stored}
+use Rattle.kt_store.specs.declared.result_store.Keeping as keeping
 
 pub changed-append : (xs ys : List StoreCall) (runs : List Run) → changed (xs ++ ys) runs ≡ changed ys (changed xs runs)
 changed-append [] ys runs = refl

@@ -1,57 +1,26 @@
 -- A command over a world and a store.
-use Rattle.std.specs.Prelude.{Option, Some, Result, Ok, Err, Bool, true, false, length, take, ◌≤◌, ◌==◌, if◌then◌else◌, flat_map}
-use Rattle.std.proofs.Common.{◌≡◌, ℕ, List, [], ◌∷◌, ◌++◌, refl, sym, ap, ◌∙◌, subst, ◌⊎◌, inl, inr}
-use Rattle.kt_base.specs.Utf8.{utf8}
-use Rattle.kt_base.specs.declared.kind.Kind.{Kind}
-use Rattle.kt_base.specs.declared.role.Role.{Role}
+use Rattle.std.proofs.Common.{Option, Some, Result, Ok, Err, Bool, true, false, length, take, ◌≤◌, ◌==◌, if◌then◌else◌, flat_map, ◌≡◌, ℕ, List, [], ◌∷◌, ◌++◌, refl, sym, ap, ◌∙◌, subst, ◌⊎◌, inl, inr}
+use Rattle.kt_cli.proofs.Common.{utf8, Kind, IsIdle, Job, StoreCall, Chain, Candidate, Command, ReportOptions, Entry, RunFault, NoMemory, SinkFailed, Totals, NoEvent, cases_of, needs_case, Debugged, all_debug_bytes, debug_exit, memory_line, run_line, Seen, Course, listing, listing_exit, IsPrepared, IsAskedOnly, IsUnasked, Means, stopped, listed, tested, debugged, idle, reported, reported_junit, taken, AsksFirst, selecting, preparing, CutShort, no_memory, cut, report_cut, junit_cut, Did, Says, Printed, Question, leads_by, of_host, JunitOrUnread, DidReport, Reported, ReportedJunit, Unread, Scene, scene, World, launcher_of, Shows, case_line, RanPlan, none_idle, PlannedRun, planned_run, run_for, warnings, chain-append, exit_of}
+use Rattle.std.specs.Prelude.{◌&&◌}
+use Rattle.kt_base.specs.declared.child.Role.{Role}
 use Rattle.kt_metadata.specs.declared.host.Host.{Host}
-use Rattle.kt_sched.specs.Children.{IsIdle}
-use Rattle.kt_sched.specs.declared.job.Job.{Job}
-use Rattle.kt_store.specs.StoreCalls.{StoreCall}
-use Rattle.kt_store.specs.declared.keeping.Keeping as keeping
-use Rattle.kt_base.specs.Chains.{Chain}
 use Rattle.kt_suite.specs.Answers.{Answered}
 use Rattle.kt_suite.specs.Selecting.{most_items}
-use Rattle.kt_plan.specs.declared.cases.offering.Candidate.{Candidate}
-use Rattle.kt_plan.specs.declared.options.case_options.CaseOptions.{CaseOptions}
-use Rattle.kt_words.specs.declared.command.Command.{Command}
-use Rattle.kt_words.specs.declared.command.Command.TheVariants as command
-use Rattle.kt_words.specs.declared.report_options.ReportOptions.{ReportOptions}
-use Rattle.kt_plan.specs.declared.cases.selecting.Picked.{Picked}
+use Rattle.kt_plan.specs.declared.options.CaseOptions.{CaseOptions}
+use Rattle.kt_plan.specs.declared.cases.Picked.{Picked}
 use Rattle.kt_plan.specs.declared.stop.Stop.{Stop}
-use Rattle.kt_base.specs.declared.entry.Entry.{Entry}
-use Rattle.kt_sched.specs.declared.launcher.Launcher as launcher
-use Rattle.kt_sched.specs.declared.run_fault.RunFault.{RunFault}
-use Rattle.kt_sched.specs.declared.run_fault.RunFault.TheVariants.{NoMemory, SinkFailed}
-use Rattle.kt_sched.specs.declared.totals.Totals.{Totals}
-use Rattle.kt_sched.specs.Trace.{NoEvent}
-use Rattle.kt_words.specs.Commands.{cases_of, needs_case}
-use Rattle.kt_cli.specs.Inner.Debugging.{Debugged}
-use Rattle.kt_cli.specs.Debugging.{all_debug_bytes, debug_exit}
-use Rattle.kt_cli.specs.FaultLines.{memory_line}
-use Rattle.kt_cli.specs.Inner.FaultLines.{run_line}
 use Rattle.kt_plan.specs.Selecting.{Selects, SelectsFirst, SelectsOrShort}
 use Rattle.kt_cli.specs.Inner.Meaning.{asked_only, ToldOnly}
-use Rattle.kt_cli.specs.Meaning.{Seen, Course, listing, listing_exit, IsPrepared, IsAskedOnly, IsUnasked, Means, stopped, listed, tested, debugged, idle, reported, reported_junit, taken, AsksFirst, selecting, preparing, CutShort, no_memory, cut, report_cut, junit_cut, Did}
-use Rattle.kt_cli.specs.Inner.Pages.{Says}
-use Rattle.kt_cli.specs.Pages.{Printed}
 use Rattle.kt_plan.specs.Planning.{Surveys, SurveysFirst, ArePlanned}
-use Rattle.kt_plan.specs.Questions.{Question, leads_by, of_host}
-use Rattle.kt_cli.specs.Inner.Reports.{JunitOrUnread, DidReport}
-use Rattle.kt_cli.specs.Reports.{Reported, ReportedJunit, Unread}
 use Rattle.kt_plan.proofs.LookLaws.{all_surveyed}
-use Rattle.kt_cli.specs.Scenes.{Scene, scene, World, launcher_of}
 use Rattle.kt_cli.specs.StopLines.{stop_line, stop_exit}
-use Rattle.kt_base.specs.Shows.{Shows}
-use Rattle.kt_cli.specs.CaseLines.{case_line}
-use Rattle.kt_cli.specs.Inner.Testing.{RanPlan}
-use Rattle.kt_cli.specs.Testing.{none_idle, PlannedRun, planned_run, run_for, Tested, TestCut}
 use Rattle.kt_plan.specs.Told.{Told, Now}
-use Rattle.kt_cli.specs.Warnings.{warnings}
+use Rattle.kt_plan.proofs.QuestionChains.{chain_of_host}
+use Rattle.kt_store.specs.declared.result_store.Keeping as keeping
+use Rattle.kt_words.specs.declared.command.Command.TheVariants as command
+use Rattle.kt_sched.specs.declared.launcher.Launcher as launcher
 use Rattle.kt_cli.proofs.Saying.{tells_both}
 use Rattle.kt_cli.proofs.StoreChains.{stored_none, stored_as}
-use Rattle.kt_base.proofs.Chains.{chain-append}
-use Rattle.kt_plan.proofs.QuestionChains.{chain_of_host}
 
 -- the same answer in other words
 pub debugged_as : {L : Type 0} (l : launcher.Ghosts L) (plan : List Job) (old new : L) (was now : Option (List ℕ)) (failed : Bool) (answer other : Result Totals RunFault) → answer ≡ other
@@ -190,15 +159,20 @@ module _ {W : Type 0} (w : World W) where
     printed = record { failed = failed; shows = d.says.more; exits = e ∙ ap (λ (x : ℕ). if failed then 2 else (if x == 0 then 0 else 1)) d.ends.1.bad };
   }
 
+  -- no filter is left without a case where one case was selected
+  exit_alone : (b : Bool) → ◌≡◌ {A = ℕ} (if b && none_idle [] then 0 else 1) (if b then 0 else 1)
+  exit_alone true = refl
+  exit_alone false = refl
+
   -- the same by parts of what was selected
   pub debug_parts : (options : CaseOptions) (old mid begun new : W) (was now : Option (List ℕ)) (exit : ℕ) (picked : Picked) (first : Candidate) (others cases some : List Candidate) (plan : List Job) (failed : Bool) (totals : Totals) (due : ℕ)
       → Answered (leads_by w.asks w.tells) old mid (λ questions. SelectsOrShort true options questions (Ok picked)) → cases ≡ picked.chosen.cases → cases ≡ first ∷ others → some ≡ take 1 cases
       → Answered w.tells mid begun (Prepares picked some plan)
-      → Debugged (launcher_of w) plan begun new was now failed (Ok totals) → due ≡ (if totals.bad == 0 then 0 else 1) → exit ≡ (if failed then 2 else due)
+      → Debugged (launcher_of w) plan begun new was now failed (Ok totals) → due ≡ exit_of totals.bad [] → exit ≡ (if failed then 2 else due)
       → ToldOnly w (command.Debug options) old new was now exit
   debug_parts options old mid begun new was now exit picked first others cases some plan failed totals due a x n s b d k e =
       debug_only options old mid begun new was now exit picked first others plan failed totals a (sym x ∙ n)
-      (subst (λ (xs : List Candidate). Answered w.tells mid begun (Prepares picked xs plan)) (s ∙ ap (λ (xs : List Candidate). take 1 xs) n) b) d (e ∙ ap (λ (y : ℕ). if failed then 2 else y) k)
+      (subst (λ (xs : List Candidate). Answered w.tells mid begun (Prepares picked xs plan)) (s ∙ ap (λ (xs : List Candidate). take 1 xs) n) b) d (e ∙ ap (λ (y : ℕ). if failed then 2 else y) (k ∙ exit_alone (totals.bad == 0)))
 
   -- memory ran out before the case was started
   pub debug_short : (options : CaseOptions) (old mid begun new : W) (was between now : Option (List ℕ)) (exit : ℕ) (picked : Picked) (some : List Candidate) (plan : List Job) (f g : Bool) (fault : RunFault)

@@ -1,21 +1,7 @@
 -- The entry that is due next has a position that no entry before it has.
-use Rattle.std.specs.Prelude.{Some, slice_get, count_by, map, take, ◌==◌, ◌||◌, if◌then◌else◌, nat_lt, nat_le}
-use Rattle.std.proofs.Common.{◌≡◌, ℕ, zero, suc, ◌+◌, ◌≤◌, Bool, true, false, cond, List, [], ◌∷◌, length, refl, sym, ◌∙◌, ap, arith}
-use Rattle.std.proofs.lemmas.Bool.Decides.{nat_tests}
-use Rattle.std.proofs.lemmas.Option.{slice_get_within}
-use Rattle.kt_base.specs.declared.entry.Entry.{Entry}
-use Rattle.kt_base.specs.declared.run.Run.{Run}
-use Rattle.kt_sched.specs.declared.job.Job.{Job}
-use Rattle.kt_sched.specs.EntryOf.{IsEntry, decided, refused, ended, uncleaned, cleaned, IsEntryOf, AreEntries}
-use Rattle.kt_sched.specs.Plan.{IsPlan}
-use Rattle.kt_sched.specs.RecordOrder.{Due, recorded}
-use Rattle.kt_sched.specs.Trace.{Event, Trace, of}
+use Rattle.std.proofs.Common.{Some, slice_get, count_by, map, take, ◌==◌, ◌||◌, if◌then◌else◌, nat_lt, nat_le, ◌≡◌, ℕ, zero, suc, ◌≤◌, Bool, true, false, cond, List, [], ◌∷◌, length, refl, ◌∙◌, ap, arith}
+use Rattle.kt_cli.proofs.Common.{nat_tests, slice_get_within, Entry, Run, Job, IsEntry, decided, refused, ended, uncleaned, cleaned, IsEntryOf, AreEntries, IsPlan, Due, recorded, Event, Trace, of, StoreFault, has_position, insert_at, put_refusal, IsStopped, with_new, put_among, by_position}
 use Rattle.kt_sched.proofs.Lists.{count-cons}
-use Rattle.kt_store.specs.declared.store_fault.StoreFault.{StoreFault}
-use Rattle.kt_store.specs.Runs.{has_position, insert_at, put_refusal}
-use Rattle.kt_cli.specs.Recordings.{IsStopped}
-use Rattle.kt_cli.specs.SoundStores.{with_new}
-use Rattle.kt_cli.specs.Stores.{put_among, by_position}
 use Rattle.kt_cli.proofs.NewRuns.{takes_entry}
 
 neither : (a b : Bool) → (a || b) ≡ false → (a ≡ false) × (b ≡ false)

@@ -1,8 +1,6 @@
 -- The bytes of several texts, one after the other.
-use Rattle.std.specs.Prelude.{flat_map}
-use Rattle.std.proofs.Common.{◌≡◌, ℕ, List, [], ◌∷◌, ◌++◌, refl, sym, ap, ◌∙◌}
-use Rattle.kt_base.specs.Utf8.{utf8}
-use Rattle.kt_base.proofs.Showing.{utf8-append}
+use Rattle.std.proofs.Common.{flat_map, ◌≡◌, ℕ, List, [], ◌∷◌, ◌++◌, refl, sym, ap, ◌∙◌}
+use Rattle.kt_cli.proofs.Common.{utf8, utf8-append}
 
 -- the bytes of texts in turn
 pub utf8_flat_map : {X : Type 0} (f : X → List ℕ) (xs : List X) → flat_map (λ (x : X). utf8 (f x)) xs ≡ utf8 (flat_map f xs)

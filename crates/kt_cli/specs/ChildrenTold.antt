@@ -8,7 +8,7 @@ use Rattle.kt_base.specs.Chains.{Chain}
 use Rattle.kt_child.specs.System.Calls.{Call}
 use Rattle.kt_child.specs.Driving.Numbers.{IsBare}
 use Rattle.kt_child.specs.Driving.TraceLives.{EachWith, ToldAt}
-use Rattle.kt_cli.specs.declared.host.runner.Runner.{Runner}
+use Rattle.kt_cli.specs.declared.host.surroundings.Runner.{Runner}
 use Rattle.kt_cli.specs.HostAnswers.{runner_world}
 use Rattle.kt_cli.specs.Meaning.{Seen, Course}
 

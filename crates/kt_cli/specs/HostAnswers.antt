@@ -3,14 +3,14 @@ use Rattle.std.specs.Prelude.{ℕ, Bool, true, false, ◌≡◌, ◌≤◌, ◌&
 use Rattle.std.specs.List.{list_any}
 use Rattle.std.proofs.Common.{ap}
 use Rattle.kt_base.specs.Characters.{is_absolute, is_slash}
-use Rattle.kt_base.specs.declared.role.Role.{Role}
+use Rattle.kt_base.specs.declared.child.Role.{Role}
 use Rattle.kt_sched.specs.declared.job.Job.{Job}
-use Rattle.kt_sched.specs.declared.start_answer.StartAnswer.{StartAnswer}
-use Rattle.kt_sched.specs.declared.ended.Ended.{Ended}
+use Rattle.kt_sched.specs.declared.job.StartAnswer.{StartAnswer}
+use Rattle.kt_sched.specs.declared.job.Ended.{Ended}
 use Rattle.kt_child.specs.System.Calls.{Call}
 use Rattle.kt_child.specs.Driving.ChildrenState.{is_among, shown_at}
 use Rattle.kt_child.specs.Driving.DriverSteps.{DriverLists, DriverStarts, DriverWaits}
-use Rattle.kt_cli.specs.declared.host.runner.Runner.{Runner}
+use Rattle.kt_cli.specs.declared.host.surroundings.Runner.{Runner}
 use Rattle.kt_cli.specs.HostFiles.{IsLook, read_limit}
 use Rattle.kt_cli.specs.Scenes.{World}
 use Rattle.kt_metadata.specs.declared.host.Need.TheVariants.{File, Program}

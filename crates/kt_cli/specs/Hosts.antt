@@ -10,10 +10,10 @@ use Rattle.kt_child.specs.declared.system.os.Os as system
 use Rattle.kt_child.specs.Driving.ChildrenState.{idle_state}
 use Rattle.kt_child.specs.Driving.Roots.{FindsRoot}
 use Rattle.kt_child.specs.System.Calls.{Call, RemoveTree}
-use Rattle.kt_store.specs.declared.keeping.Keeping as keeping
-use Rattle.kt_plan.specs.declared.options.case_options.CaseOptions.{CaseOptions}
+use Rattle.kt_store.specs.declared.result_store.Keeping as keeping
+use Rattle.kt_plan.specs.declared.options.CaseOptions.{CaseOptions}
 use Rattle.kt_words.specs.declared.command.Command.{Command}
-use Rattle.kt_cli.specs.declared.host.runner.Runner.{Runner}
+use Rattle.kt_cli.specs.declared.host.surroundings.Runner.{Runner}
 use Rattle.kt_cli.specs.declared.host.surroundings.Surroundings.{Surroundings}
 use Rattle.kt_cli.specs.ChildrenTold.{ChildrenTell}
 use Rattle.kt_cli.specs.HostAnswers.{runner_world}

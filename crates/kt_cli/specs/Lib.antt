@@ -1,3 +1,4 @@
+pub mod Common
 pub mod CaseLines
 pub mod ChildrenTold
 pub mod Closings

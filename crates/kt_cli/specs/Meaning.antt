@@ -1,21 +1,21 @@
 -- What a command means: by the answers of its world and of its store, the bytes and the exit.
-use Rattle.std.specs.Prelude.{ℕ, Bool, true, false, List, [], ◌∷◌, ◌++◌, ◌≡◌, ◌⊎◌, Option, Some, Ok, Err, take, flat_map, if◌then◌else◌}
+use Rattle.std.specs.Prelude.{ℕ, Bool, true, false, List, [], ◌∷◌, ◌++◌, ◌≡◌, ◌⊎◌, Some, Ok, Err, take, flat_map, if◌then◌else◌}
 use Rattle.kt_base.specs.declared.entry.Entry.{Entry}
-use Rattle.kt_base.specs.declared.kind.Kind.{Kind}
+use Rattle.kt_base.specs.declared.verdict.Kind.{Kind}
 use Rattle.kt_base.specs.Utf8.{utf8}
 use Rattle.kt_metadata.specs.declared.host.Host.{Host}
 use Rattle.kt_sched.specs.declared.job.Job.{Job}
 use Rattle.kt_sched.specs.Trace.{Trace, NoEvent, Leads}
 use Rattle.kt_store.specs.StoreCalls.{StoreCall}
-use Rattle.kt_store.specs.declared.keeping.Keeping as keeping
+use Rattle.kt_store.specs.declared.result_store.Keeping as keeping
 use Rattle.kt_base.specs.Chains.{Chain}
-use Rattle.kt_plan.specs.declared.cases.offering.Candidate.{Candidate}
-use Rattle.kt_plan.specs.declared.options.case_options.CaseOptions.{CaseOptions}
-use Rattle.kt_plan.specs.declared.cases.choosing.Chosen.{Chosen}
+use Rattle.kt_plan.specs.declared.cases.Candidate.{Candidate}
+use Rattle.kt_plan.specs.declared.options.CaseOptions.{CaseOptions}
+use Rattle.kt_plan.specs.declared.cases.Chosen.{Chosen}
 use Rattle.kt_words.specs.declared.command.Command.{Command}
 use Rattle.kt_words.specs.declared.command.Command.TheVariants as command
-use Rattle.kt_words.specs.declared.report_options.ReportOptions.{ReportOptions}
-use Rattle.kt_plan.specs.declared.cases.selecting.Picked.{Picked}
+use Rattle.kt_words.specs.declared.command.ReportOptions.{ReportOptions}
+use Rattle.kt_plan.specs.declared.cases.Picked.{Picked}
 use Rattle.kt_plan.specs.declared.stop.Stop.{Stop}
 use Rattle.kt_words.specs.Commands.{cases_of, needs_case}
 use Rattle.kt_cli.specs.Debugging.{all_debug_bytes, debug_exit}

@@ -1,12 +1,12 @@
 -- What the program does: a command over its results, which are opened before it and closed after it, and a command line that is none.
 use Rattle.std.specs.Prelude.{ℕ, Bool, true, false, List, [], ◌≡◌, Option, Some, None, Result, Ok, Err}
 use Rattle.std.specs.Io.KnownBytes.{Keeps}
-use Rattle.kt_base.specs.declared.run.Run.{Run}
+use Rattle.kt_base.specs.declared.entry.Run.{Run}
 use Rattle.kt_base.specs.Utf8.{utf8}
 use Rattle.kt_child.specs.declared.driving.driver.DriverFault.{DriverFault}
 use Rattle.kt_child.specs.declared.system.os.Os as system
-use Rattle.kt_plan.specs.declared.options.case_options.CaseOptions.{CaseOptions}
-use Rattle.kt_store.specs.declared.keeping.Keeping as keeping
+use Rattle.kt_plan.specs.declared.options.CaseOptions.{CaseOptions}
+use Rattle.kt_store.specs.declared.result_store.Keeping as keeping
 use Rattle.kt_store.specs.declared.store_fault.StoreFault.{StoreFault}
 use Rattle.kt_words.specs.declared.command.Command.{Command}
 use Rattle.kt_words.specs.declared.command_fault.CommandFault.{CommandFault}

@@ -3,15 +3,15 @@ use Rattle.std.specs.Prelude.{ℕ, Bool, zero, suc, List, [], ◌∷◌, ◌++�
 use Rattle.std.specs.Fmt.{decimal}
 use Rattle.jiff_core.specs.declared.civil.date.Date.{Date}
 use Rattle.kt_base.specs.declared.entry.Entry.{Entry}
-use Rattle.kt_base.specs.declared.kind.Kind.{Kind}
-use Rattle.kt_base.specs.declared.run.Run.{Run}
+use Rattle.kt_base.specs.declared.verdict.Kind.{Kind}
+use Rattle.kt_base.specs.declared.entry.Run.{Run}
 use Rattle.kt_base.specs.Utf8.{utf8}
 use Rattle.kt_report.specs.Cases.{with_outputs}
 use Rattle.kt_report.specs.Junits.{heading, case_bytes, ending, junit_bytes}
 use Rattle.kt_report.specs.Texts.{IsDateOf, text_bytes}
 use Rattle.kt_store.specs.StoreCalls.{StoreCall, Heads, Outline, Outputs}
-use Rattle.kt_store.specs.declared.case_outputs.CaseOutputs.{CaseOutputs}
-use Rattle.kt_store.specs.declared.run_head.RunHead.{RunHead}
+use Rattle.kt_store.specs.declared.result_store.CaseOutputs.{CaseOutputs}
+use Rattle.kt_store.specs.declared.result_store.RunHead.{RunHead}
 use Rattle.kt_store.specs.declared.store_fault.StoreFault.{StoreFault}
 use Rattle.kt_cli.specs.FaultLines.{memory_line, refusal_line}
 

@@ -1,10 +1,10 @@
 -- What a command finds and leaves, and the relations of its world.
 use Rattle.std.specs.Prelude.{ℕ, Bool, List, Option}
-use Rattle.kt_base.specs.declared.role.Role.{Role}
+use Rattle.kt_base.specs.declared.child.Role.{Role}
 use Rattle.kt_sched.specs.declared.job.Job.{Job}
 use Rattle.kt_sched.specs.declared.launcher.Launcher as launcher
-use Rattle.kt_sched.specs.declared.start_answer.StartAnswer.{StartAnswer}
-use Rattle.kt_sched.specs.declared.ended.Ended.{Ended}
+use Rattle.kt_sched.specs.declared.job.StartAnswer.{StartAnswer}
+use Rattle.kt_sched.specs.declared.job.Ended.{Ended}
 use Rattle.kt_sched.specs.Children.{Child}
 use Rattle.kt_suite.specs.Answers.{Asked}
 use Rattle.kt_suite.specs.declared.tree.Tree as tree

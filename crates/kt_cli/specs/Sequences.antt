@@ -1,6 +1,6 @@
 -- What a list of commands does, one after the other.
 use Rattle.std.specs.Prelude.{List, [], ◌∷◌}
-use Rattle.kt_store.specs.declared.keeping.Keeping as keeping
+use Rattle.kt_store.specs.declared.result_store.Keeping as keeping
 use Rattle.kt_words.specs.declared.command.Command.{Command}
 use Rattle.kt_cli.specs.declared.output.exit.Exit.{Exit}
 use Rattle.kt_cli.specs.Meaning.{Did}

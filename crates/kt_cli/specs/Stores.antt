@@ -1,11 +1,11 @@
 -- The calls that a command makes on a store of runs, and what they do to the runs.
 use Rattle.std.specs.Prelude.{ℕ, List, [], ◌∷◌, ◌++◌, ⊤, Ok, Err}
 use Rattle.kt_base.specs.declared.entry.Entry.{Entry}
-use Rattle.kt_base.specs.declared.run.Run.{Run}
+use Rattle.kt_base.specs.declared.entry.Run.{Run}
 use Rattle.kt_store.specs.Runs.{new_run, with_entry, insert_at, finish}
 use Rattle.kt_store.specs.Serving.{Agrees, changed_by}
 use Rattle.kt_store.specs.StoreCalls.{StoreCall, Began, Put, Finished, Heads, Outline, Outputs}
-use Rattle.kt_store.specs.declared.keeping.Keeping as keeping
+use Rattle.kt_store.specs.declared.result_store.Keeping as keeping
 use Rattle.kt_base.specs.Chains.{Chain}
 
 -- entries, each put at its position

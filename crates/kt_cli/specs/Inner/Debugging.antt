@@ -5,7 +5,7 @@ use Rattle.kt_sched.specs.declared.job.Job.{Job}
 use Rattle.kt_sched.specs.declared.launcher.Launcher as launcher
 use Rattle.kt_sched.specs.declared.run_fault.RunFault.{RunFault}
 use Rattle.kt_sched.specs.declared.run_fault.RunFault.TheVariants.{NoMemory, SinkFailed}
-use Rattle.kt_sched.specs.declared.sink_fault.SinkFault.{SinkFault}
+use Rattle.kt_sched.specs.declared.sink.SinkFault.{SinkFault}
 use Rattle.kt_sched.specs.declared.totals.Totals.{Totals}
 use Rattle.kt_sched.specs.Run.{Counts}
 use Rattle.kt_sched.specs.Trace.{Trace, NoEvent, Leads}

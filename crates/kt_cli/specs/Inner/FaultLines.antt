@@ -2,7 +2,7 @@
 use Rattle.std.specs.Prelude.{ℕ, List}
 use Rattle.kt_sched.specs.declared.run_fault.RunFault.{RunFault}
 use Rattle.kt_sched.specs.declared.run_fault.RunFault.TheVariants.{NoMemory, SinkFailed}
-use Rattle.kt_sched.specs.declared.sink_fault.SinkFault.TheVariants as sink
+use Rattle.kt_sched.specs.declared.sink.SinkFault.TheVariants as sink
 use Rattle.kt_cli.specs.FaultLines.{memory_line, store_line}
 
 -- a run that failed

@@ -1,18 +1,18 @@
 -- Which run is shown, and what is shown of it.
 use Rattle.std.specs.Prelude.{ℕ, true, false, List, [], ◌∷◌, ◌++◌, ◌≡◌, ◌≤◌, ◌⊎◌, Option, Some, Result, Ok, Err, length, slice_get, flat_map}
 use Rattle.kt_base.specs.declared.entry.Entry.{Entry}
-use Rattle.kt_base.specs.declared.run.Run.{Run}
+use Rattle.kt_base.specs.declared.entry.Run.{Run}
 use Rattle.kt_base.specs.Shows.{Shows}
 use Rattle.kt_report.specs.Cases.{with_outputs}
 use Rattle.kt_report.specs.Junits.{heading, case_bytes, ending}
 use Rattle.kt_store.specs.StoreCalls.{StoreCall, Outputs}
-use Rattle.kt_store.specs.declared.case_outputs.CaseOutputs.{CaseOutputs}
-use Rattle.kt_store.specs.declared.keeping.Keeping as keeping
+use Rattle.kt_store.specs.declared.result_store.CaseOutputs.{CaseOutputs}
+use Rattle.kt_store.specs.declared.result_store.Keeping as keeping
 use Rattle.kt_cli.specs.Pages.{Printed}
 use Rattle.kt_cli.specs.Stores.{Stored}
 use Rattle.kt_cli.specs.Reports.{JunitCut, Unread, filled, asked_outputs}
-use Rattle.kt_cli.specs.declared.commands.junit_stop.JunitStop.{JunitStop}
-use Rattle.kt_cli.specs.declared.commands.junit_stop.JunitStop.TheVariants.{Refused, Report}
+use Rattle.kt_cli.specs.declared.commands.report_stop.JunitStop.{JunitStop}
+use Rattle.kt_cli.specs.declared.commands.report_stop.JunitStop.TheVariants.{Refused, Report}
 
 -- the store refused to be read, or the report ended early
 abbrev pub JunitOrUnread : Option ℕ → List StoreCall → List ℕ → ℕ → Type 0

@@ -1,13 +1,13 @@
 -- The run that is read to be shown, or why none is.
 use Rattle.std.specs.Prelude.{ℕ, List, [], ◌∷◌, ◌≡◌, Option, Some, None, Result, Ok, Err}
 use Rattle.kt_base.specs.declared.entry.Entry.{Entry}
-use Rattle.kt_base.specs.declared.run.Run.{Run}
+use Rattle.kt_base.specs.declared.entry.Run.{Run}
 use Rattle.kt_store.specs.StoreCalls.{StoreCall, Heads, Outline}
-use Rattle.kt_store.specs.declared.keeping.Keeping as keeping
-use Rattle.kt_store.specs.declared.run_head.RunHead.{RunHead}
+use Rattle.kt_store.specs.declared.result_store.Keeping as keeping
+use Rattle.kt_store.specs.declared.result_store.RunHead.{RunHead}
 use Rattle.kt_store.specs.declared.store_fault.StoreFault.{StoreFault}
-use Rattle.kt_cli.specs.declared.commands.not_shown.NotShown.{NotShown}
-use Rattle.kt_cli.specs.declared.commands.not_shown.NotShown.TheVariants.{NoRuns, NoRun, Refused}
+use Rattle.kt_cli.specs.declared.commands.report_stop.NotShown.{NotShown}
+use Rattle.kt_cli.specs.declared.commands.report_stop.NotShown.TheVariants.{NoRuns, NoRun, Refused}
 use Rattle.kt_cli.specs.FaultLines.{refusal_line}
 use Rattle.kt_cli.specs.Reports.{chosen, missing_line, no_runs_line, no_run_line, run_of}
 use Rattle.kt_cli.specs.Stores.{Stored}

@@ -1,16 +1,11 @@
-ghost use Rattle.std.specs.Prelude.{◌≡◌, ◌==◌, ◌≤◌, length, if◌then◌else◌, is_err};
-ghost use Rattle.kt_sched.specs.Children.{IsIdle};
-ghost use Rattle.kt_sched.specs.Plan.{IsPlan};
-ghost use Rattle.kt_cli.specs.Inner.Debugging.{Debugged};
-ghost use Rattle.kt_cli.specs.Inner.Meaning.{ToldOnly};
+ghost use Rattle.std.specs.Prelude.{is_err};
+ghost use Rattle.kt_cli.specs.Common.{IsIdle, IsPlan, Debugged, ToldOnly};
 ghost use Rattle.kt_words.specs.declared.command.Command.TheVariants as command;
 
-use crate::commands::printer::Printer;
-use crate::messages::behind::fault_behind;
-use crate::messages::fault_line::write_memory;
-use crate::messages::stopping::stopped;
-use crate::messages::warnings::write_warnings;
-use crate::output::exit::{Exit, FAILED, ended};
+use crate::Exit;
+use crate::commands::recorder::Printer;
+use crate::messages::{stopped, write_memory, write_run_fault, write_warnings};
+use crate::output::exit::{FAILED, ended, status_of};
 use kt_base::{Items, OutputFault};
 use kt_plan::{CaseOptions, World, prepare, select_cases};
 use kt_sched::{Job, Launcher, RunFault, Totals, run_cases};
@@ -41,13 +36,6 @@ fn print_cases<L: Launcher, O: Write>(
     (answer, printer.written)
 }
 
-/// 0 if no case is bad, else 1.
-fn status_of(bad: u64) -> u8
-    ensures { result ≡ (if bad == 0 then 0 else 1) }
-{
-    if bad == 0 { 0 } else { 1 }
-}
-
 /// The command `debug`: the first selected case runs alone, and nothing is recorded.
 pub fn debug<W: World, O: Write>(
     alloc: Global,
@@ -76,7 +64,7 @@ pub fn debug<W: World, O: Write>(
     };
     let (answer, written) = print_cases(alloc, plan, world, out);
     match answer {
-        Ok(totals) => ended(written, status_of(totals.bad)),
-        Err(fault) => ended(fault_behind(written, fault, out), FAILED),
+        Ok(totals) => ended(written, status_of(totals.bad, &[])),
+        Err(fault) => ended(write_run_fault(written, fault, out), FAILED),
     }
 }

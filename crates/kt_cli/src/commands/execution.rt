@@ -1,15 +1,13 @@
-ghost use Rattle.std.specs.Prelude.{IfOk, OnErr, ◌≡◌};
-ghost use Rattle.kt_sched.specs.Children.{IsIdle};
-ghost use Rattle.kt_cli.specs.Meaning.{Did};
-ghost use Rattle.kt_cli.specs.Scenes.{scene};
-ghost use Rattle.kt_cli.specs.Sequences.{DidAll};
+ghost use Rattle.std.specs.Prelude.{IfOk, OnErr, ◌≡◌, ℕ, List, Option, ◌⊎◌};
+ghost use Rattle.kt_cli.specs.Common.{IsIdle, Did, scene, DidAll, Run, CoursesAreTold, Command, Seen, Means, CutShort, Printed, Left, Stored};
 
+use crate::Exit;
 use crate::commands::debugging::debug;
 use crate::commands::listing::list;
 use crate::commands::reporting::{report, report_junit};
 use crate::commands::testing::test;
-use crate::output::exit::Exit;
 use kt_base::NoMemory;
+use kt_child::Os;
 use kt_plan::World;
 use kt_store::ResultStore;
 use kt_words::Command;
@@ -60,8 +58,7 @@ pub fn execute_all<W: World, R: ResultStore, O: Write>(
         (scene world.old results.old (O.contents out.old))
         (scene world.new results.new (O.contents out.new)) exits.items) }
     ensures idle { IsIdle (W.running world.new) (W.pending world.new) }
-    ensures unasked { OnErr result
-        ((world.new ≡ world.old) × (results.new ≡ results.old)
+    ensures unasked { OnErr result ((world.new ≡ world.old) × (results.new ≡ results.old)
         × (O.contents out.new ≡ O.contents out.old)) }
 {
     let mut exits = Vec::with_capacity(alloc, commands.len())?;
@@ -74,3 +71,18 @@ pub fn execute_all<W: World, R: ResultStore, O: Write>(
     }
     Ok(exits)
 }
+
+/// Joins what a command over the host did with the driver's outcome table: of all that was asked of the system, each
+/// start in the trace has its own calls, and each end follows from the polls, the kill and the files of its own child.
+pub fn law_of_children<O: Os + Drop>()
+    ensures { CoursesAreTold O.leads }
+{}
+
+/// The law of sound stores: what a command's calls come to, whatever runs the store stood for, if the store has given
+/// back what was written. The premises are the parts of what `execute` says of each command.
+pub fn law_of_sound_stores<R: ResultStore>()
+    ensures { (seen : Seen) (c : Command) (store after : R) (was now : Option (List ℕ)) (exit : ℕ)
+        (bytes : List ℕ) (due : ℕ) (runs : List Run) → Stored R.Keeping seen.calls store after
+        → Means seen c bytes due ⊎ CutShort seen c bytes due → Printed was now exit bytes due
+        → R.stands store runs → Left R.Keeping runs store after was now exit seen c }
+{}

@@ -1,16 +1,10 @@
-ghost use Rattle.std.specs.Prelude.{◌≡◌, ◌++◌, flat_map, if◌then◌else◌, is_err};
-ghost use Rattle.kt_base.specs.Shows.{Shows};
-ghost use Rattle.kt_base.specs.Utf8.{utf8};
-ghost use Rattle.kt_sched.specs.Children.{IsIdle};
-ghost use Rattle.kt_cli.specs.CaseLines.{case_line};
-ghost use Rattle.kt_cli.specs.Inner.Meaning.{ToldOnly};
-ghost use Rattle.kt_cli.specs.Testing.{none_idle};
-ghost use Rattle.kt_cli.specs.Warnings.{warnings};
+ghost use Rattle.std.specs.Prelude.{◌++◌, flat_map, is_err};
+ghost use Rattle.kt_cli.specs.Common.{Shows, utf8, IsIdle, case_line, ToldOnly, warnings};
 ghost use Rattle.kt_words.specs.declared.command.Command.TheVariants as command;
 
-use crate::messages::stopping::stopped;
-use crate::messages::warnings::write_warnings;
-use crate::output::exit::{Exit, ended};
+use crate::Exit;
+use crate::messages::{stopped, write_warnings};
+use crate::output::exit::{ended, status_of};
 use kt_base::{OutputFault, Text, emit_all};
 use kt_plan::{Candidate, CaseOptions, World, select_cases};
 use std::alloc::Global;
@@ -50,13 +44,6 @@ fn write_listing<O: Write>(
     write_warnings(words, unmatched, out)
 }
 
-/// The status of a command by the filters that select no case.
-pub fn status_by(unmatched: &[usize]) -> u8
-    ensures { result ≡ (if none_idle unmatched.now then 0 else 1) }
-{
-    if unmatched.is_empty() { 0 } else { 1 }
-}
-
 /// The command `list`.
 pub fn list<W: World, O: Write>(
     alloc: Global,
@@ -74,7 +61,7 @@ pub fn list<W: World, O: Write>(
             let cases = picked.chosen.cases.as_slice();
             let unmatched = picked.chosen.unmatched.as_slice();
             let written = write_listing(cases, options.filters.as_slice(), unmatched, out);
-            ended(written, status_by(unmatched))
+            ended(written, status_of(0, unmatched))
         }
         Err(fault) => stopped(&fault, out),
     }

@@ -1,8 +1,8 @@
-ghost use Rattle.std.specs.Prelude.{◌≡◌};
-ghost use Rattle.kt_cli.specs.Inner.Recording.{sink_fault_of};
+ghost use Rattle.std.specs.Prelude.{◌≡◌, is_err};
+ghost use Rattle.kt_cli.specs.Common.{sink_fault_of, debug_bytes, Says};
 
-use crate::messages::behind::line_behind;
-use kt_base::{Entry, OutputFault};
+use kt_base::{Entry, OutputFault, emit_all};
+use kt_report::line;
 use kt_sched::{Sink, SinkFault};
 use kt_store::{ResultStore, StoreFault};
 use std::io::Write;
@@ -19,7 +19,7 @@ pub struct Recorder<'a, R, O> {
 }
 
 /// The fault of a refused put, as the scheduler sees it.
-fn sink_fault(fault: StoreFault) -> SinkFault
+pub fn sink_fault(fault: StoreFault) -> SinkFault
     ensures { result ≡ sink_fault_of fault }
 {
     match fault {
@@ -30,13 +30,12 @@ fn sink_fault(fault: StoreFault) -> SinkFault
 
 impl<R: ResultStore, O: Write> Sink for Recorder<'_, R, O> {
     ghost use Rattle.std.specs.Prelude.{◌≡◌, is_err};
-    ghost use Rattle.kt_cli.specs.Inner.Recording.{Recorded, recording, Took};
+    ghost use Rattle.kt_cli.specs.Common.{Recorded, recording, Took};
 
     ghost entries = { λ s put. Took R.stands s.number s.results.now put };
 
     ghost puts = { λ s e r t. (t.results.ghost_name ≡ s.results.ghost_name)
-        × (t.out.ghost_name ≡ s.out.ghost_name)
-        × Recorded R.Keeping
+        × (t.out.ghost_name ≡ s.out.ghost_name) × Recorded R.Keeping
         (recording s.results.now s.number (is_err s.written) (O.contents s.out.now)) e r
         (recording t.results.now t.number (is_err t.written) (O.contents t.out.now)) };
 
@@ -45,7 +44,59 @@ impl<R: ResultStore, O: Write> Sink for Recorder<'_, R, O> {
         if let Err(fault) = self.results.put(self.number, &entry) {
             return Err(sink_fault(fault));
         }
-        self.written = line_behind(self.written, &entry, self.out);
+        if self.written.is_err() {
+            return Ok(());
+        }
+        self.written = line(&entry, self.out);
+        Ok(())
+    }
+}
+
+/// Prints what each case wrote, and then its line; it keeps nothing.
+#[derive(Drop)]
+pub struct Printer<'a, O> {
+    pub out: &'a mut O,
+    /// An error once a write failed: then nothing more is written.
+    pub written: Result<(), OutputFault>,
+}
+
+/// Writes what a case wrote, and then its line, unless an earlier write failed.
+fn write_entry<O: Write>(
+    written: Result<(), OutputFault>,
+    entry: &Entry,
+    out: &mut O,
+) -> Result<(), OutputFault>
+    ensures { Says (O.contents out.old) (is_err written) (O.contents out.new) (is_err result)
+        (debug_bytes entry.now) }
+{
+    written?;
+    let body = &entry.body;
+    let cleanup = &entry.cleanup;
+    emit_all(
+        &[
+            body.out.as_slice(),
+            body.err.as_slice(),
+            cleanup.out.as_slice(),
+            cleanup.err.as_slice(),
+        ],
+        out,
+    )?;
+    line(entry, out)
+}
+
+impl<O: Write> Sink for Printer<'_, O> {
+    ghost use Rattle.std.specs.Prelude.{◌≡◌, is_err};
+    ghost use Rattle.kt_cli.specs.Common.{Prints};
+
+    // It keeps no entry, so nothing is said of those that were put.
+    ghost entries = { λ _ _. Unit {0} };
+
+    ghost puts = { λ s e r t. (t.out.ghost_name ≡ s.out.ghost_name)
+        × Prints (is_err s.written) (O.contents s.out.now) e r
+        (is_err t.written) (O.contents t.out.now) };
+
+    fn put(&mut self, entry: Entry) -> Result<(), SinkFault> {
+        self.written = write_entry(self.written, &entry, self.out);
         Ok(())
     }
 }

@@ -1,14 +1,10 @@
 ghost use Rattle.std.specs.Prelude.{◌≡◌, is_err};
-ghost use Rattle.kt_base.specs.Utf8.{utf8};
-ghost use Rattle.kt_base.specs.Shows.{Shows};
-ghost use Rattle.kt_cli.specs.Inner.Reports.{JunitOrUnread, DidReport, WritesCase, WritesJunit};
-ghost use Rattle.kt_cli.specs.Reports.{chosen, Reported, ReportedJunit, Unread};
-ghost use Rattle.kt_cli.specs.Inner.Shown.{IsMissing, ReadsRun, not_shown_line};
+ghost use Rattle.kt_cli.specs.Common.{utf8, Shows, JunitOrUnread, DidReport, WritesCase, WritesJunit, chosen, Reported, ReportedJunit, Unread, IsMissing, ReadsRun, not_shown_line};
 
-use crate::commands::junit_stop::JunitStop;
-use crate::commands::not_shown::NotShown;
-use crate::messages::fault_line::{write_memory, write_refusal};
-use crate::output::exit::{Exit, FAILED, ended};
+use crate::Exit;
+use crate::commands::report_stop::{JunitStop, NotShown};
+use crate::messages::{write_memory, write_refusal};
+use crate::output::exit::{FAILED, ended};
 use kt_base::{Decimal, Entry, Items, Kind, OutputFault, Run, emit, emit_all};
 use kt_report::{ReportFault, junit_case, junit_end, junit_heading, text};
 use kt_store::{ResultStore, RunHead};

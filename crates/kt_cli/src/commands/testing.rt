@@ -1,25 +1,12 @@
-ghost use Rattle.std.specs.Prelude.{◌≡◌, ◌≤◌, length, is_err};
-ghost use Rattle.kt_base.specs.Shows.{Shows};
-ghost use Rattle.kt_sched.specs.Children.{IsIdle};
-ghost use Rattle.kt_base.specs.Moments.{IsMoment};
-ghost use Rattle.kt_sched.specs.Plan.{IsPlan, IsWidth};
-ghost use Rattle.kt_suite.specs.Selecting.{most_items};
-ghost use Rattle.kt_cli.specs.Meaning.{Did};
-ghost use Rattle.kt_cli.specs.Inner.Pages.{Says};
-ghost use Rattle.kt_cli.specs.Inner.Recordings.{Records};
-ghost use Rattle.kt_cli.specs.Inner.Testing.{RanPlan};
-ghost use Rattle.kt_cli.specs.Scenes.{scene};
-ghost use Rattle.kt_cli.specs.Testing.{ending, exit_of, planned_run};
+ghost use Rattle.std.specs.Prelude.{◌≤◌, length, is_err};
+ghost use Rattle.kt_cli.specs.Common.{Shows, utf8, IsIdle, IsMoment, IsPlan, IsWidth, most_items, Did, Says, Records, RanPlan, scene, ending, planned_run, totals_text};
 ghost use Rattle.kt_words.specs.declared.command.Command.TheVariants as command;
 
-use crate::commands::recorder::Recorder;
-use crate::messages::behind::{fault_behind, refusal_behind};
-use crate::messages::fault_line::{write_memory, write_refusal};
-use crate::messages::stopping::stopped;
-use crate::messages::totals::write_totals;
-use crate::messages::warnings::write_warnings;
-use crate::output::exit::{Exit, FAILED, ended};
-use kt_base::{Items, OutputFault, Text};
+use crate::Exit;
+use crate::commands::recorder::{Recorder, sink_fault};
+use crate::messages::{stopped, write_memory, write_refusal, write_run_fault, write_warnings};
+use crate::output::exit::{FAILED, ended, status_of};
+use kt_base::{Decimal, Items, OutputFault, Text, emit_all};
 use kt_plan::{CaseOptions, World, prepare, select_cases};
 use kt_sched::{Job, Launcher, RunFault, Totals, run_cases};
 use kt_store::ResultStore;
@@ -58,33 +45,30 @@ fn record_cases<L: Launcher, R: ResultStore, O: Write>(
     (answer, recorder.written)
 }
 
-/// 0 if no case is bad and every filter selects some, else 1.
-fn status_of(bad: u64, unmatched: &[usize]) -> u8
-    ensures { result ≡ exit_of bad unmatched.now }
-{
-    if bad == 0 && unmatched.is_empty() {
-        0
-    } else {
-        1
-    }
-}
-
-/// Writes the totals, and warns of the filters that select no case.
-fn write_ending<O: Write>(
-    totals: Totals,
-    words: &[Text],
-    unmatched: &[usize],
-    out: &mut O,
-) -> Result<(), OutputFault>
+/// Writes a blank line and the totals: how many cases of how many passed, and how many failed.
+fn write_totals<O: Write>(good: u64, total: u64, bad: u64, out: &mut O) -> Result<(), OutputFault>
     ensures { Shows (O.contents out.old) (O.contents out.new) (is_err result)
-        (ending totals.good totals.total totals.bad words.now unmatched.now) }
+        (utf8 (totals_text good total bad)) }
 {
-    write_totals(totals.good, totals.total, totals.bad, out)?;
-    write_warnings(words, unmatched, out)
+    let passed = Decimal::new(good);
+    let all = Decimal::new(total);
+    let failed = Decimal::new(bad);
+    emit_all(
+        &[
+            b"\n",
+            passed.as_bytes(),
+            b"/",
+            all.as_bytes(),
+            b" passed (",
+            failed.as_bytes(),
+            b" failed)\n",
+        ],
+        out,
+    )
 }
 
-/// Prints the totals and the warnings, unless an earlier write failed.
-fn ending_behind<O: Write>(
+/// Writes the totals, and warns of the filters that select no case, unless an earlier write failed.
+fn write_ending<O: Write>(
     written: Result<(), OutputFault>,
     totals: Totals,
     words: &[Text],
@@ -95,7 +79,8 @@ fn ending_behind<O: Write>(
         (ending totals.good totals.total totals.bad words.now unmatched.now) }
 {
     written?;
-    write_ending(totals, words, unmatched, out)
+    write_totals(totals.good, totals.total, totals.bad, out)?;
+    write_warnings(words, unmatched, out)
 }
 
 /// Begins a run, runs its plan, `width` cases at once at most, and finishes it. `words` are the
@@ -129,11 +114,14 @@ fn run_plan<L: Launcher, R: ResultStore, O: Write>(
     };
     let (answer, written) = record_cases(alloc, plan, width, launcher, results, number, out);
     match answer {
-        Err(fault) => ended(fault_behind(written, fault, out), FAILED),
+        Err(fault) => ended(write_run_fault(written, fault, out), FAILED),
         Ok(totals) => match results.finish(number) {
-            Err(fault) => ended(refusal_behind(written, fault, out), FAILED),
+            Err(fault) => {
+                let fault = RunFault::SinkFailed(sink_fault(fault));
+                ended(write_run_fault(written, fault, out), FAILED)
+            }
             Ok(()) => {
-                let all = ending_behind(written, totals, words, unmatched, out);
+                let all = write_ending(written, totals, words, unmatched, out);
                 ended(all, status_of(totals.bad, unmatched))
             }
         },

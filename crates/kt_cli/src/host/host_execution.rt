@@ -1,24 +1,38 @@
 ghost use Rattle.std.specs.Prelude.{◌≡◌, IfOk, IfErr, OnErr};
-ghost use Rattle.kt_sched.specs.Children.{IsIdle};
-ghost use Rattle.kt_child.specs.Driving.ChildrenState.{is_among, shown_at};
-ghost use Rattle.kt_cli.specs.Hosts.{IsMade, NoRoot, OnDriver};
+ghost use Rattle.kt_cli.specs.Common.{chars, IsIdle, is_among, shown_at, IsMade, NoRoot, OnDriver, absolute, source_directory};
 
-use crate::commands::execution::execute;
-use crate::host::host_world::HostWorld;
-use crate::host::place::source_of;
-use crate::host::runner::Runner;
-use crate::host::surroundings::Surroundings;
-use crate::output::exit::Exit;
-use kt_base::{Text, is_absolute};
+use crate::{Exit, HostWorld, Runner, Surroundings, execute};
+use kt_base::{NoMemory, Text, is_absolute};
 use kt_child::{Driver, DriverFault, Os};
 use kt_plan::CaseOptions;
 use kt_store::ResultStore;
-use kt_suite::split_path;
+use kt_suite::{parent_path, split_path};
 use kt_words::Command;
 use std::alloc::Global;
 use std::fs::File;
 use std::io::Write;
 use std::rt::{Clock, Files};
+
+/// A path, seen from a directory.
+fn absolute(alloc: Global, here: &str, path: &Text) -> Result<Text, NoMemory>
+    ensures { IfOk result (λ whole. whole ≡ absolute (chars here.now) path.now) }
+{
+    if is_absolute(path.as_str()) {
+        return Ok(path.copy()?);
+    }
+    let mut whole = Text::from_str(alloc, here)?;
+    whole.push('/')?;
+    whole.push_str(path.as_str())?;
+    Ok(whole)
+}
+
+/// The absolute directory of a Kyuafile, without a slash at its end. `here` is the absolute working directory.
+pub fn source_of(alloc: Global, here: &str, kyuafile: &Text) -> Result<Text, NoMemory>
+    ensures { IfOk result (λ source. source ≡ source_directory (chars here.now) kyuafile.now) }
+{
+    let path = absolute(alloc, here, kyuafile)?;
+    parent_path(alloc, &path)
+}
 
 /// Makes the driver of a command over this system. `here` is the absolute working directory.
 fn driver_of<O: Os + Drop>(
@@ -60,8 +74,7 @@ pub fn execute_over_cases<
     out: &mut W,
 ) -> Result<Exit, DriverFault>
     ensures did { IfOk result (λ exit. OnDriver O.Os os S.Keeping around options.now
-        command.now results.old results.new (W.contents out.old) (W.contents out.new)
-        exit.status) }
+        command.now results.old results.new (W.contents out.old) (W.contents out.new) exit.status) }
     ensures refused { IfErr result (λ e. NoRoot O.Os os options.now.work e) }
     ensures unasked { OnErr result
         ((results.new ≡ results.old) × (W.contents out.new ≡ W.contents out.old)) }

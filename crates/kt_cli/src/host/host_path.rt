@@ -1,5 +1,5 @@
 ghost use Rattle.std.specs.Prelude.{◌≡◌, ◌++◌, ◌+◌, ◌≤◌, ◌<◌, length, take, IfSome, IfNone};
-ghost use Rattle.kt_cli.specs.Inner.HostFiles.{longest_path};
+ghost use Rattle.kt_cli.specs.Common.{longest_path};
 
 /// The longest path that the host takes, in bytes.
 pub const LONGEST_PATH: usize = 4_095;
@@ -31,8 +31,7 @@ pub fn joined_path<'a>(
     room: &'a mut [u8],
 ) -> Option<&'a str>
     requires { length room.old ≡ longest_path }
-    ensures path { IfSome result (λ path. path.now
-        ≡ directory.now ++ (between.now ++ name.now)) }
+    ensures path { IfSome result (λ path. path.now ≡ directory.now ++ (between.now ++ name.now)) }
     ensures long { IfNone result (longest_path
         < length directory.now + (length between.now + length name.now)) }
 {

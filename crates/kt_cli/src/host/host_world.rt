@@ -1,9 +1,8 @@
 ghost use Rattle.std.specs.Prelude.{◌≡◌, ◌≤◌, IfOk, length};
-ghost use Rattle.kt_cli.specs.Inner.HostFiles.{may_execute};
-ghost use Rattle.kt_cli.specs.HostFiles.{read_limit};
+ghost use Rattle.kt_cli.specs.Common.{may_execute, read_limit};
 
+use crate::Runner;
 use crate::host::host_path::{LONGEST_PATH, joined_path};
-use crate::host::runner::Runner;
 use kt_atflist::Listing;
 use kt_base::{Bytes, LATEST_MOMENT, NoMemory, Role, Text, Variables, has_slash, is_absolute};
 use kt_child::{Os, read_start};
@@ -53,8 +52,7 @@ fn may_execute(mode: u32) -> bool
 }
 
 impl<'a, R: Files<File = File> + Clock + AllocGlobal, O: Os + Drop> HostWorld<'a, R, O> {
-    /// The world whose root is this directory, which ends with a slash or is empty for the working
-    /// directory.
+    /// The world whose root is this directory, which ends with a slash or is empty for the working directory.
     pub fn new(rt: &'a R, directory: Text, runner: Runner<O>) -> HostWorld<'a, R, O>
         ensures { result.runner ≡ runner }
     {
@@ -138,8 +136,7 @@ impl<R: Files<File = File> + Clock + AllocGlobal, O: Os + Drop> Tree for HostWor
 }
 
 impl<R, O: Os + Drop> Launcher for HostWorld<'_, R, O> {
-    ghost use Rattle.kt_child.specs.Driving.ChildrenState.{is_among, shown_at};
-    ghost use Rattle.kt_cli.specs.HostAnswers.{RunnerStarts, RunnerWaits};
+    ghost use Rattle.kt_cli.specs.Common.{is_among, shown_at, RunnerStarts, RunnerWaits};
 
     ghost running = { λ s. shown_at s.runner.driver.running.cases };
 
@@ -160,9 +157,7 @@ impl<R, O: Os + Drop> Launcher for HostWorld<'_, R, O> {
 
 impl<R: Files<File = File> + Clock + AllocGlobal, O: Os + Drop> World for HostWorld<'_, R, O> {
     ghost use Rattle.std.specs.Prelude.{◌≡◌};
-    ghost use Rattle.std.proofs.Common.{ap};
-    ghost use Rattle.kt_child.specs.Driving.ChildrenState.{ChildrenState, is_among, shown_at};
-    ghost use Rattle.kt_cli.specs.HostAnswers.{IsHostAnswer, running_kept};
+    ghost use Rattle.kt_cli.specs.Common.{ap, ChildrenState, is_among, shown_at, IsHostAnswer, running_kept};
 
     ghost tells = { λ s q t. IsHostAnswer O.leads s.runner q t.runner };
 

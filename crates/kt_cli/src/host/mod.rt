@@ -4,7 +4,5 @@ pub(crate) mod host_execution;
 pub(crate) mod host_path;
 pub(crate) mod host_world;
 pub(crate) mod performing;
-pub(crate) mod place;
 pub(crate) mod platform;
-pub(crate) mod runner;
 pub(crate) mod surroundings;

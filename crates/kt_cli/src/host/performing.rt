@@ -1,17 +1,12 @@
 ghost use Rattle.std.specs.Prelude.{◌≡◌, Some};
-ghost use Rattle.kt_words.specs.Commands.{cases_of};
-ghost use Rattle.kt_cli.specs.LineOutputs.{given_bytes, line_state};
-ghost use Rattle.kt_cli.specs.Performing.{CarriedOut, DoneIn, DoneOver, Performed, program, Rejected};
+ghost use Rattle.kt_cli.specs.Common.{cases_of, given_bytes, line_state, CarriedOut, DoneIn, DoneOver, Performed, program, Rejected};
 
 use crate::commands::reporting::{report, report_junit};
 use crate::host::host_execution::execute_over_cases;
-use crate::host::platform::Platform;
-use crate::messages::fault_exit::{
-    print_command_fault, print_driver_fault, print_store_fault, with_closed,
+use crate::messages::with_closed;
+use crate::{
+    Exit, LineOutput, MemRuns, Platform, print_command_fault, print_driver_fault, print_store_fault,
 };
-use crate::output::exit::Exit;
-use crate::output::line_output::LineOutput;
-use crate::results::mem_runs::MemRuns;
 use kt_base::Text;
 use kt_child::Os;
 use kt_plan::CaseOptions;
@@ -97,9 +92,8 @@ fn perform_in_file<
     with_closed(exit, closed, out)
 }
 
-/// Performs a command of the program: over the host's files, this system and the results that the
-/// platform opens and closes, or over none in memory, with its text on standard output, line for
-/// line.
+/// Performs a command of the program: over the host's files, this system and the results that the platform opens and
+/// closes, or over none in memory, with its text on standard output, line for line.
 pub fn perform<R: Files<File = File> + Clock + AllocGlobal, O: Os + Drop, P: Platform, W: Write>(
     rt: &R,
     os: O,

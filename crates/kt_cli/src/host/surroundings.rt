@@ -1,9 +1,8 @@
 ghost use Rattle.std.specs.Prelude.{◌≡◌, IfOk, length};
 ghost use Rattle.kt_cli.specs.Inner.HostAnswers.{longest_variable};
-ghost use Rattle.kt_cli.specs.HostAnswers.{is_root};
 
 use kt_base::{NoMemory, Text};
-use kt_child::DriverFault;
+use kt_child::{Driver, DriverFault, Os};
 use std::alloc::Global;
 use std::env;
 use std::rt::Env;
@@ -20,6 +19,15 @@ pub struct Surroundings {
     pub path: Option<Text>,
     /// The value of `USER`, if it is set: who runs the command.
     pub user: Option<Text>,
+}
+
+/// A driver, with the surroundings of the command that uses it.
+#[derive(Drop)]
+pub struct Runner<O: Os + Drop> {
+    /// What starts test programs and asks for their cases.
+    pub driver: Driver<O>,
+    /// What the command finds around it.
+    pub around: Surroundings,
 }
 
 /// The value of a variable, which is copied through a buffer on the stack.
@@ -52,6 +60,8 @@ fn working_directory<R: Env + AllocGlobal>(rt: &R) -> Result<Text, DriverFault> 
 }
 
 impl Surroundings {
+    ghost use Rattle.kt_cli.specs.HostAnswers.{is_root};
+
     /// Takes the variables from the environment. One that isn't UTF-8 counts as not set.
     pub fn new<R: Env + AllocGlobal>(rt: &R, here: Text) -> Result<Surroundings, NoMemory>
         ensures { IfOk result (λ around. around.here ≡ here) }

@@ -1,4 +1,5 @@
 ghost use Rattle.std.specs.Prelude.{◌≡◌, if◌then◌else◌, is_err};
+ghost use Rattle.kt_cli.specs.Testing.{exit_of};
 
 use kt_base::OutputFault;
 
@@ -18,5 +19,16 @@ pub fn ended(written: Result<(), OutputFault>, due: u8) -> Exit
 {
     Exit {
         status: if written.is_err() { FAILED } else { due },
+    }
+}
+
+/// The status of a command over cases: 0 if no case is bad and every filter selects some, else 1.
+pub fn status_of(bad: u64, unmatched: &[usize]) -> u8
+    ensures { result ≡ exit_of bad unmatched.now }
+{
+    if bad == 0 && unmatched.is_empty() {
+        0
+    } else {
+        1
     }
 }

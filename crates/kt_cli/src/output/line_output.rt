@@ -1,4 +1,5 @@
-use crate::output::exit::{Exit, FAILED};
+use crate::Exit;
+use crate::output::exit::FAILED;
 use crate::output::held_bytes::{HeldBytes, ROOM};
 use kt_base::send;
 use std::io;
@@ -22,8 +23,7 @@ fn broken() -> io::Error {
 
 impl<W: Write> LineOutput<W> {
     ghost use Rattle.std.specs.Prelude.{◌≡◌, ◌≤◌, ◌+◌, [], false, length};
-    ghost use Rattle.std.specs.Io.KnownBytes.{Keeps, Appends};
-    ghost use Rattle.kt_cli.specs.LineOutputs.{given_bytes, has_failed, unwritten};
+    ghost use Rattle.kt_cli.specs.Common.{Keeps, Appends, given_bytes, has_failed, unwritten};
 
     /// A writer before this one, which holds nothing yet. If `by_line` is set, each line is written
     /// when it is complete.
@@ -71,9 +71,7 @@ impl<W: Write> LineOutput<W> {
 
 impl<W: Write> Write for LineOutput<W> {
     ghost use Rattle.std.specs.Prelude.{◌≡◌, [], true, is_err, OnOk};
-    ghost use Rattle.std.specs.Io.{WritesAtMost};
-    ghost use Rattle.std.specs.Io.KnownBytes.{Keeps, WriteAppends};
-    ghost use Rattle.kt_cli.specs.LineOutputs.{given_bytes, has_failed, unwritten};
+    ghost use Rattle.kt_cli.specs.Common.{WritesAtMost, Keeps, WriteAppends, given_bytes, has_failed, unwritten};
 
     ghost contents = { given_bytes W.contents };
 
@@ -117,11 +115,9 @@ impl<W: Write> Write for LineOutput<W> {
 }
 
 impl<W: Write> LineOutput<W> {
-    ghost use Rattle.kt_cli.specs.LineOutputs.{given_bytes, line_state};
-    ghost use Rattle.kt_cli.specs.Performing.{Flushed};
+    ghost use Rattle.kt_cli.specs.Common.{given_bytes, line_state, Flushed};
 
-    /// The exit of a command that wrote here: what is still held is written, and where that fails
-    /// the exit is 2.
+    /// The exit of a command that wrote here: what is still held is written, and where that fails the exit is 2.
     pub fn finish(&mut self, exit: Exit) -> Exit
         ensures { Flushed (given_bytes W.contents self.old) (line_state W.contents self.new)
             exit.status result.status }

@@ -1,6 +1,5 @@
 ghost use Rattle.std.specs.Prelude.{◌≡◌, map, IfOk};
-ghost use Rattle.kt_report.specs.Cases.{with_outputs};
-ghost use Rattle.kt_store.specs.Heads.{without_outputs, outputs_of};
+ghost use Rattle.kt_cli.specs.Common.{with_outputs, without_outputs, outputs_of};
 
 use kt_base::{Entry, NoMemory, Output, Text, Verdict};
 use kt_store::{CaseOutputs, no_output};

@@ -8,8 +8,7 @@ use std::mem;
 /// The most runs that are recorded.
 const RUN_LIMIT: usize = 1_000_000;
 
-/// Recorded runs in memory. Contracts see their list; a run's number is its place in it, counted
-/// from 1.
+/// Recorded runs in memory. Contracts see their list; a run's number is its place in it, counted from 1.
 #[derive(Drop)]
 pub struct MemRuns {
     runs: Vec<Run>,
@@ -18,7 +17,7 @@ pub struct MemRuns {
 
 impl Model for MemRuns {
     ghost use Rattle.std.specs.Prelude.{List};
-    ghost use Rattle.kt_base.specs.declared.run.Run.{Run};
+    ghost use Rattle.kt_base.specs.declared.entry.Run.{Run};
 
     ghost Value = { List Run };
 
@@ -27,9 +26,7 @@ impl Model for MemRuns {
 
 impl MemRuns {
     ghost use Rattle.std.specs.Prelude.{◌≡◌, [], IfErr};
-    ghost use Rattle.kt_store.specs.Ask.{IsStoreFault};
-    ghost use Rattle.kt_store.specs.StoreCalls.{Began, Put, Finished, Heads, Outline, Outputs, seen_as};
-    ghost use Rattle.kt_cli.specs.Inner.MemoryRuns.{FindsPlace, ServesInMemory};
+    ghost use Rattle.kt_cli.specs.Common.{IsStoreFault, Began, Put, Finished, Heads, Outline, Outputs, seen_as, FindsPlace, ServesInMemory};
 
     /// No runs, which take no memory.
     pub fn new(alloc: Global) -> MemRuns
@@ -137,7 +134,7 @@ impl MemRuns {
 
 impl Keeping for MemRuns {
     ghost use Rattle.std.specs.Prelude.{◌≡◌, ⊤};
-    ghost use Rattle.kt_store.specs.Runs.{AreNumbered};
+    ghost use Rattle.kt_cli.specs.Common.{AreNumbered};
 
     // What each call returns is its own clause.
     ghost answers = { λ _ _ _. Unit {0} };
@@ -179,13 +176,8 @@ impl ResultStore for MemRuns {
 }
 
 ghost use Rattle.std.specs.Prelude.{◌≡◌, ◌≤◌, ◌==◌, length, map, insert, OnOk, OnErr, IfOk};
-ghost use Rattle.std.specs.List.{find};
-ghost use Rattle.std.specs.Option.{option_copied};
+ghost use Rattle.kt_cli.specs.Common.{find, option_copied, IsStoreFault, head_of, has_position, insert_at, entry_refusal, closing_refusal, place_among};
 ghost use Rattle.kt_base.specs.declared.entry.Entry.{Entry as Recorded};
-ghost use Rattle.kt_store.specs.Ask.{IsStoreFault};
-ghost use Rattle.kt_store.specs.Heads.{head_of};
-ghost use Rattle.kt_store.specs.Runs.{has_position, insert_at};
-ghost use Rattle.kt_cli.specs.Inner.MemoryRuns.{entry_refusal, closing_refusal, place_among};
 
 /// Memory ran out.
 fn short(refusal: NoMemory) -> StoreFault
@@ -254,8 +246,7 @@ fn add_copy(alloc: Global, entries: &mut Items<Entry>, entry: &Entry) -> Result<
 
 /// The first entry at this position.
 fn entry_at(entries: &[Entry], position: u32) -> Option<&Entry>
-    ensures { option_copied result
-        ≡ find (λ (e : Recorded). e.position == position) entries.now }
+    ensures { option_copied result ≡ find (λ (e : Recorded). e.position == position) entries.now }
 {
     entries.iter().find(|x| x.position == position)
 }

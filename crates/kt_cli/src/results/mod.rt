@@ -1,5 +1,4 @@
-//! Recorded runs: in memory, copied, and the file of the results.
+//! Recorded runs: in memory, and copied.
 
 pub(crate) mod copies;
 pub(crate) mod mem_runs;
-pub(crate) mod results_file;

@@ -1,7 +1,5 @@
-use Rattle.std.proofs.Common.{rules, ◌≡◌, ◌∷◌, List, ap, refl, take}
-use Rattle.std.specs.Prelude.{Ok, Err}
-use Rattle.kt_plan.specs.declared.cases.offering.Candidate.{Candidate}
-use Rattle.kt_cli.specs.Scenes.{world_of}
+use Rattle.std.proofs.Common.{rules, ◌≡◌, ◌∷◌, List, ap, refl, take, Ok, Err}
+use Rattle.kt_cli.proofs.Common.{Candidate, world_of}
 use Rattle.kt_cli.proofs.Saying.{nothing}
 use Rattle.kt_cli.proofs.Testings.{stopped_only, idle_answer, short_only, printed_memory, debug_parts, debug_short, debugged_as}
 use Rattle.kt_cli.proofs.commands.debugging.debug.Goals as goal
@@ -35,4 +33,4 @@ returns-clause-told g c =
     let e : c.print_cases-answer.result.0 ≡ Err c.in-Err-answer.fault = search rules in
     let a : c.as_slice-cases.result.now ≡ c.in-Ok.picked.chosen.cases = search rules in
     debug_short (world_of g.W.Tree g.W.Launcher g.W.World) c.args.options.now _ _ _ _ _ _ _ _ c.in-Ok.picked _ c.in-Ok-prepare.plan _ _ c.in-Err-answer.fault c.in-Ok.ensures.selects (ap (λ (cs : List Candidate). take 1 cs) a) c.in-Ok-prepare.ensures.planned
-    (debugged_as g.W.Launcher _ _ _ _ _ _ _ _ e c.print_cases-answer.ensures.debugged) c.fault_behind.ensures c.ended-in-Err-answer.ensures
+    (debugged_as g.W.Launcher _ _ _ _ _ _ _ _ e c.print_cases-answer.ensures.debugged) c.write_run_fault.ensures c.ended-in-Err-answer.ensures

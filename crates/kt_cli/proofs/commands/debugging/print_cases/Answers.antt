@@ -1,5 +1,4 @@
-use Rattle.std.proofs.Common.{rules}
-use Rattle.std.specs.Prelude.{is_err}
+use Rattle.std.proofs.Common.{rules, is_err}
 use Rattle.kt_cli.proofs.DebugRuns.{debug_ends}
 use Rattle.kt_cli.proofs.commands.debugging.print_cases.Goals as goal
 

@@ -1,6 +1,6 @@
 use Rattle.std.proofs.Common.{rules, ◌≡◌}
+use Rattle.kt_cli.proofs.Common.{world_of}
 use Rattle.kt_words.specs.declared.command.Command.TheVariants as command
-use Rattle.kt_cli.specs.Scenes.{world_of}
 use Rattle.kt_cli.proofs.Testings.{did_told, did_report, did_junit, did_as}
 use Rattle.kt_cli.proofs.commands.execution.execute.Goals as goal
 

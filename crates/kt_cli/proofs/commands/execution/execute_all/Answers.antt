@@ -1,9 +1,5 @@
 use Rattle.std.proofs.Common.{rules, ◌≡◌, ◌≤◌, ◌+◌, suc, drop, length, ◌++◌, ◌∷◌, [], List, arith, ap, subst, sym}
-use Rattle.std.proofs.lemmas.Grind.{common_steps}
-use Rattle.std.specs.Vec.{vec_len, vec_capacity}
-use Rattle.kt_words.specs.declared.command.Command.{Command}
-use Rattle.kt_cli.specs.declared.output.exit.Exit.{Exit}
-use Rattle.kt_cli.specs.Scenes.{scene, world_of}
+use Rattle.kt_cli.proofs.Common.{common_steps, vec_len, vec_capacity, Command, Exit, scene, world_of}
 use Rattle.kt_cli.proofs.Saying.{nothing}
 use Rattle.kt_cli.proofs.Sequencing.{GoesOn, goes_first, goes_more, goes_all}
 use Rattle.kt_cli.proofs.commands.execution.execute_all.Goals as goal

@@ -1,7 +1,5 @@
 use Rattle.std.proofs.Common.{◌+◌, ◌≤◌, drop, length}
-use Rattle.std.specs.Vec.{vec_len, vec_capacity}
-use Rattle.kt_sched.specs.Children.{IsIdle}
-use Rattle.kt_cli.specs.Scenes.{scene, world_of}
+use Rattle.kt_cli.proofs.Common.{vec_len, vec_capacity, IsIdle, scene, world_of}
 use Rattle.kt_cli.proofs.Sequencing.{GoesOn}
 use Rattle.kt_cli.proofs.commands.execution.execute_all.Given as goal
 

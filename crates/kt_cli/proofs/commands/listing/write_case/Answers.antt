@@ -1,7 +1,5 @@
-use lib.Utf8.{encode}
-use Rattle.std.specs.Prelude.{codes}
-use Rattle.std.proofs.Common.{sym}
-use Rattle.kt_base.proofs.Showing.{shows_as}
+use Rattle.std.proofs.Common.{codes, sym}
+use Rattle.kt_cli.proofs.Common.{encode, shows_as}
 use Rattle.kt_cli.proofs.Utf8Sums.{utf8_four}
 use Rattle.kt_cli.proofs.commands.listing.write_case.Goals as goal
 

@@ -1,9 +1,5 @@
 use Rattle.std.proofs.Common.{ap}
-use Rattle.kt_base.proofs.Showing.{shows_as, shows_error, shows_none}
-use Rattle.kt_base.specs.Utf8.{utf8}
-use Rattle.kt_plan.specs.declared.cases.offering.Candidate.{Candidate}
-use Rattle.kt_report.proofs.InTurn.{shows_next, shows_cut_off, shows_whole}
-use Rattle.kt_cli.specs.CaseLines.{case_line}
+use Rattle.kt_cli.proofs.Common.{shows_as, shows_error, shows_none, utf8, Candidate, shows_next, shows_cut_off, shows_whole, case_line}
 use Rattle.kt_cli.proofs.Utf8Sums.{utf8_flat_map}
 use Rattle.kt_cli.proofs.commands.listing.write_cases.Goals as goal
 

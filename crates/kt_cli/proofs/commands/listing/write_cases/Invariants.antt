@@ -1,8 +1,5 @@
-use Rattle.std.proofs.Common.{false, take}
-use Rattle.std.specs.Prelude.{flat_map}
-use Rattle.kt_base.specs.Shows.{Shows}
-use Rattle.kt_base.specs.Utf8.{utf8}
-use Rattle.kt_cli.specs.CaseLines.{case_line}
+use Rattle.std.proofs.Common.{false, take, flat_map}
+use Rattle.kt_cli.proofs.Common.{Shows, utf8, case_line}
 use Rattle.kt_cli.proofs.commands.listing.write_cases.Given as goal
 
 -- the cases so far were written

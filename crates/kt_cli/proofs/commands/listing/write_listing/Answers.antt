@@ -1,6 +1,4 @@
-use Rattle.kt_base.specs.Utf8.{utf8}
-use Rattle.kt_cli.specs.Warnings.{warnings}
-use Rattle.kt_base.proofs.Showing.{shows_both, shows_error, shows_more}
+use Rattle.kt_cli.proofs.Common.{utf8, warnings, shows_both, shows_error, shows_more}
 use Rattle.kt_cli.proofs.commands.listing.write_listing.Goals as goal
 
 pub returns-in_err-write_cases : goal.returns-in_err-write_cases

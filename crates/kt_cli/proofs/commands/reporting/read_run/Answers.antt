@@ -1,5 +1,5 @@
-use Rattle.std.specs.Prelude.{Ok, Err}
-use Rattle.kt_store.specs.StoreCalls.{Heads, Outline}
+use Rattle.std.proofs.Common.{Ok, Err}
+use Rattle.kt_cli.proofs.Common.{Heads, Outline}
 use Rattle.kt_cli.proofs.ShownRuns.{reads_no_heads, reads_missing, reads_no_outline, reads_run}
 use Rattle.kt_cli.proofs.StoreChains.{stored_call}
 use Rattle.kt_cli.proofs.commands.reporting.read_run.Goals as goal

@@ -1,5 +1,6 @@
-use Rattle.std.proofs.Common.{refl}
-use Rattle.kt_cli.proofs.JunitSteps.{stopped_as}
+use Rattle.std.proofs.Common.{Err, refl, subst}
+use Rattle.kt_cli.proofs.Common.{WritesJunit}
+use Rattle.kt_cli.specs.declared.commands.report_stop.JunitStop.{JunitStop}
 use Rattle.kt_cli.proofs.ShownRuns.{did_tell_junit, did_not_tell_junit, did_refuse, did_cut, did_stop}
 use Rattle.kt_cli.proofs.commands.reporting.report_junit.Goals as goal
 
@@ -12,14 +13,14 @@ returns-in-Ok-write_junit g c = did_tell_junit g.R.Keeping c.args.number _ _ _ _
 pub returns-in-Err-Refused : goal.returns-in-Err-Refused
 returns-in-Err-Refused g c =
     did_refuse g.R.Keeping c.args.number _ _ _ _ _ _ c.in-Ok.run' _ _ c.in-Err-Refused.fault c.in-Ok.ensures
-    (stopped_as g.R.Keeping c.read_run.new.results c.write_junit.new.results (g.O.Write.contents c.args.out.now) (g.O.Write.contents c.write_junit.new.out) c.in-Ok.run' _ _ c.in-Err-Refused.field-0-is c.in-Err-Refused.ensures) c.write_refusal.ensures c.ended-in-Err-Refused.ensures
+    (subst (λ (stop : JunitStop). WritesJunit g.R.Keeping c.read_run.new.results c.write_junit.new.results (g.O.Write.contents c.args.out.now) (g.O.Write.contents c.write_junit.new.out) c.in-Ok.run' (Err stop)) c.in-Err-Refused.field-0-is c.in-Err-Refused.ensures) c.write_refusal.ensures c.ended-in-Err-Refused.ensures
 
 pub returns-in-Err-Report-Output : goal.returns-in-Err-Report-Output
 returns-in-Err-Report-Output g c =
     did_stop g.R.Keeping c.args.number _ _ _ _ _ _ c.in-Ok.run' _ c.in-Ok.ensures
-    (stopped_as g.R.Keeping c.read_run.new.results c.write_junit.new.results (g.O.Write.contents c.args.out.now) (g.O.Write.contents c.write_junit.new.out) c.in-Ok.run' _ _ c.in-Err-Report-Output.field-0-is c.in-Err-Report-Output.ensures) refl refl
+    (subst (λ (stop : JunitStop). WritesJunit g.R.Keeping c.read_run.new.results c.write_junit.new.results (g.O.Write.contents c.args.out.now) (g.O.Write.contents c.write_junit.new.out) c.in-Ok.run' (Err stop)) c.in-Err-Report-Output.field-0-is c.in-Err-Report-Output.ensures) refl refl
 
 pub returns : goal.returns
 returns g c =
     did_cut g.R.Keeping c.args.number _ _ _ _ _ _ c.in-Ok.run' _ c.in-Ok.ensures
-    (stopped_as g.R.Keeping c.read_run.new.results c.write_junit.new.results (g.O.Write.contents c.args.out.now) (g.O.Write.contents c.write_junit.new.out) c.in-Ok.run' _ _ c.in-Err-Report-NoMemory.field-0-is c.in-Err-Report-NoMemory.ensures) _ c.write_memory.ensures c.ended-in-Err-Report-NoMemory.ensures
+    (subst (λ (stop : JunitStop). WritesJunit g.R.Keeping c.read_run.new.results c.write_junit.new.results (g.O.Write.contents c.args.out.now) (g.O.Write.contents c.write_junit.new.out) c.in-Ok.run' (Err stop)) c.in-Err-Report-NoMemory.field-0-is c.in-Err-Report-NoMemory.ensures) _ c.write_memory.ensures c.ended-in-Err-Report-NoMemory.ensures

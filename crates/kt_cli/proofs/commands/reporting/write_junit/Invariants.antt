@@ -1,4 +1,4 @@
-use Rattle.kt_cli.specs.Inner.Reports.{WritesFirst}
+use Rattle.kt_cli.proofs.Common.{WritesFirst}
 use Rattle.kt_cli.proofs.commands.reporting.write_junit.Given as goal
 
 -- the cases so far were written

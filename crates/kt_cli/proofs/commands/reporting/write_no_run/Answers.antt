@@ -1,8 +1,5 @@
-use lib.Utf8.{encode}
-use Rattle.std.specs.Prelude.{codes}
-use Rattle.std.proofs.Common.{sym, ◌∙◌}
-use Rattle.std.specs.Fmt.{decimal}
-use Rattle.kt_base.proofs.Showing.{shows_as}
+use Rattle.std.proofs.Common.{codes, sym, ◌∙◌}
+use Rattle.kt_cli.proofs.Common.{encode, decimal, shows_as}
 use Rattle.kt_cli.proofs.Utf8Sums.{utf8_three}
 use Rattle.kt_cli.proofs.commands.reporting.write_no_run.Goals as goal
 

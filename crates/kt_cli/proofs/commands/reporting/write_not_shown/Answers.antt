@@ -1,4 +1,4 @@
-use lib.Utf8.{encode}
+use Rattle.kt_cli.proofs.Common.{encode}
 use Rattle.kt_cli.proofs.commands.reporting.write_not_shown.Goals as goal
 
 pub returns-in-NoRuns : goal.returns-in-NoRuns

@@ -1,6 +1,5 @@
-use Rattle.std.proofs.Common.{rules}
-use Rattle.std.specs.Prelude.{is_err}
-use Rattle.kt_cli.specs.Inner.Recording.{recording}
+use Rattle.std.proofs.Common.{rules, is_err}
+use Rattle.kt_cli.proofs.Common.{recording}
 use Rattle.kt_cli.proofs.Gainings.{whole}
 use Rattle.kt_cli.proofs.commands.testing.record_cases.Goals as goal
 

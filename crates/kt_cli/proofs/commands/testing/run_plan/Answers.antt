@@ -1,6 +1,5 @@
-use Rattle.std.specs.Prelude.{Ok, Err}
-use Rattle.std.proofs.Common.{rules, ◌≡◌, length}
-use Rattle.kt_store.specs.StoreCalls.{Began, Finished}
+use Rattle.std.proofs.Common.{Ok, Err, rules, ◌≡◌, length}
+use Rattle.kt_cli.proofs.Common.{Began, Finished}
 use Rattle.kt_cli.proofs.PlanRuns.{ran_unbegun, ran_failed, ran_unfinished, ran_all}
 use Rattle.kt_cli.proofs.StoreChains.{stored_call}
 use Rattle.kt_cli.proofs.commands.testing.run_plan.Goals as goal
@@ -19,7 +18,7 @@ returns-in-Err-answer-clause-ran g c =
     let b = c.in-Ok.ensures in
     ran_failed g.L.Launcher g.R.Keeping _ _ _ _ _ _ _ _ _ _ _ _ t
     (stored_call g.R.Keeping (Began _ c.args.moment (Ok c.in-Ok.number)) _ _ b)
-    _ c.record_cases-answer.ensures.records c.in-Err-answer.fault a c.fault_behind.ensures c.ended-in-Err-answer.ensures
+    _ c.record_cases-answer.ensures.records c.in-Err-answer.fault a c.write_run_fault.ensures c.ended-in-Err-answer.ensures
 
 pub returns-in-Err-finish-clause-ran : goal.returns-in-Err-finish-clause-ran
 returns-in-Err-finish-clause-ran g c =
@@ -30,7 +29,7 @@ returns-in-Err-finish-clause-ran g c =
     ran_unfinished g.L.Launcher g.R.Keeping _ _ _ _ _ _ _ _ _ _ _ _ t
     (stored_call g.R.Keeping (Began _ c.args.moment (Ok c.in-Ok.number)) _ _ b)
     _ c.record_cases-answer.ensures.records _ c.in-Ok-answer.totals a c.in-Err-finish.fault
-    (stored_call g.R.Keeping (Finished c.in-Ok.number (Err c.in-Err-finish.fault)) _ _ e) c.refusal_behind.ensures c.ended-in-Err-finish.ensures
+    (stored_call g.R.Keeping (Finished c.in-Ok.number (Err c.in-Err-finish.fault)) _ _ e) _ c.sink_fault.ensures c.write_run_fault-in-Err-finish.ensures c.ended-in-Err-finish.ensures
 
 pub returns-in-Ok-finish-clause-ran : goal.returns-in-Ok-finish-clause-ran
 returns-in-Ok-finish-clause-ran g c =
@@ -41,4 +40,4 @@ returns-in-Ok-finish-clause-ran g c =
     ran_all g.L.Launcher g.R.Keeping _ _ _ _ _ _ _ _ _ _ _ _ t
     (stored_call g.R.Keeping (Began _ c.args.moment (Ok c.in-Ok.number)) _ _ b)
     _ c.record_cases-answer.ensures.records _ c.in-Ok-answer.totals a _
-    (stored_call g.R.Keeping (Finished c.in-Ok.number (Ok tt)) _ _ e) c.ending_behind-all.ensures c.status_of.ensures c.ended-in-Ok-finish.ensures
+    (stored_call g.R.Keeping (Finished c.in-Ok.number (Ok tt)) _ _ e) c.write_ending-all.ensures c.status_of.ensures c.ended-in-Ok-finish.ensures

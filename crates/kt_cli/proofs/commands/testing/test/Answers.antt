@@ -1,5 +1,5 @@
 use Rattle.std.proofs.Common.{rules, ◌≡◌, refl}
-use Rattle.kt_cli.specs.Scenes.{world_of}
+use Rattle.kt_cli.proofs.Common.{world_of}
 use Rattle.kt_cli.proofs.Testings.{idle_told, stopped_only, short_only, did_told, did_test_parts as did_test, printed_memory, plan_few}
 use Rattle.kt_cli.proofs.commands.testing.test.Goals as goal
 

@@ -1,8 +1,5 @@
 use Rattle.std.proofs.Common.{rules, ◌≡◌, ◌∙◌, ℕ, List, ap, refl, subst, sym}
-use Rattle.std.proofs.lemmas.Result.{err_from_is_err_and}
-use Rattle.kt_sched.specs.Children.{IsIdle}
-use Rattle.kt_child.specs.Driving.ChildrenState.{ChildrenState, idle_state, is_among, shown_at}
-use Rattle.kt_cli.specs.Hosts.{not_absolute, none_made}
+use Rattle.kt_cli.proofs.Common.{err_from_is_err_and, IsIdle, ChildrenState, idle_state, is_among, shown_at, not_absolute, none_made}
 use Rattle.kt_cli.specs.Places.{source_directory}
 use Rattle.kt_cli.proofs.Refusing.{none_asked}
 use Rattle.kt_cli.proofs.host.host_execution.driver_of.Goals as goal

@@ -1,9 +1,6 @@
 use Rattle.std.proofs.Common.{rules}
-use Rattle.std.proofs.lemmas.Result.{err_from_is_err_and}
+use Rattle.kt_cli.proofs.Common.{err_from_is_err_and, Runner, runner_world, scene}
 use Rattle.kt_cli.specs.declared.host.host_world.HostWorld.{HostWorld}
-use Rattle.kt_cli.specs.declared.host.runner.Runner.{Runner}
-use Rattle.kt_cli.specs.HostAnswers.{runner_world}
-use Rattle.kt_cli.specs.Scenes.{scene}
 use Rattle.kt_cli.proofs.ChildrenTold.{courses_are_told, did_run, is_bare}
 use Rattle.kt_cli.proofs.Hosting.{did_over}
 use Rattle.kt_cli.proofs.Refusing.{none_asked}

@@ -1,6 +1,5 @@
-use Rattle.kt_words.specs.Commands.{results_of}
+use Rattle.kt_cli.proofs.Common.{results_of, program}
 use Rattle.kt_cli.specs.LineOutputs.{given_bytes}
-use Rattle.kt_cli.specs.Performing.{program}
 use Rattle.kt_cli.proofs.Performances.{by_file, by_memory}
 use Rattle.kt_cli.proofs.host.performing.perform.Goals as goal
 

@@ -1,4 +1,4 @@
-use Rattle.kt_cli.specs.Performing.{not_opened, closed}
+use Rattle.kt_cli.proofs.Common.{not_opened, closed}
 use Rattle.kt_cli.proofs.host.performing.perform_in_file.Goals as goal
 
 pub returns-in-Err : goal.returns-in-Err

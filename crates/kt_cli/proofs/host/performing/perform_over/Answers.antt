@@ -1,6 +1,6 @@
 use Rattle.std.proofs.Common.{rules, ◌≡◌}
+use Rattle.kt_cli.proofs.Common.{program}
 use Rattle.kt_words.specs.declared.command.Command.TheVariants as command
-use Rattle.kt_cli.specs.Performing.{program}
 use Rattle.kt_cli.proofs.Performances.{over_report, over_junit}
 use Rattle.kt_cli.proofs.host.performing.perform_over.Goals as goal
 

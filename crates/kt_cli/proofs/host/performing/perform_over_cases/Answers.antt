@@ -1,5 +1,5 @@
 use Rattle.std.proofs.Common.{refl}
-use Rattle.kt_cli.specs.Performing.{done, no_place, no_driver}
+use Rattle.kt_cli.proofs.Common.{done, no_place, no_driver}
 use Rattle.kt_cli.proofs.Performances.{first_told}
 use Rattle.kt_cli.proofs.host.performing.perform_over_cases.Goals as goal
 

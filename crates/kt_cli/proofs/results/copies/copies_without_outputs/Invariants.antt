@@ -1,6 +1,5 @@
-use Rattle.std.specs.Prelude.{map}
-use Rattle.std.proofs.Common.{◌≡◌, ◌++◌, drop}
-use Rattle.kt_store.specs.Heads.{without_outputs}
+use Rattle.std.proofs.Common.{map, ◌≡◌, ◌++◌, drop}
+use Rattle.kt_cli.proofs.Common.{without_outputs}
 use Rattle.kt_cli.proofs.results.copies.copies_without_outputs.Given as goal
 
 -- the copies of the rest go behind those so far

@@ -1,6 +1,5 @@
-use Rattle.std.specs.Prelude.{map}
-use Rattle.std.proofs.Common.{◌≡◌, ◌++◌, drop}
-use Rattle.kt_store.specs.Heads.{head_of}
+use Rattle.std.proofs.Common.{map, ◌≡◌, ◌++◌, drop}
+use Rattle.kt_cli.proofs.Common.{head_of}
 use Rattle.kt_cli.proofs.results.mem_runs.heads.Given as goal
 
 -- the heads of the rest go behind those so far

@@ -1,8 +1,5 @@
-use Rattle.std.specs.Prelude.{insert}
-use Rattle.std.proofs.Common.{rules, ◌≡◌, ◌≤◌, length, ap, ◌∙◌, sym, subst, ℕ, List}
-use Rattle.kt_base.specs.declared.entry.Entry.{Entry}
-use Rattle.kt_store.specs.Runs.{insert_at}
-use Rattle.kt_cli.specs.Inner.MemoryRuns.{place_among}
+use Rattle.std.proofs.Common.{insert, rules, ◌≡◌, ◌≤◌, length, ap, ◌∙◌, sym, subst, ℕ, List}
+use Rattle.kt_cli.proofs.Common.{Entry, insert_at, place_among}
 use Rattle.kt_cli.proofs.MemoryLaws.{inserted, place_within}
 use Rattle.kt_cli.proofs.results.mem_runs.insert_entry.Goals as goal
 

@@ -1,5 +1,5 @@
 use Rattle.std.proofs.Common.{◌≡◌, ◌+◌, drop}
-use Rattle.kt_cli.specs.Inner.MemoryRuns.{place_among}
+use Rattle.kt_cli.proofs.Common.{place_among}
 use Rattle.kt_cli.proofs.results.mem_runs.place_among.Given as goal
 
 -- the place among the rest, counted from here

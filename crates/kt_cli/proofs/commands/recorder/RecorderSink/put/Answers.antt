@@ -1,8 +1,7 @@
-use Rattle.std.specs.Prelude.{Ok, Err}
-use Rattle.std.proofs.Common.{refl, sym, subst, List}
-use Rattle.kt_base.specs.declared.run.Run.{Run}
-use Rattle.kt_store.specs.StoreCalls.{Put}
+use Rattle.std.proofs.Common.{rules, true, false, is_err, ◌≡◌, Ok, Err, refl, sym, subst, List}
+use Rattle.kt_cli.proofs.Common.{Run, Put}
 use Rattle.kt_cli.proofs.Numbered.{put_more}
+use Rattle.kt_cli.proofs.Saying.{says_no_more, says_on}
 use Rattle.kt_cli.proofs.StoreChains.{stored_call}
 use Rattle.kt_cli.proofs.commands.recorder.RecorderSink.put.Goals as goal
 
@@ -29,17 +28,18 @@ returns-in-Err-clause-leads g c =
 pub returns-in-Err-clause-err : goal.returns-in-Err-clause-err
 returns-in-Err-clause-err g c put h = (h.0, c.in-Err.ensures.stands _ h.1)
 
+pub returns-then-is_err-clause-leads : goal.returns-then-is_err-clause-leads
+returns-then-is_err-clause-leads g c =
+    let failed : is_err c.args.self.now.written ≡ true = search rules in
+    (refl, refl, (refl, stored_call g.R.Keeping (Put c.args.self.now.number c.args.entry (Ok tt)) _ _ c.in_default.ensures, says_no_more failed))
+
+pub returns-then-is_err-clause-ok : goal.returns-then-is_err-clause-ok
+returns-then-is_err-clause-ok g c put h = (h.0, subst (λ (rs : List Run). g.R.Keeping.stands c.put.new.self rs) (sym (put_more c.args.self.now.number put c.args.entry h.0)) (c.in_default.ensures.stands _ h.1))
+
 pub returns-clause-leads : goal.returns-clause-leads
 returns-clause-leads g c =
-    let p = c.in_default.ensures in (
-      refl,
-      refl,
-      (
-        refl,
-        stored_call g.R.Keeping (Put c.args.self.now.number c.args.entry (Ok tt)) _ _ p,
-        c.line_behind-self.ensures,
-      ),
-    )
+    let on : is_err c.args.self.now.written ≡ false = search rules in
+    (refl, refl, (refl, stored_call g.R.Keeping (Put c.args.self.now.number c.args.entry (Ok tt)) _ _ c.in_default.ensures, says_on on c.line-self.ensures))
 
 pub returns-clause-ok : goal.returns-clause-ok
 returns-clause-ok g c put h = (h.0, subst (λ (rs : List Run). g.R.Keeping.stands c.put.new.self rs) (sym (put_more c.args.self.now.number put c.args.entry h.0)) (c.in_default.ensures.stands _ h.1))

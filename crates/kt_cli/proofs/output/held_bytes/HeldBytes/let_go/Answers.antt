@@ -1,6 +1,6 @@
 use Rattle.std.proofs.Common.{◌≡◌, ◌+◌, ◌-◌, length, take, drop, sym, ap, ◌∙◌, arith, length-drop, length-take-le}
+use Rattle.kt_cli.proofs.Common.{drop-take}
 use lib.Seq.{paste}
-use Rattle.std.proofs.lemmas.List.{drop-take}
 use Rattle.std.proofs.lemmas.List.Edits.{take-paste}
 use Rattle.kt_cli.proofs.output.held_bytes.HeldBytes.let_go.Goals as goal
 

@@ -1,4 +1,4 @@
-use Rattle.std.proofs.KnownBytes.{append_known-grown, Appends-kept, Keeps-refl}
+use Rattle.kt_cli.proofs.Common.{append_known-grown, Appends-kept, Keeps-refl}
 use Rattle.kt_cli.proofs.output.line_output.LineOutput.accept.Goals as goal
 
 pub returns-then-not-is_due : goal.returns-then-not-is_due

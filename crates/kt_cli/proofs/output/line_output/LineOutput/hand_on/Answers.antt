@@ -1,5 +1,5 @@
 use Rattle.std.proofs.Common.{sym, take-append-drop}
-use Rattle.std.proofs.KnownBytes.{append_known-moved}
+use Rattle.kt_cli.proofs.Common.{append_known-moved}
 use Rattle.kt_cli.proofs.LineBytes.{none_left}
 use Rattle.kt_cli.proofs.output.line_output.LineOutput.hand_on.Goals as goal
 

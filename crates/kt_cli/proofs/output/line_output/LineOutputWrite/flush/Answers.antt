@@ -1,4 +1,4 @@
-use Rattle.std.proofs.KnownBytes.{Keeps-trans, append_known-kept}
+use Rattle.kt_cli.proofs.Common.{Keeps-trans, append_known-kept}
 use Rattle.kt_cli.proofs.output.line_output.LineOutputWrite.flush.Goals as goal
 
 pub returns-in-Ok-clause-bytes : goal.returns-in-Ok-clause-bytes

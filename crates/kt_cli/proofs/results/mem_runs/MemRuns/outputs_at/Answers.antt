@@ -1,7 +1,5 @@
 use Rattle.std.proofs.Common.{◌∙◌, ◌==◌, sym, ap}
-use Rattle.std.specs.List.{find}
-use Rattle.std.specs.Option.{option_copied}
-use Rattle.kt_base.specs.declared.entry.Entry.{Entry}
+use Rattle.kt_cli.proofs.Common.{find, option_copied, Entry}
 use Rattle.kt_cli.proofs.MemoryLaws.{outputs_well, outputs_missing}
 use Rattle.kt_cli.proofs.results.mem_runs.MemRuns.outputs_at.Goals as goal
 

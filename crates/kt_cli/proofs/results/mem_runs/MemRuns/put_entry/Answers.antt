@@ -1,5 +1,5 @@
 use Rattle.std.proofs.Common.{rules, ◌≡◌}
-use Rattle.kt_store.specs.Runs.{insert_at}
+use Rattle.kt_cli.proofs.Common.{insert_at}
 use Rattle.kt_cli.proofs.MemoryLaws.{put_refused, put_short, put_well}
 use Rattle.kt_cli.proofs.results.mem_runs.MemRuns.put_entry.Goals as goal
 

@@ -1,4 +1,4 @@
-use Rattle.kt_store.specs.StoreCalls.{Began}
+use Rattle.kt_cli.proofs.Common.{Began}
 use Rattle.kt_cli.proofs.MemoryLaws.{serves_in_memory}
 use Rattle.kt_cli.proofs.results.mem_runs.MemRunsResultStore.begin.Goals as goal
 

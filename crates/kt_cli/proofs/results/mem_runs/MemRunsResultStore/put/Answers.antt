@@ -1,4 +1,4 @@
-use Rattle.kt_store.specs.StoreCalls.{Put}
+use Rattle.kt_cli.proofs.Common.{Put}
 use Rattle.kt_cli.proofs.MemoryLaws.{serves_in_memory}
 use Rattle.kt_cli.proofs.results.mem_runs.MemRunsResultStore.put.Goals as goal
 

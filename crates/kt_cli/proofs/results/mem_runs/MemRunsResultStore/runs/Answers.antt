@@ -1,4 +1,4 @@
-use Rattle.kt_store.specs.StoreCalls.{Heads, seen_as}
+use Rattle.kt_cli.proofs.Common.{Heads, seen_as}
 use Rattle.kt_cli.proofs.MemoryLaws.{serves_in_memory}
 use Rattle.kt_cli.proofs.results.mem_runs.MemRunsResultStore.runs.Goals as goal
 

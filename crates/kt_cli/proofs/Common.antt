@@ -1,0 +1,80 @@
+-- The names that most proofs of this crate cite, passed on from one place. Declares nothing.
+pub use Rattle.std.proofs.KnownBytes.{Appends-kept, Keeps-refl, Keeps-trans, append_known-grown, append_known-kept, append_known-moved}
+pub use Rattle.std.proofs.lemmas.Bool.Decides.{nat_tests}
+pub use Rattle.std.proofs.lemmas.Grind.{common_steps, flat_map-append}
+pub use Rattle.std.proofs.lemmas.List.{drop-take, length-map, set-get_or}
+pub use Rattle.std.proofs.lemmas.Option.{slice_get-get_or, slice_get-map, slice_get_within}
+pub use Rattle.std.proofs.lemmas.Result.{err_from_is_err_and}
+pub use Rattle.std.specs.Fmt.{decimal}
+pub use Rattle.std.specs.List.{AllByRecursion, find}
+pub use Rattle.std.specs.Option.{option_copied, option_map}
+pub use Rattle.std.specs.Result.{IsErrAnd}
+pub use Rattle.std.specs.Vec.{vec_capacity, vec_len}
+pub use Rattle.kt_base.proofs.Chains.{chain-append}
+pub use Rattle.kt_base.proofs.Showing.{shows_as, shows_both, shows_error, shows_more, shows_none, shows_of, utf8-append}
+pub use Rattle.kt_base.specs.Chains.{Chain}
+pub use Rattle.kt_base.specs.Shows.{Shows}
+pub use Rattle.kt_base.specs.Utf8.{utf8}
+pub use Rattle.kt_base.specs.declared.entry.Entry.{Entry}
+pub use Rattle.kt_base.specs.declared.verdict.Kind.{Kind}
+pub use Rattle.kt_base.specs.declared.entry.Run.{Run}
+pub use Rattle.kt_child.specs.Driving.ChildrenState.{ChildrenState, idle_state, is_among, shown_at}
+pub use Rattle.kt_plan.proofs.PlansFit.{plan_fits}
+pub use Rattle.kt_plan.specs.Questions.{OfHost, OfTree, Question, leads_by, of_host}
+pub use Rattle.kt_plan.specs.declared.cases.Candidate.{Candidate}
+pub use Rattle.kt_report.proofs.InTurn.{shows_cut_off, shows_next, shows_whole}
+pub use Rattle.kt_report.specs.Junits.{case_bytes, ending, heading, junit_bytes}
+pub use Rattle.kt_report.specs.Lines.{line_bytes}
+pub use Rattle.kt_sched.specs.Children.{IsIdle}
+pub use Rattle.kt_sched.specs.EntryOf.{AreEntries, Gains, IsEntry, IsEntryOf, cleaned, decided, ended, refused, uncleaned}
+pub use Rattle.kt_sched.specs.Plan.{IsPlan}
+pub use Rattle.kt_sched.specs.RecordOrder.{Due, recorded}
+pub use Rattle.kt_sched.specs.Run.{EndsAs}
+pub use Rattle.kt_sched.specs.Trace.{End, Event, Leads, NoEvent, Start, Then, Trace, of}
+pub use Rattle.kt_sched.specs.declared.job.Job.{Job}
+pub use Rattle.kt_sched.specs.declared.run_fault.RunFault.{RunFault}
+pub use Rattle.kt_sched.specs.declared.run_fault.RunFault.TheVariants.{NoMemory, SinkFailed}
+pub use Rattle.kt_sched.specs.declared.sink.SinkFault.{SinkFault}
+pub use Rattle.kt_sched.specs.declared.totals.Totals.{Totals}
+pub use Rattle.kt_store.specs.Ask.{IsStoreFault}
+pub use Rattle.kt_store.specs.Heads.{entry_at, head_of, outputs_of, without_outputs}
+pub use Rattle.kt_store.specs.Runs.{AreNumbered, finish, finish_refusal, finish_refusal_of, has_position, insert_at, new_run, put_refusal, put_refusal_of, run_at, with_entry}
+pub use Rattle.kt_store.specs.Serving.{Agrees, Outlasts, Serves, changed_by}
+pub use Rattle.kt_store.specs.StoreCalls.{Began, Finished, Heads, Outline, Outputs, Put, StoreCall, seen_as}
+pub use Rattle.kt_store.specs.declared.result_store.CaseOutputs.{CaseOutputs}
+pub use Rattle.kt_store.specs.declared.result_store.RunHead.{RunHead}
+pub use Rattle.kt_store.specs.declared.store_fault.StoreFault.{StoreFault}
+pub use Rattle.kt_store.specs.declared.store_fault.StoreFault.TheVariants.{BadPosition, Incomplete, NoRun, RepeatedPosition}
+pub use Rattle.kt_words.specs.Commands.{cases_of, needs_case, number_of, results_of}
+pub use Rattle.kt_words.specs.declared.command.Command.{Command}
+pub use Rattle.kt_words.specs.declared.command.ReportOptions.{ReportOptions}
+unfoldable pub use lib.Utf8.{encode}
+pub use Rattle.kt_cli.specs.CaseLines.{case_line}
+pub use Rattle.kt_cli.specs.Debugging.{all_debug_bytes, debug_bytes, debug_exit}
+pub use Rattle.kt_cli.specs.FaultLines.{memory_line, refusal_line}
+pub use Rattle.kt_cli.specs.HostAnswers.{IsHostAnswer, RunnerStarts, RunnerWaits, runner_world, running_kept}
+pub use Rattle.kt_cli.specs.Hosts.{NoRoot, no_world, none_made, not_absolute}
+pub use Rattle.kt_cli.specs.Inner.Debugging.{DebugEnds, Debugged, Prints}
+pub use Rattle.kt_cli.specs.Inner.FaultLines.{run_line}
+pub use Rattle.kt_cli.specs.Inner.MemoryRuns.{FindsPlace, ServesInMemory, closing_refusal, entry_refusal, place_among}
+pub use Rattle.kt_cli.specs.Inner.Pages.{Says, SaysMore}
+pub use Rattle.kt_cli.specs.Inner.Recording.{Recorded, Recording, recording, sink_fault_of}
+pub use Rattle.kt_cli.specs.Inner.Recordings.{RecordEnds, RecordedAll, RecordedNone, RecordedSome, Records}
+pub use Rattle.kt_cli.specs.Inner.Reports.{CutsJunit, DidReport, JunitOrUnread, WritesCase, WritesFirst, WritesJunit}
+pub use Rattle.kt_cli.specs.Inner.Stores.{put_all}
+pub use Rattle.kt_cli.specs.Inner.Testing.{RanPlan}
+pub use Rattle.kt_cli.specs.Meaning.{AsksFirst, Course, CutShort, Did, IsAskedOnly, IsPrepared, IsUnasked, Means, Seen, cut, debugged, idle, junit_cut, listed, listing, listing_exit, no_memory, preparing, report_cut, reported, reported_junit, selecting, stopped, taken, tested}
+pub use Rattle.kt_cli.specs.MemoryRuns.{LeavesInMemory, memory_runs}
+pub use Rattle.kt_cli.specs.Pages.{Printed}
+pub use Rattle.kt_cli.specs.Performing.{DoneBy, DoneIn, DoneOver, Program, alone, closed, done, no_driver, no_place, not_opened, program}
+pub use Rattle.kt_cli.specs.Recordings.{AllRecorded, IsStopped}
+pub use Rattle.kt_cli.specs.Reports.{JunitCut, Reported, ReportedJunit, Unread, asked_outputs, chosen, filled, no_outputs, no_run, run_of, told}
+pub use Rattle.kt_cli.specs.Scenes.{Scene, World, launcher_of, scene, world_of}
+pub use Rattle.kt_cli.specs.SoundStores.{Comes, Left, ReadsOutputs, begun, finished, not_called, shown, with_new}
+pub use Rattle.kt_cli.specs.Stores.{Agree, Stored, beside, beside_by, by_position, changed, put_among, puts}
+pub use Rattle.kt_cli.specs.Testing.{PlannedRun, TestCut, Tested, begins, exit_of, none_idle, not_begun, not_finished, not_put, not_run, planned_run, results, results_exit, run_for}
+pub use Rattle.kt_cli.specs.Totals.{bad_count, good_count, lines}
+pub use Rattle.kt_cli.specs.Warnings.{warning_at, warnings}
+pub use Rattle.kt_cli.specs.declared.commands.report_stop.JunitStop.TheVariants.{Refused, Report}
+pub use Rattle.kt_cli.specs.declared.host.surroundings.Runner.{Runner}
+pub use Rattle.kt_cli.specs.declared.output.exit.Exit.{Exit}

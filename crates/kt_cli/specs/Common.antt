@@ -1,0 +1,56 @@
+-- The words that the clauses of this crate cite, passed on from one place. Declares nothing.
+pub use Rattle.std.proofs.Common.{ap}
+pub use Rattle.std.specs.Io.{WritesAtMost}
+pub use Rattle.std.specs.Io.KnownBytes.{Appends, Keeps, WriteAppends}
+pub use Rattle.std.specs.List.{find}
+pub use Rattle.std.specs.Option.{option_copied}
+pub use Rattle.std.specs.Str.{chars}
+pub use Rattle.kt_base.specs.Moments.{IsMoment}
+pub use Rattle.kt_base.specs.Shows.{Shows}
+pub use Rattle.kt_base.specs.Utf8.{utf8}
+pub use Rattle.kt_base.specs.declared.entry.Run.{Run}
+pub use Rattle.kt_child.specs.Driving.ChildrenState.{ChildrenState, is_among, shown_at}
+pub use Rattle.kt_report.specs.Cases.{with_outputs}
+pub use Rattle.kt_sched.specs.Children.{IsIdle}
+pub use Rattle.kt_sched.specs.Plan.{IsPlan, IsWidth}
+pub use Rattle.kt_store.specs.Ask.{IsStoreFault}
+pub use Rattle.kt_store.specs.Heads.{head_of, outputs_of, without_outputs}
+pub use Rattle.kt_store.specs.Runs.{AreNumbered, has_position, insert_at}
+pub use Rattle.kt_store.specs.StoreCalls.{Began, Finished, Heads, Outline, Outputs, Put, seen_as}
+pub use Rattle.kt_suite.specs.Selecting.{most_items}
+pub use Rattle.kt_words.specs.Commands.{cases_of}
+pub use Rattle.kt_words.specs.declared.command.Command.{Command}
+pub use Rattle.kt_cli.specs.CaseLines.{case_line}
+pub use Rattle.kt_cli.specs.ChildrenTold.{CoursesAreTold}
+pub use Rattle.kt_cli.specs.Closings.{Concluded}
+pub use Rattle.kt_cli.specs.Debugging.{debug_bytes}
+pub use Rattle.kt_cli.specs.FaultLines.{memory_line, refusal_line, store_line}
+pub use Rattle.kt_cli.specs.HostAnswers.{IsHostAnswer, RunnerStarts, RunnerWaits, running_kept}
+pub use Rattle.kt_cli.specs.HostFiles.{read_limit}
+pub use Rattle.kt_cli.specs.Hosts.{IsMade, NoRoot, OnDriver}
+pub use Rattle.kt_cli.specs.Inner.Debugging.{Debugged, Prints}
+pub use Rattle.kt_cli.specs.Inner.FaultLines.{run_line}
+pub use Rattle.kt_cli.specs.Inner.HostFiles.{longest_path, may_execute}
+pub use Rattle.kt_cli.specs.Inner.Meaning.{ToldOnly}
+pub use Rattle.kt_cli.specs.Inner.MemoryRuns.{FindsPlace, ServesInMemory, closing_refusal, entry_refusal, place_among}
+pub use Rattle.kt_cli.specs.Inner.Pages.{Says}
+pub use Rattle.kt_cli.specs.Inner.Recording.{Recorded, Took, recording, sink_fault_of}
+pub use Rattle.kt_cli.specs.Inner.Recordings.{Records}
+pub use Rattle.kt_cli.specs.Inner.Reports.{DidReport, JunitOrUnread, WritesCase, WritesJunit}
+pub use Rattle.kt_cli.specs.Inner.Shown.{IsMissing, ReadsRun, not_shown_line}
+pub use Rattle.kt_cli.specs.Inner.Testing.{RanPlan}
+pub use Rattle.kt_cli.specs.LineOutputs.{given_bytes, has_failed, line_state, unwritten}
+pub use Rattle.kt_cli.specs.Meaning.{CutShort, Did, Means, Seen}
+pub use Rattle.kt_cli.specs.Pages.{Printed}
+pub use Rattle.kt_cli.specs.Performing.{CarriedOut, DoneIn, DoneOver, Flushed, Performed, Rejected, program}
+pub use Rattle.kt_cli.specs.Places.{absolute, source_directory}
+pub use Rattle.kt_cli.specs.Refused.{Refused, command_exit, command_text, driver_line, failure_exit}
+pub use Rattle.kt_cli.specs.Reports.{Reported, ReportedJunit, Unread, chosen}
+pub use Rattle.kt_cli.specs.Scenes.{scene}
+pub use Rattle.kt_cli.specs.Sequences.{DidAll}
+pub use Rattle.kt_cli.specs.SoundStores.{Left}
+pub use Rattle.kt_cli.specs.StopLines.{stop_exit, stop_line}
+pub use Rattle.kt_cli.specs.Stores.{Stored}
+pub use Rattle.kt_cli.specs.Testing.{ending, planned_run}
+pub use Rattle.kt_cli.specs.Totals.{totals_text}
+pub use Rattle.kt_cli.specs.Warnings.{warning_at, warning_line, warnings}

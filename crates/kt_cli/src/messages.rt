@@ -1,0 +1,199 @@
+//! The lines that say what went wrong.
+
+ghost use Rattle.std.specs.Prelude.{◌≡◌, is_err, slice_get};
+ghost use Rattle.kt_cli.specs.Common.{Shows, utf8, Concluded, memory_line, refusal_line, store_line, run_line, Says, Printed, driver_line, command_text, command_exit, failure_exit, Refused, stop_exit, stop_line, warning_line, warning_at, warnings};
+
+use crate::Exit;
+use crate::output::exit::{FAILED, ended};
+use kt_base::{OutputFault, Text, emit, emit_all};
+use kt_child::DriverFault;
+use kt_plan::Stop;
+use kt_sched::{RunFault, SinkFault};
+use kt_store::StoreFault;
+use kt_words::CommandFault;
+use std::io::Write;
+
+/// The status of a wrong command line.
+const WRONG_WORDS: u8 = 3;
+
+/// Writes that memory ran out.
+pub fn write_memory<O: Write>(out: &mut O) -> Result<(), OutputFault>
+    ensures { Shows (O.contents out.old) (O.contents out.new) (is_err result) (utf8 memory_line) }
+{
+    emit(b"kyua: E: out of memory\n", out)
+}
+
+/// Writes that the store refused a call.
+fn write_store<O: Write>(out: &mut O) -> Result<(), OutputFault>
+    ensures { Shows (O.contents out.old) (O.contents out.new) (is_err result) (utf8 store_line) }
+{
+    emit(b"kyua: E: results store failed\n", out)
+}
+
+/// Writes why a run failed, unless an earlier write failed.
+pub fn write_run_fault<O: Write>(
+    written: Result<(), OutputFault>,
+    fault: RunFault,
+    out: &mut O,
+) -> Result<(), OutputFault>
+    ensures { Says (O.contents out.old) (is_err written) (O.contents out.new) (is_err result)
+        (utf8 (run_line fault)) }
+{
+    written?;
+    match fault {
+        RunFault::NoMemory(_) | RunFault::SinkFailed(SinkFault::Memory) => write_memory(out),
+        RunFault::SinkFailed(SinkFault::Other) => write_store(out),
+    }
+}
+
+/// Writes why the store refused a call.
+pub fn write_refusal<O: Write>(fault: StoreFault, out: &mut O) -> Result<(), OutputFault>
+    ensures { Shows (O.contents out.old) (O.contents out.new) (is_err result)
+        (utf8 (refusal_line fault)) }
+{
+    match fault {
+        StoreFault::NoMemory(_) => write_memory(out),
+        _ => write_store(out),
+    }
+}
+
+/// Writes why a command was stopped, in the line of its fault (this profile).
+fn write_stop<O: Write>(stop: &Stop, out: &mut O) -> Result<(), OutputFault>
+    ensures { Shows (O.contents out.old) (O.contents out.new) (is_err result)
+        (utf8 (stop_line stop.now)) }
+{
+    emit(b"kyua: E: ", out)?;
+    stop.print(out)?;
+    emit(b"\n", out)
+}
+
+/// The exit of a command that was stopped, if its line could be written: 3 if the arguments are wrong, else 2.
+fn stop_status(stop: &Stop) -> u8
+    ensures { result ≡ stop_exit stop.now }
+{
+    match stop {
+        Stop::Variable(_, _) | Stop::Filter(_, _) | Stop::NeedsCase => 3,
+        _ => 2,
+    }
+}
+
+/// Ends a command that was stopped by a fault.
+pub fn stopped<O: Write>(fault: &Stop, out: &mut O) -> Exit
+    ensures { Printed (O.contents out.old) (O.contents out.new) result.status
+        (utf8 (stop_line fault.now)) (stop_exit fault.now) }
+{
+    ended(write_stop(fault, out), stop_status(fault))
+}
+
+fn write_driver_fault<O: Write>(fault: DriverFault, out: &mut O) -> Result<(), OutputFault>
+    ensures { Shows (O.contents out.old) (O.contents out.new) (is_err result)
+        (utf8 (driver_line fault)) }
+{
+    match fault {
+        DriverFault::NoMemory(_) => write_memory(out),
+        DriverFault::NoWorkDirectory => emit(b"kyua: E: no work directory\n", out),
+    }
+}
+
+/// Prints why there is no driver.
+pub fn print_driver_fault<O: Write>(fault: DriverFault, out: &mut O) -> Exit
+    ensures { Printed (O.contents out.old) (O.contents out.new) result.status
+        (utf8 (driver_line fault)) failure_exit }
+{
+    ended(write_driver_fault(fault, out), FAILED)
+}
+
+/// Prints why the results can't be opened.
+pub fn print_store_fault<O: Write>(fault: StoreFault, out: &mut O) -> Exit
+    ensures { Printed (O.contents out.old) (O.contents out.new) result.status
+        (utf8 (refusal_line fault)) failure_exit }
+{
+    ended(write_refusal(fault, out), FAILED)
+}
+
+/// The exit of a command after its results were closed. If the close failed, this prints why and returns 2; the entries
+/// are safe in the log beside the file. A command that already failed prints nothing more.
+pub fn with_closed<O: Write>(exit: Exit, closed: Result<(), StoreFault>, out: &mut O) -> Exit
+    ensures { Concluded closed (O.contents out.old) (O.contents out.new) exit.status result.status }
+{
+    match closed {
+        Err(fault) if exit.status != FAILED => print_store_fault(fault, out),
+        _ => exit,
+    }
+}
+
+fn write_command_fault<O: Write>(fault: &CommandFault, out: &mut O) -> Result<(), OutputFault>
+    ensures { Shows (O.contents out.old) (O.contents out.new) (is_err result)
+        (utf8 (command_text fault.now)) }
+{
+    match fault {
+        CommandFault::NoMemory(_) => write_memory(out),
+        CommandFault::Usage(text) => emit(text.as_bytes(), out),
+        CommandFault::BadKind => emit(b"kyua: E: bad results filter\n", out),
+        CommandFault::BadRun => emit(b"kyua: E: bad run number\n", out),
+    }
+}
+
+fn status_of(fault: &CommandFault) -> u8
+    ensures { result ≡ command_exit fault.now }
+{
+    match fault {
+        CommandFault::NoMemory(_) => FAILED,
+        _ => WRONG_WORDS,
+    }
+}
+
+/// Prints why words are no command line. A wrong one ends with 3 even if that could not be written.
+pub fn print_command_fault<O: Write>(fault: &CommandFault, out: &mut O) -> Exit
+    ensures { Refused (O.contents out.old) (O.contents out.new) result.status
+        (utf8 (command_text fault.now)) (command_exit fault.now) }
+{
+    let _ = write_command_fault(fault, out);
+    Exit {
+        status: status_of(fault),
+    }
+}
+
+/// Warns of a filter that matches no case.
+fn write_warning<O: Write>(word: &Text, out: &mut O) -> Result<(), OutputFault>
+    ensures { Shows (O.contents out.old) (O.contents out.new) (is_err result)
+        (utf8 (warning_line word.now)) }
+{
+    emit_all(
+        &[
+            b"kyua: W: No test cases matched by the filter '",
+            word.as_bytes(),
+            b"'.\n",
+        ],
+        out,
+    )
+}
+
+fn write_warning_at<O: Write>(
+    words: &[Text],
+    position: usize,
+    out: &mut O,
+) -> Result<(), OutputFault>
+    ensures { Shows (O.contents out.old) (O.contents out.new) (is_err result)
+        (utf8 (warning_at (slice_get words.now position))) }
+{
+    match words.get(position) {
+        None => Ok(()),
+        Some(word) => write_warning(word, out),
+    }
+}
+
+/// Warns of the filters at these positions, in order, by their words as they were given.
+pub fn write_warnings<O: Write>(
+    words: &[Text],
+    positions: &[usize],
+    out: &mut O,
+) -> Result<(), OutputFault>
+    ensures { Shows (O.contents out.old) (O.contents out.new) (is_err result)
+        (utf8 (warnings words.now positions.now)) }
+{
+    for position in positions {
+        write_warning_at(words, *position, out)?;
+    }
+    Ok(())
+}
