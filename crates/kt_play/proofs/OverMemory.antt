@@ -1,14 +1,14 @@
 -- A store over runs in memory.
-use Rattle.std.specs.Prelude.{⊤}
 use Rattle.std.proofs.Common.{◌≡◌, List, refl, sym, subst}
-use Rattle.kt_base.specs.declared.run.Run.{Run}
+use Rattle.kt_play.proofs.Common.{StoreCall}
+use Rattle.std.specs.Prelude.{⊤}
+use Rattle.kt_base.specs.declared.entry.Run.{Run}
 use Rattle.kt_store.specs.Serving.{Serves}
-use Rattle.kt_store.specs.StoreCalls.{StoreCall}
-use Rattle.kt_store.specs.declared.keeping.Keeping as store
 use Rattle.kt_store.proofs.ServeLemmas.{always_outlasts}
 use Rattle.kt_cli.specs.MemoryRuns.{StandsInMemory, memory_runs}
 use Rattle.kt_cli.specs.Inner.MemoryRuns.{ServesInMemory}
 use Rattle.kt_cli.proofs.MemoryLaws.{serves_in_memory}
+use Rattle.kt_store.specs.declared.result_store.Keeping as store
 
 -- what is known of a store whose runs are these
 abbrev pub over : {T : Type 0} → (T → List Run) → store.Ghosts T

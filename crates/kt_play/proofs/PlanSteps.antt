@@ -1,8 +1,6 @@
 -- A plan with one job more.
-use Rattle.std.specs.Prelude.{slice_get, Some}
-use Rattle.std.proofs.Common.{refl, ◌≡◌, ℕ, zero, suc, ◌+◌, ◌⊎◌, List, [], ◌∷◌, ◌++◌, length, inl, inr, sym, ◌∙◌, ap, subst, arith}
-use Rattle.kt_sched.specs.declared.job.Job.{Job}
-use Rattle.kt_sched.specs.Plan.{IsPlan, IsFit}
+use Rattle.std.proofs.Common.{slice_get, Some, refl, ◌≡◌, ℕ, zero, suc, ◌+◌, ◌⊎◌, List, [], ◌∷◌, ◌++◌, length, inl, inr, sym, ◌∙◌, ap, subst, arith}
+use Rattle.kt_play.proofs.Common.{Job, IsPlan, IsFit}
 use Rattle.kt_sched.proofs.Turns.{in_append, some_is}
 
 -- a plan with one job more is a plan

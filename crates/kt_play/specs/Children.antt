@@ -1,8 +1,8 @@
 -- What a launcher shows that keeps a place for the body and one for the cleanup of each case.
 use Rattle.std.specs.Prelude.{ℕ, Bool, false, List, Option, Some, None, slice_index_or}
-use Rattle.kt_base.specs.declared.role.Role.{Role}
-use Rattle.kt_base.specs.declared.role.Role.TheVariants.{Body, Cleanup}
-use Rattle.kt_base.specs.declared.interface.Interface.{Interface}
+use Rattle.kt_base.specs.declared.child.Role.{Role}
+use Rattle.kt_base.specs.declared.child.Role.TheVariants.{Body, Cleanup}
+use Rattle.kt_base.specs.declared.child.Interface.{Interface}
 use Rattle.kt_sched.specs.Children.{Child}
 
 -- what is known of the child at a place, if one runs there: its interface, and whether a cleanup is declared

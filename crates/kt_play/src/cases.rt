@@ -5,9 +5,8 @@ use kt_base::{Interface, Items, NoMemory, Text, Variables};
 use kt_sched::Job;
 use std::alloc::Global;
 
-/// A plan of one program with a case for each letter, up to 1,000,000 of them, whose limit is given
-/// in seconds: `p` of a plain program, `t` of a TAP program, `a` and `c` of an ATF program, `c`
-/// with a cleanup.
+/// A plan of one program with a case for each letter, up to 1,000,000 of them, whose limit is given in seconds: `p` of
+/// a plain program, `t` of a TAP program, `a` and `c` of an ATF program, `c` with a cleanup.
 pub fn cases_of(
     alloc: Global,
     program: &str,

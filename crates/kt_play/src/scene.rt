@@ -28,8 +28,7 @@ pub struct Holding<'a> {
 /// What a scripted system does.
 #[derive(Drop)]
 pub struct Scene<'a> {
-    /// The lives of the children in the order of their starts. Further children live as the last
-    /// one.
+    /// The lives of the children in the order of their starts. Further children live as the last one.
     pub lives: Vec<Life>,
     pub files: Vec<Holding<'a>>,
     /// The calls from the first number on, counted from 0, and below the second one fail.

@@ -1,4 +1,4 @@
-use crate::refusing_store::RefusingStore;
+use crate::RefusingStore;
 use kt_base::{NoMemory, Text};
 use kt_child::DriverFault;
 use kt_cli::{Platform, Surroundings};

@@ -1,6 +1,7 @@
 ghost use Rattle.kt_child.specs.Ending.Reads.{IsReadWithin};
 
-use crate::scene::{Life, PartFault, Scene, bytes_at};
+use crate::scene::bytes_at;
+use crate::{Life, PartFault, Scene};
 use kt_base::{Bytes, Items, NoMemory, Role, Text, Variable};
 use kt_child::{Child, EnvPlan, FileRead, Os, OsFault, Polled};
 use std::alloc::Global;

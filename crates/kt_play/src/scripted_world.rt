@@ -1,6 +1,5 @@
-use crate::scene::{Holding, bytes_at};
-use crate::shortage::ask_too_much;
-use crate::stage::Stage;
+use crate::scene::bytes_at;
+use crate::{Holding, Stage, ask_too_much};
 use kt_atflist::{ListBytes, Listing};
 use kt_base::{Bytes, LATEST_MOMENT, NoMemory, Refused, Role, Text, Variables};
 use kt_plan::World;
@@ -69,8 +68,7 @@ impl<'a, L: Launcher> ScriptedWorld<'a, L> {
         }
     }
 
-    /// The place of the next list of a program: the first behind the last one that was told, or
-    /// else the first of all.
+    /// The place of the next list of a program: the first behind the last one that was told, or else the first of all.
     fn place_of_list(&self, program: &Text) -> Option<usize> {
         let mut first = None;
         for (place, listed) in self.stage.lists.iter().enumerate() {

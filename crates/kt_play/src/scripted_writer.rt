@@ -12,8 +12,7 @@ pub enum WriteFault {
     Nothing,
 }
 
-/// A writer that keeps what it is given, takes a few bytes at a time, and fails from one of its
-/// writes on.
+/// A writer that keeps what it is given, takes a few bytes at a time, and fails from one of its writes on.
 #[derive(Drop)]
 pub struct ScriptedWriter {
     kept: Vec<u8>,

@@ -1,5 +1,4 @@
-use crate::listed::Listed;
-use crate::scene::Holding;
+use crate::{Holding, Listed};
 
 /// What a scripted world has: files, programs, facts of a host, and moments.
 #[derive(Drop)]

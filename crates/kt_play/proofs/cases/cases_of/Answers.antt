@@ -1,6 +1,5 @@
 use Rattle.std.proofs.Common.{length-append, List, [], ◌∷◌, length, sym, ◌∙◌, ap, subst, arith}
-use Rattle.kt_sched.specs.declared.job.Job.{Job}
-use Rattle.kt_sched.specs.Plan.{IsPlan}
+use Rattle.kt_play.proofs.Common.{Job, IsPlan}
 use Rattle.kt_play.proofs.PlanSteps.{plan_more}
 use Rattle.kt_play.proofs.cases.cases_of.Goals as goal
 

@@ -1,5 +1,5 @@
 use Rattle.std.proofs.Common.{◌≡◌, length}
-use Rattle.kt_sched.specs.Plan.{IsPlan}
+use Rattle.kt_play.proofs.Common.{IsPlan}
 use Rattle.kt_play.proofs.cases.cases_of.Given as goal
 
 -- the jobs so far are a plan

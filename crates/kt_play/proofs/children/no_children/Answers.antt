@@ -1,4 +1,4 @@
-use Rattle.std.specs.Prelude.{None}
+use Rattle.std.proofs.Common.{None}
 use Rattle.kt_play.proofs.EmptyPlaces.{all_same}
 use Rattle.kt_play.proofs.children.no_children.Goals as goal
 

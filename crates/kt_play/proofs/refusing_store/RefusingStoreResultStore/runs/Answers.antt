@@ -1,7 +1,5 @@
-use Rattle.std.specs.Prelude.{Err}
-use Rattle.std.proofs.Common.{inl, refl}
-use Rattle.kt_store.specs.StoreCalls.{Heads, seen_as}
-use Rattle.kt_play.specs.declared.refusing_store.RefusingStore.{RefusingStore}
+use Rattle.std.proofs.Common.{Err, inl, refl}
+use Rattle.kt_play.proofs.Common.{Heads, seen_as, RefusingStore}
 use Rattle.kt_play.proofs.OverMemory.{serves_over, refuses_over}
 use Rattle.kt_play.proofs.refusing_store.RefusingStoreResultStore.runs.Goals as goal
 
