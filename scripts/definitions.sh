@@ -21,9 +21,9 @@ found=$(echo "$files" | LC_ALL=C xargs awk '
     gsub(/\//, ".", path)
     return path
   }
-  # Notes what the names of an import stand for in this file.
+  # Notes what the names of an import stand for in this file, and for who takes them from it.
   function import(line,   place, names, parts, n, i, words, m) {
-    sub(/^[ \t]*(ghost )?use Rattle\./, "", line)
+    sub(/^[ \t]*((ghost|pub) )?use Rattle\./, "", line)
     sub(/;[ \t]*$/, "", line)
     if (line !~ /^kt_[a-z]*\.specs\./ || line ~ /\.specs\.declared\./) return
     sub(/\.specs\./, ".", line)
@@ -40,6 +40,7 @@ found=$(echo "$files" | LC_ALL=C xargs awk '
     for (i = 1; i <= n; i++) {
       m = split(parts[i], words, / as /)
       stands[FILENAME, words[m]] = place "." words[1]
+      if (is_spec) passed[module "." words[m]] = place "." words[1]
     }
   }
   # Notes the names in a text as what a definition or a clause names; a name of the same module comes last.
@@ -62,7 +63,7 @@ found=$(echo "$files" | LC_ALL=C xargs awk '
     in_clause = in_use = 0
     owner_is_trait = owner_is_impl_of_trait = 0
   }
-  is_spec && /^use / { import($0); next }
+  is_spec && /^(pub )?use / { import($0); next }
   is_spec {
     line = $0
     sub(/--.*/, "", line)
@@ -142,6 +143,7 @@ found=$(echo "$files" | LC_ALL=C xargs awk '
         if ((part[2], word) in alias) target = alias[part[2], word] "." rest
       }
       if (target == "" && modules[part[2]] != "" && (modules[part[2]] "." word in defined || modules[part[2]] "." word in part_of)) target = modules[part[2]] "." word
+      if (!(target in defined) && target in passed) target = passed[target]
       if (target in part_of && !(target in defined)) target = part_of[target]
       if (target == "" || !(target in defined) || target == part[1]) continue
       if (part[1] == "private") { by_private[target] = 1; continue }

@@ -96,7 +96,7 @@ sources > "$room/sources"
 paths '(^|[^A-Za-z])OutOfMemory([^A-Za-z]|$)'
 rule 'names the error of a refused allocation' <<'PLACES'
 kt_base/src/no_memory.rt
-kt_store/src/statements.rt
+kt_store/src/store_fault/statements.rt
 kt_words/src/command_fault.rt
 PLACES
 
@@ -118,12 +118,12 @@ PLACES
 # A value for which no refused allocation is needed, or a line that tells of one. An arm that takes such a value isn't meant.
 lines '(Refused|SinkFault)::Memory($|[^ ]| [^=])|write_memory[(]'
 rule 'says that memory ran out' <<'PLACES'
-kt_child/src/starting/starts.rt: Refused::Memory
+kt_child/src/driving/starts.rt: Refused::Memory
 kt_cli/src/commands/debugging.rt: Err(_) => return ended(write_memory(out), FAILED),
-kt_cli/src/messages/fault_exit.rt: CommandFault::NoMemory(_) => write_memory(out),
-kt_cli/src/messages/fault_exit.rt: DriverFault::NoMemory(_) => write_memory(out),
-kt_cli/src/messages/fault_line.rt: RunFault::NoMemory(_) | RunFault::SinkFailed(SinkFault::Memory) => write_memory(out),
-kt_cli/src/messages/fault_line.rt: StoreFault::NoMemory(_) => write_memory(out),
+kt_cli/src/messages.rt: CommandFault::NoMemory(_) => write_memory(out),
+kt_cli/src/messages.rt: DriverFault::NoMemory(_) => write_memory(out),
+kt_cli/src/messages.rt: RunFault::NoMemory(_) | RunFault::SinkFailed(SinkFault::Memory) => write_memory(out),
+kt_cli/src/messages.rt: StoreFault::NoMemory(_) => write_memory(out),
 kt_cli/src/commands/recorder.rt: StoreFault::NoMemory(_) => SinkFault::Memory,
 kt_cli/src/commands/reporting.rt: Err(JunitStop::Report(ReportFault::NoMemory(_))) => ended(write_memory(out), FAILED),
 kt_cli/src/commands/testing.rt: Err(_) => return ended(write_memory(out), FAILED),
@@ -137,7 +137,7 @@ kt_child/src/ending/gathering.rt: ReadEnd::Missing => Tap::Invalid(TapFault::Unr
 kt_child/src/ending/gathering.rt: ReadEnd::Unreadable => Claim::Unreadable,
 kt_child/src/ending/gathering.rt: ReadEnd::Unreadable => Tap::Invalid(TapFault::Unreadable),
 kt_child/src/ending/parts.rt: NextPart::Failed => return ReadEnd::Unreadable,
-kt_child/src/ending/reads.rt: Ok(FileRead::Missing) | Err(_) => ListBytes::Unreadable,
+kt_child/src/ending/ends.rt: Ok(FileRead::Missing) | Err(_) => ListBytes::Unreadable,
 PLACES
 
 lines 'status: FAILED'
@@ -151,8 +151,8 @@ rule 'writes to a writer of its own' <<'PLACES'
 kt_cli/src/output/line_output.rt: send(self.held.as_slice(), &mut self.out)
 kt_cli/src/host/performing.rt: print_command_fault(fault, errors)
 kt_cli/src/host/performing.rt: reject(&fault, out, errors)
-kt_cli/src/commands/printer.rt: entry_behind(self.written, &entry, self.out)
-kt_cli/src/commands/recorder.rt: line_behind(self.written, &entry, self.out)
+kt_cli/src/commands/recorder.rt: line(&entry, self.out)
+kt_cli/src/commands/recorder.rt: write_entry(self.written, &entry, self.out)
 PLACES
 
 echo "$passed passed, $failed failed"
