@@ -1,27 +1,26 @@
-use crate::lines::{pair_of, push_line};
+use crate::lines::{formatted, push_all, push_line};
 use crate::listings::{behind_header, listing_of};
 use crate::numbers::append_numbered;
-use crate::row::{Row, RowFault};
-use crate::shown_props::push_props;
+use crate::properties::{push_props, set_known};
+use crate::row::{Row, RowFault, due};
 use crate::verdicts::reason_text;
 use kt_atflist::{CaseDef, cases, parse_list};
-use kt_base::{Interface, Items, Reason};
+use kt_base::{Interface, Items};
 use kt_metadata::Props;
 use std::alloc::Global;
 
-fn push_reason(alloc: Global, out: &mut String, fault: Option<Reason>) -> Result<(), RowFault> {
-    if let Some(reason) = fault {
-        out.push_str(": ")?;
-        out.push_str(reason_text(alloc, reason)?.as_str())?;
-    }
-    Ok(())
-}
-
 /// A case in the form of a row: its name, the properties that differ from the defaults, and its fault.
 fn push_case(alloc: Global, out: &mut String, case: CaseDef) -> Result<(), RowFault> {
-    push_line(out, case.name.as_str())?;
-    push_props(alloc, out, &case.props)?;
-    push_reason(alloc, out, case.fault)
+    let CaseDef { name, props, fault } = case;
+    push_line(out, name.as_str())?;
+    push_props(alloc, out, &props)?;
+    match fault {
+        None => Ok(()),
+        Some(reason) => {
+            let text = reason_text(alloc, reason)?;
+            push_all(out, &[": ", text.as_str()])
+        }
+    }
 }
 
 /// Cases in the form of a row, or their number if the row says `count`.
@@ -29,7 +28,7 @@ fn shown(alloc: Global, row: &Row<'_>, found: Items<CaseDef>) -> Result<String, 
     let mut out = String::new(alloc);
     if row.text("count").is_some() {
         let count = found.len();
-        return Ok(format!(in alloc; "{count} cases")?);
+        return formatted(format!(in alloc; "{count} cases"));
     }
     for case in found.into_vec() {
         push_case(alloc, &mut out, case)?;
@@ -39,26 +38,21 @@ fn shown(alloc: Global, row: &Row<'_>, found: Items<CaseDef>) -> Result<String, 
 
 /// The text of a list: `list TEXT`, or `blocks TEXT` behind the header and an empty line, and then `numbered COUNT
 /// TEXT`.
-fn list_text(alloc: Global, row: &Row<'_>) -> Result<Option<Vec<u8>>, RowFault> {
+fn list_text(alloc: Global, row: &Row<'_>) -> Result<Vec<u8>, RowFault> {
     if let Some(text) = row.bytes(alloc, "list")? {
-        return Ok(Some(text));
+        return Ok(text);
     }
-    let Some(blocks) = row.bytes(alloc, "blocks")? else {
-        return Ok(None);
-    };
-    let mut text = behind_header(alloc, &blocks)?;
+    let blocks = due(row.text("blocks"), "no list")?;
+    let mut text = behind_header(alloc, blocks)?;
     append_numbered(alloc, &mut text, row)?;
-    Ok(Some(text))
+    Ok(text)
 }
 
 fn props_of(alloc: Global, row: &Row<'_>) -> Result<Props, RowFault> {
     let mut props = Props::new(alloc);
     for entry in row.entries.as_slice() {
         if entry.word == "set" {
-            let pair = pair_of(alloc, entry.text)?;
-            if props.set(&pair.name, &pair.value).is_err() {
-                return Err(RowFault::Misspelled("no such property or value"));
-            }
+            set_known(alloc, &mut props, entry.text)?;
         }
     }
     Ok(props)
@@ -72,12 +66,12 @@ fn program_cases(alloc: Global, row: &Row<'_>, word: &str) -> Result<String, Row
         None => None,
     };
     let found = match word {
-        "tap" => cases(alloc, Interface::Tap, &props, &listing)?,
-        "plain" => cases(alloc, Interface::Plain, &props, &listing)?,
-        _ if listing.is_some() => cases(alloc, Interface::Atf, &props, &listing)?,
+        "tap" => cases(alloc, Interface::Tap, &props, &listing),
+        "plain" => cases(alloc, Interface::Plain, &props, &listing),
+        _ if listing.is_some() => cases(alloc, Interface::Atf, &props, &listing),
         _ => return Err(RowFault::Misspelled("no listing")),
     };
-    shown(alloc, row, found)
+    shown(alloc, row, found?)
 }
 
 /// The cases that the text of a list gives or its fault, or the cases of a program.
@@ -85,11 +79,8 @@ pub fn answer(alloc: Global, row: &Row<'_>) -> Result<String, RowFault> {
     if let Some(word) = row.text("program") {
         return program_cases(alloc, row, word);
     }
-    match list_text(alloc, row)? {
-        None => Err(RowFault::Misspelled("no list")),
-        Some(text) => match parse_list(alloc, &text) {
-            Ok(found) => shown(alloc, row, found),
-            Err(fault) => Ok(fault.to_string(alloc)?),
-        },
+    match parse_list(alloc, &list_text(alloc, row)?) {
+        Ok(found) => shown(alloc, row, found),
+        Err(fault) => formatted(fault.to_string(alloc)),
     }
 }

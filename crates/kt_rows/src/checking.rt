@@ -1,4 +1,5 @@
 use crate::answer;
+use crate::lines::formatted;
 use crate::row::{Row, RowFault};
 use crate::row_file::read_rows;
 use std::alloc::Global;
@@ -28,7 +29,7 @@ fn differing_line(wanted: &[u8], found: &[u8]) -> usize {
 fn part(alloc: Global, answer: &[u8], from: usize) -> Result<String, RowFault> {
     let rest = answer.get(from..).unwrap_or(&[]);
     let part = rest.get(..SHOWN).unwrap_or(rest);
-    Ok(String::from_utf8_lossy(alloc, part)?)
+    formatted(String::from_utf8_lossy(alloc, part))
 }
 
 /// Where a row is, with the answers that are due and told from the first line that differs.
@@ -42,9 +43,9 @@ fn mismatch_lines(
     let from = differing_line(wanted, found);
     let wanted = part(alloc, wanted, from)?;
     let found = part(alloc, found, from)?;
-    Ok(format!(in alloc;
+    formatted(format!(in alloc;
         "{file}:{line}: another answer\n  wanted: {wanted:?}\n  got:    {found:?}"
-    )?)
+    ))
 }
 
 /// Compares the answer to a row with the one wanted, and returns what is printed if they differ.

@@ -1,4 +1,4 @@
-use crate::lines::push_line;
+use crate::lines::{formatted, push_line, push_told};
 use crate::numbers::number;
 use crate::printing::{ended_text, writer};
 use crate::row::{Row, RowFault};
@@ -57,20 +57,35 @@ fn wrong(whole: &Played, cut: &Played) -> Result<Option<&'static str>, RowFault>
     }
 }
 
+/// Lets a write fail and appends what is wrong then. Answers whether there is such a write.
+fn push_failing(
+    alloc: Global,
+    out: &mut String,
+    row: &Row<'_>,
+    scene: &Scene<'_>,
+    whole: &Played,
+    failing: u64,
+) -> Result<bool, RowFault> {
+    let cut = play(alloc, row, scene, failing)?;
+    if cut.page.writes < failing {
+        return Ok(false);
+    }
+    if let Some(what) = wrong(whole, &cut)? {
+        push_told(
+            out,
+            formatted(format!(in alloc; "at write {failing}: {what}")),
+        )?;
+    }
+    Ok(true)
+}
+
 /// Lets each write fail in turn, behind those before it. What is wrong then is a line.
 fn each_failing(alloc: Global, row: &Row<'_>, scene: &Scene<'_>) -> Result<String, RowFault> {
     let whole = play(alloc, row, scene, 0)?;
     let mut out = shown(alloc, row, &whole)?;
     for failing in 1..LIMIT {
-        let cut = play(alloc, row, scene, failing)?;
-        if cut.page.writes < failing {
+        if !push_failing(alloc, &mut out, row, scene, &whole, failing)? {
             break;
-        }
-        if let Some(what) = wrong(&whole, &cut)? {
-            push_line(
-                &mut out,
-                format!(in alloc; "at write {failing}: {what}")?.as_str(),
-            )?;
         }
     }
     Ok(out)
@@ -95,9 +110,7 @@ pub fn answer(alloc: Global, row: &Row<'_>) -> Result<String, RowFault> {
     if let Some(disk) = row.text("disk") {
         return disk_tests::answer(alloc, row, disk);
     }
-    let Some(first) = row.entries.first() else {
-        return Err(RowFault::Misspelled("the row is empty"));
-    };
+    let first = row.first()?;
     match first.word {
         "piece" => line_outputs::answer(alloc, row),
         "source" => fault_exits::source(alloc, first.text),

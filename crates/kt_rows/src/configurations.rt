@@ -1,7 +1,7 @@
 use crate::escapes::text_of;
-use crate::lines::{owned, pair_of, push_line, push_pair};
+use crate::lines::{formatted, owned, pair_of, push_behind, push_told};
 use crate::numbers::append_numbered;
-use crate::row::{Entry, Row, RowFault};
+use crate::row::{Entry, Row, RowFault, halves};
 use kt_base::Text;
 use kt_config::{Config, SuiteVariables};
 use std::alloc::Global;
@@ -17,10 +17,11 @@ fn file_of(alloc: Global, row: &Row<'_>) -> Result<Vec<u8>, RowFault> {
 fn all_variables(alloc: Global, variables: &SuiteVariables) -> Result<String, RowFault> {
     let mut out = String::new(alloc);
     for variable in variables.copy()?.as_slice() {
-        if !out.is_empty() {
-            out.push(' ')?;
-        }
-        push_pair(&mut out, variable)?;
+        push_behind(
+            &mut out,
+            " ",
+            &[variable.name.as_str(), "=", variable.value.as_str()],
+        )?;
     }
     Ok(out)
 }
@@ -29,7 +30,7 @@ fn all_variables(alloc: Global, variables: &SuiteVariables) -> Result<String, Ro
 fn suite_line(alloc: Global, config: &Config, word: &str, suite: &str) -> Result<String, RowFault> {
     match config.suite_vars(&text_of(alloc, suite)?) {
         None => owned(alloc, "none"),
-        Some(variables) if word == "count" => Ok(variables.copy()?.len().to_string(alloc)?),
+        Some(variables) if word == "count" => formatted(variables.copy()?.len().to_string(alloc)),
         Some(variables) => all_variables(alloc, variables),
     }
 }
@@ -51,9 +52,7 @@ fn value_in(
 
 /// The answer to `value SUITE NAME`.
 fn value_line(alloc: Global, config: &Config, text: &str) -> Result<String, RowFault> {
-    let Some((suite, name)) = text.split_once(' ') else {
-        return Err(RowFault::Misspelled("no suite and name"));
-    };
+    let (suite, name) = halves(text, " ", "no suite and name")?;
     let name = text_of(alloc, name)?;
     value_in(alloc, config.suite_vars(&text_of(alloc, suite)?), &name)
 }
@@ -63,39 +62,42 @@ fn set_line(alloc: Global, config: &mut Config, text: &str) -> Result<String, Ro
     let pair = pair_of(alloc, text)?;
     match config.set(&pair.name, &pair.value) {
         Ok(()) => owned(alloc, "set"),
-        Err(fault) => Ok(fault.to_string(alloc)?),
+        Err(fault) => formatted(fault.to_string(alloc)),
     }
 }
 
 /// The answer to the name of a variable that is of no suite.
 fn own_line(alloc: Global, config: &Config, word: &str) -> Result<String, RowFault> {
     match word {
-        "parallelism" => Ok(config.parallelism().to_string(alloc)?),
+        "parallelism" => formatted(config.parallelism().to_string(alloc)),
         "architecture" => owned(alloc, config.architecture()),
         "platform" => owned(alloc, config.platform()),
         _ => Err(RowFault::Misspelled("no such word")),
     }
 }
 
-/// The answer to one line of a row, or none if the line belongs to the file.
-fn line(alloc: Global, config: &mut Config, entry: &Entry<'_>) -> Result<Option<String>, RowFault> {
+/// Appends the answer to one line of a row, unless it belongs to the file.
+fn push_answer(
+    alloc: Global,
+    out: &mut String,
+    config: &mut Config,
+    entry: &Entry<'_>,
+) -> Result<(), RowFault> {
     let told = match entry.word {
         "set" => set_line(alloc, config, entry.text),
         "suite" | "count" => suite_line(alloc, config, entry.word, entry.text),
         "value" => value_line(alloc, config, entry.text),
-        "file" | "numbered" => return Ok(None),
+        "file" | "numbered" => return Ok(()),
         word => own_line(alloc, config, word),
     };
-    Ok(Some(told?))
+    push_told(out, told)
 }
 
 /// The answers to the lines of a row, in their order.
 fn lines(alloc: Global, config: &mut Config, row: &Row<'_>) -> Result<String, RowFault> {
     let mut out = String::new(alloc);
     for entry in row.entries.as_slice() {
-        if let Some(told) = line(alloc, config, entry)? {
-            push_line(&mut out, told.as_str())?;
-        }
+        push_answer(alloc, &mut out, config, entry)?;
     }
     Ok(out)
 }
@@ -107,6 +109,6 @@ pub fn answer(alloc: Global, row: &Row<'_>) -> Result<String, RowFault> {
     }
     match Config::read(alloc, &file_of(alloc, row)?) {
         Ok(mut config) => lines(alloc, &mut config, row),
-        Err(fault) => Ok(fault.to_string(alloc)?),
+        Err(fault) => formatted(fault.to_string(alloc)),
     }
 }

@@ -1,8 +1,9 @@
 //! The command `test` over a store whose disk fails at a call, and what the store then holds.
 
-use crate::disks::{first_files, fused, left_by, open};
+use crate::disks::{empty_files, fused, left_by, old_files, open};
+use crate::lines::{formatted, joined, owned, push_all};
 use crate::numbers::number;
-use crate::row::{Row, RowFault};
+use crate::row::{Row, RowFault, due};
 use crate::run_texts::is_cut;
 use crate::scenes::scene_of;
 use crate::stages::row_over;
@@ -126,18 +127,18 @@ impl Whole {
 
 /// Appends where a command was stopped: `attach 1`, `begin`, `put 1` or `finish`.
 fn push_stop(alloc: Global, out: &mut String, stop: Stop) -> Result<(), RowFault> {
-    match stop {
-        Stop::Attach(schema) => out.push_str(format!(in alloc; " attach {schema}")?.as_str())?,
-        Stop::Begin => out.push_str(" begin")?,
+    let text = match stop {
+        Stop::Attach(schema) => formatted(format!(in alloc; " attach {schema}")),
+        Stop::Begin => owned(alloc, " begin"),
         Stop::Put(done) => {
             let number = done.saturating_add(1);
-            out.push_str(format!(in alloc; " put {number}")?.as_str())?;
+            formatted(format!(in alloc; " put {number}"))
         }
-        Stop::Finish => out.push_str(" finish")?,
-        Stop::Nowhere => out.push_str(", then not")?,
-        Stop::Wrong(what) => out.push_str(format!(in alloc; ", and then {what}")?.as_str())?,
-    }
-    Ok(())
+        Stop::Finish => owned(alloc, " finish"),
+        Stop::Nowhere => owned(alloc, ", then not"),
+        Stop::Wrong(what) => joined(alloc, &[", and then ", what]),
+    };
+    push_all(out, &[text?.as_str()])
 }
 
 /// A row whose commands are done over disks of which the log fails or the database file, with a store that may be of
@@ -157,13 +158,13 @@ impl Trial<'_> {
     fn done_over<R: ResultStore>(self, results: &mut R) -> Result<Tested, RowFault> {
         let mut page = ScriptedWriter::new(self.alloc, 0);
         let (exits, os) = row_over(self.alloc, self.row, self.scene, results, &mut page)?;
-        let Some(exit) = exits.last() else {
-            return Err(RowFault::Misspelled("there is no command"));
-        };
+        let exit = due(exits.last(), "there is no command")?;
+        let (status, spawned) = (exit.status, !os.spawned().is_empty());
+        let page = String::from_utf8_lossy(self.alloc, page.kept()?)?;
         Ok(Tested {
-            page: String::from_utf8_lossy(self.alloc, page.kept()?)?,
-            status: exit.status,
-            spawned: !os.spawned().is_empty(),
+            page,
+            status,
+            spawned,
         })
     }
 
@@ -188,25 +189,32 @@ impl Trial<'_> {
         }))
     }
 
+    /// The files that the commands begin with: empty ones, or those of an older store.
     fn files(self) -> Result<Files<Memory>, RowFault> {
-        first_files(self.alloc, self.is_old, self.frames)
+        if !self.is_old {
+            return Ok(empty_files(self.alloc));
+        }
+        due(
+            old_files(self.alloc, self.frames),
+            "the old store is not made",
+        )
+    }
+
+    /// What the store tells before the commands.
+    fn before(self) -> Result<Vec<String>, RowFault> {
+        let (_, told) = left_by(self.alloc, self.files()?, self.frames)?;
+        Ok(told)
     }
 
     /// The commands over a disk that fails at no call.
     fn whole(self) -> Result<Whole, RowFault> {
-        let (_, before) = left_by(self.alloc, self.files()?, self.frames)?;
-        let Some(whole) = self.tried(self.files()?)? else {
-            return Err(RowFault::Misspelled("there is no store"));
-        };
-        let left = whole.left;
-        match whole.tested {
-            None => Err(RowFault::Misspelled("its tables are not taken")),
-            Some(tested) => Ok(Whole {
-                tested,
-                before,
-                left,
-            }),
-        }
+        let before = self.before()?;
+        let whole = due(self.tried(self.files()?)?, "there is no store")?;
+        Ok(Whole {
+            tested: due(whole.tested, "its tables are not taken")?,
+            before,
+            left: whole.left,
+        })
     }
 
     /// Where a disk stops the command that fails after so many calls; nothing if it doesn't open.

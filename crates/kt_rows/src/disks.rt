@@ -39,7 +39,7 @@ pub fn open<D: Disk + Drop>(
 }
 
 /// Files that hold nothing.
-fn empty_files(alloc: Global) -> Files<Memory> {
+pub fn empty_files(alloc: Global) -> Files<Memory> {
     Files {
         log: Memory::new(alloc),
         db: Memory::new(alloc),
@@ -55,24 +55,13 @@ fn fill<S: Alter>(conn: &mut Connection<S>) -> Result<(), Error> {
 }
 
 /// The files of a store of schema 1.
-fn old_files(alloc: Global, frames: usize) -> Option<Files<Memory>> {
+pub fn old_files(alloc: Global, frames: usize) -> Option<Files<Memory>> {
     let mut conn = open(alloc, empty_files(alloc), frames)?;
     let is_filled = fill(&mut conn).is_ok();
     if is_filled {
         Some(conn.into_store().close())
     } else {
         None
-    }
-}
-
-/// The files that a row begins with: empty ones, or those of an older store.
-pub fn first_files(alloc: Global, is_old: bool, frames: usize) -> Result<Files<Memory>, RowFault> {
-    if !is_old {
-        return Ok(empty_files(alloc));
-    }
-    match old_files(alloc, frames) {
-        Some(files) => Ok(files),
-        None => Err(RowFault::Misspelled("the old store is not made")),
     }
 }
 
@@ -101,19 +90,20 @@ fn schema_of<S: Alter>(conn: &mut Connection<S>) -> i64 {
     let Ok(row) = conn.query_row("SELECT value FROM meta WHERE name = 'schema'", &[]) else {
         return 0;
     };
-    match row.get(0) {
-        Ok(number) => number,
-        Err(_) => 0,
-    }
+    row.get(0).unwrap_or(0)
 }
 
-/// What a store tells that is opened again.
-fn told_by<S: Alter + Drop>(alloc: Global, conn: Connection<S>) -> Result<Vec<String>, RowFault> {
+/// The schema of the tables of a store that is opened again, and all that it tells.
+fn told_by<S: Alter + Drop>(
+    alloc: Global,
+    mut conn: Connection<S>,
+) -> Result<(i64, Vec<String>), RowFault> {
+    let schema = schema_of(&mut conn);
     if !conn.is_autocommit() {
         return Err(RowFault::Misspelled("a transaction is open"));
     }
     match Results::attach(alloc, conn) {
-        Ok(mut results) => told(alloc, &mut results),
+        Ok(mut results) => told(alloc, &mut results).map(|told| (schema, told)),
         Err(_) => Err(RowFault::Misspelled("it can not be attached again")),
     }
 }
@@ -124,10 +114,8 @@ pub fn left_by<D: Crash + Drop>(
     files: Files<D>,
     frames: usize,
 ) -> Result<(i64, Vec<String>), RowFault> {
-    let Some(mut conn) = open(alloc, crashed(files), frames) else {
-        return Err(RowFault::Misspelled("it does not open again"));
-    };
-    let schema = schema_of(&mut conn);
-    let told = told_by(alloc, conn)?;
-    Ok((schema, told))
+    match open(alloc, crashed(files), frames) {
+        Some(conn) => told_by(alloc, conn),
+        None => Err(RowFault::Misspelled("it does not open again")),
+    }
 }

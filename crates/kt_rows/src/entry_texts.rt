@@ -1,6 +1,6 @@
 //! Entries as rows have them.
 
-use crate::lines::{push_line, push_pair};
+use crate::lines::{formatted, joined, push_behind, push_line};
 use crate::row::RowFault;
 use crate::verdicts;
 use kt_base::Entry;
@@ -10,11 +10,10 @@ use std::alloc::Global;
 fn case_text(alloc: Global, entry: &Entry) -> Result<String, RowFault> {
     let verdict = verdicts::shown(alloc, &entry.verdict)?;
     let (position, started, millis) = (entry.position, entry.started, entry.millis);
-    let program = entry.program.as_str();
-    let case_name = entry.case_name.as_str();
-    Ok(format!(in alloc;
+    let (program, case_name) = (entry.program.as_str(), entry.case_name.as_str());
+    formatted(format!(in alloc;
         "{position} {program}:{case_name} {verdict}, started {started}, took {millis}"
-    )?)
+    ))
 }
 
 /// The four outputs of a case.
@@ -34,53 +33,48 @@ fn outputs_text(alloc: Global, entry: &Entry) -> Result<String, RowFault> {
 
 /// The pairs of an entry, a line each behind its position.
 fn pairs_text(alloc: Global, entry: &Entry) -> Result<String, RowFault> {
-    let position = entry.position;
+    let position = entry.position.to_string(alloc)?;
     let mut text = String::new(alloc);
     for pair in entry.meta.as_slice() {
-        push_line(&mut text, format!(in alloc; "{position} ")?.as_str())?;
-        push_pair(&mut text, pair)?;
+        let (name, value) = (pair.name.as_str(), pair.value.as_str());
+        push_behind(&mut text, "\n", &[position.as_str(), " ", name, "=", value])?;
     }
     Ok(text)
+}
+
+fn mark(count: usize) -> &'static str {
+    ["0", "1"].get(count).copied().unwrap_or("+")
 }
 
 /// The verdict of a case, and six digits: 1 where its start and its time are not 0, and how many bytes are kept of its
 /// four outputs.
 pub fn marks(alloc: Global, entry: &Entry) -> Result<String, RowFault> {
-    let mut text = verdicts::shown(alloc, &entry.verdict)?;
-    text.push(' ')?;
-    for count in [
-        entry.started.min(1) as usize,
-        entry.millis.min(1) as usize,
-        entry.body.out.len(),
-        entry.body.err.len(),
-        entry.cleanup.out.len(),
-        entry.cleanup.err.len(),
-    ] {
-        text.push(match count {
-            0 => '0',
-            1 => '1',
-            _ => '+',
-        })?;
-    }
-    Ok(text)
+    let verdict = verdicts::shown(alloc, &entry.verdict)?;
+    let (body, cleanup) = (&entry.body, &entry.cleanup);
+    let marks = [
+        verdict.as_str(),
+        " ",
+        mark(entry.started.min(1) as usize),
+        mark(entry.millis.min(1) as usize),
+        mark(body.out.len()),
+        mark(body.err.len()),
+        mark(cleanup.out.len()),
+        mark(cleanup.err.len()),
+    ];
+    joined(alloc, &marks)
 }
 
 /// What a word shows of an entry.
 pub fn shown(alloc: Global, word: &str, entry: &Entry) -> Result<String, RowFault> {
-    let position = entry.position;
-    match word {
-        "cases" => case_text(alloc, entry),
-        "outputs" => outputs_text(alloc, entry),
-        "pairs" => pairs_text(alloc, entry),
-        "marks" => {
-            let marks = marks(alloc, entry)?;
-            Ok(format!(in alloc; "{position} {marks}")?)
-        }
-        _ => {
-            let verdict = verdicts::shown(alloc, &entry.verdict)?;
-            Ok(format!(in alloc; "{position} {verdict}")?)
-        }
-    }
+    let told = match word {
+        "cases" => return case_text(alloc, entry),
+        "outputs" => return outputs_text(alloc, entry),
+        "pairs" => return pairs_text(alloc, entry),
+        "marks" => marks(alloc, entry),
+        _ => verdicts::shown(alloc, &entry.verdict),
+    };
+    let (position, told) = (entry.position, told?);
+    formatted(format!(in alloc; "{position} {told}"))
 }
 
 /// What a word shows of entries: `cases`, `outputs`, `pairs`, `marks`, or else their verdicts.

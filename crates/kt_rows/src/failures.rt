@@ -1,7 +1,7 @@
 //! Each call of a run failing in turn.
 
 use crate::entry_texts::{entries_text, marks};
-use crate::lines::{owned, push_line};
+use crate::lines::{formatted, owned, push_all, push_told};
 use crate::row::{Row, RowFault};
 use crate::system_runs::{Ran, run_plan};
 use kt_base::Entry;
@@ -43,13 +43,13 @@ fn push_change(
     let position = sound.position;
     let due = marks(alloc, sound)?;
     let told = marks_at(alloc, entries, position)?;
-    if due.as_str() != told.as_str() {
-        push_line(
-            out,
-            format!(in alloc; "at {call}: {position} {told}")?.as_str(),
-        )?;
+    if due.as_str() == told.as_str() {
+        return Ok(());
     }
-    Ok(())
+    push_told(
+        out,
+        formatted(format!(in alloc; "at {call}: {position} {told}")),
+    )
 }
 
 /// Tells what a failing call changes: the cases with other marks, a kill, and directories that were not removed.
@@ -64,15 +64,16 @@ fn push_changes(
         push_change(alloc, out, call, entry, run.entries.as_slice())?;
     }
     let log = run.os.log()?;
-    if count_of(log, "kill ") > 0 {
-        out.push_str(", killed")?;
-    }
+    let killed = count_of(log, "kill ") > 0;
+    push_all(out, &[if killed { ", killed" } else { "" }])?;
     let (made, removed) = (made(log), count_of(log, "remove "));
-    if made != removed {
-        let line = format!(in alloc; "at {call}: {made} made, {removed} removed")?;
-        push_line(out, line.as_str())?;
+    if made == removed {
+        return Ok(());
     }
-    Ok(())
+    push_told(
+        out,
+        formatted(format!(in alloc; "at {call}: {made} made, {removed} removed")),
+    )
 }
 
 /// Tells what a failing call changes, or how many calls there are before it. Answers whether there is such a call.
@@ -86,11 +87,12 @@ fn push_failing(
 ) -> Result<bool, RowFault> {
     let run = run_plan(alloc, row, scene)?;
     let fails = run.os.log()?.contains(" failed\n");
-    if fails {
-        push_changes(alloc, out, call, sound, &run)?;
+    let told = if fails {
+        push_changes(alloc, out, call, sound, &run)
     } else {
-        push_line(out, format!(in alloc; "{call} calls")?.as_str())?;
-    }
+        push_told(out, formatted(format!(in alloc; "{call} calls")))
+    };
+    told?;
     Ok(fails)
 }
 

@@ -1,7 +1,7 @@
 use crate::escapes::text_of;
-use crate::lines::{owned, push_line};
+use crate::lines::{formatted, joined, owned, push_behind, push_told, push_word};
 use crate::numbers::numbered;
-use crate::row::{Entry, Row, RowFault};
+use crate::row::{Entry, Row, RowFault, halves, push_made};
 use kt_suite::{Filter, FilterFault, Item, Selection, check_disjoint, select};
 use std::alloc::Global;
 
@@ -15,9 +15,7 @@ struct Example {
 
 /// `PATH CASE`, cut at the first space.
 fn item_of(alloc: Global, raw: &str) -> Result<Item, RowFault> {
-    let Some((path, case_name)) = raw.split_once(' ') else {
-        return Err(RowFault::Misspelled("a case stands after a path"));
-    };
+    let (path, case_name) = halves(raw, " ", "a case stands after a path")?;
     Ok(Item {
         path: text_of(alloc, path)?,
         case_name: text_of(alloc, case_name)?,
@@ -37,10 +35,7 @@ fn shown(alloc: Global, filter: &Filter) -> Result<String, RowFault> {
     let program = filter.program.as_str();
     match &filter.case_name {
         None => owned(alloc, program),
-        Some(case_name) => {
-            let case_name = case_name.as_str();
-            Ok(format!(in alloc; "{program}, case {case_name}")?)
-        }
+        Some(case_name) => { joined(alloc, &[program, ", case ", case_name.as_str()]) }
     }
 }
 
@@ -48,31 +43,22 @@ fn shown(alloc: Global, filter: &Filter) -> Result<String, RowFault> {
 fn read_line(alloc: Global, raw: &str) -> Result<String, RowFault> {
     match Filter::parse(alloc, &text_of(alloc, raw)?) {
         Ok(filter) => shown(alloc, &filter),
-        Err(fault) => Ok(fault.to_string(alloc)?),
+        Err(fault) => formatted(fault.to_string(alloc)),
     }
-}
-
-/// Appends a word, behind a space if it isn't the first.
-fn push_word(out: &mut String, word: &str) -> Result<(), RowFault> {
-    if !out.is_empty() {
-        out.push(' ')?;
-    }
-    out.push_str(word)?;
-    Ok(())
 }
 
 fn push_answer(out: &mut String, answer: bool) -> Result<(), RowFault> {
-    push_word(out, if answer { "yes" } else { "no" })
+    push_behind(out, " ", &[if answer { "yes" } else { "no" }])
 }
 
 /// Positions with spaces between them.
 fn places(alloc: Global, places: &[usize]) -> Result<String, RowFault> {
+    if places.is_empty() {
+        return owned(alloc, "none");
+    }
     let mut out = String::new(alloc);
     for place in places {
-        push_word(&mut out, place.to_string(alloc)?.as_str())?;
-    }
-    if out.is_empty() {
-        out.push_str("none")?;
+        push_word(&mut out, formatted(place.to_string(alloc)))?;
     }
     Ok(out)
 }
@@ -81,27 +67,31 @@ fn places(alloc: Global, places: &[usize]) -> Result<String, RowFault> {
 fn selection_line(alloc: Global, selection: &Selection) -> Result<String, RowFault> {
     let cases = places(alloc, &selection.cases)?;
     let unmatched = places(alloc, &selection.unmatched)?;
-    Ok(format!(in alloc; "cases {cases}, unmatched {unmatched}")?)
+    joined(
+        alloc,
+        &["cases ", cases.as_str(), ", unmatched ", unmatched.as_str()],
+    )
 }
 
 /// How many positions were selected: `2 cases, 0 unmatched`.
 fn count_line(alloc: Global, selection: &Selection) -> Result<String, RowFault> {
     let cases = selection.cases.len();
     let unmatched = selection.unmatched.len();
-    Ok(format!(in alloc; "{cases} cases, {unmatched} unmatched")?)
+    formatted(format!(in alloc; "{cases} cases, {unmatched} unmatched"))
 }
 
 impl Example {
-    fn add_filters(&mut self, raw: &str) -> Result<(), RowFault> {
-        for text in numbered(self.alloc, raw)?.as_slice() {
-            self.filters.push(filter_of(self.alloc, text.as_str())?)?;
+    /// Adds a filter or a case.
+    fn add(&mut self, word: &str, raw: &str) -> Result<(), RowFault> {
+        match word {
+            "filter" => push_made(&mut self.filters, filter_of(self.alloc, raw)),
+            _ => push_made(&mut self.items, item_of(self.alloc, raw)),
         }
-        Ok(())
     }
 
-    fn add_items(&mut self, raw: &str) -> Result<(), RowFault> {
+    fn add_numbered(&mut self, word: &str, raw: &str) -> Result<(), RowFault> {
         for text in numbered(self.alloc, raw)?.as_slice() {
-            self.items.push(item_of(self.alloc, text.as_str())?)?;
+            self.add(word, text.as_str())?;
         }
         Ok(())
     }
@@ -127,14 +117,13 @@ impl Example {
     }
 
     fn disjoint_line(&self) -> Result<String, RowFault> {
-        match check_disjoint(&self.filters) {
-            Ok(()) => owned(self.alloc, "disjoint"),
-            Err(FilterFault::Repeated(place)) => Ok(format!(in self.alloc; "repeated at {place}")?),
-            Err(FilterFault::NotDisjoint(place)) => Ok(format!(in self.alloc;
-                "not disjoint at {place}"
-            )?),
-            Err(fault) => Ok(fault.to_string(self.alloc)?),
-        }
+        let alloc = self.alloc;
+        formatted(match check_disjoint(&self.filters) {
+            Ok(()) => String::from_str(alloc, "disjoint"),
+            Err(FilterFault::Repeated(place)) => format!(in alloc; "repeated at {place}"),
+            Err(FilterFault::NotDisjoint(place)) => format!(in alloc; "not disjoint at {place}"),
+            Err(fault) => fault.to_string(alloc),
+        })
     }
 
     fn select_line(&self, brief: bool) -> Result<String, RowFault> {
@@ -145,37 +134,31 @@ impl Example {
                 }
                 selection_line(self.alloc, &selection)
             }
-            Err(fault) => Ok(fault.to_string(self.alloc)?),
+            Err(fault) => formatted(fault.to_string(self.alloc)),
         }
     }
 
-    /// Adds what a line says.
-    fn add(&mut self, entry: Entry<'_>) -> Result<(), RowFault> {
+    /// The answer to a line that asks.
+    fn told(&self, entry: Entry<'_>) -> Result<String, RowFault> {
         match entry.word {
-            "filter" => self.filters.push(filter_of(self.alloc, entry.text)?)?,
-            "filters" => self.add_filters(entry.text)?,
-            "item" => self.items.push(item_of(self.alloc, entry.text)?)?,
-            "items" => self.add_items(entry.text)?,
-            _ => return Err(RowFault::Misspelled("no such word")),
+            "read" => read_line(self.alloc, entry.text),
+            "matches" => self.matches_line(entry.text),
+            "may-match" => self.may_match_line(entry.text),
+            "disjoint" => self.disjoint_line(),
+            "select" => self.select_line(false),
+            "count" => self.select_line(true),
+            _ => Err(RowFault::Misspelled("no such word")),
         }
-        Ok(())
     }
 
-    /// Answers what a line asks, or adds what it says.
-    fn take(&mut self, entry: Entry<'_>) -> Result<Option<String>, RowFault> {
-        let line = match entry.word {
-            "read" => read_line(self.alloc, entry.text)?,
-            "matches" => self.matches_line(entry.text)?,
-            "may-match" => self.may_match_line(entry.text)?,
-            "disjoint" => self.disjoint_line()?,
-            "select" => self.select_line(false)?,
-            "count" => self.select_line(true)?,
-            _ => {
-                self.add(entry)?;
-                return Ok(None);
-            }
-        };
-        Ok(Some(line))
+    /// Appends the answer to a line that asks, or adds what it says.
+    fn take(&mut self, out: &mut String, entry: Entry<'_>) -> Result<(), RowFault> {
+        match entry.word {
+            "filter" | "item" => self.add(entry.word, entry.text),
+            "filters" => self.add_numbered("filter", entry.text),
+            "items" => self.add_numbered("item", entry.text),
+            _ => push_told(out, self.told(entry)),
+        }
     }
 }
 
@@ -188,9 +171,7 @@ pub fn answer(alloc: Global, row: &Row<'_>) -> Result<String, RowFault> {
     };
     let mut out = String::new(alloc);
     for entry in row.entries.as_slice() {
-        if let Some(line) = example.take(*entry)? {
-            push_line(&mut out, line.as_str())?;
-        }
+        example.take(&mut out, *entry)?;
     }
     Ok(out)
 }

@@ -1,13 +1,13 @@
 //! Pieces given to lines before a writer.
 
 use crate::escapes::unescaped;
-use crate::lines::push_line;
+use crate::lines::{formatted, push_line};
 use crate::numbers::number;
 use crate::printing::{FAULTS, writer, wrong};
-use crate::row::{Row, RowFault};
+use crate::row::{Row, RowFault, push_made};
 use kt_base::emit;
 use kt_cli::LineOutput;
-use kt_play::WriteFault;
+use kt_play::{ScriptedWriter, WriteFault};
 use std::alloc::Global;
 use std::io::Write;
 
@@ -15,7 +15,7 @@ fn pieces_of(alloc: Global, row: &Row<'_>) -> Result<Vec<Vec<u8>>, RowFault> {
     let mut pieces = Vec::new(alloc);
     for entry in row.entries.as_slice() {
         if entry.word == "piece" {
-            pieces.push(unescaped(alloc, entry.text)?)?;
+            push_made(&mut pieces, unescaped(alloc, entry.text))?;
         }
     }
     Ok(pieces)
@@ -36,6 +36,24 @@ fn given<W: Write>(out: &mut W, pieces: &[Vec<u8>], by_line: bool, flushes: bool
     well
 }
 
+/// Appends what is wrong where a write fails in each way, behind so many others.
+fn push_wrong(
+    alloc: Global,
+    out: &mut String,
+    pieces: &[Vec<u8>],
+    whole: &ScriptedWriter,
+    before: u64,
+) -> Result<(), RowFault> {
+    for fault in &FAULTS {
+        let mut cut = writer(alloc, whole.at_most, before.saturating_add(1), *fault);
+        let well = given(&mut cut, pieces, true, true);
+        if let Some(what) = wrong(whole, &cut, well)? {
+            push_line(out, what)?;
+        }
+    }
+    Ok(())
+}
+
 /// What is written of pieces, each write failing in turn in each way: `piece TEXT` each, `takes BYTES` a write at the
 /// most.
 fn flushed(alloc: Global, pieces: &[Vec<u8>], at_most: usize) -> Result<String, RowFault> {
@@ -46,13 +64,7 @@ fn flushed(alloc: Global, pieces: &[Vec<u8>], at_most: usize) -> Result<String, 
         push_line(&mut out, "failed")?;
     }
     for before in 0..whole.writes {
-        for fault in &FAULTS {
-            let mut cut = writer(alloc, at_most, before + 1, *fault);
-            let well = given(&mut cut, pieces, true, true);
-            if let Some(what) = wrong(whole.kept()?, &cut, well)? {
-                push_line(&mut out, what)?;
-            }
-        }
+        push_wrong(alloc, &mut out, pieces, &whole, before)?;
     }
     Ok(out)
 }
@@ -62,9 +74,13 @@ pub fn answer(alloc: Global, row: &Row<'_>) -> Result<String, RowFault> {
     let pieces = pieces_of(alloc, row)?;
     if row.text("unflushed").is_some() {
         let mut out = writer(alloc, usize::MAX, 0, WriteFault::Broken);
-        let by_line = row.text("held").is_none();
-        given(&mut out, pieces.as_slice(), by_line, false);
-        return Ok(String::from_utf8_lossy(alloc, out.kept()?)?);
+        given(
+            &mut out,
+            pieces.as_slice(),
+            row.text("held").is_none(),
+            false,
+        );
+        return formatted(String::from_utf8_lossy(alloc, out.kept()?));
     }
     let at_most = number(row.text("takes").unwrap_or("4096"))? as usize;
     flushed(alloc, pieces.as_slice(), at_most)

@@ -4,18 +4,53 @@ use kt_base::{NoMemory, Variable, Variables};
 use std::alloc::Global;
 use std::fmt::Debug;
 
-/// Appends a line: behind the first, with a newline before it.
-pub fn push_line(out: &mut String, line: &str) -> Result<(), NoMemory> {
-    if !out.is_empty() {
-        out.push('\n')?;
+/// Appends texts.
+pub fn push_all(out: &mut String, parts: &[&str]) -> Result<(), RowFault> {
+    for part in parts {
+        out.push_str(*part)?;
     }
-    out.push_str(line)?;
     Ok(())
 }
 
-/// A copy of a text. It is for arms of a `match`: each `?` there makes the proof longer.
+/// Appends texts: behind others, with a separator before them.
+pub fn push_behind(out: &mut String, separator: &str, parts: &[&str]) -> Result<(), RowFault> {
+    if !out.is_empty() {
+        out.push_str(separator)?;
+    }
+    push_all(out, parts)
+}
+
+/// Appends a line: behind the first, with a newline before it.
+pub fn push_line(out: &mut String, line: &str) -> Result<(), RowFault> {
+    push_behind(out, "\n", &[line])
+}
+
+/// Appends a line that was told, if it was.
+pub fn push_told(out: &mut String, line: Result<String, RowFault>) -> Result<(), RowFault> {
+    push_line(out, line?.as_str())
+}
+
+/// Appends a word that was told, if it was: behind others, with a space before it.
+pub fn push_word(out: &mut String, word: Result<String, RowFault>) -> Result<(), RowFault> {
+    push_behind(out, " ", &[word?.as_str()])
+}
+
+/// A text for which the allocator was asked. It is for arms of a `match`: each `?` there makes the proof longer.
+pub fn formatted<E: Drop>(text: Result<String, E>) -> Result<String, RowFault>
+where
+    NoMemory: From<E>,
+{
+    Ok(text?)
+}
+
+/// A copy of a text.
 pub fn owned(alloc: Global, text: &str) -> Result<String, RowFault> {
-    Ok(String::from_str(alloc, text)?)
+    formatted(String::from_str(alloc, text))
+}
+
+/// Texts as one.
+pub fn joined(alloc: Global, parts: &[&str]) -> Result<String, RowFault> {
+    formatted(parts.concat(alloc))
 }
 
 /// The name of a value's variant, without what it holds.
@@ -42,12 +77,4 @@ pub fn pairs_of(alloc: Global, lines: &[Entry<'_>], word: &str) -> Result<Variab
         }
     }
     Ok(pairs)
-}
-
-/// Appends a pair: `NAME=VALUE`.
-pub fn push_pair(out: &mut String, pair: &Variable) -> Result<(), RowFault> {
-    out.push_str(pair.name.as_str())?;
-    out.push('=')?;
-    out.push_str(pair.value.as_str())?;
-    Ok(())
 }

@@ -1,19 +1,18 @@
 use crate::escapes::unescaped;
-use crate::row::RowFault;
+use crate::row::{RowFault, append, halves};
 use crate::verdicts::{ending_of, refused_of};
 use kt_atflist::{ListBytes, Listing};
 use kt_base::Bytes;
 use kt_play::Listed;
 use std::alloc::Global;
 
-/// The header of a list of ATF cases.
-const HEADER: &str = "Content-Type: application/X-atf-tp; version=\"1\"\n";
+/// The header of a list of ATF cases, and an empty line.
+const HEADER: &str = "Content-Type: application/X-atf-tp; version=\"1\"\n\n";
 
 /// The blocks of a list behind its header and an empty line.
-pub fn behind_header(alloc: Global, blocks: &[u8]) -> Result<Vec<u8>, RowFault> {
+pub fn behind_header(alloc: Global, blocks: &str) -> Result<Vec<u8>, RowFault> {
     let mut text = HEADER.as_bytes().to_vec(alloc)?;
-    text.push(b'\n')?;
-    text.extend_from_slice(blocks)?;
+    append(alloc, &mut text, blocks)?;
     Ok(text)
 }
 
@@ -26,16 +25,12 @@ fn ended_of<'a>(alloc: Global, text: &'a str) -> Result<(&'a str, ListBytes), Ro
         return Ok((ending, ListBytes::TooLong));
     }
     if let Some((ending, blocks)) = text.split_once(" blocks ") {
-        let list = behind_header(alloc, &unescaped(alloc, blocks)?)?;
+        let list = behind_header(alloc, blocks)?;
         return Ok((ending, ListBytes::Read(Bytes::from_vec(list))));
     }
-    match text.split_once(" list ") {
-        Some((ending, list)) => {
-            let list = unescaped(alloc, list)?;
-            Ok((ending, ListBytes::Read(Bytes::from_vec(list))))
-        }
-        None => Err(RowFault::Misspelled("an ending stands before a list")),
-    }
+    let (ending, list) = halves(text, " list ", "an ending stands before a list")?;
+    let list = unescaped(alloc, list)?;
+    Ok((ending, ListBytes::Read(Bytes::from_vec(list))))
 }
 
 /// What comes of asking a program for its list: `refused WHY`, or `ENDING` and then `blocks TEXT`, `list TEXT`,
@@ -50,11 +45,7 @@ pub fn listing_of(alloc: Global, text: &str) -> Result<Listing, RowFault> {
 
 /// A program, and what comes of asking it for its list.
 pub fn listed_of<'a>(alloc: Global, text: &'a str) -> Result<Listed<'a>, RowFault> {
-    match text.split_once(' ') {
-        None => Err(RowFault::Misspelled("a list has a program")),
-        Some((program, listing)) => Ok(Listed {
-            program,
-            listing: listing_of(alloc, listing)?,
-        }),
-    }
+    let (program, text) = halves(text, " ", "a list has a program")?;
+    let listing = listing_of(alloc, text)?;
+    Ok(Listed { program, listing })
 }

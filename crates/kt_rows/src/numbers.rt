@@ -1,7 +1,7 @@
 ghost use Rattle.std.specs.Prelude.{IfOk, ◌≤◌};
 
-use crate::escapes::unescaped;
-use crate::row::{Row, RowFault};
+use crate::lines::formatted;
+use crate::row::{Row, RowFault, append, halves, push_made};
 use std::alloc::Global;
 
 pub fn number(text: &str) -> Result<u64, RowFault> {
@@ -15,24 +15,29 @@ pub fn count(text: &str) -> Result<u32, RowFault> {
         .map_err(|_| RowFault::Misspelled("a number below 2^32 is due"))
 }
 
+/// Takes a number.
+pub fn set_number(place: &mut Option<u64>, text: &str) -> Result<(), RowFault> {
+    *place = Some(number(text)?);
+    Ok(())
+}
+
 /// Numbers with spaces between them.
 pub fn numbers(alloc: Global, text: &str) -> Result<Vec<u64>, RowFault> {
     let mut numbers = Vec::new(alloc);
     for word in text.split_whitespace() {
-        numbers.push(number(word)?)?;
+        push_made(&mut numbers, number(word))?;
     }
     Ok(numbers)
 }
 
 /// The texts of `COUNT TEXT`: the text so often, with the number in place of each `#`, from 0.
 pub fn numbered(alloc: Global, raw: &str) -> Result<Vec<String>, RowFault> {
-    let Some((times, text)) = raw.split_once(' ') else {
-        return Err(RowFault::Misspelled("a text stands after a number"));
-    };
+    let (times, text) = halves(raw, " ", "a text stands after a number")?;
     let mut texts = Vec::new(alloc);
     for number in 0..count(times)? {
         let number = number.to_string(alloc)?;
-        texts.push(text.replace(alloc, "#", number.as_str())?)?;
+        let told = formatted(text.replace(alloc, "#", number.as_str()));
+        push_made(&mut texts, told)?;
     }
     Ok(texts)
 }
@@ -42,7 +47,7 @@ pub fn append_numbered(alloc: Global, bytes: &mut Vec<u8>, row: &Row<'_>) -> Res
     for entry in row.entries.as_slice() {
         if entry.word == "numbered" {
             for text in numbered(alloc, entry.text)?.as_slice() {
-                bytes.extend_from_slice(&unescaped(alloc, text.as_str())?)?;
+                append(alloc, bytes, text.as_str())?;
             }
         }
     }

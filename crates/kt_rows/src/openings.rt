@@ -1,8 +1,7 @@
 //! Command lines over a scripted platform: what it is asked for, what is written, and how each line ends.
 
-use crate::command_words::read_line;
 use crate::fault_exits::{driver_fault, shortage, store_fault};
-use crate::lines::push_line;
+use crate::lines::{formatted, joined, owned, push_all, push_told, push_word};
 use crate::numbers::number;
 use crate::printing::page_text;
 use crate::recorded::content_at;
@@ -11,6 +10,7 @@ use crate::run_texts::runs_text;
 use crate::scenes::scene_of;
 use crate::stages::store_of;
 use crate::store_calls::call;
+use crate::words::read_line;
 use kt_cli::{LineOutput, carry_out};
 use kt_play::{RefusingStore, Scene, ScriptedPlatform, ScriptedSystem, ScriptedWriter};
 use kt_words::{Command, CommandFault};
@@ -33,16 +33,13 @@ fn results_of(alloc: Global, row: &Row<'_>) -> Result<RefusingStore, RowFault> {
 
 /// The platform of a row: `open FAULT`, `close FAULT` and `surroundings FAULT` name its calls that fail.
 fn platform_of(alloc: Global, row: &Row<'_>) -> Result<ScriptedPlatform, RowFault> {
+    let not_opened = store_fault(alloc, row.text("open"))?;
+    let not_closed = store_fault(alloc, row.text("close"))?;
+    let not_found = driver_fault(alloc, row.text("surroundings"))?;
     let mut platform = ScriptedPlatform::new(alloc, results_of(alloc, row)?);
-    if let Some(fault) = row.text("open") {
-        platform.not_opened = Some(store_fault(alloc, fault)?);
-    }
-    if let Some(fault) = row.text("close") {
-        platform.not_closed = Some(store_fault(alloc, fault)?);
-    }
-    if let Some(fault) = row.text("surroundings") {
-        platform.not_found = Some(driver_fault(alloc, fault)?);
-    }
+    platform.not_opened = not_opened;
+    platform.not_closed = not_closed;
+    platform.not_found = not_found;
     Ok(platform)
 }
 
@@ -56,9 +53,11 @@ struct Pages {
 /// The pages of a row: `write N` fails on standard output with all behind it, and so does its `flush fails`; `error N`
 /// fails on standard error.
 fn pages_of(alloc: Global, row: &Row<'_>) -> Result<Pages, RowFault> {
-    let mut out = ScriptedWriter::new(alloc, number(row.text("write").unwrap_or("0"))?);
+    let written = number(row.text("write").unwrap_or("0"))?;
+    let told = number(row.text("error").unwrap_or("0"))?;
+    let mut out = ScriptedWriter::new(alloc, written);
     out.flush_fails = row.text("flush").is_some();
-    let errors = ScriptedWriter::new(alloc, number(row.text("error").unwrap_or("0"))?);
+    let errors = ScriptedWriter::new(alloc, told);
     Ok(Pages { out, errors })
 }
 
@@ -81,61 +80,56 @@ fn carried<R: Files<File = File> + Clock + AllocGlobal, W: Write, E: Write>(
 fn exits_text<R: Files<File = File> + Clock + AllocGlobal>(
     rt: &R,
     row: &Row<'_>,
-    scene: &Scene<'_>,
     platform: &mut ScriptedPlatform,
     pages: &mut Pages,
 ) -> Result<String, RowFault> {
     let alloc = rt.alloc();
-    let mut exits = String::from_str(alloc, "exit")?;
+    let scene = scene_of(alloc, row)?;
+    let mut exits = owned(alloc, "exit")?;
     for entry in row.entries.as_slice() {
         let command = match entry.word {
-            "line" => read_line(alloc, entry.text)?,
-            "words" => Err(CommandFault::from(shortage(alloc)?)),
+            "line" => read_line(alloc, entry.text),
+            "words" => Ok(Err(CommandFault::from(shortage(alloc)?))),
             _ => continue,
         };
         let (out, errors) = (&mut pages.out, &mut pages.errors);
-        let status = carried(rt, scene, platform, command, out, errors);
-        exits.push_str(format!(in alloc; " {status}")?.as_str())?;
+        let status = carried(rt, &scene, platform, command?, out, errors);
+        push_word(&mut exits, formatted(status.to_string(alloc)))?;
     }
     Ok(exits)
 }
 
-/// Appends what was written on standard error, a usage by that word alone.
-fn push_errors(alloc: Global, text: &mut String, page: &ScriptedWriter) -> Result<(), RowFault> {
-    if page.kept()?.is_empty() {
-        return Ok(());
-    }
-    let written = page_text(alloc, page)?;
-    if written.as_str().contains("Usage:") {
-        text.push_str("error: usage\n")?;
-        return Ok(());
-    }
-    text.push_str("error: ")?;
-    text.push_str(written.as_str())?;
-    Ok(())
+/// What was written, of a usage on standard error that word alone.
+fn written(alloc: Global, pages: &Pages) -> Result<String, RowFault> {
+    let page = page_text(alloc, &pages.out)?;
+    let errors = page_text(alloc, &pages.errors)?;
+    let text = errors.as_str();
+    let name = if text.is_empty() { "" } else { "error: " };
+    let usage = text.contains("Usage:");
+    let text = if usage { "usage\n" } else { text };
+    joined(alloc, &[page.as_str(), name, text])
 }
 
-/// Appends the runs that were closed, without their moments, which the clock of this process told.
-fn push_runs(
+/// What the platform was asked for, the pages, the exits and, where the row says so, the runs that were closed.
+fn shown(
     alloc: Global,
-    text: &mut String,
-    results: &mut Option<RefusingStore>,
-) -> Result<(), RowFault> {
-    match results {
-        Some(results) => push_line(text, runs_text(alloc, results, false)?.as_str())?,
-        None => push_line(text, "open")?,
+    row: &Row<'_>,
+    platform: &mut ScriptedPlatform,
+    pages: &Pages,
+    exits: &str,
+) -> Result<String, RowFault> {
+    let written = written(alloc, pages)?;
+    let mut text = owned(alloc, platform.calls()?)?;
+    let end = if text.is_empty() { "nothing\n" } else { "\n" };
+    push_all(&mut text, &[end, written.as_str(), exits])?;
+    if row.text("show") == Some("runs") {
+        // Without their moments, which the clock of this process told.
+        let runs = match &mut platform.results {
+            Some(results) => runs_text(alloc, results, false),
+            None => owned(alloc, "open"),
+        };
+        push_told(&mut text, runs)?;
     }
-    Ok(())
-}
-
-/// What the platform was asked for, the pages and the exits.
-fn shown(alloc: Global, calls: &str, pages: &Pages, exits: &str) -> Result<String, RowFault> {
-    let calls = if calls.is_empty() { "nothing" } else { calls };
-    let mut text = String::from_str(alloc, calls)?;
-    text.push('\n')?;
-    text.push_str(page_text(alloc, &pages.out)?.as_str())?;
-    push_errors(alloc, &mut text, &pages.errors)?;
-    text.push_str(exits)?;
     Ok(text)
 }
 
@@ -146,13 +140,8 @@ pub fn answer<R: Files<File = File> + Clock + AllocGlobal>(
     row: &Row<'_>,
 ) -> Result<String, RowFault> {
     let alloc = rt.alloc();
-    let scene = scene_of(alloc, row)?;
     let mut platform = platform_of(alloc, row)?;
     let mut pages = pages_of(alloc, row)?;
-    let exits = exits_text(rt, row, &scene, &mut platform, &mut pages)?;
-    let mut text = shown(alloc, platform.calls()?, &pages, exits.as_str())?;
-    if row.text("show") == Some("runs") {
-        push_runs(alloc, &mut text, &mut platform.results)?;
-    }
-    Ok(text)
+    let exits = exits_text(rt, row, &mut platform, &mut pages)?;
+    shown(alloc, row, &mut platform, &pages, exits.as_str())
 }

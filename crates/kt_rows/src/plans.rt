@@ -1,5 +1,7 @@
 ghost use Rattle.kt_sched.specs.Plan.{IsWidth};
 
+use crate::lines::formatted;
+use crate::numbers::count;
 use crate::row::{Row, RowFault};
 use crate::simulation::Simulation;
 use kt_base::Entry;
@@ -84,20 +86,16 @@ fn agreeing_text(alloc: Global, letters: &[u8], length: u32) -> Result<String, R
         all = all.wrapping_add(runs);
         if !is_good {
             let plan = String::from_utf8_lossy(alloc, &plan)?;
-            return Ok(format!(in alloc; "another run of {plan}, its number {runs}")?);
+            return formatted(format!(in alloc; "another run of {plan}, its number {runs}"));
         }
     }
-    Ok(format!(in alloc; "{count} plans, {all} runs")?)
+    formatted(format!(in alloc; "{count} plans, {all} runs"))
 }
 
 /// Whether the scheduler runs each plan as a simulation does, with each put failing or none, at widths 1 to 3 and in
 /// several orders of the ends. It asks by `letters LETTERS` and `length N`.
 pub fn answer(alloc: Global, row: &Row<'_>) -> Result<String, RowFault> {
-    let Some(letters) = row.bytes(alloc, "letters")? else {
-        return Err(RowFault::Misspelled("no letters"));
-    };
-    match row.text("length").unwrap_or("").parse::<u32>() {
-        Ok(length) => agreeing_text(alloc, &letters, length),
-        Err(_) => Err(RowFault::Misspelled("no length")),
-    }
+    let length = count(row.text("length").unwrap_or(""))?;
+    let letters = row.due_bytes(alloc, "letters", "no letters")?;
+    agreeing_text(alloc, &letters, length)
 }

@@ -1,4 +1,4 @@
-use crate::lines::owned;
+use crate::lines::{formatted, owned, push_word};
 use crate::row::RowFault;
 use kt_base::{Entry, Kind, NoMemory, Run, Verdict, emit, emit_number, emit_wide_number};
 use kt_cli::Exit;
@@ -56,11 +56,11 @@ pub fn writer(alloc: Global, at_most: usize, failing: u64, fault: WriteFault) ->
 
 /// What is wrong with a writer of whose writes one failed.
 pub fn wrong(
-    whole: &[u8],
+    whole: &ScriptedWriter,
     cut: &ScriptedWriter,
     well: bool,
 ) -> Result<Option<&'static str>, NoMemory> {
-    let kept = cut.kept()?;
+    let (whole, kept) = (whole.kept()?, cut.kept()?);
     if well {
         return Ok(Some("all went well"));
     }
@@ -79,13 +79,12 @@ fn wrong_where_cut(
     printed: Printed<'_>,
     whole: &ScriptedWriter,
 ) -> Result<Option<&'static str>, NoMemory> {
-    let text = whole.kept()?;
-    let tries = if text.len() > 65_536 { 2 } else { 100 };
+    let tries = if whole.kept()?.len() > 65_536 { 2 } else { 100 };
     for failing in 1..=whole.writes.min(tries) {
         for fault in &FAULTS {
             let mut cut = writer(alloc, whole.at_most, failing, *fault);
             let well = printed.print(&mut cut)?;
-            let what = wrong(text, &cut, well)?;
+            let what = wrong(whole, &cut, well)?;
             if what.is_some() {
                 return Ok(what);
             }
@@ -120,7 +119,7 @@ pub fn printed_text(alloc: Global, printed: Printed<'_>) -> Result<String, RowFa
             return owned(alloc, what);
         }
     }
-    Ok(String::from_utf8_lossy(alloc, text)?)
+    formatted(String::from_utf8_lossy(alloc, text))
 }
 
 /// What was written on a page. One that doesn't end in a newline was cut.
@@ -141,8 +140,7 @@ pub fn ended_text(
     let mut text = page_text(alloc, page)?;
     text.push_str("exit")?;
     for exit in exits {
-        let status = exit.status;
-        text.push_str(format!(in alloc; " {status}")?.as_str())?;
+        push_word(&mut text, formatted(exit.status.to_string(alloc)))?;
     }
     Ok(text)
 }

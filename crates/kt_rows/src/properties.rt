@@ -1,9 +1,9 @@
 use crate::escapes::text_of;
-use crate::lines::{owned, pair_of, push_line};
-use crate::numbers::{number, numbered};
+use crate::lines::{formatted, owned, pair_of, push_all, push_behind, push_told};
+use crate::numbers::{numbered, set_number};
 use crate::row::{Entry, Row, RowFault};
 use crate::verdicts::reason_text;
-use kt_base::{Reason, Text, Variables};
+use kt_base::{Text, Variable, Variables};
 use kt_config::Config;
 use kt_metadata::{Host, Need, Props, is_kyuafile_property, property_of_key, unmet};
 use std::alloc::Global;
@@ -18,20 +18,49 @@ struct Example {
     host: Host,
 }
 
-/// Sets a property: the fault if it is refused.
-fn set_property(alloc: Global, props: &mut Props, raw: &str) -> Result<Option<String>, RowFault> {
+/// Sets a property, and appends the fault if it is refused.
+fn set_property(
+    alloc: Global,
+    out: &mut String,
+    props: &mut Props,
+    raw: &str,
+) -> Result<(), RowFault> {
     let pair = pair_of(alloc, raw)?;
     match props.set(&pair.name, &pair.value) {
-        Ok(()) => Ok(None),
-        Err(fault) => Ok(Some(fault.to_string(alloc)?)),
+        Ok(()) => Ok(()),
+        Err(fault) => push_told(out, formatted(fault.to_string(alloc))),
     }
+}
+
+/// Sets a property that there is: `NAME=VALUE`.
+pub fn set_known(alloc: Global, props: &mut Props, raw: &str) -> Result<(), RowFault> {
+    let pair = pair_of(alloc, raw)?;
+    props.set(&pair.name, &pair.value).map_err(|_| RowFault::Misspelled(
+        "there is no such property or value",
+    ))
 }
 
 /// Sets the properties of `COUNT NAME=VALUE`, where `#` is the number.
 fn set_numbered(alloc: Global, props: &mut Props, raw: &str) -> Result<(), RowFault> {
     for text in numbered(alloc, raw)?.as_slice() {
-        if set_property(alloc, props, text.as_str())?.is_some() {
-            return Err(RowFault::Misspelled("there is no such property or value"));
+        set_known(alloc, props, text.as_str())?;
+    }
+    Ok(())
+}
+
+fn is_among(pairs: &Variables, pair: &Variable) -> bool {
+    pairs.as_slice().iter().any(|other| {
+        other.name.as_str() == pair.name.as_str() && other.value.as_str() == pair.value.as_str()
+    })
+}
+
+/// Appends the properties that differ from the defaults: ` timeout=20`.
+pub fn push_props(alloc: Global, out: &mut String, props: &Props) -> Result<(), RowFault> {
+    let defaults = Props::new(alloc).listing()?;
+    let pairs = props.listing()?;
+    for pair in pairs.as_slice() {
+        if !is_among(&defaults, pair) {
+            push_all(out, &[" ", pair.name.as_str(), "=", pair.value.as_str()])?;
         }
     }
     Ok(())
@@ -43,13 +72,6 @@ fn set_variable(alloc: Global, config: &mut Config, raw: &str) -> Result<(), Row
     config
         .set(&pair.name, &pair.value)
         .map_err(|_| RowFault::Misspelled("there is no such variable"))
-}
-
-fn reason_line(alloc: Global, reason: Option<Reason>) -> Result<String, RowFault> {
-    match reason {
-        None => owned(alloc, "met"),
-        Some(reason) => reason_text(alloc, reason),
-    }
 }
 
 /// The property that a key of a list of cases stands for.
@@ -66,16 +88,6 @@ fn kyuafile_line(alloc: Global, raw: &str) -> Result<String, RowFault> {
 }
 
 impl Example {
-    fn new(alloc: Global) -> Example {
-        Example {
-            alloc,
-            program: Props::new(alloc),
-            case: Props::new(alloc),
-            config: Config::new(alloc),
-            host: Host::new(alloc, false, None, None),
-        }
-    }
-
     fn overlaid(&self) -> Result<Props, RowFault> {
         Ok(Props::overlay(&self.program, &self.case)?)
     }
@@ -87,8 +99,7 @@ impl Example {
     /// The value of a property as it was given.
     fn given(&self, raw: &str) -> Result<String, RowFault> {
         let props = self.overlaid()?;
-        let name = text_of(self.alloc, raw)?;
-        match props.get(&name) {
+        match props.get(&text_of(self.alloc, raw)?) {
             Some(value) => owned(self.alloc, value.as_str()),
             None => owned(self.alloc, "-"),
         }
@@ -98,8 +109,10 @@ impl Example {
     fn unmet(&self) -> Result<String, RowFault> {
         let meta = self.overlaid()?.effective()?;
         let suite = Text::from_str(self.alloc, "s")?;
-        let reason = unmet(self.alloc, &meta, &self.config, &suite, &self.host)?;
-        reason_line(self.alloc, reason)
+        match unmet(self.alloc, &meta, &self.config, &suite, &self.host)? {
+            None => owned(self.alloc, "met"),
+            Some(reason) => reason_text(self.alloc, reason),
+        }
     }
 
     /// The value of a property as it is listed, `-` if it isn't.
@@ -116,49 +129,53 @@ impl Example {
     fn listed(&self) -> Result<String, RowFault> {
         let mut out = String::new(self.alloc);
         for pair in self.listing()?.as_slice() {
-            push_line(&mut out, pair.name.as_str())?;
-            out.push_str(" = ")?;
-            out.push_str(pair.value.as_str())?;
+            push_behind(
+                &mut out,
+                "\n",
+                &[pair.name.as_str(), " = ", pair.value.as_str()],
+            )?;
         }
         Ok(out)
     }
 
     /// How many pairs are listed.
     fn count(&self) -> Result<String, RowFault> {
-        Ok(self.listing()?.len().to_string(self.alloc)?)
+        formatted(self.listing()?.len().to_string(self.alloc))
+    }
+
+    fn note(&mut self, need: Need, raw: &str) -> Result<(), RowFault> {
+        self.host.note(need, &text_of(self.alloc, raw)?)?;
+        Ok(())
     }
 
     /// Takes a line that says something of the host.
     fn take_host(&mut self, entry: &Entry<'_>) -> Result<(), RowFault> {
         match entry.word {
-            "root" => self.host.root = true,
-            "file" => self
-                .host
-                .note(Need::File, &text_of(self.alloc, entry.text)?)?,
-            "program" => self
-                .host
-                .note(Need::Program, &text_of(self.alloc, entry.text)?)?,
-            "memory" => self.host.memory = Some(number(entry.text)?),
-            "disk" => self.host.disk = Some(number(entry.text)?),
-            _ => return Err(RowFault::Misspelled("there is no such word")),
+            "file" => self.note(Need::File, entry.text),
+            "program" => self.note(Need::Program, entry.text),
+            "memory" => set_number(&mut self.host.memory, entry.text),
+            "disk" => set_number(&mut self.host.disk, entry.text),
+            "root" => {
+                self.host.root = true;
+                Ok(())
+            }
+            _ => Err(RowFault::Misspelled("there is no such word")),
         }
-        Ok(())
     }
 
-    /// Takes a line that says something, and answers what is refused.
-    fn take(&mut self, entry: &Entry<'_>) -> Result<Option<String>, RowFault> {
+    /// Takes a line that says something, and appends what is refused.
+    fn take(&mut self, out: &mut String, entry: &Entry<'_>) -> Result<(), RowFault> {
         match entry.word {
-            "set" => return set_property(self.alloc, &mut self.program, entry.text),
-            "case" => return set_property(self.alloc, &mut self.case, entry.text),
-            "numbered" => set_numbered(self.alloc, &mut self.program, entry.text)?,
-            "config" => set_variable(self.alloc, &mut self.config, entry.text)?,
-            _ => self.take_host(entry)?,
+            "set" => set_property(self.alloc, out, &mut self.program, entry.text),
+            "case" => set_property(self.alloc, out, &mut self.case, entry.text),
+            "numbered" => set_numbered(self.alloc, &mut self.program, entry.text),
+            "config" => set_variable(self.alloc, &mut self.config, entry.text),
+            _ => self.take_host(entry),
         }
-        Ok(None)
     }
 
-    /// What a line asks, or what is refused of what it says.
-    fn line(&mut self, entry: &Entry<'_>) -> Result<Option<String>, RowFault> {
+    /// Appends what a line asks, or what is refused of what it says.
+    fn push_line(&mut self, out: &mut String, entry: &Entry<'_>) -> Result<(), RowFault> {
         let told = match entry.word {
             "get" => self.given(entry.text),
             "show" => self.shown(entry.text),
@@ -167,26 +184,24 @@ impl Example {
             "unmet" => self.unmet(),
             "key" => key_line(self.alloc, entry.text),
             "kyuafile" => kyuafile_line(self.alloc, entry.text),
-            _ => return self.take(entry),
+            _ => return self.take(out, entry),
         };
-        Ok(Some(told?))
-    }
-
-    /// Appends what a line asks, or what is refused of what it says.
-    fn push_told(&mut self, out: &mut String, entry: &Entry<'_>) -> Result<(), RowFault> {
-        if let Some(told) = self.line(entry)? {
-            push_line(out, told.as_str())?;
-        }
-        Ok(())
+        push_told(out, told)
     }
 }
 
 /// What the lines of a row ask of properties and requirements, in their order.
 pub fn answer(alloc: Global, row: &Row<'_>) -> Result<String, RowFault> {
-    let mut example = Example::new(alloc);
+    let mut example = Example {
+        alloc,
+        program: Props::new(alloc),
+        case: Props::new(alloc),
+        config: Config::new(alloc),
+        host: Host::new(alloc, false, None, None),
+    };
     let mut out = String::new(alloc);
     for entry in row.entries.as_slice() {
-        example.push_told(&mut out, entry)?;
+        example.push_line(&mut out, entry)?;
     }
     Ok(out)
 }

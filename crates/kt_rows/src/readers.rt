@@ -1,5 +1,6 @@
 //! Reads of a file that never ends.
 
+use crate::lines::formatted;
 use crate::numbers::number;
 use crate::row::{Row, RowFault};
 use kt_child::{FileRead, read_front, read_start};
@@ -47,8 +48,10 @@ pub fn answer(alloc: Global, row: &Row<'_>) -> Result<String, RowFault> {
     };
     let (given, failed) = (file.given, file.failed);
     match read {
-        None => Ok(format!(in alloc; "failed; {given} bytes given, {failed} reads failed")?),
-        Some((length, true)) => Ok(format!(in alloc; "{length} bytes and more; {given} given")?),
-        Some((length, false)) => Ok(format!(in alloc; "{length} bytes; {given} given")?),
+        None => formatted(format!(in alloc; "failed; {given} bytes given, {failed} reads failed")),
+        Some((length, follows)) => {
+            let more = if follows { " and more" } else { "" };
+            formatted(format!(in alloc; "{length} bytes{more}; {given} given"))
+        }
     }
 }

@@ -1,4 +1,5 @@
-use crate::escapes::{lossy_of, unescaped};
+use crate::escapes::unescaped;
+use crate::lines::{formatted, joined};
 use crate::numbers::number;
 use crate::printing::{Printed, printed_text, writer};
 use crate::recorded::kind_of;
@@ -12,7 +13,7 @@ fn kind_text(alloc: Global, word: &str) -> Result<String, RowFault> {
     let kind = kind_of(word)?;
     let word = kind.word();
     let side = if kind.good() { "good" } else { "bad" };
-    Ok(format!(in alloc; "{word}, {side}")?)
+    joined(alloc, &[word, ", ", side])
 }
 
 /// Bytes as a text, after they were joined of two halves and copied.
@@ -45,23 +46,28 @@ fn sent_text(alloc: Global, row: &Row<'_>, bytes: &[u8]) -> Result<String, RowFa
     out.kept()?;
     let writes = out.writes;
     let end = if failed { "failed" } else { "done" };
-    Ok(format!(in alloc; "{count} in {writes} writes, {end}")?)
+    formatted(format!(in alloc; "{count} in {writes} writes, {end}"))
+}
+
+/// What is asked by a word of a text without its escapes.
+fn told(alloc: Global, row: &Row<'_>, word: &str, bytes: &[u8]) -> Result<String, RowFault> {
+    match word {
+        "words" => reason_text(alloc, Reason::Owned(lossy(alloc, bytes)?)),
+        "bytes" => text_of_bytes(alloc, bytes),
+        "send" => sent_text(alloc, row, bytes),
+        "emit" => printed_text(alloc, Printed::Bytes(bytes)),
+        _ => Err(RowFault::Misspelled("nothing like that is asked of a reason")),
+    }
 }
 
 /// The text of a reason, of a kind, of a number or of bytes: `kind WORD`, `number N`, `words TEXT` or `nothing`, `bytes
 /// TEXT`, `send TEXT` or `emit TEXT`.
 pub fn answer(alloc: Global, row: &Row<'_>) -> Result<String, RowFault> {
-    let Some(Entry { word, text }) = row.entries.first().copied() else {
-        return Err(RowFault::Misspelled("the row is empty"));
-    };
+    let Entry { word, text } = row.first()?;
     match word {
         "kind" => kind_text(alloc, text),
         "number" => number_text(alloc, text),
         "nothing" => reason_text(alloc, Reason::Nothing),
-        "words" => reason_text(alloc, Reason::Owned(lossy_of(alloc, text)?)),
-        "bytes" => text_of_bytes(alloc, &unescaped(alloc, text)?),
-        "send" => sent_text(alloc, row, &unescaped(alloc, text)?),
-        "emit" => printed_text(alloc, Printed::Bytes(&unescaped(alloc, text)?)),
-        _ => Err(RowFault::Misspelled("nothing like that is asked of a reason")),
+        _ => told(alloc, row, word, &unescaped(alloc, text)?),
     }
 }

@@ -3,7 +3,7 @@ ghost use Rattle.std.specs.Prelude.{◌≤◌, IfOk};
 use crate::escapes::{lossy_of, unescaped};
 use crate::lines::pairs_of;
 use crate::numbers::number;
-use crate::row::{Entry as Line, Row, RowFault, text_in};
+use crate::row::{Entry as Line, Row, RowFault, push_made, text_in};
 use kt_base::{Bytes, Entry, Items, Kind, LATEST_MOMENT, Output, Run, Variables, Verdict};
 use std::alloc::Global;
 
@@ -46,7 +46,7 @@ pub fn kind_of(word: &str) -> Result<Kind, RowFault> {
 pub fn kinds_of(alloc: Global, words: &str) -> Result<Vec<Kind>, RowFault> {
     let mut kinds = Vec::new(alloc);
     for word in words.split_whitespace() {
-        kinds.push(kind_of(word)?)?;
+        push_made(&mut kinds, kind_of(word))?;
     }
     Ok(kinds)
 }
@@ -87,13 +87,6 @@ fn case_entry(
     })
 }
 
-/// Takes when a case was started, and how long it took.
-fn take_times(entry: &mut Entry, content: &[Line<'_>]) -> Result<(), RowFault> {
-    entry.started = number_in(content, "started", 0)?;
-    entry.millis = number_in(content, "took", 0)?;
-    Ok(())
-}
-
 fn take_content(alloc: Global, entry: &mut Entry, content: &[Line<'_>]) -> Result<(), RowFault> {
     entry.body = output_in(alloc, content, "out", "err")?;
     entry.cleanup = output_in(alloc, content, "cleanup-out", "cleanup-err")?;
@@ -110,8 +103,11 @@ fn entry_of(
     verdict: &str,
     position: u32,
 ) -> Result<Entry, RowFault> {
+    let started = number_in(content, "started", 0)?;
+    let millis = number_in(content, "took", 0)?;
     let mut entry = case_entry(alloc, content, verdict, position)?;
-    take_times(&mut entry, content)?;
+    entry.started = started;
+    entry.millis = millis;
     take_content(alloc, &mut entry, content)?;
     Ok(entry)
 }
@@ -151,16 +147,26 @@ fn count_of(entries: &Items<Entry>) -> Result<u32, RowFault> {
     u32::try_from(entries.len()).map_err(|_| RowFault::Misspelled("too many entries"))
 }
 
-/// The entries of a row: `entry VERDICT` each, as often as `times N` below it says.
+/// Appends an entry, as often as `times N` below it says.
+fn push_entries(
+    alloc: Global,
+    entries: &mut Items<Entry>,
+    content: &[Line<'_>],
+    verdict: &str,
+) -> Result<(), RowFault> {
+    for _ in 0..number_in(content, "times", 1)? {
+        let position = count_of(entries)?;
+        entries.push(entry_of(alloc, content, verdict, position)?)?;
+    }
+    Ok(())
+}
+
+/// The entries of a row: `entry VERDICT` each.
 fn entries_of(alloc: Global, lines: &[Line<'_>]) -> Result<Items<Entry>, RowFault> {
     let mut entries = Items::new(alloc);
     for (place, line) in lines.iter().enumerate() {
         if line.word == "entry" {
-            let content = content_at(lines, place);
-            for _ in 0..number_in(content, "times", 1)? {
-                let position = count_of(&entries)?;
-                entries.push(entry_of(alloc, content, line.text, position)?)?;
-            }
+            push_entries(alloc, &mut entries, content_at(lines, place), line.text)?;
         }
     }
     Ok(entries)

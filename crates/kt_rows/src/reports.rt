@@ -1,4 +1,4 @@
-use crate::lines::owned;
+use crate::lines::{formatted, owned, push_all};
 use crate::printing::{Printed, printed_text, writer};
 use crate::recorded::{kinds_of, run_of};
 use crate::row::{Row, RowFault};
@@ -10,7 +10,10 @@ use std::alloc::Global;
 fn lines_text(alloc: Global, run: &Run) -> Result<String, RowFault> {
     let mut out = String::new(alloc);
     for entry in run.entries.as_slice() {
-        out.push_str(printed_text(alloc, Printed::Line(entry))?.as_str())?;
+        push_all(
+            &mut out,
+            &[printed_text(alloc, Printed::Line(entry))?.as_str()],
+        )?;
     }
     Ok(out)
 }
@@ -41,7 +44,7 @@ fn moment_text(alloc: Global, run: &Run) -> Result<String, RowFault> {
 fn fault_text(alloc: Global, run: &Run) -> Result<String, RowFault> {
     match kt_report::junit(alloc, run, &mut writer(alloc, 1, 1, WriteFault::Broken)) {
         Ok(()) => Err(RowFault::Misspelled("a report without a write")),
-        Err(fault) => Ok(fault.to_string(alloc)?),
+        Err(fault) => formatted(fault.to_string(alloc)),
     }
 }
 

@@ -1,8 +1,9 @@
 //! What a store tells of its runs.
 
 use crate::entry_texts::{entries_text, shown};
-use crate::lines::{name_of, push_line};
-use crate::row::RowFault;
+use crate::lines::{formatted, name_of, owned, push_told};
+use crate::numbers::number;
+use crate::row::{RowFault, push_made};
 use kt_base::Entry;
 use kt_store::{ResultStore, RunHead, entries};
 use std::alloc::Global;
@@ -28,10 +29,11 @@ fn run_text(
 ) -> Result<String, RowFault> {
     let (number, started, total) = (head.number, head.started, head.total);
     let state = state_text(head);
-    if moments {
-        return Ok(format!(in alloc; "run {number} at {started}: {entries} of {total}, {state}")?);
-    }
-    Ok(format!(in alloc; "run {number}: {entries} of {total}, {state}")?)
+    formatted(if moments {
+        format!(in alloc; "run {number} at {started}: {entries} of {total}, {state}")
+    } else {
+        format!(in alloc; "run {number}: {entries} of {total}, {state}")
+    })
 }
 
 /// The runs of a store, a line each, with their moments or without.
@@ -47,10 +49,10 @@ pub fn runs_text<R: ResultStore>(
     let mut text = String::new(alloc);
     for head in heads.as_slice() {
         let line = match results.outline(head.number) {
-            Ok(entries) => run_text(alloc, head, entries.len(), moments)?,
-            Err(fault) => name_of(alloc, &fault)?,
+            Ok(entries) => run_text(alloc, head, entries.len(), moments),
+            Err(fault) => name_of(alloc, &fault),
         };
-        push_line(&mut text, line.as_str())?;
+        push_told(&mut text, line)?;
     }
     Ok(text)
 }
@@ -60,15 +62,15 @@ pub fn run_entries_text<R: ResultStore>(
     alloc: Global,
     results: &mut R,
     word: &str,
-    run: u64,
+    run: &str,
 ) -> Result<String, RowFault> {
-    let found = match entries(alloc, results, run) {
+    let found = match entries(alloc, results, number(run)?) {
         Ok(found) => found,
         Err(fault) => return name_of(alloc, &fault),
     };
     if word == "count" {
         let count = found.len();
-        return Ok(format!(in alloc; "{count} entries")?);
+        return formatted(format!(in alloc; "{count} entries"));
     }
     entries_text(alloc, word, found.as_slice())
 }
@@ -77,7 +79,7 @@ pub fn run_entries_text<R: ResultStore>(
 fn whole_text(alloc: Global, entry: &Entry) -> Result<String, RowFault> {
     let mut text = String::new(alloc);
     for word in ["cases", "outputs", "pairs"] {
-        push_line(&mut text, shown(alloc, word, entry)?.as_str())?;
+        push_told(&mut text, shown(alloc, word, entry))?;
     }
     Ok(text)
 }
@@ -90,15 +92,15 @@ fn push_run<R: ResultStore>(
     head: &RunHead,
 ) -> Result<(), RowFault> {
     let (number, started, total) = (head.number, head.started, head.total);
-    told.push(format!(in alloc; "run {number} at {started}, {total} cases")?)?;
+    let line = format!(in alloc; "run {number} at {started}, {total} cases");
+    push_made(told, formatted(line))?;
     let Ok(found) = entries(alloc, results, number) else {
         return Err(RowFault::Misspelled("its entries can not be told"));
     };
     for entry in found.as_slice() {
-        told.push(whole_text(alloc, entry)?)?;
+        push_made(told, whole_text(alloc, entry))?;
     }
-    told.push(String::from_str(alloc, state_text(head))?)?;
-    Ok(())
+    push_made(told, owned(alloc, state_text(head)))
 }
 
 /// All that a store tells: of each run its head, its entries, and whether it is finished.

@@ -1,6 +1,6 @@
 use crate::escapes::unescaped;
-use crate::numbers::{count, number, numbers};
-use crate::row::{Entry, Row, RowFault};
+use crate::numbers::{count, numbers};
+use crate::row::{Entry, Row, RowFault, halves, push_made};
 use crate::verdicts::ending_of;
 use kt_base::Outcome;
 use kt_child::Polled;
@@ -18,28 +18,21 @@ fn polled_of(text: &str) -> Result<Polled, RowFault> {
 
 /// A life: an ending, or `running x99, ` and an ending.
 fn life_of(text: &str) -> Result<Life, RowFault> {
-    let Some(rest) = text.strip_prefix("running x") else {
-        return Ok(Life {
-            running: 0,
-            ending: polled_of(text)?,
-        });
+    let (running, ending) = match text.strip_prefix("running x") {
+        None => ("0", text),
+        Some(rest) => halves(rest, ", ", "a life is `running xN, ` and an ending")?,
     };
-    match rest.split_once(", ") {
-        None => Err(RowFault::Misspelled("a life is `running xN, ` and an ending")),
-        Some((running, ending)) => Ok(Life {
-            running: count(running)?,
-            ending: polled_of(ending)?,
-        }),
-    }
+    Ok(Life {
+        running: count(running)?,
+        ending: polled_of(ending)?,
+    })
 }
 
 /// A file: its path, and what it holds.
 pub fn holding_of<'a>(alloc: Global, text: &'a str) -> Result<Holding<'a>, RowFault> {
     let (path, raw) = text.split_once(' ').unwrap_or((text, ""));
-    Ok(Holding {
-        path,
-        bytes: unescaped(alloc, raw)?,
-    })
+    let bytes = unescaped(alloc, raw)?;
+    Ok(Holding { path, bytes })
 }
 
 /// The calls that fail: none, `N` alone, or `N M` for those from `N` to `M`.
@@ -65,22 +58,20 @@ fn part_fault_of(text: Option<&str>) -> Result<PartFault, RowFault> {
 
 /// The moments that are told, and how much later each further one is.
 fn clock_of(alloc: Global, row: &Row<'_>) -> Result<(Vec<u64>, u64), RowFault> {
-    if let Some(moments) = row.text("moments") {
-        return Ok((numbers(alloc, moments)?, 0));
-    }
-    let mut moments = Vec::new(alloc);
-    moments.push(number(row.text("clock").unwrap_or("1"))?)?;
-    Ok((moments, 1))
+    let (moments, step) = match row.text("moments") {
+        Some(moments) => (moments, 0),
+        None => (row.text("clock").unwrap_or("1"), 1),
+    };
+    Ok((numbers(alloc, moments)?, step))
 }
 
 /// Takes a line that says something of the scene.
 fn take<'a>(alloc: Global, scene: &mut Scene<'a>, entry: &Entry<'a>) -> Result<(), RowFault> {
     match entry.word {
-        "life" => scene.lives.push(life_of(entry.text)?)?,
-        "holds" => scene.files.push(holding_of(alloc, entry.text)?)?,
-        _ => {}
+        "life" => push_made(&mut scene.lives, life_of(entry.text)),
+        "holds" => push_made(&mut scene.files, holding_of(alloc, entry.text)),
+        _ => Ok(()),
     }
-    Ok(())
 }
 
 /// The scene of a row: `life LIFE` each, `holds PATH TEXT` each, `clock N` or `moments NUMBERS`, `fails CALLS` or, for

@@ -1,3 +1,4 @@
+use crate::lines::{formatted, push_behind, push_word};
 use crate::row::RowFault;
 use kt_base::{Entry, Role};
 use kt_play::Call;
@@ -14,22 +15,18 @@ fn call_text(alloc: Global, call: Call) -> Result<String, RowFault> {
         Role::Body => "",
         Role::Cleanup => "cleanup ",
     };
-    Ok(format!(in alloc; "{word} {role}{position}")?)
+    formatted(format!(in alloc; "{word} {role}{position}"))
 }
 
 /// The calls of the launcher, and a line with the positions of the entries in the order of their puts.
 pub fn long_text(alloc: Global, calls: &[Call], entries: &[Entry]) -> Result<String, RowFault> {
     let mut out = String::new(alloc);
-    for (place, call) in calls.iter().enumerate() {
-        if place > 0 {
-            out.push_str(", ")?;
-        }
-        out.push_str(call_text(alloc, *call)?.as_str())?;
+    for call in calls {
+        push_behind(&mut out, ", ", &[call_text(alloc, *call)?.as_str()])?;
     }
     out.push_str("\nput")?;
     for entry in entries {
-        let position = entry.position;
-        out.push_str(format!(in alloc; " {position}")?.as_str())?;
+        push_word(&mut out, formatted(entry.position.to_string(alloc)))?;
     }
     Ok(out)
 }
@@ -70,9 +67,9 @@ pub fn brief_text(alloc: Global, calls: &[Call], entries: &[Entry]) -> Result<St
     } else {
         "in another order"
     };
-    Ok(format!(in alloc;
+    formatted(format!(in alloc;
         "{bodies} bodies, {cleanups} cleanups, at most {most} at once; {count} entries {order}"
-    )?)
+    ))
 }
 
 /// The end of a run: `3 good, 1 bad`, or why it failed.
@@ -80,8 +77,8 @@ pub fn end_text(alloc: Global, end: Result<Totals, RunFault>) -> Result<String, 
     match end {
         Ok(totals) => {
             let (good, bad, total) = (totals.good, totals.bad, totals.total);
-            Ok(format!(in alloc; "{good} good, {bad} bad of {total}")?)
+            formatted(format!(in alloc; "{good} good, {bad} bad of {total}"))
         }
-        Err(fault) => Ok(fault.to_string(alloc)?),
+        Err(fault) => formatted(fault.to_string(alloc)),
     }
 }

@@ -160,43 +160,40 @@ impl<'a> Simulation<'a> {
     fn put_decided(&mut self) -> Result<(), RowFault> {
         for _ in 0..self.count {
             if let Some(i) = self.due() {
-                self.set(i, Stage::Over);
-                self.put(i)?;
+                self.advance(i, Stage::Over)?;
             }
         }
         Ok(())
     }
 
-    /// Finishes a case and puts its entry.
-    fn finish(&mut self, i: u32) -> Result<(), RowFault> {
-        self.set(i, Stage::Over);
-        self.put(i)
+    /// Brings a case to a stage, and puts its entry if it is over.
+    fn advance(&mut self, i: u32, stage: Stage) -> Result<(), RowFault> {
+        self.set(i, stage);
+        if stage == Stage::Over {
+            self.put(i)
+        } else {
+            Ok(())
+        }
     }
 
     fn start(&mut self, i: u32, role: Role) -> Result<(), RowFault> {
-        if is_refused(self.letters, i, role) {
-            self.calls.push(Call::Refused(i, role))?;
-            return self.finish(i);
-        }
-        self.calls.push(Call::Started(i, role))?;
-        match role {
-            Role::Body => self.set(i, Stage::Body),
-            Role::Cleanup => self.set(i, Stage::Cleanup),
-        }
-        Ok(())
+        let (call, stage) = match role {
+            _ if is_refused(self.letters, i, role) => (Call::Refused(i, role), Stage::Over),
+            Role::Body => (Call::Started(i, role), Stage::Body),
+            Role::Cleanup => (Call::Started(i, role), Stage::Cleanup),
+        };
+        self.calls.push(call)?;
+        self.advance(i, stage)
     }
 
     fn end(&mut self, i: u32) -> Result<(), RowFault> {
-        if self.stage(i) == Stage::Cleanup {
-            self.calls.push(Call::Ended(i, Role::Cleanup))?;
-            return self.finish(i);
-        }
-        self.calls.push(Call::Ended(i, Role::Body))?;
-        if has_cleanup(self.letter(i)) {
-            self.set(i, Stage::Owed);
-            return Ok(());
-        }
-        self.finish(i)
+        let (role, stage) = match self.stage(i) {
+            Stage::Cleanup => (Role::Cleanup, Stage::Over),
+            _ if has_cleanup(self.letter(i)) => (Role::Body, Stage::Owed),
+            _ => (Role::Body, Stage::Over),
+        };
+        self.calls.push(Call::Ended(i, role))?;
+        self.advance(i, stage)
     }
 
     /// The first case at one of these stages.
@@ -230,30 +227,25 @@ impl<'a> Simulation<'a> {
         }
     }
 
-    /// Makes the next call, and returns whether there was one.
-    fn step(&mut self) -> Result<bool, RowFault> {
+    /// Makes the next call, if there is one.
+    fn step(&mut self) -> Result<(), RowFault> {
         if let Some(i) = self.first_at(&[Stage::Owed]) {
-            self.start(i, Role::Cleanup)?;
-            return Ok(true);
+            return self.start(i, Role::Cleanup);
         }
         if let Some(i) = self.next_body() {
-            self.start(i, Role::Body)?;
-            return Ok(true);
+            return self.start(i, Role::Body);
         }
-        if let Some(i) = self.next_end() {
-            self.end(i)?;
-            return Ok(true);
+        match self.next_end() {
+            Some(i) => self.end(i),
+            None => Ok(()),
         }
-        Ok(false)
     }
 
     /// Plays the schedule to its end.
     pub fn play(&mut self) -> Result<(), RowFault> {
         self.put_decided()?;
         for _ in 0..self.count.saturating_mul(4) {
-            if !self.step()? {
-                return Ok(());
-            }
+            self.step()?;
             self.put_decided()?;
         }
         Ok(())

@@ -1,11 +1,11 @@
 ghost use Rattle.kt_sched.specs.Children.{IsIdle};
 
-use crate::command_words::commands_of;
 use crate::fault_exits::failure;
 use crate::listings::listed_of;
-use crate::numbers::{number, numbers};
-use crate::row::{Entry, Row, RowFault, text_in};
+use crate::numbers::{number, numbers, set_number};
+use crate::row::{Entry, Row, RowFault, push_made, text_in};
 use crate::scenes::holding_of;
+use crate::words::commands_of;
 use kt_base::{NoMemory, Text};
 use kt_child::{Driver, Os};
 use kt_cli::{Exit, execute_all};
@@ -35,31 +35,21 @@ fn empty_stage<'a>(alloc: Global) -> Stage<'a> {
     }
 }
 
-/// Takes a line that names a file or a program.
-fn take_name<'a>(stage: &mut Stage<'a>, entry: &Entry<'a>) -> Result<(), RowFault> {
-    match entry.word {
-        "program" => stage.programs.push(entry.text)?,
-        "locked" => stage.locked.push(entry.text)?,
-        "dear" => stage.dear.push(entry.text)?,
-        "found-file" => stage.found_files.push(entry.text)?,
-        "found-program" => stage.found_programs.push(entry.text)?,
-        _ => {}
-    }
-    Ok(())
-}
-
 /// Takes a line that says something of the world.
 fn take<'a>(alloc: Global, stage: &mut Stage<'a>, entry: &Entry<'a>) -> Result<(), RowFault> {
     match entry.word {
-        "holds" => stage.files.push(holding_of(alloc, entry.text)?)?,
-        "config" => stage.configs.push(holding_of(alloc, entry.text)?)?,
-        "lists" => stage.lists.push(listed_of(alloc, entry.text)?)?,
-        "root" => stage.root = true,
-        "has-memory" => stage.memory = Some(number(entry.text)?),
-        "has-disk" => stage.disk = Some(number(entry.text)?),
-        _ => take_name(stage, entry)?,
+        "holds" => push_made(&mut stage.files, holding_of(alloc, entry.text)),
+        "config" => push_made(&mut stage.configs, holding_of(alloc, entry.text)),
+        "lists" => push_made(&mut stage.lists, listed_of(alloc, entry.text)),
+        "has-memory" => set_number(&mut stage.memory, entry.text),
+        "has-disk" => set_number(&mut stage.disk, entry.text),
+        "program" => push_made(&mut stage.programs, Ok(entry.text)),
+        "locked" => push_made(&mut stage.locked, Ok(entry.text)),
+        "dear" => push_made(&mut stage.dear, Ok(entry.text)),
+        "found-file" => push_made(&mut stage.found_files, Ok(entry.text)),
+        "found-program" => push_made(&mut stage.found_programs, Ok(entry.text)),
+        _ => Ok(()),
     }
-    Ok(())
 }
 
 /// The world of a row: `holds PATH TEXT`, `program PATH`, `config PATH TEXT`, `locked PATH`, `dear PATH`, `lists
@@ -68,6 +58,7 @@ fn take<'a>(alloc: Global, stage: &mut Stage<'a>, entry: &Entry<'a>) -> Result<(
 pub fn stage_of<'a>(alloc: Global, lines: &[Entry<'a>]) -> Result<Stage<'a>, RowFault> {
     let mut stage = empty_stage(alloc);
     stage.moments = numbers(alloc, text_in(lines, "now").unwrap_or("0"))?;
+    stage.root = text_in(lines, "root").is_some();
     for entry in lines {
         take(alloc, &mut stage, entry)?;
     }
@@ -82,20 +73,11 @@ fn calls_of(text: &str) -> Result<(u64, u64), RowFault> {
 
 /// The store of a row, in memory: `refused CALLS`, or `refused-memory CALLS`.
 pub fn store_of(alloc: Global, row: &Row<'_>) -> Result<RefusingStore, RowFault> {
-    let failed = failure(alloc)?;
-    if let Some(calls) = row.text("refused-memory") {
-        let shortage = ask_too_much(alloc).err();
-        return Ok(RefusingStore::new(alloc, calls_of(calls)?, failed, shortage));
-    }
-    let calls = calls_of(row.text("refused").unwrap_or("0"))?;
-    Ok(RefusingStore::new(alloc, calls, failed, None))
-}
-
-/// How commands ended, and the launcher that they used.
-#[derive(Drop)]
-pub struct Done<L: Drop> {
-    pub exits: Vec<Exit>,
-    pub launcher: L,
+    let (calls, shortage) = match row.text("refused-memory") {
+        Some(calls) => (calls, ask_too_much(alloc).err()),
+        None => (row.text("refused").unwrap_or("0"), None),
+    };
+    Ok(RefusingStore::new(alloc, calls_of(calls)?, failure(alloc)?, shortage))
 }
 
 /// Does commands over a world.
@@ -111,7 +93,7 @@ fn over_world<W: World, R: ResultStore, O: Write>(
     execute_all(alloc, commands, world, results, out)
 }
 
-/// Does commands over a world with this launcher.
+/// Does commands over a world with this launcher, and hands it back.
 pub fn over_launcher<L: Launcher + Drop, R: ResultStore, W: Write>(
     alloc: Global,
     commands: &[Command],
@@ -119,13 +101,12 @@ pub fn over_launcher<L: Launcher + Drop, R: ResultStore, W: Write>(
     launcher: L,
     results: &mut R,
     out: &mut W,
-) -> Result<Done<L>, NoMemory>
+) -> Result<(Vec<Exit>, L), NoMemory>
     requires { IsIdle (L.running launcher) (L.pending launcher) }
 {
     let mut world = ScriptedWorld::new(alloc, stage, launcher);
     let exits = over_world(alloc, commands, &mut world, results, out)?;
-    let launcher = world.launcher;
-    Ok(Done { exits, launcher })
+    Ok((exits, world.launcher))
 }
 
 /// Does commands over a world with a driver of its own over this system, and hands it back.
@@ -141,9 +122,8 @@ fn over_system<O: Os + Drop, R: ResultStore, W: Write>(
     match Driver::new(alloc, os, &Text::new(alloc), source) {
         Err((_fault, _os)) => Err(RowFault::Misspelled("there is no driver")),
         Ok(driver) => {
-            let done = over_launcher(alloc, commands, stage, driver, results, out)?;
-            let os = done.launcher.close();
-            Ok((done.exits, os))
+            let (exits, driver) = over_launcher(alloc, commands, stage, driver, results, out)?;
+            Ok((exits, driver.close()))
         }
     }
 }

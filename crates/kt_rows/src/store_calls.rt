@@ -1,19 +1,19 @@
-use crate::command_words::push_command;
-use crate::lines::{name_of, owned};
+use crate::lines::{formatted, name_of, owned};
 use crate::numbers::{count, number};
 use crate::printing::ended_text;
 use crate::recorded::storable_entry;
-use crate::row::{Entry, RowFault, text_in};
+use crate::row::{Entry, RowFault, push_made, text_in};
 use crate::run_texts::{run_entries_text, runs_text};
 use crate::stages::{over_launcher, stage_of};
+use crate::words::command_of;
 use kt_base::LATEST_MOMENT;
 use kt_play::{ScriptedLauncher, ScriptedWriter};
-use kt_store::{ResultStore, StoreFault};
+use kt_store::ResultStore;
 use std::alloc::Global;
 
-/// What a call answers that has nothing to tell.
-fn plain_text(alloc: Global, answer: Result<(), StoreFault>) -> Result<String, RowFault> {
-    match answer {
+/// Finishes a run.
+fn finish<R: ResultStore>(alloc: Global, results: &mut R, run: &str) -> Result<String, RowFault> {
+    match results.finish(number(run)?) {
         Ok(()) => owned(alloc, "done"),
         Err(fault) => name_of(alloc, &fault),
     }
@@ -36,7 +36,7 @@ fn begin<R: ResultStore>(
             Err(fault) => return name_of(alloc, &fault),
         }
     }
-    Ok(format!(in alloc; "run {last}")?)
+    formatted(format!(in alloc; "run {last}"))
 }
 
 /// Puts an entry, or as many as `times N` says from its position on: `RUN POSITION VERDICT`.
@@ -64,7 +64,7 @@ fn count_of_runs<R: ResultStore>(alloc: Global, results: &mut R) -> Result<Strin
     match results.runs() {
         Ok(heads) => {
             let count = heads.len();
-            Ok(format!(in alloc; "{count} runs")?)
+            formatted(format!(in alloc; "{count} runs"))
         }
         Err(fault) => name_of(alloc, &fault),
     }
@@ -73,13 +73,13 @@ fn count_of_runs<R: ResultStore>(alloc: Global, results: &mut R) -> Result<Strin
 /// Does a command over the store, and answers its page and its exit.
 fn done<R: ResultStore>(alloc: Global, results: &mut R, line: &str) -> Result<String, RowFault> {
     let mut commands = Vec::new(alloc);
-    push_command(alloc, &mut commands, line)?;
+    push_made(&mut commands, command_of(alloc, line))?;
     let stage = stage_of(alloc, &[])?;
     let mut page = ScriptedWriter::new(alloc, 0);
     let launcher = ScriptedLauncher::new(alloc, &[], &[], &[]);
     let commands = commands.as_slice();
-    let done = over_launcher(alloc, commands, &stage, launcher, results, &mut page)?;
-    ended_text(alloc, &page, done.exits.as_slice())
+    let (exits, _launcher) = over_launcher(alloc, commands, &stage, launcher, results, &mut page)?;
+    ended_text(alloc, &page, exits.as_slice())
 }
 
 /// What a call on a store of runs answers, whose line has others below it.
@@ -93,11 +93,11 @@ pub fn call<R: ResultStore>(
     match line.word {
         "begin" => begin(alloc, results, line.text, times),
         "put" => put(alloc, results, line.text, content, times),
-        "finish" => plain_text(alloc, results.finish(number(line.text)?)),
+        "finish" => finish(alloc, results, line.text),
         "runs" => runs_text(alloc, results, true),
         "count-runs" => count_of_runs(alloc, results),
         "cases" | "outputs" | "pairs" | "count" => {
-            run_entries_text(alloc, results, line.word, number(line.text)?)
+            run_entries_text(alloc, results, line.word, line.text)
         }
         "do" => done(alloc, results, line.text),
         _ => Err(RowFault::Misspelled("there is no such call")),

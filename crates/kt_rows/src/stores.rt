@@ -1,9 +1,9 @@
-use crate::lines::{name_of, owned, push_line};
+use crate::lines::{name_of, owned, push_line, push_told};
 use crate::recorded::{content_at, is_content};
 use crate::row::{Entry, Row, RowFault};
 use crate::store_calls::call;
 use kt_cli::MemRuns;
-use kt_store::{ResultStore, Results, StoreFault};
+use kt_store::Results;
 use sqlite::{Alter, Connection};
 use std::alloc::Global;
 
@@ -22,52 +22,42 @@ fn detached<S: Alter + Drop>(database: Database<S>) -> Connection<S> {
     }
 }
 
-/// Takes the tables, and answers why that was refused.
+/// Takes the tables, and appends whether that was refused.
 fn attach<S: Alter + Drop>(
     alloc: Global,
     connection: Connection<S>,
-) -> Result<(Database<S>, Option<StoreFault>), RowFault> {
+    out: &mut String,
+) -> Result<Database<S>, RowFault> {
     if !connection.is_autocommit() {
         return Err(RowFault::Misspelled("a transaction is open"));
     }
-    match Results::attach(alloc, connection) {
-        Ok(results) => Ok((Database::Attached(results), None)),
-        Err((fault, connection)) => Ok((Database::Open(connection), Some(fault))),
-    }
+    let (database, told) = match Results::attach(alloc, connection) {
+        Ok(results) => (Database::Attached(results), owned(alloc, "attached")),
+        Err((fault, connection)) => (Database::Open(connection), name_of(alloc, &fault)),
+    };
+    push_told(out, told)?;
+    Ok(database)
 }
 
-fn attached_text(alloc: Global, fault: Option<StoreFault>) -> Result<String, RowFault> {
-    match fault {
-        None => owned(alloc, "attached"),
-        Some(fault) => name_of(alloc, &fault),
-    }
-}
-
-/// Appends whether the tables were taken.
-fn push_attached(
+/// Appends what a call on these tables answers.
+fn ask<S: Alter + Drop>(
     alloc: Global,
-    out: &mut String,
-    fault: Option<StoreFault>,
-) -> Result<(), RowFault> {
-    push_line(out, attached_text(alloc, fault)?.as_str())?;
-    Ok(())
-}
-
-/// Appends what a call answers.
-fn push_call<R: ResultStore>(
-    alloc: Global,
-    results: &mut R,
+    mut results: Results<S>,
     line: &Entry<'_>,
     content: &[Entry<'_>],
     out: &mut String,
-) -> Result<(), RowFault> {
-    push_line(out, call(alloc, results, line, content)?.as_str())?;
-    Ok(())
+) -> Result<Database<S>, RowFault> {
+    push_told(out, call(alloc, &mut results, line, content))?;
+    Ok(Database::Attached(results))
 }
 
 /// Runs a statement.
-fn run_sql<S: Alter + Drop>(connection: Connection<S>, sql: &str) -> Result<Database<S>, RowFault> {
-    let mut connection = connection;
+fn run_sql<S: Alter + Drop>(
+    mut connection: Connection<S>,
+    sql: &str,
+    out: &mut String,
+) -> Result<Database<S>, RowFault> {
+    push_line(out, "done")?;
     match connection.execute(sql, &[]) {
         Ok(_) => Ok(Database::Open(connection)),
         Err(_) => Err(RowFault::Misspelled("the statement fails")),
@@ -83,21 +73,11 @@ fn step<S: Alter + Drop>(
     out: &mut String,
 ) -> Result<Database<S>, RowFault> {
     match line.word {
-        "attach" => {
-            let (database, fault) = attach(alloc, detached(database))?;
-            push_attached(alloc, out, fault)?;
-            Ok(database)
-        }
-        "sql" => {
-            push_line(out, "done")?;
-            run_sql(detached(database), line.text)
-        }
+        "attach" => attach(alloc, detached(database), out),
+        "sql" => run_sql(detached(database), line.text, out),
         _ => match database {
             Database::Open(_) => Err(RowFault::Misspelled("no tables were taken")),
-            Database::Attached(mut results) => {
-                push_call(alloc, &mut results, line, content, out)?;
-                Ok(Database::Attached(results))
-            }
+            Database::Attached(results) => ask(alloc, results, line, content, out),
         },
     }
 }
@@ -124,13 +104,8 @@ fn over_memory(alloc: Global, lines: &[Entry<'_>]) -> Result<String, RowFault> {
     let mut out = String::new(alloc);
     for (place, line) in lines.iter().enumerate() {
         if !is_content(line) && line.word != "memory" {
-            push_call(
-                alloc,
-                &mut results,
-                line,
-                content_at(lines, place),
-                &mut out,
-            )?;
+            let told = call(alloc, &mut results, line, content_at(lines, place));
+            push_told(&mut out, told)?;
         }
     }
     Ok(out)

@@ -1,7 +1,7 @@
 //! The claims of result files and the results of TAP streams, read whole and in pieces.
 
 use crate::escapes::unescaped;
-use crate::lines::{name_of, owned};
+use crate::lines::{formatted, joined, name_of, owned};
 use crate::row::{Row, RowFault};
 use kt_base::NoMemory;
 use kt_claim::{Claim, ClaimReader, Tap, TapReader, read_claim, read_tap};
@@ -26,8 +26,7 @@ impl Pieces for ClaimReader {
     }
 
     fn take(&mut self, piece: &[u8]) -> Result<(), NoMemory> {
-        self.feed(piece)?;
-        Ok(())
+        self.feed(piece)
     }
 
     fn told(self, alloc: Global) -> Result<String, RowFault> {
@@ -41,8 +40,7 @@ impl Pieces for TapReader {
     }
 
     fn take(&mut self, piece: &[u8]) -> Result<(), NoMemory> {
-        self.feed(piece)?;
-        Ok(())
+        self.feed(piece)
     }
 
     fn told(self, alloc: Global) -> Result<String, RowFault> {
@@ -55,7 +53,7 @@ fn claim_text(alloc: Global, claim: &Claim) -> Result<String, RowFault> {
     let name = name_of(alloc, claim)?;
     match claim {
         Claim::Missing | Claim::Unreadable | Claim::Passed => Ok(name),
-        Claim::Malformed(fault) => Ok(format!(in alloc; "{name}: {fault:?}")?),
+        Claim::Malformed(fault) => formatted(format!(in alloc; "{name}: {fault:?}")),
         Claim::Failed(reason)
         | Claim::Skipped(reason)
         | Claim::ExpectedFailure(reason)
@@ -63,12 +61,11 @@ fn claim_text(alloc: Global, claim: &Claim) -> Result<String, RowFault> {
         | Claim::ExpectedTimeout(reason)
         | Claim::ExpectedExit(None, reason)
         | Claim::ExpectedSignal(None, reason) => {
-            let reason = reason.as_str();
-            Ok(format!(in alloc; "{name}: {reason}")?)
+            joined(alloc, &[name.as_str(), ": ", reason.as_str()])
         }
         Claim::ExpectedExit(Some(number), reason) | Claim::ExpectedSignal(Some(number), reason) => {
             let reason = reason.as_str();
-            Ok(format!(in alloc; "{name}({number}): {reason}")?)
+            formatted(format!(in alloc; "{name}({number}): {reason}"))
         }
     }
 }
@@ -76,13 +73,12 @@ fn claim_text(alloc: Global, claim: &Claim) -> Result<String, RowFault> {
 /// The result of a stream.
 fn tap_text(alloc: Global, tap: &Tap) -> Result<String, RowFault> {
     match tap {
-        Tap::Invalid(fault) => Ok(format!(in alloc; "invalid: {fault:?}")?),
+        Tap::Invalid(fault) => formatted(format!(in alloc; "invalid: {fault:?}")),
         Tap::BailedOut => owned(alloc, "bailed out"),
-        Tap::SkipAll(reason) => {
-            let reason = reason.as_str();
-            Ok(format!(in alloc; "skipped: {reason}")?)
+        Tap::SkipAll(reason) => joined(alloc, &["skipped: ", reason.as_str()]),
+        Tap::Counted(failures, tests) => {
+            formatted(format!(in alloc; "{failures} of {tests} failed"))
         }
-        Tap::Counted(failures, tests) => Ok(format!(in alloc; "{failures} of {tests} failed")?),
     }
 }
 
@@ -111,12 +107,12 @@ fn agreed<R: Pieces>(alloc: Global, bytes: &[u8], whole: String) -> Result<Strin
     for cut in 0..cuts {
         let other = cut_text::<R>(alloc, bytes, cut)?;
         if other.as_str() != whole.as_str() {
-            return Ok(format!(in alloc; "cut at {cut}: {other}")?);
+            return formatted(format!(in alloc; "cut at {cut}: {other}"));
         }
     }
     let other = single_text::<R>(alloc, bytes)?;
     if other.as_str() != whole.as_str() {
-        return Ok(format!(in alloc; "byte by byte: {other}")?);
+        return joined(alloc, &["byte by byte: ", other.as_str()]);
     }
     Ok(whole)
 }

@@ -1,15 +1,35 @@
 //! The list of a program, asked of a driver of its own.
 
-use crate::lines::{name_of, owned, pairs_of, push_line};
+use crate::lines::{formatted, owned, pairs_of, push_line, push_told};
 use crate::row::{Row, RowFault};
-use crate::system_texts::calls;
 use kt_atflist::{ListBytes, Listing};
 use kt_base::{Interface, Text, Variables};
 use kt_child::{Driver, Os};
 use kt_metadata::Props;
-use kt_play::{Scene, ScriptedSystem};
+use kt_play::{Scene, ScriptedSystem, folded};
 use kt_suite::Program;
 use std::alloc::Global;
+
+/// What a word shows of a call, if it shows that call.
+fn call_of<'a>(shown: &str, line: &'a str) -> Option<&'a str> {
+    let (word, _) = line.split_once(' ').unwrap_or((line, ""));
+    match shown {
+        "words" => Some(word),
+        "watching" if !matches!(word, "poll" | "kill" | "pause") => None,
+        _ => Some(line),
+    }
+}
+
+/// The calls of a log, folded: all of `calls`, their first `words`, or those for `watching` children.
+pub fn calls(alloc: Global, shown: &str, log: &str) -> Result<String, RowFault> {
+    let mut lines = Vec::new(alloc);
+    for line in log.lines() {
+        if let Some(call) = call_of(shown, line) {
+            lines.push(call)?;
+        }
+    }
+    Ok(folded(alloc, &lines)?)
+}
 
 /// A system that was asked for the list of a program, and what came of it; nothing if there was no driver.
 #[derive(Drop)]
@@ -44,14 +64,13 @@ fn asked_for_list<O: Os + Drop>(
 fn listing_text(alloc: Global, listing: &Option<Listing>) -> Result<String, RowFault> {
     match listing {
         None => owned(alloc, "no driver"),
-        Some(Listing::Refused(cause)) => Ok(format!(in alloc; "Refused({cause:?})")?),
+        Some(Listing::Refused(cause)) => formatted(format!(in alloc; "Refused({cause:?})")),
         Some(Listing::Ended(outcome, ListBytes::Read(bytes))) => {
             let length = bytes.len();
-            Ok(format!(in alloc; "{outcome:?}, {length} bytes")?)
+            formatted(format!(in alloc; "{outcome:?}, {length} bytes"))
         }
         Some(Listing::Ended(outcome, bytes)) => {
-            let bytes = name_of(alloc, bytes)?;
-            Ok(format!(in alloc; "{outcome:?}, {bytes}")?)
+            formatted(format!(in alloc; "{outcome:?}, {bytes:?}"))
         }
     }
 }
@@ -82,13 +101,20 @@ fn listed_by<'a>(
     Ok(asked_for_list(alloc, os, &base, source, &program, &variables))
 }
 
-/// The words of the calls that ask for a list, and what came of it; with `show spawns` what was started, too.
-pub fn answer(alloc: Global, row: &Row<'_>, scene: &Scene<'_>) -> Result<String, RowFault> {
-    let listed = listed_by(alloc, row, scene)?;
+fn shown(
+    alloc: Global,
+    row: &Row<'_>,
+    listed: &Listed<ScriptedSystem<'_>>,
+) -> Result<String, RowFault> {
     let mut out = calls(alloc, "words", listed.os.log()?)?;
     if row.text("show") == Some("spawns") {
         push_line(&mut out, listed.os.spawned().trim())?;
     }
-    push_line(&mut out, listing_text(alloc, &listed.listing)?.as_str())?;
+    push_told(&mut out, listing_text(alloc, &listed.listing))?;
     Ok(out)
+}
+
+/// The words of the calls that ask for a list, and what came of it; with `show spawns` what was started, too.
+pub fn answer(alloc: Global, row: &Row<'_>, scene: &Scene<'_>) -> Result<String, RowFault> {
+    shown(alloc, row, &listed_by(alloc, row, scene)?)
 }

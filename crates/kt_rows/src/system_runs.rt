@@ -1,6 +1,7 @@
 ghost use Rattle.std.specs.Prelude.{IfOk};
 ghost use Rattle.kt_sched.specs.Plan.{IsPlan, IsWidth};
 
+use crate::escapes::unescaped;
 use crate::lines::pairs_of;
 use crate::numbers::{limit_of, number};
 use crate::row::{Row, RowFault};
@@ -22,17 +23,6 @@ pub struct Driven<O: Drop> {
 /// What a run over a scripted system leaves.
 pub type Ran<'a> = Driven<ScriptedSystem<'a>>;
 
-fn is_short(fault: RunFault) -> bool {
-    matches!(
-        fault,
-        RunFault::NoMemory(_) | RunFault::SinkFailed(SinkFault::Memory)
-    )
-}
-
-fn fault_text(is_short: bool) -> Option<&'static str> {
-    Some(if is_short { "out of memory" } else { "failed" })
-}
-
 /// Runs a plan over a driver of its own.
 fn drive<O: Os + Drop>(
     alloc: Global,
@@ -51,13 +41,19 @@ fn drive<O: Os + Drop>(
         Err((fault, os)) => Driven {
             os,
             entries: sink.entries,
-            fault: fault_text(matches!(fault, DriverFault::NoMemory(_))),
+            fault: Some(match fault {
+                DriverFault::NoMemory(_) => "out of memory",
+                DriverFault::NoWorkDirectory => "failed",
+            }),
         },
         Ok(driver) => {
             let mut driver = driver;
             let fault = match run_driver(alloc, plan, width, &mut driver, &mut sink) {
                 Ok(_) => None,
-                Err(fault) => fault_text(is_short(fault)),
+                Err(RunFault::NoMemory(_) | RunFault::SinkFailed(SinkFault::Memory)) => {
+                    Some("out of memory")
+                }
+                Err(_fault) => Some("failed"),
             };
             Driven {
                 os: driver.close(),
@@ -74,10 +70,17 @@ fn plan_of(alloc: Global, row: &Row<'_>) -> Result<Items<Job>, RowFault>
 {
     let limit = limit_of(row.text("limit"))?;
     let variables = pairs_of(alloc, row.entries.as_slice(), "variable")?;
-    let letters = row.bytes(alloc, "plan")?.unwrap_or(Vec::new(alloc));
+    let letters = unescaped(alloc, row.text("plan").unwrap_or(""))?;
     let program = row.text("program").unwrap_or("d/p");
     let plan = cases_of(alloc, program, letters.as_slice(), limit, &variables)?;
     Ok(plan)
+}
+
+/// The root of work directories, and the directory of the Kyuafile.
+fn directories_of(alloc: Global, row: &Row<'_>) -> Result<(Text, Text), RowFault> {
+    let base = Text::from_str(alloc, row.text("base").unwrap_or(""))?;
+    let source = Text::from_str(alloc, row.text("source").unwrap_or("/t"))?;
+    Ok((base, source))
 }
 
 /// Runs the plan of a row over a scripted system: what `plan_of` reads, and `width N`, `failing PUT`, `base PATH` and
@@ -89,8 +92,7 @@ pub fn run_plan<'a>(
 ) -> Result<Ran<'a>, RowFault> {
     let width = width_of(row.text("width"))?;
     let failing = number(row.text("failing").unwrap_or("0"))? as usize;
-    let base = Text::from_str(alloc, row.text("base").unwrap_or(""))?;
-    let source = Text::from_str(alloc, row.text("source").unwrap_or("/t"))?;
+    let (base, source) = directories_of(alloc, row)?;
     let plan = plan_of(alloc, row)?;
     let sink = MemorySink::new(alloc, failing);
     let os = ScriptedSystem::new(alloc, scene);

@@ -1,22 +1,39 @@
 use crate::entry_texts::entries_text;
 use crate::failures::each_failing;
-use crate::lines::{owned, push_line};
+use crate::lines::{formatted, owned, push_line, push_told};
 use crate::row::{Row, RowFault};
 use crate::scenes::scene_of;
 use crate::system_runs::{Ran, run_plan};
-use crate::system_texts::{calls, totals};
-use crate::{readers, system_lists};
+use crate::{readers, system_lists, verdicts};
+use kt_base::{Entry, Kind};
 use kt_play::Scene;
 use std::alloc::Global;
+
+/// How many cases passed, and the verdict of the first that didn't.
+fn totals(alloc: Global, entries: &[Entry]) -> Result<String, RowFault> {
+    let passed = entries
+        .iter()
+        .filter(|entry| entry.verdict.kind() == Kind::Passed)
+        .count();
+    let all = entries.len();
+    let other = entries
+        .iter()
+        .find(|entry| entry.verdict.kind() != Kind::Passed);
+    let Some(entry) = other else {
+        return formatted(format!(in alloc; "{passed} of {all} passed"));
+    };
+    let verdict = verdicts::shown(alloc, &entry.verdict)?;
+    formatted(format!(in alloc; "{passed} of {all} passed, {verdict}"))
+}
 
 /// What is shown of a run by a word.
 fn shown_by(alloc: Global, word: &str, run: &Ran<'_>) -> Result<String, RowFault> {
     match word {
-        "calls" | "words" | "watching" => calls(alloc, word, run.os.log()?),
+        "calls" | "words" | "watching" => system_lists::calls(alloc, word, run.os.log()?),
         "spawns" => owned(alloc, run.os.spawned().trim()),
         "spawned" => {
             let count = run.os.spawned().lines().count();
-            Ok(format!(in alloc; "{count} spawned")?)
+            formatted(format!(in alloc; "{count} spawned"))
         }
         "totals" => totals(alloc, run.entries.as_slice()),
         _ => entries_text(alloc, word, run.entries.as_slice()),
@@ -27,7 +44,7 @@ fn shown_by(alloc: Global, word: &str, run: &Ran<'_>) -> Result<String, RowFault
 fn shown(alloc: Global, row: &Row<'_>, run: &Ran<'_>) -> Result<String, RowFault> {
     let mut out = String::new(alloc);
     for word in row.text("show").unwrap_or("entries").split_whitespace() {
-        push_line(&mut out, shown_by(alloc, word, run)?.as_str())?;
+        push_told(&mut out, shown_by(alloc, word, run))?;
     }
     if let Some(fault) = run.fault {
         push_line(&mut out, fault)?;
@@ -48,10 +65,7 @@ fn plan(alloc: Global, row: &Row<'_>, scene: Scene<'_>) -> Result<String, RowFau
 /// `reader`.
 pub fn answer(alloc: Global, row: &Row<'_>) -> Result<String, RowFault> {
     let scene = scene_of(alloc, row)?;
-    let Some(first) = row.entries.first() else {
-        return Err(RowFault::Misspelled("the row is empty"));
-    };
-    match first.word {
+    match row.first()?.word {
         "plan" => plan(alloc, row, scene),
         "list" => system_lists::answer(alloc, row, &scene),
         "reader" => readers::answer(alloc, row),
