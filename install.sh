@@ -60,7 +60,7 @@ sources() {
     done
 }
 
-# directories PATH: the directories above a path, the outermost first, each with a slash behind it.
+# directories PATH: the directories above a path, the outermost first, each with a slash after it.
 directories() {
     case $1 in
         */*) directories "${1%/*}"; echo "${1%/*}/" ;;

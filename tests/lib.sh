@@ -112,7 +112,7 @@ tap_program() {
 header='Content-Type: application/X-atf-tp; version="1"\n\n'
 
 # atf_program NAME LIST: makes an ATF program of standard input, a script of sh that finds the name of the case in name, its
-# result file in result, and its own directory in source. It lists what the format LIST prints behind the header.
+# result file in result, and its own directory in source. It lists what the format LIST prints after the header.
 atf_program() {
     # shellcheck disable=SC2059
     printf "$header$2" > "$1.list"
@@ -132,7 +132,7 @@ P
     } | program "$1"
 }
 
-# tree LINE..: makes a Kyuafile of these lines, behind the two that name the suite s.
+# tree LINE..: makes a Kyuafile of these lines, after the two that name the suite s.
 tree() {
     printf '%s\n' 'syntax(2)' "test_suite('s')" "$@" > Kyuafile
 }

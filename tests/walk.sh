@@ -1,6 +1,6 @@
 # Takes the displays out of a document, runs the commands that it shows, and compares what they print with what it shows. After lib.sh.
 
-# displays PAGE: the displays of a manual page, each behind a line `==`, as they are printed.
+# displays PAGE: the displays of a manual page, each after a line `==`, as they are printed.
 displays() {
     awk '/^\.Bd/ { inside = 1; print "=="; next } /^\.Ed/ { inside = 0 } inside; /^\.Dl / { print "=="; print substr($0, 5) }' "$1" |
         sed 's/\\e/\\/g'
@@ -23,7 +23,7 @@ recipe() {
     chmod +x "$2"
 }
 
-# walk FILE: FILE has commands, on lines that begin with `$ `, each with its output behind it, or without any if that isn't shown.
+# walk FILE: FILE has commands, on lines that begin with `$ `, each with its output after it, or without any if that isn't shown.
 # They run in the working directory, one after the other, with kyua and ./kyua.sh for the runner that is tested. Times and moments
 # are left out; so is how the cases of lines_test went, which need atf-sh, and a command of a program that isn't there.
 walk() {

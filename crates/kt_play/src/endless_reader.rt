@@ -1,7 +1,7 @@
 use std::io;
 use std::io::{ErrorKind, Read};
 
-/// A file that never ends, which gives so many bytes at a time, and fails at its reads behind some.
+/// A file that never ends: it gives this many bytes at a time, and its reads fail after some.
 #[derive(Drop)]
 pub struct EndlessReader {
     pub piece: usize,

@@ -63,7 +63,7 @@ fn push_block(
     Ok(())
 }
 
-/// Lines with commas between them. What stands there several times one after the other is told
+/// Lines with commas between them. What stands there several times one after the other is written
 /// once: `poll 0 x100`, or `(poll 0, pause) x99`.
 pub fn folded(alloc: Global, lines: &[&str]) -> Result<String, NoMemory> {
     let mut out = String::new(alloc);

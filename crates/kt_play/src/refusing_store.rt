@@ -18,7 +18,7 @@ pub fn failed_statement(alloc: Global) -> Option<FailedStatement> {
     }
 }
 
-/// Runs in memory, of which some calls are refused.
+/// Runs in memory, some of whose calls are refused.
 #[derive(Drop)]
 pub struct RefusingStore {
     runs: MemRuns,

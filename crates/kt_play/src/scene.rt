@@ -1,7 +1,7 @@
 use kt_base::NoMemory;
 use kt_child::Polled;
 
-/// How a child lives: so often it is told to be running, and then how it ended.
+/// How a child lives: how often it is reported to be running, and then how it ended.
 #[derive(Clone, Copy, Debug, PartialEq, Eq)]
 pub struct Life {
     pub running: u32,
@@ -36,9 +36,9 @@ pub struct Scene<'a> {
     /// Why memory runs out, if they fail for that.
     pub shortage: Option<NoMemory>,
     pub part_fault: PartFault,
-    /// The moments that are told, in milliseconds since 1970 in UTC.
+    /// The moments that are answered, in milliseconds since 1970 in UTC.
     pub moments: Vec<u64>,
-    /// How much later each moment is behind those.
+    /// How much later each moment after those is.
     pub step: u64,
 }
 

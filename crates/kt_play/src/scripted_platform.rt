@@ -25,7 +25,7 @@ pub struct ScriptedPlatform {
 }
 
 impl ScriptedPlatform {
-    /// A platform with these results in its file, of which no call fails.
+    /// A platform with these results in its file; none of its calls fails.
     pub fn new(alloc: Global, results: RefusingStore) -> ScriptedPlatform {
         ScriptedPlatform {
             alloc,

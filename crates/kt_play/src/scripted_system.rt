@@ -16,7 +16,7 @@ pub struct ScriptedSystem<'a> {
     calls: u32,
     /// The children that were started, and how often each has answered that it runs.
     children: Vec<(Child, u32)>,
-    /// How many moments of the scene were told, and which was last.
+    /// How many moments of the scene were answered, and which was last.
     told: usize,
     moment: u64,
     log: String,
@@ -212,7 +212,7 @@ impl<'a> ScriptedSystem<'a> {
         call < first || below <= call
     }
 
-    /// Writes the line of the next call, and answers whether it is done.
+    /// Writes the line of the next call, and returns whether it is done.
     fn ask(&mut self, word: &str, about: &str) -> Result<(), OsFault> {
         let done = self.goes();
         let noted = note(&mut self.log, word, about, done);

@@ -12,9 +12,9 @@ use std::alloc::Global;
 pub struct ScriptedWorld<'a, L> {
     alloc: Global,
     stage: &'a Stage<'a>,
-    /// How many moments were told.
+    /// How many moments were answered.
     told: usize,
-    /// The place behind the last list that was told.
+    /// The place after the last list that was answered.
     listed: usize,
     pub launcher: L,
 }
@@ -68,7 +68,7 @@ impl<'a, L: Launcher> ScriptedWorld<'a, L> {
         }
     }
 
-    /// The place of the next list of a program: the first behind the last one that was told, or else the first of all.
+    /// The place of the next list of a program: the first after the last one that was answered, or else the first of all.
     fn place_of_list(&self, program: &Text) -> Option<usize> {
         let mut first = None;
         for (place, listed) in self.stage.lists.iter().enumerate() {

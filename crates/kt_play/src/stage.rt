@@ -25,6 +25,6 @@ pub struct Stage<'a> {
     pub memory: Option<u64>,
     /// Free disk space, in bytes.
     pub disk: Option<u64>,
-    /// The moments that are told, in milliseconds since 1970 in UTC; the last one stays.
+    /// The moments that are answered, in milliseconds since 1970 in UTC; the last one stays.
     pub moments: Vec<u64>,
 }

@@ -1,5 +1,5 @@
 use crate::lines::{formatted, push_all, push_line};
-use crate::listings::{behind_header, listing_of};
+use crate::listings::{after_header, listing_of};
 use crate::numbers::append_numbered;
 use crate::properties::{push_props, set_known};
 use crate::row::{Row, RowFault, due};
@@ -36,14 +36,14 @@ fn shown(alloc: Global, row: &Row<'_>, found: Items<CaseDef>) -> Result<String, 
     Ok(out)
 }
 
-/// The text of a list: `list TEXT`, or `blocks TEXT` behind the header and an empty line, and then `numbered COUNT
+/// The text of a list: `list TEXT`, or `blocks TEXT` after the header and an empty line, and then `numbered COUNT
 /// TEXT`.
 fn list_text(alloc: Global, row: &Row<'_>) -> Result<Vec<u8>, RowFault> {
     if let Some(text) = row.bytes(alloc, "list")? {
         return Ok(text);
     }
     let blocks = due(row.text("blocks"), "no list")?;
-    let mut text = behind_header(alloc, blocks)?;
+    let mut text = after_header(alloc, blocks)?;
     append_numbered(alloc, &mut text, row)?;
     Ok(text)
 }

@@ -32,7 +32,7 @@ fn part(alloc: Global, answer: &[u8], from: usize) -> Result<String, RowFault> {
     formatted(String::from_utf8_lossy(alloc, part))
 }
 
-/// Where a row is, with the answers that are due and told from the first line that differs.
+/// Where a row is, with the wanted answer and the given one from the first line that differs.
 fn mismatch_lines(
     alloc: Global,
     file: &str,

@@ -10,7 +10,7 @@ use kt_cli::Exit;
 use kt_play::{Scene, ScriptedWriter, WriteFault};
 use std::alloc::Global;
 
-/// The most writes that are let fail in turn.
+/// The most writes that fail in turn.
 const LIMIT: u64 = 10_000;
 
 /// What commands leave.
@@ -22,7 +22,7 @@ struct Played {
     runs: String,
 }
 
-/// Does the commands of a row, of whose writes one fails, counted from 1.
+/// Does the commands of a row; one of their writes fails, counted from 1.
 fn play(alloc: Global, row: &Row<'_>, scene: &Scene<'_>, failing: u64) -> Result<Played, RowFault> {
     let at_most = number(row.text("takes").unwrap_or("4096"))? as usize;
     let mut page = writer(alloc, at_most, failing, WriteFault::Broken);
@@ -57,7 +57,7 @@ fn wrong(whole: &Played, cut: &Played) -> Result<Option<&'static str>, RowFault>
     }
 }
 
-/// Lets a write fail and appends what is wrong then. Answers whether there is such a write.
+/// Makes a write fail, and appends what is wrong then. Returns whether there is such a write.
 fn push_failing(
     alloc: Global,
     out: &mut String,
@@ -79,7 +79,7 @@ fn push_failing(
     Ok(true)
 }
 
-/// Lets each write fail in turn, behind those before it. What is wrong then is a line.
+/// Makes each write fail in turn. What is wrong then is a line.
 fn each_failing(alloc: Global, row: &Row<'_>, scene: &Scene<'_>) -> Result<String, RowFault> {
     let whole = play(alloc, row, scene, 0)?;
     let mut out = shown(alloc, row, &whole)?;

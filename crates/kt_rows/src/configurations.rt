@@ -1,5 +1,5 @@
 use crate::escapes::text_of;
-use crate::lines::{formatted, owned, pair_of, push_behind, push_told};
+use crate::lines::{formatted, owned, pair_of, push_separated, push_told};
 use crate::numbers::append_numbered;
 use crate::row::{Entry, Row, RowFault, halves};
 use kt_base::Text;
@@ -17,7 +17,7 @@ fn file_of(alloc: Global, row: &Row<'_>) -> Result<Vec<u8>, RowFault> {
 fn all_variables(alloc: Global, variables: &SuiteVariables) -> Result<String, RowFault> {
     let mut out = String::new(alloc);
     for variable in variables.copy()?.as_slice() {
-        push_behind(
+        push_separated(
             &mut out,
             " ",
             &[variable.name.as_str(), "=", variable.value.as_str()],

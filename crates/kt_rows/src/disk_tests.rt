@@ -12,7 +12,7 @@ use kt_store::{ResultStore, Results, StoreFault};
 use sqlite_disk::{Crash, Files, Memory};
 use std::alloc::Global;
 
-/// The most calls of the disk that are let fail in turn.
+/// The most calls of the disk that fail in turn.
 const LIMIT: u64 = 400;
 
 /// What ends the output of a command whose store failed.
@@ -41,7 +41,7 @@ enum Stop {
     /// Before it, as its tables were taken, which leaves a schema.
     Attach(i64),
     Begin,
-    /// In the put behind so many others.
+    /// In the put after this many others.
     Put(usize),
     Finish,
     Nowhere,
@@ -49,7 +49,7 @@ enum Stop {
     Wrong(&'static str),
 }
 
-/// Where the store stopped a command, by what was printed and spawned. A run has so many entries.
+/// Where the store stopped a command, by what was printed and spawned. Its run has this many entries.
 fn stop_of(whole: &str, cut: &Tested, entries: usize) -> Stop {
     let Some(front) = cut.page.as_str().strip_suffix(LINE) else {
         return Stop::Wrong("the line is missing");
@@ -70,7 +70,7 @@ fn stop_of(whole: &str, cut: &Tested, entries: usize) -> Stop {
     Stop::Finish
 }
 
-/// A command whose disk let it go on, and what the store told before it and behind it.
+/// A command whose disk never failed, and what the store held before it and after it.
 #[derive(Drop)]
 struct Whole {
     tested: Tested,
@@ -141,8 +141,8 @@ fn push_stop(alloc: Global, out: &mut String, stop: Stop) -> Result<(), RowFault
     push_all(out, &[text?.as_str()])
 }
 
-/// A row whose commands are done over disks of which the log fails or the database file, with a store that may be of
-/// schema 1 and a log of so many frames.
+/// A row whose commands are done over disks on which the log or the database file fails, with a store that may be of
+/// schema 1 and a log of this many frames.
 #[derive(Clone, Copy)]
 struct Trial<'a> {
     alloc: Global,
@@ -154,7 +154,7 @@ struct Trial<'a> {
 }
 
 impl Trial<'_> {
-    /// Does the commands over a store, and tells how the last one ended.
+    /// Does the commands over a store, and returns how the last one ended.
     fn done_over<R: ResultStore>(self, results: &mut R) -> Result<Tested, RowFault> {
         let mut page = ScriptedWriter::new(self.alloc, 0);
         let (exits, os) = row_over(self.alloc, self.row, self.scene, results, &mut page)?;
@@ -200,7 +200,7 @@ impl Trial<'_> {
         )
     }
 
-    /// What the store tells before the commands.
+    /// What the store holds before the commands.
     fn before(self) -> Result<Vec<String>, RowFault> {
         let (_, told) = left_by(self.alloc, self.files()?, self.frames)?;
         Ok(told)
@@ -217,7 +217,7 @@ impl Trial<'_> {
         })
     }
 
-    /// Where a disk stops the command that fails after so many calls; nothing if it doesn't open.
+    /// Where a disk that fails after this many calls stops the command; nothing if the store doesn't open.
     fn stop_at(self, whole: &Whole, calls: u64) -> Result<Option<Stop>, RowFault> {
         match self.tried(fused(self.files()?, self.in_log, calls))? {
             Some(cut) => Ok(Some(whole.judged(&cut))),
@@ -245,8 +245,8 @@ impl Trial<'_> {
     }
 }
 
-/// Commands of which the last is `test`, over a store whose disk fails at each call in turn until none is refused: where
-/// it was stopped, each place once. `disk log` or `disk database`, `frames N`, and `old` for a store of schema 1.
+/// Commands, the last of them `test`, over a store whose disk fails at each call in turn until none is refused: where it
+/// was stopped, each place once. `disk log` or `disk database`, `frames N`, and `old` for a store of schema 1.
 pub fn answer(alloc: Global, row: &Row<'_>, disk: &str) -> Result<String, RowFault> {
     let scene = scene_of(alloc, row)?;
     let trial = Trial {

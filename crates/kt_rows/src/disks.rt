@@ -19,7 +19,7 @@ const SCHEMA_1: [&str; 6] = [
     "INSERT INTO entries VALUES (1, 0, 'a', 'main', 3, 'x<y', 1700000000123, 12, X'68690A', X'', X'', X'')",
 ];
 
-/// Opens files whose log is copied into the database file once it has so many frames.
+/// Opens files whose log is copied into the database file once it has this many frames.
 pub fn open<D: Disk + Drop>(
     alloc: Global,
     files: Files<D>,
@@ -65,7 +65,7 @@ pub fn old_files(alloc: Global, frames: usize) -> Option<Files<Memory>> {
     }
 }
 
-/// The files of which the log or the database file fails after so many calls.
+/// Files of which the log or the database file fails after this many calls.
 pub fn fused<D: Disk>(files: Files<D>, in_log: bool, calls: u64) -> Files<Fuse<D>> {
     let (log, db) = if in_log {
         (calls, u64::MAX)
@@ -93,7 +93,7 @@ fn schema_of<S: Alter>(conn: &mut Connection<S>) -> i64 {
     row.get(0).unwrap_or(0)
 }
 
-/// The schema of the tables of a store that is opened again, and all that it tells.
+/// The schema of the tables of a store that is opened again, and all that it holds.
 fn told_by<S: Alter + Drop>(
     alloc: Global,
     mut conn: Connection<S>,
@@ -108,7 +108,7 @@ fn told_by<S: Alter + Drop>(
     }
 }
 
-/// What a crash leaves of files: the schema of their tables, and all that a store then tells.
+/// What a crash leaves of files: the schema of their tables, and all that a store then holds.
 pub fn left_by<D: Crash + Drop>(
     alloc: Global,
     files: Files<D>,

@@ -1,6 +1,6 @@
 //! Entries as rows have them.
 
-use crate::lines::{formatted, joined, push_behind, push_line};
+use crate::lines::{formatted, joined, push_line, push_separated};
 use crate::row::RowFault;
 use crate::verdicts;
 use kt_base::Entry;
@@ -31,13 +31,13 @@ fn outputs_text(alloc: Global, entry: &Entry) -> Result<String, RowFault> {
     Ok(text)
 }
 
-/// The pairs of an entry, a line each behind its position.
+/// The pairs of an entry, a line each after its position.
 fn pairs_text(alloc: Global, entry: &Entry) -> Result<String, RowFault> {
     let position = entry.position.to_string(alloc)?;
     let mut text = String::new(alloc);
     for pair in entry.meta.as_slice() {
         let (name, value) = (pair.name.as_str(), pair.value.as_str());
-        push_behind(&mut text, "\n", &[position.as_str(), " ", name, "=", value])?;
+        push_separated(&mut text, "\n", &[position.as_str(), " ", name, "=", value])?;
     }
     Ok(text)
 }

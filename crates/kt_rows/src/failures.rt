@@ -32,7 +32,7 @@ fn made(log: &str) -> usize {
         .count()
 }
 
-/// Tells of a case that has other marks than this one.
+/// Appends a case that has other marks than this one.
 fn push_change(
     alloc: Global,
     out: &mut String,
@@ -52,7 +52,7 @@ fn push_change(
     )
 }
 
-/// Tells what a failing call changes: the cases with other marks, a kill, and directories that were not removed.
+/// Appends what a failing call changes: the cases with other marks, a kill, and directories that were not removed.
 fn push_changes(
     alloc: Global,
     out: &mut String,
@@ -76,7 +76,7 @@ fn push_changes(
     )
 }
 
-/// Tells what a failing call changes, or how many calls there are before it. Answers whether there is such a call.
+/// Appends what a failing call changes, or how many calls there are before it. Returns whether there is such a call.
 fn push_failing(
     alloc: Global,
     out: &mut String,

@@ -1,5 +1,5 @@
 use crate::escapes::text_of;
-use crate::lines::{formatted, joined, owned, push_behind, push_told, push_word};
+use crate::lines::{formatted, joined, owned, push_separated, push_told, push_word};
 use crate::numbers::numbered;
 use crate::row::{Entry, Row, RowFault, halves, push_made};
 use kt_suite::{Filter, FilterFault, Item, Selection, check_disjoint, select};
@@ -48,7 +48,7 @@ fn read_line(alloc: Global, raw: &str) -> Result<String, RowFault> {
 }
 
 fn push_answer(out: &mut String, answer: bool) -> Result<(), RowFault> {
-    push_behind(out, " ", &[if answer { "yes" } else { "no" }])
+    push_separated(out, " ", &[if answer { "yes" } else { "no" }])
 }
 
 /// Positions with spaces between them.

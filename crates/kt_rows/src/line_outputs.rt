@@ -21,7 +21,7 @@ fn pieces_of(alloc: Global, row: &Row<'_>) -> Result<Vec<Vec<u8>>, RowFault> {
     Ok(pieces)
 }
 
-/// Gives pieces to lines before a writer, also behind a failure, and perhaps flushes them: whether all went well.
+/// Gives pieces to lines before a writer, also after a failure, and perhaps flushes them: whether all went well.
 fn given<W: Write>(out: &mut W, pieces: &[Vec<u8>], by_line: bool, flushes: bool) -> bool {
     let mut lines = LineOutput::new(out, by_line);
     let mut well = true;
@@ -36,7 +36,7 @@ fn given<W: Write>(out: &mut W, pieces: &[Vec<u8>], by_line: bool, flushes: bool
     well
 }
 
-/// Appends what is wrong where a write fails in each way, behind so many others.
+/// Appends what is wrong if a write fails in each way, after this many others.
 fn push_wrong(
     alloc: Global,
     out: &mut String,

@@ -12,27 +12,27 @@ pub fn push_all(out: &mut String, parts: &[&str]) -> Result<(), RowFault> {
     Ok(())
 }
 
-/// Appends texts: behind others, with a separator before them.
-pub fn push_behind(out: &mut String, separator: &str, parts: &[&str]) -> Result<(), RowFault> {
+/// Appends texts, after a separator unless they are the first.
+pub fn push_separated(out: &mut String, separator: &str, parts: &[&str]) -> Result<(), RowFault> {
     if !out.is_empty() {
         out.push_str(separator)?;
     }
     push_all(out, parts)
 }
 
-/// Appends a line: behind the first, with a newline before it.
+/// Appends a line, after a newline unless it is the first.
 pub fn push_line(out: &mut String, line: &str) -> Result<(), RowFault> {
-    push_behind(out, "\n", &[line])
+    push_separated(out, "\n", &[line])
 }
 
-/// Appends a line that was told, if it was.
+/// Appends a line if it was made.
 pub fn push_told(out: &mut String, line: Result<String, RowFault>) -> Result<(), RowFault> {
     push_line(out, line?.as_str())
 }
 
-/// Appends a word that was told, if it was: behind others, with a space before it.
+/// Appends a word if it was made, after a space unless it is the first.
 pub fn push_word(out: &mut String, word: Result<String, RowFault>) -> Result<(), RowFault> {
-    push_behind(out, " ", &[word?.as_str()])
+    push_separated(out, " ", &[word?.as_str()])
 }
 
 /// A text for which the allocator was asked. It is for arms of a `match`: each `?` there makes the proof longer.

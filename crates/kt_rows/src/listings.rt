@@ -9,8 +9,8 @@ use std::alloc::Global;
 /// The header of a list of ATF cases, and an empty line.
 const HEADER: &str = "Content-Type: application/X-atf-tp; version=\"1\"\n\n";
 
-/// The blocks of a list behind its header and an empty line.
-pub fn behind_header(alloc: Global, blocks: &str) -> Result<Vec<u8>, RowFault> {
+/// The blocks of a list after its header and an empty line.
+pub fn after_header(alloc: Global, blocks: &str) -> Result<Vec<u8>, RowFault> {
     let mut text = HEADER.as_bytes().to_vec(alloc)?;
     append(alloc, &mut text, blocks)?;
     Ok(text)
@@ -25,7 +25,7 @@ fn ended_of<'a>(alloc: Global, text: &'a str) -> Result<(&'a str, ListBytes), Ro
         return Ok((ending, ListBytes::TooLong));
     }
     if let Some((ending, blocks)) = text.split_once(" blocks ") {
-        let list = behind_header(alloc, blocks)?;
+        let list = after_header(alloc, blocks)?;
         return Ok((ending, ListBytes::Read(Bytes::from_vec(list))));
     }
     let (ending, list) = halves(text, " list ", "an ending stands before a list")?;

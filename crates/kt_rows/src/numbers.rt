@@ -30,7 +30,7 @@ pub fn numbers(alloc: Global, text: &str) -> Result<Vec<u64>, RowFault> {
     Ok(numbers)
 }
 
-/// The texts of `COUNT TEXT`: the text so often, with the number in place of each `#`, from 0.
+/// The texts of `COUNT TEXT`: the text this many times, with the number in place of each `#`, from 0.
 pub fn numbered(alloc: Global, raw: &str) -> Result<Vec<String>, RowFault> {
     let (times, text) = halves(raw, " ", "a text stands after a number")?;
     let mut texts = Vec::new(alloc);

@@ -50,7 +50,7 @@ struct Pages {
     errors: ScriptedWriter,
 }
 
-/// The pages of a row: `write N` fails on standard output with all behind it, and so does its `flush fails`; `error N`
+/// The pages of a row: `write N` and all after it fail on standard output, and so does its `flush fails`; `error N`
 /// fails on standard error.
 fn pages_of(alloc: Global, row: &Row<'_>) -> Result<Pages, RowFault> {
     let written = number(row.text("write").unwrap_or("0"))?;
@@ -61,7 +61,7 @@ fn pages_of(alloc: Global, row: &Row<'_>) -> Result<Pages, RowFault> {
     Ok(Pages { out, errors })
 }
 
-/// Carries out a command line, as a process of its own does. Answers its exit status.
+/// Carries out a command line, as a process of its own does, and returns its exit status.
 fn carried<R: Files<File = File> + Clock + AllocGlobal, W: Write, E: Write>(
     rt: &R,
     scene: &Scene<'_>,
@@ -76,7 +76,7 @@ fn carried<R: Files<File = File> + Clock + AllocGlobal, W: Write, E: Write>(
 }
 
 /// Carries out the command lines of a row, one after the other: `line WORDS`, or `words no-memory` for one that is
-/// none. Answers how they ended.
+/// none. Returns how they ended.
 fn exits_text<R: Files<File = File> + Clock + AllocGlobal>(
     rt: &R,
     row: &Row<'_>,
@@ -123,7 +123,7 @@ fn shown(
     let end = if text.is_empty() { "nothing\n" } else { "\n" };
     push_all(&mut text, &[end, written.as_str(), exits])?;
     if row.text("show") == Some("runs") {
-        // Without their moments, which the clock of this process told.
+        // Without their moments, which are those of this process's clock.
         let runs = match &mut platform.results {
             Some(results) => runs_text(alloc, results, false),
             None => owned(alloc, "open"),

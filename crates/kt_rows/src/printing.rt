@@ -45,8 +45,8 @@ impl Printed<'_> {
     }
 }
 
-/// A writer that takes so many bytes at a time, and of whose writes one fails so, counted from 1, with all behind it; 0
-/// for none.
+/// A writer that takes this many bytes at a time. One of its writes, counted from 1, fails in this way, and all after
+/// it; 0 for none.
 pub fn writer(alloc: Global, at_most: usize, failing: u64, fault: WriteFault) -> ScriptedWriter {
     let mut writer = ScriptedWriter::new(alloc, failing);
     writer.at_most = at_most;
@@ -54,7 +54,7 @@ pub fn writer(alloc: Global, at_most: usize, failing: u64, fault: WriteFault) ->
     writer
 }
 
-/// What is wrong with a writer of whose writes one failed.
+/// What is wrong with a writer after one of its writes failed.
 pub fn wrong(
     whole: &ScriptedWriter,
     cut: &ScriptedWriter,
@@ -65,7 +65,7 @@ pub fn wrong(
         return Ok(Some("all went well"));
     }
     if cut.writes != cut.failing {
-        return Ok(Some("something was written behind it"));
+        return Ok(Some("something was written after it"));
     }
     if kept.len() >= whole.len() || !whole.starts_with(kept) {
         return Ok(Some("no beginning was written"));
@@ -93,7 +93,7 @@ fn wrong_where_cut(
     Ok(None)
 }
 
-/// What is wrong with a text before a writer that takes so many bytes at a time.
+/// What is wrong with a text before a writer that takes this many bytes at a time.
 fn wrong_where_slow(
     alloc: Global,
     printed: Printed<'_>,

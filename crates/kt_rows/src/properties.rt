@@ -1,5 +1,5 @@
 use crate::escapes::text_of;
-use crate::lines::{formatted, owned, pair_of, push_all, push_behind, push_told};
+use crate::lines::{formatted, owned, pair_of, push_all, push_separated, push_told};
 use crate::numbers::{numbered, set_number};
 use crate::row::{Entry, Row, RowFault};
 use crate::verdicts::reason_text;
@@ -129,7 +129,7 @@ impl Example {
     fn listed(&self) -> Result<String, RowFault> {
         let mut out = String::new(self.alloc);
         for pair in self.listing()?.as_slice() {
-            push_behind(
+            push_separated(
                 &mut out,
                 "\n",
                 &[pair.name.as_str(), " = ", pair.value.as_str()],

@@ -7,7 +7,7 @@ use crate::row::{Entry as Line, Row, RowFault, push_made, text_in};
 use kt_base::{Bytes, Entry, Items, Kind, LATEST_MOMENT, Output, Run, Variables, Verdict};
 use std::alloc::Global;
 
-/// The bytes behind a word among these lines; none if the word isn't there.
+/// The bytes after a word among these lines; none if the word isn't there.
 fn bytes_in(alloc: Global, lines: &[Line<'_>], word: &str) -> Result<Bytes, RowFault> {
     match text_in(lines, word) {
         None => Ok(Bytes::new(alloc)),
@@ -15,7 +15,7 @@ fn bytes_in(alloc: Global, lines: &[Line<'_>], word: &str) -> Result<Bytes, RowF
     }
 }
 
-/// The number behind a word among these lines, or another one if the word isn't there.
+/// The number after a word among these lines, or another one if the word isn't there.
 fn number_in(lines: &[Line<'_>], word: &str, other: u64) -> Result<u64, RowFault> {
     match text_in(lines, word) {
         None => Ok(other),

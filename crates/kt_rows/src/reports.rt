@@ -18,7 +18,7 @@ fn lines_text(alloc: Global, run: &Run) -> Result<String, RowFault> {
     Ok(out)
 }
 
-/// The text report, with the sections of `kinds WORDS` or of all kinds; `verbose` tells what the cases declared.
+/// The text report, with the sections of `kinds WORDS` or of all kinds; `verbose` shows what the cases declared.
 fn report_text(alloc: Global, row: &Row<'_>, run: &Run) -> Result<String, RowFault> {
     let words = row.text("kinds");
     let kinds = kinds_of(

@@ -1,4 +1,4 @@
-//! What a store tells of its runs.
+//! What a store holds of its runs.
 
 use crate::entry_texts::{entries_text, shown};
 use crate::lines::{formatted, name_of, owned, push_told};
@@ -75,7 +75,7 @@ pub fn run_entries_text<R: ResultStore>(
     entries_text(alloc, word, found.as_slice())
 }
 
-/// All that is told of an entry.
+/// All that is shown of an entry.
 fn whole_text(alloc: Global, entry: &Entry) -> Result<String, RowFault> {
     let mut text = String::new(alloc);
     for word in ["cases", "outputs", "pairs"] {
@@ -84,7 +84,7 @@ fn whole_text(alloc: Global, entry: &Entry) -> Result<String, RowFault> {
     Ok(text)
 }
 
-/// Appends all that is told of a run: its head, its entries, and whether it is finished.
+/// Appends all that is shown of a run: its head, its entries, and whether it is finished.
 fn push_run<R: ResultStore>(
     alloc: Global,
     told: &mut Vec<String>,
@@ -103,7 +103,7 @@ fn push_run<R: ResultStore>(
     push_made(told, owned(alloc, state_text(head)))
 }
 
-/// All that a store tells: of each run its head, its entries, and whether it is finished.
+/// All that a store holds: of each run its head, its entries, and whether it is finished.
 pub fn told<R: ResultStore>(alloc: Global, results: &mut R) -> Result<Vec<String>, RowFault> {
     let Ok(heads) = results.runs() else {
         return Err(RowFault::Misspelled("its runs can not be told"));
@@ -115,7 +115,7 @@ pub fn told<R: ResultStore>(alloc: Global, results: &mut R) -> Result<Vec<String
     Ok(told)
 }
 
-/// Whether this is what was told first, and of the run behind it so many entries, without its end.
+/// Whether this is what was shown first, then the next run with this many entries, without its end.
 pub fn is_cut(left: &[String], whole: &[String], first: usize, entries: usize) -> bool {
     let Some((last, front)) = left.split_last() else {
         return false;

@@ -7,7 +7,7 @@ use kt_child::Polled;
 use kt_play::{Holding, Life, PartFault, Scene, ask_too_much};
 use std::alloc::Global;
 
-/// How a child ended, as a poll tells it.
+/// How a child ended, as a poll reports it.
 fn polled_of(text: &str) -> Result<Polled, RowFault> {
     match ending_of(text)? {
         Outcome::Exited(code) => Ok(Polled::Exited(code)),
@@ -56,7 +56,7 @@ fn part_fault_of(text: Option<&str>) -> Result<PartFault, RowFault> {
     }
 }
 
-/// The moments that are told, and how much later each further one is.
+/// The moments that are answered, and how much later each further one is.
 fn clock_of(alloc: Global, row: &Row<'_>) -> Result<(Vec<u64>, u64), RowFault> {
     let (moments, step) = match row.text("moments") {
         Some(moments) => (moments, 0),

@@ -1,4 +1,4 @@
-use crate::lines::{formatted, push_behind, push_word};
+use crate::lines::{formatted, push_separated, push_word};
 use crate::row::RowFault;
 use kt_base::{Entry, Role};
 use kt_play::Call;
@@ -22,7 +22,7 @@ fn call_text(alloc: Global, call: Call) -> Result<String, RowFault> {
 pub fn long_text(alloc: Global, calls: &[Call], entries: &[Entry]) -> Result<String, RowFault> {
     let mut out = String::new(alloc);
     for call in calls {
-        push_behind(&mut out, ", ", &[call_text(alloc, *call)?.as_str()])?;
+        push_separated(&mut out, ", ", &[call_text(alloc, *call)?.as_str()])?;
     }
     out.push_str("\nput")?;
     for entry in entries {

@@ -19,7 +19,7 @@ fn finish<R: ResultStore>(alloc: Global, results: &mut R, run: &str) -> Result<S
     }
 }
 
-/// Begins as many runs as `times N` says, and answers the number of the last one: `TOTAL MOMENT`.
+/// Begins as many runs as `times N` says, and returns the number of the last one: `TOTAL MOMENT`.
 fn begin<R: ResultStore>(
     alloc: Global,
     results: &mut R,
@@ -70,7 +70,7 @@ fn count_of_runs<R: ResultStore>(alloc: Global, results: &mut R) -> Result<Strin
     }
 }
 
-/// Does a command over the store, and answers its page and its exit.
+/// Does a command over the store, and returns its page and its exit.
 fn done<R: ResultStore>(alloc: Global, results: &mut R, line: &str) -> Result<String, RowFault> {
     let mut commands = Vec::new(alloc);
     push_made(&mut commands, command_of(alloc, line))?;

@@ -14,7 +14,7 @@ enum Database<S: Alter + Drop> {
     Attached(Results<S>),
 }
 
-/// The connection of a database, whose tables are let go.
+/// The connection of a database, without its tables.
 fn detached<S: Alter + Drop>(database: Database<S>) -> Connection<S> {
     match database {
         Database::Open(connection) => connection,
@@ -64,7 +64,7 @@ fn run_sql<S: Alter + Drop>(
     }
 }
 
-/// What a line of a row comes to over a database.
+/// Does a line of a row over a database, and appends the answer.
 fn step<S: Alter + Drop>(
     alloc: Global,
     database: Database<S>,
@@ -82,7 +82,7 @@ fn step<S: Alter + Drop>(
     }
 }
 
-/// What the lines of a row come to over a database.
+/// The answers to the lines of a row over a database.
 fn over<S: Alter + Drop>(
     alloc: Global,
     lines: &[Entry<'_>],
@@ -98,7 +98,7 @@ fn over<S: Alter + Drop>(
     Ok(out)
 }
 
-/// What the lines of a row come to over runs in memory.
+/// The answers to the lines of a row over runs in memory.
 fn over_memory(alloc: Global, lines: &[Entry<'_>]) -> Result<String, RowFault> {
     let mut results = MemRuns::new(alloc);
     let mut out = String::new(alloc);

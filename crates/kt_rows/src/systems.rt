@@ -61,7 +61,7 @@ fn plan(alloc: Global, row: &Row<'_>, scene: Scene<'_>) -> Result<String, RowFau
     shown(alloc, row, &run)
 }
 
-/// What is asked of a scripted system, and what it comes to. The first line says for what: `plan LETTERS`, `list` or
+/// What is asked of a scripted system, and what comes of it. The first line says for what: `plan LETTERS`, `list` or
 /// `reader`.
 pub fn answer(alloc: Global, row: &Row<'_>) -> Result<String, RowFault> {
     let scene = scene_of(alloc, row)?;
