@@ -1,6 +1,6 @@
 //! The command `test` over a store whose disk fails at a call, and what the store then holds.
 
-use crate::disks::{empty_files, fused, left_by, old_files, open};
+use crate::disks::{empty_files, filled, fused, left_by, open};
 use crate::lines::{formatted, joined, owned, push_all};
 use crate::numbers::number;
 use crate::row::{Row, RowFault, due};
@@ -9,6 +9,7 @@ use crate::scenes::scene_of;
 use crate::stages::row_over;
 use kt_play::{Scene, ScriptedWriter};
 use kt_store::{ResultStore, Results, StoreFault};
+use sqlite::{Alter, Connection, FileStore};
 use sqlite_disk::{Crash, Files, Memory};
 use std::alloc::Global;
 
@@ -168,19 +169,12 @@ impl Trial<'_> {
         })
     }
 
-    /// Does the commands over files that fail, and looks at what a crash leaves of them; nothing if they do not open.
-    fn tried<D: Crash + Drop>(self, files: Files<D>) -> Result<Option<Attempt>, RowFault> {
-        let Some(conn) = open(self.alloc, files, self.frames) else {
-            return Ok(None);
-        };
-        let (tested, conn) = match Results::attach(self.alloc, conn) {
-            Ok(mut results) => {
-                let tested = self.done_over(&mut results)?;
-                (Some(tested), results.detach())
-            }
-            Err((StoreFault::Store(_), conn)) => (None, conn),
-            Err(_) => return Err(RowFault::Misspelled("it was refused for another reason")),
-        };
+    /// What commands did, if they could be done, and what a crash then leaves of the files.
+    fn attempt<D: Crash + Drop>(
+        self,
+        tested: Option<Tested>,
+        conn: Connection<FileStore<D>>,
+    ) -> Result<Option<Attempt>, RowFault> {
         let (schema, left) = left_by(self.alloc, conn.into_store().close(), self.frames)?;
         Ok(Some(Attempt {
             tested,
@@ -189,15 +183,38 @@ impl Trial<'_> {
         }))
     }
 
+    /// Does the commands over tables, and hands their database back.
+    fn tested<S: Alter + Drop>(
+        self,
+        mut results: Results<S>,
+    ) -> Result<(Tested, Connection<S>), RowFault> {
+        let tested = self.done_over(&mut results)?;
+        Ok((tested, results.detach()))
+    }
+
+    /// Does the commands over files that fail, and looks at what a crash leaves of them; nothing if they do not open.
+    fn tried<D: Crash + Drop>(self, files: Files<D>) -> Result<Option<Attempt>, RowFault> {
+        let Some(conn) = open(self.alloc, files, self.frames) else {
+            return Ok(None);
+        };
+        match Results::attach(self.alloc, conn) {
+            Ok(results) => {
+                let (tested, conn) = self.tested(results)?;
+                self.attempt(Some(tested), conn)
+            }
+            Err((StoreFault::Store(_), conn)) => self.attempt(None, conn),
+            Err(_) => Err(RowFault::Misspelled("it was refused for another reason")),
+        }
+    }
+
     /// The files that the commands begin with: empty ones, or those of an older store.
     fn files(self) -> Result<Files<Memory>, RowFault> {
+        let files = empty_files(self.alloc);
         if !self.is_old {
-            return Ok(empty_files(self.alloc));
+            return Ok(files);
         }
-        due(
-            old_files(self.alloc, self.frames),
-            "the old store is not made",
-        )
+        let filled = filled(self.alloc, files, self.frames);
+        due(filled, "the old store is not made")
     }
 
     /// What the store holds before the commands.

@@ -5,7 +5,7 @@ ghost use Rattle.std.specs.Prelude.{◌≡◌, false, IfSome};
 use crate::row::RowFault;
 use crate::run_texts::told;
 use kt_store::Results;
-use sqlite::{Alter, Connection, Error, FileStore, Options};
+use sqlite::{Alter, Connection, FileStore, Options};
 use sqlite_disk::{Crash, Disk, Files, Fuse, Memory};
 use std::alloc::Global;
 
@@ -47,22 +47,19 @@ pub fn empty_files(alloc: Global) -> Files<Memory> {
 }
 
 /// Runs the statements of an earlier version.
-fn fill<S: Alter>(conn: &mut Connection<S>) -> Result<(), Error> {
+fn fill<S: Alter + Drop>(mut conn: Connection<S>) -> Option<Connection<S>> {
     for sql in &SCHEMA_1 {
-        conn.execute(*sql, &[])?;
+        if conn.execute(*sql, &[]).is_err() {
+            return None;
+        }
     }
-    Ok(())
+    Some(conn)
 }
 
-/// The files of a store of schema 1.
-pub fn old_files(alloc: Global, frames: usize) -> Option<Files<Memory>> {
-    let mut conn = open(alloc, empty_files(alloc), frames)?;
-    let is_filled = fill(&mut conn).is_ok();
-    if is_filled {
-        Some(conn.into_store().close())
-    } else {
-        None
-    }
+/// Empty files, filled with a store of schema 1.
+pub fn filled<D: Disk + Drop>(alloc: Global, files: Files<D>, frames: usize) -> Option<Files<D>> {
+    let conn = fill(open(alloc, files, frames)?)?;
+    Some(conn.into_store().close())
 }
 
 /// Files of which the log or the database file fails after this many calls.

@@ -1,18 +1,16 @@
 ghost use Rattle.std.specs.Prelude.{IfOk, ◌≤◌};
 
 use crate::lines::formatted;
-use crate::row::{Row, RowFault, append, halves, push_made};
+use crate::row::{Row, RowFault, append, due, halves, push_made};
 use std::alloc::Global;
 
 pub fn number(text: &str) -> Result<u64, RowFault> {
-    text.parse::<u64>()
-        .map_err(|_| RowFault::Misspelled("a number is due"))
+    due(text.parse::<u64>().ok(), "a number is due")
 }
 
 /// A number of at most 32 bits.
 pub fn count(text: &str) -> Result<u32, RowFault> {
-    text.parse::<u32>()
-        .map_err(|_| RowFault::Misspelled("a number below 2^32 is due"))
+    due(text.parse::<u32>().ok(), "a number below 2^32 is due")
 }
 
 /// Takes a number.

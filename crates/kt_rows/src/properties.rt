@@ -1,7 +1,7 @@
 use crate::escapes::text_of;
 use crate::lines::{formatted, owned, pair_of, push_all, push_separated, push_told};
 use crate::numbers::{numbered, set_number};
-use crate::row::{Entry, Row, RowFault};
+use crate::row::{Entry, Row, RowFault, due};
 use crate::verdicts::reason_text;
 use kt_base::{Text, Variable, Variables};
 use kt_config::Config;
@@ -35,9 +35,8 @@ fn set_property(
 /// Sets a property that there is: `NAME=VALUE`.
 pub fn set_known(alloc: Global, props: &mut Props, raw: &str) -> Result<(), RowFault> {
     let pair = pair_of(alloc, raw)?;
-    props.set(&pair.name, &pair.value).map_err(|_| RowFault::Misspelled(
-        "there is no such property or value",
-    ))
+    let set = props.set(&pair.name, &pair.value).ok();
+    due(set, "there is no such property or value")
 }
 
 /// Sets the properties of `COUNT NAME=VALUE`, where `#` is the number.
@@ -69,9 +68,8 @@ pub fn push_props(alloc: Global, out: &mut String, props: &Props) -> Result<(), 
 /// Sets a variable of the configuration.
 fn set_variable(alloc: Global, config: &mut Config, raw: &str) -> Result<(), RowFault> {
     let pair = pair_of(alloc, raw)?;
-    config
-        .set(&pair.name, &pair.value)
-        .map_err(|_| RowFault::Misspelled("there is no such variable"))
+    let set = config.set(&pair.name, &pair.value).ok();
+    due(set, "there is no such variable")
 }
 
 /// The property that a key of a list of cases stands for.

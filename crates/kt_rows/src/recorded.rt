@@ -3,7 +3,7 @@ ghost use Rattle.std.specs.Prelude.{◌≤◌, IfOk};
 use crate::escapes::{lossy_of, unescaped};
 use crate::lines::pairs_of;
 use crate::numbers::number;
-use crate::row::{Entry as Line, Row, RowFault, push_made, text_in};
+use crate::row::{Entry as Line, Row, RowFault, due, push_made, text_in};
 use kt_base::{Bytes, Entry, Items, Kind, LATEST_MOMENT, Output, Run, Variables, Verdict};
 use std::alloc::Global;
 
@@ -144,7 +144,7 @@ pub fn content_at<'a, 'b>(lines: &'b [Line<'a>], place: usize) -> &'b [Line<'a>]
 }
 
 fn count_of(entries: &Items<Entry>) -> Result<u32, RowFault> {
-    u32::try_from(entries.len()).map_err(|_| RowFault::Misspelled("too many entries"))
+    due(u32::try_from(entries.len()).ok(), "too many entries")
 }
 
 /// Appends an entry, as often as `times N` below it says.
