@@ -6,5 +6,5 @@ use Rattle.kt_child.specs.declared.driving.driver.DriverFault.TheVariants.{NoMem
 use Rattle.kt_child.specs.declared.system.os.Os as system
 
 -- memory ran out before a root directory was asked for
-pub none_asked : {O : Type 0} (o : system.Ghosts O) (os : O) (base : List ℕ) (refusal : OutOfMemory) → NoRoot o os base (NoMemory refusal)
+pub none_asked : {O : Type 0} (o : system.Ghosts O) (os : O) (base : List ℕ) (refusal : OutOfMemory) → NoRoot o os base (NoMemory refusal) os
 none_asked o os base refusal = none_made (NoMemory refusal) [] os refl (0, omega arith, refl)

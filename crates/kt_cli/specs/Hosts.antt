@@ -31,11 +31,11 @@ module _ {O : Type 0} (o : system.Ghosts O) (os : O) where
     pub first : d.next ≡ 0
     pub none_runs : d.running ≡ idle_state
 
-  -- why no driver is made below a work directory: the directory begins elsewhere than at the root of the host, or none of the root
-  -- directories that were asked for could be made in it, and there are no more or memory ran out
-  pub data NoRoot (base : List ℕ) : DriverFault → Type 0 where
-    not_absolute : is_absolute base ≡ false → NoRoot base NoWorkDirectory
-    none_made : (fault : DriverFault) (calls : List Call) (after : O) → Chain o.leads os calls after → FindsRoot base calls (Err fault) → NoRoot base fault
+  -- why no driver is made below a work directory, and the system as it is given back: the directory begins elsewhere than at the root of the
+  -- host, or none of the root directories that were asked for could be made in it, and there are no more or memory ran out
+  pub data NoRoot (base : List ℕ) : DriverFault → O → Type 0 where
+    not_absolute : is_absolute base ≡ false → NoRoot base NoWorkDirectory os
+    none_made : (fault : DriverFault) (calls : List Call) (left : O) → Chain o.leads os calls left → FindsRoot base calls (Err fault) → NoRoot base fault left
 
 module _ {O R : Type 0} (o : system.Ghosts O) (os : O) (r : keeping.Ghosts R) where
   -- a command was done over a driver that was made for its options, whose root directory was then to be removed; each end in the trace is explained

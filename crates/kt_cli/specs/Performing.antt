@@ -42,8 +42,8 @@ module _ {P S O R : Type 0} (p : Program P S O) (os : O) (r : keeping.Ghosts R) 
         → OnDriver p.system os r around options c store after was now exit → DoneOver c old new store after was now exit
     no_place : (options : CaseOptions) (fault : DriverFault) → cases_of c ≡ Some options → p.platform.provides old (Found (Err fault)) new
         → after ≡ store → Printed was now exit (utf8 (driver_line fault)) failure_exit → DoneOver c old new store after was now exit
-    no_driver : (options : CaseOptions) (around : Surroundings) (fault : DriverFault) → cases_of c ≡ Some options → p.platform.provides old (Found (Ok around)) new
-        → NoRoot p.system os options.work fault → after ≡ store → Printed was now exit (utf8 (driver_line fault)) failure_exit → DoneOver c old new store after was now exit
+    no_driver : (options : CaseOptions) (around : Surroundings) (fault : DriverFault) (left : O) → cases_of c ≡ Some options → p.platform.provides old (Found (Ok around)) new
+        → NoRoot p.system os options.work fault left → after ≡ store → Printed was now exit (utf8 (driver_line fault)) failure_exit → DoneOver c old new store after was now exit
 
 -- how a command ends whose text was handed on: as it was due to, with all of it written, or with 2 if a write failed
 abbrev pub EndsBy : Bool → List ℕ → ℕ → ℕ → Type 0

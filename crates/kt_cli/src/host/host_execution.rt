@@ -34,31 +34,30 @@ pub fn source_of(alloc: Global, here: &str, kyuafile: &Text) -> Result<Text, NoM
     parent_path(alloc, &path)
 }
 
-/// Makes the driver of a command over this system. `here` is the absolute working directory.
+/// Makes the driver of a command over this system. `here` is the absolute working directory. Errors return `os`.
 fn driver_of<O: Os + Drop>(
     alloc: Global,
     os: O,
     here: &Text,
     work: &Text,
     kyuafile: &Text,
-) -> Result<Driver<O>, DriverFault>
+) -> Result<Driver<O>, (DriverFault, O)>
     ensures made { IfOk result (λ driver. IsMade O.Os os here.now work.now kyuafile.now driver) }
     ensures idle { IfOk result (λ driver. IsIdle (shown_at driver.running.cases)
         (is_among driver.running.pending)) }
-    ensures refused { IfErr result (λ e. NoRoot O.Os os work.now e) }
+    ensures refused { IfErr result (λ e. NoRoot O.Os os work.now e.0 e.1) }
 {
     if !is_absolute(work.as_str()) {
-        return Err(DriverFault::NoWorkDirectory);
+        return Err((DriverFault::NoWorkDirectory, os));
     }
-    let source = source_of(alloc, here.as_str(), kyuafile)?;
-    match Driver::new(alloc, os, work, source) {
-        Ok(driver) => Ok(driver),
-        Err((fault, _)) => Err(fault),
+    match source_of(alloc, here.as_str(), kyuafile) {
+        Ok(source) => Driver::new(alloc, os, work, source),
+        Err(refusal) => Err((DriverFault::NoMemory(refusal), os)),
     }
 }
 
 /// Does a command over test cases of the host and this system, with work directories of its own,
-/// which are removed at the end.
+/// which are removed at the end. Errors return `os`.
 pub fn execute_over_cases<
     R: Files<File = File> + Clock + AllocGlobal,
     O: Os + Drop,
@@ -72,15 +71,18 @@ pub fn execute_over_cases<
     options: &CaseOptions,
     results: &mut S,
     out: &mut W,
-) -> Result<Exit, DriverFault>
+) -> Result<Exit, (DriverFault, O)>
     ensures did { IfOk result (λ exit. OnDriver O.Os os S.Keeping around options.now
         command.now results.old results.new (W.contents out.old) (W.contents out.new) exit.status) }
-    ensures refused { IfErr result (λ e. NoRoot O.Os os options.now.work e) }
+    ensures refused { IfErr result (λ e. NoRoot O.Os os options.now.work e.0 e.1) }
     ensures unasked { OnErr result
         ((results.new ≡ results.old) × (W.contents out.new ≡ W.contents out.old)) }
 {
-    let (directory, _) = split_path(rt.alloc(), &options.kyuafile)?;
     let (work, kyuafile) = (&options.work, &options.kyuafile);
+    let directory = match split_path(rt.alloc(), kyuafile) {
+        Ok((directory, _)) => directory,
+        Err(refusal) => return Err((DriverFault::NoMemory(refusal), os)),
+    };
     let driver = driver_of(rt.alloc(), os, &around.here, work, kyuafile)?;
     let mut world = HostWorld::new(rt, directory, Runner { driver, around });
     let exit = execute(rt.alloc(), command, &mut world, results, out);

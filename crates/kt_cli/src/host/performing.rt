@@ -43,7 +43,7 @@ fn perform_over_cases<
     };
     match execute_over_cases(rt, os, around, command, options, results, out) {
         Ok(exit) => exit,
-        Err(fault) => print_driver_fault(fault, out),
+        Err((fault, _)) => print_driver_fault(fault, out),
     }
 }
 

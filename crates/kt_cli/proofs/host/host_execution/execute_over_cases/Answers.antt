@@ -1,15 +1,13 @@
 use Rattle.std.proofs.Common.{rules}
-use Rattle.kt_cli.proofs.Common.{err_from_is_err_and, Runner, runner_world, scene}
+use Rattle.kt_cli.proofs.Common.{Runner, runner_world, scene}
 use Rattle.kt_cli.specs.declared.host.host_world.HostWorld.{HostWorld}
 use Rattle.kt_cli.proofs.ChildrenTold.{courses_are_told, did_run, is_bare}
 use Rattle.kt_cli.proofs.Hosting.{did_over}
 use Rattle.kt_cli.proofs.Refusing.{none_asked}
 use Rattle.kt_cli.proofs.host.host_execution.execute_over_cases.Goals as goal
 
-pub returns-in_err-directory-clause-refused : goal.returns-in_err-directory-clause-refused
-returns-in_err-directory-clause-refused g c =
-    let p = err_from_is_err_and c.from_residual.result c.from_residual.ensures.1 in
-    rw (p.1, p.2) (none_asked g.O.Os c.args.os _ _)
+pub returns-in-Err-clause-refused : goal.returns-in-Err-clause-refused
+returns-in-Err-clause-refused g c = none_asked g.O.Os c.args.os _ _
 
 pub returns-clause-did : goal.returns-clause-did
 returns-clause-did g c =
