@@ -1,6 +1,5 @@
 use crate::answer;
-use crate::lines::formatted;
-use crate::row::{Row, RowFault};
+use crate::row::{Result, Row, RowFault, asked};
 use crate::row_file::read_rows;
 use std::alloc::Global;
 use std::fs::File;
@@ -26,10 +25,10 @@ fn differing_line(wanted: &[u8], found: &[u8]) -> usize {
 }
 
 /// The front of what an answer has from a place on.
-fn part(alloc: Global, answer: &[u8], from: usize) -> Result<String, RowFault> {
+fn part(alloc: Global, answer: &[u8], from: usize) -> Result<String> {
     let rest = answer.get(from..).unwrap_or(&[]);
     let part = rest.get(..SHOWN).unwrap_or(rest);
-    formatted(String::from_utf8_lossy(alloc, part))
+    asked(String::from_utf8_lossy(alloc, part))
 }
 
 /// Where a row is, with the wanted answer and the given one from the first line that differs.
@@ -39,11 +38,11 @@ fn mismatch_lines(
     line: u64,
     wanted: &[u8],
     found: &[u8],
-) -> Result<String, RowFault> {
+) -> Result<String> {
     let from = differing_line(wanted, found);
     let wanted = part(alloc, wanted, from)?;
     let found = part(alloc, found, from)?;
-    formatted(format!(in alloc;
+    asked(format!(in alloc;
         "{file}:{line}: another answer\n  wanted: {wanted:?}\n  got:    {found:?}"
     ))
 }
@@ -54,7 +53,7 @@ fn mismatch<R: Files<File = File> + Clock + AllocGlobal>(
     file: &str,
     subject: &str,
     row: &Row<'_>,
-) -> Result<Option<String>, RowFault> {
+) -> Result<Option<String>> {
     let alloc = rt.alloc();
     let wanted = row.wanted(alloc)?;
     let found = answer(rt, subject, row)?;

@@ -1,8 +1,8 @@
-use crate::lines::{formatted, push_line, push_told};
+use crate::lines::Answer;
 use crate::numbers::number;
-use crate::printing::{ended_text, writer};
-use crate::row::{Row, RowFault};
-use crate::run_texts::runs_text;
+use crate::printing::{push_ended, writer};
+use crate::row::{Result, Row};
+use crate::run_texts::push_runs;
 use crate::scenes::scene_of;
 use crate::stages::{row_over, store_of};
 use crate::{disk_tests, fault_exits, line_outputs};
@@ -23,27 +23,31 @@ struct Played {
 }
 
 /// Does the commands of a row; one of their writes fails, counted from 1.
-fn play(alloc: Global, row: &Row<'_>, scene: &Scene<'_>, failing: u64) -> Result<Played, RowFault> {
-    let at_most = number(row.text("takes").unwrap_or("4096"))? as usize;
+fn play(alloc: Global, row: &Row<'_>, scene: &Scene<'_>, failing: u64) -> Result<Played> {
+    let at_most = row.number("takes", 4096)? as usize;
     let mut page = writer(alloc, at_most, failing, WriteFault::Broken);
     let mut results = store_of(alloc, row)?;
     let (exits, _os) = row_over(alloc, row, scene, &mut results, &mut page)?;
-    let runs = runs_text(alloc, &mut results, true)?;
-    Ok(Played { page, exits, runs })
+    let mut runs = Answer::new(alloc);
+    push_runs(&mut runs, &mut results, true);
+    Ok(Played {
+        page,
+        exits,
+        runs: runs.end()?,
+    })
 }
 
-/// The page, the exits, and where the row says so the runs.
-fn shown(alloc: Global, row: &Row<'_>, played: &Played) -> Result<String, RowFault> {
-    let mut out = ended_text(alloc, &played.page, played.exits.as_slice())?;
+/// Appends the page, the exits, and where the row says so the runs.
+fn push_played(out: &mut Answer, row: &Row<'_>, played: &Played) -> Result<()> {
+    push_ended(out, &played.page, played.exits.as_slice())?;
     if row.text("show") == Some("runs") {
-        push_line(&mut out, played.runs.as_str())?;
+        out.line(played.runs.as_str());
     }
-    Ok(out)
+    Ok(())
 }
 
-/// What is wrong where a write failed: the page is no beginning of the whole one, the last command doesn't end with 2,
-/// or the runs are others.
-fn wrong(whole: &Played, cut: &Played) -> Result<Option<&'static str>, RowFault> {
+/// What is wrong where a write failed: the page is no beginning, the last exit isn't 2, or the runs are others.
+fn wrong(whole: &Played, cut: &Played) -> Result<Option<&'static str>> {
     let (whole_page, cut_page) = (whole.page.kept()?, cut.page.kept()?);
     if cut_page.len() >= whole_page.len() || !whole_page.starts_with(cut_page) {
         return Ok(Some("the page is no beginning"));
@@ -59,61 +63,56 @@ fn wrong(whole: &Played, cut: &Played) -> Result<Option<&'static str>, RowFault>
 
 /// Makes a write fail, and appends what is wrong then. Returns whether there is such a write.
 fn push_failing(
-    alloc: Global,
-    out: &mut String,
+    out: &mut Answer,
     row: &Row<'_>,
     scene: &Scene<'_>,
     whole: &Played,
     failing: u64,
-) -> Result<bool, RowFault> {
-    let cut = play(alloc, row, scene, failing)?;
+) -> Result<bool> {
+    let cut = play(out.alloc, row, scene, failing)?;
     if cut.page.writes < failing {
         return Ok(false);
     }
     if let Some(what) = wrong(whole, &cut)? {
-        push_told(
-            out,
-            formatted(format!(in alloc; "at write {failing}: {what}")),
-        )?;
+        out.separate("\n");
+        out.made(format!(in out.alloc; "at write {failing}: {what}"));
     }
     Ok(true)
 }
 
 /// Makes each write fail in turn. What is wrong then is a line.
-fn each_failing(alloc: Global, row: &Row<'_>, scene: &Scene<'_>) -> Result<String, RowFault> {
-    let whole = play(alloc, row, scene, 0)?;
-    let mut out = shown(alloc, row, &whole)?;
+fn push_each_failing(out: &mut Answer, row: &Row<'_>, scene: &Scene<'_>) -> Result<()> {
+    let whole = play(out.alloc, row, scene, 0)?;
+    push_played(out, row, &whole)?;
     for failing in 1..LIMIT {
-        if !push_failing(alloc, &mut out, row, scene, &whole, failing)? {
+        if !push_failing(out, row, scene, &whole, failing)? {
             break;
         }
     }
-    Ok(out)
+    Ok(())
 }
 
 /// What the commands of a row write, how they end, and what they leave.
-fn done(alloc: Global, row: &Row<'_>) -> Result<String, RowFault> {
-    let scene = scene_of(alloc, row)?;
-    match row.text("writes") {
-        Some("each") => each_failing(alloc, row, &scene),
-        text => {
-            let failing = number(text.unwrap_or("0"))?;
-            let played = play(alloc, row, &scene, failing)?;
-            shown(alloc, row, &played)
-        }
+fn done(out: &mut Answer, row: &Row<'_>) -> Result<()> {
+    let scene = scene_of(out.alloc, row)?;
+    let writes = row.text("writes");
+    if writes == Some("each") {
+        return push_each_failing(out, row, &scene);
     }
+    let failing = number(writes.unwrap_or("0"))?;
+    push_played(out, row, &play(out.alloc, row, &scene, failing)?)
 }
 
 /// Commands over a scripted world: `do COMMAND LINE` each. Rows that begin with `piece` or `source` are of pieces that
 /// are given to a writer of lines and of the directories of Kyuafiles; those with `disk` are of a disk that fails.
-pub fn answer(alloc: Global, row: &Row<'_>) -> Result<String, RowFault> {
+pub fn answer(out: &mut Answer, row: &Row<'_>) -> Result<()> {
     if let Some(disk) = row.text("disk") {
-        return disk_tests::answer(alloc, row, disk);
+        return disk_tests::answer(out, row, disk);
     }
     let first = row.first()?;
     match first.word {
-        "piece" => line_outputs::answer(alloc, row),
-        "source" => fault_exits::source(alloc, first.text),
-        _ => done(alloc, row),
+        "piece" => line_outputs::answer(out, row),
+        "source" => fault_exits::push_source(out, first.text),
+        _ => done(out, row),
     }
 }

@@ -1,9 +1,8 @@
 //! The command `test` over a store whose disk fails at a call, and what the store then holds.
 
-use crate::disks::{empty_files, filled, fused, left_by, open};
-use crate::lines::{formatted, joined, owned, push_all};
-use crate::numbers::number;
-use crate::row::{Row, RowFault, due};
+use crate::disks::{closed, empty_files, filled, fused, left_by, open};
+use crate::lines::Answer;
+use crate::row::{Result, Row, RowFault, due};
 use crate::run_texts::is_cut;
 use crate::scenes::scene_of;
 use crate::stages::row_over;
@@ -127,19 +126,18 @@ impl Whole {
 }
 
 /// Appends where a command was stopped: `attach 1`, `begin`, `put 1` or `finish`.
-fn push_stop(alloc: Global, out: &mut String, stop: Stop) -> Result<(), RowFault> {
-    let text = match stop {
-        Stop::Attach(schema) => formatted(format!(in alloc; " attach {schema}")),
-        Stop::Begin => owned(alloc, " begin"),
+fn push_stop(out: &mut Answer, stop: Stop) {
+    match stop {
+        Stop::Attach(schema) => out.made(format!(in out.alloc; " attach {schema}")),
+        Stop::Begin => out.push(" begin"),
         Stop::Put(done) => {
-            let number = done.saturating_add(1);
-            formatted(format!(in alloc; " put {number}"))
+            out.push(" put ");
+            out.number(done.saturating_add(1) as u64);
         }
-        Stop::Finish => owned(alloc, " finish"),
-        Stop::Nowhere => owned(alloc, ", then not"),
-        Stop::Wrong(what) => joined(alloc, &[", and then ", what]),
-    };
-    push_all(out, &[text?.as_str()])
+        Stop::Finish => out.push(" finish"),
+        Stop::Nowhere => out.push(", then not"),
+        Stop::Wrong(what) => out.push_all(&[", and then ", what]),
+    }
 }
 
 /// A row whose commands are done over disks on which the log or the database file fails, with a store that may be of
@@ -156,26 +154,38 @@ struct Trial<'a> {
 
 impl Trial<'_> {
     /// Does the commands over a store, and returns how the last one ended.
-    fn done_over<R: ResultStore>(self, results: &mut R) -> Result<Tested, RowFault> {
+    fn done_over<R: ResultStore>(self, results: &mut R) -> Result<Tested> {
         let mut page = ScriptedWriter::new(self.alloc, 0);
         let (exits, os) = row_over(self.alloc, self.row, self.scene, results, &mut page)?;
         let exit = due(exits.last(), "there is no command")?;
         let (status, spawned) = (exit.status, !os.spawned().is_empty());
-        let page = String::from_utf8_lossy(self.alloc, page.kept()?)?;
         Ok(Tested {
-            page,
+            page: String::from_utf8_lossy(self.alloc, page.kept()?)?,
             status,
             spawned,
         })
     }
 
-    /// What commands did, if they could be done, and what a crash then leaves of the files.
-    fn attempt<D: Crash + Drop>(
-        self,
-        tested: Option<Tested>,
-        conn: Connection<FileStore<D>>,
-    ) -> Result<Option<Attempt>, RowFault> {
-        let (schema, left) = left_by(self.alloc, conn.into_store().close(), self.frames)?;
+    /// Does the commands over a database and hands it back; over none of its tables if they are not taken.
+    fn over<S: Alter + Drop>(self, conn: Connection<S>) -> Result<(Option<Tested>, Connection<S>)> {
+        match Results::attach(self.alloc, conn) {
+            Ok(results) => {
+                let mut results = results;
+                let tested = self.done_over(&mut results)?;
+                Ok((Some(tested), results.detach()))
+            }
+            Err((StoreFault::Store(_), conn)) => Ok((None, conn)),
+            Err(_) => Err(RowFault::Misspelled("it was refused for another reason")),
+        }
+    }
+
+    /// Does the commands over files that fail, and looks at what a crash leaves of them; nothing if they do not open.
+    fn tried<D: Crash + Drop>(self, files: Files<D>) -> Result<Option<Attempt>> {
+        let Some(conn) = open(self.alloc, files, self.frames) else {
+            return Ok(None);
+        };
+        let (tested, conn) = self.over(conn)?;
+        let (schema, left) = left_by(self.alloc, closed(conn), self.frames)?;
         Ok(Some(Attempt {
             tested,
             schema,
@@ -183,32 +193,8 @@ impl Trial<'_> {
         }))
     }
 
-    /// Does the commands over tables, and hands their database back.
-    fn tested<S: Alter + Drop>(
-        self,
-        mut results: Results<S>,
-    ) -> Result<(Tested, Connection<S>), RowFault> {
-        let tested = self.done_over(&mut results)?;
-        Ok((tested, results.detach()))
-    }
-
-    /// Does the commands over files that fail, and looks at what a crash leaves of them; nothing if they do not open.
-    fn tried<D: Crash + Drop>(self, files: Files<D>) -> Result<Option<Attempt>, RowFault> {
-        let Some(conn) = open(self.alloc, files, self.frames) else {
-            return Ok(None);
-        };
-        match Results::attach(self.alloc, conn) {
-            Ok(results) => {
-                let (tested, conn) = self.tested(results)?;
-                self.attempt(Some(tested), conn)
-            }
-            Err((StoreFault::Store(_), conn)) => self.attempt(None, conn),
-            Err(_) => Err(RowFault::Misspelled("it was refused for another reason")),
-        }
-    }
-
     /// The files that the commands begin with: empty ones, or those of an older store.
-    fn files(self) -> Result<Files<Memory>, RowFault> {
+    fn files(self) -> Result<Files<Memory>> {
         let files = empty_files(self.alloc);
         if !self.is_old {
             return Ok(files);
@@ -217,15 +203,9 @@ impl Trial<'_> {
         due(filled, "the old store is not made")
     }
 
-    /// What the store holds before the commands.
-    fn before(self) -> Result<Vec<String>, RowFault> {
-        let (_, told) = left_by(self.alloc, self.files()?, self.frames)?;
-        Ok(told)
-    }
-
     /// The commands over a disk that fails at no call.
-    fn whole(self) -> Result<Whole, RowFault> {
-        let before = self.before()?;
+    fn whole(self) -> Result<Whole> {
+        let (_, before) = left_by(self.alloc, self.files()?, self.frames)?;
         let whole = due(self.tried(self.files()?)?, "there is no store")?;
         Ok(Whole {
             tested: due(whole.tested, "its tables are not taken")?,
@@ -235,16 +215,16 @@ impl Trial<'_> {
     }
 
     /// Where a disk that fails after this many calls stops the command; nothing if the store doesn't open.
-    fn stop_at(self, whole: &Whole, calls: u64) -> Result<Option<Stop>, RowFault> {
+    fn stop_at(self, whole: &Whole, calls: u64) -> Result<Option<Stop>> {
         match self.tried(fused(self.files()?, self.in_log, calls))? {
             Some(cut) => Ok(Some(whole.judged(&cut))),
             None => Ok(None),
         }
     }
 
-    /// Where the disk that fails at each call in turn stops the command, each place once, until none is refused.
-    fn stops(self, whole: &Whole) -> Result<String, RowFault> {
-        let mut out = String::from_str(self.alloc, "stopped in")?;
+    /// Appends where the disk that fails at each call in turn stops the command, each place once, until none is refused.
+    fn push_stops(self, out: &mut Answer, whole: &Whole) -> Result<()> {
+        out.push("stopped in");
         let mut last = None;
         for calls in 0..LIMIT {
             let Some(stop) = self.stop_at(whole, calls)? else {
@@ -252,27 +232,27 @@ impl Trial<'_> {
             };
             if last != Some(stop) {
                 last = Some(stop);
-                push_stop(self.alloc, &mut out, stop)?;
+                push_stop(out, stop);
             }
             if stop == Stop::Nowhere {
                 break;
             }
         }
-        Ok(out)
+        Ok(())
     }
 }
 
 /// Commands, the last of them `test`, over a store whose disk fails at each call in turn until none is refused: where it
 /// was stopped, each place once. `disk log` or `disk database`, `frames N`, and `old` for a store of schema 1.
-pub fn answer(alloc: Global, row: &Row<'_>, disk: &str) -> Result<String, RowFault> {
-    let scene = scene_of(alloc, row)?;
+pub fn answer(out: &mut Answer, row: &Row<'_>, disk: &str) -> Result<()> {
+    let scene = scene_of(out.alloc, row)?;
     let trial = Trial {
-        alloc,
+        alloc: out.alloc,
         row,
         scene: &scene,
         in_log: disk == "log",
         is_old: row.text("old").is_some(),
-        frames: number(row.text("frames").unwrap_or("1000"))? as usize,
+        frames: row.number("frames", 1000)? as usize,
     };
-    trial.stops(&trial.whole()?)
+    trial.push_stops(out, &trial.whole()?)
 }

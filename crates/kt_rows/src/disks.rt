@@ -2,7 +2,7 @@
 
 ghost use Rattle.std.specs.Prelude.{◌≡◌, false, IfSome};
 
-use crate::row::RowFault;
+use crate::row::{Result, RowFault};
 use crate::run_texts::told;
 use kt_store::Results;
 use sqlite::{Alter, Connection, FileStore, Options};
@@ -56,10 +56,15 @@ fn fill<S: Alter + Drop>(mut conn: Connection<S>) -> Option<Connection<S>> {
     Some(conn)
 }
 
+/// The files of a connection, which is closed.
+pub fn closed<D: Disk + Drop>(conn: Connection<FileStore<D>>) -> Files<D> {
+    conn.into_store().close()
+}
+
 /// Empty files, filled with a store of schema 1.
 pub fn filled<D: Disk + Drop>(alloc: Global, files: Files<D>, frames: usize) -> Option<Files<D>> {
     let conn = fill(open(alloc, files, frames)?)?;
-    Some(conn.into_store().close())
+    Some(closed(conn))
 }
 
 /// Files of which the log or the database file fails after this many calls.
@@ -91,10 +96,7 @@ fn schema_of<S: Alter>(conn: &mut Connection<S>) -> i64 {
 }
 
 /// The schema of the tables of a store that is opened again, and all that it holds.
-fn told_by<S: Alter + Drop>(
-    alloc: Global,
-    mut conn: Connection<S>,
-) -> Result<(i64, Vec<String>), RowFault> {
+fn told_by<S: Alter + Drop>(alloc: Global, mut conn: Connection<S>) -> Result<(i64, Vec<String>)> {
     let schema = schema_of(&mut conn);
     if !conn.is_autocommit() {
         return Err(RowFault::Misspelled("a transaction is open"));
@@ -110,7 +112,7 @@ pub fn left_by<D: Crash + Drop>(
     alloc: Global,
     files: Files<D>,
     frames: usize,
-) -> Result<(i64, Vec<String>), RowFault> {
+) -> Result<(i64, Vec<String>)> {
     match open(alloc, crashed(files), frames) {
         Some(conn) => told_by(alloc, conn),
         None => Err(RowFault::Misspelled("it does not open again")),

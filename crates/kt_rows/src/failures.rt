@@ -1,9 +1,9 @@
 //! Each call of a run failing in turn.
 
-use crate::entry_texts::{entries_text, marks};
-use crate::lines::{formatted, owned, push_all, push_told};
-use crate::row::{Row, RowFault};
-use crate::system_runs::{Ran, run_plan};
+use crate::entry_texts::{push_entries, push_marks};
+use crate::lines::{Answer, both};
+use crate::row::{Result, Row};
+use crate::system_runs::run_plan;
 use kt_base::Entry;
 use kt_play::Scene;
 use std::alloc::Global;
@@ -11,12 +11,14 @@ use std::alloc::Global;
 /// The most calls that are tried.
 const LIMIT: u32 = 10_000;
 
-/// The marks of the case at a position, or a text without a verdict.
-fn marks_at(alloc: Global, entries: &[Entry], position: u32) -> Result<String, RowFault> {
-    match entries.iter().find(|entry| entry.position == position) {
-        Some(entry) => marks(alloc, entry),
-        None => owned(alloc, "no entry"),
+/// The marks of a case, or a text without a verdict.
+fn marks_of(alloc: Global, entry: Option<&Entry>) -> Result<String> {
+    let mut out = Answer::new(alloc);
+    match entry {
+        Some(entry) => push_marks(&mut out, entry),
+        None => out.push("no entry"),
     }
+    out.end()
 }
 
 /// How many calls of a log begin with a word.
@@ -33,83 +35,68 @@ fn made(log: &str) -> usize {
 }
 
 /// Appends a case that has other marks than this one.
-fn push_change(
-    alloc: Global,
-    out: &mut String,
-    call: u32,
-    sound: &Entry,
-    entries: &[Entry],
-) -> Result<(), RowFault> {
+fn push_change(out: &mut Answer, call: u32, sound: &Entry, entries: &[Entry]) -> Result<()> {
     let position = sound.position;
-    let due = marks(alloc, sound)?;
-    let told = marks_at(alloc, entries, position)?;
-    if due.as_str() == told.as_str() {
-        return Ok(());
+    let found = entries.iter().find(|entry| entry.position == position);
+    let (due, told) = both(marks_of(out.alloc, Some(sound)), marks_of(out.alloc, found))?;
+    if due.as_str() != told.as_str() {
+        out.separate("\n");
+        out.made(format!(in out.alloc; "at {call}: {position} {told}"));
     }
-    push_told(
-        out,
-        formatted(format!(in alloc; "at {call}: {position} {told}")),
-    )
+    Ok(())
 }
 
 /// Appends what a failing call changes: the cases with other marks, a kill, and directories that were not removed.
 fn push_changes(
-    alloc: Global,
-    out: &mut String,
+    out: &mut Answer,
     call: u32,
     sound: &[Entry],
-    run: &Ran<'_>,
-) -> Result<(), RowFault> {
+    entries: &[Entry],
+    log: &str,
+) -> Result<()> {
     for entry in sound {
-        push_change(alloc, out, call, entry, run.entries.as_slice())?;
+        push_change(out, call, entry, entries)?;
     }
-    let log = run.os.log()?;
-    let killed = count_of(log, "kill ") > 0;
-    push_all(out, &[if killed { ", killed" } else { "" }])?;
+    if count_of(log, "kill ") > 0 {
+        out.push(", killed");
+    }
     let (made, removed) = (made(log), count_of(log, "remove "));
-    if made == removed {
-        return Ok(());
+    if made != removed {
+        out.separate("\n");
+        out.made(format!(in out.alloc; "at {call}: {made} made, {removed} removed"));
     }
-    push_told(
-        out,
-        formatted(format!(in alloc; "at {call}: {made} made, {removed} removed")),
-    )
+    Ok(())
 }
 
 /// Appends what a failing call changes, or how many calls there are before it. Returns whether there is such a call.
 fn push_failing(
-    alloc: Global,
-    out: &mut String,
+    out: &mut Answer,
     row: &Row<'_>,
     scene: &Scene<'_>,
     call: u32,
     sound: &[Entry],
-) -> Result<bool, RowFault> {
-    let run = run_plan(alloc, row, scene)?;
-    let fails = run.os.log()?.contains(" failed\n");
-    let told = if fails {
-        push_changes(alloc, out, call, sound, &run)
-    } else {
-        push_told(out, formatted(format!(in alloc; "{call} calls")))
-    };
-    told?;
-    Ok(fails)
+) -> Result<bool> {
+    let run = run_plan(out.alloc, row, scene)?;
+    let log = run.os.log()?;
+    if log.contains(" failed\n") {
+        push_changes(out, call, sound, run.entries.as_slice(), log)?;
+        return Ok(true);
+    }
+    out.separate("\n");
+    out.made(format!(in out.alloc; "{call} calls"));
+    Ok(false)
 }
 
-/// The entries where no call fails, then, for each failing call, what is otherwise, and how many calls there are.
-pub fn each_failing<'a>(
-    alloc: Global,
-    row: &Row<'a>,
-    scene: Scene<'a>,
-) -> Result<String, RowFault> {
+/// Appends the entries where no call fails, then what each failing call changes, and how many calls there are.
+pub fn push_each_failing<'a>(out: &mut Answer, row: &Row<'a>, scene: Scene<'a>) -> Result<()> {
     let mut scene = scene;
-    let sound = run_plan(alloc, row, &scene)?.entries;
-    let mut out = entries_text(alloc, "marks", sound.as_slice())?;
+    let sound = run_plan(out.alloc, row, &scene)?.entries;
+    push_entries(out, "marks", sound.as_slice());
     for call in 1..LIMIT {
         scene.failing = (call, call.saturating_add(1));
-        if !push_failing(alloc, &mut out, row, &scene, call, sound.as_slice())? {
+        if !push_failing(out, row, &scene, call, sound.as_slice())? {
             break;
         }
     }
-    Ok(out)
+    Ok(())
 }

@@ -1,6 +1,7 @@
 //! Why a command line is refused, and what it can't have.
 
-use crate::row::{RowFault, due, halves};
+use crate::lines::Answer;
+use crate::row::{Result, RowFault, due, halves};
 use kt_base::{NoMemory, Text};
 use kt_child::DriverFault;
 use kt_cli::source_of;
@@ -9,17 +10,17 @@ use kt_store::{FailedStatement, StoreFault};
 use std::alloc::Global;
 
 /// A refusal of memory.
-pub fn shortage(alloc: Global) -> Result<NoMemory, RowFault> {
+pub fn shortage(alloc: Global) -> Result<NoMemory> {
     due(ask_too_much(alloc).err(), "this machine has all memory")
 }
 
 /// A statement of a store that failed.
-pub fn failure(alloc: Global) -> Result<FailedStatement, RowFault> {
+pub fn failure(alloc: Global) -> Result<FailedStatement> {
     due(failed_statement(alloc), "no statement failed")
 }
 
 /// Why a store refuses, if it does.
-pub fn store_fault(alloc: Global, fault: Option<&str>) -> Result<Option<StoreFault>, RowFault> {
+pub fn store_fault(alloc: Global, fault: Option<&str>) -> Result<Option<StoreFault>> {
     match fault {
         None => Ok(None),
         Some("no-memory") => Ok(Some(StoreFault::from(shortage(alloc)?))),
@@ -30,7 +31,7 @@ pub fn store_fault(alloc: Global, fault: Option<&str>) -> Result<Option<StoreFau
 }
 
 /// Why there is no driver, if there is none.
-pub fn driver_fault(alloc: Global, fault: Option<&str>) -> Result<Option<DriverFault>, RowFault> {
+pub fn driver_fault(alloc: Global, fault: Option<&str>) -> Result<Option<DriverFault>> {
     match fault {
         None => Ok(None),
         Some("no-memory") => Ok(Some(DriverFault::NoMemory(shortage(alloc)?))),
@@ -39,9 +40,10 @@ pub fn driver_fault(alloc: Global, fault: Option<&str>) -> Result<Option<DriverF
     }
 }
 
-/// The directory of a Kyuafile, seen from another one: `HERE KYUAFILE`.
-pub fn source(alloc: Global, text: &str) -> Result<String, RowFault> {
+/// Appends the directory of a Kyuafile, seen from another one: `HERE KYUAFILE`.
+pub fn push_source(out: &mut Answer, text: &str) -> Result<()> {
     let (here, kyuafile) = halves(text, " ", "a directory and a Kyuafile are due")?;
-    let kyuafile = Text::from_str(alloc, kyuafile)?;
-    Ok(source_of(alloc, here, &kyuafile)?.into_string())
+    let kyuafile = Text::from_str(out.alloc, kyuafile)?;
+    out.text(source_of(out.alloc, here, &kyuafile));
+    Ok(())
 }

@@ -1,177 +1,171 @@
 use crate::escapes::text_of;
-use crate::lines::{formatted, joined, owned, push_separated, push_told, push_word};
+use crate::lines::{Answer, both};
 use crate::numbers::numbered;
-use crate::row::{Entry, Row, RowFault, halves, push_made};
+use crate::row::{Entry, Result, Row, RowFault, due, halves, push_made};
 use kt_suite::{Filter, FilterFault, Item, Selection, check_disjoint, select};
 use std::alloc::Global;
 
 /// What a row has said so far: the cases and the filters.
 #[derive(Drop)]
 struct Example {
-    alloc: Global,
     items: Vec<Item>,
     filters: Vec<Filter>,
 }
 
 /// `PATH CASE`, cut at the first space.
-fn item_of(alloc: Global, raw: &str) -> Result<Item, RowFault> {
+fn item_of(alloc: Global, raw: &str) -> Result<Item> {
     let (path, case_name) = halves(raw, " ", "a case stands after a path")?;
-    Ok(Item {
-        path: text_of(alloc, path)?,
-        case_name: text_of(alloc, case_name)?,
-    })
+    let (path, case_name) = both(text_of(alloc, path), text_of(alloc, case_name))?;
+    Ok(Item { path, case_name })
 }
 
 /// A filter that is accepted.
-fn filter_of(alloc: Global, raw: &str) -> Result<Filter, RowFault> {
-    match Filter::parse(alloc, &text_of(alloc, raw)?) {
-        Ok(filter) => Ok(filter),
-        Err(_) => Err(RowFault::Misspelled("a filter that is refused is asked for by `read`")),
-    }
-}
-
-/// A filter as it was read: `d/b, case main`.
-fn shown(alloc: Global, filter: &Filter) -> Result<String, RowFault> {
-    let program = filter.program.as_str();
-    match &filter.case_name {
-        None => owned(alloc, program),
-        Some(case_name) => { joined(alloc, &[program, ", case ", case_name.as_str()]) }
-    }
-}
-
-/// What a text says as a filter, or why it is refused.
-fn read_line(alloc: Global, raw: &str) -> Result<String, RowFault> {
-    match Filter::parse(alloc, &text_of(alloc, raw)?) {
-        Ok(filter) => shown(alloc, &filter),
-        Err(fault) => formatted(fault.to_string(alloc)),
-    }
-}
-
-fn push_answer(out: &mut String, answer: bool) -> Result<(), RowFault> {
-    push_separated(out, " ", &[if answer { "yes" } else { "no" }])
-}
-
-/// Positions with spaces between them.
-fn places(alloc: Global, places: &[usize]) -> Result<String, RowFault> {
-    if places.is_empty() {
-        return owned(alloc, "none");
-    }
-    let mut out = String::new(alloc);
-    for place in places {
-        push_word(&mut out, formatted(place.to_string(alloc)))?;
-    }
-    Ok(out)
-}
-
-/// The positions that were selected: `cases 0 2, unmatched none`.
-fn selection_line(alloc: Global, selection: &Selection) -> Result<String, RowFault> {
-    let cases = places(alloc, &selection.cases)?;
-    let unmatched = places(alloc, &selection.unmatched)?;
-    joined(
-        alloc,
-        &["cases ", cases.as_str(), ", unmatched ", unmatched.as_str()],
+fn filter_of(alloc: Global, raw: &str) -> Result<Filter> {
+    let filter = Filter::parse(alloc, &text_of(alloc, raw)?);
+    due(
+        filter.ok(),
+        "a filter that is refused is asked for by `read`",
     )
 }
 
-/// How many positions were selected: `2 cases, 0 unmatched`.
-fn count_line(alloc: Global, selection: &Selection) -> Result<String, RowFault> {
-    let cases = selection.cases.len();
-    let unmatched = selection.unmatched.len();
-    formatted(format!(in alloc; "{cases} cases, {unmatched} unmatched"))
+/// Appends a filter as it was read: `d/b, case main`.
+fn push_filter(out: &mut Answer, filter: &Filter) {
+    out.push(filter.program.as_str());
+    if let Some(case_name) = &filter.case_name {
+        out.push_all(&[", case ", case_name.as_str()]);
+    }
+}
+
+/// Appends what a text says as a filter, or why it is refused.
+fn read(out: &mut Answer, raw: &str) -> Result<()> {
+    match Filter::parse(out.alloc, &text_of(out.alloc, raw)?) {
+        Ok(filter) => push_filter(out, &filter),
+        Err(fault) => out.made(fault.to_string(out.alloc)),
+    }
+    Ok(())
+}
+
+/// Appends the answer to a question, after a separator.
+fn push_yes(out: &mut Answer, separator: &str, answer: bool) {
+    out.push(separator);
+    out.push(if answer { "yes" } else { "no" });
+}
+
+/// Appends positions with a space before each.
+fn push_places(out: &mut Answer, places: &[usize]) {
+    if places.is_empty() {
+        out.push(" none");
+    }
+    for place in places {
+        out.push(" ");
+        out.number(*place as u64);
+    }
+}
+
+/// Appends the positions that were selected, or how many: `cases 0 2, unmatched none` or `2 cases, 0 unmatched`.
+fn push_selection(out: &mut Answer, selection: &Selection, brief: bool) {
+    if brief {
+        let (cases, unmatched) = (selection.cases.len(), selection.unmatched.len());
+        out.made(format!(in out.alloc; "{cases} cases, {unmatched} unmatched"));
+        return;
+    }
+    out.push("cases");
+    push_places(out, &selection.cases);
+    out.push(", unmatched");
+    push_places(out, &selection.unmatched);
+}
+
+/// Appends whether no filter matches what another one does.
+fn push_disjoint(out: &mut Answer, filters: &[Filter]) {
+    match check_disjoint(filters) {
+        Ok(()) => out.push("disjoint"),
+        Err(FilterFault::Repeated(at)) => out.made(format!(in out.alloc; "repeated at {at}")),
+        Err(FilterFault::NotDisjoint(at)) => out.made(format!(in out.alloc;
+            "not disjoint at {at}"
+        )),
+        Err(fault) => out.made(fault.to_string(out.alloc)),
+    }
 }
 
 impl Example {
     /// Adds a filter or a case.
-    fn add(&mut self, word: &str, raw: &str) -> Result<(), RowFault> {
+    fn add(&mut self, alloc: Global, word: &str, raw: &str) -> Result<()> {
         match word {
-            "filter" => push_made(&mut self.filters, filter_of(self.alloc, raw)),
-            _ => push_made(&mut self.items, item_of(self.alloc, raw)),
+            "filter" => push_made(&mut self.filters, filter_of(alloc, raw)),
+            _ => push_made(&mut self.items, item_of(alloc, raw)),
         }
     }
 
-    fn add_numbered(&mut self, word: &str, raw: &str) -> Result<(), RowFault> {
-        for text in numbered(self.alloc, raw)?.as_slice() {
-            self.add(word, text.as_str())?;
+    fn add_numbered(&mut self, alloc: Global, word: &str, raw: &str) -> Result<()> {
+        for text in numbered(alloc, raw)?.as_slice() {
+            self.add(alloc, word, text.as_str())?;
         }
         Ok(())
     }
 
-    /// Whether each filter matches a case.
-    fn matches_line(&self, raw: &str) -> Result<String, RowFault> {
-        let item = item_of(self.alloc, raw)?;
-        let mut out = String::new(self.alloc);
+    /// Appends whether each filter matches a case.
+    fn push_matches(&self, out: &mut Answer, raw: &str) -> Result<()> {
+        let item = item_of(out.alloc, raw)?;
+        let mut separator = "";
         for filter in self.filters.as_slice() {
-            push_answer(&mut out, filter.matches(&item.path, &item.case_name))?;
+            push_yes(out, separator, filter.matches(&item.path, &item.case_name));
+            separator = " ";
         }
-        Ok(out)
+        Ok(())
     }
 
-    /// Whether each filter may match a case of a program.
-    fn may_match_line(&self, raw: &str) -> Result<String, RowFault> {
-        let path = text_of(self.alloc, raw)?;
-        let mut out = String::new(self.alloc);
+    /// Appends whether each filter may match a case of a program.
+    fn push_may_match(&self, out: &mut Answer, raw: &str) -> Result<()> {
+        let path = text_of(out.alloc, raw)?;
+        let mut separator = "";
         for filter in self.filters.as_slice() {
-            push_answer(&mut out, filter.may_match(&path))?;
+            push_yes(out, separator, filter.may_match(&path));
+            separator = " ";
         }
-        Ok(out)
+        Ok(())
     }
 
-    fn disjoint_line(&self) -> Result<String, RowFault> {
-        let alloc = self.alloc;
-        formatted(match check_disjoint(&self.filters) {
-            Ok(()) => String::from_str(alloc, "disjoint"),
-            Err(FilterFault::Repeated(place)) => format!(in alloc; "repeated at {place}"),
-            Err(FilterFault::NotDisjoint(place)) => format!(in alloc; "not disjoint at {place}"),
-            Err(fault) => fault.to_string(alloc),
-        })
-    }
-
-    fn select_line(&self, brief: bool) -> Result<String, RowFault> {
-        match select(self.alloc, &self.items, &self.filters) {
-            Ok(selection) => {
-                if brief {
-                    return count_line(self.alloc, &selection);
-                }
-                selection_line(self.alloc, &selection)
-            }
-            Err(fault) => formatted(fault.to_string(self.alloc)),
+    fn push_selected(&self, out: &mut Answer, brief: bool) {
+        match select(out.alloc, &self.items, &self.filters) {
+            Ok(selection) => push_selection(out, &selection, brief),
+            Err(fault) => out.made(fault.to_string(out.alloc)),
         }
     }
 
-    /// The answer to a line that asks.
-    fn told(&self, entry: Entry<'_>) -> Result<String, RowFault> {
+    /// Appends the answer to a line that asks.
+    fn push_told(&self, out: &mut Answer, entry: Entry<'_>) -> Result<()> {
+        out.separate("\n");
         match entry.word {
-            "read" => read_line(self.alloc, entry.text),
-            "matches" => self.matches_line(entry.text),
-            "may-match" => self.may_match_line(entry.text),
-            "disjoint" => self.disjoint_line(),
-            "select" => self.select_line(false),
-            "count" => self.select_line(true),
-            _ => Err(RowFault::Misspelled("no such word")),
+            "read" => return read(out, entry.text),
+            "matches" => return self.push_matches(out, entry.text),
+            "may-match" => return self.push_may_match(out, entry.text),
+            "disjoint" => push_disjoint(out, &self.filters),
+            "select" => self.push_selected(out, false),
+            "count" => self.push_selected(out, true),
+            _ => return Err(RowFault::Misspelled("no such word")),
         }
+        Ok(())
     }
 
     /// Appends the answer to a line that asks, or adds what it says.
-    fn take(&mut self, out: &mut String, entry: Entry<'_>) -> Result<(), RowFault> {
+    fn take(&mut self, out: &mut Answer, entry: Entry<'_>) -> Result<()> {
         match entry.word {
-            "filter" | "item" => self.add(entry.word, entry.text),
-            "filters" => self.add_numbered("filter", entry.text),
-            "items" => self.add_numbered("item", entry.text),
-            _ => push_told(out, self.told(entry)),
+            "filter" | "item" => self.add(out.alloc, entry.word, entry.text),
+            "filters" => self.add_numbered(out.alloc, "filter", entry.text),
+            "items" => self.add_numbered(out.alloc, "item", entry.text),
+            _ => self.push_told(out, entry),
         }
     }
 }
 
 /// What filters are read as, match and select, a line for each question.
-pub fn answer(alloc: Global, row: &Row<'_>) -> Result<String, RowFault> {
+pub fn answer(out: &mut Answer, row: &Row<'_>) -> Result<()> {
     let mut example = Example {
-        alloc,
-        items: Vec::new(alloc),
-        filters: Vec::new(alloc),
+        items: Vec::new(out.alloc),
+        filters: Vec::new(out.alloc),
     };
-    let mut out = String::new(alloc);
     for entry in row.entries.as_slice() {
-        example.take(&mut out, *entry)?;
+        example.take(out, *entry)?;
     }
-    Ok(out)
+    Ok(())
 }

@@ -1,17 +1,16 @@
 //! Pieces given to lines before a writer.
 
 use crate::escapes::unescaped;
-use crate::lines::{formatted, push_line};
-use crate::numbers::number;
+use crate::lines::Answer;
 use crate::printing::{FAULTS, writer, wrong};
-use crate::row::{Row, RowFault, push_made};
+use crate::row::{Result, Row, push_made};
 use kt_base::emit;
 use kt_cli::LineOutput;
 use kt_play::{ScriptedWriter, WriteFault};
 use std::alloc::Global;
 use std::io::Write;
 
-fn pieces_of(alloc: Global, row: &Row<'_>) -> Result<Vec<Vec<u8>>, RowFault> {
+fn pieces_of(alloc: Global, row: &Row<'_>) -> Result<Vec<Vec<u8>>> {
     let mut pieces = Vec::new(alloc);
     for entry in row.entries.as_slice() {
         if entry.word == "piece" {
@@ -38,50 +37,45 @@ fn given<W: Write>(out: &mut W, pieces: &[Vec<u8>], by_line: bool, flushes: bool
 
 /// Appends what is wrong if a write fails in each way, after this many others.
 fn push_wrong(
-    alloc: Global,
-    out: &mut String,
+    out: &mut Answer,
     pieces: &[Vec<u8>],
     whole: &ScriptedWriter,
     before: u64,
-) -> Result<(), RowFault> {
+) -> Result<()> {
     for fault in &FAULTS {
-        let mut cut = writer(alloc, whole.at_most, before.saturating_add(1), *fault);
+        let mut cut = writer(out.alloc, whole.at_most, before.saturating_add(1), *fault);
         let well = given(&mut cut, pieces, true, true);
         if let Some(what) = wrong(whole, &cut, well)? {
-            push_line(out, what)?;
+            out.line(what);
         }
     }
     Ok(())
 }
 
-/// What is written of pieces, each write failing in turn in each way: `piece TEXT` each, `takes BYTES` a write at the
-/// most.
-fn flushed(alloc: Global, pieces: &[Vec<u8>], at_most: usize) -> Result<String, RowFault> {
-    let mut whole = writer(alloc, at_most, 0, WriteFault::Broken);
+/// Appends what is written of pieces, `takes BYTES` a write at the most; then each write fails in turn in each way.
+fn push_flushed(out: &mut Answer, pieces: &[Vec<u8>], at_most: usize) -> Result<()> {
+    let mut whole = writer(out.alloc, at_most, 0, WriteFault::Broken);
     let well = given(&mut whole, pieces, true, true);
-    let mut out = String::from_utf8_lossy(alloc, whole.kept()?)?;
+    out.bytes(whole.kept()?);
     if !well {
-        push_line(&mut out, "failed")?;
+        out.line("failed");
     }
     for before in 0..whole.writes {
-        push_wrong(alloc, &mut out, pieces, &whole, before)?;
+        push_wrong(out, pieces, &whole, before)?;
     }
-    Ok(out)
+    Ok(())
 }
 
 /// What is written of pieces; with `unflushed` before the flush, and with `held` too if lines are held.
-pub fn answer(alloc: Global, row: &Row<'_>) -> Result<String, RowFault> {
-    let pieces = pieces_of(alloc, row)?;
-    if row.text("unflushed").is_some() {
-        let mut out = writer(alloc, usize::MAX, 0, WriteFault::Broken);
-        given(
-            &mut out,
-            pieces.as_slice(),
-            row.text("held").is_none(),
-            false,
-        );
-        return formatted(String::from_utf8_lossy(alloc, out.kept()?));
+pub fn answer(out: &mut Answer, row: &Row<'_>) -> Result<()> {
+    let pieces = pieces_of(out.alloc, row)?;
+    if row.text("unflushed").is_none() {
+        let at_most = row.number("takes", 4096)? as usize;
+        return push_flushed(out, pieces.as_slice(), at_most);
     }
-    let at_most = number(row.text("takes").unwrap_or("4096"))? as usize;
-    flushed(alloc, pieces.as_slice(), at_most)
+    let mut page = writer(out.alloc, usize::MAX, 0, WriteFault::Broken);
+    let by_line = row.text("held").is_none();
+    given(&mut page, pieces.as_slice(), by_line, false);
+    out.bytes(page.kept()?);
+    Ok(())
 }

@@ -1,75 +1,125 @@
+//! Answers, and the pairs of lines.
+
 use crate::escapes::lossy_of;
-use crate::row::{Entry, RowFault};
-use kt_base::{NoMemory, Variable, Variables};
+use crate::row::{Entry, Result, RowFault};
+use kt_base::{NoMemory, Text, Variable, Variables};
 use std::alloc::Global;
 use std::fmt::Debug;
 
-/// Appends texts.
-pub fn push_all(out: &mut String, parts: &[&str]) -> Result<(), RowFault> {
-    for part in parts {
-        out.push_str(*part)?;
+/// The text of an answer, written piece by piece. After a fault nothing more is taken, and `end` returns that fault.
+#[derive(Drop)]
+pub struct Answer {
+    pub alloc: Global,
+    text: String,
+    fault: Option<RowFault>,
+}
+
+impl Answer {
+    pub fn new(alloc: Global) -> Answer {
+        Answer {
+            alloc,
+            text: String::new(alloc),
+            fault: None,
+        }
     }
-    Ok(())
-}
 
-/// Appends texts, after a separator unless they are the first.
-pub fn push_separated(out: &mut String, separator: &str, parts: &[&str]) -> Result<(), RowFault> {
-    if !out.is_empty() {
-        out.push_str(separator)?;
+    /// Appends a text.
+    pub fn push(&mut self, text: &str) {
+        if self.fault.is_some() {
+            return;
+        }
+        if let Err(refusal) = self.text.push_str(text) {
+            self.fault = Some(RowFault::from(refusal));
+        }
     }
-    push_all(out, parts)
+
+    /// Appends texts.
+    pub fn push_all(&mut self, parts: &[&str]) {
+        for part in parts {
+            self.push(*part);
+        }
+    }
+
+    /// Appends what stands between two pieces, unless there is none before.
+    pub fn separate(&mut self, separator: &str) {
+        if !self.text.is_empty() {
+            self.push(separator);
+        }
+    }
+
+    /// Begins a line.
+    pub fn line(&mut self, text: &str) {
+        self.separate("\n");
+        self.push(text);
+    }
+
+    /// Appends a text for which the allocator was asked.
+    pub fn made<E: Drop>(&mut self, text: Result<String, E>)
+    where
+        NoMemory: From<E>,
+    {
+        match text {
+            Ok(text) => self.push(text.as_str()),
+            Err(refusal) => self.fail(RowFault::from(refusal)),
+        }
+    }
+
+    /// Appends a text of the crates.
+    pub fn text(&mut self, text: Result<Text, NoMemory>) {
+        self.made(text.map(Text::into_string));
+    }
+
+    /// Appends bytes. What isn't UTF-8 in them is replaced.
+    pub fn bytes(&mut self, bytes: &[u8]) {
+        self.made(String::from_utf8_lossy(self.alloc, bytes));
+    }
+
+    /// Appends a number.
+    pub fn number(&mut self, number: u64) {
+        self.made(number.to_string(self.alloc));
+    }
+
+    /// Appends the name of a value's variant, without what it holds.
+    pub fn name<T: Debug>(&mut self, value: &T) {
+        match format!(in self.alloc; "{value:?}") {
+            Ok(text) => {
+                let text = text.as_str();
+                self.push(text.split_once('(').unwrap_or((text, "")).0);
+            }
+            Err(refusal) => self.fail(RowFault::from(refusal)),
+        }
+    }
+
+    /// Ends with a fault, unless there was one.
+    pub fn fail(&mut self, fault: RowFault) {
+        if self.fault.is_none() {
+            self.fault = Some(fault);
+        }
+    }
+
+    /// The whole text.
+    pub fn end(self) -> Result<String> {
+        match self.fault {
+            None => Ok(self.text),
+            Some(fault) => Err(fault),
+        }
+    }
 }
 
-/// Appends a line, after a newline unless it is the first.
-pub fn push_line(out: &mut String, line: &str) -> Result<(), RowFault> {
-    push_separated(out, "\n", &[line])
-}
-
-/// Appends a line if it was made.
-pub fn push_told(out: &mut String, line: Result<String, RowFault>) -> Result<(), RowFault> {
-    push_line(out, line?.as_str())
-}
-
-/// Appends a word if it was made, after a space unless it is the first.
-pub fn push_word(out: &mut String, word: Result<String, RowFault>) -> Result<(), RowFault> {
-    push_separated(out, " ", &[word?.as_str()])
-}
-
-/// A text for which the allocator was asked. It is for arms of a `match`: each `?` there makes the proof longer.
-pub fn formatted<E: Drop>(text: Result<String, E>) -> Result<String, RowFault>
-where
-    NoMemory: From<E>,
-{
-    Ok(text?)
-}
-
-/// A copy of a text.
-pub fn owned(alloc: Global, text: &str) -> Result<String, RowFault> {
-    formatted(String::from_str(alloc, text))
-}
-
-/// Texts as one.
-pub fn joined(alloc: Global, parts: &[&str]) -> Result<String, RowFault> {
-    formatted(parts.concat(alloc))
-}
-
-/// The name of a value's variant, without what it holds.
-pub fn name_of<T: Debug>(alloc: Global, value: &T) -> Result<String, RowFault> {
-    let text = format!(in alloc; "{value:?}")?;
-    let (name, _) = text.as_str().split_once('(').unwrap_or((text.as_str(), ""));
-    owned(alloc, name)
+/// Two values that were made.
+pub fn both<A: Drop, B: Drop>(first: Result<A>, second: Result<B>) -> Result<(A, B)> {
+    Ok((first?, second?))
 }
 
 /// `NAME=VALUE`, cut at the first `=`.
-pub fn pair_of(alloc: Global, raw: &str) -> Result<Variable, RowFault> {
+pub fn pair_of(alloc: Global, raw: &str) -> Result<Variable> {
     let (name, value) = raw.split_once('=').unwrap_or((raw, ""));
-    let name = lossy_of(alloc, name)?;
-    let value = lossy_of(alloc, value)?;
+    let (name, value) = both(lossy_of(alloc, name), lossy_of(alloc, value))?;
     Ok(Variable { name, value })
 }
 
 /// The pairs of the lines with a word, in order: `WORD NAME=VALUE` each.
-pub fn pairs_of(alloc: Global, lines: &[Entry<'_>], word: &str) -> Result<Variables, RowFault> {
+pub fn pairs_of(alloc: Global, lines: &[Entry<'_>], word: &str) -> Result<Variables> {
     let mut pairs = Variables::new(alloc);
     for line in lines {
         if line.word == word {

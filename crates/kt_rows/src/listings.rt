@@ -1,5 +1,5 @@
 use crate::escapes::unescaped;
-use crate::row::{RowFault, append, halves};
+use crate::row::{Result, append, halves};
 use crate::verdicts::{ending_of, refused_of};
 use kt_atflist::{ListBytes, Listing};
 use kt_base::Bytes;
@@ -10,14 +10,14 @@ use std::alloc::Global;
 const HEADER: &str = "Content-Type: application/X-atf-tp; version=\"1\"\n\n";
 
 /// The blocks of a list after its header and an empty line.
-pub fn after_header(alloc: Global, blocks: &str) -> Result<Vec<u8>, RowFault> {
+pub fn after_header(alloc: Global, blocks: &str) -> Result<Vec<u8>> {
     let mut text = HEADER.as_bytes().to_vec(alloc)?;
     append(alloc, &mut text, blocks)?;
     Ok(text)
 }
 
 /// What a program wrote, cut off from how it ended.
-fn ended_of<'a>(alloc: Global, text: &'a str) -> Result<(&'a str, ListBytes), RowFault> {
+fn ended_of<'a>(alloc: Global, text: &'a str) -> Result<(&'a str, ListBytes)> {
     if let Some(ending) = text.strip_suffix(" unreadable") {
         return Ok((ending, ListBytes::Unreadable));
     }
@@ -33,9 +33,8 @@ fn ended_of<'a>(alloc: Global, text: &'a str) -> Result<(&'a str, ListBytes), Ro
     Ok((ending, ListBytes::Read(Bytes::from_vec(list))))
 }
 
-/// What comes of asking a program for its list: `refused WHY`, or `ENDING` and then `blocks TEXT`, `list TEXT`,
-/// `unreadable` or `too-long`.
-pub fn listing_of(alloc: Global, text: &str) -> Result<Listing, RowFault> {
+/// What comes of asking for a list: `refused WHY`, or `ENDING` and `blocks TEXT`, `list TEXT`, `unreadable` or `too-long`.
+pub fn listing_of(alloc: Global, text: &str) -> Result<Listing> {
     if let Some(cause) = text.strip_prefix("refused ") {
         return Ok(Listing::Refused(refused_of(cause)?));
     }
@@ -44,7 +43,7 @@ pub fn listing_of(alloc: Global, text: &str) -> Result<Listing, RowFault> {
 }
 
 /// A program, and what comes of asking it for its list.
-pub fn listed_of<'a>(alloc: Global, text: &'a str) -> Result<Listed<'a>, RowFault> {
+pub fn listed_of<'a>(alloc: Global, text: &'a str) -> Result<Listed<'a>> {
     let (program, text) = halves(text, " ", "a list has a program")?;
     let listing = listing_of(alloc, text)?;
     Ok(Listed { program, listing })

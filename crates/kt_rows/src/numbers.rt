@@ -1,26 +1,25 @@
 ghost use Rattle.std.specs.Prelude.{IfOk, ◌≤◌};
 
-use crate::lines::formatted;
-use crate::row::{Row, RowFault, append, due, halves, push_made};
+use crate::row::{Result, Row, RowFault, append, asked, due, halves, push_made};
 use std::alloc::Global;
 
-pub fn number(text: &str) -> Result<u64, RowFault> {
+pub fn number(text: &str) -> Result<u64> {
     due(text.parse::<u64>().ok(), "a number is due")
 }
 
 /// A number of at most 32 bits.
-pub fn count(text: &str) -> Result<u32, RowFault> {
+pub fn count(text: &str) -> Result<u32> {
     due(text.parse::<u32>().ok(), "a number below 2^32 is due")
 }
 
 /// Takes a number.
-pub fn set_number(place: &mut Option<u64>, text: &str) -> Result<(), RowFault> {
+pub fn set_number(place: &mut Option<u64>, text: &str) -> Result<()> {
     *place = Some(number(text)?);
     Ok(())
 }
 
 /// Numbers with spaces between them.
-pub fn numbers(alloc: Global, text: &str) -> Result<Vec<u64>, RowFault> {
+pub fn numbers(alloc: Global, text: &str) -> Result<Vec<u64>> {
     let mut numbers = Vec::new(alloc);
     for word in text.split_whitespace() {
         push_made(&mut numbers, number(word))?;
@@ -29,19 +28,19 @@ pub fn numbers(alloc: Global, text: &str) -> Result<Vec<u64>, RowFault> {
 }
 
 /// The texts of `COUNT TEXT`: the text this many times, with the number in place of each `#`, from 0.
-pub fn numbered(alloc: Global, raw: &str) -> Result<Vec<String>, RowFault> {
+pub fn numbered(alloc: Global, raw: &str) -> Result<Vec<String>> {
     let (times, text) = halves(raw, " ", "a text stands after a number")?;
     let mut texts = Vec::new(alloc);
     for number in 0..count(times)? {
         let number = number.to_string(alloc)?;
-        let told = formatted(text.replace(alloc, "#", number.as_str()));
+        let told = asked(text.replace(alloc, "#", number.as_str()));
         push_made(&mut texts, told)?;
     }
     Ok(texts)
 }
 
 /// Appends the texts of a row's lines `numbered COUNT TEXT`.
-pub fn append_numbered(alloc: Global, bytes: &mut Vec<u8>, row: &Row<'_>) -> Result<(), RowFault> {
+pub fn append_numbered(alloc: Global, bytes: &mut Vec<u8>, row: &Row<'_>) -> Result<()> {
     for entry in row.entries.as_slice() {
         if entry.word == "numbered" {
             for text in numbered(alloc, entry.text)?.as_slice() {
@@ -53,7 +52,7 @@ pub fn append_numbered(alloc: Global, bytes: &mut Vec<u8>, row: &Row<'_>) -> Res
 }
 
 /// A limit in seconds, 1 where the row has none.
-pub fn limit_of(text: Option<&str>) -> Result<u32, RowFault>
+pub fn limit_of(text: Option<&str>) -> Result<u32>
     ensures { IfOk result (λ n. (1 ≤ n) × (n ≤ 1000000)) }
 {
     let Some(text) = text else {

@@ -1,8 +1,8 @@
 ghost use Rattle.kt_sched.specs.Plan.{IsWidth};
 
-use crate::lines::formatted;
+use crate::lines::Answer;
 use crate::numbers::count;
-use crate::row::{Row, RowFault};
+use crate::row::{Result, Row, RowFault};
 use crate::simulation::Simulation;
 use kt_base::Entry;
 use kt_play::{MemorySink, ScriptedLauncher, plan_of};
@@ -24,13 +24,7 @@ fn are_at(entries: &[Entry], positions: &[u32]) -> bool {
 }
 
 /// Whether the scheduler's calls and puts are those of the simulation.
-fn agrees(
-    alloc: Global,
-    letters: &[u8],
-    width: u32,
-    ends: &[u32],
-    failing: usize,
-) -> Result<bool, RowFault>
+fn agrees(alloc: Global, letters: &[u8], width: u32, ends: &[u32], failing: usize) -> Result<bool>
     requires { IsWidth width }
 {
     let mut launcher = ScriptedLauncher::new(alloc, letters, ends, &[]);
@@ -44,9 +38,8 @@ fn agrees(
     Ok(has_calls && has_puts && is_done != simulation.failed)
 }
 
-/// How many runs of a plan agree: each put failing or none, at widths 1 to 3, in several orders of the ends. It stops
-/// at the first run that doesn't.
-fn agreeing(alloc: Global, letters: &[u8]) -> Result<(usize, bool), RowFault> {
+/// How many runs of a plan agree, and whether all do: each put failing or none, at widths 1 to 3, in several orders.
+fn agreeing(alloc: Global, letters: &[u8]) -> Result<(usize, bool)> {
     let mut runs = 0usize;
     for failing in 0..=letters.len() {
         for width in 1..4u32 {
@@ -62,7 +55,7 @@ fn agreeing(alloc: Global, letters: &[u8]) -> Result<(usize, bool), RowFault> {
 }
 
 /// The plan with a number among those of this length: its letters are the number's digits.
-fn plan_at(alloc: Global, letters: &[u8], length: u32, number: usize) -> Result<Vec<u8>, RowFault> {
+fn plan_at(alloc: Global, letters: &[u8], length: u32, number: usize) -> Result<Vec<u8>> {
     let mut plan = Vec::new(alloc);
     let mut rest = number;
     for _ in 0..length {
@@ -74,28 +67,30 @@ fn plan_at(alloc: Global, letters: &[u8], length: u32, number: usize) -> Result<
 }
 
 /// How many runs agree of all plans of a length, or the first plan with a run that doesn't.
-fn agreeing_text(alloc: Global, letters: &[u8], length: u32) -> Result<String, RowFault> {
+fn push_agreeing(out: &mut Answer, letters: &[u8], length: u32) -> Result<()> {
     let count = letters.len().saturating_pow(length);
     if count > 100_000 {
         return Err(RowFault::Misspelled("too many plans"));
     }
     let mut all = 0usize;
     for number in 0..count {
-        let plan = plan_at(alloc, letters, length, number)?;
-        let (runs, is_good) = agreeing(alloc, &plan)?;
+        let plan = plan_at(out.alloc, letters, length, number)?;
+        let (runs, is_good) = agreeing(out.alloc, &plan)?;
         all = all.wrapping_add(runs);
         if !is_good {
-            let plan = String::from_utf8_lossy(alloc, &plan)?;
-            return formatted(format!(in alloc; "another run of {plan}, its number {runs}"));
+            out.made(format!(in out.alloc; "another run, the number {runs}, of "));
+            out.bytes(&plan);
+            return Ok(());
         }
     }
-    formatted(format!(in alloc; "{count} plans, {all} runs"))
+    out.made(format!(in out.alloc; "{count} plans, {all} runs"));
+    Ok(())
 }
 
 /// Whether the scheduler runs each plan as a simulation does, with each put failing or none, at widths 1 to 3 and in
 /// several orders of the ends. It asks by `letters LETTERS` and `length N`.
-pub fn answer(alloc: Global, row: &Row<'_>) -> Result<String, RowFault> {
+pub fn answer(out: &mut Answer, row: &Row<'_>) -> Result<()> {
     let length = count(row.text("length").unwrap_or(""))?;
-    let letters = row.due_bytes(alloc, "letters", "no letters")?;
-    agreeing_text(alloc, &letters, length)
+    let letters = row.due_bytes(out.alloc, "letters", "no letters")?;
+    push_agreeing(out, &letters, length)
 }

@@ -1,5 +1,5 @@
-use crate::lines::{formatted, owned, push_word};
-use crate::row::RowFault;
+use crate::lines::Answer;
+use crate::row::Result;
 use kt_base::{Entry, Kind, NoMemory, Run, Verdict, emit, emit_number, emit_wide_number};
 use kt_cli::Exit;
 use kt_play::{ScriptedWriter, WriteFault};
@@ -45,8 +45,7 @@ impl Printed<'_> {
     }
 }
 
-/// A writer that takes this many bytes at a time. One of its writes, counted from 1, fails in this way, and all after
-/// it; 0 for none.
+/// A writer that takes this many bytes at a time. From this write on, counted from 1, all fail so; 0 for none.
 pub fn writer(alloc: Global, at_most: usize, failing: u64, fault: WriteFault) -> ScriptedWriter {
     let mut writer = ScriptedWriter::new(alloc, failing);
     writer.at_most = at_most;
@@ -108,39 +107,46 @@ fn wrong_where_slow(
     wrong_where_cut(alloc, printed, &slow)
 }
 
-/// The text that is printed, if it is the same into each writer: one that takes all at a time, seven bytes or one, and
-/// one that fails at one of its first writes, which gets a beginning.
-pub fn printed_text(alloc: Global, printed: Printed<'_>) -> Result<String, RowFault> {
-    let mut out = writer(alloc, usize::MAX, 0, WriteFault::Broken);
-    printed.print(&mut out)?;
-    let text = out.kept()?;
+/// Appends the text that is printed, if it is the same into each writer: one that takes all at a time, seven bytes or
+/// one, and one that fails at one of its first writes, which gets a beginning.
+pub fn push_text(out: &mut Answer, printed: Printed<'_>) -> Result<()> {
+    let mut whole = writer(out.alloc, usize::MAX, 0, WriteFault::Broken);
+    printed.print(&mut whole)?;
+    let text = whole.kept()?;
     for at_most in [usize::MAX, 7, 1] {
-        if let Some(what) = wrong_where_slow(alloc, printed, at_most, text)? {
-            return owned(alloc, what);
+        if let Some(what) = wrong_where_slow(out.alloc, printed, at_most, text)? {
+            out.push(what);
+            return Ok(());
         }
     }
-    formatted(String::from_utf8_lossy(alloc, text))
+    out.bytes(text);
+    Ok(())
 }
 
-/// What was written on a page. One that doesn't end in a newline was cut.
-pub fn page_text(alloc: Global, page: &ScriptedWriter) -> Result<String, RowFault> {
-    let mut text = String::from_utf8_lossy(alloc, page.kept()?)?;
-    if !text.is_empty() && !text.as_str().ends_with('\n') {
-        text.push_str("(cut)\n")?;
+/// The text that is printed.
+pub fn printed_text(alloc: Global, printed: Printed<'_>) -> Result<String> {
+    let mut out = Answer::new(alloc);
+    push_text(&mut out, printed)?;
+    out.end()
+}
+
+/// Appends what was written on a page. One that doesn't end in a newline was cut.
+pub fn push_page(out: &mut Answer, page: &ScriptedWriter) -> Result<()> {
+    let bytes = page.kept()?;
+    out.bytes(bytes);
+    if !bytes.is_empty() && !bytes.ends_with(b"\n") {
+        out.push("(cut)\n");
     }
-    Ok(text)
+    Ok(())
 }
 
-/// What was written on a page, and how the commands ended.
-pub fn ended_text(
-    alloc: Global,
-    page: &ScriptedWriter,
-    exits: &[Exit],
-) -> Result<String, RowFault> {
-    let mut text = page_text(alloc, page)?;
-    text.push_str("exit")?;
+/// Appends what was written on a page, and how the commands ended.
+pub fn push_ended(out: &mut Answer, page: &ScriptedWriter, exits: &[Exit]) -> Result<()> {
+    push_page(out, page)?;
+    out.push("exit");
     for exit in exits {
-        push_word(&mut text, formatted(exit.status.to_string(alloc)))?;
+        out.push(" ");
+        out.made(exit.status.to_string(out.alloc));
     }
-    Ok(text)
+    Ok(())
 }

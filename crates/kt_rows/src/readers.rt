@@ -1,8 +1,7 @@
 //! Reads of a file that never ends.
 
-use crate::lines::formatted;
-use crate::numbers::number;
-use crate::row::{Row, RowFault};
+use crate::lines::Answer;
+use crate::row::{Result, Row};
 use kt_child::{FileRead, read_front, read_start};
 use kt_play::EndlessReader;
 use std::alloc::Global;
@@ -11,12 +10,10 @@ use std::alloc::Global;
 const WORLD_LIMIT: usize = 1_048_577;
 
 /// A reader: `piece BYTES` a read, and `reads N` before the first that fails, or is `interrupted`.
-fn reader_of(row: &Row<'_>) -> Result<EndlessReader, RowFault> {
-    let piece = number(row.text("piece").unwrap_or("1"))? as usize;
-    let reads = number(row.text("reads").unwrap_or("18446744073709551615"))?;
+fn reader_of(row: &Row<'_>) -> Result<EndlessReader> {
     Ok(EndlessReader {
-        piece,
-        reads,
+        piece: row.number("piece", 1)? as usize,
+        reads: row.number("reads", u64::MAX)?,
         interrupted: row.text("interrupted").is_some(),
         given: 0,
         failed: 0,
@@ -40,18 +37,21 @@ fn start(alloc: Global, file: &mut EndlessReader) -> Option<(usize, bool)> {
 }
 
 /// What is read by a system up to `limit BYTES`, or by a world.
-pub fn answer(alloc: Global, row: &Row<'_>) -> Result<String, RowFault> {
+pub fn answer(out: &mut Answer, row: &Row<'_>) -> Result<()> {
     let mut file = reader_of(row)?;
     let read = match row.text("limit") {
-        Some(limit) => front(alloc, &mut file, number(limit)?),
-        None => start(alloc, &mut file),
+        Some(_) => front(out.alloc, &mut file, row.number("limit", 0)?),
+        None => start(out.alloc, &mut file),
     };
     let (given, failed) = (file.given, file.failed);
     match read {
-        None => formatted(format!(in alloc; "failed; {given} bytes given, {failed} reads failed")),
+        None => {
+            out.made(format!(in out.alloc; "failed; {given} bytes given, {failed} reads failed"));
+        }
         Some((length, follows)) => {
             let more = if follows { " and more" } else { "" };
-            formatted(format!(in alloc; "{length} bytes{more}; {given} given"))
+            out.made(format!(in out.alloc; "{length} bytes{more}; {given} given"));
         }
     }
+    Ok(())
 }

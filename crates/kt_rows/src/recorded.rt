@@ -1,37 +1,26 @@
 ghost use Rattle.std.specs.Prelude.{◌≤◌, IfOk};
 
 use crate::escapes::{lossy_of, unescaped};
-use crate::lines::pairs_of;
-use crate::numbers::number;
-use crate::row::{Entry as Line, Row, RowFault, due, push_made, text_in};
+use crate::lines::{both, pairs_of};
+use crate::row::{Entry as Line, Result, Row, RowFault, due, number_in, push_made, text_in};
 use kt_base::{Bytes, Entry, Items, Kind, LATEST_MOMENT, Output, Run, Variables, Verdict};
 use std::alloc::Global;
 
 /// The bytes after a word among these lines; none if the word isn't there.
-fn bytes_in(alloc: Global, lines: &[Line<'_>], word: &str) -> Result<Bytes, RowFault> {
+fn bytes_in(alloc: Global, lines: &[Line<'_>], word: &str) -> Result<Bytes> {
     match text_in(lines, word) {
         None => Ok(Bytes::new(alloc)),
-        Some(raw) => Ok(Bytes::from_vec(unescaped(alloc, raw)?)),
+        Some(raw) => unescaped(alloc, raw).map(Bytes::from_vec),
     }
 }
 
-/// The number after a word among these lines, or another one if the word isn't there.
-fn number_in(lines: &[Line<'_>], word: &str, other: u64) -> Result<u64, RowFault> {
-    match text_in(lines, word) {
-        None => Ok(other),
-        Some(text) => number(text),
-    }
-}
-
-fn output_in(alloc: Global, lines: &[Line<'_>], out: &str, err: &str) -> Result<Output, RowFault> {
-    Ok(Output {
-        out: bytes_in(alloc, lines, out)?,
-        err: bytes_in(alloc, lines, err)?,
-    })
+fn output_in(alloc: Global, lines: &[Line<'_>], out: &str, err: &str) -> Result<Output> {
+    let (out, err) = both(bytes_in(alloc, lines, out), bytes_in(alloc, lines, err))?;
+    Ok(Output { out, err })
 }
 
 /// The kind of a word.
-pub fn kind_of(word: &str) -> Result<Kind, RowFault> {
+pub fn kind_of(word: &str) -> Result<Kind> {
     match word {
         "passed" => Ok(Kind::Passed),
         "skipped" => Ok(Kind::Skipped),
@@ -43,7 +32,7 @@ pub fn kind_of(word: &str) -> Result<Kind, RowFault> {
 }
 
 /// The kinds of these words.
-pub fn kinds_of(alloc: Global, words: &str) -> Result<Vec<Kind>, RowFault> {
+pub fn kinds_of(alloc: Global, words: &str) -> Result<Vec<Kind>> {
     let mut kinds = Vec::new(alloc);
     for word in words.split_whitespace() {
         push_made(&mut kinds, kind_of(word))?;
@@ -52,7 +41,7 @@ pub fn kinds_of(alloc: Global, words: &str) -> Result<Vec<Kind>, RowFault> {
 }
 
 /// The verdict of a text such as `failed: x`.
-fn verdict_of(alloc: Global, text: &str) -> Result<Verdict, RowFault> {
+fn verdict_of(alloc: Global, text: &str) -> Result<Verdict> {
     let (word, reason) = text.split_once(": ").unwrap_or((text, ""));
     Ok(Verdict::of(kind_of(word)?, lossy_of(alloc, reason)?))
 }
@@ -65,15 +54,11 @@ fn no_output(alloc: Global) -> Output {
 }
 
 /// The entry of a case at this position that took no time and wrote nothing.
-fn case_entry(
-    alloc: Global,
-    content: &[Line<'_>],
-    verdict: &str,
-    position: u32,
-) -> Result<Entry, RowFault> {
-    let program = lossy_of(alloc, text_in(content, "program").unwrap_or("a"))?;
-    let case_name = lossy_of(alloc, text_in(content, "case").unwrap_or("main"))?;
+fn case_entry(alloc: Global, content: &[Line<'_>], verdict: &str, position: u32) -> Result<Entry> {
     let verdict = verdict_of(alloc, verdict)?;
+    let program = lossy_of(alloc, text_in(content, "program").unwrap_or("a"));
+    let case_name = lossy_of(alloc, text_in(content, "case").unwrap_or("main"));
+    let (program, case_name) = both(program, case_name)?;
     Ok(Entry {
         position,
         program,
@@ -87,7 +72,9 @@ fn case_entry(
     })
 }
 
-fn take_content(alloc: Global, entry: &mut Entry, content: &[Line<'_>]) -> Result<(), RowFault> {
+fn take_content(alloc: Global, entry: &mut Entry, content: &[Line<'_>]) -> Result<()> {
+    entry.started = number_in(content, "started", 0)?;
+    entry.millis = number_in(content, "took", 0)?;
     entry.body = output_in(alloc, content, "out", "err")?;
     entry.cleanup = output_in(alloc, content, "cleanup-out", "cleanup-err")?;
     entry.meta = pairs_of(alloc, content, "meta")?;
@@ -97,17 +84,8 @@ fn take_content(alloc: Global, entry: &mut Entry, content: &[Line<'_>]) -> Resul
 /// The entry with a verdict, and what the lines below it say: `program TEXT`, `case TEXT`, `started MILLISECONDS`,
 /// `took MILLISECONDS`, the outputs `out TEXT`, `err TEXT`, `cleanup-out TEXT` and `cleanup-err TEXT`; and a line `meta
 /// NAME=VALUE` for each pair.
-fn entry_of(
-    alloc: Global,
-    content: &[Line<'_>],
-    verdict: &str,
-    position: u32,
-) -> Result<Entry, RowFault> {
-    let started = number_in(content, "started", 0)?;
-    let millis = number_in(content, "took", 0)?;
+fn entry_of(alloc: Global, content: &[Line<'_>], verdict: &str, position: u32) -> Result<Entry> {
     let mut entry = case_entry(alloc, content, verdict, position)?;
-    entry.started = started;
-    entry.millis = millis;
     take_content(alloc, &mut entry, content)?;
     Ok(entry)
 }
@@ -118,7 +96,7 @@ pub fn storable_entry(
     content: &[Line<'_>],
     verdict: &str,
     position: u32,
-) -> Result<Entry, RowFault>
+) -> Result<Entry>
     ensures { IfOk result (λ e. (e.started ≤ 253402300799999) × (e.millis ≤ 253402300799999)) }
 {
     let mut entry = entry_of(alloc, content, verdict, position)?;
@@ -143,7 +121,7 @@ pub fn content_at<'a, 'b>(lines: &'b [Line<'a>], place: usize) -> &'b [Line<'a>]
     rest.split_at(length.min(rest.len())).0
 }
 
-fn count_of(entries: &Items<Entry>) -> Result<u32, RowFault> {
+fn count_of(entries: &Items<Entry>) -> Result<u32> {
     due(u32::try_from(entries.len()).ok(), "too many entries")
 }
 
@@ -153,7 +131,7 @@ fn push_entries(
     entries: &mut Items<Entry>,
     content: &[Line<'_>],
     verdict: &str,
-) -> Result<(), RowFault> {
+) -> Result<()> {
     for _ in 0..number_in(content, "times", 1)? {
         let position = count_of(entries)?;
         entries.push(entry_of(alloc, content, verdict, position)?)?;
@@ -162,7 +140,7 @@ fn push_entries(
 }
 
 /// The entries of a row: `entry VERDICT` each.
-fn entries_of(alloc: Global, lines: &[Line<'_>]) -> Result<Items<Entry>, RowFault> {
+fn entries_of(alloc: Global, lines: &[Line<'_>]) -> Result<Items<Entry>> {
     let mut entries = Items::new(alloc);
     for (place, line) in lines.iter().enumerate() {
         if line.word == "entry" {
@@ -173,7 +151,7 @@ fn entries_of(alloc: Global, lines: &[Line<'_>]) -> Result<Items<Entry>, RowFaul
 }
 
 /// The run of a row: `run NUMBER`, `at MILLISECONDS`, `unfinished`, and its entries.
-pub fn run_of(alloc: Global, row: &Row<'_>) -> Result<Run, RowFault> {
+pub fn run_of(alloc: Global, row: &Row<'_>) -> Result<Run> {
     let lines = row.entries.as_slice();
     let number = number_in(lines, "run", 1)?;
     let started = number_in(lines, "at", 0)?;

@@ -1,9 +1,8 @@
 //! What a store holds of its runs.
 
-use crate::entry_texts::{entries_text, shown};
-use crate::lines::{formatted, name_of, owned, push_told};
-use crate::numbers::number;
-use crate::row::{RowFault, push_made};
+use crate::entry_texts::push_entries;
+use crate::lines::Answer;
+use crate::row::{Result, RowFault, asked, push_made};
 use kt_base::Entry;
 use kt_store::{ResultStore, RunHead, entries};
 use std::alloc::Global;
@@ -19,98 +18,87 @@ fn state_text(head: &RunHead) -> &'static str {
     }
 }
 
-/// A run with the number of its entries: `run 1 at 500: 2 of 3, unfinished`, or without its moment `run 1: 2 of 3,
-/// unfinished`.
-fn run_text(
-    alloc: Global,
-    head: &RunHead,
-    entries: usize,
-    moments: bool,
-) -> Result<String, RowFault> {
+/// Appends a run with the number of its entries: `run 1 at 500: 2 of 3, unfinished`, or that without its moment.
+fn push_run(out: &mut Answer, head: &RunHead, entries: usize, moments: bool) {
     let (number, started, total) = (head.number, head.started, head.total);
-    let state = state_text(head);
-    formatted(if moments {
-        format!(in alloc; "run {number} at {started}: {entries} of {total}, {state}")
-    } else {
-        format!(in alloc; "run {number}: {entries} of {total}, {state}")
-    })
+    out.made(format!(in out.alloc; "run {number}"));
+    if moments {
+        out.made(format!(in out.alloc; " at {started}"));
+    }
+    out.made(format!(in out.alloc; ": {entries} of {total}, "));
+    out.push(state_text(head));
 }
 
-/// The runs of a store, a line each, with their moments or without.
-pub fn runs_text<R: ResultStore>(
-    alloc: Global,
-    results: &mut R,
-    moments: bool,
-) -> Result<String, RowFault> {
+/// Appends the runs of a store, a line each, with their moments or without.
+pub fn push_runs<R: ResultStore>(out: &mut Answer, results: &mut R, moments: bool) {
     let heads = match results.runs() {
         Ok(heads) => heads,
-        Err(fault) => return name_of(alloc, &fault),
+        Err(fault) => return out.name(&fault),
     };
-    let mut text = String::new(alloc);
+    let mut separator = "";
     for head in heads.as_slice() {
-        let line = match results.outline(head.number) {
-            Ok(entries) => run_text(alloc, head, entries.len(), moments),
-            Err(fault) => name_of(alloc, &fault),
-        };
-        push_told(&mut text, line)?;
+        out.push(separator);
+        match results.outline(head.number) {
+            Ok(entries) => push_run(out, head, entries.len(), moments),
+            Err(fault) => out.name(&fault),
+        }
+        separator = "\n";
     }
-    Ok(text)
 }
 
-/// What a word shows of the entries of a run, or how many they are.
-pub fn run_entries_text<R: ResultStore>(
-    alloc: Global,
-    results: &mut R,
-    word: &str,
-    run: &str,
-) -> Result<String, RowFault> {
-    let found = match entries(alloc, results, number(run)?) {
-        Ok(found) => found,
-        Err(fault) => return name_of(alloc, &fault),
-    };
-    if word == "count" {
-        let count = found.len();
-        return formatted(format!(in alloc; "{count} entries"));
+/// Appends what a word shows of the entries of a run, or how many they are.
+pub fn push_run_entries<R: ResultStore>(out: &mut Answer, results: &mut R, word: &str, run: u64) {
+    match entries(out.alloc, results, run) {
+        Ok(found) if word == "count" => {
+            out.number(found.len() as u64);
+            out.push(" entries");
+        }
+        Ok(found) => push_entries(out, word, found.as_slice()),
+        Err(fault) => out.name(&fault),
     }
-    entries_text(alloc, word, found.as_slice())
 }
 
-/// All that is shown of an entry.
-fn whole_text(alloc: Global, entry: &Entry) -> Result<String, RowFault> {
-    let mut text = String::new(alloc);
+/// All that is shown of an entry, one of a list of its own.
+fn whole_text(alloc: Global, entry: &[Entry]) -> Result<String> {
+    let mut out = Answer::new(alloc);
     for word in ["cases", "outputs", "pairs"] {
-        push_told(&mut text, shown(alloc, word, entry))?;
+        out.line("");
+        push_entries(&mut out, word, entry);
     }
-    Ok(text)
+    out.end()
+}
+
+/// The head of a run.
+fn head_text(alloc: Global, head: &RunHead) -> Result<String> {
+    let (number, started, total) = (head.number, head.started, head.total);
+    asked(format!(in alloc; "run {number} at {started}, {total} cases"))
 }
 
 /// Appends all that is shown of a run: its head, its entries, and whether it is finished.
-fn push_run<R: ResultStore>(
+fn push_told<R: ResultStore>(
     alloc: Global,
     told: &mut Vec<String>,
     results: &mut R,
     head: &RunHead,
-) -> Result<(), RowFault> {
-    let (number, started, total) = (head.number, head.started, head.total);
-    let line = format!(in alloc; "run {number} at {started}, {total} cases");
-    push_made(told, formatted(line))?;
-    let Ok(found) = entries(alloc, results, number) else {
+) -> Result<()> {
+    let Ok(found) = entries(alloc, results, head.number) else {
         return Err(RowFault::Misspelled("its entries can not be told"));
     };
-    for entry in found.as_slice() {
+    push_made(told, head_text(alloc, head))?;
+    for entry in found.as_slice().chunks(1) {
         push_made(told, whole_text(alloc, entry))?;
     }
-    push_made(told, owned(alloc, state_text(head)))
+    push_made(told, asked(String::from_str(alloc, state_text(head))))
 }
 
 /// All that a store holds: of each run its head, its entries, and whether it is finished.
-pub fn told<R: ResultStore>(alloc: Global, results: &mut R) -> Result<Vec<String>, RowFault> {
+pub fn told<R: ResultStore>(alloc: Global, results: &mut R) -> Result<Vec<String>> {
     let Ok(heads) = results.runs() else {
         return Err(RowFault::Misspelled("its runs can not be told"));
     };
     let mut told = Vec::new(alloc);
     for head in heads.as_slice() {
-        push_run(alloc, &mut told, results, head)?;
+        push_told(alloc, &mut told, results, head)?;
     }
     Ok(told)
 }

@@ -1,6 +1,6 @@
 use crate::escapes::unescaped;
 use crate::numbers::{count, numbers};
-use crate::row::{Entry, Row, RowFault, halves, push_made};
+use crate::row::{Entry, Result, Row, RowFault, halves, push_made};
 use crate::verdicts::ending_of;
 use kt_base::Outcome;
 use kt_child::Polled;
@@ -8,7 +8,7 @@ use kt_play::{Holding, Life, PartFault, Scene, ask_too_much};
 use std::alloc::Global;
 
 /// How a child ended, as a poll reports it.
-fn polled_of(text: &str) -> Result<Polled, RowFault> {
+fn polled_of(text: &str) -> Result<Polled> {
     match ending_of(text)? {
         Outcome::Exited(code) => Ok(Polled::Exited(code)),
         Outcome::Signaled(signal, core) => Ok(Polled::Signaled(signal, core)),
@@ -17,7 +17,7 @@ fn polled_of(text: &str) -> Result<Polled, RowFault> {
 }
 
 /// A life: an ending, or `running x99, ` and an ending.
-fn life_of(text: &str) -> Result<Life, RowFault> {
+fn life_of(text: &str) -> Result<Life> {
     let (running, ending) = match text.strip_prefix("running x") {
         None => ("0", text),
         Some(rest) => halves(rest, ", ", "a life is `running xN, ` and an ending")?,
@@ -29,14 +29,14 @@ fn life_of(text: &str) -> Result<Life, RowFault> {
 }
 
 /// A file: its path, and what it holds.
-pub fn holding_of<'a>(alloc: Global, text: &'a str) -> Result<Holding<'a>, RowFault> {
+pub fn holding_of<'a>(alloc: Global, text: &'a str) -> Result<Holding<'a>> {
     let (path, raw) = text.split_once(' ').unwrap_or((text, ""));
     let bytes = unescaped(alloc, raw)?;
     Ok(Holding { path, bytes })
 }
 
 /// The calls that fail: none, `N` alone, or `N M` for those from `N` to `M`.
-fn failing_of(text: Option<&str>) -> Result<(u32, u32), RowFault> {
+fn failing_of(text: Option<&str>) -> Result<(u32, u32)> {
     match text {
         None | Some("each") => Ok((0, 0)),
         Some(text) => {
@@ -47,7 +47,7 @@ fn failing_of(text: Option<&str>) -> Result<(u32, u32), RowFault> {
 }
 
 /// What goes wrong in a read in parts.
-fn part_fault_of(text: Option<&str>) -> Result<PartFault, RowFault> {
+fn part_fault_of(text: Option<&str>) -> Result<PartFault> {
     match text {
         None => Ok(PartFault::None),
         Some("empty part") => Ok(PartFault::EmptyPart),
@@ -57,7 +57,7 @@ fn part_fault_of(text: Option<&str>) -> Result<PartFault, RowFault> {
 }
 
 /// The moments that are answered, and how much later each further one is.
-fn clock_of(alloc: Global, row: &Row<'_>) -> Result<(Vec<u64>, u64), RowFault> {
+fn clock_of(alloc: Global, row: &Row<'_>) -> Result<(Vec<u64>, u64)> {
     let (moments, step) = match row.text("moments") {
         Some(moments) => (moments, 0),
         None => (row.text("clock").unwrap_or("1"), 1),
@@ -66,7 +66,7 @@ fn clock_of(alloc: Global, row: &Row<'_>) -> Result<(Vec<u64>, u64), RowFault> {
 }
 
 /// Takes a line that says something of the scene.
-fn take<'a>(alloc: Global, scene: &mut Scene<'a>, entry: &Entry<'a>) -> Result<(), RowFault> {
+fn take<'a>(alloc: Global, scene: &mut Scene<'a>, entry: &Entry<'a>) -> Result<()> {
     match entry.word {
         "life" => push_made(&mut scene.lives, life_of(entry.text)),
         "holds" => push_made(&mut scene.files, holding_of(alloc, entry.text)),
@@ -76,7 +76,7 @@ fn take<'a>(alloc: Global, scene: &mut Scene<'a>, entry: &Entry<'a>) -> Result<(
 
 /// The scene of a row: `life LIFE` each, `holds PATH TEXT` each, `clock N` or `moments NUMBERS`, `fails CALLS` or, for
 /// memory, `refuses CALLS`, `odd WHAT`.
-pub fn scene_of<'a>(alloc: Global, row: &Row<'a>) -> Result<Scene<'a>, RowFault> {
+pub fn scene_of<'a>(alloc: Global, row: &Row<'a>) -> Result<Scene<'a>> {
     let failing = failing_of(row.text("fails").or(row.text("refuses")))?;
     let shortage = match row.text("refuses") {
         Some(_) => ask_too_much(alloc).err(),

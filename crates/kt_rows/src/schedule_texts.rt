@@ -1,34 +1,32 @@
-use crate::lines::{formatted, push_separated, push_word};
-use crate::row::RowFault;
+use crate::lines::Answer;
 use kt_base::{Entry, Role};
 use kt_play::Call;
 use kt_sched::{RunFault, Totals};
-use std::alloc::Global;
 
-/// A call: `start 1`, `start cleanup 1`, `end 1`.
-fn call_text(alloc: Global, call: Call) -> Result<String, RowFault> {
+/// Appends a call: `start 1`, `start cleanup 1`, `end 1`.
+fn push_call(out: &mut Answer, call: Call) {
     let (word, position, role) = match call {
-        Call::Started(position, role) | Call::Refused(position, role) => ("start", position, role),
-        Call::Ended(position, role) => ("end", position, role),
+        Call::Started(position, role) | Call::Refused(position, role) => ("start ", position, role),
+        Call::Ended(position, role) => ("end ", position, role),
     };
-    let role = match role {
-        Role::Body => "",
-        Role::Cleanup => "cleanup ",
-    };
-    formatted(format!(in alloc; "{word} {role}{position}"))
+    out.push(word);
+    if role == Role::Cleanup {
+        out.push("cleanup ");
+    }
+    out.number(position as u64);
 }
 
-/// The calls of the launcher, and a line with the positions of the entries in the order of their puts.
-pub fn long_text(alloc: Global, calls: &[Call], entries: &[Entry]) -> Result<String, RowFault> {
-    let mut out = String::new(alloc);
+/// Appends the calls of the launcher, and a line with the positions of the entries in the order of their puts.
+pub fn push_long(out: &mut Answer, calls: &[Call], entries: &[Entry]) {
     for call in calls {
-        push_separated(&mut out, ", ", &[call_text(alloc, *call)?.as_str()])?;
+        out.separate(", ");
+        push_call(out, *call);
     }
-    out.push_str("\nput")?;
+    out.push("\nput");
     for entry in entries {
-        push_word(&mut out, formatted(entry.position.to_string(alloc)))?;
+        out.push(" ");
+        out.number(entry.position as u64);
     }
-    Ok(out)
 }
 
 /// How many bodies and cleanups were started, and how many children ran at once at the most.
@@ -58,27 +56,26 @@ fn are_by_position(entries: &[Entry]) -> bool {
     true
 }
 
-/// The calls and puts of a run in short: `20 bodies, 10 cleanups, at most 4 at once; 20 entries by position`.
-pub fn brief_text(alloc: Global, calls: &[Call], entries: &[Entry]) -> Result<String, RowFault> {
+/// Appends the calls and puts of a run in short: `20 bodies, 10 cleanups, at most 4 at once; 20 entries by position`.
+pub fn push_brief(out: &mut Answer, calls: &[Call], entries: &[Entry]) {
     let (bodies, cleanups, most) = counts(calls);
     let count = entries.len();
-    let order = if are_by_position(entries) {
+    out.made(format!(in out.alloc; "{bodies} bodies, {cleanups} cleanups, at most {most} at once"));
+    out.made(format!(in out.alloc; "; {count} entries "));
+    out.push(if are_by_position(entries) {
         "by position"
     } else {
         "in another order"
-    };
-    formatted(format!(in alloc;
-        "{bodies} bodies, {cleanups} cleanups, at most {most} at once; {count} entries {order}"
-    ))
+    });
 }
 
-/// The end of a run: `3 good, 1 bad`, or why it failed.
-pub fn end_text(alloc: Global, end: Result<Totals, RunFault>) -> Result<String, RowFault> {
+/// Appends the end of a run: `3 good, 1 bad`, or why it failed.
+pub fn push_end(out: &mut Answer, end: Result<Totals, RunFault>) {
     match end {
         Ok(totals) => {
             let (good, bad, total) = (totals.good, totals.bad, totals.total);
-            formatted(format!(in alloc; "{good} good, {bad} bad of {total}"))
+            out.made(format!(in out.alloc; "{good} good, {bad} bad of {total}"));
         }
-        Err(fault) => formatted(fault.to_string(alloc)),
+        Err(fault) => out.made(fault.to_string(out.alloc)),
     }
 }

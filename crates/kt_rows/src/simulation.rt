@@ -1,4 +1,4 @@
-use crate::row::RowFault;
+use crate::row::{Result, RowFault};
 use kt_base::Role;
 use kt_play::{Call, is_refused};
 use std::alloc::Global;
@@ -49,7 +49,7 @@ impl<'a> Simulation<'a> {
         width: u32,
         ends: &'a [u32],
         failing: usize,
-    ) -> Result<Simulation<'a>, RowFault> {
+    ) -> Result<Simulation<'a>> {
         let Ok(count) = u32::try_from(letters.len()) else {
             return Err(RowFault::Misspelled("a plan too long"));
         };
@@ -128,7 +128,7 @@ impl<'a> Simulation<'a> {
     }
 
     /// Puts the entry of a case, unless a put failed before.
-    fn put(&mut self, i: u32) -> Result<(), RowFault> {
+    fn put(&mut self, i: u32) -> Result<()> {
         if self.failed {
             return Ok(());
         }
@@ -157,7 +157,7 @@ impl<'a> Simulation<'a> {
     }
 
     /// Puts the decided cases that are due.
-    fn put_decided(&mut self) -> Result<(), RowFault> {
+    fn put_decided(&mut self) -> Result<()> {
         for _ in 0..self.count {
             if let Some(i) = self.due() {
                 self.advance(i, Stage::Over)?;
@@ -167,7 +167,7 @@ impl<'a> Simulation<'a> {
     }
 
     /// Brings a case to a stage, and puts its entry if it is over.
-    fn advance(&mut self, i: u32, stage: Stage) -> Result<(), RowFault> {
+    fn advance(&mut self, i: u32, stage: Stage) -> Result<()> {
         self.set(i, stage);
         if stage == Stage::Over {
             self.put(i)
@@ -176,7 +176,7 @@ impl<'a> Simulation<'a> {
         }
     }
 
-    fn start(&mut self, i: u32, role: Role) -> Result<(), RowFault> {
+    fn start(&mut self, i: u32, role: Role) -> Result<()> {
         let (call, stage) = match role {
             _ if is_refused(self.letters, i, role) => (Call::Refused(i, role), Stage::Over),
             Role::Body => (Call::Started(i, role), Stage::Body),
@@ -186,7 +186,7 @@ impl<'a> Simulation<'a> {
         self.advance(i, stage)
     }
 
-    fn end(&mut self, i: u32) -> Result<(), RowFault> {
+    fn end(&mut self, i: u32) -> Result<()> {
         let (role, stage) = match self.stage(i) {
             Stage::Cleanup => (Role::Cleanup, Stage::Over),
             _ if has_cleanup(self.letter(i)) => (Role::Body, Stage::Owed),
@@ -228,7 +228,7 @@ impl<'a> Simulation<'a> {
     }
 
     /// Makes the next call, if there is one.
-    fn step(&mut self) -> Result<(), RowFault> {
+    fn step(&mut self) -> Result<()> {
         if let Some(i) = self.first_at(&[Stage::Owed]) {
             return self.start(i, Role::Cleanup);
         }
@@ -242,7 +242,7 @@ impl<'a> Simulation<'a> {
     }
 
     /// Plays the schedule to its end.
-    pub fn play(&mut self) -> Result<(), RowFault> {
+    pub fn play(&mut self) -> Result<()> {
         self.put_decided()?;
         for _ in 0..self.count.saturating_mul(4) {
             self.step()?;

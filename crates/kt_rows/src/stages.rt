@@ -3,7 +3,7 @@ ghost use Rattle.kt_sched.specs.Children.{IsIdle};
 use crate::fault_exits::failure;
 use crate::listings::listed_of;
 use crate::numbers::{number, numbers, set_number};
-use crate::row::{Entry, Row, RowFault, push_made, text_in};
+use crate::row::{Entry, Result, Row, RowFault, push_made, text_in};
 use crate::scenes::holding_of;
 use crate::words::commands_of;
 use kt_base::{NoMemory, Text};
@@ -36,7 +36,7 @@ fn empty_stage<'a>(alloc: Global) -> Stage<'a> {
 }
 
 /// Takes a line that says something of the world.
-fn take<'a>(alloc: Global, stage: &mut Stage<'a>, entry: &Entry<'a>) -> Result<(), RowFault> {
+fn take<'a>(alloc: Global, stage: &mut Stage<'a>, entry: &Entry<'a>) -> Result<()> {
     match entry.word {
         "holds" => push_made(&mut stage.files, holding_of(alloc, entry.text)),
         "config" => push_made(&mut stage.configs, holding_of(alloc, entry.text)),
@@ -55,7 +55,7 @@ fn take<'a>(alloc: Global, stage: &mut Stage<'a>, entry: &Entry<'a>) -> Result<(
 /// The world of a row: `holds PATH TEXT`, `program PATH`, `config PATH TEXT`, `locked PATH`, `dear PATH`, `lists
 /// PROGRAM LISTING`, `found-file PATH` and `found-program NAME` each, `root`, `has-memory N`, `has-disk N`, and `now
 /// MOMENTS`.
-pub fn stage_of<'a>(alloc: Global, lines: &[Entry<'a>]) -> Result<Stage<'a>, RowFault> {
+pub fn stage_of<'a>(alloc: Global, lines: &[Entry<'a>]) -> Result<Stage<'a>> {
     let mut stage = empty_stage(alloc);
     stage.moments = numbers(alloc, text_in(lines, "now").unwrap_or("0"))?;
     stage.root = text_in(lines, "root").is_some();
@@ -66,13 +66,13 @@ pub fn stage_of<'a>(alloc: Global, lines: &[Entry<'a>]) -> Result<Stage<'a>, Row
 }
 
 /// The first and the last call that is refused, of `N` or `N M`, counted from 1.
-fn calls_of(text: &str) -> Result<(u64, u64), RowFault> {
+fn calls_of(text: &str) -> Result<(u64, u64)> {
     let (first, last) = text.split_once(' ').unwrap_or((text, text));
     Ok((number(first)?, number(last)?))
 }
 
 /// The store of a row, in memory: `refused CALLS`, or `refused-memory CALLS`.
-pub fn store_of(alloc: Global, row: &Row<'_>) -> Result<RefusingStore, RowFault> {
+pub fn store_of(alloc: Global, row: &Row<'_>) -> Result<RefusingStore> {
     let (calls, shortage) = match row.text("refused-memory") {
         Some(calls) => (calls, ask_too_much(alloc).err()),
         None => (row.text("refused").unwrap_or("0"), None),
@@ -117,7 +117,7 @@ fn over_system<O: Os + Drop, R: ResultStore, W: Write>(
     os: O,
     results: &mut R,
     out: &mut W,
-) -> Result<(Vec<Exit>, O), RowFault> {
+) -> Result<(Vec<Exit>, O)> {
     let source = Text::from_str(alloc, "/t")?;
     match Driver::new(alloc, os, &Text::new(alloc), source) {
         Err((_fault, _os)) => Err(RowFault::Misspelled("there is no driver")),
@@ -135,7 +135,7 @@ pub fn row_over<'a, R: ResultStore, W: Write>(
     scene: &'a Scene<'a>,
     results: &mut R,
     out: &mut W,
-) -> Result<(Vec<Exit>, ScriptedSystem<'a>), RowFault> {
+) -> Result<(Vec<Exit>, ScriptedSystem<'a>)> {
     let commands = commands_of(alloc, row)?;
     let stage = stage_of(alloc, row.entries.as_slice())?;
     let os = ScriptedSystem::new(alloc, scene);

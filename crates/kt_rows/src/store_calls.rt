@@ -1,31 +1,25 @@
-use crate::lines::{formatted, name_of, owned};
+use crate::lines::Answer;
 use crate::numbers::{count, number};
-use crate::printing::ended_text;
+use crate::printing::push_ended;
 use crate::recorded::storable_entry;
-use crate::row::{Entry, RowFault, push_made, text_in};
-use crate::run_texts::{run_entries_text, runs_text};
+use crate::row::{Entry, Result, RowFault, number_in, push_made};
+use crate::run_texts::{push_run_entries, push_runs};
 use crate::stages::{over_launcher, stage_of};
 use crate::words::command_of;
 use kt_base::LATEST_MOMENT;
 use kt_play::{ScriptedLauncher, ScriptedWriter};
-use kt_store::ResultStore;
-use std::alloc::Global;
+use kt_store::{ResultStore, StoreFault};
 
-/// Finishes a run.
-fn finish<R: ResultStore>(alloc: Global, results: &mut R, run: &str) -> Result<String, RowFault> {
-    match results.finish(number(run)?) {
-        Ok(()) => owned(alloc, "done"),
-        Err(fault) => name_of(alloc, &fault),
+/// Appends whether a call was done.
+fn push_done(out: &mut Answer, done: Result<(), StoreFault>) {
+    match done {
+        Ok(()) => out.push("done"),
+        Err(fault) => out.name(&fault),
     }
 }
 
-/// Begins as many runs as `times N` says, and returns the number of the last one: `TOTAL MOMENT`.
-fn begin<R: ResultStore>(
-    alloc: Global,
-    results: &mut R,
-    text: &str,
-    times: u32,
-) -> Result<String, RowFault> {
+/// Begins as many runs as `times N` says, and appends the number of the last one: `TOTAL MOMENT`.
+fn begin<R: ResultStore>(out: &mut Answer, results: &mut R, text: &str, times: u64) -> Result<()> {
     let (total, moment) = text.split_once(' ').unwrap_or((text, "0"));
     let total = count(total)?;
     let moment = number(moment)?.min(LATEST_MOMENT);
@@ -33,73 +27,85 @@ fn begin<R: ResultStore>(
     for _ in 0..times {
         match results.begin(total, moment) {
             Ok(number) => last = number,
-            Err(fault) => return name_of(alloc, &fault),
+            Err(fault) => {
+                out.name(&fault);
+                return Ok(());
+            }
         }
     }
-    formatted(format!(in alloc; "run {last}"))
+    out.push("run ");
+    out.number(last);
+    Ok(())
 }
 
 /// Puts an entry, or as many as `times N` says from its position on: `RUN POSITION VERDICT`.
 fn put<R: ResultStore>(
-    alloc: Global,
+    out: &mut Answer,
     results: &mut R,
     text: &str,
     content: &[Entry<'_>],
-    times: u32,
-) -> Result<String, RowFault> {
+    times: u64,
+) -> Result<()> {
     let (run, rest) = text.split_once(' ').unwrap_or((text, ""));
     let (first, verdict) = rest.split_once(' ').unwrap_or((rest, "passed"));
-    let (run, first) = (number(run)?, count(first)?);
-    for place in 0..times {
-        let entry = storable_entry(alloc, content, verdict, first.saturating_add(place))?;
-        if let Err(fault) = results.put(run, &entry) {
-            return name_of(alloc, &fault);
+    let run = number(run)?;
+    let mut place = count(first)?;
+    let mut done = Ok(());
+    for _ in 0..times {
+        if done.is_ok() {
+            let entry = storable_entry(out.alloc, content, verdict, place)?;
+            done = results.put(run, &entry);
+            place = place.saturating_add(1);
         }
     }
-    owned(alloc, "done")
+    push_done(out, done);
+    Ok(())
 }
 
-/// How many runs there are.
-fn count_of_runs<R: ResultStore>(alloc: Global, results: &mut R) -> Result<String, RowFault> {
+/// Appends how many runs there are.
+fn push_count<R: ResultStore>(out: &mut Answer, results: &mut R) {
     match results.runs() {
         Ok(heads) => {
-            let count = heads.len();
-            formatted(format!(in alloc; "{count} runs"))
+            out.number(heads.len() as u64);
+            out.push(" runs");
         }
-        Err(fault) => name_of(alloc, &fault),
+        Err(fault) => out.name(&fault),
     }
 }
 
-/// Does a command over the store, and returns its page and its exit.
-fn done<R: ResultStore>(alloc: Global, results: &mut R, line: &str) -> Result<String, RowFault> {
-    let mut commands = Vec::new(alloc);
-    push_made(&mut commands, command_of(alloc, line))?;
-    let stage = stage_of(alloc, &[])?;
-    let mut page = ScriptedWriter::new(alloc, 0);
-    let launcher = ScriptedLauncher::new(alloc, &[], &[], &[]);
+/// Does a command over the store, and appends its page and its exit.
+fn carry_out<R: ResultStore>(out: &mut Answer, results: &mut R, line: &str) -> Result<()> {
+    let mut commands = Vec::new(out.alloc);
+    push_made(&mut commands, command_of(out.alloc, line))?;
+    let stage = stage_of(out.alloc, &[])?;
+    let mut page = ScriptedWriter::new(out.alloc, 0);
+    let launcher = ScriptedLauncher::new(out.alloc, &[], &[], &[]);
     let commands = commands.as_slice();
-    let (exits, _launcher) = over_launcher(alloc, commands, &stage, launcher, results, &mut page)?;
-    ended_text(alloc, &page, exits.as_slice())
+    let (exits, _launcher) = over_launcher(
+        out.alloc, commands, &stage, launcher, results, &mut page,
+    )?;
+    push_ended(out, &page, exits.as_slice())
 }
 
-/// What a call on a store of runs answers, whose line has others below it.
-pub fn call<R: ResultStore>(
-    alloc: Global,
+/// Appends what a call on a store of runs answers, whose line has others below it.
+pub fn push_call<R: ResultStore>(
+    out: &mut Answer,
     results: &mut R,
     line: &Entry<'_>,
     content: &[Entry<'_>],
-) -> Result<String, RowFault> {
-    let times = count(text_in(content, "times").unwrap_or("1"))?;
+) -> Result<()> {
+    let times = number_in(content, "times", 1)?;
     match line.word {
-        "begin" => begin(alloc, results, line.text, times),
-        "put" => put(alloc, results, line.text, content, times),
-        "finish" => finish(alloc, results, line.text),
-        "runs" => runs_text(alloc, results, true),
-        "count-runs" => count_of_runs(alloc, results),
+        "begin" => return begin(out, results, line.text, times),
+        "put" => return put(out, results, line.text, content, times),
+        "finish" => push_done(out, results.finish(number(line.text)?)),
+        "runs" => push_runs(out, results, true),
+        "count-runs" => push_count(out, results),
         "cases" | "outputs" | "pairs" | "count" => {
-            run_entries_text(alloc, results, line.word, line.text)
+            push_run_entries(out, results, line.word, number(line.text)?);
         }
-        "do" => done(alloc, results, line.text),
-        _ => Err(RowFault::Misspelled("there is no such call")),
+        "do" => return carry_out(out, results, line.text),
+        _ => return Err(RowFault::Misspelled("there is no such call")),
     }
+    Ok(())
 }

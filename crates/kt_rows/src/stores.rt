@@ -1,11 +1,10 @@
-use crate::lines::{name_of, owned, push_line, push_told};
+use crate::lines::Answer;
 use crate::recorded::{content_at, is_content};
-use crate::row::{Entry, Row, RowFault};
-use crate::store_calls::call;
+use crate::row::{Entry, Result, Row, RowFault};
+use crate::store_calls::push_call;
 use kt_cli::MemRuns;
 use kt_store::Results;
 use sqlite::{Alter, Connection};
-use std::alloc::Global;
 
 /// A database, and whether its tables were taken.
 #[derive(Drop)]
@@ -23,41 +22,40 @@ fn detached<S: Alter + Drop>(database: Database<S>) -> Connection<S> {
 }
 
 /// Takes the tables, and appends whether that was refused.
-fn attach<S: Alter + Drop>(
-    alloc: Global,
-    connection: Connection<S>,
-    out: &mut String,
-) -> Result<Database<S>, RowFault> {
+fn attach<S: Alter + Drop>(out: &mut Answer, connection: Connection<S>) -> Result<Database<S>> {
     if !connection.is_autocommit() {
         return Err(RowFault::Misspelled("a transaction is open"));
     }
-    let (database, told) = match Results::attach(alloc, connection) {
-        Ok(results) => (Database::Attached(results), owned(alloc, "attached")),
-        Err((fault, connection)) => (Database::Open(connection), name_of(alloc, &fault)),
-    };
-    push_told(out, told)?;
-    Ok(database)
+    match Results::attach(out.alloc, connection) {
+        Ok(results) => {
+            out.push("attached");
+            Ok(Database::Attached(results))
+        }
+        Err((fault, connection)) => {
+            out.name(&fault);
+            Ok(Database::Open(connection))
+        }
+    }
 }
 
 /// Appends what a call on these tables answers.
 fn ask<S: Alter + Drop>(
-    alloc: Global,
+    out: &mut Answer,
     mut results: Results<S>,
     line: &Entry<'_>,
     content: &[Entry<'_>],
-    out: &mut String,
-) -> Result<Database<S>, RowFault> {
-    push_told(out, call(alloc, &mut results, line, content))?;
+) -> Result<Database<S>> {
+    push_call(out, &mut results, line, content)?;
     Ok(Database::Attached(results))
 }
 
 /// Runs a statement.
 fn run_sql<S: Alter + Drop>(
+    out: &mut Answer,
     mut connection: Connection<S>,
     sql: &str,
-    out: &mut String,
-) -> Result<Database<S>, RowFault> {
-    push_line(out, "done")?;
+) -> Result<Database<S>> {
+    out.push("done");
     match connection.execute(sql, &[]) {
         Ok(_) => Ok(Database::Open(connection)),
         Err(_) => Err(RowFault::Misspelled("the statement fails")),
@@ -66,57 +64,54 @@ fn run_sql<S: Alter + Drop>(
 
 /// Does a line of a row over a database, and appends the answer.
 fn step<S: Alter + Drop>(
-    alloc: Global,
+    out: &mut Answer,
     database: Database<S>,
     line: &Entry<'_>,
     content: &[Entry<'_>],
-    out: &mut String,
-) -> Result<Database<S>, RowFault> {
+) -> Result<Database<S>> {
+    out.separate("\n");
     match line.word {
-        "attach" => attach(alloc, detached(database), out),
-        "sql" => run_sql(detached(database), line.text, out),
+        "attach" => attach(out, detached(database)),
+        "sql" => run_sql(out, detached(database), line.text),
         _ => match database {
             Database::Open(_) => Err(RowFault::Misspelled("no tables were taken")),
-            Database::Attached(results) => ask(alloc, results, line, content, out),
+            Database::Attached(results) => ask(out, results, line, content),
         },
     }
 }
 
 /// The answers to the lines of a row over a database.
 fn over<S: Alter + Drop>(
-    alloc: Global,
+    out: &mut Answer,
     lines: &[Entry<'_>],
     connection: Connection<S>,
-) -> Result<String, RowFault> {
+) -> Result<()> {
     let mut database = Database::Open(connection);
-    let mut out = String::new(alloc);
     for (place, line) in lines.iter().enumerate() {
         if !is_content(line) {
-            database = step(alloc, database, line, content_at(lines, place), &mut out)?;
+            database = step(out, database, line, content_at(lines, place))?;
         }
     }
-    Ok(out)
+    Ok(())
 }
 
 /// The answers to the lines of a row over runs in memory.
-fn over_memory(alloc: Global, lines: &[Entry<'_>]) -> Result<String, RowFault> {
-    let mut results = MemRuns::new(alloc);
-    let mut out = String::new(alloc);
+fn over_memory(out: &mut Answer, lines: &[Entry<'_>]) -> Result<()> {
+    let mut results = MemRuns::new(out.alloc);
     for (place, line) in lines.iter().enumerate() {
         if !is_content(line) && line.word != "memory" {
-            let told = call(alloc, &mut results, line, content_at(lines, place));
-            push_told(&mut out, told)?;
+            out.separate("\n");
+            push_call(out, &mut results, line, content_at(lines, place))?;
         }
     }
-    Ok(out)
+    Ok(())
 }
 
-/// What calls on a store answer, one after the other: over a database in memory, or over runs in memory where the first
-/// line is `memory`.
-pub fn answer(alloc: Global, row: &Row<'_>) -> Result<String, RowFault> {
+/// What calls on a store answer, one after the other: over a database in memory, or after `memory` over runs in memory.
+pub fn answer(out: &mut Answer, row: &Row<'_>) -> Result<()> {
     let lines = row.entries.as_slice();
     if row.text("memory").is_some() {
-        return over_memory(alloc, lines);
+        return over_memory(out, lines);
     }
-    over(alloc, lines, Connection::open_in_memory(alloc)?)
+    over(out, lines, Connection::open_in_memory(out.alloc)?)
 }

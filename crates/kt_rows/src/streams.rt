@@ -1,8 +1,8 @@
 //! The claims of result files and the results of TAP streams, read whole and in pieces.
 
 use crate::escapes::unescaped;
-use crate::lines::{formatted, joined, name_of, owned};
-use crate::row::{Row, RowFault};
+use crate::lines::Answer;
+use crate::row::{Result, Row, RowFault, asked};
 use kt_base::NoMemory;
 use kt_claim::{Claim, ClaimReader, Tap, TapReader, read_claim, read_tap};
 use std::alloc::Global;
@@ -16,8 +16,8 @@ trait Pieces: Sized + Drop {
 
     fn take(&mut self, piece: &[u8]) -> Result<(), NoMemory>;
 
-    /// What was read, in the form of a row.
-    fn told(self, alloc: Global) -> Result<String, RowFault>;
+    /// Appends what was read, in the form of a row.
+    fn push_read(self, out: &mut Answer);
 }
 
 impl Pieces for ClaimReader {
@@ -29,8 +29,8 @@ impl Pieces for ClaimReader {
         self.feed(piece)
     }
 
-    fn told(self, alloc: Global) -> Result<String, RowFault> {
-        claim_text(alloc, &self.finish()?)
+    fn push_read(self, out: &mut Answer) {
+        push_claim(out, self.finish());
     }
 }
 
@@ -43,105 +43,122 @@ impl Pieces for TapReader {
         self.feed(piece)
     }
 
-    fn told(self, alloc: Global) -> Result<String, RowFault> {
-        tap_text(alloc, &self.finish()?)
+    fn push_read(self, out: &mut Answer) {
+        push_tap(out, self.finish());
     }
 }
 
-/// A claim: its name, its number if it has one, and its reason.
-fn claim_text(alloc: Global, claim: &Claim) -> Result<String, RowFault> {
-    let name = name_of(alloc, claim)?;
+/// Appends what a claim has after its name: its number if it has one, and its reason.
+fn push_reason(out: &mut Answer, claim: &Claim) {
     match claim {
-        Claim::Missing | Claim::Unreadable | Claim::Passed => Ok(name),
-        Claim::Malformed(fault) => formatted(format!(in alloc; "{name}: {fault:?}")),
+        Claim::Missing | Claim::Unreadable | Claim::Passed => {}
+        Claim::Malformed(fault) => out.made(format!(in out.alloc; ": {fault:?}")),
         Claim::Failed(reason)
         | Claim::Skipped(reason)
         | Claim::ExpectedFailure(reason)
         | Claim::ExpectedDeath(reason)
         | Claim::ExpectedTimeout(reason)
         | Claim::ExpectedExit(None, reason)
-        | Claim::ExpectedSignal(None, reason) => {
-            joined(alloc, &[name.as_str(), ": ", reason.as_str()])
-        }
+        | Claim::ExpectedSignal(None, reason) => out.push_all(&[": ", reason.as_str()]),
         Claim::ExpectedExit(Some(number), reason) | Claim::ExpectedSignal(Some(number), reason) => {
-            let reason = reason.as_str();
-            formatted(format!(in alloc; "{name}({number}): {reason}"))
+            out.made(format!(in out.alloc; "({number}): "));
+            out.push(reason.as_str());
         }
     }
 }
 
-/// The result of a stream.
-fn tap_text(alloc: Global, tap: &Tap) -> Result<String, RowFault> {
-    match tap {
-        Tap::Invalid(fault) => formatted(format!(in alloc; "invalid: {fault:?}")),
-        Tap::BailedOut => owned(alloc, "bailed out"),
-        Tap::SkipAll(reason) => joined(alloc, &["skipped: ", reason.as_str()]),
-        Tap::Counted(failures, tests) => {
-            formatted(format!(in alloc; "{failures} of {tests} failed"))
+fn push_claim(out: &mut Answer, claim: Result<Claim, NoMemory>) {
+    match claim {
+        Ok(claim) => {
+            out.name(&claim);
+            push_reason(out, &claim);
         }
+        Err(refusal) => out.fail(RowFault::NoMemory(refusal)),
     }
+}
+
+/// Appends the result of a stream.
+fn push_tap(out: &mut Answer, tap: Result<Tap, NoMemory>) {
+    match tap {
+        Ok(Tap::Invalid(fault)) => out.made(format!(in out.alloc; "invalid: {fault:?}")),
+        Ok(Tap::BailedOut) => out.push("bailed out"),
+        Ok(Tap::SkipAll(reason)) => out.push_all(&["skipped: ", reason.as_str()]),
+        Ok(Tap::Counted(bad, all)) => out.made(format!(in out.alloc; "{bad} of {all} failed")),
+        Err(refusal) => out.fail(RowFault::NoMemory(refusal)),
+    }
+}
+
+/// What was read.
+fn read_text<R: Pieces>(alloc: Global, reader: R) -> Result<String> {
+    let mut out = Answer::new(alloc);
+    reader.push_read(&mut out);
+    out.end()
 }
 
 /// What is read of bytes in two pieces.
-fn cut_text<R: Pieces>(alloc: Global, bytes: &[u8], cut: usize) -> Result<String, RowFault> {
+fn cut_text<R: Pieces>(alloc: Global, bytes: &[u8], cut: usize) -> Result<String> {
     let (front, back) = bytes.split_at(cut.min(bytes.len()));
     let mut reader = R::start(alloc);
     reader.take(front)?;
     reader.take(back)?;
-    reader.told(alloc)
+    read_text(alloc, reader)
 }
 
 /// What is read of bytes one by one.
-fn single_text<R: Pieces>(alloc: Global, bytes: &[u8]) -> Result<String, RowFault> {
+fn single_text<R: Pieces>(alloc: Global, bytes: &[u8]) -> Result<String> {
     let mut reader = R::start(alloc);
     for b in bytes {
         reader.take(&[*b])?;
     }
-    reader.told(alloc)
+    read_text(alloc, reader)
 }
 
-/// What was read of whole bytes, if it is the same byte by byte and, for short ones, in two pieces, wherever they are
-/// cut.
-fn agreed<R: Pieces>(alloc: Global, bytes: &[u8], whole: String) -> Result<String, RowFault> {
+/// Appends what was read of whole bytes, if it is the same byte by byte and, for short ones, in any two pieces.
+fn push_agreed<R: Pieces>(out: &mut Answer, bytes: &[u8], whole: &str) -> Result<()> {
     let cuts = if bytes.len() > LONG { 1 } else { bytes.len() };
     for cut in 0..cuts {
-        let other = cut_text::<R>(alloc, bytes, cut)?;
-        if other.as_str() != whole.as_str() {
-            return formatted(format!(in alloc; "cut at {cut}: {other}"));
+        let other = cut_text::<R>(out.alloc, bytes, cut)?;
+        if other.as_str() != whole {
+            out.made(format!(in out.alloc; "cut at {cut}: {other}"));
+            return Ok(());
         }
     }
-    let other = single_text::<R>(alloc, bytes)?;
-    if other.as_str() != whole.as_str() {
-        return joined(alloc, &["byte by byte: ", other.as_str()]);
+    let other = single_text::<R>(out.alloc, bytes)?;
+    if other.as_str() != whole {
+        out.push("byte by byte: ");
     }
-    Ok(whole)
+    out.push(other.as_str());
+    Ok(())
 }
 
-/// What is read of the pieces of a row: `piece TEXT` each.
-fn pieces_text<R: Pieces>(alloc: Global, row: &Row<'_>) -> Result<String, RowFault> {
-    let mut reader = R::start(alloc);
+/// Appends what is read of the pieces of a row: `piece TEXT` each.
+fn push_pieces<R: Pieces>(out: &mut Answer, row: &Row<'_>) -> Result<()> {
+    let mut reader = R::start(out.alloc);
     for entry in row.entries.as_slice() {
         if entry.word == "piece" {
-            reader.take(&unescaped(alloc, entry.text)?)?;
+            asked(reader.take(&unescaped(out.alloc, entry.text)?))?;
         }
     }
-    reader.told(alloc)
+    reader.push_read(out);
+    Ok(())
 }
 
 /// The claim of a result file: `file TEXT`, or `piece TEXT` for each piece.
-pub fn claim(alloc: Global, row: &Row<'_>) -> Result<String, RowFault> {
-    let Some(file) = row.bytes(alloc, "file")? else {
-        return pieces_text::<ClaimReader>(alloc, row);
+pub fn claim(out: &mut Answer, row: &Row<'_>) -> Result<()> {
+    let Some(file) = row.bytes(out.alloc, "file")? else {
+        return push_pieces::<ClaimReader>(out, row);
     };
-    let whole = claim_text(alloc, &read_claim(alloc, &file)?)?;
-    agreed::<ClaimReader>(alloc, &file, whole)
+    let mut whole = Answer::new(out.alloc);
+    push_claim(&mut whole, read_claim(out.alloc, &file));
+    push_agreed::<ClaimReader>(out, &file, whole.end()?.as_str())
 }
 
 /// The result of a TAP stream: `tap TEXT`, or `piece TEXT` for each piece.
-pub fn tap(alloc: Global, row: &Row<'_>) -> Result<String, RowFault> {
-    let Some(stream) = row.bytes(alloc, "tap")? else {
-        return pieces_text::<TapReader>(alloc, row);
+pub fn tap(out: &mut Answer, row: &Row<'_>) -> Result<()> {
+    let Some(stream) = row.bytes(out.alloc, "tap")? else {
+        return push_pieces::<TapReader>(out, row);
     };
-    let whole = tap_text(alloc, &read_tap(alloc, &stream)?)?;
-    agreed::<TapReader>(alloc, &stream, whole)
+    let mut whole = Answer::new(out.alloc);
+    push_tap(&mut whole, read_tap(out.alloc, &stream));
+    push_agreed::<TapReader>(out, &stream, whole.end()?.as_str())
 }

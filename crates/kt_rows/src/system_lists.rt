@@ -1,7 +1,7 @@
 //! The list of a program, asked of a driver of its own.
 
-use crate::lines::{formatted, owned, pairs_of, push_line, push_told};
-use crate::row::{Row, RowFault};
+use crate::lines::{Answer, both, pairs_of};
+use crate::row::{Result, Row, asked};
 use kt_atflist::{ListBytes, Listing};
 use kt_base::{Interface, Text, Variables};
 use kt_child::{Driver, Os};
@@ -20,15 +20,16 @@ fn call_of<'a>(shown: &str, line: &'a str) -> Option<&'a str> {
     }
 }
 
-/// The calls of a log, folded: all of `calls`, their first `words`, or those for `watching` children.
-pub fn calls(alloc: Global, shown: &str, log: &str) -> Result<String, RowFault> {
-    let mut lines = Vec::new(alloc);
+/// Appends the calls of a log, folded: all of `calls`, their first `words`, or those for `watching` children.
+pub fn push_calls(out: &mut Answer, shown: &str, log: &str) -> Result<()> {
+    let mut lines = Vec::new(out.alloc);
     for line in log.lines() {
         if let Some(call) = call_of(shown, line) {
             lines.push(call)?;
         }
     }
-    Ok(folded(alloc, &lines)?)
+    out.made(folded(out.alloc, &lines));
+    Ok(())
 }
 
 /// A system that was asked for the list of a program, and what came of it; nothing if there was no driver.
@@ -60,25 +61,30 @@ fn asked_for_list<O: Os + Drop>(
     }
 }
 
-/// How a list ended, and how long it is or why it isn't read; or why it was refused.
-fn listing_text(alloc: Global, listing: &Option<Listing>) -> Result<String, RowFault> {
+/// Appends how a list ended, and how long it is or why it isn't read; or why it was refused.
+fn push_listing(out: &mut Answer, listing: &Option<Listing>) {
     match listing {
-        None => owned(alloc, "no driver"),
-        Some(Listing::Refused(cause)) => formatted(format!(in alloc; "Refused({cause:?})")),
+        None => out.push("no driver"),
+        Some(Listing::Refused(cause)) => out.made(format!(in out.alloc; "Refused({cause:?})")),
         Some(Listing::Ended(outcome, ListBytes::Read(bytes))) => {
             let length = bytes.len();
-            formatted(format!(in alloc; "{outcome:?}, {length} bytes"))
+            out.made(format!(in out.alloc; "{outcome:?}, {length} bytes"));
         }
-        Some(Listing::Ended(outcome, bytes)) => {
-            formatted(format!(in alloc; "{outcome:?}, {bytes:?}"))
-        }
+        Some(Listing::Ended(how, bytes)) => out.made(format!(in out.alloc; "{how:?}, {bytes:?}")),
     }
 }
 
+/// Two texts of the crates.
+pub fn texts_of(alloc: Global, first: &str, second: &str) -> Result<(Text, Text)> {
+    both(
+        asked(Text::from_str(alloc, first)),
+        asked(Text::from_str(alloc, second)),
+    )
+}
+
 /// A program `d/p` of ATF cases.
-fn program_of(alloc: Global) -> Result<Program, RowFault> {
-    let path = Text::from_str(alloc, "d/p")?;
-    let suite = Text::from_str(alloc, "s")?;
+fn program_of(alloc: Global) -> Result<Program> {
+    let (path, suite) = texts_of(alloc, "d/p", "s")?;
     Ok(Program {
         interface: Interface::Atf,
         path,
@@ -92,29 +98,22 @@ fn listed_by<'a>(
     alloc: Global,
     row: &Row<'_>,
     scene: &'a Scene<'a>,
-) -> Result<Listed<ScriptedSystem<'a>>, RowFault> {
-    let base = Text::from_str(alloc, row.text("base").unwrap_or(""))?;
-    let source = Text::from_str(alloc, "/t")?;
-    let program = program_of(alloc)?;
-    let variables = pairs_of(alloc, row.entries.as_slice(), "variable")?;
+) -> Result<Listed<ScriptedSystem<'a>>> {
+    let (base, source) = texts_of(alloc, row.text("base").unwrap_or(""), "/t")?;
+    let variables = pairs_of(alloc, row.entries.as_slice(), "variable");
+    let (program, variables) = both(program_of(alloc), variables)?;
     let os = ScriptedSystem::new(alloc, scene);
     Ok(asked_for_list(alloc, os, &base, source, &program, &variables))
 }
 
-fn shown(
-    alloc: Global,
-    row: &Row<'_>,
-    listed: &Listed<ScriptedSystem<'_>>,
-) -> Result<String, RowFault> {
-    let mut out = calls(alloc, "words", listed.os.log()?)?;
-    if row.text("show") == Some("spawns") {
-        push_line(&mut out, listed.os.spawned().trim())?;
-    }
-    push_told(&mut out, listing_text(alloc, &listed.listing))?;
-    Ok(out)
-}
-
 /// The words of the calls that ask for a list, and what came of it; with `show spawns` what was started, too.
-pub fn answer(alloc: Global, row: &Row<'_>, scene: &Scene<'_>) -> Result<String, RowFault> {
-    shown(alloc, row, &listed_by(alloc, row, scene)?)
+pub fn answer(out: &mut Answer, row: &Row<'_>, scene: &Scene<'_>) -> Result<()> {
+    let listed = listed_by(out.alloc, row, scene)?;
+    push_calls(out, "words", listed.os.log()?)?;
+    if row.text("show") == Some("spawns") {
+        out.line(listed.os.spawned().trim());
+    }
+    out.separate("\n");
+    push_listing(out, &listed.listing);
+    Ok(())
 }

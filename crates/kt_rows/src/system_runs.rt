@@ -2,10 +2,11 @@ ghost use Rattle.std.specs.Prelude.{IfOk};
 ghost use Rattle.kt_sched.specs.Plan.{IsPlan, IsWidth};
 
 use crate::escapes::unescaped;
-use crate::lines::pairs_of;
-use crate::numbers::{limit_of, number};
-use crate::row::{Row, RowFault};
+use crate::lines::{both, pairs_of};
+use crate::numbers::limit_of;
+use crate::row::{Result, Row};
 use crate::schedules::width_of;
+use crate::system_lists::texts_of;
 use kt_base::{Entry, Items, Text};
 use kt_child::{Driver, DriverFault, Os, run_driver};
 use kt_play::{MemorySink, Scene, ScriptedSystem, cases_of};
@@ -65,34 +66,28 @@ fn drive<O: Os + Drop>(
 }
 
 /// The plan of a row: `plan LETTERS`, perhaps `program PATH`, `limit SECONDS` and `variable NAME=VALUE` each.
-fn plan_of(alloc: Global, row: &Row<'_>) -> Result<Items<Job>, RowFault>
+fn plan_of(alloc: Global, row: &Row<'_>) -> Result<Items<Job>>
     ensures { IfOk result IsPlan }
 {
     let limit = limit_of(row.text("limit"))?;
-    let variables = pairs_of(alloc, row.entries.as_slice(), "variable")?;
-    let letters = unescaped(alloc, row.text("plan").unwrap_or(""))?;
+    let variables = pairs_of(alloc, row.entries.as_slice(), "variable");
+    let letters = unescaped(alloc, row.text("plan").unwrap_or(""));
+    let (letters, variables) = both(letters, variables)?;
     let program = row.text("program").unwrap_or("d/p");
     let plan = cases_of(alloc, program, letters.as_slice(), limit, &variables)?;
     Ok(plan)
 }
 
-/// The root of work directories, and the directory of the Kyuafile.
-fn directories_of(alloc: Global, row: &Row<'_>) -> Result<(Text, Text), RowFault> {
-    let base = Text::from_str(alloc, row.text("base").unwrap_or(""))?;
-    let source = Text::from_str(alloc, row.text("source").unwrap_or("/t"))?;
-    Ok((base, source))
-}
-
 /// Runs the plan of a row over a scripted system: what `plan_of` reads, and `width N`, `failing PUT`, `base PATH` and
 /// `source PATH`.
-pub fn run_plan<'a>(
-    alloc: Global,
-    row: &Row<'_>,
-    scene: &'a Scene<'a>,
-) -> Result<Ran<'a>, RowFault> {
+pub fn run_plan<'a>(alloc: Global, row: &Row<'_>, scene: &'a Scene<'a>) -> Result<Ran<'a>> {
     let width = width_of(row.text("width"))?;
-    let failing = number(row.text("failing").unwrap_or("0"))? as usize;
-    let (base, source) = directories_of(alloc, row)?;
+    let failing = row.number("failing", 0)? as usize;
+    let (base, source) = (
+        row.text("base").unwrap_or(""),
+        row.text("source").unwrap_or("/t"),
+    );
+    let (base, source) = texts_of(alloc, base, source)?;
     let plan = plan_of(alloc, row)?;
     let sink = MemorySink::new(alloc, failing);
     let os = ScriptedSystem::new(alloc, scene);

@@ -1,74 +1,74 @@
-use crate::entry_texts::entries_text;
-use crate::failures::each_failing;
-use crate::lines::{formatted, owned, push_line, push_told};
-use crate::row::{Row, RowFault};
+use crate::entry_texts::push_entries;
+use crate::failures::push_each_failing;
+use crate::lines::Answer;
+use crate::row::{Result, Row, RowFault};
 use crate::scenes::scene_of;
+use crate::system_lists::push_calls;
 use crate::system_runs::{Ran, run_plan};
-use crate::{readers, system_lists, verdicts};
+use crate::verdicts::push_verdict;
+use crate::{readers, system_lists};
 use kt_base::{Entry, Kind};
 use kt_play::Scene;
-use std::alloc::Global;
 
-/// How many cases passed, and the verdict of the first that didn't.
-fn totals(alloc: Global, entries: &[Entry]) -> Result<String, RowFault> {
-    let passed = entries
-        .iter()
-        .filter(|entry| entry.verdict.kind() == Kind::Passed)
-        .count();
-    let all = entries.len();
-    let other = entries
-        .iter()
-        .find(|entry| entry.verdict.kind() != Kind::Passed);
-    let Some(entry) = other else {
-        return formatted(format!(in alloc; "{passed} of {all} passed"));
-    };
-    let verdict = verdicts::shown(alloc, &entry.verdict)?;
-    formatted(format!(in alloc; "{passed} of {all} passed, {verdict}"))
-}
-
-/// What is shown of a run by a word.
-fn shown_by(alloc: Global, word: &str, run: &Ran<'_>) -> Result<String, RowFault> {
-    match word {
-        "calls" | "words" | "watching" => system_lists::calls(alloc, word, run.os.log()?),
-        "spawns" => owned(alloc, run.os.spawned().trim()),
-        "spawned" => {
-            let count = run.os.spawned().lines().count();
-            formatted(format!(in alloc; "{count} spawned"))
+/// Appends how many cases passed, and the verdict of the first that didn't.
+fn push_totals(out: &mut Answer, entries: &[Entry]) {
+    let (mut passed, mut other) = (0usize, None);
+    for entry in entries {
+        match entry.verdict.kind() {
+            Kind::Passed => passed = passed.saturating_add(1),
+            _ => other = other.or(Some(entry)),
         }
-        "totals" => totals(alloc, run.entries.as_slice()),
-        _ => entries_text(alloc, word, run.entries.as_slice()),
+    }
+    let all = entries.len();
+    out.made(format!(in out.alloc; "{passed} of {all} passed"));
+    if let Some(entry) = other {
+        out.push(", ");
+        push_verdict(out, &entry.verdict);
     }
 }
 
-/// What is shown of a run: its entries, where the row doesn't say.
-fn shown(alloc: Global, row: &Row<'_>, run: &Ran<'_>) -> Result<String, RowFault> {
-    let mut out = String::new(alloc);
+/// Appends what is shown of a run by a word.
+fn push_shown(out: &mut Answer, word: &str, run: &Ran<'_>) -> Result<()> {
+    match word {
+        "calls" | "words" | "watching" => return push_calls(out, word, run.os.log()?),
+        "spawns" => out.push(run.os.spawned().trim()),
+        "spawned" => {
+            out.number(run.os.spawned().lines().count() as u64);
+            out.push(" spawned");
+        }
+        "totals" => push_totals(out, run.entries.as_slice()),
+        _ => push_entries(out, word, run.entries.as_slice()),
+    }
+    Ok(())
+}
+
+/// Appends what is shown of a run: its entries, where the row doesn't say.
+fn push_run(out: &mut Answer, row: &Row<'_>, run: &Ran<'_>) -> Result<()> {
     for word in row.text("show").unwrap_or("entries").split_whitespace() {
-        push_told(&mut out, shown_by(alloc, word, run))?;
+        out.separate("\n");
+        push_shown(out, word, run)?;
     }
     if let Some(fault) = run.fault {
-        push_line(&mut out, fault)?;
+        out.line(fault);
     }
-    Ok(out)
+    Ok(())
 }
 
 /// What becomes of the cases of a plan.
-fn plan(alloc: Global, row: &Row<'_>, scene: Scene<'_>) -> Result<String, RowFault> {
+fn plan(out: &mut Answer, row: &Row<'_>, scene: Scene<'_>) -> Result<()> {
     if row.text("fails") == Some("each") {
-        return each_failing(alloc, row, scene);
+        return push_each_failing(out, row, scene);
     }
-    let run = run_plan(alloc, row, &scene)?;
-    shown(alloc, row, &run)
+    push_run(out, row, &run_plan(out.alloc, row, &scene)?)
 }
 
-/// What is asked of a scripted system, and what comes of it. The first line says for what: `plan LETTERS`, `list` or
-/// `reader`.
-pub fn answer(alloc: Global, row: &Row<'_>) -> Result<String, RowFault> {
-    let scene = scene_of(alloc, row)?;
+/// What is asked of a scripted system, and what comes of it: the first line is `plan LETTERS`, `list` or `reader`.
+pub fn answer(out: &mut Answer, row: &Row<'_>) -> Result<()> {
+    let scene = scene_of(out.alloc, row)?;
     match row.first()?.word {
-        "plan" => plan(alloc, row, scene),
-        "list" => system_lists::answer(alloc, row, &scene),
-        "reader" => readers::answer(alloc, row),
+        "plan" => plan(out, row, scene),
+        "list" => system_lists::answer(out, row, &scene),
+        "reader" => readers::answer(out, row),
         _ => Err(RowFault::Misspelled("nothing like that is asked of a system")),
     }
 }
