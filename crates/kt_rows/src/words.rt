@@ -55,11 +55,11 @@ fn push_given(out: &mut Answer, config: &Option<Text>, variables: &[Text], filte
 }
 
 /// Appends a command over test cases: its Kyuafile, its directory, its results file if it has one, and what it is given.
-fn push_cases(out: &mut Answer, name: &str, options: &CaseOptions, results: &str) {
+fn push_cases(out: &mut Answer, name: &str, options: &CaseOptions, results: Option<&Text>) {
     let (kyuafile, work) = (options.kyuafile.as_str(), options.work.as_str());
     out.push_all(&[name, kyuafile, ", work ", work]);
-    if !results.is_empty() {
-        out.push_all(&[", results ", results]);
+    if let Some(results) = results {
+        out.push_all(&[", results ", results.as_str()]);
     }
     let (variables, filters) = (options.variables.as_slice(), options.filters.as_slice());
     push_given(out, &options.config, variables, filters);
@@ -86,9 +86,9 @@ fn push_sections(out: &mut Answer, kinds: &[Kind], verbose: bool) {
 
 fn push_command(out: &mut Answer, command: &Command) {
     match command {
-        Command::List(options) => push_cases(out, "list ", options, ""),
-        Command::Test { options, results } => push_cases(out, "test ", options, results.as_str()),
-        Command::Debug(options) => push_cases(out, "debug ", options, ""),
+        Command::List(options) => push_cases(out, "list ", options, None),
+        Command::Test { options, results } => push_cases(out, "test ", options, Some(results)),
+        Command::Debug(options) => push_cases(out, "debug ", options, None),
         Command::Report {
             options,
             kinds,
