@@ -5,20 +5,24 @@ use crate::properties::{push_props, set_known};
 use crate::row::{Result, Row, RowFault, asked, due};
 use crate::verdicts::push_reason;
 use kt_atflist::{CaseDef, Listing, cases, parse_list};
-use kt_base::{Interface, Items, Verdict};
+use kt_base::{Interface, Items, Reason, Verdict};
 use kt_metadata::Props;
 use std::alloc::Global;
+
+fn push_broken(out: &mut Answer, reason: Reason) -> Result<()> {
+    out.push(": ");
+    push_reason(out, &Verdict::broken(reason))
+}
 
 /// Appends a case in the form of a row: its name, the properties that differ from the defaults, and its fault.
 fn push_case(out: &mut Answer, case: CaseDef) -> Result<()> {
     let CaseDef { name, props, fault } = case;
     out.line(name.as_str());
     push_props(out, &props)?;
-    if let Some(reason) = fault {
-        out.push(": ");
-        push_reason(out, &Verdict::broken(reason))?;
+    match fault {
+        None => Ok(()),
+        Some(reason) => push_broken(out, reason),
     }
-    Ok(())
 }
 
 /// Appends cases in the form of a row, or their number if the row says `count`.

@@ -1,6 +1,6 @@
 //! The command `test` over a store whose disk fails at a call, and what the store then holds.
 
-use crate::disks::{closed, empty_files, filled, fused, left_by, open};
+use crate::disks::{empty_files, filled, fused, left_by, open};
 use crate::lines::Answer;
 use crate::row::{Result, Row, RowFault, due};
 use crate::run_texts::is_cut;
@@ -8,7 +8,7 @@ use crate::scenes::scene_of;
 use crate::stages::row_over;
 use kt_play::{Scene, ScriptedWriter};
 use kt_store::{ResultStore, Results, StoreFault};
-use sqlite::{Alter, Connection, FileStore};
+use sqlite::{Alter, Connection};
 use sqlite_disk::{Crash, Files, Memory};
 use std::alloc::Global;
 
@@ -166,15 +166,15 @@ impl Trial<'_> {
         })
     }
 
-    /// Does the commands over a database and hands it back; over none of its tables if they are not taken.
-    fn over<S: Alter + Drop>(self, conn: Connection<S>) -> Result<(Option<Tested>, Connection<S>)> {
+    /// Does the commands over a database, unless its tables are not taken, and hands its store back.
+    fn over<S: Alter + Drop>(self, conn: Connection<S>) -> Result<(Option<Tested>, S)> {
         match Results::attach(self.alloc, conn) {
             Ok(results) => {
                 let mut results = results;
                 let tested = self.done_over(&mut results)?;
-                Ok((Some(tested), results.detach()))
+                Ok((Some(tested), results.detach().into_store()))
             }
-            Err((StoreFault::Store(_), conn)) => Ok((None, conn)),
+            Err((StoreFault::Store(_), conn)) => Ok((None, conn.into_store())),
             Err(_) => Err(RowFault::Misspelled("it was refused for another reason")),
         }
     }
@@ -184,8 +184,8 @@ impl Trial<'_> {
         let Some(conn) = open(self.alloc, files, self.frames) else {
             return Ok(None);
         };
-        let (tested, conn) = self.over(conn)?;
-        let (schema, left) = left_by(self.alloc, closed(conn), self.frames)?;
+        let (tested, store) = self.over(conn)?;
+        let (schema, left) = left_by(self.alloc, store.close(), self.frames)?;
         Ok(Some(Attempt {
             tested,
             schema,

@@ -46,25 +46,20 @@ pub fn empty_files(alloc: Global) -> Files<Memory> {
     }
 }
 
-/// Runs the statements of an earlier version.
-fn fill<S: Alter + Drop>(mut conn: Connection<S>) -> Option<Connection<S>> {
+/// Runs the statements of an earlier version, and hands the store back.
+fn fill<S: Alter + Drop>(mut conn: Connection<S>) -> Option<S> {
     for sql in &SCHEMA_1 {
         if conn.execute(*sql, &[]).is_err() {
             return None;
         }
     }
-    Some(conn)
-}
-
-/// The files of a connection, which is closed.
-pub fn closed<D: Disk + Drop>(conn: Connection<FileStore<D>>) -> Files<D> {
-    conn.into_store().close()
+    Some(conn.into_store())
 }
 
 /// Empty files, filled with a store of schema 1.
 pub fn filled<D: Disk + Drop>(alloc: Global, files: Files<D>, frames: usize) -> Option<Files<D>> {
-    let conn = fill(open(alloc, files, frames)?)?;
-    Some(closed(conn))
+    let store = fill(open(alloc, files, frames)?)?;
+    Some(store.close())
 }
 
 /// Files of which the log or the database file fails after this many calls.

@@ -1,7 +1,7 @@
 //! Command lines over a scripted platform: what it is asked for, what is written, and how each line ends.
 
 use crate::fault_exits::{driver_fault, shortage, store_fault};
-use crate::lines::Answer;
+use crate::lines::{Answer, both};
 use crate::printing::push_page;
 use crate::recorded::content_at;
 use crate::row::{Result, Row};
@@ -150,8 +150,7 @@ pub fn answer<R: Files<File = File> + Clock + AllocGlobal>(
     out: &mut Answer,
     row: &Row<'_>,
 ) -> Result<()> {
-    let mut platform = platform_of(out.alloc, row)?;
-    let mut pages = pages_of(out.alloc, row)?;
+    let (mut platform, mut pages) = both(platform_of(out.alloc, row), pages_of(out.alloc, row))?;
     let mut exits = Answer::new(out.alloc);
     push_exits(rt, &mut exits, row, &mut platform, &mut pages)?;
     push_done(out, row, &mut platform, &pages, exits.end()?.as_str())

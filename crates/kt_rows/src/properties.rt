@@ -127,8 +127,8 @@ fn push_pairs(out: &mut Answer, props: &Props, entry: &Entry<'_>) -> Result<()> 
 impl Example {
     /// Appends why the case isn't run, in the suite `s`.
     fn push_unmet(&self, out: &mut Answer, props: &Props) -> Result<()> {
-        let meta = props.effective()?;
         let suite = Text::from_str(out.alloc, "s")?;
+        let meta = props.effective()?;
         match unmet(out.alloc, &meta, &self.config, &suite, &self.host)? {
             None => out.push("met"),
             Some(reason) => return push_reason(out, &Verdict::broken(reason)),

@@ -1,6 +1,7 @@
 ghost use Rattle.kt_sched.specs.Children.{IsIdle};
 
 use crate::fault_exits::failure;
+use crate::lines::both;
 use crate::listings::listed_of;
 use crate::numbers::{number, numbers, set_number};
 use crate::row::{Entry, Result, Row, RowFault, push_made, text_in};
@@ -136,8 +137,8 @@ pub fn row_over<'a, R: ResultStore, W: Write>(
     results: &mut R,
     out: &mut W,
 ) -> Result<(Vec<Exit>, ScriptedSystem<'a>)> {
-    let commands = commands_of(alloc, row)?;
-    let stage = stage_of(alloc, row.entries.as_slice())?;
+    let stage = stage_of(alloc, row.entries.as_slice());
+    let (commands, stage) = both(commands_of(alloc, row), stage)?;
     let os = ScriptedSystem::new(alloc, scene);
     let (exits, os) = over_system(alloc, commands.as_slice(), &stage, os, results, out)?;
     os.log()?;

@@ -11,7 +11,7 @@ use std::alloc::Global;
 pub fn words_of(alloc: Global, line: &str) -> Result<Vec<String>> {
     let mut words = Vec::new(alloc);
     for word in line.split_whitespace() {
-        words.push(text_of(alloc, word)?.into_string())?;
+        push_made(&mut words, text_of(alloc, word).map(Text::into_string))?;
     }
     Ok(words)
 }
