@@ -24,7 +24,7 @@ trap 'rm -rf "$room"' EXIT
 places=${ROWS_PLACES:-4}
 # What an answer says where memory ran out: of a read of a file it says that it failed, though the file failed none, and of a case that could
 # not be waited for nothing of its cleanup. And what kt_rows says of a row that it could not set up.
-answered='  got: .*([Mm]emory|could not be read|cleanup could not be started|could not be waited for|__test_cases_list__|no driver'
+answered='  got: .*([Mm]emory|could not be read|Unreadable|cleanup could not be started|could not be waited for|__test_cases_list__|no driver'
 answered="$answered|failed; [0-9]+ bytes given, 0 reads)"
 unanswered=': (.*out of memory|(there is )?no such (command|property or value|variable)|a filter that is refused is asked for by `read`'
 unanswered="$unanswered|no tables were taken|the statement fails|there is no driver|no statement failed)\$"
