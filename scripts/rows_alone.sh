@@ -6,7 +6,8 @@
 # - each row without such a comment with allocations refused, one in each run. Its answer must be the one that is due, or say that memory
 #   ran out in what kt_rows prints of it, from the first line that differs; or there is none, since the row could not be set up. Of a row's
 #   allocations ROWS_PLACES (4) are refused, other ones for other rows, and 2 if it has a limit; with ROWS_PLACES=all each. Where no C
-#   compiler is, this is left out.
+#   compiler is, this is left out. An answer in which an output is missing, since memory was refused as it was read, has no word of that: with
+#   ROWS_PLACES=all it is printed as another answer, and so is one in which a list that was not read leaves a filter without a case.
 #
 # Rows that try many things each, as a failure of each call of a disk, or each plan of some letters, are left out, and those whose output
 # or sink fails, since nothing is told then, or whose store refuses memory itself. Where a row lets each write fail in turn, none fails here.
