@@ -12,17 +12,6 @@ shown() {
         sed -e 's|/tmp/||g' -e 's|/usr/local/share/kyua/examples|.|g'
 }
 
-# recipe PAGE NAME: makes the script of that name, which a display of the page is.
-recipe() {
-    displays "$1" | awk -v usage="# usage: $2" '
-        /^==$/ { if (found) exit; text = ""; next }
-        { text = text $0 "\n" }
-        $0 == usage || index($0, usage " ") == 1 { found = 1 }
-        END { if (found) printf "%s", text }' > "$2"
-    [ -s "$2" ] || fail "$1 has no script $2"
-    chmod +x "$2"
-}
-
 # walk FILE: FILE has commands, on lines that begin with `$ `, each with its output after it, or without any if that isn't shown.
 # They run in the working directory, one after the other, with kyua and ./kyua.sh for the runner that is tested. Times and moments
 # are left out; so is how the cases of lines_test went, which need atf-sh, and a command of a program that isn't there.
