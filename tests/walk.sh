@@ -19,7 +19,7 @@ walk() {
     mkdir -p bin walk
     printf '#!/bin/sh\nexec "%s" "$@"\n' "$(realpath "$kyua")" > bin/kyua
     chmod +x bin/kyua
-    cp bin/kyua kyua.sh
+    [ -e kyua.sh ] || cp bin/kyua kyua.sh
     awk '/^\$ / { n++; print substr($0, 3) > ("walk/command." n); printf "" > ("walk/due." n); next }
          n { print > ("walk/due." n) }' "$1"
     n=0
