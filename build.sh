@@ -1,5 +1,5 @@
 #!/usr/bin/env bash
-# Proves and builds the program kyua in crates/kyua/out, unless it is there and newer than all its sources. Every crate that it
+# Proves and builds the program kyua in crates/kyua/out, unless it is there and was built from these sources. Every crate that it
 # depends on is proved first, each as soon as those that it depends on are proved; standard error gets a line for each crate. This
 # takes about half an hour on four processors.
 # rt is taken from PATH, else from the kit that RATTLE_KIT names. Exits with 2 if the build fails.
@@ -9,7 +9,6 @@ top=$(cd "$(dirname "$0")" && pwd)
 explain "$@"
 out=$top/crates/kyua/out
 log=$out/build.log
-begun=$out/begun
 rooms=$out/rooms
 # The longest chains of crates that wait for one another: these go before all that run beside them.
 chain=' kt_base kt_script kt_config kt_metadata kt_suite kt_sched kt_child kt_plan kt_words kt_cli '
@@ -69,13 +68,14 @@ prove() {
   fi
 }
 
-if is_newest "$built"; then exit; fi
+find_tools || exit 2
+if is_built; then exit; fi
 find_rt || exit 2
 # If this build fails, no older program stands in for it.
-rm -rf "$built" "$rooms"
+rm -rf "$built" "$record_of_built" "$rooms"
 mkdir -p "$rooms"
 : > "$log"
-touch "$begun"
+sources=$(hash_of_sources)
 for name in $(crates_up_to kyua); do
   [ "$name" = kyua ] || prove "$name" &
 done
@@ -86,5 +86,5 @@ echo 'build.sh: proving and linking kyua' >&2
 # rt runs what it linked, without words: the status of that run says nothing here.
 (cd "$top/crates/kyua" && rt run --jobs "$(nproc)") </dev/null >>"$log" 2>&1 || true
 [ -x "$built" ] || give_up
-# What is edited while this works is newer than the program.
-touch -r "$begun" "$built"
+# If a source was edited while this worked, the sources have another hash now.
+make_record "$built" "$sources" > "$record_of_built"

@@ -40,7 +40,8 @@ remove_all() {
 }
 
 uninstall_all() {
-    [ -f "$list" ] || fail "nothing was installed below $root: there is no $list"
+    [ -f "$list" ] || fail "nothing was installed below ${root:-/}: there is no $list"
+    half='run it again'
     { cat "$list"; echo "$own/installed"; } > "$room/old"
     remove_all "$room/old"
 }
@@ -85,12 +86,14 @@ page() {
 
 # place MODE SOURCE TARGET: puts a file in its place at once, so that a program that runs goes on.
 place() {
+    fresh=$3.new
     case $2 in
         *.[15]) page "$2" > "$3.new" ;;
         *) cp "$2" "$3.new" ;;
     esac
     chmod "$1" "$3.new"
     mv -f "$3.new" "$3"
+    fresh=
 }
 
 install_all() {
@@ -104,9 +107,10 @@ install_all() {
         fi
     done < "$room/sources"
     # The list comes first, so that an installation that fails half-way can be removed.
+    half='run it again, or with --uninstall'
     mkdir -p "$root/$own"
-    LC_ALL=C sort -u "$room/old" "$room/new" > "$list.new"
-    mv -f "$list.new" "$list"
+    LC_ALL=C sort -u "$room/old" "$room/new" > "$room/all"
+    place 644 "$room/all" "$list"
     while read -r mode target source; do
         mkdir -p "$root/${target%/*}"
         if [ "$source" = - ]; then place "$mode" "$program" "$root/$target"; else place "$mode" "$top/$source" "$root/$target"; fi
@@ -132,13 +136,24 @@ for word; do
     esac
 done
 prefix=${prefix:-${PREFIX:-/usr/local}}
-case $prefix in
-    /*) ;;
-    *) prefix=$PWD/$prefix ;;
-esac
-root=${DESTDIR-}$prefix
+prefix=$(realpath -ms "$prefix")
+[ "$prefix" != / ] || prefix=
+root=${DESTDIR-}
+root=${root%/}$prefix
 own=share/kyua
 list=$root/$own/installed
+# The file that is being written, and what to do if this ends half-way.
+fresh=
+half=
+
+# ended: what is left if this ends by itself, by a signal or since nobody reads what it prints.
+ended() {
+    status=$?
+    rm -rf "$room"
+    [ -z "$fresh" ] || rm -f "$fresh"
+    [ $status = 0 ] || [ -z "$half" ] || echo "install.sh: it was stopped half-way: $half" >&2
+}
 room=$(mktemp -d)
-trap 'rm -rf "$room"' EXIT
+trap ended EXIT
+trap 'exit 1' HUP INT TERM PIPE
 $action

@@ -4,21 +4,20 @@
 #   dist/kyua     the linked program, for Linux on x86-64 with glibc 2.34 or later
 #   dist/built    the hash of the sources that it was built from (sources.sh), the kit, and the hash of the program itself
 #
-#   dist.sh fits     exits with 0 if that program was built from these sources and runs on this machine; else it says why not
-#   dist.sh check    for the gate: if it was built from these sources with this kit, the program that was built here must have
-#                    the same bytes; the last line is 'N passed, M failed'
-#   dist.sh make     builds the program, if it isn't built, and makes dist/ of it
+#   dist.sh fits            exits with 0 if that program was built from these sources and runs on this machine; else it says why not
+#   dist.sh check           compares it with the program that ./build.sh built here. Exits with 0 if they have the same bytes, 1 if
+#                           not, and 2, and says why, if nothing was compared: other sources, another kit, or no build here
+#   dist.sh check --gate    compares it with the program that the gate has just proved, and exits with 0 if it is of other sources or
+#                           of another kit; the last line is 'N passed, M failed'
+#   dist.sh make            builds the program, if it isn't built, and makes dist/ of it
 set -eu -o pipefail
 top=$(cd "$(dirname "$0")/.." && pwd)
 . "$top/scripts/sources.sh"
 shipped=$top/dist/kyua
 record=$top/dist/built
+changed='dist/kyua has other bytes than the program that dist/built names.'
 # Has the hash of the sources for which it was said that dist/kyua is run.
 said=$top/dist/out/said
-
-hash_of() {
-  sha256sum < "$1" | cut -d ' ' -f 1
-}
 
 # Whether this machine runs the program: kyua exits with 3 after its help.
 runs_here() {
@@ -27,19 +26,14 @@ runs_here() {
   [ $status = 3 ]
 }
 
-# says NAME VALUE: whether dist/built has this line.
-says() {
-  grep -Fxq "$1 $2" "$record"
-}
-
 # misfit SOURCES: prints why dist/kyua can't be run for the sources of this hash, or nothing.
 misfit() {
   if [ ! -x "$shipped" ] || [ ! -f "$record" ]; then
     echo 'There is no program in dist/.'
-  elif ! says sources "$1"; then
+  elif ! says "$record" sources "$1"; then
     echo 'dist/kyua was built from other sources.'
-  elif ! says program "$(hash_of "$shipped")"; then
-    echo 'dist/kyua has other bytes than the program that dist/built names.'
+  elif ! says "$record" program "$(hash_of "$shipped")"; then
+    echo "$changed"
   elif ! runs_here; then
     echo 'dist/kyua does not run on this machine: it is for Linux on x86-64 with glibc 2.34 or later.'
   fi
@@ -56,15 +50,27 @@ fits() {
   { mkdir -p "$top/dist/out" && echo "$sources" > "$said"; } 2>/dev/null || true
 }
 
+# check [--gate]
 check() {
+  local why
   find_rt || exit 2
-  if [ ! -x "$shipped" ] || [ ! -f "$record" ] || ! runs_here; then
-    echo 'dist.sh: no program for this machine is in dist/'
+  why=$(misfit "$(hash_of_sources)")
+  if [ -z "$why" ] && ! says "$record" kit "$(rt --version)"; then
+    why="dist/kyua is of $(sed -n 's/^kit //p' "$record"), and here is $(rt --version)."
+  fi
+  if [ "$why" = "$changed" ]; then
+    echo "dist.sh: $why"
+    echo '0 passed, 1 failed'
+    return 1
+  elif [ -n "$why" ]; then
+    echo "dist.sh: nothing was compared: $why"
+    [ "${1-}" = --gate ] || return 2
     echo '0 passed, 0 failed'
-  elif ! says sources "$(hash_of_sources)" || ! says kit "$(rt --version)"; then
-    echo 'dist.sh: dist/kyua was built from other sources or with another kit, so kyua.sh builds'
-    echo '0 passed, 0 failed'
-  elif says program "$(hash_of "$shipped")" && cmp "$built" "$shipped"; then
+  elif [ ! -x "$built" ] || { [ "${1-}" != --gate ] && ! is_built; }; then
+    echo 'dist.sh: nothing was compared: no program was built here from these sources: run ./build.sh.'
+    [ "${1-}" != --gate ] || echo '0 passed, 1 failed'
+    return 2
+  elif cmp "$built" "$shipped"; then
     echo 'dist.sh: dist/kyua has the bytes of the program that was built here'
     echo '1 passed, 0 failed'
   else
@@ -81,12 +87,13 @@ make_dist() {
   cp "$built" "$shipped.new"
   chmod 755 "$shipped.new"
   mv "$shipped.new" "$shipped"
-  printf '%s\n' "sources $(hash_of_sources)" "kit $(rt --version)" "program $(hash_of "$shipped")" > "$record"
+  cp "$record_of_built" "$record"
 }
 
 case "$#:${1-}" in
   1:fits) fits ;;
   1:check) check ;;
+  2:check) [ "$2" = --gate ] || explain "$@"; check --gate ;;
   1:make) make_dist ;;
-  *) explain "${@:---help}" ;;
+  *) explain "${@:-}" ;;
 esac

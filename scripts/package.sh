@@ -14,7 +14,7 @@ umask 022
 top=$(cd "$(dirname "$0")/.." && pwd)
 . "$top/scripts/sources.sh"
 case $#:${1-} in
-  1:-* | 0:*) explain "${@:---help}" ;;
+  1:-* | 0:*) explain "${@:-}" ;;
   1:*) ;;
   *) explain "$@" ;;
 esac
@@ -29,8 +29,6 @@ trap 'rm -rf "$room"' EXIT
 # stage ROOT PREFIX: installs all below a root, with what a package says of its licence.
 stage() {
   DESTDIR=$1 "$top/install.sh" "$2" > "$room/log"
-  # A package has a list of its own.
-  rm "$1$2/share/kyua/installed"
   mkdir -p "$1$2/share/doc/fermyzhal"
   {
     echo 'Fermyzhal, a proved reimplementation of Kyua.'
@@ -48,12 +46,18 @@ make_tarball() {
   local name=fermyzhal-$version-linux-x86_64
   stage "$room/tree" /usr/local
   mv "$room/tree/usr/local" "$room/$name"
+  # By its list install.sh replaces and removes what was unpacked. Of the directories that is what is this program's alone.
+  (cd "$room/$name" && find . -type f -printf '%P\n' -o -type d -printf '%P/\n') | LC_ALL=C sort |
+    grep -E '[^/]$|^share/(kyua|doc/fermyzhal)/' > "$room/list"
+  mv "$room/list" "$room/$name/share/kyua/installed"
   pack "$room" "$name" > "$into/$name.tar.gz"
 }
 
 make_deb() {
   local root=$room/deb
   stage "$root" /usr
+  # A package has a list of its own.
+  rm "$root/usr/share/kyua/installed"
   # Debian's zsh looks for what packages bring in a place of its own.
   mv "$root/usr/share/zsh/site-functions" "$root/usr/share/zsh/vendor-completions"
   mkdir "$root/DEBIAN"

@@ -1,5 +1,5 @@
-# What the scripts share: which files a build of the program kyua reads, and how a script explains itself. Scripts source this one;
-# they have set $top, the checkout.
+# What the scripts share: which files a build of the program kyua reads, what a program was built from, and how a script explains
+# itself. Scripts source this one; they have set $top, the checkout.
 # shellcheck shell=bash disable=SC2046
 
 # explain WORD..: for a script that takes no arguments. With any it prints the comment that the script begins with, and exits: with
@@ -12,20 +12,32 @@ explain() {
   esac
 }
 
+# Whether the commands that compare sources are there; else it says which is not.
+find_tools() {
+  local tool missing=0
+  for tool in awk find xargs grep sha256sum; do
+    command -v "$tool" > /dev/null 2>&1 && continue
+    case $tool in awk) set -- gawk ;; find | xargs) set -- findutils ;; grep) set -- grep ;; *) set -- coreutils ;; esac
+    echo "The command $tool is missing: install the package $1." >&2
+    missing=1
+  done
+  return $missing
+}
+
 # Puts rt on PATH, from the kit that RATTLE_KIT names if it isn't there. Fails, and says what is missing, if there is no rt.
 find_rt() {
   if command -v rt >/dev/null 2>&1; then return 0; fi
   if [ ! -x "${RATTLE_KIT-}/bin/rt" ]; then
-    echo "${0##*/}: the command rt of Rattle is missing: it is neither on PATH nor in the folder bin of the one that RATTLE_KIT names" >&2
+    echo "${0##*/}: the command rt of Rattle is missing: it is neither on PATH nor in the bin directory of the kit that RATTLE_KIT names" >&2
     return 1
   fi
   PATH="$RATTLE_KIT/bin:$PATH"
   export PATH
 }
 
-# The program that this checkout built.
-# shellcheck disable=SC2034
+# The program that this checkout built, and the record of what it was built from.
 built=$top/crates/kyua/out/kyua
+record_of_built=$top/crates/kyua/out/built
 
 # Prints a crate and all that it stands on, the lowest first.
 crates_up_to() {
@@ -52,12 +64,27 @@ places_of_sources() {
   done
 }
 
-# Whether a file is there and no source is newer.
-is_newest() {
-  [ -e "$1" ] && [ -z "$(cd "$top" && find $(places_of_sources) -newer "$1" -print -quit)" ]
-}
-
 # Prints the hash of a list with a line for each file that a build reads: the hash of its bytes, and its path.
 hash_of_sources() {
   (cd "$top" && find $(places_of_sources) -type f | LC_ALL=C sort | xargs sha256sum) | sha256sum | cut -d ' ' -f 1
+}
+
+hash_of() {
+  sha256sum < "$1" | cut -d ' ' -f 1
+}
+
+# make_record PROGRAM SOURCES: prints the record of a program: the hash of its sources, the kit, and the hash of the program itself.
+make_record() {
+  printf '%s\n' "sources $2" "kit $(rt --version)" "program $(hash_of "$1")"
+}
+
+# says RECORD NAME VALUE: whether a record has this line.
+says() {
+  grep -Fxq "$2 $3" "$1"
+}
+
+# Whether this checkout built a program from these sources.
+is_built() {
+  [ -x "$built" ] && [ -f "$record_of_built" ] && says "$record_of_built" program "$(hash_of "$built")" &&
+    says "$record_of_built" sources "$(hash_of_sources)"
 }
