@@ -1,7 +1,31 @@
-# bash completion for kyua(1): commands, options, kinds of results, and the programs and cases that `kyua list` prints.
+# bash completion for kyua(1): commands, options, variables, kinds of results, and the programs and cases that `kyua list` prints. Each TAB
+# after a command over test cases starts all ATF programs of the tree for their lists.
 # shellcheck shell=bash
 
-# _kyua_complete PREFIX WORD..: offers these words behind PREFIX, as far as they begin with what was typed.
+# _kyua_words: puts the words up to the cursor into words, without their quotes.
+_kyua_words() {
+    local rest=${COMP_LINE:0:COMP_POINT} quote='' next last=0
+    words=('')
+    while [ -n "$rest" ]; do
+        next=${rest:0:1}
+        rest=${rest:1}
+        case $quote$next in
+            \\) words[last]+=${rest:0:1}; rest=${rest:1} ;;
+            \" | \') quote=$next ;;
+            \"\" | \'\') quote='' ;;
+            [[:space:]]) [ -z "${words[last]}" ] || { words+=(''); last=$((last + 1)); } ;;
+            *) words[last]+=$next ;;
+        esac
+    done
+}
+
+# _kyua_plain WORD: puts the path that a word stands for, which may begin with ~ or $HOME, into plain.
+_kyua_plain() {
+    plain=$1
+    case $1 in \~/* | \$HOME/* | \$\{HOME\}/*) plain=$HOME/${1#*/} ;; esac
+}
+
+# _kyua_complete PREFIX WORD..: offers PREFIX followed by each of these words that matches what was typed.
 _kyua_complete() {
     local IFS=$'\n' prefix=$1 begun=$cur
     shift
@@ -10,28 +34,44 @@ _kyua_complete() {
     mapfile -t COMPREPLY < <(printf '%s\n' "${@/#/$prefix}" | while IFS= read -r word; do
         case $word in "$cur"*) printf '%s\n' "${word#"${cur%"$begun"}"}" ;; esac
     done)
-    case ${COMPREPLY[0]-} in *=) compopt -o nospace 2> /dev/null ;; esac
+    case ${COMPREPLY[0]-} in *[=.]) compopt -o nospace 2> /dev/null ;; esac
 }
 
 # _kyua_files KIND PREFIX: offers files (f) or directories (d) behind PREFIX.
 _kyua_files() {
-    mapfile -t COMPREPLY < <(compgen "-$1" -- "${cur#"$2"}")
+    local plain=${cur#"$2"}
+    # bash itself knows ~.
+    case $plain in \$*) _kyua_plain "$plain" ;; esac
+    mapfile -t COMPREPLY < <(compgen "-$1" -- "$plain")
     compopt -o filenames 2> /dev/null
 }
 
-# _kyua_cases: prints the programs and their directories and the cases of the Kyuafile.
+# _kyua_kinds: offers the kinds of results that the list doesn't have yet.
+_kyua_kinds() {
+    local given=,${cur#*=} kind kinds=()
+    for kind in passed skipped xfail broken failed; do
+        case ${given%,*}, in *",$kind,"*) ;; *) kinds+=("$kind") ;; esac
+    done
+    _kyua_complete "${cur%"${cur##*[=,]}"}" "${kinds[@]}"
+}
+
+# _kyua_cases [PATTERN]: offers the cases of the Kyuafile and their programs and directories, or those that awk finds by a pattern.
 _kyua_cases() {
-    "${words[0]}" list -k "$kyuafile" 2> /dev/null < /dev/null | awk '
+    local plain program cases
+    _kyua_plain "${words[0]}"
+    program=$plain
+    _kyua_plain "$kyuafile"
+    mapfile -t cases < <("$program" list -k "$plain" 2> /dev/null < /dev/null | awk '
         /^kyua: [EW]: / { next }
-        { print; sub(/:[^:]*$/, "") }
-        { while (!seen[$0]++) { print; if (!sub(/\/[^\/]*$/, "")) break } }'
+        { print; sub(/:.*/, "") }
+        { while (!seen[$0]++) { print; if (!sub(/\/[^\/]*$/, "")) break } }' | awk "${1-1}")
+    _kyua_complete '' "${cases[@]}"
 }
 
 _kyua() {
-    local line=${COMP_LINE:0:COMP_POINT} words cur word before='' command='' kyuafile=Kyuafile
+    local words cur word before='' command='' kyuafile=Kyuafile variables=(architecture= parallelism= platform= test_suites.)
     COMPREPLY=()
-    read -ra words <<< "$line"
-    case $line in *[[:space:]]) words+=('') ;; esac
+    _kyua_words
     cur=${words[${#words[@]} - 1]}
     for word in "${words[@]:1:${#words[@]}-2}"; do
         case $before in
@@ -47,22 +87,20 @@ _kyua() {
     case $before:$cur in
         -[ckr]:* | --config:* | --kyuafile:* | --results-file:*) _kyua_files f ''; return ;;
         --work:*) _kyua_files d ''; return ;;
+        -v:* | --variable:*) _kyua_complete '' "${variables[@]}"; return ;;
         *:--config=* | *:--kyuafile=* | *:--results-file=*) _kyua_files f "${cur%%=*}="; return ;;
         *:--work=*) _kyua_files d --work=; return ;;
+        *:--variable=*) _kyua_complete --variable= "${variables[@]}"; return ;;
     esac
     case $command:$cur in
         :*) _kyua_complete '' -c -v --config= --variable= --help list test debug report report-junit ;;
-        report:--results-filter=*,*) _kyua_complete "${cur%,*}," passed skipped xfail broken failed ;;
-        report:--results-filter=*) _kyua_complete --results-filter= passed skipped xfail broken failed ;;
+        report:--results-filter=*) _kyua_kinds ;;
         list:-* | debug:-*) _kyua_complete '' -k --kyuafile= --work= --help ;;
         test:-*) _kyua_complete '' -k -r --kyuafile= --results-file= --work= --help ;;
         report:*) _kyua_complete '' -r --results-file= --run= --results-filter= --verbose --help ;;
         report-junit:*) _kyua_complete '' -r --results-file= --run= --help ;;
-        *)
-            local cases
-            mapfile -t cases < <(_kyua_cases)
-            _kyua_complete '' "${cases[@]}"
-            ;;
+        debug:*) _kyua_cases /:/ ;;
+        *) _kyua_cases ;;
     esac
 }
 
