@@ -3,12 +3,14 @@
 #
 #   package.sh DIRECTORY     in this directory, with VERSION from CHANGELOG.md:
 #
-#   fermyzhal_VERSION_amd64.deb               for Debian, below /usr, if dpkg-deb is there. It conflicts with the package kyua.
+#   fermyzhal_VERSION_amd64.deb               for Debian, below /usr, if dpkg-deb is there. It conflicts with the package kyua. The
+#                                             program in it is stripped.
 #   fermyzhal-VERSION-linux-x86_64.tar.gz     to be unpacked below /usr/local: tar -C /usr/local --strip-components=1 -xzf FILE
 #   SHA256SUMS                                their hashes
 #
-# The program is the one that kyua.sh runs. DEBFULLNAME and DEBEMAIL name the maintainer. The times of the files are those of
-# SOURCE_DATE_EPOCH, or of CHANGELOG.md. Exits with 0 if all is done.
+# The program is the one that kyua.sh runs. DEBFULLNAME and DEBEMAIL must name the maintainer of the package for Debian, and HOMEPAGE may
+# name its page. All files get the time SOURCE_DATE_EPOCH, or else the first day of the month that CHANGELOG.md has for the version, so
+# two checkouts of one commit give the same bytes. Exits with 0 if all is done.
 set -eu -o pipefail
 umask 022
 top=$(cd "$(dirname "$0")/.." && pwd)
@@ -18,10 +20,16 @@ case $#:${1-} in
   1:*) ;;
   *) explain "$@" ;;
 esac
+if ! command -v dpkg-deb > /dev/null; then
+  echo 'package.sh: there is no dpkg-deb, so no package for Debian is made' >&2
+elif [ -z "${DEBFULLNAME-}" ] || [ -z "${DEBEMAIL-}" ]; then
+  echo 'package.sh: DEBFULLNAME and DEBEMAIL must name the maintainer of the package for Debian' >&2
+  exit 3
+fi
 mkdir -p "$1"
 into=$(cd "$1" && pwd)
-version=$(sed -n 's/^## \([0-9][0-9.]*\).*/\1/p' "$top/CHANGELOG.md" | head -n 1)
-SOURCE_DATE_EPOCH=${SOURCE_DATE_EPOCH:-$(stat -c %Y "$top/CHANGELOG.md")}
+read -r version month < <(sed -n 's/^## \([0-9][0-9.]*\) (\(.*\))$/\1 \2/p' "$top/CHANGELOG.md")
+SOURCE_DATE_EPOCH=${SOURCE_DATE_EPOCH:-$(LC_ALL=C date -u -d "1 $month" +%s)}
 export SOURCE_DATE_EPOCH
 room=$(mktemp -d)
 trap 'rm -rf "$room"' EXIT
@@ -53,22 +61,35 @@ make_tarball() {
   pack "$room" "$name" > "$into/$name.tar.gz"
 }
 
+# Prints what CHANGELOG.md has of the version, as Debian has it.
+debian_changelog() {
+  printf 'fermyzhal (%s) unstable; urgency=medium\n\n' "$version"
+  sed -n "/^## $version /,/^## /s/^- /  * /p" "$top/CHANGELOG.md" | fold -s -w 78 | sed -e 's/^[^ ]/    &/' -e 's/ *$//'
+  printf '\n -- %s <%s>  %s\n' "$DEBFULLNAME" "$DEBEMAIL" "$(LC_ALL=C date -u -R -d "@$SOURCE_DATE_EPOCH")"
+}
+
 make_deb() {
-  local root=$room/deb
+  local root=$room/deb size
   stage "$root" /usr
   # A package has a list of its own.
   rm "$root/usr/share/kyua/installed"
   # Debian's zsh looks for what packages bring in a place of its own.
   mv "$root/usr/share/zsh/site-functions" "$root/usr/share/zsh/vendor-completions"
+  debian_changelog > "$root/usr/share/doc/fermyzhal/changelog"
+  gzip -9n "$root"/usr/share/man/man[15]/* "$root/usr/share/doc/fermyzhal/changelog"
+  strip "$root/usr/bin/kyua" || echo 'package.sh: the program in the package for Debian is not stripped' >&2
+  size=$(find "$root/usr" -type f -printf '%s\n' -o -printf '1\n' | awk '{ size += int(($1 + 1023) / 1024) } END { print size }')
   mkdir "$root/DEBIAN"
   cat > "$root/DEBIAN/control" <<CONTROL
 Package: fermyzhal
 Version: $version
 Architecture: amd64
-Maintainer: ${DEBFULLNAME:-nobody} <${DEBEMAIL:-nobody@localhost}>
+Maintainer: $DEBFULLNAME <$DEBEMAIL>
+Installed-Size: $size
 Depends: libc6 (>= 2.34)
 Suggests: atf-sh
-Conflicts: kyua
+Conflicts: kyua${HOMEPAGE:+
+Homepage: $HOMEPAGE}
 Section: non-free/devel
 Priority: optional
 Description: test runner with ATF, TAP and plain test programs
@@ -82,5 +103,5 @@ CONTROL
 }
 
 make_tarball
-if command -v dpkg-deb > /dev/null; then make_deb; else echo 'package.sh: there is no dpkg-deb, so no package for Debian is made' >&2; fi
+if command -v dpkg-deb > /dev/null; then make_deb; fi
 (cd "$into" && sha256sum fermyzhal[-_]"$version"[-_]* > SHA256SUMS && cat SHA256SUMS)
