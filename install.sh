@@ -5,9 +5,9 @@
 #     install.sh --uninstall [PREFIX]     removes what was installed there, and prints each file and directory that it removes
 #     install.sh --help                   prints this
 #
-# The program is the one that kyua.sh runs, so it is built if there is none. If DESTDIR is set, all paths begin with it, as packages
-# want it. PREFIX/share/kyua/installed lists the files that were installed and the directories that were made for them; these
-# are removed again, a directory if it is empty. No file is replaced that isn't in this list. Exits with 0 if all is done, else 1.
+# The program is the one that kyua.sh runs, so it is built if there is none. If DESTDIR is set, all paths are below it, for packagers.
+# PREFIX/share/kyua/installed lists the files that were installed and the directories that were made for them; these are removed
+# again, a directory if it is empty. No file is replaced that isn't in this list. Exits with 0 if all is done, else 1.
 set -eu
 umask 022
 top=$(cd "$(dirname "$0")" && pwd)
