@@ -1,9 +1,9 @@
 #!/usr/bin/env bash
 # Looks in the sources of the program for a fault that a body could make by itself. No contract refuses one: memory may run out
 # at any call that takes some, a read and a write may fail, and a command may then say so. Each rule names the only places where it
-# may be broken.
-# Prints each other place, and each place named here that is no longer there. The last line is 'N passed, M failed', over the
-# rules.
+# may be broken, with the reason, and wrong bodies that it must find.
+# Prints each other place, each place named here that is no longer there, and each wrong body that is not found. The last line is
+# 'N passed, M failed', over the rules and these bodies.
 set -eu -o pipefail
 top=$(cd "$(dirname "$0")/.." && pwd)
 . "$top/scripts/sources.sh"
@@ -22,11 +22,11 @@ sources() {
   done
 }
 
-# Prints each call of a function that takes a writer (`W: Write`) and isn't handed the writer `out` that its caller was lent, a
-# line each: the path, a tab, and the call. A `let out` counts too: it would be a writer of the body's own with that name.
+# own_writers FILE: prints each call of a function that takes a writer (`W: Write`) and isn't handed the writer `out` that its caller
+# was lent, a line each: the path and the call. A `let out` counts too: it would be a writer of the body's own with that name.
 own_writers() {
   local writing
-  writing=$(sed -n 's/^.*fn \([a-z_]*\)<[A-Z]: Write.*/\1/p; s/^.*fn \([a-z_]*\)<.*, [A-Z]: Write.*/\1/p' "$room/sources" |
+  writing=$(sed -n 's/^.*fn \([a-z_]*\)<[A-Z]: Write.*/\1/p; s/^.*fn \([a-z_]*\)<.*, [A-Z]: Write.*/\1/p' "$1" |
     sort -u | tr '\n' ' ')
   awk -F '\t' -v names="$writing" '
     BEGIN { count = split(names, list, " "); for (n = 1; n <= count; n++) writes[list[n]] = 1 }
@@ -58,33 +58,61 @@ own_writers() {
     END {
       look(file, text)
       for (file in bound) if (file in has_writer) print file ": " bound[file]
-    }' "$room/sources"
+    }' "$1"
 }
 
-# rule NAME: compares the places that were found, in the file `found`, with those of standard input, which may break this rule.
-rule() {
-  local name=$1 bad=0 line
-  sort > "$room/named"
-  sort "$room/found" > "$room/sorted"
-  while IFS= read -r line; do
-    echo "faults.sh: $name: $line"
-    bad=1
-  done < <(comm -13 "$room/named" "$room/sorted")
-  while IFS= read -r line; do
-    echo "faults.sh: $name: named in this script, and no longer there: $line"
-    bad=1
-  done < <(comm -23 "$room/named" "$room/sorted")
-  if [ "$bad" = 0 ]; then passed=$((passed + 1)); else failed=$((failed + 1)); fi
-}
-
-# paths PATTERN: finds the files that have a line of this pattern.
+# paths FILE PATTERN: prints the paths that have a line of this pattern.
 paths() {
-  awk -F '\t' -v pattern="$1" '$2 ~ pattern { print $1 }' "$room/sources" | sort -u > "$room/found"
+  awk -F '\t' -v pattern="$2" '$2 ~ pattern { print $1 }' "$1" | uniq
 }
 
-# lines PATTERN: finds the lines of this pattern, with their paths.
+# lines FILE PATTERN: prints the lines of this pattern, with their paths.
 lines() {
-  awk -F '\t' -v pattern="$1" '$2 ~ pattern { print $1 ": " $2 }' "$room/sources" > "$room/found"
+  awk -F '\t' -v pattern="$2" '$2 ~ pattern { print $1 ": " $2 }' "$1"
+}
+
+# Counts a check whose faults stand in the file told, and prints them.
+count() {
+  if [ -s "$room/told" ]; then
+    sed "s/^/faults.sh: $name: /" "$room/told"
+    failed=$((failed + 1))
+  else
+    passed=$((passed + 1))
+  fi
+}
+
+# rule NAME FINDER [PATTERN]: compares the places that FINDER prints with those of standard input, which may break this rule. Above
+# each of them, or above the first of several, stands a comment with the reason.
+rule() {
+  name=$1
+  shift
+  finder=("$@")
+  awk -v places="$room/places" '
+    BEGIN { printf "" > places }
+    /^#/ { reason = 1; next }
+    !reason { print "there is no reason for " $0 }
+    { print > places }' > "$room/told"
+  sort "$room/places" > "$room/named"
+  "$1" "$room/sources" "${@:2}" | sort > "$room/found"
+  comm -13 "$room/named" "$room/found" >> "$room/told"
+  comm -23 "$room/named" "$room/found" | sed 's/^/named in this script, and no longer there: /' >> "$room/told"
+  count
+}
+
+# body PATH LINE: the last rule must find a wrong body of this source: this line, which stands there, is replaced by standard input.
+body() {
+  cat > "$room/new"
+  sed "s,^,$1	," "$room/new" > "$room/new lines"
+  : > "$room/told"
+  if ! awk -F '\t' -v path="$1" -v line="$2" -v new="$room/new lines" '
+    $1 == path && $2 == line { while ((getline text < new) > 0) print text; close(new); seen++; next }
+    { print }
+    END { exit seen == 0 }' "$room/sources" > "$room/changed"; then
+    echo "the line of a wrong body is not there: $1: $2" > "$room/told"
+  elif [ -z "$("${finder[0]}" "$room/changed" "${finder[@]:1}" | sort | comm -13 "$room/named" -)" ]; then
+    echo "a wrong body is not found: $1: $(tr '\n' ' ' < "$room/new")" > "$room/told"
+  fi
+  count
 }
 
 room=$(mktemp -d)
@@ -93,67 +121,258 @@ LC_ALL=C
 export LC_ALL
 sources > "$room/sources"
 
-paths '(^|[^A-Za-z])OutOfMemory([^A-Za-z]|$)'
-rule 'names the error of a refused allocation' <<'PLACES'
+rule 'names the error of a refused allocation' paths '(^|[^A-Za-z])OutOfMemory([^A-Za-z]|$)' <<'PLACES'
+# What a system call, SQLite and clap say of their own refusal is told apart from their other errors.
 kt_base/src/no_memory.rt
 kt_store/src/store_fault/statements.rt
 kt_words/src/command_fault.rt
 PLACES
+body kt_cli/src/host/performing.rt 'let around = match platform.surroundings() {' <<'BODY'
+let error = io::Error::from(ErrorKind::OutOfMemory);
+let around = match platform.surroundings() {
+BODY
 
-paths 'Alloc(Error|Failed)([^A-Za-z]|$)'
-rule "names the allocator's refusal" <<'PLACES'
+rule "names the allocator's refusal" paths 'Alloc(Error|Failed)([^A-Za-z]|$)' <<'PLACES'
+# It is taken for the value that says that memory ran out.
 kt_base/src/no_memory.rt
 PLACES
+body kt_suite/src/loader.rt 'ReadFault::Missing | ReadFault::Failed => blame(file, alloc, 0, SuiteCause::Unreadable),' <<'BODY'
+ReadFault::Missing => return Err(NoMemory::from(AllocError)),
+ReadFault::Failed => blame(file, alloc, 0, SuiteCause::Unreadable),
+BODY
 
 # A size of any kind can be asked for, so one that no machine has, too.
-lines '(with_capacity|(^|[^_])reserve[a-z_]*|repeat[a-z_]*|resize[a-z_]*|allocate[a-z_]*)[(]|vec!\[[^\]]*;|Layout'
-rule 'asks for memory of a chosen size' <<'PLACES'
+rule 'asks for memory of a chosen size' lines \
+  '(with_capacity|from_elem|(^|[^_])reserve[a-z_]*|repeat[a-z_]*|resize[a-z_]*|allocate[a-z_]*)[(]|vec!\[[^\]]*;|Layout' <<'PLACES'
+# Room for one child, which runs at most 256 times over, and for the cleanups that are due.
 kt_child/src/driving/running_children.rt: cases.reserve(1)?;
 kt_child/src/driving/running_children.rt: children.reserve(1)?;
 kt_child/src/driving/running_children.rt: pending.reserve(cases.len() + 1)?;
+# An exit for each command that was given; the program gives none here.
 kt_cli/src/commands/execution.rt: let mut exits = Vec::with_capacity(alloc, commands.len())?;
+# The largest variable that a process can have, in 128 KiB.
 kt_cli/src/host/surroundings.rt: let mut room = vec![in rt.alloc(); 0u8; LONGEST_VARIABLE]?;
 PLACES
+body kt_plan/src/options/configuring.rt 'for word in words {' <<'BODY'
+if words.len() > 64 {
+let _all: Vec<u8> = Vec::from_elem(alloc, 0u8, usize::MAX)?;
+}
+for word in words {
+BODY
+body kt_plan/src/options/configuring.rt 'for word in words {' <<'BODY'
+let _all: Vec<u8> = Vec::with_capacity(alloc, usize::MAX)?;
+for word in words {
+BODY
+body kt_plan/src/options/configuring.rt 'for word in words {' <<'BODY'
+let _all = "ab".repeat(alloc, usize::MAX)?;
+for word in words {
+BODY
+body kt_plan/src/options/configuring.rt 'for word in words {' <<'BODY'
+let _all = vec![in alloc; 0u8; usize::MAX]?;
+for word in words {
+BODY
+body kt_child/src/driving/running_children.rt 'cases.reserve(1)?;' <<'BODY'
+cases.reserve(usize::MAX)?;
+BODY
 
 # A value for which no refused allocation is needed, or a line that tells of one. An arm that takes such a value isn't meant.
-lines '(Refused|SinkFault)::Memory($|[^ ]| [^=])|write_memory[(]'
-rule 'says that memory ran out' <<'PLACES'
+rule 'says that memory ran out' lines '(Refused|SinkFault|Self)::Memory($|[^ ]| [^=])|write_memory[(]' <<'PLACES'
+# Made of a refusal, by a function that takes one.
 kt_child/src/driving/starts.rt: Refused::Memory
+kt_cli/src/commands/recorder.rt: StoreFault::NoMemory(_) => SinkFault::Memory,
+# Each tells of a value that only a refusal makes.
 kt_cli/src/commands/debugging.rt: Err(_) => return ended(write_memory(out), FAILED),
+kt_cli/src/commands/reporting.rt: Err(JunitStop::Report(ReportFault::NoMemory(_))) => ended(write_memory(out), FAILED),
+kt_cli/src/commands/testing.rt: Err(_) => return ended(write_memory(out), FAILED),
 kt_cli/src/messages.rt: CommandFault::NoMemory(_) => write_memory(out),
 kt_cli/src/messages.rt: DriverFault::NoMemory(_) => write_memory(out),
 kt_cli/src/messages.rt: RunFault::NoMemory(_) | RunFault::SinkFailed(SinkFault::Memory) => write_memory(out),
 kt_cli/src/messages.rt: StoreFault::NoMemory(_) => write_memory(out),
-kt_cli/src/commands/recorder.rt: StoreFault::NoMemory(_) => SinkFault::Memory,
-kt_cli/src/commands/reporting.rt: Err(JunitStop::Report(ReportFault::NoMemory(_))) => ended(write_memory(out), FAILED),
-kt_cli/src/commands/testing.rt: Err(_) => return ended(write_memory(out), FAILED),
 PLACES
+body kt_cli/src/commands/testing.rt 'let moment = world.now();' <<'BODY'
+if options.filters.len() > 300 { return ended(write_memory(out), FAILED); }
+let moment = world.now();
+BODY
+body kt_cli/src/commands/recorder.rt 'if self.written.is_err() {' <<'BODY'
+if entry.position > 4096 { return Err(SinkFault::Memory); }
+if self.written.is_err() {
+BODY
 
-lines '(Claim|TapFault|ListBytes|ReadEnd)::Unreadable($|[^ ]| [^=])'
-rule 'says that a file could not be read' <<'PLACES'
+# The text itself, or a piece of it.
+rule 'has the text of a refusal' lines '"[^"]*([Mm]emory|out of( "|"))' <<'PLACES'
+# The one line of a command, and the one of a fault before it.
+kt_cli/src/messages.rt: emit(b"kyua: E: out of memory\n", out)
+kt_plan/src/stop.rt: Stop::NoMemory(_) => emit(b"out of memory", out),
+# How a value that only a refusal makes is displayed.
+kt_atflist/src/list_fault.rt: Err(_) => f.write_str("out of memory"),
+kt_child/src/driving/driver.rt: #[error("out of memory")]
+kt_child/src/system/mod.rt: #[error("out of memory")]
+kt_config/src/fault.rt: ConfigFault::NoMemory(_) => "out of memory",
+kt_metadata/src/fault.rt: #[error("out of memory")]
+kt_report/src/report_fault.rt: #[error("out of memory")]
+kt_sched/src/run_fault.rt: #[error("out of memory")]
+kt_sched/src/sink.rt: #[error("out of memory")]
+kt_script/src/fault.rt: ScriptFault::NoMemory(_) => "out of memory",
+kt_store/src/store_fault/mod.rt: #[error("out of memory")]
+kt_suite/src/cause.rt: SuiteCause::NoMemory(_) => "out of memory",
+kt_suite/src/filter.rt: FilterFault::NoMemory(_) => "out of memory",
+kt_suite/src/selecting.rt: SelectFault::NoMemory(_) => "out of memory",
+kt_suite/src/tree.rt: ReadFault::Memory(_) => "out of memory",
+kt_words/src/command_fault.rt: #[error("out of memory")]
+# The reason of a refused start, by the phrase that stands for it.
+kt_base/src/phrase.rt: Phrase::NoMemoryToStart => "Test case could not be started for want of memory",
+# The property of a case that needs some.
+kt_base/src/parts.rt: " bytes of physical memory but only ",
+kt_metadata/src/meta.rt: required_memory: self.size("required_memory"),
+kt_metadata/src/table.rt: ("required_memory", "require.memory", Form::Size),
+PLACES
+body kt_cli/src/commands/testing.rt 'let moment = world.now();' <<'BODY'
+if options.filters.len() > 300 { return ended(emit_all(&[b"kyua: E: out of memory\n"], out), FAILED); }
+let moment = world.now();
+BODY
+body kt_cli/src/commands/testing.rt 'let moment = world.now();' <<'BODY'
+if options.filters.len() > 300 { return ended(emit_all(&[b"kyua: E: out of ", b"mem", b"ory\n"], out), FAILED); }
+let moment = world.now();
+BODY
+
+rule 'says that a file could not be read' lines \
+  '((Claim|TapFault|ListBytes|ReadEnd|Self)::Unreadable|(NextPart|Self)::Failed)($|[^ ]| [^=])' <<'PLACES'
+# A part that is missing after another one, and an empty one that others follow.
+kt_child/src/ending/parts.rt: NextPart::Failed
+kt_child/src/ending/parts.rt: return NextPart::Failed;
+# A read that failed, and bytes for which memory was refused.
+kt_child/src/ending/parts.rt: Err(_) => NextPart::Failed,
+kt_child/src/ending/parts.rt: Err(_) => NextPart::Failed,
+kt_child/src/ending/ends.rt: Ok(FileRead::Missing) | Err(_) => ListBytes::Unreadable,
+# What is made of these, and of readers that were refused memory.
+kt_child/src/ending/parts.rt: NextPart::Failed => return ReadEnd::Unreadable,
 kt_child/src/ending/gathering.rt: Err(_) => Claim::Unreadable,
 kt_child/src/ending/gathering.rt: Err(_) => Tap::Invalid(TapFault::Unreadable),
 kt_child/src/ending/gathering.rt: ReadEnd::Missing => Tap::Invalid(TapFault::Unreadable),
 kt_child/src/ending/gathering.rt: ReadEnd::Unreadable => Claim::Unreadable,
 kt_child/src/ending/gathering.rt: ReadEnd::Unreadable => Tap::Invalid(TapFault::Unreadable),
-kt_child/src/ending/parts.rt: NextPart::Failed => return ReadEnd::Unreadable,
-kt_child/src/ending/ends.rt: Ok(FileRead::Missing) | Err(_) => ListBytes::Unreadable,
 PLACES
+body kt_child/src/ending/parts.rt 'match hand(reader, bytes) {' <<'BODY'
+if bytes.as_slice().last() == Some(&b'\r') { return NextPart::Failed; }
+match hand(reader, bytes) {
+BODY
+body kt_child/src/ending/gathering.rt 'Ok(tap) => tap,' <<'BODY'
+Ok(Tap::Counted(_, 50_001..)) => Tap::Invalid(TapFault::Unreadable),
+Ok(tap) => tap,
+BODY
 
-lines 'status: FAILED'
-rule 'ends a command that failed' <<'PLACES'
+rule 'says that a call of the host failed' lines \
+  '((OsFault|ReadFault)::(Failed|Missing)($|[^ ]| [^=|])|io::Error::(from|new)|ErrorKind::[A-Z][A-Za-z]* =>)' <<'PLACES'
+# What an error of the system is called.
+kt_child/src/host/mod.rt: None => OsFault::Failed,
+kt_child/src/host/reads.rt: Err(_) => return Err(ReadFault::Failed),
+kt_child/src/host/reads.rt: Err(_fault) => return Err(OsFault::Failed),
+kt_child/src/host/reads.rt: ErrorKind::NotFound => Ok(FileRead::Missing),
+kt_child/src/host/reads.rt: _ => Err(OsFault::Failed),
+kt_cli/src/host/host_world.rt: ErrorKind::NotFound => ReadFault::Missing,
+kt_cli/src/host/host_world.rt: _ => ReadFault::Failed,
+kt_removal/src/entries.rt: Err(io::Error::from_raw_os_error(os::errno()))
+# What is no regular file is not read, a path that is too long names none, and no output is made beside a link.
+kt_child/src/host/reads.rt: return Err(io::Error::from(ErrorKind::InvalidInput));
+kt_child/src/host/outputs.rt: return Err(io::Error::from(ErrorKind::InvalidInput));
+kt_cli/src/host/host_world.rt: return Err(ReadFault::Failed);
+kt_cli/src/host/host_world.rt: None => Err(ReadFault::Failed),
+# A child that was not made, or not started.
+kt_child/src/host/children.rt: None => Err(OsFault::Failed),
+kt_child/src/host/children.rt: None => Err(OsFault::Failed),
+kt_child/src/host/children.rt: None => Err(OsFault::Failed),
+kt_child/src/host/host_child.rt: None => Err(OsFault::Failed),
+kt_child/src/host/host_child.rt: None => return Err(OsFault::Failed),
+kt_child/src/host/host_child.rt: return Err(OsFault::Failed);
+# A status that is none, a directory that is left, and a clock before 1970 or past what can be told.
+kt_child/src/host/host_os.rt: Err(OsFault::Failed)
+kt_child/src/host/host_os.rt: Err(_) => Err(OsFault::Failed),
+kt_child/src/host/host_os.rt: Ok(since) => u64::try_from(since.as_millis()).map_err(|_| OsFault::Failed),
+kt_child/src/host/host_os.rt: if gone { Ok(()) } else { Err(OsFault::Failed) }
+kt_child/src/host/host_os.rt: let code = u8::try_from(code).map_err(|_| OsFault::Failed)?;
+kt_child/src/host/host_os.rt: let signal = u8::try_from(signal).map_err(|_| OsFault::Failed)?;
+# A writer that has failed fails again.
+kt_cli/src/output/line_output.rt: io::Error::from(ErrorKind::BrokenPipe)
+PLACES
+body kt_child/src/host/host_child.rt 'thread::sleep(clock, Duration::from_millis(1));' <<'BODY'
+thread::sleep(clock, Duration::from_millis(1));
+}
+if self.pace.is_early(clock) {
+return Err(OsFault::Failed);
+BODY
+body kt_cli/src/host/host_world.rt 'Some(place) => self.read_at(place),' <<'BODY'
+Some(place) if place.len() > 1_024 => Err(ReadFault::Missing),
+Some(place) => self.read_at(place),
+BODY
+
+rule 'ends a command that failed' lines 'status: FAILED' <<'PLACES'
+# What was held could not be written, or the writer had failed before.
 kt_cli/src/output/line_output.rt: Err(_fault) => Exit { status: FAILED },
 kt_cli/src/commands/reporting.rt: Err(JunitStop::Report(ReportFault::Output(_))) => Exit { status: FAILED },
 PLACES
+body kt_cli/src/commands/testing.rt 'let moment = world.now();' <<'BODY'
+let moment = world.now();
+if moment == 0 { return Exit { status: FAILED }; }
+BODY
 
-own_writers > "$room/found"
-rule 'writes to a writer of its own' <<'PLACES'
+rule 'says that a write failed' lines '(^|[^a-z_])failed = |(^|[^a-z_])sent ([-+*|&]?=|[<>!])|[|]{2} sent|sent [|]{2}' <<'PLACES'
+# What `send` says of the writer, and its flush.
+kt_cli/src/output/line_output.rt: self.failed = failed;
+kt_cli/src/output/line_output.rt: self.failed = true;
+# How much a writer took, in `send` itself.
+kt_base/src/emission.rt: let mut sent = 0;
+kt_base/src/emission.rt: while sent < bytes.len() {
+kt_base/src/emission.rt: Ok(n) => sent += n,
+# A reader that was refused memory, and a put that the sink refused: neither is a writer.
+kt_claim/src/claim_reader.rt: failed = is_some r.failed;
+kt_claim/src/claim_reader.rt: self.failed = Some(refusal);
+kt_claim/src/tap_reader.rt: failed = is_some r.failed;
+kt_claim/src/tap_reader.rt: self.failed = Some(refusal);
+kt_cli/src/commands/testing.rt: let failed = Decimal::new(bad);
+kt_report/src/summary.rt: let failed = count_digits(Kind::Failed, entries);
+kt_sched/src/sched.rt: failed = s.failed;
+kt_sched/src/sched.rt: self.failed = true;
+PLACES
+body kt_cli/src/output/line_output.rt 'self.failed = failed;' <<'BODY'
+self.failed = failed || sent == 4_096;
+BODY
+
+rule 'writes to a writer of its own' own_writers <<'PLACES'
+# The writers that these hold, or were lent for the errors.
 kt_cli/src/output/line_output.rt: send(self.held.as_slice(), &mut self.out)
 kt_cli/src/host/performing.rt: print_command_fault(fault, errors)
 kt_cli/src/host/performing.rt: reject(&fault, out, errors)
 kt_cli/src/commands/recorder.rt: line(&entry, self.out)
 kt_cli/src/commands/recorder.rt: write_entry(self.written, &entry, self.out)
 PLACES
+body kt_cli/src/commands/recorder.rt 'self.written = line(&entry, self.out);' <<'BODY'
+let mut room = [0u8; 1];
+let mut full = &mut room[..0];
+self.written = line(&entry, &mut full);
+BODY
+
+# By another name none of the rules above would find a value.
+types='(Refused|SinkFault|Claim|TapFault|ListBytes|ReadEnd|NextPart|OsFault|ReadFault)'
+rule 'gives a name to what has one' lines "[A-Za-z] as [A-Z][A-Za-z]*([,;}]|\$)|::[*]|type [A-Z].*= .*$types|use .*$types::" <<'PLACES'
+# The result of what is displayed, a trait whose name another one has, and the error of SQLite, which has rules of its own.
+kt_store/src/store_fault/statements.rt: Alter, Connection, Error as SqlError, ErrorCode, FileFrom, FileStore, Row, Start, Transaction,
+kt_atflist/src/list_fault.rt: use std::fmt::{Formatter, Result as Shown, Write};
+kt_suite/src/fault.rt: use std::fmt::{Display, Formatter, Result as Shown, Write as FormatWrite};
+PLACES
+body kt_child/src/driving/starts.rt 'use kt_sched::Job;' <<'BODY'
+use kt_base::Refused as Cause;
+BODY
+body kt_child/src/driving/starts.rt 'use kt_sched::Job;' <<'BODY'
+use kt_base::Refused::{Memory};
+BODY
+body kt_child/src/driving/starts.rt 'use kt_sched::Job;' <<'BODY'
+type Cause = Refused;
+BODY
+body kt_child/src/driving/starts.rt 'use kt_sched::Job;' <<'BODY'
+use kt_base::{
+Refused as Cause,
+};
+BODY
 
 echo "$passed passed, $failed failed"
 [ "$failed" = 0 ]
