@@ -2,12 +2,17 @@
 # Tests this repository from scratch: every proof, the edits that must be refused, the rows of data and the program by `rt ci`,
 # the searches for faults that are made by hand and for definitions that no caller needs, rows in a process of their own, then the
 # runner's own suite with the program that was proved, and then the program in dist/, if there is one. The last line is 'N passed, M failed', over all.
-# rt is taken from PATH, else from the kit that RATTLE_KIT names.
+# rt is taken from PATH, else from the kit that RATTLE_KIT names. Without a C compiler it fails at once.
 set -u -o pipefail
 top=$(cd "$(dirname "$0")" && pwd)
 . "$top/scripts/sources.sh"
 explain "$@"
 cd "$top" || exit 2
+if ! command -v cc > /dev/null 2>&1; then
+  echo 'test.sh: there is no C compiler cc, without which no allocation is refused and no read or write interrupted' >&2
+  echo '0 passed, 1 failed'
+  exit 1
+fi
 find_rt || exit 2
 room=$(mktemp -d)
 trap 'rm -rf "$room"' EXIT
