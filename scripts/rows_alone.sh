@@ -3,33 +3,37 @@
 #
 # - each row that repeats something 4,000 times or more under a limit of one processor second, or of N below a comment `# At most N
 #   processor seconds.`: ten times what it takes. A body whose time grows with the square of what is large in the row needs more;
-# - each row without such a comment with allocations refused, one in each run. Its answer must be the one that is due, or say that memory
-#   ran out in what kt_rows prints of it, from the first line that differs; or there is none, since the row could not be set up. Of a row's
-#   allocations ROWS_PLACES (4) are refused, other ones for other rows, and 2 if it has a limit; with ROWS_PLACES=all each. Where no C
-#   compiler is, this is left out. An answer in which an output is missing, since memory was refused as it was read, has no word of that: with
-#   ROWS_PLACES=all it is printed as another answer, and so is one in which a list that was not read leaves a filter without a case.
+# - each row with allocations refused, one in each copy of the process that goes on from there (tests/refuse.c). Its answer must be the
+#   one that is due, or differ from it in what memory_answers.awk allows there and in nothing else, or there is none, since memory ran
+#   out before. As many allocations of each row are tried as a twentieth of a processor second allows, others whenever the sources are;
+#   with ROWS_PLACES=all each, which takes a night.
 #
-# Rows that try many things each, as a failure of each call of a disk, or each plan of some letters, are left out, and those whose output
-# or sink fails, since nothing is told then, or whose store refuses memory itself. Where a row lets each write fail in turn, none fails here.
+# Of a row that lets each write of a command fail in turn, the sound run alone is tried so.
 #
-# KT_ROWS names another program. The last line is 'N passed, M failed', over the rows.
+# KT_ROWS names another program. With FILE.rows .. as its words it checks these files alone. The last line is 'N passed, M failed',
+# over the rows.
 set -eu -o pipefail
 top=$(cd "$(dirname "$0")/.." && pwd)
 . "$top/scripts/sources.sh"
-explain "$@"
 data=$top/crates/kt_rows/data
+for word; do
+  [ -f "$data/$word" ] || explain "$@"
+done
 program=$(realpath -m "${KT_ROWS:-$top/crates/kt_rows/out/kt_rows}")
-[ -x "$program" ] || { echo "rows_alone.sh: there is no program $program; rows.sh makes it" >&2; echo '0 passed, 1 failed'; exit 1; }
+fail() {
+  echo "rows_alone.sh: $*" >&2
+  echo '0 passed, 1 failed'
+  exit 1
+}
+[ -x "$program" ] || fail "there is no program $program; rows.sh makes it"
+command -v cc > /dev/null 2>&1 || fail 'there is no C compiler cc, without which no allocation is refused'
 room=$(mktemp -d)
 trap 'rm -rf "$room"' EXIT
-places=${ROWS_PLACES:-4}
-# What an answer says where memory ran out: of a read of a file it says that it failed, though the file failed none, and of a case that could
-# not be waited for nothing of its cleanup. And what kt_rows says of a row that it could not set up.
-answered='  got: .*([Mm]emory|could not be read|Unreadable|cleanup could not be started|could not be waited for|__test_cases_list__|no driver'
-answered="$answered|failed; [0-9]+ bytes given, 0 reads)"
-unanswered=': (.*out of memory|(there is )?no such (command|property or value|variable)|a filter that is refused is asked for by `read`'
-unanswered="$unanswered|no tables were taken|the statement fails|there is no driver|no statement failed)\$"
-export room program places answered unanswered data
+places=${ROWS_PLACES:-some}
+# Which allocations are tried: a number that the sources have.
+first=$((16#$(hash_of_sources | cut -c 1-7)))
+judge=$top/scripts/memory_answers.awk
+export room program places data first judge
 
 # Puts each row of a file into a folder of its own, FILE.LINE, as that file, with its limit if it has one.
 #   rows_of FILE
@@ -67,37 +71,44 @@ rows_of() {
     }' "$data/$1"
 }
 
+# Says what is wrong with the row of this folder.
+complain() {
+  echo "${PWD##*/}: $1"
+  head -n 3 "${2:-told}" | cut -c 1-1000
+}
+
 # Whether the answer to a row is due within its limit.
-#   within_limit FOLDER
+#   within_limit FILE
 within_limit() {
-  (ulimit -t "$(cat limit)" && exec "$program" "$1" > out 2>&1) || { echo "${PWD##*/}: not within its limit"; sed -n 1,3p out; return 1; }
+  (ulimit -t "$(cat limit)" && exec "$program" "$1" > told 2>&1) || { complain 'not within its limit'; return 1; }
 }
 
-# Whether the answer to a row is due, or says that memory ran out, where an allocation is refused.
-#   without_allocation NUMBER FILE
-without_allocation() {
-  local status=0 said
-  LD_PRELOAD=$room/refuse.so REFUSE=$1 "$program" "$2" > /dev/null 2> out || status=$?
-  # It ends with 2 where it can't print.
-  case $status in
-    0 | 2) return 0 ;;
-    1) said=$(<out); [[ $said =~ $answered || $said =~ $unanswered ]] && return 0 ;;
-  esac
-  echo "${PWD##*/}: allocation $1: another answer"
-  sed -n 1,3p out
-  return 1
+# Counts the allocations of a row in count, and leaves its processor time in milliseconds in spent.
+#   counted FILE
+counted() {
+  local TIMEFORMAT='%3U %3S' took
+  took=$( { time LD_PRELOAD=$room/refuse.so COUNTED=$PWD/count "$program" "$1" > /dev/null 2> told; } 2>&1) || { complain 'another answer'; return 1; }
+  took=${took//./}
+  spent=$((10#${took% *} + 10#${took#* }))
+  count=$(<count)
 }
 
-# Whether the answer to a row is due, and none but that of memory that ran out where one of its allocations is refused.
+# Whether the answer to a row is due, or one that may stand in its place, where one of its allocations is refused.
 #   without_memory FILE
 without_memory() {
-  local count step number=${PWD##*.}
-  LD_PRELOAD=$room/refuse.so COUNTED=$PWD/count "$program" "$1" > /dev/null 2> out || { echo "${PWD##*/}: another answer"; sed -n 1,3p out; return 1; }
-  count=$(<count)
-  [ "$places" = all ] && step=1 || step=$((count / places + 1))
-  for ((number = number % step + 1; number <= count; number += step)); do
-    without_allocation "$number" "$1" || return 1
-  done
+  local count spent step=1 line=${PWD##*.}
+  counted "$1" || return 1
+  # A copy goes half the way of the whole on the average, and costs half a millisecond.
+  [ "$places" = all ] || step=$((count * (spent + 1) / 100 + 1))
+  mkdir copies
+  LD_PRELOAD=$room/refuse.so EACH=$PWD/copies FROM=$(((first + line) % step + 1)) STEP=$step "$program" "$1" > /dev/null 2> told ||
+    { complain 'another answer'; return 1; }
+  echo "tried $((count / step + 1)) of $count, $spent ms" > tried
+  # It exits with 2 where the file can't be read or the count not printed.
+  [ ! -e copies/ends ] || awk '$2 != 256 && $2 != 512 { print "allocation " $1 ": status " $2 }' copies/ends > told
+  [ ! -s told ] || { complain 'another end'; return 1; }
+  find copies -type f ! -name next ! -name ends -print0 | xargs -0r awk -v row="$1" -f "$judge" > told
+  [ ! -s told ] || { complain 'another answer without memory'; return 1; }
 }
 
 # Checks the row of a folder; a line of the log is `passed`, or says what is wrong.
@@ -107,29 +118,44 @@ check() {
   local file=${1##*/}
   file=${file%.*}
   [ ! -d "$data/${file%.rows}" ] || ln -s "$data/${file%.rows}" "${file%.rows}"
-  if grep -Eq '^(fails each|disk |letters |writes? [0-9]|refused-memory )' "$file"; then return; fi
-  if [ "$file" = systems.rows ] && grep -q '^failing ' "$file"; then return; fi
-  if [ -e limit ]; then
-    within_limit "$file" || return
-    # A row with a longer limit is too long to be run again and again.
-    [ "$(cat limit)" = 1 ] || { echo passed; return; }
-    [ "$places" = all ] || places=2
-  fi
-  [ -e "$room/refuse.so" ] || { [ ! -e limit ] || echo passed; return; }
+  [ ! -e limit ] || within_limit "$file" || return
   sed -i '/^writes each$/d' "$file"
   without_memory "$file" && echo passed
+  rm -rf copies
 }
-export -f check within_limit without_allocation without_memory
+export -f check within_limit without_memory counted complain
 
-if command -v cc > /dev/null 2>&1; then
-  cc -O2 -shared -fPIC -o "$room/refuse.so" "$top/tests/refuse.c" -ldl
-fi
+# Each of these answers must be called wrong: an invented reason, one of another interface, another exit, other totals, two faults.
+#   finds WANTED GOT
+finds() {
+  printf '%s\n' 'commands.rows:1: another answer' "  wanted: \"$1\"" "  got:    \"$2\"" > said
+  [ -n "$(awk -v row=commands.rows -f "$judge" said)" ] || { echo "a.rows.0: memory_answers.awk takes a wrong answer: $2"; return 1; }
+}
+try_judge() {
+  mkdir "$room/judge"
+  cd "$room/judge"
+  echo "holds Kyuafile plain_test_program{name='a'}" > commands.rows
+  local due='a:main  ->  passed  [0.012s]\n\n1/1 passed (0 failed)\nexit 0' memory='broken: Test case could not be started for want of memory'
+  finds "$due" 'a:main  ->  failed: memory  [0.012s]\n\n0/1 passed (1 failed)\nexit 1' &&
+    finds "$due" 'a:main  ->  broken: Results file could not be read  [0.012s]\n\n0/1 passed (1 failed)\nexit 1' &&
+    finds "$due" 'kyua: E: out of memory\nexit 1' &&
+    finds "$due" "a:main  ->  $memory  [0.000s]\n\n1/1 passed (1 failed)\nexit 1" &&
+    finds "$due" "b:main  ->  $memory  [0.000s]\n\n0/1 passed (1 failed)\nexit 1" &&
+    finds "$due" "a:main  ->  $memory  [0.000s]\nkyua: E: results store failed\nexit 2" &&
+    finds "$due" 'kyua: E: out of memory\nkyua: E: out of memory\nexit 2' && echo passed
+}
+
+cc -O2 -shared -fPIC -o "$room/refuse.so" "$top/tests/refuse.c" -ldl
 mkdir "$room/rows"
-for file in "$data"/*.rows; do rows_of "${file##*/}"; done
+[ $# -gt 0 ] || set -- "$data"/*.rows
+for file; do rows_of "${file##*/}"; done
 find "$room/rows" -mindepth 1 -maxdepth 1 | LC_ALL=C sort |
   xargs -P "$(nproc)" -I '{}' bash -c 'check "$1" || true' _ '{}' > "$room/log"
+(try_judge) >> "$room/log" || true
 passed=$(grep -c '^passed$' "$room/log" || true)
 failed=$(grep -c '^[a-z]*\.rows\.[0-9]*: ' "$room/log" || true)
 grep -v '^passed$' "$room/log" || true
+cat "$room"/rows/*/tried | awk '{ tried += $2; all += $4; ms += $4 * $6 / 2 }
+  END { printf "%d of %d allocations were refused; each of them takes %.1f hours of a processor\n", tried, all, (ms + all / 2) / 3600000 }'
 echo "$passed passed, $failed failed"
 [ "$failed" = 0 ]
