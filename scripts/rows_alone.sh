@@ -77,17 +77,14 @@ complain() {
   head -n 3 "${2:-told}" | cut -c 1-1000
 }
 
-# Whether the answer to a row is due within its limit.
-#   within_limit FILE
-within_limit() {
-  (ulimit -t "$(cat limit)" && exec "$program" "$1" > told 2>&1) || { complain 'not within its limit'; return 1; }
-}
-
-# Counts the allocations of a row in count, and leaves its processor time in milliseconds in spent.
-#   counted FILE
-counted() {
-  local TIMEFORMAT='%3U %3S' took
-  took=$( { time LD_PRELOAD=$room/refuse.so COUNTED=$PWD/count "$program" "$1" > /dev/null 2> told; } 2>&1) || { complain 'another answer'; return 1; }
+# Whether the answer to a row is due, and within its limit if it has one. Leaves in count how many allocations the row makes, and in
+# spent its processor time in milliseconds.
+#   is_due FILE
+is_due() {
+  local TIMEFORMAT='%3U %3S' took limit=unlimited
+  [ ! -e limit ] || limit=$(<limit)
+  took=$( (ulimit -t "$limit" && time LD_PRELOAD=$room/refuse.so COUNTED=$PWD/count "$program" "$1" > /dev/null 2> told) 2>&1) ||
+    { if [ -s told ]; then complain 'another answer'; else complain 'not within its limit'; fi; return 1; }
   took=${took//./}
   spent=$((10#${took% *} + 10#${took#* }))
   count=$(<count)
@@ -96,14 +93,14 @@ counted() {
 # Whether the answer to a row is due, or one that may stand in its place, where one of its allocations is refused.
 #   without_memory FILE
 without_memory() {
-  local count spent step=1 line=${PWD##*.}
-  counted "$1" || return 1
+  local step=1 from
   # A copy goes half the way of the whole on the average, and costs half a millisecond.
   [ "$places" = all ] || step=$((count * (spent + 1) / 100 + 1))
+  from=$(((first + ${PWD##*.}) % step + 1))
+  echo "$((count < from ? 0 : (count - from) / step + 1)) $count $spent" > tried
+  [ "$from" -le "$count" ] || return 0
   mkdir copies
-  LD_PRELOAD=$room/refuse.so EACH=$PWD/copies FROM=$(((first + line) % step + 1)) STEP=$step "$program" "$1" > /dev/null 2> told ||
-    { complain 'another answer'; return 1; }
-  echo "tried $((count / step + 1)) of $count, $spent ms" > tried
+  LD_PRELOAD=$room/refuse.so EACH=$PWD/copies FROM=$from STEP=$step "$program" "$1" > /dev/null 2> told || { complain 'another answer'; return 1; }
   # It exits with 2 where the file can't be read or the count not printed.
   [ ! -e copies/ends ] || awk '$2 != 256 && $2 != 512 { print "allocation " $1 ": status " $2 }' copies/ends > told
   [ ! -s told ] || { complain 'another end'; return 1; }
@@ -115,15 +112,14 @@ without_memory() {
 #   check FOLDER
 check() {
   cd "$1"
-  local file=${1##*/}
+  local count spent file=${1##*/}
   file=${file%.*}
   [ ! -d "$data/${file%.rows}" ] || ln -s "$data/${file%.rows}" "${file%.rows}"
-  [ ! -e limit ] || within_limit "$file" || return
   sed -i '/^writes each$/d' "$file"
-  without_memory "$file" && echo passed
+  is_due "$file" && without_memory "$file" && echo passed
   rm -rf copies
 }
-export -f check within_limit without_memory counted complain
+export -f check is_due without_memory complain
 
 # Each of these answers must be called wrong: an invented reason, one of another interface, another exit, other totals, two faults.
 #   finds WANTED GOT
@@ -155,7 +151,7 @@ find "$room/rows" -mindepth 1 -maxdepth 1 | LC_ALL=C sort |
 passed=$(grep -c '^passed$' "$room/log" || true)
 failed=$(grep -c '^[a-z]*\.rows\.[0-9]*: ' "$room/log" || true)
 grep -v '^passed$' "$room/log" || true
-cat "$room"/rows/*/tried | awk '{ tried += $2; all += $4; ms += $4 * $6 / 2 }
+cat "$room"/rows/*/tried | awk '{ tried += $1; all += $2; ms += $2 * $3 / 2 }
   END { printf "%d of %d allocations were refused; each of them takes %.1f hours of a processor\n", tried, all, (ms + all / 2) / 3600000 }'
 echo "$passed passed, $failed failed"
 [ "$failed" = 0 ]
