@@ -1,90 +1,139 @@
 -- what follows of a choice
-use Rattle.std.proofs.Common.{Some, None, is_none, is_some, map, ◌≡◌, ◌≢◌, ℕ, Bool, true, false, List, [], length, refl, sym, ◌∙◌, ap, arith}
-use Rattle.kt_sched.proofs.Common.{slice_get_within, cases_lt, Role, Body, Cleanup, Job, Next, Owing, mark_of, history, is_whole, owed, Fed, Follows, IsChosen, SchedState, Stands, IsAsked, IsUntaken, IsSettled}
+use Rattle.std.proofs.Common.{slice_get, Option, Some, None, is_some, map, ◌≡◌, ◌≢◌, ◌==◌, nat_lt, if◌then◌else◌, ℕ, ◌+◌, ◌<◌, ◌≤◌, ◌⊎◌, Bool, true, false, List, [], ◌∷◌, ◌++◌, length, refl, sym, ◌∙◌, ap, subst, arith, inl, inr}
+use Rattle.kt_sched.proofs.Common.{nat_tests, cases_lt, slice_get_within, Role, Body, Cleanup, Job, Next, Stage, Waiting, Owing, Taken, Case, BodyStarted, BodyEnded, end_mark, mark_of, of, history, is_whole, has_whole_history, turns, owed, recorded, Fed, has_failed, runs, IsNext, Follows, IsChosen, SchedState, Stands, IsStage, IsAsked, IsUntaken, IsSettled, listed, positions, opened, room_in, run_of, is_decided}
 use Rattle.kt_sched.specs.declared.next.Next.TheVariants as next
-use Rattle.kt_sched.proofs.Lists.{within_some}
-use Rattle.kt_sched.proofs.Upcoming.{upcoming}
-use Rattle.kt_sched.proofs.Choice.{something_runs, nothing_runs, busy_where_held}
-use Rattle.kt_sched.proofs.Alone.{alone_body, alone_cleanup}
-use Rattle.kt_sched.proofs.Steps.{and_not}
-use Rattle.kt_sched.proofs.Located.{located}
-use Rattle.kt_sched.proofs.Words.{owing_history, runs_stage, all_whole, part_whole}
+use Rattle.kt_sched.proofs.Lists.{drop_at, list_all_from, none_past, slice_get-drop, within_some}
+use Rattle.kt_sched.proofs.Stages.{over_stage}
+use Rattle.kt_sched.proofs.Located.{active_is, inactive, located, none_active, owes, runs_stage, something_runs, whole_at}
+use Rattle.kt_sched.proofs.Upcoming.{next_at, upcoming}
+use Rattle.kt_sched.proofs.Alone.{alone_body, alone_cleanup, covers}
+use Rattle.kt_sched.proofs.Choice.{Held, is_next, not_failed}
 
--- a case that is to be started isn't taken
-pub untaken_start : (plan : List Job) (n : ℕ) (fed : Fed) (b : SchedState) (i : ℕ) (r : Role) → Stands plan n fed b → IsSettled b → IsChosen b (next.Start i r) → IsUntaken b.cases i
-untaken_start plan n fed b i Body h s c =
-    let u = upcoming plan n fed b i h c.0 s c.2 in
-    (u.case, u.found, λ x. absurd (cc (u.waits, x)))
-untaken_start plan n fed b i Cleanup h s c =
-    let w = h.owes i (sym h.pending ∙ c.1) in
-    (record { job = w.0; stage = Owing w.1 }, w.2, λ t. absurd (cc))
+-- the first of the run from the turn on
+pub opened_step : (plan : List Job) (n a t : ℕ) (job : Job) → slice_get (turns plan) t ≡ Some job → is_decided job ≡ true → room_in a n job ≡ true
+    → opened plan n a t ≡ job ∷ opened plan n a (t + 1)
+opened_step plan n a t job g d m = ap (run_of is_decided (room_in a n)) (drop_at (turns plan) t job g) ∙ rw (d, m) refl
 
--- what follows of a choice
-pub follows : (plan : List Job) (n : ℕ) (fed : Fed) (b : SchedState) (q : Next) → Stands plan n fed b → IsSettled b → IsChosen b q → Follows plan fed q
-follows plan n fed b (next.Put i) h s c = tt
-follows plan n fed b (next.Start i Body) h s c =
-    let u = upcoming plan n fed b i h c.0 s c.2 in
-    let e : history i fed.trace ≡ [] = ap (map mark_of) u.empty in
-    (record { job = u.job; place = u.place; unfinished = ap (is_whole u.job) e ∙ ap is_some u.undecided; alone = alone_body plan n fed b i h c.2.1 c.2.3 }, e)
-follows plan n fed b (next.Start i Cleanup) h s c =
-    let o : owed plan fed.trace ≡ Some i = sym h.pending ∙ c.1 in
-    let e = owing_history plan n fed b i h o in
-    let w = h.owes i o in
-    let l = located plan n fed b i w.0 (Owing w.1) h w.2 in
-    (record { job = l.job; place = l.place; unfinished = ap (is_whole l.job) e ∙ and_not (is_none l.job.decided) l.job.cleanup l.stands.3; alone = alone_cleanup plan n fed b i h o }, e)
-follows plan n fed b next.Wait h s c =
-    let x = something_runs plan n fed b h c.1 c.2 in
-    let r = runs_stage plan n fed b x.0 x.1 h x.2 in
-    let j = within_some plan x.0 (omega (arith, slice_get_within b.cases x.0 r.0 r.1, h.count)) in
-    (x.0, x.1, j.0, x.2, j.1)
-follows plan n fed b next.Done h s c =
-    let q = λ (i : ℕ) (role : Role). nothing_runs plan n fed b h c.2 i role (cases_lt i (length plan)) in
-    let o : owed plan fed.trace ≡ None = sym h.pending ∙ c.1 in
-    (λ i job g. part_whole plan n fed b h o q i job g, λ f. all_whole plan n fed b h o q (busy_where_held plan n fed b h f c.3))
+pub room_at : (a n : ℕ) (job : Job) → a < n → (job.exclusive ≡ true → a ≡ 0) → (x : Bool) → job.exclusive ≡ x → (if x then a == 0 else nat_lt a n) ≡ true
+room_at a n job l f true q = let z : a ≡ 0 = f q in grind (arith, nat_tests, z)
+room_at a n job l f false q = grind (arith, nat_tests, l)
 
-pub asked_for : (b : SchedState) (q : Next) → IsSettled b → IsChosen b q → ((i : ℕ) → b.ready ≡ Some i → b.failed ≡ false) → IsAsked b q
-asked_for b (next.Put i) s c f = (f i c, c)
-asked_for b (next.Start i Body) s c f = (c.0, c.1, c.2, s)
-asked_for b (next.Start i Cleanup) s c f = (c.0, c.1, s)
-asked_for b next.Wait s c f = (c.0, c.1, c.2, s)
-asked_for b next.Done s c f = tt
+module _ {plan : List Job} {n : ℕ} {fed : Fed} {b : SchedState} (h : Stands plan n fed b) where
+  -- the job of a case that isn't taken
+  pub job_is : (i : ℕ) (c : Case) → slice_get b.cases i ≡ Some c → c.stage ≢ Taken → slice_get plan i ≡ Some c.job
+  job_is i c g t = let l = located h i c.job c.stage g in l.place ∙ ap Some (sym (l.kept t))
 
-pub not_done : (b : SchedState) (q : Next) (i : ℕ) → IsChosen b q → b.ready ≡ Some i → q ≢ next.Done
-not_done b (next.Put j) i c e d = absurd (cc)
-not_done b (next.Start j role) i c e d = absurd (cc)
-not_done b next.Wait i c e d = absurd (cc)
-not_done b next.Done i c e d = absurd (cc (c.0, e))
+  -- a case that is to be started isn't taken
+  pub untaken_start : (i : ℕ) (r : Role) → IsSettled b → IsChosen b (next.Start i r) → IsUntaken b.cases i
+  untaken_start i Body s c = let u = upcoming h i c.0 s c.2 in (u.case, u.found, λ x. absurd (cc (u.waits, x)))
+  untaken_start i Cleanup s c = let w = owes h i (sym h.pending ∙ c.1) in (record { job = w.0; stage = Owing w.1 }, w.2, λ t. absurd (cc))
 
--- what is chosen is asked
-pub stands_asked : (plan : List Job) (n : ℕ) (fed : Fed) (b : SchedState) (q : Next) → Stands plan n fed b → IsSettled b → IsChosen b q → Stands plan n fed (record { cases = b.cases; order = b.order; turn = b.turn; active = b.active; width = b.width; pending = b.pending; ready = b.ready; asked = q; failed = b.failed })
-stands_asked plan n fed b q h s c = record {
-  is_plan = h.is_plan;
-  room = h.room;
-  count = h.count;
-  cases = h.cases;
-  beyond = h.beyond;
-  width = h.width;
-  active = h.active;
-  most = h.most;
-  starts = h.starts;
-  walk = h.walk;
-  within = h.within;
-  waiting = h.waiting;
-  begun = h.begun;
-  lone = h.lone;
-  pending = h.pending;
-  owing = h.owing;
-  owes = h.owes;
-  told = λ i e d. absurd (not_done b q i c e d);
-  ripe = h.ripe;
-  gone = h.gone;
-  stored = h.stored;
-  ready = h.ready;
-  stopped = h.stopped;
-  failed = h.failed;
-  asked = asked_for b q s c (λ i e. alive i e b.failed refl);
-}
-  where
-    alive : (i : ℕ) → b.ready ≡ Some i → (v : Bool) → b.failed ≡ v → v ≡ false
-    alive i e true f = absurd (cc (h.stopped f, e))
-    alive i e false f = refl
+  owing_history : (i : ℕ) → owed plan fed.trace ≡ Some i → history i fed.trace ≡ BodyStarted ∷ BodyEnded ∷ []
+  owing_history i q =
+      let w = owes h i q in
+      let l = located h i w.0 (Owing w.1) w.2 in
+      ap (map mark_of) l.stands.1 ∙ ap (λ (r : Role). BodyStarted ∷ end_mark r ∷ []) l.stands.2
+
+  -- where it is done, nothing is active
+  pub idle : owed plan fed.trace ≡ None → ((k : ℕ) (r : Role) → runs k r fed.trace ≡ false) → b.active ≡ 0
+  idle o q = by (cases_lt 0 b.active)
+    where
+      by : (0 < b.active) ⊎ (b.active ≤ 0) → b.active ≡ 0
+      by (inl a) = absurd (none_active h o q a)
+      by (inr a) = omega (arith, a)
+
+  -- and if no put failed, the turn is past all cases
+  pub turn_past : has_failed fed ≡ false → IsNext plan n fed next.Done → length (turns plan) ≤ b.turn
+  turn_past f x = by (slice_get (turns plan) b.turn) refl
+    where
+      a : b.active ≡ 0
+      a = idle x.1 x.3
+
+      no_put : (o : Option ℕ) (job : Job) (rest : List Job) → slice_get (listed o ++ positions (job ∷ rest)) 0 ≡ None → ⊥
+      no_put None job rest e = absurd (cc)
+      no_put (Some i) job rest e = absurd (cc)
+
+      here : (job : Job) → slice_get (turns plan) b.turn ≡ Some job → (o : Option _) → job.decided ≡ o → ⊥
+      here job g (Some v) d =
+          let m = room_at b.active n job (omega (arith, a, h.room)) (λ y. a) job.exclusive refl in
+          let e = opened_step plan n b.active b.turn job g (ap is_some d) m in
+          no_put b.ready job (opened plan n b.active (b.turn + 1)) (ap (λ (jobs : List Job). slice_get (listed b.ready ++ positions jobs) 0) (sym e)
+          ∙ (ap (λ (ys : List ℕ). slice_get ys 0) (sym (h.puts.ready f)) ∙ (sym (slice_get-drop (recorded plan n fed.trace) fed.stored) ∙ x.0 f)))
+      here job g None d = elim (x.2 f) [
+        | inl e ↦ absurd (omega (arith, e, a, active_is h, h.room))
+        | inr e ↦ let w = subst (Held plan fed.trace) (next_at h job g d) e in absurd (omega (arith, w.1, a, active_is h))
+      ]
+
+      by : (o : Option Job) → slice_get (turns plan) b.turn ≡ o → length (turns plan) ≤ b.turn
+      by None e = none_past (turns plan) b.turn e
+      by (Some job) e = absurd (here job e job.decided refl)
+
+  -- where it is done, a case has no event or its history is whole
+  part_whole : b.active ≡ 0 → (i : ℕ) (job : Job) → slice_get plan i ≡ Some job → (of i fed.trace ≡ []) ⊎ (has_whole_history fed.trace job ≡ true)
+  part_whole a i job g =
+      let s = h.cases.each i job g in
+      by s.case.stage s.stage (λ w. whole_at h i job g ∙ over_stage s.case.stage w (inactive h i s.case a s.found))
+    where
+      by : (stage : Stage) → IsStage i job stage (of i fed.trace) → (stage ≢ Waiting → has_whole_history fed.trace job ≡ true) → (of i fed.trace ≡ []) ⊎ (has_whole_history fed.trace job ≡ true)
+      by Waiting x w = inl x.0
+      by stage x w = inr (w (λ e. absurd (cc (e))))
+
+  -- and if no put failed, each is whole
+  pub whole_each : has_failed fed ≡ false → IsNext plan n fed next.Done → (i : ℕ) (job : Job) → slice_get plan i ≡ Some job → has_whole_history fed.trace job ≡ true
+  whole_each f x i job g =
+      let s = h.cases.each i job g in
+      let c = covers h i job g in
+      let l : c.0 < b.turn = omega (arith, slice_get_within (turns plan) c.0 job c.1, turn_past f x) in
+      whole_at h i job g ∙ over_stage s.case.stage (h.turn.begun c.0 i s.case c.2 s.found l) (inactive h i s.case (idle x.1 x.3) s.found)
+
+  -- what follows of a choice
+  pub follows : (q : Next) → IsSettled b → IsChosen b q → Follows plan fed q
+  follows (next.Put i) s c = tt
+  follows (next.Start i Body) s c =
+      let u = upcoming h i c.0 s c.2 in
+      let e : history i fed.trace ≡ [] = ap (map mark_of) u.empty in
+      (record { job = u.job; place = u.place; unfinished = ap (is_whole u.job) e ∙ ap is_some u.undecided; alone = alone_body h i c.2.1 c.2.3 }, e)
+  follows (next.Start i Cleanup) s c =
+      let o : owed plan fed.trace ≡ Some i = sym h.pending ∙ c.1 in
+      let w = owes h i o in
+      let l = located h i w.0 (Owing w.1) w.2 in
+      (record { job = l.job; place = l.place; unfinished = l.says.whole; alone = alone_cleanup h i o }, owing_history i o)
+  follows next.Wait s c =
+      let x = something_runs h c.1 c.2 in
+      let r = runs_stage h x.0 x.1 x.2 in
+      let j = within_some plan x.0 (omega (arith, slice_get_within b.cases x.0 r.0 r.1, h.cases.count)) in
+      (x.0, x.1, j.0, x.2, j.1)
+  follows next.Done s c = (part_whole c.2, λ f. list_all_from (has_whole_history fed.trace) plan (whole_each f (is_next h next.Done s c)))
+
+  pub asked_for : (q : Next) → IsSettled b → IsChosen b q → IsAsked b q
+  asked_for (next.Put i) s c = (not_failed h i c, c)
+  asked_for (next.Start i Body) s c = (c.0, c.1, c.2, s)
+  asked_for (next.Start i Cleanup) s c = (c.0, c.1, s)
+  asked_for next.Wait s c = (c.0, c.1, c.2, s)
+  asked_for next.Done s c = tt
+
+  not_done : (q : Next) (i : ℕ) → IsChosen b q → b.ready ≡ Some i → q ≢ next.Done
+  not_done next.Done i c e d = absurd (cc (c.0, e))
+  not_done q i c e d = absurd (cc)
+
+  -- what is chosen is asked
+  pub stands_asked : (q : Next) → IsSettled b → IsChosen b q → Stands plan n fed (record b { asked = q })
+  stands_asked q s c = record {
+    is_plan = h.is_plan;
+    room = h.room;
+    width = h.width;
+    pending = h.pending;
+    cases = h.cases;
+    turn = h.turn;
+    puts = h.puts;
+    told = λ i e d. absurd (not_done q i c e d);
+    ripe = h.ripe;
+    asked = by_asked q (asked_for q s c);
+  }
+    where
+      by_asked : (q : Next) → IsAsked b q → IsAsked (record b { asked = q }) q
+      by_asked (next.Put i) a = a
+      by_asked (next.Start i Body) a = a
+      by_asked (next.Start i Cleanup) a = a
+      by_asked next.Wait a = a
+      by_asked next.Done a = a

@@ -1,11 +1,87 @@
 -- what a sink gains
-use Rattle.std.proofs.Common.{slice_get, Err, Option, Some, None, map, Result, Ok, is_some, ◌^◌, ◌≡◌, ℕ, ◌+◌, ◌-◌, ◌<◌, ◌≤◌, true, false, List, [], ◌∷◌, ◌++◌, length, take, refl, sym, ◌∙◌, ap, subst, arith, length-append, append_assoc, append-nil}
-use Rattle.kt_sched.proofs.Common.{take-append-le, cases_eq, slice_get_within, Role, Body, Cleanup, Entry, Job, SinkFault, Totals, Event, Trace, NoEvent, Then, position_of, event_count, history, is_whole, Due, dues, finished_by, recorded, Gains, IsEntryOf, AreEntries, IsPlan, with_event, Fed, has_failed, nothing_fed, runs, IsNext, IsUpToDate, Follows, CanCount, counted, FailedPut, Counts}
+use Rattle.std.proofs.Common.{slice_get, filter, Err, Option, Some, None, map, Result, Ok, is_some, not, ◌^◌, ◌≡◌, ◌≢◌, ℕ, zero, suc, ◌+◌, ◌-◌, ◌<◌, ◌≤◌, ◌⊎◌, true, false, List, [], ◌∷◌, ◌++◌, length, take, refl, sym, ◌∙◌, ap, subst, arith, length-append, append_assoc, append-nil, inl, inr}
+use Rattle.std.proofs.lemmas.List.{length-map}
+use Rattle.kt_base.specs.Kinds.{good as is_good}
+use Rattle.kt_sched.proofs.Common.{map-append, take-append-le, count_by-le-length, cases_eq, slice_get_within, Role, Body, Cleanup, Entry, Job, SinkFault, Totals, Event, Trace, NoEvent, Then, position_of, event_count, mark_of, history, is_whole, turns, Due, dues, put_at, finished_by, recorded, IsEntry, Gains, IsEntryOf, AreEntries, IsPlan, Fed, has_failed, with_event, nothing_fed, runs, IsNext, IsUpToDate, Follows, CanCount, counted, FailedPut, Counts}
 use Rattle.kt_sched.specs.declared.next.Next.TheVariants as next
-use Rattle.kt_sched.proofs.Turns.{some_is}
-use Rattle.kt_sched.proofs.Histories.{body_runs_history, cleanup_runs_history}
+use Rattle.kt_sched.specs.declared.sink.Sink as sink
+use Rattle.kt_sched.proofs.Lists.{some_is, append_left, count-cons, count_by-append, mapped_at, none_past, take_snoc, take_zero}
+use Rattle.kt_sched.proofs.Steps.{of_other, opens_now}
+use Rattle.kt_sched.proofs.Runs.{while_runs}
 use Rattle.kt_sched.proofs.Once.{NotWhole, Recorded, recorded_first, recorded_event, recorded_most}
-use Rattle.kt_sched.proofs.Adding.{entries_more, gains_more, entry_stays, entries_stay, added, positions_more, due_put_at, due_append, due_late, still_there, none_past, mapped_some, take_snoc, can_count, counts_more}
+
+entries_more : (plan : List Job) (T : Trace) (ps : List ℕ) (es : List Entry) (p : ℕ) (e : Entry) → AreEntries plan T ps es → IsEntryOf plan T p e → AreEntries plan T (ps ++ p ∷ []) (es ++ e ∷ [])
+entries_more plan T [] [] p e h x = (x, tt)
+entries_more plan T [] (f ∷ es) p e h x = absurd h
+entries_more plan T (q ∷ ps) [] p e h x = absurd h
+entries_more plan T (q ∷ ps) (f ∷ es) p e h x = (h.0, entries_more plan T ps es p e h.1 x)
+
+gains_more : {S : Type 0} (puts : S → Entry → Result (Unit {0}) SinkFault → S → Type 0) (es : List Entry) (e : Entry) (first last new : S) → Gains puts es first last → puts last e (Ok tt) new → Gains puts (es ++ e ∷ []) first new
+gains_more puts [] e first last new h x = (new, subst (λ s. puts s e (Ok tt) new) h x, refl)
+gains_more puts (f ∷ es) e first last new h x = (h.0, h.1, gains_more puts es e h.0 last new h.2 x)
+
+can_count : (es : List Entry) (t : Totals) (k : ℕ) → Counts es t → length es + 1 ≤ k → CanCount t k
+can_count es t k h l = record {
+  total = omega (arith, h.total, l);
+  good = omega (arith, h.total, h.good, count_by-le-length (λ (e : Entry). is_good e.verdict.kind) es);
+  bad = omega (arith, h.total, h.bad, count_by-le-length (λ (e : Entry). not (is_good e.verdict.kind)) es);
+}
+
+counts_more : (es : List Entry) (e : Entry) (t : Totals) → Counts es t → Counts (es ++ e ∷ []) (counted t e.verdict.kind)
+counts_more es e t h =
+    let p = λ (x : Entry). is_good x.verdict.kind in
+    let q = λ (x : Entry). not (is_good x.verdict.kind) in
+    record {
+      total = omega (arith, h.total, length-append es (e ∷ []));
+      good = omega (arith, h.good, count_by-append p es (e ∷ []), count-cons p e []);
+      bad = omega (arith, h.bad, count_by-append q es (e ∷ []), count-cons q e []);
+    }
+
+-- the dues that an event adds, all of them now
+
+abbrev DueAt : ℕ → List Due → Type 0
+DueAt k ps = (j : ℕ) (p : Due) → slice_get ps j ≡ Some p → p.after ≡ k
+
+due_put_at : (k : ℕ) (jobs : List Job) → DueAt k (put_at k jobs)
+due_put_at k jobs j p g = let m = mapped_at (due_of k) jobs j p g in ap (λ (q : Due). q.after) (sym m.2)
+  where
+    due_of : ℕ → Job → Due
+    due_of k job = record { position = job.position; after = k }
+
+due_append : (k : ℕ) (xs ys : List Due) → DueAt k xs → DueAt k ys → DueAt k (xs ++ ys)
+due_append k [] ys d e j p g = e j p g
+due_append k (x ∷ xs) ys d e zero p g = d 0 p g
+due_append k (x ∷ xs) ys d e (suc j) p g = due_append k xs ys (λ i q r. d (suc i) q r) e j p g
+
+due_late : (k : ℕ) (xs ys : List Due) (j : ℕ) (p : Due) → DueAt k ys → length xs ≤ j → slice_get (xs ++ ys) j ≡ Some p → p.after ≡ k
+due_late k [] ys j p d l g = d j p g
+due_late k (x ∷ xs) ys zero p d l g = absurd (omega arith)
+due_late k (x ∷ xs) ys (suc j) p d l g = due_late k xs ys j p d (omega arith) g
+
+abbrev added : List Job → ℕ → Trace → Event → List Due
+added plan n T e = put_at (event_count (Then T e)) (finished_by plan T e) ++ put_at (event_count (Then T e)) (filter (opens_now plan n T e) (turns plan))
+
+added_now : (plan : List Job) (n : ℕ) (T : Trace) (e : Event) → DueAt (event_count (Then T e)) (added plan n T e)
+added_now plan n T e = let k = event_count (Then T e) in due_append k _ _ (due_put_at k (finished_by plan T e)) (due_put_at k (filter (opens_now plan n T e) (turns plan)))
+
+-- a whole case has no further event
+module _ (plan : List Job) (T : Trace) (e : Event) (h : NotWhole plan T (position_of e)) where
+  entry_stays : (p : ℕ) (x : Entry) → IsEntryOf plan T p x → (p ≡ position_of e) ⊎ (p ≢ position_of e) → IsEntryOf plan (Then T e) p x
+  entry_stays p x w (inl q) = absurd (cc (h w.job (ap (slice_get plan) (sym q) ∙ w.place), ap (λ j. is_whole w.job (history j T)) (sym q) ∙ w.whole))
+  entry_stays p x w (inr q) =
+      let o = of_other (position_of e) p T e refl q in
+      record {
+        job = w.job;
+        place = w.place;
+        whole = ap (λ (es : List Event). is_whole w.job (map mark_of es)) o ∙ w.whole;
+        entry_is = subst (λ (es : List Event). IsEntry w.job es x) (sym o) w.entry_is;
+      }
+
+  entries_stay : (ps : List ℕ) (es : List Entry) → AreEntries plan T ps es → AreEntries plan (Then T e) ps es
+  entries_stay [] [] x = tt
+  entries_stay [] (y ∷ es) x = absurd x
+  entries_stay (p ∷ ps) [] x = absurd x
+  entries_stay (p ∷ ps) (y ∷ es) x = (entry_stays p y x.0 (cases_eq p (position_of e)), entries_stay ps es x.1)
 
 -- each put that isn't stored is due now
 abbrev pub AreDue : List Job → ℕ → Fed → Type 0
@@ -14,135 +90,132 @@ AreDue plan n fed = (j : ℕ) (p : Due) → fed.stored ≤ j → slice_get (dues
 -- what the puts did to a sink
 abbrev pub GainsUpTo : {S : Type 0} → (S → Entry → Result (Unit {0}) SinkFault → S → Type 0) → List Job → ℕ → Fed → List Entry → Option SinkFault → S → S → Type 0
 GainsUpTo puts plan n fed gained None before after = (fed.stopped ≡ None) × Gains puts gained before after × AreDue plan n fed
-GainsUpTo puts plan n fed gained (Some fault) before after =
-    (f : FailedPut puts plan n fed.trace gained fault before after) × (fed.stopped ≡ Some f.next.after)
+GainsUpTo puts plan n fed gained (Some fault) before after = (f : FailedPut puts plan n fed.trace gained fault before after) × (fed.stopped ≡ Some f.next.after)
 
 -- what the sink gained so far
-pub record Gained {S : Type 0} (puts : S → Entry → Result (Unit {0}) SinkFault → S → Type 0) (entries : S → List Entry → Type 0) (plan : List Job) (n : ℕ) (fed : Fed) (totals : Totals) (fault : Option SinkFault) (before after : S) : Type 0 where
+pub record Gained {S : Type 0} (s : sink.Ghosts S) (plan : List Job) (n : ℕ) (fed : Fed) (totals : Totals) (fault : Option SinkFault) (before after : S) : Type 0 where
   pub gained : List Entry
   pub count : length gained ≡ fed.stored
   pub within : fed.stored ≤ length (recorded plan n fed.trace)
   pub are : AreEntries plan fed.trace (take fed.stored (recorded plan n fed.trace)) gained
-  pub kept : (put : List Entry) → entries before put → entries after (put ++ gained)
-  pub gains : GainsUpTo puts plan n fed gained fault before after
+  pub kept : (put : List Entry) → s.entries before put → s.entries after (put ++ gained)
+  pub gains : GainsUpTo s.puts plan n fed gained fault before after
   pub counts : Counts gained totals
   pub recorded : Recorded plan n fed.trace
 
-pub up_to_event : {S : Type 0} (puts : S → Entry → Result (Unit {0}) SinkFault → S → Type 0) (plan : List Job) (n : ℕ) (fed : Fed) (ev : Event) (i : ℕ) (gained : List Entry) (fault : Option SinkFault) (before after : S) → (has_failed fed ≡ false → IsUpToDate plan n fed) → position_of ev ≡ i → NotWhole plan fed.trace i → GainsUpTo puts plan n fed gained fault before after → GainsUpTo puts plan n (with_event fed ev) gained fault before after
-up_to_event puts plan n fed ev i gained None before after z q w g = (
-  g.0,
-  g.1,
-  λ j p l x. due_late (event_count (Then fed.trace ev)) (dues plan n fed.trace) (added plan n fed.trace ev) j p
-      (due_append (event_count (Then fed.trace ev)) _ _ (due_put_at (event_count (Then fed.trace ev)) (finished_by plan fed.trace ev)) (due_put_at (event_count (Then fed.trace ev)) _))
-      (omega (arith, l, none_past (λ (p : Due). p.position) (dues plan n fed.trace) fed.stored (z (ap is_some g.0)))) x,
-)
-up_to_event puts plan n fed ev i gained (Some fault) before after z q w g = (
-  record {
-    next = g.0.next;
-    is_next = still_there (dues plan n fed.trace) (added plan n fed.trace ev) (length gained) g.0.next g.0.is_next;
-    refused = g.0.refused;
-    refused_is = entry_stays plan fed.trace ev i g.0.next.position g.0.refused q w (cases_eq g.0.next.position i) g.0.refused_is;
-    mid = g.0.mid;
-    gains = g.0.gains;
-    fails = g.0.fails;
-  },
-  g.1,
-)
-
-pub gained_event : {S : Type 0} (puts : S → Entry → Result (Unit {0}) SinkFault → S → Type 0) (entries : S → List Entry → Type 0) (plan : List Job) (n : ℕ) (fed : Fed) (ev : Event) (totals : Totals) (fault : Option SinkFault) (before after : S) → IsPlan plan → (has_failed fed ≡ false → IsUpToDate plan n fed) → NotWhole plan fed.trace (position_of ev) → Gained puts entries plan n fed totals fault before after → Gained puts entries plan n (with_event fed ev) totals fault before after
-gained_event puts entries plan n fed ev totals fault before after p z h g =
-    let xs = recorded plan n fed.trace in
-    let m = positions_more plan n fed.trace ev in
-    let e : take fed.stored (recorded plan n (Then fed.trace ev)) ≡ take fed.stored xs = ap (take fed.stored) m ∙ take-append-le fed.stored xs _ g.within in
-    record {
-      gained = g.gained;
-      count = g.count;
-      within = omega (arith, g.within, ap (λ (ys : List ℕ). length ys) m, length-append xs (map (λ (p : Due). p.position) (added plan n fed.trace ev)));
-      are = subst (λ (ps : List ℕ). AreEntries plan (Then fed.trace ev) ps g.gained) (sym e) (entries_stay plan fed.trace ev (position_of ev) refl h (take fed.stored xs) g.gained g.are);
-      kept = g.kept;
-      gains = up_to_event puts plan n fed ev (position_of ev) g.gained fault before after z refl h g.gains;
-      counts = g.counts;
-      recorded = recorded_event plan n fed.trace ev p h g.recorded;
-    }
-
-pub more_gains : {S : Type 0} (puts : S → Entry → Result (Unit {0}) SinkFault → S → Type 0) (plan : List Job) (n : ℕ) (fed : Fed) (es : List Entry) (e : Entry) (fault : Option SinkFault) (before mid after : S) → has_failed fed ≡ false → puts mid e (Ok tt) after → GainsUpTo puts plan n fed es fault before mid → GainsUpTo puts plan n (record fed { stored = fed.stored + 1 }) (es ++ e ∷ []) fault before after
-more_gains puts plan n fed es e None before mid after f p g = (g.0, gains_more puts es e before mid after g.1 p, λ j q l x. g.2 j q (omega (arith, l)) x)
-more_gains puts plan n fed es e (Some fault) before mid after f p g = absurd (cc (f, ap is_some g.1))
-
-pub gained_put : {S : Type 0} (puts : S → Entry → Result (Unit {0}) SinkFault → S → Type 0) (entries : S → List Entry → Type 0) (plan : List Job) (n : ℕ) (fed : Fed) (i : ℕ) (e : Entry) (totals : Totals) (fault : Option SinkFault) (before mid after : S) → IsNext plan n fed (next.Put i) → IsEntryOf plan fed.trace i e → puts mid e (Ok tt) after → ((put : List Entry) → entries mid put → entries after (put ++ e ∷ [])) → Gained puts entries plan n fed totals fault before mid → Gained puts entries plan n (record fed { stored = fed.stored + 1 }) (counted totals e.verdict.kind) fault before after
-gained_put puts entries plan n fed i e totals fault before mid after x w p k g = record {
-  gained = g.gained ++ e ∷ [];
-  count = length-append g.gained (e ∷ []) ∙ ap (λ k. k + 1) g.count;
-  within = omega (arith, slice_get_within (recorded plan n fed.trace) fed.stored i x.1);
-  are = subst (λ (ps : List ℕ). AreEntries plan fed.trace ps (g.gained ++ e ∷ [])) (sym (take_snoc (recorded plan n fed.trace) fed.stored i x.1)) (entries_more plan fed.trace (take fed.stored (recorded plan n fed.trace)) g.gained i e g.are w);
-  kept = λ put h. subst (entries after) (append_assoc put g.gained (e ∷ [])) (k (put ++ g.gained) (g.kept put h));
-  gains = more_gains puts plan n fed g.gained e fault before mid after x.0 p g.gains;
-  counts = counts_more g.gained e totals g.counts;
-  recorded = g.recorded;
-}
-
-pub failed_gains : {S : Type 0} (puts : S → Entry → Result (Unit {0}) SinkFault → S → Type 0) (plan : List Job) (n : ℕ) (fed : Fed) (i : ℕ) (es : List Entry) (e : Entry) (cause : SinkFault) (fault : Option SinkFault) (before mid after : S) → length es ≡ fed.stored → IsNext plan n fed (next.Put i) → IsEntryOf plan fed.trace i e → puts mid e (Err cause) after → GainsUpTo puts plan n fed es fault before mid → GainsUpTo puts plan n (record fed { stopped = Some (event_count fed.trace) }) es (Some cause) before after
-failed_gains puts plan n fed i es e cause None before mid after l x w p g =
-    let m = mapped_some (λ (q : Due). q.position) (dues plan n fed.trace) fed.stored i x.1 in (
-      record {
-        next = m.0;
-        is_next = ap (slice_get (dues plan n fed.trace)) l ∙ m.1;
-        refused = e;
-        refused_is = subst (λ (k : ℕ). IsEntryOf plan fed.trace k e) (sym m.2) w;
-        mid = mid;
-        gains = g.1;
-        fails = p;
-      },
-      ap Some (sym (g.2 fed.stored m.0 (omega arith) m.1)),
-    )
-failed_gains puts plan n fed i es e cause (Some fault) before mid after l x w p g = absurd (cc (x.0, ap is_some g.1))
-
-pub gained_failed : {S : Type 0} (puts : S → Entry → Result (Unit {0}) SinkFault → S → Type 0) (entries : S → List Entry → Type 0) (plan : List Job) (n : ℕ) (fed : Fed) (i : ℕ) (e : Entry) (cause : SinkFault) (totals : Totals) (fault : Option SinkFault) (before mid after : S) → IsNext plan n fed (next.Put i) → IsEntryOf plan fed.trace i e → puts mid e (Err cause) after → ((put : List Entry) → entries mid put → entries after put) → Gained puts entries plan n fed totals fault before mid → Gained puts entries plan n (record fed { stopped = Some (event_count fed.trace) }) totals (Some cause) before after
-gained_failed puts entries plan n fed i e cause totals fault before mid after x w p k g = record {
-  gained = g.gained;
-  count = g.count;
-  within = g.within;
-  are = g.are;
-  kept = λ put h. k (put ++ g.gained) (g.kept put h);
-  gains = failed_gains puts plan n fed i g.gained e cause fault before mid after g.count x w p g.gains;
-  counts = g.counts;
-  recorded = g.recorded;
-}
-
--- where a put is next, there is room to count it
-pub room_to_count : {S : Type 0} (puts : S → Entry → Result (Unit {0}) SinkFault → S → Type 0) (entries : S → List Entry → Type 0) (plan : List Job) (n : ℕ) (fed : Fed) (i : ℕ) (totals : Totals) (fault : Option SinkFault) (before after : S) → IsNext plan n fed (next.Put i) → length plan < 2 ^ 64 → Gained puts entries plan n fed totals fault before after → CanCount totals (2 ^ 64 - 1)
-room_to_count puts entries plan n fed i totals fault before after x l g =
-    can_count g.gained totals (2 ^ 64 - 1) g.counts (omega (arith, l, g.count, slice_get_within (recorded plan n fed.trace) fed.stored i x.1, recorded_most plan n fed.trace g.recorded))
-
--- at the end every position is stored
-pub gained_all : {S : Type 0} (puts : S → Entry → Result (Unit {0}) SinkFault → S → Type 0) (entries : S → List Entry → Type 0) (plan : List Job) (n : ℕ) (fed : Fed) (totals : Totals) (fault : Option SinkFault) (before after : S) → IsUpToDate plan n fed → (g : Gained puts entries plan n fed totals fault before after) → length g.gained ≡ length (recorded plan n fed.trace)
-gained_all puts entries plan n fed totals fault before after u g = omega (arith, g.count, g.within, past_end (recorded plan n fed.trace) fed.stored u)
-  where
-    past_end : (xs : List ℕ) (k : ℕ) → slice_get xs k ≡ None → length xs ≤ k
-    past_end xs k e = none_past (λ (i : ℕ). i) xs k (ap (λ (ys : List ℕ). slice_get ys k) (map_same xs) ∙ e)
-      where
-        map_same : (ys : List ℕ) → map (λ (i : ℕ). i) ys ≡ ys
-        map_same [] = refl
-        map_same (y ∷ ys) = ap (λ zs. y ∷ zs) (map_same ys)
-
-pub take_zero : (xs : List ℕ) → take 0 xs ≡ []
-take_zero [] = refl
-take_zero (x ∷ xs) = refl
-
-pub due_first : (plan : List Job) (n : ℕ) → AreDue plan n nothing_fed
-due_first plan n j p l g = due_put_at 0 _ j p g
-
-pub gained_first : {S : Type 0} (puts : S → Entry → Result (Unit {0}) SinkFault → S → Type 0) (entries : S → List Entry → Type 0) (plan : List Job) (n : ℕ) (before : S) → IsPlan plan → Gained puts entries plan n nothing_fed (record { total = 0; good = 0; bad = 0 }) None before before
-gained_first puts entries plan n before p = record {
+pub gained_first : {S : Type 0} (s : sink.Ghosts S) (plan : List Job) (n : ℕ) (before : S) → IsPlan plan → Gained s plan n nothing_fed (record { total = 0; good = 0; bad = 0 }) None before before
+gained_first s plan n before p = record {
   gained = [];
   count = refl;
   within = omega arith;
   are = subst (λ (ps : List ℕ). AreEntries plan NoEvent ps []) (sym (take_zero (recorded plan n NoEvent))) tt;
-  kept = λ put h. subst (entries before) (sym (append-nil put)) h;
-  gains = (refl, refl, due_first plan n);
+  kept = λ put h. subst (s.entries before) (sym (append-nil put)) h;
+  gains = (refl, refl, λ j p l g. due_put_at 0 _ j p g);
   counts = record { total = refl; good = refl; bad = refl };
   recorded = recorded_first plan n p;
 }
+
+module _ {S : Type 0} {s : sink.Ghosts S} {plan : List Job} {n : ℕ} {fed : Fed} {totals : Totals} {fault : Option SinkFault} {before mid : S} (g : Gained s plan n fed totals fault before mid) where
+  -- after an event that comes where all is stored
+  pub gained_event : (ev : Event) → IsPlan plan → (has_failed fed ≡ false → IsUpToDate plan n fed) → NotWhole plan fed.trace (position_of ev) → Gained s plan n (with_event fed ev) totals fault before mid
+  gained_event ev p z h =
+      let T = fed.trace in
+      let xs = recorded plan n T in
+      let m : recorded plan n (Then T ev) ≡ xs ++ map (λ (p : Due). p.position) (added plan n T ev) = map-append (λ (p : Due). p.position) (dues plan n T) (added plan n T ev) in
+      let e : take fed.stored (recorded plan n (Then T ev)) ≡ take fed.stored xs = ap (take fed.stored) m ∙ take-append-le fed.stored xs _ g.within in
+      record {
+        gained = g.gained;
+        count = g.count;
+        within = omega (arith, g.within, ap (λ (ys : List ℕ). length ys) m, length-append xs (map (λ (p : Due). p.position) (added plan n T ev)));
+        are = subst (λ (ps : List ℕ). AreEntries plan (Then T ev) ps g.gained) (sym e) (entries_stay plan T ev h (take fed.stored xs) g.gained g.are);
+        kept = g.kept;
+        gains = by fault g.gains;
+        counts = g.counts;
+        recorded = recorded_event plan n T ev p h g.recorded;
+      }
+    where
+      by : (fault : Option SinkFault) → GainsUpTo s.puts plan n fed g.gained fault before mid → GainsUpTo s.puts plan n (with_event fed ev) g.gained fault before mid
+      by None w =
+          let late = none_past (recorded plan n fed.trace) fed.stored (z (ap is_some w.0)) in (
+            w.0,
+            w.1,
+            λ j p l x. due_late (event_count (Then fed.trace ev)) (dues plan n fed.trace) (added plan n fed.trace ev) j p (added_now plan n fed.trace ev)
+                (omega (arith, l, late, length-map (dues plan n fed.trace) (λ (p : Due). p.position))) x,
+          )
+      by (Some fault) w =
+          let f = w.0 in
+          let one : FailedPut s.puts plan n (Then fed.trace ev) g.gained fault before mid = record {
+            next = f.next;
+            is_next = append_left (dues plan n fed.trace) (added plan n fed.trace ev) (length g.gained) f.next f.is_next;
+            refused = f.refused;
+            refused_is = entry_stays plan fed.trace ev h f.next.position f.refused f.refused_is (cases_eq f.next.position (position_of ev));
+            mid = f.mid;
+            gains = f.gains;
+            fails = f.fails;
+          } in
+          (one, w.1)
+
+  -- where a put is next, there is room to count it
+  pub room_to_count : (i : ℕ) → IsNext plan n fed (next.Put i) → length plan < 2 ^ 64 → CanCount totals (2 ^ 64 - 1)
+  room_to_count i x l =
+      can_count g.gained totals (2 ^ 64 - 1) g.counts (omega (arith, l, g.count, slice_get_within (recorded plan n fed.trace) fed.stored i x.1, recorded_most plan n fed.trace g.recorded))
+
+  -- at the end every position is stored
+  pub gained_all : IsUpToDate plan n fed → length g.gained ≡ length (recorded plan n fed.trace)
+  gained_all u = omega (arith, g.count, g.within, none_past (recorded plan n fed.trace) fed.stored u)
+
+  pub gained_are : AreEntries plan fed.trace (take (length g.gained) (recorded plan n fed.trace)) g.gained
+  gained_are = subst (λ (m : ℕ). AreEntries plan fed.trace (take m (recorded plan n fed.trace)) g.gained) (sym g.count) g.are
+
+  module _ (i : ℕ) (e : Entry) (after : S) (x : IsNext plan n fed (next.Put i)) (w : IsEntryOf plan fed.trace i e) where
+    -- after a put
+    pub gained_put : s.puts mid e (Ok tt) after → ((put : List Entry) → s.entries mid put → s.entries after (put ++ e ∷ []))
+        → Gained s plan n (record fed { stored = fed.stored + 1 }) (counted totals e.verdict.kind) fault before after
+    gained_put p k =
+        let xs = recorded plan n fed.trace in
+        record {
+          gained = g.gained ++ e ∷ [];
+          count = length-append g.gained (e ∷ []) ∙ ap (λ k. k + 1) g.count;
+          within = omega (arith, slice_get_within xs fed.stored i x.1);
+          are = subst (λ (ps : List ℕ). AreEntries plan fed.trace ps (g.gained ++ e ∷ [])) (sym (take_snoc xs fed.stored i x.1)) (entries_more plan fed.trace (take fed.stored xs) g.gained i e g.are w);
+          kept = λ put h. subst (s.entries after) (append_assoc put g.gained (e ∷ [])) (k (put ++ g.gained) (g.kept put h));
+          gains = by fault g.gains;
+          counts = counts_more g.gained e totals g.counts;
+          recorded = g.recorded;
+        }
+      where
+        by : (fault : Option SinkFault) → GainsUpTo s.puts plan n fed g.gained fault before mid → GainsUpTo s.puts plan n (record fed { stored = fed.stored + 1 }) (g.gained ++ e ∷ []) fault before after
+        by None y = (y.0, gains_more s.puts g.gained e before mid after y.1 p, λ j q l z. y.2 j q (omega (arith, l)) z)
+        by (Some fault) y = absurd (cc (x.0, ap is_some y.1))
+
+    -- after one that failed
+    pub gained_failed : (cause : SinkFault) → s.puts mid e (Err cause) after → ((put : List Entry) → s.entries mid put → s.entries after put)
+        → Gained s plan n (record fed { stopped = Some (event_count fed.trace) }) totals (Some cause) before after
+    gained_failed cause p k = record {
+      gained = g.gained;
+      count = g.count;
+      within = g.within;
+      are = g.are;
+      kept = λ put h. k (put ++ g.gained) (g.kept put h);
+      gains = by fault g.gains;
+      counts = g.counts;
+      recorded = g.recorded;
+    }
+      where
+        by : (fault : Option SinkFault) → GainsUpTo s.puts plan n fed g.gained fault before mid → GainsUpTo s.puts plan n (record fed { stopped = Some (event_count fed.trace) }) g.gained (Some cause) before after
+        by None y =
+            let m = mapped_at (λ (q : Due). q.position) (dues plan n fed.trace) fed.stored i x.1 in
+            let one : FailedPut s.puts plan n fed.trace g.gained cause before after = record {
+              next = m.0;
+              is_next = ap (slice_get (dues plan n fed.trace)) g.count ∙ m.1;
+              refused = e;
+              refused_is = subst (λ (k : ℕ). IsEntryOf plan fed.trace k e) (sym m.2) w;
+              mid = mid;
+              gains = y.1;
+              fails = p;
+            } in
+            (one, ap Some (sym (y.2 fed.stored m.0 (omega arith) m.1)))
+        by (Some fault) y = absurd (cc (x.0, ap is_some y.1))
 
 -- the case that is to be started has no whole history
 pub start_not_whole : (plan : List Job) (fed : Fed) (i : ℕ) (role : Role) → Follows plan fed (next.Start i role) → NotWhole plan fed.trace i
@@ -151,8 +224,8 @@ start_not_whole plan fed i Cleanup f job g = ap (λ (j : Job). is_whole j (histo
 
 -- one whose child runs has none
 pub end_not_whole : (plan : List Job) (T : Trace) (i : ℕ) (role : Role) → runs i role T ≡ true → NotWhole plan T i
-end_not_whole plan T i Body h job g = ap (is_whole job) (body_runs_history (history i T) h)
-end_not_whole plan T i Cleanup h job g = ap (is_whole job) (cleanup_runs_history (history i T) h)
+end_not_whole plan T i Body h job g = ap (is_whole job) (while_runs Body (history i T) h)
+end_not_whole plan T i Cleanup h job g = ap (is_whole job) (while_runs Cleanup (history i T) h)
 
 pub nothing_due : (plan : List Job) (n : ℕ) (fed : Fed) (i : ℕ) (role : Role) → IsNext plan n fed (next.Start i role) → has_failed fed ≡ false → IsUpToDate plan n fed
 nothing_due plan n fed i Body x f = x.1

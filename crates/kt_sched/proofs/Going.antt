@@ -1,55 +1,201 @@
--- a launcher after a trace, as the run loop knows it
-use Rattle.std.proofs.Common.{is_some, nat_le, Option, Some, None, if◌then◌else◌, IfSome, append-nil, ◌≡◌, ℕ, ◌+◌, ◌≤◌, Bool, true, false, List, [], ◌++◌, length, refl, sym, ◌∙◌, ap, subst, arith}
-use Rattle.kt_sched.proofs.Common.{nat_tests, Role, Job, StartAnswer, Ended, Child, Event, Trace, NoEvent, Then, Leads, of, first, event_count, body_starts, body_start_of, Each, Order, WidthAt, AloneAt, PromptAt, BusyAt, owed, Fed, FitsAt}
-use Rattle.kt_sched.proofs.Runs.{running_of, is_owed}
+-- a launcher after a trace, and the rules that the trace keeps, as the run loop knows them
+use Rattle.std.proofs.Common.{slice_get, is_some, nat_le, Option, Some, None, map, if◌then◌else◌, IfSome, append-nil, ◌≡◌, ℕ, ◌+◌, ◌≤◌, ◌==◌, Bool, true, false, List, [], ◌∷◌, ◌++◌, length, take, refl, sym, ◌∙◌, ap, subst, arith, length-append}
+use Rattle.kt_sched.proofs.Common.{nat_tests, cases_eq, slice_get_within, Role, Body, Cleanup, Job, StartAnswer, Ended, Child, MayStart, IsEvidence, IsIdle, child_of, running_after_start, running_after_end, pending_after_start, pending_after_end, IsMoment, HasMoment, IsPlan, Event, Start, End, Trace, NoEvent, Then, Leads, position_of, of, first, event_count, history, body_starts, body_start_of, undecided_turns, Each, Order, WidthAt, AloneAt, PromptAt, BusyAt, owed, is_owed, Fed, FitsAt, has_failed, runs, IsNext, Follows, MayBegin, Legal, Stopped}
+use Rattle.kt_sched.specs.declared.next.Next.TheVariants as next
+use Rattle.kt_sched.specs.declared.launcher.Launcher as launcher
+use Rattle.kt_sched.proofs.Lists.{take_one_more, take_zero}
+use Rattle.kt_sched.proofs.Steps.{same_is, of_other}
+use Rattle.kt_sched.proofs.Runs.{running_of, child_at, history_before, runs_now, start_runs, cleared, runs_true, while_runs, end_runs, end_owes}
 
 -- the events up to a failed put, if one failed
 abbrev pub up_to : Option ℕ → Trace → Trace
 up_to None T = T
 up_to (Some k) T = first k T
 
--- the launcher stands where the trace led it, and the trace keeps the rules
-pub record Going {L : Type 0} (running : L → ℕ → Role → Option Child) (pending : L → ℕ → Bool) (starts : L → Job → Role → StartAnswer → L → Type 0) (waits : L → Ended → L → Type 0) (plan : List Job) (n : ℕ) (fed : Fed) (old new : L) : Type 0 where
-  pub leads : Leads starts waits plan fed.trace old new
-  pub runs : (k : ℕ) (r : Role) → running new k r ≡ running_of plan fed.trace k r
-  pub owes : (k : ℕ) → pending new k ≡ is_owed (owed plan fed.trace) k
-  pub fits : Each (FitsAt plan) fed.trace
-  pub order : Order plan fed.trace
-  pub width : Each (WidthAt plan n) fed.trace
-  pub alone : Each (AloneAt plan) fed.trace
-  pub prompt : Each (PromptAt plan) fed.trace
-  pub busy : Each (BusyAt plan n) (up_to fed.stopped fed.trace)
-  pub begun : body_starts fed.trace ≡ body_starts (up_to fed.stopped fed.trace)
-  pub passed : IfSome fed.stopped (λ k. k ≤ event_count fed.trace)
-  pub beyond : (i : ℕ) → length plan ≤ i → of i fed.trace ≡ []
+-- what a trace keeps
+pub record Sofar (plan : List Job) (n : ℕ) (T : Trace) : Type 0 where
+  pub fits : Each (FitsAt plan) T
+  pub order : Order plan T
+  pub width : Each (WidthAt plan n) T
+  pub alone : Each (AloneAt plan) T
+  pub prompt : Each (PromptAt plan) T
+  pub beyond : (i : ℕ) → length plan ≤ i → of i T ≡ []
 
-pub none_of : {X : Type 0} (o : Option X) → is_some o ≡ false → o ≡ None
-none_of None e = refl
-none_of (Some x) e = absurd (cc)
-
-pub first_all : (T : Trace) → first (event_count T) T ≡ T
-first_all NoEvent = refl
-first_all (Then T e) = ap (λ b. if b then Then T e else first (event_count T + 1) T) (within (event_count T + 1))
-  where
-    within : (k : ℕ) → nat_le k k ≡ true
-    within k = grind (arith, nat_tests)
+-- and up to a failed put, after which no body starts
+pub record Until (plan : List Job) (n : ℕ) (stopped : Option ℕ) (T : Trace) : Type 0 where
+  pub busy : Each (BusyAt plan n) (up_to stopped T)
+  pub begun : body_starts T ≡ body_starts (up_to stopped T)
+  pub passed : IfSome stopped (λ k. k ≤ event_count T)
 
 first_past : (k : ℕ) (T : Trace) (e : Event) → k ≤ event_count T → first k (Then T e) ≡ first k T
-first_past k T e h = ap (λ b. if b then Then T e else first k T) (beyond (event_count T) h)
+first_past k T e h = let x : nat_le (event_count T + 1) k ≡ false = grind (arith, nat_tests, h) in rw x refl
+
+first_all : (T : Trace) → first (event_count T) T ≡ T
+first_all NoEvent = refl
+first_all (Then T e) = let x : nat_le (event_count T + 1) (event_count T + 1) ≡ true = grind (arith, nat_tests) in rw x refl
+
+module _ (plan : List Job) (n : ℕ) where
+  until_more : (o : Option ℕ) (T : Trace) (e : Event) → Until plan n o T → (is_some o ≡ false → BusyAt plan n T e) → (is_some o ≡ true → body_start_of e ≡ []) → Until plan n o (Then T e)
+  until_more None T e u f g = record { busy = (u.busy, f refl); begun = refl; passed = tt }
+  until_more (Some k) T e u f g =
+      let x = sym (first_past k T e u.passed) in
+      record {
+        busy = subst (Each (BusyAt plan n)) x u.busy;
+        begun = ap (λ xs. body_starts T ++ xs) (g refl) ∙ (append-nil (body_starts T) ∙ (u.begun ∙ ap body_starts x));
+        passed = omega (arith, u.passed);
+      }
+
+  pub until_now : (o : Option ℕ) (T : Trace) → is_some o ≡ false → Until plan n o T → Until plan n (Some (event_count T)) T
+  until_now None T f u = record { busy = subst (Each (BusyAt plan n)) (sym (first_all T)) u.busy; begun = ap body_starts (sym (first_all T)); passed = omega arith }
+  until_now (Some k) T f u = absurd (cc)
+
+  -- the order of starts after the next one
+  order_more : (T : Trace) (i : ℕ) (a : StartAnswer) → Order plan T → MayBegin plan n T i → Order plan (Then T (Start i Body a))
+  order_more T i a o m =
+      let f = λ (job : Job). job.position in
+      let s = body_starts T in
+      let xs = undecided_turns plan in
+      ap (λ ys. ys ++ i ∷ []) o
+      ∙ (ap (λ k. map f (take (length s) xs) ++ k ∷ []) (sym m.place)
+      ∙ (sym (take_one_more f xs (length s) m.job m.next) ∙ ap (λ k. map f (take k xs)) (sym (length-append s (i ∷ [])))))
+
+  order_same : (T : Trace) (e : Event) → body_start_of e ≡ [] → Order plan T → Order plan (Then T e)
+  order_same T e q o =
+      subst (λ (xs : List ℕ). xs ≡ map (λ (job : Job). job.position) (take (length xs) (undecided_turns plan))) (sym (ap (λ xs. body_starts T ++ xs) q ∙ append-nil (body_starts T))) o
+
+  beyond_more : (T : Trace) (e : Event) (job : Job) → slice_get plan (position_of e) ≡ Some job → ((i : ℕ) → length plan ≤ i → of i T ≡ []) → (i : ℕ) → length plan ≤ i → of i (Then T e) ≡ []
+  beyond_more T e job g h i l = of_other (position_of e) i T e refl (λ q. absurd (omega (arith, l, slice_get_within plan (position_of e) job g, q))) ∙ h i l
+
+  -- what a trace keeps, it keeps with an event that is next
+  sofar_start : (fed : Fed) (i : ℕ) (role : Role) (job : Job) (a : StartAnswer) → Sofar plan n fed.trace → IsNext plan n fed (next.Start i role) → Follows plan fed (next.Start i role)
+      → slice_get plan i ≡ Some job → HasMoment a → Sofar plan n (Then fed.trace (Start i role a))
+  sofar_start fed i Body job a s x f g m = record {
+    fits = (s.fits, m);
+    order = order_more fed.trace i a s.order x.3;
+    width = (s.width, x.3.room);
+    alone = (s.alone, x.3.alone);
+    prompt = (s.prompt, rw x.2 tt);
+    beyond = beyond_more fed.trace (Start i Body a) job g s.beyond;
+  }
+  sofar_start fed i Cleanup job a s x f g m = record {
+    fits = (s.fits, m);
+    order = order_same fed.trace (Start i Cleanup a) refl s.order;
+    width = (s.width, tt);
+    alone = (s.alone, f.0.alone);
+    prompt = (s.prompt, rw x.1 (refl, refl));
+    beyond = beyond_more fed.trace (Start i Cleanup a) job g s.beyond;
+  }
+
+  sofar_end : (fed : Fed) (e : Ended) (job : Job) → Sofar plan n fed.trace → IsNext plan n fed next.Wait → slice_get plan e.position ≡ Some job → IsMoment e.moment
+      → IsEvidence job.interface e.role e.evidence → Sofar plan n (Then fed.trace (End e))
+  sofar_end fed e job s x g m v = record {
+    fits = (s.fits, (m, (job, g, v)));
+    order = order_same fed.trace (End e) refl s.order;
+    width = (s.width, tt);
+    alone = (s.alone, tt);
+    prompt = (s.prompt, rw x.1 tt);
+    beyond = beyond_more fed.trace (End e) job g s.beyond;
+  }
+
+  until_start : (fed : Fed) (i : ℕ) (role : Role) (a : StartAnswer) → Until plan n fed.stopped fed.trace → IsNext plan n fed (next.Start i role) → Until plan n fed.stopped (Then fed.trace (Start i role a))
+  until_start fed i Body a u x = until_more fed.stopped fed.trace (Start i Body a) u (λ z. tt) (λ z. absurd (cc (x.0, z)))
+  until_start fed i Cleanup a u x = until_more fed.stopped fed.trace (Start i Cleanup a) u (λ z. tt) (λ z. refl)
+
+before : (plan : List Job) (fed : Fed) (i : ℕ) (role : Role) → Follows plan fed (next.Start i role) → history i fed.trace ≡ history_before role
+before plan fed i Body f = f.1
+before plan fed i Cleanup f = f.1
+
+-- the launcher stands where the trace led it
+pub record Going {L : Type 0} (l : launcher.Ghosts L) (plan : List Job) (n : ℕ) (T : Trace) (stopped : Option ℕ) (old new : L) : Type 0 where
+  pub leads : Leads l.starts l.waits plan T old new
+  pub runs : (k : ℕ) (r : Role) → l.running new k r ≡ running_of plan T k r
+  pub owes : (k : ℕ) → l.pending new k ≡ is_owed (owed plan T) k
+  pub rules : Sofar plan n T
+  pub until : Until plan n stopped T
+
+pub goes_first : {L : Type 0} (l : launcher.Ghosts L) (plan : List Job) (n : ℕ) (old : L) → IsIdle (l.running old) (l.pending old) → Going l plan n NoEvent None old old
+goes_first l plan n old h = record {
+  leads = refl;
+  runs = λ k r. h.runs k r ∙ none_runs k r;
+  owes = h.pends;
+  rules = record {
+    fits = tt;
+    order = sym (ap (map (λ (job : Job). job.position)) (take_zero (undecided_turns plan)));
+    width = tt;
+    alone = tt;
+    prompt = tt;
+    beyond = λ i z. refl;
+  };
+  until = record { busy = tt; begun = refl; passed = tt };
+}
   where
-    beyond : (m : ℕ) → k ≤ m → nat_le (m + 1) k ≡ false
-    beyond m g = grind (arith, nat_tests)
+    none_runs : (k : ℕ) (r : Role) → None ≡ running_of plan NoEvent k r
+    none_runs k Body = refl
+    none_runs k Cleanup = refl
 
--- what holds up to a failed put, after one event more
-pub each_more : (P : Trace → Event → Type 0) (o : Option ℕ) (T : Trace) (e : Event) → IfSome o (λ k. k ≤ event_count T) → Each P (up_to o T) → (is_some o ≡ false → P T e) → Each P (up_to o (Then T e))
-each_more P None T e g h f = (h, f refl)
-each_more P (Some k) T e g h f = subst (Each P) (sym (first_past k T e g)) h
+module _ {L : Type 0} {l : launcher.Ghosts L} {plan : List Job} {n : ℕ} (fed : Fed) {old mid : L} (p : IsPlan plan) (h : Going l plan n fed.trace fed.stopped old mid) where
+  -- a start that is next may be made
+  pub may_start : (i : ℕ) (role : Role) → IsNext plan n fed (next.Start i role) → Follows plan fed (next.Start i role) → MayStart (l.running mid) (l.pending mid) i role
+  may_start i Body x f =
+      (h.runs i Body ∙ runs_now plan fed.trace i Body [] f.1, h.runs i Cleanup ∙ runs_now plan fed.trace i Cleanup [] f.1, h.owes i ∙ ap (λ (o : Option ℕ). is_owed o i) x.2)
+  may_start i Cleanup x f = h.owes i ∙ (ap (λ (o : Option ℕ). is_owed o i) x.1 ∙ same_is i)
 
-pub begun_more : (o : Option ℕ) (T : Trace) (e : Event) → IfSome o (λ k. k ≤ event_count T) → body_starts T ≡ body_starts (up_to o T) → (is_some o ≡ true → body_start_of e ≡ []) → body_starts (Then T e) ≡ body_starts (up_to o (Then T e))
-begun_more None T e g h f = refl
-begun_more (Some k) T e g h f =
-    ap (λ xs. body_starts T ++ xs) (f refl) ∙ (append-nil (body_starts T) ∙ (h ∙ ap body_starts (sym (first_past k T e g))))
+  pub goes_start : (new : L) (i : ℕ) (role : Role) (job : Job) (a : StartAnswer) → IsNext plan n fed (next.Start i role) → Follows plan fed (next.Start i role) → slice_get plan i ≡ Some job
+      → l.starts mid job role a new → HasMoment a → ((k : ℕ) (r : Role) → l.running new k r ≡ running_after_start (l.running mid) job role a k r)
+      → ((k : ℕ) → l.pending new k ≡ pending_after_start (l.pending mid) job.position role k) → Going l plan n (Then fed.trace (Start i role a)) fed.stopped old new
+  goes_start new i role job a x f g s m u v = record {
+    leads = (mid, job, h.leads, g, s);
+    runs = λ k r. u k r ∙ start_runs plan fed.trace (l.running mid) h.runs i job role r a k g (p.placed i job g) (before plan fed i role f) (cases_eq k i);
+    owes = λ k. v k ∙ owes role x k;
+    rules = sofar_start plan n fed i role job a h.rules x f g m;
+    until = until_start plan n fed i role a h.until x;
+  }
+    where
+      owes : (role : Role) → IsNext plan n fed (next.Start i role) → (k : ℕ) → pending_after_start (l.pending mid) job.position role k ≡ false
+      owes Body x k = h.owes k ∙ ap (λ (o : Option ℕ). is_owed o k) x.2
+      owes Cleanup x k =
+          ap (λ j. if k == j then false else l.pending mid k) (p.placed i job g)
+          ∙ (ap (λ y. if k == i then false else y) (h.owes k ∙ ap (λ (o : Option ℕ). is_owed o k) x.1) ∙ cleared i k (cases_eq k i))
 
-pub passed_more : (o : Option ℕ) (T : Trace) (e : Event) → IfSome o (λ k. k ≤ event_count T) → IfSome o (λ k. k ≤ event_count (Then T e))
-passed_more None T e g = tt
-passed_more (Some k) T e g = omega (arith, g)
+  -- the child that ended is one of the plan
+  pub ended_one : (e : Ended) (child : Child) → l.running mid e.position e.role ≡ Some child → (runs e.position e.role fed.trace ≡ true) × ((job : Job) × (slice_get plan e.position ≡ Some job) × (child ≡ child_of job))
+  ended_one e child o = runs_true plan fed.trace e.position e.role child (sym (h.runs e.position e.role) ∙ o)
+
+  pub goes_end : (new : L) (e : Ended) (child : Child) → IsNext plan n fed next.Wait → l.waits mid e new → l.running mid e.position e.role ≡ Some child → IsEvidence child.interface e.role e.evidence → IsMoment e.moment
+      → ((k : ℕ) (r : Role) → l.running new k r ≡ running_after_end (l.running mid) e k r) → ((k : ℕ) → l.pending new k ≡ pending_after_end (l.running mid) (l.pending mid) e k)
+      → Going l plan n (Then fed.trace (End e)) fed.stopped old new
+  goes_end new e child x s o v m u z =
+      let r = ended_one e child o in
+      let w = while_runs e.role (history e.position fed.trace) r.0 in
+      record {
+        leads = (mid, h.leads, s);
+        runs = λ k t. u k t ∙ end_runs plan fed.trace (l.running mid) h.runs e t k w (cases_eq k e.position);
+        owes = λ k. z k ∙ end_owes plan fed.trace (l.running mid) h.runs (l.pending mid) e k e.role refl w (h.owes k ∙ ap (λ (y : Option ℕ). is_owed y k) x.1);
+        rules = sofar_end plan n fed e r.1.0 h.rules x r.1.1 m (subst (λ (c : Child). IsEvidence c.interface e.role e.evidence) r.1.2 v);
+        until = until_more plan n fed.stopped fed.trace (End e) h.until x.2 (λ y. refl);
+      }
+
+  pub goes_failed : has_failed fed ≡ false → Going l plan n fed.trace (Some (event_count fed.trace)) old mid
+  goes_failed f = record { leads = h.leads; runs = h.runs; owes = h.owes; rules = h.rules; until = until_now plan n fed.stopped fed.trace f h.until }
+
+  -- where it is done and no put failed, the trace is legal
+  pub goes_legal : fed.stopped ≡ None → Follows plan fed next.Done → Legal plan n fed.trace
+  goes_legal o f =
+      let r = h.rules in
+      let b = subst (λ (y : Option ℕ). Each (BusyAt plan n) (up_to y fed.trace)) o h.until.busy in
+      record { whole = f.1 (ap is_some o); order = r.order; width = r.width; alone = r.alone; prompt = r.prompt; busy = b }
+
+  -- after a failed put it was stopped there
+  pub goes_stopped : (k : ℕ) → fed.stopped ≡ Some k → Follows plan fed next.Done → Stopped plan n fed.trace k
+  goes_stopped k o f =
+      let r = h.rules in
+      let b = subst (λ (y : Option ℕ). Each (BusyAt plan n) (up_to y fed.trace)) o h.until.busy in
+      let s = h.until.begun ∙ ap (λ (y : Option ℕ). body_starts (up_to y fed.trace)) o in
+      record { starts = s; whole = λ job i g. f.0 i job g; order = r.order; width = r.width; alone = r.alone; prompt = r.prompt; busy = b }
+
+  -- and nothing runs or is pending
+  pub goes_idle : IsNext plan n fed next.Done → IsIdle (l.running mid) (l.pending mid)
+  goes_idle x = record {
+    runs = λ k r. h.runs k r ∙ ap (λ (b : Bool). if b then child_at plan k else None) (x.3 k r);
+    pends = λ k. h.owes k ∙ ap (λ (o : Option ℕ). is_owed o k) x.1;
+  }

@@ -1,79 +1,169 @@
--- the case of an event
-use Rattle.std.proofs.Common.{slice_get, count_by, Some, None, ◌≡◌, ◌≢◌, ℕ, zero, suc, ◌<◌, Bool, true, cond, List, [], ◌∷◌, length, refl, sym, ◌∙◌, ap, subst, arith, slice_set}
-use Rattle.kt_sched.proofs.Common.{slice_get_within, Body, Cleanup, Job, Next, Stage, Waiting, Owing, Taken, Case, Trace, of, Fed, SchedState, Stands, IsStage, IsAsked, is_active_stage, Replaced}
+-- what a state says of a case
+use Rattle.std.proofs.Common.{slice_get, count_by, Option, Some, None, map, ◌≡◌, ◌≢◌, ℕ, ◌<◌, ◌≤◌, ◌⊎◌, Bool, true, false, List, [], length, refl, sym, ◌∙◌, ap, subst, arith, slice_set, inl, inr}
+use Rattle.kt_sched.proofs.Common.{cases_lt, slice_get-map, slice_get_within, option_map, Role, Body, Cleanup, Job, Next, Stage, Owing, Taken, EndedBody, Case, Event, Trace, of, mark_of, history, is_whole, has_whole_history, is_active, active, turns, owed, IsPlan, Fed, role_runs, runs, stage_runs, SchedState, Stands, CaseStands, IsStage, IsAsked, is_active_stage, is_owing_stage, is_owed, Replaced, HasBody}
 use Rattle.kt_sched.specs.declared.next.Next.TheVariants as next
-use Rattle.kt_sched.proofs.Lists.{within_some, slice_get-set_same, count-cons}
-use Rattle.kt_sched.proofs.Stages.{turn_at}
-use Rattle.kt_sched.proofs.EventSteps.{some_same}
+use Rattle.kt_sched.proofs.Lists.{some_is, within_some, mapped_at, set_set, slice_get-set_same, counted_some, counted_one, counted_none, count_alike}
+use Rattle.kt_sched.proofs.Turns.{turn_inside, turn_distinct}
+use Rattle.kt_sched.proofs.Steps.{same_is}
+use Rattle.kt_sched.proofs.Stages.{Says, says, is_over, marks_active, active_runs, inactive_quiet, owing_stage}
+
+-- a place in the turn order
+pub record TurnAt (plan : List Job) (k i : ℕ) : Type 0 where
+  pub job : Job
+  pub turn : slice_get (turns plan) k ≡ Some job
+  pub at : job.position ≡ i
+  pub place : slice_get plan i ≡ Some job
 
 -- the job of a case, with how its stage stands for its events
 pub record Located (plan : List Job) (T : Trace) (i : ℕ) (was : Stage) (had : Job) : Type 0 where
   pub job : Job
   pub place : slice_get plan i ≡ Some job
   pub stands : IsStage i job was (of i T)
+  pub says : Says job was (history i T)
   pub kept : was ≢ Taken → had ≡ job
 
-pub located : (plan : List Job) (n : ℕ) (fed : Fed) (b : SchedState) (i : ℕ) (had : Job) (was : Stage) → Stands plan n fed b → slice_get b.cases i ≡ Some (record { job = had; stage = was }) → Located plan fed.trace i was had
-located plan n fed b i had was h g =
-    let j = within_some plan i (omega (arith, slice_get_within b.cases i (record { job = had; stage = was }) g, h.count)) in
-    let w = h.cases i j.0 j.1 in
-    let e : w.case ≡ record { job = had; stage = was } = some_same w.case (record { job = had; stage = was }) (sym w.found ∙ g) in
-    record {
-      job = j.0;
-      place = j.1;
-      stands = subst (λ (c : Case). IsStage i j.0 c.stage (of i fed.trace)) e w.stage;
-      kept = λ t. ap (λ (c : Case). c.job) (sym e) ∙ w.kept (λ q. t (ap (λ (c : Case). c.stage) (sym e) ∙ q));
-    }
-
-pub asked_as : (b : SchedState) (q : Next) → b.asked ≡ q → IsAsked b b.asked → IsAsked b q
-asked_as b q e h = subst (IsAsked b) e h
-
-pub no_owing : (plan : List Job) (n : ℕ) (fed : Fed) (b : SchedState) → Stands plan n fed b → b.pending ≡ None → (k : ℕ) (c : Case) → slice_get b.cases k ≡ Some c → (o : _) → c.stage ≢ Owing o
-no_owing plan n fed b h p k c g o x = absurd (cc (h.owing k c g o x, h.pending))
-
-pub not_taken : (was : Stage) → was ≡ Waiting → was ≢ Taken
-not_taken was e t = absurd (cc)
-
-pub set_set : {X : Type 0} (xs : List X) (i : ℕ) (a b : X) → slice_set (slice_set xs i a) i b ≡ slice_set xs i b
-set_set [] i a b = refl
-set_set (x ∷ xs) zero a b = refl
-set_set (x ∷ xs) (suc i) a b = ap (λ ys. x ∷ ys) (set_set xs i a b)
-
-pub same_job : (a b : Case) → Some a ≡ Some b → a.job ≡ b.job
-same_job a b e = ap (λ (c : Case). c.job) (some_same a b e)
+-- the active cases of a trace are counted
+pub active_of : (plan : List Job) (T : Trace) (cases : List Case) → IsPlan plan → length cases ≡ length plan
+    → ((i : ℕ) (job : Job) → slice_get plan i ≡ Some job → CaseStands T i job cases) → active plan T ≡ count_by (λ (c : Case). is_active_stage c.stage) cases
+active_of plan T cases p l h = count_alike (is_active T) (λ (c : Case). is_active_stage c.stage) plan cases (sym l) each
+  where
+    each : (i : ℕ) (job : Job) (c : Case) → slice_get plan i ≡ Some job → slice_get cases i ≡ Some c → is_active T job ≡ is_active_stage c.stage
+    each i job c g k =
+        let s = h i job g in
+        ap (λ (j : ℕ). marks_active job (history j T)) (p.placed i job g)
+        ∙ ((says i job s.case.stage (of i T) s.stage).active ∙ ap (λ (d : Case). is_active_stage d.stage) (some_is _ _ (sym s.found ∙ k)))
 
 -- two replacements of one case are one
 pub replaced_twice : (xs ys zs : List Case) (i : ℕ) (s t u w : Stage) → Replaced xs ys i s w → Replaced ys zs i t u → Replaced xs zs i t w
 replaced_twice xs ys zs i s t u w f g =
-    let mid : slice_get ys i ≡ Some (record { job = f.job; stage = s }) = ap (λ (cs : List Case). slice_get cs i) f.changed ∙ slice_get-set_same xs i (record { job = f.job; stage = s }) (slice_get_within xs i (record { job = f.job; stage = w }) f.found) in
-    let e : g.job ≡ f.job = same_job (record { job = g.job; stage = u }) (record { job = f.job; stage = s }) (sym g.found ∙ mid) in
+    let a : Case = record { job = f.job; stage = s } in
+    let mid : slice_get ys i ≡ Some a = ap (λ (cs : List Case). slice_get cs i) f.changed ∙ slice_get-set_same xs i a (slice_get_within xs i _ f.found) in
+    let e : g.job ≡ f.job = ap (λ (c : Case). c.job) (some_is (record { job = g.job; stage = u }) a (sym g.found ∙ mid)) in
     record {
       job = f.job;
       found = f.found;
-      changed = g.changed ∙ (ap (λ (j : Job). slice_set ys i (record { job = j; stage = t })) e ∙ (ap (λ (cs : List Case). slice_set cs i (record { job = f.job; stage = t })) f.changed ∙ set_set xs i (record { job = f.job; stage = s }) (record { job = f.job; stage = t })));
+      changed = g.changed ∙ (ap (λ (j : Job). slice_set ys i (record { job = j; stage = t })) e
+          ∙ (ap (λ (cs : List Case). slice_set cs i (record { job = f.job; stage = t })) f.changed ∙ set_set xs i a (record { job = f.job; stage = t })));
     }
 
-pub counted_pos : {X : Type 0} (p : X → Bool) (xs : List X) (i : ℕ) (x : X) → slice_get xs i ≡ Some x → p x ≡ true → 0 < count_by p xs
-counted_pos p [] i x g e = absurd (cc)
-counted_pos p (y ∷ ys) zero x g e = omega (arith, count-cons p y ys, ap (λ (b : Bool). cond {A = ℕ} b 1 0) (ap p (some_same y x g) ∙ e))
-counted_pos p (y ∷ ys) (suc i) x g e = omega (arith, count-cons p y ys, counted_pos p ys i x g e)
+module _ {plan : List Job} {n : ℕ} {fed : Fed} {b : SchedState} (h : Stands plan n fed b) where
+  -- the case at a job's place
+  pub at_place : (i : ℕ) (job had : Job) (was : Stage) → slice_get plan i ≡ Some job → slice_get b.cases i ≡ Some (record { job = had; stage = was })
+      → IsStage i job was (of i fed.trace) × (was ≢ Taken → had ≡ job)
+  at_place i job had was j g =
+      let w = h.cases.each i job j in
+      let e : w.case ≡ record { job = had; stage = was } = some_is _ _ (sym w.found ∙ g) in (
+        subst (λ (c : Case). IsStage i job c.stage (of i fed.trace)) e w.stage,
+        λ t. ap (λ (c : Case). c.job) (sym e) ∙ w.kept (λ q. t (ap (λ (c : Case). c.stage) (sym e) ∙ q)),
+      )
 
--- where a case is active, one is counted
-pub some_active : (plan : List Job) (n : ℕ) (fed : Fed) (b : SchedState) (i : ℕ) (c : Case) → Stands plan n fed b → slice_get b.cases i ≡ Some c → is_active_stage c.stage ≡ true → 0 < b.active
-some_active plan n fed b i c h g e = omega (arith, h.active, counted_pos (λ (d : Case). is_active_stage d.stage) b.cases i c g e)
+  pub located : (i : ℕ) (had : Job) (was : Stage) → slice_get b.cases i ≡ Some (record { job = had; stage = was }) → Located plan fed.trace i was had
+  located i had was g =
+      let j = within_some plan i (omega (arith, slice_get_within b.cases i _ g, h.cases.count)) in
+      let s = at_place i j.0 had was j.1 g in
+      record { job = j.0; place = j.1; stands = s.0; says = says i j.0 was (of i fed.trace) s.0; kept = s.1 }
 
--- where a cleanup is asked for, a case is active
-pub owing_active : (plan : List Job) (n : ℕ) (fed : Fed) (b : SchedState) (i : ℕ) → Stands plan n fed b → b.asked ≡ next.Start i Cleanup → 0 < b.active
-owing_active plan n fed b i h q =
-    let a = asked_as b (next.Start i Cleanup) q h.asked in
-    let w = h.owes i (sym h.pending ∙ a.1) in
-    some_active plan n fed b i (record { job = w.0; stage = Owing w.1 }) h w.2 refl
+  pub whole_at : (k : ℕ) (job : Job) (g : slice_get plan k ≡ Some job) → has_whole_history fed.trace job ≡ is_over (h.cases.each k job g).case.stage
+  whole_at k job g =
+      let w = h.cases.each k job g in
+      ap (λ j. is_whole job (history j fed.trace)) (h.is_plan.placed k job g) ∙ (says k job w.case.stage (of k fed.trace) w.stage).whole
 
--- a body that is asked for is that of a case
-pub start_within : (plan : List Job) (n : ℕ) (fed : Fed) (b : SchedState) (k i : ℕ) → Stands plan n fed b → slice_get b.order k ≡ Some i → i < length b.cases
-start_within plan n fed b k i h o =
-    let t = turn_at plan b.order k i h.is_plan h.walk o in
-    omega (arith, slice_get_within plan i t.job t.place, h.count)
+  pub active_at : (k : ℕ) (job : Job) (g : slice_get plan k ≡ Some job) → is_active fed.trace job ≡ is_active_stage (h.cases.each k job g).case.stage
+  active_at k job g =
+      let w = h.cases.each k job g in
+      ap (λ j. marks_active job (history j fed.trace)) (h.is_plan.placed k job g) ∙ (says k job w.case.stage (of k fed.trace) w.stage).active
 
-pub start_room : (plan : List Job) (n : ℕ) (fed : Fed) (b : SchedState) (i : ℕ) → Stands plan n fed b → b.asked ≡ next.Start i Body → i < length b.cases
-start_room plan n fed b i h q = start_within plan n fed b b.turn i h (asked_as b (next.Start i Body) q h.asked).2.1
+  pub active_is : active plan fed.trace ≡ b.active
+  active_is = active_of plan fed.trace b.cases h.is_plan h.cases.count h.cases.each ∙ sym h.cases.active
+
+  -- where nothing is active, no case is
+  pub inactive : (k : ℕ) (c : Case) → b.active ≡ 0 → slice_get b.cases k ≡ Some c → is_active_stage c.stage ≡ false
+  inactive k c a g = counted_none (λ (d : Case). is_active_stage d.stage) b.cases k c (sym h.cases.active ∙ a) g
+
+  -- where a case is active, one is counted
+  pub some_active : (i : ℕ) (c : Case) → slice_get b.cases i ≡ Some c → is_active_stage c.stage ≡ true → 0 < b.active
+  some_active i c g e = omega (arith, h.cases.active, counted_one (λ (d : Case). is_active_stage d.stage) b.cases i c g e)
+
+  -- the turn order
+
+  pub turn_at : (k i : ℕ) → slice_get b.order k ≡ Some i → TurnAt plan k i
+  turn_at k i g =
+      let w = mapped_at (λ (job : Job). job.position) (turns plan) k i (sym (ap (λ (xs : List ℕ). slice_get xs k) h.turn.walk) ∙ g) in
+      record { job = w.0; turn = w.1; at = w.2; place = ap (slice_get plan) (sym w.2) ∙ turn_inside plan h.is_plan.placed k w.0 w.1 }
+
+  pub at_turn : (k : ℕ) (job : Job) → slice_get (turns plan) k ≡ Some job → slice_get b.order k ≡ Some job.position
+  at_turn k job g =
+      ap (λ (xs : List ℕ). slice_get xs k) h.turn.walk
+      ∙ (slice_get-map (λ (j : Job). j.position) (turns plan) k ∙ ap (option_map (λ (j : Job). j.position)) g)
+
+  pub one_place : (k l i : ℕ) → slice_get b.order k ≡ Some i → slice_get b.order l ≡ Some i → k ≡ l
+  one_place k l i g e =
+      let x = turn_at k i g in
+      let y = turn_at l i e in
+      turn_distinct plan h.is_plan.placed k l x.job y.job x.turn y.turn (x.at ∙ sym y.at)
+
+  pub start_within : (k i : ℕ) → slice_get b.order k ≡ Some i → i < length b.cases
+  start_within k i o = let t = turn_at k i o in omega (arith, slice_get_within plan i t.job t.place, h.cases.count)
+
+  -- what was asked, and what is owed
+
+  pub asked_as : (q : Next) → b.asked ≡ q → IsAsked b q
+  asked_as q e = subst (IsAsked b) e h.asked
+
+  pub start_room : (i : ℕ) → b.asked ≡ next.Start i Body → i < length b.cases
+  start_room i q = start_within b.turn i (asked_as (next.Start i Body) q).2.1
+
+  -- the case that is owed
+  pub owes : (i : ℕ) → owed plan fed.trace ≡ Some i → (had : Job) × (o : EndedBody) × (slice_get b.cases i ≡ Some (record { job = had; stage = Owing o }))
+  owes i q =
+      let c = within_some b.cases i (h.cases.owed_within i q) in
+      let e = owing_stage c.0.stage (h.cases.owing i c.0 c.1 ∙ (ap (λ (o : Option ℕ). is_owed o i) q ∙ same_is i)) in
+      (c.0.job, e.0, c.1 ∙ ap (λ (s : Stage). Some (with_stage c.0.job s)) e.1)
+    where
+      with_stage : Job → Stage → Case
+      with_stage j s = record { job = j; stage = s }
+
+  pub has_body : (i : ℕ) → b.asked ≡ next.Start i Cleanup → HasBody b.cases i
+  has_body i q = let w = owes i (sym h.pending ∙ (asked_as (next.Start i Cleanup) q).1) in record { case = _; found = w.2; is = refl }
+
+  -- where a cleanup is asked for, a case is active
+  pub owing_active : (i : ℕ) → b.asked ≡ next.Start i Cleanup → 0 < b.active
+  owing_active i q = let w = owes i (sym h.pending ∙ (asked_as (next.Start i Cleanup) q).1) in some_active i _ w.2 refl
+
+  pub none_owing : b.pending ≡ None → (k : ℕ) (c : Case) → slice_get b.cases k ≡ Some c → is_owing_stage c.stage ≡ false
+  none_owing p k c g = h.cases.owing k c g ∙ ap (λ (o : Option ℕ). is_owed o k) (sym h.pending ∙ p)
+
+  -- what runs
+
+  -- what runs is a case of the state, whose stage runs so
+  pub runs_stage : (i : ℕ) (r : Role) → runs i r fed.trace ≡ true → (c : Case) × (slice_get b.cases i ≡ Some c) × (stage_runs r c.stage ≡ true)
+  runs_stage i r e = there (cases_lt i (length plan))
+    where
+      empty_quiet : (role : Role) → role_runs role [] ≡ false
+      empty_quiet Body = refl
+      empty_quiet Cleanup = refl
+
+      there : (i < length plan) ⊎ (length plan ≤ i) → (c : Case) × (slice_get b.cases i ≡ Some c) × (stage_runs r c.stage ≡ true)
+      there (inl g) =
+          let j = within_some plan i g in
+          let w = h.cases.each i j.0 j.1 in
+          (w.case, w.found, sym ((says i j.0 w.case.stage (of i fed.trace) w.stage).runs r) ∙ e)
+      there (inr g) = absurd (cc (ap (λ (es : List Event). role_runs r (map mark_of es)) (h.cases.beyond i g) ∙ empty_quiet r, e))
+
+  pub something_runs : b.pending ≡ None → 0 < b.active → (i : ℕ) × (role : Role) × (runs i role fed.trace ≡ true)
+  something_runs p a =
+      let w = counted_some (λ (c : Case). is_active_stage c.stage) b.cases (omega (arith, h.cases.active)) in
+      let l = located w.0 w.1.job w.1.stage w.2 in
+      let r = active_runs w.1.stage w.3 (none_owing p w.0 w.1 w.2) in
+      (w.0, r.0, l.says.runs r.0 ∙ r.1)
+
+  pub nothing_runs : b.active ≡ 0 → (i : ℕ) (role : Role) → runs i role fed.trace ≡ false
+  nothing_runs a i role = by (runs i role fed.trace) refl
+    where
+      by : (t : Bool) → runs i role fed.trace ≡ t → runs i role fed.trace ≡ false
+      by true e = let w = runs_stage i role e in absurd (cc (inactive_quiet role w.0.stage (inactive i w.0 a w.1), w.2))
+      by false e = e
+
+  -- and where nothing runs or is owed, nothing is active
+  pub none_active : owed plan fed.trace ≡ None → ((k : ℕ) (r : Role) → runs k r fed.trace ≡ false) → 0 < b.active → ⊥
+  none_active o q a = let w = something_runs (h.pending ∙ o) a in absurd (cc (q w.0 w.1, w.2))

@@ -1,89 +1,121 @@
 -- what a stage says of its case's history
-use Rattle.std.proofs.Common.{slice_get, count_by, Some, is_none, map, not, ◌&&◌, ◌≡◌, ℕ, zero, suc, Bool, true, false, List, [], ◌∷◌, length, refl, sym, ◌∙◌, ap}
-use Rattle.kt_sched.proofs.Common.{list_any, Role, Body, Cleanup, Job, Stage, Waiting, Decided, Running, Owing, Cleaning, Finished, Taken, Case, Event, Trace, of, Mark, BodyStarted, BodyEnded, CleanupStarted, mark_of, end_mark, history, is_whole, is_body_started, is_active, active, turns, IsPlan, Fed, role_runs, SchedState, Stands, CaseStands, IsStage, is_active_stage, slice_get-map, option_map}
-use Rattle.kt_sched.proofs.Turns.{turn_inside, turn_distinct}
-use Rattle.kt_sched.proofs.Lists.{count_alike}
+use Rattle.std.proofs.Common.{Some, None, is_none, is_some, map, not, ◌&&◌, ◌≡◌, ◌≢◌, ℕ, ◌<◌, Bool, true, false, List, [], ◌∷◌, refl, ap, arith}
+use Rattle.kt_sched.proofs.Common.{list_any, Role, Body, Cleanup, Job, Stage, Waiting, Decided, Running, Owing, Cleaning, Finished, Taken, EndedBody, Event, Mark, BodyStarted, BodyEnded, CleanupStarted, mark_of, is_whole, is_body_started, role_runs, stage_runs, IsStage, body_in, since, is_active_stage, is_owing_stage, is_fresh, is_decided_stage, stage_work}
+use Rattle.kt_sched.proofs.Lists.{some_is, and_not}
 
--- a place in the turn order
-pub record TurnAt (plan : List Job) (k i : ℕ) : Type 0 where
-  pub job : Job
-  pub turn : slice_get (turns plan) k ≡ Some job
-  pub at : job.position ≡ i
-  pub place : slice_get plan i ≡ Some job
-
-pub mapped_at : {X Y : Type 0} (f : X → Y) (xs : List X) (k : ℕ) (y : Y) → slice_get (map f xs) k ≡ Some y → (x : X) × (slice_get xs k ≡ Some x) × (f x ≡ y)
-mapped_at f [] k y g = absurd (cc)
-mapped_at f (x ∷ xs) zero y g = (x, refl, cc)
-mapped_at f (x ∷ xs) (suc k) y g = mapped_at f xs k y g
-
-pub turn_at : (plan : List Job) (order : List ℕ) (k i : ℕ) → IsPlan plan → order ≡ map (λ (job : Job). job.position) (turns plan) → slice_get order k ≡ Some i → TurnAt plan k i
-turn_at plan order k i h o g =
-    let w = mapped_at (λ (job : Job). job.position) (turns plan) k i (sym (ap (λ (xs : List ℕ). slice_get xs k) o) ∙ g) in
-    record { job = w.0; turn = w.1; at = w.2; place = ap (slice_get plan) (sym w.2) ∙ turn_inside plan h.placed k w.0 w.1 }
-
-pub at_turn : (plan : List Job) (order : List ℕ) (k : ℕ) (job : Job) → order ≡ map (λ (job : Job). job.position) (turns plan) → slice_get (turns plan) k ≡ Some job → slice_get order k ≡ Some job.position
-at_turn plan order k job o g = ap (λ (xs : List ℕ). slice_get xs k) o ∙ (slice_get-map (λ (job : Job). job.position) (turns plan) k ∙ ap (option_map (λ (job : Job). job.position)) g)
-
-pub one_place : (plan : List Job) (order : List ℕ) (k l i : ℕ) → IsPlan plan → order ≡ map (λ (job : Job). job.position) (turns plan) → slice_get order k ≡ Some i → slice_get order l ≡ Some i → k ≡ l
-one_place plan order k l i h o g e =
-    let a = turn_at plan order k i h o g in
-    let b = turn_at plan order l i h o e in
-    turn_distinct plan h.placed k l a.job b.job a.turn b.turn (a.at ∙ sym b.at)
-
-and_false : (b : Bool) → (b && false) ≡ false
-and_false true = refl
-and_false false = refl
+-- whether a stage's history is whole
+abbrev pub is_over : Stage → Bool
+is_over Decided = true
+is_over (Finished t) = true
+is_over Taken = true
+is_over _ = false
 
 abbrev pub marks_active : Job → List Mark → Bool
 marks_active job w = list_any is_body_started w && not (is_whole job w)
 
-whole_inactive : (job : Job) (w : List Mark) → is_whole job w ≡ true → marks_active job w ≡ false
-whole_inactive job w h = ap (λ b. list_any is_body_started w && not b) h ∙ and_false (list_any is_body_started w)
+-- a stage tells whether its history is whole, its case active, and what of it runs
+pub record Says (job : Job) (stage : Stage) (w : List Mark) : Type 0 where
+  pub whole : is_whole job w ≡ is_over stage
+  pub active : marks_active job w ≡ is_active_stage stage
+  pub runs : (r : Role) → role_runs r w ≡ stage_runs r stage
 
-declared_active : (job : Job) (r : Role) → r ≡ Body → job.cleanup ≡ true → (t : Bool) → not (t && not job.cleanup) ≡ true
-declared_active job r e c true = ap (λ b. not (not b)) c
-declared_active job r e c false = refl
-
-pub stage_active : (i : ℕ) (job : Job) (stage : Stage) (es : List Event) → IsStage i job stage es → marks_active job (map mark_of es) ≡ is_active_stage stage
-stage_active i job Waiting es h = ap (λ (es : List Event). marks_active job (map mark_of es)) h.0
-stage_active i job Decided es h = ap (λ (es : List Event). marks_active job (map mark_of es)) h.0
-stage_active i job (Running m) es h = ap (λ (es : List Event). marks_active job (map mark_of es)) h.0
-stage_active i job (Owing b) es h =
-    ap (λ (es : List Event). marks_active job (map mark_of es)) h.1
-    ∙ (ap (λ (r : Role). marks_active job (BodyStarted ∷ end_mark r ∷ [])) h.2 ∙ declared_active job Body refl h.3 (is_none job.decided))
-stage_active i job (Cleaning b) es h =
-    ap (λ (es : List Event). marks_active job (map mark_of es)) h.2
-    ∙ ap (λ (r : Role). marks_active job (BodyStarted ∷ end_mark r ∷ CleanupStarted ∷ [])) h.3
-stage_active i job (Finished t) es h = whole_inactive job (map mark_of es) h.0
-stage_active i job Taken es h = whole_inactive job (map mark_of es) h
-
--- the active cases of the trace are counted
-pub active_of : (plan : List Job) (T : Trace) (cases : List Case) → IsPlan plan → length cases ≡ length plan → ((i : ℕ) (job : Job) → slice_get plan i ≡ Some job → CaseStands T i job cases) → active plan T ≡ count_by (λ (c : Case). is_active_stage c.stage) cases
-active_of plan T cases p l h =
-    count_alike (is_active T) (λ (c : Case). is_active_stage c.stage) plan cases (sym l)
-    (λ i job c g k.
-    let s = h i job g in
-    let e : s.case ≡ c = cc in
-    ap (λ (j : ℕ). marks_active job (history j T)) (p.placed i job g)
-    ∙ (stage_active i job s.case.stage (of i T) s.stage ∙ ap (λ (d : Case). is_active_stage d.stage) e))
-
-pub active_is : (plan : List Job) (n : ℕ) (fed : Fed) (b : SchedState) → Stands plan n fed b → active plan fed.trace ≡ b.active
-active_is plan n fed b h = active_of plan fed.trace b.cases h.is_plan h.count h.cases ∙ sym h.active
+by_role : (w : List Mark) (stage : Stage) → role_runs Body w ≡ stage_runs Body stage → role_runs Cleanup w ≡ stage_runs Cleanup stage → (r : Role) → role_runs r w ≡ stage_runs r stage
+by_role w stage b c Body = b
+by_role w stage b c Cleanup = c
 
 -- a whole history isn't that of a running child
-pub whole_quiet : (job : Job) (role : Role) (w : List Mark) → is_whole job w ≡ true → role_runs role w ≡ false
+whole_quiet : (job : Job) (role : Role) (w : List Mark) → is_whole job w ≡ true → role_runs role w ≡ false
 whole_quiet job Body (BodyStarted ∷ []) h = absurd (cc)
 whole_quiet job Cleanup (BodyStarted ∷ BodyEnded ∷ CleanupStarted ∷ []) h = absurd (cc)
 whole_quiet job role w h = refl
 
--- a case that isn't active doesn't run
-pub inactive_quiet : (i : ℕ) (job : Job) (role : Role) (stage : Stage) (es : List Event) → IsStage i job stage es → is_active_stage stage ≡ false → role_runs role (map mark_of es) ≡ false
-inactive_quiet i job Body Waiting es h e = ap (λ (es : List Event). role_runs Body (map mark_of es)) h.0
-inactive_quiet i job Cleanup Waiting es h e = ap (λ (es : List Event). role_runs Cleanup (map mark_of es)) h.0
-inactive_quiet i job Body Decided es h e = ap (λ (es : List Event). role_runs Body (map mark_of es)) h.0
-inactive_quiet i job Cleanup Decided es h e = ap (λ (es : List Event). role_runs Cleanup (map mark_of es)) h.0
-inactive_quiet i job role (Running m) es h e = absurd (cc)
-inactive_quiet i job role (Owing b) es h e = absurd (cc)
-inactive_quiet i job role (Cleaning b) es h e = absurd (cc)
-inactive_quiet i job role (Finished t) es h e = whole_quiet job role (map mark_of es) h.0
-inactive_quiet i job role Taken es h e = whole_quiet job role (map mark_of es) h
+over_says : (job : Job) (stage : Stage) (w : List Mark) → is_whole job w ≡ true → is_over stage ≡ true → Says job stage w
+over_says job Decided w h o = record { whole = h; active = and_not (list_any is_body_started w) (is_whole job w) h; runs = by_role w Decided (whole_quiet job Body w h) (whole_quiet job Cleanup w h) }
+over_says job (Finished t) w h o = record { whole = h; active = and_not (list_any is_body_started w) (is_whole job w) h; runs = by_role w (Finished t) (whole_quiet job Body w h) (whole_quiet job Cleanup w h) }
+over_says job Taken w h o = record { whole = h; active = and_not (list_any is_body_started w) (is_whole job w) h; runs = by_role w Taken (whole_quiet job Body w h) (whole_quiet job Cleanup w h) }
+over_says job stage w h o = absurd (cc)
+
+pub says : (i : ℕ) (job : Job) (stage : Stage) (es : List Event) → IsStage i job stage es → Says job stage (map mark_of es)
+says i job Waiting es h = rw h.0 (record { whole = ap is_some h.1; active = refl; runs = by_role [] Waiting refl refl })
+says i job Decided es h = rw h.0 (over_says job Decided [] h.1 refl)
+says i job (Running m) es h = rw h.0 (record { whole = refl; active = refl; runs = by_role (BodyStarted ∷ []) (Running m) refl refl })
+says i job (Owing b) es h =
+    let w = and_not (is_none job.decided) job.cleanup h.3 in
+    rw (h.1, h.2) (record { whole = w; active = ap not w; runs = by_role (BodyStarted ∷ BodyEnded ∷ []) (Owing b) refl refl })
+says i job (Cleaning b) es h =
+    rw (h.2, h.3) (record { whole = refl; active = refl; runs = by_role (BodyStarted ∷ BodyEnded ∷ CleanupStarted ∷ []) (Cleaning b) refl refl })
+says i job (Finished t) es h = over_says job (Finished t) (map mark_of es) h.0 refl
+says i job Taken es h = over_says job Taken (map mark_of es) h refl
+
+-- a case that isn't over is undecided
+pub undecided_stage : (i : ℕ) (job : Job) (stage : Stage) (es : List Event) → IsStage i job stage es → is_over stage ≡ false → job.decided ≡ None
+undecided_stage i job Waiting es h o = h.1
+undecided_stage i job (Running m) es h o = h.1
+undecided_stage i job (Owing b) es h o = h.6
+undecided_stage i job (Cleaning b) es h o = h.7
+undecided_stage i job stage es h o = absurd (cc)
+
+-- which stages there are where a test says so
+
+pub fresh_inactive : (stage : Stage) → is_fresh stage ≡ true → is_active_stage stage ≡ false
+fresh_inactive Waiting e = refl
+fresh_inactive Decided e = refl
+fresh_inactive stage e = absurd (cc)
+
+pub waiting_stage : (stage : Stage) → is_fresh stage ≡ true → is_decided_stage stage ≡ false → stage ≡ Waiting
+waiting_stage Waiting e f = refl
+waiting_stage stage e f = absurd (cc)
+
+pub decided_stage : (stage : Stage) → is_decided_stage stage ≡ true → stage ≡ Decided
+decided_stage Decided e = refl
+decided_stage stage e = absurd (cc)
+
+pub over_stage : (stage : Stage) → stage ≢ Waiting → is_active_stage stage ≡ false → is_over stage ≡ true
+over_stage Waiting w e = absurd (w refl)
+over_stage (Running m) w e = absurd (cc)
+over_stage (Owing b) w e = absurd (cc)
+over_stage (Cleaning b) w e = absurd (cc)
+over_stage stage w e = refl
+
+pub active_begun : (stage : Stage) → is_active_stage stage ≡ true → (is_fresh stage ≡ false) × (is_over stage ≡ false) × (stage ≢ Taken)
+active_begun (Running m) e = (refl, refl, λ t. absurd (cc))
+active_begun (Owing b) e = (refl, refl, λ t. absurd (cc))
+active_begun (Cleaning b) e = (refl, refl, λ t. absurd (cc))
+active_begun stage e = absurd (cc)
+
+pub active_works : (stage : Stage) → is_active_stage stage ≡ true → 1 < stage_work stage
+active_works (Running m) e = omega arith
+active_works (Owing b) e = omega arith
+active_works (Cleaning b) e = omega arith
+active_works stage e = absurd (cc)
+
+-- an active case owes its cleanup or runs
+pub active_runs : (stage : Stage) → is_active_stage stage ≡ true → is_owing_stage stage ≡ false → (r : Role) × (stage_runs r stage ≡ true)
+active_runs (Running m) e o = (Body, refl)
+active_runs (Cleaning b) e o = (Cleanup, refl)
+active_runs stage e o = absurd (cc)
+
+pub inactive_quiet : (r : Role) (stage : Stage) → is_active_stage stage ≡ false → stage_runs r stage ≡ false
+inactive_quiet Body (Running m) e = absurd (cc)
+inactive_quiet Cleanup (Cleaning b) e = absurd (cc)
+inactive_quiet r stage e = refl
+
+pub owing_stage : (stage : Stage) → is_owing_stage stage ≡ true → (o : EndedBody) × (stage ≡ Owing o)
+owing_stage (Owing b) e = (b, refl)
+owing_stage stage e = absurd (cc)
+
+pub owing_body : (stage : Stage) (body : EndedBody) → is_owing_stage stage ≡ true → body_in stage ≡ Some body → stage ≡ Owing body
+owing_body (Owing o) body e f = ap Owing (some_is o body f)
+owing_body stage body e f = absurd (cc)
+
+pub cleaning_body : (stage : Stage) (body : EndedBody) → stage_runs Cleanup stage ≡ true → body_in stage ≡ Some body → stage ≡ Cleaning body
+cleaning_body (Cleaning o) body e f = ap Cleaning (some_is o body f)
+cleaning_body stage body e f = absurd (cc)
+
+pub running_stage : (stage : Stage) (m : ℕ) → since stage ≡ Some m → stage ≡ Running m
+running_stage (Running k) m e = ap Running (some_is k m e)
+running_stage stage m e = absurd (cc)
+
+pub body_since : (stage : Stage) → stage_runs Body stage ≡ true → (m : ℕ) × (since stage ≡ Some m)
+body_since (Running m) e = (m, refl)
+body_since stage e = absurd (cc)

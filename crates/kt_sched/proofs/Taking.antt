@@ -1,160 +1,122 @@
 -- what is taken
-use Rattle.std.proofs.Common.{slice_get, count_by, sum_by, Option, Some, None, map, ◌≡◌, ◌≢◌, ℕ, ◌+◌, ◌<◌, ◌≤◌, ◌⊎◌, Bool, true, false, cond, List, [], length, refl, sym, ◌∙◌, ap, subst, arith, slice_set, inl, inr}
-use Rattle.kt_sched.proofs.Common.{length-set, slice_get_within, cases_eq, Entry, Job, Stage, Waiting, Decided, Running, Owing, Cleaning, Finished, Taken, Case, Event, Trace, of, mark_of, history, is_whole, IsEntry, decided, IsEntryOf, Judged, CaseRecord, Fed, TookEntry, SchedState, Stands, CaseStands, IsStage, IsAsked, is_active_stage, is_fresh, entry_with, record_in, decided_record, decided_record_of, stage_work, work}
+use Rattle.std.proofs.Common.{slice_get, Option, Some, None, ◌≡◌, ◌≢◌, ℕ, ◌<◌, ◌≤◌, ◌⊎◌, Bool, true, false, cond, List, [], refl, sym, ◌∙◌, ap, subst, arith, slice_set, inl, inr}
+use Rattle.kt_sched.proofs.Common.{length-set, slice_get_within, cases_eq, Entry, Job, Stage, Waiting, Decided, Finished, Taken, Case, Event, of, owed, IsEntry, decided, IsEntryOf, Judged, CaseRecord, Fed, TookEntry, SchedState, Stands, CaseStands, IsStage, IsAsked, is_active_stage, is_owing_stage, is_owed, is_fresh, entry_with, record_in, decided_record, decided_record_of, stage_work, work}
 use Rattle.kt_sched.specs.declared.next.Next.TheVariants as next
-use Rattle.kt_sched.proofs.Lists.{slice_get-set_same, slice_get-set_other, count_by-set, sum_by-replaced}
-use Rattle.kt_sched.proofs.EventSteps.{some_same}
-use Rattle.kt_sched.proofs.Located.{located}
-
-decided_entry : (job : Job) (t : CaseRecord) → (o : Option Judged) → job.decided ≡ o → decided_record_of o ≡ Some t → IsEntry job [] (entry_with job t)
-decided_entry job t None e f = absurd (cc)
-decided_entry job t (Some v) e f = subst (λ (x : CaseRecord). IsEntry job [] (entry_with job x)) (some_same (decided_record v) t f) (decided v e)
+use Rattle.kt_sched.proofs.Lists.{some_is, slice_get-set_same, slice_get-set_other, count_by-set, sum_by-set}
+use Rattle.kt_sched.proofs.Stages.{is_over}
+use Rattle.kt_sched.proofs.Located.{asked_as, located}
 
 -- what is told of a case is its entry
-told_entry : (i : ℕ) (job : Job) (was : Stage) (es : List Event) (t : CaseRecord) → IsStage i job was es → record_in job was ≡ Some t → (is_whole job (map mark_of es) ≡ true) × IsEntry job es (entry_with job t)
-told_entry i job Waiting es t s e = absurd (cc)
-told_entry i job Decided es t s e =
-    (ap (λ (xs : List Event). is_whole job (map mark_of xs)) s.0 ∙ s.1, subst (λ (xs : List Event). IsEntry job xs (entry_with job t)) (sym s.0) (decided_entry job t job.decided refl e))
-told_entry i job (Running m) es t s e = absurd (cc)
-told_entry i job (Owing o) es t s e = absurd (cc)
-told_entry i job (Cleaning o) es t s e = absurd (cc)
-told_entry i job (Finished x) es t s e = (s.0, subst (λ (y : CaseRecord). IsEntry job es (entry_with job y)) (some_same x t e) s.1)
-told_entry i job Taken es t s e = absurd (cc)
-
-told_idle : (job : Job) (was : Stage) (t : CaseRecord) → record_in job was ≡ Some t → (is_active_stage was ≡ false) × (stage_work was ≡ 1) × (was ≢ Taken) × ((o : _) → was ≢ Owing o)
-told_idle job Waiting t e = absurd (cc)
-told_idle job Decided t e = (refl, refl, λ x. absurd (cc), λ o x. absurd (cc))
-told_idle job (Running m) t e = absurd (cc)
-told_idle job (Owing o) t e = absurd (cc)
-told_idle job (Cleaning o) t e = absurd (cc)
-told_idle job (Finished x) t e = (refl, refl, λ x. absurd (cc), λ o x. absurd (cc))
-told_idle job Taken t e = absurd (cc)
-
--- the job of a case whose entry is taken, with what is told of it
-record FinishedCases (plan : List Job) (T : Trace) (i : ℕ) (had : Job) (case_record : CaseRecord) : Type 0 where
-  pub job : Job
-  pub place : slice_get plan i ≡ Some job
-  pub same : had ≡ job
-  pub whole : is_whole job (history i T) ≡ true
-  pub entry : IsEntry job (of i T) (entry_with job case_record)
-
-telling : (plan : List Job) (n : ℕ) (fed : Fed) (b : SchedState) (i : ℕ) (cs : List Case) (entry : Entry) → Stands plan n fed b → (t : TookEntry b.cases cs i entry) → FinishedCases plan fed.trace i t.had t.case_record
-telling plan n fed b i cs entry h t =
-    let l = located plan n fed b i t.had t.was h t.found in
-    let same = l.kept (told_idle t.had t.was t.case_record t.told).2 in
-    let w = told_entry i l.job t.was (of i fed.trace) t.case_record l.stands (ap (λ (j : Job). record_in j t.was) (sym same) ∙ t.told) in
-    record { job = l.job; place = l.place; same = same; whole = w.0; entry = w.1 }
-
-pub entry_taken : (plan : List Job) (n : ℕ) (fed : Fed) (b : SchedState) (i : ℕ) (cs : List Case) (entry : Entry) → Stands plan n fed b → TookEntry b.cases cs i entry → IsEntryOf plan fed.trace i entry
-entry_taken plan n fed b i cs entry h t =
-    let l = telling plan n fed b i cs entry h t in
-    record {
-      job = l.job;
-      place = l.place;
-      whole = l.whole;
-      entry_is = subst (λ (x : Entry). IsEntry l.job (of i fed.trace) x) (ap (λ (j : Job). entry_with j t.case_record) (sym l.same) ∙ sym t.is) l.entry;
-    }
-
-taken_here : (cs xs : List Case) (i : ℕ) (old new : Case) → slice_get xs i ≡ Some old → cs ≡ slice_set xs i new → slice_get cs i ≡ Some new
-taken_here cs xs i old new g e = ap (λ (ys : List Case). slice_get ys i) e ∙ slice_get-set_same xs i new (slice_get_within xs i old g)
-
-taken_else : (cs xs : List Case) (i k : ℕ) (new : Case) → k ≢ i → cs ≡ slice_set xs i new → slice_get cs k ≡ slice_get xs k
-taken_else cs xs i k new d e = ap (λ (ys : List Case). slice_get ys k) e ∙ slice_get-set_other xs i k new d
-
-case_taken : (plan : List Job) (n : ℕ) (fed : Fed) (b : SchedState) (i : ℕ) (cs : List Case) (entry : Entry) → Stands plan n fed b → TookEntry b.cases cs i entry → (k : ℕ) (j : Job) → slice_get plan k ≡ Some j → (k ≡ i) ⊎ (k ≢ i) → CaseStands fed.trace k j cs
-case_taken plan n fed b i cs entry h t k j g (inl q) =
-    let l = telling plan n fed b i cs entry h t in
-    let new : Case = record { job = t.left; stage = Taken } in
-    let same : l.job ≡ j = some_same l.job j (sym l.place ∙ (ap (slice_get plan) (sym q) ∙ g)) in
-    let P : Job → Type 0 = λ x. CaseStands fed.trace i x cs in
-    let Q : ℕ → Type 0 = λ m. CaseStands fed.trace m j cs in
-    subst Q (sym q) (subst P same (record {
-      case = new;
-      found = taken_here cs b.cases i (record { job = t.had; stage = t.was }) new t.found t.changed;
-      stage = l.whole;
-      kept = λ x. absurd (x refl);
-    }))
-case_taken plan n fed b i cs entry h t k j g (inr q) =
-    let w = h.cases k j g in
-    record { case = w.case; found = taken_else cs b.cases i k (record { job = t.left; stage = Taken }) q t.changed ∙ w.found; stage = w.stage; kept = w.kept }
-
-which_taken : (b : SchedState) (i : ℕ) (cs : List Case) (entry : Entry) → TookEntry b.cases cs i entry → (k : ℕ) (c : Case) → slice_get cs k ≡ Some c → (k ≡ i) ⊎ (k ≢ i) → ((k ≡ i) × (c.stage ≡ Taken)) ⊎ ((k ≢ i) × (slice_get b.cases k ≡ Some c))
-which_taken b i cs entry t k c g (inl q) =
-    let new : Case = record { job = t.left; stage = Taken } in
-    inl (q, ap (λ (d : Case). d.stage) (some_same c new (sym g ∙ (ap (slice_get cs) q ∙ taken_here cs b.cases i (record { job = t.had; stage = t.was }) new t.found t.changed))))
-which_taken b i cs entry t k c g (inr q) = inr (q, sym (taken_else cs b.cases i k (record { job = t.left; stage = Taken }) q t.changed) ∙ g)
-
-waiting_taken : (plan : List Job) (n : ℕ) (fed : Fed) (b : SchedState) (i : ℕ) (cs : List Case) (entry : Entry) → Stands plan n fed b → b.ready ≡ Some i → TookEntry b.cases cs i entry → (m k : ℕ) (c : Case) → slice_get b.order m ≡ Some k → b.turn ≤ m → ((k ≡ i) × (c.stage ≡ Taken)) ⊎ ((k ≢ i) × (slice_get b.cases k ≡ Some c)) → is_fresh c.stage ≡ true
-waiting_taken plan n fed b i cs entry h e t m k c o r (inl w) = absurd (omega (arith, h.ripe i m e (o ∙ ap Some w.0), r))
-waiting_taken plan n fed b i cs entry h e t m k c o r (inr w) = h.waiting m k c o w.1 r
-
-begun_taken : (plan : List Job) (n : ℕ) (fed : Fed) (b : SchedState) (i : ℕ) (cs : List Case) (entry : Entry) → Stands plan n fed b → TookEntry b.cases cs i entry → (m k : ℕ) (c : Case) → slice_get b.order m ≡ Some k → m < b.turn → ((k ≡ i) × (c.stage ≡ Taken)) ⊎ ((k ≢ i) × (slice_get b.cases k ≡ Some c)) → c.stage ≢ Waiting
-begun_taken plan n fed b i cs entry h t m k c o r (inl w) x = absurd (cc (w.1))
-begun_taken plan n fed b i cs entry h t m k c o r (inr w) x = h.begun m k c o w.1 r x
-
-owing_taken : (plan : List Job) (n : ℕ) (fed : Fed) (b : SchedState) (i : ℕ) (cs : List Case) (entry : Entry) → Stands plan n fed b → (k : ℕ) (c : Case) (o : _) → c.stage ≡ Owing o → ((k ≡ i) × (c.stage ≡ Taken)) ⊎ ((k ≢ i) × (slice_get b.cases k ≡ Some c)) → Rattle.kt_sched.specs.ScheduleRules.owed plan fed.trace ≡ Some k
-owing_taken plan n fed b i cs entry h k c o x (inl w) = absurd (cc (w.1))
-owing_taken plan n fed b i cs entry h k c o x (inr w) = h.owing k c w.1 o x
-
-owes_taken : (plan : List Job) (n : ℕ) (fed : Fed) (b : SchedState) (i : ℕ) (cs : List Case) (entry : Entry) → Stands plan n fed b → TookEntry b.cases cs i entry → (k : ℕ) → Rattle.kt_sched.specs.ScheduleRules.owed plan fed.trace ≡ Some k → (k ≡ i) ⊎ (k ≢ i) → (had : Job) × (o : _) × (slice_get cs k ≡ Some (record { job = had; stage = Owing o }))
-owes_taken plan n fed b i cs entry h t k q (inl x) =
-    let w = h.owes k q in
-    absurd ((told_idle t.had t.was t.case_record t.told).3 w.1 (ap (λ (c : Case). c.stage) (some_same (record { job = t.had; stage = t.was }) (record { job = w.0; stage = Owing w.1 }) (sym t.found ∙ (sym (ap (slice_get b.cases) x) ∙ w.2)))))
-owes_taken plan n fed b i cs entry h t k q (inr x) =
-    let w = h.owes k q in
-    (w.0, w.1, taken_else cs b.cases i k (record { job = t.left; stage = Taken }) x t.changed ∙ w.2)
-
-lone_taken : (plan : List Job) (n : ℕ) (fed : Fed) (b : SchedState) (i : ℕ) (cs : List Case) (entry : Entry) → Stands plan n fed b → (k : ℕ) (j : Job) (c : Case) → slice_get plan k ≡ Some j → j.exclusive ≡ true → is_active_stage c.stage ≡ true → ((k ≡ i) × (c.stage ≡ Taken)) ⊎ ((k ≢ i) × (slice_get b.cases k ≡ Some c)) → b.active ≡ 1
-lone_taken plan n fed b i cs entry h k j c x e a (inl w) = absurd (cc (ap is_active_stage w.1, a))
-lone_taken plan n fed b i cs entry h k j c x e a (inr w) = h.lone k j c x w.1 e a
-
-pub stands_taken : (plan : List Job) (n : ℕ) (fed : Fed) (b : SchedState) (i : ℕ) (cs : List Case) (entry : Entry) → Stands plan n fed b → b.asked ≡ next.Put i → TookEntry b.cases cs i entry → Stands plan n fed (record { cases = cs; order = b.order; turn = b.turn; active = b.active; width = b.width; pending = b.pending; ready = b.ready; asked = b.asked; failed = b.failed })
-stands_taken plan n fed b i cs entry h q t = record {
-  is_plan = h.is_plan;
-  room = h.room;
-  count = ap (λ (xs : List Case). length xs) t.changed ∙ (length-set b.cases i (record { job = t.left; stage = Taken }) ∙ h.count);
-  cases = λ k j g. case_taken plan n fed b i cs entry h t k j g (cases_eq k i);
-  beyond = h.beyond;
-  width = h.width;
-  active = counted;
-  most = h.most;
-  starts = h.starts;
-  walk = h.walk;
-  within = h.within;
-  lone = λ k j c x g e a. lone_taken plan n fed b i cs entry h k j c x e a (which_taken b i cs entry t k c g (cases_eq k i));
-  waiting = λ m k c o g r. waiting_taken plan n fed b i cs entry h ready_now t m k c o r (which_taken b i cs entry t k c g (cases_eq k i));
-  begun = λ m k c o g r. begun_taken plan n fed b i cs entry h t m k c o r (which_taken b i cs entry t k c g (cases_eq k i));
-  pending = h.pending;
-  owing = λ k c g o x. owing_taken plan n fed b i cs entry h k c o x (which_taken b i cs entry t k c g (cases_eq k i));
-  owes = λ k x. owes_taken plan n fed b i cs entry h t k x (cases_eq k i);
-  told = λ k x y. absurd (cc (q));
-  ripe = h.ripe;
-  gone = h.gone;
-  stored = h.stored;
-  ready = h.ready;
-  stopped = h.stopped;
-  failed = h.failed;
-  asked = asked_now;
-}
+told_entry : (i : ℕ) (job : Job) (was : Stage) (es : List Event) (t : CaseRecord) → IsStage i job was es → record_in job was ≡ Some t → IsEntry job es (entry_with job t)
+told_entry i job Decided es t s e = rw s.0 (by job.decided refl e)
   where
-    counted : b.active ≡ count_by (λ (c : Case). is_active_stage c.stage) cs
-    counted =
-        let f = λ (c : Case). is_active_stage c.stage in
-        let new : Case = record { job = t.left; stage = Taken } in
-        let x : count_by f (slice_set b.cases i new) + cond (is_active_stage t.was) 1 0 ≡ count_by f b.cases + 0 = count_by-set f b.cases i (record { job = t.had; stage = t.was }) new t.found in
-        let y : count_by f cs ≡ count_by f (slice_set b.cases i new) = ap (count_by f) t.changed in
-        omega (arith, x, y, h.active, ap (λ (z : Bool). cond {A = ℕ} z 1 0) (told_idle t.had t.was t.case_record t.told).0)
+    by : (o : Option Judged) → job.decided ≡ o → decided_record_of o ≡ Some t → IsEntry job [] (entry_with job t)
+    by None d f = absurd (cc)
+    by (Some v) d f = subst (λ (x : CaseRecord). IsEntry job [] (entry_with job x)) (some_is (decided_record v) t f) (decided v d)
+told_entry i job (Finished x) es t s e = subst (λ (y : CaseRecord). IsEntry job es (entry_with job y)) (some_is x t e) s.1
+told_entry i job was es t s e = absurd (cc)
 
-    ready_now : b.ready ≡ Some i
-    ready_now = (subst (IsAsked b) q h.asked).1
-
-    asked_now : IsAsked (record { cases = cs; order = b.order; turn = b.turn; active = b.active; width = b.width; pending = b.pending; ready = b.ready; asked = b.asked; failed = b.failed }) b.asked
-    asked_now = subst (IsAsked (record { cases = cs; order = b.order; turn = b.turn; active = b.active; width = b.width; pending = b.pending; ready = b.ready; asked = b.asked; failed = b.failed })) (sym q) (let w = subst (IsAsked b) q h.asked in (w.0, w.1))
+-- and such a case is over
+told_over : (job : Job) (was : Stage) (t : CaseRecord) → record_in job was ≡ Some t
+    → (is_over was ≡ true) × (is_active_stage was ≡ false) × (is_owing_stage was ≡ false) × (stage_work was ≡ 1) × (was ≢ Taken)
+told_over job Decided t e = (refl, refl, refl, refl, λ x. absurd (cc))
+told_over job (Finished x) t e = (refl, refl, refl, refl, λ y. absurd (cc))
+told_over job was t e = absurd (cc)
 
 pub less_taken : (ys : List Case) (i : ℕ) (cs : List Case) (entry : Entry) → TookEntry ys cs i entry → work cs < work ys
 less_taken ys i cs entry t =
     let f = λ (c : Case). stage_work c.stage in
-    let new : Case = record { job = t.left; stage = Taken } in
-    let x : sum_by f (slice_set ys i new) + stage_work t.was ≡ sum_by f ys + 0 = sum_by-replaced f ys i (record { job = t.had; stage = t.was }) new t.found in
-    let y : sum_by f cs ≡ sum_by f (slice_set ys i new) = ap (λ (xs : List Case). sum_by f xs) t.changed in
-    omega (arith, x, y, (told_idle t.had t.was t.case_record t.told).1)
+    let x = sum_by-set f ys i (record { job = t.had; stage = t.was }) (record { job = t.left; stage = Taken }) t.found in
+    subst (λ (xs : List Case). work xs < work ys) (sym t.changed) (omega (arith, x, (told_over t.had t.was t.case_record t.told).3))
+
+module _ {plan : List Job} {n : ℕ} {fed : Fed} {b : SchedState} {i : ℕ} {cs : List Case} {entry : Entry} (h : Stands plan n fed b) (t : TookEntry b.cases cs i entry) where
+  abbrev new : Case
+  new = record { job = t.left; stage = Taken }
+
+  abbrev later : List Case
+  later = slice_set b.cases i new
+
+  over : (is_over t.was ≡ true) × (is_active_stage t.was ≡ false) × (is_owing_stage t.was ≡ false) × (stage_work t.was ≡ 1) × (t.was ≢ Taken)
+  over = told_over t.had t.was t.case_record t.told
+
+  pub entry_taken : IsEntryOf plan fed.trace i entry
+  entry_taken =
+      let l = located h i t.had t.was t.found in
+      let same = l.kept over.4 in
+      let w = told_entry i l.job t.was (of i fed.trace) t.case_record l.stands (ap (λ (j : Job). record_in j t.was) (sym same) ∙ t.told) in
+      record {
+        job = l.job;
+        place = l.place;
+        whole = l.says.whole ∙ over.0;
+        entry_is = subst (λ (x : Entry). IsEntry l.job (of i fed.trace) x) (ap (λ (j : Job). entry_with j t.case_record) (sym same) ∙ sym t.is) w;
+      }
+
+  found : slice_get later i ≡ Some new
+  found = slice_get-set_same b.cases i new (slice_get_within b.cases i _ t.found)
+
+  each : (k : ℕ) (j : Job) → slice_get plan k ≡ Some j → (k ≡ i) ⊎ (k ≢ i) → CaseStands fed.trace k j later
+  each k j g (inl q) =
+      let e = entry_taken in
+      let same : e.job ≡ j = some_is e.job j (sym e.place ∙ (ap (slice_get plan) (sym q) ∙ g)) in
+      let here : CaseStands fed.trace i e.job later = record { case = new; found = found; stage = e.whole; kept = λ x. absurd (x refl) } in
+      subst (λ m. CaseStands fed.trace m j later) (sym q) (subst (λ (x : Job). CaseStands fed.trace i x later) same here)
+  each k j g (inr q) =
+      let w = h.cases.each k j g in
+      record { case = w.case; found = slice_get-set_other b.cases i k new q ∙ w.found; stage = w.stage; kept = w.kept }
+
+  abbrev Which : ℕ → Case → Type 0
+  Which k c = ((k ≡ i) × (c.stage ≡ Taken)) ⊎ ((k ≢ i) × (slice_get b.cases k ≡ Some c))
+
+  which : (k : ℕ) (c : Case) → slice_get later k ≡ Some c → Which k c
+  which k c g = by (cases_eq k i)
+    where
+      by : (k ≡ i) ⊎ (k ≢ i) → Which k c
+      by (inl q) = inl (q, ap (λ (d : Case). d.stage) (some_is c new (sym g ∙ (ap (slice_get later) q ∙ found))))
+      by (inr q) = inr (q, sym (slice_get-set_other b.cases i k new q) ∙ g)
+
+  waiting : b.ready ≡ Some i → (m k : ℕ) (c : Case) → slice_get b.order m ≡ Some k → b.turn ≤ m → Which k c → is_fresh c.stage ≡ true
+  waiting e m k c o r (inl w) = absurd (omega (arith, h.ripe i m e (o ∙ ap Some w.0), r))
+  waiting e m k c o r (inr w) = h.turn.waiting m k c o w.1 r
+
+  begun : (m k : ℕ) (c : Case) → slice_get b.order m ≡ Some k → m < b.turn → Which k c → c.stage ≢ Waiting
+  begun m k c o r (inl w) x = absurd (cc (w.1, x))
+  begun m k c o r (inr w) x = h.turn.begun m k c o w.1 r x
+
+  lone : (k : ℕ) (j : Job) (c : Case) → slice_get plan k ≡ Some j → j.exclusive ≡ true → is_active_stage c.stage ≡ true → Which k c → b.active ≡ 1
+  lone k j c x e a (inl w) = absurd (cc (ap is_active_stage w.1, a))
+  lone k j c x e a (inr w) = h.cases.lone k j c x w.1 e a
+
+  owing : (k : ℕ) (c : Case) → Which k c → is_owing_stage c.stage ≡ is_owed (owed plan fed.trace) k
+  owing k c (inl w) = ap is_owing_stage w.1 ∙ (sym over.2 ∙ (h.cases.owing i _ t.found ∙ ap (is_owed (owed plan fed.trace)) (sym w.0)))
+  owing k c (inr w) = h.cases.owing k c w.1
+
+  pub stands_taken : b.asked ≡ next.Put i → Stands plan n fed (record b { cases = cs })
+  stands_taken q = subst (λ (xs : List Case). Stands plan n fed (record b { cases = xs })) (sym t.changed) (record {
+    is_plan = h.is_plan;
+    room = h.room;
+    width = h.width;
+    pending = h.pending;
+    cases = record {
+      count = length-set b.cases i new ∙ h.cases.count;
+      each = λ k j g. each k j g (cases_eq k i);
+      beyond = h.cases.beyond;
+      active = omega (arith, count_by-set (λ (c : Case). is_active_stage c.stage) b.cases i (record { job = t.had; stage = t.was }) new t.found, h.cases.active, ap (λ (z : Bool). cond {A = ℕ} z 1 0) over.1);
+      most = h.cases.most;
+      lone = λ k j c x g e a. lone k j c x e a (which k c g);
+      owing = λ k c g. owing k c (which k c g);
+      owed_within = λ k e. omega (arith, h.cases.owed_within k e, length-set b.cases i new);
+    };
+    turn = record {
+      walk = h.turn.walk;
+      starts = h.turn.starts;
+      waiting = λ m k c o g r. waiting asked.1 m k c o r (which k c g);
+      begun = λ m k c o g r. begun m k c o r (which k c g);
+    };
+    puts = h.puts;
+    told = λ k x y. absurd (cc (q, y));
+    ripe = h.ripe;
+    asked = subst (IsAsked (record b { cases = later })) (sym q) asked;
+  })
+    where
+      asked : IsAsked b (next.Put i)
+      asked = asked_as h (next.Put i) q

@@ -15,7 +15,7 @@ use Rattle.kt_sched.specs.declared.stage.Case.{Case}
 use Rattle.kt_sched.specs.declared.stage.CaseRecord.{CaseRecord}
 use Rattle.kt_sched.specs.declared.stage.EndedBody.{EndedBody}
 use Rattle.kt_status.specs.Tables.{IsVerdict}
-use Rattle.kt_sched.specs.Trace.{Event, Start, End, Trace, of}
+use Rattle.kt_sched.specs.Trace.{Event, Start, End, Trace, Then, of}
 use Rattle.kt_sched.specs.History.{mark_of, is_whole}
 use Rattle.kt_sched.specs.TurnOrder.{body_starts, turns}
 use Rattle.kt_sched.specs.ScheduleRules.{owed}
@@ -206,33 +206,58 @@ pub record AreGone (plan : List Job) (n : ℕ) (T : Trace) (turn : ℕ) : Type 0
   pub gone : (k : ℕ) (job : Job) → k < turn → slice_get (turns plan) k ≡ Some job → is_decided job ≡ true → was_open plan n T job ≡ true
   pub due : (k : ℕ) (job : Job) → turn ≤ k → slice_get (turns plan) k ≡ Some job → was_open plan n T job ≡ is_open plan n T job
 
+-- whether a stage owes its cleanup
+abbrev pub is_owing_stage : Stage → Bool
+is_owing_stage (Owing b) = true
+is_owing_stage _ = false
+
+-- whether this case is the one
+abbrev pub is_owed : Option ℕ → ℕ → Bool
+is_owed None k = false
+is_owed (Some i) k = k == i
+
+-- how the cases stand for a trace, so many of which are active
+pub record CasesStand (plan : List Job) (n : ℕ) (T : Trace) (cases : List Case) (a : ℕ) : Type 0 where
+  pub count : length cases ≡ length plan
+  pub each : (i : ℕ) (job : Job) → slice_get plan i ≡ Some job → CaseStands T i job cases
+  pub beyond : (i : ℕ) → length plan ≤ i → of i T ≡ []
+  pub active : a ≡ count_by (λ c. is_active_stage c.stage) cases
+  pub most : a ≤ n
+  pub lone : (k : ℕ) (j : Job) (c : Case) → slice_get plan k ≡ Some j → slice_get cases k ≡ Some c → j.exclusive ≡ true → is_active_stage c.stage ≡ true → a ≡ 1
+  pub owing : (k : ℕ) (c : Case) → slice_get cases k ≡ Some c → is_owing_stage c.stage ≡ is_owed (owed plan T) k
+  pub owed_within : (k : ℕ) → owed plan T ≡ Some k → k < length cases
+
+-- how a turn stands for a trace: the cases from it on weren't begun
+pub record TurnStands (plan : List Job) (T : Trace) (cases : List Case) (order : List ℕ) (turn : ℕ) : Type 0 where
+  pub walk : order ≡ positions (turns plan)
+  pub starts : HasStarted plan T turn
+  pub waiting : (k i : ℕ) (c : Case) → slice_get order k ≡ Some i → slice_get cases i ≡ Some c → turn ≤ k → is_fresh c.stage ≡ true
+  pub begun : (k i : ℕ) (c : Case) → slice_get order k ≡ Some i → slice_get cases i ≡ Some c → k < turn → c.stage ≢ Waiting
+
+-- what is still to be put: the position that is ready, and then decided cases from the turn on
+pub record PutsStand (plan : List Job) (n : ℕ) (fed : Fed) (a turn : ℕ) (next : Option ℕ) (stop : Bool) : Type 0 where
+  pub failed : stop ≡ has_failed fed
+  pub stopped : stop ≡ true → next ≡ None
+  pub stored : fed.stored ≤ length (recorded plan n fed.trace)
+  pub gone : has_failed fed ≡ false → AreGone plan n fed.trace turn
+  pub ready : has_failed fed ≡ false → drop fed.stored (recorded plan n fed.trace) ≡ listed next ++ positions (opened plan n a turn)
+
 -- the state stands for a plan, a width and the answers fed so far
 pub record Stands (plan : List Job) (n : ℕ) (fed : Fed) (b : SchedState) : Type 0 where
   pub is_plan : IsPlan plan
   pub room : 0 < n
-  pub count : length b.cases ≡ length plan
-  pub cases : (i : ℕ) (job : Job) → slice_get plan i ≡ Some job → CaseStands fed.trace i job b.cases
-  pub beyond : (i : ℕ) → length plan ≤ i → of i fed.trace ≡ []
   pub width : b.width ≡ n
-  pub active : b.active ≡ count_by (λ c. is_active_stage c.stage) b.cases
-  pub most : b.active ≤ n
-  pub starts : HasStarted plan fed.trace b.turn
-  pub walk : b.order ≡ positions (turns plan)
-  pub within : b.turn ≤ length b.order
-  pub waiting : (k i : ℕ) (c : Case) → slice_get b.order k ≡ Some i → slice_get b.cases i ≡ Some c → b.turn ≤ k → is_fresh c.stage ≡ true
-  pub begun : (k i : ℕ) (c : Case) → slice_get b.order k ≡ Some i → slice_get b.cases i ≡ Some c → k < b.turn → c.stage ≢ Waiting
-  pub lone : (k : ℕ) (j : Job) (c : Case) → slice_get plan k ≡ Some j → slice_get b.cases k ≡ Some c → j.exclusive ≡ true → is_active_stage c.stage ≡ true → b.active ≡ 1
   pub pending : b.pending ≡ owed plan fed.trace
-  pub owing : (i : ℕ) (c : Case) → slice_get b.cases i ≡ Some c → (b : _) → c.stage ≡ Owing b → owed plan fed.trace ≡ Some i
-  pub owes : (i : ℕ) → owed plan fed.trace ≡ Some i → (had : Job) × (o : _) × (slice_get b.cases i ≡ Some (record { job = had; stage = Owing o }))
+  pub cases : CasesStand plan n fed.trace b.cases b.active
+  pub turn : TurnStands plan fed.trace b.cases b.order b.turn
+  pub puts : PutsStand plan n fed b.active b.turn b.ready b.failed
   pub told : (i : ℕ) → b.ready ≡ Some i → b.asked ≡ next.Done → HasRecord b.cases i
   pub ripe : (i m : ℕ) → b.ready ≡ Some i → slice_get b.order m ≡ Some i → m < b.turn
-  pub gone : has_failed fed ≡ false → AreGone plan n fed.trace b.turn
-  pub stored : fed.stored ≤ length (recorded plan n fed.trace)
-  pub ready : has_failed fed ≡ false → drop fed.stored (recorded plan n fed.trace) ≡ listed b.ready ++ positions (opened plan n b.active b.turn)
-  pub stopped : b.failed ≡ true → b.ready ≡ None
-  pub failed : b.failed ≡ has_failed fed
   pub asked : IsAsked b b.asked
+
+-- the state after an event: these cases, this turn, so many active, what is owed and what is ready
+abbrev pub after_event : SchedState → List Case → ℕ → ℕ → Option ℕ → Option ℕ → SchedState
+after_event b cases turn active pending ready = record b { cases = cases; turn = turn; active = active; pending = pending; ready = ready; asked = next.Done }
 
 -- the state stands for some plan, width and answers
 abbrev pub IsStanding : SchedState → Type 0
@@ -241,3 +266,9 @@ IsStanding b = (plan : List Job) × (n : ℕ) × (fed : Fed) × Stands plan n fe
 -- the answer fits what was asked last
 abbrev pub IsAnswer : SchedState → Answer → Type 0
 IsAnswer b answer = (plan : List Job) × (n : ℕ) × (fed : Fed) × Stands plan n fed b × IsAnswerTo fed.trace b.asked answer
+
+-- an event leads the scheduler from the first state to the second: it stands for one event more, and has less work left
+pub record Takes (old : SchedState) (e : Event) (new : SchedState) : Type 0 where
+  pub stands : (plan : List Job) (n : ℕ) (fed : Fed) → Stands plan n fed old → Stands plan n (record fed { trace = Then fed.trace e }) new
+  pub less : work_left new < work_left old
+  pub asked : new.asked ≡ next.Done

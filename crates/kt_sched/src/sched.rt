@@ -65,7 +65,7 @@ impl Model for Sched {
 
 impl Sched {
     ghost use Rattle.std.specs.Prelude.{ℕ, List, length, ◌^◌, Some, slice_get, IfOk, ◌<◌, ◌+◌, true, false};
-    ghost use Rattle.kt_sched.specs.Common.{Job, Next, Start, End, event_count, Case, Role, IsPlan, IsWidth, with_event, Fed, fed_after, nothing_fed, IsNext, Follows, IsEntryOf, IsChosen, IsTurn, stage_runs, RunsSince, Declares, SchedState, Stands, IsAnswer, IsSettled, HasRecord, CanLend, HoldsEntry, work_left, Works};
+    ghost use Rattle.kt_sched.specs.Common.{Job, Next, Start, End, event_count, Case, Role, IsPlan, IsWidth, Fed, fed_after, nothing_fed, IsNext, Follows, IsEntryOf, IsChosen, IsTurn, stage_runs, RunsSince, Declares, SchedState, Stands, IsAnswer, IsSettled, HasRecord, CanLend, HoldsEntry, Takes, work_left, Works};
     ghost use Rattle.kt_sched.specs.declared.job.StartAnswer.TheVariants as told;
     ghost use Rattle.kt_base.specs.declared.child.Role.TheVariants.{Body as TheBody, Cleanup as TheCleanup};
 
@@ -155,10 +155,7 @@ impl Sched {
         requires asked { self.old.asked ≡ Next.Wait }
         requires runs { (c : Case) × (slice_get self.old.cases ended.position ≡ Some c)
             × (stage_runs ended.role c.stage ≡ true) }
-        ensures less { work_left self.new < work_left self.old }
-        ensures asked { self.new.asked ≡ Next.Done }
-        ensures stands { (plan : List Job) (n : ℕ) (fed : Fed) → Stands plan n fed self.old
-            → Stands plan n (with_event fed (End ended)) self.new }
+        ensures { Takes self.old (End ended) self.new }
     {
         match ended.role {
             Role::Cleanup => self.cleanup_ended(ended),
@@ -254,10 +251,7 @@ impl Sched {
     /// The body that was asked for runs.
     fn body_started(&mut self, i: u32, moment: u64)
         requires { self.old.asked ≡ Next.Start i TheBody }
-        ensures less { work_left self.new < work_left self.old }
-        ensures asked { self.new.asked ≡ Next.Done }
-        ensures stands { (plan : List Job) (n : ℕ) (fed : Fed) → Stands plan n fed self.old
-            → Stands plan n (with_event fed (Start i TheBody (told.Started moment))) self.new }
+        ensures { Takes self.old (Start i TheBody (told.Started moment)) self.new }
     {
         let _was = replace_stage(&mut self.cases, i, Stage::Running(moment));
         self.turn += 1;
@@ -268,10 +262,7 @@ impl Sched {
     /// The body that was asked for was refused.
     fn body_refused(&mut self, i: u32, cause: Refused)
         requires { self.old.asked ≡ Next.Start i TheBody }
-        ensures less { work_left self.new < work_left self.old }
-        ensures asked { self.new.asked ≡ Next.Done }
-        ensures stands { (plan : List Job) (n : ℕ) (fed : Fed) → Stands plan n fed self.old
-            → Stands plan n (with_event fed (Start i TheBody (told.Refused cause))) self.new }
+        ensures { Takes self.old (Start i TheBody (told.Refused cause)) self.new }
     {
         let case_record = refused_record(self.alloc, cause);
         let _was = replace_stage(&mut self.cases, i, Stage::Finished(case_record));
@@ -283,10 +274,7 @@ impl Sched {
     /// The cleanup that was asked for runs.
     fn cleanup_started(&mut self, i: u32, moment: u64)
         requires { self.old.asked ≡ Next.Start i TheCleanup }
-        ensures less { work_left self.new < work_left self.old }
-        ensures asked { self.new.asked ≡ Next.Done }
-        ensures stands { (plan : List Job) (n : ℕ) (fed : Fed) → Stands plan n fed self.old
-            → Stands plan n (with_event fed (Start i TheCleanup (told.Started moment))) self.new }
+        ensures { Takes self.old (Start i TheCleanup (told.Started moment)) self.new }
     {
         let body = take_body(&mut self.cases, i);
         let _taken = replace_stage(&mut self.cases, i, Stage::Cleaning(body));
@@ -297,10 +285,7 @@ impl Sched {
     /// The cleanup that was asked for was refused.
     fn cleanup_refused(&mut self, i: u32, cause: Refused)
         requires { self.old.asked ≡ Next.Start i TheCleanup }
-        ensures less { work_left self.new < work_left self.old }
-        ensures asked { self.new.asked ≡ Next.Done }
-        ensures stands { (plan : List Job) (n : ℕ) (fed : Fed) → Stands plan n fed self.old
-            → Stands plan n (with_event fed (Start i TheCleanup (told.Refused cause))) self.new }
+        ensures { Takes self.old (Start i TheCleanup (told.Refused cause)) self.new }
     {
         let body = take_body(&mut self.cases, i);
         let case_record = uncleaned_record(self.alloc, body);
@@ -317,10 +302,7 @@ impl Sched {
         requires role { ended.role ≡ TheCleanup }
         requires runs { (c : Case) × (slice_get self.old.cases ended.position ≡ Some c)
             × (stage_runs TheCleanup c.stage ≡ true) }
-        ensures less { work_left self.new < work_left self.old }
-        ensures asked { self.new.asked ≡ Next.Done }
-        ensures stands { (plan : List Job) (n : ℕ) (fed : Fed) → Stands plan n fed self.old
-            → Stands plan n (with_event fed (End ended)) self.new }
+        ensures { Takes self.old (End ended) self.new }
     {
         let i = ended.position;
         let body = take_body(&mut self.cases, i);
@@ -338,10 +320,7 @@ impl Sched {
         requires role { ended.role ≡ TheBody }
         requires runs { RunsSince self.old.cases ended.position since }
         requires declares { Declares self.old.cases ended.position false }
-        ensures less { work_left self.new < work_left self.old }
-        ensures asked { self.new.asked ≡ Next.Done }
-        ensures stands { (plan : List Job) (n : ℕ) (fed : Fed) → Stands plan n fed self.old
-            → Stands plan n (with_event fed (End ended)) self.new }
+        ensures { Takes self.old (End ended) self.new }
     {
         let i = ended.position;
         let case_record = plain_record(self.alloc, since, ended);
@@ -358,10 +337,7 @@ impl Sched {
         requires role { ended.role ≡ TheBody }
         requires runs { RunsSince self.old.cases ended.position since }
         requires declares { Declares self.old.cases ended.position true }
-        ensures less { work_left self.new < work_left self.old }
-        ensures asked { self.new.asked ≡ Next.Done }
-        ensures stands { (plan : List Job) (n : ℕ) (fed : Fed) → Stands plan n fed self.old
-            → Stands plan n (with_event fed (End ended)) self.new }
+        ensures { Takes self.old (End ended) self.new }
     {
         let i = ended.position;
         let body = ended_body(since, ended);

@@ -1,25 +1,24 @@
-use Rattle.std.proofs.Common.{◌<◌, ℕ, sym, ◌∙◌, ap, subst}
-use Rattle.kt_sched.proofs.Common.{SchedState, work, Stands, with_event}
-use Rattle.kt_sched.proofs.Cleaning.{cleanup_started}
+use Rattle.std.proofs.Common.{◌∙◌, ap, refl}
+use Rattle.kt_sched.proofs.Common.{SchedState}
+use Rattle.kt_sched.proofs.Located.{has_body}
+use Rattle.kt_sched.proofs.Transitions.{cleanup_started, standing, takes, takes_at}
 use Rattle.kt_sched.proofs.sched.Sched.cleanup_started.Goals as goal
 
 pub invariant_of-self : goal.invariant_of-self
 invariant_of-self c =
-    let v = c.self.invariant in
+    let q = ap (λ (b : SchedState). b.asked) c.self.view_is ∙ c.requires in
     let r = c.replace_stage-taken in
     let t = c.take_body-body in
-    (v.0, v.1, with_event v.2 _, (cleanup_started v.0 v.1 v.2 _ c.args.i c.args.moment t.new.cases.items r.new.cases.items t.result r.result v.3 (ap (λ (b : SchedState). b.asked) c.self.view_is ∙ c.requires) t.ensures r.ensures).stands)
+    standing c.self.invariant (takes c.self.invariant (λ plan n fed h. cleanup_started h c.args.i c.args.moment t.new.cases.items r.new.cases.items t.result r.result q t.ensures r.ensures) refl)
 
-pub returns-clause-stands : goal.returns-clause-stands
-returns-clause-stands c = λ plan n fed h.
+pub returns : goal.returns
+returns c =
+    let q = ap (λ (b : SchedState). b.asked) c.self.view_is ∙ c.requires in
     let r = c.replace_stage-taken in
     let t = c.take_body-body in
-    (cleanup_started plan n fed _ c.args.i c.args.moment t.new.cases.items r.new.cases.items t.result r.result (subst (Stands plan n fed) (sym c.self.view_is) h) (ap (λ (b : SchedState). b.asked) c.self.view_is ∙ c.requires) t.ensures r.ensures).stands
+    takes_at c.self.view_is (takes c.self.invariant (λ plan n fed h. cleanup_started h c.args.i c.args.moment t.new.cases.items r.new.cases.items t.result r.result q t.ensures r.ensures) refl)
 
-pub returns-clause-less : goal.returns-clause-less
-returns-clause-less c =
-    let v = c.self.invariant in
-    let r = c.replace_stage-taken in
-    let t = c.take_body-body in
-    let f = λ (b : SchedState). work b.cases in
-    subst (λ (k : ℕ). work r.new.cases.items < k) (ap f c.self.view_is) (cleanup_started v.0 v.1 v.2 _ c.args.i c.args.moment t.new.cases.items r.new.cases.items t.result r.result v.3 (ap (λ (b : SchedState). b.asked) c.self.view_is ∙ c.requires) t.ensures r.ensures).less
+pub take_body-body-requires : goal.take_body-body-requires
+take_body-body-requires c =
+    let q = ap (λ (b : SchedState). b.asked) c.self.view_is ∙ c.requires in
+    has_body c.self.invariant.3 c.args.i q

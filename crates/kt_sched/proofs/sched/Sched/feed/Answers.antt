@@ -1,7 +1,7 @@
 use Rattle.std.proofs.Common.{sym, ◌∙◌, ap, subst}
 use Rattle.kt_sched.proofs.Common.{Next, Answer, SchedState, IsAnswerTo}
 use Rattle.kt_sched.specs.declared.next.Next.TheVariants as next
-use Rattle.kt_sched.proofs.Words.{runs_stage}
+use Rattle.kt_sched.proofs.Located.{runs_stage}
 use Rattle.kt_sched.proofs.sched.Sched.feed.Goals as goal
 
 pub ended-requires-clause-runs : goal.ended-requires-clause-runs
@@ -11,4 +11,4 @@ ended-requires-clause-runs c =
     let q = sym (ap (λ (b : SchedState). b.asked) c.self.view_is) ∙ c.in-Wait.is in
     let P : Next → Type 0 = λ x. IsAnswerTo v.2.trace x c.args.answer in
     let Q : Answer → Type 0 = λ x. IsAnswerTo v.2.trace next.Wait x in
-    runs_stage v.0 v.1 v.2 c.args.self.now e.position e.role v.3 (subst Q c.in-Ended.is (subst P q v.4))
+    runs_stage v.3 e.position e.role (subst Q c.in-Ended.is (subst P q v.4))

@@ -1,13 +1,11 @@
-use Rattle.std.proofs.Common.{sym, ◌∙◌, ap, subst, ◌+◌}
+use Rattle.std.proofs.Common.{sym, ◌∙◌, ap, subst}
 use Rattle.kt_sched.proofs.Common.{SchedState, Stands}
 use Rattle.kt_sched.proofs.Puts.{stored}
 use Rattle.kt_sched.proofs.sched.Sched.stored.Goals as goal
 
 pub invariant_of-self : goal.invariant_of-self
-invariant_of-self c =
-    let v = c.self.invariant in
-    (v.0, v.1, record v.2 { stored = v.2.stored + 1 }, stored v.0 v.1 v.2 _ c.args.i v.3 (ap (λ (b : SchedState). b.asked) c.self.view_is ∙ c.requires))
+invariant_of-self c = let v = c.self.invariant in (v.0, v.1, _, stored v.3 c.args.i (ap (λ (b : SchedState). b.asked) c.self.view_is ∙ c.requires))
 
 pub returns-clause-stands : goal.returns-clause-stands
 returns-clause-stands c = λ plan n fed h.
-    stored plan n fed _ c.args.i (subst (Stands plan n fed) (sym c.self.view_is) h) (ap (λ (b : SchedState). b.asked) c.self.view_is ∙ c.requires)
+    stored (subst (Stands plan n fed) (sym c.self.view_is) h) c.args.i (ap (λ (b : SchedState). b.asked) c.self.view_is ∙ c.requires)

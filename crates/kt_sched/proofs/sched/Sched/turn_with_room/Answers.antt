@@ -1,15 +1,14 @@
-use Rattle.std.proofs.Common.{◌<◌, length, refl, subst, arith, inl, inr, slice_get, Some, Option}
+use Rattle.std.proofs.Common.{◌<◌, length, refl, subst, arith, inl, inr, Some}
 use Rattle.kt_sched.proofs.Common.{nat_tests, slice_get_read, IsTurn, SchedState, HasExclusive}
 use Rattle.kt_sched.proofs.Located.{start_within}
 use Rattle.kt_sched.proofs.sched.Sched.turn_with_room.Goals as goal
 
 pub is_exclusive-requires : goal.is_exclusive-requires
 is_exclusive-requires c =
-    let v = c.self.invariant in
     let ord = c.self.inside.order.items in
     let i = c.self.inside.turn in
     let lt : i < length ord = grind (arith, nat_tests, c.if-self-len.false, c.len.ensures) in
-    start_within v.0 v.1 v.2 _ i c.index-i.result.now v.3 (slice_get_read ord (length ord) i c.index-i.result.now refl lt c.index-i.ensures)
+    start_within c.self.invariant.3 i c.index-i.result.now (slice_get_read ord (length ord) i c.index-i.result.now refl lt c.index-i.ensures)
 
 pub returns-then-self-eq0 : goal.returns-then-self-eq0
 returns-then-self-eq0 c =

@@ -1,0 +1,171 @@
+-- the run loop: what holds before each turn, and how each answer keeps it
+use Rattle.std.proofs.Common.{Option, Some, None, is_some, Ok, Err, ◌^◌, ◌≡◌, ◌<◌, ℕ, ◌+◌, ◌-◌, List, [], ◌∷◌, ◌++◌, refl, append-nil, length, slice_get, sym, ◌∙◌, ap, subst, arith}
+use Rattle.kt_sched.proofs.Common.{Role, Entry, Job, StartAnswer, Ended, Next, Answer, SinkFault, Totals, Child, IsEvidence, IsIdle, IsMoment, HasMoment, MayStart, IsPlan, IsAnswer, IsAnswerTo, IsEntryOf, IsStorable, Start, End, event_count, running_after_start, running_after_end, pending_after_start, pending_after_end, child_of, CanCount, counted, Fed, fed_after, answer_of, with_event, nothing_fed, IsNext, Follows, Ran, NoEvent, SchedState, Stands}
+use Rattle.kt_base.specs.declared.no_memory.NoMemory.{NoMemory as Refusal}
+use Rattle.kt_sched.specs.declared.run_fault.RunFault.TheVariants.{NoMemory, SinkFailed}
+use Rattle.kt_sched.specs.declared.next.Next.TheVariants as next
+use Rattle.kt_sched.specs.declared.next.Answer.TheVariants as answer
+use Rattle.kt_sched.specs.declared.job.StartAnswer.TheVariants as told
+use Rattle.kt_sched.specs.declared.launcher.Launcher as launcher
+use Rattle.kt_sched.specs.declared.sink.Sink as sink
+use Rattle.kt_sched.proofs.Runs.{child_runs}
+use Rattle.kt_sched.proofs.Going.{Going, ended_one, goes_end, goes_failed, goes_first, goes_idle, goes_legal, goes_start, goes_stopped, may_start}
+use Rattle.kt_sched.proofs.Gaining.{Gained, end_not_whole, gained_all, gained_are, gained_event, gained_failed, gained_first, gained_put, nothing_due, room_to_count, start_not_whole}
+use Rattle.kt_sched.proofs.Once.{named_at_most_once, recorded_first}
+use Rattle.kt_sched.proofs.Ending.{four_calls, named_once}
+use Rattle.kt_sched.proofs.Storing.{storable_entry}
+
+-- the core, the launcher and the sink stand after the same answers
+pub record Loop {L S : Type 0} (l : launcher.Ghosts L) (s : sink.Ghosts S) (plan : List Job) (n : ℕ) (old : L) (before : S) (sched : SchedState) (new : L) (after : S) (totals : Totals) (fault : Option SinkFault) : Type 0 where
+  pub fed : Fed
+  pub stands : Stands plan n fed sched
+  pub going : Going l plan n fed.trace fed.stopped old new
+  pub gained : Gained s plan n fed totals fault before after
+  pub asked : sched.asked ≡ next.Done
+
+-- what `next` says, and what a step of the core keeps
+abbrev pub Says : List Job → ℕ → SchedState → (Fed → Type 0) → Type 0
+Says plan n b P = (fed : Fed) → Stands plan n fed b → P fed
+
+fed_start : (fed : Fed) (asked : Next) (i : ℕ) (role : Role) (a : StartAnswer) → asked ≡ next.Start i role → fed_after fed asked (answer_of a) ≡ with_event fed (Start i role a)
+fed_start fed asked i role (told.Started m) e = ap (λ (q : Next). fed_after fed q (answer.Started m)) e
+fed_start fed asked i role (told.Refused c) e = ap (λ (q : Next). fed_after fed q (answer.Refused c)) e
+
+module _ {L S : Type 0} (l : launcher.Ghosts L) (s : sink.Ghosts S) where
+  pub loop_first : (plan : List Job) (n : ℕ) (old : L) (before : S) (sched : SchedState) (totals : Totals) → IsPlan plan → Stands plan n nothing_fed sched → sched.asked ≡ next.Done
+      → IsIdle (l.running old) (l.pending old) → totals ≡ record { total = 0; good = 0; bad = 0 } → Loop l s plan n old before sched old before totals None
+  loop_first plan n old before sched totals p h a i t = record {
+    fed = nothing_fed;
+    stands = h;
+    going = goes_first l plan n old i;
+    gained = subst (λ (t : Totals). Gained s plan n nothing_fed t None before before) (sym t) (gained_first s plan n before p);
+    asked = a;
+  }
+
+  -- memory ran out before anything was done
+  pub ran_not : (plan : List Job) (n : ℕ) (old : L) (before : S) (refusal : Refusal) → IsPlan plan → Ran l s plan n old old before before (Err (NoMemory refusal))
+  ran_not plan n old before refusal p = record {
+    trace = NoEvent;
+    leads = refl;
+    fits = tt;
+    calls = λ i. omega arith;
+    once = named_at_most_once n NoEvent p (recorded_first plan n p);
+    gained = [];
+    are = tt;
+    kept = λ put h. subst (s.entries before) (sym (append-nil put)) h;
+    ends = record { events = refl; entries = refl; same = refl };
+  }
+
+module _ {L S : Type 0} {l : launcher.Ghosts L} {s : sink.Ghosts S} {plan : List Job} {n : ℕ} {old : L} {before : S} {sched : SchedState} {mid : L} {after : S} {totals : Totals} {fault : Option SinkFault}
+    (p : IsPlan plan) (k : Loop l s plan n old before sched mid after totals fault) where
+  abbrev fed : Fed
+  fed = k.fed
+
+  -- a start
+
+  module _ (i : ℕ) (role : Role) (x : Says plan n sched (λ fed. IsNext plan n fed (next.Start i role))) (f : Says plan n sched (λ fed. Follows plan fed (next.Start i role))) where
+    pub loop_may_start : (j : ℕ) → i ≡ j → MayStart (l.running mid) (l.pending mid) j role
+    loop_may_start j e = subst (λ j. MayStart (l.running mid) (l.pending mid) j role) e (may_start fed p k.going i role (x fed k.stands) (f fed k.stands))
+
+    pub loop_start : (job : Job) (a : StartAnswer) (new : L) (b later : SchedState) (ans : Answer) → slice_get plan i ≡ Some job → l.starts mid job role a new → HasMoment a
+        → ((k : ℕ) (r : Role) → l.running new k r ≡ running_after_start (l.running mid) job role a k r) → ((k : ℕ) → l.pending new k ≡ pending_after_start (l.pending mid) job.position role k)
+        → b.asked ≡ next.Start i role → ans ≡ answer_of a → Stands plan n fed b → ((fed : Fed) → Stands plan n fed b → Stands plan n (fed_after fed b.asked ans) later) → later.asked ≡ next.Done
+        → Loop l s plan n old before later new after totals fault
+    loop_start job a new b later ans g y m u v q e t z d = record {
+      fed = with_event fed (Start i role a);
+      stands = subst (λ (w : Fed). Stands plan n w later) (ap (fed_after fed b.asked) e ∙ fed_start fed b.asked i role a q) (z fed t);
+      going = goes_start fed p k.going new i role job a (x fed k.stands) (f fed k.stands) g y m u v;
+      gained = gained_event k.gained (Start i role a) p (nothing_due plan n fed i role (x fed k.stands)) (start_not_whole plan fed i role (f fed k.stands));
+      asked = d;
+    }
+
+  -- a wait
+
+  module _ (x : Says plan n sched (λ fed. IsNext plan n fed next.Wait)) where
+    pub loop_may_wait : Says plan n sched (λ fed. Follows plan fed next.Wait) → (i : ℕ) × (role : Role) × (child : Child) × (l.running mid i role ≡ Some child)
+    loop_may_wait f = let w = f fed k.stands in (w.0, w.1, child_of w.2, k.going.runs w.0 w.1 ∙ child_runs plan fed.trace w.0 w.1 w.2 w.3 w.4)
+
+    module _ (e : Ended) (child : Child) (o : l.running mid e.position e.role ≡ Some child) (b : SchedState) (q : b.asked ≡ next.Wait) (t : Stands plan n fed b) where
+      pub loop_answer : IsAnswer b (answer.Ended e)
+      loop_answer = (plan, n, fed, t, subst (λ (y : Next). IsAnswerTo fed.trace y (answer.Ended e)) (sym q) (ended_one fed p k.going e child o).0)
+
+      pub loop_end : (new : L) (later : SchedState) → l.waits mid e new → IsEvidence child.interface e.role e.evidence → IsMoment e.moment
+          → ((k : ℕ) (r : Role) → l.running new k r ≡ running_after_end (l.running mid) e k r) → ((k : ℕ) → l.pending new k ≡ pending_after_end (l.running mid) (l.pending mid) e k)
+          → ((fed : Fed) → Stands plan n fed b → Stands plan n (fed_after fed b.asked (answer.Ended e)) later) → later.asked ≡ next.Done → Loop l s plan n old before later new after totals fault
+      loop_end new later y v m u w z d = record {
+        fed = with_event fed (End e);
+        stands = subst (λ (w : Fed). Stands plan n w later) (ap (λ (y : Next). fed_after fed y (answer.Ended e)) q) (z fed t);
+        going = goes_end fed p k.going new e child (x fed k.stands) y o v m u w;
+        gained = gained_event k.gained (End e) p (x fed k.stands).0 (end_not_whole plan fed.trace e.position e.role (ended_one fed p k.going e child o).0);
+        asked = d;
+      }
+
+  -- a put
+
+  module _ (i : ℕ) (x : Says plan n sched (λ fed. IsNext plan n fed (next.Put i))) where
+    pub loop_can_count : length plan < 2 ^ 64 → CanCount totals (2 ^ 64 - 1)
+    loop_can_count r = room_to_count k.gained i (x fed k.stands) r
+
+    pub loop_storable : (e : Entry) → IsEntryOf plan fed.trace i e → IsStorable e
+    loop_storable e w = storable_entry plan fed.trace i e k.going.rules.fits w
+
+    module _ (e : Entry) (w : IsEntryOf plan fed.trace i e) (b later : SchedState) (q : b.asked ≡ next.Put i) (t : Stands plan n fed b) (d : later.asked ≡ next.Done) (new : S) where
+      pub loop_put : (more : Totals) → more ≡ counted totals e.verdict.kind → s.puts after e (Ok tt) new → ((put : List Entry) → s.entries after put → s.entries new (put ++ e ∷ []))
+          → ((fed : Fed) → Stands plan n fed b → Stands plan n (fed_after fed b.asked answer.Stored) later) → Loop l s plan n old before later mid new more fault
+      loop_put more m u v z = record {
+        fed = record fed { stored = fed.stored + 1 };
+        stands = subst (λ (w : Fed). Stands plan n w later) (ap (λ (y : Next). fed_after fed y answer.Stored) q) (z fed t);
+        going = k.going;
+        gained = subst (λ (y : Totals). Gained s plan n (record fed { stored = fed.stored + 1 }) y fault before new) (sym m) (gained_put k.gained i e new (x fed k.stands) w u v);
+        asked = d;
+      }
+
+      pub loop_failed : (cause : SinkFault) → s.puts after e (Err cause) new → ((put : List Entry) → s.entries after put → s.entries new put)
+          → ((fed : Fed) → Stands plan n fed b → Stands plan n (fed_after fed b.asked answer.StoreFailed) later) → Loop l s plan n old before later mid new totals (Some cause)
+      loop_failed cause u v z = record {
+        fed = record fed { stopped = Some (event_count fed.trace) };
+        stands = subst (λ (w : Fed). Stands plan n w later) (ap (λ (y : Next). fed_after fed y answer.StoreFailed) q) (z fed t);
+        going = goes_failed fed p k.going (x fed k.stands).0;
+        gained = gained_failed k.gained i e new (x fed k.stands) w cause u v;
+        asked = d;
+      }
+
+  -- the end
+
+  module _ (x : Says plan n sched (λ fed. IsNext plan n fed next.Done)) (f : Says plan n sched (λ fed. Follows plan fed next.Done)) where
+    pub loop_idle : IsIdle (l.running mid) (l.pending mid)
+    loop_idle = goes_idle fed p k.going (x fed k.stands)
+
+    -- no put failed
+    pub ran_well : fault ≡ None → Ran l s plan n old mid before after (Ok totals)
+    ran_well e =
+        let g = subst (λ (o : Option SinkFault). Gained s plan n fed totals o before after) e k.gained in
+        let o = ap is_some g.gains.0 in
+        let once = named_once k.stands o (x fed k.stands) g.recorded in
+        record {
+          trace = fed.trace;
+          leads = k.going.leads;
+          fits = k.going.rules.fits;
+          calls = four_calls plan fed.trace p (f fed k.stands).0 k.going.rules.beyond;
+          once = named_at_most_once n fed.trace p g.recorded;
+          gained = g.gained;
+          are = gained_are g;
+          kept = g.kept;
+          ends = record { legal = goes_legal fed p k.going g.gains.0 (f fed k.stands); once = once; all = gained_all g ((x fed k.stands).0 o) ∙ once.all; gains = g.gains.1; counts = g.counts };
+        }
+
+    -- one put failed
+    pub ran_short : (cause : SinkFault) → fault ≡ Some cause → Ran l s plan n old mid before after (Err (SinkFailed cause))
+    ran_short cause e =
+        let g = subst (λ (o : Option SinkFault). Gained s plan n fed totals o before after) e k.gained in
+        record {
+          trace = fed.trace;
+          leads = k.going.leads;
+          fits = k.going.rules.fits;
+          calls = four_calls plan fed.trace p (f fed k.stands).0 k.going.rules.beyond;
+          once = named_at_most_once n fed.trace p g.recorded;
+          gained = g.gained;
+          are = gained_are g;
+          kept = g.kept;
+          ends = record { failed = g.gains.0; stopped = goes_stopped fed p k.going g.gains.0.next.after g.gains.1 (f fed k.stands) };
+        }
