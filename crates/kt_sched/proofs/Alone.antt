@@ -13,13 +13,15 @@ module _ {plan : List Job} {n : ℕ} {fed : Fed} {b : SchedState} (h : Stands pl
   covers k j g = let c = turn_covers plan k j g in (c.0, c.1, at_turn h c.0 j c.1 ∙ ap Some (h.is_plan.placed k j g))
 
   -- where nothing is active, a case that was begun has a whole history
-  begun_whole : b.active ≡ 0 → (i k : ℕ) (job : Job) → slice_get plan i ≡ Some job → slice_get b.order k ≡ Some i → k < b.turn → has_whole_history fed.trace job ≡ true
+  begun_whole : b.active ≡ 0 → (i k : ℕ) (job : Job) → slice_get plan i ≡ Some job → slice_get b.order k ≡ Some i → k < b.turn
+      → has_whole_history fed.trace job ≡ true
   begun_whole a i k job g o l =
       let s = h.cases.each i job g in
       whole_at h i job g ∙ over_stage s.case.stage (h.turn.begun k i s.case o s.found l) (inactive h i s.case a s.found)
 
   -- ordinary cases stand before exclusive ones
-  earlier : (k l : ℕ) (x y : Job) → slice_get (turns plan) k ≡ Some x → slice_get (turns plan) l ≡ Some y → x.exclusive ≡ true → y.exclusive ≡ false → (l < k) ⊎ (k ≤ l) → l < k
+  earlier : (k l : ℕ) (x y : Job) → slice_get (turns plan) k ≡ Some x → slice_get (turns plan) l ≡ Some y → x.exclusive ≡ true → y.exclusive ≡ false
+      → (l < k) ⊎ (k ≤ l) → l < k
   earlier k l x y g d e f (inl z) = z
   earlier k l x y g d e f (inr z) = absurd (cc (turn_sorted plan k l x y g d z e, f))
 
@@ -70,7 +72,8 @@ module _ {plan : List Job} {n : ℕ} {fed : Fed} {b : SchedState} (h : Stands pl
         same k s.case s.found v (h.cases.lone k job s.case g s.found e v) (cases_eq k i);
   }
     where
-      same : (k : ℕ) (c : Case) → slice_get b.cases k ≡ Some c → is_active_stage c.stage ≡ true → b.active ≡ 1 → (k ≡ i) ⊎ (k ≢ i) → (k ≡ i) × (Cleanup ≡ Cleanup)
+      same : (k : ℕ) (c : Case) → slice_get b.cases k ≡ Some c → is_active_stage c.stage ≡ true → b.active ≡ 1 → (k ≡ i) ⊎ (k ≢ i)
+          → (k ≡ i) × (Cleanup ≡ Cleanup)
       same k c g v a (inl q) = (q, refl)
       same k c g v a (inr q) =
           let w = owes h i o in

@@ -11,7 +11,8 @@ use Rattle.kt_sched.proofs.Decided.{open_from}
 
 -- the state before the first answer
 abbrev pub first_state : ℕ → List Case → List ℕ → SchedState
-first_state w cases order = record { cases = cases; order = order; turn = 0; active = 0; width = w; pending = None; ready = None; asked = next.Done; failed = false }
+first_state w cases order =
+    record { cases = cases; order = order; turn = 0; active = 0; width = w; pending = None; ready = None; asked = next.Done; failed = false }
 
 -- no case is begun
 first_is : (o : Option Judged) → (is_fresh (first_stage o) ≡ true) × (is_active_stage (first_stage o) ≡ false) × (is_owing_stage (first_stage o) ≡ false)
@@ -22,7 +23,8 @@ none_active : (plan : List Job) → count_by (λ (c : Case). is_active_stage c.s
 none_active [] = refl
 none_active (job ∷ plan) =
     count-cons (λ (c : Case). is_active_stage c.stage) (first_case job) (map first_case plan)
-    ∙ (ap (λ (b : Bool). cond {A = ℕ} b 1 0 + count_by (λ (c : Case). is_active_stage c.stage) (map first_case plan)) (first_is job.decided).1 ∙ ap (λ k. 0 + k) (none_active plan))
+    ∙ (ap (λ (b : Bool). cond {A = ℕ} b 1 0 + count_by (λ (c : Case). is_active_stage c.stage) (map first_case plan)) (first_is job.decided).1
+    ∙ ap (λ k. 0 + k) (none_active plan))
 
 first_stands : (i : ℕ) (job : Job) → (o : Option Judged) → job.decided ≡ o → IsStage i job (first_stage o) []
 first_stands i job None e = (refl, e)
@@ -36,7 +38,8 @@ all_first : (plan : List Job) (i : ℕ) (c : Case) → slice_get (map first_case
 all_first plan i c g = let w = mapped_at first_case plan i c g in let f = first_is w.0.decided in rw (sym w.2) f
 
 first_case_stands : (plan : List Job) (i : ℕ) (job : Job) → slice_get plan i ≡ Some job → CaseStands NoEvent i job (map first_case plan)
-first_case_stands plan i job g = record { case = first_case job; found = waiting_at plan i job g; stage = first_stands i job job.decided refl; kept = λ t. refl }
+first_case_stands plan i job g =
+    record { case = first_case job; found = waiting_at plan i job g; stage = first_stands i job job.decided refl; kept = λ t. refl }
 
 first_started : (plan : List Job) → HasStarted plan NoEvent 0
 first_started plan = sym (ap (λ (jobs : List Job). positions (filter is_undecided jobs)) (take_zero (turns plan)))
@@ -80,10 +83,12 @@ stands_first plan n h r = record {
 }
 
 -- a body that runs has a moment
-pub runs_since : (cases : List Case) (i : ℕ) (role : Role) → role ≡ Body → ((c : Case) × (slice_get cases i ≡ Some c) × (stage_runs role c.stage ≡ true)) → (m : ℕ) × RunsSince cases i m
+pub runs_since : (cases : List Case) (i : ℕ) (role : Role) → role ≡ Body → ((c : Case) × (slice_get cases i ≡ Some c) × (stage_runs role c.stage ≡ true))
+    → (m : ℕ) × RunsSince cases i m
 runs_since cases i role r w =
     let s = body_since w.0.stage (ap (λ (x : Role). stage_runs x w.0.stage) (sym r) ∙ w.2) in
     (s.0, record { case = w.0; found = w.1; is = s.1 })
 
-pub new_stands : (plan : List Job) (w : ℕ) (cs : List Case) (xs : List ℕ) → IsPlan plan → 0 < w → cs ≡ map first_case plan → xs ≡ positions (turns plan) → Stands plan w nothing_fed (first_state w cs xs)
+pub new_stands : (plan : List Job) (w : ℕ) (cs : List Case) (xs : List ℕ) → IsPlan plan → 0 < w → cs ≡ map first_case plan → xs ≡ positions (turns plan)
+    → Stands plan w nothing_fed (first_state w cs xs)
 new_stands plan w cs xs p l e f = rw (e, f) (stands_first plan w p l)

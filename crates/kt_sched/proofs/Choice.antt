@@ -30,7 +30,8 @@ module _ {plan : List Job} {n : ℕ} {fed : Fed} {b : SchedState} (h : Stands pl
           let x = e.1.2 in
           let k = job_kept h e.1.0 t.job x.0 t.place x.1 (h.turn.waiting b.turn e.1.0 x.0 e.1.1 x.1 (omega arith)) in
           let m = next_later h job q in
-          (turn_sorted plan b.turn (b.turn + m.0) t.job job t.turn m.1 (omega arith) (ap (λ (j : Job). j.exclusive) (sym k) ∙ x.2), omega (arith, e.0, active_is h))
+          let s = turn_sorted plan b.turn (b.turn + m.0) t.job job t.turn m.1 (omega arith) (ap (λ (j : Job). j.exclusive) (sym k) ∙ x.2) in
+          (s, omega (arith, e.0, active_is h))
 
   pub not_failed : (i : ℕ) → b.ready ≡ Some i → b.failed ≡ false
   not_failed i e = by b.failed refl
@@ -43,19 +44,23 @@ module _ {plan : List Job} {n : ℕ} {fed : Fed} {b : SchedState} (h : Stands pl
   pub nothing_opened : b.ready ≡ None → IsSettled b → has_failed fed ≡ false → opened plan n b.active b.turn ≡ []
   nothing_opened r s f = no_run (drop b.turn (turns plan)) (λ job g d m. closed job (slice_get-drop (turns plan) b.turn ∙ g) d m)
     where
-      no_run : (xs : List Job) → ((job : Job) → slice_get xs 0 ≡ Some job → is_decided job ≡ true → room_in b.active n job ≡ true → ⊥) → run_of is_decided (room_in b.active n) xs ≡ []
+      no_run : (xs : List Job) → ((job : Job) → slice_get xs 0 ≡ Some job → is_decided job ≡ true → room_in b.active n job ≡ true → ⊥)
+          → run_of is_decided (room_in b.active n) xs ≡ []
       no_run [] q = refl
       no_run (x ∷ xs) q = both (is_decided x) refl (room_in b.active n x) refl
         where
-          both : (d : Bool) → is_decided x ≡ d → (m : Bool) → room_in b.active n x ≡ m → (if d then (if m then x ∷ run_of is_decided (room_in b.active n) xs else []) else []) ≡ []
+          both : (d : Bool) → is_decided x ≡ d → (m : Bool) → room_in b.active n x ≡ m
+              → (if d then (if m then x ∷ run_of is_decided (room_in b.active n) xs else []) else []) ≡ []
           both true e true g = absurd (q x refl e g)
           both true e false g = refl
           both false e m g = refl
 
-      has_room : (job : Job) (c : Case) → slice_get b.cases job.position ≡ Some c → c.job ≡ job → (x : Bool) → job.exclusive ≡ x → (if x then b.active == 0 else nat_lt b.active n) ≡ true
+      has_room : (job : Job) (c : Case) → slice_get b.cases job.position ≡ Some c → c.job ≡ job → (x : Bool) → job.exclusive ≡ x
+          → (if x then b.active == 0 else nat_lt b.active n) ≡ true
           → (b.active < b.width) × (b.active ≡ 0 ⊎ IsOrdinary b.cases job.position)
       has_room job c k e true y m = let z : b.active ≡ 0 = grind (arith, nat_tests, m) in (omega (arith, z, h.width, h.room), inl z)
-      has_room job c k e false y m = let z : b.active < n = grind (arith, nat_tests, m) in (omega (arith, z, h.width), inr (c, k, ap (λ (j : Job). j.exclusive) e ∙ y))
+      has_room job c k e false y m =
+          let z : b.active < n = grind (arith, nat_tests, m) in (omega (arith, z, h.width), inr (c, k, ap (λ (j : Job). j.exclusive) e ∙ y))
 
       closed : (job : Job) → slice_get (turns plan) b.turn ≡ Some job → is_decided job ≡ true → room_in b.active n job ≡ true → ⊥
       closed job g d m =
@@ -69,7 +74,8 @@ module _ {plan : List Job} {n : ℕ} {fed : Fed} {b : SchedState} (h : Stands pl
           absurd (cc (ap is_some (ap (λ (j : Job). j.decided) (some_is job u.job (sym g ∙ u.turn)) ∙ u.undecided), d))
 
   -- what is put next
-  put_at : (rest : List ℕ) → has_failed fed ≡ false → listed b.ready ++ positions (opened plan n b.active b.turn) ≡ rest → slice_get (recorded plan n fed.trace) fed.stored ≡ slice_get rest 0
+  put_at : (rest : List ℕ) → has_failed fed ≡ false → listed b.ready ++ positions (opened plan n b.active b.turn) ≡ rest
+      → slice_get (recorded plan n fed.trace) fed.stored ≡ slice_get rest 0
   put_at rest f e = slice_get-drop (recorded plan n fed.trace) fed.stored ∙ ap (λ (xs : List ℕ). slice_get xs 0) (h.puts.ready f ∙ e)
 
   pub none_put : b.ready ≡ None → IsSettled b → has_failed fed ≡ false → slice_get (recorded plan n fed.trace) fed.stored ≡ None

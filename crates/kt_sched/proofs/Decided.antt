@@ -29,7 +29,8 @@ none_open {X} decided room opens x xs h m c = filter_none opens (x ∷ xs) (λ k
     each (inr r) k y g = h k y g ∙ (rw (no_room k y g r (room y) refl) (and-false (decided y && list_all decided (take k (x ∷ xs)))))
 
 -- those that are open are the run
-open_run : {X : Type 0} (decided room opens : X → Bool) (xs : List X) → OpensAlong decided room opens xs → RoomFalls room xs → filter opens xs ≡ run_of decided room xs
+open_run : {X : Type 0} (decided room opens : X → Bool) (xs : List X) → OpensAlong decided room opens xs → RoomFalls room xs
+    → filter opens xs ≡ run_of decided room xs
 open_run decided room opens [] h m = refl
 open_run {X} decided room opens (x ∷ xs) h m =
     by (decided x) refl (room x) refl (λ d. open_run decided room opens xs (tail d) (λ j k y z l g w. m (suc j) (suc k) y z (omega (arith, l)) g w))
@@ -69,12 +70,14 @@ past_prefix {X} q r (x ∷ xs) zero (suc k) h u =
     let e : 0 + suc k ≡ suc k = omega arith in
     let f : 0 + k ≡ k = omega arith in
     let z = past_prefix q r xs 0 k (λ j y l g. absurd (omega (arith, l))) (λ j y l g. u (suc j) y (omega arith) g) in
-    rw (e, u 0 x (omega arith) refl) (ap (λ b. r x && b) (let w : list_all q (take k xs) ≡ list_all r (take k (drop 0 xs)) = ap (λ m. list_all q (take m xs)) (sym f) ∙ z in w ∙ ap (λ (ys : List X). list_all r (take k ys)) (drop_zero xs)))
+    let w = ap (λ m. list_all q (take m xs)) (sym f) ∙ (z ∙ ap (λ (ys : List X). list_all r (take k ys)) (drop_zero xs)) in
+    rw (e, u 0 x (omega arith) refl) (ap (λ b. r x && b) w)
 past_prefix q r (x ∷ xs) (suc p) k h u =
     let e : suc p + k ≡ suc (p + k) = omega arith in
     rw (e, h 0 x (omega arith) refl) (past_prefix q r xs p k (λ j y l g. h (suc j) y (omega (arith, l)) g) (λ j y l g. u (suc j) y (omega (arith, l)) g))
 
-room_falls : (a n : ℕ) (ex ey : Bool) → 0 < n → (ex ≡ true → ey ≡ true) → (if ey then a == 0 else nat_lt a n) ≡ true → (if ex then a == 0 else nat_lt a n) ≡ true
+room_falls : (a n : ℕ) (ex ey : Bool) → 0 < n → (ex ≡ true → ey ≡ true) → (if ey then a == 0 else nat_lt a n) ≡ true
+    → (if ex then a == 0 else nat_lt a n) ≡ true
 room_falls a n true true z s h = h
 room_falls a n true false z s h = absurd (cc (s refl))
 room_falls a n false true z s h = let e : a ≡ 0 = grind (arith, nat_tests, h) in grind (arith, nat_tests, e, z)
@@ -99,11 +102,14 @@ module _ {plan : List Job} (T : Trace) (p : ℕ) (h : IsPlan plan) (s : HasStart
           let w = filter_at is_undecided xs j job (get_take (turns plan) p j l ∙ g) (undecided_is job ∙ ap not d) in
           let f = λ (x : Job). x.position in
           or_right (is_decided job) (list_any (λ i. i == job.position) (body_starts T)) (ap (list_any (λ i. i == job.position)) s
-          ∙ any_at (λ i. i == job.position) (positions (filter is_undecided xs)) w.0 job.position (slice_get-map f (filter is_undecided xs) w.0 ∙ ap (option_map f) w.1) (same_is job.position))
+          ∙ any_at (λ i. i == job.position) (positions (filter is_undecided xs)) w.0 job.position
+          (slice_get-map f (filter is_undecided xs) w.0 ∙ ap (option_map f) w.1) (same_is job.position))
 
   -- those from there on are if they are decided
   begun_after : (j : ℕ) (job : Job) → p ≤ j → slice_get (turns plan) j ≡ Some job → is_begun T job ≡ is_decided job
-  begun_after j job l g = ap (λ b. is_decided job || b) (ap (list_any (λ i. i == job.position)) s ∙ any_none _ _ (λ k i q. other_is_not i job.position (λ e. apart k i q e))) ∙ or-false (is_decided job)
+  begun_after j job l g =
+      ap (λ b. is_decided job || b) (ap (list_any (λ i. i == job.position)) s ∙ any_none _ _ (λ k i q. other_is_not i job.position (λ e. apart k i q e)))
+      ∙ or-false (is_decided job)
     where
       apart : (k i : ℕ) → slice_get (positions (filter is_undecided (take p (turns plan)))) k ≡ Some i → i ≡ job.position → ⊥
       apart k i q e =
@@ -118,14 +124,17 @@ module _ {plan : List Job} (T : Trace) (p : ℕ) (h : IsPlan plan) (s : HasStart
   pub open_from : {n : ℕ} → 0 < n → filter (is_open plan n T) (drop p (turns plan)) ≡ opened plan n (active plan T) p
   open_from {n} z =
       let room = room_in (active plan T) n in
-      let f : (k : ℕ) (job : Job) → slice_get (drop p (turns plan)) k ≡ Some job → slice_get (turns plan) (p + k) ≡ Some job = λ k job g. sym (get_drop (turns plan) p k) ∙ g in
+      let f : (k : ℕ) (job : Job) → slice_get (drop p (turns plan)) k ≡ Some job → slice_get (turns plan) (p + k) ≡ Some job =
+      λ k job g. sym (get_drop (turns plan) p k) ∙ g in
       open_run is_decided room (is_open plan n T) (drop p (turns plan))
-      (λ k job g. ap (λ (jobs : List Job). (is_decided job && list_all (is_begun T) jobs) && room job) (ahead_is (turns plan) (p + k) job (turn_distinct plan h.placed) (f k job g))
+      (λ k job g. ap (λ (jobs : List Job). (is_decided job && list_all (is_begun T) jobs) && room job)
+      (ahead_is (turns plan) (p + k) job (turn_distinct plan h.placed) (f k job g))
       ∙ ap (λ v. (is_decided job && v) && room job) (past_prefix (is_begun T) is_decided (turns plan) p k begun_before begun_after))
       (λ j k x y l g w. room_falls (active plan T) n x.exclusive y.exclusive z (turn_sorted plan (p + j) (p + k) x y (f j x g) (f k y w) (omega (arith, l))))
 
   -- where none can be put, none from the turn on is open
-  none_open_from : {n : ℕ} → 0 < n → opened plan n (active plan T) p ≡ [] → (k : ℕ) (job : Job) → p ≤ k → slice_get (turns plan) k ≡ Some job → is_open plan n T job ≡ false
+  none_open_from : {n : ℕ} → 0 < n → opened plan n (active plan T) p ≡ [] → (k : ℕ) (job : Job) → p ≤ k → slice_get (turns plan) k ≡ Some job
+      → is_open plan n T job ≡ false
   none_open_from {n} z e k job l g =
       let q : p + (k - p) ≡ k = omega (arith, l) in
       none_passes (is_open plan n T) (drop p (turns plan)) (open_from z ∙ e) (k - p) job (get_drop (turns plan) p (k - p) ∙ (ap (slice_get (turns plan)) q ∙ g))
@@ -152,7 +161,8 @@ module _ {plan : List Job} {n : ℕ} {T : Trace} {e : Event} {p q : ℕ} (o : Op
   closed_before : (k : ℕ) (job : Job) → p ≤ k → slice_get (turns plan) k ≡ Some job → was_open plan n T job ≡ false
   closed_before k job l g = o.gone.due k job l g ∙ none_open_from T p o.is_plan o.before o.room o.none k job l g
 
-  passed_by : (k : ℕ) (job : Job) → k < q → slice_get (turns plan) k ≡ Some job → (k < p) ⊎ (p ≤ k) → (b : Bool) → is_decided job ≡ b → opens_now plan n T e job ≡ false
+  passed_by : (k : ℕ) (job : Job) → k < q → slice_get (turns plan) k ≡ Some job → (k < p) ⊎ (p ≤ k) → (b : Bool) → is_decided job ≡ b
+      → opens_now plan n T e job ≡ false
   passed_by k job l g x false d = rw d refl
   passed_by k job l g (inl x) true d = rw (o.gone.gone k job x g d) (and-false (is_open plan n (Then T e) job))
   passed_by k job l g (inr x) true d = absurd (cc (o.over.1 k job x l g, d))
@@ -162,10 +172,13 @@ module _ {plan : List Job} {n : ℕ} {T : Trace} {e : Event} {p q : ℕ} (o : Op
   newly_open =
       let f = opens_now plan n T e in
       let xs = turns plan in
-      let none = filter_none f (take q xs) (λ k job g. let l = take_within xs q k job g in passed_by k job l (sym (get_take xs q k l) ∙ g) (cases_lt k p) (is_decided job) refl) in
+      let none = filter_none f (take q xs) (λ k job g. let l = take_within xs q k job g in passed_by k job l (sym (get_take xs q k l) ∙ g) (cases_lt k p)
+      (is_decided job) refl) in
       let alike = filter_alike f (is_open plan n (Then T e)) (drop q xs)
-      (λ k job g. ap (λ b. is_open plan n (Then T e) job && not b) (closed_before (q + k) job (omega (arith, o.over.0)) (sym (get_drop xs q k) ∙ g)) ∙ and-true (is_open plan n (Then T e) job)) in
-      ap (filter f) (sym (take-append-drop q xs)) ∙ (filter-append f (take q xs) (drop q xs) ∙ (rw none (alike ∙ open_from (Then T e) q o.is_plan o.after o.room)))
+      (λ k job g. ap (λ b. is_open plan n (Then T e) job && not b) (closed_before (q + k) job (omega (arith, o.over.0)) (sym (get_drop xs q k) ∙ g))
+      ∙ and-true (is_open plan n (Then T e) job)) in
+      ap (filter f) (sym (take-append-drop q xs))
+      ∙ (filter-append f (take q xs) (drop q xs) ∙ (rw none (alike ∙ open_from (Then T e) q o.is_plan o.after o.room)))
 
   -- and then those before the turn had their due
   pub gone_after : AreGone plan n (Then T e) q
@@ -174,6 +187,7 @@ module _ {plan : List Job} {n : ℕ} {T : Trace} {e : Event} {p q : ℕ} (o : Op
     due = λ k job l g. rw (closed_before k job (omega (arith, l, o.over.0)) g) refl;
   }
     where
-      gone_one : (k : ℕ) (job : Job) → k < q → slice_get (turns plan) k ≡ Some job → is_decided job ≡ true → (k < p) ⊎ (p ≤ k) → was_open plan n (Then T e) job ≡ true
+      gone_one : (k : ℕ) (job : Job) → k < q → slice_get (turns plan) k ≡ Some job → is_decided job ≡ true → (k < p) ⊎ (p ≤ k)
+          → was_open plan n (Then T e) job ≡ true
       gone_one k job l g d (inl x) = rw (o.gone.gone k job x g d) refl
       gone_one k job l g d (inr x) = absurd (cc (o.over.1 k job x l g, d))

@@ -38,6 +38,7 @@ named_once {plan} {n} {fed} {b} h f x r = names_once n fed.trace h.is_plan r (λ
     done i job g (Some v) d =
         let c = covers h i job g in
         let l : c.0 < b.turn = omega (arith, slice_get_within (turns plan) c.0 job c.1, turn_past h f x) in
-        ap (λ (o : Option Judged). if is_some o then was_open plan n fed.trace job else has_whole_history fed.trace job) d ∙ (h.puts.gone f).gone c.0 job l c.1 (ap is_some d)
+        ap (λ (o : Option Judged). if is_some o then was_open plan n fed.trace job else has_whole_history fed.trace job) d
+        ∙ (h.puts.gone f).gone c.0 job l c.1 (ap is_some d)
     done i job g None d =
         ap (λ (o : Option Judged). if is_some o then was_open plan n fed.trace job else has_whole_history fed.trace job) d ∙ whole_each h f x i job g

@@ -22,17 +22,26 @@ module _ {job : Job} {es : List Event} (i : ℕ) where
       → t ≡ record_of t.verdict b b.ended no_output → IsStage i job (Finished t) (es ++ Start i Cleanup (told.Refused cause) ∷ [])
   uncleaned_stage b cause t s w t_is =
       let e = s.0 in
-      let of_end = λ (x : EndedBody). record_of t.verdict (record { started = b.started; ended = x.ended; verdict = x.verdict; output = x.output }) x.ended no_output in
-      let P : CaseRecord → Type 0 = λ x. IsEntry job (Start i Body (told.Started b.started) ∷ End e ∷ Start i Cleanup (told.Refused cause) ∷ []) (entry_with job x) in
-      rw s.1 (ap (λ x. is_whole job (BodyStarted ∷ end_mark x ∷ CleanupRefused ∷ [])) s.2 ∙ and_both _ _ (ap is_none s.6) s.3, subst P (sym (t_is ∙ ap of_end s.5)) (uncleaned i b.started e i cause b.verdict t.verdict s.4 w))
+      let of_end = λ (x : EndedBody). record_of t.verdict (record { started = b.started; ended = x.ended; verdict = x.verdict; output = x.output })
+      x.ended no_output in
+      let P : CaseRecord → Type 0 = λ x. IsEntry job (Start i Body (told.Started b.started) ∷ End e ∷ Start i Cleanup (told.Refused cause) ∷ [])
+      (entry_with job x) in
+      rw s.1 (
+        ap (λ x. is_whole job (BodyStarted ∷ end_mark x ∷ CleanupRefused ∷ [])) s.2
+            ∙ and_both _ _ (ap is_none s.6) s.3,
+        subst P (sym (t_is ∙ ap of_end s.5)) (uncleaned i b.started e i cause b.verdict t.verdict s.4 w),
+      )
 
-  pub cleaned_stage : (b : EndedBody) (f : Ended) (t : CaseRecord) → IsStage i job (Cleaning b) es → f.role ≡ Cleanup → IsVerdictAfter b.verdict (cleanup.Ended f.outcome) t.verdict
+  pub cleaned_stage : (b : EndedBody) (f : Ended) (t : CaseRecord) → IsStage i job (Cleaning b) es → f.role ≡ Cleanup
+      → IsVerdictAfter b.verdict (cleanup.Ended f.outcome) t.verdict
       → t ≡ record_of t.verdict b f.moment f.output → IsStage i job (Finished t) (es ++ End f ∷ [])
   cleaned_stage b f t s x w t_is =
       let e = s.0 in
       let m = s.1 in
-      let of_end : EndedBody → CaseRecord = λ y. record { verdict = t.verdict; started = b.started; millis = f.moment - b.started; body = y.output; cleanup = f.output } in
-      let P : CaseRecord → Type 0 = λ y. IsEntry job (Start i Body (told.Started b.started) ∷ End e ∷ Start i Cleanup (told.Started m) ∷ End f ∷ []) (entry_with job y) in
+      let of_end : EndedBody → CaseRecord =
+      λ y. record { verdict = t.verdict; started = b.started; millis = f.moment - b.started; body = y.output; cleanup = f.output } in
+      let P : CaseRecord → Type 0 = λ y. IsEntry job (Start i Body (told.Started b.started) ∷ End e ∷ Start i Cleanup (told.Started m) ∷ End f ∷ [])
+      (entry_with job y) in
       rw s.2 (
         ap (λ y. is_whole job (BodyStarted ∷ end_mark y ∷ CleanupStarted ∷ end_mark f.role ∷ [])) s.3
             ∙ (ap (λ y. is_whole job (BodyStarted ∷ BodyEnded ∷ CleanupStarted ∷ end_mark y ∷ [])) x ∙ and_both _ _ (ap is_none s.7) s.4),

@@ -74,12 +74,14 @@ module _ {plan : List Job} {n : ℕ} {fed : Fed} {b : SchedState} (h : Stands pl
       let s = h.cases.each i job g in
       by s.case.stage s.stage (λ w. whole_at h i job g ∙ over_stage s.case.stage w (inactive h i s.case a s.found))
     where
-      by : (stage : Stage) → IsStage i job stage (of i fed.trace) → (stage ≢ Waiting → has_whole_history fed.trace job ≡ true) → (of i fed.trace ≡ []) ⊎ (has_whole_history fed.trace job ≡ true)
+      by : (stage : Stage) → IsStage i job stage (of i fed.trace) → (stage ≢ Waiting → has_whole_history fed.trace job ≡ true)
+          → (of i fed.trace ≡ []) ⊎ (has_whole_history fed.trace job ≡ true)
       by Waiting x w = inl x.0
       by stage x w = inr (w (λ e. absurd (cc (e))))
 
   -- and if no put failed, each is whole
-  pub whole_each : has_failed fed ≡ false → IsNext plan n fed next.Done → (i : ℕ) (job : Job) → slice_get plan i ≡ Some job → has_whole_history fed.trace job ≡ true
+  pub whole_each : has_failed fed ≡ false → IsNext plan n fed next.Done → (i : ℕ) (job : Job) → slice_get plan i ≡ Some job
+      → has_whole_history fed.trace job ≡ true
   whole_each f x i job g =
       let s = h.cases.each i job g in
       let c = covers h i job g in

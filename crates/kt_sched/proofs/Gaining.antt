@@ -10,13 +10,15 @@ use Rattle.kt_sched.proofs.Steps.{of_other, opens_now}
 use Rattle.kt_sched.proofs.Runs.{while_runs}
 use Rattle.kt_sched.proofs.Once.{NotWhole, Recorded, recorded_first, recorded_event, recorded_most}
 
-entries_more : (plan : List Job) (T : Trace) (ps : List ℕ) (es : List Entry) (p : ℕ) (e : Entry) → AreEntries plan T ps es → IsEntryOf plan T p e → AreEntries plan T (ps ++ p ∷ []) (es ++ e ∷ [])
+entries_more : (plan : List Job) (T : Trace) (ps : List ℕ) (es : List Entry) (p : ℕ) (e : Entry) → AreEntries plan T ps es → IsEntryOf plan T p e
+    → AreEntries plan T (ps ++ p ∷ []) (es ++ e ∷ [])
 entries_more plan T [] [] p e h x = (x, tt)
 entries_more plan T [] (f ∷ es) p e h x = absurd h
 entries_more plan T (q ∷ ps) [] p e h x = absurd h
 entries_more plan T (q ∷ ps) (f ∷ es) p e h x = (h.0, entries_more plan T ps es p e h.1 x)
 
-gains_more : {S : Type 0} (puts : S → Entry → Result (Unit {0}) SinkFault → S → Type 0) (es : List Entry) (e : Entry) (first last new : S) → Gains puts es first last → puts last e (Ok tt) new → Gains puts (es ++ e ∷ []) first new
+gains_more : {S : Type 0} (puts : S → Entry → Result (Unit {0}) SinkFault → S → Type 0) (es : List Entry) (e : Entry) (first last new : S)
+    → Gains puts es first last → puts last e (Ok tt) new → Gains puts (es ++ e ∷ []) first new
 gains_more puts [] e first last new h x = (new, subst (λ s. puts s e (Ok tt) new) h x, refl)
 gains_more puts (f ∷ es) e first last new h x = (h.0, h.1, gains_more puts es e h.0 last new h.2 x)
 
@@ -62,7 +64,8 @@ abbrev added : List Job → ℕ → Trace → Event → List Due
 added plan n T e = put_at (event_count (Then T e)) (finished_by plan T e) ++ put_at (event_count (Then T e)) (filter (opens_now plan n T e) (turns plan))
 
 added_now : (plan : List Job) (n : ℕ) (T : Trace) (e : Event) → DueAt (event_count (Then T e)) (added plan n T e)
-added_now plan n T e = let k = event_count (Then T e) in due_append k _ _ (due_put_at k (finished_by plan T e)) (due_put_at k (filter (opens_now plan n T e) (turns plan)))
+added_now plan n T e =
+    let k = event_count (Then T e) in due_append k _ _ (due_put_at k (finished_by plan T e)) (due_put_at k (filter (opens_now plan n T e) (turns plan)))
 
 -- a whole case has no further event
 module _ (plan : List Job) (T : Trace) (e : Event) (h : NotWhole plan T (position_of e)) where
@@ -88,12 +91,14 @@ abbrev pub AreDue : List Job → ℕ → Fed → Type 0
 AreDue plan n fed = (j : ℕ) (p : Due) → fed.stored ≤ j → slice_get (dues plan n fed.trace) j ≡ Some p → p.after ≡ event_count fed.trace
 
 -- what the puts did to a sink
-abbrev pub GainsUpTo : {S : Type 0} → (S → Entry → Result (Unit {0}) SinkFault → S → Type 0) → List Job → ℕ → Fed → List Entry → Option SinkFault → S → S → Type 0
+abbrev pub GainsUpTo : {S : Type 0} → (S → Entry → Result (Unit {0}) SinkFault → S → Type 0) → List Job → ℕ → Fed → List Entry → Option SinkFault → S → S
+    → Type 0
 GainsUpTo puts plan n fed gained None before after = (fed.stopped ≡ None) × Gains puts gained before after × AreDue plan n fed
 GainsUpTo puts plan n fed gained (Some fault) before after = (f : FailedPut puts plan n fed.trace gained fault before after) × (fed.stopped ≡ Some f.next.after)
 
 -- what the sink gained so far
-pub record Gained {S : Type 0} (s : sink.Ghosts S) (plan : List Job) (n : ℕ) (fed : Fed) (totals : Totals) (fault : Option SinkFault) (before after : S) : Type 0 where
+pub record Gained {S : Type 0} (s : sink.Ghosts S) (plan : List Job) (n : ℕ) (fed : Fed) (totals : Totals) (fault : Option SinkFault)
+    (before after : S) : Type 0 where
   pub gained : List Entry
   pub count : length gained ≡ fed.stored
   pub within : fed.stored ≤ length (recorded plan n fed.trace)
@@ -103,7 +108,8 @@ pub record Gained {S : Type 0} (s : sink.Ghosts S) (plan : List Job) (n : ℕ) (
   pub counts : Counts gained totals
   pub recorded : Recorded plan n fed.trace
 
-pub gained_first : {S : Type 0} (s : sink.Ghosts S) (plan : List Job) (n : ℕ) (before : S) → IsPlan plan → Gained s plan n nothing_fed (record { total = 0; good = 0; bad = 0 }) None before before
+pub gained_first : {S : Type 0} (s : sink.Ghosts S) (plan : List Job) (n : ℕ) (before : S) → IsPlan plan
+    → Gained s plan n nothing_fed (record { total = 0; good = 0; bad = 0 }) None before before
 gained_first s plan n before p = record {
   gained = [];
   count = refl;
@@ -115,13 +121,16 @@ gained_first s plan n before p = record {
   recorded = recorded_first plan n p;
 }
 
-module _ {S : Type 0} {s : sink.Ghosts S} {plan : List Job} {n : ℕ} {fed : Fed} {totals : Totals} {fault : Option SinkFault} {before mid : S} (g : Gained s plan n fed totals fault before mid) where
+module _ {S : Type 0} {s : sink.Ghosts S} {plan : List Job} {n : ℕ} {fed : Fed} {totals : Totals} {fault : Option SinkFault} {before mid : S}
+    (g : Gained s plan n fed totals fault before mid) where
   -- after an event that comes where all is stored
-  pub gained_event : (ev : Event) → IsPlan plan → (has_failed fed ≡ false → IsUpToDate plan n fed) → NotWhole plan fed.trace (position_of ev) → Gained s plan n (with_event fed ev) totals fault before mid
+  pub gained_event : (ev : Event) → IsPlan plan → (has_failed fed ≡ false → IsUpToDate plan n fed) → NotWhole plan fed.trace (position_of ev)
+      → Gained s plan n (with_event fed ev) totals fault before mid
   gained_event ev p z h =
       let T = fed.trace in
       let xs = recorded plan n T in
-      let m : recorded plan n (Then T ev) ≡ xs ++ map (λ (p : Due). p.position) (added plan n T ev) = map-append (λ (p : Due). p.position) (dues plan n T) (added plan n T ev) in
+      let m : recorded plan n (Then T ev) ≡ xs ++ map (λ (p : Due). p.position) (added plan n T ev) = map-append (λ (p : Due). p.position) (dues plan n T)
+      (added plan n T ev) in
       let e : take fed.stored (recorded plan n (Then T ev)) ≡ take fed.stored xs = ap (take fed.stored) m ∙ take-append-le fed.stored xs _ g.within in
       record {
         gained = g.gained;
@@ -134,7 +143,8 @@ module _ {S : Type 0} {s : sink.Ghosts S} {plan : List Job} {n : ℕ} {fed : Fed
         recorded = recorded_event plan n T ev p h g.recorded;
       }
     where
-      by : (fault : Option SinkFault) → GainsUpTo s.puts plan n fed g.gained fault before mid → GainsUpTo s.puts plan n (with_event fed ev) g.gained fault before mid
+      by : (fault : Option SinkFault) → GainsUpTo s.puts plan n fed g.gained fault before mid
+          → GainsUpTo s.puts plan n (with_event fed ev) g.gained fault before mid
       by None w =
           let late = none_past (recorded plan n fed.trace) fed.stored (z (ap is_some w.0)) in (
             w.0,
@@ -158,7 +168,8 @@ module _ {S : Type 0} {s : sink.Ghosts S} {plan : List Job} {n : ℕ} {fed : Fed
   -- where a put is next, there is room to count it
   pub room_to_count : (i : ℕ) → IsNext plan n fed (next.Put i) → length plan < 2 ^ 64 → CanCount totals (2 ^ 64 - 1)
   room_to_count i x l =
-      can_count g.gained totals (2 ^ 64 - 1) g.counts (omega (arith, l, g.count, slice_get_within (recorded plan n fed.trace) fed.stored i x.1, recorded_most plan n fed.trace g.recorded))
+      can_count g.gained totals (2 ^ 64 - 1) g.counts
+      (omega (arith, l, g.count, slice_get_within (recorded plan n fed.trace) fed.stored i x.1, recorded_most plan n fed.trace g.recorded))
 
   -- at the end every position is stored
   pub gained_all : IsUpToDate plan n fed → length g.gained ≡ length (recorded plan n fed.trace)
@@ -177,14 +188,16 @@ module _ {S : Type 0} {s : sink.Ghosts S} {plan : List Job} {n : ℕ} {fed : Fed
           gained = g.gained ++ e ∷ [];
           count = length-append g.gained (e ∷ []) ∙ ap (λ k. k + 1) g.count;
           within = omega (arith, slice_get_within xs fed.stored i x.1);
-          are = subst (λ (ps : List ℕ). AreEntries plan fed.trace ps (g.gained ++ e ∷ [])) (sym (take_snoc xs fed.stored i x.1)) (entries_more plan fed.trace (take fed.stored xs) g.gained i e g.are w);
+          are = subst (λ (ps : List ℕ). AreEntries plan fed.trace ps (g.gained ++ e ∷ [])) (sym (take_snoc xs fed.stored i x.1))
+              (entries_more plan fed.trace (take fed.stored xs) g.gained i e g.are w);
           kept = λ put h. subst (s.entries after) (append_assoc put g.gained (e ∷ [])) (k (put ++ g.gained) (g.kept put h));
           gains = by fault g.gains;
           counts = counts_more g.gained e totals g.counts;
           recorded = g.recorded;
         }
       where
-        by : (fault : Option SinkFault) → GainsUpTo s.puts plan n fed g.gained fault before mid → GainsUpTo s.puts plan n (record fed { stored = fed.stored + 1 }) (g.gained ++ e ∷ []) fault before after
+        by : (fault : Option SinkFault) → GainsUpTo s.puts plan n fed g.gained fault before mid
+            → GainsUpTo s.puts plan n (record fed { stored = fed.stored + 1 }) (g.gained ++ e ∷ []) fault before after
         by None y = (y.0, gains_more s.puts g.gained e before mid after y.1 p, λ j q l z. y.2 j q (omega (arith, l)) z)
         by (Some fault) y = absurd (cc (x.0, ap is_some y.1))
 
@@ -202,7 +215,8 @@ module _ {S : Type 0} {s : sink.Ghosts S} {plan : List Job} {n : ℕ} {fed : Fed
       recorded = g.recorded;
     }
       where
-        by : (fault : Option SinkFault) → GainsUpTo s.puts plan n fed g.gained fault before mid → GainsUpTo s.puts plan n (record fed { stopped = Some (event_count fed.trace) }) g.gained (Some cause) before after
+        by : (fault : Option SinkFault) → GainsUpTo s.puts plan n fed g.gained fault before mid
+            → GainsUpTo s.puts plan n (record fed { stopped = Some (event_count fed.trace) }) g.gained (Some cause) before after
         by None y =
             let m = mapped_at (λ (q : Due). q.position) (dues plan n fed.trace) fed.stored i x.1 in
             let one : FailedPut s.puts plan n fed.trace g.gained cause before after = record {
@@ -227,6 +241,7 @@ pub end_not_whole : (plan : List Job) (T : Trace) (i : ℕ) (role : Role) → ru
 end_not_whole plan T i Body h job g = ap (is_whole job) (while_runs Body (history i T) h)
 end_not_whole plan T i Cleanup h job g = ap (is_whole job) (while_runs Cleanup (history i T) h)
 
-pub nothing_due : (plan : List Job) (n : ℕ) (fed : Fed) (i : ℕ) (role : Role) → IsNext plan n fed (next.Start i role) → has_failed fed ≡ false → IsUpToDate plan n fed
+pub nothing_due : (plan : List Job) (n : ℕ) (fed : Fed) (i : ℕ) (role : Role) → IsNext plan n fed (next.Start i role) → has_failed fed ≡ false
+    → IsUpToDate plan n fed
 nothing_due plan n fed i Body x f = x.1
 nothing_due plan n fed i Cleanup x f = x.0 f

@@ -35,7 +35,8 @@ first_all NoEvent = refl
 first_all (Then T e) = let x : nat_le (event_count T + 1) (event_count T + 1) ≡ true = grind (arith, nat_tests) in rw x refl
 
 module _ (plan : List Job) (n : ℕ) where
-  until_more : (o : Option ℕ) (T : Trace) (e : Event) → Until plan n o T → (is_some o ≡ false → BusyAt plan n T e) → (is_some o ≡ true → body_start_of e ≡ []) → Until plan n o (Then T e)
+  until_more : (o : Option ℕ) (T : Trace) (e : Event) → Until plan n o T → (is_some o ≡ false → BusyAt plan n T e) → (is_some o ≡ true → body_start_of e ≡ [])
+      → Until plan n o (Then T e)
   until_more None T e u f g = record { busy = (u.busy, f refl); begun = refl; passed = tt }
   until_more (Some k) T e u f g =
       let x = sym (first_past k T e u.passed) in
@@ -46,7 +47,8 @@ module _ (plan : List Job) (n : ℕ) where
       }
 
   pub until_now : (o : Option ℕ) (T : Trace) → is_some o ≡ false → Until plan n o T → Until plan n (Some (event_count T)) T
-  until_now None T f u = record { busy = subst (Each (BusyAt plan n)) (sym (first_all T)) u.busy; begun = ap body_starts (sym (first_all T)); passed = omega arith }
+  until_now None T f u =
+      record { busy = subst (Each (BusyAt plan n)) (sym (first_all T)) u.busy; begun = ap body_starts (sym (first_all T)); passed = omega arith }
   until_now (Some k) T f u = absurd (cc)
 
   -- the order of starts after the next one
@@ -61,13 +63,16 @@ module _ (plan : List Job) (n : ℕ) where
 
   order_same : (T : Trace) (e : Event) → body_start_of e ≡ [] → Order plan T → Order plan (Then T e)
   order_same T e q o =
-      subst (λ (xs : List ℕ). xs ≡ map (λ (job : Job). job.position) (take (length xs) (undecided_turns plan))) (sym (ap (λ xs. body_starts T ++ xs) q ∙ append-nil (body_starts T))) o
+      subst (λ (xs : List ℕ). xs ≡ map (λ (job : Job). job.position) (take (length xs) (undecided_turns plan)))
+      (sym (ap (λ xs. body_starts T ++ xs) q ∙ append-nil (body_starts T))) o
 
-  beyond_more : (T : Trace) (e : Event) (job : Job) → slice_get plan (position_of e) ≡ Some job → ((i : ℕ) → length plan ≤ i → of i T ≡ []) → (i : ℕ) → length plan ≤ i → of i (Then T e) ≡ []
+  beyond_more : (T : Trace) (e : Event) (job : Job) → slice_get plan (position_of e) ≡ Some job → ((i : ℕ) → length plan ≤ i → of i T ≡ []) → (i : ℕ)
+      → length plan ≤ i → of i (Then T e) ≡ []
   beyond_more T e job g h i l = of_other (position_of e) i T e refl (λ q. absurd (omega (arith, l, slice_get_within plan (position_of e) job g, q))) ∙ h i l
 
   -- what a trace keeps, it keeps with an event that is next
-  sofar_start : (fed : Fed) (i : ℕ) (role : Role) (job : Job) (a : StartAnswer) → Sofar plan n fed.trace → IsNext plan n fed (next.Start i role) → Follows plan fed (next.Start i role)
+  sofar_start : (fed : Fed) (i : ℕ) (role : Role) (job : Job) (a : StartAnswer) → Sofar plan n fed.trace → IsNext plan n fed (next.Start i role)
+      → Follows plan fed (next.Start i role)
       → slice_get plan i ≡ Some job → HasMoment a → Sofar plan n (Then fed.trace (Start i role a))
   sofar_start fed i Body job a s x f g m = record {
     fits = (s.fits, m);
@@ -86,7 +91,8 @@ module _ (plan : List Job) (n : ℕ) where
     beyond = beyond_more fed.trace (Start i Cleanup a) job g s.beyond;
   }
 
-  sofar_end : (fed : Fed) (e : Ended) (job : Job) → Sofar plan n fed.trace → IsNext plan n fed next.Wait → slice_get plan e.position ≡ Some job → IsMoment e.moment
+  sofar_end : (fed : Fed) (e : Ended) (job : Job) → Sofar plan n fed.trace → IsNext plan n fed next.Wait → slice_get plan e.position ≡ Some job
+      → IsMoment e.moment
       → IsEvidence job.interface e.role e.evidence → Sofar plan n (Then fed.trace (End e))
   sofar_end fed e job s x g m v = record {
     fits = (s.fits, (m, (job, g, v)));
@@ -97,7 +103,8 @@ module _ (plan : List Job) (n : ℕ) where
     beyond = beyond_more fed.trace (End e) job g s.beyond;
   }
 
-  until_start : (fed : Fed) (i : ℕ) (role : Role) (a : StartAnswer) → Until plan n fed.stopped fed.trace → IsNext plan n fed (next.Start i role) → Until plan n fed.stopped (Then fed.trace (Start i role a))
+  until_start : (fed : Fed) (i : ℕ) (role : Role) (a : StartAnswer) → Until plan n fed.stopped fed.trace → IsNext plan n fed (next.Start i role)
+      → Until plan n fed.stopped (Then fed.trace (Start i role a))
   until_start fed i Body a u x = until_more fed.stopped fed.trace (Start i Body a) u (λ z. tt) (λ z. absurd (cc (x.0, z)))
   until_start fed i Cleanup a u x = until_more fed.stopped fed.trace (Start i Cleanup a) u (λ z. tt) (λ z. refl)
 
@@ -113,7 +120,8 @@ pub record Going {L : Type 0} (l : launcher.Ghosts L) (plan : List Job) (n : ℕ
   pub rules : Sofar plan n T
   pub until : Until plan n stopped T
 
-pub goes_first : {L : Type 0} (l : launcher.Ghosts L) (plan : List Job) (n : ℕ) (old : L) → IsIdle (l.running old) (l.pending old) → Going l plan n NoEvent None old old
+pub goes_first : {L : Type 0} (l : launcher.Ghosts L) (plan : List Job) (n : ℕ) (old : L) → IsIdle (l.running old) (l.pending old)
+    → Going l plan n NoEvent None old old
 goes_first l plan n old h = record {
   leads = refl;
   runs = λ k r. h.runs k r ∙ none_runs k r;
@@ -133,16 +141,21 @@ goes_first l plan n old h = record {
     none_runs k Body = refl
     none_runs k Cleanup = refl
 
-module _ {L : Type 0} {l : launcher.Ghosts L} {plan : List Job} {n : ℕ} (fed : Fed) {old mid : L} (p : IsPlan plan) (h : Going l plan n fed.trace fed.stopped old mid) where
+module _ {L : Type 0} {l : launcher.Ghosts L} {plan : List Job} {n : ℕ} (fed : Fed) {old mid : L} (p : IsPlan plan)
+    (h : Going l plan n fed.trace fed.stopped old mid) where
   -- a start that is next may be made
-  pub may_start : (i : ℕ) (role : Role) → IsNext plan n fed (next.Start i role) → Follows plan fed (next.Start i role) → MayStart (l.running mid) (l.pending mid) i role
+  pub may_start : (i : ℕ) (role : Role) → IsNext plan n fed (next.Start i role) → Follows plan fed (next.Start i role)
+      → MayStart (l.running mid) (l.pending mid) i role
   may_start i Body x f =
-      (h.runs i Body ∙ runs_now plan fed.trace i Body [] f.1, h.runs i Cleanup ∙ runs_now plan fed.trace i Cleanup [] f.1, h.owes i ∙ ap (λ (o : Option ℕ). is_owed o i) x.2)
+      let runs = λ (r : Role). h.runs i r ∙ runs_now plan fed.trace i r [] f.1 in
+      (runs Body, runs Cleanup, h.owes i ∙ ap (λ (o : Option ℕ). is_owed o i) x.2)
   may_start i Cleanup x f = h.owes i ∙ (ap (λ (o : Option ℕ). is_owed o i) x.1 ∙ same_is i)
 
-  pub goes_start : (new : L) (i : ℕ) (role : Role) (job : Job) (a : StartAnswer) → IsNext plan n fed (next.Start i role) → Follows plan fed (next.Start i role) → slice_get plan i ≡ Some job
+  pub goes_start : (new : L) (i : ℕ) (role : Role) (job : Job) (a : StartAnswer) → IsNext plan n fed (next.Start i role) → Follows plan fed (next.Start i role)
+      → slice_get plan i ≡ Some job
       → l.starts mid job role a new → HasMoment a → ((k : ℕ) (r : Role) → l.running new k r ≡ running_after_start (l.running mid) job role a k r)
-      → ((k : ℕ) → l.pending new k ≡ pending_after_start (l.pending mid) job.position role k) → Going l plan n (Then fed.trace (Start i role a)) fed.stopped old new
+      → ((k : ℕ) → l.pending new k ≡ pending_after_start (l.pending mid) job.position role k)
+      → Going l plan n (Then fed.trace (Start i role a)) fed.stopped old new
   goes_start new i role job a x f g s m u v = record {
     leads = (mid, job, h.leads, g, s);
     runs = λ k r. u k r ∙ start_runs plan fed.trace (l.running mid) h.runs i job role r a k g (p.placed i job g) (before plan fed i role f) (cases_eq k i);
@@ -158,11 +171,14 @@ module _ {L : Type 0} {l : launcher.Ghosts L} {plan : List Job} {n : ℕ} (fed :
           ∙ (ap (λ y. if k == i then false else y) (h.owes k ∙ ap (λ (o : Option ℕ). is_owed o k) x.1) ∙ cleared i k (cases_eq k i))
 
   -- the child that ended is one of the plan
-  pub ended_one : (e : Ended) (child : Child) → l.running mid e.position e.role ≡ Some child → (runs e.position e.role fed.trace ≡ true) × ((job : Job) × (slice_get plan e.position ≡ Some job) × (child ≡ child_of job))
+  pub ended_one : (e : Ended) (child : Child) → l.running mid e.position e.role ≡ Some child
+      → (runs e.position e.role fed.trace ≡ true) × ((job : Job) × (slice_get plan e.position ≡ Some job) × (child ≡ child_of job))
   ended_one e child o = runs_true plan fed.trace e.position e.role child (sym (h.runs e.position e.role) ∙ o)
 
-  pub goes_end : (new : L) (e : Ended) (child : Child) → IsNext plan n fed next.Wait → l.waits mid e new → l.running mid e.position e.role ≡ Some child → IsEvidence child.interface e.role e.evidence → IsMoment e.moment
-      → ((k : ℕ) (r : Role) → l.running new k r ≡ running_after_end (l.running mid) e k r) → ((k : ℕ) → l.pending new k ≡ pending_after_end (l.running mid) (l.pending mid) e k)
+  pub goes_end : (new : L) (e : Ended) (child : Child) → IsNext plan n fed next.Wait → l.waits mid e new → l.running mid e.position e.role ≡ Some child
+      → IsEvidence child.interface e.role e.evidence → IsMoment e.moment
+      → ((k : ℕ) (r : Role) → l.running new k r ≡ running_after_end (l.running mid) e k r)
+      → ((k : ℕ) → l.pending new k ≡ pending_after_end (l.running mid) (l.pending mid) e k)
       → Going l plan n (Then fed.trace (End e)) fed.stopped old new
   goes_end new e child x s o v m u z =
       let r = ended_one e child o in

@@ -177,7 +177,8 @@ filter_in {X} p (x ∷ xs) k a g = here (p x) refl k g (λ m h. filter_in p xs m
     here true e (suc m) h r = let w = r m h in (suc w.0, w.1, w.2)
     here false e m h r = let w = r m h in (suc w.0, w.1, w.2)
 
-pub filter_at : {X : Type 0} (p : X → Bool) (xs : List X) (i : ℕ) (a : X) → slice_get xs i ≡ Some a → p a ≡ true → (k : ℕ) × (slice_get (filter p xs) k ≡ Some a)
+pub filter_at : {X : Type 0} (p : X → Bool) (xs : List X) (i : ℕ) (a : X) → slice_get xs i ≡ Some a → p a ≡ true
+    → (k : ℕ) × (slice_get (filter p xs) k ≡ Some a)
 filter_at p [] i a g h = absurd (cc)
 filter_at p (x ∷ xs) zero a g h = (0, rw (ap p (some_is x a g) ∙ h) g)
 filter_at {X} p (x ∷ xs) (suc i) a g h = later (p x) (filter_at p xs i a g h)
@@ -198,7 +199,8 @@ filter_alike p q [] h = refl
 filter_alike p q (x ∷ xs) h = rw (h 0 x refl, filter_alike p q xs (λ k y g. h (suc k) y g)) refl
 
 -- what a filter makes of one element more
-pub take_filter : {X : Type 0} (p : X → Bool) (xs : List X) (k : ℕ) (x : X) → slice_get xs k ≡ Some x → filter p (take (k + 1) xs) ≡ filter p (take k xs) ++ pick (p x) x []
+pub take_filter : {X : Type 0} (p : X → Bool) (xs : List X) (k : ℕ) (x : X) → slice_get xs k ≡ Some x
+    → filter p (take (k + 1) xs) ≡ filter p (take k xs) ++ pick (p x) x []
 take_filter p [] k x g = absurd (cc)
 take_filter p (y ∷ ys) zero x g = let s : y ≡ x = cc in rw s (ap (λ zs. pick (p x) x (filter p zs)) (take_zero ys))
 take_filter p (y ∷ ys) (suc k) x g = rw add-one (let r = rw add-one at (take_filter p ys k x g) in by (p y) r)

@@ -1,8 +1,8 @@
 -- what a state says of a case
 use Rattle.std.proofs.Common.{slice_get, count_by, Option, Some, None, map, ◌≡◌, ◌≢◌, ℕ, ◌<◌, ◌≤◌, ◌⊎◌, Bool, true, false, List, [], length, refl, sym, ◌∙◌, ap, subst, arith, slice_set, inl, inr}
-use Rattle.kt_sched.proofs.Common.{cases_lt, slice_get-map, slice_get_within, option_map, Role, Body, Cleanup, Job, Next, Stage, Owing, Taken, EndedBody, Case, Event, Trace, of, mark_of, history, is_whole, has_whole_history, is_active, active, turns, owed, IsPlan, Fed, role_runs, runs, stage_runs, SchedState, Stands, CaseStands, IsStage, IsAsked, is_active_stage, is_owing_stage, is_owed, Replaced, HasBody}
+use Rattle.kt_sched.proofs.Common.{cases_eq, cases_lt, slice_get-map, slice_get_within, option_map, Role, Body, Cleanup, Job, Next, Stage, Owing, Taken, EndedBody, Case, Event, Trace, of, mark_of, history, is_whole, has_whole_history, is_active, active, turns, owed, IsPlan, Fed, role_runs, runs, stage_runs, SchedState, Stands, CaseStands, IsStage, IsAsked, is_active_stage, is_owing_stage, is_owed, Replaced, HasBody}
 use Rattle.kt_sched.specs.declared.next.Next.TheVariants as next
-use Rattle.kt_sched.proofs.Lists.{some_is, within_some, mapped_at, set_set, slice_get-set_same, counted_some, counted_one, counted_none, count_alike}
+use Rattle.kt_sched.proofs.Lists.{some_is, within_some, mapped_at, set_set, slice_get-set_other, slice_get-set_same, counted_some, counted_one, counted_none, count_alike}
 use Rattle.kt_sched.proofs.Turns.{turn_inside, turn_distinct}
 use Rattle.kt_sched.proofs.Steps.{same_is}
 use Rattle.kt_sched.proofs.Stages.{Says, says, is_over, marks_active, active_runs, inactive_quiet, owing_stage}
@@ -32,6 +32,38 @@ active_of plan T cases p l h = count_alike (is_active T) (λ (c : Case). is_acti
         let s = h i job g in
         ap (λ (j : ℕ). marks_active job (history j T)) (p.placed i job g)
         ∙ ((says i job s.case.stage (of i T) s.stage).active ∙ ap (λ (d : Case). is_active_stage d.stage) (some_is _ _ (sym s.found ∙ k)))
+
+-- a case of a list where one was replaced is that one, or one of before
+abbrev pub Which : List Case → ℕ → Case → ℕ → Case → Type 0
+Which xs i new k c = ((k ≡ i) × (c ≡ new)) ⊎ ((k ≢ i) × (slice_get xs k ≡ Some c))
+
+module _ (xs : List Case) (i : ℕ) (old new : Case) (g : slice_get xs i ≡ Some old) where
+  pub set_here : slice_get (slice_set xs i new) i ≡ Some new
+  set_here = slice_get-set_same xs i new (slice_get_within xs i old g)
+
+  pub which : (k : ℕ) (c : Case) → slice_get (slice_set xs i new) k ≡ Some c → Which xs i new k c
+  which k c e = by (cases_eq k i)
+    where
+      by : (k ≡ i) ⊎ (k ≢ i) → Which xs i new k c
+      by (inl q) = inl (q, some_is c new (sym e ∙ (ap (slice_get (slice_set xs i new)) q ∙ set_here)))
+      by (inr q) = inr (q, sym (slice_get-set_other xs i k new q) ∙ e)
+
+  -- and then each case stands, if that one does
+  pub each_set : (plan : List Job) (T U : Trace) (job : Job) → slice_get plan i ≡ Some job → IsStage i job new.stage (of i U)
+      → (new.stage ≢ Taken → new.job ≡ job)
+      → ((k : ℕ) → k ≢ i → of k U ≡ of k T) → ((k : ℕ) (j : Job) → slice_get plan k ≡ Some j → CaseStands T k j xs)
+      → (k : ℕ) (j : Job) → slice_get plan k ≡ Some j → CaseStands U k j (slice_set xs i new)
+  each_set plan T U job p s m o h k j x = by (cases_eq k i)
+    where
+      by : (k ≡ i) ⊎ (k ≢ i) → CaseStands U k j (slice_set xs i new)
+      by (inl q) =
+          let same : job ≡ j = some_is job j (sym p ∙ (ap (slice_get plan) (sym q) ∙ x)) in
+          let here : CaseStands U i job (slice_set xs i new) = record { case = new; found = set_here; stage = s; kept = m } in
+          subst (λ k. CaseStands U k j (slice_set xs i new)) (sym q) (subst (λ (y : Job). CaseStands U i y (slice_set xs i new)) same here)
+      by (inr d) =
+          let w = h k j x in
+          let s = subst (IsStage k j w.case.stage) (sym (o k d)) w.stage in
+          record { case = w.case; found = slice_get-set_other xs i k new d ∙ w.found; stage = s; kept = w.kept }
 
 -- two replacements of one case are one
 pub replaced_twice : (xs ys zs : List Case) (i : ℕ) (s t u w : Stage) → Replaced xs ys i s w → Replaced ys zs i t u → Replaced xs zs i t w

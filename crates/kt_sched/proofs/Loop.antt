@@ -16,7 +16,8 @@ use Rattle.kt_sched.proofs.Ending.{four_calls, named_once}
 use Rattle.kt_sched.proofs.Storing.{storable_entry}
 
 -- the core, the launcher and the sink stand after the same answers
-pub record Loop {L S : Type 0} (l : launcher.Ghosts L) (s : sink.Ghosts S) (plan : List Job) (n : ℕ) (old : L) (before : S) (sched : SchedState) (new : L) (after : S) (totals : Totals) (fault : Option SinkFault) : Type 0 where
+pub record Loop {L S : Type 0} (l : launcher.Ghosts L) (s : sink.Ghosts S) (plan : List Job) (n : ℕ) (old : L) (before : S) (sched : SchedState) (new : L)
+    (after : S) (totals : Totals) (fault : Option SinkFault) : Type 0 where
   pub fed : Fed
   pub stands : Stands plan n fed sched
   pub going : Going l plan n fed.trace fed.stopped old new
@@ -27,12 +28,14 @@ pub record Loop {L S : Type 0} (l : launcher.Ghosts L) (s : sink.Ghosts S) (plan
 abbrev pub Says : List Job → ℕ → SchedState → (Fed → Type 0) → Type 0
 Says plan n b P = (fed : Fed) → Stands plan n fed b → P fed
 
-fed_start : (fed : Fed) (asked : Next) (i : ℕ) (role : Role) (a : StartAnswer) → asked ≡ next.Start i role → fed_after fed asked (answer_of a) ≡ with_event fed (Start i role a)
+fed_start : (fed : Fed) (asked : Next) (i : ℕ) (role : Role) (a : StartAnswer) → asked ≡ next.Start i role
+    → fed_after fed asked (answer_of a) ≡ with_event fed (Start i role a)
 fed_start fed asked i role (told.Started m) e = ap (λ (q : Next). fed_after fed q (answer.Started m)) e
 fed_start fed asked i role (told.Refused c) e = ap (λ (q : Next). fed_after fed q (answer.Refused c)) e
 
 module _ {L S : Type 0} (l : launcher.Ghosts L) (s : sink.Ghosts S) where
-  pub loop_first : (plan : List Job) (n : ℕ) (old : L) (before : S) (sched : SchedState) (totals : Totals) → IsPlan plan → Stands plan n nothing_fed sched → sched.asked ≡ next.Done
+  pub loop_first : (plan : List Job) (n : ℕ) (old : L) (before : S) (sched : SchedState) (totals : Totals) → IsPlan plan → Stands plan n nothing_fed sched
+      → sched.asked ≡ next.Done
       → IsIdle (l.running old) (l.pending old) → totals ≡ record { total = 0; good = 0; bad = 0 } → Loop l s plan n old before sched old before totals None
   loop_first plan n old before sched totals p h a i t = record {
     fed = nothing_fed;
@@ -43,7 +46,8 @@ module _ {L S : Type 0} (l : launcher.Ghosts L) (s : sink.Ghosts S) where
   }
 
   -- memory ran out before anything was done
-  pub ran_not : (plan : List Job) (n : ℕ) (old : L) (before : S) (refusal : Refusal) → IsPlan plan → Ran l s plan n old old before before (Err (NoMemory refusal))
+  pub ran_not : (plan : List Job) (n : ℕ) (old : L) (before : S) (refusal : Refusal) → IsPlan plan
+      → Ran l s plan n old old before before (Err (NoMemory refusal))
   ran_not plan n old before refusal p = record {
     trace = NoEvent;
     leads = refl;
@@ -56,20 +60,25 @@ module _ {L S : Type 0} (l : launcher.Ghosts L) (s : sink.Ghosts S) where
     ends = record { events = refl; entries = refl; same = refl };
   }
 
-module _ {L S : Type 0} {l : launcher.Ghosts L} {s : sink.Ghosts S} {plan : List Job} {n : ℕ} {old : L} {before : S} {sched : SchedState} {mid : L} {after : S} {totals : Totals} {fault : Option SinkFault}
+module _ {L S : Type 0} {l : launcher.Ghosts L} {s : sink.Ghosts S} {plan : List Job} {n : ℕ} {old : L} {before : S} {sched : SchedState} {mid : L} {after : S}
+    {totals : Totals} {fault : Option SinkFault}
     (p : IsPlan plan) (k : Loop l s plan n old before sched mid after totals fault) where
   abbrev fed : Fed
   fed = k.fed
 
   -- a start
 
-  module _ (i : ℕ) (role : Role) (x : Says plan n sched (λ fed. IsNext plan n fed (next.Start i role))) (f : Says plan n sched (λ fed. Follows plan fed (next.Start i role))) where
+  module _ (i : ℕ) (role : Role) (x : Says plan n sched (λ fed. IsNext plan n fed (next.Start i role)))
+      (f : Says plan n sched (λ fed. Follows plan fed (next.Start i role))) where
     pub loop_may_start : (j : ℕ) → i ≡ j → MayStart (l.running mid) (l.pending mid) j role
     loop_may_start j e = subst (λ j. MayStart (l.running mid) (l.pending mid) j role) e (may_start fed p k.going i role (x fed k.stands) (f fed k.stands))
 
-    pub loop_start : (job : Job) (a : StartAnswer) (new : L) (b later : SchedState) (ans : Answer) → slice_get plan i ≡ Some job → l.starts mid job role a new → HasMoment a
-        → ((k : ℕ) (r : Role) → l.running new k r ≡ running_after_start (l.running mid) job role a k r) → ((k : ℕ) → l.pending new k ≡ pending_after_start (l.pending mid) job.position role k)
-        → b.asked ≡ next.Start i role → ans ≡ answer_of a → Stands plan n fed b → ((fed : Fed) → Stands plan n fed b → Stands plan n (fed_after fed b.asked ans) later) → later.asked ≡ next.Done
+    pub loop_start : (job : Job) (a : StartAnswer) (new : L) (b later : SchedState) (ans : Answer) → slice_get plan i ≡ Some job → l.starts mid job role a new
+        → HasMoment a
+        → ((k : ℕ) (r : Role) → l.running new k r ≡ running_after_start (l.running mid) job role a k r)
+        → ((k : ℕ) → l.pending new k ≡ pending_after_start (l.pending mid) job.position role k)
+        → b.asked ≡ next.Start i role → ans ≡ answer_of a → Stands plan n fed b
+        → ((fed : Fed) → Stands plan n fed b → Stands plan n (fed_after fed b.asked ans) later) → later.asked ≡ next.Done
         → Loop l s plan n old before later new after totals fault
     loop_start job a new b later ans g y m u v q e t z d = record {
       fed = with_event fed (Start i role a);
@@ -85,13 +94,16 @@ module _ {L S : Type 0} {l : launcher.Ghosts L} {s : sink.Ghosts S} {plan : List
     pub loop_may_wait : Says plan n sched (λ fed. Follows plan fed next.Wait) → (i : ℕ) × (role : Role) × (child : Child) × (l.running mid i role ≡ Some child)
     loop_may_wait f = let w = f fed k.stands in (w.0, w.1, child_of w.2, k.going.runs w.0 w.1 ∙ child_runs plan fed.trace w.0 w.1 w.2 w.3 w.4)
 
-    module _ (e : Ended) (child : Child) (o : l.running mid e.position e.role ≡ Some child) (b : SchedState) (q : b.asked ≡ next.Wait) (t : Stands plan n fed b) where
+    module _ (e : Ended) (child : Child) (o : l.running mid e.position e.role ≡ Some child) (b : SchedState) (q : b.asked ≡ next.Wait)
+        (t : Stands plan n fed b) where
       pub loop_answer : IsAnswer b (answer.Ended e)
       loop_answer = (plan, n, fed, t, subst (λ (y : Next). IsAnswerTo fed.trace y (answer.Ended e)) (sym q) (ended_one fed p k.going e child o).0)
 
       pub loop_end : (new : L) (later : SchedState) → l.waits mid e new → IsEvidence child.interface e.role e.evidence → IsMoment e.moment
-          → ((k : ℕ) (r : Role) → l.running new k r ≡ running_after_end (l.running mid) e k r) → ((k : ℕ) → l.pending new k ≡ pending_after_end (l.running mid) (l.pending mid) e k)
-          → ((fed : Fed) → Stands plan n fed b → Stands plan n (fed_after fed b.asked (answer.Ended e)) later) → later.asked ≡ next.Done → Loop l s plan n old before later new after totals fault
+          → ((k : ℕ) (r : Role) → l.running new k r ≡ running_after_end (l.running mid) e k r)
+          → ((k : ℕ) → l.pending new k ≡ pending_after_end (l.running mid) (l.pending mid) e k)
+          → ((fed : Fed) → Stands plan n fed b → Stands plan n (fed_after fed b.asked (answer.Ended e)) later) → later.asked ≡ next.Done
+          → Loop l s plan n old before later new after totals fault
       loop_end new later y v m u w z d = record {
         fed = with_event fed (End e);
         stands = subst (λ (w : Fed). Stands plan n w later) (ap (λ (y : Next). fed_after fed y (answer.Ended e)) q) (z fed t);
@@ -109,19 +121,24 @@ module _ {L S : Type 0} {l : launcher.Ghosts L} {s : sink.Ghosts S} {plan : List
     pub loop_storable : (e : Entry) → IsEntryOf plan fed.trace i e → IsStorable e
     loop_storable e w = storable_entry plan fed.trace i e k.going.rules.fits w
 
-    module _ (e : Entry) (w : IsEntryOf plan fed.trace i e) (b later : SchedState) (q : b.asked ≡ next.Put i) (t : Stands plan n fed b) (d : later.asked ≡ next.Done) (new : S) where
-      pub loop_put : (more : Totals) → more ≡ counted totals e.verdict.kind → s.puts after e (Ok tt) new → ((put : List Entry) → s.entries after put → s.entries new (put ++ e ∷ []))
-          → ((fed : Fed) → Stands plan n fed b → Stands plan n (fed_after fed b.asked answer.Stored) later) → Loop l s plan n old before later mid new more fault
+    module _ (e : Entry) (w : IsEntryOf plan fed.trace i e) (b later : SchedState) (q : b.asked ≡ next.Put i) (t : Stands plan n fed b)
+        (d : later.asked ≡ next.Done) (new : S) where
+      pub loop_put : (more : Totals) → more ≡ counted totals e.verdict.kind → s.puts after e (Ok tt) new
+          → ((put : List Entry) → s.entries after put → s.entries new (put ++ e ∷ []))
+          → ((fed : Fed) → Stands plan n fed b → Stands plan n (fed_after fed b.asked answer.Stored) later)
+          → Loop l s plan n old before later mid new more fault
       loop_put more m u v z = record {
         fed = record fed { stored = fed.stored + 1 };
         stands = subst (λ (w : Fed). Stands plan n w later) (ap (λ (y : Next). fed_after fed y answer.Stored) q) (z fed t);
         going = k.going;
-        gained = subst (λ (y : Totals). Gained s plan n (record fed { stored = fed.stored + 1 }) y fault before new) (sym m) (gained_put k.gained i e new (x fed k.stands) w u v);
+        gained = subst (λ (y : Totals). Gained s plan n (record fed { stored = fed.stored + 1 }) y fault before new) (sym m)
+            (gained_put k.gained i e new (x fed k.stands) w u v);
         asked = d;
       }
 
       pub loop_failed : (cause : SinkFault) → s.puts after e (Err cause) new → ((put : List Entry) → s.entries after put → s.entries new put)
-          → ((fed : Fed) → Stands plan n fed b → Stands plan n (fed_after fed b.asked answer.StoreFailed) later) → Loop l s plan n old before later mid new totals (Some cause)
+          → ((fed : Fed) → Stands plan n fed b → Stands plan n (fed_after fed b.asked answer.StoreFailed) later)
+          → Loop l s plan n old before later mid new totals (Some cause)
       loop_failed cause u v z = record {
         fed = record fed { stopped = Some (event_count fed.trace) };
         stands = subst (λ (w : Fed). Stands plan n w later) (ap (λ (y : Next). fed_after fed y answer.StoreFailed) q) (z fed t);
@@ -151,7 +168,13 @@ module _ {L S : Type 0} {l : launcher.Ghosts L} {s : sink.Ghosts S} {plan : List
           gained = g.gained;
           are = gained_are g;
           kept = g.kept;
-          ends = record { legal = goes_legal fed p k.going g.gains.0 (f fed k.stands); once = once; all = gained_all g ((x fed k.stands).0 o) ∙ once.all; gains = g.gains.1; counts = g.counts };
+          ends = record {
+            legal = goes_legal fed p k.going g.gains.0 (f fed k.stands);
+            once = once;
+            all = gained_all g ((x fed k.stands).0 o) ∙ once.all;
+            gains = g.gains.1;
+            counts = g.counts;
+          };
         }
 
     -- one put failed

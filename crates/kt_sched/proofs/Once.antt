@@ -42,7 +42,8 @@ count_turns f xs = count_by-append f (filter (λ (job : Job). not job.exclusive)
     parts (y ∷ ys) = by y.exclusive (parts ys)
       where
         by : (b : Bool) → count_by f (filter (λ (job : Job). not job.exclusive) ys) + count_by f (filter (λ (job : Job). job.exclusive) ys) ≡ count_by f ys
-            → count_by f (pick (not b) y (filter (λ (job : Job). not job.exclusive) ys)) + count_by f (pick b y (filter (λ (job : Job). job.exclusive) ys)) ≡ count_by f (y ∷ ys)
+            → count_by f (pick (not b) y (filter (λ (job : Job). not job.exclusive) ys)) + count_by f (pick b y (filter (λ (job : Job). job.exclusive) ys))
+            ≡ count_by f (y ∷ ys)
         by true h = omega (arith, h, count-cons f y ys, count-cons f y (filter (λ (job : Job). job.exclusive) ys))
         by false h = omega (arith, h, count-cons f y ys, count-cons f y (filter (λ (job : Job). not job.exclusive) ys))
 
@@ -77,7 +78,8 @@ sum_of q w f o d (same a b c) = rw (a, b, c) (by q w)
     by true true = refl
     by true false = refl
 
-count_three : {X : Type 0} (a b c d : X → Bool) (xs : List X) → ((i : ℕ) (x : X) → slice_get xs i ≡ Some x → cond {A = ℕ} (a x) 1 0 + (cond (b x) 1 0 + cond (c x) 1 0) ≡ cond (d x) 1 0)
+count_three : {X : Type 0} (a b c d : X → Bool) (xs : List X)
+    → ((i : ℕ) (x : X) → slice_get xs i ≡ Some x → cond {A = ℕ} (a x) 1 0 + (cond (b x) 1 0 + cond (c x) 1 0) ≡ cond (d x) 1 0)
     → count_by a xs + (count_by b xs + count_by c xs) ≡ count_by d xs
 count_three a b c d [] h = refl
 count_three a b c d (x ∷ xs) h =
@@ -89,8 +91,10 @@ module _ (plan : List Job) (n : ℕ) (T : Trace) (e : Event) (p : IsPlan plan) (
   adds k job g (Some v) d c =
       let x = is_open plan n (Then T e) job in
       let a : is_done plan n T job ≡ was_open plan n T job = rw d refl in
-      let b : is_done plan n (Then T e) job ≡ (was_open plan n T job || x) = ap (λ (o : Option Judged). if is_some o then was_open plan n T job || x else has_whole_history (Then T e) job) d in
-      let f = ap (λ (o : Option Judged). job.position == position_of e && (is_none o && (has_whole_history (Then T e) job && not (has_whole_history T job)))) d in
+      let b : is_done plan n (Then T e) job ≡ (was_open plan n T job || x) =
+      ap (λ (o : Option Judged). if is_some o then was_open plan n T job || x else has_whole_history (Then T e) job) d in
+      let new = has_whole_history (Then T e) job && not (has_whole_history T job) in
+      let f = ap (λ (o : Option Judged). job.position == position_of e && (is_none o && new)) d in
       opened x (f ∙ and-false (job.position == position_of e)) (sym (ap (λ y. x && not y) a)) (b ∙ sym (ap (λ y. y || x) a))
   adds k job g None d c = by c
     where
@@ -111,20 +115,24 @@ module _ (plan : List Job) (n : ℕ) (T : Trace) (e : Event) (p : IsPlan plan) (
           let s : job.position ≡ position_of e = p.placed k job g ∙ r in
           let w : has_whole_history T job ≡ false = ap (λ i. is_whole job (history i T)) s ∙ h job (ap (slice_get plan) (sym r) ∙ g) in
           let z : (job.position == position_of e) ≡ true = ap (λ i. i == position_of e) s ∙ same_is (position_of e) in
-          let f : finishes T e job ≡ has_whole_history (Then T e) job = all_of (job.position == position_of e) (is_none job.decided) (has_whole_history (Then T e) job) (has_whole_history T job) z (ap is_none d) w in
+          let f : finishes T e job ≡ has_whole_history (Then T e) job = all_of (job.position == position_of e) (is_none job.decided)
+          (has_whole_history (Then T e) job) (has_whole_history T job) z (ap is_none d) w in
           finished (a ∙ w) (f ∙ sym b) none
       by (inr r) =
           let z : (job.position == position_of e) ≡ false = ap (λ i. i == position_of e) (p.placed k job g) ∙ other_is_not k (position_of e) r in
-          let w : has_whole_history (Then T e) job ≡ has_whole_history T job = ap (is_whole job) (history_other (position_of e) job.position T e refl (λ q. r (sym (p.placed k job g) ∙ q))) in
+          let w : has_whole_history (Then T e) job ≡ has_whole_history T job =
+          ap (is_whole job) (history_other (position_of e) job.position T e refl (λ q. r (sym (p.placed k job g) ∙ q))) in
           same (ap (λ b. b && (is_none job.decided && (has_whole_history (Then T e) job && not (has_whole_history T job)))) z) none (b ∙ (w ∙ sym a))
 
   pub recorded_event : Recorded plan n T → Recorded plan n (Then T e)
   recorded_event r q =
       let xs = positions (finished_by plan T e) in
       let ys = positions (filter (opens_now plan n T e) (turns plan)) in
-      let all = ap (count_by q) (recorded_more plan n T e) ∙ (count_by-append q (recorded plan n T) (xs ++ ys) ∙ ap (λ k. count_by q (recorded plan n T) + k) (count_by-append q xs ys)) in
+      let all = ap (count_by q) (recorded_more plan n T e)
+      ∙ (count_by-append q (recorded plan n T) (xs ++ ys) ∙ ap (λ k. count_by q (recorded plan n T) + k) (count_by-append q xs ys)) in
       let opens = count_filtered q (opens_now plan n T e) (turns plan) ∙ count_turns (λ job. q job.position && opens_now plan n T e job) plan in
-      let three = count_three (λ job. q job.position && is_done plan n T job) (λ job. q job.position && finishes T e job) (λ job. q job.position && opens_now plan n T e job)
+      let three = count_three (λ job. q job.position && is_done plan n T job) (λ job. q job.position && finishes T e job)
+      (λ job. q job.position && opens_now plan n T e job)
       (λ job. q job.position && is_done plan n (Then T e) job) plan
       (λ k job g. sum_of (q job.position) _ _ _ _ (adds k job g job.decided refl (cases_eq k (position_of e)))) in
       omega (arith, all, r q, count_filtered q (finishes T e) plan, opens, three)
@@ -135,7 +143,8 @@ recorded_first plan n p q =
     ∙ (count_filtered q (is_open plan n NoEvent) (turns plan)
     ∙ (count_turns (λ job. q job.position && is_open plan n NoEvent job) plan
     ∙ count_alike (λ job. q job.position && is_open plan n NoEvent job) (λ job. q job.position && is_done plan n NoEvent job) plan plan refl
-    (λ i x y g k. let s : x ≡ y = cc in ap (λ b. q x.position && b) (at_first x x.decided refl) ∙ ap (λ (job : Job). q job.position && is_done plan n NoEvent job) s)))
+    (λ i x y g k. let s : x ≡ y = cc in ap (λ b. q x.position && b) (at_first x x.decided refl)
+    ∙ ap (λ (job : Job). q job.position && is_done plan n NoEvent job) s)))
   where
     at_first : (job : Job) → (o : Option Judged) → job.decided ≡ o → is_open plan n NoEvent job ≡ is_done plan n NoEvent job
     at_first job (Some v) d = sym (ap (λ (o : Option Judged). if is_some o then was_open plan n NoEvent job else has_whole_history NoEvent job) d)
@@ -167,7 +176,8 @@ module _ {plan : List Job} (n : ℕ) (T : Trace) (p : IsPlan plan) (r : Recorded
   named i job g false d = names i ∙ ap (λ (xs : List Job). length xs) (filter_none (named_so i) plan (λ k j x. by k j x (cases_eq k i)))
     where
       by : (k : ℕ) (j : Job) → slice_get plan k ≡ Some j → (k ≡ i) ⊎ (k ≢ i) → named_so i j ≡ false
-      by k j x (inl q) = ap (named_so i) (some_is j job (sym x ∙ (ap (slice_get plan) q ∙ g))) ∙ (ap (λ b. job.position == i && b) d ∙ and-false (job.position == i))
+      by k j x (inl q) =
+          ap (named_so i) (some_is j job (sym x ∙ (ap (slice_get plan) q ∙ g))) ∙ (ap (λ b. job.position == i && b) d ∙ and-false (job.position == i))
       by k j x (inr q) = others_not i k j x q
 
   pub named_at_most_once : (i : ℕ) → count_by (λ p. p == i) (recorded plan n T) ≤ 1
@@ -186,6 +196,8 @@ module _ {plan : List Job} (n : ℕ) (T : Trace) (p : IsPlan plan) (r : Recorded
   -- where every case was due, each is named once
   pub names_once : ((i : ℕ) (job : Job) → slice_get plan i ≡ Some job → is_done plan n T job ≡ true) → NamesEachOnce plan (recorded plan n T)
   names_once h = record {
-    all = sym (count_all (recorded plan n T)) ∙ (r (λ i. true) ∙ (count_alike (λ (job : Job). true && is_done plan n T job) (λ (job : Job). true) plan plan refl (λ i x y g k. h i x g) ∙ count_all plan));
+    all = sym (count_all (recorded plan n T))
+        ∙ (r (λ i. true) ∙ (count_alike (λ (job : Job). true && is_done plan n T job) (λ (job : Job). true) plan plan refl (λ i x y g k. h i x g)
+        ∙ count_all plan));
     once = λ i l. let w = within_some plan i l in named i w.0 w.1 true (h i w.0 w.1);
   }

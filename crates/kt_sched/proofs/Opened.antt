@@ -34,7 +34,8 @@ module _ {plan : List Job} {n : ℕ} {fed : Fed} {b : SchedState} {i : ℕ} (h :
   ripe =
       let u = turn_at h b.turn i t.1 in
       let w = h.cases.each i u.job u.place in
-      let z : w.case.stage ≡ Decided = decided_stage w.case.stage (ap (λ (c : Case). is_decided_stage c.stage) (some_is w.case d.0 (sym w.found ∙ d.1)) ∙ d.2) in
+      let same : w.case ≡ d.0 = some_is _ _ (sym w.found ∙ d.1) in
+      let z = decided_stage w.case.stage (ap (λ (c : Case). is_decided_stage c.stage) same ∙ d.2) in
       let P : Stage → Type 0 = λ x. IsStage i u.job x (of i fed.trace) in
       let s = subst P z w.stage in
       let m = room_at b.active n u.job (omega (arith, t.2, h.width)) (none_else h t.1 u.place t.3) u.job.exclusive refl in
@@ -61,11 +62,13 @@ module _ {plan : List Job} {n : ℕ} {fed : Fed} {b : SchedState} {i : ℕ} (h :
     due = λ k job l g. (h.puts.gone f).due k job (omega (arith, l)) g;
   }
     where
-      by : (k : ℕ) (job : Job) → k < b.turn + 1 → slice_get (turns plan) k ≡ Some job → is_decided job ≡ true → (k ≡ b.turn) ⊎ (k ≢ b.turn) → was_open plan n fed.trace job ≡ true
+      by : (k : ℕ) (job : Job) → k < b.turn + 1 → slice_get (turns plan) k ≡ Some job → is_decided job ≡ true → (k ≡ b.turn) ⊎ (k ≢ b.turn)
+          → was_open plan n fed.trace job ≡ true
       by k job l g d (inl e) =
           let same : ripe.job ≡ job = some_is ripe.job job (sym ripe.turn ∙ (ap (slice_get (turns plan)) (sym e) ∙ g)) in
           let run = ap (λ a. opened plan n a b.turn) (active_is h) ∙ ripe.run in
-          (h.puts.gone f).due k job (omega (arith, e)) g ∙ (ap (is_open plan n fed.trace) (sym same) ∙ open_at fed.trace b.turn h.is_plan h.turn.starts ripe.job _ h.room run)
+          (h.puts.gone f).due k job (omega (arith, e)) g
+          ∙ (ap (is_open plan n fed.trace) (sym same) ∙ open_at fed.trace b.turn h.is_plan h.turn.starts ripe.job _ h.room run)
       by k job l g d (inr x) = (h.puts.gone f).gone k job (omega (arith, l, x)) g d
 
   pub stands_opened : b.ready ≡ None → Stands plan n fed (record b { turn = b.turn + 1; ready = Some i; asked = next.Done })
@@ -77,7 +80,8 @@ module _ {plan : List Job} {n : ℕ} {fed : Fed} {b : SchedState} {i : ℕ} (h :
     cases = h.cases;
     turn = record {
       walk = h.turn.walk;
-      starts = h.turn.starts ∙ ap positions (sym (take_filter is_undecided (turns plan) b.turn ripe.job ripe.turn ∙ rw (not_undecided ripe.job.decided ripe.decided) (append-nil _)));
+      starts = h.turn.starts
+          ∙ ap positions (sym (take_filter is_undecided (turns plan) b.turn ripe.job ripe.turn ∙ rw (not_undecided _ ripe.decided) (append-nil _)));
       waiting = λ k j c g x l. h.turn.waiting k j c g x (omega (arith, l));
       begun = λ k j c g x l. begun_now k j c g x l (cases_eq k b.turn);
     };
@@ -93,7 +97,8 @@ module _ {plan : List Job} {n : ℕ} {fed : Fed} {b : SchedState} {i : ℕ} (h :
     asked = tt;
   }
     where
-      begun_now : (k j : ℕ) (c : Case) → slice_get b.order k ≡ Some j → slice_get b.cases j ≡ Some c → k < b.turn + 1 → (k ≡ b.turn) ⊎ (k ≢ b.turn) → c.stage ≢ Waiting
+      begun_now : (k j : ℕ) (c : Case) → slice_get b.order k ≡ Some j → slice_get b.cases j ≡ Some c → k < b.turn + 1 → (k ≡ b.turn) ⊎ (k ≢ b.turn)
+          → c.stage ≢ Waiting
       begun_now k j c g x l (inl q) w =
           let m : j ≡ i = some_is j i (sym g ∙ (ap (slice_get b.order) q ∙ t.1)) in
           let s : c ≡ ripe.case = some_is c ripe.case (sym x ∙ (ap (slice_get b.cases) m ∙ ripe.found)) in

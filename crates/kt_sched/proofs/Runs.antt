@@ -66,9 +66,14 @@ after_other : (running : ℕ → Role → Option Child) (job : Job) (role r : Ro
 after_other running job role r (told.Started m) i k p d = rw (p, other_is_not k i d) refl
 after_other running job role r (told.Refused c) i k p d = refl
 
+neither : (c : Bool) → (if c && false then true else false) ≡ false
+neither true = refl
+neither false = refl
+
 -- what runs and what is owed, from a launcher that shows what ran
 module _ (plan : List Job) (T : Trace) (running : ℕ → Role → Option Child) (h : (j : ℕ) (s : Role) → running j s ≡ running_of plan T j s) where
-  pub start_runs : (i : ℕ) (job : Job) (role r : Role) (a : StartAnswer) (k : ℕ) → slice_get plan i ≡ Some job → job.position ≡ i → history i T ≡ history_before role
+  pub start_runs : (i : ℕ) (job : Job) (role r : Role) (a : StartAnswer) (k : ℕ) → slice_get plan i ≡ Some job → job.position ≡ i
+      → history i T ≡ history_before role
       → (k ≡ i) ⊎ (k ≢ i) → running_after_start running job role a k r ≡ running_of plan (Then T (Start i role a)) k r
   start_runs i job role r a k g p w (inl q) =
       subst (λ j. running_after_start running job role a j r ≡ running_of plan (Then T (Start i role a)) j r) (sym q) (after_same running job role r a i p
@@ -81,7 +86,8 @@ module _ (plan : List Job) (T : Trace) (running : ℕ → Role → Option Child)
       → running_after_end running e k r ≡ running_of plan (Then T (End e)) k r
   end_runs e r k w (inl q) =
       let i = e.position in
-      subst (λ j. running_after_end running e j r ≡ running_of plan (Then T (End e)) j r) (sym q) (ap (λ b. if b && same_role r e.role then None else running i r) (same_is i)
+      subst (λ j. running_after_end running e j r ≡ running_of plan (Then T (End e)) j r) (sym q)
+      (ap (λ b. if b && same_role r e.role then None else running i r) (same_is i)
       ∙ (ended_runs e.role r (running i r) (h i r ∙ runs_now plan T i r (history_while e.role) w) ∙ sym (runs_same plan T (End e) r (history_while e.role) w)))
     where
       ended_runs : (role r : Role) (x : Option Child) → x ≡ runs_by plan e.position r (history_while role)
@@ -109,18 +115,10 @@ module _ (plan : List Job) (T : Trace) (running : ℕ → Role → Option Child)
       both true = refl
       both false = refl
 
-      neither : (c : Bool) → (if c && false then true else false) ≡ false
-      neither true = refl
-      neither false = refl
-
       owed_after : (i : ℕ) (b : Bool) → (if k == i && b then true else false) ≡ is_owed (if b then Some i else None) k
       owed_after i true = both (k == i)
       owed_after i false = neither (k == i)
   end_owes pending e k Cleanup q w p = rw (q, p) (neither (k == e.position))
-    where
-      neither : (c : Bool) → (if c && false then true else false) ≡ false
-      neither true = refl
-      neither false = refl
 
 pub cleared : (i k : ℕ) → (k ≡ i) ⊎ (k ≢ i) → (if k == i then false else k == i) ≡ false
 cleared i k (inl q) = rw (q, same_is i) refl
@@ -135,10 +133,12 @@ runs_true plan T i r child g = by (runs i r T) refl g
     child_some None e = absurd (cc)
     child_some (Some job) e = (job, refl, cc)
 
-    by : (b : Bool) → runs i r T ≡ b → (if b then child_at plan i else None) ≡ Some child → (runs i r T ≡ true) × ((job : Job) × (slice_get plan i ≡ Some job) × (child ≡ child_of job))
+    by : (b : Bool) → runs i r T ≡ b → (if b then child_at plan i else None) ≡ Some child
+        → (runs i r T ≡ true) × ((job : Job) × (slice_get plan i ≡ Some job) × (child ≡ child_of job))
     by true e h = (e, child_some (slice_get plan i) h)
     by false e h = absurd (cc)
 
 -- where a child runs, the launcher shows it
-pub child_runs : (plan : List Job) (T : Trace) (i : ℕ) (r : Role) (job : Job) → runs i r T ≡ true → slice_get plan i ≡ Some job → running_of plan T i r ≡ Some (child_of job)
+pub child_runs : (plan : List Job) (T : Trace) (i : ℕ) (r : Role) (job : Job) → runs i r T ≡ true → slice_get plan i ≡ Some job
+    → running_of plan T i r ≡ Some (child_of job)
 child_runs plan T i r job e g = ap (λ (b : Bool). if b then child_at plan i else None) e ∙ ap (option_map child_of) g

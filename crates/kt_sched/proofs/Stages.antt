@@ -1,5 +1,5 @@
 -- what a stage says of its case's history
-use Rattle.std.proofs.Common.{Some, None, is_none, is_some, map, not, ◌&&◌, ◌≡◌, ◌≢◌, ℕ, ◌<◌, Bool, true, false, List, [], ◌∷◌, refl, ap, arith}
+use Rattle.std.proofs.Common.{Some, None, is_none, is_some, map, not, ◌&&◌, ◌≡◌, ◌≢◌, ℕ, ◌<◌, Bool, true, false, List, [], ◌∷◌, refl, sym, ◌∙◌, ap, arith}
 use Rattle.kt_sched.proofs.Common.{list_any, Role, Body, Cleanup, Job, Stage, Waiting, Decided, Running, Owing, Cleaning, Finished, Taken, EndedBody, Event, Mark, BodyStarted, BodyEnded, CleanupStarted, mark_of, is_whole, is_body_started, role_runs, stage_runs, IsStage, body_in, since, is_active_stage, is_owing_stage, is_fresh, is_decided_stage, stage_work}
 use Rattle.kt_sched.proofs.Lists.{some_is, and_not}
 
@@ -19,7 +19,8 @@ pub record Says (job : Job) (stage : Stage) (w : List Mark) : Type 0 where
   pub active : marks_active job w ≡ is_active_stage stage
   pub runs : (r : Role) → role_runs r w ≡ stage_runs r stage
 
-by_role : (w : List Mark) (stage : Stage) → role_runs Body w ≡ stage_runs Body stage → role_runs Cleanup w ≡ stage_runs Cleanup stage → (r : Role) → role_runs r w ≡ stage_runs r stage
+by_role : (w : List Mark) (stage : Stage) → role_runs Body w ≡ stage_runs Body stage → role_runs Cleanup w ≡ stage_runs Cleanup stage → (r : Role)
+    → role_runs r w ≡ stage_runs r stage
 by_role w stage b c Body = b
 by_role w stage b c Cleanup = c
 
@@ -29,11 +30,23 @@ whole_quiet job Body (BodyStarted ∷ []) h = absurd (cc)
 whole_quiet job Cleanup (BodyStarted ∷ BodyEnded ∷ CleanupStarted ∷ []) h = absurd (cc)
 whole_quiet job role w h = refl
 
+over_idle : (stage : Stage) → is_over stage ≡ true → is_active_stage stage ≡ false
+over_idle (Running m) e = absurd (cc)
+over_idle (Owing b) e = absurd (cc)
+over_idle (Cleaning b) e = absurd (cc)
+over_idle stage e = refl
+
+pub inactive_quiet : (r : Role) (stage : Stage) → is_active_stage stage ≡ false → stage_runs r stage ≡ false
+inactive_quiet Body (Running m) e = absurd (cc)
+inactive_quiet Cleanup (Cleaning b) e = absurd (cc)
+inactive_quiet r stage e = refl
+
 over_says : (job : Job) (stage : Stage) (w : List Mark) → is_whole job w ≡ true → is_over stage ≡ true → Says job stage w
-over_says job Decided w h o = record { whole = h; active = and_not (list_any is_body_started w) (is_whole job w) h; runs = by_role w Decided (whole_quiet job Body w h) (whole_quiet job Cleanup w h) }
-over_says job (Finished t) w h o = record { whole = h; active = and_not (list_any is_body_started w) (is_whole job w) h; runs = by_role w (Finished t) (whole_quiet job Body w h) (whole_quiet job Cleanup w h) }
-over_says job Taken w h o = record { whole = h; active = and_not (list_any is_body_started w) (is_whole job w) h; runs = by_role w Taken (whole_quiet job Body w h) (whole_quiet job Cleanup w h) }
-over_says job stage w h o = absurd (cc)
+over_says job stage w h o = record {
+  whole = h ∙ sym o;
+  active = and_not (list_any is_body_started w) (is_whole job w) h ∙ sym (over_idle stage o);
+  runs = λ r. whole_quiet job r w h ∙ sym (inactive_quiet r stage (over_idle stage o));
+}
 
 pub says : (i : ℕ) (job : Job) (stage : Stage) (es : List Event) → IsStage i job stage es → Says job stage (map mark_of es)
 says i job Waiting es h = rw h.0 (record { whole = ap is_some h.1; active = refl; runs = by_role [] Waiting refl refl })
@@ -94,11 +107,6 @@ pub active_runs : (stage : Stage) → is_active_stage stage ≡ true → is_owin
 active_runs (Running m) e o = (Body, refl)
 active_runs (Cleaning b) e o = (Cleanup, refl)
 active_runs stage e o = absurd (cc)
-
-pub inactive_quiet : (r : Role) (stage : Stage) → is_active_stage stage ≡ false → stage_runs r stage ≡ false
-inactive_quiet Body (Running m) e = absurd (cc)
-inactive_quiet Cleanup (Cleaning b) e = absurd (cc)
-inactive_quiet r stage e = refl
 
 pub owing_stage : (stage : Stage) → is_owing_stage stage ≡ true → (o : EndedBody) × (stage ≡ Owing o)
 owing_stage (Owing b) e = (b, refl)

@@ -47,7 +47,8 @@ recorded_more plan n T e =
     ∙ ap (λ zs. recorded plan n T ++ zs) (map-append f (put_at k xs) (put_at k ys)
     ∙ (ap (λ zs. zs ++ map f (put_at k ys)) (put_at_positions k xs) ∙ ap (λ zs. positions xs ++ zs) (put_at_positions k ys)))
 
-module _ {plan : List Job} (T : Trace) (e : Event) {i : ℕ} {job : Job} (h : IsPlan plan) (d : job.decided ≡ None) (g : slice_get plan i ≡ Some job) (p : position_of e ≡ i) where
+module _ {plan : List Job} (T : Trace) (e : Event) {i : ℕ} {job : Job} (h : IsPlan plan) (d : job.decided ≡ None) (g : slice_get plan i ≡ Some job)
+    (p : position_of e ≡ i) where
   others_do_not : (k : ℕ) (j : Job) → slice_get plan k ≡ Some j → k ≢ i → finishes T e j ≡ false
   others_do_not k j q n = rw (h.placed k j q, p, other_is_not k i n) refl
 

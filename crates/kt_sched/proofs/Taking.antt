@@ -1,13 +1,14 @@
 -- what is taken
-use Rattle.std.proofs.Common.{slice_get, Option, Some, None, ◌≡◌, ◌≢◌, ℕ, ◌<◌, ◌≤◌, ◌⊎◌, Bool, true, false, cond, List, [], refl, sym, ◌∙◌, ap, subst, arith, slice_set, inl, inr}
-use Rattle.kt_sched.proofs.Common.{length-set, slice_get_within, cases_eq, Entry, Job, Stage, Waiting, Decided, Finished, Taken, Case, Event, of, owed, IsEntry, decided, IsEntryOf, Judged, CaseRecord, Fed, TookEntry, SchedState, Stands, CaseStands, IsStage, IsAsked, is_active_stage, is_owing_stage, is_owed, is_fresh, entry_with, record_in, decided_record, decided_record_of, stage_work, work}
+use Rattle.std.proofs.Common.{slice_get, Option, Some, None, ◌≡◌, ◌≢◌, ℕ, ◌<◌, ◌≤◌, Bool, true, false, cond, List, [], refl, sym, ◌∙◌, ap, subst, arith, slice_set, inl, inr}
+use Rattle.kt_sched.proofs.Common.{length-set, Entry, Job, Stage, Waiting, Decided, Finished, Taken, Case, Event, of, owed, IsEntry, decided, IsEntryOf, Judged, CaseRecord, Fed, TookEntry, SchedState, Stands, IsStage, IsAsked, is_active_stage, is_owing_stage, is_owed, is_fresh, entry_with, record_in, decided_record, decided_record_of, stage_work, work}
 use Rattle.kt_sched.specs.declared.next.Next.TheVariants as next
-use Rattle.kt_sched.proofs.Lists.{some_is, slice_get-set_same, slice_get-set_other, count_by-set, sum_by-set}
+use Rattle.kt_sched.proofs.Lists.{some_is, count_by-set, sum_by-set}
 use Rattle.kt_sched.proofs.Stages.{is_over}
-use Rattle.kt_sched.proofs.Located.{asked_as, located}
+use Rattle.kt_sched.proofs.Located.{Which, asked_as, each_set, located, which}
 
 -- what is told of a case is its entry
-told_entry : (i : ℕ) (job : Job) (was : Stage) (es : List Event) (t : CaseRecord) → IsStage i job was es → record_in job was ≡ Some t → IsEntry job es (entry_with job t)
+told_entry : (i : ℕ) (job : Job) (was : Stage) (es : List Event) (t : CaseRecord) → IsStage i job was es → record_in job was ≡ Some t
+    → IsEntry job es (entry_with job t)
 told_entry i job Decided es t s e = rw s.0 (by job.decided refl e)
   where
     by : (o : Option Judged) → job.decided ≡ o → decided_record_of o ≡ Some t → IsEntry job [] (entry_with job t)
@@ -29,7 +30,8 @@ less_taken ys i cs entry t =
     let x = sum_by-set f ys i (record { job = t.had; stage = t.was }) (record { job = t.left; stage = Taken }) t.found in
     subst (λ (xs : List Case). work xs < work ys) (sym t.changed) (omega (arith, x, (told_over t.had t.was t.case_record t.told).3))
 
-module _ {plan : List Job} {n : ℕ} {fed : Fed} {b : SchedState} {i : ℕ} {cs : List Case} {entry : Entry} (h : Stands plan n fed b) (t : TookEntry b.cases cs i entry) where
+module _ {plan : List Job} {n : ℕ} {fed : Fed} {b : SchedState} {i : ℕ} {cs : List Case} {entry : Entry} (h : Stands plan n fed b)
+    (t : TookEntry b.cases cs i entry) where
   abbrev new : Case
   new = record { job = t.left; stage = Taken }
 
@@ -51,43 +53,23 @@ module _ {plan : List Job} {n : ℕ} {fed : Fed} {b : SchedState} {i : ℕ} {cs 
         entry_is = subst (λ (x : Entry). IsEntry l.job (of i fed.trace) x) (ap (λ (j : Job). entry_with j t.case_record) (sym same) ∙ sym t.is) w;
       }
 
-  found : slice_get later i ≡ Some new
-  found = slice_get-set_same b.cases i new (slice_get_within b.cases i _ t.found)
+  which_one : (k : ℕ) (c : Case) → slice_get later k ≡ Some c → Which b.cases i new k c
+  which_one = which b.cases i _ new t.found
 
-  each : (k : ℕ) (j : Job) → slice_get plan k ≡ Some j → (k ≡ i) ⊎ (k ≢ i) → CaseStands fed.trace k j later
-  each k j g (inl q) =
-      let e = entry_taken in
-      let same : e.job ≡ j = some_is e.job j (sym e.place ∙ (ap (slice_get plan) (sym q) ∙ g)) in
-      let here : CaseStands fed.trace i e.job later = record { case = new; found = found; stage = e.whole; kept = λ x. absurd (x refl) } in
-      subst (λ m. CaseStands fed.trace m j later) (sym q) (subst (λ (x : Job). CaseStands fed.trace i x later) same here)
-  each k j g (inr q) =
-      let w = h.cases.each k j g in
-      record { case = w.case; found = slice_get-set_other b.cases i k new q ∙ w.found; stage = w.stage; kept = w.kept }
-
-  abbrev Which : ℕ → Case → Type 0
-  Which k c = ((k ≡ i) × (c.stage ≡ Taken)) ⊎ ((k ≢ i) × (slice_get b.cases k ≡ Some c))
-
-  which : (k : ℕ) (c : Case) → slice_get later k ≡ Some c → Which k c
-  which k c g = by (cases_eq k i)
-    where
-      by : (k ≡ i) ⊎ (k ≢ i) → Which k c
-      by (inl q) = inl (q, ap (λ (d : Case). d.stage) (some_is c new (sym g ∙ (ap (slice_get later) q ∙ found))))
-      by (inr q) = inr (q, sym (slice_get-set_other b.cases i k new q) ∙ g)
-
-  waiting : b.ready ≡ Some i → (m k : ℕ) (c : Case) → slice_get b.order m ≡ Some k → b.turn ≤ m → Which k c → is_fresh c.stage ≡ true
+  waiting : b.ready ≡ Some i → (m k : ℕ) (c : Case) → slice_get b.order m ≡ Some k → b.turn ≤ m → Which b.cases i new k c → is_fresh c.stage ≡ true
   waiting e m k c o r (inl w) = absurd (omega (arith, h.ripe i m e (o ∙ ap Some w.0), r))
   waiting e m k c o r (inr w) = h.turn.waiting m k c o w.1 r
 
-  begun : (m k : ℕ) (c : Case) → slice_get b.order m ≡ Some k → m < b.turn → Which k c → c.stage ≢ Waiting
-  begun m k c o r (inl w) x = absurd (cc (w.1, x))
+  begun : (m k : ℕ) (c : Case) → slice_get b.order m ≡ Some k → m < b.turn → Which b.cases i new k c → c.stage ≢ Waiting
+  begun m k c o r (inl w) x = absurd (cc (ap (λ (d : Case). d.stage) w.1, x))
   begun m k c o r (inr w) x = h.turn.begun m k c o w.1 r x
 
-  lone : (k : ℕ) (j : Job) (c : Case) → slice_get plan k ≡ Some j → j.exclusive ≡ true → is_active_stage c.stage ≡ true → Which k c → b.active ≡ 1
-  lone k j c x e a (inl w) = absurd (cc (ap is_active_stage w.1, a))
+  lone : (k : ℕ) (j : Job) (c : Case) → slice_get plan k ≡ Some j → j.exclusive ≡ true → is_active_stage c.stage ≡ true → Which b.cases i new k c → b.active ≡ 1
+  lone k j c x e a (inl w) = absurd (cc (ap (λ (d : Case). is_active_stage d.stage) w.1, a))
   lone k j c x e a (inr w) = h.cases.lone k j c x w.1 e a
 
-  owing : (k : ℕ) (c : Case) → Which k c → is_owing_stage c.stage ≡ is_owed (owed plan fed.trace) k
-  owing k c (inl w) = ap is_owing_stage w.1 ∙ (sym over.2 ∙ (h.cases.owing i _ t.found ∙ ap (is_owed (owed plan fed.trace)) (sym w.0)))
+  owing : (k : ℕ) (c : Case) → Which b.cases i new k c → is_owing_stage c.stage ≡ is_owed (owed plan fed.trace) k
+  owing k c (inl w) = ap (λ (d : Case). is_owing_stage d.stage) w.1 ∙ (sym over.2 ∙ (h.cases.owing i _ t.found ∙ ap (is_owed (owed plan fed.trace)) (sym w.0)))
   owing k c (inr w) = h.cases.owing k c w.1
 
   pub stands_taken : b.asked ≡ next.Put i → Stands plan n fed (record b { cases = cs })
@@ -98,19 +80,25 @@ module _ {plan : List Job} {n : ℕ} {fed : Fed} {b : SchedState} {i : ℕ} {cs 
     pending = h.pending;
     cases = record {
       count = length-set b.cases i new ∙ h.cases.count;
-      each = λ k j g. each k j g (cases_eq k i);
+      each = let e = entry_taken in each_set b.cases i _ new t.found plan fed.trace fed.trace e.job e.place e.whole (λ x. absurd (x refl)) (λ k d. refl)
+          h.cases.each;
       beyond = h.cases.beyond;
-      active = omega (arith, count_by-set (λ (c : Case). is_active_stage c.stage) b.cases i (record { job = t.had; stage = t.was }) new t.found, h.cases.active, ap (λ (z : Bool). cond {A = ℕ} z 1 0) over.1);
+      active = omega (
+        arith,
+        count_by-set (λ (c : Case). is_active_stage c.stage) b.cases i (record { job = t.had; stage = t.was }) new t.found,
+        h.cases.active,
+        ap (λ (z : Bool). cond {A = ℕ} z 1 0) over.1,
+      );
       most = h.cases.most;
-      lone = λ k j c x g e a. lone k j c x e a (which k c g);
-      owing = λ k c g. owing k c (which k c g);
+      lone = λ k j c x g e a. lone k j c x e a (which_one k c g);
+      owing = λ k c g. owing k c (which_one k c g);
       owed_within = λ k e. omega (arith, h.cases.owed_within k e, length-set b.cases i new);
     };
     turn = record {
       walk = h.turn.walk;
       starts = h.turn.starts;
-      waiting = λ m k c o g r. waiting asked.1 m k c o r (which k c g);
-      begun = λ m k c o g r. begun m k c o r (which k c g);
+      waiting = λ m k c o g r. waiting asked.1 m k c o r (which_one k c g);
+      begun = λ m k c o g r. begun m k c o r (which_one k c g);
     };
     puts = h.puts;
     told = λ k x y. absurd (cc (q, y));

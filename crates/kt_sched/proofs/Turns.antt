@@ -20,7 +20,8 @@ filter_distinct {X} p key (x ∷ xs) d i j a b g h e = here (p x) i j g h (filte
         let z : 0 ≡ suc w.0 = d 0 (suc w.0) x o refl w.1 (ap key q ∙ s) in
         absurd (omega (arith, z))
 
-    here : (t : Bool) → (m l : ℕ) → slice_get (pick t x (filter p xs)) m ≡ Some a → slice_get (pick t x (filter p xs)) l ≡ Some b → Distinct key (filter p xs) → m ≡ l
+    here : (t : Bool) → (m l : ℕ) → slice_get (pick t x (filter p xs)) m ≡ Some a → slice_get (pick t x (filter p xs)) l ≡ Some b → Distinct key (filter p xs)
+        → m ≡ l
     here true zero zero r s rest = refl
     here true zero (suc l) r s rest = absurd (apart l a b (some_is x a r) s e)
     here true (suc m) zero r s rest = absurd (apart m b a (some_is x b s) r (sym e))
@@ -50,7 +51,8 @@ place_in plan k job g = by (in_append (filter is_ordinary plan) (filter is_lonel
     not_true true e = absurd (cc)
     not_true false e = refl
 
-    by : (slice_get (filter is_ordinary plan) k ≡ Some job) ⊎ ((m : ℕ) × (k ≡ length (filter is_ordinary plan) + m) × (slice_get (filter is_lonely plan) m ≡ Some job)) → Where plan k job
+    by : (slice_get (filter is_ordinary plan) k ≡ Some job)
+        ⊎ ((m : ℕ) × (k ≡ length (filter is_ordinary plan) + m) × (slice_get (filter is_lonely plan) m ≡ Some job)) → Where plan k job
     by (inl x) = let w = filter_in is_ordinary plan k job x in early x (not_true job.exclusive w.2) (w.0, w.1)
     by (inr x) = let w = filter_in is_lonely plan x.0 job x.2 in late x.0 x.1 x.2 w.2 (w.0, w.1)
 
@@ -71,7 +73,8 @@ turn_covers plan i job g = by job.exclusive refl
         (length (filter is_ordinary plan) + w.0, append_right (filter is_ordinary plan) (filter is_lonely plan) w.0 job w.1)
 
 -- where an exclusive case stands, only exclusive ones follow
-pub turn_sorted : (plan : List Job) (k l : ℕ) (a b : Job) → slice_get (turns plan) k ≡ Some a → slice_get (turns plan) l ≡ Some b → k ≤ l → a.exclusive ≡ true → b.exclusive ≡ true
+pub turn_sorted : (plan : List Job) (k l : ℕ) (a b : Job) → slice_get (turns plan) k ≡ Some a → slice_get (turns plan) l ≡ Some b → k ≤ l → a.exclusive ≡ true
+    → b.exclusive ≡ true
 turn_sorted plan k l a b g h le e = by (place_in plan k a g) (place_in plan l b h)
   where
     by : Where plan k a → Where plan l b → b.exclusive ≡ true

@@ -33,7 +33,8 @@ module _ {plan : List Job} {n : ℕ} {fed : Fed} {b : SchedState} (h : Stands pl
       let xs = filter is_undecided (take b.turn (turns plan)) in
       let ys = filter is_undecided (drop b.turn (turns plan)) in
       let l : length (body_starts fed.trace) ≡ length xs = ap (λ (zs : List ℕ). length zs) h.turn.starts ∙ length-map xs (λ (job : Job). job.position) in
-      let s : undecided_turns plan ≡ xs ++ ys = ap (filter is_undecided) (sym (take-append-drop b.turn (turns plan))) ∙ filter-append is_undecided (take b.turn (turns plan)) (drop b.turn (turns plan)) in
+      let s : undecided_turns plan ≡ xs ++ ys = ap (filter is_undecided) (sym (take-append-drop b.turn (turns plan)))
+      ∙ filter-append is_undecided (take b.turn (turns plan)) (drop b.turn (turns plan)) in
       ap (slice_get (undecided_turns plan)) l ∙ (ap (λ (zs : List Job). slice_get zs (length xs)) s ∙ get_at_end xs ys)
 
   pub next_at : (job : Job) → slice_get (turns plan) b.turn ≡ Some job → job.decided ≡ None → next_to_start plan fed.trace ≡ Some job

@@ -17,8 +17,8 @@ fn no_output(alloc: Global) -> Output
     }
 }
 
-/// The record of a case that was not started.
-fn unstarted_record(alloc: Global, verdict: Verdict) -> CaseRecord
+/// The record of a case that was not started: its verdict was decided before, or its body was refused.
+pub fn decided_record(alloc: Global, verdict: Verdict) -> CaseRecord
     ensures { result ≡ decided_record verdict }
 {
     CaseRecord {
@@ -30,19 +30,12 @@ fn unstarted_record(alloc: Global, verdict: Verdict) -> CaseRecord
     }
 }
 
-/// The record of a decided case.
-pub fn decided_record(alloc: Global, verdict: Verdict) -> CaseRecord
-    ensures { result ≡ decided_record verdict }
-{
-    unstarted_record(alloc, verdict)
-}
-
 /// The record of a case whose body was refused.
 pub fn refused_record(alloc: Global, cause: Refused) -> CaseRecord
     ensures verdict { IsVerdictOfRefusal cause result.verdict }
     ensures rest { result ≡ decided_record result.verdict }
 {
-    unstarted_record(alloc, refused_verdict(cause))
+    decided_record(alloc, refused_verdict(cause))
 }
 
 /// What is kept of a body that ended, if its case is not over.

@@ -9,7 +9,8 @@ use Rattle.kt_sched.proofs.run.run_cases.Goals.{in-None, in-Some}
 pub loop-i-init : goal.loop-i-init
 loop-i-init g c =
     let e = c.in_ok-sched.ensures in
-    loop_first g.L.Launcher g.S.Sink c.args.plan c.args.width c.args.launcher.now c.args.sink.now _ _ c.requires.plan e.stands e.asked c.requires.idle c.new-totals.ensures
+    loop_first g.L.Launcher g.S.Sink c.args.plan c.args.width c.args.launcher.now c.args.sink.now _ _ c.requires.plan e.stands e.asked c.requires.idle
+    c.new-totals.ensures
 
 pub returns-in_err-sched-clause-ran : goal.returns-in_err-sched-clause-ran
 returns-in_err-sched-clause-ran g c =
@@ -21,7 +22,8 @@ start-told-requires-clause-may g c =
     let k = c.loop-i.invariant in
     let e = c.in-Start.ensures in
     let j = c.job.ensures c.args.plan c.args.width k.fed (e.stands c.args.plan c.args.width k.fed k.stands) in
-    loop_may_start c.requires.plan k c.in-Start.i c.in-Start.role (e.next c.args.plan c.args.width) (e.follows c.args.plan c.args.width) c.job.result.now.position
+    loop_may_start c.requires.plan k c.in-Start.i c.in-Start.role (e.next c.args.plan c.args.width) (e.follows c.args.plan c.args.width)
+    c.job.result.now.position
     (sym (c.requires.plan.placed c.in-Start.i c.job.result.now j))
 
 pub loop-i-preserved-in-Start : goal.loop-i-preserved-in-Start
@@ -30,8 +32,10 @@ loop-i-preserved-in-Start g c =
     let e = c.in-Start.ensures in
     let t = e.stands c.args.plan c.args.width k.fed k.stands in
     let s = c.start-told.ensures in
-    loop_start c.requires.plan k c.in-Start.i c.in-Start.role (e.next c.args.plan c.args.width) (e.follows c.args.plan c.args.width) c.job.result.now c.start-told.result c.start-told.new.self _ _ _
-    (c.job.ensures c.args.plan c.args.width k.fed t) s.leads s.moment s.running s.pending e.asked c.answer_of.ensures t (c.feed.ensures.stands c.args.plan c.args.width) c.feed.ensures.asked
+    loop_start c.requires.plan k c.in-Start.i c.in-Start.role (e.next c.args.plan c.args.width) (e.follows c.args.plan c.args.width) c.job.result.now
+    c.start-told.result c.start-told.new.self _ _ _
+    (c.job.ensures c.args.plan c.args.width k.fed t) s.leads s.moment s.running s.pending e.asked c.answer_of.ensures t
+    (c.feed.ensures.stands c.args.plan c.args.width) c.feed.ensures.asked
 
 pub wait-ended-requires : goal.wait-ended-requires
 wait-ended-requires g c =
@@ -52,11 +56,13 @@ loop-i-preserved-in-Wait g c =
     let w = c.wait-ended.ensures in
     let o = w.one_that_ran in
     let f = c.feed-in-Wait.ensures in
-    loop_end c.requires.plan k (e.next c.args.plan c.args.width) c.wait-ended.result o.0 o.1 _ e.asked (e.stands c.args.plan c.args.width k.fed k.stands) c.wait-ended.new.self _
+    loop_end c.requires.plan k (e.next c.args.plan c.args.width) c.wait-ended.result o.0 o.1 _ e.asked (e.stands c.args.plan c.args.width k.fed k.stands)
+    c.wait-ended.new.self _
     w.leads o.2 w.moment w.running w.pending (f.stands c.args.plan c.args.width) f.asked
 
 pub counted-more-requires : goal.counted-more-requires
-counted-more-requires g c = loop_can_count c.requires.plan c.loop-i.invariant c.in-Put.i (c.in-Put.ensures.next c.args.plan c.args.width) c.in_ok-sched.ensures.room
+counted-more-requires g c =
+    loop_can_count c.requires.plan c.loop-i.invariant c.in-Put.i (c.in-Put.ensures.next c.args.plan c.args.width) c.in_ok-sched.ensures.room
 
 pub put-requires : goal.put-requires
 put-requires g c =
@@ -72,7 +78,8 @@ loop-i-preserved-in-Ok g c =
     let t = e.stands c.args.plan c.args.width k.fed k.stands in
     let y = c.take-entry.ensures in
     let f = c.feed-in-Ok.ensures in
-    loop_put c.requires.plan k c.in-Put.i (e.next c.args.plan c.args.width) c.take-entry.result (y.entry c.args.plan c.args.width k.fed t) _ _ y.asked (y.stands c.args.plan c.args.width k.fed t) f.asked c.put.new.self
+    loop_put c.requires.plan k c.in-Put.i (e.next c.args.plan c.args.width) c.take-entry.result (y.entry c.args.plan c.args.width k.fed t) _ _ y.asked
+    (y.stands c.args.plan c.args.width k.fed t) f.asked c.put.new.self
     _ (c.counted-more.ensures ∙ ap (counted c.loop-i.totals) c.kind.ensures) c.in-Ok.ensures.leads c.in-Ok.ensures.ok (f.stands c.args.plan c.args.width)
 
 pub loop-i-preserved : goal.loop-i-preserved
@@ -82,7 +89,8 @@ loop-i-preserved g c =
     let t = e.stands c.args.plan c.args.width k.fed k.stands in
     let y = c.take-entry.ensures in
     let f = c.feed-in-Err.ensures in
-    loop_failed c.requires.plan k c.in-Put.i (e.next c.args.plan c.args.width) c.take-entry.result (y.entry c.args.plan c.args.width k.fed t) _ _ y.asked (y.stands c.args.plan c.args.width k.fed t) f.asked c.put.new.self
+    loop_failed c.requires.plan k c.in-Put.i (e.next c.args.plan c.args.width) c.take-entry.result (y.entry c.args.plan c.args.width k.fed t) _ _ y.asked
+    (y.stands c.args.plan c.args.width k.fed t) f.asked c.put.new.self
     c.in-Err.cause c.in-Err.ensures.leads c.in-Err.ensures.err (f.stands c.args.plan c.args.width)
 
 pub returns-in-Done-clause-ran : goal.returns-in-Done-clause-ran
@@ -91,7 +99,8 @@ returns-in-Done-clause-ran g c =
     let e = c.in-Done.ensures in
     let x = e.next c.args.plan c.args.width in
     let f = e.follows c.args.plan c.args.width in
-    let T = λ (r : Result Totals RunFault). Ran g.L.Launcher g.S.Sink c.args.plan c.args.width c.args.launcher.now c.loop-i.launcher c.args.sink.now c.loop-i.sink r in
+    let T = λ (r : Result Totals RunFault). Ran g.L.Launcher g.S.Sink c.args.plan c.args.width c.args.launcher.now c.loop-i.launcher c.args.sink.now
+    c.loop-i.sink r in
     elim c.match-fault.branch [
       | in-None w ↦ subst T (sym w.result-is) (ran_well c.requires.plan k x f w.in-None.is)
       | in-Some w ↦ subst T (sym w.result-is) (ran_short c.requires.plan k x f w.in-Some.cause w.in-Some.is)

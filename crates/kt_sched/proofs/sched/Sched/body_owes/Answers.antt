@@ -1,22 +1,11 @@
-use Rattle.std.proofs.Common.{sym, ◌∙◌, ap, refl, subst, true}
-use Rattle.kt_sched.proofs.Common.{SchedState, Declares, RunsSince}
-use Rattle.kt_sched.proofs.Transitions.{body_owes, standing, takes, takes_at}
+use Rattle.std.proofs.Common.{refl}
+use Rattle.kt_sched.proofs.Transitions.{body_owes}
 use Rattle.kt_sched.proofs.sched.Sched.body_owes.Goals as goal
 
 pub invariant_of-self : goal.invariant_of-self
-invariant_of-self c =
-    let q = ap (λ (b : SchedState). b.asked) c.self.view_is ∙ c.requires.asked in
-    let r = c.replace_stage-was in
-    let v = c.ended_body-body.ensures in
-    let s = subst (λ (b : SchedState). RunsSince b.cases c.args.ended.position c.args.since) (sym c.self.view_is) c.requires.runs in
-    let d = subst (λ (b : SchedState). Declares b.cases c.args.ended.position true) (sym c.self.view_is) c.requires.declares in
-    standing c.self.invariant (takes c.self.invariant (λ plan n fed h. body_owes h c.args.ended c.args.since r.new.cases.items r.result _ q c.requires.role s d v.verdict v.rest r.ensures) refl)
+invariant_of-self c = (body_owes c.self.view_is c.self.invariant c.args.ended c.requires.asked c.requires.role c.requires.runs c.requires.declares refl
+    c.ended_body-body.ensures.verdict c.ended_body-body.ensures.rest c.replace_stage-was.ensures).0
 
 pub returns : goal.returns
-returns c =
-    let q = ap (λ (b : SchedState). b.asked) c.self.view_is ∙ c.requires.asked in
-    let r = c.replace_stage-was in
-    let v = c.ended_body-body.ensures in
-    let s = subst (λ (b : SchedState). RunsSince b.cases c.args.ended.position c.args.since) (sym c.self.view_is) c.requires.runs in
-    let d = subst (λ (b : SchedState). Declares b.cases c.args.ended.position true) (sym c.self.view_is) c.requires.declares in
-    takes_at c.self.view_is (takes c.self.invariant (λ plan n fed h. body_owes h c.args.ended c.args.since r.new.cases.items r.result _ q c.requires.role s d v.verdict v.rest r.ensures) refl)
+returns c = (body_owes c.self.view_is c.self.invariant c.args.ended c.requires.asked c.requires.role c.requires.runs c.requires.declares refl
+    c.ended_body-body.ensures.verdict c.ended_body-body.ensures.rest c.replace_stage-was.ensures).1

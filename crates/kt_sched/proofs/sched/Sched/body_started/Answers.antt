@@ -1,22 +1,14 @@
-use Rattle.std.proofs.Common.{◌∙◌, ap, refl}
+use Rattle.std.proofs.Common.{◌∙◌, ap}
 use Rattle.kt_sched.proofs.Common.{SchedState}
-use Rattle.kt_sched.proofs.Transitions.{body_started, standing, takes, takes_at}
 use Rattle.kt_sched.proofs.Located.{start_room}
+use Rattle.kt_sched.proofs.Transitions.{body_started}
 use Rattle.kt_sched.proofs.sched.Sched.body_started.Goals as goal
 
 pub invariant_of-self : goal.invariant_of-self
-invariant_of-self c =
-    let q = ap (λ (b : SchedState). b.asked) c.self.view_is ∙ c.requires in
-    let r = c.replace_stage-was in
-    standing c.self.invariant (takes c.self.invariant (λ plan n fed h. body_started h c.args.i c.args.moment r.new.cases.items r.result q r.ensures) refl)
+invariant_of-self c = (body_started c.self.view_is c.self.invariant c.requires c.replace_stage-was.ensures).0
 
 pub returns : goal.returns
-returns c =
-    let q = ap (λ (b : SchedState). b.asked) c.self.view_is ∙ c.requires in
-    let r = c.replace_stage-was in
-    takes_at c.self.view_is (takes c.self.invariant (λ plan n fed h. body_started h c.args.i c.args.moment r.new.cases.items r.result q r.ensures) refl)
+returns c = (body_started c.self.view_is c.self.invariant c.requires c.replace_stage-was.ensures).1
 
 pub replace_stage-was-requires : goal.replace_stage-was-requires
-replace_stage-was-requires c =
-    let v = c.self.invariant in
-    start_room v.3 c.args.i (ap (λ (b : SchedState). b.asked) c.self.view_is ∙ c.requires)
+replace_stage-was-requires c = start_room c.self.invariant.3 c.args.i (ap (λ (b : SchedState). b.asked) c.self.view_is ∙ c.requires)

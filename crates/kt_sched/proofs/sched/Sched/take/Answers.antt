@@ -10,7 +10,8 @@ invariant_of-self c =
 
 pub returns-clause-stands : goal.returns-clause-stands
 returns-clause-stands c = λ plan n fed h.
-    stands_taken (subst (Stands plan n fed) (sym c.self.view_is) h) c.take_entry-taken.ensures (ap (λ (b : SchedState). b.asked) c.self.view_is ∙ c.requires.asked)
+    stands_taken (subst (Stands plan n fed) (sym c.self.view_is) h) c.take_entry-taken.ensures
+    (ap (λ (b : SchedState). b.asked) c.self.view_is ∙ c.requires.asked)
 
 pub returns-clause-entry : goal.returns-clause-entry
 returns-clause-entry c = λ plan n fed h. entry_taken (subst (Stands plan n fed) (sym c.self.view_is) h) c.take_entry-taken.ensures
@@ -18,4 +19,5 @@ returns-clause-entry c = λ plan n fed h. entry_taken (subst (Stands plan n fed)
 pub returns-clause-less : goal.returns-clause-less
 returns-clause-less c =
     let t = c.take_entry-taken in
-    subst (λ (k : ℕ). work t.new.cases.items < k) (ap (λ (b : SchedState). work b.cases) c.self.view_is) (less_taken c.self.inside.cases.items c.args.position t.new.cases.items t.result t.ensures)
+    subst (λ (k : ℕ). work t.new.cases.items < k) (ap (λ (b : SchedState). work b.cases) c.self.view_is)
+    (less_taken c.self.inside.cases.items c.args.position t.new.cases.items t.result t.ensures)

@@ -16,7 +16,13 @@ returns-then-self-eq0 c =
     let i = c.self.inside.turn in
     let lt : i < length ord = grind (arith, nat_tests, c.if-self-len.false, c.len.ensures) in
     let P : SchedState → Type 0 = λ b. IsTurn b (Some c.index-i.result.now) in
-    subst P c.self.view_is (c.if-self.false, slice_get_read ord (length ord) i c.index-i.result.now refl lt c.index-i.ensures, grind (arith, nat_tests, c.if-self-2.false), inl (grind (arith, nat_tests, c.if-self-eq0.true)))
+    subst P c.self.view_is (
+      c.if-self.false,
+      slice_get_read ord (length ord) i c.index-i.result.now refl lt c.index-i.ensures,
+      grind
+          (arith, nat_tests, c.if-self-2.false),
+      inl (grind (arith, nat_tests, c.if-self-eq0.true)),
+    )
 
 pub returns-then-is_exclusive : goal.returns-then-is_exclusive
 returns-then-is_exclusive c =
@@ -25,7 +31,10 @@ returns-then-is_exclusive c =
     let lt : i < length ord = grind (arith, nat_tests, c.if-self-len.false, c.len.ensures) in
     let P : SchedState → Type 0 = λ b. IsTurn b Rattle.std.specs.Prelude.None in
     let x = subst (HasExclusive c.self.inside.cases.items c.index-i.result.now) c.if-is_exclusive.true c.is_exclusive.ensures in
-    subst P c.self.view_is (inr (inr (inr (grind (arith, nat_tests, c.if-self-eq0.false), (c.index-i.result.now, slice_get_read ord (length ord) i c.index-i.result.now refl lt c.index-i.ensures, x)))))
+    subst P c.self.view_is (inr (inr (inr (
+      grind (arith, nat_tests, c.if-self-eq0.false),
+      (c.index-i.result.now, slice_get_read ord (length ord) i c.index-i.result.now refl lt c.index-i.ensures, x),
+    ))))
 
 pub returns-else-is_exclusive : goal.returns-else-is_exclusive
 returns-else-is_exclusive c =
@@ -34,4 +43,10 @@ returns-else-is_exclusive c =
     let lt : i < length ord = grind (arith, nat_tests, c.if-self-len.false, c.len.ensures) in
     let P : SchedState → Type 0 = λ b. IsTurn b (Some c.index-i.result.now) in
     let x = subst (HasExclusive c.self.inside.cases.items c.index-i.result.now) c.if-is_exclusive.false c.is_exclusive.ensures in
-    subst P c.self.view_is (c.if-self.false, slice_get_read ord (length ord) i c.index-i.result.now refl lt c.index-i.ensures, grind (arith, nat_tests, c.if-self-2.false), inr x)
+    subst P c.self.view_is (
+      c.if-self.false,
+      slice_get_read ord (length ord) i c.index-i.result.now refl lt c.index-i.ensures,
+      grind
+          (arith, nat_tests, c.if-self-2.false),
+      inr x,
+    )
