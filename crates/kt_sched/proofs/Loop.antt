@@ -25,8 +25,8 @@ pub record Loop {L S : Type 0} (l : launcher.Ghosts L) (s : sink.Ghosts S) (plan
   pub asked : sched.asked ≡ next.Done
 
 -- what `next` says, and what a step of the core keeps
-abbrev pub Says : List Job → ℕ → SchedState → (Fed → Type 0) → Type 0
-Says plan n b P = (fed : Fed) → Stands plan n fed b → P fed
+abbrev pub Says : SchedState → (List Job → ℕ → Fed → Type 0) → Type 0
+Says b P = (plan : List Job) (n : ℕ) (fed : Fed) → Stands plan n fed b → P plan n fed
 
 fed_start : (fed : Fed) (asked : Next) (i : ℕ) (role : Role) (a : StartAnswer) → asked ≡ next.Start i role
     → fed_after fed asked (answer_of a) ≡ with_event fed (Start i role a)
@@ -66,112 +66,125 @@ module _ {L S : Type 0} {l : launcher.Ghosts L} {s : sink.Ghosts S} {plan : List
   abbrev fed : Fed
   fed = k.fed
 
-  -- a start
+  -- a start of a job, where the core stands as it did
 
-  module _ (i : ℕ) (role : Role) (x : Says plan n sched (λ fed. IsNext plan n fed (next.Start i role)))
-      (f : Says plan n sched (λ fed. Follows plan fed (next.Start i role))) where
-    pub loop_may_start : (j : ℕ) → i ≡ j → MayStart (l.running mid) (l.pending mid) j role
-    loop_may_start j e = subst (λ j. MayStart (l.running mid) (l.pending mid) j role) e (may_start fed p k.going i role (x fed k.stands) (f fed k.stands))
+  module _ (i : ℕ) (role : Role) (x : Says sched (λ plan n fed. IsNext plan n fed (next.Start i role)))
+      (f : Says sched (λ plan n fed. Follows plan fed (next.Start i role)))
+      (b : SchedState) (y : Says sched (λ plan n fed. Stands plan n fed b)) (job : Job) (g : Says b (λ plan n fed. slice_get plan i ≡ Some job)) where
+    place : slice_get plan i ≡ Some job
+    place = g plan n fed (y plan n fed k.stands)
 
-    pub loop_start : (job : Job) (a : StartAnswer) (new : L) (b later : SchedState) (ans : Answer) → slice_get plan i ≡ Some job → l.starts mid job role a new
-        → HasMoment a
+    pub loop_may_start : (j : ℕ) → job.position ≡ j → MayStart (l.running mid) (l.pending mid) j role
+    loop_may_start j e =
+        subst (λ j. MayStart (l.running mid) (l.pending mid) j role) (sym (p.placed i job place) ∙ e)
+        (may_start fed p k.going i role (x plan n fed k.stands) (f plan n fed k.stands))
+
+    pub loop_start : (a : StartAnswer) (new : L) (later : SchedState) (ans : Answer) → l.starts mid job role a new → HasMoment a
         → ((k : ℕ) (r : Role) → l.running new k r ≡ running_after_start (l.running mid) job role a k r)
-        → ((k : ℕ) → l.pending new k ≡ pending_after_start (l.pending mid) job.position role k)
-        → b.asked ≡ next.Start i role → ans ≡ answer_of a → Stands plan n fed b
-        → ((fed : Fed) → Stands plan n fed b → Stands plan n (fed_after fed b.asked ans) later) → later.asked ≡ next.Done
+        → ((k : ℕ) → l.pending new k ≡ pending_after_start (l.pending mid) job.position role k) → b.asked ≡ next.Start i role → ans ≡ answer_of a
+        → Says b (λ plan n fed. Stands plan n (fed_after fed b.asked ans) later) → later.asked ≡ next.Done
         → Loop l s plan n old before later new after totals fault
-    loop_start job a new b later ans g y m u v q e t z d = record {
+    loop_start a new later ans w m u v q e z d = record {
       fed = with_event fed (Start i role a);
-      stands = subst (λ (w : Fed). Stands plan n w later) (ap (fed_after fed b.asked) e ∙ fed_start fed b.asked i role a q) (z fed t);
-      going = goes_start fed p k.going new i role job a (x fed k.stands) (f fed k.stands) g y m u v;
-      gained = gained_event k.gained (Start i role a) p (nothing_due plan n fed i role (x fed k.stands)) (start_not_whole plan fed i role (f fed k.stands));
+      stands = subst (λ (w : Fed). Stands plan n w later) (ap (fed_after fed b.asked) e ∙ fed_start fed b.asked i role a q)
+          (z plan n fed (y plan n fed k.stands));
+      going = goes_start fed p k.going new i role job a (x plan n fed k.stands) (f plan n fed k.stands) place w m u v;
+      gained = gained_event k.gained (Start i role a) p (nothing_due plan n fed i role (x plan n fed k.stands))
+          (start_not_whole plan fed i role (f plan n fed k.stands));
       asked = d;
     }
 
   -- a wait
 
-  module _ (x : Says plan n sched (λ fed. IsNext plan n fed next.Wait)) where
-    pub loop_may_wait : Says plan n sched (λ fed. Follows plan fed next.Wait) → (i : ℕ) × (role : Role) × (child : Child) × (l.running mid i role ≡ Some child)
-    loop_may_wait f = let w = f fed k.stands in (w.0, w.1, child_of w.2, k.going.runs w.0 w.1 ∙ child_runs plan fed.trace w.0 w.1 w.2 w.3 w.4)
+  module _ (x : Says sched (λ plan n fed. IsNext plan n fed next.Wait)) where
+    pub loop_may_wait : Says sched (λ plan n fed. Follows plan fed next.Wait) → (i : ℕ) × (role : Role) × (child : Child) × (l.running mid i role ≡ Some child)
+    loop_may_wait f = let w = f plan n fed k.stands in (w.0, w.1, child_of w.2, k.going.runs w.0 w.1 ∙ child_runs plan fed.trace w.0 w.1 w.2 w.3 w.4)
 
-    module _ (e : Ended) (child : Child) (o : l.running mid e.position e.role ≡ Some child) (b : SchedState) (q : b.asked ≡ next.Wait)
-        (t : Stands plan n fed b) where
+    module _ (e : Ended) (w : (child : Child) × (l.running mid e.position e.role ≡ Some child) × IsEvidence child.interface e.role e.evidence)
+        (b : SchedState) (q : b.asked ≡ next.Wait) (y : Says sched (λ plan n fed. Stands plan n fed b)) where
       pub loop_answer : IsAnswer b (answer.Ended e)
-      loop_answer = (plan, n, fed, t, subst (λ (y : Next). IsAnswerTo fed.trace y (answer.Ended e)) (sym q) (ended_one fed p k.going e child o).0)
+      loop_answer =
+          let r = (ended_one fed p k.going e w.0 w.1).0 in
+          (plan, n, fed, y plan n fed k.stands, subst (λ (y : Next). IsAnswerTo fed.trace y (answer.Ended e)) (sym q) r)
 
-      pub loop_end : (new : L) (later : SchedState) → l.waits mid e new → IsEvidence child.interface e.role e.evidence → IsMoment e.moment
+      pub loop_end : (new : L) (later : SchedState) → l.waits mid e new → IsMoment e.moment
           → ((k : ℕ) (r : Role) → l.running new k r ≡ running_after_end (l.running mid) e k r)
           → ((k : ℕ) → l.pending new k ≡ pending_after_end (l.running mid) (l.pending mid) e k)
-          → ((fed : Fed) → Stands plan n fed b → Stands plan n (fed_after fed b.asked (answer.Ended e)) later) → later.asked ≡ next.Done
+          → Says b (λ plan n fed. Stands plan n (fed_after fed b.asked (answer.Ended e)) later) → later.asked ≡ next.Done
           → Loop l s plan n old before later new after totals fault
-      loop_end new later y v m u w z d = record {
+      loop_end new later v m u o z d = record {
         fed = with_event fed (End e);
-        stands = subst (λ (w : Fed). Stands plan n w later) (ap (λ (y : Next). fed_after fed y (answer.Ended e)) q) (z fed t);
-        going = goes_end fed p k.going new e child (x fed k.stands) y o v m u w;
-        gained = gained_event k.gained (End e) p (x fed k.stands).0 (end_not_whole plan fed.trace e.position e.role (ended_one fed p k.going e child o).0);
+        stands = subst (λ (w : Fed). Stands plan n w later) (ap (λ (y : Next). fed_after fed y (answer.Ended e)) q) (z plan n fed (y plan n fed k.stands));
+        going = goes_end fed p k.going new e w.0 (x plan n fed k.stands) v w.1 w.2 m u o;
+        gained = gained_event k.gained (End e) p
+            (x plan n fed k.stands).0 (end_not_whole plan fed.trace e.position e.role (ended_one fed p k.going e w.0 w.1).0);
         asked = d;
       }
 
-  -- a put
+  -- a put of an entry that was taken
 
-  module _ (i : ℕ) (x : Says plan n sched (λ fed. IsNext plan n fed (next.Put i))) where
+  module _ (i : ℕ) (x : Says sched (λ plan n fed. IsNext plan n fed (next.Put i))) where
     pub loop_can_count : length plan < 2 ^ 64 → CanCount totals (2 ^ 64 - 1)
-    loop_can_count r = room_to_count k.gained i (x fed k.stands) r
+    loop_can_count r = room_to_count k.gained i (x plan n fed k.stands) r
 
-    pub loop_storable : (e : Entry) → IsEntryOf plan fed.trace i e → IsStorable e
-    loop_storable e w = storable_entry plan fed.trace i e k.going.rules.fits w
+    module _ (b : SchedState) (y : Says sched (λ plan n fed. Stands plan n fed b)) (e : Entry) (w : Says b (λ plan n fed. IsEntryOf plan fed.trace i e)) where
+      entry_is : IsEntryOf plan fed.trace i e
+      entry_is = w plan n fed (y plan n fed k.stands)
 
-    module _ (e : Entry) (w : IsEntryOf plan fed.trace i e) (b later : SchedState) (q : b.asked ≡ next.Put i) (t : Stands plan n fed b)
-        (d : later.asked ≡ next.Done) (new : S) where
-      pub loop_put : (more : Totals) → more ≡ counted totals e.verdict.kind → s.puts after e (Ok tt) new
-          → ((put : List Entry) → s.entries after put → s.entries new (put ++ e ∷ []))
-          → ((fed : Fed) → Stands plan n fed b → Stands plan n (fed_after fed b.asked answer.Stored) later)
-          → Loop l s plan n old before later mid new more fault
-      loop_put more m u v z = record {
-        fed = record fed { stored = fed.stored + 1 };
-        stands = subst (λ (w : Fed). Stands plan n w later) (ap (λ (y : Next). fed_after fed y answer.Stored) q) (z fed t);
-        going = k.going;
-        gained = subst (λ (y : Totals). Gained s plan n (record fed { stored = fed.stored + 1 }) y fault before new) (sym m)
-            (gained_put k.gained i e new (x fed k.stands) w u v);
-        asked = d;
-      }
+      pub loop_storable : IsStorable e
+      loop_storable = storable_entry plan fed.trace i e k.going.rules.fits entry_is
 
-      pub loop_failed : (cause : SinkFault) → s.puts after e (Err cause) new → ((put : List Entry) → s.entries after put → s.entries new put)
-          → ((fed : Fed) → Stands plan n fed b → Stands plan n (fed_after fed b.asked answer.StoreFailed) later)
-          → Loop l s plan n old before later mid new totals (Some cause)
-      loop_failed cause u v z = record {
-        fed = record fed { stopped = Some (event_count fed.trace) };
-        stands = subst (λ (w : Fed). Stands plan n w later) (ap (λ (y : Next). fed_after fed y answer.StoreFailed) q) (z fed t);
-        going = goes_failed fed p k.going (x fed k.stands).0;
-        gained = gained_failed k.gained i e new (x fed k.stands) w cause u v;
-        asked = d;
-      }
+      module _ (c later : SchedState) (q : c.asked ≡ next.Put i) (v : Says b (λ plan n fed. Stands plan n fed c)) (d : later.asked ≡ next.Done) (new : S) where
+        pub loop_put : (more : Totals) → more ≡ counted totals e.verdict.kind → s.puts after e (Ok tt) new
+            → ((put : List Entry) → s.entries after put → s.entries new (put ++ e ∷ []))
+            → Says c (λ plan n fed. Stands plan n (fed_after fed c.asked answer.Stored) later) → Loop l s plan n old before later mid new more fault
+        loop_put more m u o z = record {
+          fed = record fed { stored = fed.stored + 1 };
+          stands = subst (λ (w : Fed). Stands plan n w later) (ap (λ (y : Next). fed_after fed y answer.Stored) q)
+              (z plan n fed (v plan n fed (y plan n fed k.stands)));
+          going = k.going;
+          gained = subst (λ (y : Totals). Gained s plan n (record fed { stored = fed.stored + 1 }) y fault before new) (sym m)
+              (gained_put k.gained i e new (x plan n fed k.stands) entry_is u o);
+          asked = d;
+        }
+
+        pub loop_failed : (cause : SinkFault) → s.puts after e (Err cause) new → ((put : List Entry) → s.entries after put → s.entries new put)
+            → Says c (λ plan n fed. Stands plan n (fed_after fed c.asked answer.StoreFailed) later)
+            → Loop l s plan n old before later mid new totals (Some cause)
+        loop_failed cause u o z = record {
+          fed = record fed { stopped = Some (event_count fed.trace) };
+          stands = subst (λ (w : Fed). Stands plan n w later) (ap (λ (y : Next). fed_after fed y answer.StoreFailed) q)
+              (z plan n fed (v plan n fed (y plan n fed k.stands)));
+          going = goes_failed fed p k.going (x plan n fed k.stands).0;
+          gained = gained_failed k.gained i e new (x plan n fed k.stands) entry_is cause u o;
+          asked = d;
+        }
 
   -- the end
 
-  module _ (x : Says plan n sched (λ fed. IsNext plan n fed next.Done)) (f : Says plan n sched (λ fed. Follows plan fed next.Done)) where
+  module _ (x : Says sched (λ plan n fed. IsNext plan n fed next.Done)) (f : Says sched (λ plan n fed. Follows plan fed next.Done)) where
     pub loop_idle : IsIdle (l.running mid) (l.pending mid)
-    loop_idle = goes_idle fed p k.going (x fed k.stands)
+    loop_idle = goes_idle fed p k.going (x plan n fed k.stands)
 
     -- no put failed
     pub ran_well : fault ≡ None → Ran l s plan n old mid before after (Ok totals)
     ran_well e =
         let g = subst (λ (o : Option SinkFault). Gained s plan n fed totals o before after) e k.gained in
         let o = ap is_some g.gains.0 in
-        let once = named_once k.stands o (x fed k.stands) g.recorded in
+        let once = named_once k.stands o (x plan n fed k.stands) g.recorded in
         record {
           trace = fed.trace;
           leads = k.going.leads;
           fits = k.going.rules.fits;
-          calls = four_calls plan fed.trace p (f fed k.stands).0 k.going.rules.beyond;
+          calls = four_calls plan fed.trace p (f plan n fed k.stands).0 k.going.rules.beyond;
           once = named_at_most_once n fed.trace p g.recorded;
           gained = g.gained;
           are = gained_are g;
           kept = g.kept;
           ends = record {
-            legal = goes_legal fed p k.going g.gains.0 (f fed k.stands);
+            legal = goes_legal fed p k.going g.gains.0 (f plan n fed k.stands);
             once = once;
-            all = gained_all g ((x fed k.stands).0 o) ∙ once.all;
+            all = gained_all g ((x plan n fed k.stands).0 o) ∙ once.all;
             gains = g.gains.1;
             counts = g.counts;
           };
@@ -185,10 +198,10 @@ module _ {L S : Type 0} {l : launcher.Ghosts L} {s : sink.Ghosts S} {plan : List
           trace = fed.trace;
           leads = k.going.leads;
           fits = k.going.rules.fits;
-          calls = four_calls plan fed.trace p (f fed k.stands).0 k.going.rules.beyond;
+          calls = four_calls plan fed.trace p (f plan n fed k.stands).0 k.going.rules.beyond;
           once = named_at_most_once n fed.trace p g.recorded;
           gained = g.gained;
           are = gained_are g;
           kept = g.kept;
-          ends = record { failed = g.gains.0; stopped = goes_stopped fed p k.going g.gains.0.next.after g.gains.1 (f fed k.stands) };
+          ends = record { failed = g.gains.0; stopped = goes_stopped fed p k.going g.gains.0.next.after g.gains.1 (f plan n fed k.stands) };
         }

@@ -40,13 +40,10 @@ fn add_positions(plan: &Vec<Job>, exclusive: bool, order: &mut Vec<u32>) -> Resu
     ensures { OnOk result (order.new.items ≡ order.old.items
         ++ positions_where exclusive plan.now.items) }
 {
-    let mut i = 0;
-    while i < plan.len() {
-        let job = &plan[i];
+    for job in plan {
         if job.exclusive == exclusive {
             order.push(job.position)?;
         }
-        i += 1;
     }
     Ok(())
 }

@@ -19,94 +19,64 @@ returns-in_err-sched-clause-ran g c =
 
 pub start-told-requires-clause-may : goal.start-told-requires-clause-may
 start-told-requires-clause-may g c =
-    let k = c.loop-i.invariant in
     let e = c.in-Start.ensures in
-    let j = c.job.ensures c.args.plan c.args.width k.fed (e.stands c.args.plan c.args.width k.fed k.stands) in
-    loop_may_start c.requires.plan k c.in-Start.i c.in-Start.role (e.next c.args.plan c.args.width) (e.follows c.args.plan c.args.width)
-    c.job.result.now.position
-    (sym (c.requires.plan.placed c.in-Start.i c.job.result.now j))
+    loop_may_start c.requires.plan c.loop-i.invariant c.in-Start.i c.in-Start.role e.next e.follows _ e.stands c.job.result.now c.job.ensures _ (cc)
 
 pub loop-i-preserved-in-Start : goal.loop-i-preserved-in-Start
 loop-i-preserved-in-Start g c =
-    let k = c.loop-i.invariant in
     let e = c.in-Start.ensures in
-    let t = e.stands c.args.plan c.args.width k.fed k.stands in
     let s = c.start-told.ensures in
-    loop_start c.requires.plan k c.in-Start.i c.in-Start.role (e.next c.args.plan c.args.width) (e.follows c.args.plan c.args.width) c.job.result.now
-    c.start-told.result c.start-told.new.self _ _ _
-    (c.job.ensures c.args.plan c.args.width k.fed t) s.leads s.moment s.running s.pending e.asked c.answer_of.ensures t
-    (c.feed.ensures.stands c.args.plan c.args.width) c.feed.ensures.asked
+    loop_start c.requires.plan c.loop-i.invariant c.in-Start.i c.in-Start.role e.next e.follows _ e.stands c.job.result.now c.job.ensures
+    c.start-told.result c.start-told.new.self _ _ s.leads s.moment s.running s.pending e.asked c.answer_of.ensures c.feed.ensures.stands c.feed.ensures.asked
 
 pub wait-ended-requires : goal.wait-ended-requires
-wait-ended-requires g c =
-    let e = c.in-Wait.ensures in
-    loop_may_wait c.requires.plan c.loop-i.invariant (e.next c.args.plan c.args.width) (e.follows c.args.plan c.args.width)
+wait-ended-requires g c = loop_may_wait c.requires.plan c.loop-i.invariant c.in-Wait.ensures.next c.in-Wait.ensures.follows
 
 pub feed-requires-in-Wait : goal.feed-requires-in-Wait
 feed-requires-in-Wait g c =
-    let k = c.loop-i.invariant in
     let e = c.in-Wait.ensures in
-    let o = c.wait-ended.ensures.one_that_ran in
-    loop_answer c.requires.plan k (e.next c.args.plan c.args.width) c.wait-ended.result o.0 o.1 _ e.asked (e.stands c.args.plan c.args.width k.fed k.stands)
+    loop_answer c.requires.plan c.loop-i.invariant e.next c.wait-ended.result c.wait-ended.ensures.one_that_ran _ e.asked e.stands
 
 pub loop-i-preserved-in-Wait : goal.loop-i-preserved-in-Wait
 loop-i-preserved-in-Wait g c =
-    let k = c.loop-i.invariant in
     let e = c.in-Wait.ensures in
     let w = c.wait-ended.ensures in
-    let o = w.one_that_ran in
-    let f = c.feed-in-Wait.ensures in
-    loop_end c.requires.plan k (e.next c.args.plan c.args.width) c.wait-ended.result o.0 o.1 _ e.asked (e.stands c.args.plan c.args.width k.fed k.stands)
-    c.wait-ended.new.self _
-    w.leads o.2 w.moment w.running w.pending (f.stands c.args.plan c.args.width) f.asked
+    loop_end c.requires.plan c.loop-i.invariant e.next c.wait-ended.result w.one_that_ran _ e.asked e.stands c.wait-ended.new.self _
+    w.leads w.moment w.running w.pending c.feed-in-Wait.ensures.stands c.feed-in-Wait.ensures.asked
 
 pub counted-more-requires : goal.counted-more-requires
-counted-more-requires g c =
-    loop_can_count c.requires.plan c.loop-i.invariant c.in-Put.i (c.in-Put.ensures.next c.args.plan c.args.width) c.in_ok-sched.ensures.room
+counted-more-requires g c = loop_can_count c.requires.plan c.loop-i.invariant c.in-Put.i c.in-Put.ensures.next c.in_ok-sched.ensures.room
 
 pub put-requires : goal.put-requires
 put-requires g c =
-    let k = c.loop-i.invariant in
     let e = c.in-Put.ensures in
-    loop_storable c.requires.plan k c.in-Put.i (e.next c.args.plan c.args.width) c.take-entry.result
-    (c.take-entry.ensures.entry c.args.plan c.args.width k.fed (e.stands c.args.plan c.args.width k.fed k.stands))
+    loop_storable c.requires.plan c.loop-i.invariant c.in-Put.i e.next _ e.stands c.take-entry.result c.take-entry.ensures.entry
 
 pub loop-i-preserved-in-Ok : goal.loop-i-preserved-in-Ok
 loop-i-preserved-in-Ok g c =
-    let k = c.loop-i.invariant in
     let e = c.in-Put.ensures in
-    let t = e.stands c.args.plan c.args.width k.fed k.stands in
     let y = c.take-entry.ensures in
     let f = c.feed-in-Ok.ensures in
-    loop_put c.requires.plan k c.in-Put.i (e.next c.args.plan c.args.width) c.take-entry.result (y.entry c.args.plan c.args.width k.fed t) _ _ y.asked
-    (y.stands c.args.plan c.args.width k.fed t) f.asked c.put.new.self
-    _ (c.counted-more.ensures ∙ ap (counted c.loop-i.totals) c.kind.ensures) c.in-Ok.ensures.leads c.in-Ok.ensures.ok (f.stands c.args.plan c.args.width)
+    loop_put c.requires.plan c.loop-i.invariant c.in-Put.i e.next _ e.stands c.take-entry.result y.entry _ _ y.asked y.stands f.asked c.put.new.self
+    _ (c.counted-more.ensures ∙ ap (counted c.loop-i.totals) c.kind.ensures) c.in-Ok.ensures.leads c.in-Ok.ensures.ok f.stands
 
 pub loop-i-preserved : goal.loop-i-preserved
 loop-i-preserved g c =
-    let k = c.loop-i.invariant in
     let e = c.in-Put.ensures in
-    let t = e.stands c.args.plan c.args.width k.fed k.stands in
     let y = c.take-entry.ensures in
     let f = c.feed-in-Err.ensures in
-    loop_failed c.requires.plan k c.in-Put.i (e.next c.args.plan c.args.width) c.take-entry.result (y.entry c.args.plan c.args.width k.fed t) _ _ y.asked
-    (y.stands c.args.plan c.args.width k.fed t) f.asked c.put.new.self
-    c.in-Err.cause c.in-Err.ensures.leads c.in-Err.ensures.err (f.stands c.args.plan c.args.width)
+    loop_failed c.requires.plan c.loop-i.invariant c.in-Put.i e.next _ e.stands c.take-entry.result y.entry _ _ y.asked y.stands f.asked c.put.new.self
+    c.in-Err.cause c.in-Err.ensures.leads c.in-Err.ensures.err f.stands
 
 pub returns-in-Done-clause-ran : goal.returns-in-Done-clause-ran
 returns-in-Done-clause-ran g c =
-    let k = c.loop-i.invariant in
     let e = c.in-Done.ensures in
-    let x = e.next c.args.plan c.args.width in
-    let f = e.follows c.args.plan c.args.width in
     let T = λ (r : Result Totals RunFault). Ran g.L.Launcher g.S.Sink c.args.plan c.args.width c.args.launcher.now c.loop-i.launcher c.args.sink.now
     c.loop-i.sink r in
     elim c.match-fault.branch [
-      | in-None w ↦ subst T (sym w.result-is) (ran_well c.requires.plan k x f w.in-None.is)
-      | in-Some w ↦ subst T (sym w.result-is) (ran_short c.requires.plan k x f w.in-Some.cause w.in-Some.is)
+      | in-None w ↦ subst T (sym w.result-is) (ran_well c.requires.plan c.loop-i.invariant e.next e.follows w.in-None.is)
+      | in-Some w ↦ subst T (sym w.result-is) (ran_short c.requires.plan c.loop-i.invariant e.next e.follows w.in-Some.cause w.in-Some.is)
     ]
 
 pub returns-in-Done-clause-idle : goal.returns-in-Done-clause-idle
-returns-in-Done-clause-idle g c =
-    let e = c.in-Done.ensures in
-    loop_idle c.requires.plan c.loop-i.invariant (e.next c.args.plan c.args.width) (e.follows c.args.plan c.args.width)
+returns-in-Done-clause-idle g c = loop_idle c.requires.plan c.loop-i.invariant c.in-Done.ensures.next c.in-Done.ensures.follows
