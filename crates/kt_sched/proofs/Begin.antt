@@ -69,7 +69,13 @@ stands_first plan n h r = record {
     owing = λ k c g. (all_first plan k c g).2;
     owed_within = λ i x. absurd (cc);
   };
-  turn = record { walk = refl; starts = first_started plan; waiting = λ k i c x g t. (all_first plan i c g).0; begun = λ k i c x g t. absurd (omega arith) };
+  turn = record {
+    walk = refl;
+    within = omega arith;
+    starts = first_started plan;
+    waiting = λ k i c x g t. (all_first plan i c g).0;
+    begun = λ k i c x g t. absurd (omega arith);
+  };
   puts = record {
     failed = refl;
     stopped = λ f. refl;

@@ -11,6 +11,7 @@ use Rattle.kt_sched.proofs.Decided.{Opening, GoesOver, newly_open, gone_after}
 pub record Turning (plan : List Job) (T : Trace) (b : SchedState) (i : ℕ) (e : Event) (t : ℕ) : Type 0 where
   pub starts : HasStarted plan (Then T e) t
   pub over : GoesOver plan b.turn t
+  pub within : t ≤ length b.order
   pub here : (k : ℕ) → slice_get b.order k ≡ Some i → k < t
   pub before : (k m : ℕ) → slice_get b.order k ≡ Some m → m ≢ i → k < t → k < b.turn
 
@@ -60,6 +61,7 @@ module _ {plan : List Job} {n : ℕ} {fed : Fed} {b : SchedState} (h : Stands pl
   stays c g f x = record {
     starts = ap (λ xs. body_starts fed.trace ++ xs) x ∙ (append-nil (body_starts fed.trace) ∙ h.turn.starts);
     over = (omega arith, λ k j l m g. absurd (omega (arith, l, m)));
+    within = h.turn.within;
     here = λ k o. by k o (cases_lt k b.turn);
     before = λ k m o d l. l;
   }
@@ -74,6 +76,7 @@ module _ {plan : List Job} {n : ℕ} {fed : Fed} {b : SchedState} (h : Stands pl
   moves job g d o x = record {
     starts = ap (λ xs. body_starts fed.trace ++ xs) x ∙ (ap (λ xs. xs ++ i ∷ []) h.turn.starts ∙ sym more);
     over = (omega arith, λ k j l m y. ap (λ (z : Job). is_some z.decided) (same k j (omega (arith, l, m)) y) ∙ ap is_some d);
+    within = omega (arith, slice_get_within b.order b.turn i o);
     here = λ k y. let q = one_place h k b.turn i y o in omega (arith, q);
     before = λ k m y z l. by k m y z l (cases_eq k b.turn);
   }
@@ -156,6 +159,7 @@ module _ {plan : List Job} {n : ℕ} {fed : Fed} {b : SchedState} {e : Event} {i
   turn_step : TurnStands plan (Then fed.trace e) cs b.order t
   turn_step = record {
     walk = h.turn.walk;
+    within = s.turn.within;
     starts = s.turn.starts;
     waiting = λ k m c g q l. waiting k m c g l (later m c q);
     begun = λ k m c g q l. begun k m c g l (later m c q);

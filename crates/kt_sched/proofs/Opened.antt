@@ -1,6 +1,6 @@
 -- a decided case whose turn it is becomes ready
 use Rattle.std.proofs.Common.{slice_get, Option, Some, None, is_some, is_none, ◌≡◌, ◌≢◌, ℕ, ◌+◌, ◌<◌, ◌⊎◌, true, false, List, ◌∷◌, refl, sym, ◌∙◌, ap, subst, arith, inl, inr, append-nil}
-use Rattle.kt_sched.proofs.Common.{cases_eq, Judged, Job, Stage, Waiting, Decided, Case, CaseRecord, of, turns, is_open, was_open, Fed, has_failed, SchedState, Stands, IsStage, HasRecord, HasTurn, HasDecided, AreGone, is_decided, is_undecided, is_decided_stage, decided_record_of, decided_record, record_in, positions, opened}
+use Rattle.kt_sched.proofs.Common.{cases_eq, Judged, Job, Stage, Waiting, Decided, Case, CaseRecord, of, turns, is_open, was_open, Fed, has_failed, SchedState, Stands, IsStage, HasRecord, HasTurn, HasDecided, AreGone, is_decided, is_undecided, is_decided_stage, decided_record_of, decided_record, record_in, positions, opened, slice_get_within}
 use Rattle.kt_sched.specs.declared.next.Next.TheVariants as next
 use Rattle.kt_sched.proofs.Lists.{some_is, take_filter}
 use Rattle.kt_sched.proofs.Stages.{decided_stage}
@@ -80,6 +80,7 @@ module _ {plan : List Job} {n : ℕ} {fed : Fed} {b : SchedState} {i : ℕ} (h :
     cases = h.cases;
     turn = record {
       walk = h.turn.walk;
+      within = omega (arith, slice_get_within b.order b.turn i t.1);
       starts = h.turn.starts
           ∙ ap positions (sym (take_filter is_undecided (turns plan) b.turn ripe.job ripe.turn ∙ rw (not_undecided _ ripe.decided) (append-nil _)));
       waiting = λ k j c g x l. h.turn.waiting k j c g x (omega (arith, l));

@@ -96,6 +96,7 @@ module _ {plan : List Job} {n : ℕ} {fed : Fed} {b : SchedState} {i : ℕ} {cs 
     };
     turn = record {
       walk = h.turn.walk;
+      within = h.turn.within;
       starts = h.turn.starts;
       waiting = λ m k c o g r. waiting asked.1 m k c o r (which_one k c g);
       begun = λ m k c o g r. begun m k c o r (which_one k c g);

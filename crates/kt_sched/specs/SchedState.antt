@@ -230,6 +230,7 @@ pub record CasesStand (plan : List Job) (n : ℕ) (T : Trace) (cases : List Case
 -- how a turn stands for a trace: the cases from it on weren't begun
 pub record TurnStands (plan : List Job) (T : Trace) (cases : List Case) (order : List ℕ) (turn : ℕ) : Type 0 where
   pub walk : order ≡ positions (turns plan)
+  pub within : turn ≤ length order
   pub starts : HasStarted plan T turn
   pub waiting : (k i : ℕ) (c : Case) → slice_get order k ≡ Some i → slice_get cases i ≡ Some c → turn ≤ k → is_fresh c.stage ≡ true
   pub begun : (k i : ℕ) (c : Case) → slice_get order k ≡ Some i → slice_get cases i ≡ Some c → k < turn → c.stage ≢ Waiting
