@@ -3,4 +3,4 @@ pub use Rattle.std.specs.Fmt.{decimal}
 pub use Rattle.std.specs.Str.{chars}
 pub use Rattle.kt_base.specs.Utf8.{utf8}
 pub use Rattle.kt_removal.specs.Inner.Bounds.{IsSpent, at_close, at_once, steps_at_close}
-pub use Rattle.kt_removal.specs.Inner.Removals.{moved_dir}
+pub use Rattle.kt_removal.specs.Inner.Removals.{IsCaseOf, IsMoved, IsNumber, MayEmpty, moved_dir, waiting}

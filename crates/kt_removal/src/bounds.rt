@@ -17,7 +17,7 @@ pub(crate) struct Bound {
     /// In microseconds. No more steps than that are taken, whatever the clock says.
     pub(crate) micros: u64,
     /// The number of steps that are taken in any case.
-    least: u64,
+    pub(crate) least: u64,
     /// The steps that were taken.
     steps: u64,
 }
@@ -32,18 +32,18 @@ fn is_spent(micros: u64, steps: u64, taken: Option<u128>) -> bool
     }
 }
 
-/// The microseconds for the removal of the root directory, after this many others.
-fn closing_micros(removals: u32) -> u64
-    ensures { result ≡ at_close removals }
+/// The microseconds for the removal of the root directory, while this many others wait.
+fn closing_micros(waiting: u32) -> u64
+    ensures { result ≡ at_close waiting }
 {
-    5_000_000 + 10_000 * u64::from(removals)
+    5_000_000 + 10_000 * u64::from(waiting)
 }
 
 /// The least steps of that removal, so that a slow machine leaves nothing behind.
-fn closing_steps(removals: u32) -> u64
-    ensures { result ≡ steps_at_close removals }
+fn closing_steps(waiting: u32) -> u64
+    ensures { result ≡ steps_at_close waiting }
 {
-    20_000 + 50 * u64::from(removals)
+    20_000 + 50 * u64::from(waiting)
 }
 
 impl Bound {
@@ -69,16 +69,16 @@ impl Bound {
         Bound::starting(clock, AT_ONCE)
     }
 
-    /// The bound of the removal of the root directory, after this many others.
-    pub(crate) fn closing<C: Clock>(clock: &C, removals: u32) -> Bound
-        ensures micros { result.micros ≡ at_close removals }
-        ensures least { result.least ≡ steps_at_close removals }
+    /// The bound of the removal of the root directory, while this many others wait.
+    pub(crate) fn closing<C: Clock>(clock: &C, waiting: u32) -> Bound
+        ensures micros { result.micros ≡ at_close waiting }
+        ensures least { result.least ≡ steps_at_close waiting }
         ensures steps { result.steps ≡ 0 }
     {
         Bound {
             started: Instant::now(clock).ok(),
-            micros: closing_micros(removals),
-            least: closing_steps(removals),
+            micros: closing_micros(waiting),
+            least: closing_steps(waiting),
             steps: 0,
         }
     }

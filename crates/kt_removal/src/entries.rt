@@ -4,8 +4,7 @@ ghost use Rattle.kt_removal.specs.Common.{utf8};
 use kt_base::{Bytes, NoMemory, Text};
 use std::alloc::Global;
 use std::fs::Permissions;
-use std::io::ErrorKind;
-use std::os::unix::fs::PermissionsExt;
+use std::os::unix::fs::{MetadataExt, PermissionsExt};
 use std::rt::Files;
 use std::{fs, io, str};
 
@@ -55,11 +54,12 @@ pub(crate) fn move_directory<R: Files>(rt: &R, path: &[u8], to: &Text) -> io::Re
     }
 }
 
-/// Gives the owner of a directory all permissions. Returns false if the path isn't a directory, but a link, for one.
-pub(crate) fn open_up<R: Files>(rt: &R, path: &str) -> bool {
+/// Gives the owner of a directory all permissions. Returns false if the path isn't a directory, but a link, for one, or if it
+/// lies on another device: then something is mounted there.
+pub(crate) fn open_up<R: Files>(rt: &R, path: &str, device: u64) -> bool {
     match fs::symlink_metadata(rt, path) {
         Ok(metadata) => {
-            if !metadata.is_dir() {
+            if !metadata.is_dir() || metadata.dev() != device {
                 return false;
             }
             if metadata.permissions().mode() & OWNER_RIGHTS != OWNER_RIGHTS {
@@ -71,18 +71,14 @@ pub(crate) fn open_up<R: Files>(rt: &R, path: &str) -> bool {
     }
 }
 
-/// The same for an entry that could not be removed as an empty directory, by the cause.
-pub(crate) fn open_up_entry<R: Files>(rt: &R, path: &[u8], cause: ErrorKind) -> bool {
-    match str::from_utf8(path) {
-        Ok(text) => open_up(rt, text),
-        // Only a directory can be said not to be empty.
-        Err(_) => cause == ErrorKind::DirectoryNotEmpty && os::chmod(path, OWNER_RIGHTS) == 0,
-    }
+/// Gives the owner of a directory that isn't empty all permissions, and returns whether they were given.
+pub(crate) fn open_up_entry(path: &[u8]) -> bool {
+    os::chmod(path, OWNER_RIGHTS) == 0
 }
 
 /// Opens a directory to read its names; a link to one isn't followed.
-pub(crate) fn open_names<R: Files>(rt: &R, path: &Text) -> Option<R::Dir> {
-    if !open_up(rt, path.as_str()) {
+pub(crate) fn open_names<R: Files>(rt: &R, path: &Text, device: u64) -> Option<R::Dir> {
+    if !open_up(rt, path.as_str(), device) {
         return None;
     }
     rt.open_dir(path.as_str()).ok()
@@ -91,11 +87,4 @@ pub(crate) fn open_names<R: Files>(rt: &R, path: &Text) -> Option<R::Dir> {
 /// Whether a name is that of the directory itself or of the one that holds it, or none.
 pub(crate) fn is_dots(name: &[u8]) -> bool {
     name.is_empty() || name == b".".as_slice() || name == b"..".as_slice()
-}
-
-/// Empties a mounted directory, by one call of the library.
-pub(crate) fn empty_mounted<R: Files + AllocGlobal>(rt: &R, path: &[u8]) {
-    if let Ok(text) = str::from_utf8(path) {
-        let _ = fs::remove_dir_all(rt, text);
-    }
 }

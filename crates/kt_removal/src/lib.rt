@@ -2,7 +2,9 @@
 #![tactic(auto)]
 
 mod bounds;
+mod cases;
 mod entries;
+mod identity;
 mod named;
 mod numbers;
 mod removals;

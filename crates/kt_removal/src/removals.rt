@@ -1,7 +1,10 @@
-ghost use Rattle.std.specs.Prelude.{◌≡◌, ◌++◌, ◌∷◌, IfOk, IfSome};
-ghost use Rattle.kt_removal.specs.Common.{moved_dir};
+ghost use Rattle.std.specs.Prelude.{◌≡◌, ◌++◌, ◌∷◌, [], false, ◌==◌, IfOk, IfSome};
+ghost use Rattle.std.specs.List.{list_any};
+ghost use Rattle.kt_removal.specs.Common.{IsCaseOf, IsMoved, MayEmpty, at_close, moved_dir, steps_at_close, waiting};
 
 use crate::bounds::Bound;
+use crate::cases::is_case;
+use crate::identity::Identity;
 use crate::named::is_removed_by_names;
 use crate::{entries, numbered_path};
 use kt_base::{NoMemory, Text};
@@ -9,7 +12,7 @@ use std::alloc::Global;
 use std::io::{ErrorKind, Read};
 use std::rt::{Clock, Files};
 use std::time::Duration;
-use std::{fs, thread};
+use std::{fs, io, thread};
 
 /// The size of the pieces in which names are read, in bytes: at most 42 names.
 const PIECE: usize = 1_024;
@@ -17,20 +20,23 @@ const PIECE: usize = 1_024;
 /// The removals below a root directory, which go on a step at a time.
 ///
 /// A directory that isn't empty is moved into a place for such directories, and called `0`, `1` and so on there. It is emptied
-/// in its turn, so each path stays short, however deep a directory was.
+/// in its turn, so each path stays short, however deep a directory was. Nothing is done if another directory than that which
+/// was there first, or none, stands where the root or the place should be.
 #[derive(Drop)]
 pub struct Removals {
     pub root: Text,
     /// A directory of the root.
     pub place: Text,
-    /// How many were moved.
+    root_itself: Identity,
+    place_itself: Identity,
+    /// The next number.
     moved: u64,
-    /// How many of them are done.
+    /// The number that is emptied next.
     done: u64,
-    /// Whether anything was removed since the last one was done.
+    /// The numbers at which something else was, so that nothing was moved there.
+    gaps: Vec<u64>,
+    /// Whether anything was removed or moved since a slice began with the directory.
     progress: bool,
-    /// How many removals were asked for.
-    asked: u32,
 }
 
 /// The path of a directory that was moved, by its number.
@@ -55,21 +61,31 @@ fn is_removed<R: Files>(rt: &R, path: &Text) -> bool {
 }
 
 impl Removals {
-    ghost use Rattle.std.specs.Prelude.{◌<◌, ◌↔◌, IsTrue};
+    ghost use Rattle.std.specs.Prelude.{◌<◌, ◌↔◌, ◌+◌, ◌-◌, ◌^◌, ◌⊎◌, min, true, IsTrue};
 
-    /// The removals below a root directory, with a directory of it for what is moved. Both are there.
-    pub fn new(root: Text, place: Text) -> Removals
-        ensures root { result.root ≡ root }
-        ensures place { result.place ≡ place }
+    /// The removals below a root directory, with a directory of it for what is moved. Both were just made.
+    pub fn begin<R: Files + AllocGlobal>(rt: &R, root: Text, place: Text) -> io::Result<Removals>
+        ensures root { IfOk result (λ removals. removals.root ≡ root) }
+        ensures place { IfOk result (λ removals. removals.place ≡ place) }
     {
-        Removals {
+        let root_itself = Identity::of(rt, root.as_str())?;
+        let place_itself = Identity::of(rt, place.as_str())?;
+        let gaps = Vec::new(rt.alloc());
+        Ok(Removals {
             root,
             place,
+            root_itself,
+            place_itself,
             moved: 0,
             done: 0,
+            gaps,
             progress: false,
-            asked: 0,
-        }
+        })
+    }
+
+    /// Whether the place is still the directory that it was.
+    fn has_place<R: Files>(&self, rt: &R) -> bool {
+        self.place_itself.is_at(rt, self.place.as_str())
     }
 
     /// The path of the next directory to be moved.
@@ -77,6 +93,20 @@ impl Removals {
         ensures { IfOk result (λ path. path ≡ moved_dir self.now.place self.now.moved) }
     {
         moved_path(alloc, &self.place, self.moved)
+    }
+
+    /// Whether nothing was moved to the number that is next in turn.
+    fn is_gap(&self) -> bool
+        ensures { result ≡ list_any (λ n. n == self.now.done) self.now.gaps.items }
+    {
+        self.gaps.as_slice().contains(&self.done)
+    }
+
+    /// How many directories wait, at the most.
+    fn waiting(&self) -> u32
+        ensures { result ≡ waiting self.now.moved self.now.done }
+    {
+        u32::try_from(self.moved.saturating_sub(self.done)).unwrap_or(u32::MAX)
     }
 
     /// Whether a moved directory is left.
@@ -93,40 +123,67 @@ impl Removals {
         moved_path(alloc, &self.place, self.done)
     }
 
+    /// Moves a directory to the next number.
+    fn move_to<R: Files>(&self, rt: &R, path: &[u8], to: &Text) -> bool
+        requires { to.now ≡ moved_dir self.now.place self.now.moved }
+    {
+        self.has_place(rt) && entries::move_directory(rt, path, to).is_ok()
+    }
+
+    /// Passes over the next number, to which nothing was moved.
+    fn leave_gap(&mut self)
+        ensures root { self.new.root ≡ self.old.root }
+        ensures place { self.new.place ≡ self.old.place }
+        ensures done { self.new.done ≡ self.old.done }
+        ensures gap { (self.new.moved ≡ self.old.moved)
+            ⊎ (self.new.gaps.items ≡ self.old.gaps.items ++ self.old.moved ∷ []) }
+    {
+        if self.gaps.push(self.moved).is_ok() {
+            self.moved = self.moved.saturating_add(1);
+        }
+    }
+
     /// Moves a directory to the others, and returns whether it could.
     fn take<R: Files + AllocGlobal>(&mut self, rt: &R, path: &[u8]) -> bool
-        ensures { self.new.place ≡ self.old.place }
+        ensures root { self.new.root ≡ self.old.root }
+        ensures place { self.new.place ≡ self.old.place }
+        ensures done { self.new.done ≡ self.old.done }
+        ensures unmoved { result ≡ false → (self.new.moved ≡ self.old.moved)
+            ⊎ (self.new.gaps.items ≡ self.old.gaps.items ++ self.old.moved ∷ []) }
     {
         let Ok(to) = self.next_path(rt.alloc()) else {
             return false;
         };
-        // A number at which something was put is passed over.
-        self.moved = self.moved.saturating_add(1);
-        entries::move_directory(rt, path, &to).is_ok()
+        if self.move_to(rt, path, &to) {
+            self.moved = self.moved.saturating_add(1);
+            return true;
+        }
+        self.leave_gap();
+        false
     }
 
-    /// Removes or moves an entry that isn't a file.
+    /// Removes or moves an entry that isn't a file. What is mounted there is busy, and is left as it is.
     fn remove_directory<R: Files + AllocGlobal>(&mut self, rt: &R, path: &[u8])
-        ensures { self.new.place ≡ self.old.place }
+        ensures root { self.new.root ≡ self.old.root }
+        ensures place { self.new.place ≡ self.old.place }
+        ensures done { self.new.done ≡ self.old.done }
     {
-        let cause = match entries::remove_directory(rt, path) {
-            Ok(()) => {
-                self.progress = true;
-                return;
+        match entries::remove_directory(rt, path) {
+            Ok(()) => self.progress = true,
+            Err(error) => {
+                let full = error.kind() == ErrorKind::DirectoryNotEmpty;
+                if full && entries::open_up_entry(path) && self.take(rt, path) {
+                    self.progress = true;
+                }
             }
-            Err(error) => error.kind(),
-        };
-        // Nothing else is busy.
-        if cause == ErrorKind::ResourceBusy {
-            entries::empty_mounted(rt, path);
-        } else if entries::open_up_entry(rt, path, cause) {
-            let _ = self.take(rt, path);
         }
     }
 
     /// Removes an entry of a directory. A directory that isn't empty is moved.
     fn remove_entry<R: Files + AllocGlobal>(&mut self, rt: &R, directory: &Text, name: &[u8])
-        ensures { self.new.place ≡ self.old.place }
+        ensures root { self.new.root ≡ self.old.root }
+        ensures place { self.new.place ≡ self.old.place }
+        ensures done { self.new.done ≡ self.old.done }
     {
         let Ok(path) = entries::entry_path(rt.alloc(), directory, name) else {
             return;
@@ -140,7 +197,9 @@ impl Removals {
 
     /// Removes the entries of a directory that have these names.
     fn remove_names<R: Files + AllocGlobal>(&mut self, rt: &R, directory: &Text, names: &[u8])
-        ensures { self.new.place ≡ self.old.place }
+        ensures root { self.new.root ≡ self.old.root }
+        ensures place { self.new.place ≡ self.old.place }
+        ensures done { self.new.done ≡ self.old.done }
     {
         let mut left = names;
         for _ in 0..PIECE {
@@ -161,7 +220,9 @@ impl Removals {
         directory: &Text,
         names: &mut R::Dir,
     ) -> bool
-        ensures { self.new.place ≡ self.old.place }
+        ensures root { self.new.root ≡ self.old.root }
+        ensures place { self.new.place ≡ self.old.place }
+        ensures done { self.new.done ≡ self.old.done }
     {
         let mut buffer = [0u8; PIECE];
         match names.read(&mut buffer) {
@@ -175,11 +236,25 @@ impl Removals {
 
     /// Ends a moved directory. One to which something was added meanwhile is moved to the end.
     fn finish<R: Files + AllocGlobal>(&mut self, rt: &R, path: &Text)
-        ensures { self.new.place ≡ self.old.place }
+        requires { path.now ≡ moved_dir self.old.place self.old.done }
+        ensures root { self.new.root ≡ self.old.root }
+        ensures place { self.new.place ≡ self.old.place }
+        ensures progress { self.new.progress ≡ false }
+        ensures done { self.new.done ≡ min (self.old.done + 1) (2 ^ 64 - 1) }
     {
         if !is_removed(rt, path) && self.progress {
             let _ = self.take(rt, path.as_bytes());
         }
+        self.pass();
+    }
+
+    /// Goes on to the next number.
+    fn pass(&mut self)
+        ensures root { self.new.root ≡ self.old.root }
+        ensures place { self.new.place ≡ self.old.place }
+        ensures progress { self.new.progress ≡ false }
+        ensures done { self.new.done ≡ min (self.old.done + 1) (2 ^ 64 - 1) }
+    {
         self.progress = false;
         self.done = self.done.saturating_add(1);
     }
@@ -191,9 +266,14 @@ impl Removals {
         directory: &Text,
         bound: &mut Bound,
     ) -> bool
-        ensures { self.new.place ≡ self.old.place }
+        requires { MayEmpty self.old.root self.old.place self.old.moved self.old.gaps.items
+            self.old.done directory.now }
+        ensures root { self.new.root ≡ self.old.root }
+        ensures place { self.new.place ≡ self.old.place }
+        ensures done { self.new.done ≡ self.old.done }
     {
-        let Some(mut names) = entries::open_names(rt, directory) else {
+        let device = self.root_itself.device;
+        let Some(mut names) = entries::open_names(rt, directory, device) else {
             return true;
         };
         for _ in 0..bound.micros {
@@ -207,56 +287,126 @@ impl Removals {
         false
     }
 
-    /// Empties the next of the moved directories, and returns whether time is left. If memory is refused, it is tried again.
-    fn step<R: Files + Clock + AllocGlobal>(&mut self, rt: &R, bound: &mut Bound) -> bool
-        ensures { self.new.place ≡ self.old.place }
+    /// Empties the moved directory that is next in turn, and returns whether it came to the end. One that didn't is begun anew
+    /// later, but if nothing could be removed of it, it is passed over.
+    fn go_through<R: Files + Clock + AllocGlobal>(
+        &mut self,
+        rt: &R,
+        path: &Text,
+        bound: &mut Bound,
+    ) -> bool
+        requires moved { IsMoved self.old.moved self.old.gaps.items self.old.done }
+        requires path { path.now ≡ moved_dir self.old.place self.old.done }
+        ensures root { self.new.root ≡ self.old.root }
+        ensures place { self.new.place ≡ self.old.place }
+        ensures passed { result ≡ false → self.new.progress ≡ false
+            → self.new.done ≡ min (self.old.done + 1) (2 ^ 64 - 1) }
     {
+        self.progress = false;
+        let ended = self.empty(rt, path, bound);
+        if ended {
+            self.finish(rt, path);
+        } else if !self.progress {
+            self.pass();
+        }
+        ended
+    }
+
+    /// Goes on with the next number, and returns whether time is left. If memory is refused, it is tried again.
+    fn step<R: Files + Clock + AllocGlobal>(&mut self, rt: &R, bound: &mut Bound) -> bool
+        requires { self.old.done < self.old.moved }
+        ensures root { self.new.root ≡ self.old.root }
+        ensures place { self.new.place ≡ self.old.place }
+    {
+        if self.is_gap() {
+            self.pass();
+            return true;
+        }
         let Ok(path) = self.path(rt.alloc()) else {
             return !bound.is_over(rt);
         };
-        if !self.empty(rt, &path, bound) {
-            return false;
-        }
-        self.finish(rt, &path);
-        true
+        self.go_through(rt, &path, bound)
     }
 
-    /// Goes on with the moved directories, within a bound. One that is not finished is begun anew later.
+    /// Goes on with the moved directories, within a bound. If they are not where they were moved, they are left.
     fn go_on<R: Files + Clock + AllocGlobal>(&mut self, rt: &R, bound: &mut Bound)
-        ensures { self.new.place ≡ self.old.place }
+        ensures root { self.new.root ≡ self.old.root }
+        ensures place { self.new.place ≡ self.old.place }
     {
         for _ in 0..bound.micros {
-            if !self.is_pending() || !self.step(rt, bound) {
+            if !self.is_pending() {
+                return;
+            }
+            if !self.has_place(rt) {
+                self.done = self.moved;
+                return;
+            }
+            if !self.step(rt, bound) {
                 return;
             }
         }
     }
 
+    /// Makes the place anew if it is not what it was: a test may have removed it, or put something there.
+    fn renew_place<R: Files + AllocGlobal>(&mut self, rt: &R)
+        ensures root { self.new.root ≡ self.old.root }
+        ensures place { self.new.place ≡ self.old.place }
+    {
+        if self.has_place(rt) {
+            return;
+        }
+        self.done = self.moved;
+        let _ = is_removed(rt, &self.place);
+        if fs::create_dir(rt, self.place.as_str()).is_err() {
+            return;
+        }
+        if let Ok(place) = Identity::of(rt, self.place.as_str()) {
+            self.place_itself = place;
+        }
+    }
+
     /// Removes the root directory, with all that was left.
     fn close<R: Files + Clock + AllocGlobal>(&mut self, rt: &R, root: &Text) -> bool
-        ensures { self.new.place ≡ self.old.place }
+        requires { root.now ≡ self.old.root }
+        ensures place { self.new.place ≡ self.old.place }
     {
-        // A test may have removed it.
-        let _ = fs::create_dir(rt, self.place.as_str());
-        let mut bound = Bound::closing(rt, self.asked);
-        let _ = self.empty(rt, root, &mut bound);
-        self.go_on(rt, &mut bound);
+        self.renew_place(rt);
+        let mut bound = Bound::closing(rt, self.waiting());
+        self.close_within(rt, root, &mut bound)
+    }
+
+    /// Removes the root directory, within the bound for the directories that wait.
+    fn close_within<R: Files + Clock + AllocGlobal>(
+        &mut self,
+        rt: &R,
+        root: &Text,
+        bound: &mut Bound,
+    ) -> bool
+        requires root { root.now ≡ self.old.root }
+        requires micros { bound.old.micros ≡ at_close (waiting self.old.moved self.old.done) }
+        requires least { bound.old.least ≡ steps_at_close (waiting self.old.moved self.old.done) }
+        ensures place { self.new.place ≡ self.old.place }
+    {
+        let _ = self.empty(rt, root, bound);
+        self.go_on(rt, bound);
         if fs::remove_dir(rt, self.place.as_str()).is_err() {
-            self.try_again(rt, &mut bound);
+            self.try_again(rt, bound);
         }
         fs::remove_dir(rt, root.as_str()).is_ok()
     }
 
     /// Removes what was passed over, such as a directory with an entry for whose path memory was refused.
     fn try_again<R: Files + Clock + AllocGlobal>(&mut self, rt: &R, bound: &mut Bound)
-        ensures { self.new.place ≡ self.old.place }
+        ensures place { self.new.place ≡ self.old.place }
     {
         let Ok(place) = self.place.copy() else {
             return;
         };
-        let _ = self.empty(rt, &place, bound);
-        self.go_on(rt, bound);
-        let _ = fs::remove_dir(rt, place.as_str());
+        if self.has_place(rt) {
+            let _ = self.empty(rt, &place, bound);
+            self.go_on(rt, bound);
+            let _ = fs::remove_dir(rt, place.as_str());
+        }
     }
 
     /// Removes a directory by the names that are read in it, or moves it to the others, and returns
@@ -267,25 +417,42 @@ impl Removals {
         tree: &Text,
         bound: &mut Bound,
     ) -> bool
-        ensures { self.new.place ≡ self.old.place }
+        requires { IsCaseOf self.old.root tree.now }
+        ensures root { self.new.root ≡ self.old.root }
+        ensures place { self.new.place ≡ self.old.place }
     {
         let _ = self.empty(rt, tree, bound);
         is_removed(rt, tree) || self.take(rt, tree.as_bytes())
     }
 
-    /// Removes a directory with all that it holds, and returns whether it is gone from there. No link is followed. A
-    /// directory that would take too long is moved to the others, for later; the root itself stays where it is.
-    pub fn remove_tree<R: Files + Clock + AllocGlobal>(&mut self, rt: &R, tree: &Text) -> bool
-        ensures { self.new.place ≡ self.old.place }
+    /// Removes the directory of a case, or moves it to the others, and goes on with these.
+    fn remove_case<R: Files + Clock + AllocGlobal>(&mut self, rt: &R, tree: &Text) -> bool
+        requires { IsCaseOf self.old.root tree.now }
+        ensures place { self.new.place ≡ self.old.place }
     {
+        let mut bound = Bound::at_once(rt);
+        let device = self.root_itself.device;
+        let gone = is_removed_by_names(rt, &self.root, tree, device)
+            || self.walk(rt, tree, &mut bound);
+        self.go_on(rt, &mut bound);
+        gone
+    }
+
+    /// Removes the root or a directory of it that has a number, with all that it holds, and returns whether it is gone from
+    /// there. No link is followed. A directory that would take too long is moved to the others, for later; the root itself stays
+    /// where it is. Another directory is left as it is, and all are if the root is no longer what it was.
+    pub fn remove_tree<R: Files + Clock + AllocGlobal>(&mut self, rt: &R, tree: &Text) -> bool
+        ensures place { self.new.place ≡ self.old.place }
+        ensures outside { result ≡ true → (tree.now ≡ self.old.root)
+            ⊎ IsCaseOf self.old.root tree.now }
+    {
+        if !self.root_itself.is_at(rt, self.root.as_str()) {
+            return false;
+        }
         if tree.as_str() == self.root.as_str() {
             return self.close(rt, tree);
         }
-        self.asked = self.asked.saturating_add(1);
-        let mut bound = Bound::at_once(rt);
-        let gone = is_removed_by_names(rt, tree) || self.walk(rt, tree, &mut bound);
-        self.go_on(rt, &mut bound);
-        gone
+        is_case(&self.root, tree) && self.remove_case(rt, tree)
     }
 }
 

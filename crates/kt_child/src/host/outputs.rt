@@ -62,7 +62,8 @@ pub(crate) fn create_root<R: Files + AllocGlobal>(
         let _ = fs::remove_dir(rt, root.as_str());
         return Err(fault);
     }
-    Ok((Removals::new(root, place), narrow))
+    let removals = or_fault(Removals::begin(rt, root, place))?;
+    Ok((removals, narrow))
 }
 
 /// Whether the parent of a path is a directory, and not a link to one.

@@ -10,10 +10,10 @@ IsSpent micros steps None = micros / 100 ≤ steps
 abbrev pub at_once : ℕ
 at_once = 5000
 
--- the microseconds for the last removal, of the root directory, after this many others
+-- the microseconds for the last removal, of the root directory, while this many others wait
 abbrev pub at_close : ℕ → ℕ
-at_close removals = 5000000 + 10000 * removals
+at_close waiting = 5000000 + 10000 * waiting
 
 -- and the steps that it takes in any case
 abbrev pub steps_at_close : ℕ → ℕ
-steps_at_close removals = 20000 + 50 * removals
+steps_at_close waiting = 20000 + 50 * waiting

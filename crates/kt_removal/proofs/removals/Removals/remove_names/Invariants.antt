@@ -2,4 +2,9 @@ use Rattle.std.proofs.Common.{◌≡◌}
 use Rattle.kt_removal.proofs.removals.Removals.remove_names.Given as goal
 
 abbrev pub invariant-loop : goal.invariant-loop
-invariant-loop g l = l.self.place ≡ l.initial.self.place
+invariant-loop g l =
+    record {
+      root : l.self.root ≡ l.initial.self.root;
+      place : l.self.place ≡ l.initial.self.place;
+      done : l.self.done ≡ l.initial.self.done;
+    }

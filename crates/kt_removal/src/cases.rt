@@ -1,0 +1,24 @@
+ghost use Rattle.std.specs.Prelude.{IsTrue};
+ghost use Rattle.kt_removal.specs.Common.{IsCaseOf, IsNumber};
+
+use kt_base::{Text, is_digit};
+
+/// Whether a name is a number.
+fn is_number(name: &[u8]) -> bool
+    ensures { IsTrue result → IsNumber name.now }
+{
+    !name.is_empty() && name.iter().all(|c| is_digit(*c))
+}
+
+/// Whether a path is that of a directory of the root that has a number, as the directory of each case.
+pub(crate) fn is_case(root: &Text, path: &Text) -> bool
+    ensures { IsTrue result → IsCaseOf root.now path.now }
+{
+    let Some(below) = path.as_bytes().strip_prefix(root.as_bytes()) else {
+        return false;
+    };
+    match below.split_first() {
+        Some((slash, name)) => *slash == b'/' && is_number(name),
+        None => false,
+    }
+}
