@@ -1,17 +1,24 @@
-// Interrupts one call of a program, for a preload: INTERRUPT is the number of a write to standard output, counted from 1, or the
-// number of a read and the name of the file that is read.
+// Disturbs one call of a program, for a preload. INTERRUPT is the number of a write to standard output that is interrupted, counted
+// from 1, or the number of a read and the name of the file that is read; with the number 0 each kill is refused (EPERM), or if
+// there is a name, a pipe is put in the place of a file of that name just before it is opened to be read.
 #define _GNU_SOURCE
 #include <dlfcn.h>
 #include <errno.h>
+#include <fcntl.h>
+#include <signal.h>
+#include <stdarg.h>
 #include <stdio.h>
 #include <stdlib.h>
 #include <string.h>
+#include <sys/stat.h>
 #include <unistd.h>
 
 static ssize_t (*real_write)(int, const void *, size_t);
 static ssize_t (*real_read)(int, void *, size_t);
-static long count, wanted;
-// Empty if a write is interrupted.
+static int (*real_open)(const char *, int, ...);
+static int (*real_kill)(pid_t, int);
+static long count, wanted = -1;
+// Empty if a write is interrupted, or kills are refused.
 static char name[256];
 
 __attribute__((constructor)) static void begin(void)
@@ -19,6 +26,8 @@ __attribute__((constructor)) static void begin(void)
     const char *words = getenv("INTERRUPT");
     real_write = dlsym(RTLD_NEXT, "write");
     real_read = dlsym(RTLD_NEXT, "read");
+    real_open = dlsym(RTLD_NEXT, "open");
+    real_kill = dlsym(RTLD_NEXT, "kill");
     if (words)
         sscanf(words, "%ld %255s", &wanted, name);
     unsetenv("LD_PRELOAD");
@@ -34,16 +43,22 @@ static int is_wanted(int here)
     return 1;
 }
 
+// Whether a path ends in the name.
+static int ends_in_name(const char *path)
+{
+    const char *last = strrchr(path, '/');
+    return name[0] && last && !strcmp(last + 1, name);
+}
+
 // Whether a file has the name.
 static int is_named(int file)
 {
-    char link[64], path[4096], *last;
+    char link[64], path[4096];
     ssize_t length;
     snprintf(link, sizeof link, "/proc/self/fd/%d", file);
     length = readlink(link, path, sizeof path - 1);
     path[length < 0 ? 0 : length] = 0;
-    last = strrchr(path, '/');
-    return name[0] && last && !strcmp(last + 1, name);
+    return ends_in_name(path);
 }
 
 ssize_t write(int file, const void *bytes, size_t size)
@@ -54,4 +69,25 @@ ssize_t write(int file, const void *bytes, size_t size)
 ssize_t read(int file, void *bytes, size_t size)
 {
     return is_wanted(is_named(file)) ? -1 : real_read(file, bytes, size);
+}
+
+int open(const char *path, int flags, ...)
+{
+    va_list rest;
+    int mode;
+    va_start(rest, flags);
+    mode = flags & O_CREAT ? va_arg(rest, int) : 0;
+    va_end(rest);
+    if (!wanted && !(flags & O_CREAT) && ends_in_name(path) && !unlink(path))
+        mkfifo(path, 0600);
+    return real_open(path, flags, mode);
+}
+
+int kill(pid_t process, int signal)
+{
+    if (!wanted && !name[0]) {
+        errno = EPERM;
+        return -1;
+    }
+    return real_kill(process, signal);
 }

@@ -6,8 +6,9 @@ use crate::{FileRead, OsFault};
 use kt_base::{Bytes, Text};
 use kt_suite::ReadFault;
 use std::alloc::Global;
-use std::fs::File;
+use std::fs::{File, OpenFile, OpenOptions};
 use std::io::{ErrorKind, Read, Seek, SeekFrom};
+use std::os::unix::fs::MetadataExt;
 use std::rt::Files;
 use std::{fs, io};
 
@@ -73,12 +74,27 @@ pub fn read_front<F: Read>(alloc: Global, file: &mut F, limit: u64) -> Result<Fi
     Ok(FileRead::Part(bytes, count > 0))
 }
 
-/// Opens a regular file. Anything else, such as a link, is a fault: opening a pipe could block for ever.
+/// Opens a file to read it, for writing too where its rights allow that: then not even a pipe makes the call wait.
+fn open_at_once<R: Files>(rt: &R, path: &str) -> io::Result<R::File> {
+    match OpenOptions::new().read(true).write(true).open(rt, path) {
+        Ok(file) => Ok(file),
+        Err(_) => File::open(rt, path),
+    }
+}
+
+/// Opens a regular file. Anything else is a fault, such as a link, or what was put there after the look.
 fn open_regular<R: Files>(rt: &R, path: &str) -> io::Result<R::File> {
-    if !fs::symlink_metadata(rt, path)?.is_file() {
+    let seen = fs::symlink_metadata(rt, path)?;
+    if !seen.is_file() {
         return Err(io::Error::from(ErrorKind::InvalidInput));
     }
-    File::open(rt, path)
+    let file = open_at_once(rt, path)?;
+    let opened = file.metadata()?;
+    if opened.ino() == seen.ino() && opened.dev() == seen.dev() {
+        Ok(file)
+    } else {
+        Err(io::Error::from(ErrorKind::InvalidInput))
+    }
 }
 
 /// The result for a file that can't be opened.
