@@ -1,5 +1,5 @@
 -- What the host may answer, whatever the system does.
-use Rattle.std.specs.Prelude.{◌≡◌, ◌≢◌, ◌≤◌, ◌/◌, ◌%◌, ◌==◌, ◌<◌, ℕ, List, length, take, true, false, Some, None, IsSome, ◌⊎◌, Result, Ok, Err}
+use Rattle.std.specs.Prelude.{◌≡◌, ◌≢◌, ◌≤◌, ◌/◌, ◌%◌, ◌==◌, ◌<◌, ℕ, List, length, take, true, false, Some, None, IsSome, ◌⊎◌, Bool, Option, Result, Ok, Err}
 use Rattle.std.specs.Process.{status_bits}
 use Rattle.std.specs.declared.process.status.ExitStatus.{ExitStatus}
 use Rattle.kt_child.specs.declared.system.OsFault.{OsFault}
@@ -53,28 +53,43 @@ TellsEnd child old answer new IsLast =
     (status : ExitStatus) × IsSome (old child) × Proceeds (old child) (Some (Some status)) × IsPolledOf (status_bits status) answer
     × IsLast child status × (new child ≡ None) × OthersStay child old new
 
--- A child is reported as running only if it has a process whose end nobody has seen. A poll that fails may forget it.
-abbrev pub HostPolls : Child → (Child → Stand) → Result Polled OsFault → (Child → Stand) → (Child → ExitStatus → Type 0) → Type 0
-HostPolls child old (Ok Running) new IsLast = (old child ≡ Some None) × AllStay old new
-HostPolls child old (Ok (Exited code)) new IsLast = TellsEnd child old (Ok (Exited code)) new IsLast
-HostPolls child old (Ok (Signaled signal core)) new IsLast = TellsEnd child old (Ok (Signaled signal core)) new IsLast
-HostPolls child old (Err fault) new IsLast = (Proceeds (old child) (new child) ⊎ (new child ≡ None)) × OthersStay child old new
+-- A child is reported as running only if it has a process, and, unless some child was late, nobody has seen its end. A poll
+-- that fails may forget it.
+abbrev pub HostPolls : Child → (Child → Stand) → Result Polled OsFault → (Child → Stand) → (Child → ExitStatus → Type 0) → Option Bool → Type 0
+HostPolls child old (Ok Running) new IsLast late = IsSome (old child) × (late ≢ Some true → old child ≡ Some None) × AllStay old new
+HostPolls child old (Ok (Exited code)) new IsLast late = TellsEnd child old (Ok (Exited code)) new IsLast
+HostPolls child old (Ok (Signaled signal core)) new IsLast late = TellsEnd child old (Ok (Signaled signal core)) new IsLast
+HostPolls child old (Err fault) new IsLast late = (Proceeds (old child) (new child) ⊎ (new child ≡ None)) × OthersStay child old new
 
 -- An answer of the host, by how its children stand before and after, and the last end that was reported. A child for which
 -- an output is opened has no process then; a start gives it one, and a start that fails leaves none; only a child with a
--- process is killed; a pause may see ends; a read keeps to its limit. Nothing is said of a moment, nor of an answer that
--- says only whether the system did the call.
-abbrev pub HostLeads : (Child → Stand) → Call → (Child → Stand) → (Child → ExitStatus → Type 0) → Type 0
-HostLeads old (SetLimit child limit) new IsLast = AllStay old new
-HostLeads old (MakeDir path answer) new IsLast = AllStay old new
-HostLeads old (RemoveTree path done) new IsLast = AllStay old new
-HostLeads old (OpenOutput child path answer) new IsLast = (new child ≡ None) × OthersStay child old new
-HostLeads old (Spawn child program words env dir (Ok done)) new IsLast = IsSome (new child) × OthersStay child old new
-HostLeads old (Spawn child program words env dir (Err fault)) new IsLast = (new child ≡ None) × OthersStay child old new
-HostLeads old (Poll child answer) new IsLast = HostPolls child old answer new IsLast
-HostLeads old (Kill child true) new IsLast = IsSome (old child) × AllStay old new
-HostLeads old (Kill child false) new IsLast = AllStay old new
-HostLeads old (Pause done) new IsLast = AllProceed old new
-HostLeads old (ReadFile path limit answer) new IsLast = IsHostRead limit answer × AllStay old new
-HostLeads old (ReadPart path from limit answer) new IsLast = IsHostRead limit answer × AllStay old new
-HostLeads old (Now answer) new IsLast = AllStay old new
+-- process is killed; a pause may see ends; a read keeps to its limit. The last argument says whether some child was late.
+-- Nothing is said of a moment, nor of an answer that says only whether the system did the call.
+abbrev pub HostLeads : (Child → Stand) → Call → (Child → Stand) → (Child → ExitStatus → Type 0) → Option Bool → Type 0
+HostLeads old (SetLimit child limit) new IsLast late = AllStay old new
+HostLeads old (MakeDir path answer) new IsLast late = AllStay old new
+HostLeads old (RemoveTree path done) new IsLast late = AllStay old new
+HostLeads old (OpenOutput child path answer) new IsLast late = (new child ≡ None) × OthersStay child old new
+HostLeads old (Spawn child program words env dir (Ok done)) new IsLast late = IsSome (new child) × OthersStay child old new
+HostLeads old (Spawn child program words env dir (Err fault)) new IsLast late = (new child ≡ None) × OthersStay child old new
+HostLeads old (Poll child answer) new IsLast late = HostPolls child old answer new IsLast late
+HostLeads old (Kill child true) new IsLast late = IsSome (old child) × AllStay old new
+HostLeads old (Kill child false) new IsLast late = AllStay old new
+HostLeads old (Pause done) new IsLast late = AllProceed old new
+HostLeads old (ReadFile path limit answer) new IsLast late = IsHostRead limit answer × AllStay old new
+HostLeads old (ReadPart path from limit answer) new IsLast late = IsHostRead limit answer × AllStay old new
+HostLeads old (Now answer) new IsLast late = AllStay old new
+
+-- The limit that is set for the next child, after an answer: the one that was set last.
+abbrev pub limit_after : Call → ℕ → ℕ
+limit_after (SetLimit child limit) old = limit
+limit_after (MakeDir path answer) old = old
+limit_after (RemoveTree path done) old = old
+limit_after (OpenOutput child path answer) old = old
+limit_after (Spawn child program words env dir answer) old = old
+limit_after (Poll child answer) old = old
+limit_after (Kill child done) old = old
+limit_after (Pause done) old = old
+limit_after (ReadFile path limit answer) old = old
+limit_after (ReadPart path from limit answer) old = old
+limit_after (Now answer) old = old

@@ -75,6 +75,19 @@ IsPlaceOf c (h ∷ held) (suc place) = (same_child h.child c ≡ false) × IsPla
 abbrev pub IsEarly : ℕ → ℕ → ℕ → Type 0
 IsEarly limit told millis = 1000 * limit + millis < 20 * (told + 1)
 
--- the microseconds of the next one after this many: each is a quarter longer, from 50 to 10,000 in all
-abbrev pub next_slice : ℕ → ℕ
-next_slice micros = min (50 + micros / 4) (10000 - micros)
+-- A child is heard late after this many milliseconds: more than two of its answers are missing, 100 of which stand for a
+-- second, and it isn't past its limit.
+abbrev pub IsLate : ℕ → ℕ → ℕ → Type 0
+IsLate limit told millis = (told < 100 * limit) × (10 * (told + 2) < millis)
+
+-- one more answer is of the first half of those for the limit
+abbrev pub IsFree : ℕ → ℕ → Type 0
+IsFree limit told = told + 1 ≤ 50 * limit
+
+-- the microseconds of a slice after this many: in the first pause after an end each is an eighth longer, from 50 on
+abbrev pub whole_slice : Bool → ℕ → ℕ
+whole_slice first micros = if first then 50 + micros / 8 else 500
+
+-- and of those, as many as are left of 10,000
+abbrev pub next_slice : Bool → ℕ → ℕ
+next_slice first micros = min (whole_slice first micros) (10000 - micros)

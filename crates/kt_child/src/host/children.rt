@@ -1,5 +1,5 @@
-ghost use Rattle.std.specs.Prelude.{◌≡◌, ◌<◌, length, filter, None, Some, IsSome, IfSome, OnSome, IfNone, IfOk, OnOk};
-ghost use Rattle.kt_child.specs.Common.{same_child, IsPlaceOf, is_other, AllProceed, AllStay, OthersStay, Proceeds, stand_in, stand_of};
+ghost use Rattle.std.specs.Prelude.{◌≡◌, ◌<◌, length, filter, None, Some, Ok, IsSome, IfSome, OnSome, IfNone, IfOk, OnOk};
+ghost use Rattle.kt_child.specs.Common.{same_child, IsPlaceOf, is_other, AllProceed, AllStay, OthersStay, Proceeds, RunsIn, stand_in, stand_of};
 
 use crate::host::command::Asked;
 use crate::host::host_child::HostChild;
@@ -10,6 +10,7 @@ use kt_removal::{Removals, rest};
 use std::fs::File;
 use std::process::{ExitStatus, OpenProcess, Processes};
 use std::rt::{Clock, Files};
+use std::time::Instant;
 
 fn same_name(a: Child, b: Child) -> bool
     ensures { result ≡ same_child a b }
@@ -75,28 +76,30 @@ pub(crate) fn place_for_errors<P: OpenProcess + Drop>(
 }
 
 /// Keeps a file as the output of a new child. Any other child of its name is forgotten.
-fn renew<P: OpenProcess + Drop>(
+fn renew<P: OpenProcess + Drop, C: Clock>(
     children: &mut Vec<HostChild<P>>,
     child: Child,
     limit: u64,
     out: File,
+    clock: &C,
 ) -> Result<(), OsFault>
     ensures idle { stand_in children.new.items child ≡ None }
     ensures others { OthersStay child (stand_in children.old.items) (stand_in children.new.items) }
 {
     forget(children, child);
-    match children.push(HostChild::new(child, limit, out)) {
+    match children.push(HostChild::new(child, limit, out, clock)) {
         Ok(()) => Ok(()),
         Err(refusal) => Err(OsFault::Memory(NoMemory::from(refusal))),
     }
 }
 
 /// Keeps an opened file: as the errors of the child whose output is open, else as the output of a new child.
-pub(crate) fn keep_output<P: OpenProcess + Drop>(
+pub(crate) fn keep_output<P: OpenProcess + Drop, C: Clock>(
     children: &mut Vec<HostChild<P>>,
     child: Child,
     limit: u64,
     file: File,
+    clock: &C,
 ) -> Result<(), OsFault>
     ensures idle { stand_in children.new.items child ≡ None }
     ensures others { OthersStay child (stand_in children.old.items) (stand_in children.new.items) }
@@ -107,7 +110,7 @@ pub(crate) fn keep_output<P: OpenProcess + Drop>(
             held.keep_errors(file);
             Ok(())
         }
-        None => renew(children, child, limit, file),
+        None => renew(children, child, limit, file, clock),
     }
 }
 
@@ -127,19 +130,39 @@ pub(crate) fn launch<P: OpenProcess + Drop, R: Processes<Started = P> + Clock + 
     }
 }
 
-/// How a child ended, if it has.
+/// Whether some child is heard late.
+pub(crate) fn is_any_late<P: OpenProcess + Drop, C: Clock>(
+    children: &[HostChild<P>],
+    clock: &C,
+) -> bool {
+    let Ok(now) = Instant::now(clock) else {
+        return false;
+    };
+    for held in children {
+        if held.is_late_at(now) {
+            return true;
+        }
+    }
+    false
+}
+
+/// How a child ended, if it has. While some child is heard late, another may be told as running without a look.
 pub(crate) fn poll<P: OpenProcess + Drop, C: Clock>(
     children: &mut Vec<HostChild<P>>,
     child: Child,
+    late: bool,
     clock: &C,
 ) -> Result<Option<ExitStatus>, OsFault>
     ensures proceeds { Proceeds (stand_in children.old.items child)
         (stand_in children.new.items child) }
-    ensures told { IfOk result (λ status. stand_in children.new.items child ≡ Some status) }
+    ensures told { IfOk result (λ status. IsSome status
+        → stand_in children.new.items child ≡ Some status) }
+    ensures running { result ≡ Ok None → RunsIn late (stand_in children.old.items child)
+        × AllStay (stand_in children.old.items) (stand_in children.new.items) }
     ensures others { OthersStay child (stand_in children.old.items) (stand_in children.new.items) }
 {
     match place_of(children, child) {
-        Some(place) => children[place].poll(clock),
+        Some(place) => children[place].poll(late, clock),
         None => Err(OsFault::Failed),
     }
 }
@@ -172,17 +195,19 @@ fn has_new_end<P: OpenProcess + Drop>(children: &mut Vec<HostChild<P>>) -> bool
     false
 }
 
-/// Rests until a child has ended, at the latest after a pause, and returns whether one has.
+/// Rests until a child has ended, at the latest after a pause, and returns whether one has. The first pause after an end
+/// looks more often at its beginning.
 pub(crate) fn await_end<P: OpenProcess + Drop, R: Files + Clock + AllocGlobal>(
     children: &mut Vec<HostChild<P>>,
     removals: &mut Option<Removals>,
     rt: &R,
+    first: bool,
 ) -> bool
     ensures { AllProceed (stand_in children.old.items) (stand_in children.new.items) }
 {
     let mut rested = 0;
     while rested < PAUSE {
-        let slice = slice_after(rested);
+        let slice = slice_after(first, rested);
         rest(removals, rt, slice);
         if has_new_end(children) {
             return true;

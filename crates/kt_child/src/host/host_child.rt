@@ -1,3 +1,5 @@
+ghost use Rattle.std.specs.Prelude.{◌≡◌, ◌↔◌, Ok, None, IsTrue};
+
 use crate::host::command::{Asked, spawn};
 use crate::host::or_fault;
 use crate::host::pace::Pace;
@@ -5,7 +7,7 @@ use crate::{Child, OsFault};
 use std::fs::File;
 use std::process::{ExitStatus, OpenProcess, Processes};
 use std::rt::Clock;
-use std::time::Duration;
+use std::time::{Duration, Instant};
 use std::{process, thread};
 
 /// The most slices of a millisecond that a poll sleeps: after this many, one more answer is due.
@@ -13,6 +15,16 @@ const SLICES: u32 = 20;
 
 /// The limit of a child that was killed, in seconds: the time of 500 answers.
 const KILLED_LIMIT: u64 = 5;
+
+/// Whether a child was found running.
+fn is_running(answer: &Result<Option<ExitStatus>, OsFault>) -> bool
+    ensures { IsTrue result ↔ (answer.now ≡ Ok None) }
+{
+    match answer {
+        Ok(None) => true,
+        Ok(Some(_)) | Err(_) => false,
+    }
+}
 
 /// A child of the host, from the opening of its first file until its end is reported.
 #[derive(Drop)]
@@ -22,17 +34,17 @@ pub(crate) struct HostChild<P: OpenProcess> {
     err: Option<File>,
     process: Option<process::Child<P>>,
     pace: Pace,
-    /// Whether a pause has seen its end.
+    /// Whether its end was seen, or it couldn't be waited for.
     seen: bool,
 }
 
 impl<P: OpenProcess + Drop> HostChild<P> {
     ghost use Rattle.std.specs.Prelude.{◌≡◌, ◌↔◌, ◌+◌, ◌-◌, ◌^◌, min, Some, None, Ok, true, false, IsTrue, IsSome, IsNone, IsOk, IsErr, IfOk, OnOk};
-    ghost use Rattle.kt_child.specs.Common.{Proceeds, stand_of};
+    ghost use Rattle.kt_child.specs.Common.{IsFree, Proceeds, RunsIn, stand_of};
     ghost use Rattle.std.specs.declared.process.status.ExitStatus.{ExitStatus as Status};
 
     /// A child that does not run, with its limit in seconds and the file of its output.
-    pub(crate) fn new(child: Child, limit: u64, out: File) -> HostChild<P>
+    pub(crate) fn new<C: Clock>(child: Child, limit: u64, out: File, clock: &C) -> HostChild<P>
         ensures name { result.child ≡ child }
         ensures out { result.out ≡ Some out }
         ensures err { result.err ≡ None }
@@ -45,7 +57,7 @@ impl<P: OpenProcess + Drop> HostChild<P> {
             out: Some(out),
             err: None,
             process: None,
-            pace: Pace::new(limit),
+            pace: Pace::begun(limit, clock),
             seen: false,
         }
     }
@@ -60,7 +72,7 @@ impl<P: OpenProcess + Drop> HostChild<P> {
 
     /// Keeps the file of its errors.
     pub(crate) fn keep_errors(&mut self, err: File)
-        ensures kept { self.new ≡ record self.old { err = Some err } }
+        ensures kept { self.new.err ≡ Some err }
         ensures name { self.new.child ≡ self.old.child }
         ensures stands { stand_of self.new ≡ stand_of self.old }
     {
@@ -81,7 +93,7 @@ impl<P: OpenProcess + Drop> HostChild<P> {
             return Err(OsFault::Failed);
         };
         self.process = Some(spawn(rt, asked, out, err)?);
-        self.pace.begin(rt);
+        self.pace = Pace::begun(self.pace.limit, rt);
         Ok(())
     }
 
@@ -89,18 +101,25 @@ impl<P: OpenProcess + Drop> HostChild<P> {
     fn status(&mut self) -> Result<Option<ExitStatus>, OsFault>
         ensures proceeds { Proceeds (stand_of self.old) (stand_of self.new) }
         ensures told { IfOk result (λ status. stand_of self.new ≡ Some status) }
-        ensures kept { self.new ≡ record self.old { process = self.new.process } }
+        ensures name { self.new.child ≡ self.old.child }
+        ensures pace { self.new.pace ≡ self.old.pace }
+        ensures seen { IfOk result (λ status. IsSome status → self.new.seen ≡ true) }
     {
-        match &mut self.process {
+        let answer = match &mut self.process {
             Some(process) => or_fault(process.try_wait()),
-            None => Err(OsFault::Failed),
+            None => return Err(OsFault::Failed),
+        };
+        if !is_running(&answer) {
+            self.seen = true;
         }
+        answer
     }
 
     /// Sleeps while the answer `running` would come too early.
     fn keep_pace<C: Clock>(&mut self, clock: &C) -> Result<(), OsFault>
         ensures proceeds { Proceeds (stand_of self.old) (stand_of self.new) }
-        ensures kept { self.new ≡ record self.old { process = self.new.process } }
+        ensures name { self.new.child ≡ self.old.child }
+        ensures pace { self.new.pace ≡ self.old.pace }
     {
         for _ in 0..SLICES {
             if !self.pace.is_early(clock) {
@@ -114,14 +133,39 @@ impl<P: OpenProcess + Drop> HostChild<P> {
         Ok(())
     }
 
-    /// How it ended, if it has, once the answer `running` is due. That answer is counted.
-    pub(crate) fn poll<C: Clock>(&mut self, clock: &C) -> Result<Option<ExitStatus>, OsFault>
+    /// Whether it is heard late, at this time.
+    pub(crate) fn is_late_at(&self, now: Instant) -> bool {
+        !self.seen && self.process.is_some() && self.pace.is_late_at(now)
+    }
+
+    /// Whether it is told as running without a look: while some child is heard late, in the first half of its answers.
+    fn is_unheard(&self, late: bool) -> bool
+        ensures runs { IsTrue result → IsSome (stand_of self.now) }
+        ensures late { IsTrue result → IsTrue late }
+        ensures free { IsTrue result → IsFree self.now.pace.limit self.now.pace.told }
+    {
+        late && !self.seen && self.process.is_some() && self.pace.is_free()
+    }
+
+    /// How it ended, if it has, once the answer `running` is due. That answer is counted. While some child is heard late, it may
+    /// be given without a look.
+    pub(crate) fn poll<C: Clock>(
+        &mut self,
+        late: bool,
+        clock: &C,
+    ) -> Result<Option<ExitStatus>, OsFault>
         ensures name { self.new.child ≡ self.old.child }
         ensures proceeds { Proceeds (stand_of self.old) (stand_of self.new) }
-        ensures told { IfOk result (λ status. stand_of self.new ≡ Some status) }
+        ensures told { IfOk result (λ status. IsSome status → stand_of self.new ≡ Some status) }
+        ensures running { result ≡ Ok None
+            → RunsIn late (stand_of self.old) × (stand_of self.new ≡ stand_of self.old) }
         ensures counted { result ≡ Ok None → self.new.pace.told
             ≡ min (self.old.pace.told + 1) (2 ^ 64 - 1) }
     {
+        if self.is_unheard(late) {
+            self.pace.tell();
+            return Ok(None);
+        }
         self.keep_pace(clock)?;
         match self.status()? {
             Some(status) => Ok(Some(status)),
@@ -145,8 +189,7 @@ impl<P: OpenProcess + Drop> HostChild<P> {
             Some(process) => or_fault(process.kill())?,
             None => return Err(OsFault::Failed),
         }
-        self.pace = Pace::new(KILLED_LIMIT);
-        self.pace.begin(clock);
+        self.pace = Pace::begun(KILLED_LIMIT, clock);
         Ok(())
     }
 
@@ -163,10 +206,7 @@ impl<P: OpenProcess + Drop> HostChild<P> {
             return false;
         }
         match self.status() {
-            Ok(Some(_)) => {
-                self.seen = true;
-                true
-            }
+            Ok(Some(_)) => true,
             Ok(None) | Err(_) => false,
         }
     }

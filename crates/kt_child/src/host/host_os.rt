@@ -34,6 +34,8 @@ pub struct HostOs<R: Processes> {
     last: Option<HostChild<R::Started>>,
     /// The pauses since a child was last seen to end.
     quiet: u32,
+    /// Whether some child is heard late in this turn, once a poll has looked.
+    late: Option<bool>,
 }
 
 /// Whether a wait status reports a core dump.
@@ -76,16 +78,40 @@ impl<R: Processes + AllocGlobal + Drop> HostOs<R> {
             children,
             last: None,
             quiet: 0,
+            late: None,
+        }
+    }
+}
+
+impl<R: Processes + Clock + AllocGlobal + Drop> HostOs<R> {
+    ghost use Rattle.std.specs.Prelude.{◌≡◌, Some};
+
+    /// Whether some child is heard late, as the first poll of the turn saw it.
+    fn is_late(&mut self) -> bool
+        ensures children { self.new.children ≡ self.old.children }
+        ensures limit { self.new.limit ≡ self.old.limit }
+        ensures last { self.new.last ≡ self.old.last }
+        ensures late { self.new.late ≡ Some result }
+    {
+        match self.late {
+            Some(late) => late,
+            None => {
+                let late = children::is_any_late(&self.children, &self.rt);
+                self.late = Some(late);
+                late
+            }
         }
     }
 }
 
 impl<R: Processes + Files<File = File> + Clock + AllocGlobal + Clone + Drop> Os for HostOs<R> {
     // Promised: the state of the children that are kept here, and that answers about them and a file are the library's.
-    ghost use Rattle.kt_child.specs.Common.{IsLastEnd, stand_in, HostLeads};
+    ghost use Rattle.std.specs.Prelude.{◌≡◌};
+    ghost use Rattle.kt_child.specs.Common.{IsLastEnd, stand_in, HostLeads, limit_after};
 
     ghost leads = { λ old call new. HostLeads (stand_in old.children.items) call
-        (stand_in new.children.items) (IsLastEnd new.last) };
+        (stand_in new.children.items) (IsLastEnd new.last) new.late
+        × (new.limit ≡ limit_after call old.limit) };
 
     fn set_limit(&mut self, _child: Child, limit: u64) {
         self.limit = limit;
@@ -114,7 +140,9 @@ impl<R: Processes + Files<File = File> + Clock + AllocGlobal + Clone + Drop> Os 
     fn open_output(&mut self, child: Child, path: &Text) -> Result<(), OsFault> {
         let second = children::place_for_errors(&self.children, child).is_some();
         match create_output(&self.rt, path.as_str(), second, self.narrow) {
-            Ok(file) => children::keep_output(&mut self.children, child, self.limit, file),
+            Ok(file) => {
+                children::keep_output(&mut self.children, child, self.limit, file, &self.rt)
+            },
             Err(error) => {
                 children::forget(&mut self.children, child);
                 Err(fault_of(&error))
@@ -146,9 +174,11 @@ impl<R: Processes + Files<File = File> + Clock + AllocGlobal + Clone + Drop> Os 
     }
 
     fn poll(&mut self, child: Child) -> Result<Polled, OsFault> {
-        match children::poll(&mut self.children, child, &self.rt)? {
+        let late = self.is_late();
+        match children::poll(&mut self.children, child, late, &self.rt)? {
             None => Ok(Polled::Running),
             Some(status) => {
+                self.late = None;
                 self.last = children::take_out(&mut self.children, child);
                 self.quiet = 0;
                 polled(status)
@@ -161,12 +191,21 @@ impl<R: Processes + Files<File = File> + Clock + AllocGlobal + Clone + Drop> Os 
     }
 
     fn pause(&mut self) -> Result<(), OsFault> {
+        // The late ones are heard again at once.
+        if self.late.take() == Some(true) {
+            return Ok(());
+        }
         if is_quiet(self.quiet) {
             rest(&mut self.removals, &self.rt, PAUSE);
             return Ok(());
         }
         let quiet = self.quiet + 1;
-        let ended = children::await_end(&mut self.children, &mut self.removals, &self.rt);
+        let ended = children::await_end(
+            &mut self.children,
+            &mut self.removals,
+            &self.rt,
+            quiet == 1,
+        );
         self.quiet = if ended { 0 } else { quiet };
         Ok(())
     }

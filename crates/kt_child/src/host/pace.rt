@@ -1,7 +1,7 @@
-ghost use Rattle.std.specs.Prelude.{◌≡◌, ◌↔◌, ◌+◌, ◌-◌, ◌/◌, ◌^◌, min, None, IsSomeAnd, IsTrue, ◌≤◌};
+ghost use Rattle.std.specs.Prelude.{◌≡◌, ◌↔◌, ◌+◌, ◌-◌, ◌/◌, ◌^◌, ◌<◌, ◌≤◌, min, IsSomeAnd, IsTrue};
 ghost use Rattle.std.specs.Time.{instant_nanos};
 ghost use Rattle.std.specs.declared.time.Instant.{Instant as Moment};
-ghost use Rattle.kt_child.specs.Inner.Host.{IsEarly, next_slice};
+ghost use Rattle.kt_child.specs.Inner.Host.{IsEarly, IsFree, IsLate, next_slice, whole_slice};
 
 use std::rt::Clock;
 use std::time::Instant;
@@ -10,18 +10,27 @@ use std::time::Instant;
 pub(crate) const PAUSE: u64 = 10_000;
 
 /// After this many pauses without an end, a pause no longer looks for one.
-const QUIET_PAUSES: u32 = 20;
+const QUIET_PAUSES: u32 = 100;
+
+/// The microseconds of a slice if time for it is left, after this many: they grow in the first pause after an end.
+fn whole_slice(first: bool, micros: u64) -> u64
+    ensures value { result ≡ whole_slice first micros }
+    ensures moves { 0 < result }
+{
+    if first { 50 + micros / 8 } else { 500 }
+}
 
 /// The microseconds of the next slice of a pause, after this many.
-pub(crate) fn slice_after(micros: u64) -> u64
-    ensures { result ≡ next_slice micros }
+pub(crate) fn slice_after(first: bool, micros: u64) -> u64
+    ensures value { result ≡ next_slice first micros }
+    ensures moves { micros < 10000 → 0 < result }
 {
-    (50 + micros / 4).min(PAUSE.saturating_sub(micros))
+    whole_slice(first, micros).min(PAUSE.saturating_sub(micros))
 }
 
 /// Whether a pause no longer looks for an end, after this many without one.
 pub(crate) fn is_quiet(pauses: u32) -> bool
-    ensures { IsTrue result ↔ (20 ≤ pauses) }
+    ensures { IsTrue result ↔ (100 ≤ pauses) }
 {
     pauses >= QUIET_PAUSES
 }
@@ -35,7 +44,7 @@ pub(crate) struct Pace {
     /// None if the clock failed: then no answer is early.
     started: Option<Instant>,
     /// In seconds; 100 answers stand for each.
-    limit: u64,
+    pub(crate) limit: u64,
     told: u64,
 }
 
@@ -48,27 +57,57 @@ fn is_too_early(limit: u64, told: u64, millis: u128) -> bool
     due > free && due - free > millis
 }
 
+/// The answers by which a child may lag behind its time before the others are told without a look.
+const SLACK: u128 = 2;
+
+/// Whether a child is heard late that was reported as running so often in these milliseconds, and may be again.
+fn is_late(limit: u64, told: u64, millis: u128) -> bool
+    ensures { IsTrue result ↔ IsLate limit told millis }
+{
+    let due = (u128::from(told) + SLACK) * 10;
+    u128::from(told) < u128::from(limit) * 100 && due < millis
+}
+
+/// Whether one more answer `running` is of the first half.
+fn is_free(limit: u64, told: u64) -> bool
+    ensures { IsTrue result ↔ IsFree limit told }
+{
+    u128::from(told) + 1 <= u128::from(limit) * 50
+}
+
 impl Pace {
-    /// The pace of a child that does not run.
-    pub(crate) fn new(limit: u64) -> Pace
+    /// The pace of a child that begins to run.
+    pub(crate) fn begun<C: Clock>(limit: u64, clock: &C) -> Pace
         ensures limit { result.limit ≡ limit }
         ensures told { result.told ≡ 0 }
-        ensures started { result.started ≡ None }
     {
         Pace {
-            started: None,
+            started: Instant::now(clock).ok(),
             limit,
             told: 0,
         }
     }
 
-    /// The child begins to run.
-    pub(crate) fn begin<C: Clock>(&mut self, clock: &C)
-        ensures limit { self.new.limit ≡ self.old.limit }
-        ensures told { self.new.told ≡ 0 }
+    /// Whether it is heard late, at this time.
+    pub(crate) fn is_late_at(&self, now: Instant) -> bool
+        ensures { IsTrue result ↔ IsSomeAnd self.now.started (λ start.
+            IsLate self.now.limit self.now.told
+            ((instant_nanos now - instant_nanos start) / 1000000)) }
     {
-        self.started = Instant::now(clock).ok();
-        self.told = 0;
+        match self.started {
+            Some(started) => {
+                let millis = now.duration_since(started).as_millis();
+                is_late(self.limit, self.told, millis)
+            }
+            None => false,
+        }
+    }
+
+    /// Whether one more answer `running` is of the first half.
+    pub(crate) fn is_free(&self) -> bool
+        ensures { IsTrue result ↔ IsFree self.now.limit self.now.told }
+    {
+        is_free(self.limit, self.told)
     }
 
     /// Whether one more answer `running` would come too early at this time.

@@ -6,5 +6,6 @@ abbrev pub invariant-loop : goal.invariant-loop
 invariant-loop g l =
     record {
       proceeds : Proceeds (stand_of l.initial.self) (stand_of l.self);
-      kept : l.self ≡ record l.initial.self { process = l.self.process };
+      name : l.self.child ≡ l.initial.self.child;
+      pace : l.self.pace ≡ l.initial.self.pace;
     }
