@@ -37,6 +37,8 @@ function complain(what,   k) {
 function is_reason(name, reason) {
   if (name ~ /:__test_cases_list__$/) return reason == "Test case list could not be read" || reason == starting
   if (reason == starting) return 1
+  # The scripted system needs memory to note that it was asked for an end.
+  if (reason == "Test case could not be waited for") return 1
   if (reason == "Test case cleanup could not be started") return has_cleanup
   if (reason == "Results file could not be read") return has_atf
   return has_tap && reason == "TAP test program yielded invalid data: output could not be read"
@@ -49,12 +51,14 @@ function take(line,   at) {
     case_name = substr(line, 1, at - 1)
     verdict = substr(line, at + 6)
     sub(/  \[[0-9]+\.[0-9][0-9][0-9]s\]$/, "", verdict)
-  } else if (line ~ /^[0-9]+ (passed|skipped|expected_failure|failed|broken)/) {
+  } else if (line ~ /^[0-9]+ ([^ ]+:[^ ]+ )?(passed|skipped|expected_failure|failed|broken)/) {
     case_name = line
     sub(/ .*/, "", case_name)
     verdict = substr(line, length(case_name) + 2)
-    # The marks of a case come after its verdict.
+    # The marks of a case come after its verdict, or its moment and its time.
     sub(/ [01+][01+][01+][01+][01+][01+]$/, "", verdict)
+    sub(/, started [0-9]+, took [0-9]+$/, "", verdict)
+    if (case_name ~ /^[0-9]+$/ && verdict ~ /^[^ ]+:[^ ]+ /) sub(/^[^ ]+ /, "", verdict)
   } else if (match(line, /^at [0-9]+: [0-9]+ /)) {
     case_name = "at"
     verdict = substr(line, RLENGTH + 1)
@@ -67,7 +71,8 @@ function take(line,   at) {
 # Whether a line says that memory ran out.
 function is_refusal(line) {
   return line == "out of memory" || line == "kyua: E: out of memory" || line == "put: out of memory" || line == "NoMemory" ||
-    line == "NoMemory(NoMemory { refusal: Refusal })" || line == "Refused(Memory)"
+    line == "NoMemory(NoMemory { refusal: Refusal })" || line == "Refused(Memory)" || line == "no driver" ||
+    subject == "schedules" && line ~ /: out of memory$/ || silent && line != "" && index("kyua: E: out of memory", line) == 1
 }
 
 # Whether a line has the words of another, in their order, but for those that are left out.
@@ -82,6 +87,11 @@ function is_part(line, of,   words, whole, n, m, count, all) {
   return 1
 }
 
+# Whether a line has totals, and the reason of a case that memory may have.
+function is_total(line) {
+  return line ~ /^[0-9]+ of [0-9]+ passed, broken: / && is_reason("", substr(line, index(line, "broken: ") + 8))
+}
+
 # Whether the first line that differs may stand there; `after` is the first one that follows from it.
 function may_begin(   n, name, due_verdict) {
   after = 2
@@ -94,7 +104,7 @@ function may_begin(   n, name, due_verdict) {
         # What a case wrote may be left out before it.
         if (!has_outputs) break
       }
-      return subject == "systems"
+      return subject == "systems" || name in names
     }
     return 0
   }
@@ -103,14 +113,21 @@ function may_begin(   n, name, due_verdict) {
     sub(/__test_cases_list__$/, "", name)
     return index(due[1], name) == 1
   }
-  if (subject == "suites") return got[1] ~ /:0: file could not be read$/
+  # The tree of kt_rows itself needs memory to find what it has.
+  if (subject == "suites") return got[1] ~ /:(0: file could not be read|[0-9]+: (program not found|includes too deep))$/
+  # Of another run only the number is told.
+  if (subject == "plans") return got[1] ~ /^another run, the number [0-9]+, of [a-z]+$/
+  # A store whose calls are refused by their number is asked less often.
+  if (has_shortage && (got[1] == "" || got[1] ~ /^run [0-9]+: |^run [0-9]+ at /)) return 1
   # The calls of a platform or of a system: fewer, and then the refusal.
   if (subject == "openings" && got[1] == "nothing") return is_refusal(got[2]) || silent
   if (subject == "schedules") return (got[1] == "" || is_part(got[1], due[1])) && is_refusal(got[2]) && (after = 3)
   if (subject == "systems") {
-    if (got[1] ~ /^failed; [0-9]+ bytes given, [0-9]+ reads/) return 1
+    if (got[1] ~ /^failed; [0-9]+ bytes given, [0-9]+ reads/ || got[1] ~ /^[A-Za-z]+(\([^)]*\))?, Unreadable$/) return 1
+    if (got[1] ~ /^[0-9]+ calls$/) return due[1] ~ /^at [0-9]+: /
+    if (is_total(got[1])) return 1
     for (n = 2; n <= got_count; n++) {
-      if (is_refusal(got[n])) return 1
+      if (is_refusal(got[n]) || is_total(got[n]) || got[n] ~ /^[A-Za-z]+(\([^)]*\))?, Unreadable$/) return 1
       if (take(got[n]) && verdict ~ /^broken: / && is_reason(case_name, substr(verdict, 9))) return 1
     }
     # A cleanup that was not started says nothing of a case that is broken without it.
@@ -128,7 +145,7 @@ function may_begin(   n, name, due_verdict) {
 function may_follow(line,   n) {
   if (line in dues || line in given || line == "") return 1
   if (is_refusal(line)) return 0
-  if (take(line)) return verdict in verdicts || verdict ~ /^broken: / && is_reason(case_name, substr(verdict, 9))
+  if (take(line)) return verdict in verdicts || subject == "systems" && verdict ~ /^broken: (Test case timed out|(Work directory|Output files) could not be made|Test program could not be started)$/ || verdict ~ /^broken: / && is_reason(case_name, substr(verdict, 9))
   if (line ~ /^[0-9]+\/[0-9]+ passed \([0-9]+ failed\)$/) {
     split(line, numbers, /[^0-9]+/)
     return numbers[1] + numbers[3] == numbers[2]
@@ -137,10 +154,10 @@ function may_follow(line,   n) {
   if (line ~ /^run [0-9]+( at [0-9]+)?: [0-9]+ of [0-9]+, (un)?finished$/) return 1
   if (line ~ /^kyua: E: no run(s| [0-9]+)$/ || line ~ /^kyua: W: No test cases matched by the filter '.*'\.$/) return 1
   if (line ~ /^(===> |Run [0-9]+, started |Test cases: [0-9]+ total, |Total time: [0-9]+\.[0-9]+s$|<\/?testcase|<testsuite |<error |<\/?system-)/) return 1
-  if (line == "</testsuite>") return 1
+  if (line == "</testsuite>" || has_shortage && line == "Store") return 1
   # What was refused is not set: a later line has what was before, or the default.
-  if (subject == "properties") return line ~ /^(-|[0-9]+|met|unknown)$/
-  if (subject == "configurations") return line ~ /^(none|[0-9]+|[^ =]+=[^ ]*( [^ =]+=[^ ]*)*)$/
+  if (subject == "properties") return 1
+  if (subject == "configurations") return line ~ /^(none|no suite|unknown|[0-9]+|[^ =]+=[^ ]*( [^ =]+=[^ ]*)*)$/
   if (subject == "suites") return is_part(line, due[due_count])
   if (subject == "stores") return line ~ /^(NoRun|Incomplete|RepeatedPosition|BadPosition|done|attached|run [0-9]+|[0-9]+ (entries|runs))$/
   if (subject == "systems") return line ~ /^(failed|[0-9]+ spawned|[0-9]+ calls|[0-9]+ of [0-9]+ passed|at [0-9]+: [0-9]+ made, [0-9]+ removed|out=|make|\(?poll|[0-9]+ [a-z])/
@@ -173,7 +190,7 @@ function judge(   n, text) {
   }
   for (n = after; n <= got_count; n++) {
     if (is_refusal(got[n])) {
-      if (refused) break
+      if (refused && !has_shortage) break
       refused = 1
       continue
     }
@@ -195,6 +212,11 @@ BEGIN {
     if (line ~ /tap_test_program|^plan .*[tT]|Taps/) has_tap = 1
     if (line ~ /^holds [^ ]*(out|err) /) has_outputs = 1
     if (line ~ /^show .*outputs/) shows_outputs = 1
+    if (line ~ /^refused(-memory)? /) has_shortage = 1
+    if (line ~ /^(put [0-9]+ [0-9]+|entry) /) {
+      sub(/^(put [0-9]+ [0-9]+|entry) /, "", line)
+      givens[line] = 1
+    }
     # No text is seen where the writer fails.
     if (line ~ /^(write |flush fails|error |writes [0-9])/) silent = 1
     if (line ~ /^->/) {
@@ -204,7 +226,10 @@ BEGIN {
       gsub(/[}]/, "", line)
       for (n = split(line, parts, /\\n/); n > 0; n--) {
         given[parts[n]] = 1
-        if (take(parts[n])) givens[verdict] = 1
+        if (take(parts[n])) {
+          givens[verdict] = 1
+          names[case_name] = 1
+        }
       }
     }
   }

@@ -5,8 +5,8 @@
 #   processor seconds.`: ten times what it takes. A body whose time grows with the square of what is large in the row needs more;
 # - each row with allocations refused, one in each copy of the process that goes on from there (tests/refuse.c). Its answer must be the
 #   one that is due, or differ from it in what memory_answers.awk allows there and in nothing else, or there is none, since memory ran
-#   out before. As many allocations of each row are tried as a twentieth of a processor second allows, others whenever the sources are;
-#   with ROWS_PLACES=all each, which takes a night.
+#   out before. As many allocations of each row are tried as a thirtieth of a processor second allows, others whenever the sources are;
+#   with ROWS_PLACES=all each, or as many as half an hour allows, which takes a night.
 #
 # Of a row that lets each write of a command fail in turn, the sound run alone is tried so.
 #
@@ -95,7 +95,7 @@ is_due() {
 without_memory() {
   local step=1 from
   # A copy goes half the way of the whole on the average, and costs half a millisecond.
-  [ "$places" = all ] || step=$((count * (spent + 1) / 100 + 1))
+  if [ "$places" = all ]; then step=$((count * (spent + 1) / 3600000 + 1)); else step=$((count * (spent + 1) / 70 + 1)); fi
   from=$(((first + ${PWD##*.}) % step + 1))
   echo "$((count < from ? 0 : (count - from) / step + 1)) $count $spent" > tried
   [ "$from" -le "$count" ] || return 0
