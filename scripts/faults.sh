@@ -269,19 +269,22 @@ kt_child/src/host/reads.rt: Err(_) => return Err(ReadFault::Failed),
 kt_child/src/host/reads.rt: Err(_fault) => return Err(OsFault::Failed),
 kt_child/src/host/reads.rt: ErrorKind::NotFound => Ok(FileRead::Missing),
 kt_child/src/host/reads.rt: _ => Err(OsFault::Failed),
-kt_cli/src/host/host_world.rt: ErrorKind::NotFound => ReadFault::Missing,
-kt_cli/src/host/host_world.rt: _ => ReadFault::Failed,
+kt_cli/src/host/host_machine.rt: ErrorKind::NotFound => ReadFault::Missing,
+kt_cli/src/host/host_machine.rt: _ => ReadFault::Failed,
 kt_removal/src/entries.rt: Err(io::Error::from_raw_os_error(os::errno()))
-# What is no regular file is not read, a path that is too long names none, and no output is made beside a link.
+# What is no regular file is not read, nor what was put in its place, a path that is too long names none, no output is made beside a link,
+# and a link is no directory.
 kt_child/src/host/reads.rt: return Err(io::Error::from(ErrorKind::InvalidInput));
+kt_child/src/host/reads.rt: Err(io::Error::from(ErrorKind::InvalidInput))
 kt_child/src/host/outputs.rt: return Err(io::Error::from(ErrorKind::InvalidInput));
-kt_cli/src/host/host_world.rt: return Err(ReadFault::Failed);
+kt_removal/src/identity.rt: return Err(io::Error::from(ErrorKind::NotADirectory));
+kt_cli/src/host/host_machine.rt: return Err(ReadFault::Failed);
 kt_cli/src/host/host_world.rt: None => Err(ReadFault::Failed),
 # A child that was not made, or not started.
 kt_child/src/host/children.rt: None => Err(OsFault::Failed),
 kt_child/src/host/children.rt: None => Err(OsFault::Failed),
 kt_child/src/host/children.rt: None => Err(OsFault::Failed),
-kt_child/src/host/host_child.rt: None => Err(OsFault::Failed),
+kt_child/src/host/host_child.rt: None => return Err(OsFault::Failed),
 kt_child/src/host/host_child.rt: None => return Err(OsFault::Failed),
 kt_child/src/host/host_child.rt: return Err(OsFault::Failed);
 # A status that is none, a directory that is left, and a clock before 1970 or past what can be told.
@@ -300,9 +303,9 @@ thread::sleep(clock, Duration::from_millis(1));
 if self.pace.is_early(clock) {
 return Err(OsFault::Failed);
 BODY
-body kt_cli/src/host/host_world.rt 'Some(place) => self.read_at(place),' <<'BODY'
+body kt_cli/src/host/host_world.rt 'Some(place) => self.machine.front(place),' <<'BODY'
 Some(place) if place.len() > 1_024 => Err(ReadFault::Missing),
-Some(place) => self.read_at(place),
+Some(place) => self.machine.front(place),
 BODY
 
 rule 'ends a command that failed' lines 'status: FAILED' <<'PLACES'
@@ -317,8 +320,8 @@ BODY
 
 rule 'says that a write failed' lines '(^|[^a-z_])failed = |(^|[^a-z_])sent ([-+*|&]?=|[<>!])|[|]{2} sent|sent [|]{2}' <<'PLACES'
 # What `send` says of the writer, and its flush.
-kt_cli/src/output/line_output.rt: self.failed = failed;
-kt_cli/src/output/line_output.rt: self.failed = true;
+kt_cli/src/output/line_output.rt: self.failed = hand_on(&mut self.held, &mut self.out);
+kt_cli/src/output/line_output.rt: self.failed = hand_on(&mut self.held, &mut self.out);
 # How much a writer took, in `send` itself.
 kt_base/src/emission.rt: let mut sent = 0;
 kt_base/src/emission.rt: while sent < bytes.len() {
@@ -333,13 +336,16 @@ kt_report/src/summary.rt: let failed = count_digits(Kind::Failed, entries);
 kt_sched/src/sched.rt: failed = s.failed;
 kt_sched/src/sched.rt: self.failed = true;
 PLACES
-body kt_cli/src/output/line_output.rt 'self.failed = failed;' <<'BODY'
-self.failed = failed || sent == 4_096;
+body kt_cli/src/output/line_output.rt 'self.held.append(bytes);' <<'BODY'
+self.held.append(bytes);
+self.failed = self.held.len() == 4_096;
 BODY
 
 rule 'writes to a writer of its own' own_writers <<'PLACES'
 # The writers that these hold, or were lent for the errors.
-kt_cli/src/output/line_output.rt: send(self.held.as_slice(), &mut self.out)
+kt_cli/src/output/line_output.rt: flush_own(&mut self.out)
+kt_cli/src/output/line_output.rt: hand_on(&mut self.held, &mut self.out)
+kt_cli/src/output/line_output.rt: hand_on(&mut self.held, &mut self.out)
 kt_cli/src/host/performing.rt: print_command_fault(fault, errors)
 kt_cli/src/host/performing.rt: reject(&fault, out, errors)
 kt_cli/src/commands/recorder.rt: line(&entry, self.out)

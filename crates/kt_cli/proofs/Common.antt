@@ -52,8 +52,8 @@ unfoldable pub use lib.Utf8.{encode}
 pub use Rattle.kt_cli.specs.CaseLines.{case_line}
 pub use Rattle.kt_cli.specs.Debugging.{all_debug_bytes, debug_bytes, debug_exit}
 pub use Rattle.kt_cli.specs.FaultLines.{memory_line, refusal_line}
-pub use Rattle.kt_cli.specs.HostAnswers.{IsHostAnswer, RunnerStarts, RunnerWaits, runner_world, running_kept}
-pub use Rattle.kt_cli.specs.Hosts.{NoRoot, no_world, none_made, not_absolute}
+pub use Rattle.kt_cli.specs.HostAnswers.{HostStarts, HostWaits, IsHostAnswer, IsLook, host_world, look_kept, running_kept}
+pub use Rattle.kt_cli.specs.Hosts.{NoDriver, NoRoot, no_world, none_made, not_absolute}
 pub use Rattle.kt_cli.specs.Inner.Debugging.{DebugEnds, Debugged, Prints}
 pub use Rattle.kt_cli.specs.Inner.FaultLines.{run_line}
 pub use Rattle.kt_cli.specs.Inner.MemoryRuns.{FindsPlace, ServesInMemory, closing_refusal, entry_refusal, place_among}
@@ -63,10 +63,11 @@ pub use Rattle.kt_cli.specs.Inner.Recordings.{RecordEnds, RecordedAll, RecordedN
 pub use Rattle.kt_cli.specs.Inner.Reports.{CutsJunit, DidReport, JunitOrUnread, WritesCase, WritesFirst, WritesJunit}
 pub use Rattle.kt_cli.specs.Inner.Stores.{put_all}
 pub use Rattle.kt_cli.specs.Inner.Testing.{RanPlan}
+pub use Rattle.kt_cli.specs.Machines.{InDirectory, MachineAnswer, Searched, directories, further, here, nowhere}
 pub use Rattle.kt_cli.specs.Meaning.{AsksFirst, Course, CutShort, Did, IsAskedOnly, IsPrepared, IsUnasked, Means, Seen, cut, debugged, idle, junit_cut, listed, listing, listing_exit, no_memory, preparing, report_cut, reported, reported_junit, selecting, stopped, taken, tested}
 pub use Rattle.kt_cli.specs.MemoryRuns.{LeavesInMemory, memory_runs}
 pub use Rattle.kt_cli.specs.Pages.{Printed}
-pub use Rattle.kt_cli.specs.Performing.{DoneBy, DoneIn, DoneOver, Program, alone, closed, done, no_driver, no_place, not_opened, program}
+pub use Rattle.kt_cli.specs.Performing.{DoneBy, DoneIn, DoneOver, Program, State, alone, closed, done, no_driver, no_place, not_opened, program, state}
 pub use Rattle.kt_cli.specs.Recordings.{AllRecorded, IsStopped}
 pub use Rattle.kt_cli.specs.Reports.{JunitCut, Reported, ReportedJunit, Unread, asked_outputs, chosen, filled, no_outputs, no_run, run_of, told}
 pub use Rattle.kt_cli.specs.Scenes.{Scene, World, launcher_of, scene, world_of}
@@ -76,5 +77,5 @@ pub use Rattle.kt_cli.specs.Testing.{PlannedRun, TestCut, Tested, begins, exit_o
 pub use Rattle.kt_cli.specs.Totals.{bad_count, good_count, lines}
 pub use Rattle.kt_cli.specs.Warnings.{warning_at, warnings}
 pub use Rattle.kt_cli.specs.declared.commands.report_stop.JunitStop.TheVariants.{Refused, Report}
-pub use Rattle.kt_cli.specs.declared.host.surroundings.Runner.{Runner}
+pub use Rattle.kt_cli.specs.declared.host.host_world.HostWorld.{HostWorld}
 pub use Rattle.kt_cli.specs.declared.output.exit.Exit.{Exit}

@@ -3,7 +3,6 @@ pub mod ChildrenTold
 pub mod ChosenRuns
 pub mod DebugRuns
 pub mod Gainings
-pub mod Hosting
 pub mod JoinedPaths
 pub mod JunitSteps
 pub mod LineBytes
@@ -12,6 +11,7 @@ pub mod NewRuns
 pub mod Numbered
 pub mod Performances
 pub mod PlanRuns
+pub mod ProgramSearch
 pub mod Refusing
 pub mod Saying
 pub mod Sequencing

@@ -21,16 +21,14 @@ pub use Rattle.kt_suite.specs.Selecting.{most_items}
 pub use Rattle.kt_words.specs.Commands.{cases_of}
 pub use Rattle.kt_words.specs.declared.command.Command.{Command}
 pub use Rattle.kt_cli.specs.CaseLines.{case_line}
-pub use Rattle.kt_cli.specs.ChildrenTold.{CoursesAreTold}
 pub use Rattle.kt_cli.specs.Closings.{Concluded}
 pub use Rattle.kt_cli.specs.Debugging.{debug_bytes}
 pub use Rattle.kt_cli.specs.FaultLines.{memory_line, refusal_line, store_line}
-pub use Rattle.kt_cli.specs.HostAnswers.{IsHostAnswer, RunnerStarts, RunnerWaits, running_kept}
-pub use Rattle.kt_cli.specs.HostFiles.{read_limit}
-pub use Rattle.kt_cli.specs.Hosts.{IsMade, NoRoot, OnDriver}
+pub use Rattle.kt_cli.specs.HostAnswers.{HostStarts, HostWaits, IsHostAnswer, look_kept, running_kept}
+pub use Rattle.kt_cli.specs.Hosts.{IsMade, NoDriver, NoRoot, OnDriver}
 pub use Rattle.kt_cli.specs.Inner.Debugging.{Debugged, Prints}
 pub use Rattle.kt_cli.specs.Inner.FaultLines.{run_line}
-pub use Rattle.kt_cli.specs.Inner.HostFiles.{longest_path, may_execute}
+pub use Rattle.kt_cli.specs.Inner.HostFiles.{may_execute}
 pub use Rattle.kt_cli.specs.Inner.Meaning.{ToldOnly}
 pub use Rattle.kt_cli.specs.Inner.MemoryRuns.{FindsPlace, ServesInMemory, closing_refusal, entry_refusal, place_among}
 pub use Rattle.kt_cli.specs.Inner.Pages.{Says}
@@ -39,10 +37,11 @@ pub use Rattle.kt_cli.specs.Inner.Recordings.{Records}
 pub use Rattle.kt_cli.specs.Inner.Reports.{DidReport, JunitOrUnread, WritesCase, WritesJunit}
 pub use Rattle.kt_cli.specs.Inner.Shown.{IsMissing, ReadsRun, not_shown_line}
 pub use Rattle.kt_cli.specs.Inner.Testing.{RanPlan}
-pub use Rattle.kt_cli.specs.LineOutputs.{given_bytes, has_failed, line_state, unwritten}
+pub use Rattle.kt_cli.specs.LineOutputs.{HandedOn, given_bytes, has_failed, is_broken, line_state, unflushed, unwritten}
+pub use Rattle.kt_cli.specs.Machines.{longest_path, read_limit}
 pub use Rattle.kt_cli.specs.Meaning.{CutShort, Did, Means, Seen}
 pub use Rattle.kt_cli.specs.Pages.{Printed}
-pub use Rattle.kt_cli.specs.Performing.{CarriedOut, DoneIn, DoneOver, Flushed, Performed, Rejected, program}
+pub use Rattle.kt_cli.specs.Performing.{CarriedOut, DoneIn, DoneOver, Flushed, Performed, Rejected, program, state}
 pub use Rattle.kt_cli.specs.Places.{absolute, source_directory}
 pub use Rattle.kt_cli.specs.Refused.{Refused, command_exit, command_text, driver_line, failure_exit}
 pub use Rattle.kt_cli.specs.Reports.{Reported, ReportedJunit, Unread, chosen}

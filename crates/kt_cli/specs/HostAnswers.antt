@@ -1,8 +1,7 @@
--- What the host answers to a command, and what its answers leave of the runner.
-use Rattle.std.specs.Prelude.{ℕ, Bool, true, false, ◌≡◌, ◌≤◌, ◌&&◌, ◌||◌, not, List, length, Option, Some, None, IfOk, is_some, bytes_eq, codes}
-use Rattle.std.specs.List.{list_any}
+-- What a command is answered over a machine and a system.
+use Rattle.std.specs.Prelude.{ℕ, Bool, false, ◌≡◌, ◌≤◌, ◌++◌, List, length, Option, Some, None, Result, Err, IfOk, bytes_eq, codes}
 use Rattle.std.proofs.Common.{ap}
-use Rattle.kt_base.specs.Characters.{is_absolute, is_slash}
+use Rattle.kt_base.specs.Utf8.{utf8}
 use Rattle.kt_base.specs.declared.child.Role.{Role}
 use Rattle.kt_sched.specs.declared.job.Job.{Job}
 use Rattle.kt_sched.specs.declared.job.StartAnswer.{StartAnswer}
@@ -10,59 +9,97 @@ use Rattle.kt_sched.specs.declared.job.Ended.{Ended}
 use Rattle.kt_child.specs.System.Calls.{Call}
 use Rattle.kt_child.specs.Driving.ChildrenState.{is_among, shown_at}
 use Rattle.kt_child.specs.Driving.DriverSteps.{DriverLists, DriverStarts, DriverWaits}
-use Rattle.kt_cli.specs.declared.host.surroundings.Runner.{Runner}
-use Rattle.kt_cli.specs.HostFiles.{IsLook, read_limit}
+use Rattle.kt_child.specs.declared.system.os.Os as system
+use Rattle.kt_cli.specs.declared.host.host_world.HostWorld.{HostWorld}
+use Rattle.kt_cli.specs.declared.host.machine.Machine as machine
+use Rattle.kt_cli.specs.Machines.{MachineAnswer, FrontOf, IsFile, IsThere, HasMoment, AtPath, IsSought, read_limit}
 use Rattle.kt_cli.specs.Scenes.{World}
 use Rattle.kt_metadata.specs.declared.host.Need.TheVariants.{File, Program}
 use Rattle.kt_plan.specs.Told.{Told, ReadConfig, Lists, Finds, IsRoot, HasMemory, HasDisk, Now}
+use Rattle.kt_suite.specs.Answers.{Asked, Read, Exists}
+use Rattle.kt_suite.specs.declared.tree.ReadFault.{ReadFault}
+use Rattle.kt_suite.specs.declared.tree.ReadFault.TheVariants.{Failed}
 
 -- the user is root, by the value of `USER`
 abbrev pub is_root : Option (List ℕ) → Bool
 is_root None = false
 is_root (Some user) = bytes_eq user (codes "root")
 
--- a program is looked for: at its absolute path, or by its name where `PATH` is set
-abbrev pub is_sought : Option (List ℕ) → List ℕ → Bool
-is_sought path name = is_absolute name || (is_some path && not (list_any is_slash name))
+-- a file that is read gives no more than its front
+abbrev pub IsShort : Result (List ℕ) ReadFault → Type 0
+IsShort answer = IfOk answer (λ bytes. length bytes ≤ read_limit)
 
--- what an answer leaves of a runner, and what is known of it: a list moves the driver, and nothing else moves anything; of a configuration
--- file no more is read than of the tree's; a program is found only where it is looked for; memory and disk space are unknown
-abbrev pub IsHostAnswer : {O : Type 0} → (O → Call → O → Type 0) → Runner O → Told → Runner O → Type 0
-IsHostAnswer leads old (ReadConfig path answer) new = (new ≡ old) × IfOk answer (λ bytes. length bytes ≤ read_limit)
-IsHostAnswer leads old (Lists program variables answer) new = DriverLists leads old.driver program.path variables answer new.driver × (new.around ≡ old.around)
-IsHostAnswer leads old (Finds File path answer) new = new ≡ old
-IsHostAnswer leads old (Finds Program name answer) new = (new ≡ old) × (answer ≡ true → is_sought old.around.path name ≡ true)
-IsHostAnswer leads old (IsRoot answer) new = (new ≡ old) × (answer ≡ is_root old.around.user)
-IsHostAnswer leads old (HasMemory answer) new = (new ≡ old) × (answer ≡ None)
-IsHostAnswer leads old (HasDisk answer) new = (new ≡ old) × (answer ≡ None)
-IsHostAnswer leads old (Now moment) new = new ≡ old
+-- the path of a file of the tree, in bytes
+abbrev pub path_below : List ℕ → List ℕ → List ℕ
+path_below directory path = utf8 directory ++ utf8 path
 
--- a start by the runner's driver
-abbrev pub RunnerStarts : {O : Type 0} → (O → Call → O → Type 0) → Runner O → Job → Role → StartAnswer → Runner O → Type 0
-RunnerStarts leads old job role answer new = DriverStarts leads old.driver job role answer new.driver × (new.around ≡ old.around)
+module _ {M O : Type 0} where
+  -- a world whose machine was asked
+  abbrev pub with_machine : HostWorld M O → M → HostWorld M O
+  with_machine world machine = record { machine = machine; directory = world.directory; driver = world.driver; around = world.around }
 
--- a wait by the runner's driver
-abbrev pub RunnerWaits : {O : Type 0} → (O → Call → O → Type 0) → Runner O → Ended → Runner O → Type 0
-RunnerWaits leads old ended new = DriverWaits leads old.driver ended new.driver × (new.around ≡ old.around)
+  -- the machine was asked, and nothing else
+  abbrev pub Asks : HostWorld M O → (M → M → Type 0) → HostWorld M O → Type 0
+  Asks old Answered new = (new ≡ with_machine old new.machine) × Answered old.machine new.machine
 
--- the relations of a runner, over a system of which this leads from one state to the next
-abbrev pub runner_world : {O : Type 0} → (O → Call → O → Type 0) → World (Runner O)
-runner_world leads = record {
-  running = λ r. shown_at r.driver.running.cases;
-  pending = λ r. is_among r.driver.running.pending;
-  starts = RunnerStarts leads;
-  waits = RunnerWaits leads;
-  asks = IsLook;
-  tells = IsHostAnswer leads;
-}
+module _ {M O : Type 0} (answers : M → MachineAnswer → M → Type 0) where
+  -- a question to the tree is one about the path below the directory of the Kyuafile
+  abbrev pub IsLook : HostWorld M O → Asked → HostWorld M O → Type 0
+  IsLook old (Read path answer) new =
+      Asks old (AtPath answers (path_below old.directory path) (FrontOf (path_below old.directory path) answer) (answer ≡ Err Failed)) new × IsShort answer
+  IsLook old (Exists path answer) new =
+      Asks old (AtPath answers (path_below old.directory path) (IsFile (path_below old.directory path) answer) (answer ≡ false)) new
 
--- no question changes what runs
-pub running_kept : {O : Type 0} (leads : O → Call → O → Type 0) (old new : Runner O) (told : Told) → IsHostAnswer leads old told new → new.driver.running ≡ old.driver.running
-running_kept {O} leads old new (ReadConfig path answer) h = ap (λ (r : Runner O). r.driver.running) h.0
-running_kept {O} leads old new (Lists program variables answer) h = h.0.1
-running_kept {O} leads old new (Finds File path answer) h = ap (λ (r : Runner O). r.driver.running) h
-running_kept {O} leads old new (Finds Program name answer) h = ap (λ (r : Runner O). r.driver.running) h.0
-running_kept {O} leads old new (IsRoot answer) h = ap (λ (r : Runner O). r.driver.running) h.0
-running_kept {O} leads old new (HasMemory answer) h = ap (λ (r : Runner O). r.driver.running) h.0
-running_kept {O} leads old new (HasDisk answer) h = ap (λ (r : Runner O). r.driver.running) h.0
-running_kept {O} leads old new (Now moment) h = ap (λ (r : Runner O). r.driver.running) h
+  -- a list moves the driver, and every other question asks the machine alone, or nobody: a configuration file and a required file are asked
+  -- for at their paths as they stand, a program as it is sought; memory and disk space are unknown
+  abbrev pub IsHostAnswer : (O → Call → O → Type 0) → HostWorld M O → Told → HostWorld M O → Type 0
+  IsHostAnswer leads old (ReadConfig path answer) new = Asks old (λ m n. answers m (FrontOf (utf8 path) answer) n) new × IsShort answer
+  IsHostAnswer leads old (Lists program variables answer) new =
+      DriverLists leads old.driver program.path variables answer new.driver × (new.machine ≡ old.machine) × (new.directory ≡ old.directory) × (new.around ≡ old.around)
+  IsHostAnswer leads old (Finds File path answer) new = Asks old (λ m n. answers m (IsThere (utf8 path) answer) n) new
+  IsHostAnswer leads old (Finds Program name answer) new = Asks old (IsSought answers old.around.path name answer) new
+  IsHostAnswer leads old (IsRoot answer) new = (new ≡ old) × (answer ≡ is_root old.around.user)
+  IsHostAnswer leads old (HasMemory answer) new = (new ≡ old) × (answer ≡ None)
+  IsHostAnswer leads old (HasDisk answer) new = (new ≡ old) × (answer ≡ None)
+  IsHostAnswer leads old (Now moment) new = Asks old (λ m n. answers m (HasMoment moment) n) new
+
+module _ {M O : Type 0} (leads : O → Call → O → Type 0) where
+  -- a start by the world's driver
+  abbrev pub HostStarts : HostWorld M O → Job → Role → StartAnswer → HostWorld M O → Type 0
+  HostStarts old job role answer new =
+      DriverStarts leads old.driver job role answer new.driver × (new.machine ≡ old.machine) × (new.directory ≡ old.directory) × (new.around ≡ old.around)
+
+  -- a wait by the world's driver
+  abbrev pub HostWaits : HostWorld M O → Ended → HostWorld M O → Type 0
+  HostWaits old ended new = DriverWaits leads old.driver ended new.driver × (new.machine ≡ old.machine) × (new.directory ≡ old.directory) × (new.around ≡ old.around)
+
+module _ {M O : Type 0} where
+  -- the relations of a world over a machine and a system
+  abbrev pub host_world : machine.Ghosts M → system.Ghosts O → World (HostWorld M O)
+  host_world m o = record {
+    running = λ w. shown_at w.driver.running.cases;
+    pending = λ w. is_among w.driver.running.pending;
+    starts = HostStarts o.leads;
+    waits = HostWaits o.leads;
+    asks = IsLook m.answers;
+    tells = IsHostAnswer m.answers o.leads;
+  }
+
+  -- no question changes what runs
+  asked_kept : (old new : HostWorld M O) → new ≡ with_machine old new.machine → new.driver.running ≡ old.driver.running
+  asked_kept old new h = ap (λ (w : HostWorld M O). w.driver.running) h
+
+  pub look_kept : (answers : M → MachineAnswer → M → Type 0) (old new : HostWorld M O) (asked : Asked) → IsLook answers old asked new → new.driver.running ≡ old.driver.running
+  look_kept answers old new (Read path answer) h = asked_kept old new h.0.0
+  look_kept answers old new (Exists path answer) h = asked_kept old new h.0
+
+  pub running_kept : (answers : M → MachineAnswer → M → Type 0) (leads : O → Call → O → Type 0) (old new : HostWorld M O) (told : Told) → IsHostAnswer answers leads old told new
+      → new.driver.running ≡ old.driver.running
+  running_kept answers leads old new (ReadConfig path answer) h = asked_kept old new h.0.0
+  running_kept answers leads old new (Lists program variables answer) h = h.0.1
+  running_kept answers leads old new (Finds File path answer) h = asked_kept old new h.0
+  running_kept answers leads old new (Finds Program name answer) h = asked_kept old new h.0
+  running_kept answers leads old new (IsRoot answer) h = ap (λ (w : HostWorld M O). w.driver.running) h.0
+  running_kept answers leads old new (HasMemory answer) h = ap (λ (w : HostWorld M O). w.driver.running) h.0
+  running_kept answers leads old new (HasDisk answer) h = ap (λ (w : HostWorld M O). w.driver.running) h.0
+  running_kept answers leads old new (Now moment) h = asked_kept old new h.0

@@ -1,5 +1,4 @@
--- What a command does over the host: a driver that is made for it, files of which no more than their front is read, and what is found
--- around it.
+-- What a command does over a machine and a system: it has a driver that is made for it, and what is found around it.
 use Rattle.std.specs.Prelude.{ℕ, Bool, false, List, ◌≡◌, Option, None, Ok, Err}
 use Rattle.kt_base.specs.Chains.{Chain}
 use Rattle.kt_base.specs.Characters.{is_absolute}
@@ -13,10 +12,13 @@ use Rattle.kt_child.specs.System.Calls.{Call, RemoveTree}
 use Rattle.kt_store.specs.declared.result_store.Keeping as keeping
 use Rattle.kt_plan.specs.declared.options.CaseOptions.{CaseOptions}
 use Rattle.kt_words.specs.declared.command.Command.{Command}
-use Rattle.kt_cli.specs.declared.host.surroundings.Runner.{Runner}
+use Rattle.kt_suite.specs.Paths.{directory_of}
+use Rattle.kt_cli.specs.declared.host.host_world.HostWorld.{HostWorld}
+use Rattle.kt_cli.specs.declared.host.machine.Machine as machine
+use Rattle.kt_cli.specs.declared.host.outside.Outside.{Outside}
 use Rattle.kt_cli.specs.declared.host.surroundings.Surroundings.{Surroundings}
 use Rattle.kt_cli.specs.ChildrenTold.{ChildrenTell}
-use Rattle.kt_cli.specs.HostAnswers.{runner_world}
+use Rattle.kt_cli.specs.HostAnswers.{host_world}
 use Rattle.kt_cli.specs.Meaning.{Did}
 use Rattle.kt_cli.specs.Places.{source_directory}
 use Rattle.kt_cli.specs.Scenes.{scene, World}
@@ -37,18 +39,25 @@ module _ {O : Type 0} (o : system.Ghosts O) (os : O) where
     not_absolute : is_absolute base ≡ false → NoRoot base NoWorkDirectory os
     none_made : (fault : DriverFault) (calls : List Call) (left : O) → Chain o.leads os calls left → FindsRoot base calls (Err fault) → NoRoot base fault left
 
-module _ {O R : Type 0} (o : system.Ghosts O) (os : O) (r : keeping.Ghosts R) where
-  -- a command was done over a driver that was made for its options, whose root directory was then to be removed; each end in the trace is explained
-  -- by the calls of its own child
-  pub record OnDriver (around : Surroundings) (options : CaseOptions) (c : Command) (store after : R) (was now : Option (List ℕ)) (exit : ℕ) : Type 0 where
-    pub old : Runner O
-    pub new : Runner O
-    pub made : IsMade o os around.here options.work options.kyuafile old.driver
+module _ {M O : Type 0} (o : system.Ghosts O) (before : Outside M O) where
+  -- the same of all that is outside: the machine was asked nothing
+  abbrev pub NoDriver : List ℕ → DriverFault → Outside M O → Type 0
+  NoDriver base fault after = NoRoot o before.os base fault after.os × (after.machine ≡ before.machine)
+
+module _ {M O R : Type 0} (m : machine.Ghosts M) (o : system.Ghosts O) (before after : Outside M O) (r : keeping.Ghosts R) where
+  -- a command was done over the files beside its Kyuafile and over a driver that was made for its options, whose root directory was then to be
+  -- removed: nothing else was asked of the machine and the system. Each end in the trace is explained by the calls of its own child
+  pub record OnDriver (around : Surroundings) (options : CaseOptions) (c : Command) (store end : R) (was now : Option (List ℕ)) (exit : ℕ) : Type 0 where
+    pub old : HostWorld M O
+    pub new : HostWorld M O
+    pub machine : old.machine ≡ before.machine
+    pub made : IsMade o before.os around.here options.work options.kyuafile old.driver
+    pub directory : old.directory ≡ directory_of options.kyuafile
     pub around_it : old.around ≡ around
-    pub did : Did (runner_world o.leads) r c (scene old store was) (scene new after now) exit
+    pub did : Did (host_world m o) r c (scene old store was) (scene new end now) exit
     pub told : ChildrenTell o.leads did.seen.plan did.seen.trace did.course.begun.driver new.driver
-    pub left : O
-    pub closed : (done : Bool) × o.leads new.driver.os (RemoveTree new.driver.root done) left
+    pub left : after.machine ≡ new.machine
+    pub closed : (done : Bool) × o.leads new.driver.os (RemoveTree new.driver.root done) after.os
 
 -- a world that answers nothing
 abbrev pub no_world : World (Unit {0})

@@ -5,10 +5,10 @@ pub mod Closings
 pub mod Debugging
 pub mod FaultLines
 pub mod HostAnswers
-pub mod HostFiles
 pub mod Hosts
 pub mod Inner
 pub mod LineOutputs
+pub mod Machines
 pub mod Meaning
 pub mod MemoryRuns
 pub mod Pages

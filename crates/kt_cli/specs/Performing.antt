@@ -1,5 +1,5 @@
 -- What the program does: a command over its results, which are opened before it and closed after it, and a command line that is none.
-use Rattle.std.specs.Prelude.{ℕ, Bool, true, false, List, [], ◌≡◌, Option, Some, None, Result, Ok, Err}
+use Rattle.std.specs.Prelude.{ℕ, Bool, true, false, List, [], ◌≡◌, Option, Some, None, Result, Ok, Err, if◌then◌else◌}
 use Rattle.std.specs.Io.KnownBytes.{Keeps}
 use Rattle.kt_base.specs.declared.entry.Run.{Run}
 use Rattle.kt_base.specs.Utf8.{utf8}
@@ -12,48 +12,58 @@ use Rattle.kt_words.specs.declared.command.Command.{Command}
 use Rattle.kt_words.specs.declared.command_fault.CommandFault.{CommandFault}
 use Rattle.kt_words.specs.declared.command_fault.CommandFault.TheVariants as command
 use Rattle.kt_words.specs.Commands.{cases_of, results_of}
+use Rattle.kt_cli.specs.declared.host.machine.Machine as machine
+use Rattle.kt_cli.specs.declared.host.outside.Outside.{Outside}
 use Rattle.kt_cli.specs.declared.host.platform.Platform as platform
 use Rattle.kt_cli.specs.declared.host.surroundings.Surroundings.{Surroundings}
 use Rattle.kt_cli.specs.Closings.{Concluded}
 use Rattle.kt_cli.specs.FaultLines.{memory_line, refusal_line}
-use Rattle.kt_cli.specs.Hosts.{DidAlone, NoRoot, OnDriver}
-use Rattle.kt_cli.specs.LineOutputs.{LineState}
+use Rattle.kt_cli.specs.Hosts.{DidAlone, NoDriver, OnDriver}
+use Rattle.kt_cli.specs.LineOutputs.{HandedOn, LineState}
 use Rattle.kt_cli.specs.MemoryRuns.{memory_runs}
 use Rattle.kt_cli.specs.Pages.{Printed}
 use Rattle.kt_cli.specs.Platforms.{Opened, Closed, Found}
 use Rattle.kt_cli.specs.Refused.{driver_line, command_text, failure_exit, wrong_words_exit, Refused}
 
--- the relations of what the program has: its platform, the results that it opens, and the system
-pub record Program (P S O : Type 0) : Type 1 where
+-- the relations of what the program has: the machine, the system, its platform, and the results that it opens
+pub record Program (M O P S : Type 0) : Type 1 where
+  pub machine : machine.Ghosts M
+  pub system : system.Ghosts O
   pub platform : platform.Ghosts P S
   pub results : keeping.Ghosts S
-  pub system : system.Ghosts O
 
 -- the same, made of its parts
-abbrev pub program : {P S O : Type 0} → platform.Ghosts P S → keeping.Ghosts S → system.Ghosts O → Program P S O
-program platform results system = record { platform = platform; results = results; system = system }
+abbrev pub program : {M O P S : Type 0} → machine.Ghosts M → system.Ghosts O → platform.Ghosts P S → keeping.Ghosts S → Program M O P S
+program machine system platform results = record { machine = machine; system = system; platform = platform; results = results }
 
-module _ {P S O R : Type 0} (p : Program P S O) (os : O) (r : keeping.Ghosts R) where
+-- what a command finds and leaves: the platform, and what lies outside
+pub record State (M O P : Type 0) : Type 0 where
+  pub platform : P
+  pub outside : Outside M O
+
+-- the same, made of its parts
+abbrev pub state : {M O P : Type 0} → P → Outside M O → State M O P
+state platform outside = record { platform = platform; outside = outside }
+
+module _ {M O P S R : Type 0} (p : Program M O P S) (r : keeping.Ghosts R) where
   -- a command was done over a store: a report alone, and one over test cases with what was found around it and a driver of its own; if it has
-  -- none of these, one line says so and the store is as it was
-  pub data DoneOver (c : Command) (old new : P) (store after : R) (was now : Option (List ℕ)) (exit : ℕ) : Type 0 where
+  -- none of these, one line says so and the store is as it was. Nothing else is asked of the machine and the system
+  pub data DoneOver (c : Command) (old new : State M O P) (store after : R) (was now : Option (List ℕ)) (exit : ℕ) : Type 0 where
     alone : cases_of c ≡ None → new ≡ old → DidAlone r c store after was now exit → DoneOver c old new store after was now exit
-    done : (options : CaseOptions) (around : Surroundings) → cases_of c ≡ Some options → p.platform.provides old (Found (Ok around)) new
-        → OnDriver p.system os r around options c store after was now exit → DoneOver c old new store after was now exit
-    no_place : (options : CaseOptions) (fault : DriverFault) → cases_of c ≡ Some options → p.platform.provides old (Found (Err fault)) new
-        → after ≡ store → Printed was now exit (utf8 (driver_line fault)) failure_exit → DoneOver c old new store after was now exit
-    no_driver : (options : CaseOptions) (around : Surroundings) (fault : DriverFault) (left : O) → cases_of c ≡ Some options → p.platform.provides old (Found (Ok around)) new
-        → NoRoot p.system os options.work fault left → after ≡ store → Printed was now exit (utf8 (driver_line fault)) failure_exit → DoneOver c old new store after was now exit
+    done : (options : CaseOptions) (around : Surroundings) → cases_of c ≡ Some options → p.platform.provides old.platform (Found (Ok around)) new.platform
+        → OnDriver p.machine p.system old.outside new.outside r around options c store after was now exit → DoneOver c old new store after was now exit
+    no_place : (options : CaseOptions) (fault : DriverFault) → cases_of c ≡ Some options → p.platform.provides old.platform (Found (Err fault)) new.platform
+        → new.outside ≡ old.outside → after ≡ store → Printed was now exit (utf8 (driver_line fault)) failure_exit → DoneOver c old new store after was now exit
+    no_driver : (options : CaseOptions) (around : Surroundings) (fault : DriverFault) → cases_of c ≡ Some options → p.platform.provides old.platform (Found (Ok around)) new.platform
+        → NoDriver p.system old.outside options.work fault new.outside → after ≡ store → Printed was now exit (utf8 (driver_line fault)) failure_exit → DoneOver c old new store after was now exit
 
--- how a command ends whose text was handed on: as it was due to, with all of it written, or with 2 if a write failed
-abbrev pub EndsBy : Bool → List ℕ → ℕ → ℕ → Type 0
-EndsBy false unwritten due exit = (unwritten ≡ []) × (exit ≡ due)
-EndsBy true unwritten due exit = exit ≡ failure_exit
-
--- what was given to standard output was handed on
+-- what was given to standard output was handed on, and the command ends as it was due to; or with 2, if some of it stays unwritten or
+-- the flush of standard output failed
 pub record Flushed (told : Option (List ℕ)) (now : LineState) (due exit : ℕ) : Type 0 where
   pub kept : Keeps told now.given
-  pub ends : EndsBy now.failed now.unwritten due exit
+  pub failed : Bool
+  pub ends : HandedOn now.failed now.unflushed now.unwritten failed
+  pub exits : exit ≡ (if failed then failure_exit else due)
 
 -- memory ran out as the arguments were read: one line says so on standard output
 pub record ToldShortage (was : Option (List ℕ)) (now : LineState) (exit : ℕ) : Type 0 where
@@ -67,29 +77,29 @@ abbrev pub Rejected : CommandFault → Option (List ℕ) → LineState → Optio
 Rejected (command.NoMemory shortage) was now errors_was errors_now exit = ToldShortage was now exit × (errors_now ≡ errors_was)
 Rejected fault was now errors_was errors_now exit = Refused errors_was errors_now exit (utf8 (command_text fault)) wrong_words_exit × (now.given ≡ was)
 
-module _ {P S O : Type 0} (p : Program P S O) (os : O) where
+module _ {M O P S : Type 0} (p : Program M O P S) where
   -- a command was done over the results in a file: they were opened first, and closed last, once and as the command left them; where they
   -- could not be opened one line says why, and nothing else was done
-  pub data DoneIn (c : Command) (file : List ℕ) (old new : P) (was now : Option (List ℕ)) (exit : ℕ) : Type 0 where
-    not_opened : (fault : StoreFault) → p.platform.provides old (Opened file (Err fault)) new → Printed was now exit (utf8 (refusal_line fault)) failure_exit
-        → DoneIn c file old new was now exit
-    closed : (store after : S) (begun done : P) (told : Option (List ℕ)) (due : ℕ) (answer : Result (Unit {0}) StoreFault) → p.platform.provides old (Opened file (Ok store)) begun
-        → DoneOver p os p.results c begun done store after was told due → p.platform.provides done (Closed after answer) new → Concluded answer told now due exit
-        → DoneIn c file old new was now exit
+  pub data DoneIn (c : Command) (file : List ℕ) (old new : State M O P) (was now : Option (List ℕ)) (exit : ℕ) : Type 0 where
+    not_opened : (fault : StoreFault) → p.platform.provides old.platform (Opened file (Err fault)) new.platform → new.outside ≡ old.outside
+        → Printed was now exit (utf8 (refusal_line fault)) failure_exit → DoneIn c file old new was now exit
+    closed : (store after : S) (begun done : P) (told : Option (List ℕ)) (due : ℕ) (answer : Result (Unit {0}) StoreFault) → p.platform.provides old.platform (Opened file (Ok store)) begun
+        → DoneOver p p.results c (state begun old.outside) (state done new.outside) store after was told due → p.platform.provides done (Closed after answer) new.platform
+        → Concluded answer told now due exit → DoneIn c file old new was now exit
 
   -- a command was done over the results in its file, or over none in memory where it has no file
-  abbrev pub DoneBy : Command → Option (List ℕ) → P → P → Option (List ℕ) → Option (List ℕ) → ℕ → Type 0
+  abbrev pub DoneBy : Command → Option (List ℕ) → State M O P → State M O P → Option (List ℕ) → Option (List ℕ) → ℕ → Type 0
   DoneBy c (Some file) old new was now exit = DoneIn c file old new was now exit
-  DoneBy c None old new was now exit = (after : List Run) × DoneOver p os memory_runs c old new [] after was now exit
+  DoneBy c None old new was now exit = (after : List Run) × DoneOver p memory_runs c old new [] after was now exit
 
   -- a command was performed: it was done, and then all its text was handed on
-  pub record Performed (c : Command) (old new : P) (was : Option (List ℕ)) (now : LineState) (exit : ℕ) : Type 0 where
+  pub record Performed (c : Command) (old new : State M O P) (was : Option (List ℕ)) (now : LineState) (exit : ℕ) : Type 0 where
     pub told : Option (List ℕ)
     pub due : ℕ
     pub done : DoneBy c (results_of c) old new was told due
     pub flushed : Flushed told now due exit
 
   -- what came of the words: their command was performed, or they were rejected and nothing was asked for
-  abbrev pub CarriedOut : Result Command CommandFault → P → P → Option (List ℕ) → LineState → Option (List ℕ) → Option (List ℕ) → ℕ → Type 0
+  abbrev pub CarriedOut : Result Command CommandFault → State M O P → State M O P → Option (List ℕ) → LineState → Option (List ℕ) → Option (List ℕ) → ℕ → Type 0
   CarriedOut (Ok c) old new was now errors_was errors_now exit = Performed c old new was now exit × (errors_now ≡ errors_was)
   CarriedOut (Err fault) old new was now errors_was errors_now exit = Rejected fault was now errors_was errors_now exit × (new ≡ old)

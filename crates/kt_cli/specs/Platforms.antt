@@ -17,11 +17,11 @@ pub data Provided (S : Type 0) : Type 0 where
   Closed : (results : S) (answer : Result (Unit {0}) StoreFault) → Provided S
   Found : (answer : Result Surroundings DriverFault) → Provided S
 
--- what a platform does whose results are in a file that held this: opened results are those of its database, as `attach` takes them, and closed
--- ones are in the database file alone
-abbrev pub InFiles : {D : Type 0} {g : disk.Ghosts D} → Image → Provided (Held (FileStore D g)) → Type 0
-InFiles image (Opened file (Ok results)) = AreOver image results
-InFiles image (Opened file (Err fault)) = IsStoreFault fault ⊎ (fault ≡ UnknownSchema)
-InFiles image (Closed results (Ok done)) = IsClosed results
-InFiles image (Closed results (Err fault)) = IsStoreFault fault
-InFiles image (Found answer) = ⊤
+-- what a platform does whose results are in files, one of which held this: the results that are opened of that file are those of its database,
+-- as `attach` takes them, and closed ones are in the database file alone
+abbrev pub InFiles : {D : Type 0} {g : disk.Ghosts D} → List ℕ → Image → Provided (Held (FileStore D g)) → Type 0
+InFiles path image (Opened file (Ok results)) = file ≡ path → AreOver image results
+InFiles path image (Opened file (Err fault)) = IsStoreFault fault ⊎ (fault ≡ UnknownSchema)
+InFiles path image (Closed results (Ok done)) = IsClosed results
+InFiles path image (Closed results (Err fault)) = IsStoreFault fault
+InFiles path image (Found answer) = ⊤

@@ -7,12 +7,15 @@ mod messages;
 mod output;
 mod results;
 
-pub use commands::execution::{execute, execute_all, law_of_children, law_of_sound_stores};
+pub use commands::execution::{execute, execute_all, law_of_sound_stores};
 pub use host::host_execution::source_of;
+pub use host::host_machine::HostMachine;
 pub use host::host_world::HostWorld;
+pub use host::machine::Machine;
+pub use host::outside::Outside;
 pub use host::performing::{carry_out, perform};
 pub use host::platform::{Platform, prepare_results};
-pub use host::surroundings::{Runner, Surroundings};
+pub use host::surroundings::Surroundings;
 pub use messages::{print_command_fault, print_driver_fault, print_store_fault};
 pub use output::exit::Exit;
 pub use output::line_output::LineOutput;

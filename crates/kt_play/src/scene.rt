@@ -43,7 +43,7 @@ pub struct Scene<'a> {
 }
 
 /// Whether a path is the one of a file.
-fn is_path_of(pattern: &str, path: &str) -> bool {
+pub fn is_path_of(pattern: &str, path: &str) -> bool {
     let Some((front, back)) = pattern.split_once('*') else {
         return pattern == path;
     };

@@ -18,6 +18,8 @@ pub struct ScriptedPlatform {
     pub not_closed: Option<StoreFault>,
     /// Why nothing is found around the process.
     pub not_found: Option<DriverFault>,
+    /// The value of `PATH`, if it is set.
+    pub path: Option<Text>,
     /// The calls, with commas between them: `open FILE`, `surroundings` and `close`.
     calls: String,
     /// The refusal of memory for a call, if there was one.
@@ -34,6 +36,7 @@ impl ScriptedPlatform {
             not_opened: None,
             not_closed: None,
             not_found: None,
+            path: None,
             calls: String::new(alloc),
             refusal: None,
         }
@@ -74,11 +77,15 @@ impl ScriptedPlatform {
         }
     }
 
-    /// What is found around the process: a directory, and nothing in the environment.
+    /// What is found around the process: a directory, and nothing in the environment but `PATH`.
     fn around(&self) -> Result<Surroundings, NoMemory> {
+        let path = match &self.path {
+            Some(path) => Some(path.copy()?),
+            None => None,
+        };
         Ok(Surroundings {
             here: Text::from_str(self.alloc, "/here")?,
-            path: None,
+            path,
             user: None,
         })
     }

@@ -1,56 +1,20 @@
-use crate::scene::bytes_at;
-use crate::{Holding, Stage, ask_too_much};
+use crate::{ScriptedMachine, Stage};
 use kt_atflist::{ListBytes, Listing};
-use kt_base::{Bytes, LATEST_MOMENT, NoMemory, Refused, Role, Text, Variables};
+use kt_base::{Bytes, NoMemory, Refused, Role, Text, Variables};
+use kt_cli::Machine;
 use kt_plan::World;
 use kt_sched::{Ended, Job, Launcher, StartAnswer};
 use kt_suite::{Program, ReadFault, Tree};
 use std::alloc::Global;
 
-/// A world of files in memory and facts of a host, a launcher, and a clock of its own.
+/// A world over a scripted machine, with facts of a host and a launcher. A required program is known by its name.
 #[derive(Drop)]
 pub struct ScriptedWorld<'a, L> {
-    alloc: Global,
     stage: &'a Stage<'a>,
-    /// How many moments were answered.
-    told: usize,
+    machine: ScriptedMachine<'a>,
     /// The place after the last list that was answered.
     listed: usize,
     pub launcher: L,
-}
-
-fn is_among(names: &[&str], path: &Text) -> bool {
-    for name in names {
-        if *name == path.as_str() {
-            return true;
-        }
-    }
-    false
-}
-
-/// The bytes of one of these files.
-fn read_among(
-    alloc: Global,
-    stage: &Stage<'_>,
-    files: &[Holding<'_>],
-    path: &Text,
-) -> Result<Bytes, ReadFault> {
-    if is_among(stage.dear.as_slice(), path) {
-        if let Err(refusal) = ask_too_much(alloc) {
-            return Err(ReadFault::Memory(refusal));
-        }
-        return Err(ReadFault::Failed);
-    }
-    if is_among(stage.locked.as_slice(), path) {
-        return Err(ReadFault::Failed);
-    }
-    match bytes_at(files, path.as_str()) {
-        None => Err(ReadFault::Missing),
-        Some(bytes) => match Bytes::from_slice(alloc, bytes) {
-            Ok(bytes) => Ok(bytes),
-            Err(refusal) => Err(ReadFault::Memory(refusal)),
-        },
-    }
 }
 
 impl<'a, L: Launcher> ScriptedWorld<'a, L> {
@@ -60,9 +24,8 @@ impl<'a, L: Launcher> ScriptedWorld<'a, L> {
         ensures { result.launcher ≡ launcher }
     {
         ScriptedWorld {
-            alloc,
             stage,
-            told: 0,
+            machine: ScriptedMachine::new(alloc, stage),
             listed: 0,
             launcher,
         }
@@ -109,12 +72,11 @@ impl<L: Launcher> Tree for ScriptedWorld<'_, L> {
     ghost asks = { λ s _ t. t.launcher ≡ s.launcher };
 
     fn read(&mut self, path: &Text) -> Result<Bytes, ReadFault> {
-        let stage = self.stage;
-        read_among(self.alloc, stage, stage.files.as_slice(), path)
+        self.machine.front(path.as_str())
     }
 
     fn exists(&mut self, path: &Text) -> bool {
-        is_among(self.stage.programs.as_slice(), path)
+        self.machine.is_file(path.as_str())
     }
 }
 
@@ -143,8 +105,7 @@ impl<L: Launcher> World for ScriptedWorld<'_, L> {
     ghost tells = { λ s _ t. t.launcher ≡ s.launcher };
 
     fn config(&mut self, path: &Text) -> Result<Bytes, ReadFault> {
-        let stage = self.stage;
-        read_among(self.alloc, stage, stage.configs.as_slice(), path)
+        self.machine.front(path.as_str())
     }
 
     fn list(&mut self, program: &Program, _variables: &Variables) -> Listing {
@@ -159,11 +120,11 @@ impl<L: Launcher> World for ScriptedWorld<'_, L> {
     }
 
     fn file_exists(&mut self, path: &Text) -> bool {
-        is_among(self.stage.found_files.as_slice(), path)
+        self.machine.is_there(path.as_str())
     }
 
     fn program_found(&mut self, name: &Text) -> bool {
-        is_among(self.stage.found_programs.as_slice(), name)
+        self.machine.is_program(name.as_str())
     }
 
     fn is_root(&mut self) -> bool {
@@ -179,13 +140,7 @@ impl<L: Launcher> World for ScriptedWorld<'_, L> {
     }
 
     fn now(&mut self) -> u64 {
-        let moments = self.stage.moments.as_slice();
-        let told = self.told;
-        self.told = told.saturating_add(1);
-        match moments.get(told).or(moments.last()) {
-            Some(moment) => (*moment).min(LATEST_MOMENT),
-            None => 0,
-        }
+        self.machine.moment()
     }
 
     ghost runs_on = { λ s t q h k r. ap (λ l. L.running l k r) h };

@@ -1,14 +1,12 @@
 use crate::{Holding, Listed};
 
-/// What a scripted world has: files, programs, facts of a host, and moments.
+/// What a scripted machine has: files, programs and moments; and what a scripted world has beside them.
 #[derive(Drop)]
 pub struct Stage<'a> {
-    /// The files of the tree.
+    /// The files that can be read.
     pub files: Vec<Holding<'a>>,
     /// The programs of the tree that are there.
     pub programs: Vec<&'a str>,
-    /// The configuration files.
-    pub configs: Vec<Holding<'a>>,
     /// Files that can't be read.
     pub locked: Vec<&'a str>,
     /// Files that can't be read for want of memory.

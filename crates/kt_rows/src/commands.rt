@@ -29,7 +29,7 @@ fn play(alloc: Global, row: &Row<'_>, scene: &Scene<'_>, failing: u64) -> Result
     let mut results = store_of(alloc, row)?;
     let (exits, _os) = row_over(alloc, row, scene, &mut results, &mut page)?;
     let mut runs = Answer::new(alloc);
-    push_runs(&mut runs, &mut results, true);
+    push_runs(&mut runs, &mut results);
     Ok(Played {
         page,
         exits,

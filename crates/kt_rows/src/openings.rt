@@ -1,5 +1,7 @@
-//! Command lines over a scripted platform: what it is asked for, what is written, and how each line ends.
+//! Command lines over a scripted platform, machine and system: what these are asked for, what is written, and how each
+//! line ends.
 
+use crate::escapes::lossy_of;
 use crate::fault_exits::{driver_fault, shortage, store_fault};
 use crate::lines::{Answer, both};
 use crate::printing::push_page;
@@ -7,16 +9,15 @@ use crate::recorded::content_at;
 use crate::row::{Result, Row};
 use crate::run_texts::push_runs;
 use crate::scenes::scene_of;
-use crate::stages::store_of;
+use crate::stages::{stage_of, store_of};
 use crate::store_calls::push_call;
+use crate::system_lists::push_calls;
 use crate::words::read_line;
-use kt_cli::{LineOutput, carry_out};
-use kt_play::{RefusingStore, Scene, ScriptedPlatform, ScriptedSystem, ScriptedWriter};
+use kt_cli::{LineOutput, Outside, carry_out};
+use kt_play::{RefusingStore, ScriptedMachine, ScriptedPlatform, ScriptedSystem, ScriptedWriter};
 use kt_words::{Command, CommandFault};
 use std::alloc::Global;
-use std::fs::File;
 use std::io::Write;
-use std::rt::{Clock, Files};
 
 /// The results of a row, into which its lines `begin`, `put` and `finish` have put some.
 fn results_of(alloc: Global, row: &Row<'_>) -> Result<RefusingStore> {
@@ -32,7 +33,8 @@ fn results_of(alloc: Global, row: &Row<'_>) -> Result<RefusingStore> {
     Ok(results)
 }
 
-/// The platform of a row: `open FAULT`, `close FAULT` and `surroundings FAULT` name its calls that fail.
+/// The platform of a row: `open FAULT`, `close FAULT` and `surroundings FAULT` name its calls that fail, and `path
+/// VALUE` sets `PATH`.
 fn platform_of(alloc: Global, row: &Row<'_>) -> Result<ScriptedPlatform> {
     let not_opened = store_fault(alloc, row.text("open"))?;
     let not_closed = store_fault(alloc, row.text("close"))?;
@@ -41,6 +43,9 @@ fn platform_of(alloc: Global, row: &Row<'_>) -> Result<ScriptedPlatform> {
     platform.not_opened = not_opened;
     platform.not_closed = not_closed;
     platform.not_found = not_found;
+    if let Some(path) = row.text("path") {
+        platform.path = Some(lossy_of(alloc, path)?);
+    }
     Ok(platform)
 }
 
@@ -61,39 +66,50 @@ fn pages_of(alloc: Global, row: &Row<'_>) -> Result<Pages> {
     Ok(Pages { out, errors })
 }
 
-/// Carries out a command line, as a process of its own does, and returns its exit status.
-fn carried<R: Files<File = File> + Clock + AllocGlobal, W: Write, E: Write>(
-    rt: &R,
-    scene: &Scene<'_>,
+/// Carries out a command line, as a process of its own does, appends the calls of its system, and returns its exit status.
+fn carried<W: Write, E: Write>(
+    log: &mut Answer,
+    outside: Outside<ScriptedMachine<'_>, ScriptedSystem<'_>>,
     platform: &mut ScriptedPlatform,
     command: Result<Command, CommandFault>,
     out: &mut W,
     errors: &mut E,
-) -> u8 {
-    let os = ScriptedSystem::new(rt.alloc(), scene);
+) -> Result<u8> {
     let mut lines = LineOutput::new(out, true);
-    carry_out(rt, os, platform, command, &mut lines, errors).status
+    let (exit, outside) = carry_out(outside, platform, command, &mut lines, errors);
+    log.push(outside.os.log()?);
+    Ok(exit.status)
 }
 
-/// Carries out the command lines of a row, `line WORDS` or `words no-memory` for none, and appends how they ended.
-fn push_exits<R: Files<File = File> + Clock + AllocGlobal>(
-    rt: &R,
+/// Carries out the command lines of a row, `line WORDS` or `words no-memory` for none, and appends how they ended, and
+/// to a log the calls of their systems.
+fn push_exits(
     exits: &mut Answer,
+    log: &mut Answer,
     row: &Row<'_>,
     platform: &mut ScriptedPlatform,
     pages: &mut Pages,
 ) -> Result<()> {
-    let scene = scene_of(rt.alloc(), row)?;
+    let alloc = exits.alloc;
+    let (scene, stage) = both(
+        scene_of(alloc, row),
+        stage_of(alloc, row.entries.as_slice()),
+    )?;
     exits.push("exit");
     for entry in row.entries.as_slice() {
         let command = match entry.word {
-            "line" => read_line(rt.alloc(), entry.text)?,
-            "words" => Err(CommandFault::from(shortage(rt.alloc())?)),
+            "line" => read_line(alloc, entry.text)?,
+            "words" => Err(CommandFault::from(shortage(alloc)?)),
             _ => continue,
         };
+        let outside = Outside {
+            alloc,
+            machine: ScriptedMachine::new(alloc, &stage),
+            os: ScriptedSystem::new(alloc, &scene),
+        };
         let (out, errors) = (&mut pages.out, &mut pages.errors);
-        let status = carried(rt, &scene, platform, command, out, errors);
-        exits.made(format!(in rt.alloc(); " {status}"));
+        let status = carried(log, outside, platform, command, out, errors)?;
+        exits.made(format!(in alloc; " {status}"));
     }
     Ok(())
 }
@@ -116,13 +132,29 @@ fn push_pages(out: &mut Answer, pages: &Pages) -> Result<()> {
     Ok(())
 }
 
-/// Appends what the platform was asked for, the pages, the exits and, where the row says so, the runs that were closed.
+/// Appends what a word shows: the `runs` that were closed, or the calls of the `system`.
+fn push_shown(
+    out: &mut Answer,
+    word: &str,
+    platform: &mut ScriptedPlatform,
+    log: &str,
+) -> Result<()> {
+    match (word, &mut platform.results) {
+        ("system", _) => return push_calls(out, "calls", log),
+        (_, Some(results)) => push_runs(out, results),
+        _ => out.push("open"),
+    }
+    Ok(())
+}
+
+/// Appends what the platform was asked for, the pages and the exits, and what `show WORDS` names.
 fn push_done(
     out: &mut Answer,
     row: &Row<'_>,
     platform: &mut ScriptedPlatform,
     pages: &Pages,
     exits: &str,
+    log: &str,
 ) -> Result<()> {
     let calls = platform.calls()?;
     if calls.is_empty() {
@@ -132,26 +164,26 @@ fn push_done(
     out.push("\n");
     push_pages(out, pages)?;
     out.push(exits);
-    if row.text("show") == Some("runs") {
+    for word in row.text("show").unwrap_or("").split_whitespace() {
         out.separate("\n");
-        // Without their moments, which are those of this process's clock.
-        match &mut platform.results {
-            Some(results) => push_runs(out, results, false),
-            None => out.push("open"),
-        }
+        push_shown(out, word, platform, log)?;
     }
     Ok(())
 }
 
-/// Command lines over a platform that answers as the row says, with the files of this process: the calls on the
-/// platform on one line, what was written, and how the lines ended.
-pub fn answer<R: Files<File = File> + Clock + AllocGlobal>(
-    rt: &R,
-    out: &mut Answer,
-    row: &Row<'_>,
-) -> Result<()> {
+/// Command lines over a platform, a machine and a system that answer as the row says: the calls on the platform on one
+/// line, what was written, how the lines ended, and what else the row shows.
+pub fn answer(out: &mut Answer, row: &Row<'_>) -> Result<()> {
     let (mut platform, mut pages) = both(platform_of(out.alloc, row), pages_of(out.alloc, row))?;
-    let mut exits = Answer::new(out.alloc);
-    push_exits(rt, &mut exits, row, &mut platform, &mut pages)?;
-    push_done(out, row, &mut platform, &pages, exits.end()?.as_str())
+    let (mut exits, mut log) = (Answer::new(out.alloc), Answer::new(out.alloc));
+    push_exits(&mut exits, &mut log, row, &mut platform, &mut pages)?;
+    let (exits, log) = both(exits.end(), log.end())?;
+    push_done(
+        out,
+        row,
+        &mut platform,
+        &pages,
+        exits.as_str(),
+        log.as_str(),
+    )
 }

@@ -18,19 +18,15 @@ fn state_text(head: &RunHead) -> &'static str {
     }
 }
 
-/// Appends a run with the number of its entries: `run 1 at 500: 2 of 3, unfinished`, or that without its moment.
-fn push_run(out: &mut Answer, head: &RunHead, entries: usize, moments: bool) {
+/// Appends a run with the number of its entries: `run 1 at 500: 2 of 3, unfinished`.
+fn push_run(out: &mut Answer, head: &RunHead, entries: usize) {
     let (number, started, total) = (head.number, head.started, head.total);
-    out.made(format!(in out.alloc; "run {number}"));
-    if moments {
-        out.made(format!(in out.alloc; " at {started}"));
-    }
-    out.made(format!(in out.alloc; ": {entries} of {total}, "));
+    out.made(format!(in out.alloc; "run {number} at {started}: {entries} of {total}, "));
     out.push(state_text(head));
 }
 
-/// Appends the runs of a store, a line each, with their moments or without.
-pub fn push_runs<R: ResultStore>(out: &mut Answer, results: &mut R, moments: bool) {
+/// Appends the runs of a store, a line each.
+pub fn push_runs<R: ResultStore>(out: &mut Answer, results: &mut R) {
     let heads = match results.runs() {
         Ok(heads) => heads,
         Err(fault) => return out.name(&fault),
@@ -39,7 +35,7 @@ pub fn push_runs<R: ResultStore>(out: &mut Answer, results: &mut R, moments: boo
     for head in heads.as_slice() {
         out.push(separator);
         match results.outline(head.number) {
-            Ok(entries) => push_run(out, head, entries.len(), moments),
+            Ok(entries) => push_run(out, head, entries.len()),
             Err(fault) => out.name(&fault),
         }
         separator = "\n";

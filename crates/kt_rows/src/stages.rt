@@ -23,7 +23,6 @@ fn empty_stage<'a>(alloc: Global) -> Stage<'a> {
     Stage {
         files: Vec::new(alloc),
         programs: Vec::new(alloc),
-        configs: Vec::new(alloc),
         locked: Vec::new(alloc),
         dear: Vec::new(alloc),
         lists: Vec::new(alloc),
@@ -39,8 +38,7 @@ fn empty_stage<'a>(alloc: Global) -> Stage<'a> {
 /// Takes a line that says something of the world.
 fn take<'a>(alloc: Global, stage: &mut Stage<'a>, entry: &Entry<'a>) -> Result<()> {
     match entry.word {
-        "holds" => push_made(&mut stage.files, holding_of(alloc, entry.text)),
-        "config" => push_made(&mut stage.configs, holding_of(alloc, entry.text)),
+        "holds" | "config" => push_made(&mut stage.files, holding_of(alloc, entry.text)),
         "lists" => push_made(&mut stage.lists, listed_of(alloc, entry.text)),
         "has-memory" => set_number(&mut stage.memory, entry.text),
         "has-disk" => set_number(&mut stage.disk, entry.text),

@@ -99,7 +99,7 @@ pub fn push_call<R: ResultStore>(
         "begin" => return begin(out, results, line.text, times),
         "put" => return put(out, results, line.text, content, times),
         "finish" => push_done(out, results.finish(number(line.text)?)),
-        "runs" => push_runs(out, results, true),
+        "runs" => push_runs(out, results),
         "count-runs" => push_count(out, results),
         "cases" | "outputs" | "pairs" | "count" => {
             push_run_entries(out, results, line.word, number(line.text)?);

@@ -3,7 +3,9 @@
 
 use kt_base::Text;
 use kt_child::{DriverFault, HostOs};
-use kt_cli::{LineOutput, Platform, Surroundings, carry_out, prepare_results};
+use kt_cli::{
+    HostMachine, LineOutput, Outside, Platform, Surroundings, carry_out, prepare_results,
+};
 use kt_store::{Results, StoreFault};
 use kt_words::{Command, read_words};
 use sqlite::{FileFrom, FileStore, Start, Unknown};
@@ -11,18 +13,26 @@ use std::marker::PhantomData;
 use std::process::ExitCode;
 use std::{env, io};
 
-/// What the files held, for contracts: no code reads it.
+/// A file and what it held, for contracts: no code reads it.
 trait Past: Start {
+    ghost use Rattle.std.specs.Prelude.{ℕ, List};
+
+    ghost path: { List ℕ };
+
     fn unread() -> Self;
 }
 
 impl Past for Unknown {
+    ghost use Rattle.std.specs.Prelude.{[]};
+
+    ghost path = { [] };
+
     fn unread() -> Unknown {
         Unknown
     }
 }
 
-/// The host: results are kept in files of SQLite, which held `S` at first.
+/// The host: results are kept in files of SQLite, of which `S` is one with what it held at first.
 #[derive(Drop)]
 struct Host<'a, S> {
     rt: &'a HostRuntime,
@@ -35,7 +45,7 @@ impl<S: Past> Platform for Host<'_, S> {
 
     type Results = Results<FileStore<FileFrom<S>>>;
 
-    ghost provides = { λ _ asked _. InFiles (image_at S.Start) asked };
+    ghost provides = { λ _ asked _. InFiles S.path (image_at S.Start) asked };
 
     fn open(&mut self, file: &Text) -> Result<Results<FileStore<FileFrom<S>>>, StoreFault> {
         prepare_results(self.rt, file);
@@ -61,14 +71,12 @@ fn run<S: Past>(rt: &HostRuntime, past: PhantomData<S>) -> ExitCode {
     // The line of a case is seen when the case is over.
     let by_line = matches!(command, Ok(Command::Test { .. }));
     let mut out = LineOutput::new(io::writer(rt), by_line);
-    let exit = carry_out(
-        rt,
-        HostOs::new(rt),
-        &mut host,
-        command,
-        &mut out,
-        &mut rt.stderr(),
-    );
+    let outside = Outside {
+        alloc: rt.alloc(),
+        machine: HostMachine { rt },
+        os: HostOs::new(rt),
+    };
+    let (exit, _outside) = carry_out(outside, &mut host, command, &mut out, &mut rt.stderr());
     ExitCode::from(exit.status)
 }
 

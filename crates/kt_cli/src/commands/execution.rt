@@ -1,5 +1,5 @@
 ghost use Rattle.std.specs.Prelude.{IfOk, OnErr, ◌≡◌, ℕ, List, Option, ◌⊎◌};
-ghost use Rattle.kt_cli.specs.Common.{IsIdle, Did, scene, DidAll, Run, CoursesAreTold, Command, Seen, Means, CutShort, Printed, Left, Stored};
+ghost use Rattle.kt_cli.specs.Common.{IsIdle, Did, scene, DidAll, Run, Command, Seen, Means, CutShort, Printed, Left, Stored};
 
 use crate::Exit;
 use crate::commands::debugging::debug;
@@ -7,7 +7,6 @@ use crate::commands::listing::list;
 use crate::commands::reporting::{report, report_junit};
 use crate::commands::testing::test;
 use kt_base::NoMemory;
-use kt_child::Os;
 use kt_plan::World;
 use kt_store::ResultStore;
 use kt_words::Command;
@@ -71,12 +70,6 @@ pub fn execute_all<W: World, R: ResultStore, O: Write>(
     }
     Ok(exits)
 }
-
-/// Joins what a command over the host did with the driver's outcome table: of all that was asked of the system, each
-/// start in the trace has its own calls, and each end follows from the polls, the kill and the files of its own child.
-pub fn law_of_children<O: Os + Drop>()
-    ensures { CoursesAreTold O.leads }
-{}
 
 /// The law of sound stores: what a command's calls come to, whatever runs the store stood for, if the store has given
 /// back what was written. The premises are the parts of what `execute` says of each command.

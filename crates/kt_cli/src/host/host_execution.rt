@@ -1,7 +1,7 @@
 ghost use Rattle.std.specs.Prelude.{◌≡◌, IfOk, IfErr, OnErr};
-ghost use Rattle.kt_cli.specs.Common.{chars, IsIdle, is_among, shown_at, IsMade, NoRoot, OnDriver, absolute, source_directory};
+ghost use Rattle.kt_cli.specs.Common.{chars, IsIdle, is_among, shown_at, IsMade, NoDriver, NoRoot, OnDriver, absolute, source_directory};
 
-use crate::{Exit, HostWorld, Runner, Surroundings, execute};
+use crate::{Exit, HostWorld, Machine, Outside, Surroundings, execute};
 use kt_base::{NoMemory, Text, is_absolute};
 use kt_child::{Driver, DriverFault, Os};
 use kt_plan::CaseOptions;
@@ -9,9 +9,7 @@ use kt_store::ResultStore;
 use kt_suite::{parent_path, split_path};
 use kt_words::Command;
 use std::alloc::Global;
-use std::fs::File;
 use std::io::Write;
-use std::rt::{Clock, Files};
 
 /// A path, seen from a directory.
 fn absolute(alloc: Global, here: &str, path: &Text) -> Result<Text, NoMemory>
@@ -56,38 +54,46 @@ fn driver_of<O: Os + Drop>(
     }
 }
 
-/// Does a command over test cases of the host and this system, with work directories of its own,
-/// which are removed at the end. Errors return `os`.
-pub fn execute_over_cases<
-    R: Files<File = File> + Clock + AllocGlobal,
-    O: Os + Drop,
-    S: ResultStore,
-    W: Write,
->(
-    rt: &R,
-    os: O,
+/// Does a command over test cases of this machine and this system, with work directories of its own,
+/// which are removed at the end. What is outside is returned.
+pub fn execute_over_cases<M: Machine + Drop, O: Os + Drop, S: ResultStore, W: Write>(
+    outside: Outside<M, O>,
     around: Surroundings,
     command: &Command,
     options: &CaseOptions,
     results: &mut S,
     out: &mut W,
-) -> Result<Exit, (DriverFault, O)>
-    ensures did { IfOk result (λ exit. OnDriver O.Os os S.Keeping around options.now
-        command.now results.old results.new (W.contents out.old) (W.contents out.new) exit.status) }
-    ensures refused { IfErr result (λ e. NoRoot O.Os os options.now.work e.0 e.1) }
+) -> Result<(Exit, Outside<M, O>), (DriverFault, Outside<M, O>)>
+    ensures did { IfOk result (λ done. OnDriver M.Machine O.Os outside done.1 S.Keeping around
+        options.now command.now results.old results.new (W.contents out.old) (W.contents out.new)
+        done.0.status) }
+    ensures refused { IfErr result (λ e. NoDriver O.Os outside options.now.work e.0 e.1) }
     ensures unasked { OnErr result
         ((results.new ≡ results.old) × (W.contents out.new ≡ W.contents out.old)) }
 {
     let (work, kyuafile) = (&options.work, &options.kyuafile);
-    let directory = match split_path(rt.alloc(), kyuafile) {
+    let directory = match split_path(outside.alloc, kyuafile) {
         Ok((directory, _)) => directory,
-        Err(refusal) => return Err((DriverFault::NoMemory(refusal), os)),
+        Err(refusal) => return Err((DriverFault::NoMemory(refusal), outside)),
     };
-    let driver = driver_of(rt.alloc(), os, &around.here, work, kyuafile)?;
-    let mut world = HostWorld::new(rt, directory, Runner { driver, around });
-    let exit = execute(rt.alloc(), command, &mut world, results, out);
-    let runner = world.runner;
+    let Outside { alloc, machine, os } = outside;
+    let driver = match driver_of(alloc, os, &around.here, work, kyuafile) {
+        Ok(driver) => driver,
+        Err((fault, os)) => return Err((fault, Outside { alloc, machine, os })),
+    };
+    let mut world = HostWorld {
+        machine,
+        directory,
+        driver,
+        around,
+    };
+    let exit = execute(alloc, command, &mut world, results, out);
+    let HostWorld {
+        machine,
+        driver,
+        ..
+    } = world;
     // The root directory goes, whatever was done.
-    let _ = runner.driver.close();
-    Ok(exit)
+    let os = driver.close();
+    Ok((exit, Outside { alloc, machine, os }))
 }

@@ -32,6 +32,7 @@ pub fn joined_path<'a>(
 ) -> Option<&'a str>
     requires { length room.old ≡ longest_path }
     ensures path { IfSome result (λ path. path.now ≡ directory.now ++ (between.now ++ name.now)) }
+    ensures fits { IfSome result (λ path. length path.now ≤ longest_path) }
     ensures long { IfNone result (longest_path
         < length directory.now + (length between.now + length name.now)) }
 {

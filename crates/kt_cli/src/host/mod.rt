@@ -1,8 +1,12 @@
-//! The commands on a platform, with what they find around them.
+//! The commands on a platform and a machine, with what they find around them.
 
 pub(crate) mod host_execution;
+pub(crate) mod host_machine;
 pub(crate) mod host_path;
 pub(crate) mod host_world;
+pub(crate) mod machine;
+pub(crate) mod outside;
 pub(crate) mod performing;
 pub(crate) mod platform;
+pub(crate) mod program_search;
 pub(crate) mod surroundings;

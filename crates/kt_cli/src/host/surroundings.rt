@@ -2,7 +2,7 @@ ghost use Rattle.std.specs.Prelude.{◌≡◌, IfOk, length};
 ghost use Rattle.kt_cli.specs.Inner.HostAnswers.{longest_variable};
 
 use kt_base::{NoMemory, Text};
-use kt_child::{Driver, DriverFault, Os};
+use kt_child::DriverFault;
 use std::alloc::Global;
 use std::env;
 use std::rt::Env;
@@ -19,15 +19,6 @@ pub struct Surroundings {
     pub path: Option<Text>,
     /// The value of `USER`, if it is set: who runs the command.
     pub user: Option<Text>,
-}
-
-/// A driver, with the surroundings of the command that uses it.
-#[derive(Drop)]
-pub struct Runner<O: Os + Drop> {
-    /// What starts test programs and asks for their cases.
-    pub driver: Driver<O>,
-    /// What the command finds around it.
-    pub around: Surroundings,
 }
 
 /// The value of a variable, which is copied through a buffer on the stack.

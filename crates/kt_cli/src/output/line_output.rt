@@ -1,5 +1,9 @@
+ghost use Rattle.std.specs.Prelude.{◌≡◌, ◌<◌, [], true, false, length};
+ghost use Rattle.std.specs.Io.KnownBytes.{Keeps, append_known};
+
 use crate::Exit;
 use crate::output::exit::FAILED;
+use crate::output::flushing::{FlushFault, flush_own};
 use crate::output::held_bytes::{HeldBytes, ROOM};
 use kt_base::send;
 use std::io;
@@ -13,109 +17,79 @@ pub struct LineOutput<W> {
     out: W,
     held: HeldBytes,
     by_line: bool,
+    /// Whether a write failed.
     failed: bool,
+    /// Why the writer's own flush failed, if it did.
+    unflushed: Option<FlushFault>,
+    ghost caused: { failed ≡ true → 0 < length held },
+    ghost spare: { failed ≡ false → length held < 65536 },
 }
 
-/// The error of a write after one that failed.
+/// The error of a call after one that failed.
 fn broken() -> io::Error {
     io::Error::from(ErrorKind::BrokenPipe)
 }
 
+/// Writes what is held, and returns whether a write failed. What it leaves unwritten stays so.
+fn hand_on<W: Write>(held: &mut HeldBytes, out: &mut W) -> bool
+    ensures bytes { Keeps (append_known (W.contents out.old) held.old)
+        (append_known (W.contents out.new) held.new) }
+    ensures all { result ≡ false → held.new ≡ [] }
+    ensures short { result ≡ true → 0 < length held.new }
+{
+    let (sent, failed) = send(held.as_slice(), out);
+    held.let_go(sent);
+    failed
+}
+
+/// Whether to hand on after these bytes: the buffer is full, or a line is complete.
+fn is_due(held: &HeldBytes, by_line: bool, bytes: &[u8]) -> bool
+    ensures { result ≡ false → length held.now < 65536 }
+{
+    held.len() == ROOM || (by_line && bytes.contains(&b'\n'))
+}
+
 impl<W: Write> LineOutput<W> {
     ghost use Rattle.std.specs.Prelude.{◌≡◌, ◌≤◌, ◌+◌, [], false, length};
-    ghost use Rattle.kt_cli.specs.Common.{Keeps, Appends, given_bytes, has_failed, unwritten};
+    ghost use Rattle.kt_cli.specs.Common.{Keeps, Appends, given_bytes, has_failed, is_broken, unflushed, unwritten, line_state, Flushed};
 
     /// A writer before this one, which holds nothing yet. If `by_line` is set, each line is written
     /// when it is complete.
     pub fn new(out: W, by_line: bool) -> LineOutput<W>
         ensures bytes { Keeps (W.contents out) (given_bytes W.contents result) }
         ensures held { unwritten result ≡ [] }
-        ensures whole { has_failed result ≡ false }
+        ensures whole { is_broken result ≡ false }
     {
         LineOutput {
             out,
             held: HeldBytes::new(),
             by_line,
             failed: false,
+            unflushed: None,
         }
     }
 
-    /// Writes what is held. What a failure leaves unwritten stays so.
-    fn hand_on(&mut self)
-        ensures bytes { Keeps (given_bytes W.contents self.old) (given_bytes W.contents self.new) }
-        ensures all { has_failed self.new ≡ false → unwritten self.new ≡ [] }
+    /// Whether a call has failed.
+    fn is_broken(&self) -> bool
+        ensures { result ≡ is_broken self.now }
     {
-        let (sent, failed) = send(self.held.as_slice(), &mut self.out);
-        self.held.let_go(sent);
-        self.failed = failed;
+        self.failed || self.unflushed.is_some()
     }
 
-    /// Whether to flush after these bytes: the buffer is full, or a line is complete.
-    fn is_due(&self, bytes: &[u8]) -> bool {
-        self.held.len() == ROOM || (self.by_line && bytes.contains(&b'\n'))
-    }
-
-    /// Takes bytes that fit into the buffer, and flushes if that is due.
+    /// Takes bytes that fit into the buffer, and hands on what is held if that is due.
     fn accept(&mut self, bytes: &[u8])
-        requires { length (unwritten self.old) + length bytes.now ≤ 65536 }
-        ensures { Appends (given_bytes W.contents self.old)
+        requires room { length (unwritten self.old) + length bytes.now ≤ 65536 }
+        requires whole { has_failed self.old ≡ false }
+        ensures bytes { Appends (given_bytes W.contents self.old)
             (given_bytes W.contents self.new) bytes.now }
+        ensures flush { unflushed self.new ≡ unflushed self.old }
     {
         self.held.append(bytes);
-        if !self.is_due(bytes) {
+        if !is_due(&self.held, self.by_line, bytes) {
             return;
         }
-        self.hand_on();
+        self.failed = hand_on(&mut self.held, &mut self.out);
     }
-}
-
-impl<W: Write> Write for LineOutput<W> {
-    ghost use Rattle.std.specs.Prelude.{◌≡◌, [], true, is_err, OnOk};
-    ghost use Rattle.kt_cli.specs.Common.{WritesAtMost, Keeps, WriteAppends, given_bytes, has_failed, unwritten};
-
-    ghost contents = { given_bytes W.contents };
-
-    fn write(&mut self, buf: &[u8]) -> io::Result<usize>
-        ensures bound { WritesAtMost result buf.now }
-        ensures bytes { WriteAppends (given_bytes W.contents self.old)
-            (given_bytes W.contents self.new) result buf.now }
-        ensures silent { has_failed self.old ≡ true → (self.new ≡ self.old)
-            × (is_err result ≡ true) }
-    {
-        if self.failed {
-            return Err(broken());
-        }
-        let taken = buf.len().min(ROOM - self.held.len());
-        self.accept(&buf[..taken]);
-        Ok(taken)
-    }
-
-    fn flush(&mut self) -> io::Result<()>
-        ensures bytes { Keeps (given_bytes W.contents self.old) (given_bytes W.contents self.new) }
-        ensures all { OnOk result (unwritten self.new ≡ []) }
-        ensures failed { is_err result ≡ has_failed self.new }
-        ensures silent { has_failed self.old ≡ true → (self.new ≡ self.old)
-            × (is_err result ≡ true) }
-    {
-        if self.failed {
-            return Err(broken());
-        }
-        self.hand_on();
-        if self.failed {
-            return Err(broken());
-        }
-        match self.out.flush() {
-            Ok(()) => Ok(()),
-            Err(fault) => {
-                self.failed = true;
-                Err(fault)
-            }
-        }
-    }
-}
-
-impl<W: Write> LineOutput<W> {
-    ghost use Rattle.kt_cli.specs.Common.{given_bytes, line_state, Flushed};
 
     /// The exit of a command that wrote here: what is still held is written, and where that fails the exit is 2.
     pub fn finish(&mut self, exit: Exit) -> Exit
@@ -125,6 +99,54 @@ impl<W: Write> LineOutput<W> {
         match self.flush() {
             Ok(()) => exit,
             Err(_fault) => Exit { status: FAILED },
+        }
+    }
+}
+
+impl<W: Write> Write for LineOutput<W> {
+    ghost use Rattle.std.specs.Prelude.{◌≡◌, ◌<◌, true, is_err, length, IfOk};
+    ghost use Rattle.kt_cli.specs.Common.{WritesAtMost, Keeps, WriteAppends, HandedOn, given_bytes, has_failed, is_broken, unflushed, unwritten};
+
+    ghost contents = { given_bytes W.contents };
+
+    // It fails only after another call that failed, and else takes a byte if there is one.
+    fn write(&mut self, buf: &[u8]) -> io::Result<usize>
+        ensures bound { WritesAtMost result buf.now }
+        ensures bytes { WriteAppends (given_bytes W.contents self.old)
+            (given_bytes W.contents self.new) result buf.now }
+        ensures fails { is_err result ≡ is_broken self.old }
+        ensures takes { IfOk result (λ n. 0 < length buf.now → 0 < n) }
+        ensures flush { unflushed self.new ≡ unflushed self.old }
+        ensures silent { is_broken self.old ≡ true → self.new ≡ self.old }
+    {
+        if self.is_broken() {
+            return Err(broken());
+        }
+        let taken = buf.len().min(ROOM - self.held.len());
+        self.accept(&buf[..taken]);
+        Ok(taken)
+    }
+
+    fn flush(&mut self) -> io::Result<()>
+        ensures bytes { Keeps (given_bytes W.contents self.old) (given_bytes W.contents self.new) }
+        ensures ends { HandedOn (has_failed self.new) (unflushed self.new) (unwritten self.new)
+            (is_err result) }
+        ensures silent { is_broken self.old ≡ true → (self.new ≡ self.old)
+            × (is_err result ≡ true) }
+    {
+        if self.is_broken() {
+            return Err(broken());
+        }
+        self.failed = hand_on(&mut self.held, &mut self.out);
+        if self.failed {
+            return Err(broken());
+        }
+        match flush_own(&mut self.out) {
+            Ok(()) => Ok(()),
+            Err(fault) => {
+                self.unflushed = Some(fault);
+                Err(broken())
+            }
         }
     }
 }

@@ -1,10 +1,11 @@
+use Rattle.std.proofs.Common.{refl}
 use Rattle.kt_cli.proofs.Common.{not_opened, closed}
 use Rattle.kt_cli.proofs.host.performing.perform_in_file.Goals as goal
 
 pub returns-in-Err : goal.returns-in-Err
-returns-in-Err g c = not_opened c.in-Err.fault c.in-Err.ensures c.print_store_fault.ensures
+returns-in-Err g c = not_opened c.in-Err.fault c.in-Err.ensures refl c.print_store_fault.ensures
 
 pub returns : goal.returns
 returns g c =
-    closed c.in-Ok.results c.perform_over-exit.new.results c.open.new.self c.perform_over-exit.new.platform (g.W.Write.contents c.perform_over-exit.new.out) c.perform_over-exit.result.status c.close-closed.result
-    c.in-Ok.ensures c.perform_over-exit.ensures c.close-closed.ensures c.with_closed.ensures
+    closed c.in-Ok.results c.perform_over-outside.new.results c.open.new.self c.perform_over-outside.new.platform (g.W.Write.contents c.perform_over-outside.new.out) c.perform_over-outside.result.0.status c.close-closed.result
+    c.in-Ok.ensures c.perform_over-outside.ensures c.close-closed.ensures c.with_closed.ensures

@@ -1,0 +1,30 @@
+use Rattle.std.proofs.Common.{true, arith}
+use Rattle.kt_cli.proofs.ProgramSearch.{behind_text, goes_here, goes_last, goes_on, shorter}
+use Rattle.kt_cli.proofs.host.program_search.is_among.Goals as goal
+
+pub loop-directory-init : goal.loop-directory-init
+loop-directory-init g c = (λ answer new s. s, c.utf8.among)
+
+pub returns-then-is_in : goal.returns-then-is_in
+returns-then-is_in g c =
+    let at = c.in-Some.ensures.byte (omega arith) (λ w o f. f) in
+    c.loop-directory.invariant.0 true _ (goes_here g.M.Machine.answers c.args.name.now c.loop-directory.rest.now c.in-Some.directory.now _ _ at.2 at.0 c.if-is_in.ensures)
+
+pub loop-directory-smaller : goal.loop-directory-smaller
+loop-directory-smaller g c =
+    let at = c.in-Some.ensures.byte (omega arith) (λ w o f. f) in
+    shorter c.loop-directory.rest.now c.in-Some.behind.now at.1 at.2
+
+pub loop-directory-preserved : goal.loop-directory-preserved
+loop-directory-preserved g c =
+    let at = c.in-Some.ensures.byte (omega arith) (λ w o f. f) in
+    let parts = c.in-Some.ensures.cases in (
+      goes_on g.M.Machine.answers c.args.name.now c.args.among.now c.loop-directory.rest.now c.in-Some.directory.now c.in-Some.behind.now c.args.machine.now c.loop-directory.machine c.is_in.new.machine
+          at.2 at.0 at.1 c.if-is_in.ensures c.loop-directory.invariant.0,
+      behind_text c.loop-directory.rest.now c.in-Some.behind.now parts.0 parts.1 c.loop-directory.invariant.1 parts.2 parts.4,
+    )
+
+pub returns : goal.returns
+returns g c =
+    c.loop-directory.invariant.0 c.is_in-2.result c.is_in-2.new.machine
+    (goes_last g.M.Machine.answers c.args.name.now c.loop-directory.rest.now c.is_in-2.result _ _ (c.in_default.ensures.byte (omega arith) (λ w o f. f)) c.is_in-2.ensures)

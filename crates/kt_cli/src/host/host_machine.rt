@@ -1,0 +1,94 @@
+ghost use Rattle.std.specs.Prelude.{◌≡◌, ◌≤◌, IfOk, length};
+ghost use Rattle.kt_cli.specs.Common.{may_execute, read_limit};
+
+use crate::Machine;
+use kt_base::{Bytes, LATEST_MOMENT, NoMemory};
+use kt_child::read_start;
+use kt_suite::ReadFault;
+use std::fs::File;
+use std::io::ErrorKind;
+use std::os::unix::fs::PermissionsExt;
+use std::rt::{Clock, Files};
+use std::time::SystemTime;
+use std::{fs, io};
+
+/// How many bytes of a file are read at the most: one more than a script may have.
+const READ_LIMIT: usize = 1_048_577;
+
+/// The rights to execute a file.
+const EXECUTE_RIGHTS: u32 = 0o111;
+
+/// The host as a machine.
+#[derive(Drop)]
+pub struct HostMachine<'a, R> {
+    pub rt: &'a R,
+}
+
+/// The fault of a system call that failed.
+fn fault_of(error: io::Error) -> ReadFault {
+    if let Some(refusal) = NoMemory::in_error(&error) {
+        return ReadFault::Memory(refusal);
+    }
+    match error.kind() {
+        ErrorKind::NotFound => ReadFault::Missing,
+        _ => ReadFault::Failed,
+    }
+}
+
+/// Whether someone may execute a file with these rights.
+fn may_execute(mode: u32) -> bool
+    ensures { result ≡ may_execute mode }
+{
+    mode & EXECUTE_RIGHTS != 0
+}
+
+/// Whether a path is that of a regular file.
+fn is_regular<R: Files>(rt: &R, path: &str) -> Result<bool, ReadFault> {
+    match fs::metadata(rt, path) {
+        Ok(metadata) => Ok(metadata.is_file()),
+        Err(error) => Err(fault_of(error)),
+    }
+}
+
+impl<R: Files<File = File> + Clock + AllocGlobal> Machine for HostMachine<'_, R> {
+    // Nothing is known of what the host answers but what the trait asks for.
+    ghost answers = { λ _ _ _. Unit {0} };
+
+    fn front(&mut self, path: &str) -> Result<Bytes, ReadFault> {
+        if !is_regular(self.rt, path)? {
+            return Err(ReadFault::Failed);
+        }
+        match File::open(self.rt, path) {
+            Ok(mut file) => read_start(self.rt.alloc(), &mut file, READ_LIMIT),
+            Err(error) => Err(fault_of(error)),
+        }
+    }
+
+    fn is_file(&mut self, path: &str) -> bool {
+        matches!(is_regular(self.rt, path), Ok(true))
+    }
+
+    fn is_there(&mut self, path: &str) -> bool {
+        fs::metadata(self.rt, path).is_ok()
+    }
+
+    fn is_program(&mut self, path: &str) -> bool {
+        match fs::metadata(self.rt, path) {
+            Ok(metadata) => metadata.is_file() && may_execute(metadata.permissions().mode()),
+            Err(_) => false,
+        }
+    }
+
+    fn moment(&mut self) -> u64 {
+        let Ok(now) = SystemTime::now(self.rt) else {
+            return 0;
+        };
+        let Ok(since) = now.duration_since(SystemTime::UNIX_EPOCH) else {
+            return 0;
+        };
+        match u64::try_from(since.as_millis()) {
+            Ok(millis) if millis <= LATEST_MOMENT => millis,
+            _ => 0,
+        }
+    }
+}

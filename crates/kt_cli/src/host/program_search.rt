@@ -1,0 +1,62 @@
+ghost use Rattle.std.specs.Prelude.{◌≡◌, ◌<◌, ◌≤◌, length, IfSome, IfNone};
+ghost use Rattle.kt_cli.specs.Common.{longest_path};
+ghost use Rattle.kt_cli.specs.Machines.{InDirectory, IsSought, Searched, directories, path_in};
+
+use crate::Machine;
+use crate::host::host_path::{LONGEST_PATH, joined_path};
+use kt_base::{Text, has_slash, is_absolute};
+
+/// The path of a program in a directory; the empty one is the working directory.
+fn path_in<'a>(directory: &str, name: &str, room: &'a mut [u8]) -> Option<&'a str>
+    requires { length room.old ≡ longest_path }
+    ensures path { IfSome result (λ path. path.now ≡ path_in directory.now name.now) }
+    ensures fits { IfSome result (λ path. length path.now ≤ longest_path) }
+    ensures long { IfNone result (longest_path < length (path_in directory.now name.now)) }
+{
+    if directory.is_empty() {
+        return joined_path("", "", name, room);
+    }
+    joined_path(directory, "/", name, room)
+}
+
+/// Whether a program is in a directory.
+fn is_in<M: Machine>(machine: &mut M, directory: &str, name: &str) -> bool
+    ensures { InDirectory M.answers name.now directory.now result machine.old machine.new }
+{
+    let mut room = [0u8; LONGEST_PATH];
+    match path_in(directory, name, &mut room) {
+        Some(path) => machine.is_program(path),
+        None => false,
+    }
+}
+
+/// Whether a program is in one of the directories, which have colons between them.
+fn is_among<M: Machine>(machine: &mut M, among: &str, name: &str) -> bool
+    ensures { Searched M.answers name.now (directories among.now) result machine.old machine.new }
+{
+    let mut rest = among;
+    while let Some((directory, behind)) = rest.split_once(':') {
+        if is_in(machine, directory, name) {
+            return true;
+        }
+        rest = behind;
+    }
+    is_in(machine, rest, name)
+}
+
+/// Whether a program is found: at its absolute path, or by a name without a slash in a directory of `PATH`.
+pub fn is_found<M: Machine>(machine: &mut M, path: &Option<Text>, name: &Text) -> bool
+    ensures { IsSought M.answers path.now name.now result machine.old machine.new }
+{
+    let word = name.as_str();
+    if is_absolute(word) {
+        return machine.is_program(word);
+    }
+    if has_slash(word) {
+        return false;
+    }
+    match path {
+        Some(among) => is_among(machine, among.as_str(), word),
+        None => false,
+    }
+}
