@@ -76,8 +76,8 @@ pub use Rattle.kt_store.specs.Inner.Kept.{AsksNumber, Changes, CommitsNothing, K
 pub use Rattle.kt_store.specs.Inner.Runs.{CanAdd, HasTexts, IsBareIfPassed, IsComplete, entries_of}
 pub use Rattle.kt_store.specs.Inner.Transactions.{Commits, CommitsLater, IsUndone, MayCommit, RunInTurn, RunsAll, RunsInside, RunsOne, Undoes, begun}
 pub use Rattle.kt_store.specs.Inner.Whole.{AreAt}
-pub use Rattle.kt_store.specs.Runs.{AreNumbered, AreRuns, HaveNoPairs, IsEntry, IsPair, IsRun, IsText, Keeps, KeepsEither, KeepsOld, KeepsOne, OldTables, Tables, entry_row, entry_rows, finish, finish_refusal, finish_refusal_of, flag, has_position, insert_at, kind_code, new_run, pair_row, pair_rows, pair_rows_from, prop_rows, put_refusal, put_refusal_of, run_at, run_row, with_entry}
-pub use Rattle.kt_store.specs.Serving.{Agrees, Outlasts, Serves, changed_by}
+pub use Rattle.kt_store.specs.Runs.{AreNumbered, AreOrdered, AreRuns, HaveNoPairs, IsEntry, IsPair, IsRun, IsText, Keeps, KeepsEither, KeepsOld, KeepsOne, OldTables, Tables, entry_row, entry_rows, finish, finish_refusal, finish_refusal_of, flag, has_position, insert_at, kind_code, new_run, pair_row, pair_rows, pair_rows_from, prop_rows, put_refusal, put_refusal_of, run_at, run_row, with_entry}
+pub use Rattle.kt_store.specs.Serving.{Agrees, Outlasts, Reads, Serves, changed_by}
 pub use Rattle.kt_store.specs.Stands.{HasTables, Holds, IsEmpty, IsSettled, IsStore, IsUnderstood, Leaves, SaysNumber, SaysSchema, StandsFor, StandsInOld}
 pub use Rattle.kt_store.specs.StoreCalls.{Began, Finished, Heads, Outline, Outputs, Put, StoreCall, seen_as}
 pub use Rattle.kt_store.specs.Tables.{begin_text, beside_meta, count_text, create_entries, create_meta, create_props, create_runs, entries, entries_1, entries_text, finish_text, full_text, index_of, mark_text, meta, meta_1, meta_text, no_schema, outline_text, outputs_text, pairs_text, props, props_1, put_text, raise_text, run_text, runs, runs_1, runs_text, schema_1, schema_2, there_text}

@@ -1,6 +1,7 @@
--- Runs stay numbered by place.
-use Rattle.std.proofs.Common.{Ok, Err, Bool, true, false, if◌then◌else◌, ◌≡◌, ℕ, suc, ◌+◌, ◌==◌, List, [], ◌∷◌, ◌++◌, length, arith, ◌∙◌}
-use Rattle.kt_store.proofs.Common.{Entry, Run, AreNumbered, new_run, insert_at, with_entry, finish, changed_by, StoreCall, Began, Put, Finished, Heads, Outline, Outputs}
+-- Runs stay numbered by place, and their entries ordered.
+use Rattle.std.proofs.Common.{Ok, Err, Bool, true, false, if◌then◌else◌, ◌≡◌, ◌==◌, nat_le, ℕ, zero, suc, ◌+◌, List, [], ◌∷◌, ◌++◌, length, Some, None, slice_get, subst, refl, arith, ◌∙◌}
+use Rattle.kt_store.proofs.Common.{nat_tests, all-append, Entry, Run, AreNumbered, AreOrdered, Agrees, new_run, insert_at, with_entry, put_refusal_of, has_position, finish, changed_by, StoreCall, Began, Put, Finished, Heads, Outline, Outputs, RunClosed, BadPosition, RepeatedPosition}
+use Rattle.kt_store.proofs.TakesLemmas.{ascends}
 
 numbers_more : (n : ℕ) (runs : List Run) (r : Run) → AreNumbered n runs → r.number ≡ n + length runs → AreNumbered n (runs ++ r ∷ [])
 numbers_more n [] r h e = (e ∙ omega arith, tt)
@@ -32,3 +33,44 @@ numbers_changed (Finished number (Err fault)) runs h = h
 numbers_changed (Heads answer) runs h = h
 numbers_changed (Outline number answer) runs h = h
 numbers_changed (Outputs number position answer) runs h = h
+
+-- a run that takes an entry has none at its position
+free_of : (r : Run) (e : Entry) → put_refusal_of (Some r) e ≡ None → has_position e.position r.entries ≡ false
+free_of r e = by r.finished (nat_le r.total e.position) (has_position e.position r.entries)
+  where
+    by : (closed past here : Bool) → (if closed then Some RunClosed else if past then Some BadPosition else if here then Some RepeatedPosition else None) ≡ None → here ≡ false
+    by true past here h = absurd cc
+    by false true here h = absurd cc
+    by false false true h = absurd cc
+    by false false false h = refl
+
+ordered_entry : (n k : ℕ) (e : Entry) (runs : List Run) → AreNumbered n runs → AreOrdered runs → put_refusal_of (slice_get runs k) e ≡ None → AreOrdered (with_entry (n + k) e runs)
+ordered_entry n k e [] h o free = tt
+ordered_entry n zero e (r ∷ runs) h o free =
+    let number : (r.number == n + 0) ≡ true = grind (arith, nat_tests, h.0) in
+    rw number (ascends e r.entries o.0 (free_of r e free), o.1)
+ordered_entry n (suc k) e (r ∷ runs) h o free =
+    let place : suc n + k ≡ n + suc k = omega arith in
+    let apart : (r.number == n + suc k) ≡ false = grind (arith, nat_tests, h.0) in
+    rw apart (o.0, subst (λ m. AreOrdered (with_entry m e runs)) place (ordered_entry (suc n) k e runs h.1 o.1 free))
+
+ordered_finish : (k : ℕ) (runs : List Run) → AreOrdered runs → AreOrdered (finish k runs)
+ordered_finish k [] o = tt
+ordered_finish k (r ∷ runs) o = by (r.number == k) (ordered_finish k runs o.1)
+  where
+    by : (b : Bool) → AreOrdered (finish k runs) → AreOrdered (if b then record r { finished = true } ∷ runs else r ∷ finish k runs)
+    by true more = (o.0, o.1)
+    by false more = (o.0, more)
+
+-- the entries stay ordered after a call whose answer agrees with the runs
+pub ordered_changed : (call : StoreCall) (runs : List Run) → AreNumbered 1 runs → AreOrdered runs → Agrees runs call → AreOrdered (changed_by call runs)
+ordered_changed (Began total moment (Ok number)) runs h o a = all-append _ runs (new_run runs total moment ∷ []) o (tt, tt)
+ordered_changed (Began total moment (Err fault)) runs h o a = o
+ordered_changed (Put zero e (Ok done)) runs h o a = absurd cc
+ordered_changed (Put (suc k) e (Ok done)) runs h o a = subst (λ m. AreOrdered (with_entry m e runs)) (omega arith) (ordered_entry 1 k e runs h o a)
+ordered_changed (Put number e (Err fault)) runs h o a = o
+ordered_changed (Finished number (Ok done)) runs h o a = ordered_finish number runs o
+ordered_changed (Finished number (Err fault)) runs h o a = o
+ordered_changed (Heads answer) runs h o a = o
+ordered_changed (Outline number answer) runs h o a = o
+ordered_changed (Outputs number position answer) runs h o a = o

@@ -1,20 +1,21 @@
 -- How the tables of a database serve the calls of a store.
 use Rattle.std.proofs.Common.{Result, Ok, Err, ◌≡◌, inl, ℕ, suc, List, [], ◌∷◌, ◌++◌, ◌<◌, None, length, IsErrAnd, refl, subst, sym, arith}
-use Rattle.kt_store.proofs.Common.{Trees, Ghosts, Held, state, State, HasCleanDisk, Survives, survives_then, survives_weaker, last_run, Entry, Run, IsStoreFault, KeepsRuns, OnlyReads, Changes, MayChange, AreNumbered, Keeps, KeepsOne, new_run, with_entry, put_refusal, finish, finish_refusal, Serves, Agrees, Outlasts, StandsFor, Leaves, StoreCall, Began, Put, Finished, Heads, Outline, Outputs, StoreFault}
+use Rattle.kt_store.proofs.Common.{Trees, Ghosts, Held, state, State, HasCleanDisk, Survives, survives_then, survives_weaker, last_run, Entry, Run, IsStoreFault, KeepsRuns, OnlyReads, Changes, MayChange, AreNumbered, AreOrdered, Keeps, KeepsOne, new_run, with_entry, put_refusal, finish, finish_refusal, Serves, Agrees, Outlasts, changed_by, StandsFor, Leaves, StoreCall, Began, Put, Finished, Heads, Outline, Outputs, StoreFault}
 use Rattle.kt_store.specs.declared.result_store.CaseOutputs.{CaseOutputs}
 use Rattle.kt_store.specs.declared.result_store.RunHead.{RunHead}
 use Rattle.kt_store.specs.declared.result_store.Keeping as store
 use Rattle.kt_store.proofs.Crashing.{survived, untouched}
-use Rattle.kt_store.proofs.Numbered.{numbers_new, numbers_entry, numbers_finish}
+use Rattle.kt_store.proofs.Numbered.{numbers_changed, ordered_changed}
 
 -- what is known of the results in a database
 abbrev pub results : {S : Type 0} → Ghosts S → store.Ghosts (Held S)
 results g = record {
   answers = λ _ _ _. Unit {0};
-  stands = λ s runs. StandsFor (state g s) runs × AreNumbered 1 runs;
+  stands = λ s runs. StandsFor (state g s) runs × AreNumbered 1 runs × (HasCleanDisk (state g s) → AreOrdered runs);
   sound = λ s. HasCleanDisk (state g s);
   leaves = λ s may. Leaves (state g s) (KeepsOne may);
   numbered = λ s runs h. h.1;
+  ordered = λ s runs h sound. h.2 sound;
 }
 
 -- what is known of each crash is known after each call
@@ -32,6 +33,18 @@ always_outlasts Leaves h (Outputs number position answer) runs may old new = λ 
 -- a crash leaves what it left before, if nothing was called
 pub survives_self : (s : State) → Survives s s (λ (db : Trees). ⊥)
 survives_self s = record { clean = omega arith; shield = λ h. h; counts = omega arith; limit = refl; closes = λ clean opened. inl opened; crash = λ clean db may. inl may }
+
+-- a call is served if its tables stand for the changed runs, which are numbered and ordered if those before were
+serves : {S : Type 0} (g : Ghosts S) (call : StoreCall) (old new : Held S) → ((runs : List Run) → StandsFor (state g old) runs → StandsFor (state g new) (changed_by call runs))
+    → ((runs : List Run) → StandsFor (state g old) runs → HasCleanDisk (state g new) → HasCleanDisk (state g old)) → ((runs : List Run) → StandsFor (state g old) runs → HasCleanDisk (state g new) → Agrees runs call)
+    → ((runs : List Run) (may : List (List Run)) → StandsFor (state g old) runs → Outlasts (λ s more. Leaves (state g s) (KeepsOne more)) call runs may old new) → Serves (results g) call old new
+serves g call old new stands earlier agrees crash = record {
+  asked = tt;
+  stands = λ runs h. (stands runs h.0, numbers_changed call runs h.1, λ clean. ordered_changed call runs h.1 (h.2 (earlier runs h.0 clean)) (agrees runs h.0 clean));
+  earlier = λ runs h clean. earlier runs h.0 clean;
+  agrees = λ runs h clean. agrees runs h.0 clean;
+  crash = λ runs may h. crash runs may h.0;
+}
 
 module _ {S : Type 0} (g : Ghosts S) where
   -- a call hands on the refusal of a part of it, and is seen as its connection
@@ -55,59 +68,29 @@ module _ {S : Type 0} (g : Ghosts S) (old new : Held S) (kept : KeepsRuns g old 
   module _ (fault : StoreFault) where
     -- one that is refused before it writes
     pub begin_refused : (total moment : ℕ) → ((runs : List Run) → StandsFor (state g old) runs → HasCleanDisk (state g new) → Agrees runs (Began total moment (Err fault))) → Serves (results g) (Began total moment (Err fault)) old new
-    begin_refused total moment why = record {
-      asked = tt;
-      stands = λ runs h. (kept runs h.0, h.1);
-      earlier = λ runs h clean. early runs h.0 clean;
-      agrees = λ runs h clean. why runs h.0 clean;
-      crash = λ runs may h l. unwritten (runs ++ new_run runs total moment ∷ []) runs may h.0 l;
-    }
+    begin_refused total moment why =
+        serves g (Began total moment (Err fault)) old new kept early why (λ runs may has l. unwritten (runs ++ new_run runs total moment ∷ []) runs may has l)
 
     pub put_refused : (number : ℕ) (e : Entry) → ((runs : List Run) → StandsFor (state g old) runs → HasCleanDisk (state g new) → Agrees runs (Put number e (Err fault))) → Serves (results g) (Put number e (Err fault)) old new
-    put_refused number e why = record {
-      asked = tt;
-      stands = λ runs h. (kept runs h.0, h.1);
-      earlier = λ runs h clean. early runs h.0 clean;
-      agrees = λ runs h clean. why runs h.0 clean;
-      crash = λ runs may h l. unwritten (with_entry number e runs) runs may h.0 l;
-    }
+    put_refused number e why =
+        serves g (Put number e (Err fault)) old new kept early why (λ runs may has l. unwritten (with_entry number e runs) runs may has l)
 
     pub finish_refused : (number : ℕ) → ((runs : List Run) → StandsFor (state g old) runs → HasCleanDisk (state g new) → Agrees runs (Finished number (Err fault))) → Serves (results g) (Finished number (Err fault)) old new
-    finish_refused number why = record {
-      asked = tt;
-      stands = λ runs h. (kept runs h.0, h.1);
-      earlier = λ runs h clean. early runs h.0 clean;
-      agrees = λ runs h clean. why runs h.0 clean;
-      crash = λ runs may h l. unwritten (finish number runs) runs may h.0 l;
-    }
+    finish_refused number why =
+        serves g (Finished number (Err fault)) old new kept early why (λ runs may has l. unwritten (finish number runs) runs may has l)
 
   -- one that reads
   pub heads_read : (answer : Result (List RunHead) StoreFault) → ((runs : List Run) → StandsFor (state g old) runs → HasCleanDisk (state g new) → Agrees runs (Heads answer)) → Serves (results g) (Heads answer) old new
-  heads_read answer why = record {
-    asked = tt;
-    stands = λ runs h. (kept runs h.0, h.1);
-    earlier = λ runs h clean. early runs h.0 clean;
-    agrees = λ runs h clean. why runs h.0 clean;
-    crash = λ runs may h l. untouched (state g old) (state g new) may (only runs h.0) l;
-  }
+  heads_read answer why =
+      serves g (Heads answer) old new kept early why (λ runs may has l. untouched (state g old) (state g new) may (only runs has) l)
 
   pub outline_read : (number : ℕ) (answer : Result (List Entry) StoreFault) → ((runs : List Run) → StandsFor (state g old) runs → HasCleanDisk (state g new) → Agrees runs (Outline number answer)) → Serves (results g) (Outline number answer) old new
-  outline_read number answer why = record {
-    asked = tt;
-    stands = λ runs h. (kept runs h.0, h.1);
-    earlier = λ runs h clean. early runs h.0 clean;
-    agrees = λ runs h clean. why runs h.0 clean;
-    crash = λ runs may h l. untouched (state g old) (state g new) may (only runs h.0) l;
-  }
+  outline_read number answer why =
+      serves g (Outline number answer) old new kept early why (λ runs may has l. untouched (state g old) (state g new) may (only runs has) l)
 
   pub outputs_read : (number position : ℕ) (answer : Result CaseOutputs StoreFault) → ((runs : List Run) → StandsFor (state g old) runs → HasCleanDisk (state g new) → Agrees runs (Outputs number position answer)) → Serves (results g) (Outputs number position answer) old new
-  outputs_read number position answer why = record {
-    asked = tt;
-    stands = λ runs h. (kept runs h.0, h.1);
-    earlier = λ runs h clean. early runs h.0 clean;
-    agrees = λ runs h clean. why runs h.0 clean;
-    crash = λ runs may h l. untouched (state g old) (state g new) may (only runs h.0) l;
-  }
+  outputs_read number position answer why =
+      serves g (Outputs number position answer) old new kept early why (λ runs may has l. untouched (state g old) (state g new) may (only runs has) l)
 
 -- two parts that read
 module _ {S : Type 0} (g : Ghosts S) (old mid new : Held S) (kept : KeepsRuns g old mid) (only : OnlyReads g old mid) where
@@ -144,22 +127,12 @@ module _ {S : Type 0} (g : Ghosts S) (old mid new : Held S) (kept : KeepsRuns g 
     (room : (runs : List Run) → StandsFor (state g old) runs → HasCleanDisk (state g mid) → length runs < last_run) (may_change : MayChange g mid new (λ runs. length runs < last_run) (λ runs. runs ++ new_run runs total moment ∷ [])) where
   pub begin_done : (number : ℕ) → Changes g mid new (λ runs. length runs < last_run) (λ runs. runs ++ new_run runs total moment ∷ [])
       → ((runs : List Run) → StandsFor (state g old) runs → HasCleanDisk (state g new) → number ≡ suc (length runs)) → Serves (results g) (Began total moment (Ok number)) old new
-  begin_done number changes is = record {
-    asked = tt;
-    stands = λ runs h. (done g old mid new kept only _ _ room may_change changes runs h.0, numbers_new runs total moment h.1);
-    earlier = λ runs h clean. old_clean g old mid new kept only _ _ room may_change runs h.0 clean;
-    agrees = λ runs h clean. (is runs h.0 clean, room runs h.0 (mid_clean g old mid new kept only _ _ room may_change runs h.0 clean));
-    crash = λ runs may h. lasting g old mid new kept only _ _ room may_change changes runs h.0;
-  }
+  begin_done number changes is =
+      serves g (Began total moment (Ok number)) old new (done g old mid new kept only _ _ room may_change changes) (old_clean g old mid new kept only _ _ room may_change) (λ runs has clean. (is runs has clean, room runs has (mid_clean g old mid new kept only _ _ room may_change runs has clean))) (λ runs may has. lasting g old mid new kept only _ _ room may_change changes runs has)
 
   pub begin_failed : (fault : StoreFault) → IsStoreFault fault → KeepsRuns g mid new → Serves (results g) (Began total moment (Err fault)) old new
-  begin_failed fault failed more = record {
-    asked = tt;
-    stands = λ runs h. (more runs (kept runs h.0), h.1);
-    earlier = λ runs h clean. old_clean g old mid new kept only _ _ room may_change runs h.0 clean;
-    agrees = λ runs h clean. inl failed;
-    crash = λ runs may h l. written g old mid new kept only _ _ room may_change runs may h.0 l;
-  }
+  begin_failed fault failed more =
+      serves g (Began total moment (Err fault)) old new (λ runs has. more runs (kept runs has)) (old_clean g old mid new kept only _ _ room may_change) (λ runs has clean. inl failed) (written g old mid new kept only _ _ room may_change)
 
 -- an entry is put after a look
 module _ {S : Type 0} (g : Ghosts S) (old mid new : Held S) (kept : KeepsRuns g old mid) (only : OnlyReads g old mid) (number : ℕ) (e : Entry) (Fits : List Run → Type 0)
@@ -168,22 +141,12 @@ module _ {S : Type 0} (g : Ghosts S) (old mid new : Held S) (kept : KeepsRuns g 
   may runs has clean = (fits runs has clean).1
 
   pub put_done : Changes g mid new Fits (with_entry number e) → Serves (results g) (Put number e (Ok tt)) old new
-  put_done changes = record {
-    asked = tt;
-    stands = λ runs h. (done g old mid new kept only _ _ may may_change changes runs h.0, numbers_entry number e 1 runs h.1);
-    earlier = λ runs h clean. old_clean g old mid new kept only _ _ may may_change runs h.0 clean;
-    agrees = λ runs h clean. (fits runs h.0 (mid_clean g old mid new kept only _ _ may may_change runs h.0 clean)).0;
-    crash = λ runs others h. lasting g old mid new kept only _ _ may may_change changes runs h.0;
-  }
+  put_done changes =
+      serves g (Put number e (Ok tt)) old new (done g old mid new kept only _ _ may may_change changes) (old_clean g old mid new kept only _ _ may may_change) (λ runs has clean. (fits runs has (mid_clean g old mid new kept only _ _ may may_change runs has clean)).0) (λ runs others has. lasting g old mid new kept only _ _ may may_change changes runs has)
 
   pub put_failed : (fault : StoreFault) → IsStoreFault fault → KeepsRuns g mid new → Serves (results g) (Put number e (Err fault)) old new
-  put_failed fault failed more = record {
-    asked = tt;
-    stands = λ runs h. (more runs (kept runs h.0), h.1);
-    earlier = λ runs h clean. old_clean g old mid new kept only _ _ may may_change runs h.0 clean;
-    agrees = λ runs h clean. inl failed;
-    crash = λ runs others h l. written g old mid new kept only _ _ may may_change runs others h.0 l;
-  }
+  put_failed fault failed more =
+      serves g (Put number e (Err fault)) old new (λ runs has. more runs (kept runs has)) (old_clean g old mid new kept only _ _ may may_change) (λ runs has clean. inl failed) (written g old mid new kept only _ _ may may_change)
 
 -- a run is finished after a look
 module _ {S : Type 0} (g : Ghosts S) (old mid new : Held S) (kept : KeepsRuns g old mid) (only : OnlyReads g old mid) (number : ℕ) (Fits : List Run → Type 0)
@@ -192,19 +155,9 @@ module _ {S : Type 0} (g : Ghosts S) (old mid new : Held S) (kept : KeepsRuns g 
   can runs has clean = (fits runs has clean).1
 
   pub finish_done : Changes g mid new Fits (finish number) → Serves (results g) (Finished number (Ok tt)) old new
-  finish_done changes = record {
-    asked = tt;
-    stands = λ runs h. (done g old mid new kept only _ _ can may_change changes runs h.0, numbers_finish number 1 runs h.1);
-    earlier = λ runs h clean. old_clean g old mid new kept only _ _ can may_change runs h.0 clean;
-    agrees = λ runs h clean. (fits runs h.0 (mid_clean g old mid new kept only _ _ can may_change runs h.0 clean)).0;
-    crash = λ runs others h. lasting g old mid new kept only _ _ can may_change changes runs h.0;
-  }
+  finish_done changes =
+      serves g (Finished number (Ok tt)) old new (done g old mid new kept only _ _ can may_change changes) (old_clean g old mid new kept only _ _ can may_change) (λ runs has clean. (fits runs has (mid_clean g old mid new kept only _ _ can may_change runs has clean)).0) (λ runs others has. lasting g old mid new kept only _ _ can may_change changes runs has)
 
   pub finish_failed : (fault : StoreFault) → IsStoreFault fault → KeepsRuns g mid new → Serves (results g) (Finished number (Err fault)) old new
-  finish_failed fault failed more = record {
-    asked = tt;
-    stands = λ runs h. (more runs (kept runs h.0), h.1);
-    earlier = λ runs h clean. old_clean g old mid new kept only _ _ can may_change runs h.0 clean;
-    agrees = λ runs h clean. inl failed;
-    crash = λ runs others h l. written g old mid new kept only _ _ can may_change runs others h.0 l;
-  }
+  finish_failed fault failed more =
+      serves g (Finished number (Err fault)) old new (λ runs has. more runs (kept runs has)) (old_clean g old mid new kept only _ _ can may_change) (λ runs has clean. inl failed) (written g old mid new kept only _ _ can may_change)

@@ -2,7 +2,7 @@
 use Rattle.std.proofs.Common.{◌≡◌, ◌==◌, ◌||◌, inl, inr, nat_lt, nat_le, ℕ, zero, suc, ◌+◌, ◌<◌, ◌≤◌, List, [], ◌∷◌, length, Bool, true, false, cond, Some, None, slice_get, refl, sym, ap, subst, ◌∙◌, arith}
 use Rattle.kt_store.proofs.Common.{cases_Bool, nat_tests, AllByRecursion, IsAscending, Run, Entry, RunClosed, BadPosition, RepeatedPosition, entries_of, CanAdd, IsBareIfPassed, AreRuns, put_refusal, put_refusal_of, IsRun, IsEntry, insert_at, with_entry, has_position, run_at, AreNumbered}
 
-abbrev lower : Entry → Entry → Type 0
+abbrev pub lower : Entry → Entry → Type 0
 lower a b = a.position < b.position
 
 all_insert : (P : Entry → Type 0) (e : Entry) (es : List Entry) → P e → AllByRecursion P es → AllByRecursion P (insert_at e es)
@@ -25,7 +25,7 @@ no_rest : (a b : Bool) → (a || b) ≡ false → b ≡ false
 no_rest true b h = absurd (let e : true ≡ false = h in cc)
 no_rest false b h = h
 
-ascends : (e : Entry) (es : List Entry) → IsAscending lower es → has_position e.position es ≡ false → IsAscending lower (insert_at e es)
+pub ascends : (e : Entry) (es : List Entry) → IsAscending lower es → has_position e.position es ≡ false → IsAscending lower (insert_at e es)
 ascends e [] h free = (tt, tt)
 ascends e (x ∷ es) h free = elim (cases_Bool (nat_lt e.position x.position)) [
   | inl before ↦ let low : lower e x = grind (arith, nat_tests, before) in rw before ((low, all_lower e x es low h.0), (h.0, h.1))

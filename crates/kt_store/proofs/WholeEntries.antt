@@ -1,6 +1,7 @@
--- The entries of a run are found at their positions.
-use Rattle.std.proofs.Common.{◌≡◌, ◌==◌, ◌<◌, ℕ, List, [], ◌∷◌, map, false, Option, Some, refl, sym, ◌∙◌, subst, arith}
-use Rattle.kt_store.proofs.Common.{AllByRecursion, find, eq-eqb, nat_tests, IsAscending, Entry, Run, entry_at, without_outputs, AreAt}
+-- The entries of a run are read whole, each found at its position.
+use Rattle.std.proofs.Common.{◌≡◌, ◌==◌, ◌<◌, ℕ, zero, suc, List, [], ◌∷◌, map, false, Option, Some, slice_get, refl, sym, ◌∙◌, subst, arith}
+use Rattle.kt_store.proofs.Common.{AllByRecursion, find, eq-eqb, nat_tests, IsAscending, Entry, Run, AreOrdered, Reads, entry_at, run_at, without_outputs, AreAt}
+use Rattle.kt_store.specs.declared.result_store.Keeping as store
 use Rattle.kt_store.proofs.OutputsLemmas.{has}
 
 differs : (p q : ℕ) → p < q → (p == q) ≡ false
@@ -15,8 +16,23 @@ found : (es : List Entry) → IsAscending (λ (a b : Entry). a.position < b.posi
 found [] up = tt
 found (e ∷ es) up = (rw (eq-eqb e.position e.position refl) refl, after e es es up.0 (found es up.1))
 
-pub are_at : (o : Option Run) (r : Run) → o ≡ Some r → IsAscending (λ (a b : Entry). a.position < b.position) r.entries → AreAt o r.entries
-are_at o r is up = subst (λ (x : Option Run). AreAt x r.entries) (sym is) (found r.entries up)
+at_place : (runs : List Run) (k : ℕ) (r : Run) → AreOrdered runs → slice_get runs k ≡ Some r → AreAt (slice_get runs k) r.entries
+at_place [] k r up is = absurd cc
+at_place (x ∷ runs) zero r up is = subst (λ (y : Run). AreAt (Some x) y.entries) (let same : x ≡ r = cc in same) (found x.entries up.0)
+at_place (x ∷ runs) (suc k) r up is = at_place runs k r up.1 is
+
+pub are_at : (runs : List Run) (run : ℕ) (r : Run) → AreOrdered runs → run_at runs run ≡ Some r → AreAt (run_at runs run) r.entries
+are_at runs zero r up is = absurd cc
+are_at runs (suc k) r up is = at_place runs k r up is
+
+module _ {R : Type 0} (g : store.Ghosts R) where
+  -- more of a store is read
+  pub reads_more : (old mid new : R) → Reads g old mid → Reads g mid new → Reads g old new
+  reads_more old mid new a b = record {
+    stands = λ runs h. b.stands runs (a.stands runs h);
+    earlier = λ runs h sound. a.earlier runs h (b.earlier runs (a.stands runs h) sound);
+    crash = λ runs may h l. b.crash runs may (a.stands runs h) (a.crash runs may h l);
+  }
 
 -- the next entry of an outline is that of a run
 pub first_of : (o : Option Run) (rest items left : List Entry) (next : Entry) → AreAt o rest → items ≡ map without_outputs rest → items ≡ next ∷ left

@@ -28,8 +28,8 @@ pub use Rattle.kt_store.specs.Inner.Kept.{AsksNumber, Changes, CommitsNothing, F
 pub use Rattle.kt_store.specs.Inner.Runs.{CanAdd, IsBareIfPassed, IsComplete, entries_of}
 pub use Rattle.kt_store.specs.Inner.Transactions.{Commits, CommitsLater, MayCommit, RunsAll, RunsOne, Undoes}
 pub use Rattle.kt_store.specs.Inner.Whole.{AreAt}
-pub use Rattle.kt_store.specs.Runs.{AreNumbered, AreRuns, IsEntry, IsPair, IsText, Keeps, KeepsOne, finish, finish_refusal, flag, has_position, kind_code, new_run, put_refusal, run_at, with_entry}
-pub use Rattle.kt_store.specs.Serving.{Serves}
+pub use Rattle.kt_store.specs.Runs.{AreNumbered, AreOrdered, AreRuns, IsEntry, IsPair, IsText, Keeps, KeepsOne, finish, finish_refusal, flag, has_position, kind_code, new_run, put_refusal, run_at, with_entry}
+pub use Rattle.kt_store.specs.Serving.{Reads, Serves}
 pub use Rattle.kt_store.specs.Stands.{IsUnderstood, Leaves, SaysSchema, StandsFor}
 pub use Rattle.kt_store.specs.StoreCalls.{Began, Finished, Heads, Outline, Outputs, Put, seen_as}
 pub use Rattle.kt_store.specs.Tables.{entries_text, pairs_text, runs_text, schema_2}

@@ -96,6 +96,10 @@ pub record AreRuns (runs : List Run) : Type 0 where
   pub each : AllByRecursion IsRun runs
   pub few : length runs ≤ last_run
 
+-- in each of these runs the entries go by position, none twice
+abbrev pub AreOrdered : List Run → Type 0
+AreOrdered runs = AllByRecursion (λ (r : Run). IsAscending (λ (a b : Entry). a.position < b.position) r.entries) runs
+
 -- the database is the tables of schema 2, and their rows are exactly those of these runs
 pub record Tables (db : Database) (runs : List Run) : Type 0 where
   pub schema : db.schema ≡ schema_2

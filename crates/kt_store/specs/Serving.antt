@@ -58,3 +58,10 @@ pub record Serves {R : Type 0} (r : store.Ghosts R) (call : StoreCall) (old new 
   pub earlier : (runs : List Run) → r.stands old runs → r.sound new → r.sound old
   pub agrees : (runs : List Run) → r.stands old runs → r.sound new → Agrees runs call
   pub crash : (runs : List Run) (may : List (List Run)) → r.stands old runs → Outlasts r.leaves call runs may old new
+
+-- calls that read alone: whatever runs a store stood for, it stands for them; if it is sound then, it was so before; a crash leaves only what it
+-- left before
+pub record Reads {R : Type 0} (r : store.Ghosts R) (old new : R) : Type 0 where
+  pub stands : (runs : List Run) → r.stands old runs → r.stands new runs
+  pub earlier : (runs : List Run) → r.stands old runs → r.sound new → r.sound old
+  pub crash : (runs : List Run) (may : List (List Run)) → r.stands old runs → r.leaves old may → r.leaves new may

@@ -25,7 +25,7 @@ pub struct CaseOutputs {
 pub trait Keeping {
     ghost use Rattle.std.specs.Prelude.{List};
     ghost use Rattle.kt_base.specs.declared.entry.Run.{Run};
-    ghost use Rattle.kt_store.specs.Runs.{AreNumbered};
+    ghost use Rattle.kt_store.specs.Runs.{AreNumbered, AreOrdered};
     ghost use Rattle.kt_store.specs.StoreCalls.{StoreCall};
 
     /// Whether a call with its answer leads from the first state to the second, whatever the store gives back later.
@@ -42,6 +42,10 @@ pub trait Keeping {
 
     /// A run's number is its place, counted from 1.
     ghost numbered: { (s : Self) (runs : List Run) → Self.stands s runs → AreNumbered 1 runs };
+
+    /// The entries of a run go by position, none twice, while the store is sound.
+    ghost ordered: { (s : Self) (runs : List Run) → Self.stands s runs → Self.sound s
+        → AreOrdered runs };
 }
 
 /// Where runs are recorded. Each call's refusals come in a stated order and change nothing; `NoMemory` and `Store` come

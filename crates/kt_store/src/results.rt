@@ -66,18 +66,21 @@ impl<S: Alter> Results<S> {
 }
 
 impl<S: Alter> Keeping for Results<S> {
-    ghost use Rattle.kt_store.specs.Common.{state, HasCleanDisk, AreNumbered, KeepsOne, StandsFor, Leaves};
+    ghost use Rattle.kt_store.specs.Common.{state, HasCleanDisk, AreNumbered, AreOrdered, KeepsOne, StandsFor, Leaves};
 
     // What each call returns is its own clause.
     ghost answers = { λ _ _ _. Unit {0} };
 
-    ghost stands = { λ s runs. StandsFor (state S.Store s) runs × AreNumbered 1 runs };
+    ghost stands = { λ s runs. StandsFor (state S.Store s) runs × AreNumbered 1 runs
+        × (HasCleanDisk (state S.Store s) → AreOrdered runs) };
 
     ghost sound = { λ s. HasCleanDisk (state S.Store s) };
 
     ghost leaves = { λ s may. Leaves (state S.Store s) (KeepsOne may) };
 
     ghost numbered = { λ s runs h. h.1 };
+
+    ghost ordered = { λ s runs h sound. h.2 sound };
 }
 
 impl<S: Alter> ResultStore for Results<S> {

@@ -1,5 +1,5 @@
-ghost use Rattle.std.specs.Prelude.{◌≡◌, List, Some, IfOk, map};
-ghost use Rattle.kt_store.specs.Common.{Run, entry_at, without_outputs, AreAt, AreRuns, run_at};
+ghost use Rattle.std.specs.Prelude.{◌≡◌, ◌⊎◌, List, Some, None, IfOk, IfErr, map};
+ghost use Rattle.kt_store.specs.Common.{Run, IsStoreFault, Reads, entry_at, without_outputs, AreAt, run_at};
 ghost use Rattle.kt_base.specs.declared.entry.Entry.{Entry as Stored};
 
 use crate::heads::add;
@@ -13,12 +13,13 @@ fn with_outputs<R: ResultStore>(
     run: u64,
     entry: Entry,
 ) -> Result<Entry, StoreFault>
-    ensures stands { (runs : List Run) → R.stands results.old runs → R.stands results.new runs }
-    ensures earlier { (runs : List Run) → R.stands results.old runs → R.sound results.new
-        → R.sound results.old }
+    ensures reads { Reads R.Keeping results.old results.new }
     ensures filled { (runs : List Run) (e : Stored) → R.stands results.old runs
         → R.sound results.new → entry_at (run_at runs run) e.position ≡ Some e
         → entry ≡ without_outputs e → IfOk result (λ whole. whole ≡ e) }
+    ensures failed { (runs : List Run) (e : Stored) → R.stands results.old runs
+        → R.sound results.new → entry_at (run_at runs run) e.position ≡ Some e
+        → entry ≡ without_outputs e → IfErr result IsStoreFault }
 {
     let outputs = results.outputs(run, entry.position)?;
     Ok(Entry {
@@ -35,12 +36,13 @@ fn all_with_outputs<R: ResultStore>(
     run: u64,
     outline: Vec<Entry>,
 ) -> Result<Vec<Entry>, StoreFault>
-    ensures stands { (runs : List Run) → R.stands results.old runs → R.stands results.new runs }
-    ensures earlier { (runs : List Run) → R.stands results.old runs → R.sound results.new
-        → R.sound results.old }
+    ensures reads { Reads R.Keeping results.old results.new }
     ensures filled { (runs : List Run) (es : List Stored) → R.stands results.old runs
         → R.sound results.new → AreAt (run_at runs run) es
         → outline.items ≡ map without_outputs es → IfOk result (λ whole. whole.items ≡ es) }
+    ensures failed { (runs : List Run) (es : List Stored) → R.stands results.old runs
+        → R.sound results.new → AreAt (run_at runs run) es
+        → outline.items ≡ map without_outputs es → IfErr result IsStoreFault }
 {
     let mut entries = Vec::new(alloc);
     for entry in outline {
@@ -56,10 +58,13 @@ pub fn entries<R: ResultStore>(
     results: &mut R,
     run: u64,
 ) -> Result<Vec<Entry>, StoreFault>
-    ensures stands { (runs : List Run) → R.stands results.old runs → R.stands results.new runs }
-    ensures entries { (runs : List Run) → R.stands results.old runs → AreRuns runs
-        → R.sound results.new → IfOk result (λ found. (r : Run) × (run_at runs run ≡ Some r)
+    ensures reads { Reads R.Keeping results.old results.new }
+    ensures entries { (runs : List Run) → R.stands results.old runs → R.sound results.new
+        → IfOk result (λ found. (r : Run) × (run_at runs run ≡ Some r)
         × (found.items ≡ r.entries)) }
+    ensures refused { (runs : List Run) → R.stands results.old runs → R.sound results.new
+        → IfErr result (λ e. IsStoreFault e
+        ⊎ ((e ≡ StoreFault.NoRun) × (run_at runs run ≡ None))) }
 {
     let outline = results.outline(run)?;
     let entries = all_with_outputs(alloc, results, run, outline)?;

@@ -1,6 +1,7 @@
 use Rattle.std.proofs.Common.{rules, ◌≡◌, ◌++◌, List, [], ◌∷◌, sym, ap, ◌∙◌, append_assoc}
-use Rattle.kt_store.proofs.Common.{Entry, run_at}
-use Rattle.kt_store.proofs.WholeEntries.{first_of}
+use Rattle.kt_store.proofs.Common.{Entry, IsStoreFault, run_at}
+use Rattle.kt_store.proofs.FaultLemmas.{if_same}
+use Rattle.kt_store.proofs.WholeEntries.{first_of, reads_more}
 use Rattle.kt_store.proofs.whole.all_with_outputs.Goals as goal
 
 pub loop-entry-preserved : goal.loop-entry-preserved
@@ -9,11 +10,10 @@ loop-entry-preserved g c =
     let so_far = c.loop-entry.entries.items in
     let is : c.loop-entry.entry-iterator.rest.items ≡ c.in-Some.entry ∷ c.next.new.self.rest.items = search rules in
     record {
-      stands = λ runs h. c.in_ok-whole.ensures.stands runs (v.stands runs h);
-      earlier = λ runs h s. v.earlier runs h (c.in_ok-whole.ensures.earlier runs (v.stands runs h) s);
+      reads = reads_more g.R.Keeping _ _ _ v.reads c.with_outputs.ensures.reads;
       filled = λ runs es h s at outline.
-          let stood = v.stands runs h in
-          let f = v.filled runs es h (c.in_ok-whole.ensures.earlier runs stood s) at outline in
+          let stood = v.reads.stands runs h in
+          let f = v.filled runs es h (c.with_outputs.ensures.reads.earlier runs stood s) at outline in
           let n = first_of (run_at runs c.args.run) f.0 _ _ _ f.1 f.2 is in
           let whole = c.in_ok-whole.ensures.filled runs n.0 stood s n.3 n.5 in (
             n.1,
@@ -23,3 +23,12 @@ loop-entry-preserved g c =
                 ∙ ap (λ (e : Entry). so_far ++ e ∷ n.1) whole ∙ ap (λ (l : List Entry). so_far ++ l) (sym n.2) ∙ f.3,
           );
     }
+
+pub returns-in_err-whole-clause-failed : goal.returns-in_err-whole-clause-failed
+returns-in_err-whole-clause-failed g c runs es h s at outline =
+    let v = c.loop-entry.invariant in
+    let is : c.loop-entry.entry-iterator.rest.items ≡ c.in-Some.entry ∷ c.next.new.self.rest.items = search rules in
+    let stood = v.reads.stands runs h in
+    let f = v.filled runs es h (c.with_outputs.ensures.reads.earlier runs stood s) at outline in
+    let n = first_of (run_at runs c.args.run) f.0 _ _ _ f.1 f.2 is in
+    if_same IsStoreFault c.from_residual.result c.in_err-whole.field-0.0 c.from_residual.ensures.1 (c.in_err-whole.ensures.failed runs n.0 stood s n.3 n.5)
