@@ -9,6 +9,7 @@ pub mod QueryLemmas
 pub mod FindLemmas
 pub mod FullLemmas
 pub mod AskLemmas
+pub mod WideLemmas
 pub mod CreateLemmas
 pub mod PutLemmas
 pub mod WriteLemmas

@@ -38,14 +38,10 @@ read_position p n v shown is read = let e : Int (pos n) ≡ Int (pos p) = sym re
 pub entry_position : (n : ℕ) (e : Entry) (shown : Row) → shown ≡ entry_columns e → column shown 0 ≡ Int (pos n) → n ≡ e.position
 entry_position n e shown is read = let q : Int (pos n) ≡ Int (pos e.position) = sym read ∙ ap (λ l. column l 0) is in cc
 
--- a row that is that of a pair has its columns
-pub has_columns : (p : ℕ) (v : Variable) (shown : Row) → shown ≡ pair_columns p v → 0 < length shown
-has_columns p v shown is = subst (λ (l : Row). 0 < length l) (sym is) (omega arith)
-
 -- the first column of the next row is a number
-pub first_column : (p : ℕ) (more : List Variable) (others : List Entry) (shown : Row) (after : List Row) → NextIs p more others shown after → (n : ℕ) × (0 < length shown) × (column shown 0 ≡ Int (pos n))
-first_column p more others shown after (inl next) = (p, has_columns p next.0 shown next.3, ap (λ l. column l 0) next.3)
-first_column p more others shown after (inr past) = (past.1, has_columns past.1 past.2 shown past.4, ap (λ l. column l 0) past.4)
+pub first_column : (p : ℕ) (more : List Variable) (others : List Entry) (shown : Row) (after : List Row) → NextIs p more others shown after → (n : ℕ) × (column shown 0 ≡ Int (pos n))
+first_column p more others shown after (inl next) = (p, ap (λ l. column l 0) next.3)
+first_column p more others shown after (inr past) = (past.1, ap (λ l. column l 0) past.4)
 
 -- a row of the position is that of the next pair
 pub next_pair : (p n : ℕ) (more : List Variable) (others : List Entry) (shown : Row) (after : List Row) → NextIs p more others shown after → column shown 0 ≡ Int (pos n) → n ≡ p → AllByRecursion IsPair more

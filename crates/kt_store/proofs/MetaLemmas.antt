@@ -94,12 +94,16 @@ says_one s runs has clean opened = record {
   marked = (has clean opened).tables.marked;
 }
 
+-- the first row has the number
+pub row_is : (n : ℤ) (rows : List Row) (first : Row) → rows ≡ (Int n ∷ []) ∷ [] → slice_get rows 0 ≡ Some first → first ≡ Int n ∷ []
+row_is n rows row are first =
+    let e : Some (Int n ∷ []) ≡ Some row = sym (ap (λ l. slice_get l 0) are) ∙ first in
+    cc
+
 -- what was read is the number
 pub read_it : (n m : ℤ) (rows : List Row) (first : Row) → rows ≡ (Int n ∷ []) ∷ [] → slice_get rows 0 ≡ Some first → column first 0 ≡ Int m → m ≡ n
 read_it n m rows row are first read =
-    let e : Some (Int n ∷ []) ≡ Some row = sym (ap (λ l. slice_get l 0) are) ∙ first in
-    let same : row ≡ Int n ∷ [] = cc in
-    let got : Int n ≡ Int m = sym (ap (λ r. column r 0) same) ∙ read in
+    let got : Int n ≡ Int m = sym (ap (λ r. column r 0) (row_is n rows row are first)) ∙ read in
     cc
 
 pub some_row : (n : ℤ) (rows : List Row) → rows ≡ (Int n ∷ []) ∷ [] → slice_get rows 0 ≢ None

@@ -1,6 +1,6 @@
 -- What the texts mean.
-use Rattle.std.proofs.Common.{◌≡◌, ℕ, pos, negsuc, List, [], ◌∷◌, codes, false, Some, None, refl}
-use Rattle.kt_store.proofs.Common.{Null, Int, Text, Binary, Term, lit, col, op2, Query, inner, end, CountRows, ascending, Values, Command, Insert, Select, Update, understood, reads_listing, IsPlain, command_of, Compare, Eq, everything, schema_2, full_text, begin_text, run_text, count_text, finish_text, runs_text, there_text, put_text, outline_text, outputs_text, pairs_text, mark_text, raise_text, five_text, pair_text}
+use Rattle.std.proofs.Common.{◌≡◌, ℕ, pos, negsuc, List, [], ◌∷◌, codes, false, Some, None, refl, arith}
+use Rattle.kt_store.proofs.Common.{Null, Int, Text, Binary, Term, lit, col, op2, Query, inner, end, CountRows, ascending, Values, Command, Insert, Select, Update, understood, reads_listing, HasColumns, IsPlain, command_of, Compare, Eq, everything, schema_2, full_text, begin_text, run_text, count_text, finish_text, runs_text, there_text, put_text, outline_text, entries_text, meta_text, outputs_text, pairs_text, mark_text, raise_text, five_text, pair_text}
 
 abbrev pub query : Query
 query = record { from = end; filter = []; group = None; project = []; distinct = false; collations = []; order = []; limit = lit (Int (negsuc 0)); offset = lit (Int (pos 0)) }
@@ -14,9 +14,9 @@ is a b = op2 (Compare Eq Binary) a b
 abbrev pub full_query : Query
 full_query = record query { from = inner 2 end; filter = is (col 1 0) (lit (Int (pos 1000000))) ∷ []; project = col 1 0 ∷ [] }
 
-pub full_is : (command_of (understood schema_2 full_text) ≡ select full_query (codes "id" ∷ [])) × (reads_listing schema_2 full_text ≡ false) × IsPlain (understood schema_2 full_text)
+pub full_is : (command_of (understood schema_2 full_text) ≡ select full_query (codes "id" ∷ [])) × (reads_listing schema_2 full_text ≡ false) × IsPlain (understood schema_2 full_text) × HasColumns 1 (understood schema_2 full_text)
 unfolding understood everything
-full_is = (refl, refl, (refl, refl))
+full_is = (refl, refl, (refl, refl), (omega arith, refl))
 
 abbrev pub begin_terms : List Term
 begin_terms = lit Null ∷ lit Null ∷ col 0 0 ∷ col 0 1 ∷ lit (Int (pos 0)) ∷ []
@@ -28,16 +28,16 @@ begin_is = (refl, (refl, refl))
 abbrev pub run_query : Query
 run_query = record query { from = inner 2 end; filter = is (col 1 0) (col 0 0) ∷ []; project = col 1 3 ∷ col 1 4 ∷ [] }
 
-pub run_is : (command_of (understood schema_2 run_text) ≡ select run_query (codes "total" ∷ codes "finished" ∷ [])) × (reads_listing schema_2 run_text ≡ false) × IsPlain (understood schema_2 run_text)
+pub run_is : (command_of (understood schema_2 run_text) ≡ select run_query (codes "total" ∷ codes "finished" ∷ [])) × (reads_listing schema_2 run_text ≡ false) × IsPlain (understood schema_2 run_text) × HasColumns 2 (understood schema_2 run_text)
 unfolding understood everything
-run_is = (refl, refl, (refl, refl))
+run_is = (refl, refl, (refl, refl), (omega arith, refl))
 
 abbrev pub count_query : Query
 count_query = record query { from = inner 3 end; filter = is (col 1 1) (col 0 0) ∷ []; group = Some (record { keys = []; collations = []; aggregates = record { op = CountRows; distinct = false; collation = Binary; argument = lit Null } ∷ []; having = [] }); project = col 1 0 ∷ [] }
 
-pub count_is : (command_of (understood schema_2 count_text) ≡ select count_query (codes "count(*)" ∷ [])) × (reads_listing schema_2 count_text ≡ false) × IsPlain (understood schema_2 count_text)
+pub count_is : (command_of (understood schema_2 count_text) ≡ select count_query (codes "count(*)" ∷ [])) × (reads_listing schema_2 count_text ≡ false) × IsPlain (understood schema_2 count_text) × HasColumns 1 (understood schema_2 count_text)
 unfolding understood everything
-count_is = (refl, refl, (refl, refl))
+count_is = (refl, refl, (refl, refl), (omega arith, refl))
 
 abbrev pub finish_query : Query
 finish_query = record query { from = inner 2 end; filter = is (col 1 0) (col 0 0) ∷ []; project = col 1 0 ∷ col 1 0 ∷ lit Null ∷ col 1 2 ∷ col 1 3 ∷ lit (Int (pos 1)) ∷ [] }
@@ -49,16 +49,16 @@ finish_is = (refl, (refl, refl))
 abbrev pub runs_query : Query
 runs_query = record query { from = inner 2 end; project = col 1 0 ∷ col 1 2 ∷ col 1 3 ∷ col 1 4 ∷ []; order = (col 1 0, ascending Binary) ∷ [] }
 
-pub runs_select_is : (command_of (understood schema_2 runs_text) ≡ select runs_query (codes "id" ∷ codes "started" ∷ codes "total" ∷ codes "finished" ∷ [])) × (reads_listing schema_2 runs_text ≡ false) × IsPlain (understood schema_2 runs_text)
+pub runs_select_is : (command_of (understood schema_2 runs_text) ≡ select runs_query (codes "id" ∷ codes "started" ∷ codes "total" ∷ codes "finished" ∷ [])) × (reads_listing schema_2 runs_text ≡ false) × IsPlain (understood schema_2 runs_text) × HasColumns 4 (understood schema_2 runs_text)
 unfolding understood everything
-runs_select_is = (refl, refl, (refl, refl))
+runs_select_is = (refl, refl, (refl, refl), (omega arith, refl))
 
 abbrev pub there_query : Query
 there_query = record query { from = inner 3 end; filter = is (col 1 1) (col 0 0) ∷ is (col 1 2) (col 0 1) ∷ []; project = col 1 2 ∷ [] }
 
-pub there_is : (command_of (understood schema_2 there_text) ≡ select there_query (codes "position" ∷ [])) × (reads_listing schema_2 there_text ≡ false) × IsPlain (understood schema_2 there_text)
+pub there_is : (command_of (understood schema_2 there_text) ≡ select there_query (codes "position" ∷ [])) × (reads_listing schema_2 there_text ≡ false) × IsPlain (understood schema_2 there_text) × HasColumns 1 (understood schema_2 there_text)
 unfolding understood everything
-there_is = (refl, refl, (refl, refl))
+there_is = (refl, refl, (refl, refl), (omega arith, refl))
 
 abbrev pub put_terms : List Term
 put_terms = lit Null ∷ col 0 0 ∷ col 0 1 ∷ col 0 2 ∷ col 0 3 ∷ col 0 4 ∷ col 0 5 ∷ col 0 6 ∷ col 0 7 ∷ col 0 8 ∷ col 0 9 ∷ col 0 10 ∷ col 0 11 ∷ []
@@ -92,9 +92,9 @@ pairs_query = record query {
 }
 
 pub pairs_select_is : (command_of (understood schema_2 pairs_text) ≡ select pairs_query (codes "position" ∷ codes "name" ∷ codes "value" ∷ []))
-    × (reads_listing schema_2 pairs_text ≡ false) × IsPlain (understood schema_2 pairs_text)
+    × (reads_listing schema_2 pairs_text ≡ false) × IsPlain (understood schema_2 pairs_text) × HasColumns 3 (understood schema_2 pairs_text)
 unfolding understood everything
-pairs_select_is = (refl, refl, (refl, refl))
+pairs_select_is = (refl, refl, (refl, refl), (omega arith, refl))
 
 abbrev pub outline_query : Query
 outline_query = record query {
@@ -106,9 +106,9 @@ outline_query = record query {
 
 pub outline_select_is : (command_of (understood schema_2 outline_text)
     ≡ select outline_query (codes "position" ∷ codes "program" ∷ codes "case_name" ∷ codes "kind" ∷ codes "reason" ∷ codes "started" ∷ codes "millis" ∷ []))
-    × (reads_listing schema_2 outline_text ≡ false) × IsPlain (understood schema_2 outline_text)
+    × (reads_listing schema_2 outline_text ≡ false) × IsPlain (understood schema_2 outline_text) × HasColumns 7 (understood schema_2 outline_text)
 unfolding understood everything
-outline_select_is = (refl, refl, (refl, refl))
+outline_select_is = (refl, refl, (refl, refl), (omega arith, refl))
 
 abbrev pub outputs_query : Query
 outputs_query = record query {
@@ -119,9 +119,21 @@ outputs_query = record query {
 }
 
 pub outputs_select_is : (command_of (understood schema_2 outputs_text) ≡ select outputs_query (codes "body_out" ∷ codes "body_err" ∷ codes "clean_out" ∷ codes "clean_err" ∷ []))
-    × (reads_listing schema_2 outputs_text ≡ false) × IsPlain (understood schema_2 outputs_text)
+    × (reads_listing schema_2 outputs_text ≡ false) × IsPlain (understood schema_2 outputs_text) × HasColumns 4 (understood schema_2 outputs_text)
 unfolding understood everything
-outputs_select_is = (refl, refl, (refl, refl))
+outputs_select_is = (refl, refl, (refl, refl), (omega arith, refl))
+
+pub entries_is : IsPlain (understood schema_2 entries_text)
+unfolding understood everything
+entries_is = (refl, refl)
+
+pub number_is : IsPlain (understood schema_2 meta_text)
+unfolding understood everything
+number_is = (refl, refl)
+
+pub nothing_is : IsPlain (understood schema_2 (codes "SELECT 1"))
+unfolding understood everything
+nothing_is = (refl, refl)
 
 abbrev pub meta_query : Query
 meta_query = record query { from = inner 0 end; filter = is (col 1 1) (lit (Text (codes "schema"))) ∷ []; project = col 1 2 ∷ [] }

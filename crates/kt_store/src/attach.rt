@@ -56,6 +56,9 @@ pub(crate) fn schema_number<S: Alter>(conn: &mut Connection<S>) -> Result<i64, S
     let Some(row) = rows.first() else {
         return Err(StoreFault::UnknownSchema);
     };
+    if row.column_count() == 0 {
+        return Err(StoreFault::UnknownSchema);
+    }
     let number = value_in::<i64>(row, 0)?;
     Ok(number)
 }

@@ -1,5 +1,5 @@
-ghost use Rattle.std.specs.Prelude.{◌≡◌, ◌<◌, ◌^◌, map, List, IfOk, IfErr, ◌++◌, [], ◌∷◌, OnOk};
-ghost use Rattle.kt_store.specs.Common.{AllByRecursion, HasCleanDisk, state, IsNoMemory, IsStoreFault, KeepsRuns, OnlyReads, head_columns, head_of, StandsFor};
+ghost use Rattle.std.specs.Prelude.{◌≡◌, ◌<◌, ◌≤◌, ◌^◌, length, map, List, IfOk, IfErr, ◌++◌, [], ◌∷◌, OnOk};
+ghost use Rattle.kt_store.specs.Common.{AllByRecursion, AreWide, HasCleanDisk, state, IsNoMemory, IsStoreFault, KeepsRuns, OnlyReads, head_columns, head_of, StandsFor};
 ghost use Rattle.kt_base.specs.declared.entry.Run.{Run as Stored};
 
 use crate::store_fault::statements::query;
@@ -19,6 +19,7 @@ pub(crate) fn add<T: Drop>(items: &mut Vec<T>, item: T) -> Result<(), NoMemory>
 
 /// The head in a row.
 pub(crate) fn head_in(row: &Row) -> Result<RunHead, StoreFault>
+    requires { 4 ≤ length row.now }
     ensures head { (r : Stored) → row.now ≡ head_columns r → IfOk result (λ h. h ≡ head_of r) }
     ensures read { (r : Stored) → r.total < 2 ^ 32 → row.now ≡ head_columns r
         → IfErr result IsNoMemory }
@@ -38,6 +39,7 @@ pub(crate) fn head_in(row: &Row) -> Result<RunHead, StoreFault>
 
 /// The heads in the rows.
 pub(crate) fn heads_in(alloc: Global, rows: &[Row]) -> Result<Vec<RunHead>, StoreFault>
+    requires { AreWide 4 rows.now }
     ensures heads { (runs : List Stored) → rows.now ≡ map head_columns runs
         → IfOk result (λ heads. heads.items ≡ map head_of runs) }
     ensures read { (runs : List Stored) → AllByRecursion (λ (r : Stored). r.total < 2 ^ 32) runs
@@ -67,6 +69,7 @@ pub(crate) fn all_heads<S: Alter>(
     let rows = query(
         conn,
         "SELECT id, started, total, finished FROM runs ORDER BY id",
+        4,
         &[],
     )?;
     let heads = heads_in(alloc, &rows)?;

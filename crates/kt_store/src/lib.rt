@@ -14,6 +14,7 @@ mod result_store;
 mod results;
 mod run_rows;
 mod store_fault;
+mod stored_kind;
 mod value;
 mod whole;
 

@@ -25,6 +25,7 @@ pub(crate) fn find<S: Alter>(
     let rows = query(
         conn,
         "SELECT total, finished FROM runs WHERE id = ?1",
+        2,
         &[int(run)],
     )?;
     let Some(row) = rows.first() else {
@@ -84,6 +85,7 @@ pub(crate) fn there<S: Alter>(
     let rows = query(
         conn,
         "SELECT position FROM entries WHERE run = ?1 AND position = ?2",
+        1,
         &[int(run), int(u64::from(position))],
     )?;
     Ok(has_rows(&rows))

@@ -1,5 +1,5 @@
-ghost use Rattle.std.specs.Prelude.{◌≡◌, ◌<◌, ◌^◌, ℕ, length, map, List, ◌++◌, Ok, IfOk, OnOk, IfErr};
-ghost use Rattle.kt_store.specs.Common.{utf8, AllByRecursion, column, HasCleanDisk, state, IsNoMemory, IsStoreFault, no_output, without_outputs, KeepsRuns, OnlyReads, IsAscending, entries_of, IsEntry, IsPair, IsText, AreRuns, kind_code, run_at, entry_columns, pair_columns, pairs_shown, StandsFor};
+ghost use Rattle.std.specs.Prelude.{◌≡◌, ◌<◌, ◌≤◌, ◌^◌, pos, ℕ, length, map, List, ◌++◌, IfOk, OnOk, IfErr};
+ghost use Rattle.kt_store.specs.Common.{utf8, AllByRecursion, AreWide, Int, column, HasCleanDisk, state, IsNoMemory, IsStoreFault, no_output, without_outputs, KeepsRuns, OnlyReads, IsAscending, entries_of, IsEntry, IsPair, IsText, AreRuns, kind_code, run_at, entry_columns, pair_columns, pairs_shown, StandsFor};
 ghost use Rattle.kt_base.specs.declared.entry.Entry.{Entry as Stored};
 ghost use Rattle.kt_base.specs.declared.verdict.Kind.{Kind as Sort};
 ghost use Rattle.sqlite_value.specs.declared.value.Value.TheVariants.{Text as Words};
@@ -7,40 +7,41 @@ ghost use Rattle.kt_base.specs.declared.variable.Variable.{Variable as StoredPai
 
 use crate::StoreFault;
 use crate::heads::add;
-use crate::store_fault::statements::{out_of_range, query, value_in};
+use crate::store_fault::statements::{query, value_in};
+use crate::stored_kind::StoredKind;
 use crate::value::{int, number_in, small_in};
 use kt_base::{Bytes, Entry, Kind, Output, Text, Variable, Variables, Verdict};
 use sqlite::{Alter, Connection, Row};
 use std::alloc::Global;
 
 pub(crate) fn text_in(row: &Row, at: usize) -> Result<Text, StoreFault>
+    requires { at < length row.now }
     ensures text { (t : List ℕ) → IsText t → column row.now at ≡ Words (utf8 t)
         → IfOk result (λ x. x ≡ t) }
-    ensures read { (t : List ℕ) → IsText t → at < length row.now
-        → column row.now at ≡ Words (utf8 t) → IfErr result IsNoMemory }
+    ensures read { (t : List ℕ) → IsText t → column row.now at ≡ Words (utf8 t)
+        → IfErr result IsNoMemory }
     ensures failed { IfErr result IsStoreFault }
 {
     let string = value_in::<String>(row, at)?;
     Ok(Text::from_string(string))
 }
 
-/// The kind that is kept as this number.
-pub(crate) fn kind_of(code: u64) -> Result<Kind, StoreFault>
-    ensures kind { (k : Sort) → code ≡ kind_code k → result ≡ Ok k }
+/// The kind in a row.
+pub(crate) fn kind_in(row: &Row, at: usize) -> Result<Kind, StoreFault>
+    requires { at < length row.now }
+    ensures kind { (k : Sort) → column row.now at ≡ Int (pos (kind_code k))
+        → IfOk result (λ x. x ≡ k) }
+    ensures read { (k : Sort) → column row.now at ≡ Int (pos (kind_code k))
+        → IfErr result IsNoMemory }
     ensures failed { IfErr result IsStoreFault }
 {
-    match code {
-        0 => Ok(Kind::Passed),
-        1 => Ok(Kind::Skipped),
-        2 => Ok(Kind::ExpectedFailure),
-        3 => Ok(Kind::Failed),
-        4 => Ok(Kind::Broken),
-        _ => Err(out_of_range(code)),
-    }
+    let stored = value_in::<StoredKind>(row, at)?;
+    Ok(stored.kind)
 }
 
 /// The pair in a row.
 pub(crate) fn pair_in(row: &Row) -> Result<Variable, StoreFault>
+    requires { 3 ≤ length row.now }
     ensures pair { (n : ℕ) (v : StoredPair) → IsPair v → row.now ≡ pair_columns n v
         → IfOk result (λ x. x ≡ v) }
     ensures read { (n : ℕ) (v : StoredPair) → IsPair v → row.now ≡ pair_columns n v
@@ -58,6 +59,8 @@ pub(crate) fn meta_in(
     rows: &[Row],
     position: u32,
 ) -> Result<(Variables, &[Row]), StoreFault>
+    requires { AreWide 3 rows.now }
+    ensures wide { IfOk result (λ found. AreWide 3 found.1.now) }
     ensures meta { (vs : List StoredPair) (others : List Stored) → AllByRecursion IsPair vs
         → AllByRecursion (λ (e : Stored). position < e.position) others
         → rows.now ≡ map (pair_columns position) vs ++ pairs_shown others
@@ -92,6 +95,7 @@ pub fn no_output(alloc: Global) -> Output
 
 /// The entry in a row, with these pairs and without its outputs.
 pub(crate) fn entry_in(alloc: Global, row: &Row, meta: Variables) -> Result<Entry, StoreFault>
+    requires { 7 ≤ length row.now }
     ensures entry { (e : Stored) → IsEntry e → row.now ≡ entry_columns e → meta ≡ e.meta
         → IfOk result (λ x. x ≡ without_outputs e) }
     ensures read { (e : Stored) → IsEntry e → e.position < 2 ^ 32 → row.now ≡ entry_columns e
@@ -101,8 +105,7 @@ pub(crate) fn entry_in(alloc: Global, row: &Row, meta: Variables) -> Result<Entr
     let position = small_in(row, 0)?;
     let program = text_in(row, 1)?;
     let case_name = text_in(row, 2)?;
-    let code = number_in(row, 3)?;
-    let kind = kind_of(code)?;
+    let kind = kind_in(row, 3)?;
     let reason = text_in(row, 4)?;
     let started = number_in(row, 5)?;
     let millis = number_in(row, 6)?;
@@ -125,6 +128,8 @@ pub(crate) fn entries_in(
     rows: &[Row],
     pairs: &[Row],
 ) -> Result<Vec<Entry>, StoreFault>
+    requires rows { AreWide 7 rows.now }
+    requires pairs { AreWide 3 pairs.now }
     ensures entries { (es : List Stored) → AllByRecursion IsEntry es
         → IsAscending (λ (a b : Stored). a.position < b.position) es
         → rows.now ≡ map entry_columns es → pairs.now ≡ pairs_shown es
@@ -155,6 +160,7 @@ pub(crate) fn all_pairs<S: Alter>(
     ensures all { (runs : _) → StandsFor (state S.Store conn.old) runs
         → HasCleanDisk (state S.Store conn.new)
         → IfOk result (λ rows. rows.items ≡ pairs_shown (entries_of (run_at runs run))) }
+    ensures wide { IfOk result (λ rows. AreWide 3 rows.items) }
     ensures failed { IfErr result IsStoreFault }
     ensures stands { KeepsRuns S.Store conn.old conn.new }
     ensures crash { OnlyReads S.Store conn.old conn.new }
@@ -162,6 +168,7 @@ pub(crate) fn all_pairs<S: Alter>(
     let rows = query(
         conn,
         "SELECT position, name, value FROM props WHERE run = ?1 ORDER BY position, place",
+        3,
         &[int(run)],
     )?;
     Ok(rows)
@@ -173,6 +180,7 @@ pub(crate) fn all_rows<S: Alter>(conn: &mut Connection<S>, run: u64) -> Result<V
     ensures all { (runs : _) → StandsFor (state S.Store conn.old) runs
         → HasCleanDisk (state S.Store conn.new)
         → IfOk result (λ rows. rows.items ≡ map entry_columns (entries_of (run_at runs run))) }
+    ensures wide { IfOk result (λ rows. AreWide 7 rows.items) }
     ensures valid { (runs : _) → StandsFor (state S.Store conn.old) runs
         → HasCleanDisk (state S.Store conn.new) → OnOk result (AreRuns runs) }
     ensures failed { IfErr result IsStoreFault }
@@ -182,6 +190,7 @@ pub(crate) fn all_rows<S: Alter>(conn: &mut Connection<S>, run: u64) -> Result<V
     let rows = query(
         conn,
         "SELECT position, program, case_name, kind, reason, started, millis FROM entries WHERE run = ?1 ORDER BY position",
+        7,
         &[int(run)],
     )?;
     Ok(rows)

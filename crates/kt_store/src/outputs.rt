@@ -1,5 +1,5 @@
-ghost use Rattle.std.specs.Prelude.{◌≡◌, ◌⊎◌, ◌<◌, ◌^◌, ◌==◌, ℕ, length, map, List, Some, None, IfOk, OnOk, IfErr};
-ghost use Rattle.kt_store.specs.Common.{filter, Entry, column, Blob, HasCleanDisk, state, IsNoMemory, IsStoreFault, outputs_of, entry_at, KeepsRuns, OnlyReads, output_columns, entries_of, AreRuns, run_at, StandsFor};
+ghost use Rattle.std.specs.Prelude.{◌≡◌, ◌⊎◌, ◌<◌, ◌≤◌, ◌^◌, ◌==◌, ℕ, length, map, List, Some, None, IfOk, OnOk, IfErr};
+ghost use Rattle.kt_store.specs.Common.{AreWide, filter, Entry, column, Blob, HasCleanDisk, state, IsNoMemory, IsStoreFault, outputs_of, entry_at, KeepsRuns, OnlyReads, output_columns, entries_of, AreRuns, run_at, StandsFor};
 ghost use Rattle.kt_base.specs.declared.entry.Output.{Output as Pair};
 
 use crate::lookup::key;
@@ -10,9 +10,9 @@ use kt_base::{Bytes, Output};
 use sqlite::{Alter, Connection, Row};
 
 fn bytes_in(row: &Row, at: usize) -> Result<Bytes, StoreFault>
+    requires { at < length row.now }
     ensures bytes { IfOk result (λ b. column row.now at ≡ Blob b) }
-    ensures read { (b : List ℕ) → at < length row.now → column row.now at ≡ Blob b
-        → IfErr result IsNoMemory }
+    ensures read { (b : List ℕ) → column row.now at ≡ Blob b → IfErr result IsNoMemory }
     ensures failed { IfErr result IsStoreFault }
 {
     let items = value_in::<Vec<u8>>(row, at)?;
@@ -20,10 +20,10 @@ fn bytes_in(row: &Row, at: usize) -> Result<Bytes, StoreFault>
 }
 
 fn output_in(row: &Row, out: usize, err: usize) -> Result<Output, StoreFault>
+    requires { (out < length row.now) × (err < length row.now) }
     ensures output { (o : Pair) → column row.now out ≡ Blob o.out → column row.now err ≡ Blob o.err
         → IfOk result (λ x. x ≡ o) }
-    ensures read { (o : Pair) → out < length row.now → err < length row.now
-        → column row.now out ≡ Blob o.out → column row.now err ≡ Blob o.err
+    ensures read { (o : Pair) → column row.now out ≡ Blob o.out → column row.now err ≡ Blob o.err
         → IfErr result IsNoMemory }
     ensures failed { IfErr result IsStoreFault }
 {
@@ -37,6 +37,7 @@ fn output_in(row: &Row, out: usize, err: usize) -> Result<Output, StoreFault>
 
 /// The outputs in a row.
 fn outputs_in(row: &Row) -> Result<CaseOutputs, StoreFault>
+    requires { 4 ≤ length row.now }
     ensures outputs { (e : Entry) → row.now ≡ output_columns e
         → IfOk result (λ o. o ≡ outputs_of e) }
     ensures read { (e : Entry) → row.now ≡ output_columns e → IfErr result IsNoMemory }
@@ -58,6 +59,7 @@ fn output_rows<S: Alter>(
         → HasCleanDisk (state S.Store conn.new)
         → IfOk result (λ rows. rows.items ≡ map output_columns
         (filter (λ (e : Entry). e.position == position) (entries_of (run_at runs run)))) }
+    ensures wide { IfOk result (λ rows. AreWide 4 rows.items) }
     ensures valid { (runs : _) → StandsFor (state S.Store conn.old) runs
         → HasCleanDisk (state S.Store conn.new) → OnOk result (AreRuns runs) }
     ensures failed { IfErr result IsStoreFault }
@@ -67,6 +69,7 @@ fn output_rows<S: Alter>(
     let rows = query(
         conn,
         "SELECT body_out, body_err, clean_out, clean_err FROM entries WHERE run = ?1 AND position = ?2 ORDER BY position",
+        4,
         &[int(run), int(u64::from(position))],
     )?;
     Ok(rows)

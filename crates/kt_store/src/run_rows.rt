@@ -17,7 +17,7 @@ pub(crate) fn is_full<S: Alter>(conn: &mut Connection<S>) -> Result<bool, StoreF
     ensures failed { IfErr result IsStoreFault }
     ensures crash { OnlyReads S.Store conn.old conn.new }
 {
-    let rows = query(conn, "SELECT id FROM runs WHERE id = 1000000", &[])?;
+    let rows = query(conn, "SELECT id FROM runs WHERE id = 1000000", 1, &[])?;
     Ok(has_rows(&rows))
 }
 
@@ -59,6 +59,7 @@ pub(crate) fn count<S: Alter>(conn: &mut Connection<S>, run: u64) -> Result<u64,
     let rows = query(
         conn,
         "SELECT count(*) FROM entries WHERE run = ?1",
+        1,
         &[int(run)],
     )?;
     let Some(row) = rows.first() else {

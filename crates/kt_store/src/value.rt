@@ -38,9 +38,9 @@ pub(crate) fn magnitude(n: i64) -> u64
 
 /// A number of a row. A negative one is refused.
 pub(crate) fn number_in(row: &Row, at: usize) -> Result<u64, StoreFault>
+    requires { at < length row.now }
     ensures number { IfOk result (λ n. column row.now at ≡ Int (pos n)) }
-    ensures read { (n : ℕ) → at < length row.now → column row.now at ≡ Int (pos n)
-        → IfErr result IsNoMemory }
+    ensures read { (n : ℕ) → column row.now at ≡ Int (pos n) → IfErr result IsNoMemory }
     ensures failed { IfErr result IsStoreFault }
 {
     let number = value_in::<u64>(row, at)?;
@@ -49,8 +49,9 @@ pub(crate) fn number_in(row: &Row, at: usize) -> Result<u64, StoreFault>
 
 /// A number of a row, 0 to 4,294,967,295. Any other is refused.
 pub(crate) fn small_in(row: &Row, at: usize) -> Result<u32, StoreFault>
+    requires { at < length row.now }
     ensures number { IfOk result (λ n. column row.now at ≡ Int (pos n)) }
-    ensures read { (n : ℕ) → n < 2 ^ 32 → at < length row.now → column row.now at ≡ Int (pos n)
+    ensures read { (n : ℕ) → n < 2 ^ 32 → column row.now at ≡ Int (pos n)
         → IfErr result IsNoMemory }
     ensures failed { IfErr result IsStoreFault }
 {

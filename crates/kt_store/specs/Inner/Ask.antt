@@ -1,5 +1,10 @@
 -- What a statement that is prepared and run shows, and what it does.
-use Rattle.std.specs.Prelude.{ℕ, List, Ok}
+use Rattle.std.specs.Prelude.{◌≡◌, ◌<◌, ◌≤◌, ℕ, List, length, Result, Ok, Err}
+use Rattle.std.specs.List.{AllByRecursion}
+use Rattle.sqlite_resolve.specs.declared.compiled.Compiled.{Compiled}
+use Rattle.sqlite_resolve.specs.declared.error.CompileError.{CompileError}
+use Rattle.sqlite.specs.Command.{Command}
+use Rattle.sqlite.specs.Command.TheVariants.{Select}
 use Rattle.sqlite.specs.Order.{Row}
 use Rattle.sqlite.specs.Tree.{Trees}
 use Rattle.sqlite.specs.Store.{Ghosts}
@@ -7,6 +12,20 @@ use Rattle.sqlite.specs.Held.{Held, state}
 use Rattle.sqlite.specs.State.{IsUnchanged, Shown, Executes, CommitsBy, CommitsShowing}
 use Rattle.kt_base.specs.declared.entry.Run.{Run}
 use Rattle.kt_store.specs.Stands.{IsStore}
+
+-- how many columns a query shows
+abbrev pub width_of : Command → ℕ
+width_of (Select query names) = length names
+width_of _ = 0
+
+-- a query shows so many columns, and not none
+abbrev pub HasColumns : ℕ → Result Compiled CompileError → Type 0
+HasColumns width (Ok c) = (0 < width) × (width_of c.command ≡ width)
+HasColumns width (Err e) = ⊥
+
+-- each of these rows has so many columns
+abbrev pub AreWide : ℕ → List Row → Type 0
+AreWide width rows = AllByRecursion (λ (row : Row). width ≤ length row) rows
 
 -- tables that hold these runs showed these rows
 pub record ShowsOf {S : Type 0} (g : Ghosts S) (runs : List Run) (sql : List ℕ) (params : Row) (new : Held S) (rows : List Row) : Type 0 where

@@ -40,13 +40,22 @@ pub struct Shortage {
     refusal: Refusal,
 }
 
-/// A statement failed, a value of a row could not be read, or the file could not be opened or closed. Only the
-/// functions of `statements` make this value, of an error of SQLite.
+/// A statement failed, a value of a row could not be read, the file could not be opened or closed, or the connection
+/// is in a transaction. Only the functions of `statements` make this value.
 #[derive(Clone, Copy, Debug, PartialEq, Eq)]
 pub struct FailedStatement {
-    refusal: Refusal,
+    cause: Cause,
 }
 
-/// A type of this module and of `statements`, so that no other can write the two above.
+/// What a failed statement comes from.
+#[derive(Clone, Copy, Debug, PartialEq, Eq)]
+enum Cause {
+    /// SQLite returned an error.
+    Reported,
+    /// The connection is in a transaction, so none was begun.
+    InTransaction,
+}
+
+/// A type of this module and of `statements`, so that no other can write a `Shortage`.
 #[derive(Clone, Copy, Debug, PartialEq, Eq)]
 struct Refusal;

@@ -1,9 +1,9 @@
-ghost use Rattle.std.specs.Prelude.{◌≡◌, ◌<◌, ◌≤◌, IfOk, OnOk, OnErr, IfErr, nat_lt, length, []};
-ghost use Rattle.kt_store.specs.Common.{bound, IsPlain, understood, HasCleanDisk, Survives, IsUnchanged, state, column, Tells, CommitsNothing, KeepsRuns, OnlyReads, Asked, MayShow, MayTell, ShowsOf, Told, Commits, CommitsLater, MayCommit, RunsOne, Undoes, Rests, IsNoMemory, IsStoreFault, image_at, IsOver, IsClosed, IsUnderstood, StandsFor, schema_2};
+ghost use Rattle.std.specs.Prelude.{◌≡◌, ◌<◌, IfOk, OnOk, OnErr, IfErr, nat_lt, length, []};
+ghost use Rattle.kt_store.specs.Common.{bound, IsPlain, understood, HasCleanDisk, Survives, IsUnchanged, state, column, Tells, CommitsNothing, KeepsRuns, OnlyReads, Asked, AreWide, HasColumns, MayShow, MayTell, ShowsOf, Told, Commits, CommitsLater, MayCommit, RunsOne, Undoes, Rests, IsNoMemory, IsStoreFault, image_at, IsOver, IsClosed, IsUnderstood, StandsFor, schema_2};
 
 use crate::StoreFault;
 use crate::batch::Batch;
-use crate::store_fault::{FailedStatement, Refusal, Shortage};
+use crate::store_fault::{Cause, FailedStatement, Refusal, Shortage};
 use kt_base::{NoMemory, Text};
 use sqlite::types::FromSql;
 use sqlite::{
@@ -27,16 +27,17 @@ fn fault_of(error: SqlError) -> StoreFault
         SqlError::SqliteFailure(ErrorCode::OutOfMemory) => {
             StoreFault::NoMemory(Shortage { refusal: Refusal })
         }
-        _ => StoreFault::Store(FailedStatement { refusal: Refusal }),
+        _ => StoreFault::Store(FailedStatement {
+            cause: Cause::Reported,
+        }),
     }
 }
 
-/// A value of a row.
+/// A value of a row that has this column.
 pub(crate) fn value_in<T: FromSql>(row: &Row, at: usize) -> Result<T, StoreFault>
-    ensures value { IfOk result (λ x. (at < length row.now)
-        × T.FromSql.reads_as (column row.now at) x) }
-    ensures read { at < length row.now → T.FromSql.is_readable (column row.now at)
-        → IfErr result IsNoMemory }
+    requires { at < length row.now }
+    ensures value { IfOk result (T.FromSql.reads_as (column row.now at)) }
+    ensures read { T.FromSql.is_readable (column row.now at) → IfErr result IsNoMemory }
     ensures failed { IfErr result IsStoreFault }
 {
     match row.get::<T>(at) {
@@ -45,16 +46,9 @@ pub(crate) fn value_in<T: FromSql>(row: &Row, at: usize) -> Result<T, StoreFault
     }
 }
 
-/// The fault of a number that should be that of a kind, and is too large.
-pub(crate) fn out_of_range(_code: u64) -> StoreFault
-    requires { 5 ≤ _code }
-    ensures { IsStoreFault result }
-{
-    fault_of(SqlError::IntegralValueOutOfRange(3))
-}
-
 /// Asks whether the connection is open, and its tables those of a statement.
 pub(crate) fn probe<S: Alter>(conn: &mut Connection<S>, sql: &str) -> Result<(), StoreFault>
+    requires { IsPlain (understood schema_2 sql.now) }
     ensures same { HasCleanDisk (state S.Store conn.new)
         → OnOk result (IsUnchanged (state S.Store conn.old) (state S.Store conn.new)) }
     ensures rests { HasCleanDisk (state S.Store conn.new)
@@ -76,6 +70,7 @@ pub(crate) fn ask<S: Alter>(
     sql: &str,
     params: &[ValueRef<'_>],
 ) -> Result<Vec<Row>, StoreFault>
+    requires { IsPlain (understood schema_2 sql.now) }
     ensures rows { HasCleanDisk (state S.Store conn.new)
         → IfOk result (λ rows. Asked S.Store sql.now
         (bound params.now) conn.old conn.new rows.items) }
@@ -95,22 +90,42 @@ pub(crate) fn ask<S: Alter>(
     }
 }
 
-/// All rows of a query over the tables of a store, which stay as they are.
+/// Asks for the last of so many columns in each row.
+fn have_columns(rows: &[Row], width: usize) -> Result<(), StoreFault>
+    requires { 0 < width }
+    ensures wide { OnOk result (AreWide width rows.now) }
+    ensures failed { IfErr result IsStoreFault }
+{
+    let mut rest = rows;
+    while let Some((row, after)) = rest.split_first() {
+        if let Err(error) = row.get_ref(width - 1) {
+            return Err(fault_of(error));
+        }
+        rest = after;
+    }
+    Ok(())
+}
+
+/// All rows of a query over the tables of a store, which stay as they are. The query shows `width` columns.
 pub(crate) fn query<S: Alter>(
     conn: &mut Connection<S>,
     sql: &str,
+    width: usize,
     params: &[ValueRef<'_>],
 ) -> Result<Vec<Row>, StoreFault>
-    requires { IsPlain (understood schema_2 sql.now) }
+    requires plain { IsPlain (understood schema_2 sql.now) }
+    requires width { HasColumns width (understood schema_2 sql.now) }
     ensures shown { (runs : _) → StandsFor (state S.Store conn.old) runs
         → HasCleanDisk (state S.Store conn.new)
         → IfOk result (λ rows. ShowsOf S.Store runs sql.now (bound params.now)
         conn.new rows.items) }
+    ensures wide { IfOk result (λ rows. AreWide width rows.items) }
     ensures stands { KeepsRuns S.Store conn.old conn.new }
     ensures failed { IfErr result IsStoreFault }
     ensures crash { OnlyReads S.Store conn.old conn.new }
 {
     let rows = ask(conn, sql, params)?;
+    have_columns(&rows, width)?;
     Ok(rows)
 }
 
@@ -171,7 +186,9 @@ pub(crate) fn commit<S: Alter, B: Batch>(
         (MayCommit S.Store (B.statements batch.now) conn.old) }
 {
     if !conn.is_autocommit() {
-        return Err(fault_of(SqlError::SqliteFailure(ErrorCode::TransactionState)));
+        return Err(StoreFault::Store(FailedStatement {
+            cause: Cause::InTransaction,
+        }));
     }
     let mut tx = conn.transaction();
     batch.fill(&mut tx)?;

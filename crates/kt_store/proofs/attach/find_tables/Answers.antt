@@ -1,7 +1,17 @@
 use Rattle.kt_store.proofs.ProbeLemmas.{understood_before}
 use Rattle.std.proofs.Common.{◌≡◌, ◌∙◌, true, false, sym, arith}
 use Rattle.kt_store.proofs.Common.{entries_text, pairs_text, unchanged_then, state}
+use Rattle.kt_store.proofs.SqlFacts.{runs_select_is, entries_is, pairs_select_is}
 use Rattle.kt_store.proofs.attach.find_tables.Goals as goal
+
+pub probe-requires : goal.probe-requires
+probe-requires g c = runs_select_is.2
+
+pub probe-requires-2 : goal.probe-requires-2
+probe-requires-2 g c = entries_is
+
+pub probe-requires-3 : goal.probe-requires-3
+probe-requires-3 g c = pairs_select_is.2
 
 pub returns-then-old-clause-understood : goal.returns-then-old-clause-understood
 returns-then-old-clause-understood g c clean =

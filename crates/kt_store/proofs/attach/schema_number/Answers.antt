@@ -1,13 +1,17 @@
-use Rattle.std.proofs.Common.{◌∙◌, [], w64, SFits, slice_get, sym, ap, arith, rules}
-use Rattle.kt_store.proofs.Common.{to_z-of_z, option_copied, meta_text}
+use Rattle.std.proofs.Common.{◌≡◌, ◌∙◌, [], ◌∷◌, length, w64, SFits, slice_get, sym, ap, arith, rules}
+use Rattle.kt_store.proofs.Common.{to_z-of_z, option_copied, Int, meta_text}
 use Rattle.kt_store.proofs.AskLemmas.{asked_unchanged}
-use Rattle.kt_store.proofs.MetaLemmas.{asked_meta, says_plain, read_it, some_row, asks_number, tells_number}
+use Rattle.kt_store.proofs.MetaLemmas.{asked_meta, says_plain, read_it, row_is, some_row, asks_number, tells_number}
+use Rattle.kt_store.proofs.SqlFacts.{number_is}
 use Rattle.kt_store.proofs.attach.schema_number.Goals as goal
+
+pub ask-requires : goal.ask-requires
+ask-requires g c = number_is
 
 pub returns-clause-number : goal.returns-clause-number
 returns-clause-number g c n says clean =
     let are = asked_meta g.S.Store c.args.conn.now c.ask.new.conn (λ k. omega (arith, k, c.ask.ensures.survives.clean)) n c.in_ok-rows.rows.items says clean (c.in_ok-rows.ensures.rows clean) in
-    to_z-of_z w64 c.in_ok-number.number (let fits : SFits w64 c.in_ok-number.number = search rules in fits) ∙ read_it n c.in_ok-number.number c.in_ok-rows.rows.items c.in-Some.row.now are (ap (λ l. slice_get l 0) (sym c.deref.ensures.value) ∙ sym c.first.ensures.value ∙ ap option_copied c.in-Some.is) c.in_ok-number.ensures.value.1
+    to_z-of_z w64 c.in_ok-number.number (let fits : SFits w64 c.in_ok-number.number = search rules in fits) ∙ read_it n c.in_ok-number.number c.in_ok-rows.rows.items c.in-Some.row.now are (ap (λ l. slice_get l 0) (sym c.deref.ensures.value) ∙ sym c.first.ensures.value ∙ ap option_copied c.in-Some.is) c.in_ok-number.ensures.value
 
 pub returns-in_default-clause-taken : goal.returns-in_default-clause-taken
 returns-in_default-clause-taken g c n says clean =
@@ -26,6 +30,15 @@ returns-in_default-clause-asks g c = tells_number g.S.Store c.args.conn.now c.as
 
 pub returns-in_err-number-clause-asks : goal.returns-in_err-number-clause-asks
 returns-in_err-number-clause-asks g c = tells_number g.S.Store c.args.conn.now c.ask.new.conn c.ask.ensures.survives c.in_ok-rows.rows.items (λ clean. c.in_ok-rows.ensures.rows clean)
+
+pub returns-then-column_count-eq0-clause-taken : goal.returns-then-column_count-eq0-clause-taken
+returns-then-column_count-eq0-clause-taken g c n says clean =
+    let are = asked_meta g.S.Store c.args.conn.now c.ask.new.conn (λ k. omega (arith, k, c.ask.ensures.survives.clean)) n c.in_ok-rows.rows.items says clean (c.in_ok-rows.ensures.rows clean) in
+    let row : c.in-Some.row.now ≡ Int n ∷ [] = row_is n c.in_ok-rows.rows.items c.in-Some.row.now are (ap (λ l. slice_get l 0) (sym c.deref.ensures.value) ∙ sym c.first.ensures.value ∙ ap option_copied c.in-Some.is) in
+    absurd (let one : 1 ≡ 0 = ap length (sym row) ∙ sym c.column_count.ensures ∙ c.if-column_count-eq0.true in cc)
+
+pub returns-then-column_count-eq0-clause-asks : goal.returns-then-column_count-eq0-clause-asks
+returns-then-column_count-eq0-clause-asks g c = tells_number g.S.Store c.args.conn.now c.ask.new.conn c.ask.ensures.survives c.in_ok-rows.rows.items (λ clean. c.in_ok-rows.ensures.rows clean)
 
 pub returns-clause-asks : goal.returns-clause-asks
 returns-clause-asks g c = tells_number g.S.Store c.args.conn.now c.ask.new.conn c.ask.ensures.survives c.in_ok-rows.rows.items (λ clean. c.in_ok-rows.ensures.rows clean)

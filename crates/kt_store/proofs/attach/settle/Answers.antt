@@ -1,7 +1,11 @@
 use Rattle.kt_store.proofs.Common.{state}
 use Rattle.kt_store.proofs.AttachLemmas.{all_due, look_refuses, create_refuses, create_takes, take_refuses, take_takes}
 use Rattle.kt_store.proofs.FaultLemmas.{if_same}
+use Rattle.kt_store.proofs.SqlFacts.{nothing_is}
 use Rattle.kt_store.proofs.attach.settle.Goals as goal
+
+pub probe-requires : goal.probe-requires
+probe-requires g c = nothing_is
 
 pub returns-in_err-probe-clause-refused : goal.returns-in_err-probe-clause-refused
 returns-in_err-probe-clause-refused g c was is =

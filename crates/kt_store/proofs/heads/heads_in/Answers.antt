@@ -2,7 +2,11 @@ use Rattle.std.proofs.Common.{rules, ◌≡◌, ◌∙◌, ◌<◌, ◌+◌, suc
 use Rattle.kt_store.proofs.Common.{length-map, Run, head_columns, head_of}
 use Rattle.kt_store.proofs.EntriesLemmas.{one_sound}
 use Rattle.kt_store.proofs.HeadLemmas.{one_more}
+use Rattle.kt_store.proofs.WideLemmas.{one_wide}
 use Rattle.kt_store.proofs.heads.heads_in.Goals as goal
+
+pub head_in-requires : goal.head_in-requires
+head_in-requires c = one_wide 4 c.args.rows.now c.loop-row.row-index c.row-item.result c.requires (omega (arith, c.loop-row-test.true)) c.row-item.is
 
 pub loop-row-preserved : goal.loop-row-preserved
 loop-row-preserved c runs are =

@@ -1,11 +1,21 @@
-use Rattle.std.proofs.Common.{◌∙◌, slice_get, sym, ap}
+use Rattle.std.proofs.Common.{◌∙◌, slice_get, sym, ap, arith}
 use Rattle.kt_store.proofs.Common.{option_copied, run_at}
 use Rattle.kt_store.proofs.RunLemmas.{tells_run, none_there, some_there, both_read}
 use Rattle.kt_store.proofs.SqlFacts.{run_is}
+use Rattle.kt_store.proofs.WideLemmas.{first_wide}
 use Rattle.kt_store.proofs.lookup.find.Goals as goal
 
-pub query-requires : goal.query-requires
-query-requires g c = run_is.2
+pub number_in-requires : goal.number_in-requires
+number_in-requires g c = omega (arith, first_wide 2 c.in_ok-rows.rows.items c.in-Some.row.now c.in_ok-rows.ensures.wide (ap (λ l. slice_get l 0) (sym c.deref.ensures.value) ∙ sym c.first.ensures.value ∙ ap option_copied c.in-Some.is))
+
+pub number_in-requires-2 : goal.number_in-requires-2
+number_in-requires-2 g c = omega (arith, first_wide 2 c.in_ok-rows.rows.items c.in-Some.row.now c.in_ok-rows.ensures.wide (ap (λ l. slice_get l 0) (sym c.deref.ensures.value) ∙ sym c.first.ensures.value ∙ ap option_copied c.in-Some.is))
+
+pub query-requires-clause-plain : goal.query-requires-clause-plain
+query-requires-clause-plain g c = run_is.2
+
+pub query-requires-clause-width : goal.query-requires-clause-width
+query-requires-clause-width g c = run_is.3
 
 pub returns-in_default-clause-valid : goal.returns-in_default-clause-valid
 returns-in_default-clause-valid g c runs has clean = (c.in_ok-rows.ensures.shown runs has clean).stored.tables.valid

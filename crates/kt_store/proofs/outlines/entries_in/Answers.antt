@@ -1,36 +1,43 @@
 use Rattle.std.proofs.Common.{rules, pos, ◌≡◌, ◌∙◌, ◌<◌, ◌+◌, suc, [], ◌∷◌, ◌++◌, map, take, drop, get_or, length, sym, ap, subst, arith}
-use Rattle.kt_store.proofs.Common.{length-map, map-append, take_all, Entry, Row, column, Int, without_outputs, entry_columns, pair_columns, pairs_shown}
+use Rattle.kt_store.proofs.Common.{length-map, map-append, take_all, Entry, column, Int, without_outputs, entry_columns, pair_columns, pairs_shown}
 use Rattle.kt_store.proofs.EntriesLemmas.{one_sound}
 use Rattle.kt_store.proofs.MergeLemmas.{Later, at, entry_position}
+use Rattle.kt_store.proofs.WideLemmas.{one_wide}
 use Rattle.kt_store.proofs.outlines.entries_in.Goals as goal
 
+pub small_in-requires : goal.small_in-requires
+small_in-requires c = omega (arith, one_wide 7 c.args.rows.now c.loop-row.row-index c.row-item.result c.requires.rows (omega (arith, c.loop-row-test.true)) c.row-item.is)
+
+pub entry_in-requires : goal.entry_in-requires
+entry_in-requires c = one_wide 7 c.args.rows.now c.loop-row.row-index c.row-item.result c.requires.rows (omega (arith, c.loop-row-test.true)) c.row-item.is
+
 pub loop-row-preserved : goal.loop-row-preserved
-loop-row-preserved c es sound up are pairs =
+loop-row-preserved c = (λ es sound up are pairs.
     let pushed : c.add.new.items.items ≡ c.loop-row.entries.items ++ c.in_ok-entry.entry ∷ [] = search rules in
     let i = c.loop-row.row-index in
     let low : i < length es = omega (arith, c.loop-row-test.true, ap length are, length-map es entry_columns) in
     let it = at es i c.row-item.result sound up low (subst (λ l. c.row-item.result ≡ get_or l i c.row-item.result) are c.row-item.is) in
     let position : c.in_ok-small_in.field-0 ≡ it.entry.position = entry_position c.in_ok-small_in.field-0 it.entry c.row-item.result it.row c.in_ok-small_in.ensures.number in
     let rest : c.loop-row.rest.now ≡ map (pair_columns c.in_ok-small_in.field-0) it.entry.meta ++ pairs_shown (drop (suc i) es) =
-    (c.loop-row.invariant es sound up are pairs).1 ∙ ap pairs_shown it.behind ∙ ap (λ p. map (pair_columns p) it.entry.meta ++ pairs_shown (drop (suc i) es)) (sym position) in
+    (c.loop-row.invariant.0 es sound up are pairs).1 ∙ ap pairs_shown it.behind ∙ ap (λ p. map (pair_columns p) it.entry.meta ++ pairs_shown (drop (suc i) es)) (sym position) in
     let later : Later c.in_ok-small_in.field-0 (drop (suc i) es) = subst (λ p. Later p (drop (suc i) es)) (sym position) it.later in
     let found = c.in_ok-meta.ensures.meta it.entry.meta (drop (suc i) es) it.sound.meta later rest in
     let entry : c.in_ok-entry.entry ≡ without_outputs it.entry = c.in_ok-entry.ensures.entry it.entry it.sound it.row found.0 in
     let place : suc i ≡ i + 1 = omega arith in (
-      pushed ∙ ap (λ e. c.loop-row.entries.items ++ e ∷ []) entry ∙ ap (λ l. l ++ without_outputs it.entry ∷ []) (c.loop-row.invariant es sound up are pairs).0
+      pushed ∙ ap (λ e. c.loop-row.entries.items ++ e ∷ []) entry ∙ ap (λ l. l ++ without_outputs it.entry ∷ []) (c.loop-row.invariant.0 es sound up are pairs).0
           ∙ sym (map-append without_outputs (take i es) (it.entry ∷ [])) ∙ ap (map without_outputs) (sym it.before) ∙ ap (λ k. map without_outputs (take k es)) place,
       found.1 ∙ ap (λ k. pairs_shown (drop k es)) place,
-    )
+    ), c.in_ok-meta.ensures.wide)
 
 pub returns-clause-entries : goal.returns-clause-entries
-returns-clause-entries c es sound up are pairs = (c.loop-row.invariant es sound up are pairs).0 ∙ ap (map without_outputs) (take_all c.loop-row.row-index es (omega (arith, c.loop-row-test.false, ap length are, length-map es entry_columns)))
+returns-clause-entries c es sound up are pairs = (c.loop-row.invariant.0 es sound up are pairs).0 ∙ ap (map without_outputs) (take_all c.loop-row.row-index es (omega (arith, c.loop-row-test.false, ap length are, length-map es entry_columns)))
 
 pub returns-in_err-small_in-clause-read : goal.returns-in_err-small_in-clause-read
 returns-in_err-small_in-clause-read c es sound up small are pairs =
     let i = c.loop-row.row-index in
     let low : i < length es = omega (arith, c.loop-row-test.true, ap length are, length-map es entry_columns) in
     let fits = one_sound (λ (e : Entry). e.position < 4294967296) entry_columns (λ (e : Entry). e) es i c.row-item.result small low (subst (λ l. c.row-item.result ≡ get_or l i c.row-item.result) are c.row-item.is) in
-    let told = c.in_err-small_in.ensures.read fits.0.position fits.1 (subst (λ (l : Row). 0 < length l) (sym fits.2) (omega arith)) (ap (λ l. column l 0) fits.2) in
+    let told = c.in_err-small_in.ensures.read fits.0.position fits.1 (ap (λ l. column l 0) fits.2) in
     search rules
 
 pub returns-in_err-meta-clause-read : goal.returns-in_err-meta-clause-read
@@ -40,7 +47,7 @@ returns-in_err-meta-clause-read c es sound up small are pairs =
     let it = at es i c.row-item.result sound up low (subst (λ l. c.row-item.result ≡ get_or l i c.row-item.result) are c.row-item.is) in
     let position : c.in_ok-small_in.field-0 ≡ it.entry.position = entry_position c.in_ok-small_in.field-0 it.entry c.row-item.result it.row c.in_ok-small_in.ensures.number in
     let rest : c.loop-row.rest.now ≡ map (pair_columns c.in_ok-small_in.field-0) it.entry.meta ++ pairs_shown (drop (suc i) es) =
-    (c.loop-row.invariant es sound up are pairs).1 ∙ ap pairs_shown it.behind ∙ ap (λ p. map (pair_columns p) it.entry.meta ++ pairs_shown (drop (suc i) es)) (sym position) in
+    (c.loop-row.invariant.0 es sound up are pairs).1 ∙ ap pairs_shown it.behind ∙ ap (λ p. map (pair_columns p) it.entry.meta ++ pairs_shown (drop (suc i) es)) (sym position) in
     let later : Later c.in_ok-small_in.field-0 (drop (suc i) es) = subst (λ p. Later p (drop (suc i) es)) (sym position) it.later in
     let told = c.in_err-meta.ensures.read it.entry.meta (drop (suc i) es) it.sound.meta later rest in
     search rules

@@ -1,5 +1,5 @@
 use Rattle.std.proofs.Common.{◌≡◌, ◌∙◌, pos, refl, sym, ap}
-use Rattle.kt_store.proofs.Common.{column, kind_code, Int}
+use Rattle.kt_store.proofs.Common.{column, Int}
 use Rattle.kt_store.proofs.outlines.entry_in.Goals as goal
 
 pub returns-clause-entry : goal.returns-clause-entry
@@ -7,8 +7,7 @@ returns-clause-entry c e sound is meta =
     let position : c.in_ok-position.position ≡ e.position = let q : Int (pos c.in_ok-position.position) ≡ Int (pos e.position) = sym c.in_ok-position.ensures.number ∙ ap (λ l. column l 0) is in cc in
     let program : c.in_ok-program.program ≡ e.program = c.in_ok-program.ensures.text e.program sound.program (ap (λ l. column l 1) is) in
     let case_name : c.in_ok-case_name.case_name ≡ e.case_name = c.in_ok-case_name.ensures.text e.case_name sound.case_name (ap (λ l. column l 2) is) in
-    let code : c.in_ok-code.code ≡ kind_code e.verdict.kind = let q : Int (pos c.in_ok-code.code) ≡ Int (pos (kind_code e.verdict.kind)) = sym c.in_ok-code.ensures.number ∙ ap (λ l. column l 3) is in cc in
-    let kind : c.in_ok-kind.kind ≡ e.verdict.kind = let q = c.in_ok-kind.ensures.kind e.verdict.kind code in cc in
+    let kind : c.in_ok-kind.kind ≡ e.verdict.kind = c.in_ok-kind.ensures.kind e.verdict.kind (ap (λ l. column l 3) is) in
     let reason : c.in_ok-reason.reason ≡ e.verdict.reason = c.in_ok-reason.ensures.text e.verdict.reason sound.reason (ap (λ l. column l 4) is) in
     let verdict : c.of.result ≡ e.verdict = c.of.ensures (λ passed. reason ∙ sound.passed (sym kind ∙ passed)) ∙ rw (kind, reason) refl in
     let started : c.in_ok-started.started ≡ e.started = let q : Int (pos c.in_ok-started.started) ≡ Int (pos e.started) = sym c.in_ok-started.ensures.number ∙ ap (λ l. column l 5) is in cc in

@@ -1,7 +1,11 @@
 use Rattle.std.proofs.Common.{◌∙◌, ℕ, inr, slice_get, refl, sym, ap}
 use Rattle.kt_store.proofs.Common.{option_copied, entry_at, run_at}
 use Rattle.kt_store.proofs.OutputsLemmas.{outputs_there, no_outputs, no_entry}
+use Rattle.kt_store.proofs.WideLemmas.{first_wide}
 use Rattle.kt_store.proofs.outputs.find_outputs.Goals as goal
+
+pub outputs_in-requires : goal.outputs_in-requires
+outputs_in-requires g c = first_wide 4 c.in_ok-rows.rows.items c.in-Some.row.now c.in_ok-rows.ensures.wide (ap (λ l. slice_get l 0) (sym c.deref.ensures.value) ∙ sym c.first.ensures.value ∙ ap option_copied c.in-Some.is)
 
 pub returns-in_default-clause-refused : goal.returns-in_default-clause-refused
 returns-in_default-clause-refused g c runs has clean =
