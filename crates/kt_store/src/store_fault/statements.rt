@@ -222,10 +222,7 @@ pub(crate) fn close_file<S: Start>(
 {
     match connection.close_files() {
         Ok(_files) => Ok(()),
-        Err((error, store)) => {
-            drop(store.close());
-            Err(fault_of(error))
-        }
+        Err((error, _store)) => Err(fault_of(error)),
     }
 }
 
