@@ -1,7 +1,7 @@
 -- Runs in memory are looked up and changed.
 use Rattle.std.proofs.Common.{Option, Some, None, Ok, Err, Bool, true, false, slice_get, nat_lt, insert, map, ◌==◌, if◌then◌else◌, ◌≡◌, ℕ, zero, suc, ◌<◌, ◌≤◌, List, [], ◌∷◌, length, arith, refl, sym, ap, ◌∙◌, get_or, set, inl, inr, subst}
 use Rattle.kt_cli.proofs.Common.{find, set-get_or, Entry, Run, StoreFault, NoRun, CaseOutputs, IsStoreFault, without_outputs, outputs_of, entry_at, AreNumbered, insert_at, run_at, put_refusal_of, finish_refusal_of, Agrees, Serves, changed_by, StoreCall, Put, Finished, Outline, Outputs, LeavesInMemory, memory_runs, ServesInMemory, FindsPlace, entry_refusal, closing_refusal, place_among}
-use Rattle.kt_store.proofs.Numbered.{numbers_changed}
+use Rattle.kt_store.proofs.Numbered.{numbers_changed, ordered_changed}
 use Rattle.kt_store.proofs.ServeLemmas.{always_outlasts}
 use Rattle.kt_cli.proofs.Numbered.{entry_placed, finish_placed}
 
@@ -9,7 +9,7 @@ use Rattle.kt_cli.proofs.Numbered.{entry_placed, finish_placed}
 pub serves_in_memory : (old : List Run) (call : StoreCall) (new : List Run) → ServesInMemory old call new → Serves memory_runs call old new
 serves_in_memory old call new h = record {
   asked = tt;
-  stands = λ runs is. (h.1 (subst (λ (rs : List Run). AreNumbered 1 rs) (sym is.0) is.1) ∙ ap (λ (rs : List Run). changed_by call rs) is.0, numbers_changed call runs is.1);
+  stands = λ runs is. (h.1 (subst (λ (rs : List Run). AreNumbered 1 rs) (sym is.0) is.1) ∙ ap (λ (rs : List Run). changed_by call rs) is.0, numbers_changed call runs is.1, ordered_changed call runs is.1 is.2 (subst (λ (rs : List Run). Agrees rs call) is.0 h.0));
   earlier = λ runs is sound. tt;
   agrees = λ runs is sound. subst (λ (rs : List Run). Agrees rs call) is.0 h.0;
   crash = λ runs may is. always_outlasts LeavesInMemory (λ _ _. tt) call runs may old new;

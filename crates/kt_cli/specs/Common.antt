@@ -15,7 +15,7 @@ pub use Rattle.kt_sched.specs.Children.{IsIdle}
 pub use Rattle.kt_sched.specs.Plan.{IsPlan, IsWidth}
 pub use Rattle.kt_store.specs.Ask.{IsStoreFault}
 pub use Rattle.kt_store.specs.Heads.{head_of, outputs_of, without_outputs}
-pub use Rattle.kt_store.specs.Runs.{AreNumbered, has_position, insert_at}
+pub use Rattle.kt_store.specs.Runs.{AreNumbered, AreOrdered, has_position, insert_at}
 pub use Rattle.kt_store.specs.StoreCalls.{Began, Finished, Heads, Outline, Outputs, Put, seen_as}
 pub use Rattle.kt_suite.specs.Selecting.{most_items}
 pub use Rattle.kt_words.specs.Commands.{cases_of}

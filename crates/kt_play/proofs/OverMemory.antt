@@ -12,7 +12,7 @@ use Rattle.kt_store.specs.declared.result_store.Keeping as store
 
 -- what is known of a store whose runs are these
 abbrev pub over : {T : Type 0} → (T → List Run) → store.Ghosts T
-over see = record { answers = λ _ _ _. Unit {0}; stands = λ s runs. StandsInMemory (see s) runs; sound = λ s. ⊤; leaves = λ s may. ⊤; numbered = λ s runs h. h.1 }
+over see = record { answers = λ _ _ _. Unit {0}; stands = λ s runs. StandsInMemory (see s) runs; sound = λ s. ⊤; leaves = λ s may. ⊤; numbered = λ s runs h. h.1; ordered = λ s runs h sound. h.2 }
 
 module _ {T : Type 0} (see : T → List Run) (call : StoreCall) (old new : T) where
   -- its runs serve the call

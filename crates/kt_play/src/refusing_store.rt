@@ -88,6 +88,8 @@ impl Keeping for RefusingStore {
     ghost leaves = { λ s may. ⊤ };
 
     ghost numbered = { λ s runs h. h.1 };
+
+    ghost ordered = { λ s runs h sound. h.2 };
 }
 
 impl ResultStore for RefusingStore {

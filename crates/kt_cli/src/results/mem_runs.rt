@@ -134,12 +134,12 @@ impl MemRuns {
 
 impl Keeping for MemRuns {
     ghost use Rattle.std.specs.Prelude.{◌≡◌, ⊤};
-    ghost use Rattle.kt_cli.specs.Common.{AreNumbered};
+    ghost use Rattle.kt_cli.specs.Common.{AreNumbered, AreOrdered};
 
     // What each call returns is its own clause.
     ghost answers = { λ _ _ _. Unit {0} };
 
-    ghost stands = { λ m runs. (m ≡ runs) × AreNumbered 1 runs };
+    ghost stands = { λ m runs. (m ≡ runs) × AreNumbered 1 runs × AreOrdered runs };
 
     ghost sound = { λ m. ⊤ };
 
@@ -147,6 +147,8 @@ impl Keeping for MemRuns {
     ghost leaves = { λ m may. ⊤ };
 
     ghost numbered = { λ m runs h. h.1 };
+
+    ghost ordered = { λ m runs h sound. h.2 };
 }
 
 impl ResultStore for MemRuns {
