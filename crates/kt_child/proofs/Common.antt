@@ -32,9 +32,9 @@ pub use Rattle.kt_child.specs.Driving.TraceLives.{BegunAt, EachWith, IsNumberAt,
 pub use Rattle.kt_child.specs.Ending.Ends.{Leaves, Removes, err_of, is_over, out_of}
 pub use Rattle.kt_child.specs.Ending.Parts.{After, Bytes, IsNext, Missing, Reads, TooLong, Unreadable, Whole, next_part}
 pub use Rattle.kt_child.specs.Ending.Reads.{bytes_of}
-pub use Rattle.kt_child.specs.Host.HostStands.{AllProceed, AllStay, OthersStay, Proceeds, RunsIn, Stand, stand_in, stand_of}
+pub use Rattle.kt_child.specs.Host.HostStands.{AllProceed, AllStay, OthersStay, Proceeds, Stand, stand_in, stand_of}
 pub use Rattle.kt_child.specs.Inner.Children.{IsChildrenState, IsOn, IsShort, Lived, Takes, Tells, count_at, heard_of, one_if, polls_left}
-pub use Rattle.kt_child.specs.Inner.Host.{IsPlaceOf, TakesPiece, after_removed, after_set, is_other}
+pub use Rattle.kt_child.specs.Inner.Host.{IsPlaceOf, TakesPiece, after_removed, after_set, is_other, RunsIn}
 pub use Rattle.kt_child.specs.Planning.ChildPlan.{paths_of, test_variable, variable_word}
 pub use Rattle.kt_child.specs.Polling.ChildOutcome.{Heard, HeardKill, HeardPoll, Told, ToldAfterKill, ToldWithin, fresh, running}
 pub use Rattle.kt_child.specs.Polling.Lives.{heard_by, heard_in, own, same_child}

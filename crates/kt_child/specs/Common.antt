@@ -28,9 +28,9 @@ pub use Rattle.kt_child.specs.Ending.Parts.{Bytes, IsNext, Reads, Whole, next_of
 pub use Rattle.kt_child.specs.Ending.Reads.{IsListWithin, IsReadWithin, bytes_of, list_of}
 pub use Rattle.kt_child.specs.Host.HostAnswers.{HostLeads, IsFront, IsHostRead, IsOpened, IsPolledOf, limit_after}
 pub use Rattle.kt_child.specs.Host.HostFiles.{TakesAtMost}
-pub use Rattle.kt_child.specs.Host.HostStands.{AllProceed, AllStay, IsLastEnd, OthersStay, Proceeds, RunsIn, stand_in, stand_of}
+pub use Rattle.kt_child.specs.Host.HostStands.{AllProceed, AllStay, IsLastEnd, OthersStay, Proceeds, stand_in, stand_of}
 pub use Rattle.kt_child.specs.Inner.Children.{IsOn, IsWatched, Takes, Tells, count_at, shown_after}
-pub use Rattle.kt_child.specs.Inner.Host.{IsAt, IsCommandOf, IsFaultOf, IsFree, IsPlaceOf, IsUnopened, TakesPiece, after_removed, after_set, is_other}
+pub use Rattle.kt_child.specs.Inner.Host.{IsAt, IsCommandOf, IsFaultOf, IsFree, IsPlaceOf, IsUnopened, RunsIn, TakesPiece, after_removed, after_set, is_other}
 pub use Rattle.kt_child.specs.Planning.ChildPlan.{common_variables, env_of, own_variables, paths_of, removed_names, test_variable, variable, variable_word, words_of}
 pub use Rattle.kt_child.specs.Polling.Lives.{same_child}
 pub use Rattle.kt_child.specs.Polling.Polls.{asked_by_poll, is_due, turn_of, watch_after}

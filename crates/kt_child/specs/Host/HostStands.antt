@@ -1,5 +1,5 @@
 -- How the children of the host stand.
-use Rattle.std.specs.Prelude.{◌≡◌, Bool, false, Option, Some, None, IsSome, IsSomeAnd, option_map, List, [], ◌∷◌, if◌then◌else◌}
+use Rattle.std.specs.Prelude.{◌≡◌, false, Option, Some, None, IsSome, IsSomeAnd, option_map, List, [], ◌∷◌, if◌then◌else◌}
 use Rattle.std.specs.Process.{child_status}
 use Rattle.std.specs.declared.process.status.ExitStatus.{ExitStatus}
 use Rattle.kt_child.specs.declared.system.Child.{Child}
@@ -39,7 +39,3 @@ AllStay old new = (c : Child) → new c ≡ old c
 -- and so does each but one
 abbrev pub OthersStay : Child → (Child → Stand) → (Child → Stand) → Type 0
 OthersStay child old new = (c : Child) → same_child child c ≡ false → new c ≡ old c
-
--- A child that is reported as running has a process, of which no end was seen unless some child was late.
-abbrev pub RunsIn : Bool → Stand → Type 0
-RunsIn late stand = IsSome stand × (late ≡ false → stand ≡ Some None)

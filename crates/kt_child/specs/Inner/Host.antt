@@ -1,5 +1,5 @@
 -- The system of the host, as private functions keep it.
-use Rattle.std.specs.Prelude.{◌≡◌, ◌≢◌, Result, Ok, Err, ℕ, List, [], ◌∷◌, false, Option, Some, None, map, if◌then◌else◌, ◌++◌, ◌+◌, ◌≤◌, ◌<◌, length, IfSome, zero, suc, Bool, true, not, ◌*◌, ◌-◌, ◌/◌, min}
+use Rattle.std.specs.Prelude.{◌≡◌, ◌≢◌, Result, Ok, Err, ℕ, List, [], ◌∷◌, false, Option, Some, None, IsSome, map, if◌then◌else◌, ◌++◌, ◌+◌, ◌≤◌, ◌<◌, length, IfSome, zero, suc, Bool, true, not, ◌*◌, ◌-◌, ◌/◌, min}
 use Rattle.std.specs.declared.io.ErrorKind.{ErrorKind}
 use Rattle.std.specs.declared.io.ErrorKind.TheVariants.{NotFound, OutOfMemory}
 use Rattle.kt_child.specs.declared.system.OsFault.{OsFault}
@@ -15,6 +15,7 @@ use Rattle.kt_child.specs.declared.system.EnvPlan.{EnvPlan}
 use Rattle.std.specs.Io.KnownBytes.{Consumes, IsAtEnd}
 use Rattle.kt_child.specs.declared.system.Child.{Child}
 use Rattle.kt_child.specs.declared.host.host_child.HostChild.{HostChild}
+use Rattle.kt_child.specs.Host.HostStands.{Stand}
 use Rattle.kt_child.specs.Polling.Lives.{same_child}
 
 -- a file that can't be opened is missing exactly if the system said so
@@ -91,3 +92,7 @@ whole_slice first micros = if first then 50 + micros / 8 else 500
 -- and of those, as many as are left of 10,000
 abbrev pub next_slice : Bool → ℕ → ℕ
 next_slice first micros = min (whole_slice first micros) (10000 - micros)
+
+-- a child that is reported as running has a process, of which no end was seen unless some child was late
+abbrev pub RunsIn : Bool → Stand → Type 0
+RunsIn late stand = IsSome stand × (late ≡ false → stand ≡ Some None)
