@@ -12,22 +12,25 @@ pub entry_in-requires : goal.entry_in-requires
 entry_in-requires c = one_wide 7 c.args.rows.now c.loop-row.row-index c.row-item.result c.requires.rows (omega (arith, c.loop-row-test.true)) c.row-item.is
 
 pub loop-row-preserved : goal.loop-row-preserved
-loop-row-preserved c = (λ es sound up are pairs.
-    let pushed : c.add.new.items.items ≡ c.loop-row.entries.items ++ c.in_ok-entry.entry ∷ [] = search rules in
-    let i = c.loop-row.row-index in
-    let low : i < length es = omega (arith, c.loop-row-test.true, ap length are, length-map es entry_columns) in
-    let it = at es i c.row-item.result sound up low (subst (λ l. c.row-item.result ≡ get_or l i c.row-item.result) are c.row-item.is) in
-    let position : c.in_ok-small_in.field-0 ≡ it.entry.position = entry_position c.in_ok-small_in.field-0 it.entry c.row-item.result it.row c.in_ok-small_in.ensures.number in
-    let rest : c.loop-row.rest.now ≡ map (pair_columns c.in_ok-small_in.field-0) it.entry.meta ++ pairs_shown (drop (suc i) es) =
-    (c.loop-row.invariant.0 es sound up are pairs).1 ∙ ap pairs_shown it.behind ∙ ap (λ p. map (pair_columns p) it.entry.meta ++ pairs_shown (drop (suc i) es)) (sym position) in
-    let later : Later c.in_ok-small_in.field-0 (drop (suc i) es) = subst (λ p. Later p (drop (suc i) es)) (sym position) it.later in
-    let found = c.in_ok-meta.ensures.meta it.entry.meta (drop (suc i) es) it.sound.meta later rest in
-    let entry : c.in_ok-entry.entry ≡ without_outputs it.entry = c.in_ok-entry.ensures.entry it.entry it.sound it.row found.0 in
-    let place : suc i ≡ i + 1 = omega arith in (
-      pushed ∙ ap (λ e. c.loop-row.entries.items ++ e ∷ []) entry ∙ ap (λ l. l ++ without_outputs it.entry ∷ []) (c.loop-row.invariant.0 es sound up are pairs).0
-          ∙ sym (map-append without_outputs (take i es) (it.entry ∷ [])) ∙ ap (map without_outputs) (sym it.before) ∙ ap (λ k. map without_outputs (take k es)) place,
-      found.1 ∙ ap (λ k. pairs_shown (drop k es)) place,
-    ), c.in_ok-meta.ensures.wide)
+loop-row-preserved c = (
+  λ es sound up are pairs.
+      let pushed : c.add.new.items.items ≡ c.loop-row.entries.items ++ c.in_ok-entry.entry ∷ [] = search rules in
+      let i = c.loop-row.row-index in
+      let low : i < length es = omega (arith, c.loop-row-test.true, ap length are, length-map es entry_columns) in
+      let it = at es i c.row-item.result sound up low (subst (λ l. c.row-item.result ≡ get_or l i c.row-item.result) are c.row-item.is) in
+      let position : c.in_ok-small_in.field-0 ≡ it.entry.position = entry_position c.in_ok-small_in.field-0 it.entry c.row-item.result it.row c.in_ok-small_in.ensures.number in
+      let rest : c.loop-row.rest.now ≡ map (pair_columns c.in_ok-small_in.field-0) it.entry.meta ++ pairs_shown (drop (suc i) es) =
+      (c.loop-row.invariant.0 es sound up are pairs).1 ∙ ap pairs_shown it.behind ∙ ap (λ p. map (pair_columns p) it.entry.meta ++ pairs_shown (drop (suc i) es)) (sym position) in
+      let later : Later c.in_ok-small_in.field-0 (drop (suc i) es) = subst (λ p. Later p (drop (suc i) es)) (sym position) it.later in
+      let found = c.in_ok-meta.ensures.meta it.entry.meta (drop (suc i) es) it.sound.meta later rest in
+      let entry : c.in_ok-entry.entry ≡ without_outputs it.entry = c.in_ok-entry.ensures.entry it.entry it.sound it.row found.0 in
+      let place : suc i ≡ i + 1 = omega arith in (
+        pushed ∙ ap (λ e. c.loop-row.entries.items ++ e ∷ []) entry ∙ ap (λ l. l ++ without_outputs it.entry ∷ []) (c.loop-row.invariant.0 es sound up are pairs).0
+            ∙ sym (map-append without_outputs (take i es) (it.entry ∷ [])) ∙ ap (map without_outputs) (sym it.before) ∙ ap (λ k. map without_outputs (take k es)) place,
+        found.1 ∙ ap (λ k. pairs_shown (drop k es)) place,
+      ),
+  c.in_ok-meta.ensures.wide,
+)
 
 pub returns-clause-entries : goal.returns-clause-entries
 returns-clause-entries c es sound up are pairs = (c.loop-row.invariant.0 es sound up are pairs).0 ∙ ap (map without_outputs) (take_all c.loop-row.row-index es (omega (arith, c.loop-row-test.false, ap length are, length-map es entry_columns)))

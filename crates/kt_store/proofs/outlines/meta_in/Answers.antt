@@ -34,7 +34,7 @@ returns-in_err-pair_in-clause-read c vs others sound later are =
 
 pub loop-row-preserved : goal.loop-row-preserved
 loop-row-preserved c = (
-    one_read c.args.position c.args.rows.now c.loop-row.meta c.push.new.self c.in_ok-pair_in.field-0 c.in_ok-number_in.field-0 c.in-Some.row.now c.loop-row.rest.now c.in-Some.after.now c.in-Some.ensures.cases.0
-    c.in_ok-number_in.ensures.number (c.if-branch-from.false ∙ c.from.ensures) c.in_ok-pair_in.ensures.pair c.in_ok-push.ensures.ok c.loop-row.invariant.0,
-    (subst (AreWide 3) c.in-Some.ensures.cases.0 c.loop-row.invariant.1).1,
-  )
+  one_read c.args.position c.args.rows.now c.loop-row.meta c.push.new.self c.in_ok-pair_in.field-0 c.in_ok-number_in.field-0 c.in-Some.row.now c.loop-row.rest.now c.in-Some.after.now c.in-Some.ensures.cases.0
+      c.in_ok-number_in.ensures.number (c.if-branch-from.false ∙ c.from.ensures) c.in_ok-pair_in.ensures.pair c.in_ok-push.ensures.ok c.loop-row.invariant.0,
+  (subst (AreWide 3) c.in-Some.ensures.cases.0 c.loop-row.invariant.1).1,
+)
