@@ -72,7 +72,13 @@ function take(line,   at) {
 function is_refusal(line) {
   return line == "out of memory" || line == "kyua: E: out of memory" || line == "put: out of memory" || line == "NoMemory" ||
     line == "NoMemory(NoMemory { refusal: Refusal })" || line == "Refused(Memory)" || line == "no driver" ||
-    subject == "schedules" && line ~ /: out of memory$/ || silent && line != "" && index("kyua: E: out of memory", line) == 1
+    subject == "schedules" && line ~ /: out of memory$/ || silent && is_front(line)
+}
+
+# Whether a line is the front of a refusal, after which the writer failed.
+function is_front(line) {
+  sub(/\(cut\)$/, "", line)
+  return line != "" && index("kyua: E: out of memory", line) == 1
 }
 
 # Whether a line has the words of another, in their order, but for those that are left out.
@@ -82,6 +88,25 @@ function is_part(line, of,   words, whole, n, m, count, all) {
   for (n = m = 1; n <= count; n++) {
     sub(/ x[0-9]+$/, "", words[n])
     while (m <= all && index(whole[m], words[n]) != 1) m++
+    if (m > all) return 0
+  }
+  return 1
+}
+
+# Whether a line has the places at which a disk stopped a command, in the order of another line, but for what differs at some.
+function are_stops(line, of,   words, whole, n, m, count, all) {
+  gsub(/, and then (the line is missing|the exit is another one|the page is no beginning|the runs are neither from before the call nor from after it)/, "", line)
+  sub(/, then not$/, "", line)
+  sub(/, then not$/, "", of)
+  gsub(/(put|attach) /, "&_", line)
+  gsub(/(put|attach) /, "&_", of)
+  gsub(/ _/, "", line)
+  gsub(/ _/, "", of)
+  count = split(line, words, " ")
+  all = split(of, whole, " ")
+  for (n = m = 1; n <= count; n++) {
+    if (n > 1 && words[n] == words[n - 1]) continue
+    while (m <= all && whole[m] != words[n]) m++
     if (m > all) return 0
   }
   return 1
@@ -104,7 +129,7 @@ function may_begin(   n, name, due_verdict) {
         # What a case wrote may be left out before it.
         if (!has_outputs) break
       }
-      return subject == "systems" || name in names
+      return subject == "systems" || name in names || has_shortage
     }
     return 0
   }
@@ -115,16 +140,26 @@ function may_begin(   n, name, due_verdict) {
   }
   # The tree of kt_rows itself needs memory to find what it has.
   if (subject == "suites") return got[1] ~ /:(0: file could not be read|[0-9]+: (program not found|includes too deep))$/
+  # A command that memory ended is none that the disk stopped: where it was is told once more, with what differs.
+  if (due[1] ~ /^stopped in /) return are_stops(got[1], due[1])
   # Of another run only the number is told.
-  if (subject == "plans") return got[1] ~ /^another run, the number [0-9]+, of [a-z]+$/
+  if (subject == "plans") return got[1] ~ /^another run, the number [0-9]+, of [A-Za-z]+$/
   # A store whose calls are refused by their number is asked less often.
   if (has_shortage && (got[1] == "" || got[1] ~ /^run [0-9]+: |^run [0-9]+ at /)) return 1
   # The calls of a platform or of a system: fewer, and then the refusal.
   if (subject == "openings" && got[1] == "nothing") return is_refusal(got[2]) || silent
+  if (subject == "openings" && is_part(got[1], due[1])) {
+    for (n = 2; n <= got_count; n++) if (is_refusal(got[n])) return 1
+  }
+  # What fills the results of a row was refused.
+  if (subject == "openings" && has_puts && got[1] ~ /^(Test cases: |run [0-9]+: |Run [0-9]+, |$)/) return 1
+  if (silent && due[1] ~ /^run [0-9]+/ && got[1] ~ /^(run [0-9]+.*)?$/) return 1
   if (subject == "schedules") return (got[1] == "" || is_part(got[1], due[1])) && is_refusal(got[2]) && (after = 3)
   if (subject == "systems") {
     if (got[1] ~ /^failed; [0-9]+ bytes given, [0-9]+ reads/ || got[1] ~ /^[A-Za-z]+(\([^)]*\))?, Unreadable$/) return 1
-    if (got[1] ~ /^[0-9]+ calls$/) return due[1] ~ /^at [0-9]+: /
+    # A start that was refused asks for less, and nothing more is told of it after a put that failed.
+    if (got[1] ~ /^[0-9]+ calls$/) return due[1] ~ /^at [0-9]+: / || due[1] ~ /^[0-9]+ calls$/ && got[1] + 0 < due[1] + 0
+    if (got[1] ~ /^[0-9]+ spawned$/) return due[1] ~ /^[0-9]+ spawned$/ && got[1] + 0 < due[1] + 0
     if (is_total(got[1])) return 1
     for (n = 2; n <= got_count; n++) {
       if (is_refusal(got[n]) || is_total(got[n]) || got[n] ~ /^[A-Za-z]+(\([^)]*\))?, Unreadable$/) return 1
@@ -183,6 +218,8 @@ function judge(   n, text) {
     if (take(due[n])) verdicts[verdict] = 1
   }
   for (n in givens) verdicts[n] = 1
+  # A first line that is longer than what is shown isn't compared.
+  if (got_count == 0 || due_count == 0) return
   refused = is_refusal(got[1])
   if (!may_begin()) {
     complain("another answer")
@@ -213,6 +250,7 @@ BEGIN {
     if (line ~ /^holds [^ ]*(out|err) /) has_outputs = 1
     if (line ~ /^show .*outputs/) shows_outputs = 1
     if (line ~ /^refused(-memory)? /) has_shortage = 1
+    if (line ~ /^(put|finish) /) has_puts = 1
     if (line ~ /^(put [0-9]+ [0-9]+|entry) /) {
       sub(/^(put [0-9]+ [0-9]+|entry) /, "", line)
       givens[line] = 1
@@ -241,7 +279,7 @@ BEGIN {
     allow("its entries can not be told|the old store is not made")
   }
   if (subject == "filters") allow("a filter that is refused is asked for by `read`")
-  if (subject ~ /^(lists|properties|suites)$/) allow("there is no such property or value|no such property or value|no such variable")
+  if (subject ~ /^(lists|properties|suites)$/) allow("there is no such property or value|no such property or value|no such variable|there is no such variable")
   if (subject == "systems") allow("no such variable|there is no driver")
   if (subject == "schedules") allow("the launcher ran out of memory")
 }
