@@ -2,15 +2,18 @@
 #![tactic(auto)]
 
 use kt_base::Text;
-use kt_child::{DriverFault, HostOs};
+use kt_child::{DriverFault, HostOs, Os};
 use kt_cli::{
-    HostMachine, LineOutput, Outside, Platform, Surroundings, carry_out, prepare_results,
+    Exit, HostMachine, LineOutput, Outside, Platform, Surroundings, carry_out, prepare_results,
 };
 use kt_store::{Results, StoreFault};
-use kt_words::{Command, read_words};
+use kt_words::{Command, CommandFault, read_words};
 use sqlite::{FileFrom, FileStore, Start, Unknown};
+use std::fs::File;
+use std::io::Write;
 use std::marker::PhantomData;
 use std::process::ExitCode;
+use std::rt::{Clock, Files};
 use std::{env, io};
 
 /// A file and what it held, for contracts: no code reads it.
@@ -64,6 +67,30 @@ impl<S: Past> Platform for Host<'_, S> {
     }
 }
 
+/// Carries out a command line over the files and the clock of a runtime and over a system, and returns its exit.
+fn carried<
+    R: Files<File = File> + Clock + AllocGlobal,
+    O: Os + Drop,
+    P: Platform,
+    W: Write,
+    E: Write,
+>(
+    rt: &R,
+    os: O,
+    platform: &mut P,
+    command: Result<Command, CommandFault>,
+    out: &mut LineOutput<W>,
+    errors: &mut E,
+) -> Exit {
+    let outside = Outside {
+        alloc: rt.alloc(),
+        machine: HostMachine { rt },
+        os,
+    };
+    let (exit, _outside) = carry_out(outside, platform, command, out, errors);
+    exit
+}
+
 /// The program, whatever `S` the files of results held.
 fn run<S: Past>(rt: &HostRuntime, past: PhantomData<S>) -> ExitCode {
     let command = read_words(rt.alloc(), env::args(rt));
@@ -71,12 +98,14 @@ fn run<S: Past>(rt: &HostRuntime, past: PhantomData<S>) -> ExitCode {
     // The line of a case is seen when the case is over.
     let by_line = matches!(command, Ok(Command::Test { .. }));
     let mut out = LineOutput::new(io::writer(rt), by_line);
-    let outside = Outside {
-        alloc: rt.alloc(),
-        machine: HostMachine { rt },
-        os: HostOs::new(rt),
-    };
-    let (exit, _outside) = carry_out(outside, &mut host, command, &mut out, &mut rt.stderr());
+    let exit = carried(
+        rt,
+        HostOs::new(rt),
+        &mut host,
+        command,
+        &mut out,
+        &mut rt.stderr(),
+    );
     ExitCode::from(exit.status)
 }
 
