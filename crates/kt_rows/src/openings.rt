@@ -14,7 +14,9 @@ use crate::store_calls::push_call;
 use crate::system_lists::push_calls;
 use crate::words::read_line;
 use kt_cli::{LineOutput, Outside, carry_out};
-use kt_play::{RefusingStore, ScriptedMachine, ScriptedPlatform, ScriptedSystem, ScriptedWriter};
+use kt_play::{
+    RefusingStore, Scene, ScriptedMachine, ScriptedPlatform, ScriptedSystem, ScriptedWriter, Stage,
+};
 use kt_words::{Command, CommandFault};
 use std::alloc::Global;
 use std::io::Write;
@@ -69,12 +71,19 @@ fn pages_of(alloc: Global, row: &Row<'_>) -> Result<Pages> {
 /// Carries out a command line, as a process of its own does, appends the calls of its system, and returns its exit status.
 fn carried<W: Write, E: Write>(
     log: &mut Answer,
-    outside: Outside<ScriptedMachine<'_>, ScriptedSystem<'_>>,
+    scene: &Scene<'_>,
+    stage: &Stage<'_>,
     platform: &mut ScriptedPlatform,
     command: Result<Command, CommandFault>,
     out: &mut W,
     errors: &mut E,
 ) -> Result<u8> {
+    let alloc = log.alloc;
+    let outside = Outside {
+        alloc,
+        machine: ScriptedMachine::new(alloc, stage),
+        os: ScriptedSystem::new(alloc, scene),
+    };
     let mut lines = LineOutput::new(out, true);
     let (exit, outside) = carry_out(outside, platform, command, &mut lines, errors);
     log.push(outside.os.log()?);
@@ -102,13 +111,8 @@ fn push_exits(
             "words" => Err(CommandFault::from(shortage(alloc)?)),
             _ => continue,
         };
-        let outside = Outside {
-            alloc,
-            machine: ScriptedMachine::new(alloc, &stage),
-            os: ScriptedSystem::new(alloc, &scene),
-        };
         let (out, errors) = (&mut pages.out, &mut pages.errors);
-        let status = carried(log, outside, platform, command, out, errors)?;
+        let status = carried(log, &scene, &stage, platform, command, out, errors)?;
         exits.made(format!(in alloc; " {status}"));
     }
     Ok(())
