@@ -348,6 +348,9 @@ kt_cli/src/output/line_output.rt: hand_on(&mut self.held, &mut self.out)
 kt_cli/src/output/line_output.rt: hand_on(&mut self.held, &mut self.out)
 kt_cli/src/host/performing.rt: print_command_fault(fault, errors)
 kt_cli/src/host/performing.rt: reject(&fault, out, errors)
+kyua/src/main.rt: carry_out(outside, platform, command, out, errors)
+# The program's own standard output.
+kyua/src/main.rt: let mut out = LineOutput::new(io::writer(rt), by_line);
 kt_cli/src/commands/recorder.rt: line(&entry, self.out)
 kt_cli/src/commands/recorder.rt: write_entry(self.written, &entry, self.out)
 PLACES
