@@ -1,6 +1,7 @@
 //! Where a line of a list leads.
 
-ghost use Rattle.std.specs.Prelude.{◌≡◌, List, ℕ, None, Some, IfOk};
+ghost use Rattle.std.specs.Prelude.{◌≡◌, true, false, List, ℕ, None, Some, IfOk};
+ghost use Rattle.kt_atflist.specs.Blocks.{is_given, is_good, with_property};
 ghost use Rattle.kt_atflist.specs.Common.{names_of, begin_named, begin_with, set_property, set_key, go_on_with, go_on, step_of, closed, finished, ident_in, key_in, value_in};
 
 use crate::block::Block;
@@ -50,6 +51,20 @@ fn begin(alloc: Global, cases: Items<CaseDef>, names: Names, line: &[u8]) -> Res
     }
 }
 
+/// Gives a block a property that it has not given before, and says whether the value is good.
+fn is_set(block: &mut Block, name: &Text, value: &Text) -> Result<bool, NoMemory>
+    requires { is_given block.old.props name.now ≡ false }
+    ensures good { IfOk result (λ good. good ≡ is_good name.now value.now) }
+    ensures set { IfOk result (λ good.
+        good ≡ true → block.new ≡ with_property block.old name.now value.now) }
+{
+    match block.set(name, value) {
+        Err(PropFault::NoMemory(refusal)) => Err(refusal),
+        Err(_fault) => Ok(false),
+        Ok(()) => Ok(true),
+    }
+}
+
 fn set_property(
     cases: Items<CaseDef>,
     names: Names,
@@ -66,17 +81,14 @@ fn set_property(
             if block.has(&name) {
                 return Ok(Step::Wrong(ListCause::RepeatedKey));
             }
-            match block.set(&name, &value) {
-                Err(PropFault::NoMemory(refusal)) => Err(refusal),
-                Err(_fault) => Ok(Step::Wrong(ListCause::BadValue)),
-                Ok(()) => {
-                    Ok(Step::To(Reading {
-                        cases,
-                        names,
-                        block: Some(block),
-                    }))
-                }
+            if !is_set(&mut block, &name, &value)? {
+                return Ok(Step::Wrong(ListCause::BadValue));
             }
+            Ok(Step::To(Reading {
+                cases,
+                names,
+                block: Some(block),
+            }))
         }
     }
 }

@@ -6,6 +6,7 @@ pub use Rattle.std.specs.List.{list_any, prefix_len}
 pub use Rattle.std.specs.Str.{IsUtf8, chars}
 pub use Rattle.kt_base.specs.Characters.{is_absolute, is_slash}
 pub use Rattle.kt_base.specs.Digits.{decimal_from, is_digit, up_to}
+pub use Rattle.kt_base.specs.Inner.Pairs.{pairs_of}
 pub use Rattle.kt_base.specs.Inner.Parts.{number_text, parts_text}
 pub use Rattle.kt_base.specs.Kinds.{good, word}
 pub use Rattle.kt_base.specs.LastValues.{IsReplaced, last_values, value_of}

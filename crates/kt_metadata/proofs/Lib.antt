@@ -4,6 +4,7 @@ pub mod Fronts
 pub mod Joining
 pub mod KeyLaws
 pub mod Layers
+pub mod Listings
 pub mod Rows
 pub mod Tables
 pub mod Timeouts

@@ -1,4 +1,4 @@
-ghost use Rattle.std.specs.Prelude.{◌≡◌, ◌∷◌, ◌++◌, [], List, IfOk, OnOk, OnErr, chars};
+ghost use Rattle.std.specs.Prelude.{◌≡◌, ◌↔◌, ◌∷◌, ◌++◌, [], List, IfOk, IsTrue, OnOk, OnErr, chars};
 ghost use Rattle.kt_metadata.specs.Common.{option_copied, option_map, filter, Variable, last_values, value_of, texts_of, given, IsRead, custom_pairs, is_valued, a_pair};
 
 use crate::table::is_custom;
@@ -43,6 +43,13 @@ impl Layer {
         ensures { self.now ≡ last_values self.now }
     {
         *self.given.allocator()
+    }
+
+    /// Whether nothing was given.
+    pub fn is_empty(&self) -> bool
+        ensures { IsTrue result ↔ (self.now ≡ []) }
+    {
+        self.given.is_empty()
     }
 
     /// What was given to a name. It takes constant time.

@@ -10,6 +10,7 @@ mod meta;
 mod props;
 mod reasons;
 mod requirements;
+mod shared_layer;
 mod table;
 mod value;
 mod values;

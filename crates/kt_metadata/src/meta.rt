@@ -42,16 +42,22 @@ impl Meta {
 
 impl Props {
     ghost use Rattle.std.specs.Prelude.{◌≡◌, ◌≤◌, [], List, IfOk, chars, unwrap_or};
-    ghost use Rattle.kt_metadata.specs.Common.{Variable, last_values, longest_timeout, texts_of, given, words_in, truth_in, size_in, user_in, timeout_in, effective};
+    ghost use Rattle.kt_metadata.specs.Common.{Variable, last_values, longest_timeout, texts_of, given, words_in, truth_in, size_in, user_in, timeout_in, effective, needed};
+
+    fn listed(&self, name: &str) -> &[Text]
+        ensures { result.now ≡ words_in (given (texts_of self.now) (chars name.now)) }
+    {
+        match self.value(name) {
+            Some(Value::Words(words)) => words.as_slice(),
+            _ => &[],
+        }
+    }
 
     fn words(&self, name: &str) -> Result<Items<Text>, NoMemory>
         ensures { IfOk result (λ found. found
             ≡ words_in (given (texts_of self.now) (chars name.now))) }
     {
-        match self.value(name) {
-            Some(Value::Words(words)) => copy_of_words(self.allocator(), words.as_slice()),
-            _ => Ok(Items::new(self.allocator())),
-        }
+        copy_of_words(self.allocator(), self.listed(name))
     }
 
     fn description(&self, name: &str) -> Result<Text, NoMemory>
@@ -96,6 +102,16 @@ impl Props {
         match self.value(name) {
             Some(Value::Timeout(seconds)) => *seconds,
             _ => DEFAULT_TIMEOUT,
+        }
+    }
+
+    /// The words that must be found on the host. It takes no memory.
+    pub fn needed(&self, need: Need) -> &[Text]
+        ensures { result.now ≡ needed need (effective self.now) }
+    {
+        match need {
+            Need::File => self.listed("required_files"),
+            Need::Program => self.listed("required_programs"),
         }
     }
 

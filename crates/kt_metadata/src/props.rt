@@ -3,6 +3,7 @@ ghost use Rattle.kt_metadata.specs.Common.{option_copied, option_map, Variable, 
 
 use crate::PropFault;
 use crate::layer::{Layer, add};
+use crate::shared_layer::SharedLayer;
 use crate::table::{Row, TABLE, read_definition};
 use crate::value::{Given, Value};
 use kt_base::{NoMemory, Text, Variables};
@@ -14,7 +15,7 @@ use std::rc::Rc;
 /// in the order of the first ones. The properties of a case share the memory of its program's.
 #[derive(Drop)]
 pub struct Props {
-    program: Option<Rc<Layer>>,
+    program: Option<Rc<SharedLayer>>,
     own: Layer,
 }
 
@@ -30,7 +31,7 @@ impl Model for Props {
 }
 
 /// The same layer, if there is one.
-fn beneath(program: &Option<Rc<Layer>>) -> Result<Option<Rc<Layer>>, NoMemory>
+fn beneath(program: &Option<Rc<SharedLayer>>) -> Result<Option<Rc<SharedLayer>>, NoMemory>
     ensures { IfOk result (λ layer. beneath layer ≡ beneath program.now) }
 {
     match program {
@@ -68,7 +69,7 @@ impl Props {
         match self.own.get(name) {
             Some(given) => Some(given),
             None => match &self.program {
-                Some(layer) => layer.get(name),
+                Some(program) => program.layer().get(name),
                 None => None,
             },
         }
@@ -124,7 +125,7 @@ impl Props {
                 Ok(())
             }
             Some(program) => {
-                layer.put_all(program)?;
+                layer.put_all(program.layer())?;
                 layer.put_all(&self.own)?;
                 Ok(())
             }
@@ -140,14 +141,17 @@ impl Props {
         Ok(layer)
     }
 
-    /// Equal properties, whose memory each `overlay` over them shares.
+    /// Equal properties, whose memory each `overlay` over them shares, and each listing of what adds
+    /// nothing to them.
     pub fn shared(&self) -> Result<Props, NoMemory>
         ensures { IfOk result (λ props. props ≡ self.now) }
     {
         let alloc = self.allocator();
-        let layer = Rc::new(alloc, self.merged()?)?;
+        let layer = self.merged()?;
+        let pairs = self.own_listing()?.into_shared()?;
+        let program = Rc::new(alloc, SharedLayer::new(layer, pairs))?;
         Ok(Props {
-            program: Some(layer),
+            program: Some(program),
             own: Layer::new(alloc),
         })
     }
@@ -191,18 +195,29 @@ impl Props {
         Ok(())
     }
 
-    /// The properties as names with texts: the effective ones in the order of the table, then the
-    /// custom ones in the order of their first definitions. Words are joined by one space, numbers
-    /// are decimal, and a property with an empty value is left out.
-    pub fn listing(&self) -> Result<Variables, NoMemory>
-        ensures value { IfOk result (λ pairs. pairs ≡ listing self.now) }
-        ensures defined { (definitions : List Variable) → self.now ≡ last_values definitions
-            → IfOk result (λ pairs. pairs ≡ listing definitions) }
+    /// The listing with memory of its own.
+    fn own_listing(&self) -> Result<Variables, NoMemory>
+        ensures { IfOk result (λ pairs. pairs ≡ listing self.now) }
     {
         let mut pairs = Variables::new(self.allocator());
         self.add_shown(&mut pairs, &TABLE)?;
         let all = self.merged()?;
         all.add_custom(&mut pairs)?;
         Ok(pairs)
+    }
+
+    /// The properties as names with texts: the effective ones in the order of the table, then the
+    /// custom ones in the order of their first definitions. Words are joined by one space, numbers
+    /// are decimal, and a property with an empty value is left out. A case that adds nothing to its
+    /// program's properties shares the memory of their listing.
+    pub fn listing(&self) -> Result<Variables, NoMemory>
+        ensures value { IfOk result (λ pairs. pairs ≡ listing self.now) }
+        ensures defined { (definitions : List Variable) → self.now ≡ last_values definitions
+            → IfOk result (λ pairs. pairs ≡ listing definitions) }
+    {
+        match &self.program {
+            Some(program) if self.own.is_empty() => program.listing(),
+            _ => self.own_listing(),
+        }
     }
 }

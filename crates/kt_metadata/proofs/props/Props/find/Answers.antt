@@ -16,15 +16,15 @@ returns-in-Some-clause-value c =
 
 pub returns-in-Some-program-clause-text : goal.returns-in-Some-program-clause-text
 returns-in-Some-program-clause-text c =
-    c.get-in-Some-program.ensures.text ∙ ap (value_of (chars c.args.name.now)) c.deref.ensures
-    ∙ given-beneath (chars c.args.name.now) (rc_value c.in-Some-program.layer) c.self.inside.own c.args.self.now (ap (λ p. last_values (beneath p ++ c.self.inside.own)) (sym c.in-Some-program.is) ∙ c.self.view_is) c.in-None.ensures.text
+    c.get-in-Some-program.ensures.text ∙ ap (value_of (chars c.args.name.now)) (c.layer.ensures ∙ c.deref.ensures)
+    ∙ given-beneath (chars c.args.name.now) (rc_value c.in-Some-program.program) c.self.inside.own c.args.self.now (ap (λ p. last_values (beneath p ++ c.self.inside.own)) (sym c.in-Some-program.is) ∙ c.self.view_is) c.in-None.ensures.text
 
 pub returns-in-Some-program-clause-value : goal.returns-in-Some-program-clause-value
 returns-in-Some-program-clause-value c =
     c.get-in-Some-program.ensures.value
     ∙ ap (option_and_then (value_named (chars c.args.name.now)))
-    (ap (value_of (chars c.args.name.now)) c.deref.ensures
-    ∙ given-beneath (chars c.args.name.now) (rc_value c.in-Some-program.layer) c.self.inside.own c.args.self.now (ap (λ p. last_values (beneath p ++ c.self.inside.own)) (sym c.in-Some-program.is) ∙ c.self.view_is) c.in-None.ensures.text)
+    (ap (value_of (chars c.args.name.now)) (c.layer.ensures ∙ c.deref.ensures)
+    ∙ given-beneath (chars c.args.name.now) (rc_value c.in-Some-program.program) c.self.inside.own c.args.self.now (ap (λ p. last_values (beneath p ++ c.self.inside.own)) (sym c.in-Some-program.is) ∙ c.self.view_is) c.in-None.ensures.text)
 
 pub returns-in-None-program-clause-text : goal.returns-in-None-program-clause-text
 returns-in-None-program-clause-text c =

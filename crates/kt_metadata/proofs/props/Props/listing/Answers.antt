@@ -1,18 +1,24 @@
-use Rattle.std.proofs.Common.{◌∙◌, ◌++◌, ap, List, ℕ, Option}
-use Rattle.kt_metadata.proofs.Common.{fun_ext, chars, Variable, last_values, value_of, value_is, texts_of, custom_pairs, shown_pairs, table}
+use Rattle.std.proofs.Common.{◌≡◌, ◌∙◌, [], ap, List, IfOk, subst}
+use Rattle.kt_metadata.proofs.Common.{Variable}
+use Rattle.kt_metadata.proofs.Listings.{listing-settled, listing-alone}
+use Rattle.kt_metadata.specs.Listing.{listing}
 use Rattle.kt_metadata.proofs.props.Props.listing.Goals as goal
+use Rattle.kt_metadata.proofs.props.Props.listing.Goals.{After-listing}
 
-pub returns-clause-value : goal.returns-clause-value
-unfolding chars
-returns-clause-value c =
-    c.in_ok-add_custom.ensures
-    ∙ ap (λ (pairs : List Variable). pairs ++ custom_pairs c.in_ok-all.all) (c.in_ok-add_shown.ensures ∙ ap (λ (pairs : List Variable). pairs ++ shown_pairs (texts_of c.args.self.now) table) c.new-pairs.ensures)
-    ∙ ap (λ (pairs : List Variable). shown_pairs (texts_of c.args.self.now) table ++ custom_pairs pairs) (c.in_ok-all.ensures ∙ c.allocator.ensures)
+-- what the program lists, where the case adds nothing
+alone : (c : After-listing) → listing c.deref.result.now ≡ listing c.args.self.now
+alone c =
+    let none : c.self.inside.own ≡ [] = c.is_empty.ensures.0 c.if-is_empty.true in
+    ap listing c.deref.ensures ∙ listing-alone c.self.inside.program c.in-Some.program c.self.inside.own c.args.self.now c.self.view_is c.in-Some.is none
 
-pub returns-clause-defined : goal.returns-clause-defined
-unfolding chars
-returns-clause-defined c = λ definitions last.
-    c.in_ok-add_custom.ensures
-    ∙ ap (λ (pairs : List Variable). pairs ++ custom_pairs c.in_ok-all.all) (c.in_ok-add_shown.ensures ∙ ap (λ (pairs : List Variable). pairs ++ shown_pairs (texts_of c.args.self.now) table) c.new-pairs.ensures)
-    ∙ ap (λ (pairs : List Variable). shown_pairs (texts_of c.args.self.now) table ++ custom_pairs pairs) (c.in_ok-all.ensures ∙ last)
-    ∙ ap (λ (texts : List ℕ → Option (List ℕ)). shown_pairs texts table ++ custom_pairs (last_values definitions)) (fun_ext (λ (name : List ℕ). ap (value_of name) last ∙ value_is name definitions))
+pub returns-in-Some-clause-value : goal.returns-in-Some-clause-value
+returns-in-Some-clause-value c =
+    subst (λ (all : List Variable). IfOk c.listing.result (λ (pairs : List Variable). pairs ≡ all)) (alone c) c.listing.ensures
+
+pub returns-in-Some-clause-defined : goal.returns-in-Some-clause-defined
+returns-in-Some-clause-defined c = λ definitions last.
+    subst (λ (all : List Variable). IfOk c.listing.result (λ (pairs : List Variable). pairs ≡ all)) (alone c ∙ ap listing last ∙ listing-settled definitions) c.listing.ensures
+
+pub returns-in_default-clause-defined : goal.returns-in_default-clause-defined
+returns-in_default-clause-defined c = λ definitions last.
+    subst (λ (all : List Variable). IfOk c.own_listing.result (λ (pairs : List Variable). pairs ≡ all)) (ap listing last ∙ listing-settled definitions) c.own_listing.ensures
