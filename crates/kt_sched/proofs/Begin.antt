@@ -1,13 +1,9 @@
 -- the first state, and what is taken
-use Rattle.std.proofs.Common.{slice_get, count_by, filter, Option, Some, None, is_some, map, ◌≡◌, ℕ, ◌+◌, ◌<◌, Bool, true, false, cond, List, [], ◌∷◌, drop, refl, sym, ◌∙◌, ap, arith}
-use Rattle.std.proofs.lemmas.List.{length-map}
-use Rattle.kt_sched.proofs.Common.{option_map, slice_get-map, Job, Case, Role, Body, NoEvent, turns, is_open, recorded, IsPlan, nothing_fed, RunsSince, first_case, first_stage, stage_runs, SchedState, Stands, CaseStands, IsStage, is_active_stage, is_owing_stage, is_fresh, positions, opened, is_undecided, HasStarted, Judged}
+use Rattle.kt_sched.proofs.Common.{length, length-filter, slice_get, count_by, filter, Option, Some, None, is_some, map, ◌≡◌, ℕ, ◌<◌, Bool, true, false, cond, List, [], drop, refl, sym, ◌∙◌, ap, arith, length-map, option_map, slice_get-map, Job, Case, NoEvent, turns, is_open, recorded, IsPlan, nothing_fed, first_case, first_stage, SchedState, Stands, CaseStands, IsStage, is_active_stage, is_owing_stage, is_fresh, positions, opened, is_undecided, HasStarted, Judged, ◌≢◌, ◌≤◌, subst, slice_set, inl, inr, length-set, Entry, Stage, Decided, Finished, Taken, Event, of, IsEntry, decided, IsEntryOf, CaseRecord, Fed, TookEntry, IsAsked, is_over, is_owed, entry_with, record_in, decided_record, decided_record_of, stage_work, work}
 use Rattle.kt_sched.specs.declared.next.Next.TheVariants as next
-use Rattle.kt_sched.proofs.Lists.{count-cons, drop_zero, mapped_at, take_zero}
-use Rattle.kt_sched.proofs.Stages.{body_since}
-use Rattle.kt_sched.proofs.Steps.{put_at_positions}
-use Rattle.kt_sched.proofs.Located.{active_of}
-use Rattle.kt_sched.proofs.Decided.{open_from}
+use Rattle.kt_sched.proofs.Lists.{filter_none, drop_zero, mapped_at, take_zero, some_is, count_by-set, sum_by-set}
+use Rattle.kt_sched.proofs.Turns.{put_at_positions}
+use Rattle.kt_sched.proofs.Located.{Which, asked_as, each_set, located, which}
 
 -- the state before the first answer
 abbrev pub first_state : ℕ → List Case → List ℕ → SchedState
@@ -18,13 +14,6 @@ first_state w cases order =
 first_is : (o : Option Judged) → (is_fresh (first_stage o) ≡ true) × (is_active_stage (first_stage o) ≡ false) × (is_owing_stage (first_stage o) ≡ false)
 first_is None = (refl, refl, refl)
 first_is (Some v) = (refl, refl, refl)
-
-none_active : (plan : List Job) → count_by (λ (c : Case). is_active_stage c.stage) (map first_case plan) ≡ 0
-none_active [] = refl
-none_active (job ∷ plan) =
-    count-cons (λ (c : Case). is_active_stage c.stage) (first_case job) (map first_case plan)
-    ∙ (ap (λ (b : Bool). cond {A = ℕ} b 1 0 + count_by (λ (c : Case). is_active_stage c.stage) (map first_case plan)) (first_is job.decided).1
-    ∙ ap (λ k. 0 + k) (none_active plan))
 
 first_stands : (i : ℕ) (job : Job) → (o : Option Judged) → job.decided ≡ o → IsStage i job (first_stage o) []
 first_stands i job None e = (refl, e)
@@ -37,6 +26,11 @@ all_first : (plan : List Job) (i : ℕ) (c : Case) → slice_get (map first_case
     → (is_fresh c.stage ≡ true) × (is_active_stage c.stage ≡ false) × (is_owing_stage c.stage ≡ false)
 all_first plan i c g = let w = mapped_at first_case plan i c g in let f = first_is w.0.decided in rw (sym w.2) f
 
+none_active : (plan : List Job) → count_by (λ (c : Case). is_active_stage c.stage) (map first_case plan) ≡ 0
+none_active plan =
+    let none = filter_none (λ (c : Case). is_active_stage c.stage) (map first_case plan) (λ i c g. (all_first plan i c g).1) in
+    sym (length-filter (λ (c : Case). is_active_stage c.stage) (map first_case plan)) ∙ ap (λ (cs : List Case). length cs) none
+
 first_case_stands : (plan : List Job) (i : ℕ) (job : Job) → slice_get plan i ≡ Some job → CaseStands NoEvent i job (map first_case plan)
 first_case_stands plan i job g =
     record { case = first_case job; found = waiting_at plan i job g; stage = first_stands i job job.decided refl; kept = λ t. refl }
@@ -45,21 +39,18 @@ first_started : (plan : List Job) → HasStarted plan NoEvent 0
 first_started plan = sym (ap (λ (jobs : List Job). positions (filter is_undecided jobs)) (take_zero (turns plan)))
 
 -- the decided cases that are due before the first event
-due_first : (plan : List Job) (n : ℕ) → IsPlan plan → 0 < n → drop 0 (recorded plan n NoEvent) ≡ positions (opened plan n 0 0)
-due_first plan n h r =
+due_first : (plan : List Job) (n : ℕ) → drop 0 (recorded plan n NoEvent) ≡ positions (opened plan n NoEvent 0)
+due_first plan n =
     drop_zero (recorded plan n NoEvent)
-    ∙ (put_at_positions 0 (filter (is_open plan n NoEvent) (turns plan))
-    ∙ ap positions (ap (filter (is_open plan n NoEvent)) (sym (drop_zero (turns plan)))
-    ∙ (open_from NoEvent 0 h (first_started plan) r
-    ∙ ap (λ a. opened plan n a 0) (active_of plan NoEvent (map first_case plan) h (length-map plan first_case) (first_case_stands plan) ∙ none_active plan))))
+    ∙ (put_at_positions 0 (filter (is_open plan n NoEvent) (turns plan)) ∙ ap positions (ap (filter (is_open plan n NoEvent)) (sym (drop_zero (turns plan)))))
 
 pub stands_first : (plan : List Job) (n : ℕ) → IsPlan plan → 0 < n → Stands plan n nothing_fed (first_state n (map first_case plan) (positions (turns plan)))
 stands_first plan n h r = record {
-  is_plan = h;
-  room = r;
-  width = refl;
-  pending = refl;
   cases = record {
+    is_plan = h;
+    room = r;
+    width_is = refl;
+    pending_is = refl;
     count = length-map plan first_case;
     each = first_case_stands plan;
     beyond = λ i g. refl;
@@ -73,28 +64,118 @@ stands_first plan n h r = record {
     walk = refl;
     within = omega arith;
     starts = first_started plan;
-    waiting = λ k i c x g t. (all_first plan i c g).0;
-    begun = λ k i c x g t. absurd (omega arith);
+    met = λ k i c x g. (λ t. (all_first plan i c g).0, λ t. absurd (omega arith));
   };
   puts = record {
     failed = refl;
     stopped = λ f. refl;
     stored = omega arith;
     gone = λ f. record { gone = λ k job l g d. absurd (omega (arith, l)); due = λ k job l g. refl };
-    ready = λ f. due_first plan n h r;
+    ready = λ f. due_first plan n;
+    ripe = λ i m x o. absurd (cc);
   };
   told = λ i x y. absurd (cc);
-  ripe = λ i m x o. absurd (cc);
   asked = tt;
 }
 
--- a body that runs has a moment
-pub runs_since : (cases : List Case) (i : ℕ) (role : Role) → role ≡ Body → ((c : Case) × (slice_get cases i ≡ Some c) × (stage_runs role c.stage ≡ true))
-    → (m : ℕ) × RunsSince cases i m
-runs_since cases i role r w =
-    let s = body_since w.0.stage (ap (λ (x : Role). stage_runs x w.0.stage) (sym r) ∙ w.2) in
-    (s.0, record { case = w.0; found = w.1; is = s.1 })
+pub new_stands : {plan jobs : List Job} {w : ℕ} {cs : List Case} {xs : List ℕ} → IsPlan plan → 1 ≤ w → jobs ≡ plan → cs ≡ map first_case jobs
+    → xs ≡ positions (turns jobs) → Stands plan w nothing_fed (first_state w cs xs)
+new_stands {plan} {w = w} p l q e f = rw (e, f, q) (stands_first plan w p (omega (arith, l)))
 
-pub new_stands : (plan : List Job) (w : ℕ) (cs : List Case) (xs : List ℕ) → IsPlan plan → 0 < w → cs ≡ map first_case plan → xs ≡ positions (turns plan)
-    → Stands plan w nothing_fed (first_state w cs xs)
-new_stands plan w cs xs p l e f = rw (e, f) (stands_first plan w p l)
+-- what is told of a case is its entry
+told_entry : (i : ℕ) (job : Job) (was : Stage) (es : List Event) (t : CaseRecord) → IsStage i job was es → record_in job was ≡ Some t
+    → IsEntry job es (entry_with job t)
+told_entry i job Decided es t s e = rw s.0 (by job.decided refl e)
+  where
+    by : (o : Option Judged) → job.decided ≡ o → decided_record_of o ≡ Some t → IsEntry job [] (entry_with job t)
+    by None d f = absurd (cc)
+    by (Some v) d f = subst (λ (x : CaseRecord). IsEntry job [] (entry_with job x)) (some_is (decided_record v) t f) (decided v d)
+told_entry i job (Finished x) es t s e = subst (λ (y : CaseRecord). IsEntry job es (entry_with job y)) (some_is x t e) s.1
+told_entry i job was es t s e = absurd (cc)
+
+-- and such a case is over
+told_over : (job : Job) (was : Stage) (t : CaseRecord) → record_in job was ≡ Some t
+    → (is_over was ≡ true) × (is_active_stage was ≡ false) × (is_owing_stage was ≡ false) × (stage_work was ≡ 1) × (was ≢ Taken)
+told_over job Decided t e = (refl, refl, refl, refl, λ x. absurd (cc))
+told_over job (Finished x) t e = (refl, refl, refl, refl, λ y. absurd (cc))
+told_over job was t e = absurd (cc)
+
+pub less_taken : (ys : List Case) (i : ℕ) (cs : List Case) (entry : Entry) → TookEntry ys cs i entry → work cs < work ys
+less_taken ys i cs entry t =
+    let f = λ (c : Case). stage_work c.stage in
+    let x = sum_by-set f ys i (record { job = t.had; stage = t.was }) (record { job = t.left; stage = Taken }) t.found in
+    subst (λ (xs : List Case). work xs < work ys) (sym t.changed) (omega (arith, x, (told_over t.had t.was t.case_record t.told).3))
+
+module _ {plan : List Job} {n : ℕ} {fed : Fed} {b : SchedState} {i : ℕ} {cs : List Case} {entry : Entry} (h : Stands plan n fed b)
+    (t : TookEntry b.cases cs i entry) where
+  abbrev new : Case
+  new = record { job = t.left; stage = Taken }
+
+  abbrev later : List Case
+  later = slice_set b.cases i new
+
+  over : (is_over t.was ≡ true) × (is_active_stage t.was ≡ false) × (is_owing_stage t.was ≡ false) × (stage_work t.was ≡ 1) × (t.was ≢ Taken)
+  over = told_over t.had t.was t.case_record t.told
+
+  pub entry_taken : IsEntryOf plan fed.trace i entry
+  entry_taken =
+      let l = located h i t.had t.was t.found in
+      let same = l.kept over.4 in
+      let w = told_entry i l.job t.was (of i fed.trace) t.case_record l.stands (ap (λ (j : Job). record_in j t.was) (sym same) ∙ t.told) in
+      record {
+        job = l.job;
+        place = l.place;
+        whole = l.says.whole ∙ over.0;
+        entry_is = subst (λ (x : Entry). IsEntry l.job (of i fed.trace) x) (ap (λ (j : Job). entry_with j t.case_record) (sym same) ∙ sym t.is) w;
+      }
+
+  which_one : (k : ℕ) (c : Case) → slice_get later k ≡ Some c → Which b.cases i new k c
+  which_one = which b.cases i _ new t.found
+
+  pub stands_taken : b.asked ≡ next.Put i → Stands plan n fed (record b { cases = cs })
+  stands_taken q = subst (λ (xs : List Case). Stands plan n fed (record b { cases = xs })) (sym t.changed) (record {
+    cases = record {
+      is_plan = h.cases.is_plan;
+      room = h.cases.room;
+      width_is = h.cases.width_is;
+      pending_is = h.cases.pending_is;
+      count = length-set b.cases i new ∙ h.cases.count;
+      each = let e = entry_taken in each_set b.cases i _ new t.found plan fed.trace fed.trace e.job e.place e.whole (λ x. absurd (x refl)) (λ k d. refl)
+          h.cases.each;
+      beyond = h.cases.beyond;
+      active = omega (
+        arith,
+        count_by-set (λ (c : Case). is_active_stage c.stage) b.cases i (record { job = t.had; stage = t.was }) new t.found,
+        h.cases.active,
+        ap (λ (z : Bool). cond {A = ℕ} z 1 0) over.1,
+      );
+      most = h.cases.most;
+      lone = λ k j c x g e a. elim (which_one k c g) [
+        | inl w ↦ absurd (cc (ap (λ (d : Case). is_active_stage d.stage) w.1, a))
+        | inr w ↦ h.cases.lone k j c x w.1 e a
+      ];
+      owing = λ k c g. elim (which_one k c g) [
+        | inl w ↦ ap (λ (d : Case). is_owing_stage d.stage) w.1 ∙ (sym over.2 ∙ (h.cases.owing i _ t.found ∙ ap (is_owed b.pending) (sym w.0)))
+        | inr w ↦ h.cases.owing k c w.1
+      ];
+      owed_within = λ k e. omega (arith, h.cases.owed_within k e, length-set b.cases i new);
+    };
+    turn = record {
+      walk = h.turn.walk;
+      within = h.turn.within;
+      starts = h.turn.starts;
+      met = λ m k c o g. elim (which_one k c g) [
+        | inl w ↦ (
+          λ r. absurd (omega (arith, h.puts.ripe i m asked.1 (o ∙ ap Some w.0), r)),
+          λ r x. absurd (cc (ap (λ (d : Case). d.stage) w.1, x)),
+        )
+        | inr w ↦ h.turn.met m k c o w.1
+      ];
+    };
+    puts = h.puts;
+    told = λ k x y. absurd (cc (q, y));
+    asked = subst (IsAsked (record b { cases = later })) (sym q) asked;
+  })
+    where
+      asked : IsAsked b (next.Put i)
+      asked = asked_as h (next.Put i) q

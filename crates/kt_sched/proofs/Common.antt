@@ -1,42 +1,43 @@
 -- The names that most proofs of this crate cite, passed on from one place. Declares nothing.
-pub use Rattle.std.proofs.lemmas.Bool.{cases_eq, cases_lt}
+pub use Rattle.std.proofs.Common.{Some, None, ◌≡◌, ℕ, zero, suc, ◌+◌, ◌≤◌, true, false, List, [], ◌∷◌, ◌++◌, length, drop, refl, sym, ◌∙◌, ap, arith, slice_get, filter, count_by, Option, is_some, is_none, not, ◌==◌, ◌&&◌, ◌||◌, if◌then◌else◌, ◌≢◌, ◌<◌, ◌⊎◌, Bool, cond, subst, inl, inr, append-nil, ◌-◌, nat_le, map, IfSome, take, length-append, Err, Result, Ok, ◌^◌, append_assoc, nat_lt, sum_by, add-one, slice_set, MatchOption}
+pub use Rattle.std.proofs.Math.Bool.{and-false, and-true, or-false}
+pub use Rattle.std.proofs.Math.ListN.{drop_of_length-le}
+pub use Rattle.std.proofs.Math.Seq.{take-append_seam}
+pub use Rattle.std.proofs.lemmas.List.Filters.{sum_by-filter_both}
+pub use Rattle.std.proofs.lemmas.Result.{err_from_is_err_and}
+pub use Rattle.std.proofs.lemmas.Bool.{and_from, and_parts, and_right, cases_Bool, cases_eq, cases_lt, false_from_ne_true, or_left, or_right}
 pub use Rattle.std.proofs.lemmas.Bool.Decides.{nat_tests}
-pub use Rattle.std.proofs.lemmas.List.{drop-append-le, length-set, map-append, take-append-drop, take-append-le}
+pub use Rattle.std.proofs.lemmas.List.{drop-append-le, length-map, length-set, map-append, take-append-drop, take-append-le}
 pub use Rattle.std.proofs.lemmas.List.Elements.{filter-append}
-pub use Rattle.std.proofs.lemmas.List.Sums.{count_by-le-length, length-filter, sum_by-cons}
-pub use Rattle.std.proofs.lemmas.Option.{slice_get-map, slice_get_read, slice_get_within}
+pub use Rattle.std.proofs.lemmas.List.Sums.{count_by-le-length, length-filter, sum_by-append, sum_by-cons}
+pub use Rattle.std.proofs.lemmas.Option.{slice_get-map, slice_get_cases, slice_get_read, slice_get_within}
 pub use Rattle.std.specs.List.{list_all, list_any}
 pub use Rattle.std.specs.Option.{option_map}
 pub use Rattle.std.specs.Prelude.{⊤}
 pub use Rattle.kt_base.specs.Moments.{IsMoment, IsStorable}
 pub use Rattle.kt_base.specs.Verdicts.{Judged}
 pub use Rattle.kt_base.specs.declared.entry.Entry.{Entry}
-pub use Rattle.kt_base.specs.declared.child.Role.{Role}
 pub use Rattle.kt_base.specs.declared.child.Role.TheVariants.{Body, Cleanup}
-pub use Rattle.kt_status.specs.Tables.{IsVerdict, IsVerdictAfter, IsVerdictOfRefusal}
+pub use Rattle.kt_sched.specs.Common.{Case, IsPlan, IsVerdict, IsVerdictAfter, IsVerdictOfRefusal, IsWidth, Job, Next, Role}
 pub use Rattle.kt_sched.specs.Children.{Child, IsEvidence, IsIdle, MayStart, child_of, pending_after_end, pending_after_start, running_after_end, running_after_start, same_role, with_cleanup_declared}
 pub use Rattle.kt_sched.specs.EntryOf.{AreEntries, Gains, IsEntry, IsEntryOf, cleaned, decided, ended, no_output, refused, uncleaned}
 pub use Rattle.kt_sched.specs.Fed.{Fed, IsAnswerTo, fed_after, has_failed, nothing_fed, role_runs, runs}
 pub use Rattle.kt_sched.specs.History.{BodyEnded, BodyRefused, BodyStarted, CleanupEnded, CleanupRefused, CleanupStarted, Mark, active, end_mark, has_whole_history, history, is_active, is_body_started, is_whole, mark_of, start_mark}
 pub use Rattle.kt_sched.specs.Inner.Answers.{CanCount, answer_of, counted, with_event}
-pub use Rattle.kt_sched.specs.Inner.Cases.{Declares, GoneThrough, HasBody, Replaced, RunsSince, TookBody, TookEntry, body_in, first_case, first_stage, plain_record, record_of, since, stage_runs, unless}
+pub use Rattle.kt_sched.specs.Inner.Cases.{Declares, GoneThrough, IsAfter, Replaced, TookEntry, can_start, first_case, first_stage, is_over, owing_at, plain_record, ready_at, record_of, stage_runs, unless}
 pub use Rattle.kt_sched.specs.Inner.Choice.{IsChosen, IsHeld, IsTurn}
 pub use Rattle.kt_sched.specs.Moments.{HasMoment}
 pub use Rattle.kt_sched.specs.Next.{AreWhole, Follows, IsNext, IsUpToDate, MayBegin}
-pub use Rattle.kt_sched.specs.Plan.{IsPlan, IsWidth}
 pub use Rattle.kt_sched.specs.RecordOrder.{Due, ahead, dues, finished_by, is_begun, is_open, put_at, recorded, was_open}
 pub use Rattle.kt_sched.specs.Run.{Counts, FailedPut, FitsAt, NamesEachOnce, Ran}
-pub use Rattle.kt_sched.specs.SchedState.{AreGone, CaseStands, CasesStand, HasDecided, HasExclusive, HasRecord, HasStarted, HasTurn, IsAnswer, IsAsked, IsOrdinary, IsSettled, IsStage, IsStanding, IsUntaken, PutsStand, SchedState, Stands, Takes, TurnStands, after_event, decided_record, decided_record_of, ended_body, entry_with, is_active_stage, is_decided, is_decided_stage, is_fresh, is_owed, is_owing_stage, is_undecided, listed, opened, positions, record_in, room_in, run_of, stage_work, work, work_left}
+pub use Rattle.kt_sched.specs.SchedState.{AreGone, CaseStands, CasesStand, HasDecided, HasExclusive, HasRecord, HasStarted, HasTurn, IsAnswer, IsAsked, IsOrdinary, IsSettled, IsStage, IsStanding, IsUntaken, PutsStand, SchedState, Stands, Takes, TurnStands, after_event, decided_record, decided_record_of, ended_body, entry_with, is_active_stage, is_decided, is_decided_stage, is_fresh, is_owed, is_owing_stage, is_undecided, listed, opened, positions, record_in, stage_work, work, work_left}
 pub use Rattle.kt_sched.specs.ScheduleRules.{AloneAt, AloneAtStart, BusyAt, Each, IsBusy, IsCleanupStart, IsQuiet, Legal, Order, PromptAt, Stopped, WidthAt, declares, owed}
 pub use Rattle.kt_sched.specs.Trace.{End, Event, Leads, NoEvent, Start, Then, Trace, event_count, first, of, position_of}
 pub use Rattle.kt_sched.specs.TurnOrder.{body_start_of, body_starts, next_to_start, turns, undecided_turns}
 pub use Rattle.kt_sched.specs.declared.next.Answer.{Answer}
-pub use Rattle.kt_sched.specs.declared.stage.Case.{Case}
 pub use Rattle.kt_sched.specs.declared.stage.CaseRecord.{CaseRecord}
 pub use Rattle.kt_sched.specs.declared.job.Ended.{Ended}
 pub use Rattle.kt_sched.specs.declared.stage.EndedBody.{EndedBody}
-pub use Rattle.kt_sched.specs.declared.job.Job.{Job}
-pub use Rattle.kt_sched.specs.declared.next.Next.{Next}
 pub use Rattle.kt_sched.specs.declared.sink.SinkFault.{SinkFault}
 pub use Rattle.kt_sched.specs.declared.stage.Stage.{Stage}
 pub use Rattle.kt_sched.specs.declared.stage.Stage.TheVariants.{Cleaning, Decided, Finished, Owing, Running, Taken, Waiting}

@@ -1,12 +1,11 @@
--- what holds where the run loop is done
-use Rattle.std.proofs.Common.{slice_get, Option, Some, None, is_some, if◌then◌else◌, ◌≡◌, ℕ, ◌<◌, ◌≤◌, ◌⊎◌, true, false, List, [], ◌∷◌, length, refl, sym, ◌∙◌, ap, arith, inl, inr}
-use Rattle.std.proofs.lemmas.List.{length-map}
-use Rattle.kt_sched.proofs.Common.{cases_lt, slice_get_within, Judged, Job, IsPlan, Event, Trace, of, Mark, BodyStarted, BodyRefused, BodyEnded, CleanupStarted, CleanupRefused, CleanupEnded, mark_of, history, is_whole, has_whole_history, turns, was_open, recorded, Fed, has_failed, AreWhole, IsNext, NamesEachOnce, SchedState, Stands}
+-- what holds where the run loop is done, and the moments of an entry
+use Rattle.kt_sched.proofs.Common.{slice_get, Option, Some, None, is_some, if◌then◌else◌, ◌≡◌, ℕ, ◌<◌, ◌≤◌, true, false, List, [], ◌∷◌, length, refl, sym, ◌∙◌, ap, arith, inl, inr, length-map, cases_lt, slice_get_within, Judged, Job, IsPlan, Event, Trace, of, Mark, BodyStarted, BodyRefused, BodyEnded, CleanupStarted, CleanupRefused, CleanupEnded, mark_of, history, is_whole, has_whole_history, turns, was_open, recorded, Fed, has_failed, AreWhole, IsNext, NamesEachOnce, SchedState, Stands, ◌==◌, Bool, ◌++◌, ⊤, Entry, Start, End, NoEvent, Then, position_of, Each, IsEntry, IsEntryOf, IsMoment, IsStorable, HasMoment, FitsAt}
 use Rattle.kt_sched.specs.declared.next.Next.TheVariants as next
 use Rattle.kt_sched.proofs.Lists.{within_some}
-use Rattle.kt_sched.proofs.Alone.{covers}
+use Rattle.kt_sched.proofs.Upcoming.{covers}
 use Rattle.kt_sched.proofs.Following.{turn_past, whole_each}
 use Rattle.kt_sched.proofs.Once.{Recorded, is_done, names_once}
+use Rattle.kt_sched.specs.EntryOf as recorded
 
 whole_short : (job : Job) (w : List Mark) → is_whole job w ≡ true → length w ≤ 4
 whole_short job [] e = omega arith
@@ -18,21 +17,22 @@ whole_short job other e = absurd (cc)
 
 -- each case has at most four launcher calls
 pub four_calls : (plan : List Job) (T : Trace) → IsPlan plan → AreWhole plan T → ((i : ℕ) → length plan ≤ i → of i T ≡ []) → (i : ℕ) → length (of i T) ≤ 4
-four_calls plan T p h b i = by (cases_lt i (length plan))
-  where
-    short : (job : Job) → slice_get plan i ≡ Some job → (of i T ≡ []) ⊎ (has_whole_history T job ≡ true) → length (of i T) ≤ 4
-    short job g (inl e) = omega (arith, ap (λ (es : List Event). length es) e)
-    short job g (inr e) =
-        omega (arith, whole_short job (history i T) (ap (λ k. is_whole job (history k T)) (sym (p.placed i job g)) ∙ e), length-map (of i T) mark_of)
-
-    by : (i < length plan) ⊎ (length plan ≤ i) → length (of i T) ≤ 4
-    by (inl l) = let w = within_some plan i l in short w.0 w.1 (h i w.0 w.1)
-    by (inr l) = omega (arith, ap (λ (es : List Event). length es) (b i l))
+four_calls plan T p h b i = elim (cases_lt i (length plan)) [
+  | inl l ↦
+      let w = within_some plan i l in
+      elim (h i w.0 w.1) [
+        | inl e ↦ omega (arith, ap (λ (es : List Event). length es) e)
+        | inr e ↦
+            let whole = ap (λ k. is_whole w.0 (history k T)) (sym (p.placed i w.0 w.1)) ∙ e in
+            omega (arith, whole_short w.0 (history i T) whole, length-map (of i T) mark_of)
+      ]
+  | inr l ↦ omega (arith, ap (λ (es : List Event). length es) (b i l))
+]
 
 -- where it is done and no put failed, every case was due: the turn is past the decided ones, and each history is whole
 pub named_once : {plan : List Job} {n : ℕ} {fed : Fed} {b : SchedState} → Stands plan n fed b → has_failed fed ≡ false → IsNext plan n fed next.Done
     → Recorded plan n fed.trace → NamesEachOnce plan (recorded plan n fed.trace)
-named_once {plan} {n} {fed} {b} h f x r = names_once n fed.trace h.is_plan r (λ i job g. done i job g job.decided refl)
+named_once {plan} {n} {fed} {b} h f x r = names_once n fed.trace h.cases.is_plan r (λ i job g. done i job g job.decided refl)
   where
     done : (i : ℕ) (job : Job) → slice_get plan i ≡ Some job → (o : Option Judged) → job.decided ≡ o → is_done plan n fed.trace job ≡ true
     done i job g (Some v) d =
@@ -42,3 +42,38 @@ named_once {plan} {n} {fed} {b} h f x r = names_once n fed.trace h.is_plan r (λ
         ∙ (h.puts.gone f).gone c.0 job l c.1 (ap is_some d)
     done i job g None d =
         ap (λ (o : Option Judged). if is_some o then was_open plan n fed.trace job else has_whole_history fed.trace job) d ∙ whole_each h f x i job g
+
+abbrev HasGoodMoment : Event → Type 0
+HasGoodMoment (Start i role answer) = HasMoment answer
+HasGoodMoment (End ended) = IsMoment ended.moment
+
+abbrev AreTimely : List Event → Type 0
+AreTimely [] = ⊤
+AreTimely (e ∷ es) = HasGoodMoment e × AreTimely es
+
+timely_more : (es : List Event) (e : Event) → AreTimely es → HasGoodMoment e → AreTimely (es ++ e ∷ [])
+timely_more [] e h g = (g, tt)
+timely_more (x ∷ es) e h g = (h.0, timely_more es e h.1 g)
+
+good_moment : (plan : List Job) (T : Trace) (e : Event) → FitsAt plan T e → HasGoodMoment e
+good_moment plan T (Start i role answer) f = f
+good_moment plan T (End ended) f = f.0
+
+timely_of : (plan : List Job) (i : ℕ) (T : Trace) → Each (FitsAt plan) T → AreTimely (of i T)
+timely_of plan i NoEvent h = tt
+timely_of plan i (Then T e) h = by (position_of e == i) (timely_of plan i T h.0)
+  where
+    by : (b : Bool) → AreTimely (of i T) → AreTimely (if b then of i T ++ e ∷ [] else of i T)
+    by true g = timely_more (of i T) e g (good_moment plan T e h.1)
+    by false g = g
+
+storable : (job : Job) (es : List Event) (entry : Entry) → IsEntry job es entry → AreTimely es → IsStorable entry
+storable job _ _ (recorded.decided v d) t = record { started = omega arith; millis = omega arith }
+storable job _ _ (recorded.refused i cause v w) t = record { started = omega arith; millis = omega arith }
+storable job _ _ (recorded.ended i m e v w) t = record { started = t.0; millis = omega (arith, t.1.0) }
+storable job _ _ (recorded.uncleaned i m e j cause body v w x) t = record { started = t.0; millis = omega (arith, t.1.0) }
+storable job _ _ (recorded.cleaned i m e j k f body v w x) t = record { started = t.0; millis = omega (arith, t.1.1.1.0) }
+
+-- an entry of a trace whose moments lie in the range can be stored
+pub storable_entry : (plan : List Job) (T : Trace) (i : ℕ) (entry : Entry) → Each (FitsAt plan) T → IsEntryOf plan T i entry → IsStorable entry
+storable_entry plan T i entry f w = storable w.job (of i T) entry w.entry_is (timely_of plan i T f)

@@ -1,18 +1,12 @@
 -- what follows of a choice
-use Rattle.std.proofs.Common.{slice_get, Option, Some, None, is_some, map, ◌≡◌, ◌≢◌, ◌==◌, nat_lt, if◌then◌else◌, ℕ, ◌+◌, ◌<◌, ◌≤◌, ◌⊎◌, Bool, true, false, List, [], ◌∷◌, ◌++◌, length, refl, sym, ◌∙◌, ap, subst, arith, inl, inr}
-use Rattle.kt_sched.proofs.Common.{nat_tests, cases_lt, slice_get_within, Role, Body, Cleanup, Job, Next, Stage, Waiting, Owing, Taken, Case, BodyStarted, BodyEnded, end_mark, mark_of, of, history, is_whole, has_whole_history, turns, owed, recorded, Fed, has_failed, runs, IsNext, Follows, IsChosen, SchedState, Stands, IsStage, IsAsked, IsUntaken, IsSettled, listed, positions, opened, room_in, run_of, is_decided}
+use Rattle.kt_sched.proofs.Common.{slice_get, drop, Option, Some, None, is_some, map, ◌≡◌, ◌≢◌, ◌==◌, nat_lt, if◌then◌else◌, ℕ, ◌<◌, ◌≤◌, ◌⊎◌, Bool, true, false, List, [], ◌∷◌, ◌++◌, length, refl, sym, ◌∙◌, ap, subst, arith, inl, inr, nat_tests, cases_lt, slice_get_within, Role, Body, Cleanup, Job, Next, Stage, Waiting, Owing, Taken, Case, BodyStarted, BodyEnded, end_mark, mark_of, of, history, is_whole, has_whole_history, turns, owed, recorded, Fed, has_failed, runs, IsNext, Follows, IsChosen, SchedState, Stands, IsStage, IsAsked, IsUntaken, IsSettled, listed, positions, opened, is_open, active}
 use Rattle.kt_sched.specs.declared.next.Next.TheVariants as next
-use Rattle.kt_sched.proofs.Lists.{drop_at, list_all_from, none_past, slice_get-drop, within_some}
+use Rattle.kt_sched.proofs.Lists.{list_all_from, none_passes, slice_get-drop, within_some}
+use Rattle.kt_sched.proofs.Decided.{open_here}
 use Rattle.kt_sched.proofs.Stages.{over_stage}
-use Rattle.kt_sched.proofs.Located.{active_is, inactive, located, none_active, owes, runs_stage, something_runs, whole_at}
-use Rattle.kt_sched.proofs.Upcoming.{next_at, upcoming}
-use Rattle.kt_sched.proofs.Alone.{alone_body, alone_cleanup, covers}
+use Rattle.kt_sched.proofs.Located.{active_is, inactive, located, none_active, owes, runs_stage, something_runs, says_at}
+use Rattle.kt_sched.proofs.Upcoming.{next_at, upcoming, alone_body, alone_cleanup, covers}
 use Rattle.kt_sched.proofs.Choice.{Held, is_next, not_failed}
-
--- the first of the run from the turn on
-pub opened_step : (plan : List Job) (n a t : ℕ) (job : Job) → slice_get (turns plan) t ≡ Some job → is_decided job ≡ true → room_in a n job ≡ true
-    → opened plan n a t ≡ job ∷ opened plan n a (t + 1)
-opened_step plan n a t job g d m = ap (run_of is_decided (room_in a n)) (drop_at (turns plan) t job g) ∙ rw (d, m) refl
 
 pub room_at : (a n : ℕ) (job : Job) → a < n → (job.exclusive ≡ true → a ≡ 0) → (x : Bool) → job.exclusive ≡ x → (if x then a == 0 else nat_lt a n) ≡ true
 room_at a n job l f true q = let z : a ≡ 0 = f q in grind (arith, nat_tests, z)
@@ -26,53 +20,54 @@ module _ {plan : List Job} {n : ℕ} {fed : Fed} {b : SchedState} (h : Stands pl
   -- a case that is to be started isn't taken
   pub untaken_start : (i : ℕ) (r : Role) → IsSettled b → IsChosen b (next.Start i r) → IsUntaken b.cases i
   untaken_start i Body s c = let u = upcoming h i c.0 s c.2 in (u.case, u.found, λ x. absurd (cc (u.waits, x)))
-  untaken_start i Cleanup s c = let w = owes h i (sym h.pending ∙ c.1) in (record { job = w.0; stage = Owing w.1 }, w.2, λ t. absurd (cc))
+  untaken_start i Cleanup s c = let w = owes h i c.1 in (record { job = w.0; stage = Owing w.1 }, w.2, λ t. absurd (cc))
 
   owing_history : (i : ℕ) → owed plan fed.trace ≡ Some i → history i fed.trace ≡ BodyStarted ∷ BodyEnded ∷ []
   owing_history i q =
-      let w = owes h i q in
+      let w = owes h i (h.cases.pending_is ∙ q) in
       let l = located h i w.0 (Owing w.1) w.2 in
       ap (map mark_of) l.stands.1 ∙ ap (λ (r : Role). BodyStarted ∷ end_mark r ∷ []) l.stands.2
 
   -- where it is done, nothing is active
   pub idle : owed plan fed.trace ≡ None → ((k : ℕ) (r : Role) → runs k r fed.trace ≡ false) → b.active ≡ 0
-  idle o q = by (cases_lt 0 b.active)
-    where
-      by : (0 < b.active) ⊎ (b.active ≤ 0) → b.active ≡ 0
-      by (inl a) = absurd (none_active h o q a)
-      by (inr a) = omega (arith, a)
+  idle o q = elim (cases_lt 0 b.active) [ inl a ↦ absurd (none_active h o q a) | inr a ↦ omega (arith, a) ]
 
   -- and if no put failed, the turn is past all cases
   pub turn_past : has_failed fed ≡ false → IsNext plan n fed next.Done → length (turns plan) ≤ b.turn
-  turn_past f x = by (slice_get (turns plan) b.turn) refl
+  turn_past f x = elim (cases_lt b.turn (length (turns plan))) [
+    | inl l ↦ let w = within_some (turns plan) b.turn l in absurd (here w.0 w.1 w.0.decided refl)
+    | inr l ↦ l
+  ]
     where
       a : b.active ≡ 0
       a = idle x.1 x.3
 
-      no_put : (o : Option ℕ) (job : Job) (rest : List Job) → slice_get (listed o ++ positions (job ∷ rest)) 0 ≡ None → ⊥
-      no_put None job rest e = absurd (cc)
-      no_put (Some i) job rest e = absurd (cc)
+      no_put : (o : Option ℕ) (xs : List Job) → slice_get (listed o ++ positions xs) 0 ≡ None → xs ≡ []
+      no_put o [] e = refl
+      no_put None (job ∷ rest) e = absurd (cc)
+      no_put (Some i) (job ∷ rest) e = absurd (cc)
 
       here : (job : Job) → slice_get (turns plan) b.turn ≡ Some job → (o : Option _) → job.decided ≡ o → ⊥
       here job g (Some v) d =
-          let m = room_at b.active n job (omega (arith, a, h.room)) (λ y. a) job.exclusive refl in
-          let e = opened_step plan n b.active b.turn job g (ap is_some d) m in
-          no_put b.ready job (opened plan n b.active (b.turn + 1)) (ap (λ (jobs : List Job). slice_get (listed b.ready ++ positions jobs) 0) (sym e)
-          ∙ (ap (λ (ys : List ℕ). slice_get ys 0) (sym (h.puts.ready f)) ∙ (sym (slice_get-drop (recorded plan n fed.trace) fed.stored) ∙ x.0 f)))
+          let z : active plan fed.trace ≡ 0 = omega (arith, active_is h, a) in
+          let m = room_at _ n job (omega (arith, z, h.cases.room)) (λ y. z) job.exclusive refl in
+          let none = no_put b.ready (opened plan n fed.trace b.turn) (ap (λ (ys : List ℕ). slice_get ys 0) (sym (h.puts.ready f))
+          ∙ (sym (slice_get-drop (recorded plan n fed.trace) fed.stored) ∙ x.0 f)) in
+          let first = sym (slice_get-drop (turns plan) b.turn) ∙ g in
+          cc (
+            none_passes (is_open plan n fed.trace) (drop b.turn (turns plan)) none 0 job first,
+            open_here fed.trace b.turn h.cases.is_plan h.turn.starts n job g (ap is_some d) m,
+          )
       here job g None d = elim (x.2 f) [
-        | inl e ↦ absurd (omega (arith, e, a, active_is h, h.room))
+        | inl e ↦ absurd (omega (arith, e, a, active_is h, h.cases.room))
         | inr e ↦ let w = subst (Held plan fed.trace) (next_at h job g d) e in absurd (omega (arith, w.1, a, active_is h))
       ]
-
-      by : (o : Option Job) → slice_get (turns plan) b.turn ≡ o → length (turns plan) ≤ b.turn
-      by None e = none_past (turns plan) b.turn e
-      by (Some job) e = absurd (here job e job.decided refl)
 
   -- where it is done, a case has no event or its history is whole
   part_whole : b.active ≡ 0 → (i : ℕ) (job : Job) → slice_get plan i ≡ Some job → (of i fed.trace ≡ []) ⊎ (has_whole_history fed.trace job ≡ true)
   part_whole a i job g =
       let s = h.cases.each i job g in
-      by s.case.stage s.stage (λ w. whole_at h i job g ∙ over_stage s.case.stage w (inactive h i s.case a s.found))
+      by s.case.stage s.stage (λ w. (says_at h i job g).whole ∙ over_stage s.case.stage w (inactive h i s.case a s.found))
     where
       by : (stage : Stage) → IsStage i job stage (of i fed.trace) → (stage ≢ Waiting → has_whole_history fed.trace job ≡ true)
           → (of i fed.trace ≡ []) ⊎ (has_whole_history fed.trace job ≡ true)
@@ -86,7 +81,7 @@ module _ {plan : List Job} {n : ℕ} {fed : Fed} {b : SchedState} (h : Stands pl
       let s = h.cases.each i job g in
       let c = covers h i job g in
       let l : c.0 < b.turn = omega (arith, slice_get_within (turns plan) c.0 job c.1, turn_past f x) in
-      whole_at h i job g ∙ over_stage s.case.stage (h.turn.begun c.0 i s.case c.2 s.found l) (inactive h i s.case (idle x.1 x.3) s.found)
+      (says_at h i job g).whole ∙ over_stage s.case.stage ((h.turn.met c.0 i s.case c.2 s.found).1 l) (inactive h i s.case (idle x.1 x.3) s.found)
 
   -- what follows of a choice
   pub follows : (q : Next) → IsSettled b → IsChosen b q → Follows plan fed q
@@ -96,8 +91,8 @@ module _ {plan : List Job} {n : ℕ} {fed : Fed} {b : SchedState} (h : Stands pl
       let e : history i fed.trace ≡ [] = ap (map mark_of) u.empty in
       (record { job = u.job; place = u.place; unfinished = ap (is_whole u.job) e ∙ ap is_some u.undecided; alone = alone_body h i c.2.1 c.2.3 }, e)
   follows (next.Start i Cleanup) s c =
-      let o : owed plan fed.trace ≡ Some i = sym h.pending ∙ c.1 in
-      let w = owes h i o in
+      let o : owed plan fed.trace ≡ Some i = sym h.cases.pending_is ∙ c.1 in
+      let w = owes h i c.1 in
       let l = located h i w.0 (Owing w.1) w.2 in
       (record { job = l.job; place = l.place; unfinished = l.says.whole; alone = alone_cleanup h i o }, owing_history i o)
   follows next.Wait s c =
@@ -107,7 +102,7 @@ module _ {plan : List Job} {n : ℕ} {fed : Fed} {b : SchedState} (h : Stands pl
       (x.0, x.1, j.0, x.2, j.1)
   follows next.Done s c = (part_whole c.2, λ f. list_all_from (has_whole_history fed.trace) plan (whole_each f (is_next h next.Done s c)))
 
-  pub asked_for : (q : Next) → IsSettled b → IsChosen b q → IsAsked b q
+  asked_for : (q : Next) → IsSettled b → IsChosen b q → IsAsked (record b { asked = q }) q
   asked_for (next.Put i) s c = (not_failed h i c, c)
   asked_for (next.Start i Body) s c = (c.0, c.1, c.2, s)
   asked_for (next.Start i Cleanup) s c = (c.0, c.1, s)
@@ -120,22 +115,5 @@ module _ {plan : List Job} {n : ℕ} {fed : Fed} {b : SchedState} (h : Stands pl
 
   -- what is chosen is asked
   pub stands_asked : (q : Next) → IsSettled b → IsChosen b q → Stands plan n fed (record b { asked = q })
-  stands_asked q s c = record {
-    is_plan = h.is_plan;
-    room = h.room;
-    width = h.width;
-    pending = h.pending;
-    cases = h.cases;
-    turn = h.turn;
-    puts = h.puts;
-    told = λ i e d. absurd (not_done q i c e d);
-    ripe = h.ripe;
-    asked = by_asked q (asked_for q s c);
-  }
-    where
-      by_asked : (q : Next) → IsAsked b q → IsAsked (record b { asked = q }) q
-      by_asked (next.Put i) a = a
-      by_asked (next.Start i Body) a = a
-      by_asked (next.Start i Cleanup) a = a
-      by_asked next.Wait a = a
-      by_asked next.Done a = a
+  stands_asked q s c =
+      record { cases = h.cases; turn = h.turn; puts = h.puts; told = λ i e d. absurd (not_done q i c e d); asked = asked_for q s c }

@@ -1,12 +1,10 @@
 -- what a sink gains
-use Rattle.std.proofs.Common.{slice_get, filter, Err, Option, Some, None, map, Result, Ok, is_some, not, ◌^◌, ◌≡◌, ◌≢◌, ℕ, zero, suc, ◌+◌, ◌-◌, ◌<◌, ◌≤◌, ◌⊎◌, true, false, List, [], ◌∷◌, ◌++◌, length, take, refl, sym, ◌∙◌, ap, subst, arith, length-append, append_assoc, append-nil, inl, inr}
-use Rattle.std.proofs.lemmas.List.{length-map}
 use Rattle.kt_base.specs.Kinds.{good as is_good}
-use Rattle.kt_sched.proofs.Common.{map-append, take-append-le, count_by-le-length, cases_eq, slice_get_within, Role, Body, Cleanup, Entry, Job, SinkFault, Totals, Event, Trace, NoEvent, Then, position_of, event_count, mark_of, history, is_whole, turns, Due, dues, put_at, finished_by, recorded, IsEntry, Gains, IsEntryOf, AreEntries, IsPlan, Fed, has_failed, with_event, nothing_fed, runs, IsNext, IsUpToDate, Follows, CanCount, counted, FailedPut, Counts}
+use Rattle.kt_sched.proofs.Common.{slice_get, filter, Err, Option, Some, None, map, Result, Ok, is_some, not, ◌^◌, ◌≡◌, ◌≢◌, ℕ, ◌+◌, ◌-◌, ◌<◌, ◌≤◌, ◌⊎◌, true, false, List, [], ◌∷◌, ◌++◌, length, take, refl, sym, ◌∙◌, ap, subst, arith, length-append, append_assoc, append-nil, inl, inr, length-map, map-append, take-append-le, count_by-le-length, cases_eq, slice_get_within, Role, Body, Cleanup, Entry, Job, SinkFault, Totals, Event, Trace, NoEvent, Then, position_of, event_count, mark_of, history, is_whole, turns, Due, dues, is_open, put_at, finished_by, recorded, IsEntry, Gains, IsEntryOf, AreEntries, IsPlan, Fed, has_failed, with_event, nothing_fed, runs, IsNext, IsUpToDate, Follows, CanCount, counted, FailedPut, Counts}
 use Rattle.kt_sched.specs.declared.next.Next.TheVariants as next
 use Rattle.kt_sched.specs.declared.sink.Sink as sink
-use Rattle.kt_sched.proofs.Lists.{some_is, append_left, count-cons, count_by-append, mapped_at, none_past, take_snoc, take_zero}
-use Rattle.kt_sched.proofs.Steps.{of_other, opens_now}
+use Rattle.kt_sched.proofs.Lists.{some_is, in_append, append_left, count-cons, count_by-append, mapped_at, none_past, take_snoc, take_zero}
+use Rattle.kt_sched.proofs.Turns.{of_other, opens_now}
 use Rattle.kt_sched.proofs.Runs.{while_runs}
 use Rattle.kt_sched.proofs.Once.{NotWhole, Recorded, recorded_first, recorded_event, recorded_most}
 
@@ -22,13 +20,6 @@ gains_more : {S : Type 0} (puts : S → Entry → Result (Unit {0}) SinkFault �
 gains_more puts [] e first last new h x = (new, subst (λ s. puts s e (Ok tt) new) h x, refl)
 gains_more puts (f ∷ es) e first last new h x = (h.0, h.1, gains_more puts es e h.0 last new h.2 x)
 
-can_count : (es : List Entry) (t : Totals) (k : ℕ) → Counts es t → length es + 1 ≤ k → CanCount t k
-can_count es t k h l = record {
-  total = omega (arith, h.total, l);
-  good = omega (arith, h.total, h.good, count_by-le-length (λ (e : Entry). is_good e.verdict.kind) es);
-  bad = omega (arith, h.total, h.bad, count_by-le-length (λ (e : Entry). not (is_good e.verdict.kind)) es);
-}
-
 counts_more : (es : List Entry) (e : Entry) (t : Totals) → Counts es t → Counts (es ++ e ∷ []) (counted t e.verdict.kind)
 counts_more es e t h =
     let p = λ (x : Entry). is_good x.verdict.kind in
@@ -39,33 +30,16 @@ counts_more es e t h =
       bad = omega (arith, h.bad, count_by-append q es (e ∷ []), count-cons q e []);
     }
 
--- the dues that an event adds, all of them now
+abbrev due_of : ℕ → Job → Due
+due_of k job = record { position = job.position; after = k }
 
-abbrev DueAt : ℕ → List Due → Type 0
-DueAt k ps = (j : ℕ) (p : Due) → slice_get ps j ≡ Some p → p.after ≡ k
+-- what is put at a moment is due then
+due_put : (k : ℕ) (jobs : List Job) (j : ℕ) (p : Due) → slice_get (put_at k jobs) j ≡ Some p → p.after ≡ k
+due_put k jobs j p g = ap (λ (q : Due). q.after) (sym (mapped_at (due_of k) jobs j p g).2)
 
-due_put_at : (k : ℕ) (jobs : List Job) → DueAt k (put_at k jobs)
-due_put_at k jobs j p g = let m = mapped_at (due_of k) jobs j p g in ap (λ (q : Due). q.after) (sym m.2)
-  where
-    due_of : ℕ → Job → Due
-    due_of k job = record { position = job.position; after = k }
-
-due_append : (k : ℕ) (xs ys : List Due) → DueAt k xs → DueAt k ys → DueAt k (xs ++ ys)
-due_append k [] ys d e j p g = e j p g
-due_append k (x ∷ xs) ys d e zero p g = d 0 p g
-due_append k (x ∷ xs) ys d e (suc j) p g = due_append k xs ys (λ i q r. d (suc i) q r) e j p g
-
-due_late : (k : ℕ) (xs ys : List Due) (j : ℕ) (p : Due) → DueAt k ys → length xs ≤ j → slice_get (xs ++ ys) j ≡ Some p → p.after ≡ k
-due_late k [] ys j p d l g = d j p g
-due_late k (x ∷ xs) ys zero p d l g = absurd (omega arith)
-due_late k (x ∷ xs) ys (suc j) p d l g = due_late k xs ys j p d (omega arith) g
-
+-- what an event adds to the dues
 abbrev added : List Job → ℕ → Trace → Event → List Due
 added plan n T e = put_at (event_count (Then T e)) (finished_by plan T e) ++ put_at (event_count (Then T e)) (filter (opens_now plan n T e) (turns plan))
-
-added_now : (plan : List Job) (n : ℕ) (T : Trace) (e : Event) → DueAt (event_count (Then T e)) (added plan n T e)
-added_now plan n T e =
-    let k = event_count (Then T e) in due_append k _ _ (due_put_at k (finished_by plan T e)) (due_put_at k (filter (opens_now plan n T e) (turns plan)))
 
 -- a whole case has no further event
 module _ (plan : List Job) (T : Trace) (e : Event) (h : NotWhole plan T (position_of e)) where
@@ -101,7 +75,6 @@ pub record Gained {S : Type 0} (s : sink.Ghosts S) (plan : List Job) (n : ℕ) (
     (before after : S) : Type 0 where
   pub gained : List Entry
   pub count : length gained ≡ fed.stored
-  pub within : fed.stored ≤ length (recorded plan n fed.trace)
   pub are : AreEntries plan fed.trace (take fed.stored (recorded plan n fed.trace)) gained
   pub kept : (put : List Entry) → s.entries before put → s.entries after (put ++ gained)
   pub gains : GainsUpTo s.puts plan n fed gained fault before after
@@ -113,29 +86,27 @@ pub gained_first : {S : Type 0} (s : sink.Ghosts S) (plan : List Job) (n : ℕ) 
 gained_first s plan n before p = record {
   gained = [];
   count = refl;
-  within = omega arith;
   are = subst (λ (ps : List ℕ). AreEntries plan NoEvent ps []) (sym (take_zero (recorded plan n NoEvent))) tt;
   kept = λ put h. subst (s.entries before) (sym (append-nil put)) h;
-  gains = (refl, refl, λ j p l g. due_put_at 0 _ j p g);
+  gains = (refl, refl, λ j p l g. due_put 0 (filter (is_open plan n NoEvent) (turns plan)) j p g);
   counts = record { total = refl; good = refl; bad = refl };
-  recorded = recorded_first plan n p;
+  recorded = recorded_first plan n;
 }
 
 module _ {S : Type 0} {s : sink.Ghosts S} {plan : List Job} {n : ℕ} {fed : Fed} {totals : Totals} {fault : Option SinkFault} {before mid : S}
     (g : Gained s plan n fed totals fault before mid) where
   -- after an event that comes where all is stored
-  pub gained_event : (ev : Event) → IsPlan plan → (has_failed fed ≡ false → IsUpToDate plan n fed) → NotWhole plan fed.trace (position_of ev)
-      → Gained s plan n (with_event fed ev) totals fault before mid
-  gained_event ev p z h =
+  pub gained_event : (ev : Event) → IsPlan plan → fed.stored ≤ length (recorded plan n fed.trace) → (has_failed fed ≡ false → IsUpToDate plan n fed)
+      → NotWhole plan fed.trace (position_of ev) → Gained s plan n (with_event fed ev) totals fault before mid
+  gained_event ev p within z h =
       let T = fed.trace in
       let xs = recorded plan n T in
       let m : recorded plan n (Then T ev) ≡ xs ++ map (λ (p : Due). p.position) (added plan n T ev) = map-append (λ (p : Due). p.position) (dues plan n T)
       (added plan n T ev) in
-      let e : take fed.stored (recorded plan n (Then T ev)) ≡ take fed.stored xs = ap (take fed.stored) m ∙ take-append-le fed.stored xs _ g.within in
+      let e : take fed.stored (recorded plan n (Then T ev)) ≡ take fed.stored xs = ap (take fed.stored) m ∙ take-append-le fed.stored xs _ within in
       record {
         gained = g.gained;
         count = g.count;
-        within = omega (arith, g.within, ap (λ (ys : List ℕ). length ys) m, length-append xs (map (λ (p : Due). p.position) (added plan n T ev)));
         are = subst (λ (ps : List ℕ). AreEntries plan (Then T ev) ps g.gained) (sym e) (entries_stay plan T ev h (take fed.stored xs) g.gained g.are);
         kept = g.kept;
         gains = by fault g.gains;
@@ -146,11 +117,17 @@ module _ {S : Type 0} {s : sink.Ghosts S} {plan : List Job} {n : ℕ} {fed : Fed
       by : (fault : Option SinkFault) → GainsUpTo s.puts plan n fed g.gained fault before mid
           → GainsUpTo s.puts plan n (with_event fed ev) g.gained fault before mid
       by None w =
-          let late = none_past (recorded plan n fed.trace) fed.stored (z (ap is_some w.0)) in (
+          let k = event_count (Then fed.trace ev) in
+          let xs = finished_by plan fed.trace ev in
+          let ys = filter (opens_now plan n fed.trace ev) (turns plan) in
+          let late = none_past (recorded plan n fed.trace) fed.stored (z (ap is_some w.0)) in
+          let same = length-map (dues plan n fed.trace) (λ (p : Due). p.position) in (
             w.0,
             w.1,
-            λ j p l x. due_late (event_count (Then fed.trace ev)) (dues plan n fed.trace) (added plan n fed.trace ev) j p (added_now plan n fed.trace ev)
-                (omega (arith, l, late, length-map (dues plan n fed.trace) (λ (p : Due). p.position))) x,
+            λ j p l x. elim (in_append (dues plan n fed.trace) (added plan n fed.trace ev) j p x) [
+              | inl u ↦ absurd (omega (arith, l, late, same, slice_get_within (dues plan n fed.trace) j p u))
+              | inr u ↦ due_put k (xs ++ ys) u.0 p (ap (λ (ps : List Due). slice_get ps u.0) (map-append (due_of k) xs ys) ∙ u.2)
+            ],
           )
       by (Some fault) w =
           let f = w.0 in
@@ -168,12 +145,16 @@ module _ {S : Type 0} {s : sink.Ghosts S} {plan : List Job} {n : ℕ} {fed : Fed
   -- where a put is next, there is room to count it
   pub room_to_count : (i : ℕ) → IsNext plan n fed (next.Put i) → length plan < 2 ^ 64 → CanCount totals (2 ^ 64 - 1)
   room_to_count i x l =
-      can_count g.gained totals (2 ^ 64 - 1) g.counts
-      (omega (arith, l, g.count, slice_get_within (recorded plan n fed.trace) fed.stored i x.1, recorded_most plan n fed.trace g.recorded))
+      let room = slice_get_within (recorded plan n fed.trace) fed.stored i x.1 in
+      record {
+        total = omega (arith, g.counts.total, l, g.count, room, recorded_most plan n fed.trace g.recorded);
+        good = omega (arith, g.counts.total, g.counts.good, count_by-le-length (λ (e : Entry). is_good e.verdict.kind) g.gained);
+        bad = omega (arith, g.counts.total, g.counts.bad, count_by-le-length (λ (e : Entry). not (is_good e.verdict.kind)) g.gained);
+      }
 
   -- at the end every position is stored
-  pub gained_all : IsUpToDate plan n fed → length g.gained ≡ length (recorded plan n fed.trace)
-  gained_all u = omega (arith, g.count, g.within, none_past (recorded plan n fed.trace) fed.stored u)
+  pub gained_all : fed.stored ≤ length (recorded plan n fed.trace) → IsUpToDate plan n fed → length g.gained ≡ length (recorded plan n fed.trace)
+  gained_all within u = omega (arith, g.count, within, none_past (recorded plan n fed.trace) fed.stored u)
 
   pub gained_are : AreEntries plan fed.trace (take (length g.gained) (recorded plan n fed.trace)) g.gained
   gained_are = subst (λ (m : ℕ). AreEntries plan fed.trace (take m (recorded plan n fed.trace)) g.gained) (sym g.count) g.are
@@ -187,7 +168,6 @@ module _ {S : Type 0} {s : sink.Ghosts S} {plan : List Job} {n : ℕ} {fed : Fed
         record {
           gained = g.gained ++ e ∷ [];
           count = length-append g.gained (e ∷ []) ∙ ap (λ k. k + 1) g.count;
-          within = omega (arith, slice_get_within xs fed.stored i x.1);
           are = subst (λ (ps : List ℕ). AreEntries plan fed.trace ps (g.gained ++ e ∷ [])) (sym (take_snoc xs fed.stored i x.1))
               (entries_more plan fed.trace (take fed.stored xs) g.gained i e g.are w);
           kept = λ put h. subst (s.entries after) (append_assoc put g.gained (e ∷ [])) (k (put ++ g.gained) (g.kept put h));
@@ -207,7 +187,6 @@ module _ {S : Type 0} {s : sink.Ghosts S} {plan : List Job} {n : ℕ} {fed : Fed
     gained_failed cause p k = record {
       gained = g.gained;
       count = g.count;
-      within = g.within;
       are = g.are;
       kept = λ put h. k (put ++ g.gained) (g.kept put h);
       gains = by fault g.gains;

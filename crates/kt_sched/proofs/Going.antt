@@ -1,10 +1,8 @@
 -- a launcher after a trace, and the rules that the trace keeps, as the run loop knows them
-use Rattle.std.proofs.Common.{slice_get, is_some, nat_le, Option, Some, None, map, if◌then◌else◌, IfSome, append-nil, ◌≡◌, ℕ, ◌+◌, ◌≤◌, ◌==◌, Bool, true, false, List, [], ◌∷◌, ◌++◌, length, take, refl, sym, ◌∙◌, ap, subst, arith, length-append}
-use Rattle.kt_sched.proofs.Common.{nat_tests, cases_eq, slice_get_within, Role, Body, Cleanup, Job, StartAnswer, Ended, Child, MayStart, IsEvidence, IsIdle, child_of, running_after_start, running_after_end, pending_after_start, pending_after_end, IsMoment, HasMoment, IsPlan, Event, Start, End, Trace, NoEvent, Then, Leads, position_of, of, first, event_count, history, body_starts, body_start_of, undecided_turns, Each, Order, WidthAt, AloneAt, PromptAt, BusyAt, owed, is_owed, Fed, FitsAt, has_failed, runs, IsNext, Follows, MayBegin, Legal, Stopped}
+use Rattle.kt_sched.proofs.Common.{slice_get, is_some, nat_le, Option, Some, None, if◌then◌else◌, IfSome, append-nil, ◌≡◌, ℕ, ◌+◌, ◌≤◌, ◌==◌, Bool, true, false, List, [], ◌++◌, refl, sym, ◌∙◌, ap, subst, arith, nat_tests, cases_eq, Role, Body, Cleanup, Job, StartAnswer, Ended, Child, MayStart, IsEvidence, IsIdle, child_of, running_after_start, running_after_end, pending_after_start, pending_after_end, IsMoment, HasMoment, IsPlan, Event, Start, End, Trace, NoEvent, Then, Leads, first, event_count, history, body_starts, body_start_of, Each, Order, WidthAt, AloneAt, PromptAt, BusyAt, owed, is_owed, Fed, FitsAt, has_failed, runs, IsNext, Follows, Legal, Stopped}
 use Rattle.kt_sched.specs.declared.next.Next.TheVariants as next
 use Rattle.kt_sched.specs.declared.launcher.Launcher as launcher
-use Rattle.kt_sched.proofs.Lists.{take_one_more, take_zero}
-use Rattle.kt_sched.proofs.Steps.{same_is, of_other}
+use Rattle.kt_sched.proofs.Lists.{same_is}
 use Rattle.kt_sched.proofs.Runs.{running_of, child_at, history_before, runs_now, start_runs, cleared, runs_true, while_runs, end_runs, end_owes}
 
 -- the events up to a failed put, if one failed
@@ -12,14 +10,16 @@ abbrev pub up_to : Option ℕ → Trace → Trace
 up_to None T = T
 up_to (Some k) T = first k T
 
--- what a trace keeps
-pub record Sofar (plan : List Job) (n : ℕ) (T : Trace) : Type 0 where
-  pub fits : Each (FitsAt plan) T
-  pub order : Order plan T
-  pub width : Each (WidthAt plan n) T
-  pub alone : Each (AloneAt plan) T
-  pub prompt : Each (PromptAt plan) T
-  pub beyond : (i : ℕ) → length plan ≤ i → of i T ≡ []
+-- what an event keeps
+pub record Fair (plan : List Job) (n : ℕ) (T : Trace) (e : Event) : Type 0 where
+  pub fits : FitsAt plan T e
+  pub width : WidthAt plan n T e
+  pub alone : AloneAt plan T e
+  pub prompt : PromptAt plan T e
+
+pub each_of : {P Q : Trace → Event → Type 0} (T : Trace) → ((U : Trace) (e : Event) → P U e → Q U e) → Each P T → Each Q T
+each_of NoEvent f h = tt
+each_of (Then T e) f h = (each_of T f h.0, f T e h.1)
 
 -- and up to a failed put, after which no body starts
 pub record Until (plan : List Job) (n : ℕ) (stopped : Option ℕ) (T : Trace) : Type 0 where
@@ -51,57 +51,11 @@ module _ (plan : List Job) (n : ℕ) where
       record { busy = subst (Each (BusyAt plan n)) (sym (first_all T)) u.busy; begun = ap body_starts (sym (first_all T)); passed = omega arith }
   until_now (Some k) T f u = absurd (cc)
 
-  -- the order of starts after the next one
-  order_more : (T : Trace) (i : ℕ) (a : StartAnswer) → Order plan T → MayBegin plan n T i → Order plan (Then T (Start i Body a))
-  order_more T i a o m =
-      let f = λ (job : Job). job.position in
-      let s = body_starts T in
-      let xs = undecided_turns plan in
-      ap (λ ys. ys ++ i ∷ []) o
-      ∙ (ap (λ k. map f (take (length s) xs) ++ k ∷ []) (sym m.place)
-      ∙ (sym (take_one_more f xs (length s) m.job m.next) ∙ ap (λ k. map f (take k xs)) (sym (length-append s (i ∷ [])))))
-
-  order_same : (T : Trace) (e : Event) → body_start_of e ≡ [] → Order plan T → Order plan (Then T e)
-  order_same T e q o =
-      subst (λ (xs : List ℕ). xs ≡ map (λ (job : Job). job.position) (take (length xs) (undecided_turns plan)))
-      (sym (ap (λ xs. body_starts T ++ xs) q ∙ append-nil (body_starts T))) o
-
-  beyond_more : (T : Trace) (e : Event) (job : Job) → slice_get plan (position_of e) ≡ Some job → ((i : ℕ) → length plan ≤ i → of i T ≡ []) → (i : ℕ)
-      → length plan ≤ i → of i (Then T e) ≡ []
-  beyond_more T e job g h i l = of_other (position_of e) i T e refl (λ q. absurd (omega (arith, l, slice_get_within plan (position_of e) job g, q))) ∙ h i l
-
-  -- what a trace keeps, it keeps with an event that is next
-  sofar_start : (fed : Fed) (i : ℕ) (role : Role) (job : Job) (a : StartAnswer) → Sofar plan n fed.trace → IsNext plan n fed (next.Start i role)
-      → Follows plan fed (next.Start i role)
-      → slice_get plan i ≡ Some job → HasMoment a → Sofar plan n (Then fed.trace (Start i role a))
-  sofar_start fed i Body job a s x f g m = record {
-    fits = (s.fits, m);
-    order = order_more fed.trace i a s.order x.3;
-    width = (s.width, x.3.room);
-    alone = (s.alone, x.3.alone);
-    prompt = (s.prompt, rw x.2 tt);
-    beyond = beyond_more fed.trace (Start i Body a) job g s.beyond;
-  }
-  sofar_start fed i Cleanup job a s x f g m = record {
-    fits = (s.fits, m);
-    order = order_same fed.trace (Start i Cleanup a) refl s.order;
-    width = (s.width, tt);
-    alone = (s.alone, f.0.alone);
-    prompt = (s.prompt, rw x.1 (refl, refl));
-    beyond = beyond_more fed.trace (Start i Cleanup a) job g s.beyond;
-  }
-
-  sofar_end : (fed : Fed) (e : Ended) (job : Job) → Sofar plan n fed.trace → IsNext plan n fed next.Wait → slice_get plan e.position ≡ Some job
-      → IsMoment e.moment
-      → IsEvidence job.interface e.role e.evidence → Sofar plan n (Then fed.trace (End e))
-  sofar_end fed e job s x g m v = record {
-    fits = (s.fits, (m, (job, g, v)));
-    order = order_same fed.trace (End e) refl s.order;
-    width = (s.width, tt);
-    alone = (s.alone, tt);
-    prompt = (s.prompt, rw x.1 tt);
-    beyond = beyond_more fed.trace (End e) job g s.beyond;
-  }
+  -- an event that is next keeps it
+  fair_start : (fed : Fed) (i : ℕ) (role : Role) (a : StartAnswer) → IsNext plan n fed (next.Start i role) → Follows plan fed (next.Start i role) → HasMoment a
+      → Fair plan n fed.trace (Start i role a)
+  fair_start fed i Body a x f m = record { fits = m; width = x.3.room; alone = x.3.alone; prompt = rw x.2 tt }
+  fair_start fed i Cleanup a x f m = record { fits = m; width = tt; alone = f.0.alone; prompt = rw x.1 (refl, refl) }
 
   until_start : (fed : Fed) (i : ℕ) (role : Role) (a : StartAnswer) → Until plan n fed.stopped fed.trace → IsNext plan n fed (next.Start i role)
       → Until plan n fed.stopped (Then fed.trace (Start i role a))
@@ -117,7 +71,7 @@ pub record Going {L : Type 0} (l : launcher.Ghosts L) (plan : List Job) (n : ℕ
   pub leads : Leads l.starts l.waits plan T old new
   pub runs : (k : ℕ) (r : Role) → l.running new k r ≡ running_of plan T k r
   pub owes : (k : ℕ) → l.pending new k ≡ is_owed (owed plan T) k
-  pub rules : Sofar plan n T
+  pub rules : Each (Fair plan n) T
   pub until : Until plan n stopped T
 
 pub goes_first : {L : Type 0} (l : launcher.Ghosts L) (plan : List Job) (n : ℕ) (old : L) → IsIdle (l.running old) (l.pending old)
@@ -126,14 +80,7 @@ goes_first l plan n old h = record {
   leads = refl;
   runs = λ k r. h.runs k r ∙ none_runs k r;
   owes = h.pends;
-  rules = record {
-    fits = tt;
-    order = sym (ap (map (λ (job : Job). job.position)) (take_zero (undecided_turns plan)));
-    width = tt;
-    alone = tt;
-    prompt = tt;
-    beyond = λ i z. refl;
-  };
+  rules = tt;
   until = record { busy = tt; begun = refl; passed = tt };
 }
   where
@@ -160,7 +107,7 @@ module _ {L : Type 0} {l : launcher.Ghosts L} {plan : List Job} {n : ℕ} (fed :
     leads = (mid, job, h.leads, g, s);
     runs = λ k r. u k r ∙ start_runs plan fed.trace (l.running mid) h.runs i job role r a k g (p.placed i job g) (before plan fed i role f) (cases_eq k i);
     owes = λ k. v k ∙ owes role x k;
-    rules = sofar_start plan n fed i role job a h.rules x f g m;
+    rules = (h.rules, fair_start plan n fed i role a x f m);
     until = until_start plan n fed i role a h.until x;
   }
     where
@@ -187,27 +134,40 @@ module _ {L : Type 0} {l : launcher.Ghosts L} {plan : List Job} {n : ℕ} (fed :
         leads = (mid, h.leads, s);
         runs = λ k t. u k t ∙ end_runs plan fed.trace (l.running mid) h.runs e t k w (cases_eq k e.position);
         owes = λ k. z k ∙ end_owes plan fed.trace (l.running mid) h.runs (l.pending mid) e k e.role refl w (h.owes k ∙ ap (λ (y : Option ℕ). is_owed y k) x.1);
-        rules = sofar_end plan n fed e r.1.0 h.rules x r.1.1 m (subst (λ (c : Child). IsEvidence c.interface e.role e.evidence) r.1.2 v);
+        rules =
+            let w = subst (λ (c : Child). IsEvidence c.interface e.role e.evidence) r.1.2 v in
+            (h.rules, record { fits = (m, (r.1.0, r.1.1, w)); width = tt; alone = tt; prompt = rw x.1 tt });
         until = until_more plan n fed.stopped fed.trace (End e) h.until x.2 (λ y. refl);
       }
 
   pub goes_failed : has_failed fed ≡ false → Going l plan n fed.trace (Some (event_count fed.trace)) old mid
   goes_failed f = record { leads = h.leads; runs = h.runs; owes = h.owes; rules = h.rules; until = until_now plan n fed.stopped fed.trace f h.until }
 
-  -- where it is done and no put failed, the trace is legal
-  pub goes_legal : fed.stopped ≡ None → Follows plan fed next.Done → Legal plan n fed.trace
-  goes_legal o f =
-      let r = h.rules in
-      let b = subst (λ (y : Option ℕ). Each (BusyAt plan n) (up_to y fed.trace)) o h.until.busy in
-      record { whole = f.1 (ap is_some o); order = r.order; width = r.width; alone = r.alone; prompt = r.prompt; busy = b }
+  -- where it is done, the trace is legal, or was stopped where a put failed
+  module _ (o : Order plan fed.trace) (f : Follows plan fed next.Done) where
+    pub goes_legal : fed.stopped ≡ None → Legal plan n fed.trace
+    goes_legal none = record {
+      whole = f.1 (ap is_some none);
+      order = o;
+      width = each_of fed.trace (λ U e y. y.width) h.rules;
+      alone = each_of fed.trace (λ U e y. y.alone) h.rules;
+      prompt = each_of fed.trace (λ U e y. y.prompt) h.rules;
+      busy = subst (λ (y : Option ℕ). Each (BusyAt plan n) (up_to y fed.trace)) none h.until.busy;
+    }
 
-  -- after a failed put it was stopped there
-  pub goes_stopped : (k : ℕ) → fed.stopped ≡ Some k → Follows plan fed next.Done → Stopped plan n fed.trace k
-  goes_stopped k o f =
-      let r = h.rules in
-      let b = subst (λ (y : Option ℕ). Each (BusyAt plan n) (up_to y fed.trace)) o h.until.busy in
-      let s = h.until.begun ∙ ap (λ (y : Option ℕ). body_starts (up_to y fed.trace)) o in
-      record { starts = s; whole = λ job i g. f.0 i job g; order = r.order; width = r.width; alone = r.alone; prompt = r.prompt; busy = b }
+    pub goes_stopped : (k : ℕ) → fed.stopped ≡ Some k → Stopped plan n fed.trace k
+    goes_stopped k some = record {
+      starts = h.until.begun ∙ ap (λ (y : Option ℕ). body_starts (up_to y fed.trace)) some;
+      whole = λ job i g. f.0 i job g;
+      order = o;
+      width = each_of fed.trace (λ U e y. y.width) h.rules;
+      alone = each_of fed.trace (λ U e y. y.alone) h.rules;
+      prompt = each_of fed.trace (λ U e y. y.prompt) h.rules;
+      busy = subst (λ (y : Option ℕ). Each (BusyAt plan n) (up_to y fed.trace)) some h.until.busy;
+    }
+
+  pub goes_fits : Each (FitsAt plan) fed.trace
+  goes_fits = each_of fed.trace (λ U e y. y.fits) h.rules
 
   -- and nothing runs or is pending
   pub goes_idle : IsNext plan n fed next.Done → IsIdle (l.running mid) (l.pending mid)

@@ -1,23 +1,27 @@
 -- lemmas on lists by index, on options and on truth values
-use Rattle.std.proofs.Common.{slice_get, count_by, sum_by, filter, Some, None, map, not, ◌&&◌, ◌||◌, if◌then◌else◌, ◌≡◌, ◌≢◌, ℕ, zero, suc, ◌+◌, ◌<◌, ◌≤◌, ◌⊎◌, Bool, true, false, cond, List, [], ◌∷◌, ◌++◌, length, take, drop, refl, sym, ◌∙◌, ap, arith, add-one, slice_set, inl, inr}
-use Rattle.kt_sched.proofs.Common.{sum_by-cons, list_all, list_any}
+use Rattle.kt_sched.proofs.Common.{slice_get, count_by, sum_by, filter, Some, None, map, ◌==◌, if◌then◌else◌, ◌≡◌, ◌≢◌, ℕ, zero, suc, ◌+◌, ◌<◌, ◌≤◌, ◌⊎◌, Bool, true, false, cond, List, [], ◌∷◌, ◌++◌, length, take, drop, refl, sym, ◌∙◌, ap, arith, add-one, slice_set, inl, inr, and_parts, false_from_ne_true, slice_get_cases, sum_by-append, filter-append, length-filter, nat_tests, sum_by-cons, list_all, list_any}
 
 pub some_is : {X : Type 0} (x y : X) → Some x ≡ Some y → x ≡ y
 some_is x y e = cc
 
-pub and_not : (b c : Bool) → c ≡ true → (b && not c) ≡ false
-and_not true c h = ap not h
-and_not false c h = refl
+pub cond_one : (b : Bool) → b ≡ true → cond {A = ℕ} b 1 0 ≡ 1
+cond_one b e = ap (λ (c : Bool). cond {A = ℕ} c 1 0) e
 
-pub and_both : (b c : Bool) → b ≡ true → c ≡ true → (b && c) ≡ true
-and_both b c e f = rw e f
+pub cond_zero : (b : Bool) → b ≡ false → cond {A = ℕ} b 1 0 ≡ 0
+cond_zero b e = ap (λ (c : Bool). cond {A = ℕ} c 1 0) e
 
-pub or_right : (b c : Bool) → c ≡ true → (b || c) ≡ true
-or_right true c e = refl
-or_right false c e = e
+pub cond_le : (b : Bool) → cond {A = ℕ} b 1 0 ≤ 1
+cond_le true = omega arith
+cond_le false = omega arith
 
 pub count-cons : {X : Type 0} (p : X → Bool) (x : X) (xs : List X) → count_by p (x ∷ xs) ≡ cond (p x) 1 0 + count_by p xs
 count-cons p x xs = sum_by-cons (λ y. cond (p y) 1 0) x xs
+
+pub same_is : (i : ℕ) → (i == i) ≡ true
+same_is i = grind (arith, nat_tests)
+
+pub other_is_not : (i j : ℕ) → i ≢ j → (i == j) ≡ false
+other_is_not i j h = grind (arith, nat_tests)
 
 -- beginnings and rests
 
@@ -28,12 +32,6 @@ take_zero (x ∷ xs) = refl
 pub drop_zero : {X : Type 0} (xs : List X) → drop 0 xs ≡ xs
 drop_zero [] = refl
 drop_zero (x ∷ xs) = refl
-
-pub slice_get-drop : {X : Type 0} (xs : List X) (k : ℕ) → slice_get xs k ≡ slice_get (drop k xs) 0
-slice_get-drop [] zero = refl
-slice_get-drop [] (suc k) = refl
-slice_get-drop (x ∷ xs) zero = refl
-slice_get-drop (x ∷ xs) (suc k) = slice_get-drop xs k
 
 -- what is left of a list from an element on
 pub drop_at : {X : Type 0} (xs : List X) (i : ℕ) (x : X) → slice_get xs i ≡ Some x → drop i xs ≡ x ∷ drop (i + 1) xs
@@ -50,6 +48,9 @@ get_drop (x ∷ xs) (suc p) k =
     let e : suc p + k ≡ suc (p + k) = omega arith in
     get_drop xs p k ∙ ap (slice_get (x ∷ xs)) (sym e)
 
+pub slice_get-drop : {X : Type 0} (xs : List X) (k : ℕ) → slice_get xs k ≡ slice_get (drop k xs) 0
+slice_get-drop xs k = let e : k + 0 ≡ k = omega arith in ap (slice_get xs) (sym e) ∙ sym (get_drop xs k 0)
+
 pub get_take : {X : Type 0} (xs : List X) (p j : ℕ) → j < p → slice_get (take p xs) j ≡ slice_get xs j
 get_take xs zero j l = absurd (omega (arith, l))
 get_take [] (suc p) j l = refl
@@ -64,11 +65,6 @@ take_within (y ∷ ys) (suc p) zero x g = omega arith
 take_within (y ∷ ys) (suc p) (suc j) x g = omega (arith, take_within ys p j x g)
 
 -- one element more
-pub take_one_more : {X Y : Type 0} (f : X → Y) (xs : List X) (k : ℕ) (x : X) → slice_get xs k ≡ Some x → map f (take (k + 1) xs) ≡ map f (take k xs) ++ f x ∷ []
-take_one_more f [] k x g = absurd (cc)
-take_one_more f (y ∷ ys) zero x g = let s : y ≡ x = cc in rw s refl
-take_one_more f (y ∷ ys) (suc k) x g = rw add-one (let r = rw add-one at (take_one_more f ys k x g) in ap (λ zs. f y ∷ zs) r)
-
 pub take_snoc : {X : Type 0} (xs : List X) (k : ℕ) (x : X) → slice_get xs k ≡ Some x → take (k + 1) xs ≡ take k xs ++ x ∷ []
 take_snoc [] k x g = absurd (cc)
 take_snoc (y ∷ ys) zero x g = let s : y ≡ x = cc in rw s (ap (λ zs. x ∷ zs) (take_zero ys))
@@ -77,14 +73,10 @@ take_snoc (y ∷ ys) (suc k) x g = rw add-one (let r = rw add-one at (take_snoc 
 -- elements and places
 
 pub within_some : {X : Type 0} (xs : List X) (i : ℕ) → i < length xs → (x : X) × (slice_get xs i ≡ Some x)
-within_some [] i h = absurd (omega arith)
-within_some (x ∷ xs) zero h = (x, refl)
-within_some (x ∷ xs) (suc i) h = within_some xs i (omega arith)
+within_some xs i h = elim (slice_get_cases xs i).1 [ inl w ↦ (w.0, w.2) | inr w ↦ absurd (omega (arith, h, w.0)) ]
 
 pub none_past : {X : Type 0} (xs : List X) (k : ℕ) → slice_get xs k ≡ None → length xs ≤ k
-none_past [] k e = omega arith
-none_past (x ∷ xs) zero e = absurd (cc)
-none_past (x ∷ xs) (suc k) e = omega (arith, none_past xs k e)
+none_past xs k e = elim (slice_get_cases xs k).1 [ inl w ↦ absurd (cc (e, w.2)) | inr w ↦ w.0 ]
 
 pub mapped_at : {X Y : Type 0} (f : X → Y) (xs : List X) (k : ℕ) (y : Y) → slice_get (map f xs) k ≡ Some y → (x : X) × (slice_get xs k ≡ Some x) × (f x ≡ y)
 mapped_at f [] k y g = absurd (cc)
@@ -120,22 +112,16 @@ append_left [] ys k a g = absurd (cc)
 append_left (x ∷ xs) ys zero a g = g
 append_left (x ∷ xs) ys (suc k) a g = append_left xs ys k a g
 
-pub append_right : {X : Type 0} (xs ys : List X) (m : ℕ) (a : X) → slice_get ys m ≡ Some a → slice_get (xs ++ ys) (length xs + m) ≡ Some a
-append_right {X} [] ys m a g = let q : length {A = X} [] + m ≡ m = omega arith in ap (slice_get ys) q ∙ g
-append_right {X} (x ∷ xs) ys m a g =
-    let q : length (x ∷ xs) + m ≡ suc (length xs + m) = omega arith in
-    ap (slice_get (x ∷ (xs ++ ys))) q ∙ append_right xs ys m a g
-
 -- what holds of each element
 
 pub list_all_from : {X : Type 0} (p : X → Bool) (xs : List X) → ((i : ℕ) (x : X) → slice_get xs i ≡ Some x → p x ≡ true) → list_all p xs ≡ true
 list_all_from p [] h = refl
 list_all_from p (x ∷ xs) h = rw (h 0 x refl) (list_all_from p xs (λ i y g. h (suc i) y g))
 
-pub any_at : {X : Type 0} (q : X → Bool) (xs : List X) (k : ℕ) (x : X) → slice_get xs k ≡ Some x → q x ≡ true → list_any q xs ≡ true
-any_at q [] k x g e = absurd (cc)
-any_at q (y ∷ ys) zero x g e = rw (ap q (some_is y x g) ∙ e) refl
-any_at q (y ∷ ys) (suc k) x g e = or_right (q y) (list_any q ys) (any_at q ys k x g e)
+pub list_all_at : {X : Type 0} (p : X → Bool) (xs : List X) (i : ℕ) (x : X) → slice_get xs i ≡ Some x → list_all p xs ≡ true → p x ≡ true
+list_all_at p [] i x g h = absurd (cc)
+list_all_at p (y ∷ ys) zero x g h = ap p (sym (some_is y x g)) ∙ (and_parts (p y) (list_all p ys) h).0
+list_all_at p (y ∷ ys) (suc i) x g h = list_all_at p ys i x g (and_parts (p y) (list_all p ys) h).1
 
 pub any_none : {X : Type 0} (q : X → Bool) (xs : List X) → ((k : ℕ) (x : X) → slice_get xs k ≡ Some x → q x ≡ false) → list_any q xs ≡ false
 any_none q [] h = refl
@@ -148,21 +134,16 @@ pub filter_none : {X : Type 0} (p : X → Bool) (xs : List X) → ((i : ℕ) (x 
 filter_none p [] h = refl
 filter_none p (x ∷ xs) h = rw (h 0 x refl) (filter_none p xs (λ i y g. h (suc i) y g))
 
--- a filter that one element passes
-pub filter_one : {X : Type 0} (p : X → Bool) (xs : List X) (k : ℕ) (x : X) → slice_get xs k ≡ Some x → p x ≡ true
-    → ((i : ℕ) (y : X) → slice_get xs i ≡ Some y → i ≢ k → p y ≡ false) → filter p xs ≡ x ∷ []
-filter_one p [] k x g e h = absurd (cc)
-filter_one p (y ∷ ys) zero x g e h =
-    let s : y ≡ x = cc in
-    rw (s, e, filter_none p ys (λ i z k. h (suc i) z k (λ w. absurd (omega arith))))
-filter_one p (y ∷ ys) (suc k) x g e h =
-    rw (h 0 y refl (λ w. absurd (omega arith))) (filter_one p ys k x g e (λ i z r n. h (suc i) z r (λ w. n (omega arith))))
-
 abbrev pub pick : {X : Type 0} → Bool → X → List X → List X
 pick b x xs = if b then x ∷ xs else xs
 
-pub filter_step : {X : Type 0} (p : X → Bool) (x : X) (xs : List X) (b : Bool) → p x ≡ b → filter p (x ∷ xs) ≡ pick b x (filter p xs)
-filter_step p x xs b e = rw e refl
+-- a filter that one element may pass
+pub filter_only : {X : Type 0} (p : X → Bool) (xs : List X) (k : ℕ) (x : X) → slice_get xs k ≡ Some x
+    → ((i : ℕ) (y : X) → slice_get xs i ≡ Some y → i ≢ k → p y ≡ false) → filter p xs ≡ pick (p x) x []
+filter_only p [] k x g h = absurd (cc)
+filter_only p (y ∷ ys) zero x g h = let s : y ≡ x = cc in rw (s, filter_none p ys (λ i z k. h (suc i) z k (λ w. absurd (omega arith)))) refl
+filter_only p (y ∷ ys) (suc k) x g h =
+    rw (h 0 y refl (λ w. absurd (omega arith))) (filter_only p ys k x g (λ i z r n. h (suc i) z r (λ w. n (omega arith))))
 
 -- an element of a filtered list stands in the list
 pub filter_in : {X : Type 0} (p : X → Bool) (xs : List X) (k : ℕ) (a : X) → slice_get (filter p xs) k ≡ Some a
@@ -177,23 +158,6 @@ filter_in {X} p (x ∷ xs) k a g = here (p x) refl k g (λ m h. filter_in p xs m
     here true e (suc m) h r = let w = r m h in (suc w.0, w.1, w.2)
     here false e m h r = let w = r m h in (suc w.0, w.1, w.2)
 
-pub filter_at : {X : Type 0} (p : X → Bool) (xs : List X) (i : ℕ) (a : X) → slice_get xs i ≡ Some a → p a ≡ true
-    → (k : ℕ) × (slice_get (filter p xs) k ≡ Some a)
-filter_at p [] i a g h = absurd (cc)
-filter_at p (x ∷ xs) zero a g h = (0, rw (ap p (some_is x a g) ∙ h) g)
-filter_at {X} p (x ∷ xs) (suc i) a g h = later (p x) (filter_at p xs i a g h)
-  where
-    later : (b : Bool) → ((k : ℕ) × (slice_get (filter p xs) k ≡ Some a)) → (k : ℕ) × (slice_get (pick b x (filter p xs)) k ≡ Some a)
-    later true w = (suc w.0, w.1)
-    later false w = w
-
-pub none_passes : {X : Type 0} (q : X → Bool) (xs : List X) → filter q xs ≡ [] → (k : ℕ) (x : X) → slice_get xs k ≡ Some x → q x ≡ false
-none_passes {X} q xs e k x g = by (q x) refl
-  where
-    by : (b : Bool) → q x ≡ b → q x ≡ false
-    by false r = r
-    by true r = let w = filter_at q xs k x g r in absurd (cc (ap (λ (ys : List X). slice_get ys w.0) (sym e) ∙ w.1))
-
 pub filter_alike : {X : Type 0} (p q : X → Bool) (xs : List X) → ((k : ℕ) (x : X) → slice_get xs k ≡ Some x → p x ≡ q x) → filter p xs ≡ filter q xs
 filter_alike p q [] h = refl
 filter_alike p q (x ∷ xs) h = rw (h 0 x refl, filter_alike p q xs (λ k y g. h (suc k) y g)) refl
@@ -201,14 +165,7 @@ filter_alike p q (x ∷ xs) h = rw (h 0 x refl, filter_alike p q xs (λ k y g. h
 -- what a filter makes of one element more
 pub take_filter : {X : Type 0} (p : X → Bool) (xs : List X) (k : ℕ) (x : X) → slice_get xs k ≡ Some x
     → filter p (take (k + 1) xs) ≡ filter p (take k xs) ++ pick (p x) x []
-take_filter p [] k x g = absurd (cc)
-take_filter p (y ∷ ys) zero x g = let s : y ≡ x = cc in rw s (ap (λ zs. pick (p x) x (filter p zs)) (take_zero ys))
-take_filter p (y ∷ ys) (suc k) x g = rw add-one (let r = rw add-one at (take_filter p ys k x g) in by (p y) r)
-  where
-    by : (b : Bool) → filter p (take (suc k) ys) ≡ filter p (take k ys) ++ pick (p x) x []
-        → pick b y (filter p (take (suc k) ys)) ≡ pick b y (filter p (take k ys)) ++ pick (p x) x []
-    by true e = ap (λ zs. y ∷ zs) e
-    by false e = e
+take_filter p xs k x g = ap (filter p) (take_snoc xs k x g) ∙ filter-append p (take k xs) (x ∷ [])
 
 -- counts and sums
 
@@ -236,7 +193,7 @@ counted_some {X} p (x ∷ xs) h = by (p x) refl (omega (arith, count-cons p x xs
 -- one that counts is counted
 pub counted_one : {X : Type 0} (p : X → Bool) (xs : List X) (i : ℕ) (x : X) → slice_get xs i ≡ Some x → p x ≡ true → 0 < count_by p xs
 counted_one p [] i x g e = absurd (cc)
-counted_one p (y ∷ ys) zero x g e = omega (arith, count-cons p y ys, ap (λ (b : Bool). cond {A = ℕ} b 1 0) (ap p (some_is y x g) ∙ e))
+counted_one p (y ∷ ys) zero x g e = omega (arith, count-cons p y ys, cond_one (p y) (ap p (some_is y x g) ∙ e))
 counted_one p (y ∷ ys) (suc i) x g e = omega (arith, count-cons p y ys, counted_one p ys i x g e)
 
 pub counted_two : {X : Type 0} (p : X → Bool) (xs : List X) (i k : ℕ) (x y : X)
@@ -244,18 +201,28 @@ pub counted_two : {X : Type 0} (p : X → Bool) (xs : List X) (i k : ℕ) (x y :
 counted_two p [] i k x y g e f u d = absurd (cc)
 counted_two p (z ∷ zs) zero zero x y g e f u d = absurd (d refl)
 counted_two p (z ∷ zs) zero (suc k) x y g e f u d =
-    omega (arith, count-cons p z zs, ap (λ (b : Bool). cond {A = ℕ} b 1 0) (ap p (some_is z x g) ∙ e), counted_one p zs k y f u)
+    omega (arith, count-cons p z zs, cond_one (p z) (ap p (some_is z x g) ∙ e), counted_one p zs k y f u)
 counted_two p (z ∷ zs) (suc i) zero x y g e f u d =
-    omega (arith, count-cons p z zs, ap (λ (b : Bool). cond {A = ℕ} b 1 0) (ap p (some_is z y f) ∙ u), counted_one p zs i x g e)
+    omega (arith, count-cons p z zs, cond_one (p z) (ap p (some_is z y f) ∙ u), counted_one p zs i x g e)
 counted_two p (z ∷ zs) (suc i) (suc k) x y g e f u d = omega (arith, count-cons p z zs, counted_two p zs i k x y g e f u (λ q. d (ap suc q)))
+
+-- where no other counts, at most one is counted
+pub counted_only : {X : Type 0} (p : X → Bool) (xs : List X) (k : ℕ) (x : X) → slice_get xs k ≡ Some x
+    → ((i : ℕ) (y : X) → slice_get xs i ≡ Some y → i ≢ k → p y ≡ false) → count_by p xs ≤ 1
+counted_only {X} p xs k x g h =
+    let only = ap (λ (ys : List X). length ys) (filter_only p xs k x g h) in omega (arith, sym (length-filter p xs) ∙ only, length_pick (p x))
+  where
+    length_pick : (b : Bool) → length (pick b x []) ≤ 1
+    length_pick true = omega arith
+    length_pick false = omega arith
 
 -- where nothing counts, there is none
 pub counted_none : {X : Type 0} (p : X → Bool) (xs : List X) (i : ℕ) (x : X) → count_by p xs ≡ 0 → slice_get xs i ≡ Some x → p x ≡ false
-counted_none p xs i x h g = by (p x) refl
-  where
-    by : (b : Bool) → p x ≡ b → p x ≡ false
-    by true e = absurd (omega (arith, h, counted_one p xs i x g e))
-    by false e = e
+counted_none p xs i x h g = false_from_ne_true (p x) (λ e. omega (arith, h, counted_one p xs i x g e))
+
+-- where a filter passes nothing, no element passes
+pub none_passes : {X : Type 0} (q : X → Bool) (xs : List X) → filter q xs ≡ [] → (k : ℕ) (x : X) → slice_get xs k ≡ Some x → q x ≡ false
+none_passes {X} q xs e k x g = counted_none q xs k x (sym (length-filter q xs) ∙ ap (λ (ys : List X). length ys) e) g
 
 -- two lists that agree at each index have the same counts
 pub count_alike : {X Y : Type 0} (p : X → Bool) (q : Y → Bool) (xs : List X) (ys : List Y) → length xs ≡ length ys
@@ -268,5 +235,4 @@ count_alike p q (x ∷ xs) (y ∷ ys) e h =
     omega (arith, count-cons p x xs, count-cons q y ys, r, ap (λ (b : Bool). cond {A = ℕ} b 1 0) (h 0 x y refl refl))
 
 pub count_by-append : {X : Type 0} (p : X → Bool) (xs ys : List X) → count_by p (xs ++ ys) ≡ count_by p xs + count_by p ys
-count_by-append p [] ys = omega arith
-count_by-append p (x ∷ xs) ys = omega (arith, count_by-append p xs ys, count-cons p x (xs ++ ys), count-cons p x xs)
+count_by-append p xs ys = sum_by-append (λ x. cond (p x) 1 0) xs ys

@@ -1,11 +1,9 @@
 -- what a state says of a case
-use Rattle.std.proofs.Common.{slice_get, count_by, Option, Some, None, map, ◌≡◌, ◌≢◌, ℕ, ◌<◌, ◌≤◌, ◌⊎◌, Bool, true, false, List, [], length, refl, sym, ◌∙◌, ap, subst, arith, slice_set, inl, inr}
-use Rattle.kt_sched.proofs.Common.{cases_eq, cases_lt, slice_get-map, slice_get_within, option_map, Role, Body, Cleanup, Job, Next, Stage, Owing, Taken, EndedBody, Case, Event, Trace, of, mark_of, history, is_whole, has_whole_history, is_active, active, turns, owed, IsPlan, Fed, role_runs, runs, stage_runs, SchedState, Stands, CaseStands, IsStage, IsAsked, is_active_stage, is_owing_stage, is_owed, Replaced, HasBody}
+use Rattle.kt_sched.proofs.Common.{slice_get, count_by, Option, Some, None, map, ◌≡◌, ◌≢◌, ℕ, ◌<◌, ◌⊎◌, true, false, List, [], length, refl, sym, ◌∙◌, ap, subst, arith, slice_set, inl, inr, false_from_ne_true, cases_eq, cases_lt, slice_get-map, slice_get_within, option_map, Role, Body, Cleanup, Job, Next, Stage, Owing, Taken, EndedBody, Case, Event, Trace, of, mark_of, history, is_active, active, turns, owed, IsPlan, Fed, role_runs, runs, stage_runs, SchedState, Stands, CaseStands, IsStage, IsAsked, is_active_stage, is_owing_stage, is_owed, Replaced}
 use Rattle.kt_sched.specs.declared.next.Next.TheVariants as next
-use Rattle.kt_sched.proofs.Lists.{some_is, within_some, mapped_at, set_set, slice_get-set_other, slice_get-set_same, counted_some, counted_one, counted_none, count_alike}
+use Rattle.kt_sched.proofs.Lists.{some_is, within_some, mapped_at, set_set, slice_get-set_other, slice_get-set_same, counted_some, counted_one, counted_none, count_alike, same_is}
 use Rattle.kt_sched.proofs.Turns.{turn_inside, turn_distinct}
-use Rattle.kt_sched.proofs.Steps.{same_is}
-use Rattle.kt_sched.proofs.Stages.{Says, says, is_over, marks_active, active_runs, inactive_quiet, owing_stage}
+use Rattle.kt_sched.proofs.Stages.{Says, says, marks_active, active_runs, owing_stage, runs_active}
 
 -- a place in the turn order
 pub record TurnAt (plan : List Job) (k i : ℕ) : Type 0 where
@@ -42,28 +40,26 @@ module _ (xs : List Case) (i : ℕ) (old new : Case) (g : slice_get xs i ≡ Som
   set_here = slice_get-set_same xs i new (slice_get_within xs i old g)
 
   pub which : (k : ℕ) (c : Case) → slice_get (slice_set xs i new) k ≡ Some c → Which xs i new k c
-  which k c e = by (cases_eq k i)
-    where
-      by : (k ≡ i) ⊎ (k ≢ i) → Which xs i new k c
-      by (inl q) = inl (q, some_is c new (sym e ∙ (ap (slice_get (slice_set xs i new)) q ∙ set_here)))
-      by (inr q) = inr (q, sym (slice_get-set_other xs i k new q) ∙ e)
+  which k c e = elim (cases_eq k i) [
+    | inl q ↦ inl (q, some_is c new (sym e ∙ (ap (slice_get (slice_set xs i new)) q ∙ set_here)))
+    | inr q ↦ inr (q, sym (slice_get-set_other xs i k new q) ∙ e)
+  ]
 
   -- and then each case stands, if that one does
   pub each_set : (plan : List Job) (T U : Trace) (job : Job) → slice_get plan i ≡ Some job → IsStage i job new.stage (of i U)
       → (new.stage ≢ Taken → new.job ≡ job)
       → ((k : ℕ) → k ≢ i → of k U ≡ of k T) → ((k : ℕ) (j : Job) → slice_get plan k ≡ Some j → CaseStands T k j xs)
       → (k : ℕ) (j : Job) → slice_get plan k ≡ Some j → CaseStands U k j (slice_set xs i new)
-  each_set plan T U job p s m o h k j x = by (cases_eq k i)
-    where
-      by : (k ≡ i) ⊎ (k ≢ i) → CaseStands U k j (slice_set xs i new)
-      by (inl q) =
-          let same : job ≡ j = some_is job j (sym p ∙ (ap (slice_get plan) (sym q) ∙ x)) in
-          let here : CaseStands U i job (slice_set xs i new) = record { case = new; found = set_here; stage = s; kept = m } in
-          subst (λ k. CaseStands U k j (slice_set xs i new)) (sym q) (subst (λ (y : Job). CaseStands U i y (slice_set xs i new)) same here)
-      by (inr d) =
-          let w = h k j x in
-          let s = subst (IsStage k j w.case.stage) (sym (o k d)) w.stage in
-          record { case = w.case; found = slice_get-set_other xs i k new d ∙ w.found; stage = s; kept = w.kept }
+  each_set plan T U job p s m o h k j x = elim (cases_eq k i) [
+    | inl q ↦
+        let same : job ≡ j = some_is job j (sym p ∙ (ap (slice_get plan) (sym q) ∙ x)) in
+        let here : CaseStands U i job (slice_set xs i new) = record { case = new; found = set_here; stage = s; kept = m } in
+        subst (λ k. CaseStands U k j (slice_set xs i new)) (sym q) (subst (λ (y : Job). CaseStands U i y (slice_set xs i new)) same here)
+    | inr d ↦
+        let w = h k j x in
+        let s = subst (IsStage k j w.case.stage) (sym (o k d)) w.stage in
+        record { case = w.case; found = slice_get-set_other xs i k new d ∙ w.found; stage = s; kept = w.kept }
+  ]
 
 -- two replacements of one case are one
 pub replaced_twice : (xs ys zs : List Case) (i : ℕ) (s t u w : Stage) → Replaced xs ys i s w → Replaced ys zs i t u → Replaced xs zs i t w
@@ -71,12 +67,7 @@ replaced_twice xs ys zs i s t u w f g =
     let a : Case = record { job = f.job; stage = s } in
     let mid : slice_get ys i ≡ Some a = ap (λ (cs : List Case). slice_get cs i) f.changed ∙ slice_get-set_same xs i a (slice_get_within xs i _ f.found) in
     let e : g.job ≡ f.job = ap (λ (c : Case). c.job) (some_is (record { job = g.job; stage = u }) a (sym g.found ∙ mid)) in
-    record {
-      job = f.job;
-      found = f.found;
-      changed = g.changed ∙ (ap (λ (j : Job). slice_set ys i (record { job = j; stage = t })) e
-          ∙ (ap (λ (cs : List Case). slice_set cs i (record { job = f.job; stage = t })) f.changed ∙ set_set xs i a (record { job = f.job; stage = t })));
-    }
+    record { job = f.job; found = f.found; changed = g.changed ∙ rw (e, f.changed) (set_set xs i a (record { job = f.job; stage = t })) }
 
 module _ {plan : List Job} {n : ℕ} {fed : Fed} {b : SchedState} (h : Stands plan n fed b) where
   -- the case at a job's place
@@ -95,18 +86,13 @@ module _ {plan : List Job} {n : ℕ} {fed : Fed} {b : SchedState} (h : Stands pl
       let s = at_place i j.0 had was j.1 g in
       record { job = j.0; place = j.1; stands = s.0; says = says i j.0 was (of i fed.trace) s.0; kept = s.1 }
 
-  pub whole_at : (k : ℕ) (job : Job) (g : slice_get plan k ≡ Some job) → has_whole_history fed.trace job ≡ is_over (h.cases.each k job g).case.stage
-  whole_at k job g =
+  pub says_at : (k : ℕ) (job : Job) (g : slice_get plan k ≡ Some job) → Says job (h.cases.each k job g).case.stage (history job.position fed.trace)
+  says_at k job g =
       let w = h.cases.each k job g in
-      ap (λ j. is_whole job (history j fed.trace)) (h.is_plan.placed k job g) ∙ (says k job w.case.stage (of k fed.trace) w.stage).whole
-
-  pub active_at : (k : ℕ) (job : Job) (g : slice_get plan k ≡ Some job) → is_active fed.trace job ≡ is_active_stage (h.cases.each k job g).case.stage
-  active_at k job g =
-      let w = h.cases.each k job g in
-      ap (λ j. marks_active job (history j fed.trace)) (h.is_plan.placed k job g) ∙ (says k job w.case.stage (of k fed.trace) w.stage).active
+      subst (λ (j : ℕ). Says job w.case.stage (history j fed.trace)) (sym (h.cases.is_plan.placed k job g)) (says k job w.case.stage (of k fed.trace) w.stage)
 
   pub active_is : active plan fed.trace ≡ b.active
-  active_is = active_of plan fed.trace b.cases h.is_plan h.cases.count h.cases.each ∙ sym h.cases.active
+  active_is = active_of plan fed.trace b.cases h.cases.is_plan h.cases.count h.cases.each ∙ sym h.cases.active
 
   -- where nothing is active, no case is
   pub inactive : (k : ℕ) (c : Case) → b.active ≡ 0 → slice_get b.cases k ≡ Some c → is_active_stage c.stage ≡ false
@@ -121,7 +107,7 @@ module _ {plan : List Job} {n : ℕ} {fed : Fed} {b : SchedState} (h : Stands pl
   pub turn_at : (k i : ℕ) → slice_get b.order k ≡ Some i → TurnAt plan k i
   turn_at k i g =
       let w = mapped_at (λ (job : Job). job.position) (turns plan) k i (sym (ap (λ (xs : List ℕ). slice_get xs k) h.turn.walk) ∙ g) in
-      record { job = w.0; turn = w.1; at = w.2; place = ap (slice_get plan) (sym w.2) ∙ turn_inside plan h.is_plan.placed k w.0 w.1 }
+      record { job = w.0; turn = w.1; at = w.2; place = ap (slice_get plan) (sym w.2) ∙ turn_inside plan h.cases.is_plan.placed k w.0 w.1 }
 
   pub at_turn : (k : ℕ) (job : Job) → slice_get (turns plan) k ≡ Some job → slice_get b.order k ≡ Some job.position
   at_turn k job g =
@@ -132,7 +118,7 @@ module _ {plan : List Job} {n : ℕ} {fed : Fed} {b : SchedState} (h : Stands pl
   one_place k l i g e =
       let x = turn_at k i g in
       let y = turn_at l i e in
-      turn_distinct plan h.is_plan.placed k l x.job y.job x.turn y.turn (x.at ∙ sym y.at)
+      turn_distinct plan h.cases.is_plan.placed k l x.job y.job x.turn y.turn (x.at ∙ sym y.at)
 
   pub start_within : (k i : ℕ) → slice_get b.order k ≡ Some i → i < length b.cases
   start_within k i o = let t = turn_at k i o in omega (arith, slice_get_within plan i t.job t.place, h.cases.count)
@@ -142,45 +128,35 @@ module _ {plan : List Job} {n : ℕ} {fed : Fed} {b : SchedState} (h : Stands pl
   pub asked_as : (q : Next) → b.asked ≡ q → IsAsked b q
   asked_as q e = subst (IsAsked b) e h.asked
 
-  pub start_room : (i : ℕ) → b.asked ≡ next.Start i Body → i < length b.cases
-  start_room i q = start_within b.turn i (asked_as (next.Start i Body) q).2.1
+  pub asked_within : (i : ℕ) (role : Role) → b.asked ≡ next.Start i role → i < length b.cases
+  asked_within i Body q = start_within b.turn i (asked_as (next.Start i Body) q).2.1
+  asked_within i Cleanup q = h.cases.owed_within i (asked_as (next.Start i Cleanup) q).1
 
   -- the case that is owed
-  pub owes : (i : ℕ) → owed plan fed.trace ≡ Some i → (had : Job) × (o : EndedBody) × (slice_get b.cases i ≡ Some (record { job = had; stage = Owing o }))
+  pub owes : (i : ℕ) → b.pending ≡ Some i → (had : Job) × (o : EndedBody) × (slice_get b.cases i ≡ Some (record { job = had; stage = Owing o }))
   owes i q =
       let c = within_some b.cases i (h.cases.owed_within i q) in
       let e = owing_stage c.0.stage (h.cases.owing i c.0 c.1 ∙ (ap (λ (o : Option ℕ). is_owed o i) q ∙ same_is i)) in
-      (c.0.job, e.0, c.1 ∙ ap (λ (s : Stage). Some (with_stage c.0.job s)) e.1)
-    where
-      with_stage : Job → Stage → Case
-      with_stage j s = record { job = j; stage = s }
-
-  pub has_body : (i : ℕ) → b.asked ≡ next.Start i Cleanup → HasBody b.cases i
-  has_body i q = let w = owes i (sym h.pending ∙ (asked_as (next.Start i Cleanup) q).1) in record { case = _; found = w.2; is = refl }
-
-  -- where a cleanup is asked for, a case is active
-  pub owing_active : (i : ℕ) → b.asked ≡ next.Start i Cleanup → 0 < b.active
-  owing_active i q = let w = owes i (sym h.pending ∙ (asked_as (next.Start i Cleanup) q).1) in some_active i _ w.2 refl
+      (c.0.job, e.0, subst (λ (s : Stage). slice_get b.cases i ≡ Some (record { job = c.0.job; stage = s })) e.1 c.1)
 
   pub none_owing : b.pending ≡ None → (k : ℕ) (c : Case) → slice_get b.cases k ≡ Some c → is_owing_stage c.stage ≡ false
-  none_owing p k c g = h.cases.owing k c g ∙ ap (λ (o : Option ℕ). is_owed o k) (sym h.pending ∙ p)
+  none_owing p k c g = h.cases.owing k c g ∙ ap (λ (o : Option ℕ). is_owed o k) p
 
   -- what runs
 
   -- what runs is a case of the state, whose stage runs so
   pub runs_stage : (i : ℕ) (r : Role) → runs i r fed.trace ≡ true → (c : Case) × (slice_get b.cases i ≡ Some c) × (stage_runs r c.stage ≡ true)
-  runs_stage i r e = there (cases_lt i (length plan))
+  runs_stage i r e = elim (cases_lt i (length plan)) [
+    | inl g ↦
+        let j = within_some plan i g in
+        let w = h.cases.each i j.0 j.1 in
+        (w.case, w.found, sym ((says i j.0 w.case.stage (of i fed.trace) w.stage).runs r) ∙ e)
+    | inr g ↦ absurd (cc (ap (λ (es : List Event). role_runs r (map mark_of es)) (h.cases.beyond i g) ∙ empty_quiet r, e))
+  ]
     where
       empty_quiet : (role : Role) → role_runs role [] ≡ false
       empty_quiet Body = refl
       empty_quiet Cleanup = refl
-
-      there : (i < length plan) ⊎ (length plan ≤ i) → (c : Case) × (slice_get b.cases i ≡ Some c) × (stage_runs r c.stage ≡ true)
-      there (inl g) =
-          let j = within_some plan i g in
-          let w = h.cases.each i j.0 j.1 in
-          (w.case, w.found, sym ((says i j.0 w.case.stage (of i fed.trace) w.stage).runs r) ∙ e)
-      there (inr g) = absurd (cc (ap (λ (es : List Event). role_runs r (map mark_of es)) (h.cases.beyond i g) ∙ empty_quiet r, e))
 
   pub something_runs : b.pending ≡ None → 0 < b.active → (i : ℕ) × (role : Role) × (runs i role fed.trace ≡ true)
   something_runs p a =
@@ -190,12 +166,9 @@ module _ {plan : List Job} {n : ℕ} {fed : Fed} {b : SchedState} (h : Stands pl
       (w.0, r.0, l.says.runs r.0 ∙ r.1)
 
   pub nothing_runs : b.active ≡ 0 → (i : ℕ) (role : Role) → runs i role fed.trace ≡ false
-  nothing_runs a i role = by (runs i role fed.trace) refl
-    where
-      by : (t : Bool) → runs i role fed.trace ≡ t → runs i role fed.trace ≡ false
-      by true e = let w = runs_stage i role e in absurd (cc (inactive_quiet role w.0.stage (inactive i w.0 a w.1), w.2))
-      by false e = e
+  nothing_runs a i role = false_from_ne_true (runs i role fed.trace)
+      (λ e. let w = runs_stage i role e in cc (runs_active role w.0.stage w.2, inactive i w.0 a w.1))
 
   -- and where nothing runs or is owed, nothing is active
   pub none_active : owed plan fed.trace ≡ None → ((k : ℕ) (r : Role) → runs k r fed.trace ≡ false) → 0 < b.active → ⊥
-  none_active o q a = let w = something_runs (h.pending ∙ o) a in absurd (cc (q w.0 w.1, w.2))
+  none_active o q a = let w = something_runs (h.cases.pending_is ∙ o) a in absurd (cc (q w.0 w.1, w.2))

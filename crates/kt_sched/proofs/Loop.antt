@@ -1,6 +1,7 @@
 -- the run loop: what holds before each turn, and how each answer keeps it
-use Rattle.std.proofs.Common.{Option, Some, None, is_some, Ok, Err, ◌^◌, ◌≡◌, ◌<◌, ℕ, ◌+◌, ◌-◌, List, [], ◌∷◌, ◌++◌, refl, append-nil, length, slice_get, sym, ◌∙◌, ap, subst, arith}
-use Rattle.kt_sched.proofs.Common.{Role, Entry, Job, StartAnswer, Ended, Next, Answer, SinkFault, Totals, Child, IsEvidence, IsIdle, IsMoment, HasMoment, MayStart, IsPlan, IsAnswer, IsAnswerTo, IsEntryOf, IsStorable, Start, End, event_count, running_after_start, running_after_end, pending_after_start, pending_after_end, child_of, CanCount, counted, Fed, fed_after, answer_of, with_event, nothing_fed, IsNext, Follows, Ran, NoEvent, SchedState, Stands}
+use Rattle.kt_sched.proofs.Common.{Result, Option, Some, None, is_some, Ok, Err, ◌^◌, ◌≡◌, ◌<◌, ℕ, ◌+◌, ◌-◌, List, [], ◌∷◌, ◌++◌, refl, append-nil, length, slice_get, sym, ◌∙◌, ap, subst, arith, Role, Entry, Job, StartAnswer, Ended, Next, Answer, SinkFault, Totals, Child, IsEvidence, IsIdle, IsMoment, HasMoment, MayStart, IsPlan, IsAnswer, IsAnswerTo, IsEntryOf, IsStorable, Start, End, event_count, running_after_start, running_after_end, pending_after_start, pending_after_end, child_of, CanCount, counted, Fed, fed_after, answer_of, with_event, nothing_fed, IsNext, Follows, Ran, NoEvent, SchedState, Stands}
+use Rattle.kt_sched.specs.Run.{EndsAs}
+use Rattle.kt_sched.specs.declared.run_fault.RunFault.{RunFault}
 use Rattle.kt_base.specs.declared.no_memory.NoMemory.{NoMemory as Refusal}
 use Rattle.kt_sched.specs.declared.run_fault.RunFault.TheVariants.{NoMemory, SinkFailed}
 use Rattle.kt_sched.specs.declared.next.Next.TheVariants as next
@@ -9,11 +10,11 @@ use Rattle.kt_sched.specs.declared.job.StartAnswer.TheVariants as told
 use Rattle.kt_sched.specs.declared.launcher.Launcher as launcher
 use Rattle.kt_sched.specs.declared.sink.Sink as sink
 use Rattle.kt_sched.proofs.Runs.{child_runs}
-use Rattle.kt_sched.proofs.Going.{Going, ended_one, goes_end, goes_failed, goes_first, goes_idle, goes_legal, goes_start, goes_stopped, may_start}
+use Rattle.kt_sched.proofs.Upcoming.{in_order}
+use Rattle.kt_sched.proofs.Going.{Going, ended_one, goes_end, goes_failed, goes_first, goes_fits, goes_idle, goes_legal, goes_start, goes_stopped, may_start}
 use Rattle.kt_sched.proofs.Gaining.{Gained, end_not_whole, gained_all, gained_are, gained_event, gained_failed, gained_first, gained_put, nothing_due, room_to_count, start_not_whole}
 use Rattle.kt_sched.proofs.Once.{named_at_most_once, recorded_first}
-use Rattle.kt_sched.proofs.Ending.{four_calls, named_once}
-use Rattle.kt_sched.proofs.Storing.{storable_entry}
+use Rattle.kt_sched.proofs.Ending.{four_calls, named_once, storable_entry}
 
 -- the core, the launcher and the sink stand after the same answers
 pub record Loop {L S : Type 0} (l : launcher.Ghosts L) (s : sink.Ghosts S) (plan : List Job) (n : ℕ) (old : L) (before : S) (sched : SchedState) (new : L)
@@ -53,7 +54,7 @@ module _ {L S : Type 0} (l : launcher.Ghosts L) (s : sink.Ghosts S) where
     leads = refl;
     fits = tt;
     calls = λ i. omega arith;
-    once = named_at_most_once n NoEvent p (recorded_first plan n p);
+    once = named_at_most_once n NoEvent p (recorded_first plan n);
     gained = [];
     are = tt;
     kept = λ put h. subst (s.entries before) (sym (append-nil put)) h;
@@ -65,6 +66,9 @@ module _ {L S : Type 0} {l : launcher.Ghosts L} {s : sink.Ghosts S} {plan : List
     (p : IsPlan plan) (k : Loop l s plan n old before sched mid after totals fault) where
   abbrev fed : Fed
   fed = k.fed
+
+  moved_to : {q r : Next} {later : SchedState} (ans : Answer) → q ≡ r → Stands plan n (fed_after fed q ans) later → Stands plan n (fed_after fed r ans) later
+  moved_to {later = later} ans e = subst (λ (y : Next). Stands plan n (fed_after fed y ans) later) e
 
   -- a start of a job, where the core stands as it did
 
@@ -89,7 +93,7 @@ module _ {L S : Type 0} {l : launcher.Ghosts L} {s : sink.Ghosts S} {plan : List
       stands = subst (λ (w : Fed). Stands plan n w later) (ap (fed_after fed b.asked) e ∙ fed_start fed b.asked i role a q)
           (z plan n fed (y plan n fed k.stands));
       going = goes_start fed p k.going new i role job a (x plan n fed k.stands) (f plan n fed k.stands) place w m u v;
-      gained = gained_event k.gained (Start i role a) p (nothing_due plan n fed i role (x plan n fed k.stands))
+      gained = gained_event k.gained (Start i role a) p k.stands.puts.stored (nothing_due plan n fed i role (x plan n fed k.stands))
           (start_not_whole plan fed i role (f plan n fed k.stands));
       asked = d;
     }
@@ -114,9 +118,9 @@ module _ {L S : Type 0} {l : launcher.Ghosts L} {s : sink.Ghosts S} {plan : List
           → Loop l s plan n old before later new after totals fault
       loop_end new later v m u o z d = record {
         fed = with_event fed (End e);
-        stands = subst (λ (w : Fed). Stands plan n w later) (ap (λ (y : Next). fed_after fed y (answer.Ended e)) q) (z plan n fed (y plan n fed k.stands));
+        stands = moved_to _ q (z plan n fed (y plan n fed k.stands));
         going = goes_end fed p k.going new e w.0 (x plan n fed k.stands) v w.1 w.2 m u o;
-        gained = gained_event k.gained (End e) p
+        gained = gained_event k.gained (End e) p k.stands.puts.stored
             (x plan n fed k.stands).0 (end_not_whole plan fed.trace e.position e.role (ended_one fed p k.going e w.0 w.1).0);
         asked = d;
       }
@@ -132,7 +136,7 @@ module _ {L S : Type 0} {l : launcher.Ghosts L} {s : sink.Ghosts S} {plan : List
       entry_is = w plan n fed (y plan n fed k.stands)
 
       pub loop_storable : IsStorable e
-      loop_storable = storable_entry plan fed.trace i e k.going.rules.fits entry_is
+      loop_storable = storable_entry plan fed.trace i e (goes_fits fed p k.going) entry_is
 
       module _ (c later : SchedState) (q : c.asked ≡ next.Put i) (v : Says b (λ plan n fed. Stands plan n fed c)) (d : later.asked ≡ next.Done) (new : S) where
         pub loop_put : (more : Totals) → more ≡ counted totals e.verdict.kind → s.puts after e (Ok tt) new
@@ -140,8 +144,7 @@ module _ {L S : Type 0} {l : launcher.Ghosts L} {s : sink.Ghosts S} {plan : List
             → Says c (λ plan n fed. Stands plan n (fed_after fed c.asked answer.Stored) later) → Loop l s plan n old before later mid new more fault
         loop_put more m u o z = record {
           fed = record fed { stored = fed.stored + 1 };
-          stands = subst (λ (w : Fed). Stands plan n w later) (ap (λ (y : Next). fed_after fed y answer.Stored) q)
-              (z plan n fed (v plan n fed (y plan n fed k.stands)));
+          stands = moved_to _ q (z plan n fed (v plan n fed (y plan n fed k.stands)));
           going = k.going;
           gained = subst (λ (y : Totals). Gained s plan n (record fed { stored = fed.stored + 1 }) y fault before new) (sym m)
               (gained_put k.gained i e new (x plan n fed k.stands) entry_is u o);
@@ -153,8 +156,7 @@ module _ {L S : Type 0} {l : launcher.Ghosts L} {s : sink.Ghosts S} {plan : List
             → Loop l s plan n old before later mid new totals (Some cause)
         loop_failed cause u o z = record {
           fed = record fed { stopped = Some (event_count fed.trace) };
-          stands = subst (λ (w : Fed). Stands plan n w later) (ap (λ (y : Next). fed_after fed y answer.StoreFailed) q)
-              (z plan n fed (v plan n fed (y plan n fed k.stands)));
+          stands = moved_to _ q (z plan n fed (v plan n fed (y plan n fed k.stands)));
           going = goes_failed fed p k.going (x plan n fed k.stands).0;
           gained = gained_failed k.gained i e new (x plan n fed k.stands) entry_is cause u o;
           asked = d;
@@ -166,42 +168,38 @@ module _ {L S : Type 0} {l : launcher.Ghosts L} {s : sink.Ghosts S} {plan : List
     pub loop_idle : IsIdle (l.running mid) (l.pending mid)
     loop_idle = goes_idle fed p k.going (x plan n fed k.stands)
 
+    -- at the exit, by what the sink gained
+    ran : {fault : Option SinkFault} (g : Gained s plan n fed totals fault before after) (result : Result Totals RunFault)
+        → EndsAs s.puts plan n fed.trace g.gained before after result → Ran l s plan n old mid before after result
+    ran g result ends = record {
+      trace = fed.trace;
+      leads = k.going.leads;
+      fits = goes_fits fed p k.going;
+      calls = four_calls plan fed.trace p (f plan n fed k.stands).0 k.stands.cases.beyond;
+      once = named_at_most_once n fed.trace p g.recorded;
+      gained = g.gained;
+      are = gained_are g;
+      kept = g.kept;
+      ends = ends;
+    }
+
     -- no put failed
     pub ran_well : fault ≡ None → Ran l s plan n old mid before after (Ok totals)
     ran_well e =
         let g = subst (λ (o : Option SinkFault). Gained s plan n fed totals o before after) e k.gained in
         let o = ap is_some g.gains.0 in
         let once = named_once k.stands o (x plan n fed k.stands) g.recorded in
-        record {
-          trace = fed.trace;
-          leads = k.going.leads;
-          fits = k.going.rules.fits;
-          calls = four_calls plan fed.trace p (f plan n fed k.stands).0 k.going.rules.beyond;
-          once = named_at_most_once n fed.trace p g.recorded;
-          gained = g.gained;
-          are = gained_are g;
-          kept = g.kept;
-          ends = record {
-            legal = goes_legal fed p k.going g.gains.0 (f plan n fed k.stands);
-            once = once;
-            all = gained_all g ((x plan n fed k.stands).0 o) ∙ once.all;
-            gains = g.gains.1;
-            counts = g.counts;
-          };
-        }
+        ran g (Ok totals) (record {
+          legal = goes_legal fed p k.going (in_order k.stands) (f plan n fed k.stands) g.gains.0;
+          once = once;
+          all = gained_all g k.stands.puts.stored ((x plan n fed k.stands).0 o) ∙ once.all;
+          gains = g.gains.1;
+          counts = g.counts;
+        })
 
     -- one put failed
     pub ran_short : (cause : SinkFault) → fault ≡ Some cause → Ran l s plan n old mid before after (Err (SinkFailed cause))
     ran_short cause e =
         let g = subst (λ (o : Option SinkFault). Gained s plan n fed totals o before after) e k.gained in
-        record {
-          trace = fed.trace;
-          leads = k.going.leads;
-          fits = k.going.rules.fits;
-          calls = four_calls plan fed.trace p (f plan n fed k.stands).0 k.going.rules.beyond;
-          once = named_at_most_once n fed.trace p g.recorded;
-          gained = g.gained;
-          are = gained_are g;
-          kept = g.kept;
-          ends = record { failed = g.gains.0; stopped = goes_stopped fed p k.going g.gains.0.next.after g.gains.1 (f plan n fed k.stands) };
-        }
+        let stopped = goes_stopped fed p k.going (in_order k.stands) (f plan n fed k.stands) g.gains.0.next.after g.gains.1 in
+        ran g (Err (SinkFailed cause)) (record { failed = g.gains.0; stopped = stopped })

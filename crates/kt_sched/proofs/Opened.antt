@@ -1,21 +1,20 @@
--- a decided case whose turn it is becomes ready
-use Rattle.std.proofs.Common.{slice_get, Option, Some, None, is_some, is_none, ◌≡◌, ◌≢◌, ℕ, ◌+◌, ◌<◌, ◌⊎◌, true, false, List, ◌∷◌, refl, sym, ◌∙◌, ap, subst, arith, inl, inr, append-nil}
-use Rattle.kt_sched.proofs.Common.{cases_eq, Judged, Job, Stage, Waiting, Decided, Case, CaseRecord, of, turns, is_open, was_open, Fed, has_failed, SchedState, Stands, IsStage, HasRecord, HasTurn, HasDecided, AreGone, is_decided, is_undecided, is_decided_stage, decided_record_of, decided_record, record_in, positions, opened, slice_get_within}
+-- a decided case becomes ready, and an answer to a put
+use Rattle.kt_sched.proofs.Common.{not, slice_get, Option, Some, None, filter, is_some, ◌≡◌, ℕ, ◌+◌, Bool, true, false, List, ◌∷◌, refl, sym, ◌∙◌, ap, subst, arith, inl, inr, append-nil, cases_eq, Judged, Job, Stage, Decided, Case, CaseRecord, of, active, turns, is_open, Fed, has_failed, SchedState, Stands, IsStanding, IsStage, HasRecord, HasTurn, HasDecided, AreGone, is_decided, is_undecided, is_decided_stage, decided_record_of, decided_record, record_in, positions, opened, slice_get_within, ◌≤◌, ◌++◌, length, drop, event_count, recorded, listed}
 use Rattle.kt_sched.specs.declared.next.Next.TheVariants as next
-use Rattle.kt_sched.proofs.Lists.{some_is, take_filter}
+use Rattle.kt_sched.proofs.Lists.{slice_get-drop, drop_at, some_is, take_filter}
 use Rattle.kt_sched.proofs.Stages.{decided_stage}
-use Rattle.kt_sched.proofs.Located.{active_is, one_place, turn_at}
-use Rattle.kt_sched.proofs.Alone.{none_else}
-use Rattle.kt_sched.proofs.Following.{opened_step, room_at}
-use Rattle.kt_sched.proofs.Decided.{open_at}
+use Rattle.kt_sched.proofs.Located.{active_is, one_place, turn_at, asked_as}
+use Rattle.kt_sched.proofs.Upcoming.{exclusive_needs_none}
+use Rattle.kt_sched.proofs.Following.{room_at}
+use Rattle.kt_sched.proofs.Decided.{open_here}
 
 -- a decided case whose turn it is
-record Ripe (plan : List Job) (n : ℕ) (b : SchedState) (i : ℕ) : Type 0 where
+record Ripe (plan : List Job) (n : ℕ) (fed : Fed) (b : SchedState) (i : ℕ) : Type 0 where
   pub job : Job
   pub turn : slice_get (turns plan) b.turn ≡ Some job
   pub at : job.position ≡ i
   pub decided : is_decided job ≡ true
-  pub run : opened plan n b.active b.turn ≡ job ∷ opened plan n b.active (b.turn + 1)
+  pub opens : is_open plan n fed.trace job ≡ true
   pub case : Case
   pub found : slice_get b.cases i ≡ Some case
   pub stage : case.stage ≡ Decided
@@ -25,12 +24,8 @@ record_there : (o : Option Judged) → is_some o ≡ true → (t : CaseRecord) �
 record_there None e = absurd (cc)
 record_there (Some v) e = (decided_record v, refl)
 
-not_undecided : (o : Option Judged) → is_some o ≡ true → is_none o ≡ false
-not_undecided None e = absurd (cc)
-not_undecided (Some v) e = refl
-
 module _ {plan : List Job} {n : ℕ} {fed : Fed} {b : SchedState} {i : ℕ} (h : Stands plan n fed b) (t : HasTurn b i) (d : HasDecided b.cases i true) where
-  ripe : Ripe plan n b i
+  ripe : Ripe plan n fed b i
   ripe =
       let u = turn_at h b.turn i t.1 in
       let w = h.cases.each i u.job u.place in
@@ -38,70 +33,108 @@ module _ {plan : List Job} {n : ℕ} {fed : Fed} {b : SchedState} {i : ℕ} (h :
       let z = decided_stage w.case.stage (ap (λ (c : Case). is_decided_stage c.stage) same ∙ d.2) in
       let P : Stage → Type 0 = λ x. IsStage i u.job x (of i fed.trace) in
       let s = subst P z w.stage in
-      let m = room_at b.active n u.job (omega (arith, t.2, h.width)) (none_else h t.1 u.place t.3) u.job.exclusive refl in
+      let m = room_at (active plan fed.trace) n u.job (omega (arith, t.2, h.cases.width_is, active_is h)) (λ e. active_is h ∙ exclusive_needs_none h t.1 u.place t.3 e)
+      u.job.exclusive refl in
       record {
         job = u.job;
         turn = u.turn;
         at = u.at;
         decided = s.1;
-        run = opened_step plan n b.active b.turn u.job u.turn s.1 m;
+        opens = open_here fed.trace b.turn h.cases.is_plan h.turn.starts n u.job u.turn s.1 m;
         case = w.case;
         found = w.found;
         stage = z;
         kept = w.kept (λ x. absurd (cc (z, x)));
       }
 
-  pub told_now : HasRecord b.cases i
+  told_now : HasRecord b.cases i
   told_now =
       let t = record_there ripe.job.decided ripe.decided in
       (ripe.case, t.0, ripe.found, ap (record_in ripe.case.job) ripe.stage ∙ (ap (λ (j : Job). decided_record_of j.decided) ripe.kept ∙ t.1))
 
   gone_now : has_failed fed ≡ false → AreGone plan n fed.trace (b.turn + 1)
   gone_now f = record {
-    gone = λ k job l g d. by k job l g d (cases_eq k b.turn);
+    gone = λ k job l g d. elim (cases_eq k b.turn) [
+      | inl e ↦
+          let same = some_is ripe.job job (sym ripe.turn ∙ (ap (slice_get (turns plan)) (sym e) ∙ g)) in
+          (h.puts.gone f).due k job (omega (arith, e)) g ∙ (ap (is_open plan n fed.trace) (sym same) ∙ ripe.opens)
+      | inr x ↦ (h.puts.gone f).gone k job (omega (arith, l, x)) g d
+    ];
     due = λ k job l g. (h.puts.gone f).due k job (omega (arith, l)) g;
   }
-    where
-      by : (k : ℕ) (job : Job) → k < b.turn + 1 → slice_get (turns plan) k ≡ Some job → is_decided job ≡ true → (k ≡ b.turn) ⊎ (k ≢ b.turn)
-          → was_open plan n fed.trace job ≡ true
-      by k job l g d (inl e) =
-          let same : ripe.job ≡ job = some_is ripe.job job (sym ripe.turn ∙ (ap (slice_get (turns plan)) (sym e) ∙ g)) in
-          let run = ap (λ a. opened plan n a b.turn) (active_is h) ∙ ripe.run in
-          (h.puts.gone f).due k job (omega (arith, e)) g
-          ∙ (ap (is_open plan n fed.trace) (sym same) ∙ open_at fed.trace b.turn h.is_plan h.turn.starts ripe.job _ h.room run)
-      by k job l g d (inr x) = (h.puts.gone f).gone k job (omega (arith, l, x)) g d
 
-  pub stands_opened : b.ready ≡ None → Stands plan n fed (record b { turn = b.turn + 1; ready = Some i; asked = next.Done })
+  stands_opened : b.ready ≡ None → Stands plan n fed (record b { turn = b.turn + 1; ready = Some i; asked = next.Done })
   stands_opened e = record {
-    is_plan = h.is_plan;
-    room = h.room;
-    width = h.width;
-    pending = h.pending;
     cases = h.cases;
     turn = record {
       walk = h.turn.walk;
       within = omega (arith, slice_get_within b.order b.turn i t.1);
       starts = h.turn.starts
-          ∙ ap positions (sym (take_filter is_undecided (turns plan) b.turn ripe.job ripe.turn ∙ rw (not_undecided _ ripe.decided) (append-nil _)));
-      waiting = λ k j c g x l. h.turn.waiting k j c g x (omega (arith, l));
-      begun = λ k j c g x l. begun_now k j c g x l (cases_eq k b.turn);
+          ∙ ap positions (sym (take_filter is_undecided (turns plan) b.turn ripe.job ripe.turn ∙ rw (ap not ripe.decided) (append-nil _)));
+      met = λ k j c g x. (
+        λ l. (h.turn.met k j c g x).0 (omega (arith, l)),
+        λ l w. elim (cases_eq k b.turn) [
+          | inl q ↦
+              let m = some_is j i (sym g ∙ (ap (slice_get b.order) q ∙ t.1)) in
+              let s = some_is c ripe.case (sym x ∙ (ap (slice_get b.cases) m ∙ ripe.found)) in
+              absurd (cc (ap (λ (y : Case). y.stage) s, ripe.stage, w))
+          | inr q ↦ (h.turn.met k j c g x).1 (omega (arith, l, q)) w
+        ],
+      );
     };
     puts = record {
       failed = h.puts.failed;
       stopped = λ f. absurd (cc (t.0));
       stored = h.puts.stored;
       gone = gone_now;
-      ready = λ f. h.puts.ready f ∙ (rw (e, ripe.run) (ap (λ k. k ∷ positions (opened plan n b.active (b.turn + 1))) ripe.at));
+      ready = λ f. h.puts.ready f ∙ (rw e (ap positions run ∙ ap (λ k. k ∷ positions (opened plan n fed.trace (b.turn + 1))) ripe.at));
+      ripe = λ j m x o. let q = one_place h m b.turn i (o ∙ sym x) t.1 in omega (arith, q);
     };
     told = λ j x y. subst (HasRecord b.cases) (some_is i j x) told_now;
-    ripe = λ j m x o. let q = one_place h m b.turn i (o ∙ sym x) t.1 in omega (arith, q);
     asked = tt;
   }
     where
-      begun_now : (k j : ℕ) (c : Case) → slice_get b.order k ≡ Some j → slice_get b.cases j ≡ Some c → k < b.turn + 1 → (k ≡ b.turn) ⊎ (k ≢ b.turn)
-          → c.stage ≢ Waiting
-      begun_now k j c g x l (inl q) w =
-          let m : j ≡ i = some_is j i (sym g ∙ (ap (slice_get b.order) q ∙ t.1)) in
-          let s : c ≡ ripe.case = some_is c ripe.case (sym x ∙ (ap (slice_get b.cases) m ∙ ripe.found)) in
-          absurd (cc (ap (λ (y : Case). y.stage) s, ripe.stage, w))
-      begun_now k j c g x l (inr q) w = h.turn.begun k j c g x (omega (arith, l, q)) w
+      run : opened plan n fed.trace b.turn ≡ ripe.job ∷ opened plan n fed.trace (b.turn + 1)
+      run = ap (filter (is_open plan n fed.trace)) (drop_at (turns plan) b.turn ripe.job ripe.turn) ∙ rw ripe.opens refl
+
+-- the state before, as the code sees it and as it stands
+module _ {b seen : SchedState} (view : b ≡ seen) (standing : IsStanding b) {i : ℕ} {flag : Bool} (t : HasTurn seen i) (d : HasDecided b.cases i flag)
+    (f : flag ≡ true) (e : b.ready ≡ None) where
+  turn : HasTurn b i
+  turn = subst (λ (x : SchedState). HasTurn x i) (sym view) t
+
+  pub opened_each : (plan : List Job) (n : ℕ) (fed : Fed) → Stands plan n fed seen
+      → Stands plan n fed (record b { turn = b.turn + 1; ready = Some i; asked = next.Done })
+  opened_each plan n fed h = stands_opened (subst (Stands plan n fed) (sym view) h) turn (subst (HasDecided b.cases i) f d) e
+
+  pub opened_told : (k : ℕ) → Some i ≡ Some k → HasRecord b.cases k
+  opened_told k q = subst (HasRecord b.cases) (some_is i k q) (told_now standing.3 turn (subst (HasDecided b.cases i) f d))
+
+module _ {plan : List Job} {n : ℕ} {fed : Fed} {b : SchedState} (h : Stands plan n fed b) (i : ℕ) (q : b.asked ≡ next.Put i) where
+  pub stored : Stands plan n (record fed { stored = fed.stored + 1 }) (record b { ready = None; asked = next.Done })
+  stored =
+      let a = asked_as h (next.Put i) q in
+      let f : has_failed fed ≡ false = sym h.puts.failed ∙ a.0 in
+      let xs = recorded plan n fed.trace in
+      let ys = positions (opened plan n fed.trace b.turn) in
+      let w = h.puts.ready f ∙ ap (λ o. listed o ++ ys) a.1 in
+      let g = slice_get-drop xs fed.stored ∙ ap (λ (zs : List ℕ). slice_get zs 0) w in
+      let e : drop (fed.stored + 1) xs ≡ ys = cc (sym (drop_at xs fed.stored i g) ∙ w) in
+      let l : fed.stored + 1 ≤ length xs = omega (arith, slice_get_within xs fed.stored i g) in
+      record {
+        cases = h.cases;
+        turn = h.turn;
+        puts = record { failed = h.puts.failed; stopped = λ g. refl; stored = l; gone = h.puts.gone; ready = λ g. e; ripe = λ k m x o. absurd (cc) };
+        told = λ k x y. absurd (cc);
+        asked = tt;
+      }
+
+  pub store_failed : Stands plan n (record fed { stopped = Some (event_count fed.trace) }) (record b { ready = None; asked = next.Done; failed = true })
+  store_failed = record {
+    cases = h.cases;
+    turn = h.turn;
+    puts =
+        record { failed = refl; stopped = λ g. refl; stored = h.puts.stored; gone = λ g. absurd (cc); ready = λ g. absurd (cc); ripe = λ k m x o. absurd (cc) };
+    told = λ k x y. absurd (cc);
+    asked = tt;
+  }

@@ -1,8 +1,8 @@
 -- what runs and what is owed after a trace, as a launcher shows it
-use Rattle.std.proofs.Common.{slice_get, Option, Some, None, if◌then◌else◌, ◌&&◌, ◌≡◌, ◌≢◌, ℕ, ◌⊎◌, ◌==◌, Bool, true, false, List, [], ◌∷◌, ◌++◌, refl, sym, ◌∙◌, ap, subst, inl, inr}
-use Rattle.kt_sched.proofs.Common.{option_map, Role, Body, Cleanup, Job, StartAnswer, Ended, Child, child_of, same_role, running_after_start, running_after_end, pending_after_end, with_cleanup_declared, Event, Start, End, Trace, Then, position_of, Mark, BodyStarted, BodyEnded, CleanupStarted, mark_of, end_mark, start_mark, history, owed, declares, is_owed, role_runs, runs}
+use Rattle.kt_sched.proofs.Common.{slice_get, Option, Some, None, if◌then◌else◌, ◌&&◌, ◌≡◌, ◌≢◌, ℕ, ◌⊎◌, ◌==◌, Bool, true, false, List, [], ◌∷◌, ◌++◌, refl, sym, ◌∙◌, ap, subst, inl, inr, option_map, Role, Body, Cleanup, Job, StartAnswer, Ended, Child, child_of, same_role, running_after_start, running_after_end, pending_after_end, with_cleanup_declared, Event, Start, End, Trace, Then, position_of, Mark, BodyStarted, BodyEnded, CleanupStarted, mark_of, end_mark, start_mark, history, owed, declares, is_owed, role_runs, runs}
 use Rattle.kt_sched.specs.declared.job.StartAnswer.TheVariants as told
-use Rattle.kt_sched.proofs.Steps.{same_is, other_is_not, history_same, history_other}
+use Rattle.kt_sched.proofs.Turns.{history_same, history_other}
+use Rattle.kt_sched.proofs.Lists.{same_is, other_is_not}
 
 -- the child at a position of a plan
 abbrev pub child_at : List Job → ℕ → Option Child

@@ -1,14 +1,6 @@
--- what a stage says of its case's history
-use Rattle.std.proofs.Common.{Some, None, is_none, is_some, map, not, ◌&&◌, ◌≡◌, ◌≢◌, ℕ, ◌<◌, Bool, true, false, List, [], ◌∷◌, refl, sym, ◌∙◌, ap, arith}
-use Rattle.kt_sched.proofs.Common.{list_any, Role, Body, Cleanup, Job, Stage, Waiting, Decided, Running, Owing, Cleaning, Finished, Taken, EndedBody, Event, Mark, BodyStarted, BodyEnded, CleanupStarted, mark_of, is_whole, is_body_started, role_runs, stage_runs, IsStage, body_in, since, is_active_stage, is_owing_stage, is_fresh, is_decided_stage, stage_work}
-use Rattle.kt_sched.proofs.Lists.{some_is, and_not}
-
--- whether a stage's history is whole
-abbrev pub is_over : Stage → Bool
-is_over Decided = true
-is_over (Finished t) = true
-is_over Taken = true
-is_over _ = false
+-- what a stage says of its case's history, and how it moves on by an event
+use Rattle.kt_sched.proofs.Common.{false_from_ne_true, and_right, not, None, is_none, is_some, map, not, ◌&&◌, ◌≡◌, ◌≢◌, ℕ, Bool, true, false, List, [], ◌∷◌, refl, sym, ◌∙◌, ap, list_any, Role, Body, Cleanup, Job, Stage, Waiting, Decided, Running, Owing, Cleaning, Finished, Taken, EndedBody, Event, Mark, BodyStarted, BodyEnded, CleanupStarted, mark_of, is_whole, is_body_started, role_runs, stage_runs, IsStage, is_over, is_active_stage, is_owing_stage, is_fresh, is_decided_stage, slice_get, Option, Some, ◌<◌, ◌⊎◌, ◌-◌, ◌++◌, subst, arith, inl, inr, and_from, CleanupRefused, end_mark, CaseRecord, ended_body, Start, End, Trace, Then, position_of, body_start_of, no_output, IsEntry, ended, refused, uncleaned, cleaned, IsAfter, declares, owed, owing_at, entry_with, record_of, stage_work}
+use Rattle.kt_sched.specs.declared.job.StartAnswer.TheVariants as told
 
 abbrev pub marks_active : Job → List Mark → Bool
 marks_active job w = list_any is_body_started w && not (is_whole job w)
@@ -36,15 +28,18 @@ over_idle (Owing b) e = absurd (cc)
 over_idle (Cleaning b) e = absurd (cc)
 over_idle stage e = refl
 
-pub inactive_quiet : (r : Role) (stage : Stage) → is_active_stage stage ≡ false → stage_runs r stage ≡ false
-inactive_quiet Body (Running m) e = absurd (cc)
-inactive_quiet Cleanup (Cleaning b) e = absurd (cc)
-inactive_quiet r stage e = refl
+pub runs_active : (r : Role) (stage : Stage) → stage_runs r stage ≡ true → is_active_stage stage ≡ true
+runs_active Body (Running m) e = refl
+runs_active Cleanup (Cleaning b) e = refl
+runs_active r stage e = absurd (cc)
+
+inactive_quiet : (r : Role) (stage : Stage) → is_active_stage stage ≡ false → stage_runs r stage ≡ false
+inactive_quiet r stage e = false_from_ne_true (stage_runs r stage) (λ v. cc (runs_active r stage v, e))
 
 over_says : (job : Job) (stage : Stage) (w : List Mark) → is_whole job w ≡ true → is_over stage ≡ true → Says job stage w
 over_says job stage w h o = record {
   whole = h ∙ sym o;
-  active = and_not (list_any is_body_started w) (is_whole job w) h ∙ sym (over_idle stage o);
+  active = and_right (list_any is_body_started w) (not (is_whole job w)) (ap not h) ∙ sym (over_idle stage o);
   runs = λ r. whole_quiet job r w h ∙ sym (inactive_quiet r stage (over_idle stage o));
 }
 
@@ -53,7 +48,7 @@ says i job Waiting es h = rw h.0 (record { whole = ap is_some h.1; active = refl
 says i job Decided es h = rw h.0 (over_says job Decided [] h.1 refl)
 says i job (Running m) es h = rw h.0 (record { whole = refl; active = refl; runs = by_role (BodyStarted ∷ []) (Running m) refl refl })
 says i job (Owing b) es h =
-    let w = and_not (is_none job.decided) job.cleanup h.3 in
+    let w = and_right (is_none job.decided) (not job.cleanup) (ap not h.3) in
     rw (h.1, h.2) (record { whole = w; active = ap not w; runs = by_role (BodyStarted ∷ BodyEnded ∷ []) (Owing b) refl refl })
 says i job (Cleaning b) es h =
     rw (h.2, h.3) (record { whole = refl; active = refl; runs = by_role (BodyStarted ∷ BodyEnded ∷ CleanupStarted ∷ []) (Cleaning b) refl refl })
@@ -90,18 +85,6 @@ over_stage (Owing b) w e = absurd (cc)
 over_stage (Cleaning b) w e = absurd (cc)
 over_stage stage w e = refl
 
-pub active_begun : (stage : Stage) → is_active_stage stage ≡ true → (is_fresh stage ≡ false) × (is_over stage ≡ false) × (stage ≢ Taken)
-active_begun (Running m) e = (refl, refl, λ t. absurd (cc))
-active_begun (Owing b) e = (refl, refl, λ t. absurd (cc))
-active_begun (Cleaning b) e = (refl, refl, λ t. absurd (cc))
-active_begun stage e = absurd (cc)
-
-pub active_works : (stage : Stage) → is_active_stage stage ≡ true → 1 < stage_work stage
-active_works (Running m) e = omega arith
-active_works (Owing b) e = omega arith
-active_works (Cleaning b) e = omega arith
-active_works stage e = absurd (cc)
-
 -- an active case owes its cleanup or runs
 pub active_runs : (stage : Stage) → is_active_stage stage ≡ true → is_owing_stage stage ≡ false → (r : Role) × (stage_runs r stage ≡ true)
 active_runs (Running m) e o = (Body, refl)
@@ -112,18 +95,102 @@ pub owing_stage : (stage : Stage) → is_owing_stage stage ≡ true → (o : End
 owing_stage (Owing b) e = (b, refl)
 owing_stage stage e = absurd (cc)
 
-pub owing_body : (stage : Stage) (body : EndedBody) → is_owing_stage stage ≡ true → body_in stage ≡ Some body → stage ≡ Owing body
-owing_body (Owing o) body e f = ap Owing (some_is o body f)
-owing_body stage body e f = absurd (cc)
+pub active_begun : (stage : Stage) → is_active_stage stage ≡ true → is_fresh stage ≡ false
+active_begun (Running m) e = refl
+active_begun (Owing b) e = refl
+active_begun (Cleaning b) e = refl
+active_begun stage e = absurd (cc)
 
-pub cleaning_body : (stage : Stage) (body : EndedBody) → stage_runs Cleanup stage ≡ true → body_in stage ≡ Some body → stage ≡ Cleaning body
-cleaning_body (Cleaning o) body e f = ap Cleaning (some_is o body f)
-cleaning_body stage body e f = absurd (cc)
+-- a case that moves on wasn't over; it waited or was active, and then it does not wait
+pub record Moves (was : Stage) (e : Event) (now : Stage) : Type 0 where
+  pub fresh : is_over was ≡ false
+  pub works : stage_work now < stage_work was
+  pub begins : is_fresh now ≡ false
+  pub told : is_over now ≡ true → (t : CaseRecord) × (now ≡ Finished t)
+  pub kind : ((is_fresh was ≡ true) × (body_start_of e ≡ position_of e ∷ [])) ⊎ ((is_active_stage was ≡ true) × (body_start_of e ≡ []))
 
-pub running_stage : (stage : Stage) (m : ℕ) → since stage ≡ Some m → stage ≡ Running m
-running_stage (Running k) m e = ap Running (some_is k m e)
-running_stage stage m e = absurd (cc)
+pub moves : (cleanup : Bool) (was : Stage) (e : Event) (now : Stage) → IsAfter cleanup was e now → Moves was e now
+moves c Waiting (Start i Body (told.Started m)) (Running k) h =
+    record { fresh = refl; works = omega arith; begins = refl; told = λ y. absurd (cc); kind = inl (refl, refl) }
+moves c Waiting (Start i Body (told.Refused x)) (Finished t) h =
+    record { fresh = refl; works = omega arith; begins = refl; told = λ y. (t, refl); kind = inl (refl, refl) }
+moves c (Owing b) (Start i Cleanup (told.Started m)) (Cleaning x) h =
+    record { fresh = refl; works = omega arith; begins = refl; told = λ y. absurd (cc); kind = inr (refl, refl) }
+moves c (Owing b) (Start i Cleanup (told.Refused x)) (Finished t) h =
+    record { fresh = refl; works = omega arith; begins = refl; told = λ y. (t, refl); kind = inr (refl, refl) }
+moves c (Running m) (End e) (Owing b) h =
+    record { fresh = refl; works = omega arith; begins = refl; told = λ y. absurd (cc); kind = inr (refl, refl) }
+moves c (Running m) (End e) (Finished t) h =
+    record { fresh = refl; works = omega arith; begins = refl; told = λ y. (t, refl); kind = inr (refl, refl) }
+moves c (Cleaning b) (End e) (Finished t) h =
+    record { fresh = refl; works = omega arith; begins = refl; told = λ y. (t, refl); kind = inr (refl, refl) }
+moves c was e now h = absurd h
 
-pub body_since : (stage : Stage) → stage_runs Body stage ≡ true → (m : ℕ) × (since stage ≡ Some m)
-body_since (Running m) e = (m, refl)
-body_since stage e = absurd (cc)
+body_runs : (r : Role) (m : ℕ) → stage_runs r (Running m) ≡ true → r ≡ Body
+body_runs Body m h = refl
+body_runs Cleanup m h = absurd (cc)
+
+cleanup_runs : (r : Role) (b : EndedBody) → stage_runs r (Cleaning b) ≡ true → r ≡ Cleanup
+cleanup_runs Body b h = absurd (cc)
+cleanup_runs Cleanup b h = refl
+
+declares_is : (plan : List Job) (i : ℕ) (job : Job) → slice_get plan i ≡ Some job → declares plan i ≡ job.cleanup
+declares_is plan i job g = ap (λ (o : Option Job). elim o as (λ _. Bool) [ None ↦ false | Some j ↦ j.cleanup ]) g
+
+-- what is owed after an event is what its case owes
+pub owed_moves : (plan : List Job) (T : Trace) (job : Job) (was : Stage) (e : Event) (now : Stage) → slice_get plan (position_of e) ≡ Some job
+    → IsAfter job.cleanup was e now → owed plan (Then T e) ≡ owing_at now (position_of e)
+owed_moves plan T job Waiting (Start i Body (told.Started m)) (Running k) g h = refl
+owed_moves plan T job Waiting (Start i Body (told.Refused x)) (Finished t) g h = refl
+owed_moves plan T job (Owing b) (Start i Cleanup (told.Started m)) (Cleaning x) g h = refl
+owed_moves plan T job (Owing b) (Start i Cleanup (told.Refused x)) (Finished t) g h = refl
+owed_moves plan T job (Running m) (End e) (Owing b) g h = rw (body_runs e.role m h.0, declares_is plan e.position job g, h.1) refl
+owed_moves plan T job (Running m) (End e) (Finished t) g h = rw (body_runs e.role m h.0, declares_is plan e.position job g, h.1) refl
+owed_moves plan T job (Cleaning b) (End e) (Finished t) g h = rw (cleanup_runs e.role b h.0) refl
+owed_moves plan T job was e now g h = absurd h
+
+-- and the stage stands for one event more
+pub stage_moves : (job : Job) (was : Stage) (e : Event) (now : Stage) (es : List Event) → IsStage (position_of e) job was es → IsAfter job.cleanup was e now
+    → IsStage (position_of e) job now (es ++ e ∷ [])
+stage_moves job Waiting (Start i Body (told.Started m)) (Running k) es s h = (rw (s.0, h) refl, s.1)
+stage_moves job Waiting (Start i Body (told.Refused c)) (Finished t) es s h =
+    let P : CaseRecord → Type 0 = λ x. IsEntry job (Start i Body (told.Refused c) ∷ []) (entry_with job x) in
+    rw s.0 (ap is_none s.1, subst P (sym h.1) (refused i c t.verdict h.0))
+stage_moves job (Owing b) (Start i Cleanup (told.Started m)) (Cleaning x) es s h =
+    let e = Start i Cleanup (told.Started m) in
+    subst (λ (y : EndedBody). IsStage i job (Cleaning y) (es ++ e ∷ [])) (sym h)
+    (s.0, m, ap (λ (es : List Event). es ++ e ∷ []) s.1, s.2, s.3, s.4, s.5, s.6)
+stage_moves job (Owing b) (Start i Cleanup (told.Refused c)) (Finished t) es s h =
+    let of_end = λ (x : EndedBody). record_of t.verdict (record { started = b.started; ended = x.ended; verdict = x.verdict; output = x.output })
+    x.ended no_output in
+    let es = Start i Body (told.Started b.started) ∷ End s.0 ∷ Start i Cleanup (told.Refused c) ∷ [] in
+    let P : CaseRecord → Type 0 = λ x. IsEntry job es (entry_with job x) in
+    rw s.1 (
+      ap (λ x. is_whole job (BodyStarted ∷ end_mark x ∷ CleanupRefused ∷ [])) s.2 ∙ and_from _ _ (ap is_none s.6) s.3,
+      subst P (sym (h.1 ∙ ap of_end s.5)) (uncleaned i b.started s.0 i c b.verdict t.verdict s.4 h.0),
+    )
+stage_moves job (Running m) (End e) (Owing b) es s h =
+    let i = e.position in
+    let same : m ≡ b.started = ap (λ (y : EndedBody). y.started) (sym h.3) in
+    let ends = ap (λ (es : List Event). es ++ End e ∷ []) s.0 ∙ ap (λ y. Start i Body (told.Started y) ∷ End e ∷ []) same in
+    (e, ends, body_runs e.role m h.0, h.1, h.2, h.3 ∙ ap (λ y. ended_body b.verdict y e) same, s.1)
+stage_moves job (Running m) (End e) (Finished t) es s h =
+    let i = e.position in
+    let P : CaseRecord → Type 0 = λ x. IsEntry job (Start i Body (told.Started m) ∷ End e ∷ []) (entry_with job x) in
+    rw s.0 (
+      ap (λ x. is_whole job (BodyStarted ∷ end_mark x ∷ [])) (body_runs e.role m h.0) ∙ and_from _ _ (ap is_none s.1) (ap not h.1),
+      subst P (sym h.3) (ended i m e t.verdict h.2),
+    )
+stage_moves job (Cleaning b) (End f) (Finished t) es s h =
+    let i = f.position in
+    let of_end : EndedBody → CaseRecord =
+    λ y. record { verdict = t.verdict; started = b.started; millis = f.moment - b.started; body = y.output; cleanup = f.output } in
+    let P : CaseRecord → Type 0 = λ y. IsEntry job (Start i Body (told.Started b.started) ∷ End s.0 ∷ Start i Cleanup (told.Started s.1) ∷ End f ∷ [])
+    (entry_with job y) in
+    rw s.2 (
+      ap (λ y. is_whole job (BodyStarted ∷ end_mark y ∷ CleanupStarted ∷ end_mark f.role ∷ [])) s.3
+          ∙ ap (λ y. is_whole job (BodyStarted ∷ BodyEnded ∷ CleanupStarted ∷ end_mark y ∷ [])) (cleanup_runs f.role b h.0)
+          ∙ and_from _ _ (ap is_none s.7) s.4,
+      subst P (sym (h.2 ∙ ap of_end s.6)) (cleaned i b.started s.0 i s.1 f b.verdict t.verdict s.5 h.1),
+    )
+stage_moves job was e now es s h = absurd h

@@ -1,76 +1,35 @@
--- the turn order: every case once, exclusive ones last
-use Rattle.std.proofs.Common.{slice_get, filter, Some, not, ◌≡◌, ℕ, zero, suc, ◌+◌, ◌≤◌, ◌⊎◌, Bool, true, false, List, [], ◌∷◌, length, refl, sym, ◌∙◌, ap, arith, inl, inr}
-use Rattle.kt_sched.proofs.Common.{slice_get_within, Job, turns}
-pub use Rattle.kt_sched.proofs.Lists.{append_left, append_right, filter_at, filter_in, in_append, pick, some_is}
-
--- no two elements have one key
-abbrev pub Distinct : {X : Type 0} → (X → ℕ) → List X → Type 0
-Distinct {X} key xs = (i j : ℕ) (a b : X) → slice_get xs i ≡ Some a → slice_get xs j ≡ Some b → key a ≡ key b → i ≡ j
-
-pub tail_distinct : {X : Type 0} (key : X → ℕ) (x : X) (xs : List X) → Distinct key (x ∷ xs) → Distinct key xs
-tail_distinct key x xs d i j a b g h e = let q : suc i ≡ suc j = d (suc i) (suc j) a b g h e in omega (arith, q)
-
-pub filter_distinct : {X : Type 0} (p : X → Bool) (key : X → ℕ) (xs : List X) → Distinct key xs → Distinct key (filter p xs)
-filter_distinct p key [] d i j a b g h e = absurd (cc)
-filter_distinct {X} p key (x ∷ xs) d i j a b g h e = here (p x) i j g h (filter_distinct p key xs (tail_distinct key x xs d))
-  where
-    apart : (m : ℕ) (c o : X) → x ≡ c → slice_get (filter p xs) m ≡ Some o → key c ≡ key o → ⊥
-    apart m c o q r s =
-        let w = filter_in p xs m o r in
-        let z : 0 ≡ suc w.0 = d 0 (suc w.0) x o refl w.1 (ap key q ∙ s) in
-        absurd (omega (arith, z))
-
-    here : (t : Bool) → (m l : ℕ) → slice_get (pick t x (filter p xs)) m ≡ Some a → slice_get (pick t x (filter p xs)) l ≡ Some b → Distinct key (filter p xs)
-        → m ≡ l
-    here true zero zero r s rest = refl
-    here true zero (suc l) r s rest = absurd (apart l a b (some_is x a r) s e)
-    here true (suc m) zero r s rest = absurd (apart m b a (some_is x b s) r (sym e))
-    here true (suc m) (suc l) r s rest = ap suc (rest m l a b r s e)
-    here false m l r s rest = rest m l a b r s e
+-- the turn order, which has every case once and exclusive ones last, and one event more
+use Rattle.kt_sched.proofs.Common.{nat_tests, slice_get, count_by, filter, Some, not, ◌==◌, ◌≡◌, ◌≢◌, ℕ, ◌+◌, ◌<◌, ◌≤◌, Bool, true, false, cond, List, length, refl, ◌∙◌, ap, arith, inl, inr, false_from_ne_true, sum_by-filter_both, cases_eq, slice_get_within, Job, turns, None, is_none, map, ◌&&◌, [], ◌∷◌, ◌++◌, sym, and-true, map-append, Event, Trace, Then, position_of, of, event_count, mark_of, history, is_whole, has_whole_history, Due, dues, put_at, finished_by, is_open, was_open, recorded, IsPlan, positions}
+use Rattle.kt_sched.proofs.Lists.{counted_one, counted_some, count_by-append, counted_only, counted_two, filter_in, in_append, other_is_not, same_is, pick, filter_only}
 
 -- each case stands at its position
 abbrev pub Placed : List Job → Type 0
 Placed plan = (i : ℕ) (job : Job) → slice_get plan i ≡ Some job → job.position ≡ i
 
-abbrev is_ordinary : Job → Bool
-is_ordinary job = not job.exclusive
+abbrev ordinary : List Job → List Job
+ordinary plan = filter (λ (job : Job). not job.exclusive) plan
 
-abbrev is_lonely : Job → Bool
-is_lonely job = job.exclusive
+abbrev lonely : List Job → List Job
+lonely plan = filter (λ (job : Job). job.exclusive) plan
 
--- where a case stands in the turn order: among the ordinary ones, or after them among the exclusive ones
+-- a case of the turn order stands in the plan, among the ordinary ones or after them
 data Where (plan : List Job) (k : ℕ) (job : Job) : Type 0 where
-  early : slice_get (filter is_ordinary plan) k ≡ Some job → job.exclusive ≡ false → ((i : ℕ) × (slice_get plan i ≡ Some job)) → Where plan k job
-  late : (m : ℕ) → k ≡ length (filter is_ordinary plan) + m → slice_get (filter is_lonely plan) m ≡ Some job → job.exclusive ≡ true
-      → ((i : ℕ) × (slice_get plan i ≡ Some job)) → Where plan k job
+  early : k < length (ordinary plan) → job.exclusive ≡ false → ((i : ℕ) × (slice_get plan i ≡ Some job)) → Where plan k job
+  late : length (ordinary plan) ≤ k → job.exclusive ≡ true → ((i : ℕ) × (slice_get plan i ≡ Some job)) → Where plan k job
 
 place_in : (plan : List Job) (k : ℕ) (job : Job) → slice_get (turns plan) k ≡ Some job → Where plan k job
-place_in plan k job g = by (in_append (filter is_ordinary plan) (filter is_lonely plan) k job g)
-  where
-    not_true : (b : Bool) → not b ≡ true → b ≡ false
-    not_true true e = absurd (cc)
-    not_true false e = refl
-
-    by : (slice_get (filter is_ordinary plan) k ≡ Some job)
-        ⊎ ((m : ℕ) × (k ≡ length (filter is_ordinary plan) + m) × (slice_get (filter is_lonely plan) m ≡ Some job)) → Where plan k job
-    by (inl x) = let w = filter_in is_ordinary plan k job x in early x (not_true job.exclusive w.2) (w.0, w.1)
-    by (inr x) = let w = filter_in is_lonely plan x.0 job x.2 in late x.0 x.1 x.2 w.2 (w.0, w.1)
+place_in plan k job g = elim (in_append (ordinary plan) (lonely plan) k job g) [
+  | inl x ↦ let w = filter_in (λ (job : Job). not job.exclusive) plan k job x in
+      early (slice_get_within (ordinary plan) k job x) (false_from_ne_true job.exclusive (λ e. cc (ap not e, w.2))) (w.0, w.1)
+  | inr x ↦ let w = filter_in (λ (job : Job). job.exclusive) plan x.0 job x.2 in late (omega (arith, x.1)) w.2 (w.0, w.1)
+]
 
 pub turn_inside : (plan : List Job) → Placed plan → (k : ℕ) (job : Job) → slice_get (turns plan) k ≡ Some job → slice_get plan job.position ≡ Some job
 turn_inside plan h k job g = by (place_in plan k job g)
   where
     by : Where plan k job → slice_get plan job.position ≡ Some job
-    by (early x e w) = ap (slice_get plan) (h w.0 job w.1) ∙ w.1
-    by (late m q x e w) = ap (slice_get plan) (h w.0 job w.1) ∙ w.1
-
-pub turn_covers : (plan : List Job) (i : ℕ) (job : Job) → slice_get plan i ≡ Some job → (k : ℕ) × (slice_get (turns plan) k ≡ Some job)
-turn_covers plan i job g = by job.exclusive refl
-  where
-    by : (b : Bool) → job.exclusive ≡ b → (k : ℕ) × (slice_get (turns plan) k ≡ Some job)
-    by false e = let w = filter_at is_ordinary plan i job g (ap not e) in (w.0, append_left (filter is_ordinary plan) (filter is_lonely plan) w.0 job w.1)
-    by true e =
-        let w = filter_at is_lonely plan i job g e in
-        (length (filter is_ordinary plan) + w.0, append_right (filter is_ordinary plan) (filter is_lonely plan) w.0 job w.1)
+    by (early l e w) = ap (slice_get plan) (h w.0 job w.1) ∙ w.1
+    by (late l e w) = ap (slice_get plan) (h w.0 job w.1) ∙ w.1
 
 -- where an exclusive case stands, only exclusive ones follow
 pub turn_sorted : (plan : List Job) (k l : ℕ) (a b : Job) → slice_get (turns plan) k ≡ Some a → slice_get (turns plan) l ≡ Some b → k ≤ l → a.exclusive ≡ true
@@ -79,20 +38,97 @@ turn_sorted plan k l a b g h le e = by (place_in plan k a g) (place_in plan l b 
   where
     by : Where plan k a → Where plan l b → b.exclusive ≡ true
     by (early x f w) y = absurd (cc (e, f))
-    by (late m q x f w) (early y z v) = absurd (omega (arith, q, le, slice_get_within (filter is_ordinary plan) l b y))
-    by (late m q x f w) (late o r y z v) = z
+    by (late x f w) (early y z v) = absurd (omega (arith, x, y, le))
+    by (late x f w) (late y z v) = z
 
-pub turn_distinct : (plan : List Job) → Placed plan → Distinct (λ (job : Job). job.position) (turns plan)
-turn_distinct plan h k l a b g j e = by (place_in plan k a g) (place_in plan l b j)
+-- the turn order has each case of the plan once
+pub count_turns : (f : Job → Bool) (xs : List Job) → count_by f (turns xs) ≡ count_by f xs
+count_turns f xs =
+    let both : count_by f (lonely xs) + count_by f (ordinary xs) ≡ count_by f xs =
+    sum_by-filter_both (λ (job : Job). job.exclusive) (λ (job : Job). not job.exclusive) (λ x. refl) (λ x. cond (f x) 1 0) xs in
+    omega (arith, both, count_by-append f (ordinary xs) (lonely xs))
+
+pub turn_distinct : (plan : List Job) → Placed plan → (k l : ℕ) (a b : Job) → slice_get (turns plan) k ≡ Some a → slice_get (turns plan) l ≡ Some b
+    → a.position ≡ b.position → k ≡ l
+turn_distinct plan h k l a b g j e = elim (cases_eq k l) [ inl q ↦ q | inr d ↦ absurd (omega (arith, two d, count_turns f plan, one)) ]
   where
-    same : a.exclusive ≡ b.exclusive
-    same = ap (λ (x : Job). x.exclusive) (some_is a b (sym (turn_inside plan h k a g) ∙ (ap (slice_get plan) e ∙ turn_inside plan h l b j)))
+    f : Job → Bool
+    f job = job.position == b.position
 
-    once : Distinct (λ (job : Job). job.position) plan
-    once i j a b g k e = sym (h i a g) ∙ (e ∙ h j b k)
+    two : k ≢ l → 1 < count_by f (turns plan)
+    two d = counted_two f (turns plan) k l a b g (ap (λ i. i == b.position) e ∙ same_is b.position) j (same_is b.position) d
 
-    by : Where plan k a → Where plan l b → k ≡ l
-    by (early x f w) (early y z v) = filter_distinct is_ordinary (λ (job : Job). job.position) plan once k l a b x y e
-    by (early x f w) (late o r y z v) = absurd (cc (f, same, z))
-    by (late m q x f w) (early y z v) = absurd (cc (f, same, z))
-    by (late m q x f w) (late o r y z v) = let s = filter_distinct is_lonely (λ (job : Job). job.position) plan once m o a b x y e in omega (arith, s, q, r)
+    one : count_by f plan ≤ 1
+    one =
+        let place = turn_inside plan h l b j in
+        counted_only f plan b.position b place (λ i job g d. ap (λ k. k == b.position) (h i job g) ∙ other_is_not i b.position d)
+
+pub turn_covers : (plan : List Job) → Placed plan → (i : ℕ) (job : Job) → slice_get plan i ≡ Some job → (k : ℕ) × (slice_get (turns plan) k ≡ Some job)
+turn_covers plan h i job g =
+    let f = λ (x : Job). x.position == job.position in
+    let w = counted_some f (turns plan) (omega (arith, count_turns f plan, counted_one f plan i job g (same_is job.position))) in
+    let e : w.1.position ≡ job.position = grind (arith, nat_tests, w.3) in
+    (w.0, w.2 ∙ (sym (turn_inside plan h w.0 w.1 w.2) ∙ (ap (slice_get plan) (e ∙ h i job g) ∙ g)))
+
+-- the events of the case of an event, and of another
+pub of_same : (i : ℕ) (T : Trace) (e : Event) → position_of e ≡ i → of i (Then T e) ≡ of i T ++ e ∷ []
+of_same i T e h = rw (h, same_is i) refl
+
+pub of_other : (i k : ℕ) (T : Trace) (e : Event) → position_of e ≡ i → k ≢ i → of k (Then T e) ≡ of k T
+of_other i k T e h n = rw (h, other_is_not i k (λ q. n (sym q))) refl
+
+-- and their histories
+pub history_same : (i : ℕ) (T : Trace) (e : Event) → position_of e ≡ i → history i (Then T e) ≡ history i T ++ mark_of e ∷ []
+history_same i T e h = ap (map mark_of) (of_same i T e h) ∙ map-append mark_of (of i T) (e ∷ [])
+
+pub history_other : (i k : ℕ) (T : Trace) (e : Event) → position_of e ≡ i → k ≢ i → history k (Then T e) ≡ history k T
+history_other i k T e h n = ap (map mark_of) (of_other i k T e h n)
+
+pub put_at_positions : (k : ℕ) (jobs : List Job) → map (λ (p : Due). p.position) (put_at k jobs) ≡ positions jobs
+put_at_positions k [] = refl
+put_at_positions k (job ∷ jobs) = ap (λ xs. job.position ∷ xs) (put_at_positions k jobs)
+
+-- the decided cases that an event opens
+abbrev pub opens_now : List Job → ℕ → Trace → Event → Job → Bool
+opens_now plan n T e job = is_open plan n (Then T e) job && not (was_open plan n T job)
+
+-- the undecided case that it finishes
+abbrev pub finishes : Trace → Event → Job → Bool
+finishes T e job = job.position == position_of e && (is_none job.decided && (has_whole_history (Then T e) job && not (has_whole_history T job)))
+
+-- what an event adds to the record order
+pub recorded_more : (plan : List Job) (n : ℕ) (T : Trace) (e : Event)
+    → recorded plan n (Then T e) ≡ recorded plan n T ++ (positions (finished_by plan T e) ++ positions (filter (opens_now plan n T e) (turns plan)))
+recorded_more plan n T e =
+    let k = event_count (Then T e) in
+    let xs = finished_by plan T e in
+    let ys = filter (opens_now plan n T e) (turns plan) in
+    let f = λ (p : Due). p.position in
+    map-append f (dues plan n T) (put_at k xs ++ put_at k ys)
+    ∙ ap (λ zs. recorded plan n T ++ zs) (map-append f (put_at k xs) (put_at k ys)
+    ∙ (ap (λ zs. zs ++ map f (put_at k ys)) (put_at_positions k xs) ∙ ap (λ zs. positions xs ++ zs) (put_at_positions k ys)))
+
+-- the undecided case that an event finishes, if it does
+pub finished_is : {plan : List Job} (T : Trace) (e : Event) {job : Job} (b : Bool) → IsPlan plan → job.decided ≡ None
+    → slice_get plan (position_of e) ≡ Some job
+    → is_whole job (history (position_of e) T) ≡ false → is_whole job (history (position_of e) (Then T e)) ≡ b
+    → positions (finished_by plan T e) ≡ pick b (position_of e) []
+finished_is {plan} T e {job} b h d g w v =
+    ap positions (filter_only (finishes T e) plan i job g (λ k j q n. rw (h.placed k j q, other_is_not k i n) refl) ∙ ap (λ c. pick c job []) does) ∙ placed b
+  where
+    i : ℕ
+    i = position_of e
+
+    all_of : (x y v u : Bool) → x ≡ true → y ≡ true → u ≡ false → (x && (y && (v && not u))) ≡ v
+    all_of x y v u p q r = rw (p, q, r) (and-true v)
+
+    does : finishes T e job ≡ b
+    does =
+        let here = ap (λ k. k == i) (h.placed i job g) ∙ same_is i in
+        let unfinished = ap (λ k. is_whole job (history k T)) (h.placed i job g) ∙ w in
+        all_of (job.position == i) (is_none job.decided) (has_whole_history (Then T e) job) (has_whole_history T job) here (ap is_none d) unfinished
+        ∙ (ap (λ k. is_whole job (history k (Then T e))) (h.placed i job g) ∙ v)
+
+    placed : (c : Bool) → positions (pick c job []) ≡ pick c i []
+    placed true = ap (λ k. k ∷ []) (h.placed i job g)
+    placed false = refl

@@ -1,10 +1,9 @@
--- the case whose turn it is, and the next body in turn order
-use Rattle.std.proofs.Common.{slice_get, Some, None, take, drop, filter, is_none, ◌≡◌, ℕ, ◌+◌, Bool, true, List, [], ◌∷◌, ◌++◌, length, refl, sym, ◌∙◌, ap, subst, arith}
-use Rattle.std.proofs.lemmas.List.{length-map}
-use Rattle.kt_sched.proofs.Common.{take-append-drop, filter-append, Job, Stage, Waiting, Case, of, turns, body_starts, undecided_turns, next_to_start, Fed, SchedState, Stands, IsStage, is_fresh, is_decided_stage, HasTurn, IsSettled, is_undecided}
-use Rattle.kt_sched.proofs.Lists.{some_is, filter_in, get_drop, slice_get-drop}
-use Rattle.kt_sched.proofs.Stages.{waiting_stage}
-use Rattle.kt_sched.proofs.Located.{turn_at}
+-- the case whose turn it is, the next body in turn order, and exclusive cases, which run alone
+use Rattle.kt_sched.proofs.Common.{slice_get, Some, None, take, drop, filter, is_none, ◌≡◌, ℕ, ◌+◌, Bool, true, List, [], ◌∷◌, ◌++◌, length, refl, sym, ◌∙◌, ap, subst, arith, take-append_seam, length-map, take-append-drop, filter-append, Job, Stage, Waiting, Case, of, turns, body_starts, undecided_turns, next_to_start, Fed, SchedState, Stands, IsStage, is_fresh, is_decided_stage, HasTurn, IsSettled, Order, positions, is_undecided, ◌||◌, ◌<◌, ◌⊎◌, false, inl, inr, cases_Bool, or_left, or_right, cases_lt, cases_eq, Body, Cleanup, has_whole_history, owed, IsQuiet, AloneAtStart, IsOrdinary, is_active_stage}
+use Rattle.kt_sched.proofs.Lists.{some_is, filter_in, get_drop, slice_get-drop, counted_two, list_all_from}
+use Rattle.kt_sched.proofs.Stages.{waiting_stage, fresh_inactive, over_stage}
+use Rattle.kt_sched.proofs.Located.{turn_at, at_turn, active_is, inactive, owes, says_at}
+use Rattle.kt_sched.proofs.Turns.{turn_covers, turn_sorted}
 
 get_at_end : {X : Type 0} (xs ys : List X) → slice_get (xs ++ ys) (length xs) ≡ slice_get ys 0
 get_at_end [] ys = refl
@@ -27,15 +26,28 @@ pub record Upcoming (plan : List Job) (fed : Fed) (b : SchedState) (i : ℕ) : T
   pub waits : case.stage ≡ Waiting
 
 module _ {plan : List Job} {n : ℕ} {fed : Fed} {b : SchedState} (h : Stands plan n fed b) where
+  abbrev begun : List Job
+  begun = filter is_undecided (take b.turn (turns plan))
+
+  abbrev left : List Job
+  left = filter is_undecided (drop b.turn (turns plan))
+
+  as_many : length (body_starts fed.trace) ≡ length begun
+  as_many = ap (λ (zs : List ℕ). length zs) h.turn.starts ∙ length-map begun (λ (job : Job). job.position)
+
+  in_parts : undecided_turns plan ≡ begun ++ left
+  in_parts =
+      ap (filter is_undecided) (sym (take-append-drop b.turn (turns plan))) ∙ filter-append is_undecided (take b.turn (turns plan)) (drop b.turn (turns plan))
+
+  -- the bodies start in turn order
+  pub in_order : Order plan fed.trace
+  in_order =
+      h.turn.starts
+      ∙ ap positions (sym (ap (λ k. take k (undecided_turns plan)) as_many ∙ (ap (take (length begun)) in_parts ∙ take-append_seam begun left)))
+
   -- the next body to start is that of the first undecided case from the turn on
-  pub next_is : next_to_start plan fed.trace ≡ slice_get (filter is_undecided (drop b.turn (turns plan))) 0
-  next_is =
-      let xs = filter is_undecided (take b.turn (turns plan)) in
-      let ys = filter is_undecided (drop b.turn (turns plan)) in
-      let l : length (body_starts fed.trace) ≡ length xs = ap (λ (zs : List ℕ). length zs) h.turn.starts ∙ length-map xs (λ (job : Job). job.position) in
-      let s : undecided_turns plan ≡ xs ++ ys = ap (filter is_undecided) (sym (take-append-drop b.turn (turns plan)))
-      ∙ filter-append is_undecided (take b.turn (turns plan)) (drop b.turn (turns plan)) in
-      ap (slice_get (undecided_turns plan)) l ∙ (ap (λ (zs : List Job). slice_get zs (length xs)) s ∙ get_at_end xs ys)
+  pub next_is : next_to_start plan fed.trace ≡ slice_get left 0
+  next_is = ap (slice_get (undecided_turns plan)) as_many ∙ (ap (λ (zs : List Job). slice_get zs (length begun)) in_parts ∙ get_at_end begun left)
 
   pub next_at : (job : Job) → slice_get (turns plan) b.turn ≡ Some job → job.decided ≡ None → next_to_start plan fed.trace ≡ Some job
   next_at job g d = next_is ∙ first_of_filter is_undecided (drop b.turn (turns plan)) job (sym (slice_get-drop (turns plan) b.turn) ∙ g) (ap is_none d)
@@ -58,7 +70,78 @@ module _ {plan : List Job} {n : ℕ} {fed : Fed} {b : SchedState} (h : Stands pl
       let d = s r i t in
       let w = h.cases.each i u.job u.place in
       let e : w.case ≡ d.0 = some_is _ _ (sym w.found ∙ d.1) in
-      let z = waiting_stage w.case.stage (h.turn.waiting b.turn i w.case t.1 w.found (omega arith)) (ap (λ (c : Case). is_decided_stage c.stage) e ∙ d.2) in
+      let z = waiting_stage w.case.stage ((h.turn.met b.turn i w.case t.1 w.found).0 (omega arith)) (ap (λ (c : Case). is_decided_stage c.stage) e ∙ d.2) in
       let P : Stage → Type 0 = λ x. IsStage i u.job x (of i fed.trace) in
       let q = subst P z w.stage in
       record { job = u.job; turn = u.turn; at = u.at; place = u.place; undecided = q.1; empty = q.0; case = w.case; found = w.found; waits = z }
+
+  -- each case of the plan has its place in the order
+  pub covers : (k : ℕ) (j : Job) → slice_get plan k ≡ Some j → (m : ℕ) × (slice_get (turns plan) m ≡ Some j) × (slice_get b.order m ≡ Some k)
+  covers k j g = let c = turn_covers plan h.cases.is_plan.placed k j g in (c.0, c.1, at_turn h c.0 j c.1 ∙ ap Some (h.cases.is_plan.placed k j g))
+
+  -- where nothing is active, a case that was begun has a whole history
+  begun_whole : b.active ≡ 0 → (i k : ℕ) (job : Job) → slice_get plan i ≡ Some job → slice_get b.order k ≡ Some i → k < b.turn
+      → has_whole_history fed.trace job ≡ true
+  begun_whole a i k job g o l =
+      let s = h.cases.each i job g in
+      (says_at h i job g).whole ∙ over_stage s.case.stage ((h.turn.met k i s.case o s.found).1 l) (inactive h i s.case a s.found)
+
+  -- ordinary cases stand before exclusive ones
+  earlier : (k l : ℕ) (x y : Job) → slice_get (turns plan) k ≡ Some x → slice_get (turns plan) l ≡ Some y → x.exclusive ≡ true → y.exclusive ≡ false → l < k
+  earlier k l x y g d e f = elim (cases_lt l k) [ inl z ↦ z | inr z ↦ absurd (cc (turn_sorted plan k l x y g d z e, f)) ]
+
+  -- the case whose turn it is, if it may start
+  module _ {i : ℕ} {job : Job} (o : slice_get b.order b.turn ≡ Some i) (g : slice_get plan i ≡ Some job) where
+    turn_is : slice_get (turns plan) b.turn ≡ Some job
+    turn_is = let t = turn_at h b.turn i o in t.turn ∙ (sym t.place ∙ g)
+
+    quiet_start : job.exclusive ≡ true → b.active ≡ 0 → IsQuiet plan fed.trace
+    quiet_start e a = (
+      active_is h ∙ a,
+      list_all_from (λ (j : Job). j.exclusive || has_whole_history fed.trace j) plan (λ k j x.
+          elim (cases_Bool j.exclusive) [
+            | inl q ↦ or_left _ _ q
+            | inr q ↦ let c = covers k j x in or_right _ _ (begun_whole a k c.0 j x c.2 (earlier b.turn c.0 job j turn_is c.1 e q))
+          ]),
+    )
+
+    -- the job that may start beside others is ordinary
+    turn_ordinary : IsOrdinary b.cases i → job.exclusive ≡ false
+    turn_ordinary x = ap (λ (j : Job). j.exclusive) (sym (job_kept i job x.0 g x.1 ((h.turn.met b.turn i x.0 o x.1).0 (omega arith)))) ∙ x.2
+
+    -- where a body may start, no exclusive case is active
+    pub no_exclusive_active : (b.active ≡ 0 ⊎ IsOrdinary b.cases i) → (k : ℕ) (j : Job) (c : Case)
+        → slice_get plan k ≡ Some j → slice_get b.cases k ≡ Some c → j.exclusive ≡ true → is_active_stage c.stage ≡ true → ⊥
+    no_exclusive_active (inl a) k j c x y e v = absurd (cc (inactive h k c a y, v))
+    no_exclusive_active (inr w) k j c x y e v =
+        let u = covers k j x in
+        let r = earlier u.0 b.turn j job u.1 turn_is e (turn_ordinary w) in
+        absurd (cc (fresh_inactive c.stage ((h.turn.met u.0 k c u.2 y).0 (omega (arith, r))), v))
+
+    -- an exclusive body that may start finds no active case
+    pub exclusive_needs_none : (b.active ≡ 0 ⊎ IsOrdinary b.cases i) → job.exclusive ≡ true → b.active ≡ 0
+    exclusive_needs_none (inl a) e = a
+    exclusive_needs_none (inr w) e = absurd (cc (turn_ordinary w, e))
+
+  pub alone_body : (i : ℕ) → slice_get b.order b.turn ≡ Some i → (b.active ≡ 0 ⊎ IsOrdinary b.cases i) → AloneAtStart plan fed.trace i Body
+  alone_body i o w = record {
+    quiet = λ job g e r. quiet_start o g e (exclusive_needs_none o g w e);
+    own = λ job k g e a.
+        let t = turn_at h b.turn i o in
+        let s = h.cases.each k job g in
+        absurd (no_exclusive_active o t.place w k job s.case g s.found e (sym (says_at h k job g).active ∙ a));
+  }
+
+  pub alone_cleanup : (i : ℕ) → owed plan fed.trace ≡ Some i → AloneAtStart plan fed.trace i Cleanup
+  alone_cleanup i o = record {
+    quiet = λ job g e r. absurd (cc (r));
+    own = λ job k g e a.
+        let s = h.cases.each k job g in
+        let v = sym (says_at h k job g).active ∙ a in
+        let w = owes h i (h.cases.pending_is ∙ o) in
+        let two = counted_two (λ (d : Case). is_active_stage d.stage) b.cases k i s.case _ s.found v w.2 refl in
+        elim (cases_eq k i) [
+          | inl q ↦ (q, refl)
+          | inr q ↦ absurd (omega (arith, h.cases.lone k job s.case g s.found e v, h.cases.active, two q))
+        ];
+  }

@@ -60,7 +60,7 @@ is_body_started CleanupEnded = false
 abbrev pub has_whole_history : Trace → Job → Bool
 has_whole_history T job = is_whole job (history job.position T)
 
--- its body was started and its history isn't whole
+-- its body was started and its history isn't whole: an owed or running cleanup keeps it active
 abbrev pub is_active : Trace → Job → Bool
 is_active T job = list_any is_body_started (history job.position T) && not (has_whole_history T job)
 

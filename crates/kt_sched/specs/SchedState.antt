@@ -1,5 +1,5 @@
 -- The scheduler's state, and what it stands for.
-use Rattle.std.specs.Prelude.{ℕ, Bool, true, false, List, [], ◌∷◌, ◌++◌, ◌==◌, ◌≡◌, ◌≢◌, ◌<◌, ◌≤◌, ◌⊎◌, Option, Some, None, map, take, drop, filter, nat_lt, count_by, sum_by, length, slice_get, is_some, is_none, ⊤, if◌then◌else◌}
+use Rattle.std.specs.Prelude.{ℕ, Bool, true, false, List, [], ◌∷◌, ◌++◌, ◌==◌, ◌≡◌, ◌≢◌, ◌<◌, ◌≤◌, ◌⊎◌, Option, Some, None, map, take, drop, filter, count_by, sum_by, length, slice_get, is_some, is_none, ⊤}
 use Rattle.kt_base.specs.declared.child.Role.TheVariants.{Body, Cleanup}
 use Rattle.kt_base.specs.Verdicts.{Judged}
 use Rattle.kt_base.specs.declared.entry.Entry.{Entry}
@@ -136,7 +136,7 @@ is_decided_stage _ = false
 abbrev pub HasDecided : List Case → ℕ → Bool → Type 0
 HasDecided cases i flag = (c : Case) × (slice_get cases i ≡ Some c) × (is_decided_stage c.stage ≡ flag)
 
--- the case that has its turn, if there is room for it
+-- the case that has its turn, if there is room for it: fewer cases are active than the width, and none is if this one is exclusive
 abbrev pub HasTurn : SchedState → ℕ → Type 0
 HasTurn b i = (b.failed ≡ false) × (slice_get b.order b.turn ≡ Some i) × (b.active < b.width) × (b.active ≡ 0 ⊎ IsOrdinary b.cases i)
 
@@ -180,18 +180,9 @@ is_decided job = is_some job.decided
 abbrev pub is_undecided : Job → Bool
 is_undecided job = is_none job.decided
 
--- there is room for a decided case beside this many active ones
-abbrev pub room_in : ℕ → ℕ → Job → Bool
-room_in a n job = if job.exclusive then a == 0 else nat_lt a n
-
--- the longest run of decided ones with room, from the first on
-abbrev pub run_of : {X : Type 0} → (X → Bool) → (X → Bool) → List X → List X
-run_of decided room [] = []
-run_of decided room (x ∷ xs) = if decided x then (if room x then x ∷ run_of decided room xs else []) else []
-
--- the decided cases that can be put at a turn, beside this many active ones
-abbrev pub opened : List Job → ℕ → ℕ → ℕ → List Job
-opened plan n a turn = run_of is_decided (room_in a n) (drop turn (turns plan))
+-- the decided cases that can be put, from a turn on
+abbrev pub opened : List Job → ℕ → Trace → ℕ → List Job
+opened plan n T turn = filter (is_open plan n T) (drop turn (turns plan))
 
 -- the positions of jobs
 abbrev pub positions : List Job → List ℕ
@@ -216,44 +207,44 @@ abbrev pub is_owed : Option ℕ → ℕ → Bool
 is_owed None k = false
 is_owed (Some i) k = k == i
 
--- how the cases stand for a trace, so many of which are active
-pub record CasesStand (plan : List Job) (n : ℕ) (T : Trace) (cases : List Case) (a : ℕ) : Type 0 where
+-- how the cases stand for a trace, so many of which are active, and what is owed
+pub record CasesStand (plan : List Job) (n : ℕ) (T : Trace) (cases : List Case) (a width : ℕ) (pending : Option ℕ) : Type 0 where
+  pub is_plan : IsPlan plan
+  pub room : 0 < n
+  pub width_is : width ≡ n
+  pub pending_is : pending ≡ owed plan T
   pub count : length cases ≡ length plan
   pub each : (i : ℕ) (job : Job) → slice_get plan i ≡ Some job → CaseStands T i job cases
   pub beyond : (i : ℕ) → length plan ≤ i → of i T ≡ []
   pub active : a ≡ count_by (λ c. is_active_stage c.stage) cases
   pub most : a ≤ n
   pub lone : (k : ℕ) (j : Job) (c : Case) → slice_get plan k ≡ Some j → slice_get cases k ≡ Some c → j.exclusive ≡ true → is_active_stage c.stage ≡ true → a ≡ 1
-  pub owing : (k : ℕ) (c : Case) → slice_get cases k ≡ Some c → is_owing_stage c.stage ≡ is_owed (owed plan T) k
-  pub owed_within : (k : ℕ) → owed plan T ≡ Some k → k < length cases
+  pub owing : (k : ℕ) (c : Case) → slice_get cases k ≡ Some c → is_owing_stage c.stage ≡ is_owed pending k
+  pub owed_within : (k : ℕ) → pending ≡ Some k → k < length cases
 
 -- how a turn stands for a trace: the cases from it on weren't begun
 pub record TurnStands (plan : List Job) (T : Trace) (cases : List Case) (order : List ℕ) (turn : ℕ) : Type 0 where
   pub walk : order ≡ positions (turns plan)
   pub within : turn ≤ length order
   pub starts : HasStarted plan T turn
-  pub waiting : (k i : ℕ) (c : Case) → slice_get order k ≡ Some i → slice_get cases i ≡ Some c → turn ≤ k → is_fresh c.stage ≡ true
-  pub begun : (k i : ℕ) (c : Case) → slice_get order k ≡ Some i → slice_get cases i ≡ Some c → k < turn → c.stage ≢ Waiting
+  pub met : (k i : ℕ) (c : Case) → slice_get order k ≡ Some i → slice_get cases i ≡ Some c
+      → (turn ≤ k → is_fresh c.stage ≡ true) × (k < turn → c.stage ≢ Waiting)
 
 -- what is still to be put: the position that is ready, and then decided cases from the turn on
-pub record PutsStand (plan : List Job) (n : ℕ) (fed : Fed) (a turn : ℕ) (next : Option ℕ) (stop : Bool) : Type 0 where
+pub record PutsStand (plan : List Job) (n : ℕ) (fed : Fed) (order : List ℕ) (turn : ℕ) (next : Option ℕ) (stop : Bool) : Type 0 where
   pub failed : stop ≡ has_failed fed
   pub stopped : stop ≡ true → next ≡ None
   pub stored : fed.stored ≤ length (recorded plan n fed.trace)
   pub gone : has_failed fed ≡ false → AreGone plan n fed.trace turn
-  pub ready : has_failed fed ≡ false → drop fed.stored (recorded plan n fed.trace) ≡ listed next ++ positions (opened plan n a turn)
+  pub ready : has_failed fed ≡ false → drop fed.stored (recorded plan n fed.trace) ≡ listed next ++ positions (opened plan n fed.trace turn)
+  pub ripe : (i m : ℕ) → next ≡ Some i → slice_get order m ≡ Some i → m < turn
 
 -- the state stands for a plan, a width and the answers fed so far
 pub record Stands (plan : List Job) (n : ℕ) (fed : Fed) (b : SchedState) : Type 0 where
-  pub is_plan : IsPlan plan
-  pub room : 0 < n
-  pub width : b.width ≡ n
-  pub pending : b.pending ≡ owed plan fed.trace
-  pub cases : CasesStand plan n fed.trace b.cases b.active
+  pub cases : CasesStand plan n fed.trace b.cases b.active b.width b.pending
   pub turn : TurnStands plan fed.trace b.cases b.order b.turn
-  pub puts : PutsStand plan n fed b.active b.turn b.ready b.failed
+  pub puts : PutsStand plan n fed b.order b.turn b.ready b.failed
   pub told : (i : ℕ) → b.ready ≡ Some i → b.asked ≡ next.Done → HasRecord b.cases i
-  pub ripe : (i m : ℕ) → b.ready ≡ Some i → slice_get b.order m ≡ Some i → m < b.turn
   pub asked : IsAsked b b.asked
 
 -- the state after an event: these cases, this turn, so many active, what is owed and what is ready

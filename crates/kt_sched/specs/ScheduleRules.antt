@@ -28,12 +28,13 @@ WidthAt plan n T (End ended) = ⊤
 abbrev pub IsQuiet : List Job → Trace → Type 0
 IsQuiet plan T = (active plan T ≡ 0) × (list_all (λ (job : Job). job.exclusive || has_whole_history T job) plan ≡ true)
 
--- an exclusive case runs alone
+-- a start after some events: an exclusive body starts only where all is quiet, and while an exclusive case is active only its own
+-- cleanup starts
 pub record AloneAtStart (plan : List Job) (T : Trace) (i : ℕ) (role : Role) : Type 0 where
   pub quiet : (job : Job) → slice_get plan i ≡ Some job → job.exclusive ≡ true → role ≡ Body → IsQuiet plan T
   pub own : (job : Job) (k : ℕ) → slice_get plan k ≡ Some job → job.exclusive ≡ true → is_active T job ≡ true → (k ≡ i) × (role ≡ Cleanup)
 
--- an exclusive case runs alone at each start
+-- the rule for an event: a start keeps this, and an end is free
 abbrev pub AloneAt : List Job → Trace → Event → Type 0
 AloneAt plan T (Start i role answer) = AloneAtStart plan T i role
 AloneAt plan T (End ended) = ⊤

@@ -6,6 +6,7 @@ mod count;
 mod job;
 mod launcher;
 mod next;
+mod progress;
 mod run;
 mod run_fault;
 mod sched;

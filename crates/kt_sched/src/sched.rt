@@ -1,16 +1,9 @@
-ghost use Rattle.std.specs.Prelude.{◌≡◌};
-ghost use Rattle.kt_sched.specs.Common.{unless};
-
-use crate::case_records::{
-    cleaned_record, ended_body, plain_record, refused_record, uncleaned_record,
-};
+use crate::progress::{active_after, after_end, after_start, is_active, owing, ready, turn_after};
 use crate::setup::{first_cases, turn_order};
 use crate::stage::{Case, Stage};
-use crate::table::{
-    declares_cleanup, is_decided, is_exclusive, replace_stage, running_since, take_body, take_entry,
-};
-use crate::{Answer, Ended, Job, Next};
-use kt_base::{Entry, Items, NoMemory, Refused, Role};
+use crate::table::{declares_cleanup, is_decided, is_exclusive, replace_stage, take_entry};
+use crate::{Answer, Ended, Job, Next, StartAnswer};
+use kt_base::{Entry, Items, NoMemory, Role};
 use std::alloc::Global;
 use std::marker::Model;
 
@@ -64,10 +57,8 @@ impl Model for Sched {
 }
 
 impl Sched {
-    ghost use Rattle.std.specs.Prelude.{ℕ, List, length, ◌^◌, Some, slice_get, IfOk, ◌<◌, ◌+◌, true, false};
-    ghost use Rattle.kt_sched.specs.Common.{Job, Next, Start, End, event_count, Case, Role, IsPlan, IsWidth, Fed, fed_after, nothing_fed, IsNext, Follows, IsEntryOf, IsChosen, IsTurn, stage_runs, RunsSince, Declares, SchedState, Stands, IsAnswer, IsSettled, HasRecord, CanLend, HoldsEntry, Takes, work_left, Works};
-    ghost use Rattle.kt_sched.specs.declared.job.StartAnswer.TheVariants as told;
-    ghost use Rattle.kt_base.specs.declared.child.Role.TheVariants.{Body as TheBody, Cleanup as TheCleanup};
+    ghost use Rattle.std.specs.Prelude.{◌≡◌, ℕ, List, length, ◌^◌, Some, slice_get, IfOk, ◌<◌, ◌+◌, true, false};
+    ghost use Rattle.kt_sched.specs.Common.{Job, Next, Start, End, event_count, Case, Role, IsPlan, IsWidth, Fed, fed_after, nothing_fed, IsNext, Follows, IsEntryOf, IsChosen, IsTurn, stage_runs, SchedState, Stands, IsAnswer, IsSettled, HasRecord, CanLend, HoldsEntry, Takes, work_left, Works};
 
     /// The core before its first answer.
     pub fn new(alloc: Global, plan: Items<Job>, width: u32) -> Result<Sched, NoMemory>
@@ -127,14 +118,9 @@ impl Sched {
             → Stands plan n (fed_after fed self.old.asked answer) self.new }
     {
         match self.asked {
-            Next::Start(i, Role::Body) => match answer {
-                Answer::Started(moment) => self.body_started(i, moment),
-                Answer::Refused(cause) => self.body_refused(i, cause),
-                _ => unreachable!(),
-            },
-            Next::Start(i, Role::Cleanup) => match answer {
-                Answer::Started(moment) => self.cleanup_started(i, moment),
-                Answer::Refused(cause) => self.cleanup_refused(i, cause),
+            Next::Start(i, role) => match answer {
+                Answer::Started(moment) => self.started(i, role, StartAnswer::Started(moment)),
+                Answer::Refused(cause) => self.started(i, role, StartAnswer::Refused(cause)),
                 _ => unreachable!(),
             },
             Next::Wait => match answer {
@@ -150,6 +136,22 @@ impl Sched {
         }
     }
 
+    /// A start that was asked for was answered.
+    fn started(&mut self, i: u32, role: Role, told: StartAnswer)
+        requires { self.old.asked ≡ Next.Start i role }
+        ensures { Takes self.old (Start i role told) self.new }
+    {
+        let was = replace_stage(&mut self.cases, i, Stage::Taken);
+        let ran = is_active(&was);
+        let stage = after_start(self.alloc, was, role, told);
+        self.turn = turn_after(self.turn, self.order.len(), role);
+        self.active = active_after(self.active, self.width, ran, is_active(&stage));
+        self.pending = owing(&stage, i);
+        self.ready = ready(&stage, self.failed, i);
+        let _taken = replace_stage(&mut self.cases, i, stage);
+        self.asked = Next::Done;
+    }
+
     /// A child ended.
     fn ended(&mut self, ended: Ended)
         requires asked { self.old.asked ≡ Next.Wait }
@@ -157,17 +159,15 @@ impl Sched {
             × (stage_runs ended.role c.stage ≡ true) }
         ensures { Takes self.old (End ended) self.new }
     {
-        match ended.role {
-            Role::Cleanup => self.cleanup_ended(ended),
-            Role::Body => {
-                let since = running_since(&self.cases, ended.position);
-                if declares_cleanup(&self.cases, ended.position) {
-                    self.body_owes(ended, since)
-                } else {
-                    self.body_finished(ended, since)
-                }
-            }
-        }
+        let i = ended.position;
+        let cleanup = declares_cleanup(&self.cases, i);
+        let was = replace_stage(&mut self.cases, i, Stage::Taken);
+        let stage = after_end(self.alloc, was, cleanup, ended);
+        self.active = active_after(self.active, self.width, true, is_active(&stage));
+        self.pending = owing(&stage, i);
+        self.ready = ready(&stage, self.failed, i);
+        let _taken = replace_stage(&mut self.cases, i, stage);
+        self.asked = Next::Done;
     }
 
     /// What is to be done next.
@@ -231,7 +231,8 @@ impl Sched {
         }
     }
 
-    /// The case that has its turn, if there is room for it.
+    /// The case that has its turn, if there is room for it: fewer cases are active than the width, and none is if this one is
+    /// exclusive. A case is active until its cleanup is over.
     fn turn_with_room(&self) -> Option<u32>
         ensures { IsTurn self.now result }
     {
@@ -246,104 +247,6 @@ impl Sched {
         } else {
             Some(i)
         }
-    }
-
-    /// The body that was asked for runs.
-    fn body_started(&mut self, i: u32, moment: u64)
-        requires { self.old.asked ≡ Next.Start i TheBody }
-        ensures { Takes self.old (Start i TheBody (told.Started moment)) self.new }
-    {
-        let _was = replace_stage(&mut self.cases, i, Stage::Running(moment));
-        self.turn += 1;
-        self.active += 1;
-        self.asked = Next::Done;
-    }
-
-    /// The body that was asked for was refused.
-    fn body_refused(&mut self, i: u32, cause: Refused)
-        requires { self.old.asked ≡ Next.Start i TheBody }
-        ensures { Takes self.old (Start i TheBody (told.Refused cause)) self.new }
-    {
-        let case_record = refused_record(self.alloc, cause);
-        let _was = replace_stage(&mut self.cases, i, Stage::Finished(case_record));
-        self.turn += 1;
-        self.ready = Some(i);
-        self.asked = Next::Done;
-    }
-
-    /// The cleanup that was asked for runs.
-    fn cleanup_started(&mut self, i: u32, moment: u64)
-        requires { self.old.asked ≡ Next.Start i TheCleanup }
-        ensures { Takes self.old (Start i TheCleanup (told.Started moment)) self.new }
-    {
-        let body = take_body(&mut self.cases, i);
-        let _taken = replace_stage(&mut self.cases, i, Stage::Cleaning(body));
-        self.pending = None;
-        self.asked = Next::Done;
-    }
-
-    /// The cleanup that was asked for was refused.
-    fn cleanup_refused(&mut self, i: u32, cause: Refused)
-        requires { self.old.asked ≡ Next.Start i TheCleanup }
-        ensures { Takes self.old (Start i TheCleanup (told.Refused cause)) self.new }
-    {
-        let body = take_body(&mut self.cases, i);
-        let case_record = uncleaned_record(self.alloc, body);
-        let _taken = replace_stage(&mut self.cases, i, Stage::Finished(case_record));
-        self.pending = None;
-        self.active -= 1;
-        self.ready = unless(self.failed, i);
-        self.asked = Next::Done;
-    }
-
-    /// A cleanup ended.
-    fn cleanup_ended(&mut self, ended: Ended)
-        requires asked { self.old.asked ≡ Next.Wait }
-        requires role { ended.role ≡ TheCleanup }
-        requires runs { (c : Case) × (slice_get self.old.cases ended.position ≡ Some c)
-            × (stage_runs TheCleanup c.stage ≡ true) }
-        ensures { Takes self.old (End ended) self.new }
-    {
-        let i = ended.position;
-        let body = take_body(&mut self.cases, i);
-        let case_record = cleaned_record(body, ended);
-        let _taken = replace_stage(&mut self.cases, i, Stage::Finished(case_record));
-        self.pending = None;
-        self.active -= 1;
-        self.ready = unless(self.failed, i);
-        self.asked = Next::Done;
-    }
-
-    /// A body without a declared cleanup ended.
-    fn body_finished(&mut self, ended: Ended, since: u64)
-        requires asked { self.old.asked ≡ Next.Wait }
-        requires role { ended.role ≡ TheBody }
-        requires runs { RunsSince self.old.cases ended.position since }
-        requires declares { Declares self.old.cases ended.position false }
-        ensures { Takes self.old (End ended) self.new }
-    {
-        let i = ended.position;
-        let case_record = plain_record(self.alloc, since, ended);
-        let _was = replace_stage(&mut self.cases, i, Stage::Finished(case_record));
-        self.pending = None;
-        self.active -= 1;
-        self.ready = unless(self.failed, i);
-        self.asked = Next::Done;
-    }
-
-    /// A body with a declared cleanup ended.
-    fn body_owes(&mut self, ended: Ended, since: u64)
-        requires asked { self.old.asked ≡ Next.Wait }
-        requires role { ended.role ≡ TheBody }
-        requires runs { RunsSince self.old.cases ended.position since }
-        requires declares { Declares self.old.cases ended.position true }
-        ensures { Takes self.old (End ended) self.new }
-    {
-        let i = ended.position;
-        let body = ended_body(since, ended);
-        let _was = replace_stage(&mut self.cases, i, Stage::Owing(body));
-        self.pending = Some(i);
-        self.asked = Next::Done;
     }
 
     /// An entry was put.
@@ -370,11 +273,4 @@ impl Sched {
         self.failed = true;
         self.asked = Next::Done;
     }
-}
-
-/// A position to put, unless a put failed.
-fn unless(failed: bool, i: u32) -> Option<u32>
-    ensures { result ≡ unless failed i }
-{
-    if failed { None } else { Some(i) }
 }

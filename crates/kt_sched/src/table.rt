@@ -1,8 +1,8 @@
-ghost use Rattle.std.specs.Prelude.{◌≡◌, ◌<◌, ℕ, length, Some, IsSome};
-ghost use Rattle.kt_sched.specs.Common.{Taken, record_in, HasRecord, HasExclusive, HasDecided, IsEntryFrom, KeepsNames, Replaced, HasBody, TookBody, RunsSince, Declares, TookEntry};
+ghost use Rattle.std.specs.Prelude.{◌≡◌, ◌<◌, length, Some, IsSome};
+ghost use Rattle.kt_sched.specs.Common.{Taken, record_in, HasRecord, HasExclusive, HasDecided, IsEntryFrom, KeepsNames, Replaced, Declares, TookEntry};
 
 use crate::case_records::decided_record;
-use crate::stage::{Case, CaseRecord, EndedBody, Stage};
+use crate::stage::{Case, CaseRecord, Stage};
 use kt_base::{Entry, Text, Variables};
 use std::alloc::Global;
 use std::mem;
@@ -14,29 +14,6 @@ pub fn replace_stage(cases: &mut Vec<Case>, i: u32, stage: Stage) -> Stage
 {
     let case = &mut cases[i as usize];
     mem::replace(&mut case.stage, stage)
-}
-
-/// Takes the ended body out of a case.
-pub fn take_body(cases: &mut Vec<Case>, i: u32) -> EndedBody
-    requires { HasBody cases.old.items i }
-    ensures { TookBody cases.old.items cases.new.items i result }
-{
-    match replace_stage(cases, i, Stage::Taken) {
-        Stage::Owing(body) => body,
-        Stage::Cleaning(body) => body,
-        _ => unreachable!(),
-    }
-}
-
-/// The moment since which a case's body runs.
-pub fn running_since(cases: &Vec<Case>, i: u32) -> u64
-    requires { (m : ℕ) × RunsSince cases.now.items i m }
-    ensures { RunsSince cases.now.items i result }
-{
-    match &cases[i as usize].stage {
-        Stage::Running(moment) => *moment,
-        _ => unreachable!(),
-    }
 }
 
 /// Whether a case declares a cleanup.

@@ -1,5 +1,5 @@
 -- What the steps of the core do to its cases.
-use Rattle.std.specs.Prelude.{ℕ, Bool, true, false, List, ◌++◌, ◌≡◌, ◌-◌, Option, Some, None, filter, map, drop, not, slice_get, slice_set, is_some, if◌then◌else◌}
+use Rattle.std.specs.Prelude.{ℕ, Bool, true, false, List, ◌++◌, ◌≡◌, ◌-◌, Option, Some, None, filter, map, drop, not, slice_get, slice_set, if◌then◌else◌}
 use Rattle.kt_base.specs.declared.entry.Entry.{Entry}
 use Rattle.kt_base.specs.declared.entry.Output.{Output}
 use Rattle.kt_base.specs.declared.child.Role.{Role}
@@ -8,12 +8,16 @@ use Rattle.kt_base.specs.Verdicts.{Judged}
 use Rattle.kt_sched.specs.declared.job.Job.{Job}
 use Rattle.kt_sched.specs.declared.job.Ended.{Ended}
 use Rattle.kt_sched.specs.declared.stage.Stage.{Stage}
-use Rattle.kt_sched.specs.declared.stage.Stage.TheVariants.{Waiting, Decided, Running, Owing, Cleaning, Taken}
+use Rattle.kt_sched.specs.declared.stage.Stage.TheVariants.{Waiting, Decided, Running, Owing, Cleaning, Finished, Taken}
 use Rattle.kt_sched.specs.declared.stage.Case.{Case}
 use Rattle.kt_sched.specs.declared.stage.EndedBody.{EndedBody}
 use Rattle.kt_sched.specs.declared.stage.CaseRecord.{CaseRecord}
+use Rattle.kt_sched.specs.declared.job.StartAnswer.TheVariants as told
+use Rattle.kt_status.specs.declared.cleanup_end.CleanupEnd.TheVariants as end
+use Rattle.kt_status.specs.Tables.{IsVerdict, IsVerdictOfRefusal, IsVerdictAfter}
 use Rattle.kt_sched.specs.EntryOf.{no_output}
-use Rattle.kt_sched.specs.SchedState.{entry_with, record_in}
+use Rattle.kt_sched.specs.Trace.{Event, Start, End}
+use Rattle.kt_sched.specs.SchedState.{decided_record, ended_body, entry_with, record_in}
 
 -- a stage runs in a role
 abbrev pub stage_runs : Role → Stage → Bool
@@ -35,35 +39,6 @@ pub record Replaced (old new : List Case) (i : ℕ) (stage was : Stage) : Type 0
   pub job : Job
   pub found : slice_get old i ≡ Some (record { job = job; stage = was })
   pub changed : new ≡ slice_set old i (record { job = job; stage = stage })
-
--- the ended body of a stage
-abbrev pub body_in : Stage → Option EndedBody
-body_in (Owing b) = Some b
-body_in (Cleaning b) = Some b
-body_in _ = None
-
--- a case that has such a body
-pub record HasBody (cases : List Case) (i : ℕ) : Type 0 where
-  pub case : Case
-  pub found : slice_get cases i ≡ Some case
-  pub is : is_some (body_in case.stage) ≡ true
-
--- its body was taken out
-pub record TookBody (old new : List Case) (i : ℕ) (body : EndedBody) : Type 0 where
-  pub was : Stage
-  pub is : body_in was ≡ Some body
-  pub replaced : Replaced old new i Taken was
-
--- the moment since which a stage runs a body
-abbrev pub since : Stage → Option ℕ
-since (Running m) = Some m
-since _ = None
-
--- a case whose body runs, with the moment
-pub record RunsSince (cases : List Case) (i m : ℕ) : Type 0 where
-  pub case : Case
-  pub found : slice_get cases i ≡ Some case
-  pub is : since case.stage ≡ Some m
 
 -- whether a case declares a cleanup
 pub record Declares (cases : List Case) (i : ℕ) (flag : Bool) : Type 0 where
@@ -106,6 +81,43 @@ plain_record verdict started e =
 -- a position to put, unless a put failed
 abbrev pub unless : Bool → ℕ → Option ℕ
 unless failed i = if failed then None else Some i
+
+-- whether the body or the cleanup of a case can be started
+abbrev pub can_start : Role → Stage → Bool
+can_start Body Waiting = true
+can_start Cleanup (Owing b) = true
+can_start role other = false
+
+-- how a case, with or without a declared cleanup, stands after an event
+abbrev pub IsAfter : Bool → Stage → Event → Stage → Type 0
+IsAfter cleanup Waiting (Start i Body (told.Started m)) (Running k) = k ≡ m
+IsAfter cleanup Waiting (Start i Body (told.Refused c)) (Finished t) = IsVerdictOfRefusal c t.verdict × (t ≡ decided_record t.verdict)
+IsAfter cleanup (Owing b) (Start i Cleanup (told.Started m)) (Cleaning x) = x ≡ b
+IsAfter cleanup (Owing b) (Start i Cleanup (told.Refused c)) (Finished t) =
+    IsVerdictAfter b.verdict end.Refused t.verdict × (t ≡ record_of t.verdict b b.ended no_output)
+IsAfter cleanup (Running m) (End e) (Owing b) =
+    (stage_runs e.role (Running m) ≡ true) × (cleanup ≡ true) × IsVerdict e.evidence e.outcome b.verdict × (b ≡ ended_body b.verdict m e)
+IsAfter cleanup (Running m) (End e) (Finished t) =
+    (stage_runs e.role (Running m) ≡ true) × (cleanup ≡ false) × IsVerdict e.evidence e.outcome t.verdict × (t ≡ plain_record t.verdict m e)
+IsAfter cleanup (Cleaning b) (End e) (Finished t) =
+    (stage_runs e.role (Cleaning b) ≡ true) × IsVerdictAfter b.verdict (end.Ended e.outcome) t.verdict × (t ≡ record_of t.verdict b e.moment e.output)
+IsAfter cleanup was e now = ⊥
+
+-- the position of a case, if it owes its cleanup
+abbrev pub owing_at : Stage → ℕ → Option ℕ
+owing_at (Owing b) i = Some i
+owing_at _ i = None
+
+-- whether a stage's history is whole
+abbrev pub is_over : Stage → Bool
+is_over Decided = true
+is_over (Finished t) = true
+is_over Taken = true
+is_over _ = false
+
+-- the position of a case to put, if it is over and no put failed
+abbrev pub ready_at : Stage → Bool → ℕ → Option ℕ
+ready_at stage failed i = if is_over stage then unless failed i else None
 
 -- whether two flags are the same
 abbrev pub same_flag : Bool → Bool → Bool

@@ -1,6 +1,4 @@
-use Rattle.std.proofs.Common.{sym, ◌∙◌, ap, subst, Result}
-use Rattle.std.proofs.lemmas.Result.{err_from_is_err_and}
-use Rattle.kt_sched.proofs.Common.{Totals, counted, Ran}
+use Rattle.kt_sched.proofs.Common.{sym, ◌∙◌, ap, subst, Result, err_from_is_err_and, Totals, counted, Ran}
 use Rattle.kt_sched.specs.declared.run_fault.RunFault.{RunFault}
 use Rattle.kt_sched.proofs.Loop.{loop_answer, loop_can_count, loop_end, loop_failed, loop_first, loop_idle, loop_may_start, loop_may_wait, loop_put, loop_start, loop_storable, ran_not, ran_short, ran_well}
 use Rattle.kt_sched.proofs.run.run_cases.Goals as goal

@@ -1,5 +1,4 @@
-use Rattle.std.proofs.Common.{length, refl, ap}
-use Rattle.kt_sched.proofs.Common.{slice_get_read, slice_get_within, Stage}
+use Rattle.kt_sched.proofs.Common.{length, refl, ap, slice_get_read, slice_get_within, Stage}
 use Rattle.kt_sched.proofs.table.take_entry.Goals as goal
 
 pub returns : goal.returns

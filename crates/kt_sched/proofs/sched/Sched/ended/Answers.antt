@@ -1,9 +1,22 @@
-use Rattle.std.proofs.Common.{◌≡◌, sym, subst, true, slice_get, Some}
-use Rattle.kt_sched.proofs.Common.{Case, stage_runs, SchedState}
-use Rattle.kt_sched.proofs.Begin.{runs_since}
+use Rattle.kt_sched.proofs.Common.{subst, Stands}
+use Rattle.kt_sched.proofs.Transitions.{end_fits, ended}
 use Rattle.kt_sched.proofs.sched.Sched.ended.Goals as goal
 
-pub running_since-since-requires : goal.running_since-since-requires
-running_since-since-requires c =
-    let P : SchedState → Type 0 = λ b. (d : Case) × (slice_get b.cases c.args.ended.position ≡ Some d) × (stage_runs c.args.ended.role d.stage ≡ true) in
-    runs_since c.self.inside.cases.items c.args.ended.position c.args.ended.role c.in-Body.is (subst P (sym c.self.view_is) c.requires.runs)
+pub returns : goal.returns
+returns c =
+    ended c.self.view_is c.self.invariant c.args.ended c.requires.asked c.declares_cleanup-cleanup.ensures c.replace_stage-was.ensures
+    c.replace_stage-taken.ensures (end_fits c.self.view_is c.self.invariant c.args.ended c.requires.runs c.replace_stage-was.ensures).0
+    c.after_end-stage.ensures c.is_active.ensures c.active_after-self-inside.ensures c.owing-self-inside.ensures c.ready-self-inside.ensures
+
+pub invariant_of-self : goal.invariant_of-self
+invariant_of-self c =
+    let v = c.self.invariant in (v.0, v.1, _, (returns c).stands v.0 v.1 v.2 (subst (Stands v.0 v.1 v.2) c.self.view_is v.3))
+
+pub after_end-stage-requires : goal.after_end-stage-requires
+after_end-stage-requires c = (end_fits c.self.view_is c.self.invariant c.args.ended c.requires.runs c.replace_stage-was.ensures).0
+
+pub active_after-self-inside-requires-clause-less : goal.active_after-self-inside-requires-clause-less
+active_after-self-inside-requires-clause-less c = λ v. (end_fits c.self.view_is c.self.invariant c.args.ended c.requires.runs c.replace_stage-was.ensures).1
+
+pub replace_stage-taken-requires : goal.replace_stage-taken-requires
+replace_stage-taken-requires c = (end_fits c.self.view_is c.self.invariant c.args.ended c.requires.runs c.replace_stage-was.ensures).2

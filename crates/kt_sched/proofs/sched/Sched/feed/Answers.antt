@@ -1,5 +1,4 @@
-use Rattle.std.proofs.Common.{sym, ◌∙◌, ap, subst}
-use Rattle.kt_sched.proofs.Common.{Next, Answer, SchedState, IsAnswerTo}
+use Rattle.kt_sched.proofs.Common.{sym, ◌∙◌, ap, subst, Next, Answer, SchedState, IsAnswerTo}
 use Rattle.kt_sched.specs.declared.next.Next.TheVariants as next
 use Rattle.kt_sched.proofs.Located.{runs_stage}
 use Rattle.kt_sched.proofs.sched.Sched.feed.Goals as goal

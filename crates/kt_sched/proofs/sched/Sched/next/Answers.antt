@@ -1,8 +1,6 @@
-use Rattle.std.proofs.Common.{sym, subst}
-use Rattle.kt_sched.proofs.Common.{Next, IsChosen, SchedState, Stands, IsSettled}
+use Rattle.kt_sched.proofs.Common.{sym, subst, Next, IsChosen, SchedState, Stands, IsSettled}
 use Rattle.kt_sched.specs.declared.next.Next.TheVariants as next
-use Rattle.kt_sched.proofs.Choice.{is_next}
-use Rattle.kt_sched.proofs.Only.{only_next}
+use Rattle.kt_sched.proofs.Choice.{is_next, only_next}
 use Rattle.kt_sched.proofs.Following.{follows, untaken_start, stands_asked}
 use Rattle.kt_sched.proofs.sched.Sched.next.Goals as goal
 
@@ -38,4 +36,4 @@ invariant_of-self c =
 pub returns-clause-only : goal.returns-clause-only
 returns-clause-only c = λ plan n fed h other y.
     let x = is_next (c.open_decided.ensures.stands plan n fed h) c.choice-next.result c.open_decided.ensures.settled c.choice-next.ensures in
-    only_next plan n fed other c.choice-next.result h.is_plan y x
+    only_next plan n fed other c.choice-next.result h.cases.is_plan y x

@@ -1,6 +1,5 @@
-use Rattle.std.proofs.Common.{sym, ◌∙◌, ap, subst}
-use Rattle.kt_sched.proofs.Common.{SchedState, Stands}
-use Rattle.kt_sched.proofs.Puts.{stored}
+use Rattle.kt_sched.proofs.Common.{sym, ◌∙◌, ap, subst, SchedState, Stands}
+use Rattle.kt_sched.proofs.Opened.{stored}
 use Rattle.kt_sched.proofs.sched.Sched.stored.Goals as goal
 
 pub invariant_of-self : goal.invariant_of-self

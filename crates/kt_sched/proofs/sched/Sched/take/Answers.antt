@@ -1,6 +1,5 @@
-use Rattle.std.proofs.Common.{◌<◌, ℕ, sym, ◌∙◌, ap, subst}
-use Rattle.kt_sched.proofs.Common.{SchedState, Stands, work}
-use Rattle.kt_sched.proofs.Taking.{entry_taken, stands_taken, less_taken}
+use Rattle.kt_sched.proofs.Common.{◌<◌, ℕ, sym, ◌∙◌, ap, subst, SchedState, Stands, work}
+use Rattle.kt_sched.proofs.Begin.{entry_taken, stands_taken, less_taken}
 use Rattle.kt_sched.proofs.sched.Sched.take.Goals as goal
 
 pub invariant_of-self : goal.invariant_of-self

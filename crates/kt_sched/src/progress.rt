@@ -1,0 +1,117 @@
+ghost use Rattle.std.specs.Prelude.{◌≡◌, ◌+◌, ◌<◌, ℕ, Bool, true, false, cond};
+ghost use Rattle.kt_sched.specs.Common.{IsAfter, Start, End, can_start, is_active_stage, owing_at, ready_at, same_role, stage_runs, unless};
+ghost use Rattle.kt_base.specs.declared.child.Role.TheVariants.{Body as TheBody};
+
+use crate::case_records::{
+    cleaned_record, ended_body, plain_record, refused_record, uncleaned_record,
+};
+use crate::stage::Stage;
+use crate::{Ended, StartAnswer};
+use kt_base::Role;
+use std::alloc::Global;
+
+/// The stage of a case after the answer to a start.
+pub fn after_start(alloc: Global, was: Stage, role: Role, told: StartAnswer) -> Stage
+    requires { can_start role was ≡ true }
+    ensures { (i : ℕ) (cleanup : Bool) → IsAfter cleanup was (Start i role told) result }
+{
+    match role {
+        Role::Body => match was {
+            Stage::Waiting => match told {
+                StartAnswer::Started(moment) => Stage::Running(moment),
+                StartAnswer::Refused(cause) => Stage::Finished(refused_record(alloc, cause)),
+            },
+            _ => unreachable!(),
+        },
+        Role::Cleanup => match was {
+            Stage::Owing(body) => match told {
+                StartAnswer::Started(_) => Stage::Cleaning(body),
+                StartAnswer::Refused(_) => Stage::Finished(uncleaned_record(alloc, body)),
+            },
+            _ => unreachable!(),
+        },
+    }
+}
+
+/// The stage of a case after the end of its child.
+pub fn after_end(alloc: Global, was: Stage, cleanup: bool, ended: Ended) -> Stage
+    requires { stage_runs ended.role was ≡ true }
+    ensures { IsAfter cleanup was (End ended) result }
+{
+    match was {
+        Stage::Running(since) => {
+            if cleanup {
+                Stage::Owing(ended_body(since, ended))
+            } else {
+                Stage::Finished(plain_record(alloc, since, ended))
+            }
+        }
+        Stage::Cleaning(body) => Stage::Finished(cleaned_record(body, ended)),
+        _ => unreachable!(),
+    }
+}
+
+/// Whether a stage is that of an active case.
+pub fn is_active(stage: &Stage) -> bool
+    ensures { result ≡ is_active_stage stage.now }
+{
+    matches!(
+        stage,
+        Stage::Running(_) | Stage::Owing(_) | Stage::Cleaning(_)
+    )
+}
+
+/// How many cases are active after one whose case was active, or was not, and then is or is not.
+pub fn active_after(active: u32, width: u32, before: bool, after: bool) -> u32
+    requires less { before ≡ true → 0 < active }
+    requires more { before ≡ false → active < width }
+    ensures { result + cond before 1 0 ≡ active + cond after 1 0 }
+{
+    if before == after {
+        active
+    } else if after {
+        active + 1
+    } else {
+        active - 1
+    }
+}
+
+/// The turn after a start: that of a body takes it.
+pub fn turn_after(turn: usize, cases: usize, role: Role) -> usize
+    requires { role ≡ TheBody → turn < cases }
+    ensures { result ≡ turn + cond (same_role role TheBody) 1 0 }
+{
+    match role {
+        Role::Body => turn + 1,
+        Role::Cleanup => turn,
+    }
+}
+
+/// The position of a case, if it owes its cleanup.
+pub fn owing(stage: &Stage, i: u32) -> Option<u32>
+    ensures { result ≡ owing_at stage.now i }
+{
+    match stage {
+        Stage::Owing(_) => Some(i),
+        _ => None,
+    }
+}
+
+/// The position of a case to put, if it is over and no put failed.
+pub fn ready(stage: &Stage, failed: bool, i: u32) -> Option<u32>
+    ensures { result ≡ ready_at stage.now failed i }
+{
+    match stage {
+        Stage::Decided => unless(failed, i),
+        Stage::Finished(_) => unless(failed, i),
+        Stage::Taken => unless(failed, i),
+        _ => None,
+    }
+}
+
+/// A position to put, unless a put failed.
+fn unless(failed: bool, i: u32) -> Option<u32>
+    ensures { result ≡ unless failed i }
+{
+    if failed { None } else { Some(i) }
+}
