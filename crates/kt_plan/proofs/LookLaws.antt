@@ -72,9 +72,9 @@ needs_nothing None meta e = absurd (cc)
 needs_nothing (Some reason) meta e = refl
 
 -- another one needs all that its properties require
-pub needs_all : (fault : Option Reason) (needs : List Need) (meta due : Meta) → is_some fault ≡ false → needs ≡ all_needs → meta ≡ due → needs_among needs meta ≡ needs_by fault due
-needs_all None needs meta due e n m = ap (λ (ns : List Need). needs_among ns meta) n ∙ ap (needs_among all_needs) m
-needs_all (Some reason) needs meta due e n m = absurd (cc)
+pub needs_all : (fault : Option Reason) (needs : List Need) (meta : Meta) → is_some fault ≡ false → needs ≡ all_needs → needs_among needs meta ≡ needs_by fault meta
+needs_all None needs meta e n = ap (λ (ns : List Need). needs_among ns meta) n
+needs_all (Some reason) needs meta e n = absurd (cc)
 
 -- all questions to the host are the first ones
 pub all_surveyed : (cases : List Candidate) (told : List Told) (host : Host) → Surveys cases told host → SurveysFirst cases told
@@ -113,10 +113,6 @@ module _ {W : Type 0} (tells : W → Told → W → Type 0) where
     chain = (new, h, refl);
     holds = ([], asked need name [] answer [] nothing);
   }
-
-  -- memory ran out before any question
-  pub unasked : (needs : List (Need × List ℕ)) (world : W) → Answered tells world world (λ told. AreFirst (LooksFor needs) told)
-  unasked needs world = record { asked = []; chain = refl; holds = asks_all needs }
 
   module _ (needs : List (Need × List ℕ)) (old : W) (was : Host) where
     -- the questions so far, and what was noted

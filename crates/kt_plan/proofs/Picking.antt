@@ -54,3 +54,11 @@ module _ (filters : List Filter) (candidate : Candidate) (rest : List Candidate)
       by false e =
           let later : place + 1 ≤ first = no_earlier (is_selected filters) (place + 1) (map item_of rest) first others (sym (places_by false e) ∙ (sym h ∙ is)) in
           absurd (let less : place < place = omega (arith, later, own) in omega (arith, less))
+
+  -- the next place is another case's
+  pub passed : (cases : List Candidate) (now : List ℕ) (first : ℕ) (others : List ℕ) → now ≡ first ∷ others → (first ≡ place → ⊥) → now ≡ places_from filters place (candidate ∷ rest) → Keeps cases cases now
+  passed cases now first others is other h = by (is_selected filters (item_of candidate)) refl
+    where
+      by : (b : Bool) → is_selected filters (item_of candidate) ≡ b → Keeps cases cases now
+      by true e = absurd (other (same_head first place others after (sym is ∙ (h ∙ places_by true e))))
+      by false e = (h ∙ places_by false e, ap (λ (cs : List Candidate). cases ++ cs) (sym (cases_by false e)))

@@ -10,7 +10,7 @@ use Rattle.kt_plan.specs.declared.options.Settings.{Settings}
 use Rattle.kt_plan.specs.declared.stop.Stop.{Stop}
 use Rattle.kt_plan.specs.Stops.{IsShort}
 use Rattle.kt_plan.specs.Told.{Told, Lists}
-use Rattle.kt_plan.specs.Collecting.{Collects, CollectsFirst, asks, listing, variables_for}
+use Rattle.kt_plan.specs.Collecting.{Collects, CollectsFirst, variables_for}
 
 -- the first question for them, where memory ran out: the list is asked for, or not yet
 pub data ListsFirst (config : Values) (program : Program) : List Told → Type 0 where

@@ -1,6 +1,5 @@
 -- What a command over test cases is configured with, and which filters it has: the first step.
 use Rattle.std.specs.Prelude.{ℕ, Bool, ◌≡◌, ◌⊎◌, List, [], Option, Some, None, Result, Ok, Err}
-use Rattle.kt_base.specs.Texts.{before}
 use Rattle.kt_config.specs.declared.meaning.Definition.{Definition}
 use Rattle.kt_config.specs.Holding.{Holds}
 use Rattle.kt_config.specs.Values.{Values}

@@ -1,9 +1,9 @@
 ghost use Rattle.std.specs.Prelude.{◌∷◌, [], MatchResult};
-ghost use Rattle.kt_plan.specs.Common.{needed, Answered, Notes, LooksFor, meta_in, needs_among, needs_by, needs_in, needs_of, Surveys, SurveysFirst, AreFirst, Finds, IsIdle};
+ghost use Rattle.kt_plan.specs.Common.{effective, needed, Answered, Notes, LooksFor, meta_in, needs_among, needs_by, needs_in, needs_of, Surveys, SurveysFirst, AreFirst, Finds, IsIdle};
 
 use crate::{Candidate, World};
 use kt_base::{NoMemory, Text};
-use kt_metadata::{Host, Meta, Need};
+use kt_metadata::{Host, Need, Props};
 use std::alloc::Global;
 
 /// Asks whether a required file or program is found.
@@ -54,32 +54,34 @@ fn look_for_words<W: World>(
 /// Asks for all of a kind that a case requires, and notes what is there.
 fn look_for_need<W: World>(
     need: &Need,
-    meta: &Meta,
+    props: &Props,
     world: &mut W,
     host: &mut Host,
 ) -> Result<(), NoMemory>
     ensures { Answered W.tells world.old world.new (λ told. MatchResult result
-        (λ _. LooksFor (needs_in need.now (needed need.now meta.now)) told
+        (λ _. LooksFor (needs_in need.now (needed need.now (effective props.now))) told
         × Notes told host.old host.new)
-        (λ _. AreFirst (LooksFor (needs_in need.now (needed need.now meta.now))) told)) }
+        (λ _. AreFirst (LooksFor (needs_in need.now (needed need.now (effective props.now))))
+        told)) }
 {
-    look_for_words(*need, meta.needed(*need), world, host)?;
+    look_for_words(*need, props.needed(*need), world, host)?;
     Ok(())
 }
 
 /// Asks for all of these kinds that a case requires, and notes what is there.
 fn look_for_needs<W: World>(
     needs: &[Need],
-    meta: &Meta,
+    props: &Props,
     world: &mut W,
     host: &mut Host,
 ) -> Result<(), NoMemory>
     ensures { Answered W.tells world.old world.new (λ told. MatchResult result
-        (λ _. LooksFor (needs_among needs.now meta.now) told × Notes told host.old host.new)
-        (λ _. AreFirst (LooksFor (needs_among needs.now meta.now)) told)) }
+        (λ _. LooksFor (needs_among needs.now (effective props.now)) told
+        × Notes told host.old host.new)
+        (λ _. AreFirst (LooksFor (needs_among needs.now (effective props.now))) told)) }
 {
     for need in needs {
-        look_for_need(need, meta, world, host)?;
+        look_for_need(need, props, world, host)?;
     }
     Ok(())
 }
@@ -99,8 +101,7 @@ fn look_for_case<W: World>(
     if candidate.case.fault.is_some() {
         return Ok(());
     }
-    let meta = candidate.case.props.effective()?;
-    look_for_needs(Need::all(), &meta, world, host)?;
+    look_for_needs(Need::all(), &candidate.case.props, world, host)?;
     Ok(())
 }
 

@@ -2,3 +2,4 @@
 
 pub(crate) mod looking;
 pub(crate) mod planning;
+pub(crate) mod shared_variables;

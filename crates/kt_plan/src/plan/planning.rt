@@ -1,11 +1,11 @@
 ghost use Rattle.std.specs.Prelude.{◌≡◌, ◌≤◌, ◌&&◌, length, IfOk, MatchResult};
-ghost use Rattle.kt_plan.specs.Common.{first_reason, rows, IsFit, IsPlan, most_items, is_atf, ArePlanned, IsDecided, IsJobOf, IsIdle, Answered, Surveys, SurveysFirst};
+ghost use Rattle.kt_plan.specs.Common.{first_reason, rows, variables_for, IsFit, IsPlan, most_items, is_atf, ArePlanned, IsDecided, IsJobOf, IsIdle, Answered, Surveys, SurveysFirst};
 ghost use Rattle.kt_metadata.specs.declared.host.Host.{Host as Surveyed};
 
-use crate::options::configuring::variables_for;
 use crate::plan::looking::survey;
+use crate::plan::shared_variables::SharedVariables;
 use crate::{Candidate, World};
-use kt_base::{Interface, Items, NoMemory, Reason, Verdict};
+use kt_base::{Interface, Items, NoMemory, Reason, Text, Variables, Verdict};
 use kt_config::Config;
 use kt_metadata::{Host, Meta, unmet};
 use kt_sched::Job;
@@ -54,14 +54,16 @@ fn decided(
     }
 }
 
-/// The job of a case at a position.
+/// The job of a case at a position, with the variables of its suite.
 fn job_at(
     alloc: Global,
     config: &Config,
     host: &Host,
     position: u32,
     candidate: &Candidate,
+    vars: Variables,
 ) -> Result<Job, NoMemory>
+    requires { vars ≡ variables_for config.now candidate.now.suite }
     ensures is { IfOk result (λ job. IsJobOf config.now host.now position candidate.now job) }
     ensures fit { IfOk result (λ job. IsFit job) }
 {
@@ -72,7 +74,7 @@ fn job_at(
         interface: candidate.interface,
         program: candidate.path.copy()?,
         case_name: candidate.case.name.copy()?,
-        vars: variables_for(alloc, config, &candidate.suite)?,
+        vars,
         timeout: meta.timeout,
         exclusive: meta.is_exclusive,
         cleanup: declares_cleanup(candidate.interface, &meta),
@@ -82,7 +84,8 @@ fn job_at(
 }
 
 /// The plan of some cases, at most 100,000: one job a case, in order. A case whose list has a fault
-/// is broken before it is started, and one with an unmet requirement is skipped.
+/// is broken before it is started, and one with an unmet requirement is skipped. Cases of one suite
+/// share its variables.
 pub fn make_plan(
     alloc: Global,
     config: &Config,
@@ -95,8 +98,11 @@ pub fn make_plan(
 {
     let mut plan = Items::new(alloc);
     let mut position: u32 = 0;
+    let mut shared = SharedVariables::of(alloc, config, &Text::new(alloc))?;
     for candidate in cases {
-        plan.push(job_at(alloc, config, host, position, candidate)?)?;
+        shared = shared.next(alloc, config, &candidate.suite)?;
+        let vars = shared.variables.copy()?;
+        plan.push(job_at(alloc, config, host, position, candidate, vars)?)?;
         position += 1;
     }
     Ok(plan)

@@ -1,0 +1,48 @@
+use crate::options::configuring::variables_for;
+use kt_base::{NoMemory, Text, Variables};
+use kt_config::Config;
+use std::alloc::Global;
+
+/// The variables of a suite, whose memory the jobs of its cases share.
+#[derive(Drop)]
+pub struct SharedVariables {
+    pub suite: Text,
+    pub variables: Variables,
+}
+
+impl SharedVariables {
+    ghost use Rattle.std.specs.Prelude.{◌≡◌, IfOk};
+    ghost use Rattle.kt_plan.specs.Common.{variables_for};
+
+    /// Those of a suite.
+    pub fn of(alloc: Global, config: &Config, suite: &Text) -> Result<SharedVariables, NoMemory>
+        ensures suite { IfOk result (λ shared. shared.suite ≡ suite.now) }
+        ensures variables { IfOk result (λ shared.
+            shared.variables ≡ variables_for config.now suite.now) }
+    {
+        let variables = variables_for(alloc, config, suite)?;
+        Ok(SharedVariables {
+            suite: suite.copy()?,
+            variables: variables.into_shared()?,
+        })
+    }
+
+    /// Those of the next case's suite, which are the same if the suite is.
+    pub fn next(
+        self,
+        alloc: Global,
+        config: &Config,
+        suite: &Text,
+    ) -> Result<SharedVariables, NoMemory>
+        requires { self.variables ≡ variables_for config.now self.suite }
+        ensures suite { IfOk result (λ shared. shared.suite ≡ suite.now) }
+        ensures variables { IfOk result (λ shared.
+            shared.variables ≡ variables_for config.now suite.now) }
+    {
+        if self.suite.is_word(suite.as_str()) {
+            return Ok(self);
+        }
+        let other = SharedVariables::of(alloc, config, suite)?;
+        Ok(other)
+    }
+}
