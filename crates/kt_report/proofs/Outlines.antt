@@ -1,10 +1,14 @@
--- What the outputs of entries don't change.
+-- What isn't shown of entries doesn't change a report.
 use Rattle.std.proofs.Common.{codes, flat_map, fold, if◌then◌else◌, ◌≡◌, ℕ, ◌+◌, Bool, true, false, cond, List, [], ◌∷◌, ◌++◌, length, map, refl, ap, ap₂, ◌∙◌}
 use Rattle.kt_report.proofs.Common.{decimal, list_any, length-map, Date, Entry, Kind, Passed, Skipped, ExpectedFailure, Failed, Broken, seconds, heading, entry_bytes, same_kind, is_of, entries_of, title, titled, section, sections, count_bytes, counts_bytes, started_bytes, text_bytes}
 use Rattle.kt_base.specs.declared.entry.Run.{Run}
-use Rattle.kt_report.specs.Outlines.{ChangesOutputs, with_entries}
+use Rattle.kt_report.specs.Outlines.{ChangesUnshown, with_entries}
 
-module _ (change : Entry → Entry) (same : ChangesOutputs change) where
+one : (v : Bool) (change : Entry → Entry) → ChangesUnshown v change → (e : Entry) → entry_bytes v (change e) ≡ entry_bytes v e
+one false change same e = ap (entry_bytes false) (same e)
+one true change same e = ap (entry_bytes true) (same e)
+
+module _ (v : Bool) (change : Entry → Entry) (same : ChangesUnshown v change) where
   of_kind : (kind : Kind) (es : List Entry) → entries_of kind (map change es) ≡ map change (entries_of kind es)
   of_kind kind [] = refl
   of_kind kind (e ∷ es) = rw (ap (is_of kind) (same e)) (by (is_of kind e) (of_kind kind es))
@@ -14,29 +18,25 @@ module _ (change : Entry → Entry) (same : ChangesOutputs change) where
       by true more = ap (λ l. change e ∷ l) more
       by false more = more
 
-  one : (v : Bool) (e : Entry) → entry_bytes v (change e) ≡ entry_bytes v e
-  one false e = ap (entry_bytes false) (same e)
-  one true e = ap (entry_bytes true) (same e)
+  lines : (es : List Entry) → flat_map (entry_bytes v) (map change es) ≡ flat_map (entry_bytes v) es
+  lines [] = refl
+  lines (e ∷ es) = ap₂ (λ x y. x ++ y) (one v change same e) (lines es)
 
-  lines : (v : Bool) (es : List Entry) → flat_map (entry_bytes v) (map change es) ≡ flat_map (entry_bytes v) es
-  lines v [] = refl
-  lines v (e ∷ es) = ap₂ (λ x y. x ++ y) (one v e) (lines v es)
+  titles : (name : List ℕ) (es : List Entry) → titled v name (map change es) ≡ titled v name es
+  titles name [] = refl
+  titles name (e ∷ es) = ap (λ l. codes "===> " ++ name ++ codes "\n" ++ l) (lines (e ∷ es))
 
-  titles : (v : Bool) (name : List ℕ) (es : List Entry) → titled v name (map change es) ≡ titled v name es
-  titles v name [] = refl
-  titles v name (e ∷ es) = ap (λ l. codes "===> " ++ name ++ codes "\n" ++ l) (lines v (e ∷ es))
-
-  one_section : (v : Bool) (kinds : List Kind) (es : List Entry) (kind : Kind) → section v kinds (map change es) kind ≡ section v kinds es kind
-  one_section v kinds es kind = by (list_any (same_kind kind) kinds)
+  one_section : (kinds : List Kind) (es : List Entry) (kind : Kind) → section v kinds (map change es) kind ≡ section v kinds es kind
+  one_section kinds es kind = by (list_any (same_kind kind) kinds)
     where
       by : (b : Bool) → (if b then titled v (title kind) (entries_of kind (map change es)) else []) ≡ (if b then titled v (title kind) (entries_of kind es) else [])
-      by true = ap (titled v (title kind)) (of_kind kind es) ∙ titles v (title kind) (entries_of kind es)
+      by true = ap (titled v (title kind)) (of_kind kind es) ∙ titles (title kind) (entries_of kind es)
       by false = refl
 
-  all_sections : (v : Bool) (kinds : List Kind) (es : List Entry) → sections v kinds (map change es) ≡ sections v kinds es
-  all_sections v kinds es =
-      ap₂ (λ x y. x ++ y) (ap₂ (λ x y. x ++ y) (ap₂ (λ x y. x ++ y) (ap₂ (λ x y. x ++ y) (one_section v kinds es Passed) (one_section v kinds es Skipped)) (one_section v kinds es ExpectedFailure))
-      (one_section v kinds es Broken)) (one_section v kinds es Failed)
+  all_sections : (kinds : List Kind) (es : List Entry) → sections v kinds (map change es) ≡ sections v kinds es
+  all_sections kinds es =
+      ap₂ (λ x y. x ++ y) (ap₂ (λ x y. x ++ y) (ap₂ (λ x y. x ++ y) (ap₂ (λ x y. x ++ y) (one_section kinds es Passed) (one_section kinds es Skipped)) (one_section kinds es ExpectedFailure))
+      (one_section kinds es Broken)) (one_section kinds es Failed)
 
   one_count : (kind : Kind) (es : List Entry) → count_bytes kind (map change es) ≡ count_bytes kind es
   one_count kind es = ap (λ l. decimal (length l)) (of_kind kind es) ∙ ap decimal (length-map (entries_of kind es) change)
@@ -48,9 +48,9 @@ module _ (change : Entry → Entry) (same : ChangesOutputs change) where
   times n [] = refl
   times n (e ∷ es) = ap (λ m. fold (λ a (e : Entry). a + e.millis) (n + m) (map change es)) (ap (λ (d : Entry). d.millis) (same e)) ∙ times (n + e.millis) es
 
-  pub same_text : (date : Date) (kinds : List Kind) (v : Bool) (run : Run) → text_bytes date kinds v (with_entries change run) ≡ text_bytes date kinds v run
-  same_text date kinds v run =
-      ap₂ (λ x y. x ++ y) (all_sections v kinds run.entries)
+  pub same_text : (date : Date) (kinds : List Kind) (run : Run) → text_bytes date kinds v (with_entries change run) ≡ text_bytes date kinds v run
+  same_text date kinds run =
+      ap₂ (λ x y. x ++ y) (all_sections kinds run.entries)
       (ap₂ (λ x y. started_bytes date run ++ x ++ codes "Total time: " ++ seconds y ++ codes "s\n") (all_counts run.entries) (times 0 run.entries))
 
   pub same_heading : (run : Run) → heading (with_entries change run) ≡ heading run

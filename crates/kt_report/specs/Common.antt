@@ -7,6 +7,7 @@ pub use Rattle.kt_base.specs.Lossy.{lossy}
 pub use Rattle.kt_base.specs.Shows.{Shows}
 pub use Rattle.kt_base.specs.Utf8.{utf8}
 pub use Rattle.kt_base.specs.declared.entry.Entry.{Entry}
+pub use Rattle.kt_base.specs.declared.entry.Output.{Output}
 pub use Rattle.kt_base.specs.declared.verdict.Kind.{Kind}
 pub use Rattle.kt_base.specs.declared.entry.Run.{Run}
 pub use Rattle.kt_report.specs.Cases.{case_texts, with_outputs}
@@ -14,6 +15,6 @@ pub use Rattle.kt_report.specs.Digits.{digit, four_digits, seconds, three_digits
 pub use Rattle.kt_report.specs.Escapes.{escaped, escapes}
 pub use Rattle.kt_report.specs.Junits.{case_bytes, element, ending, heading, junit_bytes, output_element, result_element}
 pub use Rattle.kt_report.specs.Lines.{line_bytes, shown_reason}
-pub use Rattle.kt_report.specs.Outlines.{ChangesOutputs, with_entries}
+pub use Rattle.kt_report.specs.Outlines.{ChangesUnshown, with_entries}
 pub use Rattle.kt_report.specs.Pairs.{entry_bytes, pair_bytes, shown_byte}
 pub use Rattle.kt_report.specs.Texts.{IsDateOf, clock_bytes, count_bytes, counts_bytes, date_bytes, entries_of, moment_bytes, same_kind, section, sections, shown_moment, started_bytes, summary, text_bytes, title, unfinished_bytes}

@@ -1,5 +1,5 @@
-ghost use Rattle.std.specs.Prelude.{is_err, ◌≡◌, Bool, List};
-ghost use Rattle.kt_report.specs.Common.{Date, Shows, IsDateOf, text_bytes, Entry, Kind, Run, heading, ChangesOutputs, with_entries};
+ghost use Rattle.std.specs.Prelude.{is_err, ◌≡◌, Bool, false, List};
+ghost use Rattle.kt_report.specs.Common.{Date, Shows, IsDateOf, text_bytes, Entry, Output, Kind, Run, heading, case_bytes, with_outputs, ChangesUnshown, with_entries};
 
 use crate::moments::date_of;
 use crate::sections::write_sections;
@@ -27,12 +27,17 @@ pub fn text<W: Write>(
 }
 
 /// The law of outlines: the text report and the heading of the JUnit report of a run are the same
-/// whatever the outputs of its entries are.
+/// whatever the outputs of its entries are. So are the JUnit report and the text report without what
+/// cases declared, whatever that is.
 pub fn law_of_outlines()
     ensures text { (change : Entry → Entry) (date : Date) (kinds : List Kind) (verbose : Bool)
-        (run : Run) → ChangesOutputs change
+        (run : Run) → ChangesUnshown verbose change
         → text_bytes date kinds verbose (with_entries change run)
         ≡ text_bytes date kinds verbose run }
-    ensures heading { (change : Entry → Entry) (run : Run) → ChangesOutputs change
+    ensures heading { (change : Entry → Entry) (run : Run) → ChangesUnshown false change
         → heading (with_entries change run) ≡ heading run }
+    ensures case { (change : Entry → Entry) (e : Entry) (body cleanup : Output)
+        → ChangesUnshown false change
+        → case_bytes (with_outputs (change e) body cleanup)
+        ≡ case_bytes (with_outputs e body cleanup) }
 {}

@@ -68,7 +68,7 @@ unfoldable pub use Rattle.sqlite_value.specs.Keys.{first_key}
 pub use Rattle.sqlite_value.specs.Order.{column}
 unfoldable pub use Rattle.sqlite_value.specs.Order.{value_cmp}
 pub use Rattle.kt_store.specs.Ask.{IsNoMemory, IsStoreFault, Rests}
-pub use Rattle.kt_store.specs.Heads.{entry_at, head_of, without_outputs}
+pub use Rattle.kt_store.specs.Heads.{entry_at, head_of, outlined, with_pairs, without_outputs}
 pub use Rattle.kt_store.specs.Inner.Ask.{AreWide, Asked, HasColumns, MayShow, MayTell, ShowsOf, Told}
 pub use Rattle.kt_store.specs.Inner.Calls.{Statement, entry_statements, five_statement, five_text, five_values, make_statements, pair_statement, pair_statements, pair_text, pair_texts, pair_values, plain_statements, raise_statements, single_statements}
 pub use Rattle.kt_store.specs.Inner.Heads.{entry_columns, head_columns, output_columns, pair_columns, pairs_shown}

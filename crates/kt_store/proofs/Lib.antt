@@ -34,9 +34,11 @@ pub mod FillLemmas
 pub mod RaiseLemmas
 pub mod PairsLemmas
 pub mod MergeLemmas
+pub mod Outlined
 pub mod TurnLemmas
 pub mod CommitLemmas
 pub mod AttachLemmas
 pub mod UniqueLemmas
 pub mod ProbeLemmas
 pub mod WholeEntries
+pub mod NewFiles

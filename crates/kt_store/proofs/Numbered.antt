@@ -31,7 +31,7 @@ numbers_changed (Put number e (Err fault)) runs h = h
 numbers_changed (Finished number (Ok done)) runs h = numbers_finish number 1 runs h
 numbers_changed (Finished number (Err fault)) runs h = h
 numbers_changed (Heads answer) runs h = h
-numbers_changed (Outline number answer) runs h = h
+numbers_changed (Outline number pairs answer) runs h = h
 numbers_changed (Outputs number position answer) runs h = h
 
 -- a run that takes an entry has none at its position
@@ -72,5 +72,5 @@ ordered_changed (Put number e (Err fault)) runs h o a = o
 ordered_changed (Finished number (Ok done)) runs h o a = ordered_finish number runs o
 ordered_changed (Finished number (Err fault)) runs h o a = o
 ordered_changed (Heads answer) runs h o a = o
-ordered_changed (Outline number answer) runs h o a = o
+ordered_changed (Outline number pairs answer) runs h o a = o
 ordered_changed (Outputs number position answer) runs h o a = o

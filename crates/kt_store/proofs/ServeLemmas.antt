@@ -1,5 +1,5 @@
 -- How the tables of a database serve the calls of a store.
-use Rattle.std.proofs.Common.{Result, Ok, Err, ◌≡◌, inl, ℕ, suc, List, [], ◌∷◌, ◌++◌, ◌<◌, None, length, IsErrAnd, refl, subst, sym, arith}
+use Rattle.std.proofs.Common.{Result, Ok, Err, Bool, ◌≡◌, inl, ℕ, suc, List, [], ◌∷◌, ◌++◌, ◌<◌, None, length, IsErrAnd, refl, subst, sym, arith}
 use Rattle.kt_store.proofs.Common.{Trees, Ghosts, Held, state, State, HasCleanDisk, Survives, survives_then, survives_weaker, last_run, Entry, Run, IsStoreFault, KeepsRuns, OnlyReads, Changes, MayChange, AreNumbered, AreOrdered, Keeps, KeepsOne, new_run, with_entry, put_refusal, finish, finish_refusal, Serves, Agrees, Outlasts, changed_by, StandsFor, Leaves, StoreCall, Began, Put, Finished, Heads, Outline, Outputs, StoreFault}
 use Rattle.kt_store.specs.declared.result_store.CaseOutputs.{CaseOutputs}
 use Rattle.kt_store.specs.declared.result_store.RunHead.{RunHead}
@@ -27,7 +27,7 @@ always_outlasts Leaves h (Put number e (Err fault)) runs may old new = λ _. h n
 always_outlasts Leaves h (Finished number (Ok done)) runs may old new = h new _
 always_outlasts Leaves h (Finished number (Err fault)) runs may old new = λ _. h new _
 always_outlasts Leaves h (Heads answer) runs may old new = λ _. h new _
-always_outlasts Leaves h (Outline number answer) runs may old new = λ _. h new _
+always_outlasts Leaves h (Outline number pairs answer) runs may old new = λ _. h new _
 always_outlasts Leaves h (Outputs number position answer) runs may old new = λ _. h new _
 
 -- a crash leaves what it left before, if nothing was called
@@ -84,9 +84,9 @@ module _ {S : Type 0} (g : Ghosts S) (old new : Held S) (kept : KeepsRuns g old 
   heads_read answer why =
       serves g (Heads answer) old new kept early why (λ runs may has l. untouched (state g old) (state g new) may (only runs has) l)
 
-  pub outline_read : (number : ℕ) (answer : Result (List Entry) StoreFault) → ((runs : List Run) → StandsFor (state g old) runs → HasCleanDisk (state g new) → Agrees runs (Outline number answer)) → Serves (results g) (Outline number answer) old new
-  outline_read number answer why =
-      serves g (Outline number answer) old new kept early why (λ runs may has l. untouched (state g old) (state g new) may (only runs has) l)
+  pub outline_read : (number : ℕ) (pairs : Bool) (answer : Result (List Entry) StoreFault) → ((runs : List Run) → StandsFor (state g old) runs → HasCleanDisk (state g new) → Agrees runs (Outline number pairs answer)) → Serves (results g) (Outline number pairs answer) old new
+  outline_read number pairs answer why =
+      serves g (Outline number pairs answer) old new kept early why (λ runs may has l. untouched (state g old) (state g new) may (only runs has) l)
 
   pub outputs_read : (number position : ℕ) (answer : Result CaseOutputs StoreFault) → ((runs : List Run) → StandsFor (state g old) runs → HasCleanDisk (state g new) → Agrees runs (Outputs number position answer)) → Serves (results g) (Outputs number position answer) old new
   outputs_read number position answer why =

@@ -18,7 +18,7 @@ pub use Rattle.sqlite_wal.specs.Files.{image_at}
 pub use Rattle.kt_store.specs.Ask.{IsNoMemory, IsStoreFault, Rests}
 pub use Rattle.kt_store.specs.Attaching.{Blank, IsOf, Older, Refuses, Takes}
 pub use Rattle.kt_store.specs.Files.{AreOver, IsClosed, IsOver}
-pub use Rattle.kt_store.specs.Heads.{entry_at, head_of, no_output, outputs_of, without_outputs}
+pub use Rattle.kt_store.specs.Heads.{entry_at, head_of, no_output, outlined, outputs_of, with_pairs, without_outputs}
 pub use Rattle.kt_store.specs.Inner.Ask.{AreWide, Asked, HasColumns, MayShow, MayTell, ShowsOf, Told}
 pub use Rattle.kt_store.specs.Inner.Attaching.{HasNumber}
 pub use Rattle.kt_store.specs.Inner.Calls.{Statement, entry_statements, five_statement, pair_statement, pair_statements, plain_statements, single_statements}

@@ -1,5 +1,5 @@
--- What a call shows of runs and of entries: the heads of runs, entries without their outputs, and the outputs.
-use Rattle.std.specs.Prelude.{ℕ, ◌==◌, [], Option, Some, None}
+-- What a call shows of runs and of entries: the heads of runs, entries without their outputs, with or without their pairs, and the outputs.
+use Rattle.std.specs.Prelude.{ℕ, Bool, true, false, ◌==◌, [], Option, Some, None}
 use Rattle.std.specs.List.{find}
 use Rattle.kt_base.specs.declared.entry.Entry.{Entry}
 use Rattle.kt_base.specs.declared.entry.Output.{Output}
@@ -18,6 +18,15 @@ no_output = record { out = []; err = [] }
 -- an entry without its outputs
 abbrev pub without_outputs : Entry → Entry
 without_outputs e = record e { body = no_output; cleanup = no_output }
+
+-- an entry with its pairs, if they are asked for
+abbrev pub with_pairs : Bool → Entry → Entry
+with_pairs true e = e
+with_pairs false e = record e { meta = [] }
+
+-- an entry as an outline has it
+abbrev pub outlined : Bool → Entry → Entry
+outlined pairs e = without_outputs (with_pairs pairs e)
 
 -- the outputs of an entry
 abbrev pub outputs_of : Entry → CaseOutputs

@@ -5,6 +5,7 @@ pub mod Calls
 pub mod Fault
 pub mod Heads
 pub mod Kept
+pub mod NewFiles
 pub mod Runs
 pub mod Transactions
 pub mod Whole

@@ -6,6 +6,7 @@ mod batch;
 mod crashes;
 mod heads;
 mod lookup;
+mod new_file;
 mod outlines;
 mod outputs;
 mod pairs;

@@ -1,5 +1,5 @@
 ghost use Rattle.std.specs.Prelude.{◌≡◌, ◌<◌, ◌≤◌, ◌^◌, pos, ℕ, length, map, List, ◌++◌, IfOk, OnOk, IfErr};
-ghost use Rattle.kt_store.specs.Common.{utf8, AllByRecursion, AreWide, Int, column, HasCleanDisk, state, IsNoMemory, IsStoreFault, no_output, without_outputs, KeepsRuns, OnlyReads, IsAscending, entries_of, IsEntry, IsPair, IsText, AreRuns, kind_code, run_at, entry_columns, pair_columns, pairs_shown, StandsFor};
+ghost use Rattle.kt_store.specs.Common.{utf8, AllByRecursion, AreWide, Int, column, HasCleanDisk, state, IsNoMemory, IsStoreFault, no_output, outlined, with_pairs, without_outputs, KeepsRuns, OnlyReads, IsAscending, entries_of, IsEntry, IsPair, IsText, AreRuns, kind_code, run_at, entry_columns, pair_columns, pairs_shown, StandsFor};
 ghost use Rattle.kt_base.specs.declared.entry.Entry.{Entry as Stored};
 ghost use Rattle.kt_base.specs.declared.verdict.Kind.{Kind as Sort};
 ghost use Rattle.sqlite_value.specs.declared.value.Value.TheVariants.{Text as Words};
@@ -151,20 +151,26 @@ pub(crate) fn entries_in(
     Ok(entries)
 }
 
-/// The rows of the pairs of a run's entries, by position and place.
+/// The rows of the pairs of a run's entries, by position and place, if they are asked for.
 pub(crate) fn all_pairs<S: Alter>(
     conn: &mut Connection<S>,
+    alloc: Global,
     run: u64,
+    pairs: bool,
 ) -> Result<Vec<Row>, StoreFault>
     requires { run < 2 ^ 63 }
     ensures all { (runs : _) → StandsFor (state S.Store conn.old) runs
         → HasCleanDisk (state S.Store conn.new)
-        → IfOk result (λ rows. rows.items ≡ pairs_shown (entries_of (run_at runs run))) }
+        → IfOk result (λ rows. rows.items
+        ≡ pairs_shown (map (with_pairs pairs) (entries_of (run_at runs run)))) }
     ensures wide { IfOk result (λ rows. AreWide 3 rows.items) }
     ensures failed { IfErr result IsStoreFault }
     ensures stands { KeepsRuns S.Store conn.old conn.new }
     ensures crash { OnlyReads S.Store conn.old conn.new }
 {
+    if !pairs {
+        return Ok(Vec::new(alloc));
+    }
     let rows = query(
         conn,
         "SELECT position, name, value FROM props WHERE run = ?1 ORDER BY position, place",
@@ -196,22 +202,23 @@ pub(crate) fn all_rows<S: Alter>(conn: &mut Connection<S>, run: u64) -> Result<V
     Ok(rows)
 }
 
-/// The entries of a run without their outputs, by position.
+/// The entries of a run without their outputs, by position, with their pairs if they are asked for.
 pub(crate) fn all_entries<S: Alter>(
     conn: &mut Connection<S>,
     alloc: Global,
     run: u64,
+    pairs: bool,
 ) -> Result<Vec<Entry>, StoreFault>
     requires { run < 2 ^ 63 }
     ensures all { (runs : _) → StandsFor (state S.Store conn.old) runs
         → HasCleanDisk (state S.Store conn.new)
-        → IfOk result (λ found. found.items ≡ map without_outputs (entries_of (run_at runs run))) }
+        → IfOk result (λ found. found.items ≡ map (outlined pairs) (entries_of (run_at runs run))) }
     ensures failed { IfErr result IsStoreFault }
     ensures stands { KeepsRuns S.Store conn.old conn.new }
     ensures crash { OnlyReads S.Store conn.old conn.new }
 {
     let rows = all_rows(conn, run)?;
-    let pairs = all_pairs(conn, run)?;
-    let entries = entries_in(alloc, &rows, &pairs)?;
+    let shown = all_pairs(conn, alloc, run, pairs)?;
+    let entries = entries_in(alloc, &rows, &shown)?;
     Ok(entries)
 }

@@ -78,10 +78,10 @@ pub trait ResultStore: Keeping {
             self.old self.new }
         ensures failed { IfErr result IsStoreFault };
 
-    /// The entries of a run with their pairs and without their outputs, by position. `NoRun` where
-    /// no run has the number. A reason comes back as its text.
-    fn outline(&mut self, run: u64) -> Result<Vec<Entry>, StoreFault>
-        ensures { Serves Self.Keeping (Outline run (seen_as (λ found. found.items) result))
+    /// The entries of a run without their outputs, by position, and without their pairs unless
+    /// `pairs` is set. `NoRun` where no run has the number. A reason comes back as its text.
+    fn outline(&mut self, run: u64, pairs: bool) -> Result<Vec<Entry>, StoreFault>
+        ensures { Serves Self.Keeping (Outline run pairs (seen_as (λ found. found.items) result))
             self.old self.new };
 
     /// The outputs of the entry of a run at a position. `NoRun` where no run has the number, or the

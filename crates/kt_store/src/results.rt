@@ -4,6 +4,7 @@ ghost use Rattle.kt_store.specs.Common.{state, IsStoreFault, IsOf, Takes, Refuse
 use crate::attach::settle;
 use crate::heads::all_heads;
 use crate::lookup::look;
+use crate::new_file::prepare;
 use crate::outlines::all_entries;
 use crate::outputs::find_outputs;
 use crate::put::{add_entry, check, reason_of};
@@ -110,9 +111,9 @@ impl<S: Alter> ResultStore for Results<S> {
         Ok(found)
     }
 
-    fn outline(&mut self, run: u64) -> Result<Vec<Entry>, StoreFault> {
+    fn outline(&mut self, run: u64, pairs: bool) -> Result<Vec<Entry>, StoreFault> {
         look(&mut self.conn, run)?;
-        let found = all_entries(&mut self.conn, self.alloc, run)?;
+        let found = all_entries(&mut self.conn, self.alloc, run, pairs)?;
         Ok(found)
     }
 
@@ -132,6 +133,7 @@ impl<S: Start> Results<FileStore<FileFrom<S>>> {
         ensures opened { IfOk result (AreOver (image_at S.Start)) }
         ensures due { IfErr result (λ e. IsStoreFault e ⊎ (e ≡ StoreFault.UnknownSchema)) }
     {
+        prepare(rt, file);
         let connection = open_file(rt, file, start)?;
         match Results::attach(rt.alloc(), connection) {
             Ok(results) => Ok(results),

@@ -66,7 +66,7 @@ pub fn entries<R: ResultStore>(
         → IfErr result (λ e. IsStoreFault e
         ⊎ ((e ≡ StoreFault.NoRun) × (run_at runs run ≡ None))) }
 {
-    let outline = results.outline(run)?;
+    let outline = results.outline(run, true)?;
     let entries = all_with_outputs(alloc, results, run, outline)?;
     Ok(entries)
 }

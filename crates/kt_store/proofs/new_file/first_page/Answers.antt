@@ -1,0 +1,13 @@
+use Rattle.std.proofs.Common.{ℕ, List, refl, subst, sym}
+use Rattle.sqlite_pool.specs.Header.{first_page}
+use Rattle.sqlite_wal.specs.Recovery.{Image}
+use Rattle.kt_store.specs.Inner.NewFiles.{HoldsEmpty}
+use Rattle.kt_store.proofs.NewFiles.{holds_empty}
+use Rattle.kt_store.proofs.new_file.first_page.Goals as goal
+
+pub returns-clause-exact : goal.returns-clause-exact
+unfolding first_page
+returns-clause-exact c = rw c.copy_from_slice.ensures.after refl
+
+pub returns-clause-holds : goal.returns-clause-holds
+returns-clause-holds c = λ log ignored. subst (λ (page : List ℕ). let image : Image = record { log = log; db = page } in HoldsEmpty image) (sym (returns-clause-exact c)) (holds_empty log ignored)
