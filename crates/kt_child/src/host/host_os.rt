@@ -16,6 +16,9 @@ use std::process::{ExitStatus, Processes};
 use std::rt::{Clock, Files};
 use std::time::SystemTime;
 
+/// Whether a child is heard late is looked at once in so many turns.
+const TURNS_OF_A_LOOK: u32 = 8;
+
 /// The system itself: the processes, files and clocks of the standard library.
 ///
 /// A pause is over when a child ends, or after 10 milliseconds. A poll whose answer `running` would be early sleeps
@@ -34,7 +37,7 @@ pub struct HostOs<R: Processes> {
     last: Option<HostChild<R::Started>>,
     /// The pauses since a child was last seen to end.
     quiet: u32,
-    /// Whether some child is heard late in this turn, once a poll has looked.
+    /// Whether some child is heard late, once a poll has looked.
     late: Option<bool>,
 }
 
@@ -86,7 +89,7 @@ impl<R: Processes + AllocGlobal + Drop> HostOs<R> {
 impl<R: Processes + Clock + AllocGlobal + Drop> HostOs<R> {
     ghost use Rattle.std.specs.Prelude.{◌≡◌, Some};
 
-    /// Whether some child is heard late, as the first poll of the turn saw it.
+    /// Whether some child is heard late, as a poll of this turn or of one of the last saw it.
     fn is_late(&mut self) -> bool
         ensures children { self.new.children ≡ self.old.children }
         ensures limit { self.new.limit ≡ self.old.limit }
@@ -191,15 +194,20 @@ impl<R: Processes + Files<File = File> + Clock + AllocGlobal + Clone + Drop> Os 
     }
 
     fn pause(&mut self) -> Result<(), OsFault> {
+        let late = self.late == Some(true);
+        if late || self.quiet % TURNS_OF_A_LOOK == 0 {
+            self.late = None;
+        }
         // The late ones are heard again at once.
-        if self.late.take() == Some(true) {
+        if late {
             return Ok(());
         }
+        let quiet = self.quiet.saturating_add(1);
         if is_quiet(self.quiet) {
+            self.quiet = quiet;
             rest(&mut self.removals, &self.rt, PAUSE);
             return Ok(());
         }
-        let quiet = self.quiet + 1;
         let ended = children::await_end(
             &mut self.children,
             &mut self.removals,
