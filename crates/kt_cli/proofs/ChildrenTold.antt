@@ -1,7 +1,6 @@
 -- Each end in the trace of a command is told by its own child.
 use Rattle.std.proofs.Common.{◌≡◌, ◌∙◌, ℕ, List, [], ◌∷◌, ◌⊎◌, inl, inr, refl, ap, subst, sym}
-use Rattle.kt_cli.proofs.Common.{Job, IsPlan, Trace, NoEvent, Leads, Chain, ChildrenState, idle_state, plan_fits, Question, OfTree, OfHost, leads_by, HostWorld, HostStarts, HostWaits, IsHostAnswer, IsLook, MachineAnswer, host_world, look_kept, running_kept, Course, Seen, Means, CutShort, stopped, listed, tested, debugged, idle, reported, reported_junit, no_memory, cut, report_cut, junit_cut, Command}
-use Rattle.kt_child.specs.System.Calls.{Call}
+use Rattle.kt_cli.proofs.Common.{Job, IsPlan, Trace, NoEvent, Leads, Chain, ChildrenState, idle_state, plan_fits, Question, OfTree, OfHost, leads_by, HostWorld, HostStarts, HostWaits, IsHostAnswer, IsLook, host_world, look_kept, running_kept, Course, Seen, Means, CutShort, stopped, listed, tested, debugged, idle, reported, reported_junit, no_memory, cut, report_cut, junit_cut, Command}
 use Rattle.kt_child.specs.Driving.Numbers.{IsBare}
 use Rattle.kt_child.proofs.TraceTells.{ends_are_told}
 use Rattle.kt_cli.specs.ChildrenTold.{ChildrenTell}

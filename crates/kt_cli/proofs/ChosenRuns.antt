@@ -1,6 +1,6 @@
 -- The run that is shown is the chosen one.
 use Rattle.std.proofs.Common.{Option, Some, None, slice_get, map, ◌-◌, ◌==◌, ◌≡◌, ℕ, zero, suc, Bool, true, false, cond, List, [], ◌∷◌, length, arith, refl, sym, ap, ◌∙◌, ◌⊎◌, inl, inr}
-use Rattle.kt_cli.proofs.Common.{find, option_map, nat_tests, slice_get-map, length-map, Entry, Run, IsStoreFault, head_of, without_outputs, AreNumbered, run_at, RunHead, StoreFault, chosen}
+use Rattle.kt_cli.proofs.Common.{find, option_map, nat_tests, slice_get-map, length-map, Entry, Run, IsStoreFault, head_of, outlined, AreNumbered, run_at, RunHead, StoreFault, chosen}
 use Rattle.kt_store.specs.declared.store_fault.StoreFault.TheVariants.{NoRun as Absent}
 use Rattle.kt_cli.proofs.Numbered.{number_at}
 
@@ -45,10 +45,10 @@ entries_there number runs heads head fault h e f (inr s) =
     let z = sym s.1 ∙ n in absurd (cc)
 
 -- an entry of an outline is found in the run by its position
-pub entry_found : (es : List Entry) (k : ℕ) (e : Entry) → slice_get (map without_outputs es) k ≡ Some e → find (λ (d : Entry). d.position == e.position) es ≡ None → ⊥
+pub entry_found : (es : List Entry) (k : ℕ) (e : Entry) → slice_get (map (outlined false) es) k ≡ Some e → find (λ (d : Entry). d.position == e.position) es ≡ None → ⊥
 entry_found [] k e there none = absurd (cc)
 entry_found (x ∷ es) zero e there none =
-    let same : x.position ≡ e.position = ap (λ (d : Entry). d.position) (some_is (without_outputs x) e there) in
+    let same : x.position ≡ e.position = ap (λ (d : Entry). d.position) (some_is (outlined false x) e there) in
     let test : (x.position == e.position) ≡ true = grind (arith, nat_tests, same) in
     let z : Some x ≡ None = rw test at none in absurd (cc)
 entry_found (x ∷ es) (suc k) e there none = by (x.position == e.position) (entry_found es k e there) none

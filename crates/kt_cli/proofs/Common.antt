@@ -37,7 +37,7 @@ pub use Rattle.kt_sched.specs.declared.run_fault.RunFault.TheVariants.{NoMemory,
 pub use Rattle.kt_sched.specs.declared.sink.SinkFault.{SinkFault}
 pub use Rattle.kt_sched.specs.declared.totals.Totals.{Totals}
 pub use Rattle.kt_store.specs.Ask.{IsStoreFault}
-pub use Rattle.kt_store.specs.Heads.{entry_at, head_of, outputs_of, without_outputs}
+pub use Rattle.kt_store.specs.Heads.{entry_at, head_of, outlined, outputs_of, without_outputs}
 pub use Rattle.kt_store.specs.Runs.{AreNumbered, finish, finish_refusal, finish_refusal_of, has_position, insert_at, new_run, put_refusal, put_refusal_of, run_at, with_entry}
 pub use Rattle.kt_store.specs.Serving.{Agrees, Outlasts, Serves, changed_by}
 pub use Rattle.kt_store.specs.StoreCalls.{Began, Finished, Heads, Outline, Outputs, Put, StoreCall, seen_as}

@@ -32,8 +32,8 @@ filled_bare (e ∷ outline) (o ∷ outputs) all = ap (λ es. without_outputs e �
 -- the heading is that of the entries with their outputs
 pub heading_filled : (run : Run) (outputs : List CaseOutputs) → length outputs ≡ length run.entries → heading run ≡ heading (record run { entries = filled run.entries outputs })
 heading_filled run outputs all =
-    sym (same_heading without_outputs (λ e. refl) run) ∙ ap (λ (es : List Entry). heading (record run { entries = es })) (sym (filled_bare run.entries outputs all))
-    ∙ same_heading without_outputs (λ e. refl) (record run { entries = filled run.entries outputs })
+    sym (same_heading false without_outputs (λ e. refl) run) ∙ ap (λ (es : List Entry). heading (record run { entries = es })) (sym (filled_bare run.entries outputs all))
+    ∙ same_heading false without_outputs (λ e. refl) (record run { entries = filled run.entries outputs })
 
 -- the exit of a `?`: the fault is the one that was met
 pub error_is : {T E : Type 0} (P : Result T E → Type 0) (r : Result T E) (fault : E) → IsErrAnd r (λ x. x ≡ fault) → P (Err fault) → P r

@@ -1,6 +1,6 @@
 -- Runs in memory are looked up and changed.
 use Rattle.std.proofs.Common.{Option, Some, None, Ok, Err, Bool, true, false, slice_get, nat_lt, insert, map, ◌==◌, if◌then◌else◌, ◌≡◌, ℕ, zero, suc, ◌<◌, ◌≤◌, List, [], ◌∷◌, length, arith, refl, sym, ap, ◌∙◌, get_or, set, inl, inr, subst}
-use Rattle.kt_cli.proofs.Common.{find, set-get_or, Entry, Run, StoreFault, NoRun, CaseOutputs, IsStoreFault, without_outputs, outputs_of, entry_at, AreNumbered, insert_at, run_at, put_refusal_of, finish_refusal_of, Agrees, Serves, changed_by, StoreCall, Put, Finished, Outline, Outputs, LeavesInMemory, memory_runs, ServesInMemory, FindsPlace, entry_refusal, closing_refusal, place_among}
+use Rattle.kt_cli.proofs.Common.{find, set-get_or, Entry, Run, StoreFault, NoRun, CaseOutputs, IsStoreFault, outlined, outputs_of, entry_at, AreNumbered, insert_at, run_at, put_refusal_of, finish_refusal_of, Agrees, Serves, changed_by, StoreCall, Put, Finished, Outline, Outputs, LeavesInMemory, memory_runs, ServesInMemory, FindsPlace, entry_refusal, closing_refusal, place_among}
 use Rattle.kt_store.proofs.Numbered.{numbers_changed, ordered_changed}
 use Rattle.kt_store.proofs.ServeLemmas.{always_outlasts}
 use Rattle.kt_cli.proofs.Numbered.{entry_placed, finish_placed}
@@ -47,8 +47,8 @@ module _ (old xs : List Run) (number place : ℕ) (run : Run) (s : xs ≡ old) (
         ∙ entry_placed 1 place number old run e n (f.0 ∙ omega arith) (read_there old place run f.1 (moved xs old place run s r)),
   )
 
-  pub outline_well : (entries : List Entry) → entries ≡ map without_outputs run.entries → ServesInMemory old (Outline number (Ok entries)) old
-  outline_well entries e = ((run, there, e), λ _. refl)
+  pub outline_well : (pairs : Bool) (entries : List Entry) → entries ≡ map (outlined pairs) run.entries → ServesInMemory old (Outline number pairs (Ok entries)) old
+  outline_well pairs entries e = ((run, there, e), λ _. refl)
 
   pub outputs_well : (position : ℕ) (e : Entry) (outputs : CaseOutputs) → Some e ≡ find (λ (x : Entry). x.position == position) run.entries → outputs ≡ outputs_of e
       → ServesInMemory old (Outputs number position (Ok outputs)) old

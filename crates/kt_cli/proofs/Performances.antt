@@ -13,7 +13,7 @@ module _ {M O P S : Type 0} (p : Program M O P S) (c : Command) (old : State M O
   module _ {R : Type 0} (keep : keeping.Ghosts R) (store after : R) (was now : Option (List ℕ)) (exit : ℕ) (options : ReportOptions) where
     -- a report
     pub over_report : (kinds : List Kind) (verbose : Bool) → c ≡ command.Report options kinds verbose
-        → DidReport keep store after was now exit (Reported options.run kinds verbose) (Unread options.run) → DoneOver p keep c old old store after was now exit
+        → DidReport keep store after was now exit (Reported options.run kinds verbose) (Unread options.run verbose) → DoneOver p keep c old old store after was now exit
     over_report kinds verbose e d =
         subst (λ (x : Command). DoneOver p keep x old old store after was now exit) (sym e) (alone refl refl (did_report no_world keep tt store after was now exit options kinds verbose d))
 

@@ -1,6 +1,6 @@
--- What the calls of a command come to over the runs of a sound store.
+-- The effect of a command's calls on the runs of a sound store.
 use Rattle.std.proofs.Common.{Option, Some, None, Ok, Err, Bool, true, false, map, slice_get, ◌≡◌, ℕ, suc, List, [], ◌∷◌, ◌++◌, length, refl, sym, ap, ◌∙◌, subst, ◌⊎◌, inl, inr}
-use Rattle.kt_cli.proofs.Common.{AllByRecursion, Entry, Run, Kind, Job, plan_fits, AreEntries, IsPlan, Trace, IsStoreFault, head_of, without_outputs, entry_at, AreNumbered, new_run, run_at, with_entry, put_refusal, finish_refusal, StoreCall, Began, Put, Finished, Heads, Outline, Outputs, CaseOutputs, RunHead, StoreFault, Command, number_of, Seen, Means, stopped, listed, tested, debugged, idle, reported, reported_junit, CutShort, no_memory, cut, report_cut, junit_cut, Printed, AllRecorded, JunitOrUnread, chosen, Reported, told, no_run, ReportedJunit, Unread, JunitCut, asked_outputs, with_new, Comes, not_called, begun, finished, shown, ReadsOutputs, Left, put_all, Agrees, changed_by, puts, beside_by, changed, beside, Agree, Stored, PlannedRun, run_for, Tested, TestCut, not_begun, not_run, not_put, not_finished}
+use Rattle.kt_cli.proofs.Common.{AllByRecursion, Entry, Run, Kind, Job, plan_fits, AreEntries, IsPlan, Trace, IsStoreFault, head_of, outlined, entry_at, AreNumbered, new_run, run_at, with_entry, put_refusal, finish_refusal, StoreCall, Began, Put, Finished, Heads, Outline, Outputs, CaseOutputs, RunHead, StoreFault, Command, number_of, Seen, Means, stopped, listed, tested, debugged, idle, reported, reported_junit, CutShort, no_memory, cut, report_cut, junit_cut, Printed, AllRecorded, JunitOrUnread, chosen, Reported, told, no_run, ReportedJunit, Unread, JunitCut, asked_outputs, with_new, Comes, not_called, begun, finished, shown, ReadsOutputs, Left, put_all, Agrees, changed_by, puts, beside_by, changed, beside, Agree, Stored, PlannedRun, run_for, Tested, TestCut, not_begun, not_run, not_put, not_finished}
 use Rattle.kt_sched.specs.RecordOrder.{recorded as record_order}
 use Rattle.kt_cli.specs.Reports.{told as told_junit, no_run as no_junit, no_heads as unread_heads, no_outline as unread_outline, no_outputs as cut_outputs, no_memory as cut_junit}
 use Rattle.kt_cli.specs.SoundStores.{not_begun as comes_not_begun, not_put as comes_not_put, not_finished as comes_not_finished, no_heads, no_run as comes_no_run, no_outline, told as told_outputs, failed as failed_outputs}
@@ -146,22 +146,22 @@ module _ (number : Option ℕ) (runs : List Run) (h : AreNumbered 1 runs) where
       by call (told_outputs position e there) more = more
       by call (failed_outputs position fault failed) more = more
 
-  shown_coming : (heads : List RunHead) (head : RunHead) (outline : List Entry) (calls : ℕ → List StoreCall) → chosen number heads ≡ Some head
-      → Agree runs (Heads (Ok heads) ∷ Outline head.number (Ok outline) ∷ calls head.number)
-      → ((r : Run) → run_at runs r.number ≡ Some r → outline ≡ map without_outputs r.entries → Agree runs (calls r.number) → AllByRecursion (ReadsOutputs r) (calls r.number))
-      → Coming number runs (Heads (Ok heads) ∷ Outline head.number (Ok outline) ∷ calls head.number)
-  shown_coming heads head outline calls e a reads =
+  shown_coming : (pairs : Bool) (heads : List RunHead) (head : RunHead) (outline : List Entry) (calls : ℕ → List StoreCall) → chosen number heads ≡ Some head
+      → Agree runs (Heads (Ok heads) ∷ Outline head.number pairs (Ok outline) ∷ calls head.number)
+      → ((r : Run) → run_at runs r.number ≡ Some r → outline ≡ map (outlined pairs) r.entries → Agree runs (calls r.number) → AllByRecursion (ReadsOutputs r) (calls r.number))
+      → Coming number runs (Heads (Ok heads) ∷ Outline head.number pairs (Ok outline) ∷ calls head.number)
+  shown_coming pairs heads head outline calls e a reads =
       let c = run_found number runs heads head h a.0 e in
       let r = c.0 in
       let n : r.number ≡ head.number = ap (λ (x : RunHead). x.number) c.2 in
       let same : a.1.0.0 ≡ r = some_is a.1.0.0 r (sym a.1.0.1 ∙ ap (λ (k : ℕ). run_at runs k) (sym n) ∙ c.3) in
-      let is : outline ≡ map without_outputs r.entries = a.1.0.2 ∙ ap (λ (x : Run). map without_outputs x.entries) same in
+      let is : outline ≡ map (outlined pairs) r.entries = a.1.0.2 ∙ ap (λ (x : Run). map (outlined pairs) x.entries) same in
       let all = reads r c.3 is (subst (λ (k : ℕ). Agree runs (calls k)) (sym n) a.1.1) in
       let rest = unchanged r (calls r.number) all in
-      subst (λ (hs : List RunHead). Coming number runs (Heads (Ok hs) ∷ Outline head.number (Ok outline) ∷ calls head.number)) (sym a.0)
-      (subst (λ (k : ℕ). Coming number runs (Heads (Ok (map head_of runs)) ∷ Outline k (Ok outline) ∷ calls k)) n
-      (subst (λ (es : List Entry). Coming number runs (Heads (Ok (map head_of runs)) ∷ Outline r.number (Ok es) ∷ calls r.number)) (sym is)
-      (reading (Heads (Ok (map head_of runs)) ∷ Outline r.number (Ok (map without_outputs r.entries)) ∷ calls r.number) (shown r (calls r.number) c.1 all) rest.0 rest.1)))
+      subst (λ (hs : List RunHead). Coming number runs (Heads (Ok hs) ∷ Outline head.number pairs (Ok outline) ∷ calls head.number)) (sym a.0)
+      (subst (λ (k : ℕ). Coming number runs (Heads (Ok (map head_of runs)) ∷ Outline k pairs (Ok outline) ∷ calls k)) n
+      (subst (λ (es : List Entry). Coming number runs (Heads (Ok (map head_of runs)) ∷ Outline r.number pairs (Ok es) ∷ calls r.number)) (sym is)
+      (reading (Heads (Ok (map head_of runs)) ∷ Outline r.number pairs (Ok (map (outlined pairs) r.entries)) ∷ calls r.number) (shown r pairs (calls r.number) c.1 all) rest.0 rest.1)))
 
   reads_one : (r : Run) → run_at runs r.number ≡ Some r → (position : ℕ) (o : CaseOutputs) → Agrees runs (Outputs r.number position (Ok o)) → ReadsOutputs r (Outputs r.number position (Ok o))
   reads_one r is position o a =
@@ -185,40 +185,40 @@ module _ (number : Option ℕ) (runs : List Run) (h : AreNumbered 1 runs) where
   reads_refused r is position fault never [] (o ∷ outputs) a = reads_last r is position fault never a
   reads_refused r is position fault never (e ∷ outline) (o ∷ outputs) a = (reads_one r is e.position o a.0, reads_refused r is position fault never outline outputs a.1)
 
-  outline_coming : (heads : List RunHead) (head : RunHead) (outline : List Entry) (outputs : List CaseOutputs) → chosen number heads ≡ Some head
-      → Agree runs (Heads (Ok heads) ∷ Outline head.number (Ok outline) ∷ asked_outputs head.number outline outputs)
-      → Coming number runs (Heads (Ok heads) ∷ Outline head.number (Ok outline) ∷ asked_outputs head.number outline outputs)
-  outline_coming heads head outline outputs e a = shown_coming heads head outline (λ n. asked_outputs n outline outputs) e a (λ r is outline_is asked. reads_outputs r is outline outputs asked)
+  outline_coming : (pairs : Bool) (heads : List RunHead) (head : RunHead) (outline : List Entry) (outputs : List CaseOutputs) → chosen number heads ≡ Some head
+      → Agree runs (Heads (Ok heads) ∷ Outline head.number pairs (Ok outline) ∷ asked_outputs head.number outline outputs)
+      → Coming number runs (Heads (Ok heads) ∷ Outline head.number pairs (Ok outline) ∷ asked_outputs head.number outline outputs)
+  outline_coming pairs heads head outline outputs e a = shown_coming pairs heads head outline (λ n. asked_outputs n outline outputs) e a (λ r is outline_is asked. reads_outputs r is outline outputs asked)
 
   missing_coming : (heads : List RunHead) → chosen number heads ≡ None → Agree runs (Heads (Ok heads) ∷ []) → Coming number runs (Heads (Ok heads) ∷ [])
   missing_coming heads e a =
       reading (Heads (Ok heads) ∷ []) (subst (λ (hs : List RunHead). Comes number runs (Heads (Ok hs) ∷ []) runs (λ may. may)) (sym a.0) (comes_no_run (not_chosen number runs heads a.0 e))) refl (λ may. refl)
 
-  unread_coming : (calls : List StoreCall) (bytes : List ℕ) (exit : ℕ) → Unread number calls bytes exit → Agree runs calls → Coming number runs calls
-  unread_coming calls bytes exit (unread_heads why) a = reading (Heads (Err why) ∷ []) (no_heads why a.0) refl (λ may. refl)
-  unread_coming calls bytes exit (unread_outline heads head why e) a =
+  unread_coming : (pairs : Bool) (calls : List StoreCall) (bytes : List ℕ) (exit : ℕ) → Unread number pairs calls bytes exit → Agree runs calls → Coming number runs calls
+  unread_coming pairs calls bytes exit (unread_heads why) a = reading (Heads (Err why) ∷ []) (no_heads why a.0) refl (λ may. refl)
+  unread_coming pairs calls bytes exit (unread_outline heads head why e) a =
       let c = run_found number runs heads head h a.0 e in
-      reading (Heads (Ok heads) ∷ Outline head.number (Err why) ∷ [])
-      (subst (λ (hs : List RunHead). Comes number runs (Heads (Ok hs) ∷ Outline head.number (Err why) ∷ []) runs (λ may. may)) (sym a.0)
-      (subst (λ (j : ℕ). Comes number runs (Heads (Ok (map head_of runs)) ∷ Outline j (Err why) ∷ []) runs (λ may. may)) (ap (λ (x : RunHead). x.number) c.2)
-      (no_outline c.0 why c.1 (entries_there number runs heads head why h a.0 e a.1.0)))) refl (λ may. refl)
+      reading (Heads (Ok heads) ∷ Outline head.number pairs (Err why) ∷ [])
+      (subst (λ (hs : List RunHead). Comes number runs (Heads (Ok hs) ∷ Outline head.number pairs (Err why) ∷ []) runs (λ may. may)) (sym a.0)
+      (subst (λ (j : ℕ). Comes number runs (Heads (Ok (map head_of runs)) ∷ Outline j pairs (Err why) ∷ []) runs (λ may. may)) (ap (λ (x : RunHead). x.number) c.2)
+      (no_outline c.0 pairs why c.1 (entries_there number runs heads head why h a.0 e a.1.0)))) refl (λ may. refl)
 
   reported_coming : (kinds : List Kind) (verbose : Bool) (calls : List StoreCall) (bytes : List ℕ) (exit : ℕ) → Reported number kinds verbose calls bytes exit → Agree runs calls → Coming number runs calls
-  reported_coming kinds verbose calls bytes exit (told heads head outline date e d) a = outline_coming heads head outline [] e a
+  reported_coming kinds verbose calls bytes exit (told heads head outline date e d) a = outline_coming verbose heads head outline [] e a
   reported_coming kinds verbose calls bytes exit (no_run heads e) a = missing_coming heads e a
 
   junit_coming : (calls : List StoreCall) (bytes : List ℕ) (exit : ℕ) → ReportedJunit number calls bytes exit → Agree runs calls → Coming number runs calls
-  junit_coming calls bytes exit (told_junit heads head outline outputs e all) a = outline_coming heads head outline outputs e a
+  junit_coming calls bytes exit (told_junit heads head outline outputs e all) a = outline_coming false heads head outline outputs e a
   junit_coming calls bytes exit (no_junit heads e) a = missing_coming heads e a
 
   junit_cut_coming : (calls : List StoreCall) (bytes : List ℕ) (exit : ℕ) → JunitCut number calls bytes exit → Agree runs calls → Coming number runs calls
   junit_cut_coming calls bytes exit (cut_outputs heads head outline outputs last why e there) a =
-      shown_coming heads head outline (λ n. asked_outputs n outline outputs ++ Outputs n last.position (Err why) ∷ []) e a
+      shown_coming false heads head outline (λ n. asked_outputs n outline outputs ++ Outputs n last.position (Err why) ∷ []) e a
       (λ r is outline_is asked. reads_refused r is last.position why (entry_found r.entries (length outputs) last (ap (λ (es : List Entry). slice_get es (length outputs)) (sym outline_is) ∙ there)) outline outputs asked)
-  junit_cut_coming calls bytes exit (cut_junit heads head outline outputs front rest next e s) a = outline_coming heads head outline outputs e a
+  junit_cut_coming calls bytes exit (cut_junit heads head outline outputs front rest next e s) a = outline_coming false heads head outline outputs e a
 
   junit_or_unread : (calls : List StoreCall) (bytes : List ℕ) (exit : ℕ) → JunitOrUnread number calls bytes exit → Agree runs calls → Coming number runs calls
-  junit_or_unread calls bytes exit (inl u) a = unread_coming calls bytes exit u a
+  junit_or_unread calls bytes exit (inl u) a = unread_coming false calls bytes exit u a
   junit_or_unread calls bytes exit (inr j) a = junit_cut_coming calls bytes exit j a
 
 -- ---- any command
@@ -236,7 +236,7 @@ means_coming seen runs c bytes exit h (reported_junit options bs x u r) a = juni
 short_coming : (seen : Seen) (runs : List Run) (c : Command) (bytes : List ℕ) (exit : ℕ) → AreNumbered 1 runs → CutShort seen c bytes exit → Agree runs seen.calls → Coming (number_of c) runs seen.calls
 short_coming seen runs c bytes exit h (no_memory d options e _ k) a = none_coming (number_of c) runs h seen.calls k.calls
 short_coming seen runs c bytes exit h (cut options file picked moment bs x p t) a = cut_coming None runs h (run_for seen.plan options picked moment) seen.trace seen.calls bytes exit (plan_fits picked.settings.config p.host picked.chosen.cases seen.plan p.planned) t a
-short_coming seen runs c bytes exit h (report_cut options kinds verbose bs x u r) a = unread_coming options.run runs h seen.calls bytes exit r a
+short_coming seen runs c bytes exit h (report_cut options kinds verbose bs x u r) a = unread_coming options.run runs h verbose seen.calls bytes exit r a
 short_coming seen runs c bytes exit h (junit_cut options bs x u r) a = junit_or_unread options.run runs h seen.calls bytes exit r a
 
 either_coming : (seen : Seen) (runs : List Run) (c : Command) (bytes : List ℕ) (exit : ℕ) → AreNumbered 1 runs → Means seen c bytes exit ⊎ CutShort seen c bytes exit → Agree runs seen.calls → Coming (number_of c) runs seen.calls

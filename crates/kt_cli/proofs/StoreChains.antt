@@ -30,7 +30,7 @@ crash_by Leaves (Put number e (Err fault)) runs may a b h l = h may l
 crash_by Leaves (Finished number (Ok done)) runs may a b h l = h may
 crash_by Leaves (Finished number (Err fault)) runs may a b h l = h may l
 crash_by Leaves (Heads answer) runs may a b h l = h (runs ∷ may) l
-crash_by Leaves (Outline number answer) runs may a b h l = h (runs ∷ may) l
+crash_by Leaves (Outline number pairs answer) runs may a b h l = h (runs ∷ may) l
 crash_by Leaves (Outputs number position answer) runs may a b h l = h (runs ∷ may) l
 
 module _ {R : Type 0} (keep : keeping.Ghosts R) where

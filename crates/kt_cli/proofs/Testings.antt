@@ -257,7 +257,7 @@ module _ {W : Type 0} (w : World W) where
 
     module _ (world : W) (store after : R) (was now : Option (List ℕ)) (exit : ℕ) (options : ReportOptions) where
       -- `report` is a command
-      pub did_report : (kinds : List Kind) (verbose : Bool) → DidReport keep store after was now exit (Reported options.run kinds verbose) (Unread options.run)
+      pub did_report : (kinds : List Kind) (verbose : Bool) → DidReport keep store after was now exit (Reported options.run kinds verbose) (Unread options.run verbose)
           → Did w keep (command.Report options kinds verbose) (scene world store was) (scene world after now) exit
       did_report kinds verbose d = record {
         seen = called_only d.calls;

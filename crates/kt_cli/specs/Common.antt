@@ -1,7 +1,7 @@
 -- The words that the clauses of this crate cite, passed on from one place. Declares nothing.
 pub use Rattle.std.proofs.Common.{ap}
 pub use Rattle.std.specs.Io.{WritesAtMost}
-pub use Rattle.std.specs.Io.KnownBytes.{Appends, Keeps, WriteAppends}
+pub use Rattle.std.specs.Io.KnownBytes.{Keeps, WriteAppends}
 pub use Rattle.std.specs.List.{find}
 pub use Rattle.std.specs.Option.{option_copied}
 pub use Rattle.std.specs.Str.{chars}
@@ -14,7 +14,7 @@ pub use Rattle.kt_report.specs.Cases.{with_outputs}
 pub use Rattle.kt_sched.specs.Children.{IsIdle}
 pub use Rattle.kt_sched.specs.Plan.{IsPlan, IsWidth}
 pub use Rattle.kt_store.specs.Ask.{IsStoreFault}
-pub use Rattle.kt_store.specs.Heads.{head_of, outputs_of, without_outputs}
+pub use Rattle.kt_store.specs.Heads.{head_of, outlined, outputs_of}
 pub use Rattle.kt_store.specs.Runs.{AreNumbered, AreOrdered, has_position, insert_at}
 pub use Rattle.kt_store.specs.StoreCalls.{Began, Finished, Heads, Outline, Outputs, Put, seen_as}
 pub use Rattle.kt_suite.specs.Selecting.{most_items}

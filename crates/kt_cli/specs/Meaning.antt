@@ -113,9 +113,9 @@ pub data CutShort (seen : Seen) : Command → List ℕ → ℕ → Type 0 where
   cut : (options : CaseOptions) (file : List ℕ) (picked : Picked) (moment : ℕ) (bytes : List ℕ) (exit : ℕ) → IsPrepared false options seen picked picked.chosen.cases (Now moment ∷ [])
       → TestCut (run_for seen.plan options picked moment) seen.trace seen.calls bytes exit
       → CutShort seen (command.Test options file) bytes exit
-  report_cut : (options : ReportOptions) (kinds : List Kind) (verbose : Bool) (bytes : List ℕ) (exit : ℕ) → IsUnasked seen → Unread options.run seen.calls bytes exit
+  report_cut : (options : ReportOptions) (kinds : List Kind) (verbose : Bool) (bytes : List ℕ) (exit : ℕ) → IsUnasked seen → Unread options.run verbose seen.calls bytes exit
       → CutShort seen (command.Report options kinds verbose) bytes exit
-  junit_cut : (options : ReportOptions) (bytes : List ℕ) (exit : ℕ) → IsUnasked seen → Unread options.run seen.calls bytes exit ⊎ JunitCut options.run seen.calls bytes exit
+  junit_cut : (options : ReportOptions) (bytes : List ℕ) (exit : ℕ) → IsUnasked seen → Unread options.run false seen.calls bytes exit ⊎ JunitCut options.run seen.calls bytes exit
       → CutShort seen (command.ReportJunit options) bytes exit
 
 module _ {W R : Type 0} (w : World W) (r : keeping.Ghosts R) where

@@ -1,5 +1,5 @@
 -- What the program does: a command over its results, which are opened before it and closed after it, and a command line that is none.
-use Rattle.std.specs.Prelude.{ℕ, Bool, true, false, List, [], ◌≡◌, Option, Some, None, Result, Ok, Err, if◌then◌else◌}
+use Rattle.std.specs.Prelude.{ℕ, Bool, List, [], ◌≡◌, Option, Some, None, Result, Ok, Err, if◌then◌else◌}
 use Rattle.std.specs.Io.KnownBytes.{Keeps}
 use Rattle.kt_base.specs.declared.entry.Run.{Run}
 use Rattle.kt_base.specs.Utf8.{utf8}
@@ -99,7 +99,7 @@ module _ {M O P S : Type 0} (p : Program M O P S) where
     pub done : DoneBy c (results_of c) old new was told due
     pub flushed : Flushed told now due exit
 
-  -- what came of the words: their command was performed, or they were rejected and nothing was asked for
+  -- what came of the arguments: their command was performed, or they were rejected and nothing was asked for
   abbrev pub CarriedOut : Result Command CommandFault → State M O P → State M O P → Option (List ℕ) → LineState → Option (List ℕ) → Option (List ℕ) → ℕ → Type 0
   CarriedOut (Ok c) old new was now errors_was errors_now exit = Performed c old new was now exit × (errors_now ≡ errors_was)
   CarriedOut (Err fault) old new was now errors_was errors_now exit = Rejected fault was now errors_was errors_now exit × (new ≡ old)

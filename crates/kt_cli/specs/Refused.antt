@@ -24,7 +24,7 @@ filter_line = codes "kyua: E: bad results filter\n"
 abbrev pub number_line : List ℕ
 number_line = codes "kyua: E: bad run number\n"
 
--- why words are no command line: what `clap` says of them, or a line of ours
+-- why the arguments are refused: what `clap` says of them, or a line of ours
 abbrev pub command_text : CommandFault → List ℕ
 command_text (command.NoMemory shortage) = memory_line
 command_text (command.Usage text) = text
@@ -35,7 +35,7 @@ command_text command.BadRun = number_line
 abbrev pub failure_exit : ℕ
 failure_exit = 2
 
--- the words are no command line
+-- the arguments are wrong
 abbrev pub wrong_words_exit : ℕ
 wrong_words_exit = 3
 

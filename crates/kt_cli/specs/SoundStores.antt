@@ -5,7 +5,7 @@ use Rattle.kt_base.specs.Limits.{last_run}
 use Rattle.kt_base.specs.declared.entry.Entry.{Entry}
 use Rattle.kt_base.specs.declared.entry.Run.{Run}
 use Rattle.kt_store.specs.Ask.{IsStoreFault}
-use Rattle.kt_store.specs.Heads.{head_of, without_outputs, outputs_of, entry_at}
+use Rattle.kt_store.specs.Heads.{head_of, outlined, outputs_of, entry_at}
 use Rattle.kt_store.specs.StoreCalls.{StoreCall, Began, Put, Finished, Heads, Outline, Outputs}
 use Rattle.kt_store.specs.declared.result_store.Keeping as keeping
 use Rattle.kt_store.specs.declared.store_fault.StoreFault.{StoreFault}
@@ -30,7 +30,7 @@ pub data ReadsOutputs (run' : Run) : StoreCall → Type 0 where
   told : (position : ℕ) (e : Entry) → entry_at (Some run') position ≡ Some e → ReadsOutputs run' (Outputs run'.number position (Ok (outputs_of e)))
   failed : (position : ℕ) (fault : StoreFault) → IsStoreFault fault → ReadsOutputs run' (Outputs run'.number position (Err fault))
 
--- what a command's calls come to over the runs of a sound store: the runs that they leave, and what a crash may leave beside them where it
+-- the effect of a command's calls on the runs of a sound store: the runs that they leave, and what a crash may leave beside them where it
 -- might leave others before; a call that is refused failed, or was due to be refused, and a crash may leave its change
 pub data Comes (number : Option ℕ) (runs : List Run) : List StoreCall → List Run → (List (List Run) → List (List Run)) → Type 0 where
   not_called : Comes number runs [] runs (λ may. may)
@@ -49,10 +49,10 @@ pub data Comes (number : Option ℕ) (runs : List Run) : List StoreCall → List
       (with_new runs moment total true entries) (λ may. [])
   no_heads : (fault : StoreFault) → IsStoreFault fault → Comes number runs (Heads (Err fault) ∷ []) runs (λ may. may)
   no_run : chosen number runs ≡ None → Comes number runs (Heads (Ok (map head_of runs)) ∷ []) runs (λ may. may)
-  no_outline : (run' : Run) (fault : StoreFault) → chosen number runs ≡ Some run' → IsStoreFault fault
-      → Comes number runs (Heads (Ok (map head_of runs)) ∷ Outline run'.number (Err fault) ∷ []) runs (λ may. may)
-  shown : (run' : Run) (calls : List StoreCall) → chosen number runs ≡ Some run' → AllByRecursion (ReadsOutputs run') calls
-      → Comes number runs (Heads (Ok (map head_of runs)) ∷ Outline run'.number (Ok (map without_outputs run'.entries)) ∷ calls) runs (λ may. may)
+  no_outline : (run' : Run) (pairs : Bool) (fault : StoreFault) → chosen number runs ≡ Some run' → IsStoreFault fault
+      → Comes number runs (Heads (Ok (map head_of runs)) ∷ Outline run'.number pairs (Err fault) ∷ []) runs (λ may. may)
+  shown : (run' : Run) (pairs : Bool) (calls : List StoreCall) → chosen number runs ≡ Some run' → AllByRecursion (ReadsOutputs run') calls
+      → Comes number runs (Heads (Ok (map head_of runs)) ∷ Outline run'.number pairs (Ok (map (outlined pairs) run'.entries)) ∷ calls) runs (λ may. may)
 
 -- what a command leaves: the runs, its bytes, its exit, and what a crash may leave beside the runs, where it might leave others before
 pub record Outcome : Type 0 where

@@ -31,7 +31,7 @@ beside_by (Put number e (Err fault)) runs may = with_entry number e runs ∷ may
 beside_by (Finished number (Ok done)) runs may = []
 beside_by (Finished number (Err fault)) runs may = finish number runs ∷ may
 beside_by (Heads answer) runs may = may
-beside_by (Outline number answer) runs may = may
+beside_by (Outline number pairs answer) runs may = may
 beside_by (Outputs number position answer) runs may = may
 
 -- ---- the same of calls one after the other

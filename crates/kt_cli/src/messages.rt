@@ -85,22 +85,15 @@ pub fn stopped<O: Write>(fault: &Stop, out: &mut O) -> Exit
     ended(write_stop(fault, out), stop_status(fault))
 }
 
-fn write_driver_fault<O: Write>(fault: DriverFault, out: &mut O) -> Result<(), OutputFault>
-    ensures { Shows (O.contents out.old) (O.contents out.new) (is_err result)
-        (utf8 (driver_line fault)) }
-{
-    match fault {
-        DriverFault::NoMemory(_) => write_memory(out),
-        DriverFault::NoWorkDirectory => emit(b"kyua: E: no work directory\n", out),
-    }
-}
-
 /// Prints why there is no driver.
 pub fn print_driver_fault<O: Write>(fault: DriverFault, out: &mut O) -> Exit
     ensures { Printed (O.contents out.old) (O.contents out.new) result.status
         (utf8 (driver_line fault)) failure_exit }
 {
-    ended(write_driver_fault(fault, out), FAILED)
+    match fault {
+        DriverFault::NoMemory(_) => ended(write_memory(out), FAILED),
+        DriverFault::NoWorkDirectory => ended(emit(b"kyua: E: no work directory\n", out), FAILED),
+    }
 }
 
 /// Prints why the results can't be opened.
@@ -143,7 +136,7 @@ fn status_of(fault: &CommandFault) -> u8
     }
 }
 
-/// Prints why words are no command line. A wrong one ends with 3 even if that could not be written.
+/// Prints why the arguments are refused. If they are wrong the exit is 3, even if the line could not be written.
 pub fn print_command_fault<O: Write>(fault: &CommandFault, out: &mut O) -> Exit
     ensures { Refused (O.contents out.old) (O.contents out.new) result.status
         (utf8 (command_text fault.now)) (command_exit fault.now) }

@@ -3,9 +3,7 @@
 
 use kt_base::Text;
 use kt_child::{DriverFault, HostOs, Os};
-use kt_cli::{
-    Exit, HostMachine, LineOutput, Outside, Platform, Surroundings, carry_out, prepare_results,
-};
+use kt_cli::{Exit, HostMachine, LineOutput, Outside, Platform, Surroundings, carry_out};
 use kt_store::{Results, StoreFault};
 use kt_words::{Command, CommandFault, read_words};
 use sqlite::{FileFrom, FileStore, Start, Unknown};
@@ -51,7 +49,6 @@ impl<S: Past> Platform for Host<'_, S> {
     ghost provides = { λ _ asked _. InFiles S.path (image_at S.Start) asked };
 
     fn open(&mut self, file: &Text) -> Result<Results<FileStore<FileFrom<S>>>, StoreFault> {
-        prepare_results(self.rt, file);
         let results = Results::open(self.rt, file, S::unread())?;
         Ok(results)
     }

@@ -16,7 +16,7 @@ use Rattle.kt_cli.specs.declared.commands.report_stop.JunitStop.TheVariants.{Ref
 
 -- the store refused to be read, or the report ended early
 abbrev pub JunitOrUnread : Option ℕ → List StoreCall → List ℕ → ℕ → Type 0
-JunitOrUnread number calls bytes exit = Unread number calls bytes exit ⊎ JunitCut number calls bytes exit
+JunitOrUnread number calls bytes exit = Unread number false calls bytes exit ⊎ JunitCut number calls bytes exit
 
 module _ {R : Type 0} (r : keeping.Ghosts R) where
   -- what was read of a store and printed of it, in one of two ways

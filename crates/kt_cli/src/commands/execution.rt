@@ -71,8 +71,8 @@ pub fn execute_all<W: World, R: ResultStore, O: Write>(
     Ok(exits)
 }
 
-/// The law of sound stores: what a command's calls come to, whatever runs the store stood for, if the store has given
-/// back what was written. The premises are the parts of what `execute` says of each command.
+/// The law of sound stores: the effect of a command's calls on the runs of a store that returns what was written. The
+/// premises are the parts of what `execute` says of each command.
 pub fn law_of_sound_stores<R: ResultStore>()
     ensures { (seen : Seen) (c : Command) (store after : R) (was now : Option (List ℕ)) (exit : ℕ)
         (bytes : List ℕ) (due : ℕ) (runs : List Run) → Stored R.Keeping seen.calls store after

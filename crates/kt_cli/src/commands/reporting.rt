@@ -36,8 +36,12 @@ fn missing(number: Option<u64>, heads: &[RunHead]) -> NotShown
 }
 
 /// The run that is asked for, or else the last one, with its entries without their outputs.
-fn read_run<R: ResultStore>(number: Option<u64>, results: &mut R) -> Result<Run, NotShown>
-    ensures { ReadsRun R.Keeping number results.old results.new result }
+fn read_run<R: ResultStore>(
+    number: Option<u64>,
+    pairs: bool,
+    results: &mut R,
+) -> Result<Run, NotShown>
+    ensures { ReadsRun R.Keeping number pairs results.old results.new result }
 {
     let heads = match results.runs() {
         Ok(heads) => heads,
@@ -46,7 +50,7 @@ fn read_run<R: ResultStore>(number: Option<u64>, results: &mut R) -> Result<Run,
     let Some(head) = chosen_head(number, heads.as_slice()) else {
         return Err(missing(number, heads.as_slice()));
     };
-    match results.outline(head.number) {
+    match results.outline(head.number, pairs) {
         Ok(entries) => Ok(Run {
             number: head.number,
             started: head.started,
@@ -87,9 +91,10 @@ pub fn report<R: ResultStore, O: Write>(
     out: &mut O,
 ) -> Exit
     ensures { DidReport R.Keeping results.old results.new (O.contents out.old)
-        (O.contents out.new) result.status (Reported number kinds.now verbose) (Unread number) }
+        (O.contents out.new) result.status (Reported number kinds.now verbose)
+        (Unread number verbose) }
 {
-    match read_run(number, results) {
+    match read_run(number, verbose, results) {
         Ok(run) => ended(text(&run, kinds, verbose, out), 0),
         Err(why) => ended(write_not_shown(why, out), FAILED),
     }
@@ -140,7 +145,7 @@ pub fn report_junit<R: ResultStore, O: Write>(
     ensures { DidReport R.Keeping results.old results.new (O.contents out.old)
         (O.contents out.new) result.status (ReportedJunit number) (JunitOrUnread number) }
 {
-    let run = match read_run(number, results) {
+    let run = match read_run(number, false, results) {
         Ok(run) => run,
         Err(why) => return ended(write_not_shown(why, out), FAILED),
     };

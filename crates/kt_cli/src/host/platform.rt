@@ -2,13 +2,6 @@ use crate::Surroundings;
 use kt_base::Text;
 use kt_child::DriverFault;
 use kt_store::{ResultStore, StoreFault};
-use std::fs;
-use std::fs::{OpenOptions, Permissions};
-use std::os::unix::fs::PermissionsExt;
-use std::rt::Files;
-
-/// The rights of its owner to read and write a file.
-const OWNER_RIGHTS: u32 = 0o600;
 
 /// The surroundings of the program's commands: the files of their results, and those of the process.
 ///
@@ -34,25 +27,4 @@ pub trait Platform {
     /// What is found around the process.
     fn surroundings(&mut self) -> Result<Surroundings, DriverFault>
         ensures { provides self.old (Found result) self.new };
-}
-
-/// Makes a file of results if there is none, with the rights that the umask leaves, and always those
-/// of its owner to read and write it. One that is there keeps its rights. Why none can be made is
-/// reported when it is opened; then its log is made too, with the rights of the file.
-pub fn prepare_results<R: Files>(rt: &R, file: &Text) {
-    let path = file.as_str();
-    let made = OpenOptions::new()
-        .write(true)
-        .create_new(true)
-        .open(rt, path);
-    if made.is_err() {
-        return;
-    }
-    let Ok(metadata) = fs::metadata(rt, path) else {
-        return;
-    };
-    let mode = metadata.permissions().mode();
-    if mode & OWNER_RIGHTS != OWNER_RIGHTS {
-        let _ = fs::set_permissions(rt, path, Permissions::from_mode(mode | OWNER_RIGHTS));
-    }
 }

@@ -1,30 +1,16 @@
-ghost use Rattle.std.specs.Prelude.{◌≡◌, ◌<◌, ◌≤◌, length, IfSome, IfNone};
-ghost use Rattle.kt_cli.specs.Common.{longest_path};
-ghost use Rattle.kt_cli.specs.Machines.{InDirectory, IsSought, Searched, directories, path_in};
+ghost use Rattle.kt_cli.specs.Machines.{InDirectory, IsSought, Searched, directories};
 
 use crate::Machine;
 use crate::host::host_path::{LONGEST_PATH, joined_path};
 use kt_base::{Text, has_slash, is_absolute};
 
-/// The path of a program in a directory; the empty one is the working directory.
-fn path_in<'a>(directory: &str, name: &str, room: &'a mut [u8]) -> Option<&'a str>
-    requires { length room.old ≡ longest_path }
-    ensures path { IfSome result (λ path. path.now ≡ path_in directory.now name.now) }
-    ensures fits { IfSome result (λ path. length path.now ≤ longest_path) }
-    ensures long { IfNone result (longest_path < length (path_in directory.now name.now)) }
-{
-    if directory.is_empty() {
-        return joined_path("", "", name, room);
-    }
-    joined_path(directory, "/", name, room)
-}
-
-/// Whether a program is in a directory.
+/// Whether a program is in a directory; the empty one is the working directory.
 fn is_in<M: Machine>(machine: &mut M, directory: &str, name: &str) -> bool
     ensures { InDirectory M.answers name.now directory.now result machine.old machine.new }
 {
     let mut room = [0u8; LONGEST_PATH];
-    match path_in(directory, name, &mut room) {
+    let between = if directory.is_empty() { "" } else { "/" };
+    match joined_path(directory, between, name, &mut room) {
         Some(path) => machine.is_program(path),
         None => false,
     }

@@ -50,8 +50,8 @@ fn is_due(held: &HeldBytes, by_line: bool, bytes: &[u8]) -> bool
 }
 
 impl<W: Write> LineOutput<W> {
-    ghost use Rattle.std.specs.Prelude.{◌≡◌, ◌≤◌, ◌+◌, [], false, length};
-    ghost use Rattle.kt_cli.specs.Common.{Keeps, Appends, given_bytes, has_failed, is_broken, unflushed, unwritten, line_state, Flushed};
+    ghost use Rattle.std.specs.Prelude.{◌≡◌, [], false};
+    ghost use Rattle.kt_cli.specs.Common.{Keeps, given_bytes, is_broken, unwritten, line_state, Flushed};
 
     /// A writer before this one, which holds nothing yet. If `by_line` is set, each line is written
     /// when it is complete.
@@ -74,21 +74,6 @@ impl<W: Write> LineOutput<W> {
         ensures { result ≡ is_broken self.now }
     {
         self.failed || self.unflushed.is_some()
-    }
-
-    /// Takes bytes that fit into the buffer, and hands on what is held if that is due.
-    fn accept(&mut self, bytes: &[u8])
-        requires room { length (unwritten self.old) + length bytes.now ≤ 65536 }
-        requires whole { has_failed self.old ≡ false }
-        ensures bytes { Appends (given_bytes W.contents self.old)
-            (given_bytes W.contents self.new) bytes.now }
-        ensures flush { unflushed self.new ≡ unflushed self.old }
-    {
-        self.held.append(bytes);
-        if !is_due(&self.held, self.by_line, bytes) {
-            return;
-        }
-        self.failed = hand_on(&mut self.held, &mut self.out);
     }
 
     /// The exit of a command that wrote here: what is still held is written, and where that fails the exit is 2.
@@ -123,7 +108,11 @@ impl<W: Write> Write for LineOutput<W> {
             return Err(broken());
         }
         let taken = buf.len().min(ROOM - self.held.len());
-        self.accept(&buf[..taken]);
+        self.held.append(&buf[..taken]);
+        if !is_due(&self.held, self.by_line, &buf[..taken]) {
+            return Ok(taken);
+        }
+        self.failed = hand_on(&mut self.held, &mut self.out);
         Ok(taken)
     }
 

@@ -1,7 +1,7 @@
 ghost use Rattle.std.specs.Prelude.{◌≡◌, map, IfOk};
-ghost use Rattle.kt_cli.specs.Common.{with_outputs, without_outputs, outputs_of};
+ghost use Rattle.kt_cli.specs.Common.{with_outputs, outlined, outputs_of};
 
-use kt_base::{Entry, NoMemory, Output, Text, Verdict};
+use kt_base::{Entry, NoMemory, Output, Text, Variables, Verdict};
 use kt_store::{CaseOutputs, no_output};
 use std::alloc::Global;
 
@@ -57,20 +57,21 @@ pub fn copy_of_entry(alloc: Global, entry: &Entry) -> Result<Entry, NoMemory>
     copy_with(alloc, entry, outputs.body, outputs.cleanup)
 }
 
-/// A copy of an entry without its outputs.
-fn copy_without_outputs(alloc: Global, entry: &Entry) -> Result<Entry, NoMemory>
-    ensures { IfOk result (λ copy. copy ≡ without_outputs entry.now) }
-{
-    copy_with(alloc, entry, no_output(alloc), no_output(alloc))
-}
-
-/// Copies of entries without their outputs.
-pub fn copies_without_outputs(alloc: Global, entries: &[Entry]) -> Result<Vec<Entry>, NoMemory>
-    ensures { IfOk result (λ copies. copies.items ≡ map without_outputs entries.now) }
+/// Copies of entries without their outputs, with their pairs if they are asked for.
+pub fn copies_for_outline(
+    alloc: Global,
+    entries: &[Entry],
+    pairs: bool,
+) -> Result<Vec<Entry>, NoMemory>
+    ensures { IfOk result (λ copies. copies.items ≡ map (outlined pairs) entries.now) }
 {
     let mut copies = Vec::new(alloc);
     for entry in entries {
-        copies.push(copy_without_outputs(alloc, entry)?)?;
+        let mut copy = copy_with(alloc, entry, no_output(alloc), no_output(alloc))?;
+        if !pairs {
+            copy.meta = Variables::new(alloc);
+        }
+        copies.push(copy)?;
     }
     Ok(copies)
 }

@@ -1,4 +1,4 @@
-use crate::results::copies::{copies_without_outputs, copy_of_entry, copy_of_outputs};
+use crate::results::copies::{copies_for_outline, copy_of_entry, copy_of_outputs};
 use kt_base::{Entry, Items, NoMemory, Run};
 use kt_store::{CaseOutputs, Keeping, ResultStore, RunHead, StoreFault};
 use std::alloc::Global;
@@ -96,12 +96,12 @@ impl MemRuns {
         Ok(())
     }
 
-    fn outline_of(&self, number: u64) -> Result<Vec<Entry>, StoreFault>
-        ensures { ServesInMemory self.now (Outline number (seen_as (λ found. found.items) result))
-            self.now }
+    fn outline_of(&self, number: u64, pairs: bool) -> Result<Vec<Entry>, StoreFault>
+        ensures { ServesInMemory self.now
+            (Outline number pairs (seen_as (λ found. found.items) result)) self.now }
     {
         let place = self.place(number)?;
-        match copies_without_outputs(self.alloc, self.runs[place].entries.as_slice()) {
+        match copies_for_outline(self.alloc, self.runs[place].entries.as_slice(), pairs) {
             Ok(entries) => Ok(entries),
             Err(refusal) => Err(short(refusal)),
         }
@@ -168,8 +168,8 @@ impl ResultStore for MemRuns {
         self.heads()
     }
 
-    fn outline(&mut self, run: u64) -> Result<Vec<Entry>, StoreFault> {
-        self.outline_of(run)
+    fn outline(&mut self, run: u64, pairs: bool) -> Result<Vec<Entry>, StoreFault> {
+        self.outline_of(run, pairs)
     }
 
     fn outputs(&mut self, run: u64, position: u32) -> Result<CaseOutputs, StoreFault> {

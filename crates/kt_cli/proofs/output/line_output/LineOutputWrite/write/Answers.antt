@@ -1,5 +1,5 @@
 use Rattle.kt_cli.proofs.Common.{append_known-grown, Appends-kept, Keeps-refl}
-use Rattle.kt_cli.proofs.output.line_output.LineOutput.accept.Goals as goal
+use Rattle.kt_cli.proofs.output.line_output.LineOutputWrite.write.Goals as goal
 
 pub returns-then-not-is_due-clause-bytes : goal.returns-then-not-is_due-clause-bytes
 returns-then-not-is_due-clause-bytes g c = append_known-grown _ _ _ _ _ (Keeps-refl _) c.append.ensures

@@ -1,0 +1,7 @@
+use Rattle.std.proofs.Common.{map, ◌≡◌, ◌++◌, drop}
+use Rattle.kt_cli.proofs.Common.{outlined}
+use Rattle.kt_cli.proofs.results.copies.copies_for_outline.Given as goal
+
+-- the copies of the rest go behind those so far
+abbrev pub invariant-loop-entry : goal.invariant-loop-entry
+invariant-loop-entry l = map (outlined l.pairs) l.entries ≡ l.copies.items ++ map (outlined l.pairs) (drop l.entry-index l.entries)
