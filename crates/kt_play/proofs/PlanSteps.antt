@@ -1,7 +1,7 @@
 -- A plan with one job more.
 use Rattle.std.proofs.Common.{slice_get, Some, refl, ◌≡◌, ℕ, zero, suc, ◌+◌, ◌⊎◌, List, [], ◌∷◌, ◌++◌, length, inl, inr, sym, ◌∙◌, ap, subst, arith}
 use Rattle.kt_play.proofs.Common.{Job, IsPlan, IsFit}
-use Rattle.kt_sched.proofs.Turns.{in_append, some_is}
+use Rattle.kt_sched.proofs.Lists.{in_append, some_is}
 
 -- a plan with one job more is a plan
 pub plan_more : (jobs : List Job) (job : Job) → IsPlan jobs → job.position ≡ length jobs → IsFit job → IsPlan (jobs ++ job ∷ [])

@@ -121,11 +121,11 @@ impl ResultStore for RefusingStore {
         self.runs.runs()
     }
 
-    fn outline(&mut self, run: u64) -> Result<Vec<Entry>, StoreFault> {
+    fn outline(&mut self, run: u64, pairs: bool) -> Result<Vec<Entry>, StoreFault> {
         if self.refuses() {
             return Err(self.fault());
         }
-        self.runs.outline(run)
+        self.runs.outline(run, pairs)
     }
 
     fn outputs(&mut self, run: u64, position: u32) -> Result<CaseOutputs, StoreFault> {

@@ -7,7 +7,7 @@ use kt_child::{Child, EnvPlan, FileRead, Os, OsFault, Polled};
 use std::alloc::Global;
 
 /// A system that does what a scene says. It keeps a line for each call, which ends in `failed` for
-/// a failed one. A call that can't write its line for want of memory fails.
+/// a failed one. A call is done even if there is no memory for its line; then there is no log.
 #[derive(Drop)]
 pub struct ScriptedSystem<'a> {
     alloc: Global,
@@ -196,12 +196,10 @@ impl<'a> ScriptedSystem<'a> {
     }
 
     /// Keeps the refusal of memory for a line.
-    fn keep(&mut self, noted: Result<(), NoMemory>) -> Result<(), OsFault> {
+    fn keep(&mut self, noted: Result<(), NoMemory>) {
         if let Err(refusal) = noted {
             self.refusal = Some(refusal);
-            return Err(OsFault::Memory(refusal));
         }
-        Ok(())
     }
 
     /// Whether the next call is done.
@@ -216,7 +214,7 @@ impl<'a> ScriptedSystem<'a> {
     fn ask(&mut self, word: &str, about: &str) -> Result<(), OsFault> {
         let done = self.goes();
         let noted = note(&mut self.log, word, about, done);
-        self.keep(noted)?;
+        self.keep(noted);
         match self.scene.shortage {
             _ if done => Ok(()),
             Some(refusal) => Err(OsFault::Memory(refusal)),
@@ -227,7 +225,10 @@ impl<'a> ScriptedSystem<'a> {
     fn ask_child(&mut self, word: &str, child: Child) -> Result<(), OsFault> {
         match child_text(self.alloc, child) {
             Ok(about) => self.ask(word, about.as_str()),
-            Err(refusal) => self.keep(Err(refusal)),
+            Err(refusal) => {
+                self.keep(Err(refusal));
+                self.ask(word, "")
+            }
         }
     }
 
@@ -248,7 +249,7 @@ impl Os for ScriptedSystem<'_> {
 
     fn set_limit(&mut self, child: Child, limit: u64) {
         let noted = note_limit(self.alloc, &mut self.log, child, limit);
-        let _ = self.keep(noted);
+        self.keep(noted);
     }
 
     fn make_dir(&mut self, path: &Text) -> Result<(), OsFault> {
@@ -273,11 +274,11 @@ impl Os for ScriptedSystem<'_> {
     ) -> Result<(), OsFault> {
         self.ask("spawn", program.as_str())?;
         let noted = note_spawn(&mut self.spawned, program, words, env, dir);
-        self.keep(noted)?;
-        match self.children.push((child, 0)) {
-            Ok(()) => Ok(()),
-            Err(refusal) => self.keep(Err(NoMemory::from(refusal))),
+        self.keep(noted);
+        if let Err(refusal) = self.children.push((child, 0)) {
+            self.keep(Err(NoMemory::from(refusal)));
         }
+        Ok(())
     }
 
     fn poll(&mut self, child: Child) -> Result<Polled, OsFault> {

@@ -7,8 +7,11 @@ use std::io::Eprint;
 use std::rt::{Clock, Files, Runtime};
 use std::{env, fs, io};
 
-/// How many bytes of an answer are printed.
+/// How many bytes of an answer are printed, unless the first argument says that all of it is.
 const SHOWN: usize = 1_000;
+
+/// The argument that says so.
+const WHOLE: &str = "--whole";
 
 /// Where the first line begins in which two answers differ.
 fn differing_line(wanted: &[u8], found: &[u8]) -> usize {
@@ -25,9 +28,9 @@ fn differing_line(wanted: &[u8], found: &[u8]) -> usize {
 }
 
 /// The front of what an answer has from a place on.
-fn part(alloc: Global, answer: &[u8], from: usize) -> Result<String> {
+fn part(alloc: Global, answer: &[u8], from: usize, shown: usize) -> Result<String> {
     let rest = answer.get(from..).unwrap_or(&[]);
-    let part = rest.get(..SHOWN).unwrap_or(rest);
+    let part = rest.get(..shown).unwrap_or(rest);
     asked(String::from_utf8_lossy(alloc, part))
 }
 
@@ -38,10 +41,11 @@ fn mismatch_lines(
     line: u64,
     wanted: &[u8],
     found: &[u8],
+    shown: usize,
 ) -> Result<String> {
     let from = differing_line(wanted, found);
-    let wanted = part(alloc, wanted, from)?;
-    let found = part(alloc, found, from)?;
+    let wanted = part(alloc, wanted, from, shown)?;
+    let found = part(alloc, found, from, shown)?;
     asked(format!(in alloc;
         "{file}:{line}: another answer\n  wanted: {wanted:?}\n  got:    {found:?}"
     ))
@@ -53,6 +57,7 @@ fn mismatch<R: Files<File = File> + Clock + AllocGlobal>(
     file: &str,
     subject: &str,
     row: &Row<'_>,
+    shown: usize,
 ) -> Result<Option<String>> {
     let alloc = rt.alloc();
     let wanted = row.wanted(alloc)?;
@@ -61,7 +66,7 @@ fn mismatch<R: Files<File = File> + Clock + AllocGlobal>(
     if found == wanted.as_slice() {
         return Ok(None);
     }
-    Ok(Some(mismatch_lines(alloc, file, row.line, &wanted, found)?))
+    Ok(Some(mismatch_lines(alloc, file, row.line, &wanted, found, shown)?))
 }
 
 /// Prints why a line of a file has no answer.
@@ -76,8 +81,9 @@ fn check_row<R: Runtime + Files<File = File> + AllocGlobal>(
     file: &str,
     subject: &str,
     row: &Row<'_>,
+    shown: usize,
 ) -> io::Result<bool> {
-    match mismatch(rt, file, subject, row) {
+    match mismatch(rt, file, subject, row, shown) {
         Ok(None) => return Ok(true),
         Ok(Some(lines)) => rt.eprintln(lines)?,
         Err(fault) => print_fault(rt, file, row.line, fault)?,
@@ -90,11 +96,12 @@ fn check_rows<R: Runtime + Files<File = File> + AllocGlobal>(
     rt: &R,
     file: &str,
     rows: &[Row<'_>],
+    shown: usize,
 ) -> io::Result<bool> {
     let subject = file.strip_suffix(".rows").unwrap_or(file);
     let mut is_good = true;
     for row in rows {
-        if !check_row(rt, file, subject, row)? {
+        if !check_row(rt, file, subject, row, shown)? {
             is_good = false;
         }
     }
@@ -106,10 +113,11 @@ fn check_rows<R: Runtime + Files<File = File> + AllocGlobal>(
 fn check_file<R: Runtime + Files<File = File> + AllocGlobal>(
     rt: &R,
     file: &str,
+    shown: usize,
 ) -> io::Result<bool> {
     let text = fs::read_to_string(rt, file)?;
     match read_rows(rt.alloc(), text.as_str()) {
-        Ok(rows) => check_rows(rt, file, rows.as_slice()),
+        Ok(rows) => check_rows(rt, file, rows.as_slice(), shown),
         Err((line, fault)) => {
             print_fault(rt, file, line, fault)?;
             Ok(false)
@@ -117,11 +125,15 @@ fn check_file<R: Runtime + Files<File = File> + AllocGlobal>(
     }
 }
 
-/// Checks the files that the arguments name, and returns whether each row has the answer that it wants.
+/// Checks the files that the arguments name, and returns whether each row has the answer that it wants. Behind `--whole`
+/// answers that differ are printed to their ends.
 pub fn check_files<R: Runtime + Files<File = File> + AllocGlobal>(rt: &R) -> io::Result<bool> {
     let mut is_good = true;
+    let mut shown = SHOWN;
     for file in env::args(rt)?.skip(1) {
-        if !check_file(rt, file.as_str())? {
+        if file.as_str() == WHOLE {
+            shown = usize::MAX;
+        } else if !check_file(rt, file.as_str(), shown)? {
             is_good = false;
         }
     }

@@ -61,7 +61,8 @@ fn wrong(whole: &Played, cut: &Played) -> Result<Option<&'static str>> {
     }
 }
 
-/// Makes a write fail, and appends what is wrong then. Returns whether there is such a write.
+/// Makes a write fail, and appends what is wrong then and what was written. Returns whether nothing is, and there is such a
+/// write.
 fn push_failing(
     out: &mut Answer,
     row: &Row<'_>,
@@ -75,12 +76,14 @@ fn push_failing(
     }
     if let Some(what) = wrong(whole, &cut)? {
         out.separate("\n");
-        out.made(format!(in out.alloc; "at write {failing}: {what}"));
+        out.made(format!(in out.alloc; "at write {failing}: {what}\n"));
+        push_played(out, row, &cut)?;
+        return Ok(false);
     }
     Ok(true)
 }
 
-/// Makes each write fail in turn. What is wrong then is a line.
+/// Makes each write fail in turn, until something is wrong.
 fn push_each_failing(out: &mut Answer, row: &Row<'_>, scene: &Scene<'_>) -> Result<()> {
     let whole = play(out.alloc, row, scene, 0)?;
     push_played(out, row, &whole)?;

@@ -3,7 +3,7 @@ use crate::lines::{Answer, both, pair_of};
 use crate::numbers::append_numbered;
 use crate::row::{Entry, Result, Row, RowFault, halves};
 use kt_base::{Text, Variable};
-use kt_config::{Config, SuiteVariables};
+use kt_config::{Config, ConfigFault, SuiteVariables};
 use std::alloc::Global;
 
 /// The configuration file of a row: the text of `file`, then the statements of `numbered`.
@@ -61,10 +61,18 @@ fn push_value(out: &mut Answer, config: &Config, text: &str) -> Result<()> {
     Ok(())
 }
 
+/// Sets a variable. It is set once more if memory ran out, since that must have changed nothing.
+pub fn set_in(config: &mut Config, pair: &Variable) -> Result<(), ConfigFault> {
+    match config.set(&pair.name, &pair.value) {
+        Err(ConfigFault::NoMemory(_)) => config.set(&pair.name, &pair.value),
+        done => done,
+    }
+}
+
 /// The answer to `set NAME=VALUE`.
 fn set(out: &mut Answer, config: &mut Config, text: &str) -> Result<()> {
     let pair = pair_of(out.alloc, text)?;
-    match config.set(&pair.name, &pair.value) {
+    match set_in(config, &pair) {
         Ok(()) => out.push("set"),
         Err(fault) => out.made(fault.to_string(out.alloc)),
     }

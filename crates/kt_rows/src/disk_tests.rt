@@ -18,6 +18,9 @@ const LIMIT: u64 = 400;
 /// What ends the output of a command whose store failed.
 const LINE: &str = "kyua: E: results store failed\n";
 
+/// What ends it if memory ran out.
+const MEMORY: &str = "kyua: E: out of memory\n";
+
 /// What `test` did.
 #[derive(Drop)]
 struct Tested {
@@ -45,13 +48,21 @@ enum Stop {
     Put(usize),
     Finish,
     Nowhere,
+    /// Memory ran out.
+    Memory,
     /// What is wrong with what was printed or is left.
     Wrong(&'static str),
 }
 
 /// Where the store stopped a command, by what was printed and spawned. Its run has this many entries.
 fn stop_of(whole: &str, cut: &Tested, entries: usize) -> Stop {
-    let Some(front) = cut.page.as_str().strip_suffix(LINE) else {
+    let page = cut.page.as_str();
+    if let Some(front) = page.strip_suffix(MEMORY) {
+        if cut.status == 2 && whole.starts_with(front) {
+            return Stop::Memory;
+        }
+    }
+    let Some(front) = page.strip_suffix(LINE) else {
         return Stop::Wrong("the line is missing");
     };
     if cut.status != 2 {
@@ -95,6 +106,7 @@ impl Whole {
             Stop::Put(done) => is_cut(done) || is_cut(done.saturating_add(1)),
             Stop::Finish => is_cut(self.entries()) || left == whole,
             Stop::Nowhere => left == whole,
+            Stop::Memory => { left == before || left == whole || (0..=self.entries()).any(is_cut) }
             Stop::Wrong(_) => true,
         }
     }
@@ -136,6 +148,7 @@ fn push_stop(out: &mut Answer, stop: Stop) {
         }
         Stop::Finish => out.push(" finish"),
         Stop::Nowhere => out.push(", then not"),
+        Stop::Memory => out.push(", out of memory"),
         Stop::Wrong(what) => out.push_all(&[", and then ", what]),
     }
 }
@@ -175,6 +188,7 @@ impl Trial<'_> {
                 Ok((Some(tested), results.detach().into_store()))
             }
             Err((StoreFault::Store(_), conn)) => Ok((None, conn.into_store())),
+            Err((StoreFault::NoMemory(_), _conn)) => Err(RowFault::Misspelled("out of memory")),
             Err(_) => Err(RowFault::Misspelled("it was refused for another reason")),
         }
     }
@@ -234,7 +248,7 @@ impl Trial<'_> {
                 last = Some(stop);
                 push_stop(out, stop);
             }
-            if stop == Stop::Nowhere {
+            if matches!(stop, Stop::Nowhere | Stop::Memory | Stop::Wrong(_)) {
                 break;
             }
         }
@@ -242,8 +256,19 @@ impl Trial<'_> {
     }
 }
 
+/// Appends what was printed over a disk that fails at no call, the last exit, and what a crash leaves of the store, a line
+/// each.
+fn push_whole(out: &mut Answer, whole: &Whole) {
+    out.push_all(&[whole.tested.page.as_str(), "exit "]);
+    out.number(u64::from(whole.tested.status));
+    for line in whole.left.as_slice() {
+        out.line(line.as_str());
+    }
+}
+
 /// Commands, the last of them `test`, over a store whose disk fails at each call in turn until none is refused: where it
-/// was stopped, each place once. `disk log` or `disk database`, `frames N`, and `old` for a store of schema 1.
+/// was stopped, each place once. `disk log` or `disk database`, `frames N`, and `old` for a store of schema 1; `disk
+/// sound` fails at no call.
 pub fn answer(out: &mut Answer, row: &Row<'_>, disk: &str) -> Result<()> {
     let scene = scene_of(out.alloc, row)?;
     let trial = Trial {
@@ -254,5 +279,10 @@ pub fn answer(out: &mut Answer, row: &Row<'_>, disk: &str) -> Result<()> {
         is_old: row.text("old").is_some(),
         frames: row.number("frames", 1000)? as usize,
     };
-    trial.push_stops(out, &trial.whole()?)
+    let whole = trial.whole()?;
+    if disk == "sound" {
+        push_whole(out, &whole);
+        return Ok(());
+    }
+    trial.push_stops(out, &whole)
 }

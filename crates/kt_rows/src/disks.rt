@@ -82,12 +82,18 @@ fn crashed<D: Crash>(mut files: Files<D>) -> Files<D> {
     files
 }
 
-/// The number of the schema; 0 where there is none.
+/// The number of the schema, if there is one.
+fn asked_schema<S: Alter>(conn: &mut Connection<S>) -> Option<i64> {
+    let row = conn.query_row("SELECT value FROM meta WHERE name = 'schema'", &[]);
+    row.ok()?.get(0).ok()
+}
+
+/// The number of the schema; 0 where there is none. It is asked for twice, since memory may run out once.
 fn schema_of<S: Alter>(conn: &mut Connection<S>) -> i64 {
-    let Ok(row) = conn.query_row("SELECT value FROM meta WHERE name = 'schema'", &[]) else {
-        return 0;
-    };
-    row.get(0).unwrap_or(0)
+    match asked_schema(conn) {
+        Some(schema) => schema,
+        None => asked_schema(conn).unwrap_or(0),
+    }
 }
 
 /// The schema of the tables of a store that is opened again, and all that it holds.

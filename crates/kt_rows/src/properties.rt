@@ -1,3 +1,4 @@
+use crate::configurations::set_in;
 use crate::escapes::text_of;
 use crate::lines::{Answer, pair_of};
 use crate::numbers::{numbered, set_number};
@@ -5,7 +6,7 @@ use crate::row::{Entry, Result, Row, RowFault, asked, due};
 use crate::verdicts::push_reason;
 use kt_base::{Text, Variable, Variables, Verdict};
 use kt_config::Config;
-use kt_metadata::{Host, Need, Props, is_kyuafile_property, property_of_key, unmet};
+use kt_metadata::{Host, Need, PropFault, Props, is_kyuafile_property, property_of_key, unmet};
 use std::alloc::Global;
 
 /// What a row has said so far: the properties of a program and of its case, the configuration and the host.
@@ -17,10 +18,18 @@ struct Example {
     host: Host,
 }
 
+/// Sets a property. It is set once more if memory ran out, since that must have changed nothing.
+fn set_pair(props: &mut Props, pair: &Variable) -> Result<(), PropFault> {
+    match props.set(&pair.name, &pair.value) {
+        Err(PropFault::NoMemory(_)) => props.set(&pair.name, &pair.value),
+        done => done,
+    }
+}
+
 /// Sets a property, and appends the fault if it is refused.
 fn set_property(out: &mut Answer, props: &mut Props, raw: &str) -> Result<()> {
     let pair = pair_of(out.alloc, raw)?;
-    if let Err(fault) = props.set(&pair.name, &pair.value) {
+    if let Err(fault) = set_pair(props, &pair) {
         out.separate("\n");
         out.made(fault.to_string(out.alloc));
     }
@@ -30,7 +39,7 @@ fn set_property(out: &mut Answer, props: &mut Props, raw: &str) -> Result<()> {
 /// Sets a property that there is: `NAME=VALUE`.
 pub fn set_known(alloc: Global, props: &mut Props, raw: &str) -> Result<()> {
     let pair = pair_of(alloc, raw)?;
-    let set = props.set(&pair.name, &pair.value).ok();
+    let set = set_pair(props, &pair).ok();
     due(set, "there is no such property or value")
 }
 
@@ -62,7 +71,7 @@ pub fn push_props(out: &mut Answer, props: &Props) -> Result<()> {
 /// Sets a variable of the configuration.
 fn set_variable(alloc: Global, config: &mut Config, raw: &str) -> Result<()> {
     let pair = pair_of(alloc, raw)?;
-    let set = config.set(&pair.name, &pair.value).ok();
+    let set = set_in(config, &pair).ok();
     due(set, "there is no such variable")
 }
 

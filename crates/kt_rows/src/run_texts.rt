@@ -34,7 +34,7 @@ pub fn push_runs<R: ResultStore>(out: &mut Answer, results: &mut R) {
     let mut separator = "";
     for head in heads.as_slice() {
         out.push(separator);
-        match results.outline(head.number) {
+        match results.outline(head.number, true) {
             Ok(entries) => push_run(out, head, entries.len()),
             Err(fault) => out.name(&fault),
         }

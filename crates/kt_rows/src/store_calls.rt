@@ -1,5 +1,6 @@
 use crate::lines::Answer;
 use crate::numbers::{count, number};
+use crate::once_more::{begin_run, finish_run, put_entry};
 use crate::printing::push_ended;
 use crate::recorded::storable_entry;
 use crate::row::{Entry, Result, RowFault, number_in, push_made};
@@ -25,7 +26,7 @@ fn begin<R: ResultStore>(out: &mut Answer, results: &mut R, text: &str, times: u
     let moment = number(moment)?.min(LATEST_MOMENT);
     let mut last = 0;
     for _ in 0..times {
-        match results.begin(total, moment) {
+        match begin_run(results, total, moment) {
             Ok(number) => last = number,
             Err(fault) => {
                 out.name(&fault);
@@ -54,7 +55,7 @@ fn put<R: ResultStore>(
     for _ in 0..times {
         if done.is_ok() {
             let entry = storable_entry(out.alloc, content, verdict, place)?;
-            done = results.put(run, &entry);
+            done = put_entry(results, run, &entry);
             place = place.saturating_add(1);
         }
     }
@@ -98,7 +99,7 @@ pub fn push_call<R: ResultStore>(
     match line.word {
         "begin" => return begin(out, results, line.text, times),
         "put" => return put(out, results, line.text, content, times),
-        "finish" => push_done(out, results.finish(number(line.text)?)),
+        "finish" => push_done(out, finish_run(results, number(line.text)?)),
         "runs" => push_runs(out, results),
         "count-runs" => push_count(out, results),
         "cases" | "outputs" | "pairs" | "count" => {
