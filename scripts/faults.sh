@@ -185,7 +185,7 @@ kt_cli/src/commands/debugging.rt: Err(_) => return ended(write_memory(out), FAIL
 kt_cli/src/commands/reporting.rt: Err(JunitStop::Report(ReportFault::NoMemory(_))) => ended(write_memory(out), FAILED),
 kt_cli/src/commands/testing.rt: Err(_) => return ended(write_memory(out), FAILED),
 kt_cli/src/messages.rt: CommandFault::NoMemory(_) => write_memory(out),
-kt_cli/src/messages.rt: DriverFault::NoMemory(_) => write_memory(out),
+kt_cli/src/messages.rt: DriverFault::NoMemory(_) => ended(write_memory(out), FAILED),
 kt_cli/src/messages.rt: RunFault::NoMemory(_) | RunFault::SinkFailed(SinkFault::Memory) => write_memory(out),
 kt_cli/src/messages.rt: StoreFault::NoMemory(_) => write_memory(out),
 PLACES
@@ -336,9 +336,13 @@ kt_report/src/summary.rt: let failed = count_digits(Kind::Failed, entries);
 kt_sched/src/sched.rt: failed = s.failed;
 kt_sched/src/sched.rt: self.failed = true;
 PLACES
-body kt_cli/src/output/line_output.rt 'self.held.append(bytes);' <<'BODY'
-self.held.append(bytes);
+body kt_cli/src/output/line_output.rt 'self.held.append(&buf[..taken]);' <<'BODY'
+self.held.append(&buf[..taken]);
 self.failed = self.held.len() == 4_096;
+BODY
+body kt_base/src/emission.rt 'Ok(n) => sent += n,' <<'BODY'
+Ok(n) if sent == 4_096 => return (n, true),
+Ok(n) => sent += n,
 BODY
 
 rule 'writes to a writer of its own' own_writers <<'PLACES'

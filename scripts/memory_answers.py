@@ -1,0 +1,949 @@
+#!/usr/bin/env python3
+"""Judges what kt_rows answers to a row while one allocation is refused: a line for each answer that may not stand there.
+
+Standard input names folders, a line each, as rows_alone.sh makes them: FILE.LINE with the row as FILE, and `answers`, which
+refuse_each.c wrote. An answer must be the due one, or one of these, in the place where it can stand:
+
+- the refusal itself, for the whole row or for the answer to one of its lines: `out of memory`, as the subject has it. Of a
+  command it is `kyua: E: out of memory`, behind a front of what is due, and exit 2;
+- a case with the one reason that its interface has for it (docs/formats/verdicts.md): a start, a result file, a stream, a
+  cleanup; or the list of a program that could not be read or started;
+- an output that is empty.
+
+All else is compared with the due answer field by field: another case, its verdict, the other lines. What follows from such a
+case must follow: the totals, the exit, what a later report shows, what is recorded. Its clock and the lives of the children that
+are started behind it are those of the script, which has them in the order of the starts.
+"""
+import os
+import re
+import sys
+
+START = "broken: Test case could not be started for want of memory"
+LIST = "broken: Test case list could not be read"
+RESULT = "broken: Results file could not be read"
+STREAM = "broken: TAP test program yielded invalid data: output could not be read"
+CLEANUP = "broken: Test case cleanup could not be started"
+# Of a body that timed out no claim is read that may say that this was to be expected.
+TIMED_OUT = "broken: Test case body timed out"
+MEMORY = "kyua: E: out of memory"
+STORE = "kyua: E: results store failed"
+KINDS = "passed|skipped|expected_failure|failed|broken"
+
+# What kt_rows says where something of the row itself could not be made.
+SETUPS = {
+    "commands": ["there is no such command", "no statement failed", "there is no driver", "there is no store", "its tables are not taken",
+                 "its runs can not be told", "its entries can not be told", "it does not open again", "it can not be attached again",
+                 "the old store is not made"],
+    "filters": ["a filter that is refused is asked for by `read`"],
+    "lists": ["there is no such property or value"],
+    "openings": ["no statement failed"],
+    "properties": ["there is no such property or value", "there is no such variable"],
+    "schedules": ["the launcher ran out of memory"],
+    "stores": ["no tables were taken", "there is no such command", "the statement fails", "no statement failed"],
+}
+
+
+def unescaped(raw):
+    """The text of a text with the escapes of rows."""
+    out, opened, at = [], None, 0
+    while at < len(raw):
+        sign = raw[at]
+        at += 1
+        if sign == "\\":
+            sign = raw[at]
+            at += 1
+            if sign == "*":
+                end = raw.index("{", at)
+                opened = (int(raw[at:end]), len(out))
+                at = end + 1
+            elif sign == "x":
+                out.append(bytes([int(raw[at:at + 2], 16)]))
+                at += 2
+            else:
+                out.append({"n": b"\n", "t": b"\t", "r": b"\r", "s": b" "}.get(sign, sign.encode()))
+        elif sign == "}" and opened:
+            times, start = opened
+            opened = None
+            piece = b"".join(out[start:])
+            out[start:] = [piece * times]
+        else:
+            out.append(sign.encode())
+    return b"".join(out).decode("utf-8", "replace")
+
+
+ESCAPE = re.compile(r"\\(u\{[0-9a-f]+\}|.)", re.S)
+
+
+def shown(text):
+    """The text that is displayed with the escapes of a debugger."""
+    def one(match):
+        sign = match.group(1)
+        if sign[0] == "u" and len(sign) > 1:
+            return chr(int(sign[2:-1], 16))
+        return {"n": "\n", "t": "\t", "r": "\r", "0": "\0"}.get(sign, sign)
+    return ESCAPE.sub(one, text)
+
+
+class Row:
+    """A row: its lines, and the answer that is due."""
+
+    def __init__(self, folder):
+        name = os.path.basename(folder)
+        self.file = name.rsplit(".", 1)[0]
+        self.name = name
+        self.subject = self.file.removesuffix(".rows")
+        self.lines, due = [], []
+        with open(os.path.join(folder, self.file), encoding="utf-8") as file:
+            for line in file:
+                line = line.strip()
+                if not line or line.startswith("#"):
+                    continue
+                if line.startswith("->"):
+                    due.append(line[2:].strip())
+                    continue
+                front, arrow, answer = line.partition(" -> ")
+                if not arrow and line.endswith(" ->"):
+                    front, arrow = line[:-3], " ->"
+                if arrow:
+                    due.append(answer.strip())
+                word, _, text = front.strip().partition(" ")
+                self.lines.append((word, text.strip()))
+        self.due = unescaped("\n".join(due))
+
+    def texts(self, word):
+        return [text for other, text in self.lines if other == word]
+
+    def has(self, pattern):
+        return any(re.search(pattern, f"{word} {text}") for word, text in self.lines)
+
+
+def is_block(due, got, refusals):
+    """Whether one answer of several is a refusal: a front of the due lines, the refusal, and an end of them."""
+    front = 0
+    while front < min(len(due), len(got)) and due[front] == got[front]:
+        front += 1
+    for refusal in refusals:
+        size = len(refusal)
+        for at in range(max(0, front - size), front + 1):
+            if got[at:at + size] != refusal:
+                continue
+            rest = got[at + size:]
+            if len(due) - len(rest) >= at and due[len(due) - len(rest):] == rest:
+                return True
+    return False
+
+
+def case_of(line):
+    """A line of a case: its name, its verdict and its time."""
+    match = re.fullmatch(r"(.*?)  ->  (.*)  \[(\d+\.\d{3}s)\]", line, re.S)
+    return match.groups() if match else None
+
+
+class Program:
+    """Which reasons memory has for the cases of a row."""
+
+    def __init__(self, row):
+        text = "\n".join(text for _, text in row.lines)
+        self.kinds = {}
+        for kind, name in re.findall(r"(plain|tap|atf)_test_program\{name=['\"]([^'\"]*)", text):
+            self.kinds.setdefault(name, set()).add(kind)
+        self.has_cleanup = "has.cleanup" in text
+
+    def reasons(self, name):
+        path, _, case = name.rpartition(":")
+        kinds = self.kinds.get(path.rpartition("/")[2], set())
+        if case == "__test_cases_list__":
+            return {LIST, START}
+        found = {START}
+        if "atf" in kinds:
+            found.add(RESULT)
+            if self.has_cleanup:
+                found.add(CLEANUP)
+        if "tap" in kinds:
+            found.add(STREAM)
+        return found
+
+
+def command_of(line):
+    """The name of the command in a command line, and its other words."""
+    words, at = line.split(), 0
+    while at < len(words) and words[at].startswith("-"):
+        at += 1 if "=" in words[at] or len(words[at]) > 2 else 2
+    return (words[at] if at < len(words) else "", words)
+
+
+class Part:
+    """What one command wrote: its lines, and of `test` the cases and how it ended."""
+
+    def __init__(self, kind, words, lines, status):
+        self.kind, self.words, self.lines, self.status = kind, words, lines, status
+        self.cases = [case_of(line) for line in lines if case_of(line)] if kind in ("test", "debug") else []
+
+    def is_cut(self):
+        return bool(self.lines) and self.lines[-1].endswith(MEMORY)
+
+    def ending(self):
+        return self.lines[len(self.cases):]
+
+    def __eq__(self, other):
+        return self.lines == other.lines and self.status == other.status
+
+
+def length_of(kind, lines, at):
+    """How many lines a command wrote from a place on; a fault is one line."""
+    start = at
+    while at < len(lines):
+        line = lines[at]
+        at += 1
+        if line.endswith(MEMORY) or line.startswith("kyua: E: ") or line.endswith("kyua: E: results store failed"):
+            return at - start
+        if kind == "test" and re.fullmatch(r"\d+/\d+ passed \(\d+ failed\)", line):
+            break
+        if kind == "debug" and (case_of(line) or line.startswith("kyua: W: ")):
+            break
+        if kind == "report" and line.startswith("Total time: "):
+            break
+        if kind == "report-junit" and line == "</testsuite>":
+            break
+        if kind == "list" and (at == len(lines) or not re.fullmatch(r"[^ ]+:[^ ]+", lines[at])):
+            break
+    while at < len(lines) and lines[at].startswith("kyua: W: ") and kind in ("test", "list"):
+        at += 1
+    return at - start
+
+
+def parts_of(commands, lines, exits):
+    """What each command wrote, or nothing if it can't be told. Lists one after the other count as the first of them."""
+    parts, at = [], 0
+    if len(commands) == 1:
+        # A line of a close that failed may follow.
+        return [Part(*commands[0], lines, exits[0])]
+    for place, (kind, words) in enumerate(commands):
+        if kind == "list" and place and commands[place - 1][0] == "list":
+            parts.append(Part(kind, words, [], exits[place]))
+            continue
+        size = length_of(kind, lines, at)
+        parts.append(Part(kind, words, lines[at:at + size], exits[place]))
+        at += size
+    return parts if at == len(lines) else None
+
+
+KIND_TITLES = [("skipped", "Skipped tests"), ("expected_failure", "Expected failures"), ("broken", "Broken tests"), ("failed", "Failed tests"),
+               ("passed", "Passed tests")]
+
+
+class Commands:
+    """The commands of a row, and what may follow in them from one refused allocation."""
+
+    def __init__(self, row):
+        self.row = row
+        self.programs = Program(row)
+        self.commands = [command_of(text) for word, text in row.lines if word in ("do", "line")]
+        self.after = False
+        # Of what is written where the writer fails, little is seen.
+        self.is_silent = row.has("^(writes? [0-9]|flush fails|error [0-9])")
+        # What the last `test` printed, if memory changed that.
+        self.printed = None
+
+    def read(self, lines):
+        """The parts of an answer, and what it shows after them."""
+        for place in range(len(lines) - 1, -1, -1):
+            if re.fullmatch(r"exit( [0-3])+", lines[place]):
+                exits = [int(n) for n in lines[place].split()[1:]]
+                if len(exits) != len(self.commands):
+                    return None
+                parts = parts_of(self.commands, lines[:place], exits)
+                return parts and (parts, lines[place + 1:])
+        return None
+
+    def fault(self, due_lines, got_lines):
+        """What is wrong with an answer, or nothing."""
+        if len(self.commands) > 1 and all(kind == "list" for kind, _ in self.commands):
+            return self.lists(due_lines, got_lines)
+        due, got = self.read(due_lines), self.read(got_lines)
+        if not due:
+            return "the due answer isn't understood"
+        if not got:
+            return "the commands aren't told apart"
+        for one, other in zip(due[0], got[0]):
+            what = self.follows(one, other) if self.after else self.begins(one, other)
+            if what:
+                return f"{one.kind}: {what}"
+        return self.shown(due, got)
+
+    def lists(self, due_lines, got_lines):
+        """Of several lists one says that memory ran out, and its exit is 2, or one is of a program whose list could not be had."""
+        exits, due_exits = got_lines[-1].split(), due_lines[-1].split()
+        if is_block(due_lines[:-1], got_lines[:-1], [[MEMORY]]):
+            changed = [(one, other) for one, other in zip(due_exits, exits) if one != other]
+            return None if len(changed) == 1 and changed[0][1] == "2" and len(exits) == len(due_exits) else "other exits"
+        return self.listed(Part("list", [], due_lines, 0), Part("list", [], got_lines, 0))
+
+    def begins(self, due, got):
+        """What is wrong with the first part that differs, if it does."""
+        if due == got:
+            return None
+        self.after = True
+        written, whole = "\n".join(got.lines).removesuffix("(cut)"), "\n".join(due.lines)
+        if self.is_silent and got.status == 2 and any(written == whole[:size] + MEMORY[:len(written) - size]
+                                                      for size in range(len(written) + 1)):
+            return None
+        if got.is_cut() and due.is_cut() and got.kind == "test" and got.cases:
+            return self.tested(due, got, False)
+        # A disk in memory fails where it is refused memory.
+        if self.row.has("^disk ") and got.status == 2 and written.endswith(STORE):
+            self.printed = (got.cases, False)
+            return None if whole.startswith(written[:-len(STORE)]) else "what stands before the fault is not a front of what is due"
+        if got.is_cut():
+            if got.status != 2:
+                return "memory ran out, and the exit is not 2"
+            if due.kind == "list":
+                front = 0
+                return None if is_block(due.lines, got.lines, [[MEMORY]]) else "the list is another one"
+            if got.kind == "test":
+                self.printed = (got.cases, False)
+            front = "\n".join(got.lines)[:-len(MEMORY)]
+            return None if "\n".join(due.lines).startswith(front) else "what stands before the fault is not a front of what is due"
+        if got.kind == "list":
+            return self.listed(due, got)
+        if got.kind == "test":
+            return self.tested(due, got, False)
+        if got.kind == "debug":
+            return self.debugged(due, got)
+        if got.kind == "report-junit":
+            return self.without_output(due, got)
+        return "another answer"
+
+    def listed(self, due, got):
+        """A program whose list could not be had is one case."""
+        if got.status != due.status and not any("kyua: W: " in line for line in got.lines):
+            return "another exit"
+        for place, line in enumerate(got.lines):
+            name, _, case = line.rpartition(":")
+            if case == "__test_cases_list__" and line not in due.lines:
+                theirs = [other for other in due.lines if other.rpartition(":")[0] == name]
+                rest = got.lines[:place] + theirs + got.lines[place + 1:]
+                faults = [other for other in rest if other not in due.lines]
+                return None if theirs and all(other.startswith("kyua: W: ") for other in faults) else "another list"
+        return "another list"
+
+    def verdicts(self):
+        return {case[1] for line in self.row.due.split("\n") for case in [case_of(line)] if case}
+
+    def tested(self, due, got, is_after):
+        """One case has the reason that memory gives it; the totals and the exit follow."""
+        changed, place = 0, 0
+        for name, verdict, _ in got.cases:
+            while place < len(due.cases) and due.cases[place][0] != name and name.endswith(":__test_cases_list__") and \
+                    due.cases[place][0].rpartition(":")[0] != name.rpartition(":")[0]:
+                place += 1
+            same = place < len(due.cases) and due.cases[place][0] == name
+            if same and due.cases[place][1] == verdict:
+                place += 1
+                continue
+            if verdict in self.programs.reasons(name) and not is_after and not changed:
+                changed += 1
+                if same:
+                    place += 1
+                    continue
+                path = name.rpartition(":")[0]
+                # A run that its store ends has cases that are not due.
+                if due.ending()[:1] == ["kyua: E: results store failed"] and path.rpartition("/")[2] in self.programs.kinds:
+                    continue
+                # The one case of a program whose list could not be had.
+                if not name.endswith(":__test_cases_list__") or place >= len(due.cases) or due.cases[place][0].rpartition(":")[0] != path:
+                    return f"a case that is not due: {name}"
+                while place < len(due.cases) and due.cases[place][0].rpartition(":")[0] == path:
+                    place += 1
+                continue
+            # A child behind a start that was refused lives as the one before it was to live.
+            if same and (changed or is_after) and verdict in self.verdicts():
+                place += 1
+                continue
+            return f"{name} is {verdict}"
+        self.printed = (got.cases, True)
+        end, due_end = got.ending(), due.ending()
+        if not due_end or due_end[0].startswith("kyua: E: "):
+            self.printed = (got.cases, not due_end)
+            return None if end == due_end and got.status == due.status else "another end"
+        bad = sum(not re.match("passed|skipped|expected_failure", verdict) for _, verdict, _ in got.cases)
+        if len(end) < 2 or end[:2] != ["", f"{len(got.cases) - bad}/{len(got.cases)} passed ({bad} failed)"]:
+            return f"other totals: {end[1:2]}"
+        if [line for line in end[2:] if line not in due_end] and not any("__test_cases_list__" in case[0] for case in got.cases):
+            return "other warnings"
+        if due_end[-1].startswith("kyua: E: ") and end[-1] != due_end[-1]:
+            return "another close"
+        if got.status != (2 if due.status == 2 else 1 if bad or len(end) > 2 else 0):
+            return f"exit {got.status}"
+        return None
+
+    def debugged(self, due, got):
+        """One case, of which an output may be left out."""
+        if not got.cases:
+            unmatched = got.lines and got.lines[-1].startswith("kyua: W: ") and len(got.lines) == 1 and got.status == 1
+            return None if unmatched and self.row.has("^lists ") else "no case"
+        if not due.cases:
+            return "a case that is not due"
+        name, verdict, _ = got.cases[0]
+        due_name, due_verdict, _ = due.cases[0]
+        whole, front = "\n".join(due.lines), "\n".join(got.lines)
+        for due_case in (f"{due_name}  ->  ",):
+            outputs, got_outputs = whole[:whole.rindex(due_case.split("\n")[-1])], front[:front.rindex(name.split("\n")[-1] + "  ->  ")]
+        if not is_left_out(got_outputs, outputs):
+            return "another output"
+        if verdict != due_verdict and verdict not in self.programs.reasons(due_name.split("\n")[-1]):
+            return f"{name} is {verdict}"
+        good = bool(re.match("passed|skipped|expected_failure", verdict))
+        return None if got.status == (0 if good else 1) else f"exit {got.status}"
+
+    def without_output(self, due, got):
+        """A report of a case whose output was read without memory lacks it."""
+        rest = list(due.lines)
+        for line in got.lines:
+            while rest and rest[0] != line:
+                if not re.match(r"</?system-(out|err)>|[^<]", rest[0]):
+                    return "another report"
+                rest.pop(0)
+            if not rest:
+                return "another report"
+            rest.pop(0)
+        return None if not rest and got.status == due.status else "another report"
+
+    def follows(self, due, got):
+        """What is wrong with a part behind the first one that differed."""
+        if due == got:
+            return None
+        if due.status == 2 and got.status == 2 and due.lines[-1] == got.lines[-1] and due.kind.startswith("report"):
+            return None
+        if got.is_cut():
+            return "memory ran out twice"
+        if got.kind == "test":
+            return self.tested(due, got, True)
+        if got.kind in ("list", "debug"):
+            return None if [line.partition("  [")[0] for line in got.lines] == [line.partition("  [")[0] for line in due.lines] and \
+                got.status == due.status else "another answer"
+        if len(got.lines) == 1 and re.fullmatch(r"kyua: E: no run(s| \d+)", got.lines[0]):
+            return None if got.status == 2 and not (self.printed and self.printed[0] and not any("--run" in w for w in got.words)) else \
+                "there is such a run"
+        if got.lines == ["kyua: E: results store failed"]:
+            return None if self.row.has("^refused ") and got.status == 2 else "the store failed"
+        if got.status != 0:
+            return f"exit {got.status}"
+        return self.junit(got) if got.kind == "report-junit" else self.report(got)
+
+    def recorded(self, words):
+        """The cases that a report must have, if that is known: of the last run."""
+        if self.printed is None or any(word.startswith("--run") for word in words) or \
+                sum(kind == "test" for kind, _ in self.commands) > 1:
+            return None
+        return [(name, verdict) for name, verdict, _ in self.printed[0]]
+
+    def report(self, got):
+        """A report agrees with itself, and with what was printed as it was recorded."""
+        kinds, section, counts, shown_cases = {}, None, {}, []
+        for line in got.lines:
+            case = case_of(line)
+            if line.startswith("===> "):
+                section = line[5:]
+            elif case and section != "Summary":
+                kind = re.match(KINDS, case[1]).group(0)
+                if section != dict(KIND_TITLES)[kind]:
+                    return f"{case[0]} stands under {section}"
+                kinds[kind] = kinds.get(kind, 0) + 1
+                shown_cases.append(case[:2])
+        match = [re.fullmatch(r"Test cases: (\d+) total, (\d+) skipped, (\d+) expected failures, (\d+) broken, (\d+) failed", line)
+                 for line in got.lines]
+        match = [found for found in match if found]
+        if len(match) != 1:
+            return "no summary"
+        total, *numbers = map(int, match[0].groups())
+        counts = dict(zip(("skipped", "expected_failure", "broken", "failed"), numbers))
+        if any(kinds[kind] != counts.get(kind, kinds[kind]) for kind in kinds) or sum(numbers) > total:
+            return "a summary of other cases"
+        recorded = self.recorded(got.words)
+        if recorded is None:
+            return None
+        if total != len(recorded) or any(counts[kind] != sum(verdict.startswith(kind) for _, verdict in recorded) for kind in counts):
+            return "a summary of other cases than were printed"
+        if any(case not in recorded for case in shown_cases):
+            return "a case that was not printed so"
+        is_open = any(line.startswith("Run ") and line.endswith(", unfinished") for line in got.lines)
+        return "the run is finished" if is_open == self.printed[1] else None
+
+    def junit(self, got):
+        head = [re.fullmatch(r'<testsuite tests="(\d+)" failures="(\d+)" errors="(\d+)" skipped="(\d+)">', line) for line in got.lines]
+        head = [found for found in head if found]
+        text = "\n".join(got.lines)
+        if len(head) != 1 or got.lines[-1] != "</testsuite>":
+            return "no test suite"
+        numbers = [int(n) for n in head[0].groups()]
+        if numbers != [len(re.findall("<" + word + "[ >/]", text)) for word in ("testcase", "failure", "error", "skipped")]:
+            return "a test suite of other cases"
+        recorded = self.recorded(got.words)
+        if recorded is not None and numbers[0] != len(recorded):
+            return "a test suite of other cases than were printed"
+        return None
+
+    def shown(self, due, got):
+        """What is wrong with what is shown behind the exits."""
+        due_lines, got_lines = list(due[1]), list(got[1])
+        if due_lines == got_lines:
+            return None
+        words = (self.row.texts("show") or [""])[0].split()
+        if "system" in words:
+            calls, due_calls = unfolded(got_lines.pop()), unfolded(due_lines.pop())
+            if not is_within([call for call in calls if not call.startswith("remove")], due_calls):
+                return "other calls of the system"
+        if due[0] == got[0] and is_block(due_lines, got_lines, [["NoMemory"]]):
+            return None
+        # Nothing is seen of what was refused.
+        if not self.after and not self.is_silent and not any(part.is_cut() and not part.cases for part in due[0]):
+            return "other runs are shown"
+        if self.row.has("^disk sound"):
+            return self.stored(due_lines, got_lines)
+        tests = [part for part in got[0] if part.kind == "test"]
+        is_open = self.is_silent or any(not re.search(r"passed \(\d+ failed\)$", "\n".join(part.ending()), re.M) for part in tests)
+        for line in got_lines:
+            if line in ("", "Store") or line == "NoMemory" and self.row.has("^refused-memory "):
+                continue
+            match = re.fullmatch(r"run \d+ at \d+: (\d+) of (\d+), (finished|unfinished)", line)
+            if not match:
+                return f"other runs are shown: {line}"
+            entries, total, state = int(match.group(1)), int(match.group(2)), match.group(3)
+            if entries > total or state == "finished" and entries != total or state == "unfinished" and not is_open:
+                return f"other runs are shown: {line}"
+            if self.printed is not None and len(tests) == 1 and len(got_lines) == 1 and entries != len(self.printed[0]) and not self.is_silent:
+                return f"other entries are recorded than printed: {line}"
+        return None
+
+
+    def stored(self, due, got):
+        """All that the tables hold: the cases that were printed, as they were, and an end if the run had one."""
+        cases, is_done = self.printed or ([], False)
+        if got in ([], [""]):
+            return "the run is not there" if cases else None
+        found = [match for match in map(STORED.fullmatch, got) if match]
+        if [match.group(1, 2) for match in found] != [case[:2] for case in cases]:
+            return "other entries are stored than printed"
+        rest = [line for line in got if not STORED.fullmatch(line)]
+        if rest[-1] != ("finished" if is_done else "unfinished"):
+            return "another end of the run"
+        return None if rest[0] == due[0] and all(line in due for line in rest[:-1]) else "another run"
+
+
+# An entry of the tables: its case and its verdict.
+STORED = re.compile(r"\d+ ([^ ]+:[^ ]+) ((?:" + KINDS + r")(?:: .*?)?), started \d+, took \d+", re.S)
+
+
+def is_left_out(outputs, whole):
+    """Whether outputs are those of another text, of which some pieces, one after the other, are left out."""
+    if outputs == whole:
+        return True
+    for size in range(len(outputs) + 1):
+        if whole.startswith(outputs[:size]) and whole.endswith(outputs[size:]):
+            return True
+    return False
+
+
+def unfolded(line):
+    """The calls of a line: `poll 0 x3` and `(poll 0, pause) x99` are so many."""
+    calls = []
+    for part in re.findall(r"\([^)]*\)(?: x\d+)?|[^,]+", line):
+        part = part.strip()
+        match = re.fullmatch(r"(.*?)(?: x(\d+))?", part, re.S)
+        block = match.group(1)
+        inner = block[1:-1].split(", ") if block.startswith("(") else [block]
+        calls += inner * int(match.group(2) or 1)
+    return [call for call in calls if call]
+
+
+def is_within(some, all_of):
+    """Whether these are among others, in their order."""
+    rest = iter(all_of)
+    return all(any(one == other for other in rest) for one in some)
+
+
+ENTRY = re.compile(r"(\d+) (?:([^ ]+:[^ ]+) )?((?:" + KINDS + r")(?:: .*?)?)((?:, started \d+, took \d+| [01+]{6})?)", re.S)
+
+
+class System:
+    """A plan over a scripted system: its sections in the order of `show`."""
+
+    def __init__(self, row):
+        self.row = row
+        self.letters = unescaped((row.texts("plan") or [""])[0])
+        self.words = (row.texts("show") or ["entries"])[0].split()
+        self.changed = {}
+        # Whether some case has a reason that memory gives it.
+        self.shortage = False
+
+    def reasons(self, position, due=""):
+        letter = self.letters[position] if position < len(self.letters) else "p"
+        found = {START} | {"t": {STREAM}, "a": {RESULT}, "c": {RESULT, CLEANUP}}.get(letter, set())
+        if letter in "ac" and due.startswith("expected_failure"):
+            found.add(TIMED_OUT)
+        return found
+
+    def sections(self, lines):
+        """The lines of each section, and the fault behind them."""
+        found, at, lines = [], 0, list(lines)
+        fault = lines.pop() if lines and lines[-1] in ("out of memory", "failed") else None
+        for word in self.words:
+            start = at
+            if word in ("calls", "words", "watching", "spawned", "totals"):
+                # Nothing was asked, and nothing stands in front of it.
+                at += not (at == 0 and at < len(lines) and (ENTRY.fullmatch(lines[at]) or
+                           word != "totals" and re.fullmatch(r"\d+ of \d+ passed(, .*)?", lines[at])))
+            elif word == "spawns":
+                while at < len(lines) and ", in " in lines[at]:
+                    at += 1
+                at = max(at, start + (at == start and at < len(lines) and lines[at] == ""))
+            elif word == "outputs":
+                at = len(lines) if word == self.words[-1] else at
+            else:
+                while at < len(lines) and ENTRY.fullmatch(lines[at]):
+                    at += 1
+                if at == start and at < len(lines) and lines[at] == "":
+                    at += 1
+            found.append((word, lines[start:at]))
+        return (found, fault) if at == len(lines) else None
+
+    def fault(self, due_lines, got_lines):
+        if self.row.has("^fails each"):
+            return self.failing(due_lines, got_lines)
+        due, got = self.sections(due_lines), self.sections(got_lines)
+        if not due or not got:
+            return "the sections aren't told apart"
+        if got[1] != due[1] and got[1] != "out of memory":
+            return "another end"
+        ends = got[1] == "out of memory" != due[1]
+        for (word, one), (_, other) in zip(due[0], got[0]):
+            if word in ("entries", "marks", "cases", "verdicts"):
+                what = self.entries(one, other, ends)
+                if what:
+                    return what
+        for (word, one), (_, other) in zip(due[0], got[0]):
+            what = None if one == other else getattr(self, "check_" + word, lambda *_: None)("\n".join(one), "\n".join(other), ends)
+            if what:
+                return f"{word}: {what}"
+        if not ends and not self.changed and not self.shortage and due[0] != got[0] and \
+                any(one != other for (word, one), (_, other) in zip(due[0], got[0]) if word not in ("outputs", "marks")) and \
+                any(word in ("entries", "cases") for word in self.words):
+            return "no entry says why"
+        return None
+
+    def entries(self, due, got, ends):
+        if ends and len(got) <= len(due):
+            return None if due[:len(got)] == got or got == [""] else "other entries"
+        if self.row.has("^failing "):
+            return self.stopped(due, got)
+        first = {match.group(1): match for match in map(ENTRY.fullmatch, due) if match}
+        second = {match.group(1): match for match in map(ENTRY.fullmatch, got) if match}
+        if len(due) != len(got) or set(first) != set(second) or len(first) != len(due) or len(second) != len(got):
+            return "entries are missing"
+        for key in sorted(first, key=lambda key: second[key].group(3) not in self.reasons(int(key))):
+            if first[key].group(2) != second[key].group(2):
+                return f"another case: {second[key].group(0)}"
+            position = int(key)
+            verdict, due_verdict = second[key].group(3), first[key].group(3)
+            # A cleanup that isn't started changes nothing of a case that is bad without it.
+            self.shortage |= verdict in self.reasons(position, due_verdict) or \
+                "c" in self.letters and bool(re.match("failed|broken", due_verdict))
+            if verdict != due_verdict:
+                if verdict in self.reasons(position, due_verdict) and not self.changed:
+                    self.changed[position] = verdict
+                elif self.changed and verdict in self.lives():
+                    continue
+                else:
+                    return f"{position} is {verdict}"
+        return None
+
+    def stopped(self, due, got):
+        """As many entries as are put before the one that fails, one of them with a reason that memory gives."""
+        self.shortage = True
+        found = [match for match in map(ENTRY.fullmatch, got) if match]
+        if len(found) != len(got) or len(got) != len(due) or len({match.group(1) for match in found}) != len(found):
+            return "other entries"
+        bad = [match for match in found if match.group(3) not in self.lives()]
+        if len(bad) > 1 or any(match.group(3) not in self.reasons(int(match.group(1))) for match in bad):
+            return f"another entry: {bad[0].group(0)}"
+        return None
+
+    def lives(self):
+        """What a case of this row may come to: children behind a start that was refused live as the ones before them were to."""
+        found = {match.group(3) for match in map(ENTRY.fullmatch, self.row.due.split("\n")) if match}
+        if self.row.has("^(fails|refuses) "):
+            # Calls are refused by their number, and there are fewer of them.
+            found |= {"broken: Test case timed out", "broken: Work directory could not be made", "broken: Output files could not be made",
+                      "broken: Test program could not be started", "broken: Test case could not be waited for", "passed", START}
+        return found
+
+    def check_spawned(self, due, got, ends):
+        first, second = int(due.split()[0]), int(got.split()[0])
+        return None if second <= first and (ends or first - second <= 2) else "another number"
+
+    def check_totals(self, due, got, ends):
+        match = re.fullmatch(r"(\d+) of (\d+) passed(?:, (.*))?", got)
+        first = re.fullmatch(r"(\d+) of (\d+) passed(?:, (.*))?", due)
+        if not match or not first:
+            return "no totals"
+        if ends:
+            return None if int(match.group(1)) <= int(first.group(1)) else "more passed"
+        reasons = set().union(*(self.reasons(position) for position in range(len(self.letters))))
+        if match.group(2) != first.group(2) or int(first.group(1)) - int(match.group(1)) > 1:
+            return "other totals"
+        return None if match.group(3) in reasons or match.group(3) == first.group(3) else f"a case is {match.group(3)}"
+
+    def calls_fault(self, due, got):
+        one, other = unfolded(due), unfolded(got)
+        if len(set(self.letters)) == 1 and len(self.letters) == 1:
+            return None if is_within(other, one) or is_within([c for c in other if c.split()[0] not in ("remove", "kill")], one) else "other calls"
+        words = {call.split()[0] for call in one} | {"remove"}
+        return None if {call.split()[0] for call in other} <= words and len(other) <= len(one) + 2 else "other calls"
+
+    def check_calls(self, due, got, ends):
+        return self.calls_fault(due, got)
+
+    check_words = check_watching = check_calls
+
+    def check_spawns(self, due, got, ends):
+        names = [line.split(", with")[0] for line in due.split("\n")]
+        return None if all(line in due.split("\n") or line.split(", with")[0].split(", in")[0] in {n.split(", in")[0] for n in names}
+                           for line in got.split("\n") if line) else "another start"
+
+    def check_outputs(self, due, got, ends):
+        return None if ends or is_left_out_lines(got, due) else "other outputs"
+
+    def table(self, lines):
+        """The marks of each case where each call fails, as they are told: only where they differ from those of the sound run."""
+        sound, told, extra, calls, at = {}, {}, {}, None, 0
+        for line in lines:
+            entry, change = ENTRY.fullmatch(line), re.fullmatch(r"at (\d+): (.*)", line, re.S)
+            if line.endswith(" calls"):
+                calls = int(line.split()[0])
+            elif change:
+                at = int(change.group(1))
+                case = ENTRY.fullmatch(change.group(2).removesuffix(", killed"))
+                if case:
+                    told.setdefault(at, {})[int(case.group(1))] = case.group(3) + case.group(4)
+                    if line.endswith(", killed"):
+                        extra.setdefault(at, []).append("killed")
+                else:
+                    extra.setdefault(at, []).append(change.group(2))
+            elif entry:
+                sound[int(entry.group(1))] = entry.group(3) + entry.group(4)
+            else:
+                return None
+        return sound, told, extra, calls
+
+    def failing(self, due_lines, got_lines):
+        """Where each call fails in turn, one attempt differs from what is due, or the sound one."""
+        due, got = self.table(due_lines), self.table(got_lines)
+        if not due or not got:
+            return "the attempts aren't told apart"
+        attempts = set()
+        last = min(due[3] or 10 ** 6, got[3] or 10 ** 6)
+        strip = lambda text: re.sub(r" [01+]{6}$", "", text)
+        for position in due[0]:
+            if due[0][position] != got[0].get(position):
+                attempts.add("sound")
+                if strip(got[0].get(position, "")) not in self.reasons(position) | {strip(due[0][position])} | self.lives():
+                    return f"{position} is {got[0].get(position)}"
+        for at in range(1, last):
+            for position in due[0]:
+                one = due[1].get(at, {}).get(position, due[0][position])
+                other = got[1].get(at, {}).get(position, got[0].get(position))
+                if one != other:
+                    attempts.add(at)
+                    if strip(other) not in self.reasons(position) | {strip(one), strip(due[0][position])} | self.lives():
+                        return f"at {at} {position} is {other}"
+            if due[2].get(at) != got[2].get(at) and at not in attempts:
+                attempts.add(at)
+        if got[3] != due[3]:
+            attempts.add(got[3])
+        return None if len(attempts) <= 1 else f"attempts {sorted(map(str, attempts))} differ"
+
+
+OUTPUT = re.compile(r"(out|err)=(.*?)(?=, err=|, cleanup out=|, cleanup err=|\nout=|$)", re.S)
+
+
+def is_left_out_lines(got, due):
+    """Whether some outputs are empty, and all others as they are due."""
+    one, other = OUTPUT.findall(due), OUTPUT.findall(got)
+    return len(one) == len(other) and all(field[0] == due_field[0] and field[1] in ("", due_field[1])
+                                          for field, due_field in zip(other, one))
+
+
+def schedule_fault(row, due_lines, got_lines):
+    """A run stops at a put that was refused memory: then nothing starts but cleanups that are owed, and what runs ends."""
+    if is_block(due_lines, got_lines, [["out of memory"]]):
+        return None
+    if row.texts("brief") or any(word == "brief" for word, _ in row.lines):
+        match = re.fullmatch(r"(\d+) bodies, (\d+) cleanups, at most (\d+) at once; (\d+) entries (by position|in another order): out of memory",
+                             got_lines[0]) if got_lines else None
+        return None if match else "another run"
+    due, got = due_lines[0].split(", "), got_lines[0].split(", ")
+    puts = re.fullmatch(r"put((?: \d+)*): out of memory", got_lines[1]) if len(got_lines) > 1 else None
+    due_puts = re.fullmatch(r"put((?: \d+)*): .*", due_lines[1])
+    if not puts:
+        return "another end"
+    if not due_puts.group(1).startswith(puts.group(1)):
+        return "other puts"
+    front = 0
+    while front < min(len(due), len(got)) and due[front] == got[front]:
+        front += 1
+    if any(call.startswith("start ") and not call.startswith("start cleanup") for call in got[front:]):
+        return "a case starts behind a put that was refused"
+    started = [call[6:] for call in got if call.startswith("start ")]
+    ended = [call[4:] for call in got if call.startswith("end ")]
+    return None if got == [""] or sorted(set(ended)) == sorted(set(call for call in started if call in ended)) else "what runs doesn't end"
+
+
+REFUSALS = {
+    "scripts": [["NoMemory(NoMemory { refusal: Refusal })"]],
+    "stores": [["NoMemory"], [MEMORY, "exit 2"]],
+}
+
+
+def fault_of(row, status, text):
+    """What is wrong with an answer, or nothing."""
+    if os.WIFSIGNALED(status):
+        return f"ended by signal {os.WTERMSIG(status)}"
+    code = os.WEXITSTATUS(status)
+    if code in (0, 2):
+        # It is due, or the file could not be read or the count not printed.
+        return None if not text else f"exit {code}"
+    if code != 1:
+        return f"exit {code}"
+    text = re.sub(r"^[a-z]+\.rows:\d+: ", "", text).rstrip("\n")
+    if text == "out of memory" or text in SETUPS.get(row.subject, []):
+        return None
+    match = re.fullmatch(r'another answer\n  wanted: "(.*)"\n  got:    "(.*)"', text, re.S)
+    if not match:
+        return text
+    wanted, got = shown(match.group(1)), shown(match.group(2))
+    if not row.due.endswith(wanted):
+        return "the due answer is not the row's"
+    got_lines = (row.due[:len(row.due) - len(wanted)] + got).split("\n")
+    return difference(row, row.due.split("\n"), got_lines)
+
+
+def difference(row, due, got):
+    if is_block(due, got, [["out of memory"]] + REFUSALS.get(row.subject, [])):
+        return None
+    if row.subject in ("commands", "openings"):
+        return commands_fault(row, due, got)
+    if row.subject == "systems":
+        return system_fault(row, due, got)
+    if row.subject == "schedules":
+        return schedule_fault(row, due, got)
+    if row.subject == "plans":
+        # Of a run that memory ended only its number is told.
+        return None if re.fullmatch(r"another run, the number \d+, of [A-Za-z]+", "\n".join(got)) else "another answer"
+    return "another answer"
+
+
+def commands_fault(row, due, got):
+    if row.has("^disk (log|database)"):
+        return None if are_stops(due, got) else "stopped elsewhere"
+    if row.subject == "openings":
+        if not is_within(got[0].split(", "), due[0].split(", ")) and got[0] != "nothing":
+            return "other calls of the platform"
+        due, got = due[1:], got[1:]
+    if row.texts("writes") == ["each"] and any(line.startswith("at write ") for line in got):
+        at = next(n for n, line in enumerate(got) if line.startswith("at write "))
+        # Memory ran out with a sound writer, and each other run is compared with that one, or where a write failed.
+        what = got[:at] != due and Commands(row).fault(due, got[:at])
+        return what or cut_fault(row, due, got[at + 1:], got[:at] == due)
+    return Commands(row).fault(due, got)
+
+
+def are_stops(due, got):
+    """Whether a command was stopped where it is due, up to the one that memory ended, or by one failure of the disk more."""
+    if len(got) != 1 or len(due) != 1:
+        return False
+    match = re.fullmatch(r"(.*), out of memory", got[0])
+    if match:
+        return due[0].startswith(match.group(1))
+    one, other = (re.findall(r"attach \d+|begin|put \d+|finish|, [a-z ]+|[a-z ]+", line) for line in (due[0], got[0]))
+    return any(other == one[:at] + [other[at]] + one[back:] for at in range(1, min(len(one), len(other))) for back in (at - 1, at))
+
+
+def cut_fault(row, due, got, has_memory):
+    """Where a write failed no more is written than is due, or, if memory ran out there, than a fault behind a front of it."""
+    last = lambda lines: max((n for n, line in enumerate(lines) if re.fullmatch(r"exit( [0-3])+", line)), default=None)
+    at, due_at = last(got), last(due)
+    if at is None:
+        return "no exit"
+    if got[at].split()[-1] != "2":
+        return "the last exit is not 2"
+    page, whole = "\n".join(got[:at]).removesuffix("(cut)"), "\n".join(due[:due_at])
+    if not has_memory:
+        return None if whole.startswith(page) and got[at + 1:] == due[due_at + 1:] else "more than the front of what is due"
+    if whole.startswith(page):
+        return None
+    front = os.path.commonprefix([page, whole])
+    rest = [page[size:] for size in range(len(front) + 1)]
+    if any(text.startswith(MEMORY) or MEMORY.startswith(text) for text in rest):
+        return None
+    # An output is left out.
+    lines = [at for at in range(len(front) + 1) if at == 0 or whole[at - 1] == "\n"]
+    if row.has("^holds [^ ]*(out|err) ") and any(whole[at:].startswith(page[start:]) for start in lines for at in lines_behind(whole, start)):
+        return None
+    # A case has a reason that memory gives it, or as much of it as was written, and what follows is another page.
+    reasons = (START, LIST, RESULT, CLEANUP, STREAM)
+    verdict = page.rpartition("\n")[2].partition("  ->  ")[2]
+    if any(reason in page for reason in reasons) or verdict and any(reason.startswith(verdict) for reason in reasons):
+        return None
+    return None if "__test_cases_list__" in page else "more than the front of what is due"
+
+
+def lines_behind(text, start):
+    """Where lines begin behind a place."""
+    return [at for at in range(start, len(text)) if at == start or text[at - 1] == "\n"]
+
+
+def system_fault(row, due, got):
+    if row.lines[0][0] == "plan":
+        return System(row).fault(due, got)
+    if row.lines[0][0] == "reader":
+        return None if re.fullmatch(r"failed; \d+ bytes given, 0 reads failed", got[0]) and len(got) == 1 else "another read"
+    if got == ["no driver"]:
+        return None
+    last = got[-1]
+    if not re.fullmatch(r"Refused\(Memory\)|no driver|[A-Za-z]+(\([^)]*\))?, Unreadable", last):
+        return "another end of a list"
+    if re.search("Unreadable", last) and last.split(", Unreadable")[0] != due[-1].rsplit(", ", 1)[0]:
+        return "another end of a list"
+    return None if is_within([c for c in unfolded(got[0]) if c != "remove"], unfolded(due[0])) else "other calls of a list"
+
+
+def answers_of(path):
+    """The answers in a file of refuse_each.c: the first allocation, how often, the status and the text of each."""
+    with open(path, "rb") as file:
+        text = file.read()
+    at = 0
+    while at < len(text):
+        end = text.index(b"\n", at)
+        numbers = text[at:end].split()
+        if len(numbers) != 4:
+            return
+        first, times, status, size = map(int, numbers)
+        yield first, times, status, text[end + 1:end + 1 + size].decode("utf-8", "replace")
+        at = end + size + 2
+
+
+def main():
+    for folder in sys.stdin.read().split():
+        row = Row(folder)
+        for first, times, status, text in answers_of(os.path.join(folder, "answers")):
+            try:
+                what = fault_of(row, status, text)
+            except (IndexError, ValueError, AttributeError, TypeError) as error:
+                what = f"not understood: {error!r}"
+            if what:
+                print(f"{row.name}: allocation {first}, {times} in all: {what}\n  {text[:2000]!r}")
+
+
+if __name__ == "__main__":
+    main()
