@@ -1,6 +1,7 @@
 // Disturbs one call of a program, for a preload. INTERRUPT is the number of a write to standard output that is interrupted, counted
 // from 1, or the number of a read and the name of the file that is read; with the number 0 each kill is refused (EPERM), or if
-// there is a name, a pipe is put in the place of a file of that name just before it is opened to be read.
+// there is a name, a pipe is put in the place of a file of that name just before it is opened to be read. With the number -N the
+// program is killed before the Nth of its calls that may change a file.
 #define _GNU_SOURCE
 #include <dlfcn.h>
 #include <errno.h>
@@ -37,10 +38,17 @@ __attribute__((constructor)) static void begin(void)
 // Whether a call is the one to interrupt.
 static int is_wanted(int here)
 {
-    if (!here || ++count != wanted)
+    if (wanted < 0 || !here || ++count != wanted)
         return 0;
     errno = EINTR;
     return 1;
+}
+
+// Kills the program if this call is the one before which it is to end.
+static void may_end(void)
+{
+    if (wanted < 0 && ++count == -wanted)
+        raise(SIGKILL);
 }
 
 // Whether a path ends in the name.
@@ -63,6 +71,7 @@ static int is_named(int file)
 
 ssize_t write(int file, const void *bytes, size_t size)
 {
+    may_end();
     return is_wanted(!name[0] && file == 1) ? -1 : real_write(file, bytes, size);
 }
 
@@ -78,6 +87,8 @@ int open(const char *path, int flags, ...)
     va_start(rest, flags);
     mode = flags & O_CREAT ? va_arg(rest, int) : 0;
     va_end(rest);
+    if (flags & O_CREAT)
+        may_end();
     if (!wanted && !(flags & O_CREAT) && ends_in_name(path) && !unlink(path))
         mkfifo(path, 0600);
     return real_open(path, flags, mode);
@@ -91,3 +102,21 @@ int kill(pid_t process, int signal)
     }
     return real_kill(process, signal);
 }
+
+#define MAY_END(type, call, parameters, arguments)          \
+    type call parameters                                    \
+    {                                                       \
+        type(*real) parameters = dlsym(RTLD_NEXT, #call);   \
+        may_end();                                          \
+        return real arguments;                              \
+    }
+
+MAY_END(ssize_t, pwrite, (int file, const void *bytes, size_t size, off_t at), (file, bytes, size, at))
+MAY_END(int, ftruncate, (int file, off_t size), (file, size))
+MAY_END(int, fchmod, (int file, mode_t mode), (file, mode))
+MAY_END(int, fchown, (int file, uid_t user, gid_t group), (file, user, group))
+MAY_END(int, fsync, (int file), (file))
+MAY_END(int, fdatasync, (int file), (file))
+MAY_END(int, link, (const char *from, const char *to), (from, to))
+MAY_END(int, rename, (const char *from, const char *to), (from, to))
+MAY_END(int, unlink, (const char *path), (path))

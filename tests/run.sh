@@ -205,7 +205,7 @@ for folder in "$suite" "$suite/endings"; do
     programs "$folder" | cut -d ' ' -f 2 > "$room/names"
     for file in "$folder"/*; do
         case ${file##*/} in
-            Kyuafile | *.sh | *.c | *.md | endings | schema1) ;;
+            Kyuafile | *.sh | *.[ch] | *.md | endings | schema1) ;;
             *) grep -Fxq -e "${file##*/}" "$room/names" || wrong "$file is not registered" ;;
         esac
     done
