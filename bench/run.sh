@@ -1,8 +1,9 @@
 #!/usr/bin/env bash
 # Says what this `kyua` costs beside the original, where that is installed, and beside the floor, which does what no runner can do
 # without (floor.c). The three take turns, and a row has their medians: seconds, processor seconds with those of their children, and
-# MiB of the largest process, which is the runner. The last column has the ratios of processor seconds, to the original's and to
-# the floor's. A row has three rounds; it has one if that takes 10 seconds, or once the script has run for 120.
+# MiB of the largest process, which is the runner. The last columns have the ratio of processor seconds to the original's, and to
+# the floor's. A row has three rounds; it has one if that takes 10 seconds, or once the script has run for 120. A second table says
+# how long after the end of a program the runner has heard of it.
 # KYUA names the program to measure; else the one that kyua.sh runs. ROUNDS may say how many rounds. It wants a C compiler. It works
 # in memory if there is enough, or where TMPDIR says, writes nothing else, and ends within three minutes on four processors.
 set -eu
@@ -102,13 +103,35 @@ row() {
     "${@:4}"
     if [ $((SECONDS - begun)) -ge 10 ] || [ "$SECONDS" -ge 120 ]; then break; fi
   done
-  printf '| %-54s | %6d | %s | %s | %s | %5s, %5s |\n' "$title" "$(wc -l < ours.figures)" \
+  printf '| %-54s | %6d | %s | %s | %s | %5s | %5s |\n' "$title" "$(wc -l < ours.figures)" \
     "$(cell 1 1)" "$(cell 2 1)" "$(cell 3 1024)" "$(ratio theirs)" "$(ratio floor)"
+}
+
+# Runs a runner over programs that end late, and prints the mean time in microseconds until it has heard of an end.
+#   notices COMMAND [WORD..]
+notices() {
+  rm -f notices
+  NOTICES=$scratch/notices LD_PRELOAD=$scratch/notice.so "$@" > out
+  awk '
+    $1 in ended { late += $2 - ended[$1]; count++ }
+    { ended[$1] = $2 }
+    END { printf "%d", late / count / 1000 }' notices
+}
+# Prints a row of so many programs, one at once, that last so many milliseconds in the mean.
+#   ends MILLISECONDS COUNT
+ends() {
+  ln -f plain "ends.$1"
+  programs "ends.$1" "$2" > ends.kyuafile
+  rm -f {ours,floor}.db*
+  printf '| %4d | %3d | %5d / %5d |\n' "$1" "$2" \
+    "$(notices "$program" -v parallelism=1 test -k ends.kyuafile -r ours.db --work="$scratch")" \
+    "$(notices ./floor "$scratch/ends.$1" 0 "$2" 1 floor.db)"
 }
 
 # A static program costs the least.
 cc -O2 -static -o plain "$here/bench/case.c" 2> log || cc -O2 -o plain "$here/bench/case.c"
-for name in tap atf loud; do ln plain "$name"; done
+for name in tap atf one loud brief; do ln plain "$name"; done
+cc -O2 -shared -fPIC -o notice.so "$here/bench/notice.c"
 keeps='keeps its results with sqlite3'
 cc -O2 -DKEEPS -o floor "$here/bench/floor.c" -lsqlite3 2> log || {
   keeps='keeps no results, since there is no header of SQLite'
@@ -120,6 +143,8 @@ programs plain 10000 > many.kyuafile
 programs tap 200 tap > tap.kyuafile
 programs atf 50 atf > atf.kyuafile
 programs atf 100 atf > lists.kyuafile
+programs one 1 > one.kyuafile
+programs brief 200 > brief.kyuafile
 programs loud 100 > loud.kyuafile
 programs loud 256 > louder.kyuafile
 { echo 'syntax(2)'; printf "include('tree.%d/Kyuafile')\n" {1..100}; } > tree.kyuafile
@@ -132,8 +157,9 @@ done
 echo "Each cell: $program / ${other:-the original, which is not installed} / the floor, which $keeps."
 echo "$(nproc) processors, files in ${scratch%/*}."
 echo
-echo '| what | rounds | seconds | processor seconds | MiB | ratios |'
-echo '|---|---|---|---|---|---|'
+echo '| what | rounds | seconds | processor seconds | MiB | to the original | to the floor |'
+echo '|---|---|---|---|---|---|---|'
+row 'test of a plain program, in a new file' 1 '  ->  passed' tests one 0 1 1
 for width in 1 4 8; do row "test of 1,000 plain programs, $width at once" 1000 '  ->  passed' tests plain 0 1000 $width; done
 
 # The results that are reported. 10,000 cases take the original two minutes, so copies of the last 1,000 results stand for them,
@@ -156,6 +182,7 @@ fi
 
 for width in 1 4 8; do row "test of 200 TAP programs, $width at once" 200 '  ->  passed' tests tap 0 200 $width; done
 for width in 1 4 8; do row "test of 50 ATF programs with 4 cases, $width at once" 200 '  ->  passed' tests atf 50 200 $width; done
+row 'test of 200 programs that print 10 KiB, 4 at once' 200 '  ->  passed' tests brief 0 200 4
 row 'test of 100 programs that print 1 MiB, 4 at once' 100 '  ->  passed' tests loud 0 100 4
 row 'test of 100 programs, beside 10,000 results, 4 at once' 100 '  ->  passed' tests_beside_older
 row 'list of 1,000 plain programs in 100 Kyuafiles' 1000 :main lists tree
@@ -164,5 +191,11 @@ row 'report of 10,000 cases' 1 '^Test cases: 10000 total' reports report many
 row 'report-junit of 10,000 cases' 10000 '<testcase ' reports report-junit many
 row 'report of 256 cases that printed 1 MiB' 1 '^Test cases: 256 total' reports report louder
 row 'report-junit of 256 cases that printed 1 MiB' 256 '<testcase ' reports report-junit louder
+
+echo
+echo '| milliseconds of a program | programs | microseconds until its end is heard of: '"${program##*/}"' / the floor |'
+echo '|---|---|---|'
+for length in 1 5 20; do ends $length 200; done
+ends 1000 8
 echo
 echo "$SECONDS seconds"
