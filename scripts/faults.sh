@@ -150,6 +150,8 @@ kt_child/src/driving/running_children.rt: children.reserve(1)?;
 kt_child/src/driving/running_children.rt: pending.reserve(cases.len() + 1)?;
 # An exit for each command that was given; the program gives none here.
 kt_cli/src/commands/execution.rt: let mut exits = Vec::with_capacity(alloc, commands.len())?;
+# A block that is given back at once. What became of it is not looked at.
+kyua/src/main.rt: let _ = Vec::<u8>::with_capacity(alloc, LARGE_BLOCK);
 # The largest variable that a process can have, in 128 KiB.
 kt_cli/src/host/surroundings.rt: let mut room = vec![in rt.alloc(); 0u8; LONGEST_VARIABLE]?;
 PLACES

@@ -7,6 +7,7 @@ use kt_cli::{Exit, HostMachine, LineOutput, Outside, Platform, Surroundings, car
 use kt_store::{Results, StoreFault};
 use kt_words::{Command, CommandFault, read_words};
 use sqlite::{FileFrom, FileStore, Start, Unknown};
+use std::alloc::Global;
 use std::fs::File;
 use std::io::Write;
 use std::marker::PhantomData;
@@ -106,6 +107,16 @@ fn run<S: Past>(rt: &HostRuntime, past: PhantomData<S>) -> ExitCode {
     ExitCode::from(exit.status)
 }
 
+/// In bytes.
+const LARGE_BLOCK: usize = 16_777_216;
+
+/// Has the C library keep the memory of large outputs, which it would give back to the system and take again for each:
+/// once a large block was freed, those that are smaller come from its heap (mallopt(3), M_MMAP_THRESHOLD).
+fn keep_large_blocks(alloc: Global) {
+    let _ = Vec::<u8>::with_capacity(alloc, LARGE_BLOCK);
+}
+
 fn main(rt: HostRuntime) -> ExitCode {
+    keep_large_blocks(rt.alloc());
     run::<Unknown>(&rt, PhantomData)
 }
