@@ -23,6 +23,13 @@ if [ -z "${TMPDIR-}" ] && memory=$(mktemp -d /dev/shm/kyua.XXXXXX 2> /dev/null);
   fi
 fi
 export TMPDIR=$scratch HOME=$scratch LC_ALL=C
+# A runner copies each variable of its environment for each child, so all have one as small as cron's, whoever measures.
+for name in $(compgen -e); do
+  case $name in
+    HOME | LC_ALL | LOGNAME | PATH | SHELL | TMPDIR) ;;
+    *) export -n "$name" ;;
+  esac
+done
 cd "$scratch"
 . "$here/bench/measure.sh"
 rounds=${ROUNDS:-3}
@@ -111,7 +118,7 @@ row() {
 #   notices COMMAND [WORD..]
 notices() {
   rm -f notices
-  NOTICES=$scratch/notices LD_PRELOAD=$scratch/notice.so "$@" > out
+  ./measure /dev/null env NOTICES="$scratch/notices" LD_PRELOAD="$scratch/notice.so" "$@" > out
   awk '
     $1 in ended { late += $2 - ended[$1]; count++ }
     { ended[$1] = $2 }
