@@ -1,10 +1,10 @@
 -- what is chosen is the first that holds, and nothing else is next
-use Rattle.kt_sched.proofs.Common.{slice_get, Option, Some, None, drop, filter, is_some, nat_lt, ◌==◌, MatchOption, ◌⊎◌, if◌then◌else◌, ◌≡◌, ℕ, ◌+◌, ◌<◌, Bool, true, false, List, [], ◌∷◌, ◌++◌, length, refl, sym, ◌∙◌, ap, subst, arith, inl, inr, length-map, drop_of_length-le, false_from_ne_true, ⊤, nat_tests, slice_get_within, Body, Cleanup, Job, Next, Case, Trace, active, turns, next_to_start, IsBusy, recorded, Fed, has_failed, IsNext, IsChosen, IsHeld, MayBegin, SchedState, Stands, IsSettled, IsOrdinary, listed, positions, opened, is_open, is_decided, is_undecided, is_none, IsPlan, body_starts}
+use Rattle.kt_sched.proofs.Common.{slice_get, Option, Some, None, drop, filter, is_some, nat_lt, ◌==◌, MatchOption, ◌⊎◌, if◌then◌else◌, ◌≡◌, ℕ, ◌+◌, ◌<◌, Bool, true, false, List, [], ◌∷◌, ◌++◌, length, refl, sym, ◌∙◌, ap, subst, arith, inl, inr, drop_of_length-le, false_from_ne_true, ⊤, nat_tests, slice_get_within, Body, Cleanup, Job, Next, Case, Trace, active, turns, next_to_start, IsBusy, recorded, Fed, has_failed, IsNext, IsChosen, IsHeld, MayBegin, SchedState, Stands, IsSettled, IsOrdinary, listed, positions, opened, is_open, is_decided, is_undecided, is_none, IsPlan, body_starts}
 use Rattle.kt_sched.specs.declared.next.Next.TheVariants as next
 use Rattle.kt_sched.proofs.Lists.{filter_none, get_drop, some_is, slice_get-drop, within_some, filter_in}
 use Rattle.kt_sched.proofs.Decided.{first_open, room_in}
 use Rattle.kt_sched.proofs.Turns.{turn_sorted, turn_inside}
-use Rattle.kt_sched.proofs.Located.{turn_at, at_turn, active_is, something_runs, nothing_runs}
+use Rattle.kt_sched.proofs.Located.{turn_at, turn_past, at_turn, active_is, something_runs, nothing_runs}
 use Rattle.kt_sched.proofs.Upcoming.{job_kept, next_is, next_at, next_later, upcoming, alone_body}
 
 abbrev pub Held : List Job → Trace → Option Job → Type 0
@@ -14,8 +14,7 @@ module _ {plan : List Job} {n : ℕ} {fed : Fed} {b : SchedState} (h : Stands pl
   pub busy_where_held : has_failed fed ≡ false → IsHeld b → IsBusy plan n fed.trace
   busy_where_held f (inl e) = absurd (cc (h.puts.failed))
   busy_where_held f (inr (inl e)) =
-      let l : length b.order ≡ length (turns plan) = ap (λ (xs : List ℕ). length xs) h.turn.walk ∙ length-map (turns plan) (λ (job : Job). job.position) in
-      let d : drop b.turn (turns plan) ≡ [] = drop_of_length-le (turns plan) (omega (arith, e, l)) in
+      let d : drop b.turn (turns plan) ≡ [] = drop_of_length-le (turns plan) (turn_past h e) in
       inr (subst (Held plan fed.trace) (sym (next_is h ∙ ap (λ (ys : List Job). slice_get (filter is_undecided ys) 0) d)) tt)
   busy_where_held f (inr (inr (inl e))) = inl (omega (arith, active_is h, h.cases.most, h.cases.width_is))
   busy_where_held f (inr (inr (inr e))) = inr (by (next_to_start plan fed.trace) refl)

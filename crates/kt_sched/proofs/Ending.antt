@@ -1,9 +1,6 @@
 -- what holds where the run loop is done, and the moments of an entry
-use Rattle.kt_sched.proofs.Common.{slice_get, Option, Some, None, is_some, if◌then◌else◌, ◌≡◌, ℕ, ◌<◌, ◌≤◌, true, false, List, [], ◌∷◌, length, refl, sym, ◌∙◌, ap, arith, inl, inr, length-map, cases_lt, slice_get_within, Judged, Job, IsPlan, Event, Trace, of, Mark, BodyStarted, BodyRefused, BodyEnded, CleanupStarted, CleanupRefused, CleanupEnded, mark_of, history, is_whole, has_whole_history, turns, was_open, recorded, Fed, has_failed, AreWhole, IsNext, NamesEachOnce, SchedState, Stands, ◌==◌, Bool, ◌++◌, ⊤, Entry, Start, End, NoEvent, Then, position_of, Each, IsEntry, IsEntryOf, IsMoment, IsStorable, HasMoment, FitsAt}
-use Rattle.kt_sched.specs.declared.next.Next.TheVariants as next
-use Rattle.kt_sched.proofs.Lists.{within_some}
-use Rattle.kt_sched.proofs.Upcoming.{covers}
-use Rattle.kt_sched.proofs.Following.{turn_past, whole_each}
+use Rattle.kt_sched.proofs.Common.{slice_get, Option, Some, None, is_some, if◌then◌else◌, ◌≡◌, ℕ, ◌≤◌, true, false, List, [], ◌∷◌, length, refl, sym, ◌∙◌, ap, arith, inl, inr, length-map, cases_lt, Judged, Job, IsPlan, Event, Trace, of, Mark, BodyStarted, BodyRefused, BodyEnded, CleanupStarted, CleanupRefused, CleanupEnded, mark_of, history, is_whole, has_whole_history, was_open, recorded, AreWhole, WereOpen, NamesEachOnce, list_all, ◌==◌, Bool, ◌++◌, ⊤, Entry, Start, End, NoEvent, Then, position_of, Each, IsEntry, IsEntryOf, IsMoment, IsStorable, HasMoment, FitsAt}
+use Rattle.kt_sched.proofs.Lists.{list_all_at, within_some}
 use Rattle.kt_sched.proofs.Once.{Recorded, is_done, names_once}
 use Rattle.kt_sched.specs.EntryOf as recorded
 
@@ -29,19 +26,17 @@ four_calls plan T p h b i = elim (cases_lt i (length plan)) [
   | inr l ↦ omega (arith, ap (λ (es : List Event). length es) (b i l))
 ]
 
--- where it is done and no put failed, every case was due: the turn is past the decided ones, and each history is whole
-pub named_once : {plan : List Job} {n : ℕ} {fed : Fed} {b : SchedState} → Stands plan n fed b → has_failed fed ≡ false → IsNext plan n fed next.Done
-    → Recorded plan n fed.trace → NamesEachOnce plan (recorded plan n fed.trace)
-named_once {plan} {n} {fed} {b} h f x r = names_once n fed.trace h.cases.is_plan r (λ i job g. done i job g job.decided refl)
+-- where every history is whole and every decided case was open, each case is named once
+pub named_once : {plan : List Job} (n : ℕ) (T : Trace) → IsPlan plan → list_all (has_whole_history T) plan ≡ true → WereOpen plan n T → Recorded plan n T
+    → NamesEachOnce plan (recorded plan n T)
+named_once {plan} n T p w o r = names_once n T p r (λ i job g. done i job g job.decided refl)
   where
-    done : (i : ℕ) (job : Job) → slice_get plan i ≡ Some job → (o : Option Judged) → job.decided ≡ o → is_done plan n fed.trace job ≡ true
-    done i job g (Some v) d =
-        let c = covers h i job g in
-        let l : c.0 < b.turn = omega (arith, slice_get_within (turns plan) c.0 job c.1, turn_past h f x) in
-        ap (λ (o : Option Judged). if is_some o then was_open plan n fed.trace job else has_whole_history fed.trace job) d
-        ∙ (h.puts.gone f).gone c.0 job l c.1 (ap is_some d)
-    done i job g None d =
-        ap (λ (o : Option Judged). if is_some o then was_open plan n fed.trace job else has_whole_history fed.trace job) d ∙ whole_each h f x i job g
+    by : Job → Option Judged → Bool
+    by job o = if is_some o then was_open plan n T job else has_whole_history T job
+
+    done : (i : ℕ) (job : Job) → slice_get plan i ≡ Some job → (o : Option Judged) → job.decided ≡ o → is_done plan n T job ≡ true
+    done i job g (Some v) d = ap (by job) d ∙ o i job g (ap is_some d)
+    done i job g None d = ap (by job) d ∙ list_all_at (has_whole_history T) plan i job g w
 
 abbrev HasGoodMoment : Event → Type 0
 HasGoodMoment (Start i role answer) = HasMoment answer

@@ -13,7 +13,6 @@ pub mod Opened
 pub mod Begin
 pub mod Once
 pub mod Runs
-pub mod Going
 pub mod Gaining
 pub mod Ending
 pub mod Loop

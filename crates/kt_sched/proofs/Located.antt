@@ -1,5 +1,5 @@
 -- what a state says of a case
-use Rattle.kt_sched.proofs.Common.{slice_get, count_by, Option, Some, None, map, ◌≡◌, ◌≢◌, ℕ, ◌<◌, ◌⊎◌, true, false, List, [], length, refl, sym, ◌∙◌, ap, subst, arith, slice_set, inl, inr, false_from_ne_true, cases_eq, cases_lt, slice_get-map, slice_get_within, option_map, Role, Body, Cleanup, Job, Next, Stage, Owing, Taken, EndedBody, Case, Event, Trace, of, mark_of, history, is_active, active, turns, owed, IsPlan, Fed, role_runs, runs, stage_runs, SchedState, Stands, CaseStands, IsStage, IsAsked, is_active_stage, is_owing_stage, is_owed, Replaced}
+use Rattle.kt_sched.proofs.Common.{slice_get, count_by, Option, Some, None, map, ◌≡◌, ◌≢◌, ℕ, ◌<◌, ◌⊎◌, true, false, List, [], length, refl, sym, ◌∙◌, ap, subst, arith, slice_set, inl, inr, false_from_ne_true, cases_eq, cases_lt, length-map, ◌≤◌, slice_get-map, slice_get_within, option_map, Role, Body, Cleanup, Job, Next, Stage, Owing, Taken, EndedBody, Case, Event, Trace, of, mark_of, history, is_active, active, turns, owed, IsPlan, Fed, role_runs, runs, stage_runs, SchedState, Stands, CaseStands, IsStage, IsAsked, is_active_stage, is_owing_stage, is_owed, Replaced}
 use Rattle.kt_sched.specs.declared.next.Next.TheVariants as next
 use Rattle.kt_sched.proofs.Lists.{some_is, within_some, mapped_at, set_set, slice_get-set_other, slice_get-set_same, counted_some, counted_one, counted_none, count_alike, same_is}
 use Rattle.kt_sched.proofs.Turns.{turn_inside, turn_distinct}
@@ -104,6 +104,9 @@ module _ {plan : List Job} {n : ℕ} {fed : Fed} {b : SchedState} (h : Stands pl
 
   -- the turn order
 
+  pub turn_past : length b.order ≤ b.turn → length (turns plan) ≤ b.turn
+  turn_past l = omega (arith, l, ap (λ (xs : List ℕ). length xs) h.turn.walk, length-map (turns plan) (λ (job : Job). job.position))
+
   pub turn_at : (k i : ℕ) → slice_get b.order k ≡ Some i → TurnAt plan k i
   turn_at k i g =
       let w = mapped_at (λ (job : Job). job.position) (turns plan) k i (sym (ap (λ (xs : List ℕ). slice_get xs k) h.turn.walk) ∙ g) in
@@ -168,7 +171,3 @@ module _ {plan : List Job} {n : ℕ} {fed : Fed} {b : SchedState} (h : Stands pl
   pub nothing_runs : b.active ≡ 0 → (i : ℕ) (role : Role) → runs i role fed.trace ≡ false
   nothing_runs a i role = false_from_ne_true (runs i role fed.trace)
       (λ e. let w = runs_stage i role e in cc (runs_active role w.0.stage w.2, inactive i w.0 a w.1))
-
-  -- and where nothing runs or is owed, nothing is active
-  pub none_active : owed plan fed.trace ≡ None → ((k : ℕ) (r : Role) → runs k r fed.trace ≡ false) → 0 < b.active → ⊥
-  none_active o q a = let w = something_runs (h.cases.pending_is ∙ o) a in absurd (cc (q w.0 w.1, w.2))

@@ -1,5 +1,6 @@
 -- the run loop: what holds before each turn, and how each answer keeps it
-use Rattle.kt_sched.proofs.Common.{Result, Option, Some, None, is_some, Ok, Err, ◌^◌, ◌≡◌, ◌<◌, ℕ, ◌+◌, ◌-◌, List, [], ◌∷◌, ◌++◌, refl, append-nil, length, slice_get, sym, ◌∙◌, ap, subst, arith, Role, Entry, Job, StartAnswer, Ended, Next, Answer, SinkFault, Totals, Child, IsEvidence, IsIdle, IsMoment, HasMoment, MayStart, IsPlan, IsAnswer, IsAnswerTo, IsEntryOf, IsStorable, Start, End, event_count, running_after_start, running_after_end, pending_after_start, pending_after_end, child_of, CanCount, counted, Fed, fed_after, answer_of, with_event, nothing_fed, IsNext, Follows, Ran, NoEvent, SchedState, Stands}
+use Rattle.kt_base.specs.Kinds.{good as is_good}
+use Rattle.kt_sched.proofs.Common.{Result, Option, Some, None, is_some, not, Ok, Err, ◌^◌, ◌≡◌, ◌<◌, ℕ, ◌+◌, ◌-◌, Bool, true, false, if◌then◌else◌, ◌==◌, List, [], ◌∷◌, ◌++◌, refl, append-nil, append_assoc, length-append, count_by-le-length, false_from_ne_true, cases_eq, filter, take, length, slice_get, slice_get_within, sym, ◌∙◌, ap, subst, arith, Role, Body, Cleanup, Entry, Job, StartAnswer, Ended, Next, Answer, SinkFault, Totals, Child, IsEvidence, IsIdle, IsMoment, HasMoment, MayStart, IsPlan, IsAnswer, IsAnswerTo, IsEntryOf, AreEntries, IsStorable, Start, End, Each, FitsAt, BusyAt, Trace, event_count, owed, is_owed, history, is_whole, runs, turns, recorded, Due, dues, is_open, body_starts, running_after_start, running_after_end, pending_after_start, pending_after_end, child_of, CanCount, counted, FailedPut, Fed, fed_after, answer_of, with_event, nothing_fed, IsNext, Follows, Ran, NoEvent, SchedState, Stands}
 use Rattle.kt_sched.specs.Run.{EndsAs}
 use Rattle.kt_sched.specs.declared.run_fault.RunFault.{RunFault}
 use Rattle.kt_base.specs.declared.no_memory.NoMemory.{NoMemory as Refusal}
@@ -9,11 +10,12 @@ use Rattle.kt_sched.specs.declared.next.Answer.TheVariants as answer
 use Rattle.kt_sched.specs.declared.job.StartAnswer.TheVariants as told
 use Rattle.kt_sched.specs.declared.launcher.Launcher as launcher
 use Rattle.kt_sched.specs.declared.sink.Sink as sink
-use Rattle.kt_sched.proofs.Runs.{child_runs}
+use Rattle.kt_sched.proofs.Lists.{mapped_at, none_past, same_is, some_is, take_snoc, take_zero}
+use Rattle.kt_sched.proofs.Stages.{whole_quiet}
 use Rattle.kt_sched.proofs.Upcoming.{in_order}
-use Rattle.kt_sched.proofs.Going.{Going, ended_one, goes_end, goes_failed, goes_first, goes_fits, goes_idle, goes_legal, goes_start, goes_stopped, may_start}
-use Rattle.kt_sched.proofs.Gaining.{Gained, end_not_whole, gained_all, gained_are, gained_event, gained_failed, gained_first, gained_put, nothing_due, room_to_count, start_not_whole}
-use Rattle.kt_sched.proofs.Once.{named_at_most_once, recorded_first}
+use Rattle.kt_sched.proofs.Runs.{Going, Startable, child_at, child_runs, cleared, each_of, end_owes, end_runs, running_of, runs_now, runs_true, start_runs, until_more, until_now, up_to, while_runs}
+use Rattle.kt_sched.proofs.Gaining.{Gained, GainsUpTo, counts_more, due_put, entries_more, gained_event, gains_more}
+use Rattle.kt_sched.proofs.Once.{named_at_most_once, recorded_first, recorded_most}
 use Rattle.kt_sched.proofs.Ending.{four_calls, named_once, storable_entry}
 
 -- the core, the launcher and the sink stand after the same answers
@@ -34,22 +36,32 @@ fed_start : (fed : Fed) (asked : Next) (i : ℕ) (role : Role) (a : StartAnswer)
 fed_start fed asked i role (told.Started m) e = ap (λ (q : Next). fed_after fed q (answer.Started m)) e
 fed_start fed asked i role (told.Refused c) e = ap (λ (q : Next). fed_after fed q (answer.Refused c)) e
 
-module _ {L S : Type 0} (l : launcher.Ghosts L) (s : sink.Ghosts S) where
-  pub loop_first : (plan : List Job) (n : ℕ) (old : L) (before : S) (sched : SchedState) (totals : Totals) → IsPlan plan → Stands plan n nothing_fed sched
-      → sched.asked ≡ next.Done
-      → IsIdle (l.running old) (l.pending old) → totals ≡ record { total = 0; good = 0; bad = 0 } → Loop l s plan n old before sched old before totals None
-  loop_first plan n old before sched totals p h a i t = record {
+module _ {L S : Type 0} (l : launcher.Ghosts L) (s : sink.Ghosts S) (plan : List Job) (n : ℕ) (old : L) (before : S) (p : IsPlan plan) where
+  pub loop_first : (sched : SchedState) (totals : Totals) → Stands plan n nothing_fed sched → sched.asked ≡ next.Done → IsIdle (l.running old) (l.pending old)
+      → totals ≡ record { total = 0; good = 0; bad = 0 } → Loop l s plan n old before sched old before totals None
+  loop_first sched totals h a i t = record {
     fed = nothing_fed;
     stands = h;
-    going = goes_first l plan n old i;
-    gained = subst (λ (t : Totals). Gained s plan n nothing_fed t None before before) (sym t) (gained_first s plan n before p);
+    going = record { leads = refl; runs = none_runs; owes = i.pends; rules = tt; until = record { busy = tt; begun = refl; passed = tt } };
+    gained = record {
+      gained = [];
+      count = refl;
+      are = subst (λ (ps : List ℕ). AreEntries plan NoEvent ps []) (sym (take_zero (recorded plan n NoEvent))) tt;
+      kept = λ put h. subst (s.entries before) (sym (append-nil put)) h;
+      gains = (refl, refl, λ j p l g. due_put 0 (filter (is_open plan n NoEvent) (turns plan)) j p g);
+      counts = record { total = rw t refl; good = rw t refl; bad = rw t refl };
+      recorded = recorded_first plan n;
+    };
     asked = a;
   }
+    where
+      none_runs : (k : ℕ) (r : Role) → l.running old k r ≡ running_of plan NoEvent k r
+      none_runs k Body = i.runs k Body
+      none_runs k Cleanup = i.runs k Cleanup
 
   -- memory ran out before anything was done
-  pub ran_not : (plan : List Job) (n : ℕ) (old : L) (before : S) (refusal : Refusal) → IsPlan plan
-      → Ran l s plan n old old before before (Err (NoMemory refusal))
-  ran_not plan n old before refusal p = record {
+  pub ran_not : (refusal : Refusal) → Ran l s plan n old old before before (Err (NoMemory refusal))
+  ran_not refusal = record {
     trace = NoEvent;
     leads = refl;
     fits = tt;
@@ -62,26 +74,56 @@ module _ {L S : Type 0} (l : launcher.Ghosts L) (s : sink.Ghosts S) where
   }
 
 module _ {L S : Type 0} {l : launcher.Ghosts L} {s : sink.Ghosts S} {plan : List Job} {n : ℕ} {old : L} {before : S} {sched : SchedState} {mid : L} {after : S}
-    {totals : Totals} {fault : Option SinkFault}
-    (p : IsPlan plan) (k : Loop l s plan n old before sched mid after totals fault) where
+    {totals : Totals} {fault : Option SinkFault} (p : IsPlan plan) (k : Loop l s plan n old before sched mid after totals fault) where
   abbrev fed : Fed
   fed = k.fed
+
+  abbrev T : Trace
+  T = k.fed.trace
+
+  fits : Each (FitsAt plan) T
+  fits = each_of T (λ U e y. y.fits) k.going.rules
 
   moved_to : {q r : Next} {later : SchedState} (ans : Answer) → q ≡ r → Stands plan n (fed_after fed q ans) later → Stands plan n (fed_after fed r ans) later
   moved_to {later = later} ans e = subst (λ (y : Next). Stands plan n (fed_after fed y ans) later) e
 
-  -- a start of a job, where the core stands as it did
+  owes : {o : Option ℕ} → owed plan T ≡ o → (j : ℕ) → l.pending mid j ≡ is_owed o j
+  owes e j = k.going.owes j ∙ ap (λ (o : Option ℕ). is_owed o j) e
+
+  -- a start of a job
+
+  startable : (i : ℕ) (role : Role) → IsNext plan n fed (next.Start i role) → Follows plan n fed (next.Start i role)
+      → Startable (l.running mid) (l.pending mid) plan n fed i role
+  startable i Body x f = let none = λ (r : Role). k.going.runs i r ∙ runs_now plan T i r [] f.1 in record {
+    may = (none Body, none Cleanup, owes x.2 i);
+    now = f.0;
+    history_is = f.1;
+    clears = owes x.2;
+    fair = λ a m. record { fits = m; width = x.3.room; alone = x.3.alone; prompt = rw x.2 tt };
+    quiet = λ a z. absurd (cc (x.0, z));
+    due = λ z. x.1;
+  }
+  startable i Cleanup x f = record {
+    may = owes x.1 i ∙ same_is i;
+    now = f.0;
+    history_is = f.1;
+    clears = λ j. ap (λ y. if j == i then false else y) (owes x.1 j) ∙ cleared i j (cases_eq j i);
+    fair = λ a m. record { fits = m; width = tt; alone = f.0.alone; prompt = rw x.1 (refl, refl) };
+    quiet = λ a z. refl;
+    due = x.0;
+  }
 
   module _ (i : ℕ) (role : Role) (x : Says sched (λ plan n fed. IsNext plan n fed (next.Start i role)))
-      (f : Says sched (λ plan n fed. Follows plan fed (next.Start i role)))
+      (f : Says sched (λ plan n fed. Follows plan n fed (next.Start i role)))
       (b : SchedState) (y : Says sched (λ plan n fed. Stands plan n fed b)) (job : Job) (g : Says b (λ plan n fed. slice_get plan i ≡ Some job)) where
     place : slice_get plan i ≡ Some job
     place = g plan n fed (y plan n fed k.stands)
 
+    t : Startable (l.running mid) (l.pending mid) plan n fed i role
+    t = startable i role (x plan n fed k.stands) (f plan n fed k.stands)
+
     pub loop_may_start : (j : ℕ) → job.position ≡ j → MayStart (l.running mid) (l.pending mid) j role
-    loop_may_start j e =
-        subst (λ j. MayStart (l.running mid) (l.pending mid) j role) (sym (p.placed i job place) ∙ e)
-        (may_start fed p k.going i role (x plan n fed k.stands) (f plan n fed k.stands))
+    loop_may_start j e = subst (λ j. MayStart (l.running mid) (l.pending mid) j role) (sym (p.placed i job place) ∙ e) t.may
 
     pub loop_start : (a : StartAnswer) (new : L) (later : SchedState) (ans : Answer) → l.starts mid job role a new → HasMoment a
         → ((k : ℕ) (r : Role) → l.running new k r ≡ running_after_start (l.running mid) job role a k r)
@@ -92,93 +134,167 @@ module _ {L S : Type 0} {l : launcher.Ghosts L} {s : sink.Ghosts S} {plan : List
       fed = with_event fed (Start i role a);
       stands = subst (λ (w : Fed). Stands plan n w later) (ap (fed_after fed b.asked) e ∙ fed_start fed b.asked i role a q)
           (z plan n fed (y plan n fed k.stands));
-      going = goes_start fed p k.going new i role job a (x plan n fed k.stands) (f plan n fed k.stands) place w m u v;
-      gained = gained_event k.gained (Start i role a) p k.stands.puts.stored (nothing_due plan n fed i role (x plan n fed k.stands))
-          (start_not_whole plan fed i role (f plan n fed k.stands));
+      going = record {
+        leads = (mid, job, k.going.leads, place, w);
+        runs = λ j r. u j r ∙ start_runs plan T (l.running mid) k.going.runs i job role r a j place (p.placed i job place) t.history_is (cases_eq j i);
+        owes = λ j. v j ∙ (ap (λ y. pending_after_start (l.pending mid) y role j) (p.placed i job place) ∙ t.clears j);
+        rules = (k.going.rules, t.fair a m);
+        until = until_more plan n fed.stopped T (Start i role a) k.going.until (λ z. tt) (t.quiet a);
+      };
+      gained = gained_event k.gained (Start i role a) p k.stands.puts.stored t.due
+          (λ y g. ap (λ (y : Job). is_whole y (history i T)) (some_is y t.now.job (sym g ∙ t.now.place)) ∙ t.now.unfinished);
       asked = d;
     }
 
   -- a wait
 
-  module _ (x : Says sched (λ plan n fed. IsNext plan n fed next.Wait)) where
-    pub loop_may_wait : Says sched (λ plan n fed. Follows plan fed next.Wait) → (i : ℕ) × (role : Role) × (child : Child) × (l.running mid i role ≡ Some child)
-    loop_may_wait f = let w = f plan n fed k.stands in (w.0, w.1, child_of w.2, k.going.runs w.0 w.1 ∙ child_runs plan fed.trace w.0 w.1 w.2 w.3 w.4)
+  pub loop_may_wait : Says sched (λ plan n fed. Follows plan n fed next.Wait) → (i : ℕ) × (role : Role) × (child : Child) × (l.running mid i role ≡ Some child)
+  loop_may_wait f = let w = f plan n fed k.stands in (w.0, w.1, child_of w.2, k.going.runs w.0 w.1 ∙ child_runs plan T w.0 w.1 w.2 w.3 w.4)
 
-    module _ (e : Ended) (w : (child : Child) × (l.running mid e.position e.role ≡ Some child) × IsEvidence child.interface e.role e.evidence)
-        (b : SchedState) (q : b.asked ≡ next.Wait) (y : Says sched (λ plan n fed. Stands plan n fed b)) where
-      pub loop_answer : IsAnswer b (answer.Ended e)
-      loop_answer =
-          let r = (ended_one fed p k.going e w.0 w.1).0 in
-          (plan, n, fed, y plan n fed k.stands, subst (λ (y : Next). IsAnswerTo fed.trace y (answer.Ended e)) (sym q) r)
+  module _ (e : Ended) (w : (child : Child) × (l.running mid e.position e.role ≡ Some child) × IsEvidence child.interface e.role e.evidence) (b : SchedState)
+      (q : b.asked ≡ next.Wait) (y : Says sched (λ plan n fed. Stands plan n fed b)) where
+    -- the child that ended is one of the plan
+    one : (runs e.position e.role T ≡ true) × ((job : Job) × (slice_get plan e.position ≡ Some job) × (w.0 ≡ child_of job))
+    one = runs_true plan T e.position e.role w.0 (sym (k.going.runs e.position e.role) ∙ w.1)
 
-      pub loop_end : (new : L) (later : SchedState) → l.waits mid e new → IsMoment e.moment
-          → ((k : ℕ) (r : Role) → l.running new k r ≡ running_after_end (l.running mid) e k r)
-          → ((k : ℕ) → l.pending new k ≡ pending_after_end (l.running mid) (l.pending mid) e k)
-          → Says b (λ plan n fed. Stands plan n (fed_after fed b.asked (answer.Ended e)) later) → later.asked ≡ next.Done
-          → Loop l s plan n old before later new after totals fault
-      loop_end new later v m u o z d = record {
-        fed = with_event fed (End e);
-        stands = moved_to _ q (z plan n fed (y plan n fed k.stands));
-        going = goes_end fed p k.going new e w.0 (x plan n fed k.stands) v w.1 w.2 m u o;
-        gained = gained_event k.gained (End e) p k.stands.puts.stored
-            (x plan n fed k.stands).0 (end_not_whole plan fed.trace e.position e.role (ended_one fed p k.going e w.0 w.1).0);
-        asked = d;
-      }
+    pub loop_answer : IsAnswer b (answer.Ended e)
+    loop_answer = (plan, n, fed, y plan n fed k.stands, subst (λ (y : Next). IsAnswerTo T y (answer.Ended e)) (sym q) one.0)
+
+    pub loop_end : (new : L) (later : SchedState) → Says sched (λ plan n fed. IsNext plan n fed next.Wait) → l.waits mid e new → IsMoment e.moment
+        → ((k : ℕ) (r : Role) → l.running new k r ≡ running_after_end (l.running mid) e k r)
+        → ((k : ℕ) → l.pending new k ≡ pending_after_end (l.running mid) (l.pending mid) e k)
+        → Says b (λ plan n fed. Stands plan n (fed_after fed b.asked (answer.Ended e)) later) → later.asked ≡ next.Done
+        → Loop l s plan n old before later new after totals fault
+    loop_end new later wait v m u o z d = let ran = while_runs e.role (history e.position T) one.0 in let x = wait plan n fed k.stands in record {
+      fed = with_event fed (End e);
+      stands = moved_to _ q (z plan n fed (y plan n fed k.stands));
+      going = record {
+        leads = (mid, k.going.leads, v);
+        runs = λ j r. u j r ∙ end_runs plan T (l.running mid) k.going.runs e r j ran (cases_eq j e.position);
+        owes = λ j. o j ∙ end_owes plan T (l.running mid) k.going.runs (l.pending mid) e j e.role refl ran (owes x.1 j);
+        rules =
+            let y = subst (λ (c : Child). IsEvidence c.interface e.role e.evidence) one.1.2 w.2 in
+            (k.going.rules, record { fits = (m, (one.1.0, one.1.1, y)); width = tt; alone = tt; prompt = rw x.1 tt });
+        until = until_more plan n fed.stopped T (End e) k.going.until x.2 (λ y. refl);
+      };
+      gained = gained_event k.gained (End e) p k.stands.puts.stored x.0
+          (λ job g. false_from_ne_true _ (λ y. cc (whole_quiet job e.role (history e.position T) y, one.0)));
+      asked = d;
+    }
 
   -- a put of an entry that was taken
 
-  module _ (i : ℕ) (x : Says sched (λ plan n fed. IsNext plan n fed (next.Put i))) where
-    pub loop_can_count : length plan < 2 ^ 64 → CanCount totals (2 ^ 64 - 1)
-    loop_can_count r = room_to_count k.gained i (x plan n fed k.stands) r
+  module _ (i : ℕ) (put_next : Says sched (λ plan n fed. IsNext plan n fed (next.Put i))) where
+    x : IsNext plan n fed (next.Put i)
+    x = put_next plan n fed k.stands
 
-    module _ (b : SchedState) (y : Says sched (λ plan n fed. Stands plan n fed b)) (e : Entry) (w : Says b (λ plan n fed. IsEntryOf plan fed.trace i e)) where
-      entry_is : IsEntryOf plan fed.trace i e
-      entry_is = w plan n fed (y plan n fed k.stands)
+    pub loop_can_count : length plan < 2 ^ 64 → CanCount totals (2 ^ 64 - 1)
+    loop_can_count r = let g = k.gained in record {
+      total = omega (arith, g.counts.total, r, g.count, slice_get_within (recorded plan n T) fed.stored i x.1, recorded_most plan n T g.recorded);
+      good = omega (arith, g.counts.total, g.counts.good, count_by-le-length (λ (e : Entry). is_good e.verdict.kind) g.gained);
+      bad = omega (arith, g.counts.total, g.counts.bad, count_by-le-length (λ (e : Entry). not (is_good e.verdict.kind)) g.gained);
+    }
+
+    module _ (b : SchedState) (y : Says sched (λ plan n fed. Stands plan n fed b)) (e : Entry) (v : Says b (λ plan n fed. IsEntryOf plan fed.trace i e)) where
+      w : IsEntryOf plan T i e
+      w = v plan n fed (y plan n fed k.stands)
 
       pub loop_storable : IsStorable e
-      loop_storable = storable_entry plan fed.trace i e (goes_fits fed p k.going) entry_is
+      loop_storable = storable_entry plan T i e fits w
 
-      module _ (c later : SchedState) (q : c.asked ≡ next.Put i) (v : Says b (λ plan n fed. Stands plan n fed c)) (d : later.asked ≡ next.Done) (new : S) where
+      module _ (c later : SchedState) (q : c.asked ≡ next.Put i) (taken : Says b (λ plan n fed. Stands plan n fed c)) (d : later.asked ≡ next.Done) (new : S) where
+        now : Stands plan n fed c
+        now = taken plan n fed (y plan n fed k.stands)
+
         pub loop_put : (more : Totals) → more ≡ counted totals e.verdict.kind → s.puts after e (Ok tt) new
             → ((put : List Entry) → s.entries after put → s.entries new (put ++ e ∷ []))
             → Says c (λ plan n fed. Stands plan n (fed_after fed c.asked answer.Stored) later) → Loop l s plan n old before later mid new more fault
-        loop_put more m u o z = record {
+        loop_put more m u o z = let g = k.gained in record {
           fed = record fed { stored = fed.stored + 1 };
-          stands = moved_to _ q (z plan n fed (v plan n fed (y plan n fed k.stands)));
+          stands = moved_to _ q (z plan n fed now);
           going = k.going;
-          gained = subst (λ (y : Totals). Gained s plan n (record fed { stored = fed.stored + 1 }) y fault before new) (sym m)
-              (gained_put k.gained i e new (x plan n fed k.stands) entry_is u o);
+          gained = record {
+            gained = g.gained ++ e ∷ [];
+            count = length-append g.gained (e ∷ []) ∙ ap (λ j. j + 1) g.count;
+            are = subst (λ (ps : List ℕ). AreEntries plan T ps (g.gained ++ e ∷ [])) (sym (take_snoc (recorded plan n T) fed.stored i x.1))
+                (entries_more plan T (take fed.stored (recorded plan n T)) g.gained i e g.are w);
+            kept = λ put y. subst (s.entries new) (append_assoc put g.gained (e ∷ [])) (o (put ++ g.gained) (g.kept put y));
+            gains = by fault g.gains;
+            counts = rw m (counts_more g.gained e totals g.counts);
+            recorded = g.recorded;
+          };
           asked = d;
         }
+          where
+            by : (fault : Option SinkFault) → GainsUpTo s.puts plan n fed k.gained.gained fault before after
+                → GainsUpTo s.puts plan n (record fed { stored = fed.stored + 1 }) (k.gained.gained ++ e ∷ []) fault before new
+            by None y = (y.0, gains_more s.puts k.gained.gained e before after new y.1 u, λ j q l z. y.2 j q (omega (arith, l)) z)
+            by (Some fault) y = absurd (cc (x.0, ap is_some y.1))
 
         pub loop_failed : (cause : SinkFault) → s.puts after e (Err cause) new → ((put : List Entry) → s.entries after put → s.entries new put)
             → Says c (λ plan n fed. Stands plan n (fed_after fed c.asked answer.StoreFailed) later)
             → Loop l s plan n old before later mid new totals (Some cause)
-        loop_failed cause u o z = record {
-          fed = record fed { stopped = Some (event_count fed.trace) };
-          stands = moved_to _ q (z plan n fed (v plan n fed (y plan n fed k.stands)));
-          going = goes_failed fed p k.going (x plan n fed k.stands).0;
-          gained = gained_failed k.gained i e new (x plan n fed k.stands) entry_is cause u o;
+        loop_failed cause u o z = let g = k.gained in record {
+          fed = record fed { stopped = Some (event_count T) };
+          stands = moved_to _ q (z plan n fed now);
+          going = record {
+            leads = k.going.leads;
+            runs = k.going.runs;
+            owes = k.going.owes;
+            rules = k.going.rules;
+            until = until_now plan n fed.stopped T x.0 k.going.until;
+          };
+          gained = record {
+            gained = g.gained;
+            count = g.count;
+            are = g.are;
+            kept = λ put y. o (put ++ g.gained) (g.kept put y);
+            gains = by fault g.gains;
+            counts = g.counts;
+            recorded = g.recorded;
+          };
           asked = d;
         }
+          where
+            by : (fault : Option SinkFault) → GainsUpTo s.puts plan n fed k.gained.gained fault before after
+                → GainsUpTo s.puts plan n (record fed { stopped = Some (event_count T) }) k.gained.gained (Some cause) before new
+            by None y =
+                let m = mapped_at (λ (q : Due). q.position) (dues plan n T) fed.stored i x.1 in
+                let one : FailedPut s.puts plan n T k.gained.gained cause before new = record {
+                  next = m.0;
+                  is_next = ap (slice_get (dues plan n T)) k.gained.count ∙ m.1;
+                  refused = e;
+                  refused_is = subst (λ (k : ℕ). IsEntryOf plan T k e) (sym m.2) w;
+                  mid = after;
+                  gains = y.1;
+                  fails = u;
+                } in
+                (one, ap Some (sym (y.2 fed.stored m.0 (omega arith) m.1)))
+            by (Some fault) y = absurd (cc (x.0, ap is_some y.1))
 
   -- the end
 
-  module _ (x : Says sched (λ plan n fed. IsNext plan n fed next.Done)) (f : Says sched (λ plan n fed. Follows plan fed next.Done)) where
+  module _ (done : Says sched (λ plan n fed. IsNext plan n fed next.Done)) (after_done : Says sched (λ plan n fed. Follows plan n fed next.Done)) where
+    all : IsNext plan n fed next.Done
+    all = done plan n fed k.stands
+
+    f : Follows plan n fed next.Done
+    f = after_done plan n fed k.stands
+
     pub loop_idle : IsIdle (l.running mid) (l.pending mid)
-    loop_idle = goes_idle fed p k.going (x plan n fed k.stands)
+    loop_idle = record { runs = λ j r. k.going.runs j r ∙ ap (λ (b : Bool). if b then child_at plan j else None) (all.3 j r); pends = owes all.1 }
 
     -- at the exit, by what the sink gained
     ran : {fault : Option SinkFault} (g : Gained s plan n fed totals fault before after) (result : Result Totals RunFault)
-        → EndsAs s.puts plan n fed.trace g.gained before after result → Ran l s plan n old mid before after result
+        → EndsAs s.puts plan n T g.gained before after result → Ran l s plan n old mid before after result
     ran g result ends = record {
-      trace = fed.trace;
+      trace = T;
       leads = k.going.leads;
-      fits = goes_fits fed p k.going;
-      calls = four_calls plan fed.trace p (f plan n fed k.stands).0 k.stands.cases.beyond;
-      once = named_at_most_once n fed.trace p g.recorded;
+      fits = fits;
+      calls = four_calls plan T p f.0 k.stands.cases.beyond;
+      once = named_at_most_once n T p g.recorded;
       gained = g.gained;
-      are = gained_are g;
+      are = subst (λ (m : ℕ). AreEntries plan T (take m (recorded plan n T)) g.gained) (sym g.count) g.are;
       kept = g.kept;
       ends = ends;
     }
@@ -187,12 +303,20 @@ module _ {L S : Type 0} {l : launcher.Ghosts L} {s : sink.Ghosts S} {plan : List
     pub ran_well : fault ≡ None → Ran l s plan n old mid before after (Ok totals)
     ran_well e =
         let g = subst (λ (o : Option SinkFault). Gained s plan n fed totals o before after) e k.gained in
-        let o = ap is_some g.gains.0 in
-        let once = named_once k.stands o (x plan n fed k.stands) g.recorded in
+        let w = f.1 (ap is_some g.gains.0) in
+        let once = named_once n T p w.0 w.1 g.recorded in
+        let stored = none_past (recorded plan n T) fed.stored (all.0 (ap is_some g.gains.0)) in
         ran g (Ok totals) (record {
-          legal = goes_legal fed p k.going (in_order k.stands) (f plan n fed k.stands) g.gains.0;
+          legal = record {
+            whole = w.0;
+            order = in_order k.stands;
+            width = each_of T (λ U e y. y.width) k.going.rules;
+            alone = each_of T (λ U e y. y.alone) k.going.rules;
+            prompt = each_of T (λ U e y. y.prompt) k.going.rules;
+            busy = subst (λ (y : Option ℕ). Each (BusyAt plan n) (up_to y T)) g.gains.0 k.going.until.busy;
+          };
           once = once;
-          all = gained_all g k.stands.puts.stored ((x plan n fed k.stands).0 o) ∙ once.all;
+          all = omega (arith, g.count, k.stands.puts.stored, stored, once.all);
           gains = g.gains.1;
           counts = g.counts;
         })
@@ -201,5 +325,15 @@ module _ {L S : Type 0} {l : launcher.Ghosts L} {s : sink.Ghosts S} {plan : List
     pub ran_short : (cause : SinkFault) → fault ≡ Some cause → Ran l s plan n old mid before after (Err (SinkFailed cause))
     ran_short cause e =
         let g = subst (λ (o : Option SinkFault). Gained s plan n fed totals o before after) e k.gained in
-        let stopped = goes_stopped fed p k.going (in_order k.stands) (f plan n fed k.stands) g.gains.0.next.after g.gains.1 in
-        ran g (Err (SinkFailed cause)) (record { failed = g.gains.0; stopped = stopped })
+        ran g (Err (SinkFailed cause)) (record {
+          failed = g.gains.0;
+          stopped = record {
+            starts = k.going.until.begun ∙ ap (λ (y : Option ℕ). body_starts (up_to y T)) g.gains.1;
+            whole = λ job i g. f.0 i job g;
+            order = in_order k.stands;
+            width = each_of T (λ U e y. y.width) k.going.rules;
+            alone = each_of T (λ U e y. y.alone) k.going.rules;
+            prompt = each_of T (λ U e y. y.prompt) k.going.rules;
+            busy = subst (λ (y : Option ℕ). Each (BusyAt plan n) (up_to y T)) g.gains.1 k.going.until.busy;
+          };
+        })

@@ -1,11 +1,10 @@
 -- a decided case becomes ready, and an answer to a put
-use Rattle.kt_sched.proofs.Common.{not, slice_get, Option, Some, None, filter, is_some, ◌≡◌, ℕ, ◌+◌, Bool, true, false, List, ◌∷◌, refl, sym, ◌∙◌, ap, subst, arith, inl, inr, append-nil, cases_eq, Judged, Job, Stage, Decided, Case, CaseRecord, of, active, turns, is_open, Fed, has_failed, SchedState, Stands, IsStanding, IsStage, HasRecord, HasTurn, HasDecided, AreGone, is_decided, is_undecided, is_decided_stage, decided_record_of, decided_record, record_in, positions, opened, slice_get_within, ◌≤◌, ◌++◌, length, drop, event_count, recorded, listed}
+use Rattle.kt_sched.proofs.Common.{◌==◌, ◌<◌, nat_lt, nat_tests, if◌then◌else◌, not, slice_get, Option, Some, None, filter, is_some, ◌≡◌, ℕ, ◌+◌, Bool, true, false, List, ◌∷◌, refl, sym, ◌∙◌, ap, subst, arith, inl, inr, append-nil, cases_eq, Judged, Job, Stage, Decided, Case, CaseRecord, of, active, turns, is_open, Fed, has_failed, SchedState, Stands, IsStanding, IsStage, HasRecord, HasTurn, HasDecided, AreGone, is_decided, is_undecided, is_decided_stage, decided_record_of, decided_record, record_in, positions, opened, slice_get_within, ◌≤◌, ◌++◌, length, drop, event_count, recorded, listed}
 use Rattle.kt_sched.specs.declared.next.Next.TheVariants as next
 use Rattle.kt_sched.proofs.Lists.{slice_get-drop, drop_at, some_is, take_filter}
 use Rattle.kt_sched.proofs.Stages.{decided_stage}
 use Rattle.kt_sched.proofs.Located.{active_is, one_place, turn_at, asked_as}
 use Rattle.kt_sched.proofs.Upcoming.{exclusive_needs_none}
-use Rattle.kt_sched.proofs.Following.{room_at}
 use Rattle.kt_sched.proofs.Decided.{open_here}
 
 -- a decided case whose turn it is
@@ -23,6 +22,10 @@ record Ripe (plan : List Job) (n : ℕ) (fed : Fed) (b : SchedState) (i : ℕ) :
 record_there : (o : Option Judged) → is_some o ≡ true → (t : CaseRecord) × (decided_record_of o ≡ Some t)
 record_there None e = absurd (cc)
 record_there (Some v) e = (decided_record v, refl)
+
+room_at : (a n : ℕ) (job : Job) → a < n → (job.exclusive ≡ true → a ≡ 0) → (x : Bool) → job.exclusive ≡ x → (if x then a == 0 else nat_lt a n) ≡ true
+room_at a n job l f true q = let z : a ≡ 0 = f q in grind (arith, nat_tests, z)
+room_at a n job l f false q = grind (arith, nat_tests, l)
 
 module _ {plan : List Job} {n : ℕ} {fed : Fed} {b : SchedState} {i : ℕ} (h : Stands plan n fed b) (t : HasTurn b i) (d : HasDecided b.cases i true) where
   ripe : Ripe plan n fed b i

@@ -1,6 +1,7 @@
--- what runs and what is owed after a trace, as a launcher shows it
-use Rattle.kt_sched.proofs.Common.{slice_get, Option, Some, None, if◌then◌else◌, ◌&&◌, ◌≡◌, ◌≢◌, ℕ, ◌⊎◌, ◌==◌, Bool, true, false, List, [], ◌∷◌, ◌++◌, refl, sym, ◌∙◌, ap, subst, inl, inr, option_map, Role, Body, Cleanup, Job, StartAnswer, Ended, Child, child_of, same_role, running_after_start, running_after_end, pending_after_end, with_cleanup_declared, Event, Start, End, Trace, Then, position_of, Mark, BodyStarted, BodyEnded, CleanupStarted, mark_of, end_mark, start_mark, history, owed, declares, is_owed, role_runs, runs}
+-- what runs and what is owed after a trace, as a launcher shows it, and the rules that a trace keeps
+use Rattle.kt_sched.proofs.Common.{is_some, nat_le, IfSome, append-nil, ◌+◌, ◌≤◌, arith, nat_tests, MayStart, HasMoment, NoEvent, Leads, first, event_count, body_starts, body_start_of, Each, WidthAt, AloneAt, PromptAt, BusyAt, Fed, FitsAt, has_failed, IsUpToDate, MayStartNow, pending_after_start, slice_get, Option, Some, None, if◌then◌else◌, ◌&&◌, ◌≡◌, ◌≢◌, ℕ, ◌⊎◌, ◌==◌, Bool, true, false, List, [], ◌∷◌, ◌++◌, refl, sym, ◌∙◌, ap, subst, inl, inr, option_map, Role, Body, Cleanup, Job, StartAnswer, Ended, Child, child_of, same_role, running_after_start, running_after_end, pending_after_end, with_cleanup_declared, Event, Start, End, Trace, Then, position_of, Mark, BodyStarted, BodyEnded, CleanupStarted, mark_of, end_mark, start_mark, history, owed, declares, is_owed, role_runs, runs}
 use Rattle.kt_sched.specs.declared.job.StartAnswer.TheVariants as told
+use Rattle.kt_sched.specs.declared.launcher.Launcher as launcher
 use Rattle.kt_sched.proofs.Turns.{history_same, history_other}
 use Rattle.kt_sched.proofs.Lists.{same_is, other_is_not}
 
@@ -142,3 +143,67 @@ runs_true plan T i r child g = by (runs i r T) refl g
 pub child_runs : (plan : List Job) (T : Trace) (i : ℕ) (r : Role) (job : Job) → runs i r T ≡ true → slice_get plan i ≡ Some job
     → running_of plan T i r ≡ Some (child_of job)
 child_runs plan T i r job e g = ap (λ (b : Bool). if b then child_at plan i else None) e ∙ ap (option_map child_of) g
+
+-- the events up to a failed put, if one failed
+abbrev pub up_to : Option ℕ → Trace → Trace
+up_to None T = T
+up_to (Some k) T = first k T
+
+-- what an event keeps
+pub record Fair (plan : List Job) (n : ℕ) (T : Trace) (e : Event) : Type 0 where
+  pub fits : FitsAt plan T e
+  pub width : WidthAt plan n T e
+  pub alone : AloneAt plan T e
+  pub prompt : PromptAt plan T e
+
+pub each_of : {P Q : Trace → Event → Type 0} (T : Trace) → ((U : Trace) (e : Event) → P U e → Q U e) → Each P T → Each Q T
+each_of NoEvent f h = tt
+each_of (Then T e) f h = (each_of T f h.0, f T e h.1)
+
+-- and up to a failed put, after which no body starts
+pub record Until (plan : List Job) (n : ℕ) (stopped : Option ℕ) (T : Trace) : Type 0 where
+  pub busy : Each (BusyAt plan n) (up_to stopped T)
+  pub begun : body_starts T ≡ body_starts (up_to stopped T)
+  pub passed : IfSome stopped (λ k. k ≤ event_count T)
+
+first_past : (k : ℕ) (T : Trace) (e : Event) → k ≤ event_count T → first k (Then T e) ≡ first k T
+first_past k T e h = let x : nat_le (event_count T + 1) k ≡ false = grind (arith, nat_tests, h) in rw x refl
+
+first_all : (T : Trace) → first (event_count T) T ≡ T
+first_all NoEvent = refl
+first_all (Then T e) = let x : nat_le (event_count T + 1) (event_count T + 1) ≡ true = grind (arith, nat_tests) in rw x refl
+
+module _ (plan : List Job) (n : ℕ) where
+  pub until_more : (o : Option ℕ) (T : Trace) (e : Event) → Until plan n o T → (is_some o ≡ false → BusyAt plan n T e) → (is_some o ≡ true → body_start_of e ≡ [])
+      → Until plan n o (Then T e)
+  until_more None T e u f g = record { busy = (u.busy, f refl); begun = refl; passed = tt }
+  until_more (Some k) T e u f g =
+      let x = sym (first_past k T e u.passed) in
+      record {
+        busy = subst (Each (BusyAt plan n)) x u.busy;
+        begun = ap (λ xs. body_starts T ++ xs) (g refl) ∙ (append-nil (body_starts T) ∙ (u.begun ∙ ap body_starts x));
+        passed = omega (arith, u.passed);
+      }
+
+  pub until_now : (o : Option ℕ) (T : Trace) → is_some o ≡ false → Until plan n o T → Until plan n (Some (event_count T)) T
+  until_now None T f u =
+      record { busy = subst (Each (BusyAt plan n)) (sym (first_all T)) u.busy; begun = ap body_starts (sym (first_all T)); passed = omega arith }
+  until_now (Some k) T f u = absurd (cc)
+
+-- the launcher stands where the trace led it
+pub record Going {L : Type 0} (l : launcher.Ghosts L) (plan : List Job) (n : ℕ) (T : Trace) (stopped : Option ℕ) (old new : L) : Type 0 where
+  pub leads : Leads l.starts l.waits plan T old new
+  pub runs : (k : ℕ) (r : Role) → l.running new k r ≡ running_of plan T k r
+  pub owes : (k : ℕ) → l.pending new k ≡ is_owed (owed plan T) k
+  pub rules : Each (Fair plan n) T
+  pub until : Until plan n stopped T
+
+-- what is known where a start is next
+pub record Startable (running : ℕ → Role → Option Child) (pending : ℕ → Bool) (plan : List Job) (n : ℕ) (fed : Fed) (i : ℕ) (role : Role) : Type 0 where
+  pub may : MayStart running pending i role
+  pub now : MayStartNow plan fed.trace i role
+  pub history_is : history i fed.trace ≡ history_before role
+  pub clears : (k : ℕ) → pending_after_start pending i role k ≡ false
+  pub fair : (a : StartAnswer) → HasMoment a → Fair plan n fed.trace (Start i role a)
+  pub quiet : (a : StartAnswer) → has_failed fed ≡ true → body_start_of (Start i role a) ≡ []
+  pub due : has_failed fed ≡ false → IsUpToDate plan n fed

@@ -17,7 +17,7 @@ by_role w stage b c Body = b
 by_role w stage b c Cleanup = c
 
 -- a whole history isn't that of a running child
-whole_quiet : (job : Job) (role : Role) (w : List Mark) → is_whole job w ≡ true → role_runs role w ≡ false
+pub whole_quiet : (job : Job) (role : Role) (w : List Mark) → is_whole job w ≡ true → role_runs role w ≡ false
 whole_quiet job Body (BodyStarted ∷ []) h = absurd (cc)
 whole_quiet job Cleanup (BodyStarted ∷ BodyEnded ∷ CleanupStarted ∷ []) h = absurd (cc)
 whole_quiet job role w h = refl

@@ -1,5 +1,5 @@
 -- What is to be done next.
-use Rattle.std.specs.Prelude.{ℕ, true, false, List, [], ◌∷◌, ◌≡◌, ◌<◌, ◌⊎◌, Some, None, slice_get, ⊤}
+use Rattle.std.specs.Prelude.{ℕ, true, false, List, [], ◌∷◌, ◌≡◌, ◌<◌, ◌⊎◌, Some, None, slice_get, is_some, ⊤}
 use Rattle.std.specs.List.{list_all}
 use Rattle.kt_base.specs.declared.child.Role.{Role}
 use Rattle.kt_base.specs.declared.child.Role.TheVariants.{Body, Cleanup}
@@ -10,7 +10,7 @@ use Rattle.kt_sched.specs.Trace.{Trace, of}
 use Rattle.kt_sched.specs.History.{BodyStarted, BodyEnded, history, is_whole, has_whole_history, active}
 use Rattle.kt_sched.specs.TurnOrder.{next_to_start}
 use Rattle.kt_sched.specs.ScheduleRules.{owed, IsBusy, AloneAtStart}
-use Rattle.kt_sched.specs.RecordOrder.{recorded}
+use Rattle.kt_sched.specs.RecordOrder.{recorded, was_open}
 use Rattle.kt_sched.specs.Fed.{Fed, has_failed, runs}
 
 -- each position of the record order is stored
@@ -49,10 +49,15 @@ pub record MayStartNow (plan : List Job) (T : Trace) (i : ℕ) (role : Role) : T
 abbrev pub AreWhole : List Job → Trace → Type 0
 AreWhole plan T = (i : ℕ) (job : Job) → slice_get plan i ≡ Some job → (of i T ≡ []) ⊎ (has_whole_history T job ≡ true)
 
+-- each decided case was open to be put
+abbrev pub WereOpen : List Job → ℕ → Trace → Type 0
+WereOpen plan n T = (i : ℕ) (job : Job) → slice_get plan i ≡ Some job → is_some job.decided ≡ true → was_open plan n T job ≡ true
+
 -- what follows where this is to be done
-abbrev pub Follows : List Job → Fed → Next → Type 0
-Follows plan fed (next.Put i) = ⊤
-Follows plan fed (next.Start i Body) = MayStartNow plan fed.trace i Body × (history i fed.trace ≡ [])
-Follows plan fed (next.Start i Cleanup) = MayStartNow plan fed.trace i Cleanup × (history i fed.trace ≡ BodyStarted ∷ BodyEnded ∷ [])
-Follows plan fed next.Wait = (i : ℕ) × (role : Role) × (job : Job) × (runs i role fed.trace ≡ true) × (slice_get plan i ≡ Some job)
-Follows plan fed next.Done = AreWhole plan fed.trace × (has_failed fed ≡ false → list_all (has_whole_history fed.trace) plan ≡ true)
+abbrev pub Follows : List Job → ℕ → Fed → Next → Type 0
+Follows plan n fed (next.Put i) = ⊤
+Follows plan n fed (next.Start i Body) = MayStartNow plan fed.trace i Body × (history i fed.trace ≡ [])
+Follows plan n fed (next.Start i Cleanup) = MayStartNow plan fed.trace i Cleanup × (history i fed.trace ≡ BodyStarted ∷ BodyEnded ∷ [])
+Follows plan n fed next.Wait = (i : ℕ) × (role : Role) × (job : Job) × (runs i role fed.trace ≡ true) × (slice_get plan i ≡ Some job)
+Follows plan n fed next.Done =
+    AreWhole plan fed.trace × (has_failed fed ≡ false → (list_all (has_whole_history fed.trace) plan ≡ true) × WereOpen plan n fed.trace)

@@ -177,7 +177,7 @@ impl Sched {
         ensures only { (plan : List Job) (n : ℕ) (fed : Fed) → Stands plan n fed self.old
             → (other : Next) → IsNext plan n fed other → other ≡ result }
         ensures follows { (plan : List Job) (n : ℕ) (fed : Fed) → Stands plan n fed self.old
-            → Follows plan fed result }
+            → Follows plan n fed result }
         ensures stands { (plan : List Job) (n : ℕ) (fed : Fed) → Stands plan n fed self.old
             → Stands plan n fed self.new }
         ensures same { work_left self.new ≡ work_left self.old }

@@ -7,13 +7,13 @@ use Rattle.kt_sched.proofs.run.run_cases.Goals.{in-None, in-Some}
 pub loop-i-init : goal.loop-i-init
 loop-i-init g c =
     let e = c.in_ok-sched.ensures in
-    loop_first g.L.Launcher g.S.Sink c.args.plan c.args.width c.args.launcher.now c.args.sink.now _ _ c.requires.plan e.stands e.asked c.requires.idle
+    loop_first g.L.Launcher g.S.Sink c.args.plan c.args.width c.args.launcher.now c.args.sink.now c.requires.plan _ _ e.stands e.asked c.requires.idle
     c.new-totals.ensures
 
 pub returns-in_err-sched-clause-ran : goal.returns-in_err-sched-clause-ran
 returns-in_err-sched-clause-ran g c =
     let p = err_from_is_err_and c.from_residual.result c.from_residual.ensures.1 in
-    rw (p.1, p.2) (ran_not g.L.Launcher g.S.Sink c.args.plan c.args.width c.args.launcher.now c.args.sink.now _ c.requires.plan)
+    rw (p.1, p.2) (ran_not g.L.Launcher g.S.Sink c.args.plan c.args.width c.args.launcher.now c.args.sink.now c.requires.plan _)
 
 pub start-told-requires-clause-may : goal.start-told-requires-clause-may
 start-told-requires-clause-may g c =
@@ -28,18 +28,18 @@ loop-i-preserved-in-Start g c =
     c.start-told.result c.start-told.new.self _ _ s.leads s.moment s.running s.pending e.asked c.answer_of.ensures c.feed.ensures.stands c.feed.ensures.asked
 
 pub wait-ended-requires : goal.wait-ended-requires
-wait-ended-requires g c = loop_may_wait c.requires.plan c.loop-i.invariant c.in-Wait.ensures.next c.in-Wait.ensures.follows
+wait-ended-requires g c = loop_may_wait c.requires.plan c.loop-i.invariant c.in-Wait.ensures.follows
 
 pub feed-requires-in-Wait : goal.feed-requires-in-Wait
 feed-requires-in-Wait g c =
     let e = c.in-Wait.ensures in
-    loop_answer c.requires.plan c.loop-i.invariant e.next c.wait-ended.result c.wait-ended.ensures.one_that_ran _ e.asked e.stands
+    loop_answer c.requires.plan c.loop-i.invariant c.wait-ended.result c.wait-ended.ensures.one_that_ran _ e.asked e.stands
 
 pub loop-i-preserved-in-Wait : goal.loop-i-preserved-in-Wait
 loop-i-preserved-in-Wait g c =
     let e = c.in-Wait.ensures in
     let w = c.wait-ended.ensures in
-    loop_end c.requires.plan c.loop-i.invariant e.next c.wait-ended.result w.one_that_ran _ e.asked e.stands c.wait-ended.new.self _
+    loop_end c.requires.plan c.loop-i.invariant c.wait-ended.result w.one_that_ran _ e.asked e.stands c.wait-ended.new.self _ e.next
     w.leads w.moment w.running w.pending c.feed-in-Wait.ensures.stands c.feed-in-Wait.ensures.asked
 
 pub counted-more-requires : goal.counted-more-requires
