@@ -4,8 +4,8 @@ use Rattle.kt_sched.specs.declared.next.Next.TheVariants as next
 use Rattle.kt_sched.proofs.Lists.{filter_none, get_drop, some_is, slice_get-drop, within_some, filter_in}
 use Rattle.kt_sched.proofs.Decided.{first_open, room_in}
 use Rattle.kt_sched.proofs.Turns.{turn_sorted, turn_inside}
-use Rattle.kt_sched.proofs.Located.{turn_at, turn_past, at_turn, active_is, something_runs, nothing_runs}
-use Rattle.kt_sched.proofs.Upcoming.{job_kept, next_is, next_at, next_later, upcoming, alone_body}
+use Rattle.kt_sched.proofs.Located.{exclusive_is, has_turn, turn_past, at_turn, active_is, something_runs, nothing_runs}
+use Rattle.kt_sched.proofs.Upcoming.{next_is, next_at, next_later, upcoming, alone_body}
 
 abbrev pub Held : List Job → Trace → Option Job → Type 0
 Held plan T o = MatchOption o ⊤ (λ job. (job.exclusive ≡ true) × (0 < active plan T))
@@ -22,11 +22,9 @@ module _ {plan : List Job} {n : ℕ} {fed : Fed} {b : SchedState} (h : Stands pl
       by : (o : Option Job) → next_to_start plan fed.trace ≡ o → Held plan fed.trace o
       by None q = tt
       by (Some job) q =
-          let t = turn_at h b.turn e.1.0 e.1.1 in
-          let x = e.1.2 in
-          let k = job_kept h e.1.0 t.job x.0 t.place x.1 ((h.turn.met b.turn e.1.0 x.0 e.1.1 x.1).0 (omega arith)) in
+          let t = has_turn h e.1.0 e.1.1 in
           let m = next_later h job q in
-          let s = turn_sorted plan b.turn (b.turn + m.0) t.job job t.turn m.1 (omega arith) (ap (λ (j : Job). j.exclusive) (sym k) ∙ x.2) in
+          let s = turn_sorted plan b.turn (b.turn + m.0) t.job job t.turn m.1 (omega arith) (exclusive_is t e.1.2) in
           (s, omega (arith, e.0, active_is h))
 
   pub not_failed : (i : ℕ) → b.ready ≡ Some i → b.failed ≡ false
@@ -54,14 +52,11 @@ module _ {plan : List Job} {n : ℕ} {fed : Fed} {b : SchedState} (h : Stands pl
 
       closed : (job : Job) → slice_get (turns plan) b.turn ≡ Some job → is_decided job ≡ true → room_in (active plan fed.trace) n job ≡ true → ⊥
       closed job g d m =
-          let i = job.position in
-          let p = at_turn h b.turn job g in
-          let place = turn_inside plan h.cases.is_plan.placed b.turn job g in
-          let w = h.cases.each i job place in
-          let kept = job_kept h i job w.case place w.found ((h.turn.met b.turn i w.case p w.found).0 (omega arith)) in
-          let room = has_room job w.case w.found kept job.exclusive refl m in
-          let u = upcoming h i r s (h.puts.failed ∙ f, p, room.0, room.1) in
-          absurd (cc (ap is_some (ap (λ (j : Job). j.decided) (some_is job u.job (sym g ∙ u.turn)) ∙ u.undecided), d))
+          let t = has_turn h job.position (at_turn h b.turn job g) in
+          let same = some_is t.job job (sym t.turn ∙ g) in
+          let room = has_room job t.case t.found (t.kept ∙ same) job.exclusive refl m in
+          let u = upcoming h job.position r s (h.puts.failed ∙ f, at_turn h b.turn job g, room.0, room.1) in
+          absurd (cc (ap is_some (ap (λ (j : Job). j.decided) (some_is job u.0.job (sym g ∙ u.0.turn)) ∙ u.3), d))
 
   -- what is put next
   put_at : (rest : List ℕ) → has_failed fed ≡ false → listed b.ready ++ positions (opened plan n fed.trace b.turn) ≡ rest
@@ -80,9 +75,9 @@ module _ {plan : List Job} {n : ℕ} {fed : Fed} {b : SchedState} (h : Stands pl
       let f : has_failed fed ≡ false = sym h.puts.failed ∙ c.2.0 in
       let t = upcoming h i c.0 s c.2 in
       let may : MayBegin plan n fed.trace i = record {
-        job = t.job;
-        next = next_at h t.job t.turn t.undecided;
-        place = t.at;
+        job = t.0.job;
+        next = next_at h t.0.job t.0.turn t.3;
+        place = t.0.at;
         room = omega (arith, active_is h, c.2.2, h.cases.width_is);
         alone = alone_body h i c.2.1 c.2.3;
       } in

@@ -14,7 +14,7 @@ module _ {plan : List Job} {n : ℕ} {fed : Fed} {b : SchedState} (h : Stands pl
 
   -- a case that is to be started isn't taken
   pub untaken_start : (i : ℕ) (r : Role) → IsSettled b → IsChosen b (next.Start i r) → IsUntaken b.cases i
-  untaken_start i Body s c = let u = upcoming h i c.0 s c.2 in (u.case, u.found, λ x. absurd (cc (u.waits, x)))
+  untaken_start i Body s c = let u = upcoming h i c.0 s c.2 in (u.0.case, u.0.found, λ x. absurd (cc (u.1, x)))
   untaken_start i Cleanup s c = let w = owes h i c.1 in (record { job = w.0; stage = Owing w.1 }, w.2, λ t. absurd (cc))
 
   owing_history : (i : ℕ) → owed plan fed.trace ≡ Some i → history i fed.trace ≡ BodyStarted ∷ BodyEnded ∷ []
@@ -57,8 +57,8 @@ module _ {plan : List Job} {n : ℕ} {fed : Fed} {b : SchedState} (h : Stands pl
   follows (next.Put i) s c = tt
   follows (next.Start i Body) s c =
       let u = upcoming h i c.0 s c.2 in
-      let e : history i fed.trace ≡ [] = ap (map mark_of) u.empty in
-      (record { job = u.job; place = u.place; unfinished = ap (is_whole u.job) e ∙ ap is_some u.undecided; alone = alone_body h i c.2.1 c.2.3 }, e)
+      let e : history i fed.trace ≡ [] = ap (map mark_of) u.2 in
+      (record { job = u.0.job; place = u.0.place; unfinished = ap (is_whole u.0.job) e ∙ ap is_some u.3; alone = alone_body h i c.2.1 c.2.3 }, e)
   follows (next.Start i Cleanup) s c =
       let o : owed plan fed.trace ≡ Some i = sym h.cases.pending_is ∙ c.1 in
       let w = owes h i c.1 in

@@ -182,13 +182,10 @@ count_by-set p xs i x v h = sum_by-set (λ y. cond (p y) 1 0) xs i x v h
 
 -- where something counts, there is one
 pub counted_some : {X : Type 0} (p : X → Bool) (xs : List X) → 0 < count_by p xs → (i : ℕ) × (x : X) × (slice_get xs i ≡ Some x) × (p x ≡ true)
-counted_some p [] h = absurd (omega arith)
-counted_some {X} p (x ∷ xs) h = by (p x) refl (omega (arith, count-cons p x xs)) (counted_some p xs)
-  where
-    by : (b : Bool) → p x ≡ b → 0 < cond b 1 0 + count_by p xs → (0 < count_by p xs → (i : ℕ) × (y : X) × (slice_get xs i ≡ Some y) × (p y ≡ true))
-        → (i : ℕ) × (y : X) × (slice_get (x ∷ xs) i ≡ Some y) × (p y ≡ true)
-    by true e l r = (0, x, refl, e)
-    by false e l r = let w = r (omega arith) in (suc w.0, w.1, w.2, w.3)
+counted_some p xs h =
+    let x = within_some (filter p xs) 0 (omega (arith, h, length-filter p xs)) in
+    let w = filter_in p xs 0 x.0 x.1 in
+    (w.0, x.0, w.1, w.2)
 
 -- one that counts is counted
 pub counted_one : {X : Type 0} (p : X → Bool) (xs : List X) (i : ℕ) (x : X) → slice_get xs i ≡ Some x → p x ≡ true → 0 < count_by p xs

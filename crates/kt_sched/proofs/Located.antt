@@ -1,9 +1,9 @@
 -- what a state says of a case
-use Rattle.kt_sched.proofs.Common.{slice_get, count_by, Option, Some, None, map, ◌≡◌, ◌≢◌, ℕ, ◌<◌, ◌⊎◌, true, false, List, [], length, refl, sym, ◌∙◌, ap, subst, arith, slice_set, inl, inr, false_from_ne_true, cases_eq, cases_lt, length-map, ◌≤◌, slice_get-map, slice_get_within, option_map, Role, Body, Cleanup, Job, Next, Stage, Owing, Taken, EndedBody, Case, Event, Trace, of, mark_of, history, is_active, active, turns, owed, IsPlan, Fed, role_runs, runs, stage_runs, SchedState, Stands, CaseStands, IsStage, IsAsked, is_active_stage, is_owing_stage, is_owed, Replaced}
+use Rattle.kt_sched.proofs.Common.{Bool, is_fresh, is_decided_stage, HasExclusive, HasDecided, slice_get, Option, Some, None, map, ◌≡◌, ◌≢◌, ℕ, ◌<◌, ◌⊎◌, true, false, List, [], length, refl, sym, ◌∙◌, ap, subst, arith, slice_set, inl, inr, false_from_ne_true, cases_eq, cases_lt, length-map, ◌≤◌, slice_get-map, slice_get_within, option_map, Role, Body, Cleanup, Job, Next, Stage, Owing, Taken, EndedBody, Case, Event, Trace, of, mark_of, history, is_active, active, turns, owed, Fed, role_runs, runs, stage_runs, SchedState, Stands, CaseStands, IsStage, IsAsked, is_active_stage, is_owing_stage, is_owed, Replaced}
 use Rattle.kt_sched.specs.declared.next.Next.TheVariants as next
 use Rattle.kt_sched.proofs.Lists.{some_is, within_some, mapped_at, set_set, slice_get-set_other, slice_get-set_same, counted_some, counted_one, counted_none, count_alike, same_is}
 use Rattle.kt_sched.proofs.Turns.{turn_inside, turn_distinct}
-use Rattle.kt_sched.proofs.Stages.{Says, says, marks_active, active_runs, owing_stage, runs_active}
+use Rattle.kt_sched.proofs.Stages.{Says, says, active_runs, owing_stage, runs_active}
 
 -- a place in the turn order
 pub record TurnAt (plan : List Job) (k i : ℕ) : Type 0 where
@@ -12,6 +12,18 @@ pub record TurnAt (plan : List Job) (k i : ℕ) : Type 0 where
   pub at : job.position ≡ i
   pub place : slice_get plan i ≡ Some job
 
+-- the case that has its turn, which is not begun
+pub record AtTurn (plan : List Job) (fed : Fed) (b : SchedState) (i : ℕ) : Type 0 where
+  pub job : Job
+  pub turn : slice_get (turns plan) b.turn ≡ Some job
+  pub at : job.position ≡ i
+  pub place : slice_get plan i ≡ Some job
+  pub case : Case
+  pub found : slice_get b.cases i ≡ Some case
+  pub stage : IsStage i job case.stage (of i fed.trace)
+  pub fresh : is_fresh case.stage ≡ true
+  pub kept : case.job ≡ job
+
 -- the job of a case, with how its stage stands for its events
 pub record Located (plan : List Job) (T : Trace) (i : ℕ) (was : Stage) (had : Job) : Type 0 where
   pub job : Job
@@ -19,17 +31,6 @@ pub record Located (plan : List Job) (T : Trace) (i : ℕ) (was : Stage) (had : 
   pub stands : IsStage i job was (of i T)
   pub says : Says job was (history i T)
   pub kept : was ≢ Taken → had ≡ job
-
--- the active cases of a trace are counted
-pub active_of : (plan : List Job) (T : Trace) (cases : List Case) → IsPlan plan → length cases ≡ length plan
-    → ((i : ℕ) (job : Job) → slice_get plan i ≡ Some job → CaseStands T i job cases) → active plan T ≡ count_by (λ (c : Case). is_active_stage c.stage) cases
-active_of plan T cases p l h = count_alike (is_active T) (λ (c : Case). is_active_stage c.stage) plan cases (sym l) each
-  where
-    each : (i : ℕ) (job : Job) (c : Case) → slice_get plan i ≡ Some job → slice_get cases i ≡ Some c → is_active T job ≡ is_active_stage c.stage
-    each i job c g k =
-        let s = h i job g in
-        ap (λ (j : ℕ). marks_active job (history j T)) (p.placed i job g)
-        ∙ ((says i job s.case.stage (of i T) s.stage).active ∙ ap (λ (d : Case). is_active_stage d.stage) (some_is _ _ (sym s.found ∙ k)))
 
 -- a case of a list where one was replaced is that one, or one of before
 abbrev pub Which : List Case → ℕ → Case → ℕ → Case → Type 0
@@ -69,6 +70,15 @@ replaced_twice xs ys zs i s t u w f g =
     let e : g.job ≡ f.job = ap (λ (c : Case). c.job) (some_is (record { job = g.job; stage = u }) a (sym g.found ∙ mid)) in
     record { job = f.job; found = f.found; changed = g.changed ∙ rw (e, f.changed) (set_set xs i a (record { job = f.job; stage = t })) }
 
+-- what is known of its case
+module _ {plan : List Job} {fed : Fed} {b : SchedState} {i : ℕ} {flag : Bool} (a : AtTurn plan fed b i) where
+  pub exclusive_is : HasExclusive b.cases i flag → a.job.exclusive ≡ flag
+  exclusive_is x =
+      ap (λ (j : Job). j.exclusive) (sym a.kept) ∙ (ap (λ (c : Case). c.job.exclusive) (some_is a.case x.0 (sym a.found ∙ x.1)) ∙ x.2)
+
+  pub decided_is : HasDecided b.cases i flag → is_decided_stage a.case.stage ≡ flag
+  decided_is x = ap (λ (c : Case). is_decided_stage c.stage) (some_is a.case x.0 (sym a.found ∙ x.1)) ∙ x.2
+
 module _ {plan : List Job} {n : ℕ} {fed : Fed} {b : SchedState} (h : Stands plan n fed b) where
   -- the case at a job's place
   pub at_place : (i : ℕ) (job had : Job) (was : Stage) → slice_get plan i ≡ Some job → slice_get b.cases i ≡ Some (record { job = had; stage = was })
@@ -91,8 +101,12 @@ module _ {plan : List Job} {n : ℕ} {fed : Fed} {b : SchedState} (h : Stands pl
       let w = h.cases.each k job g in
       subst (λ (j : ℕ). Says job w.case.stage (history j fed.trace)) (sym (h.cases.is_plan.placed k job g)) (says k job w.case.stage (of k fed.trace) w.stage)
 
+  -- the active cases of the trace are counted
   pub active_is : active plan fed.trace ≡ b.active
-  active_is = active_of plan fed.trace b.cases h.cases.is_plan h.cases.count h.cases.each ∙ sym h.cases.active
+  active_is = count_alike (is_active fed.trace) (λ (c : Case). is_active_stage c.stage) plan b.cases (sym h.cases.count) each ∙ sym h.cases.active
+    where
+      each : (i : ℕ) (job : Job) (c : Case) → slice_get plan i ≡ Some job → slice_get b.cases i ≡ Some c → is_active fed.trace job ≡ is_active_stage c.stage
+      each i job c g k = (says_at i job g).active ∙ ap (λ (d : Case). is_active_stage d.stage) (some_is _ _ (sym (h.cases.each i job g).found ∙ k))
 
   -- where nothing is active, no case is
   pub inactive : (k : ℕ) (c : Case) → b.active ≡ 0 → slice_get b.cases k ≡ Some c → is_active_stage c.stage ≡ false
@@ -125,6 +139,23 @@ module _ {plan : List Job} {n : ℕ} {fed : Fed} {b : SchedState} (h : Stands pl
 
   pub start_within : (k i : ℕ) → slice_get b.order k ≡ Some i → i < length b.cases
   start_within k i o = let t = turn_at k i o in omega (arith, slice_get_within plan i t.job t.place, h.cases.count)
+
+  pub has_turn : (i : ℕ) → slice_get b.order b.turn ≡ Some i → AtTurn plan fed b i
+  has_turn i o =
+      let t = turn_at b.turn i o in
+      let w = h.cases.each i t.job t.place in
+      let f = (h.turn.met b.turn i w.case o w.found).0 (omega arith) in
+      record {
+        job = t.job;
+        turn = t.turn;
+        at = t.at;
+        place = t.place;
+        case = w.case;
+        found = w.found;
+        stage = w.stage;
+        fresh = f;
+        kept = w.kept (λ x. absurd (cc (f, ap is_fresh x)));
+      }
 
   -- what was asked, and what is owed
 

@@ -13,7 +13,7 @@ use Rattle.kt_sched.specs.declared.sink.Sink as sink
 use Rattle.kt_sched.proofs.Lists.{mapped_at, none_past, same_is, some_is, take_snoc, take_zero}
 use Rattle.kt_sched.proofs.Stages.{whole_quiet}
 use Rattle.kt_sched.proofs.Upcoming.{in_order}
-use Rattle.kt_sched.proofs.Runs.{Going, Startable, child_at, child_runs, cleared, each_of, end_owes, end_runs, running_of, runs_now, runs_true, start_runs, until_more, until_now, up_to, while_runs}
+use Rattle.kt_sched.proofs.Runs.{Going, Startable, Until, child_at, child_runs, cleared, each_of, end_owes, end_runs, running_of, runs_now, runs_true, start_runs, until_more, until_now, up_to, while_runs}
 use Rattle.kt_sched.proofs.Gaining.{Gained, GainsUpTo, counts_more, due_put, entries_more, gained_event, gains_more}
 use Rattle.kt_sched.proofs.Once.{named_at_most_once, recorded_first, recorded_most}
 use Rattle.kt_sched.proofs.Ending.{four_calls, named_once, storable_entry}
@@ -23,7 +23,8 @@ pub record Loop {L S : Type 0} (l : launcher.Ghosts L) (s : sink.Ghosts S) (plan
     (after : S) (totals : Totals) (fault : Option SinkFault) : Type 0 where
   pub fed : Fed
   pub stands : Stands plan n fed sched
-  pub going : Going l plan n fed.trace fed.stopped old new
+  pub going : Going l plan n fed.trace old new
+  pub until : Until plan n fed.stopped fed.trace
   pub gained : Gained s plan n fed totals fault before after
   pub asked : sched.asked ≡ next.Done
 
@@ -42,7 +43,8 @@ module _ {L S : Type 0} (l : launcher.Ghosts L) (s : sink.Ghosts S) (plan : List
   loop_first sched totals h a i t = record {
     fed = nothing_fed;
     stands = h;
-    going = record { leads = refl; runs = none_runs; owes = i.pends; rules = tt; until = record { busy = tt; begun = refl; passed = tt } };
+    going = record { leads = refl; runs = none_runs; owes = i.pends; rules = tt };
+    until = record { busy = tt; begun = refl; passed = tt };
     gained = record {
       gained = [];
       count = refl;
@@ -136,11 +138,11 @@ module _ {L S : Type 0} {l : launcher.Ghosts L} {s : sink.Ghosts S} {plan : List
           (z plan n fed (y plan n fed k.stands));
       going = record {
         leads = (mid, job, k.going.leads, place, w);
-        runs = λ j r. u j r ∙ start_runs plan T (l.running mid) k.going.runs i job role r a j place (p.placed i job place) t.history_is (cases_eq j i);
+        runs = λ j r. u j r ∙ start_runs plan T (l.running mid) k.going.runs i job role r place (p.placed i job place) t.history_is a j (cases_eq j i);
         owes = λ j. v j ∙ (ap (λ y. pending_after_start (l.pending mid) y role j) (p.placed i job place) ∙ t.clears j);
         rules = (k.going.rules, t.fair a m);
-        until = until_more plan n fed.stopped T (Start i role a) k.going.until (λ z. tt) (t.quiet a);
       };
+      until = until_more plan n fed.stopped T (Start i role a) k.until (λ z. tt) (t.quiet a);
       gained = gained_event k.gained (Start i role a) p k.stands.puts.stored t.due
           (λ y g. ap (λ (y : Job). is_whole y (history i T)) (some_is y t.now.job (sym g ∙ t.now.place)) ∙ t.now.unfinished);
       asked = d;
@@ -170,13 +172,13 @@ module _ {L S : Type 0} {l : launcher.Ghosts L} {s : sink.Ghosts S} {plan : List
       stands = moved_to _ q (z plan n fed (y plan n fed k.stands));
       going = record {
         leads = (mid, k.going.leads, v);
-        runs = λ j r. u j r ∙ end_runs plan T (l.running mid) k.going.runs e r j ran (cases_eq j e.position);
-        owes = λ j. o j ∙ end_owes plan T (l.running mid) k.going.runs (l.pending mid) e j e.role refl ran (owes x.1 j);
+        runs = λ j r. u j r ∙ end_runs plan T (l.running mid) k.going.runs e j ran r (cases_eq j e.position);
+        owes = λ j. o j ∙ end_owes plan T (l.running mid) k.going.runs e j ran (l.pending mid) (owes x.1 j);
         rules =
             let y = subst (λ (c : Child). IsEvidence c.interface e.role e.evidence) one.1.2 w.2 in
             (k.going.rules, record { fits = (m, (one.1.0, one.1.1, y)); width = tt; alone = tt; prompt = rw x.1 tt });
-        until = until_more plan n fed.stopped T (End e) k.going.until x.2 (λ y. refl);
       };
+      until = until_more plan n fed.stopped T (End e) k.until x.2 (λ y. refl);
       gained = gained_event k.gained (End e) p k.stands.puts.stored x.0
           (λ job g. false_from_ne_true _ (λ y. cc (whole_quiet job e.role (history e.position T) y, one.0)));
       asked = d;
@@ -213,6 +215,7 @@ module _ {L S : Type 0} {l : launcher.Ghosts L} {s : sink.Ghosts S} {plan : List
           fed = record fed { stored = fed.stored + 1 };
           stands = moved_to _ q (z plan n fed now);
           going = k.going;
+          until = k.until;
           gained = record {
             gained = g.gained ++ e ∷ [];
             count = length-append g.gained (e ∷ []) ∙ ap (λ j. j + 1) g.count;
@@ -237,13 +240,8 @@ module _ {L S : Type 0} {l : launcher.Ghosts L} {s : sink.Ghosts S} {plan : List
         loop_failed cause u o z = let g = k.gained in record {
           fed = record fed { stopped = Some (event_count T) };
           stands = moved_to _ q (z plan n fed now);
-          going = record {
-            leads = k.going.leads;
-            runs = k.going.runs;
-            owes = k.going.owes;
-            rules = k.going.rules;
-            until = until_now plan n fed.stopped T x.0 k.going.until;
-          };
+          going = k.going;
+          until = until_now plan n fed.stopped T x.0 k.until;
           gained = record {
             gained = g.gained;
             count = g.count;
@@ -313,7 +311,7 @@ module _ {L S : Type 0} {l : launcher.Ghosts L} {s : sink.Ghosts S} {plan : List
             width = each_of T (λ U e y. y.width) k.going.rules;
             alone = each_of T (λ U e y. y.alone) k.going.rules;
             prompt = each_of T (λ U e y. y.prompt) k.going.rules;
-            busy = subst (λ (y : Option ℕ). Each (BusyAt plan n) (up_to y T)) g.gains.0 k.going.until.busy;
+            busy = subst (λ (y : Option ℕ). Each (BusyAt plan n) (up_to y T)) g.gains.0 k.until.busy;
           };
           once = once;
           all = omega (arith, g.count, k.stands.puts.stored, stored, once.all);
@@ -328,12 +326,12 @@ module _ {L S : Type 0} {l : launcher.Ghosts L} {s : sink.Ghosts S} {plan : List
         ran g (Err (SinkFailed cause)) (record {
           failed = g.gains.0;
           stopped = record {
-            starts = k.going.until.begun ∙ ap (λ (y : Option ℕ). body_starts (up_to y T)) g.gains.1;
+            starts = k.until.begun ∙ ap (λ (y : Option ℕ). body_starts (up_to y T)) g.gains.1;
             whole = λ job i g. f.0 i job g;
             order = in_order k.stands;
             width = each_of T (λ U e y. y.width) k.going.rules;
             alone = each_of T (λ U e y. y.alone) k.going.rules;
             prompt = each_of T (λ U e y. y.prompt) k.going.rules;
-            busy = subst (λ (y : Option ℕ). Each (BusyAt plan n) (up_to y T)) g.gains.1 k.going.until.busy;
+            busy = subst (λ (y : Option ℕ). Each (BusyAt plan n) (up_to y T)) g.gains.1 k.until.busy;
           };
         })

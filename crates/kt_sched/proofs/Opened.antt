@@ -1,23 +1,11 @@
 -- a decided case becomes ready, and an answer to a put
-use Rattle.kt_sched.proofs.Common.{◌==◌, ◌<◌, nat_lt, nat_tests, if◌then◌else◌, not, slice_get, Option, Some, None, filter, is_some, ◌≡◌, ℕ, ◌+◌, Bool, true, false, List, ◌∷◌, refl, sym, ◌∙◌, ap, subst, arith, inl, inr, append-nil, cases_eq, Judged, Job, Stage, Decided, Case, CaseRecord, of, active, turns, is_open, Fed, has_failed, SchedState, Stands, IsStanding, IsStage, HasRecord, HasTurn, HasDecided, AreGone, is_decided, is_undecided, is_decided_stage, decided_record_of, decided_record, record_in, positions, opened, slice_get_within, ◌≤◌, ◌++◌, length, drop, event_count, recorded, listed}
+use Rattle.kt_sched.proofs.Common.{◌==◌, ◌<◌, nat_lt, nat_tests, if◌then◌else◌, not, slice_get, Option, Some, None, filter, is_some, ◌≡◌, ℕ, ◌+◌, Bool, true, false, List, ◌∷◌, refl, sym, ◌∙◌, ap, subst, arith, inl, inr, append-nil, cases_eq, Judged, Job, Stage, Decided, Case, CaseRecord, of, active, turns, is_open, Fed, has_failed, SchedState, Stands, IsStanding, IsStage, HasRecord, HasTurn, HasDecided, AreGone, is_decided, is_undecided, decided_record_of, decided_record, record_in, positions, opened, slice_get_within, ◌≤◌, ◌++◌, length, drop, event_count, recorded, listed}
 use Rattle.kt_sched.specs.declared.next.Next.TheVariants as next
 use Rattle.kt_sched.proofs.Lists.{slice_get-drop, drop_at, some_is, take_filter}
 use Rattle.kt_sched.proofs.Stages.{decided_stage}
-use Rattle.kt_sched.proofs.Located.{active_is, one_place, turn_at, asked_as}
+use Rattle.kt_sched.proofs.Located.{AtTurn, decided_is, has_turn, active_is, one_place, asked_as}
 use Rattle.kt_sched.proofs.Upcoming.{exclusive_needs_none}
 use Rattle.kt_sched.proofs.Decided.{open_here}
-
--- a decided case whose turn it is
-record Ripe (plan : List Job) (n : ℕ) (fed : Fed) (b : SchedState) (i : ℕ) : Type 0 where
-  pub job : Job
-  pub turn : slice_get (turns plan) b.turn ≡ Some job
-  pub at : job.position ≡ i
-  pub decided : is_decided job ≡ true
-  pub opens : is_open plan n fed.trace job ≡ true
-  pub case : Case
-  pub found : slice_get b.cases i ≡ Some case
-  pub stage : case.stage ≡ Decided
-  pub kept : case.job ≡ job
 
 record_there : (o : Option Judged) → is_some o ≡ true → (t : CaseRecord) × (decided_record_of o ≡ Some t)
 record_there None e = absurd (cc)
@@ -28,39 +16,30 @@ room_at a n job l f true q = let z : a ≡ 0 = f q in grind (arith, nat_tests, z
 room_at a n job l f false q = grind (arith, nat_tests, l)
 
 module _ {plan : List Job} {n : ℕ} {fed : Fed} {b : SchedState} {i : ℕ} (h : Stands plan n fed b) (t : HasTurn b i) (d : HasDecided b.cases i true) where
-  ripe : Ripe plan n fed b i
+  -- the decided case whose turn it is is open
+  a : AtTurn plan fed b i
+  a = has_turn h i t.1
+
+  ripe : (a.case.stage ≡ Decided) × (is_decided a.job ≡ true) × (is_open plan n fed.trace a.job ≡ true)
   ripe =
-      let u = turn_at h b.turn i t.1 in
-      let w = h.cases.each i u.job u.place in
-      let same : w.case ≡ d.0 = some_is _ _ (sym w.found ∙ d.1) in
-      let z = decided_stage w.case.stage (ap (λ (c : Case). is_decided_stage c.stage) same ∙ d.2) in
-      let P : Stage → Type 0 = λ x. IsStage i u.job x (of i fed.trace) in
-      let s = subst P z w.stage in
-      let m = room_at (active plan fed.trace) n u.job (omega (arith, t.2, h.cases.width_is, active_is h)) (λ e. active_is h ∙ exclusive_needs_none h t.1 u.place t.3 e)
-      u.job.exclusive refl in
-      record {
-        job = u.job;
-        turn = u.turn;
-        at = u.at;
-        decided = s.1;
-        opens = open_here fed.trace b.turn h.cases.is_plan h.turn.starts n u.job u.turn s.1 m;
-        case = w.case;
-        found = w.found;
-        stage = z;
-        kept = w.kept (λ x. absurd (cc (z, x)));
-      }
+      let z = decided_stage a.case.stage (decided_is a d) in
+      let P : Stage → Type 0 = λ x. IsStage i a.job x (of i fed.trace) in
+      let s = subst P z a.stage in
+      let m = room_at (active plan fed.trace) n a.job (omega (arith, t.2, h.cases.width_is, active_is h)) (λ e. active_is h ∙ exclusive_needs_none h t.1 a.place t.3 e)
+      a.job.exclusive refl in
+      (z, s.1, open_here fed.trace b.turn h.cases.is_plan h.turn.starts n a.job a.turn s.1 m)
 
   told_now : HasRecord b.cases i
   told_now =
-      let t = record_there ripe.job.decided ripe.decided in
-      (ripe.case, t.0, ripe.found, ap (record_in ripe.case.job) ripe.stage ∙ (ap (λ (j : Job). decided_record_of j.decided) ripe.kept ∙ t.1))
+      let t = record_there a.job.decided ripe.1 in
+      (a.case, t.0, a.found, ap (record_in a.case.job) ripe.0 ∙ (ap (λ (j : Job). decided_record_of j.decided) a.kept ∙ t.1))
 
   gone_now : has_failed fed ≡ false → AreGone plan n fed.trace (b.turn + 1)
   gone_now f = record {
     gone = λ k job l g d. elim (cases_eq k b.turn) [
       | inl e ↦
-          let same = some_is ripe.job job (sym ripe.turn ∙ (ap (slice_get (turns plan)) (sym e) ∙ g)) in
-          (h.puts.gone f).due k job (omega (arith, e)) g ∙ (ap (is_open plan n fed.trace) (sym same) ∙ ripe.opens)
+          let same = some_is a.job job (sym a.turn ∙ (ap (slice_get (turns plan)) (sym e) ∙ g)) in
+          (h.puts.gone f).due k job (omega (arith, e)) g ∙ (ap (is_open plan n fed.trace) (sym same) ∙ ripe.2)
       | inr x ↦ (h.puts.gone f).gone k job (omega (arith, l, x)) g d
     ];
     due = λ k job l g. (h.puts.gone f).due k job (omega (arith, l)) g;
@@ -73,14 +52,14 @@ module _ {plan : List Job} {n : ℕ} {fed : Fed} {b : SchedState} {i : ℕ} (h :
       walk = h.turn.walk;
       within = omega (arith, slice_get_within b.order b.turn i t.1);
       starts = h.turn.starts
-          ∙ ap positions (sym (take_filter is_undecided (turns plan) b.turn ripe.job ripe.turn ∙ rw (ap not ripe.decided) (append-nil _)));
+          ∙ ap positions (sym (take_filter is_undecided (turns plan) b.turn a.job a.turn ∙ rw (ap not ripe.1) (append-nil _)));
       met = λ k j c g x. (
         λ l. (h.turn.met k j c g x).0 (omega (arith, l)),
         λ l w. elim (cases_eq k b.turn) [
           | inl q ↦
               let m = some_is j i (sym g ∙ (ap (slice_get b.order) q ∙ t.1)) in
-              let s = some_is c ripe.case (sym x ∙ (ap (slice_get b.cases) m ∙ ripe.found)) in
-              absurd (cc (ap (λ (y : Case). y.stage) s, ripe.stage, w))
+              let s = some_is c a.case (sym x ∙ (ap (slice_get b.cases) m ∙ a.found)) in
+              absurd (cc (ap (λ (y : Case). y.stage) s, ripe.0, w))
           | inr q ↦ (h.turn.met k j c g x).1 (omega (arith, l, q)) w
         ],
       );
@@ -90,15 +69,15 @@ module _ {plan : List Job} {n : ℕ} {fed : Fed} {b : SchedState} {i : ℕ} (h :
       stopped = λ f. absurd (cc (t.0));
       stored = h.puts.stored;
       gone = gone_now;
-      ready = λ f. h.puts.ready f ∙ (rw e (ap positions run ∙ ap (λ k. k ∷ positions (opened plan n fed.trace (b.turn + 1))) ripe.at));
+      ready = λ f. h.puts.ready f ∙ (rw e (ap positions run ∙ ap (λ k. k ∷ positions (opened plan n fed.trace (b.turn + 1))) a.at));
       ripe = λ j m x o. let q = one_place h m b.turn i (o ∙ sym x) t.1 in omega (arith, q);
     };
     told = λ j x y. subst (HasRecord b.cases) (some_is i j x) told_now;
     asked = tt;
   }
     where
-      run : opened plan n fed.trace b.turn ≡ ripe.job ∷ opened plan n fed.trace (b.turn + 1)
-      run = ap (filter (is_open plan n fed.trace)) (drop_at (turns plan) b.turn ripe.job ripe.turn) ∙ rw ripe.opens refl
+      run : opened plan n fed.trace b.turn ≡ a.job ∷ opened plan n fed.trace (b.turn + 1)
+      run = ap (filter (is_open plan n fed.trace)) (drop_at (turns plan) b.turn a.job a.turn) ∙ rw ripe.2 refl
 
 -- the state before, as the code sees it and as it stands
 module _ {b seen : SchedState} (view : b ≡ seen) (standing : IsStanding b) {i : ℕ} {flag : Bool} (t : HasTurn seen i) (d : HasDecided b.cases i flag)

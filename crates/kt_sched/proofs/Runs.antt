@@ -41,85 +41,76 @@ runs_same plan T e r w d = ap (runs_by plan (position_of e) r) (history_same (po
 pub runs_now : (plan : List Job) (T : Trace) (i : ℕ) (r : Role) (w : List Mark) → history i T ≡ w → running_of plan T i r ≡ runs_by plan i r w
 runs_now plan T i r w d = ap (runs_by plan i r) d
 
--- a start changes what runs of its case, and nothing else
-abbrev after_answer : Job → Role → Role → StartAnswer → Option Child → Option Child
-after_answer job role r (told.Started m) x = if same_role r role then Some (child_of job) else x
-after_answer job role r (told.Refused c) x = x
-
-started_runs : (plan : List Job) (i : ℕ) (job : Job) (role r : Role) (a : StartAnswer) (x : Option Child) → child_at plan i ≡ Some (child_of job)
-    → x ≡ runs_by plan i r (history_before role) → after_answer job role r a x ≡ runs_by plan i r (history_before role ++ start_mark role a ∷ [])
-started_runs plan i job Body Body (told.Started m) x g e = sym g
-started_runs plan i job Body Cleanup (told.Started m) x g e = e
-started_runs plan i job Cleanup Body (told.Started m) x g e = e
-started_runs plan i job Cleanup Cleanup (told.Started m) x g e = sym g
-started_runs plan i job Body Body (told.Refused c) x g e = e
-started_runs plan i job Body Cleanup (told.Refused c) x g e = e
-started_runs plan i job Cleanup Body (told.Refused c) x g e = e
-started_runs plan i job Cleanup Cleanup (told.Refused c) x g e = e
-
-after_same : (running : ℕ → Role → Option Child) (job : Job) (role r : Role) (a : StartAnswer) (i : ℕ) → job.position ≡ i
-    → running_after_start running job role a i r ≡ after_answer job role r a (running i r)
-after_same running job role r (told.Started m) i p = rw (p, same_is i) refl
-after_same running job role r (told.Refused c) i p = refl
-
-after_other : (running : ℕ → Role → Option Child) (job : Job) (role r : Role) (a : StartAnswer) (i k : ℕ) → job.position ≡ i → k ≢ i
-    → running_after_start running job role a k r ≡ running k r
-after_other running job role r (told.Started m) i k p d = rw (p, other_is_not k i d) refl
-after_other running job role r (told.Refused c) i k p d = refl
-
-neither : (c : Bool) → (if c && false then true else false) ≡ false
-neither true = refl
-neither false = refl
-
 -- what runs and what is owed, from a launcher that shows what ran
 module _ (plan : List Job) (T : Trace) (running : ℕ → Role → Option Child) (h : (j : ℕ) (s : Role) → running j s ≡ running_of plan T j s) where
-  pub start_runs : (i : ℕ) (job : Job) (role r : Role) (a : StartAnswer) (k : ℕ) → slice_get plan i ≡ Some job → job.position ≡ i
-      → history i T ≡ history_before role
-      → (k ≡ i) ⊎ (k ≢ i) → running_after_start running job role a k r ≡ running_of plan (Then T (Start i role a)) k r
-  start_runs i job role r a k g p w (inl q) =
-      subst (λ j. running_after_start running job role a j r ≡ running_of plan (Then T (Start i role a)) j r) (sym q) (after_same running job role r a i p
-      ∙ (started_runs plan i job role r a (running i r) (ap (option_map child_of) g) (h i r ∙ runs_now plan T i r (history_before role) w)
-      ∙ sym (runs_same plan T (Start i role a) r (history_before role) w)))
-  start_runs i job role r a k g p w (inr q) = after_other running job role r a i k p q ∙ (h k r ∙ sym (runs_other plan T (Start i role a) k r q))
+  -- an event changes what runs of its case in a role, and nothing else
+  changed : (e : Event) (role r : Role) (k : ℕ) (x : Option Child) → (k ≡ position_of e) ⊎ (k ≢ position_of e)
+      → (if same_role r role then x else running (position_of e) r) ≡ running_of plan (Then T e) (position_of e) r
+      → (if k == position_of e && same_role r role then x else running k r) ≡ running_of plan (Then T e) k r
+  changed e role r k x (inl q) y =
+      subst (λ j. (if j == position_of e && same_role r role then x else running j r) ≡ running_of plan (Then T e) j r) (sym q)
+      (ap (λ b. if b && same_role r role then x else running (position_of e) r) (same_is (position_of e)) ∙ y)
+  changed e role r k x (inr q) y =
+      ap (λ b. if b && same_role r role then x else running k r) (other_is_not k (position_of e) q) ∙ (h k r ∙ sym (runs_other plan T e k r q))
 
-  -- an end stops what ran in its role, and nothing else
-  pub end_runs : (e : Ended) (r : Role) (k : ℕ) → history e.position T ≡ history_while e.role → (k ≡ e.position) ⊎ (k ≢ e.position)
-      → running_after_end running e k r ≡ running_of plan (Then T (End e)) k r
-  end_runs e r k w (inl q) =
-      let i = e.position in
-      subst (λ j. running_after_end running e j r ≡ running_of plan (Then T (End e)) j r) (sym q)
-      (ap (λ b. if b && same_role r e.role then None else running i r) (same_is i)
-      ∙ (ended_runs e.role r (running i r) (h i r ∙ runs_now plan T i r (history_while e.role) w) ∙ sym (runs_same plan T (End e) r (history_while e.role) w)))
-    where
-      ended_runs : (role r : Role) (x : Option Child) → x ≡ runs_by plan e.position r (history_while role)
-          → (if same_role r role then None else x) ≡ runs_by plan e.position r (history_while role ++ end_mark role ∷ [])
-      ended_runs Body Body x e = refl
-      ended_runs Body Cleanup x e = e
-      ended_runs Cleanup Body x e = e
-      ended_runs Cleanup Cleanup x e = refl
-  end_runs e r k w (inr q) =
-      ap (λ b. if b && same_role r e.role then None else running k r) (other_is_not k e.position q) ∙ (h k r ∙ sym (runs_other plan T (End e) k r q))
+  module _ (i : ℕ) (job : Job) (role r : Role) (g : slice_get plan i ≡ Some job) (p : job.position ≡ i) (w : history i T ≡ history_before role) where
+    pub start_runs : (a : StartAnswer) (k : ℕ) → (k ≡ i) ⊎ (k ≢ i) → running_after_start running job role a k r ≡ running_of plan (Then T (Start i role a)) k r
+    start_runs (told.Started m) k d =
+        ap (λ j. if k == j && same_role r role then Some (child_of job) else running k r) p
+        ∙ changed (Start i role (told.Started m)) role r k (Some (child_of job)) d (starts role r (h i r ∙ runs_now plan T i r (history_before role) w)
+        ∙ sym (runs_same plan T (Start i role (told.Started m)) r (history_before role) w))
+      where
+        starts : (role r : Role) → running i r ≡ runs_by plan i r (history_before role)
+            → (if same_role r role then Some (child_of job) else running i r) ≡ runs_by plan i r (history_before role ++ start_mark role (told.Started m) ∷ [])
+        starts Body Body e = sym (ap (option_map child_of) g)
+        starts Body Cleanup e = e
+        starts Cleanup Body e = e
+        starts Cleanup Cleanup e = sym (ap (option_map child_of) g)
+    start_runs (told.Refused c) k (inr q) = h k r ∙ sym (runs_other plan T (Start i role (told.Refused c)) k r q)
+    start_runs (told.Refused c) k (inl q) =
+        subst (λ j. running j r ≡ running_of plan (Then T (Start i role (told.Refused c))) j r) (sym q)
+        (h i r ∙ (runs_now plan T i r (history_before role) w ∙ (starts_not role r ∙ sym (runs_same plan T (Start i role (told.Refused c)) r (history_before role) w))))
+      where
+        starts_not : (role r : Role) → runs_by plan i r (history_before role) ≡ runs_by plan i r (history_before role ++ start_mark role (told.Refused c) ∷ [])
+        starts_not Body Body = refl
+        starts_not Body Cleanup = refl
+        starts_not Cleanup Body = refl
+        starts_not Cleanup Cleanup = refl
 
-  pub end_owes : (pending : ℕ → Bool) (e : Ended) (k : ℕ) (role : Role) → e.role ≡ role → history e.position T ≡ history_while e.role → pending k ≡ false
-      → pending_after_end running pending e k ≡ is_owed (owed plan (Then T (End e))) k
-  end_owes pending e k Body q w p =
-      let i = e.position in
-      let x : with_cleanup_declared (running i Body) ≡ declares plan i =
-      ap with_cleanup_declared (h i Body ∙ runs_now plan T i Body (history_while Body) (w ∙ ap history_while q)) ∙ declared_is (slice_get plan i) in
-      rw (q, x, p) (owed_after i (declares plan i))
-    where
-      declared_is : (o : Option Job) → with_cleanup_declared (option_map child_of o) ≡ (elim o as (λ _. Bool) [ None ↦ false | Some job ↦ job.cleanup ])
-      declared_is None = refl
-      declared_is (Some job) = refl
+  module _ (e : Ended) (k : ℕ) (w : history e.position T ≡ history_while e.role) where
+    -- an end stops what ran in its role, and nothing else
+    pub end_runs : (r : Role) → (k ≡ e.position) ⊎ (k ≢ e.position) → running_after_end running e k r ≡ running_of plan (Then T (End e)) k r
+    end_runs r d = changed (End e) e.role r k None d (ends e.role r (h e.position r ∙ runs_now plan T e.position r (history_while e.role) w)
+        ∙ sym (runs_same plan T (End e) r (history_while e.role) w))
+      where
+        ends : (role r : Role) → running e.position r ≡ runs_by plan e.position r (history_while role)
+            → (if same_role r role then None else running e.position r) ≡ runs_by plan e.position r (history_while role ++ end_mark role ∷ [])
+        ends Body Body e = refl
+        ends Body Cleanup e = e
+        ends Cleanup Body e = e
+        ends Cleanup Cleanup e = refl
 
-      both : (c : Bool) → (if c && true then true else false) ≡ c
-      both true = refl
-      both false = refl
+    pub end_owes : (pending : ℕ → Bool) → pending k ≡ false → pending_after_end running pending e k ≡ is_owed (owed plan (Then T (End e))) k
+    end_owes pending p =
+        rw p (ap (λ b. if k == e.position && b then true else false) (declared e.role refl)
+        ∙ owed_by (k == e.position) (same_role e.role Body && declares plan e.position) refl)
+      where
+        declared_is : (o : Option Job) → with_cleanup_declared (option_map child_of o) ≡ (elim o as (λ _. Bool) [ None ↦ false | Some job ↦ job.cleanup ])
+        declared_is None = refl
+        declared_is (Some job) = refl
 
-      owed_after : (i : ℕ) (b : Bool) → (if k == i && b then true else false) ≡ is_owed (if b then Some i else None) k
-      owed_after i true = both (k == i)
-      owed_after i false = neither (k == i)
-  end_owes pending e k Cleanup q w p = rw (q, p) (neither (k == e.position))
+        declared : (role : Role) → e.role ≡ role
+            → (same_role e.role Body && with_cleanup_declared (running e.position Body)) ≡ (same_role e.role Body && declares plan e.position)
+        declared Body q =
+            let x = h e.position Body ∙ runs_now plan T e.position Body (history_while Body) (w ∙ ap history_while q) in
+            ap (λ b. same_role e.role Body && b) (ap with_cleanup_declared x ∙ declared_is (slice_get plan e.position))
+        declared Cleanup q = rw q refl
+
+        owed_by : (c d : Bool) → (k == e.position) ≡ c → (if c && d then true else false) ≡ is_owed (if d then Some e.position else None) k
+        owed_by true true q = sym q
+        owed_by true false q = refl
+        owed_by false true q = sym q
+        owed_by false false q = refl
 
 pub cleared : (i k : ℕ) → (k ≡ i) ⊎ (k ≢ i) → (if k == i then false else k == i) ≡ false
 cleared i k (inl q) = rw (q, same_is i) refl
@@ -128,16 +119,12 @@ cleared i k (inr q) = rw (other_is_not k i q) refl
 -- what a launcher says that runs does run
 pub runs_true : (plan : List Job) (T : Trace) (i : ℕ) (r : Role) (child : Child) → running_of plan T i r ≡ Some child
     → (runs i r T ≡ true) × ((job : Job) × (slice_get plan i ≡ Some job) × (child ≡ child_of job))
-runs_true plan T i r child g = by (runs i r T) refl g
+runs_true plan T i r child g = by (runs i r T) (slice_get plan i) refl refl g
   where
-    child_some : (o : Option Job) → option_map child_of o ≡ Some child → (job : Job) × (o ≡ Some job) × (child ≡ child_of job)
-    child_some None e = absurd (cc)
-    child_some (Some job) e = (job, refl, cc)
-
-    by : (b : Bool) → runs i r T ≡ b → (if b then child_at plan i else None) ≡ Some child
+    by : (b : Bool) (o : Option Job) → runs i r T ≡ b → slice_get plan i ≡ o → (if b then option_map child_of o else None) ≡ Some child
         → (runs i r T ≡ true) × ((job : Job) × (slice_get plan i ≡ Some job) × (child ≡ child_of job))
-    by true e h = (e, child_some (slice_get plan i) h)
-    by false e h = absurd (cc)
+    by true (Some job) e q h = (e, (job, q, cc))
+    by b o e q h = absurd (cc)
 
 -- where a child runs, the launcher shows it
 pub child_runs : (plan : List Job) (T : Trace) (i : ℕ) (r : Role) (job : Job) → runs i r T ≡ true → slice_get plan i ≡ Some job
@@ -191,12 +178,11 @@ module _ (plan : List Job) (n : ℕ) where
   until_now (Some k) T f u = absurd (cc)
 
 -- the launcher stands where the trace led it
-pub record Going {L : Type 0} (l : launcher.Ghosts L) (plan : List Job) (n : ℕ) (T : Trace) (stopped : Option ℕ) (old new : L) : Type 0 where
+pub record Going {L : Type 0} (l : launcher.Ghosts L) (plan : List Job) (n : ℕ) (T : Trace) (old new : L) : Type 0 where
   pub leads : Leads l.starts l.waits plan T old new
   pub runs : (k : ℕ) (r : Role) → l.running new k r ≡ running_of plan T k r
   pub owes : (k : ℕ) → l.pending new k ≡ is_owed (owed plan T) k
   pub rules : Each (Fair plan n) T
-  pub until : Until plan n stopped T
 
 -- what is known where a start is next
 pub record Startable (running : ℕ → Role → Option Child) (pending : ℕ → Bool) (plan : List Job) (n : ℕ) (fed : Fed) (i : ℕ) (role : Role) : Type 0 where

@@ -22,20 +22,14 @@ pub record StartFits (b : SchedState) (i : ℕ) (role : Role) (was : Stage) (mid
   pub within : i < length mid
 
 replaced_within : {xs ys : List Case} {i : ℕ} {s w : Stage} → Replaced xs ys i s w → i < length ys
-replaced_within {xs} {i = i} {s = s} {w = w} f =
-    omega (
-      arith,
-      slice_get_within xs i (record { job = f.job; stage = w }) f.found,
-      length-set xs i (record { job = f.job; stage = s }),
-      ap (λ (zs : List Case). length zs) f.changed,
-    )
+replaced_within {xs} {i = i} f = rw (f.changed, length-set) (slice_get_within xs i _ f.found)
 
 module _ {plan : List Job} {n : ℕ} {fed : Fed} {b : SchedState} (h : Stands plan n fed b) where
   fits : (i : ℕ) (role : Role) {was : Stage} {mid : List Case} → b.asked ≡ next.Start i role → Replaced b.cases mid i Taken was → StartFits b i role was mid
   fits i Body {was} q r =
       let k = asked_as h (next.Start i Body) q in
       let u = upcoming h i k.0 k.3 k.2 in
-      let w : was ≡ Waiting = ap (λ (c : Case). c.stage) (some_is _ u.case (sym r.found ∙ u.found)) ∙ u.waits in
+      let w : was ≡ Waiting = ap (λ (c : Case). c.stage) (some_is _ u.0.case (sym r.found ∙ u.0.found)) ∙ u.1 in
       record {
         can = ap (can_start Body) w;
         less = λ v. absurd (cc (ap is_active_stage w, v));

@@ -1,5 +1,5 @@
 -- the turn order, which has every case once and exclusive ones last, and one event more
-use Rattle.kt_sched.proofs.Common.{nat_tests, slice_get, count_by, filter, Some, not, ◌==◌, ◌≡◌, ◌≢◌, ℕ, ◌+◌, ◌<◌, ◌≤◌, Bool, true, false, cond, List, length, refl, ◌∙◌, ap, arith, inl, inr, false_from_ne_true, sum_by-filter_both, cases_eq, slice_get_within, Job, turns, None, is_none, map, ◌&&◌, [], ◌∷◌, ◌++◌, sym, and-true, map-append, Event, Trace, Then, position_of, of, event_count, mark_of, history, is_whole, has_whole_history, Due, dues, put_at, finished_by, is_open, was_open, recorded, IsPlan, positions}
+use Rattle.kt_sched.proofs.Common.{nat_tests, ◌⊎◌, slice_get, count_by, filter, Some, not, ◌==◌, ◌≡◌, ◌≢◌, ℕ, ◌+◌, ◌<◌, ◌≤◌, Bool, true, false, cond, List, length, refl, ◌∙◌, ap, arith, inl, inr, false_from_ne_true, sum_by-filter_both, cases_eq, slice_get_within, Job, turns, None, is_none, map, ◌&&◌, [], ◌∷◌, ◌++◌, sym, and-true, map-append, Event, Trace, Then, position_of, of, event_count, mark_of, history, is_whole, has_whole_history, Due, dues, put_at, finished_by, is_open, was_open, recorded, IsPlan, positions}
 use Rattle.kt_sched.proofs.Lists.{counted_one, counted_some, count_by-append, counted_only, counted_two, filter_in, in_append, other_is_not, same_is, pick, filter_only}
 
 -- each case stands at its position
@@ -13,33 +13,24 @@ abbrev lonely : List Job → List Job
 lonely plan = filter (λ (job : Job). job.exclusive) plan
 
 -- a case of the turn order stands in the plan, among the ordinary ones or after them
-data Where (plan : List Job) (k : ℕ) (job : Job) : Type 0 where
-  early : k < length (ordinary plan) → job.exclusive ≡ false → ((i : ℕ) × (slice_get plan i ≡ Some job)) → Where plan k job
-  late : length (ordinary plan) ≤ k → job.exclusive ≡ true → ((i : ℕ) × (slice_get plan i ≡ Some job)) → Where plan k job
-
-place_in : (plan : List Job) (k : ℕ) (job : Job) → slice_get (turns plan) k ≡ Some job → Where plan k job
+place_in : (plan : List Job) (k : ℕ) (job : Job) → slice_get (turns plan) k ≡ Some job → ((i : ℕ) × (slice_get plan i ≡ Some job))
+    × (((k < length (ordinary plan)) × (job.exclusive ≡ false)) ⊎ ((length (ordinary plan) ≤ k) × (job.exclusive ≡ true)))
 place_in plan k job g = elim (in_append (ordinary plan) (lonely plan) k job g) [
   | inl x ↦ let w = filter_in (λ (job : Job). not job.exclusive) plan k job x in
-      early (slice_get_within (ordinary plan) k job x) (false_from_ne_true job.exclusive (λ e. cc (ap not e, w.2))) (w.0, w.1)
-  | inr x ↦ let w = filter_in (λ (job : Job). job.exclusive) plan x.0 job x.2 in late (omega (arith, x.1)) w.2 (w.0, w.1)
+      ((w.0, w.1), inl (slice_get_within (ordinary plan) k job x, false_from_ne_true job.exclusive (λ e. cc (ap not e, w.2))))
+  | inr x ↦ let w = filter_in (λ (job : Job). job.exclusive) plan x.0 job x.2 in ((w.0, w.1), inr (omega (arith, x.1), w.2))
 ]
 
 pub turn_inside : (plan : List Job) → Placed plan → (k : ℕ) (job : Job) → slice_get (turns plan) k ≡ Some job → slice_get plan job.position ≡ Some job
-turn_inside plan h k job g = by (place_in plan k job g)
-  where
-    by : Where plan k job → slice_get plan job.position ≡ Some job
-    by (early l e w) = ap (slice_get plan) (h w.0 job w.1) ∙ w.1
-    by (late l e w) = ap (slice_get plan) (h w.0 job w.1) ∙ w.1
+turn_inside plan h k job g = let w = (place_in plan k job g).0 in ap (slice_get plan) (h w.0 job w.1) ∙ w.1
 
 -- where an exclusive case stands, only exclusive ones follow
 pub turn_sorted : (plan : List Job) (k l : ℕ) (a b : Job) → slice_get (turns plan) k ≡ Some a → slice_get (turns plan) l ≡ Some b → k ≤ l → a.exclusive ≡ true
     → b.exclusive ≡ true
-turn_sorted plan k l a b g h le e = by (place_in plan k a g) (place_in plan l b h)
-  where
-    by : Where plan k a → Where plan l b → b.exclusive ≡ true
-    by (early x f w) y = absurd (cc (e, f))
-    by (late x f w) (early y z v) = absurd (omega (arith, x, y, le))
-    by (late x f w) (late y z v) = z
+turn_sorted plan k l a b g h le e = elim (place_in plan l b h).1 [
+  | inr y ↦ y.1
+  | inl y ↦ elim (place_in plan k a g).1 [ inl x ↦ absurd (cc (e, x.1)) | inr x ↦ absurd (omega (arith, x.0, y.0, le)) ]
+]
 
 -- the turn order has each case of the plan once
 pub count_turns : (f : Job → Bool) (xs : List Job) → count_by f (turns xs) ≡ count_by f xs

@@ -1,8 +1,8 @@
 -- the case whose turn it is, the next body in turn order, and exclusive cases, which run alone
-use Rattle.kt_sched.proofs.Common.{slice_get, Some, None, take, drop, filter, is_none, ◌≡◌, ℕ, ◌+◌, Bool, true, List, [], ◌∷◌, ◌++◌, length, refl, sym, ◌∙◌, ap, subst, arith, take-append_seam, length-map, take-append-drop, filter-append, Job, Stage, Waiting, Case, of, turns, body_starts, undecided_turns, next_to_start, Fed, SchedState, Stands, IsStage, is_fresh, is_decided_stage, HasTurn, IsSettled, Order, positions, is_undecided, ◌||◌, ◌<◌, ◌⊎◌, false, inl, inr, cases_Bool, or_left, or_right, cases_lt, cases_eq, Body, Cleanup, has_whole_history, owed, IsQuiet, AloneAtStart, IsOrdinary, is_active_stage}
+use Rattle.kt_sched.proofs.Common.{slice_get, Some, None, take, drop, filter, is_none, ◌≡◌, ℕ, ◌+◌, Bool, true, List, [], ◌∷◌, ◌++◌, length, refl, sym, ◌∙◌, ap, subst, arith, take-append_seam, length-map, take-append-drop, filter-append, Job, Stage, Waiting, Case, of, turns, body_starts, undecided_turns, next_to_start, Fed, SchedState, Stands, IsStage, HasTurn, IsSettled, Order, positions, is_undecided, ◌||◌, ◌<◌, ◌⊎◌, false, inl, inr, cases_Bool, or_left, or_right, cases_lt, cases_eq, Body, Cleanup, has_whole_history, owed, IsQuiet, AloneAtStart, IsOrdinary, is_active_stage}
 use Rattle.kt_sched.proofs.Lists.{some_is, filter_in, get_drop, slice_get-drop, counted_two, list_all_from}
 use Rattle.kt_sched.proofs.Stages.{waiting_stage, fresh_inactive, over_stage}
-use Rattle.kt_sched.proofs.Located.{turn_at, at_turn, active_is, inactive, owes, says_at}
+use Rattle.kt_sched.proofs.Located.{AtTurn, decided_is, exclusive_is, has_turn, turn_at, at_turn, active_is, inactive, owes, says_at}
 use Rattle.kt_sched.proofs.Turns.{turn_covers, turn_sorted}
 
 get_at_end : {X : Type 0} (xs ys : List X) → slice_get (xs ++ ys) (length xs) ≡ slice_get ys 0
@@ -12,18 +12,6 @@ get_at_end (x ∷ xs) ys = get_at_end xs ys
 first_of_filter : {X : Type 0} (p : X → Bool) (xs : List X) (x : X) → slice_get xs 0 ≡ Some x → p x ≡ true → slice_get (filter p xs) 0 ≡ Some x
 first_of_filter p [] x g e = absurd (cc)
 first_of_filter p (y ∷ ys) x g e = rw (ap p (some_is y x g) ∙ e) g
-
--- an undecided case whose turn it is
-pub record Upcoming (plan : List Job) (fed : Fed) (b : SchedState) (i : ℕ) : Type 0 where
-  pub job : Job
-  pub turn : slice_get (turns plan) b.turn ≡ Some job
-  pub at : job.position ≡ i
-  pub place : slice_get plan i ≡ Some job
-  pub undecided : job.decided ≡ None
-  pub empty : of i fed.trace ≡ []
-  pub case : Case
-  pub found : slice_get b.cases i ≡ Some case
-  pub waits : case.stage ≡ Waiting
 
 module _ {plan : List Job} {n : ℕ} {fed : Fed} {b : SchedState} (h : Stands plan n fed b) where
   abbrev begun : List Job
@@ -57,23 +45,15 @@ module _ {plan : List Job} {n : ℕ} {fed : Fed} {b : SchedState} (h : Stands pl
       let w = filter_in is_undecided (drop b.turn (turns plan)) 0 job (sym next_is ∙ g) in
       (w.0, sym (get_drop (turns plan) b.turn w.0) ∙ w.1)
 
-  -- the job that a case keeps until it is taken
-  pub job_kept : (i : ℕ) (job : Job) (c : Case) → slice_get plan i ≡ Some job → slice_get b.cases i ≡ Some c → is_fresh c.stage ≡ true → c.job ≡ job
-  job_kept i job c g k w =
-      let s = h.cases.each i job g in
-      let e : s.case ≡ c = some_is _ _ (sym s.found ∙ k) in
-      ap (λ (d : Case). d.job) (sym e) ∙ s.kept (λ t. absurd (cc (ap (λ (d : Case). is_fresh d.stage) e, w, ap is_fresh t)))
-
-  pub upcoming : (i : ℕ) → b.ready ≡ None → IsSettled b → HasTurn b i → Upcoming plan fed b i
+  -- the case that has its turn waits, if no decided case can be put
+  pub upcoming : (i : ℕ) → b.ready ≡ None → IsSettled b → HasTurn b i
+      → (a : AtTurn plan fed b i) × (a.case.stage ≡ Waiting) × (of i fed.trace ≡ []) × (a.job.decided ≡ None)
   upcoming i r s t =
-      let u = turn_at h b.turn i t.1 in
-      let d = s r i t in
-      let w = h.cases.each i u.job u.place in
-      let e : w.case ≡ d.0 = some_is _ _ (sym w.found ∙ d.1) in
-      let z = waiting_stage w.case.stage ((h.turn.met b.turn i w.case t.1 w.found).0 (omega arith)) (ap (λ (c : Case). is_decided_stage c.stage) e ∙ d.2) in
-      let P : Stage → Type 0 = λ x. IsStage i u.job x (of i fed.trace) in
-      let q = subst P z w.stage in
-      record { job = u.job; turn = u.turn; at = u.at; place = u.place; undecided = q.1; empty = q.0; case = w.case; found = w.found; waits = z }
+      let a = has_turn h i t.1 in
+      let z = waiting_stage a.case.stage a.fresh (decided_is a (s r i t)) in
+      let P : Stage → Type 0 = λ x. IsStage i a.job x (of i fed.trace) in
+      let q = subst P z a.stage in
+      (a, z, q.0, q.1)
 
   -- each case of the plan has its place in the order
   pub covers : (k : ℕ) (j : Job) → slice_get plan k ≡ Some j → (m : ℕ) × (slice_get (turns plan) m ≡ Some j) × (slice_get b.order m ≡ Some k)
@@ -92,8 +72,11 @@ module _ {plan : List Job} {n : ℕ} {fed : Fed} {b : SchedState} (h : Stands pl
 
   -- the case whose turn it is, if it may start
   module _ {i : ℕ} {job : Job} (o : slice_get b.order b.turn ≡ Some i) (g : slice_get plan i ≡ Some job) where
+    same : (has_turn h i o).job ≡ job
+    same = some_is _ job (sym (has_turn h i o).place ∙ g)
+
     turn_is : slice_get (turns plan) b.turn ≡ Some job
-    turn_is = let t = turn_at h b.turn i o in t.turn ∙ (sym t.place ∙ g)
+    turn_is = (has_turn h i o).turn ∙ ap Some same
 
     quiet_start : job.exclusive ≡ true → b.active ≡ 0 → IsQuiet plan fed.trace
     quiet_start e a = (
@@ -107,7 +90,7 @@ module _ {plan : List Job} {n : ℕ} {fed : Fed} {b : SchedState} (h : Stands pl
 
     -- the job that may start beside others is ordinary
     turn_ordinary : IsOrdinary b.cases i → job.exclusive ≡ false
-    turn_ordinary x = ap (λ (j : Job). j.exclusive) (sym (job_kept i job x.0 g x.1 ((h.turn.met b.turn i x.0 o x.1).0 (omega arith)))) ∙ x.2
+    turn_ordinary x = ap (λ (j : Job). j.exclusive) (sym same) ∙ exclusive_is (has_turn h i o) x
 
     -- where a body may start, no exclusive case is active
     pub no_exclusive_active : (b.active ≡ 0 ⊎ IsOrdinary b.cases i) → (k : ℕ) (j : Job) (c : Case)
