@@ -1,5 +1,5 @@
 -- the first state, and what is taken
-use Rattle.kt_sched.proofs.Common.{length, length-filter, slice_get, count_by, filter, Option, Some, None, is_some, map, ◌≡◌, ℕ, ◌<◌, Bool, true, false, cond, List, [], drop, refl, sym, ◌∙◌, ap, arith, length-map, option_map, slice_get-map, Job, Case, NoEvent, turns, is_open, recorded, IsPlan, nothing_fed, first_case, first_stage, SchedState, Stands, CaseStands, IsStage, is_active_stage, is_owing_stage, is_fresh, positions, opened, is_undecided, HasStarted, Judged, ◌≢◌, ◌≤◌, subst, slice_set, inl, inr, length-set, Entry, Stage, Decided, Finished, Taken, Event, of, IsEntry, decided, IsEntryOf, CaseRecord, Fed, TookEntry, IsAsked, is_over, is_owed, entry_with, record_in, decided_record, decided_record_of, stage_work, work}
+use Rattle.kt_sched.proofs.Common.{length, length-filter, slice_get, filter, Option, Some, None, is_some, map, ◌≡◌, ℕ, ◌<◌, Bool, true, false, cond, List, [], refl, sym, ◌∙◌, ap, arith, length-map, option_map, slice_get-map, Job, Case, NoEvent, turns, is_open, recorded, IsPlan, nothing_fed, first_case, first_stage, SchedState, Stands, IsStage, is_active_stage, is_owing_stage, is_fresh, positions, is_undecided, Judged, ◌≢◌, ◌≤◌, subst, slice_set, inl, inr, length-set, Entry, Stage, Decided, Finished, Taken, Event, of, IsEntry, decided, IsEntryOf, CaseRecord, Fed, TookEntry, IsAsked, is_over, is_owed, entry_with, record_in, decided_record, decided_record_of, stage_work, work}
 use Rattle.kt_sched.specs.declared.next.Next.TheVariants as next
 use Rattle.kt_sched.proofs.Lists.{filter_none, drop_zero, mapped_at, take_zero, some_is, count_by-set, sum_by-set}
 use Rattle.kt_sched.proofs.Turns.{put_at_positions}
@@ -19,30 +19,9 @@ first_stands : (i : ℕ) (job : Job) → (o : Option Judged) → job.decided ≡
 first_stands i job None e = (refl, e)
 first_stands i job (Some v) e = (refl, ap is_some e)
 
-waiting_at : (plan : List Job) (i : ℕ) (job : Job) → slice_get plan i ≡ Some job → slice_get (map first_case plan) i ≡ Some (first_case job)
-waiting_at plan i job g = slice_get-map first_case plan i ∙ ap (option_map first_case) g
-
 all_first : (plan : List Job) (i : ℕ) (c : Case) → slice_get (map first_case plan) i ≡ Some c
     → (is_fresh c.stage ≡ true) × (is_active_stage c.stage ≡ false) × (is_owing_stage c.stage ≡ false)
 all_first plan i c g = let w = mapped_at first_case plan i c g in let f = first_is w.0.decided in rw (sym w.2) f
-
-none_active : (plan : List Job) → count_by (λ (c : Case). is_active_stage c.stage) (map first_case plan) ≡ 0
-none_active plan =
-    let none = filter_none (λ (c : Case). is_active_stage c.stage) (map first_case plan) (λ i c g. (all_first plan i c g).1) in
-    sym (length-filter (λ (c : Case). is_active_stage c.stage) (map first_case plan)) ∙ ap (λ (cs : List Case). length cs) none
-
-first_case_stands : (plan : List Job) (i : ℕ) (job : Job) → slice_get plan i ≡ Some job → CaseStands NoEvent i job (map first_case plan)
-first_case_stands plan i job g =
-    record { case = first_case job; found = waiting_at plan i job g; stage = first_stands i job job.decided refl; kept = λ t. refl }
-
-first_started : (plan : List Job) → HasStarted plan NoEvent 0
-first_started plan = sym (ap (λ (jobs : List Job). positions (filter is_undecided jobs)) (take_zero (turns plan)))
-
--- the decided cases that are due before the first event
-due_first : (plan : List Job) (n : ℕ) → drop 0 (recorded plan n NoEvent) ≡ positions (opened plan n NoEvent 0)
-due_first plan n =
-    drop_zero (recorded plan n NoEvent)
-    ∙ (put_at_positions 0 (filter (is_open plan n NoEvent) (turns plan)) ∙ ap positions (ap (filter (is_open plan n NoEvent)) (sym (drop_zero (turns plan)))))
 
 pub stands_first : (plan : List Job) (n : ℕ) → IsPlan plan → 0 < n → Stands plan n nothing_fed (first_state n (map first_case plan) (positions (turns plan)))
 stands_first plan n h r = record {
@@ -52,9 +31,14 @@ stands_first plan n h r = record {
     width_is = refl;
     pending_is = refl;
     count = length-map plan first_case;
-    each = first_case_stands plan;
+    each = λ i job g.
+        let found = slice_get-map first_case plan i ∙ ap (option_map first_case) g in
+        record { case = first_case job; found = found; stage = first_stands i job job.decided refl; kept = λ t. refl };
     beyond = λ i g. refl;
-    active = sym (none_active plan);
+    active =
+        let p = λ (c : Case). is_active_stage c.stage in
+        let none = filter_none p (map first_case plan) (λ i c g. (all_first plan i c g).1) in
+        ap (λ (cs : List Case). length cs) (sym none) ∙ length-filter p (map first_case plan);
     most = omega arith;
     lone = λ k j c g x e a. absurd (cc ((all_first plan k c x).1, a));
     owing = λ k c g. (all_first plan k c g).2;
@@ -63,7 +47,7 @@ stands_first plan n h r = record {
   turn = record {
     walk = refl;
     within = omega arith;
-    starts = first_started plan;
+    starts = sym (ap (λ (jobs : List Job). positions (filter is_undecided jobs)) (take_zero (turns plan)));
     met = λ k i c x g. (λ t. (all_first plan i c g).0, λ t. absurd (omega arith));
   };
   puts = record {
@@ -71,7 +55,8 @@ stands_first plan n h r = record {
     stopped = λ f. refl;
     stored = omega arith;
     gone = λ f. record { gone = λ k job l g d. absurd (omega (arith, l)); due = λ k job l g. refl };
-    ready = λ f. due_first plan n;
+    ready = λ f. drop_zero (recorded plan n NoEvent) ∙ (put_at_positions 0 (filter (is_open plan n NoEvent) (turns plan))
+        ∙ ap (λ (jobs : List Job). positions (filter (is_open plan n NoEvent) jobs)) (sym (drop_zero (turns plan))));
     ripe = λ i m x o. absurd (cc);
   };
   told = λ i x y. absurd (cc);

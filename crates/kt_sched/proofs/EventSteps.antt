@@ -2,7 +2,7 @@
 use Rattle.kt_sched.proofs.Common.{Taken, filter, slice_get, count_by, Option, Some, None, if◌then◌else◌, ◌≡◌, ◌≢◌, ℕ, ◌+◌, ◌<◌, ◌≤◌, ◌⊎◌, Bool, true, false, cond, List, [], ◌∷◌, ◌++◌, length, drop, take, is_none, is_some, refl, sym, ◌∙◌, ap, subst, arith, slice_set, inl, inr, length-append, append-nil, drop-append-le, length-set, map-append, slice_get_within, cases_lt, cases_eq, Job, Stage, Finished, Case, Event, Then, position_of, of, turns, body_starts, body_start_of, recorded, Fed, has_failed, SchedState, Stands, CasesStand, TurnStands, PutsStand, IsStage, IsAfter, Replaced, IsSettled, HasTurn, is_active_stage, is_owing_stage, is_over, Owing, is_owed, is_fresh, is_undecided, HasRecord, owing_at, ready_at, record_in, listed, positions, opened, stage_work, work, after_event, unless, with_event, Trace, HasStarted}
 use Rattle.kt_sched.proofs.Lists.{cond_le, cond_one, cond_zero, some_is, pick, count_by-set, counted_one, sum_by-set, take_filter, same_is, other_is_not}
 use Rattle.kt_sched.proofs.Turns.{of_same, of_other, opens_now, recorded_more, finished_is}
-use Rattle.kt_sched.proofs.Stages.{active_begun, fresh_inactive, says, undecided_stage, Moves, moves, owed_moves, stage_moves}
+use Rattle.kt_sched.proofs.Stages.{fresh_inactive, says, undecided_stage, Moves, moves, owed_moves, stage_moves}
 use Rattle.kt_sched.proofs.Located.{Which, at_place, each_set, one_place, set_here, which, turn_at}
 use Rattle.kt_sched.proofs.Upcoming.{exclusive_needs_none, no_exclusive_active}
 use Rattle.kt_sched.proofs.Choice.{nothing_opened}
@@ -176,7 +176,7 @@ module _ {plan : List Job} {n : ℕ} {fed : Fed} {b : SchedState} {e : Event} {c
           within = h.turn.within;
           here = λ k o. elim (cases_lt k b.turn) [
             | inl l ↦ l
-            | inr l ↦ absurd (cc ((h.turn.met k i _ o s.moved.found).0 l, active_begun was v.0))
+            | inr l ↦ absurd (cc (fresh_inactive was ((h.turn.met k i _ o s.moved.found).0 l), v.0))
           ];
           before = λ k m o d l. l;
         })

@@ -1,5 +1,5 @@
 -- what follows of a choice
-use Rattle.kt_sched.proofs.Common.{slice_get, Some, is_some, map, ◌≡◌, ◌≢◌, ℕ, ◌<◌, ◌≤◌, ◌⊎◌, true, false, List, [], ◌∷◌, length, sym, ◌∙◌, ap, arith, inl, inr, slice_get_within, Role, Body, Cleanup, Job, Next, Stage, Waiting, Owing, Taken, Case, BodyStarted, BodyEnded, end_mark, mark_of, of, history, is_whole, has_whole_history, turns, owed, Fed, has_failed, Follows, WereOpen, IsHeld, IsChosen, SchedState, Stands, IsStage, IsAsked, IsUntaken, IsSettled, active}
+use Rattle.kt_sched.proofs.Common.{slice_get, Some, is_some, map, ◌≡◌, ◌≢◌, ℕ, ◌<◌, ◌≤◌, ◌⊎◌, true, false, List, [], ◌∷◌, length, sym, ◌∙◌, ap, arith, inl, inr, slice_get_within, Role, Body, Cleanup, Job, Next, Stage, Waiting, Owing, Taken, Case, BodyStarted, end_mark, mark_of, of, history, is_whole, has_whole_history, turns, Fed, has_failed, Follows, WereOpen, IsHeld, IsChosen, SchedState, Stands, IsStage, IsAsked, IsUntaken, IsSettled, active}
 use Rattle.kt_sched.specs.declared.next.Next.TheVariants as next
 use Rattle.kt_sched.proofs.Lists.{list_all_from, within_some}
 use Rattle.kt_sched.proofs.Stages.{over_stage}
@@ -16,12 +16,6 @@ module _ {plan : List Job} {n : ℕ} {fed : Fed} {b : SchedState} (h : Stands pl
   pub untaken_start : (i : ℕ) (r : Role) → IsSettled b → IsChosen b (next.Start i r) → IsUntaken b.cases i
   untaken_start i Body s c = let u = upcoming h i c.0 s c.2 in (u.0.case, u.0.found, λ x. absurd (cc (u.1, x)))
   untaken_start i Cleanup s c = let w = owes h i c.1 in (record { job = w.0; stage = Owing w.1 }, w.2, λ t. absurd (cc))
-
-  owing_history : (i : ℕ) → owed plan fed.trace ≡ Some i → history i fed.trace ≡ BodyStarted ∷ BodyEnded ∷ []
-  owing_history i q =
-      let w = owes h i (h.cases.pending_is ∙ q) in
-      let l = located h i w.0 (Owing w.1) w.2 in
-      ap (map mark_of) l.stands.1 ∙ ap (λ (r : Role). BodyStarted ∷ end_mark r ∷ []) l.stands.2
 
   -- where it is done, a case has no event or its history is whole
   part_whole : b.active ≡ 0 → (i : ℕ) (job : Job) → slice_get plan i ≡ Some job → (of i fed.trace ≡ []) ⊎ (has_whole_history fed.trace job ≡ true)
@@ -60,10 +54,11 @@ module _ {plan : List Job} {n : ℕ} {fed : Fed} {b : SchedState} (h : Stands pl
       let e : history i fed.trace ≡ [] = ap (map mark_of) u.2 in
       (record { job = u.0.job; place = u.0.place; unfinished = ap (is_whole u.0.job) e ∙ ap is_some u.3; alone = alone_body h i c.2.1 c.2.3 }, e)
   follows (next.Start i Cleanup) s c =
-      let o : owed plan fed.trace ≡ Some i = sym h.cases.pending_is ∙ c.1 in
       let w = owes h i c.1 in
-      let l = located h i w.0 (Owing w.1) w.2 in
-      (record { job = l.job; place = l.place; unfinished = l.says.whole; alone = alone_cleanup h i o }, owing_history i o)
+      let l = located h i w.0 (Owing w.1) w.2 in (
+        record { job = l.job; place = l.place; unfinished = l.says.whole; alone = alone_cleanup h i (sym h.cases.pending_is ∙ c.1) },
+        ap (map mark_of) l.stands.1 ∙ ap (λ (r : Role). BodyStarted ∷ end_mark r ∷ []) l.stands.2,
+      )
   follows next.Wait s c =
       let x = something_runs h c.1 c.2 in
       let r = runs_stage h x.0 x.1 x.2 in
@@ -74,10 +69,9 @@ module _ {plan : List Job} {n : ℕ} {fed : Fed} {b : SchedState} (h : Stands pl
 
   asked_for : (q : Next) → IsSettled b → IsChosen b q → IsAsked (record b { asked = q }) q
   asked_for (next.Put i) s c = (not_failed h i c, c)
-  asked_for (next.Start i Body) s c = (c.0, c.1, c.2, s)
   asked_for (next.Start i Cleanup) s c = (c.0, c.1, s)
-  asked_for next.Wait s c = (c.0, c.1, c.2, s)
   asked_for next.Done s c = tt
+  asked_for q s c = (c.0, c.1, c.2, s)
 
   not_done : (q : Next) (i : ℕ) → IsChosen b q → b.ready ≡ Some i → q ≢ next.Done
   not_done next.Done i c e d = absurd (cc (c.0, e))

@@ -9,9 +9,8 @@ use Rattle.kt_sched.proofs.Once.{NotWhole, Recorded, recorded_event}
 pub entries_more : (plan : List Job) (T : Trace) (ps : List ℕ) (es : List Entry) (p : ℕ) (e : Entry) → AreEntries plan T ps es → IsEntryOf plan T p e
     → AreEntries plan T (ps ++ p ∷ []) (es ++ e ∷ [])
 entries_more plan T [] [] p e h x = (x, tt)
-entries_more plan T [] (f ∷ es) p e h x = absurd h
-entries_more plan T (q ∷ ps) [] p e h x = absurd h
 entries_more plan T (q ∷ ps) (f ∷ es) p e h x = (h.0, entries_more plan T ps es p e h.1 x)
+entries_more plan T ps es p e h x = absurd h
 
 pub gains_more : {S : Type 0} (puts : S → Entry → Result (Unit {0}) SinkFault → S → Type 0) (es : List Entry) (e : Entry) (first last new : S)
     → Gains puts es first last → puts last e (Ok tt) new → Gains puts (es ++ e ∷ []) first new
@@ -54,9 +53,8 @@ module _ (plan : List Job) (T : Trace) (e : Event) (h : NotWhole plan T (positio
 
   entries_stay : (ps : List ℕ) (es : List Entry) → AreEntries plan T ps es → AreEntries plan (Then T e) ps es
   entries_stay [] [] x = tt
-  entries_stay [] (y ∷ es) x = absurd x
-  entries_stay (p ∷ ps) [] x = absurd x
   entries_stay (p ∷ ps) (y ∷ es) x = (entry_stays p y x.0 (cases_eq p (position_of e)), entries_stay ps es x.1)
+  entries_stay ps es x = absurd x
 
 -- each put that isn't stored is due now
 abbrev pub AreDue : List Job → ℕ → Fed → Type 0

@@ -59,10 +59,9 @@ get_take (x ∷ xs) (suc p) (suc j) l = get_take xs p j (omega (arith, l))
 
 pub take_within : {X : Type 0} (xs : List X) (p j : ℕ) (x : X) → slice_get (take p xs) j ≡ Some x → j < p
 take_within [] zero j x g = absurd (cc)
-take_within (y ∷ ys) zero j x g = absurd (cc)
-take_within [] (suc p) j x g = absurd (cc)
 take_within (y ∷ ys) (suc p) zero x g = omega arith
 take_within (y ∷ ys) (suc p) (suc j) x g = omega (arith, take_within ys p j x g)
+take_within xs p j x g = absurd (cc)
 
 -- one element more
 pub take_snoc : {X : Type 0} (xs : List X) (k : ℕ) (x : X) → slice_get xs k ≡ Some x → take (k + 1) xs ≡ take k xs ++ x ∷ []
@@ -225,11 +224,10 @@ none_passes {X} q xs e k x g = counted_none q xs k x (sym (length-filter q xs) �
 pub count_alike : {X Y : Type 0} (p : X → Bool) (q : Y → Bool) (xs : List X) (ys : List Y) → length xs ≡ length ys
     → ((i : ℕ) (x : X) (y : Y) → slice_get xs i ≡ Some x → slice_get ys i ≡ Some y → p x ≡ q y) → count_by p xs ≡ count_by q ys
 count_alike p q [] [] e h = refl
-count_alike p q [] (y ∷ ys) e h = absurd (omega arith)
-count_alike p q (x ∷ xs) [] e h = absurd (omega arith)
 count_alike p q (x ∷ xs) (y ∷ ys) e h =
     let r = count_alike p q xs ys (omega arith) (λ i a b g k. h (suc i) a b g k) in
     omega (arith, count-cons p x xs, count-cons q y ys, r, ap (λ (b : Bool). cond {A = ℕ} b 1 0) (h 0 x y refl refl))
+count_alike p q xs ys e h = absurd (omega arith)
 
 pub count_by-append : {X : Type 0} (p : X → Bool) (xs ys : List X) → count_by p (xs ++ ys) ≡ count_by p xs + count_by p ys
 count_by-append p xs ys = sum_by-append (λ x. cond (p x) 1 0) xs ys

@@ -63,9 +63,8 @@ module _ (plan : List Job) (T : Trace) (running : ℕ → Role → Option Child)
         starts : (role r : Role) → running i r ≡ runs_by plan i r (history_before role)
             → (if same_role r role then Some (child_of job) else running i r) ≡ runs_by plan i r (history_before role ++ start_mark role (told.Started m) ∷ [])
         starts Body Body e = sym (ap (option_map child_of) g)
-        starts Body Cleanup e = e
-        starts Cleanup Body e = e
         starts Cleanup Cleanup e = sym (ap (option_map child_of) g)
+        starts role r e = e
     start_runs (told.Refused c) k (inr q) = h k r ∙ sym (runs_other plan T (Start i role (told.Refused c)) k r q)
     start_runs (told.Refused c) k (inl q) =
         subst (λ j. running j r ≡ running_of plan (Then T (Start i role (told.Refused c))) j r) (sym q)
@@ -73,9 +72,8 @@ module _ (plan : List Job) (T : Trace) (running : ℕ → Role → Option Child)
       where
         starts_not : (role r : Role) → runs_by plan i r (history_before role) ≡ runs_by plan i r (history_before role ++ start_mark role (told.Refused c) ∷ [])
         starts_not Body Body = refl
-        starts_not Body Cleanup = refl
-        starts_not Cleanup Body = refl
         starts_not Cleanup Cleanup = refl
+        starts_not role r = refl
 
   module _ (e : Ended) (k : ℕ) (w : history e.position T ≡ history_while e.role) where
     -- an end stops what ran in its role, and nothing else
@@ -86,9 +84,8 @@ module _ (plan : List Job) (T : Trace) (running : ℕ → Role → Option Child)
         ends : (role r : Role) → running e.position r ≡ runs_by plan e.position r (history_while role)
             → (if same_role r role then None else running e.position r) ≡ runs_by plan e.position r (history_while role ++ end_mark role ∷ [])
         ends Body Body e = refl
-        ends Body Cleanup e = e
-        ends Cleanup Body e = e
         ends Cleanup Cleanup e = refl
+        ends role r e = e
 
     pub end_owes : (pending : ℕ → Bool) → pending k ≡ false → pending_after_end running pending e k ≡ is_owed (owed plan (Then T (End e))) k
     end_owes pending p =
@@ -108,9 +105,8 @@ module _ (plan : List Job) (T : Trace) (running : ℕ → Role → Option Child)
 
         owed_by : (c d : Bool) → (k == e.position) ≡ c → (if c && d then true else false) ≡ is_owed (if d then Some e.position else None) k
         owed_by true true q = sym q
-        owed_by true false q = refl
         owed_by false true q = sym q
-        owed_by false false q = refl
+        owed_by c d q = refl
 
 pub cleared : (i k : ℕ) → (k ≡ i) ⊎ (k ≢ i) → (if k == i then false else k == i) ≡ false
 cleared i k (inl q) = rw (q, same_is i) refl

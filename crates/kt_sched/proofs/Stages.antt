@@ -33,14 +33,11 @@ runs_active Body (Running m) e = refl
 runs_active Cleanup (Cleaning b) e = refl
 runs_active r stage e = absurd (cc)
 
-inactive_quiet : (r : Role) (stage : Stage) → is_active_stage stage ≡ false → stage_runs r stage ≡ false
-inactive_quiet r stage e = false_from_ne_true (stage_runs r stage) (λ v. cc (runs_active r stage v, e))
-
 over_says : (job : Job) (stage : Stage) (w : List Mark) → is_whole job w ≡ true → is_over stage ≡ true → Says job stage w
 over_says job stage w h o = record {
   whole = h ∙ sym o;
   active = and_right (list_any is_body_started w) (not (is_whole job w)) (ap not h) ∙ sym (over_idle stage o);
-  runs = λ r. whole_quiet job r w h ∙ sym (inactive_quiet r stage (over_idle stage o));
+  runs = λ r. whole_quiet job r w h ∙ sym (false_from_ne_true (stage_runs r stage) (λ v. cc (runs_active r stage v, over_idle stage o)));
 }
 
 pub says : (i : ℕ) (job : Job) (stage : Stage) (es : List Event) → IsStage i job stage es → Says job stage (map mark_of es)
@@ -94,12 +91,6 @@ active_runs stage e o = absurd (cc)
 pub owing_stage : (stage : Stage) → is_owing_stage stage ≡ true → (o : EndedBody) × (stage ≡ Owing o)
 owing_stage (Owing b) e = (b, refl)
 owing_stage stage e = absurd (cc)
-
-pub active_begun : (stage : Stage) → is_active_stage stage ≡ true → is_fresh stage ≡ false
-active_begun (Running m) e = refl
-active_begun (Owing b) e = refl
-active_begun (Cleaning b) e = refl
-active_begun stage e = absurd (cc)
 
 -- a case that moves on wasn't over; it waited or was active, and then it does not wait
 pub record Moves (was : Stage) (e : Event) (now : Stage) : Type 0 where

@@ -1,5 +1,5 @@
 -- the answers of a launcher, each of which the state takes
-use Rattle.kt_sched.proofs.Common.{slice_get, length, Option, Some, None, ◌≡◌, ℕ, ◌+◌, ◌<◌, Bool, true, false, cond, List, refl, sym, ◌∙◌, ap, subst, arith, length-set, slice_get_within, Next, Role, Body, Cleanup, Ended, StartAnswer, Stage, Waiting, Owing, Taken, Case, same_role, Event, Start, End, Job, Fed, body_start_of, stage_runs, SchedState, Stands, IsAfter, IsStanding, Takes, Replaced, Declares, can_start, owing_at, ready_at, is_active_stage, is_over, is_owed, after_event}
+use Rattle.kt_sched.proofs.Common.{◌≢◌, slice_get, length, Option, Some, None, ◌≡◌, ℕ, ◌+◌, ◌<◌, Bool, true, false, cond, List, refl, sym, ◌∙◌, ap, subst, arith, length-set, slice_get_within, Next, Role, Body, Cleanup, Ended, StartAnswer, Stage, Waiting, Owing, Taken, Case, same_role, Event, Start, End, Job, Fed, body_start_of, stage_runs, SchedState, Stands, IsAfter, IsStanding, Takes, Replaced, Declares, can_start, owing_at, ready_at, is_active_stage, is_over, is_owed, after_event}
 use Rattle.kt_sched.specs.declared.next.Next.TheVariants as next
 use Rattle.kt_sched.proofs.Lists.{cond_one, some_is, other_is_not}
 use Rattle.kt_sched.proofs.Stages.{runs_active, moves}
@@ -7,52 +7,37 @@ use Rattle.kt_sched.proofs.Located.{asked_as, located, owes, replaced_twice, som
 use Rattle.kt_sched.proofs.Upcoming.{upcoming}
 use Rattle.kt_sched.proofs.EventSteps.{After, AskedFor, OwedBy, event_taken}
 
-none_owed : {o : Option ℕ} {i : ℕ} → o ≡ None → OwedBy i o
-none_owed e k d = ap (λ (o : Option ℕ). is_owed o k) e
-
-this_owed : {o : Option ℕ} {i : ℕ} → o ≡ Some i → OwedBy i o
-this_owed {i = i} e k d = ap (λ (o : Option ℕ). is_owed o k) e ∙ other_is_not k i d
-
 -- a case that can be started, and counted
-pub record StartFits (b : SchedState) (i : ℕ) (role : Role) (was : Stage) (mid : List Case) : Type 0 where
+pub record StartFits (b : SchedState) (role : Role) (was : Stage) : Type 0 where
   pub can : can_start role was ≡ true
-  pub less : is_active_stage was ≡ true → 0 < b.active
   pub more : is_active_stage was ≡ false → b.active < b.width
   pub turn : role ≡ Body → b.turn < length b.order
-  pub within : i < length mid
 
-replaced_within : {xs ys : List Case} {i : ℕ} {s w : Stage} → Replaced xs ys i s w → i < length ys
+pub replaced_within : {xs ys : List Case} {i : ℕ} {s w : Stage} → Replaced xs ys i s w → i < length ys
 replaced_within {xs} {i = i} f = rw (f.changed, length-set) (slice_get_within xs i _ f.found)
 
 module _ {plan : List Job} {n : ℕ} {fed : Fed} {b : SchedState} (h : Stands plan n fed b) where
-  fits : (i : ℕ) (role : Role) {was : Stage} {mid : List Case} → b.asked ≡ next.Start i role → Replaced b.cases mid i Taken was → StartFits b i role was mid
+  fits : (i : ℕ) (role : Role) {was : Stage} {mid : List Case} → b.asked ≡ next.Start i role → Replaced b.cases mid i Taken was → StartFits b role was
   fits i Body {was} q r =
       let k = asked_as h (next.Start i Body) q in
       let u = upcoming h i k.0 k.3 k.2 in
       let w : was ≡ Waiting = ap (λ (c : Case). c.stage) (some_is _ u.0.case (sym r.found ∙ u.0.found)) ∙ u.1 in
-      record {
-        can = ap (can_start Body) w;
-        less = λ v. absurd (cc (ap is_active_stage w, v));
-        more = λ v. k.2.2;
-        turn = λ y. slice_get_within b.order b.turn i k.2.1;
-        within = replaced_within r;
-      }
+      record { can = ap (can_start Body) w; more = λ v. k.2.2; turn = λ y. slice_get_within b.order b.turn i k.2.1 }
   fits i Cleanup {was} q r =
       let o = owes h i (asked_as h (next.Start i Cleanup) q).1 in
       let w : was ≡ Owing o.1 = ap (λ (c : Case). c.stage) (some_is _ _ (sym r.found ∙ o.2)) in
-      record {
-        can = ap (can_start Cleanup) w;
-        less = λ v. some_active h i _ r.found v;
-        more = λ v. absurd (cc (ap is_active_stage w, v));
-        turn = λ y. absurd (cc (y));
-        within = replaced_within r;
-      }
+      record { can = ap (can_start Cleanup) w; more = λ v. absurd (cc (ap is_active_stage w, v)); turn = λ y. absurd (cc (y)) }
+
+  none_owed : {i : ℕ} → b.pending ≡ None → OwedBy i b.pending
+  none_owed e j d = ap (λ (o : Option ℕ). is_owed o j) e
 
   asked_start : (i : ℕ) (role : Role) (x : StartAnswer) → b.asked ≡ next.Start i role → AskedFor b (Start i role x)
   asked_start i Body x q =
       let k = asked_as h (next.Start i Body) q in record { empty = k.0; settled = k.3; owing = none_owed k.1; turned = λ e. k.2 }
   asked_start i Cleanup x q =
-      let k = asked_as h (next.Start i Cleanup) q in record { empty = k.0; settled = k.2; owing = this_owed k.1; turned = λ e. absurd (cc (e)) }
+      let k = asked_as h (next.Start i Cleanup) q in
+      let owing = λ (j : ℕ) (d : j ≢ i). ap (λ (o : Option ℕ). is_owed o j) k.1 ∙ other_is_not j i d in
+      record { empty = k.0; settled = k.2; owing = owing; turned = λ e. absurd (cc (e)) }
 
   asked_end : (e : Ended) → b.asked ≡ next.Wait → AskedFor b (End e)
   asked_end e q = let k = asked_as h next.Wait q in record { empty = k.0; settled = k.3; owing = none_owed k.1; turned = λ e. absurd (cc (e)) }
@@ -73,7 +58,7 @@ module _ {b seen : SchedState} (view : b ≡ seen) (standing : IsStanding b) whe
   was_asked e = ap (λ (x : SchedState). x.asked) view ∙ e
 
   pub start_fits : (i : ℕ) (role : Role) {was : Stage} {mid : List Case} → seen.asked ≡ next.Start i role → Replaced b.cases mid i Taken was
-      → StartFits b i role was mid
+      → StartFits b role was
   start_fits i role q r = fits standing.3 i role (was_asked q) r
 
   pub started : (i : ℕ) (role : Role) (x : StartAnswer) {was now left : Stage} {mid cs : List Case} {t a : ℕ} {p r : Option ℕ} {u v : Bool}

@@ -1,6 +1,6 @@
 use Rattle.kt_sched.proofs.Common.{sym, ◌∙◌, ap, subst, arith, SchedState, Stands}
-use Rattle.kt_sched.proofs.Located.{asked_within}
-use Rattle.kt_sched.proofs.Transitions.{start_fits, started}
+use Rattle.kt_sched.proofs.Located.{asked_within, some_active}
+use Rattle.kt_sched.proofs.Transitions.{replaced_within, start_fits, started}
 use Rattle.kt_sched.proofs.sched.Sched.started.Goals as goal
 
 pub returns : goal.returns
@@ -26,7 +26,11 @@ turn_after-self-inside-requires c = λ r.
 pub active_after-self-inside-requires : goal.active_after-self-inside-requires
 active_after-self-inside-requires c =
     let f = start_fits c.self.view_is c.self.invariant c.args.i c.args.role c.requires c.replace_stage-was.ensures in
-    record { less = λ v. f.less (sym c.is_active-ran.ensures ∙ v); more = λ v. f.more (sym c.is_active-ran.ensures ∙ v) }
+    let r = c.replace_stage-was.ensures in
+    record {
+      less = λ v. some_active c.self.invariant.3 c.args.i _ r.found (sym c.is_active-ran.ensures ∙ v);
+      more = λ v. f.more (sym c.is_active-ran.ensures ∙ v);
+    }
 
 pub replace_stage-taken-requires : goal.replace_stage-taken-requires
-replace_stage-taken-requires c = (start_fits c.self.view_is c.self.invariant c.args.i c.args.role c.requires c.replace_stage-was.ensures).within
+replace_stage-taken-requires c = replaced_within c.replace_stage-was.ensures
