@@ -23,11 +23,12 @@ all_first : (plan : List Job) (i : ℕ) (c : Case) → slice_get (map first_case
     → (is_fresh c.stage ≡ true) × (is_active_stage c.stage ≡ false) × (is_owing_stage c.stage ≡ false)
 all_first plan i c g = let w = mapped_at first_case plan i c g in let f = first_is w.0.decided in rw (sym w.2) f
 
-pub stands_first : (plan : List Job) (n : ℕ) → IsPlan plan → 0 < n → Stands plan n nothing_fed (first_state n (map first_case plan) (positions (turns plan)))
-stands_first plan n h r = record {
+pub new_stands : {plan jobs : List Job} {w : ℕ} {cs : List Case} {xs : List ℕ} → IsPlan plan → 1 ≤ w → jobs ≡ plan → cs ≡ map first_case jobs
+    → xs ≡ positions (turns jobs) → Stands plan w nothing_fed (first_state w cs xs)
+new_stands {plan} {w = n} h l q e f = rw (e, f, q) (record {
   cases = record {
     is_plan = h;
-    room = r;
+    room = omega (arith, l);
     width_is = refl;
     pending_is = refl;
     count = length-map plan first_case;
@@ -61,11 +62,7 @@ stands_first plan n h r = record {
   };
   told = λ i x y. absurd (cc);
   asked = tt;
-}
-
-pub new_stands : {plan jobs : List Job} {w : ℕ} {cs : List Case} {xs : List ℕ} → IsPlan plan → 1 ≤ w → jobs ≡ plan → cs ≡ map first_case jobs
-    → xs ≡ positions (turns jobs) → Stands plan w nothing_fed (first_state w cs xs)
-new_stands {plan} {w = w} p l q e f = rw (e, f, q) (stands_first plan w p (omega (arith, l)))
+})
 
 -- what is told of a case is its entry
 told_entry : (i : ℕ) (job : Job) (was : Stage) (es : List Event) (t : CaseRecord) → IsStage i job was es → record_in job was ≡ Some t

@@ -23,7 +23,7 @@ pub use Rattle.kt_sched.specs.Children.{Child, IsEvidence, IsIdle, MayStart, chi
 pub use Rattle.kt_sched.specs.EntryOf.{AreEntries, Gains, IsEntry, IsEntryOf, cleaned, decided, ended, no_output, refused, uncleaned}
 pub use Rattle.kt_sched.specs.Fed.{Fed, IsAnswerTo, fed_after, has_failed, nothing_fed, role_runs, runs}
 pub use Rattle.kt_sched.specs.History.{BodyEnded, BodyRefused, BodyStarted, CleanupEnded, CleanupRefused, CleanupStarted, Mark, active, end_mark, has_whole_history, history, is_active, is_body_started, is_whole, mark_of, start_mark}
-pub use Rattle.kt_sched.specs.Inner.Answers.{CanCount, answer_of, counted, with_event}
+pub use Rattle.kt_sched.specs.Inner.Answers.{CanCount, after_put, answer_of, counted, with_event}
 pub use Rattle.kt_sched.specs.Inner.Cases.{Declares, GoneThrough, IsAfter, Replaced, TookEntry, can_start, first_case, first_stage, is_over, owing_at, ready_at, record_of, stage_runs, unless}
 pub use Rattle.kt_sched.specs.Inner.Choice.{IsChosen, IsHeld, IsTurn}
 pub use Rattle.kt_sched.specs.Moments.{HasMoment}

@@ -6,7 +6,6 @@ pub mod Stages
 pub mod Located
 pub mod Upcoming
 pub mod Choice
-pub mod Following
 pub mod EventSteps
 pub mod Transitions
 pub mod Opened
@@ -14,5 +13,4 @@ pub mod Begin
 pub mod Once
 pub mod Runs
 pub mod Gaining
-pub mod Ending
 pub mod Loop

@@ -14,9 +14,8 @@ use Rattle.kt_sched.proofs.Lists.{mapped_at, none_past, same_is, some_is, take_s
 use Rattle.kt_sched.proofs.Stages.{whole_quiet}
 use Rattle.kt_sched.proofs.Upcoming.{in_order}
 use Rattle.kt_sched.proofs.Runs.{Going, Startable, Until, child_at, child_runs, cleared, each_of, end_owes, end_runs, running_of, runs_now, runs_true, start_runs, until_more, until_now, up_to, while_runs}
-use Rattle.kt_sched.proofs.Gaining.{Gained, GainsUpTo, counts_more, due_put, entries_more, gained_event, gains_more}
+use Rattle.kt_sched.proofs.Gaining.{Gained, GainsUpTo, counts_more, due_put, entries_more, gained_event, gains_more, four_calls, named_once, storable_entry}
 use Rattle.kt_sched.proofs.Once.{named_at_most_once, recorded_first, recorded_most}
-use Rattle.kt_sched.proofs.Ending.{four_calls, named_once, storable_entry}
 
 -- the core, the launcher and the sink stand after the same answers
 pub record Loop {L S : Type 0} (l : launcher.Ghosts L) (s : sink.Ghosts S) (plan : List Job) (n : ℕ) (old : L) (before : S) (sched : SchedState) (new : L)

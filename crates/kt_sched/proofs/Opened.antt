@@ -1,5 +1,5 @@
 -- a decided case becomes ready, and an answer to a put
-use Rattle.kt_sched.proofs.Common.{◌==◌, ◌<◌, nat_lt, nat_tests, if◌then◌else◌, not, slice_get, Option, Some, None, filter, is_some, ◌≡◌, ℕ, ◌+◌, Bool, true, false, List, ◌∷◌, refl, sym, ◌∙◌, ap, subst, arith, inl, inr, append-nil, cases_eq, Judged, Job, Stage, Decided, Case, CaseRecord, of, active, turns, is_open, Fed, has_failed, SchedState, Stands, IsStanding, IsStage, HasRecord, HasTurn, HasDecided, AreGone, is_decided, is_undecided, decided_record_of, decided_record, record_in, positions, opened, slice_get_within, ◌≤◌, ◌++◌, length, drop, event_count, recorded, listed}
+use Rattle.kt_sched.proofs.Common.{◌==◌, ◌<◌, nat_lt, nat_tests, if◌then◌else◌, not, slice_get, Option, Some, None, filter, is_some, ◌≡◌, ℕ, ◌+◌, after_put, Bool, true, false, List, ◌∷◌, refl, sym, ◌∙◌, ap, subst, arith, inl, inr, append-nil, cases_eq, Judged, Job, Stage, Decided, Case, CaseRecord, of, active, turns, is_open, Fed, has_failed, SchedState, Stands, IsStage, HasRecord, HasTurn, HasDecided, AreGone, is_decided, is_undecided, decided_record_of, decided_record, record_in, positions, opened, slice_get_within, ◌≤◌, ◌++◌, length, drop, recorded, listed}
 use Rattle.kt_sched.specs.declared.next.Next.TheVariants as next
 use Rattle.kt_sched.proofs.Lists.{slice_get-drop, drop_at, some_is, take_filter}
 use Rattle.kt_sched.proofs.Stages.{decided_stage}
@@ -29,7 +29,7 @@ module _ {plan : List Job} {n : ℕ} {fed : Fed} {b : SchedState} {i : ℕ} (h :
       a.job.exclusive refl in
       (z, s.1, open_here fed.trace b.turn h.cases.is_plan h.turn.starts n a.job a.turn s.1 m)
 
-  told_now : HasRecord b.cases i
+  pub told_now : HasRecord b.cases i
   told_now =
       let t = record_there a.job.decided ripe.1 in
       (a.case, t.0, a.found, ap (record_in a.case.job) ripe.0 ∙ (ap (λ (j : Job). decided_record_of j.decided) a.kept ∙ t.1))
@@ -45,7 +45,7 @@ module _ {plan : List Job} {n : ℕ} {fed : Fed} {b : SchedState} {i : ℕ} (h :
     due = λ k job l g. (h.puts.gone f).due k job (omega (arith, l)) g;
   }
 
-  stands_opened : b.ready ≡ None → Stands plan n fed (record b { turn = b.turn + 1; ready = Some i; asked = next.Done })
+  pub stands_opened : b.ready ≡ None → Stands plan n fed (record b { turn = b.turn + 1; ready = Some i; asked = next.Done })
   stands_opened e = record {
     cases = h.cases;
     turn = record {
@@ -79,44 +79,29 @@ module _ {plan : List Job} {n : ℕ} {fed : Fed} {b : SchedState} {i : ℕ} (h :
       run : opened plan n fed.trace b.turn ≡ a.job ∷ opened plan n fed.trace (b.turn + 1)
       run = ap (filter (is_open plan n fed.trace)) (drop_at (turns plan) b.turn a.job a.turn) ∙ rw ripe.2 refl
 
--- the state before, as the code sees it and as it stands
-module _ {b seen : SchedState} (view : b ≡ seen) (standing : IsStanding b) {i : ℕ} {flag : Bool} (t : HasTurn seen i) (d : HasDecided b.cases i flag)
-    (f : flag ≡ true) (e : b.ready ≡ None) where
-  turn : HasTurn b i
-  turn = subst (λ (x : SchedState). HasTurn x i) (sym view) t
-
-  pub opened_each : (plan : List Job) (n : ℕ) (fed : Fed) → Stands plan n fed seen
-      → Stands plan n fed (record b { turn = b.turn + 1; ready = Some i; asked = next.Done })
-  opened_each plan n fed h = stands_opened (subst (Stands plan n fed) (sym view) h) turn (subst (HasDecided b.cases i) f d) e
-
-  pub opened_told : (k : ℕ) → Some i ≡ Some k → HasRecord b.cases k
-  opened_told k q = subst (HasRecord b.cases) (some_is i k q) (told_now standing.3 turn (subst (HasDecided b.cases i) f d))
-
-module _ {plan : List Job} {n : ℕ} {fed : Fed} {b : SchedState} (h : Stands plan n fed b) (i : ℕ) (q : b.asked ≡ next.Put i) where
-  pub stored : Stands plan n (record fed { stored = fed.stored + 1 }) (record b { ready = None; asked = next.Done })
-  stored =
-      let a = asked_as h (next.Put i) q in
-      let f : has_failed fed ≡ false = sym h.puts.failed ∙ a.0 in
-      let xs = recorded plan n fed.trace in
-      let ys = positions (opened plan n fed.trace b.turn) in
-      let w = h.puts.ready f ∙ ap (λ o. listed o ++ ys) a.1 in
-      let g = slice_get-drop xs fed.stored ∙ ap (λ (zs : List ℕ). slice_get zs 0) w in
-      let e : drop (fed.stored + 1) xs ≡ ys = cc (sym (drop_at xs fed.stored i g) ∙ w) in
-      let l : fed.stored + 1 ≤ length xs = omega (arith, slice_get_within xs fed.stored i g) in
-      record {
-        cases = h.cases;
-        turn = h.turn;
-        puts = record { failed = h.puts.failed; stopped = λ g. refl; stored = l; gone = h.puts.gone; ready = λ g. e; ripe = λ k m x o. absurd (cc) };
-        told = λ k x y. absurd (cc);
-        asked = tt;
-      }
-
-  pub store_failed : Stands plan n (record fed { stopped = Some (event_count fed.trace) }) (record b { ready = None; asked = next.Done; failed = true })
-  store_failed = record {
-    cases = h.cases;
-    turn = h.turn;
-    puts =
-        record { failed = refl; stopped = λ g. refl; stored = h.puts.stored; gone = λ g. absurd (cc); ready = λ g. absurd (cc); ripe = λ k m x o. absurd (cc) };
-    told = λ k x y. absurd (cc);
-    asked = tt;
-  }
+-- a put was answered
+pub put : {plan : List Job} {n : ℕ} {fed : Fed} {b : SchedState} → Stands plan n fed b → (i : ℕ) → b.asked ≡ next.Put i → (failed : Bool)
+    → Stands plan n (after_put fed failed) (record b { ready = None; asked = next.Done; failed = failed })
+put h i q true = record {
+  cases = h.cases;
+  turn = h.turn;
+  puts = record { failed = refl; stopped = λ g. refl; stored = h.puts.stored; gone = λ g. absurd (cc); ready = λ g. absurd (cc); ripe = λ k m x o. absurd (cc) };
+  told = λ k x y. absurd (cc);
+  asked = tt;
+}
+put {plan} {n} {fed} {b} h i q false =
+    let a = asked_as h (next.Put i) q in
+    let f : false ≡ has_failed fed = sym a.0 ∙ h.puts.failed in
+    let xs = recorded plan n fed.trace in
+    let ys = positions (opened plan n fed.trace b.turn) in
+    let w = h.puts.ready (sym f) ∙ ap (λ o. listed o ++ ys) a.1 in
+    let g = slice_get-drop xs fed.stored ∙ ap (λ (zs : List ℕ). slice_get zs 0) w in
+    let e : drop (fed.stored + 1) xs ≡ ys = cc (sym (drop_at xs fed.stored i g) ∙ w) in
+    let l : fed.stored + 1 ≤ length xs = omega (arith, slice_get_within xs fed.stored i g) in
+    record {
+      cases = h.cases;
+      turn = h.turn;
+      puts = record { failed = f; stopped = λ g. refl; stored = l; gone = h.puts.gone; ready = λ g. e; ripe = λ k m x o. absurd (cc) };
+      told = λ k x y. absurd (cc);
+      asked = tt;
+    }

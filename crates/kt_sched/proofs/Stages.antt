@@ -140,13 +140,15 @@ owed_moves plan T job (Running m) (End e) (Finished t) g h = rw (body_runs e.rol
 owed_moves plan T job (Cleaning b) (End e) (Finished t) g h = rw (cleanup_runs e.role b h.0) refl
 owed_moves plan T job was e now g h = absurd h
 
+entry_as : {job : Job} {es : List Event} {t u : CaseRecord} → t ≡ u → IsEntry job es (entry_with job u) → IsEntry job es (entry_with job t)
+entry_as {job} {es} e = subst (λ x. IsEntry job es (entry_with job x)) (sym e)
+
 -- and the stage stands for one event more
 pub stage_moves : (job : Job) (was : Stage) (e : Event) (now : Stage) (es : List Event) → IsStage (position_of e) job was es → IsAfter job.cleanup was e now
     → IsStage (position_of e) job now (es ++ e ∷ [])
 stage_moves job Waiting (Start i Body (told.Started m)) (Running k) es s h = (rw (s.0, h) refl, s.1)
 stage_moves job Waiting (Start i Body (told.Refused c)) (Finished t) es s h =
-    let P : CaseRecord → Type 0 = λ x. IsEntry job (Start i Body (told.Refused c) ∷ []) (entry_with job x) in
-    rw s.0 (ap is_none s.1, subst P (sym h.1) (refused i c t.verdict h.0))
+    rw s.0 (ap is_none s.1, entry_as h.1 (refused i c t.verdict h.0))
 stage_moves job (Owing b) (Start i Cleanup (told.Started m)) (Cleaning x) es s h =
     let e = Start i Cleanup (told.Started m) in
     subst (λ (y : EndedBody). IsStage i job (Cleaning y) (es ++ e ∷ [])) (sym h)
@@ -154,34 +156,26 @@ stage_moves job (Owing b) (Start i Cleanup (told.Started m)) (Cleaning x) es s h
 stage_moves job (Owing b) (Start i Cleanup (told.Refused c)) (Finished t) es s h =
     let of_end = λ (x : EndedBody). record_of t.verdict (record { started = b.started; ended = x.ended; verdict = x.verdict; output = x.output })
     x.ended no_output in
-    let es = Start i Body (told.Started b.started) ∷ End s.0 ∷ Start i Cleanup (told.Refused c) ∷ [] in
-    let P : CaseRecord → Type 0 = λ x. IsEntry job es (entry_with job x) in
     rw s.1 (
       ap (λ x. is_whole job (BodyStarted ∷ end_mark x ∷ CleanupRefused ∷ [])) s.2 ∙ and_from _ _ (ap is_none s.6) s.3,
-      subst P (sym (h.1 ∙ ap of_end s.5)) (uncleaned i b.started s.0 i c b.verdict t.verdict s.4 h.0),
+      entry_as (h.1 ∙ ap of_end s.5) (uncleaned i b.started s.0 i c b.verdict t.verdict s.4 h.0),
     )
 stage_moves job (Running m) (End e) (Owing b) es s h =
-    let i = e.position in
     let same : m ≡ b.started = ap (λ (y : EndedBody). y.started) (sym h.3) in
-    let ends = ap (λ (es : List Event). es ++ End e ∷ []) s.0 ∙ ap (λ y. Start i Body (told.Started y) ∷ End e ∷ []) same in
+    let ends = ap (λ (es : List Event). es ++ End e ∷ []) s.0 ∙ ap (λ y. Start e.position Body (told.Started y) ∷ End e ∷ []) same in
     (e, ends, body_runs e.role m h.0, h.1, h.2, h.3 ∙ ap (λ y. ended_body b.verdict y e) same, s.1)
 stage_moves job (Running m) (End e) (Finished t) es s h =
-    let i = e.position in
-    let P : CaseRecord → Type 0 = λ x. IsEntry job (Start i Body (told.Started m) ∷ End e ∷ []) (entry_with job x) in
     rw s.0 (
       ap (λ x. is_whole job (BodyStarted ∷ end_mark x ∷ [])) (body_runs e.role m h.0) ∙ and_from _ _ (ap is_none s.1) (ap not h.1),
-      subst P (sym h.3) (ended i m e t.verdict h.2),
+      entry_as h.3 (ended e.position m e t.verdict h.2),
     )
 stage_moves job (Cleaning b) (End f) (Finished t) es s h =
-    let i = f.position in
     let of_end : EndedBody → CaseRecord =
     λ y. record { verdict = t.verdict; started = b.started; millis = f.moment - b.started; body = y.output; cleanup = f.output } in
-    let P : CaseRecord → Type 0 = λ y. IsEntry job (Start i Body (told.Started b.started) ∷ End s.0 ∷ Start i Cleanup (told.Started s.1) ∷ End f ∷ [])
-    (entry_with job y) in
     rw s.2 (
       ap (λ y. is_whole job (BodyStarted ∷ end_mark y ∷ CleanupStarted ∷ end_mark f.role ∷ [])) s.3
           ∙ ap (λ y. is_whole job (BodyStarted ∷ BodyEnded ∷ CleanupStarted ∷ end_mark y ∷ [])) (cleanup_runs f.role b h.0)
           ∙ and_from _ _ (ap is_none s.7) s.4,
-      subst P (sym (h.2 ∙ ap of_end s.6)) (cleaned i b.started s.0 i s.1 f b.verdict t.verdict s.5 h.1),
+      entry_as (h.2 ∙ ap of_end s.6) (cleaned f.position b.started s.0 f.position s.1 f b.verdict t.verdict s.5 h.1),
     )
 stage_moves job was e now es s h = absurd h

@@ -1,5 +1,5 @@
 -- the turn order, which has every case once and exclusive ones last, and one event more
-use Rattle.kt_sched.proofs.Common.{nat_tests, ◌⊎◌, slice_get, count_by, filter, Some, not, ◌==◌, ◌≡◌, ◌≢◌, ℕ, ◌+◌, ◌<◌, ◌≤◌, Bool, true, false, cond, List, length, refl, ◌∙◌, ap, arith, inl, inr, false_from_ne_true, sum_by-filter_both, cases_eq, slice_get_within, Job, turns, None, is_none, map, ◌&&◌, [], ◌∷◌, ◌++◌, sym, and-true, map-append, Event, Trace, Then, position_of, of, event_count, mark_of, history, is_whole, has_whole_history, Due, dues, put_at, finished_by, is_open, was_open, recorded, IsPlan, positions}
+use Rattle.kt_sched.proofs.Common.{nat_tests, ◌⊎◌, slice_get, count_by, filter, Some, not, ◌==◌, ◌≡◌, ◌≢◌, ℕ, ◌+◌, ◌<◌, ◌≤◌, Bool, true, false, cond, List, length, refl, ◌∙◌, ap, subst, arith, inl, inr, false_from_ne_true, sum_by-filter_both, cases_eq, slice_get_within, Job, turns, None, is_none, map, ◌&&◌, [], ◌∷◌, ◌++◌, sym, and-true, map-append, Event, Trace, Then, position_of, of, event_count, mark_of, history, is_whole, has_whole_history, Due, dues, put_at, finished_by, is_open, was_open, recorded, IsPlan, positions}
 use Rattle.kt_sched.proofs.Lists.{counted_one, counted_some, count_by-append, counted_only, counted_two, filter_in, in_append, other_is_not, same_is, pick, filter_only}
 
 -- each case stands at its position
@@ -110,15 +110,10 @@ finished_is {plan} T e {job} b h d g w v =
     i : ℕ
     i = position_of e
 
-    all_of : (x y v u : Bool) → x ≡ true → y ≡ true → u ≡ false → (x && (y && (v && not u))) ≡ v
-    all_of x y v u p q r = rw (p, q, r) (and-true v)
-
     does : finishes T e job ≡ b
     does =
-        let here = ap (λ k. k == i) (h.placed i job g) ∙ same_is i in
-        let unfinished = ap (λ k. is_whole job (history k T)) (h.placed i job g) ∙ w in
-        all_of (job.position == i) (is_none job.decided) (has_whole_history (Then T e) job) (has_whole_history T job) here (ap is_none d) unfinished
-        ∙ (ap (λ k. is_whole job (history k (Then T e))) (h.placed i job g) ∙ v)
+        subst (λ k. (k == i && (is_none job.decided && (is_whole job (history k (Then T e)) && not (is_whole job (history k T))))) ≡ b)
+        (sym (h.placed i job g)) (rw (v, w, d, same_is i) (and-true b))
 
     placed : (c : Bool) → positions (pick c job []) ≡ pick c i []
     placed true = ap (λ k. k ∷ []) (h.placed i job g)

@@ -58,7 +58,7 @@ impl Model for Sched {
 
 impl Sched {
     ghost use Rattle.std.specs.Prelude.{◌≡◌, ℕ, List, length, ◌^◌, Some, slice_get, IfOk, ◌<◌, ◌+◌, true, false};
-    ghost use Rattle.kt_sched.specs.Common.{Job, Next, Start, End, event_count, Case, Role, IsPlan, IsWidth, Fed, fed_after, nothing_fed, IsNext, Follows, IsEntryOf, IsChosen, IsTurn, stage_runs, SchedState, Stands, IsAnswer, IsSettled, HasRecord, CanLend, HoldsEntry, Takes, work_left, Works};
+    ghost use Rattle.kt_sched.specs.Common.{Job, Next, Start, End, Case, Role, IsPlan, IsWidth, Fed, after_put, fed_after, nothing_fed, IsNext, Follows, IsEntryOf, IsChosen, IsTurn, stage_runs, SchedState, Stands, IsAnswer, IsSettled, HasRecord, CanLend, HoldsEntry, Takes, work_left, Works};
 
     /// The core before its first answer.
     pub fn new(alloc: Global, plan: Items<Job>, width: u32) -> Result<Sched, NoMemory>
@@ -128,8 +128,8 @@ impl Sched {
                 _ => unreachable!(),
             },
             Next::Put(i) => match answer {
-                Answer::Stored => self.stored(i),
-                Answer::StoreFailed => self.store_failed(i),
+                Answer::Stored => self.put(i, false),
+                Answer::StoreFailed => self.put(i, true),
                 _ => unreachable!(),
             },
             Next::Done => unreachable!(),
@@ -249,28 +249,16 @@ impl Sched {
         }
     }
 
-    /// An entry was put.
-    fn stored(&mut self, i: u32)
+    /// A put was answered. After one that failed nothing more is put, and no further body is started.
+    fn put(&mut self, i: u32, failed: bool)
         requires { self.old.asked ≡ Next.Put i }
         ensures same { self.new.cases ≡ self.old.cases }
         ensures asked { self.new.asked ≡ Next.Done }
         ensures stands { (plan : List Job) (n : ℕ) (fed : Fed) → Stands plan n fed self.old
-            → Stands plan n (record fed { stored = fed.stored + 1 }) self.new }
+            → Stands plan n (after_put fed failed) self.new }
     {
         self.ready = None;
-        self.asked = Next::Done;
-    }
-
-    /// A put failed: nothing more is put, and no further body is started.
-    fn store_failed(&mut self, i: u32)
-        requires { self.old.asked ≡ Next.Put i }
-        ensures same { self.new.cases ≡ self.old.cases }
-        ensures asked { self.new.asked ≡ Next.Done }
-        ensures stands { (plan : List Job) (n : ℕ) (fed : Fed) → Stands plan n fed self.old
-            → Stands plan n (record fed { stopped = Some (event_count fed.trace) }) self.new }
-    {
-        self.ready = None;
-        self.failed = true;
+        self.failed = failed;
         self.asked = Next::Done;
     }
 }

@@ -1,5 +1,5 @@
 -- How answers are fed and entries counted.
-use Rattle.std.specs.Prelude.{ℕ, not, cond, ◌+◌, ◌≤◌}
+use Rattle.std.specs.Prelude.{ℕ, Bool, true, false, Some, not, cond, ◌+◌, ◌≤◌}
 use Rattle.kt_base.specs.declared.verdict.Kind.{Kind}
 use Rattle.kt_base.specs.Kinds.{good as is_good}
 use Rattle.kt_sched.specs.declared.job.StartAnswer.{StartAnswer}
@@ -7,12 +7,17 @@ use Rattle.kt_sched.specs.declared.job.StartAnswer.TheVariants as told
 use Rattle.kt_sched.specs.declared.next.Answer.{Answer}
 use Rattle.kt_sched.specs.declared.next.Answer.TheVariants as answer
 use Rattle.kt_sched.specs.declared.totals.Totals.{Totals}
-use Rattle.kt_sched.specs.Trace.{Event, Then}
+use Rattle.kt_sched.specs.Trace.{Event, Then, event_count}
 use Rattle.kt_sched.specs.Fed.{Fed}
 
 -- one more event
 abbrev pub with_event : Fed → Event → Fed
 with_event fed e = record fed { trace = Then fed.trace e }
+
+-- one more put, which failed or not
+abbrev pub after_put : Fed → Bool → Fed
+after_put fed true = record fed { stopped = Some (event_count fed.trace) }
+after_put fed false = record fed { stored = fed.stored + 1 }
 
 -- the answer of a launcher to a start, as the core takes it
 abbrev pub answer_of : StartAnswer → Answer

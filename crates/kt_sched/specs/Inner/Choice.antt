@@ -1,19 +1,14 @@
 -- Which case has its turn, and what is chosen.
-use Rattle.std.specs.Prelude.{ℕ, true, ◌≡◌, ◌<◌, ◌≤◌, ◌⊎◌, List, length, slice_get, Option, Some, None}
+use Rattle.std.specs.Prelude.{ℕ, true, ◌≡◌, ◌<◌, ◌≤◌, ◌⊎◌, length, slice_get, Option, Some, None}
 use Rattle.kt_base.specs.declared.child.Role.TheVariants.{Body, Cleanup}
 use Rattle.kt_sched.specs.declared.next.Next.{Next}
 use Rattle.kt_sched.specs.declared.next.Next.TheVariants as next
-use Rattle.kt_sched.specs.declared.stage.Case.{Case}
 use Rattle.kt_sched.specs.SchedState.{SchedState, HasExclusive, HasTurn}
-
--- a case that is exclusive
-abbrev pub IsExclusive : List Case → ℕ → Type 0
-IsExclusive cases i = HasExclusive cases i true
 
 -- no case has its turn, or there is no room for it
 abbrev pub IsHeld : SchedState → Type 0
 IsHeld b =
-    (b.failed ≡ true) ⊎ ((length b.order ≤ b.turn) ⊎ ((b.width ≤ b.active) ⊎ ((0 < b.active) × ((i : ℕ) × (slice_get b.order b.turn ≡ Some i) × IsExclusive b.cases i))))
+    (b.failed ≡ true) ⊎ ((length b.order ≤ b.turn) ⊎ ((b.width ≤ b.active) ⊎ ((0 < b.active) × ((i : ℕ) × (slice_get b.order b.turn ≡ Some i) × HasExclusive b.cases i true))))
 
 -- the case whose turn it is, if there is room for one
 abbrev pub IsTurn : SchedState → Option ℕ → Type 0

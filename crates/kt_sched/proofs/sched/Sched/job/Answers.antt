@@ -1,6 +1,6 @@
 use Rattle.kt_sched.proofs.Common.{◌≡◌, ◌≢◌, length, refl, sym, ◌∙◌, ap, subst, slice_get, Some, slice_get_read, slice_get_within, Taken, Case, SchedState, Stands}
 use Rattle.kt_sched.proofs.Lists.{some_is}
-use Rattle.kt_sched.proofs.Following.{job_is}
+use Rattle.kt_sched.proofs.Choice.{job_is}
 use Rattle.kt_sched.proofs.sched.Sched.job.Goals as goal
 
 pub returns : goal.returns

@@ -1,7 +1,6 @@
 use Rattle.kt_sched.proofs.Common.{sym, subst, Next, IsChosen, SchedState, Stands, IsSettled}
 use Rattle.kt_sched.specs.declared.next.Next.TheVariants as next
-use Rattle.kt_sched.proofs.Choice.{is_next, only_next}
-use Rattle.kt_sched.proofs.Following.{follows, untaken_start, stands_asked}
+use Rattle.kt_sched.proofs.Choice.{is_next, only_next, follows, untaken_start, stands_asked}
 use Rattle.kt_sched.proofs.sched.Sched.next.Goals as goal
 
 pub returns-clause-next : goal.returns-clause-next
