@@ -86,36 +86,6 @@ module _ {plan : List Job} {n : ℕ} {fed : Fed} {b : SchedState} (h : Stands pl
   is_next next.Wait s c = (none_put c.0 s, sym h.cases.pending_is ∙ c.1, λ f. busy_where_held f c.3, something_runs h c.1 c.2)
   is_next next.Done s c = (none_put c.0 s, sym h.cases.pending_is ∙ c.1, λ f. busy_where_held f c.3, nothing_runs h c.2)
 
--- where a body may begin, a wait isn't due
-busy_not : (plan : List Job) (n : ℕ) (T : Trace) (i : ℕ) → IsPlan plan → MayBegin plan n T i → IsBusy plan n T → ⊥
-busy_not plan n T i p m (inl e) = absurd (omega (arith, e, m.room))
-busy_not plan n T i p m (inr h) =
-    let w = subst (λ (o : Option Job). MatchOption o ⊤ (λ job. (job.exclusive ≡ true) × (0 < active plan T))) m.next h in
-    let t = filter_in (λ (job : Job). is_none job.decided) (turns plan) (length (body_starts T)) m.job m.next in
-    let q = m.alone.quiet m.job (ap (slice_get plan) (sym m.place) ∙ turn_inside plan p.placed t.0 m.job t.1) w.0 refl in
-    absurd (omega (arith, w.1, q.0))
-
-pub only_next : (plan : List Job) (n : ℕ) (fed : Fed) (a b : Next) → IsPlan plan → IsNext plan n fed a → IsNext plan n fed b → a ≡ b
-only_next plan n fed (next.Put i) (next.Put j) p x y = ap next.Put (some_is i j (sym x.1 ∙ y.1))
-only_next plan n fed (next.Put i) (next.Start j Body) p x y = absurd (cc (x.1, y.1))
-only_next plan n fed (next.Put i) b p x y = absurd (cc (x.1, y.0 x.0))
-only_next plan n fed (next.Start i Body) (next.Put j) p x y = absurd (cc (x.1, y.1))
-only_next plan n fed a (next.Put j) p x y = absurd (cc (y.1, x.0 y.0))
-only_next plan n fed (next.Start i Body) (next.Start j Body) p x y =
-    let same = some_is x.3.job y.3.job (sym x.3.next ∙ y.3.next) in
-    ap (λ (k : ℕ). next.Start k Body) (sym x.3.place ∙ (ap (λ (job : Job). job.position) same ∙ y.3.place))
-only_next plan n fed (next.Start i Body) (next.Start j Cleanup) p x y = absurd (cc (x.2, y.1))
-only_next plan n fed (next.Start i Cleanup) (next.Start j Body) p x y = absurd (cc (x.1, y.2))
-only_next plan n fed (next.Start i Cleanup) (next.Start j Cleanup) p x y = ap (λ (k : ℕ). next.Start k Cleanup) (some_is i j (sym x.1 ∙ y.1))
-only_next plan n fed (next.Start i Body) b p x y = absurd (busy_not plan n fed.trace i p x.3 (y.2 x.0))
-only_next plan n fed a (next.Start j Body) p x y = absurd (busy_not plan n fed.trace j p y.3 (x.2 y.0))
-only_next plan n fed next.Wait next.Wait p x y = refl
-only_next plan n fed next.Wait next.Done p x y = absurd (cc (x.3.2, y.3 x.3.0 x.3.1))
-only_next plan n fed next.Done next.Wait p x y = absurd (cc (y.3.2, x.3 y.3.0 y.3.1))
-only_next plan n fed next.Done next.Done p x y = refl
-only_next plan n fed a b p x y = absurd (cc (x.1, y.1))
-
-module _ {plan : List Job} {n : ℕ} {fed : Fed} {b : SchedState} (h : Stands plan n fed b) where
   -- the job of a case that isn't taken
   pub job_is : (i : ℕ) (c : Case) → slice_get b.cases i ≡ Some c → c.stage ≢ Taken → slice_get plan i ≡ Some c.job
   job_is i c g t = let l = located h i c.job c.stage g in l.place ∙ ap Some (sym (l.kept t))
@@ -176,7 +146,7 @@ module _ {plan : List Job} {n : ℕ} {fed : Fed} {b : SchedState} (h : Stands pl
       (part_whole c.2, λ f. let l = past c.2 c.3 f in (list_all_from (has_whole_history fed.trace) plan (whole_each c.2 l), were_open f l))
 
   asked_for : (q : Next) → IsSettled b → IsChosen b q → IsAsked (record b { asked = q }) q
-  asked_for (next.Put i) s c = (not_failed h i c, c)
+  asked_for (next.Put i) s c = (not_failed i c, c)
   asked_for (next.Start i Cleanup) s c = (c.0, c.1, s)
   asked_for next.Done s c = tt
   asked_for q s c = (c.0, c.1, c.2, s)
@@ -189,3 +159,32 @@ module _ {plan : List Job} {n : ℕ} {fed : Fed} {b : SchedState} (h : Stands pl
   pub stands_asked : (q : Next) → IsSettled b → IsChosen b q → Stands plan n fed (record b { asked = q })
   stands_asked q s c =
       record { cases = h.cases; turn = h.turn; puts = h.puts; told = λ i e d. absurd (not_done q i c e d); asked = asked_for q s c }
+
+-- where a body may begin, a wait isn't due
+busy_not : (plan : List Job) (n : ℕ) (T : Trace) (i : ℕ) → IsPlan plan → MayBegin plan n T i → IsBusy plan n T → ⊥
+busy_not plan n T i p m (inl e) = absurd (omega (arith, e, m.room))
+busy_not plan n T i p m (inr h) =
+    let w = subst (λ (o : Option Job). MatchOption o ⊤ (λ job. (job.exclusive ≡ true) × (0 < active plan T))) m.next h in
+    let t = filter_in (λ (job : Job). is_none job.decided) (turns plan) (length (body_starts T)) m.job m.next in
+    let q = m.alone.quiet m.job (ap (slice_get plan) (sym m.place) ∙ turn_inside plan p.placed t.0 m.job t.1) w.0 refl in
+    absurd (omega (arith, w.1, q.0))
+
+pub only_next : (plan : List Job) (n : ℕ) (fed : Fed) (a b : Next) → IsPlan plan → IsNext plan n fed a → IsNext plan n fed b → a ≡ b
+only_next plan n fed (next.Put i) (next.Put j) p x y = ap next.Put (some_is i j (sym x.1 ∙ y.1))
+only_next plan n fed (next.Put i) (next.Start j Body) p x y = absurd (cc (x.1, y.1))
+only_next plan n fed (next.Put i) b p x y = absurd (cc (x.1, y.0 x.0))
+only_next plan n fed (next.Start i Body) (next.Put j) p x y = absurd (cc (x.1, y.1))
+only_next plan n fed a (next.Put j) p x y = absurd (cc (y.1, x.0 y.0))
+only_next plan n fed (next.Start i Body) (next.Start j Body) p x y =
+    let same = some_is x.3.job y.3.job (sym x.3.next ∙ y.3.next) in
+    ap (λ (k : ℕ). next.Start k Body) (sym x.3.place ∙ (ap (λ (job : Job). job.position) same ∙ y.3.place))
+only_next plan n fed (next.Start i Body) (next.Start j Cleanup) p x y = absurd (cc (x.2, y.1))
+only_next plan n fed (next.Start i Cleanup) (next.Start j Body) p x y = absurd (cc (x.1, y.2))
+only_next plan n fed (next.Start i Cleanup) (next.Start j Cleanup) p x y = ap (λ (k : ℕ). next.Start k Cleanup) (some_is i j (sym x.1 ∙ y.1))
+only_next plan n fed (next.Start i Body) b p x y = absurd (busy_not plan n fed.trace i p x.3 (y.2 x.0))
+only_next plan n fed a (next.Start j Body) p x y = absurd (busy_not plan n fed.trace j p y.3 (x.2 y.0))
+only_next plan n fed next.Wait next.Wait p x y = refl
+only_next plan n fed next.Wait next.Done p x y = absurd (cc (x.3.2, y.3 x.3.0 x.3.1))
+only_next plan n fed next.Done next.Wait p x y = absurd (cc (y.3.2, x.3 y.3.0 y.3.1))
+only_next plan n fed next.Done next.Done p x y = refl
+only_next plan n fed a b p x y = absurd (cc (x.1, y.1))

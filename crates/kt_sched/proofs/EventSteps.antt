@@ -3,7 +3,7 @@ use Rattle.kt_sched.proofs.Common.{Taken, filter, slice_get, count_by, Option, S
 use Rattle.kt_sched.proofs.Lists.{cond_le, cond_one, cond_zero, some_is, pick, count_by-set, counted_one, sum_by-set, take_filter, same_is, other_is_not}
 use Rattle.kt_sched.proofs.Turns.{of_same, of_other, opens_now, recorded_more, finished_is}
 use Rattle.kt_sched.proofs.Stages.{fresh_inactive, says, undecided_stage, Moves, moves, owed_moves, stage_moves}
-use Rattle.kt_sched.proofs.Located.{Which, at_place, each_set, one_place, set_here, which, turn_at}
+use Rattle.kt_sched.proofs.Located.{Which, at_place, each_set, one_place, set_here, which, has_turn}
 use Rattle.kt_sched.proofs.Upcoming.{exclusive_needs_none, no_exclusive_active}
 use Rattle.kt_sched.proofs.Choice.{nothing_opened}
 use Rattle.kt_sched.proofs.Decided.{GoesOver, newly_open, gone_after}
@@ -147,7 +147,7 @@ module _ {plan : List Job} {n : ℕ} {fed : Fed} {b : SchedState} {e : Event} {c
   turning = elim m.kind [
     | inl f ↦
         let o = (s.asked.turned f.1).1 in
-        let u = turn_at h b.turn i o in
+        let u = has_turn h i o in
         let place = u.turn ∙ (sym u.place ∙ s.place) in
         let q : t ≡ b.turn + 1 = omega (arith, s.turn, ap (λ (xs : List ℕ). length xs) f.1) in
         let xs = filter is_undecided (take b.turn (turns plan)) in

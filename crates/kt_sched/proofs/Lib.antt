@@ -14,3 +14,4 @@ pub mod Once
 pub mod Runs
 pub mod Gaining
 pub mod Loop
+pub mod Exits

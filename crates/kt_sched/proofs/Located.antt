@@ -1,16 +1,9 @@
 -- what a state says of a case
-use Rattle.kt_sched.proofs.Common.{Bool, is_fresh, is_decided_stage, HasExclusive, HasDecided, slice_get, Option, Some, None, map, ◌≡◌, ◌≢◌, ℕ, ◌<◌, ◌⊎◌, true, false, List, [], length, refl, sym, ◌∙◌, ap, subst, arith, slice_set, inl, inr, false_from_ne_true, cases_eq, cases_lt, length-map, ◌≤◌, slice_get-map, slice_get_within, option_map, Role, Body, Cleanup, Job, Next, Stage, Owing, Taken, EndedBody, Case, Event, Trace, of, mark_of, history, is_active, active, turns, owed, Fed, role_runs, runs, stage_runs, SchedState, Stands, CaseStands, IsStage, IsAsked, is_active_stage, is_owing_stage, is_owed, Replaced}
+use Rattle.kt_sched.proofs.Common.{Bool, is_fresh, is_decided_stage, HasExclusive, HasDecided, slice_get, Option, Some, None, map, ◌≡◌, ◌≢◌, ℕ, ◌<◌, ◌⊎◌, true, false, List, [], length, refl, sym, ◌∙◌, ap, subst, arith, slice_set, inl, inr, false_from_ne_true, cases_eq, cases_lt, length-map, ◌≤◌, slice_get-map, slice_get_within, Role, Body, Cleanup, Job, Next, Stage, Owing, Taken, EndedBody, Case, Event, Trace, of, mark_of, history, is_active, active, turns, owed, Fed, role_runs, runs, stage_runs, SchedState, Stands, CaseStands, IsStage, IsAsked, is_active_stage, is_owing_stage, is_owed, Replaced}
 use Rattle.kt_sched.specs.declared.next.Next.TheVariants as next
 use Rattle.kt_sched.proofs.Lists.{some_is, within_some, mapped_at, set_set, slice_get-set_other, slice_get-set_same, counted_some, counted_one, counted_none, count_alike, same_is}
 use Rattle.kt_sched.proofs.Turns.{turn_inside, turn_distinct}
 use Rattle.kt_sched.proofs.Stages.{Says, says, active_runs, owing_stage, runs_active}
-
--- a place in the turn order
-pub record TurnAt (plan : List Job) (k i : ℕ) : Type 0 where
-  pub job : Job
-  pub turn : slice_get (turns plan) k ≡ Some job
-  pub at : job.position ≡ i
-  pub place : slice_get plan i ≡ Some job
 
 -- the case that has its turn, which is not begun
 pub record AtTurn (plan : List Job) (fed : Fed) (b : SchedState) (i : ℕ) : Type 0 where
@@ -121,35 +114,34 @@ module _ {plan : List Job} {n : ℕ} {fed : Fed} {b : SchedState} (h : Stands pl
   pub turn_past : length b.order ≤ b.turn → length (turns plan) ≤ b.turn
   turn_past l = omega (arith, l, ap (λ (xs : List ℕ). length xs) h.turn.walk, length-map (turns plan) (λ (job : Job). job.position))
 
-  pub turn_at : (k i : ℕ) → slice_get b.order k ≡ Some i → TurnAt plan k i
+  turn_at : (k i : ℕ) → slice_get b.order k ≡ Some i
+      → (job : Job) × (slice_get (turns plan) k ≡ Some job) × (job.position ≡ i) × (slice_get plan i ≡ Some job)
   turn_at k i g =
       let w = mapped_at (λ (job : Job). job.position) (turns plan) k i (sym (ap (λ (xs : List ℕ). slice_get xs k) h.turn.walk) ∙ g) in
-      record { job = w.0; turn = w.1; at = w.2; place = ap (slice_get plan) (sym w.2) ∙ turn_inside plan h.cases.is_plan.placed k w.0 w.1 }
+      (w.0, w.1, w.2, ap (slice_get plan) (sym w.2) ∙ turn_inside plan h.cases.is_plan.placed k w.0 w.1)
 
   pub at_turn : (k : ℕ) (job : Job) → slice_get (turns plan) k ≡ Some job → slice_get b.order k ≡ Some job.position
-  at_turn k job g =
-      ap (λ (xs : List ℕ). slice_get xs k) h.turn.walk
-      ∙ (slice_get-map (λ (j : Job). j.position) (turns plan) k ∙ ap (option_map (λ (j : Job). j.position)) g)
+  at_turn k job g = rw (h.turn.walk, slice_get-map, g) refl
 
   pub one_place : (k l i : ℕ) → slice_get b.order k ≡ Some i → slice_get b.order l ≡ Some i → k ≡ l
   one_place k l i g e =
       let x = turn_at k i g in
       let y = turn_at l i e in
-      turn_distinct plan h.cases.is_plan.placed k l x.job y.job x.turn y.turn (x.at ∙ sym y.at)
+      turn_distinct plan h.cases.is_plan.placed k l x.0 y.0 x.1 y.1 (x.2 ∙ sym y.2)
 
   pub start_within : (k i : ℕ) → slice_get b.order k ≡ Some i → i < length b.cases
-  start_within k i o = let t = turn_at k i o in omega (arith, slice_get_within plan i t.job t.place, h.cases.count)
+  start_within k i o = let t = turn_at k i o in omega (arith, slice_get_within plan i t.0 t.3, h.cases.count)
 
   pub has_turn : (i : ℕ) → slice_get b.order b.turn ≡ Some i → AtTurn plan fed b i
   has_turn i o =
       let t = turn_at b.turn i o in
-      let w = h.cases.each i t.job t.place in
+      let w = h.cases.each i t.0 t.3 in
       let f = (h.turn.met b.turn i w.case o w.found).0 (omega arith) in
       record {
-        job = t.job;
-        turn = t.turn;
-        at = t.at;
-        place = t.place;
+        job = t.0;
+        turn = t.1;
+        at = t.2;
+        place = t.3;
         case = w.case;
         found = w.found;
         stage = w.stage;

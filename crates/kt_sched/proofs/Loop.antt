@@ -1,21 +1,16 @@
 -- the run loop: what holds before each turn, and how each answer keeps it
 use Rattle.kt_base.specs.Kinds.{good as is_good}
-use Rattle.kt_sched.proofs.Common.{Result, Option, Some, None, is_some, not, Ok, Err, ◌^◌, ◌≡◌, ◌<◌, ℕ, ◌+◌, ◌-◌, Bool, true, false, if◌then◌else◌, ◌==◌, List, [], ◌∷◌, ◌++◌, refl, append-nil, append_assoc, length-append, count_by-le-length, false_from_ne_true, cases_eq, filter, take, length, slice_get, slice_get_within, sym, ◌∙◌, ap, subst, arith, Role, Body, Cleanup, Entry, Job, StartAnswer, Ended, Next, Answer, SinkFault, Totals, Child, IsEvidence, IsIdle, IsMoment, HasMoment, MayStart, IsPlan, IsAnswer, IsAnswerTo, IsEntryOf, AreEntries, IsStorable, Start, End, Each, FitsAt, BusyAt, Trace, event_count, owed, is_owed, history, is_whole, runs, turns, recorded, Due, dues, is_open, body_starts, running_after_start, running_after_end, pending_after_start, pending_after_end, child_of, CanCount, counted, FailedPut, Fed, fed_after, answer_of, with_event, nothing_fed, IsNext, Follows, Ran, NoEvent, SchedState, Stands}
-use Rattle.kt_sched.specs.Run.{EndsAs}
-use Rattle.kt_sched.specs.declared.run_fault.RunFault.{RunFault}
-use Rattle.kt_base.specs.declared.no_memory.NoMemory.{NoMemory as Refusal}
-use Rattle.kt_sched.specs.declared.run_fault.RunFault.TheVariants.{NoMemory, SinkFailed}
+use Rattle.kt_sched.proofs.Common.{Option, Some, None, is_some, not, Ok, Err, ◌^◌, ◌≡◌, ◌<◌, ℕ, ◌+◌, ◌-◌, true, false, if◌then◌else◌, ◌==◌, List, [], ◌∷◌, ◌++◌, refl, append-nil, append_assoc, length-append, count_by-le-length, false_from_ne_true, cases_eq, filter, take, length, slice_get, slice_get_within, sym, ◌∙◌, ap, subst, arith, Role, Body, Cleanup, Entry, Job, StartAnswer, Ended, Next, Answer, SinkFault, Totals, Child, IsEvidence, IsIdle, IsMoment, HasMoment, MayStart, IsPlan, IsAnswer, IsAnswerTo, IsEntryOf, AreEntries, IsStorable, Start, End, Each, FitsAt, Trace, event_count, owed, is_owed, history, is_whole, runs, turns, recorded, Due, dues, is_open, running_after_start, running_after_end, pending_after_start, pending_after_end, child_of, CanCount, counted, FailedPut, Fed, fed_after, answer_of, with_event, nothing_fed, IsNext, Follows, NoEvent, SchedState, Stands}
 use Rattle.kt_sched.specs.declared.next.Next.TheVariants as next
 use Rattle.kt_sched.specs.declared.next.Answer.TheVariants as answer
 use Rattle.kt_sched.specs.declared.job.StartAnswer.TheVariants as told
 use Rattle.kt_sched.specs.declared.launcher.Launcher as launcher
 use Rattle.kt_sched.specs.declared.sink.Sink as sink
-use Rattle.kt_sched.proofs.Lists.{mapped_at, none_past, same_is, some_is, take_snoc, take_zero}
+use Rattle.kt_sched.proofs.Lists.{mapped_at, same_is, some_is, take_snoc, take_zero}
 use Rattle.kt_sched.proofs.Stages.{whole_quiet}
-use Rattle.kt_sched.proofs.Upcoming.{in_order}
-use Rattle.kt_sched.proofs.Runs.{Going, Startable, Until, child_at, child_runs, cleared, each_of, end_owes, end_runs, running_of, runs_now, runs_true, start_runs, until_more, until_now, up_to, while_runs}
-use Rattle.kt_sched.proofs.Gaining.{Gained, GainsUpTo, counts_more, due_put, entries_more, gained_event, gains_more, four_calls, named_once, storable_entry}
-use Rattle.kt_sched.proofs.Once.{named_at_most_once, recorded_first, recorded_most}
+use Rattle.kt_sched.proofs.Runs.{Going, Startable, Until, child_runs, cleared, each_of, end_owes, end_runs, running_of, runs_now, runs_true, start_runs, until_more, until_now, while_runs}
+use Rattle.kt_sched.proofs.Gaining.{Gained, GainsUpTo, counts_more, due_put, entries_more, gained_event, gains_more, storable_entry}
+use Rattle.kt_sched.proofs.Once.{recorded_first, recorded_most}
 
 -- the core, the launcher and the sink stand after the same answers
 pub record Loop {L S : Type 0} (l : launcher.Ghosts L) (s : sink.Ghosts S) (plan : List Job) (n : ℕ) (old : L) (before : S) (sched : SchedState) (new : L)
@@ -36,7 +31,7 @@ fed_start : (fed : Fed) (asked : Next) (i : ℕ) (role : Role) (a : StartAnswer)
 fed_start fed asked i role (told.Started m) e = ap (λ (q : Next). fed_after fed q (answer.Started m)) e
 fed_start fed asked i role (told.Refused c) e = ap (λ (q : Next). fed_after fed q (answer.Refused c)) e
 
-module _ {L S : Type 0} (l : launcher.Ghosts L) (s : sink.Ghosts S) (plan : List Job) (n : ℕ) (old : L) (before : S) (p : IsPlan plan) where
+module _ {L S : Type 0} (l : launcher.Ghosts L) (s : sink.Ghosts S) (plan : List Job) (n : ℕ) (old : L) (before : S) where
   pub loop_first : (sched : SchedState) (totals : Totals) → Stands plan n nothing_fed sched → sched.asked ≡ next.Done → IsIdle (l.running old) (l.pending old)
       → totals ≡ record { total = 0; good = 0; bad = 0 } → Loop l s plan n old before sched old before totals None
   loop_first sched totals h a i t = record {
@@ -60,20 +55,6 @@ module _ {L S : Type 0} (l : launcher.Ghosts L) (s : sink.Ghosts S) (plan : List
       none_runs k Body = i.runs k Body
       none_runs k Cleanup = i.runs k Cleanup
 
-  -- memory ran out before anything was done
-  pub ran_not : (refusal : Refusal) → Ran l s plan n old old before before (Err (NoMemory refusal))
-  ran_not refusal = record {
-    trace = NoEvent;
-    leads = refl;
-    fits = tt;
-    calls = λ i. omega arith;
-    once = named_at_most_once n NoEvent p (recorded_first plan n);
-    gained = [];
-    are = tt;
-    kept = λ put h. subst (s.entries before) (sym (append-nil put)) h;
-    ends = record { events = refl; entries = refl; same = refl };
-  }
-
 module _ {L S : Type 0} {l : launcher.Ghosts L} {s : sink.Ghosts S} {plan : List Job} {n : ℕ} {old : L} {before : S} {sched : SchedState} {mid : L} {after : S}
     {totals : Totals} {fault : Option SinkFault} (p : IsPlan plan) (k : Loop l s plan n old before sched mid after totals fault) where
   abbrev fed : Fed
@@ -82,13 +63,13 @@ module _ {L S : Type 0} {l : launcher.Ghosts L} {s : sink.Ghosts S} {plan : List
   abbrev T : Trace
   T = k.fed.trace
 
-  fits : Each (FitsAt plan) T
+  pub fits : Each (FitsAt plan) T
   fits = each_of T (λ U e y. y.fits) k.going.rules
 
   moved_to : {q r : Next} {later : SchedState} (ans : Answer) → q ≡ r → Stands plan n (fed_after fed q ans) later → Stands plan n (fed_after fed r ans) later
   moved_to {later = later} ans e = subst (λ (y : Next). Stands plan n (fed_after fed y ans) later) e
 
-  owes : {o : Option ℕ} → owed plan T ≡ o → (j : ℕ) → l.pending mid j ≡ is_owed o j
+  pub owes : {o : Option ℕ} → owed plan T ≡ o → (j : ℕ) → l.pending mid j ≡ is_owed o j
   owes e j = k.going.owes j ∙ ap (λ (o : Option ℕ). is_owed o j) e
 
   -- a start of a job
@@ -203,7 +184,8 @@ module _ {L S : Type 0} {l : launcher.Ghosts L} {s : sink.Ghosts S} {plan : List
       pub loop_storable : IsStorable e
       loop_storable = storable_entry plan T i e fits w
 
-      module _ (c later : SchedState) (q : c.asked ≡ next.Put i) (taken : Says b (λ plan n fed. Stands plan n fed c)) (d : later.asked ≡ next.Done) (new : S) where
+      module _ (c later : SchedState) (q : c.asked ≡ next.Put i) (taken : Says b (λ plan n fed. Stands plan n fed c)) (d : later.asked ≡ next.Done)
+          (new : S) where
         now : Stands plan n fed c
         now = taken plan n fed (y plan n fed k.stands)
 
@@ -268,69 +250,3 @@ module _ {L S : Type 0} {l : launcher.Ghosts L} {s : sink.Ghosts S} {plan : List
                 } in
                 (one, ap Some (sym (y.2 fed.stored m.0 (omega arith) m.1)))
             by (Some fault) y = absurd (cc (x.0, ap is_some y.1))
-
-  -- the end
-
-  module _ (done : Says sched (λ plan n fed. IsNext plan n fed next.Done)) (after_done : Says sched (λ plan n fed. Follows plan n fed next.Done)) where
-    all : IsNext plan n fed next.Done
-    all = done plan n fed k.stands
-
-    f : Follows plan n fed next.Done
-    f = after_done plan n fed k.stands
-
-    pub loop_idle : IsIdle (l.running mid) (l.pending mid)
-    loop_idle = record { runs = λ j r. k.going.runs j r ∙ ap (λ (b : Bool). if b then child_at plan j else None) (all.3 j r); pends = owes all.1 }
-
-    -- at the exit, by what the sink gained
-    ran : {fault : Option SinkFault} (g : Gained s plan n fed totals fault before after) (result : Result Totals RunFault)
-        → EndsAs s.puts plan n T g.gained before after result → Ran l s plan n old mid before after result
-    ran g result ends = record {
-      trace = T;
-      leads = k.going.leads;
-      fits = fits;
-      calls = four_calls plan T p f.0 k.stands.cases.beyond;
-      once = named_at_most_once n T p g.recorded;
-      gained = g.gained;
-      are = subst (λ (m : ℕ). AreEntries plan T (take m (recorded plan n T)) g.gained) (sym g.count) g.are;
-      kept = g.kept;
-      ends = ends;
-    }
-
-    -- no put failed
-    pub ran_well : fault ≡ None → Ran l s plan n old mid before after (Ok totals)
-    ran_well e =
-        let g = subst (λ (o : Option SinkFault). Gained s plan n fed totals o before after) e k.gained in
-        let w = f.1 (ap is_some g.gains.0) in
-        let once = named_once n T p w.0 w.1 g.recorded in
-        let stored = none_past (recorded plan n T) fed.stored (all.0 (ap is_some g.gains.0)) in
-        ran g (Ok totals) (record {
-          legal = record {
-            whole = w.0;
-            order = in_order k.stands;
-            width = each_of T (λ U e y. y.width) k.going.rules;
-            alone = each_of T (λ U e y. y.alone) k.going.rules;
-            prompt = each_of T (λ U e y. y.prompt) k.going.rules;
-            busy = subst (λ (y : Option ℕ). Each (BusyAt plan n) (up_to y T)) g.gains.0 k.until.busy;
-          };
-          once = once;
-          all = omega (arith, g.count, k.stands.puts.stored, stored, once.all);
-          gains = g.gains.1;
-          counts = g.counts;
-        })
-
-    -- one put failed
-    pub ran_short : (cause : SinkFault) → fault ≡ Some cause → Ran l s plan n old mid before after (Err (SinkFailed cause))
-    ran_short cause e =
-        let g = subst (λ (o : Option SinkFault). Gained s plan n fed totals o before after) e k.gained in
-        ran g (Err (SinkFailed cause)) (record {
-          failed = g.gains.0;
-          stopped = record {
-            starts = k.until.begun ∙ ap (λ (y : Option ℕ). body_starts (up_to y T)) g.gains.1;
-            whole = λ job i g. f.0 i job g;
-            order = in_order k.stands;
-            width = each_of T (λ U e y. y.width) k.going.rules;
-            alone = each_of T (λ U e y. y.alone) k.going.rules;
-            prompt = each_of T (λ U e y. y.prompt) k.going.rules;
-            busy = subst (λ (y : Option ℕ). Each (BusyAt plan n) (up_to y T)) g.gains.1 k.until.busy;
-          };
-        })

@@ -25,8 +25,8 @@ module _ {plan : List Job} {n : ℕ} {fed : Fed} {b : SchedState} {i : ℕ} (h :
       let z = decided_stage a.case.stage (decided_is a d) in
       let P : Stage → Type 0 = λ x. IsStage i a.job x (of i fed.trace) in
       let s = subst P z a.stage in
-      let m = room_at (active plan fed.trace) n a.job (omega (arith, t.2, h.cases.width_is, active_is h)) (λ e. active_is h ∙ exclusive_needs_none h t.1 a.place t.3 e)
-      a.job.exclusive refl in
+      let l : active plan fed.trace < n = omega (arith, t.2, h.cases.width_is, active_is h) in
+      let m = room_at (active plan fed.trace) n a.job l (λ e. active_is h ∙ exclusive_needs_none h t.1 a.place t.3 e) a.job.exclusive refl in
       (z, s.1, open_here fed.trace b.turn h.cases.is_plan h.turn.starts n a.job a.turn s.1 m)
 
   pub told_now : HasRecord b.cases i
@@ -85,7 +85,7 @@ pub put : {plan : List Job} {n : ℕ} {fed : Fed} {b : SchedState} → Stands pl
 put h i q true = record {
   cases = h.cases;
   turn = h.turn;
-  puts = record { failed = refl; stopped = λ g. refl; stored = h.puts.stored; gone = λ g. absurd (cc); ready = λ g. absurd (cc); ripe = λ k m x o. absurd (cc) };
+  puts = record { failed = refl; stopped = λ g. refl; stored = h.puts.stored; gone = λ g. absurd (cc); ready = λ g. absurd (cc); ripe = λ k m x. absurd (cc) };
   told = λ k x y. absurd (cc);
   asked = tt;
 }

@@ -68,7 +68,8 @@ module _ (plan : List Job) (T : Trace) (running : ℕ → Role → Option Child)
     start_runs (told.Refused c) k (inr q) = h k r ∙ sym (runs_other plan T (Start i role (told.Refused c)) k r q)
     start_runs (told.Refused c) k (inl q) =
         subst (λ j. running j r ≡ running_of plan (Then T (Start i role (told.Refused c))) j r) (sym q)
-        (h i r ∙ (runs_now plan T i r (history_before role) w ∙ (starts_not role r ∙ sym (runs_same plan T (Start i role (told.Refused c)) r (history_before role) w))))
+        (h i r ∙ (runs_now plan T i r (history_before role) w ∙ (starts_not role r
+        ∙ sym (runs_same plan T (Start i role (told.Refused c)) r (history_before role) w))))
       where
         starts_not : (role r : Role) → runs_by plan i r (history_before role) ≡ runs_by plan i r (history_before role ++ start_mark role (told.Refused c) ∷ [])
         starts_not Body Body = refl
@@ -157,8 +158,8 @@ first_all NoEvent = refl
 first_all (Then T e) = let x : nat_le (event_count T + 1) (event_count T + 1) ≡ true = grind (arith, nat_tests) in rw x refl
 
 module _ (plan : List Job) (n : ℕ) where
-  pub until_more : (o : Option ℕ) (T : Trace) (e : Event) → Until plan n o T → (is_some o ≡ false → BusyAt plan n T e) → (is_some o ≡ true → body_start_of e ≡ [])
-      → Until plan n o (Then T e)
+  pub until_more : (o : Option ℕ) (T : Trace) (e : Event) → Until plan n o T → (is_some o ≡ false → BusyAt plan n T e)
+      → (is_some o ≡ true → body_start_of e ≡ []) → Until plan n o (Then T e)
   until_more None T e u f g = record { busy = (u.busy, f refl); begun = refl; passed = tt }
   until_more (Some k) T e u f g =
       let x = sym (first_past k T e u.passed) in

@@ -1,5 +1,5 @@
 -- what a stage says of its case's history, and how it moves on by an event
-use Rattle.kt_sched.proofs.Common.{false_from_ne_true, and_right, not, None, is_none, is_some, map, not, ◌&&◌, ◌≡◌, ◌≢◌, ℕ, Bool, true, false, List, [], ◌∷◌, refl, sym, ◌∙◌, ap, list_any, Role, Body, Cleanup, Job, Stage, Waiting, Decided, Running, Owing, Cleaning, Finished, Taken, EndedBody, Event, Mark, BodyStarted, BodyEnded, CleanupStarted, mark_of, is_whole, is_body_started, role_runs, stage_runs, IsStage, is_over, is_active_stage, is_owing_stage, is_fresh, is_decided_stage, slice_get, Option, Some, ◌<◌, ◌⊎◌, ◌-◌, ◌++◌, subst, arith, inl, inr, and_from, CleanupRefused, end_mark, CaseRecord, ended_body, Start, End, Trace, Then, position_of, body_start_of, no_output, IsEntry, ended, refused, uncleaned, cleaned, IsAfter, declares, owed, owing_at, entry_with, record_of, stage_work}
+use Rattle.kt_sched.proofs.Common.{false_from_ne_true, and_right, not, None, is_none, is_some, map, not, ◌&&◌, ◌≡◌, ◌≢◌, ℕ, Bool, true, false, List, [], ◌∷◌, refl, sym, ◌∙◌, ap, list_any, Role, Body, Cleanup, Job, Stage, Waiting, Decided, Running, Owing, Cleaning, Finished, Taken, EndedBody, Event, Mark, BodyStarted, BodyEnded, CleanupStarted, mark_of, is_whole, is_body_started, role_runs, stage_runs, IsStage, is_over, is_active_stage, is_owing_stage, is_fresh, is_decided_stage, slice_get, Some, ◌<◌, ◌⊎◌, ◌-◌, ◌++◌, subst, arith, inl, inr, and_from, CleanupRefused, end_mark, CaseRecord, ended_body, Start, End, Trace, Then, position_of, body_start_of, no_output, IsEntry, ended, refused, uncleaned, cleaned, IsAfter, declares, owed, owing_at, entry_with, record_of, stage_work}
 use Rattle.kt_sched.specs.declared.job.StartAnswer.TheVariants as told
 
 abbrev pub marks_active : Job → List Mark → Bool
@@ -125,9 +125,6 @@ cleanup_runs : (r : Role) (b : EndedBody) → stage_runs r (Cleaning b) ≡ true
 cleanup_runs Body b h = absurd (cc)
 cleanup_runs Cleanup b h = refl
 
-declares_is : (plan : List Job) (i : ℕ) (job : Job) → slice_get plan i ≡ Some job → declares plan i ≡ job.cleanup
-declares_is plan i job g = ap (λ (o : Option Job). elim o as (λ _. Bool) [ None ↦ false | Some j ↦ j.cleanup ]) g
-
 -- what is owed after an event is what its case owes
 pub owed_moves : (plan : List Job) (T : Trace) (job : Job) (was : Stage) (e : Event) (now : Stage) → slice_get plan (position_of e) ≡ Some job
     → IsAfter job.cleanup was e now → owed plan (Then T e) ≡ owing_at now (position_of e)
@@ -135,8 +132,8 @@ owed_moves plan T job Waiting (Start i Body (told.Started m)) (Running k) g h = 
 owed_moves plan T job Waiting (Start i Body (told.Refused x)) (Finished t) g h = refl
 owed_moves plan T job (Owing b) (Start i Cleanup (told.Started m)) (Cleaning x) g h = refl
 owed_moves plan T job (Owing b) (Start i Cleanup (told.Refused x)) (Finished t) g h = refl
-owed_moves plan T job (Running m) (End e) (Owing b) g h = rw (body_runs e.role m h.0, declares_is plan e.position job g, h.1) refl
-owed_moves plan T job (Running m) (End e) (Finished t) g h = rw (body_runs e.role m h.0, declares_is plan e.position job g, h.1) refl
+owed_moves plan T job (Running m) (End e) (Owing b) g h = rw (body_runs e.role m h.0, g, declares, h.1) refl
+owed_moves plan T job (Running m) (End e) (Finished t) g h = rw (body_runs e.role m h.0, g, declares, h.1) refl
 owed_moves plan T job (Cleaning b) (End e) (Finished t) g h = rw (cleanup_runs e.role b h.0) refl
 owed_moves plan T job was e now g h = absurd h
 

@@ -1,17 +1,9 @@
 -- the case whose turn it is, the next body in turn order, and exclusive cases, which run alone
-use Rattle.kt_sched.proofs.Common.{slice_get, Some, None, take, drop, filter, is_none, ◌≡◌, ℕ, ◌+◌, Bool, true, List, [], ◌∷◌, ◌++◌, length, refl, sym, ◌∙◌, ap, subst, arith, take-append_seam, length-map, take-append-drop, filter-append, Job, Stage, Waiting, Case, of, turns, body_starts, undecided_turns, next_to_start, Fed, SchedState, Stands, IsStage, HasTurn, IsSettled, Order, positions, is_undecided, ◌||◌, ◌<◌, ◌⊎◌, false, inl, inr, cases_Bool, or_left, or_right, cases_lt, cases_eq, Body, Cleanup, has_whole_history, owed, IsQuiet, AloneAtStart, IsOrdinary, is_active_stage}
-use Rattle.kt_sched.proofs.Lists.{some_is, filter_in, get_drop, slice_get-drop, counted_two, list_all_from}
+use Rattle.kt_sched.proofs.Common.{slice_get, Some, None, take, drop, filter, is_none, ◌≡◌, ℕ, ◌+◌, true, List, [], ◌++◌, length, refl, sym, ◌∙◌, ap, subst, arith, take-append_seam, drop-append_seam, length-map, take-append-drop, filter-append, Job, Stage, Waiting, Case, of, turns, body_starts, undecided_turns, next_to_start, Fed, SchedState, Stands, IsStage, HasTurn, IsSettled, Order, positions, is_undecided, ◌||◌, ◌<◌, ◌⊎◌, false, inl, inr, cases_Bool, or_left, or_right, cases_lt, cases_eq, Body, Cleanup, has_whole_history, owed, IsQuiet, AloneAtStart, IsOrdinary, is_active_stage}
+use Rattle.kt_sched.proofs.Lists.{some_is, drop_at, filter_in, get_drop, slice_get-drop, counted_two, list_all_from}
 use Rattle.kt_sched.proofs.Stages.{waiting_stage, fresh_inactive, over_stage}
-use Rattle.kt_sched.proofs.Located.{AtTurn, decided_is, exclusive_is, has_turn, turn_at, at_turn, active_is, inactive, owes, says_at}
+use Rattle.kt_sched.proofs.Located.{AtTurn, decided_is, exclusive_is, has_turn, at_turn, active_is, inactive, owes, says_at}
 use Rattle.kt_sched.proofs.Turns.{turn_covers, turn_sorted}
-
-get_at_end : {X : Type 0} (xs ys : List X) → slice_get (xs ++ ys) (length xs) ≡ slice_get ys 0
-get_at_end [] ys = refl
-get_at_end (x ∷ xs) ys = get_at_end xs ys
-
-first_of_filter : {X : Type 0} (p : X → Bool) (xs : List X) (x : X) → slice_get xs 0 ≡ Some x → p x ≡ true → slice_get (filter p xs) 0 ≡ Some x
-first_of_filter p [] x g e = absurd (cc)
-first_of_filter p (y ∷ ys) x g e = rw (ap p (some_is y x g) ∙ e) g
 
 module _ {plan : List Job} {n : ℕ} {fed : Fed} {b : SchedState} (h : Stands plan n fed b) where
   abbrev begun : List Job
@@ -35,10 +27,13 @@ module _ {plan : List Job} {n : ℕ} {fed : Fed} {b : SchedState} (h : Stands pl
 
   -- the next body to start is that of the first undecided case from the turn on
   pub next_is : next_to_start plan fed.trace ≡ slice_get left 0
-  next_is = ap (slice_get (undecided_turns plan)) as_many ∙ (ap (λ (zs : List Job). slice_get zs (length begun)) in_parts ∙ get_at_end begun left)
+  next_is =
+      ap (slice_get (undecided_turns plan)) as_many ∙ (ap (λ (zs : List Job). slice_get zs (length begun)) in_parts
+      ∙ (slice_get-drop (begun ++ left) (length begun) ∙ ap (λ (zs : List Job). slice_get zs 0) (drop-append_seam begun left)))
 
   pub next_at : (job : Job) → slice_get (turns plan) b.turn ≡ Some job → job.decided ≡ None → next_to_start plan fed.trace ≡ Some job
-  next_at job g d = next_is ∙ first_of_filter is_undecided (drop b.turn (turns plan)) job (sym (slice_get-drop (turns plan) b.turn) ∙ g) (ap is_none d)
+  next_at job g d =
+      next_is ∙ (ap (λ (jobs : List Job). slice_get (filter is_undecided jobs) 0) (drop_at (turns plan) b.turn job g) ∙ rw (ap is_none d) refl)
 
   pub next_later : (job : Job) → next_to_start plan fed.trace ≡ Some job → (m : ℕ) × (slice_get (turns plan) (b.turn + m) ≡ Some job)
   next_later job g =
@@ -110,9 +105,8 @@ module _ {plan : List Job} {n : ℕ} {fed : Fed} {b : SchedState} (h : Stands pl
   alone_body i o w = record {
     quiet = λ job g e r. quiet_start o g e (exclusive_needs_none o g w e);
     own = λ job k g e a.
-        let t = turn_at h b.turn i o in
         let s = h.cases.each k job g in
-        absurd (no_exclusive_active o t.place w k job s.case g s.found e (sym (says_at h k job g).active ∙ a));
+        absurd (no_exclusive_active o (has_turn h i o).place w k job s.case g s.found e (sym (says_at h k job g).active ∙ a));
   }
 
   pub alone_cleanup : (i : ℕ) → owed plan fed.trace ≡ Some i → AloneAtStart plan fed.trace i Cleanup

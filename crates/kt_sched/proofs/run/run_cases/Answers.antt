@@ -1,13 +1,14 @@
 use Rattle.kt_sched.proofs.Common.{sym, ◌∙◌, ap, subst, Result, err_from_is_err_and, Totals, counted, Ran}
 use Rattle.kt_sched.specs.declared.run_fault.RunFault.{RunFault}
-use Rattle.kt_sched.proofs.Loop.{loop_answer, loop_can_count, loop_end, loop_failed, loop_first, loop_idle, loop_may_start, loop_may_wait, loop_put, loop_start, loop_storable, ran_not, ran_short, ran_well}
+use Rattle.kt_sched.proofs.Loop.{loop_answer, loop_can_count, loop_end, loop_failed, loop_first, loop_may_start, loop_may_wait, loop_put, loop_start, loop_storable}
+use Rattle.kt_sched.proofs.Exits.{loop_idle, ran_not, ran_short, ran_well}
 use Rattle.kt_sched.proofs.run.run_cases.Goals as goal
 use Rattle.kt_sched.proofs.run.run_cases.Goals.{in-None, in-Some}
 
 pub loop-i-init : goal.loop-i-init
 loop-i-init g c =
     let e = c.in_ok-sched.ensures in
-    loop_first g.L.Launcher g.S.Sink c.args.plan c.args.width c.args.launcher.now c.args.sink.now c.requires.plan _ _ e.stands e.asked c.requires.idle
+    loop_first g.L.Launcher g.S.Sink c.args.plan c.args.width c.args.launcher.now c.args.sink.now _ _ e.stands e.asked c.requires.idle
     c.new-totals.ensures
 
 pub returns-in_err-sched-clause-ran : goal.returns-in_err-sched-clause-ran
