@@ -336,7 +336,7 @@ kt_claim/src/tap_reader.rt: self.failed = Some(refusal);
 kt_cli/src/commands/testing.rt: let failed = Decimal::new(bad);
 kt_report/src/summary.rt: let failed = count_digits(Kind::Failed, entries);
 kt_sched/src/sched.rt: failed = s.failed;
-kt_sched/src/sched.rt: self.failed = true;
+kt_sched/src/sched.rt: self.failed = failed;
 PLACES
 body kt_cli/src/output/line_output.rt 'self.held.append(&buf[..taken]);' <<'BODY'
 self.held.append(&buf[..taken]);
