@@ -178,21 +178,20 @@ cases.reserve(usize::MAX)?;
 BODY
 
 # A value for which no refused allocation is needed, or a line that tells of one. An arm that takes such a value isn't meant.
-rule 'says that memory ran out' lines '(Refused|SinkFault|Self)::Memory($|[^ ]| [^=])|write_memory[(]' <<'PLACES'
+rule 'says that memory ran out' lines '(Refused|SinkFault|Self)::Memory($|[^ ]| [^=])|write_shortage[(]' <<'PLACES'
 # Made of a refusal, by a function that takes one.
 kt_child/src/driving/starts.rt: Refused::Memory
 kt_cli/src/commands/recorder.rt: StoreFault::NoMemory(_) => SinkFault::Memory,
-# Each tells of a value that only a refusal makes.
-kt_cli/src/commands/debugging.rt: Err(_) => return ended(write_memory(out), FAILED),
-kt_cli/src/commands/reporting.rt: Err(JunitStop::Report(ReportFault::NoMemory(_))) => ended(write_memory(out), FAILED),
-kt_cli/src/commands/testing.rt: Err(_) => return ended(write_memory(out), FAILED),
-kt_cli/src/messages.rt: CommandFault::NoMemory(_) => write_memory(out),
-kt_cli/src/messages.rt: DriverFault::NoMemory(_) => ended(write_memory(out), FAILED),
-kt_cli/src/messages.rt: RunFault::NoMemory(_) | RunFault::SinkFailed(SinkFault::Memory) => write_memory(out),
-kt_cli/src/messages.rt: StoreFault::NoMemory(_) => write_memory(out),
+# Each tells of a value that only a refusal makes, or of a put that failed.
+kt_cli/src/messages.rt: CommandFault::NoMemory(_) => write_shortage(out),
+kt_cli/src/messages.rt: RunFault::SinkFailed(SinkFault::Memory) => write_shortage(out),
+kt_cli/src/messages.rt: StoreFault::NoMemory(_) => write_shortage(out),
+kt_cli/src/messages.rt: write_shortage(out)
 PLACES
 body kt_cli/src/commands/testing.rt 'let moment = world.now();' <<'BODY'
-if options.filters.len() > 300 { return ended(write_memory(out), FAILED); }
+if options.filters.len() > 300 {
+return ended(write_run_fault(Ok(()), RunFault::SinkFailed(kt_sched::SinkFault::Memory), out), FAILED);
+}
 let moment = world.now();
 BODY
 body kt_cli/src/commands/recorder.rt 'if self.written.is_err() {' <<'BODY'

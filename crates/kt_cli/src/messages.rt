@@ -5,7 +5,7 @@ ghost use Rattle.kt_cli.specs.Common.{Shows, utf8, Concluded, memory_line, refus
 
 use crate::Exit;
 use crate::output::exit::{FAILED, ended};
-use kt_base::{OutputFault, Text, emit, emit_all};
+use kt_base::{NoMemory, OutputFault, Text, emit, emit_all};
 use kt_child::DriverFault;
 use kt_plan::Stop;
 use kt_sched::{RunFault, SinkFault};
@@ -16,11 +16,18 @@ use std::io::Write;
 /// The status of a wrong command line.
 const WRONG_WORDS: u8 = 3;
 
-/// Writes that memory ran out.
-pub fn write_memory<O: Write>(out: &mut O) -> Result<(), OutputFault>
+/// Writes that memory ran out, for the faults that this module takes apart.
+fn write_shortage<O: Write>(out: &mut O) -> Result<(), OutputFault>
     ensures { Shows (O.contents out.old) (O.contents out.new) (is_err result) (utf8 memory_line) }
 {
     emit(b"kyua: E: out of memory\n", out)
+}
+
+/// Writes that memory ran out. The refusal is no part of the line: who says so holds one, which nobody can make up.
+pub fn write_memory<O: Write>(_refusal: NoMemory, out: &mut O) -> Result<(), OutputFault>
+    ensures { Shows (O.contents out.old) (O.contents out.new) (is_err result) (utf8 memory_line) }
+{
+    write_shortage(out)
 }
 
 /// Writes that the store refused a call.
@@ -41,7 +48,8 @@ pub fn write_run_fault<O: Write>(
 {
     written?;
     match fault {
-        RunFault::NoMemory(_) | RunFault::SinkFailed(SinkFault::Memory) => write_memory(out),
+        RunFault::NoMemory(refusal) => write_memory(refusal, out),
+        RunFault::SinkFailed(SinkFault::Memory) => write_shortage(out),
         RunFault::SinkFailed(SinkFault::Other) => write_store(out),
     }
 }
@@ -52,7 +60,7 @@ pub fn write_refusal<O: Write>(fault: StoreFault, out: &mut O) -> Result<(), Out
         (utf8 (refusal_line fault)) }
 {
     match fault {
-        StoreFault::NoMemory(_) => write_memory(out),
+        StoreFault::NoMemory(_) => write_shortage(out),
         _ => write_store(out),
     }
 }
@@ -91,7 +99,7 @@ pub fn print_driver_fault<O: Write>(fault: DriverFault, out: &mut O) -> Exit
         (utf8 (driver_line fault)) failure_exit }
 {
     match fault {
-        DriverFault::NoMemory(_) => ended(write_memory(out), FAILED),
+        DriverFault::NoMemory(refusal) => ended(write_memory(refusal, out), FAILED),
         DriverFault::NoWorkDirectory => ended(emit(b"kyua: E: no work directory\n", out), FAILED),
     }
 }
@@ -120,7 +128,7 @@ fn write_command_fault<O: Write>(fault: &CommandFault, out: &mut O) -> Result<()
         (utf8 (command_text fault.now)) }
 {
     match fault {
-        CommandFault::NoMemory(_) => write_memory(out),
+        CommandFault::NoMemory(_) => write_shortage(out),
         CommandFault::Usage(text) => emit(text.as_bytes(), out),
         CommandFault::BadKind => emit(b"kyua: E: bad results filter\n", out),
         CommandFault::BadRun => emit(b"kyua: E: bad run number\n", out),

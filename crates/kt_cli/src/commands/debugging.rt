@@ -60,7 +60,7 @@ pub fn debug<W: World, O: Write>(
     };
     let plan = match prepare(alloc, &picked.settings.config, &cases[..1], world) {
         Ok(plan) => plan,
-        Err(_) => return ended(write_memory(out), FAILED),
+        Err(refusal) => return ended(write_memory(refusal, out), FAILED),
     };
     let (answer, written) = print_cases(alloc, plan, world, out);
     match answer {

@@ -153,6 +153,8 @@ pub fn report_junit<R: ResultStore, O: Write>(
         Ok(()) => Exit { status: 0 },
         Err(JunitStop::Refused(fault)) => ended(write_refusal(fault, out), FAILED),
         Err(JunitStop::Report(ReportFault::Output(_))) => Exit { status: FAILED },
-        Err(JunitStop::Report(ReportFault::NoMemory(_))) => ended(write_memory(out), FAILED),
+        Err(JunitStop::Report(ReportFault::NoMemory(refusal))) => {
+            ended(write_memory(refusal, out), FAILED)
+        }
     }
 }

@@ -150,7 +150,7 @@ pub fn test<W: World, R: ResultStore, O: Write>(
     let config = &picked.settings.config;
     let plan = match prepare(alloc, config, picked.chosen.cases.as_slice(), world) {
         Ok(plan) => plan,
-        Err(_) => return ended(write_memory(out), FAILED),
+        Err(refusal) => return ended(write_memory(refusal, out), FAILED),
     };
     let moment = world.now();
     run_plan(

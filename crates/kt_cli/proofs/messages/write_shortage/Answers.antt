@@ -1,5 +1,5 @@
 use Rattle.kt_cli.proofs.Common.{encode}
-use Rattle.kt_cli.proofs.messages.write_memory.Goals as goal
+use Rattle.kt_cli.proofs.messages.write_shortage.Goals as goal
 
 pub returns : goal.returns
 unfolding encode
