@@ -1,6 +1,6 @@
 -- the run loop: what holds before each turn, and how each answer keeps it
 use Rattle.kt_base.specs.Kinds.{good as is_good}
-use Rattle.kt_sched.proofs.Common.{Option, Some, None, is_some, not, Ok, Err, ◌^◌, ◌≡◌, ◌<◌, ℕ, ◌+◌, ◌-◌, true, false, if◌then◌else◌, ◌==◌, List, [], ◌∷◌, ◌++◌, refl, append-nil, append_assoc, length-append, count_by-le-length, false_from_ne_true, cases_eq, filter, take, length, slice_get, slice_get_within, sym, ◌∙◌, ap, subst, arith, Role, Body, Cleanup, Entry, Job, StartAnswer, Ended, Next, Answer, SinkFault, Totals, Child, IsEvidence, IsIdle, IsMoment, HasMoment, MayStart, IsPlan, IsAnswer, IsAnswerTo, IsEntryOf, AreEntries, IsStorable, Start, End, Each, FitsAt, Trace, event_count, owed, is_owed, history, is_whole, runs, turns, recorded, Due, dues, is_open, running_after_start, running_after_end, pending_after_start, pending_after_end, child_of, CanCount, counted, FailedPut, Fed, fed_after, answer_of, with_event, nothing_fed, IsNext, Follows, NoEvent, SchedState, Stands}
+use Rattle.kt_sched.proofs.Common.{Bool, option_map, Option, Some, None, is_some, not, Ok, Err, ◌^◌, ◌≡◌, ◌<◌, ℕ, ◌+◌, ◌-◌, true, false, if◌then◌else◌, ◌==◌, List, [], ◌∷◌, ◌++◌, refl, append-nil, append_assoc, length-append, count_by-le-length, false_from_ne_true, cases_eq, filter, take, length, slice_get, slice_get_within, sym, ◌∙◌, ap, subst, arith, Role, Body, Cleanup, Entry, Job, StartAnswer, Ended, Next, Answer, SinkFault, Totals, Child, IsEvidence, IsIdle, IsMoment, HasMoment, MayStart, IsPlan, IsAnswer, IsAnswerTo, IsEntryOf, AreEntries, IsStorable, Start, End, Each, FitsAt, Trace, event_count, owed, is_owed, history, is_whole, runs, turns, recorded, Due, dues, is_open, running_after_start, running_after_end, pending_after_start, pending_after_end, child_of, CanCount, counted, FailedPut, Fed, fed_after, answer_of, with_event, nothing_fed, IsNext, Follows, NoEvent, SchedState, Stands}
 use Rattle.kt_sched.specs.declared.next.Next.TheVariants as next
 use Rattle.kt_sched.specs.declared.next.Answer.TheVariants as answer
 use Rattle.kt_sched.specs.declared.job.StartAnswer.TheVariants as told
@@ -8,7 +8,7 @@ use Rattle.kt_sched.specs.declared.launcher.Launcher as launcher
 use Rattle.kt_sched.specs.declared.sink.Sink as sink
 use Rattle.kt_sched.proofs.Lists.{mapped_at, same_is, some_is, take_snoc, take_zero}
 use Rattle.kt_sched.proofs.Stages.{whole_quiet}
-use Rattle.kt_sched.proofs.Runs.{Going, Startable, Until, child_runs, cleared, each_of, end_owes, end_runs, running_of, runs_now, runs_true, start_runs, until_more, until_now, while_runs}
+use Rattle.kt_sched.proofs.Runs.{Going, Startable, Until, child_at, cleared, each_of, end_owes, end_runs, running_of, runs_now, runs_true, start_runs, until_more, until_now, while_runs}
 use Rattle.kt_sched.proofs.Gaining.{Gained, GainsUpTo, counts_more, due_put, entries_more, gained_event, gains_more, storable_entry}
 use Rattle.kt_sched.proofs.Once.{recorded_first, recorded_most}
 
@@ -131,7 +131,10 @@ module _ {L S : Type 0} {l : launcher.Ghosts L} {s : sink.Ghosts S} {plan : List
   -- a wait
 
   pub loop_may_wait : Says sched (λ plan n fed. Follows plan n fed next.Wait) → (i : ℕ) × (role : Role) × (child : Child) × (l.running mid i role ≡ Some child)
-  loop_may_wait f = let w = f plan n fed k.stands in (w.0, w.1, child_of w.2, k.going.runs w.0 w.1 ∙ child_runs plan T w.0 w.1 w.2 w.3 w.4)
+  loop_may_wait f =
+      let w = f plan n fed k.stands in
+      let shown = ap (λ (b : Bool). if b then child_at plan w.0 else None) w.3 ∙ ap (option_map child_of) w.4 in
+      (w.0, w.1, child_of w.2, k.going.runs w.0 w.1 ∙ shown)
 
   module _ (e : Ended) (w : (child : Child) × (l.running mid e.position e.role ≡ Some child) × IsEvidence child.interface e.role e.evidence) (b : SchedState)
       (q : b.asked ≡ next.Wait) (y : Says sched (λ plan n fed. Stands plan n fed b)) where
@@ -215,6 +218,7 @@ module _ {L S : Type 0} {l : launcher.Ghosts L} {s : sink.Ghosts S} {plan : List
             by None y = (y.0, gains_more s.puts k.gained.gained e before after new y.1 u, λ j q l z. y.2 j q (omega (arith, l)) z)
             by (Some fault) y = absurd (cc (x.0, ap is_some y.1))
 
+        -- one that failed
         pub loop_failed : (cause : SinkFault) → s.puts after e (Err cause) new → ((put : List Entry) → s.entries after put → s.entries new put)
             → Says c (λ plan n fed. Stands plan n (fed_after fed c.asked answer.StoreFailed) later)
             → Loop l s plan n old before later mid new totals (Some cause)

@@ -123,11 +123,6 @@ runs_true plan T i r child g = by (runs i r T) (slice_get plan i) refl refl g
     by true (Some job) e q h = (e, (job, q, cc))
     by b o e q h = absurd (cc)
 
--- where a child runs, the launcher shows it
-pub child_runs : (plan : List Job) (T : Trace) (i : ℕ) (r : Role) (job : Job) → runs i r T ≡ true → slice_get plan i ≡ Some job
-    → running_of plan T i r ≡ Some (child_of job)
-child_runs plan T i r job e g = ap (λ (b : Bool). if b then child_at plan i else None) e ∙ ap (option_map child_of) g
-
 -- the events up to a failed put, if one failed
 abbrev pub up_to : Option ℕ → Trace → Trace
 up_to None T = T
