@@ -27,16 +27,13 @@ pub record AskedFor (b : SchedState) (e : Event) : Type 0 where
   pub owing : OwedBy (position_of e) b.pending
   pub turned : body_start_of e ≡ position_of e ∷ [] → HasTurn b (position_of e)
 
--- an event of a case that was asked for: how its stage moves on, and with it the turn, what is active, what is owed and what is ready
-pub record EventStep (plan : List Job) (n : ℕ) (fed : Fed) (b : SchedState) (e : Event) (cs : List Case) (job : Job) (was now : Stage) (t a : ℕ)
-    (p r : Option ℕ) : Type 0 where
+-- an event of a case that was asked for: how its stage moves on, and with it the turn and what is active
+pub record EventStep (plan : List Job) (n : ℕ) (fed : Fed) (b : SchedState) (e : Event) (cs : List Case) (job : Job) (was now : Stage) (t a : ℕ) : Type 0 where
   pub place : slice_get plan (position_of e) ≡ Some job
   pub moved : Replaced b.cases cs (position_of e) now was
   pub after : IsAfter job.cleanup was e now
   pub turn : t ≡ b.turn + length (body_start_of e)
   pub active : a + cond (is_active_stage was) 1 0 ≡ b.active + cond (is_active_stage now) 1 0
-  pub pending : p ≡ owing_at now (position_of e)
-  pub ready : r ≡ ready_at now b.failed (position_of e)
   pub asked : AskedFor b e
 
 -- a state after one event more, with less work
@@ -52,9 +49,8 @@ owing_by : (stage : Stage) (i : ℕ) → OwedBy i (owing_at stage i)
 owing_by (Owing o) i k d = other_is_not k i d
 owing_by stage i k d = refl
 
-module _ {plan : List Job} {n : ℕ} {fed : Fed} {b : SchedState} {e : Event} {cs : List Case} {job : Job} {was now : Stage} {t a : ℕ} {p r : Option ℕ}
-    (h : Stands plan n fed b)
-    (s : EventStep plan n fed b e cs job was now t a p r) where
+module _ {plan : List Job} {n : ℕ} {fed : Fed} {b : SchedState} {e : Event} {cs : List Case} {job : Job} {was now : Stage} {t a : ℕ}
+    (h : Stands plan n fed b) (s : EventStep plan n fed b e cs job was now t a) where
   abbrev i : ℕ
   i = position_of e
 
@@ -115,22 +111,20 @@ module _ {plan : List Job} {n : ℕ} {fed : Fed} {b : SchedState} {e : Event} {c
         ]
       ]
 
-  owing : (k : ℕ) (c : Case) → Which b.cases i new k c → is_owing_stage c.stage ≡ is_owed p k
-  owing k c (inl w) =
-      ap (λ (d : Case). is_owing_stage d.stage) w.1 ∙ (owing_is now i ∙ ap (λ (o : Option ℕ). is_owed o i) (sym s.pending) ∙ ap (is_owed p) (sym w.0))
-  owing k c (inr w) =
-      h.cases.owing k c w.1 ∙ (s.asked.owing k w.0 ∙ (sym (owing_by now i k w.0) ∙ ap (λ (o : Option ℕ). is_owed o k) (sym s.pending)))
+  owing : (k : ℕ) (c : Case) → Which b.cases i new k c → is_owing_stage c.stage ≡ is_owed (owing_at now i) k
+  owing k c (inl w) = ap (λ (d : Case). is_owing_stage d.stage) w.1 ∙ (owing_is now i ∙ ap (is_owed (owing_at now i)) (sym w.0))
+  owing k c (inr w) = h.cases.owing k c w.1 ∙ (s.asked.owing k w.0 ∙ sym (owing_by now i k w.0))
 
-  owed_within : (k : ℕ) → p ≡ Some k → (k ≡ i) ⊎ (k ≢ i) → k < length later
+  owed_within : (k : ℕ) → owing_at now i ≡ Some k → (k ≡ i) ⊎ (k ≢ i) → k < length later
   owed_within k q (inl w) = omega (arith, w, length-set b.cases i new, slice_get_within b.cases i _ s.moved.found)
-  owed_within k q (inr d) = absurd (cc (owing_by now i k d, ap (λ (o : Option ℕ). is_owed o k) (sym s.pending ∙ q), same_is k))
+  owed_within k q (inr d) = absurd (cc (owing_by now i k d, ap (λ (o : Option ℕ). is_owed o k) q, same_is k))
 
-  cases_step : CasesStand plan n (Then fed.trace e) later a b.width p
+  cases_step : CasesStand plan n (Then fed.trace e) later a b.width (owing_at now i)
   cases_step = record {
     is_plan = h.cases.is_plan;
     room = h.cases.room;
     width_is = h.cases.width_is;
-    pending_is = s.pending ∙ sym (owed_moves plan fed.trace job was e now s.place s.after);
+    pending_is = sym (owed_moves plan fed.trace job was e now s.place s.after);
     count = length-set b.cases i new ∙ h.cases.count;
     each = each_set b.cases i _ new s.moved.found plan fed.trace (Then fed.trace e) job s.place now_stands
         (λ t. at.1 (λ x. absurd (cc (m.fresh, ap is_over x)))) (λ k d. of_other i k fed.trace e refl d) h.cases.each;
@@ -208,8 +202,8 @@ module _ {plan : List Job} {n : ℕ} {fed : Fed} {b : SchedState} {e : Event} {c
       recorded_more plan n fed.trace e ∙ ap (λ xs. recorded plan n fed.trace ++ (xs ++ positions (filter (opens_now plan n fed.trace e) (turns plan)))) f
 
   -- what is ready is the case of the event, if it is over
-  readied : (k : ℕ) → r ≡ Some k → (k ≡ i) × (is_over now ≡ true)
-  readied k y = by (is_over now) refl b.failed (sym s.ready ∙ y)
+  readied : (k : ℕ) → ready_at now b.failed i ≡ Some k → (k ≡ i) × (is_over now ≡ true)
+  readied k y = by (is_over now) refl b.failed y
     where
       by : (v : Bool) → is_over now ≡ v → (f : Bool) → (if v then unless f i else None) ≡ Some k → (k ≡ i) × (is_over now ≡ true)
       by true q true y = absurd (cc)
@@ -219,10 +213,10 @@ module _ {plan : List Job} {n : ℕ} {fed : Fed} {b : SchedState} {e : Event} {c
   told : (k : ℕ) → k ≡ i → (x : _) × (now ≡ Finished x) → HasRecord later k
   told k q x = (new, x.0, ap (slice_get later) q ∙ found, ap (record_in s.moved.job) x.1)
 
-  puts_step : PutsStand plan n (with_event fed e) b.order t r b.failed
+  puts_step : PutsStand plan n (with_event fed e) b.order t (ready_at now b.failed i) b.failed
   puts_step = record {
     failed = h.puts.failed;
-    stopped = λ f. s.ready ∙ none_now (is_over now) f;
+    stopped = none_now (is_over now);
     stored = omega (
       arith,
       h.puts.stored,
@@ -242,24 +236,27 @@ module _ {plan : List Job} {n : ℕ} {fed : Fed} {b : SchedState} {e : Event} {c
       listed_own true f = rw f refl
       listed_own false f = refl
 
-      ready : has_failed fed ≡ false → drop fed.stored (recorded plan n (Then fed.trace e)) ≡ listed r ++ positions (opened plan n (Then fed.trace e) t)
+      ready : has_failed fed ≡ false → drop fed.stored (recorded plan n (Then fed.trace e))
+          ≡ listed (ready_at now b.failed i) ++ positions (opened plan n (Then fed.trace e) t)
       ready f =
           let xs = recorded plan n fed.trace in
           let ys = positions (filter (opens_now plan n fed.trace e) (turns plan)) in
           let nothing : drop fed.stored xs ≡ [] = h.puts.ready f ∙ rw (s.asked.empty, none f) refl in
-          let own = listed_own (is_over now) (h.puts.failed ∙ f) ∙ ap listed (sym s.ready) in
+          let own = listed_own (is_over now) (h.puts.failed ∙ f) in
           ap (drop fed.stored) more
           ∙ (drop-append-le fed.stored xs (pick (is_over now) i [] ++ ys) h.puts.stored
-          ∙ rw (nothing, own) (ap (λ (jobs : List Job). listed r ++ positions jobs) (newly_open e turning.over (h.puts.gone f) (none f))))
+          ∙ rw (nothing, own)
+          (ap (λ (jobs : List Job). listed (ready_at now b.failed i) ++ positions jobs) (newly_open e turning.over (h.puts.gone f) (none f))))
 
-  pub event_taken : After plan n fed b e (after_event b cs t a p r)
-  event_taken = subst (λ (xs : List Case). After plan n fed b e (after_event b xs t a p r)) (sym s.moved.changed) (record {
-    stands = record {
-      cases = cases_step;
-      turn = turn_step;
-      puts = puts_step;
-      told = λ k x y. let w = readied k x in told k w.0 (m.told w.1);
-      asked = tt;
-    };
-    less = omega (arith, sum_by-set (λ (c : Case). stage_work c.stage) b.cases i _ new s.moved.found, m.works);
-  })
+  pub event_taken : After plan n fed b e (after_event b cs t a (owing_at now i) (ready_at now b.failed i))
+  event_taken = subst (λ (xs : List Case). After plan n fed b e (after_event b xs t a (owing_at now i) (ready_at now b.failed i)))
+      (sym s.moved.changed) (record {
+        stands = record {
+          cases = cases_step;
+          turn = turn_step;
+          puts = puts_step;
+          told = λ k x y. let w = readied k x in told k w.0 (m.told w.1);
+          asked = tt;
+        };
+        less = omega (arith, sum_by-set (λ (c : Case). stage_work c.stage) b.cases i _ new s.moved.found, m.works);
+      })

@@ -66,7 +66,7 @@ module _ {b seen : SchedState} (view : b ≡ seen) (standing : IsStanding b) whe
       → ((cleanup : Bool) → IsAfter cleanup was (Start i role x) now) → t ≡ b.turn + cond (same_role role Body) 1 0
       → u ≡ is_active_stage was → v ≡ is_active_stage now → a + cond u 1 0 ≡ b.active + cond v 1 0 → p ≡ owing_at now i → r ≡ ready_at now b.failed i
       → Takes seen (Start i role x) (after_event b cs t a p r)
-  started i role x {was} {now} {left} {mid} {cs} {t} {a} q c d f y u v z p r = steps (λ plan n fed h.
+  started i role x {was} {now} {left} {mid} {cs} {t} {a} q c d f y u v z p r = rw (p, r) (steps (λ plan n fed h.
       let w = replaced_twice b.cases mid cs i Taken now left was c d in
       let l = located h i w.job was w.found in
       event_taken h (record {
@@ -75,10 +75,8 @@ module _ {b seen : SchedState} (view : b ≡ seen) (standing : IsStanding b) whe
         after = f l.job.cleanup;
         turn = omega (arith, y, takes_turn i role x);
         active = ap (λ w. a + cond w 1 0) (sym u) ∙ (z ∙ ap (λ w. b.active + cond w 1 0) v);
-        pending = p;
-        ready = r;
         asked = asked_start h i role x (was_asked q);
-      })) refl
+      })) refl)
 
   -- the child that ended ran, and its case was counted
   pub end_fits : (e : Ended) {was : Stage} {mid : List Case} → ((c : Case) × (slice_get seen.cases e.position ≡ Some c) × (stage_runs e.role c.stage ≡ true))
@@ -92,7 +90,7 @@ module _ {b seen : SchedState} (view : b ≡ seen) (standing : IsStanding b) whe
       → Declares b.cases e.position flag → Replaced b.cases mid e.position Taken was → Replaced mid cs e.position now left → stage_runs e.role was ≡ true
       → IsAfter flag was (End e) now → v ≡ is_active_stage now → a + 1 ≡ b.active + cond v 1 0 → p ≡ owing_at now e.position
       → r ≡ ready_at now b.failed e.position → Takes seen (End e) (after_event b cs b.turn a p r)
-  ended e {was} {now} {left} {mid} {cs} {a} {v = v} {flag = flag} q g c d k f u z p r = steps (λ plan n fed h.
+  ended e {was} {now} {left} {mid} {cs} {a} {v = v} {flag = flag} q g c d k f u z p r = rw (p, r) (steps (λ plan n fed h.
       let w = replaced_twice b.cases mid cs e.position Taken now left was c d in
       let l = located h e.position w.job was w.found in
       let same = l.kept (λ x. absurd (cc ((moves flag was (End e) now f).fresh, ap is_over x))) in
@@ -103,7 +101,5 @@ module _ {b seen : SchedState} (view : b ≡ seen) (standing : IsStanding b) whe
         after = subst (λ (y : Bool). IsAfter y was (End e) now) flag_is f;
         turn = omega arith;
         active = omega (arith, z, ap (λ w. cond {A = ℕ} w 1 0) u, cond_one (is_active_stage was) (runs_active e.role was k));
-        pending = p;
-        ready = r;
         asked = asked_end h e (was_asked q);
-      })) refl
+      })) refl)
