@@ -3,7 +3,7 @@ pub use Rattle.std.proofs.Math.ListN.{set}
 pub use Rattle.std.proofs.lemmas.Bool.{and_from, and_parts, cases_lt}
 pub use Rattle.std.proofs.lemmas.Bool.Decides.{nat_tests}
 pub use Rattle.std.proofs.lemmas.List.{drop_all, drop_at, length-take-le, map_more, take_all, take_at, take_more}
-pub use Rattle.std.proofs.lemmas.List.Elements.{All-append, All-drop, All-get_or, All-push, All-set, All-take}
+pub use Rattle.std.proofs.lemmas.List.Elements.{All-append, All-cons, All-drop, All-get_or, All-head, All-map, All-nil, All-push, All-set, All-tail, All-take, All-weaker}
 pub use Rattle.std.proofs.lemmas.Option.{slice_get-get_or}
 pub use Rattle.std.specs.List.{All}
 pub use Rattle.std.specs.Process.{SameDir, SameEnv, SameProgramAndArgs, clears_env, command_args, command_program, command_var, status_bits}
@@ -23,9 +23,9 @@ pub use Rattle.kt_sched.specs.declared.job.Ended.{Ended}
 pub use Rattle.kt_sched.specs.declared.job.Job.{Job}
 pub use Rattle.kt_sched.specs.declared.job.StartAnswer.{StartAnswer}
 pub use Rattle.kt_child.specs.Driving.Begins.{Begun, state_after_start}
-pub use Rattle.kt_child.specs.Driving.ChildrenState.{ChildrenState, Waited, is_among, pending_with, shown, shown_at}
-pub use Rattle.kt_child.specs.Driving.JobPlan.{case_in, cleaning, job_purpose, limit_of, spawning_for, spawning_of, want_of, watched_of}
-pub use Rattle.kt_child.specs.Driving.Launches.{StartsBy, with_pending}
+pub use Rattle.kt_child.specs.Driving.ChildrenState.{ChildrenState, Waited, cases_of, is_among, pending_with, shown, shown_at, shown_in, with_pending}
+pub use Rattle.kt_child.specs.Driving.JobPlan.{case_in, cleaning, job_purpose, limit_of, list_case, spawning_for, spawning_of, want_of, watched_of}
+pub use Rattle.kt_child.specs.Driving.Launches.{StartsBy}
 pub use Rattle.kt_child.specs.Driving.Numbers.{AttemptsDiffer, IsBare, ListOf, Request, Serves, ServesAll, Wait, is_attempt}
 pub use Rattle.kt_child.specs.Driving.Roots.{FailedRoots, root_of}
 pub use Rattle.kt_child.specs.Driving.TraceLives.{BegunAt, EachWith, IsNumberAt, IsNumberOf, LeavesAtLast, ToldAt, following, next_after}
@@ -33,9 +33,9 @@ pub use Rattle.kt_child.specs.Ending.Ends.{Leaves, Removes, err_of, is_over, out
 pub use Rattle.kt_child.specs.Ending.Parts.{After, Bytes, IsNext, Missing, Reads, TooLong, Unreadable, Whole, next_part}
 pub use Rattle.kt_child.specs.Ending.Reads.{bytes_of}
 pub use Rattle.kt_child.specs.Host.HostStands.{AllProceed, AllStay, OthersStay, Proceeds, Stand, stand_in, stand_of}
-pub use Rattle.kt_child.specs.Inner.Children.{IsChildrenState, IsOn, IsShort, Lived, Takes, Tells, count_at, heard_of, one_if, polls_left}
+pub use Rattle.kt_child.specs.Inner.Children.{IsChildrenState, IsOn, IsShort, IsWatched, Takes, Tells, answered, count_at, count_in, heard_of, one_if, polls_left}
 pub use Rattle.kt_child.specs.Inner.Host.{IsPlaceOf, TakesPiece, after_removed, after_set, is_other, RunsIn}
-pub use Rattle.kt_child.specs.Planning.ChildPlan.{paths_of, test_variable, variable_word}
+pub use Rattle.kt_child.specs.Planning.ChildPlan.{child_of, paths_of, test_variable, variable_word}
 pub use Rattle.kt_child.specs.Polling.ChildOutcome.{Heard, HeardKill, HeardPoll, Told, ToldAfterKill, ToldWithin, fresh, running}
 pub use Rattle.kt_child.specs.Polling.Lives.{heard_by, heard_in, own, same_child}
 pub use Rattle.kt_child.specs.Polling.Polls.{asked_by_poll, is_killed, turn_of, watch_after}

@@ -1,13 +1,11 @@
 -- What follows the last poll of a child is no poll.
-use Rattle.std.proofs.Common.{◌≡◌, ℕ, zero, suc, List, [], ◌∷◌, ◌++◌, Bool, true, false, Some, Result, map, slice_get, sym, ◌∙◌, ap, subst, append-nil}
-use Rattle.kt_child.proofs.Common.{Role, Body, Cleanup, Outcome, Evidence, Ended, Child, OsFault, FileRead, Paths, Case, Watched, NextPart, Absent, Failed, Past, ChildrenState, Waited, Call, ReadFile, ReadPart, Heard, Leaves, Removes, err_of, is_over, out_of, heard_by, same_child, After, Reads, Whole, bytes_of}
+use Rattle.std.proofs.Common.{◌≡◌, ℕ, zero, suc, List, [], ◌∷◌, ◌++◌, Bool, true, false, Result, ◌∙◌, ap}
+use Rattle.kt_child.proofs.Common.{Role, Body, Cleanup, Outcome, Evidence, Ended, Child, OsFault, FileRead, Paths, Case, NextPart, Absent, Failed, Past, Call, ReadFile, ReadPart, Leaves, Removes, err_of, is_over, out_of, heard_by, After, Reads, Whole, bytes_of}
 use Rattle.kt_base.specs.declared.child.Interface.{Interface}
 use Rattle.kt_child.specs.declared.ending.NextPart.TheVariants.{More, All}
 use Rattle.kt_child.specs.Ending.Gathering.{Gathers}
 use Rattle.kt_base.specs.declared.child.Interface.TheVariants as interface
-use Rattle.kt_child.proofs.Shares.{Share, name_of, named}
 use Rattle.kt_child.proofs.LifeSteps.{heard_append}
-use Rattle.kt_child.proofs.SeveralWaits.{wait_shares}
 
 -- one part of a reading
 part_silent : (c : Child) (next : NextPart) (got path : List ℕ) (from limit : ℕ) (answer : Result FileRead OsFault) (calls : List Call) (whole : Whole) (Rest : List Call → Type 0)
@@ -47,17 +45,3 @@ leaves_silent c case calls outcome ended (now, reads, out, err, last, e, gathers
     ∙ heard_append c reads (ReadFile (out_of case.role case.paths) 1048576 out ∷ ReadFile (err_of case.role case.paths) 1048576 err ∷ last)
     ∙ ap (λ t. t ++ heard_by c last) (gathers_silent c case.interface case.role case.paths reads ended.evidence gathers)
     ∙ removes_silent c (is_over case) case.paths.dir last removes
-
--- what a wait is for each child whose name is its own
-pub shares_at : (old new : ChildrenState) (calls : List Call) (e : Ended) (c : Child) (k : Watched) → named c old.children ≡ k ∷ [] → (w : Waited old calls e new)
-    → (over : Child) × (slice_get (map name_of old.children) w.place ≡ Some over)
-    × Share c (same_child over c) k (heard_by c calls) e.outcome new.children
-shares_at old new calls e c k own w =
-    let s = wait_shares old.children w.polls w.place w.outcome w.after c k own w.waited in
-    let f : heard_by c calls ≡ heard_by c w.polls =
-    ap (heard_by c) w.asked ∙ heard_append c w.polls w.rest ∙ ap (λ t. heard_by c w.polls ++ t) (leaves_silent c w.case w.rest w.outcome e w.left)
-    ∙ append-nil (heard_by c w.polls) in
-    let P : List Heard → Type 0 = λ t. Share c (same_child s.0 c) k t e.outcome new.children in
-    let Q : Outcome → Type 0 = λ t. Share c (same_child s.0 c) k (heard_by c w.polls) t new.children in
-    let R : List Watched → Type 0 = λ t. Share c (same_child s.0 c) k (heard_by c w.polls) w.outcome t in
-    (s.0, s.1, subst P (sym f) (subst Q (sym w.left.10) (subst R (sym w.children) s.2)))

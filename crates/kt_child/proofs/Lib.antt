@@ -1,7 +1,7 @@
-pub mod Common
 pub mod CaseCounts
-pub mod CasePlaces
+pub mod CaseSteps
 pub mod Chains
+pub mod Common
 pub mod EndSilence
 pub mod EndSteps
 pub mod HostNames
@@ -11,17 +11,14 @@ pub mod HostStandings
 pub mod HostSteps
 pub mod IdleStates
 pub mod LifeSteps
+pub mod Lives
 pub mod Mapped
 pub mod NameCounts
-pub mod NamedSteps
 pub mod NumberSteps
 pub mod Outcomes
 pub mod OwedCases
 pub mod PartSteps
 pub mod Places
-pub mod SeveralSteps
-pub mod SeveralWaits
-pub mod Shares
 pub mod ShownCases
 pub mod StartLeavings
 pub mod StartSilence
@@ -32,5 +29,4 @@ pub mod TraceStarts
 pub mod TraceTells
 pub mod TraceWaits
 pub mod TurnSteps
-pub mod WaitSilence
 pub mod WaitSteps

@@ -1,26 +1,22 @@
--- A life, poll by poll, comes to what the table tells of it.
-use Rattle.std.proofs.Common.{◌≡◌, ℕ, zero, suc, ◌+◌, ◌-◌, ◌*◌, ◌<◌, ◌==◌, List, [], ◌∷◌, ◌++◌, Bool, true, false, Result, Ok, Err, ◌⊎◌, refl, sym, ◌∙◌, ap, subst, arith, inl, inr, if◌then◌else◌}
-use Rattle.kt_child.proofs.Common.{nat_tests, Outcome, Polled, OsFault, Watch, Turn, More, turn_of, Lived, heard_of, Heard, HeardPoll, HeardKill, Told, ToldAfterKill, ToldWithin, fresh, running}
-use Rattle.kt_base.specs.declared.child.Outcome.TheVariants.{Exited, Signaled, WaitFailed}
+-- A poll of a child, after what it has answered so far: either it goes on, or the table tells its outcome.
+use Rattle.std.proofs.Common.{◌≡◌, ◌≢◌, ℕ, ◌+◌, ◌*◌, ◌<◌, ◌==◌, List, [], ◌∷◌, ◌++◌, Bool, true, false, Result, Ok, Err, Some, refl, sym, ◌∙◌, ap, subst, arith, inl, inr, if◌then◌else◌, append_assoc, replicate}
+use Rattle.std.proofs.lemmas.List.{replicate-append-replicate}
+use Rattle.kt_child.proofs.Common.{nat_tests, Outcome, Polled, OsFault, Watch, More, IsShort, IsWatched, turn_of, watch_after, answered, heard_of, Heard, HeardKill, Told, ToldAfterKill, running}
+use Rattle.kt_base.specs.declared.child.Outcome.TheVariants.{Exited, Signaled, TimedOut, WaitFailed}
 use Rattle.kt_child.specs.declared.system.Polled.TheVariants.{Running, Exited as PolledExit, Signaled as PolledSignal}
 use Rattle.kt_child.specs.declared.polling.Turn.TheVariants.{Ended}
 
-last_true : (a : ℕ) (n : ℕ) → a + 1 ≡ n → (a + 1 == n) ≡ true
-last_true a n h = grind (arith, nat_tests)
+-- one more answer `running`
+once_more : (n : ℕ) → replicate (n + 1) running ≡ replicate n running ++ running ∷ []
+once_more n = sym (replicate-append-replicate n 1 running)
 
-last_false : (a : ℕ) (n : ℕ) → a + 1 < n → (a + 1 == n) ≡ false
-last_false a n h = grind (arith, nat_tests)
+-- the numbers of a test that holds
+tested : (a n : ℕ) → (a + 1 == n) ≡ true → a + 1 ≡ n
+tested a n e = grind (arith, nat_tests)
 
-reap_more : (r : ℕ) (hs : List Heard) (o : Outcome) → ToldAfterKill r hs o → ToldAfterKill (suc r) (running ∷ hs) o
-reap_more r hs o (inl (k, s, x, lt, t, e, f)) = inl (suc k, s, x, omega arith, t, ap (λ u. running ∷ u) e, f)
-reap_more r hs o (inr (inl (e, f))) = inr (inl (ap (λ u. running ∷ u) e, f))
-reap_more r hs o (inr (inr (k, g, d, lt, e, f))) = inr (inr (suc k, g, d, omega arith, ap (λ u. running ∷ u) e, f))
-
-told_more : (m : ℕ) (hs : List Heard) (o : Outcome) → ToldWithin m hs o → ToldWithin (suc m) (running ∷ hs) o
-told_more m hs o (inl (k, s, lt, t, e)) = inl (suc k, s, omega arith, t, ap (λ u. running ∷ u) e)
-told_more m hs o (inr (inl (rest, e, t))) = inr (inl (rest, ap (λ u. running ∷ u) e, t))
-told_more m hs o (inr (inr (inl (e, f)))) = inr (inr (inl (ap (λ u. running ∷ u) e, f)))
-told_more m hs o (inr (inr (inr (k, g, d, lt, e, f)))) = inr (inr (inr (suc k, g, d, omega arith, ap (λ u. running ∷ u) e, f)))
+-- and of one that doesn't
+failed : (a n : ℕ) → (a + 1 == n) ≡ false → a < n → a + 1 < n
+failed a n e lt = let d : a + 1 ≢ n = grind (arith, nat_tests) in omega arith
 
 abbrev killed_at : ℕ → ℕ → Watch
 killed_at b a = record { before = b; killed = true; after = a }
@@ -28,116 +24,100 @@ killed_at b a = record { before = b; killed = true; after = a }
 abbrev alive_at : ℕ → Watch
 alive_at b = record { before = b; killed = false; after = 0 }
 
--- what follows a poll: nothing, or what is known of the rest
-abbrev Next : Turn → Outcome → List Heard → Type 0 → Type 0
-Next turn o more Rest = ((turn ≡ Ended o) × (more ≡ [])) ⊎ ((turn ≡ More) × Rest)
+-- a poll that ends nothing is one more of the answers so far
+abbrev Goes : ℕ → Watch → Result Polled OsFault → Bool → Type 0
+Goes limit w answer done =
+    turn_of limit w answer done ≡ More
+    → (answered limit (watch_after limit w) ≡ answered limit w ++ heard_of limit w answer done) × IsWatched limit (watch_after limit w)
 
-reap_last : (a : ℕ) (hs more : List Heard) (o : Outcome) → hs ≡ running ∷ more
-    → Next (Ended WaitFailed) o more ((q : ℕ) → (a + 1) + suc q ≡ 500 → ToldAfterKill (suc q) more o)
-    → ToldAfterKill 1 hs o
-reap_last a hs more o eq (inl (t, s)) = inr (inl (eq ∙ ap (λ u. running ∷ u) s, cc))
-reap_last a hs more o eq (inr (t, k)) = let no : ⊥ = cc in absurd no
+goes_killed : (limit b a : ℕ) (answer : Result Polled OsFault) (done : Bool) → a < 500 → Goes limit (killed_at b a) answer done
+goes_killed limit b a (Err f) done lt e = let no : ⊥ = cc in absurd no
+goes_killed limit b a (Ok (PolledExit c)) done lt e = let no : ⊥ = cc in absurd no
+goes_killed limit b a (Ok (PolledSignal c x)) done lt e = let no : ⊥ = cc in absurd no
+goes_killed limit b a (Ok Running) done lt e = by (a + 1 == 500) refl e
+  where
+    R : List Heard
+    R = replicate (100 * limit) running
 
-rest_of : (a r : ℕ) (more : List Heard) (o : Outcome) → (a + 1) + suc r ≡ 500
-    → Next More o more ((q : ℕ) → (a + 1) + suc q ≡ 500 → ToldAfterKill (suc q) more o)
-    → ToldAfterKill (suc r) more o
-rest_of a r more o e (inl (t, s)) = let no : ⊥ = cc in absurd no
-rest_of a r more o e (inr (t, k)) = k r e
+    by : (t : Bool) → (a + 1 == 500) ≡ t → (if t then Ended WaitFailed else More) ≡ More
+        → (R ++ HeardKill true ∷ replicate (a + 1) running ≡ (R ++ HeardKill true ∷ replicate a running) ++ running ∷ []) × (a + 1 < 500)
+    by true t e = let no : ⊥ = cc in absurd no
+    by false t e =
+        (ap (λ u. R ++ HeardKill true ∷ u) (once_more a) ∙ sym (append_assoc R (HeardKill true ∷ replicate a running) (running ∷ [])), failed a 500 t lt)
 
-reap_one : (limit b a r : ℕ) (hs more : List Heard) (o : Outcome) (answer : Result Polled OsFault) (d : Bool)
-    → a + suc r ≡ 500
-    → hs ≡ heard_of limit (killed_at b a) answer d ++ more
-    → Next (turn_of limit (killed_at b a) answer d) o more ((q : ℕ) → (a + 1) + suc q ≡ 500 → ToldAfterKill (suc q) more o)
-    → ToldAfterKill (suc r) hs o
-reap_one limit b a r hs more o (Err f) d e eq (inl (t, s)) =
-    inr (inr (0, f, d, omega arith, eq ∙ ap (λ u. HeardPoll (Err f) ∷ HeardKill d ∷ u) s, cc))
-reap_one limit b a r hs more o (Err f) d e eq (inr (t, k)) = let no : ⊥ = cc in absurd no
-reap_one limit b a r hs more o (Ok (PolledExit c)) d e eq (inl (t, s)) =
-    inl (0, PolledExit c, Exited c, omega arith, refl, eq ∙ ap (λ u. HeardPoll (Ok (PolledExit c)) ∷ u) s, cc)
-reap_one limit b a r hs more o (Ok (PolledExit c)) d e eq (inr (t, k)) = let no : ⊥ = cc in absurd no
-reap_one limit b a r hs more o (Ok (PolledSignal c x)) d e eq (inl (t, s)) =
-    inl (0, PolledSignal c x, Signaled c x, omega arith, refl, eq ∙ ap (λ u. HeardPoll (Ok (PolledSignal c x)) ∷ u) s, cc)
-reap_one limit b a r hs more o (Ok (PolledSignal c x)) d e eq (inr (t, k)) = let no : ⊥ = cc in absurd no
-reap_one limit b a zero hs more o (Ok Running) d e eq h =
-    let test : (a + 1 == 500) ≡ true = last_true a 500 (omega arith) in
-    let P : Bool → Type 0 = λ v. Next (if v then Ended WaitFailed else More) o more ((q : ℕ) → (a + 1) + suc q ≡ 500 → ToldAfterKill (suc q) more o) in
-    reap_last a hs more o eq (subst P test h)
-reap_one limit b a (suc r) hs more o (Ok Running) d e eq h =
-    let test : (a + 1 == 500) ≡ false = last_false a 500 (omega arith) in
-    let P : Bool → Type 0 = λ v. Next (if v then Ended WaitFailed else More) o more ((q : ℕ) → (a + 1) + suc q ≡ 500 → ToldAfterKill (suc q) more o) in
-    let Q : List Heard → Type 0 = λ u. ToldAfterKill (suc (suc r)) u o in
-    subst Q (sym eq) (reap_more (suc r) more o (rest_of a r more o (omega arith) (subst P test h)))
+goes_alive : (limit b : ℕ) (answer : Result Polled OsFault) (done : Bool) → b < 100 * limit → Goes limit (alive_at b) answer done
+goes_alive limit b (Err f) done lt e = let no : ⊥ = cc in absurd no
+goes_alive limit b (Ok (PolledExit c)) done lt e = let no : ⊥ = cc in absurd no
+goes_alive limit b (Ok (PolledSignal c x)) done lt e = let no : ⊥ = cc in absurd no
+goes_alive limit b (Ok Running) done lt e = by (b + 1 == 100 * limit) refl done e
+  where
+    by : (t : Bool) → (b + 1 == 100 * limit) ≡ t → (d : Bool) → (if t then (if d then More else Ended WaitFailed) else More) ≡ More
+        → (answered limit (record { before = b + 1; killed = t; after = 0 }) ≡ replicate b running ++ (if t then running ∷ HeardKill d ∷ [] else running ∷ []))
+        × IsShort t limit (b + 1) 0
+    by true t false e = let no : ⊥ = cc in absurd no
+    by true t true e = (
+      ap (λ n. replicate n running ++ HeardKill true ∷ []) (sym (tested b (100 * limit) t)) ∙ ap (λ u. u ++ HeardKill true ∷ []) (once_more b)
+          ∙ append_assoc (replicate b running) (running ∷ []) (HeardKill true ∷ []),
+      omega arith,
+    )
+    by false t d e = (once_more b, (failed b (100 * limit) t lt, refl))
 
-next_map : (turn : Turn) (o : Outcome) (more : List Heard) (A B : Type 0) → (A → B) → Next turn o more A → Next turn o more B
-next_map turn o more A B f (inl h) = inl h
-next_map turn o more A B f (inr (t, k)) = inr (t, f k)
+-- a poll that ends a child tells its outcome by all that it answered
+abbrev Tells : ℕ → Watch → Result Polled OsFault → Bool → Outcome → Type 0
+Tells limit w answer done o = turn_of limit w answer done ≡ Ended o → Told limit (answered limit w ++ heard_of limit w answer done) o
 
-lived_reaps : (n limit b a r : ℕ) (hs : List Heard) (o : Outcome) → a + suc r ≡ 500
-    → Lived n limit (killed_at b a) hs o → ToldAfterKill (suc r) hs o
-lived_reaps zero limit b a r hs o e h = absurd h
-lived_reaps (suc n) limit b a r hs o e (answer, d, more, eq, next) =
-    reap_one limit b a r hs more o answer d e eq
-    (next_map (turn_of limit (killed_at b a) answer d) o more (Lived n limit (killed_at b (a + 1)) more o)
-    ((q : ℕ) → (a + 1) + suc q ≡ 500 → ToldAfterKill (suc q) more o)
-    (λ h q e'. lived_reaps n limit b (a + 1) q more o e' h) next)
+same_end : (o p : Outcome) → Ended o ≡ Ended p → p ≡ o
+same_end o p e = cc
 
--- what is known of the rest of a life before a kill
-abbrev Rest : ℕ → ℕ → ℕ → Bool → List Heard → Outcome → Type 0
-Rest n limit b killed more o = Lived n limit (record { before = b + 1; killed = killed; after = 0 }) more o
+-- after a kill
+killed_rows : (limit b a : ℕ) (answer : Result Polled OsFault) (done : Bool) (o : Outcome) → a < 500 → turn_of limit (killed_at b a) answer done ≡ Ended o
+    → ToldAfterKill 500 (replicate a running ++ heard_of limit (killed_at b a) answer done) o
+killed_rows limit b a (Err f) done o lt e = inr (inr (a, f, done, lt, refl, same_end WaitFailed o e))
+killed_rows limit b a (Ok (PolledExit c)) done o lt e = inl (a, PolledExit c, Exited c, lt, refl, refl, same_end TimedOut o e)
+killed_rows limit b a (Ok (PolledSignal c x)) done o lt e = inl (a, PolledSignal c x, Signaled c x, lt, refl, refl, same_end TimedOut o e)
+killed_rows limit b a (Ok Running) done o lt e = by (a + 1 == 500) refl e
+  where
+    by : (t : Bool) → (a + 1 == 500) ≡ t → (if t then Ended WaitFailed else More) ≡ Ended o → ToldAfterKill 500 (replicate a running ++ running ∷ []) o
+    by true t e = inr (inl (sym (once_more a) ∙ ap (λ n. replicate n running) (tested a 500 t), same_end WaitFailed o e))
+    by false t e = let no : ⊥ = cc in absurd no
 
-at_deadline : (n limit b : ℕ) (hs more : List Heard) (o : Outcome) (d : Bool)
-    → hs ≡ running ∷ HeardKill d ∷ more
-    → Next (if d then More else Ended WaitFailed) o more (Rest n limit b true more o)
-    → ToldWithin 1 hs o
-at_deadline n limit b hs more o true eq (inl (t, s)) = let no : ⊥ = cc in absurd no
-at_deadline n limit b hs more o true eq (inr (t, k)) = inr (inl (more, eq, lived_reaps n limit (b + 1) 0 499 more o refl k))
-at_deadline n limit b hs more o false eq (inl (t, s)) = inr (inr (inl (eq ∙ ap (λ u. running ∷ HeardKill false ∷ u) s, cc)))
-at_deadline n limit b hs more o false eq (inr (t, k)) = let no : ⊥ = cc in absurd no
+tells_killed : (limit b a : ℕ) (answer : Result Polled OsFault) (done : Bool) (o : Outcome) → a < 500 → Tells limit (killed_at b a) answer done o
+tells_killed limit b a answer done o lt e =
+    let hs = heard_of limit (killed_at b a) answer done in
+    inr (inl (replicate a running ++ hs, append_assoc (replicate (100 * limit) running) (HeardKill true ∷ replicate a running) hs, killed_rows limit b a answer done o lt e))
 
-goes_on : (o : Outcome) (more : List Heard) (A : Type 0) → Next More o more A → A
-goes_on o more A (inl (t, s)) = let no : ⊥ = cc in absurd no
-goes_on o more A (inr (t, k)) = k
+-- and before one
+tells_alive : (limit b : ℕ) (answer : Result Polled OsFault) (done : Bool) (o : Outcome) → b < 100 * limit → Tells limit (alive_at b) answer done o
+tells_alive limit b (Err f) done o lt e = inr (inr (inr (b, f, done, lt, refl, same_end WaitFailed o e)))
+tells_alive limit b (Ok (PolledExit c)) done o lt e = inl (b, PolledExit c, lt, ap (λ t. Some t) (sym (same_end (Exited c) o e)), refl)
+tells_alive limit b (Ok (PolledSignal c x)) done o lt e = inl (b, PolledSignal c x, lt, ap (λ t. Some t) (sym (same_end (Signaled c x) o e)), refl)
+tells_alive limit b (Ok Running) done o lt e = by (b + 1 == 100 * limit) refl done e
+  where
+    by : (t : Bool) → (b + 1 == 100 * limit) ≡ t → (d : Bool) → (if t then (if d then More else Ended WaitFailed) else More) ≡ Ended o
+        → Told limit (replicate b running ++ (if t then running ∷ HeardKill d ∷ [] else running ∷ [])) o
+    by true t true e = let no : ⊥ = cc in absurd no
+    by true t false e =
+        inr (inr (inl (
+          sym (append_assoc (replicate b running) (running ∷ []) (HeardKill false ∷ [])) ∙ ap (λ u. u ++ HeardKill false ∷ []) (sym (once_more b))
+              ∙ ap (λ n. replicate n running ++ HeardKill false ∷ []) (tested b (100 * limit) t),
+          same_end WaitFailed o e,
+        )))
+    by false t d e = let no : ⊥ = cc in absurd no
 
-within_one : (n limit b m : ℕ) (hs more : List Heard) (o : Outcome) (answer : Result Polled OsFault) (d : Bool)
-    → b + suc m ≡ 100 * limit
-    → hs ≡ heard_of limit (alive_at b) answer d ++ more
-    → Next (turn_of limit (alive_at b) answer d) o more (Rest n limit b (b + 1 == 100 * limit) more o)
-    → ((q : ℕ) → (b + 1) + suc q ≡ 100 * limit → Rest n limit b false more o → ToldWithin (suc q) more o)
-    → ToldWithin (suc m) hs o
-within_one n limit b m hs more o (Err f) d e eq (inl (t, s)) ih =
-    inr (inr (inr (0, f, d, omega arith, eq ∙ ap (λ u. HeardPoll (Err f) ∷ HeardKill d ∷ u) s, cc)))
-within_one n limit b m hs more o (Err f) d e eq (inr (t, k)) ih = let no : ⊥ = cc in absurd no
-within_one n limit b m hs more o (Ok (PolledExit c)) d e eq (inl (t, s)) ih =
-    inl (0, PolledExit c, omega arith, cc, eq ∙ ap (λ u. HeardPoll (Ok (PolledExit c)) ∷ u) s)
-within_one n limit b m hs more o (Ok (PolledExit c)) d e eq (inr (t, k)) ih = let no : ⊥ = cc in absurd no
-within_one n limit b m hs more o (Ok (PolledSignal c x)) d e eq (inl (t, s)) ih =
-    inl (0, PolledSignal c x, omega arith, cc, eq ∙ ap (λ u. HeardPoll (Ok (PolledSignal c x)) ∷ u) s)
-within_one n limit b m hs more o (Ok (PolledSignal c x)) d e eq (inr (t, k)) ih = let no : ⊥ = cc in absurd no
-within_one n limit b zero hs more o (Ok Running) d e eq h ih =
-    let test : (b + 1 == 100 * limit) ≡ true = last_true b (100 * limit) (omega arith) in
-    let P : Bool → Type 0 = λ v.
-    (hs ≡ (if v then running ∷ HeardKill d ∷ [] else running ∷ []) ++ more)
-    × Next (if v then (if d then More else Ended WaitFailed) else More) o more (Rest n limit b v more o) in
-    let at : P true = subst P test (eq, h) in
-    at_deadline n limit b hs more o d at.0 at.1
-within_one n limit b (suc m) hs more o (Ok Running) d e eq h ih =
-    let test : (b + 1 == 100 * limit) ≡ false = last_false b (100 * limit) (omega arith) in
-    let P : Bool → Type 0 = λ v.
-    (hs ≡ (if v then running ∷ HeardKill d ∷ [] else running ∷ []) ++ more)
-    × Next (if v then (if d then More else Ended WaitFailed) else More) o more (Rest n limit b v more o) in
-    let at : P false = subst P test (eq, h) in
-    let Q : List Heard → Type 0 = λ u. ToldWithin (suc (suc m)) u o in
-    subst Q (sym at.0) (told_more (suc m) more o (ih m (omega arith) (goes_on o more (Rest n limit b false more o) at.1)))
+pub goes_on : (limit : ℕ) (w : Watch) (answer : Result Polled OsFault) (done : Bool) → IsWatched limit w → Goes limit w answer done
+goes_on limit w answer done is = by w.killed w.after is
+  where
+    by : (t : Bool) (a : ℕ) → IsShort t limit w.before a → Goes limit (record { before = w.before; killed = t; after = a }) answer done
+    by true a lt = goes_killed limit w.before a answer done lt
+    by false a (lt, none) =
+        let P : ℕ → Type 0 = λ n. Goes limit (record { before = w.before; killed = false; after = n }) answer done in
+        subst P (sym none) (goes_alive limit w.before answer done lt)
 
-lived_tells : (n limit b m : ℕ) (hs : List Heard) (o : Outcome) → b + suc m ≡ 100 * limit
-    → Lived n limit (alive_at b) hs o → ToldWithin (suc m) hs o
-lived_tells zero limit b m hs o e h = absurd h
-lived_tells (suc n) limit b m hs o e (answer, d, more, eq, next) =
-    within_one n limit b m hs more o answer d e eq next (λ q e' h. lived_tells n limit (b + 1) q more o e' h)
-
-pub told : (n limit : ℕ) (hs : List Heard) (o : Outcome) → 0 < limit → Lived n limit fresh hs o → Told limit hs o
-told n limit hs o lt h =
-    let m = 100 * limit - 1 in
-    let e : suc m ≡ 100 * limit = omega arith in
-    let P : ℕ → Type 0 = λ t. ToldWithin t hs o in
-    subst P e (lived_tells n limit 0 m hs o (omega arith) h)
+pub ends_so : (limit : ℕ) (w : Watch) (answer : Result Polled OsFault) (done : Bool) (o : Outcome) → IsWatched limit w → Tells limit w answer done o
+ends_so limit w answer done o is = by w.killed w.after is
+  where
+    by : (t : Bool) (a : ℕ) → IsShort t limit w.before a → Tells limit (record { before = w.before; killed = t; after = a }) answer done o
+    by true a lt = tells_killed limit w.before a answer done o lt
+    by false a (lt, none) =
+        let P : ℕ → Type 0 = λ n. Tells limit (record { before = w.before; killed = false; after = n }) answer done o in
+        subst P (sym none) (tells_alive limit w.before answer done o lt)

@@ -1,20 +1,16 @@
--- What stands at a place of two joined lists.
-use Rattle.std.proofs.Common.{◌≡◌, ℕ, zero, suc, ◌+◌, ◌⊎◌, List, [], ◌∷◌, ◌++◌, length, map, slice_get, Some, refl, ap, inl, inr, arith}
+-- What stands at a place of a list.
+use Rattle.std.proofs.Common.{◌≡◌, ℕ, zero, suc, List, [], ◌∷◌, drop, remove, slice_get, Some, subst, take}
+use Rattle.kt_child.proofs.Common.{All, All-append, All-drop, All-head, All-tail, All-take}
 
 pub some_is : {X : Type 0} (x y : X) → Some x ≡ Some y → x ≡ y
 some_is x y e = cc
 
-pub in_append : {X : Type 0} (xs ys : List X) (k : ℕ) (a : X) → slice_get (xs ++ ys) k ≡ Some a
-    → (slice_get xs k ≡ Some a) ⊎ ((m : ℕ) × (k ≡ length xs + m) × (slice_get ys m ≡ Some a))
-in_append [] ys k a g = inr (k, omega arith, g)
-in_append (x ∷ xs) ys zero a g = inl g
-in_append (x ∷ xs) ys (suc k) a g = later (in_append xs ys k a g)
-  where
-    later : (slice_get xs k ≡ Some a) ⊎ ((m : ℕ) × (k ≡ length xs + m) × (slice_get ys m ≡ Some a)) → (slice_get (x ∷ xs) (suc k) ≡ Some a) ⊎ ((m : ℕ) × (suc k ≡ length (x ∷ xs) + m) × (slice_get ys m ≡ Some a))
-    later (inl h) = inl h
-    later (inr w) = inr (w.0, omega (arith, w.1), w.2)
+-- what holds of each of these holds of the one at a place
+pub all_at : {X : Type 0} (P : X → Type 0) (xs : List X) (i : ℕ) (x : X) → All P xs → slice_get xs i ≡ Some x → P x
+all_at P [] i x h e = let no : ⊥ = cc in absurd no
+all_at P (y ∷ xs) zero x h e = subst P (some_is y x e) (All-head P y xs h)
+all_at P (y ∷ xs) (suc i) x h e = all_at P xs i x (All-tail P y xs h) e
 
--- what is made of two lists, joined
-pub mapped_append : {X Y : Type 0} (f : X → Y) (xs ys : List X) → map f (xs ++ ys) ≡ map f xs ++ map f ys
-mapped_append f [] ys = refl
-mapped_append f (x ∷ xs) ys = ap (λ t. f x ∷ t) (mapped_append f xs ys)
+-- and of each that is left without one
+pub all_left : {X : Type 0} (P : X → Type 0) (xs : List X) (i : ℕ) → All P xs → All P (remove xs i)
+all_left P xs i h = All-append P (take i xs) (drop (suc i) xs) (All-take P i xs h) (All-drop P (suc i) xs h)

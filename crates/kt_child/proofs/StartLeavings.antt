@@ -1,14 +1,12 @@
 -- What is known of the case that a start takes, and of other cases then.
-use Rattle.std.proofs.Common.{◌≡◌, ℕ, zero, ◌+◌, ◌≤◌, ◌==◌, ◌&&◌, List, [], ◌∷◌, ◌++◌, false, true, Some, ◌⊎◌, slice_get, refl, sym, ◌∙◌, ap, subst, arith, inl, inr}
-use Rattle.kt_child.proofs.Common.{Role, Body, Cleanup, Job, StartAnswer, same_role, IsPlan, Trace, Then, Start, Child, Driver, Paths, Watched, Case, one_if, ChildrenState, Call, Heard, paths_of, case_in, cleaning, watched_of, same_child, IsNumberAt, IsNumberOf, following, next_after}
+use Rattle.std.proofs.Common.{◌≡◌, ℕ, ◌+◌, ◌≤◌, ◌==◌, ◌&&◌, List, [], false, true, Some, ◌⊎◌, slice_get, refl, sym, ◌∙◌, ap, subst, arith, inl, inr}
+use Rattle.kt_child.proofs.Common.{All, Role, Body, Cleanup, Job, StartAnswer, same_role, IsPlan, Trace, Then, Start, Child, Driver, Paths, Watched, Case, one_if, ChildrenState, Call, Heard, cases_of, child_of, paths_of, case_in, cleaning, same_child, IsNumberAt, IsNumberOf, following, next_after}
 use Rattle.kt_sched.specs.declared.job.StartAnswer.TheVariants.{Started as StartedAt, Refused as RefusedFor}
 use Rattle.kt_child.specs.Driving.Launches.{Takes}
-use Rattle.kt_child.proofs.Shares.{named}
 use Rattle.kt_child.proofs.CaseCounts.{and_false}
-use Rattle.kt_child.proofs.CasePlaces.{Every, at_none, at_some, every_left, named_last, named_past, other_number}
-use Rattle.kt_child.proofs.NameCounts.{case_name, numbered, numbered_less, one_or}
-use Rattle.kt_child.proofs.NamedSteps.{head_is}
-use Rattle.kt_child.proofs.TraceFacts.{IsGone, OwedSo, RunsSo, Stands, cleaner, following_more}
+use Rattle.kt_child.proofs.NameCounts.{named, not_one, number_there, numbered, numbered_less, one_or}
+use Rattle.kt_child.proofs.Places.{all_at, all_left}
+use Rattle.kt_child.proofs.TraceFacts.{IsGone, OwedSo, RunsSo, Stands, following_more}
 
 -- what had a number has it still
 abbrev pub Grows : ℕ → Trace → Trace → Type 0
@@ -20,34 +18,15 @@ grows_start base T i Body (StartedAt moment) k n h = inr h
 grows_start base T i Body (RefusedFor cause) k n h = h
 grows_start base T i Cleanup answer k n h = h
 
--- the cases that run
-pub run_kept : (plan : List Job) (root : List ℕ) (base : ℕ) (T T' : Trace) (heard : Child → List Heard) (row : List Watched) (cases : List Case) → Grows base T T'
-    → Every (RunsSo plan root base T heard row) cases → Every (RunsSo plan root base T' heard row) cases
-run_kept plan root base T T' heard row cases g h i c at = let r = h i c at in (g c.position c.attempt r.0, r.1, r.2)
+-- the children that run
+pub run_kept : (plan : List Job) (root : List ℕ) (base : ℕ) (T T' : Trace) (heard : Child → List Heard) (ks : List Watched) → Grows base T T'
+    → All (RunsSo plan root base T heard) ks → All (RunsSo plan root base T' heard) ks
+run_kept plan root base T T' heard ks g h i d lt = let r = h i d lt in (g _ _ r.0, r.1, r.2)
 
 -- the cases that are owed their cleanup
 pub owed_kept : (root : List ℕ) (base : ℕ) (T T' : Trace) (heard : Child → List Heard) (pending : List Case) → Grows base T T'
-    → Every (OwedSo root base T heard) pending → Every (OwedSo root base T' heard) pending
-owed_kept root base T T' heard pending g h i c at = let r = h i c at in (g c.position c.attempt r.0, r.1, r.2)
-
--- a child of a number that no case has, behind the children
-pub run_more : (plan : List Job) (root : List ℕ) (base : ℕ) (T T' : Trace) (heard : Child → List Heard) (row : List Watched) (cases : List Case) (k : Watched) → Grows base T T'
-    → numbered k.child.attempt cases ≡ 0
-    → Every (RunsSo plan root base T heard row) cases → Every (RunsSo plan root base T' heard (row ++ k ∷ [])) cases
-run_more plan root base T T' heard row cases k g none h i c at =
-    let r = h i c at in
-    let z : one_if (k.child.attempt == c.attempt) ≡ 0 = at_none k.child.attempt cases none i c at in
-    let past : named (case_name c) (row ++ k ∷ []) ≡ named (case_name c) row = named_past (case_name c) row k (other_number k.child (case_name c) z) in
-    (g c.position c.attempt r.0, r.1, (r.2.0, r.2.1, λ m e. r.2.2 m (sym past ∙ e), r.2.3))
-
--- a child that was just started
-pub run_fresh : (plan : List Job) (root : List ℕ) (base : ℕ) (T : Trace) (heard : Child → List Heard) (row : List Watched) (c : Case) (job : Job)
-    → IsNumberOf base T c.position c.attempt → (c.role ≡ Body → heard (cleaner c.attempt) ≡ []) → slice_get plan c.position ≡ Some job
-    → named (case_name c) row ≡ [] → heard (case_name c) ≡ [] → c ≡ case_in root job c.role c.attempt
-    → RunsSo plan root base T heard (row ++ watched_of job c.role c.attempt ∷ []) c
-run_fresh plan root base T heard row c job is silent at none unheard same =
-    let k : Watched = watched_of job c.role c.attempt in
-    (is, silent, (job, at, λ m e. (zero, (unheard, sym (head_is k m [] [] (sym (named_last row k none) ∙ e)))), same))
+    → All (OwedSo root base T heard) pending → All (OwedSo root base T' heard) pending
+owed_kept root base T T' heard pending g h i d lt = let r = h i d lt in (g _ _ r.0, r.1, r.2)
 
 -- numbers that differ
 unequal : (a b : ℕ) → (a ≡ b → ⊥) → one_if (a == b) ≡ 0
@@ -57,12 +36,16 @@ unequal a b f = by (one_or a b)
     by (inl z) = z
     by (inr (one, e)) = absurd (f e)
 
+-- two names with different numbers
+other_number : (d a : Child) → one_if (d.attempt == a.attempt) ≡ 0 → same_child d a ≡ false
+other_number d a h = ap (λ t. t && same_role d.role a.role) (not_one (d.attempt == a.attempt) h)
+
 -- the cleanup of a case that is owed is not a child that is gone
-cleaner_apart : (next : ℕ) (b : ChildrenState) (n : ℕ) (c : Child) → 1 ≤ numbered n b.pending → IsGone next b c → (r : Role) → c.role ≡ r → same_child (cleaner n) c ≡ false
+cleaner_apart : (next : ℕ) (b : ChildrenState) (n : ℕ) (c : Child) → 1 ≤ numbered n b.pending → IsGone next b c → (r : Role) → c.role ≡ r → same_child (named n Cleanup) c ≡ false
 cleaner_apart next b n c one (lt, none, h) Body e = ap (λ t. (n == c.attempt) && same_role Cleanup t) e ∙ and_false (n == c.attempt)
 cleaner_apart next b n c one (lt, none, h) Cleanup e =
     let o = h e in
-    other_number (cleaner n) c (unequal n c.attempt (λ f. let g = ap (λ t. numbered t b.pending) f in omega (arith, one, g, o)))
+    other_number (named n Cleanup) c (unequal n c.attempt (λ f. let g = ap (λ t. numbered t b.pending) f in omega (arith, one, g, o)))
 
 -- a cleanup is no body
 pub not_body : Cleanup ≡ Body → ⊥
@@ -78,16 +61,16 @@ cleaning_in root d job e f =
 -- what is known of the case that a start takes, of the next number and of the cases that are owed after it
 pub record IsTaken (plan : List Job) (root : List ℕ) (base : ℕ) (T : Trace) (heard : Child → List Heard) (i : ℕ) (job : Job) (role : Role) (old : ℕ) (b : ChildrenState) (c : Case) (next : ℕ) (pending : List Case) : Type 0 where
   pub rises : old ≤ next
-  pub counts : (n : ℕ) → (numbered n b.cases + one_if (n == c.attempt) + numbered n pending ≤ 1)
-      × (next ≤ n → numbered n b.cases + one_if (n == c.attempt) + numbered n pending ≡ 0)
+  pub counts : (n : ℕ) → (numbered n (cases_of b.children) + one_if (c.attempt == n) + numbered n pending ≤ 1)
+      × (next ≤ n → numbered n (cases_of b.children) + one_if (c.attempt == n) + numbered n pending ≡ 0)
   pub number : IsNumberAt base T i role c.attempt
   pub position : c.position ≡ i
   pub same : c ≡ case_in root job role c.attempt
-  pub unheard : heard (case_name c) ≡ []
-  pub silent : c.role ≡ Body → heard (cleaner c.attempt) ≡ []
-  pub owed : Every (OwedSo root base T heard) pending
-  pub gone : (x : Child) → IsGone old b x → (same_child (case_name c) x ≡ false)
-      × (x.role ≡ Cleanup → numbered x.attempt b.cases + one_if (x.attempt == c.attempt) + numbered x.attempt pending ≡ 0)
+  pub unheard : heard (child_of c) ≡ []
+  pub silent : c.role ≡ Body → heard (named c.attempt Cleanup) ≡ []
+  pub owed : All (OwedSo root base T heard) pending
+  pub gone : (x : Child) → IsGone old b x → (same_child (child_of c) x ≡ false)
+      × (x.role ≡ Cleanup → numbered x.attempt (cases_of b.children) + one_if (c.attempt == x.attempt) + numbered x.attempt pending ≡ 0)
   pub counted : (answer : StartAnswer) → next ≡ next_after base (Then T (Start i role answer))
 
 -- the case of a start
@@ -99,7 +82,7 @@ taken d plan base T heard i job Body c next pending past is at (l, step, left, e
     let Q : List Case → Type 0 = λ t. IsTaken plan d.root base T heard i job Body d.next d.running (case_in d.root job Body d.next) next t in
     subst P (sym e) (subst Q (sym left) (record {
       rises = omega (arith, step);
-      counts = λ n. count n (one_or n d.next);
+      counts = λ n. count n (one_or d.next n);
       number = s.counted;
       position = is.placed i job at;
       same = refl;
@@ -108,26 +91,24 @@ taken d plan base T heard i job Body c next pending past is at (l, step, left, e
       owed = s.owed;
       gone = λ x g.
           let lt = g.0 in
-          let y : one_if (x.attempt == d.next) ≡ 0 = unequal x.attempt d.next (λ f. omega (arith, f, lt)) in
-          (other_number (case_name (case_in d.root job Body d.next)) x (unequal d.next x.attempt (λ f. omega (arith, f, lt))), λ r. let o = g.2 r in omega (arith, y, o));
+          let y : one_if (d.next == x.attempt) ≡ 0 = unequal d.next x.attempt (λ f. omega (arith, f, lt)) in
+          (other_number (child_of (case_in d.root job Body d.next)) x y, λ r. let o = g.2 r in omega (arith, y, o));
       counted = λ answer. step ∙ sym (following_more d.next l) ∙ ap following s.counted;
     }))
   where
-    count : (n : ℕ) → (one_if (n == d.next) ≡ 0) ⊎ ((one_if (n == d.next) ≡ 1) × (n ≡ d.next))
-        → (numbered n d.running.cases + one_if (n == d.next) + numbered n d.running.pending ≤ 1)
-        × (next ≤ n → numbered n d.running.cases + one_if (n == d.next) + numbered n d.running.pending ≡ 0)
+    count : (n : ℕ) → (one_if (d.next == n) ≡ 0) ⊎ ((one_if (d.next == n) ≡ 1) × (d.next ≡ n))
+        → (numbered n (cases_of d.running.children) + one_if (d.next == n) + numbered n d.running.pending ≤ 1)
+        × (next ≤ n → numbered n (cases_of d.running.children) + one_if (d.next == n) + numbered n d.running.pending ≡ 0)
     count n (inl z) =
-        let a = s.apart in
-        let m = a.1 n in
+        let m = s.apart n in
         let u = m.0 in
         (omega (arith, z, u), λ le. let y = m.1 (omega (arith, le, step)) in omega (arith, z, y))
     count n (inr (z, same)) =
-        let a = s.apart in
-        let m = a.1 n in
+        let m = s.apart n in
         let y = m.1 (omega (arith, same)) in
         (omega (arith, z, y), λ le. absurd (omega (arith, le, same, step)))
 taken d plan base T heard i job Cleanup c next pending past is at (place, owed, there, position, step, left, e) s =
-    let o = s.owed place owed there in
+    let o = all_at (OwedSo d.root base T heard) d.running.pending place owed s.owed there in
     let placed : owed.position ≡ i = position ∙ is.placed i job at in
     let N : ℕ → Type 0 = λ t. IsNumberOf base T t owed.attempt in
     let P : Case → Type 0 = λ t. IsTaken plan d.root base T heard i job Cleanup d.next d.running t next pending in
@@ -136,8 +117,7 @@ taken d plan base T heard i job Cleanup c next pending past is at (place, owed, 
       rises = omega (arith, step);
       counts = λ n.
           let r = numbered_less n d.running.pending place owed there in
-          let a = s.apart in
-          let m = a.1 n in
+          let m = s.apart n in
           let u = m.0 in
           (omega (arith, r, u), λ le. let y = m.1 (omega (arith, le, step)) in omega (arith, r, y));
       number = subst N placed o.0;
@@ -145,9 +125,9 @@ taken d plan base T heard i job Cleanup c next pending past is at (place, owed, 
       same = cleaning_in d.root owed job position o.2;
       unheard = o.1;
       silent = λ r. absurd (not_body r);
-      owed = every_left (OwedSo d.root base T heard) d.running.pending place s.owed;
+      owed = all_left (OwedSo d.root base T heard) d.running.pending place s.owed;
       gone = λ x g.
           let r = numbered_less x.attempt d.running.pending place owed there in
-          (cleaner_apart d.next d.running owed.attempt x (at_some d.running.pending place owed there) g x.role refl, λ q. let z = g.2 q in omega (arith, r, z));
+          (cleaner_apart d.next d.running owed.attempt x (number_there d.running.pending place owed there) g x.role refl, λ q. let z = g.2 q in omega (arith, r, z));
       counted = λ answer. step ∙ s.counted;
     }))

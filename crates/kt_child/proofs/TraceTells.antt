@@ -1,31 +1,28 @@
 -- Over a whole trace the answers of each child are one life, which tells its end.
 use Rattle.std.proofs.Common.{◌≡◌, ℕ, List, [], ◌++◌, Some, slice_get, refl, sym, ◌∙◌, ap, subst, append-nil}
-use Rattle.kt_child.proofs.Common.{Role, Job, StartAnswer, Ended, IsPlan, Trace, NoEvent, Then, Event, Start, End, Leads, Driver, Child, ChildrenState, Chain, Call, Heard, Told, limit_of, heard_by, IsBare, EachWith, ToldAt}
+use Rattle.kt_child.proofs.Common.{All, All-nil, Role, Job, StartAnswer, Ended, IsPlan, Trace, NoEvent, Then, Event, Start, End, Leads, Driver, Child, ChildrenState, Chain, Call, Heard, Told, limit_of, heard_by, IsBare, EachWith, ToldAt}
 use Rattle.kt_child.specs.Driving.DriverSteps.{DriverStarts, DriverWaits}
-use Rattle.kt_child.proofs.CasePlaces.{Every}
 use Rattle.kt_child.proofs.Chains.{chain_append}
 use Rattle.kt_child.proofs.LifeSteps.{heard_append}
-use Rattle.kt_child.proofs.NameCounts.{none_yet}
-use Rattle.kt_child.proofs.TraceEnds.{heard_after}
-use Rattle.kt_child.proofs.TraceFacts.{PastSo, Stands, each_map}
+use Rattle.kt_child.proofs.NameCounts.{named, none_yet}
+use Rattle.kt_child.proofs.Lives.{Lives, heard_after}
+use Rattle.kt_child.proofs.TraceFacts.{OwedSo, PastSo, RunsSo, Stands, each_map}
 use Rattle.kt_child.proofs.TraceStarts.{start_stands}
 use Rattle.kt_child.proofs.TraceWaits.{wait_stands}
 
 -- nothing stands in an empty list
-none_at : {X : Type 0} (P : X → Type 0) (xs : List X) → xs ≡ [] → Every P xs
-none_at {X} P xs e i x at = let f : slice_get [] i ≡ Some x = subst (λ t. slice_get t i ≡ Some x) e at in none i f
-  where
-    none : (k : ℕ) → slice_get [] k ≡ Some x → P x
-    none k f = let no : ⊥ = cc in absurd no
+none_at : {X : Type 0} (P : X → Type 0) (xs : List X) → xs ≡ [] → All P xs
+none_at P xs e = subst (All P) (sym e) (All-nil P)
 
 -- before the first answer
 bare_stands : (plan : List Job) (source root : List ℕ) (next : ℕ) (b : ChildrenState) → IsBare b → Stands plan source root next NoEvent (λ c. []) next b []
-bare_stands plan source root next b (x, y, z) =
+bare_stands plan source root next b bare =
     record {
       counted = refl;
-      apart = none_yet next b (x, y, z);
-      run = none_at _ b.cases y;
-      owed = none_at _ b.pending z;
+      apart = none_yet next b bare;
+      run = none_at (RunsSo plan root next NoEvent (λ c. [])) b.children bare.0;
+      live = none_at (Lives (λ c. [])) b.children bare.0;
+      owed = none_at (OwedSo root next NoEvent (λ c. [])) b.pending bare.1;
       unborn = λ n r le. refl;
       each = refl;
     }
@@ -37,7 +34,7 @@ told_one : (plan : List Job) (source root : List ℕ) (base : ℕ) (heard : Chil
 told_one plan source root base heard next b calls f asked T (Start i role answer) h = h
 told_one plan source root base heard next b calls f asked T (End ended) (n, is, (job, at, told, left), gone) =
     let P : List Heard → Type 0 = λ t. Told (limit_of job ended.role) t ended.outcome in
-    record { number = n; numbered = is; job = job; place = at; told = subst P (sym (f (record { attempt = n; role = ended.role }))) told; left = left }
+    record { number = n; numbered = is; job = job; place = at; told = subst P (sym (f (named n ended.role))) told; left = left }
 
 -- what a trace leaves: the calls that it asked, what each name heard of them, and what is known by it
 abbrev Left : {O : Type 0} → (O → Call → O → Type 0) → List Job → Trace → Driver O → Driver O → Type 0
@@ -66,14 +63,14 @@ start_left leads plan T d mid e job i role answer is at l h =
 
 -- one more wait
 wait_left : {O : Type 0} (leads : O → Call → O → Type 0) (plan : List Job) (T : Trace) (d mid e : Driver O) (ended : Ended)
-    → IsPlan plan → Left leads plan T d mid → DriverWaits leads mid ended e → Left leads plan (Then T (End ended)) d e
-wait_left leads plan T d mid e ended is l ((calls, chain, waited), source, root, next) =
+    → Left leads plan T d mid → DriverWaits leads mid ended e → Left leads plan (Then T (End ended)) d e
+wait_left leads plan T d mid e ended l ((calls, chain, waited), source, root, next) =
     let P : ℕ → Type 0 = λ t. Stands plan d.source d.root d.next (Then T (End ended)) (heard_after l.1 calls) t e.running (l.0 ++ calls) in (
       l.0 ++ calls,
       heard_after l.1 calls,
       chain_append leads d.os mid.os e.os l.0 calls l.2 chain,
       λ c. heard_append c l.0 calls ∙ ap (λ t. t ++ heard_by c calls) (l.3 c),
-      subst P (sym next) (wait_stands plan d.source d.root d.next T l.1 mid.next mid.running e.running l.0 calls ended is waited l.4),
+      subst P (sym next) (wait_stands plan d.source d.root d.next T l.1 mid.next mid.running e.running l.0 calls ended waited l.4),
       source ∙ l.5,
       root ∙ l.6,
     )
@@ -90,7 +87,7 @@ trace_left leads driver starts waits s w plan (Then T (Start i role answer)) d e
     start_left leads plan T (driver d) (driver mid) (driver e) job i role answer is at
     (trace_left leads driver starts waits s w plan T d mid is bare led) (s mid e job role answer started)
 trace_left leads driver starts waits s w plan (Then T (End ended)) d e is bare (mid, led, waited) =
-    wait_left leads plan T (driver d) (driver mid) (driver e) ended is
+    wait_left leads plan T (driver d) (driver mid) (driver e) ended
     (trace_left leads driver starts waits s w plan T d mid is bare led) (w mid e ended waited)
 
 -- the law

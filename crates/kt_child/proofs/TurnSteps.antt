@@ -1,7 +1,8 @@
 -- One turn, poll by poll.
 use Rattle.std.proofs.Common.{◌≡◌, ℕ, zero, suc, ◌+◌, ◌<◌, List, [], ◌∷◌, ◌++◌, length, take, Bool, Option, Result, refl, sym, ◌∙◌, ap, subst, add-one, append_assoc, append-nil}
-use Rattle.kt_child.proofs.Common.{set, take_more, All, All-get_or, slice_get-get_or, Outcome, Polled, OsFault, Watch, Turn, More, Watched, Chain, Call, asked_by_poll, turn_of, watch_after, IsOn, PolledAll, PolledLast, PolledUntil, advanced, advanced_below}
+use Rattle.kt_child.proofs.Common.{set, take_more, Child, All, All-get_or, slice_get-get_or, Outcome, Polled, OsFault, Watch, Turn, More, Watched, Chain, Call, child_of, asked_by_poll, turn_of, watch_after, IsOn, PolledAll, PolledLast, PolledUntil, advanced, advanced_below}
 use Rattle.std.proofs.Math.ListN.{get_or}
+use Rattle.std.proofs.lemmas.List.{get_or_default}
 use Rattle.kt_child.specs.declared.polling.Turn.TheVariants.{Ended}
 use Rattle.kt_child.proofs.Chains.{chain_append}
 
@@ -21,21 +22,31 @@ set_next (suc i) (k ∷ s) d = ap (λ t. advanced k ∷ t) (set_next i s d)
 abbrev pub OnePoll : {O : Type 0} → (O → Call → O → Type 0) → O → O → Turn → Watched → Type 0
 OnePoll leads now new turn k =
     (answer : Result Polled OsFault) × (done : Bool)
-    × Chain leads now (asked_by_poll k.child k.limit k.watch answer done) new
+    × Chain leads now (asked_by_poll (child_of k.case) k.limit k.watch answer done) new
     × (turn ≡ turn_of k.limit k.watch answer done)
+
+-- by the name that its case has
+pub one_poll : {O : Type 0} (leads : O → Call → O → Type 0) (now new : O) (turn : Turn) (name : Child) (k : Watched) → name ≡ child_of k.case
+    → (answer : Result Polled OsFault) × (done : Bool)
+    × Chain leads now (asked_by_poll name k.limit k.watch answer done) new × (turn ≡ turn_of k.limit k.watch answer done)
+    → OnePoll leads now new turn k
+one_poll leads now new turn name k e h =
+    let P : Child → Type 0 = λ t. (answer : Result Polled OsFault) × (done : Bool)
+    × Chain leads now (asked_by_poll t k.limit k.watch answer done) new × (turn ≡ turn_of k.limit k.watch answer done) in
+    subst P e h
 
 polled_snoc : (ks : List Watched) (k : Watched) (xs : List Call) (answer : Result Polled OsFault) (done : Bool)
     → PolledAll ks xs → More ≡ turn_of k.limit k.watch answer done
-    → PolledAll (ks ++ k ∷ []) (xs ++ asked_by_poll k.child k.limit k.watch answer done)
+    → PolledAll (ks ++ k ∷ []) (xs ++ asked_by_poll (child_of k.case) k.limit k.watch answer done)
 polled_snoc [] k xs answer done h e =
-    let ys : List Call = asked_by_poll k.child k.limit k.watch answer done in
+    let ys : List Call = asked_by_poll (child_of k.case) k.limit k.watch answer done in
     (answer, done, [], ap (λ t. t ++ ys) h ∙ sym (append-nil ys), sym e, refl)
 polled_snoc (j ∷ ks) k xs answer done (a, d, more, eq, went, rest) e =
-    let ys : List Call = asked_by_poll k.child k.limit k.watch answer done in (
+    let ys : List Call = asked_by_poll (child_of k.case) k.limit k.watch answer done in (
       a,
       d,
       more ++ ys,
-      ap (λ t. t ++ ys) eq ∙ append_assoc (asked_by_poll j.child j.limit j.watch a d) more ys,
+      ap (λ t. t ++ ys) eq ∙ append_assoc (asked_by_poll (child_of j.case) j.limit j.watch a d) more ys,
       went,
       polled_snoc ks k more answer done rest e,
     )
@@ -53,7 +64,7 @@ step_more leads init children i d start now new lt e (calls, chain, polled) one 
     let at : get_or children i d ≡ k = ap (λ t. get_or t i d) e ∙ watched_at i init d in
     let P : Watched → Type 0 = λ t. OnePoll leads now new More t in
     let o : OnePoll leads now new More k = subst P at one in
-    let ys = asked_by_poll k.child k.limit k.watch o.0 o.1 in
+    let ys = asked_by_poll (child_of k.case) k.limit k.watch o.0 o.1 in
     let Q : List Watched → Type 0 = λ t. PolledAll t (calls ++ ys) in (
       calls ++ ys,
       chain_append leads start now new calls ys chain o.2,
@@ -71,23 +82,29 @@ step_over leads init children i d start now new outcome lt e (calls, chain, poll
     let at : get_or children i d ≡ k = ap (λ t. get_or t i d) e ∙ watched_at i init d in
     let P : Watched → Type 0 = λ t. OnePoll leads now new (Ended outcome) t in
     let o : OnePoll leads now new (Ended outcome) k = subst P at one in
-    let ys = asked_by_poll k.child k.limit k.watch o.0 o.1 in
+    let ys = asked_by_poll (child_of k.case) k.limit k.watch o.0 o.1 in
     let Q : Option Watched → Type 0 = λ t. PolledLast t ys outcome in (
       calls ++ ys,
       chain_append leads start now new calls ys chain o.2,
       (calls, ys, refl, polled, subst Q (sym (slice_get-get_or init i d lt)) (o.0, o.1, refl, sym o.3)),
     )
 
-pub step_set : (init children : List Watched) (i : ℕ) (d : Watched) (w : Watch)
-    → children ≡ advanced_below i init → w ≡ watch_after (get_or children i d).limit (get_or children i d).watch
-    → set children i (record { child = (get_or children i d).child; limit = (get_or children i d).limit; watch = w }) ≡ advanced_below (i + 1) init
-step_set init children i d w e f =
-    let at : get_or children i d ≡ get_or init i d = ap (λ t. get_or t i d) e ∙ watched_at i init d in
-    let k = get_or children i d in
-    let G : Watch → List Watched = λ v. set children i (record { child = k.child; limit = k.limit; watch = v }) in
+-- whatever is read beyond the list
+pub same_at : (init children : List Watched) (i : ℕ) (d e : Watched) → i < length init → children ≡ advanced_below i init → get_or children i d ≡ get_or children i e
+same_at init children i d e lt at =
+    ap (λ t. get_or t i d) at ∙ watched_at i init d ∙ get_or_default init i d e lt ∙ sym (watched_at i init e) ∙ sym (ap (λ t. get_or t i e) at)
+
+pub step_set : (init children : List Watched) (i : ℕ) (d e : Watched) (w : Watch)
+    → i < length init → children ≡ advanced_below i init → w ≡ watch_after (get_or children i d).limit (get_or children i d).watch
+    → set children i (record { case = (get_or children i e).case; limit = (get_or children i e).limit; watch = w }) ≡ advanced_below (i + 1) init
+step_set init children i d e w lt at f =
+    let here : get_or children i e ≡ get_or init i e = ap (λ t. get_or t i e) at ∙ watched_at i init e in
+    let k = get_or children i e in
+    let g : w ≡ watch_after k.limit k.watch = f ∙ ap (λ (t : Watched). watch_after t.limit t.watch) (same_at init children i d e lt at) in
+    let G : Watch → List Watched = λ v. set children i (record { case = k.case; limit = k.limit; watch = v }) in
     let H : Watched → List Watched = λ t. set children i (advanced t) in
-    let J : List Watched → List Watched = λ t. set t i (advanced (get_or init i d)) in
-    ap G f ∙ ap H at ∙ ap J e ∙ set_next i init d ∙ ap (λ n. advanced_below n init) (sym (add-one i))
+    let J : List Watched → List Watched = λ t. set t i (advanced (get_or init i e)) in
+    ap G g ∙ ap H here ∙ ap J at ∙ set_next i init e ∙ ap (λ n. advanced_below n init) (sym (add-one i))
 
 pub on_at : (init children : List Watched) (i : ℕ) (d : Watched)
     → i < length init → children ≡ advanced_below i init → All IsOn init → IsOn (get_or children i d)

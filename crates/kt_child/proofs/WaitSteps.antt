@@ -1,11 +1,12 @@
 -- Whole turns, one after the other.
 use Rattle.std.proofs.Common.{◌≡◌, ℕ, zero, suc, ◌<◌, List, [], ◌∷◌, ◌++◌, length, map, Bool, true, false, refl, ◌∙◌, ap, subst, arith, append_assoc}
-use Rattle.kt_child.proofs.Common.{All, All-get_or, Outcome, Body, Child, Watched, Chain, Call, Pause, IsOn, IsShort, polls_left, PolledAll, PolledUntil, Rounds, WaitedOn, advanced, advanced_below, after_turns}
-use Rattle.std.proofs.Math.ListN.{get_or}
+use Rattle.kt_child.proofs.Common.{All, All-head, Outcome, Case, Watched, Chain, Call, Pause, IsOn, IsShort, polls_left, PolledAll, PolledUntil, Rounds, WaitedOn, advanced, advanced_below, after_turns}
 use Rattle.kt_child.proofs.Chains.{chain_append}
 
-abbrev pub no_child : Watched
-no_child = record { child = record { attempt = 0; role = Body }; limit = 0; watch = record { before = 0; killed = false; after = 0 } }
+-- the polls that the first of these children has left
+abbrev pub first_left : List Watched → ℕ
+first_left [] = 0
+first_left (k ∷ s) = polls_left k
 
 pub all_advanced : (s : List Watched) → advanced_below (length s) s ≡ map advanced s
 all_advanced [] = refl
@@ -57,15 +58,14 @@ waiting_over leads start now new init children last place outcome (n, calls, cha
       (n, (calls, ys, refl, rounds, subst P e until), f ∙ ap (λ t. advanced_below place t) e),
     )
 
-falls : (child : Child) (limit before after : ℕ) (killed : Bool) → IsShort killed limit before after
-    → polls_left (advanced (record { child = child; limit = limit; watch = record { before = before; killed = killed; after = after } }))
-    < polls_left (record { child = child; limit = limit; watch = record { before = before; killed = killed; after = after } })
-falls child limit before after true h = omega arith
-falls child limit before after false h = omega arith
+falls : (case : Case) (limit before after : ℕ) (killed : Bool) → IsShort killed limit before after
+    → polls_left (advanced (record { case = case; limit = limit; watch = record { before = before; killed = killed; after = after } }))
+    < polls_left (record { case = case; limit = limit; watch = record { before = before; killed = killed; after = after } })
+falls case limit before after true h = omega arith
+falls case limit before after false h = omega arith
 
-pub turn_falls : (s : List Watched) → 0 < length s → All IsOn s
-    → polls_left (get_or (advanced_below (length s) s) 0 no_child) < polls_left (get_or s 0 no_child)
+pub turn_falls : (s : List Watched) → 0 < length s → All IsOn s → first_left (advanced_below (length s) s) < first_left s
 turn_falls [] lt h = absurd (omega arith)
 turn_falls (k ∷ s) lt h =
-    let on : IsOn k = All-get_or IsOn (k ∷ s) 0 no_child lt h in
-    falls k.child k.limit k.watch.before k.watch.after k.watch.killed on.0
+    let on : IsOn k = All-head IsOn k s h in
+    falls k.case k.limit k.watch.before k.watch.after k.watch.killed on.0

@@ -13,9 +13,9 @@ pub use Rattle.kt_sched.specs.Plan.{IsFit, IsPlan, IsWidth}
 pub use Rattle.kt_sched.specs.Run.{Ran}
 pub use Rattle.kt_sched.specs.Trace.{Leads, Trace}
 pub use Rattle.kt_child.specs.Driving.Begins.{Begun, state_after_start}
-pub use Rattle.kt_child.specs.Driving.ChildrenState.{Waited, idle_state, is_among, shown_at}
+pub use Rattle.kt_child.specs.Driving.ChildrenState.{Waited, idle_state, is_among, shown_in, with_pending}
 pub use Rattle.kt_child.specs.Driving.DriverSteps.{DriverStarts, DriverWaits}
-pub use Rattle.kt_child.specs.Driving.JobPlan.{case_in, limit_of, list_purpose, program_directory, program_path, spawning_for, spawning_of, want_of, watched_of}
+pub use Rattle.kt_child.specs.Driving.JobPlan.{case_in, limit_of, list_case, list_purpose, program_directory, program_path, spawning_for, spawning_of, want_of, watched_of}
 pub use Rattle.kt_child.specs.Driving.Launches.{StartsBy}
 pub use Rattle.kt_child.specs.Driving.Lists.{ListsBy, RanList, WatchedList}
 pub use Rattle.kt_child.specs.Driving.Numbers.{AttemptsDiffer}
@@ -29,9 +29,10 @@ pub use Rattle.kt_child.specs.Ending.Reads.{IsListWithin, IsReadWithin, bytes_of
 pub use Rattle.kt_child.specs.Host.HostAnswers.{HostLeads, IsFront, IsHostRead, IsOpened, IsPolledOf, limit_after}
 pub use Rattle.kt_child.specs.Host.HostFiles.{TakesAtMost}
 pub use Rattle.kt_child.specs.Host.HostStands.{AllProceed, AllStay, IsLastEnd, OthersStay, Proceeds, stand_in, stand_of}
-pub use Rattle.kt_child.specs.Inner.Children.{IsOn, IsWatched, Takes, Tells, count_at, shown_after}
+pub use Rattle.kt_child.specs.Inner.Children.{IsOn, IsOnBy, IsWatched, Takes, Tells, count_in, shown_after}
 pub use Rattle.kt_child.specs.Inner.Host.{IsAt, IsCommandOf, IsFaultOf, IsFree, IsPlaceOf, IsUnopened, RunsIn, TakesPiece, after_removed, after_set, is_other}
-pub use Rattle.kt_child.specs.Planning.ChildPlan.{common_variables, env_of, own_variables, paths_of, removed_names, test_variable, variable, variable_word, words_of}
+pub use Rattle.kt_child.specs.Planning.ChildPlan.{child_of, common_variables, env_of, own_variables, paths_of, removed_names, test_variable, variable, variable_word, words_of}
+pub use Rattle.kt_child.specs.Polling.ChildOutcome.{fresh}
 pub use Rattle.kt_child.specs.Polling.Lives.{same_child}
 pub use Rattle.kt_child.specs.Polling.Polls.{asked_by_poll, is_due, turn_of, watch_after}
 pub use Rattle.kt_child.specs.Polling.Turns.{PolledAll, PolledUntil, WaitedOn, advanced_below}

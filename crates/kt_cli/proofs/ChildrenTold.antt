@@ -32,7 +32,7 @@ did_run seen c bytes exit (inr m) = cut_runs seen c bytes exit m
 
 -- an idle state is bare
 pub is_bare : (b : ChildrenState) → b ≡ idle_state → IsBare b
-is_bare b e = subst IsBare (sym e) (refl, refl, refl)
+is_bare b e = subst IsBare (sym e) (refl, refl)
 
 module _ {M O : Type 0} (m : machine.Ghosts M) (o : system.Ghosts O) where
   -- no question changes what runs

@@ -18,7 +18,7 @@ pub use Rattle.kt_base.specs.Utf8.{utf8}
 pub use Rattle.kt_base.specs.declared.entry.Entry.{Entry}
 pub use Rattle.kt_base.specs.declared.verdict.Kind.{Kind}
 pub use Rattle.kt_base.specs.declared.entry.Run.{Run}
-pub use Rattle.kt_child.specs.Driving.ChildrenState.{ChildrenState, idle_state, is_among, shown_at}
+pub use Rattle.kt_child.specs.Driving.ChildrenState.{ChildrenState, idle_state, is_among, shown_in}
 pub use Rattle.kt_plan.proofs.PlansFit.{plan_fits}
 pub use Rattle.kt_plan.specs.Questions.{OfHost, OfTree, Question, leads_by, of_host}
 pub use Rattle.kt_plan.specs.declared.cases.Candidate.{Candidate}

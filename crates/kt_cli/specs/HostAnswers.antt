@@ -7,7 +7,7 @@ use Rattle.kt_sched.specs.declared.job.Job.{Job}
 use Rattle.kt_sched.specs.declared.job.StartAnswer.{StartAnswer}
 use Rattle.kt_sched.specs.declared.job.Ended.{Ended}
 use Rattle.kt_child.specs.System.Calls.{Call}
-use Rattle.kt_child.specs.Driving.ChildrenState.{is_among, shown_at}
+use Rattle.kt_child.specs.Driving.ChildrenState.{is_among, shown_in}
 use Rattle.kt_child.specs.Driving.DriverSteps.{DriverLists, DriverStarts, DriverWaits}
 use Rattle.kt_child.specs.declared.system.os.Os as system
 use Rattle.kt_cli.specs.declared.host.host_world.HostWorld.{HostWorld}
@@ -77,7 +77,7 @@ module _ {M O : Type 0} where
   -- the relations of a world over a machine and a system
   abbrev pub host_world : machine.Ghosts M → system.Ghosts O → World (HostWorld M O)
   host_world m o = record {
-    running = λ w. shown_at w.driver.running.cases;
+    running = λ w. shown_in w.driver.running;
     pending = λ w. is_among w.driver.running.pending;
     starts = HostStarts o.leads;
     waits = HostWaits o.leads;

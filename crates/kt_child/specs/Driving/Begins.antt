@@ -9,7 +9,6 @@ use Rattle.kt_sched.specs.declared.job.StartAnswer.TheVariants.{Started as Start
 use Rattle.kt_sched.specs.Children.{same_role}
 use Rattle.kt_child.specs.declared.planning.Spawning.{Spawning}
 use Rattle.kt_child.specs.declared.polling.Watched.{Watched}
-use Rattle.kt_child.specs.declared.planning.Case.{Case}
 use Rattle.kt_child.specs.System.Calls.{Call}
 use Rattle.kt_child.specs.Ending.Ends.{Removes}
 use Rattle.kt_child.specs.Driving.Starts.{Started}
@@ -31,7 +30,6 @@ Begun plan calls answer =
     ⊎ ((r : Result ℕ Refused) × Started plan calls r × (answer ≡ answer_of r))
 
 -- a started child is the last of the running children
-abbrev pub state_after_start : ChildrenState → Watched → Case → StartAnswer → ChildrenState
-state_after_start b child c (StartedAt moment) =
-    record { children = b.children ++ child ∷ []; cases = b.cases ++ c ∷ []; pending = b.pending }
-state_after_start b child c (RefusedFor cause) = b
+abbrev pub state_after_start : ChildrenState → Watched → StartAnswer → ChildrenState
+state_after_start b child (StartedAt moment) = record { children = b.children ++ child ∷ []; pending = b.pending }
+state_after_start b child (RefusedFor cause) = b

@@ -1,5 +1,5 @@
 -- The running children of a driver, and the cases whose cleanup is owed.
-use Rattle.std.specs.Prelude.{ℕ, Bool, true, false, ◌==◌, ◌&&◌, ◌≡◌, List, [], ◌∷◌, ◌++◌, Option, Some, None, remove, slice_get, if◌then◌else◌}
+use Rattle.std.specs.Prelude.{map, ℕ, Bool, true, false, ◌==◌, ◌&&◌, ◌≡◌, List, [], ◌∷◌, ◌++◌, Option, Some, None, remove, slice_get, if◌then◌else◌}
 use Rattle.kt_base.specs.declared.child.Role.{Role}
 use Rattle.kt_base.specs.declared.child.Outcome.{Outcome}
 use Rattle.kt_sched.specs.declared.job.Ended.{Ended}
@@ -10,15 +10,22 @@ use Rattle.kt_child.specs.System.Calls.{Call}
 use Rattle.kt_child.specs.Polling.Turns.{WaitedOn}
 use Rattle.kt_child.specs.Ending.Ends.{Leaves, is_over}
 
--- The running children in the order of their start, each with its case, and the cases whose cleanup is owed.
+-- the running children in the order of their start, and the cases whose cleanup is owed
 pub record ChildrenState : Type 0 where
   pub children : List Watched
-  pub cases : List Case
   pub pending : List Case
 
 -- nothing runs, and nothing is owed
 abbrev pub idle_state : ChildrenState
-idle_state = record { children = []; cases = []; pending = [] }
+idle_state = record { children = []; pending = [] }
+
+-- the running children, with these cases that are owed a cleanup
+abbrev pub with_pending : ChildrenState → List Case → ChildrenState
+with_pending b pending = record { children = b.children; pending = pending }
+
+-- the cases of these children
+abbrev pub cases_of : List Watched → List Case
+cases_of children = map (λ k. k.case) children
 
 -- what is shown of a case's child
 abbrev pub shown : Case → Shown
@@ -28,6 +35,10 @@ shown c = record { interface = c.interface; cleanup = c.cleanup }
 abbrev pub shown_at : List Case → ℕ → Role → Option Shown
 shown_at [] k r = None
 shown_at (c ∷ cases) k r = if k == c.position && same_role r c.role then Some (shown c) else shown_at cases k r
+
+-- what is shown of the running children
+abbrev pub shown_in : ChildrenState → ℕ → Role → Option Shown
+shown_in b = shown_at (cases_of b.children)
 
 -- whether one of these cases has this position
 abbrev pub is_among : List Case → ℕ → Bool
@@ -39,18 +50,17 @@ abbrev pub pending_with : Case → List Case → List Case
 pending_with c pending = if is_over c then pending else pending ++ c ∷ []
 
 -- A wait that asks this and ends so leads from one state to another: its polls end with the child at a place, what follows
--- deals with the case of that child, and neither is among the running ones then.
+-- deals with the case of that child, and the child is not among the running ones then.
 pub record Waited (old : ChildrenState) (calls : List Call) (e : Ended) (new : ChildrenState) : Type 0 where
   pub polls : List Call
   pub rest : List Call
   pub place : ℕ
   pub outcome : Outcome
   pub after : List Watched
-  pub case : Case
+  pub over : Watched
   pub asked : calls ≡ polls ++ rest
   pub waited : WaitedOn old.children polls place outcome after
-  pub there : slice_get old.cases place ≡ Some case
-  pub left : Leaves case rest outcome e
+  pub there : slice_get after place ≡ Some over
+  pub left : Leaves over.case rest outcome e
   pub children : new.children ≡ remove after place
-  pub cases : new.cases ≡ remove old.cases place
-  pub pending : new.pending ≡ pending_with case old.pending
+  pub pending : new.pending ≡ pending_with over.case old.pending

@@ -1,5 +1,5 @@
 -- What a child is started for, and with.
-use Rattle.std.specs.Prelude.{ℕ, List, [], ◌++◌, codes, if◌then◌else◌}
+use Rattle.std.specs.Prelude.{ℕ, List, [], ◌++◌, codes, if◌then◌else◌, false}
 use Rattle.kt_base.specs.declared.child.Interface.{Interface}
 use Rattle.kt_base.specs.declared.child.Interface.TheVariants.{Atf}
 use Rattle.kt_base.specs.declared.child.Role.{Role}
@@ -83,9 +83,13 @@ spawning_for source p attempt paths =
 abbrev pub spawning_of : List ℕ → Job → Role → ℕ → Paths → Spawning
 spawning_of source job role attempt paths = spawning_for source (job_purpose job role) attempt paths
 
--- a job's child that was just spawned
-abbrev pub watched_of : Job → Role → ℕ → Watched
-watched_of job role attempt = record { child = record { attempt = attempt; role = role }; limit = limit_of job role; watch = fresh }
+-- the child of a case of a job that was just spawned
+abbrev pub watched_of : Job → Case → Watched
+watched_of job c = record { case = c; limit = limit_of job c.role; watch = fresh }
+
+-- the case of a list that takes this number
+abbrev pub list_case : List ℕ → ℕ → Case
+list_case root number = record { position = 0; attempt = number; role = Body; interface = Atf; cleanup = false; paths = paths_of root number }
 
 -- the case of a cleanup, which has the number and the paths of its body
 abbrev pub cleaning : Case → Job → Case

@@ -12,7 +12,7 @@ use Rattle.kt_base.specs.Chains.{Chain}
 use Rattle.kt_child.specs.System.Calls.{Call}
 use Rattle.kt_child.specs.Driving.JobPlan.{case_in, cleaning, spawning_of, watched_of}
 use Rattle.kt_child.specs.Driving.Begins.{Begun, state_after_start}
-use Rattle.kt_child.specs.Driving.ChildrenState.{ChildrenState}
+use Rattle.kt_child.specs.Driving.ChildrenState.{with_pending}
 
 -- The case of a start, with the next number and the cases that are owed a cleanup after it: a body takes the next
 -- number, a cleanup the case that is owed it.
@@ -23,10 +23,6 @@ Takes old job Cleanup c next pending =
     (place : ℕ) × (owed : Case) × (slice_get old.running.pending place ≡ Some owed) × (owed.position ≡ job.position)
     × (next ≡ old.next) × (pending ≡ remove old.running.pending place) × (c ≡ cleaning owed job)
 
--- the running children, before the start of a child whose case was taken
-abbrev pub with_pending : ChildrenState → List Case → ChildrenState
-with_pending b pending = record { children = b.children; cases = b.cases; pending = pending }
-
 -- A start of a driver: it takes its case and begins it. A body for which no number is left is refused.
 abbrev pub StartsBy : {O : Type 0} → (O → Call → O → Type 0) → Driver O → Job → Role → StartAnswer → Driver O → Type 0
 StartsBy leads old job role answer new =
@@ -34,4 +30,4 @@ StartsBy leads old job role answer new =
     × (new.running ≡ old.running))
     ⊎ ((c : Case) × (pending : List Case) × Takes old job role c new.next pending
     × ((calls : List Call) × Chain leads old.os calls new.os × Begun (spawning_of old.source job c.role c.attempt c.paths) calls answer)
-    × (new.running ≡ state_after_start (with_pending old.running pending) (watched_of job c.role c.attempt) c answer))
+    × (new.running ≡ state_after_start (with_pending old.running pending) (watched_of job c) answer))

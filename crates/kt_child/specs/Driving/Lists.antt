@@ -9,32 +9,33 @@ use Rattle.kt_atflist.specs.declared.listing.Listing.TheVariants.{Refused as Ref
 use Rattle.kt_child.specs.declared.system.OsFault.{OsFault}
 use Rattle.kt_child.specs.declared.system.FileRead.{FileRead}
 use Rattle.kt_child.specs.declared.driving.driver.Driver.{Driver}
+use Rattle.kt_child.specs.declared.planning.Case.{Case}
 use Rattle.kt_child.specs.declared.planning.Spawning.{Spawning}
 use Rattle.kt_base.specs.Chains.{Chain}
 use Rattle.kt_child.specs.System.Calls.{Call, ReadFile, RemoveTree}
-use Rattle.kt_child.specs.Planning.ChildPlan.{paths_of}
+use Rattle.kt_child.specs.Planning.ChildPlan.{child_of, paths_of}
 use Rattle.kt_child.specs.Polling.ChildOutcome.{Told}
 use Rattle.kt_child.specs.Polling.Lives.{heard_by}
-use Rattle.kt_child.specs.Driving.JobPlan.{list_purpose, spawning_for}
+use Rattle.kt_child.specs.Driving.JobPlan.{list_case, list_purpose, spawning_for}
 use Rattle.kt_child.specs.Driving.Starts.{SetUp, spawned}
 use Rattle.kt_child.specs.Polling.Turns.{WaitedUntil}
 use Rattle.kt_child.specs.Ending.Reads.{IsListWithin, list_of}
 
 -- A list that was started: whole turns up to its end, whose outcome is the row of the outcome table that its answers
 -- are; then its output, no more than 1,048,576 bytes, and the removal.
-abbrev pub WatchedList : Spawning → List Call → Outcome → ListBytes → Type 0
-WatchedList plan calls outcome bytes =
+abbrev pub WatchedList : Spawning → Case → List Call → Outcome → ListBytes → Type 0
+WatchedList plan c calls outcome bytes =
     (turns : ℕ) × (place : ℕ) × (polls : List Call) × (read : Result FileRead OsFault) × (done : Bool)
     × (calls ≡ polls ++ ReadFile plan.out 1048576 read ∷ RemoveTree plan.dir done ∷ [])
-    × WaitedUntil turns (spawned plan ∷ []) polls place outcome × Told plan.limit (heard_by plan.child polls) outcome
+    × WaitedUntil turns (spawned plan c ∷ []) polls place outcome × Told plan.limit (heard_by (child_of c) polls) outcome
     × (bytes ≡ list_of read) × IsListWithin bytes
 
 -- a list from its start to the removal of its directory
-abbrev pub RanList : Spawning → List Call → Listing → Type 0
-RanList plan calls (RefusedFor cause) = SetUp plan calls (Err cause)
-RanList plan calls (Ended outcome bytes) =
+abbrev pub RanList : Spawning → Case → List Call → Listing → Type 0
+RanList plan c calls (RefusedFor cause) = SetUp plan calls (Err cause)
+RanList plan c calls (Ended outcome bytes) =
     (start : List Call) × (more : List Call) × (calls ≡ start ++ more)
-    × SetUp plan start (Ok tt) × WatchedList plan more outcome bytes
+    × SetUp plan start (Ok tt) × WatchedList plan c more outcome bytes
 
 -- A list takes the next number, whatever its answer; where none is left it is refused. Where memory is refused nothing is asked.
 abbrev pub ListsBy : {O : Type 0} → (O → Call → O → Type 0) → Driver O → List ℕ → List Variable → Listing → Driver O → Type 0
@@ -43,4 +44,5 @@ ListsBy leads old program variables answer new =
     ⊎ ((old.next < 2 ^ 64 - 1) × (new.next ≡ old.next + 1) × (answer ≡ RefusedFor Memory) × (new.os ≡ old.os))
     ⊎ ((old.next < 2 ^ 64 - 1) × (new.next ≡ old.next + 1)
     × ((calls : List Call) × Chain leads old.os calls new.os
-    × RanList (spawning_for old.source (list_purpose program variables) old.next (paths_of old.root old.next)) calls answer))
+    × RanList (spawning_for old.source (list_purpose program variables) old.next (paths_of old.root old.next)) (list_case old.root old.next)
+    calls answer))

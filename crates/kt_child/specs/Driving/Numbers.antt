@@ -44,4 +44,4 @@ AttemptsDiffer {O} leads =
 
 -- nothing runs, and nothing is owed
 abbrev pub IsBare : ChildrenState → Type 0
-IsBare b = (b.children ≡ []) × (b.cases ≡ []) × (b.pending ≡ [])
+IsBare b = (b.children ≡ []) × (b.pending ≡ [])

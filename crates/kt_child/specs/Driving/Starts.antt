@@ -6,6 +6,7 @@ use Rattle.kt_base.specs.declared.child.Refused.{Refused}
 use Rattle.kt_base.specs.declared.child.Refused.TheVariants.{Directory, Output, Spawn as NotSpawned, Memory as NoMemory}
 use Rattle.kt_child.specs.declared.system.OsFault.{OsFault}
 use Rattle.kt_child.specs.declared.system.OsFault.TheVariants.{Failed, Memory}
+use Rattle.kt_child.specs.declared.planning.Case.{Case}
 use Rattle.kt_child.specs.declared.planning.Spawning.{Spawning}
 use Rattle.kt_child.specs.declared.polling.Watched.{Watched}
 use Rattle.kt_child.specs.Polling.ChildOutcome.{fresh}
@@ -81,6 +82,6 @@ Started p calls (Ok moment) =
     × (moment ≡ moment_of answer)
 Started p calls (Err cause) = SetUp p calls (Err cause)
 
--- a child that was just spawned
-abbrev pub spawned : Spawning → Watched
-spawned p = record { child = p.child; limit = p.limit; watch = fresh }
+-- the child of a case that was just spawned
+abbrev pub spawned : Spawning → Case → Watched
+spawned p c = record { case = c; limit = p.limit; watch = fresh }

@@ -1,19 +1,17 @@
 -- The children of a driver, as private functions keep and poll them.
-use Rattle.std.specs.Prelude.{ℕ, ◌==◌, ◌&&◌, Option, Some, if◌then◌else◌, Bool, true, false, ◌≡◌, ◌+◌, ◌≤◌, List, [], ◌∷◌, length, All, ◌-◌, ◌*◌, ◌<◌, zero, suc, ◌++◌, Result, ◌⊎◌}
+use Rattle.std.specs.Prelude.{ℕ, ◌==◌, ◌&&◌, Option, Some, if◌then◌else◌, Bool, true, false, ◌≡◌, ◌+◌, ◌≤◌, List, [], ◌∷◌, All, ◌-◌, ◌*◌, ◌<◌, ◌++◌, Result, replicate}
 use Rattle.kt_base.specs.declared.child.Role.{Role}
 use Rattle.kt_sched.specs.declared.job.StartAnswer.{StartAnswer}
 use Rattle.kt_sched.specs.declared.job.StartAnswer.TheVariants.{Started as StartedAt, Refused as RefusedFor}
 use Rattle.kt_sched.specs.Children.{Child as Shown, same_role}
 use Rattle.kt_child.specs.declared.planning.Case.{Case}
-use Rattle.kt_child.specs.Driving.ChildrenState.{shown}
+use Rattle.kt_child.specs.Driving.ChildrenState.{ChildrenState, cases_of, shown}
 use Rattle.kt_child.specs.declared.polling.Watched.{Watched}
 use Rattle.kt_child.specs.declared.polling.Watch.{Watch}
-use Rattle.kt_base.specs.declared.child.Outcome.{Outcome}
 use Rattle.kt_child.specs.declared.system.Polled.{Polled}
 use Rattle.kt_child.specs.declared.system.OsFault.{OsFault}
-use Rattle.kt_child.specs.declared.polling.Turn.TheVariants.{More, Ended}
-use Rattle.kt_child.specs.Polling.Polls.{is_killed, turn_of, watch_after}
-use Rattle.kt_child.specs.Polling.ChildOutcome.{Heard, HeardKill, HeardPoll}
+use Rattle.kt_child.specs.Polling.Polls.{is_killed}
+use Rattle.kt_child.specs.Polling.ChildOutcome.{Heard, HeardKill, HeardPoll, running}
 use Rattle.kt_child.specs.declared.ending.ReadEnd.{ReadEnd}
 use Rattle.kt_child.specs.Ending.Parts.{Bytes, Missing, TooLong, Unreadable, Whole}
 use Rattle.kt_child.specs.declared.ending.ReadEnd.TheVariants as read_end
@@ -27,26 +25,24 @@ IsShort false limit before after = (before < 100 * limit) × (after ≡ 0)
 abbrev pub IsWatched : ℕ → Watch → Type 0
 IsWatched limit w = IsShort w.killed limit w.before w.after
 
--- a child that isn't over, within the greatest limit
+-- what is kept of a child that isn't over, within the greatest limit
+abbrev pub IsOnBy : ℕ → Watch → Type 0
+IsOnBy limit w = IsWatched limit w × (limit ≤ 1000000)
+
 abbrev pub IsOn : Watched → Type 0
-IsOn k = IsWatched k.limit k.watch × (k.limit ≤ 1000000)
+IsOn k = IsOnBy k.limit k.watch
 
 -- the polls that a child has left
 abbrev pub polls_left : Watched → ℕ
 polls_left k = (100 * k.limit - k.watch.before) + (500 - k.watch.after)
 
+-- what a child that isn't over has answered so far, by its limit and what is kept of it
+abbrev pub answered : ℕ → Watch → List Heard
+answered limit w = if w.killed then replicate (100 * limit) running ++ HeardKill true ∷ replicate w.after running else replicate w.before running
+
 -- the answers of one poll
 abbrev pub heard_of : ℕ → Watch → Result Polled OsFault → Bool → List Heard
 heard_of limit w answer done = if is_killed limit w answer then HeardPoll answer ∷ HeardKill done ∷ [] else HeardPoll answer ∷ []
-
--- a life of this many polls, each from what is kept before it to what is kept after it
-abbrev pub Lived : ℕ → ℕ → Watch → List Heard → Outcome → Type 0
-Lived zero limit w heard outcome = ⊥
-Lived (suc n) limit w heard outcome =
-    (answer : Result Polled OsFault) × (done : Bool) × (more : List Heard)
-    × (heard ≡ heard_of limit w answer done ++ more)
-    × (((turn_of limit w answer done ≡ Ended outcome) × (more ≡ []))
-    ⊎ ((turn_of limit w answer done ≡ More) × Lived n limit (watch_after limit w) more outcome))
 
 -- a reader that has taken some bytes has taken these after them
 abbrev pub Takes : {R : Type 0} → (R → List ℕ → Type 0) → R → R → List ℕ → Type 0
@@ -68,11 +64,14 @@ abbrev pub count_at : ℕ → List Case → ℕ
 count_at i [] = 0
 count_at i (c ∷ cases) = one_if (i == c.position) + count_at i cases
 
--- each child is on and has its case, and no case stands there twice
-pub record IsChildrenState (children : List Watched) (cases : List Case) (pending : List Case) : Type 0 where
+-- how many of the cases that run or are owed a cleanup have this position
+abbrev pub count_in : ℕ → ChildrenState → ℕ
+count_in i b = count_at i (cases_of b.children) + count_at i b.pending
+
+-- each child is on, and no case stands there twice
+pub record IsChildrenState (children : List Watched) (pending : List Case) : Type 0 where
   pub on : All IsOn children
-  pub same : length children ≡ length cases
-  pub once : (i : ℕ) → count_at i cases + count_at i pending ≤ 1
+  pub once : (i : ℕ) → count_at i (cases_of children) + count_at i pending ≤ 1
 
 -- what is shown of the children after a start
 abbrev pub shown_after : (ℕ → Role → Option Shown) → Case → StartAnswer → ℕ → Role → Option Shown

@@ -4,10 +4,16 @@ use Rattle.std.specs.Fmt.{decimal}
 use Rattle.kt_base.specs.declared.child.Interface.{Interface}
 use Rattle.kt_base.specs.declared.child.Interface.TheVariants.{Atf, Tap, Plain}
 use Rattle.kt_base.specs.declared.variable.Variable.{Variable}
+use Rattle.kt_child.specs.declared.planning.Case.{Case}
 use Rattle.kt_child.specs.declared.planning.workdir.Paths.{Paths}
+use Rattle.kt_child.specs.declared.system.Child.{Child}
 use Rattle.kt_child.specs.declared.system.EnvPlan.{EnvPlan}
 use Rattle.kt_child.specs.declared.planning.Want.{Want}
 use Rattle.kt_child.specs.declared.planning.Want.TheVariants.{List as Listing, Body, Cleanup}
+
+-- the name of a case's child
+abbrev pub child_of : Case → Child
+child_of c = record { attempt = c.attempt; role = c.role }
 
 -- the directory of an attempt
 abbrev pub attempt_dir : List ℕ → ℕ → List ℕ

@@ -6,11 +6,12 @@ use Rattle.kt_child.specs.declared.system.OsFault.{OsFault}
 use Rattle.kt_child.specs.declared.polling.Turn.TheVariants.{More, Ended}
 use Rattle.kt_child.specs.declared.polling.Watched.{Watched}
 use Rattle.kt_child.specs.System.Calls.{Call, Pause}
+use Rattle.kt_child.specs.Planning.ChildPlan.{child_of}
 use Rattle.kt_child.specs.Polling.Polls.{asked_by_poll, turn_of, watch_after}
 
 -- a child after one more Running answer
 abbrev pub advanced : Watched → Watched
-advanced k = record { child = k.child; limit = k.limit; watch = watch_after k.limit k.watch }
+advanced k = record { case = k.case; limit = k.limit; watch = watch_after k.limit k.watch }
 
 -- the first of these children have answered Running once more
 abbrev pub advanced_below : ℕ → List Watched → List Watched
@@ -23,7 +24,7 @@ abbrev pub PolledAll : List Watched → List Call → Type 0
 PolledAll [] calls = calls ≡ []
 PolledAll (k ∷ children) calls =
     (answer : Result Polled OsFault) × (done : Bool) × (more : List Call)
-    × (calls ≡ asked_by_poll k.child k.limit k.watch answer done ++ more)
+    × (calls ≡ asked_by_poll (child_of k.case) k.limit k.watch answer done ++ more)
     × (turn_of k.limit k.watch answer done ≡ More)
     × PolledAll children more
 
@@ -32,7 +33,7 @@ abbrev pub PolledLast : Option Watched → List Call → Outcome → Type 0
 PolledLast None calls outcome = ⊥
 PolledLast (Some k) calls outcome =
     (answer : Result Polled OsFault) × (done : Bool)
-    × (calls ≡ asked_by_poll k.child k.limit k.watch answer done)
+    × (calls ≡ asked_by_poll (child_of k.case) k.limit k.watch answer done)
     × (turn_of k.limit k.watch answer done ≡ Ended outcome)
 
 -- the children before this one were polled and aren't over, and then this one is

@@ -1,4 +1,4 @@
-ghost use Rattle.std.specs.Prelude.{◌≡◌, List, IfOk, length};
+ghost use Rattle.std.specs.Prelude.{◌≡◌, List, IfOk};
 ghost use Rattle.kt_base.specs.Chains.{Chain};
 ghost use Rattle.kt_child.specs.System.Calls.{Call};
 ghost use Rattle.kt_child.specs.Driving.Roots.{FindsRoot, root_of};
@@ -43,15 +43,14 @@ pub struct Driver<O: Drop> {
     pub(crate) root: Text,
     /// The number of the next start of a body or a list.
     pub(crate) next: u64,
-    /// What runs and what is owed; each running child has its case.
+    /// What runs and what is owed.
     pub(crate) running: RunningChildren,
-    ghost paired: { length running.children ≡ length running.cases },
 }
 
 impl<O: Os + Drop> Launcher for Driver<O> {
-    ghost use Rattle.kt_child.specs.Common.{is_among, shown_at, DriverStarts, DriverWaits};
+    ghost use Rattle.kt_child.specs.Common.{is_among, shown_in, DriverStarts, DriverWaits};
 
-    ghost running = { λ d. shown_at d.running.cases };
+    ghost running = { λ d. shown_in d.running };
 
     ghost pending = { λ d. is_among d.running.pending };
 
@@ -140,22 +139,21 @@ fn find_root<O: Os>(alloc: Global, os: &mut O, base: &Text) -> Result<Text, Driv
 }
 
 impl<O: Os + Drop> Driver<O> {
-    ghost use Rattle.std.specs.Prelude.{◌≡◌, ◌+◌, ℕ, List};
-    ghost use Rattle.kt_child.specs.Common.{MayStart, pending_after_start, running_after_start, HasMoment, IsFit, Chain, Call, count_at, shown_after, Begun, state_after_start, is_among, shown_at, spawning_of, watched_of, StartsBy};
+    ghost use Rattle.std.specs.Prelude.{◌≡◌, ℕ, List};
+    ghost use Rattle.kt_child.specs.Common.{MayStart, pending_after_start, running_after_start, HasMoment, IsFit, Chain, Call, count_in, shown_after, Begun, state_after_start, is_among, shown_in, spawning_of, watched_of, StartsBy};
     ghost use Rattle.kt_base.specs.declared.child.Role.{Role as Part};
 
     /// Starts a child of a job's case.
     fn begin(&mut self, job: &Job, case: Case) -> StartAnswer
         requires fit { IsFit job.now }
-        requires free { count_at case.position self.old.running.cases
-            + count_at case.position self.old.running.pending ≡ 0 }
+        requires free { count_in case.position self.old.running ≡ 0 }
         ensures begun { (calls : List Call) × Chain O.leads self.old.os calls self.new.os
             × Begun (spawning_of self.old.source job.now case.role case.attempt case.paths)
             calls result }
         ensures state { self.new.running ≡ state_after_start self.old.running
-            (watched_of job.now case.role case.attempt) case result }
-        ensures shown { (k : ℕ) (r : Part) → shown_at self.new.running.cases k r
-            ≡ shown_after (shown_at self.old.running.cases) case result k r }
+            (watched_of job.now case) result }
+        ensures shown { (k : ℕ) (r : Part) → shown_in self.new.running k r
+            ≡ shown_after (shown_in self.old.running) case result k r }
         ensures moment { HasMoment result }
         ensures next { self.new.next ≡ self.old.next }
         ensures source { self.new.source ≡ self.old.source }
@@ -180,14 +178,14 @@ impl<O: Os + Drop> Driver<O> {
     /// Starts the body of a job with the next number.
     pub(crate) fn start_body(&mut self, job: &Job) -> StartAnswer
         requires fit { IsFit job.now }
-        requires may { MayStart (shown_at self.old.running.cases)
+        requires may { MayStart (shown_in self.old.running)
             (is_among self.old.running.pending) job.now.position Role.Body }
         ensures starts { StartsBy O.leads self.old job.now Role.Body result self.new }
         ensures source { self.new.source ≡ self.old.source }
         ensures root { self.new.root ≡ self.old.root }
         ensures moment { HasMoment result }
-        ensures running { (k : ℕ) (r : Part) → shown_at self.new.running.cases k r
-            ≡ running_after_start (shown_at self.old.running.cases) job.now Role.Body result k r }
+        ensures running { (k : ℕ) (r : Part) → shown_in self.new.running k r
+            ≡ running_after_start (shown_in self.old.running) job.now Role.Body result k r }
         ensures pending { self.new.running.pending ≡ self.old.running.pending }
     {
         if self.next == u64::MAX {
@@ -204,14 +202,14 @@ impl<O: Os + Drop> Driver<O> {
     /// Starts the cleanup of a job, which is owed, with the number and the paths of its body.
     pub(crate) fn start_cleanup(&mut self, job: &Job) -> StartAnswer
         requires fit { IsFit job.now }
-        requires may { MayStart (shown_at self.old.running.cases)
+        requires may { MayStart (shown_in self.old.running)
             (is_among self.old.running.pending) job.now.position Role.Cleanup }
         ensures starts { StartsBy O.leads self.old job.now Role.Cleanup result self.new }
         ensures source { self.new.source ≡ self.old.source }
         ensures root { self.new.root ≡ self.old.root }
         ensures moment { HasMoment result }
-        ensures running { (k : ℕ) (r : Part) → shown_at self.new.running.cases k r
-            ≡ running_after_start (shown_at self.old.running.cases) job.now Role.Cleanup result k r }
+        ensures running { (k : ℕ) (r : Part) → shown_in self.new.running k r
+            ≡ running_after_start (shown_in self.old.running) job.now Role.Cleanup result k r }
         ensures pending { (k : ℕ) → is_among self.new.running.pending k
             ≡ pending_after_start (is_among self.old.running.pending) job.now.position Role.Cleanup k }
     {

@@ -1,9 +1,9 @@
 ghost use Rattle.std.specs.Prelude.{◌≡◌, List, IfOk};
-ghost use Rattle.kt_child.specs.Common.{Chain, Call, paths_of, list_purpose, spawning_for, RanList, WatchedList, IsOn, spawned};
+ghost use Rattle.kt_child.specs.Common.{Chain, Call, fresh, list_case, paths_of, list_purpose, spawning_for, RanList, WatchedList, IsOn, IsOnBy, spawned};
 
 use crate::driving::starts::{memory_refusal, set_up, spawned, spawning};
 use crate::ending::ends::read_list;
-use crate::planning::{Purpose, Spawning};
+use crate::planning::{Case, Purpose, Spawning};
 use crate::polling::polls::wait;
 use crate::{Driver, Os, Want, workdir_plan};
 use kt_atflist::{ListBytes, Listing};
@@ -15,33 +15,33 @@ use std::alloc::Global;
 const LIST_LIMIT: u64 = 300;
 
 /// Waits for a list that was started, reads it, and removes its directory.
-fn watch_list<O: Os>(os: &mut O, plan: &Spawning) -> (Outcome, ListBytes)
-    requires { IsOn (spawned plan.now) }
+fn watch_list<O: Os>(os: &mut O, plan: &Spawning, case: Case) -> (Outcome, ListBytes)
+    requires { IsOn (spawned plan.now case) }
     ensures { (calls : List Call) × Chain O.leads os.old calls os.new
-        × WatchedList plan.now calls result.0 result.1 }
+        × WatchedList plan.now case calls result.0 result.1 }
 {
-    let mut children = [spawned(plan)];
+    let mut children = [spawned(plan, case)];
     let over = wait(os, &mut children);
     let bytes = read_list(os, &plan.out);
     let _ = os.remove_tree(&plan.dir);
     (over.outcome, bytes)
 }
 
-fn run_list<O: Os>(os: &mut O, plan: &Spawning) -> Listing
-    requires { IsOn (spawned plan.now) }
+fn run_list<O: Os>(os: &mut O, plan: &Spawning, case: Case) -> Listing
+    requires { IsOn (spawned plan.now case) }
     ensures { (calls : List Call) × Chain O.leads os.old calls os.new
-        × RanList plan.now calls result }
+        × RanList plan.now case calls result }
 {
     match set_up(os, plan) {
         Err(cause) => Listing::Refused(cause),
         Ok(()) => {
-            let (outcome, bytes) = watch_list(os, plan);
+            let (outcome, bytes) = watch_list(os, plan, case);
             Listing::Ended(outcome, bytes)
         }
     }
 }
 
-/// What a list is started with. `source` is the absolute directory of the root Kyuafile.
+/// The case of a list, and what the list is started with. `source` is the absolute directory of the root Kyuafile.
 fn plan_list(
     alloc: Global,
     source: &Text,
@@ -49,24 +49,32 @@ fn plan_list(
     attempt: u64,
     program: &Text,
     variables: &Variables,
-) -> Result<Spawning, NoMemory>
-    ensures plan { IfOk result (λ plan. plan ≡ spawning_for source.now
+) -> Result<(Case, Spawning), NoMemory>
+    ensures case { IfOk result (λ planned. planned.0 ≡ list_case root.now attempt) }
+    ensures plan { IfOk result (λ planned. planned.1 ≡ spawning_for source.now
         (list_purpose program.now variables.now) attempt (paths_of root.now attempt)) }
-    ensures on { IfOk result (λ plan. IsOn (spawned plan)) }
+    ensures on { IfOk result (λ planned. IsOnBy planned.1.limit fresh) }
 {
-    let paths = workdir_plan(alloc, root, attempt)?;
+    let case = Case {
+        position: 0,
+        attempt,
+        role: Role::Body,
+        interface: Interface::Atf,
+        cleanup: false,
+        paths: workdir_plan(alloc, root, attempt)?,
+    };
     let none = Text::new(alloc);
     let purpose = Purpose {
-        role: Role::Body,
+        role: case.role,
         want: Want::List,
-        interface: Interface::Atf,
+        interface: case.interface,
         program,
         variables,
         case_name: &none,
         limit: LIST_LIMIT,
     };
-    let plan = spawning(alloc, source, purpose, attempt, &paths)?;
-    Ok(plan)
+    let plan = spawning(alloc, source, purpose, attempt, &case.paths)?;
+    Ok((case, plan))
 }
 
 impl<O: Os + Drop> Driver<O> {
@@ -95,7 +103,7 @@ impl<O: Os + Drop> Driver<O> {
         );
         match planned {
             Err(refusal) => Listing::Refused(memory_refusal(refusal)),
-            Ok(plan) => run_list(&mut self.os, &plan),
+            Ok((case, plan)) => run_list(&mut self.os, &plan, case),
         }
     }
 }

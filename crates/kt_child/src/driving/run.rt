@@ -1,5 +1,5 @@
 ghost use Rattle.std.specs.Prelude.{◌≡◌, List};
-ghost use Rattle.kt_child.specs.Common.{IsIdle, IsPlan, IsWidth, Ran, Trace, Leads, Chain, Call, is_among, shown_at, DriverStarts, DriverWaits, AttemptsDiffer, EachWith, EndsAreTold, ToldAt};
+ghost use Rattle.kt_child.specs.Common.{IsIdle, IsPlan, IsWidth, Ran, Trace, Leads, Chain, Call, is_among, shown_in, DriverStarts, DriverWaits, AttemptsDiffer, EachWith, EndsAreTold, ToldAt};
 
 use crate::{Driver, Os};
 use kt_base::Items;
@@ -16,7 +16,7 @@ pub fn run_driver<O: Os + Drop, S: Sink>(
 ) -> Result<Totals, RunFault>
     requires plan { IsPlan plan }
     requires width { IsWidth width }
-    requires idle { IsIdle (shown_at driver.old.running.cases)
+    requires idle { IsIdle (shown_in driver.old.running)
         (is_among driver.old.running.pending) }
     ensures ran { Ran ⟦<Driver<O> as Launcher>⟧ S.Sink plan width driver.old driver.new
         sink.old sink.new result }

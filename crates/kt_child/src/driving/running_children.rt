@@ -2,6 +2,7 @@ ghost use Rattle.std.specs.Prelude.{◌≡◌, ◌+◌, ◌<◌, ◌≤◌, leng
 ghost use Rattle.std.specs.Vec.{vec_len, vec_capacity};
 ghost use Rattle.kt_child.specs.declared.planning.Case.{Case};
 ghost use Rattle.kt_child.specs.Driving.Begins.{Unbegun};
+ghost use Rattle.kt_child.specs.declared.polling.Watched.{Watched};
 ghost use Rattle.kt_child.specs.Driving.ChildrenState.{is_among, pending_with};
 ghost use Rattle.kt_base.specs.Chains.{Chain};
 ghost use Rattle.kt_child.specs.System.Calls.{Call};
@@ -17,12 +18,11 @@ use kt_sched::{Ended, StartAnswer};
 use std::alloc::Global;
 use std::marker::Model;
 
-/// The running children in the order of their start, each with its case, and the cases whose cleanup is owed. Room for
-/// a case's cleanup is taken with its body's start.
+/// The running children in the order of their start, and the cases whose cleanup is owed. Room for a case's cleanup is
+/// taken with its body's start.
 #[derive(Drop)]
 pub(crate) struct RunningChildren {
     children: Vec<Watched>,
-    cases: Vec<Case>,
     pending: Vec<Case>,
 }
 
@@ -36,33 +36,25 @@ impl Model for RunningChildren {
 
     ghost view = { λ r. record {
       children = r.children.items;
-      cases = r.cases.items;
       pending = r.pending.items;
     } };
 
-    ghost invariant = { λ r. IsChildrenState r.children.items r.cases.items r.pending.items
-        × (vec_len r.cases + vec_len r.pending ≤ vec_capacity r.pending) };
+    ghost invariant = { λ r. IsChildrenState r.children.items r.pending.items
+        × (vec_len r.children + vec_len r.pending ≤ vec_capacity r.pending) };
 }
 
 /// Takes the memory for one more child, and for its case's cleanup.
-fn make_room(
-    children: &mut Vec<Watched>,
-    cases: &mut Vec<Case>,
-    pending: &mut Vec<Case>,
-) -> Result<(), NoMemory>
-    requires room { vec_len cases.old + vec_len pending.old ≤ vec_capacity pending.old }
+fn make_room(children: &mut Vec<Watched>, pending: &mut Vec<Case>) -> Result<(), NoMemory>
+    requires room { vec_len children.old + vec_len pending.old ≤ vec_capacity pending.old }
     ensures children { children.new.items ≡ children.old.items }
-    ensures cases { cases.new.items ≡ cases.old.items }
     ensures pending { pending.new.items ≡ pending.old.items }
-    ensures room { vec_len cases.new + vec_len pending.new ≤ vec_capacity pending.new }
+    ensures room { vec_len children.new + vec_len pending.new ≤ vec_capacity pending.new }
     ensures child { OnOk result (vec_len children.new < vec_capacity children.new) }
-    ensures case { OnOk result (vec_len cases.new < vec_capacity cases.new) }
-    ensures owed { OnOk result (vec_len cases.new + vec_len pending.new
+    ensures owed { OnOk result (vec_len children.new + vec_len pending.new
         < vec_capacity pending.new) }
 {
     children.reserve(1)?;
-    cases.reserve(1)?;
-    pending.reserve(cases.len() + 1)?;
+    pending.reserve(children.len() + 1)?;
     Ok(())
 }
 
@@ -80,18 +72,15 @@ fn place_of(cases: &[Case], position: u32) -> usize
 }
 
 /// Removes the child at this place. Its case is kept if its cleanup is still to come.
-fn forget(children: &mut Vec<Watched>, cases: &mut Vec<Case>, pending: &mut Vec<Case>, place: usize)
+fn forget(children: &mut Vec<Watched>, pending: &mut Vec<Case>, place: usize)
     requires child { place < vec_len children.old }
-    requires case { place < vec_len cases.old }
-    requires room { vec_len cases.old + vec_len pending.old ≤ vec_capacity pending.old }
+    requires room { vec_len children.old + vec_len pending.old ≤ vec_capacity pending.old }
     ensures children { children.new.items ≡ remove children.old.items place }
-    ensures cases { cases.new.items ≡ remove cases.old.items place }
-    ensures pending { (c : Case) → slice_get cases.old.items place ≡ Some c
-        → pending.new.items ≡ pending_with c pending.old.items }
-    ensures room { vec_len cases.new + vec_len pending.new ≤ vec_capacity pending.new }
+    ensures pending { (k : Watched) → slice_get children.old.items place ≡ Some k
+        → pending.new.items ≡ pending_with k.case pending.old.items }
+    ensures room { vec_len children.new + vec_len pending.new ≤ vec_capacity pending.new }
 {
-    let _ = children.remove(place);
-    let case = cases.remove(place);
+    let Watched { case, .. } = children.remove(place);
     if over(&case) {
         return;
     }
@@ -109,8 +98,8 @@ pub(crate) fn refuse<O: Os>(os: &mut O, role: Role, dir: &Text, refusal: NoMemor
 }
 
 impl RunningChildren {
-    ghost use Rattle.std.specs.Prelude.{◌≡◌, ◌==◌, ℕ, ◌+◌, ◌<◌, List, [], length, slice_get, remove, Some, true, false, if◌then◌else◌};
-    ghost use Rattle.kt_child.specs.Common.{IsEvidence, running_after_end, pending_after_end, IsMoment, HasMoment, Chain, Call, IsOn, count_at, shown_after, Waited, idle_state, is_among, shown_at, Begun, state_after_start, spawned};
+    ghost use Rattle.std.specs.Prelude.{◌≡◌, ◌==◌, ℕ, ◌<◌, List, length, slice_get, remove, Some, true, false, if◌then◌else◌};
+    ghost use Rattle.kt_child.specs.Common.{IsEvidence, running_after_end, pending_after_end, IsMoment, HasMoment, Chain, Call, IsOn, count_in, shown_after, Waited, idle_state, is_among, shown_in, Begun, state_after_start, spawned, with_pending};
     ghost use Rattle.kt_sched.specs.Children.{Child as Shown};
 
     /// No running children, which takes no memory.
@@ -119,7 +108,6 @@ impl RunningChildren {
     {
         RunningChildren {
             children: Vec::new(alloc),
-            cases: Vec::new(alloc),
             pending: Vec::new(alloc),
         }
     }
@@ -128,10 +116,10 @@ impl RunningChildren {
     pub(crate) fn take_owed(&mut self, position: u32) -> Case
         requires { is_among self.old.pending position ≡ true }
         ensures taken { (place : ℕ) × (slice_get self.old.pending place ≡ Some result)
-            × (self.new ≡ record { children = self.old.children; cases = self.old.cases; pending = remove self.old.pending place }) }
+            × (self.new ≡ with_pending self.old (remove self.old.pending place)) }
         ensures position { result.position ≡ position }
-        ensures free { count_at position self.new.cases + count_at position self.new.pending ≡ 0 }
-        ensures cases { self.new.cases ≡ self.old.cases }
+        ensures free { count_in position self.new ≡ 0 }
+        ensures children { self.new.children ≡ self.old.children }
         ensures pending { (k : ℕ) → is_among self.new.pending k
             ≡ (if k == position then false else is_among self.old.pending k) }
     {
@@ -141,24 +129,22 @@ impl RunningChildren {
 
     /// Starts a child of this case: its body in a new directory, its cleanup in that of the body.
     pub(crate) fn start<O: Os>(&mut self, os: &mut O, case: Case, plan: &Spawning) -> StartAnswer
-        requires on { IsOn (spawned plan.now) }
-        requires free { count_at case.position self.old.cases + count_at case.position
-            self.old.pending ≡ 0 }
+        requires on { IsOn (spawned plan.now case) }
+        requires free { count_in case.position self.old ≡ 0 }
         ensures begun { (calls : List Call) × Chain O.leads os.old calls os.new
             × Begun plan.now calls result }
         ensures moment { HasMoment result }
-        ensures state { self.new ≡ state_after_start self.old (spawned plan.now) case result }
-        ensures running { (k : ℕ) (r : Role) → shown_at self.new.cases k r
-            ≡ shown_after (shown_at self.old.cases) case result k r }
+        ensures state { self.new ≡ state_after_start self.old (spawned plan.now case) result }
+        ensures running { (k : ℕ) (r : Role) → shown_in self.new k r
+            ≡ shown_after (shown_in self.old) case result k r }
     {
-        if let Err(refusal) = make_room(&mut self.children, &mut self.cases, &mut self.pending) {
+        if let Err(refusal) = make_room(&mut self.children, &mut self.pending) {
             return refuse(os, plan.child.role, &plan.dir, refusal);
         }
         match start_child(os, plan) {
             Err(cause) => StartAnswer::Refused(cause),
             Ok(moment) => {
-                self.children.push_reserved(spawned(plan));
-                self.cases.push_reserved(case);
+                self.children.push_reserved(spawned(plan, case));
                 StartAnswer::Started(moment)
             }
         }
@@ -166,26 +152,20 @@ impl RunningChildren {
 
     /// Waits for the first child that is over.
     pub(crate) fn wait<O: Os>(&mut self, alloc: Global, os: &mut O) -> Ended
-        requires { 0 < length self.old.cases }
+        requires { 0 < length self.old.children }
         ensures waited { (calls : List Call) × Chain O.leads os.old calls os.new
             × Waited self.old calls result self.new }
-        ensures paired { length self.new.children ≡ length self.new.cases }
         ensures moment { IsMoment result.moment }
-        ensures one_that_ran { (s : Shown) × (shown_at self.old.cases result.position result.role
+        ensures one_that_ran { (s : Shown) × (shown_in self.old result.position result.role
             ≡ Some s) × IsEvidence s.interface result.role result.evidence }
-        ensures running { (k : ℕ) (r : Role) → shown_at self.new.cases k r
-            ≡ running_after_end (shown_at self.old.cases) result k r }
+        ensures running { (k : ℕ) (r : Role) → shown_in self.new k r
+            ≡ running_after_end (shown_in self.old) result k r }
         ensures pending { (k : ℕ) → is_among self.new.pending k
-            ≡ pending_after_end (shown_at self.old.cases) (is_among self.old.pending) result k }
+            ≡ pending_after_end (shown_in self.old) (is_among self.old.pending) result k }
     {
         let over = wait(os, &mut self.children);
-        let ended = leave(alloc, os, &self.cases[over.place], over.outcome);
-        forget(
-            &mut self.children,
-            &mut self.cases,
-            &mut self.pending,
-            over.place,
-        );
+        let ended = leave(alloc, os, &self.children[over.place].case, over.outcome);
+        forget(&mut self.children, &mut self.pending, over.place);
         ended
     }
 }

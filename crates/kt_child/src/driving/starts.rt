@@ -1,5 +1,5 @@
 ghost use Rattle.std.specs.Prelude.{◌≡◌, ◌≤◌, ◌∷◌, [], List, IfOk};
-ghost use Rattle.kt_child.specs.Common.{Chain, Call, SetUp, SetUpIn, SetUpNew, Started, Tried, child_asks, furnish_asks, spawn_ask, spawned, cause_of, IsFit, IsOn, case_in, limit_of, spawning_for, want_of};
+ghost use Rattle.kt_child.specs.Common.{Chain, Call, SetUp, SetUpIn, SetUpNew, Started, Tried, child_asks, furnish_asks, spawn_ask, spawned, cause_of, fresh, IsFit, IsOnBy, case_in, limit_of, spawning_for, want_of};
 
 use crate::ending::ends::{output_paths, remove_if};
 use crate::planning::words::{absolute_path, program_directory};
@@ -47,7 +47,7 @@ pub(crate) fn spawning(
       case_name = purpose.entry.case_name.now;
       limit = purpose.entry.limit;
     }) attempt paths.now) }
-    ensures on { IfOk result (λ plan. IsOn (spawned plan)) }
+    ensures on { IfOk result (λ plan. IsOnBy plan.limit fresh) }
 {
     let role = purpose.role;
     let program = absolute_path(source, purpose.program)?;
@@ -118,9 +118,9 @@ fn cause_of(cause: Refused, fault: OsFault) -> Refused
     }
 }
 
-/// A child that was just spawned.
-pub(crate) fn spawned(plan: &Spawning) -> Watched
-    ensures { result ≡ spawned plan.now }
+/// The child of this case that was just spawned.
+pub(crate) fn spawned(plan: &Spawning, case: Case) -> Watched
+    ensures { result ≡ spawned plan.now case }
 {
     let watch = Watch {
         before: 0,
@@ -128,7 +128,7 @@ pub(crate) fn spawned(plan: &Spawning) -> Watched
         after: 0,
     };
     Watched {
-        child: plan.child,
+        case,
         limit: plan.limit,
         watch,
     }

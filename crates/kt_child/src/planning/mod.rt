@@ -33,12 +33,13 @@ pub(crate) struct Purpose<'a> {
     pub limit: u64,
 }
 
-/// What is kept of a case while a child of it runs, or while its cleanup is owed; the paths are its body's.
+/// What is kept of a case while a child of it runs, or while its cleanup is owed; the paths are its body's. A list has one,
+/// too.
 #[derive(Debug, Drop)]
 pub(crate) struct Case {
-    /// The place in the plan, counted from 0.
+    /// The place in the plan, counted from 0, or 0 for a list.
     pub position: u32,
-    /// The number of its body's start.
+    /// The number of its body's start, or of the list.
     pub attempt: u64,
     /// Which of its children runs, or ran last.
     pub role: Role,
@@ -46,6 +47,21 @@ pub(crate) struct Case {
     /// Whether a cleanup is declared.
     pub cleanup: bool,
     pub paths: Paths,
+}
+
+impl Case {
+    ghost use Rattle.std.specs.Prelude.{◌≡◌};
+    ghost use Rattle.kt_child.specs.Common.{child_of};
+
+    /// The name of its child.
+    pub(crate) fn child(&self) -> Child
+        ensures { result ≡ child_of self.now }
+    {
+        Child {
+            attempt: self.attempt,
+            role: self.role,
+        }
+    }
 }
 
 /// All that a child is started with.

@@ -2,7 +2,7 @@
 
 pub(crate) mod polls;
 
-use crate::Child;
+use crate::planning::Case;
 use kt_base::Outcome;
 
 /// What is kept of a running child's answers. The deadline is counted in polls, of which there are 100 a second.
@@ -16,10 +16,10 @@ pub(crate) struct Watch {
     pub after: u64,
 }
 
-/// A running child: its limit in seconds, and what is kept of its answers.
-#[derive(Clone, Copy, Debug, PartialEq, Eq)]
+/// A running child: its case, its limit in seconds, and what is kept of its answers.
+#[derive(Debug, Drop)]
 pub(crate) struct Watched {
-    pub child: Child,
+    pub case: Case,
     pub limit: u64,
     pub watch: Watch,
 }

@@ -91,9 +91,9 @@ fn turn<O: Os>(os: &mut O, children: &mut [Watched]) -> Option<Over>
     ensures place { IfSome result (λ over. over.place < length children.old) }
 {
     for i in 0..children.len() {
-        let watched = children[i];
+        let watched = &children[i];
         let mut watch = watched.watch;
-        match poll_once(os, watched.child, watched.limit, &mut watch) {
+        match poll_once(os, watched.case.child(), watched.limit, &mut watch) {
             Turn::Ended(outcome) => return Some(Over { place: i, outcome }),
             Turn::More => children[i].watch = watch,
         }

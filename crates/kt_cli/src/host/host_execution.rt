@@ -1,5 +1,5 @@
 ghost use Rattle.std.specs.Prelude.{◌≡◌, IfOk, IfErr, OnErr};
-ghost use Rattle.kt_cli.specs.Common.{chars, IsIdle, is_among, shown_at, IsMade, NoDriver, NoRoot, OnDriver, absolute, source_directory};
+ghost use Rattle.kt_cli.specs.Common.{chars, IsIdle, is_among, shown_in, IsMade, NoDriver, NoRoot, OnDriver, absolute, source_directory};
 
 use crate::{Exit, HostWorld, Machine, Outside, Surroundings, execute};
 use kt_base::{NoMemory, Text, is_absolute};
@@ -41,7 +41,7 @@ fn driver_of<O: Os + Drop>(
     kyuafile: &Text,
 ) -> Result<Driver<O>, (DriverFault, O)>
     ensures made { IfOk result (λ driver. IsMade O.Os os here.now work.now kyuafile.now driver) }
-    ensures idle { IfOk result (λ driver. IsIdle (shown_at driver.running.cases)
+    ensures idle { IfOk result (λ driver. IsIdle (shown_in driver.running)
         (is_among driver.running.pending)) }
     ensures refused { IfErr result (λ e. NoRoot O.Os os work.now e.0 e.1) }
 {

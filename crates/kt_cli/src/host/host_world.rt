@@ -44,9 +44,9 @@ impl<M: Machine + Drop, O: Os + Drop> Tree for HostWorld<M, O> {
 }
 
 impl<M: Machine + Drop, O: Os + Drop> Launcher for HostWorld<M, O> {
-    ghost use Rattle.kt_cli.specs.Common.{is_among, shown_at, HostStarts, HostWaits};
+    ghost use Rattle.kt_cli.specs.Common.{is_among, shown_in, HostStarts, HostWaits};
 
-    ghost running = { λ s. shown_at s.driver.running.cases };
+    ghost running = { λ s. shown_in s.driver.running };
 
     ghost pending = { λ s. is_among s.driver.running.pending };
 
@@ -65,7 +65,7 @@ impl<M: Machine + Drop, O: Os + Drop> Launcher for HostWorld<M, O> {
 
 impl<M: Machine + Drop, O: Os + Drop> World for HostWorld<M, O> {
     ghost use Rattle.std.specs.Prelude.{◌≡◌};
-    ghost use Rattle.kt_cli.specs.Common.{ap, ChildrenState, is_among, shown_at, IsHostAnswer, look_kept, running_kept};
+    ghost use Rattle.kt_cli.specs.Common.{ap, ChildrenState, is_among, shown_in, IsHostAnswer, look_kept, running_kept};
 
     ghost tells = { IsHostAnswer M.answers O.leads };
 
@@ -101,13 +101,13 @@ impl<M: Machine + Drop, O: Os + Drop> World for HostWorld<M, O> {
         self.machine.moment()
     }
 
-    ghost runs_on = { λ s t q h k r. ap (λ (b : ChildrenState). shown_at b.cases k r)
+    ghost runs_on = { λ s t q h k r. ap (λ (b : ChildrenState). shown_in b k r)
         (look_kept M.answers s t q h) };
 
     ghost pends_on = { λ s t q h k. ap (λ (b : ChildrenState). is_among b.pending k)
         (look_kept M.answers s t q h) };
 
-    ghost runs_told = { λ s t q h k r. ap (λ (b : ChildrenState). shown_at b.cases k r)
+    ghost runs_told = { λ s t q h k r. ap (λ (b : ChildrenState). shown_in b k r)
         (running_kept M.answers O.leads s t q h) };
 
     ghost pends_told = { λ s t q h k. ap (λ (b : ChildrenState). is_among b.pending k)

@@ -1,7 +1,7 @@
 use Rattle.std.proofs.Common.{List, [], ◌∷◌, ◌++◌, refl, subst, arith, is_ok}
 use Rattle.kt_child.proofs.Common.{Watched, WaitedOn, Call, ReadFile, RemoveTree, spawned}
 use Rattle.kt_child.proofs.Chains.{chain_append}
-use Rattle.kt_child.proofs.SeveralWaits.{one_outcome}
+use Rattle.kt_child.proofs.Lives.{one_outcome}
 use Rattle.kt_child.proofs.driving.lists.watch_list.Goals as goal
 
 pub returns : goal.returns
@@ -11,7 +11,7 @@ returns g c =
     let p = c.args.plan.now in
     let d = is_ok c.remove_tree.result in
     let W : Watched → Type 0 = λ t. WaitedOn (t ∷ []) w.0 c.wait-over.result.place c.wait-over.result.outcome c.wait-over.new.children in
-    let on : WaitedOn (spawned p ∷ []) w.0 c.wait-over.result.place c.wait-over.result.outcome c.wait-over.new.children = subst W c.spawned.ensures w.2 in
+    let on : WaitedOn (spawned p c.args.case ∷ []) w.0 c.wait-over.result.place c.wait-over.result.outcome c.wait-over.new.children = subst W c.spawned.ensures w.2 in
     let timed = c.requires.0 in
     let last : List Call = ReadFile p.out 1048576 r.0 ∷ RemoveTree p.dir d ∷ [] in (
       w.0 ++ last,
@@ -24,7 +24,7 @@ returns g c =
         d,
         refl,
         on.1,
-        one_outcome p.child p.limit w.0 c.wait-over.result.place c.wait-over.result.outcome _ (omega (arith, timed)) on,
+        one_outcome c.args.case p.limit w.0 c.wait-over.result.place c.wait-over.result.outcome _ (omega (arith, timed)) on,
         r.2,
         c.read_list-bytes.ensures.within,
       ),

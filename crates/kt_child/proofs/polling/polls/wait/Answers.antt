@@ -1,7 +1,6 @@
 use Rattle.std.proofs.Common.{◌<◌, List, length, refl, sym, subst, is_ok, arith}
-use Rattle.kt_child.proofs.Common.{Watched, polls_left}
-use Rattle.std.proofs.Math.ListN.{get_or}
-use Rattle.kt_child.proofs.WaitSteps.{Waiting, no_child, turn_falls, waiting_more, waiting_none, waiting_over}
+use Rattle.kt_child.proofs.Common.{Watched}
+use Rattle.kt_child.proofs.WaitSteps.{Waiting, first_left, turn_falls, waiting_more, waiting_none, waiting_over}
 use Rattle.kt_child.proofs.polling.polls.wait.Goals as goal
 
 pub turns-init : goal.turns-init
@@ -14,7 +13,7 @@ returns-in-Some-clause-waited g c =
 
 pub turns-smaller : goal.turns-smaller
 turns-smaller g c =
-    let P : List Watched → Type 0 = λ t. polls_left (get_or t 0 no_child) < polls_left (get_or c.turns.children 0 no_child) in
+    let P : List Watched → Type 0 = λ t. first_left t < first_left c.turns.children in
     let some : 0 < length c.turns.children = omega arith in
     subst P (sym (c.in-None.ensures.went_on refl)) (turn_falls c.turns.children some c.turns.invariant.on)
 

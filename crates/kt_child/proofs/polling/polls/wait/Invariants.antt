@@ -1,6 +1,5 @@
-use Rattle.kt_child.proofs.Common.{All, IsOn, polls_left}
-use Rattle.std.proofs.Math.ListN.{get_or}
-use Rattle.kt_child.proofs.WaitSteps.{Waiting, no_child}
+use Rattle.kt_child.proofs.Common.{All, IsOn}
+use Rattle.kt_child.proofs.WaitSteps.{Waiting, first_left}
 use Rattle.kt_child.proofs.polling.polls.wait.Given as goal
 
 abbrev pub invariant-turns : goal.invariant-turns
@@ -11,4 +10,4 @@ invariant-turns g l =
     }
 
 abbrev pub decreases-turns : goal.decreases-turns
-decreases-turns g l = polls_left (get_or l.children 0 no_child)
+decreases-turns g l = first_left l.children

@@ -1,13 +1,13 @@
 use Rattle.std.proofs.Common.{rules, ◌≡◌, ◌∙◌, ℕ, List, ap, refl, subst, sym}
 use Rattle.std.proofs.lemmas.Result.{MatchResult-weaker}
-use Rattle.kt_cli.proofs.Common.{IsIdle, ChildrenState, idle_state, is_among, shown_at, not_absolute, none_made}
+use Rattle.kt_cli.proofs.Common.{IsIdle, ChildrenState, idle_state, is_among, shown_in, not_absolute, none_made}
 use Rattle.kt_cli.specs.Places.{source_directory}
 use Rattle.kt_cli.proofs.Refusing.{none_asked}
 use Rattle.kt_cli.proofs.host.host_execution.driver_of.Goals as goal
 
 -- where the state is idle nothing runs
-idle : (b : ChildrenState) → b ≡ idle_state → IsIdle (shown_at b.cases) (is_among b.pending)
-idle b e = subst (λ (x : ChildrenState). IsIdle (shown_at x.cases) (is_among x.pending)) (sym e) (record { runs = λ k r. refl; pends = λ k. refl })
+idle : (b : ChildrenState) → b ≡ idle_state → IsIdle (shown_in b) (is_among b.pending)
+idle b e = subst (λ (x : ChildrenState). IsIdle (shown_in x) (is_among x.pending)) (sym e) (record { runs = λ k r. refl; pends = λ k. refl })
 
 pub returns-in-Ok-clause-idle : goal.returns-in-Ok-clause-idle
 returns-in-Ok-clause-idle g c = MatchResult-weaker c.new.result c.new.ensures (λ d made. idle d.running made.3) (λ _ _. tt)

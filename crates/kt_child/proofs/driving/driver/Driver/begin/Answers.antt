@@ -18,5 +18,5 @@ returns-in-Ok-clause-begun g c =
 
 pub returns-in-Ok-clause-state : goal.returns-in-Ok-clause-state
 returns-in-Ok-clause-state g c =
-    c.start.ensures.state ∙ ap (λ (s : Spawning). state_after_start c.args.self.now.running (spawned s) c.args.case c.start.result)
+    c.start.ensures.state ∙ ap (λ (s : Spawning). state_after_start c.args.self.now.running (spawned s c.args.case) c.start.result)
     (c.in-Ok.ensures.plan ∙ planned c.args.self.now.source c.args.job.now c.args.case _ _ c.want_and_limit-want.ensures.want c.want_and_limit-want.ensures.limit)

@@ -1,5 +1,5 @@
-use Rattle.std.proofs.Common.{rules, ◌≡◌, ℕ, ◌+◌, refl, sym, subst, ap, arith, inr}
-use Rattle.kt_child.proofs.Common.{Case, count_at}
+use Rattle.std.proofs.Common.{rules, ◌≡◌, ℕ, refl, sym, subst, ap, arith, inr}
+use Rattle.kt_child.proofs.Common.{Case, cases_of, count_at, count_in}
 use Rattle.kt_child.proofs.CaseCounts.{none_among, none_shown}
 use Rattle.kt_child.proofs.driving.driver.Driver.start_body.Goals as goal
 
@@ -7,9 +7,9 @@ pub begin-requires-clause-free : goal.begin-requires-clause-free
 begin-requires-clause-free g c =
     let b = c.args.self.now.running in
     let i = c.args.job.now.position in
-    let p : count_at i b.cases ≡ 0 = none_shown b.cases i c.requires.may.0 c.requires.may.1 in
+    let p : count_at i (cases_of b.children) ≡ 0 = none_shown (cases_of b.children) i c.requires.may.0 c.requires.may.1 in
     let q : count_at i b.pending ≡ 0 = none_among b.pending i c.requires.may.2 in
-    let P : ℕ → Type 0 = λ n. count_at n b.cases + count_at n b.pending ≡ 0 in
+    let P : ℕ → Type 0 = λ n. count_in n b ≡ 0 in
     let F : Case → ℕ = λ t. t.position in
     subst P (sym (ap F c.in-Ok.ensures)) (omega (arith, p, q))
 

@@ -1,5 +1,5 @@
 use Rattle.std.proofs.Common.{◌≡◌, ◌∙◌, ◌+◌, ◌<◌, ◌==◌, Bool, false, ℕ, List, slice_get, Some, ap, sym, subst, arith, length, if◌then◌else◌, remove}
-use Rattle.kt_child.proofs.Common.{slice_get-get_or, Case, count_at, ChildrenState, is_among}
+use Rattle.kt_child.proofs.Common.{slice_get-get_or, Case, count_at, ChildrenState, cases_of, is_among, with_pending}
 use Rattle.kt_child.proofs.StateWaits.{free_taken, once_owed, state_taken}
 use Rattle.kt_child.proofs.OwedCases.{among_remove}
 use Rattle.kt_child.proofs.driving.running_children.RunningChildren.take_owed.Goals as goal
@@ -18,7 +18,7 @@ there c =
 
 pub invariant_of-self : goal.invariant_of-self
 invariant_of-self c = (
-  state_taken c.self.inside.children.items c.self.inside.cases.items c.self.inside.pending.items c.remove.new.self.items
+  state_taken c.self.inside.children.items c.self.inside.pending.items c.remove.new.self.items
       c.place_of-place.result c.remove.result c.self.invariant.0 (at c) c.remove.ensures.items,
   let a = c.remove.ensures.len in
       let b = c.remove.ensures.capacity in
@@ -30,9 +30,8 @@ pub returns-clause-taken : goal.returns-clause-taken
 returns-clause-taken c =
     let new : List Case = c.remove.new.self.items in
     let P : ChildrenState → Type 0 = λ b. (place : ℕ) × (slice_get b.pending place ≡ Some c.remove.result)
-    × (◌≡◌ {A = ChildrenState} (record { children = c.self.inside.children.items; cases = c.self.inside.cases.items; pending = new })
-    (record { children = b.children; cases = b.cases; pending = remove b.pending place })) in
-    let F : List Case → ChildrenState = λ t. record { children = c.self.inside.children.items; cases = c.self.inside.cases.items; pending = t } in
+    × (◌≡◌ {A = ChildrenState} (record { children = c.self.inside.children.items; pending = new }) (with_pending b (remove b.pending place))) in
+    let F : List Case → ChildrenState = λ t. record { children = c.self.inside.children.items; pending = t } in
     subst P c.self.view_is (c.place_of-place.result, at c, ap F c.remove.ensures.items)
 
 pub returns-clause-position : goal.returns-clause-position
@@ -40,11 +39,11 @@ returns-clause-position c = there c
 
 pub returns-clause-free : goal.returns-clause-free
 returns-clause-free c =
-    let P : List Case → Type 0 = λ t. count_at c.remove.result.position c.self.inside.cases.items + count_at c.remove.result.position t ≡ 0 in
-    let Q : ℕ → Type 0 = λ n. count_at n c.self.inside.cases.items + count_at n c.remove.new.self.items ≡ 0 in
+    let P : List Case → Type 0 = λ t. count_at c.remove.result.position (cases_of c.self.inside.children.items) + count_at c.remove.result.position t ≡ 0 in
+    let Q : ℕ → Type 0 = λ n. count_at n (cases_of c.self.inside.children.items) + count_at n c.remove.new.self.items ≡ 0 in
     subst Q (there c)
     (subst P (sym c.remove.ensures.items)
-    (free_taken c.self.inside.cases.items c.self.inside.pending.items c.place_of-place.result c.remove.result c.self.invariant.0.once (at c)))
+    (free_taken (cases_of c.self.inside.children.items) c.self.inside.pending.items c.place_of-place.result c.remove.result c.self.invariant.0.once (at c)))
 
 pub returns-clause-pending : goal.returns-clause-pending
 returns-clause-pending c k =
@@ -53,5 +52,5 @@ returns-clause-pending c k =
     subst P c.self.view_is
     (ap (λ t. is_among t k) c.remove.ensures.items
     ∙ among_remove c.self.inside.pending.items c.place_of-place.result c.remove.result k (at c)
-    (once_owed c.self.inside.cases.items c.self.inside.pending.items c.remove.result c.self.invariant.0.once)
+    (once_owed (cases_of c.self.inside.children.items) c.self.inside.pending.items c.remove.result c.self.invariant.0.once)
     ∙ ap Q (there c))
