@@ -33,12 +33,12 @@ pub use Rattle.kt_child.specs.Ending.Ends.{Leaves, Removes, err_of, is_over, out
 pub use Rattle.kt_child.specs.Ending.Parts.{After, Bytes, IsNext, Missing, Reads, TooLong, Unreadable, Whole, next_part}
 pub use Rattle.kt_child.specs.Ending.Reads.{bytes_of}
 pub use Rattle.kt_child.specs.Host.HostStands.{AllProceed, AllStay, OthersStay, Proceeds, Stand, stand_in, stand_of}
-pub use Rattle.kt_child.specs.Inner.Children.{IsChildrenState, IsOn, IsShort, IsWatched, Takes, Tells, answered, count_at, count_in, heard_of, one_if, polls_left}
+pub use Rattle.kt_child.specs.Inner.Children.{IsChildrenState, IsOn, IsShort, IsWatched, Takes, Tells, count_at, count_in, one_if, polls_left}
 pub use Rattle.kt_child.specs.Inner.Host.{IsPlaceOf, TakesPiece, after_removed, after_set, is_other, RunsIn}
 pub use Rattle.kt_child.specs.Planning.ChildPlan.{child_of, paths_of, test_variable, variable_word}
-pub use Rattle.kt_child.specs.Polling.ChildOutcome.{Heard, HeardKill, HeardPoll, Told, ToldAfterKill, ToldWithin, fresh, running}
+pub use Rattle.kt_child.specs.Polling.ChildOutcome.{Heard, HeardKill, HeardPoll, Told, ToldAfterKill, ToldWithin, answered, fresh, running}
 pub use Rattle.kt_child.specs.Polling.Lives.{heard_by, heard_in, own, same_child}
-pub use Rattle.kt_child.specs.Polling.Polls.{asked_by_poll, is_killed, turn_of, watch_after}
+pub use Rattle.kt_child.specs.Polling.Polls.{asked_by_poll, heard_of, is_killed, turn_of, watch_after}
 pub use Rattle.kt_child.specs.Polling.Turns.{PolledAll, PolledLast, PolledUntil, Rounds, WaitedOn, advanced, advanced_below, after_turns}
 pub use Rattle.kt_child.specs.Driving.Starts.{Ask, SetUp, SetUpAs, SetUpIn, SetUpNew, Started, Tried, cause_of, child_asks, furnish_asks, open_ask, spawn_ask, spawned, work_ask}
 pub use Rattle.kt_child.specs.System.Calls.{Call, Kill, MakeDir, Now, Pause, Poll, ReadFile, ReadPart, RemoveTree, SetLimit}

@@ -29,4 +29,5 @@ pub mod TraceStarts
 pub mod TraceTells
 pub mod TraceWaits
 pub mod TurnSteps
+pub mod WaitSilence
 pub mod WaitSteps

@@ -1,12 +1,13 @@
 -- What the running children have answered, after polls, turns and waits.
-use Rattle.std.proofs.Common.{◌≡◌, ℕ, zero, suc, ◌+◌, ◌<◌, ◌≤◌, List, [], ◌∷◌, ◌++◌, Bool, true, false, Some, Result, map, slice_get, refl, sym, ◌∙◌, ap, subst, arith, append_assoc, append-nil, if◌then◌else◌, remove}
-use Rattle.kt_child.proofs.Common.{All, All-cons, All-head, All-nil, All-tail, All-weaker, Outcome, Child, Polled, OsFault, More, Watched, Case, Call, Poll, Kill, Pause, IsWatched, answered, heard_of, Heard, HeardPoll, HeardKill, Told, fresh, heard_by, own, same_child, asked_by_poll, is_killed, turn_of, cases_of, child_of, one_if, PolledAll, PolledUntil, Rounds, WaitedOn, advanced, advanced_below, after_turns}
+use Rattle.std.proofs.Common.{◌≡◌, ℕ, zero, suc, ◌+◌, ◌<◌, ◌≤◌, List, [], ◌∷◌, ◌++◌, Bool, true, false, Some, Result, map, slice_get, refl, sym, ◌∙◌, ap, subst, arith, append_assoc, append-nil, remove}
+use Rattle.kt_child.proofs.Common.{All, All-cons, All-head, All-nil, All-tail, All-weaker, Outcome, Child, Polled, OsFault, More, Watched, Case, Call, Pause, IsWatched, answered, heard_of, Heard, Told, fresh, heard_by, same_child, is_killed, turn_of, cases_of, child_of, one_if, PolledAll, PolledUntil, Rounds, WaitedOn, advanced, advanced_below, after_turns}
 use Rattle.kt_child.proofs.CaseSteps.{all_waited, case_at, cases_turn, cases_turns, cases_waited}
 use Rattle.kt_child.proofs.HostNames.{name_other}
-use Rattle.kt_child.proofs.LifeSteps.{child_is_own, heard_append}
+use Rattle.kt_child.proofs.LifeSteps.{heard_append}
 use Rattle.kt_child.proofs.NameCounts.{not_one, own_name, times}
-use Rattle.kt_child.proofs.Outcomes.{ends_so, goes_on}
+use Rattle.kt_child.proofs.Outcomes.{goes_on}
 use Rattle.kt_child.proofs.Places.{all_at, some_is}
+use Rattle.kt_child.proofs.WaitSilence.{asked, heard_none, heard_one, turn_unheard, until_unheard}
 
 -- what each name has heard after these calls
 abbrev pub heard_after : (Child → List Heard) → List Call → Child → List Heard
@@ -32,57 +33,6 @@ unheard heard calls c none = ap (λ t. heard c ++ t) none ∙ append-nil (heard 
 -- names that have heard the same
 pub lives_same : (old new : Child → List Heard) → ((c : Child) → new c ≡ old c) → (ks : List Watched) → All (Lives old) ks → All (Lives new) ks
 lives_same old new same ks h = All-weaker (Lives old) (Lives new) (λ k l. (l.0, same (child_of k.case) ∙ l.1)) ks h
-
--- what a poll of a child is for its own name
-heard_one : (b : Bool) (c : Child) (answer : Result Polled OsFault) (done : Bool)
-    → heard_by c (if b then Poll c answer ∷ Kill c done ∷ [] else Poll c answer ∷ []) ≡ (if b then HeardPoll answer ∷ HeardKill done ∷ [] else HeardPoll answer ∷ [])
-heard_one true c answer done = ap (λ t. own t (HeardPoll answer) ++ (own t (HeardKill done) ++ [])) (child_is_own c)
-heard_one false c answer done = ap (λ t. own t (HeardPoll answer) ++ []) (child_is_own c)
-
--- and for another
-heard_none : (b : Bool) (d c : Child) (answer : Result Polled OsFault) (done : Bool) → same_child d c ≡ false
-    → heard_by c (if b then Poll d answer ∷ Kill d done ∷ [] else Poll d answer ∷ []) ≡ []
-heard_none true d c answer done e = ap (λ t. own t (HeardPoll answer) ++ (own t (HeardKill done) ++ [])) e
-heard_none false d c answer done e = ap (λ t. own t (HeardPoll answer) ++ []) e
-
--- the calls of one poll
-abbrev asked : Watched → Result Polled OsFault → Bool → List Call
-asked k answer done = asked_by_poll (child_of k.case) k.limit k.watch answer done
-
--- a poll of the first child is not heard by a name that isn't there
-poll_unheard : (c : Child) (k : Watched) (ks : List Watched) (answer : Result Polled OsFault) (done : Bool) → times c (cases_of (k ∷ ks)) ≡ 0 → heard_by c (asked k answer done) ≡ []
-poll_unheard c k ks answer done z =
-    heard_none (is_killed k.limit k.watch answer) (child_of k.case) c answer done (not_one (same_child (child_of k.case) c) (omega (arith, z)))
-
--- nor is a turn
-turn_unheard : (c : Child) (ks : List Watched) (calls : List Call) → times c (cases_of ks) ≡ 0 → PolledAll ks calls → heard_by c calls ≡ []
-turn_unheard c [] calls z h = ap (heard_by c) h
-turn_unheard c (k ∷ ks) calls z (answer, done, more, e, went, polled) =
-    ap (heard_by c) e ∙ heard_append c (asked k answer done) more ∙ ap (λ t. t ++ heard_by c more) (poll_unheard c k ks answer done z)
-    ∙ turn_unheard c ks more (omega (arith, z)) polled
-
--- nor a turn up to an end
-until_unheard : (c : Child) (ks : List Watched) (i : ℕ) (calls : List Call) (outcome : Outcome) → times c (cases_of ks) ≡ 0 → PolledUntil ks i calls outcome → heard_by c calls ≡ []
-until_unheard c [] i calls outcome z (before, last, e, polled, over) = absurd over
-until_unheard c (k ∷ ks) zero calls outcome z (before, last, e, polled, (answer, done, f, ended)) =
-    ap (heard_by c) e ∙ ap (λ t. heard_by c (t ++ last)) polled ∙ ap (heard_by c) f ∙ poll_unheard c k ks answer done z
-until_unheard c (k ∷ ks) (suc i) calls outcome z (before, last, e, (answer, done, more, f, went, polled), over) =
-    let g : calls ≡ asked k answer done ++ (more ++ last) = e ∙ ap (λ t. t ++ last) f ∙ append_assoc (asked k answer done) more last in
-    ap (heard_by c) g ∙ heard_append c (asked k answer done) (more ++ last) ∙ ap (λ t. t ++ heard_by c (more ++ last)) (poll_unheard c k ks answer done z)
-    ∙ until_unheard c ks i (more ++ last) outcome (omega (arith, z)) (more, last, refl, polled, over)
-
-rounds_unheard : (n : ℕ) (c : Child) (ks : List Watched) (calls : List Call) → times c (cases_of ks) ≡ 0 → Rounds n ks calls → heard_by c calls ≡ []
-rounds_unheard zero c ks calls z h = ap (heard_by c) h
-rounds_unheard (suc n) c ks calls z (turn, done, more, e, polled, rounds) =
-    ap (heard_by c) e ∙ heard_append c turn (Pause done ∷ more) ∙ ap (λ t. t ++ heard_by c more) (turn_unheard c ks turn z polled)
-    ∙ rounds_unheard n c (map advanced ks) more (ap (times c) (cases_turn ks) ∙ z) rounds
-
--- nor the polls of a wait
-pub wait_unheard : (c : Child) (ks : List Watched) (calls : List Call) (place : ℕ) (outcome : Outcome) (after : List Watched) → times c (cases_of ks) ≡ 0
-    → WaitedOn ks calls place outcome after → heard_by c calls ≡ []
-wait_unheard c ks calls place outcome after z (turns, (rounds, last, e, waited, until), same) =
-    ap (heard_by c) e ∙ heard_append c rounds last ∙ ap (λ t. t ++ heard_by c last) (rounds_unheard turns c ks rounds z waited)
-    ∙ until_unheard c (after_turns turns ks) place last outcome (ap (times c) (cases_turns turns ks) ∙ z) until
 
 -- the first name isn't that of another child
 first_apart : (k : Watched) (ks : List Watched) → Differ (k ∷ ks) → times (child_of k.case) (cases_of ks) ≡ 0
@@ -139,7 +89,7 @@ EndsAt heard after i outcome =
 until_lives : (heard : Child → List Heard) (ks : List Watched) (i : ℕ) (calls : List Call) (outcome : Outcome) → Differ ks → All (Lives heard) ks → PolledUntil ks i calls outcome
     → EndsAt (heard_after heard calls) (advanced_below i ks) i outcome
 until_lives heard [] i calls outcome differ h (before, last, e, polled, over) = absurd over
-until_lives heard (k ∷ ks) zero calls outcome differ h (before, last, e, polled, (answer, done, f, ended)) =
+until_lives heard (k ∷ ks) zero calls outcome differ h (before, last, e, polled, (answer, done, f, ended, told)) =
     let l = All-head (Lives heard) k ks h in
     let g : calls ≡ asked k answer done = e ∙ ap (λ t. t ++ last) polled ∙ f in
     let P : List Call → Type 0 = λ t. EndsAt (heard_after heard t) (k ∷ ks) zero outcome in
@@ -147,7 +97,7 @@ until_lives heard (k ∷ ks) zero calls outcome differ h (before, last, e, polle
     subst P (sym g) (
       k,
       refl,
-      subst Q (sym (after_own heard k answer done l)) (ends_so k.limit k.watch answer done outcome l.0 ended),
+      subst Q (sym (after_own heard k answer done l)) told,
       others_kept heard k ks answer done (first_apart k ks differ) (All-tail (Lives heard) k ks h),
     )
 until_lives heard (k ∷ ks) (suc i) calls outcome differ h (before, last, e, (answer, done, more, f, went, polled), over) =

@@ -3,9 +3,10 @@ use Rattle.std.proofs.Common.{◌≡◌, ℕ, List, ◌++◌, slice_get, sym, �
 use Rattle.kt_child.proofs.Common.{All, Outcome, Role, Job, Ended, Trace, End, Child, Watched, Case, ChildrenState, Waited, Call, Heard, Told, Leaves, cases_of, child_of, case_in, limit_of, heard_by, IsNumberOf, LeavesAtLast}
 use Rattle.kt_child.proofs.EndSilence.{leaves_silent}
 use Rattle.kt_child.proofs.LifeSteps.{heard_append}
-use Rattle.kt_child.proofs.Lives.{EndsAt, Lives, heard_after, lives_same, unheard, wait_lives, wait_unheard}
+use Rattle.kt_child.proofs.Lives.{EndsAt, Lives, heard_after, lives_same, unheard, wait_lives}
 use Rattle.kt_child.proofs.NameCounts.{Apart, named, once_named, times}
 use Rattle.kt_child.proofs.Places.{some_is}
+use Rattle.kt_child.proofs.WaitSilence.{wait_unheard}
 use Rattle.kt_child.proofs.TraceFacts.{IsGone, PastSo, RunsSo}
 
 -- a name that doesn't run hears nothing of a wait

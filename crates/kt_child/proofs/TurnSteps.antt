@@ -5,6 +5,7 @@ use Rattle.std.proofs.Math.ListN.{get_or}
 use Rattle.std.proofs.lemmas.List.{get_or_default}
 use Rattle.kt_child.specs.declared.polling.Turn.TheVariants.{Ended}
 use Rattle.kt_child.proofs.Chains.{chain_append}
+use Rattle.kt_child.proofs.Outcomes.{ends_so}
 
 -- a child that wasn't polled yet is as it was
 pub watched_at : (i : ℕ) (s : List Watched) (d : Watched) → get_or (advanced_below i s) i d ≡ get_or s i d
@@ -73,20 +74,21 @@ step_more leads init children i d start now new lt e (calls, chain, polled) one 
 
 pub step_over : {O : Type 0} (leads : O → Call → O → Type 0) (init children : List Watched) (i : ℕ) (d : Watched) (start now new : O)
     (outcome : Outcome)
-    → i < length init → children ≡ advanced_below i init
+    → i < length init → children ≡ advanced_below i init → All IsOn init
     → (calls : List Call) × Chain leads start calls now × PolledAll (take i init) calls
     → OnePoll leads now new (Ended outcome) (get_or children i d)
     → (calls : List Call) × Chain leads start calls new × PolledUntil init i calls outcome
-step_over leads init children i d start now new outcome lt e (calls, chain, polled) one =
+step_over leads init children i d start now new outcome lt e on (calls, chain, polled) one =
     let k = get_or init i d in
     let at : get_or children i d ≡ k = ap (λ t. get_or t i d) e ∙ watched_at i init d in
     let P : Watched → Type 0 = λ t. OnePoll leads now new (Ended outcome) t in
     let o : OnePoll leads now new (Ended outcome) k = subst P at one in
     let ys = asked_by_poll (child_of k.case) k.limit k.watch o.0 o.1 in
+    let told = ends_so k.limit k.watch o.0 o.1 outcome (All-get_or IsOn init i d lt on).0 (sym o.3) in
     let Q : Option Watched → Type 0 = λ t. PolledLast t ys outcome in (
       calls ++ ys,
       chain_append leads start now new calls ys chain o.2,
-      (calls, ys, refl, polled, subst Q (sym (slice_get-get_or init i d lt)) (o.0, o.1, refl, sym o.3)),
+      (calls, ys, refl, polled, subst Q (sym (slice_get-get_or init i d lt)) (o.0, o.1, refl, sym o.3, told)),
     )
 
 -- whatever is read beyond the list

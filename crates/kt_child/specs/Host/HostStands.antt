@@ -23,7 +23,7 @@ stand_in (h ∷ held) c = if same_child h.child c then stand_of h else stand_in 
 abbrev pub IsLastEnd : {P I O E : Type 0} → Option (HostChild P I O E) → Child → ExitStatus → Type 0
 IsLastEnd last child status = IsSomeAnd last (λ h. (h.child ≡ child) × (stand_of h ≡ Some (Some status)))
 
--- A child proceeds: none has a process that had none, a process stays, and so does an end that was seen.
+-- A child's state only moves forward: no process, running, ended.
 abbrev pub Proceeds : Stand → Stand → Type 0
 Proceeds None new = new ≡ None
 Proceeds (Some None) new = IsSome new

@@ -1,5 +1,5 @@
 -- The children of a driver, as private functions keep and poll them.
-use Rattle.std.specs.Prelude.{ℕ, ◌==◌, ◌&&◌, Option, Some, if◌then◌else◌, Bool, true, false, ◌≡◌, ◌+◌, ◌≤◌, List, [], ◌∷◌, All, ◌-◌, ◌*◌, ◌<◌, ◌++◌, Result, replicate}
+use Rattle.std.specs.Prelude.{ℕ, ◌==◌, ◌&&◌, Option, Some, if◌then◌else◌, Bool, true, false, ◌≡◌, ◌+◌, ◌≤◌, List, [], ◌∷◌, All, ◌-◌, ◌*◌, ◌<◌, ◌++◌}
 use Rattle.kt_base.specs.declared.child.Role.{Role}
 use Rattle.kt_sched.specs.declared.job.StartAnswer.{StartAnswer}
 use Rattle.kt_sched.specs.declared.job.StartAnswer.TheVariants.{Started as StartedAt, Refused as RefusedFor}
@@ -8,10 +8,6 @@ use Rattle.kt_child.specs.declared.planning.Case.{Case}
 use Rattle.kt_child.specs.Driving.ChildrenState.{ChildrenState, cases_of, shown}
 use Rattle.kt_child.specs.declared.polling.Watched.{Watched}
 use Rattle.kt_child.specs.declared.polling.Watch.{Watch}
-use Rattle.kt_child.specs.declared.system.Polled.{Polled}
-use Rattle.kt_child.specs.declared.system.OsFault.{OsFault}
-use Rattle.kt_child.specs.Polling.Polls.{is_killed}
-use Rattle.kt_child.specs.Polling.ChildOutcome.{Heard, HeardKill, HeardPoll, running}
 use Rattle.kt_child.specs.declared.ending.ReadEnd.{ReadEnd}
 use Rattle.kt_child.specs.Ending.Parts.{Bytes, Missing, TooLong, Unreadable, Whole}
 use Rattle.kt_child.specs.declared.ending.ReadEnd.TheVariants as read_end
@@ -35,14 +31,6 @@ IsOn k = IsOnBy k.limit k.watch
 -- the polls that a child has left
 abbrev pub polls_left : Watched → ℕ
 polls_left k = (100 * k.limit - k.watch.before) + (500 - k.watch.after)
-
--- what a child that isn't over has answered so far, by its limit and what is kept of it
-abbrev pub answered : ℕ → Watch → List Heard
-answered limit w = if w.killed then replicate (100 * limit) running ++ HeardKill true ∷ replicate w.after running else replicate w.before running
-
--- the answers of one poll
-abbrev pub heard_of : ℕ → Watch → Result Polled OsFault → Bool → List Heard
-heard_of limit w answer done = if is_killed limit w answer then HeardPoll answer ∷ HeardKill done ∷ [] else HeardPoll answer ∷ []
 
 -- a reader that has taken some bytes has taken these after them
 abbrev pub Takes : {R : Type 0} → (R → List ℕ → Type 0) → R → R → List ℕ → Type 0

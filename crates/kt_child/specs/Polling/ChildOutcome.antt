@@ -1,5 +1,5 @@
 -- The outcome of a child, by its own answers.
-use Rattle.std.specs.Prelude.{◌≡◌, ℕ, ◌*◌, ◌<◌, List, [], ◌∷◌, ◌++◌, Bool, true, false, Option, Some, None, Result, Ok, Err, replicate, ◌⊎◌}
+use Rattle.std.specs.Prelude.{◌≡◌, ℕ, ◌*◌, ◌<◌, List, [], ◌∷◌, ◌++◌, Bool, true, false, Option, Some, None, Result, Ok, Err, replicate, ◌⊎◌, if◌then◌else◌}
 use Rattle.kt_base.specs.declared.child.Outcome.{Outcome}
 use Rattle.kt_base.specs.declared.child.Outcome.TheVariants.{Exited, Signaled, TimedOut, WaitFailed}
 use Rattle.kt_child.specs.declared.system.Polled.{Polled}
@@ -47,3 +47,7 @@ Told limit heard outcome = ToldWithin (100 * limit) heard outcome
 -- what is kept of a child that was just spawned
 abbrev pub fresh : Watch
 fresh = record { before = 0; killed = false; after = 0 }
+
+-- what a child that isn't over has answered so far, by its limit and what is kept of it
+abbrev pub answered : ℕ → Watch → List Heard
+answered limit w = if w.killed then replicate (100 * limit) running ++ HeardKill true ∷ replicate w.after running else replicate w.before running

@@ -9,6 +9,7 @@ use Rattle.kt_child.specs.declared.polling.Watch.{Watch}
 use Rattle.kt_child.specs.declared.polling.Turn.{Turn}
 use Rattle.kt_child.specs.declared.polling.Turn.TheVariants.{More, Ended}
 use Rattle.kt_child.specs.System.Calls.{Call, Poll, Kill}
+use Rattle.kt_child.specs.Polling.ChildOutcome.{Heard, HeardKill, HeardPoll}
 
 -- one more answer `running` is the last one before the deadline
 abbrev pub is_due : ℕ → Watch → Bool
@@ -25,6 +26,10 @@ is_killed limit w (Ok (PolledSignal signal core)) = false
 abbrev pub asked_by_poll : Child → ℕ → Watch → Result Polled OsFault → Bool → List Call
 asked_by_poll child limit w answer done =
     if is_killed limit w answer then Poll child answer ∷ Kill child done ∷ [] else Poll child answer ∷ []
+
+-- what a child answers to a poll
+abbrev pub heard_of : ℕ → Watch → Result Polled OsFault → Bool → List Heard
+heard_of limit w answer done = if is_killed limit w answer then HeardPoll answer ∷ HeardKill done ∷ [] else HeardPoll answer ∷ []
 
 -- what a poll makes of a child, by its answers
 abbrev pub turn_of : ℕ → Watch → Result Polled OsFault → Bool → Turn

@@ -7,7 +7,8 @@ use Rattle.kt_child.specs.declared.polling.Turn.TheVariants.{More, Ended}
 use Rattle.kt_child.specs.declared.polling.Watched.{Watched}
 use Rattle.kt_child.specs.System.Calls.{Call, Pause}
 use Rattle.kt_child.specs.Planning.ChildPlan.{child_of}
-use Rattle.kt_child.specs.Polling.Polls.{asked_by_poll, turn_of, watch_after}
+use Rattle.kt_child.specs.Polling.Polls.{asked_by_poll, heard_of, turn_of, watch_after}
+use Rattle.kt_child.specs.Polling.ChildOutcome.{Told, answered}
 
 -- a child after one more Running answer
 abbrev pub advanced : Watched → Watched
@@ -28,13 +29,14 @@ PolledAll (k ∷ children) calls =
     × (turn_of k.limit k.watch answer done ≡ More)
     × PolledAll children more
 
--- one poll of this child, which ends it
+-- one poll of this child, which ends it: its outcome is the row of the outcome table that all its answers are
 abbrev pub PolledLast : Option Watched → List Call → Outcome → Type 0
 PolledLast None calls outcome = ⊥
 PolledLast (Some k) calls outcome =
     (answer : Result Polled OsFault) × (done : Bool)
     × (calls ≡ asked_by_poll (child_of k.case) k.limit k.watch answer done)
     × (turn_of k.limit k.watch answer done ≡ Ended outcome)
+    × Told k.limit (answered k.limit k.watch ++ heard_of k.limit k.watch answer done) outcome
 
 -- the children before this one were polled and aren't over, and then this one is
 abbrev pub PolledUntil : List Watched → ℕ → List Call → Outcome → Type 0

@@ -22,7 +22,7 @@ fn ended(watch: &Watch, outcome: Outcome) -> Turn
     }
 }
 
-/// Polls a child once, whose limit is given in seconds, and kills it where the poll failed or its limit is used up.
+/// Polls a child once. Kills it if the poll failed or the limit (in seconds) is used up.
 pub(crate) fn poll_once<O: Os>(os: &mut O, child: Child, limit: u64, watch: &mut Watch) -> Turn
     requires in_range { limit ≤ 1000000 }
     requires watched { IsWatched limit watch.old }

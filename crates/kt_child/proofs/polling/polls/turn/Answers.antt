@@ -16,7 +16,7 @@ poll_once-requires-clause-watched g c =
 pub returns-in-Ended-clause-over : goal.returns-in-Ended-clause-over
 returns-in-Ended-clause-over g c =
     step_over g.O.Os.leads c.args.children.now c.loop-i.children c.loop-i.i c.index-children-i.result c.args.os.now c.loop-i.os c.poll_once.new.os
-    c.in-Ended.outcome (omega arith) c.loop-i.invariant.children c.loop-i.invariant.asked
+    c.in-Ended.outcome (omega arith) c.loop-i.invariant.children c.requires c.loop-i.invariant.asked
     (one_poll g.O.Os.leads c.loop-i.os c.poll_once.new.os (Ended c.in-Ended.outcome) c.child.result (get_or c.loop-i.children c.loop-i.i c.index-children-i.result) c.child.ensures c.in-Ended.ensures.asked)
 
 pub loop-i-preserved : goal.loop-i-preserved
