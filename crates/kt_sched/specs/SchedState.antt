@@ -136,7 +136,8 @@ is_decided_stage _ = false
 abbrev pub HasDecided : List Case → ℕ → Bool → Type 0
 HasDecided cases i flag = (c : Case) × (slice_get cases i ≡ Some c) × (is_decided_stage c.stage ≡ flag)
 
--- the case that has its turn, if there is room for it: fewer cases are active than the width, and none is if this one is exclusive
+-- the case that has its turn, if no put failed and there is room for it: fewer cases are active than the width, and none is if this one is
+-- exclusive
 abbrev pub HasTurn : SchedState → ℕ → Type 0
 HasTurn b i = (b.failed ≡ false) × (slice_get b.order b.turn ≡ Some i) × (b.active < b.width) × (b.active ≡ 0 ⊎ IsOrdinary b.cases i)
 
@@ -207,7 +208,8 @@ abbrev pub is_owed : Option ℕ → ℕ → Bool
 is_owed None k = false
 is_owed (Some i) k = k == i
 
--- how the cases stand for a trace, so many of which are active, and what is owed
+-- how the cases stand for a trace, and what is owed: so many of them are active, no more than the width, and one alone if one of these is
+-- exclusive
 pub record CasesStand (plan : List Job) (n : ℕ) (T : Trace) (cases : List Case) (a width : ℕ) (pending : Option ℕ) : Type 0 where
   pub is_plan : IsPlan plan
   pub room : 0 < n

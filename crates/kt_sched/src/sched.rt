@@ -231,8 +231,9 @@ impl Sched {
         }
     }
 
-    /// The case that has its turn, if there is room for it: fewer cases are active than the width, and none is if this one is
-    /// exclusive. A case is active until its cleanup is over.
+    /// The case that has its turn, if no put failed and there is room for it: fewer cases are active than the width, and
+    /// none is if this one is exclusive. A case is active until its cleanup is over. Exclusive cases have the last turns, so
+    /// none is active at the turn of another.
     fn turn_with_room(&self) -> Option<u32>
         ensures { IsTurn self.now result }
     {

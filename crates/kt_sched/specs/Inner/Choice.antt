@@ -5,7 +5,7 @@ use Rattle.kt_sched.specs.declared.next.Next.{Next}
 use Rattle.kt_sched.specs.declared.next.Next.TheVariants as next
 use Rattle.kt_sched.specs.SchedState.{SchedState, HasExclusive, HasTurn}
 
--- no case has its turn, or there is no room for it
+-- a put failed, no case has its turn, or there is no room for it
 abbrev pub IsHeld : SchedState → Type 0
 IsHeld b =
     (b.failed ≡ true) ⊎ ((length b.order ≤ b.turn) ⊎ ((b.width ≤ b.active) ⊎ ((0 < b.active) × ((i : ℕ) × (slice_get b.order b.turn ≡ Some i) × HasExclusive b.cases i true))))
