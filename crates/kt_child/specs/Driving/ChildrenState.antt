@@ -49,8 +49,8 @@ is_among (c ∷ cases) k = if k == c.position then true else is_among cases k
 abbrev pub pending_with : Case → List Case → List Case
 pending_with c pending = if is_over c then pending else pending ++ c ∷ []
 
--- A wait that asks this and ends so leads from one state to another: its polls end with the child at a place, what follows
--- deals with the case of that child, and the child is not among the running ones then.
+-- A wait that asks this and ends so leads from one state to another: its polls end with the child at a place, whose answers
+-- tell the outcome; what follows deals with the case of that child, and the child is not among the running ones then.
 pub record Waited (old : ChildrenState) (calls : List Call) (e : Ended) (new : ChildrenState) : Type 0 where
   pub polls : List Call
   pub rest : List Call

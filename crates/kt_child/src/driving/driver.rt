@@ -65,6 +65,7 @@ impl<O: Os + Drop> Launcher for Driver<O> {
         }
     }
 
+    /// The end of the first child that is over. All that this child answered tells its outcome (`Waited`).
     fn wait(&mut self) -> Ended {
         self.running.wait(self.alloc, &mut self.os)
     }
