@@ -31,15 +31,14 @@ KINDS = "passed|skipped|expected_failure|failed|broken"
 
 # What kt_rows says where something of the row itself could not be made.
 SETUPS = {
-    "commands": ["there is no such command", "no statement failed", "there is no driver", "there is no store", "its tables are not taken",
+    "commands": ["no statement failed", "there is no store", "its tables are not taken",
                  "its runs can not be told", "its entries can not be told", "it does not open again", "it can not be attached again",
                  "the old store is not made"],
     "filters": ["a filter that is refused is asked for by `read`"],
     "lists": ["there is no such property or value"],
     "openings": ["no statement failed"],
     "properties": ["there is no such property or value", "there is no such variable"],
-    "schedules": ["the launcher ran out of memory"],
-    "stores": ["no tables were taken", "there is no such command", "the statement fails", "no statement failed"],
+    "stores": ["no tables were taken", "the statement fails", "no statement failed"],
 }
 
 
@@ -353,8 +352,9 @@ class Commands:
                 # The one case of a program whose list could not be had.
                 if not name.endswith(":__test_cases_list__") or place >= len(due.cases) or due.cases[place][0].rpartition(":")[0] != path:
                     return f"a case that is not due: {name}"
-                while place < len(due.cases) and due.cases[place][0].rpartition(":")[0] == path:
-                    place += 1
+                for _ in range(len(due.cases) - len(got.cases) + 1):
+                    if place < len(due.cases) and due.cases[place][0].rpartition(":")[0] == path:
+                        place += 1
                 continue
             # A child behind a start that was refused lives as the one before it was to live.
             if same and (changed or is_after) and verdict in self.verdicts():
@@ -590,7 +590,7 @@ class System:
         fault = lines.pop() if lines and lines[-1] in ("out of memory", "failed") else None
         for word in self.words:
             start = at
-            if word in ("calls", "words", "watching", "spawned", "totals"):
+            if word in ("calls", "words", "watching", "spawned", "totals", "left"):
                 # Nothing was asked, and nothing stands in front of it.
                 at += not (at == 0 and at < len(lines) and (ENTRY.fullmatch(lines[at]) or
                            word != "totals" and re.fullmatch(r"\d+ of \d+ passed(, .*)?", lines[at])))
@@ -608,9 +608,18 @@ class System:
             found.append((word, lines[start:at]))
         return (found, fault) if at == len(lines) else None
 
-    def fault(self, due_lines, got_lines):
-        if self.row.has("^fails each"):
-            return self.failing(due_lines, got_lines)
+    def fault(self, due, got):
+        """A plan is run for each `fails`, and one run differs from what is due."""
+        size = len(due) // max(1, len(self.row.texts("fails")))
+        for at in range(0, len(due), size):
+            rest = due[at + size:]
+            if due[at:at + size] != got[at:at + size]:
+                if got[len(got) - len(rest):] != rest:
+                    return "several runs differ"
+                return self.run_fault(due[at:at + size], got[at:len(got) - len(rest)])
+        return None if due == got else "another end"
+
+    def run_fault(self, due_lines, got_lines):
         due, got = self.sections(due_lines), self.sections(got_lines)
         if not due or not got:
             return "the sections aren't told apart"
@@ -714,55 +723,6 @@ class System:
     def check_outputs(self, due, got, ends):
         return None if ends or is_left_out_lines(got, due) else "other outputs"
 
-    def table(self, lines):
-        """The marks of each case where each call fails, as they are told: only where they differ from those of the sound run."""
-        sound, told, extra, calls, at = {}, {}, {}, None, 0
-        for line in lines:
-            entry, change = ENTRY.fullmatch(line), re.fullmatch(r"at (\d+): (.*)", line, re.S)
-            if line.endswith(" calls"):
-                calls = int(line.split()[0])
-            elif change:
-                at = int(change.group(1))
-                case = ENTRY.fullmatch(change.group(2).removesuffix(", killed"))
-                if case:
-                    told.setdefault(at, {})[int(case.group(1))] = case.group(3) + case.group(4)
-                    if line.endswith(", killed"):
-                        extra.setdefault(at, []).append("killed")
-                else:
-                    extra.setdefault(at, []).append(change.group(2))
-            elif entry:
-                sound[int(entry.group(1))] = entry.group(3) + entry.group(4)
-            else:
-                return None
-        return sound, told, extra, calls
-
-    def failing(self, due_lines, got_lines):
-        """Where each call fails in turn, one attempt differs from what is due, or the sound one."""
-        due, got = self.table(due_lines), self.table(got_lines)
-        if not due or not got:
-            return "the attempts aren't told apart"
-        attempts = set()
-        last = min(due[3] or 10 ** 6, got[3] or 10 ** 6)
-        strip = lambda text: re.sub(r" [01+]{6}$", "", text)
-        for position in due[0]:
-            if due[0][position] != got[0].get(position):
-                attempts.add("sound")
-                if strip(got[0].get(position, "")) not in self.reasons(position) | {strip(due[0][position])} | self.lives():
-                    return f"{position} is {got[0].get(position)}"
-        for at in range(1, last):
-            for position in due[0]:
-                one = due[1].get(at, {}).get(position, due[0][position])
-                other = got[1].get(at, {}).get(position, got[0].get(position))
-                if one != other:
-                    attempts.add(at)
-                    if strip(other) not in self.reasons(position) | {strip(one), strip(due[0][position])} | self.lives():
-                        return f"at {at} {position} is {other}"
-            if due[2].get(at) != got[2].get(at) and at not in attempts:
-                attempts.add(at)
-        if got[3] != due[3]:
-            attempts.add(got[3])
-        return None if len(attempts) <= 1 else f"attempts {sorted(map(str, attempts))} differ"
-
 
 OUTPUT = re.compile(r"(out|err)=(.*?)(?=, err=|, cleanup out=|, cleanup err=|\nout=|$)", re.S)
 
@@ -837,9 +797,6 @@ def difference(row, due, got):
         return system_fault(row, due, got)
     if row.subject == "schedules":
         return schedule_fault(row, due, got)
-    if row.subject == "plans":
-        # Of a run that memory ended only its number is told.
-        return None if re.fullmatch(r"another run, the number \d+, of [A-Za-z]+", "\n".join(got)) else "another answer"
     return "another answer"
 
 

@@ -9,8 +9,8 @@
 #
 # With ROWS_PLACES=all each allocation of a row is tried, up to 4,000 of them. Rows with more are tried by the place in the code that
 # asks, not by number: of the allocations that have one list of return addresses the first four, the last, those whose number is a power
-# of two, and some four in between; if that would take more than ROWS_SECONDS processor seconds a row (600), one in so many of these. Rows
-# that run each plan of some letters are left out otherwise. ROWS_JOBS is how many rows are tried at once.
+# of two, and some four in between; if that would take more than ROWS_SECONDS processor seconds a row (600), one in so many of these. ROWS_JOBS
+# is how many rows are tried at once.
 #
 # KT_ROWS names another program. With FILE.rows .. as its words it checks these files alone. The last line is 'N passed, M failed',
 # over the rows.
@@ -117,7 +117,6 @@ check() {
   local count spent file=${1##*/}
   file=${file%.*}
   [ ! -d "$data/${file%.rows}" ] || ln -s "$data/${file%.rows}" "${file%.rows}"
-  if [ "$places" != all ] && grep -q '^letters ' "$file"; then return; fi
   echo "${1##*/}" > row
   is_due "$file" && without_memory "$file"
 }

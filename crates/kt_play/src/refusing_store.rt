@@ -27,13 +27,13 @@ pub struct RefusingStore {
     /// The calls from the first number on, counted from 1, up to the second one are refused.
     refused: (u64, u64),
     /// Why they are refused, if memory doesn't run out.
-    pub(crate) failed: FailedStatement,
+    failed: FailedStatement,
     /// Why memory ran out, if they are refused for that.
     shortage: Option<NoMemory>,
 }
 
 impl RefusingStore {
-    ghost use Rattle.std.specs.Prelude.{◌≡◌};
+    ghost use Rattle.std.specs.Prelude.{◌≡◌, IfErr};
     ghost use Rattle.kt_store.specs.Ask.{IsStoreFault};
 
     /// No runs. The calls from the first number to the last are refused, counted from 1, for a lack
@@ -53,24 +53,21 @@ impl RefusingStore {
         }
     }
 
-    /// What a refused call answers.
-    fn fault(&self) -> StoreFault
-        ensures { IsStoreFault result }
-    {
-        match self.shortage {
-            Some(refusal) => StoreFault::from(refusal),
-            None => StoreFault::Store(self.failed),
-        }
-    }
-
-    /// Whether the next call is refused.
-    fn refuses(&mut self) -> bool
-        ensures { self.new.runs ≡ self.old.runs }
+    /// Lets the next call go on, or refuses it.
+    fn ask(&mut self) -> Result<(), StoreFault>
+        ensures runs { self.new.runs ≡ self.old.runs }
+        ensures fault { IfErr result IsStoreFault }
     {
         let call = self.calls.saturating_add(1);
         self.calls = call;
         let (first, last) = self.refused;
-        first <= call && call <= last
+        if call < first || last < call {
+            return Ok(());
+        }
+        match self.shortage {
+            Some(refusal) => Err(StoreFault::from(refusal)),
+            None => Err(StoreFault::Store(self.failed)),
+        }
     }
 }
 
@@ -94,44 +91,32 @@ impl Keeping for RefusingStore {
 
 impl ResultStore for RefusingStore {
     fn begin(&mut self, total: u32, moment: u64) -> Result<u64, StoreFault> {
-        if self.refuses() {
-            return Err(self.fault());
-        }
+        self.ask()?;
         self.runs.begin(total, moment)
     }
 
     fn put(&mut self, run: u64, entry: &Entry) -> Result<(), StoreFault> {
-        if self.refuses() {
-            return Err(self.fault());
-        }
+        self.ask()?;
         self.runs.put(run, entry)
     }
 
     fn finish(&mut self, run: u64) -> Result<(), StoreFault> {
-        if self.refuses() {
-            return Err(self.fault());
-        }
+        self.ask()?;
         self.runs.finish(run)
     }
 
     fn runs(&mut self) -> Result<Vec<RunHead>, StoreFault> {
-        if self.refuses() {
-            return Err(self.fault());
-        }
+        self.ask()?;
         self.runs.runs()
     }
 
     fn outline(&mut self, run: u64, pairs: bool) -> Result<Vec<Entry>, StoreFault> {
-        if self.refuses() {
-            return Err(self.fault());
-        }
+        self.ask()?;
         self.runs.outline(run, pairs)
     }
 
     fn outputs(&mut self, run: u64, position: u32) -> Result<CaseOutputs, StoreFault> {
-        if self.refuses() {
-            return Err(self.fault());
-        }
+        self.ask()?;
         self.runs.outputs(run, position)
     }
 }

@@ -1,5 +1,6 @@
 use kt_base::NoMemory;
 use kt_child::Polled;
+use std::alloc::Global;
 
 /// How a child lives: how often it is reported to be running, and then how it ended.
 #[derive(Clone, Copy, Debug, PartialEq, Eq)]
@@ -18,32 +19,76 @@ pub enum PartFault {
     Gone,
 }
 
-/// A file of a scripted system or world. A star in its path stands for any one name.
+/// A file of a scripted system or machine. A star in its path stands for any one name.
 #[derive(Drop)]
 pub struct Holding<'a> {
     pub path: &'a str,
     pub bytes: Vec<u8>,
 }
 
-/// What a scripted system does.
+/// What a scripted system does, and what a scripted machine has.
 #[derive(Drop)]
 pub struct Scene<'a> {
     /// The lives of the children in the order of their starts. Further children live as the last one.
     pub lives: Vec<Life>,
+    /// The files that can be read.
     pub files: Vec<Holding<'a>>,
-    /// The calls from the first number on, counted from 0, and below the second one fail.
+    /// The calls of the system from the first number on, counted from 0, and below the second one fail.
     pub failing: (u32, u32),
     /// Why memory runs out, if they fail for that.
     pub shortage: Option<NoMemory>,
     pub part_fault: PartFault,
-    /// The moments that are answered, in milliseconds since 1970 in UTC.
+    /// The moments that the system answers, in milliseconds since 1970 in UTC.
     pub moments: Vec<u64>,
     /// How much later each moment after those is.
     pub step: u64,
+    /// The moments that the machine answers; the last one stays.
+    pub clock: Vec<u64>,
+    /// The programs of the tree that are there.
+    pub programs: Vec<&'a str>,
+    /// Files that can't be read.
+    pub locked: Vec<&'a str>,
+    /// Files that can't be read for want of memory.
+    pub dear: Vec<&'a str>,
+    /// The required files that are there.
+    pub found_files: Vec<&'a str>,
+    /// The required programs that are there.
+    pub found_programs: Vec<&'a str>,
+}
+
+impl<'a> Scene<'a> {
+    /// A machine that has nothing, and a system whose children exit with 0 and whose moments are 1, 2 and so on.
+    pub fn new(alloc: Global) -> Scene<'a> {
+        Scene {
+            lives: Vec::new(alloc),
+            files: Vec::new(alloc),
+            failing: (0, 0),
+            shortage: None,
+            part_fault: PartFault::None,
+            moments: Vec::new(alloc),
+            step: 1,
+            clock: Vec::new(alloc),
+            programs: Vec::new(alloc),
+            locked: Vec::new(alloc),
+            dear: Vec::new(alloc),
+            found_files: Vec::new(alloc),
+            found_programs: Vec::new(alloc),
+        }
+    }
+
+    /// The bytes of a file.
+    pub fn bytes_at(&self, path: &str) -> Option<&[u8]> {
+        for file in self.files.as_slice() {
+            if is_path_of(file.path, path) {
+                return Some(file.bytes.as_slice());
+            }
+        }
+        None
+    }
 }
 
 /// Whether a path is the one of a file.
-pub fn is_path_of(pattern: &str, path: &str) -> bool {
+fn is_path_of(pattern: &str, path: &str) -> bool {
     let Some((front, back)) = pattern.split_once('*') else {
         return pattern == path;
     };
@@ -56,12 +101,18 @@ pub fn is_path_of(pattern: &str, path: &str) -> bool {
     }
 }
 
-/// The bytes of a file.
-pub fn bytes_at<'a>(files: &'a [Holding<'_>], path: &str) -> Option<&'a [u8]> {
-    for file in files {
-        if is_path_of(file.path, path) {
-            return Some(file.bytes.as_slice());
+/// Whether a path is one of these.
+pub fn is_among(patterns: &[&str], path: &str) -> bool {
+    for pattern in patterns {
+        if is_path_of(*pattern, path) {
+            return true;
         }
     }
-    None
+    false
+}
+
+/// Asks for more memory than any machine has, so that the allocator refuses it.
+pub fn ask_too_much(alloc: Global) -> Result<(), NoMemory> {
+    let _bytes: Vec<u8> = Vec::with_capacity(alloc, usize::MAX)?;
+    Ok(())
 }

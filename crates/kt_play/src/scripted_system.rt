@@ -1,8 +1,7 @@
 ghost use Rattle.kt_child.specs.Ending.Reads.{IsReadWithin};
 
-use crate::scene::bytes_at;
-use crate::{Life, PartFault, Scene};
-use kt_base::{Bytes, Items, NoMemory, Role, Text, Variable};
+use crate::{Answer, Life, PartFault, Scene};
+use kt_base::{Bytes, Items, NoMemory, Role, Text};
 use kt_child::{Child, EnvPlan, FileRead, Os, OsFault, Polled};
 use std::alloc::Global;
 
@@ -10,7 +9,6 @@ use std::alloc::Global;
 /// a failed one. A call is done even if there is no memory for its line; then there is no log.
 #[derive(Drop)]
 pub struct ScriptedSystem<'a> {
-    alloc: Global,
     scene: &'a Scene<'a>,
     /// How many calls there were.
     calls: u32,
@@ -19,11 +17,9 @@ pub struct ScriptedSystem<'a> {
     /// How many moments of the scene were answered, and which was last.
     told: usize,
     moment: u64,
-    log: String,
+    pub log: Answer,
     /// A line for each program that was started: its words, its directory and its variables.
-    spawned: String,
-    /// The refusal of memory for a line, if there was one.
-    refusal: Option<NoMemory>,
+    pub spawned: Answer,
 }
 
 /// The life of the child that was started as this one.
@@ -73,7 +69,7 @@ fn read(
 ) -> Result<FileRead, OsFault>
     ensures { IsReadWithin limit result }
 {
-    match bytes_at(scene.files.as_slice(), path.as_str()) {
+    match scene.bytes_at(path.as_str()) {
         Some(bytes) => front(alloc, bytes.get(from as usize..).unwrap_or(&[]), limit),
         None => Ok(FileRead::Missing),
     }
@@ -99,137 +95,61 @@ fn read_with_fault(
     }
 }
 
-/// Writes the line of a call.
-fn note(log: &mut String, word: &str, about: &str, done: bool) -> Result<(), NoMemory> {
-    log.push_str(word)?;
-    if !about.is_empty() {
-        log.push(' ')?;
-        log.push_str(about)?;
-    }
-    if !done {
-        log.push_str(" failed")?;
-    }
-    log.push('\n')?;
-    Ok(())
-}
-
-/// A child as a line has it: its number, and whether it is a cleanup.
-fn child_text(alloc: Global, child: Child) -> Result<String, NoMemory> {
-    let attempt = child.attempt;
-    match child.role {
-        Role::Body => Ok(format!(in alloc; "{attempt}")?),
-        Role::Cleanup => Ok(format!(in alloc; "cleanup {attempt}")?),
-    }
-}
-
-/// Writes the line of a limit, which is no call that may fail.
-fn note_limit(alloc: Global, log: &mut String, child: Child, limit: u64) -> Result<(), NoMemory> {
-    let child = child_text(alloc, child)?;
-    log.push_str(format!(in alloc; "limit {child} {limit}\n")?.as_str())?;
-    Ok(())
-}
-
-fn push_texts(line: &mut String, texts: &[Text]) -> Result<(), NoMemory> {
+/// Appends texts with a space before each.
+fn push_texts(line: &mut Answer, texts: &[Text]) {
     for text in texts {
-        line.push(' ')?;
-        line.push_str(text.as_str())?;
+        line.push_all(&[" ", text.as_str()]);
     }
-    Ok(())
-}
-
-fn push_variables(line: &mut String, variables: &[Variable]) -> Result<(), NoMemory> {
-    for variable in variables {
-        line.push(' ')?;
-        line.push_str(variable.name.as_str())?;
-        line.push('=')?;
-        line.push_str(variable.value.as_str())?;
-    }
-    Ok(())
-}
-
-/// Writes what a program is started with.
-fn note_spawn(
-    line: &mut String,
-    program: &Text,
-    words: &Items<Text>,
-    env: &EnvPlan,
-    dir: &Text,
-) -> Result<(), NoMemory> {
-    line.push_str(program.as_str())?;
-    push_texts(line, words.as_slice())?;
-    line.push_str(", in ")?;
-    line.push_str(dir.as_str())?;
-    line.push_str(", with")?;
-    push_variables(line, env.set.as_slice())?;
-    line.push_str(", without")?;
-    push_texts(line, env.removed.as_slice())?;
-    line.push('\n')?;
-    Ok(())
 }
 
 impl<'a> ScriptedSystem<'a> {
     pub fn new(alloc: Global, scene: &'a Scene<'a>) -> ScriptedSystem<'a> {
         ScriptedSystem {
-            alloc,
             scene,
             calls: 0,
             children: Vec::new(alloc),
             told: 0,
             moment: 0,
-            log: String::new(alloc),
-            spawned: String::new(alloc),
-            refusal: None,
+            log: Answer::new(alloc),
+            spawned: Answer::new(alloc),
         }
     }
 
-    /// The lines of the calls, unless there was no memory for one.
-    pub fn log(&self) -> Result<&str, NoMemory> {
-        match self.refusal {
-            None => Ok(self.log.as_str()),
-            Some(refusal) => Err(refusal),
-        }
-    }
-
-    /// A line for each program that was started.
-    pub fn spawned(&self) -> &str {
-        self.spawned.as_str()
-    }
-
-    /// Keeps the refusal of memory for a line.
-    fn keep(&mut self, noted: Result<(), NoMemory>) {
-        if let Err(refusal) = noted {
-            self.refusal = Some(refusal);
-        }
-    }
-
-    /// Whether the next call is done.
-    fn goes(&mut self) -> bool {
+    /// Ends the line of the next call, and returns whether it is done.
+    fn end_call(&mut self) -> Result<(), OsFault> {
         let call = self.calls;
         self.calls = call.saturating_add(1);
         let (first, below) = self.scene.failing;
-        call < first || below <= call
-    }
-
-    /// Writes the line of the next call, and returns whether it is done.
-    fn ask(&mut self, word: &str, about: &str) -> Result<(), OsFault> {
-        let done = self.goes();
-        let noted = note(&mut self.log, word, about, done);
-        self.keep(noted);
+        if call < first || below <= call {
+            self.log.push("\n");
+            return Ok(());
+        }
+        self.log.push(" failed\n");
         match self.scene.shortage {
-            _ if done => Ok(()),
             Some(refusal) => Err(OsFault::Memory(refusal)),
             None => Err(OsFault::Failed),
         }
     }
 
+    /// Writes the line of the next call, and returns whether it is done.
+    fn ask(&mut self, word: &str, path: &Text) -> Result<(), OsFault> {
+        self.log.push_all(&[word, " ", path.as_str()]);
+        self.end_call()
+    }
+
+    /// Writes a word and a child: its number, and whether it is a cleanup.
+    fn push_child(&mut self, word: &str, child: Child) {
+        self.log.push(word);
+        self.log.push(match child.role {
+            Role::Body => " ",
+            Role::Cleanup => " cleanup ",
+        });
+        self.log.number(child.attempt);
+    }
+
     fn ask_child(&mut self, word: &str, child: Child) -> Result<(), OsFault> {
-        match child_text(self.alloc, child) {
-            Ok(about) => self.ask(word, about.as_str()),
-            Err(refusal) => {
-                self.keep(Err(refusal));
-                self.ask(word, "")
-            }
-        }
+        self.push_child(word, child);
+        self.end_call()
     }
 
     fn next_moment(&mut self) -> u64 {
@@ -248,20 +168,22 @@ impl Os for ScriptedSystem<'_> {
     ghost leads = { λ _ _ _. Unit {0} };
 
     fn set_limit(&mut self, child: Child, limit: u64) {
-        let noted = note_limit(self.alloc, &mut self.log, child, limit);
-        self.keep(noted);
+        self.push_child("limit", child);
+        self.log.push(" ");
+        self.log.number(limit);
+        self.log.push("\n");
     }
 
     fn make_dir(&mut self, path: &Text) -> Result<(), OsFault> {
-        self.ask("make", path.as_str())
+        self.ask("make", path)
     }
 
     fn remove_tree(&mut self, path: &Text) -> Result<(), OsFault> {
-        self.ask("remove", path.as_str())
+        self.ask("remove", path)
     }
 
     fn open_output(&mut self, _child: Child, path: &Text) -> Result<(), OsFault> {
-        self.ask("open", path.as_str())
+        self.ask("open", path)
     }
 
     fn spawn(
@@ -272,11 +194,19 @@ impl Os for ScriptedSystem<'_> {
         env: &EnvPlan,
         dir: &Text,
     ) -> Result<(), OsFault> {
-        self.ask("spawn", program.as_str())?;
-        let noted = note_spawn(&mut self.spawned, program, words, env, dir);
-        self.keep(noted);
+        self.ask("spawn", program)?;
+        let line = &mut self.spawned;
+        line.push(program.as_str());
+        push_texts(line, words.as_slice());
+        line.push_all(&[", in ", dir.as_str(), ", with"]);
+        for variable in env.set.as_slice() {
+            line.push_all(&[" ", variable.name.as_str(), "=", variable.value.as_str()]);
+        }
+        line.push(", without");
+        push_texts(line, env.removed.as_slice());
+        line.push("\n");
         if let Err(refusal) = self.children.push((child, 0)) {
-            self.keep(Err(NoMemory::from(refusal)));
+            self.log.fail(NoMemory::from(refusal));
         }
         Ok(())
     }
@@ -292,22 +222,24 @@ impl Os for ScriptedSystem<'_> {
     }
 
     fn pause(&mut self) -> Result<(), OsFault> {
-        self.ask("pause", "")
+        self.log.push("pause");
+        self.end_call()
     }
 
     fn read_file(&mut self, path: &Text, limit: u64) -> Result<FileRead, OsFault> {
-        self.ask("read", path.as_str())?;
-        read(self.alloc, self.scene, path, 0, limit)
+        self.ask("read", path)?;
+        read(self.log.alloc, self.scene, path, 0, limit)
     }
 
     fn read_part(&mut self, path: &Text, from: u64, limit: u64) -> Result<FileRead, OsFault> {
-        self.ask("part", path.as_str())?;
-        read_with_fault(self.alloc, self.scene, path, from, limit)
+        self.ask("part", path)?;
+        read_with_fault(self.log.alloc, self.scene, path, from, limit)
     }
 
     fn now(&mut self) -> Result<u64, OsFault> {
         let moment = self.next_moment();
-        self.ask("now", "")?;
+        self.log.push("now");
+        self.end_call()?;
         Ok(moment)
     }
 }

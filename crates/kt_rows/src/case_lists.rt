@@ -1,31 +1,54 @@
-use crate::lines::Answer;
-use crate::listings::{after_header, listing_of};
+//! Lists of cases, and what comes of asking a program for its list.
+
+use crate::escapes::unescaped;
 use crate::numbers::append_numbered;
 use crate::properties::{push_props, set_known};
-use crate::row::{Result, Row, RowFault, asked, due};
-use crate::verdicts::push_reason;
-use kt_atflist::{CaseDef, Listing, cases, parse_list};
-use kt_base::{Interface, Items, Reason, Verdict};
+use crate::row::{Result, Row, RowFault, append, asked, due, halves};
+use crate::verdicts::{ending_of, push_reason, refused_of};
+use kt_atflist::{CaseDef, ListBytes, Listing, cases, parse_list};
+use kt_base::{Bytes, Interface, Items, Verdict};
 use kt_metadata::Props;
+use kt_play::Answer;
 use std::alloc::Global;
 
-fn push_broken(out: &mut Answer, reason: Reason) -> Result<()> {
-    out.push(": ");
-    push_reason(out, &Verdict::broken(reason))
+/// The header of a list of ATF cases, and an empty line.
+const HEADER: &str = "Content-Type: application/X-atf-tp; version=\"1\"\n\n";
+
+/// The blocks of a list after its header and an empty line.
+pub fn after_header(alloc: Global, blocks: &str) -> Result<Vec<u8>> {
+    let mut text = HEADER.as_bytes().to_vec(alloc)?;
+    append(alloc, &mut text, blocks)?;
+    Ok(text)
 }
 
-/// Appends a case in the form of a row: its name, the properties that differ from the defaults, and its fault.
-fn push_case(out: &mut Answer, case: CaseDef) -> Result<()> {
-    let CaseDef { name, props, fault } = case;
-    out.line(name.as_str());
-    push_props(out, &props)?;
-    match fault {
-        None => Ok(()),
-        Some(reason) => push_broken(out, reason),
+/// What a program wrote, cut off from how it ended.
+fn ended_of<'a>(alloc: Global, text: &'a str) -> Result<(&'a str, ListBytes)> {
+    if let Some(ending) = text.strip_suffix(" unreadable") {
+        return Ok((ending, ListBytes::Unreadable));
     }
+    if let Some(ending) = text.strip_suffix(" too-long") {
+        return Ok((ending, ListBytes::TooLong));
+    }
+    if let Some((ending, blocks)) = text.split_once(" blocks ") {
+        let list = after_header(alloc, blocks)?;
+        return Ok((ending, ListBytes::Read(Bytes::from_vec(list))));
+    }
+    let (ending, list) = halves(text, " list ", "an ending stands before a list")?;
+    let list = unescaped(alloc, list)?;
+    Ok((ending, ListBytes::Read(Bytes::from_vec(list))))
 }
 
-/// Appends cases in the form of a row, or their number if the row says `count`.
+/// What comes of asking for a list: `refused WHY`, or `ENDING` and `blocks TEXT`, `list TEXT`, `unreadable` or `too-long`.
+fn listing_of(alloc: Global, text: &str) -> Result<Listing> {
+    if let Some(cause) = text.strip_prefix("refused ") {
+        return Ok(Listing::Refused(refused_of(cause)?));
+    }
+    let (ending, bytes) = ended_of(alloc, text)?;
+    Ok(Listing::Ended(ending_of(ending)?, bytes))
+}
+
+/// Appends cases in the form of a row, each with the properties that differ from the defaults and its fault; or their
+/// number if the row says `count`.
 fn push_cases(out: &mut Answer, row: &Row<'_>, found: Items<CaseDef>) -> Result<()> {
     if row.text("count").is_some() {
         out.number(found.len() as u64);
@@ -33,7 +56,13 @@ fn push_cases(out: &mut Answer, row: &Row<'_>, found: Items<CaseDef>) -> Result<
         return Ok(());
     }
     for case in found.into_vec() {
-        push_case(out, case)?;
+        let CaseDef { name, props, fault } = case;
+        out.line(name.as_str());
+        push_props(out, &props)?;
+        if let Some(reason) = fault {
+            out.push(": ");
+            push_reason(out, &Verdict::broken(reason))?;
+        }
     }
     Ok(())
 }

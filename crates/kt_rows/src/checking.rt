@@ -1,10 +1,10 @@
 use crate::answer;
-use crate::row::{Result, Row, RowFault, asked};
+use crate::row::{Result, Row, RowFault, asked, both};
 use crate::row_file::read_rows;
 use std::alloc::Global;
 use std::fs::File;
 use std::io::Eprint;
-use std::rt::{Clock, Files, Runtime};
+use std::rt::{Files, Runtime};
 use std::{env, fs, io};
 
 /// How many bytes of an answer are printed, unless the first argument says that all of it is.
@@ -34,39 +34,25 @@ fn part(alloc: Global, answer: &[u8], from: usize, shown: usize) -> Result<Strin
     asked(String::from_utf8_lossy(alloc, part))
 }
 
-/// Where a row is, with the wanted answer and the given one from the first line that differs.
-fn mismatch_lines(
-    alloc: Global,
-    file: &str,
-    line: u64,
-    wanted: &[u8],
-    found: &[u8],
-    shown: usize,
-) -> Result<String> {
-    let from = differing_line(wanted, found);
-    let wanted = part(alloc, wanted, from, shown)?;
-    let found = part(alloc, found, from, shown)?;
-    asked(format!(in alloc;
-        "{file}:{line}: another answer\n  wanted: {wanted:?}\n  got:    {found:?}"
-    ))
-}
-
-/// Compares the answer to a row with the one wanted, and returns what is printed if they differ.
-fn mismatch<R: Files<File = File> + Clock + AllocGlobal>(
-    rt: &R,
-    file: &str,
-    subject: &str,
-    row: &Row<'_>,
-    shown: usize,
-) -> Result<Option<String>> {
-    let alloc = rt.alloc();
-    let wanted = row.wanted(alloc)?;
-    let found = answer(rt, subject, row)?;
-    let found = found.as_bytes();
-    if found == wanted.as_slice() {
+/// Where a row is, with the wanted answer and the given one from the first line that differs; nothing if they are the
+/// same.
+fn mismatch(alloc: Global, file: &str, row: &Row<'_>, shown: usize) -> Result<Option<String>> {
+    let subject = file.strip_suffix(".rows").unwrap_or(file);
+    let (wanted, found) = both(row.wanted(alloc), answer(alloc, subject, row))?;
+    let (wanted, found) = (wanted.as_slice(), found.as_bytes());
+    if found == wanted {
         return Ok(None);
     }
-    Ok(Some(mismatch_lines(alloc, file, row.line, &wanted, found, shown)?))
+    let from = differing_line(wanted, found);
+    let line = row.line;
+    let (wanted, found) = both(
+        part(alloc, wanted, from, shown),
+        part(alloc, found, from, shown),
+    )?;
+    let text = format!(in alloc;
+        "{file}:{line}: another answer\n  wanted: {wanted:?}\n  got:    {found:?}"
+    );
+    asked(text).map(Some)
 }
 
 /// Prints why a line of a file has no answer.
@@ -75,35 +61,21 @@ fn print_fault<R: Eprint>(rt: &R, file: &str, line: u64, fault: RowFault) -> io:
     eprintln!(rt; "{file}:{line}: {text}")
 }
 
-/// Checks a row, and returns whether its answer is the one wanted.
-fn check_row<R: Runtime + Files<File = File> + AllocGlobal>(
-    rt: &R,
-    file: &str,
-    subject: &str,
-    row: &Row<'_>,
-    shown: usize,
-) -> io::Result<bool> {
-    match mismatch(rt, file, subject, row, shown) {
-        Ok(None) => return Ok(true),
-        Ok(Some(lines)) => rt.eprintln(lines)?,
-        Err(fault) => print_fault(rt, file, row.line, fault)?,
-    }
-    Ok(false)
-}
-
-/// Checks the rows of a file and prints how many there are.
-fn check_rows<R: Runtime + Files<File = File> + AllocGlobal>(
+/// Checks the rows of a file, and prints how many there are.
+fn check_rows<R: Runtime + AllocGlobal>(
     rt: &R,
     file: &str,
     rows: &[Row<'_>],
     shown: usize,
 ) -> io::Result<bool> {
-    let subject = file.strip_suffix(".rows").unwrap_or(file);
     let mut is_good = true;
     for row in rows {
-        if !check_row(rt, file, subject, row, shown)? {
-            is_good = false;
+        match mismatch(rt.alloc(), file, row, shown) {
+            Ok(None) => continue,
+            Ok(Some(lines)) => rt.eprintln(lines)?,
+            Err(fault) => print_fault(rt, file, row.line, fault)?,
         }
+        is_good = false;
     }
     let count = rows.len();
     println!(rt; "{file}: {count} rows")?;

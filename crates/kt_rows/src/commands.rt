@@ -1,121 +1,202 @@
-use crate::lines::Answer;
+//! Command lines over a platform, a machine and a system that answer as the row says.
+
+use crate::disk_tests;
+use crate::entries::content_at;
+use crate::escapes::lossy_of;
 use crate::numbers::number;
-use crate::printing::{push_ended, writer};
-use crate::row::{Result, Row};
-use crate::run_texts::push_runs;
-use crate::scenes::scene_of;
-use crate::stages::{row_over, store_of};
-use crate::{disk_tests, fault_exits, line_outputs};
-use kt_cli::Exit;
-use kt_play::{Scene, ScriptedWriter, WriteFault};
+use crate::played::Played;
+use crate::printing::push_pieces;
+use crate::row::{Result, Row, RowFault, halves};
+use crate::scenes::{failure, scene_of, shortage, store_of};
+use crate::store_calls::{push_call, push_runs};
+use crate::systems::push_calls;
+use kt_base::Text;
+use kt_child::DriverFault;
+use kt_cli::source_of;
+use kt_play::{Answer, RefusingStore, Scene, ScriptedPlatform};
+use kt_store::StoreFault;
 use std::alloc::Global;
 
 /// The most writes that fail in turn.
 const LIMIT: u64 = 10_000;
 
-/// What commands leave.
-#[derive(Drop)]
-struct Played {
-    page: ScriptedWriter,
-    exits: Vec<Exit>,
-    /// The runs of the store, a line each.
-    runs: String,
+/// Why a store refuses, if it does.
+fn store_fault(alloc: Global, fault: Option<&str>) -> Result<Option<StoreFault>> {
+    match fault {
+        None => Ok(None),
+        Some("no-memory") => Ok(Some(StoreFault::from(shortage(alloc)?))),
+        Some("failed") => Ok(Some(StoreFault::Store(failure(alloc)?))),
+        Some("unknown-schema") => Ok(Some(StoreFault::UnknownSchema)),
+        Some(_) => Err(RowFault::Misspelled("there is no such fault of a store")),
+    }
 }
 
-/// Does the commands of a row; one of their writes fails, counted from 1.
-fn play(alloc: Global, row: &Row<'_>, scene: &Scene<'_>, failing: u64) -> Result<Played> {
-    let at_most = row.number("takes", 4096)? as usize;
-    let mut page = writer(alloc, at_most, failing, WriteFault::Broken);
+/// Why there is no driver, if there is none.
+fn driver_fault(alloc: Global, fault: Option<&str>) -> Result<Option<DriverFault>> {
+    match fault {
+        None => Ok(None),
+        Some("no-memory") => Ok(Some(DriverFault::NoMemory(shortage(alloc)?))),
+        Some("no-work-directory") => Ok(Some(DriverFault::NoWorkDirectory)),
+        Some(_) => Err(RowFault::Misspelled("there is no such fault of a driver")),
+    }
+}
+
+/// The results of a row, into which its lines `begin`, `put` and `finish` have put some.
+fn results_of(alloc: Global, row: &Row<'_>) -> Result<RefusingStore> {
     let mut results = store_of(alloc, row)?;
-    let (exits, _os) = row_over(alloc, row, scene, &mut results, &mut page)?;
-    let mut runs = Answer::new(alloc);
-    push_runs(&mut runs, &mut results);
-    Ok(Played {
-        page,
-        exits,
-        runs: runs.end()?,
-    })
+    let mut unread = Answer::new(alloc);
+    let lines = row.entries.as_slice();
+    for (place, line) in lines.iter().enumerate() {
+        if matches!(line.word, "begin" | "put" | "finish") {
+            push_call(&mut unread, &mut results, line, content_at(lines, place))?;
+        }
+    }
+    unread.end()?;
+    Ok(results)
 }
 
-/// Appends the page, the exits, and where the row says so the runs.
-fn push_played(out: &mut Answer, row: &Row<'_>, played: &Played) -> Result<()> {
-    push_ended(out, &played.page, played.exits.as_slice())?;
-    if row.text("show") == Some("runs") {
-        out.line(played.runs.as_str());
-    }
-    Ok(())
-}
-
-/// What is wrong where a write failed: the page is no beginning, the last exit isn't 2, or the runs are others.
-fn wrong(whole: &Played, cut: &Played) -> Result<Option<&'static str>> {
-    let (whole_page, cut_page) = (whole.page.kept()?, cut.page.kept()?);
-    if cut_page.len() >= whole_page.len() || !whole_page.starts_with(cut_page) {
-        return Ok(Some("the page is no beginning"));
-    }
-    if cut.runs.as_str() != whole.runs.as_str() {
-        return Ok(Some("the runs are others"));
-    }
-    match cut.exits.last() {
-        Some(exit) if exit.status == 2 => Ok(None),
-        _ => Ok(Some("the exit is another one")),
+/// The value of a variable of the environment, if the row sets it.
+fn variable_of(alloc: Global, raw: Option<&str>) -> Result<Option<Text>> {
+    match raw {
+        Some(raw) => lossy_of(alloc, raw).map(Some),
+        None => Ok(None),
     }
 }
 
-/// Makes a write fail, and appends what is wrong then and what was written. Returns whether nothing is, and there is such a
-/// write.
-fn push_failing(
-    out: &mut Answer,
+/// The platform of a row: `open FAULT`, `close FAULT` and `surroundings FAULT` name its calls that fail, `path VALUE` and
+/// `user VALUE` set `PATH` and `USER`.
+fn platform_of(alloc: Global, row: &Row<'_>) -> Result<ScriptedPlatform<RefusingStore>> {
+    let mut platform = ScriptedPlatform::new(alloc, results_of(alloc, row)?);
+    platform.not_opened = store_fault(alloc, row.text("open"))?;
+    platform.not_closed = store_fault(alloc, row.text("close"))?;
+    platform.not_found = driver_fault(alloc, row.text("surroundings"))?;
+    platform.path = variable_of(alloc, row.text("path"))?;
+    platform.user = variable_of(alloc, row.text("user"))?;
+    Ok(platform)
+}
+
+/// Carries out the lines of a row. Of standard output the write with this number fails and all after it, or `flush
+/// fails`; of standard error `error N`.
+fn played_by(
+    alloc: Global,
     row: &Row<'_>,
     scene: &Scene<'_>,
-    whole: &Played,
     failing: u64,
-) -> Result<bool> {
-    let cut = play(out.alloc, row, scene, failing)?;
-    if cut.page.writes < failing {
-        return Ok(false);
-    }
-    if let Some(what) = wrong(whole, &cut)? {
-        out.separate("\n");
-        out.made(format!(in out.alloc; "at write {failing}: {what}\n"));
-        push_played(out, row, &cut)?;
-        return Ok(false);
-    }
-    Ok(true)
+) -> Result<Played<RefusingStore>> {
+    let mut played = Played::new(alloc, platform_of(alloc, row)?);
+    played.page.at_most = row.number("takes", 4096)? as usize;
+    played.page.failing = failing;
+    played.page.flush_fails = row.text("flush").is_some();
+    played.errors.failing = row.number("error", 0)?;
+    played.play(row.entries.as_slice(), scene)?;
+    Ok(played)
 }
 
-/// Makes each write fail in turn, until something is wrong.
-fn push_each_failing(out: &mut Answer, row: &Row<'_>, scene: &Scene<'_>) -> Result<()> {
-    let whole = play(out.alloc, row, scene, 0)?;
-    push_played(out, row, &whole)?;
-    for failing in 1..LIMIT {
-        if !push_failing(out, row, scene, &whole, failing)? {
-            break;
+/// Appends the runs that were closed.
+fn push_closed(out: &mut Answer, played: &mut Played<RefusingStore>) {
+    match &mut played.platform.results {
+        Some(results) => push_runs(out, results, false),
+        None => out.push("open"),
+    }
+}
+
+/// Appends what was written, the exits, and what `show WORDS` names: the `runs` that were closed, the calls of the
+/// `system` of each line.
+fn push_played(out: &mut Answer, row: &Row<'_>, played: &mut Played<RefusingStore>) -> Result<()> {
+    played.push_ended(out)?;
+    for word in row.text("show").unwrap_or("").split_whitespace() {
+        out.separate("\n");
+        match word {
+            "system" => push_calls(out, "calls", played.log.so_far()?)?,
+            _ => push_closed(out, played),
         }
     }
     Ok(())
 }
 
-/// What the commands of a row write, how they end, and what they leave.
-fn done(out: &mut Answer, row: &Row<'_>) -> Result<()> {
-    let scene = scene_of(out.alloc, row)?;
-    let writes = row.text("writes");
-    if writes == Some("each") {
-        return push_each_failing(out, row, &scene);
+/// What is wrong where a write failed: the page is no beginning, the last exit isn't 2, or the runs are others.
+fn wrong(
+    alloc: Global,
+    whole: &mut Played<RefusingStore>,
+    cut: &mut Played<RefusingStore>,
+) -> Result<Option<&'static str>> {
+    let (whole_page, cut_page) = (whole.page.kept()?, cut.page.kept()?);
+    if cut_page.len() >= whole_page.len() || !whole_page.starts_with(cut_page) {
+        return Ok(Some("the page is no beginning"));
     }
-    let failing = number(writes.unwrap_or("0"))?;
-    push_played(out, row, &play(out.alloc, row, &scene, failing)?)
+    match cut.exits.last() {
+        Some(status) if *status == 2 => {}
+        _ => return Ok(Some("the exit is another one")),
+    }
+    let (mut due, mut told) = (Answer::new(alloc), Answer::new(alloc));
+    push_closed(&mut due, whole);
+    push_closed(&mut told, cut);
+    if due.so_far()? != told.so_far()? {
+        return Ok(Some("the runs are others"));
+    }
+    Ok(None)
 }
 
-/// Commands over a scripted world: `do COMMAND LINE` each. Rows that begin with `piece` or `source` are of pieces that
-/// are given to a writer of lines and of the directories of Kyuafiles; those with `disk` are of a disk that fails.
+/// Makes each write fail in turn, until there is no such write or something is wrong, and appends what was written then.
+fn push_each_failing(out: &mut Answer, row: &Row<'_>, scene: &Scene<'_>) -> Result<()> {
+    let mut whole = played_by(out.alloc, row, scene, 0)?;
+    push_played(out, row, &mut whole)?;
+    for failing in 1..LIMIT {
+        let mut cut = played_by(out.alloc, row, scene, failing)?;
+        if cut.page.writes < failing {
+            break;
+        }
+        if let Some(what) = wrong(out.alloc, &mut whole, &mut cut)? {
+            out.separate("\n");
+            out.made(format!(in out.alloc; "at write {failing}: {what}\n"));
+            return push_played(out, row, &mut cut);
+        }
+    }
+    Ok(())
+}
+
+/// Appends what was written, the exits and what is shown of command lines, and what the platform was asked for before
+/// it if that `is_asked`.
+fn done(out: &mut Answer, row: &Row<'_>, is_asked: bool) -> Result<()> {
+    let scene = scene_of(out.alloc, row)?;
+    let writes = row.text("writes").unwrap_or("0");
+    if writes == "each" {
+        return push_each_failing(out, row, &scene);
+    }
+    let mut played = played_by(out.alloc, row, &scene, number(writes)?)?;
+    if is_asked {
+        let calls = played.platform.calls.so_far()?;
+        if calls.is_empty() {
+            out.push("nothing");
+        }
+        out.push_all(&[calls, "\n"]);
+    }
+    push_played(out, row, &mut played)
+}
+
+/// Appends the directory of a Kyuafile, seen from another one: `HERE KYUAFILE`.
+fn push_source(out: &mut Answer, text: &str) -> Result<()> {
+    let (here, kyuafile) = halves(text, " ", "a directory and a Kyuafile are due")?;
+    let kyuafile = Text::from_str(out.alloc, kyuafile)?;
+    out.text(source_of(out.alloc, here, &kyuafile));
+    Ok(())
+}
+
+/// What command lines write, how they end, and what they leave. Rows that begin with `piece` or `source` are of pieces
+/// that are given to a writer of lines and of the directories of Kyuafiles; those with `disk` are of a disk that fails.
 pub fn answer(out: &mut Answer, row: &Row<'_>) -> Result<()> {
     if let Some(disk) = row.text("disk") {
         return disk_tests::answer(out, row, disk);
     }
     let first = row.first()?;
     match first.word {
-        "piece" => line_outputs::answer(out, row),
-        "source" => fault_exits::push_source(out, first.text),
-        _ => done(out, row),
+        "piece" => push_pieces(out, row),
+        "source" => push_source(out, first.text),
+        _ => done(out, row, false),
     }
+}
+
+/// The same, after the calls on the platform on one line.
+pub fn opening(out: &mut Answer, row: &Row<'_>) -> Result<()> {
+    done(out, row, true)
 }

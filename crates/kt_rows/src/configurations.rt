@@ -1,33 +1,11 @@
 use crate::escapes::text_of;
-use crate::lines::{Answer, both, pair_of};
 use crate::numbers::append_numbered;
-use crate::row::{Entry, Result, Row, RowFault, halves};
+use crate::row::{Entry, Result, Row, RowFault, both, halves, pair_of};
 use kt_base::{Text, Variable};
 use kt_config::{Config, ConfigFault, SuiteVariables};
-use std::alloc::Global;
+use kt_play::Answer;
 
-/// The configuration file of a row: the text of `file`, then the statements of `numbered`.
-fn file_of(alloc: Global, row: &Row<'_>) -> Result<Vec<u8>> {
-    let mut file = row.bytes(alloc, "file")?.unwrap_or(Vec::new(alloc));
-    append_numbered(alloc, &mut file, row)?;
-    Ok(file)
-}
-
-/// Appends the variables of a suite in their order: `a=1 b=2`.
-fn push_variables(out: &mut Answer, variables: &[Variable]) {
-    let mut separator = "";
-    for variable in variables {
-        out.push_all(&[
-            separator,
-            variable.name.as_str(),
-            "=",
-            variable.value.as_str(),
-        ]);
-        separator = " ";
-    }
-}
-
-/// The answer to `suite NAME`, or to `count NAME`.
+/// Appends the variables of a suite in their order, `a=1 b=2`, or how many they are.
 fn push_suite(out: &mut Answer, config: &Config, word: &str, suite: &str) -> Result<()> {
     let Some(variables) = config.suite_vars(&text_of(out.alloc, suite)?) else {
         out.push("none");
@@ -36,8 +14,12 @@ fn push_suite(out: &mut Answer, config: &Config, word: &str, suite: &str) -> Res
     let variables = variables.copy()?;
     if word == "count" {
         out.number(variables.len() as u64);
-    } else {
-        push_variables(out, variables.as_slice());
+        return Ok(());
+    }
+    let mut separator = "";
+    for pair in variables.as_slice() {
+        out.push_all(&[separator, pair.name.as_str(), "=", pair.value.as_str()]);
+        separator = " ";
     }
     Ok(())
 }
@@ -79,16 +61,13 @@ fn set(out: &mut Answer, config: &mut Config, text: &str) -> Result<()> {
     Ok(())
 }
 
-/// Appends the answer to one line of a row, unless it belongs to the file.
-fn push_answer(out: &mut Answer, config: &mut Config, entry: &Entry<'_>) -> Result<()> {
-    if matches!(entry.word, "file" | "numbered") {
-        return Ok(());
-    }
+/// Appends the answer to one line of a row.
+fn push_told(out: &mut Answer, config: &mut Config, line: &Entry<'_>) -> Result<()> {
     out.separate("\n");
-    match entry.word {
-        "set" => return set(out, config, entry.text),
-        "suite" | "count" => return push_suite(out, config, entry.word, entry.text),
-        "value" => return push_value(out, config, entry.text),
+    match line.word {
+        "set" => return set(out, config, line.text),
+        "suite" | "count" => return push_suite(out, config, line.word, line.text),
+        "value" => return push_value(out, config, line.text),
         "parallelism" => out.made(config.parallelism().to_string(out.alloc)),
         "architecture" => out.push(config.architecture()),
         "platform" => out.push(config.platform()),
@@ -97,29 +76,31 @@ fn push_answer(out: &mut Answer, config: &mut Config, entry: &Entry<'_>) -> Resu
     Ok(())
 }
 
-/// The answers to the lines of a row, in their order.
-fn push_answers(out: &mut Answer, config: &mut Config, row: &Row<'_>) -> Result<()> {
-    for entry in row.entries.as_slice() {
-        push_answer(out, config, entry)?;
-    }
-    Ok(())
-}
-
-/// The answers of the configuration in a file, or why it is refused.
-fn read(out: &mut Answer, row: &Row<'_>, file: &[u8]) -> Result<()> {
-    match Config::read(out.alloc, file) {
-        Ok(mut config) => push_answers(out, &mut config, row),
+/// The configuration that a row begins with: that of `file TEXT` with the statements of `numbered` after it, or a new
+/// one; or why the file is refused.
+fn config_of(out: &mut Answer, row: &Row<'_>) -> Result<Option<Config>> {
+    let Some(mut file) = row.bytes(out.alloc, "file")? else {
+        return Ok(Some(Config::new(out.alloc)));
+    };
+    append_numbered(out.alloc, &mut file, row)?;
+    match Config::read(out.alloc, &file) {
+        Ok(config) => Ok(Some(config)),
         Err(fault) => {
             out.made(fault.to_string(out.alloc));
-            Ok(())
+            Ok(None)
         }
     }
 }
 
-/// The answers of a configuration, or why its file is refused. A row without `file` begins with a new configuration.
+/// The answers of a configuration to the lines of a row, or why its file is refused.
 pub fn answer(out: &mut Answer, row: &Row<'_>) -> Result<()> {
-    if row.text("file").is_none() {
-        return push_answers(out, &mut Config::new(out.alloc), row);
+    let Some(mut config) = config_of(out, row)? else {
+        return Ok(());
+    };
+    for line in row.entries.as_slice() {
+        if !matches!(line.word, "file" | "numbered") {
+            push_told(out, &mut config, line)?;
+        }
     }
-    read(out, row, &file_of(out.alloc, row)?)
+    Ok(())
 }

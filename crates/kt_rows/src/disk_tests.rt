@@ -1,12 +1,11 @@
 //! The command `test` over a store whose disk fails at a call, and what the store then holds.
 
-use crate::disks::{empty_files, filled, fused, left_by, open};
-use crate::lines::Answer;
+use crate::disks::{empty_files, filled, fused, is_cut, left_by, open};
+use crate::played::Played;
+use crate::printing::page_text;
 use crate::row::{Result, Row, RowFault, due};
-use crate::run_texts::is_cut;
 use crate::scenes::scene_of;
-use crate::stages::row_over;
-use kt_play::{Scene, ScriptedWriter};
+use kt_play::{Answer, Scene, ScriptedPlatform};
 use kt_store::{ResultStore, Results, StoreFault};
 use sqlite::{Alter, Connection};
 use sqlite_disk::{Crash, Files, Memory};
@@ -54,33 +53,6 @@ enum Stop {
     Wrong(&'static str),
 }
 
-/// Where the store stopped a command, by what was printed and spawned. Its run has this many entries.
-fn stop_of(whole: &str, cut: &Tested, entries: usize) -> Stop {
-    let page = cut.page.as_str();
-    if let Some(front) = page.strip_suffix(MEMORY) {
-        if cut.status == 2 && whole.starts_with(front) {
-            return Stop::Memory;
-        }
-    }
-    let Some(front) = page.strip_suffix(LINE) else {
-        return Stop::Wrong("the line is missing");
-    };
-    if cut.status != 2 {
-        return Stop::Wrong("the exit is another one");
-    }
-    if !whole.starts_with(front) {
-        return Stop::Wrong("the page is no beginning");
-    }
-    let printed = front.lines().count();
-    if !cut.spawned {
-        return Stop::Begin;
-    }
-    if printed < entries {
-        return Stop::Put(printed);
-    }
-    Stop::Finish
-}
-
 /// A command whose disk never failed, and what the store held before it and after it.
 #[derive(Drop)]
 struct Whole {
@@ -111,15 +83,27 @@ impl Whole {
         }
     }
 
-    /// Where the store stopped a command whose page is another one, or not the exit alone.
-    fn stop_in(&self, tested: &Tested) -> Stop {
-        if tested.page.as_str() != self.tested.page.as_str() {
-            return stop_of(self.tested.page.as_str(), tested, self.entries());
-        }
-        if tested.status == self.tested.status {
-            Stop::Nowhere
+    /// Where the store stopped a command, by what was printed and spawned.
+    fn stop_by(&self, cut: &Tested) -> Stop {
+        let (page, whole) = (cut.page.as_str(), self.tested.page.as_str());
+        let memory = page.strip_suffix(MEMORY);
+        let front = match memory.or(page.strip_suffix(LINE)) {
+            _ if page == whole && cut.status == self.tested.status => return Stop::Nowhere,
+            Some(front) if cut.status == 2 => front,
+            Some(_) => return Stop::Wrong("the exit is another one"),
+            None => return Stop::Wrong("the line is missing"),
+        };
+        let printed = front.lines().count();
+        if !whole.starts_with(front) {
+            Stop::Wrong("the page is no beginning")
+        } else if memory.is_some() {
+            Stop::Memory
+        } else if !cut.spawned {
+            Stop::Begin
+        } else if printed < self.entries() {
+            Stop::Put(printed)
         } else {
-            Stop::Wrong("the exit is another one")
+            Stop::Finish
         }
     }
 
@@ -127,7 +111,7 @@ impl Whole {
     fn judged(&self, cut: &Attempt) -> Stop {
         let stop = match &cut.tested {
             None => Stop::Attach(cut.schema),
-            Some(tested) => self.stop_in(tested),
+            Some(tested) => self.stop_by(tested),
         };
         if self.may_leave(stop, cut.left.as_slice()) {
             stop
@@ -166,25 +150,24 @@ struct Trial<'a> {
 }
 
 impl Trial<'_> {
-    /// Does the commands over a store, and returns how the last one ended.
-    fn done_over<R: ResultStore>(self, results: &mut R) -> Result<Tested> {
-        let mut page = ScriptedWriter::new(self.alloc, 0);
-        let (exits, os) = row_over(self.alloc, self.row, self.scene, results, &mut page)?;
-        let exit = due(exits.last(), "there is no command")?;
-        let (status, spawned) = (exit.status, !os.spawned().is_empty());
-        Ok(Tested {
-            page: String::from_utf8_lossy(self.alloc, page.kept()?)?,
+    /// Carries out the lines over a store, and returns how the last one ended, and the store.
+    fn done_over<R: ResultStore + Drop>(self, results: R) -> Result<(Tested, R)> {
+        let mut played = Played::new(self.alloc, ScriptedPlatform::new(self.alloc, results));
+        played.play(self.row.entries.as_slice(), self.scene)?;
+        let status = *due(played.exits.last(), "there is no command")?;
+        let tested = Tested {
+            page: page_text(self.alloc, &played.page)?,
             status,
-            spawned,
-        })
+            spawned: played.log.so_far()?.contains("spawn "),
+        };
+        Ok((tested, played.into_results()?))
     }
 
-    /// Does the commands over a database, unless its tables are not taken, and hands its store back.
+    /// Carries out the lines over a database, unless its tables are not taken, and hands its store back.
     fn over<S: Alter + Drop>(self, conn: Connection<S>) -> Result<(Option<Tested>, S)> {
         match Results::attach(self.alloc, conn) {
             Ok(results) => {
-                let mut results = results;
-                let tested = self.done_over(&mut results)?;
+                let (tested, results) = self.done_over(results)?;
                 Ok((Some(tested), results.detach().into_store()))
             }
             Err((StoreFault::Store(_), conn)) => Ok((None, conn.into_store())),

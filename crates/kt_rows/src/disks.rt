@@ -2,9 +2,12 @@
 
 ghost use Rattle.std.specs.Prelude.{◌≡◌, false, IfSome};
 
-use crate::row::{Result, RowFault};
-use crate::run_texts::told;
-use kt_store::Results;
+use crate::entries::push_entries;
+use crate::row::{Result, RowFault, asked, push_made};
+use crate::store_calls::state_text;
+use kt_base::Entry;
+use kt_play::Answer;
+use kt_store::{ResultStore, Results, RunHead, entries};
 use sqlite::{Alter, Connection, FileStore, Options};
 use sqlite_disk::{Crash, Disk, Files, Fuse, Memory};
 use std::alloc::Global;
@@ -82,6 +85,47 @@ fn crashed<D: Crash>(mut files: Files<D>) -> Files<D> {
     files
 }
 
+/// All that is shown of an entry, one of a list of its own.
+fn whole_text(alloc: Global, entry: &[Entry]) -> Result<String> {
+    let mut out = Answer::new(alloc);
+    for word in ["cases", "outputs", "pairs"] {
+        out.line("");
+        push_entries(&mut out, word, entry);
+    }
+    asked(out.end())
+}
+
+/// Appends all that is shown of a run: its head, its entries, and whether it is finished.
+fn push_told<R: ResultStore>(
+    alloc: Global,
+    told: &mut Vec<String>,
+    results: &mut R,
+    head: &RunHead,
+) -> Result<()> {
+    let Ok(found) = entries(alloc, results, head.number) else {
+        return Err(RowFault::Misspelled("its entries can not be told"));
+    };
+    let (number, started, total) = (head.number, head.started, head.total);
+    let text = format!(in alloc; "run {number} at {started}, {total} cases");
+    push_made(told, asked(text))?;
+    for entry in found.as_slice().chunks(1) {
+        push_made(told, whole_text(alloc, entry))?;
+    }
+    push_made(told, asked(String::from_str(alloc, state_text(head))))
+}
+
+/// All that a store holds: of each run its head, its entries, and whether it is finished.
+fn told<R: ResultStore>(alloc: Global, results: &mut R) -> Result<Vec<String>> {
+    let Ok(heads) = results.runs() else {
+        return Err(RowFault::Misspelled("its runs can not be told"));
+    };
+    let mut told = Vec::new(alloc);
+    for head in heads.as_slice() {
+        push_told(alloc, &mut told, results, head)?;
+    }
+    Ok(told)
+}
+
 /// The number of the schema, if there is one.
 fn asked_schema<S: Alter>(conn: &mut Connection<S>) -> Option<i64> {
     let row = conn.query_row("SELECT value FROM meta WHERE name = 'schema'", &[]);
@@ -118,4 +162,14 @@ pub fn left_by<D: Crash + Drop>(
         Some(conn) => told_by(alloc, conn),
         None => Err(RowFault::Misspelled("it does not open again")),
     }
+}
+
+/// Whether this is what was shown first, then the next run with this many entries, without its end.
+pub fn is_cut(left: &[String], whole: &[String], first: usize, entries: usize) -> bool {
+    let Some((last, front)) = left.split_last() else {
+        return false;
+    };
+    last.as_str() == "unfinished"
+        && front.len() == first.saturating_add(entries).saturating_add(1)
+        && whole.starts_with(front)
 }

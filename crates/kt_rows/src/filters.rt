@@ -1,7 +1,8 @@
 use crate::escapes::text_of;
-use crate::lines::{Answer, both};
 use crate::numbers::numbered;
-use crate::row::{Entry, Result, Row, RowFault, due, halves, push_made};
+use crate::row::{Entry, Result, Row, RowFault, both, due, halves, push_made};
+use kt_base::Text;
+use kt_play::Answer;
 use kt_suite::{Filter, FilterFault, Item, Selection, check_disjoint, select};
 use std::alloc::Global;
 
@@ -22,33 +23,22 @@ fn item_of(alloc: Global, raw: &str) -> Result<Item> {
 /// A filter that is accepted.
 fn filter_of(alloc: Global, raw: &str) -> Result<Filter> {
     let filter = Filter::parse(alloc, &text_of(alloc, raw)?);
-    due(
-        filter.ok(),
-        "a filter that is refused is asked for by `read`",
-    )
+    let refused = "a filter that is refused is asked for by `read`";
+    due(filter.ok(), refused)
 }
 
-/// Appends a filter as it was read: `d/b, case main`.
-fn push_filter(out: &mut Answer, filter: &Filter) {
-    out.push(filter.program.as_str());
-    if let Some(case_name) = &filter.case_name {
-        out.push_all(&[", case ", case_name.as_str()]);
-    }
-}
-
-/// Appends what a text says as a filter, or why it is refused.
+/// Appends what a text says as a filter, `d/b, case main`, or why it is refused.
 fn read(out: &mut Answer, raw: &str) -> Result<()> {
     match Filter::parse(out.alloc, &text_of(out.alloc, raw)?) {
-        Ok(filter) => push_filter(out, &filter),
+        Ok(filter) => {
+            out.push(filter.program.as_str());
+            if let Some(case_name) = &filter.case_name {
+                out.push_all(&[", case ", case_name.as_str()]);
+            }
+        }
         Err(fault) => out.made(fault.to_string(out.alloc)),
     }
     Ok(())
-}
-
-/// Appends the answer to a question, after a separator.
-fn push_yes(out: &mut Answer, separator: &str, answer: bool) {
-    out.push(separator);
-    out.push(if answer { "yes" } else { "no" });
 }
 
 /// Appends positions with a space before each.
@@ -103,26 +93,18 @@ impl Example {
         Ok(())
     }
 
-    /// Appends whether each filter matches a case.
-    fn push_matches(&self, out: &mut Answer, raw: &str) -> Result<()> {
-        let item = item_of(out.alloc, raw)?;
+    /// Appends for each filter whether it matches this case, or if there is none whether it may match a case of this
+    /// program.
+    fn push_matches(&self, out: &mut Answer, path: &Text, case_name: Option<&Text>) {
         let mut separator = "";
         for filter in self.filters.as_slice() {
-            push_yes(out, separator, filter.matches(&item.path, &item.case_name));
+            let matches = match case_name {
+                Some(name) => filter.matches(path, name),
+                None => filter.may_match(path),
+            };
+            out.push_all(&[separator, if matches { "yes" } else { "no" }]);
             separator = " ";
         }
-        Ok(())
-    }
-
-    /// Appends whether each filter may match a case of a program.
-    fn push_may_match(&self, out: &mut Answer, raw: &str) -> Result<()> {
-        let path = text_of(out.alloc, raw)?;
-        let mut separator = "";
-        for filter in self.filters.as_slice() {
-            push_yes(out, separator, filter.may_match(&path));
-            separator = " ";
-        }
-        Ok(())
     }
 
     fn push_selected(&self, out: &mut Answer, brief: bool) {
@@ -133,28 +115,21 @@ impl Example {
     }
 
     /// Appends the answer to a line that asks.
-    fn push_told(&self, out: &mut Answer, entry: Entry<'_>) -> Result<()> {
+    fn push_told(&self, out: &mut Answer, line: &Entry<'_>) -> Result<()> {
         out.separate("\n");
-        match entry.word {
-            "read" => return read(out, entry.text),
-            "matches" => return self.push_matches(out, entry.text),
-            "may-match" => return self.push_may_match(out, entry.text),
+        match line.word {
+            "read" => return read(out, line.text),
+            "matches" => {
+                let item = item_of(out.alloc, line.text)?;
+                self.push_matches(out, &item.path, Some(&item.case_name));
+            }
+            "may-match" => self.push_matches(out, &text_of(out.alloc, line.text)?, None),
             "disjoint" => push_disjoint(out, &self.filters),
             "select" => self.push_selected(out, false),
             "count" => self.push_selected(out, true),
             _ => return Err(RowFault::Misspelled("no such word")),
         }
         Ok(())
-    }
-
-    /// Appends the answer to a line that asks, or adds what it says.
-    fn take(&mut self, out: &mut Answer, entry: Entry<'_>) -> Result<()> {
-        match entry.word {
-            "filter" | "item" => self.add(out.alloc, entry.word, entry.text),
-            "filters" => self.add_numbered(out.alloc, "filter", entry.text),
-            "items" => self.add_numbered(out.alloc, "item", entry.text),
-            _ => self.push_told(out, entry),
-        }
     }
 }
 
@@ -164,8 +139,13 @@ pub fn answer(out: &mut Answer, row: &Row<'_>) -> Result<()> {
         items: Vec::new(out.alloc),
         filters: Vec::new(out.alloc),
     };
-    for entry in row.entries.as_slice() {
-        example.take(out, *entry)?;
+    for line in row.entries.as_slice() {
+        match line.word {
+            "filter" | "item" => example.add(out.alloc, line.word, line.text)?,
+            "filters" => example.add_numbered(out.alloc, "filter", line.text)?,
+            "items" => example.add_numbered(out.alloc, "item", line.text)?,
+            _ => example.push_told(out, line)?,
+        }
     }
     Ok(())
 }

@@ -1,47 +1,65 @@
-use crate::lines::Answer;
-use crate::row::Result;
-use kt_base::{Entry, Kind, NoMemory, Run, Verdict, emit, emit_number, emit_wide_number};
-use kt_cli::Exit;
-use kt_play::{ScriptedWriter, WriteFault};
-use kt_report::ReportFault;
+use crate::escapes::unescaped;
+use crate::row::{Result, Row, asked, push_made};
+use kt_base::{NoMemory, emit};
+use kt_cli::LineOutput;
+use kt_play::{Answer, ScriptedWriter, WriteFault};
 use std::alloc::Global;
+use std::io::Write;
 
 /// The ways in which a write fails.
-pub const FAULTS: [WriteFault; 3] = [
+const FAULTS: [WriteFault; 3] = [
     WriteFault::Broken,
     WriteFault::Interrupted,
     WriteFault::Nothing,
 ];
 
-/// What the crates print into a writer.
+/// Pieces that are printed, perhaps to lines before the writer.
 #[derive(Clone, Copy)]
-pub enum Printed<'a> {
-    Bytes(&'a [u8]),
-    Number(u64),
-    WideNumber(u128),
-    Reason(&'a Verdict),
-    Line(&'a Entry),
-    /// The text report of these kinds, and whether it is verbose.
-    Text(&'a Run, &'a [Kind], bool),
-    Junit(Global, &'a Run),
+struct Printed<'a> {
+    pieces: &'a [Vec<u8>],
+    to_lines: bool,
+}
+
+/// Prints pieces, also after a failure, and flushes them: whether all went well.
+fn print<W: Write>(pieces: &[Vec<u8>], out: &mut W, flushes: bool) -> bool {
+    let mut well = true;
+    for piece in pieces {
+        if emit(piece.as_slice(), out).is_err() {
+            well = false;
+        }
+    }
+    if flushes && out.flush().is_err() {
+        well = false;
+    }
+    well
 }
 
 impl Printed<'_> {
-    /// Prints it, and returns whether all went well.
-    fn print(self, out: &mut ScriptedWriter) -> Result<bool, NoMemory> {
-        let well = match self {
-            Printed::Bytes(bytes) => emit(bytes, out).is_ok(),
-            Printed::Number(n) => emit_number(n, out).is_ok(),
-            Printed::WideNumber(n) => emit_wide_number(n, out).is_ok(),
-            Printed::Reason(verdict) => verdict.print_reason(out).is_ok(),
-            Printed::Line(entry) => kt_report::line(entry, out).is_ok(),
-            Printed::Text(run, kinds, verbose) => kt_report::text(run, kinds, verbose, out).is_ok(),
-            Printed::Junit(alloc, run) => match kt_report::junit(alloc, run, out) {
-                Err(ReportFault::NoMemory(refusal)) => return Err(refusal),
-                done => done.is_ok(),
-            },
-        };
-        Ok(well)
+    fn print(self, out: &mut ScriptedWriter) -> bool {
+        if self.to_lines {
+            print(self.pieces, &mut LineOutput::new(out, true), true)
+        } else {
+            print(self.pieces, out, true)
+        }
+    }
+
+    /// What is wrong where one of the first hundred writes fails.
+    fn wrong_where_cut(
+        self,
+        alloc: Global,
+        whole: &ScriptedWriter,
+    ) -> Result<Option<&'static str>, NoMemory> {
+        for failing in 1..=whole.writes.min(100) {
+            for fault in &FAULTS {
+                let mut cut = writer(alloc, whole.at_most, failing, *fault);
+                let well = self.print(&mut cut);
+                let what = wrong(whole, &cut, well)?;
+                if what.is_some() {
+                    return Ok(what);
+                }
+            }
+        }
+        Ok(None)
     }
 }
 
@@ -54,7 +72,7 @@ pub fn writer(alloc: Global, at_most: usize, failing: u64, fault: WriteFault) ->
 }
 
 /// What is wrong with a writer after one of its writes failed.
-pub fn wrong(
+fn wrong(
     whole: &ScriptedWriter,
     cut: &ScriptedWriter,
     well: bool,
@@ -72,62 +90,61 @@ pub fn wrong(
     Ok(None)
 }
 
-/// What is wrong where one of the first writes fails: of a hundred, of a long text of two.
-fn wrong_where_cut(
-    alloc: Global,
-    printed: Printed<'_>,
-    whole: &ScriptedWriter,
-) -> Result<Option<&'static str>, NoMemory> {
-    let tries = if whole.kept()?.len() > 65_536 { 2 } else { 100 };
-    for failing in 1..=whole.writes.min(tries) {
-        for fault in &FAULTS {
-            let mut cut = writer(alloc, whole.at_most, failing, *fault);
-            let well = printed.print(&mut cut)?;
-            let what = wrong(whole, &cut, well)?;
-            if what.is_some() {
-                return Ok(what);
-            }
-        }
-    }
-    Ok(None)
-}
-
-/// What is wrong with a text before a writer that takes this many bytes at a time.
-fn wrong_where_slow(
-    alloc: Global,
-    printed: Printed<'_>,
-    at_most: usize,
-    text: &[u8],
-) -> Result<Option<&'static str>, NoMemory> {
-    let mut slow = writer(alloc, at_most, 0, WriteFault::Broken);
-    let well = printed.print(&mut slow)?;
-    if slow.kept()? != text || !well {
-        return Ok(Some("another text into a slow writer"));
-    }
-    wrong_where_cut(alloc, printed, &slow)
-}
-
-/// Appends the text that is printed, if it is the same into each writer: one that takes all at a time, seven bytes or
-/// one, and one that fails at one of its first writes, which gets a beginning.
-pub fn push_text(out: &mut Answer, printed: Printed<'_>) -> Result<()> {
-    let mut whole = writer(out.alloc, usize::MAX, 0, WriteFault::Broken);
-    printed.print(&mut whole)?;
-    let text = whole.kept()?;
+/// Appends the text that is printed, or what is wrong: it is the same into a writer that takes all at a time, seven bytes
+/// or one, and one that fails at one of its first writes gets a beginning.
+fn push_printed(out: &mut Answer, printed: Printed<'_>) -> Result<()> {
+    let mut whole = ScriptedWriter::new(out.alloc, 0);
+    printed.print(&mut whole);
     for at_most in [usize::MAX, 7, 1] {
-        if let Some(what) = wrong_where_slow(out.alloc, printed, at_most, text)? {
-            out.push(what);
-            return Ok(());
+        let mut slow = writer(out.alloc, at_most, 0, WriteFault::Broken);
+        if !printed.print(&mut slow) || slow.kept()? != whole.kept()? {
+            out.line("another text into a slow writer");
+        }
+        if let Some(what) = printed.wrong_where_cut(out.alloc, &slow)? {
+            out.line(what);
         }
     }
-    out.bytes(text);
+    out.bytes(whole.kept()?);
     Ok(())
 }
 
-/// The text that is printed.
-pub fn printed_text(alloc: Global, printed: Printed<'_>) -> Result<String> {
-    let mut out = Answer::new(alloc);
-    push_text(&mut out, printed)?;
-    out.end()
+/// Appends what is printed of bytes.
+pub fn push_emitted(out: &mut Answer, bytes: Vec<u8>) -> Result<()> {
+    let mut pieces = Vec::new(out.alloc);
+    push_made(&mut pieces, Ok(bytes))?;
+    let printed = Printed {
+        pieces: &pieces,
+        to_lines: false,
+    };
+    push_printed(out, printed)
+}
+
+/// Appends what is written of pieces before a writer of lines, `piece TEXT` each; with `unflushed` before the flush, and
+/// with `held` too if lines are held.
+pub fn push_pieces(out: &mut Answer, row: &Row<'_>) -> Result<()> {
+    let mut pieces = Vec::new(out.alloc);
+    for line in row.entries.as_slice() {
+        if line.word == "piece" {
+            push_made(&mut pieces, unescaped(out.alloc, line.text))?;
+        }
+    }
+    if row.text("unflushed").is_none() {
+        let printed = Printed {
+            pieces: &pieces,
+            to_lines: true,
+        };
+        return push_printed(out, printed);
+    }
+    let mut page = ScriptedWriter::new(out.alloc, 0);
+    let mut lines = LineOutput::new(&mut page, row.text("held").is_none());
+    print(&pieces, &mut lines, false);
+    out.bytes(page.kept()?);
+    Ok(())
+}
+
+/// The text that was written on a page.
+pub fn page_text(alloc: Global, page: &ScriptedWriter) -> Result<String> {
+    asked(String::from_utf8_lossy(alloc, page.kept()?))
 }
 
 /// Appends what was written on a page. One that doesn't end in a newline was cut.
@@ -136,17 +153,6 @@ pub fn push_page(out: &mut Answer, page: &ScriptedWriter) -> Result<()> {
     out.bytes(bytes);
     if !bytes.is_empty() && !bytes.ends_with(b"\n") {
         out.push("(cut)\n");
-    }
-    Ok(())
-}
-
-/// Appends what was written on a page, and how the commands ended.
-pub fn push_ended(out: &mut Answer, page: &ScriptedWriter, exits: &[Exit]) -> Result<()> {
-    push_page(out, page)?;
-    out.push("exit");
-    for exit in exits {
-        out.push(" ");
-        out.made(exit.status.to_string(out.alloc));
     }
     Ok(())
 }

@@ -1,12 +1,12 @@
 use crate::configurations::set_in;
 use crate::escapes::text_of;
-use crate::lines::{Answer, pair_of};
 use crate::numbers::{numbered, set_number};
-use crate::row::{Entry, Result, Row, RowFault, asked, due};
+use crate::row::{Entry, Result, Row, RowFault, asked, due, pair_of};
 use crate::verdicts::push_reason;
 use kt_base::{Text, Variable, Variables, Verdict};
 use kt_config::Config;
 use kt_metadata::{Host, Need, PropFault, Props, is_kyuafile_property, property_of_key, unmet};
+use kt_play::Answer;
 use std::alloc::Global;
 
 /// What a row has said so far: the properties of a program and of its case, the configuration and the host.
@@ -51,18 +51,23 @@ fn set_numbered(alloc: Global, props: &mut Props, raw: &str) -> Result<()> {
     Ok(())
 }
 
-fn is_among(pairs: &Variables, pair: &Variable) -> bool {
-    pairs.as_slice().iter().any(|other| {
-        other.name.as_str() == pair.name.as_str() && other.value.as_str() == pair.value.as_str()
-    })
+/// The value of a name among pairs.
+fn value_in<'a>(pairs: &'a Variables, name: &str) -> Option<&'a str> {
+    for pair in pairs.as_slice() {
+        if pair.name.as_str() == name {
+            return Some(pair.value.as_str());
+        }
+    }
+    None
 }
 
 /// Appends the properties that differ from the defaults: ` timeout=20`.
 pub fn push_props(out: &mut Answer, props: &Props) -> Result<()> {
     let defaults = Props::new(out.alloc).listing()?;
     for pair in props.listing()?.as_slice() {
-        if !is_among(&defaults, pair) {
-            out.push_all(&[" ", pair.name.as_str(), "=", pair.value.as_str()]);
+        let (name, value) = (pair.name.as_str(), pair.value.as_str());
+        if value_in(&defaults, name) != Some(value) {
+            out.push_all(&[" ", name, "=", value]);
         }
     }
     Ok(())
@@ -77,18 +82,10 @@ fn set_variable(alloc: Global, config: &mut Config, raw: &str) -> Result<()> {
 
 /// Appends the property that a key of a list of cases stands for.
 fn push_property(out: &mut Answer, raw: &str) -> Result<()> {
-    out.separate("\n");
     match property_of_key(out.alloc, &text_of(out.alloc, raw)?)? {
         Some(name) => out.push(name.as_str()),
         None => out.push("unknown"),
     }
-    Ok(())
-}
-
-/// Appends whether a Kyuafile may have a property.
-fn push_may_have(out: &mut Answer, raw: &str) -> Result<()> {
-    let may = is_kyuafile_property(&text_of(out.alloc, raw)?);
-    out.line(if may { "yes" } else { "no" });
     Ok(())
 }
 
@@ -101,18 +98,6 @@ fn push_given(out: &mut Answer, props: &Props, raw: &str) -> Result<()> {
     Ok(())
 }
 
-/// Appends the value of a property as it is listed, `-` if it isn't.
-fn push_shown(out: &mut Answer, pairs: &Variables, name: &str) {
-    match pairs
-        .as_slice()
-        .iter()
-        .find(|pair| pair.name.as_str() == name)
-    {
-        Some(pair) => out.push(pair.value.as_str()),
-        None => out.push("-"),
-    }
-}
-
 /// Appends the pairs that are listed, as a report has them, a line each.
 fn push_listed(out: &mut Answer, pairs: &Variables) {
     let mut separator = "";
@@ -120,17 +105,6 @@ fn push_listed(out: &mut Answer, pairs: &Variables) {
         out.push_all(&[separator, pair.name.as_str(), " = ", pair.value.as_str()]);
         separator = "\n";
     }
-}
-
-/// Appends the pairs that are listed, the value of one of them or their number.
-fn push_pairs(out: &mut Answer, props: &Props, entry: &Entry<'_>) -> Result<()> {
-    let pairs = props.listing()?;
-    match entry.word {
-        "show" => push_shown(out, &pairs, entry.text),
-        "count" => out.number(pairs.len() as u64),
-        _ => push_listed(out, &pairs),
-    }
-    Ok(())
 }
 
 impl Example {
@@ -149,13 +123,18 @@ impl Example {
         asked(self.host.note(need, &text_of(alloc, raw)?))
     }
 
-    /// Takes a line that says something of the host.
-    fn take_host(&mut self, alloc: Global, entry: &Entry<'_>) -> Result<()> {
-        match entry.word {
-            "file" => self.note(alloc, Need::File, entry.text),
-            "program" => self.note(alloc, Need::Program, entry.text),
-            "memory" => set_number(&mut self.host.memory, entry.text),
-            "disk" => set_number(&mut self.host.disk, entry.text),
+    /// Takes a line that says something, and appends what is refused.
+    fn take(&mut self, out: &mut Answer, line: &Entry<'_>) -> Result<()> {
+        let (alloc, text) = (out.alloc, line.text);
+        match line.word {
+            "set" => set_property(out, &mut self.program, text),
+            "case" => set_property(out, &mut self.case, text),
+            "numbered" => set_numbered(alloc, &mut self.program, text),
+            "config" => set_variable(alloc, &mut self.config, text),
+            "file" => self.note(alloc, Need::File, text),
+            "program" => self.note(alloc, Need::Program, text),
+            "memory" => set_number(&mut self.host.memory, text),
+            "disk" => set_number(&mut self.host.disk, text),
             "root" => {
                 self.host.root = true;
                 Ok(())
@@ -164,47 +143,39 @@ impl Example {
         }
     }
 
-    /// Takes a line that says something, and appends what is refused.
-    fn take(&mut self, out: &mut Answer, entry: &Entry<'_>) -> Result<()> {
-        match entry.word {
-            "set" => set_property(out, &mut self.program, entry.text),
-            "case" => set_property(out, &mut self.case, entry.text),
-            "numbered" => set_numbered(out.alloc, &mut self.program, entry.text),
-            "config" => set_variable(out.alloc, &mut self.config, entry.text),
-            _ => self.take_host(out.alloc, entry),
-        }
-    }
-
     /// Appends what a line asks of the properties together.
-    fn push_asked(&self, out: &mut Answer, entry: &Entry<'_>) -> Result<()> {
+    fn push_asked(&self, out: &mut Answer, line: &Entry<'_>) -> Result<()> {
         let props = Props::overlay(&self.program, &self.case)?;
-        out.separate("\n");
-        match entry.word {
-            "get" => push_given(out, &props, entry.text),
-            "unmet" => self.push_unmet(out, &props),
-            _ => push_pairs(out, &props, entry),
+        match line.word {
+            "get" => return push_given(out, &props, line.text),
+            "unmet" => return self.push_unmet(out, &props),
+            _ => {}
         }
-    }
-
-    /// Appends what a line asks, or what is refused of what it says.
-    fn push_line(&mut self, out: &mut Answer, entry: &Entry<'_>) -> Result<()> {
-        match entry.word {
-            "get" | "show" | "listing" | "count" | "unmet" => self.push_asked(out, entry),
-            "key" => push_property(out, entry.text),
-            "kyuafile" => push_may_have(out, entry.text),
-            _ => self.take(out, entry),
-        }
-    }
-
-    fn push_lines(&mut self, out: &mut Answer, lines: &[Entry<'_>]) -> Result<()> {
-        for line in lines {
-            self.push_line(out, line)?;
+        let pairs = props.listing()?;
+        match line.word {
+            "show" => out.push(value_in(&pairs, line.text).unwrap_or("-")),
+            "count" => out.number(pairs.len() as u64),
+            _ => push_listed(out, &pairs),
         }
         Ok(())
     }
 }
 
-/// What the lines of a row ask of properties and requirements, in their order.
+/// Appends what a line asks.
+fn push_told(out: &mut Answer, example: &Example, line: &Entry<'_>) -> Result<()> {
+    out.separate("\n");
+    match line.word {
+        "key" => push_property(out, line.text),
+        "kyuafile" => {
+            let may = is_kyuafile_property(&text_of(out.alloc, line.text)?);
+            out.push(if may { "yes" } else { "no" });
+            Ok(())
+        }
+        _ => example.push_asked(out, line),
+    }
+}
+
+/// What the lines of a row ask of properties and requirements, in their order, or what is refused of what they say.
 pub fn answer(out: &mut Answer, row: &Row<'_>) -> Result<()> {
     let mut example = Example {
         program: Props::new(out.alloc),
@@ -212,5 +183,13 @@ pub fn answer(out: &mut Answer, row: &Row<'_>) -> Result<()> {
         config: Config::new(out.alloc),
         host: Host::new(out.alloc, false, None, None),
     };
-    example.push_lines(out, row.entries.as_slice())
+    for line in row.entries.as_slice() {
+        match line.word {
+            "get" | "show" | "listing" | "count" | "unmet" | "key" | "kyuafile" => {
+                push_told(out, &example, line)?;
+            }
+            _ => example.take(out, line)?,
+        }
+    }
+    Ok(())
 }

@@ -1,11 +1,10 @@
+use crate::entries::kind_of;
 use crate::escapes::unescaped;
-use crate::lines::Answer;
-use crate::printing::{Printed, push_text, writer};
-use crate::recorded::kind_of;
+use crate::printing::{page_text, push_emitted, writer};
 use crate::row::{Entry, Result, Row, RowFault};
 use crate::verdicts::push_reason;
-use kt_base::{Bytes, NoMemory, Reason, Text, Verdict, lossy, send};
-use kt_play::WriteFault;
+use kt_base::{Bytes, NoMemory, Reason, Text, Verdict, emit_number, emit_wide_number, lossy, send};
+use kt_play::{Answer, ScriptedWriter, WriteFault};
 use std::alloc::Global;
 
 fn push_kind(out: &mut Answer, word: &str) -> Result<()> {
@@ -23,25 +22,25 @@ fn text_of_bytes(alloc: Global, bytes: &[u8]) -> Result<Text, NoMemory> {
     lossy(alloc, copied.as_slice())?.copy()
 }
 
+/// Appends a number as it is printed.
 fn push_number(out: &mut Answer, text: &str) -> Result<()> {
+    let mut page = ScriptedWriter::new(out.alloc, 0);
     if let Ok(n) = text.parse::<u64>() {
-        return push_text(out, Printed::Number(n));
+        let _ = emit_number(n, &mut page);
+    } else if let Ok(n) = text.parse::<u128>() {
+        let _ = emit_wide_number(n, &mut page);
+    } else {
+        return Err(RowFault::Misspelled("no number"));
     }
-    match text.parse::<u128>() {
-        Ok(n) => push_text(out, Printed::WideNumber(n)),
-        Err(_) => Err(RowFault::Misspelled("no number")),
-    }
+    out.push(page_text(out.alloc, &page)?.as_str());
+    Ok(())
 }
 
 /// Appends how much of a text reaches a writer that takes `taking N` bytes a write and fails from `failing WRITE` on.
 fn push_sent(out: &mut Answer, row: &Row<'_>, bytes: &[u8]) -> Result<()> {
     let at_most = row.number("taking", 1)? as usize;
-    let mut page = writer(
-        out.alloc,
-        at_most,
-        row.number("failing", 0)?,
-        WriteFault::Broken,
-    );
+    let failing = row.number("failing", 0)?;
+    let mut page = writer(out.alloc, at_most, failing, WriteFault::Broken);
     let (count, failed) = send(bytes, &mut page);
     page.kept()?;
     let writes = page.writes;
@@ -51,18 +50,18 @@ fn push_sent(out: &mut Answer, row: &Row<'_>, bytes: &[u8]) -> Result<()> {
 }
 
 /// Appends what is asked by a word of a text without its escapes.
-fn push_told(out: &mut Answer, row: &Row<'_>, word: &str, bytes: &[u8]) -> Result<()> {
+fn push_told(out: &mut Answer, row: &Row<'_>, word: &str, bytes: Vec<u8>) -> Result<()> {
     match word {
-        "words" => push_reason(
-            out,
-            &Verdict::broken(Reason::Owned(lossy(out.alloc, bytes)?)),
-        ),
+        "words" => {
+            let reason = Reason::Owned(lossy(out.alloc, &bytes)?);
+            push_reason(out, &Verdict::broken(reason))
+        }
         "bytes" => {
-            out.text(text_of_bytes(out.alloc, bytes));
+            out.text(text_of_bytes(out.alloc, &bytes));
             Ok(())
         }
-        "send" => push_sent(out, row, bytes),
-        "emit" => push_text(out, Printed::Bytes(bytes)),
+        "send" => push_sent(out, row, &bytes),
+        "emit" => push_emitted(out, bytes),
         _ => Err(RowFault::Misspelled("nothing like that is asked of a reason")),
     }
 }
@@ -75,6 +74,6 @@ pub fn answer(out: &mut Answer, row: &Row<'_>) -> Result<()> {
         "kind" => push_kind(out, text),
         "number" => push_number(out, text),
         "nothing" => push_reason(out, &Verdict::broken(Reason::Nothing)),
-        _ => push_told(out, row, word, &unescaped(out.alloc, text)?),
+        _ => push_told(out, row, word, unescaped(out.alloc, text)?),
     }
 }

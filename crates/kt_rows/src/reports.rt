@@ -1,65 +1,61 @@
-use crate::lines::Answer;
-use crate::printing::{Printed, printed_text, push_text, writer};
-use crate::recorded::{kinds_of, run_of};
+use crate::entries::{kinds_of, run_of};
+use crate::printing::page_text;
 use crate::row::{Result, Row, RowFault};
 use kt_base::Run;
-use kt_play::WriteFault;
+use kt_play::{Answer, ScriptedWriter};
+use kt_report::ReportFault;
+use std::alloc::Global;
 
-/// The lines of a run's entries.
-fn push_lines(out: &mut Answer, run: &Run) -> Result<()> {
-    for entry in run.entries.as_slice() {
-        push_text(out, Printed::Line(entry))?;
-    }
-    Ok(())
-}
+/// The kinds whose sections a text report has, in their order.
+const ALL_KINDS: &str = "failed broken expected_failure skipped passed";
 
-/// The text report, with the sections of `kinds WORDS` or of all kinds; `verbose` shows what the cases declared.
-fn push_report(out: &mut Answer, row: &Row<'_>, run: &Run) -> Result<()> {
-    let words = row.text("kinds");
-    let words = words.unwrap_or("failed broken expected_failure skipped passed");
-    let kinds = kinds_of(out.alloc, words)?;
-    push_text(
-        out,
-        Printed::Text(run, &kinds, row.text("verbose").is_some()),
-    )
-}
-
-/// The moment at which a run began, as its text report has it.
-fn push_moment(out: &mut Answer, run: &Run) -> Result<()> {
-    let report = printed_text(out.alloc, Printed::Text(run, &[], false))?;
-    let rest = report.as_str().split_once("started ");
+/// Appends the moment at which a run began, as its text report has it.
+fn push_moment(out: &mut Answer, report: &str) {
+    let rest = report.split_once("started ");
     let moment = rest.and_then(|(_, rest)| rest.split_once('\n'));
-    match moment {
-        Some((moment, _)) => out.push(moment),
-        None => out.push(report.as_str()),
-    }
+    out.push(moment.unwrap_or((report, "")).0);
+}
+
+/// Prints the text report, with the sections of `kinds WORDS` or of all kinds; `verbose` shows what the cases declared.
+fn print_text(alloc: Global, row: &Row<'_>, run: &Run, page: &mut ScriptedWriter) -> Result<()> {
+    let words = row.text("kinds").unwrap_or(ALL_KINDS);
+    let kinds = kinds_of(alloc, words)?;
+    let _ = kt_report::text(run, &kinds, row.text("verbose").is_some(), page);
     Ok(())
 }
 
-/// Why a report ends early whose first write fails, by `Display`.
-fn push_fault(out: &mut Answer, run: &Run) -> Result<()> {
-    match kt_report::junit(
-        out.alloc,
-        run,
-        &mut writer(out.alloc, 1, 1, WriteFault::Broken),
-    ) {
-        Ok(()) => Err(RowFault::Misspelled("a report without a write")),
-        Err(fault) => {
-            out.made(fault.to_string(out.alloc));
-            Ok(())
-        }
+/// Prints the JUnit report, and appends why it ends early, by `Display`.
+fn print_junit(out: &mut Answer, run: &Run, page: &mut ScriptedWriter) {
+    match kt_report::junit(out.alloc, run, page) {
+        Ok(()) => {}
+        Err(ReportFault::NoMemory(refusal)) => out.fail(refusal),
+        Err(fault) => out.made(fault.to_string(out.alloc)),
     }
 }
 
-/// A report of the run in the row: `report line`, `report text`, `report junit`, `report moment` or `report fault`.
+/// A report of the run in the row: `report line`, `report text`, `report junit`, `report moment` or `report fault`, whose
+/// first write fails.
 pub fn answer(out: &mut Answer, row: &Row<'_>) -> Result<()> {
     let run = run_of(out.alloc, row)?;
+    let mut page = ScriptedWriter::new(out.alloc, 0);
     match row.text("report") {
-        Some("line") => push_lines(out, &run),
-        Some("text") => push_report(out, row, &run),
-        Some("junit") => push_text(out, Printed::Junit(out.alloc, &run)),
-        Some("moment") => push_moment(out, &run),
-        Some("fault") => push_fault(out, &run),
-        _ => Err(RowFault::Misspelled("no such report")),
+        Some("line") => {
+            for entry in run.entries.as_slice() {
+                let _ = kt_report::line(entry, &mut page);
+            }
+        }
+        Some("text" | "moment") => print_text(out.alloc, row, &run, &mut page)?,
+        Some("junit") => print_junit(out, &run, &mut page),
+        Some("fault") => {
+            page.failing = 1;
+            print_junit(out, &run, &mut page);
+        }
+        _ => return Err(RowFault::Misspelled("no such report")),
     }
+    let text = page_text(out.alloc, &page)?;
+    match row.text("report") {
+        Some("moment") => push_moment(out, text.as_str()),
+        _ => out.push(text.as_str()),
+    }
+    Ok(())
 }

@@ -1,11 +1,25 @@
+//! The scripted machine, system and store of a row.
+
+use crate::case_lists::after_header;
 use crate::escapes::unescaped;
-use crate::numbers::{count, numbers};
-use crate::row::{Entry, Result, Row, RowFault, halves, push_made};
+use crate::numbers::{count, number, numbers};
+use crate::row::{Entry, Result, Row, RowFault, due, halves, push_made};
 use crate::verdicts::ending_of;
-use kt_base::Outcome;
+use kt_base::{NoMemory, Outcome};
 use kt_child::Polled;
-use kt_play::{Holding, Life, PartFault, Scene, ask_too_much};
+use kt_play::{Holding, Life, PartFault, RefusingStore, Scene, ask_too_much, failed_statement};
+use kt_store::FailedStatement;
 use std::alloc::Global;
+
+/// A refusal of memory.
+pub fn shortage(alloc: Global) -> Result<NoMemory> {
+    due(ask_too_much(alloc).err(), "this machine has all memory")
+}
+
+/// A statement of a store that failed.
+pub fn failure(alloc: Global) -> Result<FailedStatement> {
+    due(failed_statement(alloc), "no statement failed")
+}
 
 /// How a child ended, as a poll reports it.
 fn polled_of(text: &str) -> Result<Polled> {
@@ -29,72 +43,88 @@ fn life_of(text: &str) -> Result<Life> {
 }
 
 /// A file: its path, and what it holds.
-pub fn holding_of<'a>(alloc: Global, text: &'a str) -> Result<Holding<'a>> {
+fn holding_of<'a>(alloc: Global, text: &'a str) -> Result<Holding<'a>> {
     let (path, raw) = text.split_once(' ').unwrap_or((text, ""));
     let bytes = unescaped(alloc, raw)?;
     Ok(Holding { path, bytes })
 }
 
-/// The calls that fail: none, `N` alone, or `N M` for those from `N` to `M`.
-fn failing_of(text: Option<&str>) -> Result<(u32, u32)> {
-    match text {
-        None | Some("each") => Ok((0, 0)),
-        Some(text) => {
-            let (first, last) = text.split_once(' ').unwrap_or((text, text));
-            Ok((count(first)?, count(last)?.saturating_add(1)))
-        }
-    }
+/// A file with a list of cases: its path, and the blocks after the header.
+fn list_of<'a>(alloc: Global, text: &'a str) -> Result<Holding<'a>> {
+    let (path, blocks) = halves(text, " ", "a list has a path")?;
+    let bytes = after_header(alloc, blocks)?;
+    Ok(Holding { path, bytes })
+}
+
+/// The calls that fail: `N` alone, or `N M` for those from `N` to `M`.
+pub fn failing_of(text: &str) -> Result<(u32, u32)> {
+    let (first, last) = text.split_once(' ').unwrap_or((text, text));
+    Ok((count(first)?, count(last)?.saturating_add(1)))
 }
 
 /// What goes wrong in a read in parts.
-fn part_fault_of(text: Option<&str>) -> Result<PartFault> {
+fn part_fault_of(text: &str) -> Result<PartFault> {
     match text {
-        None => Ok(PartFault::None),
-        Some("empty part") => Ok(PartFault::EmptyPart),
-        Some("gone") => Ok(PartFault::Gone),
-        Some(_) => Err(RowFault::Misspelled("there is no such fault of a read")),
+        "empty part" => Ok(PartFault::EmptyPart),
+        "gone" => Ok(PartFault::Gone),
+        _ => Err(RowFault::Misspelled("there is no such fault of a read")),
     }
 }
 
-/// The moments that are answered, and how much later each further one is.
-fn clock_of(alloc: Global, row: &Row<'_>) -> Result<(Vec<u64>, u64)> {
-    let (moments, step) = match row.text("moments") {
-        Some(moments) => (moments, 0),
-        None => (row.text("clock").unwrap_or("1"), 1),
-    };
-    Ok((numbers(alloc, moments)?, step))
+/// Takes a line that says when something happens, or how it fails.
+fn take_script(alloc: Global, scene: &mut Scene<'_>, line: &Entry<'_>) -> Result<()> {
+    match line.word {
+        "clock" => scene.moments = numbers(alloc, line.text)?,
+        "moments" => {
+            scene.moments = numbers(alloc, line.text)?;
+            scene.step = 0;
+        }
+        "now" => scene.clock = numbers(alloc, line.text)?,
+        "fails" => scene.failing = failing_of(line.text)?,
+        "refuses" => {
+            scene.failing = failing_of(line.text)?;
+            scene.shortage = ask_too_much(alloc).err();
+        }
+        "odd" => scene.part_fault = part_fault_of(line.text)?,
+        _ => {}
+    }
+    Ok(())
 }
 
-/// Takes a line that says something of the scene.
-fn take<'a>(alloc: Global, scene: &mut Scene<'a>, entry: &Entry<'a>) -> Result<()> {
-    match entry.word {
-        "life" => push_made(&mut scene.lives, life_of(entry.text)),
-        "holds" => push_made(&mut scene.files, holding_of(alloc, entry.text)),
-        _ => Ok(()),
+/// Takes a line that says something of the machine or the system.
+fn take<'a>(alloc: Global, scene: &mut Scene<'a>, line: &Entry<'a>) -> Result<()> {
+    let text = line.text;
+    match line.word {
+        "life" => push_made(&mut scene.lives, life_of(text)),
+        "holds" | "config" => push_made(&mut scene.files, holding_of(alloc, text)),
+        "lists" => push_made(&mut scene.files, list_of(alloc, text)),
+        "program" => push_made(&mut scene.programs, Ok(text)),
+        "locked" => push_made(&mut scene.locked, Ok(text)),
+        "dear" => push_made(&mut scene.dear, Ok(text)),
+        "found-file" => push_made(&mut scene.found_files, Ok(text)),
+        "found-program" => push_made(&mut scene.found_programs, Ok(text)),
+        _ => take_script(alloc, scene, line),
     }
 }
 
-/// The scene of a row: `life LIFE` each, `holds PATH TEXT` each, `clock N` or `moments NUMBERS`, `fails CALLS` or, for
-/// memory, `refuses CALLS`, `odd WHAT`.
+/// The scene of a row: `life LIFE`, `holds PATH TEXT`, `config PATH TEXT`, `lists PATH BLOCKS`, `program PATH`, `locked
+/// PATH`, `dear PATH`, `found-file PATH` and `found-program PATH` each; of the machine `now MOMENTS`; of the system
+/// `clock N` or `moments NUMBERS`, `fails CALLS` or, for memory, `refuses CALLS`, `odd WHAT`.
 pub fn scene_of<'a>(alloc: Global, row: &Row<'a>) -> Result<Scene<'a>> {
-    let failing = failing_of(row.text("fails").or(row.text("refuses")))?;
-    let shortage = match row.text("refuses") {
-        Some(_) => ask_too_much(alloc).err(),
-        None => None,
-    };
-    let part_fault = part_fault_of(row.text("odd"))?;
-    let (moments, step) = clock_of(alloc, row)?;
-    let mut scene = Scene {
-        lives: Vec::new(alloc),
-        files: Vec::new(alloc),
-        failing,
-        shortage,
-        part_fault,
-        moments,
-        step,
-    };
-    for entry in row.entries.as_slice() {
-        take(alloc, &mut scene, entry)?;
+    let mut scene = Scene::new(alloc);
+    for line in row.entries.as_slice() {
+        take(alloc, &mut scene, line)?;
     }
     Ok(scene)
+}
+
+/// The store of a row, in memory: `refused CALLS`, or `refused-memory CALLS`, of `N` or `N M`, counted from 1.
+pub fn store_of(alloc: Global, row: &Row<'_>) -> Result<RefusingStore> {
+    let (calls, shortage) = match row.text("refused-memory") {
+        Some(calls) => (calls, ask_too_much(alloc).err()),
+        None => (row.text("refused").unwrap_or("0"), None),
+    };
+    let (first, last) = calls.split_once(' ').unwrap_or((calls, calls));
+    let refused = (number(first)?, number(last)?);
+    Ok(RefusingStore::new(alloc, refused, failure(alloc)?, shortage))
 }

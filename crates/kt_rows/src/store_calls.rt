@@ -1,15 +1,40 @@
-use crate::lines::Answer;
+//! Calls on a store of runs, and what they answer.
+
+ghost use Rattle.kt_base.specs.Moments.{IsMoment, IsStorable};
+
+use crate::entries::{push_entries, storable_entry};
 use crate::numbers::{count, number};
-use crate::once_more::{begin_run, finish_run, put_entry};
-use crate::printing::push_ended;
-use crate::recorded::storable_entry;
-use crate::row::{Entry, Result, RowFault, number_in, push_made};
-use crate::run_texts::{push_run_entries, push_runs};
-use crate::stages::{over_launcher, stage_of};
-use crate::words::command_of;
-use kt_base::LATEST_MOMENT;
-use kt_play::{ScriptedLauncher, ScriptedWriter};
-use kt_store::{ResultStore, StoreFault};
+use crate::row::{Entry as Line, Result, RowFault, number_in};
+use kt_base::{Entry, LATEST_MOMENT};
+use kt_play::Answer;
+use kt_store::{ResultStore, RunHead, StoreFault, entries};
+
+// Calls that are made once more if memory ran out, since that must have changed nothing.
+
+fn begin_run<R: ResultStore>(results: &mut R, total: u32, moment: u64) -> Result<u64, StoreFault>
+    requires { IsMoment moment }
+{
+    match results.begin(total, moment) {
+        Err(StoreFault::NoMemory(_)) => results.begin(total, moment),
+        begun => begun,
+    }
+}
+
+fn put_entry<R: ResultStore>(results: &mut R, run: u64, entry: &Entry) -> Result<(), StoreFault>
+    requires { IsStorable entry.now }
+{
+    match results.put(run, entry) {
+        Err(StoreFault::NoMemory(_)) => results.put(run, entry),
+        done => done,
+    }
+}
+
+fn finish_run<R: ResultStore>(results: &mut R, run: u64) -> Result<(), StoreFault> {
+    match results.finish(run) {
+        Err(StoreFault::NoMemory(_)) => results.finish(run),
+        done => done,
+    }
+}
 
 /// Appends whether a call was done.
 fn push_done(out: &mut Answer, done: Result<(), StoreFault>) {
@@ -24,18 +49,16 @@ fn begin<R: ResultStore>(out: &mut Answer, results: &mut R, text: &str, times: u
     let (total, moment) = text.split_once(' ').unwrap_or((text, "0"));
     let total = count(total)?;
     let moment = number(moment)?.min(LATEST_MOMENT);
-    let mut last = 0;
+    let mut last = Ok(0);
     for _ in 0..times {
-        match begin_run(results, total, moment) {
-            Ok(number) => last = number,
-            Err(fault) => {
-                out.name(&fault);
-                return Ok(());
-            }
+        if last.is_ok() {
+            last = begin_run(results, total, moment);
         }
     }
-    out.push("run ");
-    out.number(last);
+    match last {
+        Ok(number) => out.made(format!(in out.alloc; "run {number}")),
+        Err(fault) => out.name(&fault),
+    }
     Ok(())
 }
 
@@ -44,7 +67,7 @@ fn put<R: ResultStore>(
     out: &mut Answer,
     results: &mut R,
     text: &str,
-    content: &[Entry<'_>],
+    content: &[Line<'_>],
     times: u64,
 ) -> Result<()> {
     let (run, rest) = text.split_once(' ').unwrap_or((text, ""));
@@ -63,49 +86,77 @@ fn put<R: ResultStore>(
     Ok(())
 }
 
-/// Appends how many runs there are.
-fn push_count<R: ResultStore>(out: &mut Answer, results: &mut R) {
-    match results.runs() {
-        Ok(heads) => {
-            out.number(heads.len() as u64);
-            out.push(" runs");
+/// The last word of a run.
+pub fn state_text(head: &RunHead) -> &'static str {
+    if head.finished {
+        "finished"
+    } else {
+        "unfinished"
+    }
+}
+
+/// Appends a run with the number of its entries: `run 1 at 500: 2 of 3, unfinished`.
+fn push_run<R: ResultStore>(out: &mut Answer, results: &mut R, head: &RunHead) {
+    let (number, started, total) = (head.number, head.started, head.total);
+    let state = state_text(head);
+    match results.outline(number, true) {
+        Ok(entries) => {
+            let count = entries.len();
+            out.made(format!(in out.alloc;
+                "run {number} at {started}: {count} of {total}, {state}"
+            ));
         }
         Err(fault) => out.name(&fault),
     }
 }
 
-/// Does a command over the store, and appends its page and its exit.
-fn carry_out<R: ResultStore>(out: &mut Answer, results: &mut R, line: &str) -> Result<()> {
-    let mut commands = Vec::new(out.alloc);
-    push_made(&mut commands, command_of(out.alloc, line))?;
-    let stage = stage_of(out.alloc, &[])?;
-    let mut page = ScriptedWriter::new(out.alloc, 0);
-    let launcher = ScriptedLauncher::new(out.alloc, &[], &[], &[]);
-    let commands = commands.as_slice();
-    let (exits, _launcher) = over_launcher(
-        out.alloc, commands, &stage, launcher, results, &mut page,
-    )?;
-    push_ended(out, &page, exits.as_slice())
+/// Appends the runs of a store, a line each, or how many there are.
+pub fn push_runs<R: ResultStore>(out: &mut Answer, results: &mut R, is_brief: bool) {
+    let heads = match results.runs() {
+        Ok(heads) => heads,
+        Err(fault) => return out.name(&fault),
+    };
+    if is_brief {
+        out.number(heads.len() as u64);
+        return out.push(" runs");
+    }
+    let mut separator = "";
+    for head in heads.as_slice() {
+        out.push(separator);
+        push_run(out, results, head);
+        separator = "\n";
+    }
+}
+
+/// Appends what a word shows of the entries of a run, or how many they are.
+fn push_run_entries<R: ResultStore>(out: &mut Answer, results: &mut R, word: &str, run: u64) {
+    match entries(out.alloc, results, run) {
+        Ok(found) if word == "count" => {
+            out.number(found.len() as u64);
+            out.push(" entries");
+        }
+        Ok(found) => push_entries(out, word, found.as_slice()),
+        Err(fault) => out.name(&fault),
+    }
 }
 
 /// Appends what a call on a store of runs answers, whose line has others below it.
 pub fn push_call<R: ResultStore>(
     out: &mut Answer,
     results: &mut R,
-    line: &Entry<'_>,
-    content: &[Entry<'_>],
+    line: &Line<'_>,
+    content: &[Line<'_>],
 ) -> Result<()> {
     let times = number_in(content, "times", 1)?;
     match line.word {
         "begin" => return begin(out, results, line.text, times),
         "put" => return put(out, results, line.text, content, times),
         "finish" => push_done(out, finish_run(results, number(line.text)?)),
-        "runs" => push_runs(out, results),
-        "count-runs" => push_count(out, results),
+        "runs" => push_runs(out, results, false),
+        "count-runs" => push_runs(out, results, true),
         "cases" | "outputs" | "pairs" | "count" => {
             push_run_entries(out, results, line.word, number(line.text)?);
         }
-        "do" => return carry_out(out, results, line.text),
         _ => return Err(RowFault::Misspelled("there is no such call")),
     }
     Ok(())

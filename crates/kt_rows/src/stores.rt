@@ -1,9 +1,10 @@
-use crate::lines::Answer;
-use crate::recorded::{content_at, is_content};
+use crate::entries::{content_at, is_content};
+use crate::played::Played;
 use crate::row::{Entry, Result, Row, RowFault};
 use crate::store_calls::push_call;
 use kt_cli::MemRuns;
-use kt_store::Results;
+use kt_play::{Answer, Scene, ScriptedPlatform};
+use kt_store::{ResultStore, Results};
 use sqlite::{Alter, Connection};
 
 /// A database, and whether its tables were taken.
@@ -38,15 +39,28 @@ fn attach<S: Alter + Drop>(out: &mut Answer, connection: Connection<S>) -> Resul
     }
 }
 
-/// Appends what a call on these tables answers.
-fn ask<S: Alter + Drop>(
+/// Carries out a command line over the store, and appends its page and its exit.
+fn carry_out<R: ResultStore + Drop>(out: &mut Answer, results: R, line: Entry<'_>) -> Result<R> {
+    let platform = ScriptedPlatform::new(out.alloc, results);
+    let mut played = Played::new(out.alloc, platform);
+    played.play(&[line], &Scene::new(out.alloc))?;
+    played.push_ended(out)?;
+    played.into_results()
+}
+
+/// Appends what a call on a store answers, which is handed back.
+fn ask<R: ResultStore + Drop>(
     out: &mut Answer,
-    mut results: Results<S>,
+    results: R,
     line: &Entry<'_>,
     content: &[Entry<'_>],
-) -> Result<Database<S>> {
+) -> Result<R> {
+    if line.word == "do" {
+        return carry_out(out, results, *line);
+    }
+    let mut results = results;
     push_call(out, &mut results, line, content)?;
-    Ok(Database::Attached(results))
+    Ok(results)
 }
 
 /// Runs a statement.
@@ -75,7 +89,9 @@ fn step<S: Alter + Drop>(
         "sql" => run_sql(out, detached(database), line.text),
         _ => match database {
             Database::Open(_) => Err(RowFault::Misspelled("no tables were taken")),
-            Database::Attached(results) => ask(out, results, line, content),
+            Database::Attached(results) => {
+                Ok(Database::Attached(ask(out, results, line, content)?))
+            }
         },
     }
 }
@@ -101,7 +117,7 @@ fn over_memory(out: &mut Answer, lines: &[Entry<'_>]) -> Result<()> {
     for (place, line) in lines.iter().enumerate() {
         if !is_content(line) && line.word != "memory" {
             out.separate("\n");
-            push_call(out, &mut results, line, content_at(lines, place))?;
+            results = ask(out, results, line, content_at(lines, place))?;
         }
     }
     Ok(())

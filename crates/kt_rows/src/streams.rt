@@ -1,50 +1,44 @@
 //! The claims of result files and the results of TAP streams, read whole and in pieces.
 
 use crate::escapes::unescaped;
-use crate::lines::Answer;
-use crate::row::{Result, Row, RowFault, asked};
+use crate::row::{Result, Row, asked};
 use kt_base::NoMemory;
 use kt_claim::{Claim, ClaimReader, Tap, TapReader, read_claim, read_tap};
+use kt_play::Answer;
 use std::alloc::Global;
 
 /// Bytes past this length aren't cut at each place.
 const LONG: usize = 1_000;
 
 /// A reader of bytes that come in pieces.
-trait Pieces: Sized + Drop {
-    fn start(alloc: Global) -> Self;
+#[derive(Drop)]
+enum Reader {
+    Claim(ClaimReader),
+    Tap(TapReader),
+}
 
-    fn take(&mut self, piece: &[u8]) -> Result<(), NoMemory>;
+impl Reader {
+    /// The reader of a `tap`, or else of a `file`.
+    fn new(alloc: Global, word: &str) -> Reader {
+        match word {
+            "tap" => Reader::Tap(TapReader::new(alloc)),
+            _ => Reader::Claim(ClaimReader::new(alloc)),
+        }
+    }
+
+    fn take(&mut self, piece: &[u8]) -> Result<(), NoMemory> {
+        match self {
+            Reader::Claim(reader) => reader.feed(piece),
+            Reader::Tap(reader) => reader.feed(piece),
+        }
+    }
 
     /// Appends what was read, in the form of a row.
-    fn push_read(self, out: &mut Answer);
-}
-
-impl Pieces for ClaimReader {
-    fn start(alloc: Global) -> ClaimReader {
-        ClaimReader::new(alloc)
-    }
-
-    fn take(&mut self, piece: &[u8]) -> Result<(), NoMemory> {
-        self.feed(piece)
-    }
-
     fn push_read(self, out: &mut Answer) {
-        push_claim(out, self.finish());
-    }
-}
-
-impl Pieces for TapReader {
-    fn start(alloc: Global) -> TapReader {
-        TapReader::new(alloc)
-    }
-
-    fn take(&mut self, piece: &[u8]) -> Result<(), NoMemory> {
-        self.feed(piece)
-    }
-
-    fn push_read(self, out: &mut Answer) {
-        push_tap(out, self.finish());
+        match self {
+            Reader::Claim(reader) => push_claim(out, reader.finish()),
+            Reader::Tap(reader) => push_tap(out, reader.finish()),
+        }
     }
 }
 
@@ -73,7 +67,7 @@ fn push_claim(out: &mut Answer, claim: Result<Claim, NoMemory>) {
             out.name(&claim);
             push_reason(out, &claim);
         }
-        Err(refusal) => out.fail(RowFault::NoMemory(refusal)),
+        Err(refusal) => out.fail(refusal),
     }
 }
 
@@ -84,81 +78,65 @@ fn push_tap(out: &mut Answer, tap: Result<Tap, NoMemory>) {
         Ok(Tap::BailedOut) => out.push("bailed out"),
         Ok(Tap::SkipAll(reason)) => out.push_all(&["skipped: ", reason.as_str()]),
         Ok(Tap::Counted(bad, all)) => out.made(format!(in out.alloc; "{bad} of {all} failed")),
-        Err(refusal) => out.fail(RowFault::NoMemory(refusal)),
+        Err(refusal) => out.fail(refusal),
     }
 }
 
-/// What was read.
-fn read_text<R: Pieces>(alloc: Global, reader: R) -> Result<String> {
+/// What is read of bytes in pieces of this length after a first one.
+fn pieces_text(
+    alloc: Global,
+    word: &str,
+    bytes: &[u8],
+    first: usize,
+    length: usize,
+) -> Result<String> {
+    let (front, back) = bytes.split_at(first.min(bytes.len()));
+    let mut reader = Reader::new(alloc, word);
+    reader.take(front)?;
+    for piece in back.chunks(length.max(1)) {
+        reader.take(piece)?;
+    }
     let mut out = Answer::new(alloc);
     reader.push_read(&mut out);
-    out.end()
+    asked(out.end())
 }
 
-/// What is read of bytes in two pieces.
-fn cut_text<R: Pieces>(alloc: Global, bytes: &[u8], cut: usize) -> Result<String> {
-    let (front, back) = bytes.split_at(cut.min(bytes.len()));
-    let mut reader = R::start(alloc);
-    reader.take(front)?;
-    reader.take(back)?;
-    read_text(alloc, reader)
-}
-
-/// What is read of bytes one by one.
-fn single_text<R: Pieces>(alloc: Global, bytes: &[u8]) -> Result<String> {
-    let mut reader = R::start(alloc);
-    for b in bytes {
-        reader.take(&[*b])?;
+/// Appends what is read of whole bytes, if it is the same byte by byte and, for short ones, in any two pieces.
+fn push_agreed(out: &mut Answer, word: &str, bytes: &[u8]) -> Result<()> {
+    let mut whole = Answer::new(out.alloc);
+    match word {
+        "tap" => push_tap(&mut whole, read_tap(out.alloc, bytes)),
+        _ => push_claim(&mut whole, read_claim(out.alloc, bytes)),
     }
-    read_text(alloc, reader)
-}
-
-/// Appends what was read of whole bytes, if it is the same byte by byte and, for short ones, in any two pieces.
-fn push_agreed<R: Pieces>(out: &mut Answer, bytes: &[u8], whole: &str) -> Result<()> {
+    let whole = whole.end()?;
     let cuts = if bytes.len() > LONG { 1 } else { bytes.len() };
     for cut in 0..cuts {
-        let other = cut_text::<R>(out.alloc, bytes, cut)?;
-        if other.as_str() != whole {
+        let other = pieces_text(out.alloc, word, bytes, cut, bytes.len())?;
+        if other.as_str() != whole.as_str() {
             out.made(format!(in out.alloc; "cut at {cut}: {other}"));
             return Ok(());
         }
     }
-    let other = single_text::<R>(out.alloc, bytes)?;
-    if other.as_str() != whole {
+    let other = pieces_text(out.alloc, word, bytes, 0, 1)?;
+    if other.as_str() != whole.as_str() {
         out.push("byte by byte: ");
     }
     out.push(other.as_str());
     Ok(())
 }
 
-/// Appends what is read of the pieces of a row: `piece TEXT` each.
-fn push_pieces<R: Pieces>(out: &mut Answer, row: &Row<'_>) -> Result<()> {
-    let mut reader = R::start(out.alloc);
-    for entry in row.entries.as_slice() {
-        if entry.word == "piece" {
-            asked(reader.take(&unescaped(out.alloc, entry.text)?))?;
+/// The claim of a result file, `file TEXT`, or the result of a TAP stream, `tap TEXT`; or what is read of its pieces,
+/// `piece TEXT` each.
+pub fn answer(out: &mut Answer, row: &Row<'_>, word: &str) -> Result<()> {
+    if let Some(bytes) = row.bytes(out.alloc, word)? {
+        return push_agreed(out, word, &bytes);
+    }
+    let mut reader = Reader::new(out.alloc, word);
+    for line in row.entries.as_slice() {
+        if line.word == "piece" {
+            asked(reader.take(&unescaped(out.alloc, line.text)?))?;
         }
     }
     reader.push_read(out);
     Ok(())
-}
-
-/// The claim of a result file: `file TEXT`, or `piece TEXT` for each piece.
-pub fn claim(out: &mut Answer, row: &Row<'_>) -> Result<()> {
-    let Some(file) = row.bytes(out.alloc, "file")? else {
-        return push_pieces::<ClaimReader>(out, row);
-    };
-    let mut whole = Answer::new(out.alloc);
-    push_claim(&mut whole, read_claim(out.alloc, &file));
-    push_agreed::<ClaimReader>(out, &file, whole.end()?.as_str())
-}
-
-/// The result of a TAP stream: `tap TEXT`, or `piece TEXT` for each piece.
-pub fn tap(out: &mut Answer, row: &Row<'_>) -> Result<()> {
-    let Some(stream) = row.bytes(out.alloc, "tap")? else {
-        return push_pieces::<TapReader>(out, row);
-    };
-    let mut whole = Answer::new(out.alloc);
-    push_tap(&mut whole, read_tap(out.alloc, &stream));
-    push_agreed::<TapReader>(out, &stream, whole.end()?.as_str())
 }

@@ -1,15 +1,16 @@
+//! Runs of a plan over a scripted system.
+
 ghost use Rattle.std.specs.Prelude.{IfOk};
 ghost use Rattle.kt_sched.specs.Plan.{IsPlan, IsWidth};
 
 use crate::escapes::unescaped;
-use crate::lines::{both, pairs_of};
 use crate::numbers::limit_of;
-use crate::row::{Result, Row};
+use crate::row::{Result, Row, both, pairs_of};
 use crate::schedules::width_of;
-use crate::system_lists::texts_of;
+use crate::systems::texts_of;
 use kt_base::{Entry, Items, Text};
 use kt_child::{Driver, DriverFault, Os, run_driver};
-use kt_play::{MemorySink, Scene, ScriptedSystem, cases_of};
+use kt_play::{MemorySink, Scene, ScriptedSystem, plan_of};
 use kt_sched::{Job, RunFault, SinkFault};
 use std::alloc::Global;
 
@@ -66,7 +67,7 @@ fn drive<O: Os + Drop>(
 }
 
 /// The plan of a row: `plan LETTERS`, perhaps `program PATH`, `limit SECONDS` and `variable NAME=VALUE` each.
-fn plan_of(alloc: Global, row: &Row<'_>) -> Result<Items<Job>>
+fn planned(alloc: Global, row: &Row<'_>) -> Result<Items<Job>>
     ensures { IfOk result IsPlan }
 {
     let limit = limit_of(row.text("limit"))?;
@@ -74,11 +75,11 @@ fn plan_of(alloc: Global, row: &Row<'_>) -> Result<Items<Job>>
     let letters = unescaped(alloc, row.text("plan").unwrap_or(""));
     let (letters, variables) = both(letters, variables)?;
     let program = row.text("program").unwrap_or("d/p");
-    let plan = cases_of(alloc, program, letters.as_slice(), limit, &variables)?;
+    let plan = plan_of(alloc, program, letters.as_slice(), limit, &variables)?;
     Ok(plan)
 }
 
-/// Runs the plan of a row over a scripted system: what `plan_of` reads, and `width N`, `failing PUT`, `base PATH` and
+/// Runs the plan of a row over a scripted system: what `planned` reads, and `width N`, `failing PUT`, `base PATH` and
 /// `source PATH`.
 pub fn run_plan<'a>(alloc: Global, row: &Row<'_>, scene: &'a Scene<'a>) -> Result<Ran<'a>> {
     let width = width_of(row.text("width"))?;
@@ -88,10 +89,10 @@ pub fn run_plan<'a>(alloc: Global, row: &Row<'_>, scene: &'a Scene<'a>) -> Resul
         row.text("source").unwrap_or("/t"),
     );
     let (base, source) = texts_of(alloc, base, source)?;
-    let plan = plan_of(alloc, row)?;
+    let plan = planned(alloc, row)?;
     let sink = MemorySink::new(alloc, failing);
     let os = ScriptedSystem::new(alloc, scene);
     let run = drive(alloc, os, plan, width, &base, source, sink);
-    run.os.log()?;
+    run.os.log.so_far()?;
     Ok(run)
 }

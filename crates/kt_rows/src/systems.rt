@@ -1,14 +1,42 @@
-use crate::entry_texts::push_entries;
-use crate::failures::push_each_failing;
-use crate::lines::Answer;
-use crate::row::{Result, Row, RowFault};
-use crate::scenes::scene_of;
-use crate::system_lists::push_calls;
+//! What is asked of a scripted system: the cases of a plan, the list of a program, the bytes of a file.
+
+use crate::entries::push_entries;
+use crate::row::{Result, Row, RowFault, asked, both, pairs_of};
+use crate::scenes::{failing_of, scene_of};
 use crate::system_runs::{Ran, run_plan};
 use crate::verdicts::push_verdict;
-use crate::{readers, system_lists};
-use kt_base::{Entry, Kind};
-use kt_play::Scene;
+use kt_atflist::{ListBytes, Listing};
+use kt_base::{Entry, Interface, Kind, Text, Variables};
+use kt_child::{Driver, FileRead, Os, read_front, read_start};
+use kt_metadata::Props;
+use kt_play::{Answer, EndlessReader, Scene, ScriptedSystem, push_folded};
+use kt_suite::Program;
+use std::alloc::Global;
+
+/// How many bytes of a file a machine reads at the most: one more than a script may have.
+const MACHINE_LIMIT: usize = 1_048_577;
+
+/// What a word shows of a call, if it shows that call.
+fn call_of<'a>(shown: &str, line: &'a str) -> Option<&'a str> {
+    let (word, _) = line.split_once(' ').unwrap_or((line, ""));
+    match shown {
+        "words" => Some(word),
+        "watching" if !matches!(word, "poll" | "kill" | "pause") => None,
+        _ => Some(line),
+    }
+}
+
+/// Appends the calls of a log, folded: all of `calls`, their first `words`, or those for `watching` children.
+pub fn push_calls(out: &mut Answer, shown: &str, log: &str) -> Result<()> {
+    let mut lines = Vec::new(out.alloc);
+    for line in log.lines() {
+        if let Some(call) = call_of(shown, line) {
+            lines.push(call)?;
+        }
+    }
+    push_folded(out, &lines);
+    Ok(())
+}
 
 /// Appends how many cases passed, and the verdict of the first that didn't.
 fn push_totals(out: &mut Answer, entries: &[Entry]) {
@@ -27,26 +55,47 @@ fn push_totals(out: &mut Answer, entries: &[Entry]) {
     }
 }
 
+/// Appends how many children were killed, and how many of the directories that were made aren't removed: `1 killed, 0
+/// left`. Work directories lie in others.
+fn push_left(out: &mut Answer, log: &str) {
+    let (mut killed, mut left) = (0usize, 0usize);
+    for line in log.lines() {
+        if line.starts_with("kill ") {
+            killed = killed.saturating_add(1);
+        } else if line.starts_with("remove ") {
+            left = left.saturating_sub(1);
+        } else if line.starts_with("make ")
+            && !line.ends_with("/work")
+            && !line.ends_with(" failed")
+        {
+            left = left.saturating_add(1);
+        }
+    }
+    out.made(format!(in out.alloc; "{killed} killed, {left} left"));
+}
+
 /// Appends what is shown of a run by a word.
 fn push_shown(out: &mut Answer, word: &str, run: &Ran<'_>) -> Result<()> {
     match word {
-        "calls" | "words" | "watching" => return push_calls(out, word, run.os.log()?),
-        "spawns" => out.push(run.os.spawned().trim()),
+        "calls" | "words" | "watching" => return push_calls(out, word, run.os.log.so_far()?),
+        "spawns" => out.push(run.os.spawned.so_far()?.trim()),
         "spawned" => {
-            out.number(run.os.spawned().lines().count() as u64);
+            out.number(run.os.spawned.so_far()?.lines().count() as u64);
             out.push(" spawned");
         }
+        "left" => push_left(out, run.os.log.so_far()?),
         "totals" => push_totals(out, run.entries.as_slice()),
         _ => push_entries(out, word, run.entries.as_slice()),
     }
     Ok(())
 }
 
-/// Appends what is shown of a run: its entries, where the row doesn't say.
-fn push_run(out: &mut Answer, row: &Row<'_>, run: &Ran<'_>) -> Result<()> {
+/// Appends what `show WORDS` names of a run, or else its entries, and why it ended early, if it did.
+fn push_run(out: &mut Answer, row: &Row<'_>, scene: &Scene<'_>) -> Result<()> {
+    let run = run_plan(out.alloc, row, scene)?;
     for word in row.text("show").unwrap_or("entries").split_whitespace() {
         out.separate("\n");
-        push_shown(out, word, run)?;
+        push_shown(out, word, &run)?;
     }
     if let Some(fault) = run.fault {
         out.line(fault);
@@ -54,12 +103,129 @@ fn push_run(out: &mut Answer, row: &Row<'_>, run: &Ran<'_>) -> Result<()> {
     Ok(())
 }
 
-/// What becomes of the cases of a plan.
+/// What becomes of the cases of a plan, for each line `fails CALLS` if there are some.
 fn plan(out: &mut Answer, row: &Row<'_>, scene: Scene<'_>) -> Result<()> {
-    if row.text("fails") == Some("each") {
-        return push_each_failing(out, row, scene);
+    let mut scene = scene;
+    if row.text("fails").is_none() {
+        return push_run(out, row, &scene);
     }
-    push_run(out, row, &run_plan(out.alloc, row, &scene)?)
+    for line in row.entries.as_slice() {
+        if line.word == "fails" {
+            scene.failing = failing_of(line.text)?;
+            push_run(out, row, &scene)?;
+        }
+    }
+    Ok(())
+}
+
+/// Asks a driver of its own for the list of a program; there is none without a driver.
+fn asked_for_list<O: Os + Drop>(
+    alloc: Global,
+    os: O,
+    base: &Text,
+    source: Text,
+    program: &Program,
+    variables: &Variables,
+) -> (O, Option<Listing>) {
+    match Driver::new(alloc, os, base, source) {
+        Err((_fault, os)) => (os, None),
+        Ok(driver) => {
+            let mut driver = driver;
+            let listing = driver.list(program, variables);
+            (driver.close(), Some(listing))
+        }
+    }
+}
+
+/// Appends how a list ended, and how long it is or why it isn't read; or why it was refused.
+fn push_listing(out: &mut Answer, listing: &Option<Listing>) {
+    match listing {
+        None => out.push("no driver"),
+        Some(Listing::Refused(cause)) => out.made(format!(in out.alloc; "Refused({cause:?})")),
+        Some(Listing::Ended(outcome, ListBytes::Read(bytes))) => {
+            let length = bytes.len();
+            out.made(format!(in out.alloc; "{outcome:?}, {length} bytes"));
+        }
+        Some(Listing::Ended(how, bytes)) => out.made(format!(in out.alloc; "{how:?}, {bytes:?}")),
+    }
+}
+
+/// Two texts of the crates.
+pub fn texts_of(alloc: Global, first: &str, second: &str) -> Result<(Text, Text)> {
+    both(
+        asked(Text::from_str(alloc, first)),
+        asked(Text::from_str(alloc, second)),
+    )
+}
+
+/// A program `d/p` of ATF cases.
+fn program_of(alloc: Global) -> Result<Program> {
+    let (path, suite) = texts_of(alloc, "d/p", "s")?;
+    Ok(Program {
+        interface: Interface::Atf,
+        path,
+        suite,
+        props: Props::new(alloc),
+    })
+}
+
+/// The words of the calls that ask for a list, `base PATH` and `variable NAME=VALUE` each, and what came of it; with
+/// `show spawns` what was started, too.
+fn list(out: &mut Answer, row: &Row<'_>, scene: &Scene<'_>) -> Result<()> {
+    let alloc = out.alloc;
+    let (base, source) = texts_of(alloc, row.text("base").unwrap_or(""), "/t")?;
+    let variables = pairs_of(alloc, row.entries.as_slice(), "variable");
+    let (program, variables) = both(program_of(alloc), variables)?;
+    let os = ScriptedSystem::new(alloc, scene);
+    let (os, listing) = asked_for_list(alloc, os, &base, source, &program, &variables);
+    push_calls(out, "words", os.log.so_far()?)?;
+    if row.text("show") == Some("spawns") {
+        out.line(os.spawned.so_far()?.trim());
+    }
+    out.separate("\n");
+    push_listing(out, &listing);
+    Ok(())
+}
+
+/// How many bytes of a file that never ends a system reads up to a limit, and whether more follow, or how many a machine
+/// reads; nothing where it fails.
+fn front(alloc: Global, file: &mut EndlessReader, limit: Option<u64>) -> Option<(usize, bool)> {
+    let Some(limit) = limit else {
+        let bytes = read_start(alloc, file, MACHINE_LIMIT).ok()?;
+        return Some((bytes.len(), false));
+    };
+    match read_front(alloc, file, limit) {
+        Ok(FileRead::Part(bytes, follows)) => Some((bytes.len(), follows)),
+        _ => None,
+    }
+}
+
+/// What is read of a file that never ends by a system up to `limit BYTES`, or by a machine: `piece BYTES` a read, and
+/// `reads N` before the first that fails, or is `interrupted`.
+fn read(out: &mut Answer, row: &Row<'_>) -> Result<()> {
+    let mut file = EndlessReader {
+        piece: row.number("piece", 1)? as usize,
+        reads: row.number("reads", u64::MAX)?,
+        interrupted: row.text("interrupted").is_some(),
+        given: 0,
+        failed: 0,
+    };
+    let limit = match row.text("limit") {
+        Some(_) => Some(row.number("limit", 0)?),
+        None => None,
+    };
+    let read = front(out.alloc, &mut file, limit);
+    let (given, failed) = (file.given, file.failed);
+    match read {
+        None => {
+            out.made(format!(in out.alloc; "failed; {given} bytes given, {failed} reads failed"));
+        }
+        Some((length, follows)) => {
+            let more = if follows { " and more" } else { "" };
+            out.made(format!(in out.alloc; "{length} bytes{more}; {given} given"));
+        }
+    }
+    Ok(())
 }
 
 /// What is asked of a scripted system, and what comes of it: the first line is `plan LETTERS`, `list` or `reader`.
@@ -67,8 +233,8 @@ pub fn answer(out: &mut Answer, row: &Row<'_>) -> Result<()> {
     let scene = scene_of(out.alloc, row)?;
     match row.first()?.word {
         "plan" => plan(out, row, scene),
-        "list" => system_lists::answer(out, row, &scene),
-        "reader" => readers::answer(out, row),
+        "list" => list(out, row, &scene),
+        "reader" => read(out, row),
         _ => Err(RowFault::Misspelled("nothing like that is asked of a system")),
     }
 }

@@ -1,9 +1,9 @@
 use crate::escapes::text_of;
-use crate::lines::Answer;
 use crate::numbers::number;
 use crate::row::{Result, Row, asked, due, halves, push_made};
 use kt_base::{Kind, Text};
 use kt_plan::CaseOptions;
+use kt_play::Answer;
 use kt_words::{Command, CommandFault, ReportOptions, read_command};
 use std::alloc::Global;
 
@@ -22,36 +22,19 @@ pub fn read_line(alloc: Global, line: &str) -> Result<Result<Command, CommandFau
     Ok(read_command(alloc, words.as_slice()))
 }
 
-/// The command that a line must spell.
-pub fn command_of(alloc: Global, line: &str) -> Result<Command> {
-    due(read_line(alloc, line)?.ok(), "there is no such command")
-}
-
-/// The commands of a row: `do COMMAND LINE` each.
-pub fn commands_of(alloc: Global, row: &Row<'_>) -> Result<Vec<Command>> {
-    let mut commands = Vec::new(alloc);
-    for entry in row.entries.as_slice() {
-        if entry.word == "do" {
-            push_made(&mut commands, command_of(alloc, entry.text))?;
-        }
-    }
-    Ok(commands)
-}
-
 /// Appends the values of an option.
 fn push_values(out: &mut Answer, name: &str, values: &[Text]) {
     for value in values {
-        out.push_all(&[", ", name, " ", value.as_str()]);
+        out.push_all(&[name, value.as_str()]);
     }
 }
 
-/// Appends what stands before a command, and its filters.
-fn push_given(out: &mut Answer, config: &Option<Text>, variables: &[Text], filters: &[Text]) {
+/// Appends what stands before a command.
+fn push_given(out: &mut Answer, config: &Option<Text>, variables: &[Text]) {
     if let Some(config) = config {
         out.push_all(&[", config ", config.as_str()]);
     }
-    push_values(out, "variable", variables);
-    push_values(out, "filter", filters);
+    push_values(out, ", variable ", variables);
 }
 
 /// Appends a command over test cases: its Kyuafile, its directory, its results file if it has one, and what it is given.
@@ -61,8 +44,8 @@ fn push_cases(out: &mut Answer, name: &str, options: &CaseOptions, results: Opti
     if let Some(results) = results {
         out.push_all(&[", results ", results.as_str()]);
     }
-    let (variables, filters) = (options.variables.as_slice(), options.filters.as_slice());
-    push_given(out, &options.config, variables, filters);
+    push_given(out, &options.config, options.variables.as_slice());
+    push_values(out, ", filter ", options.filters.as_slice());
 }
 
 /// Appends the run of a report, its results file and what it is given.
@@ -73,7 +56,7 @@ fn push_report(out: &mut Answer, name: &str, options: &ReportOptions) {
         None => out.push("last"),
     }
     out.push_all(&[", results ", options.results.as_str()]);
-    push_given(out, &options.config, options.variables.as_slice(), &[]);
+    push_given(out, &options.config, options.variables.as_slice());
 }
 
 fn push_sections(out: &mut Answer, kinds: &[Kind], verbose: bool) {
@@ -110,34 +93,26 @@ fn push_fault(out: &mut Answer, fault: &CommandFault) {
     }
 }
 
-/// Appends the word of `times N WORD` N times.
-fn push_times(alloc: Global, words: &mut Vec<String>, text: &str) -> Result<()> {
-    let (count, word) = halves(text, " ", "a number and a word are due")?;
-    for _ in 0..number(count)? {
-        push_made(words, asked(String::from_str(alloc, word)))?;
-    }
-    Ok(())
-}
-
-/// The words of a row's line, and after them the one that follows more than once.
+/// The words of a row's line, and after them N times the word of `times N WORD`.
 fn all_words(alloc: Global, row: &Row<'_>) -> Result<Vec<String>> {
     let line = due(row.text("line"), "the row has no command line")?;
     let mut words = words_of(alloc, line)?;
-    if let Some(text) = row.text("times") {
-        push_times(alloc, &mut words, text)?;
+    let (count, word) = halves(
+        row.text("times").unwrap_or("0 "),
+        " ",
+        "a number and a word are due",
+    )?;
+    for _ in 0..number(count)? {
+        push_made(&mut words, asked(String::from_str(alloc, word)))?;
     }
     Ok(words)
 }
 
-fn push_read(out: &mut Answer, words: &[String]) {
-    match read_command(out.alloc, words) {
+/// What a command line is read as: `line WORDS`, with spaces between the words, and perhaps `times N WORD`.
+pub fn answer(out: &mut Answer, row: &Row<'_>) -> Result<()> {
+    match read_command(out.alloc, all_words(out.alloc, row)?.as_slice()) {
         Ok(command) => push_command(out, &command),
         Err(fault) => push_fault(out, &fault),
     }
-}
-
-/// What a command line is read as: `line WORDS`, with spaces between the words, and perhaps `times N WORD`.
-pub fn answer(out: &mut Answer, row: &Row<'_>) -> Result<()> {
-    push_read(out, &all_words(out.alloc, row)?);
     Ok(())
 }

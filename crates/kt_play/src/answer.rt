@@ -1,17 +1,13 @@
-//! Answers, and the pairs of lines.
-
-use crate::escapes::lossy_of;
-use crate::row::{Entry, Result, RowFault};
-use kt_base::{NoMemory, Text, Variable, Variables};
+use kt_base::{NoMemory, Text};
 use std::alloc::Global;
 use std::fmt::Debug;
 
-/// The text of an answer, written piece by piece. After a fault nothing more is taken, and `end` returns that fault.
+/// A text that is written piece by piece. After a refusal of memory nothing more is taken, and there is no text.
 #[derive(Drop)]
 pub struct Answer {
     pub alloc: Global,
     text: String,
-    fault: Option<RowFault>,
+    refusal: Option<NoMemory>,
 }
 
 impl Answer {
@@ -19,17 +15,17 @@ impl Answer {
         Answer {
             alloc,
             text: String::new(alloc),
-            fault: None,
+            refusal: None,
         }
     }
 
     /// Appends a text.
     pub fn push(&mut self, text: &str) {
-        if self.fault.is_some() {
+        if self.refusal.is_some() {
             return;
         }
         if let Err(refusal) = self.text.push_str(text) {
-            self.fault = Some(RowFault::from(refusal));
+            self.refusal = Some(NoMemory::from(refusal));
         }
     }
 
@@ -60,7 +56,7 @@ impl Answer {
     {
         match text {
             Ok(text) => self.push(text.as_str()),
-            Err(refusal) => self.fail(RowFault::from(refusal)),
+            Err(refusal) => self.fail(NoMemory::from(refusal)),
         }
     }
 
@@ -86,45 +82,30 @@ impl Answer {
                 let text = text.as_str();
                 self.push(text.split_once('(').unwrap_or((text, "")).0);
             }
-            Err(refusal) => self.fail(RowFault::from(refusal)),
+            Err(refusal) => self.fail(NoMemory::from(refusal)),
         }
     }
 
-    /// Ends with a fault, unless there was one.
-    pub fn fail(&mut self, fault: RowFault) {
-        if self.fault.is_none() {
-            self.fault = Some(fault);
+    /// Keeps a refusal of memory, unless there was one.
+    pub fn fail(&mut self, refusal: NoMemory) {
+        if self.refusal.is_none() {
+            self.refusal = Some(refusal);
+        }
+    }
+
+    /// The text so far.
+    pub fn so_far(&self) -> Result<&str, NoMemory> {
+        match self.refusal {
+            None => Ok(self.text.as_str()),
+            Some(refusal) => Err(refusal),
         }
     }
 
     /// The whole text.
-    pub fn end(self) -> Result<String> {
-        match self.fault {
+    pub fn end(self) -> Result<String, NoMemory> {
+        match self.refusal {
             None => Ok(self.text),
-            Some(fault) => Err(fault),
+            Some(refusal) => Err(refusal),
         }
     }
-}
-
-/// Two values that were made.
-pub fn both<A: Drop, B: Drop>(first: Result<A>, second: Result<B>) -> Result<(A, B)> {
-    Ok((first?, second?))
-}
-
-/// `NAME=VALUE`, cut at the first `=`.
-pub fn pair_of(alloc: Global, raw: &str) -> Result<Variable> {
-    let (name, value) = raw.split_once('=').unwrap_or((raw, ""));
-    let (name, value) = both(lossy_of(alloc, name), lossy_of(alloc, value))?;
-    Ok(Variable { name, value })
-}
-
-/// The pairs of the lines with a word, in order: `WORD NAME=VALUE` each.
-pub fn pairs_of(alloc: Global, lines: &[Entry<'_>], word: &str) -> Result<Variables> {
-    let mut pairs = Variables::new(alloc);
-    for line in lines {
-        if line.word == word {
-            pairs.push(pair_of(alloc, line.text)?)?;
-        }
-    }
-    Ok(pairs)
 }

@@ -1,0 +1,226 @@
+//! Entries as rows have them: what their lines say, and what is shown of them.
+
+ghost use Rattle.std.specs.Prelude.{◌≤◌, IfOk};
+
+use crate::escapes::{lossy_of, unescaped};
+use crate::row::{
+    Entry as Line, Result, Row, RowFault, both, due, number_in, pairs_of, push_made, text_in,
+};
+use crate::verdicts::push_verdict;
+use kt_base::{Bytes, Entry, Items, Kind, LATEST_MOMENT, Output, Run, Verdict};
+use kt_play::Answer;
+use std::alloc::Global;
+
+/// The bytes after a word among these lines; none if the word isn't there.
+fn bytes_in(alloc: Global, lines: &[Line<'_>], word: &str) -> Result<Bytes> {
+    match text_in(lines, word) {
+        None => Ok(Bytes::new(alloc)),
+        Some(raw) => unescaped(alloc, raw).map(Bytes::from_vec),
+    }
+}
+
+fn output_in(alloc: Global, lines: &[Line<'_>], out: &str, err: &str) -> Result<Output> {
+    let (out, err) = both(bytes_in(alloc, lines, out), bytes_in(alloc, lines, err))?;
+    Ok(Output { out, err })
+}
+
+/// The kind of a word.
+pub fn kind_of(word: &str) -> Result<Kind> {
+    match word {
+        "passed" => Ok(Kind::Passed),
+        "skipped" => Ok(Kind::Skipped),
+        "expected_failure" => Ok(Kind::ExpectedFailure),
+        "failed" => Ok(Kind::Failed),
+        "broken" => Ok(Kind::Broken),
+        _ => Err(RowFault::Misspelled("no such kind")),
+    }
+}
+
+/// The kinds of these words.
+pub fn kinds_of(alloc: Global, words: &str) -> Result<Vec<Kind>> {
+    let mut kinds = Vec::new(alloc);
+    for word in words.split_whitespace() {
+        push_made(&mut kinds, kind_of(word))?;
+    }
+    Ok(kinds)
+}
+
+/// The verdict of a text such as `failed: x`.
+fn verdict_of(alloc: Global, text: &str) -> Result<Verdict> {
+    let (word, reason) = text.split_once(": ").unwrap_or((text, ""));
+    Ok(Verdict::of(kind_of(word)?, lossy_of(alloc, reason)?))
+}
+
+/// The entry with a verdict, and what the lines below it say: `program TEXT`, `case TEXT`, `started MILLISECONDS`,
+/// `took MILLISECONDS`, the outputs `out TEXT`, `err TEXT`, `cleanup-out TEXT` and `cleanup-err TEXT`; and a line `meta
+/// NAME=VALUE` for each pair.
+fn entry_of(alloc: Global, content: &[Line<'_>], verdict: &str, position: u32) -> Result<Entry> {
+    let program = lossy_of(alloc, text_in(content, "program").unwrap_or("a"));
+    let case_name = lossy_of(alloc, text_in(content, "case").unwrap_or("main"));
+    let times = both(
+        number_in(content, "started", 0),
+        number_in(content, "took", 0),
+    );
+    let body = output_in(alloc, content, "out", "err");
+    let cleanup = output_in(alloc, content, "cleanup-out", "cleanup-err");
+    let said = both(verdict_of(alloc, verdict), pairs_of(alloc, content, "meta"));
+    let ((program, case_name), (started, millis)) = both(both(program, case_name), times)?;
+    let ((body, cleanup), (verdict, meta)) = both(both(body, cleanup), said)?;
+    Ok(Entry {
+        position,
+        program,
+        case_name,
+        verdict,
+        started,
+        millis,
+        body,
+        cleanup,
+        meta,
+    })
+}
+
+/// An entry that a store takes: its times lie within the years up to 9999.
+pub fn storable_entry(
+    alloc: Global,
+    content: &[Line<'_>],
+    verdict: &str,
+    position: u32,
+) -> Result<Entry>
+    ensures { IfOk result (λ e. (e.started ≤ 253402300799999) × (e.millis ≤ 253402300799999)) }
+{
+    let mut entry = entry_of(alloc, content, verdict, position)?;
+    entry.started = entry.started.min(LATEST_MOMENT);
+    entry.millis = entry.millis.min(LATEST_MOMENT);
+    Ok(entry)
+}
+
+/// Whether a line says what the entry above it holds.
+pub fn is_content(line: &Line<'_>) -> bool {
+    match line.word {
+        "program" | "case" | "started" | "took" | "meta" | "times" => true,
+        "out" | "err" | "cleanup-out" | "cleanup-err" => true,
+        _ => false,
+    }
+}
+
+/// The lines below a place that say what its entry holds.
+pub fn content_at<'a, 'b>(lines: &'b [Line<'a>], place: usize) -> &'b [Line<'a>] {
+    let (_, rest) = lines.split_at(place.saturating_add(1).min(lines.len()));
+    let length = rest.iter().take_while(|line| is_content(*line)).count();
+    rest.split_at(length.min(rest.len())).0
+}
+
+fn count_of(entries: &Items<Entry>) -> Result<u32> {
+    due(u32::try_from(entries.len()).ok(), "too many entries")
+}
+
+/// Appends an entry, as often as `times N` below it says.
+fn add_entries(
+    alloc: Global,
+    entries: &mut Items<Entry>,
+    content: &[Line<'_>],
+    verdict: &str,
+) -> Result<()> {
+    for _ in 0..number_in(content, "times", 1)? {
+        let position = count_of(entries)?;
+        entries.push(entry_of(alloc, content, verdict, position)?)?;
+    }
+    Ok(())
+}
+
+/// The run of a row: `run NUMBER`, `at MILLISECONDS`, `unfinished`, and its entries, `entry VERDICT` each.
+pub fn run_of(alloc: Global, row: &Row<'_>) -> Result<Run> {
+    let lines = row.entries.as_slice();
+    let (number, started) = both(row.number("run", 1), row.number("at", 0))?;
+    let mut entries = Items::new(alloc);
+    for (place, line) in lines.iter().enumerate() {
+        if line.word == "entry" {
+            add_entries(alloc, &mut entries, content_at(lines, place), line.text)?;
+        }
+    }
+    Ok(Run {
+        number,
+        started,
+        total: count_of(&entries)?,
+        finished: row.text("unfinished").is_none(),
+        entries,
+    })
+}
+
+/// The four outputs of a case.
+fn push_outputs(out: &mut Answer, entry: &Entry) {
+    for (name, bytes) in [
+        ("out=", &entry.body.out),
+        (", err=", &entry.body.err),
+        (", cleanup out=", &entry.cleanup.out),
+        (", cleanup err=", &entry.cleanup.err),
+    ] {
+        out.push(name);
+        out.bytes(bytes.as_slice());
+    }
+}
+
+/// Six digits: 1 where the start and the time of a case are not 0, and how many bytes are kept of its four outputs.
+fn push_marks(out: &mut Answer, entry: &Entry) {
+    let (body, cleanup) = (&entry.body, &entry.cleanup);
+    for count in [
+        entry.started.min(1) as usize,
+        entry.millis.min(1) as usize,
+        body.out.len(),
+        body.err.len(),
+        cleanup.out.len(),
+        cleanup.err.len(),
+    ] {
+        out.push(["0", "1"].get(count).copied().unwrap_or("+"));
+    }
+}
+
+/// What a word shows of an entry, but for its pairs: `cases`, `outputs`, `marks`, or else its verdict.
+fn push_entry(out: &mut Answer, word: &str, entry: &Entry) {
+    if word == "outputs" {
+        return push_outputs(out, entry);
+    }
+    out.number(u64::from(entry.position));
+    out.push(" ");
+    if word == "cases" {
+        out.push_all(&[entry.program.as_str(), ":", entry.case_name.as_str(), " "]);
+    }
+    push_verdict(out, &entry.verdict);
+    match word {
+        "cases" => {
+            let (started, millis) = (entry.started, entry.millis);
+            out.made(format!(in out.alloc; ", started {started}, took {millis}"));
+        }
+        "marks" => {
+            out.push(" ");
+            push_marks(out, entry);
+        }
+        _ => {}
+    }
+}
+
+/// The pairs of entries, a line each after the position of its entry.
+fn push_pairs(out: &mut Answer, entries: &[Entry]) {
+    let mut separator = "";
+    for entry in entries {
+        for pair in entry.meta.as_slice() {
+            out.push(separator);
+            out.number(u64::from(entry.position));
+            out.push_all(&[" ", pair.name.as_str(), "=", pair.value.as_str()]);
+            separator = "\n";
+        }
+    }
+}
+
+/// What a word shows of entries, each on a line of its own.
+pub fn push_entries(out: &mut Answer, word: &str, entries: &[Entry]) {
+    if word == "pairs" {
+        return push_pairs(out, entries);
+    }
+    let mut separator = "";
+    for entry in entries {
+        out.push(separator);
+        push_entry(out, word, entry);
+        separator = "\n";
+    }
+}
