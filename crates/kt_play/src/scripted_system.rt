@@ -48,18 +48,7 @@ fn status_of(lives: &[Life], children: &mut [(Child, u32)], child: Child) -> Pol
     Polled::Exited(99)
 }
 
-/// The front of these bytes.
-fn front(alloc: Global, rest: &[u8], limit: u64) -> Result<FileRead, OsFault>
-    ensures { IsReadWithin limit result }
-{
-    let count = rest.len().min(limit as usize);
-    match Bytes::from_slice(alloc, &rest[..count]) {
-        Ok(part) => Ok(FileRead::Part(part, count < rest.len())),
-        Err(refusal) => Err(OsFault::Memory(refusal)),
-    }
-}
-
-/// What a file holds from a byte on.
+/// What a file holds from a byte on, of as many bytes as the limit says.
 fn read(
     alloc: Global,
     scene: &Scene<'_>,
@@ -69,13 +58,18 @@ fn read(
 ) -> Result<FileRead, OsFault>
     ensures { IsReadWithin limit result }
 {
-    match scene.bytes_at(path.as_str()) {
-        Some(bytes) => front(alloc, bytes.get(from as usize..).unwrap_or(&[]), limit),
-        None => Ok(FileRead::Missing),
+    let Some(bytes) = scene.bytes_at(path.as_str()) else {
+        return Ok(FileRead::Missing);
+    };
+    let rest = bytes.get(from as usize..).unwrap_or(&[]);
+    let count = rest.len().min(limit as usize);
+    match Bytes::from_slice(alloc, &rest[..count]) {
+        Ok(part) => Ok(FileRead::Part(part, count < rest.len())),
+        Err(refusal) => Err(OsFault::Memory(refusal)),
     }
 }
 
-/// A part of a file, or what a system that breaks its promise gives in its place.
+/// A part of a file, or behind the first one what a system that breaks its promise gives in its place.
 fn read_with_fault(
     alloc: Global,
     scene: &Scene<'_>,
@@ -85,13 +79,10 @@ fn read_with_fault(
 ) -> Result<FileRead, OsFault>
     ensures { IsReadWithin limit result }
 {
-    if from == 0 {
-        return read(alloc, scene, path, from, limit);
-    }
     match scene.part_fault {
-        PartFault::None => read(alloc, scene, path, from, limit),
-        PartFault::EmptyPart => Ok(FileRead::Part(Bytes::new(alloc), true)),
-        PartFault::Gone => Ok(FileRead::Missing),
+        PartFault::EmptyPart if from > 0 => Ok(FileRead::Part(Bytes::new(alloc), true)),
+        PartFault::Gone if from > 0 => Ok(FileRead::Missing),
+        _ => read(alloc, scene, path, from, limit),
     }
 }
 
