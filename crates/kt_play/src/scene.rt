@@ -21,18 +21,20 @@ pub enum PartFault {
 
 /// A file of a scripted system or machine. A star in its path stands for any one name.
 #[derive(Drop)]
-pub struct Holding<'a> {
-    pub path: &'a str,
+pub struct Holding {
+    pub path: String,
     pub bytes: Vec<u8>,
 }
 
 /// What a scripted system does, and what a scripted machine has.
 #[derive(Drop)]
-pub struct Scene<'a> {
+pub struct Scene {
     /// The lives of the children in the order of their starts. Further children live as the last one.
     pub lives: Vec<Life>,
     /// The files that can be read.
-    pub files: Vec<Holding<'a>>,
+    pub files: Vec<Holding>,
+    /// What every other file holds, if there are others.
+    pub others: Option<Vec<u8>>,
     /// The calls of the system from the first number on, counted from 0, and below the second one fail.
     pub failing: (u32, u32),
     /// Why memory runs out, if they fail for that.
@@ -45,23 +47,24 @@ pub struct Scene<'a> {
     /// The moments that the machine answers; the last one stays.
     pub clock: Vec<u64>,
     /// The programs of the tree that are there.
-    pub programs: Vec<&'a str>,
+    pub programs: Vec<String>,
     /// Files that can't be read.
-    pub locked: Vec<&'a str>,
+    pub locked: Vec<String>,
     /// Files that can't be read for want of memory.
-    pub dear: Vec<&'a str>,
+    pub dear: Vec<String>,
     /// The required files that are there.
-    pub found_files: Vec<&'a str>,
+    pub found_files: Vec<String>,
     /// The required programs that are there.
-    pub found_programs: Vec<&'a str>,
+    pub found_programs: Vec<String>,
 }
 
-impl<'a> Scene<'a> {
+impl Scene {
     /// A machine that has nothing, and a system whose children exit with 0 and whose moments are 1, 2 and so on.
-    pub fn new(alloc: Global) -> Scene<'a> {
+    pub fn new(alloc: Global) -> Scene {
         Scene {
             lives: Vec::new(alloc),
             files: Vec::new(alloc),
+            others: None,
             failing: (0, 0),
             shortage: None,
             part_fault: PartFault::None,
@@ -79,11 +82,11 @@ impl<'a> Scene<'a> {
     /// The bytes of a file.
     pub fn bytes_at(&self, path: &str) -> Option<&[u8]> {
         for file in self.files.as_slice() {
-            if is_path_of(file.path, path) {
+            if is_path_of(file.path.as_str(), path) {
                 return Some(file.bytes.as_slice());
             }
         }
-        None
+        self.others.as_deref()
     }
 }
 
@@ -102,9 +105,9 @@ fn is_path_of(pattern: &str, path: &str) -> bool {
 }
 
 /// Whether a path is one of these.
-pub fn is_among(patterns: &[&str], path: &str) -> bool {
+pub fn is_among(patterns: &[String], path: &str) -> bool {
     for pattern in patterns {
-        if is_path_of(*pattern, path) {
+        if is_path_of(pattern.as_str(), path) {
             return true;
         }
     }

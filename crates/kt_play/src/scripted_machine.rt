@@ -15,7 +15,7 @@ const READ_LIMIT: usize = 1_048_577;
 #[derive(Drop)]
 pub struct ScriptedMachine<'a> {
     alloc: Global,
-    scene: &'a Scene<'a>,
+    scene: &'a Scene,
     /// How many moments were answered.
     told: usize,
 }
@@ -32,7 +32,7 @@ fn front_of(alloc: Global, bytes: &[u8]) -> Result<Bytes, ReadFault>
 }
 
 impl<'a> ScriptedMachine<'a> {
-    pub fn new(alloc: Global, scene: &'a Scene<'a>) -> ScriptedMachine<'a> {
+    pub fn new(alloc: Global, scene: &'a Scene) -> ScriptedMachine<'a> {
         ScriptedMachine {
             alloc,
             scene,

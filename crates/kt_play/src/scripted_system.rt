@@ -9,7 +9,7 @@ use std::alloc::Global;
 /// a failed one. A call is done even if there is no memory for its line; then there is no log.
 #[derive(Drop)]
 pub struct ScriptedSystem<'a> {
-    scene: &'a Scene<'a>,
+    scene: &'a Scene,
     /// How many calls there were.
     calls: u32,
     /// The children that were started, and how often each has answered that it runs.
@@ -51,7 +51,7 @@ fn status_of(lives: &[Life], children: &mut [(Child, u32)], child: Child) -> Pol
 /// What a file holds from a byte on, of as many bytes as the limit says.
 fn read(
     alloc: Global,
-    scene: &Scene<'_>,
+    scene: &Scene,
     path: &Text,
     from: u64,
     limit: u64,
@@ -72,7 +72,7 @@ fn read(
 /// A part of a file, or behind the first one what a system that breaks its promise gives in its place.
 fn read_with_fault(
     alloc: Global,
-    scene: &Scene<'_>,
+    scene: &Scene,
     path: &Text,
     from: u64,
     limit: u64,
@@ -94,7 +94,7 @@ fn push_texts(line: &mut Answer, texts: &[Text]) {
 }
 
 impl<'a> ScriptedSystem<'a> {
-    pub fn new(alloc: Global, scene: &'a Scene<'a>) -> ScriptedSystem<'a> {
+    pub fn new(alloc: Global, scene: &'a Scene) -> ScriptedSystem<'a> {
         ScriptedSystem {
             scene,
             calls: 0,

@@ -12,10 +12,10 @@ use kt_play::Answer;
 use std::alloc::Global;
 
 /// The header of a list of ATF cases, and an empty line.
-const HEADER: &str = "Content-Type: application/X-atf-tp; version=\"1\"\n\n";
+pub const HEADER: &str = "Content-Type: application/X-atf-tp; version=\"1\"\n\n";
 
 /// The blocks of a list after its header and an empty line.
-pub fn after_header(alloc: Global, blocks: &str) -> Result<Vec<u8>> {
+fn after_header(alloc: Global, blocks: &str) -> Result<Vec<u8>> {
     let mut text = HEADER.as_bytes().to_vec(alloc)?;
     append(alloc, &mut text, blocks)?;
     Ok(text)

@@ -80,7 +80,7 @@ fn platform_of(alloc: Global, row: &Row<'_>) -> Result<ScriptedPlatform<Refusing
 fn played_by(
     alloc: Global,
     row: &Row<'_>,
-    scene: &Scene<'_>,
+    scene: &Scene,
     failing: u64,
 ) -> Result<Played<RefusingStore>> {
     let mut played = Played::new(alloc, platform_of(alloc, row)?);
@@ -138,7 +138,7 @@ fn wrong(
 }
 
 /// Makes each write fail in turn, until there is no such write or something is wrong, and appends what was written then.
-fn push_each_failing(out: &mut Answer, row: &Row<'_>, scene: &Scene<'_>) -> Result<()> {
+fn push_each_failing(out: &mut Answer, row: &Row<'_>, scene: &Scene) -> Result<()> {
     let mut whole = played_by(out.alloc, row, scene, 0)?;
     push_played(out, row, &mut whole)?;
     for failing in 1..LIMIT {

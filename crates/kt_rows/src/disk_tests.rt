@@ -143,7 +143,7 @@ fn push_stop(out: &mut Answer, stop: Stop) {
 struct Trial<'a> {
     alloc: Global,
     row: &'a Row<'a>,
-    scene: &'a Scene<'a>,
+    scene: &'a Scene,
     in_log: bool,
     is_old: bool,
     frames: usize,

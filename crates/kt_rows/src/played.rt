@@ -27,7 +27,7 @@ pub struct Played<R: ResultStore + Drop> {
 /// system.
 fn carried<'a, R: ResultStore + Drop, W: Write, E: Write>(
     log: &mut Answer,
-    scene: &'a Scene<'a>,
+    scene: &'a Scene,
     machine: ScriptedMachine<'a>,
     platform: &mut ScriptedPlatform<R>,
     command: Result<Command, CommandFault>,
@@ -73,7 +73,7 @@ impl<R: ResultStore + Drop> Played<R> {
     }
 
     /// Carries out the command lines among these: `do WORDS` or `line WORDS`, or `words no-memory` for none.
-    pub fn play(&mut self, lines: &[Entry<'_>], scene: &Scene<'_>) -> Result<()> {
+    pub fn play(&mut self, lines: &[Entry<'_>], scene: &Scene) -> Result<()> {
         let alloc = self.log.alloc;
         let mut machine = ScriptedMachine::new(alloc, scene);
         for line in lines {

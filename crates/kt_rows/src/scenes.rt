@@ -1,11 +1,11 @@
 //! The scripted machine, system and store of a row.
 
-use crate::case_lists::after_header;
-use crate::escapes::unescaped;
+use crate::case_lists::HEADER;
+use crate::escapes::text_of;
 use crate::numbers::{count, number, numbers};
-use crate::row::{Entry, Result, Row, RowFault, due, halves, push_made};
+use crate::row::{Entry, Result, Row, RowFault, append, asked, due, halves, push_made};
 use crate::verdicts::ending_of;
-use kt_base::{NoMemory, Outcome};
+use kt_base::{NoMemory, Outcome, Text};
 use kt_child::Polled;
 use kt_play::{Holding, Life, PartFault, RefusingStore, Scene, ask_too_much, failed_statement};
 use kt_store::FailedStatement;
@@ -42,18 +42,30 @@ fn life_of(text: &str) -> Result<Life> {
     })
 }
 
-/// A file: its path, and what it holds.
-fn holding_of<'a>(alloc: Global, text: &'a str) -> Result<Holding<'a>> {
-    let (path, raw) = text.split_once(' ').unwrap_or((text, ""));
-    let bytes = unescaped(alloc, raw)?;
-    Ok(Holding { path, bytes })
+/// Takes a file: its path, and what it holds behind a beginning.
+fn take_file(
+    alloc: Global,
+    scene: &mut Scene,
+    path: &str,
+    beginning: &str,
+    raw: &str,
+) -> Result<()> {
+    let path = text_of(alloc, path)?.into_string();
+    let mut bytes = beginning.as_bytes().to_vec(alloc)?;
+    append(alloc, &mut bytes, raw)?;
+    asked(scene.files.push(Holding { path, bytes }))
 }
 
-/// A file with a list of cases: its path, and the blocks after the header.
-fn list_of<'a>(alloc: Global, text: &'a str) -> Result<Holding<'a>> {
-    let (path, blocks) = halves(text, " ", "a list has a path")?;
-    let bytes = after_header(alloc, blocks)?;
-    Ok(Holding { path, bytes })
+/// Appends a line to the last file.
+fn take_line(alloc: Global, scene: &mut Scene, raw: &str) -> Result<()> {
+    let file = due(scene.files.last_mut(), "a line without a file")?;
+    append(alloc, &mut file.bytes, raw)?;
+    asked(file.bytes.push(b'\n'))
+}
+
+/// Adds a path.
+fn take_path(alloc: Global, paths: &mut Vec<String>, raw: &str) -> Result<()> {
+    push_made(paths, text_of(alloc, raw).map(Text::into_string))
 }
 
 /// The calls that fail: `N` alone, or `N M` for those from `N` to `M`.
@@ -72,7 +84,7 @@ fn part_fault_of(text: &str) -> Result<PartFault> {
 }
 
 /// Takes a line that says when something happens, or how it fails.
-fn take_script(alloc: Global, scene: &mut Scene<'_>, line: &Entry<'_>) -> Result<()> {
+fn take_script(alloc: Global, scene: &mut Scene, line: &Entry<'_>) -> Result<()> {
     match line.word {
         "clock" => scene.moments = numbers(alloc, line.text)?,
         "moments" => {
@@ -92,26 +104,32 @@ fn take_script(alloc: Global, scene: &mut Scene<'_>, line: &Entry<'_>) -> Result
 }
 
 /// Takes a line that says something of the machine or the system.
-fn take<'a>(alloc: Global, scene: &mut Scene<'a>, line: &Entry<'a>) -> Result<()> {
+fn take(alloc: Global, scene: &mut Scene, line: &Entry<'_>) -> Result<()> {
     let text = line.text;
+    let (path, rest) = text.split_once(' ').unwrap_or((text, ""));
     match line.word {
         "life" => push_made(&mut scene.lives, life_of(text)),
-        "holds" | "config" => push_made(&mut scene.files, holding_of(alloc, text)),
-        "lists" => push_made(&mut scene.files, list_of(alloc, text)),
-        "program" => push_made(&mut scene.programs, Ok(text)),
-        "locked" => push_made(&mut scene.locked, Ok(text)),
-        "dear" => push_made(&mut scene.dear, Ok(text)),
-        "found-file" => push_made(&mut scene.found_files, Ok(text)),
-        "found-program" => push_made(&mut scene.found_programs, Ok(text)),
+        "holds" | "config" => take_file(alloc, scene, path, "", rest),
+        "lists" => take_file(alloc, scene, path, HEADER, rest),
+        "Kyuafile" => take_file(alloc, scene, "Kyuafile", "", text),
+        "file" => take_file(alloc, scene, text, "", ""),
+        "|" => take_line(alloc, scene, text),
+        "program" => take_path(alloc, &mut scene.programs, text),
+        "locked" => take_path(alloc, &mut scene.locked, text),
+        "dear" => take_path(alloc, &mut scene.dear, text),
+        "found-file" => take_path(alloc, &mut scene.found_files, text),
+        "found-program" => take_path(alloc, &mut scene.found_programs, text),
         _ => take_script(alloc, scene, line),
     }
 }
 
-/// The scene of a row: `life LIFE`, `holds PATH TEXT`, `config PATH TEXT`, `lists PATH BLOCKS`, `program PATH`, `locked
-/// PATH`, `dear PATH`, `found-file PATH` and `found-program PATH` each; of the machine `now MOMENTS`; of the system
-/// `clock N` or `moments NUMBERS`, `fails CALLS` or, for memory, `refuses CALLS`, `odd WHAT`.
-pub fn scene_of<'a>(alloc: Global, row: &Row<'a>) -> Result<Scene<'a>> {
+/// The scene of a row: `life LIFE`, `holds PATH TEXT`, `config PATH TEXT`, `lists PATH BLOCKS`, `Kyuafile TEXT`, `file
+/// PATH` with lines of `|` below, `program PATH`, `locked PATH`, `dear PATH`, `found-file PATH` and `found-program PATH`
+/// each; `others TEXT` for every other file; of the machine `now MOMENTS`; of the system `clock N` or `moments NUMBERS`,
+/// `fails CALLS` or, for memory, `refuses CALLS`, `odd WHAT`.
+pub fn scene_of(alloc: Global, row: &Row<'_>) -> Result<Scene> {
     let mut scene = Scene::new(alloc);
+    scene.others = row.bytes(alloc, "others")?;
     for line in row.entries.as_slice() {
         take(alloc, &mut scene, line)?;
     }

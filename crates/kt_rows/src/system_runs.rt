@@ -81,7 +81,7 @@ fn planned(alloc: Global, row: &Row<'_>) -> Result<Items<Job>>
 
 /// Runs the plan of a row over a scripted system: what `planned` reads, and `width N`, `failing PUT`, `base PATH` and
 /// `source PATH`.
-pub fn run_plan<'a>(alloc: Global, row: &Row<'_>, scene: &'a Scene<'a>) -> Result<Ran<'a>> {
+pub fn run_plan<'a>(alloc: Global, row: &Row<'_>, scene: &'a Scene) -> Result<Ran<'a>> {
     let width = width_of(row.text("width"))?;
     let failing = row.number("failing", 0)? as usize;
     let (base, source) = (

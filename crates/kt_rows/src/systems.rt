@@ -91,7 +91,7 @@ fn push_shown(out: &mut Answer, word: &str, run: &Ran<'_>) -> Result<()> {
 }
 
 /// Appends what `show WORDS` names of a run, or else its entries, and why it ended early, if it did.
-fn push_run(out: &mut Answer, row: &Row<'_>, scene: &Scene<'_>) -> Result<()> {
+fn push_run(out: &mut Answer, row: &Row<'_>, scene: &Scene) -> Result<()> {
     let run = run_plan(out.alloc, row, scene)?;
     for word in row.text("show").unwrap_or("entries").split_whitespace() {
         out.separate("\n");
@@ -104,7 +104,7 @@ fn push_run(out: &mut Answer, row: &Row<'_>, scene: &Scene<'_>) -> Result<()> {
 }
 
 /// What becomes of the cases of a plan, for each line `fails CALLS` if there are some.
-fn plan(out: &mut Answer, row: &Row<'_>, scene: Scene<'_>) -> Result<()> {
+fn plan(out: &mut Answer, row: &Row<'_>, scene: Scene) -> Result<()> {
     let mut scene = scene;
     if row.text("fails").is_none() {
         return push_run(out, row, &scene);
@@ -171,7 +171,7 @@ fn program_of(alloc: Global) -> Result<Program> {
 
 /// The words of the calls that ask for a list, `base PATH` and `variable NAME=VALUE` each, and what came of it; with
 /// `show spawns` what was started, too.
-fn list(out: &mut Answer, row: &Row<'_>, scene: &Scene<'_>) -> Result<()> {
+fn list(out: &mut Answer, row: &Row<'_>, scene: &Scene) -> Result<()> {
     let alloc = out.alloc;
     let (base, source) = texts_of(alloc, row.text("base").unwrap_or(""), "/t")?;
     let variables = pairs_of(alloc, row.entries.as_slice(), "variable");
