@@ -8,7 +8,7 @@ use Rattle.kt_store.proofs.SqlFacts.{is}
 abbrev has_number : ℕ → Row → Bool
 has_number n row = is_eq (value_cmp (rowid row) (Int (pos n)))
 
-found_run : (n : ℕ) (runs : List Run) → AreNumbered 1 runs → filter (has_number n) (map run_row runs) ≡ map run_row (option_to_list (run_at runs n))
+pub found_run : (n : ℕ) (runs : List Run) → AreNumbered 1 runs → filter (has_number n) (map run_row runs) ≡ map run_row (option_to_list (run_at runs n))
 found_run n runs h = ap (filter (has_number n)) (sym (alone runs)) ∙ of_one (has_number n) (λ r. run_row r ∷ []) (λ r. run_row r ∷ []) n here apart runs h ∙ alone (option_to_list (run_at runs n))
   where
     alone : (rs : List Run) → flat_map (λ (r : Run). run_row r ∷ []) rs ≡ map run_row rs

@@ -35,6 +35,10 @@ pub mod RaiseLemmas
 pub mod PairsLemmas
 pub mod MergeLemmas
 pub mod Outlined
+pub mod CursorLemmas
+pub mod BehindLemmas
+pub mod SeenLemmas
+pub mod ReaderLemmas
 pub mod TurnLemmas
 pub mod CommitLemmas
 pub mod AttachLemmas

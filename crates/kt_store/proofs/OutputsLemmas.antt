@@ -1,5 +1,5 @@
 -- What the query for the outputs of an entry answers.
-use Rattle.std.proofs.Common.{length, ◌<◌, ◌≤◌, zero, suc, subst, arith, ◌≡◌, ◌==◌, ℕ, List, [], ◌∷◌, map, filter, Bool, true, false, cond, Some, None, Option, slice_get, refl, sym, ap, ◌∙◌, inl, inr}
+use Rattle.std.proofs.Common.{◌≢◌, length, ◌<◌, ◌≤◌, zero, suc, subst, arith, ◌≡◌, ◌==◌, ℕ, List, [], ◌∷◌, map, filter, Bool, true, false, cond, Some, None, Option, slice_get, refl, sym, ap, ◌∙◌, inl, inr}
 use Rattle.kt_store.proofs.Common.{cases_lt, slice_get_past, find, last_run, Row, State, Shown, reads_as, Run, Entry, entry_at, outputs_text, schema_2, output_columns, entries_of, run_at, IsStore}
 use Rattle.kt_store.proofs.SqlFacts.{outputs_select_is, outputs_query}
 use Rattle.kt_store.proofs.KeptEntries.{Same, tells_kept}
@@ -55,4 +55,17 @@ pub no_entry : (runs : List Run) (run number p : ℕ) → length runs ≤ last_r
 no_entry runs run number p few same none = elim (cases_lt last_run run) [
   | inl past ↦ ap (λ (o : Option Run). entry_at o p) (run_past runs run (omega (arith, few, past)))
   | inr low ↦ subst (λ (n : ℕ). entry_at (run_at runs n) p ≡ None) (same low) none
+]
+
+-- a run that has no number of its own is none
+pub past_run : (runs : List Run) (run number : ℕ) → length runs ≤ last_run → (run ≤ last_run → number ≡ run) → number ≢ run → run_at runs run ≡ None
+past_run runs run number few same other = elim (cases_lt last_run run) [
+  | inl past ↦ run_past runs run (omega (arith, few, past))
+  | inr low ↦ absurd (other (same low))
+]
+
+pub no_run : (runs : List Run) (run number : ℕ) → length runs ≤ last_run → (run ≤ last_run → number ≡ run) → run_at runs number ≡ None → run_at runs run ≡ None
+no_run runs run number few same none = elim (cases_lt last_run run) [
+  | inl past ↦ run_past runs run (omega (arith, few, past))
+  | inr low ↦ subst (λ (n : ℕ). run_at runs n ≡ None) (same low) none
 ]

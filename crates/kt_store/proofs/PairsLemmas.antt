@@ -29,7 +29,7 @@ module _ (test : Row → Bool) (n : ℕ) (each : (m p k : ℕ) (v : Variable) �
   miss m apart [] = refl
   miss m apart (e ∷ es) = filter-append test (pair_rows m e) (flat_map (pair_rows m) es) ∙ ap₂ (λ x y. x ++ y) (miss_pairs m apart e.position 0 e.meta) (miss m apart es)
 
-of_pairs : (test : Row → Bool) (n : ℕ) (runs : List Run) → ((m p j : ℕ) (v : Variable) → test (pair_row m p j v) ≡ (m == n)) → AreNumbered 1 runs
+pub of_pairs : (test : Row → Bool) (n : ℕ) (runs : List Run) → ((m p j : ℕ) (v : Variable) → test (pair_row m p j v) ≡ (m == n)) → AreNumbered 1 runs
     → filter test (prop_rows runs) ≡ flat_map (pair_rows n) (entries_of (run_at runs n))
 of_pairs test n runs each h =
     of_one test (λ (r : Run). flat_map (pair_rows r.number) r.entries) (λ (r : Run). flat_map (pair_rows n) r.entries) n (λ r is. hit test n each r.number is r.entries) (λ r other. miss test n each r.number other r.entries) runs h

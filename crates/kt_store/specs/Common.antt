@@ -22,6 +22,7 @@ pub use Rattle.kt_store.specs.Heads.{entry_at, head_of, no_output, outlined, out
 pub use Rattle.kt_store.specs.Inner.Ask.{AreWide, Asked, HasColumns, MayShow, MayTell, ShowsOf, Told}
 pub use Rattle.kt_store.specs.Inner.Attaching.{HasNumber}
 pub use Rattle.kt_store.specs.Inner.Calls.{Statement, entry_statements, five_statement, pair_statement, pair_statements, plain_statements, single_statements}
+pub use Rattle.kt_store.specs.Inner.Cursors.{Goes, Looks, Places, Shows, in_columns}
 pub use Rattle.kt_store.specs.Inner.Fault.{Tells}
 pub use Rattle.kt_store.specs.Inner.Heads.{entry_columns, head_columns, output_columns, pair_columns, pairs_shown}
 pub use Rattle.kt_store.specs.Inner.Kept.{AsksNumber, Changes, CommitsNothing, FindsTables, KeepsRuns, LeavesSchema, MayChange, OnlyReads, WasClean}
@@ -29,6 +30,7 @@ pub use Rattle.kt_store.specs.Inner.Runs.{CanAdd, IsBareIfPassed, IsComplete, en
 pub use Rattle.kt_store.specs.Inner.Transactions.{Commits, CommitsLater, MayCommit, RunsAll, RunsOne, Undoes}
 pub use Rattle.kt_store.specs.Inner.Whole.{AreAt}
 pub use Rattle.kt_store.specs.Runs.{AreNumbered, AreOrdered, AreRuns, IsEntry, IsPair, IsText, Keeps, KeepsOne, finish, finish_refusal, flag, has_position, kind_code, new_run, put_refusal, run_at, with_entry}
+pub use Rattle.kt_store.specs.Seeks.{HasRuns}
 pub use Rattle.kt_store.specs.Serving.{Reads, Serves}
 pub use Rattle.kt_store.specs.Stands.{IsUnderstood, Leaves, SaysSchema, StandsFor}
 pub use Rattle.kt_store.specs.StoreCalls.{Began, Finished, Heads, Outline, Outputs, Put, seen_as}

@@ -2,6 +2,7 @@
 pub mod Ask
 pub mod Attaching
 pub mod Calls
+pub mod Cursors
 pub mod Fault
 pub mod Heads
 pub mod Kept

@@ -36,7 +36,7 @@ fn output_in(row: &Row, out: usize, err: usize) -> Result<Output, StoreFault>
 }
 
 /// The outputs in a row.
-fn outputs_in(row: &Row) -> Result<CaseOutputs, StoreFault>
+pub(crate) fn outputs_in(row: &Row) -> Result<CaseOutputs, StoreFault>
     requires { 4 ≤ length row.now }
     ensures outputs { (e : Entry) → row.now ≡ output_columns e
         → IfOk result (λ o. o ≡ outputs_of e) }

@@ -1,6 +1,7 @@
 //! Why a call of the store is refused, and the statements that SQLite is asked for.
 
 pub(crate) mod statements;
+pub(crate) mod trees;
 
 use thiserror::Error;
 
@@ -41,7 +42,8 @@ pub struct Shortage {
 }
 
 /// A statement failed, a value of a row could not be read, the file could not be opened or closed, or the connection
-/// is in a transaction. Only the functions of `statements` make this value.
+/// is in a transaction, a tree is damaged, or the database is only read. Only the functions of `statements` and `trees`
+/// make this value.
 #[derive(Clone, Copy, Debug, PartialEq, Eq)]
 pub struct FailedStatement {
     cause: Cause,
@@ -54,8 +56,12 @@ enum Cause {
     Reported,
     /// The connection is in a transaction, so none was begun.
     InTransaction,
+    /// A tree or an index is not what its schema says.
+    Damaged,
+    /// The database is only read, and was to be written.
+    ReadOnly,
 }
 
-/// A type of this module and of `statements`, so that no other can write a `Shortage`.
+/// A type of this module, of `statements` and of `trees`, so that no other can write a `Shortage`.
 #[derive(Clone, Copy, Debug, PartialEq, Eq)]
 struct Refusal;

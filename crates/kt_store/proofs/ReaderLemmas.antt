@@ -1,0 +1,81 @@
+-- How a store that is only read serves the calls of a store of runs.
+use Rattle.std.proofs.Common.{Result, Ok, Err, Bool, ◌≡◌, inl, inr, ℕ, List, [], ◌∷◌, ◌++◌, IsErrAnd, subst, sym, ap, ◌∙◌}
+use Rattle.kt_store.proofs.Common.{Trees, Ghosts, Entry, Run, IsStoreFault, AreNumbered, AreOrdered, KeepsOne, new_run, with_entry, finish, Serves, Agrees, StoreCall, Began, Put, Finished, Heads, Outline, Outputs, StoreFault}
+use Rattle.sqlite_trees.specs.View.{View, IsClean, KeepsSchema}
+use Rattle.kt_store.specs.declared.result_store.CaseOutputs.{CaseOutputs}
+use Rattle.kt_store.specs.declared.result_store.RunHead.{RunHead}
+use Rattle.kt_store.specs.declared.result_store.Keeping as store
+use Rattle.kt_store.specs.Inner.Cursors.{Looks}
+use Rattle.kt_store.specs.Seeks.{HasRuns}
+use Rattle.kt_store.proofs.SeenLemmas.{still_has}
+
+-- what is known of a store that is only read
+abbrev pub readings : {S : Type 0} → Ghosts S → store.Ghosts S
+readings g = record {
+  answers = λ _ _ _. Unit {0};
+  stands = λ s runs. HasRuns (g.view s) runs × AreNumbered 1 runs × (IsClean (g.view s) → AreOrdered runs);
+  sound = λ s. IsClean (g.view s);
+  leaves = λ s may. IsClean (g.view s) → (trees : Trees) → g.recovers s trees → KeepsOne may trees;
+  numbered = λ s runs h. h.1;
+  ordered = λ s runs h sound. h.2 sound;
+}
+
+module _ {S : Type 0} (g : Ghosts S) where
+  -- a call hands on the refusal of a part of it, and is seen as its store
+  pub refused_at : {T : Type 0} (call : Result T StoreFault → StoreCall) (inside now new : S) → inside ≡ now → (r : Result T StoreFault) (e : StoreFault) → IsErrAnd r (λ x. x ≡ e)
+      → Serves (readings g) (call (Err e)) inside new → Serves (readings g) (call r) now new
+  refused_at call inside now new is (Ok x) e h s = absurd h
+  refused_at call inside now new is (Err fault) e h s = subst (λ o. Serves (readings g) (call (Err fault)) o new) is (subst (λ f. Serves (readings g) (call (Err f)) inside new) (sym h) s)
+
+  pub read_at : (call : StoreCall) (inside now new : S) → inside ≡ now → Serves (readings g) call inside new → Serves (readings g) call now new
+  read_at call inside now new is s = subst (λ o. Serves (readings g) call o new) is s
+
+  schema_then : (u v w : View) → KeepsSchema u v → KeepsSchema v w → KeepsSchema u w
+  schema_then u v w first second = record {
+    shape = second.shape ∙ first.shape;
+    reals = second.reals ∙ first.reals;
+    committed_shape = second.committed_shape ∙ first.committed_shape;
+    committed_reals = second.committed_reals ∙ first.committed_reals;
+    numbered = second.numbered ∙ first.numbered;
+  }
+
+  pub looks_then : (old mid new : S) → Looks g old mid → Looks g mid new → Looks g old new
+  looks_then old mid new first second = record {
+    clean = λ clean. first.clean (second.clean clean);
+    schema = schema_then (g.view old) (g.view mid) (g.view new) first.schema second.schema;
+    same = λ clean sound.
+        let late = second.same clean sound in
+        late ∙ ap (λ (v : View). record v { cursors = (g.view new).cursors }) (first.same (second.clean clean) (ap (λ (v : View). v.is_broken) (sym late) ∙ sound));
+    outcomes = λ db found. first.outcomes db (second.outcomes db found);
+  }
+
+  -- a call that only reads
+  module _ (old new : S) (looks : Looks g old new) where
+    stays : (runs : List Run) → (readings g).stands old runs → (readings g).stands new runs
+    stays runs h = (still_has g old new looks runs h.0, h.1, λ clean. h.2 (looks.clean clean))
+
+    leaves : (may : List (List Run)) → (readings g).leaves old may → (readings g).leaves new may
+    leaves may h clean trees found = h (looks.clean clean) trees (looks.outcomes trees found)
+
+    pub heads_looked : (answer : Result (List RunHead) StoreFault) → ((runs : List Run) → HasRuns (g.view old) runs → IsClean (g.view new) → Agrees runs (Heads answer)) → Serves (readings g) (Heads answer) old new
+    heads_looked answer why = record { asked = tt; stands = stays; earlier = λ runs h clean. looks.clean clean; agrees = λ runs h clean. why runs h.0 clean; crash = λ runs may h. leaves may }
+
+    pub outline_looked : (number : ℕ) (pairs : Bool) (answer : Result (List Entry) StoreFault) → ((runs : List Run) → HasRuns (g.view old) runs → IsClean (g.view new) → Agrees runs (Outline number pairs answer)) → Serves (readings g) (Outline number pairs answer) old new
+    outline_looked number pairs answer why = record { asked = tt; stands = stays; earlier = λ runs h clean. looks.clean clean; agrees = λ runs h clean. why runs h.0 clean; crash = λ runs may h. leaves may }
+
+    pub outputs_looked : (number position : ℕ) (answer : Result CaseOutputs StoreFault) → ((runs : List Run) → HasRuns (g.view old) runs → IsClean (g.view new) → Agrees runs (Outputs number position answer)) → Serves (readings g) (Outputs number position answer) old new
+    outputs_looked number position answer why = record { asked = tt; stands = stays; earlier = λ runs h clean. looks.clean clean; agrees = λ runs h clean. why runs h.0 clean; crash = λ runs may h. leaves may }
+
+  -- a call that writes is refused
+  module _ (s : S) (fault : StoreFault) (failed : IsStoreFault fault) where
+    wider : (runs change : List Run) (may : List (List Run)) → (readings g).leaves s (runs ∷ may) → (readings g).leaves s (runs ∷ change ∷ may)
+    wider runs change may h clean trees found = elim (h clean trees found) [ inl one ↦ inl one | inr more ↦ inr (inr more) ]
+
+    pub begin_never : (total moment : ℕ) → Serves (readings g) (Began total moment (Err fault)) s s
+    begin_never total moment = record { asked = tt; stands = λ runs h. h; earlier = λ runs h clean. clean; agrees = λ runs h clean. inl failed; crash = λ runs may h. wider runs (runs ++ new_run runs total moment ∷ []) may }
+
+    pub put_never : (number : ℕ) (e : Entry) → Serves (readings g) (Put number e (Err fault)) s s
+    put_never number e = record { asked = tt; stands = λ runs h. h; earlier = λ runs h clean. clean; agrees = λ runs h clean. inl failed; crash = λ runs may h. wider runs (with_entry number e runs) may }
+
+    pub finish_never : (number : ℕ) → Serves (readings g) (Finished number (Err fault)) s s
+    finish_never number = record { asked = tt; stands = λ runs h. h; earlier = λ runs h clean. clean; agrees = λ runs h clean. inl failed; crash = λ runs may h. wider runs (finish number runs) may }

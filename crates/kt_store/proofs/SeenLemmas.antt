@@ -1,0 +1,84 @@
+-- What is shown of the rows that a cursor finds.
+use Rattle.std.proofs.Common.{◌≡◌, ℕ, suc, pos, List, [], ◌∷◌, ◌++◌, map, drop, filter, true, false, Some, None, Option, refl, sym, ap, ap₂, subst, ◌∙◌}
+use Rattle.kt_store.proofs.Common.{map-append, Ghosts, map-map, flat_map, option_to_list, Row, Entry, Variable, Run, Keeps, entry_row, entry_columns, output_columns, pair_rows, pair_rows_from, pair_columns, pairs_shown, head_columns, run_row, run_at, has_rowid, AreNumbered}
+use Rattle.sqlite_trees.specs.View.{View, Finds}
+use Rattle.kt_store.proofs.EntryLemmas.{back}
+use Rattle.kt_store.proofs.FindLemmas.{found_run}
+use Rattle.kt_store.specs.Inner.Cursors.{Looks, Shows, in_columns}
+use Rattle.kt_store.specs.Seeks.{HasRuns}
+
+-- columns that leave the rowid out
+abbrev pub LeavesRowid : List ℕ → Type 0
+LeavesRowid columns = (r : Row) → in_columns columns r ≡ in_columns columns (back (drop 1 r))
+
+pub seen : (columns : List ℕ) → LeavesRowid columns → (mine shown : List Row) → Shows columns mine shown → shown ≡ map (λ r. in_columns columns (back r)) mine
+seen columns leaves mine shown h = h.2 ∙ go h.0 ∙ ap (map (λ r. in_columns columns (back r))) h.1
+  where
+    go : (rows : List Row) → map (in_columns columns) rows ≡ map (λ r. in_columns columns (back r)) (map (drop 1) rows)
+    go [] = refl
+    go (r ∷ rows) = ap₂ (λ x xs. x ∷ xs) (leaves r) (go rows)
+
+abbrev pub entry_places : List ℕ
+entry_places = 2 ∷ 3 ∷ 4 ∷ 5 ∷ 6 ∷ 7 ∷ 8 ∷ []
+
+abbrev pub output_places : List ℕ
+output_places = 9 ∷ 10 ∷ 11 ∷ 12 ∷ []
+
+abbrev pub pair_places : List ℕ
+pair_places = 2 ∷ 4 ∷ 5 ∷ []
+
+entries_leave : LeavesRowid entry_places
+entries_leave [] = refl
+entries_leave (x ∷ r) = refl
+
+outputs_leave : LeavesRowid output_places
+outputs_leave [] = refl
+outputs_leave (x ∷ r) = refl
+
+pairs_leave : LeavesRowid pair_places
+pairs_leave [] = refl
+pairs_leave (x ∷ r) = refl
+
+pub seen_entries : (n : ℕ) (es : List Entry) (shown : List Row) → Shows entry_places (map (entry_row n) es) shown → shown ≡ map entry_columns es
+seen_entries n es shown h = seen entry_places entries_leave _ shown h ∙ map-map (λ r. in_columns entry_places (back r)) (entry_row n) es
+
+pub seen_outputs : (n : ℕ) (es : List Entry) (shown : List Row) → Shows output_places (map (entry_row n) es) shown → shown ≡ map output_columns es
+seen_outputs n es shown h = seen output_places outputs_leave _ shown h ∙ map-map (λ r. in_columns output_places (back r)) (entry_row n) es
+
+one_entry : (n p k : ℕ) (vs : List Variable) → map (λ r. in_columns pair_places (back r)) (pair_rows_from n p k vs) ≡ map (pair_columns p) vs
+one_entry n p k [] = refl
+one_entry n p k (v ∷ vs) = ap (λ l. pair_columns p v ∷ l) (one_entry n p (suc k) vs)
+
+all_entries : (n : ℕ) (es : List Entry) → map (λ r. in_columns pair_places (back r)) (flat_map (pair_rows n) es) ≡ pairs_shown es
+all_entries n [] = refl
+all_entries n (e ∷ es) = map-append (λ r. in_columns pair_places (back r)) (pair_rows n e) (flat_map (pair_rows n) es) ∙ ap₂ (λ x y. x ++ y) (one_entry n e.position 0 e.meta) (all_entries n es)
+
+pub seen_pairs : (n : ℕ) (es : List Entry) (shown : List Row) → Shows pair_places (flat_map (pair_rows n) es) shown → shown ≡ pairs_shown es
+seen_pairs n es shown h = seen pair_places pairs_leave _ shown h ∙ all_entries n es
+
+abbrev pub head_places : List ℕ
+head_places = 0 ∷ 2 ∷ 3 ∷ 4 ∷ []
+
+pub seen_heads : (runs : List Run) (table shown : List Row) → table ≡ map run_row runs → shown ≡ map (in_columns head_places) table → shown ≡ map head_columns runs
+seen_heads runs table shown are is = is ∙ ap (map (in_columns head_places)) are ∙ map-map (in_columns head_places) run_row runs
+
+-- a run is found by its rowid
+pub there_is : (runs : List Run) (n : ℕ) (table : List Row) (row : Row) → AreNumbered 1 runs → table ≡ map run_row runs → Finds table (pos n) row true → (r : Run) × (run_at runs n ≡ Some r)
+there_is runs n table row numbered are found = go (run_at runs n) (sym (found_run n runs numbered) ∙ ap (filter (has_rowid (pos n))) (sym are) ∙ found)
+  where
+    go : (o : Option Run) → map run_row (option_to_list o) ≡ row ∷ [] → (r : Run) × (o ≡ Some r)
+    go None is = absurd cc
+    go (Some r) is = (r, refl)
+
+pub there_is_none : (runs : List Run) (n : ℕ) (table : List Row) (row : Row) → AreNumbered 1 runs → table ≡ map run_row runs → Finds table (pos n) row false → run_at runs n ≡ None
+there_is_none runs n table row numbered are found = go (run_at runs n) (sym (found_run n runs numbered) ∙ ap (filter (has_rowid (pos n))) (sym are) ∙ found)
+  where
+    go : (o : Option Run) → map run_row (option_to_list o) ≡ [] → o ≡ None
+    go None is = refl
+    go (Some r) is = absurd cc
+
+-- what was only read still has its runs
+pub still_has : {S : Type 0} (g : Ghosts S) (old new : S) → Looks g old new → (runs : List Run) → HasRuns (g.view old) runs → HasRuns (g.view new) runs
+still_has g old new looks runs has clean sound =
+    let same = looks.same clean sound in
+    subst (Keeps runs) (ap (λ (v : View). v.trees) (sym same)) (has (looks.clean clean) (ap (λ (v : View). v.is_broken) (sym same) ∙ sound))

@@ -1,0 +1,18 @@
+use Rattle.std.proofs.Common.{◌≡◌, false, length, List, ℕ, IsSome}
+use Rattle.kt_store.proofs.Common.{AreWide, Row}
+use Rattle.sqlite_trees.specs.View.{IsClean}
+use Rattle.sqlite_trees.specs.declared.store.Shape.TheVariants.{Table}
+use Rattle.sqlite_exec.specs.Calls.{OnlyReads}
+use Rattle.sqlite_exec.specs.Loops.{left_of}
+use Rattle.kt_store.specs.Inner.Cursors.{Looks, Places}
+use Rattle.kt_store.proofs.BehindLemmas.{Halfway}
+use Rattle.kt_store.proofs.store_fault.trees.rows_behind.Given as goal
+
+abbrev pub invariant-places : goal.invariant-places
+invariant-places g l =
+    let old = g.S.Store.view l.fn.store in
+    let now = g.S.Store.view l.store in
+    IsSome (now.cursors 0) × (IsClean now → OnlyReads old now) × Looks g.S.Store l.fn.store l.store
+    × (IsClean now → (cs : List ℕ) (mine : List Row) (p : Places cs l.key mine (old.trees l.table) (old.trees l.index)) → Halfway l.columns cs l.key mine (old.trees l.table) (old.trees l.index) p (left_of now 0) l.rows.items)
+    × AreWide (length l.columns) l.rows.items × (IsClean now → old.is_broken ≡ false)
+    × (now.shape l.table ≡ Table)

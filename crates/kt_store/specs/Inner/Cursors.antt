@@ -1,0 +1,51 @@
+-- What cursors over the trees of a store find of its runs.
+use Rattle.std.specs.Prelude.{◌≡◌, ℕ, ℤ, false, true, Bool, List, [], ◌∷◌, ◌++◌, map, drop, take, filter}
+use Rattle.std.specs.List.{AllByRecursion}
+use Rattle.std.specs.Ordering.{is_eq}
+use Rattle.sqlite.specs.declared.types.Value.TheVariants.{Int}
+use Rattle.sqlite.specs.Order.{Row}
+use Rattle.sqlite_value.specs.Order.{column}
+use Rattle.sqlite_trees.specs.Tree.{Trees, rowid, has_rowid, from_key}
+use Rattle.sqlite_trees.specs.View.{IsClean, KeepsSchema}
+use Rattle.sqlite.specs.Store.{Ghosts}
+use Rattle.sqlite_value.specs.Keys.{plain, prefix_cmp}
+use Rattle.sqlite_sql.specs.Catalog.{entry_of}
+
+-- an entry of an index begins with the key
+abbrev pub begins : Row → Row → Bool
+begins key e = is_eq (prefix_cmp plain e key)
+
+-- the row is the one of its rowid
+abbrev pub IsAt : List Row → Row → Type 0
+IsAt table row = (id : ℤ) × (rowid row ≡ Int id) × (filter (has_rowid id) table ≡ row ∷ [])
+
+-- from a key on, an index of these columns has the places of rows that are these without their rowids, in this order, and then no more of the
+-- key
+pub record Places (columns : List ℕ) (key : Row) (mine table index : List Row) : Type 0 where
+  pub rows : List Row
+  pub are : map (drop 1) rows ≡ mine
+  pub each : AllByRecursion (IsAt table) rows
+  pub rest : List Row
+  pub found : from_key plain key index ≡ map (entry_of columns) rows ++ rest
+  pub hits : AllByRecursion (λ e. begins key e ≡ true) (map (entry_of columns) rows)
+  pub past : AllByRecursion (λ e. begins key e ≡ false) rest
+
+-- the values of a row in these columns
+abbrev pub in_columns : List ℕ → Row → Row
+in_columns columns row = map (column row) columns
+
+-- these columns of rows that are these without their rowids
+abbrev pub Shows : List ℕ → List Row → List Row → Type 0
+Shows columns mine shown = (rows : List Row) × (map (drop 1) rows ≡ mine) × (shown ≡ map (in_columns columns) rows)
+
+-- a cursor with these places left gave the next one, which begins with the key, or it has none that does
+abbrev pub Goes : Row → List Row → Row → List Row → Bool → Type 0
+Goes key old place new true = (old ≡ place ∷ new) × (begins key place ≡ true)
+Goes key old place new false = AllByRecursion (λ e. begins key e ≡ false) (take 1 old)
+
+-- a store was only read: it shows the same trees unless it is broken now, and a crash leaves what it left before
+pub record Looks {S : Type 0} (g : Ghosts S) (old new : S) : Type 0 where
+  pub clean : IsClean (g.view new) → IsClean (g.view old)
+  pub schema : KeepsSchema (g.view old) (g.view new)
+  pub same : IsClean (g.view new) → (g.view new).is_broken ≡ false → g.view new ≡ record (g.view old) { cursors = (g.view new).cursors }
+  pub outcomes : (db : Trees) → g.recovers new db → g.recovers old db
