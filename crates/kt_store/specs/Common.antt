@@ -25,12 +25,13 @@ pub use Rattle.kt_store.specs.Inner.Calls.{Statement, entry_statements, five_sta
 pub use Rattle.kt_store.specs.Inner.Cursors.{Goes, Looks, Places, Shows, in_columns}
 pub use Rattle.kt_store.specs.Inner.Fault.{Tells}
 pub use Rattle.kt_store.specs.Inner.Heads.{entry_columns, head_columns, output_columns, pair_columns, pairs_shown}
+pub use Rattle.kt_store.specs.Inner.Opening.{ListsRuns, OpensOver}
 pub use Rattle.kt_store.specs.Inner.Kept.{AsksNumber, Changes, CommitsNothing, FindsTables, KeepsRuns, LeavesSchema, MayChange, OnlyReads, WasClean}
 pub use Rattle.kt_store.specs.Inner.Runs.{CanAdd, IsBareIfPassed, IsComplete, entries_of}
 pub use Rattle.kt_store.specs.Inner.Transactions.{Commits, CommitsLater, MayCommit, RunsAll, RunsOne, Undoes}
 pub use Rattle.kt_store.specs.Inner.Whole.{AreAt}
 pub use Rattle.kt_store.specs.Runs.{AreNumbered, AreOrdered, AreRuns, IsEntry, IsPair, IsText, Keeps, KeepsOne, finish, finish_refusal, flag, has_position, kind_code, new_run, put_refusal, run_at, with_entry}
-pub use Rattle.kt_store.specs.Seeks.{HasRuns}
+pub use Rattle.kt_store.specs.Seeks.{HasRuns, ReadsRuns}
 pub use Rattle.kt_store.specs.Serving.{Reads, Serves}
 pub use Rattle.kt_store.specs.Stands.{IsUnderstood, Leaves, SaysSchema, StandsFor}
 pub use Rattle.kt_store.specs.StoreCalls.{Began, Finished, Heads, Outline, Outputs, Put, seen_as}

@@ -7,6 +7,7 @@ pub mod Fault
 pub mod Heads
 pub mod Kept
 pub mod NewFiles
+pub mod Opening
 pub mod Runs
 pub mod Transactions
 pub mod Whole

@@ -15,6 +15,7 @@ mod reader;
 mod result_store;
 mod results;
 mod run_rows;
+mod runs_file;
 mod seeks;
 mod store_fault;
 mod stored_kind;

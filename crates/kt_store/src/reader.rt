@@ -1,7 +1,9 @@
+use crate::runs_file::{has_bytes, options, store_over};
 use crate::seeks::{all_entries, find_outputs, heads, look};
 use crate::store_fault::trees::READ_ONLY;
 use crate::{CaseOutputs, Keeping, ResultStore, RunHead, StoreFault};
-use kt_base::Entry;
+use kt_base::{Entry, Text};
+use sqlite::{FileFrom, FileStore, Start};
 use sqlite_trees::store::Store;
 use std::alloc::Global;
 use std::marker::Model;
@@ -31,6 +33,28 @@ impl<S: Store> Reader<S> {
         ensures { result ≡ store }
     {
         Reader { store, alloc }
+    }
+}
+
+impl<S: Start> Reader<FileStore<FileFrom<S>>> {
+    ghost use Rattle.std.specs.Prelude.{IfSome};
+    ghost use Rattle.kt_store.specs.Common.{image_at, ReadsRuns};
+
+    /// Opens the results in a file that plainly is a database of schema 2, to be read alone. `S` stands for what the
+    /// file held, which no code reads. `None` of any other file, and of one that can't be opened or is damaged:
+    /// `Results::open` takes it, or tells why not.
+    pub fn open(rt: &HostRuntime, file: &Text, start: S) -> Option<Self>
+        ensures { IfSome result (ReadsRuns (image_at S.Start)) }
+    {
+        if !has_bytes(rt, file.as_str()) {
+            return None;
+        }
+        let Ok(files) = sqlite_std_file::open(rt, file.as_str(), start) else {
+            return None;
+        };
+        let options = options(rt)?;
+        let store = store_over(rt.alloc(), files, options)?;
+        Some(Reader::over(rt.alloc(), store))
     }
 }
 

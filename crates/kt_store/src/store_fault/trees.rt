@@ -55,13 +55,25 @@ fn add_column(values: &mut row::Row, row: &row::Row, at: usize) -> Result<(), No
 }
 
 /// These columns of a stored row.
-pub(crate) fn shown(alloc: Global, row: &row::Row, columns: &[usize]) -> Result<Row, NoMemory>
-    ensures { IfOk result (λ shown. shown ≡ in_columns columns.now row.now) }
+pub(crate) fn columns_of(
+    alloc: Global,
+    row: &row::Row,
+    columns: &[usize],
+) -> Result<row::Row, NoMemory>
+    ensures { IfOk result (λ values. values ≡ in_columns columns.now row.now) }
 {
     let mut values = row::Row::new(alloc);
     for at in columns {
         add_column(&mut values, row, *at)?;
     }
+    Ok(values)
+}
+
+/// The same, as a query shows them.
+fn shown(alloc: Global, row: &row::Row, columns: &[usize]) -> Result<Row, NoMemory>
+    ensures { IfOk result (λ shown. shown ≡ in_columns columns.now row.now) }
+{
+    let values = columns_of(alloc, row, columns)?;
     Ok(Row::from_row(alloc, &values)?)
 }
 

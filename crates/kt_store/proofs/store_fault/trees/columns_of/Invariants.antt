@@ -1,6 +1,6 @@
 use Rattle.std.proofs.Common.{◌≡◌, map, take}
 use Rattle.kt_store.proofs.Common.{column}
-use Rattle.kt_store.proofs.store_fault.trees.shown.Given as goal
+use Rattle.kt_store.proofs.store_fault.trees.columns_of.Given as goal
 
 abbrev pub invariant-loop-at : goal.invariant-loop-at
 invariant-loop-at l = l.values ≡ map (column l.row) (take l.at-index l.columns)

@@ -1,0 +1,34 @@
+use Rattle.std.proofs.Common.{◌≡◌, map, refl, sym, ap, subst, ◌∙◌}
+use Rattle.kt_store.proofs.Common.{rowid}
+use Rattle.sqlite_wal.specs.Files.{seen_image}
+use Rattle.sqlite_pool.specs.File.{in_use}
+use Rattle.sqlite_pool.specs.Pool
+use Rattle.sqlite_pool.specs.Stored.{Recovers}
+use Rattle.sqlite_trees.specs.declared.store.Shape.TheVariants.{Table}
+use Rattle.sqlite_store.specs.Db.{rows_at}
+use Rattle.sqlite_store.specs.Joined.{joined}
+use Rattle.sqlite_store.specs.Listing.{listed_from}
+use Rattle.sqlite_store.specs.Unopened.{state_of, wanted_by, image}
+use Rattle.sqlite.specs.Opening.{unrooted}
+use Rattle.kt_store.proofs.OpeningLemmas.{ids, layouts, fits_of}
+use Rattle.kt_store.proofs.runs_file.list_schema.Goals as goal
+
+pub returns-clause-lists : goal.returns-clause-lists
+returns-clause-lists g c done late =
+    let clean = sym (ap (λ p. (Pool.state p).is_clean) c.list_schema.ensures.files) ∙ late in
+    let old = c.args.files.now in
+    let size = (state_of old).page_size in
+    let new = c.list_schema.new.self in
+    let cat = c.in-Ok.ensures.ok clean in
+    let rows = c.in-Ok-without_roots.rows.items in
+    let read : rows ≡ map unrooted (rows_at size (in_use size cat.pages) Table 1) = c.in-Ok-without_roots.ensures ∙ ap (map unrooted) (c.as_slice.ensures.value ∙ cat.lists) in
+    let numbered : map rowid rows ≡ ids = subst (λ l. map rowid l ≡ ids) c.as_slice-2.ensures.value (c.if-not-are_objects.ensures refl) in
+    let listed : listed_from 0 (wanted_by new) ≡ joined rows layouts = (rw done at c.in-Ok-list_schema.ensures.ok) ∙ ap (λ l. joined l layouts) c.as_slice-3.ensures.value in
+    record {
+      honest = c.in-Ok.ensures.honest clean;
+      size = ap (λ p. (Pool.state p).page_size) c.list_schema.ensures.files ∙ (c.in-Ok.ensures.kept clean).size;
+      pages = cat.pages;
+      found = cat.found;
+      again = subst (λ p. Recovers size (seen_image g.D.Disk (Pool.files p).0 (Pool.files p).1) cat.pages) (sym c.list_schema.ensures.files) cat.again;
+      fits = fits_of size (image old) cat.pages cat.found (wanted_by new) rows read numbered listed;
+    }

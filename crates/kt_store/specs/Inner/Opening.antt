@@ -1,0 +1,34 @@
+-- From two files to a store that has the runs that they hold.
+use Rattle.std.specs.Prelude.{◌≡◌, true, List, IsTrue}
+use Rattle.sqlite_disk.specs.declared.Disk.{Ghosts}
+use Rattle.sqlite_wal.specs.Recovery.{Image}
+use Rattle.sqlite_pages.specs.PageMap.{PageMap}
+use Rattle.sqlite_pool.specs.Stored.{Recovers}
+use Rattle.sqlite_trees.specs.Tree.{Trees}
+use Rattle.sqlite_store.specs.declared.store.FileStore.{FileStore}
+use Rattle.sqlite_store.specs.declared.store.open.Unopened.{Unopened}
+use Rattle.sqlite_store.specs.FileStore.{view, recovers}
+use Rattle.sqlite_store.specs.Listing.{file_trees, IsOurs}
+use Rattle.sqlite_store.specs.Unopened.{state_of, wanted_by, image}
+use Rattle.sqlite.specs.Opening.{HoldsAt}
+use Rattle.kt_base.specs.declared.entry.Run.{Run}
+use Rattle.kt_store.specs.Runs.{Keeps}
+use Rattle.kt_store.specs.Seeks.{HoldsRuns}
+
+module _ {D : Type 0} {g : Ghosts D} (image : Image) (store : FileStore D g) where
+  -- a store is open and shows the runs that a file held, and a crash leaves them
+  pub record OpensOver : Type 0 where
+    pub is_open : IsTrue (view store).is_open
+    pub holds : (runs : List Run) → HoldsRuns image runs → Keeps runs (view store).trees
+    pub leaves : (runs : List Run) → HoldsRuns image runs → (trees : Trees) → recovers store trees → Keeps runs trees
+
+module _ {D : Type 0} {g : Ghosts D} (old new : Unopened D g) where
+  -- the files recover as before, and if they hold a database with runs it is one of the schema that is now wanted
+  pub record ListsRuns : Type 0 where
+    pub honest : IsTrue (state_of old).is_clean
+    pub size : (state_of new).page_size ≡ (state_of old).page_size
+    pub pages : PageMap
+    pub found : Recovers (state_of old).page_size (image old) pages
+    pub again : Recovers (state_of old).page_size (image new) pages
+    pub fits : (runs : List Run) (db : Trees) → HoldsAt (state_of old).page_size (image old) db → Keeps runs db
+        → IsOurs (state_of old).page_size true (wanted_by new) pages × (db ≡ file_trees (state_of old).page_size (wanted_by new) pages)

@@ -1,0 +1,223 @@
+ghost use Rattle.std.specs.Prelude.{◌≡◌, [], ◌∷◌, map, pos, IfOk, IfSome, IsTrue};
+ghost use Rattle.kt_store.specs.Common.{Int, OpensOver, ListsRuns, in_columns, column};
+ghost use Rattle.sqlite_trees.specs.Tree.{Trees, rowid};
+ghost use Rattle.sqlite_wal.specs.PageSize.{bytes_of};
+ghost use Rattle.sqlite_wal.specs.Reads.{AreClean, OnlyReads};
+ghost use Rattle.sqlite_store.specs.Unopened.{AreUsable, files_of, state_of};
+ghost use Rattle.sqlite_store.specs.FileStore.{view};
+ghost use Rattle.sqlite.specs.Files.{HoldsDatabase, image_of};
+
+use crate::store_fault::trees::columns_of;
+use kt_base::NoMemory;
+use sqlite_disk::{Disk, Files};
+use sqlite_pager::{Options, Pager};
+use sqlite_store::{FileStore, Unopened};
+use sqlite_trees::store::Shape;
+use sqlite_value::keys::Order;
+use sqlite_value::order::is_same;
+use sqlite_value::row::Row;
+use sqlite_value::value::ValueRef;
+use sqlite_wal::{PageSize, probe_first_page, probe_page_size};
+use std::alloc::Global;
+use std::fs;
+use std::hash::{BuildHasher, RandomState};
+use std::rt::Files as FileSystem;
+
+/// Bytes 20 to 23 of a database whose pages end in sums of their bytes.
+const WITH_SUMS: u32 = 0x0840_2020;
+
+/// The trees of schema 2.
+const LAYOUTS: [(Shape, u64); 7] = [
+    (Shape::Table, 0),
+    (Shape::Index(Order::PLAIN), 0),
+    (Shape::Table, 0),
+    (Shape::Table, 0),
+    (Shape::Index(Order::PLAIN), 0),
+    (Shape::Table, 0),
+    (Shape::Index(Order::PLAIN), 0),
+];
+
+// The texts of the tables, as `attach` makes them.
+
+const CREATE_META: &str =
+    "CREATE TABLE meta (name TEXT PRIMARY KEY, value INTEGER NOT NULL) STRICT";
+
+const CREATE_RUNS: &str =
+    "CREATE TABLE runs (id INTEGER PRIMARY KEY, started INTEGER NOT NULL, total INTEGER NOT NULL, finished INTEGER NOT NULL CHECK (finished IN (0, 1))) STRICT";
+
+const CREATE_ENTRIES: &str =
+    "CREATE TABLE entries (run INTEGER NOT NULL REFERENCES runs (id), position INTEGER NOT NULL, program TEXT NOT NULL, case_name TEXT NOT NULL, kind INTEGER NOT NULL CHECK (kind BETWEEN 0 AND 4), reason TEXT NOT NULL, started INTEGER NOT NULL, millis INTEGER NOT NULL, body_out BLOB NOT NULL, body_err BLOB NOT NULL, clean_out BLOB NOT NULL, clean_err BLOB NOT NULL, PRIMARY KEY (run, position)) STRICT";
+
+const CREATE_PROPS: &str =
+    "CREATE TABLE props (run INTEGER NOT NULL, position INTEGER NOT NULL, place INTEGER NOT NULL, name TEXT NOT NULL, value TEXT NOT NULL, PRIMARY KEY (run, position, place)) STRICT";
+
+/// Whether a path names a file that is not empty, and that SQLite would not take for something else.
+pub(crate) fn has_bytes<R: FileSystem>(rt: &R, path: &str) -> bool {
+    if path == ":memory:" || path.starts_with("file:") {
+        return false;
+    }
+    match fs::symlink_metadata(rt, path) {
+        Ok(found) => found.is_file() && found.len() > 0,
+        Err(_missing) => false,
+    }
+}
+
+/// A report reads most pages once, so few are kept.
+pub(crate) fn options(rt: &HostRuntime) -> Option<Options> {
+    let state = RandomState::new(rt).ok()?;
+    let mut options = Options::new(state.hash_one(&0u8));
+    options.cache_pages = 64;
+    options.spill_pages = 64;
+    Some(options)
+}
+
+/// The page size of a database whose pages end in no sums.
+fn plain_size<D: Disk>(alloc: Global, files: &mut Files<D>) -> Option<PageSize>
+    requires log { IsTrue (D.Disk.is_usable files.old.log) }
+    requires db { IsTrue (D.Disk.is_usable files.old.db) }
+    ensures size { IfSome result (λ size. AreClean D.Disk files.new.log files.new.db → (db : Trees)
+        (held : HoldsDatabase (image_of D.Disk files.old) db) → held.0 ≡ bytes_of size) }
+    ensures log { OnlyReads D.Disk files.old.log files.new.log }
+    ensures db { OnlyReads D.Disk files.old.db files.new.db }
+{
+    let Ok(found) = probe_page_size(files) else {
+        return None;
+    };
+    let size = found?;
+    let Ok(head) = probe_first_page(alloc, files, size) else {
+        return None;
+    };
+    if head.0 != b'S' {
+        return None;
+    }
+    if head.1 == WITH_SUMS {
+        return None;
+    }
+    Some(size)
+}
+
+fn unopened<D: Disk + Drop>(
+    alloc: Global,
+    files: Files<D>,
+    size: PageSize,
+    options: Options,
+) -> Option<Unopened<D>>
+    ensures files { IfSome result (λ it. files_of it ≡ (files.log, files.db)) }
+    ensures size { IfSome result (λ it. (state_of it).page_size ≡ bytes_of size) }
+{
+    let Ok(pager) = Pager::new(alloc, files, size, options) else {
+        return None;
+    };
+    let Ok(fresh) = Unopened::with_sums(alloc, pager, &[], false) else {
+        return None;
+    };
+    Some(fresh)
+}
+
+/// The rows of `sqlite_schema` less their roots.
+fn without_roots(alloc: Global, listed: &[Row]) -> Result<Vec<Row>, NoMemory>
+    ensures { IfOk result (λ rows. rows.items
+        ≡ map (in_columns (0 ∷ 1 ∷ 2 ∷ 3 ∷ 5 ∷ [])) listed.now) }
+{
+    let mut rows = Vec::new(alloc);
+    for entry in listed {
+        rows.push(columns_of(alloc, entry, &[0, 1, 2, 3, 5])?)?;
+    }
+    Ok(rows)
+}
+
+/// Whether a row is of an object with this rowid, kind, name, table and text. An index of a key has no text.
+fn is_object(row: &Row, id: i64, kind: &str, name: &str, table: &str, sql: &str) -> bool
+    ensures { IsTrue result → column row.now 0 ≡ Int id }
+{
+    let text = if sql.is_empty() {
+        ValueRef::Null
+    } else {
+        ValueRef::Text(sql.as_bytes())
+    };
+    is_same(row.get(0), ValueRef::Int(id))
+        && is_same(row.get(1), ValueRef::Text(kind.as_bytes()))
+        && is_same(row.get(2), ValueRef::Text(name.as_bytes()))
+        && is_same(row.get(3), ValueRef::Text(table.as_bytes()))
+        && is_same(row.get(4), text)
+}
+
+/// Whether these rows are those of schema 2 (docs/formats/store.md).
+fn are_objects(rows: &[Row]) -> bool
+    ensures { IsTrue result → map rowid rows.now
+        ≡ Int (pos 1) ∷ Int (pos 2) ∷ Int (pos 3) ∷ Int (pos 4) ∷ Int (pos 5) ∷ Int (pos 6)
+        ∷ Int (pos 7) ∷ [] }
+{
+    let [meta, meta_key, runs, entries, entries_key, props, props_key] = rows else {
+        return false;
+    };
+    is_object(meta, 1, "table", "meta", "meta", CREATE_META)
+        && is_object(meta_key, 2, "index", "sqlite_autoindex_meta_1", "meta", "")
+        && is_object(runs, 3, "table", "runs", "runs", CREATE_RUNS)
+        && is_object(entries, 4, "table", "entries", "entries", CREATE_ENTRIES)
+        && is_object(
+            entries_key,
+            5,
+            "index",
+            "sqlite_autoindex_entries_1",
+            "entries",
+            "",
+        )
+        && is_object(props, 6, "table", "props", "props", CREATE_PROPS)
+        && is_object(
+            props_key,
+            7,
+            "index",
+            "sqlite_autoindex_props_1",
+            "props",
+            "",
+        )
+}
+
+/// Gives the files the schema that they list, if that is schema 2.
+fn list_schema<D: Disk>(alloc: Global, files: &mut Unopened<D>) -> bool
+    requires { AreUsable files.old }
+    ensures usable { IsTrue result → AreUsable files.new }
+    ensures lists { IsTrue result → IsTrue (state_of files.new).is_clean
+        → ListsRuns files.old files.new }
+{
+    let Ok(listed) = files.read_catalog() else {
+        return false;
+    };
+    let Ok(rows) = without_roots(alloc, listed.as_slice()) else {
+        return false;
+    };
+    if !are_objects(rows.as_slice()) {
+        return false;
+    }
+    if rows.len() != 7 {
+        return false;
+    }
+    let Ok(is_listed) = files.list_schema(rows.as_slice(), &LAYOUTS) else {
+        return false;
+    };
+    is_listed
+}
+
+/// Opens files that plainly hold a database of schema 2, whose pages end in no sums. Their log is recovered.
+pub(crate) fn store_over<D: Disk + Drop>(
+    alloc: Global,
+    files: Files<D>,
+    options: Options,
+) -> Option<FileStore<D>>
+    requires log { IsTrue (D.Disk.is_usable files.log) }
+    requires db { IsTrue (D.Disk.is_usable files.db) }
+    ensures { IfSome result (λ store. IsTrue (view store).is_clean
+        → OpensOver (image_of D.Disk files) store) }
+{
+    let mut pair = files;
+    let size = plain_size(alloc, &mut pair)?;
+    let mut fresh = unopened(alloc, pair, size, options)?;
+    if !list_schema(alloc, &mut fresh) {
+        return None;
+    }
+    match fresh.open_numbered() {
+        Ok(store) => Some(store),
+        Err(_refused) => None,
+    }
+}
