@@ -8,7 +8,7 @@ use Rattle.sqlite_pool.specs.File.{in_use, version_in}
 use Rattle.sqlite_pool.specs.Stored.{Recovers}
 use Rattle.sqlite_pool.specs.StoredLaws.{recovers_once}
 use Rattle.sqlite_pool.proofs.ResealLemmas.{plain_adopts}
-use Rattle.sqlite_trees.specs.View.{View}
+use Rattle.sqlite_trees.specs.View.{View, IsClean}
 use Rattle.sqlite_trees.specs.Objects.{catalog_tree, number_in, with_version}
 use Rattle.sqlite_trees.specs.declared.store.Shape.{Shape}
 use Rattle.sqlite_trees.specs.declared.store.Shape.TheVariants as kind
@@ -26,6 +26,8 @@ use Rattle.sqlite_disk.specs.declared.Disk.{Ghosts}
 use Rattle.sqlite_store.specs.declared.store.FileStore.{FileStore}
 use Rattle.sqlite_store.specs.FileStore.{view}
 use Rattle.sqlite_trees.proofs.Doubt.{clean_of}
+use Rattle.sqlite.specs.Files.{over_files}
+use Rattle.kt_store.specs.Inner.Cursors.{Looks}
 use Rattle.kt_store.specs.Inner.Opening.{OpensOver}
 use Rattle.kt_store.specs.Seeks.{ReadsRuns}
 
@@ -90,7 +92,14 @@ ordered_of (r ∷ runs) each = (each.0.ordered, ordered_of runs each.1)
 -- what is open over a file reads its runs
 pub reads_runs : {D : Type 0} {g : Ghosts D} (image : Image) (store : FileStore D g) → (IsTrue (view store).is_clean → OpensOver image store) → ReadsRuns image store
 reads_runs image store opens = record {
-  is_open = λ clean. (opens (clean_of _ clean)).is_open;
-  stands = λ runs h. (λ clean sound. (opens (clean_of _ clean)).holds runs h, h.2.3.valid.numbered, λ clean. ordered_of runs h.2.3.valid.each);
+  stands = λ runs h. (λ clean sound. (opens (clean_of _ clean)).holds runs h sound, h.2.3.valid.numbered, λ clean. ordered_of runs h.2.3.valid.each);
   leaves = λ runs h clean trees found. (opens (clean_of _ clean)).leaves runs h trees found;
+}
+
+-- and so it does once it was looked at
+pub still_over : {D : Type 0} {g : Ghosts D} (image : Image) (old new : FileStore D g) → Looks over_files old new → IsClean (view new) → OpensOver image old → OpensOver image new
+still_over image old new looks clean opens = record {
+  holds = λ runs h sound. let same = looks.same clean sound in
+      subst (Keeps runs) (ap (λ (v : View). v.trees) (sym same)) (opens.holds runs h (ap (λ (v : View). v.is_broken) (sym same) ∙ sound));
+  leaves = λ runs h trees found. opens.leaves runs h trees (looks.outcomes trees found);
 }

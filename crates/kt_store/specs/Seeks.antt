@@ -1,5 +1,5 @@
 -- When a store whose trees are read stands for a list of runs.
-use Rattle.std.specs.Prelude.{◌≡◌, false, List, IsTrue}
+use Rattle.std.specs.Prelude.{◌≡◌, false, List}
 use Rattle.sqlite_disk.specs.declared.Disk as disk
 use Rattle.sqlite_wal.specs.Recovery.{Image}
 use Rattle.sqlite_trees.specs.Tree.{Trees}
@@ -21,6 +21,5 @@ HoldsRuns image runs = (db : Trees) × HoldsDatabase image db × Keeps runs db
 module _ {D : Type 0} {g : disk.Ghosts D} where
   -- a store that was opened over a file stands for the runs that the file held, and a crash leaves them
   pub record ReadsRuns (image : Image) (store : FileStore D g) : Type 0 where
-    pub is_open : IsClean (view store) → IsTrue (view store).is_open
     pub stands : (runs : List Run) → HoldsRuns image runs → HasRuns (view store) runs × AreNumbered 1 runs × (IsClean (view store) → AreOrdered runs)
     pub leaves : (runs : List Run) → HoldsRuns image runs → IsClean (view store) → (trees : Trees) → recovers store trees → Keeps runs trees

@@ -1,4 +1,4 @@
-use crate::runs_file::{has_bytes, options, store_over};
+use crate::runs_file::{has_bytes, options, runs_over};
 use crate::seeks::{all_entries, find_outputs, heads, look};
 use crate::store_fault::trees::READ_ONLY;
 use crate::{CaseOutputs, Keeping, ResultStore, RunHead, StoreFault};
@@ -53,7 +53,7 @@ impl<S: Start> Reader<FileStore<FileFrom<S>>> {
             return None;
         };
         let options = options(rt)?;
-        let store = store_over(rt.alloc(), files, options)?;
+        let store = runs_over(rt.alloc(), files, options)?;
         Some(Reader::over(rt.alloc(), store))
     }
 }

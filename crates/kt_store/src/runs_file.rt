@@ -1,5 +1,5 @@
 ghost use Rattle.std.specs.Prelude.{◌≡◌, [], ◌∷◌, map, pos, IfOk, IfSome, IsTrue};
-ghost use Rattle.kt_store.specs.Common.{Int, OpensOver, ListsRuns, in_columns, column};
+ghost use Rattle.kt_store.specs.Common.{Int, Looks, OpensOver, ListsRuns, in_columns, column};
 ghost use Rattle.sqlite_trees.specs.Tree.{Trees, rowid};
 ghost use Rattle.sqlite_wal.specs.PageSize.{bytes_of};
 ghost use Rattle.sqlite_wal.specs.Reads.{AreClean, OnlyReads};
@@ -7,12 +7,12 @@ ghost use Rattle.sqlite_store.specs.Unopened.{AreUsable, files_of, state_of};
 ghost use Rattle.sqlite_store.specs.FileStore.{view};
 ghost use Rattle.sqlite.specs.Files.{HoldsDatabase, image_of};
 
-use crate::store_fault::trees::columns_of;
+use crate::store_fault::trees::{columns_of, rows_of};
 use kt_base::NoMemory;
 use sqlite_disk::{Disk, Files};
 use sqlite_pager::{Options, Pager};
 use sqlite_store::{FileStore, Unopened};
-use sqlite_trees::store::Shape;
+use sqlite_trees::store::{Shape, Store};
 use sqlite_value::keys::Order;
 use sqlite_value::order::is_same;
 use sqlite_value::row::Row;
@@ -25,6 +25,9 @@ use std::rt::Files as FileSystem;
 
 /// Bytes 20 to 23 of a database whose pages end in sums of their bytes.
 const WITH_SUMS: u32 = 0x0840_2020;
+
+/// The tree of the table that has the schema's number.
+const META: u32 = 0;
 
 /// The trees of schema 2.
 const LAYOUTS: [(Shape, u64); 7] = [
@@ -199,8 +202,8 @@ fn list_schema<D: Disk>(alloc: Global, files: &mut Unopened<D>) -> bool
     is_listed
 }
 
-/// Opens files that plainly hold a database of schema 2, whose pages end in no sums. Their log is recovered.
-pub(crate) fn store_over<D: Disk + Drop>(
+/// Opens files that hold the tables of schema 2, in pages that end in no sums. Their log is recovered.
+fn store_over<D: Disk + Drop>(
     alloc: Global,
     files: Files<D>,
     options: Options,
@@ -220,4 +223,38 @@ pub(crate) fn store_over<D: Disk + Drop>(
         Ok(store) => Some(store),
         Err(_refused) => None,
     }
+}
+
+/// Whether the tables say that they are those of schema 2.
+fn says_2<S: Store>(store: &mut S, alloc: Global) -> bool
+    ensures { Looks S.Store store.old store.new }
+{
+    let Ok(rows) = rows_of(store, alloc, META, &[1, 2]) else {
+        return false;
+    };
+    let [row] = rows.as_slice() else {
+        return false;
+    };
+    let (Ok(name), Ok(value)) = (row.get_ref(0), row.get_ref(1)) else {
+        return false;
+    };
+    is_same(name, ValueRef::Text(b"schema")) && is_same(value, ValueRef::Int(2))
+}
+
+/// Opens files that plainly hold a database of schema 2.
+pub(crate) fn runs_over<D: Disk + Drop>(
+    alloc: Global,
+    files: Files<D>,
+    options: Options,
+) -> Option<FileStore<D>>
+    requires log { IsTrue (D.Disk.is_usable files.log) }
+    requires db { IsTrue (D.Disk.is_usable files.db) }
+    ensures { IfSome result (λ store. IsTrue (view store).is_clean
+        → OpensOver (image_of D.Disk files) store) }
+{
+    let mut store = store_over(alloc, files, options)?;
+    if !says_2(&mut store, alloc) {
+        return None;
+    }
+    Some(store)
 }

@@ -1,5 +1,5 @@
 -- From two files to a store that has the runs that they hold.
-use Rattle.std.specs.Prelude.{◌≡◌, true, List, IsTrue}
+use Rattle.std.specs.Prelude.{◌≡◌, true, false, List, IsTrue}
 use Rattle.sqlite_disk.specs.declared.Disk.{Ghosts}
 use Rattle.sqlite_wal.specs.Recovery.{Image}
 use Rattle.sqlite_pages.specs.PageMap.{PageMap}
@@ -16,10 +16,9 @@ use Rattle.kt_store.specs.Runs.{Keeps}
 use Rattle.kt_store.specs.Seeks.{HoldsRuns}
 
 module _ {D : Type 0} {g : Ghosts D} (image : Image) (store : FileStore D g) where
-  -- a store is open and shows the runs that a file held, and a crash leaves them
+  -- a store shows the runs that a file held, unless it is broken, and a crash leaves them
   pub record OpensOver : Type 0 where
-    pub is_open : IsTrue (view store).is_open
-    pub holds : (runs : List Run) → HoldsRuns image runs → Keeps runs (view store).trees
+    pub holds : (runs : List Run) → HoldsRuns image runs → (view store).is_broken ≡ false → Keeps runs (view store).trees
     pub leaves : (runs : List Run) → HoldsRuns image runs → (trees : Trees) → recovers store trees → Keeps runs trees
 
 module _ {D : Type 0} {g : Ghosts D} (old new : Unopened D g) where

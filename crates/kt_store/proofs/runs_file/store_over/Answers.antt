@@ -45,7 +45,6 @@ returns-in-Ok g c now =
     let trees : (view store).trees ≡ h.0 = reads ∙ ap (λ p. file_trees size (wanted_by mid) p) (sym same) ∙ sym (listed.fits runs h.0 held h.2).1 in
     subst (Keeps runs) (sym trees) h.2 in
     record {
-      is_open = opened;
-      holds = holds;
+      holds = λ runs h sound. holds runs h;
       leaves = λ runs h trees found. subst (Keeps runs) (sym (settled_at store g.met.D.Disk.seen_may_stay trees opened found ∙ sym it.ready.clean)) (holds runs h);
     }
