@@ -99,6 +99,7 @@ fn entry_rows<S: Store>(store: &mut S, alloc: Global, run: u64) -> Result<Vec<Ro
         alloc,
         ENTRIES,
         ENTRIES_BY_KEY,
+        &[1, 2],
         &key,
         &[2, 3, 4, 5, 6, 7, 8],
     )?;
@@ -124,7 +125,15 @@ fn pair_rows<S: Store>(
         return Ok(Vec::new(alloc));
     }
     let key = run_key(alloc, run)?;
-    let rows = rows_behind(store, alloc, PAIRS, PAIRS_BY_KEY, &key, &[2, 4, 5])?;
+    let rows = rows_behind(
+        store,
+        alloc,
+        PAIRS,
+        PAIRS_BY_KEY,
+        &[1, 2, 3],
+        &key,
+        &[2, 4, 5],
+    )?;
     Ok(rows)
 }
 
@@ -171,6 +180,7 @@ fn output_rows<S: Store>(
         alloc,
         ENTRIES,
         ENTRIES_BY_KEY,
+        &[1, 2],
         &key,
         &[9, 10, 11, 12],
     )?;

@@ -142,12 +142,14 @@ fn read_row<S: Store>(
     Ok(())
 }
 
-/// These columns of the rows of a table that an index has under a key, in its order. One row is held at a time.
+/// These columns of the rows of a table that an index of other columns has under a key, in its order. One row is held
+/// at a time. A place of another row is damage.
 pub(crate) fn rows_behind<S: Store>(
     store: &mut S,
     alloc: Global,
     table: u32,
     index: u32,
+    indexed: &[usize],
     key: &row::Row,
     columns: &[usize],
 ) -> Result<Vec<Row>, StoreFault>
@@ -175,6 +177,10 @@ pub(crate) fn rows_behind<S: Store>(
             return Ok(rows);
         }
         read_row(store, table, &place, &mut row)?;
+        let own = columns_of(alloc, &row, indexed)?;
+        if place.cmp_prefix(Order::PLAIN, &own) != Ordering::Equal {
+            return Err(DAMAGED);
+        }
         add(&mut rows, shown(alloc, &row, columns)?)?;
     }
     Err(DAMAGED)
