@@ -125,6 +125,7 @@ rule 'names the error of a refused allocation' paths '(^|[^A-Za-z])OutOfMemory([
 # What a system call, SQLite and clap say of their own refusal is told apart from their other errors.
 kt_base/src/no_memory.rt
 kt_store/src/store_fault/statements.rt
+kt_store/src/store_fault/trees.rt
 kt_words/src/command_fault.rt
 PLACES
 body kt_cli/src/host/performing.rt 'let around = match platform.surroundings() {' <<'BODY'
@@ -145,9 +146,8 @@ BODY
 rule 'asks for memory of a chosen size' lines \
   '(with_capacity|from_elem|(^|[^_])reserve[a-z_]*|repeat[a-z_]*|resize[a-z_]*|allocate[a-z_]*)[(]|vec!\[[^\]]*;|Layout' <<'PLACES'
 # Room for one child, which runs at most 256 times over, and for the cleanups that are due.
-kt_child/src/driving/running_children.rt: cases.reserve(1)?;
 kt_child/src/driving/running_children.rt: children.reserve(1)?;
-kt_child/src/driving/running_children.rt: pending.reserve(cases.len() + 1)?;
+kt_child/src/driving/running_children.rt: pending.reserve(children.len() + 1)?;
 # An exit for each command that was given; the program gives none here.
 kt_cli/src/commands/execution.rt: let mut exits = Vec::with_capacity(alloc, commands.len())?;
 # A block that is given back at once. What became of it is not looked at.
@@ -173,8 +173,8 @@ body kt_plan/src/options/configuring.rt 'for word in words {' <<'BODY'
 let _all = vec![in alloc; 0u8; usize::MAX]?;
 for word in words {
 BODY
-body kt_child/src/driving/running_children.rt 'cases.reserve(1)?;' <<'BODY'
-cases.reserve(usize::MAX)?;
+body kt_child/src/driving/running_children.rt 'children.reserve(1)?;' <<'BODY'
+children.reserve(usize::MAX)?;
 BODY
 
 # A value for which no refused allocation is needed, or a line that tells of one. An arm that takes such a value isn't meant.
@@ -226,6 +226,8 @@ kt_base/src/phrase.rt: Phrase::NoMemoryToStart => "Test case could not be starte
 kt_base/src/parts.rt: " bytes of physical memory but only ",
 kt_metadata/src/meta.rt: required_memory: self.size("required_memory"),
 kt_metadata/src/table.rt: ("required_memory", "require.memory", Form::Size),
+# A name that SQLite takes for no file.
+kt_store/src/runs_file.rt: if path == ":memory:" || path.starts_with("file:") {
 PLACES
 body kt_cli/src/commands/testing.rt 'let moment = world.now();' <<'BODY'
 if options.filters.len() > 300 { return ended(emit_all(&[b"kyua: E: out of memory\n"], out), FAILED); }
@@ -368,8 +370,9 @@ BODY
 # By another name none of the rules above would find a value.
 types='(Refused|SinkFault|Claim|TapFault|ListBytes|ReadEnd|NextPart|OsFault|ReadFault)'
 rule 'gives a name to what has one' lines "[A-Za-z] as [A-Z][A-Za-z]*([,;}]|\$)|::[*]|type [A-Z].*= .*$types|use .*$types::" <<'PLACES'
-# The result of what is displayed, a trait whose name another one has, and the error of SQLite, which has rules of its own.
+# The result of what is displayed, two traits whose names others have, and the error of SQLite, which has rules of its own.
 kt_store/src/store_fault/statements.rt: Alter, Connection, Error as SqlError, ErrorCode, FileFrom, FileStore, Row, Start, Transaction,
+kt_store/src/runs_file.rt: use std::rt::Files as FileSystem;
 kt_atflist/src/list_fault.rt: use std::fmt::{Formatter, Result as Shown, Write};
 kt_suite/src/fault.rt: use std::fmt::{Display, Formatter, Result as Shown, Write as FormatWrite};
 PLACES
