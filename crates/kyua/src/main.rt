@@ -107,7 +107,7 @@ fn run<S: Past>(rt: &HostRuntime, past: PhantomData<S>) -> ExitCode {
     ExitCode::from(exit.status)
 }
 
-/// In bytes.
+/// In bytes. The C library lets blocks of at most twice this size count.
 const LARGE_BLOCK: usize = 16_777_216;
 
 /// Has the C library keep the memory of large outputs, which it would give back to the system and take again for each:
