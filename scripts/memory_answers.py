@@ -301,8 +301,9 @@ class Commands:
                 return None if is_block(due.lines, got.lines, [[MEMORY]]) else "the list is another one"
             if got.kind == "test":
                 self.printed = (got.cases, False)
+            # The results are closed behind the whole page.
             front = "\n".join(got.lines)[:-len(MEMORY)]
-            return None if "\n".join(due.lines).startswith(front) else "what stands before the fault is not a front of what is due"
+            return None if f"{whole}\n".startswith(front) else "what stands before the fault is not a front of what is due"
         if got.kind == "list":
             return self.listed(due, got)
         if got.kind == "test":
