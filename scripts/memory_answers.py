@@ -271,11 +271,13 @@ class Commands:
         return self.shown(due, got)
 
     def lists(self, due_lines, got_lines):
-        """Of several lists one says that memory ran out, and its exit is 2, or one is of a program whose list could not be had."""
+        """Of several lists one says that memory ran out, and its exit is 2, or one and all behind it, since the scripted platform keeps a
+        refusal, or one is of a program whose list could not be had."""
         exits, due_exits = got_lines[-1].split(), due_lines[-1].split()
-        if is_block(due_lines[:-1], got_lines[:-1], [[MEMORY]]):
-            changed = [(one, other) for one, other in zip(due_exits, exits) if one != other]
-            return None if len(changed) == 1 and changed[0][1] == "2" and len(exits) == len(due_exits) else "other exits"
+        changed = [place for place, pair in enumerate(zip(due_exits, exits)) if pair[0] != pair[1]]
+        if changed and is_block(due_lines[:-1], got_lines[:-1], [[MEMORY] * len(changed)]):
+            is_right = len(changed) == 1 or changed == list(range(changed[0], len(exits)))
+            return None if is_right and len(exits) == len(due_exits) and all(exits[place] == "2" for place in changed) else "other exits"
         return self.listed(Part("list", [], due_lines, 0), Part("list", [], got_lines, 0))
 
     def begins(self, due, got):
