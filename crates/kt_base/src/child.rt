@@ -9,7 +9,7 @@ pub enum Interface {
 }
 
 /// What a start asks of a test case: its body, or the cleanup that an ATF case may declare.
-#[derive(Clone, Copy, Debug, PartialEq, Eq)]
+#[derive(Clone, Copy, Debug, PartialEq, Eq, Hash)]
 pub enum Role {
     Body,
     Cleanup,

@@ -48,11 +48,14 @@ impl<R: ResultStore + Drop> ScriptedPlatform<R> {
         }
     }
 
-    /// Keeps the word of a call, or the refusal of memory for it.
+    /// Keeps the word of a call, or the refusal of memory for it, which is told once.
     fn note(&mut self, word: &str, file: &str) -> Result<(), NoMemory> {
+        let was_refused = self.calls.so_far().is_err();
         self.calls.separate(", ");
         self.calls.push_all(&[word, file]);
-        self.calls.so_far()?;
+        if !was_refused {
+            self.calls.so_far()?;
+        }
         Ok(())
     }
 
