@@ -85,9 +85,9 @@ IsLate limit told millis = (told < 100 * limit) × (10 * (told + 2) < millis)
 abbrev pub IsFree : ℕ → ℕ → Type 0
 IsFree limit told = told + 1 ≤ 50 * limit
 
--- the microseconds of a slice after this many: in the first pause after an end each is an eighth longer, from 50 on
+-- the microseconds of a slice after this many: in the first pause after an end each is longer by a sixteenth of them, from 50 on
 abbrev pub whole_slice : Bool → ℕ → ℕ
-whole_slice first micros = if first then 50 + micros / 8 else 500
+whole_slice first micros = if first then 50 + micros / 16 else 350
 
 -- and of those, as many as are left of 10,000
 abbrev pub next_slice : Bool → ℕ → ℕ

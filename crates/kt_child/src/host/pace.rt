@@ -17,7 +17,7 @@ fn whole_slice(first: bool, micros: u64) -> u64
     ensures value { result ≡ whole_slice first micros }
     ensures moves { 0 < result }
 {
-    if first { 50 + micros / 8 } else { 500 }
+    if first { 50 + micros / 16 } else { 350 }
 }
 
 /// The microseconds of the next slice of a pause, after this many.
