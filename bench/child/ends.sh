@@ -1,20 +1,25 @@
 #!/usr/bin/env bash
-# Says how late the end of a case is seen: a hundred programs sleep 21 ms each, after one of 300 ms, and most must be over by 27 ms
-# for their times. A runner that doesn't look for an end within a pause of 10 ms sees it at 30. Exits with 1 if that isn't so.
+# Says how late the end of a case is seen: half of the programs that sleep 5 ms must be over by 9 ms for their times, since a runner
+# that doesn't look for an end within a pause of 10 ms sees it behind that, and half of those that sleep 200 ms by 204, since one whose
+# pauses end early looks no more by then. Exits with 1 if that isn't so.
 # KYUA names the program to measure; else the one that kyua.sh runs. It wants a quiet machine, or `chrt -f 1` in front of it.
 set -eu
 . "$(dirname "$0")/../scratch.sh"
 find_program
 cd "$scratch"
-printf '#!/bin/sh\nexec sleep 0.021\n' > short
-printf '#!/bin/sh\nexec sleep 0.3\n' > long
-chmod +x short long
-{
-  printf '%s\n' 'syntax(2)' "test_suite('s')" "plain_test_program{name='long'}"
-  for _ in $(seq 100); do echo "plain_test_program{name='short'}"; done
-} > Kyuafile
-"$program" test -r x.db --work="$scratch" > out
-grep -qx '101/101 passed (0 failed)' out
-median=$(sed -n 's/^short:main  ->  passed  \[0\.0*\([0-9]*\)s\]$/\1/p' out | sort -n | sed -n 50p)
-echo "half of the cases of 21 ms take $median ms at the most; at most 27 are allowed"
-[ "$median" -le 27 ]
+#   ends MILLISECONDS COUNT LAST: so many programs of these milliseconds, half of which must be over by LAST
+ends() {
+  printf '#!/bin/sh\nexec sleep %s\n' "$(printf '0.%03d' "$1")" > case
+  chmod +x case
+  {
+    printf '%s\n' 'syntax(2)' "test_suite('s')"
+    for _ in $(seq "$2"); do echo "plain_test_program{name='case'}"; done
+  } > Kyuafile
+  "$program" test -r x.db --work="$scratch" > out
+  grep -qx "$2/$2 passed (0 failed)" out
+  median=$(sed -n 's/^case:main  ->  passed  \[0\.0*\([0-9]*\)s\]$/\1/p' out | sort -n | sed -n "$(($2 / 2))p")
+  echo "half of the cases of $1 ms take $median ms at the most; at most $3 are allowed"
+  [ "$median" -le "$3" ]
+}
+ends 5 100 9
+ends 200 20 204
