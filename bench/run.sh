@@ -147,7 +147,7 @@ cc -O2 -DKEEPS -o floor "$here/bench/floor.c" -lsqlite3 2> log || {
 programs plain 1000 > plain.kyuafile
 programs plain 100 > hundred.kyuafile
 programs plain 10000 > many.kyuafile
-programs tap 200 tap > tap.kyuafile
+programs tap 500 tap > tap.kyuafile
 programs atf 50 atf > atf.kyuafile
 programs atf 100 atf > lists.kyuafile
 programs one 1 > one.kyuafile
@@ -187,7 +187,7 @@ INSERT INTO test_cases SELECT test_case_id + n, test_program_id, name, metadata_
 SQL
 fi
 
-for width in 1 4 8; do row "test of 200 TAP programs, $width at once" 200 '  ->  passed' tests tap 0 200 $width; done
+for width in 1 4 8; do row "test of 500 TAP programs, $width at once" 500 '  ->  passed' tests tap 0 500 $width; done
 for width in 1 4 8; do row "test of 50 ATF programs with 4 cases, $width at once" 200 '  ->  passed' tests atf 50 200 $width; done
 row 'test of 200 programs that print 10 KiB, 4 at once' 200 '  ->  passed' tests brief 0 200 4
 row 'test of 100 programs that print 1 MiB, 4 at once' 100 '  ->  passed' tests loud 0 100 4
