@@ -814,7 +814,7 @@ def difference(row, due, got):
 
 def commands_fault(row, due, got):
     if row.has("^disk (log|database)"):
-        return None if are_stops(due, got) else "stopped elsewhere"
+        return None if are_stops(due, got) or are_told(row, due, got) else "stopped elsewhere"
     if row.subject == "openings":
         if not is_within(got[0].split(", "), due[0].split(", ")) and got[0] != "nothing":
             return "other calls of the platform"
@@ -827,6 +827,9 @@ def commands_fault(row, due, got):
     return Commands(row).fault(due, got)
 
 
+STOPS = r"attach \d+|begin|put \d+|finish|, .*"
+
+
 def are_stops(due, got):
     """Whether a command was stopped where it is due, up to the one that memory ended, or by one failure of the disk more."""
     if len(got) != 1 or len(due) != 1:
@@ -834,8 +837,41 @@ def are_stops(due, got):
     match = re.fullmatch(r"(.*), out of memory", got[0])
     if match:
         return due[0].startswith(match.group(1))
-    one, other = (re.findall(r"attach \d+|begin|put \d+|finish|, [a-z ]+|[a-z ]+", line) for line in (due[0], got[0]))
+    one, other = (re.findall(STOPS, line) for line in (due[0], got[0]))
     return any(other == one[:at] + [other[at]] + one[back:] for at in range(1, min(len(one), len(other))) for back in (at - 1, at))
+
+
+class Tested:
+    """What a `test` printed, and the entries that its store has, both as names and verdicts."""
+
+    def __init__(self, row, lines):
+        behind = next((at for at, line in enumerate(lines) if re.fullmatch(r"run \d+ at \d+, \d+ cases", line)), len(lines))
+        self.cases = [case_of(line)[:2] for line in lines[:behind] if case_of(line)]
+        self.is_cut = MEMORY in lines[:behind]
+        entries = [re.fullmatch(r"\d+ ([^ ]+) (.*), started \d+, took \d+", line) for line in lines[behind:]]
+        self.entries = [match.groups() for match in entries if match][1 if row.has("^old") else 0:]
+
+    def is_recorded(self):
+        """Whether each case that was printed is recorded, and at the most one more."""
+        return self.entries[:len(self.cases)] == self.cases and len(self.entries) - len(self.cases) in (0, 1)
+
+
+def are_told(row, due, got):
+    """Whether of the `test` without a failure of the disk and the one with it one was refused memory once: it ended there, or has a case
+    that says so. They differ in that, and in the lives of the children behind it."""
+    if "whole" not in got or "cut" not in got or not set(re.findall(STOPS, got[0].split(", and then ")[0])) <= set(re.findall(STOPS, due[0])):
+        return False
+    at, behind = got.index("whole"), got.index("cut")
+    whole, cut = Tested(row, got[at + 1:behind]), Tested(row, got[behind + 1:])
+    programs, lives = Program(row), {"passed"}
+    for life in row.texts("life"):
+        word, number = life.split()
+        lives.add(f"failed: Returned non-success exit status {number}" if word == "exited" else f"broken: Received signal {number}")
+    all_entries = whole.entries + cut.entries
+    refused = [entry for entry in all_entries if entry[1] in programs.reasons(entry[0])]
+    return len(refused) + whole.is_cut + cut.is_cut == 1 and all(entry[1] in lives for entry in all_entries if entry not in refused) and \
+        whole.is_recorded() and (whole.is_cut or len(whole.cases) == len(whole.entries)) and cut.is_recorded() and \
+        all(one[0] == other[0] for one, other in zip(whole.entries, cut.entries))
 
 
 def cut_fault(row, due, got, has_memory):

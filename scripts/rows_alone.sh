@@ -123,12 +123,12 @@ check() {
 export -f check is_due without_memory complain
 
 # Each of these answers must be called wrong: an invented reason, one of another interface, another exit, other totals, another case,
-# two faults.
-#   wrong DUE GOT: the answer to a row of one case
+# two faults, a case that is not recorded.
+#   wrong DUE GOT [LINE]: the answer to a row of one case, with this line more
 wrong() {
   local here=$room/judge/commands.rows.$(($(ls "$room/judge" | wc -l) + 1)) text
   mkdir -p "$here"
-  printf '%s\n' "holds Kyuafile plain_test_program{name='a'}" 'do test' "-> ${1//\\n/$'\n-> '}" > "$here/commands.rows"
+  printf '%s\n' "holds Kyuafile plain_test_program{name='a'}" "${3-# nothing more}" 'do test' "-> ${1//\\n/$'\n-> '}" > "$here/commands.rows"
   text=$(printf '%s\n' 'commands.rows:1: another answer' "  wanted: \"$1\"" "  got:    \"$2\"")
   printf '%s\n' "1 1 256 $((${#text} + 1))" "$text" '' '1 0.001' > "$here/answers"
 }
@@ -145,6 +145,7 @@ try_judge() {
   wrong "$due" "a:main  ->  $memory  [0.000s]\nkyua: E: results store failed\nexit 2"
   wrong "$due" 'kyua: E: out of memory\nkyua: E: out of memory\nexit 2'
   wrong "$due" 'a:main  ->  passed  [0.012s]\n\n1/1 passed (0 failed)\nkyua: E: out of memory\nexit 0'
+  wrong 'stopped in attach 0 begin put 1 finish, then not' "stopped in attach 0 begin, and then the page is no beginning\nwhole\na:main  ->  $memory  [0.000s]\n\n0/1 passed (1 failed)\nrun 1 at 500, 1 cases\n0 a:main $memory, started 0, took 0\nfinished\ncut\na:main  ->  passed  [0.012s]\nkyua: E: results store failed\nrun 1 at 500, 1 cases\nunfinished" 'disk log'
   ls -d "$room"/judge/* | python3 "$top/scripts/memory_answers.py" | sed -n 's/^\(commands[^:]*\): .*/\1/p' | sort -u > "$room/found"
   ls "$room/judge" | sort | comm -23 - "$room/found" | sed 's/.*/judge.&: memory_answers.py takes a wrong answer/'
 }

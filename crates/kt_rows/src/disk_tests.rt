@@ -137,6 +137,17 @@ fn push_stop(out: &mut Answer, stop: Stop) {
     }
 }
 
+/// Appends what was printed, and what a crash leaves of the store, a line each.
+fn push_tested(out: &mut Answer, word: &str, tested: Option<&Tested>, left: &[String]) {
+    out.line(word);
+    if let Some(tested) = tested {
+        out.line(tested.page.as_str());
+    }
+    for line in left {
+        out.line(line.as_str());
+    }
+}
+
 /// A row whose commands are done over disks on which the log or the database file fails, with a store that may be of
 /// schema 1 and a log of this many frames.
 #[derive(Clone, Copy)]
@@ -211,25 +222,30 @@ impl Trial<'_> {
         })
     }
 
-    /// Where a disk that fails after this many calls stops the command; nothing if the store doesn't open.
-    fn stop_at(self, whole: &Whole, calls: u64) -> Result<Option<Stop>> {
+    /// Where a disk that fails after this many calls stops the command, and what it did; nothing if the store doesn't open.
+    fn stop_at(self, whole: &Whole, calls: u64) -> Result<Option<(Stop, Attempt)>> {
         match self.tried(fused(self.files()?, self.in_log, calls))? {
-            Some(cut) => Ok(Some(whole.judged(&cut))),
+            Some(cut) => Ok(Some((whole.judged(&cut), cut))),
             None => Ok(None),
         }
     }
 
-    /// Appends where the disk that fails at each call in turn stops the command, each place once, until none is refused.
+    /// Appends where the disk that fails at each call in turn stops the command, each place once, until none is refused or
+    /// something is wrong: then what the command did without a failure and with it.
     fn push_stops(self, out: &mut Answer, whole: &Whole) -> Result<()> {
         out.push("stopped in");
         let mut last = None;
         for calls in 0..LIMIT {
-            let Some(stop) = self.stop_at(whole, calls)? else {
+            let Some((stop, cut)) = self.stop_at(whole, calls)? else {
                 continue;
             };
             if last != Some(stop) {
                 last = Some(stop);
                 push_stop(out, stop);
+            }
+            if matches!(stop, Stop::Wrong(_)) {
+                push_tested(out, "whole", Some(&whole.tested), whole.left.as_slice());
+                push_tested(out, "cut", cut.tested.as_ref(), cut.left.as_slice());
             }
             if matches!(stop, Stop::Nowhere | Stop::Memory | Stop::Wrong(_)) {
                 break;
