@@ -1,7 +1,9 @@
 -- The cases of children, which no poll changes.
-use Rattle.std.proofs.Common.{◌≡◌, ℕ, zero, suc, List, [], ◌∷◌, Some, map, slice_get, refl, sym, ◌∙◌, ap, subst, remove}
-use Rattle.kt_child.proofs.Common.{All, All-cons, All-head, All-map, All-tail, All-weaker, Outcome, Ended, Watched, ChildrenState, Waited, Call, cases_of, WaitedOn, advanced, advanced_below, after_turns}
-use Rattle.kt_child.proofs.Places.{some_is}
+use Rattle.std.proofs.Common.{◌≡◌, ℕ, zero, suc, List, [], ◌∷◌, Some, map, slice_get, refl, sym, ◌∙◌, ap, remove}
+use Rattle.kt_child.proofs.Common.{Outcome, Ended, Watched, ChildrenState, Waited, Call, cases_of, WaitedOn, advanced, advanced_below, after_turns}
+
+pub some_is : {X : Type 0} (x y : X) → Some x ≡ Some y → x ≡ y
+some_is x y e = cc
 
 pub cases_below : (n : ℕ) (ks : List Watched) → cases_of (advanced_below n ks) ≡ cases_of ks
 cases_below zero ks = refl
@@ -42,19 +44,3 @@ waited_cases old new calls e w =
       ap cases_of w.children ∙ cases_remove w.after w.place ∙ ap (λ t. remove t w.place) same,
       ap (λ t. slice_get t w.place) (sym same) ∙ case_at w.after w.place w.over w.there,
     )
-
--- what holds of each child and is kept by a poll
-module _ (P : Watched → Type 0) (kept : (k : Watched) → P k → P (advanced k)) where
-  all_below : (n : ℕ) (ks : List Watched) → All P ks → All P (advanced_below n ks)
-  all_below zero ks h = h
-  all_below (suc n) [] h = h
-  all_below (suc n) (k ∷ ks) h = All-cons P (advanced k) (advanced_below n ks) (kept k (All-head P k ks h)) (all_below n ks (All-tail P k ks h))
-
-  all_turns : (n : ℕ) (ks : List Watched) → All P ks → All P (after_turns n ks)
-  all_turns zero ks h = h
-  all_turns (suc n) ks h = all_turns n (map advanced ks) (All-map P advanced ks (All-weaker P (λ k. P (advanced k)) kept ks h))
-
-  pub all_waited : (ks : List Watched) (calls : List Call) (place : ℕ) (outcome : Outcome) (after : List Watched)
-      → WaitedOn ks calls place outcome after → All P ks → All P after
-  all_waited ks calls place outcome after (turns, waited, same) h =
-      subst (All P) (sym same) (all_below place (after_turns turns ks) (all_turns turns ks h))

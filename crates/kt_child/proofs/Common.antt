@@ -1,6 +1,6 @@
 -- The names that most proofs of this crate cite, passed on from one place. Declares nothing.
 pub use Rattle.std.proofs.Math.ListN.{set}
-pub use Rattle.std.proofs.lemmas.Bool.{and_from, and_parts, cases_lt}
+pub use Rattle.std.proofs.lemmas.Bool.{and_from, and_parts}
 pub use Rattle.std.proofs.lemmas.Bool.Decides.{nat_tests}
 pub use Rattle.std.proofs.lemmas.List.{drop_all, drop_at, length-take-le, map_more, take_all, take_at, take_more}
 pub use Rattle.std.proofs.lemmas.List.Elements.{All-append, All-cons, All-drop, All-get_or, All-head, All-map, All-nil, All-push, All-set, All-tail, All-take, All-weaker}
@@ -15,33 +15,33 @@ pub use Rattle.kt_base.specs.declared.child.Outcome.{Outcome}
 pub use Rattle.kt_base.specs.declared.child.Refused.{Refused}
 pub use Rattle.kt_base.specs.declared.child.Role.{Role}
 pub use Rattle.kt_base.specs.declared.child.Role.TheVariants.{Body, Cleanup}
-pub use Rattle.kt_claim.specs.declared.evidence.Evidence.{Evidence}
-pub use Rattle.kt_sched.specs.Children.{IsEvidence, IsIdle, pending_after_end, running_after_end, same_role, with_cleanup_declared}
-pub use Rattle.kt_sched.specs.Plan.{IsPlan}
-pub use Rattle.kt_sched.specs.Trace.{End, Event, Leads, NoEvent, Start, Then, Trace}
+pub use Rattle.kt_sched.specs.Children.{IsEvidence, pending_after_end, running_after_end, same_role, with_cleanup_declared}
+pub use Rattle.kt_sched.specs.Trace.{End, Leads, NoEvent, Start, Then, Trace}
 pub use Rattle.kt_sched.specs.declared.job.Ended.{Ended}
 pub use Rattle.kt_sched.specs.declared.job.Job.{Job}
 pub use Rattle.kt_sched.specs.declared.job.StartAnswer.{StartAnswer}
 pub use Rattle.kt_child.specs.Driving.Begins.{Begun, state_after_start}
+pub use Rattle.kt_child.specs.Driving.Board.{Alive, Board, Ends, Hears, IsOver, alive_of, board, board_of}
 pub use Rattle.kt_child.specs.Driving.ChildrenState.{ChildrenState, Waited, cases_of, is_among, pending_with, shown, shown_at, shown_in, with_pending}
-pub use Rattle.kt_child.specs.Driving.JobPlan.{case_in, cleaning, job_purpose, limit_of, list_case, spawning_for, spawning_of, want_of, watched_of}
-pub use Rattle.kt_child.specs.Driving.Launches.{StartsBy}
-pub use Rattle.kt_child.specs.Driving.Numbers.{AttemptsDiffer, IsBare, ListOf, Request, Serves, ServesAll, Wait, is_attempt}
+pub use Rattle.kt_child.specs.Driving.JobPlan.{cleaning, job_purpose, limit_of, spawning_for, spawning_of, want_of, watched_of}
+pub use Rattle.kt_child.specs.Driving.DriverSteps.{DriverStarts, DriverWaits}
+pub use Rattle.kt_child.specs.Driving.Launches.{Starts, alive_after}
+pub use Rattle.kt_child.specs.Driving.Numbers.{AttemptsDiffer, IsApart, ListOf, Request, Serves, ServesAll, Wait, is_attempt, numbers, times, NumbersDiffer}
 pub use Rattle.kt_child.specs.Driving.Roots.{FailedRoots, root_of}
-pub use Rattle.kt_child.specs.Driving.TraceLives.{BegunAt, EachWith, IsNumberAt, IsNumberOf, LeavesAtLast, ToldAt, following, next_after}
+pub use Rattle.kt_child.specs.Driving.Runs.{Runs, RunsOver}
 pub use Rattle.kt_child.specs.Ending.Ends.{Leaves, Removes, err_of, is_over, out_of}
 pub use Rattle.kt_child.specs.Ending.Parts.{After, Bytes, IsNext, Missing, Reads, TooLong, Unreadable, Whole, next_part}
 pub use Rattle.kt_child.specs.Ending.Reads.{bytes_of}
 pub use Rattle.kt_child.specs.Host.HostStands.{AllProceed, AllStay, OthersStay, Proceeds, Stand, stand_in, stand_of}
 pub use Rattle.kt_child.specs.Inner.Children.{IsChildrenState, IsOn, IsShort, IsWatched, Takes, Tells, count_at, count_in, one_if, polls_left}
 pub use Rattle.kt_child.specs.Inner.Host.{IsPlaceOf, TakesPiece, after_removed, after_set, is_other, RunsIn}
-pub use Rattle.kt_child.specs.Planning.ChildPlan.{child_of, paths_of, test_variable, variable_word}
-pub use Rattle.kt_child.specs.Polling.ChildOutcome.{Heard, HeardKill, HeardPoll, Told, ToldAfterKill, ToldWithin, answered, fresh, running}
-pub use Rattle.kt_child.specs.Polling.Lives.{heard_by, heard_in, own, same_child}
+pub use Rattle.kt_child.specs.Planning.ChildPlan.{child_of, test_variable, variable_word}
+pub use Rattle.kt_child.specs.Polling.ChildOutcome.{Heard, HeardKill, HeardPoll, Told, ToldAfterKill, answered, running}
+pub use Rattle.kt_child.specs.Polling.Names.{same_child}
 pub use Rattle.kt_child.specs.Polling.Polls.{asked_by_poll, heard_of, is_killed, turn_of, watch_after}
 pub use Rattle.kt_child.specs.Polling.Turns.{PolledAll, PolledLast, PolledUntil, Rounds, WaitedOn, advanced, advanced_below, after_turns}
-pub use Rattle.kt_child.specs.Driving.Starts.{Ask, SetUp, SetUpAs, SetUpIn, SetUpNew, Started, Tried, cause_of, child_asks, furnish_asks, open_ask, spawn_ask, spawned, work_ask}
-pub use Rattle.kt_child.specs.System.Calls.{Call, Kill, MakeDir, Now, Pause, Poll, ReadFile, ReadPart, RemoveTree, SetLimit}
+pub use Rattle.kt_child.specs.Driving.Starts.{Ask, SetUpAs, Started, Tried, cause_of, child_asks, open_ask, spawn_ask, spawned, work_ask}
+pub use Rattle.kt_child.specs.System.Calls.{Call, Kill, MakeDir, Now, Pause, Poll, ReadFile, RemoveTree, SetLimit}
 pub use Rattle.kt_child.specs.declared.driving.driver.Driver.{Driver}
 pub use Rattle.kt_child.specs.declared.ending.NextPart.{NextPart}
 pub use Rattle.kt_child.specs.declared.ending.NextPart.TheVariants.{Absent, Failed, Past}

@@ -1,8 +1,10 @@
 -- The names of children, as they are compared.
 use Rattle.std.proofs.Common.{◌≡◌, ◌==◌, Bool, true, false, refl, sym, ◌∙◌, ap}
-use Rattle.kt_child.proofs.Common.{and_parts, Role, Body, Cleanup, same_role, Child, same_child}
-use Rattle.kt_child.proofs.CaseCounts.{same_position}
-use Rattle.kt_child.proofs.LifeSteps.{child_is_own}
+use Rattle.kt_child.proofs.Common.{and_from, and_parts, Role, Body, Cleanup, same_role, Child, same_child}
+use Rattle.kt_child.proofs.CaseCounts.{own_role, same_number, same_position}
+
+pub child_is_own : (c : Child) → same_child c c ≡ true
+child_is_own c = and_from (c.attempt == c.attempt) (same_role c.role c.role) (same_number c.attempt) (own_role c.role)
 
 same_role_is : (a b : Role) → same_role a b ≡ true → a ≡ b
 same_role_is Body Body e = refl

@@ -1,8 +1,7 @@
 -- How the children of the host stand, where one of them changes, is forgotten or is new.
 use Rattle.std.proofs.Common.{◌≡◌, ℕ, zero, suc, ◌<◌, Bool, true, false, Some, None, List, [], ◌∷◌, ◌++◌, length, get_or, refl, sym, ◌∙◌, ap, subst, arith, if◌then◌else◌, IsSome, filter, not, remove, slice_set}
 use Rattle.kt_child.proofs.Common.{Child, HostChild, same_child, IsPlaceOf, is_other, Stand, Proceeds, AllProceed, AllStay, OthersStay, stand_in, stand_of}
-use Rattle.kt_child.proofs.LifeSteps.{child_is_own}
-use Rattle.kt_child.proofs.HostNames.{name_other, same_child_is}
+use Rattle.kt_child.proofs.HostNames.{child_is_own, name_other, same_child_is}
 
 -- how a child stands, by whether the first one has its name
 abbrev pub pick : Bool → Stand → Stand → Stand

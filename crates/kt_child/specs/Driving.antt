@@ -1,5 +1,6 @@
 -- The driver: it starts children, waits for them and asks for lists.
 pub mod Begins
+pub mod Board
 pub mod ChildrenState
 pub mod DriverSteps
 pub mod JobPlan
@@ -7,5 +8,5 @@ pub mod Launches
 pub mod Lists
 pub mod Numbers
 pub mod Roots
+pub mod Runs
 pub mod Starts
-pub mod TraceLives

@@ -1,14 +1,16 @@
 -- What a command asked of its children over the host, and what follows from their answers.
 use Rattle.std.specs.Prelude.{List}
+use Rattle.kt_base.specs.Chains.{Chain}
 use Rattle.kt_sched.specs.declared.job.Job.{Job}
 use Rattle.kt_sched.specs.Trace.{Trace}
 use Rattle.kt_child.specs.declared.driving.driver.Driver.{Driver}
-use Rattle.kt_base.specs.Chains.{Chain}
+use Rattle.kt_child.specs.Driving.Board.{board, board_of}
+use Rattle.kt_child.specs.Driving.ChildrenState.{idle_state}
+use Rattle.kt_child.specs.Driving.Runs.{Runs}
 use Rattle.kt_child.specs.System.Calls.{Call}
-use Rattle.kt_child.specs.Driving.TraceLives.{EachWith, ToldAt}
 
--- of all that a driver asked of its system for the answers of a trace, each start has its own calls, and each end is told by those of its own
--- child: its outcome is the row of the outcome table that its polls and kills are, and what was read is of its own directory
+-- all that a driver asked of its system was for the answers of a trace, from a board on which nothing runs: each poll and kill is heard by one
+-- child, the outcome of each end is the row of the outcome table that its child's answers are, and what was read is of its own directory
 abbrev pub ChildrenTell : {O : Type 0} → (O → Call → O → Type 0) → List Job → Trace → Driver O → Driver O → Type 0
 ChildrenTell leads plan T old new =
-    (calls : List Call) × Chain leads old.os calls new.os × EachWith (ToldAt plan old.source old.root old.next calls) T calls
+    (calls : List Call) × Chain leads old.os calls new.os × Runs plan old.source old.root (board_of idle_state old.next) T calls (board new)

@@ -9,20 +9,26 @@ use Rattle.kt_sched.specs.declared.job.Ended.{Ended}
 use Rattle.kt_child.specs.declared.driving.driver.Driver.{Driver}
 use Rattle.kt_base.specs.Chains.{Chain}
 use Rattle.kt_child.specs.System.Calls.{Call}
+use Rattle.kt_child.specs.Driving.Board.{Ends, board}
 use Rattle.kt_child.specs.Driving.ChildrenState.{Waited}
-use Rattle.kt_child.specs.Driving.Launches.{StartsBy}
+use Rattle.kt_child.specs.Driving.Launches.{Starts}
 use Rattle.kt_child.specs.Driving.Lists.{ListsBy}
 
--- a start, over a system whose calls are related so; where programs lie and the root directory stay
+-- a job's child is started on the board, over a system whose calls are related so
+abbrev pub StartsBy : {O : Type 0} → (O → Call → O → Type 0) → Driver O → Job → Role → StartAnswer → Driver O → Type 0
+StartsBy leads old job role answer new =
+    (calls : List Call) × Chain leads old.os calls new.os × Starts old.source old.root (board old) job role calls answer (board new)
+
+-- a start of a driver; where programs lie and the root directory stay
 abbrev pub DriverStarts : {O : Type 0} → (O → Call → O → Type 0) → Driver O → Job → Role → StartAnswer → Driver O → Type 0
 DriverStarts leads old job role answer new =
     StartsBy leads old job role answer new × (new.source ≡ old.source) × (new.root ≡ old.root)
 
--- a wait; it takes no number
+-- a wait: its polls go in turns, and one child ends
 abbrev pub DriverWaits : {O : Type 0} → (O → Call → O → Type 0) → Driver O → Ended → Driver O → Type 0
 DriverWaits leads old ended new =
-    ((calls : List Call) × Chain leads old.os calls new.os × Waited old.running calls ended new.running)
-    × (new.source ≡ old.source) × (new.root ≡ old.root) × (new.next ≡ old.next)
+    ((calls : List Call) × Chain leads old.os calls new.os × Waited old.running calls ended new.running × Ends (board old) calls ended (board new))
+    × (new.source ≡ old.source) × (new.root ≡ old.root)
 
 -- a list of a program's cases; it leaves the running children
 abbrev pub DriverLists : {O : Type 0} → (O → Call → O → Type 0) → Driver O → List ℕ → List Variable → Listing → Driver O → Type 0

@@ -13,21 +13,21 @@ use Rattle.kt_child.specs.declared.planning.Case.{Case}
 use Rattle.kt_child.specs.declared.planning.Spawning.{Spawning}
 use Rattle.kt_base.specs.Chains.{Chain}
 use Rattle.kt_child.specs.System.Calls.{Call, ReadFile, RemoveTree}
-use Rattle.kt_child.specs.Planning.ChildPlan.{child_of, paths_of}
-use Rattle.kt_child.specs.Polling.ChildOutcome.{Told}
-use Rattle.kt_child.specs.Polling.Lives.{heard_by}
+use Rattle.kt_child.specs.Planning.ChildPlan.{paths_of}
+use Rattle.kt_child.specs.Driving.Board.{Alive, IsOver, alive_of}
 use Rattle.kt_child.specs.Driving.JobPlan.{list_case, list_purpose, spawning_for}
 use Rattle.kt_child.specs.Driving.Starts.{SetUp, spawned}
 use Rattle.kt_child.specs.Polling.Turns.{WaitedUntil}
 use Rattle.kt_child.specs.Ending.Reads.{IsListWithin, list_of}
 
--- A list that was started: whole turns up to its end, whose outcome is the row of the outcome table that its answers
+-- A list that was started: whole turns up to its end, whose outcome is the row of the outcome table that all its answers
 -- are; then its output, no more than 1,048,576 bytes, and the removal.
 abbrev pub WatchedList : Spawning → Case → List Call → Outcome → ListBytes → Type 0
 WatchedList plan c calls outcome bytes =
     (turns : ℕ) × (place : ℕ) × (polls : List Call) × (read : Result FileRead OsFault) × (done : Bool)
     × (calls ≡ polls ++ ReadFile plan.out 1048576 read ∷ RemoveTree plan.dir done ∷ [])
-    × WaitedUntil turns (spawned plan c ∷ []) polls place outcome × Told plan.limit (heard_by (child_of c) polls) outcome
+    × WaitedUntil turns (spawned plan c ∷ []) polls place outcome
+    × ((after : List Alive) × (over : Alive) × IsOver (alive_of (spawned plan c ∷ [])) polls after place over outcome)
     × (bytes ≡ list_of read) × IsListWithin bytes
 
 -- a list from its start to the removal of its directory

@@ -1,5 +1,5 @@
 -- The numbers of a driver's attempts, which are the starts of bodies and the lists.
-use Rattle.std.specs.Prelude.{◌≡◌, ℕ, Bool, true, false, ◌<◌, ◌-◌, ◌^◌, List, [], ◌∷◌}
+use Rattle.std.specs.Prelude.{◌≡◌, ℕ, Bool, true, false, ◌==◌, ◌<◌, ◌≤◌, ◌+◌, ◌-◌, ◌^◌, List, [], ◌∷◌, ◌++◌, map}
 use Rattle.kt_base.specs.declared.child.Role.{Role}
 use Rattle.kt_base.specs.declared.child.Role.TheVariants.{Body, Cleanup}
 use Rattle.kt_base.specs.declared.variable.Variable.{Variable}
@@ -7,10 +7,14 @@ use Rattle.kt_atflist.specs.declared.listing.Listing.{Listing}
 use Rattle.kt_sched.specs.declared.job.Job.{Job}
 use Rattle.kt_sched.specs.declared.job.StartAnswer.{StartAnswer}
 use Rattle.kt_sched.specs.declared.job.Ended.{Ended}
+use Rattle.kt_sched.specs.Trace.{Trace}
 use Rattle.kt_child.specs.declared.driving.driver.Driver.{Driver}
 use Rattle.kt_child.specs.System.Calls.{Call}
-use Rattle.kt_child.specs.Driving.ChildrenState.{ChildrenState}
+use Rattle.kt_child.specs.Inner.Children.{one_if}
+use Rattle.kt_child.specs.Driving.Board.{Board, board_of}
+use Rattle.kt_child.specs.Driving.ChildrenState.{idle_state}
 use Rattle.kt_child.specs.Driving.DriverSteps.{DriverLists, DriverStarts, DriverWaits}
+use Rattle.kt_child.specs.Driving.Runs.{Runs}
 
 -- what is asked of a driver, with its answer
 pub data Request : Type 0 where
@@ -42,6 +46,21 @@ AttemptsDiffer {O} leads =
     (attempt : Request) (requests : List Request) (d e f : Driver O)
     → is_attempt attempt ≡ true → d.next < 2 ^ 64 - 1 → Serves leads d attempt e → ServesAll leads e requests f → d.next < f.next
 
--- nothing runs, and nothing is owed
-abbrev pub IsBare : ChildrenState → Type 0
-IsBare b = (b.children ≡ []) × (b.pending ≡ [])
+-- how often a number stands among these
+abbrev pub times : ℕ → List ℕ → ℕ
+times n [] = 0
+times n (m ∷ numbers) = one_if (m == n) + times n numbers
+
+-- the numbers of the cases that run or are owed a cleanup
+abbrev pub numbers : Board → List ℕ
+numbers b = map (λ a. a.case.attempt) b.alive ++ map (λ c. c.attempt) b.owed
+
+-- each of them stands there once, and is below the next one: so no two children on a board have the same name
+abbrev pub IsApart : Board → Type 0
+IsApart b = (n : ℕ) → (times n (numbers b) ≤ 1) × (b.next ≤ n → times n (numbers b) ≡ 0)
+
+-- that is so on each board that a trace leads to from one where nothing runs
+abbrev pub NumbersDiffer : Type 0
+NumbersDiffer =
+    (plan : List Job) (source root : List ℕ) (next : ℕ) (T : Trace) (calls : List Call) (b : Board)
+    → Runs plan source root (board_of idle_state next) T calls b → IsApart b

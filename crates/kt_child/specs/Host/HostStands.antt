@@ -4,7 +4,7 @@ use Rattle.std.specs.Process.{child_status}
 use Rattle.std.specs.declared.process.status.ExitStatus.{ExitStatus}
 use Rattle.kt_child.specs.declared.system.Child.{Child}
 use Rattle.kt_child.specs.declared.host.host_child.HostChild.{HostChild}
-use Rattle.kt_child.specs.Polling.Lives.{same_child}
+use Rattle.kt_child.specs.Polling.Names.{same_child}
 
 -- How a child stands: no process was started for it; it has one of which no end was seen; or the status of the end that
 -- was seen.

@@ -16,7 +16,7 @@ use Rattle.std.specs.Io.KnownBytes.{Consumes, IsAtEnd}
 use Rattle.kt_child.specs.declared.system.Child.{Child}
 use Rattle.kt_child.specs.declared.host.host_child.HostChild.{HostChild}
 use Rattle.kt_child.specs.Host.HostStands.{Stand}
-use Rattle.kt_child.specs.Polling.Lives.{same_child}
+use Rattle.kt_child.specs.Polling.Names.{same_child}
 
 -- a file that can't be opened is missing exactly if the system said so
 abbrev pub IsUnopened : ErrorKind → Result FileRead OsFault → Type 0

@@ -1,5 +1,4 @@
-ghost use Rattle.std.specs.Prelude.{◌≡◌, List};
-ghost use Rattle.kt_child.specs.Common.{IsIdle, IsPlan, IsWidth, Ran, Trace, Leads, Chain, Call, is_among, shown_in, DriverStarts, DriverWaits, AttemptsDiffer, EachWith, EndsAreTold, ToldAt};
+ghost use Rattle.kt_child.specs.Common.{IsIdle, IsPlan, IsWidth, Ran, Trace, Leads, is_among, shown_in, DriverStarts, DriverWaits, AttemptsDiffer, NumbersDiffer, EndsAreTold, RunsOver};
 
 use crate::{Driver, Os};
 use kt_base::Items;
@@ -22,8 +21,7 @@ pub fn run_driver<O: Os + Drop, S: Sink>(
         sink.old sink.new result }
     ensures told { (T : Trace)
         → Leads (DriverStarts O.leads) (DriverWaits O.leads) plan T driver.old driver.new
-        → (calls : List Call) × Chain O.leads driver.old.os calls driver.new.os
-        × EachWith (ToldAt plan driver.old.source driver.old.root driver.old.next calls) T calls }
+        → RunsOver O.leads plan T driver.old driver.new }
 {
     run_cases(alloc, plan, width, driver, sink)
 }
@@ -33,8 +31,14 @@ pub fn law_of_numbers<O: Os + Drop>()
     ensures { AttemptsDiffer O.leads }
 {}
 
-/// The law of traces, if nothing runs or is owed at first: the polls and kills of a child are a life, and their row
-/// of the outcome table is its outcome. Its start, the reads after its last poll and its removal are in its directory.
+/// The law of names, if nothing runs or is owed at first: no two children that run have the same name.
+pub fn law_of_names()
+    ensures { NumbersDiffer }
+{}
+
+/// The law of traces: the calls are those of the answers, one after the other. Each poll and kill is heard by one child,
+/// and the outcome of a child is the row of the outcome table that all its answers are. Its start, the reads after its
+/// last poll and its removal are in its directory.
 pub fn law_of_traces<O: Os + Drop>()
     ensures { EndsAreTold O.leads }
 {}

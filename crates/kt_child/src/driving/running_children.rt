@@ -99,7 +99,7 @@ pub(crate) fn refuse<O: Os>(os: &mut O, role: Role, dir: &Text, refusal: NoMemor
 
 impl RunningChildren {
     ghost use Rattle.std.specs.Prelude.{◌≡◌, ◌==◌, ℕ, ◌<◌, List, length, slice_get, remove, Some, true, false, if◌then◌else◌};
-    ghost use Rattle.kt_child.specs.Common.{IsEvidence, running_after_end, pending_after_end, IsMoment, HasMoment, Chain, Call, IsOn, count_in, shown_after, Waited, idle_state, is_among, shown_in, Begun, state_after_start, spawned, with_pending};
+    ghost use Rattle.kt_child.specs.Common.{IsEvidence, running_after_end, pending_after_end, IsMoment, HasMoment, Chain, Call, IsOn, count_in, shown_after, Waited, idle_state, is_among, shown_in, Begun, state_after_start, spawned, with_pending, Ends, board_of};
     ghost use Rattle.kt_sched.specs.Children.{Child as Shown};
 
     /// No running children, which takes no memory.
@@ -154,7 +154,8 @@ impl RunningChildren {
     pub(crate) fn wait<O: Os>(&mut self, alloc: Global, os: &mut O) -> Ended
         requires { 0 < length self.old.children }
         ensures waited { (calls : List Call) × Chain O.leads os.old calls os.new
-            × Waited self.old calls result self.new }
+            × Waited self.old calls result self.new
+            × ((next : ℕ) → Ends (board_of self.old next) calls result (board_of self.new next)) }
         ensures moment { IsMoment result.moment }
         ensures one_that_ran { (s : Shown) × (shown_in self.old result.position result.role
             ≡ Some s) × IsEvidence s.interface result.role result.evidence }

@@ -1,7 +1,7 @@
-use Rattle.std.proofs.Common.{List, [], ◌∷◌, ◌++◌, refl, subst, arith, is_ok}
-use Rattle.kt_child.proofs.Common.{Watched, WaitedOn, Call, ReadFile, RemoveTree, spawned}
+use Rattle.std.proofs.Common.{List, [], ◌∷◌, ◌++◌, refl, subst, is_ok}
+use Rattle.kt_child.proofs.Common.{All-cons, All-nil, IsOn, Watched, WaitedOn, Call, ReadFile, RemoveTree, spawned}
 use Rattle.kt_child.proofs.Chains.{chain_append}
-use Rattle.kt_child.proofs.Lives.{one_outcome}
+use Rattle.kt_child.proofs.BoardSteps.{wait_heard}
 use Rattle.kt_child.proofs.driving.lists.watch_list.Goals as goal
 
 pub returns : goal.returns
@@ -12,7 +12,8 @@ returns g c =
     let d = is_ok c.remove_tree.result in
     let W : Watched → Type 0 = λ t. WaitedOn (t ∷ []) w.0 c.wait-over.result.place c.wait-over.result.outcome c.wait-over.new.children in
     let on : WaitedOn (spawned p c.args.case ∷ []) w.0 c.wait-over.result.place c.wait-over.result.outcome c.wait-over.new.children = subst W c.spawned.ensures w.2 in
-    let timed = c.requires.0 in
+    let k = spawned p c.args.case in
+    let heard = wait_heard (k ∷ []) w.0 c.wait-over.result.place c.wait-over.result.outcome _ (All-cons IsOn k [] c.requires (All-nil IsOn)) on in
     let last : List Call = ReadFile p.out 1048576 r.0 ∷ RemoveTree p.dir d ∷ [] in (
       w.0 ++ last,
       chain_append g.O.Os.leads _ _ _ w.0 last w.1 (_, r.1, (_, c.remove_tree.ensures, refl)),
@@ -24,7 +25,7 @@ returns g c =
         d,
         refl,
         on.1,
-        one_outcome c.args.case p.limit w.0 c.wait-over.result.place c.wait-over.result.outcome _ (omega (arith, timed)) on,
+        (heard.0, heard.1, heard.2),
         r.2,
         c.read_list-bytes.ensures.within,
       ),

@@ -1,4 +1,4 @@
-use Rattle.kt_child.proofs.TraceTells.{ends_are_told}
+use Rattle.kt_child.proofs.TraceRuns.{ends_are_told}
 use Rattle.kt_child.proofs.driving.run.law_of_traces.Goals as goal
 
 pub returns : goal.returns

@@ -1,6 +1,6 @@
 use Rattle.std.proofs.Common.{refl}
 use Rattle.kt_cli.proofs.Common.{HostWorld}
-use Rattle.kt_cli.proofs.ChildrenTold.{courses_are_told, did_run, is_bare}
+use Rattle.kt_cli.proofs.ChildrenTold.{courses_are_told}
 use Rattle.kt_cli.proofs.Refusing.{none_asked}
 use Rattle.kt_cli.proofs.host.host_execution.execute_over_cases.Goals as goal
 
@@ -19,7 +19,7 @@ returns-clause-did g c =
       directory = c.in-Ok.ensures.directory;
       around_it = refl;
       did = did;
-      told = courses_are_told g.M.Machine g.O.Os did.seen _ _ did.course (is_bare _ c.in-Ok-driver_of.ensures.made.none_runs) (did_run did.seen c.args.command.now did.bytes did.due did.is);
+      told = courses_are_told g.M.Machine g.O.Os did.seen _ _ did.course c.in-Ok-driver_of.ensures.made.none_runs;
       left = refl;
       closed = c.close-os.ensures;
     }

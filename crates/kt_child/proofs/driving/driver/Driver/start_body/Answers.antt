@@ -1,5 +1,6 @@
-use Rattle.std.proofs.Common.{rules, ◌≡◌, ℕ, refl, sym, subst, ap, arith, inr}
-use Rattle.kt_child.proofs.Common.{Case, cases_of, count_at, count_in}
+use Rattle.std.proofs.Common.{rules, ◌≡◌, ℕ, sym, ◌∙◌, subst, ap, arith, inr}
+use Rattle.kt_child.proofs.Common.{Case, ChildrenState, alive_of, cases_of, count_at, count_in, watched_of}
+use Rattle.kt_child.proofs.BoardSteps.{alive_started, pending_started}
 use Rattle.kt_child.proofs.CaseCounts.{none_among, none_shown}
 use Rattle.kt_child.proofs.driving.driver.Driver.start_body.Goals as goal
 
@@ -15,4 +16,17 @@ begin-requires-clause-free g c =
 
 pub returns-in-Ok-clause-starts : goal.returns-in-Ok-clause-starts
 returns-in-Ok-clause-starts g c =
-    inr (c.in-Ok.case, c.args.self.now.running.pending, (search rules, c.begin.ensures.next, refl, c.in-Ok.ensures), c.begin.ensures.begun, c.begin.ensures.state)
+    let b = c.begin.ensures.begun in
+    let case = c.in-Ok.case in
+    let answer = c.begin.result in
+    let state = c.begin.ensures.state in
+    let running = c.args.self.now.running in (
+      b.0,
+      b.1,
+      inr (
+        case,
+        (search rules, c.begin.ensures.next, ap (λ (s : ChildrenState). s.pending) state ∙ pending_started running (watched_of c.args.job.now case) answer, c.in-Ok.ensures),
+        b.2,
+        ap (λ (s : ChildrenState). alive_of s.children) state ∙ alive_started running c.args.job.now case answer,
+      ),
+    )

@@ -1,6 +1,7 @@
-use Rattle.std.proofs.Common.{◌≡◌, ◌∙◌, ◌<◌, ◌++◌, drop, get_or, take, slice_get, Some, ap, sym, subst, arith, length, List, remove}
-use Rattle.kt_child.proofs.Common.{slice_get-get_or, take_at, Watched, Chain, Call, ChildrenState, IsEvidence, Waited, cases_of, pending_with, shown_in}
+use Rattle.std.proofs.Common.{◌≡◌, ℕ, ◌∙◌, ◌<◌, ◌++◌, drop, get_or, take, slice_get, Some, ap, sym, subst, arith, length, List, remove}
+use Rattle.kt_child.proofs.Common.{Ends, board_of, slice_get-get_or, take_at, Watched, Chain, Call, ChildrenState, IsEvidence, Waited, cases_of, pending_with, shown_in}
 use Rattle.kt_sched.specs.Children.{Child as Shown}
+use Rattle.kt_child.proofs.BoardSteps.{waited_ends}
 use Rattle.kt_child.proofs.CaseSteps.{cases_waited}
 use Rattle.kt_child.proofs.StateWaits.{Once, state_after, waited_all, waited_one, waited_pending, waited_running}
 use Rattle.kt_child.proofs.driving.running_children.RunningChildren.wait.Goals as goal
@@ -55,9 +56,11 @@ waited g c =
 
 pub returns-clause-waited : goal.returns-clause-waited
 returns-clause-waited g c =
-    let P : ChildrenState → Type 0 = λ b. (calls : List Call) × Chain g.O.Os.leads c.args.os.now calls c.leave-ended.new.os × Waited b calls c.leave-ended.result (new g c) in
+    let e = c.leave-ended.result in
+    let P : ChildrenState → Type 0 = λ b. (calls : List Call) × Chain g.O.Os.leads c.args.os.now calls c.leave-ended.new.os × Waited b calls e (new g c)
+    × ((next : ℕ) → Ends (board_of b next) calls e (board_of (new g c) next)) in
     let w = waited g c in
-    subst P c.self.view_is (w.0, w.1, w.2.0)
+    subst P c.self.view_is (w.0, w.1, w.2.0, waited_ends (old g c) (new g c) w.0 e c.self.invariant.0.on w.2.0)
 
 once : (g : _) (c : goal.After-forget g) → Once c.args.self.now
 once g c = subst Once c.self.view_is c.self.invariant.0.once

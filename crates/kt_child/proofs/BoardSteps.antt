@@ -1,0 +1,150 @@
+-- The board after a start, and what its children hear of polls, turns and waits.
+use Rattle.std.proofs.Common.{if◌then◌else◌, ◌≡◌, ℕ, zero, suc, List, [], ◌∷◌, ◌++◌, Bool, true, false, Some, Result, map, slice_get, refl, sym, ◌∙◌, ap, subst, append_assoc, remove}
+use Rattle.kt_child.proofs.Common.{All, All-cons, All-head, All-nil, All-tail, Case, Job, Outcome, StartAnswer, Ended, Polled, OsFault, Watched, ChildrenState, Waited, Chain, Call, Kill, Pause, Poll, IsOn, answered, heard_of, Heard, HeardKill, HeardPoll, Leaves, Alive, Ends, Hears, IsOver, alive_after, alive_of, board_of, state_after_start, watched_of, asked_by_poll, is_killed, child_of, pending_with, PolledAll, PolledUntil, Rounds, WaitedOn, advanced, advanced_below, after_turns}
+use Rattle.kt_sched.specs.declared.job.StartAnswer.TheVariants.{Started as StartedAt, Refused as RefusedFor}
+use Rattle.kt_child.specs.Driving.Board.{killed, later, paused, polled}
+use Rattle.kt_child.proofs.Chains.{chain_append}
+use Rattle.kt_child.proofs.Outcomes.{goes_on}
+use Rattle.kt_child.proofs.CaseSteps.{some_is}
+
+-- a child with these answers
+abbrev answering : Watched → List Heard → Alive
+answering k heard = record { case = k.case; limit = k.limit; heard = heard }
+
+-- the children after a start, and the cases that are owed
+pub alive_started : (b : ChildrenState) (job : Job) (c : Case) (answer : StartAnswer)
+    → alive_of (state_after_start b (watched_of job c) answer).children ≡ alive_after (alive_of b.children) job c answer
+alive_started b job c (RefusedFor cause) = refl
+alive_started b job c (StartedAt moment) = by b.children
+  where
+    k : Watched
+    k = watched_of job c
+
+    by : (ks : List Watched) → alive_of (ks ++ k ∷ []) ≡ alive_of ks ++ answering k [] ∷ []
+    by [] = refl
+    by (x ∷ ks) = ap (λ t. answering x (answered x.limit x.watch) ∷ t) (by ks)
+
+pub pending_started : (b : ChildrenState) (k : Watched) (answer : StartAnswer) → (state_after_start b k answer).pending ≡ b.pending
+pending_started b k (StartedAt moment) = refl
+pending_started b k (RefusedFor cause) = refl
+
+-- what is heard by children behind another
+all_later : (a : Alive) (old new : List Alive) (calls : List Call) → Chain Hears old calls new → Chain Hears (a ∷ old) calls (a ∷ new)
+all_later a old new [] h = ap (λ t. a ∷ t) h
+all_later a old new (call ∷ calls) (mid, first, rest) = (a ∷ mid, later a old mid call first, all_later a mid new calls rest)
+
+-- the calls of one poll, and a child after it
+abbrev asked : Watched → Result Polled OsFault → Bool → List Call
+asked k answer done = asked_by_poll (child_of k.case) k.limit k.watch answer done
+
+abbrev told : Watched → Result Polled OsFault → Bool → Alive
+told k answer done = answering k (answered k.limit k.watch ++ heard_of k.limit k.watch answer done)
+
+-- a poll of the first child
+poll_heard : (k : Watched) (others : List Alive) (answer : Result Polled OsFault) (done : Bool)
+    → Chain Hears (answering k (answered k.limit k.watch) ∷ others) (asked k answer done) (told k answer done ∷ others)
+poll_heard k others answer done = by (is_killed k.limit k.watch answer)
+  where
+    H : List Heard
+    H = answered k.limit k.watch
+
+    by : (t : Bool) → Chain Hears (answering k H ∷ others) (if t then Poll (child_of k.case) answer ∷ Kill (child_of k.case) done ∷ [] else Poll (child_of k.case) answer ∷ [])
+        (answering k (H ++ (if t then HeardPoll answer ∷ HeardKill done ∷ [] else HeardPoll answer ∷ [])) ∷ others)
+    by true = (
+      answering k (H ++ HeardPoll answer ∷ []) ∷ others,
+      polled (answering k H) others answer,
+      (
+        answering k ((H ++ HeardPoll answer ∷ []) ++ HeardKill done ∷ []) ∷ others,
+        killed (answering k (H ++ HeardPoll answer ∷ [])) others done,
+        ap (λ t. answering k t ∷ others) (sym (append_assoc H (HeardPoll answer ∷ []) (HeardKill done ∷ []))),
+      ),
+    )
+    by false = (answering k (H ++ HeardPoll answer ∷ []) ∷ others, polled (answering k H) others answer, refl)
+
+-- a poll of the first child, which goes on, and what the others hear after it
+first_heard : (k : Watched) (ks : List Watched) (answer : Result Polled OsFault) (done : Bool) (more calls : List Call) (new : List Alive)
+    → answered k.limit (advanced k).watch ≡ answered k.limit k.watch ++ heard_of k.limit k.watch answer done → calls ≡ asked k answer done ++ more
+    → Chain Hears (alive_of ks) more new → Chain Hears (alive_of (k ∷ ks)) calls (answering k (answered k.limit (advanced k).watch) ∷ new)
+first_heard k ks answer done more calls new goes e h =
+    let now = answering k (answered k.limit (advanced k).watch) in
+    let C : List Call → Type 0 = λ t. Chain Hears (alive_of (k ∷ ks)) t (now ∷ new) in
+    let A : List Heard → Type 0 = λ t. Chain Hears (alive_of (k ∷ ks)) (asked k answer done) (answering k t ∷ alive_of ks) in
+    subst C (sym e)
+    (chain_append Hears (alive_of (k ∷ ks)) (now ∷ alive_of ks) (now ∷ new) (asked k answer done) more (subst A (sym goes) (poll_heard k (alive_of ks) answer done)) (all_later now (alive_of ks) new more h))
+
+-- a turn
+turn_heard : (ks : List Watched) (calls : List Call) → All IsOn ks → PolledAll ks calls → Chain Hears (alive_of ks) calls (alive_of (map advanced ks)) × All IsOn (map advanced ks)
+turn_heard [] calls on h = let C : List Call → Type 0 = λ t. Chain Hears [] t [] in (subst C (sym h) refl, All-nil IsOn)
+turn_heard (k ∷ ks) calls on (answer, done, more, e, went, turn) =
+    let is = All-head IsOn k ks on in
+    let g = goes_on k.limit k.watch answer done is.0 went in
+    let r = turn_heard ks more (All-tail IsOn k ks on) turn in
+    (first_heard k ks answer done more calls (alive_of (map advanced ks)) g.0 e r.0, All-cons IsOn (advanced k) (map advanced ks) (g.1, is.1) r.1)
+
+-- after these calls the child at a place is over, by all its answers; the other children are those that are left
+abbrev pub OverAt : List Watched → List Call → List Watched → ℕ → Outcome → Type 0
+OverAt ks calls after place outcome =
+    (alive : List Alive) × (a : Alive) × IsOver (alive_of ks) calls alive place a outcome
+    × (remove alive place ≡ alive_of (remove after place)) × ((k : Watched) → slice_get after place ≡ Some k → a.case ≡ k.case)
+
+-- a turn up to an end
+until_heard : (ks : List Watched) (place : ℕ) (calls : List Call) (outcome : Outcome) → All IsOn ks → PolledUntil ks place calls outcome
+    → OverAt ks calls (advanced_below place ks) place outcome
+until_heard [] place calls outcome on (before, last, e, none, over) = absurd over
+until_heard (k ∷ ks) zero calls outcome on (before, last, e, none, (answer, done, f, ended, row)) =
+    let C : List Call → Type 0 = λ t. Chain Hears (alive_of (k ∷ ks)) t (told k answer done ∷ alive_of ks) in (
+      told k answer done ∷ alive_of ks,
+      told k answer done,
+      (subst C (sym (e ∙ ap (λ t. t ++ last) none ∙ f)) (poll_heard k (alive_of ks) answer done), refl, row),
+      refl,
+      λ j h. ap (λ (t : Watched). t.case) (some_is k j h),
+    )
+until_heard (k ∷ ks) (suc place) calls outcome on (before, last, e, (answer, done, more, f, went, turn), over) =
+    let g = goes_on k.limit k.watch answer done (All-head IsOn k ks on).0 went in
+    let r = until_heard ks place (more ++ last) outcome (All-tail IsOn k ks on) (more, last, refl, turn, over) in
+    let now = answering k (answered k.limit (advanced k).watch) in
+    let same = e ∙ ap (λ t. t ++ last) f ∙ append_assoc (asked k answer done) more last in
+    (now ∷ r.0, r.1, (first_heard k ks answer done (more ++ last) calls r.0 g.0 same r.2.0, r.2.1, r.2.2), ap (λ t. now ∷ t) r.3, r.4)
+
+-- whole turns
+rounds_heard : (n : ℕ) (ks : List Watched) (calls : List Call) → All IsOn ks → Rounds n ks calls → Chain Hears (alive_of ks) calls (alive_of (after_turns n ks)) × All IsOn (after_turns n ks)
+rounds_heard zero ks calls on h = let C : List Call → Type 0 = λ t. Chain Hears (alive_of ks) t (alive_of ks) in (subst C (sym h) refl, on)
+rounds_heard (suc n) ks calls on (turn, done, more, e, all, rounds) =
+    let t = turn_heard ks turn on all in
+    let r = rounds_heard n (map advanced ks) more t.1 rounds in
+    let C : List Call → Type 0 = λ t. Chain Hears (alive_of ks) t (alive_of (after_turns (suc n) ks)) in
+    let now = alive_of (map advanced ks) in
+    (subst C (sym e) (chain_append Hears (alive_of ks) now (alive_of (after_turns (suc n) ks)) turn (Pause done ∷ more) t.0 (now, paused now done, r.0)), r.1)
+
+-- a wait
+pub wait_heard : (ks : List Watched) (calls : List Call) (place : ℕ) (outcome : Outcome) (after : List Watched) → All IsOn ks → WaitedOn ks calls place outcome after
+    → OverAt ks calls after place outcome
+wait_heard ks calls place outcome after on (turns, (rounds, last, e, waited, until), same) =
+    let r = rounds_heard turns ks rounds on waited in
+    let u = until_heard (after_turns turns ks) place last outcome r.1 until in
+    let C : List Call → Type 0 = λ t. Chain Hears (alive_of ks) t u.0 in
+    let P : List Watched → Type 0 = λ t. OverAt ks calls t place outcome in
+    subst P (sym same) (u.0, u.1, (subst C (sym e) (chain_append Hears (alive_of ks) (alive_of (after_turns turns ks)) u.0 rounds last r.0 u.2.0), u.2.1, u.2.2), u.3, u.4)
+
+-- an end on the board
+pub waited_ends : (old new : ChildrenState) (calls : List Call) (e : Ended) → All IsOn old.children → Waited old calls e new
+    → (next : ℕ) → Ends (board_of old next) calls e (board_of new next)
+waited_ends old new calls e on w next =
+    let o = wait_heard old.children w.polls w.place w.outcome w.after on w.waited in
+    let case : o.1.case ≡ w.over.case = o.4 w.over w.there in
+    let T : Outcome → Type 0 = λ t. IsOver (alive_of old.children) w.polls o.0 w.place o.1 t in
+    let L : Outcome → Type 0 = λ t. Leaves w.over.case w.rest t e in
+    let M : Case → Type 0 = λ t. Leaves t w.rest e.outcome e in
+    record {
+      polls = w.polls;
+      leaving = w.rest;
+      asked = w.asked;
+      after = o.0;
+      place = w.place;
+      over = o.1;
+      told = subst T (sym w.left.10) o.2;
+      left = subst M (sym case) (subst L (sym w.left.10) w.left);
+      alive = ap alive_of w.children ∙ sym o.3;
+      owed = w.pending ∙ ap (λ t. pending_with t old.pending) (sym case);
+      next = refl;
+    }

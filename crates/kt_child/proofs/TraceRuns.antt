@@ -1,0 +1,42 @@
+-- Each trace of a driver is a run of its board.
+use Rattle.std.proofs.Common.{◌≡◌, List, [], ◌++◌, refl, sym, ◌∙◌, subst}
+use Rattle.kt_child.proofs.Common.{Role, Job, StartAnswer, Ended, Trace, NoEvent, Then, Start, End, Leads, Driver, DriverStarts, DriverWaits, Call, RunsOver, Starts, board}
+use Rattle.kt_child.proofs.Chains.{chain_append}
+
+-- of whatever holds a driver
+module _ {D O : Type 0} (leads : O → Call → O → Type 0) (driver : D → Driver O) (starts : D → Job → Role → StartAnswer → D → Type 0) (waits : D → Ended → D → Type 0)
+    (started : (d e : D) (job : Job) (role : Role) (answer : StartAnswer) → starts d job role answer e → DriverStarts leads (driver d) job role answer (driver e))
+    (waited : (d e : D) (ended : Ended) → waits d ended e → DriverWaits leads (driver d) ended (driver e)) where
+  -- where programs lie and the root directory stay
+  runs : (plan : List Job) (T : Trace) (d e : D) → Leads starts waits plan T d e
+      → RunsOver leads plan T (driver d) (driver e) × ((driver e).source ≡ (driver d).source) × ((driver e).root ≡ (driver d).root)
+  runs plan NoEvent d e led =
+      let P : D → Type 0 = λ t. RunsOver leads plan NoEvent (driver d) (driver t) × ((driver t).source ≡ (driver d).source) × ((driver t).root ≡ (driver d).root) in
+      subst P (sym led) (([], refl, (refl, refl)), refl, refl)
+  runs plan (Then T (Start i role answer)) d e (mid, job, led, at, h) =
+      let l = runs plan T d mid led in
+      let s = started mid e job role answer h in
+      let R : List _ → List _ → Type 0 = λ source root. Starts source root (board (driver mid)) job role s.0.0 answer (board (driver e)) in (
+        (
+          l.0.0 ++ s.0.0,
+          chain_append leads (driver d).os (driver mid).os (driver e).os l.0.0 s.0.0 l.0.1 s.0.1,
+          (board (driver mid), l.0.0, s.0.0, refl, l.0.2, (job, at, subst (λ t. R t (driver d).root) l.1 (subst (λ t. R (driver mid).source t) l.2 s.0.2))),
+        ),
+        s.1 ∙ l.1,
+        s.2 ∙ l.2,
+      )
+  runs plan (Then T (End ended)) d e (mid, led, h) =
+      let l = runs plan T d mid led in
+      let w = waited mid e ended h in (
+        (
+          l.0.0 ++ w.0.0,
+          chain_append leads (driver d).os (driver mid).os (driver e).os l.0.0 w.0.0 l.0.1 w.0.1,
+          (board (driver mid), l.0.0, w.0.0, refl, l.0.2, w.0.3),
+        ),
+        w.1 ∙ l.1,
+        w.2 ∙ l.2,
+      )
+
+  -- the law
+  pub ends_are_told : (plan : List Job) (T : Trace) (d e : D) → Leads starts waits plan T d e → RunsOver leads plan T (driver d) (driver e)
+  ends_are_told plan T d e led = (runs plan T d e led).0

@@ -1,0 +1,71 @@
+-- The board of a driver: its running children with what each has answered, the cases that are owed a cleanup, and the next number.
+use Rattle.std.specs.Prelude.{◌≡◌, ℕ, List, [], ◌∷◌, ◌++◌, Bool, Some, Result, map, remove, slice_get}
+use Rattle.kt_base.specs.Chains.{Chain}
+use Rattle.kt_base.specs.declared.child.Outcome.{Outcome}
+use Rattle.kt_sched.specs.declared.job.Ended.{Ended}
+use Rattle.kt_child.specs.declared.driving.driver.Driver.{Driver}
+use Rattle.kt_child.specs.declared.planning.Case.{Case}
+use Rattle.kt_child.specs.declared.polling.Watched.{Watched}
+use Rattle.kt_child.specs.declared.system.OsFault.{OsFault}
+use Rattle.kt_child.specs.declared.system.Polled.{Polled}
+use Rattle.kt_child.specs.System.Calls.{Call, Kill, Pause, Poll}
+use Rattle.kt_child.specs.Planning.ChildPlan.{child_of}
+use Rattle.kt_child.specs.Polling.ChildOutcome.{Heard, HeardKill, HeardPoll, Told, answered}
+use Rattle.kt_child.specs.Ending.Ends.{Leaves}
+use Rattle.kt_child.specs.Driving.ChildrenState.{ChildrenState, pending_with}
+
+-- a running child: its case, its limit in seconds, and all that it has answered since its start
+pub record Alive : Type 0 where
+  pub case : Case
+  pub limit : ℕ
+  pub heard : List Heard
+
+-- the running children in the order of their start, the cases that are owed a cleanup, and the number of the next attempt
+pub record Board : Type 0 where
+  pub alive : List Alive
+  pub owed : List Case
+  pub next : ℕ
+
+-- these children, with what each has answered
+abbrev pub alive_of : List Watched → List Alive
+alive_of children = map (λ k. record { case = k.case; limit = k.limit; heard = answered k.limit k.watch }) children
+
+-- the board of these children with a next number
+abbrev pub board_of : ChildrenState → ℕ → Board
+board_of b next = record { alive = alive_of b.children; owed = b.pending; next = next }
+
+abbrev pub board : {O : Type 0} → Driver O → Board
+board d = board_of d.running d.next
+
+-- a child with one more answer
+abbrev pub hears : Alive → Heard → Alive
+hears a answer = record { case = a.case; limit = a.limit; heard = a.heard ++ answer ∷ [] }
+
+-- A call of a wait: the answer to a poll or a kill is heard by one child, whose name the call has, and by no other;
+-- that to a pause is heard by none.
+pub data Hears : List Alive → Call → List Alive → Type 0 where
+  polled : (a : Alive) (others : List Alive) (answer : Result Polled OsFault)
+      → Hears (a ∷ others) (Poll (child_of a.case) answer) (hears a (HeardPoll answer) ∷ others)
+  killed : (a : Alive) (others : List Alive) (done : Bool)
+      → Hears (a ∷ others) (Kill (child_of a.case) done) (hears a (HeardKill done) ∷ others)
+  later : (a : Alive) (others after : List Alive) (call : Call) → Hears others call after → Hears (a ∷ others) call (a ∷ after)
+  paused : (alive : List Alive) (done : Bool) → Hears alive (Pause done) alive
+
+-- after these calls the child at a place is over: its outcome is the row of the outcome table that all its answers are
+abbrev pub IsOver : List Alive → List Call → List Alive → ℕ → Alive → Outcome → Type 0
+IsOver old polls after place over outcome =
+    Chain Hears old polls after × (slice_get after place ≡ Some over) × Told over.limit over.heard outcome
+
+-- An end: a child is over after its polls, what follows deals with its case, and it is on the board no more.
+pub record Ends (old : Board) (calls : List Call) (e : Ended) (new : Board) : Type 0 where
+  pub polls : List Call
+  pub leaving : List Call
+  pub asked : calls ≡ polls ++ leaving
+  pub after : List Alive
+  pub place : ℕ
+  pub over : Alive
+  pub told : IsOver old.alive polls after place over e.outcome
+  pub left : Leaves over.case leaving e.outcome e
+  pub alive : new.alive ≡ remove after place
+  pub owed : new.owed ≡ pending_with over.case old.owed
+  pub next : new.next ≡ old.next
