@@ -20,12 +20,12 @@ pub use Rattle.kt_sched.specs.Trace.{End, Leads, NoEvent, Start, Then, Trace}
 pub use Rattle.kt_sched.specs.declared.job.Ended.{Ended}
 pub use Rattle.kt_sched.specs.declared.job.Job.{Job}
 pub use Rattle.kt_sched.specs.declared.job.StartAnswer.{StartAnswer}
-pub use Rattle.kt_child.specs.Driving.Begins.{Begun, state_after_start}
+pub use Rattle.kt_child.specs.Driving.Starting.{Begun, state_after_start}
 pub use Rattle.kt_child.specs.Driving.Board.{Alive, Board, Ends, Hears, IsOver, alive_of, board, board_of}
 pub use Rattle.kt_child.specs.Driving.ChildrenState.{ChildrenState, Waited, cases_of, is_among, pending_with, shown, shown_at, shown_in, with_pending}
 pub use Rattle.kt_child.specs.Driving.JobPlan.{cleaning, job_purpose, limit_of, spawning_for, spawning_of, want_of, watched_of}
 pub use Rattle.kt_child.specs.Driving.DriverSteps.{DriverStarts, DriverWaits}
-pub use Rattle.kt_child.specs.Driving.Launches.{Starts, alive_after}
+pub use Rattle.kt_child.specs.Driving.Board.{Starts, alive_after}
 pub use Rattle.kt_child.specs.Driving.Numbers.{AttemptsDiffer, IsApart, ListOf, Request, Serves, ServesAll, Wait, is_attempt, numbers, times, NumbersDiffer}
 pub use Rattle.kt_child.specs.Driving.Roots.{FailedRoots, root_of}
 pub use Rattle.kt_child.specs.Driving.Runs.{Runs, RunsOver}
@@ -40,7 +40,7 @@ pub use Rattle.kt_child.specs.Polling.ChildOutcome.{Heard, HeardKill, HeardPoll,
 pub use Rattle.kt_child.specs.Polling.Names.{same_child}
 pub use Rattle.kt_child.specs.Polling.Polls.{asked_by_poll, heard_of, is_killed, turn_of, watch_after}
 pub use Rattle.kt_child.specs.Polling.Turns.{PolledAll, PolledLast, PolledUntil, Rounds, WaitedOn, advanced, advanced_below, after_turns}
-pub use Rattle.kt_child.specs.Driving.Starts.{Ask, SetUpAs, Started, Tried, cause_of, child_asks, open_ask, spawn_ask, spawned, work_ask}
+pub use Rattle.kt_child.specs.Driving.Starting.{Ask, SetUpAs, Started, Tried, cause_of, child_asks, open_ask, spawn_ask, spawned, work_ask}
 pub use Rattle.kt_child.specs.System.Calls.{Call, Kill, MakeDir, Now, Pause, Poll, ReadFile, RemoveTree, SetLimit}
 pub use Rattle.kt_child.specs.declared.driving.driver.Driver.{Driver}
 pub use Rattle.kt_child.specs.declared.ending.NextPart.{NextPart}

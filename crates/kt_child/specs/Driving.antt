@@ -1,12 +1,10 @@
 -- The driver: it starts children, waits for them and asks for lists.
-pub mod Begins
 pub mod Board
 pub mod ChildrenState
 pub mod DriverSteps
 pub mod JobPlan
-pub mod Launches
 pub mod Lists
 pub mod Numbers
 pub mod Roots
 pub mod Runs
-pub mod Starts
+pub mod Starting

@@ -11,7 +11,7 @@ use Rattle.kt_base.specs.Chains.{Chain}
 use Rattle.kt_child.specs.System.Calls.{Call}
 use Rattle.kt_child.specs.Driving.Board.{Ends, board}
 use Rattle.kt_child.specs.Driving.ChildrenState.{Waited}
-use Rattle.kt_child.specs.Driving.Launches.{Starts}
+use Rattle.kt_child.specs.Driving.Board.{Starts}
 use Rattle.kt_child.specs.Driving.Lists.{ListsBy}
 
 -- a job's child is started on the board, over a system whose calls are related so

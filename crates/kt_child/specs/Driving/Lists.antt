@@ -16,7 +16,7 @@ use Rattle.kt_child.specs.System.Calls.{Call, ReadFile, RemoveTree}
 use Rattle.kt_child.specs.Planning.ChildPlan.{paths_of}
 use Rattle.kt_child.specs.Driving.Board.{Alive, IsOver, alive_of}
 use Rattle.kt_child.specs.Driving.JobPlan.{list_case, list_purpose, spawning_for}
-use Rattle.kt_child.specs.Driving.Starts.{SetUp, spawned}
+use Rattle.kt_child.specs.Driving.Starting.{SetUp, spawned}
 use Rattle.kt_child.specs.Polling.Turns.{WaitedUntil}
 use Rattle.kt_child.specs.Ending.Reads.{IsListWithin, list_of}
 

@@ -6,7 +6,7 @@ use Rattle.kt_sched.specs.Trace.{Trace, NoEvent, Then, Event, Start, End, Leads}
 use Rattle.kt_child.specs.declared.driving.driver.Driver.{Driver}
 use Rattle.kt_child.specs.System.Calls.{Call}
 use Rattle.kt_child.specs.Driving.Board.{Board, Ends, board}
-use Rattle.kt_child.specs.Driving.Launches.{Starts}
+use Rattle.kt_child.specs.Driving.Board.{Starts}
 use Rattle.kt_child.specs.Driving.DriverSteps.{DriverStarts, DriverWaits}
 
 -- an answer with its own calls, from one board to another: a start of the plan's job, or an end

@@ -1,7 +1,7 @@
 ghost use Rattle.std.specs.Prelude.{◌≡◌, ◌+◌, ◌<◌, ◌≤◌, length, List, slice_get, Some, remove, OnOk, true};
 ghost use Rattle.std.specs.Vec.{vec_len, vec_capacity};
 ghost use Rattle.kt_child.specs.declared.planning.Case.{Case};
-ghost use Rattle.kt_child.specs.Driving.Begins.{Unbegun};
+ghost use Rattle.kt_child.specs.Driving.Starting.{Unbegun};
 ghost use Rattle.kt_child.specs.declared.polling.Watched.{Watched};
 ghost use Rattle.kt_child.specs.Driving.ChildrenState.{is_among, pending_with};
 ghost use Rattle.kt_base.specs.Chains.{Chain};
