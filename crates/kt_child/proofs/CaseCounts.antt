@@ -1,6 +1,6 @@
 -- How many cases have a position.
-use Rattle.std.proofs.Common.{◌≡◌, ℕ, zero, suc, ◌+◌, ◌<◌, ◌≤◌, ◌==◌, ◌&&◌, List, [], ◌∷◌, ◌++◌, slice_get, Bool, true, false, Option, Some, None, refl, sym, subst, arith, if◌then◌else◌, nat_lt, ◌∙◌, ap, remove}
-use Rattle.kt_child.proofs.Common.{nat_tests, Role, Body, Cleanup, Case, same_role, count_at, one_if, is_among, pending_with, shown, shown_at, is_over}
+use Rattle.std.proofs.Common.{◌≡◌, ℕ, zero, suc, ◌+◌, ◌<◌, ◌≤◌, ◌==◌, ◌&&◌, List, [], ◌∷◌, ◌++◌, slice_get, map, Bool, true, false, Option, Some, None, refl, sym, subst, arith, if◌then◌else◌, nat_lt, ◌∙◌, ap, remove}
+use Rattle.kt_child.proofs.Common.{nat_tests, Role, Body, Cleanup, Case, same_role, count_at, one_if, times, is_among, pending_with, shown, shown_at, is_over}
 use Rattle.kt_sched.specs.Children.{Child as Shown}
 
 -- the first of two tests that hold
@@ -69,43 +69,36 @@ none_among cases i p = none (count_at i cases) (sym (among_counts cases i) ∙ p
     none : (n : ℕ) → nat_lt 0 n ≡ false → n ≡ 0
     none n e = grind (arith, nat_tests)
 
--- a case behind the others
-pub count_append : (cases : List Case) (c : Case) (i : ℕ) → count_at i (cases ++ c ∷ []) ≡ count_at i cases + one_if (i == c.position)
-count_append [] c i = omega arith
-count_append (d ∷ cases) c i = let h = count_append cases c i in omega (arith, h)
+-- how often a number is that of an element, with one more behind the others, and with one taken from them
+module _ {X : Type 0} (f : X → ℕ) (n : ℕ) where
+  pub times_more : (xs : List X) (x : X) → times n (map f (xs ++ x ∷ [])) ≡ times n (map f xs) + one_if (n == f x)
+  times_more [] x = omega arith
+  times_more (y ∷ xs) x = let h = times_more xs x in omega (arith, h)
 
--- a case taken from the others
-pub count_remove : (cases : List Case) (p : ℕ) (c : Case) (i : ℕ) → slice_get cases p ≡ Some c
-    → count_at i (remove cases p) + one_if (i == c.position) ≡ count_at i cases
-count_remove [] p c i h = absurd (cc (h))
-count_remove (d ∷ cases) zero c i h =
-    let e : d ≡ c = cc (h) in
-    let P : Case → Type 0 = λ t. count_at i cases + one_if (i == t.position) ≡ one_if (i == d.position) + count_at i cases in
-    let q : count_at i cases + one_if (i == d.position) ≡ one_if (i == d.position) + count_at i cases = omega arith in
-    subst P e q
-count_remove (d ∷ cases) (suc p) c i h = let q = count_remove cases p c i h in omega (arith, q)
+  pub times_less : (xs : List X) (p : ℕ) (x : X) → slice_get xs p ≡ Some x → times n (map f (remove xs p)) + one_if (n == f x) ≡ times n (map f xs)
+  times_less [] p x h = absurd (cc (h))
+  times_less (y ∷ xs) zero x h = let e : y ≡ x = cc (h) in let q = ap (λ t. one_if (n == f t)) e in omega (arith, q)
+  times_less (y ∷ xs) (suc p) x h = let q = times_less xs p x h in omega (arith, q)
+
+-- what is owed after an end is one more at most
+pub times_owed : (f : Case → ℕ) (n : ℕ) (owed : List Case) (c : Case) → times n (map f (pending_with c owed)) ≤ times n (map f owed) + one_if (n == f c)
+times_owed f n owed c = by (is_over c)
+  where
+    by : (t : Bool) → times n (map f (if t then owed else owed ++ c ∷ [])) ≤ times n (map f owed) + one_if (n == f c)
+    by true = omega arith
+    by false = let h = times_more f n owed c in omega (arith, h)
+
+-- a case by its position
+abbrev pub position : Case → ℕ
+position c = c.position
 
 -- a case among them counts
 pub count_there : (cases : List Case) (p : ℕ) (c : Case) → slice_get cases p ≡ Some c → 0 < count_at c.position cases
 count_there cases p c h =
     let P : Bool → Type 0 = λ b. count_at c.position (remove cases p) + one_if b ≡ count_at c.position cases in
     let q : count_at c.position (remove cases p) + 1 ≡ count_at c.position cases =
-    subst P (same_number c.position) (count_remove cases p c c.position h) in
+    subst P (same_number c.position) (times_less position c.position cases p c h) in
     omega arith
-
--- a bound for two lists holds for either
-count_if : (b : Bool) (xs ys : List Case) (i n : ℕ) → count_at i xs ≤ n → count_at i ys ≤ n → count_at i (if b then xs else ys) ≤ n
-count_if true xs ys i n p q = p
-count_if false xs ys i n p q = q
-
--- what is owed after an end has a position once more at most
-pub count_owed : (pending : List Case) (c : Case) (i : ℕ) → count_at i (pending_with c pending) ≤ count_at i pending + one_if (i == c.position)
-count_owed pending c i =
-    let n : ℕ = count_at i pending + one_if (i == c.position) in
-    let e = count_append pending c i in
-    let p : count_at i pending ≤ n = omega arith in
-    let q : count_at i (pending ++ c ∷ []) ≤ n = omega (arith, e) in
-    count_if (is_over c) pending (pending ++ c ∷ []) i n p q
 
 -- positions that a test calls the same are
 pub same_position : (a b : ℕ) → (a == b) ≡ true → a ≡ b

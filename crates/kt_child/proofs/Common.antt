@@ -26,14 +26,14 @@ pub use Rattle.kt_child.specs.Driving.ChildrenState.{ChildrenState, Waited, case
 pub use Rattle.kt_child.specs.Driving.JobPlan.{cleaning, job_purpose, limit_of, spawning_for, spawning_of, want_of, watched_of}
 pub use Rattle.kt_child.specs.Driving.DriverSteps.{DriverStarts, DriverWaits}
 pub use Rattle.kt_child.specs.Driving.Board.{Starts, alive_after}
-pub use Rattle.kt_child.specs.Driving.Numbers.{AttemptsDiffer, IsApart, ListOf, Request, Serves, ServesAll, Wait, is_attempt, numbers, times, NumbersDiffer}
+pub use Rattle.kt_child.specs.Driving.Numbers.{AttemptsDiffer, IsApart, ListOf, Request, Serves, ServesAll, Wait, is_attempt, numbers, NumbersDiffer}
 pub use Rattle.kt_child.specs.Driving.Roots.{FailedRoots, root_of}
 pub use Rattle.kt_child.specs.Driving.Runs.{Runs, RunsOver}
 pub use Rattle.kt_child.specs.Ending.Ends.{Leaves, Removes, err_of, is_over, out_of}
 pub use Rattle.kt_child.specs.Ending.Parts.{After, Bytes, IsNext, Missing, Reads, TooLong, Unreadable, Whole, next_part}
 pub use Rattle.kt_child.specs.Ending.Reads.{bytes_of}
 pub use Rattle.kt_child.specs.Host.HostStands.{AllProceed, AllStay, OthersStay, Proceeds, Stand, stand_in, stand_of}
-pub use Rattle.kt_child.specs.Inner.Children.{IsChildrenState, IsOn, IsShort, IsWatched, Takes, Tells, count_at, count_in, one_if, polls_left}
+pub use Rattle.kt_child.specs.Inner.Children.{IsChildrenState, IsOn, IsShort, IsWatched, Takes, Tells, count_at, count_in, one_if, polls_left, times}
 pub use Rattle.kt_child.specs.Inner.Host.{IsPlaceOf, TakesPiece, after_removed, after_set, is_other, RunsIn}
 pub use Rattle.kt_child.specs.Planning.ChildPlan.{child_of, test_variable, variable_word}
 pub use Rattle.kt_child.specs.Polling.ChildOutcome.{Heard, HeardKill, HeardPoll, Told, ToldAfterKill, answered, running}

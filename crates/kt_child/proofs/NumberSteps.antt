@@ -1,10 +1,10 @@
 -- The next number of a driver never falls, each attempt takes one, and no number stands twice on a board.
-use Rattle.std.proofs.Common.{◌≡◌, ℕ, zero, suc, ◌==◌, ◌+◌, ◌-◌, ◌^◌, ◌<◌, ◌≤◌, List, [], ◌∷◌, ◌++◌, Bool, true, false, Some, ◌⊎◌, map, remove, slice_get, refl, sym, ◌∙◌, ap, subst, arith, inl, inr, if◌then◌else◌}
-use Rattle.kt_child.proofs.Common.{nat_tests, Alive, Board, Body, Cleanup, Call, Case, Chain, Driver, End, Ended, Ends, Hears, Job, NoEvent, Role, Runs, Start as Started, StartAnswer, Starts, Then, Trace, alive_after, is_over, limit_of, one_if, pending_with, AttemptsDiffer, IsApart, NumbersDiffer, numbers, times, Request, Wait, ListOf, Serves, ServesAll, is_attempt}
+use Rattle.std.proofs.Common.{◌≡◌, ℕ, ◌==◌, ◌+◌, ◌-◌, ◌^◌, ◌<◌, ◌≤◌, List, [], ◌∷◌, ◌++◌, Bool, true, false, ◌⊎◌, map, refl, sym, ◌∙◌, ap, subst, arith, inl, inr}
+use Rattle.kt_child.proofs.Common.{nat_tests, Alive, Board, Body, Cleanup, Call, Case, Chain, Driver, End, Ended, Ends, Hears, Job, NoEvent, Role, Runs, Start as Started, StartAnswer, Starts, Then, Trace, alive_after, limit_of, one_if, AttemptsDiffer, IsApart, NumbersDiffer, numbers, times, Request, Wait, ListOf, Serves, ServesAll, is_attempt}
 use Rattle.kt_child.specs.Driving.Numbers.{Start}
 use Rattle.kt_sched.specs.declared.job.StartAnswer.TheVariants.{Started as StartedAt, Refused as RefusedFor}
 use Rattle.kt_child.specs.Driving.Board.{killed, later, paused, polled}
-use Rattle.kt_child.proofs.CaseSteps.{some_is}
+use Rattle.kt_child.proofs.CaseCounts.{times_less, times_more, times_owed}
 
 -- no request lets the number fall
 rises : {O : Type 0} (leads : O → Call → O → Type 0) (d e : Driver O) (request : Request) → Serves leads d request e → d.next ≤ e.next
@@ -46,16 +46,6 @@ times_join : (n : ℕ) (xs ys : List ℕ) → times n (xs ++ ys) ≡ times n xs 
 times_join n [] ys = omega arith
 times_join n (x ∷ xs) ys = let h = times_join n xs ys in omega (arith, h)
 
-module _ {X : Type 0} (f : X → ℕ) (n : ℕ) where
-  times_push : (xs : List X) (x : X) → times n (map f (xs ++ x ∷ [])) ≡ times n (map f xs) + one_if (f x == n)
-  times_push [] x = omega arith
-  times_push (y ∷ xs) x = let h = times_push xs x in omega (arith, h)
-
-  times_less : (xs : List X) (i : ℕ) (x : X) → slice_get xs i ≡ Some x → times n (map f (remove xs i)) + one_if (f x == n) ≡ times n (map f xs)
-  times_less [] i x at = let no : ⊥ = cc in absurd no
-  times_less (y ∷ xs) zero x at = let e : one_if (f y == n) ≡ one_if (f x == n) = ap (λ t. one_if (f t == n)) (some_is y x at) in omega (arith, e)
-  times_less (y ∷ xs) (suc i) x at = let h = times_less xs i x at in omega (arith, h)
-
 abbrev runs_by : Alive → ℕ
 runs_by a = a.case.attempt
 
@@ -73,18 +63,11 @@ calls_kept : (calls : List Call) (old new : List Alive) → Chain Hears old call
 calls_kept [] old new h = ap (map runs_by) h
 calls_kept (call ∷ calls) old new (mid, first, rest) = calls_kept calls mid new rest ∙ call_kept old mid call first
 
--- a started case, and one that is owed, is one more at most
+-- a started case is one more at most
 started_most : (n : ℕ) (alive : List Alive) (job : Job) (c : Case) (answer : StartAnswer)
-    → times n (map runs_by (alive_after alive job c answer)) ≤ times n (map runs_by alive) + one_if (c.attempt == n)
+    → times n (map runs_by (alive_after alive job c answer)) ≤ times n (map runs_by alive) + one_if (n == c.attempt)
 started_most n alive job c (RefusedFor cause) = omega arith
-started_most n alive job c (StartedAt moment) = let k : Alive = record { case = c; limit = limit_of job c.role; heard = [] } in let h = times_push runs_by n alive k in omega (arith, h)
-
-owed_most : (n : ℕ) (c : Case) (owed : List Case) → times n (map owed_by (pending_with c owed)) ≤ times n (map owed_by owed) + one_if (c.attempt == n)
-owed_most n c owed = by (is_over c)
-  where
-    by : (t : Bool) → times n (map owed_by (if t then owed else owed ++ c ∷ [])) ≤ times n (map owed_by owed) + one_if (c.attempt == n)
-    by true = omega arith
-    by false = let h = times_push owed_by n owed c in omega (arith, h)
+started_most n alive job c (StartedAt moment) = let k : Alive = record { case = c; limit = limit_of job c.role; heard = [] } in let h = times_more runs_by n alive k in omega (arith, h)
 
 -- a board on which no number stands more often than on another one, and whose next number is no less
 fewer : (old new : Board) → IsApart old → old.next ≤ new.next
@@ -104,7 +87,7 @@ ends_apart old new calls e s apart =
     let k = ap (times n) (calls_kept s.polls old.alive s.after s.told.0) in
     let l = times_less runs_by n s.after s.place s.over s.told.1 in
     let a = ap (λ t. times n (map runs_by t)) s.alive in
-    let o = owed_most n s.over.case old.owed in
+    let o = times_owed owed_by n old.owed s.over.case in
     let p = ap (λ t. times n (map owed_by t)) s.owed in
     omega (arith, k, l, a, o, p))
 
@@ -124,21 +107,21 @@ starts_apart source root old new job Cleanup calls answer (inr (c, (place, was, 
     let a = ap (λ t. times n (map runs_by t)) alive in
     let l = times_less owed_by n old.owed place was at in
     let p = ap (λ t. times n (map owed_by t)) owed in
-    let k = ap (λ (t : Case). one_if (t.attempt == n)) case in
+    let k = ap (λ (t : Case). one_if (n == t.attempt)) case in
     omega (arith, s, a, l, p, k))
-starts_apart source root old new job Body calls answer (inr (c, (lt, next, owed, case), begun, alive)) apart = λ n. by n (one_or old.next n)
+starts_apart source root old new job Body calls answer (inr (c, (lt, next, owed, case), begun, alive)) apart = λ n. by n (one_or n old.next)
   where
-    most : (n : ℕ) → times n (numbers new) ≤ times n (numbers old) + one_if (old.next == n)
+    most : (n : ℕ) → times n (numbers new) ≤ times n (numbers old) + one_if (n == old.next)
     most n =
         let s = started_most n old.alive job c answer in
         let a = ap (λ t. times n (map runs_by t)) alive in
         let p = ap (λ t. times n (map owed_by t)) owed in
-        let k = ap (λ (t : Case). one_if (t.attempt == n)) case in
+        let k = ap (λ (t : Case). one_if (n == t.attempt)) case in
         let x = times_join n (map runs_by old.alive) (map owed_by old.owed) in
         let y = times_join n (map runs_by new.alive) (map owed_by new.owed) in
         omega (arith, s, a, p, k, x, y)
 
-    by : (n : ℕ) → (one_if (old.next == n) ≡ 0) ⊎ ((one_if (old.next == n) ≡ 1) × (old.next ≡ n)) → (times n (numbers new) ≤ 1) × (new.next ≤ n → times n (numbers new) ≡ 0)
+    by : (n : ℕ) → (one_if (n == old.next) ≡ 0) ⊎ ((one_if (n == old.next) ≡ 1) × (n ≡ old.next)) → (times n (numbers new) ≤ 1) × (new.next ≤ n → times n (numbers new) ≡ 0)
     by n (inl z) =
         let m = apart n in
         let u = m.0 in

@@ -2,12 +2,12 @@
 use Rattle.std.proofs.Common.{◌≡◌, ℕ, ◌+◌, ◌≤◌, ◌==◌, ◌&&◌, List, [], ◌∷◌, ◌++◌, slice_get, Bool, true, false, Option, Some, refl, sym, ◌∙◌, ap, subst, arith, if◌then◌else◌, nat_lt, remove}
 use Rattle.kt_child.proofs.Common.{nat_tests, Role, Body, Cleanup, Case, same_role, with_cleanup_declared, count_at, one_if, is_among, pending_with, shown, shown_at, is_over}
 use Rattle.kt_sched.specs.Children.{Child as Shown}
-use Rattle.kt_child.proofs.CaseCounts.{among_counts, and_false, count_append, count_remove, same_position}
+use Rattle.kt_child.proofs.CaseCounts.{among_counts, and_false, position, same_position, times_less, times_more}
 
 -- a case behind those that are owed
 pub among_append : (cases : List Case) (c : Case) (k : ℕ) → is_among (cases ++ c ∷ []) k ≡ (if k == c.position then true else is_among cases k)
 among_append cases c k =
-    among_counts (cases ++ c ∷ []) k ∙ ap (nat_lt 0) (count_append cases c k) ∙ more (k == c.position) (is_among cases k) (count_at k cases) (among_counts cases k)
+    among_counts (cases ++ c ∷ []) k ∙ ap (nat_lt 0) (times_more position k cases c) ∙ more (k == c.position) (is_among cases k) (count_at k cases) (among_counts cases k)
   where
     more : (b x : Bool) (n : ℕ) → x ≡ nat_lt 0 n → nat_lt 0 (n + one_if b) ≡ (if b then true else x)
     more true x n e = grind (arith, nat_tests)
@@ -53,7 +53,7 @@ pub among_remove : (cases : List Case) (p : ℕ) (c : Case) (k : ℕ) → slice_
     → is_among (remove cases p) k ≡ (if k == c.position then false else is_among cases k)
 among_remove cases p c k at once =
     among_counts (remove cases p) k
-    ∙ less (k == c.position) (is_among cases k) (count_at k (remove cases p)) (count_at k cases) (count_remove cases p c k at)
+    ∙ less (k == c.position) (is_among cases k) (count_at k (remove cases p)) (count_at k cases) (times_less position k cases p c at)
     (λ e. let P : ℕ → Type 0 = λ t. count_at t cases ≤ 1 in subst P (sym (same_position k c.position e)) once) (among_counts cases k)
   where
     less : (b x : Bool) (m n : ℕ) → m + one_if b ≡ n → (b ≡ true → n ≤ 1) → x ≡ nat_lt 0 n → nat_lt 0 m ≡ (if b then false else x)

@@ -4,7 +4,7 @@ use Rattle.kt_child.proofs.Common.{All, All-append, All-take, All-drop, All-push
 use Rattle.kt_sched.specs.Children.{Child as Shown}
 use Rattle.kt_child.proofs.CaseSteps.{case_at, cases_remove, waited_cases}
 use Rattle.kt_child.proofs.Chains.{chain_append}
-use Rattle.kt_child.proofs.CaseCounts.{count_owed, count_remove, count_append, same_number, same_position}
+use Rattle.kt_child.proofs.CaseCounts.{position, same_number, same_position, times_less, times_more, times_owed}
 use Rattle.kt_child.proofs.OwedCases.{among_owed}
 use Rattle.kt_child.proofs.ShownCases.{shown_remove, shown_there}
 
@@ -27,7 +27,7 @@ state_started children children' pending pending' k b on free e f =
       on = subst (All IsOn) (sym e) (All-push IsOn children k b.on on);
       once = λ i.
           let x : count_at i (cases_of children') ≡ count_at i (cases_of children) + one_if (i == k.case.position) =
-          ap (λ t. count_at i (cases_of t)) e ∙ ap (count_at i) (cases_more children k) ∙ count_append (cases_of children) k.case i in
+          ap (λ t. count_at i (cases_of t)) e ∙ ap (count_at i) (cases_more children k) ∙ times_more position i (cases_of children) k.case in
           let y : count_at i pending' ≡ count_at i pending = ap (count_at i) f in
           let Z : ℕ → Type 0 = λ n. count_at n (cases_of children) + count_at n pending ≡ 0 in
           let o = once_more (i == k.case.position) (count_at i (cases_of children)) (count_at i pending)
@@ -43,7 +43,7 @@ state_taken children pending pending' p c b at e =
       on = b.on;
       once = λ i.
           let x : count_at i pending' ≡ count_at i (remove pending p) = ap (count_at i) e in
-          let h = count_remove pending p c i at in
+          let h = times_less position i pending p c at in
           let n = b.once i in
           omega (arith, x, h, n);
     }
@@ -53,7 +53,7 @@ pub free_taken : (cases pending : List Case) (p : ℕ) (c : Case) → ((i : ℕ)
     → slice_get pending p ≡ Some c → count_at c.position cases + count_at c.position (remove pending p) ≡ 0
 free_taken cases pending p c once at =
     let B : Bool → Type 0 = λ b. count_at c.position (remove pending p) + one_if b ≡ count_at c.position pending in
-    let h : count_at c.position (remove pending p) + 1 ≡ count_at c.position pending = subst B (same_number c.position) (count_remove pending p c c.position at) in
+    let h : count_at c.position (remove pending p) + 1 ≡ count_at c.position pending = subst B (same_number c.position) (times_less position c.position pending p c at) in
     let n = once c.position in
     omega (arith, h, n)
 
@@ -68,8 +68,8 @@ state_after children after children' pending pending' p k b same on at e q =
     record {
       on = subst (All IsOn) (sym e) (All-append IsOn (take p after) (drop (suc p) after) (All-take IsOn p after on) (All-drop IsOn (suc p) after on));
       once = λ i.
-          let h = count_remove (cases_of after) p k.case i (case_at after p k at) in
-          let o = count_owed pending k.case i in
+          let h = times_less position i (cases_of after) p k.case (case_at after p k at) in
+          let o = times_owed position i pending k.case in
           let n = b.once i in
           let s = ap (count_at i) same in
           let x : count_at i (cases_of children') ≡ count_at i (remove (cases_of after) p) = ap (λ t. count_at i (cases_of t)) e ∙ ap (count_at i) (cases_remove after p) in

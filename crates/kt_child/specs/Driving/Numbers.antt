@@ -1,5 +1,5 @@
 -- The numbers of a driver's attempts, which are the starts of bodies and the lists.
-use Rattle.std.specs.Prelude.{◌≡◌, ℕ, Bool, true, false, ◌==◌, ◌<◌, ◌≤◌, ◌+◌, ◌-◌, ◌^◌, List, [], ◌∷◌, ◌++◌, map}
+use Rattle.std.specs.Prelude.{◌≡◌, ℕ, Bool, true, false, ◌<◌, ◌≤◌, ◌-◌, ◌^◌, List, [], ◌∷◌, ◌++◌, map}
 use Rattle.kt_base.specs.declared.child.Role.{Role}
 use Rattle.kt_base.specs.declared.child.Role.TheVariants.{Body, Cleanup}
 use Rattle.kt_base.specs.declared.variable.Variable.{Variable}
@@ -10,7 +10,7 @@ use Rattle.kt_sched.specs.declared.job.Ended.{Ended}
 use Rattle.kt_sched.specs.Trace.{Trace}
 use Rattle.kt_child.specs.declared.driving.driver.Driver.{Driver}
 use Rattle.kt_child.specs.System.Calls.{Call}
-use Rattle.kt_child.specs.Inner.Children.{one_if}
+use Rattle.kt_child.specs.Inner.Children.{times}
 use Rattle.kt_child.specs.Driving.Board.{Board, board_of}
 use Rattle.kt_child.specs.Driving.ChildrenState.{idle_state}
 use Rattle.kt_child.specs.Driving.DriverSteps.{DriverLists, DriverStarts, DriverWaits}
@@ -45,11 +45,6 @@ abbrev pub AttemptsDiffer : {O : Type 0} → (O → Call → O → Type 0) → T
 AttemptsDiffer {O} leads =
     (attempt : Request) (requests : List Request) (d e f : Driver O)
     → is_attempt attempt ≡ true → d.next < 2 ^ 64 - 1 → Serves leads d attempt e → ServesAll leads e requests f → d.next < f.next
-
--- how often a number stands among these
-abbrev pub times : ℕ → List ℕ → ℕ
-times n [] = 0
-times n (m ∷ numbers) = one_if (m == n) + times n numbers
 
 -- the numbers of the cases that run or are owed a cleanup
 abbrev pub numbers : Board → List ℕ

@@ -1,5 +1,5 @@
 -- The children of a driver, as private functions keep and poll them.
-use Rattle.std.specs.Prelude.{ℕ, ◌==◌, ◌&&◌, Option, Some, if◌then◌else◌, Bool, true, false, ◌≡◌, ◌+◌, ◌≤◌, List, [], ◌∷◌, All, ◌-◌, ◌*◌, ◌<◌, ◌++◌}
+use Rattle.std.specs.Prelude.{map, ℕ, ◌==◌, ◌&&◌, Option, Some, if◌then◌else◌, Bool, true, false, ◌≡◌, ◌+◌, ◌≤◌, List, [], ◌∷◌, All, ◌-◌, ◌*◌, ◌<◌, ◌++◌}
 use Rattle.kt_base.specs.declared.child.Role.{Role}
 use Rattle.kt_sched.specs.declared.job.StartAnswer.{StartAnswer}
 use Rattle.kt_sched.specs.declared.job.StartAnswer.TheVariants.{Started as StartedAt, Refused as RefusedFor}
@@ -47,10 +47,14 @@ abbrev pub one_if : Bool → ℕ
 one_if true = 1
 one_if false = 0
 
+-- how often a number stands among these
+abbrev pub times : ℕ → List ℕ → ℕ
+times n [] = 0
+times n (m ∷ numbers) = one_if (n == m) + times n numbers
+
 -- how many of these cases have this position
 abbrev pub count_at : ℕ → List Case → ℕ
-count_at i [] = 0
-count_at i (c ∷ cases) = one_if (i == c.position) + count_at i cases
+count_at i cases = times i (map (λ c. c.position) cases)
 
 -- how many of the cases that run or are owed a cleanup have this position
 abbrev pub count_in : ℕ → ChildrenState → ℕ
