@@ -28,7 +28,7 @@ pub use Rattle.kt_child.specs.Driving.DriverSteps.{DriverStarts, DriverWaits}
 pub use Rattle.kt_child.specs.Driving.Board.{Starts, alive_after}
 pub use Rattle.kt_child.specs.Driving.Numbers.{AttemptsDiffer, IsApart, ListOf, Request, Serves, ServesAll, Wait, is_attempt, numbers, NumbersDiffer}
 pub use Rattle.kt_child.specs.Driving.Roots.{FailedRoots, root_of}
-pub use Rattle.kt_child.specs.Driving.Runs.{Runs, RunsOver}
+pub use Rattle.kt_child.specs.Driving.Runs.{Runs, RunsFrom}
 pub use Rattle.kt_child.specs.Ending.Ends.{Leaves, Removes, err_of, is_over, out_of}
 pub use Rattle.kt_child.specs.Ending.Parts.{After, Bytes, IsNext, Missing, Reads, TooLong, Unreadable, Whole, next_part}
 pub use Rattle.kt_child.specs.Ending.Reads.{bytes_of}

@@ -1,6 +1,6 @@
 -- Each trace of a driver is a run of its board.
 use Rattle.std.proofs.Common.{◌≡◌, List, [], ◌++◌, refl, sym, ◌∙◌, subst}
-use Rattle.kt_child.proofs.Common.{Role, Job, StartAnswer, Ended, Trace, NoEvent, Then, Start, End, Leads, Driver, DriverStarts, DriverWaits, Call, RunsOver, Starts, board}
+use Rattle.kt_child.proofs.Common.{Role, Job, StartAnswer, Ended, Trace, NoEvent, Then, Start, End, Leads, Driver, DriverStarts, DriverWaits, Call, RunsFrom, Starts, board}
 use Rattle.kt_child.proofs.Chains.{chain_append}
 
 -- of whatever holds a driver
@@ -9,9 +9,9 @@ module _ {D O : Type 0} (leads : O → Call → O → Type 0) (driver : D → Dr
     (waited : (d e : D) (ended : Ended) → waits d ended e → DriverWaits leads (driver d) ended (driver e)) where
   -- where programs lie and the root directory stay
   runs : (plan : List Job) (T : Trace) (d e : D) → Leads starts waits plan T d e
-      → RunsOver leads plan T (driver d) (driver e) × ((driver e).source ≡ (driver d).source) × ((driver e).root ≡ (driver d).root)
+      → RunsFrom leads plan T (board (driver d)) (driver d) (driver e) × ((driver e).source ≡ (driver d).source) × ((driver e).root ≡ (driver d).root)
   runs plan NoEvent d e led =
-      let P : D → Type 0 = λ t. RunsOver leads plan NoEvent (driver d) (driver t) × ((driver t).source ≡ (driver d).source) × ((driver t).root ≡ (driver d).root) in
+      let P : D → Type 0 = λ t. RunsFrom leads plan NoEvent (board (driver d)) (driver d) (driver t) × ((driver t).source ≡ (driver d).source) × ((driver t).root ≡ (driver d).root) in
       subst P (sym led) (([], refl, (refl, refl)), refl, refl)
   runs plan (Then T (Start i role answer)) d e (mid, job, led, at, h) =
       let l = runs plan T d mid led in
@@ -38,5 +38,5 @@ module _ {D O : Type 0} (leads : O → Call → O → Type 0) (driver : D → Dr
       )
 
   -- the law
-  pub ends_are_told : (plan : List Job) (T : Trace) (d e : D) → Leads starts waits plan T d e → RunsOver leads plan T (driver d) (driver e)
+  pub ends_are_told : (plan : List Job) (T : Trace) (d e : D) → Leads starts waits plan T d e → RunsFrom leads plan T (board (driver d)) (driver d) (driver e)
   ends_are_told plan T d e led = (runs plan T d e led).0

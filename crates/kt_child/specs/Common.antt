@@ -14,13 +14,13 @@ pub use Rattle.kt_sched.specs.Run.{Ran}
 pub use Rattle.kt_sched.specs.Trace.{Leads, Trace}
 pub use Rattle.kt_child.specs.Driving.Starting.{Begun, state_after_start}
 pub use Rattle.kt_child.specs.Driving.ChildrenState.{Waited, idle_state, is_among, shown_in, with_pending}
-pub use Rattle.kt_child.specs.Driving.Board.{Ends, board_of}
+pub use Rattle.kt_child.specs.Driving.Board.{Ends, board, board_of}
 pub use Rattle.kt_child.specs.Driving.DriverSteps.{DriverStarts, DriverWaits, StartsBy}
 pub use Rattle.kt_child.specs.Driving.JobPlan.{case_in, limit_of, list_case, list_purpose, program_directory, program_path, spawning_for, spawning_of, want_of, watched_of}
 pub use Rattle.kt_child.specs.Driving.Lists.{ListsBy, RanList, WatchedList}
 pub use Rattle.kt_child.specs.Driving.Numbers.{AttemptsDiffer, NumbersDiffer}
 pub use Rattle.kt_child.specs.Driving.Roots.{FindsRoot, root_of}
-pub use Rattle.kt_child.specs.Driving.Runs.{EndsAreTold, RunsOver}
+pub use Rattle.kt_child.specs.Driving.Runs.{EndsAreTold, RunsFrom}
 pub use Rattle.kt_child.specs.Driving.Starting.{SetUp, SetUpIn, SetUpNew, Started, Tried, cause_of, child_asks, furnish_asks, spawn_ask, spawned}
 pub use Rattle.kt_child.specs.Ending.Ends.{Leaves, Removes, err_of, is_over, out_of}
 pub use Rattle.kt_child.specs.Ending.Gathering.{Gathers, IsClaim, IsTap, ReadsClaim, ReadsTap}

@@ -1,8 +1,8 @@
 -- Each end in the trace of a command is told by its own child.
 use Rattle.std.proofs.Common.{◌≡◌, ◌∙◌, List, [], ◌∷◌, ap, subst}
 use Rattle.kt_cli.proofs.Common.{Chain, ChildrenState, idle_state, Question, OfTree, OfHost, leads_by, HostWorld, IsHostAnswer, IsLook, host_world, look_kept, running_kept, Course, Seen}
-use Rattle.kt_child.specs.Driving.Board.{board, board_of}
-use Rattle.kt_child.specs.Driving.Runs.{Runs}
+use Rattle.kt_child.specs.Driving.Board.{board_of}
+use Rattle.kt_child.specs.Driving.Runs.{RunsFrom}
 use Rattle.kt_child.proofs.TraceRuns.{ends_are_told}
 use Rattle.kt_cli.specs.ChildrenTold.{ChildrenTell}
 use Rattle.kt_child.specs.declared.system.os.Os as system
@@ -20,6 +20,6 @@ module _ {M O : Type 0} (m : machine.Ghosts M) (o : system.Ghosts O) where
       → ChildrenTell o.leads seen.plan seen.trace course.begun.driver new.driver
   courses_are_told seen old new course none =
       let d = course.begun.driver in
-      let t = ends_are_told o.leads (λ (w : HostWorld M O). w.driver) _ _ (λ d e job role answer h. h.0) (λ d e ended h. h.0) seen.plan seen.trace course.begun new course.ran in
-      let P : ChildrenState → Type 0 = λ b. Runs seen.plan d.source d.root (board_of b d.next) seen.trace t.0 (board new.driver) in
-      (t.0, t.1, subst P (all_running_kept seen.questions old course.begun course.asked ∙ none) t.2)
+      let P : ChildrenState → Type 0 = λ b. RunsFrom o.leads seen.plan seen.trace (board_of b d.next) d new.driver in
+      subst P (all_running_kept seen.questions old course.begun course.asked ∙ none)
+      (ends_are_told o.leads (λ (w : HostWorld M O). w.driver) _ _ (λ d e job role answer h. h.0) (λ d e ended h. h.0) seen.plan seen.trace course.begun new course.ran)

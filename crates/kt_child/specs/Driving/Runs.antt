@@ -22,12 +22,12 @@ Runs plan source root old (Then T event) calls new =
     (mid : Board) × (before : List Call) × (asked : List Call) × (calls ≡ before ++ asked)
     × Runs plan source root old T before mid × Answers plan source root mid asked event new
 
--- these are all the calls of a driver over its system
-abbrev pub RunsOver : {O : Type 0} → (O → Call → O → Type 0) → List Job → Trace → Driver O → Driver O → Type 0
-RunsOver leads plan T old new =
-    (calls : List Call) × Chain leads old.os calls new.os × Runs plan old.source old.root (board old) T calls (board new)
+-- a trace from this board on, with all the calls of a driver over its system
+abbrev pub RunsFrom : {O : Type 0} → (O → Call → O → Type 0) → List Job → Trace → Board → Driver O → Driver O → Type 0
+RunsFrom leads plan T b old new =
+    (calls : List Call) × Chain leads old.os calls new.os × Runs plan old.source old.root b T calls (board new)
 
 -- whatever is started and waited for: the calls that are asked of the system are those of the answers, and tell each end
 abbrev pub EndsAreTold : {O : Type 0} → (O → Call → O → Type 0) → Type 0
 EndsAreTold {O} leads =
-    (plan : List Job) (T : Trace) (d e : Driver O) → Leads (DriverStarts leads) (DriverWaits leads) plan T d e → RunsOver leads plan T d e
+    (plan : List Job) (T : Trace) (d e : Driver O) → Leads (DriverStarts leads) (DriverWaits leads) plan T d e → RunsFrom leads plan T (board d) d e

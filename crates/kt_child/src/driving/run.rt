@@ -1,4 +1,4 @@
-ghost use Rattle.kt_child.specs.Common.{IsIdle, IsPlan, IsWidth, Ran, Trace, Leads, is_among, shown_in, DriverStarts, DriverWaits, AttemptsDiffer, NumbersDiffer, EndsAreTold, RunsOver};
+ghost use Rattle.kt_child.specs.Common.{IsIdle, IsPlan, IsWidth, Ran, Trace, Leads, is_among, shown_in, DriverStarts, DriverWaits, AttemptsDiffer, NumbersDiffer, EndsAreTold, RunsFrom, board};
 
 use crate::{Driver, Os};
 use kt_base::Items;
@@ -21,7 +21,7 @@ pub fn run_driver<O: Os + Drop, S: Sink>(
         sink.old sink.new result }
     ensures told { (T : Trace)
         → Leads (DriverStarts O.leads) (DriverWaits O.leads) plan T driver.old driver.new
-        → RunsOver O.leads plan T driver.old driver.new }
+        → RunsFrom O.leads plan T (board driver.old) driver.old driver.new }
 {
     run_cases(alloc, plan, width, driver, sink)
 }
