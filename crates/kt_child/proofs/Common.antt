@@ -20,10 +20,10 @@ pub use Rattle.kt_sched.specs.Trace.{End, Leads, NoEvent, Start, Then, Trace}
 pub use Rattle.kt_sched.specs.declared.job.Ended.{Ended}
 pub use Rattle.kt_sched.specs.declared.job.Job.{Job}
 pub use Rattle.kt_sched.specs.declared.job.StartAnswer.{StartAnswer}
-pub use Rattle.kt_child.specs.Driving.Starting.{Begun, state_after_start}
+pub use Rattle.kt_child.specs.Driving.Starting.{Begun}
 pub use Rattle.kt_child.specs.Driving.Board.{Alive, Board, Ends, Hears, IsOver, alive_of, board, board_of}
-pub use Rattle.kt_child.specs.Driving.ChildrenState.{ChildrenState, Waited, cases_of, is_among, pending_with, shown, shown_at, shown_in, with_pending}
-pub use Rattle.kt_child.specs.Driving.JobPlan.{cleaning, job_purpose, limit_of, spawning_for, spawning_of, want_of, watched_of}
+pub use Rattle.kt_child.specs.Driving.ChildrenState.{ChildrenState, Waited, cases_of, is_among, pending_with, shown, shown_at, shown_in}
+pub use Rattle.kt_child.specs.Driving.JobPlan.{cleaning, job_purpose, limit_of, spawning_for, spawning_of, want_of}
 pub use Rattle.kt_child.specs.Driving.DriverSteps.{DriverStarts, DriverWaits}
 pub use Rattle.kt_child.specs.Driving.Board.{Starts, alive_after}
 pub use Rattle.kt_child.specs.Driving.Numbers.{AttemptsDiffer, IsApart, ListOf, Request, Serves, ServesAll, Wait, is_attempt, numbers, NumbersDiffer}
@@ -33,7 +33,7 @@ pub use Rattle.kt_child.specs.Ending.Ends.{Leaves, Removes, err_of, is_over, out
 pub use Rattle.kt_child.specs.Ending.Parts.{After, Bytes, IsNext, Missing, Reads, TooLong, Unreadable, Whole, next_part}
 pub use Rattle.kt_child.specs.Ending.Reads.{bytes_of}
 pub use Rattle.kt_child.specs.Host.HostStands.{AllProceed, AllStay, OthersStay, Proceeds, Stand, stand_in, stand_of}
-pub use Rattle.kt_child.specs.Inner.Children.{IsChildrenState, IsOn, IsShort, IsWatched, Takes, Tells, count_at, count_in, one_if, polls_left, times}
+pub use Rattle.kt_child.specs.Inner.Children.{IsChildrenState, IsOn, IsShort, IsWatched, Takes, Tells, count_at, count_in, one_if, polls_left, state_after_start, times, watched_of, with_pending}
 pub use Rattle.kt_child.specs.Inner.Host.{IsPlaceOf, TakesPiece, after_removed, after_set, is_other, RunsIn}
 pub use Rattle.kt_child.specs.Planning.ChildPlan.{child_of, test_variable, variable_word}
 pub use Rattle.kt_child.specs.Polling.ChildOutcome.{Heard, HeardKill, HeardPoll, Told, ToldAfterKill, answered, running}

@@ -12,11 +12,11 @@ pub use Rattle.kt_sched.specs.Moments.{HasMoment}
 pub use Rattle.kt_sched.specs.Plan.{IsFit, IsPlan, IsWidth}
 pub use Rattle.kt_sched.specs.Run.{Ran}
 pub use Rattle.kt_sched.specs.Trace.{Leads, Trace}
-pub use Rattle.kt_child.specs.Driving.Starting.{Begun, state_after_start}
-pub use Rattle.kt_child.specs.Driving.ChildrenState.{Waited, idle_state, is_among, shown_in, with_pending}
+pub use Rattle.kt_child.specs.Driving.Starting.{Begun}
+pub use Rattle.kt_child.specs.Driving.ChildrenState.{Waited, idle_state, is_among, shown_in}
 pub use Rattle.kt_child.specs.Driving.Board.{Ends, board, board_of}
 pub use Rattle.kt_child.specs.Driving.DriverSteps.{DriverStarts, DriverWaits, StartsBy}
-pub use Rattle.kt_child.specs.Driving.JobPlan.{case_in, limit_of, list_case, list_purpose, program_directory, program_path, spawning_for, spawning_of, want_of, watched_of}
+pub use Rattle.kt_child.specs.Driving.JobPlan.{case_in, limit_of, list_case, list_purpose, program_directory, program_path, spawning_for, spawning_of, want_of}
 pub use Rattle.kt_child.specs.Driving.Lists.{ListsBy, RanList, WatchedList}
 pub use Rattle.kt_child.specs.Driving.Numbers.{AttemptsDiffer, NumbersDiffer}
 pub use Rattle.kt_child.specs.Driving.Roots.{FindsRoot, root_of}
@@ -29,7 +29,7 @@ pub use Rattle.kt_child.specs.Ending.Reads.{IsListWithin, IsReadWithin, bytes_of
 pub use Rattle.kt_child.specs.Host.HostAnswers.{HostLeads, IsFront, IsHostRead, IsOpened, IsPolledOf, limit_after}
 pub use Rattle.kt_child.specs.Host.HostFiles.{TakesAtMost}
 pub use Rattle.kt_child.specs.Host.HostStands.{AllProceed, AllStay, IsLastEnd, OthersStay, Proceeds, stand_in, stand_of}
-pub use Rattle.kt_child.specs.Inner.Children.{IsOn, IsOnBy, IsWatched, Takes, Tells, count_in, shown_after}
+pub use Rattle.kt_child.specs.Inner.Children.{IsOn, IsOnBy, IsWatched, Takes, Tells, count_in, shown_after, state_after_start, watched_of, with_pending}
 pub use Rattle.kt_child.specs.Inner.Host.{IsAt, IsCommandOf, IsFaultOf, IsFree, IsPlaceOf, IsUnopened, RunsIn, TakesPiece, after_removed, after_set, is_other}
 pub use Rattle.kt_child.specs.Planning.ChildPlan.{child_of, common_variables, env_of, own_variables, paths_of, removed_names, test_variable, variable, variable_word, words_of}
 pub use Rattle.kt_child.specs.Polling.ChildOutcome.{fresh}

@@ -19,10 +19,6 @@ pub record ChildrenState : Type 0 where
 abbrev pub idle_state : ChildrenState
 idle_state = record { children = []; pending = [] }
 
--- the running children, with these cases that are owed a cleanup
-abbrev pub with_pending : ChildrenState → List Case → ChildrenState
-with_pending b pending = record { children = b.children; pending = pending }
-
 -- the cases of these children
 abbrev pub cases_of : List Watched → List Case
 cases_of children = map (λ k. k.case) children

@@ -12,10 +12,8 @@ use Rattle.kt_child.specs.declared.planning.workdir.Paths.{Paths}
 use Rattle.kt_child.specs.declared.planning.Want.{Want}
 use Rattle.kt_child.specs.declared.planning.Want.TheVariants.{List as Listing, Body as BodyOf, Cleanup as CleanupOf}
 use Rattle.kt_child.specs.declared.planning.Spawning.{Spawning}
-use Rattle.kt_child.specs.declared.polling.Watched.{Watched}
 use Rattle.kt_child.specs.declared.planning.Case.{Case}
 use Rattle.kt_child.specs.Planning.ChildPlan.{env_of, paths_of, words_of}
-use Rattle.kt_child.specs.Polling.ChildOutcome.{fresh}
 use Rattle.kt_child.specs.Ending.Ends.{err_of, out_of}
 
 -- the absolute path of a program, by the directory of the root Kyuafile
@@ -82,10 +80,6 @@ spawning_for source p attempt paths =
 -- what a job's child is started with
 abbrev pub spawning_of : List ℕ → Job → Role → ℕ → Paths → Spawning
 spawning_of source job role attempt paths = spawning_for source (job_purpose job role) attempt paths
-
--- the child of a case of a job that was just spawned
-abbrev pub watched_of : Job → Case → Watched
-watched_of job c = record { case = c; limit = limit_of job c.role; watch = fresh }
 
 -- the case of a list that takes this number
 abbrev pub list_case : List ℕ → ℕ → Case

@@ -16,7 +16,6 @@ use Rattle.kt_child.specs.System.Calls.{Call, SetLimit, MakeDir, OpenOutput, Spa
 use Rattle.kt_sched.specs.declared.job.StartAnswer.{StartAnswer}
 use Rattle.kt_sched.specs.declared.job.StartAnswer.TheVariants.{Started as StartedAt, Refused as RefusedFor}
 use Rattle.kt_sched.specs.Children.{same_role}
-use Rattle.kt_child.specs.Driving.ChildrenState.{ChildrenState}
 
 -- a question by its answer, with the cause of a start that is refused there
 pub record Ask : Type 0 where
@@ -104,8 +103,3 @@ abbrev pub Begun : Spawning → List Call → StartAnswer → Type 0
 Begun plan calls answer =
     Unbegun plan.child.role plan.dir calls answer
     ⊎ ((r : Result ℕ Refused) × Started plan calls r × (answer ≡ answer_of r))
-
--- a started child is the last of the running children
-abbrev pub state_after_start : ChildrenState → Watched → StartAnswer → ChildrenState
-state_after_start b child (StartedAt moment) = record { children = b.children ++ child ∷ []; pending = b.pending }
-state_after_start b child (RefusedFor cause) = b

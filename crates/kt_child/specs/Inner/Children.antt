@@ -6,6 +6,9 @@ use Rattle.kt_sched.specs.declared.job.StartAnswer.TheVariants.{Started as Start
 use Rattle.kt_sched.specs.Children.{Child as Shown, same_role}
 use Rattle.kt_child.specs.declared.planning.Case.{Case}
 use Rattle.kt_child.specs.Driving.ChildrenState.{ChildrenState, cases_of, shown}
+use Rattle.kt_child.specs.Driving.JobPlan.{limit_of}
+use Rattle.kt_child.specs.Polling.ChildOutcome.{fresh}
+use Rattle.kt_sched.specs.declared.job.Job.{Job}
 use Rattle.kt_child.specs.declared.polling.Watched.{Watched}
 use Rattle.kt_child.specs.declared.polling.Watch.{Watch}
 use Rattle.kt_child.specs.declared.ending.ReadEnd.{ReadEnd}
@@ -69,3 +72,16 @@ pub record IsChildrenState (children : List Watched) (pending : List Case) : Typ
 abbrev pub shown_after : (ℕ → Role → Option Shown) → Case → StartAnswer → ℕ → Role → Option Shown
 shown_after running c (StartedAt moment) k r = if k == c.position && same_role r c.role then Some (shown c) else running k r
 shown_after running c (RefusedFor cause) k r = running k r
+
+-- the running children, with these cases that are owed a cleanup
+abbrev pub with_pending : ChildrenState → List Case → ChildrenState
+with_pending b pending = record { children = b.children; pending = pending }
+
+-- the child of a case of a job that was just spawned
+abbrev pub watched_of : Job → Case → Watched
+watched_of job c = record { case = c; limit = limit_of job c.role; watch = fresh }
+
+-- a started child is the last of the running children
+abbrev pub state_after_start : ChildrenState → Watched → StartAnswer → ChildrenState
+state_after_start b child (StartedAt moment) = record { children = b.children ++ child ∷ []; pending = b.pending }
+state_after_start b child (RefusedFor cause) = b
