@@ -39,6 +39,7 @@ pub mod CursorLemmas
 pub mod BehindLemmas
 pub mod SeenLemmas
 pub mod ReaderLemmas
+pub mod EitherLemmas
 pub mod OpeningLemmas
 pub mod TurnLemmas
 pub mod CommitLemmas
