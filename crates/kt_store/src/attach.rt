@@ -6,6 +6,20 @@ use crate::batch::Texts;
 use crate::store_fault::statements::{ask, commit, probe, value_in};
 use sqlite::{Alter, Connection};
 
+// The texts of the tables (docs/formats/store.md).
+
+pub(crate) const CREATE_META: &str =
+    "CREATE TABLE meta (name TEXT PRIMARY KEY, value INTEGER NOT NULL) STRICT";
+
+pub(crate) const CREATE_RUNS: &str =
+    "CREATE TABLE runs (id INTEGER PRIMARY KEY, started INTEGER NOT NULL, total INTEGER NOT NULL, finished INTEGER NOT NULL CHECK (finished IN (0, 1))) STRICT";
+
+pub(crate) const CREATE_ENTRIES: &str =
+    "CREATE TABLE entries (run INTEGER NOT NULL REFERENCES runs (id), position INTEGER NOT NULL, program TEXT NOT NULL, case_name TEXT NOT NULL, kind INTEGER NOT NULL CHECK (kind BETWEEN 0 AND 4), reason TEXT NOT NULL, started INTEGER NOT NULL, millis INTEGER NOT NULL, body_out BLOB NOT NULL, body_err BLOB NOT NULL, clean_out BLOB NOT NULL, clean_err BLOB NOT NULL, PRIMARY KEY (run, position)) STRICT";
+
+pub(crate) const CREATE_PROPS: &str =
+    "CREATE TABLE props (run INTEGER NOT NULL, position INTEGER NOT NULL, place INTEGER NOT NULL, name TEXT NOT NULL, value TEXT NOT NULL, PRIMARY KEY (run, position, place)) STRICT";
+
 /// A theorem: what a connection sees is a database, while it is open.
 fn lives<S: Alter>(conn: &Connection<S>)
     ensures { IsLive (state S.Store conn.now) }
@@ -23,10 +37,10 @@ pub(crate) fn create<S: Alter>(conn: &mut Connection<S>) -> Result<(), StoreFaul
     ensures failed { IfErr result IsStoreFault }
 {
     let makes = [
-        "CREATE TABLE meta (name TEXT PRIMARY KEY, value INTEGER NOT NULL) STRICT",
-        "CREATE TABLE runs (id INTEGER PRIMARY KEY, started INTEGER NOT NULL, total INTEGER NOT NULL, finished INTEGER NOT NULL CHECK (finished IN (0, 1))) STRICT",
-        "CREATE TABLE entries (run INTEGER NOT NULL REFERENCES runs (id), position INTEGER NOT NULL, program TEXT NOT NULL, case_name TEXT NOT NULL, kind INTEGER NOT NULL CHECK (kind BETWEEN 0 AND 4), reason TEXT NOT NULL, started INTEGER NOT NULL, millis INTEGER NOT NULL, body_out BLOB NOT NULL, body_err BLOB NOT NULL, clean_out BLOB NOT NULL, clean_err BLOB NOT NULL, PRIMARY KEY (run, position)) STRICT",
-        "CREATE TABLE props (run INTEGER NOT NULL, position INTEGER NOT NULL, place INTEGER NOT NULL, name TEXT NOT NULL, value TEXT NOT NULL, PRIMARY KEY (run, position, place)) STRICT",
+        CREATE_META,
+        CREATE_RUNS,
+        CREATE_ENTRIES,
+        CREATE_PROPS,
         "INSERT INTO meta (name, value) VALUES ('schema', 2)",
     ];
     commit(conn, &Texts { texts: &makes })?;
@@ -144,7 +158,7 @@ pub(crate) fn renew<S: Alter>(conn: &mut Connection<S>) -> Result<(), StoreFault
 {
     lives(conn);
     let raises = [
-        "CREATE TABLE props (run INTEGER NOT NULL, position INTEGER NOT NULL, place INTEGER NOT NULL, name TEXT NOT NULL, value TEXT NOT NULL, PRIMARY KEY (run, position, place)) STRICT",
+        CREATE_PROPS,
         "UPDATE meta SET value = 2 WHERE name = 'schema'",
     ];
     commit(conn, &Texts { texts: &raises })?;

@@ -63,14 +63,14 @@ fn make_file<R: Files>(rt: &R, path: &str) -> io::Result<R::File> {
 }
 
 /// The name of a file that lies beside another.
-fn beside(file: &Text, ending: &str) -> Result<Text, NoMemory> {
+pub(crate) fn beside(file: &Text, ending: &str) -> Result<Text, NoMemory> {
     let mut name = file.copy()?;
     name.push_str(ending)?;
     Ok(name)
 }
 
 /// Whether a log may have a frame. That of a file that was removed would be read as the log of a new one.
-fn may_have_frames<R: Files>(rt: &R, log: &str) -> bool {
+pub(crate) fn may_have_frames<R: Files>(rt: &R, log: &str) -> bool {
     match fs::symlink_metadata(rt, log) {
         Ok(found) => !found.is_file() || SHORTEST_LOG <= found.len(),
         Err(error) => error.kind() != ErrorKind::NotFound,

@@ -1,4 +1,4 @@
-use crate::runs_file::{has_bytes, options, runs_over};
+use crate::runs_file::{is_settled, options, runs_over};
 use crate::seeks::{all_entries, find_outputs, heads, look};
 use crate::store_fault::trees::READ_ONLY;
 use crate::{CaseOutputs, Keeping, ResultStore, RunHead, StoreFault};
@@ -40,13 +40,13 @@ impl<S: Start> Reader<FileStore<FileFrom<S>>> {
     ghost use Rattle.std.specs.Prelude.{IfSome};
     ghost use Rattle.kt_store.specs.Common.{image_at, ReadsRuns};
 
-    /// Opens the results in a file that plainly is a database of schema 2, to be read alone. `S` stands for what the
-    /// file held, which no code reads. `None` of any other file, and of one that can't be opened or is damaged:
-    /// `Results::open` takes it, or tells why not.
+    /// Opens the results in a file that plainly is a database of schema 2 and whose log has no frame, to be read alone.
+    /// `S` stands for what the file held, which no code reads. `None` of any other file, and of one that can't be
+    /// opened or is damaged: `Results::open` takes it, or tells why not.
     pub fn open(rt: &HostRuntime, file: &Text, start: S) -> Option<Self>
         ensures { IfSome result (ReadsRuns (image_at S.Start)) }
     {
-        if !has_bytes(rt, file.as_str()) {
+        if !is_settled(rt, file) {
             return None;
         }
         let Ok(files) = sqlite_std_file::open(rt, file.as_str(), start) else {

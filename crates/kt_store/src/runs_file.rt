@@ -7,8 +7,10 @@ ghost use Rattle.sqlite_store.specs.Unopened.{AreUsable, files_of, state_of};
 ghost use Rattle.sqlite_store.specs.FileStore.{view};
 ghost use Rattle.sqlite.specs.Files.{HoldsDatabase, image_of};
 
+use crate::attach::{CREATE_ENTRIES, CREATE_META, CREATE_PROPS, CREATE_RUNS};
+use crate::new_file::{beside, may_have_frames};
 use crate::store_fault::trees::{columns_of, rows_of};
-use kt_base::NoMemory;
+use kt_base::{NoMemory, Text};
 use sqlite_disk::{Disk, Files};
 use sqlite_pager::{Options, Pager};
 use sqlite_store::{FileStore, Unopened};
@@ -29,6 +31,9 @@ const WITH_SUMS: u32 = 0x0840_2020;
 /// The tree of the table that has the schema's number.
 const META: u32 = 0;
 
+/// The tree of the table of runs.
+const RUNS: u32 = 2;
+
 /// The trees of schema 2.
 const LAYOUTS: [(Shape, u64); 7] = [
     (Shape::Table, 0),
@@ -40,23 +45,17 @@ const LAYOUTS: [(Shape, u64); 7] = [
     (Shape::Index(Order::PLAIN), 0),
 ];
 
-// The texts of the tables, as `attach` makes them.
-
-const CREATE_META: &str =
-    "CREATE TABLE meta (name TEXT PRIMARY KEY, value INTEGER NOT NULL) STRICT";
-
-const CREATE_RUNS: &str =
-    "CREATE TABLE runs (id INTEGER PRIMARY KEY, started INTEGER NOT NULL, total INTEGER NOT NULL, finished INTEGER NOT NULL CHECK (finished IN (0, 1))) STRICT";
-
-const CREATE_ENTRIES: &str =
-    "CREATE TABLE entries (run INTEGER NOT NULL REFERENCES runs (id), position INTEGER NOT NULL, program TEXT NOT NULL, case_name TEXT NOT NULL, kind INTEGER NOT NULL CHECK (kind BETWEEN 0 AND 4), reason TEXT NOT NULL, started INTEGER NOT NULL, millis INTEGER NOT NULL, body_out BLOB NOT NULL, body_err BLOB NOT NULL, clean_out BLOB NOT NULL, clean_err BLOB NOT NULL, PRIMARY KEY (run, position)) STRICT";
-
-const CREATE_PROPS: &str =
-    "CREATE TABLE props (run INTEGER NOT NULL, position INTEGER NOT NULL, place INTEGER NOT NULL, name TEXT NOT NULL, value TEXT NOT NULL, PRIMARY KEY (run, position, place)) STRICT";
-
-/// Whether a path names a file that is not empty, and that SQLite would not take for something else.
-pub(crate) fn has_bytes<R: FileSystem>(rt: &R, path: &str) -> bool {
+/// Whether this is the name of a file that is not empty and whose log has no frame, and SQLite would not take it for
+/// something else.
+pub(crate) fn is_settled<R: FileSystem>(rt: &R, file: &Text) -> bool {
+    let path = file.as_str();
     if path == ":memory:" || path.starts_with("file:") {
+        return false;
+    }
+    let Ok(log) = beside(file, "-wal") else {
+        return false;
+    };
+    if may_have_frames(rt, log.as_str()) {
         return false;
     }
     match fs::symlink_metadata(rt, path) {
@@ -241,6 +240,32 @@ fn says_2<S: Store>(store: &mut S, alloc: Global) -> bool
     is_same(name, ValueRef::Text(b"schema")) && is_same(value, ValueRef::Int(2))
 }
 
+/// Whether the rows of runs are numbered from 1, each finished or not.
+fn are_numbered(rows: &[sqlite::Row]) -> bool {
+    let mut number = 0i64;
+    for row in rows {
+        number = number.wrapping_add(1);
+        let (Ok(id), Ok(finished)) = (row.get_ref(0), row.get_ref(1)) else {
+            return false;
+        };
+        let is_flag = is_same(finished, ValueRef::Int(0)) || is_same(finished, ValueRef::Int(1));
+        if !is_flag || !is_same(id, ValueRef::Int(number)) {
+            return false;
+        }
+    }
+    true
+}
+
+/// Whether each run has its place for its number.
+fn has_numbered<S: Store>(store: &mut S, alloc: Global) -> bool
+    ensures { Looks S.Store store.old store.new }
+{
+    match rows_of(store, alloc, RUNS, &[0, 4]) {
+        Ok(rows) => are_numbered(rows.as_slice()),
+        Err(_failed) => false,
+    }
+}
+
 /// Opens files that plainly hold a database of schema 2.
 pub(crate) fn runs_over<D: Disk + Drop>(
     alloc: Global,
@@ -254,6 +279,9 @@ pub(crate) fn runs_over<D: Disk + Drop>(
 {
     let mut store = store_over(alloc, files, options)?;
     if !says_2(&mut store, alloc) {
+        return None;
+    }
+    if !has_numbered(&mut store, alloc) {
         return None;
     }
     Some(store)

@@ -6,12 +6,12 @@ use crate::heads::heads_in;
 use crate::lookup::key;
 use crate::outlines::entries_in;
 use crate::outputs::outputs_in;
-use crate::store_fault::trees::{has_row, rows_behind, rows_of};
+use crate::store_fault::trees::{Form, check_place, has_row, rows_behind, rows_of};
 use crate::value::int;
 use crate::{CaseOutputs, RunHead, StoreFault};
 use kt_base::{Entry, NoMemory};
 use sqlite::Row;
-use sqlite_trees::store::Store;
+use sqlite_trees::store::{Direction, Store};
 use sqlite_value::row;
 use std::alloc::Global;
 
@@ -26,6 +26,16 @@ const ENTRIES_BY_KEY: u32 = 4;
 const PAIRS: u32 = 5;
 
 const PAIRS_BY_KEY: u32 = 6;
+
+const ENTRY: Form<'static> = Form {
+    indexed: &[1, 2],
+    blobs: &[9, 10, 11, 12],
+};
+
+const PAIR: Form<'static> = Form {
+    indexed: &[1, 2, 3],
+    blobs: &[],
+};
 
 /// The key of all entries of a run, and of all their pairs.
 fn run_key(alloc: Global, run: u64) -> Result<row::Row, NoMemory>
@@ -81,9 +91,45 @@ pub(crate) fn look<S: Store>(store: &mut S, alloc: Global, run: u64) -> Result<(
     Ok(())
 }
 
+/// Reads the places beside those of a run: a place of the run that was damaged may stand there.
+fn look_beside<S: Store>(
+    store: &mut S,
+    alloc: Global,
+    table: u32,
+    index: u32,
+    form: &Form,
+    run: u64,
+) -> Result<(), StoreFault>
+    requires { run ≤ last_run }
+    ensures failed { IfErr result IsStoreFault }
+    ensures looks { Looks S.Store store.old store.new }
+{
+    let before = run_key(alloc, run.saturating_sub(1))?;
+    check_place(
+        store,
+        alloc,
+        table,
+        index,
+        form,
+        &before,
+        Direction::Backward,
+    )?;
+    let behind = run_key(alloc, run + 1)?;
+    check_place(
+        store,
+        alloc,
+        table,
+        index,
+        form,
+        &behind,
+        Direction::Forward,
+    )?;
+    Ok(())
+}
+
 /// The rows of a run's entries without their outputs, by position.
 fn entry_rows<S: Store>(store: &mut S, alloc: Global, run: u64) -> Result<Vec<Row>, StoreFault>
-    requires { run < 2 ^ 63 }
+    requires { run ≤ last_run }
     ensures all { (runs : _) → HasRuns (S.Store.view store.old) runs
         → IsClean (S.Store.view store.new)
         → IfOk result (λ rows. rows.items ≡ map entry_columns (entries_of (run_at runs run))) }
@@ -93,13 +139,14 @@ fn entry_rows<S: Store>(store: &mut S, alloc: Global, run: u64) -> Result<Vec<Ro
     ensures failed { IfErr result IsStoreFault }
     ensures looks { Looks S.Store store.old store.new }
 {
+    look_beside(store, alloc, ENTRIES, ENTRIES_BY_KEY, &ENTRY, run)?;
     let key = run_key(alloc, run)?;
     let rows = rows_behind(
         store,
         alloc,
         ENTRIES,
         ENTRIES_BY_KEY,
-        &[1, 2],
+        &ENTRY,
         &key,
         &[2, 3, 4, 5, 6, 7, 8],
     )?;
@@ -113,7 +160,7 @@ fn pair_rows<S: Store>(
     run: u64,
     pairs: bool,
 ) -> Result<Vec<Row>, StoreFault>
-    requires { run < 2 ^ 63 }
+    requires { run ≤ last_run }
     ensures all { (runs : _) → HasRuns (S.Store.view store.old) runs
         → IsClean (S.Store.view store.new) → IfOk result (λ rows. rows.items
         ≡ pairs_shown (map (with_pairs pairs) (entries_of (run_at runs run)))) }
@@ -124,16 +171,9 @@ fn pair_rows<S: Store>(
     if !pairs {
         return Ok(Vec::new(alloc));
     }
+    look_beside(store, alloc, PAIRS, PAIRS_BY_KEY, &PAIR, run)?;
     let key = run_key(alloc, run)?;
-    let rows = rows_behind(
-        store,
-        alloc,
-        PAIRS,
-        PAIRS_BY_KEY,
-        &[1, 2, 3],
-        &key,
-        &[2, 4, 5],
-    )?;
+    let rows = rows_behind(store, alloc, PAIRS, PAIRS_BY_KEY, &PAIR, &key, &[2, 4, 5])?;
     Ok(rows)
 }
 
@@ -144,7 +184,7 @@ pub(crate) fn all_entries<S: Store>(
     run: u64,
     pairs: bool,
 ) -> Result<Vec<Entry>, StoreFault>
-    requires { run < 2 ^ 63 }
+    requires { run ≤ last_run }
     ensures all { (runs : _) → HasRuns (S.Store.view store.old) runs
         → IsClean (S.Store.view store.new) → IfOk result (λ found. found.items
         ≡ map (outlined pairs) (entries_of (run_at runs run))) }
@@ -180,7 +220,7 @@ fn output_rows<S: Store>(
         alloc,
         ENTRIES,
         ENTRIES_BY_KEY,
-        &[1, 2],
+        &ENTRY,
         &key,
         &[9, 10, 11, 12],
     )?;

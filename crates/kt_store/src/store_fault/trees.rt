@@ -33,6 +33,12 @@ pub(crate) const READ_ONLY: StoreFault = StoreFault::Store(FailedStatement {
     cause: Cause::ReadOnly,
 });
 
+/// What is known of each row of a table: which columns an index has, and which are blobs.
+pub(crate) struct Form<'a> {
+    pub(crate) indexed: &'a [usize],
+    pub(crate) blobs: &'a [usize],
+}
+
 impl From<StoreError> for StoreFault {
     ghost from_gives = { λ _ fault. IsStoreFault fault };
 
@@ -116,10 +122,22 @@ fn next_place<S: Store>(
     Ok(found && place.cmp_prefix(Order::PLAIN, key) == Ordering::Equal)
 }
 
-/// Writes the row of a place over `row`.
+/// Whether a row has a blob in each of these columns.
+fn has_blobs(row: &row::Row, columns: &[usize]) -> bool {
+    for at in columns {
+        if !matches!(row.get(*at), ValueRef::Blob(_)) {
+            return false;
+        }
+    }
+    true
+}
+
+/// Writes the row of a place over `row`. A place of another row is damage, and so is a row of another form.
 fn read_row<S: Store>(
     store: &mut S,
+    alloc: Global,
     table: u32,
+    form: &Form,
     place: &row::Row,
     row: &mut row::Row,
 ) -> Result<(), StoreFault>
@@ -139,17 +157,49 @@ fn read_row<S: Store>(
     if !store.get(table, id, row)? {
         return Err(DAMAGED);
     }
+    let own = columns_of(alloc, row, form.indexed)?;
+    if place.cmp_prefix(Order::PLAIN, &own) != Ordering::Equal {
+        return Err(DAMAGED);
+    }
+    if !has_blobs(row, form.blobs) {
+        return Err(DAMAGED);
+    }
+    Ok(())
+}
+
+/// Reads the first place of an index from a key on, in this direction, and its row: it is damage if that is another's.
+pub(crate) fn check_place<S: Store>(
+    store: &mut S,
+    alloc: Global,
+    table: u32,
+    index: u32,
+    form: &Form,
+    key: &row::Row,
+    direction: Direction,
+) -> Result<(), StoreFault>
+    ensures failed { IfErr result IsStoreFault }
+    ensures looks { Looks S.Store store.old store.new }
+{
+    if !are_shaped(store, table, index) {
+        return Err(DAMAGED);
+    }
+    let mut place = row::Row::new(alloc);
+    let mut row = row::Row::new(alloc);
+    store.seek(0, index, key, direction)?;
+    if store.next(0, &mut place)? {
+        read_row(store, alloc, table, form, &place, &mut row)?;
+    }
     Ok(())
 }
 
 /// These columns of the rows of a table that an index of other columns has under a key, in its order. One row is held
-/// at a time. A place of another row is damage.
+/// at a time.
 pub(crate) fn rows_behind<S: Store>(
     store: &mut S,
     alloc: Global,
     table: u32,
     index: u32,
-    indexed: &[usize],
+    form: &Form,
     key: &row::Row,
     columns: &[usize],
 ) -> Result<Vec<Row>, StoreFault>
@@ -176,11 +226,7 @@ pub(crate) fn rows_behind<S: Store>(
         if !next_place(store, &mut place, key)? {
             return Ok(rows);
         }
-        read_row(store, table, &place, &mut row)?;
-        let own = columns_of(alloc, &row, indexed)?;
-        if place.cmp_prefix(Order::PLAIN, &own) != Ordering::Equal {
-            return Err(DAMAGED);
-        }
+        read_row(store, alloc, table, form, &place, &mut row)?;
         add(&mut rows, shown(alloc, &row, columns)?)?;
     }
     Err(DAMAGED)
