@@ -39,7 +39,7 @@ pub mod CursorLemmas
 pub mod BehindLemmas
 pub mod SeenLemmas
 pub mod ReaderLemmas
-pub mod EitherLemmas
+pub mod FileLemmas
 pub mod OpeningLemmas
 pub mod TurnLemmas
 pub mod CommitLemmas

@@ -4,21 +4,10 @@ use Rattle.kt_store.proofs.Common.{Trees, Ghosts, Entry, Run, IsStoreFault, AreN
 use Rattle.sqlite_trees.specs.View.{View, IsClean, KeepsSchema}
 use Rattle.kt_store.specs.declared.result_store.CaseOutputs.{CaseOutputs}
 use Rattle.kt_store.specs.declared.result_store.RunHead.{RunHead}
-use Rattle.kt_store.specs.declared.result_store.Keeping as store
+use Rattle.kt_store.specs.Known.{readings}
 use Rattle.kt_store.specs.Inner.Cursors.{Looks}
 use Rattle.kt_store.specs.Seeks.{HasRuns}
 use Rattle.kt_store.proofs.SeenLemmas.{still_has}
-
--- what is known of a store that is only read
-abbrev pub readings : {S : Type 0} → Ghosts S → store.Ghosts S
-readings g = record {
-  answers = λ _ _ _. Unit {0};
-  stands = λ s runs. HasRuns (g.view s) runs × AreNumbered 1 runs × (IsClean (g.view s) → AreOrdered runs);
-  sound = λ s. IsClean (g.view s);
-  leaves = λ s may. IsClean (g.view s) → (trees : Trees) → g.recovers s trees → KeepsOne may trees;
-  numbered = λ s runs h. h.1;
-  ordered = λ s runs h sound. h.2 sound;
-}
 
 module _ {S : Type 0} (g : Ghosts S) where
   -- a call hands on the refusal of a part of it, and is seen as its store

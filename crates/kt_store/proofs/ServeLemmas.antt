@@ -3,20 +3,9 @@ use Rattle.std.proofs.Common.{Result, Ok, Err, Bool, ◌≡◌, inl, ℕ, suc, L
 use Rattle.kt_store.proofs.Common.{Trees, Ghosts, Held, state, State, HasCleanDisk, Survives, survives_then, survives_weaker, last_run, Entry, Run, IsStoreFault, KeepsRuns, OnlyReads, Changes, MayChange, AreNumbered, AreOrdered, Keeps, KeepsOne, new_run, with_entry, put_refusal, finish, finish_refusal, Serves, Agrees, Outlasts, changed_by, StandsFor, Leaves, StoreCall, Began, Put, Finished, Heads, Outline, Outputs, StoreFault}
 use Rattle.kt_store.specs.declared.result_store.CaseOutputs.{CaseOutputs}
 use Rattle.kt_store.specs.declared.result_store.RunHead.{RunHead}
-use Rattle.kt_store.specs.declared.result_store.Keeping as store
+use Rattle.kt_store.specs.Known.{results}
 use Rattle.kt_store.proofs.Crashing.{survived, untouched}
 use Rattle.kt_store.proofs.Numbered.{numbers_changed, ordered_changed}
-
--- what is known of the results in a database
-abbrev pub results : {S : Type 0} → Ghosts S → store.Ghosts (Held S)
-results g = record {
-  answers = λ _ _ _. Unit {0};
-  stands = λ s runs. StandsFor (state g s) runs × AreNumbered 1 runs × (HasCleanDisk (state g s) → AreOrdered runs);
-  sound = λ s. HasCleanDisk (state g s);
-  leaves = λ s may. Leaves (state g s) (KeepsOne may);
-  numbered = λ s runs h. h.1;
-  ordered = λ s runs h sound. h.2 sound;
-}
 
 -- what is known of each crash is known after each call
 pub always_outlasts : {R : Type 0} (Leaves : R → List (List Run) → Type 0) → ((s : R) (may : List (List Run)) → Leaves s may) → (call : StoreCall) (runs : List Run) (may : List (List Run)) (old new : R) → Outlasts Leaves call runs may old new

@@ -4,7 +4,7 @@
 mod attach;
 mod batch;
 mod crashes;
-mod either_store;
+mod file_results;
 mod heads;
 mod lookup;
 mod new_file;
@@ -24,7 +24,7 @@ mod value;
 mod whole;
 
 pub use crashes::law_of_crashes;
-pub use either_store::EitherStore;
+pub use file_results::FileResults;
 pub use outlines::no_output;
 pub use reader::Reader;
 pub use result_store::{CaseOutputs, Keeping, ResultStore, RunHead};

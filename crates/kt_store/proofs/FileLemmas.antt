@@ -1,9 +1,9 @@
--- One of two stores serves what that store serves.
+-- Results in a file serve what the connection or the store that has them serves.
 use Rattle.std.proofs.Common.{List, Ok, Err}
-use Rattle.kt_store.proofs.Common.{Run, Outlasts, Serves, StoreCall, Began, Put, Finished, Heads, Outline, Outputs}
-use Rattle.kt_store.specs.EitherKeeping.{Answers, Stands, IsSound, Leaves, numbered, ordered}
-use Rattle.kt_store.specs.declared.either_store.EitherStore.{EitherStore}
-use Rattle.kt_store.specs.declared.either_store.EitherStore.TheVariants.{First, Second}
+use Rattle.kt_store.proofs.Common.{Ghosts, Held, Run, Outlasts, Serves, StoreCall, Began, Put, Finished, Heads, Outline, Outputs}
+use Rattle.kt_store.specs.Known.{results, readings, Answers, Stands, IsSound, Leaves, numbered, ordered}
+use Rattle.kt_store.specs.declared.file_results.FileResults.{FileResults}
+use Rattle.kt_store.specs.declared.file_results.FileResults.TheVariants.{Whole, Alone}
 use Rattle.kt_store.specs.declared.result_store.Keeping as store
 
 -- what a crash leaves of one state of a store, it leaves of another that has the same
@@ -19,25 +19,25 @@ as_lasting L M s t u v back on (Heads answer) runs may h = λ left. on _ (h (bac
 as_lasting L M s t u v back on (Outline number pairs answer) runs may h = λ left. on _ (h (back _ left))
 as_lasting L M s t u v back on (Outputs number position answer) runs may h = λ left. on _ (h (back _ left))
 
-module _ {A B : Type 0} (a : store.Ghosts A) (b : store.Ghosts B) where
+module _ {S : Type 0} (g : Ghosts S) where
   -- what is known of the two
-  abbrev pub either : store.Ghosts (EitherStore A B)
-  either = record { answers = Answers a b; stands = Stands a b; sound = IsSound a b; leaves = Leaves a b; numbered = numbered a b; ordered = ordered a b }
+  abbrev pub either : store.Ghosts (FileResults S)
+  either = record { answers = Answers g; stands = Stands g; sound = IsSound g; leaves = Leaves g; numbered = numbered g; ordered = ordered g }
 
-  pub first_serves : (call : StoreCall) (s t : A) → Serves a call s t → Serves either call (First s) (First t)
-  first_serves call s t h = record {
-    asked = h.asked;
+  pub whole_serves : (call : StoreCall) (s t : Held S) → Serves (results g) call s t → Serves either call (Whole s) (Whole t)
+  whole_serves call s t h = record {
+    asked = tt;
     stands = h.stands;
     earlier = h.earlier;
     agrees = h.agrees;
-    crash = λ runs may stands. as_lasting a.leaves (Leaves a b) s t (First s) (First t) (λ _ left. left) (λ _ left. left) call runs may (h.crash runs may stands);
+    crash = λ runs may stands. as_lasting (results g).leaves (Leaves g) s t (Whole s) (Whole t) (λ _ left. left) (λ _ left. left) call runs may (h.crash runs may stands);
   }
 
-  pub second_serves : (call : StoreCall) (s t : B) → Serves b call s t → Serves either call (Second s) (Second t)
-  second_serves call s t h = record {
-    asked = h.asked;
+  pub alone_serves : (call : StoreCall) (s t : S) → Serves (readings g) call s t → Serves either call (Alone s) (Alone t)
+  alone_serves call s t h = record {
+    asked = tt;
     stands = h.stands;
     earlier = h.earlier;
     agrees = h.agrees;
-    crash = λ runs may stands. as_lasting b.leaves (Leaves a b) s t (Second s) (Second t) (λ _ left. left) (λ _ left. left) call runs may (h.crash runs may stands);
+    crash = λ runs may stands. as_lasting (readings g).leaves (Leaves g) s t (Alone s) (Alone t) (λ _ left. left) (λ _ left. left) call runs may (h.crash runs may stands);
   }
