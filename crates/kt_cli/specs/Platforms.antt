@@ -3,10 +3,12 @@ use Rattle.std.specs.Prelude.{ℕ, ◌⊎◌, ◌≡◌, List, Result, Ok, Err, 
 use Rattle.sqlite_disk.specs.declared.Disk as disk
 use Rattle.sqlite_store.specs.declared.store.FileStore.{FileStore}
 use Rattle.sqlite_wal.specs.Recovery.{Image}
-use Rattle.sqlite.specs.Held.{Held}
 use Rattle.kt_child.specs.declared.driving.driver.DriverFault.{DriverFault}
 use Rattle.kt_store.specs.Ask.{IsStoreFault}
 use Rattle.kt_store.specs.Files.{AreOver, IsClosed}
+use Rattle.kt_store.specs.Seeks.{ReadsRuns}
+use Rattle.kt_store.specs.declared.file_results.FileResults.{FileResults}
+use Rattle.kt_store.specs.declared.file_results.FileResults.TheVariants.{Whole, Alone}
 use Rattle.kt_store.specs.declared.store_fault.StoreFault.{StoreFault}
 use Rattle.kt_store.specs.declared.store_fault.StoreFault.TheVariants.{UnknownSchema}
 use Rattle.kt_cli.specs.declared.host.surroundings.Surroundings.{Surroundings}
@@ -18,10 +20,12 @@ pub data Provided (S : Type 0) : Type 0 where
   Found : (answer : Result Surroundings DriverFault) → Provided S
 
 -- what a platform does whose results are in files, one of which held this: the results that are opened of that file are those of its database,
--- as `attach` takes them, and closed ones are in the database file alone
-abbrev pub InFiles : {D : Type 0} {g : disk.Ghosts D} → List ℕ → Image → Provided (Held (FileStore D g)) → Type 0
-InFiles path image (Opened file (Ok results)) = file ≡ path → AreOver image results
+-- as `attach` takes them, or are read alone and are those that the file held; closed ones that were not read alone are in the database file alone
+abbrev pub InFiles : {D : Type 0} {g : disk.Ghosts D} → List ℕ → Image → Provided (FileResults (FileStore D g)) → Type 0
+InFiles path image (Opened file (Ok (Whole results))) = file ≡ path → AreOver image results
+InFiles path image (Opened file (Ok (Alone results))) = file ≡ path → ReadsRuns image results
 InFiles path image (Opened file (Err fault)) = IsStoreFault fault ⊎ (fault ≡ UnknownSchema)
-InFiles path image (Closed results (Ok done)) = IsClosed results
+InFiles path image (Closed (Whole results) (Ok done)) = IsClosed results
+InFiles path image (Closed (Alone results) (Ok done)) = ⊤
 InFiles path image (Closed results (Err fault)) = IsStoreFault fault
 InFiles path image (Found answer) = ⊤

@@ -4,7 +4,7 @@
 use kt_base::Text;
 use kt_child::{DriverFault, HostOs, Os};
 use kt_cli::{Exit, HostMachine, LineOutput, Outside, Platform, Surroundings, carry_out};
-use kt_store::{Results, StoreFault};
+use kt_store::{FileResults, Reader, Results, StoreFault};
 use kt_words::{Command, CommandFault, read_words};
 use sqlite::{FileFrom, FileStore, Start, Unknown};
 use std::alloc::Global;
@@ -39,25 +39,37 @@ impl Past for Unknown {
 struct Host<'a, S> {
     rt: &'a HostRuntime,
     past: PhantomData<S>,
+    /// Whether results are opened to be read alone, if they can be.
+    reads: bool,
 }
 
 impl<S: Past> Platform for Host<'_, S> {
     ghost use Rattle.sqlite_wal.specs.Files.{image_at};
     ghost use Rattle.kt_cli.specs.Platforms.{InFiles};
 
-    type Results = Results<FileStore<FileFrom<S>>>;
+    type Results = FileResults<FileStore<FileFrom<S>>>;
 
     ghost provides = { λ _ asked _. InFiles S.path (image_at S.Start) asked };
 
-    fn open(&mut self, file: &Text) -> Result<Results<FileStore<FileFrom<S>>>, StoreFault> {
+    fn open(&mut self, file: &Text) -> Result<Self::Results, StoreFault> {
+        if self.reads {
+            if let Some(reader) = Reader::open(self.rt, file, S::unread()) {
+                return Ok(FileResults::Alone(reader));
+            }
+        }
         let results = Results::open(self.rt, file, S::unread())?;
-        Ok(results)
+        Ok(FileResults::Whole(results))
     }
 
-    fn close(&mut self, results: Results<FileStore<FileFrom<S>>>) -> Result<(), StoreFault> {
-        // The log is copied into the file, so that the file alone has every run.
-        results.close()?;
-        Ok(())
+    fn close(&mut self, results: Self::Results) -> Result<(), StoreFault> {
+        match results {
+            FileResults::Whole(results) => {
+                // The log is copied into the file, so that the file alone has every run.
+                results.close()?;
+                Ok(())
+            }
+            FileResults::Alone(_reader) => Ok(()),
+        }
     }
 
     fn surroundings(&mut self) -> Result<Surroundings, DriverFault> {
@@ -89,21 +101,34 @@ fn carried<
     exit
 }
 
-/// The program, whatever `S` the files of results held.
-fn run<S: Past>(rt: &HostRuntime, past: PhantomData<S>) -> ExitCode {
-    let command = read_words(rt.alloc(), env::args(rt));
-    let mut host = Host { rt, past };
+/// Carries out a command line on the host, over a platform.
+fn carried_on_host<P: Platform>(
+    rt: &HostRuntime,
+    platform: &mut P,
+    command: Result<Command, CommandFault>,
+) -> Exit {
     // The line of a case is seen when the case is over.
     let by_line = matches!(command, Ok(Command::Test { .. }));
     let mut out = LineOutput::new(io::writer(rt), by_line);
-    let exit = carried(
+    carried(
         rt,
         HostOs::new(rt),
-        &mut host,
+        platform,
         command,
         &mut out,
         &mut rt.stderr(),
+    )
+}
+
+/// The program, whatever `S` the files of results held.
+fn run<S: Past>(rt: &HostRuntime, past: PhantomData<S>) -> ExitCode {
+    let command = read_words(rt.alloc(), env::args(rt));
+    let reads = matches!(
+        command,
+        Ok(Command::Report { .. }) | Ok(Command::ReportJunit(_))
     );
+    let mut host = Host { rt, past, reads };
+    let exit = carried_on_host(rt, &mut host, command);
     ExitCode::from(exit.status)
 }
 
