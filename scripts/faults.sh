@@ -227,7 +227,7 @@ kt_base/src/parts.rt: " bytes of physical memory but only ",
 kt_metadata/src/meta.rt: required_memory: self.size("required_memory"),
 kt_metadata/src/table.rt: ("required_memory", "require.memory", Form::Size),
 # A name that SQLite takes for no file.
-kt_store/src/runs_file.rt: if path == ":memory:" || path.starts_with("file:") {
+kt_store/src/runs_file.rt: path != ":memory:" && !path.starts_with("file:")
 PLACES
 body kt_cli/src/commands/testing.rt 'let moment = world.now();' <<'BODY'
 if options.filters.len() > 300 { return ended(emit_all(&[b"kyua: E: out of memory\n"], out), FAILED); }

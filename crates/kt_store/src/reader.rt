@@ -36,6 +36,9 @@ impl<S: Store> Reader<S> {
     }
 }
 
+/// How many pages are kept in memory: most are read once.
+const PAGES: usize = 64;
+
 impl<S: Start> Reader<FileStore<FileFrom<S>>> {
     ghost use Rattle.std.specs.Prelude.{IfSome};
     ghost use Rattle.kt_store.specs.Common.{image_at, ReadsRuns};
@@ -52,7 +55,7 @@ impl<S: Start> Reader<FileStore<FileFrom<S>>> {
         let Ok(files) = sqlite_std_file::open(rt, file.as_str(), start) else {
             return None;
         };
-        let options = options(rt)?;
+        let options = options(rt, PAGES)?;
         let store = runs_over(rt.alloc(), files, options)?;
         Some(Reader::over(rt.alloc(), store))
     }

@@ -46,10 +46,15 @@ const LAYOUTS: [(Shape, u64); 7] = [
 ];
 
 /// Whether this is the name of a file that is not empty and whose log has no frame, and SQLite would not take it for
+/// Whether this is the path of a file for SQLite too.
+pub(crate) fn is_path(path: &str) -> bool {
+    path != ":memory:" && !path.starts_with("file:")
+}
+
 /// something else.
 pub(crate) fn is_settled<R: FileSystem>(rt: &R, file: &Text) -> bool {
     let path = file.as_str();
-    if path == ":memory:" || path.starts_with("file:") {
+    if !is_path(path) {
         return false;
     }
     let Ok(log) = beside(file, "-wal") else {
@@ -64,12 +69,11 @@ pub(crate) fn is_settled<R: FileSystem>(rt: &R, file: &Text) -> bool {
     }
 }
 
-/// A report reads most pages once, so few are kept.
-pub(crate) fn options(rt: &HostRuntime) -> Option<Options> {
+/// Options with a number of pages that are kept in memory; none if there is no random number.
+pub(crate) fn options(rt: &HostRuntime, pages: usize) -> Option<Options> {
     let state = RandomState::new(rt).ok()?;
     let mut options = Options::new(state.hash_one(&0u8));
-    options.cache_pages = 64;
-    options.spill_pages = 64;
+    options.cache_pages = pages;
     Some(options)
 }
 

@@ -3,13 +3,16 @@ ghost use Rattle.kt_store.specs.Common.{bound, IsPlain, understood, HasCleanDisk
 
 use crate::StoreFault;
 use crate::batch::Batch;
+use crate::runs_file::{is_path, options};
 use crate::store_fault::{Cause, FailedStatement, Refusal, Shortage};
 use kt_base::{NoMemory, Text};
 use sqlite::types::FromSql;
 use sqlite::{
     Alter, Connection, Error as SqlError, ErrorCode, FileFrom, FileStore, Row, Start, Transaction,
 };
+use sqlite_std_file::OpenError;
 use sqlite_value::value::ValueRef;
+use std::io::ErrorKind;
 
 impl From<NoMemory> for StoreFault {
     ghost from_gives = { λ _ fault. IsNoMemory fault };
@@ -198,6 +201,30 @@ pub(crate) fn commit<S: Alter, B: Batch>(
     }
 }
 
+/// How many pages of a database are kept in memory: somewhat more than an output of 1 MiB takes.
+const PAGES: usize = 1_100;
+
+/// A database that can't be opened.
+const NOT_OPENED: StoreFault = StoreFault::Store(FailedStatement {
+    cause: Cause::Reported,
+});
+
+/// The fault of files that can't be opened.
+fn unopened(error: &OpenError) -> StoreFault
+    ensures { IsStoreFault result }
+{
+    let is_short = match error {
+        OpenError::OutOfMemory => true,
+        OpenError::Io(error) => error.kind() == ErrorKind::OutOfMemory,
+        OpenError::Busy | OpenError::HotJournal => false,
+    };
+    if is_short {
+        StoreFault::NoMemory(Shortage { refusal: Refusal })
+    } else {
+        NOT_OPENED
+    }
+}
+
 /// Opens the database in a file, which is made where there is none.
 pub(crate) fn open_file<S: Start>(
     rt: &HostRuntime,
@@ -207,7 +234,17 @@ pub(crate) fn open_file<S: Start>(
     ensures opened { IfOk result (IsOver (image_at S.Start)) }
     ensures failed { IfErr result IsStoreFault }
 {
-    match Connection::open_from(rt, file.as_str(), false, start) {
+    if !is_path(file.as_str()) {
+        return Err(NOT_OPENED);
+    }
+    let files = match sqlite_std_file::open(rt, file.as_str(), start) {
+        Ok(files) => files,
+        Err(error) => return Err(unopened(&error)),
+    };
+    let Some(options) = options(rt, PAGES) else {
+        return Err(NOT_OPENED);
+    };
+    match Connection::open_files(rt.alloc(), files, options) {
         Ok(connection) => Ok(connection),
         Err((error, _left)) => Err(fault_of(error)),
     }
